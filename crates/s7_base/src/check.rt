@@ -1,0 +1,21 @@
+//! The bit checks, and what an open bracket keeps.
+
+/// How a bit check combines its bit with the result of logic operation.
+#[derive(Clone, Copy, Debug, PartialEq, Eq)]
+pub enum Check {
+    A,
+    An,
+    O,
+    On,
+    X,
+    Xn,
+}
+
+/// What an open bracket keeps until it is closed: its check, and the RLO, OR and /FC from before it.
+#[derive(Clone, Copy, Debug, PartialEq, Eq)]
+pub struct Entry {
+    pub check: Check,
+    pub rlo: bool,
+    pub orb: bool,
+    pub nfc: bool,
+}

@@ -1,0 +1,28 @@
+//! What every crate of the translator speaks of: lines and refusals, faults and outcomes, registers
+//! and sets of them, places in memory, tokens, lists, and the parts of a word.
+//!
+//! Stands on nothing but std. `specs/` has the definitions that several crates cite: what a set of
+//! registers holds, what a memory is seen as, and what the tokens of a source text are.
+#![tactic(auto)]
+
+pub use boxed::Boxed;
+pub use check::{Check, Entry};
+pub use list::List;
+pub use memory::NoMemory;
+pub use outcome::{Fault, Outcome};
+pub use place::{Area, AreaName, INPUT_BYTES, MARKER_BYTES, OUTPUT_BYTES, Place};
+pub use reason::{Kind, Line, Reason, Rejection};
+pub use register::{Reg, RegSet};
+pub use token::{Token, TokenKind};
+pub use word::{Width, high_word, low_byte, low_word, put_low_byte, put_low_word};
+
+mod boxed;
+mod check;
+mod list;
+mod memory;
+mod outcome;
+mod place;
+mod reason;
+mod register;
+mod token;
+mod word;

@@ -1,0 +1,30 @@
+//! Tokens of a source text.
+
+use crate::list::List;
+use crate::reason::Line;
+
+/// The four sorts of tokens.
+#[derive(Clone, Copy, Debug, PartialEq, Eq)]
+pub enum TokenKind {
+    /// A longest run of letters, digits and `_`.
+    Word,
+
+    /// What stands between two `"` on one line.
+    Quoted,
+
+    /// What stands between two `'` on one line.
+    Text,
+
+    /// A sign of one or two characters.
+    Sign,
+}
+
+/// A token: its characters as they are written, without the quotes of a `Quoted` or a `Text`, and the
+/// line on which it stands. It is `glued` where no blank stands directly before it.
+#[derive(Debug, Drop, PartialEq)]
+pub struct Token {
+    pub kind: TokenKind,
+    pub text: List<u8>,
+    pub line: Line,
+    pub glued: bool,
+}
