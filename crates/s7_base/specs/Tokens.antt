@@ -28,11 +28,9 @@ is_word_byte b = is_between 48 57 b || is_between 65 90 b || is_between 97 122 b
 abbrev pub is_sign : ℕ → Bool
 is_sign b = list_any (λ sign. sign == b) (codes ":;,.()[]=+-*/<>#")
 
--- the front of a text is a sign of two characters
-abbrev pub is_double_sign : List ℕ → Bool
-is_double_sign [] = false
-is_double_sign (a ∷ []) = false
-is_double_sign (a ∷ b ∷ rest) =
+-- a sign of two characters: := .. == <> >= <=
+abbrev pub is_double_sign : ℕ → ℕ → Bool
+is_double_sign a b =
     (a == 58 && b == 61) || (a == 46 && b == 46) || (a == 61 && b == 61) || (a == 60 && b == 62) || (a == 62 && b == 61) || (a == 60 && b == 61)
 
 -- the text begins with this byte
@@ -71,12 +69,26 @@ abbrev pub word_piece : List ℕ → Piece
 word_piece bytes =
     let size = prefix_len is_word_byte bytes in
     if str_eq_ignore_ascii_case (take size bytes) (codes "TITLE") && begins_with 61 (after_blanks (drop size bytes))
-    then gap (line_size bytes)
+    then gap (size + line_size (drop size bytes))
     else token Word size
 
 -- a longest sign
 abbrev pub sign_piece : ℕ → List ℕ → Option Piece
-sign_piece first rest = if is_double_sign (first ∷ rest) then Some (token Sign 2) else if is_sign first then Some (token Sign 1) else None
+sign_piece first [] = if is_sign first then Some (token Sign 1) else None
+sign_piece first (second ∷ rest) =
+    if is_double_sign first second then Some (token Sign 2) else if is_sign first then Some (token Sign 1) else None
+
+-- a comment, which takes the rest of its line, or a sign
+abbrev pub comment_or_sign : ℕ → List ℕ → Option Piece
+comment_or_sign first rest = if first == 47 && begins_with 47 rest then Some (gap (line_size rest + 1)) else sign_piece first rest
+
+-- a piece that begins with a mark: a quoted name, a text, an attribute, a comment or a sign
+abbrev pub mark_piece : ℕ → List ℕ → Option Piece
+mark_piece first rest =
+    if first == 34 then option_map (token Quoted) (closed_size 34 rest)
+    else if first == 39 then option_map (token Text) (closed_size 39 rest)
+    else if first == 123 then option_map gap (closed_size 125 rest)
+    else comment_or_sign first rest
 
 -- the piece at the front of a text, by its first byte
 abbrev pub piece_at : List ℕ → Option Piece
@@ -85,11 +97,7 @@ piece_at (first ∷ rest) =
     if first == 10 then Some line_end
     else if is_blank first then Some (gap 1)
     else if is_word_byte first then Some (word_piece (first ∷ rest))
-    else if first == 34 then option_map (token Quoted) (closed_size 34 rest)
-    else if first == 39 then option_map (token Text) (closed_size 39 rest)
-    else if first == 123 then option_map gap (closed_size 125 rest)
-    else if first == 47 && begins_with 47 rest then Some (gap (line_size (first ∷ rest)))
-    else sign_piece first rest
+    else mark_piece first rest
 
 -- the characters of a token, without the quotes
 abbrev pub token_text : TokenKind → List ℕ → List ℕ

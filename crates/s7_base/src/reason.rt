@@ -1,7 +1,9 @@
 //! Why a text is refused, and where.
 ghost use Rattle.std.specs.Prelude.{◌≡◌};
 ghost use Rattle.s7_base.specs.Reason.{name_of, kind_name_of};
+ghost use Rattle.s7_base.specs.declared.reason.Rejection.TheVariants as rejection;
 
+use crate::memory::NoMemory;
 use std::fmt;
 
 /// A line of a text, counted from 1. A line past the greatest number is kept as that number.
@@ -143,5 +145,13 @@ impl fmt::Display for Reason {
 impl fmt::Display for Kind {
     fn fmt<W: fmt::Write>(&self, f: &mut fmt::Formatter<W>) -> fmt::Result {
         f.write_str(self.name())
+    }
+}
+
+impl From<NoMemory> for Rejection {
+    ghost from_gives = { λ _ made. made ≡ rejection.NoMemory };
+
+    fn from(_refused: NoMemory) -> Rejection {
+        Rejection::NoMemory
     }
 }

@@ -1,4 +1,5 @@
 //! Scratch.
 #![tactic(auto)]
 
+mod lexer;
 mod words;

@@ -59,7 +59,7 @@ const BLOCK_WORDS: [&str; 28] = [
     "END_DATA_BLOCK",
 ];
 
-fn is_same_word(word: &[u8], entry: &str) -> bool
+pub fn is_same_word(word: &[u8], entry: &str) -> bool
     ensures { result ≡ str_eq_ignore_ascii_case word.now entry.now }
 {
     word.eq_ignore_ascii_case(entry.as_bytes())
