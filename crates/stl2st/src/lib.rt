@@ -2,4 +2,6 @@
 #![tactic(auto)]
 
 mod lexer;
+mod operand;
+mod statement;
 mod words;

@@ -2,7 +2,7 @@
 ghost use Rattle.std.specs.Prelude.{◌≡◌};
 ghost use Rattle.std.specs.List.{list_any};
 ghost use Rattle.std.specs.Str.{str_eq_ignore_ascii_case};
-ghost use Rattle.stl_tree.specs.Words.{is_among, mnemonics, block_words, is_word, is_sign, is_word_among, sign_mnemonics, typed_signs, type_letters, is_sign_among};
+ghost use Rattle.stl_tree.specs.Words.{is_among, mnemonics, block_words, is_word_kind, is_word, is_sign, is_word_among, sign_mnemonics, typed_signs, type_letters, is_sign_among};
 
 use s7_base::{Token, TokenKind};
 
@@ -71,11 +71,18 @@ fn is_listed(word: &[u8], table: &[&str]) -> bool
     table.iter().any(|entry| is_same_word(word, entry))
 }
 
+/// The token is a word.
+pub fn is_word_kind(token: &Token) -> bool
+    ensures { result ≡ is_word_kind token.now.kind }
+{
+    matches!(token.kind, TokenKind::Word)
+}
+
 /// The token is this word, in any case.
 pub fn is_word(token: &Token, word: &str) -> bool
     ensures { result ≡ is_word word.now token.now }
 {
-    matches!(token.kind, TokenKind::Word) && is_same_word(token.text.as_slice(), word)
+    is_word_kind(token) && is_same_word(token.text.as_slice(), word)
 }
 
 /// The token is this sign.
@@ -89,7 +96,7 @@ pub fn is_sign(token: &Token, sign: &str) -> bool
 pub fn is_mnemonic_word(token: &Token) -> bool
     ensures { result ≡ is_word_among mnemonics token.now }
 {
-    matches!(token.kind, TokenKind::Word) && is_listed(token.text.as_slice(), &MNEMONICS)
+    is_word_kind(token) && is_listed(token.text.as_slice(), &MNEMONICS)
 }
 
 /// The token is a sign that is a mnemonic or begins one, whatever follows.
@@ -110,12 +117,12 @@ pub fn is_typed_sign(token: &Token) -> bool
 pub fn is_type_letter(token: &Token) -> bool
     ensures { result ≡ is_word_among type_letters token.now }
 {
-    matches!(token.kind, TokenKind::Word) && is_listed(token.text.as_slice(), &TYPE_LETTERS)
+    is_word_kind(token) && is_listed(token.text.as_slice(), &TYPE_LETTERS)
 }
 
 /// The token is a word with which a heading, a line of a heading, a section or an end begins.
 pub fn is_block_word(token: &Token) -> bool
     ensures { result ≡ is_word_among block_words token.now }
 {
-    matches!(token.kind, TokenKind::Word) && is_listed(token.text.as_slice(), &BLOCK_WORDS)
+    is_word_kind(token) && is_listed(token.text.as_slice(), &BLOCK_WORDS)
 }

@@ -29,7 +29,8 @@ use Rattle.stl_tree.specs.declared.program.Operand.TheVariants.{Direct}
 abbrev pub number_from : ℕ → ℕ → List ℕ → Option ℕ
 number_from most value [] = Some value
 number_from most value (digit ∷ rest) =
-    if is_between 48 57 digit && nat_le (value * 10 + (digit - 48)) most then number_from most (value * 10 + (digit - 48)) rest else None
+    let more = value * 10 + (digit - 48) in
+    if is_between 48 57 digit && nat_le more most then number_from most more rest else None
 
 -- a decimal number of at most `most`; leading zeros are allowed
 abbrev pub number_of : ℕ → List ℕ → Option ℕ
@@ -56,30 +57,33 @@ area_size area.L = 256
 area_size area.Db = 0
 area_size area.Di = 0
 
-abbrev pub direct : Option AreaName → Option ℕ → Option ℕ → Option Operand
-direct (Some name) (Some byte) (Some bit) = Some (Direct name byte bit)
-direct None byte bit = None
-direct (Some name) None bit = None
-direct (Some name) (Some byte) None = None
-
 -- a bit by its area, its byte and its number, the byte within the area
 abbrev pub bit_at : Option AreaName → List ℕ → List ℕ → Option Operand
 bit_at None byte bit = None
-bit_at (Some name) byte bit = direct (Some name) (number_of (area_size name - 1) byte) (number_of 7 bit)
+bit_at (Some name) byte bit =
+    option_and_then (λ y. option_and_then (λ x. Some (Direct name y x)) (number_of 7 bit)) (number_of (area_size name - 1) byte)
 
 -- a point and a number with no blank before either
 abbrev pub is_bit_number : Token → Token → Bool
 is_bit_number point bit = is_sign (codes ".") point && point.glued && is_word_kind bit.kind && bit.glued
 
--- a bit as it is written: `I 0.0` or `I0.0`
+-- `I0.0`: the area and the byte in one word
+abbrev pub short_operand : Token → Token → Token → Option Operand
+short_operand place point bit =
+    if is_word_kind place.kind && is_bit_number point bit then bit_at (area_of (take 1 place.text)) (drop 1 place.text) bit.text else None
+
+-- `I 0.0`: the area and the byte in a word each
+abbrev pub long_operand : Token → Token → Token → Token → Option Operand
+long_operand name byte point bit =
+    if is_word_kind name.kind && is_word_kind byte.kind && is_bit_number point bit then bit_at (area_of name.text) byte.text bit.text else None
+
+-- a bit as it is written
 abbrev pub bit_operand : List Token → Option Operand
 bit_operand [] = None
 bit_operand (a ∷ []) = None
 bit_operand (a ∷ b ∷ []) = None
-bit_operand (place ∷ point ∷ bit ∷ []) =
-    if is_word_kind place.kind && is_bit_number point bit then bit_at (area_of (take 1 place.text)) (drop 1 place.text) bit.text else None
-bit_operand (name ∷ byte ∷ point ∷ bit ∷ []) =
-    if is_word_kind name.kind && is_word_kind byte.kind && is_bit_number point bit then bit_at (area_of name.text) byte.text bit.text else None
+bit_operand (place ∷ point ∷ bit ∷ []) = short_operand place point bit
+bit_operand (name ∷ byte ∷ point ∷ bit ∷ []) = long_operand name byte point bit
 bit_operand (a ∷ b ∷ c ∷ d ∷ e ∷ rest) = None
 
 -- Statements
@@ -105,19 +109,21 @@ statement_size tokens = prefix_len (λ token. not (is_sign (codes ";") token)) t
 
 -- What is refused
 
--- the first token passes a test
-abbrev pub first_passes : (Token → Bool) → List Token → Bool
-first_passes test [] = false
-first_passes test (first ∷ rest) = test first
+-- a sign and a type letter, as in +I, with no blank between them
+abbrev pub begins_with_typed_sign : Token → List Token → Bool
+begins_with_typed_sign first [] = false
+begins_with_typed_sign first (second ∷ rest) = is_sign_among typed_signs first && second.glued && is_word_among type_letters second
 
--- a mnemonic stands at the front, one of two parts without a blank between them but before a bracket
+-- MCR and a bracket
+abbrev pub begins_master_control : Token → List Token → Bool
+begins_master_control first [] = false
+begins_master_control first (second ∷ rest) = is_word (codes "MCR") first && is_sign (codes "(") second
+
+-- a mnemonic stands at the front
 abbrev pub begins_with_mnemonic : List Token → Bool
 begins_with_mnemonic [] = false
 begins_with_mnemonic (first ∷ rest) =
-    is_word_among mnemonics first
-    || is_sign_among sign_mnemonics first
-    || (is_sign_among typed_signs first && first_passes (λ second. second.glued && is_word_among type_letters second) rest)
-    || (is_word (codes "MCR") first && first_passes (is_sign (codes "(")) rest)
+    is_word_among mnemonics first || is_sign_among sign_mnemonics first || begins_with_typed_sign first rest || begins_master_control first rest
 
 -- one to four letters, digits or `_`, the first of them no digit
 abbrev pub is_label : List ℕ → Bool
@@ -127,7 +133,13 @@ is_label (first ∷ rest) = nat_lt (length rest) 4 && not (is_between 48 57 firs
 -- a label and its colon stand at the front
 abbrev pub begins_with_label : List Token → Bool
 begins_with_label [] = false
-begins_with_label (first ∷ rest) = is_word_kind first.kind && is_label first.text && first_passes (is_sign (codes ":")) rest
+begins_with_label (first ∷ []) = false
+begins_with_label (first ∷ second ∷ rest) = is_word_kind first.kind && is_label first.text && is_sign (codes ":") second
+
+-- a word of a heading, section or end stands at the front
+abbrev pub begins_with_block_word : List Token → Bool
+begins_with_block_word [] = false
+begins_with_block_word (first ∷ rest) = is_word_among block_words first
 
 -- where an item stands: labels stand in a body alone
 pub data Context : Type 0 where
@@ -142,13 +154,16 @@ label_at in_body tokens = begins_with_label tokens
 abbrev pub is_complete : List Token → Bool
 is_complete tokens = nat_lt (statement_size tokens) (length tokens)
 
--- why an item that fits no form is refused. A word of a heading, section or end is a form that is
--- not built by itself, a mnemonic or a label where its statement is complete
+-- the item has a form that is not built yet: a word of a heading, section or end has one by itself,
+-- a mnemonic or a label where its statement is complete
+abbrev pub is_not_built : Context → List Token → Bool
+is_not_built context tokens =
+    (begins_with_block_word tokens && not (label_at context tokens))
+    || (is_complete tokens && (begins_with_mnemonic tokens || label_at context tokens))
+
+-- why an item that fits no form is refused
 abbrev pub misfit_reason : Context → List Token → Reason
-misfit_reason context tokens =
-    if first_passes (is_word_among block_words) tokens && not (label_at context tokens) then Unsupported NotBuilt
-    else if is_complete tokens && (begins_with_mnemonic tokens || label_at context tokens) then Unsupported NotBuilt
-    else BadStatement
+misfit_reason context tokens = if is_not_built context tokens then Unsupported NotBuilt else BadStatement
 
 -- Forms that are built
 
