@@ -3,5 +3,6 @@
 
 mod lexer;
 mod operand;
+mod reader;
 mod statement;
 mod words;

@@ -89,7 +89,11 @@ fn short_operand(place: &Token, point: &Token, bit: &Token) -> Option<Operand>
         return None;
     }
     match place.text.as_slice() {
-        [letter, byte @ ..] => bit_at(area_of_letter(letter.to_ascii_uppercase()), byte, bit.text.as_slice()),
+        [letter, byte @ ..] => bit_at(
+            area_of_letter(letter.to_ascii_uppercase()),
+            byte,
+            bit.text.as_slice(),
+        ),
         [] => None,
     }
 }
@@ -99,7 +103,11 @@ fn long_operand(name: &Token, byte: &Token, point: &Token, bit: &Token) -> Optio
     ensures { result ≡ long_operand name.now byte.now point.now bit.now }
 {
     if is_word_kind(name) && is_word_kind(byte) && is_bit_number(point, bit) {
-        bit_at(area_of(name.text.as_slice()), byte.text.as_slice(), bit.text.as_slice())
+        bit_at(
+            area_of(name.text.as_slice()),
+            byte.text.as_slice(),
+            bit.text.as_slice(),
+        )
     } else {
         None
     }

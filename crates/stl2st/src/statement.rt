@@ -6,7 +6,10 @@ ghost use Rattle.stl_tree.specs.Words.{is_sign};
 ghost use Rattle.stl2st.specs.Contexts.{view};
 
 use crate::operand::bit_operand;
-use crate::words::{is_block_word, is_mnemonic_sign, is_mnemonic_word, is_sign, is_type_letter, is_typed_sign, is_word, is_word_kind};
+use crate::words::{
+    is_block_word, is_mnemonic_sign, is_mnemonic_word, is_sign, is_type_letter, is_typed_sign,
+    is_word, is_word_kind,
+};
 use s7_base::{Check, Kind, Reason, Token};
 use stl_tree::{BitArg, Op, Operand};
 
@@ -51,7 +54,10 @@ pub fn statement_size(tokens: &[Token]) -> usize
     ensures size { result ≡ statement_size tokens.now }
     ensures within { result ≤ length tokens.now }
 {
-    tokens.iter().take_while(|token| !is_sign(token, ";")).count()
+    tokens
+        .iter()
+        .take_while(|token| !is_sign(token, ";"))
+        .count()
 }
 
 fn is_complete(tokens: &[Token]) -> bool
@@ -83,7 +89,10 @@ fn begins_with_mnemonic(tokens: &[Token]) -> bool
 {
     match tokens {
         [first, rest @ ..] => {
-            is_mnemonic_word(first) || is_mnemonic_sign(first) || begins_with_typed_sign(first, rest) || begins_master_control(first, rest)
+            is_mnemonic_word(first)
+                || is_mnemonic_sign(first)
+                || begins_with_typed_sign(first, rest)
+                || begins_master_control(first, rest)
         }
         [] => false,
     }
@@ -103,7 +112,9 @@ fn begins_with_label(tokens: &[Token]) -> bool
     ensures { result ≡ begins_with_label tokens.now }
 {
     match tokens {
-        [first, second, ..] => is_word_kind(first) && is_label(first.text.as_slice()) && is_sign(second, ":"),
+        [first, second, ..] => is_word_kind(first)
+            && is_label(first.text.as_slice())
+            && is_sign(second, ":"),
         _ => false,
     }
 }
@@ -131,7 +142,8 @@ fn is_not_built(context: Context, tokens: &[Token]) -> bool
     ensures { result ≡ is_not_built (view context) tokens.now }
 {
     let label = label_at(context, tokens);
-    (begins_with_block_word(tokens) && !label) || (is_complete(tokens) && (begins_with_mnemonic(tokens) || label))
+    (begins_with_block_word(tokens) && !label)
+        || (is_complete(tokens) && (begins_with_mnemonic(tokens) || label))
 }
 
 /// Why an item that fits no form is refused.

@@ -187,10 +187,12 @@ abbrev pub heading_number : List Token → Result (BlockName × ℕ) Reason
 heading_number [] = Err BadStatement
 heading_number (number ∷ rest) = if is_word_kind number.kind then heading_with 2 (block_number number.text) else Err (Unsupported NotBuilt)
 
--- what stands behind ORGANIZATION_BLOCK, with how many tokens it takes: `OB 1` or `OB1`
+-- `OB1` in one word
+abbrev pub short_heading : Token → Result (BlockName × ℕ) Reason
+short_heading name =
+    if is_word_kind name.kind && str_eq_ignore_ascii_case (take 2 name.text) (codes "OB") then heading_with 1 (block_number (drop 2 name.text)) else Err (Unsupported NotBuilt)
+
+-- what stands behind ORGANIZATION_BLOCK, with how many tokens it takes
 abbrev pub heading_name : List Token → Result (BlockName × ℕ) Reason
 heading_name [] = Err BadStatement
-heading_name (name ∷ rest) =
-    if is_word (codes "OB") name then heading_number rest
-    else if is_word_kind name.kind && str_eq_ignore_ascii_case (take 2 name.text) (codes "OB") then heading_with 1 (block_number (drop 2 name.text))
-    else Err (Unsupported NotBuilt)
+heading_name (name ∷ rest) = if is_word (codes "OB") name then heading_number rest else short_heading name

@@ -1,6 +1,6 @@
 -- The verdict on a source text: its program, or the line and the reason of the first broken rule.
 -- First all tokens, then the items from the front, the first that fits no form that is built.
-use Rattle.std.specs.Prelude.{ℕ, zero, suc, Bool, true, false, if◌then◌else◌, List, [], ◌∷◌, drop, codes, Result, Ok, Err}
+use Rattle.std.specs.Prelude.{ℕ, zero, suc, Bool, true, false, if◌then◌else◌, List, [], ◌∷◌, ◌++◌, drop, codes, Result, Ok, Err}
 use Rattle.s7_base.specs.Tokens.{tokens_of, line_at_end}
 use Rattle.s7_base.specs.declared.reason.Line.{Line}
 use Rattle.s7_base.specs.declared.reason.Reason.{Reason}
@@ -21,30 +21,34 @@ use Rattle.stl_tree.specs.declared.program.Program.{Program}
 abbrev pub misfit_at : List Token → Line → Rejection
 misfit_at tokens line = Refused line (misfit_reason outside tokens)
 
--- an instruction before others
-abbrev pub prepend_instr : Instr → Result (List Instr) Rejection → Result (List Instr) Rejection
-prepend_instr instr (Ok instrs) = Ok (instr ∷ instrs)
-prepend_instr instr (Err refused) = Err refused
+-- instructions before others
+abbrev pub prepend_instrs : List Instr → Result (List Instr) Rejection → Result (List Instr) Rejection
+prepend_instrs instrs (Ok more) = Ok (instrs ++ more)
+prepend_instrs instrs (Err refused) = Err refused
 
 -- a statement and the items behind it
 abbrev pub with_statement : Line → Result Op Reason → Result (List Instr) Rejection → Result (List Instr) Rejection
-with_statement line (Ok op) rest = prepend_instr (record { line = line; op = op }) rest
+with_statement line (Ok op) rest = prepend_instrs (record { line = line; op = op } ∷ []) rest
 with_statement line (Err reason) rest = Err (Refused line reason)
+
+-- an empty statement or a statement at the front of these tokens, and the items behind it
+abbrev pub with_item : Token → List Token → Result (List Instr) Rejection → Result (List Instr) Rejection
+with_item first tokens rest = if is_sign (codes ";") first then rest else with_statement first.line (statement_of tokens) rest
 
 -- an end word, behind which the text ends
 abbrev pub with_end : Line → List Token → Result (List Instr) Rejection
 with_end line [] = Ok (record { line = line; op = BlockEnd } ∷ [])
 with_end line (next ∷ rest) = Err (misfit_at (next ∷ rest) next.line)
 
--- the instructions of a body from a place on, of a text that ends on a line: empty statements, the
--- end word, and statements, of which `skip` tokens still belong to the one before
+-- the instructions of a body from a place on, of a text that ends on a line: items, and the end word;
+-- `skip` tokens still belong to the item before
 abbrev pub body_from : Line → ℕ → List Token → Result (List Instr) Rejection
 body_from end skip [] = Err (Refused end BadStatement)
 body_from end (suc skip) (first ∷ rest) = body_from end skip rest
 body_from end zero (first ∷ rest) =
-    if is_sign (codes ";") first then body_from end 0 rest
-    else if is_word (codes "END_ORGANIZATION_BLOCK") first then with_end first.line rest
-    else with_statement first.line (statement_of (first ∷ rest)) (body_from end (statement_size (first ∷ rest)) rest)
+    if is_word (codes "END_ORGANIZATION_BLOCK") first
+    then with_end first.line rest
+    else with_item first (first ∷ rest) (body_from end (statement_size (first ∷ rest)) rest)
 
 -- BEGIN and the body behind it
 abbrev pub begin_from : Line → List Token → Result (List Instr) Rejection
