@@ -1,4 +1,5 @@
-//! What no clause says: that calls succeed while there is memory, and how a refusal is shown.
+//! What no clause says: that calls succeed while there is memory. And that the texts which the
+//! clauses promise are the ones that were asked for.
 use crate::{Boxed, Kind, List, Reason};
 use std::test::Fail;
 
@@ -25,8 +26,6 @@ fn takes_memory(rt: HostRuntime) -> Result<(), Fail> {
 fn shows_reasons(rt: HostRuntime) -> Result<(), Fail> {
     let shown = [
         (Reason::BadToken, "BadToken"),
-        (Reason::TypeMismatch, "TypeMismatch"),
-        (Reason::Unsupported(Kind::Timer), "Unsupported(Timer)"),
         (Reason::Unsupported(Kind::NotBuilt), "Unsupported(NotBuilt)"),
     ];
     for (reason, want) in shown {
