@@ -1,3 +1,4 @@
 pub mod Reason
+pub mod RegSet
 pub mod Tokens
 pub mod formers

@@ -1,6 +1,6 @@
 //! Why a text is refused, and where.
-ghost use Rattle.std.specs.Prelude.{◌≡◌};
-ghost use Rattle.s7_base.specs.Reason.{name_of, kind_name_of};
+ghost use Rattle.std.specs.Prelude.{◌≡◌, Some};
+ghost use Rattle.s7_base.specs.Reason.{name_of, kind_name_of, reason_text};
 ghost use Rattle.s7_base.specs.declared.reason.Rejection.TheVariants as rejection;
 
 use crate::memory::NoMemory;
@@ -134,6 +134,8 @@ impl Kind {
 }
 
 impl fmt::Display for Reason {
+    ghost output = { λ reason. Some (reason_text reason) };
+
     fn fmt<W: fmt::Write>(&self, f: &mut fmt::Formatter<W>) -> fmt::Result {
         match self {
             Reason::Unsupported(kind) => write!(f, "{}({kind})", self.name()),
@@ -143,6 +145,8 @@ impl fmt::Display for Reason {
 }
 
 impl fmt::Display for Kind {
+    ghost output = { λ kind. Some (kind_name_of kind) };
+
     fn fmt<W: fmt::Write>(&self, f: &mut fmt::Formatter<W>) -> fmt::Result {
         f.write_str(self.name())
     }
