@@ -1,5 +1,6 @@
 -- What a source has given, where it tells the bytes that are still to come.
-use Rattle.std.specs.Prelude.{◌≡◌, ℕ, ◌≤◌, List, [], ◌++◌, length, Option, None, Some}
+use Rattle.std.specs.Prelude.{◌≡◌, ℕ, ◌≤◌, min, List, [], ◌++◌, length, Option, None, Some}
+use Rattle.s7_io.specs.Faults.{Plan}
 
 -- these bytes came from the front of those that were to come
 abbrev pub Gave : Option (List ℕ) → Option (List ℕ) → List ℕ → Type 0
@@ -27,3 +28,18 @@ GaveExactly before after count = (bytes : List ℕ) × (length bytes ≡ count) 
 -- at most this many bytes came from the front of those that were to come
 abbrev pub GaveAtMost : Option (List ℕ) → Option (List ℕ) → ℕ → Type 0
 GaveAtMost before after count = (bytes : List ℕ) × (length bytes ≤ count) × Gave before after bytes
+
+-- a source in memory that never fails: the bytes still to come, and at most how many come at once
+pub record Feed : Type 0 where
+  pub left : List ℕ
+  pub piece : ℕ
+
+-- a source in memory that fails at planned calls
+pub record PlannedFeed : Type 0 where
+  pub left : List ℕ
+  pub piece : ℕ
+  pub plan : Plan
+
+-- how many bytes come at once, where a buffer has this much room
+abbrev pub next_count : List ℕ → ℕ → ℕ → ℕ
+next_count left piece room = min (min room piece) (length left)

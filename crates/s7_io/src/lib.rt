@@ -6,12 +6,21 @@
 //! the object handed in. `read_all` and `write_all` say what happened to these bytes in every case.
 #![tactic(auto)]
 
+pub use mem_sink::MemSink;
+pub use mem_source::{MemSource, SureSource};
+pub use no_file::NoFile;
 pub use read::{ReadRefusal, read_all};
 pub use sink::Sink;
 pub use source::{Failed, Source};
+pub use std_streams::{StdSink, StdSource};
 pub use write::{WriteFault, write_all};
 
+mod mem_sink;
+mod mem_source;
+mod no_file;
+mod plan;
 mod read;
 mod sink;
 mod source;
+mod std_streams;
 mod write;
