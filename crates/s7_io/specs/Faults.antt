@@ -1,5 +1,5 @@
 -- How often a source or a sink has failed.
-use Rattle.std.specs.Prelude.{◌≡◌, ℕ, ◌+◌, ◌-◌, ◌^◌, ◌<◌, ◌⊎◌, min, List, Contains}
+use Rattle.std.specs.Prelude.{◌≡◌, ℕ, ◌+◌, ◌-◌, ◌^◌, ◌<◌, ◌⊎◌, min, List, Contains, Result, Ok, Err}
 
 -- the greatest count of faults, at which it stays
 abbrev pub most_faults : ℕ
@@ -12,6 +12,11 @@ one_more count = min (count + 1) most_faults
 -- the count grew, or stands at its greatest value and can't grow
 abbrev pub Rose : ℕ → ℕ → Type 0
 Rose before after = (before < after) ⊎ (after ≡ most_faults)
+
+-- a call that fails counts as one more fault, and no other call does
+abbrev pub CountsFault : {T E : Type 0} → Result T E → ℕ → ℕ → Type 0
+CountsFault (Ok given) before after = after ≡ before
+CountsFault (Err failed) before after = after ≡ one_more before
 
 -- the calls that are to fail, by their numbers from 1, with the calls and the faults so far
 pub record Plan : Type 0 where

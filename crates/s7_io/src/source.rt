@@ -3,8 +3,11 @@ ghost use Rattle.std.specs.Prelude.{◌≡◌, ℕ, ◌<◌, ◌≤◌, List, le
 ghost use Rattle.s7_io.specs.Source.{Gave, IsAtEnd};
 ghost use Rattle.s7_io.specs.Faults.{Rose};
 
+use thiserror::Error;
+
 /// A read or a write failed. The count of faults of its source or sink rose.
-#[derive(Clone, Copy, Debug, PartialEq, Eq)]
+#[derive(Clone, Copy, Debug, PartialEq, Eq, Error)]
+#[error("a read or a write failed")]
 pub struct Failed;
 
 /// Bytes that come in pieces, from their first to their last.
