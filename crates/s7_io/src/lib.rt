@@ -23,4 +23,6 @@ mod read;
 mod sink;
 mod source;
 mod std_streams;
+#[cfg(test)]
+mod tests;
 mod write;
