@@ -1,0 +1,18 @@
+use Rattle.std.proofs.Common.{ℕ, ◌≤◌, ◌-◌, List, Option, length}
+use Rattle.s7_io.specs.Source.{Gave}
+use Rattle.s7_io.proofs.read.read_all.Given as goal
+
+-- how far the reading has come
+pub record Read (before after : Option (List ℕ)) (faults_before faults_after : ℕ) (bytes : List ℕ) (limit : ℕ) : Type 0 where
+  pub within : length bytes ≤ limit
+  pub gave : Gave before after bytes
+  pub later : faults_before ≤ faults_after
+
+abbrev pub invariant-pieces : goal.invariant-pieces
+invariant-pieces g l =
+    Read (g.S.Source.left l.initial.src) (g.S.Source.left l.src) (g.S.Source.faults l.initial.src)
+    (g.S.Source.faults l.src) l.bytes.items l.limit
+
+-- each piece brings a byte, and the bytes stay within the limit
+abbrev pub decreases-pieces : goal.decreases-pieces
+decreases-pieces g l = l.limit - length l.bytes.items
