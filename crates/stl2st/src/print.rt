@@ -1,6 +1,5 @@
 //! The canonical text of a tree, written piece by piece behind what stands there already.
 ghost use Rattle.std.specs.Prelude.{◌≡◌, ◌++◌, decimal, IfOk, OnOk};
-ghost use Rattle.std.specs.Ordering.{int_eq};
 ghost use Rattle.st_tree.specs.Form.{level, wrap, canon, prefix_level, infix_level};
 ghost use Rattle.st_tree.specs.Spelling.{register_word, area_word, width_word, bit_text, var_text, literal_text, prefix_word, infix_word, written, statement_line, unit_text, spelling};
 
