@@ -1,3 +1,6 @@
 pub mod Answers
+pub mod Command
 pub mod Contexts
 pub mod Pieces
+pub mod Status
+pub mod Translation

@@ -1,8 +1,0 @@
-//! Scratch.
-#![tactic(auto)]
-
-mod lexer;
-mod operand;
-mod reader;
-mod statement;
-mod words;
