@@ -201,14 +201,14 @@ fn width_letter(width: Width) -> &'static str
     }
 }
 
-fn put(out: &mut Vec<u8>, text: &str) -> Result<(), NoMemory>
+pub fn put(out: &mut Vec<u8>, text: &str) -> Result<(), NoMemory>
     ensures { OnOk result (out.new.items ≡ out.old.items ++ text.now) }
 {
     out.extend_from_slice(text.as_bytes())?;
     Ok(())
 }
 
-fn put_number(out: &mut Vec<u8>, number: u32) -> Result<(), NoMemory>
+pub fn put_number(out: &mut Vec<u8>, number: u32) -> Result<(), NoMemory>
     ensures { OnOk result (out.new.items ≡ out.old.items ++ decimal number) }
 {
     let mut buffer = Buffer::new();
