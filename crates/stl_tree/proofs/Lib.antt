@@ -1,1 +1,2 @@
+pub mod GrammarLaws
 mod VerdictRows

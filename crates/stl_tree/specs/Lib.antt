@@ -1,3 +1,4 @@
+pub mod Grammar
 pub mod Items
 pub mod Verdict
 pub mod Words

@@ -5,6 +5,8 @@
 //! blocks, and the verdict, which is a program or the first broken rule and its line.
 #![tactic(auto)]
 
+pub use source_laws::verdict_accepts_the_grammar;
 pub use program::{BitArg, Block, BlockName, Instr, Op, Operand, Program};
 
 mod program;
+mod source_laws;
