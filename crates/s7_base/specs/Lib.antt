@@ -1,4 +1,5 @@
 pub mod Reason
 pub mod RegSet
+pub mod TokenGrammar
 pub mod Tokens
 pub mod formers
