@@ -1,2 +1,4 @@
 pub mod Reason
+pub mod RegSet
+pub mod Tokens
 pub mod formers

@@ -24,5 +24,7 @@ mod outcome;
 mod place;
 mod reason;
 mod register;
+#[cfg(test)]
+mod tests;
 mod token;
 mod word;

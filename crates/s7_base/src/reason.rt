@@ -1,7 +1,9 @@
 //! Why a text is refused, and where.
-ghost use Rattle.std.specs.Prelude.{◌≡◌};
-ghost use Rattle.s7_base.specs.Reason.{name_of, kind_name_of};
+ghost use Rattle.std.specs.Prelude.{◌≡◌, Some};
+ghost use Rattle.s7_base.specs.Reason.{name_of, kind_name_of, reason_text};
+ghost use Rattle.s7_base.specs.declared.reason.Rejection.TheVariants as rejection;
 
+use crate::memory::NoMemory;
 use std::fmt;
 
 /// A line of a text, counted from 1. A line past the greatest number is kept as that number.
@@ -132,6 +134,8 @@ impl Kind {
 }
 
 impl fmt::Display for Reason {
+    ghost output = { λ reason. Some (reason_text reason) };
+
     fn fmt<W: fmt::Write>(&self, f: &mut fmt::Formatter<W>) -> fmt::Result {
         match self {
             Reason::Unsupported(kind) => write!(f, "{}({kind})", self.name()),
@@ -141,7 +145,17 @@ impl fmt::Display for Reason {
 }
 
 impl fmt::Display for Kind {
+    ghost output = { λ kind. Some (kind_name_of kind) };
+
     fn fmt<W: fmt::Write>(&self, f: &mut fmt::Formatter<W>) -> fmt::Result {
         f.write_str(self.name())
+    }
+}
+
+impl From<NoMemory> for Rejection {
+    ghost from_gives = { λ _ made. made ≡ rejection.NoMemory };
+
+    fn from(_refused: NoMemory) -> Rejection {
+        Rejection::NoMemory
     }
 }

@@ -1,0 +1,2 @@
+pub mod CanonEquations
+mod SpellingRows

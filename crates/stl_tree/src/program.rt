@@ -1,0 +1,58 @@
+//! The program that a source text stands for.
+
+use s7_base::{AreaName, Check, Line, List};
+
+/// A block by its kind and number: an organization block, a function or a function block.
+#[derive(Clone, Copy, Debug, PartialEq, Eq)]
+pub enum BlockName {
+    Ob(u16),
+    Fc(u16),
+    Fb(u16),
+}
+
+/// Where an instruction finds its operand.
+#[derive(Clone, Copy, Debug, PartialEq, Eq)]
+pub enum Operand {
+    /// An area, a byte in it and a bit from 0 to 7.
+    Direct(AreaName, u32, u8),
+}
+
+/// What a bit check looks at.
+#[derive(Clone, Copy, Debug, PartialEq, Eq)]
+pub enum BitArg {
+    At(Operand),
+}
+
+/// What an instruction does, with its operand.
+#[derive(Clone, Copy, Debug, PartialEq, Eq)]
+pub enum Op {
+    /// `A`, `AN`, `O` and `ON` on a bit.
+    Check(Check, BitArg),
+
+    /// `=`
+    Assign(Operand),
+
+    /// The end word of a block.
+    BlockEnd,
+}
+
+/// An instruction, with the line of its first token.
+#[derive(Clone, Copy, Debug, PartialEq, Eq)]
+pub struct Instr {
+    pub line: Line,
+    pub op: Op,
+}
+
+/// A block, with the line of its heading. The last instruction of its body is that of its end word.
+#[derive(Debug, Drop, PartialEq)]
+pub struct Block {
+    pub name: BlockName,
+    pub line: Line,
+    pub body: List<Instr>,
+}
+
+/// The blocks of a text, in the order of the text.
+#[derive(Debug, Drop, PartialEq)]
+pub struct Program {
+    pub blocks: List<Block>,
+}
