@@ -53,7 +53,8 @@ impl<R: Read> Source for StdSource<R> {
     }
 }
 
-/// A writer as a sink. Each error of the writer is a fault, an interrupted call among them.
+/// A writer as a sink. Each error of the writer is a fault, an interrupted call among them. It is
+/// never flushed, so the writer is to keep nothing back.
 #[derive(Debug, Drop)]
 pub struct StdSink<W> {
     inner: W,
