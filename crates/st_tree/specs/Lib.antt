@@ -1,2 +1,11 @@
+pub mod Depth
+pub mod Derives
 pub mod Form
+pub mod Grammar
+pub mod Proper
+pub mod Reading
+pub mod ReadingLaws
 pub mod Spelling
+pub mod StKinds
+pub mod StTokens
+pub mod StWords

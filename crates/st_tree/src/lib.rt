@@ -7,6 +7,9 @@
 
 pub use expr::{BinaryOp, Expr, StType, UnaryOp, Var};
 pub use program::{Pou, StProgram, Stmt};
+pub use token::{StKind, StToken};
 
 mod expr;
+pub mod laws;
 mod program;
+mod token;
