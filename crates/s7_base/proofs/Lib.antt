@@ -1,2 +1,3 @@
+pub mod AreaLaws
 pub mod Sets
 mod TokenRows
