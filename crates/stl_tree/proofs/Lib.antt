@@ -1,1 +1,3 @@
+pub mod Runs
+mod RunRows
 mod VerdictRows
