@@ -1,2 +1,4 @@
 pub mod CanonEquations
+pub mod Opened
 mod SpellingRows
+pub mod Units
