@@ -1,18 +1,18 @@
 -- Laws of reading and writing bits: what was written is read back, and nothing else has changed.
-use Rattle.std.proofs.Common.{◌≡◌, ◌≢◌, ⊎_elim, ℕ, suc, zero, ◌+◌, ◌-◌, ◌*◌, ◌/◌, ◌%◌, ◌^◌, ◌<◌, ◌≤◌, Bool, true, false, ◌==◌, if◌then◌else◌, List, [], ◌∷◌, length, Option, Some, None, Ok, refl, sym, ap, ◌∙◌, subst, arith, add-one, pow-add}
+use Rattle.std.proofs.Common.{◌≡◌, ◌≢◌, ⊎_elim, ℕ, suc, zero, ◌+◌, ◌-◌, ◌*◌, ◌/◌, ◌%◌, ◌^◌, ◌<◌, ◌≤◌, Bool, true, false, ◌==◌, if◌then◌else◌, List, [], ◌∷◌, length, Option, Some, None, Ok, Err, refl, sym, ap, ◌∙◌, subst, arith, add-one, pow-add}
 use Rattle.std.specs.Prelude.{slice_get, slice_set, All}
 use Rattle.std.specs.Int.{bit_at}
 use Rattle.std.proofs.lemmas.Bool.{cases_order}
 use Rattle.std.proofs.lemmas.List.{length-set}
 use Rattle.std.proofs.lemmas.List.Elements.{All-set}
-use Rattle.std.proofs.lemmas.Option.{get_or_from_slice_get, slice_get_within}
+use Rattle.std.proofs.lemmas.Option.{get_or_from_slice_get, slice_get_past, slice_get_within}
 use Rattle.std.proofs.Math.Nat.{two-pow-succ, mul-le-mul_right, suc-mul}
 use Rattle.std.proofs.lemmas.Nat.{pow_pos, div-add-mod', div_below}
 use Rattle.std.proofs.lemmas.Nat.Bits.{bit_at_cat_low, bit_at_cat_high}
 use Rattle.s7_base.specs.declared.place.TheConstants.{INPUT_BYTES, OUTPUT_BYTES, MARKER_BYTES}
 use Rattle.s7_base.specs.declared.place.AreaName.{AreaName}
 use Rattle.s7_base.specs.declared.place.AreaName.TheVariants as area
-use Rattle.s7_base.specs.Areas.{Areas, IsArea, IsValid, bytes_of, with_bytes, bit_of_byte, byte_with, present, and_then, read_bit, write_bit}
+use Rattle.s7_base.specs.Areas.{Areas, IsArea, IsValid, bytes_of, with_bytes, bit_of_byte, byte_with, fault_past, present, and_then, read_bit, write_bit}
 
 -- Bits of a byte
 
@@ -153,13 +153,13 @@ record Wrote (name : AreaName) (byte x : ℕ) (v : Bool) (areas more : Areas) : 
   there : slice_get (bytes_of name areas) byte ≡ Some old
   gives : with_bytes name (slice_set (bytes_of name areas) byte (byte_with old x v)) areas ≡ more
 
-from_present : (o : Option ℕ) (f : ℕ → Areas) (more : Areas) → and_then (present o) (λ b. Ok (f b)) ≡ Ok more → (b : ℕ) × (o ≡ Some b) × (f b ≡ more)
-from_present None f more e = cc
-from_present (Some b) f more e = (b, refl, cc)
+from_present : (name : AreaName) (o : Option ℕ) (f : ℕ → Areas) (more : Areas) → and_then (present name o) (λ b. Ok (f b)) ≡ Ok more → (b : ℕ) × (o ≡ Some b) × (f b ≡ more)
+from_present name None f more e = cc
+from_present name (Some b) f more e = (b, refl, cc)
 
 wrote : (name : AreaName) (byte x : ℕ) (v : Bool) (areas more : Areas) → write_bit name byte x v areas ≡ Ok more → Wrote name byte x v areas more
 wrote name byte x v areas more e =
-    let found = from_present (slice_get (bytes_of name areas) byte) (λ b. with_bytes name (slice_set (bytes_of name areas) byte (byte_with b x v)) areas) more e in
+    let found = from_present name (slice_get (bytes_of name areas) byte) (λ b. with_bytes name (slice_set (bytes_of name areas) byte (byte_with b x v)) areas) more e in
     record { old = found.0; there = found.1; gives = found.2 }
 
 -- the bytes of the area after a write
@@ -175,7 +175,7 @@ written_bit name byte x v areas more e =
     let there : slice_get (bytes_of name more) byte ≡ Some (byte_with w.old x v) =
     ap (λ items. slice_get items byte) (bytes_after name byte x v areas more w)
     ∙ get_set_same (bytes_of name areas) byte (byte_with w.old x v) w.old w.there in
-    ap (λ o. and_then (present o) (λ b. Ok (bit_of_byte b x))) there ∙ ap Ok (bit_written w.old x v)
+    ap (λ o. and_then (present name o) (λ b. Ok (bit_of_byte b x))) there ∙ ap Ok (bit_written w.old x v)
 
 -- every other byte of the area stays, and so its bits
 pub other_byte : (name : AreaName) (byte x : ℕ) (v : Bool) (areas more : Areas) (position y : ℕ) → position ≢ byte → write_bit name byte x v areas ≡ Ok more → read_bit name position y more ≡ read_bit name position y areas
@@ -184,7 +184,7 @@ other_byte name byte x v areas more position y apart e =
     let same : slice_get (bytes_of name more) position ≡ slice_get (bytes_of name areas) position =
     ap (λ items. slice_get items position) (bytes_after name byte x v areas more w)
     ∙ get_set_other (bytes_of name areas) byte position (byte_with w.old x v) apart in
-    ap (λ o. and_then (present o) (λ b. Ok (bit_of_byte b y))) same
+    ap (λ o. and_then (present name o) (λ b. Ok (bit_of_byte b y))) same
 
 -- every other bit of the byte stays
 pub other_bit : (name : AreaName) (byte x : ℕ) (v : Bool) (areas more : Areas) (y : ℕ) → y ≢ x → write_bit name byte x v areas ≡ Ok more → read_bit name byte y more ≡ read_bit name byte y areas
@@ -193,9 +193,9 @@ other_bit name byte x v areas more y apart e =
     let there : slice_get (bytes_of name more) byte ≡ Some (byte_with w.old x v) =
     ap (λ items. slice_get items byte) (bytes_after name byte x v areas more w)
     ∙ get_set_same (bytes_of name areas) byte (byte_with w.old x v) w.old w.there in
-    ap (λ o. and_then (present o) (λ b. Ok (bit_of_byte b y))) there
+    ap (λ o. and_then (present name o) (λ b. Ok (bit_of_byte b y))) there
     ∙ ap Ok (bit_kept w.old x y v apart)
-    ∙ ap (λ o. and_then (present o) (λ b. Ok (bit_of_byte b y))) (sym w.there)
+    ∙ ap (λ o. and_then (present name o) (λ b. Ok (bit_of_byte b y))) (sym w.there)
 
 -- every other area stays
 pub other_area : (name other : AreaName) (byte x : ℕ) (v : Bool) (areas more : Areas) → other ≢ name → write_bit name byte x v areas ≡ Ok more → bytes_of other more ≡ bytes_of other areas
@@ -232,3 +232,11 @@ pub length_kept : (name : AreaName) (byte x : ℕ) (v : Bool) (areas more : Area
 length_kept name byte x v areas more e =
     let w = wrote name byte x v areas more e in
     ap length (bytes_after name byte x v areas more w) ∙ length-set (bytes_of name areas) byte (byte_with w.old x v)
+
+-- a byte that the area has not is neither read nor written
+pub not_read : (name : AreaName) (byte x : ℕ) (areas : Areas) → length (bytes_of name areas) ≤ byte → read_bit name byte x areas ≡ Err (fault_past name)
+not_read name byte x areas past = ap (λ o. and_then (present name o) (λ b. Ok (bit_of_byte b x))) (slice_get_past (bytes_of name areas) byte past)
+
+pub not_written : (name : AreaName) (byte x : ℕ) (v : Bool) (areas : Areas) → length (bytes_of name areas) ≤ byte → write_bit name byte x v areas ≡ Err (fault_past name)
+not_written name byte x v areas past =
+    ap (λ o. and_then (present name o) (λ b. Ok (with_bytes name (slice_set (bytes_of name areas) byte (byte_with b x v)) areas))) (slice_get_past (bytes_of name areas) byte past)

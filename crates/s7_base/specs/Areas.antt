@@ -1,7 +1,7 @@
 -- What the memory of a controller is seen as: lists of bytes, of which single bits are read and written.
 use Rattle.std.specs.Prelude.{◌≡◌, ℕ, ◌+◌, ◌*◌, ◌/◌, ◌%◌, ◌^◌, ◌<◌, Bool, ◌==◌, if◌then◌else◌, List, [], length, slice_get, slice_set, All, Option, Some, None, Result, Ok, Err}
 use Rattle.s7_base.specs.declared.outcome.Fault.{Fault}
-use Rattle.s7_base.specs.declared.outcome.Fault.TheVariants.{AreaLength}
+use Rattle.s7_base.specs.declared.outcome.Fault.TheVariants.{AreaLength, DbNotOpen}
 use Rattle.s7_base.specs.declared.place.TheConstants.{INPUT_BYTES, OUTPUT_BYTES, MARKER_BYTES}
 use Rattle.s7_base.specs.declared.place.AreaName.{AreaName}
 use Rattle.s7_base.specs.declared.place.AreaName.TheVariants as area
@@ -49,10 +49,19 @@ bit_of_byte b x = b / 2 ^ x % 2 == 1
 abbrev pub byte_with : ℕ → ℕ → Bool → ℕ
 byte_with b x v = b / 2 ^ (x + 1) * 2 ^ (x + 1) + (if v then 2 ^ x else 0) + b % 2 ^ x
 
--- a byte of an area, or the fault of a byte past its end
-abbrev pub present : Option ℕ → Result ℕ Fault
-present (Some b) = Ok b
-present None = Err AreaLength
+-- the fault of a byte that an area has not: it lies past the end, or no data block is open
+abbrev pub fault_past : AreaName → Fault
+fault_past area.I = AreaLength
+fault_past area.Q = AreaLength
+fault_past area.M = AreaLength
+fault_past area.L = AreaLength
+fault_past area.Db = DbNotOpen
+fault_past area.Di = DbNotOpen
+
+-- a byte of an area, or its fault
+abbrev pub present : AreaName → Option ℕ → Result ℕ Fault
+present name (Some b) = Ok b
+present name None = Err (fault_past name)
 
 -- what comes of a value, where no fault stands in its place
 abbrev pub and_then : {A B : Type 0} → Result A Fault → (A → Result B Fault) → Result B Fault
@@ -61,9 +70,9 @@ and_then (Err fault) next = Err fault
 
 -- the bit at a place, by its area, its byte and its number in the byte
 abbrev pub read_bit : AreaName → ℕ → ℕ → Areas → Result Bool Fault
-read_bit name byte x areas = and_then (present (slice_get (bytes_of name areas) byte)) (λ b. Ok (bit_of_byte b x))
+read_bit name byte x areas = and_then (present name (slice_get (bytes_of name areas) byte)) (λ b. Ok (bit_of_byte b x))
 
 -- the memory with another bit at a place: its byte is replaced, and nothing else
 abbrev pub write_bit : AreaName → ℕ → ℕ → Bool → Areas → Result Areas Fault
 write_bit name byte x v areas =
-    and_then (present (slice_get (bytes_of name areas) byte)) (λ b. Ok (with_bytes name (slice_set (bytes_of name areas) byte (byte_with b x v)) areas))
+    and_then (present name (slice_get (bytes_of name areas) byte)) (λ b. Ok (with_bytes name (slice_set (bytes_of name areas) byte (byte_with b x v)) areas))

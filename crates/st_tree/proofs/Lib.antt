@@ -1,4 +1,6 @@
+pub mod Assignments
 pub mod CanonEquations
 pub mod Opened
+mod RunRows
 mod SpellingRows
 pub mod Units
