@@ -2,5 +2,6 @@ pub mod Areas
 pub mod End
 pub mod Reason
 pub mod RegSet
+pub mod TokenGrammar
 pub mod Tokens
 pub mod formers

@@ -14,6 +14,7 @@ pub use place::{Area, AreaName, INPUT_BYTES, MARKER_BYTES, OUTPUT_BYTES, Place};
 pub use reason::{Kind, Line, Reason, Rejection};
 pub use register::{Reg, RegSet};
 pub use token::{Token, TokenKind};
+pub use token_laws::tokens_are_cut;
 pub use word::{Width, high_word, low_byte, low_word, put_low_byte, put_low_word};
 
 mod boxed;
@@ -27,4 +28,5 @@ mod register;
 #[cfg(test)]
 mod tests;
 mod token;
+mod token_laws;
 mod word;

@@ -11,9 +11,11 @@ Took (Some before) (Some after) bytes = after ≡ before ++ bytes
 
 -- only a front of these bytes, shorter than the whole, was put behind those that the sink had taken
 abbrev pub TookFewer : Option (List ℕ) → Option (List ℕ) → List ℕ → Type 0
-TookFewer before after bytes = (count : ℕ) × (count < length bytes) × Took before after (take count bytes)
+TookFewer before after bytes =
+    (count : ℕ) × (count < length bytes) × Took before after (take count bytes)
 
--- a sink in memory that fails at planned calls: the bytes taken, how many it takes in all, and at most how many at once
+-- a sink in memory that fails at planned calls: the bytes taken, and how many have room in all and
+-- come in at once
 pub record Intake : Type 0 where
   pub taken : List ℕ
   pub room : ℕ

@@ -1,9 +1,9 @@
 //! Where bytes come from and where they go: sources and sinks, in memory for tests and over std's
 //! readers and writers for the program.
 //!
-//! Stands on `s7_base` for want of memory. A source may tell the bytes that are still to come and a
-//! sink those that it took; each counts its faults, so that a fault which is answered can be traced to
-//! the object handed in. `read_all` and `write_all` say what happened to these bytes in every case.
+//! Stands on `s7_base` for want of memory. A source may tell the bytes that are still to come, and a
+//! sink those that it took. Each counts its faults, so that a fault which is answered can be traced
+//! to the object handed in. `read_all` and `write_all` say in every case what became of the bytes.
 #![tactic(auto)]
 
 pub use mem_sink::MemSink;

@@ -10,8 +10,8 @@ use s7_base::NoMemory;
 use std::alloc::Global;
 use std::marker::Model;
 
-/// Takes bytes in pieces until its room is used up, and fails at the calls whose numbers, from 1, it
-/// was given.
+/// Takes bytes in pieces until its room is used up, and fails at the calls whose numbers, from 1,
+/// it was given.
 #[derive(Debug, Drop)]
 pub struct MemSink {
     taken: Vec<u8>,
@@ -26,9 +26,15 @@ impl Model for MemSink {
 
     ghost Value = { Intake };
 
-    ghost view = { λ sink. record { taken = sink.taken.items; room = sink.room; piece = sink.piece; plan = sink.plan } };
+    ghost view = { λ sink. record {
+      taken = sink.taken.items;
+      room = sink.room;
+      piece = sink.piece;
+      plan = sink.plan;
+    } };
 
-    ghost invariant = { λ sink. (length sink.taken.items ≤ sink.room) × (sink.room ≤ vec_capacity sink.taken) × (1 ≤ sink.piece) };
+    ghost invariant = { λ sink.
+        (length sink.taken.items ≤ sink.room) × (sink.room ≤ vec_capacity sink.taken) × (1 ≤ sink.piece) };
 }
 
 impl MemSink {
@@ -67,7 +73,8 @@ impl Sink for MemSink {
     ghost faults = { λ sink. sink.plan.faults };
 
     fn write(&mut self, piece: &[u8]) -> Result<usize, Failed>
-        ensures failed { IsErr result ↔ (FailsNext self.old.plan ⊎ IsFullFor self.old (length piece.now)) }
+        ensures failed { IsErr result
+            ↔ (FailsNext self.old.plan ⊎ IsFullFor self.old (length piece.now)) }
         ensures count { IfOk result (λ n. n ≡ accepted_count self.old (length piece.now)) }
         ensures some { 0 < length piece.now → IfOk result (λ n. 0 < n) }
         ensures bytes { IfOk result (λ n. self.new.taken ≡ self.old.taken ++ take n piece.now) }

@@ -23,7 +23,10 @@ impl Model for SureSource {
 
     ghost Value = { Feed };
 
-    ghost view = { λ source. record { left = drop source.next source.bytes.items; piece = source.piece } };
+    ghost view = { λ source. record {
+      left = drop source.next source.bytes.items;
+      piece = source.piece;
+    } };
 
     ghost invariant = { λ source. (source.next ≤ length source.bytes.items) × (1 ≤ source.piece) };
 }
@@ -75,7 +78,11 @@ impl Model for MemSource {
 
     ghost Value = { PlannedFeed };
 
-    ghost view = { λ source. record { left = source.source.left; piece = source.source.piece; plan = source.plan } };
+    ghost view = { λ source. record {
+      left = source.source.left;
+      piece = source.source.piece;
+      plan = source.plan;
+    } };
 }
 
 impl MemSource {
@@ -109,8 +116,9 @@ impl Source for MemSource {
     ghost faults = { λ source. source.plan.faults };
 
     fn read(&mut self, buf: &mut [u8]) -> Result<usize, Failed>
-        ensures planned { IsErr result ↔ FailsNext self.old.plan }
-        ensures count { IfOk result (λ n. n ≡ next_count self.old.left self.old.piece (length buf.new)) }
+        ensures failed { IsErr result ↔ FailsNext self.old.plan }
+        ensures count { IfOk result
+            (λ n. n ≡ next_count self.old.left self.old.piece (length buf.new)) }
         ensures bytes { IfOk result (λ n. self.old.left ≡ take n buf.new ++ self.new.left) }
         ensures end { result ≡ Ok 0 → 0 < length buf.new → self.new.left ≡ [] }
         ensures unchanged { OnErr result (self.new.left ≡ self.old.left) }

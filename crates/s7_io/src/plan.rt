@@ -20,7 +20,11 @@ impl Model for FailPlan {
 
     ghost Value = { Plan };
 
-    ghost view = { λ plan. record { fails = plan.fails.items; calls = plan.calls; faults = plan.faults } };
+    ghost view = { λ plan. record {
+      fails = plan.fails.items;
+      calls = plan.calls;
+      faults = plan.faults;
+    } };
 }
 
 impl FailPlan {

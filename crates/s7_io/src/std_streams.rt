@@ -1,6 +1,6 @@
 //! The edge to the outside: std's readers and writers as a source and a sink.
 //!
-//! What a file or a terminal holds can't be told, so neither tells its bytes. They count what failed.
+//! What a file or a terminal holds can't be told, so neither tells its bytes. Both count what failed.
 ghost use Rattle.std.specs.Prelude.{◌≡◌, ◌<◌, ◌≤◌, length, IfOk};
 ghost use Rattle.std.specs.Io.KnownBytes.{ReadConsumes, WriteAppends};
 ghost use Rattle.s7_io.specs.Faults.{CountsFault};
@@ -10,7 +10,7 @@ use crate::sink::Sink;
 use crate::source::{Failed, Source};
 use std::io::{Read, Write};
 
-/// A reader as a source.
+/// A reader as a source. Each error of the reader is a fault, an interrupted call among them.
 #[derive(Debug, Drop)]
 pub struct StdSource<R> {
     inner: R,
@@ -53,7 +53,8 @@ impl<R: Read> Source for StdSource<R> {
     }
 }
 
-/// A writer as a sink.
+/// A writer as a sink. Each error of the writer is a fault, an interrupted call among them. It is
+/// never flushed, so the writer is to keep nothing back.
 #[derive(Debug, Drop)]
 pub struct StdSink<W> {
     inner: W,

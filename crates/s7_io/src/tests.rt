@@ -1,5 +1,5 @@
-//! What no clause says: that the calls succeed where memory is found, how much is asked of a source,
-//! and what comes of a reader or a writer that fails in the middle.
+//! What no clause says: that the calls succeed where memory is found, how much is asked of a
+//! source, and what comes of a reader or a writer that fails in the middle.
 
 use crate::{
     Failed, MemSink, MemSource, NoFile, ReadRefusal, Source, StdSink, StdSource, SureSource,

@@ -1,5 +1,5 @@
 -- The bytes of a tree: words in capitals, one blank around an operator and `:=`, a statement to a line.
-use Rattle.std.specs.Prelude.{ℕ, ℤ, pos, List, ◌++◌, codes, decimal, flat_map, if◌then◌else◌}
+use Rattle.std.specs.Prelude.{ℕ, ℤ, pos, List, [], ◌++◌, codes, decimal, flat_map, if◌then◌else◌}
 use Rattle.std.specs.Ordering.{int_eq}
 use Rattle.s7_base.specs.declared.place.AreaName.{AreaName}
 use Rattle.s7_base.specs.declared.place.AreaName.TheVariants as area
@@ -55,12 +55,12 @@ width_word width.Byte = codes "B"
 width_word width.Word = codes "W"
 width_word width.Dword = codes "D"
 
--- the number of a bit, which a bit alone shows
+-- the number of a bit; a byte or more has none
 abbrev pub bit_text : Width → ℕ → List ℕ
 bit_text width.Bit bit = codes "." ++ decimal bit
-bit_text width.Byte bit = codes ""
-bit_text width.Word bit = codes ""
-bit_text width.Dword bit = codes ""
+bit_text width.Byte bit = []
+bit_text width.Word bit = []
+bit_text width.Dword bit = []
 
 -- a variable, as `RLO`, `%IX0.0` or `%MW10`
 abbrev pub var_text : Var → List ℕ

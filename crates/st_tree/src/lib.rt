@@ -9,7 +9,10 @@
 pub use expr::{BinaryOp, Expr, StType, UnaryOp, Var};
 pub use laws_of_runs::end_stays;
 pub use program::{Pou, StProgram, Stmt};
+pub use token::{StKind, StToken};
 
 mod expr;
+pub mod laws;
 mod laws_of_runs;
 mod program;
+mod token;

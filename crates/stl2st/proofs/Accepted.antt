@@ -1,17 +1,16 @@
 -- An accepted program has the instructions that are built, and so can be translated; its blocks have
 -- numbers of 16 bits, and each body has one end word, its last instruction.
-use Rattle.std.proofs.Common.{◌≡◌, ℕ, zero, suc, ◌+◌, ◌*◌, ◌-◌, ◌^◌, ◌<◌, ◌≤◌, ◌==◌, ◌&&◌, nat_le, List, [], ◌∷◌, drop, take, Bool, true, false, if◌then◌else◌, Option, Some, None, Result, Ok, Err, refl, subst, arith}
+use Rattle.std.proofs.Common.{◌≡◌, ℕ, zero, suc, ◌^◌, ◌<◌, ◌≤◌, ◌==◌, ◌&&◌, List, [], ◌∷◌, drop, take, Bool, true, false, if◌then◌else◌, Option, Some, None, Result, Ok, Err, refl, subst, arith}
 use Rattle.std.specs.Prelude.{IfSome, IfOk, codes, option_and_then}
 use Rattle.std.specs.Option.{ok_or}
 use Rattle.std.specs.Str.{str_eq_ignore_ascii_case}
-use Rattle.std.proofs.lemmas.Bool.{and_parts, leb-true}
 use Rattle.std.proofs.lemmas.List.Elements.{All-cons, All-nil}
-use Rattle.s7_base.specs.Tokens.{tokens_of, line_at_end, is_between}
+use Rattle.s7_base.specs.Tokens.{tokens_of, line_at_end}
 use Rattle.s7_base.specs.declared.reason.Line.{Line}
 use Rattle.s7_base.specs.declared.reason.Reason.{Reason}
 use Rattle.s7_base.specs.declared.reason.Rejection.{Rejection}
 use Rattle.s7_base.specs.declared.token.Token.{Token}
-use Rattle.stl_tree.specs.Items.{op_with, statement_op, statement_of, statement_size, is_complete, misfit_reason, in_body, bit_operand, heading_name, heading_number, heading_with, block_number, number_from, number_of}
+use Rattle.stl_tree.specs.Items.{op_with, statement_op, statement_of, statement_size, is_complete, misfit_reason, in_body, bit_operand, heading_name, heading_number, heading_with, block_number, number_of}
 use Rattle.stl_tree.specs.Verdict.{body_from, with_end, with_statement, begin_from, one_block, with_heading, program_of, judged, verdict}
 use Rattle.stl_tree.specs.Words.{is_word, is_sign, is_word_kind}
 use Rattle.stl_tree.specs.declared.program.Block.{Block}
@@ -21,6 +20,7 @@ use Rattle.stl_tree.specs.declared.program.Op.{Op}
 use Rattle.stl_tree.specs.declared.program.Op.TheVariants as op
 use Rattle.stl_tree.specs.declared.program.Operand.{Operand}
 use Rattle.stl_tree.specs.declared.program.Program.{Program}
+use Rattle.stl2st.proofs.ProperOperands.{number_most}
 use Rattle.stl2st.specs.Translation.{IsTranslatable, IsTranslatableBlock, IsTranslatableCheck, IsTranslatableOp, AreTranslatable}
 use Rattle.stl2st.specs.WellFormed.{EndsOnce, IsNumbered, IsWellFormed, IsWellFormedBlock}
 
@@ -110,17 +110,6 @@ begin_built end (first ∷ rest) = choose_body (is_word (codes "BEGIN") first) _
 
 -- Numbers of blocks
 
-if_within : (test : Bool) (o : Option ℕ) (most : ℕ) → (test ≡ true → IfSome o (λ n. n ≤ most)) → IfSome (if test then o else None) (λ n. n ≤ most)
-if_within true o most h = h refl
-if_within false o most h = tt
-
-number_within : (most value : ℕ) (digits : List ℕ) → value ≤ most → IfSome (number_from most value digits) (λ n. n ≤ most)
-number_within most value [] h = h
-number_within most value (digit ∷ rest) h =
-    let more : ℕ = value * 10 + (digit - 48) in
-    if_within (is_between 48 57 digit && nat_le more most) (number_from most more rest) most
-    (λ e. number_within most more rest (leb-true more most (and_parts (is_between 48 57 digit) (nat_le more most) e).1))
-
 above_zero : (n : ℕ) (test : Bool) → n ≤ 65535 → IfSome (if test then None else Some n) (λ n. n < 2 ^ 16)
 above_zero n true h = tt
 above_zero n false h = omega arith
@@ -128,10 +117,6 @@ above_zero n false h = omega arith
 block_number_within : (o : Option ℕ) → IfSome o (λ n. n ≤ 65535) → IfSome (option_and_then (λ number. if number == 0 then None else Some number) o) (λ n. n < 2 ^ 16)
 block_number_within None h = tt
 block_number_within (Some n) h = above_zero n (n == 0) h
-
-number_of_within : (digits : List ℕ) → IfSome (number_of 65535 digits) (λ n. n ≤ 65535)
-number_of_within [] = tt
-number_of_within (digit ∷ rest) = let zero_fits : 0 ≤ 65535 = omega arith in number_within 65535 0 (digit ∷ rest) zero_fits
 
 abbrev Heading : Result (BlockName × ℕ) Reason → Type 0
 Heading r = IfOk r (λ heading. IsNumbered heading.0)
@@ -145,7 +130,7 @@ choose_heading true x y p q = p
 choose_heading false x y p q = q
 
 heading_of_digits : (size : ℕ) (digits : List ℕ) → Heading (heading_with size (block_number digits))
-heading_of_digits size digits = heading_with_number size (block_number digits) (block_number_within (number_of 65535 digits) (number_of_within digits))
+heading_of_digits size digits = heading_with_number size (block_number digits) (block_number_within (number_of 65535 digits) (number_most 65535 digits))
 
 heading_number_built : (tokens : List Token) → Heading (heading_number tokens)
 heading_number_built [] = tt

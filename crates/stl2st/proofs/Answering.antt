@@ -2,8 +2,18 @@
 use Rattle.std.proofs.Common.{◌≡◌, ℕ, ◌+◌, ◌<◌, ◌≤◌, ◌⊎◌, inl, inr, List, [], ◌∷◌, ◌++◌, length, Bool, true, false, nat_lt, if◌then◌else◌, Option, Some, None, refl, sym, ap, subst, ◌∙◌, Result, Ok, Err, arith, length-append, eq-eqb}
 use Rattle.s7_io.specs.Sink.{Took, TookFewer}
 use Rattle.s7_io.specs.Source.{Gave, GaveAll, GaveExactly}
+use Rattle.s7_base.specs.declared.reason.Rejection.{Rejection}
+use Rattle.s7_base.specs.declared.reason.Rejection.TheVariants as rejection
 use Rattle.stl_tree.specs.Verdict.{verdict}
-use Rattle.stl2st.specs.Answer.{answer, reply_to, usage_line, too_long_line, AreOf, IsAnswer, IsWritten, Writes, Ends}
+use Rattle.stl_tree.specs.declared.program.Program.{Program}
+use Rattle.st_tree.proofs.Rereads.{rereads}
+use Rattle.st_tree.specs.Reading.{HasTree}
+use Rattle.st_tree.specs.Spelling.{spelling}
+use Rattle.stl2st.proofs.ProperText.{proper}
+use Rattle.stl2st.specs.Translation.{translation}
+use Rattle.stl2st.proofs.Accepted.{accepted as known_of}
+use Rattle.stl2st.proofs.SameAll.{same_all}
+use Rattle.stl2st.specs.Answer.{answer, reply_to, usage_line, too_long_line, AreOf, IsAnswer, IsTranslated, IsWritten, Translates, Writes, Ends}
 use Rattle.stl2st.specs.declared.answer.TheConstants.{INPUT_LIMIT}
 use Rattle.stl2st.specs.declared.command.Command.{Command}
 use Rattle.stl2st.specs.declared.command.Command.TheVariants.{Translate}
@@ -94,3 +104,46 @@ complete command left before after ReadFault bytes w e r f = absurd (r refl)
 complete command left before after WriteFault bytes w e r f = absurd (f refl)
 complete command left before after TooLong bytes w e r f = inl (told_answer command left TooLong w.0 bytes w.1 e)
 complete command left before after NoMemory bytes w e r f = inr refl
+
+-- the text of an accepted program
+translates : (bytes : List ℕ) (program : Program) (text : List ℕ) → verdict bytes ≡ Ok program → spelling (translation program) ≡ text → Translates program text
+translates bytes program text accepted e =
+    let P : List ℕ → Type 0 = λ written. HasTree written (translation program) in
+    let known = known_of bytes program accepted in
+    record {
+      tree = translation program;
+      spelled = sym e;
+      reads_back = subst P e (rereads (translation program) (proper bytes program accepted));
+      same = same_all program known.can known.formed;
+    }
+
+of_reply : (left before after : Option (List ℕ)) (bytes text : List ℕ) (v : Result Program Rejection) → AreOf left bytes → verdict bytes ≡ v →
+    reply_to v ≡ (Done, text) → Took before after text → IsTranslated left before after
+of_reply left before after bytes text (Ok program) are e reply took = record {
+  bytes = bytes;
+  of_source = are;
+  program = program;
+  accepted = e;
+  text = text;
+  translates = translates bytes program text e (ap (λ (r : Status × List ℕ). r.1) reply);
+  taken = took;
+}
+of_reply left before after bytes text (Err (rejection.Refused line reason)) are e reply took = let clash : Refused ≡ Done = ap (λ (r : Status × List ℕ). r.0) reply in absurd cc
+of_reply left before after bytes text (Err rejection.NoMemory) are e reply took = let clash : NoMemory ≡ Done = ap (λ (r : Status × List ℕ). r.0) reply in absurd cc
+
+of_limit : (b : Bool) (left before after : Option (List ℕ)) (bytes text : List ℕ) → AreOf left bytes →
+    (if b then (TooLong, too_long_line) else reply_to (verdict bytes)) ≡ (Done, text) → Took before after text → IsTranslated left before after
+of_limit true left before after bytes text are e took = let clash : TooLong ≡ Done = ap (λ (r : Status × List ℕ). r.0) e in absurd cc
+of_limit false left before after bytes text are e took = of_reply left before after bytes text (verdict bytes) are refl e took
+
+of_command : (command : Option Command) (left before after : Option (List ℕ)) (bytes text : List ℕ) → AreOf left bytes → answer command bytes ≡ (Done, text) →
+    Took before after text → IsTranslated left before after
+of_command None left before after bytes text are e took = let clash : Usage ≡ Done = ap (λ (r : Status × List ℕ). r.0) e in absurd cc
+of_command (Some Translate) left before after bytes text are e took = of_limit (nat_lt INPUT_LIMIT (length bytes)) left before after bytes text are e took
+
+-- what stands beside Done
+pub translated : (command : Option Command) (left before after : Option (List ℕ)) (result : Status) → Writes command left before after result → result ≡ Done → IsTranslated left before after
+translated command left before after result w e =
+    let P : Status → Type 0 = λ s. Writes command left before after s in
+    let done : Writes command left before after Done = subst P e w in
+    of_command command left before after done.1.0 done.0 done.1.1 done.1.2 done.2

@@ -5,6 +5,7 @@ use Rattle.s7_base.specs.declared.reason.Line.{Line}
 use Rattle.s7_base.specs.declared.reason.Rejection.{Rejection}
 use Rattle.s7_base.specs.declared.reason.Rejection.TheVariants.{Refused, NoMemory}
 use Rattle.s7_base.specs.declared.token.Token.{Token}
+use Rattle.stl_tree.proofs.GrammarLaws.{at_item, at_end_word}
 use Rattle.stl_tree.specs.Items.{statement_size, heading_name}
 use Rattle.stl_tree.specs.Verdict.{prepend_instrs, body_from, with_item, with_end, with_heading, misfit_at, program_of}
 use Rattle.stl_tree.specs.Words.{is_word}
@@ -17,29 +18,10 @@ pub prepend-prepend : (xs ys : List Instr) (r : Result (List Instr) Rejection) �
 prepend-prepend xs ys (Ok zs) = ap Ok (sym (append_assoc xs ys zs))
 prepend-prepend xs ys (Err e) = refl
 
--- tokens that belong to the item before are passed over
-pub skipped : (end : Line) (n : ℕ) (tokens : List Token) → body_from end n tokens ≡ body_from end 0 (drop n tokens)
-skipped end zero tokens = refl
-skipped end (suc n) [] = refl
-skipped end (suc n) (first ∷ rest) = skipped end n rest
-
 -- a list by its first item and the rest
 pub split_first : (tokens : List Token) (first : Token) → 1 ≤ length tokens → first ≡ get_or tokens 0 first → tokens ≡ first ∷ drop 1 tokens
 split_first [] first some is = absurd (omega arith)
 split_first (token ∷ rest) first some is = ap (λ (t : Token). t ∷ rest) (sym is)
-
--- the body where its end word does not stand at the front
-pub at_item : (end : Line) (first : Token) (rest : List Token) → is_word (codes "END_ORGANIZATION_BLOCK") first ≡ false →
-    body_from end 0 (first ∷ rest) ≡ with_item first (first ∷ rest) (body_from end 0 (drop (statement_size (first ∷ rest)) rest))
-at_item end first rest test =
-    ap (λ (b : Bool). if b then with_end first.line rest else with_item first (first ∷ rest) (body_from end (statement_size (first ∷ rest)) rest)) test
-    ∙ ap (λ (r : Result (List Instr) Rejection). with_item first (first ∷ rest) r) (skipped end (statement_size (first ∷ rest)) rest)
-
--- the body where its end word stands at the front
-pub at_end_word : (end : Line) (first : Token) (rest : List Token) → is_word (codes "END_ORGANIZATION_BLOCK") first ≡ true →
-    body_from end 0 (first ∷ rest) ≡ with_end first.line rest
-at_end_word end first rest test =
-    ap (λ (b : Bool). if b then with_end first.line rest else with_item first (first ∷ rest) (body_from end (statement_size (first ∷ rest)) rest)) test
 
 -- what is refused of a body's end is refused of the whole
 pub end_refused : (refused : Rejection) (old new : List Instr) (defined whole : Result (List Instr) Rejection) →

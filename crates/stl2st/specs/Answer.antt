@@ -9,7 +9,10 @@ use Rattle.s7_io.specs.Sink.{Took, TookFewer}
 use Rattle.s7_io.specs.Source.{GaveAll, GaveExactly, GaveAtMost}
 use Rattle.stl_tree.specs.Verdict.{verdict}
 use Rattle.stl_tree.specs.declared.program.Program.{Program}
+use Rattle.st_tree.specs.Reading.{HasTree}
 use Rattle.st_tree.specs.Spelling.{spelling}
+use Rattle.st_tree.specs.declared.program.StProgram.{StProgram}
+use Rattle.stl2st.specs.Same.{Same}
 use Rattle.stl2st.specs.Translation.{translation}
 use Rattle.stl2st.specs.declared.command.Command.{Command}
 use Rattle.stl2st.specs.declared.command.Command.TheVariants.{Translate}
@@ -56,6 +59,24 @@ Writes command left before after ReadFault = (command ≡ Some Translate) × (af
 Writes command left before after NoMemory = after ≡ before
 Writes command left before after WriteFault = (status : Status) × (text : List ℕ) × IsAnswer command left status text × TookFewer before after text
 Writes command left before after status = (text : List ℕ) × IsAnswer command left status text × Took before after text
+
+-- the text that a program is translated to: the canonical spelling of a tree, which it reads back as
+-- and which means the same as the program
+pub record Translates (program : Program) (text : List ℕ) : Type 0 where
+  pub tree : StProgram
+  pub spelled : text ≡ spelling tree
+  pub reads_back : HasTree text tree
+  pub same : Same program tree
+
+-- the sink took the text of the program that the source is accepted as
+pub record IsTranslated (left before after : Option (List ℕ)) : Type 0 where
+  pub bytes : List ℕ
+  pub of_source : AreOf left bytes
+  pub program : Program
+  pub accepted : verdict bytes ≡ Ok program
+  pub text : List ℕ
+  pub translates : Translates program text
+  pub taken : Took before after text
 
 -- how far the source was read: not at all without a command, and else to its end or to the byte past
 -- the limit, but where reading failed or memory ran out

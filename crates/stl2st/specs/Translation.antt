@@ -47,19 +47,20 @@ or_of e f = expr.Binary binary.Or e f
 abbrev pub literal_of : Bool → Expr
 literal_of b = expr.Literal type.Bool (if b then pos 1 else pos 0)
 
--- the RLO at a first check, where NFC is FALSE, counts as set before an AND and as clear before an OR
-abbrev pub set_at_first_of : Expr
-set_at_first_of = or_of (read_of reg.Rlo) (not_of (read_of reg.Nfc))
+-- the RLO before an AND: a first check, where NFC is FALSE, takes it as TRUE
+abbrev pub rlo_before_and : Expr
+rlo_before_and = or_of (read_of reg.Rlo) (not_of (read_of reg.Nfc))
 
-abbrev pub clear_at_first_of : Expr
-clear_at_first_of = and_of (read_of reg.Rlo) (read_of reg.Nfc)
+-- the RLO before an OR: a first check, where NFC is FALSE, takes it as FALSE
+abbrev pub rlo_before_or : Expr
+rlo_before_or = and_of (read_of reg.Rlo) (read_of reg.Nfc)
 
 -- what the RLO becomes at a check of the bit b; no program that is translated has X or XN
 abbrev pub next_rlo : Check → Expr → Expr
-next_rlo check.A b = and_of set_at_first_of b
-next_rlo check.An b = and_of set_at_first_of (not_of b)
-next_rlo check.O b = or_of clear_at_first_of b
-next_rlo check.On b = or_of clear_at_first_of (not_of b)
+next_rlo check.A b = and_of rlo_before_and b
+next_rlo check.An b = and_of rlo_before_and (not_of b)
+next_rlo check.O b = or_of rlo_before_or b
+next_rlo check.On b = or_of rlo_before_or (not_of b)
 next_rlo check.X b = b
 next_rlo check.Xn b = b
 
@@ -91,7 +92,7 @@ unit_of b = record { name = unit_name_of b.name; body = flat_map (λ (i : Instr)
 abbrev pub translation : Program → StProgram
 translation p = record { pous = map unit_of p.blocks }
 
--- the checks, instructions, blocks and programs that are translated so far: all but those with X or XN
+-- a check that is translated so far: not X or XN
 abbrev pub IsTranslatableCheck : Check → Type 0
 IsTranslatableCheck check.A = Unit {0}
 IsTranslatableCheck check.An = Unit {0}
@@ -100,16 +101,20 @@ IsTranslatableCheck check.On = Unit {0}
 IsTranslatableCheck check.X = ⊥
 IsTranslatableCheck check.Xn = ⊥
 
+-- an instruction with such a check, or with none
 abbrev pub IsTranslatableOp : Op → Type 0
 IsTranslatableOp (op.Check c b) = IsTranslatableCheck c
 IsTranslatableOp (op.Assign o) = Unit {0}
 IsTranslatableOp op.BlockEnd = Unit {0}
 
+-- a body of such instructions
 abbrev pub AreTranslatable : List Instr → Type 0
 AreTranslatable body = All (λ (i : Instr). IsTranslatableOp i.op) body
 
+-- a block with such a body
 abbrev pub IsTranslatableBlock : Block → Type 0
 IsTranslatableBlock b = AreTranslatable b.body
 
+-- a program of such blocks
 abbrev pub IsTranslatable : Program → Type 0
 IsTranslatable p = All IsTranslatableBlock p.blocks

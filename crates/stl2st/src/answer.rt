@@ -2,7 +2,7 @@
 ghost use Rattle.std.specs.Prelude.{◌≡◌, ◌⊎◌, List, ℕ, Some, None, map, string_bytes, IfOk};
 ghost use Rattle.s7_io.specs.Faults.{Rose};
 ghost use Rattle.stl_tree.specs.Verdict.{verdict};
-ghost use Rattle.stl2st.specs.Answer.{refusal_line, reply_to, answer, Writes, Reads, Ends, IsWritten};
+ghost use Rattle.stl2st.specs.Answer.{refusal_line, reply_to, answer, IsTranslated, Writes, Reads, Ends, IsWritten};
 ghost use Rattle.stl2st.specs.Command.{command_meant};
 
 use crate::command::{Command, WordsRefusal, read_words};
@@ -98,6 +98,10 @@ pub fn stl2st<P: Source, M: Source, K: Sink>(
     // What is written is the answer, by its status.
     ensures writes { Writes (command_meant (map (λ word. string_bytes word) words.now))
         (P.left program.old) (K.taken out.old) (K.taken out.new) result }
+
+    // A text that is written whole means what the source means.
+    ensures translated { result ≡ Status.Done
+        → IsTranslated (P.left program.old) (K.taken out.old) (K.taken out.new) }
 
     // A told source gets its answer, where no fault comes and memory is found.
     ensures complete { (bytes : List ℕ) → P.left program.old ≡ Some bytes

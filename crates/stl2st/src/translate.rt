@@ -1,8 +1,8 @@
 //! From an STL program to the tree of an ST text, block by block and instruction by instruction.
 //!
-//! Every instruction becomes assignments of its own, so the text keeps the order of the source.
+//! Each instruction but the end word becomes two assignments, so the text keeps the order of the source.
 ghost use Rattle.std.specs.Prelude.{◌≡◌, ◌++◌, decimal, IfOk, OnOk};
-ghost use Rattle.stl2st.specs.Translation.{read_of, not_of, and_of, or_of, literal_of, set_at_first_of, clear_at_first_of, next_rlo, bit_of, set_of, statements_of, unit_name_of, unit_of, translation, IsTranslatableCheck, IsTranslatableOp, IsTranslatableBlock, IsTranslatable};
+ghost use Rattle.stl2st.specs.Translation.{read_of, not_of, and_of, or_of, literal_of, rlo_before_and, rlo_before_or, next_rlo, bit_of, set_of, statements_of, unit_name_of, unit_of, translation, IsTranslatableCheck, IsTranslatableOp, IsTranslatableBlock, IsTranslatable};
 ghost use Rattle.stl2st.specs.Same.{Same};
 ghost use Rattle.stl2st.specs.WellFormed.{IsWellFormed};
 
@@ -62,7 +62,7 @@ fn push_statements(alloc: Global, body: &mut List<Stmt>, op: Op) -> Result<(), N
 {
     match op {
         Op::Check(check, BitArg::At(operand)) => {
-            let value = checked(alloc, check, Expr::Read(bit(operand)))?;
+            let value = next_rlo(alloc, check, Expr::Read(bit(operand)))?;
             body.push(set(Reg::Rlo, value))?;
             body.push(set(Reg::Nfc, literal(true)))
         }
@@ -75,29 +75,29 @@ fn push_statements(alloc: Global, body: &mut List<Stmt>, op: Op) -> Result<(), N
 }
 
 // What the RLO becomes at a check of a bit.
-fn checked(alloc: Global, check: Check, bit: Expr) -> Result<Expr, NoMemory>
+fn next_rlo(alloc: Global, check: Check, bit: Expr) -> Result<Expr, NoMemory>
     requires { IsTranslatableCheck check }
     ensures { IfOk result (λ value. value ≡ next_rlo check bit) }
 {
     match check {
-        Check::A => and(alloc, set_at_first(alloc)?, bit),
-        Check::An => and(alloc, set_at_first(alloc)?, not(alloc, bit)?),
-        Check::O => or(alloc, clear_at_first(alloc)?, bit),
-        Check::On => or(alloc, clear_at_first(alloc)?, not(alloc, bit)?),
+        Check::A => and(alloc, rlo_before_and(alloc)?, bit),
+        Check::An => and(alloc, rlo_before_and(alloc)?, not(alloc, bit)?),
+        Check::O => or(alloc, rlo_before_or(alloc)?, bit),
+        Check::On => or(alloc, rlo_before_or(alloc)?, not(alloc, bit)?),
         Check::X | Check::Xn => unreachable!(),
     }
 }
 
-// At a first check, where NFC is FALSE, the RLO counts as set before an AND ..
-fn set_at_first(alloc: Global) -> Result<Expr, NoMemory>
-    ensures { IfOk result (λ value. value ≡ set_at_first_of) }
+// The RLO before an AND: a first check, where NFC is FALSE, takes it as TRUE.
+fn rlo_before_and(alloc: Global) -> Result<Expr, NoMemory>
+    ensures { IfOk result (λ value. value ≡ rlo_before_and) }
 {
     or(alloc, read(Reg::Rlo), not(alloc, read(Reg::Nfc))?)
 }
 
-// .. and as clear before an OR.
-fn clear_at_first(alloc: Global) -> Result<Expr, NoMemory>
-    ensures { IfOk result (λ value. value ≡ clear_at_first_of) }
+// The RLO before an OR: a first check, where NFC is FALSE, takes it as FALSE.
+fn rlo_before_or(alloc: Global) -> Result<Expr, NoMemory>
+    ensures { IfOk result (λ value. value ≡ rlo_before_or) }
 {
     and(alloc, read(Reg::Rlo), read(Reg::Nfc))
 }

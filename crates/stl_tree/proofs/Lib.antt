@@ -1,3 +1,4 @@
-pub mod Runs
+pub mod GrammarLaws
 mod RunRows
+pub mod Runs
 mod VerdictRows

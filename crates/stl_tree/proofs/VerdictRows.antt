@@ -56,3 +56,107 @@ not_built = refl
 no_mnemonic : verdict (with_body (codes "FOO 5;")) ≡ refused 3 BadStatement
 unfolding verdict tokens_of
 no_mnemonic = refl
+
+timer_is_not_built : verdict (with_body (codes "SP T 1;")) ≡ refused 3 (Unsupported NotBuilt)
+unfolding verdict tokens_of
+timer_is_not_built = refl
+
+label_is_not_built : verdict (with_body (codes "a: A I 0.0;")) ≡ refused 3 (Unsupported NotBuilt)
+unfolding verdict tokens_of
+label_is_not_built = refl
+
+label_before_mnemonic : verdict (with_body (codes "A: A I 0.0;")) ≡ refused 3 (Unsupported NotBuilt)
+unfolding verdict tokens_of
+label_before_mnemonic = refl
+
+colon_equals_is_no_label : verdict (with_body (codes "L1:= M 0.0;")) ≡ refused 3 BadStatement
+unfolding verdict tokens_of
+colon_equals_is_no_label = refl
+
+title_needs_its_line : verdict (with_body (codes "TITLE\n= Q 4.0;")) ≡ refused 3 BadStatement
+unfolding verdict tokens_of
+title_needs_its_line = refl
+
+blank_before_the_point : verdict (with_body (codes "A I 0 .0;")) ≡ refused 3 (Unsupported NotBuilt)
+unfolding verdict tokens_of
+blank_before_the_point = refl
+
+byte_past_the_inputs : verdict (with_body (codes "A I 2048.0;")) ≡ refused 3 (Unsupported NotBuilt)
+unfolding verdict tokens_of
+byte_past_the_inputs = refl
+
+bit_eight : verdict (with_body (codes "A I 0.8;")) ≡ refused 3 (Unsupported NotBuilt)
+unfolding verdict tokens_of
+bit_eight = refl
+
+network_is_not_built : verdict (with_body (codes "NETWORK\nA I 0.0;")) ≡ refused 3 (Unsupported NotBuilt)
+unfolding verdict tokens_of
+network_is_not_built = refl
+
+section_is_not_built : verdict (with_body (codes "VAR_TEMP")) ≡ refused 3 (Unsupported NotBuilt)
+unfolding verdict tokens_of
+section_is_not_built = refl
+
+statement_is_cut_off : verdict (with_body (codes "A I 0.0")) ≡ refused 3 BadStatement
+unfolding verdict tokens_of
+statement_is_cut_off = refl
+
+typed_sign_is_a_mnemonic : verdict (with_body (codes "+I;")) ≡ refused 3 (Unsupported NotBuilt)
+unfolding verdict tokens_of
+typed_sign_is_a_mnemonic = refl
+
+typed_sign_with_a_blank : verdict (with_body (codes "-{x} I;")) ≡ refused 3 BadStatement
+unfolding verdict tokens_of
+typed_sign_with_a_blank = refl
+
+bad_token_comes_first : verdict (with_body (codes "FOO 5;\n\"open")) ≡ refused 4 BadToken
+unfolding verdict tokens_of
+bad_token_comes_first = refl
+
+body_is_missing : verdict (codes "ORGANIZATION_BLOCK OB 1\n") ≡ refused 2 BadStatement
+unfolding verdict tokens_of
+body_is_missing = refl
+
+text_ends_in_the_body : verdict (codes "ORGANIZATION_BLOCK OB 1\nBEGIN\n") ≡ refused 3 BadStatement
+unfolding verdict tokens_of
+text_ends_in_the_body = refl
+
+heading_is_cut_off : verdict (codes "ORGANIZATION_BLOCK\nOB") ≡ refused 1 BadStatement
+unfolding verdict tokens_of
+heading_is_cut_off = refl
+
+block_zero : verdict (codes "ORGANIZATION_BLOCK OB 0") ≡ refused 1 (Unsupported NotBuilt)
+unfolding verdict tokens_of
+block_zero = refl
+
+function_is_not_built : verdict (codes "FUNCTION FC 1 : VOID") ≡ refused 1 (Unsupported NotBuilt)
+unfolding verdict tokens_of
+function_is_not_built = refl
+
+second_block : verdict (codes "ORGANIZATION_BLOCK OB 1\nBEGIN\nEND_ORGANIZATION_BLOCK\nDATA_BLOCK DB 1") ≡ refused 4 (Unsupported NotBuilt)
+unfolding verdict tokens_of
+second_block = refl
+
+semicolon_behind_the_end : verdict (codes "ORGANIZATION_BLOCK OB 1\nBEGIN\nEND_ORGANIZATION_BLOCK;") ≡ refused 3 BadStatement
+unfolding verdict tokens_of
+semicolon_behind_the_end = refl
+
+comment_alone : verdict (codes "// nothing here\n") ≡ refused 1 NoBlocks
+unfolding verdict tokens_of
+comment_alone = refl
+
+-- words in any case, numbers with leading zeros, titles, attributes and empty statements
+spelled_freely :
+    verdict (codes "organization_block ob01 {x} title == it's\nBegin ;a i0.07;; END_organization_BLOCK")
+    ≡ Ok (record {
+      blocks =
+          record {
+            name = Ob 1;
+            line = record { 0 = 1 };
+            body =
+                record { line = record { 0 = 2 }; op = op.Check check.A (At (Direct area.I 0 7)) }
+                ∷ record { line = record { 0 = 2 }; op = op.BlockEnd } ∷ [];
+          } ∷ [];
+    })
+unfolding verdict tokens_of
+spelled_freely = refl

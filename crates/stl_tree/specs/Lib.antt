@@ -1,3 +1,4 @@
+pub mod Grammar
 pub mod Instructions
 pub mod Items
 pub mod Registers

@@ -3,10 +3,11 @@ use Rattle.s7_io.specs.Source.{Gave}
 use Rattle.s7_io.proofs.read.read_all.Given as goal
 
 -- how far the reading has come
-pub record Read (before after : Option (List ℕ)) (faults_before faults_after : ℕ) (bytes : List ℕ) (limit : ℕ) : Type 0 where
+pub record Read (left_before left : Option (List ℕ)) (faults_before faults : ℕ)
+    (bytes : List ℕ) (limit : ℕ) : Type 0 where
   pub within : length bytes ≤ limit
-  pub gave : Gave before after bytes
-  pub later : faults_before ≤ faults_after
+  pub gave : Gave left_before left bytes
+  pub later : faults_before ≤ faults
 
 abbrev pub invariant-pieces : goal.invariant-pieces
 invariant-pieces g l =

@@ -7,6 +7,8 @@ use Rattle.s7_io.proofs.write.write_all.Goals as goal
 pub loop-done-preserved : goal.loop-done-preserved
 loop-done-preserved g c = record {
   within = omega (arith, c.in-Ok.ensures.within);
-  took = rw take-add (Took-more _ _ _ _ _ c.loop-done.invariant.took (rw take_rest at c.in-Ok.ensures.bytes));
+  took =
+      rw take-add
+      (Took-more _ _ _ _ _ c.loop-done.invariant.took (rw take_rest at c.in-Ok.ensures.bytes));
   later = omega (arith, c.in-Ok.ensures.later);
 }

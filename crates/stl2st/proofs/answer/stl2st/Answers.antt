@@ -3,8 +3,9 @@ use Rattle.std.specs.Prelude.{Option, Some, None}
 use Rattle.s7_io.specs.Faults.{Rose}
 use Rattle.stl2st.specs.Answer.{Writes, usage_line}
 use Rattle.stl2st.specs.declared.command.Command.{Command}
+use Rattle.stl2st.specs.declared.command.Command.TheVariants.{Translate}
 use Rattle.stl2st.specs.declared.status.Status.TheVariants.{Usage}
-use Rattle.stl2st.proofs.Answering.{wrote, no_command, meant}
+use Rattle.stl2st.proofs.Answering.{wrote, no_command, meant, translated}
 use Rattle.stl2st.proofs.answer.stl2st.Goals as goal
 
 pub returns-in-Ok-Translate-clause-writes : goal.returns-in-Ok-Translate-clause-writes
@@ -17,3 +18,8 @@ returns-in-Err-Usage-clause-writes g c =
     let P : Option Command → Type 0 = λ m. Writes m (g.P.Source.left c.args.program.now) (g.K.Sink.taken c.args.out.now) (g.K.Sink.taken c.finish.new.out) c.finish.result in
     subst P (sym (rw c.in-Err-Usage.field-0-is at c.in-Err-Usage.ensures))
     (wrote None (g.P.Source.left c.args.program.now) _ _ Usage c.finish.result usage_line tt (no_command _) (rw c.as_bytes.ensures.value at c.finish.ensures.ends))
+
+pub returns-in-Ok-Translate-clause-translated : goal.returns-in-Ok-Translate-clause-translated
+returns-in-Ok-Translate-clause-translated g c done =
+    translated (Some Translate) (g.P.Source.left c.args.program.now) (g.K.Sink.taken c.args.out.now) (g.K.Sink.taken c.translate_source.new.out) c.translate_source.result
+    c.translate_source.ensures.writes done

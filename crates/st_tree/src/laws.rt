@@ -1,0 +1,7 @@
+//! The laws of the reading of an ST text: each is the contract of a function that does nothing.
+ghost use Rattle.st_tree.specs.ReadingLaws.{Rereads};
+
+/// The spelling of a proper tree reads back as the tree.
+pub fn rereads()
+    ensures { Rereads }
+{}
