@@ -1,3 +1,4 @@
+pub mod AreaLaws
 pub mod Sets
 pub mod TokenLaws
 mod TokenRows

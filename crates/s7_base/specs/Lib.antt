@@ -1,3 +1,5 @@
+pub mod Areas
+pub mod End
 pub mod Reason
 pub mod RegSet
 pub mod TokenGrammar

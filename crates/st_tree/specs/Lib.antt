@@ -2,10 +2,14 @@ pub mod Depth
 pub mod Derives
 pub mod Form
 pub mod Grammar
+pub mod Meaning
 pub mod Proper
 pub mod Reading
 pub mod ReadingLaws
 pub mod Spelling
 pub mod StKinds
+pub mod StRun
+pub mod StRunLaws
 pub mod StTokens
 pub mod StWords
+pub mod Value

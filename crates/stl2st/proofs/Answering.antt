@@ -11,6 +11,8 @@ use Rattle.st_tree.specs.Reading.{HasTree}
 use Rattle.st_tree.specs.Spelling.{spelling}
 use Rattle.stl2st.proofs.ProperText.{proper}
 use Rattle.stl2st.specs.Translation.{translation}
+use Rattle.stl2st.proofs.Accepted.{accepted as known_of}
+use Rattle.stl2st.proofs.SameAll.{same_all}
 use Rattle.stl2st.specs.Answer.{answer, reply_to, usage_line, too_long_line, AreOf, IsAnswer, IsTranslated, IsWritten, Translates, Writes, Ends}
 use Rattle.stl2st.specs.declared.answer.TheConstants.{INPUT_LIMIT}
 use Rattle.stl2st.specs.declared.command.Command.{Command}
@@ -107,10 +109,12 @@ complete command left before after NoMemory bytes w e r f = inr refl
 translates : (bytes : List ℕ) (program : Program) (text : List ℕ) → verdict bytes ≡ Ok program → spelling (translation program) ≡ text → Translates program text
 translates bytes program text accepted e =
     let P : List ℕ → Type 0 = λ written. HasTree written (translation program) in
+    let known = known_of bytes program accepted in
     record {
       tree = translation program;
       spelled = sym e;
       reads_back = subst P e (rereads (translation program) (proper bytes program accepted));
+      same = same_all program known.can known.formed;
     }
 
 of_reply : (left before after : Option (List ℕ)) (bytes text : List ℕ) (v : Result Program Rejection) → AreOf left bytes → verdict bytes ≡ v →

@@ -61,7 +61,7 @@ module _ (P : Op → Type 0) (of_statement : (tokens : List Token) → IfSome (s
   body_holds end zero (first ∷ rest) =
       choose_body (is_word (codes "END_ORGANIZATION_BLOCK") first) _ _ (with_end_holds first.line rest)
       (choose_body (is_sign (codes ";") first) _ _ (body_holds end (statement_size (first ∷ rest)) rest)
-        (with_statement_holds first.line (statement_of (first ∷ rest)) _ (statement_holds (first ∷ rest)) (body_holds end (statement_size (first ∷ rest)) rest)))
+      (with_statement_holds first.line (statement_of (first ∷ rest)) _ (statement_holds (first ∷ rest)) (body_holds end (statement_size (first ∷ rest)) rest)))
 
   begin_holds : (end : Line) (tokens : List Token) → Body (begin_from end tokens)
   begin_holds end [] = tt

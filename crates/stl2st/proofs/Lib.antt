@@ -3,6 +3,10 @@ pub mod Answering
 pub mod Bodies
 pub mod Cuts
 pub mod EachInstruction
+pub mod Names
 pub mod ProperOperands
 pub mod ProperText
+pub mod SameAll
+pub mod SameLemmas
+pub mod Straight
 mod TranslateLemmas

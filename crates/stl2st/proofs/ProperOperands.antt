@@ -34,7 +34,7 @@ number_from_most most value [] h = h
 number_from_most most value (digit ∷ rest) h =
     let more = value * 10 + (digit - 48) in
     next_digit most more (is_between 48 57 digit) (nat_le more most) (number_from most more rest) refl
-      (λ (test : nat_le more most ≡ true). number_from_most most more rest (leb-true more most test))
+    (λ (test : nat_le more most ≡ true). number_from_most most more rest (leb-true more most test))
 
 pub number_most : (most : ℕ) (digits : List ℕ) → AtMost most (number_of most digits)
 number_most most [] = tt

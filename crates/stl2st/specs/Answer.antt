@@ -12,6 +12,7 @@ use Rattle.stl_tree.specs.declared.program.Program.{Program}
 use Rattle.st_tree.specs.Reading.{HasTree}
 use Rattle.st_tree.specs.Spelling.{spelling}
 use Rattle.st_tree.specs.declared.program.StProgram.{StProgram}
+use Rattle.stl2st.specs.Same.{Same}
 use Rattle.stl2st.specs.Translation.{translation}
 use Rattle.stl2st.specs.declared.command.Command.{Command}
 use Rattle.stl2st.specs.declared.command.Command.TheVariants.{Translate}
@@ -60,10 +61,12 @@ Writes command left before after WriteFault = (status : Status) × (text : List 
 Writes command left before after status = (text : List ℕ) × IsAnswer command left status text × Took before after text
 
 -- the text that a program is translated to: the canonical spelling of a tree, which it reads back as
+-- and which means the same as the program
 pub record Translates (program : Program) (text : List ℕ) : Type 0 where
   pub tree : StProgram
   pub spelled : text ≡ spelling tree
   pub reads_back : HasTree text tree
+  pub same : Same program tree
 
 -- the sink took the text of the program that the source is accepted as
 pub record IsTranslated (left before after : Option (List ℕ)) : Type 0 where

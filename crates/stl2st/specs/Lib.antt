@@ -3,5 +3,7 @@ pub mod Answers
 pub mod Command
 pub mod Contexts
 pub mod Pieces
+pub mod Same
 pub mod Status
 pub mod Translation
+pub mod WellFormed

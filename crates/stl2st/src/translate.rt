@@ -3,6 +3,8 @@
 //! Each instruction but the end word becomes two assignments, so the text keeps the order of the source.
 ghost use Rattle.std.specs.Prelude.{◌≡◌, ◌++◌, decimal, IfOk, OnOk};
 ghost use Rattle.stl2st.specs.Translation.{read_of, not_of, and_of, or_of, literal_of, rlo_before_and, rlo_before_or, next_rlo, bit_of, set_of, statements_of, unit_name_of, unit_of, translation, IsTranslatableCheck, IsTranslatableOp, IsTranslatableBlock, IsTranslatable};
+ghost use Rattle.stl2st.specs.Same.{Same};
+ghost use Rattle.stl2st.specs.WellFormed.{IsWellFormed};
 
 use itoa::Buffer;
 use s7_base::{Boxed, Check, List, NoMemory, Reg, Width};
@@ -10,10 +12,12 @@ use st_tree::{BinaryOp, Expr, Pou, StProgram, StType, Stmt, UnaryOp, Var};
 use std::alloc::Global;
 use stl_tree::{BitArg, Block, BlockName, Op, Operand, Program};
 
-/// The text's tree: a unit for each block, in the order of the blocks.
+/// The text's tree: a unit for each block, in the order of the blocks. It means the same as the program.
 pub fn translate(alloc: Global, program: &Program) -> Result<StProgram, NoMemory>
-    requires { IsTranslatable program.now }
-    ensures { IfOk result (λ tree. tree ≡ translation program.now) }
+    requires translatable { IsTranslatable program.now }
+    requires well_formed { IsWellFormed program.now }
+    ensures tree { IfOk result (λ tree. tree ≡ translation program.now) }
+    ensures same { IfOk result (λ tree. Same program.now tree) }
 {
     let mut pous = List::new(alloc);
     for block in program.blocks.as_slice() {

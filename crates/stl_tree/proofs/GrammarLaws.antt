@@ -81,7 +81,7 @@ split_of : (tokens : List Token) → statement_size tokens < length tokens → S
 split_of [] h = absurd (omega arith)
 split_of (first ∷ rest) h =
     split_by (is_semicolon first) first rest refl
-      (λ (test : is_semicolon first ≡ false). split_of rest (let e : statement_size (first ∷ rest) ≡ 1 + statement_size rest = size_open first rest test in omega arith))
+    (λ (test : is_semicolon first ≡ false). split_of rest (let e : statement_size (first ∷ rest) ≡ 1 + statement_size rest = size_open first rest test in omega arith))
 
 -- a statement that is read, and the instructions behind it
 record Parts (line : Line) (said : Result Op Reason) (behind : Result (List Instr) Rejection) (instrs : List Instr) : Type 0 where
@@ -138,12 +138,12 @@ sound_statement n sound end first rest instrs h no_end test e =
     let s = split_of rest (let less : statement_size rest < length rest = omega arith in less) in
     let whole : statement_size (first ∷ rest) ≡ length s.front + 1 = omega (arith, s.size) in
     let front : take (statement_size (first ∷ rest)) (first ∷ rest) ≡ first ∷ s.front =
-        taken (first ∷ rest) (first ∷ s.front) s.sign s.rest (statement_size (first ∷ rest)) (ap (λ (ts : List Token). first ∷ ts) s.split) (omega (arith, whole)) in
+    taken (first ∷ rest) (first ∷ s.front) s.sign s.rest (statement_size (first ∷ rest)) (ap (λ (ts : List Token). first ∷ ts) s.split) (omega (arith, whole)) in
     let behind : drop (statement_size (first ∷ rest)) rest ≡ s.rest = left_behind rest s.front s.sign s.rest (statement_size (first ∷ rest)) s.split whole in
     let shorter : length s.rest ≤ n = omega (arith, h, ap length s.split, length-append s.front (s.sign ∷ s.rest)) in
     let more : IsBody s.rest p.more = sound end s.rest p.more shorter (sym (ap (λ (ts : List Token). body_from end 0 ts) behind) ∙ p.behind_is) in
     let made : IsBody (first ∷ (s.front ++ (s.sign ∷ s.rest))) (record { line = first.line; op = p.op } ∷ p.more) =
-        statement first s.front s.sign p.op no_end (size_open first s.front test ∙ omega (arith, s.none)) (sym (ap statement_op front) ∙ q.1) s.ends more in
+    statement first s.front s.sign p.op no_end (size_open first s.front test ∙ omega (arith, s.none)) (sym (ap statement_op front) ∙ q.1) s.ends more in
     let P : List Token → Type 0 = λ ts. IsBody (first ∷ ts) (record { line = first.line; op = p.op } ∷ p.more) in
     let Q : List Instr → Type 0 = λ is. IsBody (first ∷ rest) is in
     subst Q p.instrs_is (subst P (sym s.split) made)
@@ -151,7 +151,7 @@ sound_statement n sound end first rest instrs h no_end test e =
 sound_item : (n : ℕ) → Sound n → (b : Bool) (end : Line) (first : Token) (rest : List Token) (instrs : List Instr) → length rest ≤ n →
     is_end first ≡ false → is_semicolon first ≡ b
     → (if b then body_from end 0 (drop (statement_size (first ∷ rest)) rest)
-      else with_statement first.line (statement_of (first ∷ rest)) (body_from end 0 (drop (statement_size (first ∷ rest)) rest))) ≡ Ok instrs
+    else with_statement first.line (statement_of (first ∷ rest)) (body_from end 0 (drop (statement_size (first ∷ rest)) rest))) ≡ Ok instrs
     → IsBody (first ∷ rest) instrs
 sound_item n sound true end first rest instrs h no_end test e = sound_empty n sound end first rest instrs h no_end test e
 sound_item n sound false end first rest instrs h no_end test e = sound_statement n sound end first rest instrs h no_end test e
@@ -196,11 +196,11 @@ complete_statement end first front sign op rest instrs no_end none is ends behin
     let reaches : is_complete (first ∷ more) ≡ true = lt-ltb _ _ enough in
     let front_is : take (statement_size (first ∷ more)) (first ∷ more) ≡ first ∷ front = taken (first ∷ more) (first ∷ front) sign rest (statement_size (first ∷ more)) refl size in
     let said : statement_of (first ∷ more) ≡ Ok op =
-        ap (λ (b : Bool). if b
-        then ok_or (statement_op (take (statement_size (first ∷ more)) (first ∷ more))) (misfit_reason in_body (first ∷ more))
-        else Err (misfit_reason in_body (first ∷ more))) reaches
-        ∙ ap (λ (ts : List Token). ok_or (statement_op ts) (misfit_reason in_body (first ∷ more))) front_is
-        ∙ ap (λ (o : Option Op). ok_or o (misfit_reason in_body (first ∷ more))) is in
+    ap (λ (b : Bool). if b
+    then ok_or (statement_op (take (statement_size (first ∷ more)) (first ∷ more))) (misfit_reason in_body (first ∷ more))
+    else Err (misfit_reason in_body (first ∷ more))) reaches
+    ∙ ap (λ (ts : List Token). ok_or (statement_op ts) (misfit_reason in_body (first ∷ more))) front_is
+    ∙ ap (λ (o : Option Op). ok_or o (misfit_reason in_body (first ∷ more))) is in
     let rest_is : drop (statement_size (first ∷ more)) more ≡ rest = left_behind more front sign rest (statement_size (first ∷ more)) refl (omega (arith, size)) in
     let so_far : body_from end 0 (drop (statement_size (first ∷ more)) more) ≡ Ok instrs = ap (λ (ts : List Token). body_from end 0 ts) rest_is ∙ behind in
     at_item end first more no_end
@@ -324,7 +324,7 @@ with_name : (end : Line) (heading : Token) (rest : List Token) (size : ℕ) (nam
 with_name end heading rest size name program word n e =
     let m = made_of name heading.line (begin_from end (drop size rest)) program e in
     let behind : drop size rest ≡ n.rest =
-        ap (λ (k : ℕ). drop k rest) n.length_is ∙ ap (λ (ts : List Token). drop (length n.names) ts) n.split ∙ drop-append_seam n.names n.rest in
+    ap (λ (k : ℕ). drop k rest) n.length_is ∙ ap (λ (ts : List Token). drop (length n.names) ts) n.split ∙ drop-append_seam n.names n.rest in
     let b = begun_of end n.rest m.instrs (sym (ap (λ (ts : List Token). begin_from end ts) behind) ∙ m.body_is) in
     let P : List Token → Type 0 = λ ts. IsText (heading ∷ ts) program in
     let Q : List Token → Type 0 = λ ts. IsText (heading ∷ (n.names ++ ts)) program in
@@ -350,7 +350,7 @@ complete end tokens program (block heading begin {names = names} {body = body} {
     let rest = names ++ (begin ∷ body) in
     let behind : drop (length names) rest ≡ begin ∷ body = drop-append_seam names (begin ∷ body) in
     let starts : begin_from end (begin ∷ body) ≡ Ok instrs =
-        ap (λ (b : Bool). if b then body_from end 0 body else Err (misfit_at (begin ∷ body) begin.line)) begins ∙ complete_body end is_body in
+    ap (λ (b : Bool). if b then body_from end 0 body else Err (misfit_at (begin ∷ body) begin.line)) begins ∙ complete_body end is_body in
     ap (λ (b : Bool). if b then with_heading end heading.line rest (heading_name rest) else Err (misfit_at (heading ∷ rest) heading.line)) word
     ∙ ap (λ (h : Result (BlockName × ℕ) Reason). with_heading end heading.line rest h) (name_read (begin ∷ body) named)
     ∙ ap (λ (ts : List Token). one_block name heading.line (begin_from end ts)) behind

@@ -1,2 +1,4 @@
 pub mod GrammarLaws
+mod RunRows
+pub mod Runs
 mod VerdictRows

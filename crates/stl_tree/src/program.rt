@@ -1,6 +1,6 @@
 //! The program that a source text stands for.
 
-use s7_base::{AreaName, Check, Line, List};
+use s7_base::{AreaName, Check, Line, List, Place, Width};
 
 /// A block by its kind and number: an organization block, a function or a function block.
 #[derive(Clone, Copy, Debug, PartialEq, Eq)]
@@ -55,4 +55,13 @@ pub struct Block {
 #[derive(Debug, Drop, PartialEq)]
 pub struct Program {
     pub blocks: List<Block>,
+}
+
+/// A call of a block from outside: its name, the data block of its instance, which only a function
+/// block has, and its actual parameters in the order of the formals.
+#[derive(Debug, Drop, PartialEq)]
+pub struct Call {
+    pub block: BlockName,
+    pub instance: u16,
+    pub actuals: List<(Place, Width)>,
 }

@@ -4,5 +4,4 @@ ghost use Rattle.stl_tree.specs.Grammar.{AcceptsTheGrammar};
 /// The verdict accepts exactly the texts of the grammar, each as its program.
 pub fn verdict_accepts_the_grammar()
     ensures { AcceptsTheGrammar }
-{
-}
+{}

@@ -22,4 +22,4 @@ returns-in-Err-Usage-clause-writes g c =
 pub returns-in-Ok-Translate-clause-translated : goal.returns-in-Ok-Translate-clause-translated
 returns-in-Ok-Translate-clause-translated g c done =
     translated (Some Translate) (g.P.Source.left c.args.program.now) (g.K.Sink.taken c.args.out.now) (g.K.Sink.taken c.translate_source.new.out) c.translate_source.result
-      c.translate_source.ensures.writes done
+    c.translate_source.ensures.writes done

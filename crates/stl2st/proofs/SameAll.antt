@@ -1,0 +1,69 @@
+-- A program and its translation mean the same.
+use Rattle.std.proofs.Common.{◌≡◌, ℕ, ◌+◌, ◌*◌, ◌≤◌, map, length, Option, Some, None, refl, sym, ap, ◌∙◌, subst, arith}
+use Rattle.std.specs.Prelude.{IsSome, option_map}
+use Rattle.std.proofs.Math.Nat.{suc-mul}
+use Rattle.s7_base.specs.Areas.{Areas}
+use Rattle.stl_tree.specs.Registers.{start}
+use Rattle.stl_tree.specs.StlRun.{IsCalledAlone, block_named, body_called, end_of, running, size_of, steps_on, stl_run}
+use Rattle.stl_tree.specs.declared.program.Block.{Block}
+use Rattle.stl_tree.specs.declared.program.BlockName.{BlockName}
+use Rattle.stl_tree.specs.declared.program.BlockName.TheVariants as name
+use Rattle.stl_tree.specs.declared.program.Call.{Call}
+use Rattle.stl_tree.specs.declared.program.Program.{Program}
+use Rattle.stl_tree.proofs.Runs.{runs_end_stays}
+use Rattle.st_tree.specs.StRun.{FitsSt, IsProgramCall, run_of_unit, st_run, unit_called}
+use Rattle.st_tree.specs.declared.program.Pou.{Pou}
+use Rattle.stl2st.specs.Same.{Same, SameRuns}
+use Rattle.stl2st.specs.Translation.{translation, unit_of, IsTranslatable, IsTranslatableBlock}
+use Rattle.stl2st.specs.WellFormed.{IsWellFormed, IsWellFormedBlock}
+use Rattle.stl2st.proofs.Names.{found_each, found_numbered, found_size, unit_found}
+use Rattle.stl2st.proofs.Straight.{body_same}
+
+some_of : (o : Option Block) → IsSome o → (b : Block) × (o ≡ Some b)
+some_of None h = cc
+some_of (Some b) h = (b, refl)
+
+program_alone : (called : BlockName) → IsCalledAlone called → IsProgramCall called
+program_alone (name.Ob n) h = tt
+program_alone (name.Fc n) h = h
+program_alone (name.Fb n) h = h
+
+module _ (program : Program) (can : IsTranslatable program) (formed : IsWellFormed program) (call : Call) (b : Block) (found : block_named call.block program.blocks ≡ Some b) where
+  -- the call finds the unit of the block
+  unit_there : unit_called call.block (map unit_of program.blocks) ≡ Some (unit_of b)
+  unit_there =
+      unit_found call.block (found_numbered call.block program.blocks b found formed) program.blocks formed
+      ∙ ap (option_map unit_of) found
+
+  -- with as many steps as a block has instructions, the runs are equal, whatever the units
+  runs_equal : (memory : Areas) (steps units : ℕ) → size_of program ≤ steps → stl_run program call memory steps ≡ st_run (translation program) call memory units
+  runs_equal memory steps units h =
+      let shape = found_each IsWellFormedBlock call.block program.blocks b found formed in
+      let within = found_size call.block program.blocks b found in
+      let room : length b.body ≤ steps = omega arith in
+      ap (λ o. end_of (steps_on steps (running (record { body = body_called o; at = 0 }) start memory))) found
+      ∙ body_same b.body shape.ends (found_each IsTranslatableBlock call.block program.blocks b found can) steps units memory room
+      ∙ sym (ap (λ o. run_of_unit o units memory) unit_there)
+
+  same_runs : SameRuns (stl_run program call) (st_run (translation program) call) (size_of program)
+  same_runs =
+      record {
+        forth = λ memory valid steps after fault ended.
+            let more : steps ≤ steps + size_of program = omega arith in
+            let enough : size_of program ≤ steps + size_of program = omega arith in
+            sym (runs_equal memory (steps + size_of program) (2 * steps) enough) ∙ runs_end_stays program call memory steps (steps + size_of program) after fault more ended;
+        back = λ memory valid units after fault ended.
+            let enough : size_of program ≤ (units + 1) * size_of program = omega (arith, suc-mul units (size_of program)) in
+            runs_equal memory ((units + 1) * size_of program) units enough ∙ ended;
+      }
+
+  fits_text : IsCalledAlone call.block → FitsSt (translation program) call
+  fits_text alone = record { alone = program_alone call.block alone; there = subst (λ (o : Option Pou). IsSome o) (sym unit_there) refl }
+
+-- a program of blocks that are as they should be means what its translation means
+pub same_all : (program : Program) → IsTranslatable program → IsWellFormed program → Same program (translation program)
+same_all program can formed =
+    record {
+      fits = λ call fits. let b = some_of (block_named call.block program.blocks) fits.there in fits_text program can formed call b.0 b.1 fits.alone;
+      runs = λ call fits. let b = some_of (block_named call.block program.blocks) fits.there in same_runs program can formed call b.0 b.1;
+    }

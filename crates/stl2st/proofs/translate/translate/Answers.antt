@@ -1,0 +1,12 @@
+use Rattle.std.proofs.Common.{rules, ◌≡◌, List, map, sym, subst, arith}
+use Rattle.std.proofs.lemmas.Grind.{common_steps}
+use Rattle.st_tree.specs.declared.program.Pou.{Pou}
+use Rattle.stl2st.specs.Same.{Same}
+use Rattle.stl2st.specs.Translation.{unit_of}
+use Rattle.stl2st.proofs.SameAll.{same_all}
+use Rattle.stl2st.proofs.translate.translate.Goals as goal
+
+pub returns-clause-same : goal.returns-clause-same
+returns-clause-same c =
+    let e : c.loop-block.pous ≡ map unit_of c.args.program.now.blocks = first_of (search rules, grind (arith, common_steps)) in
+    subst (λ (pous : List Pou). Same c.args.program.now (record { pous = pous })) (sym e) (same_all c.args.program.now c.requires.translatable c.requires.well_formed)

@@ -1,0 +1,75 @@
+-- Runs of small programs, held against worked rows by computing them.
+use Rattle.std.proofs.Common.{◌≡◌, refl, ℕ, List, [], ◌∷◌, ◌++◌, map, Some, None}
+use Rattle.s7_base.specs.Areas.{Areas}
+use Rattle.s7_base.specs.End.{Ended, Going}
+use Rattle.s7_base.specs.declared.check.Check.TheVariants as check
+use Rattle.s7_base.specs.declared.outcome.Fault.TheVariants.{AreaLength}
+use Rattle.s7_base.specs.declared.place.AreaName.TheVariants as area
+use Rattle.stl_tree.specs.StlRun.{stl_run, size_of}
+use Rattle.stl_tree.specs.declared.program.BitArg.TheVariants.{At}
+use Rattle.stl_tree.specs.declared.program.BlockName.TheVariants.{Ob}
+use Rattle.stl_tree.specs.declared.program.Call.{Call}
+use Rattle.stl_tree.specs.declared.program.Op.{Op}
+use Rattle.stl_tree.specs.declared.program.Op.TheVariants as op
+use Rattle.stl_tree.specs.declared.program.Operand.{Operand}
+use Rattle.stl_tree.specs.declared.program.Operand.TheVariants.{Direct}
+use Rattle.stl_tree.specs.declared.program.Program.{Program}
+
+-- OB 1 with these instructions and its end word
+abbrev program_of : List Op → Program
+program_of ops =
+    record {
+      blocks =
+          record {
+            name = Ob 1;
+            line = record { 0 = 1 };
+            body = map (λ (o : Op). record { line = record { 0 = 3 }; op = o }) (ops ++ op.BlockEnd ∷ []);
+          } ∷ [];
+    }
+
+-- the call of an organization block
+abbrev call_of : ℕ → Call
+call_of number = record { block = Ob number; instance = 0; actuals = [] }
+
+-- one byte of inputs, one of outputs and no bit memory
+abbrev memory_of : ℕ → ℕ → Areas
+memory_of input output = record { inputs = input ∷ []; outputs = output ∷ []; markers = [] }
+
+abbrev input : ℕ → Operand
+input bit = Direct area.I 0 bit
+
+abbrev output : ℕ → Operand
+output bit = Direct area.Q 0 bit
+
+abbrev series : List Op
+series = op.Check check.A (At (input 0)) ∷ op.Check check.A (At (input 1)) ∷ op.Assign (output 4) ∷ []
+
+both_set : stl_run (program_of series) (call_of 1) (memory_of 3 0) 4 ≡ Ended (memory_of 3 16) None
+both_set = refl
+
+one_clear : stl_run (program_of series) (call_of 1) (memory_of 2 255) 4 ≡ Ended (memory_of 2 239) None
+one_clear = refl
+
+-- the end word is a step
+too_few_steps : stl_run (program_of series) (call_of 1) (memory_of 3 0) 3 ≡ Going
+too_few_steps = refl
+
+end_word_counts : size_of (program_of series) ≡ 4
+end_word_counts = refl
+
+-- the check behind an assignment is a first check
+first_check : stl_run (program_of (op.Check check.A (At (input 0)) ∷ op.Assign (output 0) ∷ op.Check check.O (At (input 1)) ∷ op.Assign (output 1) ∷ [])) (call_of 1) (memory_of 1 2) 5 ≡ Ended (memory_of 1 1) None
+first_check = refl
+
+exclusive : stl_run (program_of (op.Check check.X (At (input 0)) ∷ op.Check check.X (At (input 1)) ∷ op.Assign (output 0) ∷ [])) (call_of 1) (memory_of 3 1) 4 ≡ Ended (memory_of 3 0) None
+exclusive = refl
+
+equal_bits : stl_run (program_of (op.Check check.X (At (input 0)) ∷ op.Check check.Xn (At (input 1)) ∷ op.Assign (output 0) ∷ [])) (call_of 1) (memory_of 3 0) 4 ≡ Ended (memory_of 3 1) None
+equal_bits = refl
+
+-- the instruction that faults is a step, and leaves the memory as it was
+past_the_end : stl_run (program_of (op.Check check.An (At (input 0)) ∷ op.Assign (output 0) ∷ op.Assign (Direct area.Q 1 0) ∷ [])) (call_of 1) (memory_of 0 0) 3 ≡ Ended (memory_of 0 1) (Some AreaLength)
+past_the_end = refl
+
+before_the_fault : stl_run (program_of (op.Check check.An (At (input 0)) ∷ op.Assign (output 0) ∷ op.Assign (Direct area.Q 1 0) ∷ [])) (call_of 1) (memory_of 0 0) 2 ≡ Going
+before_the_fault = refl
