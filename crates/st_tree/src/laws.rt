@@ -1,7 +1,12 @@
 //! The laws of the reading of an ST text: each is the contract of a function that does nothing.
-ghost use Rattle.st_tree.specs.ReadingLaws.{Rereads};
+ghost use Rattle.st_tree.specs.ReadingLaws.{Rereads, OneTree};
 
 /// The spelling of a proper tree reads back as the tree.
 pub fn rereads()
     ensures { Rereads }
+{}
+
+/// A text has one tree at most.
+pub fn one_tree()
+    ensures { OneTree }
 {}
