@@ -1,5 +1,5 @@
 //! The laws of the reading of an ST text: each is the contract of a function that does nothing.
-ghost use Rattle.st_tree.specs.ReadingLaws.{Rereads, OneTree};
+ghost use Rattle.st_tree.specs.ReadingLaws.{Rereads, OneTree, ReadIsProper, NotBoth};
 
 /// The spelling of a proper tree reads back as the tree.
 pub fn rereads()
@@ -9,4 +9,14 @@ pub fn rereads()
 /// A text has one tree at most.
 pub fn one_tree()
     ensures { OneTree }
+{}
+
+/// What is read is proper.
+pub fn what_is_read_is_proper()
+    ensures { ReadIsProper }
+{}
+
+/// A text with a tree is not refused.
+pub fn not_both()
+    ensures { NotBoth }
 {}
