@@ -11,4 +11,5 @@ pub mod Shallow
 pub mod SpellingCuts
 pub mod TokenCuts
 pub mod Unique
+mod ReadingRows
 mod SpellingRows
