@@ -39,6 +39,10 @@ pub infix_most : (op : BinaryOp) → infix_level op ≤ weakest
 infix_most binary.And = omega arith
 infix_most binary.Or = omega arith
 
+pub infix_some : (op : BinaryOp) → 0 < infix_level op
+infix_some binary.And = omega arith
+infix_some binary.Or = omega arith
+
 pub prefix_most : (u : UnaryOp) → prefix_level u ≤ weakest
 prefix_most unary_op.Not = omega arith
 

@@ -4,6 +4,7 @@ pub mod DigitCuts
 pub mod Drive
 pub mod Machine
 pub mod NotBoth
+pub mod OneGrammar
 pub mod ReadIsProper
 pub mod Rereads
 pub mod Said
