@@ -44,9 +44,9 @@ are_placed (prefix op f) = are_placed f
 are_placed (infix_of op f g) = are_placed f && are_placed g
 
 -- the line of the first of some tokens
-abbrev pub first_line : List StToken → List Line
-first_line [] = []
-first_line (token ∷ more) = token.line ∷ []
+abbrev pub first_line : List StToken → Line
+first_line [] = record { 0 = 1 }
+first_line (token ∷ more) = token.line
 
 -- the lines of the statements with a bad address, each that of the statement's first token, in a text
 -- whose statements have these tokens
@@ -54,7 +54,7 @@ abbrev pub bad_lines : Statements → List StToken → List Line
 bad_lines stop tokens = []
 bad_lines (empty rest) tokens = bad_lines rest (drop 1 tokens)
 bad_lines (assign v e rest) tokens =
-    (if is_placed v && are_placed e then [] else first_line tokens) ++ bad_lines rest (drop (length (spell e) + 3) tokens)
+    (if is_placed v && are_placed e then [] else first_line tokens ∷ []) ++ bad_lines rest (drop (length (spell e) + 3) tokens)
 
 -- the statements stand behind PROGRAM and the name
 abbrev pub bad_address_lines : Source → List StToken → List Line

@@ -2,9 +2,12 @@
 use Rattle.std.specs.Prelude.{◌≡◌, ℕ, List}
 use Rattle.s7_base.specs.declared.reason.Line.{Line}
 use Rattle.s7_base.specs.declared.reason.Reason.{Reason}
+use Rattle.st_tree.specs.Derives.{Derives, IsSpelled}
 use Rattle.st_tree.specs.Proper.{Proper}
 use Rattle.st_tree.specs.Reading.{HasTree, IsRefused}
 use Rattle.st_tree.specs.Spelling.{spelling}
+use Rattle.st_tree.specs.StKinds.{Kind}
+use Rattle.st_tree.specs.declared.expr.Expr.{Expr}
 use Rattle.st_tree.specs.declared.program.StProgram.{StProgram}
 
 -- the spelling of a proper tree reads back as the tree
@@ -22,3 +25,7 @@ ReadIsProper = (bytes : List ℕ) (tree : StProgram) → HasTree bytes tree → 
 -- a text with a tree is not refused
 abbrev pub NotBoth : Type 0
 NotBoth = (bytes : List ℕ) (tree : StProgram) (line : Line) (reason : Reason) → HasTree bytes tree → IsRefused bytes line reason → ⊥
+
+-- the grammar by binding strengths and the forms that keep their brackets are one
+abbrev pub OneGrammar : Type 0
+OneGrammar = (k : ℕ) (ts : List Kind) (e : Expr) → (Derives k ts e → IsSpelled k ts e) × (IsSpelled k ts e → Derives k ts e)

@@ -1,7 +1,27 @@
 //! The laws of the reading of an ST text: each is the contract of a function that does nothing.
-ghost use Rattle.st_tree.specs.ReadingLaws.{Rereads};
+ghost use Rattle.st_tree.specs.ReadingLaws.{Rereads, OneTree, ReadIsProper, NotBoth, OneGrammar};
 
 /// The spelling of a proper tree reads back as the tree.
 pub fn rereads()
     ensures { Rereads }
+{}
+
+/// A text has one tree at most.
+pub fn one_tree()
+    ensures { OneTree }
+{}
+
+/// What is read is proper.
+pub fn what_is_read_is_proper()
+    ensures { ReadIsProper }
+{}
+
+/// A text with a tree is not refused.
+pub fn not_both()
+    ensures { NotBoth }
+{}
+
+/// The grammar of expressions by binding strengths and the forms that keep their brackets are one.
+pub fn one_grammar()
+    ensures { OneGrammar }
 {}
