@@ -4,7 +4,7 @@ use Rattle.std.specs.Prelude.{IsSome, option_map}
 use Rattle.std.proofs.Math.Nat.{suc-mul}
 use Rattle.s7_base.specs.Areas.{Areas}
 use Rattle.stl_tree.specs.Registers.{start}
-use Rattle.stl_tree.specs.StlRun.{IsCalledAlone, block_named, body_called, end_of, running, size_of, steps_on, stl_run}
+use Rattle.stl_tree.specs.StlRun.{Fits, IsCalledAlone, block_named, body_called, end_of, running, size_of, steps_on, stl_run}
 use Rattle.stl_tree.specs.declared.program.Block.{Block}
 use Rattle.stl_tree.specs.declared.program.BlockName.{BlockName}
 use Rattle.stl_tree.specs.declared.program.BlockName.TheVariants as name
@@ -15,7 +15,7 @@ use Rattle.st_tree.specs.StRun.{FitsSt, IsProgramCall, run_of_unit, st_run, unit
 use Rattle.st_tree.specs.declared.program.Pou.{Pou}
 use Rattle.stl2st.specs.Same.{Same, SameRuns}
 use Rattle.stl2st.specs.Translation.{translation, unit_of, IsTranslatable, IsTranslatableBlock}
-use Rattle.stl2st.specs.WellFormed.{IsWellFormed, IsWellFormedBlock}
+use Rattle.stl2st.specs.WellFormed.{IsNumbered, IsWellFormed, IsWellFormedBlock}
 use Rattle.stl2st.proofs.Names.{found_each, found_numbered, found_size, unit_found}
 use Rattle.stl2st.proofs.Straight.{body_same}
 
@@ -60,10 +60,28 @@ module _ (program : Program) (can : IsTranslatable program) (formed : IsWellForm
   fits_text : IsCalledAlone call.block → FitsSt (translation program) call
   fits_text alone = record { alone = program_alone call.block alone; there = subst (λ (o : Option Pou). IsSome o) (sym unit_there) refl }
 
+called_alone : (called : BlockName) → IsProgramCall called → IsCalledAlone called
+called_alone (name.Ob n) h = tt
+called_alone (name.Fc n) h = h
+called_alone (name.Fb n) h = h
+
+some_unit : (o : Option Block) → IsSome (option_map unit_of o) → IsSome o
+some_unit None h = h
+some_unit (Some b) h = refl
+
+-- a call of a text's program is one of the block that it was translated from
+fits_program : (program : Program) → IsWellFormed program → (call : Call) → IsNumbered call.block → FitsSt (translation program) call → Fits program call
+fits_program program formed call numbered fits =
+    record {
+      alone = called_alone call.block fits.alone;
+      there = some_unit (block_named call.block program.blocks) (subst (λ (o : Option Pou). IsSome o) (unit_found call.block numbered program.blocks formed) fits.there);
+    }
+
 -- a program of blocks that are as they should be means what its translation means
 pub same_all : (program : Program) → IsTranslatable program → IsWellFormed program → Same program (translation program)
 same_all program can formed =
     record {
+      fits_back = λ call numbered fits. fits_program program formed call numbered fits;
       fits = λ call fits. let b = some_of (block_named call.block program.blocks) fits.there in fits_text program can formed call b.0 b.1 fits.alone;
       runs = λ call fits. let b = some_of (block_named call.block program.blocks) fits.there in same_runs program can formed call b.0 b.1;
     }
