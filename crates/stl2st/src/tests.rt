@@ -126,8 +126,12 @@ fn bodies_are_translated(rt: HostRuntime) -> Result<(), Fail> {
         let source = with_body(alloc, body)?;
         let text = unit_with(alloc, lines)?;
         let (status, out) = translated(alloc, source.as_slice())?;
-        assert_eq!(rt; status, Status::Done, "{}", body.escape_ascii());
-        assert_eq!(rt; out.taken(), text.as_slice(), "{}", body.escape_ascii());
+        assert_eq!(rt;
+            (status, out.taken()),
+            (Status::Done, text.as_slice()),
+            "{}",
+            body.escape_ascii()
+        );
     }
     Ok(())
 }
@@ -155,8 +159,12 @@ fn bodies_are_refused(rt: HostRuntime) -> Result<(), Fail> {
     for (body, text) in bodies {
         let source = with_body(alloc, body)?;
         let (status, out) = translated(alloc, source.as_slice())?;
-        assert_eq!(rt; status, Status::Refused, "{}", body.escape_ascii());
-        assert_eq!(rt; out.taken(), text, "{}", body.escape_ascii());
+        assert_eq!(rt;
+            (status, out.taken()),
+            (Status::Refused, text),
+            "{}",
+            body.escape_ascii()
+        );
     }
     Ok(())
 }
@@ -164,27 +172,34 @@ fn bodies_are_refused(rt: HostRuntime) -> Result<(), Fail> {
 #[test]
 fn sources_are_refused(rt: HostRuntime) -> Result<(), Fail> {
     let alloc = rt.alloc();
-    let sources: [(&str, &str); 6] = [
-        ("", "line 1: NoBlocks\n"),
-        ("ORGANIZATION_BLOCK OB", "line 1: BadStatement\n"),
-        ("ORGANIZATION_BLOCK OB 1\nBEGIN\n", "line 3: BadStatement\n"),
+    let sources: [(&[u8], &[u8]); 6] = [
+        (b"", b"line 1: NoBlocks\n"),
+        (b"ORGANIZATION_BLOCK OB", b"line 1: BadStatement\n"),
         (
-            "ORGANIZATION_BLOCK OB 0\nBEGIN\nEND_ORGANIZATION_BLOCK\n",
-            "line 1: Unsupported(NotBuilt)\n",
+            b"ORGANIZATION_BLOCK OB 1\nBEGIN\n",
+            b"line 3: BadStatement\n",
         ),
         (
-            "FUNCTION FC 1 : VOID\nBEGIN\nEND_FUNCTION\n",
-            "line 1: Unsupported(NotBuilt)\n",
+            b"ORGANIZATION_BLOCK OB 0\nBEGIN\nEND_ORGANIZATION_BLOCK\n",
+            b"line 1: Unsupported(NotBuilt)\n",
         ),
         (
-            "ORGANIZATION_BLOCK OB 1\nBEGIN\nEND_ORGANIZATION_BLOCK\nORGANIZATION_BLOCK OB 2\nBEGIN\nEND_ORGANIZATION_BLOCK\n",
-            "line 4: Unsupported(NotBuilt)\n",
+            b"FUNCTION FC 1 : VOID\nBEGIN\nEND_FUNCTION\n",
+            b"line 1: Unsupported(NotBuilt)\n",
+        ),
+        (
+            b"ORGANIZATION_BLOCK OB 1\nBEGIN\nEND_ORGANIZATION_BLOCK\nORGANIZATION_BLOCK OB 2\nBEGIN\nEND_ORGANIZATION_BLOCK\n",
+            b"line 4: Unsupported(NotBuilt)\n",
         ),
     ];
     for (source, text) in sources {
-        let (status, out) = translated(alloc, source.as_bytes())?;
-        assert_eq!(rt; status, Status::Refused, "{source:?}");
-        assert_eq!(rt; out.taken(), text.as_bytes(), "{source:?}");
+        let (status, out) = translated(alloc, source)?;
+        assert_eq!(rt;
+            (status, out.taken()),
+            (Status::Refused, text),
+            "{}",
+            source.escape_ascii()
+        );
     }
     Ok(())
 }
@@ -207,8 +222,11 @@ fn words_are_translate_or_no_command(rt: HostRuntime) -> Result<(), Fail> {
         let mut program = MemSource::new(alloc, ROW, 20, &[1])?;
         let mut out = MemSink::new(alloc, 1000, 7, &[])?;
         let status = call(alloc, line, &mut program, &mut out)?;
-        assert_eq!(rt; status, Status::Usage, "{line}");
-        assert_eq!(rt; out.taken(), USAGE_LINE, "{line}");
+        assert_eq!(rt;
+            (status, out.taken()),
+            (Status::Usage, USAGE_LINE),
+            "{line}"
+        );
     }
     Ok(())
 }
@@ -217,28 +235,32 @@ fn words_are_translate_or_no_command(rt: HostRuntime) -> Result<(), Fail> {
 fn faults_are_answered(rt: HostRuntime) -> Result<(), Fail> {
     let alloc = rt.alloc();
     // The read and the write that fail, and the room; then the answer, and how much of the text is taken.
-    for (read, write, room, answer, taken) in [
+    let faults: [(u32, u32, usize, Status, &[u8]); 4] = [
         (0, 0, 1000, Status::Done, ROW_TEXT),
         (3, 0, 1000, Status::ReadFault, b""),
         (0, 0, 10, Status::WriteFault, b"PROGRAM OB"),
         (0, 2, 1000, Status::WriteFault, b"PROGRAM"),
-    ] {
+    ];
+    for (read, write, room, answer, taken) in faults {
         let mut program = MemSource::new(alloc, ROW, 20, &[read])?;
         let mut out = MemSink::new(alloc, room, 7, &[write])?;
         let status = call(alloc, "translate", &mut program, &mut out)?;
-        assert_eq!(rt; status, answer, "read {read}, write {write}, room {room}");
         assert_eq!(rt;
-            out.taken(),
-            taken,
+            (status, out.taken()),
+            (answer, taken),
             "read {read}, write {write}, room {room}"
         );
     }
+    Ok(())
+}
 
+#[test]
+fn a_missing_source_is_a_read_fault(rt: HostRuntime) -> Result<(), Fail> {
+    let alloc = rt.alloc();
     let mut program = NoFile::new();
     let mut out = MemSink::new(alloc, 1000, 7, &[])?;
     let status = call(alloc, "translate", &mut program, &mut out)?;
-    assert_eq!(rt; status, Status::ReadFault);
-    assert_eq!(rt; out.taken(), b"".as_slice());
+    assert_eq!(rt; (status, out.taken()), (Status::ReadFault, b"".as_slice()));
     Ok(())
 }
 
@@ -256,8 +278,7 @@ fn a_source_at_the_limit_is_translated(rt: HostRuntime) -> Result<(), Fail> {
         let mut program = SureSource::new(alloc, source.as_slice(), 4096)?;
         let mut out = MemSink::new(alloc, 1000, 1000, &[])?;
         let status = call(alloc, "translate", &mut program, &mut out)?;
-        assert_eq!(rt; status, answer, "{size} bytes");
-        assert_eq!(rt; out.taken(), text, "{size} bytes");
+        assert_eq!(rt; (status, out.taken()), (answer, text), "{size} bytes");
     }
     Ok(())
 }
