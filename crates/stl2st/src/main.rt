@@ -20,6 +20,8 @@ mod print;
 mod reader;
 mod statement;
 mod status;
+#[cfg(test)]
+mod tests;
 mod translate;
 mod words;
 
