@@ -1,9 +1,9 @@
-use Rattle.std.proofs.Common.{◌≡◌, refl, List, [], ◌∷◌, Ok, Err, true, false}
+use Rattle.std.proofs.Common.{◌≡◌, refl, [], ◌∷◌, Ok, Err, true, false}
 use Rattle.std.specs.Prelude.{codes}
 use Rattle.s7_base.specs.Tokens.{tokens_of}
 use Rattle.s7_base.specs.declared.reason.Reason.TheVariants.{BadToken}
 use Rattle.s7_base.specs.declared.reason.Rejection.TheVariants.{Refused}
-use Rattle.s7_base.specs.declared.token.TokenKind.TheVariants.{Word, Quoted, Text, Sign}
+use Rattle.s7_base.specs.declared.token.TokenKind.TheVariants.{Word, Quoted, Sign}
 
 row : tokens_of (codes "A I 0.0; // x\nTITLE == it's\n+{q};:=\"a b\"") ≡ Ok (
     record { kind = Word; text = codes "A"; line = record { 0 = 1 }; glued = true }

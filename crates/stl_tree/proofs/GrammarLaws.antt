@@ -1,14 +1,12 @@
 -- The verdict accepts what the grammar relates, and nothing else.
-use Rattle.std.proofs.Common.{◌≡◌, ℕ, zero, suc, ◌+◌, ◌<◌, ◌≤◌, Bool, true, false, not, cond, ◌&&◌, nat_lt, if◌then◌else◌, List, [], ◌∷◌, ◌++◌, length, take, drop, Option, Some, None, Result, Ok, Err, refl, sym, ap, subst, ◌∙◌, arith, length-append}
+use Rattle.std.proofs.Common.{◌≡◌, ℕ, zero, suc, ◌+◌, ◌<◌, ◌≤◌, Bool, true, false, not, cond, ◌&&◌, if◌then◌else◌, List, [], ◌∷◌, ◌++◌, length, take, drop, Option, Some, None, Result, Ok, Err, refl, sym, ap, subst, ◌∙◌, arith, length-append}
 use Rattle.std.proofs.Math.Seq.{drop-append_seam, drop-append-add, take-append_seam}
 use Rattle.std.proofs.lemmas.Bool.{ltb-true, lt-ltb}
-use Rattle.std.specs.List.{prefix_len}
 use Rattle.std.specs.Option.{ok_or}
 use Rattle.std.specs.Prelude.{codes}
 use Rattle.s7_base.specs.declared.reason.Line.{Line}
 use Rattle.s7_base.specs.declared.reason.Reason.{Reason}
 use Rattle.s7_base.specs.declared.reason.Rejection.{Rejection}
-use Rattle.s7_base.specs.declared.reason.Rejection.TheVariants.{Refused}
 use Rattle.s7_base.specs.declared.token.Token.{Token}
 use Rattle.stl_tree.specs.Grammar.{AcceptsTheGrammar, is_end, is_semicolon, IsName, apart, together, IsBody, end_word, empty, statement, IsText, block}
 use Rattle.s7_base.specs.declared.reason.Kind.TheVariants.{NotBuilt}
@@ -18,7 +16,7 @@ use Rattle.stl_tree.specs.Words.{is_word, is_word_kind}
 use Rattle.stl_tree.specs.declared.program.BlockName.{BlockName}
 use Rattle.stl_tree.specs.declared.program.BlockName.TheVariants.{Ob}
 use Rattle.stl_tree.specs.Items.{block_number, heading_with, heading_number, heading_name, short_heading, in_body, misfit_reason, is_complete, statement_op, statement_of, statement_size}
-use Rattle.stl_tree.specs.Verdict.{prepend_instrs, with_statement, with_item, with_end, body_from, begin_from, misfit_at, one_block, with_heading, program_of}
+use Rattle.stl_tree.specs.Verdict.{with_statement, with_item, with_end, body_from, begin_from, misfit_at, one_block, with_heading, program_of}
 use Rattle.stl_tree.specs.declared.program.Instr.{Instr}
 use Rattle.stl_tree.specs.declared.program.Program.{Program}
 use Rattle.stl_tree.specs.declared.program.Op.{Op}

@@ -1,6 +1,6 @@
 -- The grammar of a source text, as far as built: a relation between the tokens of a text and the
 -- program that they stand for, one case for each form. The verdict accepts exactly what it relates.
-use Rattle.std.specs.Prelude.{◌≡◌, ℕ, Bool, true, false, ◌&&◌, List, [], ◌∷◌, ◌++◌, length, take, drop, codes, Some, Result, Ok}
+use Rattle.std.specs.Prelude.{◌≡◌, ℕ, Bool, true, false, ◌&&◌, List, [], ◌∷◌, ◌++◌, length, take, drop, codes, Some, Ok}
 use Rattle.std.specs.Str.{str_eq_ignore_ascii_case}
 use Rattle.s7_base.specs.declared.reason.Line.{Line}
 use Rattle.s7_base.specs.declared.token.Token.{Token}

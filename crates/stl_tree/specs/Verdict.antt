@@ -1,6 +1,6 @@
 -- The verdict on a source text: its program, or the line and the reason of the first broken rule.
 -- First all tokens, then the items from the front, the first that fits no form that is built.
-use Rattle.std.specs.Prelude.{ℕ, zero, suc, Bool, true, false, if◌then◌else◌, List, [], ◌∷◌, ◌++◌, drop, codes, Result, Ok, Err}
+use Rattle.std.specs.Prelude.{ℕ, zero, suc, if◌then◌else◌, List, [], ◌∷◌, ◌++◌, drop, codes, Result, Ok, Err}
 use Rattle.s7_base.specs.Tokens.{tokens_of, line_at_end}
 use Rattle.s7_base.specs.declared.reason.Line.{Line}
 use Rattle.s7_base.specs.declared.reason.Reason.{Reason}
@@ -10,7 +10,6 @@ use Rattle.s7_base.specs.declared.reason.Rejection.TheVariants.{Refused}
 use Rattle.s7_base.specs.declared.token.Token.{Token}
 use Rattle.stl_tree.specs.Items.{outside, statement_of, statement_size, heading_name, misfit_reason}
 use Rattle.stl_tree.specs.Words.{is_word, is_sign}
-use Rattle.stl_tree.specs.declared.program.Block.{Block}
 use Rattle.stl_tree.specs.declared.program.BlockName.{BlockName}
 use Rattle.stl_tree.specs.declared.program.Instr.{Instr}
 use Rattle.stl_tree.specs.declared.program.Op.{Op}
