@@ -1,7 +1,7 @@
 -- Runs of small programs, held against worked rows by computing them.
 use Rattle.std.proofs.Common.{◌≡◌, refl, ℕ, List, [], ◌∷◌, ◌++◌, map, Some, None}
 use Rattle.s7_base.specs.Areas.{Areas}
-use Rattle.s7_base.specs.End.{Ended, Going}
+use Rattle.s7_base.specs.End.{End, Ended, Going}
 use Rattle.s7_base.specs.declared.check.Check.TheVariants as check
 use Rattle.s7_base.specs.declared.outcome.Fault.TheVariants.{AreaLength}
 use Rattle.s7_base.specs.declared.place.AreaName.TheVariants as area
@@ -73,3 +73,35 @@ past_the_end = refl
 
 before_the_fault : stl_run (program_of (op.Check check.An (At (input 0)) ∷ op.Assign (output 0) ∷ op.Assign (Direct area.Q 1 0) ∷ [])) (call_of 1) (memory_of 0 0) 2 ≡ Going
 before_the_fault = refl
+
+-- each check, first in its chain and behind another: the outputs 0 and 1 take the two results
+abbrev twice : Op → List Op
+twice o = o ∷ op.Assign (output 0) ∷ op.Check check.A (At (input 7)) ∷ o ∷ op.Assign (output 1) ∷ []
+
+abbrev outputs_after : Op → ℕ → End
+outputs_after o bits = stl_run (program_of (twice o)) (call_of 1) (memory_of bits 0) 6
+
+and_row : outputs_after (op.Check check.A (At (input 0))) 1 ≡ Ended (memory_of 1 1) None
+and_row = refl
+
+and_not_row : outputs_after (op.Check check.An (At (input 0))) 128 ≡ Ended (memory_of 128 3) None
+and_not_row = refl
+
+or_row : outputs_after (op.Check check.O (At (input 0))) 128 ≡ Ended (memory_of 128 2) None
+or_row = refl
+
+or_not_row : outputs_after (op.Check check.On (At (input 0))) 129 ≡ Ended (memory_of 129 2) None
+or_not_row = refl
+
+exclusive_row : outputs_after (op.Check check.X (At (input 0))) 129 ≡ Ended (memory_of 129 1) None
+exclusive_row = refl
+
+exclusive_not_row : outputs_after (op.Check check.Xn (At (input 0))) 129 ≡ Ended (memory_of 129 2) None
+exclusive_not_row = refl
+
+-- behind an assignment the RLO of the chain before counts no more
+first_or_not : stl_run (program_of (op.Check check.A (At (input 0)) ∷ op.Assign (output 0) ∷ op.Check check.On (At (input 0)) ∷ op.Assign (output 1) ∷ [])) (call_of 1) (memory_of 1 0) 5 ≡ Ended (memory_of 1 1) None
+first_or_not = refl
+
+first_exclusive : stl_run (program_of (op.Check check.A (At (input 0)) ∷ op.Assign (output 0) ∷ op.Check check.Xn (At (input 0)) ∷ op.Assign (output 1) ∷ [])) (call_of 1) (memory_of 1 0) 5 ≡ Ended (memory_of 1 1) None
+first_exclusive = refl
