@@ -19,4 +19,5 @@ pub mod TokenEnds
 pub mod Unique
 pub mod Weight
 mod ReadingRows
+mod RefusalRows
 mod SpellingRows
