@@ -6,6 +6,7 @@ pub mod Exact
 pub mod Finish
 pub mod Kept
 pub mod Machine
+pub mod Mark
 pub mod NotBoth
 pub mod OneGrammar
 pub mod OneRefusal

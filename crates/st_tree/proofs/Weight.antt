@@ -25,7 +25,7 @@ begins levels q front h e low =
     let c = completes q h in
     record { source = completion q; more = remaining q; reads = record { binds = c.binds; within = low; spelled = ap (λ (ks : List Kind). ks ++ remaining q) (sym e) ∙ c.spelled } }
 
-nest_then : (a b : Statements) → nest_all (then_all a b) ≡ max (nest_all a) (nest_all b)
+pub nest_then : (a b : Statements) → nest_all (then_all a b) ≡ max (nest_all a) (nest_all b)
 nest_then stop b = omega arith
 nest_then (empty a) b = nest_then a b
 nest_then (assign v f a) b = let e : nest_all (then_all a b) ≡ max (nest_all a) (nest_all b) = nest_then a b in omega arith
@@ -46,7 +46,7 @@ one_high (prefix op f) = omega arith
 one_high (infix_of op f g) = omega arith
 
 -- reducing changes nothing of what is made
-fill_reduced : (k : ℕ) (s : List (Frame Form Statements)) (f : Form) → let r = reduce as_written k s f in fill r.0 r.1 ≡ fill s f
+pub fill_reduced : (k : ℕ) (s : List (Frame Form Statements)) (f : Form) → let r = reduce as_written k s f in fill r.0 r.1 ≡ fill s f
 fill_reduced k [] f = refl
 fill_reduced k (unary op ∷ s) f = by (nat_le (prefix_level op) k) (fill_reduced k s (prefix op f))
   where
