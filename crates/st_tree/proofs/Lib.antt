@@ -14,6 +14,7 @@ pub mod ReadIsProper
 pub mod Rereads
 pub mod Said
 pub mod Shallow
+pub mod Sound
 pub mod SpellingCuts
 pub mod TokenCuts
 pub mod TokenEnds
