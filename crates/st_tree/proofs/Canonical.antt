@@ -1,14 +1,14 @@
 -- The canonical form of a proper expression: its tree is the expression, and it binds.
-use Rattle.std.proofs.Common.{◌≡◌, ℕ, ◌≤◌, ◌<◌, ◌-◌, Bool, true, false, ◌&&◌, refl, sym, ap, subst, ◌∙◌, arith}
+use Rattle.std.proofs.Common.{◌≡◌, ℕ, ◌≤◌, ◌<◌, ◌-◌, Bool, true, false, refl, sym, ap, subst, ◌∙◌, arith}
 use Rattle.std.specs.Prelude.{nat_lt, if◌then◌else◌}
 use Rattle.std.proofs.lemmas.Bool.Decides.{nat_tests}
+use Rattle.std.proofs.lemmas.Bool.{and_from}
+use Rattle.st_tree.proofs.Drive.{infix_some}
 use Rattle.st_tree.proofs.SpellingCuts.{is_plain}
 use Rattle.st_tree.proofs.TokenCuts.{and_both}
 use Rattle.st_tree.specs.Form.{Form, group, level, wrap, prefix_level, infix_level, canon_step, canon}
 use Rattle.st_tree.specs.Grammar.{Binds, tree}
 use Rattle.st_tree.specs.Proper.{is_proper_expr, proper_step}
-use Rattle.st_tree.specs.declared.expr.BinaryOp.{BinaryOp}
-use Rattle.st_tree.specs.declared.expr.BinaryOp.TheVariants as binary
 use Rattle.st_tree.specs.declared.expr.Expr.{Expr, roll-Expr, map-Expr, ind-Expr, fold-roll-Expr}
 use Rattle.st_tree.specs.declared.expr.Expr.TheVariants as expr
 use Rattle.st_tree.specs.declared.expr.Expr.TheOpen as E
@@ -34,13 +34,6 @@ wrap_fits k f = by (nat_lt k (level f)) (let t : Bool = nat_lt k (level f) in λ
     by true h = omega arith
     by false h = h refl
 
-infix_some : (op : BinaryOp) → 0 < infix_level op
-infix_some binary.And = omega arith
-infix_some binary.Or = omega arith
-
-both_plain : (a b : Bool) → a ≡ true → b ≡ true → (a && b) ≡ true
-both_plain a b p q = rw p q
-
 abbrev IsGood : Expr → Type 0
 IsGood e = is_proper_expr e ≡ true → Good e (canon e)
 
@@ -64,7 +57,7 @@ core (E.Binary op a b) h =
     record {
       same = ap (λ (x : Expr). expr.Binary op x (tree (wrap (infix_level op - 1) (canon b.0)))) f.same ∙ ap (λ (x : Expr). expr.Binary op a.0 x) g.same ∙ sym (expr.rolls-Binary op a.0 b.0);
       binds = (wrap_fits (infix_level op) (canon a.0), below, f.binds, g.binds);
-      plain = both_plain _ _ f.plain g.plain;
+      plain = and_from _ _ f.plain g.plain;
     }
 
 step : (x : E.Expr-F Expr) (y : E.Expr-F AnExpr) → bare y ≡ x → IsGood (roll-Expr x)

@@ -1,10 +1,11 @@
 -- What is read is proper.
-use Rattle.std.proofs.Common.{◌≡◌, ℕ, ◌+◌, ◌<◌, ◌≤◌, Bool, true, false, ◌&&◌, List, [], ◌∷◌, ◌++◌, length, drop, refl, sym, ap, subst, ◌∙◌, arith}
+use Rattle.std.proofs.Common.{◌≡◌, ◌+◌, ◌<◌, ◌≤◌, Bool, true, false, ◌&&◌, List, [], ◌∷◌, ◌++◌, length, drop, refl, sym, ap, subst, ◌∙◌, arith}
 use Rattle.std.specs.Prelude.{nat_le, if◌then◌else◌}
 use Rattle.std.specs.List.{list_all}
-use Rattle.std.proofs.lemmas.Bool.Decides.{nat_tests}
 use Rattle.std.proofs.lemmas.List.Folds.{list_all-append}
+use Rattle.std.proofs.lemmas.Bool.{and_from}
 use Rattle.s7_base.specs.declared.reason.Line.{Line}
+use Rattle.st_tree.proofs.Drive.{le_true}
 use Rattle.st_tree.proofs.Said.{is_known, is_said, all_said}
 use Rattle.st_tree.proofs.Shallow.{shallow}
 use Rattle.st_tree.proofs.TokenCuts.{and_both}
@@ -25,9 +26,6 @@ use Rattle.st_tree.specs.declared.program.Stmt.TheVariants as stmt
 use Rattle.st_tree.specs.declared.program.StProgram.{StProgram}
 use Rattle.st_tree.specs.declared.token.StToken.{StToken}
 
-both_true : (a b : Bool) → a ≡ true → b ≡ true → (a && b) ≡ true
-both_true a b p q = rw p q
-
 -- both parts of some kinds can be said
 abbrev Says : List Kind → Type 0
 Says ks = list_all is_said ks ≡ true
@@ -37,7 +35,7 @@ parts xs ys h = and_both (list_all is_said xs) (list_all is_said ys) (sym (list_
 
 var_proper : (v : Var) → is_known v ≡ true → is_placed v ≡ true → is_proper_var v ≡ true
 var_proper (Register r) h p = h
-var_proper (Direct a n k w) h p = both_true _ (is_placed (Direct a n k w)) h p
+var_proper (Direct a n k w) h p = and_from _ (is_placed (Direct a n k w)) h p
 
 expr_proper : (f : Form) → Says (spell f) → are_placed f ≡ true → is_proper_expr (tree f) ≡ true
 expr_proper (literal ty n) h p =
@@ -51,7 +49,7 @@ expr_proper (infix_of op f g) h p =
     let said = parts (spell f) (between op ∷ spell g) h in
     let placed = and_both (are_placed f) (are_placed g) p in
     ap is_proper_expr (sym (expr.rolls-Binary op (tree f) (tree g))) ∙ fold-roll-Expr Bool proper_step (E.Binary op (tree f) (tree g))
-    ∙ both_true (is_proper_expr (tree f)) (is_proper_expr (tree g)) (expr_proper f said.0 placed.0) (expr_proper g said.1 placed.1)
+    ∙ and_from (is_proper_expr (tree f)) (is_proper_expr (tree g)) (expr_proper f said.0 placed.0) (expr_proper g said.1 placed.1)
 
 -- where no statement has a bad address, the first has none, and those behind it have none
 record Placed (c : Bool) (behind : List Line) : Type 0 where
@@ -62,15 +60,12 @@ placed_parts : (c : Bool) (line : Line) (behind : List Line) → ((if c then [] 
 placed_parts true line behind h = record { here = refl; rest = h }
 placed_parts false line behind h = absurd cc
 
-le_true : (a b : ℕ) → a ≤ b → nat_le a b ≡ true
-le_true a b h = grind (arith, nat_tests)
-
 stmt_proper : (v : Var) (e : Form) → is_known v ≡ true → Binds e → nest e ≤ deepest → Says (spell e) → (is_placed v && are_placed e) ≡ true → is_proper_stmt (stmt.Assign v (tree e)) ≡ true
 stmt_proper v e known binds within said placed =
     let both = and_both (is_placed v) (are_placed e) placed in
     let low : nest (canon (tree e)) ≤ deepest = omega (arith, shallow e binds, within) in
-    both_true (is_proper_var v && is_proper_expr (tree e)) (nat_le (nest (canon (tree e))) deepest)
-    (both_true (is_proper_var v) (is_proper_expr (tree e)) (var_proper v known both.0) (expr_proper e said both.1))
+    and_from (is_proper_var v && is_proper_expr (tree e)) (nat_le (nest (canon (tree e))) deepest)
+    (and_from (is_proper_var v) (is_proper_expr (tree e)) (var_proper v known both.0) (expr_proper e said both.1))
     (le_true (nest (canon (tree e))) deepest low)
 
 body_proper : (p : Statements) (tokens : List StToken) → AllBind p → nest_all p ≤ deepest → Says (spell_all p) → bad_lines p tokens ≡ [] → list_all is_proper_stmt (tree_all p) ≡ true
@@ -80,7 +75,7 @@ body_proper (assign v x rest) tokens b n h e =
     let target = and_both (is_known v) (list_all is_said (spell x ++ (semicolon ∷ spell_all rest))) h in
     let said = parts (spell x) (semicolon ∷ spell_all rest) target.1 in
     let placed = placed_parts (is_placed v && are_placed x) (first_line tokens) (bad_lines rest (drop (length (spell x) + 3) tokens)) e in
-    both_true (is_proper_stmt (stmt.Assign v (tree x))) (list_all is_proper_stmt (tree_all rest))
+    and_from (is_proper_stmt (stmt.Assign v (tree x))) (list_all is_proper_stmt (tree_all rest))
     (stmt_proper v x target.0 b.0 (omega arith) said.0 placed.here)
     (body_proper rest (drop (length (spell x) + 3) tokens) b.1 (omega arith) said.1 placed.rest)
 
@@ -90,8 +85,8 @@ source_proper no_program tokens b n h e some = absurd (omega arith)
 source_proper (one_program title body) tokens b n h e some =
     let said = and_both (is_name title) (list_all is_said (spell_all body ++ end_program_word ∷ end_of_text ∷ [])) h in
     let inner = parts (spell_all body) (end_program_word ∷ end_of_text ∷ []) said.1 in
-    both_true (is_name title && may_name_unit title) (list_all is_proper_stmt (tree_all body))
-    (both_true (is_name title) (may_name_unit title) said.0 b.0)
+    and_from (is_name title && may_name_unit title) (list_all is_proper_stmt (tree_all body))
+    (and_from (is_name title) (may_name_unit title) said.0 b.0)
     (body_proper body (drop 2 tokens) b.1 n inner.0 e)
 
 pub read_is_proper : ReadIsProper

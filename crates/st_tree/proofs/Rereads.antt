@@ -1,9 +1,10 @@
 -- The spelling of a proper tree reads back as the tree.
-use Rattle.std.proofs.Common.{◌≡◌, ℕ, ◌≤◌, Bool, true, ◌&&◌, List, [], ◌∷◌, ◌++◌, Ok, refl, ap, subst, ◌∙◌, arith, append_assoc}
+use Rattle.std.proofs.Common.{◌≡◌, ℕ, ◌≤◌, true, ◌&&◌, List, [], ◌∷◌, ◌++◌, Ok, refl, ap, subst, ◌∙◌, arith, append_assoc}
 use Rattle.std.specs.Prelude.{codes, flat_map, nat_le}
 use Rattle.std.specs.List.{list_all}
 use Rattle.std.proofs.lemmas.Bool.Decides.{nat_tests}
 use Rattle.std.proofs.lemmas.List.{map-append}
+use Rattle.std.proofs.lemmas.Bool.{and_from}
 use Rattle.st_tree.proofs.Canonical.{Good, good}
 use Rattle.st_tree.proofs.SpellingCuts.{is_plain, cut_statement, cut_name}
 use Rattle.st_tree.proofs.TokenCuts.{Cuts, ◌>>◌, cut_none, cut_blank, cut_word, and_both}
@@ -48,9 +49,6 @@ var_placed : (v : Var) → is_proper_var v ≡ true → is_placed v ≡ true
 var_placed (Register r) h = refl
 var_placed (Direct a n k w) h = (and_both _ (is_placed (Direct a n k w)) h).1
 
-both_true : (a b : Bool) → a ≡ true → b ≡ true → (a && b) ≡ true
-both_true a b p q = rw p q
-
 plain_placed : (f : Form) → is_plain f ≡ true → are_placed f ≡ true
 plain_placed (literal ty n) h = refl
 plain_placed (variable v) h = var_placed v h
@@ -58,7 +56,7 @@ plain_placed (group f) h = plain_placed f h
 plain_placed (prefix op f) h = plain_placed f h
 plain_placed (infix_of op f g) h =
     let both = and_both (is_plain f) (is_plain g) h in
-    both_true (are_placed f) (are_placed g) (plain_placed f both.0) (plain_placed g both.1)
+    and_from (are_placed f) (are_placed g) (plain_placed f both.0) (plain_placed g both.1)
 
 as_kinds : {a b : List ℕ} {ks ls : List Kind} → ks ≡ ls → Cuts a b ks → Cuts a b ls
 as_kinds {a} {b} e c = subst (λ (xs : List Kind). Cuts a b xs) e c
@@ -77,7 +75,7 @@ good_body (stmt.Assign v e ∷ rest) h =
     let both = and_both (is_proper_stmt (stmt.Assign v e)) (list_all is_proper_stmt rest) h in
     let p = parts_of v e both.0 in
     let g = good_body rest both.1 in
-    let here : (is_placed v && are_placed (canon e)) ≡ true = both_true (is_placed v) (are_placed (canon e)) (var_placed v p.target) (plain_placed (canon e) p.value.plain) in
+    let here : (is_placed v && are_placed (canon e)) ≡ true = and_from (is_placed v) (are_placed (canon e)) (var_placed v p.target) (plain_placed (canon e) p.value.plain) in
     let value : Good e (canon e) = p.value in
     record {
       cuts = λ more. simp append_assoc (as_kinds (append_assoc (place v ∷ assign_sign ∷ spell (canon e)) (semicolon ∷ []) (spell_all (canon_all rest)))

@@ -6,6 +6,7 @@ use Rattle.std.specs.Char.{to_ascii_uppercase}
 use Rattle.std.specs.List.{list_all, prefix_len}
 use Rattle.std.proofs.lemmas.List.{map-append}
 use Rattle.std.proofs.lemmas.List.Folds.{list_all-append}
+use Rattle.std.proofs.lemmas.Bool.{and_from}
 use Rattle.s7_base.specs.Tokens.{is_word_byte, begins_with, line_size}
 use Rattle.s7_base.specs.declared.place.AreaName.{AreaName}
 use Rattle.s7_base.specs.declared.reason.Rejection.{Rejection}
@@ -136,13 +137,10 @@ AllSaid tokens = list_all is_said (kinds_of tokens) ≡ true
 abbrev SaidResult : Result (List StToken) Rejection → Type 0
 SaidResult r = IfOk r AllSaid
 
-both_said : (a b : Bool) → a ≡ true → b ≡ true → (a && b) ≡ true
-both_said a b p q = rw p q
-
 prepend_said : (xs : List StToken) (r : Result (List StToken) Rejection) → AllSaid xs → SaidResult r → SaidResult (prepend_tokens xs r)
 prepend_said xs (Ok ys) p q =
     ap (λ (ks : List Kind). list_all is_said ks) (map-append kind_of xs ys) ∙ list_all-append is_said (kinds_of xs) (kinds_of ys)
-    ∙ both_said (list_all is_said (kinds_of xs)) (list_all is_said (kinds_of ys)) p q
+    ∙ and_from (list_all is_said (kinds_of xs)) (list_all is_said (kinds_of ys)) p q
 prepend_said xs (Err e) p q = tt
 
 token_said : (piece : Piece) (bytes : List ℕ) (line : ℕ) → SaidPiece bytes (Some piece) → AllSaid (token_of piece bytes line)

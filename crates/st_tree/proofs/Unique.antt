@@ -26,7 +26,7 @@ then_stop stop = refl
 then_stop (empty a) = ap empty (then_stop a)
 then_stop (assign v e a) = ap (assign v e) (then_stop a)
 
-added_same : (d p : Statements) → added as_written d p ≡ then_all d p
+pub added_same : (d p : Statements) → added as_written d p ≡ then_all d p
 added_same d stop = sym (then_stop d)
 added_same d (empty rest) = added_same (then_all d (empty stop)) rest ∙ then_assoc d (empty stop) rest
 added_same d (assign v e rest) =

@@ -1,5 +1,5 @@
 -- The laws of the reading of an ST text.
-use Rattle.std.specs.Prelude.{◌≡◌, ℕ, List}
+use Rattle.std.specs.Prelude.{◌≡◌, ◌⊎◌, ℕ, List}
 use Rattle.s7_base.specs.declared.reason.Line.{Line}
 use Rattle.s7_base.specs.declared.reason.Reason.{Reason}
 use Rattle.st_tree.specs.Derives.{Derives, IsSpelled}
@@ -25,6 +25,14 @@ ReadIsProper = (bytes : List ℕ) (tree : StProgram) → HasTree bytes tree → 
 -- a text with a tree is not refused
 abbrev pub NotBoth : Type 0
 NotBoth = (bytes : List ℕ) (tree : StProgram) (line : Line) (reason : Reason) → HasTree bytes tree → IsRefused bytes line reason → ⊥
+
+-- a text has one refusal at most
+abbrev pub OneRefusal : Type 0
+OneRefusal = (bytes : List ℕ) (l m : Line) (r s : Reason) → IsRefused bytes l r → IsRefused bytes m s → (l ≡ m) × (r ≡ s)
+
+-- a text has a tree or is refused
+abbrev pub EachText : Type 0
+EachText = (bytes : List ℕ) → ((tree : StProgram) × HasTree bytes tree) ⊎ ((line : Line) × (reason : Reason) × IsRefused bytes line reason)
 
 -- the grammar by binding strengths and the forms that keep their brackets are one
 abbrev pub OneGrammar : Type 0

@@ -1,0 +1,5 @@
+use Rattle.st_tree.proofs.Exact.{each_text}
+use Rattle.st_tree.proofs.laws.each_text.Goals as goal
+
+pub returns : goal.returns
+returns c = each_text
