@@ -1,5 +1,5 @@
 use Rattle.st_tree.proofs.Units.{runs_end_stays}
-use Rattle.st_tree.proofs.laws_of_runs.end_stays.Goals as goal
+use Rattle.st_tree.proofs.run_laws.end_stays.Goals as goal
 
 pub returns : goal.returns
 returns c = runs_end_stays
