@@ -1,7 +1,7 @@
 -- How the parts of the top call give its clauses.
-use Rattle.std.proofs.Common.{◌≡◌, ℕ, ◌+◌, ◌<◌, ◌≤◌, ◌⊎◌, inl, inr, List, [], ◌∷◌, ◌++◌, length, Bool, true, false, nat_lt, if◌then◌else◌, Option, Some, None, refl, sym, ap, subst, ◌∙◌, Result, Ok, Err, arith, length-append, eq-eqb}
-use Rattle.s7_io.specs.Sink.{Took, TookFewer}
-use Rattle.s7_io.specs.Source.{Gave, GaveAll, GaveExactly}
+use Rattle.std.proofs.Common.{◌≡◌, ℕ, ◌+◌, ◌<◌, ◌≤◌, ◌⊎◌, inl, inr, List, [], length, Bool, true, false, nat_lt, if◌then◌else◌, Option, Some, None, refl, sym, ap, subst, ◌∙◌, Result, Ok, Err, arith, length-append}
+use Rattle.s7_io.specs.Sink.{Took}
+use Rattle.s7_io.specs.Source.{GaveAll, GaveExactly}
 use Rattle.s7_base.specs.declared.reason.Rejection.{Rejection}
 use Rattle.s7_base.specs.declared.reason.Rejection.TheVariants as rejection
 use Rattle.stl_tree.specs.Verdict.{verdict}
@@ -19,7 +19,6 @@ use Rattle.stl2st.specs.declared.command.Command.{Command}
 use Rattle.stl2st.specs.declared.command.Command.TheVariants.{Translate}
 use Rattle.stl2st.specs.declared.status.Status.{Status}
 use Rattle.stl2st.specs.declared.status.Status.TheVariants.{Done, Refused, Usage, BadImage, BadCall, Faulted, Going, ReadFault, WriteFault, TooLong, NoMemory}
-use Rattle.stl2st.specs.declared.command.WordsRefusal.TheVariants as refusal
 use Rattle.stl2st.specs.Command.{Means}
 use Rattle.std.proofs.lemmas.Bool.{lt-ltb, le-ltb}
 

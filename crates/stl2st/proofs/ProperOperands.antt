@@ -1,5 +1,5 @@
 -- An operand that a statement has is a bit within its area.
-use Rattle.std.proofs.Common.{◌≡◌, ℕ, ◌+◌, ◌-◌, ◌*◌, ◌<◌, ◌≤◌, List, [], ◌∷◌, drop, take, Bool, true, false, ◌&&◌, if◌then◌else◌, Option, Some, None, refl, ap, ◌∙◌, arith}
+use Rattle.std.proofs.Common.{◌≡◌, ℕ, ◌+◌, ◌-◌, ◌*◌, ◌<◌, ◌≤◌, List, [], ◌∷◌, drop, take, Bool, true, false, ◌&&◌, if◌then◌else◌, Option, Some, None, refl, arith}
 use Rattle.std.specs.Prelude.{IfSome, codes, nat_le, nat_lt, ◌==◌, option_and_then}
 use Rattle.std.specs.Char.{to_ascii_uppercase}
 use Rattle.std.proofs.lemmas.Bool.{leb-true, lt-ltb, le-leb}
@@ -7,7 +7,7 @@ use Rattle.s7_base.specs.Tokens.{is_between}
 use Rattle.s7_base.specs.declared.place.AreaName.{AreaName}
 use Rattle.s7_base.specs.declared.place.AreaName.TheVariants as area
 use Rattle.s7_base.specs.declared.token.Token.{Token}
-use Rattle.stl_tree.specs.Items.{number_from, number_of, area_of, area_of_letter, area_size, bit_at, is_bit_number, short_operand, long_operand, bit_operand, op_with, statement_op}
+use Rattle.stl_tree.specs.Items.{number_from, number_of, area_of, area_of_letter, area_size, bit_at, is_bit_number, bit_operand, op_with, statement_op}
 use Rattle.stl_tree.specs.Words.{is_word, is_sign, is_word_kind}
 use Rattle.stl_tree.specs.declared.program.BitArg.TheVariants.{At}
 use Rattle.stl_tree.specs.declared.program.Op.{Op}

@@ -1,6 +1,6 @@
 -- What an accepted program is translated to is a tree that a text can have.
-use Rattle.std.proofs.Common.{◌≡◌, ℕ, zero, suc, ◌+◌, ◌<◌, ◌≤◌, ◌^◌, List, [], ◌∷◌, ◌++◌, length, Bool, true, false, ◌&&◌, ◌||◌, if◌then◌else◌, Option, Some, None, Result, Ok, Err, refl, sym, ap, subst, ◌∙◌, arith}
-use Rattle.std.specs.Prelude.{IfSome, IfOk, All, codes, decimal, flat_map, nat_lt, ◌==◌, take, drop, option_and_then, pos}
+use Rattle.std.proofs.Common.{◌≡◌, ℕ, ◌<◌, ◌≤◌, List, [], ◌∷◌, length, Bool, true, false, ◌&&◌, ◌||◌, if◌then◌else◌, Option, Some, None, Result, Ok, Err, refl, sym, ap, subst, ◌∙◌, arith}
+use Rattle.std.specs.Prelude.{IfSome, All, decimal, flat_map, nat_lt, ◌==◌, drop, option_and_then}
 use Rattle.std.specs.List.{list_all}
 use Rattle.std.proofs.lemmas.Bool.{lt-ltb}
 use Rattle.std.proofs.lemmas.List.Elements.{All-head, All-tail}
@@ -14,7 +14,7 @@ use Rattle.s7_base.specs.declared.register.Reg.TheVariants.{Rlo, Nfc}
 use Rattle.s7_base.specs.declared.token.Token.{Token}
 use Rattle.stl_tree.proofs.GrammarLaws.{agree}
 use Rattle.stl_tree.specs.Grammar.{IsName, apart, together, IsText, block}
-use Rattle.stl_tree.specs.Items.{number_of, block_number}
+use Rattle.stl_tree.specs.Items.{number_of}
 use Rattle.stl_tree.specs.Verdict.{judged, verdict}
 use Rattle.stl_tree.specs.declared.program.BitArg.TheVariants.{At}
 use Rattle.stl_tree.specs.declared.program.Block.{Block}
@@ -28,21 +28,20 @@ use Rattle.stl_tree.specs.declared.program.Program.{Program}
 use Rattle.st_tree.proofs.CanonEquations.{canon_equations}
 use Rattle.st_tree.proofs.DigitCuts.{decimal_digits}
 use Rattle.st_tree.proofs.TokenCuts.{and_both}
-use Rattle.st_tree.specs.Proper.{Proper, are_proper_units, is_proper_unit, is_proper_stmt, is_proper_expr, is_proper_var, is_proper_literal, proper_step}
+use Rattle.st_tree.specs.Proper.{Proper, is_proper_unit, is_proper_stmt, is_proper_expr, is_proper_var, proper_step}
 use Rattle.st_tree.specs.StTokens.{is_digit}
 use Rattle.st_tree.specs.StWords.{is_name, may_name_unit, is_block_word}
 use Rattle.st_tree.specs.declared.expr.BinaryOp.{BinaryOp}
-use Rattle.st_tree.specs.declared.expr.Expr.{Expr, fold-Expr, fold-roll-Expr}
+use Rattle.st_tree.specs.declared.expr.Expr.{Expr, fold-roll-Expr}
 use Rattle.st_tree.specs.declared.expr.Expr.TheOpen as E
 use Rattle.st_tree.specs.declared.expr.Expr.TheVariants as expr
-use Rattle.st_tree.specs.declared.expr.StType.{StType}
 use Rattle.st_tree.specs.declared.expr.UnaryOp.{UnaryOp}
 use Rattle.st_tree.specs.declared.expr.Var.{Var}
 use Rattle.st_tree.specs.declared.program.Stmt.{Stmt}
 use Rattle.st_tree.specs.declared.program.Stmt.TheVariants as stmt
 use Rattle.stl2st.proofs.EachInstruction.{each_instruction}
 use Rattle.stl2st.proofs.ProperOperands.{IsProperOp, IsProperOperand, statement_proper, number_most}
-use Rattle.stl2st.specs.Translation.{translation, unit_of, statements_of, next_rlo, set_of, literal_of, bit_of, read_of, not_of, and_of, or_of}
+use Rattle.stl2st.specs.Translation.{translation, unit_of, statements_of, next_rlo, set_of, literal_of, bit_of, read_of}
 
 both : {a b : Bool} → a ≡ true → b ≡ true → (a && b) ≡ true
 both {a = true} p q = q

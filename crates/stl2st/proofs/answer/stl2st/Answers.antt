@@ -1,6 +1,5 @@
-use Rattle.std.proofs.Common.{◌≡◌, ap, sym, subst, List, ℕ, Err}
+use Rattle.std.proofs.Common.{sym, subst}
 use Rattle.std.specs.Prelude.{Option, Some, None}
-use Rattle.s7_io.specs.Faults.{Rose}
 use Rattle.stl2st.specs.Answer.{Writes, usage_line}
 use Rattle.stl2st.specs.declared.command.Command.{Command}
 use Rattle.stl2st.specs.declared.command.Command.TheVariants.{Translate}

@@ -1,6 +1,6 @@
-use Rattle.std.proofs.Common.{◌≡◌, ◌∙◌, ap, Err}
-use Rattle.std.specs.Prelude.{Some, None}
-use Rattle.stl2st.specs.Answer.{Ends, too_long_line}
+use Rattle.std.proofs.Common.{ap, Err}
+use Rattle.std.specs.Prelude.{Some}
+use Rattle.stl2st.specs.Answer.{too_long_line}
 use Rattle.stl2st.specs.declared.command.Command.TheVariants.{Translate}
 use Rattle.stl2st.specs.declared.status.Status.TheVariants.{TooLong}
 use Rattle.stl2st.proofs.Answering.{wrote, within_limit, above_limit}

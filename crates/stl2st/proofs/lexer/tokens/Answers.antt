@@ -1,6 +1,5 @@
-use Rattle.std.proofs.Common.{rules, ◌≡◌, List, [], ◌∷◌, length, Option, Some, None, refl, ap, sym, ◌∙◌, arith}
-use Rattle.std.specs.Prelude.{option_map}
-use Rattle.s7_base.specs.Tokens.{tokens_of, piece_at, piece_size}
+use Rattle.std.proofs.Common.{rules, ◌≡◌, Some, sym}
+use Rattle.s7_base.specs.Tokens.{tokens_of, piece_at}
 use Rattle.stl2st.specs.Pieces.{view}
 use Rattle.stl2st.proofs.Cuts.{at_end, at_bad_token, after_piece}
 use Rattle.stl2st.proofs.lexer.tokens.Goals as goal
