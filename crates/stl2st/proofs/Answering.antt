@@ -111,6 +111,7 @@ translates bytes program text accepted e =
     let known = known_of bytes program accepted in
     record {
       tree = translation program;
+      proper = proper bytes program accepted;
       spelled = sym e;
       reads_back = subst P e (rereads (translation program) (proper bytes program accepted));
       same = same_all program known.can known.formed;

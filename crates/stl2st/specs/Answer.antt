@@ -9,6 +9,7 @@ use Rattle.s7_io.specs.Sink.{Took, TookFewer}
 use Rattle.s7_io.specs.Source.{GaveAll, GaveExactly, GaveAtMost}
 use Rattle.stl_tree.specs.Verdict.{verdict}
 use Rattle.stl_tree.specs.declared.program.Program.{Program}
+use Rattle.st_tree.specs.Proper.{Proper}
 use Rattle.st_tree.specs.Reading.{HasTree}
 use Rattle.st_tree.specs.Spelling.{spelling}
 use Rattle.st_tree.specs.declared.program.StProgram.{StProgram}
@@ -60,10 +61,12 @@ Writes command left before after NoMemory = after ≡ before
 Writes command left before after WriteFault = (status : Status) × (text : List ℕ) × IsAnswer command left status text × TookFewer before after text
 Writes command left before after status = (text : List ℕ) × IsAnswer command left status text × Took before after text
 
--- the text that a program is translated to: the canonical spelling of a tree, which it reads back as
+-- the text that a program is translated to: the canonical spelling of a proper tree, which it reads back
+-- as, and which means the same
 -- and which means the same as the program
 pub record Translates (program : Program) (text : List ℕ) : Type 0 where
   pub tree : StProgram
+  pub proper : Proper tree
   pub spelled : text ≡ spelling tree
   pub reads_back : HasTree text tree
   pub same : Same program tree

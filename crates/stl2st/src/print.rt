@@ -1,6 +1,8 @@
 //! The canonical text of a tree, written piece by piece behind what stands there already.
-ghost use Rattle.std.specs.Prelude.{◌≡◌, ◌++◌, decimal, IfOk, OnOk};
+ghost use Rattle.std.specs.Prelude.{◌≡◌, ◌++◌, decimal, flat_map, IfOk, OnOk};
 ghost use Rattle.st_tree.specs.Form.{level, wrap, canon, prefix_level, infix_level};
+ghost use Rattle.st_tree.specs.Proper.{Proper};
+ghost use Rattle.st_tree.specs.Reading.{HasTree};
 ghost use Rattle.st_tree.specs.Spelling.{register_word, area_word, width_word, bit_text, var_text, literal_text, prefix_word, infix_word, written, statement_line, unit_text, spelling};
 
 use itoa::Buffer;
@@ -10,13 +12,21 @@ use std::alloc::Global;
 
 /// The bytes of the whole text.
 pub fn print(alloc: Global, tree: &StProgram) -> Result<Vec<u8>, NoMemory>
-    ensures { IfOk result (λ text. text.items ≡ spelling tree.now) }
+    ensures text { IfOk result (λ text. text.items ≡ spelling tree.now) }
+    ensures reads_back { IfOk result (λ text. Proper tree.now → HasTree text.items tree.now) }
 {
     let mut out = Vec::new(alloc);
-    for unit in tree.pous.as_slice() {
-        put_unit(&mut out, unit)?;
-    }
+    put_units(&mut out, tree.pous.as_slice())?;
     Ok(out)
+}
+
+fn put_units(out: &mut Vec<u8>, units: &[Pou]) -> Result<(), NoMemory>
+    ensures { OnOk result (out.new.items ≡ out.old.items ++ flat_map unit_text units.now) }
+{
+    for unit in units {
+        put_unit(out, unit)?;
+    }
+    Ok(())
 }
 
 fn put_unit(out: &mut Vec<u8>, unit: &Pou) -> Result<(), NoMemory>
