@@ -23,6 +23,15 @@ pub record IsValid (areas : Areas) : Type 0 where
   pub outputs : IsArea OUTPUT_BYTES areas.outputs
   pub markers : IsArea MARKER_BYTES areas.markers
 
+-- how many bytes of an area an operand may name; nothing that is built names local data or a data block
+abbrev pub area_bytes : AreaName → ℕ
+area_bytes area.I = INPUT_BYTES
+area_bytes area.Q = OUTPUT_BYTES
+area_bytes area.M = MARKER_BYTES
+area_bytes area.L = 0
+area_bytes area.Db = 0
+area_bytes area.Di = 0
+
 -- the bytes of an area by its name; nothing that is built has local data or a data block
 abbrev pub bytes_of : AreaName → Areas → List ℕ
 bytes_of area.I areas = areas.inputs

@@ -24,6 +24,14 @@ is_blank b = b == 32 || b == 9 || b == 13
 abbrev pub is_word_byte : ℕ → Bool
 is_word_byte b = is_between 48 57 b || is_between 65 90 b || is_between 97 122 b || b == 95
 
+-- two words are the same, in any case
+abbrev pub is_same_word : List ℕ → List ℕ → Bool
+is_same_word word entry = str_eq_ignore_ascii_case word entry
+
+-- a word is one of a table, in any case
+abbrev pub is_among : List (List ℕ) → List ℕ → Bool
+is_among table word = list_any (λ entry. is_same_word word entry) table
+
 -- a sign of one character
 abbrev pub is_sign : ℕ → Bool
 is_sign b = list_any (λ sign. sign == b) (codes ":;,.()[]=+-*/<>#")

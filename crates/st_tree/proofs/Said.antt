@@ -7,7 +7,7 @@ use Rattle.std.specs.List.{list_all, prefix_len}
 use Rattle.std.proofs.lemmas.List.{map-append}
 use Rattle.std.proofs.lemmas.List.Folds.{list_all-append}
 use Rattle.std.proofs.lemmas.Bool.{and_from}
-use Rattle.s7_base.specs.Tokens.{is_word_byte, begins_with, line_size}
+use Rattle.s7_base.specs.Tokens.{is_word_byte, begins_with, line_size, is_same_word}
 use Rattle.s7_base.specs.declared.place.AreaName.{AreaName}
 use Rattle.s7_base.specs.declared.reason.Rejection.{Rejection}
 use Rattle.s7_base.specs.declared.word.Width.TheVariants.{Bit}
@@ -15,7 +15,7 @@ use Rattle.st_tree.proofs.TokenCuts.{and_both}
 use Rattle.st_tree.specs.Proper.{is_built_register, is_bit, is_proper_literal}
 use Rattle.st_tree.specs.StKinds.{Kind, name, constant, place, misfit, kind_in, word_rows, sign_rows, word_kind, direct_kind, text_kind, kind_of, kinds_of}
 use Rattle.st_tree.specs.StTokens.{is_blank, is_letter, is_sign, Piece, gap, token, comment_size, sign_piece, mark_piece, direct_piece, piece_at, piece_size, number_of, bit_with, bit_behind, bit_in, area_of, direct_at, token_of, line_behind, prepend_tokens, with_piece, tokens_from, tokens_of}
-use Rattle.st_tree.specs.StWords.{is_same_word, is_block_word, is_name}
+use Rattle.st_tree.specs.StWords.{is_block_word, is_name}
 use Rattle.st_tree.specs.declared.expr.Var.{Var}
 use Rattle.st_tree.specs.declared.expr.Var.TheVariants.{Register, Direct}
 use Rattle.st_tree.specs.declared.token.StKind.TheVariants as sort

@@ -6,7 +6,7 @@ use Rattle.std.specs.Ordering.{int_eq}
 use Rattle.std.proofs.lemmas.Bool.{ltb-true}
 use Rattle.std.proofs.lemmas.Bool.Decides.{nat_tests, Decides-int_eq}
 use Rattle.std.proofs.lemmas.List.Folds.{list_any-append}
-use Rattle.s7_base.specs.Tokens.{begins_with}
+use Rattle.s7_base.specs.Tokens.{begins_with, is_same_word}
 use Rattle.s7_base.specs.declared.place.TheConstants.{INPUT_BYTES, OUTPUT_BYTES, MARKER_BYTES}
 use Rattle.s7_base.specs.declared.place.AreaName.TheVariants as area
 use Rattle.s7_base.specs.declared.register.Reg.TheVariants as reg
@@ -18,7 +18,7 @@ use Rattle.st_tree.specs.Grammar.{spell}
 use Rattle.st_tree.specs.Proper.{is_proper_var, is_proper_literal}
 use Rattle.st_tree.specs.Spelling.{var_text, literal_text, prefix_word, infix_word, written}
 use Rattle.st_tree.specs.StKinds.{Kind, name, constant, place, before_one, between, assign_sign, semicolon, open_bracket, close_bracket, kind_in, word_rows, word_kind}
-use Rattle.st_tree.specs.StWords.{is_same_word, built_words, other_words, type_words, conversion_words, function_words, register_words, is_block_word, is_reserved, is_name, may_name_unit}
+use Rattle.st_tree.specs.StWords.{built_words, other_words, type_words, conversion_words, function_words, register_words, is_block_word, is_reserved, is_name, may_name_unit}
 use Rattle.st_tree.specs.declared.expr.StType.{StType}
 use Rattle.st_tree.specs.declared.expr.StType.TheVariants as type
 use Rattle.st_tree.specs.declared.expr.UnaryOp.{UnaryOp}

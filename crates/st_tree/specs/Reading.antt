@@ -2,9 +2,7 @@
 -- count, then syntax and depth from the front, then the addresses by line, then that there is a
 -- program.
 use Rattle.std.specs.Prelude.{◌≡◌, ℕ, ◌+◌, ◌≤◌, ◌<◌, Bool, true, ◌&&◌, nat_lt, nat_le, if◌then◌else◌, List, [], ◌∷◌, ◌++◌, length, drop, Ok, Err}
-use Rattle.s7_base.specs.declared.place.TheConstants.{INPUT_BYTES, OUTPUT_BYTES, MARKER_BYTES}
-use Rattle.s7_base.specs.declared.place.AreaName.{AreaName}
-use Rattle.s7_base.specs.declared.place.AreaName.TheVariants as area
+use Rattle.s7_base.specs.Areas.{area_bytes}
 use Rattle.s7_base.specs.declared.reason.Line.{Line}
 use Rattle.s7_base.specs.declared.reason.Reason.{Reason}
 use Rattle.s7_base.specs.declared.reason.Reason.TheVariants as reason
@@ -20,15 +18,6 @@ use Rattle.st_tree.specs.declared.program.StProgram.{StProgram}
 use Rattle.st_tree.specs.declared.token.StToken.{StToken}
 
 -- Addresses
-
--- how many bytes of an area a text may name
-abbrev pub area_bytes : AreaName → ℕ
-area_bytes area.I = INPUT_BYTES
-area_bytes area.Q = OUTPUT_BYTES
-area_bytes area.M = MARKER_BYTES
-area_bytes area.L = 0
-area_bytes area.Db = 0
-area_bytes area.Di = 0
 
 -- a variable lies in its area
 abbrev pub is_placed : Var → Bool

@@ -2,7 +2,8 @@
 use Rattle.std.specs.Prelude.{ℕ, ℤ, pos, if◌then◌else◌, List, [], ◌∷◌, map, codes, Option, Some, None}
 use Rattle.s7_base.specs.declared.register.Reg.TheVariants.{Rlo, Nfc}
 use Rattle.st_tree.specs.StTokens.{direct_at}
-use Rattle.st_tree.specs.StWords.{is_same_word, is_block_word}
+use Rattle.s7_base.specs.Tokens.{is_same_word}
+use Rattle.st_tree.specs.StWords.{is_block_word}
 use Rattle.st_tree.specs.declared.expr.StType.{StType}
 use Rattle.st_tree.specs.declared.expr.StType.TheVariants.{Bool}
 use Rattle.st_tree.specs.declared.expr.UnaryOp.{UnaryOp}

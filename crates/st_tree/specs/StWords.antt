@@ -1,17 +1,8 @@
 -- The words of the language that are no names of one's own.
 use Rattle.std.specs.Prelude.{ℕ, Bool, false, not, ◌&&◌, ◌||◌, nat_lt, List, [], ◌∷◌, ◌++◌, length, take, drop, codes}
-use Rattle.std.specs.List.{list_any, list_all}
-use Rattle.std.specs.Str.{str_eq_ignore_ascii_case}
-use Rattle.s7_base.specs.Tokens.{is_word_byte}
+use Rattle.std.specs.List.{list_all}
+use Rattle.s7_base.specs.Tokens.{is_word_byte, is_same_word, is_among}
 use Rattle.st_tree.specs.StTokens.{is_digit, is_letter}
-
--- two words are the same, in any case
-abbrev pub is_same_word : List ℕ → List ℕ → Bool
-is_same_word word entry = str_eq_ignore_ascii_case word entry
-
--- a word is one of these
-abbrev pub is_among : List (List ℕ) → List ℕ → Bool
-is_among table word = list_any (λ entry. is_same_word word entry) table
 
 -- the words that the forms built so far have at places of their own, and the variables
 abbrev pub built_words : List (List ℕ)

@@ -3,11 +3,12 @@ use Rattle.std.proofs.Common.{◌≡◌, ℕ, ◌+◌, ◌-◌, ◌*◌, ◌<◌
 use Rattle.std.specs.Prelude.{IfSome, codes, nat_le, nat_lt, ◌==◌, option_and_then}
 use Rattle.std.specs.Char.{to_ascii_uppercase}
 use Rattle.std.proofs.lemmas.Bool.{leb-true, lt-ltb, le-leb}
+use Rattle.s7_base.specs.Areas.{area_bytes}
 use Rattle.s7_base.specs.Tokens.{is_between}
 use Rattle.s7_base.specs.declared.place.AreaName.{AreaName}
 use Rattle.s7_base.specs.declared.place.AreaName.TheVariants as area
 use Rattle.s7_base.specs.declared.token.Token.{Token}
-use Rattle.stl_tree.specs.Items.{number_from, number_of, area_of, area_of_letter, area_size, bit_at, is_bit_number, bit_operand, op_with, statement_op}
+use Rattle.stl_tree.specs.Items.{number_from, number_of, area_of, area_of_letter, bit_at, is_bit_number, bit_operand, op_with, statement_op}
 use Rattle.stl_tree.specs.Words.{is_word, is_sign, is_word_kind}
 use Rattle.stl_tree.specs.declared.program.BitArg.TheVariants.{At}
 use Rattle.stl_tree.specs.declared.program.Op.{Op}
@@ -15,7 +16,6 @@ use Rattle.stl_tree.specs.declared.program.Op.TheVariants as op
 use Rattle.stl_tree.specs.declared.program.Operand.{Operand}
 use Rattle.stl_tree.specs.declared.program.Operand.TheVariants.{Direct}
 use Rattle.st_tree.specs.Proper.{is_proper_var}
-use Rattle.st_tree.specs.Reading.{area_bytes}
 use Rattle.stl2st.specs.Translation.{bit_of, IsTranslatableOp}
 
 -- a number that is read is at most the greatest
@@ -43,7 +43,7 @@ number_most most (digit ∷ rest) = number_from_most most 0 (digit ∷ rest) (om
 -- the areas that a letter names
 
 abbrev IsBitArea : AreaName → Type 0
-IsBitArea name = (area_size name ≡ area_bytes name) × (0 < area_bytes name)
+IsBitArea name = 0 < area_bytes name
 
 abbrev BitArea : Option AreaName → Type 0
 BitArea o = IfSome o IsBitArea
@@ -54,9 +54,9 @@ choose_area false x y p q = q
 
 letter_area : (letter : ℕ) → BitArea (area_of_letter letter)
 letter_area letter =
-    choose_area (letter == 73) (Some area.I) _ (refl, omega arith)
-    (choose_area (letter == 81) (Some area.Q) _ (refl, omega arith)
-    (choose_area (letter == 77) (Some area.M) None (refl, omega arith) tt))
+    choose_area (letter == 73) (Some area.I) _ (omega arith)
+    (choose_area (letter == 81) (Some area.Q) _ (omega arith)
+    (choose_area (letter == 77) (Some area.M) None (omega arith) tt))
 
 word_area : (word : List ℕ) → BitArea (area_of word)
 word_area [] = tt
@@ -75,22 +75,22 @@ both_true true true p q = refl
 both_true true false p q = q
 both_true false b p q = p
 
-placed : (name : AreaName) (byte bit : ℕ) → IsBitArea name → byte ≤ area_size name - 1 → bit ≤ 7 → IsProperOperand (Direct name byte bit)
-placed name byte bit h y x = both_true (nat_lt byte (area_bytes name)) (nat_le bit 7) (lt-ltb byte (area_bytes name) (omega (arith, h.0, h.1))) (le-leb bit 7 x)
+placed : (name : AreaName) (byte bit : ℕ) → IsBitArea name → byte ≤ area_bytes name - 1 → bit ≤ 7 → IsProperOperand (Direct name byte bit)
+placed name byte bit h y x = both_true (nat_lt byte (area_bytes name)) (nat_le bit 7) (lt-ltb byte (area_bytes name) (omega arith)) (le-leb bit 7 x)
 
-at_bit : (name : AreaName) (byte : ℕ) (bit : Option ℕ) → IsBitArea name → byte ≤ area_size name - 1 → AtMost 7 bit →
+at_bit : (name : AreaName) (byte : ℕ) (bit : Option ℕ) → IsBitArea name → byte ≤ area_bytes name - 1 → AtMost 7 bit →
     ProperOperand (option_and_then (λ x. Some (Direct name byte x)) bit)
 at_bit name byte None h y x = tt
 at_bit name byte (Some bit) h y x = placed name byte bit h y x
 
-at_byte : (name : AreaName) (byte bit : Option ℕ) → IsBitArea name → AtMost (area_size name - 1) byte → AtMost 7 bit →
+at_byte : (name : AreaName) (byte bit : Option ℕ) → IsBitArea name → AtMost (area_bytes name - 1) byte → AtMost 7 bit →
     ProperOperand (option_and_then (λ y. option_and_then (λ x. Some (Direct name y x)) bit) byte)
 at_byte name None bit h y x = tt
 at_byte name (Some byte) bit h y x = at_bit name byte bit h y x
 
 bit_proper : (name : Option AreaName) (byte bit : List ℕ) → BitArea name → ProperOperand (bit_at name byte bit)
 bit_proper None byte bit h = tt
-bit_proper (Some name) byte bit h = at_byte name (number_of (area_size name - 1) byte) (number_of 7 bit) h (number_most (area_size name - 1) byte) (number_most 7 bit)
+bit_proper (Some name) byte bit h = at_byte name (number_of (area_bytes name - 1) byte) (number_of 7 bit) h (number_most (area_bytes name - 1) byte) (number_most 7 bit)
 
 choose_operand : (b : Bool) (x y : Option Operand) → ProperOperand x → ProperOperand y → ProperOperand (if b then x else y)
 choose_operand true x y p q = p

@@ -1,7 +1,8 @@
 //! Reads the operand of a bit instruction.
 ghost use Rattle.std.specs.Prelude.{◌≡◌, ◌&&◌, ◌+◌, ◌*◌, ◌-◌, ◌<◌, ◌≤◌, nat_le, IfSome};
 ghost use Rattle.s7_base.specs.Tokens.{is_between};
-ghost use Rattle.stl_tree.specs.Items.{number_of, area_of, area_of_letter, area_size, bit_at, is_bit_number, short_operand, long_operand, bit_operand};
+ghost use Rattle.s7_base.specs.Areas.{area_bytes};
+ghost use Rattle.stl_tree.specs.Items.{number_of, area_of, area_of_letter, bit_at, is_bit_number, short_operand, long_operand, bit_operand};
 
 use crate::words::{is_sign, is_word_kind};
 use s7_base::{AreaName, INPUT_BYTES, MARKER_BYTES, OUTPUT_BYTES, Token};
@@ -52,15 +53,14 @@ fn area_of(word: &[u8]) -> Option<AreaName>
     }
 }
 
-fn area_size(area: AreaName) -> u32
-    ensures { result ≡ area_size area }
+fn area_bytes(area: AreaName) -> u32
+    ensures { result ≡ area_bytes area }
 {
     match area {
         AreaName::I => INPUT_BYTES,
         AreaName::Q => OUTPUT_BYTES,
         AreaName::M => MARKER_BYTES,
-        AreaName::L => 256,
-        AreaName::Db | AreaName::Di => 0,
+        AreaName::L | AreaName::Db | AreaName::Di => 0,
     }
 }
 
@@ -69,7 +69,7 @@ fn bit_at(area: Option<AreaName>, byte: &[u8], bit: &[u8]) -> Option<Operand>
     ensures { result ≡ bit_at area byte.now bit.now }
 {
     let area = area?;
-    let byte = number_of(area_size(area).saturating_sub(1), byte)?;
+    let byte = number_of(area_bytes(area).saturating_sub(1), byte)?;
     let bit = number_of(7, bit)?;
     Some(Operand::Direct(area, byte, bit as u8))
 }

@@ -2,7 +2,7 @@
 ghost use Rattle.std.specs.Prelude.{◌≡◌};
 ghost use Rattle.std.specs.List.{list_any};
 ghost use Rattle.std.specs.Str.{str_eq_ignore_ascii_case};
-ghost use Rattle.stl_tree.specs.Words.{is_among, mnemonics, block_words, is_word_kind, is_word, is_sign, is_word_among, sign_mnemonics, typed_signs, type_letters, is_sign_among};
+ghost use Rattle.stl_tree.specs.Words.{mnemonics, block_words, is_word_kind, is_word, is_sign, is_word_among, sign_mnemonics, typed_signs, type_letters, is_sign_among};
 
 use s7_base::{Token, TokenKind};
 

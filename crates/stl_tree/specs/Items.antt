@@ -5,8 +5,8 @@ use Rattle.std.specs.Option.{ok_or}
 use Rattle.std.specs.Str.{str_eq_ignore_ascii_case}
 use Rattle.std.specs.Char.{to_ascii_uppercase}
 use Rattle.std.specs.List.{prefix_len}
+use Rattle.s7_base.specs.Areas.{area_bytes}
 use Rattle.s7_base.specs.Tokens.{is_between}
-use Rattle.s7_base.specs.declared.place.TheConstants.{INPUT_BYTES, OUTPUT_BYTES, MARKER_BYTES}
 use Rattle.s7_base.specs.declared.place.AreaName.{AreaName}
 use Rattle.s7_base.specs.declared.place.AreaName.TheVariants as area
 use Rattle.s7_base.specs.declared.check.Check.TheVariants as check
@@ -48,20 +48,11 @@ area_of [] = None
 area_of (letter ∷ []) = area_of_letter (to_ascii_uppercase letter)
 area_of (letter ∷ more ∷ rest) = None
 
--- how many bytes an area has
-abbrev pub area_size : AreaName → ℕ
-area_size area.I = INPUT_BYTES
-area_size area.Q = OUTPUT_BYTES
-area_size area.M = MARKER_BYTES
-area_size area.L = 256
-area_size area.Db = 0
-area_size area.Di = 0
-
 -- a bit by its area, its byte and its number, the byte within the area
 abbrev pub bit_at : Option AreaName → List ℕ → List ℕ → Option Operand
 bit_at None byte bit = None
 bit_at (Some name) byte bit =
-    option_and_then (λ y. option_and_then (λ x. Some (Direct name y x)) (number_of 7 bit)) (number_of (area_size name - 1) byte)
+    option_and_then (λ y. option_and_then (λ x. Some (Direct name y x)) (number_of 7 bit)) (number_of (area_bytes name - 1) byte)
 
 -- a point and a number with no blank before either
 abbrev pub is_bit_number : Token → Token → Bool

@@ -1,15 +1,10 @@
 -- The words of the language: the mnemonics of instructions, and the words with which headings,
 -- sections and ends of blocks begin.
 use Rattle.std.specs.Prelude.{ℕ, Bool, true, false, ◌&&◌, List, [], ◌∷◌, ◌++◌, codes}
-use Rattle.std.specs.List.{list_any}
-use Rattle.std.specs.Str.{str_eq_ignore_ascii_case}
+use Rattle.s7_base.specs.Tokens.{is_among, is_same_word}
 use Rattle.s7_base.specs.declared.token.Token.{Token}
 use Rattle.s7_base.specs.declared.token.TokenKind.{TokenKind}
 use Rattle.s7_base.specs.declared.token.TokenKind.TheVariants.{Word, Quoted, Text, Sign}
-
--- a word is one of these, in any case
-abbrev pub is_among : List (List ℕ) → List ℕ → Bool
-is_among table word = list_any (λ entry. str_eq_ignore_ascii_case word entry) table
 
 abbrev pub bit_mnemonics : List (List ℕ)
 bit_mnemonics =
@@ -87,8 +82,8 @@ is_sign_among table token = is_sign_kind token.kind && is_among table token.text
 
 -- the token is this word, in any case
 abbrev pub is_word : List ℕ → Token → Bool
-is_word word token = is_word_kind token.kind && str_eq_ignore_ascii_case token.text word
+is_word word token = is_word_kind token.kind && is_same_word token.text word
 
 -- the token is this sign
 abbrev pub is_sign : List ℕ → Token → Bool
-is_sign sign token = is_sign_kind token.kind && str_eq_ignore_ascii_case token.text sign
+is_sign sign token = is_sign_kind token.kind && is_same_word token.text sign

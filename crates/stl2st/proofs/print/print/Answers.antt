@@ -1,4 +1,4 @@
-use Rattle.std.proofs.Common.{rules, ◌≡◌, ◌++◌, ℕ, List, sym, subst}
+use Rattle.std.proofs.Common.{rules, ◌≡◌, ℕ, List, sym, subst}
 use Rattle.st_tree.proofs.Rereads.{rereads}
 use Rattle.st_tree.specs.Reading.{HasTree}
 use Rattle.st_tree.specs.Spelling.{spelling}
