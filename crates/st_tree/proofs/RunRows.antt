@@ -49,6 +49,15 @@ assigns : st_run (text_of (stmt.Assign (output 4) (expr.Binary binary.And (input
 unfolding digits
 assigns = simp opened
 
+-- the truth tables of AND and OR
+conjunctions : st_run (text_of (stmt.Assign (output 0) (expr.Binary binary.And (input 0) (input 1)) ∷ stmt.Assign (output 1) (expr.Binary binary.And (input 1) (input 2)) ∷ stmt.Assign (output 2) (expr.Binary binary.And (input 2) (input 3)) ∷ [])) (call_of (Ob 1)) (memory_of 3 6) 0 ≡ Ended (memory_of 3 1) None
+unfolding digits
+conjunctions = simp opened
+
+disjunctions : st_run (text_of (stmt.Assign (output 0) (expr.Binary binary.Or (input 0) (input 1)) ∷ stmt.Assign (output 1) (expr.Binary binary.Or (input 1) (input 2)) ∷ stmt.Assign (output 2) (expr.Binary binary.Or (input 2) (input 3)) ∷ [])) (call_of (Ob 1)) (memory_of 3 4) 0 ≡ Ended (memory_of 3 3) None
+unfolding digits
+disjunctions = simp opened
+
 -- registers are zero at the start, and keep what they are given
 registers : st_run (text_of (stmt.Assign (output 0) rlo ∷ stmt.Assign (var.Register reg.Rlo) (expr.Unary unary.Not rlo) ∷ stmt.Assign (output 1) rlo ∷ [])) (call_of (Ob 1)) (memory_of 0 1) 5 ≡ Ended (memory_of 0 2) None
 unfolding digits
