@@ -1,4 +1,3 @@
-pub mod AreaLaws
 pub mod Sets
 pub mod TokenLaws
 mod TokenRows

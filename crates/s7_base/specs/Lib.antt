@@ -1,5 +1,3 @@
-pub mod Areas
-pub mod End
 pub mod Reason
 pub mod RegSet
 pub mod TokenGrammar

@@ -1,8 +1,8 @@
 //! What every crate of the translator speaks of: lines and refusals, faults and outcomes, registers
-//! and sets of them, places in memory, tokens, lists, and the parts of a word.
+//! and sets of them, tokens, lists, and the parts of a word.
 //!
 //! Stands on nothing but std. `specs/` has the definitions that several crates cite: what a set of
-//! registers holds, what a memory is seen as, and what the tokens of a source text are.
+//! registers holds, what the name of a reason is, and what the tokens of a source text are.
 #![tactic(auto)]
 
 pub use boxed::Boxed;
@@ -10,7 +10,6 @@ pub use check::{Check, Entry};
 pub use list::List;
 pub use memory::NoMemory;
 pub use outcome::{Fault, Outcome};
-pub use place::{Area, AreaName, INPUT_BYTES, MARKER_BYTES, OUTPUT_BYTES, Place};
 pub use reason::{Kind, Line, Reason, Rejection};
 pub use register::{Reg, RegSet};
 pub use token::{Token, TokenKind};
@@ -22,7 +21,6 @@ mod check;
 mod list;
 mod memory;
 mod outcome;
-mod place;
 mod reason;
 mod register;
 #[cfg(test)]

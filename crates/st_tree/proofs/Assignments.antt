@@ -1,6 +1,6 @@
 -- What an assignment does before other statements, by what its parts give.
 use Rattle.std.proofs.Common.{◌≡◌, ℕ, List, ◌∷◌, Ok, Err, ap, ◌∙◌}
-use Rattle.s7_base.specs.Areas.{and_then}
+use Rattle.memory_areas.specs.Access.{and_then}
 use Rattle.s7_base.specs.declared.outcome.Fault.{Fault}
 use Rattle.st_tree.specs.Value.{Value, State, value, write}
 use Rattle.st_tree.specs.Meaning.{Faults, then_do, changed, body_meaning}

@@ -1,7 +1,7 @@
 -- What is refused, held against worked rows.
 use Rattle.std.proofs.Common.{ℕ, ◌+◌, List, [], ◌∷◌, ◌++◌, take, drop, Result, Ok, Err, refl, arith}
 use Rattle.std.specs.Prelude.{pos, codes, replicate}
-use Rattle.s7_base.specs.declared.place.AreaName.TheVariants as area
+use Rattle.memory_areas.specs.declared.place.AreaName.TheVariants as area
 use Rattle.s7_base.specs.declared.reason.Line.{Line}
 use Rattle.s7_base.specs.declared.reason.Reason.TheVariants as reason
 use Rattle.s7_base.specs.declared.reason.Rejection.{Rejection}

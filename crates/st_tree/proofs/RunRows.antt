@@ -2,10 +2,10 @@
 use Rattle.std.proofs.Common.{◌≡◌, refl, ℕ, List, [], ◌∷◌, pos, Some, None}
 use Rattle.std.specs.Prelude.{codes}
 use Rattle.std.specs.Fmt.{digits}
-use Rattle.s7_base.specs.Areas.{Areas}
-use Rattle.s7_base.specs.End.{Ended, Going}
+use Rattle.memory_areas.specs.Areas.{Areas}
+use Rattle.memory_areas.specs.End.{Ended, Going}
 use Rattle.s7_base.specs.declared.outcome.Fault.TheVariants.{AreaLength, DbNotOpen}
-use Rattle.s7_base.specs.declared.place.AreaName.TheVariants as area
+use Rattle.memory_areas.specs.declared.place.AreaName.TheVariants as area
 use Rattle.s7_base.specs.declared.register.Reg.TheVariants as reg
 use Rattle.s7_base.specs.declared.word.Width.TheVariants as width
 use Rattle.stl_tree.specs.declared.program.BlockName.{BlockName}
@@ -33,7 +33,7 @@ call_of name = record { block = name; instance = 0; actuals = [] }
 
 -- one byte of inputs, one of outputs and no bit memory
 abbrev memory_of : ℕ → ℕ → Areas
-memory_of input output = record { inputs = input ∷ []; outputs = output ∷ []; markers = [] }
+memory_of input output = record { inputs = input ∷ []; outputs = output ∷ []; markers = []; blocks = [] }
 
 abbrev input : ℕ → Expr
 input bit = expr.Read (var.Direct area.I 0 bit width.Bit)

@@ -8,7 +8,7 @@ use Rattle.std.proofs.lemmas.List.{map-append}
 use Rattle.std.proofs.lemmas.List.Folds.{list_all-append}
 use Rattle.std.proofs.lemmas.Bool.{and_from}
 use Rattle.s7_base.specs.Tokens.{is_word_byte, begins_with, line_size, is_same_word}
-use Rattle.s7_base.specs.declared.place.AreaName.{AreaName}
+use Rattle.memory_areas.specs.declared.place.AreaName.{AreaName}
 use Rattle.s7_base.specs.declared.reason.Rejection.{Rejection}
 use Rattle.s7_base.specs.declared.word.Width.TheVariants.{Bit}
 use Rattle.st_tree.proofs.TokenCuts.{and_both}

@@ -1,7 +1,7 @@
 -- What the spelling gives for some expressions, by computation: where brackets stand, and each word.
 use Rattle.std.specs.Prelude.{◌≡◌, ℕ, List, pos, codes, refl}
 use Rattle.std.specs.Fmt.{digits}
-use Rattle.s7_base.specs.declared.place.AreaName.TheVariants as area
+use Rattle.memory_areas.specs.declared.place.AreaName.TheVariants as area
 use Rattle.s7_base.specs.declared.register.Reg.TheVariants as reg
 use Rattle.s7_base.specs.declared.word.Width.TheVariants as width
 use Rattle.st_tree.specs.Form.{canon}

@@ -1,7 +1,7 @@
 -- More units never change a run that has ended. The statements that are built take no unit, so what is
 -- seen of them is the same with every number of units.
 use Rattle.std.proofs.Common.{◌≡◌, ℕ, List, [], ◌∷◌, Option, Some, None, Result, Ok, Err, refl, ◌∙◌}
-use Rattle.s7_base.specs.Areas.{Areas}
+use Rattle.memory_areas.specs.Areas.{Areas}
 use Rattle.s7_base.specs.declared.outcome.Fault.{Fault}
 use Rattle.st_tree.specs.Value.{State, state_at_start}
 use Rattle.st_tree.specs.Meaning.{Sem, then_do, changed, assigned, body_meaning}

@@ -1,7 +1,7 @@
 -- What statements do to a state, within a number of units. A unit pays for a turn of a loop or for a
 -- call; the statements that are built take none.
 use Rattle.std.specs.Prelude.{ℕ, List, [], ◌∷◌, map, Result, Ok, Err}
-use Rattle.s7_base.specs.Areas.{and_then}
+use Rattle.memory_areas.specs.Access.{and_then}
 use Rattle.s7_base.specs.declared.outcome.Fault.{Fault}
 use Rattle.st_tree.specs.Value.{State, value, write}
 use Rattle.st_tree.specs.declared.expr.Expr.{Expr}

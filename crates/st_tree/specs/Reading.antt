@@ -2,7 +2,7 @@
 -- count, then syntax and depth from the front, then the addresses by line, then that there is a
 -- program.
 use Rattle.std.specs.Prelude.{◌≡◌, ℕ, ◌+◌, ◌≤◌, ◌<◌, Bool, true, ◌&&◌, nat_lt, nat_le, if◌then◌else◌, List, [], ◌∷◌, ◌++◌, length, drop, Ok, Err}
-use Rattle.s7_base.specs.Areas.{area_bytes}
+use Rattle.memory_areas.specs.Access.{area_bytes}
 use Rattle.s7_base.specs.declared.reason.Line.{Line}
 use Rattle.s7_base.specs.declared.reason.Reason.{Reason}
 use Rattle.s7_base.specs.declared.reason.Reason.TheVariants as reason

@@ -1,8 +1,8 @@
 -- The bytes of a tree: words in capitals, one blank around an operator and `:=`, a statement to a line.
 use Rattle.std.specs.Prelude.{ℕ, ℤ, pos, List, [], ◌++◌, codes, decimal, flat_map, if◌then◌else◌}
 use Rattle.std.specs.Ordering.{int_eq}
-use Rattle.s7_base.specs.declared.place.AreaName.{AreaName}
-use Rattle.s7_base.specs.declared.place.AreaName.TheVariants as area
+use Rattle.memory_areas.specs.declared.place.AreaName.{AreaName}
+use Rattle.memory_areas.specs.declared.place.AreaName.TheVariants as area
 use Rattle.s7_base.specs.declared.register.Reg.{Reg}
 use Rattle.s7_base.specs.declared.register.Reg.TheVariants as reg
 use Rattle.s7_base.specs.declared.word.Width.{Width}

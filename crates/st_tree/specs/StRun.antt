@@ -1,8 +1,8 @@
 -- What a text does when one of its units is called, within a bound on its units of work.
 use Rattle.std.specs.Prelude.{ℕ, Bool, List, ◌++◌, codes, decimal, find, IsSome, Option, Some, None}
 use Rattle.std.specs.Str.{str_eq_ignore_ascii_case}
-use Rattle.s7_base.specs.Areas.{Areas}
-use Rattle.s7_base.specs.End.{End, Ended, Going}
+use Rattle.memory_areas.specs.Areas.{Areas}
+use Rattle.memory_areas.specs.End.{End, Ended, Going}
 use Rattle.stl_tree.specs.declared.program.BlockName.{BlockName}
 use Rattle.stl_tree.specs.declared.program.BlockName.TheVariants as name
 use Rattle.stl_tree.specs.declared.program.Call.{Call}
@@ -39,8 +39,8 @@ pub record FitsSt (tree : StProgram) (call : Call) : Type 0 where
 
 -- what can be seen of statements that ended so
 abbrev pub end_seen : Out → End
-end_seen (Normal units s) = Ended s.memory None
-end_seen (Faults f s) = Ended s.memory (Some f)
+end_seen (Normal units s) = Ended s.memory.areas None
+end_seen (Faults f s) = Ended s.memory.areas (Some f)
 end_seen (NoUnits s) = Going
 
 -- the run of a unit; a unit that is not there goes on for ever

@@ -1,12 +1,15 @@
 -- What expressions are worth: values with their types, read from registers and memory.
 use Rattle.std.specs.Prelude.{ℕ, ◌-◌, ◌^◌, ℤ, pos, Bool, true, false, not, ◌==◌, if◌then◌else◌, bit_and, bit_or, unsigned_abs, Result, Ok, Err}
 use Rattle.std.specs.Ordering.{int_eq}
-use Rattle.s7_base.specs.Areas.{Areas, and_then, read_bit, write_bit}
+use Rattle.memory_areas.specs.Access.{and_then, area_named, read_bit, write_bit}
+use Rattle.memory_areas.specs.Areas.{Areas, Contents, with_areas}
 use Rattle.s7_base.specs.RegSet.{place}
 use Rattle.s7_base.specs.declared.outcome.Fault.{Fault}
 use Rattle.s7_base.specs.declared.outcome.Fault.TheVariants.{AreaLength}
-use Rattle.s7_base.specs.declared.place.AreaName.{AreaName}
+use Rattle.memory_areas.specs.declared.place.AreaName.{AreaName}
+use Rattle.memory_areas.specs.declared.place.Place.{Place}
 use Rattle.s7_base.specs.declared.register.Reg.{Reg}
+use Rattle.s7_base.specs.declared.register.Reg.TheVariants.{DbNo, DiNo}
 use Rattle.s7_base.specs.declared.word.Width.{Width}
 use Rattle.s7_base.specs.declared.word.Width.TheVariants as width
 use Rattle.st_tree.specs.declared.expr.StType.{StType}
@@ -52,12 +55,12 @@ is_set v = not (int_eq v.n (pos 0))
 
 -- the memory, and the number that each register variable holds
 pub record State : Type 0 where
-  pub memory : Areas
+  pub memory : Contents
   pub registers : Reg → ℤ
 
--- all registers are zero where a run begins
+-- all registers, the local data and the constant actuals are zero where a run begins
 abbrev pub state_at_start : Areas → State
-state_at_start memory = record { memory = memory; registers = λ r. pos 0 }
+state_at_start areas = record { memory = with_areas areas; registers = λ r. pos 0 }
 
 abbrev pub is_same_register : Reg → Reg → Bool
 is_same_register q r = place q == place r
@@ -70,29 +73,35 @@ with_register r n registers q = if is_same_register q r then n else registers q
 abbrev pub type_of_register : Reg → StType
 type_of_register r = type.Bool
 
+-- the place that a direct variable names, with the open data blocks; the first activation runs, since
+-- calls are not built
+abbrev pub place_of : AreaName → ℕ → ℕ → (Reg → ℤ) → Place
+place_of a byte x registers =
+    record { area = area_named a (unsigned_abs (registers DbNo)) (unsigned_abs (registers DiNo)) 0; byte = byte; bit = x }
+
 -- the value of a place in memory by its width; a place of more than a bit is not built, and lies nowhere
-abbrev pub read_place : Width → AreaName → ℕ → ℕ → Areas → Result Value Fault
-read_place width.Bit a byte x memory = and_then (read_bit a byte x memory) (λ b. Ok (flag b))
-read_place width.Byte a byte x memory = Err AreaLength
-read_place width.Word a byte x memory = Err AreaLength
-read_place width.Dword a byte x memory = Err AreaLength
+abbrev pub read_place : Width → Place → Contents → Result Value Fault
+read_place width.Bit p memory = and_then (read_bit p memory) (λ b. Ok (flag b))
+read_place width.Byte p memory = Err AreaLength
+read_place width.Word p memory = Err AreaLength
+read_place width.Dword p memory = Err AreaLength
 
 -- the memory after a place took a value
-abbrev pub write_place : Width → AreaName → ℕ → ℕ → Value → Areas → Result Areas Fault
-write_place width.Bit a byte x v memory = write_bit a byte x (is_set v) memory
-write_place width.Byte a byte x v memory = Err AreaLength
-write_place width.Word a byte x v memory = Err AreaLength
-write_place width.Dword a byte x v memory = Err AreaLength
+abbrev pub write_place : Width → Place → Value → Contents → Result Contents Fault
+write_place width.Bit p v memory = write_bit p (is_set v) memory
+write_place width.Byte p v memory = Err AreaLength
+write_place width.Word p v memory = Err AreaLength
+write_place width.Dword p v memory = Err AreaLength
 
 -- the value of a variable
 abbrev pub read : Var → State → Result Value Fault
 read (var.Register r) s = Ok (record { ty = type_of_register r; n = s.registers r })
-read (var.Direct a byte x w) s = read_place w a byte x s.memory
+read (var.Direct a byte x w) s = read_place w (place_of a byte x s.registers) s.memory
 
 -- the state after a variable took a value
 abbrev pub write : Var → Value → State → Result State Fault
 write (var.Register r) v s = Ok (record s { registers = with_register r v.n s.registers })
-write (var.Direct a byte x w) v s = and_then (write_place w a byte x v s.memory) (λ memory. Ok (record s { memory = memory }))
+write (var.Direct a byte x w) v s = and_then (write_place w (place_of a byte x s.registers) v s.memory) (λ memory. Ok (record s { memory = memory }))
 
 -- Expressions
 

@@ -1,7 +1,8 @@
 //! Expressions, and the variables that they read.
 ghost use Rattle.std.specs.Prelude.{◌≡◌, IfOk};
 
-use s7_base::{AreaName, Boxed, NoMemory, Reg, Width};
+use memory_areas::AreaName;
+use s7_base::{Boxed, NoMemory, Reg, Width};
 use std::alloc::Global;
 
 /// The type of a value.

@@ -1,6 +1,6 @@
 //! The tree of an ST text, how a tree is spelled, how a text is read, and what it does.
 //!
-//! Stands on `s7_base`, and on `stl_tree` for the call of a block. The types are those that the forms
+//! Stands on `s7_base` and `memory_areas`, and on `stl_tree` for the call of a block. The types are those that the forms
 //! built so far need; a later form adds a variant or a field. `specs/` has the canonical spelling of a
 //! tree; the tokens, grammar and depth of a text, and its reading, which is one tree or one refusal
 //! (`reading_laws`); the value of an expression, the meaning of statements and the run of a unit

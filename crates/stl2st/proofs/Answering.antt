@@ -1,149 +1,169 @@
 -- How the parts of the top call give its clauses.
-use Rattle.std.proofs.Common.{◌≡◌, ℕ, ◌+◌, ◌<◌, ◌≤◌, ◌⊎◌, inl, inr, List, [], length, Bool, true, false, nat_lt, if◌then◌else◌, Option, Some, None, refl, sym, ap, subst, ◌∙◌, Result, Ok, Err, arith, length-append}
-use Rattle.s7_io.specs.Sink.{Took}
-use Rattle.s7_io.specs.Source.{GaveAll, GaveExactly}
+use Rattle.std.proofs.Common.{◌≡◌, ℕ, ◌+◌, ◌<◌, ◌≤◌, inl, inr, List, [], length, Bool, true, false, nat_lt, if◌then◌else◌, Option, Some, None, refl, sym, ap, subst, ◌∙◌, Result, Ok, Err, arith, length-append}
+use Rattle.std.specs.Prelude.{nat_le, is_ok, ◌&&◌}
+use Rattle.std.proofs.lemmas.Bool.{lt-ltb, le-ltb, le-leb}
+use Rattle.s7_base.specs.declared.reason.Line.{Line}
+use Rattle.s7_base.specs.declared.reason.Reason.{Reason}
 use Rattle.s7_base.specs.declared.reason.Rejection.{Rejection}
 use Rattle.s7_base.specs.declared.reason.Rejection.TheVariants as rejection
 use Rattle.stl_tree.specs.Verdict.{verdict}
+use Rattle.image_text.specs.Image.{image_of}
+use Rattle.s7_io.specs.Source.{GaveAll, GaveExactly}
+use Rattle.stl_tree.specs.declared.program.Call.{Call}
 use Rattle.stl_tree.specs.declared.program.Program.{Program}
-use Rattle.st_tree.proofs.Rereads.{rereads}
-use Rattle.st_tree.specs.Reading.{HasTree}
 use Rattle.st_tree.specs.Spelling.{spelling}
-use Rattle.stl2st.proofs.ProperText.{proper}
 use Rattle.stl2st.specs.Translation.{translation}
-use Rattle.stl2st.proofs.Accepted.{accepted as known_of}
-use Rattle.stl2st.proofs.SameAll.{same_all}
-use Rattle.stl2st.specs.Answer.{answer, reply_to, usage_line, too_long_line, AreOf, IsAnswer, IsTranslated, IsWritten, Translates, Writes, Ends}
-use Rattle.stl2st.specs.declared.answer.TheConstants.{INPUT_LIMIT}
+use Rattle.stl2st.specs.Answer.{Reply, AreOf, WantsImage, accepted_line, answer, memory_reply, program_reply, refusal_line, too_long_line, usage_line, verdict_reply}
+use Rattle.stl2st.specs.Inputs.{Input, ReadsImage, ReadsRunImage}
+use Rattle.stl2st.specs.Replies.{Answered, AnsweredFor, HasImage, IsReply, IsWritten, ReadsOwnImage, reply_of}
+use Rattle.stl2st.specs.declared.answer.TheConstants.{INPUT_LIMIT, IMAGE_LIMIT}
 use Rattle.stl2st.specs.declared.command.Command.{Command}
-use Rattle.stl2st.specs.declared.command.Command.TheVariants.{Translate}
+use Rattle.stl2st.specs.declared.command.Command.TheVariants.{Translate, Check, RunStl}
+use Rattle.stl2st.specs.declared.reply.Reply.{Reply as Made}
 use Rattle.stl2st.specs.declared.status.Status.{Status}
 use Rattle.stl2st.specs.declared.status.Status.TheVariants.{Done, Refused, Usage, BadImage, BadCall, Faulted, Going, ReadFault, WriteFault, TooLong, NoMemory}
-use Rattle.stl2st.specs.Command.{Means}
-use Rattle.std.proofs.lemmas.Bool.{lt-ltb, le-ltb}
 
--- a text that was written whole
-whole : (command : Option Command) (left before after : Option (List ℕ)) (status : Status) (text : List ℕ) →
-    IsWritten status → IsAnswer command left status text → Took before after text → Writes command left before after status
-whole command left before after Done text w a t = (text, a, t)
-whole command left before after Refused text w a t = (text, a, t)
-whole command left before after Usage text w a t = (text, a, t)
-whole command left before after BadImage text w a t = (text, a, t)
-whole command left before after BadCall text w a t = (text, a, t)
-whole command left before after Faulted text w a t = (text, a, t)
-whole command left before after Going text w a t = (text, a, t)
-whole command left before after ReadFault text w a t = absurd w
-whole command left before after WriteFault text w a t = absurd w
-whole command left before after TooLong text w a t = (text, a, t)
-whole command left before after NoMemory text w a t = absurd w
-
--- a text that was written, whole or in front
-pub wrote : (command : Option Command) (left before after : Option (List ℕ)) (status result : Status) (text : List ℕ) →
-    IsWritten status → IsAnswer command left status text → Ends before after status text result → Writes command left before after result
-wrote command left before after status result text w a (inl h) =
-    let P : Status → Type 0 = λ s. Writes command left before after s in subst P (sym h.0) (whole command left before after status text w a h.1)
-wrote command left before after status result text w a (inr h) =
-    let P : Status → Type 0 = λ s. Writes command left before after s in subst P (sym h.0) (status, text, a, h.1)
+-- Bytes of a source
 
 -- bytes that are all of a source are its bytes
-are_of : (before after : Option (List ℕ)) (bytes : List ℕ) → GaveAll before after bytes → AreOf before bytes
+pub are_of : (before after : Option (List ℕ)) (bytes : List ℕ) → GaveAll before after bytes → AreOf before bytes
 are_of None None bytes h = tt
 are_of None (Some after) bytes h = absurd h
 are_of (Some before) None bytes h = absurd h
 are_of (Some before) (Some after) bytes h = h.0
 
--- the answer to a source within the limit
-pub within_limit : (before after : Option (List ℕ)) (bytes : List ℕ) (status : Status) (text : List ℕ) →
-    GaveAll before after bytes → length bytes ≤ INPUT_LIMIT → reply_to (verdict bytes) ≡ (status, text) → IsAnswer (Some Translate) before status text
-within_limit before after bytes status text all within reply =
-    let test : nat_lt INPUT_LIMIT (length bytes) ≡ false = le-ltb _ _ within in
-    (bytes, are_of before after bytes all, ap (λ (b : Bool). if b then (TooLong, too_long_line) else reply_to (verdict bytes)) test ∙ reply)
+-- a source that gave more bytes than its limit has more
+record IsLong (left : Option (List ℕ)) (limit : ℕ) : Type 0 where
+  pub bytes : List ℕ
+  pub of_source : AreOf left bytes
+  long : limit < length bytes
 
-over : (bytes : List ℕ) → INPUT_LIMIT < length bytes → answer (Some Translate) bytes ≡ (TooLong, too_long_line)
-over bytes more =
-    let test : nat_lt INPUT_LIMIT (length bytes) ≡ true = lt-ltb _ _ more in
-    ap (λ (b : Bool). if b then (TooLong, too_long_line) else reply_to (verdict bytes)) test
+is_long : (before after : Option (List ℕ)) (limit : ℕ) → GaveExactly before after (limit + 1) → IsLong before limit
+is_long None None limit (bytes, same, gave) = record { bytes = bytes; of_source = tt; long = omega arith }
+is_long None (Some after) limit (bytes, same, gave) = absurd gave
+is_long (Some before) None limit (bytes, same, gave) = absurd gave
+is_long (Some before) (Some after) limit (bytes, same, gave) = record { bytes = before; of_source = refl; long = omega (arith, ap length gave, length-append bytes after) }
 
--- the answer to a source above the limit
-pub above_limit : (before after : Option (List ℕ)) → GaveExactly before after (INPUT_LIMIT + 1) → IsAnswer (Some Translate) before TooLong too_long_line
-above_limit None None (bytes, same, gave) = (bytes, tt, over bytes (omega arith))
-above_limit None (Some after) (bytes, same, gave) = absurd gave
-above_limit (Some before) None (bytes, same, gave) = absurd gave
-above_limit (Some before) (Some after) (bytes, same, gave) = (before, refl, over before (omega (arith, ap length gave, length-append bytes after)))
+-- a test of a length
+by_length : {A : Type 0} (limit : ℕ) (bytes : List ℕ) (x y : A) (b : Bool) → nat_lt limit (length bytes) ≡ b → (if nat_lt limit (length bytes) then x else y) ≡ (if b then x else y)
+by_length limit bytes x y b e = ap (λ (c : Bool). if c then x else y) e
 
--- the answer to words that are no command
-pub no_command : (left : Option (List ℕ)) → IsAnswer None left Usage usage_line
-no_command None = ([], tt, refl)
-no_command (Some told) = (told, refl, refl)
+-- Replies
 
--- what the words mean, from the command that was read
-pub meant : (command : Option Command) (read : Command) → Means command (Ok read) → command ≡ Some Translate
-meant command Translate h = h
+-- a reply with a status that is written
+is_reply : (defined : Reply) (made : Made) (status : Status) (line : List ℕ) → defined ≡ (status, line) → reply_of made ≡ (status, line) → IsWritten status → IsReply defined made
+is_reply defined made status line d e w = (d ∙ sym e, subst (λ (s : Status). IsWritten s) (sym (ap (λ (r : Reply). r.0) e)) w)
 
--- bytes of a told source are the told ones
-told_answer : (command : Option Command) (left : Option (List ℕ)) (status : Status) (text bytes : List ℕ) →
-    IsAnswer command left status text → left ≡ Some bytes → status ≡ (answer command bytes).0
-told_answer command None status text bytes a e = cc
-told_answer command (Some told) status text bytes (read, same, is) e =
-    let whole : read ≡ bytes = cc in
-    sym (ap (λ (r : Status × List ℕ). r.0) (ap (answer command) (sym whole) ∙ is))
-
--- the status is that of the answer, where no fault came
-pub complete : (command : Option Command) (left before after : Option (List ℕ)) (result : Status) (bytes : List ℕ) →
-    Writes command left before after result → left ≡ Some bytes → (result ≡ ReadFault → ⊥) → (result ≡ WriteFault → ⊥)
-    → (result ≡ (answer command bytes).0) ⊎ (result ≡ NoMemory)
-complete command left before after Done bytes w e r f = inl (told_answer command left Done w.0 bytes w.1 e)
-complete command left before after Refused bytes w e r f = inl (told_answer command left Refused w.0 bytes w.1 e)
-complete command left before after Usage bytes w e r f = inl (told_answer command left Usage w.0 bytes w.1 e)
-complete command left before after BadImage bytes w e r f = inl (told_answer command left BadImage w.0 bytes w.1 e)
-complete command left before after BadCall bytes w e r f = inl (told_answer command left BadCall w.0 bytes w.1 e)
-complete command left before after Faulted bytes w e r f = inl (told_answer command left Faulted w.0 bytes w.1 e)
-complete command left before after Going bytes w e r f = inl (told_answer command left Going w.0 bytes w.1 e)
-complete command left before after ReadFault bytes w e r f = absurd (r refl)
-complete command left before after WriteFault bytes w e r f = absurd (f refl)
-complete command left before after TooLong bytes w e r f = inl (told_answer command left TooLong w.0 bytes w.1 e)
-complete command left before after NoMemory bytes w e r f = inr refl
-
--- the text of an accepted program
-translates : (bytes : List ℕ) (program : Program) (text : List ℕ) → verdict bytes ≡ Ok program → spelling (translation program) ≡ text → Translates program text
-translates bytes program text accepted e =
-    let P : List ℕ → Type 0 = λ written. HasTree written (translation program) in
-    let known = known_of bytes program accepted in
+-- the reply to an image that is too long
+pub image_too_long : (steps : ℕ) (call : Call) (program : Program) (before after : Option (List ℕ)) (made : Made) → GaveExactly before after (IMAGE_LIMIT + 1)
+    → reply_of made ≡ (TooLong, too_long_line) → AnsweredFor (RunStl steps call) program before made
+image_too_long steps call program before after made gave e =
+    let long = is_long before after IMAGE_LIMIT gave in
+    let test : nat_lt IMAGE_LIMIT (length long.bytes) ≡ true = lt-ltb _ _ long.long in
     record {
-      tree = translation program;
-      proper = proper bytes program accepted;
-      spelled = sym e;
-      reads_back = subst P e (rereads (translation program) (proper bytes program accepted));
-      same = same_all program known.can known.formed;
+      text = long.bytes;
+      of_image = long.of_source;
+      reply = is_reply (program_reply (RunStl steps call) program long.bytes) made TooLong too_long_line
+          (by_length IMAGE_LIMIT long.bytes (TooLong, too_long_line) (memory_reply program call steps (image_of long.bytes [])) true test) e tt;
     }
 
-of_reply : (left before after : Option (List ℕ)) (bytes text : List ℕ) (v : Result Program Rejection) → AreOf left bytes → verdict bytes ≡ v →
-    reply_to v ≡ (Done, text) → Took before after text → IsTranslated left before after
-of_reply left before after bytes text (Ok program) are e reply took = record {
-  bytes = bytes;
-  of_source = are;
-  program = program;
-  accepted = e;
-  text = text;
-  translates = translates bytes program text e (ap (λ (r : Status × List ℕ). r.1) reply);
-  taken = took;
-}
-of_reply left before after bytes text (Err (rejection.Refused line reason)) are e reply took = let clash : Refused ≡ Done = ap (λ (r : Status × List ℕ). r.0) reply in absurd cc
-of_reply left before after bytes text (Err rejection.NoMemory) are e reply took = let clash : NoMemory ≡ Done = ap (λ (r : Status × List ℕ). r.0) reply in absurd cc
+-- some bytes of a source
+pub record HasBytes (left : Option (List ℕ)) : Type 0 where
+  pub bytes : List ℕ
+  pub of_source : AreOf left bytes
 
-of_limit : (b : Bool) (left before after : Option (List ℕ)) (bytes text : List ℕ) → AreOf left bytes →
-    (if b then (TooLong, too_long_line) else reply_to (verdict bytes)) ≡ (Done, text) → Took before after text → IsTranslated left before after
-of_limit true left before after bytes text are e took = let clash : TooLong ≡ Done = ap (λ (r : Status × List ℕ). r.0) e in absurd cc
-of_limit false left before after bytes text are e took = of_reply left before after bytes text (verdict bytes) are refl e took
+pub some_bytes : (left : Option (List ℕ)) → HasBytes left
+some_bytes None = record { bytes = []; of_source = tt }
+some_bytes (Some told) = record { bytes = told; of_source = refl }
 
-of_command : (command : Option Command) (left before after : Option (List ℕ)) (bytes text : List ℕ) → AreOf left bytes → answer command bytes ≡ (Done, text) →
-    Took before after text → IsTranslated left before after
-of_command None left before after bytes text are e took = let clash : Usage ≡ Done = ap (λ (r : Status × List ℕ). r.0) e in absurd cc
-of_command (Some Translate) left before after bytes text are e took = of_limit (nat_lt INPUT_LIMIT (length bytes)) left before after bytes text are e took
+-- the reply to a source that is accepted, whatever the image
+pub accepted_reply : (program : Program) (image : Option (List ℕ)) (made : Made) → reply_of made ≡ (Done, accepted_line) → AnsweredFor Check program image made
+accepted_reply program image made e =
+    let any = some_bytes image in
+    record { text = any.bytes; of_image = any.of_source; reply = is_reply (program_reply Check program any.bytes) made Done accepted_line refl e tt }
 
--- what stands beside Done
-pub translated : (command : Option Command) (left before after : Option (List ℕ)) (result : Status) → Writes command left before after result → result ≡ Done → IsTranslated left before after
-translated command left before after result w e =
-    let P : Status → Type 0 = λ s. Writes command left before after s in
-    let done : Writes command left before after Done = subst P e w in
-    of_command command left before after done.1.0 done.0 done.1.1 done.1.2 done.2
+pub translated_reply : (program : Program) (image : Option (List ℕ)) (made : Made) → reply_of made ≡ (Done, spelling (translation program)) → AnsweredFor Translate program image made
+translated_reply program image made e =
+    let any = some_bytes image in
+    record { text = any.bytes; of_image = any.of_source; reply = is_reply (program_reply Translate program any.bytes) made Done (spelling (translation program)) refl e tt }
+
+-- the reply to a source that is too long
+pub source_too_long : (command : Command) (before after image : Option (List ℕ)) (made : Made) → GaveExactly before after (INPUT_LIMIT + 1)
+    → reply_of made ≡ (TooLong, too_long_line) → Answered (Some command) before image made
+source_too_long command before after image made gave e =
+    let long = is_long before after INPUT_LIMIT gave in
+    let any = some_bytes image in
+    let test : nat_lt INPUT_LIMIT (length long.bytes) ≡ true = lt-ltb _ _ long.long in
+    record {
+      source = long.bytes;
+      of_source = long.of_source;
+      text = any.bytes;
+      of_image = any.of_source;
+      reply = is_reply (answer (Some command) long.bytes any.bytes) made TooLong too_long_line
+          (by_length INPUT_LIMIT long.bytes (TooLong, too_long_line) (verdict_reply command (verdict long.bytes) any.bytes) true test) e tt;
+    }
+
+-- the reply to a source that is refused
+pub source_refused : (command : Command) (before after image : Option (List ℕ)) (bytes : List ℕ) (line : Line) (reason : Reason) (made : Made)
+    → GaveAll before after bytes → length bytes ≤ INPUT_LIMIT → verdict bytes ≡ Err (rejection.Refused line reason)
+    → reply_of made ≡ (Refused, refusal_line line reason) → Answered (Some command) before image made
+source_refused command before after image bytes line reason made all within refused e =
+    let any = some_bytes image in
+    let test : nat_lt INPUT_LIMIT (length bytes) ≡ false = le-ltb _ _ within in
+    record {
+      source = bytes;
+      of_source = are_of before after bytes all;
+      text = any.bytes;
+      of_image = any.of_source;
+      reply = is_reply (answer (Some command) bytes any.bytes) made Refused (refusal_line line reason)
+          (by_length INPUT_LIMIT bytes (TooLong, too_long_line) (verdict_reply command (verdict bytes) any.bytes) false test
+          ∙ ap (λ (v : Result Program Rejection). verdict_reply command v any.bytes) refused) e tt;
+    }
+
+-- The image
+
+-- a source that is accepted wants the image of a command that has one
+pub wants : (command : Command) → HasImage command → (before after : Option (List ℕ)) (bytes : List ℕ) (program : Program)
+    → GaveAll before after bytes → length bytes ≤ INPUT_LIMIT → verdict bytes ≡ Ok program → WantsImage (Some command) before
+wants Translate h before after bytes program all within accepted = absurd h
+wants Check h before after bytes program all within accepted = absurd h
+wants (RunStl steps call) h before after bytes program all within accepted =
+    let short : nat_le (length bytes) INPUT_LIMIT ≡ true = le-leb _ _ within in
+    (bytes, are_of before after bytes all, ap (λ (b : Bool). b && is_ok (verdict bytes)) short ∙ ap (λ (v : Result Program Rejection). is_ok v) accepted)
+
+reads_wanted : (W : Type 0) → W → (i : Input) (status : Status) → ReadsRunImage (Unit {0}) i status → ReadsRunImage W i status
+reads_wanted W w i Done r = (w, r.1)
+reads_wanted W w i Refused r = r
+reads_wanted W w i Usage r = r
+reads_wanted W w i BadImage r = (w, r.1)
+reads_wanted W w i BadCall r = (w, r.1)
+reads_wanted W w i Faulted r = (w, r.1)
+reads_wanted W w i Going r = (w, r.1)
+reads_wanted W w i ReadFault (inl u) = inl u
+reads_wanted W w i ReadFault (inr r) = inr (w, r.1)
+reads_wanted W w i WriteFault (inl u) = inl u
+reads_wanted W w i WriteFault (inr r) = inr (w, r.1)
+reads_wanted W w i TooLong (inl u) = inl u
+reads_wanted W w i TooLong (inr r) = inr (w, r.1)
+reads_wanted W w i NoMemory (inl u) = inl u
+reads_wanted W w i NoMemory (inr r) = inr (w, r.1)
+
+-- what is read of the image of a command whose source is accepted
+pub reads_image : (command : Command) (left : Option (List ℕ)) (i : Input) (status : Status) → (HasImage command → WantsImage (Some command) left)
+    → ReadsOwnImage command i status → ReadsImage (Some command) left i status
+reads_image Translate left i status w r = r
+reads_image Check left i status w r = r
+reads_image (RunStl steps call) left i status w r = reads_wanted (WantsImage (Some (RunStl steps call)) left) (w tt) i status r
+
+-- the reply to words that are no command
+pub usage_reply : (source image : Option (List ℕ)) (made : Made) → reply_of made ≡ (Usage, usage_line) → Answered None source image made
+usage_reply source image made e =
+    let any = some_bytes source in
+    let text = some_bytes image in
+    record {
+      source = any.bytes;
+      of_source = any.of_source;
+      text = text.bytes;
+      of_image = text.of_source;
+      reply = is_reply (answer None any.bytes text.bytes) made Usage usage_line refl e tt;
+    }

@@ -1,8 +1,11 @@
 pub mod Accepted
 pub mod Answering
 pub mod Bodies
+pub mod CallPieces
+mod CallRows
 pub mod Cuts
 pub mod EachInstruction
+pub mod Finishing
 pub mod Names
 pub mod ProperOperands
 pub mod ProperText

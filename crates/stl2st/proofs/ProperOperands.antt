@@ -3,10 +3,10 @@ use Rattle.std.proofs.Common.{◌≡◌, ℕ, ◌+◌, ◌-◌, ◌*◌, ◌<◌
 use Rattle.std.specs.Prelude.{IfSome, codes, nat_le, nat_lt, ◌==◌, option_and_then}
 use Rattle.std.specs.Char.{to_ascii_uppercase}
 use Rattle.std.proofs.lemmas.Bool.{leb-true, lt-ltb, le-leb}
-use Rattle.s7_base.specs.Areas.{area_bytes}
+use Rattle.memory_areas.specs.Access.{area_bytes}
 use Rattle.s7_base.specs.Tokens.{is_between}
-use Rattle.s7_base.specs.declared.place.AreaName.{AreaName}
-use Rattle.s7_base.specs.declared.place.AreaName.TheVariants as area
+use Rattle.memory_areas.specs.declared.place.AreaName.{AreaName}
+use Rattle.memory_areas.specs.declared.place.AreaName.TheVariants as area
 use Rattle.s7_base.specs.declared.token.Token.{Token}
 use Rattle.stl_tree.specs.Items.{number_from, number_of, area_of, area_of_letter, bit_at, is_bit_number, bit_operand, op_with, statement_op}
 use Rattle.stl_tree.specs.Words.{is_word, is_sign, is_word_kind}

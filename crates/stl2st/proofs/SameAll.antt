@@ -1,10 +1,10 @@
 -- A program and its translation mean the same.
-use Rattle.std.proofs.Common.{◌≡◌, ℕ, ◌+◌, ◌*◌, ◌≤◌, map, length, Option, Some, None, refl, sym, ap, ◌∙◌, subst, arith}
+use Rattle.std.proofs.Common.{◌≡◌, ℕ, ◌+◌, ◌*◌, ◌≤◌, List, map, length, Option, Some, None, refl, sym, ap, ◌∙◌, subst, arith}
 use Rattle.std.specs.Prelude.{IsSome, option_map}
 use Rattle.std.proofs.Math.Nat.{suc-mul}
-use Rattle.s7_base.specs.Areas.{Areas}
+use Rattle.memory_areas.specs.Areas.{Areas, with_areas}
 use Rattle.stl_tree.specs.Registers.{start}
-use Rattle.stl_tree.specs.StlRun.{Fits, IsCalledAlone, block_named, body_called, end_of, running, size_of, steps_on, stl_run}
+use Rattle.stl_tree.specs.StlRun.{Fits, block_called, block_named, body_called, end_of, running, size_of, steps_on, stl_run}
 use Rattle.stl_tree.specs.declared.program.Block.{Block}
 use Rattle.stl_tree.specs.declared.program.BlockName.{BlockName}
 use Rattle.stl_tree.specs.declared.program.BlockName.TheVariants as name
@@ -23,12 +23,21 @@ some_of : (o : Option Block) → IsSome o → (b : Block) × (o ≡ Some b)
 some_of None h = cc
 some_of (Some b) h = (b, refl)
 
-program_alone : (called : BlockName) → IsCalledAlone called → IsProgramCall called
-program_alone (name.Ob n) h = tt
-program_alone (name.Fc n) h = h
-program_alone (name.Fb n) h = h
+-- what is called has that name, and is a program in the text
+named_of : (called : BlockName) (blocks : List Block) (b : Block) → block_called called blocks ≡ Some b → block_named called blocks ≡ Some b
+named_of (name.Ob n) blocks b e = e
+named_of (name.Fc n) blocks b e = cc
+named_of (name.Fb n) blocks b e = cc
 
-module _ (program : Program) (can : IsTranslatable program) (formed : IsWellFormed program) (call : Call) (b : Block) (found : block_named call.block program.blocks ≡ Some b) where
+program_of : (called : BlockName) (blocks : List Block) (b : Block) → block_called called blocks ≡ Some b → IsProgramCall called
+program_of (name.Ob n) blocks b e = tt
+program_of (name.Fc n) blocks b e = cc
+program_of (name.Fb n) blocks b e = cc
+
+module _ (program : Program) (can : IsTranslatable program) (formed : IsWellFormed program) (call : Call) (b : Block) (called : block_called call.block program.blocks ≡ Some b) where
+  found : block_named call.block program.blocks ≡ Some b
+  found = named_of call.block program.blocks b called
+
   -- the call finds the unit of the block
   unit_there : unit_called call.block (map unit_of program.blocks) ≡ Some (unit_of b)
   unit_there =
@@ -41,7 +50,7 @@ module _ (program : Program) (can : IsTranslatable program) (formed : IsWellForm
       let shape = found_each IsWellFormedBlock call.block program.blocks b found formed in
       let within = found_size call.block program.blocks b found in
       let room : length b.body ≤ steps = omega arith in
-      ap (λ o. end_of (steps_on steps (running (record { body = body_called o; at = 0 }) start memory))) found
+      ap (λ o. end_of (steps_on steps (running (record { body = body_called o; at = 0 }) start (with_areas memory)))) called
       ∙ body_same b.body shape.ends (found_each IsTranslatableBlock call.block program.blocks b found can) steps units memory room
       ∙ sym (ap (λ o. run_of_unit o units memory) unit_there)
 
@@ -57,13 +66,13 @@ module _ (program : Program) (can : IsTranslatable program) (formed : IsWellForm
             runs_equal memory ((units + 1) * size_of program) units enough ∙ ended;
       }
 
-  fits_text : IsCalledAlone call.block → FitsSt (translation program) call
-  fits_text alone = record { alone = program_alone call.block alone; there = subst (λ (o : Option Pou). IsSome o) (sym unit_there) refl }
+  fits_text : FitsSt (translation program) call
+  fits_text = record { alone = program_of call.block program.blocks b called; there = subst (λ (o : Option Pou). IsSome o) (sym unit_there) refl }
 
-called_alone : (called : BlockName) → IsProgramCall called → IsCalledAlone called
-called_alone (name.Ob n) h = tt
-called_alone (name.Fc n) h = h
-called_alone (name.Fb n) h = h
+called_program : (called : BlockName) (blocks : List Block) → IsProgramCall called → IsSome (block_named called blocks) → IsSome (block_called called blocks)
+called_program (name.Ob n) blocks h some = some
+called_program (name.Fc n) blocks h some = absurd h
+called_program (name.Fb n) blocks h some = absurd h
 
 some_unit : (o : Option Block) → IsSome (option_map unit_of o) → IsSome o
 some_unit None h = h
@@ -72,16 +81,14 @@ some_unit (Some b) h = refl
 -- a call of a text's program is one of the block that it was translated from
 fits_program : (program : Program) → IsWellFormed program → (call : Call) → IsNumbered call.block → FitsSt (translation program) call → Fits program call
 fits_program program formed call numbered fits =
-    record {
-      alone = called_alone call.block fits.alone;
-      there = some_unit (block_named call.block program.blocks) (subst (λ (o : Option Pou). IsSome o) (unit_found call.block numbered program.blocks formed) fits.there);
-    }
+    called_program call.block program.blocks fits.alone
+    (some_unit (block_named call.block program.blocks) (subst (λ (o : Option Pou). IsSome o) (unit_found call.block numbered program.blocks formed) fits.there))
 
 -- a program of blocks that are as they should be means what its translation means
 pub same_all : (program : Program) → IsTranslatable program → IsWellFormed program → Same program (translation program)
 same_all program can formed =
     record {
       fits_back = λ call numbered fits. fits_program program formed call numbered fits;
-      fits = λ call fits. let b = some_of (block_named call.block program.blocks) fits.there in fits_text program can formed call b.0 b.1 fits.alone;
-      runs = λ call fits. let b = some_of (block_named call.block program.blocks) fits.there in same_runs program can formed call b.0 b.1;
+      fits = λ call fits. let b = some_of (block_called call.block program.blocks) fits in fits_text program can formed call b.0 b.1;
+      runs = λ call fits. let b = some_of (block_called call.block program.blocks) fits in same_runs program can formed call b.0 b.1;
     }

@@ -14,11 +14,14 @@ use Rattle.st_tree.specs.declared.expr.Var.{Var}
 use Rattle.st_tree.proofs.Opened.{opened}
 use Rattle.stl2st.specs.Translation.{next_rlo, IsTranslatableCheck}
 
--- the registers of both languages agree, as far as the statements read them, and OR is clear
+-- the registers of both languages agree, as far as the statements and their places read them, and OR is
+-- clear
 pub record AreAlike (r : RegisterValues) (s : State) : Type 0 where
   pub rlo : s.registers reg.Rlo ≡ number_of r.rlo
   pub nfc : s.registers reg.Nfc ≡ number_of r.fc
   pub orb : r.orb ≡ false
+  pub db : s.registers reg.DbNo ≡ pos r.db
+  pub di : s.registers reg.DiNo ≡ pos r.di
 
 -- Truth values as numbers
 

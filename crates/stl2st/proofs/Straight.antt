@@ -1,13 +1,15 @@
 -- A body without jumps: its run is what its statements mean, with steps enough.
 use Rattle.std.proofs.Common.{◌≡◌, ℕ, zero, suc, ◌+◌, ◌≤◌, Bool, true, false, List, [], ◌∷◌, ◌++◌, length, pos, Option, Some, None, Result, Ok, Err, refl, sym, ap, ◌∙◌, arith}
 use Rattle.std.specs.Prelude.{flat_map, slice_get}
-use Rattle.s7_base.specs.Areas.{Areas, and_then, write_bit}
-use Rattle.s7_base.specs.End.{Ended}
+use Rattle.memory_areas.specs.Access.{and_then, read_bit, write_bit}
+use Rattle.memory_areas.specs.Areas.{Areas, Contents, with_areas}
+use Rattle.memory_areas.specs.declared.place.AreaName.{AreaName}
+use Rattle.memory_areas.specs.End.{Ended}
 use Rattle.s7_base.specs.declared.check.Check.{Check}
 use Rattle.s7_base.specs.declared.check.Check.TheVariants as check
 use Rattle.s7_base.specs.declared.outcome.Fault.{Fault}
 use Rattle.s7_base.specs.declared.register.Reg.TheVariants as reg
-use Rattle.stl_tree.specs.Instructions.{next, with_value, bit_at_operand, memory_with_bit, orb_after, rlo_after, after_check, after_assign, effect_of}
+use Rattle.stl_tree.specs.Instructions.{next, with_value, place_of, orb_after, rlo_after, after_check, after_assign, effect_of}
 use Rattle.stl_tree.specs.Registers.{RegisterValues, start}
 use Rattle.stl_tree.specs.StlRun.{Activation, running, over, after_effect, step_by, steps_on, end_of}
 use Rattle.stl_tree.specs.declared.program.BitArg.TheVariants as arg
@@ -17,7 +19,7 @@ use Rattle.stl_tree.specs.declared.program.Op.TheVariants as op
 use Rattle.stl_tree.specs.declared.program.Operand.{Operand}
 use Rattle.stl_tree.specs.declared.program.Operand.TheVariants as operand
 use Rattle.stl_tree.proofs.Runs.{over_stays}
-use Rattle.st_tree.specs.Value.{State, state_at_start, flag, is_set, number_of, with_register, read, write, value}
+use Rattle.st_tree.specs.Value.{place_of as place_of_variable, State, state_at_start, flag, is_set, number_of, with_register, read, write, value}
 use Rattle.st_tree.specs.Meaning.{body_meaning}
 use Rattle.st_tree.specs.StRun.{end_seen}
 use Rattle.st_tree.specs.declared.expr.Expr.TheVariants as expr
@@ -33,24 +35,34 @@ use Rattle.stl2st.proofs.SameLemmas.{AreAlike, checked_value, checked_fault}
 
 -- Operands
 
-bit_read : (o : Operand) (s : State) (b : Bool) → bit_at_operand o s.memory ≡ Ok b → read (bit_of o) s ≡ Ok (flag b)
-bit_read (operand.Direct a byte x) s b e = ap (λ r. and_then r (λ b. Ok (flag b))) e
+-- an operand and its variable name the same place
+same_place : (a : AreaName) (byte x : ℕ) (r : RegisterValues) (s : State) → AreAlike r s → place_of_variable a byte x s.registers ≡ place_of (operand.Direct a byte x) r
+same_place a byte x r s alike = rw (alike.db, alike.di) refl
 
-bit_not_read : (o : Operand) (s : State) (f : Fault) → bit_at_operand o s.memory ≡ Err f → read (bit_of o) s ≡ Err f
-bit_not_read (operand.Direct a byte x) s f e = ap (λ r. and_then r (λ b. Ok (flag b))) e
+bit_read : (o : Operand) (r : RegisterValues) (s : State) (b : Bool) → AreAlike r s → read_bit (place_of o r) s.memory ≡ Ok b → read (bit_of o) s ≡ Ok (flag b)
+bit_read (operand.Direct a byte x) r s b alike e =
+    ap (λ p. and_then (read_bit p s.memory) (λ b. Ok (flag b))) (same_place a byte x r s alike)
+    ∙ ap (λ v. and_then v (λ b. Ok (flag b))) e
+
+bit_not_read : (o : Operand) (r : RegisterValues) (s : State) (f : Fault) → AreAlike r s → read_bit (place_of o r) s.memory ≡ Err f → read (bit_of o) s ≡ Err f
+bit_not_read (operand.Direct a byte x) r s f alike e =
+    ap (λ p. and_then (read_bit p s.memory) (λ b. Ok (flag b))) (same_place a byte x r s alike)
+    ∙ ap (λ v. and_then v (λ b. Ok (flag b))) e
 
 set_flag : (b : Bool) → is_set (flag b) ≡ b
 set_flag true = refl
 set_flag false = refl
 
-bit_wrote : (o : Operand) (s : State) (b : Bool) (m : Areas) → memory_with_bit o b s.memory ≡ Ok m → write (bit_of o) (flag b) s ≡ Ok (record s { memory = m })
-bit_wrote (operand.Direct a byte x) s b m e =
-    ap (λ v. and_then (write_bit a byte x v s.memory) (λ m. Ok (record s { memory = m }))) (set_flag b)
+bit_wrote : (o : Operand) (r : RegisterValues) (s : State) (b : Bool) (m : Contents) → AreAlike r s → write_bit (place_of o r) b s.memory ≡ Ok m → write (bit_of o) (flag b) s ≡ Ok (record s { memory = m })
+bit_wrote (operand.Direct a byte x) r s b m alike e =
+    ap (λ p. and_then (write_bit p (is_set (flag b)) s.memory) (λ m. Ok (record s { memory = m }))) (same_place a byte x r s alike)
+    ∙ ap (λ v. and_then (write_bit (place_of (operand.Direct a byte x) r) v s.memory) (λ m. Ok (record s { memory = m }))) (set_flag b)
     ∙ ap (λ r. and_then r (λ m. Ok (record s { memory = m }))) e
 
-bit_not_written : (o : Operand) (s : State) (b : Bool) (f : Fault) → memory_with_bit o b s.memory ≡ Err f → write (bit_of o) (flag b) s ≡ Err f
-bit_not_written (operand.Direct a byte x) s b f e =
-    ap (λ v. and_then (write_bit a byte x v s.memory) (λ m. Ok (record s { memory = m }))) (set_flag b)
+bit_not_written : (o : Operand) (r : RegisterValues) (s : State) (b : Bool) (f : Fault) → AreAlike r s → write_bit (place_of o r) b s.memory ≡ Err f → write (bit_of o) (flag b) s ≡ Err f
+bit_not_written (operand.Direct a byte x) r s b f alike e =
+    ap (λ p. and_then (write_bit p (is_set (flag b)) s.memory) (λ m. Ok (record s { memory = m }))) (same_place a byte x r s alike)
+    ∙ ap (λ v. and_then (write_bit (place_of (operand.Direct a byte x) r) v s.memory) (λ m. Ok (record s { memory = m }))) (set_flag b)
     ∙ ap (λ r. and_then r (λ m. Ok (record s { memory = m }))) e
 
 -- One instruction, and what follows it
@@ -63,7 +75,7 @@ abbrev behind : Activation → Activation
 behind block = record block { at = block.at + 1 }
 
 -- a run that is over is seen to have ended
-ended : (n : ℕ) (m : Areas) (f : Option Fault) → end_of (steps_on n (over m f)) ≡ Ended m f
+ended : (n : ℕ) (m : Contents) (f : Option Fault) → end_of (steps_on n (over m f)) ≡ Ended m.areas f
 ended n m f = ap end_of (over_stays n m f)
 
 orb_clear : (c : Check) (r : RegisterValues) → r.orb ≡ false → orb_after c r ≡ false
@@ -75,40 +87,40 @@ orb_clear check.X r e = refl
 orb_clear check.Xn r e = refl
 
 module _ (n : ℕ) (block : Activation) (rest : List Stmt) (units : ℕ) (more : GoesOn n (behind block) rest units) (r : RegisterValues) (s : State) (alike : AreAlike r s) where
-  check_by : (c : Check) → IsTranslatableCheck c → (o : Operand) (bit : Result Bool Fault) → bit_at_operand o s.memory ≡ bit →
+  check_by : (c : Check) → IsTranslatableCheck c → (o : Operand) (bit : Result Bool Fault) → read_bit (place_of o r) s.memory ≡ bit →
       end_of (steps_on n (after_effect block s.memory (with_value bit (λ v. next (after_check c r v) s.memory))))
       ≡ end_seen (body_meaning (set_of reg.Rlo (next_rlo c (expr.Read (bit_of o))) ∷ set_of reg.Nfc (literal_of true) ∷ rest) units s)
   check_by c h o (Ok b) e =
       let t : State = record s { registers = with_register reg.Rlo (number_of (rlo_after c r b)) s.registers } in
       let u : State = record t { registers = with_register reg.Nfc (pos 1) t.registers } in
-      let both : AreAlike (after_check c r b) u = record { rlo = refl; nfc = refl; orb = orb_clear c r alike.orb } in
+      let both : AreAlike (after_check c r b) u = record { rlo = refl; nfc = refl; orb = orb_clear c r alike.orb; db = alike.db; di = alike.di } in
       more (after_check c r b) u both
       ∙ sym (ap end_seen
       (assign_goes_on (var.Register reg.Rlo) (next_rlo c (expr.Read (bit_of o))) (set_of reg.Nfc (literal_of true) ∷ rest) units s t (flag (rlo_after c r b))
-      (checked_value c h (bit_of o) r s b alike (bit_read o s b e)) refl
+      (checked_value c h (bit_of o) r s b alike (bit_read o r s b alike e)) refl
       ∙ assign_goes_on (var.Register reg.Nfc) (literal_of true) rest units t u (flag true) (value_literal type.Bool (pos 1) t) refl))
   check_by c h o (Err f) e =
       ended n s.memory (Some f)
       ∙ sym (ap end_seen (assign_stops_at_value (var.Register reg.Rlo) (next_rlo c (expr.Read (bit_of o))) (set_of reg.Nfc (literal_of true) ∷ rest) units s f
-      (checked_fault c h (bit_of o) s f (bit_not_read o s f e))))
+      (checked_fault c h (bit_of o) s f (bit_not_read o r s f alike e))))
 
   rlo_value : value (read_of reg.Rlo) s ≡ Ok (flag r.rlo)
   rlo_value = value_read (var.Register reg.Rlo) s ∙ ap (λ x. Ok (record { ty = type.Bool; n = x })) alike.rlo
 
-  assign_by : (o : Operand) (written : Result Areas Fault) → memory_with_bit o r.rlo s.memory ≡ written →
+  assign_by : (o : Operand) (written : Result Contents Fault) → write_bit (place_of o r) r.rlo s.memory ≡ written →
       end_of (steps_on n (after_effect block s.memory (with_value written (λ m. next (after_assign r) m))))
       ≡ end_seen (body_meaning (stmt.Assign (bit_of o) (read_of reg.Rlo) ∷ set_of reg.Nfc (literal_of false) ∷ rest) units s)
   assign_by o (Ok m) e =
       let t : State = record s { memory = m } in
       let u : State = record t { registers = with_register reg.Nfc (pos 0) s.registers } in
-      let both : AreAlike (after_assign r) u = record { rlo = alike.rlo; nfc = refl; orb = refl } in
+      let both : AreAlike (after_assign r) u = record { rlo = alike.rlo; nfc = refl; orb = refl; db = alike.db; di = alike.di } in
       more (after_assign r) u both
       ∙ sym (ap end_seen
-      (assign_goes_on (bit_of o) (read_of reg.Rlo) (set_of reg.Nfc (literal_of false) ∷ rest) units s t (flag r.rlo) rlo_value (bit_wrote o s r.rlo m e)
+      (assign_goes_on (bit_of o) (read_of reg.Rlo) (set_of reg.Nfc (literal_of false) ∷ rest) units s t (flag r.rlo) rlo_value (bit_wrote o r s r.rlo m alike e)
       ∙ assign_goes_on (var.Register reg.Nfc) (literal_of false) rest units t u (flag false) (value_literal type.Bool (pos 0) t) refl))
   assign_by o (Err f) e =
       ended n s.memory (Some f)
-      ∙ sym (ap end_seen (assign_stops_at_place (bit_of o) (read_of reg.Rlo) (set_of reg.Nfc (literal_of false) ∷ rest) units s (flag r.rlo) f rlo_value (bit_not_written o s r.rlo f e)))
+      ∙ sym (ap end_seen (assign_stops_at_place (bit_of o) (read_of reg.Rlo) (set_of reg.Nfc (literal_of false) ∷ rest) units s (flag r.rlo) f rlo_value (bit_not_written o r s r.rlo f alike e)))
 
 -- the statements of a body
 abbrev pub lines_of : List Instr → List Stmt
@@ -117,8 +129,8 @@ lines_of body = flat_map (λ (i : Instr). statements_of i.op) body
 one_same : (o : Op) → IsTranslatableOp o → (is : List Instr) → EndsBehind o is (EndsOnce is) → (n : ℕ) (block : Activation) (units : ℕ) →
     (EndsOnce is → GoesOn n (behind block) (lines_of is) units) → (r : RegisterValues) (s : State) → AreAlike r s →
     end_of (steps_on n (after_effect block s.memory (effect_of o r s.memory))) ≡ end_seen (body_meaning (statements_of o ++ lines_of is) units s)
-one_same (op.Check c (arg.At o)) h is ends n block units more r s alike = check_by n block (lines_of is) units (more ends) r s alike c h o (bit_at_operand o s.memory) refl
-one_same (op.Assign o) h is ends n block units more r s alike = assign_by n block (lines_of is) units (more ends) r s alike o (memory_with_bit o r.rlo s.memory) refl
+one_same (op.Check c (arg.At o)) h is ends n block units more r s alike = check_by n block (lines_of is) units (more ends) r s alike c h o (read_bit (place_of o r) s.memory) refl
+one_same (op.Assign o) h is ends n block units more r s alike = assign_by n block (lines_of is) units (more ends) r s alike o (write_bit (place_of o r) r.rlo s.memory) refl
 one_same op.BlockEnd h is ends n block units more r s alike =
     ended n s.memory None ∙ sym (ap (λ (xs : List Instr). end_seen (body_meaning (lines_of xs) units s)) ends)
 
@@ -153,7 +165,7 @@ body_from_same (i ∷ is) ends can body at has (suc n) units h r s alike =
 
 -- from the start, with as many steps as the body has instructions
 pub body_same : (body : List Instr) → EndsOnce body → AreTranslatable body → (n units : ℕ) (memory : Areas) → length body ≤ n →
-    end_of (steps_on n (running (record { body = body; at = 0 }) start memory)) ≡ end_seen (body_meaning (lines_of body) units (state_at_start memory))
+    end_of (steps_on n (running (record { body = body; at = 0 }) start (with_areas memory))) ≡ end_seen (body_meaning (lines_of body) units (state_at_start memory))
 body_same body ends can n units memory h =
-    let alike : AreAlike start (state_at_start memory) = record { rlo = refl; nfc = refl; orb = refl } in
+    let alike : AreAlike start (state_at_start memory) = record { rlo = refl; nfc = refl; orb = refl; db = refl; di = refl } in
     body_from_same body ends can body 0 (λ j. let e : 0 + j ≡ j = omega arith in ap (slice_get body) e) n units h start (state_at_start memory) alike

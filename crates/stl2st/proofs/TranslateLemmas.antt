@@ -2,7 +2,7 @@
 use Rattle.std.specs.Prelude.{◌≡◌, ℕ, List, [], ◌∷◌, ◌++◌, map, codes, refl}
 use Rattle.std.specs.Fmt.{digits}
 use Rattle.s7_base.specs.declared.check.Check.TheVariants as check
-use Rattle.s7_base.specs.declared.place.AreaName.TheVariants as area
+use Rattle.memory_areas.specs.declared.place.AreaName.TheVariants as area
 use Rattle.stl_tree.specs.declared.program.BlockName.{BlockName}
 use Rattle.stl_tree.specs.declared.program.BlockName.TheVariants as name
 use Rattle.stl_tree.specs.declared.program.Operand.{Operand}

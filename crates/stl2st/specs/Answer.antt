@@ -1,13 +1,23 @@
 -- What the program answers: its exit status and the text that it writes.
-use Rattle.std.specs.Prelude.{◌≡◌, ℕ, ◌+◌, nat_lt, ◌⊎◌, List, [], ◌++◌, length, Option, Some, None, Result, Ok, Err, codes, decimal, if◌then◌else◌}
+use Rattle.std.specs.Prelude.{◌≡◌, ℕ, Bool, true, false, ◌&&◌, nat_le, nat_lt, is_ok, List, [], ◌++◌, length, Option, Some, None, Result, Ok, Err, codes, decimal, if◌then◌else◌}
+use Rattle.image_text.specs.Image.{image_of}
+use Rattle.image_text.specs.Report.{report}
+use Rattle.image_text.specs.declared.refusal.ImageRefusal.{ImageRefusal}
+use Rattle.image_text.specs.declared.refusal.ImageRefusal.TheVariants as image
+use Rattle.memory_areas.specs.Areas.{Areas, Contents}
+use Rattle.memory_areas.specs.End.{End, Ended, Going as Unended}
 use Rattle.s7_base.specs.Reason.{reason_text}
+use Rattle.s7_base.specs.declared.outcome.Outcome.{Outcome}
+use Rattle.s7_base.specs.declared.outcome.Outcome.TheVariants as outcome
 use Rattle.s7_base.specs.declared.reason.Line.{Line}
 use Rattle.s7_base.specs.declared.reason.Reason.{Reason}
 use Rattle.s7_base.specs.declared.reason.Rejection.{Rejection}
 use Rattle.s7_base.specs.declared.reason.Rejection.TheVariants as rejection
 use Rattle.s7_io.specs.Sink.{Took, TookFewer}
-use Rattle.s7_io.specs.Source.{GaveAll, GaveExactly, GaveAtMost}
+use Rattle.stl_tree.specs.StlRun.{block_called, stl_run}
 use Rattle.stl_tree.specs.Verdict.{verdict}
+use Rattle.stl_tree.specs.declared.program.Block.{Block}
+use Rattle.stl_tree.specs.declared.program.Call.{Call}
 use Rattle.stl_tree.specs.declared.program.Program.{Program}
 use Rattle.st_tree.specs.Proper.{Proper}
 use Rattle.st_tree.specs.Reading.{HasTree}
@@ -16,10 +26,12 @@ use Rattle.st_tree.specs.declared.program.StProgram.{StProgram}
 use Rattle.stl2st.specs.Same.{Same}
 use Rattle.stl2st.specs.Translation.{translation}
 use Rattle.stl2st.specs.declared.command.Command.{Command}
-use Rattle.stl2st.specs.declared.command.Command.TheVariants.{Translate}
-use Rattle.stl2st.specs.declared.answer.TheConstants.{INPUT_LIMIT}
+use Rattle.stl2st.specs.declared.command.Command.TheVariants.{Translate, Check, RunStl}
+use Rattle.stl2st.specs.declared.answer.TheConstants.{INPUT_LIMIT, IMAGE_LIMIT}
 use Rattle.stl2st.specs.declared.status.Status.{Status}
 use Rattle.stl2st.specs.declared.status.Status.TheVariants.{Done, Refused, Usage, BadImage, BadCall, Faulted, Going, ReadFault, WriteFault, TooLong, NoMemory}
+
+-- Lines
 
 -- the line that words which are no command get
 abbrev pub usage_line : List ℕ
@@ -29,41 +41,119 @@ usage_line = codes "usage: stl2st translate | check | run-stl STEPS CALL IMAGE |
 abbrev pub too_long_line : List ℕ
 too_long_line = codes "too long\n"
 
+-- the line that a source without a broken rule gets
+abbrev pub accepted_line : List ℕ
+accepted_line = codes "accepted\n"
+
+-- the line that a call which does not fit gets
+abbrev pub bad_call_line : List ℕ
+bad_call_line = codes "bad call\n"
+
 -- the line that names a broken rule
 abbrev pub refusal_line : Line → Reason → List ℕ
 refusal_line line reason = codes "line " ++ decimal line.0 ++ codes ": " ++ reason_text reason ++ codes "\n"
 
--- the status and the text of a verdict: the translated text, or the broken rule
-abbrev pub reply_to : Result Program Rejection → Status × List ℕ
-reply_to (Ok program) = (Done, spelling (translation program))
-reply_to (Err (rejection.Refused line reason)) = (Refused, refusal_line line reason)
-reply_to (Err rejection.NoMemory) = (NoMemory, [])
+-- the line that names a faulty line of an image
+abbrev pub image_line : Line → List ℕ → List ℕ
+image_line line name = codes "image line " ++ decimal line.0 ++ codes ": " ++ name ++ codes "\n"
 
--- the status and the text to write, for a command and the bytes of the source
-abbrev pub answer : Option Command → List ℕ → Status × List ℕ
-answer None bytes = (Usage, usage_line)
-answer (Some Translate) bytes = if nat_lt INPUT_LIMIT (length bytes) then (TooLong, too_long_line) else reply_to (verdict bytes)
+-- Answers
 
--- the bytes are those of the source, where it tells them
+-- a status and the text that goes with it
+abbrev pub Reply : Type 0
+Reply = Status × List ℕ
+
+-- an image that is refused
+abbrev pub image_reply : ImageRefusal → Reply
+image_reply (image.BadLine line) = (BadImage, image_line line (codes "BadLine"))
+image_reply (image.BadByte line) = (BadImage, image_line line (codes "BadByte"))
+image_reply (image.OutsideArea line) = (BadImage, image_line line (codes "OutsideArea"))
+image_reply image.NoMemory = (NoMemory, [])
+
+-- the status of a run
+abbrev pub run_status : Outcome → Status
+run_status (outcome.Ended None) = Done
+run_status (outcome.Ended (Some f)) = Faulted
+run_status outcome.Going = Going
+
+-- a run within its bound: its report; one that goes on shows no memory, so that at its start serves
+abbrev pub run_reply : Areas → End → Reply
+run_reply start (Ended areas f) = (run_status (outcome.Ended f), report (outcome.Ended f) areas)
+run_reply start Unended = (run_status outcome.Going, report outcome.Going start)
+
+-- a run from a memory, where its call fits
+abbrev pub call_reply : Option Block → Program → Call → ℕ → Areas → Reply
+call_reply None program call steps memory = (BadCall, bad_call_line)
+call_reply (Some block) program call steps memory = run_reply memory (stl_run program call memory steps)
+
+-- a run from an image, which starts with the program's data blocks; no form that is built declares one
+abbrev pub memory_reply : Program → Call → ℕ → Result Contents ImageRefusal → Reply
+memory_reply program call steps (Ok memory) = call_reply (block_called call.block program.blocks) program call steps memory.areas
+memory_reply program call steps (Err refused) = image_reply refused
+
+-- what a command answers to a program that is accepted, and to the text of an image
+abbrev pub program_reply : Command → Program → List ℕ → Reply
+program_reply Translate program text = (Done, spelling (translation program))
+program_reply Check program text = (Done, accepted_line)
+program_reply (RunStl steps call) program text =
+    if nat_lt IMAGE_LIMIT (length text) then (TooLong, too_long_line) else memory_reply program call steps (image_of text [])
+
+-- what it answers to a verdict
+abbrev pub verdict_reply : Command → Result Program Rejection → List ℕ → Reply
+verdict_reply command (Ok program) text = program_reply command program text
+verdict_reply command (Err (rejection.Refused line reason)) text = (Refused, refusal_line line reason)
+verdict_reply command (Err rejection.NoMemory) text = (NoMemory, [])
+
+-- the status and the text to write, for a command, the bytes of the source and those of the image
+abbrev pub answer : Option Command → List ℕ → List ℕ → Reply
+answer None source text = (Usage, usage_line)
+answer (Some command) source text =
+    if nat_lt INPUT_LIMIT (length source) then (TooLong, too_long_line) else verdict_reply command (verdict source) text
+
+-- Which sources are read
+
+-- a command has an image
+abbrev pub has_image : Option Command → Bool
+has_image None = false
+has_image (Some Translate) = false
+has_image (Some Check) = false
+has_image (Some (RunStl steps call)) = true
+
+-- the image is read: the command has one, and its source is within the limit and accepted
+abbrev pub wants_image : Option Command → List ℕ → Bool
+wants_image command source = has_image command && nat_le (length source) INPUT_LIMIT && is_ok (verdict source)
+
+-- the bytes are those of a source, where it tells them
 abbrev pub AreOf : Option (List ℕ) → List ℕ → Type 0
 AreOf None bytes = Unit {0}
 AreOf (Some told) bytes = told ≡ bytes
 
--- a status and a text that are the answer to the bytes of the source
-abbrev pub IsAnswer : Option Command → Option (List ℕ) → Status → List ℕ → Type 0
-IsAnswer command left status text = (bytes : List ℕ) × AreOf left bytes × (answer command bytes ≡ (status, text))
+-- the image is wanted, by the bytes of the source
+abbrev pub WantsImage : Option Command → Option (List ℕ) → Type 0
+WantsImage command left = (source : List ℕ) × AreOf left source × (wants_image command source ≡ true)
 
--- what the sink has taken by the status: the text of the answer, of which a proper front where writing
--- failed, and nothing where reading failed or memory ran out
-abbrev pub Writes : Option Command → Option (List ℕ) → Option (List ℕ) → Option (List ℕ) → Status → Type 0
-Writes command left before after ReadFault = (command ≡ Some Translate) × (after ≡ before)
-Writes command left before after NoMemory = after ≡ before
-Writes command left before after WriteFault = (status : Status) × (text : List ℕ) × IsAnswer command left status text × TookFewer before after text
-Writes command left before after status = (text : List ℕ) × IsAnswer command left status text × Took before after text
+-- What is written
+
+-- what the sink has taken of a reply, by the status: its text; a proper front of it where writing failed;
+-- nothing where reading failed or memory ran out
+abbrev pub Sends : Reply → Option (List ℕ) → Option (List ℕ) → Status → Type 0
+Sends reply before after ReadFault = after ≡ before
+Sends reply before after NoMemory = after ≡ before
+Sends reply before after WriteFault = TookFewer before after reply.1
+Sends reply before after status = (reply.0 ≡ status) × Took before after reply.1
+
+-- what the sink has taken is the answer to the bytes of the source and of the image
+pub record Writes (command : Option Command) (left image : Option (List ℕ)) (before after : Option (List ℕ)) (status : Status) : Type 0 where
+  pub source : List ℕ
+  pub of_source : AreOf left source
+  pub text : List ℕ
+  pub of_image : AreOf image text
+  pub sends : Sends (answer command source text) before after status
+
+-- What a translation promises
 
 -- the text that a program is translated to: the canonical spelling of a proper tree, which it reads back
--- as, and which means the same
--- and which means the same as the program
+-- as, and which means the same as the program
 pub record Translates (program : Program) (text : List ℕ) : Type 0 where
   pub tree : StProgram
   pub proper : Proper tree
@@ -80,32 +170,3 @@ pub record IsTranslated (left before after : Option (List ℕ)) : Type 0 where
   pub text : List ℕ
   pub translates : Translates program text
   pub taken : Took before after text
-
--- how far the source was read: not at all without a command, and else to its end or to the byte past
--- the limit, but where reading failed or memory ran out
-abbrev pub Reads : Option Command → Option (List ℕ) → Option (List ℕ) → Status → Type 0
-Reads None before after status = after ≡ before
-Reads (Some Translate) before after ReadFault = GaveAtMost before after INPUT_LIMIT
-Reads (Some Translate) before after NoMemory = GaveAtMost before after INPUT_LIMIT
-Reads (Some Translate) before after TooLong = GaveExactly before after (INPUT_LIMIT + 1)
-Reads (Some Translate) before after WriteFault =
-    ((bytes : List ℕ) × GaveAll before after bytes) ⊎ GaveExactly before after (INPUT_LIMIT + 1)
-Reads (Some Translate) before after status = (bytes : List ℕ) × GaveAll before after bytes
-
--- a status whose text is written whole
-abbrev pub IsWritten : Status → Type 0
-IsWritten Done = Unit {0}
-IsWritten Refused = Unit {0}
-IsWritten Usage = Unit {0}
-IsWritten BadImage = Unit {0}
-IsWritten BadCall = Unit {0}
-IsWritten Faulted = Unit {0}
-IsWritten Going = Unit {0}
-IsWritten ReadFault = ⊥
-IsWritten WriteFault = ⊥
-IsWritten TooLong = Unit {0}
-IsWritten NoMemory = ⊥
-
--- a text was written, or a proper front of it
-abbrev pub Ends : Option (List ℕ) → Option (List ℕ) → Status → List ℕ → Status → Type 0
-Ends before after status text result = ((result ≡ status) × Took before after text) ⊎ ((result ≡ WriteFault) × TookFewer before after text)

@@ -1,19 +1,52 @@
 -- What the words behind the program's name mean.
-use Rattle.std.specs.Prelude.{◌≡◌, ℕ, List, [], ◌∷◌, Option, Some, None, Result, Ok, Err, codes, if◌then◌else◌}
+use Rattle.std.specs.Prelude.{◌≡◌, ℕ, ◌-◌, ◌^◌, List, [], ◌∷◌, Option, Some, None, option_map, option_and_then, Result, Ok, Err, codes, if◌then◌else◌}
 use Rattle.std.specs.Str.{bytes_eq}
+use Rattle.stl2st.specs.CallWord.{number_in, call_meant}
 use Rattle.stl2st.specs.declared.command.Command.{Command}
-use Rattle.stl2st.specs.declared.command.Command.TheVariants.{Translate}
+use Rattle.stl2st.specs.declared.command.Command.TheVariants.{Translate, Check, RunStl}
 use Rattle.stl2st.specs.declared.command.WordsRefusal.{WordsRefusal}
 use Rattle.stl2st.specs.declared.command.WordsRefusal.TheVariants.{Usage, NoMemory}
 
--- the command that a list of words means, if it is one; of the commands `translate` alone is built
+-- how many steps a run may take: one to twenty digits, below 2^64
+abbrev pub steps_meant : List ℕ → Option ℕ
+steps_meant word = number_in 20 (2 ^ 64 - 1) word
+
+-- a run by its steps, its call and its image
+unfoldable pub run_with : List ℕ → List ℕ → List ℕ → Option Command
+run_with steps call image =
+    if bytes_eq image [] then None
+    else option_and_then (λ number. option_map (λ block. RunStl number block) (call_meant call)) (steps_meant steps)
+
+-- a run by the words behind `run-stl`
+abbrev pub run_meant : List (List ℕ) → Option Command
+run_meant [] = None
+run_meant (a ∷ []) = None
+run_meant (a ∷ b ∷ []) = None
+run_meant (steps ∷ call ∷ image ∷ []) = run_with steps call image
+run_meant (a ∷ b ∷ c ∷ d ∷ rest) = None
+
+-- a command of one word
+abbrev pub word_meant : List ℕ → Option Command
+word_meant word =
+    if bytes_eq word (codes "translate") then Some Translate else if bytes_eq word (codes "check") then Some Check else None
+
+-- the command that a list of words means, if it is one; case counts in its first word
 abbrev pub command_meant : List (List ℕ) → Option Command
 command_meant [] = None
-command_meant (word ∷ []) = if bytes_eq word (codes "translate") then Some Translate else None
-command_meant (word ∷ more ∷ rest) = None
+command_meant (word ∷ []) = word_meant word
+command_meant (word ∷ a ∷ rest) = if bytes_eq word (codes "run-stl") then run_meant (a ∷ rest) else None
 
 -- the answer is the command meant, or Usage exactly where there is none; or want of memory
 abbrev pub Means : Option Command → Result Command WordsRefusal → Type 0
 Means meant (Ok command) = meant ≡ Some command
 Means meant (Err Usage) = meant ≡ None
 Means meant (Err NoMemory) = Unit {0}
+
+-- the file of the image: the fourth word, where there are four
+abbrev pub image_meant : List (List ℕ) → Option (List ℕ)
+image_meant [] = None
+image_meant (a ∷ []) = None
+image_meant (a ∷ b ∷ []) = None
+image_meant (a ∷ b ∷ c ∷ []) = None
+image_meant (a ∷ b ∷ c ∷ d ∷ []) = Some d
+image_meant (a ∷ b ∷ c ∷ d ∷ e ∷ rest) = None

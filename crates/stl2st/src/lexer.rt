@@ -1,5 +1,5 @@
 //! Cuts a source text into pieces, and keeps those that are tokens.
-ghost use Rattle.std.specs.Prelude.{◌≡◌, ◌-◌, if◌then◌else◌, ◌≤◌, ◌+◌, ◌&&◌, length, take, drop, codes, not, ◌==◌, ◌||◌, ◌<◌, ◌^◌, IfSome, OnOk, option_map, ◌++◌};
+ghost use Rattle.std.specs.Prelude.{◌≡◌, ◌-◌, ◌≤◌, ◌+◌, ◌&&◌, length, take, drop, codes, not, ◌==◌, ◌||◌, ◌<◌, IfSome, OnOk, option_map, ◌++◌};
 ghost use Rattle.s7_base.specs.Tokens.{is_blank, is_word_byte, is_sign, is_double_sign, begins_with, after_blanks, line_size, closed_size, word_piece, sign_piece, comment_or_sign, mark_piece, piece_at, piece_size, token, gap, token_text, line_behind, token_of, tokens_of};
 ghost use Rattle.std.specs.List.{prefix_len};
 ghost use Rattle.std.specs.Str.{str_eq_ignore_ascii_case};
@@ -33,7 +33,7 @@ fn is_blank(b: u8) -> bool
     b == b' ' || b == b'\t' || b == b'\r'
 }
 
-fn is_word_byte(b: u8) -> bool
+pub fn is_word_byte(b: u8) -> bool
     ensures { result ≡ is_word_byte b }
 {
     matches!(b, b'0'..=b'9' | b'A'..=b'Z' | b'a'..=b'z' | b'_')

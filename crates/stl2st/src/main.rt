@@ -2,22 +2,28 @@
 //! source did, or names the first broken rule and its line.
 //!
 //! `answer` has the call that `main` makes, with the promises of the program as its clauses. Below it
-//! `lexer`, `operand`, `statement` and `reader` judge a source text, `translate` turns its program
-//! into a tree, and `print` writes the tree.
+//! `command` and `call` read the words, `reply` makes the answer of a command; `lexer`, `operand`,
+//! `statement` and `reader` judge a source text, `translate` turns its program into a tree, and `print`
+//! writes the tree.
 #![tactic(auto)]
 
 use crate::answer::stl2st;
+use crate::command::image_name;
 use crate::status::Status;
 use s7_io::{NoFile, StdSink, StdSource};
+use std::fs::File;
 use std::process::ExitCode;
 use std::{env, io};
 
 mod answer;
+mod call;
 mod command;
 mod lexer;
+mod number;
 mod operand;
 mod print;
 mod reader;
+mod reply;
 mod statement;
 mod status;
 #[cfg(test)]
@@ -34,6 +40,14 @@ fn arguments(rt: &HostRuntime) -> io::Result<Vec<String>> {
     Ok(words)
 }
 
+/// The file with the image, if the words name one and it can be opened.
+fn image_file(rt: &HostRuntime, words: &[String]) -> Option<File> {
+    match image_name(words) {
+        Some(name) => File::open(rt, name).ok(),
+        None => None,
+    }
+}
+
 fn run(rt: &HostRuntime) -> Status {
     let words = match arguments(rt) {
         Ok(words) => words,
@@ -41,16 +55,19 @@ fn run(rt: &HostRuntime) -> Status {
         // A word that is no text is part of no command.
         Err(_) => Vec::new(rt.alloc()),
     };
+    let words = words.as_slice();
     let mut program = StdSource::new(rt.reader());
-    let mut image = NoFile::new();
     let mut out = StdSink::new(io::writer(rt));
-    stl2st(
-        rt.alloc(),
-        words.as_slice(),
-        &mut program,
-        &mut image,
-        &mut out,
-    )
+    match image_file(rt, words) {
+        Some(file) => {
+            let mut image = StdSource::new(file);
+            stl2st(rt.alloc(), words, &mut program, &mut image, &mut out)
+        }
+        None => {
+            let mut image = NoFile::new();
+            stl2st(rt.alloc(), words, &mut program, &mut image, &mut out)
+        }
+    }
 }
 
 fn main(rt: HostRuntime) -> ExitCode {

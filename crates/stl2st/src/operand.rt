@@ -1,37 +1,13 @@
 //! Reads the operand of a bit instruction.
-ghost use Rattle.std.specs.Prelude.{◌≡◌, ◌&&◌, ◌+◌, ◌*◌, ◌-◌, ◌<◌, ◌≤◌, nat_le, IfSome};
-ghost use Rattle.s7_base.specs.Tokens.{is_between};
-ghost use Rattle.s7_base.specs.Areas.{area_bytes};
-ghost use Rattle.stl_tree.specs.Items.{number_of, area_of, area_of_letter, bit_at, is_bit_number, short_operand, long_operand, bit_operand};
+ghost use Rattle.std.specs.Prelude.{◌≡◌, ◌&&◌, ◌-◌, ◌<◌};
+ghost use Rattle.memory_areas.specs.Access.{area_bytes};
+ghost use Rattle.stl_tree.specs.Items.{area_of, area_of_letter, bit_at, is_bit_number, short_operand, long_operand, bit_operand};
 
+use crate::number::number_of;
 use crate::words::{is_sign, is_word_kind};
-use s7_base::{AreaName, INPUT_BYTES, MARKER_BYTES, OUTPUT_BYTES, Token};
+use memory_areas::{AreaName, INPUT_BYTES, MARKER_BYTES, OUTPUT_BYTES};
+use s7_base::Token;
 use stl_tree::Operand;
-
-fn is_next_digit(most: u32, value: u32, digit: u8) -> bool
-    requires { value ≤ most }
-    ensures { result ≡ (is_between 48 57 digit && nat_le (value * 10 + (digit - 48)) most) }
-{
-    digit.is_ascii_digit() && u64::from(value) * 10 + u64::from(digit - b'0') <= u64::from(most)
-}
-
-/// A decimal number of at most `most`, with any number of leading zeros.
-pub fn number_of(most: u32, digits: &[u8]) -> Option<u32>
-    ensures value { result ≡ number_of most digits.now }
-    ensures within { IfSome result (λ number. number ≤ most) }
-{
-    if digits.is_empty() {
-        return None;
-    }
-    let mut value = 0;
-    for digit in digits {
-        if !is_next_digit(most, value, *digit) {
-            return None;
-        }
-        value = value * 10 + u32::from(*digit - b'0');
-    }
-    Some(value)
-}
 
 fn area_of_letter(letter: u8) -> Option<AreaName>
     ensures { result ≡ area_of_letter letter }
@@ -57,9 +33,9 @@ fn area_bytes(area: AreaName) -> u32
     ensures { result ≡ area_bytes area }
 {
     match area {
-        AreaName::I => INPUT_BYTES,
-        AreaName::Q => OUTPUT_BYTES,
-        AreaName::M => MARKER_BYTES,
+        AreaName::I => INPUT_BYTES as u32,
+        AreaName::Q => OUTPUT_BYTES as u32,
+        AreaName::M => MARKER_BYTES as u32,
         AreaName::L | AreaName::Db | AreaName::Di => 0,
     }
 }
@@ -69,9 +45,9 @@ fn bit_at(area: Option<AreaName>, byte: &[u8], bit: &[u8]) -> Option<Operand>
     ensures { result ≡ bit_at area byte.now bit.now }
 {
     let area = area?;
-    let byte = number_of(area_bytes(area).saturating_sub(1), byte)?;
+    let byte = number_of(u64::from(area_bytes(area).saturating_sub(1)), byte)?;
     let bit = number_of(7, bit)?;
-    Some(Operand::Direct(area, byte, bit as u8))
+    Some(Operand::Direct(area, byte as u32, bit as u8))
 }
 
 /// A point and a number with no blank before either.

@@ -6,7 +6,8 @@ ghost use Rattle.st_tree.specs.Reading.{HasTree};
 ghost use Rattle.st_tree.specs.Spelling.{register_word, area_word, width_word, bit_text, var_text, literal_text, prefix_word, infix_word, written, statement_line, unit_text, spelling};
 
 use itoa::Buffer;
-use s7_base::{AreaName, NoMemory, Reg, Width};
+use memory_areas::AreaName;
+use s7_base::{NoMemory, Reg, Width};
 use st_tree::{BinaryOp, Expr, Pou, StProgram, StType, Stmt, UnaryOp, Var};
 use std::alloc::Global;
 

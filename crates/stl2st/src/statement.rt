@@ -1,7 +1,6 @@
 //! Reads one statement, and says why an item that fits no form is refused.
-ghost use Rattle.std.specs.Prelude.{◌≡◌, ◌≤◌, take, codes, not, length};
-ghost use Rattle.std.specs.List.{prefix_len};
-ghost use Rattle.stl_tree.specs.Items.{op_with, statement_op, statement_size, begins_with_typed_sign, begins_master_control, begins_with_mnemonic, begins_with_block_word, is_not_built, is_label, begins_with_label, label_at, is_complete, misfit_reason, statement_of, in_body};
+ghost use Rattle.std.specs.Prelude.{◌≡◌, ◌≤◌, take, not, length};
+ghost use Rattle.stl_tree.specs.Items.{op_with, statement_op, statement_size, begins_with_typed_sign, begins_master_control, begins_with_mnemonic, begins_with_block_word, is_not_built, is_label, begins_with_label, label_at, is_complete, misfit_reason, statement_of};
 ghost use Rattle.stl_tree.specs.Words.{is_sign};
 ghost use Rattle.stl2st.specs.Contexts.{view};
 

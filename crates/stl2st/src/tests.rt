@@ -1,12 +1,14 @@
 //! What no clause says: that the definitions give the texts and the refusals that the standard asks
 //! for, and that a call answers while there is memory.
 use crate::answer::{INPUT_LIMIT, stl2st};
-use crate::command::{Command, WordsRefusal, read_words};
+use crate::command::{Command, WordsRefusal, image_name, read_words};
 use crate::status::Status;
-use s7_base::NoMemory;
+use memory_areas::{Area, Place};
+use s7_base::{List, NoMemory, Width};
 use s7_io::{MemSink, MemSource, NoFile, Source, SureSource};
 use std::alloc::Global;
 use std::test::Fail;
+use stl_tree::{BlockName, Call};
 
 const ROW: &[u8] =
     b"ORGANIZATION_BLOCK OB 1\nBEGIN\nA I 0.0; A I 0.1; = Q 4.0;\nEND_ORGANIZATION_BLOCK\n";
@@ -70,10 +72,11 @@ const BODIES: [(&[u8], &[&str]); 14] = [
     (b"A I 0.0; { S7_m_c := 'true' }", CHECK),
 ];
 
-/// The words, one by one.
+/// The words, one by one; `-` is the empty word.
 fn words_of(alloc: Global, line: &str) -> Result<Vec<String>, NoMemory> {
     let mut words = Vec::new(alloc);
     for word in line.split_whitespace() {
+        let word = if word == "-" { "" } else { word };
         words.push(String::from_str(alloc, word)?)?;
     }
     Ok(words)
@@ -99,23 +102,38 @@ fn unit_with(alloc: Global, lines: &[&str]) -> Result<Vec<u8>, NoMemory> {
     Ok(text)
 }
 
-/// Calls the program with the words of a line, and with no image.
-fn call<P: Source>(
+/// Calls the program with the words of a line.
+fn call<P: Source, M: Source>(
     alloc: Global,
     line: &str,
     program: &mut P,
+    image: &mut M,
     out: &mut MemSink,
 ) -> Result<Status, NoMemory> {
     let words = words_of(alloc, line)?;
-    let mut image = NoFile::new();
-    Ok(stl2st(alloc, words.as_slice(), program, &mut image, out))
+    Ok(stl2st(alloc, words.as_slice(), program, image, out))
 }
 
-/// What `translate` ends with and writes for a source, where nothing fails.
+/// What the words end with and write for a source and an image, where nothing fails.
+fn answered(
+    alloc: Global,
+    line: &str,
+    source: &[u8],
+    image: &[u8],
+) -> Result<(Status, MemSink), NoMemory> {
+    let mut program = MemSource::new(alloc, source, 20, &[])?;
+    let mut image = MemSource::new(alloc, image, 5, &[])?;
+    let mut out = MemSink::new(alloc, 1000, 7, &[])?;
+    let status = call(alloc, line, &mut program, &mut image, &mut out)?;
+    Ok((status, out))
+}
+
+/// What `translate` ends with and writes for a source. A read of its image would fail.
 fn translated(alloc: Global, source: &[u8]) -> Result<(Status, MemSink), NoMemory> {
     let mut program = MemSource::new(alloc, source, 20, &[])?;
+    let mut image = NoFile::new();
     let mut out = MemSink::new(alloc, 1000, 7, &[])?;
-    let status = call(alloc, "translate", &mut program, &mut out)?;
+    let status = call(alloc, "translate", &mut program, &mut image, &mut out)?;
     Ok((status, out))
 }
 
@@ -204,24 +222,131 @@ fn sources_are_refused(rt: HostRuntime) -> Result<(), Fail> {
     Ok(())
 }
 
+/// The command that runs five steps of a block.
+fn run_of(
+    alloc: Global,
+    block: BlockName,
+    instance: u16,
+    actuals: &[(Area, u32, u8, Width)],
+) -> Result<Command, NoMemory> {
+    let mut list = List::new(alloc);
+    for (area, byte, bit, width) in actuals {
+        let place = Place {
+            area: *area,
+            byte: *byte,
+            bit: *bit,
+        };
+        list.push((place, *width))?;
+    }
+    let call = Call {
+        block,
+        instance,
+        actuals: list,
+    };
+    Ok(Command::RunStl(5, call))
+}
+
 #[test]
-fn words_are_translate_or_no_command(rt: HostRuntime) -> Result<(), Fail> {
+fn calls_are_read(rt: HostRuntime) -> Result<(), Fail> {
     let alloc = rt.alloc();
-    let words = words_of(alloc, "translate")?;
-    assert_eq!(rt; read_words(alloc, words.as_slice()), Ok(Command::Translate));
+    let word = (Area::M, 4, 0, Width::Word);
+    let bit = (Area::M, 0, 0, Width::Bit);
+    let of_block: [(Area, u32, u8, Width); 4] = [
+        (Area::Db(5), 0, 7, Width::Bit),
+        (Area::Db(5), 4, 0, Width::Byte),
+        (Area::Db(5), 65535, 0, Width::Word),
+        (Area::Db(5), 0, 0, Width::Dword),
+    ];
+    let of_areas: [(Area, u32, u8, Width); 3] = [
+        (Area::I, 0, 7, Width::Bit),
+        (Area::Q, 4, 0, Width::Byte),
+        (Area::I, 65535, 0, Width::Dword),
+    ];
+    let calls: [(&str, BlockName, u16, &[(Area, u32, u8, Width)]); 8] = [
+        ("ob1", BlockName::Ob(1), 0, &[]),
+        ("OB00001", BlockName::Ob(1), 0, &[]),
+        ("FC10", BlockName::Fc(10), 0, &[]),
+        ("fc10(mw4,M0.0)", BlockName::Fc(10), 0, &[word, bit]),
+        ("FC10(MW4,M0.0)", BlockName::Fc(10), 0, &[word, bit]),
+        ("FB1/db5", BlockName::Fb(1), 5, &[]),
+        (
+            "FC1(DB5.DBX0.7,DB5.DBB4,db5.dbw65535,DB5.DBD0)",
+            BlockName::Fc(1),
+            0,
+            &of_block,
+        ),
+        (
+            "FC65535(I0.7,qb00004,ID65535)",
+            BlockName::Fc(65535),
+            0,
+            &of_areas,
+        ),
+    ];
+    for (call, block, instance, actuals) in calls {
+        let line = format!(in alloc; "run-stl 05 {call} image")?;
+        let words = words_of(alloc, line.as_str())?;
+        let want = run_of(alloc, block, instance, actuals)?;
+        assert_eq!(rt; read_words(alloc, words.as_slice()), Ok(want), "{call}");
+        assert_eq!(rt; image_name(words.as_slice()), Some("image"), "{call}");
+    }
+    Ok(())
+}
 
-    for line in ["", "--help", "translate x", "TRANSLATE", "check"] {
+#[test]
+fn lines_are_commands(rt: HostRuntime) -> Result<(), Fail> {
+    let alloc = rt.alloc();
+    for (line, is_command) in [
+        ("translate", true),
+        ("check", true),
+        ("run-stl 0 OB1 x", true),
+        ("run-stl 18446744073709551615 OB1 x", true),
+        ("run-stl 18446744073709551616 OB1 x", false),
+        ("run-stl 000000000000000000001 OB1 x", false),
+        ("run-stl - OB1 x", false),
+        ("run-stl +1 OB1 x", false),
+        ("run-stl 5 OB1 -", false),
+        ("run-stl 5 OB1", false),
+        ("run-stl 5 OB1 x y", false),
+        ("RUN-STL 5 OB1 x", false),
+        ("run-st 5 OB1 x", false),
+        ("run-stl 5 FC10() x", false),
+        ("run-stl 5 FC10(M0.8) x", false),
+        ("run-stl 5 FC10(M0.00) x", false),
+        ("run-stl 5 FC10(IX0.0) x", false),
+        ("run-stl 5 FC1(MB65535) x", true),
+        ("run-stl 5 FC1(MB70000) x", false),
+        ("run-stl 5 FC1(M0.0,) x", false),
+        ("run-stl 5 OB65536 x", false),
+        ("run-stl 5 OB000001 x", false),
+        ("run-stl 5 FB1 x", false),
+        ("run-stl 5 OBä x", false),
+        ("Check", false),
+        ("translate x", false),
+        ("", false),
+    ] {
         let words = words_of(alloc, line)?;
-        assert_eq!(rt;
-            read_words(alloc, words.as_slice()),
-            Err(WordsRefusal::Usage),
-            "{line}"
-        );
+        let answer = read_words(alloc, words.as_slice());
+        assert_eq!(rt; answer.is_ok(), is_command, "{line}");
+        assert_eq!(rt; answer == Err(WordsRefusal::Usage), !is_command, "{line}");
+    }
+    Ok(())
+}
 
-        // A read of this source would fail.
+#[test]
+fn words_that_are_no_command_get_the_usage_line(rt: HostRuntime) -> Result<(), Fail> {
+    let alloc = rt.alloc();
+    for line in [
+        "",
+        "--help",
+        "translate x",
+        "run-stl 3 FC10() img",
+        "demo 3",
+    ] {
+        // A read of either source would fail.
         let mut program = MemSource::new(alloc, ROW, 20, &[1])?;
+        let mut image = NoFile::new();
         let mut out = MemSink::new(alloc, 1000, 7, &[])?;
-        let status = call(alloc, line, &mut program, &mut out)?;
+        let status = call(alloc, line, &mut program, &mut image, &mut out)?;
         assert_eq!(rt;
             (status, out.taken()),
             (Status::Usage, USAGE_LINE),
@@ -231,54 +356,259 @@ fn words_are_translate_or_no_command(rt: HostRuntime) -> Result<(), Fail> {
     Ok(())
 }
 
+/// A body that sets Q 4.0 where I 0.0 is clear.
+const NEGATED: &[u8] = b"AN I 0.0; = Q 4.0;";
+
+const SERIES: &[u8] = b"A I 0.0; A I 0.1; = Q 4.0;";
+
+const Q_SET: &[u8] = b"# ENDED\nQ 0: 00 00 00 00 01 00 00 00 00 00 00 00 00 00 00 00\n";
+
+const BOTH_SET: &[u8] = b"# ENDED
+I 0: 03 00 00 00 00 00 00 00 00 00 00 00 00 00 00 00
+Q 0: 00 00 00 00 01 00 00 00 00 00 00 00 00 00 00 00
+";
+
+/// The words, the body and the image of runs; then the answer.
+const RUNS: [(&str, &[u8], &[u8], Status, &[u8]); 22] = [
+    ("run-stl 1 OB1 img", b"", b"", Status::Done, b"# ENDED\n"),
+    ("run-stl 0 OB1 img", b"", b"", Status::Going, b"# GOING\n"),
+    (
+        "run-stl 2 OB1 img",
+        NEGATED,
+        b"",
+        Status::Going,
+        b"# GOING\n",
+    ),
+    ("run-stl 3 OB1 img", NEGATED, b"", Status::Done, Q_SET),
+    (
+        "run-stl 18446744073709551615 ob00001 img",
+        NEGATED,
+        b"",
+        Status::Done,
+        Q_SET,
+    ),
+    (
+        "run-stl 3 OB1 img",
+        NEGATED,
+        b"I 0: 01",
+        Status::Done,
+        b"# ENDED\nI 0: 01 00 00 00 00 00 00 00 00 00 00 00 00 00 00 00\n",
+    ),
+    (
+        "run-stl 4 OB1 img",
+        SERIES,
+        b"# both\r\n\nI 0: 03\r\n",
+        Status::Done,
+        BOTH_SET,
+    ),
+    (
+        "run-stl 4 OB1 img",
+        SERIES,
+        b"I 0: 00\nI 0: 03\n",
+        Status::Done,
+        BOTH_SET,
+    ),
+    (
+        "run-stl 3 fb1/db5 img",
+        NEGATED,
+        b"",
+        Status::BadCall,
+        b"bad call\n",
+    ),
+    (
+        "run-stl 10 FC99 img",
+        SERIES,
+        b"",
+        Status::BadCall,
+        b"bad call\n",
+    ),
+    (
+        "run-stl 10 OB2 img",
+        SERIES,
+        b"",
+        Status::BadCall,
+        b"bad call\n",
+    ),
+    (
+        "run-stl 3 FC10() img",
+        NEGATED,
+        b"",
+        Status::Usage,
+        USAGE_LINE,
+    ),
+    (
+        "run-stl 3 OB1 img",
+        NEGATED,
+        b"I 0: 01\nM 0: 0G\n",
+        Status::BadImage,
+        b"image line 2: BadByte\n",
+    ),
+    (
+        "run-stl 3 OB1 img",
+        NEGATED,
+        b"M 8191: 00 00\n",
+        Status::BadImage,
+        b"image line 1: OutsideArea\n",
+    ),
+    (
+        "run-stl 3 OB1 img",
+        NEGATED,
+        b"M 8191: 00\nDB1 0: 00\n",
+        Status::BadImage,
+        b"image line 2: OutsideArea\n",
+    ),
+    (
+        "run-stl 3 OB1 img",
+        NEGATED,
+        b"#\n\nm 0: 00\n",
+        Status::BadImage,
+        b"image line 3: BadLine\n",
+    ),
+    // The image's lines come before the call.
+    (
+        "run-stl 3 FC99 img",
+        NEGATED,
+        b"M 0:\n",
+        Status::BadImage,
+        b"image line 1: BadLine\n",
+    ),
+    (
+        "run-stl 3 OB1 img",
+        b"FOO 5;",
+        b"M 0:\n",
+        Status::Refused,
+        b"line 3: BadStatement\n",
+    ),
+    ("check", SERIES, b"M 0:\n", Status::Done, b"accepted\n"),
+    ("check", b"", b"", Status::Done, b"accepted\n"),
+    (
+        "check",
+        b"L 5;",
+        b"",
+        Status::Refused,
+        b"line 3: Unsupported(NotBuilt)\n",
+    ),
+    (
+        "translate",
+        b"",
+        b"M 0:\n",
+        Status::Done,
+        b"PROGRAM OB1\nEND_PROGRAM\n",
+    ),
+];
+
 #[test]
-fn faults_are_answered(rt: HostRuntime) -> Result<(), Fail> {
+fn bodies_are_run(rt: HostRuntime) -> Result<(), Fail> {
     let alloc = rt.alloc();
-    // The read and the write that fail, and the room; then the answer, and how much of the text is taken.
-    let faults: [(u32, u32, usize, Status, &[u8]); 4] = [
-        (0, 0, 1000, Status::Done, ROW_TEXT),
-        (3, 0, 1000, Status::ReadFault, b""),
-        (0, 0, 10, Status::WriteFault, b"PROGRAM OB"),
-        (0, 2, 1000, Status::WriteFault, b"PROGRAM"),
-    ];
-    for (read, write, room, answer, taken) in faults {
-        let mut program = MemSource::new(alloc, ROW, 20, &[read])?;
-        let mut out = MemSink::new(alloc, room, 7, &[write])?;
-        let status = call(alloc, "translate", &mut program, &mut out)?;
+    for (line, body, image, answer, text) in RUNS {
+        let source = with_body(alloc, body)?;
+        let (status, out) = answered(alloc, line, source.as_slice(), image)?;
         assert_eq!(rt;
             (status, out.taken()),
-            (answer, taken),
-            "read {read}, write {write}, room {room}"
+            (answer, text),
+            "{line}: {}: {}",
+            body.escape_ascii(),
+            image.escape_ascii()
         );
     }
     Ok(())
 }
 
 #[test]
-fn a_missing_source_is_a_read_fault(rt: HostRuntime) -> Result<(), Fail> {
+fn faults_are_answered(rt: HostRuntime) -> Result<(), Fail> {
     let alloc = rt.alloc();
-    let mut program = NoFile::new();
-    let mut out = MemSink::new(alloc, 1000, 7, &[])?;
-    let status = call(alloc, "translate", &mut program, &mut out)?;
-    assert_eq!(rt; (status, out.taken()), (Status::ReadFault, b"".as_slice()));
+    // The words; the reads of the source and of the image and the write that fail, and the room; then
+    // the answer, and how much of the text is taken.
+    let faults: [(&str, u32, u32, u32, usize, Status, &[u8]); 13] = [
+        ("translate", 0, 1, 0, 1000, Status::Done, ROW_TEXT),
+        ("translate", 3, 1, 0, 1000, Status::ReadFault, b""),
+        ("translate", 0, 1, 0, 10, Status::WriteFault, b"PROGRAM OB"),
+        ("translate", 0, 1, 2, 1000, Status::WriteFault, b"PROGRAM"),
+        ("check", 0, 1, 0, 1000, Status::Done, b"accepted\n"),
+        ("check", 3, 1, 0, 1000, Status::ReadFault, b""),
+        ("check", 0, 1, 1, 1000, Status::WriteFault, b""),
+        ("run-stl 9 OB1 img", 0, 0, 0, 1000, Status::Done, BOTH_SET),
+        ("run-stl 9 OB1 img", 1, 0, 0, 1000, Status::ReadFault, b""),
+        ("run-stl 9 OB1 img", 0, 1, 0, 1000, Status::ReadFault, b""),
+        ("run-stl 9 OB1 img", 0, 3, 0, 1000, Status::ReadFault, b""),
+        (
+            "run-stl 9 OB1 img",
+            0,
+            0,
+            2,
+            1000,
+            Status::WriteFault,
+            b"# ENDED",
+        ),
+        (
+            "run-stl 9 OB1 img",
+            0,
+            0,
+            0,
+            9,
+            Status::WriteFault,
+            b"# ENDED\nI",
+        ),
+    ];
+    for (line, read, image_read, write, room, answer, taken) in faults {
+        let mut program = MemSource::new(alloc, ROW, 20, &[read])?;
+        let mut image = MemSource::new(alloc, b"I 0: 03\n", 4, &[image_read])?;
+        let mut out = MemSink::new(alloc, room, 7, &[write])?;
+        let status = call(alloc, line, &mut program, &mut image, &mut out)?;
+        assert_eq!(rt;
+            (status, out.taken()),
+            (answer, taken),
+            "{line}, read {read} and {image_read}, write {write}, room {room}"
+        );
+    }
     Ok(())
 }
 
 #[test]
-fn a_source_at_the_limit_is_translated(rt: HostRuntime) -> Result<(), Fail> {
+fn a_missing_file_is_a_read_fault(rt: HostRuntime) -> Result<(), Fail> {
+    let alloc = rt.alloc();
+    // The words and the source, then the answer. The image is not read where the source is refused.
+    let missing: [(&str, &[u8], Status, &[u8]); 2] = [
+        ("run-stl 1 OB1 img", ROW, Status::ReadFault, b""),
+        (
+            "run-stl 1 OB1 img",
+            b"FOO",
+            Status::Refused,
+            b"line 1: BadStatement\n",
+        ),
+    ];
+    for (line, source, answer, taken) in missing {
+        let mut program = SureSource::new(alloc, source, 20)?;
+        let mut image = NoFile::new();
+        let mut out = MemSink::new(alloc, 1000, 7, &[])?;
+        let status = call(alloc, line, &mut program, &mut image, &mut out)?;
+        assert_eq!(rt; (status, out.taken()), (answer, taken), "{line}");
+    }
+    Ok(())
+}
+
+#[test]
+fn sources_at_the_limit_are_taken(rt: HostRuntime) -> Result<(), Fail> {
     let alloc = rt.alloc();
     let mut source = Vec::with_capacity(alloc, INPUT_LIMIT + 1)?;
     source.extend_from_slice(ROW)?;
-    for (size, answer, text) in [
-        (ROW.len(), Status::Done, ROW_TEXT),
-        (INPUT_LIMIT, Status::Done, ROW_TEXT),
-        (INPUT_LIMIT + 1, Status::TooLong, b"too long\n"),
+    for (line, size, answer, text) in [
+        ("translate", ROW.len(), Status::Done, ROW_TEXT),
+        ("translate", INPUT_LIMIT, Status::Done, ROW_TEXT),
+        ("check", INPUT_LIMIT, Status::Done, b"accepted\n"),
+        ("check", INPUT_LIMIT + 1, Status::TooLong, b"too long\n"),
+        ("translate", INPUT_LIMIT + 1, Status::TooLong, b"too long\n"),
     ] {
         source.resize(size, b'\n')?;
         let mut program = SureSource::new(alloc, source.as_slice(), 4096)?;
+        let mut image = NoFile::new();
         let mut out = MemSink::new(alloc, 1000, 1000, &[])?;
-        let status = call(alloc, "translate", &mut program, &mut out)?;
-        assert_eq!(rt; (status, out.taken()), (answer, text), "{size} bytes");
+        let status = call(alloc, line, &mut program, &mut image, &mut out)?;
+        assert_eq!(rt;
+            (status, out.taken()),
+            (answer, text),
+            "{line}: {size} bytes"
+        );
     }
     Ok(())
 }

@@ -1,10 +1,10 @@
 -- Runs of small programs, held against worked rows by computing them.
 use Rattle.std.proofs.Common.{◌≡◌, refl, ℕ, List, [], ◌∷◌, ◌++◌, map, Some, None}
-use Rattle.s7_base.specs.Areas.{Areas}
-use Rattle.s7_base.specs.End.{End, Ended, Going}
+use Rattle.memory_areas.specs.Areas.{Areas}
+use Rattle.memory_areas.specs.End.{End, Ended, Going}
 use Rattle.s7_base.specs.declared.check.Check.TheVariants as check
 use Rattle.s7_base.specs.declared.outcome.Fault.TheVariants.{AreaLength}
-use Rattle.s7_base.specs.declared.place.AreaName.TheVariants as area
+use Rattle.memory_areas.specs.declared.place.AreaName.TheVariants as area
 use Rattle.stl_tree.specs.StlRun.{stl_run, size_of}
 use Rattle.stl_tree.specs.declared.program.BitArg.TheVariants.{At}
 use Rattle.stl_tree.specs.declared.program.BlockName.TheVariants.{Ob}
@@ -33,7 +33,7 @@ call_of number = record { block = Ob number; instance = 0; actuals = [] }
 
 -- one byte of inputs, one of outputs and no bit memory
 abbrev memory_of : ℕ → ℕ → Areas
-memory_of input output = record { inputs = input ∷ []; outputs = output ∷ []; markers = [] }
+memory_of input output = record { inputs = input ∷ []; outputs = output ∷ []; markers = []; blocks = [] }
 
 abbrev input : ℕ → Operand
 input bit = Direct area.I 0 bit

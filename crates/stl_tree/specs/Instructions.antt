@@ -1,6 +1,8 @@
 -- The instruction table: what each instruction does to the registers and the memory.
 use Rattle.std.specs.Prelude.{Bool, true, false, not, ◌&&◌, ◌||◌, if◌then◌else◌, Result, Ok, Err}
-use Rattle.s7_base.specs.Areas.{Areas, read_bit, write_bit}
+use Rattle.memory_areas.specs.Access.{area_named, read_bit, write_bit}
+use Rattle.memory_areas.specs.Areas.{Contents}
+use Rattle.memory_areas.specs.declared.place.Place.{Place}
 use Rattle.s7_base.specs.declared.check.Check.{Check}
 use Rattle.s7_base.specs.declared.check.Check.TheVariants as check
 use Rattle.s7_base.specs.declared.outcome.Fault.{Fault}
@@ -15,8 +17,8 @@ use Rattle.stl_tree.specs.declared.program.Operand.TheVariants as operand
 -- what an instruction does: the next one follows, or its block ends, with the registers and the memory
 -- as they then are; or it ends the run by a fault and changes nothing
 pub data Effect : Type 0 where
-  next : RegisterValues → Areas → Effect
-  leave : RegisterValues → Areas → Effect
+  next : RegisterValues → Contents → Effect
+  leave : RegisterValues → Contents → Effect
   fault : Fault → Effect
 
 -- the effect by a value, where no fault stands in its place
@@ -24,17 +26,14 @@ abbrev pub with_value : {A : Type 0} → Result A Fault → (A → Effect) → E
 with_value (Ok x) effect = effect x
 with_value (Err f) effect = fault f
 
--- the bit that an operand names
-abbrev pub bit_at_operand : Operand → Areas → Result Bool Fault
-bit_at_operand (operand.Direct a byte x) memory = read_bit a byte x memory
-
--- the memory with another bit where an operand names one
-abbrev pub memory_with_bit : Operand → Bool → Areas → Result Areas Fault
-memory_with_bit (operand.Direct a byte x) v memory = write_bit a byte x v memory
+-- the place that an operand names, with the open data blocks; the first activation runs, since calls are
+-- not built
+abbrev pub place_of : Operand → RegisterValues → Place
+place_of (operand.Direct a byte x) r = record { area = area_named a r.db r.di 0; byte = byte; bit = x }
 
 -- what a check looks at
-abbrev pub bit_checked : BitArg → Areas → Result Bool Fault
-bit_checked (arg.At o) memory = bit_at_operand o memory
+abbrev pub bit_checked : BitArg → RegisterValues → Contents → Result Bool Fault
+bit_checked (arg.At o) r memory = read_bit (place_of o r) memory
 
 -- the RLO after a check of bit b: at a first check, where FC is 0, it counts as set before an AND, and
 -- before the others it is the bit alone
@@ -68,7 +67,7 @@ abbrev pub after_end : RegisterValues → RegisterValues
 after_end r = record r { os = false; orb = false; sta = true; fc = false }
 
 -- the row of each instruction
-abbrev pub effect_of : Op → RegisterValues → Areas → Effect
-effect_of (op.Check c b) r memory = with_value (bit_checked b memory) (λ v. next (after_check c r v) memory)
-effect_of (op.Assign o) r memory = with_value (memory_with_bit o r.rlo memory) (λ after. next (after_assign r) after)
+abbrev pub effect_of : Op → RegisterValues → Contents → Effect
+effect_of (op.Check c b) r memory = with_value (bit_checked b r memory) (λ v. next (after_check c r v) memory)
+effect_of (op.Assign o) r memory = with_value (write_bit (place_of o r) r.rlo memory) (λ after. next (after_assign r) after)
 effect_of op.BlockEnd r memory = leave (after_end r) memory

@@ -1,7 +1,7 @@
 -- Laws of runs.
 use Rattle.std.specs.Prelude.{◌≡◌, ℕ, ◌+◌, ◌≤◌, Option}
-use Rattle.s7_base.specs.Areas.{Areas}
-use Rattle.s7_base.specs.End.{Ended}
+use Rattle.memory_areas.specs.Areas.{Areas}
+use Rattle.memory_areas.specs.End.{Ended}
 use Rattle.s7_base.specs.declared.outcome.Fault.{Fault}
 use Rattle.stl_tree.specs.StlRun.{begun, end_of, steps_on, stl_run}
 use Rattle.stl_tree.specs.declared.program.Call.{Call}

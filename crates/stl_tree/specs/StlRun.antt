@@ -2,8 +2,8 @@
 -- bound on their number.
 use Rattle.std.specs.Prelude.{ℕ, zero, suc, ◌+◌, max, Bool, false, ◌==◌, List, [], ◌∷◌, length, map, find, slice_get, IsSome, Option, Some, None}
 use Rattle.s7_base.specs.declared.outcome.Fault.{Fault}
-use Rattle.s7_base.specs.Areas.{Areas}
-use Rattle.s7_base.specs.End.{End, Ended, Going}
+use Rattle.memory_areas.specs.Areas.{Areas, Contents, with_areas}
+use Rattle.memory_areas.specs.End.{End, Ended, Going}
 use Rattle.stl_tree.specs.Instructions.{Effect, next, leave, fault, effect_of}
 use Rattle.stl_tree.specs.Registers.{RegisterValues, start}
 use Rattle.stl_tree.specs.declared.program.Block.{Block}
@@ -31,18 +31,16 @@ is_same_name (name.Fb m) (name.Fc n) = false
 abbrev pub block_named : BlockName → List Block → Option Block
 block_named called blocks = find (λ (b : Block). is_same_name b.name called) blocks
 
--- a block can be called from outside by its name alone: an organization block can; functions and
--- function blocks are not built, so no call of one fits
-abbrev pub IsCalledAlone : BlockName → Type 0
-IsCalledAlone (name.Ob n) = Unit {0}
-IsCalledAlone (name.Fc n) = ⊥
-IsCalledAlone (name.Fb n) = ⊥
+-- the block that a call from outside runs, if it fits: an organization block, which has no formals, so
+-- the call's actuals are not looked at; functions and function blocks are not built, so no call of one fits
+abbrev pub block_called : BlockName → List Block → Option Block
+block_called (name.Ob n) blocks = block_named (name.Ob n) blocks
+block_called (name.Fc n) blocks = None
+block_called (name.Fb n) blocks = None
 
--- a call fits a program that has the block; an organization block has no formals, and a call's actuals
--- are not looked at
-pub record Fits (program : Program) (call : Call) : Type 0 where
-  pub alone : IsCalledAlone call.block
-  pub there : IsSome (block_named call.block program.blocks)
+-- a call fits a program
+abbrev pub Fits : Program → Call → Type 0
+Fits program call = IsSome (block_called call.block program.blocks)
 
 -- the greatest of some numbers
 abbrev pub greatest : List ℕ → ℕ
@@ -62,17 +60,17 @@ pub record Activation : Type 0 where
 
 -- where a run stands: a block runs, with the registers and the memory; or the run has ended
 pub data Standing : Type 0 where
-  running : Activation → RegisterValues → Areas → Standing
-  over : Areas → Option Fault → Standing
+  running : Activation → RegisterValues → Contents → Standing
+  over : Contents → Option Fault → Standing
 
 -- where a run stands after an effect; by a fault the memory stays as it was
-abbrev pub after_effect : Activation → Areas → Effect → Standing
+abbrev pub after_effect : Activation → Contents → Effect → Standing
 after_effect block memory (next r changed) = running (record block { at = block.at + 1 }) r changed
 after_effect block memory (leave r changed) = over changed None
 after_effect block memory (fault f) = over memory (Some f)
 
 -- the step of an instruction; where there is none, as in a block that is not there, a run stays for ever
-abbrev pub step_by : Option Instr → Activation → RegisterValues → Areas → Standing
+abbrev pub step_by : Option Instr → Activation → RegisterValues → Contents → Standing
 step_by None block r memory = running block r memory
 step_by (Some i) block r memory = after_effect block memory (effect_of i.op r memory)
 
@@ -89,16 +87,16 @@ steps_on (suc n) s = steps_on n (step s)
 -- what can be seen of a run that stands here
 abbrev pub end_of : Standing → End
 end_of (running block r memory) = Going
-end_of (over memory f) = Ended memory f
+end_of (over memory f) = Ended memory.areas f
 
 -- the instructions of the block that is called
 abbrev pub body_called : Option Block → List Instr
 body_called None = []
 body_called (Some b) = b.body
 
--- where the run of a call begins
+-- where the run of a call begins; local data and constant actuals are zero
 abbrev pub begun : Program → Call → Areas → Standing
-begun program call memory = running (record { body = body_called (block_named call.block program.blocks); at = 0 }) start memory
+begun program call memory = running (record { body = body_called (block_called call.block program.blocks); at = 0 }) start (with_areas memory)
 
 -- the run of a call within n steps
 abbrev pub stl_run : Program → Call → Areas → ℕ → End

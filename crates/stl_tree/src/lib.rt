@@ -1,8 +1,8 @@
 //! STL programs, and what a source text means as one.
 //!
-//! Stands on `s7_base`. The types are those that the forms built so far need; a later form adds a
-//! variant or a field. `specs/` has the source grammar above its tokens: the items of a text, its
-//! blocks, and the verdict, which is a program or the first broken rule and its line. It has what a
+//! Stands on `s7_base` and `memory_areas`. The types are those that the forms built so far need; a later
+//! form adds a variant or a field. `specs/` has the source grammar above its tokens: the items of a text,
+//! its blocks, and the verdict, which is a program or the first broken rule and its line. It has what a
 //! program does, too: the registers, the instruction table and the run, whose laws `run_laws` proves.
 #![tactic(auto)]
 

@@ -1,6 +1,7 @@
 //! The program that a source text stands for.
 
-use s7_base::{AreaName, Check, Line, List, Place, Width};
+use memory_areas::{AreaName, Place};
+use s7_base::{Check, Line, List, Width};
 
 /// A block by its kind and number: an organization block, a function or a function block.
 #[derive(Clone, Copy, Debug, PartialEq, Eq)]

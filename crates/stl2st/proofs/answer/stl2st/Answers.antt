@@ -1,24 +1,25 @@
-use Rattle.std.proofs.Common.{sym, subst}
-use Rattle.std.specs.Prelude.{Option, Some, None}
-use Rattle.stl2st.specs.Answer.{Writes, usage_line}
-use Rattle.stl2st.specs.declared.command.Command.{Command}
-use Rattle.stl2st.specs.declared.command.Command.TheVariants.{Translate}
-use Rattle.stl2st.specs.declared.status.Status.TheVariants.{Usage}
-use Rattle.stl2st.proofs.Answering.{wrote, no_command, meant, translated}
+use Rattle.stl2st.proofs.Finishing.{complete, image_read, no_memory, not_read_fault, not_write_fault, read_failed, translated, written}
 use Rattle.stl2st.proofs.answer.stl2st.Goals as goal
 
-pub returns-in-Ok-Translate-clause-writes : goal.returns-in-Ok-Translate-clause-writes
-returns-in-Ok-Translate-clause-writes g c =
-    let P : Option Command → Type 0 = λ m. Writes m (g.P.Source.left c.args.program.now) (g.K.Sink.taken c.args.out.now) (g.K.Sink.taken c.translate_source.new.out) c.translate_source.result in
-    subst P (sym (meant _ c.in-Ok-Translate.field-0 (rw c.in-Ok-Translate.is at c.read_words.ensures))) c.translate_source.ensures.writes
+pub returns-in-Ok-clause-translated : goal.returns-in-Ok-clause-translated
+returns-in-Ok-clause-translated g c =
+    translated _ _ _ _ _ c.finish.result
+    (written _ _ _ _ _ c.in-Ok.reply c.finish.result c.as_bytes.result.now c.in-Ok.ensures.reply c.as_bytes.ensures c.finish.ensures.ends)
 
-pub returns-in-Err-Usage-clause-writes : goal.returns-in-Err-Usage-clause-writes
-returns-in-Err-Usage-clause-writes g c =
-    let P : Option Command → Type 0 = λ m. Writes m (g.P.Source.left c.args.program.now) (g.K.Sink.taken c.args.out.now) (g.K.Sink.taken c.finish.new.out) c.finish.result in
-    subst P (sym (rw c.in-Err-Usage.field-0-is at c.in-Err-Usage.ensures))
-    (wrote None (g.P.Source.left c.args.program.now) _ _ Usage c.finish.result usage_line tt (no_command _) (rw c.as_bytes.ensures.value at c.finish.ensures.ends))
+pub returns-in-Ok-clause-complete : goal.returns-in-Ok-clause-complete
+returns-in-Ok-clause-complete g c = λ source text e is p i k.
+    complete _ _ _ _ _ c.finish.result source text
+    (written _ _ _ _ _ c.in-Ok.reply c.finish.result c.as_bytes.result.now c.in-Ok.ensures.reply c.as_bytes.ensures c.finish.ensures.ends)
+    (not_read_fault _ _ c.in-Ok.reply.status c.finish.result c.as_bytes.result.now c.in-Ok.ensures.reply.reply.1 c.finish.ensures.ends)
+    (not_write_fault _ c.in-Ok.reply.status c.finish.result c.in-Ok.ensures.reply.reply.1 c.finish.ensures.cause k)
+    e is
 
-pub returns-in-Ok-Translate-clause-translated : goal.returns-in-Ok-Translate-clause-translated
-returns-in-Ok-Translate-clause-translated g c done =
-    translated (Some Translate) (g.P.Source.left c.args.program.now) (g.K.Sink.taken c.args.out.now) (g.K.Sink.taken c.translate_source.new.out) c.translate_source.result
-    c.translate_source.ensures.writes done
+pub returns-in-Ok-clause-reads_image : goal.returns-in-Ok-clause-reads_image
+returns-in-Ok-clause-reads_image g c =
+    image_read _ _ _ _ _ c.in-Ok.reply.status c.finish.result c.as_bytes.result.now c.in-Ok.ensures.reply.reply.1 c.finish.ensures.ends c.in-Ok.ensures.reads_image
+
+pub returns-in-Err-ReadFault-clause-writes : goal.returns-in-Err-ReadFault-clause-writes
+returns-in-Err-ReadFault-clause-writes g c = read_failed _ _ _ _
+
+pub returns-in-Err-NoMemory-clause-writes : goal.returns-in-Err-NoMemory-clause-writes
+returns-in-Err-NoMemory-clause-writes g c = no_memory _ _ _ _

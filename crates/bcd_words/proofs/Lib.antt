@@ -1,0 +1,3 @@
+mod BcdRows
+pub mod BcdRound
+pub mod Digits

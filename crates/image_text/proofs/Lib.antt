@@ -1,0 +1,10 @@
+mod Blocks
+mod Cuts
+mod ImageRows
+mod Kept
+mod Lines
+mod Replaced
+mod ReportRows
+mod Rows
+mod Shown
+mod Writing

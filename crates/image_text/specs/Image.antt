@@ -1,0 +1,169 @@
+-- What an image says, line by line, and the memory that it gives.
+use Rattle.std.specs.Prelude.{ℕ, ◌+◌, ◌-◌, ◌*◌, Bool, true, false, not, ◌==◌, ◌&&◌, ◌||◌, nat_le, if◌then◌else◌, List, [], ◌∷◌, length, take, slice_index, Option, Some, None, option_map, Result, Ok, Err}
+use Rattle.std.specs.List.{slice_split, list_any, list_all}
+use Rattle.std.specs.Str.Lines.{strip_carriage_return}
+use Rattle.s7_base.specs.Tokens.{is_between, line_after}
+use Rattle.s7_base.specs.declared.reason.Line.{Line}
+use Rattle.memory_areas.specs.Access.{bytes_there}
+use Rattle.memory_areas.specs.Areas.{Contents, bytes_of, with_bytes, replaced, fresh}
+use Rattle.memory_areas.specs.declared.data_block.DataBlock.{DataBlock}
+use Rattle.memory_areas.specs.declared.place.Area.{Area}
+use Rattle.memory_areas.specs.declared.place.Area.TheVariants as area
+use Rattle.image_text.specs.declared.refusal.ImageRefusal.{ImageRefusal}
+use Rattle.image_text.specs.declared.refusal.ImageRefusal.TheVariants.{BadLine, BadByte, OutsideArea}
+
+-- Numbers and areas
+
+-- a decimal digit
+abbrev pub is_digit : ℕ → Bool
+is_digit b = is_between 48 57 b
+
+-- one or more digits, the first of several no zero
+abbrev pub is_number : List ℕ → Bool
+is_number [] = false
+is_number (d ∷ []) = is_digit d
+is_number (d ∷ e ∷ rest) = not (d == 48) && list_all is_digit (d ∷ e ∷ rest)
+
+-- the number that digits write behind those of a number
+abbrev pub number_from : ℕ → List ℕ → ℕ
+number_from before [] = before
+number_from before (d ∷ rest) = number_from (before * 10 + (d - 48)) rest
+
+-- the number that a word writes
+abbrev pub number_of : List ℕ → Option ℕ
+number_of word = if is_number word then Some (number_from 0 word) else None
+
+-- the area of a letter: I, Q or M
+abbrev pub area_of_letter : ℕ → Option Area
+area_of_letter b = if b == 73 then Some area.I else if b == 81 then Some area.Q else if b == 77 then Some area.M else None
+
+-- the area of a word: a letter, or D, B and the number of a data block
+abbrev pub area_of : List ℕ → Option Area
+area_of [] = None
+area_of (b ∷ []) = area_of_letter b
+area_of (b ∷ c ∷ digits) = if b == 68 && c == 66 then option_map area.Db (number_of digits) else None
+
+-- the number before a colon
+abbrev pub byte_number : List ℕ → Option ℕ
+byte_number word = if slice_index word (length word - 1) == 58 then number_of (take (length word - 1) word) else None
+
+-- Fields
+
+-- the value of a hexadecimal digit, small or capital
+abbrev pub hex_value : ℕ → Option ℕ
+hex_value b = if is_between 48 57 b then Some (b - 48) else if is_between 65 70 b then Some (b - 55) else if is_between 97 102 b then Some (b - 87) else None
+
+-- the byte of its high and its low digit, where each is one
+abbrev pub two_digits : Option ℕ → Option ℕ → Option ℕ
+two_digits None low = None
+two_digits (Some high) None = None
+two_digits (Some high) (Some low) = Some (16 * high + low)
+
+-- the byte that a field writes with exactly two digits
+abbrev pub byte_of : List ℕ → Option ℕ
+byte_of [] = None
+byte_of (a ∷ []) = None
+byte_of (a ∷ b ∷ []) = two_digits (hex_value a) (hex_value b)
+byte_of (a ∷ b ∷ c ∷ rest) = None
+
+-- a byte before others, where each is there
+abbrev pub before_all : Option ℕ → Option (List ℕ) → Option (List ℕ)
+before_all None values = None
+before_all (Some value) None = None
+before_all (Some value) (Some values) = Some (value ∷ values)
+
+-- the bytes of some fields, where each writes one
+abbrev pub values_of : List (List ℕ) → Option (List ℕ)
+values_of [] = Some []
+values_of (field ∷ more) = before_all (byte_of field) (values_of more)
+
+-- The shape of a line
+
+-- space and TAB
+abbrev pub is_blank : ℕ → Bool
+is_blank b = b == 32 || b == 9
+
+-- a word has no character
+abbrev pub is_empty : List ℕ → Bool
+is_empty word = length word == 0
+
+-- a line of the shape AREA N: FIELD FIELD ..
+pub record Shape : Type 0 where
+  pub area : Area
+  pub byte : ℕ
+  pub fields : List (List ℕ)
+
+-- the shape of these parts, where each is there and no field is empty
+abbrev pub shaped : Option Area → Option ℕ → List (List ℕ) → Option Shape
+shaped None byte fields = None
+shaped (Some a) None fields = None
+shaped (Some a) (Some n) fields = if list_any is_empty fields then None else Some (record { area = a; byte = n; fields = fields })
+
+-- the shape of a line that is cut at each blank: an area, a byte number, and one field or more
+abbrev pub shape_of : List (List ℕ) → Option Shape
+shape_of [] = None
+shape_of (name ∷ []) = None
+shape_of (name ∷ number ∷ []) = None
+shape_of (name ∷ number ∷ field ∷ more) = shaped (area_of name) (byte_number number) (field ∷ more)
+
+-- What a line says
+
+-- nothing, or bytes from a byte of an area on; or it has another shape, or a field that is no byte
+pub data Said : Type 0 where
+  nothing : Said
+  misshapen : Said
+  miswritten : Said
+  bytes_at : Area → ℕ → List ℕ → Said
+
+-- a line is empty, or it begins with `#`
+abbrev pub says_nothing : List ℕ → Bool
+says_nothing [] = true
+says_nothing (b ∷ rest) = b == 35
+
+-- what a line of the right shape says, by the bytes of its fields
+abbrev pub values_said : Area → ℕ → Option (List ℕ) → Said
+values_said a byte None = miswritten
+values_said a byte (Some values) = bytes_at a byte values
+
+-- what a line says by its shape
+abbrev pub shape_said : Option Shape → Said
+shape_said None = misshapen
+shape_said (Some s) = values_said s.area s.byte (values_of s.fields)
+
+-- what a line says, without its line end
+abbrev pub line_said : List ℕ → Said
+line_said line = if says_nothing line then nothing else shape_said (shape_of (slice_split is_blank line))
+
+-- What it does to a memory
+
+-- an area is there, and has so many bytes from a byte on
+abbrev pub has_room : Option (List ℕ) → ℕ → ℕ → Bool
+has_room None byte count = false
+has_room (Some bytes) byte count = nat_le (byte + count) (length bytes)
+
+-- the memory with these bytes from a byte of an area on, and all else as it was
+abbrev pub written : Area → ℕ → List ℕ → Contents → Contents
+written a byte values m = with_bytes a (replaced (bytes_there (Some a) m) byte values) m
+
+-- the memory after a line, or why the line is refused
+abbrev pub line_on : Line → Said → Contents → Result Contents ImageRefusal
+line_on line nothing m = Ok m
+line_on line misshapen m = Err (BadLine line)
+line_on line miswritten m = Err (BadByte line)
+line_on line (bytes_at a byte values) m =
+    if has_room (bytes_of a m) byte (length values) then Ok (written a byte values m) else Err (OutsideArea line)
+
+-- what comes of a memory, where no line was refused
+abbrev pub and_then : Result Contents ImageRefusal → (Contents → Result Contents ImageRefusal) → Result Contents ImageRefusal
+and_then (Ok m) next = next m
+and_then (Err refused) next = Err refused
+
+-- the memory after lines, the first of them at a number, or the first refusal
+abbrev pub lines_on : ℕ → List (List ℕ) → Contents → Result Contents ImageRefusal
+lines_on line [] m = Ok m
+lines_on line (text ∷ more) m =
+    and_then (line_on (record { 0 = line }) (line_said (strip_carriage_return text)) m) (λ n. lines_on (line_after line) more n)
+
+-- the memory of an image, which begins as a new one with these data blocks
+abbrev pub image_of : List ℕ → List DataBlock → Result Contents ImageRefusal
+image_of bytes blocks = lines_on 1 (slice_split (λ b. b == 10) bytes) (fresh blocks)

@@ -1,0 +1,147 @@
+//! Reads an image.
+ghost use Rattle.std.specs.Prelude.{ℕ, ◌≡◌, ◌∷◌, [], ◌+◌, ◌<◌, ◌^◌, All, IfOk, IsSome, OnOk, Some, false, length, true};
+ghost use Rattle.memory_areas.specs.Access.{is_closed, or_none};
+ghost use Rattle.memory_areas.specs.Areas.{AreBlocks, bytes_of, fresh};
+ghost use Rattle.image_text.specs.Image.{has_room, image_of, is_blank, line_on, line_said, says_nothing, shape_said, values_of, written};
+ghost use Rattle.image_text.specs.Reading.{IsNamed, IsUsable, LineDoes, Reads, pieces_left, view};
+
+use crate::number::byte_of;
+use crate::pieces::{cut_line, next_piece, rest_after, strip_return};
+use crate::refusal::ImageRefusal;
+use crate::shape::{Shape, count_bytes, shape_of};
+use memory_areas::{Area, DataBlock, Memory, Place};
+use s7_base::{Line, NoMemory};
+use std::alloc::Global;
+
+fn says_nothing(line: &[u8]) -> bool
+    ensures { result ≡ says_nothing line.now }
+{
+    match line {
+        [] => true,
+        [first, ..] => *first == b'#',
+    }
+}
+
+/// The area is there, and has so many bytes from a byte on.
+fn has_room(memory: &Memory, area: Area, byte: u32, count: usize) -> bool
+    requires { IsNamed area }
+    ensures { result ≡ has_room (bytes_of area memory.now) byte count }
+{
+    match memory.bytes(area) {
+        Some(bytes) => count <= bytes.len() && byte as usize <= bytes.len() - count,
+        None => false,
+    }
+}
+
+/// The byte of the first field, and what stands behind it.
+fn next_value(left: &[u8]) -> (u8, &[u8])
+    requires some { 0 < length left.now }
+    requires bytes { IsSome (values_of (pieces_left is_blank left.now)) }
+    ensures first { or_none (values_of (pieces_left is_blank left.now)) ≡ result.0 ∷ or_none (values_of (pieces_left is_blank result.1.now)) }
+    ensures bytes { IsSome (values_of (pieces_left is_blank result.1.now)) }
+    ensures shorter { length result.1.now < length left.now }
+{
+    let (field, behind) = next_piece(left);
+    let value = byte_of(field).unwrap();
+    (value, behind)
+}
+
+fn put_byte(memory: &mut Memory, area: Area, at: u32, value: u8)
+    requires named { IsNamed area }
+    requires is_open { is_closed (Some area) ≡ false }
+    requires room { has_room (bytes_of area memory.old) at 1 ≡ true }
+    ensures { memory.new ≡ written area at (value ∷ []) memory.old }
+{
+    let place = Place {
+        area,
+        byte: at,
+        bit: 0,
+    };
+    memory.write_byte(place, value).unwrap();
+}
+
+/// Writes the byte of each field.
+fn put_fields(memory: &mut Memory, area: Area, byte: u32, fields: &[u8])
+    requires named { IsNamed area }
+    requires is_open { is_closed (Some area) ≡ false }
+    requires bytes { IsSome (values_of (pieces_left is_blank fields.now)) }
+    requires room { has_room (bytes_of area memory.old) byte (length (or_none (values_of (pieces_left is_blank fields.now)))) ≡ true }
+    requires small { byte + length (or_none (values_of (pieces_left is_blank fields.now))) < 2 ^ 32 }
+    ensures { memory.new ≡ written area byte (or_none (values_of (pieces_left is_blank fields.now))) memory.old }
+{
+    let mut left = fields;
+    let mut at = byte;
+    while !left.is_empty() {
+        let (value, behind) = next_value(left);
+        put_byte(memory, area, at, value);
+        at += 1;
+        left = behind;
+    }
+}
+
+/// Does what a line of the right shape says.
+fn apply_shape(memory: &mut Memory, line: Line, shape: Shape<'_>) -> Result<(), ImageRefusal>
+    requires usable { IsUsable memory.old }
+    requires named { IsNamed shape.area }
+    ensures done { LineDoes (line_on line (shape_said (Some (view shape.entry))) memory.old) result memory.new }
+    ensures usable { OnOk result (IsUsable memory.new) }
+{
+    let Some(count) = count_bytes(shape.fields) else {
+        return Err(ImageRefusal::BadByte(line));
+    };
+    if !has_room(memory, shape.area, shape.byte, count) {
+        return Err(ImageRefusal::OutsideArea(line));
+    }
+    put_fields(memory, shape.area, shape.byte, shape.fields);
+    Ok(())
+}
+
+/// Does what a line says.
+fn apply_line(memory: &mut Memory, line: Line, text: &[u8]) -> Result<(), ImageRefusal>
+    requires { IsUsable memory.old }
+    ensures done { LineDoes (line_on line (line_said text.now) memory.old) result memory.new }
+    ensures usable { OnOk result (IsUsable memory.new) }
+{
+    if says_nothing(text) {
+        return Ok(());
+    }
+    let Some(shape) = shape_of(text) else {
+        return Err(ImageRefusal::BadLine(line));
+    };
+    apply_shape(memory, line, shape)
+}
+
+/// What the type of the numbers says, for the proof alone.
+fn have_16_bits(_numbers: &[u16])
+    ensures { All (λ (n : ℕ). n < 2 ^ 16) _numbers.now }
+{}
+
+fn new_memory(alloc: Global, blocks: &[DataBlock]) -> Result<Memory, NoMemory>
+    requires { AreBlocks blocks.now }
+    ensures fresh { IfOk result (λ memory. memory ≡ fresh blocks.now) }
+    ensures usable { IfOk result IsUsable }
+{
+    let memory = Memory::new(alloc, blocks)?;
+    have_16_bits(memory.numbers());
+    Ok(memory)
+}
+
+/// The memory that an image gives to a program with these data blocks. What no line names is zero, or
+/// a data block's byte.
+pub fn read_image(alloc: Global, bytes: &[u8], blocks: &[DataBlock]) -> Result<Memory, ImageRefusal>
+    requires { AreBlocks blocks.now }
+    ensures { Reads result (image_of bytes.now blocks.now) }
+{
+    let mut memory = new_memory(alloc, blocks)?;
+    let mut rest = bytes;
+    let mut line = 1;
+    loop {
+        let (text, behind) = cut_line(rest);
+        apply_line(&mut memory, Line(line), strip_return(text))?;
+        if behind.is_empty() {
+            return Ok(memory);
+        }
+        rest = rest_after(behind, 1);
+        line = line.saturating_add(1);
+    }
+}

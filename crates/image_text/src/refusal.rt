@@ -1,0 +1,29 @@
+//! Why an image is refused.
+ghost use Rattle.std.specs.Prelude.{◌≡◌};
+ghost use Rattle.image_text.specs.declared.refusal.ImageRefusal.TheVariants as refusal;
+
+use s7_base::{Line, NoMemory};
+
+/// Why a text gave no memory: its first faulty line, or want of memory. Of two faults of one line the
+/// one that stands first here counts.
+#[derive(Clone, Copy, Debug, PartialEq, Eq)]
+pub enum ImageRefusal {
+    /// The line has not the shape of one.
+    BadLine(Line),
+
+    /// A field is not exactly two hexadecimal digits.
+    BadByte(Line),
+
+    /// The data block is not there, or a byte stands past the area.
+    OutsideArea(Line),
+
+    NoMemory,
+}
+
+impl From<NoMemory> for ImageRefusal {
+    ghost from_gives = { λ _ made. made ≡ refusal.NoMemory };
+
+    fn from(_refused: NoMemory) -> ImageRefusal {
+        ImageRefusal::NoMemory
+    }
+}

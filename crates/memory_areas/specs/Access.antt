@@ -1,0 +1,184 @@
+-- The access to a place in memory: which place it reaches, or which fault it meets.
+use Rattle.std.specs.Prelude.{ℕ, ◌+◌, ◌/◌, ◌%◌, ◌^◌, Bool, false, ◌==◌, nat_lt, if◌then◌else◌, List, [], ◌∷◌, length, Option, Some, None, is_none, Result, Ok, Err}
+use Rattle.s7_base.specs.declared.outcome.Fault.{Fault}
+use Rattle.s7_base.specs.declared.outcome.Fault.TheVariants.{DbNotOpen, DbMissing, AreaCode, Alignment, AreaLength}
+use Rattle.s7_base.specs.declared.word.Width.{Width}
+use Rattle.s7_base.specs.declared.word.Width.TheVariants as width
+use Rattle.memory_areas.specs.Areas.{Contents, block_of, bytes_of, with_bytes, byte_at, word_at, dword_at, bit_of_byte, byte_with, bytes_of_word, bytes_of_dword, replaced}
+use Rattle.memory_areas.specs.declared.sizes.TheConstants.{INPUT_BYTES, OUTPUT_BYTES, MARKER_BYTES}
+use Rattle.memory_areas.specs.declared.place.Area.{Area}
+use Rattle.memory_areas.specs.declared.place.Area.TheVariants as area
+use Rattle.memory_areas.specs.declared.place.AreaName.{AreaName}
+use Rattle.memory_areas.specs.declared.place.AreaName.TheVariants as name
+use Rattle.memory_areas.specs.declared.place.Place.{Place}
+
+-- What an access names
+
+-- the area that a name stands for, with the numbers in the DB and the DI register and that of the
+-- running activation
+abbrev pub area_named : AreaName → ℕ → ℕ → ℕ → Area
+area_named name.I db di activation = area.I
+area_named name.Q db di activation = area.Q
+area_named name.M db di activation = area.M
+area_named name.L db di activation = area.Local activation
+area_named name.Db db di activation = area.Db db
+area_named name.Di db di activation = area.Db di
+
+-- how many bytes of an area an operand may name; nothing that is built names local data or a data block
+abbrev pub area_bytes : AreaName → ℕ
+area_bytes name.I = INPUT_BYTES
+area_bytes name.Q = OUTPUT_BYTES
+area_bytes name.M = MARKER_BYTES
+area_bytes name.L = 0
+area_bytes name.Db = 0
+area_bytes name.Di = 0
+
+-- the name that the area code of a pointer stands for; no other code has one
+abbrev pub name_of_code : ℕ → Option AreaName
+name_of_code code =
+    if code == 129 then Some name.I
+    else if code == 130 then Some name.Q
+    else if code == 131 then Some name.M
+    else if code == 132 then Some name.Db
+    else if code == 133 then Some name.Di
+    else if code == 134 then Some name.L
+    else None
+
+-- a pointer has a bit number in its bits 0 to 2, a byte number in bits 3 to 18, and an area code in bits
+-- 24 to 31
+abbrev pub bit_of_pointer : ℕ → ℕ
+bit_of_pointer p = p % 8
+
+abbrev pub byte_of_pointer : ℕ → ℕ
+byte_of_pointer p = p / 8 % 2 ^ 16
+
+abbrev pub code_of_pointer : ℕ → ℕ
+code_of_pointer p = p / 2 ^ 24
+
+-- what an access is aimed at: an area, if there is one of that code, a byte and a bit
+pub record Aim : Type 0 where
+  pub area : Option Area
+  pub byte : ℕ
+  pub bit : ℕ
+
+-- an operand that is written, `M 4.0` or `DBW 2`
+abbrev pub written : AreaName → ℕ → ℕ → ℕ → ℕ → ℕ → Aim
+written a byte x db di activation = record { area = Some (area_named a db di activation); byte = byte; bit = x }
+
+-- the area of a name, if there is one
+abbrev pub area_if_named : Option AreaName → ℕ → ℕ → ℕ → Option Area
+area_if_named None db di activation = None
+area_if_named (Some a) db di activation = Some (area_named a db di activation)
+
+-- an operand through a pointer that names its area by a code
+abbrev pub pointed : ℕ → ℕ → ℕ → ℕ → Aim
+pointed p db di activation =
+    record { area = area_if_named (name_of_code (code_of_pointer p)) db di activation; byte = byte_of_pointer p; bit = bit_of_pointer p }
+
+-- a place
+abbrev pub aimed : Place → Aim
+aimed p = record { area = Some p.area; byte = p.byte; bit = p.bit }
+
+-- The tests of an access
+
+-- how many bytes a width reaches
+abbrev pub bytes_wide : Width → ℕ
+bytes_wide width.Bit = 1
+bytes_wide width.Byte = 1
+bytes_wide width.Word = 2
+bytes_wide width.Dword = 4
+
+-- no data block is open
+abbrev pub is_closed : Option Area → Bool
+is_closed (Some (area.Db n)) = n == 0
+is_closed other = false
+
+-- the data block is not there
+abbrev pub is_missing : Option Area → Contents → Bool
+is_missing (Some (area.Db n)) m = is_none (block_of n m.areas.blocks)
+is_missing other m = false
+
+-- a bit number that a byte has not; a byte or more has none but 0
+abbrev pub is_unaligned : Width → ℕ → Bool
+is_unaligned width.Bit x = nat_lt 7 x
+is_unaligned width.Byte x = nat_lt 0 x
+is_unaligned width.Word x = nat_lt 0 x
+is_unaligned width.Dword x = nat_lt 0 x
+
+-- some bytes, or none
+abbrev pub or_none : Option (List ℕ) → List ℕ
+or_none None = []
+or_none (Some bytes) = bytes
+
+-- the bytes of an area, none where it is not there
+abbrev pub bytes_there : Option Area → Contents → List ℕ
+bytes_there None m = []
+bytes_there (Some a) m = or_none (bytes_of a m)
+
+-- the tests of an access in their order, each with its fault
+abbrev pub tests : Aim → Width → Contents → List (Bool × Fault)
+tests aim w m =
+    (is_closed aim.area, DbNotOpen) ∷ (is_missing aim.area m, DbMissing) ∷ (is_none aim.area, AreaCode) ∷ (is_unaligned w aim.bit, Alignment)
+    ∷ (nat_lt (length (bytes_there aim.area m)) (aim.byte + bytes_wide w), AreaLength) ∷ []
+
+-- the fault of the first test that holds
+abbrev pub first_fault : List (Bool × Fault) → Option Fault
+first_fault [] = None
+first_fault (test ∷ rest) = if test.0 then Some test.1 else first_fault rest
+
+-- the fault of an access, or none
+abbrev pub fault_of : Aim → Width → Contents → Option Fault
+fault_of aim w m = first_fault (tests aim w m)
+
+-- what an access gives, where no fault stands in its place
+abbrev pub unless : {A : Type 0} → Option Fault → A → Result A Fault
+unless None x = Ok x
+unless (Some f) x = Err f
+
+-- what comes of a value, where no fault stands in its place
+abbrev pub and_then : {A B : Type 0} → Result A Fault → (A → Result B Fault) → Result B Fault
+and_then (Ok x) next = next x
+and_then (Err f) next = Err f
+
+-- the place that an access is aimed at, where its code has an area
+abbrev pub place_aimed : Option Area → ℕ → ℕ → Result Place Fault
+place_aimed None byte x = Err AreaCode
+place_aimed (Some a) byte x = Ok (record { area = a; byte = byte; bit = x })
+
+-- the place that an access reaches, or its fault
+abbrev pub located : Aim → Width → Contents → Result Place Fault
+located aim w m = and_then (unless (fault_of aim w m) aim) (λ (a : Aim). place_aimed a.area a.byte a.bit)
+
+-- Reading and writing at a place
+
+-- the bytes of the area that an access to a place reaches, or its fault
+abbrev pub reached : Place → Width → Contents → Result (List ℕ) Fault
+reached p w m = unless (fault_of (aimed p) w m) (bytes_there (Some p.area) m)
+
+abbrev pub read_bit : Place → Contents → Result Bool Fault
+read_bit p m = and_then (reached p width.Bit m) (λ bytes. Ok (bit_of_byte (byte_at bytes p.byte) p.bit))
+
+abbrev pub read_byte : Place → Contents → Result ℕ Fault
+read_byte p m = and_then (reached p width.Byte m) (λ bytes. Ok (byte_at bytes p.byte))
+
+abbrev pub read_word : Place → Contents → Result ℕ Fault
+read_word p m = and_then (reached p width.Word m) (λ bytes. Ok (word_at bytes p.byte))
+
+abbrev pub read_dword : Place → Contents → Result ℕ Fault
+read_dword p m = and_then (reached p width.Dword m) (λ bytes. Ok (dword_at bytes p.byte))
+
+-- the memory after a write of these bytes at a place: they are replaced, and nothing else
+abbrev pub put : Place → List ℕ → List ℕ → Contents → Contents
+put p bytes new m = with_bytes p.area (replaced bytes p.byte new) m
+
+abbrev pub write_bit : Place → Bool → Contents → Result Contents Fault
+write_bit p v m = and_then (reached p width.Bit m) (λ bytes. Ok (put p bytes (byte_with (byte_at bytes p.byte) p.bit v ∷ []) m))
+
+abbrev pub write_byte : Place → ℕ → Contents → Result Contents Fault
+write_byte p v m = and_then (reached p width.Byte m) (λ bytes. Ok (put p bytes (v ∷ []) m))
+
+abbrev pub write_word : Place → ℕ → Contents → Result Contents Fault
+write_word p v m = and_then (reached p width.Word m) (λ bytes. Ok (put p bytes (bytes_of_word v) m))
+
+abbrev pub write_dword : Place → ℕ → Contents → Result Contents Fault
+write_dword p v m = and_then (reached p width.Dword m) (λ bytes. Ok (put p bytes (bytes_of_dword v) m))

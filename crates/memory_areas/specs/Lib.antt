@@ -1,0 +1,5 @@
+pub mod Access
+pub mod AreaLaws
+pub mod Areas
+pub mod End
+pub mod Memory

@@ -1,0 +1,23 @@
+//! The memory of a controller: its areas, the places in them, and the access to a place.
+//!
+//! Stands on `s7_base`. `specs/` has what a memory is seen as, the tests of an access and their order,
+//! and how a run shows the memory at its end; both languages cite them. The sizes of the areas and the
+//! limits of data blocks stand here once.
+#![tactic(auto)]
+
+pub use data_block::DataBlock;
+pub use memory::Memory;
+pub use place::{Area, AreaName, Place};
+pub use sizes::{
+    ACTIVATIONS, INPUT_BYTES, LEAST_BLOCK_BYTES, LOCAL_BYTES, MARKER_BYTES, MOST_BLOCK_BYTES,
+    MOST_BLOCKS, OUTPUT_BYTES,
+};
+
+pub mod area_laws;
+mod data_block;
+mod memory;
+mod parts;
+mod place;
+mod sizes;
+#[cfg(test)]
+mod tests;

@@ -1,0 +1,349 @@
+//! The memory itself: reads and writes by place.
+ghost use Rattle.std.specs.Prelude.{◌≡◌, ◌+◌, ◌<◌, ◌≤◌, [], length, get_or, slice_get, slice_set, Some, None, Ok, Err, is_some, MatchOption, MatchResult, IfOk, map, replicate};
+ghost use Rattle.memory_areas.specs.Access.{aimed, bytes_wide, bytes_there, fault_of, unless, reached, put, read_bit, read_byte, read_word, read_dword, write_bit, write_byte, write_word, write_dword};
+ghost use Rattle.memory_areas.specs.Areas.{AreBlocks, Ascend, block_of, bytes_in, bytes_of, cleared, fresh, no_locals, numbers_of, replaced};
+ghost use Rattle.memory_areas.specs.Memory.{IsActivation, IsMissing, HasActivations, HasRoom, Writes, joined, position_of};
+
+use crate::data_block::DataBlock;
+use crate::parts::{
+    bit_of_byte, byte_with, bytes_of_dword, bytes_of_word, bytes_wide, dword_at, is_closed,
+    is_unaligned, replace, word_at,
+};
+use crate::place::{Area, Place};
+use crate::sizes::{ACTIVATIONS, INPUT_BYTES, LOCAL_BYTES, MARKER_BYTES, OUTPUT_BYTES};
+use s7_base::{Fault, NoMemory, Width};
+use std::alloc::Global;
+use std::marker::Model;
+
+/// The memory of a controller: the process images, the bit memory, the data blocks, and the local data
+/// and the constant actuals of eight activations.
+#[derive(Debug, Drop)]
+pub struct Memory {
+    inputs: Vec<u8>,
+    outputs: Vec<u8>,
+    markers: Vec<u8>,
+
+    /// The numbers of the data blocks, ascending.
+    numbers: Vec<u16>,
+
+    /// The bytes of the data blocks, in the order of their numbers.
+    blocks: Vec<Vec<u8>>,
+    locals: [[u8; LOCAL_BYTES]; ACTIVATIONS],
+    cells: [[u8; LOCAL_BYTES]; ACTIVATIONS],
+}
+
+impl Model for Memory {
+    ghost use Rattle.std.specs.Prelude.{◌≡◌, length, map};
+    ghost use Rattle.memory_areas.specs.Areas.{Ascend, Contents};
+    ghost use Rattle.memory_areas.specs.Memory.{joined};
+
+    ghost Value = { Contents };
+
+    ghost view = { λ m. record {
+      areas = record {
+        inputs = m.inputs.items;
+        outputs = m.outputs.items;
+        markers = m.markers.items;
+        blocks = joined m.numbers.items (map (λ b. b.items) m.blocks.items);
+      };
+      locals = m.locals;
+      cells = m.cells;
+    } };
+
+    ghost invariant = { λ m. (length m.blocks.items ≡ length m.numbers.items) × Ascend 1 m.numbers.items };
+}
+
+/// Some bytes, all zero.
+fn zeros(alloc: Global, count: usize) -> Result<Vec<u8>, NoMemory>
+    ensures { IfOk result (λ bytes. bytes.items ≡ replicate count 0) }
+{
+    Ok(vec![in alloc; 0; count]?)
+}
+
+/// Local data, or constant actuals, of eight activations, all zero.
+fn no_locals() -> [[u8; LOCAL_BYTES]; ACTIVATIONS]
+    ensures { result ≡ no_locals }
+{
+    [[0; LOCAL_BYTES]; ACTIVATIONS]
+}
+
+/// Where a number stands among ascending ones.
+fn position(numbers: &[u16], number: u16) -> Option<usize>
+    requires { Ascend 1 numbers.now }
+    ensures { result ≡ position_of number numbers.now }
+{
+    numbers.binary_search(&number).ok()
+}
+
+/// The bytes of the data block of a number, by the numbers and the bytes of all.
+fn block<'a>(numbers: &[u16], blocks: &'a [Vec<u8>], number: u16) -> Option<&'a [u8]>
+    requires { Ascend 1 numbers.now × (length blocks.now ≡ length numbers.now) }
+    ensures { MatchOption result
+        (block_of number (joined numbers.now (map (λ b. b.items) blocks.now)) ≡ None)
+        (λ bytes. bytes_in (block_of number (joined numbers.now (map (λ b. b.items) blocks.now))) ≡ Some bytes.now) }
+{
+    match position(numbers, number) {
+        Some(position) => Some(blocks[position].as_slice()),
+        None => None,
+    }
+}
+
+/// The bytes of an activation.
+fn part(parts: &[[u8; LOCAL_BYTES]; ACTIVATIONS], activation: u8) -> &[u8]
+    requires { activation < ACTIVATIONS }
+    ensures { slice_get parts.now activation ≡ Some result.now }
+{
+    let part = &parts[activation as usize];
+    part
+}
+
+/// Puts bytes into the block at a position.
+fn replace_in_block(blocks: &mut [Vec<u8>], position: usize, at: usize, new: &[u8])
+    requires within { position < length blocks.old }
+    requires room { at + length new.now ≤ length (get_or (map (λ b. b.items) blocks.old) position []) }
+    ensures { map (λ b. b.items) blocks.new ≡ slice_set (map (λ b. b.items) blocks.old) position
+        (replaced (get_or (map (λ b. b.items) blocks.old) position []) at new.now) }
+{
+    replace(&mut blocks[position], at, new);
+}
+
+/// Puts bytes into the part of an activation.
+fn replace_in_part(
+    parts: &mut [[u8; LOCAL_BYTES]; ACTIVATIONS],
+    activation: u8,
+    at: usize,
+    new: &[u8],
+)
+    requires within { activation < ACTIVATIONS }
+    requires room { at + length new.now ≤ length (get_or parts.old activation []) }
+    ensures { parts.new ≡ slice_set parts.old activation (replaced (get_or parts.old activation []) at new.now) }
+{
+    let part = &mut parts[activation as usize];
+    replace(part, at, new);
+}
+
+/// The numbers of some data blocks.
+fn numbers_of(alloc: Global, blocks: &[DataBlock]) -> Result<Vec<u16>, NoMemory>
+    ensures { IfOk result (λ numbers. numbers.items ≡ numbers_of blocks.now) }
+{
+    let mut numbers = Vec::with_capacity(alloc, blocks.len())?;
+    for block in blocks {
+        numbers.push(block.number)?;
+    }
+    Ok(numbers)
+}
+
+/// The bytes of some data blocks.
+fn bytes_of(alloc: Global, blocks: &[DataBlock]) -> Result<Vec<Vec<u8>>, NoMemory>
+    ensures { IfOk result (λ stored. map (λ b. b.items) stored.items ≡ map (λ b. b.bytes) blocks.now) }
+{
+    let mut stored = Vec::with_capacity(alloc, blocks.len())?;
+    for block in blocks {
+        stored.push(Vec::from_slice(alloc, block.bytes.as_slice())?)?;
+    }
+    Ok(stored)
+}
+
+/// The same bytes in other memory.
+fn copies_of(alloc: Global, blocks: &[Vec<u8>]) -> Result<Vec<Vec<u8>>, NoMemory>
+    ensures { IfOk result (λ copies. map (λ b. b.items) copies.items ≡ map (λ b. b.items) blocks.now) }
+{
+    let mut copies = Vec::with_capacity(alloc, blocks.len())?;
+    for block in blocks {
+        copies.push(Vec::from_slice(alloc, block.as_slice())?)?;
+    }
+    Ok(copies)
+}
+
+impl Memory {
+    /// A memory of zeros with these data blocks, each at its bytes.
+    pub fn new(alloc: Global, blocks: &[DataBlock]) -> Result<Memory, NoMemory>
+        requires { AreBlocks blocks.now }
+        ensures { IfOk result (λ memory. memory ≡ fresh blocks.now) }
+    {
+        Ok(Memory {
+            inputs: zeros(alloc, INPUT_BYTES)?,
+            outputs: zeros(alloc, OUTPUT_BYTES)?,
+            markers: zeros(alloc, MARKER_BYTES)?,
+            numbers: numbers_of(alloc, blocks)?,
+            blocks: bytes_of(alloc, blocks)?,
+            locals: no_locals(),
+            cells: no_locals(),
+        })
+    }
+
+    /// A memory of the same contents.
+    pub fn copy(&self, alloc: Global) -> Result<Memory, NoMemory>
+        ensures { IfOk result (λ memory. memory ≡ self.now) }
+    {
+        Ok(Memory {
+            inputs: Vec::from_slice(alloc, self.inputs.as_slice())?,
+            outputs: Vec::from_slice(alloc, self.outputs.as_slice())?,
+            markers: Vec::from_slice(alloc, self.markers.as_slice())?,
+            numbers: Vec::from_slice(alloc, self.numbers.as_slice())?,
+            blocks: copies_of(alloc, &self.blocks)?,
+            locals: self.locals,
+            cells: self.cells,
+        })
+    }
+
+    /// The data block of this number is there.
+    pub fn has_block(&self, number: u16) -> bool
+        ensures { result ≡ is_some (block_of number self.now.areas.blocks) }
+    {
+        position(&self.numbers, number).is_some()
+    }
+
+    /// The numbers of the data blocks, ascending.
+    pub fn numbers(&self) -> &[u16]
+        ensures value { result.now ≡ numbers_of self.now.areas.blocks }
+        ensures ascend { Ascend 1 result.now }
+    {
+        self.numbers.as_slice()
+    }
+
+    /// The bytes of an area; `None` exactly for a data block that is not there.
+    pub fn bytes(&self, area: Area) -> Option<&[u8]>
+        requires { IsActivation area }
+        ensures { MatchOption result (IsMissing area self.now) (λ bytes. bytes_of area self.now ≡ Some bytes.now) }
+    {
+        match area {
+            Area::I => Some(self.inputs.as_slice()),
+            Area::Q => Some(self.outputs.as_slice()),
+            Area::M => Some(self.markers.as_slice()),
+            Area::Local(activation) => Some(part(&self.locals, activation)),
+            Area::Cell(activation) => Some(part(&self.cells, activation)),
+            Area::Db(number) => block(&self.numbers, &self.blocks, number),
+        }
+    }
+
+    /// Tests an access to a place, and touches nothing.
+    pub fn find(&self, place: Place, width: Width) -> Result<(), Fault>
+        requires { IsActivation place.area }
+        ensures { result ≡ unless (fault_of (aimed place) width self.now) tt }
+    {
+        self.reached(place, width)?;
+        Ok(())
+    }
+
+    /// The bytes of the area that an access to a place reaches.
+    fn reached(&self, place: Place, width: Width) -> Result<&[u8], Fault>
+        requires { IsActivation place.area }
+        ensures { MatchResult result
+            (λ bytes. (reached place width self.now ≡ Ok bytes.now) × (place.byte + bytes_wide width ≤ length bytes.now))
+            (λ fault. reached place width self.now ≡ Err fault) }
+    {
+        if is_closed(place.area) {
+            return Err(Fault::DbNotOpen);
+        }
+        let Some(bytes) = self.bytes(place.area) else {
+            return Err(Fault::DbMissing);
+        };
+        if is_unaligned(width, place.bit) {
+            return Err(Fault::Alignment);
+        }
+        if bytes.len() < place.byte as usize + bytes_wide(width) {
+            return Err(Fault::AreaLength);
+        }
+        Ok(bytes)
+    }
+
+    pub fn read_bit(&self, place: Place) -> Result<bool, Fault>
+        requires { IsActivation place.area }
+        ensures { result ≡ read_bit place self.now }
+    {
+        let bytes = self.reached(place, Width::Bit)?;
+        Ok(bit_of_byte(bytes[place.byte as usize], place.bit))
+    }
+
+    pub fn read_byte(&self, place: Place) -> Result<u8, Fault>
+        requires { IsActivation place.area }
+        ensures { result ≡ read_byte place self.now }
+    {
+        let bytes = self.reached(place, Width::Byte)?;
+        Ok(bytes[place.byte as usize])
+    }
+
+    pub fn read_word(&self, place: Place) -> Result<u16, Fault>
+        requires { IsActivation place.area }
+        ensures { result ≡ read_word place self.now }
+    {
+        let bytes = self.reached(place, Width::Word)?;
+        Ok(word_at(bytes, place.byte as usize))
+    }
+
+    pub fn read_dword(&self, place: Place) -> Result<u32, Fault>
+        requires { IsActivation place.area }
+        ensures { result ≡ read_dword place self.now }
+    {
+        let bytes = self.reached(place, Width::Dword)?;
+        Ok(dword_at(bytes, place.byte as usize))
+    }
+
+    /// Puts bytes into an area that is there and has room for them.
+    fn put(&mut self, place: Place, new: &[u8])
+        requires { HasRoom (bytes_of place.area self.old) place.byte (length new.now) }
+        ensures { self.new ≡ put place (bytes_there (Some place.area) self.old) new.now self.old }
+    {
+        let at = place.byte as usize;
+        match place.area {
+            Area::I => replace(&mut self.inputs, at, new),
+            Area::Q => replace(&mut self.outputs, at, new),
+            Area::M => replace(&mut self.markers, at, new),
+            Area::Local(activation) => replace_in_part(&mut self.locals, activation, at, new),
+            Area::Cell(activation) => replace_in_part(&mut self.cells, activation, at, new),
+            Area::Db(number) => {
+                if let Some(position) = position(&self.numbers, number) {
+                    replace_in_block(&mut self.blocks, position, at, new);
+                }
+            }
+        }
+    }
+
+    pub fn write_bit(&mut self, place: Place, value: bool) -> Result<(), Fault>
+        requires { IsActivation place.area }
+        ensures { Writes (write_bit place value self.old) result self.old self.new }
+    {
+        let bytes = self.reached(place, Width::Bit)?;
+        let byte = byte_with(bytes[place.byte as usize], place.bit, value);
+        self.put(place, &[byte]);
+        Ok(())
+    }
+
+    pub fn write_byte(&mut self, place: Place, value: u8) -> Result<(), Fault>
+        requires { IsActivation place.area }
+        ensures { Writes (write_byte place value self.old) result self.old self.new }
+    {
+        self.reached(place, Width::Byte)?;
+        self.put(place, &[value]);
+        Ok(())
+    }
+
+    pub fn write_word(&mut self, place: Place, value: u16) -> Result<(), Fault>
+        requires { IsActivation place.area }
+        ensures { Writes (write_word place value self.old) result self.old self.new }
+    {
+        self.reached(place, Width::Word)?;
+        self.put(place, &bytes_of_word(value));
+        Ok(())
+    }
+
+    pub fn write_dword(&mut self, place: Place, value: u32) -> Result<(), Fault>
+        requires { IsActivation place.area }
+        ensures { Writes (write_dword place value self.old) result self.old self.new }
+    {
+        self.reached(place, Width::Dword)?;
+        self.put(place, &bytes_of_dword(value));
+        Ok(())
+    }
+
+    /// Makes the local data and the constant actuals of an activation zero.
+    pub fn clear(&mut self, depth: u8)
+        requires { depth < ACTIVATIONS }
+        ensures after { self.new ≡ cleared depth self.old }
+        ensures activations { HasActivations self.new }
+    {
+        self.locals[depth as usize] = [0; LOCAL_BYTES];
+        self.cells[depth as usize] = [0; LOCAL_BYTES];
+    }
+}

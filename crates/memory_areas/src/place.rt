@@ -1,0 +1,33 @@
+//! Places in the memory of a controller.
+
+/// An area of memory as a place names it. `Local` and `Cell` are the local data and the constant
+/// actuals of an activation, numbered from 0 to 7; `Db` has the number of a data block, and is 0 where
+/// no block is open.
+#[derive(Clone, Copy, Debug, PartialEq, Eq)]
+pub enum Area {
+    I,
+    Q,
+    M,
+    Local(u8),
+    Cell(u8),
+    Db(u16),
+}
+
+/// An area as an operand names it. `Db` and `Di` are the blocks that the DB and the DI register name.
+#[derive(Clone, Copy, Debug, PartialEq, Eq)]
+pub enum AreaName {
+    I,
+    Q,
+    M,
+    L,
+    Db,
+    Di,
+}
+
+/// A place in memory: an area, a byte from 0 and a bit from 0 to 7, which is 0 for a byte or more.
+#[derive(Clone, Copy, Debug, PartialEq, Eq)]
+pub struct Place {
+    pub area: Area,
+    pub byte: u32,
+    pub bit: u8,
+}

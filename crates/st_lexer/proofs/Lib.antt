@@ -1,0 +1,5 @@
+mod Following
+mod Lines
+mod Sizes
+mod StTokenRows
+mod TokenLaws

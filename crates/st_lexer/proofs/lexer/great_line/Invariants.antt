@@ -1,0 +1,10 @@
+use Rattle.std.proofs.Common.{◌≡◌, length, false}
+use Rattle.st_lexer.specs.StTokens.{great_from}
+use Rattle.st_lexer.proofs.lexer.great_line.Given as goal
+
+-- the first of the rest is the first of all
+abbrev pub invariant-loop-rest : goal.invariant-loop-rest
+invariant-loop-rest l = great_from l.behind_dots l.rest ≡ great_from false l.tokens
+
+abbrev pub decreases-loop-rest : goal.decreases-loop-rest
+decreases-loop-rest l = length l.rest

@@ -1,0 +1,10 @@
+-- How an answer that want of memory may take the place of stands to the defined one.
+use Rattle.std.specs.Prelude.{◌≡◌, Result, Ok, Err}
+use Rattle.s7_base.specs.declared.reason.Rejection.{Rejection}
+use Rattle.s7_base.specs.declared.reason.Rejection.TheVariants.{Refused, NoMemory}
+
+-- the answer is the defined one, or want of memory
+abbrev pub Answers : {X : Type 0} → Result X Rejection → Result X Rejection → Type 0
+Answers (Ok x) defined = defined ≡ Ok x
+Answers (Err (Refused line reason)) defined = defined ≡ Err (Refused line reason)
+Answers (Err NoMemory) defined = Unit {0}

@@ -1,0 +1,208 @@
+//! Literals at the front of a text.
+ghost use Rattle.std.specs.Prelude.{◌≡◌, ◌≤◌, ◌<◌, ◌+◌, ◌^◌, length, drop, take, IfSome};
+ghost use Rattle.st_lexer.specs.Literals.{greatest, is_signed, integer_named, type_named, truth_named, literal_of_number, truth_behind, number_behind, value_behind, type_at, type_of_base, literal_behind, literal_at, is_in_range};
+ghost use Rattle.st_lexer.specs.Pieces.{IsWithin};
+
+use crate::number::{Base, Number, base_at, number_at, number_to};
+use crate::text::{begins_with, front_of, is_same_word, rest_after, word_size};
+
+/// The types of literals.
+#[derive(Clone, Copy, Debug, PartialEq, Eq)]
+pub enum StType {
+    Bool,
+    Byte,
+    Word,
+    Dword,
+    Int,
+    Dint,
+    Lint,
+}
+
+/// A literal at the front of a text.
+#[derive(Clone, Copy, Debug, PartialEq, Eq)]
+pub struct Literal {
+    pub kind: StType,
+
+    /// A `-` stands before the number.
+    pub minus: bool,
+
+    /// The number; that of `TRUE` is 1.
+    pub number: u64,
+
+    /// How many bytes it takes, with its type.
+    pub size: usize,
+}
+
+fn greatest(kind: StType, minus: bool) -> u64
+    ensures { result ≡ greatest kind minus }
+{
+    match kind {
+        StType::Bool => 1,
+        StType::Byte => 255,
+        StType::Word => 65_535,
+        StType::Dword => 4_294_967_295,
+        StType::Int => if minus { 32_768 } else { 32_767 },
+        StType::Dint => if minus { 2_147_483_648 } else { 2_147_483_647 },
+        StType::Lint => if minus {
+            9_223_372_036_854_775_808
+        } else {
+            9_223_372_036_854_775_807
+        },
+    }
+}
+
+fn is_signed(kind: StType) -> bool
+    ensures { result ≡ is_signed kind }
+{
+    matches!(kind, StType::Int | StType::Dint | StType::Lint)
+}
+
+fn integer_named(word: &[u8]) -> Option<StType>
+    ensures { result ≡ integer_named word.now }
+{
+    if is_same_word(word, "INT") {
+        Some(StType::Int)
+    } else if is_same_word(word, "DINT") {
+        Some(StType::Dint)
+    } else if is_same_word(word, "LINT") {
+        Some(StType::Lint)
+    } else {
+        None
+    }
+}
+
+fn type_named(word: &[u8]) -> Option<StType>
+    ensures { result ≡ type_named word.now }
+{
+    if is_same_word(word, "BOOL") {
+        Some(StType::Bool)
+    } else if is_same_word(word, "BYTE") {
+        Some(StType::Byte)
+    } else if is_same_word(word, "WORD") {
+        Some(StType::Word)
+    } else if is_same_word(word, "DWORD") {
+        Some(StType::Dword)
+    } else {
+        integer_named(word)
+    }
+}
+
+fn literal_of_number(kind: StType, minus: bool, before: usize, number: Number) -> Literal
+    requires { before + number.size < 2 ^ 64 }
+    ensures { result ≡ literal_of_number kind minus before number }
+{
+    Literal {
+        kind,
+        minus,
+        number: number.value,
+        size: before + number.size,
+    }
+}
+
+fn truth_named(before: usize, word: &[u8]) -> Option<Literal>
+    requires { before + length word.now < 2 ^ 64 }
+    ensures literal { result ≡ truth_named before word.now }
+    ensures within { IfSome result (λ literal. IsWithin literal.size (before + length word.now)) }
+{
+    if is_same_word(word, "TRUE") {
+        let size = before + word.len();
+        Some(Literal {
+            kind: StType::Bool,
+            minus: false,
+            number: 1,
+            size,
+        })
+    } else if is_same_word(word, "FALSE") {
+        let size = before + word.len();
+        Some(Literal {
+            kind: StType::Bool,
+            minus: false,
+            number: 0,
+            size,
+        })
+    } else {
+        None
+    }
+}
+
+fn truth_behind(before: usize, bytes: &[u8]) -> Option<Literal>
+    requires { before + length bytes.now < 2 ^ 64 }
+    ensures literal { result ≡ truth_behind before bytes.now }
+    ensures within { IfSome result (λ literal. IsWithin literal.size (before + length bytes.now)) }
+{
+    if let Some(literal) = truth_named(before, front_of(bytes, word_size(bytes))) {
+        return Some(literal);
+    }
+    let number = number_to(Base::Ten, bytes)?;
+    Some(literal_of_number(StType::Bool, false, before, number))
+}
+
+fn number_behind(kind: StType, before: usize, bytes: &[u8]) -> Option<Literal>
+    requires { before + length bytes.now < 2 ^ 64 }
+    ensures literal { result ≡ number_behind kind before bytes.now }
+    ensures within { IfSome result (λ literal. IsWithin literal.size (before + length bytes.now)) }
+{
+    if is_signed(kind) && begins_with(b'-', bytes) {
+        let number = number_to(Base::Ten, rest_after(bytes, 1))?;
+        Some(literal_of_number(kind, true, before + 1, number))
+    } else {
+        let number = number_at(bytes)?;
+        Some(literal_of_number(kind, false, before, number))
+    }
+}
+
+fn value_behind(kind: StType, before: usize, bytes: &[u8]) -> Option<Literal>
+    requires { before + length bytes.now < 2 ^ 64 }
+    ensures literal { result ≡ value_behind kind before bytes.now }
+    ensures within { IfSome result (λ literal. IsWithin literal.size (before + length bytes.now)) }
+{
+    match kind {
+        StType::Bool => truth_behind(before, bytes),
+        _ => number_behind(kind, before, bytes),
+    }
+}
+
+/// The type whose word stands at the front with `#` behind it.
+pub fn type_at(bytes: &[u8]) -> Option<StType>
+    ensures { result ≡ type_at bytes.now }
+{
+    let size = word_size(bytes);
+    if begins_with(b'#', rest_after(bytes, size)) {
+        type_named(front_of(bytes, size))
+    } else {
+        None
+    }
+}
+
+fn type_of_base(base: Base) -> StType
+    ensures { result ≡ type_of_base base }
+{
+    match base {
+        Base::Ten => StType::Dint,
+        Base::Two | Base::Eight | Base::Sixteen => StType::Dword,
+    }
+}
+
+/// The longest literal at the front of a text, whether or not its type has the number.
+pub fn literal_at(bytes: &[u8]) -> Option<Literal>
+    ensures literal { result ≡ literal_at bytes.now }
+    ensures within { IfSome result (λ literal. IsWithin literal.size (length bytes.now)) }
+{
+    match type_at(bytes) {
+        Some(kind) => {
+            let before = word_size(bytes) + 1;
+            value_behind(kind, before, rest_after(bytes, before))
+        }
+        None => {
+            let number = number_at(bytes)?;
+            Some(literal_of_number(type_of_base(base_at(bytes)), false, 0, number))
+        }
+    }
+}
+
+/// The type of the literal has its number.
+pub fn is_in_range(literal: Literal) -> bool
+    ensures { result ≡ is_in_range literal }
+{
+    literal.number <= greatest(literal.kind, literal.minus)
+}

@@ -1,0 +1,140 @@
+//! The registers of the machine, and what single instructions make of them.
+ghost use Rattle.std.specs.Prelude.{◌≡◌};
+ghost use Rattle.memory_areas.specs.Access.{area_named};
+ghost use Rattle.memory_areas.specs.Memory.{IsActivation};
+ghost use Rattle.stl_machine.specs.Machine.{values};
+ghost use Rattle.stl_tree.specs.Instructions.{after_assign, after_check, after_end, orb_after, place_of, rlo_after};
+ghost use Rattle.stl_tree.specs.Registers.{start};
+
+use memory_areas::{Area, AreaName, Place};
+use s7_base::Check;
+use stl_tree::Operand;
+
+/// The accumulators and address registers, the numbers of the open data blocks, and the status word.
+#[derive(Clone, Copy, Debug)]
+pub struct Registers {
+    pub accu1: u32,
+    pub accu2: u32,
+    pub ar1: u32,
+    pub ar2: u32,
+    pub db: u16,
+    pub di: u16,
+    pub fc: bool,
+    pub rlo: bool,
+    pub sta: bool,
+    pub orb: bool,
+    pub os: bool,
+    pub ov: bool,
+    pub cc0: bool,
+    pub cc1: bool,
+    pub br: bool,
+}
+
+/// The area that a name stands for in the first activation.
+fn area_named(name: AreaName, db: u16, di: u16) -> Area
+    ensures { result ≡ area_named name db di 0 }
+{
+    match name {
+        AreaName::I => Area::I,
+        AreaName::Q => Area::Q,
+        AreaName::M => Area::M,
+        AreaName::L => Area::Local(0),
+        AreaName::Db => Area::Db(db),
+        AreaName::Di => Area::Db(di),
+    }
+}
+
+impl Registers {
+    /// All zero.
+    pub fn start() -> Registers
+        ensures { values result ≡ start }
+    {
+        Registers {
+            accu1: 0,
+            accu2: 0,
+            ar1: 0,
+            ar2: 0,
+            db: 0,
+            di: 0,
+            fc: false,
+            rlo: false,
+            sta: false,
+            orb: false,
+            os: false,
+            ov: false,
+            cc0: false,
+            cc1: false,
+            br: false,
+        }
+    }
+
+    /// The place that an operand names.
+    pub fn place_of(&self, operand: Operand) -> Place
+        ensures place { result ≡ place_of operand (values self.now) }
+        ensures activation { IsActivation result.area }
+    {
+        let Operand::Direct(name, byte, bit) = operand;
+        Place {
+            area: area_named(name, self.db, self.di),
+            byte,
+            bit,
+        }
+    }
+
+    fn rlo_after(&self, check: Check, bit: bool) -> bool
+        ensures { result ≡ rlo_after check (values self.now) bit }
+    {
+        match check {
+            Check::A => (self.rlo || !self.fc) && bit || self.orb,
+            Check::An => (self.rlo || !self.fc) && !bit || self.orb,
+            Check::O => bit || self.fc && self.rlo,
+            Check::On => !bit || self.fc && self.rlo,
+            Check::X => bit != (self.fc && self.rlo),
+            Check::Xn => bit == (self.fc && self.rlo),
+        }
+    }
+
+    fn orb_after(&self, check: Check) -> bool
+        ensures { result ≡ orb_after check (values self.now) }
+    {
+        match check {
+            Check::A | Check::An => self.orb,
+            Check::O | Check::On | Check::X | Check::Xn => false,
+        }
+    }
+
+    pub fn after_check(self, check: Check, bit: bool) -> Registers
+        ensures { values result ≡ after_check check (values self) bit }
+    {
+        Registers {
+            rlo: self.rlo_after(check, bit),
+            orb: self.orb_after(check),
+            sta: bit,
+            fc: true,
+            ..self
+        }
+    }
+
+    pub fn after_assign(self) -> Registers
+        ensures { values result ≡ after_assign (values self) }
+    {
+        Registers {
+            sta: self.rlo,
+            orb: false,
+            fc: false,
+            ..self
+        }
+    }
+
+    pub fn after_end(self) -> Registers
+        ensures { values result ≡ after_end (values self) }
+    {
+        Registers {
+            os: false,
+            orb: false,
+            sta: true,
+            fc: false,
+            ..self
+        }
+    }
+}
