@@ -3,7 +3,7 @@ use Rattle.std.proofs.Common.{◌≡◌, ℕ, ◌-◌, ◌<◌, ◌≤◌, Bool,
 use Rattle.std.specs.Prelude.{nat_le, if◌then◌else◌, option_and_then, option_map}
 use Rattle.std.proofs.lemmas.Bool.Decides.{nat_tests}
 use Rattle.st_tree.proofs.Machine.{Frame, unary, left, bracket, assigning, Place, statement, operand, operator, State, start, inside, over_without, over_with, Build, weakest, limit, left_program, reduce, next, passes}
-use Rattle.st_tree.specs.Form.{Form, literal, variable, group, prefix, infix_of, level, prefix_level, infix_level}
+use Rattle.st_tree.specs.Form.{Form, literal, variable, group, prefix, infix_of, digits_to, convert, select, shift, area_read, level, prefix_level, infix_level}
 use Rattle.st_tree.specs.Grammar.{Statements, stop, empty, assign, Source, no_program, one_program, Binds, AllBind, SourceBinds, spell, spell_all, spell_source}
 use Rattle.st_tree.specs.StKinds.{Kind, program_word, end_program_word, between, semicolon, close_bracket, end_of_text}
 use Rattle.st_tree.specs.declared.expr.UnaryOp.{UnaryOp}
@@ -18,6 +18,11 @@ built g (variable v) = g.read v
 built g (group f) = g.brackets (built g f)
 built g (prefix op f) = g.unary_of op (built g f)
 built g (infix_of op f h) = g.binary_of op (built g f) (built g h)
+built g (digits_to op f) = built g f
+built g (convert from to f) = built g f
+built g (select f h k) = built g f
+built g (shift op f h) = built g f
+built g (area_read w f) = built g f
 
 abbrev pub added : {E S : Type 0} → Build E S → S → Statements → S
 added g d stop = d
@@ -31,20 +36,51 @@ finished g (one_program title body) = over_with title (added g g.none body)
 
 -- Levels
 
+prefix_low : (u : UnaryOp) → prefix_level u ≤ 2
+prefix_low unary_op.Minus = omega arith
+prefix_low unary_op.Not = omega arith
+prefix_low other = omega arith
+
+infix_high : (op : BinaryOp) → 3 ≤ infix_level op
+infix_high binary.Mul = omega arith
+infix_high binary.Div = omega arith
+infix_high binary.Mod = omega arith
+infix_high binary.Add = omega arith
+infix_high binary.Sub = omega arith
+infix_high binary.Lt = omega arith
+infix_high binary.Gt = omega arith
+infix_high binary.Le = omega arith
+infix_high binary.Ge = omega arith
+infix_high binary.Eq = omega arith
+infix_high binary.Ne = omega arith
+infix_high binary.And = omega arith
+infix_high binary.Xor = omega arith
+infix_high binary.Or = omega arith
+
 pub prefix_above : (u : UnaryOp) (op : BinaryOp) → prefix_level u < infix_level op
-prefix_above unary_op.Not binary.And = omega arith
-prefix_above unary_op.Not binary.Or = omega arith
+prefix_above u op = omega (arith, prefix_low u, infix_high op)
 
 pub infix_most : (op : BinaryOp) → infix_level op ≤ weakest
+infix_most binary.Mul = omega arith
+infix_most binary.Div = omega arith
+infix_most binary.Mod = omega arith
+infix_most binary.Add = omega arith
+infix_most binary.Sub = omega arith
+infix_most binary.Lt = omega arith
+infix_most binary.Gt = omega arith
+infix_most binary.Le = omega arith
+infix_most binary.Ge = omega arith
+infix_most binary.Eq = omega arith
+infix_most binary.Ne = omega arith
 infix_most binary.And = omega arith
+infix_most binary.Xor = omega arith
 infix_most binary.Or = omega arith
 
 pub infix_some : (op : BinaryOp) → 0 < infix_level op
-infix_some binary.And = omega arith
-infix_some binary.Or = omega arith
+infix_some op = omega (arith, infix_high op)
 
 pub prefix_most : (u : UnaryOp) → prefix_level u ≤ weakest
-prefix_most unary_op.Not = omega arith
+prefix_most u = omega (arith, prefix_low u)
 
 pub level_most : (f : Form) → level f ≤ weakest
 level_most (literal ty n) = omega arith
@@ -52,6 +88,7 @@ level_most (variable v) = omega arith
 level_most (group f) = omega arith
 level_most (prefix op f) = prefix_most op
 level_most (infix_of op f g) = infix_most op
+level_most other = omega arith
 
 pub le_true : (a b : ℕ) → a ≤ b → nat_le a b ≡ true
 le_true a b h = grind (arith, nat_tests)
@@ -135,6 +172,11 @@ drive {E = E} {S = S} g title s (infix_of op f h) t ts b fits l =
 
     le_through : (i j k : ℕ) → i ≤ j → j ≤ k → i ≤ k
     le_through i j k p q = omega arith
+drive g title s (digits_to op f) t ts b h l = absurd b
+drive g title s (convert from to f) t ts b h l = absurd b
+drive g title s (select f h k) t ts b fits l = absurd b
+drive g title s (shift op f h) t ts b fits l = absurd b
+drive g title s (area_read w f) t ts b h l = absurd b
 
 pub drive_all : {E S : Type 0} (g : Build E S) (title : List ℕ) (d : S) (p : Statements) (more : List Kind) → AllBind p →
     passes g (inside title [] (statement d)) (spell_all p ++ more) ≡ passes g (inside title [] (statement (added g d p))) more

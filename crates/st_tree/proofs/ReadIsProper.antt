@@ -12,7 +12,7 @@ use Rattle.st_tree.proofs.TokenCuts.{and_both}
 use Rattle.st_tree.specs.Depth.{deepest, nest, nest_all, nest_source}
 use Rattle.st_tree.specs.Form.{Form, literal, variable, group, prefix, infix_of, canon}
 use Rattle.st_tree.specs.Grammar.{Statements, stop, empty, assign, Source, no_program, one_program, Binds, AllBind, SourceBinds, spell, spell_all, spell_source, tree, tree_all, units_of, tree_of}
-use Rattle.st_tree.specs.Proper.{Proper, is_proper_var, is_proper_expr, is_proper_stmt, proper_step}
+use Rattle.st_tree.specs.Proper.{Proper, is_built_unary, is_built_binary, is_proper_var, is_proper_expr, is_proper_stmt, proper_step}
 use Rattle.st_tree.specs.Reading.{is_placed, are_placed, first_line, bad_lines, bad_address_lines}
 use Rattle.st_tree.specs.ReadingLaws.{ReadIsProper}
 use Rattle.st_tree.specs.StKinds.{Kind, end_program_word, semicolon, between, close_bracket, end_of_text}
@@ -36,6 +36,7 @@ parts xs ys h = and_both (list_all is_said xs) (list_all is_said ys) (sym (list_
 var_proper : (v : Var) → is_known v ≡ true → is_placed v ≡ true → is_proper_var v ≡ true
 var_proper (Register r) h p = h
 var_proper (Direct a n k w) h p = and_from _ (is_placed (Direct a n k w)) h p
+var_proper other h p = absurd cc
 
 expr_proper : (f : Form) → Says (spell f) → are_placed f ≡ true → is_proper_expr (tree f) ≡ true
 expr_proper (literal ty n) h p =
@@ -44,12 +45,16 @@ expr_proper (variable v) h p =
     ap is_proper_expr (sym (expr.rolls-Read v)) ∙ fold-roll-Expr Bool proper_step (E.Read v) ∙ var_proper v (and_both _ _ h).0 p
 expr_proper (group f) h p = expr_proper f (parts (spell f) (close_bracket ∷ []) h).0 p
 expr_proper (prefix op f) h p =
-    ap is_proper_expr (sym (expr.rolls-Unary op (tree f))) ∙ fold-roll-Expr Bool proper_step (E.Unary op (tree f)) ∙ expr_proper f h p
+    ap is_proper_expr (sym (expr.rolls-Unary op (tree f))) ∙ fold-roll-Expr Bool proper_step (E.Unary op (tree f))
+    ∙ (let said = and_both (is_built_unary op) (list_all is_said (spell f)) h in and_from (is_built_unary op) (is_proper_expr (tree f)) said.0 (expr_proper f said.1 p))
 expr_proper (infix_of op f g) h p =
     let said = parts (spell f) (between op ∷ spell g) h in
     let placed = and_both (are_placed f) (are_placed g) p in
     ap is_proper_expr (sym (expr.rolls-Binary op (tree f) (tree g))) ∙ fold-roll-Expr Bool proper_step (E.Binary op (tree f) (tree g))
-    ∙ and_from (is_proper_expr (tree f)) (is_proper_expr (tree g)) (expr_proper f said.0 placed.0) (expr_proper g said.1 placed.1)
+    ∙ (let right = and_both (is_built_binary op) (list_all is_said (spell g)) said.1 in
+    and_from (is_built_binary op) (is_proper_expr (tree f) && is_proper_expr (tree g)) right.0
+    (and_from (is_proper_expr (tree f)) (is_proper_expr (tree g)) (expr_proper f said.0 placed.0) (expr_proper g right.1 placed.1)))
+expr_proper other h p = absurd cc
 
 -- where no statement has a bad address, the first has none, and those behind it have none
 record Placed (c : Bool) (behind : List Line) : Type 0 where

@@ -1,5 +1,5 @@
 -- The reading of an ST text, held against worked rows.
-use Rattle.std.proofs.Common.{ℕ, List, [], ◌∷◌, Result, Ok, Err, refl, arith}
+use Rattle.std.proofs.Common.{ℕ, true, List, [], ◌∷◌, Result, Ok, Err, refl, arith}
 use Rattle.std.specs.Prelude.{pos, codes}
 use Rattle.memory_areas.specs.declared.place.AreaName.TheVariants as area
 use Rattle.s7_base.specs.declared.reason.Rejection.{Rejection}
@@ -33,7 +33,7 @@ abbrev output : Var
 output = var.Direct area.Q 4 0 width.Bit
 
 abbrev program_of : List ℕ → List Stmt → StProgram
-program_of title body = record { pous = record { name = title; body = body } ∷ [] }
+program_of title body = record { dbs = []; globals = []; pous = record { program = true; name = title; formals = []; locals = []; body = body } ∷ [] }
 
 abbrev tokens_in : Result (List StToken) Rejection → List StToken
 tokens_in (Ok tokens) = tokens

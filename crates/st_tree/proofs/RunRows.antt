@@ -1,5 +1,5 @@
 -- Runs of small texts, held against worked rows by computing them.
-use Rattle.std.proofs.Common.{◌≡◌, refl, ℕ, List, [], ◌∷◌, pos, Some, None}
+use Rattle.std.proofs.Common.{◌≡◌, refl, ℕ, true, List, [], ◌∷◌, pos, Some, None}
 use Rattle.std.specs.Prelude.{codes}
 use Rattle.std.specs.Fmt.{digits}
 use Rattle.memory_areas.specs.Areas.{Areas}
@@ -26,7 +26,7 @@ use Rattle.st_tree.proofs.Opened.{opened}
 
 -- a text of one unit, `ob1`
 abbrev text_of : List Stmt → StProgram
-text_of body = record { pous = record { name = codes "ob1"; body = body } ∷ [] }
+text_of body = record { dbs = []; globals = []; pous = record { program = true; name = codes "ob1"; formals = []; locals = []; body = body } ∷ [] }
 
 abbrev call_of : BlockName → Call
 call_of name = record { block = name; instance = 0; actuals = [] }

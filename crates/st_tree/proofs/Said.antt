@@ -12,8 +12,8 @@ use Rattle.memory_areas.specs.declared.place.AreaName.{AreaName}
 use Rattle.s7_base.specs.declared.reason.Rejection.{Rejection}
 use Rattle.s7_base.specs.declared.word.Width.TheVariants.{Bit}
 use Rattle.st_tree.proofs.TokenCuts.{and_both}
-use Rattle.st_tree.specs.Proper.{is_built_register, is_bit, is_proper_literal}
-use Rattle.st_tree.specs.StKinds.{Kind, name, constant, place, misfit, kind_in, word_rows, sign_rows, word_kind, direct_kind, text_kind, kind_of, kinds_of}
+use Rattle.st_tree.specs.Proper.{is_built_register, is_bit, is_built_unary, is_built_binary, is_proper_literal}
+use Rattle.st_tree.specs.StKinds.{Kind, name, constant, place, before_one, between, misfit, kind_in, word_rows, sign_rows, word_kind, direct_kind, text_kind, kind_of, kinds_of}
 use Rattle.st_tree.specs.StTokens.{is_blank, is_letter, is_sign, Piece, gap, token, comment_size, sign_piece, mark_piece, direct_piece, piece_at, piece_size, number_of, bit_with, bit_behind, bit_in, area_of, direct_at, token_of, line_behind, prepend_tokens, with_piece, tokens_from, tokens_of}
 use Rattle.st_tree.specs.StWords.{is_block_word, is_name}
 use Rattle.st_tree.specs.declared.expr.Var.{Var}
@@ -25,12 +25,15 @@ use Rattle.st_tree.specs.declared.token.StToken.{StToken}
 abbrev pub is_known : Var → Bool
 is_known (Register r) = is_built_register r
 is_known (Direct a n k w) = is_bit w
+is_known other = false
 
 -- what a kind of token can be
 abbrev pub is_said : Kind → Bool
 is_said (name w) = is_name w
 is_said (constant ty n) = is_proper_literal ty n
 is_said (place v) = is_known v
+is_said (before_one op) = is_built_unary op
+is_said (between op) = is_built_binary op
 is_said other = true
 
 abbrev Said : Kind → Type 0

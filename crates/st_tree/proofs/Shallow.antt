@@ -4,7 +4,9 @@ use Rattle.std.specs.Prelude.{nat_lt, max, if◌then◌else◌}
 use Rattle.std.proofs.lemmas.Bool.Decides.{nat_tests}
 use Rattle.st_tree.proofs.CanonEquations.{canon_literal, canon_read, canon_unary, canon_binary}
 use Rattle.st_tree.specs.Depth.{nest, height}
-use Rattle.st_tree.specs.Form.{Form, literal, variable, group, prefix, infix_of, level, wrap, prefix_level, infix_level, canon}
+use Rattle.st_tree.specs.Form.{Form, literal, variable, group, prefix, infix_of, digits_to, convert, select, shift, area_read, level, wrap, prefix_level, infix_level, unary_form, canon}
+use Rattle.st_tree.specs.declared.expr.UnaryOp.{UnaryOp}
+use Rattle.st_tree.specs.declared.expr.UnaryOp.TheVariants as unary
 use Rattle.st_tree.specs.Grammar.{Binds, tree}
 
 -- what holds of a form, its canonical form beside it
@@ -45,6 +47,12 @@ kept f c same inner high = record {
   high = high;
 }
 
+prefix_fits : (op : UnaryOp) (f c : Form) → level f ≤ prefix_level op → Fits f c → Fits (prefix op f) (unary_form op c)
+prefix_fits unary.Minus f c h g = kept (prefix unary.Minus f) (prefix unary.Minus (wrap 1 c)) (omega arith) (omega (arith, g.outer 1 h)) (ap (λ (n : ℕ). 1 + n) (wrap_height 1 c ∙ g.high))
+prefix_fits unary.Not f c h g = kept (prefix unary.Not f) (prefix unary.Not (wrap 2 c)) (omega arith) (omega (arith, g.outer 2 h)) (ap (λ (n : ℕ). 1 + n) (wrap_height 2 c ∙ g.high))
+prefix_fits unary.BcdToInt f c h g = kept (prefix unary.BcdToInt f) (digits_to unary.BcdToInt c) (omega arith) (omega (arith, g.inner)) (ap (λ (n : ℕ). 1 + n) g.high)
+prefix_fits unary.BcdToDint f c h g = kept (prefix unary.BcdToDint f) (digits_to unary.BcdToDint c) (omega arith) (omega (arith, g.inner)) (ap (λ (n : ℕ). 1 + n) g.high)
+
 fits : (f : Form) → Binds f → Fits f (canon (tree f))
 fits (literal ty n) b = subst (λ (c : Form). Fits (literal ty n) c) (sym (canon_literal ty n)) (kept (literal ty n) (literal ty n) (omega arith) (omega arith) refl)
 fits (variable v) b = subst (λ (c : Form). Fits (variable v) c) (sym (canon_read v)) (kept (variable v) (variable v) (omega arith) (omega arith) refl)
@@ -55,11 +63,7 @@ fits (group f) b =
       outer = λ k h. omega (arith, g.inner, wrap_nest k (canon (tree f)));
       high = g.high;
     }
-fits (prefix op f) b =
-    let g = fits f b.1 in
-    let c = wrap (prefix_level op) (canon (tree f)) in
-    subst (λ (d : Form). Fits (prefix op f) d) (sym (canon_unary op (tree f)))
-    (kept (prefix op f) (prefix op c) (omega arith) (omega (arith, g.outer (prefix_level op) b.0)) (ap (λ (n : ℕ). 1 + n) (wrap_height (prefix_level op) (canon (tree f)) ∙ g.high)))
+fits (prefix op f) b = subst (λ (d : Form). Fits (prefix op f) d) (sym (canon_unary op (tree f))) (prefix_fits op f (canon (tree f)) b.0 (fits f b.1))
 fits (infix_of op e f) b =
     let g = fits e b.2 in
     let h = fits f b.3 in
@@ -82,6 +86,11 @@ fits (infix_of op e f) b =
 
     tall : (hc he hd hf : ℕ) → hc ≡ he → hd ≡ hf → 1 + max hc hd ≡ 1 + max he hf
     tall hc he hd hf p q = omega arith
+fits (digits_to op f) b = absurd b
+fits (convert from to f) b = absurd b
+fits (select f g h) b = absurd b
+fits (shift op f g) b = absurd b
+fits (area_read w f) b = absurd b
 
 pub shallow : (f : Form) → Binds f → nest (canon (tree f)) ≤ nest f
 shallow f b = (fits f b).inner

@@ -1,11 +1,12 @@
 -- What the spelling gives for some expressions, by computation: where brackets stand, and each word.
-use Rattle.std.specs.Prelude.{◌≡◌, ℕ, List, pos, codes, refl}
+use Rattle.std.specs.Prelude.{◌≡◌, ℕ, List, [], pos, codes, refl}
 use Rattle.std.specs.Fmt.{digits}
 use Rattle.memory_areas.specs.declared.place.AreaName.TheVariants as area
 use Rattle.s7_base.specs.declared.register.Reg.TheVariants as reg
 use Rattle.s7_base.specs.declared.word.Width.TheVariants as width
 use Rattle.st_tree.specs.Form.{canon}
 use Rattle.st_tree.specs.Spelling.{written, var_text}
+use Rattle.st_tree.specs.Typing.{Names}
 use Rattle.st_tree.proofs.CanonEquations.{canon_equations}
 use Rattle.st_tree.specs.declared.expr.StType.TheVariants as type
 use Rattle.st_tree.specs.declared.expr.UnaryOp.TheVariants as unary
@@ -14,8 +15,12 @@ use Rattle.st_tree.specs.declared.expr.Var.TheVariants as var
 use Rattle.st_tree.specs.declared.expr.Expr.{Expr}
 use Rattle.st_tree.specs.declared.expr.Expr.TheVariants as expr
 
+-- nothing is declared
+abbrev nothing : Names
+nothing = record { globals = []; units = []; formals = []; locals = [] }
+
 abbrev text_of : Expr → List ℕ
-text_of e = written (canon e)
+text_of e = written nothing (canon e)
 
 abbrev rlo : Expr
 rlo = expr.Read (var.Register reg.Rlo)
@@ -61,22 +66,22 @@ true_word : text_of (expr.Literal type.Bool (pos 1)) ≡ codes "TRUE"
 true_word = simp canon_equations
 
 -- places in memory
-marker_bit : var_text (var.Direct area.M 10 7 width.Bit) ≡ codes "%MX10.7"
+marker_bit : var_text nothing (var.Direct area.M 10 7 width.Bit) ≡ codes "%MX10.7"
 unfolding digits
 marker_bit = refl
 
-output_byte : var_text (var.Direct area.Q 4 0 width.Byte) ≡ codes "%QB4"
+output_byte : var_text nothing (var.Direct area.Q 4 0 width.Byte) ≡ codes "%QB4"
 unfolding digits
 output_byte = refl
 
-local_dword : var_text (var.Direct area.L 255 0 width.Dword) ≡ codes "%LD255"
+local_dword : var_text nothing (var.Direct area.L 255 0 width.Dword) ≡ codes "%LD255"
 unfolding digits
 local_dword = refl
 
-block_word : var_text (var.Direct area.Db 65535 0 width.Word) ≡ codes "%DBW65535"
+block_word : var_text nothing (var.Direct area.Db 65535 0 width.Word) ≡ codes "%DBW65535"
 unfolding digits
 block_word = refl
 
-instance_bit : var_text (var.Direct area.Di 0 3 width.Bit) ≡ codes "%DIX0.3"
+instance_bit : var_text nothing (var.Direct area.Di 0 3 width.Bit) ≡ codes "%DIX0.3"
 unfolding digits
 instance_bit = refl

@@ -3,18 +3,19 @@ use Rattle.std.proofs.Common.{◌≡◌, ℕ, List, Ok, Option, Some, None, refl
 use Rattle.st_tree.proofs.Drive.{built, added, finished, drive_source}
 use Rattle.st_tree.proofs.Machine.{State, start, heading, inside, behind, over_without, over_with, as_written, then_all, passes}
 use Rattle.st_tree.specs.Form.{Form, literal, variable, group, prefix, infix_of}
-use Rattle.st_tree.specs.Grammar.{Statements, stop, empty, assign, Source, no_program, one_program, SourceBinds, spell_source, tree_of}
+use Rattle.st_tree.specs.Grammar.{Statements, stop, empty, assign, Source, no_program, one_program, Binds, AllBind, SourceBinds, spell_source, tree_of}
 use Rattle.st_tree.specs.Reading.{IsText}
 use Rattle.st_tree.specs.ReadingLaws.{OneTree}
 use Rattle.st_tree.specs.StKinds.{kinds_of}
 use Rattle.st_tree.specs.declared.token.StToken.{StToken}
 
-built_same : (f : Form) → built as_written f ≡ f
-built_same (literal ty n) = refl
-built_same (variable v) = refl
-built_same (group f) = ap group (built_same f)
-built_same (prefix op f) = ap (prefix op) (built_same f)
-built_same (infix_of op f g) = rw (built_same f, built_same g) refl
+built_same : (f : Form) → Binds f → built as_written f ≡ f
+built_same (literal ty n) b = refl
+built_same (variable v) b = refl
+built_same (group f) b = ap group (built_same f b)
+built_same (prefix op f) b = ap (prefix op) (built_same f b.1)
+built_same (infix_of op f g) b = rw (built_same f b.2, built_same g b.3) refl
+built_same other b = absurd b
 
 then_assoc : (a b c : Statements) → then_all (then_all a b) c ≡ then_all a (then_all b c)
 then_assoc stop b c = refl
@@ -26,12 +27,12 @@ then_stop stop = refl
 then_stop (empty a) = ap empty (then_stop a)
 then_stop (assign v e a) = ap (assign v e) (then_stop a)
 
-pub added_same : (d p : Statements) → added as_written d p ≡ then_all d p
-added_same d stop = sym (then_stop d)
-added_same d (empty rest) = added_same (then_all d (empty stop)) rest ∙ then_assoc d (empty stop) rest
-added_same d (assign v e rest) =
-    ap (λ (f : Form). added as_written (then_all d (assign v f stop)) rest) (built_same e)
-    ∙ added_same (then_all d (assign v e stop)) rest ∙ then_assoc d (assign v e stop) rest
+pub added_same : (d p : Statements) → AllBind p → added as_written d p ≡ then_all d p
+added_same d stop b = sym (then_stop d)
+added_same d (empty rest) b = added_same (then_all d (empty stop)) rest b ∙ then_assoc d (empty stop) rest
+added_same d (assign v e rest) b =
+    ap (λ (f : Form). added as_written (then_all d (assign v f stop)) rest) (built_same e b.0)
+    ∙ added_same (then_all d (assign v e stop)) rest b.1 ∙ then_assoc d (assign v e stop) rest
 
 -- the text that a state at the end has built
 abbrev pub source_of : Option (State Form Statements) → Source
@@ -43,13 +44,13 @@ source_of (Some (behind title d)) = no_program
 source_of (Some over_without) = no_program
 source_of (Some (over_with title d)) = one_program title d
 
-built_source : (source : Source) → source_of (Some (finished as_written source)) ≡ source
-built_source no_program = refl
-built_source (one_program title body) = ap (one_program title) (added_same stop body)
+built_source : (source : Source) → SourceBinds source → source_of (Some (finished as_written source)) ≡ source
+built_source no_program b = refl
+built_source (one_program title body) b = ap (one_program title) (added_same stop body b.1)
 
 -- the form of a text, computed from its tokens
 pub read_source : (source : Source) → SourceBinds source → source_of (passes as_written start (spell_source source)) ≡ source
-read_source source b = ap source_of (drive_source as_written source b) ∙ built_source source
+read_source source b = ap source_of (drive_source as_written source b) ∙ built_source source b
 
 pub one_source : (a b : Source) → SourceBinds a → SourceBinds b → spell_source a ≡ spell_source b → a ≡ b
 one_source a b p q e = sym (read_source a p) ∙ ap (λ ks. source_of (passes as_written start ks)) e ∙ read_source b q

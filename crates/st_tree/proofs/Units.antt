@@ -22,6 +22,7 @@ changed_then (Err f) more free u w s = refl
 body_is_free : (body : List Stmt) → IsFree (body_meaning body)
 body_is_free [] u w s = refl
 body_is_free (stmt.Assign v e ∷ rest) u w s = changed_then (assigned v e s) (body_meaning rest) (body_is_free rest) u w s
+body_is_free (other ∷ rest) u w s = body_is_free rest u w s
 
 pub same_for_all_units : (unit : Option Pou) (u w : ℕ) (memory : Areas) → run_of_unit unit u memory ≡ run_of_unit unit w memory
 same_for_all_units None u w memory = refl

@@ -44,6 +44,7 @@ one_high (variable v) = omega arith
 one_high (group f) = one_high f
 one_high (prefix op f) = omega arith
 one_high (infix_of op f g) = omega arith
+one_high other = omega arith
 
 -- reducing changes nothing of what is made
 pub fill_reduced : (k : ℕ) (s : List (Frame Form Statements)) (f : Form) → let r = reduce as_written k s f in fill r.0 r.1 ≡ fill s f
@@ -160,9 +161,9 @@ on_from front more source q b e p =
     ap (λ (o : Option (State Form Statements)). option_and_then (λ r. passes as_written r more) o) (sym p) ∙ sym (passes-append start front more)
     ∙ ap (λ (ks : List Kind). passes as_written start ks) e ∙ drive_source as_written source b
 
-finished_weight : (source : Source) → weight (finished as_written source) ≡ nest_source source
-finished_weight no_program = refl
-finished_weight (one_program title body) = ap nest_all (added_same stop body)
+finished_weight : (source : Source) → SourceBinds source → weight (finished as_written source) ≡ nest_source source
+finished_weight no_program b = refl
+finished_weight (one_program title body) b = ap nest_all (added_same stop body b.1)
 
 -- no text of few levels begins with what a heavy state has passed
 pub none_within : (levels : ℕ) (front : List Kind) (q : State Form Statements) → passes as_written start front ≡ Some q → levels < weight q → BeginsWithin levels front → ⊥
@@ -171,7 +172,7 @@ none_within levels front q p heavy b =
     let on = on_from front b.more b.source q r.binds r.spelled p in
     let low : weight q ≤ weight (finished as_written b.source) = subst (λ (o : Option (State Form Statements)). IfSome o (λ z. weight q ≤ weight z)) on (heavier_all q b.more) in
     let within : nest_source b.source ≤ levels = r.within in
-    omega (arith, finished_weight b.source)
+    omega (arith, finished_weight b.source r.binds)
 
 -- where the pass stops, no text goes on
 pub cannot_follow : (front : List Kind) (k : Kind) (q : State Form Statements) → passes as_written start front ≡ Some q → next as_written q k ≡ None → Begins (front ++ k ∷ []) → ⊥

@@ -12,4 +12,6 @@ pub mod StRun
 pub mod StRunLaws
 pub mod StTokens
 pub mod StWords
+pub mod Typing
 pub mod Value
+pub mod Words

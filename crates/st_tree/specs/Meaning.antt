@@ -43,6 +43,7 @@ assigned v e s = and_then (value e s) (λ w. write v w s)
 -- each statement
 abbrev pub meaning : Stmt → Sem
 meaning (stmt.Assign v e) units s = changed (assigned v e s) units s
+meaning other units s = Normal units s
 
 -- the statements of a body
 abbrev pub body_meaning : List Stmt → Sem

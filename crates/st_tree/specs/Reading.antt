@@ -1,7 +1,7 @@
 -- The reading of an ST text: its tree, or the line and the reason of its refusal. First all tokens
 -- count, then syntax and depth from the front, then the addresses by line, then that there is a
 -- program.
-use Rattle.std.specs.Prelude.{◌≡◌, ℕ, ◌+◌, ◌≤◌, ◌<◌, Bool, true, ◌&&◌, nat_lt, nat_le, if◌then◌else◌, List, [], ◌∷◌, ◌++◌, length, drop, Ok, Err}
+use Rattle.std.specs.Prelude.{◌≡◌, ℕ, ◌+◌, ◌≤◌, ◌<◌, Bool, true, false, ◌&&◌, nat_lt, nat_le, if◌then◌else◌, List, [], ◌∷◌, ◌++◌, length, drop, Ok, Err}
 use Rattle.memory_areas.specs.Access.{area_bytes}
 use Rattle.s7_base.specs.declared.reason.Line.{Line}
 use Rattle.s7_base.specs.declared.reason.Reason.{Reason}
@@ -23,6 +23,7 @@ use Rattle.st_tree.specs.declared.token.StToken.{StToken}
 abbrev pub is_placed : Var → Bool
 is_placed (Register r) = true
 is_placed (Direct name byte bit w) = nat_lt byte (area_bytes name) && nat_le bit 7
+is_placed other = false
 
 -- each variable of an expression does
 abbrev pub are_placed : Form → Bool
@@ -31,6 +32,7 @@ are_placed (variable v) = is_placed v
 are_placed (group f) = are_placed f
 are_placed (prefix op f) = are_placed f
 are_placed (infix_of op f g) = are_placed f && are_placed g
+are_placed other = false
 
 -- the line of the first of some tokens
 abbrev pub first_line : List StToken → Line

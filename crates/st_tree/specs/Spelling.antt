@@ -1,59 +1,65 @@
--- The bytes of a tree: words in capitals, one blank around an operator and `:=`, a statement to a line.
-use Rattle.std.specs.Prelude.{ℕ, ℤ, pos, List, [], ◌++◌, codes, decimal, flat_map, if◌then◌else◌}
+-- The canonical spelling of a tree: words in capitals, names as declared, four blanks for each level,
+-- one blank around an operator and `:=`, a statement, a heading, a declaration or a label list to a line.
+use Rattle.std.specs.Prelude.{ℕ, zero, suc, ◌+◌, ◌-◌, ◌/◌, ◌%◌, ◌==◌, Bool, true, false, ℤ, pos, unsigned_abs, int_lt, nat_lt, List, [], ◌∷◌, ◌++◌, codes, decimal, map, flat_map, length, slice_get, Option, Some, None, if◌then◌else◌}
 use Rattle.std.specs.Ordering.{int_eq}
-use Rattle.memory_areas.specs.declared.place.AreaName.{AreaName}
-use Rattle.memory_areas.specs.declared.place.AreaName.TheVariants as area
-use Rattle.s7_base.specs.declared.register.Reg.{Reg}
-use Rattle.s7_base.specs.declared.register.Reg.TheVariants as reg
+use Rattle.memory_areas.specs.declared.place.Area.{Area}
+use Rattle.memory_areas.specs.declared.place.Area.TheVariants as area
+use Rattle.memory_areas.specs.declared.place.Place.{Place}
+use Rattle.memory_areas.specs.declared.data_block.DataBlock.{DataBlock}
 use Rattle.s7_base.specs.declared.word.Width.{Width}
 use Rattle.s7_base.specs.declared.word.Width.TheVariants as width
-use Rattle.st_tree.specs.Form.{Form, literal, variable, group, prefix, infix_of, canon}
+use Rattle.st_tree.specs.Form.{Form, literal, variable, group, prefix, infix_of, digits_to, convert, select, shift, area_read, canon}
+use Rattle.st_tree.specs.Typing.{Names, type_of}
+use Rattle.st_tree.specs.Words.{register_word, area_word, width_word, type_word, prefix_word, infix_word, shift_word}
 use Rattle.st_tree.specs.declared.expr.StType.{StType}
 use Rattle.st_tree.specs.declared.expr.StType.TheVariants as type
-use Rattle.st_tree.specs.declared.expr.UnaryOp.{UnaryOp}
-use Rattle.st_tree.specs.declared.expr.UnaryOp.TheVariants as unary
-use Rattle.st_tree.specs.declared.expr.BinaryOp.{BinaryOp}
-use Rattle.st_tree.specs.declared.expr.BinaryOp.TheVariants as binary
 use Rattle.st_tree.specs.declared.expr.Var.{Var}
 use Rattle.st_tree.specs.declared.expr.Var.TheVariants as var
-use Rattle.st_tree.specs.declared.program.Stmt.{Stmt}
-use Rattle.st_tree.specs.declared.program.Stmt.TheVariants as stmt
+use Rattle.st_tree.specs.declared.expr.Expr.{Expr}
+use Rattle.st_tree.specs.declared.program.Local.{Local}
+use Rattle.st_tree.specs.declared.program.Located.{Located}
+use Rattle.st_tree.specs.declared.program.Stmt.{Stmt, fold-Stmt}
+use Rattle.st_tree.specs.declared.program.Stmt.TheOpen as S
+use Rattle.st_tree.specs.declared.program.Arm.{Arm-F}
+use Rattle.st_tree.specs.declared.program.CaseArm.{CaseArm-F}
 use Rattle.st_tree.specs.declared.program.Pou.{Pou}
 use Rattle.st_tree.specs.declared.program.StProgram.{StProgram}
 
--- the name of a register
-abbrev pub register_word : Reg → List ℕ
-register_word reg.Accu1 = codes "ACCU1"
-register_word reg.Accu2 = codes "ACCU2"
-register_word reg.Ar1 = codes "AR1"
-register_word reg.Ar2 = codes "AR2"
-register_word reg.DbNo = codes "DBNO"
-register_word reg.DiNo = codes "DINO"
-register_word reg.Nfc = codes "NFC"
-register_word reg.Rlo = codes "RLO"
-register_word reg.Sta = codes "STA"
-register_word reg.Orb = codes "ORB"
-register_word reg.Os = codes "OS"
-register_word reg.Ov = codes "OV"
-register_word reg.Cc0 = codes "CC0"
-register_word reg.Cc1 = codes "CC1"
-register_word reg.Br = codes "BR"
+-- Pieces
 
--- the letters of an area
-abbrev pub area_word : AreaName → List ℕ
-area_word area.I = codes "I"
-area_word area.Q = codes "Q"
-area_word area.M = codes "M"
-area_word area.L = codes "L"
-area_word area.Db = codes "DB"
-area_word area.Di = codes "DI"
+-- texts with a comma and a blank between each two
+abbrev pub listed : List (List ℕ) → List ℕ
+listed [] = []
+listed (first ∷ more) = first ++ flat_map (λ text. codes ", " ++ text) more
 
--- the letter of a width
-abbrev pub width_word : Width → List ℕ
-width_word width.Bit = codes "X"
-width_word width.Byte = codes "B"
-width_word width.Word = codes "W"
-width_word width.Dword = codes "D"
+-- four blanks for each level
+abbrev pub blanks : ℕ → List ℕ
+blanks zero = []
+blanks (suc level) = codes "    " ++ blanks level
+
+-- a line at a level
+abbrev pub line : ℕ → List ℕ → List ℕ
+line level text = blanks level ++ text ++ codes "\n"
+
+-- a hexadecimal digit, a capital
+abbrev pub digit : ℕ → ℕ
+digit d = if nat_lt d 10 then 48 + d else 55 + d
+
+-- the last so many hexadecimal digits of a number
+abbrev pub hexadecimal : ℕ → ℕ → List ℕ
+hexadecimal zero n = []
+hexadecimal (suc count) n = hexadecimal count (n / 16) ++ digit (n % 16) ∷ []
+
+-- Variables and literals
+
+-- the name of a local or a formal
+abbrev pub local_name : Option Local → List ℕ
+local_name None = []
+local_name (Some local) = local.name
+
+abbrev pub global_name : Option Located → List ℕ
+global_name None = []
+global_name (Some global) = global.name
 
 -- the number of a bit; a byte or more has none
 abbrev pub bit_text : Width → ℕ → List ℕ
@@ -62,40 +68,189 @@ bit_text width.Byte bit = []
 bit_text width.Word bit = []
 bit_text width.Dword bit = []
 
--- a variable, as `RLO`, `%IX0.0` or `%MW10`
-abbrev pub var_text : Var → List ℕ
-var_text (var.Register r) = register_word r
-var_text (var.Direct a byte bit w) = codes "%" ++ area_word a ++ width_word w ++ decimal byte ++ bit_text w bit
+-- a place behind the letters of its area, as `X0.0` or `W10`
+abbrev pub place_text : Width → ℕ → ℕ → List ℕ
+place_text w byte bit = width_word w ++ decimal byte ++ bit_text w bit
 
--- a literal of its type
+-- a variable, as `RLO`, `%IX0.0`, `%MW10` or `%DB5.DBW4`
+abbrev pub var_text : Names → Var → List ℕ
+var_text names (var.Register r) = register_word r
+var_text names (var.Local i) = local_name (slice_get names.locals i)
+var_text names (var.Formal i) = local_name (slice_get names.formals i)
+var_text names (var.Global i) = global_name (slice_get names.globals i)
+var_text names (var.Direct a byte bit w) = codes "%" ++ area_word a ++ place_text w byte bit
+var_text names (var.InBlock block byte bit w) = codes "%DB" ++ decimal block ++ codes ".DB" ++ place_text w byte bit
+
+-- a whole number with its sign
+abbrev pub integer_text : ℤ → List ℕ
+integer_text n = if int_lt n (pos 0) then codes "-" ++ decimal (unsigned_abs n) else decimal (unsigned_abs n)
+
+-- a literal of its type: a DINT from 0 on is plain, patterns have all their hexadecimal digits
 abbrev pub literal_text : StType → ℤ → List ℕ
 literal_text type.Bool n = if int_eq n (pos 0) then codes "FALSE" else codes "TRUE"
+literal_text type.Byte n = codes "BYTE#16#" ++ hexadecimal 2 (unsigned_abs n)
+literal_text type.Word n = codes "WORD#16#" ++ hexadecimal 4 (unsigned_abs n)
+literal_text type.Dword n = codes "DWORD#16#" ++ hexadecimal 8 (unsigned_abs n)
+literal_text type.Int n = codes "INT#" ++ integer_text n
+literal_text type.Dint n = if int_lt n (pos 0) then codes "DINT#" ++ integer_text n else decimal (unsigned_abs n)
+literal_text type.Lint n = codes "LINT#" ++ integer_text n
 
--- an operator before its operand
-abbrev pub prefix_word : UnaryOp → List ℕ
-prefix_word unary.Not = codes "NOT "
-
--- an operator between its operands
-abbrev pub infix_word : BinaryOp → List ℕ
-infix_word binary.And = codes " AND "
-infix_word binary.Or = codes " OR "
+-- Expressions
 
 -- an expression with its brackets
-abbrev pub written : Form → List ℕ
-written (literal ty n) = literal_text ty n
-written (variable v) = var_text v
-written (group f) = codes "(" ++ written f ++ codes ")"
-written (prefix op f) = prefix_word op ++ written f
-written (infix_of op f g) = written f ++ infix_word op ++ written g
+abbrev pub written : Names → Form → List ℕ
+written names (literal ty n) = literal_text ty n
+written names (variable v) = var_text names v
+written names (group f) = codes "(" ++ written names f ++ codes ")"
+written names (prefix op f) = prefix_word op ++ written names f
+written names (infix_of op f g) = written names f ++ infix_word op ++ written names g
+written names (digits_to op f) = prefix_word op ++ written names f ++ codes ")"
+written names (convert from to f) = type_word from ++ codes "_TO_" ++ type_word to ++ codes "(" ++ written names f ++ codes ")"
+written names (select f g h) = codes "SEL(" ++ written names f ++ codes ", " ++ written names g ++ codes ", " ++ written names h ++ codes ")"
+written names (shift op f g) = shift_word op ++ codes "(" ++ written names f ++ codes ", " ++ written names g ++ codes ")"
+written names (area_read w f) = codes "AREA_READ_" ++ width_word w ++ codes "(" ++ written names f ++ codes ")"
 
--- a statement on a line of its own
-abbrev pub statement_line : Stmt → List ℕ
-statement_line (stmt.Assign v e) = codes "    " ++ var_text v ++ codes " := " ++ written (canon e) ++ codes ";\n"
+abbrev pub expr_text : Names → Expr → List ℕ
+expr_text names e = written names (canon e)
+
+-- Statements
+
+-- what a statement, an arm of an IF behind its word, and an arm of a CASE of a type spell at a level
+abbrev pub Text : Type 0
+Text = ℕ → List ℕ
+
+abbrev pub ArmText : Type 0
+ArmText = List ℕ → ℕ → List ℕ
+
+abbrev pub CaseText : Type 0
+CaseText = StType → ℕ → List ℕ
+
+-- statements at a level
+abbrev pub texts_at : ℕ → List Text → List ℕ
+texts_at level texts = flat_map (λ text. text level) texts
+
+-- the statements where no arm applies; none are not written
+abbrev pub else_text : ℕ → List Text → List ℕ
+else_text level [] = []
+else_text level (first ∷ more) = line level (codes "ELSE") ++ texts_at (level + 1) (first ∷ more)
+
+-- the first arm begins with IF, each other with ELSIF
+abbrev pub arms_text : ℕ → List ArmText → List ℕ
+arms_text level [] = []
+arms_text level (first ∷ more) = first (codes "IF") level ++ flat_map (λ arm. arm (codes "ELSIF") level) more
+
+-- the unit that a call names, and its formals
+abbrev pub unit_name : Option Pou → List ℕ
+unit_name None = []
+unit_name (Some unit) = unit.name
+
+abbrev pub formals_of : Option Pou → List Local
+formals_of None = []
+formals_of (Some unit) = unit.formals
+
+-- each formal with its variable
+abbrev pub actuals_text : Names → List Local → List Var → List (List ℕ)
+actuals_text names (formal ∷ formals) (v ∷ vars) = (formal.name ++ codes " := " ++ var_text names v) ∷ actuals_text names formals vars
+actuals_text names formals vars = []
+
+abbrev pub call_text : Names → Option Pou → List Var → List ℕ
+call_text names unit vars = unit_name unit ++ codes "(" ++ listed (actuals_text names (formals_of unit) vars) ++ codes ");"
+
+-- the labels of an arm of a CASE, literals of its type
+abbrev pub labels_text : StType → List ℤ → List ℕ
+labels_text ty labels = listed (map (literal_text ty) labels) ++ codes ":"
+
+abbrev pub arm_step : Names → Arm-F Text ArmText CaseText → ArmText
+arm_step names arm word level = line level (word ++ codes " " ++ expr_text names arm.test ++ codes " THEN") ++ texts_at (level + 1) arm.body
+
+abbrev pub case_step : CaseArm-F Text ArmText CaseText → CaseText
+case_step arm ty level = line (level + 1) (labels_text ty arm.labels) ++ texts_at (level + 2) arm.body
+
+abbrev pub statement_step : Names → S.Stmt-F Text ArmText CaseText → Text
+statement_step names (S.Assign v e) level = line level (var_text names v ++ codes " := " ++ expr_text names e ++ codes ";")
+statement_step names (S.AreaWrite w p e) level = line level (codes "AREA_WRITE_" ++ width_word w ++ codes "(" ++ expr_text names p ++ codes ", " ++ expr_text names e ++ codes ");")
+statement_step names (S.Invoke unit vars) level = line level (call_text names (slice_get names.units unit) vars)
+statement_step names (S.If arms other) level = arms_text level arms ++ else_text level other ++ line level (codes "END_IF;")
+statement_step names (S.Case e arms other) level =
+    line level (codes "CASE " ++ expr_text names e ++ codes " OF") ++ flat_map (λ arm. arm (type_of names e) level) arms ++ else_text level other ++ line level (codes "END_CASE;")
+statement_step names (S.While e body) level = line level (codes "WHILE " ++ expr_text names e ++ codes " DO") ++ texts_at (level + 1) body ++ line level (codes "END_WHILE;")
+statement_step names S.Exit level = line level (codes "EXIT;")
+statement_step names S.Continue level = line level (codes "CONTINUE;")
+statement_step names S.Return level = line level (codes "RETURN;")
+
+-- a statement at a level
+abbrev pub statement_text : Names → Stmt → Text
+statement_text names = fold-Stmt Text ArmText CaseText (statement_step names) (arm_step names) case_step
+
+-- Units
+
+abbrev pub local_text : Local → List ℕ
+local_text local = line 2 (local.name ++ codes " : " ++ type_word local.ty ++ codes ";")
+
+-- a section of a unit; an empty one is not written
+abbrev pub section_text : List ℕ → List Local → List ℕ
+section_text word [] = []
+section_text word (first ∷ more) = line 1 word ++ flat_map local_text (first ∷ more) ++ line 1 (codes "END_VAR")
+
+abbrev pub unit_word : Bool → List ℕ
+unit_word true = codes "PROGRAM"
+unit_word false = codes "FUNCTION"
+
+-- what the statements of a unit of a text can name
+abbrev pub names_in : StProgram → Pou → Names
+names_in tree unit = record { globals = tree.globals; units = tree.pous; formals = unit.formals; locals = unit.locals }
 
 -- a unit between its heading and its end word
-abbrev pub unit_text : Pou → List ℕ
-unit_text unit = codes "PROGRAM " ++ unit.name ++ codes "\n" ++ flat_map statement_line unit.body ++ codes "END_PROGRAM\n"
+abbrev pub unit_text : StProgram → Pou → List ℕ
+unit_text tree unit =
+    line 0 (unit_word unit.program ++ codes " " ++ unit.name) ++ section_text (codes "VAR_IN_OUT") unit.formals ++ section_text (codes "VAR_TEMP") unit.locals
+    ++ flat_map (λ statement. statement_text (names_in tree unit) statement 1) unit.body ++ line 0 (codes "END_" ++ unit_word unit.program)
 
--- the whole text
+-- Globals
+
+-- equal bytes that stand together, as their count and their value
+abbrev pub with_byte : ℕ → List (ℕ × ℕ) → List (ℕ × ℕ)
+with_byte b [] = (1, b) ∷ []
+with_byte b (run ∷ more) = if b == run.1 then (run.0 + 1, b) ∷ more else (1, b) ∷ run ∷ more
+
+abbrev pub runs_of : List ℕ → List (ℕ × ℕ)
+runs_of [] = []
+runs_of (b ∷ bytes) = with_byte b (runs_of bytes)
+
+-- a byte, and two or more equal ones
+abbrev pub byte_text : ℕ → List ℕ
+byte_text b = codes "16#" ++ hexadecimal 2 b
+
+abbrev pub run_text : ℕ × ℕ → List ℕ
+run_text run = if run.0 == 1 then byte_text run.1 else decimal run.0 ++ codes "(" ++ byte_text run.1 ++ codes ")"
+
+abbrev pub block_text : DataBlock → List ℕ
+block_text block =
+    line 1 (codes "DB" ++ decimal block.number ++ codes " AT %DB" ++ decimal block.number ++ codes ".DBB0 : ARRAY[0.." ++ decimal (length block.bytes - 1) ++ codes "] OF BYTE := ["
+    ++ listed (map run_text (runs_of block.bytes)) ++ codes "];")
+
+-- the letters of the area of a place, and of the width of a type
+abbrev pub place_word : Area → List ℕ
+place_word area.I = codes "I"
+place_word area.Q = codes "Q"
+place_word other = codes "M"
+
+abbrev pub type_width : StType → Width
+type_width type.Bool = width.Bit
+type_width type.Byte = width.Byte
+type_width type.Word = width.Word
+type_width type.Int = width.Word
+type_width other = width.Dword
+
+abbrev pub global_text : Located → List ℕ
+global_text global =
+    line 1 (global.name ++ codes " AT %" ++ place_word global.place.area ++ place_text (type_width global.ty) global.place.byte global.place.bit ++ codes " : " ++ type_word global.ty ++ codes ";")
+
+-- the section of globals; an empty one is not written
+abbrev pub globals_text : List (List ℕ) → List ℕ
+globals_text [] = []
+globals_text (first ∷ more) = line 0 (codes "VAR_GLOBAL") ++ flat_map (λ text. text) (first ∷ more) ++ line 0 (codes "END_VAR")
+
+-- the whole text: data blocks, other globals, units
 abbrev pub spelling : StProgram → List ℕ
-spelling tree = flat_map unit_text tree.pous
+spelling tree = globals_text (map block_text tree.dbs ++ map global_text tree.globals) ++ flat_map (unit_text tree) tree.pous

@@ -33,6 +33,12 @@ pub record Value : Type 0 where
 -- how many bits a value of a type has
 abbrev pub width_of : StType → ℕ
 width_of type.Bool = 1
+width_of type.Byte = 8
+width_of type.Word = 16
+width_of type.Dword = 32
+width_of type.Int = 16
+width_of type.Dint = 32
+width_of type.Lint = 64
 
 -- the pattern of a value of a bit type
 abbrev pub bits_of : Value → ℕ
@@ -98,21 +104,27 @@ abbrev pub read : Var → State → Result Value Fault
 read (var.Register r) s = Ok (record { ty = type_of_register r; n = s.registers r })
 read (var.Direct a byte x w) s = read_place w (place_of a byte x s.registers) s.memory
 
+read other s = Err AreaLength
+
 -- the state after a variable took a value
 abbrev pub write : Var → Value → State → Result State Fault
 write (var.Register r) v s = Ok (record s { registers = with_register r v.n s.registers })
 write (var.Direct a byte x w) v s = and_then (write_place w (place_of a byte x s.registers) v s.memory) (λ memory. Ok (record s { memory = memory }))
+
+write other v s = Err AreaLength
 
 -- Expressions
 
 -- an operator before its operand: NOT inverts each bit
 abbrev pub unary_value : UnaryOp → Value → Result Value Fault
 unary_value unary.Not v = Ok (record { ty = v.ty; n = pos (2 ^ width_of v.ty - 1 - bits_of v) })
+unary_value other v = Err AreaLength
 
 -- an operator between its operands: AND and OR go bit by bit
 abbrev pub binary_value : BinaryOp → Value → Value → Result Value Fault
 binary_value binary.And v w = Ok (record { ty = v.ty; n = pos (bit_and (bits_of v) (bits_of w)) })
 binary_value binary.Or v w = Ok (record { ty = v.ty; n = pos (bit_or (bits_of v) (bits_of w)) })
+binary_value other v w = Err AreaLength
 
 -- what an expression is worth in each state, or its fault
 abbrev pub Worth : Type 0
@@ -124,6 +136,10 @@ value_step (E.Literal ty n) s = Ok (record { ty = ty; n = n })
 value_step (E.Read v) s = read v s
 value_step (E.Unary op a) s = and_then (a s) (unary_value op)
 value_step (E.Binary op a b) s = and_then (a s) (λ v. and_then (b s) (binary_value op v))
+value_step (E.Convert from to a) s = Err AreaLength
+value_step (E.Select g a b) s = Err AreaLength
+value_step (E.Shift op a b) s = Err AreaLength
+value_step (E.AreaRead w p) s = Err AreaLength
 
 -- the value of an expression
 abbrev pub value : Expr → Worth

@@ -1,0 +1,89 @@
+-- The words and letters of a canonical text, all in capitals.
+use Rattle.std.specs.Prelude.{ℕ, List, codes}
+use Rattle.memory_areas.specs.declared.place.AreaName.{AreaName}
+use Rattle.memory_areas.specs.declared.place.AreaName.TheVariants as area
+use Rattle.s7_base.specs.declared.register.Reg.{Reg}
+use Rattle.s7_base.specs.declared.register.Reg.TheVariants as reg
+use Rattle.s7_base.specs.declared.word.Width.{Width}
+use Rattle.s7_base.specs.declared.word.Width.TheVariants as width
+use Rattle.st_tree.specs.declared.expr.StType.{StType}
+use Rattle.st_tree.specs.declared.expr.StType.TheVariants as type
+use Rattle.st_tree.specs.declared.expr.UnaryOp.{UnaryOp}
+use Rattle.st_tree.specs.declared.expr.UnaryOp.TheVariants as unary
+use Rattle.st_tree.specs.declared.expr.BinaryOp.{BinaryOp}
+use Rattle.st_tree.specs.declared.expr.BinaryOp.TheVariants as binary
+use Rattle.st_tree.specs.declared.expr.ShiftOp.{ShiftOp}
+use Rattle.st_tree.specs.declared.expr.ShiftOp.TheVariants as shifts
+
+-- the name of a register
+abbrev pub register_word : Reg → List ℕ
+register_word reg.Accu1 = codes "ACCU1"
+register_word reg.Accu2 = codes "ACCU2"
+register_word reg.Ar1 = codes "AR1"
+register_word reg.Ar2 = codes "AR2"
+register_word reg.DbNo = codes "DBNO"
+register_word reg.DiNo = codes "DINO"
+register_word reg.Nfc = codes "NFC"
+register_word reg.Rlo = codes "RLO"
+register_word reg.Sta = codes "STA"
+register_word reg.Orb = codes "ORB"
+register_word reg.Os = codes "OS"
+register_word reg.Ov = codes "OV"
+register_word reg.Cc0 = codes "CC0"
+register_word reg.Cc1 = codes "CC1"
+register_word reg.Br = codes "BR"
+
+-- the letters of an area
+abbrev pub area_word : AreaName → List ℕ
+area_word area.I = codes "I"
+area_word area.Q = codes "Q"
+area_word area.M = codes "M"
+area_word area.L = codes "L"
+area_word area.Db = codes "DB"
+area_word area.Di = codes "DI"
+
+-- the letter of a width
+abbrev pub width_word : Width → List ℕ
+width_word width.Bit = codes "X"
+width_word width.Byte = codes "B"
+width_word width.Word = codes "W"
+width_word width.Dword = codes "D"
+
+abbrev pub type_word : StType → List ℕ
+type_word type.Bool = codes "BOOL"
+type_word type.Byte = codes "BYTE"
+type_word type.Word = codes "WORD"
+type_word type.Dword = codes "DWORD"
+type_word type.Int = codes "INT"
+type_word type.Dint = codes "DINT"
+type_word type.Lint = codes "LINT"
+
+-- an operator before its operand, or a function with its bracket
+abbrev pub prefix_word : UnaryOp → List ℕ
+prefix_word unary.Minus = codes "-"
+prefix_word unary.Not = codes "NOT "
+prefix_word unary.BcdToInt = codes "BCD_TO_INT("
+prefix_word unary.BcdToDint = codes "BCD_TO_DINT("
+
+-- an operator between its operands
+abbrev pub infix_word : BinaryOp → List ℕ
+infix_word binary.Mul = codes " * "
+infix_word binary.Div = codes " / "
+infix_word binary.Mod = codes " MOD "
+infix_word binary.Add = codes " + "
+infix_word binary.Sub = codes " - "
+infix_word binary.Lt = codes " < "
+infix_word binary.Gt = codes " > "
+infix_word binary.Le = codes " <= "
+infix_word binary.Ge = codes " >= "
+infix_word binary.Eq = codes " = "
+infix_word binary.Ne = codes " <> "
+infix_word binary.And = codes " AND "
+infix_word binary.Xor = codes " XOR "
+infix_word binary.Or = codes " OR "
+
+abbrev pub shift_word : ShiftOp → List ℕ
+shift_word shifts.Shl = codes "SHL"
+shift_word shifts.Shr = codes "SHR"
+shift_word shifts.Rol = codes "ROL"
+shift_word shifts.Ror = codes "ROR"
