@@ -14,7 +14,7 @@ use Rattle.st_tree.specs.Grammar.{Statements, stop, assign, one_program, AllBind
 use Rattle.st_tree.specs.Proper.{is_built_unary, is_built_binary, is_proper_var, is_proper_expr, is_proper_stmt, is_proper_unit, is_proper}
 use Rattle.st_tree.specs.Reading.{is_placed, are_placed, bad_lines, HasTree}
 use Rattle.st_tree.specs.ReadingLaws.{Rereads}
-use Rattle.st_tree.specs.Spelling.{Text, ArmText, CaseText, line, var_text, expr_text, statement_step, arm_step, case_step, statement_text, names_in, unit_text, spelling}
+use Rattle.st_tree.specs.Spelling.{Text, ArmText, CaseText, line, var_text, expr_text, statement_step, arm_step, case_step, statement_text, body_text, names_in, unit_text, spelling}
 use Rattle.st_tree.specs.StKinds.{Kind, program_word, end_program_word, name, place, assign_sign, semicolon, end_of_text, kind_of, kinds_of}
 use Rattle.st_tree.specs.StTokens.{tokens_of, end_on}
 use Rattle.st_tree.specs.StWords.{is_name, may_name_unit}
@@ -77,7 +77,7 @@ statement_line names v e =
 
 -- the lines of statements
 abbrev lines_of : Names → List Stmt → List ℕ
-lines_of names body = flat_map (λ statement. statement_text names statement 1) body
+lines_of names body = body_text names 1 body
 
 -- what holds of the canonical form of proper statements
 record GoodBody (names : Names) (body : List Stmt) : Type 0 where
@@ -88,6 +88,7 @@ record GoodBody (names : Names) (body : List Stmt) : Type 0 where
   same : tree_all (canon_all body) ≡ body
 
 good_body : (names : Names) (body : List Stmt) → list_all is_proper_stmt body ≡ true → GoodBody names body
+unfolding line
 good_body names [] h = record { cuts = λ more. cut_none more; binds = tt; within = omega arith; placed = λ tokens. refl; same = refl }
 good_body names (stmt.Assign v e ∷ rest) h =
     let both = and_both (is_proper_stmt (stmt.Assign v e)) (list_all is_proper_stmt rest) h in
@@ -121,6 +122,7 @@ apart title s t lines more = simp append_assoc
 
 unit_cuts : (title : List ℕ) (body : List Stmt) (more : List ℕ) → is_name title ≡ true → may_name_unit title ≡ true → GoodBody (names_made title body) body →
     Cuts (unit_text (text_made title body) (made title body) ++ more) more (program_word ∷ name title ∷ (spell_all (canon_all body) ++ end_program_word ∷ []))
+unfolding unit_text line
 unit_cuts title body more h free g =
     let lines : List ℕ = lines_of (names_made title body) body in
     subst (λ (text : List ℕ). Cuts (codes "PROGRAM " ++ text) more (program_word ∷ name title ∷ (spell_all (canon_all body) ++ end_program_word ∷ []))) (sym (apart title [] [] lines more))

@@ -69,10 +69,12 @@ value_cases n h = by (int_eq n (pos 0)) (int_eq n (pos 1)) (Decides-int_eq n (po
     by false false p q h = absurd cc
 
 cut_value : (n : ℤ) (more : List ℕ) → (n ≡ pos 0) ⊎ (n ≡ pos 1) → begins_word more ≡ false → Cuts (literal_text type.Bool n ++ more) more (constant type.Bool n ∷ [])
+unfolding literal_text
 cut_value n more (inl e) ends = subst (λ (m : ℤ). Cuts (literal_text type.Bool m ++ more) more (constant type.Bool m ∷ [])) (sym e) (cut_word 70 (codes "ALSE") more (constant type.Bool (pos 0)) refl refl ends refl)
 cut_value n more (inr e) ends = subst (λ (m : ℤ). Cuts (literal_text type.Bool m ++ more) more (constant type.Bool m ∷ [])) (sym e) (cut_word 84 (codes "RUE") more (constant type.Bool (pos 1)) refl refl ends refl)
 
 cut_literal : (ty : StType) (n : ℤ) (more : List ℕ) → is_proper_literal ty n ≡ true → begins_word more ≡ false → Cuts (literal_text ty n ++ more) more (constant ty n ∷ [])
+unfolding literal_text
 cut_literal type.Bool n more h ends = cut_value n more (value_cases n h) ends
 cut_literal other n more h ends = absurd cc
 
@@ -102,10 +104,12 @@ var_no_star names (Direct a n k w) more h = refl
 var_no_star names other more h = absurd cc
 
 value_no_star : (n : ℤ) (more : List ℕ) → (n ≡ pos 0) ⊎ (n ≡ pos 1) → begins_with 42 (literal_text type.Bool n ++ more) ≡ false
+unfolding literal_text
 value_no_star n more (inl e) = rw e refl
 value_no_star n more (inr e) = rw e refl
 
 literal_no_star : (ty : StType) (n : ℤ) (more : List ℕ) → is_proper_literal ty n ≡ true → begins_with 42 (literal_text ty n ++ more) ≡ false
+unfolding literal_text
 literal_no_star type.Bool n more h = value_no_star n more (value_cases n h)
 literal_no_star other n more h = absurd cc
 

@@ -5,7 +5,7 @@ use Rattle.memory_areas.specs.declared.place.AreaName.TheVariants as area
 use Rattle.s7_base.specs.declared.register.Reg.TheVariants as reg
 use Rattle.s7_base.specs.declared.word.Width.TheVariants as width
 use Rattle.st_tree.specs.Form.{canon}
-use Rattle.st_tree.specs.Spelling.{written, var_text}
+use Rattle.st_tree.specs.Spelling.{literal_text, written, var_text}
 use Rattle.st_tree.specs.Typing.{Names}
 use Rattle.st_tree.proofs.CanonEquations.{canon_equations}
 use Rattle.st_tree.specs.declared.expr.StType.TheVariants as type
@@ -60,9 +60,11 @@ not_of_not = simp canon_equations
 
 -- the two values of BOOL
 false_word : text_of (expr.Literal type.Bool (pos 0)) ≡ codes "FALSE"
+unfolding literal_text
 false_word = simp canon_equations
 
 true_word : text_of (expr.Literal type.Bool (pos 1)) ≡ codes "TRUE"
+unfolding literal_text
 true_word = simp canon_equations
 
 -- places in memory

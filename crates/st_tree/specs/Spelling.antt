@@ -20,8 +20,8 @@ use Rattle.st_tree.specs.declared.program.Local.{Local}
 use Rattle.st_tree.specs.declared.program.Located.{Located}
 use Rattle.st_tree.specs.declared.program.Stmt.{Stmt, fold-Stmt}
 use Rattle.st_tree.specs.declared.program.Stmt.TheOpen as S
-use Rattle.st_tree.specs.declared.program.Arm.{Arm-F}
-use Rattle.st_tree.specs.declared.program.CaseArm.{CaseArm-F}
+use Rattle.st_tree.specs.declared.program.Arm.{Arm, Arm-F, fold-Arm}
+use Rattle.st_tree.specs.declared.program.CaseArm.{CaseArm, CaseArm-F, fold-CaseArm}
 use Rattle.st_tree.specs.declared.program.Pou.{Pou}
 use Rattle.st_tree.specs.declared.program.StProgram.{StProgram}
 
@@ -38,7 +38,7 @@ blanks zero = []
 blanks (suc level) = codes "    " ++ blanks level
 
 -- a line at a level
-abbrev pub line : ℕ → List ℕ → List ℕ
+unfoldable pub line : ℕ → List ℕ → List ℕ
 line level text = blanks level ++ text ++ codes "\n"
 
 -- a hexadecimal digit, a capital
@@ -46,7 +46,7 @@ abbrev pub digit : ℕ → ℕ
 digit d = if nat_lt d 10 then 48 + d else 55 + d
 
 -- the last so many hexadecimal digits of a number
-abbrev pub hexadecimal : ℕ → ℕ → List ℕ
+unfoldable pub hexadecimal : ℕ → ℕ → List ℕ
 hexadecimal zero n = []
 hexadecimal (suc count) n = hexadecimal count (n / 16) ++ digit (n % 16) ∷ []
 
@@ -86,7 +86,7 @@ abbrev pub integer_text : ℤ → List ℕ
 integer_text n = if int_lt n (pos 0) then codes "-" ++ decimal (unsigned_abs n) else decimal (unsigned_abs n)
 
 -- a literal of its type: a DINT from 0 on is plain, patterns have all their hexadecimal digits
-abbrev pub literal_text : StType → ℤ → List ℕ
+unfoldable pub literal_text : StType → ℤ → List ℕ
 literal_text type.Bool n = if int_eq n (pos 0) then codes "FALSE" else codes "TRUE"
 literal_text type.Byte n = codes "BYTE#16#" ++ hexadecimal 2 (unsigned_abs n)
 literal_text type.Word n = codes "WORD#16#" ++ hexadecimal 4 (unsigned_abs n)
@@ -137,7 +137,7 @@ else_text level (first ∷ more) = line level (codes "ELSE") ++ texts_at (level 
 -- the first arm begins with IF, each other with ELSIF
 abbrev pub arms_text : ℕ → List ArmText → List ℕ
 arms_text level [] = []
-arms_text level (first ∷ more) = first (codes "IF") level ++ flat_map (λ arm. arm (codes "ELSIF") level) more
+arms_text level (first ∷ more) = first (codes "IF ") level ++ flat_map (λ arm. arm (codes "ELSIF ") level) more
 
 -- the unit that a call names, and its formals
 abbrev pub unit_name : Option Pou → List ℕ
@@ -150,21 +150,27 @@ formals_of (Some unit) = unit.formals
 
 -- each formal with its variable
 abbrev pub actuals_text : Names → List Local → List Var → List (List ℕ)
+actuals_text names [] vars = []
+actuals_text names (formal ∷ formals) [] = []
 actuals_text names (formal ∷ formals) (v ∷ vars) = (formal.name ++ codes " := " ++ var_text names v) ∷ actuals_text names formals vars
-actuals_text names formals vars = []
 
 abbrev pub call_text : Names → Option Pou → List Var → List ℕ
 call_text names unit vars = unit_name unit ++ codes "(" ++ listed (actuals_text names (formals_of unit) vars) ++ codes ");"
 
--- the labels of an arm of a CASE, literals of its type
+-- a label of an arm of a CASE behind others, a literal of its type
+unfoldable pub label_text : StType → ℤ → List ℕ
+label_text ty label = codes ", " ++ literal_text ty label
+
+-- the labels of an arm
 abbrev pub labels_text : StType → List ℤ → List ℕ
-labels_text ty labels = listed (map (literal_text ty) labels) ++ codes ":"
+labels_text ty [] = []
+labels_text ty (first ∷ more) = literal_text ty first ++ flat_map (label_text ty) more
 
 abbrev pub arm_step : Names → Arm-F Text ArmText CaseText → ArmText
-arm_step names arm word level = line level (word ++ codes " " ++ expr_text names arm.test ++ codes " THEN") ++ texts_at (level + 1) arm.body
+arm_step names arm word level = line level (word ++ expr_text names arm.test ++ codes " THEN") ++ texts_at (level + 1) arm.body
 
 abbrev pub case_step : CaseArm-F Text ArmText CaseText → CaseText
-case_step arm ty level = line (level + 1) (labels_text ty arm.labels) ++ texts_at (level + 2) arm.body
+case_step arm ty level = line (level + 1) (labels_text ty arm.labels ++ codes ":") ++ texts_at (level + 2) arm.body
 
 abbrev pub statement_step : Names → S.Stmt-F Text ArmText CaseText → Text
 statement_step names (S.Assign v e) level = line level (var_text names v ++ codes " := " ++ expr_text names e ++ codes ";")
@@ -182,9 +188,20 @@ statement_step names S.Return level = line level (codes "RETURN;")
 abbrev pub statement_text : Names → Stmt → Text
 statement_text names = fold-Stmt Text ArmText CaseText (statement_step names) (arm_step names) case_step
 
+-- an arm of an IF, and one of a CASE
+abbrev pub arm_text : Names → Arm → ArmText
+arm_text names = fold-Arm Text ArmText CaseText (statement_step names) (arm_step names) case_step
+
+abbrev pub case_text : Names → CaseArm → CaseText
+case_text names = fold-CaseArm Text ArmText CaseText (statement_step names) (arm_step names) case_step
+
+-- the statements of a body at a level
+abbrev pub body_text : Names → ℕ → List Stmt → List ℕ
+body_text names level body = texts_at level (map (statement_text names) body)
+
 -- Units
 
-abbrev pub local_text : Local → List ℕ
+unfoldable pub local_text : Local → List ℕ
 local_text local = line 2 (local.name ++ codes " : " ++ type_word local.ty ++ codes ";")
 
 -- a section of a unit; an empty one is not written
@@ -201,33 +218,35 @@ abbrev pub names_in : StProgram → Pou → Names
 names_in tree unit = record { globals = tree.globals; units = tree.pous; formals = unit.formals; locals = unit.locals }
 
 -- a unit between its heading and its end word
-abbrev pub unit_text : StProgram → Pou → List ℕ
+unfoldable pub unit_text : StProgram → Pou → List ℕ
 unit_text tree unit =
     line 0 (unit_word unit.program ++ codes " " ++ unit.name) ++ section_text (codes "VAR_IN_OUT") unit.formals ++ section_text (codes "VAR_TEMP") unit.locals
-    ++ flat_map (λ statement. statement_text (names_in tree unit) statement 1) unit.body ++ line 0 (codes "END_" ++ unit_word unit.program)
+    ++ body_text (names_in tree unit) 1 unit.body ++ line 0 (codes "END_" ++ unit_word unit.program)
 
 -- Globals
 
--- equal bytes that stand together, as their count and their value
-abbrev pub with_byte : ℕ → List (ℕ × ℕ) → List (ℕ × ℕ)
-with_byte b [] = (1, b) ∷ []
-with_byte b (run ∷ more) = if b == run.1 then (run.0 + 1, b) ∷ more else (1, b) ∷ run ∷ more
-
-abbrev pub runs_of : List ℕ → List (ℕ × ℕ)
-runs_of [] = []
-runs_of (b ∷ bytes) = with_byte b (runs_of bytes)
-
--- a byte, and two or more equal ones
+-- a byte
 abbrev pub byte_text : ℕ → List ℕ
 byte_text b = codes "16#" ++ hexadecimal 2 b
 
-abbrev pub run_text : ℕ × ℕ → List ℕ
-run_text run = if run.0 == 1 then byte_text run.1 else decimal run.0 ++ codes "(" ++ byte_text run.1 ++ codes ")"
+-- so many equal bytes; two or more have their count
+abbrev pub run_text : ℕ → ℕ → List ℕ
+run_text count b = if count == 1 then byte_text b else decimal count ++ codes "(" ++ byte_text b ++ codes ")"
 
-abbrev pub block_text : DataBlock → List ℕ
+-- the list of these bytes behind so many equal ones
+abbrev pub list_behind : ℕ → ℕ → List ℕ → List ℕ
+list_behind count b [] = run_text count b
+list_behind count b (next ∷ rest) = if b == next then list_behind (count + 1) b rest else run_text count b ++ codes ", " ++ list_behind 1 next rest
+
+-- bytes, equal ones that stand together as one item
+abbrev pub list_text : List ℕ → List ℕ
+list_text [] = []
+list_text (b ∷ rest) = list_behind 1 b rest
+
+unfoldable pub block_text : DataBlock → List ℕ
 block_text block =
     line 1 (codes "DB" ++ decimal block.number ++ codes " AT %DB" ++ decimal block.number ++ codes ".DBB0 : ARRAY[0.." ++ decimal (length block.bytes - 1) ++ codes "] OF BYTE := ["
-    ++ listed (map run_text (runs_of block.bytes)) ++ codes "];")
+    ++ list_text block.bytes ++ codes "];")
 
 -- the letters of the area of a place, and of the width of a type
 abbrev pub place_word : Area → List ℕ
@@ -242,15 +261,15 @@ type_width type.Word = width.Word
 type_width type.Int = width.Word
 type_width other = width.Dword
 
-abbrev pub global_text : Located → List ℕ
+unfoldable pub global_text : Located → List ℕ
 global_text global =
     line 1 (global.name ++ codes " AT %" ++ place_word global.place.area ++ place_text (type_width global.ty) global.place.byte global.place.bit ++ codes " : " ++ type_word global.ty ++ codes ";")
 
--- the section of globals; an empty one is not written
-abbrev pub globals_text : List (List ℕ) → List ℕ
-globals_text [] = []
-globals_text (first ∷ more) = line 0 (codes "VAR_GLOBAL") ++ flat_map (λ text. text) (first ∷ more) ++ line 0 (codes "END_VAR")
+-- the section of globals, data blocks first; an empty one is not written
+abbrev pub globals_text : List DataBlock → List Located → List ℕ
+globals_text [] [] = []
+globals_text blocks globals = line 0 (codes "VAR_GLOBAL") ++ flat_map block_text blocks ++ flat_map global_text globals ++ line 0 (codes "END_VAR")
 
 -- the whole text: data blocks, other globals, units
 abbrev pub spelling : StProgram → List ℕ
-spelling tree = globals_text (map block_text tree.dbs ++ map global_text tree.globals) ++ flat_map (unit_text tree) tree.pous
+spelling tree = globals_text tree.dbs tree.globals ++ flat_map (unit_text tree) tree.pous

@@ -1,0 +1,5 @@
+use Rattle.std.proofs.Common.{ℕ}
+use Rattle.st_printer.proofs.text.+put_hexadecimal.Given as goal
+
+abbrev pub decreases-put_hexadecimal : goal.decreases-put_hexadecimal
+decreases-put_hexadecimal l = l.count

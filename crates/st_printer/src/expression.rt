@@ -1,0 +1,115 @@
+//! Expressions, with the brackets that binding needs.
+ghost use Rattle.std.specs.Prelude.{◌≡◌, ◌++◌, codes, OnOk};
+ghost use Rattle.st_tree.specs.Form.{level, wrap, unary_form, canon};
+ghost use Rattle.st_tree.specs.Spelling.{written, expr_text, names_in};
+
+use crate::literal::put_literal;
+use crate::text::put;
+use crate::variable::put_var;
+use crate::word::{infix_level_of, infix_word, prefix_level_of, prefix_word, shift_word, type_word, width_word};
+use s7_base::NoMemory;
+use st_tree::{Expr, Pou, StProgram, UnaryOp};
+
+// How weakly the text of an expression binds.
+fn level_of(expr: &Expr) -> u8
+    ensures { result ≡ level (canon expr.now) }
+{
+    match expr {
+        Expr::Unary(UnaryOp::Minus, _) => 1,
+        Expr::Unary(UnaryOp::Not, _) => 2,
+        Expr::Binary(op, _, _) => infix_level_of(*op),
+        _ => 0,
+    }
+}
+
+#[cycle(expr)]
+pub fn put_expr(out: &mut Vec<u8>, tree: &StProgram, unit: &Pou, expr: &Expr) -> Result<(), NoMemory>
+    ensures { OnOk result (out.new.items ≡ out.old.items ++ expr_text (names_in tree.now unit.now) expr.now) }
+{
+    match expr {
+        Expr::Literal(ty, value) => put_literal(out, *ty, *value),
+        Expr::Read(var) => put_var(out, tree, unit, *var),
+        Expr::Unary(op, operand) => put_unary(out, tree, unit, *op, operand.get()),
+        Expr::Binary(op, left, right) => {
+            put_operand(out, tree, unit, left.get(), infix_level_of(*op))?;
+            put(out, infix_word(*op))?;
+            put_operand(out, tree, unit, right.get(), infix_level_of(*op) - 1)
+        }
+        Expr::Convert(from, to, operand) => {
+            put(out, type_word(*from))?;
+            put(out, "_TO_")?;
+            put(out, type_word(*to))?;
+            put_in_brackets(out, tree, unit, operand.get())
+        }
+        Expr::Select(gate, first, second) => {
+            put(out, "SEL(")?;
+            put_expr(out, tree, unit, gate.get())?;
+            put_next(out, tree, unit, first.get())?;
+            put_last(out, tree, unit, second.get())
+        }
+        Expr::Shift(op, operand, count) => {
+            put(out, shift_word(*op))?;
+            put(out, "(")?;
+            put_expr(out, tree, unit, operand.get())?;
+            put_last(out, tree, unit, count.get())
+        }
+        Expr::AreaRead(width, pointer) => {
+            put(out, "AREA_READ_")?;
+            put(out, width_word(*width))?;
+            put_in_brackets(out, tree, unit, pointer.get())
+        }
+    }
+}
+
+#[cycle(expr)]
+fn put_unary(out: &mut Vec<u8>, tree: &StProgram, unit: &Pou, op: UnaryOp, operand: &Expr) -> Result<(), NoMemory>
+    ensures { OnOk result (out.new.items ≡ out.old.items ++ written (names_in tree.now unit.now) (unary_form op (canon operand.now))) }
+{
+    put(out, prefix_word(op))?;
+    match op {
+        UnaryOp::Minus | UnaryOp::Not => put_operand(out, tree, unit, operand, prefix_level_of(op)),
+        UnaryOp::BcdToInt | UnaryOp::BcdToDint => {
+            put_expr(out, tree, unit, operand)?;
+            put(out, ")")
+        }
+    }
+}
+
+// The expression, in brackets where it binds more weakly than its place takes.
+#[cycle(expr)]
+fn put_operand(out: &mut Vec<u8>, tree: &StProgram, unit: &Pou, expr: &Expr, limit: u8) -> Result<(), NoMemory>
+    ensures { OnOk result (out.new.items ≡ out.old.items ++ written (names_in tree.now unit.now) (wrap limit (canon expr.now))) }
+{
+    if level_of(expr) <= limit {
+        return put_expr(out, tree, unit, expr);
+    }
+    put_in_brackets(out, tree, unit, expr)
+}
+
+#[cycle(expr)]
+fn put_in_brackets(out: &mut Vec<u8>, tree: &StProgram, unit: &Pou, expr: &Expr) -> Result<(), NoMemory>
+    ensures { OnOk result (out.new.items ≡ out.old.items ++ codes "(" ++ expr_text (names_in tree.now unit.now) expr.now ++ codes ")") }
+{
+    put(out, "(")?;
+    put_expr(out, tree, unit, expr)?;
+    put(out, ")")
+}
+
+// An operand behind another one.
+#[cycle(expr)]
+fn put_next(out: &mut Vec<u8>, tree: &StProgram, unit: &Pou, expr: &Expr) -> Result<(), NoMemory>
+    ensures { OnOk result (out.new.items ≡ out.old.items ++ codes ", " ++ expr_text (names_in tree.now unit.now) expr.now) }
+{
+    put(out, ", ")?;
+    put_expr(out, tree, unit, expr)
+}
+
+// The last operand, and the closing bracket.
+#[cycle(expr)]
+fn put_last(out: &mut Vec<u8>, tree: &StProgram, unit: &Pou, expr: &Expr) -> Result<(), NoMemory>
+    ensures { OnOk result (out.new.items ≡ out.old.items ++ codes ", " ++ expr_text (names_in tree.now unit.now) expr.now ++ codes ")") }
+{
+    put(out, ", ")?;
+    put_expr(out, tree, unit, expr)?;
+    put(out, ")")
+}

@@ -1,0 +1,255 @@
+//! Statements, each on lines of its own, four blanks deeper than what holds it.
+ghost use Rattle.std.specs.Prelude.{◌≡◌, ◌+◌, ◌++◌, map, flat_map, codes, slice_get, IfOk, OnOk};
+ghost use Rattle.st_tree.specs.Words.{width_word};
+ghost use Rattle.st_tree.specs.Spelling.{blanks, line, listed, var_text, expr_text, names_in, texts_at, else_text, arms_text, actuals_text, call_text, label_text, labels_text, arm_text, case_text, statement_text, body_text};
+
+use crate::expression::put_expr;
+use crate::literal::put_literal;
+use crate::names::{formals_of, type_of, unit_name};
+use crate::text::{put, put_blanks, put_bytes};
+use crate::variable::put_var;
+use crate::word::width_word;
+use s7_base::{NoMemory, Width};
+use st_tree::{Arm, CaseArm, Expr, Local, Pou, StProgram, StType, Stmt, Var};
+
+// The next level. No tree in a machine's memory has as many levels as a machine can count.
+fn deeper(level: usize) -> Result<usize, NoMemory>
+    ensures { IfOk result (λ next. next ≡ level + 1) }
+{
+    level.checked_add(1).ok_or(NoMemory)
+}
+
+// A line that is a word.
+#[tactic(auto, unfolding(st_tree::specs::Spelling::line))]
+pub fn put_line(out: &mut Vec<u8>, level: usize, text: &str) -> Result<(), NoMemory>
+    ensures { OnOk result (out.new.items ≡ out.old.items ++ line level text.now) }
+{
+    put_blanks(out, level)?;
+    put(out, text)?;
+    put(out, "\n")
+}
+
+#[tactic(auto, unfolding(st_tree::specs::Spelling::line))]
+fn put_assign(out: &mut Vec<u8>, tree: &StProgram, unit: &Pou, level: usize, var: Var, value: &Expr) -> Result<(), NoMemory>
+    ensures { OnOk result (out.new.items ≡ out.old.items ++ line level (var_text (names_in tree.now unit.now) var ++ codes " := " ++ expr_text (names_in tree.now unit.now) value.now ++ codes ";")) }
+{
+    put_blanks(out, level)?;
+    put_var(out, tree, unit, var)?;
+    put(out, " := ")?;
+    put_expr(out, tree, unit, value)?;
+    put(out, ";\n")
+}
+
+// The operands of an area write and the end of its line.
+fn put_operands(out: &mut Vec<u8>, tree: &StProgram, unit: &Pou, pointer: &Expr, value: &Expr) -> Result<(), NoMemory>
+    ensures { OnOk result (out.new.items ≡ out.old.items ++ expr_text (names_in tree.now unit.now) pointer.now ++ codes ", " ++ expr_text (names_in tree.now unit.now) value.now ++ codes ");\n") }
+{
+    put_expr(out, tree, unit, pointer)?;
+    put(out, ", ")?;
+    put_expr(out, tree, unit, value)?;
+    put(out, ");\n")
+}
+
+#[tactic(auto, unfolding(st_tree::specs::Spelling::line))]
+fn put_area_write(out: &mut Vec<u8>, tree: &StProgram, unit: &Pou, level: usize, width: Width, pointer: &Expr, value: &Expr) -> Result<(), NoMemory>
+    ensures { OnOk result (out.new.items ≡ out.old.items ++ line level (codes "AREA_WRITE_" ++ width_word width ++ codes "(" ++ expr_text (names_in tree.now unit.now) pointer.now ++ codes ", " ++ expr_text (names_in tree.now unit.now) value.now ++ codes ");")) }
+{
+    put_blanks(out, level)?;
+    put(out, "AREA_WRITE_")?;
+    put(out, width_word(width))?;
+    put(out, "(")?;
+    put_operands(out, tree, unit, pointer, value)
+}
+
+// A formal with its variable.
+fn put_actual(out: &mut Vec<u8>, tree: &StProgram, unit: &Pou, formal: &Local, var: Var) -> Result<(), NoMemory>
+    ensures { OnOk result (out.new.items ≡ out.old.items ++ formal.now.name ++ codes " := " ++ var_text (names_in tree.now unit.now) var) }
+{
+    put_bytes(out, formal.name.as_slice())?;
+    put(out, " := ")?;
+    put_var(out, tree, unit, var)
+}
+
+// The actuals behind the first, each with its comma.
+fn put_more_actuals(out: &mut Vec<u8>, tree: &StProgram, unit: &Pou, formals: &[Local], vars: &[Var]) -> Result<(), NoMemory>
+    ensures { OnOk result (out.new.items ≡ out.old.items ++ flat_map (λ text. codes ", " ++ text) (actuals_text (names_in tree.now unit.now) formals.now vars.now)) }
+{
+    let [formal, formals @ ..] = formals else {
+        return Ok(());
+    };
+    let [var, vars @ ..] = vars else {
+        return Ok(());
+    };
+    put(out, ", ")?;
+    put_actual(out, tree, unit, formal, *var)?;
+    put_more_actuals(out, tree, unit, formals, vars)
+}
+
+fn put_actuals(out: &mut Vec<u8>, tree: &StProgram, unit: &Pou, formals: &[Local], vars: &[Var]) -> Result<(), NoMemory>
+    ensures { OnOk result (out.new.items ≡ out.old.items ++ listed (actuals_text (names_in tree.now unit.now) formals.now vars.now)) }
+{
+    let [formal, formals @ ..] = formals else {
+        return Ok(());
+    };
+    let [var, vars @ ..] = vars else {
+        return Ok(());
+    };
+    put_actual(out, tree, unit, formal, *var)?;
+    put_more_actuals(out, tree, unit, formals, vars)
+}
+
+#[tactic(auto, unfolding(st_tree::specs::Spelling::line))]
+fn put_call(out: &mut Vec<u8>, tree: &StProgram, unit: &Pou, level: usize, callee: u32, vars: &[Var]) -> Result<(), NoMemory>
+    ensures { OnOk result (out.new.items ≡ out.old.items ++ line level (call_text (names_in tree.now unit.now) (slice_get tree.now.pous callee) vars.now)) }
+{
+    let units = tree.pous.as_slice();
+    put_blanks(out, level)?;
+    put_bytes(out, unit_name(units, callee))?;
+    put(out, "(")?;
+    put_actuals(out, tree, unit, formals_of(units, callee), vars)?;
+    put(out, ");\n")
+}
+
+// A line of a word, an expression and a word.
+#[tactic(auto, unfolding(st_tree::specs::Spelling::line))]
+fn put_head(out: &mut Vec<u8>, tree: &StProgram, unit: &Pou, level: usize, before: &str, expr: &Expr, behind: &str) -> Result<(), NoMemory>
+    ensures { OnOk result (out.new.items ≡ out.old.items ++ line level (before.now ++ expr_text (names_in tree.now unit.now) expr.now ++ behind.now)) }
+{
+    put_blanks(out, level)?;
+    put(out, before)?;
+    put_expr(out, tree, unit, expr)?;
+    put(out, behind)?;
+    put(out, "\n")
+}
+
+#[tactic(auto, unfolding(st_tree::specs::Spelling::label_text))]
+fn put_label(out: &mut Vec<u8>, ty: StType, label: i64) -> Result<(), NoMemory>
+    ensures { OnOk result (out.new.items ≡ out.old.items ++ label_text ty label) }
+{
+    put(out, ", ")?;
+    put_literal(out, ty, label)
+}
+
+fn put_more_labels(out: &mut Vec<u8>, ty: StType, labels: &[i64]) -> Result<(), NoMemory>
+    ensures { OnOk result (out.new.items ≡ out.old.items ++ flat_map (label_text ty) labels.now) }
+{
+    for label in labels {
+        put_label(out, ty, *label)?;
+    }
+    Ok(())
+}
+
+fn put_label_list(out: &mut Vec<u8>, ty: StType, labels: &[i64]) -> Result<(), NoMemory>
+    ensures { OnOk result (out.new.items ≡ out.old.items ++ labels_text ty labels.now) }
+{
+    match labels {
+        [first, more @ ..] => {
+            put_literal(out, ty, *first)?;
+            put_more_labels(out, ty, more)
+        }
+        [] => Ok(()),
+    }
+}
+
+// The line of an arm's labels.
+#[tactic(auto, unfolding(st_tree::specs::Spelling::line))]
+fn put_labels(out: &mut Vec<u8>, level: usize, ty: StType, labels: &[i64]) -> Result<(), NoMemory>
+    ensures { OnOk result (out.new.items ≡ out.old.items ++ line level (labels_text ty labels.now ++ codes ":")) }
+{
+    put_blanks(out, level)?;
+    put_label_list(out, ty, labels)?;
+    put(out, ":\n")
+}
+
+#[cycle(statements)]
+pub fn put_body(out: &mut Vec<u8>, tree: &StProgram, unit: &Pou, level: usize, body: &[Stmt]) -> Result<(), NoMemory>
+    ensures { OnOk result (out.new.items ≡ out.old.items ++ body_text (names_in tree.now unit.now) level body.now) }
+{
+    for statement in body {
+        put_statement(out, tree, unit, level, statement)?;
+    }
+    Ok(())
+}
+
+#[cycle(statements)]
+fn put_statement(out: &mut Vec<u8>, tree: &StProgram, unit: &Pou, level: usize, statement: &Stmt) -> Result<(), NoMemory>
+    ensures { OnOk result (out.new.items ≡ out.old.items ++ statement_text (names_in tree.now unit.now) statement.now level) }
+{
+    match statement {
+        Stmt::Assign(var, value) => put_assign(out, tree, unit, level, *var, value),
+        Stmt::AreaWrite(width, pointer, value) => put_area_write(out, tree, unit, level, *width, pointer.get(), value.get()),
+        Stmt::Invoke(callee, vars) => put_call(out, tree, unit, level, *callee, vars.as_slice()),
+        Stmt::If(arms, other) => {
+            put_arms(out, tree, unit, level, arms.as_slice())?;
+            put_else(out, tree, unit, level, other.as_slice())?;
+            put_line(out, level, "END_IF;")
+        }
+        Stmt::Case(selector, arms, other) => {
+            put_head(out, tree, unit, level, "CASE ", selector, " OF")?;
+            put_cases(out, tree, unit, level, type_of(tree, unit, selector), arms.as_slice())?;
+            put_else(out, tree, unit, level, other.as_slice())?;
+            put_line(out, level, "END_CASE;")
+        }
+        Stmt::While(test, body) => {
+            put_head(out, tree, unit, level, "WHILE ", test, " DO")?;
+            put_body(out, tree, unit, deeper(level)?, body.as_slice())?;
+            put_line(out, level, "END_WHILE;")
+        }
+        Stmt::Exit => put_line(out, level, "EXIT;"),
+        Stmt::Continue => put_line(out, level, "CONTINUE;"),
+        Stmt::Return => put_line(out, level, "RETURN;"),
+    }
+}
+
+// An arm of an IF behind its word and a blank.
+#[cycle(statements)]
+fn put_arm(out: &mut Vec<u8>, tree: &StProgram, unit: &Pou, level: usize, word: &str, arm: &Arm) -> Result<(), NoMemory>
+    ensures { OnOk result (out.new.items ≡ out.old.items ++ arm_text (names_in tree.now unit.now) arm.now word.now level) }
+{
+    put_head(out, tree, unit, level, word, &arm.test, " THEN")?;
+    put_body(out, tree, unit, deeper(level)?, arm.body.as_slice())
+}
+
+#[cycle(statements)]
+fn put_arms(out: &mut Vec<u8>, tree: &StProgram, unit: &Pou, level: usize, arms: &[Arm]) -> Result<(), NoMemory>
+    ensures { OnOk result (out.new.items ≡ out.old.items ++ arms_text level (map (arm_text (names_in tree.now unit.now)) arms.now)) }
+{
+    let [first, more @ ..] = arms else {
+        return Ok(());
+    };
+    put_arm(out, tree, unit, level, "IF ", first)?;
+    for arm in more {
+        put_arm(out, tree, unit, level, "ELSIF ", arm)?;
+    }
+    Ok(())
+}
+
+#[cycle(statements)]
+fn put_cases(out: &mut Vec<u8>, tree: &StProgram, unit: &Pou, level: usize, ty: StType, arms: &[CaseArm]) -> Result<(), NoMemory>
+    ensures { OnOk result (out.new.items ≡ out.old.items ++ flat_map (λ arm. arm ty level) (map (case_text (names_in tree.now unit.now)) arms.now)) }
+{
+    for arm in arms {
+        put_case(out, tree, unit, level, ty, arm)?;
+    }
+    Ok(())
+}
+
+#[cycle(statements)]
+fn put_case(out: &mut Vec<u8>, tree: &StProgram, unit: &Pou, level: usize, ty: StType, arm: &CaseArm) -> Result<(), NoMemory>
+    ensures { OnOk result (out.new.items ≡ out.old.items ++ case_text (names_in tree.now unit.now) arm.now ty level) }
+{
+    let inner = deeper(level)?;
+    put_labels(out, inner, ty, arm.labels.as_slice())?;
+    put_body(out, tree, unit, deeper(inner)?, arm.body.as_slice())
+}
+
+#[cycle(statements)]
+fn put_else(out: &mut Vec<u8>, tree: &StProgram, unit: &Pou, level: usize, other: &[Stmt]) -> Result<(), NoMemory>
+    ensures { OnOk result (out.new.items ≡ out.old.items ++ else_text level (map (statement_text (names_in tree.now unit.now)) other.now)) }
+{
+    if other.is_empty() {
+        return Ok(());
+    }
+    put_line(out, level, "ELSE")?;
+    put_body(out, tree, unit, deeper(level)?, other)
+}

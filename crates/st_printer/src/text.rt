@@ -1,0 +1,67 @@
+//! Pieces of text behind others.
+ghost use Rattle.std.specs.Prelude.{◌≡◌, ◌<◌, ◌++◌, decimal, OnOk};
+ghost use Rattle.st_tree.specs.Spelling.{blanks, digit, hexadecimal, integer_text};
+
+use itoa::Buffer;
+use s7_base::NoMemory;
+
+pub fn put(out: &mut Vec<u8>, text: &str) -> Result<(), NoMemory>
+    ensures { OnOk result (out.new.items ≡ out.old.items ++ text.now) }
+{
+    out.extend_from_slice(text.as_bytes())?;
+    Ok(())
+}
+
+pub fn put_bytes(out: &mut Vec<u8>, bytes: &[u8]) -> Result<(), NoMemory>
+    ensures { OnOk result (out.new.items ≡ out.old.items ++ bytes.now) }
+{
+    out.extend_from_slice(bytes)?;
+    Ok(())
+}
+
+pub fn put_number(out: &mut Vec<u8>, number: u64) -> Result<(), NoMemory>
+    ensures { OnOk result (out.new.items ≡ out.old.items ++ decimal number) }
+{
+    let mut buffer = Buffer::new();
+    put(out, buffer.format(number))
+}
+
+// A whole number with its sign.
+pub fn put_integer(out: &mut Vec<u8>, number: i64) -> Result<(), NoMemory>
+    ensures { OnOk result (out.new.items ≡ out.old.items ++ integer_text number) }
+{
+    if number < 0 {
+        put(out, "-")?;
+    }
+    put_number(out, number.unsigned_abs())
+}
+
+fn digit_of(value: u8) -> u8
+    requires { value < 16 }
+    ensures { result ≡ digit value }
+{
+    if value < 10 { 48 + value } else { 55 + value }
+}
+
+// The last so many hexadecimal digits.
+pub fn put_hexadecimal(out: &mut Vec<u8>, count: u32, number: u64) -> Result<(), NoMemory>
+    ensures { OnOk result (out.new.items ≡ out.old.items ++ hexadecimal count number) }
+{
+    if count == 0 {
+        return Ok(());
+    }
+    put_hexadecimal(out, count - 1, number / 16)?;
+    out.push(digit_of((number % 16) as u8))?;
+    Ok(())
+}
+
+// Four blanks for each level.
+pub fn put_blanks(out: &mut Vec<u8>, level: usize) -> Result<(), NoMemory>
+    ensures { OnOk result (out.new.items ≡ out.old.items ++ blanks level) }
+{
+    if level == 0 {
+        return Ok(());
+    }
+    put(out, "    ")?;
+    put_blanks(out, level - 1)
+}

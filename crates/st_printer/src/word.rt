@@ -1,0 +1,138 @@
+//! Words in capitals.
+ghost use Rattle.std.specs.Prelude.{◌≡◌};
+ghost use Rattle.st_tree.specs.Words.{register_word, area_word, width_word, type_word, prefix_word, infix_word, shift_word};
+ghost use Rattle.st_tree.specs.Form.{prefix_level, infix_level};
+
+use memory_areas::AreaName;
+use s7_base::{Reg, Width};
+use st_tree::{BinaryOp, ShiftOp, StType, UnaryOp};
+
+pub fn register_word(register: Reg) -> &'static str
+    ensures { result.now ≡ register_word register }
+{
+    match register {
+        Reg::Accu1 => "ACCU1",
+        Reg::Accu2 => "ACCU2",
+        Reg::Ar1 => "AR1",
+        Reg::Ar2 => "AR2",
+        Reg::DbNo => "DBNO",
+        Reg::DiNo => "DINO",
+        Reg::Nfc => "NFC",
+        Reg::Rlo => "RLO",
+        Reg::Sta => "STA",
+        Reg::Orb => "ORB",
+        Reg::Os => "OS",
+        Reg::Ov => "OV",
+        Reg::Cc0 => "CC0",
+        Reg::Cc1 => "CC1",
+        Reg::Br => "BR",
+    }
+}
+
+pub fn area_word(area: AreaName) -> &'static str
+    ensures { result.now ≡ area_word area }
+{
+    match area {
+        AreaName::I => "I",
+        AreaName::Q => "Q",
+        AreaName::M => "M",
+        AreaName::L => "L",
+        AreaName::Db => "DB",
+        AreaName::Di => "DI",
+    }
+}
+
+pub fn width_word(width: Width) -> &'static str
+    ensures { result.now ≡ width_word width }
+{
+    match width {
+        Width::Bit => "X",
+        Width::Byte => "B",
+        Width::Word => "W",
+        Width::Dword => "D",
+    }
+}
+
+pub fn type_word(ty: StType) -> &'static str
+    ensures { result.now ≡ type_word ty }
+{
+    match ty {
+        StType::Bool => "BOOL",
+        StType::Byte => "BYTE",
+        StType::Word => "WORD",
+        StType::Dword => "DWORD",
+        StType::Int => "INT",
+        StType::Dint => "DINT",
+        StType::Lint => "LINT",
+    }
+}
+
+// An operator before its operand, or a function with its bracket.
+pub fn prefix_word(op: UnaryOp) -> &'static str
+    ensures { result.now ≡ prefix_word op }
+{
+    match op {
+        UnaryOp::Minus => "-",
+        UnaryOp::Not => "NOT ",
+        UnaryOp::BcdToInt => "BCD_TO_INT(",
+        UnaryOp::BcdToDint => "BCD_TO_DINT(",
+    }
+}
+
+pub fn infix_word(op: BinaryOp) -> &'static str
+    ensures { result.now ≡ infix_word op }
+{
+    match op {
+        BinaryOp::Mul => " * ",
+        BinaryOp::Div => " / ",
+        BinaryOp::Mod => " MOD ",
+        BinaryOp::Add => " + ",
+        BinaryOp::Sub => " - ",
+        BinaryOp::Lt => " < ",
+        BinaryOp::Gt => " > ",
+        BinaryOp::Le => " <= ",
+        BinaryOp::Ge => " >= ",
+        BinaryOp::Eq => " = ",
+        BinaryOp::Ne => " <> ",
+        BinaryOp::And => " AND ",
+        BinaryOp::Xor => " XOR ",
+        BinaryOp::Or => " OR ",
+    }
+}
+
+pub fn shift_word(op: ShiftOp) -> &'static str
+    ensures { result.now ≡ shift_word op }
+{
+    match op {
+        ShiftOp::Shl => "SHL",
+        ShiftOp::Shr => "SHR",
+        ShiftOp::Rol => "ROL",
+        ShiftOp::Ror => "ROR",
+    }
+}
+
+// How weakly an operator before its operand binds.
+pub fn prefix_level_of(op: UnaryOp) -> u8
+    ensures { result ≡ prefix_level op }
+{
+    match op {
+        UnaryOp::Minus => 1,
+        UnaryOp::Not => 2,
+        UnaryOp::BcdToInt | UnaryOp::BcdToDint => 0,
+    }
+}
+
+// How weakly an operator between its operands binds.
+pub fn infix_level_of(op: BinaryOp) -> u8
+    ensures { result ≡ infix_level op }
+{
+    match op {
+        BinaryOp::Mul | BinaryOp::Div | BinaryOp::Mod => 3,
+        BinaryOp::Add | BinaryOp::Sub => 4,
+        BinaryOp::Lt | BinaryOp::Gt | BinaryOp::Le | BinaryOp::Ge => 5,
+        BinaryOp::Eq | BinaryOp::Ne => 6,
+        BinaryOp::And => 7,
+        BinaryOp::Xor => 8,
+        BinaryOp::Or => 9,
+    }
+}
