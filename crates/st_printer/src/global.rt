@@ -1,7 +1,8 @@
 //! The section of globals: data blocks with their bytes, and names of places.
 ghost use Rattle.std.specs.Prelude.{◌≡◌, ◌-◌, ◌++◌, decimal, codes, map, flat_map, length, OnOk};
+ghost use Rattle.st_tree.specs.Values.{width_at};
 ghost use Rattle.st_tree.specs.Words.{type_word};
-ghost use Rattle.st_tree.specs.Spelling.{line, byte_text, run_text, list_behind, list_text, block_text, place_text, place_word, type_width, global_text, globals_text};
+ghost use Rattle.st_tree.specs.Spelling.{line, byte_text, run_text, list_behind, list_text, block_text, place_text, place_word, global_text, globals_text};
 
 use crate::statement::put_line;
 use crate::text::{put, put_bytes, put_hexadecimal, put_number};
@@ -92,8 +93,8 @@ fn place_word(area: Area) -> &'static str
     }
 }
 
-fn type_width(ty: StType) -> Width
-    ensures { result ≡ type_width ty }
+fn width_at(ty: StType) -> Width
+    ensures { result ≡ width_at ty }
 {
     match ty {
         StType::Bool => Width::Bit,
@@ -106,10 +107,10 @@ fn type_width(ty: StType) -> Width
 // The place and the type of a global, to the end of its line.
 fn put_located(out: &mut Vec<u8>, global: &Located) -> Result<(), NoMemory>
     ensures { OnOk result (out.new.items ≡ out.old.items
-        ++ place_word global.now.place.area ++ place_text (type_width global.now.ty) global.now.place.byte global.now.place.bit ++ codes " : " ++ type_word global.now.ty ++ codes ";\n") }
+        ++ place_word global.now.place.area ++ place_text (width_at global.now.ty) global.now.place.byte global.now.place.bit ++ codes " : " ++ type_word global.now.ty ++ codes ";\n") }
 {
     put(out, place_word(global.place.area))?;
-    put_place(out, type_width(global.ty), global.place.byte, global.place.bit)?;
+    put_place(out, width_at(global.ty), global.place.byte, global.place.bit)?;
     put_type(out, global.ty)
 }
 

@@ -1,7 +1,9 @@
 //! The names that positions mean, and the types that expressions have.
 ghost use Rattle.std.specs.Prelude.{◌≡◌, slice_get};
 ghost use Rattle.st_tree.specs.Spelling.{local_name, global_name, unit_name, formals_of, names_in};
-ghost use Rattle.st_tree.specs.Typing.{register_type, width_type, local_type, global_type, var_type, unary_type, binary_type, type_of};
+ghost use Rattle.st_tree.specs.State.{type_of_register};
+ghost use Rattle.st_tree.specs.Values.{type_of_width};
+ghost use Rattle.st_tree.specs.Typing.{local_type, global_type, var_type, unary_type, binary_type, type_of};
 
 use s7_base::{Reg, Width};
 use st_tree::{BinaryOp, Expr, Local, Located, Pou, StProgram, StType, UnaryOp, Var};
@@ -42,8 +44,8 @@ pub fn formals_of(units: &[Pou], position: u32) -> &[Local]
     }
 }
 
-fn register_type(register: Reg) -> StType
-    ensures { result ≡ register_type register }
+fn type_of_register(register: Reg) -> StType
+    ensures { result ≡ type_of_register register }
 {
     match register {
         Reg::Accu1 | Reg::Accu2 | Reg::Ar1 | Reg::Ar2 => StType::Dword,
@@ -52,8 +54,8 @@ fn register_type(register: Reg) -> StType
     }
 }
 
-fn width_type(width: Width) -> StType
-    ensures { result ≡ width_type width }
+fn type_of_width(width: Width) -> StType
+    ensures { result ≡ type_of_width width }
 {
     match width {
         Width::Bit => StType::Bool,
@@ -85,11 +87,11 @@ fn var_type(tree: &StProgram, unit: &Pou, var: Var) -> StType
     ensures { result ≡ var_type (names_in tree.now unit.now) var }
 {
     match var {
-        Var::Register(register) => register_type(register),
+        Var::Register(register) => type_of_register(register),
         Var::Local(position) => local_type(unit.locals.as_slice(), position),
         Var::Formal(position) => local_type(unit.formals.as_slice(), position),
         Var::Global(position) => global_type(tree.globals.as_slice(), position),
-        Var::Direct(_, _, _, width) | Var::InBlock(_, _, _, width) => width_type(width),
+        Var::Direct(_, _, _, width) | Var::InBlock(_, _, _, width) => type_of_width(width),
     }
 }
 
@@ -124,6 +126,6 @@ pub fn type_of(tree: &StProgram, unit: &Pou, expr: &Expr) -> StType
         Expr::Convert(_, to, _) => *to,
         Expr::Select(_, first, _) => type_of(tree, unit, first.get()),
         Expr::Shift(_, operand, _) => type_of(tree, unit, operand.get()),
-        Expr::AreaRead(width, _) => width_type(*width),
+        Expr::AreaRead(width, _) => type_of_width(*width),
     }
 }

@@ -3,6 +3,7 @@ pub mod CanonEquations
 pub mod Canonical
 pub mod DigitCuts
 pub mod Drive
+pub mod Ends
 pub mod Exact
 pub mod Finish
 pub mod Kept
@@ -23,6 +24,8 @@ pub mod TokenEnds
 pub mod Unique
 pub mod Units
 pub mod Weight
+mod CallRows
+mod OperatorRows
 mod ReadingRows
 mod RefusalRows
 mod RunRows

@@ -1,8 +1,10 @@
+pub mod Calls
 pub mod Depth
 pub mod Derives
 pub mod Form
 pub mod Grammar
 pub mod Meaning
+pub mod Operators
 pub mod Proper
 pub mod Reading
 pub mod ReadingLaws
@@ -12,6 +14,8 @@ pub mod StRun
 pub mod StRunLaws
 pub mod StTokens
 pub mod StWords
+pub mod State
 pub mod Typing
 pub mod Value
+pub mod Values
 pub mod Words

@@ -1,18 +1,32 @@
--- What statements do to a state, within a number of units. A unit pays for a turn of a loop or for a
--- call; the statements that are built take none.
-use Rattle.std.specs.Prelude.{ℕ, List, [], ◌∷◌, map, Result, Ok, Err}
-use Rattle.memory_areas.specs.Access.{and_then}
+-- What statements do to a state, within a number of units. Each test of a WHILE and each call takes one
+-- unit first.
+use Rattle.std.specs.Prelude.{ℕ, zero, suc, if◌then◌else◌, ℤ, List, [], ◌∷◌, map, Result, Ok, Err}
+use Rattle.std.specs.List.{list_any}
+use Rattle.std.specs.Ordering.{int_eq}
+use Rattle.memory_areas.specs.Access.{and_then, aimed, fault_of, unless}
 use Rattle.s7_base.specs.declared.outcome.Fault.{Fault}
-use Rattle.st_tree.specs.Value.{State, value, write}
+use Rattle.s7_base.specs.declared.word.Width.{Width}
+use Rattle.st_tree.specs.State.{State, area_write, reference_of, write}
+use Rattle.st_tree.specs.Value.{Worth, value}
+use Rattle.st_tree.specs.Values.{Value, is_set, width_at}
 use Rattle.st_tree.specs.declared.expr.Expr.{Expr}
 use Rattle.st_tree.specs.declared.expr.Var.{Var}
-use Rattle.st_tree.specs.declared.program.Stmt.{Stmt}
-use Rattle.st_tree.specs.declared.program.Stmt.TheVariants as stmt
+use Rattle.st_tree.specs.declared.expr.Var.TheVariants as var
+use Rattle.st_tree.specs.declared.program.Arm.{Arm, fold-Arm}
+use Rattle.st_tree.specs.declared.program.CaseArm.{CaseArm, fold-CaseArm}
+use Rattle.st_tree.specs.declared.program.Located.{Located}
+use Rattle.st_tree.specs.declared.program.Stmt.{Stmt, fold-Stmt}
+use Rattle.st_tree.specs.declared.program.Stmt.TheOpen as S
+use Rattle.st_tree.specs.declared.state.Reference.{Reference}
+use Rattle.st_tree.specs.declared.state.Reference.TheVariants as reference
 
--- how statements end: at their end with the units that are left, by a fault, or for want of a unit; and
--- the state then
+-- how statements end: at their end, by EXIT, CONTINUE or RETURN, each with the units that are left; by a
+-- fault; or for want of a unit; and the state then
 pub data Out : Type 0 where
   Normal : ℕ → State → Out
+  Exits : ℕ → State → Out
+  Continues : ℕ → State → Out
+  Returns : ℕ → State → Out
   Faults : Fault → State → Out
   NoUnits : State → Out
 
@@ -20,9 +34,14 @@ pub data Out : Type 0 where
 abbrev pub Sem : Type 0
 Sem = ℕ → State → Out
 
+-- Statements in their order
+
 -- statements, and then others where the first came to their end
 abbrev pub then_do : Out → Sem → Out
 then_do (Normal units s) more = more units s
+then_do (Exits units s) more = Exits units s
+then_do (Continues units s) more = Continues units s
+then_do (Returns units s) more = Returns units s
 then_do (Faults f s) more = Faults f s
 then_do (NoUnits s) more = NoUnits s
 
@@ -31,20 +50,133 @@ abbrev pub in_order : List Sem → Sem
 in_order [] units s = Normal units s
 in_order (first ∷ rest) units s = then_do (first units s) (in_order rest)
 
+-- Assignments
+
 -- the new state, or a fault, which leaves the state as it was
 abbrev pub changed : Result State Fault → Sem
 changed (Ok new) units s = Normal units new
 changed (Err f) units s = Faults f s
 
 -- an assignment evaluates its expression, then locates its variable, then writes
-abbrev pub assigned : Var → Expr → State → Result State Fault
-assigned v e s = and_then (value e s) (λ w. write v w s)
+abbrev pub assigned : List Located → Var → Expr → State → Result State Fault
+assigned globals v e s = and_then (value globals e s) (λ w. write globals v w s)
+
+-- an area write evaluates its pointer, then its expression, then locates and writes
+abbrev pub area_assigned : List Located → Width → Expr → Expr → State → Result State Fault
+area_assigned globals w p e s = and_then (value globals p s) (λ at. and_then (value globals e s) (λ v. area_write w at v s))
+
+-- Choices
+
+-- what is done with a value, or its fault
+abbrev pub with_value : Result Value Fault → ℕ → State → (Value → Out) → Out
+with_value (Ok v) units s next = next v
+with_value (Err f) units s next = Faults f s
+
+-- a test and what its arm does; the literals of an arm of a CASE and what it does
+abbrev pub Guarded : Type 0
+Guarded = Worth × Sem
+
+abbrev pub Labelled : Type 0
+Labelled = List ℤ × Sem
+
+-- the first arm whose test is TRUE, or else the statements behind them
+abbrev pub first_true : List Guarded → Sem → Sem
+first_true [] other units s = other units s
+first_true (arm ∷ rest) other units s = with_value (arm.0 s) units s (λ v. if is_set v then arm.1 units s else first_true rest other units s)
+
+-- the first arm that has the value, or else the statements behind them
+abbrev pub first_with : ℤ → List Labelled → Sem → Sem
+first_with n [] other units s = other units s
+first_with n (arm ∷ rest) other units s = if list_any (λ label. int_eq label n) arm.0 then arm.1 units s else first_with n rest other units s
+
+-- Loops
+
+-- what follows the body of a loop: EXIT ends the loop, and its end and CONTINUE lead to the test again
+abbrev pub after_body : Out → Sem → Out
+after_body (Normal units s) again = again units s
+after_body (Exits units s) again = Normal units s
+after_body (Continues units s) again = again units s
+after_body (Returns units s) again = Returns units s
+after_body (Faults f s) again = Faults f s
+after_body (NoUnits s) again = NoUnits s
+
+-- a turn of a loop: a unit is taken, then the test is evaluated
+abbrev pub turn : Worth → Sem → Sem → Sem
+turn test body again zero s = NoUnits s
+turn test body again (suc units) s = with_value (test s) units s (λ v. if is_set v then after_body (body units s) again else Normal units s)
+
+-- at most so many turns
+abbrev pub turns : ℕ → Worth → Sem → Sem
+turns zero test body units s = NoUnits s
+turns (suc most) test body units s = turn test body (turns most test body) units s
+
+-- a loop; since each turn takes a unit, it has no more turns than units
+abbrev pub loop : Worth → Sem → Sem
+loop test body units s = turns units test body units s
+
+-- Calls
+
+-- what the unit at a position does when it is entered with what its formals stand for
+abbrev pub Calls : Type 0
+Calls = ℕ → List Reference → Sem
+
+-- the fault of an access to what a variable stands for; nothing is read, and a register or a local has none
+abbrev pub tested : Reference → State → Result Reference Fault
+tested (reference.Register r) s = Ok (reference.Register r)
+tested (reference.Local d i) s = Ok (reference.Local d i)
+tested (reference.Place p ty) s = unless (fault_of (aimed p) (width_at ty) s.memory) (reference.Place p ty)
+
+-- what an actual stands for, once located; a formal passes its reference on
+abbrev pub located_actual : List Located → Var → State → Result Reference Fault
+located_actual globals (var.Formal i) s = reference_of globals (var.Formal i) s
+located_actual globals v s = and_then (reference_of globals v s) (λ r. tested r s)
+
+-- what the actuals of a call stand for, located in their order
+abbrev pub located_actuals : List Located → List Var → State → Result (List Reference) Fault
+located_actuals globals [] s = Ok []
+located_actuals globals (v ∷ rest) s = and_then (located_actual globals v s) (λ r. and_then (located_actuals globals rest s) (λ more. Ok (r ∷ more)))
+
+-- a call with its actuals located
+abbrev pub called : Calls → ℕ → Result (List Reference) Fault → Sem
+called calls n (Ok formals) units s = calls n formals units s
+called calls n (Err f) units s = Faults f s
+
+-- a call takes a unit, then locates its actuals
+abbrev pub invoked : List Located → Calls → ℕ → List Var → Sem
+invoked globals calls n actuals zero s = NoUnits s
+invoked globals calls n actuals (suc units) s = called calls n (located_actuals globals actuals s) units s
+
+-- Each statement
+
+-- one layer of a statement, in a text with these globals and calls
+abbrev pub stmt_step : List Located → Calls → S.Stmt-F Sem Guarded Labelled → Sem
+stmt_step globals calls (S.Assign v e) units s = changed (assigned globals v e s) units s
+stmt_step globals calls (S.AreaWrite w p e) units s = changed (area_assigned globals w p e s) units s
+stmt_step globals calls (S.Invoke n actuals) units s = invoked globals calls n actuals units s
+stmt_step globals calls (S.If arms other) units s = first_true arms (in_order other) units s
+stmt_step globals calls (S.Case e arms other) units s = with_value (value globals e s) units s (λ v. first_with v.n arms (in_order other) units s)
+stmt_step globals calls (S.While test body) units s = loop (value globals test) (in_order body) units s
+stmt_step globals calls S.Exit units s = Exits units s
+stmt_step globals calls S.Continue units s = Continues units s
+stmt_step globals calls S.Return units s = Returns units s
+
+abbrev pub arm_step : List Located → S.Arm-F Sem Guarded Labelled → Guarded
+arm_step globals arm = (value globals arm.test, in_order arm.body)
+
+abbrev pub case_step : S.CaseArm-F Sem Guarded Labelled → Labelled
+case_step arm = (arm.labels, in_order arm.body)
 
 -- each statement
-abbrev pub meaning : Stmt → Sem
-meaning (stmt.Assign v e) units s = changed (assigned v e s) units s
-meaning other units s = Normal units s
+abbrev pub meaning : List Located → Calls → Stmt → Sem
+meaning globals calls = fold-Stmt Sem Guarded Labelled (stmt_step globals calls) (arm_step globals) case_step
 
 -- the statements of a body
-abbrev pub body_meaning : List Stmt → Sem
-body_meaning body = in_order (map meaning body)
+abbrev pub body_meaning : List Located → Calls → List Stmt → Sem
+body_meaning globals calls body = in_order (map (meaning globals calls) body)
+
+-- an arm of an IF and an arm of a CASE
+abbrev pub arm_meaning : List Located → Calls → Arm → Guarded
+arm_meaning globals calls = fold-Arm Sem Guarded Labelled (stmt_step globals calls) (arm_step globals) case_step
+
+abbrev pub case_meaning : List Located → Calls → CaseArm → Labelled
+case_meaning globals calls = fold-CaseArm Sem Guarded Labelled (stmt_step globals calls) (arm_step globals) case_step

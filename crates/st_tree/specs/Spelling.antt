@@ -10,6 +10,7 @@ use Rattle.s7_base.specs.declared.word.Width.{Width}
 use Rattle.s7_base.specs.declared.word.Width.TheVariants as width
 use Rattle.st_tree.specs.Form.{Form, literal, variable, group, prefix, infix_of, digits_to, convert, select, shift, area_read, canon}
 use Rattle.st_tree.specs.Typing.{Names, type_of}
+use Rattle.st_tree.specs.Values.{width_at}
 use Rattle.st_tree.specs.Words.{register_word, area_word, width_word, type_word, prefix_word, infix_word, shift_word}
 use Rattle.st_tree.specs.declared.expr.StType.{StType}
 use Rattle.st_tree.specs.declared.expr.StType.TheVariants as type
@@ -248,22 +249,15 @@ block_text block =
     line 1 (codes "DB" ++ decimal block.number ++ codes " AT %DB" ++ decimal block.number ++ codes ".DBB0 : ARRAY[0.." ++ decimal (length block.bytes - 1) ++ codes "] OF BYTE := ["
     ++ list_text block.bytes ++ codes "];")
 
--- the letters of the area of a place, and of the width of a type
+-- the letter of the area of a global's place
 abbrev pub place_word : Area → List ℕ
 place_word area.I = codes "I"
 place_word area.Q = codes "Q"
 place_word other = codes "M"
 
-abbrev pub type_width : StType → Width
-type_width type.Bool = width.Bit
-type_width type.Byte = width.Byte
-type_width type.Word = width.Word
-type_width type.Int = width.Word
-type_width other = width.Dword
-
 unfoldable pub global_text : Located → List ℕ
 global_text global =
-    line 1 (global.name ++ codes " AT %" ++ place_word global.place.area ++ place_text (type_width global.ty) global.place.byte global.place.bit ++ codes " : " ++ type_word global.ty ++ codes ";")
+    line 1 (global.name ++ codes " AT %" ++ place_word global.place.area ++ place_text (width_at global.ty) global.place.byte global.place.bit ++ codes " : " ++ type_word global.ty ++ codes ";")
 
 -- the section of globals, data blocks first; an empty one is not written
 abbrev pub globals_text : List DataBlock → List Located → List ℕ

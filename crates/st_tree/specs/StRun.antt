@@ -1,15 +1,30 @@
--- What a text does when one of its units is called, within a bound on its units of work.
-use Rattle.std.specs.Prelude.{ℕ, Bool, List, ◌++◌, codes, decimal, find, IsSome, Option, Some, None}
+-- What a text does when one of its units is called from outside, within a number of units of work.
+use Rattle.std.specs.Prelude.{◌≡◌, ℕ, pos, Bool, true, false, not, ◌&&◌, ℤ, List, [], ◌∷◌, ◌++◌, codes, decimal, find, IsSome, Option, Some, None}
 use Rattle.std.specs.Str.{str_eq_ignore_ascii_case}
-use Rattle.memory_areas.specs.Areas.{Areas}
+use Rattle.memory_areas.specs.Access.{aimed, fault_of}
+use Rattle.memory_areas.specs.Areas.{Areas, block_of, fresh, with_areas}
 use Rattle.memory_areas.specs.End.{End, Ended, Going}
+use Rattle.memory_areas.specs.declared.data_block.DataBlock.{DataBlock}
+use Rattle.memory_areas.specs.declared.place.Area.{Area}
+use Rattle.memory_areas.specs.declared.place.Area.TheVariants as area
+use Rattle.memory_areas.specs.declared.place.Place.{Place}
+use Rattle.s7_base.specs.declared.register.Reg.{Reg}
+use Rattle.s7_base.specs.declared.register.Reg.TheVariants.{DiNo}
+use Rattle.s7_base.specs.declared.word.Width.{Width}
 use Rattle.stl_tree.specs.declared.program.BlockName.{BlockName}
 use Rattle.stl_tree.specs.declared.program.BlockName.TheVariants as name
 use Rattle.stl_tree.specs.declared.program.Call.{Call}
-use Rattle.st_tree.specs.Value.{state_at_start}
-use Rattle.st_tree.specs.Meaning.{Out, Normal, Faults, NoUnits, body_meaning}
+use Rattle.st_tree.specs.Calls.{activation_of, calls_to}
+use Rattle.st_tree.specs.Meaning.{Out, Normal, Exits, Continues, Returns, Faults, NoUnits, body_meaning}
+use Rattle.st_tree.specs.State.{State, with_register}
+use Rattle.st_tree.specs.Values.{width_at}
+use Rattle.st_tree.specs.declared.program.Local.{Local}
 use Rattle.st_tree.specs.declared.program.Pou.{Pou}
 use Rattle.st_tree.specs.declared.program.StProgram.{StProgram}
+use Rattle.st_tree.specs.declared.state.Reference.{Reference}
+use Rattle.st_tree.specs.declared.state.Reference.TheVariants as reference
+
+-- Calls from outside
 
 -- the name of the unit that a call means, as `OB1`
 abbrev pub called_name : BlockName → List ℕ
@@ -17,37 +32,114 @@ called_name (name.Ob n) = codes "OB" ++ decimal n
 called_name (name.Fc n) = codes "FC" ++ decimal n
 called_name (name.Fb n) = codes "FB" ++ decimal n
 
--- a unit has a name; case is ignored
-abbrev pub has_name : List ℕ → Pou → Bool
-has_name called unit = str_eq_ignore_ascii_case unit.name called
+-- an organization block is called as a program, and the others as functions
+abbrev pub is_program : BlockName → Bool
+is_program (name.Ob n) = true
+is_program (name.Fc n) = false
+is_program (name.Fb n) = false
+
+abbrev pub is_same_kind : Bool → Bool → Bool
+is_same_kind false b = not b
+is_same_kind true b = b
+
+-- a unit is the one that a call means: it has its name, case ignored, and its kind
+abbrev pub is_meant : BlockName → Pou → Bool
+is_meant called unit = str_eq_ignore_ascii_case unit.name (called_name called) && is_same_kind (is_program called) unit.program
 
 -- the unit that a call means
 abbrev pub unit_called : BlockName → List Pou → Option Pou
-unit_called called units = find (has_name (called_name called)) units
+unit_called called units = find (is_meant called) units
 
--- a unit can be called from outside by its name alone: a program can; functions are not built, so no
--- call of one fits
-abbrev pub IsProgramCall : BlockName → Type 0
-IsProgramCall (name.Ob n) = Unit {0}
-IsProgramCall (name.Fc n) = ⊥
-IsProgramCall (name.Fb n) = ⊥
+-- a place that a call may give from outside: one of I, Q, M or a data block
+abbrev pub IsOutsidePlace : Area → Type 0
+IsOutsidePlace area.I = Unit {0}
+IsOutsidePlace area.Q = Unit {0}
+IsOutsidePlace area.M = Unit {0}
+IsOutsidePlace (area.Db n) = Unit {0}
+IsOutsidePlace (area.Local d) = ⊥
+IsOutsidePlace (area.Cell d) = ⊥
 
--- a call fits a text that has the program; the call's actuals are not looked at
-pub record FitsSt (tree : StProgram) (call : Call) : Type 0 where
-  pub alone : IsProgramCall call.block
-  pub there : IsSome (unit_called call.block tree.pous)
+-- an actual fits a formal: it has its width, and lies in a memory of these data blocks
+pub record FitsFormal (blocks : List DataBlock) (formal : Local) (actual : Place × Width) : Type 0 where
+  pub width : actual.1 ≡ width_at formal.ty
+  pub outside : IsOutsidePlace actual.0.area
+  pub lies : fault_of (aimed actual.0) actual.1 (fresh blocks) ≡ None
 
--- what can be seen of statements that ended so
+-- there are as many actuals as formals, and each fits
+abbrev pub FitFormals : List DataBlock → List Local → List (Place × Width) → Type 0
+FitFormals blocks [] [] = Unit {0}
+FitFormals blocks [] (actual ∷ actuals) = ⊥
+FitFormals blocks (formal ∷ formals) [] = ⊥
+FitFormals blocks (formal ∷ formals) (actual ∷ actuals) = FitsFormal blocks formal actual × FitFormals blocks formals actuals
+
+-- the unit of a function block has no formals, and the instance is there
+pub record FitsInstance (blocks : List DataBlock) (unit : Pou) (instance : ℕ) : Type 0 where
+  pub formals : unit.formals ≡ []
+  pub block : IsSome (block_of instance blocks)
+
+-- a call fits the unit that it means; a program has no formals, so its call's actuals are not looked at
+abbrev pub FitsUnit : List DataBlock → Pou → BlockName → ℕ → List (Place × Width) → Type 0
+FitsUnit blocks unit (name.Ob n) instance actuals = Unit {0}
+FitsUnit blocks unit (name.Fc n) instance actuals = FitFormals blocks unit.formals actuals
+FitsUnit blocks unit (name.Fb n) instance actuals = FitsInstance blocks unit instance
+
+-- a call fits the unit that it means, if one is there
+abbrev pub FitsIfThere : StProgram → Call → Option Pou → Type 0
+FitsIfThere tree call None = ⊥
+FitsIfThere tree call (Some unit) = FitsUnit tree.dbs unit call.block call.instance call.actuals
+
+-- a call fits a text
+abbrev pub FitsSt : StProgram → Call → Type 0
+FitsSt tree call = FitsIfThere tree call (unit_called call.block tree.pous)
+
+-- Runs
+
+-- what the formals of a unit stand for that is called from outside: the places of the actuals, each in
+-- the type of its formal; a call that fits has one for each
+abbrev pub references : List Local → List (Place × Width) → List Reference
+references [] actuals = []
+references (formal ∷ formals) [] = []
+references (formal ∷ formals) (actual ∷ actuals) = reference.Place actual.0 formal.ty ∷ references formals actuals
+
+-- what the formals stand for in a call from outside; only functions have formals
+abbrev pub formals_given : BlockName → List Local → List (Place × Width) → List Reference
+formals_given (name.Ob n) formals actuals = []
+formals_given (name.Fc n) formals actuals = references formals actuals
+formals_given (name.Fb n) formals actuals = []
+
+-- the register variables at the start: all zero, but that DINO is the instance of a function block
+abbrev pub all_zero : Reg → ℤ
+all_zero r = pos 0
+
+abbrev pub registers_at_start : BlockName → ℕ → Reg → ℤ
+registers_at_start (name.Ob n) instance = all_zero
+registers_at_start (name.Fc n) instance = all_zero
+registers_at_start (name.Fb n) instance = with_register DiNo (pos instance) all_zero
+
+-- the state in which the unit of a call begins; its local data is zero
+abbrev pub state_at_start : Pou → Call → Areas → State
+state_at_start unit call areas =
+    record {
+      memory = with_areas areas;
+      registers = registers_at_start call.block call.instance;
+      activations = activation_of unit (formals_given call.block unit.formals call.actuals) ∷ [];
+    }
+
+-- what can be seen of the statements of the first unit, which ended so
 abbrev pub end_seen : Out → End
 end_seen (Normal units s) = Ended s.memory.areas None
+end_seen (Exits units s) = Ended s.memory.areas None
+end_seen (Continues units s) = Ended s.memory.areas None
+end_seen (Returns units s) = Ended s.memory.areas None
 end_seen (Faults f s) = Ended s.memory.areas (Some f)
 end_seen (NoUnits s) = Going
 
--- the run of a unit; a unit that is not there goes on for ever
-abbrev pub run_of_unit : Option Pou → ℕ → Areas → End
-run_of_unit None units memory = Going
-run_of_unit (Some unit) units memory = end_seen (body_meaning unit.body units (state_at_start memory))
+-- the run of a unit, which takes no unit of work for its own call; one that is not there never ends
+abbrev pub run_of_unit : StProgram → Option Pou → Call → Areas → ℕ → End
+run_of_unit tree None call memory units = Going
+run_of_unit tree (Some unit) call memory units =
+    end_seen (body_meaning tree.globals (calls_to units tree) unit.body units (state_at_start unit call memory))
 
 -- the run of a call within some units
 abbrev pub st_run : StProgram → Call → Areas → ℕ → End
-st_run tree call memory units = run_of_unit (unit_called call.block tree.pous) units memory
+st_run tree call memory units = run_of_unit tree (unit_called call.block tree.pous) call memory units

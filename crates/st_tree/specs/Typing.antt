@@ -1,9 +1,7 @@
 -- The types of variables and expressions.
 use Rattle.std.specs.Prelude.{ℕ, ℤ, List, slice_get, Option, Some, None}
-use Rattle.s7_base.specs.declared.register.Reg.{Reg}
-use Rattle.s7_base.specs.declared.register.Reg.TheVariants as reg
-use Rattle.s7_base.specs.declared.word.Width.{Width}
-use Rattle.s7_base.specs.declared.word.Width.TheVariants as width
+use Rattle.st_tree.specs.State.{type_of_register}
+use Rattle.st_tree.specs.Values.{type_of_width}
 use Rattle.st_tree.specs.declared.expr.StType.{StType}
 use Rattle.st_tree.specs.declared.expr.StType.TheVariants as type
 use Rattle.st_tree.specs.declared.expr.UnaryOp.{UnaryOp}
@@ -25,23 +23,6 @@ pub record Names : Type 0 where
   pub formals : List Local
   pub locals : List Local
 
--- the type of a register
-abbrev pub register_type : Reg → StType
-register_type reg.Accu1 = type.Dword
-register_type reg.Accu2 = type.Dword
-register_type reg.Ar1 = type.Dword
-register_type reg.Ar2 = type.Dword
-register_type reg.DbNo = type.Word
-register_type reg.DiNo = type.Word
-register_type flag = type.Bool
-
--- the type of a written place, by its width
-abbrev pub width_type : Width → StType
-width_type width.Bit = type.Bool
-width_type width.Byte = type.Byte
-width_type width.Word = type.Word
-width_type width.Dword = type.Dword
-
 -- the type of a local or a formal; a position past the last has none, and BOOL stands for it
 abbrev pub local_type : Option Local → StType
 local_type None = type.Bool
@@ -53,12 +34,12 @@ global_type (Some global) = global.ty
 
 -- the type of a variable
 abbrev pub var_type : Names → Var → StType
-var_type names (var.Register r) = register_type r
+var_type names (var.Register r) = type_of_register r
 var_type names (var.Local i) = local_type (slice_get names.locals i)
 var_type names (var.Formal i) = local_type (slice_get names.formals i)
 var_type names (var.Global i) = global_type (slice_get names.globals i)
-var_type names (var.Direct area byte bit w) = width_type w
-var_type names (var.InBlock block byte bit w) = width_type w
+var_type names (var.Direct area byte bit w) = type_of_width w
+var_type names (var.InBlock block byte bit w) = type_of_width w
 
 -- the type that an operator on one operand gives
 abbrev pub unary_type : UnaryOp → StType → StType
@@ -85,7 +66,7 @@ type_step names (E.Binary op left right) = binary_type op left
 type_step names (E.Convert from to operand) = to
 type_step names (E.Select gate first second) = first
 type_step names (E.Shift op operand count) = operand
-type_step names (E.AreaRead w pointer) = width_type w
+type_step names (E.AreaRead w pointer) = type_of_width w
 
 -- the type of an expression whose operands have the types that their operators ask for
 abbrev pub type_of : Names → Expr → StType

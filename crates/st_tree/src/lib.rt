@@ -14,6 +14,7 @@ pub use raw::{
     RawArm, RawCaseArm, RawExpr, RawGlobal, RawGlobalType, RawLocal, RawPou, RawSt, RawStmt,
     RawStmtKind, RawVar,
 };
+pub use state::{Reference, Value};
 pub use token::{StKind, StToken};
 
 mod expr;
@@ -21,4 +22,5 @@ mod program;
 mod raw;
 pub mod reading_laws;
 pub mod run_laws;
+mod state;
 mod token;
