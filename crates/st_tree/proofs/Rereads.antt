@@ -71,7 +71,7 @@ as_kinds : {a b : List ℕ} {ks ls : List Kind} → ks ≡ ls → Cuts a b ks �
 as_kinds {a} {b} e c = subst (λ (xs : List Kind). Cuts a b xs) e c
 
 -- the line of an assignment
-statement_line : (names : Names) (v : Var) (e : Expr) → statement_text names (stmt.Assign v e) 1 ≡ line 1 (var_text names v ++ codes " := " ++ expr_text names e ++ codes ";")
+pub statement_line : (names : Names) (v : Var) (e : Expr) → statement_text names (stmt.Assign v e) 1 ≡ line 1 (var_text names v ++ codes " := " ++ expr_text names e ++ codes ";")
 statement_line names v e =
     ap (λ (f : Text). f 1) (ap (statement_text names) (sym (stmt.rolls-Assign v e)) ∙ fold-roll-Stmt Text ArmText CaseText (statement_step names) (arm_step names) case_step (S.Assign v e))
 

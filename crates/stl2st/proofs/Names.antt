@@ -1,5 +1,5 @@
 -- A call finds the unit of the block that it finds: the names of units are as different as those of blocks.
-use Rattle.std.proofs.Common.{◌≡◌, ℕ, suc, ◌+◌, ◌%◌, ◌^◌, ◌<◌, ◌≤◌, Bool, true, false, cond, ◌==◌, List, [], ◌∷◌, length, map, Option, Some, refl, ◌⊎◌, inl, inr, ⊎_elim, ap, ◌∙◌, subst, arith}
+use Rattle.std.proofs.Common.{◌≡◌, ℕ, suc, ◌+◌, ◌%◌, ◌^◌, ◌<◌, ◌≤◌, Bool, true, false, ◌&&◌, cond, ◌==◌, List, [], ◌∷◌, length, map, Option, Some, None, refl, ◌⊎◌, inl, inr, ⊎_elim, ap, ◌∙◌, subst, arith}
 use Rattle.std.specs.Prelude.{All, decimal, option_map}
 use Rattle.std.specs.Char.{to_ascii_lowercase}
 use Rattle.std.specs.Str.{bytes_eq, str_eq_ignore_ascii_case}
@@ -12,7 +12,7 @@ use Rattle.stl_tree.specs.StlRun.{block_named, greatest, is_same_name}
 use Rattle.stl_tree.specs.declared.program.Block.{Block}
 use Rattle.stl_tree.specs.declared.program.BlockName.{BlockName}
 use Rattle.stl_tree.specs.declared.program.BlockName.TheVariants as name
-use Rattle.st_tree.specs.StRun.{called_name, unit_called}
+use Rattle.st_tree.specs.StRun.{called_name, is_program, is_same_kind, unit_called}
 use Rattle.st_tree.specs.declared.program.Pou.{Pou}
 use Rattle.stl2st.specs.Translation.{unit_name_of, unit_of}
 use Rattle.stl2st.specs.WellFormed.{IsNumbered, IsWellFormedBlock}
@@ -63,14 +63,31 @@ chosen : (test : Bool) (b : Block) (o : Option Block) (o' : Option Pou) → o' �
 chosen true b o o' e = refl
 chosen false b o o' e = e
 
--- the unit that a call finds is that of the block that it finds
-pub unit_found : (called : BlockName) → IsNumbered called → (blocks : List Block) → All IsWellFormedBlock blocks →
-    unit_called called (map unit_of blocks) ≡ option_map unit_of (block_named called blocks)
-unit_found called h [] all = refl
-unit_found called h (b ∷ bs) all =
+and_true : (a : Bool) → (a && true) ≡ a
+and_true true = refl
+and_true false = refl
+
+and_false : (a : Bool) → (a && false) ≡ false
+and_false true = refl
+and_false false = refl
+
+-- the unit that a call of an organization block finds is that of the block that it finds
+pub unit_found : (n : ℕ) → IsNumbered (name.Ob n) → (blocks : List Block) → All IsWellFormedBlock blocks →
+    unit_called (name.Ob n) (map unit_of blocks) ≡ option_map unit_of (block_named (name.Ob n) blocks)
+unit_found n h [] all = refl
+unit_found n h (b ∷ bs) all =
     let formed = first_of IsWellFormedBlock b bs all in
-    ap (λ test. cond test (Some (unit_of b)) (unit_called called (map unit_of bs))) (same_name b.name called formed.numbered h)
-    ∙ chosen (is_same_name b.name called) b (block_named called bs) (unit_called called (map unit_of bs)) (unit_found called h bs (rest_of IsWellFormedBlock b bs all))
+    let called : BlockName = name.Ob n in
+    ap (λ test. cond test (Some (unit_of b)) (unit_called called (map unit_of bs))) (and_true (str_eq_ignore_ascii_case (unit_name_of b.name) (called_name called)) ∙ same_name b.name called formed.numbered h)
+    ∙ chosen (is_same_name b.name called) b (block_named called bs) (unit_called called (map unit_of bs)) (unit_found n h bs (rest_of IsWellFormedBlock b bs all))
+
+-- a text without functions has none to call
+pub no_function : (called : BlockName) → is_program called ≡ false → (blocks : List Block) → unit_called called (map unit_of blocks) ≡ None
+no_function called h [] = refl
+no_function called h (b ∷ bs) =
+    ap (λ test. cond test (Some (unit_of b)) (unit_called called (map unit_of bs)))
+    (ap (λ (c : Bool). str_eq_ignore_ascii_case (unit_name_of b.name) (called_name called) && is_same_kind c true) h ∙ and_false (str_eq_ignore_ascii_case (unit_name_of b.name) (called_name called)))
+    ∙ no_function called h bs
 
 -- a block that is found is the first one, or one of the others
 at_find : (test : Bool) (x b : Block) (o : Option Block) → cond test (Some x) o ≡ Some b → ((test ≡ true) × (x ≡ b)) ⊎ (o ≡ Some b)

@@ -28,7 +28,7 @@ use Rattle.stl_tree.specs.declared.program.Program.{Program}
 use Rattle.st_tree.proofs.CanonEquations.{canon_equations}
 use Rattle.st_tree.proofs.DigitCuts.{decimal_digits}
 use Rattle.st_tree.proofs.TokenCuts.{and_both}
-use Rattle.st_tree.specs.Proper.{Proper, is_proper_unit, is_proper_stmt, is_proper_expr, is_proper_var, proper_step}
+use Rattle.st_tree.specs.Proper.{Proper, is_built_unary, is_built_binary, is_proper_unit, is_proper_stmt, is_proper_expr, is_proper_var, proper_step}
 use Rattle.st_tree.specs.StTokens.{is_digit}
 use Rattle.st_tree.specs.StWords.{is_name, may_name_unit, is_block_word}
 use Rattle.st_tree.specs.declared.expr.BinaryOp.{BinaryOp}
@@ -59,10 +59,10 @@ proper_literal false = ap is_proper_expr (sym (expr.rolls-Literal _ _)) ∙ fold
 proper_read : (v : Var) → is_proper_expr (expr.Read v) ≡ is_proper_var v
 proper_read v = ap is_proper_expr (sym (expr.rolls-Read v)) ∙ fold-roll-Expr Bool proper_step (E.Read v)
 
-proper_unary : (u : UnaryOp) (e : Expr) → is_proper_expr (expr.Unary u e) ≡ is_proper_expr e
+proper_unary : (u : UnaryOp) (e : Expr) → is_proper_expr (expr.Unary u e) ≡ (is_built_unary u && is_proper_expr e)
 proper_unary u e = ap is_proper_expr (sym (expr.rolls-Unary u e)) ∙ fold-roll-Expr Bool proper_step (E.Unary u e)
 
-proper_binary : (o : BinaryOp) (e f : Expr) → is_proper_expr (expr.Binary o e f) ≡ (is_proper_expr e && is_proper_expr f)
+proper_binary : (o : BinaryOp) (e f : Expr) → is_proper_expr (expr.Binary o e f) ≡ (is_built_binary o && (is_proper_expr e && is_proper_expr f))
 proper_binary o e f = ap is_proper_expr (sym (expr.rolls-Binary o e f)) ∙ fold-roll-Expr Bool proper_step (E.Binary o e f)
 
 ruleset proper_equations = (proper_read, proper_unary, proper_binary)

@@ -86,11 +86,12 @@ unit_name_of (name.Fb n) = codes "FB" ++ decimal n
 
 -- a block as a unit
 abbrev pub unit_of : Block → Pou
-unit_of b = record { name = unit_name_of b.name; body = flat_map (λ (i : Instr). statements_of i.op) b.body }
+unit_of b =
+    record { program = true; name = unit_name_of b.name; formals = []; locals = []; body = flat_map (λ (i : Instr). statements_of i.op) b.body }
 
 -- the text's tree of a program
 abbrev pub translation : Program → StProgram
-translation p = record { pous = map unit_of p.blocks }
+translation p = record { dbs = []; globals = []; pous = map unit_of p.blocks }
 
 -- a check that is translated so far: not X or XN
 abbrev pub IsTranslatableCheck : Check → Type 0

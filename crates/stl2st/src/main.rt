@@ -3,8 +3,8 @@
 //!
 //! `answer` has the call that `main` makes, with the promises of the program as its clauses. Below it
 //! `command` and `call` read the words, `reply` makes the answer of a command; `lexer`, `operand`,
-//! `statement` and `reader` judge a source text, `translate` turns its program into a tree, and `print`
-//! writes the tree.
+//! `statement` and `reader` judge a source text, and `translate` turns its program into a tree, which
+//! `st_printer` writes.
 #![tactic(auto)]
 
 use crate::answer::stl2st;
@@ -21,13 +21,13 @@ mod command;
 mod lexer;
 mod number;
 mod operand;
-mod print;
 mod reader;
 mod reply;
 mod statement;
 mod status;
 #[cfg(test)]
 mod tests;
+mod text;
 mod translate;
 mod words;
 

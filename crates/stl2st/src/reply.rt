@@ -13,14 +13,15 @@ ghost use Rattle.stl2st.specs.WellFormed.{IsWellFormed};
 
 use crate::answer::{IMAGE_LIMIT, INPUT_LIMIT};
 use crate::command::{Command, WordsRefusal, read_words};
-use crate::print::{print, put, put_number};
 use crate::reader::verdict;
 use crate::status::Status;
+use crate::text::{put, put_number};
 use crate::translate::translate;
 use image_text::{ImageRefusal, image_text, read_image};
 use memory_areas::Memory;
 use s7_base::{Line, NoMemory, Outcome, Reason, Rejection};
 use s7_io::{ReadRefusal, Source, read_all};
+use st_printer::print;
 use std::alloc::Global;
 use stl_machine::{Machine, MachineRefusal};
 use stl_tree::{Call, Program};

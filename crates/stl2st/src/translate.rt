@@ -23,7 +23,11 @@ pub fn translate(alloc: Global, program: &Program) -> Result<StProgram, NoMemory
     for block in program.blocks.as_slice() {
         pous.push(unit(alloc, block)?)?;
     }
-    Ok(StProgram { pous })
+    Ok(StProgram {
+        dbs: List::new(alloc),
+        globals: List::new(alloc),
+        pous,
+    })
 }
 
 fn unit(alloc: Global, block: &Block) -> Result<Pou, NoMemory>
@@ -35,7 +39,13 @@ fn unit(alloc: Global, block: &Block) -> Result<Pou, NoMemory>
     for instr in block.body.as_slice() {
         push_statements(alloc, &mut body, instr.op)?;
     }
-    Ok(Pou { name, body })
+    Ok(Pou {
+        program: true,
+        name,
+        formals: List::new(alloc),
+        locals: List::new(alloc),
+        body,
+    })
 }
 
 fn unit_name(alloc: Global, name: BlockName) -> Result<List<u8>, NoMemory>

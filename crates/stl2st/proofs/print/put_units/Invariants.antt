@@ -1,8 +1,0 @@
-use Rattle.std.proofs.Common.{◌≡◌, ◌++◌, take}
-use Rattle.std.specs.Prelude.{flat_map}
-use Rattle.st_tree.specs.Spelling.{unit_text}
-use Rattle.stl2st.proofs.print.put_units.Given as goal
-
--- the units so far stand behind what stood there
-abbrev pub invariant-loop-unit : goal.invariant-loop-unit
-invariant-loop-unit l = l.out.items ≡ l.fn.out.items ++ flat_map unit_text (take l.unit-index l.units)
