@@ -6,7 +6,9 @@ ghost use Rattle.st_tree.specs.Spelling.{written, expr_text, names_in};
 use crate::literal::put_literal;
 use crate::text::put;
 use crate::variable::put_var;
-use crate::word::{infix_level_of, infix_word, prefix_level_of, prefix_word, shift_word, type_word, width_word};
+use crate::word::{
+    infix_level_of, infix_word, prefix_level_of, prefix_word, shift_word, type_word, width_word,
+};
 use s7_base::NoMemory;
 use st_tree::{Expr, Pou, StProgram, UnaryOp};
 
@@ -23,7 +25,12 @@ fn level_of(expr: &Expr) -> u8
 }
 
 #[cycle(expr)]
-pub fn put_expr(out: &mut Vec<u8>, tree: &StProgram, unit: &Pou, expr: &Expr) -> Result<(), NoMemory>
+pub fn put_expr(
+    out: &mut Vec<u8>,
+    tree: &StProgram,
+    unit: &Pou,
+    expr: &Expr,
+) -> Result<(), NoMemory>
     ensures { OnOk result (out.new.items ≡ out.old.items ++ expr_text (names_in tree.now unit.now) expr.now) }
 {
     match expr {
@@ -62,7 +69,13 @@ pub fn put_expr(out: &mut Vec<u8>, tree: &StProgram, unit: &Pou, expr: &Expr) ->
 }
 
 #[cycle(expr)]
-fn put_unary(out: &mut Vec<u8>, tree: &StProgram, unit: &Pou, op: UnaryOp, operand: &Expr) -> Result<(), NoMemory>
+fn put_unary(
+    out: &mut Vec<u8>,
+    tree: &StProgram,
+    unit: &Pou,
+    op: UnaryOp,
+    operand: &Expr,
+) -> Result<(), NoMemory>
     ensures { OnOk result (out.new.items ≡ out.old.items ++ written (names_in tree.now unit.now) (unary_form op (canon operand.now))) }
 {
     put(out, prefix_word(op))?;
@@ -77,7 +90,13 @@ fn put_unary(out: &mut Vec<u8>, tree: &StProgram, unit: &Pou, op: UnaryOp, opera
 
 // The expression, in brackets where it binds more weakly than its place takes.
 #[cycle(expr)]
-fn put_operand(out: &mut Vec<u8>, tree: &StProgram, unit: &Pou, expr: &Expr, limit: u8) -> Result<(), NoMemory>
+fn put_operand(
+    out: &mut Vec<u8>,
+    tree: &StProgram,
+    unit: &Pou,
+    expr: &Expr,
+    limit: u8,
+) -> Result<(), NoMemory>
     ensures { OnOk result (out.new.items ≡ out.old.items ++ written (names_in tree.now unit.now) (wrap limit (canon expr.now))) }
 {
     if level_of(expr) <= limit {
@@ -87,7 +106,12 @@ fn put_operand(out: &mut Vec<u8>, tree: &StProgram, unit: &Pou, expr: &Expr, lim
 }
 
 #[cycle(expr)]
-fn put_in_brackets(out: &mut Vec<u8>, tree: &StProgram, unit: &Pou, expr: &Expr) -> Result<(), NoMemory>
+fn put_in_brackets(
+    out: &mut Vec<u8>,
+    tree: &StProgram,
+    unit: &Pou,
+    expr: &Expr,
+) -> Result<(), NoMemory>
     ensures { OnOk result (out.new.items ≡ out.old.items ++ codes "(" ++ expr_text (names_in tree.now unit.now) expr.now ++ codes ")") }
 {
     put(out, "(")?;

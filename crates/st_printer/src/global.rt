@@ -110,7 +110,12 @@ fn put_located(out: &mut Vec<u8>, global: &Located) -> Result<(), NoMemory>
         ++ place_word global.now.place.area ++ place_text (width_at global.now.ty) global.now.place.byte global.now.place.bit ++ codes " : " ++ type_word global.now.ty ++ codes ";\n") }
 {
     put(out, place_word(global.place.area))?;
-    put_place(out, width_at(global.ty), global.place.byte, global.place.bit)?;
+    put_place(
+        out,
+        width_at(global.ty),
+        global.place.byte,
+        global.place.bit,
+    )?;
     put_type(out, global.ty)
 }
 

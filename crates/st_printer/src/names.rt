@@ -109,7 +109,8 @@ fn binary_type(op: BinaryOp, left: StType) -> StType
     ensures { result ≡ binary_type op left }
 {
     match op {
-        BinaryOp::Lt | BinaryOp::Gt | BinaryOp::Le | BinaryOp::Ge | BinaryOp::Eq | BinaryOp::Ne => StType::Bool,
+        BinaryOp::Lt | BinaryOp::Gt | BinaryOp::Le | BinaryOp::Ge | BinaryOp::Eq | BinaryOp::Ne =>
+            StType::Bool,
         _ => left,
     }
 }

@@ -30,7 +30,14 @@ pub fn put_line(out: &mut Vec<u8>, level: usize, text: &str) -> Result<(), NoMem
 }
 
 #[tactic(auto, unfolding(st_tree::specs::Spelling::line))]
-fn put_assign(out: &mut Vec<u8>, tree: &StProgram, unit: &Pou, level: usize, var: Var, value: &Expr) -> Result<(), NoMemory>
+fn put_assign(
+    out: &mut Vec<u8>,
+    tree: &StProgram,
+    unit: &Pou,
+    level: usize,
+    var: Var,
+    value: &Expr,
+) -> Result<(), NoMemory>
     ensures { OnOk result (out.new.items ≡ out.old.items ++ line level (var_text (names_in tree.now unit.now) var ++ codes " := " ++ expr_text (names_in tree.now unit.now) value.now ++ codes ";")) }
 {
     put_blanks(out, level)?;
@@ -41,7 +48,13 @@ fn put_assign(out: &mut Vec<u8>, tree: &StProgram, unit: &Pou, level: usize, var
 }
 
 // The operands of an area write and the end of its line.
-fn put_operands(out: &mut Vec<u8>, tree: &StProgram, unit: &Pou, pointer: &Expr, value: &Expr) -> Result<(), NoMemory>
+fn put_operands(
+    out: &mut Vec<u8>,
+    tree: &StProgram,
+    unit: &Pou,
+    pointer: &Expr,
+    value: &Expr,
+) -> Result<(), NoMemory>
     ensures { OnOk result (out.new.items ≡ out.old.items ++ expr_text (names_in tree.now unit.now) pointer.now ++ codes ", " ++ expr_text (names_in tree.now unit.now) value.now ++ codes ");\n") }
 {
     put_expr(out, tree, unit, pointer)?;
@@ -51,7 +64,15 @@ fn put_operands(out: &mut Vec<u8>, tree: &StProgram, unit: &Pou, pointer: &Expr,
 }
 
 #[tactic(auto, unfolding(st_tree::specs::Spelling::line))]
-fn put_area_write(out: &mut Vec<u8>, tree: &StProgram, unit: &Pou, level: usize, width: Width, pointer: &Expr, value: &Expr) -> Result<(), NoMemory>
+fn put_area_write(
+    out: &mut Vec<u8>,
+    tree: &StProgram,
+    unit: &Pou,
+    level: usize,
+    width: Width,
+    pointer: &Expr,
+    value: &Expr,
+) -> Result<(), NoMemory>
     ensures { OnOk result (out.new.items ≡ out.old.items ++ line level (codes "AREA_WRITE_" ++ width_word width ++ codes "(" ++ expr_text (names_in tree.now unit.now) pointer.now ++ codes ", " ++ expr_text (names_in tree.now unit.now) value.now ++ codes ");")) }
 {
     put_blanks(out, level)?;
@@ -62,7 +83,13 @@ fn put_area_write(out: &mut Vec<u8>, tree: &StProgram, unit: &Pou, level: usize,
 }
 
 // A formal with its variable.
-fn put_actual(out: &mut Vec<u8>, tree: &StProgram, unit: &Pou, formal: &Local, var: Var) -> Result<(), NoMemory>
+fn put_actual(
+    out: &mut Vec<u8>,
+    tree: &StProgram,
+    unit: &Pou,
+    formal: &Local,
+    var: Var,
+) -> Result<(), NoMemory>
     ensures { OnOk result (out.new.items ≡ out.old.items ++ formal.now.name ++ codes " := " ++ var_text (names_in tree.now unit.now) var) }
 {
     put_bytes(out, formal.name.as_slice())?;
@@ -71,7 +98,13 @@ fn put_actual(out: &mut Vec<u8>, tree: &StProgram, unit: &Pou, formal: &Local, v
 }
 
 // The actuals behind the first, each with its comma.
-fn put_more_actuals(out: &mut Vec<u8>, tree: &StProgram, unit: &Pou, formals: &[Local], vars: &[Var]) -> Result<(), NoMemory>
+fn put_more_actuals(
+    out: &mut Vec<u8>,
+    tree: &StProgram,
+    unit: &Pou,
+    formals: &[Local],
+    vars: &[Var],
+) -> Result<(), NoMemory>
     ensures { OnOk result (out.new.items ≡ out.old.items ++ flat_map (λ text. codes ", " ++ text) (actuals_text (names_in tree.now unit.now) formals.now vars.now)) }
 {
     let [formal, formals @ ..] = formals else {
@@ -85,7 +118,13 @@ fn put_more_actuals(out: &mut Vec<u8>, tree: &StProgram, unit: &Pou, formals: &[
     put_more_actuals(out, tree, unit, formals, vars)
 }
 
-fn put_actuals(out: &mut Vec<u8>, tree: &StProgram, unit: &Pou, formals: &[Local], vars: &[Var]) -> Result<(), NoMemory>
+fn put_actuals(
+    out: &mut Vec<u8>,
+    tree: &StProgram,
+    unit: &Pou,
+    formals: &[Local],
+    vars: &[Var],
+) -> Result<(), NoMemory>
     ensures { OnOk result (out.new.items ≡ out.old.items ++ listed (actuals_text (names_in tree.now unit.now) formals.now vars.now)) }
 {
     let [formal, formals @ ..] = formals else {
@@ -99,7 +138,14 @@ fn put_actuals(out: &mut Vec<u8>, tree: &StProgram, unit: &Pou, formals: &[Local
 }
 
 #[tactic(auto, unfolding(st_tree::specs::Spelling::line))]
-fn put_call(out: &mut Vec<u8>, tree: &StProgram, unit: &Pou, level: usize, callee: u32, vars: &[Var]) -> Result<(), NoMemory>
+fn put_call(
+    out: &mut Vec<u8>,
+    tree: &StProgram,
+    unit: &Pou,
+    level: usize,
+    callee: u32,
+    vars: &[Var],
+) -> Result<(), NoMemory>
     ensures { OnOk result (out.new.items ≡ out.old.items ++ line level (call_text (names_in tree.now unit.now) (slice_get tree.now.pous callee) vars.now)) }
 {
     let units = tree.pous.as_slice();
@@ -112,7 +158,15 @@ fn put_call(out: &mut Vec<u8>, tree: &StProgram, unit: &Pou, level: usize, calle
 
 // A line of a word, an expression and a word.
 #[tactic(auto, unfolding(st_tree::specs::Spelling::line))]
-fn put_head(out: &mut Vec<u8>, tree: &StProgram, unit: &Pou, level: usize, before: &str, expr: &Expr, behind: &str) -> Result<(), NoMemory>
+fn put_head(
+    out: &mut Vec<u8>,
+    tree: &StProgram,
+    unit: &Pou,
+    level: usize,
+    before: &str,
+    expr: &Expr,
+    behind: &str,
+) -> Result<(), NoMemory>
     ensures { OnOk result (out.new.items ≡ out.old.items ++ line level (before.now ++ expr_text (names_in tree.now unit.now) expr.now ++ behind.now)) }
 {
     put_blanks(out, level)?;
@@ -162,7 +216,13 @@ fn put_labels(out: &mut Vec<u8>, level: usize, ty: StType, labels: &[i64]) -> Re
 }
 
 #[cycle(statements)]
-pub fn put_body(out: &mut Vec<u8>, tree: &StProgram, unit: &Pou, level: usize, body: &[Stmt]) -> Result<(), NoMemory>
+pub fn put_body(
+    out: &mut Vec<u8>,
+    tree: &StProgram,
+    unit: &Pou,
+    level: usize,
+    body: &[Stmt],
+) -> Result<(), NoMemory>
     ensures { OnOk result (out.new.items ≡ out.old.items ++ body_text (names_in tree.now unit.now) level body.now) }
 {
     for statement in body {
@@ -172,12 +232,26 @@ pub fn put_body(out: &mut Vec<u8>, tree: &StProgram, unit: &Pou, level: usize, b
 }
 
 #[cycle(statements)]
-fn put_statement(out: &mut Vec<u8>, tree: &StProgram, unit: &Pou, level: usize, statement: &Stmt) -> Result<(), NoMemory>
+fn put_statement(
+    out: &mut Vec<u8>,
+    tree: &StProgram,
+    unit: &Pou,
+    level: usize,
+    statement: &Stmt,
+) -> Result<(), NoMemory>
     ensures { OnOk result (out.new.items ≡ out.old.items ++ statement_text (names_in tree.now unit.now) statement.now level) }
 {
     match statement {
         Stmt::Assign(var, value) => put_assign(out, tree, unit, level, *var, value),
-        Stmt::AreaWrite(width, pointer, value) => put_area_write(out, tree, unit, level, *width, pointer.get(), value.get()),
+        Stmt::AreaWrite(width, pointer, value) => put_area_write(
+            out,
+            tree,
+            unit,
+            level,
+            *width,
+            pointer.get(),
+            value.get(),
+        ),
         Stmt::Invoke(callee, vars) => put_call(out, tree, unit, level, *callee, vars.as_slice()),
         Stmt::If(arms, other) => {
             put_arms(out, tree, unit, level, arms.as_slice())?;
@@ -186,7 +260,14 @@ fn put_statement(out: &mut Vec<u8>, tree: &StProgram, unit: &Pou, level: usize, 
         }
         Stmt::Case(selector, arms, other) => {
             put_head(out, tree, unit, level, "CASE ", selector, " OF")?;
-            put_cases(out, tree, unit, level, type_of(tree, unit, selector), arms.as_slice())?;
+            put_cases(
+                out,
+                tree,
+                unit,
+                level,
+                type_of(tree, unit, selector),
+                arms.as_slice(),
+            )?;
             put_else(out, tree, unit, level, other.as_slice())?;
             put_line(out, level, "END_CASE;")
         }
@@ -203,7 +284,14 @@ fn put_statement(out: &mut Vec<u8>, tree: &StProgram, unit: &Pou, level: usize, 
 
 // An arm of an IF behind its word and a blank.
 #[cycle(statements)]
-fn put_arm(out: &mut Vec<u8>, tree: &StProgram, unit: &Pou, level: usize, word: &str, arm: &Arm) -> Result<(), NoMemory>
+fn put_arm(
+    out: &mut Vec<u8>,
+    tree: &StProgram,
+    unit: &Pou,
+    level: usize,
+    word: &str,
+    arm: &Arm,
+) -> Result<(), NoMemory>
     ensures { OnOk result (out.new.items ≡ out.old.items ++ arm_text (names_in tree.now unit.now) arm.now word.now level) }
 {
     put_head(out, tree, unit, level, word, &arm.test, " THEN")?;
@@ -211,7 +299,13 @@ fn put_arm(out: &mut Vec<u8>, tree: &StProgram, unit: &Pou, level: usize, word: 
 }
 
 #[cycle(statements)]
-fn put_arms(out: &mut Vec<u8>, tree: &StProgram, unit: &Pou, level: usize, arms: &[Arm]) -> Result<(), NoMemory>
+fn put_arms(
+    out: &mut Vec<u8>,
+    tree: &StProgram,
+    unit: &Pou,
+    level: usize,
+    arms: &[Arm],
+) -> Result<(), NoMemory>
     ensures { OnOk result (out.new.items ≡ out.old.items ++ arms_text level (map (arm_text (names_in tree.now unit.now)) arms.now)) }
 {
     let [first, more @ ..] = arms else {
@@ -225,7 +319,14 @@ fn put_arms(out: &mut Vec<u8>, tree: &StProgram, unit: &Pou, level: usize, arms:
 }
 
 #[cycle(statements)]
-fn put_cases(out: &mut Vec<u8>, tree: &StProgram, unit: &Pou, level: usize, ty: StType, arms: &[CaseArm]) -> Result<(), NoMemory>
+fn put_cases(
+    out: &mut Vec<u8>,
+    tree: &StProgram,
+    unit: &Pou,
+    level: usize,
+    ty: StType,
+    arms: &[CaseArm],
+) -> Result<(), NoMemory>
     ensures { OnOk result (out.new.items ≡ out.old.items ++ flat_map (λ arm. arm ty level) (map (case_text (names_in tree.now unit.now)) arms.now)) }
 {
     for arm in arms {
@@ -235,7 +336,14 @@ fn put_cases(out: &mut Vec<u8>, tree: &StProgram, unit: &Pou, level: usize, ty: 
 }
 
 #[cycle(statements)]
-fn put_case(out: &mut Vec<u8>, tree: &StProgram, unit: &Pou, level: usize, ty: StType, arm: &CaseArm) -> Result<(), NoMemory>
+fn put_case(
+    out: &mut Vec<u8>,
+    tree: &StProgram,
+    unit: &Pou,
+    level: usize,
+    ty: StType,
+    arm: &CaseArm,
+) -> Result<(), NoMemory>
     ensures { OnOk result (out.new.items ≡ out.old.items ++ case_text (names_in tree.now unit.now) arm.now ty level) }
 {
     let inner = deeper(level)?;
@@ -244,7 +352,13 @@ fn put_case(out: &mut Vec<u8>, tree: &StProgram, unit: &Pou, level: usize, ty: S
 }
 
 #[cycle(statements)]
-fn put_else(out: &mut Vec<u8>, tree: &StProgram, unit: &Pou, level: usize, other: &[Stmt]) -> Result<(), NoMemory>
+fn put_else(
+    out: &mut Vec<u8>,
+    tree: &StProgram,
+    unit: &Pou,
+    level: usize,
+    other: &[Stmt],
+) -> Result<(), NoMemory>
     ensures { OnOk result (out.new.items ≡ out.old.items ++ else_text level (map (statement_text (names_in tree.now unit.now)) other.now)) }
 {
     if other.is_empty() {

@@ -3,7 +3,7 @@ use Rattle.std.proofs.Common.{◌≡◌, ℕ, List, ◌∷◌, Ok, Err, ap, ◌�
 use Rattle.memory_areas.specs.Access.{and_then}
 use Rattle.s7_base.specs.declared.outcome.Fault.{Fault}
 use Rattle.st_tree.proofs.Opened.{meaning_assign}
-use Rattle.st_tree.specs.Meaning.{Calls, Out, Faults, then_do, changed, meaning, body_meaning}
+use Rattle.st_tree.specs.Meaning.{Calls, Out, Faults, then_do, changed, body_meaning}
 use Rattle.st_tree.specs.State.{State, write}
 use Rattle.st_tree.specs.Value.{value}
 use Rattle.st_tree.specs.Values.{Value}

@@ -3,7 +3,7 @@ use Rattle.std.proofs.Common.{◌≡◌, refl, ℕ, false, true, List, [], ◌�
 use Rattle.std.specs.Prelude.{codes}
 use Rattle.std.specs.Fmt.{digits}
 use Rattle.memory_areas.specs.Areas.{Areas}
-use Rattle.memory_areas.specs.End.{End, Ended}
+use Rattle.memory_areas.specs.End.{Ended}
 use Rattle.memory_areas.specs.declared.place.Area.{Area}
 use Rattle.memory_areas.specs.declared.place.Area.TheVariants as place
 use Rattle.memory_areas.specs.declared.place.AreaName.TheVariants as area
@@ -14,7 +14,6 @@ use Rattle.stl_tree.specs.declared.program.BlockName.{BlockName}
 use Rattle.stl_tree.specs.declared.program.BlockName.TheVariants.{Ob, Fc, Fb}
 use Rattle.stl_tree.specs.declared.program.Call.{Call}
 use Rattle.st_tree.specs.StRun.{FitsSt, st_run}
-use Rattle.st_tree.specs.declared.expr.StType.{StType}
 use Rattle.st_tree.specs.declared.expr.StType.TheVariants as type
 use Rattle.st_tree.specs.declared.expr.Var.TheVariants as var
 use Rattle.st_tree.specs.declared.expr.Expr.TheVariants as expr

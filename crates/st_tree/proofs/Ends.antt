@@ -1,17 +1,15 @@
 -- An end stays, and how deep calls may nest is free.
-use Rattle.std.proofs.Common.{◌≡◌, ℕ, ◌+◌, ◌-◌, ◌≤◌, List, Option, Some, None, refl, sym, ap, subst, ◌∙◌, arith}
+use Rattle.std.proofs.Common.{◌≡◌, ℕ, ◌+◌, ◌-◌, ◌≤◌, Option, Some, None, refl, sym, ap, subst, ◌∙◌, arith}
 use Rattle.memory_areas.specs.Areas.{Areas}
-use Rattle.memory_areas.specs.End.{End, Ended, Going}
+use Rattle.memory_areas.specs.End.{Ended}
 use Rattle.s7_base.specs.declared.outcome.Fault.{Fault}
 use Rattle.stl_tree.specs.declared.program.Call.{Call}
 use Rattle.st_tree.specs.Calls.{calls_to}
 use Rattle.st_tree.specs.Meaning.{Out, Normal, Exits, Continues, Returns, Faults, NoUnits, body_meaning}
 use Rattle.st_tree.specs.StRun.{end_seen, run_of_unit, state_at_start, unit_called}
 use Rattle.st_tree.specs.StRunLaws.{DepthIsFree, EndStays}
-use Rattle.st_tree.specs.State.{State}
 use Rattle.st_tree.specs.declared.program.Pou.{Pou}
 use Rattle.st_tree.specs.declared.program.StProgram.{StProgram}
-use Rattle.st_tree.specs.declared.program.Stmt.{Stmt}
 use Rattle.st_tree.proofs.Units.{Follows, calls_follow, statements_follow}
 
 -- what follows an end is the same end

@@ -21,7 +21,6 @@ derived (variable v) k b h = read
 derived (group f) k b h = brackets (derived f 9 b (level_most f))
 derived (prefix op f) k b h = unary op h (derived f (prefix_level op) b.1 b.0)
 derived (infix_of op f g) k b h = binary op h (derived f (infix_level op) b.2 b.0) (derived g (infix_level op - 1) b.3 (less_one (level g) (infix_level op) b.1))
-
 derived other k b h = absurd b
 
 spelled : (k : ℕ) (ts : List Kind) (e : Expr) → Derives k ts e → IsSpelled k ts e

@@ -1,5 +1,5 @@
 -- Operators on values, held against worked rows.
-use Rattle.std.specs.Prelude.{◌≡◌, ℕ, ℤ, pos, negsuc, true, false, Result, Ok, Err}
+use Rattle.std.specs.Prelude.{◌≡◌, ℕ, ℤ, pos, negsuc, true, false, Ok, Err}
 use Rattle.std.proofs.Common.{refl}
 use Rattle.s7_base.specs.declared.outcome.Fault.TheVariants.{BcdDigit, DivideByZero}
 use Rattle.st_tree.specs.Operators.{binary_value, chosen, converted, shift_value, unary_value}

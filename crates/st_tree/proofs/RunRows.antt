@@ -1,22 +1,18 @@
 -- Runs of small texts, held against worked rows by computing them.
-use Rattle.std.proofs.Common.{◌≡◌, refl, ℕ, Bool, true, false, List, [], ◌∷◌, ℤ, pos, negsuc, Option, Some, None}
+use Rattle.std.proofs.Common.{◌≡◌, refl, ℕ, true, false, List, [], ◌∷◌, pos, Option, Some, None}
 use Rattle.std.specs.Prelude.{codes}
 use Rattle.std.specs.Fmt.{digits}
 use Rattle.memory_areas.specs.Areas.{Areas}
 use Rattle.memory_areas.specs.End.{End, Ended, Going}
-use Rattle.memory_areas.specs.declared.data_block.DataBlock.{DataBlock}
-use Rattle.memory_areas.specs.declared.place.Area.TheVariants as place
 use Rattle.memory_areas.specs.declared.place.AreaName.TheVariants as area
-use Rattle.memory_areas.specs.declared.place.Place.{Place}
 use Rattle.s7_base.specs.declared.outcome.Fault.{Fault}
 use Rattle.s7_base.specs.declared.outcome.Fault.TheVariants.{AreaCode, AreaLength, DbMissing, DbNotOpen, DivideByZero}
 use Rattle.s7_base.specs.declared.register.Reg.TheVariants as reg
-use Rattle.s7_base.specs.declared.word.Width.{Width}
 use Rattle.s7_base.specs.declared.word.Width.TheVariants as width
 use Rattle.stl_tree.specs.declared.program.BlockName.{BlockName}
-use Rattle.stl_tree.specs.declared.program.BlockName.TheVariants.{Ob, Fc, Fb}
+use Rattle.stl_tree.specs.declared.program.BlockName.TheVariants.{Ob, Fc}
 use Rattle.stl_tree.specs.declared.program.Call.{Call}
-use Rattle.st_tree.specs.StRun.{FitsSt, st_run}
+use Rattle.st_tree.specs.StRun.{st_run}
 use Rattle.st_tree.specs.declared.expr.StType.{StType}
 use Rattle.st_tree.specs.declared.expr.StType.TheVariants as type
 use Rattle.st_tree.specs.declared.expr.BinaryOp.TheVariants as binary
@@ -25,7 +21,6 @@ use Rattle.st_tree.specs.declared.expr.Var.TheVariants as var
 use Rattle.st_tree.specs.declared.expr.Expr.{Expr}
 use Rattle.st_tree.specs.declared.expr.Expr.TheVariants as expr
 use Rattle.st_tree.specs.declared.program.Local.{Local}
-use Rattle.st_tree.specs.declared.program.Located.{Located}
 use Rattle.st_tree.specs.declared.program.Pou.{Pou}
 use Rattle.st_tree.specs.declared.program.StProgram.{StProgram}
 use Rattle.st_tree.specs.declared.program.Stmt.{Stmt}
@@ -122,9 +117,9 @@ left_first = simp opened
 -- a data block is the one that DBNO names at the access
 blocks :
     run_of [] (
-      stmt.Assign (var.Register reg.DbNo) (expr.Literal type.Word (pos 7)) ∷ stmt.Assign (out 0) (get (var.Direct area.Db 1 0 width.Byte))
-      ∷ stmt.Assign (var.Register reg.DbNo) (get (var.Direct area.Db 0 0 width.Word)) ∷ stmt.Assign (out 1) (get (var.InBlock 7 0 0 width.Byte))
-      ∷ stmt.Assign (out 0) (get (var.Direct area.Db 1 0 width.Byte)) ∷ []) 0
+    stmt.Assign (var.Register reg.DbNo) (expr.Literal type.Word (pos 7)) ∷ stmt.Assign (out 0) (get (var.Direct area.Db 1 0 width.Byte))
+    ∷ stmt.Assign (var.Register reg.DbNo) (get (var.Direct area.Db 0 0 width.Word)) ∷ stmt.Assign (out 1) (get (var.InBlock 7 0 0 width.Byte))
+    ∷ stmt.Assign (out 0) (get (var.Direct area.Db 1 0 width.Byte)) ∷ []) 0
     ≡ ended (2 ∷ 1 ∷ []) (Some DbMissing)
 unfolding digits
 blocks = simp opened
@@ -136,9 +131,9 @@ no_block = simp opened
 -- through a pointer: QB 1 is 16#82000008, and 16#87000000 has no area
 pointers :
     run_of [] (
-      stmt.AreaWrite width.Byte (expr.Literal type.Dword (pos 2181038088)) (byte 3)
-      ∷ stmt.Assign (out 0) (expr.AreaRead width.Byte (expr.Literal type.Dword (pos 2181038088)))
-      ∷ stmt.AreaWrite width.Byte (expr.Literal type.Dword (pos 2264924160)) (byte 4) ∷ []) 0
+    stmt.AreaWrite width.Byte (expr.Literal type.Dword (pos 2181038088)) (byte 3)
+    ∷ stmt.Assign (out 0) (expr.AreaRead width.Byte (expr.Literal type.Dword (pos 2181038088)))
+    ∷ stmt.AreaWrite width.Byte (expr.Literal type.Dword (pos 2264924160)) (byte 4) ∷ []) 0
     ≡ ended (3 ∷ 3 ∷ []) (Some AreaCode)
 unfolding digits
 pointers = simp opened
@@ -146,8 +141,8 @@ pointers = simp opened
 -- IF: the first arm whose test is TRUE, or else ELSE
 arms :
     run_of [] (
-      stmt.If (record { test = truth 0; body = stmt.Assign (out 0) (byte 1) ∷ [] } ∷ record { test = truth 1; body = stmt.Assign (out 0) (byte 2) ∷ [] } ∷ record { test = truth 1; body = stmt.Assign (out 0) (byte 3) ∷ [] } ∷ []) []
-      ∷ stmt.If (record { test = truth 0; body = [] } ∷ []) (stmt.Assign (out 1) (byte 4) ∷ []) ∷ []) 0
+    stmt.If (record { test = truth 0; body = stmt.Assign (out 0) (byte 1) ∷ [] } ∷ record { test = truth 1; body = stmt.Assign (out 0) (byte 2) ∷ [] } ∷ record { test = truth 1; body = stmt.Assign (out 0) (byte 3) ∷ [] } ∷ []) []
+    ∷ stmt.If (record { test = truth 0; body = [] } ∷ []) (stmt.Assign (out 1) (byte 4) ∷ []) ∷ []) 0
     ≡ ended (2 ∷ 4 ∷ []) None
 unfolding digits
 arms = simp opened
@@ -155,8 +150,8 @@ arms = simp opened
 -- CASE: the first arm that has the value, or else ELSE
 cases :
     run_of [] (
-      stmt.Case (int 5) (record { labels = pos 4 ∷ []; body = [] } ∷ record { labels = pos 6 ∷ pos 5 ∷ []; body = stmt.Assign (out 0) (byte 2) ∷ [] } ∷ record { labels = pos 5 ∷ []; body = stmt.Assign (out 0) (byte 3) ∷ [] } ∷ []) []
-      ∷ stmt.Case (int 7) (record { labels = pos 4 ∷ []; body = [] } ∷ []) (stmt.Assign (out 1) (byte 4) ∷ []) ∷ []) 0
+    stmt.Case (int 5) (record { labels = pos 4 ∷ []; body = [] } ∷ record { labels = pos 6 ∷ pos 5 ∷ []; body = stmt.Assign (out 0) (byte 2) ∷ [] } ∷ record { labels = pos 5 ∷ []; body = stmt.Assign (out 0) (byte 3) ∷ [] } ∷ []) []
+    ∷ stmt.Case (int 7) (record { labels = pos 4 ∷ []; body = [] } ∷ []) (stmt.Assign (out 1) (byte 4) ∷ []) ∷ []) 0
     ≡ ended (2 ∷ 4 ∷ []) None
 unfolding digits
 cases = simp opened
@@ -184,11 +179,11 @@ turns_enough = simp opened
 -- EXIT ends the loop, CONTINUE leads to the test, RETURN ends the unit
 leaving :
     run_of [] (
-      stmt.While (truth 1) (
-        stmt.Assign first (expr.Binary binary.Add (get first) (int 1))
-        ∷ stmt.If (record { test = expr.Binary binary.Lt (get first) (int 2); body = stmt.Continue ∷ [] } ∷ []) []
-        ∷ stmt.Assign second (get first) ∷ stmt.Exit ∷ stmt.Assign second (int 9) ∷ [])
-      ∷ show 0 first ∷ show 1 second ∷ stmt.Return ∷ stmt.Assign (out 0) (byte 9) ∷ []) 2
+    stmt.While (truth 1) (
+    stmt.Assign first (expr.Binary binary.Add (get first) (int 1))
+    ∷ stmt.If (record { test = expr.Binary binary.Lt (get first) (int 2); body = stmt.Continue ∷ [] } ∷ []) []
+    ∷ stmt.Assign second (get first) ∷ stmt.Exit ∷ stmt.Assign second (int 9) ∷ [])
+    ∷ show 0 first ∷ show 1 second ∷ stmt.Return ∷ stmt.Assign (out 0) (byte 9) ∷ []) 2
     ≡ ended (2 ∷ 2 ∷ []) None
 unfolding digits
 leaving = simp opened
@@ -209,7 +204,7 @@ actual_faults = simp opened
 abbrev double : Pou
 double =
     function (local_of type.Int ∷ local_of type.Int ∷ []) [] (
-      stmt.Assign (var.Formal 0) (int 3) ∷ stmt.Assign (var.Formal 1) (expr.Binary binary.Add (get (var.Formal 0)) (get (var.Formal 1))) ∷ [])
+    stmt.Assign (var.Formal 0) (int 3) ∷ stmt.Assign (var.Formal 1) (expr.Binary binary.Add (get (var.Formal 0)) (get (var.Formal 1))) ∷ [])
 
 aliases : run_of (double ∷ []) (stmt.Invoke 1 (first ∷ first ∷ []) ∷ show 0 first ∷ []) 1 ≡ ended (6 ∷ 0 ∷ []) None
 unfolding digits

@@ -1,5 +1,5 @@
 -- The types of variables and expressions.
-use Rattle.std.specs.Prelude.{ℕ, ℤ, List, slice_get, Option, Some, None}
+use Rattle.std.specs.Prelude.{List, slice_get, Option, Some, None}
 use Rattle.st_tree.specs.State.{type_of_register}
 use Rattle.st_tree.specs.Values.{type_of_width}
 use Rattle.st_tree.specs.declared.expr.StType.{StType}

@@ -1,4 +1,3 @@
-use Rattle.std.proofs.Common.{ℕ}
 use Rattle.st_printer.proofs.text.+put_blanks.Given as goal
 
 abbrev pub decreases-put_blanks : goal.decreases-put_blanks

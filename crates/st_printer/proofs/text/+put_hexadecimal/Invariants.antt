@@ -1,4 +1,3 @@
-use Rattle.std.proofs.Common.{ℕ}
 use Rattle.st_printer.proofs.text.+put_hexadecimal.Given as goal
 
 abbrev pub decreases-put_hexadecimal : goal.decreases-put_hexadecimal

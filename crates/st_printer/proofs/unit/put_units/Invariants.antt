@@ -1,5 +1,5 @@
 use Rattle.std.proofs.Common.{◌≡◌, ◌++◌, take}
-use Rattle.std.specs.Prelude.{codes, map, flat_map}
+use Rattle.std.specs.Prelude.{flat_map}
 use Rattle.st_tree.specs.Spelling.{unit_text}
 use Rattle.st_printer.proofs.unit.put_units.Given as goal
 
