@@ -1,0 +1,139 @@
+-- What statements cost and weigh, at each variant.
+use Rattle.std.proofs.Common.{◌≡◌, ℕ, ◌+◌, ◌≤◌, Bool, true, false, if◌then◌else◌, ℤ, max, List, [], ◌∷◌, map, Result, Ok, Err, sym, ap, subst, ◌∙◌, arith}
+use Rattle.memory_areas.specs.Access.{and_then}
+use Rattle.s7_base.specs.declared.outcome.Fault.{Fault}
+use Rattle.s7_base.specs.declared.word.Width.{Width}
+use Rattle.st_runner.specs.Choice.{has_label, labelled, picked}
+use Rattle.st_runner.specs.Measures.{Costs, arm_most, arm_weight, body_most, body_weight, case_most, case_weight, greatest, most, most_step, sum, weight, weight_step}
+use Rattle.st_tree.specs.State.{State}
+use Rattle.st_tree.specs.Value.{value}
+use Rattle.st_tree.specs.Values.{is_set}
+use Rattle.st_tree.specs.declared.expr.Expr.{Expr}
+use Rattle.st_tree.specs.declared.expr.Var.{Var}
+use Rattle.st_tree.specs.declared.program.Arm.{Arm, fold_out-Arm}
+use Rattle.st_tree.specs.declared.program.CaseArm.{CaseArm, fold_out-CaseArm}
+use Rattle.st_tree.specs.declared.program.Located.{Located}
+use Rattle.st_tree.specs.declared.program.Stmt.{Stmt, fold-roll-Stmt, map-Stmt, roll-Stmt}
+use Rattle.st_tree.specs.declared.program.Stmt.TheOpen as S
+use Rattle.st_tree.specs.declared.program.Stmt.TheVariants as stmt
+use Rattle.st_tree.specs.declared.state.Value.{Value}
+
+module _ (k : Costs) where
+  most_at : (x : Stmt) (y : S.Stmt-F Stmt Arm CaseArm) → x ≡ roll-Stmt y → most k x ≡ most_step k (map-Stmt Stmt Arm CaseArm ℕ ℕ ℕ (most k) (arm_most k) (case_most k) y)
+  most_at x y e = ap (most k) e ∙ fold-roll-Stmt ℕ ℕ ℕ (most_step k) (λ arm. greatest arm.body) (λ arm. greatest arm.body) y
+
+  pub most_if : (arms : List Arm) (other : List Stmt) → most k (stmt.If arms other) ≡ k.rest + max (greatest (map (arm_most k) arms)) (body_most k other)
+  most_if arms other = most_at (stmt.If arms other) (S.If arms other) (sym (stmt.rolls-If arms other))
+
+  pub most_case : (e : Expr) (arms : List CaseArm) (other : List Stmt) → most k (stmt.Case e arms other) ≡ k.rest + max (greatest (map (case_most k) arms)) (body_most k other)
+  most_case e arms other = most_at (stmt.Case e arms other) (S.Case e arms other) (sym (stmt.rolls-Case e arms other))
+
+  pub most_while : (e : Expr) (body : List Stmt) → most k (stmt.While e body) ≡ k.again + k.rest + body_most k body
+  most_while e body = most_at (stmt.While e body) (S.While e body) (sym (stmt.rolls-While e body))
+
+  pub most_invoke : (n : ℕ) (actuals : List Var) → most k (stmt.Invoke n actuals) ≡ k.call n actuals
+  most_invoke n actuals = most_at (stmt.Invoke n actuals) (S.Invoke n actuals) (sym (stmt.rolls-Invoke n actuals))
+
+  pub arm_is : (arm : Arm) → arm_most k arm ≡ body_most k arm.body
+  arm_is arm = fold_out-Arm ℕ ℕ ℕ (most_step k) (λ arm. greatest arm.body) (λ arm. greatest arm.body) arm
+
+  pub case_is : (arm : CaseArm) → case_most k arm ≡ body_most k arm.body
+  case_is arm = fold_out-CaseArm ℕ ℕ ℕ (most_step k) (λ arm. greatest arm.body) (λ arm. greatest arm.body) arm
+
+weight_at : (x : Stmt) (y : S.Stmt-F Stmt Arm CaseArm) → x ≡ roll-Stmt y → weight x ≡ weight_step (map-Stmt Stmt Arm CaseArm ℕ ℕ ℕ weight arm_weight case_weight y)
+weight_at x y e = ap weight e ∙ fold-roll-Stmt ℕ ℕ ℕ weight_step (λ arm. sum arm.body) (λ arm. sum arm.body) y
+
+pub weight_if : (arms : List Arm) (other : List Stmt) → weight (stmt.If arms other) ≡ 2 + max (greatest (map arm_weight arms)) (body_weight other)
+weight_if arms other = weight_at (stmt.If arms other) (S.If arms other) (sym (stmt.rolls-If arms other))
+
+pub weight_case : (e : Expr) (arms : List CaseArm) (other : List Stmt) → weight (stmt.Case e arms other) ≡ 2 + max (greatest (map case_weight arms)) (body_weight other)
+weight_case e arms other = weight_at (stmt.Case e arms other) (S.Case e arms other) (sym (stmt.rolls-Case e arms other))
+
+pub weight_assign : (v : Var) (e : Expr) → weight (stmt.Assign v e) ≡ 1
+weight_assign v e = weight_at (stmt.Assign v e) (S.Assign v e) (sym (stmt.rolls-Assign v e))
+
+pub weight_area : (w : Width) (p e : Expr) → weight (stmt.AreaWrite w p e) ≡ 1
+weight_area w p e = weight_at (stmt.AreaWrite w p e) (S.AreaWrite w p e) (sym (stmt.rolls-AreaWrite w p e))
+
+pub weight_exit : weight stmt.Exit ≡ 1
+weight_exit = weight_at stmt.Exit S.Exit (sym stmt.rolls-Exit)
+
+pub weight_continue : weight stmt.Continue ≡ 1
+weight_continue = weight_at stmt.Continue S.Continue (sym stmt.rolls-Continue)
+
+pub weight_return : weight stmt.Return ≡ 1
+weight_return = weight_at stmt.Return S.Return (sym stmt.rolls-Return)
+
+arm_weighs : (arm : Arm) → arm_weight arm ≡ body_weight arm.body
+arm_weighs arm = fold_out-Arm ℕ ℕ ℕ weight_step (λ arm. sum arm.body) (λ arm. sum arm.body) arm
+
+case_weighs : (arm : CaseArm) → case_weight arm ≡ body_weight arm.body
+case_weighs arm = fold_out-CaseArm ℕ ℕ ℕ weight_step (λ arm. sum arm.body) (λ arm. sum arm.body) arm
+
+-- what is chosen costs no more than all that may be
+abbrev Within : (List Stmt → ℕ) → ℕ → Result (List Stmt) Fault → Type 0
+Within size most (Ok body) = size body ≤ most
+Within size most (Err f) = Unit {0}
+
+module _ (size : List Stmt → ℕ) where
+  fewer : (a b : ℕ) (r : Result (List Stmt) Fault) → a ≤ b → Within size a r → Within size b r
+  fewer a b (Ok body) h w = omega arith
+  fewer a b (Err f) h w = tt
+
+  chosen_within : (r : Result Value Fault) (body : List Stmt) (rest : Result (List Stmt) Fault) (n : ℕ) → size body ≤ n → Within size n rest → Within size n (and_then r (λ v. if is_set v then Ok body else rest))
+  chosen_within (Ok v) body rest n h w = by (is_set v)
+    where
+      by : (b : Bool) → Within size n (if b then Ok body else rest)
+      by true = h
+      by false = w
+  chosen_within (Err f) body rest n h w = tt
+
+  pub picked_within : (arm_size : Arm → ℕ) → ((a : Arm) → arm_size a ≡ size a.body) → (g : List Located) (arms : List Arm) (other : List Stmt) (s : State) →
+      Within size (max (greatest (map arm_size arms)) (size other)) (picked g arms other s)
+  picked_within arm_size is g [] other s = omega arith
+  picked_within arm_size is g (a ∷ arms) other s =
+      let e : arm_size a ≡ size a.body = is a in
+      let rest = picked_within arm_size is g arms other s in
+      let n : ℕ = max (max (arm_size a) (greatest (map arm_size arms))) (size other) in
+      let m : ℕ = max (greatest (map arm_size arms)) (size other) in
+      let less : m ≤ n = omega arith in
+      let first : size a.body ≤ n = omega arith in
+      chosen_within (value g a.test s) a.body (picked g arms other s) n first (fewer m n (picked g arms other s) less rest)
+
+  pick_less : (b : Bool) (p q : List Stmt) (n : ℕ) → size p ≤ n → size q ≤ n → size (if b then p else q) ≤ n
+  pick_less true p q n h k = h
+  pick_less false p q n h k = k
+
+  pub labelled_within : (arm_size : CaseArm → ℕ) → ((a : CaseArm) → arm_size a ≡ size a.body) → (n : ℤ) (arms : List CaseArm) (other : List Stmt) →
+      size (labelled n arms other) ≤ max (greatest (map arm_size arms)) (size other)
+  labelled_within arm_size is n [] other = omega arith
+  labelled_within arm_size is n (a ∷ arms) other =
+      let e : arm_size a ≡ size a.body = is a in
+      let rest : size (labelled n arms other) ≤ max (greatest (map arm_size arms)) (size other) = labelled_within arm_size is n arms other in
+      pick_less (has_label a.labels n) a.body (labelled n arms other) (max (max (arm_size a) (greatest (map arm_size arms))) (size other)) (omega arith) (omega arith)
+
+pub picked_most : (k : Costs) (g : List Located) (arms : List Arm) (other : List Stmt) (s : State) (body : List Stmt) → picked g arms other s ≡ Ok body → k.rest + body_most k body ≤ most k (stmt.If arms other)
+picked_most k g arms other s body e =
+    let w : body_most k body ≤ max (greatest (map (arm_most k) arms)) (body_most k other) =
+    subst (λ r. Within (body_most k) (max (greatest (map (arm_most k) arms)) (body_most k other)) r) e (picked_within (body_most k) (arm_most k) (arm_is k) g arms other s) in
+    let m : most k (stmt.If arms other) ≡ k.rest + max (greatest (map (arm_most k) arms)) (body_most k other) = most_if k arms other in
+    omega arith
+
+pub picked_weight : (g : List Located) (arms : List Arm) (other : List Stmt) (s : State) (body : List Stmt) → picked g arms other s ≡ Ok body → 2 + body_weight body ≤ weight (stmt.If arms other)
+picked_weight g arms other s body e =
+    let w : body_weight body ≤ max (greatest (map arm_weight arms)) (body_weight other) =
+    subst (λ r. Within body_weight (max (greatest (map arm_weight arms)) (body_weight other)) r) e (picked_within body_weight arm_weight arm_weighs g arms other s) in
+    let m : weight (stmt.If arms other) ≡ 2 + max (greatest (map arm_weight arms)) (body_weight other) = weight_if arms other in
+    omega arith
+
+pub labelled_most : (k : Costs) (e : Expr) (n : ℤ) (arms : List CaseArm) (other : List Stmt) → k.rest + body_most k (labelled n arms other) ≤ most k (stmt.Case e arms other)
+labelled_most k e n arms other =
+    let w : body_most k (labelled n arms other) ≤ max (greatest (map (case_most k) arms)) (body_most k other) = labelled_within (body_most k) (case_most k) (case_is k) n arms other in
+    let m : most k (stmt.Case e arms other) ≡ k.rest + max (greatest (map (case_most k) arms)) (body_most k other) = most_case k e arms other in
+    omega arith
+
+pub labelled_weight : (e : Expr) (n : ℤ) (arms : List CaseArm) (other : List Stmt) → 2 + body_weight (labelled n arms other) ≤ weight (stmt.Case e arms other)
+labelled_weight e n arms other =
+    let w : body_weight (labelled n arms other) ≤ max (greatest (map case_weight arms)) (body_weight other) = labelled_within body_weight case_weight case_weighs n arms other in
+    let m : weight (stmt.Case e arms other) ≡ 2 + max (greatest (map case_weight arms)) (body_weight other) = weight_case e arms other in
+    omega arith

@@ -1,0 +1,158 @@
+-- Each statement that needs no unit is done as it means, and costs no more than it may.
+use Rattle.std.proofs.Common.{◌≡◌, ℕ, ◌+◌, ◌≤◌, max, Bor, List, [], ◌∷◌, ◌++◌, Option, Some, Result, Ok, Err, refl, sym, ap, subst, ◌∙◌, arith}
+use Rattle.memory_areas.specs.Access.{and_then}
+use Rattle.s7_base.specs.declared.outcome.Fault.{Fault}
+use Rattle.s7_base.specs.declared.word.Width.{Width}
+use Rattle.st_runner.specs.Choice.{labelled, picked}
+use Rattle.st_runner.specs.Leaving.{Leaves}
+use Rattle.st_runner.specs.Measures.{Costs, body_most, body_weight, most, reach, sizes, tall, unit_costs, units, weight, work_weight}
+use Rattle.st_runner.specs.Ready.{Done, next_of}
+use Rattle.st_runner.specs.Waiting.{end_at, ending}
+use Rattle.st_runner.specs.View.{Changes}
+use Rattle.st_runner.specs.declared.frame.At.{At}
+use Rattle.st_runner.specs.declared.frame.At.TheVariants as at
+use Rattle.st_runner.specs.declared.frame.Frame.{Frame}
+use Rattle.st_runner.specs.declared.frame.Frame.TheVariants as frame
+use Rattle.st_runner.proofs.Costs.{labelled_most, labelled_weight, most_invoke, most_while, picked_most, picked_weight, weight_area, weight_assign, weight_continue, weight_exit, weight_return}
+use Rattle.st_runner.proofs.Means.{area_err, area_ok, assign_err, assign_ok, case_means, chosen_out, if_means}
+use Rattle.st_runner.proofs.Stack.{sizes_tall, unwound_faults}
+use Rattle.st_runner.proofs.Tops.{on_top, top_sizes, top_tall, top_weight}
+use Rattle.st_tree.specs.Meaning.{Out, Normal, Exits, Continues, Returns, Calls, area_assigned, assigned, body_meaning, meaning}
+use Rattle.st_tree.specs.StRun.{end_seen}
+use Rattle.st_tree.specs.State.{State}
+use Rattle.st_tree.specs.Value.{value}
+use Rattle.st_tree.specs.declared.expr.Expr.{Expr}
+use Rattle.st_tree.specs.declared.expr.Var.{Var}
+use Rattle.st_tree.specs.declared.program.Arm.{Arm}
+use Rattle.st_tree.specs.declared.program.CaseArm.{CaseArm}
+use Rattle.st_tree.specs.declared.program.StProgram.{StProgram}
+use Rattle.st_tree.specs.declared.program.Stmt.{Stmt}
+use Rattle.st_tree.specs.declared.program.Stmt.TheVariants as stmt
+use Rattle.st_tree.specs.declared.state.Value.{Value}
+use Rattle.st_tree.proofs.Opened.{meaning_continue, meaning_exit, meaning_invoke, meaning_return, meaning_while}
+
+-- frames that stay as they are cost no more
+stay_reach : (k : Costs) (ws : List Frame) (n : ℕ) → reach k ws at.Work ≤ max (tall k ws) (sizes k ws + n)
+stay_reach k ws n = let h : sizes k ws ≤ tall k ws = sizes_tall k ws in omega arith
+
+over_reach : (k : Costs) (ws : List Frame) (n : ℕ) (f : Option Fault) → reach k ws (at.Over f) ≤ max (tall k ws) (sizes k ws + n)
+over_reach k ws n f = let h : sizes k ws ≤ tall k ws = sizes_tall k ws in omega arith
+
+module _ (tree : StProgram) (ws : List Frame) where
+  -- a fault
+  pub faulted : (x : Stmt) (s : State) (f : Fault) → ((c : Calls) (u : ℕ) → end_at tree.globals c ws (at.Over (Some f)) u s ≡ ending tree.globals c ws (meaning tree.globals c x u s)) → Done tree x ws ws (at.Over (Some f)) s s
+  faulted x s f m = record { meaning = m; reach = λ k. over_reach k ws (most k x) (Some f); units = refl; weight = tt }
+
+  assign_by : (v : Var) (e : Expr) (s t : State) (r : Result (Unit {0}) Fault) → Changes (assigned tree.globals v e s) r s t → Done tree (stmt.Assign v e) ws ws (next_of r) s t
+  assign_by v e s t (Ok done) h =
+      record {
+        meaning = λ c u. assign_ok tree.globals c ws u v e s t h;
+        reach = λ k. stay_reach k ws (most k (stmt.Assign v e));
+        units = refl;
+        weight = let w : weight (stmt.Assign v e) ≡ 1 = weight_assign v e in omega arith;
+      }
+  assign_by v e s t (Err f) h =
+      subst (λ (z : State). Done tree (stmt.Assign v e) ws ws (at.Over (Some f)) s z) (sym h.1) (faulted (stmt.Assign v e) s f (λ c u. assign_err tree.globals c ws u v e s f h.0))
+
+  pub assign_done : (v : Var) (e : Expr) (s t : State) (r : Result (Unit {0}) Fault) (next : At) → Changes (assigned tree.globals v e s) r s t → next ≡ next_of r → Done tree (stmt.Assign v e) ws ws next s t
+  assign_done v e s t r next h n = subst (λ (z : At). Done tree (stmt.Assign v e) ws ws z s t) (sym n) (assign_by v e s t r h)
+
+  area_by : (w : Width) (p e : Expr) (s t : State) (r : Result (Unit {0}) Fault) → Changes (area_assigned tree.globals w p e s) r s t → Done tree (stmt.AreaWrite w p e) ws ws (next_of r) s t
+  area_by w p e s t (Ok done) h =
+      record {
+        meaning = λ c u. area_ok tree.globals c ws u w p e s t h;
+        reach = λ k. stay_reach k ws (most k (stmt.AreaWrite w p e));
+        units = refl;
+        weight = let q : weight (stmt.AreaWrite w p e) ≡ 1 = weight_area w p e in omega arith;
+      }
+  area_by w p e s t (Err f) h =
+      subst (λ (z : State). Done tree (stmt.AreaWrite w p e) ws ws (at.Over (Some f)) s z) (sym h.1) (faulted (stmt.AreaWrite w p e) s f (λ c u. area_err tree.globals c ws u w p e s f h.0))
+
+  pub area_done : (w : Width) (p e : Expr) (s t : State) (r : Result (Unit {0}) Fault) (next : At) → Changes (area_assigned tree.globals w p e s) r s t → next ≡ next_of r → Done tree (stmt.AreaWrite w p e) ws ws next s t
+  area_done w p e s t r next h n = subst (λ (z : At). Done tree (stmt.AreaWrite w p e) ws ws z s t) (sym n) (area_by w p e s t r h)
+
+  pub invoke_done : (n : ℕ) (actuals : List Var) (b : Bor (List Var)) (s : State) → b.now ≡ actuals → Done tree (stmt.Invoke n actuals) ws ws (at.Call n b) s s
+  invoke_done n actuals b s e =
+      record {
+        meaning = λ c u.
+            ap (ending tree.globals c ws) (sym (meaning_invoke tree.globals c u s n b.now))
+            ∙ ap (λ (xs : List Var). ending tree.globals c ws (meaning tree.globals c (stmt.Invoke n xs) u s)) e;
+        reach = λ k. let m : most k (stmt.Invoke n actuals) ≡ k.call n b.now = most_invoke k n actuals ∙ ap (k.call n) (sym e) in let h : sizes k ws ≤ tall k ws = sizes_tall k ws in omega arith;
+        units = refl;
+        weight = tt;
+      }
+
+  pub while_done : (test : Expr) (body : List Stmt) (t : Bor Expr) (b : Bor (List Stmt)) (s : State) → t.now ≡ test → b.now ≡ body → Done tree (stmt.While test body) ws ws (at.Test t b) s s
+  while_done test body t b s e f =
+      record {
+        meaning = λ c u.
+            ap (ending tree.globals c ws) (sym (meaning_while tree.globals c u s t.now b.now))
+            ∙ ap (λ (x : Expr). ending tree.globals c ws (meaning tree.globals c (stmt.While x b.now) u s)) e
+            ∙ ap (λ (xs : List Stmt). ending tree.globals c ws (meaning tree.globals c (stmt.While test xs) u s)) f;
+        reach = λ k.
+            let m : most k (stmt.While test body) ≡ k.again + k.rest + body_most k b.now = most_while k test body ∙ ap (λ (xs : List Stmt). k.again + k.rest + body_most k xs) (sym f) in
+            let h : sizes k ws ≤ tall k ws = sizes_tall k ws in
+            omega arith;
+        units = refl;
+        weight = tt;
+      }
+
+  -- EXIT, CONTINUE and RETURN
+  left_by : (x : Stmt) (o : ℕ → State → Out) (vs : List Frame) (s : State) → ((c : Calls) (u : ℕ) → meaning tree.globals c x u s ≡ o u s) → weight x ≡ 1 → Leaves o Normal ws vs → Done tree x ws vs at.Work s s
+  left_by x o vs s m w h =
+      record {
+        meaning = λ c u. h.meaning tree.globals c u s ∙ ap (ending tree.globals c ws) (sym (m c u));
+        reach = λ k. let a : tall k vs ≤ tall k ws = h.tall k in let b : sizes k vs ≤ tall k vs = sizes_tall k vs in omega arith;
+        units = h.units;
+        weight = let a : work_weight vs ≤ work_weight ws = h.weight in omega arith;
+      }
+
+  pub exit_done : (vs : List Frame) (s : State) → Leaves Exits Normal ws vs → Done tree stmt.Exit ws vs at.Work s s
+  exit_done vs s h = left_by stmt.Exit Exits vs s (λ c u. meaning_exit tree.globals c u s) weight_exit h
+
+  pub continue_done : (vs : List Frame) (s : State) → Leaves Continues Normal ws vs → Done tree stmt.Continue ws vs at.Work s s
+  continue_done vs s h = left_by stmt.Continue Continues vs s (λ c u. meaning_continue tree.globals c u s) weight_continue h
+
+  pub return_done : (vs : List Frame) (s : State) → Leaves Returns Normal ws vs → Done tree stmt.Return ws vs at.Work s s
+  return_done vs s h = left_by stmt.Return Returns vs s (λ c u. meaning_return tree.globals c u s) weight_return h
+
+  -- statements that were chosen
+  chosen_by : (x : Stmt) (vs : List Frame) (b : Bor (List Stmt)) (s : State) → ((c : Calls) (u : ℕ) → meaning tree.globals c x u s ≡ body_meaning tree.globals c b.now u s)
+      → ((k : Costs) → k.rest + body_most k b.now ≤ most k x) → 2 + body_weight b.now ≤ weight x → vs ≡ ws ++ frame.Rest b ∷ [] → Done tree x ws vs at.Work s s
+  chosen_by x vs b s m r w e =
+      record {
+        meaning = λ c u. on_top tree.globals c ws vs (frame.Rest b) (Normal u s) e ∙ ap (ending tree.globals c ws) (sym (m c u));
+        reach = λ k.
+            let a : tall k vs ≡ max (tall k ws) (sizes k ws + (k.rest + body_most k b.now)) = top_tall k ws vs (frame.Rest b) e in
+            let d : sizes k vs ≤ tall k vs = sizes_tall k vs in
+            let f : k.rest + body_most k b.now ≤ most k x = r k in
+            omega arith;
+        units = let a : units vs ≡ units ws + 0 = top_sizes unit_costs ws vs (frame.Rest b) e in omega arith;
+        weight = let a : work_weight vs ≡ work_weight ws + (1 + body_weight b.now) = top_weight ws vs (frame.Rest b) e in omega arith;
+      }
+
+  pub if_done : (arms : List Arm) (other : List Stmt) (vs : List Frame) (b : Bor (List Stmt)) (s : State) → picked tree.globals arms other s ≡ Ok b.now → vs ≡ ws ++ frame.Rest b ∷ [] → Done tree (stmt.If arms other) ws vs at.Work s s
+  if_done arms other vs b s p e =
+      chosen_by (stmt.If arms other) vs b s (λ c u. if_means tree.globals c u s arms other ∙ ap (chosen_out tree.globals c u s) p)
+      (λ k. picked_most k tree.globals arms other s b.now p) (picked_weight tree.globals arms other s b.now p) e
+
+  pub if_fault : (arms : List Arm) (other : List Stmt) (s : State) (f : Fault) → picked tree.globals arms other s ≡ Err f → Done tree (stmt.If arms other) ws ws (at.Over (Some f)) s s
+  if_fault arms other s f p =
+      faulted (stmt.If arms other) s f (λ c u.
+      sym (ap end_seen (unwound_faults tree.globals c ws f s)) ∙ ap (ending tree.globals c ws) (sym (if_means tree.globals c u s arms other ∙ ap (chosen_out tree.globals c u s) p)))
+
+  pub case_done : (x : Expr) (arms : List CaseArm) (other : List Stmt) (vs : List Frame) (b : Bor (List Stmt)) (v : Value) (s : State) → value tree.globals x s ≡ Ok v → b.now ≡ labelled v.n arms other → vs ≡ ws ++ frame.Rest b ∷ []
+      → Done tree (stmt.Case x arms other) ws vs at.Work s s
+  case_done x arms other vs b v s p l e =
+      chosen_by (stmt.Case x arms other) vs b s
+      (λ c u. case_means tree.globals c u s x arms other ∙ ap (λ r. chosen_out tree.globals c u s (and_then r (λ (w : Value). Ok (labelled w.n arms other)))) p ∙ ap (λ (xs : List Stmt). body_meaning tree.globals c xs u s) (sym l))
+      (λ k. subst (λ (xs : List Stmt). k.rest + body_most k xs ≤ most k (stmt.Case x arms other)) (sym l) (labelled_most k x v.n arms other))
+      (subst (λ (xs : List Stmt). 2 + body_weight xs ≤ weight (stmt.Case x arms other)) (sym l) (labelled_weight x v.n arms other)) e
+
+  pub case_fault : (x : Expr) (arms : List CaseArm) (other : List Stmt) (s : State) (f : Fault) → value tree.globals x s ≡ Err f → Done tree (stmt.Case x arms other) ws ws (at.Over (Some f)) s s
+  case_fault x arms other s f p =
+      faulted (stmt.Case x arms other) s f (λ c u.
+      sym (ap end_seen (unwound_faults tree.globals c ws f s))
+      ∙ ap (ending tree.globals c ws) (sym (case_means tree.globals c u s x arms other ∙ ap (λ r. chosen_out tree.globals c u s (and_then r (λ (w : Value). Ok (labelled w.n arms other)))) p)))
+
+pub ruleset done_lemmas = (assign_done, area_done, invoke_done, while_done, exit_done, continue_done, return_done, if_done, if_fault, case_done, case_fault)

@@ -1,0 +1,101 @@
+-- Activations by their number.
+use Rattle.std.proofs.Common.{◌≡◌, ℕ, zero, suc, ◌+◌, ◌<◌, ◌≤◌, List, [], ◌∷◌, length, map, slice_index_or, slice_set, Some, None, Result, Ok, refl, sym, ap, subst, ◌∙◌, arith}
+use Rattle.std.specs.Prelude.{IfOk, slice_get, vec_capacity}
+use Rattle.std.specs.Vec.{with_item}
+use Rattle.st_runner.specs.View.{AreFrames, AreGlobals, AreHeld, AreReachable, IsLocal, IsReachable, IsRunning, IsSound, seen, state_of}
+use Rattle.st_runner.specs.declared.state.Activation.{Activation as Kept}
+use Rattle.st_runner.specs.declared.state.State.{State as Parts}
+use Rattle.memory_areas.specs.Access.{and_then}
+use Rattle.s7_base.specs.declared.outcome.Fault.{Fault}
+use Rattle.memory_areas.specs.declared.sizes.TheConstants.{ACTIVATIONS}
+use Rattle.st_tree.specs.State.{Activation, depth, formals_of, locals_of, there, with_local}
+use Rattle.st_tree.specs.declared.program.Located.{Located}
+use Rattle.st_tree.specs.declared.state.Reference.{Reference}
+use Rattle.st_tree.specs.declared.state.Reference.TheVariants as reference
+use Rattle.st_tree.specs.declared.state.Value.{Value}
+
+-- an activation after a local took a value
+abbrev pub changed : Kept → ℕ → Value → Kept
+changed a i v = record { locals = with_item a.locals i v; formals = a.formals }
+
+pub set_seen : (xs : List Kept) (d i : ℕ) (v : Value) (x : Kept) → d < length xs → map seen (slice_set xs d (changed (slice_index_or xs d x) i v)) ≡ with_local d i v (map seen xs)
+set_seen [] d i v x h = absurd (omega arith)
+set_seen (a ∷ xs) zero i v x h = refl
+set_seen (a ∷ xs) (suc d) i v x h = ap (λ (rest : List Activation). seen a ∷ rest) (set_seen xs d i v x (omega arith))
+
+pub set_frames : (l f : ℕ) (xs : List Kept) (d i : ℕ) (v : Value) (x : Kept) → d < length xs → AreFrames l f xs → AreFrames l f (slice_set xs d (changed (slice_index_or xs d x) i v))
+set_frames l f [] d i v x h k = absurd (omega arith)
+set_frames l f (a ∷ xs) zero i v x h k = (record { locals_room = k.0.locals_room; formals_room = k.0.formals_room; reachable = k.0.reachable }, k.1)
+set_frames l f (a ∷ xs) (suc d) i v x h k = (k.0, set_frames l f xs d i v x (omega arith) k.1)
+
+pub locals_there : (xs : List Kept) (d : ℕ) (x : Kept) → d < length xs → locals_of (slice_get (map seen xs) d) ≡ (slice_index_or xs d x).locals.items
+locals_there [] d x h = absurd (omega arith)
+locals_there (a ∷ xs) zero x h = refl
+locals_there (a ∷ xs) (suc d) x h = locals_there xs d x (omega arith)
+
+pub some_there : (vs : List Value) (i : ℕ) → i < length vs → (v : Value) × (slice_get vs i ≡ Some v)
+some_there [] i h = absurd (omega arith)
+some_there (v ∷ vs) zero h = (v, refl)
+some_there (v ∷ vs) (suc i) h = some_there vs i (omega arith)
+
+pub none_there : (vs : List Value) (i : ℕ) → length vs ≤ i → slice_get vs i ≡ None
+none_there [] i h = refl
+none_there (v ∷ vs) zero h = absurd (omega arith)
+none_there (v ∷ vs) (suc i) h = none_there vs i (omega arith)
+
+pub is_local : (vs : List Value) (i : ℕ) (v : Value) → there (slice_get vs i) ≡ Ok v → i < length vs
+is_local [] i v e = cc
+is_local (x ∷ vs) zero v e = omega arith
+is_local (x ∷ vs) (suc i) v e = let h : i < length vs = is_local vs i v e in omega arith
+
+pub frame_there : (xs : List Kept) (d i : ℕ) → IsLocal xs d i → d < length xs
+frame_there [] d i h = absurd (omega arith)
+frame_there (a ∷ xs) zero i h = omega arith
+frame_there (a ∷ xs) (suc d) i h = let k : d < length xs = frame_there xs d i h in omega arith
+
+-- the two changes that are made to activations keep what is kept
+pub sound_by : (l f : ℕ) (s t : Parts) → AreFrames l f t.activations.items → t.spare ≡ s.spare → length t.activations.items ≡ length s.activations.items → vec_capacity t.activations ≡ vec_capacity s.activations → IsSound l f s → IsSound l f t
+sound_by l f s t frames same len capacity k =
+    let spare : t.spare.items ≡ s.spare.items = ap (λ v. v.items) same in
+    let some : 0 < length s.activations.items = k.some in
+    let all : length s.activations.items + length s.spare.items ≡ ACTIVATIONS = k.all in
+    record {
+      running = frames;
+      spare = subst (λ (ys : List Kept). AreFrames l f ys) (sym spare) k.spare;
+      some = omega arith;
+      all = ap (λ n. n + length t.spare.items) len ∙ ap (λ (ys : List Kept). length s.activations.items + length ys) spare ∙ all;
+      room = subst (λ n. ACTIVATIONS ≤ n) (sym capacity) k.room;
+      spare_room = subst (λ n. ACTIVATIONS ≤ n) (ap (λ v. vec_capacity v) (sym same)) k.spare_room;
+    }
+
+held_frames : (l f : ℕ) (xs : List Kept) → AreFrames l f xs → AreHeld xs
+held_frames l f [] h = tt
+held_frames l f (a ∷ xs) h = (h.0.reachable, held_frames l f xs h.1)
+
+pub sound_running : (l f : ℕ) (s : Parts) → IsSound l f s → IsRunning s
+sound_running l f s h =
+    let all : length s.activations.items + length s.spare.items ≡ ACTIVATIONS = h.all in
+    record { some = h.some; few = omega arith; held = held_frames l f s.activations.items h.running }
+
+pub reachable_at : (rs : List Reference) (i : ℕ) → AreReachable rs → IfOk (there (slice_get rs i)) IsReachable
+reachable_at [] i h = tt
+reachable_at (r ∷ rs) zero h = h.0
+reachable_at (r ∷ rs) (suc i) h = reachable_at rs i h.1
+
+pub held_at : (xs : List Kept) (d : ℕ) → AreHeld xs → AreReachable (formals_of (slice_get (map seen xs) d))
+held_at [] d h = tt
+held_at (a ∷ xs) zero h = h.0
+held_at (a ∷ xs) (suc d) h = held_at xs d h.1
+
+pub formal_reach : (s : Parts) (i : ℕ) (r : Result Reference Fault) → IsRunning s → r ≡ there (slice_get (formals_of (slice_get (state_of s).activations (depth (state_of s)))) i) → IfOk r IsReachable
+formal_reach s i r h e =
+    subst (λ (q : Result Reference Fault). IfOk q IsReachable) (sym e)
+    (reachable_at (formals_of (slice_get (map seen s.activations.items) (depth (state_of s)))) i (held_at s.activations.items (depth (state_of s)) h.held))
+
+global_of : (gs : List Located) (i : ℕ) → AreGlobals gs → IfOk (and_then (there (slice_get gs i)) (λ (g : Located). Ok (reference.Place g.place g.ty))) IsReachable
+global_of [] i h = tt
+global_of (g ∷ gs) zero h = h.0
+global_of (g ∷ gs) (suc i) h = global_of gs i h.1
+
+pub global_reach : (gs : List Located) (i : ℕ) (r : Result Reference Fault) → AreGlobals gs → r ≡ and_then (there (slice_get gs i)) (λ (g : Located). Ok (reference.Place g.place g.ty)) → IfOk r IsReachable
+global_reach gs i r h e = subst (λ (q : Result Reference Fault). IfOk q IsReachable) (sym e) (global_of gs i h)

@@ -1,0 +1,115 @@
+-- Where a run begins.
+use Rattle.std.proofs.Common.{◌≡◌, ℕ, suc, ◌+◌, ◌*◌, ◌≤◌, Bool, true, false, if◌then◌else◌, Bor, List, [], ◌∷◌, length, map, Option, Some, None, sym, ap, subst, ◌∙◌, arith}
+use Rattle.std.specs.Prelude.{find, slice_get}
+use Rattle.memory_areas.specs.Areas.{Areas}
+use Rattle.memory_areas.specs.Memory.{IsActivation}
+use Rattle.memory_areas.specs.declared.data_block.DataBlock.{DataBlock}
+use Rattle.memory_areas.specs.declared.place.Area.{Area}
+use Rattle.memory_areas.specs.declared.place.Area.TheVariants as area
+use Rattle.memory_areas.specs.declared.place.Place.{Place}
+use Rattle.memory_areas.specs.declared.sizes.TheConstants.{ACTIVATIONS}
+use Rattle.s7_base.specs.declared.word.Width.{Width}
+use Rattle.st_runner.specs.Measures.{Costs, body_most, reach, units}
+use Rattle.st_runner.specs.Plain.{coming, pending}
+use Rattle.st_runner.specs.Ready.{IsReady, most_formals, most_locals}
+use Rattle.st_runner.specs.Runnable.{IsRunnable, chain_of, depth_costs, formals_of_unit, misfit_costs, stack_costs}
+use Rattle.st_runner.specs.Standing.{end_by}
+use Rattle.st_runner.specs.View.{AreReachable, IsSound}
+use Rattle.st_runner.specs.Waiting.{end_at}
+use Rattle.st_runner.specs.declared.frame.At.TheVariants as at
+use Rattle.st_runner.specs.declared.frame.Frame.{Frame}
+use Rattle.st_runner.specs.declared.frame.Frame.TheVariants as frame
+use Rattle.st_runner.specs.declared.state.State.{State as Parts}
+use Rattle.st_runner.specs.declared.steps.TheConstants.{UNIT_FRAMES}
+use Rattle.st_runner.proofs.Chains.{chain_covers, stack_covers}
+use Rattle.st_runner.proofs.Outward.{end_same}
+use Rattle.st_runner.proofs.Spending.{formals_at, locals_at}
+use Rattle.st_tree.specs.Calls.{calls_to}
+use Rattle.st_tree.specs.Meaning.{body_meaning}
+use Rattle.st_tree.specs.StRun.{FitFormals, FitsIfThere, FitsSt, FitsUnit, IsOutsidePlace, formals_given, is_meant, references, end_seen, run_of_unit, st_run, state_at_start, unit_called}
+use Rattle.st_tree.specs.State.{State}
+use Rattle.st_tree.specs.declared.program.Local.{Local}
+use Rattle.st_tree.specs.declared.program.Pou.{Pou}
+use Rattle.st_tree.specs.declared.program.StProgram.{StProgram}
+use Rattle.st_tree.specs.declared.program.Stmt.{Stmt}
+use Rattle.stl_tree.specs.declared.program.BlockName.{BlockName}
+use Rattle.stl_tree.specs.declared.program.BlockName.TheVariants as name
+use Rattle.stl_tree.specs.declared.program.Call.{Call}
+
+-- a unit that is found stands somewhere
+found_at : (p : Pou → Bool) (xs : List Pou) (x : Pou) → find p xs ≡ Some x → (n : ℕ) × (slice_get xs n ≡ Some x)
+found_at p [] x e = cc
+found_at p (y ∷ xs) x e = by (p y) e (found_at p xs x)
+  where
+    by : (b : Bool) → (if b then Some y else find p xs) ≡ Some x → (find p xs ≡ Some x → (n : ℕ) × (slice_get xs n ≡ Some x)) → (n : ℕ) × (slice_get (y ∷ xs) n ≡ Some x)
+    by true h more = (0, h)
+    by false h more = let k = more h in (suc k.0, k.1)
+
+pub called_at : (block : BlockName) (xs : List Pou) (x : Pou) → unit_called block xs ≡ Some x → (n : ℕ) × (slice_get xs n ≡ Some x)
+called_at block xs x e = found_at (is_meant block) xs x e
+
+pub called_locals : (block : BlockName) (xs : List Pou) (x : Pou) → unit_called block xs ≡ Some x → length x.locals ≤ most_locals xs
+called_locals block xs x e = let k = called_at block xs x e in locals_at xs k.0 x k.1
+
+pub called_formals : (block : BlockName) (xs : List Pou) (x : Pou) → unit_called block xs ≡ Some x → length x.formals ≤ most_formals xs
+called_formals block xs x e =
+    let k = called_at block xs x e in
+    subst (λ (o : Option Pou). formals_of_unit o ≤ most_formals xs) k.1 (formals_at xs k.0 x k.1)
+
+-- the places of actuals can be reached
+outside_reached : (a : Area) → IsOutsidePlace a → IsActivation a
+outside_reached area.I h = tt
+outside_reached area.Q h = tt
+outside_reached area.M h = tt
+outside_reached (area.Db n) h = tt
+outside_reached (area.Local d) h = absurd h
+outside_reached (area.Cell d) h = absurd h
+
+references_reached : (blocks : List DataBlock) (formals : List Local) (actuals : List (Place × Width)) → FitFormals blocks formals actuals → AreReachable (references formals actuals)
+references_reached blocks [] actuals h = tt
+references_reached blocks (f ∷ fs) [] h = tt
+references_reached blocks (f ∷ fs) (a ∷ xs) h = (outside_reached a.0.area h.0.outside, references_reached blocks fs xs h.1)
+
+pub given_reached : (blocks : List DataBlock) (unit : Pou) (block : BlockName) (instance : ℕ) (actuals : List (Place × Width)) → FitsUnit blocks unit block instance actuals → AreReachable (formals_given block unit.formals actuals)
+given_reached blocks unit (name.Ob n) instance actuals h = tt
+given_reached blocks unit (name.Fc n) instance actuals h = references_reached blocks unit.formals actuals h
+given_reached blocks unit (name.Fb n) instance actuals h = tt
+
+-- all is reserved that the first unit needs
+pub ready_at_start : (tree : StProgram) (runnable : IsRunnable tree) (call : Call) (unit : Pou) (b : Bor (List Stmt)) (s : Parts) (work : List Frame) → unit_called call.block tree.pous ≡ Some unit → b.now ≡ unit.body
+    → work ≡ frame.Rest b ∷ [] → IsSound (most_locals tree.pous) (most_formals tree.pous) s → length s.activations.items ≡ 1 → IsReady tree (ACTIVATIONS * UNIT_FRAMES) work at.Work s
+ready_at_start tree runnable call unit b s work called is e sound one =
+    let k = called_at call.block tree.pous unit called in
+    let unit_runs = runnable.units k.0 unit k.1 in
+    let reached : (c : Costs) → reach c work at.Work ≡ c.rest + body_most c unit.body = λ c.
+    let a : reach c work at.Work ≡ reach c (frame.Rest b ∷ []) at.Work = ap (λ (x : List Frame). reach c x at.Work) e in
+    let d : body_most c b.now ≡ body_most c unit.body = ap (body_most c) is in
+    omega arith in
+    let p : reach (stack_costs tree) work at.Work ≡ 1 + body_most (stack_costs tree) unit.body = reached (stack_costs tree) in
+    let q : reach (depth_costs tree) work at.Work ≡ 0 + body_most (depth_costs tree) unit.body = reached (depth_costs tree) in
+    let r : reach (misfit_costs tree) work at.Work ≡ 0 + body_most (misfit_costs tree) unit.body = reached (misfit_costs tree) in
+    let p1 : 1 + (1 + body_most (stack_costs tree) unit.body) ≤ UNIT_FRAMES * chain_of tree k.0 = stack_covers tree k.0 unit k.1 unit_runs in
+    let q1 : 1 + body_most (depth_costs tree) unit.body ≤ chain_of tree k.0 = chain_covers tree k.0 unit k.1 unit_runs.chain in
+    let c1 : chain_of tree k.0 ≤ ACTIVATIONS = unit_runs.chain in
+    let r1 : body_most (misfit_costs tree) unit.body ≡ 0 = unit_runs.actuals in
+    let u : units work ≡ 0 + 0 = ap units e in
+    record { sound = sound; count = omega arith; frames = omega arith; depth = omega arith; actuals = omega arith }
+
+-- it ends as the run of its call does
+pub ends_as_run : (tree : StProgram) (call : Call) (areas : Areas) (unit : Pou) (b : Bor (List Stmt)) (s : State) (work : List Frame) → unit_called call.block tree.pous ≡ Some unit → b.now ≡ unit.body → work ≡ frame.Rest b ∷ []
+    → s ≡ state_at_start unit call areas → (k : ℕ) → end_by tree.globals (calls_to k tree) (map pending work) (coming at.Work) k s ≡ st_run tree call areas k
+ends_as_run tree call areas unit b s work called is e start k =
+    sym (end_same tree.globals (calls_to k tree) work at.Work k s)
+    ∙ ap (λ (x : List Frame). end_at tree.globals (calls_to k tree) x at.Work k s) e
+    ∙ ap (λ (xs : List Stmt). end_seen (body_meaning tree.globals (calls_to k tree) xs k s)) is
+    ∙ ap (λ (x : State). end_seen (body_meaning tree.globals (calls_to k tree) unit.body k x)) start
+    ∙ sym (ap (λ (o : Option Pou). run_of_unit tree o call areas k) called)
+
+pub fits_there : (tree : StProgram) (call : Call) (unit : Pou) → unit_called call.block tree.pous ≡ Some unit → FitsUnit tree.dbs unit call.block call.instance call.actuals → FitsSt tree call
+fits_there tree call unit e h = subst (λ (o : Option Pou). FitsIfThere tree call o) (sym e) h
+
+pub fits_none : (tree : StProgram) (call : Call) → unit_called call.block tree.pous ≡ None → FitsSt tree call → ⊥
+fits_none tree call e h = subst (λ (o : Option Pou). FitsIfThere tree call o) e h
+
+pub fits_not : (tree : StProgram) (call : Call) (unit : Pou) → unit_called call.block tree.pous ≡ Some unit → (FitsUnit tree.dbs unit call.block call.instance call.actuals → ⊥) → FitsSt tree call → ⊥
+fits_not tree call unit e refuse h = refuse (subst (λ (o : Option Pou). FitsIfThere tree call o) e h)

@@ -1,0 +1,148 @@
+-- What needs no unit, frame by frame.
+use Rattle.std.proofs.Common.{◌≡◌, ℕ, ◌+◌, ◌<◌, ◌≤◌, max, Bor, List, [], ◌∷◌, ◌++◌, length, None, refl, sym, ap, subst, ◌∙◌, arith}
+use Rattle.memory_areas.specs.declared.sizes.TheConstants.{ACTIVATIONS}
+use Rattle.st_runner.specs.Measures.{Costs, body_most, body_weight, frame_tall, frame_weight, most, reach, sizes, tall, unit_costs, units, weight, work_weight}
+use Rattle.st_runner.specs.Ready.{Done, IfWork, IsReady, Stepped, most_formals, most_locals}
+use Rattle.st_runner.specs.Runnable.{depth_costs, misfit_costs, stack_costs}
+use Rattle.st_runner.specs.Waiting.{ending}
+use Rattle.st_runner.specs.View.{IsRunning, IsSound, MayLeave, SameShape, state_of}
+use Rattle.st_runner.specs.declared.frame.At.{At}
+use Rattle.st_runner.specs.declared.frame.At.TheVariants as at
+use Rattle.st_runner.specs.declared.frame.Frame.{Frame}
+use Rattle.st_runner.specs.declared.frame.Frame.TheVariants as frame
+use Rattle.st_runner.specs.declared.state.State.{State as Parts}
+use Rattle.st_runner.proofs.Frames.{sound_running}
+use Rattle.st_runner.proofs.Stack.{sizes_tall}
+use Rattle.st_runner.proofs.Tops.{on_top, top_sizes, top_tall, top_weight}
+use Rattle.st_tree.specs.Calls.{left}
+use Rattle.st_tree.specs.Meaning.{Normal, body_meaning, meaning}
+use Rattle.st_tree.specs.State.{State}
+use Rattle.st_tree.specs.declared.expr.Expr.{Expr}
+use Rattle.st_tree.specs.declared.program.StProgram.{StProgram}
+use Rattle.st_tree.specs.declared.program.Stmt.{Stmt}
+
+module _ (tree : StProgram) (ws : List Frame) (s : Parts) where
+  pub none_waits : ws ≡ [] → (vs : List Frame) → vs ≡ [] → Stepped tree ws vs (at.Over None) s s
+  none_waits e vs d =
+      record {
+        meaning = λ c u. sym (ap (λ (x : List Frame). ending tree.globals c x (Normal u (state_of s))) e);
+        reach = λ k. subst (λ (x : List Frame). reach k x (at.Over None) ≤ tall k ws) (sym d) (omega arith);
+        weight = tt;
+        sound = λ l f h. h;
+        count = λ h. subst (λ (x : List Frame). length s.activations.items ≡ 1 + units x) (e ∙ sym d) h;
+      }
+
+  pub body_ended : (fs : List Frame) (b : Bor (List Stmt)) → ws ≡ fs ++ frame.Rest b ∷ [] → b.now ≡ [] → Stepped tree ws fs at.Work s s
+  body_ended fs b e none =
+      record {
+        meaning = λ c u. sym (on_top tree.globals c fs ws (frame.Rest b) (Normal u (state_of s)) e ∙ ap (λ (xs : List Stmt). ending tree.globals c fs (body_meaning tree.globals c xs u (state_of s))) none);
+        reach = λ k. let t : tall k ws ≡ max (tall k fs) (sizes k fs + frame_tall k (frame.Rest b)) = top_tall k fs ws (frame.Rest b) e in let h : sizes k fs ≤ tall k fs = sizes_tall k fs in omega arith;
+        weight = let w : work_weight ws ≡ work_weight fs + frame_weight (frame.Rest b) = top_weight fs ws (frame.Rest b) e in omega arith;
+        sound = λ l f h. h;
+        count = λ h. let w : units ws ≡ units fs + 0 = top_sizes unit_costs fs ws (frame.Rest b) e in omega arith;
+      }
+
+  pub loop_again : (fs : List Frame) (t : Bor Expr) (b : Bor (List Stmt)) → ws ≡ fs ++ frame.Again t b ∷ [] → Stepped tree ws fs (at.Test t b) s s
+  loop_again fs t b e =
+      record {
+        meaning = λ c u. sym (on_top tree.globals c fs ws (frame.Again t b) (Normal u (state_of s)) e);
+        reach = λ k. let t : tall k ws ≡ max (tall k fs) (sizes k fs + frame_tall k (frame.Again t b)) = top_tall k fs ws (frame.Again t b) e in omega arith;
+        weight = tt;
+        sound = λ l f h. h;
+        count = λ h. let w : units ws ≡ units fs + 0 = top_sizes unit_costs fs ws (frame.Again t b) e in omega arith;
+      }
+
+  pub unit_ended : (fs : List Frame) (t : Parts) → ws ≡ fs ++ frame.Unit ∷ [] → state_of t ≡ left (state_of s) → ((l f : ℕ) → IsSound l f s → IsSound l f t) → length t.activations.items + 1 ≡ length s.activations.items
+      → Stepped tree ws fs at.Work s t
+  unit_ended fs t e d sound less =
+      record {
+        meaning = λ c u. ap (λ (x : State). ending tree.globals c fs (Normal u x)) d ∙ sym (on_top tree.globals c fs ws frame.Unit (Normal u (state_of s)) e);
+        reach = λ k. let t : tall k ws ≡ max (tall k fs) (sizes k fs + frame_tall k frame.Unit) = top_tall k fs ws frame.Unit e in let h : sizes k fs ≤ tall k fs = sizes_tall k fs in omega arith;
+        weight = let w : work_weight ws ≡ work_weight fs + 1 = top_weight fs ws frame.Unit e in omega arith;
+        sound = sound;
+        count = λ h. let w : units ws ≡ units fs + 1 = top_sizes unit_costs fs ws frame.Unit e in omega arith;
+      }
+
+  pub one_statement : (fs gs vs : List Frame) (b r : Bor (List Stmt)) (x : Stmt) (next : At) (t : Parts) → ws ≡ fs ++ frame.Rest b ∷ [] → b.now ≡ x ∷ r.now → gs ≡ fs ++ frame.Rest r ∷ []
+      → Done tree x gs vs next (state_of s) (state_of t) → ((l f : ℕ) → IsSound l f s → IsSound l f t) → SameShape s t → Stepped tree ws vs next s t
+  one_statement fs gs vs b r x next t e split g done sound same =
+      record {
+        meaning = λ c u.
+            done.meaning c u
+            ∙ on_top tree.globals c fs gs (frame.Rest r) (meaning tree.globals c x u (state_of s)) g
+            ∙ sym (on_top tree.globals c fs ws (frame.Rest b) (Normal u (state_of s)) e ∙ ap (λ (xs : List Stmt). ending tree.globals c fs (body_meaning tree.globals c xs u (state_of s))) split);
+        reach = λ k.
+            let a : tall k ws ≡ max (tall k fs) (sizes k fs + (k.rest + max (most k x) (body_most k r.now))) =
+            top_tall k fs ws (frame.Rest b) e ∙ ap (λ (xs : List Stmt). max (tall k fs) (sizes k fs + (k.rest + body_most k xs))) split in
+            let d : tall k gs ≡ max (tall k fs) (sizes k fs + (k.rest + body_most k r.now)) = top_tall k fs gs (frame.Rest r) g in
+            let q : sizes k gs ≡ sizes k fs + k.rest = top_sizes k fs gs (frame.Rest r) g in
+            let h : reach k vs next ≤ max (tall k gs) (sizes k gs + most k x) = done.reach k in
+            omega arith;
+        weight = weighs next done.weight;
+        sound = sound;
+        count = λ h.
+            let a : units ws ≡ units fs + 0 = top_sizes unit_costs fs ws (frame.Rest b) e in
+            let d : units gs ≡ units fs + 0 = top_sizes unit_costs fs gs (frame.Rest r) g in
+            let q : units vs ≡ units gs = done.units in
+            let same_length : length t.activations.items ≡ length s.activations.items = same in
+            omega arith;
+      }
+    where
+      weighs : (n : At) → IfWork n (work_weight vs + 1 ≤ work_weight gs + weight x) → IfWork n (work_weight vs + 1 ≤ work_weight ws)
+      weighs at.Work h =
+          let a : work_weight ws ≡ work_weight fs + (1 + (weight x + body_weight r.now)) = top_weight fs ws (frame.Rest b) e ∙ ap (λ (xs : List Stmt). work_weight fs + (1 + body_weight xs)) split in
+          let d : work_weight gs ≡ work_weight fs + (1 + body_weight r.now) = top_weight fs gs (frame.Rest r) g in
+          omega arith
+      weighs (at.Test p q) h = tt
+      weighs (at.Call n q) h = tt
+      weighs (at.Over f) h = tt
+
+-- each frame of a stack is one
+pub stack_length : (tree : StProgram) (fs : List Frame) → sizes (stack_costs tree) fs ≡ length fs
+stack_length tree [] = refl
+stack_length tree (frame.Rest b ∷ fs) = let h : sizes (stack_costs tree) fs ≡ length fs = stack_length tree fs in omega arith
+stack_length tree (frame.Again t b ∷ fs) = let h : sizes (stack_costs tree) fs ≡ length fs = stack_length tree fs in omega arith
+stack_length tree (frame.Unit ∷ fs) = let h : sizes (stack_costs tree) fs ≡ length fs = stack_length tree fs in omega arith
+
+-- a statement finds room for what it pushes
+pub statement_room : (tree : StProgram) (capacity : ℕ) (ws fs gs : List Frame) (b r : Bor (List Stmt)) (x : Stmt) (s : Parts) → IsReady tree capacity ws at.Work s → ws ≡ fs ++ frame.Rest b ∷ [] → b.now ≡ x ∷ r.now → gs ≡ fs ++ frame.Rest r ∷ []
+    → length gs + most (stack_costs tree) x ≤ capacity
+statement_room tree capacity ws fs gs b r x s ready e split g =
+    let k : Costs = stack_costs tree in
+    let a : tall k ws ≡ max (tall k fs) (sizes k fs + (1 + max (most k x) (body_most k r.now))) =
+    top_tall k fs ws (frame.Rest b) e ∙ ap (λ (xs : List Stmt). max (tall k fs) (sizes k fs + (1 + body_most k xs))) split in
+    let q : sizes k gs ≡ sizes k fs + 1 = top_sizes k fs gs (frame.Rest r) g in
+    let n : sizes k gs ≡ length gs = stack_length tree gs in
+    let h : reach k ws at.Work ≤ capacity = ready.frames in
+    omega arith
+
+pub may_leave : (tree : StProgram) (capacity : ℕ) (ws fs : List Frame) (s : Parts) → IsReady tree capacity ws at.Work s → ws ≡ fs ++ frame.Unit ∷ [] → MayLeave s
+may_leave tree capacity ws fs s ready e =
+    let w : units ws ≡ units fs + 1 = top_sizes unit_costs fs ws frame.Unit e in
+    let n : length s.activations.items ≡ 1 + units ws = ready.count in
+    let more : 1 < length s.activations.items = omega arith in
+    (most_locals tree.pous, most_formals tree.pous, ready.sound, more)
+
+pub ready_running : (tree : StProgram) (capacity : ℕ) (ws : List Frame) (next : At) (s : Parts) → IsReady tree capacity ws next s → IsRunning s
+ready_running tree capacity ws next s ready = sound_running (most_locals tree.pous) (most_formals tree.pous) s ready.sound
+
+-- what was ready is so after a step
+pub stepped_ready : (tree : StProgram) (capacity : ℕ) (ws vs : List Frame) (next : At) (s t : Parts) → Stepped tree ws vs next s t → IsReady tree capacity ws at.Work s → IsReady tree capacity vs next t
+stepped_ready tree capacity ws vs next s t h ready =
+    let a : reach (stack_costs tree) vs next ≤ tall (stack_costs tree) ws = h.reach (stack_costs tree) in
+    let b : reach (stack_costs tree) ws at.Work ≤ capacity = ready.frames in
+    let c : reach (depth_costs tree) vs next ≤ tall (depth_costs tree) ws = h.reach (depth_costs tree) in
+    let d : reach (depth_costs tree) ws at.Work < ACTIVATIONS = ready.depth in
+    let e : reach (misfit_costs tree) vs next ≤ tall (misfit_costs tree) ws = h.reach (misfit_costs tree) in
+    let f : reach (misfit_costs tree) ws at.Work ≡ 0 = ready.actuals in
+    record {
+      sound = h.sound (most_locals tree.pous) (most_formals tree.pous) ready.sound;
+      count = h.count ready.count;
+      frames = omega arith;
+      depth = omega arith;
+      actuals = omega arith;
+    }
+
+pub no_items : (xs : List Stmt) → length xs ≡ 0 → xs ≡ []
+no_items [] e = refl
+no_items (x ∷ xs) e = absurd (omega arith)

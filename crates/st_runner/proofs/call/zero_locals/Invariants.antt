@@ -1,0 +1,7 @@
+use Rattle.std.proofs.Common.{◌≡◌, map, take}
+use Rattle.std.specs.Prelude.{vec_capacity}
+use Rattle.st_tree.specs.Calls.{zero_of}
+use Rattle.st_runner.proofs.call.zero_locals.Given as goal
+
+abbrev pub invariant-loop-local : goal.invariant-loop-local
+invariant-loop-local l = (l.locals.items ≡ map zero_of (take l.local-index l.declared)) × (vec_capacity l.locals ≡ vec_capacity l.fn.locals)

@@ -1,0 +1,11 @@
+use Rattle.std.proofs.Common.{◌≡◌, length}
+use Rattle.std.specs.Prelude.{vec_capacity}
+use Rattle.st_runner.specs.Leaving.{Leaves}
+use Rattle.st_tree.specs.Meaning.{Continues}
+use Rattle.st_runner.proofs.leaving.continue_loop.Given as goal
+
+abbrev pub decreases-loop-frame : goal.decreases-loop-frame
+decreases-loop-frame l = length l.work.items
+
+abbrev pub invariant-loop-frame : goal.invariant-loop-frame
+invariant-loop-frame l = Leaves Continues Continues l.fn.work.items l.work.items × (vec_capacity l.work ≡ vec_capacity l.fn.work)

@@ -1,0 +1,24 @@
+use Rattle.std.proofs.Common.{[], ◌∷◌, ◌++◌, ap, sym, ◌∙◌}
+use Rattle.st_runner.specs.Measures.{size, unit_costs}
+use Rattle.st_runner.specs.Waiting.{framed}
+use Rattle.st_tree.specs.Meaning.{Normal, Returns}
+use Rattle.st_runner.proofs.Tops.{passed, stopped}
+use Rattle.st_runner.proofs.leaving.return_unit.Goals as goal
+
+pub loop-frame-preserved-in-Rest : goal.loop-frame-preserved-in-Rest
+loop-frame-preserved-in-Rest c = (
+  passed Returns _ c.loop-frame.work.items c.pop.new.self.items c.in-Some.frame (ap (size unit_costs) c.in-Rest.is) (λ g d u s. ap (λ f. framed g d f (Returns u s)) c.in-Rest.is) c.in-Some.ensures.items c.loop-frame.invariant.0,
+  c.in-Some.ensures.capacity ∙ c.loop-frame.invariant.1,
+)
+
+pub loop-frame-preserved : goal.loop-frame-preserved
+loop-frame-preserved c = (
+  passed Returns _ c.loop-frame.work.items c.pop.new.self.items c.in-Some.frame (ap (size unit_costs) c.in-Again.is) (λ g d u s. ap (λ f. framed g d f (Returns u s)) c.in-Again.is) c.in-Some.ensures.items c.loop-frame.invariant.0,
+  c.in-Some.ensures.capacity ∙ c.loop-frame.invariant.1,
+)
+
+pub returns-in-Unit-clause-leaves : goal.returns-in-Unit-clause-leaves
+returns-in-Unit-clause-leaves c =
+    stopped Returns c.args.work.now.items c.loop-frame.work.items c.pop.new.self.items c.push_reserved.new.self.items c.in-Some.frame
+    (λ g d u s. ap (λ f. framed g d f (Returns u s)) c.in-Unit.is ∙ ap (λ f. framed g d f (Normal u s)) (sym c.in-Unit.is))
+    c.in-Some.ensures.items (c.push_reserved.ensures.items ∙ ap (λ f. c.pop.new.self.items ++ f ∷ []) (sym c.in-Unit.is)) c.loop-frame.invariant.0

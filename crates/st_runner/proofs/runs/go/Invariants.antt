@@ -1,0 +1,17 @@
+use Rattle.std.proofs.Common.{◌≡◌, ℕ, ◌+◌}
+use Rattle.std.specs.Prelude.{vec_capacity}
+use Rattle.st_runner.specs.Ready.{IsReady, IsSettled}
+use Rattle.st_runner.specs.Waiting.{end_at}
+use Rattle.st_runner.specs.View.{state_of}
+use Rattle.st_tree.specs.Calls.{calls_to}
+use Rattle.st_runner.proofs.runs.go.Given as goal
+
+abbrev pub decreases-loop-units : goal.decreases-loop-units
+decreases-loop-units l = l.left
+
+abbrev pub invariant-loop-units : goal.invariant-loop-units
+invariant-loop-units l =
+    ((j : ℕ) → end_at l.tree.globals (calls_to (l.left + j) l.tree) l.work.items l.at (l.left + j) (state_of l.state)
+    ≡ end_at l.tree.globals (calls_to (l.units + j) l.tree) l.fn.work.items l.fn.at (l.units + j) (state_of l.fn.state))
+    × IsSettled l.at
+    × IsReady l.tree (vec_capacity l.work) l.work.items l.at l.state

@@ -1,0 +1,11 @@
+use Rattle.std.proofs.Common.{suc, sym, ap, ◌∙◌}
+use Rattle.st_runner.specs.Waiting.{end_at}
+use Rattle.st_runner.specs.View.{state_of}
+use Rattle.st_runner.specs.declared.frame.At.{At}
+use Rattle.st_tree.specs.Calls.{calls_to}
+use Rattle.st_runner.proofs.runs.spend.Goals as goal
+
+pub returns-in-Test-clause-meaning : goal.returns-in-Test-clause-meaning
+returns-in-Test-clause-meaning c = λ u.
+    let tree = c.args.tree.now in
+    c.spend_test.ensures.spent.meaning u ∙ ap (λ (a : At). end_at tree.globals (calls_to (suc u) tree) c.args.work.now.items a (suc u) (state_of c.args.state.now)) (sym c.in-Test.is)

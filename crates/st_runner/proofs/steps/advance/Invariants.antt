@@ -1,0 +1,26 @@
+use Rattle.std.proofs.Common.{◌≡◌, ℕ, suc}
+use Rattle.std.specs.Prelude.{vec_capacity}
+use Rattle.st_runner.specs.Measures.{work_weight}
+use Rattle.st_runner.specs.Ready.{IsReady}
+use Rattle.st_runner.specs.Waiting.{end_at}
+use Rattle.st_runner.specs.View.{state_of}
+use Rattle.st_runner.specs.declared.frame.At.{At}
+use Rattle.st_runner.specs.declared.frame.At.TheVariants as at
+use Rattle.st_tree.specs.Meaning.{Calls}
+use Rattle.st_runner.proofs.steps.advance.Given as goal
+
+-- how many steps follow at most
+abbrev pub left : At → ℕ → ℕ
+left at.Work n = suc n
+left (at.Test test body) n = 0
+left (at.Call k actuals) n = 0
+left (at.Over f) n = 0
+
+abbrev pub decreases-loop-at : goal.decreases-loop-at
+decreases-loop-at l = left l.at (work_weight l.work.items)
+
+abbrev pub invariant-loop-at : goal.invariant-loop-at
+invariant-loop-at l =
+    ((c : Calls) (u : ℕ) → end_at l.tree.globals c l.work.items l.at u (state_of l.state) ≡ end_at l.tree.globals c l.fn.work.items at.Work u (state_of l.fn.state))
+    × IsReady l.tree (vec_capacity l.work) l.work.items l.at l.state
+    × (vec_capacity l.work ≡ vec_capacity l.fn.work)

@@ -1,0 +1,48 @@
+use Rattle.std.proofs.Common.{◌≡◌, ◌+◌, ◌≤◌, true, false, List, length, Ok, Err, sym, ap, subst, ◌∙◌, arith}
+use Rattle.std.specs.Prelude.{vec_capacity}
+use Rattle.std.specs.Vec.{vec_len}
+use Rattle.memory_areas.specs.Access.{and_then}
+use Rattle.st_runner.specs.View.{state_of}
+use Rattle.st_runner.proofs.Spending.{test_false, test_fault, test_is_fault, test_room, test_true}
+use Rattle.st_runner.proofs.Stepping.{ready_running}
+use Rattle.st_tree.specs.Value.{value}
+use Rattle.st_tree.specs.Values.{is_set}
+use Rattle.st_tree.specs.declared.program.Located.{Located}
+use Rattle.st_runner.proofs.steps.spend_test.Goals as goal
+
+pub is_true-requires-clause-running : goal.is_true-requires-clause-running
+is_true-requires-clause-running c = ready_running c.args.tree.now _ _ _ c.args.state.now c.requires.ready
+
+pub push_reserved-requires : goal.push_reserved-requires
+push_reserved-requires c =
+    let w = c.args.work.now in
+    let room : length c.args.work.now.items + 2 ≤ vec_capacity c.args.work.now = test_room c.args.tree.now _ w.items c.args.state.now c.args.test c.args.body c.requires.ready in
+    let len : vec_len c.args.work.now ≡ length c.args.work.now.items = w.ok.0 in
+    omega arith
+
+pub push_reserved-requires-in-Ok-true : goal.push_reserved-requires-in-Ok-true
+push_reserved-requires-in-Ok-true c =
+    let w = c.args.work.now in
+    let room : length c.args.work.now.items + 2 ≤ vec_capacity c.args.work.now = test_room c.args.tree.now _ w.items c.args.state.now c.args.test c.args.body c.requires.ready in
+    let len : vec_len c.args.work.now ≡ length c.args.work.now.items = w.ok.0 in
+    let more : vec_len c.push_reserved.new.self ≡ vec_len c.args.work.now + 1 = c.push_reserved.ensures.len in
+    let same : vec_capacity c.push_reserved.new.self ≡ vec_capacity c.args.work.now = c.push_reserved.ensures.capacity in
+    omega arith
+
+pub returns-in-Ok-true-clause-spent : goal.returns-in-Ok-true-clause-spent
+returns-in-Ok-true-clause-spent c =
+    let s = state_of c.args.state.now in
+    test_true c.args.tree.now _ c.args.work.now.items c.args.state.now c.args.test c.args.body c.requires.ready c.push_reserved.new.self.items c.push_reserved-in-Ok-true.new.self.items c.push_reserved.ensures.items c.push_reserved-in-Ok-true.ensures.items
+    (subst (λ (g : List Located). and_then (value g c.args.test.now s) (λ v. Ok (is_set v)) ≡ Ok true) c.as_slice.ensures (sym c.is_true.ensures ∙ c.in-Ok-true.is ∙ ap (λ b. Ok b) c.in-Ok-true.field-0-test))
+
+pub returns-in-Ok-false-clause-spent : goal.returns-in-Ok-false-clause-spent
+returns-in-Ok-false-clause-spent c =
+    let s = state_of c.args.state.now in
+    test_false c.args.tree.now _ c.args.work.now.items c.args.state.now c.args.test c.args.body c.requires.ready
+    (subst (λ (g : List Located). and_then (value g c.args.test.now s) (λ v. Ok (is_set v)) ≡ Ok false) c.as_slice.ensures (sym c.is_true.ensures ∙ c.in-Ok-false.is ∙ ap (λ b. Ok b) c.in-Ok-false.field-0-test))
+
+pub returns-in-Err-clause-spent : goal.returns-in-Err-clause-spent
+returns-in-Err-clause-spent c =
+    let s = state_of c.args.state.now in
+    test_fault c.args.tree.now _ c.args.work.now.items c.args.state.now c.args.test c.args.body c.requires.ready c.in-Err.fault
+    (subst (λ (g : List Located). value g c.args.test.now s ≡ Err c.in-Err.fault) c.as_slice.ensures (test_is_fault (value c.as_slice.result.now c.args.test.now s) c.in-Err.fault (sym c.is_true.ensures ∙ c.in-Err.is)))

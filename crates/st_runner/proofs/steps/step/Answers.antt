@@ -1,0 +1,43 @@
+use Rattle.std.proofs.Common.{◌+◌, ◌≤◌, [], ◌∷◌, ◌++◌, length, sym, ap, subst, ◌∙◌}
+use Rattle.st_runner.specs.Measures.{most}
+use Rattle.st_runner.specs.Runnable.{stack_costs}
+use Rattle.st_runner.proofs.Stepping.{body_ended, loop_again, may_leave, no_items, one_statement, ready_running, statement_room, unit_ended}
+use Rattle.st_runner.proofs.steps.step.Goals as goal
+
+pub returns-in_default-clause-stepped : goal.returns-in_default-clause-stepped
+returns-in_default-clause-stepped c =
+    let fs = c.pop.new.self.items in
+    body_ended c.args.tree.now c.args.work.now.items c.args.state.now fs c.in-Some-Rest.body (c.in-Some-Rest.ensures.items ∙ ap (λ f. fs ++ f ∷ []) c.in-Some-Rest.field-0-is)
+    (no_items c.in-Some-Rest.body.now c.in_default.ensures.cases)
+
+pub statement-requires-clause-running : goal.statement-requires-clause-running
+statement-requires-clause-running c = ready_running c.args.tree.now _ _ _ c.args.state.now c.requires.ready
+
+pub statement-requires-clause-room : goal.statement-requires-clause-room
+statement-requires-clause-room c =
+    let fs = c.pop.new.self.items in
+    let gs = c.push_reserved.new.self.items in
+    subst (λ n. length gs + most (stack_costs c.args.tree.now) c.in-Some.stmt.now ≤ n) (sym (c.push_reserved.ensures.capacity ∙ c.in-Some-Rest.ensures.capacity))
+    (statement_room c.args.tree.now _ c.args.work.now.items fs gs c.in-Some-Rest.body c.in-Some.rest c.in-Some.stmt.now c.args.state.now c.requires.ready
+    (c.in-Some-Rest.ensures.items ∙ ap (λ f. fs ++ f ∷ []) c.in-Some-Rest.field-0-is) c.in-Some.ensures.cases.0 c.push_reserved.ensures.items)
+
+pub leave-requires : goal.leave-requires
+leave-requires c =
+    let fs = c.pop.new.self.items in
+    may_leave c.args.tree.now _ c.args.work.now.items fs c.args.state.now c.requires.ready (c.in-Some-Unit.ensures.items ∙ ap (λ f. fs ++ f ∷ []) c.in-Some-Unit.field-0-is)
+
+pub returns-in-Some-clause-stepped : goal.returns-in-Some-clause-stepped
+returns-in-Some-clause-stepped c =
+    let fs = c.pop.new.self.items in
+    one_statement c.args.tree.now c.args.work.now.items c.args.state.now fs c.push_reserved.new.self.items c.statement.new.work.items c.in-Some-Rest.body c.in-Some.rest c.in-Some.stmt.now c.statement.result c.statement.new.state
+    (c.in-Some-Rest.ensures.items ∙ ap (λ f. fs ++ f ∷ []) c.in-Some-Rest.field-0-is) c.in-Some.ensures.cases.0 c.push_reserved.ensures.items c.statement.ensures.done c.statement.ensures.sound c.statement.ensures.same
+
+pub returns-in-Some-Again-clause-stepped : goal.returns-in-Some-Again-clause-stepped
+returns-in-Some-Again-clause-stepped c =
+    let fs = c.pop.new.self.items in
+    loop_again c.args.tree.now c.args.work.now.items c.args.state.now fs c.in-Some-Again.test c.in-Some-Again.body (c.in-Some-Again.ensures.items ∙ ap (λ f. fs ++ f ∷ []) c.in-Some-Again.field-0-is)
+
+pub returns-in-Some-Unit-clause-stepped : goal.returns-in-Some-Unit-clause-stepped
+returns-in-Some-Unit-clause-stepped c =
+    let fs = c.pop.new.self.items in
+    unit_ended c.args.tree.now c.args.work.now.items c.args.state.now fs c.leave.new.self (c.in-Some-Unit.ensures.items ∙ ap (λ f. fs ++ f ∷ []) c.in-Some-Unit.field-0-is) c.leave.ensures.change c.leave.ensures.sound c.leave.ensures.less

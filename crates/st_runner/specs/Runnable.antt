@@ -1,0 +1,70 @@
+-- What a tree keeps that can be run: what a proper tree has of it is that its chains of calls and its
+-- statements nest no deeper than they may, that calls give as many actuals as there are formals, and that
+-- its globals stand for places of the process images and of the bit memory.
+use Rattle.std.specs.Prelude.{◌≡◌, ℕ, zero, suc, ◌*◌, ◌≤◌, ◌==◌, if◌then◌else◌, List, length, Option, Some, None, slice_get}
+use Rattle.memory_areas.specs.declared.sizes.TheConstants.{ACTIVATIONS}
+use Rattle.st_runner.specs.Measures.{Costs, body_most}
+use Rattle.st_runner.specs.View.{AreGlobals}
+use Rattle.st_runner.specs.declared.steps.TheConstants.{MOST_NESTING, UNIT_FRAMES}
+use Rattle.st_tree.specs.declared.expr.Var.{Var}
+use Rattle.st_tree.specs.declared.program.Pou.{Pou}
+use Rattle.st_tree.specs.declared.program.StProgram.{StProgram}
+
+-- Chains of calls
+
+-- a unit costs one, and each call what its unit's chain has
+abbrev pub chain_costs : (ℕ → ℕ) → Costs
+chain_costs chain = record { rest = 0; again = 0; unit = 1; call = λ n actuals. chain n }
+
+-- how many units the longest chain of calls has that begins at a unit, counted up to a number; a unit that
+-- is not there counts as one whose chain never ends
+abbrev pub unit_chain : (ℕ → ℕ) → ℕ → Option Pou → ℕ
+unit_chain chain most None = suc most
+unit_chain chain most (Some unit) = suc (body_most (chain_costs chain) unit.body)
+
+abbrev pub chain_to : ℕ → StProgram → ℕ → ℕ
+chain_to zero tree n = 0
+chain_to (suc most) tree n = unit_chain (chain_to most tree) most (slice_get tree.pous n)
+
+-- the longest chain from a unit, where 9 stands for all that are longer than 8
+abbrev pub chain_of : StProgram → ℕ → ℕ
+chain_of tree n = chain_to (suc ACTIVATIONS) tree n
+
+abbrev pub depth_costs : StProgram → Costs
+depth_costs tree = chain_costs (chain_of tree)
+
+-- Nesting
+
+-- how deep IF, CASE and WHILE nest
+abbrev pub nesting_costs : Costs
+nesting_costs = record { rest = 1; again = 0; unit = 0; call = λ n actuals. 0 }
+
+-- how many frames wait at most
+abbrev pub stack_costs : StProgram → Costs
+stack_costs tree = record { rest = 1; again = 1; unit = 1; call = λ n actuals. UNIT_FRAMES * chain_of tree n }
+
+-- Actuals
+
+-- how many formals a unit has
+abbrev pub formals_of_unit : Option Pou → ℕ
+formals_of_unit None = 0
+formals_of_unit (Some unit) = length unit.formals
+
+-- whether a call has another number of actuals than its unit has formals
+abbrev pub misfit : StProgram → ℕ → List Var → ℕ
+misfit tree n actuals = if length actuals == formals_of_unit (slice_get tree.pous n) then 0 else 1
+
+abbrev pub misfit_costs : StProgram → Costs
+misfit_costs tree = record { rest = 0; again = 0; unit = 0; call = misfit tree }
+
+-- The tree
+
+-- what a unit of a tree keeps
+pub record IsRunnableUnit (tree : StProgram) (n : ℕ) (unit : Pou) : Type 0 where
+  pub chain : chain_of tree n ≤ ACTIVATIONS
+  pub nesting : body_most nesting_costs unit.body ≤ MOST_NESTING
+  pub actuals : body_most (misfit_costs tree) unit.body ≡ 0
+
+pub record IsRunnable (tree : StProgram) : Type 0 where
+  pub units : (n : ℕ) (unit : Pou) → slice_get tree.pous n ≡ Some unit → IsRunnableUnit tree n unit
+  pub globals : AreGlobals tree.globals

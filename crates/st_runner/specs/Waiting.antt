@@ -1,0 +1,44 @@
+-- What waits and what comes next in the runner, and how a run ends from there.
+use Rattle.std.specs.Prelude.{ℕ, List, [], ◌∷◌}
+use Rattle.memory_areas.specs.End.{End, Ended}
+use Rattle.s7_base.specs.declared.outcome.Outcome.{Outcome}
+use Rattle.s7_base.specs.declared.outcome.Outcome.TheVariants as outcome
+use Rattle.st_runner.specs.declared.frame.At.{At}
+use Rattle.st_runner.specs.declared.frame.At.TheVariants as at
+use Rattle.st_runner.specs.declared.frame.Frame.{Frame}
+use Rattle.st_runner.specs.declared.frame.Frame.TheVariants as frame
+use Rattle.st_tree.specs.Calls.{after_unit}
+use Rattle.st_tree.specs.Meaning.{Out, Normal, Calls, after_body, body_meaning, invoked, loop, then_do}
+use Rattle.st_tree.specs.StRun.{end_seen}
+use Rattle.st_tree.specs.State.{State}
+use Rattle.st_tree.specs.Value.{value}
+use Rattle.st_tree.specs.declared.program.Located.{Located}
+
+-- what follows where the statements above a frame ended so
+abbrev pub framed : List Located → Calls → Frame → Out → Out
+framed globals calls (frame.Rest body) o = then_do o (body_meaning globals calls body.now)
+framed globals calls (frame.Again test body) o = after_body o (loop (value globals test.now) (body_meaning globals calls body.now))
+framed globals calls frame.Unit o = after_unit o
+
+-- what follows in all frames, of which the last is done first
+abbrev pub unwound : List Located → Calls → List Frame → Out → Out
+unwound globals calls [] o = o
+unwound globals calls (f ∷ rest) o = framed globals calls f (unwound globals calls rest o)
+
+-- what is seen in the end where statements ended so, and these frames wait
+abbrev pub ending : List Located → Calls → List Frame → Out → End
+ending globals calls work o = end_seen (unwound globals calls work o)
+
+-- how a run ends with some units that stands here: frames wait, this comes next, in this state
+abbrev pub end_at : List Located → Calls → List Frame → At → ℕ → State → End
+end_at globals calls work at.Work units s = ending globals calls work (Normal units s)
+end_at globals calls work (at.Test test body) units s = ending globals calls work (loop (value globals test.now) (body_meaning globals calls body.now) units s)
+end_at globals calls work (at.Call n actuals) units s = ending globals calls work (invoked globals calls n actuals.now units s)
+end_at globals calls work (at.Over f) units s = Ended s.memory.areas f
+
+-- the outcome of a run for which this comes next
+abbrev pub outcome_of : At → Outcome
+outcome_of at.Work = outcome.Going
+outcome_of (at.Test test body) = outcome.Going
+outcome_of (at.Call n actuals) = outcome.Going
+outcome_of (at.Over f) = outcome.Ended f

@@ -1,0 +1,134 @@
+//! Calls from outside: the unit that one means, whether it fits, and what it gives the unit.
+ghost use Rattle.std.specs.Prelude.{◌≡◌, ◌++◌, [], codes, decimal, length, vec_capacity, ◌≤◌, IfOk, MatchOption, None, OnOk, Some, List, ℕ};
+ghost use Rattle.std.specs.Str.{str_eq_ignore_ascii_case};
+ghost use Rattle.memory_areas.specs.Access.{aimed, fault_of};
+ghost use Rattle.memory_areas.specs.Areas.{IsMemoryOf, block_of};
+ghost use Rattle.memory_areas.specs.Memory.{IsActivation};
+ghost use Rattle.memory_areas.specs.declared.data_block.DataBlock.{DataBlock};
+ghost use Rattle.st_runner.specs.Fitting.{Decides};
+ghost use Rattle.st_runner.specs.View.{AreReachable};
+ghost use Rattle.st_tree.specs.StRun.{FitFormals, FitsFormal, FitsUnit, IsOutsidePlace, called_name, formals_given, is_meant, references, unit_called};
+
+use crate::call::width_at;
+use memory_areas::{Area, Memory, Place};
+use s7_base::{NoMemory, Width};
+use st_tree::{Local, Pou, Reference};
+use std::alloc::Global;
+use stl_tree::{BlockName, Call};
+
+fn put(out: &mut Vec<u8>, text: &str) -> Result<(), NoMemory>
+    ensures { OnOk result (out.new.items ≡ out.old.items ++ text.now) }
+{
+    out.extend_from_slice(text.as_bytes())?;
+    Ok(())
+}
+
+fn named(alloc: Global, kind: &str, number: u16) -> Result<Vec<u8>, NoMemory>
+    ensures { IfOk result (λ name. name.items ≡ kind.now ++ decimal number) }
+{
+    let mut name = Vec::new(alloc);
+    put(&mut name, kind)?;
+    let digits = number.to_string(alloc)?;
+    put(&mut name, digits.as_str())?;
+    Ok(name)
+}
+
+/// The name of the unit that a call means.
+pub fn called_name(alloc: Global, block: BlockName) -> Result<Vec<u8>, NoMemory>
+    ensures { IfOk result (λ name. name.items ≡ called_name block) }
+{
+    match block {
+        BlockName::Ob(number) => named(alloc, "OB", number),
+        BlockName::Fc(number) => named(alloc, "FC", number),
+        BlockName::Fb(number) => named(alloc, "FB", number),
+    }
+}
+
+/// A unit is the one that a call means.
+fn is_meant(block: BlockName, name: &[u8], unit: &Pou) -> bool
+    requires { name.now ≡ called_name block }
+    ensures { result ≡ is_meant block unit.now }
+{
+    unit.name.as_slice().eq_ignore_ascii_case(name)
+        && matches!(block, BlockName::Ob(_)) == unit.program
+}
+
+/// The unit that a call means.
+pub fn unit_called<'t>(block: BlockName, name: &[u8], units: &'t [Pou]) -> Option<&'t Pou>
+    requires { name.now ≡ called_name block }
+    ensures { MatchOption result (unit_called block units.now ≡ None) (λ unit. unit_called block units.now ≡ Some unit.now) }
+{
+    let mut rest = units;
+    while let Some((unit, behind)) = rest.split_first() {
+        if is_meant(block, name, unit) {
+            return Some(unit);
+        }
+        rest = behind;
+    }
+    None
+}
+
+/// An area that a call from outside may give places of.
+fn is_outside(area: Area) -> bool
+    ensures { Decides result (IsOutsidePlace area) }
+{
+    match area {
+        Area::I => true,
+        Area::Q => true,
+        Area::M => true,
+        Area::Db(_) => true,
+        Area::Local(_) => false,
+        Area::Cell(_) => false,
+    }
+}
+
+/// A place of an area outside is there in a memory.
+fn is_there(memory: &Memory, place: Place, width: Width) -> bool
+    requires { IsOutsidePlace place.area }
+    ensures { Decides result (fault_of (aimed place) width memory.now ≡ None) }
+{
+    memory.find(place, width).is_ok()
+}
+
+/// An actual fits a formal.
+fn fits_formal(memory: &Memory, formal: &Local, place: Place, width: Width) -> bool
+    ensures { (blocks : List DataBlock) → IsMemoryOf blocks memory.now.areas → Decides result (FitsFormal blocks formal.now (place, width)) }
+{
+    if width != width_at(formal.ty) {
+        return false;
+    }
+    if !is_outside(place.area) {
+        return false;
+    }
+    is_there(memory, place, width)
+}
+
+/// The actuals fit the formals.
+fn fit_formals(memory: &Memory, formals: &[Local], actuals: &[(Place, Width)]) -> bool
+    ensures { (blocks : List DataBlock) → IsMemoryOf blocks memory.now.areas → Decides result (FitFormals blocks formals.now actuals.now) }
+{
+    let mut formals_left = formals;
+    let mut actuals_left = actuals;
+    while let Some((formal, formals_behind)) = formals_left.split_first() {
+        let Some((actual, actuals_behind)) = actuals_left.split_first() else {
+            return false;
+        };
+        if !fits_formal(memory, formal, actual.0, actual.1) {
+            return false;
+        }
+        formals_left = formals_behind;
+        actuals_left = actuals_behind;
+    }
+    actuals_left.is_empty()
+}
+
+/// A call fits the unit that it means.
+pub fn fits_unit(memory: &Memory, unit: &Pou, call: &Call) -> bool
+    ensures { (blocks : List DataBlock) → IsMemoryOf blocks memory.now.areas → Decides result (FitsUnit blocks unit.now call.now.block call.now.instance call.now.actuals) }
+{
+    match call.block {
+        BlockName::Ob(_) => true,
+        BlockName::Fc(_) => fit_formals(memory, unit.formals.as_slice(), call.actuals.as_slice()),
+        BlockName::Fb(_) => unit.formals.len() == 0 && memory.has_block(call.instance),
+    }
+}

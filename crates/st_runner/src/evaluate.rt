@@ -1,0 +1,141 @@
+//! Expressions, assignments and choices.
+ghost use Rattle.std.specs.Prelude.{◌≡◌, Ok, Err, MatchResult, ℕ};
+ghost use Rattle.memory_areas.specs.Access.{and_then};
+ghost use Rattle.st_runner.specs.Choice.{has_label, labelled, picked};
+ghost use Rattle.st_runner.specs.View.{AreGlobals, Changes, IsRunning, IsSound, SameShape, state_of};
+ghost use Rattle.st_tree.specs.Meaning.{area_assigned, assigned};
+ghost use Rattle.st_tree.specs.Value.{value};
+ghost use Rattle.st_tree.specs.Values.{is_set};
+
+use crate::operators::{binary, chosen, converted, is_set, shift, unary};
+use crate::state::State;
+use s7_base::{Fault, Width};
+use st_tree::{Arm, CaseArm, Expr, Located, Stmt, Value, Var};
+
+impl State {
+    /// The value of an expression.
+    pub fn value(&self, globals: &[Located], e: &Expr) -> Result<Value, Fault>
+        requires running { IsRunning self.now }
+        requires globals { AreGlobals globals.now }
+        ensures { result ≡ value globals.now e.now (state_of self.now) }
+    {
+        match e {
+            Expr::Literal(ty, n) => Ok(Value { ty: *ty, n: *n }),
+            Expr::Read(var) => self.read(globals, *var),
+            Expr::Unary(op, operand) => {
+                let v = self.value(globals, operand.get())?;
+                unary(*op, v)
+            }
+            Expr::Binary(op, left, right) => {
+                let v = self.value(globals, left.get())?;
+                let w = self.value(globals, right.get())?;
+                binary(*op, v, w)
+            }
+            Expr::Convert(_, to, operand) => {
+                let v = self.value(globals, operand.get())?;
+                Ok(converted(*to, v))
+            }
+            Expr::Select(gate, first, second) => {
+                let gate = self.value(globals, gate.get())?;
+                let v = self.value(globals, first.get())?;
+                let w = self.value(globals, second.get())?;
+                Ok(chosen(gate, v, w))
+            }
+            Expr::Shift(op, operand, count) => {
+                let v = self.value(globals, operand.get())?;
+                let count = self.value(globals, count.get())?;
+                Ok(shift(*op, v, count))
+            }
+            Expr::AreaRead(width, pointer) => {
+                let pointer = self.value(globals, pointer.get())?;
+                self.area_read(*width, pointer)
+            }
+        }
+    }
+
+    /// A test is TRUE.
+    pub fn is_true(&self, globals: &[Located], test: &Expr) -> Result<bool, Fault>
+        requires running { IsRunning self.now }
+        requires globals { AreGlobals globals.now }
+        ensures { result ≡ and_then (value globals.now test.now (state_of self.now)) (λ v. Ok (is_set v)) }
+    {
+        let v = self.value(globals, test)?;
+        Ok(is_set(v))
+    }
+
+    /// Assigns the value of an expression to a variable. A fault changes nothing.
+    pub fn assign(&mut self, globals: &[Located], var: Var, e: &Expr) -> Result<(), Fault>
+        requires running { IsRunning self.old }
+        requires globals { AreGlobals globals.now }
+        ensures change { Changes (assigned globals.now var e.now (state_of self.old)) result (state_of self.old) (state_of self.new) }
+        ensures sound { (l f : ℕ) → IsSound l f self.old → IsSound l f self.new }
+        ensures same { SameShape self.old self.new }
+    {
+        let v = self.value(globals, e)?;
+        self.write(globals, var, v)
+    }
+
+    /// Writes the value of an expression through a pointer. A fault changes nothing.
+    pub fn area_assign(
+        &mut self,
+        globals: &[Located],
+        width: Width,
+        pointer: &Expr,
+        e: &Expr,
+    ) -> Result<(), Fault>
+        requires running { IsRunning self.old }
+        requires globals { AreGlobals globals.now }
+        ensures change { Changes (area_assigned globals.now width pointer.now e.now (state_of self.old)) result (state_of self.old) (state_of self.new) }
+        ensures sound { (l f : ℕ) → IsSound l f self.old → IsSound l f self.new }
+        ensures same { SameShape self.old self.new }
+    {
+        let p = self.value(globals, pointer)?;
+        let v = self.value(globals, e)?;
+        self.area_write(width, p, v)
+    }
+
+    /// The statements that an IF chooses.
+    pub fn picked<'t>(
+        &self,
+        globals: &[Located],
+        arms: &'t [Arm],
+        other: &'t [Stmt],
+    ) -> Result<&'t [Stmt], Fault>
+        requires running { IsRunning self.now }
+        requires globals { AreGlobals globals.now }
+        ensures { MatchResult result
+            (λ body. picked globals.now arms.now other.now (state_of self.now) ≡ Ok body.now)
+            (λ fault. picked globals.now arms.now other.now (state_of self.now) ≡ Err fault) }
+    {
+        let mut rest = arms;
+        while let Some((arm, behind)) = rest.split_first() {
+            if self.is_true(globals, &arm.test)? {
+                return Ok(arm.body.as_slice());
+            }
+            rest = behind;
+        }
+        Ok(other)
+    }
+}
+
+/// An arm of a CASE has a value.
+#[tactic(auto, unfolding(crate::specs::Choice::has_label))]
+fn has_label(labels: &[i64], v: Value) -> bool
+    ensures { result ≡ has_label labels.now v.n }
+{
+    labels.iter().any(|label| *label == v.n)
+}
+
+/// The statements that a CASE chooses.
+pub fn labelled<'t>(v: Value, arms: &'t [CaseArm], other: &'t [Stmt]) -> &'t [Stmt]
+    ensures { result.now ≡ labelled v.n arms.now other.now }
+{
+    let mut rest = arms;
+    while let Some((arm, behind)) = rest.split_first() {
+        if has_label(arm.labels.as_slice(), v) {
+            return arm.body.as_slice();
+        }
+        rest = behind;
+    }
+    other
+}

@@ -1,0 +1,178 @@
+//! What variables and pointers stand for, and what they read and write.
+ghost use Rattle.std.specs.Prelude.{◌≡◌, ◌<◌, length, slice_get, IfOk, Ok, ℕ};
+ghost use Rattle.memory_areas.specs.Access.{and_then, area_named};
+ghost use Rattle.memory_areas.specs.Memory.{IsActivation};
+ghost use Rattle.memory_areas.specs.declared.sizes.TheConstants.{ACTIVATIONS};
+ghost use Rattle.st_runner.specs.View.{AreGlobals, Changes, IsReachable, IsRunning, IsSound, SameShape, state_of};
+ghost use Rattle.st_tree.specs.State.{area_read, area_write, db_number, depth, di_number, formals_of, place_of, pointed_at, read, reference_of, there, write};
+ghost use Rattle.st_tree.specs.declared.program.Located.{Located as GlobalPlace};
+ghost use Rattle.st_tree.specs.declared.state.Reference.TheVariants.{Place as PlaceReference};
+ghost use Rattle.st_tree.specs.Values.{type_of_width, width_at};
+
+use crate::operators::{low_dword, low_word};
+use crate::state::State;
+use address_registers::{Pointer, resolve};
+use memory_areas::{Area, AreaName, Place};
+use s7_base::{Fault, Reg, Width};
+use st_tree::{Located, Reference, StType, Value, Var};
+
+/// The bit type of a width.
+fn type_of_width(width: Width) -> StType
+    ensures { result ≡ type_of_width width }
+{
+    match width {
+        Width::Bit => StType::Bool,
+        Width::Byte => StType::Byte,
+        Width::Word => StType::Word,
+        Width::Dword => StType::Dword,
+    }
+}
+
+fn area_named(name: AreaName, db: u16, di: u16, depth: u8) -> Area
+    requires { depth < ACTIVATIONS }
+    ensures area { result ≡ area_named name db di depth }
+    ensures activation { IsActivation result }
+{
+    match name {
+        AreaName::I => Area::I,
+        AreaName::Q => Area::Q,
+        AreaName::M => Area::M,
+        AreaName::L => Area::Local(depth),
+        AreaName::Db => Area::Db(db),
+        AreaName::Di => Area::Db(di),
+    }
+}
+
+impl State {
+    /// The number of the running activation.
+    pub fn depth(&self) -> u8
+        requires { IsRunning self.now }
+        ensures value { result ≡ depth (state_of self.now) }
+        ensures few { result < ACTIVATIONS }
+    {
+        (self.activations.len() - 1) as u8
+    }
+
+    fn db_number(&self) -> u16
+        ensures { result ≡ db_number (state_of self.now) }
+    {
+        low_word(self.registers.get(Reg::DbNo))
+    }
+
+    fn di_number(&self) -> u16
+        ensures { result ≡ di_number (state_of self.now) }
+    {
+        low_word(self.registers.get(Reg::DiNo))
+    }
+
+    /// The place that a direct variable names.
+    fn place_of(&self, name: AreaName, byte: u32, bit: u8) -> Place
+        requires { IsRunning self.now }
+        ensures place { result ≡ place_of name byte bit (state_of self.now) }
+        ensures activation { IsActivation result.area }
+    {
+        Place {
+            area: area_named(name, self.db_number(), self.di_number(), self.depth()),
+            byte,
+            bit,
+        }
+    }
+
+    /// What a formal of the running unit stands for.
+    fn formal(&self, i: u32) -> Result<Reference, Fault>
+        requires { IsRunning self.now }
+        ensures { result ≡ there (slice_get (formals_of (slice_get (state_of self.now).activations (depth (state_of self.now)))) i) }
+    {
+        let running = &self.activations[self.activations.len() - 1];
+        match running.formals.get(i as usize) {
+            Some(reference) => Ok(*reference),
+            None => Err(Fault::AreaLength),
+        }
+    }
+
+    /// What a variable of the running unit stands for.
+    #[tactic(auto, using(crate::proofs::Frames::formal_reach, crate::proofs::Frames::global_reach))]
+    pub fn reference_of(&self, globals: &[Located], var: Var) -> Result<Reference, Fault>
+        requires running { IsRunning self.now }
+        requires globals { AreGlobals globals.now }
+        ensures value { result ≡ reference_of globals.now var (state_of self.now) }
+        ensures reachable { IfOk result IsReachable }
+    {
+        match var {
+            Var::Register(r) => Ok(Reference::Register(r)),
+            Var::Local(i) => Ok(Reference::Local(self.depth(), i)),
+            Var::Formal(i) => self.formal(i),
+            Var::Global(i) => global(globals, i),
+            Var::Direct(name, byte, bit, width) => {
+                let place = self.place_of(name, byte, bit);
+                Ok(Reference::Place(place, type_of_width(width)))
+            }
+            Var::InBlock(number, byte, bit, width) => {
+                let area = Area::Db(number);
+                Ok(Reference::Place(Place { area, byte, bit }, type_of_width(width)))
+            }
+        }
+    }
+
+    /// The place that a pointer names.
+    fn pointed_at(&self, p: Value) -> Result<Place, Fault>
+        requires { IsRunning self.now }
+        ensures place { result ≡ pointed_at p (state_of self.now) }
+        ensures activation { IfOk result (λ place. IsActivation place.area) }
+    {
+        let pointer = Pointer(low_dword(p.n));
+        resolve(pointer, self.db_number(), self.di_number(), self.depth())
+    }
+
+    /// The value of a variable.
+    pub fn read(&self, globals: &[Located], var: Var) -> Result<Value, Fault>
+        requires running { IsRunning self.now }
+        requires globals { AreGlobals globals.now }
+        ensures { result ≡ read globals.now var (state_of self.now) }
+    {
+        let reference = self.reference_of(globals, var)?;
+        self.read_at(reference)
+    }
+
+    /// Gives a variable a value. A fault changes nothing.
+    pub fn write(&mut self, globals: &[Located], var: Var, v: Value) -> Result<(), Fault>
+        requires running { IsRunning self.old }
+        requires globals { AreGlobals globals.now }
+        ensures change { Changes (write globals.now var v (state_of self.old)) result (state_of self.old) (state_of self.new) }
+        ensures sound { (l f : ℕ) → IsSound l f self.old → IsSound l f self.new }
+        ensures same { SameShape self.old self.new }
+    {
+        let reference = self.reference_of(globals, var)?;
+        self.write_at(reference, v)
+    }
+
+    /// The value of a width at the place that a pointer names.
+    pub fn area_read(&self, width: Width, p: Value) -> Result<Value, Fault>
+        requires { IsRunning self.now }
+        ensures { result ≡ area_read width p (state_of self.now) }
+    {
+        let place = self.pointed_at(p)?;
+        self.read_at(Reference::Place(place, type_of_width(width)))
+    }
+
+    /// Gives the place that a pointer names a value of a width. A fault changes nothing.
+    pub fn area_write(&mut self, width: Width, p: Value, v: Value) -> Result<(), Fault>
+        requires { IsRunning self.old }
+        ensures change { Changes (area_write width p v (state_of self.old)) result (state_of self.old) (state_of self.new) }
+        ensures sound { (l f : ℕ) → IsSound l f self.old → IsSound l f self.new }
+        ensures same { SameShape self.old self.new }
+    {
+        let place = self.pointed_at(p)?;
+        self.write_at(Reference::Place(place, type_of_width(width)), v)
+    }
+}
+
+/// What a global stands for.
+fn global(globals: &[Located], i: u32) -> Result<Reference, Fault>
+    ensures { result ≡ and_then (there (slice_get globals.now i)) (λ (g : GlobalPlace). Ok (PlaceReference g.place g.ty)) }
+{
+    match globals.get(i as usize) {
+        Some(global) => Ok(Reference::Place(global.place, global.ty)),
+        None => Err(Fault::AreaLength),
+    }
+}

@@ -1,0 +1,70 @@
+//! The register variables, each as a number.
+ghost use Rattle.std.specs.Prelude.{◌≡◌, ◌<◌, get_or};
+ghost use Rattle.s7_base.specs.RegSet.{place};
+ghost use Rattle.st_runner.specs.View.{numbers_of};
+ghost use Rattle.st_tree.specs.State.{type_of_register, with_register};
+ghost use Rattle.st_tree.specs.StRun.{all_zero};
+
+use s7_base::Reg;
+use st_tree::StType;
+
+/// How many registers there are.
+const REGISTERS: usize = 15;
+
+/// The numbers of the registers, in the order of the registers.
+#[derive(Clone, Copy, Debug)]
+pub struct Registers {
+    numbers: [i64; REGISTERS],
+}
+
+/// Where a register's number stands.
+fn place_of(r: Reg) -> usize
+    ensures value { result ≡ place r }
+    ensures few { result < 15 }
+{
+    r as usize
+}
+
+/// The type of a register.
+pub fn type_of_register(r: Reg) -> StType
+    ensures { result ≡ type_of_register r }
+{
+    match r {
+        Reg::Accu1 | Reg::Accu2 | Reg::Ar1 | Reg::Ar2 => StType::Dword,
+        Reg::DbNo | Reg::DiNo => StType::Word,
+        Reg::Nfc
+        | Reg::Rlo
+        | Reg::Sta
+        | Reg::Orb
+        | Reg::Os
+        | Reg::Ov
+        | Reg::Cc0
+        | Reg::Cc1
+        | Reg::Br => StType::Bool,
+    }
+}
+
+impl Registers {
+    /// All zero.
+    pub fn zero() -> Registers
+        ensures { numbers_of result ≡ all_zero }
+    {
+        Registers {
+            numbers: [0; REGISTERS],
+        }
+    }
+
+    /// The number of a register.
+    pub fn get(&self, r: Reg) -> i64
+        ensures { result ≡ numbers_of self.now r }
+    {
+        self.numbers[place_of(r)]
+    }
+
+    /// Gives a register a number.
+    pub fn set(&mut self, r: Reg, n: i64)
+        ensures { numbers_of self.new ≡ with_register r n (numbers_of self.old) }
+    {
+        self.numbers[place_of(r)] = n;
+    }
+}

@@ -1,0 +1,134 @@
+//! The runner itself.
+ghost use Rattle.std.specs.Prelude.{◌≡◌, ◌+◌, ℕ};
+ghost use Rattle.memory_areas.specs.Areas.{IsMemoryOf};
+ghost use Rattle.st_runner.specs.Runnable.{IsRunnable};
+ghost use Rattle.st_runner.specs.Standing.{IsNew, Shows, StaysOver, end_within};
+ghost use Rattle.st_runner.specs.Waiting.{outcome_of};
+
+use crate::calling::{called_name, fits_unit, unit_called};
+use crate::frame::{At, Frame};
+use crate::reserve::{frames, start};
+use crate::runs::go;
+use crate::state::State;
+use memory_areas::Memory;
+use s7_base::{NoMemory, Outcome};
+use st_tree::StProgram;
+use std::alloc::Global;
+use std::marker::Model;
+use stl_tree::Call;
+
+/// Why there is no runner.
+#[derive(Clone, Copy, Debug, PartialEq, Eq)]
+pub enum RunnerRefusal {
+    /// The call does not fit the tree.
+    BadCall,
+
+    NoMemory,
+}
+
+/// A run of a unit of a tree, which can be taken further in any portions of units.
+#[derive(Drop)]
+pub struct Runner<'t> {
+    tree: &'t StProgram,
+    work: Vec<Frame<'t>>,
+    at: At<'t>,
+    state: State,
+}
+
+impl<'t> Model for Runner<'t> {
+    ghost use Rattle.std.specs.Coded.{codes};
+    ghost use Rattle.std.specs.Prelude.{map, vec_capacity};
+    ghost use Rattle.st_runner.specs.Plain.{coming, pending};
+    ghost use Rattle.st_runner.specs.Ready.{IsReady};
+    ghost use Rattle.st_runner.specs.Runnable.{IsRunnable};
+    ghost use Rattle.st_runner.specs.Standing.{Standing};
+    ghost use Rattle.st_runner.specs.View.{seen};
+    ghost use Rattle.st_tree.specs.contracts.expr.Expr as expr;
+    ghost use Rattle.st_tree.specs.contracts.program.Stmt as stmt;
+
+    ghost Value = { Standing };
+
+    ghost coded = { Prim.hlevel (codes, stmt.the_row.coded, expr.the_row.coded) };
+
+    ghost view = { λ r. record {
+      tree = r.tree.now;
+      waits = map pending r.work.items;
+      next = coming r.at;
+      memory = r.state.memory;
+      numbers = r.state.registers.numbers;
+      activations = map seen r.state.activations.items;
+    } };
+
+    ghost invariant = { λ r. IsRunnable r.tree.now × IsReady r.tree.now (vec_capacity r.work) r.work.items r.at r.state };
+}
+
+/// The outcome of a run for which this comes next.
+fn outcome_of<'t>(at: At<'t>) -> Outcome
+    ensures { result ≡ outcome_of at.entry }
+{
+    match at {
+        At::Work => Outcome::Going,
+        At::Test(_, _) => Outcome::Going,
+        At::Call(_, _) => Outcome::Going,
+        At::Over(fault) => Outcome::Ended(fault),
+    }
+}
+
+impl From<NoMemory> for RunnerRefusal {
+    ghost use Rattle.std.specs.Prelude.{◌≡◌};
+    ghost use Rattle.st_runner.specs.declared.runner.RunnerRefusal.TheVariants as refusal;
+
+    ghost from_gives = { λ _ made. made ≡ refusal.NoMemory };
+
+    fn from(_error: NoMemory) -> RunnerRefusal {
+        RunnerRefusal::NoMemory
+    }
+}
+
+impl<'t> Runner<'t> {
+    /// A runner at the start of a call, its registers and local data zero.
+    pub fn new(
+        alloc: Global,
+        tree: &'t StProgram,
+        memory: Memory,
+        call: &Call,
+    ) -> Result<Runner<'t>, RunnerRefusal>
+        requires runnable { IsRunnable tree.now }
+        requires memory { IsMemoryOf tree.now.dbs memory.areas }
+        ensures { IsNew tree.now call.now memory.areas result }
+    {
+        let name = called_name(alloc, call.block)?;
+        let units = tree.pous.as_slice();
+        let Some(unit) = unit_called(call.block, name.as_slice(), units) else {
+            return Err(RunnerRefusal::BadCall);
+        };
+        if !fits_unit(&memory, unit, call) {
+            return Err(RunnerRefusal::BadCall);
+        }
+        let work = frames(alloc, unit.body.as_slice())?;
+        let state = start(alloc, units, unit, memory, call)?;
+        Ok(Runner {
+            tree,
+            work,
+            at: At::Work,
+            state,
+        })
+    }
+
+    /// Takes at most `k` further units. A run that has ended stays as it is.
+    pub fn run(&mut self, k: u64) -> Outcome
+        ensures later { (j : ℕ) → end_within self.new j ≡ end_within self.old (k + j) }
+        ensures outcome { Shows result (end_within self.old k) self.new.memory.areas }
+        ensures over { StaysOver result self.new }
+    {
+        go(self.tree, &mut self.at, &mut self.work, &mut self.state, k);
+        outcome_of(self.at)
+    }
+
+    /// The memory where the run stands.
+    pub fn memory(&self) -> &Memory
+        ensures { result.now ≡ self.now.memory }
+    {
+        &self.state.memory
+    }
+}

@@ -1,0 +1,177 @@
+//! Steps: what needs no unit, and what takes one.
+ghost use Rattle.std.specs.Prelude.{◌≡◌, ◌+◌, ◌<◌, ◌≤◌, max, length, vec_capacity, ℕ, Some, None};
+ghost use Rattle.st_runner.specs.Measures.{Costs, body_most, most, next_tall, reach, sizes, tall, units, weight, work_weight};
+ghost use Rattle.st_runner.specs.Ready.{Done, IsReady, IsSettled, Spent, Stepped, next_of};
+ghost use Rattle.st_runner.specs.Runnable.{IsRunnable, stack_costs};
+ghost use Rattle.st_runner.specs.Waiting.{end_at, ending};
+ghost use Rattle.st_runner.specs.View.{AreGlobals, IsRunning, IsSound, SameShape, state_of};
+ghost use Rattle.st_runner.specs.declared.frame.At.TheVariants.{Call, Test, Work};
+ghost use Rattle.st_tree.specs.Meaning.{Calls, meaning};
+
+use crate::evaluate::labelled;
+use crate::frame::{At, Frame};
+use crate::leaving::{continue_loop, exit_loop, return_unit};
+use crate::state::State;
+use s7_base::Fault;
+use st_tree::{Expr, StProgram, Stmt, Var};
+
+/// How deep statements may nest in a unit.
+pub const MOST_NESTING: usize = 200;
+
+/// How many frames wait at most for the statements of one unit: two for each level of nesting, one for the
+/// unit and one for its body.
+pub const UNIT_FRAMES: usize = 402;
+
+/// What comes next where something was done, or had a fault.
+fn next<'t>(done: Result<(), Fault>) -> At<'t>
+    ensures { result ≡ next_of done }
+{
+    match done {
+        Ok(()) => At::Work,
+        Err(fault) => At::Over(Some(fault)),
+    }
+}
+
+/// Does a statement up to where it needs a unit.
+pub fn statement<'t>(
+    tree: &'t StProgram,
+    stmt: &'t Stmt,
+    work: &mut Vec<Frame<'t>>,
+    state: &mut State,
+) -> At<'t>
+    requires running { IsRunning state.old }
+    requires globals { AreGlobals tree.now.globals }
+    requires room { length work.old.items + most (stack_costs tree.now) stmt.now ≤ vec_capacity work.old }
+    ensures done { Done tree.now stmt.now work.old.items work.new.items result (state_of state.old) (state_of state.new) }
+    ensures sound { (l f : ℕ) → IsSound l f state.old → IsSound l f state.new }
+    ensures same { SameShape state.old state.new }
+    ensures capacity { vec_capacity work.new ≡ vec_capacity work.old }
+{
+    let globals = tree.globals.as_slice();
+    match stmt {
+        Stmt::Assign(var, e) => next(state.assign(globals, *var, e)),
+        Stmt::AreaWrite(width, pointer, e) => {
+            next(state.area_assign(globals, *width, pointer.get(), e.get()))
+        }
+        Stmt::Invoke(n, actuals) => At::Call(*n, actuals.as_slice()),
+        Stmt::If(arms, other) => {
+            match state.picked(globals, arms.as_slice(), other.as_slice()) {
+                Ok(body) => {
+                    work.push_reserved(Frame::Rest(body));
+                    At::Work
+                }
+                Err(fault) => At::Over(Some(fault)),
+            }
+        }
+        Stmt::Case(e, arms, other) => match state.value(globals, e) {
+            Ok(v) => {
+                let body = labelled(v, arms.as_slice(), other.as_slice());
+                work.push_reserved(Frame::Rest(body));
+                At::Work
+            }
+            Err(fault) => At::Over(Some(fault)),
+        },
+        Stmt::While(test, body) => At::Test(test, body.as_slice()),
+        Stmt::Exit => {
+            exit_loop(work);
+            At::Work
+        }
+        Stmt::Continue => {
+            continue_loop(work);
+            At::Work
+        }
+        Stmt::Return => {
+            return_unit(work);
+            At::Work
+        }
+    }
+}
+
+/// Does the next statement that waits, or ends the frame on top.
+fn step<'t>(tree: &'t StProgram, work: &mut Vec<Frame<'t>>, state: &mut State) -> At<'t>
+    requires globals { AreGlobals tree.now.globals }
+    requires ready { IsReady tree.now (vec_capacity work.old) work.old.items Work state.old }
+    ensures stepped { Stepped tree.now work.old.items work.new.items result state.old state.new }
+    ensures capacity { vec_capacity work.new ≡ vec_capacity work.old }
+{
+    match work.pop() {
+        None => At::Over(None),
+        Some(Frame::Rest(body)) => {
+            let Some((stmt, rest)) = body.split_first() else {
+                return At::Work;
+            };
+            work.push_reserved(Frame::Rest(rest));
+            statement(tree, stmt, work, state)
+        }
+        Some(Frame::Again(test, body)) => At::Test(test, body),
+        Some(Frame::Unit) => {
+            state.leave();
+            At::Work
+        }
+    }
+}
+
+/// Does what needs no unit, up to where a unit is needed or the run has ended.
+pub fn advance<'t>(tree: &'t StProgram, work: &mut Vec<Frame<'t>>, state: &mut State) -> At<'t>
+    requires globals { AreGlobals tree.now.globals }
+    requires ready { IsReady tree.now (vec_capacity work.old) work.old.items Work state.old }
+    ensures meaning { (c : Calls) (u : ℕ) → end_at tree.now.globals c work.new.items result u (state_of state.new)
+        ≡ end_at tree.now.globals c work.old.items Work u (state_of state.old) }
+    ensures settled { IsSettled result }
+    ensures ready { IsReady tree.now (vec_capacity work.new) work.new.items result state.new }
+    ensures capacity { vec_capacity work.new ≡ vec_capacity work.old }
+{
+    let mut at = At::Work;
+    while let At::Work = at {
+        at = step(tree, work, state);
+    }
+    at
+}
+
+/// Spends a unit on the test of a loop.
+pub fn spend_test<'t>(
+    tree: &'t StProgram,
+    test: &'t Expr,
+    body: &'t [Stmt],
+    work: &mut Vec<Frame<'t>>,
+    state: &mut State,
+) -> At<'t>
+    requires globals { AreGlobals tree.now.globals }
+    requires ready { IsReady tree.now (vec_capacity work.old) work.old.items (Test test body) state.old }
+    ensures spent { Spent tree.now (vec_capacity work.old) work.old.items work.new.items (Test test.entry body.entry) result state.old state.new }
+    ensures capacity { vec_capacity work.new ≡ vec_capacity work.old }
+{
+    match state.is_true(tree.globals.as_slice(), test) {
+        Ok(true) => {
+            work.push_reserved(Frame::Again(test, body));
+            work.push_reserved(Frame::Rest(body));
+            At::Work
+        }
+        Ok(false) => At::Work,
+        Err(fault) => At::Over(Some(fault)),
+    }
+}
+
+/// Spends a unit on a call.
+pub fn spend_call<'t>(
+    tree: &'t StProgram,
+    n: u32,
+    actuals: &'t [Var],
+    work: &mut Vec<Frame<'t>>,
+    state: &mut State,
+) -> At<'t>
+    requires runnable { IsRunnable tree.now }
+    requires ready { IsReady tree.now (vec_capacity work.old) work.old.items (Call n actuals) state.old }
+    ensures spent { Spent tree.now (vec_capacity work.old) work.old.items work.new.items (Call n actuals.entry) result state.old state.new }
+    ensures capacity { vec_capacity work.new ≡ vec_capacity work.old }
+{
+    let unit = &tree.pous.as_slice()[n as usize];
+    match state.enter(tree.globals.as_slice(), unit, actuals) {
+        Ok(()) => {
+            work.push_reserved(Frame::Unit);
+            work.push_reserved(Frame::Rest(unit.body.as_slice()));
+            At::Work
+        }
+        Err(fault) => At::Over(Some(fault)),
+    }
+}
