@@ -34,6 +34,9 @@ module _ (k : Costs) where
   pub most_invoke : (n : ℕ) (actuals : List Var) → most k (stmt.Invoke n actuals) ≡ k.call n actuals
   most_invoke n actuals = most_at (stmt.Invoke n actuals) (S.Invoke n actuals) (sym (stmt.rolls-Invoke n actuals))
 
+  pub most_assign : (v : Var) (e : Expr) → most k (stmt.Assign v e) ≡ 0
+  most_assign v e = most_at (stmt.Assign v e) (S.Assign v e) (sym (stmt.rolls-Assign v e))
+
   pub arm_is : (arm : Arm) → arm_most k arm ≡ body_most k arm.body
   arm_is arm = fold_out-Arm ℕ ℕ ℕ (most_step k) (λ arm. greatest arm.body) (λ arm. greatest arm.body) arm
 

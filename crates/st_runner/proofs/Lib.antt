@@ -10,6 +10,7 @@ pub mod Means
 pub mod Moves
 pub mod Opening
 pub mod Outward
+pub mod Samples
 pub mod Shifts
 pub mod Sizes
 pub mod Spending

@@ -2,6 +2,9 @@
 //!
 //! Stands on `st_tree`, whose meaning of expressions and statements it is proved to follow, on
 //! `memory_areas`, `address_registers`, `bcd_words`, `stl_tree` and `s7_base`.
+//! Contracts see a runner as where its run stands (`specs/Standing`), plain data that says how the run
+//! ends within any further number of units. `specs/Runnable` has what a tree must keep to be run. What a
+//! run may need is reserved when a runner is made, so that a run takes no memory.
 #![tactic(auto)]
 
 pub use runner::{Runner, RunnerRefusal};
@@ -19,3 +22,5 @@ mod runner;
 mod runs;
 mod state;
 mod steps;
+#[cfg(test)]
+mod tests;
