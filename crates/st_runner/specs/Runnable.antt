@@ -1,6 +1,6 @@
 -- What a tree keeps that can be run: what a proper tree has of it is that its chains of calls and its
 -- statements nest no deeper than they may, that calls give as many actuals as there are formals, and that
--- its globals stand for places of the process images and of the bit memory.
+-- its globals stand for areas that a memory has.
 use Rattle.std.specs.Prelude.{◌≡◌, ℕ, zero, suc, ◌*◌, ◌≤◌, ◌==◌, if◌then◌else◌, List, length, Option, Some, None, slice_get}
 use Rattle.memory_areas.specs.declared.sizes.TheConstants.{ACTIVATIONS}
 use Rattle.st_runner.specs.Measures.{Costs, body_most}
