@@ -2,7 +2,7 @@
 use Rattle.std.specs.Prelude.{◌≡◌, ℕ, ◌^◌, ◌-◌, ◌<◌, ◌≤◌, min, nat_lt, if◌then◌else◌, List, [], ◌∷◌, length, All, Bool, Some, Result, Ok, Err}
 use Rattle.std.specs.List.{slice_split}
 use Rattle.memory_areas.specs.Access.{bytes_there}
-use Rattle.memory_areas.specs.Areas.{Contents}
+use Rattle.memory_areas.specs.Areas.{Contents, IsMemoryOf}
 use Rattle.memory_areas.specs.declared.data_block.DataBlock.{DataBlock}
 use Rattle.memory_areas.specs.declared.place.Area.{Area}
 use Rattle.memory_areas.specs.declared.place.Area.TheVariants as area
@@ -71,3 +71,7 @@ pub record IsUsable (m : Contents) : Type 0 where
   pub outputs : length m.areas.outputs ≤ MOST_BLOCK_BYTES
   pub markers : length m.areas.markers ≤ MOST_BLOCK_BYTES
   pub blocks : All IsBlock m.areas.blocks
+
+-- a memory of some data blocks stays one
+abbrev pub MemoryStays : Contents → Contents → Type 0
+MemoryStays before after = (blocks : List DataBlock) → IsMemoryOf blocks before.areas → IsMemoryOf blocks after.areas

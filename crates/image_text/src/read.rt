@@ -1,14 +1,15 @@
 //! Reads an image.
 ghost use Rattle.std.specs.Prelude.{ℕ, ◌≡◌, ◌∷◌, [], ◌+◌, ◌<◌, ◌^◌, All, IfOk, IsSome, OnOk, Some, false, length, true};
 ghost use Rattle.memory_areas.specs.Access.{is_closed, or_none};
-ghost use Rattle.memory_areas.specs.Areas.{AreBlocks, bytes_of, fresh};
+ghost use Rattle.memory_areas.specs.Areas.{AreBlocks, IsMemoryOf, bytes_of, fresh};
 ghost use Rattle.image_text.specs.Image.{has_room, image_of, is_blank, line_on, line_said, says_nothing, shape_said, values_of, written};
-ghost use Rattle.image_text.specs.Reading.{IsNamed, IsUsable, LineDoes, Reads, pieces_left, view};
+ghost use Rattle.image_text.specs.Reading.{IsNamed, IsUsable, LineDoes, MemoryStays, Reads, pieces_left, view};
 
 use crate::number::byte_of;
 use crate::pieces::{cut_line, next_piece, rest_after, strip_return};
 use crate::refusal::ImageRefusal;
 use crate::shape::{Shape, count_bytes, shape_of};
+use memory_areas::area_laws::memories_stay;
 use memory_areas::{Area, DataBlock, Memory, Place};
 use s7_base::{Line, NoMemory};
 use std::alloc::Global;
@@ -50,8 +51,10 @@ fn put_byte(memory: &mut Memory, area: Area, at: u32, value: u8)
     requires named { IsNamed area }
     requires is_open { is_closed (Some area) ≡ false }
     requires room { has_room (bytes_of area memory.old) at 1 ≡ true }
-    ensures { memory.new ≡ written area at (value ∷ []) memory.old }
+    ensures done { memory.new ≡ written area at (value ∷ []) memory.old }
+    ensures stays { MemoryStays memory.old memory.new }
 {
+    memories_stay();
     let place = Place {
         area,
         byte: at,
@@ -67,7 +70,8 @@ fn put_fields(memory: &mut Memory, area: Area, byte: u32, fields: &[u8])
     requires bytes { IsSome (values_of (pieces_left is_blank fields.now)) }
     requires room { has_room (bytes_of area memory.old) byte (length (or_none (values_of (pieces_left is_blank fields.now)))) ≡ true }
     requires small { byte + length (or_none (values_of (pieces_left is_blank fields.now))) < 2 ^ 32 }
-    ensures { memory.new ≡ written area byte (or_none (values_of (pieces_left is_blank fields.now))) memory.old }
+    ensures done { memory.new ≡ written area byte (or_none (values_of (pieces_left is_blank fields.now))) memory.old }
+    ensures stays { MemoryStays memory.old memory.new }
 {
     let mut left = fields;
     let mut at = byte;
@@ -85,6 +89,7 @@ fn apply_shape(memory: &mut Memory, line: Line, shape: Shape<'_>) -> Result<(), 
     requires named { IsNamed shape.area }
     ensures done { LineDoes (line_on line (shape_said (Some (view shape.entry))) memory.old) result memory.new }
     ensures usable { OnOk result (IsUsable memory.new) }
+    ensures stays { OnOk result (MemoryStays memory.old memory.new) }
 {
     let Some(count) = count_bytes(shape.fields) else {
         return Err(ImageRefusal::BadByte(line));
@@ -101,6 +106,7 @@ fn apply_line(memory: &mut Memory, line: Line, text: &[u8]) -> Result<(), ImageR
     requires { IsUsable memory.old }
     ensures done { LineDoes (line_on line (line_said text.now) memory.old) result memory.new }
     ensures usable { OnOk result (IsUsable memory.new) }
+    ensures stays { OnOk result (MemoryStays memory.old memory.new) }
 {
     if says_nothing(text) {
         return Ok(());
@@ -120,6 +126,7 @@ fn new_memory(alloc: Global, blocks: &[DataBlock]) -> Result<Memory, NoMemory>
     requires { AreBlocks blocks.now }
     ensures fresh { IfOk result (λ memory. memory ≡ fresh blocks.now) }
     ensures usable { IfOk result IsUsable }
+    ensures memory { IfOk result (λ memory. IsMemoryOf blocks.now memory.areas) }
 {
     let memory = Memory::new(alloc, blocks)?;
     have_16_bits(memory.numbers());
@@ -130,7 +137,8 @@ fn new_memory(alloc: Global, blocks: &[DataBlock]) -> Result<Memory, NoMemory>
 /// a data block's byte.
 pub fn read_image(alloc: Global, bytes: &[u8], blocks: &[DataBlock]) -> Result<Memory, ImageRefusal>
     requires { AreBlocks blocks.now }
-    ensures { Reads result (image_of bytes.now blocks.now) }
+    ensures reads { Reads result (image_of bytes.now blocks.now) }
+    ensures memory { IfOk result (λ memory. IsMemoryOf blocks.now memory.areas) }
 {
     let mut memory = new_memory(alloc, blocks)?;
     let mut rest = bytes;

@@ -5,4 +5,6 @@ mod AreaLaws
 mod Bits
 mod Blocks
 mod Bytes
+mod DataBlocks
+mod Fresh
 mod ReplacedBytes

@@ -1,5 +1,5 @@
 -- How the calls of a memory answer.
-use Rattle.std.specs.Prelude.{◌≡◌, ℕ, ◌+◌, ◌<◌, ◌≤◌, ◌==◌, if◌then◌else◌, List, [], ◌∷◌, length, Option, Some, None, Result, Ok, Err}
+use Rattle.std.specs.Prelude.{◌≡◌, ℕ, ◌+◌, ◌<◌, ◌≤◌, ◌==◌, if◌then◌else◌, List, [], ◌∷◌, length, All, Option, Some, None, Result, Ok, Err}
 use Rattle.s7_base.specs.declared.outcome.Fault.{Fault}
 use Rattle.memory_areas.specs.Areas.{Contents, block_of}
 use Rattle.memory_areas.specs.declared.data_block.DataBlock.{DataBlock}
@@ -31,6 +31,10 @@ HasRoom (Some bytes) i count = i + count ≤ length bytes
 abbrev pub Writes : Result Contents Fault → Result (Unit {0}) Fault → Contents → Contents → Type 0
 Writes defined (Ok done) before after = defined ≡ Ok after
 Writes defined (Err f) before after = (defined ≡ Err f) × (after ≡ before)
+
+-- the bytes of a data block are bytes
+abbrev pub HasBytes : DataBlock → Type 0
+HasBytes block = All (λ b. b < 256) block.bytes
 
 -- data blocks from their numbers and their bytes
 abbrev pub joined : List ℕ → List (List ℕ) → List DataBlock

@@ -1,6 +1,8 @@
 //! Data blocks.
-ghost use Rattle.std.specs.Prelude.{◌≡◌, IfOk};
+ghost use Rattle.std.specs.Prelude.{◌≡◌, IfOk, true};
+ghost use Rattle.memory_areas.specs.Areas.{AreBlocks, IsSized};
 
+use crate::sizes::{LEAST_BLOCK_BYTES, MOST_BLOCK_BYTES, MOST_BLOCKS};
 use s7_base::{List, NoMemory};
 use std::alloc::Global;
 
@@ -21,4 +23,28 @@ impl DataBlock {
             bytes: self.bytes.copy(alloc)?,
         })
     }
+}
+
+fn is_sized(block: &DataBlock) -> bool
+    ensures yes { result ≡ true → IsSized block.now }
+    ensures no { IsSized block.now → result ≡ true }
+{
+    let count = block.bytes.len();
+    LEAST_BLOCK_BYTES <= count && count <= MOST_BLOCK_BYTES
+}
+
+/// A memory may have these data blocks.
+pub fn are_blocks(blocks: &[DataBlock]) -> bool
+    ensures yes { result ≡ true → AreBlocks blocks.now }
+    ensures no { AreBlocks blocks.now → result ≡ true }
+{
+    let mut least = 1;
+    for block in blocks {
+        let number = u32::from(block.number);
+        if number < least || !is_sized(block) {
+            return false;
+        }
+        least = number + 1;
+    }
+    blocks.len() <= MOST_BLOCKS
 }

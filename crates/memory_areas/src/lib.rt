@@ -5,7 +5,7 @@
 //! limits of data blocks stand here once.
 #![tactic(auto)]
 
-pub use data_block::DataBlock;
+pub use data_block::{DataBlock, are_blocks};
 pub use memory::Memory;
 pub use place::{Area, AreaName, Place};
 pub use sizes::{

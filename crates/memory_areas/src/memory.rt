@@ -1,8 +1,8 @@
 //! The memory itself: reads and writes by place.
-ghost use Rattle.std.specs.Prelude.{◌≡◌, ◌+◌, ◌<◌, ◌≤◌, [], length, get_or, slice_get, slice_set, Some, None, Ok, Err, is_some, MatchOption, MatchResult, IfOk, map, replicate};
+ghost use Rattle.std.specs.Prelude.{◌≡◌, ◌+◌, ◌<◌, ◌≤◌, All, [], length, get_or, slice_get, slice_set, Some, None, Ok, Err, is_some, MatchOption, MatchResult, IfOk, OnOk, map, replicate};
 ghost use Rattle.memory_areas.specs.Access.{aimed, bytes_wide, bytes_there, fault_of, unless, reached, put, read_bit, read_byte, read_word, read_dword, write_bit, write_byte, write_word, write_dword};
-ghost use Rattle.memory_areas.specs.Areas.{AreBlocks, Ascend, block_of, bytes_in, bytes_of, cleared, fresh, no_locals, numbers_of, replaced};
-ghost use Rattle.memory_areas.specs.Memory.{IsActivation, IsMissing, HasActivations, HasRoom, Writes, joined, position_of};
+ghost use Rattle.memory_areas.specs.Areas.{AreBlocks, Ascend, IsMemoryOf, block_of, bytes_in, bytes_of, cleared, fresh, no_locals, numbers_of, replaced};
+ghost use Rattle.memory_areas.specs.Memory.{IsActivation, IsMissing, HasBytes, HasActivations, HasRoom, Writes, joined, position_of};
 
 use crate::data_block::DataBlock;
 use crate::parts::{
@@ -133,13 +133,21 @@ fn numbers_of(alloc: Global, blocks: &[DataBlock]) -> Result<Vec<u16>, NoMemory>
     Ok(numbers)
 }
 
+/// What the type of the bytes says, for the proof alone.
+fn have_8_bits(_bytes: &[u8])
+    ensures { All (λ b. b < 256) _bytes.now }
+{}
+
 /// The bytes of some data blocks.
 fn bytes_of(alloc: Global, blocks: &[DataBlock]) -> Result<Vec<Vec<u8>>, NoMemory>
-    ensures { IfOk result (λ stored. map (λ b. b.items) stored.items ≡ map (λ b. b.bytes) blocks.now) }
+    ensures stored { IfOk result (λ stored. map (λ b. b.items) stored.items ≡ map (λ b. b.bytes) blocks.now) }
+    ensures small { OnOk result (All HasBytes blocks.now) }
 {
     let mut stored = Vec::with_capacity(alloc, blocks.len())?;
     for block in blocks {
-        stored.push(Vec::from_slice(alloc, block.bytes.as_slice())?)?;
+        let bytes = block.bytes.as_slice();
+        have_8_bits(bytes);
+        stored.push(Vec::from_slice(alloc, bytes)?)?;
     }
     Ok(stored)
 }
@@ -159,7 +167,8 @@ impl Memory {
     /// A memory of zeros with these data blocks, each at its bytes.
     pub fn new(alloc: Global, blocks: &[DataBlock]) -> Result<Memory, NoMemory>
         requires { AreBlocks blocks.now }
-        ensures { IfOk result (λ memory. memory ≡ fresh blocks.now) }
+        ensures fresh { IfOk result (λ memory. memory ≡ fresh blocks.now) }
+        ensures memory { IfOk result (λ memory. IsMemoryOf blocks.now memory.areas) }
     {
         Ok(Memory {
             inputs: zeros(alloc, INPUT_BYTES)?,

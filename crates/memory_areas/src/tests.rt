@@ -4,7 +4,7 @@ ghost use Rattle.std.specs.Prelude.{◌≡◌, ◌≤◌, ◌<◌, true, IfOk, l
 ghost use Rattle.memory_areas.specs.Areas.{AreBlocks};
 ghost use Rattle.memory_areas.specs.Memory.{IsActivation};
 
-use crate::data_block::DataBlock;
+use crate::data_block::{DataBlock, are_blocks};
 use crate::memory::Memory;
 use crate::place::{Area, Place};
 use s7_base::{Fault, List, NoMemory, Width};
@@ -320,5 +320,51 @@ fn a_data_block_is_copied(rt: HostRuntime) -> Result<(), Fail> {
     let copy = block.copy(alloc)?;
     assert_eq!(rt; copy.number, 7);
     assert_eq!(rt; copy.bytes.as_slice(), [0, 5, 255, 128].as_slice());
+    Ok(())
+}
+
+/// Data blocks of zeros, by their numbers and sizes.
+fn blocks_of(alloc: Global, parts: &[(u16, usize)]) -> Result<Vec<DataBlock>, NoMemory> {
+    let mut blocks = Vec::new(alloc);
+    for (number, count) in parts {
+        blocks.push(block_of(alloc, *number, *count)?)?;
+    }
+    Ok(blocks)
+}
+
+#[test]
+fn blocks_ascend_and_have_their_sizes(rt: HostRuntime) -> Result<(), Fail> {
+    let alloc = rt.alloc();
+    let lists: [(&[(u16, usize)], bool); 12] = [
+        (&[], true),
+        (&[(1, 2)], true),
+        (&[(0, 2)], false),
+        (&[(1, 1)], false),
+        (&[(65535, 16384)], true),
+        (&[(65535, 16385)], false),
+        (&[(3, 4), (7, 6)], true),
+        (&[(7, 6), (3, 4)], false),
+        (&[(3, 4), (3, 4)], false),
+        (&[(3, 4), (7, 1)], false),
+        (&[(3, 4), (4, 4), (65535, 2)], true),
+        (&[(3, 4), (65535, 2), (4, 4)], false),
+    ];
+    for (parts, answer) in lists {
+        let blocks = blocks_of(alloc, parts)?;
+        assert_eq!(rt; are_blocks(blocks.as_slice()), answer, "{parts:?}");
+    }
+    Ok(())
+}
+
+#[test]
+fn no_more_than_1024_blocks(rt: HostRuntime) -> Result<(), Fail> {
+    let alloc = rt.alloc();
+    let mut blocks = Vec::new(alloc);
+    for number in 1..=1024 {
+        blocks.push(block_of(alloc, number, 2)?)?;
+    }
+    assert!(rt; are_blocks(blocks.as_slice()));
+    blocks.push(block_of(alloc, 1025, 2)?)?;
+    assert!(rt; !are_blocks(blocks.as_slice()));
     Ok(())
 }

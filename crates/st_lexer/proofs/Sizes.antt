@@ -16,8 +16,8 @@ use Rattle.st_lexer.specs.Pieces.{IsWithin}
 use Rattle.st_lexer.specs.StTokens.{gap, token, piece_size, is_blank, is_letter, is_sign, is_double_sign, comment_size, sign_piece, mark_piece, ranged_piece, number_piece, word_piece, direct_piece, other_piece, piece_at}
 use Rattle.st_lexer.specs.declared.direct.Direct.{Direct}
 use Rattle.st_lexer.specs.declared.literal.Literal.{Literal}
-use Rattle.st_lexer.specs.declared.literal.StType.{StType}
-use Rattle.st_lexer.specs.declared.literal.StType.TheVariants as type
+use Rattle.st_tree.specs.declared.expr.StType.{StType}
+use Rattle.st_tree.specs.declared.expr.StType.TheVariants as type
 use Rattle.st_lexer.specs.declared.number.Base.{Base}
 use Rattle.st_lexer.specs.declared.number.Base.TheVariants as base
 use Rattle.st_lexer.specs.declared.number.Number.{Number}

@@ -9,7 +9,7 @@ use Rattle.s7_base.specs.declared.word.Width.TheVariants as width
 use Rattle.st_lexer.specs.Direct.{direct_of}
 use Rattle.st_lexer.specs.Literals.{literal_value}
 use Rattle.st_lexer.specs.StTokens.{tokens_of}
-use Rattle.st_lexer.specs.declared.literal.StType.TheVariants as type
+use Rattle.st_tree.specs.declared.expr.StType.TheVariants as type
 use Rattle.st_lexer.specs.declared.token.StKind.{StKind}
 use Rattle.st_lexer.specs.declared.token.StKind.TheVariants.{Word, Direct, Literal, Sign}
 use Rattle.st_lexer.specs.declared.token.StToken.{StToken}

@@ -6,8 +6,8 @@ use Rattle.st_lexer.specs.declared.number.Base.{Base}
 use Rattle.st_lexer.specs.declared.number.Base.TheVariants.{Two, Eight, Ten, Sixteen}
 use Rattle.st_lexer.specs.declared.number.Number.{Number}
 use Rattle.st_lexer.specs.declared.literal.Literal.{Literal}
-use Rattle.st_lexer.specs.declared.literal.StType.{StType}
-use Rattle.st_lexer.specs.declared.literal.StType.TheVariants.{Bool as Truth, Byte, Word, Dword, Int, Dint, Lint}
+use Rattle.st_tree.specs.declared.expr.StType.{StType}
+use Rattle.st_tree.specs.declared.expr.StType.TheVariants.{Bool as Truth, Byte, Word, Dword, Int, Dint, Lint}
 
 -- Digits
 

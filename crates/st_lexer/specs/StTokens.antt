@@ -13,7 +13,7 @@ use Rattle.st_lexer.specs.Direct.{direct_at}
 use Rattle.st_lexer.specs.Literals.{word_size, type_at, literal_at, is_in_range, is_digit_to, base_at}
 use Rattle.st_lexer.specs.declared.direct.Direct.{Direct}
 use Rattle.st_lexer.specs.declared.literal.Literal.{Literal}
-use Rattle.st_lexer.specs.declared.literal.StType.{StType}
+use Rattle.st_tree.specs.declared.expr.StType.{StType}
 use Rattle.st_lexer.specs.declared.number.Base.{Base}
 use Rattle.st_lexer.specs.declared.number.Base.TheVariants.{Ten}
 use Rattle.st_lexer.specs.declared.token.StKind.{StKind}

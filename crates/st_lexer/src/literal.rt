@@ -5,18 +5,7 @@ ghost use Rattle.st_lexer.specs.Pieces.{IsWithin};
 
 use crate::number::{Base, Number, base_at, number_at, number_to};
 use crate::text::{begins_with, front_of, is_same_word, rest_after, word_size};
-
-/// The types of literals.
-#[derive(Clone, Copy, Debug, PartialEq, Eq)]
-pub enum StType {
-    Bool,
-    Byte,
-    Word,
-    Dword,
-    Int,
-    Dint,
-    Lint,
-}
+use st_tree::StType;
 
 /// A literal at the front of a text.
 #[derive(Clone, Copy, Debug, PartialEq, Eq)]
@@ -71,7 +60,8 @@ fn integer_named(word: &[u8]) -> Option<StType>
     }
 }
 
-fn type_named(word: &[u8]) -> Option<StType>
+/// The type of a word in any case.
+pub fn type_named(word: &[u8]) -> Option<StType>
     ensures { result ≡ type_named word.now }
 {
     if is_same_word(word, "BOOL") {

@@ -26,6 +26,7 @@ pub fn begins_with(b: u8, bytes: &[u8]) -> bool
     }
 }
 
+/// The two are the same word, in any case.
 pub fn is_same_word(word: &[u8], entry: &str) -> bool
     ensures { result ≡ is_same_word word.now entry.now }
 {

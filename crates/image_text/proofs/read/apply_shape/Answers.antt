@@ -24,5 +24,5 @@ returns-clause-usable c =
     let room : has_room (bytes_of c.args.shape.area c.args.memory.now) c.args.shape.byte c.in-Some.count ≡ true = grind (arith, common_steps) in
     let count = count_is c.in-Some.count (values_of (pieces_left is_blank c.args.shape.fields.now)) c.in-Some.ensures in
     let whole = subst (λ n. has_room (bytes_of c.args.shape.area c.args.memory.now) c.args.shape.byte n ≡ true) count room in
-    subst IsUsable (sym c.put_fields.ensures)
+    subst IsUsable (sym c.put_fields.ensures.done)
     (usable_written c.args.shape.area c.args.shape.byte (or_none (values_of (pieces_left is_blank c.args.shape.fields.now))) c.args.memory.now c.requires.named c.requires.usable whole)

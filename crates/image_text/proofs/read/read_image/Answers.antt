@@ -18,4 +18,5 @@ loop-memory-preserved c =
       usable = c.in_ok-apply_line.ensures.usable;
       same = ap (λ text. lines_on c.saturating_add-line.result (slice_split (λ b. b == 10) text) c.apply_line.new.memory) c.rest_after-rest.ensures
           ∙ ap (λ pieces. lines_on c.saturating_add-line.result pieces c.apply_line.new.memory) (sym rest) ∙ behind;
+      memory = c.in_ok-apply_line.ensures.stays c.args.blocks.now c.loop-memory.invariant.memory;
     }

@@ -1,0 +1,13 @@
+mod Bare
+mod Drive
+mod DriveSource
+mod DriveStatements
+mod Ends
+mod Exact
+mod Finish
+mod Kept
+mod KeptText
+mod Loops
+mod SyntaxRows
+mod Verdicts
+mod Whole

@@ -1,0 +1,12 @@
+-- How an answer that want of memory may take the place of stands to its refusals.
+use Rattle.std.specs.Prelude.{Result, Ok, Err}
+use Rattle.s7_base.specs.declared.reason.Line.{Line}
+use Rattle.s7_base.specs.declared.reason.Reason.{Reason}
+use Rattle.s7_base.specs.declared.reason.Rejection.{Rejection}
+use Rattle.s7_base.specs.declared.reason.Rejection.TheVariants.{Refused, NoMemory}
+
+-- what holds of a refusal's line and reason; want of memory may always come
+abbrev pub IfRefused : {X : Type 0} → Result X Rejection → (Line → Reason → Type 0) → Type 0
+IfRefused (Ok x) P = Unit {0}
+IfRefused (Err (Refused line reason)) P = P line reason
+IfRefused (Err NoMemory) P = Unit {0}

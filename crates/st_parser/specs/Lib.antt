@@ -1,0 +1,10 @@
+pub mod Answers
+pub mod Forms
+pub mod Grammar
+pub mod Judge
+pub mod Kinds
+pub mod Levels
+pub mod Machine
+pub mod Steps
+pub mod Syntax
+pub mod Views

@@ -1,0 +1,11 @@
+pub mod Blocks
+pub mod Cycles
+pub mod FirstBreak
+pub mod Followed
+pub mod NameRows
+pub mod OneAnswer
+pub mod Reached
+pub mod Refusals
+pub mod Tables
+pub mod Taken
+pub mod TextRows

@@ -1,0 +1,17 @@
+pub mod Broken
+pub mod Calls
+pub mod Chain
+pub mod Cycles
+pub mod Declarations
+pub mod Expressions
+pub mod Globals
+pub mod Invocations
+pub mod Names
+pub mod Scopes
+pub mod Search
+pub mod Statements
+pub mod Typed
+pub mod TypedLaws
+pub mod Types
+pub mod Units
+pub mod Variables

@@ -1,0 +1,47 @@
+-- A text has one answer: one tree, or one line and rule. And the first of some broken rules is one of
+-- them before which no other comes; and chains of calls are calls that are followed.
+use Rattle.std.specs.Prelude.{◌≡◌, ℕ, ◌<◌, true, false, List, [], length, get_or, slice_get, Some, None}
+use Rattle.s7_base.specs.declared.reason.Line.{Line}
+use Rattle.s7_base.specs.declared.reason.Reason.{Reason}
+use Rattle.st_tree.specs.declared.program.StProgram.{StProgram}
+use Rattle.st_tree.specs.declared.raw.RawSt.{RawSt}
+use Rattle.st_types.specs.Broken.{comes_before, first_of_all}
+use Rattle.st_types.specs.Chain.{Graph, chains, follow}
+use Rattle.st_types.specs.Typed.{Breaks, HasTree}
+use Rattle.st_types.specs.declared.broken.Break.{Break}
+
+-- two trees of a text are the same
+abbrev pub OneTree : Type 0
+OneTree = (raw : RawSt) (s t : StProgram) → HasTree raw s → HasTree raw t → s ≡ t
+
+-- two refusals of a text have the same line and the same rule
+abbrev pub OneRefusal : Type 0
+OneRefusal = (raw : RawSt) (l m : Line) (q r : Reason) → Breaks raw l q → Breaks raw m r → (l ≡ m) × (q ≡ r)
+
+-- no text has both
+abbrev pub NotBoth : Type 0
+NotBoth = (raw : RawSt) (t : StProgram) (l : Line) (r : Reason) → HasTree raw t → Breaks raw l r → ⊥
+
+-- a broken rule is one of some, and none of them comes before it
+pub record IsFirst (breaks : List Break) (b : Break) : Type 0 where
+  pub number : ℕ
+  pub among : slice_get breaks number ≡ Some b
+  pub none_before : (k : ℕ) (c : Break) → slice_get breaks k ≡ Some c → comes_before c b ≡ false
+
+-- the first of all is the first, and there is none of none alone
+pub record FirstOfAll : Type 0 where
+  pub some : (breaks : List Break) (b : Break) → first_of_all breaks ≡ Some b → IsFirst breaks b
+  pub none : (breaks : List Break) → first_of_all breaks ≡ None → breaks ≡ []
+
+-- n calls one behind another are followed from a unit to a unit that is there
+pub record IsFollowed (graph : Graph) (n i : ℕ) : Type 0 where
+  pub calls : List ℕ
+  pub last : ℕ
+  pub size : length calls ≡ n
+  pub followed : follow graph i calls ≡ Some last
+  pub there : last < length graph
+
+-- chains of n calls begin at the units from which n calls are followed, and at no other
+pub record ChainsAreFollowed : Type 0 where
+  pub sound : (graph : Graph) (n i : ℕ) → get_or (chains graph n) i false ≡ true → IsFollowed graph n i
+  pub complete : (graph : Graph) (n i : ℕ) → IsFollowed graph n i → get_or (chains graph n) i false ≡ true

@@ -1,0 +1,28 @@
+//! Names, types, places and the chain of calls of a Structured Text: the raw tree of a text becomes its
+//! tree, or the first rule that is broken is named.
+#![tactic(auto)]
+
+pub use text::typed;
+
+mod broken;
+mod call;
+mod components;
+mod cycle;
+mod declaration;
+mod depth;
+mod expression;
+mod global;
+mod invocation;
+mod lists;
+mod names;
+mod scope;
+mod search;
+mod statement;
+mod table;
+#[cfg(test)]
+mod tests;
+mod text;
+pub mod text_laws;
+mod types;
+mod unit;
+mod variable;

@@ -1,0 +1,27 @@
+//! Laws of what the answer to a text is. They compute nothing: their contracts are the laws.
+ghost use Rattle.st_types.specs.TypedLaws.{ChainsAreFollowed, FirstOfAll, NotBoth, OneRefusal, OneTree};
+
+/// A text has one tree at most.
+pub fn one_tree()
+    ensures { OneTree }
+{}
+
+/// A text has one refusal at most.
+pub fn one_refusal()
+    ensures { OneRefusal }
+{}
+
+/// No text has both a tree and a refusal.
+pub fn not_both()
+    ensures { NotBoth }
+{}
+
+/// The first of some broken rules is one of them before which no other comes.
+pub fn first_of_all()
+    ensures { FirstOfAll }
+{}
+
+/// Chains of so many calls begin at the units from which so many calls are followed, and at no other.
+pub fn chains_are_followed()
+    ensures { ChainsAreFollowed }
+{}
