@@ -2,8 +2,9 @@
 use Rattle.std.proofs.Common.{◌≡◌, ℕ, zero, suc, ◌+◌, ◌*◌, ◌<◌, ◌≤◌, max, List, [], ◌∷◌, map, Option, Some, None, refl, sym, ap, subst, arith}
 use Rattle.std.specs.Prelude.{slice_get}
 use Rattle.memory_areas.specs.declared.sizes.TheConstants.{ACTIVATIONS}
-use Rattle.st_runner.specs.Measures.{Costs, arm_most, body_most, case_most, greatest, most, most_step}
-use Rattle.st_runner.specs.Runnable.{IsRunnableUnit, chain_costs, chain_of, chain_to, depth_costs, nesting_costs, stack_costs, unit_chain}
+use Rattle.st_tree.specs.Costs.{Costs, arm_most, body_most, case_most, greatest, most, most_step}
+use Rattle.st_runner.specs.Measures.{depth_costs, stack_costs}
+use Rattle.st_tree.specs.Runnable.{IsRunnableUnit, chain_costs, chain_of, chain_to, nesting_costs, unit_chain}
 use Rattle.st_runner.specs.declared.steps.TheConstants.{MOST_NESTING, UNIT_FRAMES}
 use Rattle.st_tree.specs.declared.expr.Var.{Var}
 use Rattle.st_tree.specs.declared.program.Arm.{Arm, fold-roll-Arm, map-Arm, roll-Arm}

@@ -4,7 +4,8 @@ use Rattle.memory_areas.specs.Access.{and_then}
 use Rattle.s7_base.specs.declared.outcome.Fault.{Fault}
 use Rattle.s7_base.specs.declared.word.Width.{Width}
 use Rattle.st_runner.specs.Choice.{has_label, labelled, picked}
-use Rattle.st_runner.specs.Measures.{Costs, arm_most, arm_weight, body_most, body_weight, case_most, case_weight, greatest, most, most_step, sum, weight, weight_step}
+use Rattle.st_runner.specs.Measures.{arm_weight, body_weight, case_weight, sum, weight, weight_step}
+use Rattle.st_tree.specs.Costs.{Costs, arm_most, body_most, case_most, greatest, most, most_step}
 use Rattle.st_tree.specs.State.{State}
 use Rattle.st_tree.specs.Value.{value}
 use Rattle.st_tree.specs.Values.{is_set}

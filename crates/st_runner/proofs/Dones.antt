@@ -5,7 +5,8 @@ use Rattle.s7_base.specs.declared.outcome.Fault.{Fault}
 use Rattle.s7_base.specs.declared.word.Width.{Width}
 use Rattle.st_runner.specs.Choice.{labelled, picked}
 use Rattle.st_runner.specs.Leaving.{Leaves}
-use Rattle.st_runner.specs.Measures.{Costs, body_most, body_weight, most, reach, sizes, tall, unit_costs, units, weight, work_weight}
+use Rattle.st_runner.specs.Measures.{body_weight, reach, sizes, tall, unit_costs, units, weight, work_weight}
+use Rattle.st_tree.specs.Costs.{Costs, body_most, most}
 use Rattle.st_runner.specs.Ready.{Done, next_of}
 use Rattle.st_runner.specs.Waiting.{end_at, ending}
 use Rattle.st_runner.specs.View.{Changes}

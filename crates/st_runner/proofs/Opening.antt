@@ -9,10 +9,11 @@ use Rattle.memory_areas.specs.declared.place.Area.TheVariants as area
 use Rattle.memory_areas.specs.declared.place.Place.{Place}
 use Rattle.memory_areas.specs.declared.sizes.TheConstants.{ACTIVATIONS}
 use Rattle.s7_base.specs.declared.word.Width.{Width}
-use Rattle.st_runner.specs.Measures.{Costs, body_most, reach, units}
+use Rattle.st_runner.specs.Measures.{reach, units, depth_costs, stack_costs}
+use Rattle.st_tree.specs.Costs.{Costs, body_most}
 use Rattle.st_runner.specs.Plain.{coming, pending}
 use Rattle.st_runner.specs.Ready.{IsReady, most_formals, most_locals}
-use Rattle.st_runner.specs.Runnable.{IsRunnable, chain_of, depth_costs, formals_of_unit, misfit_costs, stack_costs}
+use Rattle.st_tree.specs.Runnable.{IsRunnable, chain_of, formals_of_unit, misfit_costs}
 use Rattle.st_runner.specs.Standing.{end_by}
 use Rattle.st_runner.specs.View.{AreReachable, IsSound}
 use Rattle.st_runner.specs.Waiting.{end_at}

@@ -4,7 +4,6 @@ pub mod Leaving
 pub mod Measures
 pub mod Plain
 pub mod Ready
-pub mod Runnable
 pub mod Standing
 pub mod View
 pub mod Waiting

@@ -1,9 +1,12 @@
 -- How much statements and waiting frames need of what a run has reserved.
-use Rattle.std.specs.Prelude.{◌≡◌, ℕ, ◌+◌, ◌≤◌, max, List, [], ◌∷◌, map, Some, slice_get}
+use Rattle.std.specs.Prelude.{◌≡◌, ℕ, ◌+◌, ◌*◌, ◌≤◌, max, List, [], ◌∷◌, map, Some, slice_get}
 use Rattle.st_runner.specs.declared.frame.At.{At}
 use Rattle.st_runner.specs.declared.frame.At.TheVariants as at
 use Rattle.st_runner.specs.declared.frame.Frame.{Frame}
 use Rattle.st_runner.specs.declared.frame.Frame.TheVariants as frame
+use Rattle.st_runner.specs.declared.steps.TheConstants.{UNIT_FRAMES}
+use Rattle.st_tree.specs.Costs.{Costs, body_most, greatest}
+use Rattle.st_tree.specs.Runnable.{chain_costs, chain_of}
 use Rattle.st_tree.specs.declared.expr.Var.{Var}
 use Rattle.st_tree.specs.declared.program.Arm.{Arm, fold-Arm}
 use Rattle.st_tree.specs.declared.program.CaseArm.{CaseArm, fold-CaseArm}
@@ -11,42 +14,6 @@ use Rattle.st_tree.specs.declared.program.Pou.{Pou}
 use Rattle.st_tree.specs.declared.program.StProgram.{StProgram}
 use Rattle.st_tree.specs.declared.program.Stmt.{Stmt, fold-Stmt}
 use Rattle.st_tree.specs.declared.program.Stmt.TheOpen as S
-
--- what a frame of each kind costs, and a call of a unit with these actuals
-pub record Costs : Type 0 where
-  pub rest : ℕ
-  pub again : ℕ
-  pub unit : ℕ
-  pub call : ℕ → List Var → ℕ
-
--- the greatest of some numbers
-abbrev pub greatest : List ℕ → ℕ
-greatest [] = 0
-greatest (n ∷ ns) = max n (greatest ns)
-
--- the most that a statement costs at a time beside the frame that holds it
-abbrev pub most_step : Costs → S.Stmt-F ℕ ℕ ℕ → ℕ
-most_step k (S.Assign v e) = 0
-most_step k (S.AreaWrite w p e) = 0
-most_step k (S.Invoke n actuals) = k.call n actuals
-most_step k (S.If arms other) = k.rest + max (greatest arms) (greatest other)
-most_step k (S.Case e arms other) = k.rest + max (greatest arms) (greatest other)
-most_step k (S.While test body) = k.again + k.rest + greatest body
-most_step k S.Exit = 0
-most_step k S.Continue = 0
-most_step k S.Return = 0
-
-abbrev pub most : Costs → Stmt → ℕ
-most k = fold-Stmt ℕ ℕ ℕ (most_step k) (λ arm. greatest arm.body) (λ arm. greatest arm.body)
-
-abbrev pub arm_most : Costs → Arm → ℕ
-arm_most k = fold-Arm ℕ ℕ ℕ (most_step k) (λ arm. greatest arm.body) (λ arm. greatest arm.body)
-
-abbrev pub case_most : Costs → CaseArm → ℕ
-case_most k = fold-CaseArm ℕ ℕ ℕ (most_step k) (λ arm. greatest arm.body) (λ arm. greatest arm.body)
-
-abbrev pub body_most : Costs → List Stmt → ℕ
-body_most k body = greatest (map (most k) body)
 
 -- what a frame costs, and the most that it costs with what stands above it
 abbrev pub size : Costs → Frame → ℕ
@@ -125,3 +92,13 @@ frame_weight frame.Unit = 1
 abbrev pub work_weight : List Frame → ℕ
 work_weight [] = 0
 work_weight (f ∷ rest) = frame_weight f + work_weight rest
+
+-- The costs of a run
+
+-- how many units each call has
+abbrev pub depth_costs : StProgram → Costs
+depth_costs tree = chain_costs (chain_of tree)
+
+-- how many frames wait at most
+abbrev pub stack_costs : StProgram → Costs
+stack_costs tree = record { rest = 1; again = 1; unit = 1; call = λ n actuals. UNIT_FRAMES * chain_of tree n }

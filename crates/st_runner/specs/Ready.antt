@@ -2,8 +2,9 @@
 use Rattle.std.specs.Prelude.{◌≡◌, ℕ, suc, ◌+◌, ◌<◌, ◌≤◌, max, Bool, true, false, List, [], ◌∷◌, length, Some, Result, Ok, Err}
 use Rattle.s7_base.specs.declared.outcome.Fault.{Fault}
 use Rattle.memory_areas.specs.declared.sizes.TheConstants.{ACTIVATIONS}
-use Rattle.st_runner.specs.Measures.{Costs, most, reach, sizes, tall, units, weight, work_weight}
-use Rattle.st_runner.specs.Runnable.{depth_costs, misfit_costs, stack_costs}
+use Rattle.st_runner.specs.Measures.{reach, sizes, tall, units, weight, work_weight, depth_costs, stack_costs}
+use Rattle.st_tree.specs.Costs.{Costs, most}
+use Rattle.st_tree.specs.Runnable.{misfit_costs}
 use Rattle.st_runner.specs.Waiting.{end_at, ending}
 use Rattle.st_runner.specs.View.{IsSound, state_of}
 use Rattle.st_runner.specs.declared.frame.At.{At}

@@ -57,11 +57,6 @@ abbrev pub AreReachable : List Reference → Type 0
 AreReachable [] = Unit {0}
 AreReachable (r ∷ rest) = IsReachable r × AreReachable rest
 
--- globals stand for areas that a memory has
-abbrev pub AreGlobals : List Located → Type 0
-AreGlobals [] = Unit {0}
-AreGlobals (g ∷ rest) = IsActivation g.place.area × AreGlobals rest
-
 abbrev pub AreHeld : List Kept → Type 0
 AreHeld [] = Unit {0}
 AreHeld (a ∷ rest) = AreReachable a.formals.items × AreHeld rest

@@ -1,7 +1,8 @@
 //! Activations: how a unit is entered and left.
 ghost use Rattle.std.specs.Prelude.{◌≡◌, ◌+◌, ◌≤◌, [], length, map, Ok, Err, IfErr, IfOk, OnOk, vec_capacity, ℕ};
 ghost use Rattle.memory_areas.specs.Access.{and_then};
-ghost use Rattle.st_runner.specs.View.{AreGlobals, AreReachable, Changes, IsDeeper, IsReachable, IsRunning, IsSound, MayEnter, MayLeave, state_of};
+ghost use Rattle.st_runner.specs.View.{AreReachable, Changes, IsDeeper, IsReachable, IsRunning, IsSound, MayEnter, MayLeave, state_of};
+ghost use Rattle.st_tree.specs.Runnable.{AreGlobals};
 ghost use Rattle.st_tree.specs.Calls.{entered, left, zero_of};
 ghost use Rattle.st_tree.specs.Meaning.{located_actual, located_actuals, tested};
 ghost use Rattle.st_tree.specs.State.{reference_of};

@@ -2,7 +2,8 @@
 ghost use Rattle.std.specs.Prelude.{◌≡◌, Ok, Err, MatchResult, ℕ};
 ghost use Rattle.memory_areas.specs.Access.{and_then};
 ghost use Rattle.st_runner.specs.Choice.{has_label, labelled, picked};
-ghost use Rattle.st_runner.specs.View.{AreGlobals, Changes, IsRunning, IsSound, SameShape, state_of};
+ghost use Rattle.st_runner.specs.View.{Changes, IsRunning, IsSound, SameShape, state_of};
+ghost use Rattle.st_tree.specs.Runnable.{AreGlobals};
 ghost use Rattle.st_tree.specs.Meaning.{area_assigned, assigned};
 ghost use Rattle.st_tree.specs.Value.{value};
 ghost use Rattle.st_tree.specs.Values.{is_set};

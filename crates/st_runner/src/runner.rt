@@ -1,7 +1,7 @@
 //! The runner itself.
 ghost use Rattle.std.specs.Prelude.{◌≡◌, ◌+◌, ℕ};
 ghost use Rattle.memory_areas.specs.Areas.{IsMemoryOf};
-ghost use Rattle.st_runner.specs.Runnable.{IsRunnable};
+ghost use Rattle.st_tree.specs.Runnable.{IsRunnable};
 ghost use Rattle.st_runner.specs.Standing.{IsNew, Shows, StaysOver, end_within};
 ghost use Rattle.st_runner.specs.Waiting.{outcome_of};
 

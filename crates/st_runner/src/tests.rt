@@ -1,7 +1,7 @@
 //! What no clause says: that a runner is made while there is memory, and that it runs as the rules say.
 ghost use Rattle.std.specs.Prelude.{◌≡◌, [], IfOk};
 ghost use Rattle.memory_areas.specs.Areas.{IsMemoryOf};
-ghost use Rattle.st_runner.specs.Runnable.{IsRunnable};
+ghost use Rattle.st_tree.specs.Runnable.{IsRunnable};
 
 use crate::Runner;
 use memory_areas::Memory;

@@ -1,4 +1,5 @@
 pub mod Calls
+pub mod Costs
 pub mod Depth
 pub mod Derives
 pub mod Form
@@ -8,6 +9,7 @@ pub mod Operators
 pub mod Proper
 pub mod Reading
 pub mod ReadingLaws
+pub mod Runnable
 pub mod Spelling
 pub mod StKinds
 pub mod StRun

@@ -1,12 +1,12 @@
--- What a tree keeps that can be run: what a proper tree has of it is that its chains of calls and its
--- statements nest no deeper than they may, that calls give as many actuals as there are formals, and that
--- its globals stand for areas that a memory has.
-use Rattle.std.specs.Prelude.{◌≡◌, ℕ, zero, suc, ◌*◌, ◌≤◌, ◌==◌, if◌then◌else◌, List, length, Option, Some, None, slice_get}
+-- What a tree keeps that can be run: its chains of calls and its statements nest no deeper than they may,
+-- its calls give as many actuals as there are formals, and its globals stand for areas that a memory has.
+use Rattle.std.specs.Prelude.{◌≡◌, ℕ, zero, suc, ◌≤◌, ◌==◌, if◌then◌else◌, List, [], ◌∷◌, length, Option, Some, None, slice_get}
+use Rattle.memory_areas.specs.Memory.{IsActivation}
 use Rattle.memory_areas.specs.declared.sizes.TheConstants.{ACTIVATIONS}
-use Rattle.st_runner.specs.Measures.{Costs, body_most}
-use Rattle.st_runner.specs.View.{AreGlobals}
-use Rattle.st_runner.specs.declared.steps.TheConstants.{MOST_NESTING, UNIT_FRAMES}
+use Rattle.st_tree.specs.Costs.{Costs, body_most}
+use Rattle.st_tree.specs.Depth.{deepest}
 use Rattle.st_tree.specs.declared.expr.Var.{Var}
+use Rattle.st_tree.specs.declared.program.Located.{Located}
 use Rattle.st_tree.specs.declared.program.Pou.{Pou}
 use Rattle.st_tree.specs.declared.program.StProgram.{StProgram}
 
@@ -30,18 +30,11 @@ chain_to (suc most) tree n = unit_chain (chain_to most tree) most (slice_get tre
 abbrev pub chain_of : StProgram → ℕ → ℕ
 chain_of tree n = chain_to (suc ACTIVATIONS) tree n
 
-abbrev pub depth_costs : StProgram → Costs
-depth_costs tree = chain_costs (chain_of tree)
-
 -- Nesting
 
 -- how deep IF, CASE and WHILE nest
 abbrev pub nesting_costs : Costs
 nesting_costs = record { rest = 1; again = 0; unit = 0; call = λ n actuals. 0 }
-
--- how many frames wait at most
-abbrev pub stack_costs : StProgram → Costs
-stack_costs tree = record { rest = 1; again = 1; unit = 1; call = λ n actuals. UNIT_FRAMES * chain_of tree n }
 
 -- Actuals
 
@@ -59,10 +52,15 @@ misfit_costs tree = record { rest = 0; again = 0; unit = 0; call = misfit tree }
 
 -- The tree
 
+-- globals stand for areas that a memory has
+abbrev pub AreGlobals : List Located → Type 0
+AreGlobals [] = Unit {0}
+AreGlobals (g ∷ rest) = IsActivation g.place.area × AreGlobals rest
+
 -- what a unit of a tree keeps
 pub record IsRunnableUnit (tree : StProgram) (n : ℕ) (unit : Pou) : Type 0 where
   pub chain : chain_of tree n ≤ ACTIVATIONS
-  pub nesting : body_most nesting_costs unit.body ≤ MOST_NESTING
+  pub nesting : body_most nesting_costs unit.body ≤ deepest
   pub actuals : body_most (misfit_costs tree) unit.body ≡ 0
 
 pub record IsRunnable (tree : StProgram) : Type 0 where
