@@ -1,4 +1,6 @@
+pub mod Actuals
 pub mod Blocks
+pub mod BodyCosts
 pub mod Cycles
 pub mod FirstBreak
 pub mod Followed
@@ -6,6 +8,7 @@ pub mod NameRows
 pub mod OneAnswer
 pub mod Reached
 pub mod Refusals
+pub mod RunnableUnits
 pub mod Tables
 pub mod Taken
 pub mod TextRows
