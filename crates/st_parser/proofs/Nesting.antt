@@ -80,7 +80,7 @@ mutual
       let deep : suc d + greatest (map arm_nest (tree_arms arms)) ≤ most = r.0 o.1.0 in
       let other : suc d + raw_nest (tree_all body) ≤ most = o.0 o.1.0 in
       let n : nest (tree_one (choice_else line arms body)) ≡ suc (max (greatest (map arm_nest (tree_arms arms))) (raw_nest (tree_all body)))
-          = nest_is (tree_one (choice_else line arms body)) ∙ nest_if (tree_arms arms) (tree_all body) in
+      = nest_is (tree_one (choice_else line arms body)) ∙ nest_if (tree_arms arms) (tree_all body) in
       (λ here. omega (arith, deep, other, n), r.1)
   one_nests most d inside (cases line e arms) w fit h =
       let r : Nests most (suc d) (greatest (map case_nest (tree_cases arms))) (suc d ∷ levels (suc d) e (suc d ∷ w)) = cases_nest most (suc d) inside arms (suc d ∷ levels (suc d) e (suc d ∷ w)) fit.2 h.1 in
@@ -89,12 +89,12 @@ mutual
       (λ here. omega (arith, deep, n), (before_form most (suc d) e (suc d ∷ w) r.1.1).1)
   one_nests most d inside (cases_else line e arms body) w fit h =
       let o : Nests most (suc d) (raw_nest (tree_all body)) (suc d ∷ levels_cases (suc d) arms (suc d ∷ levels (suc d) e (suc d ∷ w)))
-          = all_nest most (suc d) inside body (suc d ∷ levels_cases (suc d) arms (suc d ∷ levels (suc d) e (suc d ∷ w))) fit.3 h.1 in
+      = all_nest most (suc d) inside body (suc d ∷ levels_cases (suc d) arms (suc d ∷ levels (suc d) e (suc d ∷ w))) fit.3 h.1 in
       let r : Nests most (suc d) (greatest (map case_nest (tree_cases arms))) (suc d ∷ levels (suc d) e (suc d ∷ w)) = cases_nest most (suc d) inside arms (suc d ∷ levels (suc d) e (suc d ∷ w)) fit.2 o.1.1 in
       let deep : suc d + greatest (map case_nest (tree_cases arms)) ≤ most = r.0 r.1.0 in
       let other : suc d + raw_nest (tree_all body) ≤ most = o.0 o.1.0 in
       let n : nest (tree_one (cases_else line e arms body)) ≡ suc (max (greatest (map case_nest (tree_cases arms))) (raw_nest (tree_all body)))
-          = nest_is (tree_one (cases_else line e arms body)) ∙ nest_case (tree e) (tree_cases arms) (tree_all body) in
+      = nest_is (tree_one (cases_else line e arms body)) ∙ nest_case (tree e) (tree_cases arms) (tree_all body) in
       (λ here. omega (arith, deep, other, n), (before_form most (suc d) e (suc d ∷ w) r.1.1).1)
   one_nests most d inside (loop line e body) w fit h =
       let o : Nests most (suc d) (raw_nest (tree_all body)) (suc d ∷ levels (suc d) e (suc d ∷ w)) = all_nest most (suc d) true body (suc d ∷ levels (suc d) e (suc d ∷ w)) fit.1 h.1 in
@@ -124,7 +124,7 @@ mutual
       let rest : d + greatest (map arm_nest (tree_arms others)) ≤ most = r.0 x.1.0 in
       let one : arm_nest (arm_of (tree e) (tree_all body)) ≡ raw_nest (tree_all body) = arm_nest_is (tree e) (tree_all body) in
       let n : greatest (map arm_nest (tree_arms (arm others e body))) ≡ max (greatest (map arm_nest (tree_arms others))) (arm_nest (arm_of (tree e) (tree_all body)))
-          = greatest_last arm_nest (tree_arms others) (arm_of (tree e) (tree_all body)) in
+      = greatest_last arm_nest (tree_arms others) (arm_of (tree e) (tree_all body)) in
       (λ place. omega (arith, last, rest, one, n), r.1)
 
   cases_nest : (most d : ℕ) (inside : Bool) (arms : CaseArms) (w : List ℕ) → CasesFit inside arms → AllWithin most (levels_cases d arms w) → Nests most d (greatest (map case_nest (tree_cases arms))) w
@@ -136,7 +136,7 @@ mutual
       let rest : d + greatest (map case_nest (tree_cases others)) ≤ most = r.0 x.1.0 in
       let one : case_nest (case_of (tree_labels labels) (tree_all body)) ≡ raw_nest (tree_all body) = case_nest_is (tree_labels labels) (tree_all body) in
       let n : greatest (map case_nest (tree_cases (case_arm others labels body))) ≡ max (greatest (map case_nest (tree_cases others))) (case_nest (case_of (tree_labels labels) (tree_all body)))
-          = greatest_last case_nest (tree_cases others) (case_of (tree_labels labels) (tree_all body)) in
+      = greatest_last case_nest (tree_cases others) (case_of (tree_labels labels) (tree_all body)) in
       (λ place. omega (arith, last, rest, one, n), r.1)
 
   -- the word THEN of an arm has the depth of its statements
