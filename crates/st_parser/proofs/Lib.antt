@@ -8,6 +8,7 @@ mod Finish
 mod Kept
 mod KeptText
 mod Loops
+pub mod Nesting
 mod SyntaxRows
 mod Verdicts
 mod Whole

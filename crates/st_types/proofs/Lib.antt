@@ -4,8 +4,11 @@ pub mod BodyCosts
 pub mod Cycles
 pub mod FirstBreak
 pub mod Followed
+pub mod GlobalAreas
 pub mod NameRows
+pub mod Nesting
 pub mod OneAnswer
+pub mod RawNests
 pub mod Reached
 pub mod Refusals
 pub mod RunnableUnits

@@ -7,6 +7,7 @@ pub mod Expressions
 pub mod Globals
 pub mod Invocations
 pub mod Names
+pub mod RawNesting
 pub mod Scopes
 pub mod Search
 pub mod Statements
