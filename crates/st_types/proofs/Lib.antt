@@ -1,5 +1,8 @@
+pub mod BlockKeys
+pub mod BlockSizes
 pub mod Blocks
 pub mod Cycles
+pub mod DataBlocks
 pub mod FirstBreak
 pub mod Followed
 pub mod NameRows
