@@ -1,17 +1,22 @@
 -- What the judgement of a text's tokens says of the text.
-use Rattle.std.proofs.Common.{◌≡◌, ℕ, List, [], ◌∷◌, ◌++◌, map, Option, Some, None, Result, Ok, Err, refl, sym, ap, subst, ◌∙◌}
+use Rattle.std.proofs.Common.{◌≡◌, ℕ, false, List, [], ◌∷◌, ◌++◌, map, Option, Some, None, Result, Ok, Err, refl, sym, ap, subst, ◌∙◌}
 use Rattle.s7_base.specs.Tokens.{line_at_end}
 use Rattle.s7_base.specs.declared.reason.Line.{Line}
 use Rattle.s7_base.specs.declared.reason.Reason.{Reason}
 use Rattle.s7_base.specs.declared.reason.Reason.TheVariants as reason
-use Rattle.s7_base.specs.declared.reason.Rejection.TheVariants.{Refused}
-use Rattle.st_lexer.specs.StTokens.{tokens_of}
+use Rattle.s7_base.specs.declared.reason.Rejection.{Rejection}
+use Rattle.s7_base.specs.declared.reason.Rejection.TheVariants.{Refused, NoMemory}
+use Rattle.st_lexer.specs.Answers.{Answers}
+use Rattle.st_lexer.specs.StTokens.{answer, cut_from, first_bad, great_from, tokens_of}
 use Rattle.st_lexer.specs.declared.token.StToken.{StToken}
 use Rattle.st_parser.proofs.Ends.{IsOver, ends_over}
 use Rattle.st_parser.proofs.Exact.{Read, ReadAll, read_all, raw_of}
 use Rattle.st_parser.proofs.Verdicts.{Refuses, Says, says}
-use Rattle.st_parser.specs.Judge.{judge, text_in}
+use Rattle.st_parser.specs.Answers.{IfRefused}
+use Rattle.st_parser.specs.Judge.{HasText, judge, text_in}
 use Rattle.st_parser.specs.Machine.{code, Before, State, start, over}
+use Rattle.st_parser.specs.declared.state.Before.{Before as Found}
+use Rattle.st_tree.specs.declared.raw.RawSt.{RawSt}
 use Rattle.st_parser.specs.Syntax.{Lined, lined, all_lined, HasLined, HasRawTree, IsSyntaxRefused}
 
 -- a text whose tokens are judged good has the tree of its end
@@ -38,3 +43,38 @@ refused_of bytes tokens line why found bad = by why (subst (Says (all_lined toke
 pub not_over : (tokens : List StToken) (line : Line) (q : State code) → judge start (all_lined tokens line) ≡ Ok q → text_in q ≡ None → ⊥
 not_over tokens line (over t) good e = absurd cc
 not_over tokens line other good e = ends_over (map lined tokens) line other good
+
+-- tokens are refused for a bad one alone
+why_bad : (place : Option Line) (tokens : List StToken) (line : Line) (why : Reason) → answer place tokens ≡ Err (Refused line why) → why ≡ reason.BadToken
+why_bad (Some first) tokens line why e = cc
+why_bad None tokens line why e = absurd cc
+
+-- a text whose tokens are refused is
+pub bad_token : (bytes : List ℕ) (line : Line) (why : Reason) → tokens_of bytes ≡ Err (Refused line why) → IsSyntaxRefused bytes line why
+unfolding tokens_of
+bad_token bytes line why e =
+    let cut = cut_from 0 1 bytes in
+    let is : why ≡ reason.BadToken = why_bad (first_bad (great_from false cut.tokens) cut.bad) cut.tokens line why e in
+    subst (IsSyntaxRefused bytes line) (sym is) (subst (λ (w : Reason). tokens_of bytes ≡ Err (Refused line w)) is e)
+
+-- a text whose tokens are judged good has the tree of its end
+pub read_as : (bytes : List ℕ) (tokens : List StToken) (end : Line) (text : Before code) → tokens_of bytes ≡ Ok tokens → end ≡ line_at_end bytes → HasText (judge start (all_lined tokens end)) text
+    → HasRawTree bytes (raw_of text)
+read_as bytes tokens end text found at h =
+    by (judge start (all_lined tokens end)) refl h
+  where
+    by : (given : Result (State code) Rejection) → given ≡ judge start (all_lined tokens end) → HasText given text → HasRawTree bytes (raw_of text)
+    by (Ok q) e t = tree_of bytes tokens q text found (subst (λ (line : Line). judge start (all_lined tokens line) ≡ Ok q) at (sym e)) t
+    by (Err refused) e t = absurd t
+
+-- what refuses a text's tokens refuses the text
+pub bad_tokens : (bytes : List ℕ) (refused : Rejection) → Answers {X = List StToken} (Err refused) (tokens_of bytes) → IfRefused {X = RawSt} (Err refused) (IsSyntaxRefused bytes)
+bad_tokens bytes (Refused line why) h = bad_token bytes line why h
+bad_tokens bytes NoMemory h = tt
+
+-- and so does what their judgement refuses
+pub refused_as : (bytes : List ℕ) (tokens : List StToken) (end : Line) (refused : Rejection) → tokens_of bytes ≡ Ok tokens → end ≡ line_at_end bytes
+    → IfRefused {X = Found} (Err refused) (λ line why. judge start (all_lined tokens end) ≡ Err (Refused line why)) → IfRefused {X = RawSt} (Err refused) (IsSyntaxRefused bytes)
+refused_as bytes tokens end (Refused line why) found at bad =
+    refused_of bytes tokens line why found (subst (λ (last : Line). judge start (all_lined tokens last) ≡ Err (Refused line why)) at bad)
+refused_as bytes tokens end NoMemory found at bad = tt

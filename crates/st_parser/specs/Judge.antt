@@ -44,6 +44,11 @@ abbrev pub text_in : State code → Option (Before code)
 text_in (over text) = Some text
 text_in other = None
 
+-- a judgement that is good comes to this text
+abbrev pub HasText : Result (State code) Rejection → Before code → Type 0
+HasText (Ok q) text = text_in q ≡ Some text
+HasText (Err refused) text = ⊥
+
 -- the code's answer is the judgement, or want of memory
 abbrev pub JudgedIs : State code → Option Rejection → Result (State code) Rejection → Type 0
 JudgedIs state None given = given ≡ Ok state

@@ -7,4 +7,5 @@ pub mod Levels
 pub mod Machine
 pub mod Steps
 pub mod Syntax
+pub mod Texts
 pub mod Views

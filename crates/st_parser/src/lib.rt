@@ -1,7 +1,9 @@
-//! The syntax of Structured Text.
+//! Reads Structured Text: its syntax and depth of nesting, and by `st_types` its names, types, places and
+//! calls.
 #![tactic(auto)]
 
 pub use parser::syntax;
+pub use text::parse;
 
 mod declaration;
 mod expression;
@@ -13,6 +15,7 @@ mod state;
 mod statement;
 #[cfg(test)]
 mod tests;
+mod text;
 mod token;
 mod unit;
 mod words;

@@ -1,7 +1,8 @@
 //! Judges the syntax of a text: its tree before names are looked up, or its first wrong token.
-ghost use Rattle.std.specs.Prelude.{◌≡◌, ◌+◌, nat_lt, IfOk, option_map};
+ghost use Rattle.std.specs.Prelude.{◌≡◌, ◌+◌, nat_lt, Err, IfOk, option_map};
+ghost use Rattle.s7_base.specs.declared.reason.Rejection.TheVariants.{Refused};
 ghost use Rattle.st_parser.specs.Answers.{IfRefused};
-ghost use Rattle.st_parser.specs.Judge.{seen, turn, reached, judged, judge, text_in, JudgedIs};
+ghost use Rattle.st_parser.specs.Judge.{seen, turn, reached, judged, judge, text_in, HasText, JudgedIs};
 ghost use Rattle.st_parser.specs.Kinds.{kind_of};
 ghost use Rattle.st_parser.specs.Levels.{deepest};
 ghost use Rattle.st_parser.specs.Machine.{code};
@@ -118,14 +119,46 @@ fn judge(alloc: Global, tokens: &[StToken], end: Line) -> Judged
     advance(alloc, state, Kind::Fixed(Fixed::End), end)
 }
 
-/// The whole text, if the state is behind its end.
+/// The whole text, if the state is behind its end. The parts of another state are given up in calls of
+/// their own, since they are too many for one function's borrow check.
 #[tactic(auto, unfolding(crate::specs::Judge::seen))]
 fn finish(state: State) -> Option<Before>
     ensures { option_map before_of result ≡ text_in (seen state) }
 {
     match state {
-        State::Over(text) => Some(text),
-        _ => None,
+        State::Start => {}
+        State::Globals(globals) => drop(globals),
+        State::Row(globals, name, _line, row) => {
+            drop((globals, name));
+            drop(row);
+        }
+        State::Between(text) | State::Heading(text, _, _) => drop(text),
+        State::Opened(top) => drop(top),
+        State::FormalsDone(top, formals) => drop((top, formals)),
+        State::Section(top, which, done) => drop((top, which, done)),
+        State::Typing(top, which, done, name, _, _) => drop((top, which, done, name)),
+        State::Inside(top, formals, locals, spot) => {
+            drop((top, formals, locals));
+            drop(spot);
+        }
+        State::Over(text) => return Some(text),
+    }
+    None
+}
+
+/// The whole text of these tokens, or why it is refused.
+fn whole(alloc: Global, tokens: &[StToken], end: Line) -> Result<Before, Rejection>
+    ensures text { IfOk result (λ text. HasText (judge (seen state.Start) (all_lined tokens.now end)) (before_of text)) }
+    ensures refused { IfRefused result (λ line reason. judge (seen state.Start) (all_lined tokens.now end) ≡ Err (Refused line reason)) }
+{
+    let Judged { state, refusal } = judge(alloc, tokens, end);
+    let text = finish(state);
+    if let Some(refused) = refusal {
+        return Err(refused);
+    }
+    match text {
+        Some(text) => Ok(text),
+        None => unreachable!(),
     }
 }
 
@@ -135,17 +168,15 @@ pub fn syntax(alloc: Global, bytes: &[u8]) -> Result<RawSt, Rejection>
     ensures tree { IfOk result (HasRawTree bytes.now) }
     ensures refused { IfRefused result (IsSyntaxRefused bytes.now) }
 {
-    let tokens = st_tokens(alloc, bytes)?;
-    let Judged { state, refusal } = judge(alloc, tokens.as_slice(), end_line(bytes));
-    let text = finish(state);
-    if let Some(refused) = refusal {
-        return Err(refused);
-    }
-    match text {
-        Some(Before { globals, units }) => Ok(RawSt {
+    let tokens = match st_tokens(alloc, bytes) {
+        Ok(tokens) => tokens,
+        Err(refused) => return Err(refused),
+    };
+    match whole(alloc, tokens.as_slice(), end_line(bytes)) {
+        Ok(Before { globals, units }) => Ok(RawSt {
             globals,
             pous: units,
         }),
-        None => unreachable!(),
+        Err(refused) => Err(refused),
     }
 }

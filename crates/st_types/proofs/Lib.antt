@@ -1,7 +1,10 @@
 pub mod Actuals
+pub mod BlockKeys
+pub mod BlockSizes
 pub mod Blocks
 pub mod BodyCosts
 pub mod Cycles
+pub mod DataBlocks
 pub mod FirstBreak
 pub mod Followed
 pub mod GlobalAreas
@@ -12,6 +15,7 @@ pub mod RawNests
 pub mod Reached
 pub mod Refusals
 pub mod RunnableUnits
+pub mod Runs
 pub mod Tables
 pub mod Taken
 pub mod TextRows

@@ -1,6 +1,8 @@
 -- A text has one answer: one tree, or one line and rule. And the first of some broken rules is one of
--- them before which no other comes; and chains of calls are calls that are followed.
+-- them before which no other comes; chains of calls are calls that are followed; and the data blocks of a
+-- tree are ones that a memory may have.
 use Rattle.std.specs.Prelude.{◌≡◌, ℕ, ◌<◌, true, false, List, [], length, get_or, slice_get, Some, None}
+use Rattle.memory_areas.specs.Areas.{AreBlocks}
 use Rattle.s7_base.specs.declared.reason.Line.{Line}
 use Rattle.s7_base.specs.declared.reason.Reason.{Reason}
 use Rattle.st_tree.specs.declared.program.StProgram.{StProgram}
@@ -45,3 +47,7 @@ pub record IsFollowed (graph : Graph) (n i : ℕ) : Type 0 where
 pub record ChainsAreFollowed : Type 0 where
   pub sound : (graph : Graph) (n i : ℕ) → get_or (chains graph n) i false ≡ true → IsFollowed graph n i
   pub complete : (graph : Graph) (n i : ℕ) → IsFollowed graph n i → get_or (chains graph n) i false ≡ true
+
+-- a memory may have the data blocks of a tree
+abbrev pub BlocksFit : Type 0
+BlocksFit = (raw : RawSt) (t : StProgram) → HasTree raw t → AreBlocks t.dbs

@@ -1,0 +1,25 @@
+//! Reads a Structured Text: first its syntax, then its names, types, places and calls.
+ghost use Rattle.std.specs.Prelude.{IfErr, IfOk};
+ghost use Rattle.memory_areas.specs.Areas.{AreBlocks};
+ghost use Rattle.st_parser.specs.Texts.{IsRefusedAs, IsTextOf};
+ghost use Rattle.st_tree.specs.Runnable.{IsRunnable};
+
+use crate::parser::syntax;
+use s7_base::Rejection;
+use st_tree::StProgram;
+use st_types::typed;
+use std::alloc::Global;
+
+/// The tree of a text, or the line and the reason of the first rule that it breaks. The tree has data
+/// blocks that a memory may have, and can be run.
+pub fn parse(alloc: Global, bytes: &[u8]) -> Result<StProgram, Rejection>
+    ensures tree { IfOk result (IsTextOf bytes.now) }
+    ensures refused { IfErr result (IsRefusedAs bytes.now) }
+    ensures blocks { IfOk result (λ tree. AreBlocks tree.dbs) }
+    ensures runnable { IfOk result IsRunnable }
+{
+    match syntax(alloc, bytes) {
+        Ok(raw) => typed(alloc, raw),
+        Err(refused) => Err(refused),
+    }
+}
