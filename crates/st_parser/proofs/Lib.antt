@@ -10,5 +10,6 @@ mod KeptText
 mod Loops
 pub mod Nesting
 mod SyntaxRows
+mod Texts
 mod Verdicts
 mod Whole
