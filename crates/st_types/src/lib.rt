@@ -2,11 +2,12 @@
 //! tree, or the first rule that is broken is named.
 #![tactic(auto)]
 
+pub use call::Call;
 pub use text::typed;
 
 mod broken;
 mod call;
-mod components;
+pub mod components;
 mod cycle;
 mod declaration;
 mod depth;
@@ -19,8 +20,6 @@ mod scope;
 mod search;
 mod statement;
 mod table;
-#[cfg(test)]
-mod tests;
 mod text;
 pub mod text_laws;
 mod types;

@@ -1,13 +1,12 @@
 //! Which texts are refused, by which rule and on which line, and the tree of one that is not.
-use crate::call::Call;
-use crate::components::components;
-use crate::typed;
 use memory_areas::{Area, AreaName, DataBlock, Place};
 use s7_base::{Boxed, Line, List, NoMemory, Reason, Rejection, Width};
 use st_tree::{
     BinaryOp, Local, Located, Pou, RawExpr, RawGlobal, RawGlobalType, RawLocal, RawPou, RawSt,
     RawStmt, RawStmtKind, RawVar, ShiftOp, StProgram, StType, Stmt, Var,
 };
+use st_types::components::components;
+use st_types::{Call, typed};
 use std::alloc::Global;
 use std::test::Fail;
 
