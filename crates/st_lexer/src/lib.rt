@@ -7,8 +7,8 @@
 pub use direct::{Direct, direct_at};
 pub use lexer::{end_line, st_tokens};
 pub use literal::{Literal, is_in_range, literal_at, type_named};
-pub use st_tree::StType;
 pub use number::{Base, Number, base_at, begins_with_digit};
+pub use st_tree::StType;
 pub use text::{front_of, is_same_word, rest_after};
 pub use token::{StKind, StToken};
 pub use token_laws::tokens_are_cut;

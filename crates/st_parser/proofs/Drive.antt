@@ -166,7 +166,7 @@ drive u d s (variable v line) t ts w b h l = refl
 drive u d s (group f) t ts w b h l = drive u (suc d) (bracket ∷ s) f close (t ∷ ts) (suc d ∷ w) b (level_most f) tt
 drive u d s (prefix op f) t ts w b h l =
     ap (λ (o : Option (State written)). go w (spell f (t ∷ ts)) o) (prefix_next u d s op
-        ∙ ap (λ (c : Bool). option_map (λ (to : Spot written). inside u.top u.formals u.locals to) (if c then Some (spot written (suc d) (unary op ∷ s) operand) else None)) (le_true (prefix_level op) (limit written s) h))
+    ∙ ap (λ (c : Bool). option_map (λ (to : Spot written). inside u.top u.formals u.locals to) (if c then Some (spot written (suc d) (unary op ∷ s) operand) else None)) (le_true (prefix_level op) (limit written s) h))
     ∙ drive u (suc d) (unary op ∷ s) f t ts (suc d ∷ w) b.1 b.0 (lets_less (level f) (prefix_level op) t b.0 l)
     ∙ ap (λ (o : Option (State written)). go (levels (suc d) f (suc d ∷ w)) ts o) (past_unary u (suc d) op s f t)
 drive u d s (infix_of op f g) t ts w b fits l =

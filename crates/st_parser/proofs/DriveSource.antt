@@ -181,8 +181,8 @@ units_all g no_unit more w end n h r = r
 units_all g (unit others head f l body) more w end n h r =
     units_all g others (spell_head head (spell_formals f (spell_temps l (spell_all body (end_word head.program ∷ more))))) w end n h.0
     (word_read (text_of g others) head.program head.line (kind.Variable (var.Name head.name) head.place ∷ spell_formals f (spell_temps l (spell_all body (end_word head.program ∷ more)))) (levels_units others w)
-        ∙ ap (λ (c : Bool). go (0 ∷ levels_units others w) (spell_formals f (spell_temps l (spell_all body (end_word head.program ∷ more)))) (if c then Some (opened (top_of written (text_of g others) head)) else None)) h.1
-        ∙ sections_read (text_of g others) head f l body more (0 ∷ 0 ∷ levels_units others w) end n h.2 h.3 h.4 r)
+    ∙ ap (λ (c : Bool). go (0 ∷ levels_units others w) (spell_formals f (spell_temps l (spell_all body (end_word head.program ∷ more)))) (if c then Some (opened (top_of written (text_of g others) head)) else None)) h.1
+    ∙ sections_read (text_of g others) head f l body more (0 ∷ 0 ∷ levels_units others w) end n h.2 h.3 h.4 r)
 
 -- the end of a text
 abbrev pub finished : Source → State written

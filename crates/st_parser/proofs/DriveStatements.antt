@@ -46,10 +46,10 @@ Through u d s body = (ks : List Kind) (w : List ℕ) → run u d s (statement no
 
 arm_through : (u : Unit_read) (d : ℕ) (s : List (Frame written)) (before : Statements) (line : Line) (others : Arms) (e : Form) (body : Statements) (more : List Kind) (w : List ℕ) → Binds e →
     ((ks : List Kind) → run u d s (statement before) w (spell_arms line others (arm_word line others ∷ ks))
-        ≡ run u (suc d) (waiting (begun written before line) (test others) ∷ s) operand (suc d ∷ levels_arms (suc d) others w) ks)
+    ≡ run u (suc d) (waiting (begun written before line) (test others) ∷ s) operand (suc d ∷ levels_arms (suc d) others w) ks)
     → Through u (suc d) (within (begun written before line) (choosing others e) ∷ s) body
     → run u d s (statement before) w (spell_arms line (arm others e body) more)
-        ≡ run u (suc d) (within (begun written before line) (choosing others e) ∷ s) (statement body) (levels_arms (suc d) (arm others e body) w) more
+    ≡ run u (suc d) (within (begun written before line) (choosing others e) ∷ s) (statement body) (levels_arms (suc d) (arm others e body) w) more
 arm_through u d s before line others e body more w bind word through =
     word (spell e (kind.Fixed fixed.Then ∷ spell_all body more))
     ∙ drive u (suc d) (waiting (begun written before line) (test others) ∷ s) e (kind.Fixed fixed.Then) (spell_all body more) (suc d ∷ levels_arms (suc d) others w) bind (level_most e) tt
@@ -58,10 +58,10 @@ arm_through u d s before line others e body more w bind word through =
 case_through : (u : Unit_read) (d : ℕ) (s : List (Frame written)) (b : Begun written) (e : Form) (others : CaseArms) (labels : Labels) (body : Statements) (more : List Kind) (w : List ℕ) →
     LabelsFit labels
     → ((c : Literal) (ks : List Kind) → is_value c ≡ true →
-        run u d s (part b (first_label e no_case)) w (spell_cases others (kind.Literal c ∷ ks)) ≡ run u d s (part b (labelled e others (label c))) (d ∷ levels_cases d others w) ks)
+    run u d s (part b (first_label e no_case)) w (spell_cases others (kind.Literal c ∷ ks)) ≡ run u d s (part b (labelled e others (label c))) (d ∷ levels_cases d others w) ks)
     → Through u d (within b (selecting e others labels) ∷ s) body
     → run u d s (part b (first_label e no_case)) w (spell_cases (case_arm others labels body) more)
-        ≡ run u d (within b (selecting e others labels) ∷ s) (statement body) (levels_cases d (case_arm others labels body) w) more
+    ≡ run u d (within b (selecting e others labels) ∷ s) (statement body) (levels_cases d (case_arm others labels body) w) more
 case_through u d s b e others labels body more w fit first through =
     labels_all u d s b e others (λ (ks : List Kind). run u d s (part b (first_label e no_case)) w (spell_cases others ks)) (levels_cases d others w) first
     labels (kind.Fixed fixed.Colon ∷ spell_all body more) fit
@@ -138,4 +138,4 @@ mutual
       (λ x more y. drive_first u d s b e others x more w h.0 y)
       (λ more n. drive_all u d (within b (selecting e others labels) ∷ s) body more n h.2)
       ∙ ap (λ (x : Bool). go (levels_cases d (case_arm others labels body) w) ks (option_map (λ (to : Spot written). inside u.top u.formals u.locals to)
-          (if x then Some (spot written d s (part b (labelled e (case_arm others labels body) (label c)))) else None))) v
+      (if x then Some (spot written d s (part b (labelled e (case_arm others labels body) (label c)))) else None))) v

@@ -117,12 +117,24 @@ operator_ends : (u : Unit_read) (d : ℕ) (s : List (Frame written)) (f : Form) 
 operator_ends u d [] f w h b fits = absurd h
 operator_ends u d (unary op ∷ s) f w h b fits =
     let e = operator_ends u (shallower d) s (prefix op f) w h.1 (fits, b) h.0 in
-    record { token = e.token; rest = e.rest; text = e.text; levels = e.levels; closes = e.closes;
-      reaches = ap (λ (o : Option (State written)). go w e.rest o) (past_unary u d op s f e.token) ∙ e.reaches }
+    record {
+      token = e.token;
+      rest = e.rest;
+      text = e.text;
+      levels = e.levels;
+      closes = e.closes;
+      reaches = ap (λ (o : Option (State written)). go w e.rest o) (past_unary u d op s f e.token) ∙ e.reaches;
+    }
 operator_ends u d (left op g ∷ s) f w h b fits =
     let e = operator_ends u d s (infix_of op g f) w h.3 (h.0, below_one (level f) (infix_level op) (infix_some op) fits, h.1, b) h.2 in
-    record { token = e.token; rest = e.rest; text = e.text; levels = e.levels; closes = e.closes;
-      reaches = ap (λ (o : Option (State written)). go w e.rest o) (past_left u d op g s f e.token (lets (infix_level op) e.token e.closes)) ∙ e.reaches }
+    record {
+      token = e.token;
+      rest = e.rest;
+      text = e.text;
+      levels = e.levels;
+      closes = e.closes;
+      reaches = ap (λ (o : Option (State written)). go w e.rest o) (past_left u d op g s f e.token (lets (infix_level op) e.token e.closes)) ∙ e.reaches;
+    }
 operator_ends u d (bracket ∷ s) f w h b fits =
     operator_by close [] u d (bracket ∷ s) f (within_unit u (shallower d) s (operator (group f))) w (shallower d ∷ w) tt (λ ks. refl)
     (as_ends u (shallower d) s (group f) (shallower d ∷ w) (operator_ends u (shallower d) s (group f) (shallower d ∷ w) h b (omega arith)))

@@ -345,12 +345,12 @@ fitting k d [] f most h b strong fits = absurd h
 fitting k d (unary op ∷ s) f most h b strong fits =
     le_cases (prefix_level op) k (λ c. Fitting k (unary op ∷ s) f (if c then reduce written k (shallower d) s (prefix op f) else reduced_to written d (unary op ∷ s) f))
     (λ low. let r = fitting k (shallower d) s (prefix op f) most h.1 (fits, b) low h.0 in
-        record { inner = r.inner; binds = r.binds; strong = r.strong; room = r.room; same = r.same })
+    record { inner = r.inner; binds = r.binds; strong = r.strong; room = r.room; same = r.same })
     (λ high. record { inner = h; binds = b; strong = strong; room = omega arith; same = λ more. refl })
 fitting k d (left op g ∷ s) f most h b strong fits =
     le_cases (infix_level op) k (λ c. Fitting k (left op g ∷ s) f (if c then reduce written k d s (infix_of op g f) else reduced_to written d (left op g ∷ s) f))
     (λ low. let r = fitting k d s (infix_of op g f) most h.3 (h.0, below_one (level f) (infix_level op) (infix_some op) fits, h.1, b) low h.2 in
-        record { inner = r.inner; binds = r.binds; strong = r.strong; room = r.room; same = r.same })
+    record { inner = r.inner; binds = r.binds; strong = r.strong; room = r.room; same = r.same })
     (λ high. record { inner = h; binds = b; strong = strong; room = at_least k (infix_level op) high; same = λ more. refl })
 fitting k d (bracket ∷ s) f most h b strong fits = record { inner = h; binds = b; strong = strong; room = most; same = λ more. refl }
 fitting k d (argument a ∷ s) f most h b strong fits = record { inner = h; binds = b; strong = strong; room = most; same = λ more. refl }

@@ -187,7 +187,7 @@ at_typing_kept top which done name line (local_end ty) k h = tt
 -- the end of a unit, where its head says what it is
 left_kept : (program : Bool) (top : Top written) (f l : Section Locals) (body : Statements) (c : Bool) → top.head.program ≡ c → TopFits top → HeadFits top.head.program f → IfPresent LocalsFit l → AllFit false body
     → IfSome (if ends program c then Some (between (record { globals = top.text.globals; units = unit top.text.units top.head f l body })) else None)
-        (Kept (λ more. past_top top (spell_formals f (spell_temps l (spell_all body (end_word program ∷ more))))))
+    (Kept (λ more. past_top top (spell_formals f (spell_temps l (spell_all body (end_word program ∷ more))))))
 left_kept true top f l body true e t hf hl hb = record {
   shaped = (t.0.0, (t.0.1, t.1, hf, hl, hb));
   grown = λ more. ap (λ (c : Bool). past_top top (spell_formals f (spell_temps l (spell_all body (end_word c ∷ more))))) e;

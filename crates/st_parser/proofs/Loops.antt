@@ -27,5 +27,5 @@ in_loop_is [] = refl
 in_loop_is (f ∷ fs) =
     ap (λ (b : Bool). is_loop code (frame_of f) || b) (in_loop_is fs)
     ∙ sym (ap (λ (s : List (Frame code)). in_loop code s) (reverse-append (frame_of f ∷ []) (map frame_of fs))
-        ∙ in_loop_append (reverse (map frame_of fs)) (frame_of f ∷ [])
-        ∙ or_turned (in_loop code (reverse (map frame_of fs))) (is_loop code (frame_of f)))
+    ∙ in_loop_append (reverse (map frame_of fs)) (frame_of f ∷ [])
+    ∙ or_turned (in_loop code (reverse (map frame_of fs))) (is_loop code (frame_of f)))

@@ -176,13 +176,13 @@ program_tokens = refl
 program_tree : raw_tree program ≡ record {
   globals = [];
   pous = record {
-        program = true;
-        name = codes "p";
-        line = on 1;
-        formals = [];
-        locals = [];
-        body = on_line (on 2) (stmt.If (arm_of (expr.Read (var.Name (codes "a"))) (on_line (on 3) (stmt.Assign (var.Name (codes "b")) (expr.Read (var.Name (codes "c")))) ∷ []) ∷ []) []) ∷ [];
-      } ∷ [];
+    program = true;
+    name = codes "p";
+    line = on 1;
+    formals = [];
+    locals = [];
+    body = on_line (on 2) (stmt.If (arm_of (expr.Read (var.Name (codes "a"))) (on_line (on 3) (stmt.Assign (var.Name (codes "b")) (expr.Read (var.Name (codes "c")))) ∷ []) ∷ []) []) ∷ [];
+  } ∷ [];
 }
 program_tree = refl
 

@@ -6,8 +6,8 @@ ghost use Rattle.st_parser.specs.Steps.{shallower};
 
 use crate::kind::{Literal, OneOperand, Prefix};
 use s7_base::{Boxed, Line, NoMemory};
-use std::alloc::Global;
 use st_tree::{BinaryOp, RawExpr, RawVar, ShiftOp, StType, UnaryOp};
+use std::alloc::Global;
 
 /// An expression, and how high its tree is.
 #[derive(Drop)]

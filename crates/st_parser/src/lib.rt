@@ -13,8 +13,6 @@ mod parser;
 mod row;
 mod state;
 mod statement;
-#[cfg(test)]
-mod tests;
 mod text;
 mod token;
 mod unit;

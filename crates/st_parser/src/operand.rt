@@ -7,14 +7,14 @@ ghost use Rattle.st_parser.specs.declared.kind.Kind.TheVariants as kind;
 ghost use Rattle.st_parser.specs.Views.{argument_of, begun_of, use_of, stack_of, spot_of, reduced_of};
 
 use crate::expression::{
-    Measured, infix_level, is_value, of_apply, of_infix, of_literal, of_prefix, of_select, of_shift,
-    of_variable, one_more, prefix_level, shallower,
+    Measured, infix_level, is_value, of_apply, of_infix, of_literal, of_prefix, of_select,
+    of_shift, of_variable, one_more, prefix_level, shallower,
 };
 use crate::kind::{Fixed, Function, Kind, Prefix};
 use crate::state::{Argument, Begun, Body, Frame, Part, Place, Spot, Use};
 use s7_base::{Boxed, List, NoMemory, Width};
-use std::alloc::Global;
 use st_tree::{BinaryOp, RawStmt, RawStmtKind, RawVar};
+use std::alloc::Global;
 
 /// The weakest level of binding.
 const WEAKEST: u32 = 9;
@@ -98,7 +98,11 @@ fn with_prefix(depth: usize, mut frames: Vec<Frame>, op: Prefix) -> Result<Optio
     }))
 }
 
-pub fn at_operand(depth: usize, mut frames: Vec<Frame>, kind: Kind) -> Result<Option<Spot>, NoMemory>
+pub fn at_operand(
+    depth: usize,
+    mut frames: Vec<Frame>,
+    kind: Kind,
+) -> Result<Option<Spot>, NoMemory>
     ensures { IfOk result (λ o. option_map spot_of o ≡ at_operand code depth (stack_of frames.items) kind) }
 {
     let place = match kind {
@@ -111,7 +115,11 @@ pub fn at_operand(depth: usize, mut frames: Vec<Frame>, kind: Kind) -> Result<Op
         Kind::Variable(var, line) => Place::Operator(of_variable(var, line)),
         Kind::Fixed(Fixed::Function(function)) => Place::Opening(function),
         Kind::Fixed(Fixed::Not) => return with_prefix(depth, frames, Prefix::Not),
-        Kind::Fixed(Fixed::Between(BinaryOp::Sub)) => return with_prefix(depth, frames, Prefix::Minus),
+        Kind::Fixed(Fixed::Between(BinaryOp::Sub)) => return with_prefix(
+            depth,
+            frames,
+            Prefix::Minus,
+        ),
         Kind::Fixed(Fixed::Open) => {
             frames.push(Frame::Bracket)?;
             return Ok(Some(Spot {
@@ -296,7 +304,10 @@ fn use_closed(
             _ => return Ok(None),
         },
         Use::Selector => match kind {
-            Kind::Fixed(Fixed::Of) => Place::Part(begun, Part::FirstLabel(operand, List::new(alloc))),
+            Kind::Fixed(Fixed::Of) => Place::Part(
+                begun,
+                Part::FirstLabel(operand, List::new(alloc)),
+            ),
             _ => return Ok(None),
         },
         Use::LoopTest => match kind {

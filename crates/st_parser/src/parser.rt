@@ -17,8 +17,8 @@ use crate::token::kind_of;
 use crate::unit::next;
 use s7_base::{Line, NoMemory, Reason, Rejection};
 use st_lexer::{StToken, end_line, rest_after, st_tokens};
-use std::alloc::Global;
 use st_tree::RawSt;
+use std::alloc::Global;
 
 /// The greatest level of nesting.
 const DEEPEST: usize = 200;

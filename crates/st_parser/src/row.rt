@@ -9,8 +9,8 @@ use crate::kind::{Fixed, Kind, Literal};
 use crate::state::{Before, Row, State};
 use crate::words::{is_free, may_name_global, names_block};
 use s7_base::{Line, List, NoMemory};
-use std::alloc::Global;
 use st_tree::{RawGlobal, RawGlobalType, RawVar, StType};
+use std::alloc::Global;
 
 /// What stands behind `AT`.
 fn row_place(kind: Kind) -> Option<Row>

@@ -5,8 +5,8 @@ use crate::expression::Measured;
 use crate::kind::{Function, OneOperand, Prefix};
 use s7_base::{Line, List, Width};
 use st_tree::{
-    BinaryOp, RawArm, RawCaseArm, RawGlobal, RawGlobalType, RawLocal, RawPou, RawStmt, RawVar, ShiftOp,
-    StType,
+    BinaryOp, RawArm, RawCaseArm, RawGlobal, RawGlobalType, RawLocal, RawPou, RawStmt, RawVar,
+    ShiftOp, StType,
 };
 
 /// A statement that has begun: those before it, and its line.

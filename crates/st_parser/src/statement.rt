@@ -12,8 +12,8 @@ use crate::kind::{Fixed, Jump, Kind, Lead};
 use crate::operand::{at_opening, at_operand, at_operator};
 use crate::state::{Begun, Body, Frame, Part, Place, Spot, Use};
 use s7_base::{Line, List, NoMemory, Width};
-use std::alloc::Global;
 use st_tree::{RawArm, RawCaseArm, RawStmt, RawStmtKind, RawVar, StType};
+use std::alloc::Global;
 
 fn is_loop(frame: &Frame) -> bool
     ensures { result ≡ is_loop code (frame_of frame.now) }

@@ -11,8 +11,8 @@ use st_lexer::{
     Base, Literal as Found, StKind, StToken, base_at, begins_with_digit, direct_at, front_of,
     is_in_range, is_same_word, literal_at, rest_after, type_named,
 };
-use std::alloc::Global;
 use st_tree::{BinaryOp, RawVar, StType};
+use std::alloc::Global;
 
 /// A conversion between two types other than BOOL, or from BOOL.
 fn conversion_between(from: StType, to: StType) -> Option<OneOperand>
@@ -45,7 +45,10 @@ fn conversion_named(text: &[u8]) -> Option<OneOperand>
     if !is_same_word(front_of(rest, 4), "_TO_") {
         return None;
     }
-    match (type_named(front_of(text, size)), type_named(rest_after(rest, 4))) {
+    match (
+        type_named(front_of(text, size)),
+        type_named(rest_after(rest, 4)),
+    ) {
         (Some(from), Some(to)) => conversion_between(from, to),
         _ => None,
     }
@@ -97,7 +100,13 @@ fn direct_kind(text: &[u8], line: Line) -> Kind
 {
     match direct_at(text) {
         Some(direct) => Kind::Variable(
-            RawVar::Direct(direct.area, direct.block, direct.width, direct.byte, direct.bit),
+            RawVar::Direct(
+                direct.area,
+                direct.block,
+                direct.width,
+                direct.byte,
+                direct.bit,
+            ),
             line,
         ),
         None => Kind::Misfit,

@@ -12,8 +12,8 @@ use crate::state::{Before, Place, Spot, State, Top, Typing, Which};
 use crate::statement::step;
 use crate::words::{is_free, may_name_local, may_name_unit};
 use s7_base::{Line, List, NoMemory};
-use std::alloc::Global;
 use st_tree::{RawLocal, RawPou, RawStmt, RawVar, StType};
+use std::alloc::Global;
 
 fn at_between(text: Before, kind: Kind) -> Option<State>
     ensures { option_map state_of result ≡ at_between code (before_of text) kind }
@@ -140,7 +140,12 @@ fn at_typing(
     match typing {
         Typing::Colon => match kind {
             Kind::Fixed(Fixed::Colon) => Ok(Some(State::Typing(
-                top, which, done, name, line, Typing::Type,
+                top,
+                which,
+                done,
+                name,
+                line,
+                Typing::Type,
             ))),
             _ => Ok(None),
         },
@@ -201,7 +206,9 @@ fn leave(
     ensures { IfOk result (λ o. option_map state_of o ≡ leave code program (top_in top) formals locals (stack_of spot.frames.items) (place_of spot.place)) }
 {
     let Spot {
-        mut frames, place, ..
+        mut frames,
+        place,
+        ..
     } = spot;
     if let Some(_) = frames.pop() {
         return Ok(None);

@@ -92,7 +92,8 @@ const SIGNS: [Fixed; 19] = [
 
 /// The variables that need no declaration.
 const REGISTERS: [&str; 15] = [
-    "ACCU1", "ACCU2", "AR1", "AR2", "DBNO", "DINO", "NFC", "RLO", "STA", "ORB", "OS", "OV", "CC0", "CC1", "BR",
+    "ACCU1", "ACCU2", "AR1", "AR2", "DBNO", "DINO", "NFC", "RLO", "STA", "ORB", "OS", "OV", "CC0",
+    "CC1", "BR",
 ];
 
 fn type_text(ty: StType) -> &'static str

@@ -19,8 +19,6 @@ mod scope;
 mod search;
 mod statement;
 mod table;
-#[cfg(test)]
-mod tests;
 mod text;
 pub mod text_laws;
 mod types;

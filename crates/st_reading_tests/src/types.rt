@@ -1,13 +1,11 @@
 //! Which texts are refused, by which rule and on which line, and the tree of one that is not.
-use crate::call::Call;
-use crate::components::components;
-use crate::typed;
 use memory_areas::{Area, AreaName, DataBlock, Place};
 use s7_base::{Boxed, Line, List, NoMemory, Reason, Rejection, Width};
 use st_tree::{
     BinaryOp, Local, Located, Pou, RawExpr, RawGlobal, RawGlobalType, RawLocal, RawPou, RawSt,
     RawStmt, RawStmtKind, RawVar, ShiftOp, StProgram, StType, Stmt, Var,
 };
+use st_types::typed;
 use std::alloc::Global;
 use std::test::Fail;
 
@@ -117,14 +115,28 @@ fn shifted(alloc: Global, count: StType) -> Result<RawSt, NoMemory> {
     assigned(alloc, "RLO", RawExpr::Shift(ShiftOp::Shl, pattern, count))
 }
 
-/// A call on line 7 by a program of line 6, behind `FUNCTION F` with the formal `a : WORD`.
-fn call(alloc: Global, name: &str, actuals: List<(List<u8>, RawVar)>) -> Result<RawSt, NoMemory> {
+/// `FUNCTION F` with the formal `a : WORD`.
+fn called(alloc: Global) -> Result<RawPou, NoMemory> {
     let formals = one(alloc, local(alloc, "a", 3, StType::Word)?)?;
-    let called = unit(alloc, "F", 1, formals, List::new(alloc))?;
-    let kind = RawStmtKind::Invoke(bytes(alloc, name)?, actuals);
-    let calls = one(alloc, on(7, kind))?;
+    unit(alloc, "F", 1, formals, List::new(alloc))
+}
+
+fn invoked(
+    alloc: Global,
+    line: u32,
+    name: &str,
+    actuals: List<(List<u8>, RawVar)>,
+) -> Result<List<RawStmt>, NoMemory> {
+    let name = bytes(alloc, name)?;
+    one(alloc, on(line, RawStmtKind::Invoke(name, actuals)))
+}
+
+/// A call on line 7 by a program of line 6, behind `FUNCTION F`.
+fn call(alloc: Global, name: &str, actuals: List<(List<u8>, RawVar)>) -> Result<RawSt, NoMemory> {
+    let calls = invoked(alloc, 7, name, actuals)?;
     let caller = unit(alloc, "OB1", 6, List::new(alloc), calls)?;
-    Ok(of_units(alloc, two(alloc, called, caller)?))
+    let units = two(alloc, called(alloc)?, caller)?;
+    Ok(of_units(alloc, units))
 }
 
 fn call_by(alloc: Global, name: &str, formal: &str, actual: RawVar) -> Result<RawSt, NoMemory> {
@@ -149,13 +161,20 @@ fn declared_twice(alloc: Global) -> Result<RawSt, NoMemory> {
     Ok(text)
 }
 
+/// Gives the last unit a local.
+fn add_local(units: &mut List<RawPou>, local: RawLocal) -> Result<(), NoMemory> {
+    if let Some(mut caller) = units.pop() {
+        caller.locals.push(local)?;
+        units.push(caller)?;
+    }
+    Ok(())
+}
+
 /// A local of the calling program has the name of the function.
 fn hidden(alloc: Global) -> Result<RawSt, NoMemory> {
     let mut text = call(alloc, "F", List::new(alloc))?;
-    if let Some(mut caller) = text.pous.pop() {
-        caller.locals.push(local(alloc, "f", 7, StType::Int)?)?;
-        text.pous.push(caller)?;
-    }
+    let local = local(alloc, "f", 7, StType::Int)?;
+    add_local(&mut text.pous, local)?;
     Ok(text)
 }
 
@@ -227,21 +246,25 @@ fn located(alloc: Global, at: RawVar, ty: StType) -> Result<RawSt, NoMemory> {
     declared(alloc, globals)
 }
 
+/// A data block on the line of its number.
+fn numbered(alloc: Global, number: u32) -> Result<RawGlobal, NoMemory> {
+    let mut name = bytes(alloc, "DB")?;
+    for digit in number.to_string(alloc)?.as_bytes() {
+        name.push(*digit)?;
+    }
+    Ok(RawGlobal {
+        name,
+        line: Line(number),
+        at: RawVar::Direct(AreaName::Db, Some(number), Width::Byte, 0, 0),
+        ty: RawGlobalType::Bytes(1, List::new(alloc)),
+    })
+}
+
 /// So many data blocks, on the lines of their numbers.
-fn blocks(alloc: Global, count: u16) -> Result<RawSt, NoMemory> {
+fn blocks(alloc: Global, count: u32) -> Result<RawSt, NoMemory> {
     let mut globals = List::new(alloc);
     for number in 1..=count {
-        let mut name = bytes(alloc, "DB")?;
-        for digit in number.to_string(alloc)?.as_bytes() {
-            name.push(*digit)?;
-        }
-        let number = u32::from(number);
-        globals.push(RawGlobal {
-            name,
-            line: Line(number),
-            at: RawVar::Direct(AreaName::Db, Some(number), Width::Byte, 0, 0),
-            ty: RawGlobalType::Bytes(1, List::new(alloc)),
-        })?;
+        globals.push(numbered(alloc, number)?)?;
     }
     declared(alloc, globals)
 }
@@ -391,16 +414,19 @@ fn small_globals(alloc: Global) -> Result<List<RawGlobal>, NoMemory> {
     Ok(globals)
 }
 
-/// A program in which a local hides the global, and calls a function by it.
-fn small_text(alloc: Global) -> Result<RawSt, NoMemory> {
+fn small_callers(alloc: Global) -> Result<List<RawPou>, NoMemory> {
     let level = named(alloc, "level")?;
     let mut text = call_by(alloc, "f", "A", level)?;
-    if let Some(mut caller) = text.pous.pop() {
-        caller.locals.push(local(alloc, "LEVEL", 7, StType::Word)?)?;
-        text.pous.push(caller)?;
-    }
-    text.globals = small_globals(alloc)?;
-    Ok(text)
+    let local = local(alloc, "LEVEL", 7, StType::Word)?;
+    add_local(&mut text.pous, local)?;
+    Ok(text.pous)
+}
+
+/// A program in which a local hides the global, and calls a function by it.
+fn small_text(alloc: Global) -> Result<RawSt, NoMemory> {
+    let globals = small_globals(alloc)?;
+    let pous = small_callers(alloc)?;
+    Ok(RawSt { globals, pous })
 }
 
 fn small_blocks(alloc: Global) -> Result<List<DataBlock>, NoMemory> {
@@ -466,29 +492,5 @@ fn gives_the_tree(rt: HostRuntime) -> Result<(), Fail> {
     let alloc = rt.alloc();
     let tree = typed(alloc, small_text(alloc)?);
     assert_eq!(rt; tree, Ok(small_tree(alloc)?));
-    Ok(())
-}
-
-/// The calls of a unit, to the units of some numbers.
-fn calls(alloc: Global, callees: &[u32]) -> Result<List<Call>, NoMemory> {
-    let mut calls = List::new(alloc);
-    for callee in callees {
-        calls.push(Call {
-            line: Line(1),
-            callee: *callee,
-        })?;
-    }
-    Ok(calls)
-}
-
-/// Units 1 and 2 call each other, unit 0 calls them, and they call unit 3.
-#[test]
-fn numbers_units_by_their_cycles(rt: HostRuntime) -> Result<(), Fail> {
-    let alloc = rt.alloc();
-    let mut graph = two(alloc, calls(alloc, &[1])?, calls(alloc, &[2])?)?;
-    graph.push(calls(alloc, &[3, 1])?)?;
-    graph.push(calls(alloc, &[])?)?;
-    let numbers = components(alloc, graph.as_slice())?;
-    assert_eq!(rt; numbers.as_slice(), [3, 2, 2, 1].as_slice());
     Ok(())
 }
