@@ -40,7 +40,7 @@ impl<'t> Model for Runner<'t> {
     ghost use Rattle.std.specs.Prelude.{map, vec_capacity};
     ghost use Rattle.st_runner.specs.Plain.{coming, pending};
     ghost use Rattle.st_runner.specs.Ready.{IsReady};
-    ghost use Rattle.st_runner.specs.Runnable.{IsRunnable};
+    ghost use Rattle.st_tree.specs.Runnable.{IsRunnable};
     ghost use Rattle.st_runner.specs.Standing.{Standing};
     ghost use Rattle.st_runner.specs.View.{seen};
     ghost use Rattle.st_tree.specs.contracts.expr.Expr as expr;

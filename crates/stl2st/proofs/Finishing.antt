@@ -1,7 +1,6 @@
 -- What stands when a reply is written, or could not be.
-use Rattle.std.proofs.Common.{◌≡◌, ℕ, ◌⊎◌, inl, inr, List, length, Bool, true, false, nat_lt, if◌then◌else◌, Option, Some, None, refl, sym, ap, subst, ◌∙◌, Result, Ok, Err}
-use Rattle.std.specs.Prelude.{nat_le, is_ok, ◌&&◌}
-use Rattle.std.proofs.lemmas.Bool.{ltb-false, le-leb}
+use Rattle.std.proofs.Common.{◌≡◌, ℕ, ◌⊎◌, inl, inr, List, [], length, Bool, true, false, nat_lt, if◌then◌else◌, Option, Some, None, refl, sym, ap, subst, ◌∙◌, Result, Ok, Err}
+use Rattle.std.proofs.lemmas.Bool.{ltb-false}
 use Rattle.s7_base.specs.declared.reason.Rejection.{Rejection}
 use Rattle.s7_base.specs.declared.reason.Rejection.TheVariants as rejection
 use Rattle.s7_io.specs.Sink.{Took}
@@ -14,14 +13,15 @@ use Rattle.stl2st.proofs.Accepted.{accepted as known_of}
 use Rattle.stl2st.proofs.Answering.{some_bytes}
 use Rattle.stl2st.proofs.ProperText.{proper}
 use Rattle.stl2st.proofs.SameAll.{same_all}
-use Rattle.stl2st.specs.Answer.{Reply, AreOf, IsTranslated, Sends, Translates, WantsImage, Writes, answer, has_image, too_long_line, verdict_reply, wants_image}
+use Rattle.stl_tree.specs.declared.program.Call.{Call}
+use Rattle.stl2st.specs.Answer.{Reply, AnswersText, AnswersTree, AreOf, Answers, IsAccepted, IsAnswered, IsRead, IsTranslated, Sends, Translates, Wants, WantsImage, Writes, refusal_line, run_stl_reply, source_reply, too_long_line, translate_reply, verdict_reply, source_too_long, refused, read}
 use Rattle.stl2st.specs.Inputs.{Input, ReadsImage, ReadsRunImage}
 use Rattle.stl2st.specs.Replies.{Answered, Ends, IsWritten, bytes_of_text, reply_of}
 use Rattle.stl2st.specs.declared.reply.Reply.{Reply as Made}
 use Rattle.stl2st.specs.Translation.{translation}
 use Rattle.stl2st.specs.declared.answer.TheConstants.{INPUT_LIMIT}
 use Rattle.stl2st.specs.declared.command.Command.{Command}
-use Rattle.stl2st.specs.declared.command.Command.TheVariants.{Translate, Check, RunStl}
+use Rattle.stl2st.specs.declared.command.Command.TheVariants.{Translate, Check, RunStl, RunSt}
 use Rattle.stl2st.specs.declared.status.Status.{Status}
 use Rattle.stl2st.specs.declared.status.Status.TheVariants.{Done, Refused, Usage, BadImage, BadCall, Faulted, Going, ReadFault, WriteFault, TooLong, NoMemory}
 
@@ -46,6 +46,7 @@ image_at_fault None left i status w r = r
 image_at_fault (Some Translate) left i status w r = r
 image_at_fault (Some Check) left i status w r = r
 image_at_fault (Some (RunStl steps call)) left i status w r = run_image (WantsImage (Some (RunStl steps call)) left) i status w r
+image_at_fault (Some (RunSt units call)) left i status w r = run_image (WantsImage (Some (RunSt units call)) left) i status w r
 
 -- the image was read as far as the status says, whether the text was written whole or not
 pub image_read : (command : Option Command) (left : Option (List ℕ)) (i : Input) (before after : Option (List ℕ)) (status result : Status) (text : List ℕ) →
@@ -55,22 +56,23 @@ image_read command left i before after status result text w (inr h) r = subst (�
 
 -- A text is written
 
-whole : (reply : Reply) (before after : Option (List ℕ)) (status : Status) → IsWritten status → reply.0 ≡ status → Took before after reply.1 → Sends reply before after status
-whole reply before after Done w e t = (e, t)
-whole reply before after Refused w e t = (e, t)
-whole reply before after Usage w e t = (e, t)
-whole reply before after BadImage w e t = (e, t)
-whole reply before after BadCall w e t = (e, t)
-whole reply before after Faulted w e t = (e, t)
-whole reply before after Going w e t = (e, t)
-whole reply before after ReadFault w e t = absurd w
-whole reply before after WriteFault w e t = absurd w
-whole reply before after TooLong w e t = (e, t)
-whole reply before after NoMemory w e t = absurd w
+module _ (command : Option Command) (source text : List ℕ) (before after : Option (List ℕ)) (reply : Reply) (answers : Answers command source text reply) where
+  whole : (status : Status) → IsWritten status → reply.0 ≡ status → Took before after reply.1 → Sends command source text before after status
+  whole Done w e t = (reply, answers, e, t)
+  whole Refused w e t = (reply, answers, e, t)
+  whole Usage w e t = (reply, answers, e, t)
+  whole BadImage w e t = (reply, answers, e, t)
+  whole BadCall w e t = (reply, answers, e, t)
+  whole Faulted w e t = (reply, answers, e, t)
+  whole Going w e t = (reply, answers, e, t)
+  whole ReadFault w e t = absurd w
+  whole WriteFault w e t = absurd w
+  whole TooLong w e t = (reply, answers, e, t)
+  whole NoMemory w e t = absurd w
 
-sends : (reply : Reply) (before after : Option (List ℕ)) (result : Status) → IsWritten reply.0 → Ends before after reply.0 reply.1 result → Sends reply before after result
-sends reply before after result w (inl h) = subst (λ (s : Status). Sends reply before after s) (sym h.0) (whole reply before after reply.0 w refl h.1)
-sends reply before after result w (inr h) = subst (λ (s : Status). Sends reply before after s) (sym h.0) h.1
+  sends : (result : Status) → IsWritten reply.0 → Ends before after reply.0 reply.1 result → Sends command source text before after result
+  sends result w (inl h) = subst (λ (s : Status). Sends command source text before after s) (sym h.0) (whole reply.0 w refl h.1)
+  sends result w (inr h) = subst (λ (s : Status). Sends command source text before after s) (sym h.0) (reply, answers, h.1)
 
 -- what was written is the answer
 pub written : (command : Option Command) (left image before after : Option (List ℕ)) (made : Made) (result : Status) (bytes : List ℕ) → Answered command left image made
@@ -82,7 +84,7 @@ written command left image before after made result bytes a same ends =
       of_source = a.of_source;
       text = a.text;
       of_image = a.of_image;
-      sends = subst (λ (reply : Reply). Sends reply before after result) (sym a.reply.0) (sends (reply_of made) before after result a.reply.1 text);
+      sends = sends command a.source a.text before after (reply_of made) (subst (λ (reply : Reply). Answers command a.source a.text reply) a.is.0 a.answers) result a.is.1 text;
     }
 
 -- no text that was made is answered by a fault of reading
@@ -111,68 +113,74 @@ no_memory command left image taken =
 
 -- Told inputs get their answer
 
-unread_verdict : (command : Command) (v : Result Program Rejection) (a b : List ℕ) → has_image (Some command) && is_ok v ≡ false → verdict_reply command v a ≡ verdict_reply command v b
-unread_verdict Translate (Ok program) a b e = refl
-unread_verdict Check (Ok program) a b e = refl
-unread_verdict (RunStl steps call) (Ok program) a b e = cc
-unread_verdict command (Err (rejection.Refused line reason)) a b e = refl
-unread_verdict command (Err rejection.NoMemory) a b e = refl
-
-within : (has ok le : Bool) → le ≡ true → has && le && ok ≡ false → has && ok ≡ false
-within true ok true h e = e
-within true ok false h e = cc
-within false ok le h e = refl
-
-by_limit : (command : Command) (source a b : List ℕ) (long : Bool) → nat_lt INPUT_LIMIT (length source) ≡ long → wants_image (Some command) source ≡ false
-    → answer (Some command) source a ≡ answer (Some command) source b
-by_limit command source a b true e w =
-    let one : (t : List ℕ) → answer (Some command) source t ≡ (TooLong, too_long_line) = λ t. ap (λ (c : Bool). if c then (TooLong, too_long_line) else verdict_reply command (verdict source) t) e in
-    one a ∙ sym (one b)
-by_limit command source a b false e w =
-    let short : nat_le (length source) INPUT_LIMIT ≡ true = le-leb _ _ (ltb-false _ _ e) in
-    let one : (t : List ℕ) → answer (Some command) source t ≡ verdict_reply command (verdict source) t = λ t. ap (λ (c : Bool). if c then (TooLong, too_long_line) else verdict_reply command (verdict source) t) e in
-    one a
-    ∙ unread_verdict command (verdict source) a b (within (has_image (Some command)) (is_ok (verdict source)) (nat_le (length source) INPUT_LIMIT) short w)
-    ∙ sym (one b)
-
--- an image that is not wanted changes no answer
-unwanted : (command : Option Command) (source a b : List ℕ) → wants_image command source ≡ false → answer command source a ≡ answer command source b
-unwanted None source a b w = refl
-unwanted (Some command) source a b w = by_limit command source a b (nat_lt INPUT_LIMIT (length source)) refl w
-
 told : (left : Option (List ℕ)) (bytes source : List ℕ) → AreOf left bytes → left ≡ Some source → bytes ≡ source
 told None bytes source are e = cc
 told (Some x) bytes source are e = cc
 
-same_answer : (command : Option Command) (image : Option (List ℕ)) (source a text : List ℕ) (wanted : Bool) → wants_image command source ≡ wanted → AreOf image a
-    → (wants_image command source ≡ true → image ≡ Some text) → answer command source a ≡ answer command source text
-same_answer command image source a text true w are is = ap (answer command source) (told image a text are (is w))
-same_answer command image source a text false w are is = unwanted command source a text w
+-- an answer to a source and to an image that is read only where it is wanted is one to what it would be
+stl_retold : (steps : ℕ) (call : Call) (source a text : List ℕ) (reply : Reply) (long : Bool) (v : Result Program Rejection) → nat_lt INPUT_LIMIT (length source) ≡ long → verdict source ≡ v
+    → (IsAccepted source → a ≡ text) → source_reply (run_stl_reply steps call a) source ≡ reply → source_reply (run_stl_reply steps call text) source ≡ reply
+stl_retold steps call source a text reply true v long judged same e =
+    let one : (t : List ℕ) → source_reply (run_stl_reply steps call t) source ≡ (TooLong, too_long_line) =
+    λ t. ap (λ (b : Bool). if b then (TooLong, too_long_line) else verdict_reply (run_stl_reply steps call t) (verdict source)) long in
+    one text ∙ sym (one a) ∙ e
+stl_retold steps call source a text reply false (Ok program) long judged same e =
+    let accepted : IsAccepted source = record { within = ltb-false _ _ long; program = program; accepted = judged } in
+    subst (λ (t : List ℕ). source_reply (run_stl_reply steps call t) source ≡ reply) (same accepted) e
+stl_retold steps call source a text reply false (Err (rejection.Refused line reason)) long judged same e =
+    let one : (t : List ℕ) → source_reply (run_stl_reply steps call t) source ≡ (Refused, refusal_line line reason) =
+    λ t. ap (λ (b : Bool). if b then (TooLong, too_long_line) else verdict_reply (run_stl_reply steps call t) (verdict source)) long
+    ∙ ap (λ (v : Result Program Rejection). verdict_reply (run_stl_reply steps call t) v) judged in
+    one text ∙ sym (one a) ∙ e
+stl_retold steps call source a text reply false (Err rejection.NoMemory) long judged same e =
+    let one : (t : List ℕ) → source_reply (run_stl_reply steps call t) source ≡ (NoMemory, []) =
+    λ t. ap (λ (b : Bool). if b then (TooLong, too_long_line) else verdict_reply (run_stl_reply steps call t) (verdict source)) long
+    ∙ ap (λ (v : Result Program Rejection). verdict_reply (run_stl_reply steps call t) v) judged in
+    one text ∙ sym (one a) ∙ e
 
-sent : (reply : Reply) (before after : Option (List ℕ)) (result : Status) → Sends reply before after result → (result ≡ ReadFault → ⊥) → (result ≡ WriteFault → ⊥) → (result ≡ reply.0) ⊎ (result ≡ NoMemory)
-sent reply before after Done s r f = inl (sym s.0)
-sent reply before after Refused s r f = inl (sym s.0)
-sent reply before after Usage s r f = inl (sym s.0)
-sent reply before after BadImage s r f = inl (sym s.0)
-sent reply before after BadCall s r f = inl (sym s.0)
-sent reply before after Faulted s r f = inl (sym s.0)
-sent reply before after Going s r f = inl (sym s.0)
-sent reply before after ReadFault s r f = absurd (r refl)
-sent reply before after WriteFault s r f = absurd (f refl)
-sent reply before after TooLong s r f = inl (sym s.0)
-sent reply before after NoMemory s r f = inr refl
+text_retold : (units : ℕ) (call : Call) (source a text : List ℕ) (reply : Reply) → (IsRead source → a ≡ text) → AnswersText units call source a reply → AnswersText units call source text reply
+text_retold units call source a text reply same (source_too_long long) = source_too_long long
+text_retold units call source a text reply same (refused within is) = refused within is
+text_retold units call source a text reply same (read {tree = tree} {reply = r} within is answers) =
+    read within is (subst (λ (t : List ℕ). AnswersTree units call t tree r) (same (record { within = within; tree = tree; read = is })) answers)
+
+retold : (command : Option Command) (image : Option (List ℕ)) (source a text : List ℕ) (reply : Reply) → AreOf image a → (Wants command source → image ≡ Some text)
+    → Answers command source a reply → Answers command source text reply
+retold None image source a text reply are is answers = answers
+retold (Some Translate) image source a text reply are is answers = answers
+retold (Some Check) image source a text reply are is answers = answers
+retold (Some (RunStl steps call)) image source a text reply are is answers =
+    stl_retold steps call source a text reply (nat_lt INPUT_LIMIT (length source)) (verdict source) refl refl (λ wanted. told image a text are (is wanted)) answers
+retold (Some (RunSt units call)) image source a text reply are is answers = text_retold units call source a text reply (λ wanted. told image a text are (is wanted)) answers
+
+-- the answer that was sent
+sent : (command : Option Command) (source text : List ℕ) (before after : Option (List ℕ)) (result : Status) → Sends command source text before after result
+    → (result ≡ ReadFault → ⊥) → (result ≡ WriteFault → ⊥) → IsAnswered command source text result ⊎ (result ≡ NoMemory)
+sent command source text before after Done s r f = inl (s.0, s.1, sym s.2)
+sent command source text before after Refused s r f = inl (s.0, s.1, sym s.2)
+sent command source text before after Usage s r f = inl (s.0, s.1, sym s.2)
+sent command source text before after BadImage s r f = inl (s.0, s.1, sym s.2)
+sent command source text before after BadCall s r f = inl (s.0, s.1, sym s.2)
+sent command source text before after Faulted s r f = inl (s.0, s.1, sym s.2)
+sent command source text before after Going s r f = inl (s.0, s.1, sym s.2)
+sent command source text before after ReadFault s r f = absurd (r refl)
+sent command source text before after WriteFault s r f = absurd (f refl)
+sent command source text before after TooLong s r f = inl (s.0, s.1, sym s.2)
+sent command source text before after NoMemory s r f = inr refl
+
+of_told : (command : Option Command) (image : Option (List ℕ)) (source a text : List ℕ) (result : Status) → AreOf image a → (Wants command source → image ≡ Some text)
+    → IsAnswered command source a result ⊎ (result ≡ NoMemory) → IsAnswered command source text result ⊎ (result ≡ NoMemory)
+of_told command image source a text result are is (inl (reply, answers, e)) = inl (reply, retold command image source a text reply are is answers, e)
+of_told command image source a text result are is (inr none) = inr none
 
 pub complete : (command : Option Command) (left image before after : Option (List ℕ)) (result : Status) (source text : List ℕ)
     → Writes command left image before after result → (result ≡ ReadFault → ⊥) → (result ≡ WriteFault → ⊥)
-    → left ≡ Some source → (wants_image command source ≡ true → image ≡ Some text)
-    → (result ≡ (answer command source text).0) ⊎ (result ≡ NoMemory)
-complete command left image before after result source text w read wrote e is =
-    let whole : w.source ≡ source = told left w.source source w.of_source e in
-    let same : answer command w.source w.text ≡ answer command source text =
-    ap (λ (bytes : List ℕ). answer command bytes w.text) whole ∙ same_answer command image source w.text text (wants_image command source) refl w.of_image is in
-    sent (answer command source text) before after result
-    (subst (λ (reply : Reply). Sends reply before after result) same w.sends)
-    read wrote
+    → left ≡ Some source → (Wants command source → image ≡ Some text)
+    → IsAnswered command source text result ⊎ (result ≡ NoMemory)
+complete command left image before after result source text w no_read no_write e is =
+    let same : w.source ≡ source = told left w.source source w.of_source e in
+    of_told command image source w.text text result w.of_image is
+    (sent command source w.text before after result (subst (λ (bytes : List ℕ). Sends command bytes w.text before after result) same w.sends) no_read no_write)
 
 -- The text of an accepted program
 
@@ -188,9 +196,9 @@ translates bytes program text accepted e =
       same = same_all program known.can known.formed;
     }
 
-of_reply : (left before after : Option (List ℕ)) (bytes text image : List ℕ) (v : Result Program Rejection) → AreOf left bytes → verdict bytes ≡ v →
-    verdict_reply Translate v image ≡ (Done, text) → Took before after text → IsTranslated left before after
-of_reply left before after bytes text image (Ok program) are e reply took = record {
+of_reply : (left before after : Option (List ℕ)) (bytes text : List ℕ) (v : Result Program Rejection) → AreOf left bytes → verdict bytes ≡ v →
+    verdict_reply translate_reply v ≡ (Done, text) → Took before after text → IsTranslated left before after
+of_reply left before after bytes text (Ok program) are e reply took = record {
   bytes = bytes;
   of_source = are;
   program = program;
@@ -199,21 +207,21 @@ of_reply left before after bytes text image (Ok program) are e reply took = reco
   translates = translates bytes program text e (ap (λ (r : Reply). r.1) reply);
   taken = took;
 }
-of_reply left before after bytes text image (Err (rejection.Refused line reason)) are e reply took = let clash : Refused ≡ Done = ap (λ (r : Reply). r.0) reply in absurd cc
-of_reply left before after bytes text image (Err rejection.NoMemory) are e reply took = let clash : NoMemory ≡ Done = ap (λ (r : Reply). r.0) reply in absurd cc
+of_reply left before after bytes text (Err (rejection.Refused line reason)) are e reply took = let clash : Refused ≡ Done = ap (λ (r : Reply). r.0) reply in absurd cc
+of_reply left before after bytes text (Err rejection.NoMemory) are e reply took = let clash : NoMemory ≡ Done = ap (λ (r : Reply). r.0) reply in absurd cc
 
-of_limit : (b : Bool) (left before after : Option (List ℕ)) (bytes text image : List ℕ) → AreOf left bytes →
-    (if b then (TooLong, too_long_line) else verdict_reply Translate (verdict bytes) image) ≡ (Done, text) → Took before after text → IsTranslated left before after
-of_limit true left before after bytes text image are e took = let clash : TooLong ≡ Done = ap (λ (r : Reply). r.0) e in absurd cc
-of_limit false left before after bytes text image are e took = of_reply left before after bytes text image (verdict bytes) are refl e took
+of_limit : (b : Bool) (left before after : Option (List ℕ)) (bytes text : List ℕ) → AreOf left bytes →
+    (if b then (TooLong, too_long_line) else verdict_reply translate_reply (verdict bytes)) ≡ (Done, text) → Took before after text → IsTranslated left before after
+of_limit true left before after bytes text are e took = let clash : TooLong ≡ Done = ap (λ (r : Reply). r.0) e in absurd cc
+of_limit false left before after bytes text are e took = of_reply left before after bytes text (verdict bytes) are refl e took
 
 pair : (reply : Reply) (status : Status) → reply.0 ≡ status → reply ≡ (status, reply.1)
 pair (s, text) status e = ap (λ (x : Status). (x, text)) e
 
 of_writes : (left image before after : Option (List ℕ)) → Writes (Some Translate) left image before after Done → IsTranslated left before after
 of_writes left image before after w =
-    let reply : Reply = answer (Some Translate) w.source w.text in
-    of_limit (nat_lt INPUT_LIMIT (length w.source)) left before after w.source reply.1 w.text w.of_source (pair reply Done w.sends.0) w.sends.1
+    let reply : Reply = w.sends.0 in
+    of_limit (nat_lt INPUT_LIMIT (length w.source)) left before after w.source reply.1 w.of_source (w.sends.1 ∙ pair reply Done w.sends.2) w.sends.3
 
 -- what stands beside Done
 pub translated : (command : Option Command) (left image before after : Option (List ℕ)) (result : Status) → Writes command left image before after result

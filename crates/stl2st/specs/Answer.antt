@@ -1,5 +1,5 @@
 -- What the program answers: its exit status and the text that it writes.
-use Rattle.std.specs.Prelude.{◌≡◌, ℕ, Bool, true, false, ◌&&◌, nat_le, nat_lt, is_ok, List, [], ◌++◌, length, Option, Some, None, Result, Ok, Err, codes, decimal, if◌then◌else◌}
+use Rattle.std.specs.Prelude.{◌≡◌, ℕ, ◌<◌, ◌≤◌, nat_lt, List, [], ◌++◌, length, Option, Some, None, Result, Ok, Err, codes, decimal, if◌then◌else◌}
 use Rattle.image_text.specs.Image.{image_of}
 use Rattle.image_text.specs.Report.{report}
 use Rattle.image_text.specs.declared.refusal.ImageRefusal.{ImageRefusal}
@@ -19,14 +19,16 @@ use Rattle.stl_tree.specs.Verdict.{verdict}
 use Rattle.stl_tree.specs.declared.program.Block.{Block}
 use Rattle.stl_tree.specs.declared.program.Call.{Call}
 use Rattle.stl_tree.specs.declared.program.Program.{Program}
+use Rattle.st_parser.specs.Texts.{IsTextOf, IsRefusedText}
 use Rattle.st_tree.specs.Proper.{Proper}
 use Rattle.st_tree.specs.Reading.{HasTree}
 use Rattle.st_tree.specs.Spelling.{spelling}
+use Rattle.st_tree.specs.StRun.{FitsSt, st_run}
 use Rattle.st_tree.specs.declared.program.StProgram.{StProgram}
 use Rattle.stl2st.specs.Same.{Same}
 use Rattle.stl2st.specs.Translation.{translation}
 use Rattle.stl2st.specs.declared.command.Command.{Command}
-use Rattle.stl2st.specs.declared.command.Command.TheVariants.{Translate, Check, RunStl}
+use Rattle.stl2st.specs.declared.command.Command.TheVariants.{Translate, Check, RunStl, RunSt}
 use Rattle.stl2st.specs.declared.answer.TheConstants.{INPUT_LIMIT, IMAGE_LIMIT}
 use Rattle.stl2st.specs.declared.status.Status.{Status}
 use Rattle.stl2st.specs.declared.status.Status.TheVariants.{Done, Refused, Usage, BadImage, BadCall, Faulted, Going, ReadFault, WriteFault, TooLong, NoMemory}
@@ -91,37 +93,80 @@ abbrev pub memory_reply : Program → Call → ℕ → Result Contents ImageRefu
 memory_reply program call steps (Ok memory) = call_reply (block_called call.block program.blocks) program call steps memory.areas
 memory_reply program call steps (Err refused) = image_reply refused
 
--- what a command answers to a program that is accepted, and to the text of an image
-abbrev pub program_reply : Command → Program → List ℕ → Reply
-program_reply Translate program text = (Done, spelling (translation program))
-program_reply Check program text = (Done, accepted_line)
-program_reply (RunStl steps call) program text =
+-- what a run answers to a program that is accepted, and to the text of an image
+abbrev pub run_stl_reply : ℕ → Call → List ℕ → Program → Reply
+run_stl_reply steps call text program =
     if nat_lt IMAGE_LIMIT (length text) then (TooLong, too_long_line) else memory_reply program call steps (image_of text [])
 
--- what it answers to a verdict
-abbrev pub verdict_reply : Command → Result Program Rejection → List ℕ → Reply
-verdict_reply command (Ok program) text = program_reply command program text
-verdict_reply command (Err (rejection.Refused line reason)) text = (Refused, refusal_line line reason)
-verdict_reply command (Err rejection.NoMemory) text = (NoMemory, [])
+-- what the other commands answer to a program that is accepted
+abbrev pub translate_reply : Program → Reply
+translate_reply program = (Done, spelling (translation program))
 
--- the status and the text to write, for a command, the bytes of the source and those of the image
-abbrev pub answer : Option Command → List ℕ → List ℕ → Reply
-answer None source text = (Usage, usage_line)
-answer (Some command) source text =
-    if nat_lt INPUT_LIMIT (length source) then (TooLong, too_long_line) else verdict_reply command (verdict source) text
+abbrev pub check_reply : Program → Reply
+check_reply program = (Done, accepted_line)
+
+-- what is answered to a verdict, by what is answered to a program
+abbrev pub verdict_reply : (Program → Reply) → Result Program Rejection → Reply
+verdict_reply reply (Ok program) = reply program
+verdict_reply reply (Err (rejection.Refused line reason)) = (Refused, refusal_line line reason)
+verdict_reply reply (Err rejection.NoMemory) = (NoMemory, [])
+
+-- what is answered to the bytes of a source
+abbrev pub source_reply : (Program → Reply) → List ℕ → Reply
+source_reply reply source = if nat_lt INPUT_LIMIT (length source) then (TooLong, too_long_line) else verdict_reply reply (verdict source)
+
+-- what a run answers to the tree of a Structured Text, and to the text of an image; the image begins with
+-- the tree's data blocks
+pub data AnswersTree (units : ℕ) (call : Call) (text : List ℕ) (tree : StProgram) : Reply → Type 0 where
+  image_too_long : IMAGE_LIMIT < length text → AnswersTree units call text tree (TooLong, too_long_line)
+  bad_image : {refused : ImageRefusal} → length text ≤ IMAGE_LIMIT → image_of text tree.dbs ≡ Err refused → AnswersTree units call text tree (image_reply refused)
+  bad_call : {memory : Contents} → length text ≤ IMAGE_LIMIT → image_of text tree.dbs ≡ Ok memory → (FitsSt tree call → ⊥) →
+      AnswersTree units call text tree (BadCall, bad_call_line)
+  run : {memory : Contents} → length text ≤ IMAGE_LIMIT → image_of text tree.dbs ≡ Ok memory → FitsSt tree call →
+      AnswersTree units call text tree (run_reply memory.areas (st_run tree call memory.areas units))
+
+-- what it answers to the bytes of the Structured Text
+pub data AnswersText (units : ℕ) (call : Call) (source text : List ℕ) : Reply → Type 0 where
+  source_too_long : INPUT_LIMIT < length source → AnswersText units call source text (TooLong, too_long_line)
+  refused : {line : Line} {reason : Reason} → length source ≤ INPUT_LIMIT → IsRefusedText source line reason →
+      AnswersText units call source text (Refused, refusal_line line reason)
+  read : {tree : StProgram} {reply : Reply} → length source ≤ INPUT_LIMIT → IsTextOf source tree → AnswersTree units call text tree reply →
+      AnswersText units call source text reply
+
+-- the status and the text to write are the answer for a command, the bytes of the source and those of the
+-- image
+abbrev pub Answers : Option Command → List ℕ → List ℕ → Reply → Type 0
+Answers None source text reply = (Usage, usage_line) ≡ reply
+Answers (Some Translate) source text reply = source_reply translate_reply source ≡ reply
+Answers (Some Check) source text reply = source_reply check_reply source ≡ reply
+Answers (Some (RunStl steps call)) source text reply = source_reply (run_stl_reply steps call text) source ≡ reply
+Answers (Some (RunSt units call)) source text reply = AnswersText units call source text reply
+
+-- a status is that of the answer
+abbrev pub IsAnswered : Option Command → List ℕ → List ℕ → Status → Type 0
+IsAnswered command source text status = (reply : Reply) × Answers command source text reply × (status ≡ reply.0)
 
 -- Which sources are read
 
--- a command has an image
-abbrev pub has_image : Option Command → Bool
-has_image None = false
-has_image (Some Translate) = false
-has_image (Some Check) = false
-has_image (Some (RunStl steps call)) = true
+-- a source is within the limit and accepted
+pub record IsAccepted (source : List ℕ) : Type 0 where
+  pub within : length source ≤ INPUT_LIMIT
+  pub program : Program
+  pub accepted : verdict source ≡ Ok program
+
+-- a Structured Text is within the limit and read
+pub record IsRead (source : List ℕ) : Type 0 where
+  pub within : length source ≤ INPUT_LIMIT
+  pub tree : StProgram
+  pub read : IsTextOf source tree
 
 -- the image is read: the command has one, and its source is within the limit and accepted
-abbrev pub wants_image : Option Command → List ℕ → Bool
-wants_image command source = has_image command && nat_le (length source) INPUT_LIMIT && is_ok (verdict source)
+abbrev pub Wants : Option Command → List ℕ → Type 0
+Wants None source = ⊥
+Wants (Some Translate) source = ⊥
+Wants (Some Check) source = ⊥
+Wants (Some (RunStl steps call)) source = IsAccepted source
+Wants (Some (RunSt units call)) source = IsRead source
 
 -- the bytes are those of a source, where it tells them
 abbrev pub AreOf : Option (List ℕ) → List ℕ → Type 0
@@ -130,17 +175,17 @@ AreOf (Some told) bytes = told ≡ bytes
 
 -- the image is wanted, by the bytes of the source
 abbrev pub WantsImage : Option Command → Option (List ℕ) → Type 0
-WantsImage command left = (source : List ℕ) × AreOf left source × (wants_image command source ≡ true)
+WantsImage command left = (source : List ℕ) × AreOf left source × Wants command source
 
 -- What is written
 
--- what the sink has taken of a reply, by the status: its text; a proper front of it where writing failed;
--- nothing where reading failed or memory ran out
-abbrev pub Sends : Reply → Option (List ℕ) → Option (List ℕ) → Status → Type 0
-Sends reply before after ReadFault = after ≡ before
-Sends reply before after NoMemory = after ≡ before
-Sends reply before after WriteFault = TookFewer before after reply.1
-Sends reply before after status = (reply.0 ≡ status) × Took before after reply.1
+-- what the sink has taken, by the status: the text of the answer; a proper front of it where writing
+-- failed; nothing where reading failed or memory ran out
+abbrev pub Sends : Option Command → List ℕ → List ℕ → Option (List ℕ) → Option (List ℕ) → Status → Type 0
+Sends command source text before after ReadFault = after ≡ before
+Sends command source text before after NoMemory = after ≡ before
+Sends command source text before after WriteFault = (reply : Reply) × Answers command source text reply × TookFewer before after reply.1
+Sends command source text before after status = (reply : Reply) × Answers command source text reply × (reply.0 ≡ status) × Took before after reply.1
 
 -- what the sink has taken is the answer to the bytes of the source and of the image
 pub record Writes (command : Option Command) (left image : Option (List ℕ)) (before after : Option (List ℕ)) (status : Status) : Type 0 where
@@ -148,7 +193,7 @@ pub record Writes (command : Option Command) (left image : Option (List ℕ)) (b
   pub of_source : AreOf left source
   pub text : List ℕ
   pub of_image : AreOf image text
-  pub sends : Sends (answer command source text) before after status
+  pub sends : Sends command source text before after status
 
 -- What a translation promises
 

@@ -1,24 +1,25 @@
 -- What the words behind the program's name mean.
 use Rattle.std.specs.Prelude.{◌≡◌, ℕ, ◌-◌, ◌^◌, List, [], ◌∷◌, Option, Some, None, option_map, option_and_then, Result, Ok, Err, codes, if◌then◌else◌}
 use Rattle.std.specs.Str.{bytes_eq}
+use Rattle.stl_tree.specs.declared.program.Call.{Call}
 use Rattle.stl2st.specs.CallWord.{number_in, call_meant}
 use Rattle.stl2st.specs.declared.command.Command.{Command}
-use Rattle.stl2st.specs.declared.command.Command.TheVariants.{Translate, Check, RunStl}
+use Rattle.stl2st.specs.declared.command.Command.TheVariants.{Translate, Check, RunStl, RunSt}
 use Rattle.stl2st.specs.declared.command.WordsRefusal.{WordsRefusal}
 use Rattle.stl2st.specs.declared.command.WordsRefusal.TheVariants.{Usage, NoMemory}
 
--- how many steps a run may take: one to twenty digits, below 2^64
+-- how many steps or units a run may take: one to twenty digits, below 2^64
 abbrev pub steps_meant : List ℕ → Option ℕ
 steps_meant word = number_in 20 (2 ^ 64 - 1) word
 
--- a run by its steps, its call and its image
-unfoldable pub run_with : List ℕ → List ℕ → List ℕ → Option Command
+-- a run's bound and call, by these and its image
+unfoldable pub run_with : List ℕ → List ℕ → List ℕ → Option (ℕ × Call)
 run_with steps call image =
     if bytes_eq image [] then None
-    else option_and_then (λ number. option_map (λ block. RunStl number block) (call_meant call)) (steps_meant steps)
+    else option_and_then (λ number. option_map (λ block. (number, block)) (call_meant call)) (steps_meant steps)
 
--- a run by the words behind `run-stl`
-abbrev pub run_meant : List (List ℕ) → Option Command
+-- a run by the words behind `run-stl` or `run-st`
+abbrev pub run_meant : List (List ℕ) → Option (ℕ × Call)
 run_meant [] = None
 run_meant (a ∷ []) = None
 run_meant (a ∷ b ∷ []) = None
@@ -34,7 +35,10 @@ word_meant word =
 abbrev pub command_meant : List (List ℕ) → Option Command
 command_meant [] = None
 command_meant (word ∷ []) = word_meant word
-command_meant (word ∷ a ∷ rest) = if bytes_eq word (codes "run-stl") then run_meant (a ∷ rest) else None
+command_meant (word ∷ a ∷ rest) =
+    if bytes_eq word (codes "run-stl") then option_map (λ run. RunStl run.0 run.1) (run_meant (a ∷ rest))
+    else if bytes_eq word (codes "run-st") then option_map (λ run. RunSt run.0 run.1) (run_meant (a ∷ rest))
+    else None
 
 -- the answer is the command meant, or Usage exactly where there is none; or want of memory
 abbrev pub Means : Option Command → Result Command WordsRefusal → Type 0

@@ -4,7 +4,7 @@ use Rattle.s7_io.specs.Faults.{Rose}
 use Rattle.s7_io.specs.Source.{GaveAll, GaveExactly, GaveAtMost}
 use Rattle.stl2st.specs.Answer.{WantsImage}
 use Rattle.stl2st.specs.declared.command.Command.{Command}
-use Rattle.stl2st.specs.declared.command.Command.TheVariants.{Translate, Check, RunStl}
+use Rattle.stl2st.specs.declared.command.Command.TheVariants.{Translate, Check, RunStl, RunSt}
 use Rattle.stl2st.specs.declared.answer.TheConstants.{INPUT_LIMIT, IMAGE_LIMIT}
 use Rattle.stl2st.specs.declared.status.Status.{Status}
 use Rattle.stl2st.specs.declared.status.Status.TheVariants.{Refused, Usage, ReadFault, WriteFault, TooLong, NoMemory}
@@ -63,6 +63,7 @@ ReadsImage None left input status = IsUntouched input
 ReadsImage (Some Translate) left input status = IsUntouched input
 ReadsImage (Some Check) left input status = IsUntouched input
 ReadsImage (Some (RunStl steps call)) left input status = ReadsRunImage (WantsImage (Some (RunStl steps call)) left) input status
+ReadsImage (Some (RunSt units call)) left input status = ReadsRunImage (WantsImage (Some (RunSt units call)) left) input status
 
 -- a read failed: of the source of a command, or of an image that is wanted
 abbrev pub FailedToRead : Option Command → Input → Input → Type 0

@@ -1,7 +1,7 @@
 //! The call that `main` makes: reads, judges, translates or runs, and writes.
 ghost use Rattle.std.specs.Prelude.{◌≡◌, ◌⊎◌, List, ℕ, Some, true, map, string_bytes};
 ghost use Rattle.s7_io.specs.Faults.{Rose};
-ghost use Rattle.stl2st.specs.Answer.{answer, wants_image, IsTranslated, Writes};
+ghost use Rattle.stl2st.specs.Answer.{IsAnswered, IsTranslated, Wants, Writes};
 ghost use Rattle.stl2st.specs.Command.{command_meant};
 ghost use Rattle.stl2st.specs.Inputs.{FailedToRead, ReadsImage, ReadsProgram, input};
 ghost use Rattle.stl2st.specs.Replies.{Ends};
@@ -52,12 +52,12 @@ pub fn stl2st<P: Source, M: Source, K: Sink>(
     // Told inputs get their answer, where no fault comes and memory is found; an image that is not
     // wanted may be anything.
     ensures complete { (source text : List ℕ) → P.left program.old ≡ Some source
-        → let wanted = wants_image (command_meant (map (λ word. string_bytes word) words.now)) source ≡ true in
+        → let wanted = Wants (command_meant (map (λ word. string_bytes word) words.now)) source in
         (wanted → M.left image.old ≡ Some text)
         → ¬ Rose (P.faults program.old) (P.faults program.new)
         → (wanted → ¬ Rose (M.faults image.old) (M.faults image.new))
         → ¬ Rose (K.faults out.old) (K.faults out.new)
-        → (result ≡ (answer (command_meant (map (λ word. string_bytes word) words.now)) source text).0)
+        → IsAnswered (command_meant (map (λ word. string_bytes word) words.now)) source text result
         ⊎ (result ≡ Status.NoMemory) }
 
     ensures reads_program { ReadsProgram (command_meant (map (λ word. string_bytes word) words.now))

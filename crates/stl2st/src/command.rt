@@ -19,6 +19,9 @@ pub enum Command {
 
     /// Runs an STL source for so many steps at most, from a call on.
     RunStl(u64, Call),
+
+    /// Runs a Structured Text for so many units at most, from a call on.
+    RunSt(u64, Call),
 }
 
 /// Why the words give no command.
@@ -54,8 +57,8 @@ fn run_with(
     steps: &[u8],
     call: &[u8],
     image: &[u8],
-) -> Result<Option<Command>, NoMemory>
-    ensures { IfOk result (λ command. command ≡ run_with steps.now call.now image.now) }
+) -> Result<Option<(u64, Call)>, NoMemory>
+    ensures { IfOk result (λ run. run ≡ run_with steps.now call.now image.now) }
 {
     if image.is_empty() {
         return Ok(None);
@@ -64,14 +67,14 @@ fn run_with(
         return Ok(None);
     };
     match call_meant(alloc, call)? {
-        Some(call) => Ok(Some(Command::RunStl(steps, call))),
+        Some(call) => Ok(Some((steps, call))),
         None => Ok(None),
     }
 }
 
-/// A run by the words behind `run-stl`.
-fn run_meant(alloc: Global, words: &[String]) -> Result<Option<Command>, NoMemory>
-    ensures { IfOk result (λ command. command ≡ run_meant (map (λ word. string_bytes word) words.now)) }
+/// A run by the words behind `run-stl` or `run-st`.
+fn run_meant(alloc: Global, words: &[String]) -> Result<Option<(u64, Call)>, NoMemory>
+    ensures { IfOk result (λ run. run ≡ run_meant (map (λ word. string_bytes word) words.now)) }
 {
     match words {
         [steps, call, image] => run_with(
@@ -99,7 +102,14 @@ fn command_meant(alloc: Global, words: &[String]) -> Result<Option<Command>, NoM
 {
     match words {
         [word] => Ok(word_meant(word.as_str())),
-        [word, more @ ..] if word.as_str() == "run-stl" => run_meant(alloc, more),
+        [word, more @ ..] if word.as_str() == "run-stl" => match run_meant(alloc, more)? {
+            Some((steps, call)) => Ok(Some(Command::RunStl(steps, call))),
+            None => Ok(None),
+        },
+        [word, more @ ..] if word.as_str() == "run-st" => match run_meant(alloc, more)? {
+            Some((units, call)) => Ok(Some(Command::RunSt(units, call))),
+            None => Ok(None),
+        },
         _ => Ok(None),
     }
 }

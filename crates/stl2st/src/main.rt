@@ -1,10 +1,10 @@
 //! `stl2st` reads Statement List for the S7-300 and writes Structured Text that does exactly what the
-//! source did, or names the first broken rule and its line.
+//! source did, or names the first broken rule and its line. It runs both on memory images.
 //!
 //! `answer` has the call that `main` makes, with the promises of the program as its clauses. Below it
 //! `command` and `call` read the words, `reply` makes the answer of a command; `lexer`, `operand`,
 //! `statement` and `reader` judge a source text, and `translate` turns its program into a tree, which
-//! `st_printer` writes.
+//! `st_printer` writes. `st_parser` and `st_runner` read and run Structured Text.
 #![tactic(auto)]
 
 use crate::answer::stl2st;
@@ -28,6 +28,8 @@ mod status;
 #[cfg(test)]
 mod tests;
 mod text;
+#[cfg(test)]
+mod text_tests;
 mod translate;
 mod words;
 

@@ -1,13 +1,15 @@
 //! What a command answers: a status and the text that goes with it.
 ghost use Rattle.std.specs.Prelude.{◌≡◌, Some, Err, [], IfOk, map, string_bytes};
+ghost use Rattle.memory_areas.specs.Areas.{AreBlocks, IsMemoryOf};
+ghost use Rattle.st_tree.specs.Runnable.{IsRunnable};
 ghost use Rattle.s7_io.specs.Faults.{Rose};
 ghost use Rattle.stl_tree.specs.StlRun.{block_called};
 ghost use Rattle.stl_tree.specs.Verdict.{verdict};
 ghost use Rattle.stl2st.specs.Answer.{call_reply, image_line, image_reply, refusal_line, run_status};
 ghost use Rattle.stl2st.specs.Command.{command_meant};
 ghost use Rattle.stl2st.specs.Inputs.{FailedToRead, ReadsImage, ReadsProgram, ReadsRunImage, input};
-ghost use Rattle.stl2st.specs.Replies.{Answered, AnsweredFor, HasImage, IsReply, IsWritten, ReadsOwnImage, bytes_of_text, ending, reply_of};
-ghost use Rattle.stl2st.specs.declared.command.Command.TheVariants.{RunStl};
+ghost use Rattle.stl2st.specs.Replies.{Answered, AnsweredFor, AnsweredRun, AnsweredTree, HasImage, IsReply, IsStl, IsWritten, ReadsOwnImage, bytes_of_text, ending, reply_of};
+ghost use Rattle.stl2st.specs.declared.command.Command.TheVariants.{RunStl, RunSt};
 ghost use Rattle.stl2st.specs.Translation.{IsTranslatable};
 ghost use Rattle.stl2st.specs.WellFormed.{IsWellFormed};
 
@@ -21,7 +23,10 @@ use image_text::{ImageRefusal, image_text, read_image};
 use memory_areas::Memory;
 use s7_base::{Line, NoMemory, Outcome, Reason, Rejection};
 use s7_io::{ReadRefusal, Source, read_all};
+use st_parser::parse;
 use st_printer::print;
+use st_runner::{Runner, RunnerRefusal};
+use st_tree::StProgram;
 use std::alloc::Global;
 use stl_machine::{Machine, MachineRefusal};
 use stl_tree::{Call, Program};
@@ -201,6 +206,7 @@ fn program_reply<M: Source>(
     program: &Program,
     image: &mut M,
 ) -> Result<Reply, Stop>
+    requires stl { IsStl command.now }
     requires translatable { IsTranslatable program.now }
     requires well_formed { IsWellFormed program.now }
     ensures reply { IfOk result (AnsweredFor command.now program.now (M.left image.old)) }
@@ -216,16 +222,18 @@ fn program_reply<M: Source>(
         }
         Command::Check => Ok(fixed(Status::Done, ACCEPTED_LINE)),
         Command::RunStl(steps, call) => run_reply(alloc, program, call, *steps, image),
+        Command::RunSt(_, _) => unreachable!(),
     }
 }
 
-/// What a command answers to a source, and to an image where it has one.
+/// What a command answers to an STL source, and to an image where it has one.
 fn source_reply<P: Source, M: Source>(
     alloc: Global,
     command: &Command,
     program: &mut P,
     image: &mut M,
 ) -> Result<Reply, Stop>
+    requires { IsStl command.now }
     ensures reply { IfOk result (Answered (Some command.now) (P.left program.old) (M.left image.old)) }
     ensures reads_program { ReadsProgram (Some command.now)
         (input (P.left program.old) (P.left program.new) (P.faults program.old) (P.faults program.new)) (ending result) }
@@ -243,6 +251,88 @@ fn source_reply<P: Source, M: Source>(
     };
     match verdict(alloc, source.as_slice()) {
         Ok(program) => program_reply(alloc, command, &program, image),
+        Err(Rejection::Refused(line, reason)) => Ok(made(
+            Status::Refused,
+            refusal_line(alloc, line, reason)?,
+        )),
+        Err(Rejection::NoMemory) => Err(Stop::NoMemory),
+    }
+}
+
+/// Runs a call of a Structured Text from a memory.
+fn text_call_reply(
+    alloc: Global,
+    tree: &StProgram,
+    call: &Call,
+    units: u64,
+    memory: Memory,
+) -> Result<Reply, NoMemory>
+    requires runnable { IsRunnable tree.now }
+    requires memory { IsMemoryOf tree.now.dbs memory.areas }
+    ensures { IfOk result (AnsweredRun units call.now tree.now memory.areas) }
+{
+    let mut runner = match Runner::new(alloc, tree, memory, call) {
+        Ok(runner) => runner,
+        Err(RunnerRefusal::BadCall) => return Ok(fixed(Status::BadCall, BAD_CALL_LINE)),
+        Err(RunnerRefusal::NoMemory) => return Err(NoMemory),
+    };
+    let outcome = runner.run(units);
+    let report = image_text(alloc, runner.memory(), outcome)?;
+    Ok(made(run_status(outcome), report))
+}
+
+/// Reads an image, and runs a call of a Structured Text from it.
+fn tree_reply<M: Source>(
+    alloc: Global,
+    tree: &StProgram,
+    call: &Call,
+    units: u64,
+    image: &mut M,
+) -> Result<Reply, Stop>
+    requires blocks { AreBlocks tree.now.dbs }
+    requires runnable { IsRunnable tree.now }
+    ensures reply { IfOk result (AnsweredTree units call.now tree.now (M.left image.old)) }
+    ensures reads { ReadsRunImage (Unit {0})
+        (input (M.left image.old) (M.left image.new) (M.faults image.old) (M.faults image.new)) (ending result) }
+    ensures read_fault { result ≡ Err Stop.ReadFault → Rose (M.faults image.old) (M.faults image.new) }
+{
+    let text = match read_all(alloc, image, IMAGE_LIMIT) {
+        Ok(text) => text,
+        Err(ReadRefusal::TooLong) => return Ok(fixed(Status::TooLong, TOO_LONG_LINE)),
+        Err(ReadRefusal::ReadFault) => return Err(Stop::ReadFault),
+        Err(ReadRefusal::NoMemory) => return Err(Stop::NoMemory),
+    };
+    match read_image(alloc, text.as_slice(), tree.dbs.as_slice()) {
+        Ok(memory) => Ok(text_call_reply(alloc, tree, call, units, memory)?),
+        Err(refusal) => Ok(image_reply(alloc, refusal)?),
+    }
+}
+
+/// What a run answers to a Structured Text, and to an image.
+fn text_reply<P: Source, M: Source>(
+    alloc: Global,
+    units: u64,
+    call: &Call,
+    program: &mut P,
+    image: &mut M,
+) -> Result<Reply, Stop>
+    ensures reply { IfOk result (Answered (Some (RunSt units call.now)) (P.left program.old) (M.left image.old)) }
+    ensures reads_program { ReadsProgram (Some (RunSt units call.now))
+        (input (P.left program.old) (P.left program.new) (P.faults program.old) (P.faults program.new)) (ending result) }
+    ensures reads_image { ReadsImage (Some (RunSt units call.now)) (P.left program.old)
+        (input (M.left image.old) (M.left image.new) (M.faults image.old) (M.faults image.new)) (ending result) }
+    ensures read_fault { result ≡ Err Stop.ReadFault → FailedToRead (Some (RunSt units call.now))
+        (input (P.left program.old) (P.left program.new) (P.faults program.old) (P.faults program.new))
+        (input (M.left image.old) (M.left image.new) (M.faults image.old) (M.faults image.new)) }
+{
+    let source = match read_all(alloc, program, INPUT_LIMIT) {
+        Ok(source) => source,
+        Err(ReadRefusal::TooLong) => return Ok(fixed(Status::TooLong, TOO_LONG_LINE)),
+        Err(ReadRefusal::ReadFault) => return Err(Stop::ReadFault),
+        Err(ReadRefusal::NoMemory) => return Err(Stop::NoMemory),
+    };
+    match parse(alloc, source.as_slice()) {
+        Ok(tree) => tree_reply(alloc, &tree, call, units, image),
         Err(Rejection::Refused(line, reason)) => Ok(made(
             Status::Refused,
             refusal_line(alloc, line, reason)?,
@@ -270,6 +360,7 @@ pub fn reply_to<P: Source, M: Source>(
         (input (M.left image.old) (M.left image.new) (M.faults image.old) (M.faults image.new)) }
 {
     match read_words(alloc, words) {
+        Ok(Command::RunSt(units, call)) => text_reply(alloc, units, &call, program, image),
         Ok(command) => source_reply(alloc, &command, program, image),
         Err(WordsRefusal::Usage) => Ok(fixed(Status::Usage, USAGE_LINE)),
         Err(WordsRefusal::NoMemory) => Err(Stop::NoMemory),

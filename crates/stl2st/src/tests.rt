@@ -115,7 +115,7 @@ fn call<P: Source, M: Source>(
 }
 
 /// What the words end with and write for a source and an image, where nothing fails.
-fn answered(
+pub fn answered(
     alloc: Global,
     line: &str,
     source: &[u8],
@@ -568,8 +568,15 @@ fn faults_are_answered(rt: HostRuntime) -> Result<(), Fail> {
 fn a_missing_file_is_a_read_fault(rt: HostRuntime) -> Result<(), Fail> {
     let alloc = rt.alloc();
     // The words and the source, then the answer. The image is not read where the source is refused.
-    let missing: [(&str, &[u8], Status, &[u8]); 2] = [
+    let missing: [(&str, &[u8], Status, &[u8]); 4] = [
         ("run-stl 1 OB1 img", ROW, Status::ReadFault, b""),
+        ("run-st 1 OB1 img", ROW_TEXT, Status::ReadFault, b""),
+        (
+            "run-st 1 OB1 img",
+            b"FOO",
+            Status::Refused,
+            b"line 1: BadSyntax\n",
+        ),
         (
             "run-stl 1 OB1 img",
             b"FOO",
