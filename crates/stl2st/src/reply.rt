@@ -277,8 +277,9 @@ fn text_call_reply(
         Err(RunnerRefusal::NoMemory) => return Err(NoMemory),
     };
     let outcome = runner.run(units);
+    let status = run_status(outcome);
     let report = image_text(alloc, runner.memory(), outcome)?;
-    Ok(made(run_status(outcome), report))
+    Ok(made(status, report))
 }
 
 /// Reads an image, and runs a call of a Structured Text from it.
@@ -313,19 +314,19 @@ fn text_reply<P: Source, M: Source>(
     alloc: Global,
     units: u64,
     call: &Call,
-    program: &mut P,
+    text: &mut P,
     image: &mut M,
 ) -> Result<Reply, Stop>
-    ensures reply { IfOk result (Answered (Some (RunSt units call.now)) (P.left program.old) (M.left image.old)) }
+    ensures reply { IfOk result (Answered (Some (RunSt units call.now)) (P.left text.old) (M.left image.old)) }
     ensures reads_program { ReadsProgram (Some (RunSt units call.now))
-        (input (P.left program.old) (P.left program.new) (P.faults program.old) (P.faults program.new)) (ending result) }
-    ensures reads_image { ReadsImage (Some (RunSt units call.now)) (P.left program.old)
+        (input (P.left text.old) (P.left text.new) (P.faults text.old) (P.faults text.new)) (ending result) }
+    ensures reads_image { ReadsImage (Some (RunSt units call.now)) (P.left text.old)
         (input (M.left image.old) (M.left image.new) (M.faults image.old) (M.faults image.new)) (ending result) }
     ensures read_fault { result ≡ Err Stop.ReadFault → FailedToRead (Some (RunSt units call.now))
-        (input (P.left program.old) (P.left program.new) (P.faults program.old) (P.faults program.new))
+        (input (P.left text.old) (P.left text.new) (P.faults text.old) (P.faults text.new))
         (input (M.left image.old) (M.left image.new) (M.faults image.old) (M.faults image.new)) }
 {
-    let source = match read_all(alloc, program, INPUT_LIMIT) {
+    let source = match read_all(alloc, text, INPUT_LIMIT) {
         Ok(source) => source,
         Err(ReadRefusal::TooLong) => return Ok(fixed(Status::TooLong, TOO_LONG_LINE)),
         Err(ReadRefusal::ReadFault) => return Err(Stop::ReadFault),
@@ -333,10 +334,10 @@ fn text_reply<P: Source, M: Source>(
     };
     match parse(alloc, source.as_slice()) {
         Ok(tree) => tree_reply(alloc, &tree, call, units, image),
-        Err(Rejection::Refused(line, reason)) => Ok(made(
-            Status::Refused,
-            refusal_line(alloc, line, reason)?,
-        )),
+        Err(Rejection::Refused(line, reason)) => {
+            let written = refusal_line(alloc, line, reason)?;
+            Ok(made(Status::Refused, written))
+        }
         Err(Rejection::NoMemory) => Err(Stop::NoMemory),
     }
 }
