@@ -10,7 +10,7 @@ use Rattle.stl_tree.specs.declared.program.BlockName.TheVariants.{Ob, Fc, Fb}
 use Rattle.stl_tree.specs.declared.program.Call.{Call}
 use Rattle.stl2st.specs.CallWord.{call_meant}
 use Rattle.stl2st.specs.Command.{command_meant, run_with, steps_meant, image_meant}
-use Rattle.stl2st.specs.declared.command.Command.TheVariants.{Translate, Check, RunStl}
+use Rattle.stl2st.specs.declared.command.Command.TheVariants.{Translate, Check, RunStl, RunSt}
 
 -- a call of a function
 calls : ℕ → List (Place × Width) → Option Call
@@ -167,6 +167,10 @@ run_in_capitals : command_meant (codes "RUN-STL" ∷ codes "5" ∷ codes "OB1" �
 unfolding run_with
 run_in_capitals = refl
 
+run_of_text : command_meant (codes "run-st" ∷ codes "5" ∷ codes "OB1" ∷ codes "x" ∷ []) ≡ Some (RunSt 5 (record { block = Ob 1; instance = 0; actuals = [] }))
+unfolding run_with
+run_of_text = refl
+
 empty_image : command_meant (codes "run-stl" ∷ codes "5" ∷ codes "OB1" ∷ codes "" ∷ []) ≡ None
 unfolding run_with
 empty_image = refl
@@ -187,7 +191,7 @@ two_words : command_meant (codes "translate" ∷ codes "x" ∷ []) ≡ None
 unfolding run_with
 two_words = refl
 
-other_command : command_meant (codes "run-st" ∷ codes "5" ∷ codes "OB1" ∷ codes "x" ∷ []) ≡ None
+other_command : command_meant (codes "demo" ∷ codes "5" ∷ codes "OB1" ∷ codes "x" ∷ []) ≡ None
 unfolding run_with
 other_command = refl
 

@@ -21,4 +21,4 @@ returns-in-Err-Refused-clause-reply g c =
     subst (λ (bytes : List ℕ). IsRefusedAs bytes (rejection.Refused c.in-Err-Refused.line c.in-Err-Refused.reason)) c.as_slice.ensures.value
     (subst (λ (r : Rejection). IsRefusedAs c.as_slice.result.now r) c.in-Err-Refused.field-0-is c.in-Err-Refused.ensures.refused) in
     text_refused c.args.units c.args.call.now _ _ _ c.in-Ok.source.items c.in-Err-Refused.line c.in-Err-Refused.reason c.made.result c.in-Ok.ensures.whole c.in-Ok.ensures.within judged
-    (c.made.ensures ∙ ap (λ (text : List ℕ). (Refused, text)) c.in_ok-refusal_line-in-Err-Refused.ensures)
+    (c.made.ensures ∙ ap (λ (text : List ℕ). (Refused, text)) c.in_ok-written-in-Err-Refused.ensures)
