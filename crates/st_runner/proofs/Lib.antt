@@ -10,7 +10,6 @@ pub mod Means
 pub mod Moves
 pub mod Opening
 pub mod Outward
-pub mod Samples
 pub mod Shifts
 pub mod Sizes
 pub mod Spending
