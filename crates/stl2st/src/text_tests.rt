@@ -3,6 +3,7 @@
 use crate::status::Status;
 use crate::tests::answered;
 use s7_base::NoMemory;
+use s7_io::MemSink;
 use std::alloc::Global;
 use std::test::Fail;
 
@@ -322,26 +323,45 @@ fn repeated(alloc: Global, count: usize, piece: &[u8]) -> Result<Vec<u8>, NoMemo
     Ok(text)
 }
 
+/// A statement with so many brackets.
+fn brackets(alloc: Global, count: usize) -> Result<Vec<u8>, NoMemory> {
+    let mut text = repeated(alloc, count, b"(")?;
+    text.extend_from_slice(b"RLO")?;
+    let close = repeated(alloc, count, b")")?;
+    text.extend_from_slice(close.as_slice())?;
+    Ok(text)
+}
+
+/// What a program is answered that assigns this expression.
+fn assigned(alloc: Global, expression: &[u8]) -> Result<(Status, MemSink), NoMemory> {
+    let text = with_statements(alloc, &[b"RLO := RLO", expression, b";"])?;
+    answered(alloc, "run-st 9 OB1 img", text.as_slice(), b"")
+}
+
+const ENDED: &[u8] = b"# ENDED\n";
+
+const TOO_DEEP: &[u8] = b"line 2: TooDeep\n";
+
 #[test]
-fn two_hundred_levels_are_run(rt: HostRuntime) -> Result<(), Fail> {
+fn two_hundred_brackets_are_run(rt: HostRuntime) -> Result<(), Fail> {
     let alloc = rt.alloc();
-    let deep: &[u8] = b"line 2: TooDeep\n";
-    for (count, status, report) in [
-        (200, Status::Done, b"# ENDED\n".as_slice()),
-        (201, Status::Refused, deep),
-    ] {
-        let open = repeated(alloc, count, b"(")?;
-        let close = repeated(alloc, count, b")")?;
-        let text = with_statements(
-            alloc,
-            &[b"RLO := ", open.as_slice(), b"RLO", close.as_slice(), b";"],
-        )?;
-        let (given, out) = answered(alloc, "run-st 9 OB1 img", text.as_slice(), b"")?;
-        assert_eq!(rt; (given, out.taken()), (status, report), "{count} brackets");
+    for (count, status, report) in [(200, Status::Done, ENDED), (201, Status::Refused, TOO_DEEP)] {
+        let mut text = Vec::from_slice(alloc, b" OR ")?;
+        let deep = brackets(alloc, count)?;
+        text.extend_from_slice(deep.as_slice())?;
+        let (given, out) = assigned(alloc, text.as_slice())?;
+        assert_eq!(rt; (given, out.taken()), (status, report), "{count}");
+    }
+    Ok(())
+}
+
+#[test]
+fn a_chain_of_two_hundred_is_run(rt: HostRuntime) -> Result<(), Fail> {
+    let alloc = rt.alloc();
+    for (count, status, report) in [(200, Status::Done, ENDED), (201, Status::Refused, TOO_DEEP)] {
         let chain = repeated(alloc, count, b" AND RLO")?;
-        let text = with_statements(alloc, &[b"RLO := RLO", chain.as_slice(), b";"])?;
-        let (given, out) = answered(alloc, "run-st 9 OB1 img", text.as_slice(), b"")?;
-        assert_eq!(rt; (given, out.taken()), (status, report), "{count} AND");
+        let (given, out) = assigned(alloc, chain.as_slice())?;
+        assert_eq!(rt; (given, out.taken()), (status, report), "{count}");
     }
     Ok(())
 }
