@@ -5,4 +5,6 @@
 #[cfg(test)]
 mod syntax;
 #[cfg(test)]
+mod texts;
+#[cfg(test)]
 mod types;

@@ -242,7 +242,7 @@ const TEXTS: [(&[u8], Refusal); 41] = [
 type Repeated = (usize, &'static [u8]);
 
 /// Statements made of repeated pieces, and their refusals.
-const DEEP: [(&[Repeated], Refusal); 13] = [
+const DEEP: [(&[Repeated], Refusal); 12] = [
     (
         &[
             (1, b"RLO := "),
