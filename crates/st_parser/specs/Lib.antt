@@ -1,11 +1,15 @@
 pub mod Answers
+pub mod Canonical
 pub mod Forms
 pub mod Grammar
 pub mod Judge
 pub mod Kinds
 pub mod Levels
 pub mod Machine
+pub mod Proper
+pub mod Spelled
 pub mod Steps
 pub mod Syntax
+pub mod TextLaws
 pub mod Texts
 pub mod Views
