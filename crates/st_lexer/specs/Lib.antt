@@ -2,5 +2,7 @@ pub mod Answers
 pub mod Direct
 pub mod Literals
 pub mod Pieces
+pub mod Spelled
+pub mod SpellingLaws
 pub mod StTokens
 pub mod TokenGrammar
