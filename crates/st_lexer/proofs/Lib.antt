@@ -1,5 +1,10 @@
+pub mod Digits
 mod Following
 mod Lines
+pub mod LiteralCuts
+pub mod NumberCuts
+pub mod PlaceCuts
 mod Sizes
 mod StTokenRows
 mod TokenLaws
+pub mod Words

@@ -1,13 +1,15 @@
 //! The tokens of a Structured Text.
 //!
 //! Stands on `s7_base`, `memory_areas` and `st_tree`. `specs/` has what the tokens of a text are, the value of a
-//! literal and the place of a direct variable; `token_laws` says the same of tokens as a relation.
+//! literal and the place of a direct variable; `token_laws` says the same of tokens as a relation, and `spelling_laws`
+//! that what a canonical text writes for a word, a literal or a place is one token of it.
 #![tactic(auto)]
 
 pub use direct::{Direct, direct_at};
 pub use lexer::{end_line, st_tokens};
 pub use literal::{Literal, is_in_range, literal_at, type_named};
 pub use number::{Base, Number, base_at, begins_with_digit};
+pub use spelling_laws::{literals_are_tokens, places_are_tokens, words_are_tokens};
 pub use st_tree::StType;
 pub use text::{front_of, is_same_word, rest_after};
 pub use token::{StKind, StToken};
@@ -17,6 +19,7 @@ mod direct;
 mod lexer;
 mod literal;
 mod number;
+mod spelling_laws;
 #[cfg(test)]
 mod tests;
 mod text;
