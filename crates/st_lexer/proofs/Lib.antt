@@ -6,5 +6,6 @@ pub mod NumberCuts
 pub mod PlaceCuts
 mod Sizes
 mod StTokenRows
+pub mod TokenFacts
 mod TokenLaws
 pub mod Words

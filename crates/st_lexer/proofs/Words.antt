@@ -49,7 +49,7 @@ no_type w more h e =
     ap (λ (n : ℕ). begins_with 35 (drop n (w ++ more))) size ∙ ap (begins_with 35) (drop-append_seam w more) ∙ no_mark more e in
     if_false (begins_with 35 (drop (word_size (w ++ more)) (w ++ more))) _ _ behind
 
-letter_word : (b : ℕ) → is_letter b ≡ true → is_word_byte b ≡ true
+pub letter_word : (b : ℕ) → is_letter b ≡ true → is_word_byte b ≡ true
 letter_word b h = grind (arith, nat_tests)
 
 pub word_stands : WordsAreTokens

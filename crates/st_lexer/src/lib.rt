@@ -1,8 +1,9 @@
 //! The tokens of a Structured Text.
 //!
 //! Stands on `s7_base`, `memory_areas` and `st_tree`. `specs/` has what the tokens of a text are, the value of a
-//! literal and the place of a direct variable; `token_laws` says the same of tokens as a relation, and `spelling_laws`
-//! that what a canonical text writes for a word, a literal or a place is one token of it.
+//! literal and the place of a direct variable; `token_laws` says the same of tokens as a relation, `token_facts` what
+//! the tokens of a text are by their sorts, and `spelling_laws` that what a canonical text writes for a word, a literal
+//! or a place is one token of it.
 #![tactic(auto)]
 
 pub use direct::{Direct, direct_at};
@@ -13,6 +14,7 @@ pub use spelling_laws::{literals_are_tokens, places_are_tokens, words_are_tokens
 pub use st_tree::StType;
 pub use text::{front_of, is_same_word, rest_after};
 pub use token::{StKind, StToken};
+pub use token_facts::tokens_are_of_their_sorts;
 pub use token_laws::tokens_are_cut;
 
 mod direct;
@@ -24,4 +26,5 @@ mod spelling_laws;
 mod tests;
 mod text;
 mod token;
+mod token_facts;
 mod token_laws;
