@@ -1,7 +1,5 @@
 //! Units, and the whole text.
 ghost use Rattle.std.specs.Prelude.{◌≡◌, ◌++◌, codes, flat_map, IfOk, OnOk};
-ghost use Rattle.st_tree.specs.Proper.{Proper};
-ghost use Rattle.st_tree.specs.Reading.{HasTree};
 ghost use Rattle.st_tree.specs.Spelling.{line, local_text, section_text, unit_word, unit_text, spelling};
 
 use crate::global::put_globals;
@@ -14,8 +12,7 @@ use std::alloc::Global;
 
 /// The bytes of the whole text.
 pub fn print(alloc: Global, tree: &StProgram) -> Result<Vec<u8>, NoMemory>
-    ensures text { IfOk result (λ text. text.items ≡ spelling tree.now) }
-    ensures reads_back { IfOk result (λ text. Proper tree.now → HasTree text.items tree.now) }
+    ensures { IfOk result (λ text. text.items ≡ spelling tree.now) }
 {
     let mut out = Vec::new(alloc);
     put_globals(&mut out, tree)?;

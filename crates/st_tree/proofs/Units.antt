@@ -1,12 +1,12 @@
 -- Units: more of them never change what has ended, and calls that may nest deeper than there are units
 -- change nothing. Two meanings are compared, of which the second has j units more.
-use Rattle.std.proofs.Common.{◌≡◌, ℕ, zero, suc, ◌+◌, ◌-◌, ◌≤◌, ◌<◌, Bool, true, false, if◌then◌else◌, ℤ, List, [], ◌∷◌, map, Option, Some, None, Result, Ok, Err, refl, sym, ap, subst, ◌∙◌, arith}
+use Rattle.std.proofs.Common.{◌≡◌, ℕ, zero, suc, ◌+◌, ◌≤◌, ◌<◌, Bool, true, false, if◌then◌else◌, ℤ, List, [], ◌∷◌, map, Option, Some, None, Result, Ok, Err, refl, sym, ap, subst, arith}
 use Rattle.std.specs.Prelude.{slice_get}
 use Rattle.std.specs.List.{list_any}
 use Rattle.std.specs.Ordering.{int_eq}
 use Rattle.s7_base.specs.declared.outcome.Fault.{Fault}
 use Rattle.st_tree.specs.Calls.{after_unit, calls_to, entered, unit_step}
-use Rattle.st_tree.specs.Meaning.{Out, Normal, Exits, Continues, Returns, Faults, NoUnits, Sem, Calls, Guarded, Labelled, after_body, arm_meaning, arm_step, body_meaning, called, case_meaning, case_step, changed, first_true, first_with, in_order, invoked, located_actuals, loop, meaning, stmt_step, then_do, turn, turns, with_value}
+use Rattle.st_tree.specs.Meaning.{Out, Normal, Exits, Continues, Returns, Faults, NoUnits, Sem, Calls, Guarded, Labelled, after_body, arm_meaning, arm_step, body_meaning, called, case_meaning, case_step, changed, first_true, first_with, in_order, located_actuals, meaning, stmt_step, then_do, turns, with_value}
 use Rattle.st_tree.specs.State.{State}
 use Rattle.st_tree.specs.Value.{Worth, value}
 use Rattle.st_tree.specs.Values.{Value, is_set}

@@ -1,10 +1,10 @@
-//! The tree of an ST text, how a tree is spelled, how a text is read, and what it does.
+//! The tree of an ST text, how a tree is spelled, and what it does.
 //!
 //! Stands on `s7_base` and `memory_areas`, and on `stl_tree` for the call of a block. The trees are those of the
-//! whole language, and so are the raw trees, which have names as texts and lines. `specs/` has the canonical
-//! spelling of every tree and the types of expressions; the tokens, grammar and depth of the texts that can be read
-//! so far, and their reading, which is one tree or one refusal (`reading_laws`); the value of an expression, the
-//! meaning of statements and the run of a unit (`run_laws`).
+//! whole language, and so are the raw trees, which have names as texts and lines, and the tokens. `specs/` has the
+//! canonical spelling of every tree and the types of expressions; the value of an expression, the meaning of
+//! statements and the run of a unit (`run_laws`); and what of a tree can be run. How a text is read stands in
+//! `st_lexer`, `st_types` and `st_parser`.
 #![tactic(auto)]
 
 pub use expr::{BinaryOp, Expr, ShiftOp, StType, UnaryOp, Var};
@@ -20,7 +20,6 @@ pub use token::{StKind, StToken};
 mod expr;
 mod program;
 mod raw;
-pub mod reading_laws;
 pub mod run_laws;
 mod state;
 mod token;

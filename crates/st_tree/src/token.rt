@@ -11,11 +11,11 @@ pub enum StKind {
     /// A direct variable, as `%IX0.0`.
     Direct,
 
+    /// A number, or a type, `#` and a value.
+    Literal,
+
     /// A sign of one or two characters.
     Sign,
-
-    /// The end of the text.
-    End,
 }
 
 /// A token: its characters as they are written, and the line on which it stands.
