@@ -9,7 +9,7 @@ use Rattle.st_lexer.specs.Literals.{word_size, type_at}
 use Rattle.st_lexer.specs.Spelled.{ends_word}
 use Rattle.st_lexer.specs.SpellingLaws.{WordsAreTokens}
 use Rattle.st_lexer.specs.StTokens.{is_blank, is_letter, token}
-use Rattle.st_lexer.specs.declared.token.StKind.TheVariants as sort
+use Rattle.st_tree.specs.declared.token.StKind.TheVariants as sort
 
 pub and_both : (a b : Bool) → (a && b) ≡ true → (a ≡ true) × (b ≡ true)
 and_both true b h = (refl, h)

@@ -11,8 +11,8 @@ use Rattle.st_lexer.specs.Spelled.{ends_word, has_value, is_byte, is_decimal, is
 use Rattle.st_lexer.specs.StTokens.{is_letter, token}
 use Rattle.st_lexer.specs.TokenGrammar.{Stands}
 use Rattle.st_lexer.specs.declared.number.Base.TheVariants as base
-use Rattle.st_lexer.specs.declared.token.StKind.{StKind}
-use Rattle.st_lexer.specs.declared.token.StKind.TheVariants as sort
+use Rattle.st_tree.specs.declared.token.StKind.{StKind}
+use Rattle.st_tree.specs.declared.token.StKind.TheVariants as sort
 use Rattle.st_tree.specs.Spelling.{byte_text, literal_text, place_text}
 use Rattle.st_tree.specs.Words.{area_word}
 use Rattle.st_tree.specs.declared.expr.StType.{StType}

@@ -9,9 +9,9 @@ use Rattle.st_lexer.specs.Spelled.{has_value, is_place}
 use Rattle.st_lexer.specs.StTokens.{is_letter, tokens_of}
 use Rattle.st_lexer.specs.declared.direct.Direct.{Direct}
 use Rattle.st_lexer.specs.declared.literal.Literal.{Literal}
-use Rattle.st_lexer.specs.declared.token.StKind.{StKind}
-use Rattle.st_lexer.specs.declared.token.StKind.TheVariants as sort
-use Rattle.st_lexer.specs.declared.token.StToken.{StToken}
+use Rattle.st_tree.specs.declared.token.StKind.{StKind}
+use Rattle.st_tree.specs.declared.token.StKind.TheVariants as sort
+use Rattle.st_tree.specs.declared.token.StToken.{StToken}
 
 -- a letter or `_`, then letters, digits and `_`
 abbrev pub is_word : List ℕ → Bool

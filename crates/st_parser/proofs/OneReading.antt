@@ -7,7 +7,7 @@ use Rattle.s7_base.specs.declared.reason.Reason.TheVariants as reason
 use Rattle.s7_base.specs.declared.reason.Rejection.{Rejection}
 use Rattle.s7_base.specs.declared.reason.Rejection.TheVariants.{Refused}
 use Rattle.st_lexer.specs.StTokens.{tokens_of}
-use Rattle.st_lexer.specs.declared.token.StToken.{StToken}
+use Rattle.st_tree.specs.declared.token.StToken.{StToken}
 use Rattle.st_parser.proofs.Bare.{bare}
 use Rattle.st_parser.proofs.DriveSource.{finished}
 use Rattle.st_parser.proofs.Exact.{raw_of}

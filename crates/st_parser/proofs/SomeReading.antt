@@ -7,7 +7,7 @@ use Rattle.s7_base.specs.declared.reason.Reason.TheVariants.{CallCycle, NoBlocks
 use Rattle.s7_base.specs.declared.reason.Rejection.{Rejection}
 use Rattle.s7_base.specs.declared.reason.Rejection.TheVariants.{Refused, NoMemory}
 use Rattle.st_lexer.specs.StTokens.{answer, cut_from, first_bad, great_from, tokens_of}
-use Rattle.st_lexer.specs.declared.token.StToken.{StToken}
+use Rattle.st_tree.specs.declared.token.StToken.{StToken}
 use Rattle.st_parser.proofs.Exact.{raw_of}
 use Rattle.st_parser.proofs.FoundCycle.{found_cycle}
 use Rattle.st_parser.proofs.Verdicts.{Says, says}
