@@ -38,7 +38,8 @@ choose P false x y p q = q refl
 abbrev HasSign : Literal → Type 0
 HasSign found = found.minus ≡ true → is_signed found.kind ≡ true
 
-as_literal : (kind : StType) (minus : Bool) (before : ℕ) (o : Option Number) → (minus ≡ true → is_signed kind ≡ true) → IfSome (option_map (literal_of_number kind minus before) o) HasSign
+as_literal : (kind : StType) (minus : Bool) (before : ℕ) (o : Option Number) → (minus ≡ true → is_signed kind ≡ true)
+    → IfSome (option_map (literal_of_number kind minus before) o) HasSign
 as_literal kind minus before None h = tt
 as_literal kind minus before (Some number) h = h
 
@@ -98,7 +99,8 @@ literal_value_of bytes = sign_value (literal_at bytes) (behind_sign (type_at byt
 kept_is : (number : Number) → is_kept (kept number) ≡ true
 kept_is number = grind (arith, nat_tests)
 
-bit_place : (name : AreaName) (block : Option ℕ) (before : ℕ) (o : Option Number) (bytes : List ℕ) → is_block_of name block ≡ true → IfSome (bit_behind name block before o bytes) HasPlace
+bit_place : (name : AreaName) (block : Option ℕ) (before : ℕ) (o : Option Number) (bytes : List ℕ) → is_block_of name block ≡ true
+    → IfSome (bit_behind name block before o bytes) HasPlace
 bit_place name block before None bytes h = tt
 bit_place name block before (Some byte) bytes h =
     choose HasPlace (begins_with 46 (drop byte.size bytes)) _ None (λ e. bit_number name block before byte (number_to base.Ten (drop 1 (drop byte.size bytes))) h) (λ e. tt)
@@ -117,7 +119,8 @@ whole_place name block width.Byte before (Some byte) h k = rw (h, kept_is byte) 
 whole_place name block width.Word before (Some byte) h k = rw (h, kept_is byte) refl
 whole_place name block width.Dword before (Some byte) h k = rw (h, kept_is byte) refl
 
-width_place : (name : AreaName) (block : Option ℕ) (wide : Option Width) (before : ℕ) (bytes : List ℕ) → is_block_of name block ≡ true → IfSome (place_at name block wide before bytes) HasPlace
+width_place : (name : AreaName) (block : Option ℕ) (wide : Option Width) (before : ℕ) (bytes : List ℕ) → is_block_of name block ≡ true
+    → IfSome (place_at name block wide before bytes) HasPlace
 width_place name block None before bytes h = tt
 width_place name block (Some width.Bit) before bytes h = bit_place name block before (number_to base.Ten bytes) bytes h
 width_place name block (Some width.Byte) before bytes h = whole_place name block width.Byte before (number_to base.Ten bytes) h (λ e. cc)
@@ -241,7 +244,8 @@ piece_fits (first ∷ rest) =
 -- Tokens
 
 -- a piece's tokens before others
-before_others : (piece : Piece) (bytes : List ℕ) (line : ℕ) (more : List StToken) → Fits bytes piece → All IsOfItsSort more → All IsOfItsSort (token_of piece bytes line ++ more)
+before_others : (piece : Piece) (bytes : List ℕ) (line : ℕ) (more : List StToken) → Fits bytes piece → All IsOfItsSort more
+    → All IsOfItsSort (token_of piece bytes line ++ more)
 before_others (gap size) bytes line more h a = a
 before_others (token kind size) bytes line more h a =
     All-cons IsOfItsSort (record { kind = kind; text = take size bytes; line = record { 0 = line } }) more h a
