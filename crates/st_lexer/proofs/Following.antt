@@ -6,7 +6,7 @@ use Rattle.s7_base.specs.declared.reason.Line.{Line}
 use Rattle.st_lexer.proofs.TokenLaws.{prepend-prepend, next_piece, piece_some}
 use Rattle.st_lexer.specs.StTokens.{Piece, piece_at, piece_size, token_of, comment_size, Cut, prepend_tokens, cut_from, great_from, first_bad, answer, answer_to, tokens_of}
 use Rattle.st_lexer.specs.TokenGrammar.{line_past}
-use Rattle.st_lexer.specs.declared.token.StToken.{StToken}
+use Rattle.st_tree.specs.declared.token.StToken.{StToken}
 
 -- one turn of the loop
 pub after_piece : (tokens more : List StToken) (piece : Piece) (bytes : List ℕ) (line : ℕ) (whole : Cut) → piece_at bytes ≡ Some piece →

@@ -1,5 +1,11 @@
+pub mod Digits
 mod Following
 mod Lines
+pub mod LiteralCuts
+pub mod NumberCuts
+pub mod PlaceCuts
 mod Sizes
 mod StTokenRows
+pub mod TokenFacts
 mod TokenLaws
+pub mod Words

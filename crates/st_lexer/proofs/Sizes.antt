@@ -21,7 +21,7 @@ use Rattle.st_tree.specs.declared.expr.StType.TheVariants as type
 use Rattle.st_lexer.specs.declared.number.Base.{Base}
 use Rattle.st_lexer.specs.declared.number.Base.TheVariants as base
 use Rattle.st_lexer.specs.declared.number.Number.{Number}
-use Rattle.st_lexer.specs.declared.token.StKind.TheVariants as sort
+use Rattle.st_tree.specs.declared.token.StKind.TheVariants as sort
 
 -- what is found, if it is, has a byte and no more than these
 abbrev pub Within : {X : Type 0} → (X → ℕ) → ℕ → Option X → Type 0

@@ -10,9 +10,9 @@ use Rattle.st_lexer.specs.Direct.{direct_of}
 use Rattle.st_lexer.specs.Literals.{literal_value}
 use Rattle.st_lexer.specs.StTokens.{tokens_of}
 use Rattle.st_tree.specs.declared.expr.StType.TheVariants as type
-use Rattle.st_lexer.specs.declared.token.StKind.{StKind}
-use Rattle.st_lexer.specs.declared.token.StKind.TheVariants.{Word, Direct, Literal, Sign}
-use Rattle.st_lexer.specs.declared.token.StToken.{StToken}
+use Rattle.st_tree.specs.declared.token.StKind.{StKind}
+use Rattle.st_tree.specs.declared.token.StKind.TheVariants.{Word, Direct, Literal, Sign}
+use Rattle.st_tree.specs.declared.token.StToken.{StToken}
 
 abbrev token : StKind → List ℕ → ℕ → StToken
 token kind text line = record { kind = kind; text = text; line = record { 0 = line } }

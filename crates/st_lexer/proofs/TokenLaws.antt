@@ -9,7 +9,7 @@ use Rattle.st_lexer.proofs.Lines.{ends_on}
 use Rattle.st_lexer.proofs.Sizes.{Within, piece_within}
 use Rattle.st_lexer.specs.StTokens.{Piece, piece_at, piece_size, token_of, line_behind, Cut, prepend_tokens, with_piece, cut_from, great_from, first_bad, answer, answer_to, tokens_of}
 use Rattle.st_lexer.specs.TokenGrammar.{line_past, Stands, Cuts, here, next, NoPiece, TokensAreCut}
-use Rattle.st_lexer.specs.declared.token.StToken.{StToken}
+use Rattle.st_tree.specs.declared.token.StToken.{StToken}
 
 abbrev with_bad : Option Line → List StToken → Cut
 with_bad bad tokens = record { tokens = tokens; bad = bad }

@@ -5,4 +5,5 @@ pub mod Pieces
 pub mod Spelled
 pub mod SpellingLaws
 pub mod StTokens
+pub mod TokenFacts
 pub mod TokenGrammar

@@ -1,19 +1,18 @@
 -- What a canonical text writes for a word, a literal or a place is one token, whatever stands behind it
 -- that does not go on with it, and stands for what it was written for.
-use Rattle.std.specs.Prelude.{◌≡◌, ℕ, ◌+◌, ℤ, pos, unsigned_abs, int_lt, Bool, true, false, List, ◌∷◌, ◌++◌, codes, decimal, length, drop, Option, Some, None}
+use Rattle.std.specs.Prelude.{◌≡◌, ℕ, ℤ, pos, unsigned_abs, int_lt, Bool, true, false, List, ◌∷◌, ◌++◌, codes, decimal, length, drop, Option, Some, None}
 use Rattle.std.specs.List.{list_all}
 use Rattle.memory_areas.specs.declared.place.AreaName.{AreaName}
-use Rattle.memory_areas.specs.declared.place.AreaName.TheVariants as area
 use Rattle.s7_base.specs.Tokens.{is_word_byte}
 use Rattle.s7_base.specs.declared.word.Width.{Width}
 use Rattle.st_lexer.specs.Direct.{direct_of}
 use Rattle.st_lexer.specs.Literals.{base_at, begins_with_digit, literal_at}
-use Rattle.st_lexer.specs.Spelled.{ends_word, has_value, is_byte, is_decimal, is_kept, is_place}
+use Rattle.st_lexer.specs.Spelled.{ends_word, has_value, is_byte, is_decimal, is_place}
 use Rattle.st_lexer.specs.StTokens.{is_letter, token}
 use Rattle.st_lexer.specs.TokenGrammar.{Stands}
 use Rattle.st_lexer.specs.declared.number.Base.TheVariants as base
-use Rattle.st_lexer.specs.declared.token.StKind.{StKind}
-use Rattle.st_lexer.specs.declared.token.StKind.TheVariants as sort
+use Rattle.st_tree.specs.declared.token.StKind.{StKind}
+use Rattle.st_tree.specs.declared.token.StKind.TheVariants as sort
 use Rattle.st_tree.specs.Spelling.{byte_text, literal_text, place_text}
 use Rattle.st_tree.specs.Words.{area_word}
 use Rattle.st_tree.specs.declared.expr.StType.{StType}

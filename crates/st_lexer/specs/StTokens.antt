@@ -16,9 +16,9 @@ use Rattle.st_lexer.specs.declared.literal.Literal.{Literal}
 use Rattle.st_tree.specs.declared.expr.StType.{StType}
 use Rattle.st_lexer.specs.declared.number.Base.{Base}
 use Rattle.st_lexer.specs.declared.number.Base.TheVariants.{Ten}
-use Rattle.st_lexer.specs.declared.token.StKind.{StKind}
-use Rattle.st_lexer.specs.declared.token.StKind.TheVariants as sort
-use Rattle.st_lexer.specs.declared.token.StToken.{StToken}
+use Rattle.st_tree.specs.declared.token.StKind.{StKind}
+use Rattle.st_tree.specs.declared.token.StKind.TheVariants as sort
+use Rattle.st_tree.specs.declared.token.StToken.{StToken}
 
 -- Bytes
 

@@ -5,7 +5,7 @@ use Rattle.s7_base.specs.declared.reason.Line.{Line}
 use Rattle.s7_base.specs.declared.reason.Reason.TheVariants.{BadToken}
 use Rattle.s7_base.specs.declared.reason.Rejection.TheVariants.{Refused}
 use Rattle.st_lexer.specs.StTokens.{Piece, piece_at, piece_size, line_behind, token_of, great_from, tokens_of}
-use Rattle.st_lexer.specs.declared.token.StToken.{StToken}
+use Rattle.st_tree.specs.declared.token.StToken.{StToken}
 
 -- the line behind some bytes
 abbrev pub line_past : ℕ → List ℕ → ℕ

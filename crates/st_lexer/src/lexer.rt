@@ -12,7 +12,7 @@ use crate::direct::direct_at;
 use crate::literal::{Literal, is_in_range, literal_at, type_at};
 use crate::number::{Base, base_at, is_digit_to};
 use crate::text::{begins_with, front_of, rest_after, word_size};
-use crate::token::{StKind, StToken};
+use st_tree::{StKind, StToken};
 use s7_base::{Line, List, NoMemory, Reason, Rejection};
 use std::alloc::Global;
 

@@ -5,10 +5,14 @@ mod DriveStatements
 mod Ends
 mod Exact
 mod Finish
+mod FoundCycle
+mod Judged
 mod Kept
 mod KeptText
 mod Loops
 pub mod Nesting
+mod OneReading
+mod SomeReading
 mod SyntaxRows
 mod Texts
 mod Verdicts

@@ -8,7 +8,7 @@ use Rattle.s7_base.specs.declared.reason.Rejection.{Rejection}
 use Rattle.s7_base.specs.declared.reason.Rejection.TheVariants.{Refused, NoMemory}
 use Rattle.st_lexer.specs.Answers.{Answers}
 use Rattle.st_lexer.specs.StTokens.{answer, cut_from, first_bad, great_from, tokens_of}
-use Rattle.st_lexer.specs.declared.token.StToken.{StToken}
+use Rattle.st_tree.specs.declared.token.StToken.{StToken}
 use Rattle.st_parser.proofs.Ends.{IsOver, ends_over}
 use Rattle.st_parser.proofs.Exact.{Read, ReadAll, read_all, raw_of}
 use Rattle.st_parser.proofs.Verdicts.{Refuses, Says, says}

@@ -11,9 +11,9 @@ use Rattle.st_lexer.specs.declared.direct.Direct.{Direct}
 use Rattle.st_lexer.specs.declared.literal.Literal.{Literal as Found}
 use Rattle.st_lexer.specs.declared.number.Base.{Base}
 use Rattle.st_lexer.specs.declared.number.Base.TheVariants as base
-use Rattle.st_lexer.specs.declared.token.StKind.{StKind}
-use Rattle.st_lexer.specs.declared.token.StKind.TheVariants as sort
-use Rattle.st_lexer.specs.declared.token.StToken.{StToken}
+use Rattle.st_tree.specs.declared.token.StKind.{StKind}
+use Rattle.st_tree.specs.declared.token.StKind.TheVariants as sort
+use Rattle.st_tree.specs.declared.token.StToken.{StToken}
 use Rattle.st_parser.specs.declared.kind.Fixed.{Fixed}
 use Rattle.st_parser.specs.declared.kind.Fixed.TheVariants as fixed
 use Rattle.st_parser.specs.declared.kind.Function.TheVariants as function

@@ -10,5 +10,6 @@ pub mod Proper
 pub mod Spelled
 pub mod Steps
 pub mod Syntax
+pub mod TextLaws
 pub mod Texts
 pub mod Views

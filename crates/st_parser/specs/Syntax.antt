@@ -7,7 +7,7 @@ use Rattle.s7_base.specs.declared.reason.Reason.{Reason}
 use Rattle.s7_base.specs.declared.reason.Reason.TheVariants as reason
 use Rattle.s7_base.specs.declared.reason.Rejection.TheVariants.{Refused}
 use Rattle.st_lexer.specs.StTokens.{tokens_of}
-use Rattle.st_lexer.specs.declared.token.StToken.{StToken}
+use Rattle.st_tree.specs.declared.token.StToken.{StToken}
 use Rattle.st_parser.specs.Forms.{Source}
 use Rattle.st_parser.specs.Grammar.{SourceFits, spell_source, raw_tree}
 use Rattle.st_parser.specs.Kinds.{kind_of}

@@ -14,6 +14,7 @@ mod row;
 mod state;
 mod statement;
 mod text;
+pub mod text_laws;
 mod token;
 mod unit;
 mod words;

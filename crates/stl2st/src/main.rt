@@ -22,6 +22,8 @@ mod lexer;
 mod number;
 mod operand;
 mod reader;
+#[cfg(test)]
+mod refusal_tests;
 mod reply;
 mod statement;
 mod status;
