@@ -1,4 +1,4 @@
-use Rattle.std.proofs.Common.{◌≡◌, List, ℕ, Ok, Err, ap, sym, subst, ◌∙◌}
+use Rattle.std.proofs.Common.{List, ℕ, Err, ap, subst, ◌∙◌}
 use Rattle.st_parser.specs.Texts.{IsTextOf, IsRefusedAs}
 use Rattle.s7_base.specs.declared.reason.Rejection.{Rejection}
 use Rattle.s7_base.specs.declared.reason.Rejection.TheVariants as rejection

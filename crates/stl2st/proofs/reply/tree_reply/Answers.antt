@@ -1,4 +1,4 @@
-use Rattle.std.proofs.Common.{◌≡◌, List, ℕ, Ok, Err, ap, sym, subst, ◌∙◌}
+use Rattle.std.proofs.Common.{List, ℕ, Err, ap, sym, subst, ◌∙◌}
 use Rattle.image_text.specs.Image.{image_of}
 use Rattle.image_text.specs.Reading.{Reads}
 use Rattle.memory_areas.specs.declared.data_block.DataBlock.{DataBlock}
