@@ -1,4 +1,11 @@
 mod Bare
+mod CutExpressions
+mod CutGlobals
+mod CutLiterals
+mod CutStatements
+mod CutUnits
+mod CutWords
+mod Cuts
 mod Drive
 mod DriveSource
 mod DriveStatements
@@ -14,6 +21,7 @@ pub mod Nesting
 mod OneReading
 mod SomeReading
 mod SyntaxRows
+pub mod TextReads
 mod Texts
 mod Verdicts
 mod Whole
