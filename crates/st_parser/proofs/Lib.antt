@@ -5,7 +5,6 @@ mod DriveStatements
 mod Ends
 mod Exact
 mod Finish
-mod FoundCycle
 mod Judged
 mod Kept
 mod KeptText

@@ -4,9 +4,11 @@ pub mod BlockSizes
 pub mod Blocks
 pub mod BodyCosts
 pub mod Cycles
+pub mod Declared
 pub mod DataBlocks
 pub mod FirstBreak
 pub mod Followed
+pub mod FoundCycle
 pub mod GlobalAreas
 pub mod NameRows
 pub mod Nesting
