@@ -1,11 +1,12 @@
 pub mod Actuals
+pub mod Apart
 pub mod BlockKeys
 pub mod BlockSizes
 pub mod Blocks
 pub mod BodyCosts
 pub mod Cycles
-pub mod Declared
 pub mod DataBlocks
+pub mod Declared
 pub mod FirstBreak
 pub mod Followed
 pub mod FoundCycle
@@ -13,11 +14,13 @@ pub mod GlobalAreas
 pub mod NameRows
 pub mod Nesting
 pub mod OneAnswer
+pub mod PlainNumbers
 pub mod RawNests
 pub mod Reached
 pub mod Refusals
 pub mod RunnableUnits
 pub mod Runs
+pub mod SameChain
 pub mod Tables
 pub mod Taken
 pub mod TextRows
