@@ -7,6 +7,7 @@ pub mod BodyCosts
 pub mod Cycles
 pub mod DataBlocks
 pub mod Declared
+pub mod DeclaredNames
 pub mod FirstBreak
 pub mod Followed
 pub mod FoundCycle
@@ -15,8 +16,10 @@ pub mod NameRows
 pub mod Nesting
 pub mod OneAnswer
 pub mod PlainNumbers
+pub mod PlainTexts
 pub mod RawNests
 pub mod Reached
+pub mod Redeclared
 pub mod Refusals
 pub mod RunnableUnits
 pub mod Runs
