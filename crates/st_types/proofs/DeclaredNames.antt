@@ -1,5 +1,5 @@
 -- What names mean by the declarations of a tree, and that they mean the same in a text that has the tree.
-use Rattle.std.proofs.Common.{◌≡◌, ◌<◌, ◌≤◌, ◌+◌, ℕ, Bool, true, false, not, cond, ◌&&◌, nat_lt, List, [], ◌∷◌, ◌++◌, map, length, Option, Some, None, is_some, refl, sym, ap, subst, ◌∙◌, arith, length-append}
+use Rattle.std.proofs.Common.{◌≡◌, ◌+◌, ℕ, Bool, true, false, not, cond, ◌&&◌, nat_lt, List, [], ◌∷◌, ◌++◌, length, Option, Some, None, is_some, refl, sym, ap, subst, ◌∙◌, arith, length-append}
 use Rattle.std.specs.Prelude.{codes, decimal}
 use Rattle.std.specs.List.{fold}
 use Rattle.std.proofs.lemmas.List.{append-nil, append_assoc}
@@ -34,7 +34,6 @@ use Rattle.st_types.specs.Globals.{all_global_breaks, all_located, area_of, bloc
 use Rattle.st_types.specs.Names.{Table, key_of, look_up, with_entry}
 use Rattle.st_types.specs.Types.{has_width}
 use Rattle.st_types.specs.Variables.{is_address}
-use Rattle.st_types.specs.declared.broken.Break.{Break}
 use Rattle.st_types.specs.declared.declaration.Inside.{Inside}
 use Rattle.st_types.specs.declared.declaration.Outside.{Outside}
 use Rattle.st_types.specs.declared.scope.Meaning.{Meaning}
@@ -190,7 +189,13 @@ record HasPlace (name : List ℕ) (ty : StType) (at : RawVar) : Type 0 where
 on_area : (name : List ℕ) (ty : StType) (a : AreaName) (r : Area) (w : Width) (byte bit : ℕ) → area_of a ≡ Some r → name_of_area r ≡ a → is_address a None w byte bit ≡ true
     → (is_some (area_of a) && has_width ty w) ≡ true → HasPlace name ty (var.Direct a None w byte bit)
 on_area name ty a r w byte bit there back address fits =
-    record { located = made; found = found; named = refl; typed = refl; placed = record { address = ap has_address own ∙ address; fits = ap (fits_type ty) own ∙ fits; found = ap (located_at name ty) own ∙ found } }
+    record {
+      located = made;
+      found = found;
+      named = refl;
+      typed = refl;
+      placed = record { address = ap has_address own ∙ address; fits = ap (fits_type ty) own ∙ fits; found = ap (located_at name ty) own ∙ found };
+    }
   where
     made : Located
     made = record { name = name; place = record { area = r; byte = byte; bit = bit }; ty = ty }
@@ -325,7 +330,9 @@ module _ (d : Outside) (bs : List DataBlock) (ls : List Located) (name : List �
   one_global : (ty : RawGlobalType) → (with_global d (declaration ty)).breaks ≡ [] → global_breaks ty line name at ≡ []
       → Gathered (with_global d (declaration ty)) (with_block (block_of ty name at) bs) (ls ++ listed (located_of ty name at))
   one_global (type.Plain ty) e none =
-      one_located ty e (has_place name ty at (holds (has_address at) line _ (nil_first _ _ none)) (holds (fits_type ty at) line _ (nil_second (unless (has_address at) (broken line _)) _ none)))
+      let address = holds (has_address at) line _ (nil_first _ _ none) in
+      let fits = holds (fits_type ty at) line _ (nil_second (unless (has_address at) (broken line _)) _ none) in
+      one_located ty e (has_place name ty at address fits)
   one_global (type.Bytes last list) e none = one_block last list e (has_block line (block_number name) at last list none)
 
 pub gather : (gs : List RawGlobal) (d : Outside) (bs : List DataBlock) (ls : List Located) → Gathered d bs ls → (fold with_global d gs).breaks ≡ [] → all_global_breaks gs ≡ []
@@ -333,9 +340,11 @@ pub gather : (gs : List RawGlobal) (d : Outside) (bs : List DataBlock) (ls : Lis
 gather [] d bs ls so e none = subst (Gathered d bs) (sym (append-nil ls)) so
 gather (g ∷ gs) d bs ls so e none =
     let here = listed (located_of g.ty g.name g.at) in
-    let one = one_global d bs ls g.name g.line g.at so g.ty (before_globals gs (with_global d g) e) (nil_first (global_breaks g.ty g.line g.name g.at) (all_global_breaks gs) none) in
-    let more = gather gs (with_global d g) (with_block (block_of g.ty g.name g.at) bs) (ls ++ here) one e (nil_second (global_breaks g.ty g.line g.name g.at) (all_global_breaks gs) none) in
-    subst (Gathered (fold with_global (with_global d g) gs) (fold (λ blocks (h : RawGlobal). with_block (block_of h.ty h.name h.at) blocks) (with_block (block_of g.ty g.name g.at) bs) gs))
+    let blocks = with_block (block_of g.ty g.name g.at) bs in
+    let own = global_breaks g.ty g.line g.name g.at in
+    let one = one_global d bs ls g.name g.line g.at so g.ty (before_globals gs (with_global d g) e) (nil_first own (all_global_breaks gs) none) in
+    let more = gather gs (with_global d g) blocks (ls ++ here) one e (nil_second own (all_global_breaks gs) none) in
+    subst (Gathered (fold with_global (with_global d g) gs) (fold (λ blocks (h : RawGlobal). with_block (block_of h.ty h.name h.at) blocks) blocks gs))
     (append_assoc ls here (all_located gs)) more
 
 -- Units

@@ -24,6 +24,7 @@ pub mod Refusals
 pub mod RunnableUnits
 pub mod Runs
 pub mod SameChain
+pub mod SameDeclarations
 pub mod Tables
 pub mod Taken
 pub mod TextRows

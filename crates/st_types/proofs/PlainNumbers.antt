@@ -1,6 +1,6 @@
 -- The name of a data block in plain form, `DB` and its number, has that number; and its key is that of each
 -- name with the number.
-use Rattle.std.proofs.Common.{◌≡◌, ◌<◌, ◌≤◌, ◌+◌, ◌*◌, ◌-◌, ◌/◌, ◌%◌, ◌^◌, ℕ, min, Bool, true, false, cond, ◌&&◌, ◌==◌, nat_lt, List, [], ◌∷◌, ◌++◌, map, drop, length, get_or, refl, sym, ap, ◌∙◌, arith, length-append}
+use Rattle.std.proofs.Common.{◌≡◌, ◌<◌, ◌≤◌, ◌+◌, ◌*◌, ◌-◌, ◌/◌, ◌%◌, ◌^◌, ℕ, min, true, false, cond, ◌&&◌, ◌==◌, nat_lt, List, [], ◌∷◌, ◌++◌, map, drop, length, get_or, refl, ap, ◌∙◌, arith, length-append}
 use Rattle.std.specs.Prelude.{codes, decimal}
 use Rattle.std.specs.List.{list_all}
 use Rattle.std.specs.Char.{to_ascii_uppercase}
@@ -8,7 +8,7 @@ use Rattle.std.proofs.lemmas.Bool.Decides.{nat_tests}
 use Rattle.std.proofs.lemmas.Fmt.{decimal_by_steps, first_decimal}
 use Rattle.std.proofs.lemmas.List.Folds.{list_all-append}
 use Rattle.st_types.specs.Globals.{block_number, number_from, number_in}
-use Rattle.st_types.specs.Names.{is_block_name, is_digit, is_number, key_of, with_plain_number, without_zeros, zeros_before}
+use Rattle.st_types.specs.Names.{is_digit, is_number, key_of, with_plain_number, without_zeros, zeros_before}
 use Rattle.st_types.proofs.BlockKeys.{both, digit, is_key, one_key}
 
 number_behind : (v : ℕ) (ds : List ℕ) (d : ℕ) → number_from v (ds ++ d ∷ []) ≡ min (number_from v ds * 10 + (d - 48)) (2 ^ 32 - 1)

@@ -1,8 +1,8 @@
 -- A text that declares what a tree has breaks no rule in its declarations, and has the tree's data blocks and
 -- globals again.
-use Rattle.std.proofs.Common.{◌≡◌, ◌<◌, ◌≤◌, ◌+◌, ◌-◌, ℕ, suc, Bool, true, false, not, cond, ◌&&◌, ◌==◌, nat_le, nat_lt, List, [], ◌∷◌, ◌++◌, length, Option, Some, None, is_some, refl, sym, ap, subst, ◌∙◌, arith, length-append}
+use Rattle.std.proofs.Common.{◌≡◌, ◌≤◌, ◌+◌, ◌-◌, ℕ, suc, Bool, true, false, not, cond, ◌&&◌, ◌==◌, nat_le, nat_lt, List, [], ◌∷◌, ◌++◌, length, Option, Some, None, is_some, refl, sym, ap, subst, ◌∙◌, arith, length-append}
 use Rattle.std.specs.Prelude.{codes, decimal}
-use Rattle.std.specs.List.{All, fold, flat_map}
+use Rattle.std.specs.List.{fold}
 use Rattle.std.proofs.lemmas.Bool.Decides.{nat_tests}
 use Rattle.std.proofs.lemmas.Grind.{flat_map-append}
 use Rattle.std.proofs.lemmas.List.{append-nil, append_assoc}
@@ -10,16 +10,15 @@ use Rattle.std.proofs.lemmas.List.Sums.{fold-append}
 use Rattle.memory_areas.specs.Areas.{Ascend, numbers_of}
 use Rattle.memory_areas.specs.declared.data_block.DataBlock.{DataBlock}
 use Rattle.memory_areas.specs.declared.place.AreaName.TheVariants as area
-use Rattle.memory_areas.specs.declared.sizes.TheConstants.{MOST_BLOCKS, MOST_BLOCK_BYTES}
+use Rattle.memory_areas.specs.declared.sizes.TheConstants.{MOST_BLOCKS}
 use Rattle.s7_base.specs.declared.reason.Line.{Line}
 use Rattle.s7_base.specs.declared.reason.Reason.{Reason}
-use Rattle.s7_base.specs.declared.reason.Reason.TheVariants.{BadAddress, TooLarge, TypeMismatch}
+use Rattle.s7_base.specs.declared.reason.Reason.TheVariants.{BadAddress, TypeMismatch}
 use Rattle.s7_base.specs.declared.word.Width.TheVariants as width
 use Rattle.st_tree.specs.declared.program.Local.{Local}
 use Rattle.st_tree.specs.declared.program.Located.{Located}
 use Rattle.st_tree.specs.declared.program.Pou.{Pou}
 use Rattle.st_tree.specs.declared.raw.RawGlobal.{RawGlobal}
-use Rattle.st_tree.specs.declared.raw.RawGlobalType.{RawGlobalType}
 use Rattle.st_tree.specs.declared.raw.RawGlobalType.TheVariants as type
 use Rattle.st_tree.specs.declared.raw.RawLocal.{RawLocal}
 use Rattle.st_tree.specs.declared.raw.RawPou.{RawPou}
@@ -28,18 +27,17 @@ use Rattle.st_tree.specs.declared.raw.RawVar.TheVariants as var
 use Rattle.st_types.specs.Broken.{broken, listed}
 use Rattle.st_types.specs.Declarations.{all_inside, all_outside, is_block, meaning_of_global, meaning_of_unit, no_inside, no_outside, one_if, one_too_many, twice, with_formal, with_global, with_local, with_unit}
 use Rattle.st_types.specs.Globals.{all_blocks, all_global_breaks, all_located, block_at, block_breaks, block_number, block_of, contents, fills, fits_type, global_breaks, has_address, has_block_address, has_block_form, inserted, is_small_enough, is_start_of, located_of, total, unless, with_block}
-use Rattle.st_types.specs.Names.{Table, key_of, look_up, with_entry}
+use Rattle.st_types.specs.Names.{Table, key_of, look_up}
 use Rattle.st_types.specs.Variables.{is_block_number}
-use Rattle.st_types.specs.declared.broken.Break.{Break}
 use Rattle.st_types.specs.declared.declaration.Inside.{Inside}
 use Rattle.st_types.specs.declared.declaration.Outside.{Outside}
 use Rattle.st_types.specs.declared.scope.Meaning.{Meaning}
 use Rattle.st_types.specs.declared.scope.Meaning.TheVariants as meaning
 use Rattle.st_types.proofs.Apart.{AreApart, declares_new}
 use Rattle.st_types.proofs.BlockSizes.{IsBlock}
-use Rattle.st_types.proofs.DeclaredNames.{AreNumbered, ArePlaced, IsPlaced, block_entries, formal_entries, inner_entries, local_entries, located_entries, unit_entries}
+use Rattle.st_types.proofs.DeclaredNames.{AreNumbered, ArePlaced, block_entries, formal_entries, inner_entries, local_entries, located_entries, unit_entries}
 use Rattle.st_types.proofs.PlainNumbers.{plain_number}
-use Rattle.st_types.proofs.Redeclared.{AreBlocksAt, AreLocalsAt, AreLocatedAt, AreUnitsAt, IsBlockAt, IsLocatedAt, location_of}
+use Rattle.st_types.proofs.Redeclared.{AreBlocksAt, AreLocalsAt, AreLocatedAt, AreUnitsAt, IsBlockAt, location_of}
 
 -- One data block
 
@@ -86,13 +84,15 @@ plain_block b last list i greatest bytes size =
 by_parts : (b : DataBlock) (g : RawGlobal) (n last : ℕ) (list : List (ℕ × ℕ)) → n ≡ b.number → block_number g.name ≡ n → g.at ≡ start_of n → g.ty ≡ type.Bytes last list
     → (block_at n (start_of n) last list ≡ Some b) × ((line : Line) → block_breaks line n (start_of n) last list ≡ [])
     → (block_of g.ty g.name g.at ≡ Some b) × (global_breaks g.ty g.line g.name g.at ≡ [])
-by_parts b g n last list e number at ty h =
-    (ap (λ t. block_of t g.name g.at) ty ∙ ap (λ k. block_at k g.at last list) number ∙ ap (λ a. block_at n a last list) at ∙ h.0,
-    ap (λ t. global_breaks t g.line g.name g.at) ty ∙ ap (λ k. block_breaks g.line k g.at last list) number ∙ ap (λ a. block_breaks g.line n a last list) at ∙ h.1 g.line)
+by_parts b g n last list e number at ty h = (
+  ap (λ t. block_of t g.name g.at) ty ∙ ap (λ k. block_at k g.at last list) number ∙ ap (λ a. block_at n a last list) at ∙ h.0,
+  ap (λ t. global_breaks t g.line g.name g.at) ty ∙ ap (λ k. block_breaks g.line k g.at last list) number ∙ ap (λ a. block_breaks g.line n a last list) at ∙ h.1 g.line,
+)
 
 block_again : (b : DataBlock) (g : RawGlobal) → IsBlock b.number b → IsBlockAt b g → IsAgain b g
 block_again b g i p =
-    let parts = by_parts b g b.number p.last p.list refl (ap block_number p.named ∙ plain_number b.number i.some i.small) p.placed p.typed (plain_block b p.last p.list i p.greatest p.bytes p.size) in
+    let number : block_number g.name ≡ b.number = ap block_number p.named ∙ plain_number b.number i.some i.small in
+    let parts = by_parts b g b.number p.last p.list refl number p.placed p.typed (plain_block b p.last p.list i p.greatest p.bytes p.size) in
     record { again = parts.0; sound = parts.1; key = ap key_of p.named; last = p.last; list = p.list; typed = p.typed }
 
 -- All data blocks
@@ -109,8 +109,8 @@ goes_last least (x ∷ xs) b ys h =
     let test : nat_lt x.number b.number ≡ true = grind (arith, nat_tests) in
     ap (λ t. cond t (x ∷ inserted b xs) (b ∷ x ∷ xs)) test ∙ ap (λ l. x ∷ l) (goes_last (x.number + 1) xs b ys h.1)
 
-blocks_again : (bs : List DataBlock) (gs : List RawGlobal) → AreBlocksAt bs gs → AreNumbered bs → (old : List DataBlock) → Ascend 1 (numbers_of (old ++ bs)) → length old + length bs ≤ MOST_BLOCKS
-    → fold (λ blocks (g : RawGlobal). with_block (block_of g.ty g.name g.at) blocks) old gs ≡ old ++ bs
+blocks_again : (bs : List DataBlock) (gs : List RawGlobal) → AreBlocksAt bs gs → AreNumbered bs → (old : List DataBlock) → Ascend 1 (numbers_of (old ++ bs))
+    → length old + length bs ≤ MOST_BLOCKS → fold (λ blocks (g : RawGlobal). with_block (block_of g.ty g.name g.at) blocks) old gs ≡ old ++ bs
 blocks_again [] [] a n old h few = sym (append-nil old)
 blocks_again [] (g ∷ gs) a n old h few = absurd a
 blocks_again (b ∷ bs) [] a n old h few = absurd a
@@ -205,7 +205,8 @@ grown None false blocks rest most h = omega (arith, h)
 grown (Some m) t blocks rest most h = omega (arith, h)
 
 go_blocks : (bs : List DataBlock) (gs : List RawGlobal) → AreBlocksAt bs gs → AreNumbered bs → (d : Outside) (more : Table Meaning) → d.breaks ≡ []
-    → AreApart (d.names ++ (block_entries bs ++ more)) → d.blocks + length bs ≤ MOST_BLOCKS → Goes d (fold with_global d gs) (block_entries bs) more × ((fold with_global d gs).globals ≡ d.globals)
+    → AreApart (d.names ++ (block_entries bs ++ more)) → d.blocks + length bs ≤ MOST_BLOCKS
+    → Goes d (fold with_global d gs) (block_entries bs) more × ((fold with_global d gs).globals ≡ d.globals)
 go_blocks [] [] a n d more sound apart few = (record { sound = sound; order = refl; units = refl }, refl)
 go_blocks [] (g ∷ gs) a n d more sound apart few = absurd a
 go_blocks (b ∷ bs) [] a n d more sound apart few = absurd a
@@ -226,7 +227,8 @@ go_located [] (g ∷ gs) a d more sound apart = absurd a
 go_located (l ∷ ls) [] a d more sound apart = absurd a
 go_located (l ∷ ls) (g ∷ gs) a d more sound apart =
     let count : (with_global d g).globals ≡ d.globals + 1 = ap (λ t. d.globals + one_if (not (is_block t))) a.0.typed in
-    let one = one_goes d g (key_of l.name) (meaning.Global d.globals l.ty) (located_entries (d.globals + 1) ls ++ more) sound (ap key_of a.0.named) (ap (meaning_of_global d.globals) a.0.typed)
+    let meant : meaning_of_global d.globals g.ty ≡ meaning.Global d.globals l.ty = ap (meaning_of_global d.globals) a.0.typed in
+    let one = one_goes d g (key_of l.name) (meaning.Global d.globals l.ty) (located_entries (d.globals + 1) ls ++ more) sound (ap key_of a.0.named) meant
     (λ x. ap (λ t. one_too_many g.line (not (is_some x) && is_block t) d.blocks) a.0.typed ∙ no_block x g.line d.blocks) apart in
     let order : (with_global d g).names ++ (located_entries (with_global d g).globals ls ++ more) ≡ d.names ++ (located_entries d.globals (l ∷ ls) ++ more) =
     ap (λ n. (with_global d g).names ++ (located_entries n ls ++ more)) count ∙ one.order in
@@ -299,8 +301,8 @@ pub record IsPlainText (bs : List DataBlock) (ls : List Located) (ps : List Pou)
   pub blocks : all_blocks globals ≡ bs
   pub located : all_located globals ≡ ls
 
-pub plain_text : (bs : List DataBlock) (ls : List Located) (ps : List Pou) (first second : List RawGlobal) (us : List RawPou) → AreBlocksAt bs first → AreLocatedAt ls second → AreUnitsAt ps us
-    → AreNumbered bs → ArePlaced ls → Ascend 1 (numbers_of bs) → length bs ≤ MOST_BLOCKS → AreApart (block_entries bs ++ (located_entries 0 ls ++ unit_entries 0 ps))
+pub plain_text : (bs : List DataBlock) (ls : List Located) (ps : List Pou) (first second : List RawGlobal) (us : List RawPou)
+    → AreBlocksAt bs first → AreLocatedAt ls second → AreUnitsAt ps us → AreNumbered bs → ArePlaced ls → Ascend 1 (numbers_of bs) → length bs ≤ MOST_BLOCKS → AreApart (block_entries bs ++ (located_entries 0 ls ++ unit_entries 0 ps))
     → IsPlainText bs ls ps (first ++ second) us
 plain_text bs ls ps first second us a b c sizes placed ascend few apart =
     let d = fold with_global no_outside first in
@@ -317,9 +319,9 @@ plain_text bs ls ps first second us a b c sizes placed ascend few apart =
       outside = ap (λ (o : Outside). (fold with_unit o us).breaks) whole ∙ three.0;
       names = ap (λ (o : Outside). (fold with_unit o us).names) whole ∙ three.1 ∙ order_of_units;
       sound = flat_map-append (λ (g : RawGlobal). global_breaks g.ty g.line g.name g.at) first second
-      ∙ ap (λ l. l ++ all_global_breaks second) (sound_blocks bs first a sizes) ∙ sound_located ls second b placed;
+          ∙ ap (λ l. l ++ all_global_breaks second) (sound_blocks bs first a sizes) ∙ sound_located ls second b placed;
       blocks = fold-append (λ blocks (g : RawGlobal). with_block (block_of g.ty g.name g.at) blocks) [] first second
-      ∙ no_blocks ls second b (all_blocks first) ∙ blocks_again bs first a sizes [] ascend (omega (arith, few));
+          ∙ no_blocks ls second b (all_blocks first) ∙ blocks_again bs first a sizes [] ascend (omega (arith, few));
       located = flat_map-append (λ (g : RawGlobal). listed (located_of g.ty g.name g.at)) first second
-      ∙ ap (λ l. l ++ all_located second) (no_located bs first a) ∙ located_again ls second b placed;
+          ∙ ap (λ l. l ++ all_located second) (no_located bs first a) ∙ located_again ls second b placed;
     }

@@ -8,7 +8,7 @@ use Rattle.memory_areas.specs.declared.sizes.TheConstants.{ACTIVATIONS}
 use Rattle.s7_base.specs.declared.reason.Line.{Line}
 use Rattle.st_tree.specs.declared.raw.RawPou.{RawPou}
 use Rattle.st_types.specs.Broken.{first_of_all}
-use Rattle.st_types.specs.Chain.{Graph, NoCycle, OnCycle, call_at, call_in, calls_one, chain_break, chains, first_long_chain, follow, long_chains, with_call}
+use Rattle.st_types.specs.Chain.{Graph, NoCycle, call_at, call_in, calls_one, chain_break, chains, follow, long_chains, with_call}
 use Rattle.st_types.specs.Typed.{IsChain}
 use Rattle.st_types.specs.declared.broken.Break.{Break}
 use Rattle.st_types.specs.declared.call.Call.{Call}
@@ -59,7 +59,8 @@ same_end g h (k ∷ ks) i e =
     ∙ sym (by_callee (call_at h i k) (λ n. follow h n ks))
 
 -- a call that is there has its fellow in the other graph
-fellow : (o : Option Call) (c : Call) (p : Option Call) → p ≡ Some c → option_map (λ (d : Call). d.callee) o ≡ option_map (λ (d : Call). d.callee) p → (d : Call) × (o ≡ Some d) × (d.callee ≡ c.callee)
+fellow : (o : Option Call) (c : Call) (p : Option Call) → p ≡ Some c → option_map (λ (d : Call). d.callee) o ≡ option_map (λ (d : Call). d.callee) p
+    → (d : Call) × (o ≡ Some d) × (d.callee ≡ c.callee)
 fellow None c p h e = let some : None ≡ Some c.callee = e ∙ ap (option_map (λ (d : Call). d.callee)) h in absurd cc
 fellow (Some d) c p h e = let same : Some d.callee ≡ Some c.callee = e ∙ ap (option_map (λ (d : Call). d.callee)) h in (d, refl, cc)
 
