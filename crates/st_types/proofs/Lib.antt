@@ -25,6 +25,7 @@ pub mod RunnableUnits
 pub mod Runs
 pub mod SameChain
 pub mod SameDeclarations
+pub mod SameTree
 pub mod Tables
 pub mod Taken
 pub mod TextRows

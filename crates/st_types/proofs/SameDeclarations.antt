@@ -47,7 +47,7 @@ units_there outer formals [] = tt
 units_there outer formals (u ∷ us) =
     (record { program = refl; named = refl; formals = locals_there u.formals; locals = locals_there u.locals }, units_there outer formals us)
 
-unit_there : (ps : List Pou) (us : List RawPou) → AreUnitsAt ps us → (n : ℕ) (p : Pou) (u : RawPou) → slice_get ps n ≡ Some p → slice_get us n ≡ Some u → IsUnitAt p u
+pub unit_there : (ps : List Pou) (us : List RawPou) → AreUnitsAt ps us → (n : ℕ) (p : Pou) (u : RawPou) → slice_get ps n ≡ Some p → slice_get us n ≡ Some u → IsUnitAt p u
 unit_there [] us a n p u h g = absurd cc
 unit_there (q ∷ ps) [] a n p u h g = absurd a
 unit_there (q ∷ ps) (v ∷ us) a zero p u h g =
@@ -235,7 +235,7 @@ pub record IsRedeclared (t : StProgram) (raw again : RawSt) : Type 0 where
   pub size : length again.pous ≡ length raw.pous
   pub unit : (n : ℕ) (u v : RawPou) (p : Pou) → slice_get raw.pous n ≡ Some u → slice_get again.pous n ≡ Some v → slice_get t.pous n ≡ Some p → IsUnitAgain t raw again u v p
 
-same_length : (ps : List Pou) (us : List RawPou) → AreUnitsAt ps us → length us ≡ length ps
+pub same_length : (ps : List Pou) (us : List RawPou) → AreUnitsAt ps us → length us ≡ length ps
 same_length [] [] a = refl
 same_length [] (u ∷ us) a = absurd a
 same_length (p ∷ ps) [] a = absurd a
