@@ -12,7 +12,6 @@ mod DriveStatements
 mod Ends
 mod Exact
 mod Finish
-mod FoundCycle
 mod Judged
 mod Kept
 mod KeptText
