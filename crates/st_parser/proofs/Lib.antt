@@ -17,6 +17,7 @@ mod Kept
 mod KeptText
 mod Loops
 pub mod Nesting
+mod OneGrammar
 mod OneReading
 mod SomeReading
 mod SyntaxRows
