@@ -6,8 +6,8 @@ use Rattle.s7_base.specs.declared.reason.Rejection.TheVariants as rejection
 use Rattle.s7_io.specs.Sink.{Took}
 use Rattle.stl_tree.specs.Verdict.{verdict}
 use Rattle.stl_tree.specs.declared.program.Program.{Program}
-use Rattle.st_tree.proofs.Rereads.{rereads}
-use Rattle.st_tree.specs.Reading.{HasTree}
+use Rattle.st_parser.proofs.TextReads.{proper_reads}
+use Rattle.st_parser.specs.Texts.{IsTextOf}
 use Rattle.st_tree.specs.Spelling.{spelling}
 use Rattle.stl2st.proofs.Accepted.{accepted as known_of}
 use Rattle.stl2st.proofs.Answering.{some_bytes}
@@ -186,13 +186,13 @@ complete command left image before after result source text w no_read no_write e
 
 translates : (bytes : List ℕ) (program : Program) (text : List ℕ) → verdict bytes ≡ Ok program → spelling (translation program) ≡ text → Translates program text
 translates bytes program text accepted e =
-    let P : List ℕ → Type 0 = λ written. HasTree written (translation program) in
+    let P : List ℕ → Type 0 = λ written. IsTextOf written (translation program) in
     let known = known_of bytes program accepted in
     record {
       tree = translation program;
       proper = proper bytes program accepted;
       spelled = sym e;
-      reads_back = subst P e (rereads (translation program) (proper bytes program accepted));
+      reads_back = subst P e (proper_reads (translation program) (proper bytes program accepted));
       same = same_all program known.can known.formed;
     }
 

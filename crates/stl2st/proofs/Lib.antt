@@ -12,4 +12,8 @@ pub mod ProperText
 pub mod SameAll
 pub mod SameLemmas
 pub mod Straight
+pub mod Written
+pub mod WrittenBody
+pub mod WrittenNames
+pub mod WrittenText
 mod TranslateLemmas

@@ -1,6 +1,6 @@
 -- An operand that a statement has is a bit within its area.
-use Rattle.std.proofs.Common.{◌≡◌, ℕ, ◌+◌, ◌-◌, ◌*◌, ◌<◌, ◌≤◌, List, [], ◌∷◌, drop, take, Bool, true, false, ◌&&◌, if◌then◌else◌, Option, Some, None, refl, arith}
-use Rattle.std.specs.Prelude.{IfSome, codes, nat_le, nat_lt, ◌==◌, option_and_then}
+use Rattle.std.proofs.Common.{◌≡◌, ℕ, ◌+◌, ◌-◌, ◌*◌, ◌^◌, ◌<◌, ◌≤◌, List, [], ◌∷◌, drop, take, Bool, true, false, ◌&&◌, if◌then◌else◌, Option, Some, None, refl, arith}
+use Rattle.std.specs.Prelude.{IfSome, codes, nat_le, ◌==◌, option_and_then}
 use Rattle.std.specs.Char.{to_ascii_uppercase}
 use Rattle.std.proofs.lemmas.Bool.{leb-true, lt-ltb, le-leb}
 use Rattle.memory_areas.specs.Access.{area_bytes}
@@ -15,8 +15,9 @@ use Rattle.stl_tree.specs.declared.program.Op.{Op}
 use Rattle.stl_tree.specs.declared.program.Op.TheVariants as op
 use Rattle.stl_tree.specs.declared.program.Operand.{Operand}
 use Rattle.stl_tree.specs.declared.program.Operand.TheVariants.{Direct}
-use Rattle.st_tree.specs.Proper.{is_proper_var}
-use Rattle.stl2st.specs.Translation.{bit_of, IsTranslatableOp}
+use Rattle.st_lexer.specs.Spelled.{is_kept}
+use Rattle.stl2st.proofs.Written.{IsProperOperand}
+use Rattle.stl2st.specs.Translation.{IsTranslatableOp}
 
 -- a number that is read is at most the greatest
 
@@ -63,10 +64,6 @@ word_area [] = tt
 word_area (letter ∷ []) = letter_area (to_ascii_uppercase letter)
 word_area (letter ∷ more ∷ rest) = tt
 
--- the operand is a proper variable
-abbrev pub IsProperOperand : Operand → Type 0
-IsProperOperand operand = is_proper_var (bit_of operand) ≡ true
-
 abbrev ProperOperand : Option Operand → Type 0
 ProperOperand o = IfSome o IsProperOperand
 
@@ -75,8 +72,19 @@ both_true true true p q = refl
 both_true true false p q = q
 both_true false b p q = p
 
+-- a byte and a bit that an area of so many bytes has
+in_area : (most byte bit : ℕ) → most ≤ 8192 → byte < most → bit ≤ 7 →
+    ((nat_le (byte + 1) most && nat_le bit 7) ≡ true) × (is_kept byte ≡ true) × (is_kept bit ≡ true)
+in_area most byte bit m y x =
+    (both_true (nat_le (byte + 1) most) (nat_le bit 7) (le-leb (byte + 1) most (omega arith)) (le-leb bit 7 x), lt-ltb byte (2 ^ 32) (omega arith), lt-ltb bit (2 ^ 32) (omega arith))
+
 placed : (name : AreaName) (byte bit : ℕ) → IsBitArea name → byte ≤ area_bytes name - 1 → bit ≤ 7 → IsProperOperand (Direct name byte bit)
-placed name byte bit h y x = both_true (nat_lt byte (area_bytes name)) (nat_le bit 7) (lt-ltb byte (area_bytes name) (omega arith)) (le-leb bit 7 x)
+placed area.I byte bit h y x = in_area 2048 byte bit (omega arith) (omega arith) x
+placed area.Q byte bit h y x = in_area 2048 byte bit (omega arith) (omega arith) x
+placed area.M byte bit h y x = in_area 8192 byte bit (omega arith) (omega arith) x
+placed area.L byte bit h y x = absurd (omega arith)
+placed area.Db byte bit h y x = absurd (omega arith)
+placed area.Di byte bit h y x = absurd (omega arith)
 
 at_bit : (name : AreaName) (byte : ℕ) (bit : Option ℕ) → IsBitArea name → byte ≤ area_bytes name - 1 → AtMost 7 bit →
     ProperOperand (option_and_then (λ x. Some (Direct name byte x)) bit)

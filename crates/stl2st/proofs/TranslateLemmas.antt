@@ -14,7 +14,7 @@ use Rattle.stl_tree.specs.declared.program.Instr.{Instr}
 use Rattle.stl_tree.specs.declared.program.Block.{Block}
 use Rattle.st_tree.specs.Spelling.{unit_text, line, literal_text, spelling}
 use Rattle.st_tree.proofs.CanonEquations.{canon_equations}
-use Rattle.st_tree.proofs.Rereads.{statement_line}
+use Rattle.st_tree.proofs.StatementLines.{statement_line}
 use Rattle.stl2st.specs.Translation.{translation}
 
 abbrev instr_of : Op → Instr

@@ -19,9 +19,8 @@ use Rattle.stl_tree.specs.Verdict.{verdict}
 use Rattle.stl_tree.specs.declared.program.Block.{Block}
 use Rattle.stl_tree.specs.declared.program.Call.{Call}
 use Rattle.stl_tree.specs.declared.program.Program.{Program}
+use Rattle.st_parser.specs.Proper.{Proper}
 use Rattle.st_parser.specs.Texts.{IsTextOf, IsRefusedText}
-use Rattle.st_tree.specs.Proper.{Proper}
-use Rattle.st_tree.specs.Reading.{HasTree}
 use Rattle.st_tree.specs.Spelling.{spelling}
 use Rattle.st_tree.specs.StRun.{FitsSt, st_run}
 use Rattle.st_tree.specs.declared.program.StProgram.{StProgram}
@@ -203,7 +202,7 @@ pub record Translates (program : Program) (text : List ℕ) : Type 0 where
   pub tree : StProgram
   pub proper : Proper tree
   pub spelled : text ≡ spelling tree
-  pub reads_back : HasTree text tree
+  pub reads_back : IsTextOf text tree
   pub same : Same program tree
 
 -- the sink took the text of the program that the source is accepted as

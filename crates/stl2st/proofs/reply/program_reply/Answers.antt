@@ -10,7 +10,7 @@ pub returns-in_ok-print-in-Translate-clause-reply : goal.returns-in_ok-print-in-
 returns-in_ok-print-in-Translate-clause-reply g c =
     subst (λ (m : Command). AnsweredFor m c.args.program.now (g.M.Source.left c.args.image.now) c.made.result) (sym c.in-Translate.is)
     (translated_reply c.args.program.now _ c.made.result
-    (c.made.ensures ∙ ap (λ (text : List ℕ). (Done, text)) (c.in_ok-print-in-Translate.ensures.text ∙ ap spelling c.in_ok-tree-in-Translate.ensures.tree)))
+    (c.made.ensures ∙ ap (λ (text : List ℕ). (Done, text)) (c.in_ok-print-in-Translate.ensures ∙ ap spelling c.in_ok-tree-in-Translate.ensures.tree)))
 
 pub returns-in-Check-clause-reply : goal.returns-in-Check-clause-reply
 returns-in-Check-clause-reply g c =
