@@ -21,8 +21,8 @@ use Rattle.st_lexer.specs.StTokens.{is_great, is_letter, token, piece_at}
 use Rattle.st_lexer.specs.declared.literal.Literal.{Literal as Found}
 use Rattle.st_lexer.specs.declared.number.Base.{Base}
 use Rattle.st_lexer.specs.declared.number.Base.TheVariants as base
-use Rattle.st_lexer.specs.declared.token.StKind.{StKind}
-use Rattle.st_lexer.specs.declared.token.StKind.TheVariants as sort
+use Rattle.st_tree.specs.declared.token.StKind.{StKind}
+use Rattle.st_tree.specs.declared.token.StKind.TheVariants as sort
 use Rattle.st_parser.proofs.Cuts.{ReadsOn, has_no_line, reads_text}
 use Rattle.st_parser.proofs.CutWords.{reads_keyword, reads_name}
 use Rattle.st_parser.specs.Canonical.{literal_form, on, raw_var}

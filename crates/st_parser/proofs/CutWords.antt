@@ -8,7 +8,7 @@ use Rattle.s7_base.specs.declared.word.Width.TheVariants as width
 use Rattle.st_lexer.proofs.Words.{and_both}
 use Rattle.st_lexer.specs.Spelled.{ends_word}
 use Rattle.st_lexer.specs.StTokens.{is_letter, token, piece_at}
-use Rattle.st_lexer.specs.declared.token.StKind.TheVariants as sort
+use Rattle.st_tree.specs.declared.token.StKind.TheVariants as sort
 use Rattle.st_parser.proofs.Cuts.{ReadsOn, reads_token, reads_word, reads_blank}
 use Rattle.st_parser.specs.Canonical.{on}
 use Rattle.st_parser.specs.Kinds.{conversion_named, fixed_text, lead_text, name_kind, shift_text, sign_named, text_kind, type_text, word_kind, word_named, word_text}

@@ -11,9 +11,9 @@ use Rattle.st_lexer.specs.Spelled.{ends_word}
 use Rattle.st_lexer.specs.SpellingLaws.{IsToken}
 use Rattle.st_lexer.specs.StTokens.{is_letter, Piece, gap, token, piece_at, piece_size, token_of, line_behind, Cut, prepend_tokens, with_piece, cut_from, is_great, great_from, has_text}
 use Rattle.st_lexer.specs.TokenGrammar.{line_past}
-use Rattle.st_lexer.specs.declared.token.StKind.{StKind}
-use Rattle.st_lexer.specs.declared.token.StKind.TheVariants as sort
-use Rattle.st_lexer.specs.declared.token.StToken.{StToken}
+use Rattle.st_tree.specs.declared.token.StKind.{StKind}
+use Rattle.st_tree.specs.declared.token.StKind.TheVariants as sort
+use Rattle.st_tree.specs.declared.token.StToken.{StToken}
 use Rattle.st_parser.specs.Canonical.{on}
 use Rattle.st_parser.specs.Kinds.{kind_of, text_kind}
 use Rattle.st_parser.specs.declared.kind.Fixed.TheVariants as fixed

@@ -4,7 +4,7 @@ use Rattle.std.specs.Prelude.{flat_map}
 use Rattle.s7_base.specs.Tokens.{line_at_end}
 use Rattle.s7_base.specs.declared.reason.Line.{Line}
 use Rattle.st_lexer.specs.StTokens.{answer, answer_to, first_bad, tokens_of}
-use Rattle.st_lexer.specs.declared.token.StToken.{StToken}
+use Rattle.st_tree.specs.declared.token.StToken.{StToken}
 use Rattle.st_parser.proofs.CutGlobals.{reads_globals}
 use Rattle.st_parser.proofs.CutUnits.{reads_units}
 use Rattle.st_parser.proofs.Cuts.{ReadsOn, reads_as, reads_end}
