@@ -252,7 +252,8 @@ go_units (p ∷ ps) (u ∷ us) a d sound apart =
 
 -- What is declared in a unit
 
-go_formals : (ls : List Local) (rs : List RawLocal) → AreLocalsAt ls rs → (d : Inside) (more : Table Meaning) → d.breaks ≡ [] → AreApart (d.names ++ (formal_entries d.formals ls ++ more))
+go_formals : (ls : List Local) (rs : List RawLocal) → AreLocalsAt ls rs → (d : Inside) (more : Table Meaning) → d.breaks ≡ []
+    → AreApart (d.names ++ (formal_entries d.formals ls ++ more))
     → ((fold with_formal d rs).breaks ≡ []) × ((fold with_formal d rs).names ++ more ≡ d.names ++ (formal_entries d.formals ls ++ more)) × ((fold with_formal d rs).locals ≡ d.locals)
 go_formals [] [] a d more sound apart = (sound, refl, refl)
 go_formals [] (r ∷ rs) a d more sound apart = absurd a
@@ -302,8 +303,8 @@ pub record IsPlainText (bs : List DataBlock) (ls : List Located) (ps : List Pou)
   pub located : all_located globals ≡ ls
 
 pub plain_text : (bs : List DataBlock) (ls : List Located) (ps : List Pou) (first second : List RawGlobal) (us : List RawPou)
-    → AreBlocksAt bs first → AreLocatedAt ls second → AreUnitsAt ps us → AreNumbered bs → ArePlaced ls → Ascend 1 (numbers_of bs) → length bs ≤ MOST_BLOCKS → AreApart (block_entries bs ++ (located_entries 0 ls ++ unit_entries 0 ps))
-    → IsPlainText bs ls ps (first ++ second) us
+    → AreBlocksAt bs first → AreLocatedAt ls second → AreUnitsAt ps us → AreNumbered bs → ArePlaced ls → Ascend 1 (numbers_of bs) → length bs ≤ MOST_BLOCKS
+    → AreApart (block_entries bs ++ (located_entries 0 ls ++ unit_entries 0 ps)) → IsPlainText bs ls ps (first ++ second) us
 plain_text bs ls ps first second us a b c sizes placed ascend few apart =
     let d = fold with_global no_outside first in
     let e = fold with_global d second in

@@ -77,7 +77,8 @@ abbrev pub AllSayAgain : StProgram → RawSt → RawSt → Type 0
 AllSayAgain t raw again =
     (n : ℕ) (u v : RawPou) (p : Pou) → slice_get raw.pous n ≡ Some u → slice_get again.pous n ≡ Some v → slice_get t.pous n ≡ Some p → SaysAgain raw again u v p
 
-unit_again : (again : RawSt) (p : Pou) (v : RawPou) → IsUnitAt p v → found_in (statements (scope_of again v) v.body) ≡ p.body → unit_of (names_of again) (map formals_of again.pous) v ≡ p
+unit_again : (again : RawSt) (p : Pou) (v : RawPou) → IsUnitAt p v → found_in (statements (scope_of again v) v.body) ≡ p.body
+    → unit_of (names_of again) (map formals_of again.pous) v ≡ p
 unit_again again p v at body =
     let found = found_in (statements (scope_of again v) v.body) in
     ap (λ t. record { program = t; name = v.name; formals = locals_of v.formals; locals = locals_of v.locals; body = found }) at.program
