@@ -1,4 +1,5 @@
 mod Bare
+mod CanonicalRows
 mod CutExpressions
 mod CutGlobals
 mod CutLiterals
