@@ -9,7 +9,7 @@ use Rattle.s7_base.specs.declared.reason.Rejection.TheVariants.{Refused, NoMemor
 use Rattle.st_lexer.specs.StTokens.{answer, cut_from, first_bad, great_from, tokens_of}
 use Rattle.st_tree.specs.declared.token.StToken.{StToken}
 use Rattle.st_parser.proofs.Exact.{raw_of}
-use Rattle.st_parser.proofs.FoundCycle.{found_cycle}
+use Rattle.st_types.proofs.FoundCycle.{found_cycle}
 use Rattle.st_parser.proofs.Verdicts.{Says, says}
 use Rattle.st_parser.proofs.Whole.{bad_token, not_over, refused_of, tree_of}
 use Rattle.st_parser.specs.Judge.{judge, text_in}

@@ -1,6 +1,6 @@
 -- The canonical form of a tree: the form of its canonical text, with the lines on which its parts stand
 -- there. Each statement, label list, heading and declaration has a line of its own.
-use Rattle.std.specs.Prelude.{ℕ, ◌+◌, ◌-◌, ◌==◌, Bool, ℤ, pos, unsigned_abs, int_lt, List, [], ◌∷◌, ◌++◌, codes, decimal, length, map, slice_get, Some, None, if◌then◌else◌}
+use Rattle.std.specs.Prelude.{ℕ, ◌+◌, ◌-◌, ◌==◌, ℤ, pos, unsigned_abs, int_lt, List, [], ◌∷◌, ◌++◌, codes, decimal, length, map, slice_get, Some, None, if◌then◌else◌}
 use Rattle.memory_areas.specs.declared.data_block.DataBlock.{DataBlock}
 use Rattle.memory_areas.specs.declared.place.Area.{Area}
 use Rattle.memory_areas.specs.declared.place.Area.TheVariants as place
@@ -9,8 +9,7 @@ use Rattle.memory_areas.specs.declared.place.AreaName.TheVariants as area
 use Rattle.s7_base.specs.Tokens.{line_after}
 use Rattle.s7_base.specs.declared.reason.Line.{Line}
 use Rattle.s7_base.specs.declared.word.Width.TheVariants as width
-use Rattle.st_parser.specs.Forms.{Form, literal, variable, group, prefix, infix_of, apply, shift, select, Actuals, no_actual, actual, Labels, label, more_labels, Statement, assign, write, invoke, choice, choice_else, cases, cases_else, loop, jump, Statements, none, further, Arms, no_arm, arm, CaseArms, no_case, case_arm, Items, no_item, single, times, GlobalType, plain, bytes, Globals, no_global, global, Locals, no_local, local, Section, absent, present, Units, no_unit, unit, Source}
-use Rattle.st_parser.specs.declared.kind.Jump.{Jump}
+use Rattle.st_parser.specs.Forms.{Form, literal, variable, group, prefix, infix_of, apply, shift, select, Actuals, no_actual, actual, Labels, label, more_labels, Statement, assign, write, invoke, choice, choice_else, cases, cases_else, loop, jump, Statements, none, further, Arms, no_arm, arm, CaseArms, no_case, case_arm, Items, no_item, single, times, plain, bytes, Globals, no_global, global, Locals, no_local, local, Section, absent, present, Units, no_unit, unit, Source}
 use Rattle.st_parser.specs.declared.kind.Jump.TheVariants as jump_word
 use Rattle.st_parser.specs.declared.kind.Literal.{Literal}
 use Rattle.st_parser.specs.declared.kind.Literal.TheVariants as lit
@@ -146,9 +145,9 @@ abbrev pub labels_behind : StType → Labels → List ℤ → Labels
 labels_behind ty others [] = others
 labels_behind ty others (n ∷ ns) = labels_behind ty (more_labels others (literal_form ty n)) ns
 
--- the labels of an arm; an arm has one, as 0 stands for none
+-- the labels of an arm; an arm has one, and none are written as one that no token has
 abbrev pub labels_form : StType → List ℤ → Labels
-labels_form ty [] = label (lit.Decimal 0)
+labels_form ty [] = label (lit.Byte 256)
 labels_form ty (n ∷ ns) = labels_behind ty (label (literal_form ty n)) ns
 
 abbrev pub arm_step : Names → Arm-F FromLine ArmFromLine CaseFromLine → ArmFromLine
@@ -217,9 +216,10 @@ abbrev pub items_behind : Items → ℕ → ℕ → List ℕ → Items
 items_behind others count b [] = run_behind others count b
 items_behind others count b (next ∷ rest) = if b == next then items_behind others (count + 1) b rest else items_behind (run_behind others count b) 1 next rest
 
--- bytes, equal ones that stand together as one item
+-- bytes, equal ones that stand together as one item; a data block has one, and none are written as one
+-- that no token has
 abbrev pub items_form : List ℕ → Items
-items_form [] = no_item
+items_form [] = single no_item 256
 items_form (b ∷ rest) = items_behind no_item 1 b rest
 
 -- the name of a data block

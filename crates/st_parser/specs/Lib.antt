@@ -1,5 +1,6 @@
 pub mod Answers
 pub mod Canonical
+pub mod Derives
 pub mod Forms
 pub mod Grammar
 pub mod Judge

@@ -1,14 +1,16 @@
--- Forms whose names, literals and places are ones that tokens can have.
-use Rattle.std.specs.Prelude.{◌≡◌, ℕ, Bool, true, false, ◌&&◌, List, [], ◌∷◌, is_none}
+-- Forms whose names, literals, places and conversions are ones that tokens can have.
+use Rattle.std.specs.Prelude.{◌≡◌, ℕ, Bool, true, false, not, ◌&&◌, List, [], ◌∷◌, is_none}
 use Rattle.std.specs.List.{list_all}
 use Rattle.s7_base.specs.Tokens.{is_word_byte}
 use Rattle.st_lexer.specs.Spelled.{has_value, is_byte, is_decimal, is_place}
 use Rattle.st_lexer.specs.StTokens.{is_letter}
 use Rattle.st_parser.specs.Forms.{Form, literal, variable, group, prefix, infix_of, apply, shift, select, Actuals, no_actual, actual, Labels, label, more_labels, Statement, assign, write, invoke, choice, choice_else, cases, cases_else, loop, jump, Statements, none, empty, further, Arms, no_arm, arm, CaseArms, no_case, case_arm, Items, no_item, single, times, GlobalType, plain, bytes, Globals, no_global, global, Locals, no_local, local, Units, no_unit, unit, Source}
 use Rattle.st_parser.specs.Grammar.{IfPresent}
-use Rattle.st_parser.specs.Kinds.{word_named, conversion_named}
+use Rattle.st_parser.specs.Kinds.{word_named, conversion_named, conversion_between}
 use Rattle.st_parser.specs.declared.kind.Literal.{Literal}
 use Rattle.st_parser.specs.declared.kind.Literal.TheVariants as lit
+use Rattle.st_parser.specs.declared.kind.OneOperand.{OneOperand}
+use Rattle.st_parser.specs.declared.kind.OneOperand.TheVariants as one
 use Rattle.st_tree.specs.declared.raw.RawVar.{RawVar}
 use Rattle.st_tree.specs.declared.raw.RawVar.TheVariants as var
 
@@ -31,13 +33,18 @@ is_literal (lit.Decimal n) = is_decimal n
 is_literal (lit.Byte b) = is_byte b
 is_literal (lit.Typed ty n) = has_value ty n
 
+-- a conversion that there is, or another function
+abbrev pub is_function : OneOperand → Bool
+is_function (one.Convert from to) = not (is_none (conversion_between from to))
+is_function other = true
+
 abbrev pub FormSpelled : Form → Type 0
 FormSpelled (literal c) = is_literal c ≡ true
 FormSpelled (variable v line) = is_variable v ≡ true
 FormSpelled (group f) = FormSpelled f
 FormSpelled (prefix op f) = FormSpelled f
 FormSpelled (infix_of op f g) = FormSpelled f × FormSpelled g
-FormSpelled (apply op f) = FormSpelled f
+FormSpelled (apply op f) = (is_function op ≡ true) × FormSpelled f
 FormSpelled (shift op f g) = FormSpelled f × FormSpelled g
 FormSpelled (select f g h) = FormSpelled f × FormSpelled g × FormSpelled h
 

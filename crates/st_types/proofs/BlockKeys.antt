@@ -11,7 +11,7 @@ pub both : (a b : Bool) → (a && b) ≡ true → (a ≡ true) × (b ≡ true)
 both true b h = (refl, h)
 both false b h = absurd cc
 
-digit : (b : ℕ) → is_digit b ≡ true → (48 ≤ b) × (b ≤ 57)
+pub digit : (b : ℕ) → is_digit b ≡ true → (48 ≤ b) × (b ≤ 57)
 digit b h = let t = both (nat_le 48 b) (nat_le b 57) h in (leb-true 48 b t.0, leb-true b 57 t.1)
 
 -- Numbers from digits

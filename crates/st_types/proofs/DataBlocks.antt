@@ -111,7 +111,7 @@ ascends least b (c ∷ cs) first o h = by_test (nat_lt c.number b.number) refl (
         let apart : c.number ≡ b.number → ⊥ = o.0 in
         (first, (omega (arith, l, apart), h.1))
 
-one_more : (b : DataBlock) (bs : List DataBlock) → length (inserted b bs) ≡ length bs + 1
+pub one_more : (b : DataBlock) (bs : List DataBlock) → length (inserted b bs) ≡ length bs + 1
 one_more b [] = refl
 one_more b (c ∷ cs) = by_test (nat_lt c.number b.number) (one_more b cs)
   where
@@ -180,11 +180,11 @@ by_global d g bs h e = by_block (block_of g.ty g.name g.at) refl
     by_block (Some b) f = with_one d.names (meaning_of_global d.globals g.ty) g.name b bs (is_block g.ty g.name g.at b f) none h
 
 -- where nothing is broken at the end, nothing was before
-before_globals : (gs : List RawGlobal) (d : Outside) → (fold with_global d gs).breaks ≡ [] → d.breaks ≡ []
+pub before_globals : (gs : List RawGlobal) (d : Outside) → (fold with_global d gs).breaks ≡ [] → d.breaks ≡ []
 before_globals [] d e = e
 before_globals (g ∷ gs) d e = (nothing_in d.breaks _ (before_globals gs (with_global d g) e)).0
 
-before_units : (us : List RawPou) (d : Outside) → (fold with_unit d us).breaks ≡ [] → d.breaks ≡ []
+pub before_units : (us : List RawPou) (d : Outside) → (fold with_unit d us).breaks ≡ [] → d.breaks ≡ []
 before_units [] d e = e
 before_units (u ∷ us) d e = (nothing_in d.breaks _ (before_units us (with_unit d u) e)).0
 

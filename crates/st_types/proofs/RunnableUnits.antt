@@ -38,7 +38,7 @@ use Rattle.st_types.specs.declared.scope.Scope.{Scope}
 
 -- Lists
 
-mapped_at : {X Y : Type 0} (f : X → Y) (xs : List X) (i : ℕ) (x : X) → slice_get xs i ≡ Some x → slice_get (map f xs) i ≡ Some (f x)
+pub mapped_at : {X Y : Type 0} (f : X → Y) (xs : List X) (i : ℕ) (x : X) → slice_get xs i ≡ Some x → slice_get (map f xs) i ≡ Some (f x)
 mapped_at f xs i x h = slice_get-map f xs i ∙ ap (option_map f) h
 
 mapped_from : {X Y : Type 0} (f : X → Y) (xs : List X) (i : ℕ) (y : Y) → slice_get (map f xs) i ≡ Some y → (x : X) × (slice_get xs i ≡ Some x) × (y ≡ f x)
@@ -46,7 +46,7 @@ mapped_from f [] i y h = absurd cc
 mapped_from f (z ∷ xs) zero y h = let same : y ≡ f z = cc in (z, refl, same)
 mapped_from f (z ∷ xs) (suc i) y h = mapped_from f xs i y h
 
-nil_at : {X Y : Type 0} (f : X → List Y) (xs : List X) (i : ℕ) (x : X) → flat_map f xs ≡ [] → slice_get xs i ≡ Some x → f x ≡ []
+pub nil_at : {X Y : Type 0} (f : X → List Y) (xs : List X) (i : ℕ) (x : X) → flat_map f xs ≡ [] → slice_get xs i ≡ Some x → f x ≡ []
 nil_at f [] i x h q = absurd cc
 nil_at f (z ∷ xs) zero x h q = let same : z ≡ x = cc in ap f (sym same) ∙ nil_first (f z) (flat_map f xs) h
 nil_at f (z ∷ xs) (suc i) x h q = nil_at f xs i x (nil_second (f z) (flat_map f xs) h) q
@@ -164,7 +164,7 @@ none_long begins i (v ∷ units) (suc n) u h q =
 
 -- A text
 
-sound_units : (raw : RawSt) → first_break raw ≡ None → all_unit_breaks (names_of raw) (map formals_of raw.pous) raw.pous ≡ []
+pub sound_units : (raw : RawSt) → first_break raw ≡ None → all_unit_breaks (names_of raw) (map formals_of raw.pous) raw.pous ≡ []
 sound_units raw h =
     let outside = (all_outside raw.globals raw.pous).breaks in
     let globals = all_global_breaks raw.globals in
