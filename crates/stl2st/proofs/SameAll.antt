@@ -4,7 +4,7 @@ use Rattle.std.specs.Prelude.{IsSome, option_map}
 use Rattle.std.proofs.Math.Nat.{suc-mul}
 use Rattle.memory_areas.specs.Areas.{Areas, with_areas}
 use Rattle.stl_tree.specs.Registers.{start}
-use Rattle.stl_tree.specs.StlRun.{Fits, block_called, block_named, body_called, end_of, running, size_of, steps_on, stl_run}
+use Rattle.stl_tree.specs.StlRun.{block_called, block_named, body_called, end_of, running, size_of, steps_on, stl_run}
 use Rattle.stl_tree.specs.declared.program.Block.{Block}
 use Rattle.stl_tree.specs.declared.program.BlockName.{BlockName}
 use Rattle.stl_tree.specs.declared.program.BlockName.TheVariants as name
