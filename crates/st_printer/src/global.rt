@@ -8,8 +8,8 @@ use crate::statement::put_line;
 use crate::text::{put, put_bytes, put_hexadecimal, put_number};
 use crate::variable::{put_place, put_type};
 use memory_areas::{Area, DataBlock};
-use s7_base::{NoMemory, Width};
-use st_tree::{Located, StProgram, StType};
+use s7_base::NoMemory;
+use st_tree::{Located, StProgram, width_at};
 
 fn put_byte(out: &mut Vec<u8>, byte: u8) -> Result<(), NoMemory>
     ensures { OnOk result (out.new.items ≡ out.old.items ++ byte_text byte) }
@@ -90,17 +90,6 @@ fn place_word(area: Area) -> &'static str
         Area::I => "I",
         Area::Q => "Q",
         _ => "M",
-    }
-}
-
-fn width_at(ty: StType) -> Width
-    ensures { result ≡ width_at ty }
-{
-    match ty {
-        StType::Bool => Width::Bit,
-        StType::Byte => Width::Byte,
-        StType::Word | StType::Int => Width::Word,
-        StType::Dword | StType::Dint | StType::Lint => Width::Dword,
     }
 }
 

@@ -1,12 +1,12 @@
 //! The names that positions mean, and the types that expressions have.
 ghost use Rattle.std.specs.Prelude.{◌≡◌, slice_get};
 ghost use Rattle.st_tree.specs.Spelling.{local_name, global_name, unit_name, formals_of, names_in};
-ghost use Rattle.st_tree.specs.State.{type_of_register};
-ghost use Rattle.st_tree.specs.Values.{type_of_width};
 ghost use Rattle.st_tree.specs.Typing.{local_type, global_type, var_type, unary_type, binary_type, type_of};
 
-use s7_base::{Reg, Width};
-use st_tree::{BinaryOp, Expr, Local, Located, Pou, StProgram, StType, UnaryOp, Var};
+use st_tree::{
+    BinaryOp, Expr, Local, Located, Pou, StProgram, StType, UnaryOp, Var, type_of_register,
+    type_of_width,
+};
 
 pub fn local_name(locals: &[Local], position: u32) -> &[u8]
     ensures { result.now ≡ local_name (slice_get locals.now position) }
@@ -41,27 +41,6 @@ pub fn formals_of(units: &[Pou], position: u32) -> &[Local]
     match units.get(position as usize) {
         Some(unit) => unit.formals.as_slice(),
         None => &[],
-    }
-}
-
-fn type_of_register(register: Reg) -> StType
-    ensures { result ≡ type_of_register register }
-{
-    match register {
-        Reg::Accu1 | Reg::Accu2 | Reg::Ar1 | Reg::Ar2 => StType::Dword,
-        Reg::DbNo | Reg::DiNo => StType::Word,
-        _ => StType::Bool,
-    }
-}
-
-fn type_of_width(width: Width) -> StType
-    ensures { result ≡ type_of_width width }
-{
-    match width {
-        Width::Bit => StType::Bool,
-        Width::Byte => StType::Byte,
-        Width::Word => StType::Word,
-        Width::Dword => StType::Dword,
     }
 }
 

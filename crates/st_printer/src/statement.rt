@@ -243,15 +243,11 @@ fn put_statement(
 {
     match statement {
         Stmt::Assign(var, value) => put_assign(out, tree, unit, level, *var, value),
-        Stmt::AreaWrite(width, pointer, value) => put_area_write(
-            out,
-            tree,
-            unit,
-            level,
-            *width,
-            pointer.get(),
-            value.get(),
-        ),
+        Stmt::AreaWrite(width, pointer, value) => {
+            let pointer = pointer.get();
+            let value = value.get();
+            put_area_write(out, tree, unit, level, *width, pointer, value)
+        }
         Stmt::Invoke(callee, vars) => put_call(out, tree, unit, level, *callee, vars.as_slice()),
         Stmt::If(arms, other) => {
             put_arms(out, tree, unit, level, arms.as_slice())?;
@@ -259,15 +255,9 @@ fn put_statement(
             put_line(out, level, "END_IF;")
         }
         Stmt::Case(selector, arms, other) => {
+            let ty = type_of(tree, unit, selector);
             put_head(out, tree, unit, level, "CASE ", selector, " OF")?;
-            put_cases(
-                out,
-                tree,
-                unit,
-                level,
-                type_of(tree, unit, selector),
-                arms.as_slice(),
-            )?;
+            put_cases(out, tree, unit, level, ty, arms.as_slice())?;
             put_else(out, tree, unit, level, other.as_slice())?;
             put_line(out, level, "END_CASE;")
         }

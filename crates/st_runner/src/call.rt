@@ -6,23 +6,10 @@ ghost use Rattle.st_tree.specs.Runnable.{AreGlobals};
 ghost use Rattle.st_tree.specs.Calls.{entered, left, zero_of};
 ghost use Rattle.st_tree.specs.Meaning.{located_actual, located_actuals, tested};
 ghost use Rattle.st_tree.specs.State.{reference_of};
-ghost use Rattle.st_tree.specs.Values.{width_at};
 
 use crate::state::State;
-use s7_base::{Fault, Width};
-use st_tree::{Local, Located, Pou, Reference, StType, Value, Var};
-
-/// The width of a place that holds a value of a type.
-pub fn width_at(ty: StType) -> Width
-    ensures { result ≡ width_at ty }
-{
-    match ty {
-        StType::Bool => Width::Bit,
-        StType::Byte => Width::Byte,
-        StType::Word | StType::Int => Width::Word,
-        StType::Dword | StType::Dint | StType::Lint => Width::Dword,
-    }
-}
+use s7_base::Fault;
+use st_tree::{Local, Located, Pou, Reference, Value, Var, width_at};
 
 /// Makes locals those of a unit at its start.
 pub fn zero_locals(locals: &mut Vec<Value>, declared: &[Local])

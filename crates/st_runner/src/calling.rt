@@ -9,10 +9,9 @@ ghost use Rattle.st_runner.specs.Fitting.{Decides};
 ghost use Rattle.st_runner.specs.View.{AreReachable};
 ghost use Rattle.st_tree.specs.StRun.{FitFormals, FitsFormal, FitsUnit, IsOutsidePlace, called_name, formals_given, is_meant, references, unit_called};
 
-use crate::call::width_at;
 use memory_areas::{Area, Memory, Place};
 use s7_base::{NoMemory, Width};
-use st_tree::{Local, Pou, Reference};
+use st_tree::{Local, Pou, Reference, width_at};
 use std::alloc::Global;
 use stl_tree::{BlockName, Call};
 

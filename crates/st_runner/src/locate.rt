@@ -8,26 +8,13 @@ ghost use Rattle.st_tree.specs.Runnable.{AreGlobals};
 ghost use Rattle.st_tree.specs.State.{area_read, area_write, db_number, depth, di_number, formals_of, place_of, pointed_at, read, reference_of, there, write};
 ghost use Rattle.st_tree.specs.declared.program.Located.{Located as GlobalPlace};
 ghost use Rattle.st_tree.specs.declared.state.Reference.TheVariants.{Place as PlaceReference};
-ghost use Rattle.st_tree.specs.Values.{type_of_width, width_at};
 
 use crate::operators::{low_dword, low_word};
 use crate::state::State;
 use address_registers::{Pointer, resolve};
 use memory_areas::{Area, AreaName, Place};
 use s7_base::{Fault, Reg, Width};
-use st_tree::{Located, Reference, StType, Value, Var};
-
-/// The bit type of a width.
-fn type_of_width(width: Width) -> StType
-    ensures { result ≡ type_of_width width }
-{
-    match width {
-        Width::Bit => StType::Bool,
-        Width::Byte => StType::Byte,
-        Width::Word => StType::Word,
-        Width::Dword => StType::Dword,
-    }
-}
+use st_tree::{Located, Reference, Value, Var, type_of_width};
 
 fn area_named(name: AreaName, db: u16, di: u16, depth: u8) -> Area
     requires { depth < ACTIVATIONS }

@@ -2,11 +2,10 @@
 ghost use Rattle.std.specs.Prelude.{◌≡◌, ◌<◌, get_or};
 ghost use Rattle.s7_base.specs.RegSet.{place};
 ghost use Rattle.st_runner.specs.View.{numbers_of};
-ghost use Rattle.st_tree.specs.State.{type_of_register, with_register};
+ghost use Rattle.st_tree.specs.State.{with_register};
 ghost use Rattle.st_tree.specs.StRun.{all_zero};
 
 use s7_base::Reg;
-use st_tree::StType;
 
 /// How many registers there are.
 const REGISTERS: usize = 15;
@@ -23,25 +22,6 @@ fn place_of(r: Reg) -> usize
     ensures few { result < 15 }
 {
     r as usize
-}
-
-/// The type of a register.
-pub fn type_of_register(r: Reg) -> StType
-    ensures { result ≡ type_of_register r }
-{
-    match r {
-        Reg::Accu1 | Reg::Accu2 | Reg::Ar1 | Reg::Ar2 => StType::Dword,
-        Reg::DbNo | Reg::DiNo => StType::Word,
-        Reg::Nfc
-        | Reg::Rlo
-        | Reg::Sta
-        | Reg::Orb
-        | Reg::Os
-        | Reg::Ov
-        | Reg::Cc0
-        | Reg::Cc1
-        | Reg::Br => StType::Bool,
-    }
 }
 
 impl Registers {

@@ -6,10 +6,10 @@ ghost use Rattle.st_tree.specs.Runnable.{AreGlobals};
 ghost use Rattle.st_tree.specs.State.{locals_of, read_at, read_place, there, with_local, write_at, write_place};
 
 use crate::operators::{flag, is_set, low_byte, low_dword, low_word, typed};
-use crate::registers::{Registers, type_of_register};
+use crate::registers::Registers;
 use memory_areas::{Memory, Place};
 use s7_base::Fault;
-use st_tree::{Reference, StType, Value};
+use st_tree::{Reference, StType, Value, type_of_register};
 
 /// A unit that runs: the values of its locals, and what its formals stand for.
 #[derive(Debug, Drop)]

@@ -16,6 +16,7 @@ pub use raw::{
 };
 pub use state::{Reference, Value};
 pub use token::{StKind, StToken};
+pub use types::{type_of_register, type_of_width, width_at};
 
 mod expr;
 mod program;
@@ -23,3 +24,4 @@ mod raw;
 pub mod run_laws;
 mod state;
 mod token;
+mod types;

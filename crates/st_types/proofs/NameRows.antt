@@ -5,6 +5,7 @@ use Rattle.memory_areas.specs.declared.place.AreaName.TheVariants as area
 use Rattle.s7_base.specs.declared.reason.Reason.TheVariants.{BadAddress, TypeMismatch, UnknownName}
 use Rattle.s7_base.specs.declared.register.Reg.TheVariants as reg
 use Rattle.s7_base.specs.declared.word.Width.TheVariants as width
+use Rattle.st_tree.specs.State.{type_of_register}
 use Rattle.st_tree.specs.declared.expr.BinaryOp.TheVariants as binary
 use Rattle.st_tree.specs.declared.expr.StType.TheVariants as type
 use Rattle.st_tree.specs.declared.expr.UnaryOp.TheVariants as unary
@@ -12,7 +13,7 @@ use Rattle.st_tree.specs.declared.expr.Var.TheVariants as var
 use Rattle.st_types.specs.Names.{key_of, look_up, with_entry}
 use Rattle.st_types.specs.Scopes.{meaning_in, register_named}
 use Rattle.st_types.specs.Types.{type_of_binary, type_of_choice, type_of_conversion, type_of_read, type_of_shift, type_of_unary, has_width}
-use Rattle.st_types.specs.Variables.{is_address, place_at, variable_named, type_of_register}
+use Rattle.st_types.specs.Variables.{is_address, place_at, variable_named}
 use Rattle.st_types.specs.declared.scope.Meaning.TheVariants as meaning
 
 -- Names in any case; data blocks by number; the names of units as texts

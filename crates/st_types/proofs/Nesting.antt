@@ -8,6 +8,7 @@ use Rattle.s7_base.specs.declared.word.Width.{Width}
 use Rattle.st_tree.specs.Costs.{arm_most, body_most, case_most, greatest, most, most_step}
 use Rattle.st_tree.specs.Depth.{deepest}
 use Rattle.st_tree.specs.Runnable.{nesting_costs}
+use Rattle.st_tree.specs.Values.{type_of_width}
 use Rattle.st_tree.specs.declared.expr.Expr.{Expr}
 use Rattle.st_tree.specs.declared.expr.StType.{StType}
 use Rattle.st_tree.specs.declared.expr.StType.TheVariants as type
@@ -36,7 +37,7 @@ use Rattle.st_types.specs.RawNesting.{NestsWithin, action_nest, arm_nest, case_n
 use Rattle.st_types.specs.Scopes.{meaning_in}
 use Rattle.st_types.specs.Statements.{Armed, Done, Labelled, action, area_write_of, arm, arm_of, arm_step, arms_on, assignment_of, case_arm, case_arm_step, case_arms_on, case_of, kind_step, selector, statement, statement_step, statements, test, type_of_selector, while_of}
 use Rattle.st_types.specs.Typed.{HasTree, names_of}
-use Rattle.st_types.specs.Types.{is_type, type_of_width}
+use Rattle.st_types.specs.Types.{is_type}
 use Rattle.st_types.specs.Units.{scope_in, unit_of}
 use Rattle.st_types.specs.declared.expression.Typed.{Typed}
 use Rattle.st_types.specs.declared.scope.Formals.{Formals}

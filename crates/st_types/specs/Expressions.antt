@@ -1,7 +1,7 @@
 -- Expressions: their types and what they are in the tree, and the rules that are broken in them. An
 -- expression in which a rule is broken has no type, and breaks no TypeMismatch in those around it: on
 -- one line that would never be the first.
-use Rattle.std.specs.Prelude.{◌++◌, Option, Some, None, Result, Ok, Err}
+use Rattle.std.specs.Prelude.{ℤ, ◌++◌, Option, Some, None, Result, Ok, Err}
 use Rattle.s7_base.specs.declared.reason.Line.{Line}
 use Rattle.s7_base.specs.declared.reason.Reason.{Reason}
 use Rattle.s7_base.specs.declared.reason.Reason.TheVariants.{TypeMismatch}
@@ -31,6 +31,10 @@ answered line (Err rule) = breaks_rule line rule
 abbrev pub typed_as : Line → Option StType → Expr → Judged Typed
 typed_as line None e = breaks_rule line TypeMismatch
 typed_as line (Some ty) e = sound (record { ty = ty; tree = e })
+
+-- a literal of a type
+abbrev pub literal_of : StType → ℤ → Typed
+literal_of ty value = record { ty = ty; tree = expr.Literal ty value }
 
 -- a variable that is read
 abbrev pub read_of : Option TypedVar → Option Typed
@@ -72,7 +76,7 @@ variable_on scope line v = answered line (variable scope v)
 
 -- an expression on a line by its form, with its operands as they are judged
 abbrev pub expression_step : Scope → Line → E.RawExpr-F (Judged Typed) → Judged Typed
-expression_step scope line (E.Literal ty value) = sound (record { ty = ty; tree = expr.Literal ty value })
+expression_step scope line (E.Literal ty value) = sound (literal_of ty value)
 expression_step scope line (E.Read v) = record { found = read_of (variable_on scope line v).found; breaks = (variable_on scope line v).breaks }
 expression_step scope line (E.Unary op a) = behind a.breaks (unary_of line op a.found)
 expression_step scope line (E.Binary op a b) = behind (a.breaks ++ b.breaks) (binary_of line op a.found b.found)

@@ -5,6 +5,7 @@ use Rattle.std.specs.List.{list_all}
 use Rattle.s7_base.specs.declared.reason.Line.{Line}
 use Rattle.s7_base.specs.declared.reason.Reason.TheVariants.{TypeMismatch}
 use Rattle.s7_base.specs.declared.word.Width.{Width}
+use Rattle.st_tree.specs.Values.{type_of_width}
 use Rattle.st_tree.specs.declared.expr.Expr.{Expr}
 use Rattle.st_tree.specs.declared.expr.StType.{StType}
 use Rattle.st_tree.specs.declared.expr.StType.TheVariants as type
@@ -21,7 +22,7 @@ use Rattle.st_tree.specs.declared.raw.RawStmtKind.TheOpen as K
 use Rattle.st_types.specs.Broken.{Judged, sound, nothing, breaks_rule, behind, broken, found_in, breaks_in}
 use Rattle.st_types.specs.Expressions.{expression, variable_on}
 use Rattle.st_types.specs.Invocations.{invocation}
-use Rattle.st_types.specs.Types.{is_type, is_selector, type_of_width}
+use Rattle.st_types.specs.Types.{is_type, is_selector}
 use Rattle.st_types.specs.declared.broken.Break.{Break}
 use Rattle.st_types.specs.declared.expression.Typed.{Typed}
 use Rattle.st_types.specs.declared.scope.Scope.{Scope}

@@ -8,6 +8,7 @@ use Rattle.st_tree.specs.declared.expr.StType.{StType}
 use Rattle.st_tree.specs.declared.expr.StType.TheVariants as type
 use Rattle.st_tree.specs.declared.expr.UnaryOp.{UnaryOp}
 use Rattle.st_tree.specs.declared.expr.UnaryOp.TheVariants as unary
+pub use Rattle.st_tree.specs.Values.{type_of_width}
 
 -- the place of a type in the list of types: the four bit types, then the three number types
 abbrev pub place_of : StType → ℕ
@@ -74,13 +75,6 @@ type_of_choice gate a b = where_true (is_type gate type.Bool && is_type a b) a
 -- a shift takes a bit pattern and an INT
 abbrev pub type_of_shift : StType → StType → Option StType
 type_of_shift ty count = where_true (has_bits ty && is_type count type.Int) ty
-
--- the bit type of a width
-abbrev pub type_of_width : Width → StType
-type_of_width width.Bit = type.Bool
-type_of_width width.Byte = type.Byte
-type_of_width width.Word = type.Word
-type_of_width width.Dword = type.Dword
 
 -- a read through a pointer takes a DWORD
 abbrev pub type_of_read : Width → StType → Option StType

@@ -6,18 +6,16 @@ use Rattle.memory_areas.specs.declared.place.AreaName.TheVariants as area
 use Rattle.memory_areas.specs.declared.sizes.TheConstants.{INPUT_BYTES, OUTPUT_BYTES, MARKER_BYTES, LOCAL_BYTES}
 use Rattle.s7_base.specs.declared.reason.Reason.{Reason}
 use Rattle.s7_base.specs.declared.reason.Reason.TheVariants.{UnknownName, BadAddress, TypeMismatch}
-use Rattle.s7_base.specs.declared.register.Reg.{Reg}
-use Rattle.s7_base.specs.declared.register.Reg.TheVariants as reg
 use Rattle.s7_base.specs.declared.word.Width.{Width}
+pub use Rattle.st_tree.specs.State.{type_of_register}
+use Rattle.st_tree.specs.Values.{type_of_width}
 use Rattle.st_tree.specs.declared.expr.StType.{StType}
-use Rattle.st_tree.specs.declared.expr.StType.TheVariants as type
 use Rattle.st_tree.specs.declared.expr.Var.{Var}
 use Rattle.st_tree.specs.declared.expr.Var.TheVariants as var
 use Rattle.st_tree.specs.declared.raw.RawVar.{RawVar}
 use Rattle.st_tree.specs.declared.raw.RawVar.TheVariants as raw
 use Rattle.st_types.specs.Names.{key_of}
 use Rattle.st_types.specs.Scopes.{meaning_in}
-use Rattle.st_types.specs.Types.{type_of_width}
 use Rattle.st_types.specs.declared.scope.Meaning.{Meaning}
 use Rattle.st_types.specs.declared.scope.Meaning.TheVariants as meaning
 use Rattle.st_types.specs.declared.scope.Scope.{Scope}
@@ -55,16 +53,6 @@ abbrev pub place_at : AreaName → Option ℕ → Width → ℕ → ℕ → Resu
 place_at a None w byte bit = if is_place a w byte bit then variable_of (type_of_width w) (var.Direct a byte bit w) else Err BadAddress
 place_at a (Some n) w byte bit =
     if is_block_number n && is_place area.Db w byte bit then variable_of (type_of_width w) (var.InBlock n byte bit w) else Err BadAddress
-
--- ACCU1, ACCU2, AR1 and AR2 are DWORD, DBNO and DINO are WORD, and the rest are BOOL
-abbrev pub type_of_register : Reg → StType
-type_of_register reg.Accu1 = type.Dword
-type_of_register reg.Accu2 = type.Dword
-type_of_register reg.Ar1 = type.Dword
-type_of_register reg.Ar2 = type.Dword
-type_of_register reg.DbNo = type.Word
-type_of_register reg.DiNo = type.Word
-type_of_register other = type.Bool
 
 -- what a name means as a variable: a unit or a data block is none
 abbrev pub variable_named : Option Meaning → Result TypedVar Reason

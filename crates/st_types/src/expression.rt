@@ -1,6 +1,6 @@
 //! Expressions: their types and what they are in the tree, and the rules that are broken in them.
 ghost use Rattle.std.specs.Prelude.{◌≡◌, ◌++◌, IfOk, OnOk};
-ghost use Rattle.st_types.specs.Expressions.{area_read_of, binary_of, choice_of, conversion_of, expression, read_of, shift_of, typed_as, unary_of, variable_on};
+ghost use Rattle.st_types.specs.Expressions.{area_read_of, binary_of, choice_of, conversion_of, expression, literal_of, read_of, shift_of, typed_as, unary_of, variable_on};
 
 use crate::broken::{Break, note};
 use crate::scope::Scope;
@@ -34,6 +34,15 @@ fn typed_as(
             note(breaks, line, Reason::TypeMismatch)?;
             Ok(None)
         }
+    }
+}
+
+fn literal_of(ty: StType, value: i64) -> Typed
+    ensures { result ≡ literal_of ty value }
+{
+    Typed {
+        ty,
+        tree: Expr::Literal(ty, value),
     }
 }
 
@@ -212,14 +221,8 @@ pub fn expression(
     ensures breaks { OnOk result (breaks.new ≡ breaks.old ++ (expression scope.now line raw.now).breaks) }
 {
     match raw {
-        RawExpr::Literal(ty, value) => Ok(Some(Typed {
-            ty: *ty,
-            tree: Expr::Literal(*ty, *value),
-        })),
-        RawExpr::Read(raw) => {
-            let variable = variable_on(alloc, scope, line, raw, breaks)?;
-            Ok(read_of(variable))
-        }
+        RawExpr::Literal(ty, value) => Ok(Some(literal_of(*ty, *value))),
+        RawExpr::Read(raw) => Ok(read_of(variable_on(alloc, scope, line, raw, breaks)?)),
         RawExpr::Unary(op, operand) => {
             let operand = expression(alloc, scope, line, operand.get(), breaks)?;
             unary_of(alloc, line, *op, operand, breaks)

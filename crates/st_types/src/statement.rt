@@ -8,11 +8,12 @@ use crate::expression::{Typed, expression, variable_on};
 use crate::invocation::invocation;
 use crate::lists::keep;
 use crate::scope::Scope;
-use crate::types::{is_selector, is_type, type_of_width};
+use crate::types::{is_selector, is_type};
 use crate::variable::TypedVar;
 use s7_base::{Boxed, Line, List, NoMemory, Reason, Width};
 use st_tree::{
     Arm, CaseArm, Expr, RawArm, RawCaseArm, RawExpr, RawStmt, RawStmtKind, StType, Stmt,
+    type_of_width,
 };
 use std::alloc::Global;
 

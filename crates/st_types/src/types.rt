@@ -1,9 +1,9 @@
 //! The types of expressions by those of their operands.
 ghost use Rattle.std.specs.Prelude.{◌≡◌};
-ghost use Rattle.st_types.specs.Types.{bits_of_type, bits_of_width, has_bits, has_numbers, has_width, is_selector, is_type, place_of, type_of_binary, type_of_choice, type_of_conversion, type_of_read, type_of_shift, type_of_unary, type_of_width, type_on_equals, where_true};
+ghost use Rattle.st_types.specs.Types.{bits_of_type, bits_of_width, has_bits, has_numbers, has_width, is_selector, is_type, place_of, type_of_binary, type_of_choice, type_of_conversion, type_of_read, type_of_shift, type_of_unary, type_on_equals, where_true};
 
 use s7_base::Width;
-use st_tree::{BinaryOp, StType, UnaryOp};
+use st_tree::{BinaryOp, StType, UnaryOp, type_of_width};
 
 fn place_of(ty: StType) -> u32
     ensures { result ≡ place_of ty }
@@ -86,17 +86,6 @@ pub fn type_of_shift(ty: StType, count: StType) -> Option<StType>
     ensures { result ≡ type_of_shift ty count }
 {
     where_true(has_bits(ty) && is_type(count, StType::Int), ty)
-}
-
-pub fn type_of_width(width: Width) -> StType
-    ensures { result ≡ type_of_width width }
-{
-    match width {
-        Width::Bit => StType::Bool,
-        Width::Byte => StType::Byte,
-        Width::Word => StType::Word,
-        Width::Dword => StType::Dword,
-    }
 }
 
 pub fn type_of_read(width: Width, pointer: StType) -> Option<StType>

@@ -1,14 +1,13 @@
 //! Written variables: what they are in the tree and their types, or the rule that they break.
 ghost use Rattle.std.specs.Prelude.{◌≡◌, IfOk};
 ghost use Rattle.memory_areas.specs.Access.{bytes_wide};
-ghost use Rattle.st_types.specs.Variables.{is_address, is_block_number, is_byte_in, is_place, place_at, type_of_register, variable, variable_named};
+ghost use Rattle.st_types.specs.Variables.{is_address, is_block_number, is_byte_in, is_place, place_at, variable, variable_named};
 
 use crate::names::key_of;
 use crate::scope::{Meaning, Scope};
-use crate::types::type_of_width;
 use memory_areas::{AreaName, INPUT_BYTES, LOCAL_BYTES, MARKER_BYTES, OUTPUT_BYTES};
-use s7_base::{NoMemory, Reason, Reg, Width};
-use st_tree::{RawVar, StType, Var};
+use s7_base::{NoMemory, Reason, Width};
+use st_tree::{RawVar, StType, Var, type_of_register, type_of_width};
 use std::alloc::Global;
 
 /// A variable of the tree, and its type.
@@ -91,16 +90,6 @@ fn place_at(
                 Err(Reason::BadAddress)
             }
         }
-    }
-}
-
-fn type_of_register(register: Reg) -> StType
-    ensures { result ≡ type_of_register register }
-{
-    match register {
-        Reg::Accu1 | Reg::Accu2 | Reg::Ar1 | Reg::Ar2 => StType::Dword,
-        Reg::DbNo | Reg::DiNo => StType::Word,
-        _ => StType::Bool,
     }
 }
 

@@ -35,7 +35,7 @@ put_statement-returns-in_ok-put_else-in-Case t c =
     let d : List ℕ = else_text level (map (statement_text names) c.in-Case.other) in
     let f : List ℕ = line level (codes "END_CASE;") in
     let arms : c.put_cases.new.out.items ≡ c.put_head.new.out.items ++ b =
-    c.in_ok-put_cases-in-Case.ensures ∙ ap (λ (ty : StType). c.put_head.new.out.items ++ flat_map (λ arm. arm ty level) (map (case_text names) c.as_slice-in-Case.result.now)) c.type_of.ensures
+    c.in_ok-put_cases-in-Case.ensures ∙ ap (λ (ty : StType). c.put_head.new.out.items ++ flat_map (λ arm. arm ty level) (map (case_text names) c.as_slice-in-Case.result.now)) c.type_of-ty.ensures
     ∙ ap (λ (arms : List CaseArm). c.put_head.new.out.items ++ flat_map (λ arm. arm ty level) (map (case_text names) arms)) c.as_slice-in-Case.ensures in
     let other : c.put_else-in-Case.new.out.items ≡ c.put_cases.new.out.items ++ d =
     c.in_ok-put_else-in-Case.ensures ∙ ap (λ (other : List Stmt). c.put_cases.new.out.items ++ else_text level (map (statement_text names) other)) c.as_slice-in-Case-2.ensures in
