@@ -1,5 +1,5 @@
 -- What a statement is in the tree, its calls and its canonical form, at each variant.
-use Rattle.std.proofs.Common.{◌≡◌, ℕ, ◌++◌, ℤ, List, [], ◌∷◌, map, refl, sym, ap, ◌∙◌}
+use Rattle.std.proofs.Common.{◌≡◌, ℕ, ◌++◌, ℤ, List, [], map, sym, ap, ◌∙◌}
 use Rattle.s7_base.specs.declared.reason.Line.{Line}
 use Rattle.s7_base.specs.declared.word.Width.{Width}
 use Rattle.st_parser.specs.Canonical.{ArmFromLine, CaseFromLine, FromLine, arm_from, case_from, statement_from}
@@ -14,8 +14,8 @@ use Rattle.st_tree.specs.declared.program.CaseArm.{CaseArm, fold_out-CaseArm}
 use Rattle.st_tree.specs.declared.program.Stmt.{Stmt, fold-roll-Stmt, map-Stmt, roll-Stmt}
 use Rattle.st_tree.specs.declared.program.Stmt.TheOpen as S
 use Rattle.st_tree.specs.declared.program.Stmt.TheVariants as stmt
-use Rattle.st_tree.specs.declared.raw.RawArm.{RawArm, RawArm-F, fold-roll-RawArm}
-use Rattle.st_tree.specs.declared.raw.RawCaseArm.{RawCaseArm, RawCaseArm-F, fold-roll-RawCaseArm}
+use Rattle.st_tree.specs.declared.raw.RawArm.{RawArm, fold-roll-RawArm}
+use Rattle.st_tree.specs.declared.raw.RawCaseArm.{RawCaseArm, fold-roll-RawCaseArm}
 use Rattle.st_tree.specs.declared.raw.RawExpr.{RawExpr}
 use Rattle.st_tree.specs.declared.raw.RawStmt.{RawStmt, fold_out-RawStmt}
 use Rattle.st_tree.specs.declared.raw.RawStmtKind.{RawStmtKind, fold-roll-RawStmtKind, map-RawStmtKind, roll-RawStmtKind}

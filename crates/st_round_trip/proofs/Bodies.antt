@@ -1,11 +1,10 @@
 -- The statements of a unit: where they break no rule, their canonical form means the same, is of the language,
 -- nests no deeper and calls the same functions.
-use Rattle.std.proofs.Common.{◌≡◌, ℕ, ◌++◌, Bool, true, false, List, [], ◌∷◌, map, Option, Some, None, refl, sym, ap, subst, ◌∙◌}
+use Rattle.std.proofs.Common.{◌≡◌, Bool, true, [], map, Some, sym, ap, ◌∙◌}
 use Rattle.s7_base.specs.declared.reason.Line.{Line}
 use Rattle.st_parser.specs.Forms.{Form, Statement, assign, write, invoke, choice, choice_else, cases, cases_else, loop, jump, Statements, none, empty, further, Arms, no_arm, arm, CaseArms, no_case, case_arm}
 use Rattle.st_parser.specs.Grammar.{AllFit, ArmsFit, Binds, CasesFit, Fits, arm_of as raw_arm, case_of as raw_case, tree, tree_all, tree_arms, tree_cases, tree_labels, tree_one}
 use Rattle.st_parser.specs.Spelled.{AllSpelled, ArmsSpelled, CasesSpelled, FormSpelled, Spelled}
-use Rattle.st_round_trip.proofs.Actions.{act_assign}
 use Rattle.st_round_trip.proofs.CaseLabels.{found_labels, labels_typed}
 use Rattle.st_round_trip.proofs.Compound.{of_arm, of_assign, of_case_arm, of_cases, of_cases_else, of_choice, of_choice_else, of_jump, of_loop, of_no_arm, of_no_case, of_write}
 use Rattle.st_round_trip.proofs.Expressions.{Found, found}
@@ -16,9 +15,9 @@ use Rattle.st_round_trip.proofs.Variables.{Named, written}
 use Rattle.st_tree.specs.Typing.{Names}
 use Rattle.st_tree.specs.declared.expr.StType.{StType}
 use Rattle.st_types.proofs.Declared.{Declares, SameScope}
-use Rattle.st_types.specs.Broken.{Judged, breaks_in, sound}
+use Rattle.st_types.specs.Broken.{Judged, breaks_in}
 use Rattle.st_types.specs.Expressions.{expression}
-use Rattle.st_types.specs.Statements.{arm as arm_in, arms_on, case_arm as case_arm_in, case_arms_on, selector, statement, statements, test, type_of_selector}
+use Rattle.st_types.specs.Statements.{arm as arm_in, arms_on, case_arm as case_arm_in, case_arms_on, selector, statement, statements, type_of_selector}
 use Rattle.st_types.specs.declared.expression.Typed.{Typed}
 use Rattle.st_types.specs.declared.scope.Scope.{Scope}
 

@@ -1,5 +1,5 @@
 -- The labels of an arm of a CASE: where they have the selector's type, their canonical form says the same.
-use Rattle.std.proofs.Common.{◌≡◌, ℕ, ◌==◌, ℤ, Bool, true, false, ◌&&◌, cond, List, [], ◌∷◌, ◌++◌, map, Option, Some, refl, sym, ap, subst, ◌∙◌, arith}
+use Rattle.std.proofs.Common.{◌≡◌, ℕ, ◌==◌, ℤ, Bool, true, false, ◌&&◌, cond, List, [], ◌∷◌, ◌++◌, map, Some, refl, sym, ap, subst, ◌∙◌, arith}
 use Rattle.std.proofs.lemmas.Bool.Decides.{nat_tests}
 use Rattle.s7_base.specs.declared.reason.Line.{Line}
 use Rattle.s7_base.specs.declared.reason.Reason.TheVariants.{TypeMismatch}
@@ -16,7 +16,6 @@ use Rattle.st_tree.specs.declared.expr.StType.TheVariants as type
 use Rattle.st_types.specs.Broken.{broken}
 use Rattle.st_types.specs.Statements.{have_type, label_breaks}
 use Rattle.st_types.specs.Types.{is_type, place_of}
-use Rattle.st_types.specs.declared.broken.Break.{Break}
 
 -- Types
 

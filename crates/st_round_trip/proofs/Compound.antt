@@ -1,21 +1,18 @@
 -- Each form of a statement by its parts: what holds of these and their canonical forms holds of it.
-use Rattle.std.proofs.Common.{◌≡◌, ℕ, suc, ◌+◌, ◌≤◌, max, ◌++◌, ℤ, Bool, true, false, List, [], ◌∷◌, map, Option, Some, None, Ok, refl, sym, ap, subst, ◌∙◌, arith}
+use Rattle.std.proofs.Common.{◌≡◌, ℕ, suc, ◌++◌, ℤ, Bool, true, List, [], ◌∷◌, map, Some, Ok, refl, sym, ap, subst, ◌∙◌, arith}
 use Rattle.s7_base.specs.Tokens.{line_after}
 use Rattle.s7_base.specs.declared.reason.Line.{Line}
 use Rattle.s7_base.specs.declared.word.Width.{Width}
-use Rattle.st_parser.specs.Canonical as canonical
-use Rattle.st_parser.specs.Canonical.{ArmFromLine, CaseFromLine, FromLine, Placed, all_from, arm_from, arms_from, body_from, case_from, cases_else_from, cases_from, choice_from, expr_form, labels_form, on, raw_var, statement_from}
-use Rattle.st_parser.specs.Forms.{Form, Labels, Statement, assign, write, choice, choice_else, cases, cases_else, loop, jump, Statements, none, empty, further, Arms, no_arm, arm, CaseArms, no_case, case_arm}
-use Rattle.st_parser.specs.Grammar.{arm_of as raw_arm, case_of as raw_case, AllFit, ArmsFit, Binds, CasesFit, Fits, HasArm, HasCase, may_jump, tree, tree_all, tree_arms, tree_cases, tree_labels, tree_one}
-use Rattle.st_parser.specs.Spelled.{AllSpelled, ArmsSpelled, CasesSpelled, FormSpelled, LabelsSpelled, Spelled, is_variable}
+use Rattle.st_parser.specs.Canonical.{ArmFromLine, CaseFromLine, FromLine, Placed, arm_from, arms_from, body_from, case_from, cases_else_from, cases_from, choice_from, expr_form, labels_form, on, raw_var, statement_from}
+use Rattle.st_parser.specs.Forms.{Form, Labels, Statement, assign, write, choice, choice_else, cases, cases_else, loop, jump, Statements, Arms, no_arm, arm, CaseArms, no_case, case_arm}
+use Rattle.st_parser.specs.Grammar.{arm_of as raw_arm, case_of as raw_case, HasArm, HasCase, may_jump, tree, tree_all, tree_arms, tree_cases, tree_labels}
 use Rattle.st_parser.specs.declared.kind.Jump.{Jump}
 use Rattle.st_parser.specs.declared.kind.Jump.TheVariants as jump_word
 use Rattle.st_round_trip.proofs.Actions.{act_continue, act_exit, act_return, calls_assign, calls_continue, calls_exit, calls_return, calls_write, from_arm, from_assign, from_case, from_case_arm, from_continue, from_exit, from_if, from_return, from_while, from_write}
-use Rattle.st_round_trip.proofs.Callees.{all_callees, arms_callees, arms_last, both, callees, callees_case, callees_if, callees_of, callees_while, cases_callees, cases_last}
-use Rattle.st_round_trip.proofs.CaseLabels.{FoundLabels, found_labels, labels_typed, no_label_breaks, values_of, of_type}
-use Rattle.st_round_trip.proofs.Expressions.{Found, Good}
-use Rattle.st_round_trip.proofs.Levels.{nest, top_all, top_arms, top_cases, top_one}
-use Rattle.st_round_trip.proofs.Parts.{AreSound, arm_is, assign_is, case_arm_is, case_is, if_is, map_last, selector_is, test_is, values, while_is, write_is, writes}
+use Rattle.st_round_trip.proofs.Callees.{all_callees, arms_last, both, callees, callees_case, callees_if, callees_while, cases_last}
+use Rattle.st_round_trip.proofs.CaseLabels.{FoundLabels, no_label_breaks, values_of}
+use Rattle.st_round_trip.proofs.Expressions.{Found}
+use Rattle.st_round_trip.proofs.Parts.{arm_is, assign_is, case_arm_is, case_is, if_is, map_last, selector_is, test_is, values, while_is, write_is, writes}
 use Rattle.st_round_trip.proofs.Statements.{FoundAll, FoundArms, FoundCases, FoundOne, GoodAll, GoodArms, GoodCases, GoodOne, arms_behind, arms_sound_last, cases_behind, cases_sound_last}
 use Rattle.st_round_trip.proofs.Variables.{Written}
 use Rattle.st_tree.specs.Typing.{Names}
@@ -24,20 +21,11 @@ use Rattle.st_tree.specs.declared.expr.StType.TheVariants as type
 use Rattle.st_tree.specs.declared.program.Arm.{Arm}
 use Rattle.st_tree.specs.declared.program.CaseArm.{CaseArm}
 use Rattle.st_tree.specs.declared.program.Stmt.{Stmt}
-use Rattle.st_tree.specs.declared.program.Stmt.TheOpen as S
 use Rattle.st_tree.specs.declared.program.Stmt.TheVariants as stmt
-use Rattle.st_tree.specs.declared.raw.RawArm.{RawArm}
-use Rattle.st_tree.specs.declared.raw.RawCaseArm.{RawCaseArm}
-use Rattle.st_tree.specs.declared.raw.RawExpr.{RawExpr}
-use Rattle.st_tree.specs.declared.raw.RawStmt.{RawStmt}
 use Rattle.st_tree.specs.declared.raw.RawVar.{RawVar}
-use Rattle.st_types.specs.Broken.{Judged, sound}
-use Rattle.st_types.specs.Calls.{all_calls, calls_of, calls_of_arm, calls_of_case_arm, joined}
-use Rattle.st_types.specs.Statements.{Armed, Labelled, arm as arm_in, arms_on, case_arm as case_arm_in, case_arms_on, label_breaks, statement, statements}
+use Rattle.st_types.specs.Statements.{label_breaks}
 use Rattle.st_types.specs.Types.{is_selector, is_type}
 use Rattle.st_types.specs.Variables.{variable as variable_in}
-use Rattle.st_types.specs.declared.call.Call.{Call}
-use Rattle.st_types.specs.declared.expression.Typed.{Typed}
 use Rattle.st_types.specs.declared.scope.Scope.{Scope}
 use Rattle.st_types.specs.declared.variable.TypedVar.{TypedVar}
 

@@ -1,23 +1,21 @@
 -- A call that breaks no rule: its canonical form gives each formal the same variable, in the order of the formals.
-use Rattle.std.proofs.Common.{◌≡◌, ℕ, zero, suc, Bool, true, false, ◌||◌, ◌&&◌, cond, List, [], ◌∷◌, ◌++◌, map, Option, Some, None, is_some, is_none, Result, Ok, Err, refl, sym, ap, subst, ◌∙◌, arith, eqb-true}
-use Rattle.std.specs.Prelude.{nat_eq, slice_get}
+use Rattle.std.proofs.Common.{◌≡◌, ℕ, suc, Bool, true, false, ◌||◌, cond, List, [], ◌∷◌, ◌++◌, map, Option, Some, None, is_some, is_none, Result, Ok, refl, sym, ap, subst, ◌∙◌, arith}
+use Rattle.std.specs.Prelude.{slice_get}
 use Rattle.std.specs.List.{fold}
-use Rattle.std.specs.Cmp.Lexicographic.{pointwise}
-use Rattle.std.proofs.lemmas.Cmp.{nat_list_eq_equiv}
 use Rattle.std.proofs.lemmas.List.{append_assoc, append-nil}
 use Rattle.s7_base.specs.declared.reason.Line.{Line}
 use Rattle.s7_base.specs.declared.reason.Reason.{Reason}
-use Rattle.s7_base.specs.declared.reason.Reason.TheVariants.{TypeMismatch, DuplicateName, UnknownName}
-use Rattle.st_parser.specs.Canonical.{FromLine, actuals_from, on, raw_var, statement_from}
-use Rattle.st_parser.specs.Forms.{Actuals, no_actual, actual, Statement, invoke}
+use Rattle.s7_base.specs.declared.reason.Reason.TheVariants.{TypeMismatch}
+use Rattle.st_parser.specs.Canonical.{FromLine, actuals_from, on, raw_var}
+use Rattle.st_parser.specs.Forms.{Actuals, no_actual, actual, invoke}
 use Rattle.st_parser.specs.Grammar.{on_line, tree_actuals, tree_one}
-use Rattle.st_parser.specs.Spelled.{ActualsSpelled, is_name, is_variable}
+use Rattle.st_parser.specs.Spelled.{ActualsSpelled, is_variable}
 use Rattle.st_round_trip.proofs.Actions.{act_invoke, calls_invoke, from_invoke}
 use Rattle.st_round_trip.proofs.Callees.{callees, callees_of}
 use Rattle.st_round_trip.proofs.Keyed.{AreAbsent, AreDistinct, absent_also, found_behind, none_absent, same_keys}
 use Rattle.st_round_trip.proofs.Parts.{variable_there}
 use Rattle.st_round_trip.proofs.Statements.{FoundOne, GoodOne}
-use Rattle.st_round_trip.proofs.Variables.{AreNames, IsNamed, Named, Written, written}
+use Rattle.st_round_trip.proofs.Variables.{AreNames, Named, Written, written}
 use Rattle.st_tree.specs.Spelling.{formals_of, unit_name}
 use Rattle.st_tree.specs.Typing.{Names}
 use Rattle.st_tree.specs.declared.expr.StType.{StType}
@@ -27,20 +25,17 @@ use Rattle.st_tree.specs.declared.program.Pou.{Pou}
 use Rattle.st_tree.specs.declared.program.Stmt.{Stmt}
 use Rattle.st_tree.specs.declared.program.Stmt.TheVariants as stmt
 use Rattle.st_tree.specs.declared.raw.RawStmtKind.TheVariants as raw
-use Rattle.st_tree.specs.declared.raw.RawVar.{RawVar}
 use Rattle.st_types.proofs.BodyCosts.{nil_first, nil_second}
-use Rattle.st_types.proofs.Declared.{Declares, IsFunctionAt, IsFunctionOf, SameScope, keys_of_locals, types_of_locals}
+use Rattle.st_types.proofs.Declared.{Declares, IsFunctionAt, IsFunctionOf, SameScope, keys_of_locals}
 use Rattle.st_types.specs.Broken.{Judged, behind, breaks_rule, broken, listed, sound}
-use Rattle.st_types.specs.Calls.{call_on, calls_of}
+use Rattle.st_types.specs.Calls.{call_on}
 use Rattle.st_types.specs.Expressions.{answered, variable_on}
-use Rattle.st_types.specs.Invocations.{Actual, Given, call_of, call_with, callee, formal_breaks, function_call, given_by, in_order, invocation, lacks, none_given, plain, var_given, with_actual}
+use Rattle.st_types.specs.Invocations.{Actual, Given, call_of, call_with, callee, formal_breaks, function_call, given_by, in_order, lacks, none_given, plain, var_given, with_actual}
 use Rattle.st_types.specs.Names.{Table, is_same, key_of, look_up, with_entry}
 use Rattle.st_types.specs.Scopes.{meaning_in}
 use Rattle.st_types.specs.Statements.{statement}
 use Rattle.st_types.specs.Types.{is_type}
-use Rattle.st_types.specs.Variables.{variable}
 use Rattle.st_types.specs.declared.broken.Break.{Break}
-use Rattle.st_types.specs.declared.call.Call.{Call}
 use Rattle.st_types.specs.declared.scope.Formals.{Formals}
 use Rattle.st_types.specs.declared.scope.Meaning.{Meaning}
 use Rattle.st_types.specs.declared.scope.Meaning.TheVariants as meaning

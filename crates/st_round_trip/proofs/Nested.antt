@@ -7,7 +7,6 @@ use Rattle.st_parser.specs.Grammar.{infix_level, level, prefix_level}
 use Rattle.st_parser.specs.Levels.{height}
 use Rattle.st_parser.specs.declared.kind.OneOperand.{OneOperand}
 use Rattle.st_parser.specs.declared.kind.Prefix.{Prefix}
-use Rattle.st_parser.specs.declared.kind.Prefix.TheVariants as before
 use Rattle.st_round_trip.proofs.Equations.{wrapped}
 use Rattle.st_round_trip.proofs.Levels.{nest}
 use Rattle.st_tree.specs.declared.expr.BinaryOp.{BinaryOp}

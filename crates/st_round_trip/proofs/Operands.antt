@@ -1,5 +1,5 @@
 -- An expression with operands by what its operands are: where it breaks no rule, and what it is.
-use Rattle.std.proofs.Common.{◌≡◌, ◌++◌, Bool, true, false, ◌&&◌, cond, List, [], Option, Some, None, refl, sym, ap, ◌∙◌}
+use Rattle.std.proofs.Common.{◌≡◌, ◌++◌, Bool, true, false, ◌&&◌, cond, [], Option, Some, None, refl, sym, ap, ◌∙◌}
 use Rattle.s7_base.specs.declared.reason.Line.{Line}
 use Rattle.s7_base.specs.declared.word.Width.{Width}
 use Rattle.st_round_trip.proofs.Equations.{read_unary, read_binary, read_convert, read_select, read_shift, read_area}
@@ -21,7 +21,6 @@ use Rattle.st_types.proofs.BodyCosts.{nil_first, nil_second}
 use Rattle.st_types.specs.Broken.{Judged, behind, sound}
 use Rattle.st_types.specs.Expressions.{area_read_of, binary_of, choice_of, conversion_of, expression, shift_of, typed_as, unary_of}
 use Rattle.st_types.specs.Types.{has_bits, has_numbers, is_type, type_of_binary, type_of_choice, type_of_conversion, type_of_read, type_of_shift, type_of_unary, type_of_width, type_on_equals, where_true}
-use Rattle.st_types.specs.declared.broken.Break.{Break}
 use Rattle.st_types.specs.declared.expression.Typed.{Typed}
 use Rattle.st_types.specs.declared.scope.Scope.{Scope}
 

@@ -1,5 +1,5 @@
 -- A statement by its parts: where it breaks no rule, and what it is.
-use Rattle.std.proofs.Common.{◌≡◌, ℕ, ◌++◌, ℤ, Bool, true, false, ◌&&◌, cond, List, [], ◌∷◌, map, Option, Some, None, Result, Ok, Err, refl, sym, ap, ◌∙◌}
+use Rattle.std.proofs.Common.{◌≡◌, ◌++◌, ℤ, Bool, true, false, ◌&&◌, cond, List, [], ◌∷◌, map, Option, Some, Result, Ok, Err, refl, sym, ap, ◌∙◌}
 use Rattle.s7_base.specs.declared.reason.Line.{Line}
 use Rattle.s7_base.specs.declared.reason.Reason.{Reason}
 use Rattle.s7_base.specs.declared.reason.Reason.TheVariants.{TypeMismatch}
@@ -20,7 +20,7 @@ use Rattle.st_tree.specs.declared.raw.RawStmt.{RawStmt}
 use Rattle.st_tree.specs.declared.raw.RawStmtKind.TheVariants as raw
 use Rattle.st_tree.specs.declared.raw.RawVar.{RawVar}
 use Rattle.st_types.proofs.BodyCosts.{nil_first, nil_second}
-use Rattle.st_types.specs.Broken.{Judged, behind, breaks_in, breaks_rule, found_in, listed, sound}
+use Rattle.st_types.specs.Broken.{Judged, behind, breaks_in, breaks_rule, found_in, sound}
 use Rattle.st_types.specs.Expressions.{answered, expression, variable_on}
 use Rattle.st_types.specs.Statements.{Armed, Labelled, area_write_of, arm, arm_of, arms_on, assignment_of, case_arm, case_arms_on, case_of, label_breaks, selector, selector_of, statement, statements, test, test_of, type_of_selector, while_of}
 use Rattle.st_types.specs.Types.{is_selector, is_type, type_of_width}

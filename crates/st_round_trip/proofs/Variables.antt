@@ -1,9 +1,8 @@
 -- Variables as the canonical text writes them: they mean the same, and tokens can have them.
-use Rattle.std.proofs.Common.{◌≡◌, ℕ, Bool, true, false, ◌&&◌, cond, List, [], ◌∷◌, Option, Some, None, Result, Ok, Err, refl, sym, ap, subst, ◌∙◌}
+use Rattle.std.proofs.Common.{◌≡◌, ℕ, Bool, true, false, ◌&&◌, cond, List, Option, Some, None, Ok, Err, refl, ap, subst, ◌∙◌}
 use Rattle.std.specs.Prelude.{slice_get}
 use Rattle.memory_areas.specs.declared.place.AreaName.{AreaName}
 use Rattle.memory_areas.specs.declared.place.AreaName.TheVariants as area
-use Rattle.s7_base.specs.declared.reason.Reason.{Reason}
 use Rattle.s7_base.specs.declared.reason.Reason.TheVariants.{BadAddress}
 use Rattle.s7_base.specs.declared.register.Reg.{Reg}
 use Rattle.s7_base.specs.declared.register.Reg.TheVariants as reg
@@ -18,7 +17,6 @@ use Rattle.st_tree.specs.Typing.{Names, global_type, local_type, var_type}
 use Rattle.st_tree.specs.Values as values
 use Rattle.st_tree.specs.Words.{register_word}
 use Rattle.st_tree.specs.declared.expr.StType.{StType}
-use Rattle.st_tree.specs.declared.expr.Var.{Var}
 use Rattle.st_tree.specs.declared.expr.Var.TheVariants as var
 use Rattle.st_tree.specs.declared.program.Local.{Local}
 use Rattle.st_tree.specs.declared.program.Located.{Located}
@@ -29,7 +27,7 @@ use Rattle.st_types.proofs.Declared.{Declares, IsGlobalAt, IsLocalAt, SameScope}
 use Rattle.st_types.specs.Names.{key_of}
 use Rattle.st_types.specs.Scopes.{as_register, meaning_in, or_else, register_named}
 use Rattle.st_types.specs.Types.{type_of_width}
-use Rattle.st_types.specs.Variables.{is_block_number, is_place, place_at, type_of_register, variable, variable_named, variable_of}
+use Rattle.st_types.specs.Variables.{is_block_number, is_place, type_of_register, variable, variable_named, variable_of}
 use Rattle.st_types.specs.Names.{look_up}
 use Rattle.st_types.specs.declared.scope.Meaning.{Meaning}
 use Rattle.st_types.specs.declared.scope.Meaning.TheVariants as meaning
