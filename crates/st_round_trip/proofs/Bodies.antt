@@ -59,7 +59,8 @@ module _ (scope again : Scope) (names : Names) (declares : Declares scope names)
         let clean = case_clean scope l (tree e) (tree_cases arms) (tree_all b) c in
         let g = an l e s.0 f.0 (selector_clean scope l (tree e) clean.0) in
         let ty = selector_type scope l (tree e) g.t g.found clean.0 in
-        of_cases_else scope again names inside l e arms b f.1 g ty (found_cases inside l g.t.ty arms s.1 f.2 (at_type l e arms g.t (selector_is scope l (tree e) g.t g.found ty) clean.1))
+        of_cases_else scope again names inside l e arms b f.1 g ty (found_cases inside l g.t.ty arms s.1 f.2
+        (at_type l e arms g.t (selector_is scope l (tree e) g.t g.found ty) clean.1))
         (found_all inside b s.2 f.3 clean.2)
     found_one inside (loop l e b) s f c =
         let clean = while_clean scope l (tree e) (tree_all b) c in
@@ -74,14 +75,17 @@ module _ (scope again : Scope) (names : Names) (declares : Declares scope names)
         let clean = breaks_last (statements scope (tree_all b)) (statement scope (tree_one x)) (sym (ap breaks_in (map_last (statement scope) (tree_all b) (tree_one x))) ∙ c) in
         of_further scope again names inside b x (found_all inside b s.0 f.0 clean.0) (found_one inside x s.1 f.1 clean.1)
 
-    found_arms : (inside : Bool) (l : Line) (a : Arms) → ArmsSpelled a → ArmsFit inside a → breaks_in (arms_on l (map (arm_in scope) (tree_arms a))) ≡ [] → FoundArms scope again names inside l a
+    found_arms : (inside : Bool) (l : Line) (a : Arms) → ArmsSpelled a → ArmsFit inside a → breaks_in (arms_on l (map (arm_in scope) (tree_arms a))) ≡ []
+        → FoundArms scope again names inside l a
     found_arms inside l no_arm s f c = of_no_arm scope again names inside l
     found_arms inside l (arm others e b) s f c =
         let read = raw_arm (tree e) (tree_all b) in
-        let clean = breaks_last (arms_on l (map (arm_in scope) (tree_arms others))) (arm_in scope read l) (sym (ap breaks_in (arms_read_last scope l (tree_arms others) read)) ∙ c) in
+        let clean =
+        breaks_last (arms_on l (map (arm_in scope) (tree_arms others))) (arm_in scope read l) (sym (ap breaks_in (arms_read_last scope l (tree_arms others) read)) ∙ c) in
         let own = arm_clean scope l (tree e) (tree_all b) clean.1 in
         let g = an l e s.1 f.1 (test_clean scope l (tree e) own.0) in
-        of_arm scope again names inside l others e b (found_arms inside l others s.0 f.0 clean.0) g (test_bool scope l (tree e) g.t g.found own.0) (found_all inside b s.2 f.2 own.1)
+        of_arm scope again names inside l others e b (found_arms inside l others s.0 f.0 clean.0) g (test_bool scope l (tree e) g.t g.found own.0)
+        (found_all inside b s.2 f.2 own.1)
 
     found_cases : (inside : Bool) (l : Line) (ty : StType) (a : CaseArms) → CasesSpelled a → CasesFit inside a
         → breaks_in (case_arms_on l (Some ty) (map (case_arm_in scope) (tree_cases a))) ≡ [] → FoundCases scope again names inside l ty a
@@ -91,5 +95,6 @@ module _ (scope again : Scope) (names : Names) (declares : Declares scope names)
         let clean = breaks_last (case_arms_on l (Some ty) (map (case_arm_in scope) (tree_cases others))) (case_arm_in scope read l (Some ty))
         (sym (ap breaks_in (cases_read_last scope l (Some ty) (tree_cases others) read)) ∙ c) in
         let own = case_arm_clean scope l ty (tree_labels labels) (tree_all b) clean.1 in
-        of_case_arm scope again names inside l ty others labels b (found_cases inside l ty others s.0 f.0 clean.0) (found_labels ty labels s.1 (labels_typed l ty (tree_labels labels) own.0))
+        of_case_arm scope again names inside l ty others labels b (found_cases inside l ty others s.0 f.0 clean.0)
+        (found_labels ty labels s.1 (labels_typed l ty (tree_labels labels) own.0))
         (found_all inside b s.2 f.2 own.1)

@@ -88,7 +88,8 @@ pub record FoundLabels (ty : StType) (labels : Labels) : Type 0 where
   pub fits : LabelsFit (labels_form ty (first ∷ others))
   pub spelled : LabelsSpelled (labels_form ty (first ∷ others))
 
-one_label : (c : Literal) (ty : StType) → is_literal c ≡ true → is_type (label_tree c).0 ty ≡ true → (label_tree c ≡ (ty, (label_tree c).1)) × Kept ty (label_tree c).1 (literal_form ty (label_tree c).1)
+one_label : (c : Literal) (ty : StType) → is_literal c ≡ true → is_type (label_tree c).0 ty ≡ true
+    → (label_tree c ≡ (ty, (label_tree c).1)) × Kept ty (label_tree c).1 (literal_form ty (label_tree c).1)
 one_label c ty h t =
     let n = (label_tree c).1 in
     let e : (label_tree c).0 ≡ ty = same_type (label_tree c).0 ty t in

@@ -105,9 +105,11 @@ module _ (scope again : Scope) (names : Names) (declares : Declares scope names)
         });
       }
 
-  read_is_variable : (s : Scope) (m : Line) (v : RawVar) (x : TypedVar) → variable_in s v ≡ Ok x → expression s m (raw.Read v) ≡ sound (record { ty = x.ty; tree = expr.Read x.var })
+  read_is_variable : (s : Scope) (m : Line) (v : RawVar) (x : TypedVar) → variable_in s v ≡ Ok x
+      → expression s m (raw.Read v) ≡ sound (record { ty = x.ty; tree = expr.Read x.var })
   read_is_variable s m v x e =
-      read_variable s m v ∙ ap (λ (r : Result TypedVar Reason). let j : Judged TypedVar = answered m r in let k : Judged Typed = record { found = read_of j.found; breaks = j.breaks } in k) e
+      read_variable s m v ∙ ap (λ (r : Result TypedVar Reason). let j : Judged TypedVar = answered m r in
+      let k : Judged Typed = record { found = read_of j.found; breaks = j.breaks } in k) e
 
   of_read : (v : RawVar) (line : Line) → is_variable v ≡ true → Clean (variable v line) → Fine (variable v line)
   of_read v line h clean = by (variable_in scope v) refl (sym (ap (λ (j : Judged Typed). j.breaks) (read_variable scope l v)) ∙ clean)

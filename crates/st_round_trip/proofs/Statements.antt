@@ -82,7 +82,8 @@ pub all_last : (others : Statements) (k : ℕ) (fs : List FromLine) (f : FromLin
 all_last others k [] f = refl
 all_last others k (g ∷ fs) f = all_last (further others (g k).0) (g k).1 fs f
 
-pub arms_behind : (others : Arms) (k : ℕ) (fs : List ArmFromLine) (f : ArmFromLine) → (arms_from others k (fs ++ f ∷ [])).0 ≡ (f (arms_from others k fs).0 (arms_from others k fs).1).0
+pub arms_behind : (others : Arms) (k : ℕ) (fs : List ArmFromLine) (f : ArmFromLine)
+    → (arms_from others k (fs ++ f ∷ [])).0 ≡ (f (arms_from others k fs).0 (arms_from others k fs).1).0
 arms_behind others k [] f = refl
 arms_behind others k (g ∷ fs) f = arms_behind (g others k).0 (g others k).1 fs f
 
@@ -91,7 +92,8 @@ pub cases_behind : (ty : StType) (others : CaseArms) (k : ℕ) (fs : List CaseFr
 cases_behind ty others k [] f = refl
 cases_behind ty others k (g ∷ fs) f = cases_behind ty (g ty others k).0 (g ty others k).1 fs f
 
-statements_last : (s : Scope) (rs : List RawStmt) (r : RawStmt) (xs : List Stmt) (x : Stmt) → AreSound (statements s rs) xs → statement s r ≡ sound x → AreSound (statements s (rs ++ r ∷ [])) (xs ++ x ∷ [])
+statements_last : (s : Scope) (rs : List RawStmt) (r : RawStmt) (xs : List Stmt) (x : Stmt) → AreSound (statements s rs) xs → statement s r ≡ sound x
+    → AreSound (statements s (rs ++ r ∷ [])) (xs ++ x ∷ [])
 statements_last s rs r xs x h g =
     map_last (statement s) rs r ∙ ap (λ z. z ++ statement s r ∷ []) h ∙ ap (λ z. map sound xs ++ z ∷ []) g ∙ sym (map_last sound xs x)
 
