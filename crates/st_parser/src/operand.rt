@@ -1,6 +1,6 @@
 //! Steps of the parser in expressions.
 ghost use Rattle.std.specs.Prelude.{◌≡◌, ◌∷◌, Some, length, IfOk, option_map};
-ghost use Rattle.st_parser.specs.Machine.{code, no_statements, statement, to_area, to_var, area_value, within};
+ghost use Rattle.st_parser.specs.Machine.{code, first_label, no_cases, no_statements, part, statement, to_area, to_var, area_value, within};
 ghost use Rattle.st_parser.specs.Steps.{spot, limit, reduce, function_argument, with_prefix, at_operand, at_opening, close_argument, next_argument, argument_closed, use_closed, closed, at_operator, weakest};
 ghost use Rattle.st_parser.specs.declared.kind.Fixed.TheVariants as fixed;
 ghost use Rattle.st_parser.specs.declared.kind.Kind.TheVariants as kind;
@@ -302,6 +302,23 @@ fn body_next(
     }))
 }
 
+/// The labels of a CASE are next.
+fn labels_next(
+    alloc: Global,
+    depth: usize,
+    frames: Vec<Frame>,
+    begun: Begun,
+    selector: Measured,
+) -> Spot
+    ensures { spot_of result ≡ spot code depth (stack_of frames.items) (part (begun_of begun) (first_label selector (no_cases code))) }
+{
+    Spot {
+        depth,
+        frames,
+        place: Place::Part(begun, Part::FirstLabel(selector, List::new(alloc))),
+    }
+}
+
 /// The expression that a statement needs ends.
 fn use_closed(
     alloc: Global,
@@ -336,11 +353,7 @@ fn use_closed(
             _ => Ok(None),
         },
         Use::Selector => match kind {
-            Kind::Fixed(Fixed::Of) => Ok(Some(Spot {
-                depth,
-                frames,
-                place: Place::Part(begun, Part::FirstLabel(operand, List::new(alloc))),
-            })),
+            Kind::Fixed(Fixed::Of) => Ok(Some(labels_next(alloc, depth, frames, begun, operand))),
             _ => Ok(None),
         },
         Use::LoopTest => match kind {
