@@ -1,13 +1,13 @@
 -- The pass of the code does what the pass that keeps what is written does.
 use Rattle.std.proofs.Common.{◌≡◌, ℕ, suc, Bool, true, false, List, [], ◌∷◌, Option, Some, None, refl, sym, ap, ◌∙◌}
-use Rattle.std.specs.Prelude.{max, nat_le, if◌then◌else◌, option_and_then, option_map}
+use Rattle.std.specs.Prelude.{nat_le, if◌then◌else◌, option_map}
 use Rattle.s7_base.specs.declared.reason.Line.{Line}
-use Rattle.st_parser.specs.Forms.{Form, none, no_local, prefix, infix_of, Statement, Statements, Arms, CaseArms, Actuals, Labels, Items, GlobalType, plain, bytes, Globals, Locals, Section, absent, present, Head, Units}
+use Rattle.st_parser.specs.Forms.{Form, none, no_local, prefix, infix_of, Statement, Statements, CaseArms, Labels, plain, Globals, Locals, Section, absent, Head}
 use Rattle.st_parser.specs.Grammar.{prefix_level, infix_level, is_value, may_jump, is_direct, tree, tree_one, tree_all, tree_arms, tree_cases, tree_actuals, tree_labels, tree_items, tree_type, tree_globals, tree_locals, tree_units, held}
 use Rattle.st_parser.specs.Kinds.{is_free, names_block, may_name_global, may_name_unit}
 use Rattle.st_parser.specs.Levels.{height}
-use Rattle.st_parser.specs.Machine.{written, code, named, at_var, of_label, add_label, add_case, of_literal, of_jump, head_of, Begun, Argument, only, shifted, shifted_by, gate, first, second, Use, to_var, to_area, area_value, test, selector, loop_test, Body, choosing, otherwise, looping, selecting, otherwise_case, Frame, unary, left, bracket, argument, waiting, within, Part, target, write_open, first_formal, next_formal, becoming, giving, given, first_label, next_label, labelled, Place, statement, part, closing, operand, operator, opening, Spot, Row, at_word, at_place, at_colon, at_type, at_square, at_zero, at_dots, at_last, at_close, at_of, at_byte, at_becomes, at_open, at_item, at_count, at_value, at_value_end, at_comma, at_end, Typing, local_colon, local_type, local_end, Before, Top, Which, formals, temps, State, start, globals, row, between, heading, opened, formals_done, section, typing, inside, over}
-use Rattle.st_parser.specs.Steps.{spot, weakest, limit, Reduced, reduced_to, reduce, shallower, with_prefix, argument_closed, use_closed, closed, closed_to, waits, at_operator, in_loop, body_closed, in_body, begun, at_lead, at_statement, at_target, at_label, at_call, at_part, at_closing, at_operand, at_opening, step_at, is_zero, row_type, row_place, row_array, row_items, row_step, row_end, at_row, at_globals, before_units, top_of, at_between, at_start, at_heading, may_name, may_type, at_section, at_typing, ends, leave, at_inside, at_formals_done, at_opened, next, level_at, mark}
+use Rattle.st_parser.specs.Machine.{written, code, of_label, add_label, add_case, of_literal, of_jump, head_of, Begun, Argument, only, shifted, shifted_by, gate, first, second, Use, to_var, to_area, area_value, test, selector, loop_test, Body, choosing, otherwise, looping, selecting, otherwise_case, Frame, unary, left, bracket, argument, waiting, within, Part, target, write_open, first_formal, next_formal, becoming, giving, given, first_label, next_label, labelled, Place, statement, part, closing, operand, operator, opening, Spot, Row, at_word, at_place, at_colon, at_type, at_square, at_zero, at_dots, at_last, at_close, at_of, at_byte, at_becomes, at_open, at_item, at_count, at_value, at_value_end, at_comma, at_end, Typing, local_colon, local_type, local_end, Before, Top, Which, formals, temps, State, start, globals, row, between, heading, opened, formals_done, section, typing, inside, over}
+use Rattle.st_parser.specs.Steps.{spot, weakest, limit, Reduced, reduced_to, reduce, shallower, with_prefix, argument_closed, use_closed, closed, closed_to, waits, at_operator, in_loop, body_closed, in_body, at_lead, at_statement, at_target, at_label, at_part, at_closing, at_operand, at_opening, step_at, is_zero, row_type, row_place, row_array, row_items, row_step, row_end, at_row, at_globals, before_units, top_of, at_between, at_start, at_heading, may_name, may_type, at_section, at_typing, ends, leave, at_inside, at_formals_done, at_opened, next, level_at, mark}
 use Rattle.st_parser.specs.declared.declaration.Heading.{Heading}
 use Rattle.st_parser.specs.declared.expression.Measured.{Measured}
 use Rattle.st_parser.specs.declared.kind.Fixed.TheVariants as fixed
@@ -17,7 +17,6 @@ use Rattle.st_parser.specs.declared.kind.Kind.{Kind}
 use Rattle.st_parser.specs.declared.kind.Kind.TheVariants as kind
 use Rattle.st_parser.specs.declared.kind.Lead.{Lead}
 use Rattle.st_parser.specs.declared.kind.Lead.TheVariants as lead
-use Rattle.st_parser.specs.declared.kind.Literal.{Literal}
 use Rattle.st_parser.specs.declared.kind.Literal.TheVariants as lit
 use Rattle.st_parser.specs.declared.kind.Prefix.{Prefix}
 use Rattle.st_parser.specs.declared.kind.Prefix.TheVariants as before

@@ -166,7 +166,8 @@ reads_form names (prefix unary.BcdToInt f) more line ks m s ends r = absurd (let
 reads_form names (prefix unary.BcdToDint f) more line ks m s ends r = absurd (let none = m.0 in cc)
 reads_form names (infix_of op f g) more line ks m s ends r =
     reads_as (two (written names f) (infix_word op) (written names g) more)
-    (reads_form names f (infix_word op ++ (written names g ++ more)) line (kind.Fixed (fixed.Between op) ∷ spell (form_of names line g) ks) m.0 s.0 (infix_ends op (written names g ++ more))
+    (reads_form names f (infix_word op ++ (written names g ++ more)) line (kind.Fixed (fixed.Between op) ∷ spell (form_of names line g) ks) m.0 s.0
+    (infix_ends op (written names g ++ more))
     (reads_infix op (written names g ++ more) line (spell (form_of names line g) ks) (reads_form names g more line ks m.1 s.1 ends r)))
 reads_form names (digits_to unary.Minus f) more line ks m s ends r = absurd (let none = m.0 in cc)
 reads_form names (digits_to unary.Not f) more line ks m s ends r = absurd (let none = m.0 in cc)

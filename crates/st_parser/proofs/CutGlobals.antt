@@ -49,7 +49,8 @@ reads_run others count b more line ks s ends r = by (count == 1) s
     by false s = record {
       inner = kind.Literal (lit.Decimal count) ∷ kind.Fixed fixed.Open ∷ kind.Literal (lit.Byte b) ∷ kind.Fixed fixed.Close ∷ ks;
       reads = reads_as (three (decimal count) (codes "(") (byte_text b) (codes ")") more)
-          (reads_decimal count (40 ∷ (byte_text b ++ 41 ∷ more)) line _ s.1 refl (reads_open refl (reads_byte b (41 ∷ more) line (kind.Fixed fixed.Close ∷ ks) s.2 refl (reads_close r))));
+          (reads_decimal count (40 ∷ (byte_text b ++ 41 ∷ more)) line _ s.1 refl (reads_open refl
+          (reads_byte b (41 ∷ more) line (kind.Fixed fixed.Close ∷ ks) s.2 refl (reads_close r))));
       same = refl;
     }
 
@@ -105,7 +106,8 @@ reads_items (next ∷ rest) others count b more line ks s ends r =
     by (b == next) (λ h. reads_items rest others (count + 1) b more line ks h ends r) (λ h. reads_items rest (run_behind others count b) 1 next more line ks h ends r) s
   where
     by : (t : Bool)
-        → (ItemsSpelled (items_behind others (count + 1) b rest) → Behind (comma_items others) line (list_behind (count + 1) b rest ++ more) (spell_items (items_behind others (count + 1) b rest) ks))
+        → (ItemsSpelled (items_behind others (count + 1) b rest) → Behind (comma_items others) line (list_behind (count + 1) b rest ++ more)
+        (spell_items (items_behind others (count + 1) b rest) ks))
         → (ItemsSpelled (items_behind (run_behind others count b) 1 next rest)
         → Behind (comma_items (run_behind others count b)) line (list_behind 1 next rest ++ more) (spell_items (items_behind (run_behind others count b) 1 next rest) ks))
         → ItemsSpelled (if t then items_behind others (count + 1) b rest else items_behind (run_behind others count b) 1 next rest)
@@ -115,7 +117,8 @@ reads_items (next ∷ rest) others count b more line ks s ends r =
     by false same new s =
         let run : Items = run_behind others count b in
         let c : Behind (comma_items run) line (list_behind 1 next rest ++ more) (spell_items (items_behind run 1 next rest) ks) = new s in
-        let d = reads_run others count b (codes ", " ++ (list_behind 1 next rest ++ more)) line (kind.Fixed fixed.Comma ∷ c.inner) (items_front rest run 1 next s) refl (reads_comma (reads_blank c.reads)) in
+        let d = reads_run others count b (codes ", " ++ (list_behind 1 next rest ++ more)) line
+        (kind.Fixed fixed.Comma ∷ c.inner) (items_front rest run 1 next s) refl (reads_comma (reads_blank c.reads)) in
         record {
           inner = d.inner;
           reads = reads_as (two (run_text count b) (codes ", ") (list_behind 1 next rest) more) d.reads;
@@ -214,7 +217,8 @@ reads_global : (g : Located) (more : List ℕ) (line : ℕ) (ks : List Kind) →
     → is_variable (var.Direct (area_form g.place.area) None (width_at g.ty) g.place.byte g.place.bit) ≡ true
     → ReadsOn (line_after line) more ks
     → ReadsOn line (global_text g ++ more) (kind.Variable (var.Name g.name) (on line) ∷ kind.Fixed fixed.At
-    ∷ kind.Variable (var.Direct (area_form g.place.area) None (width_at g.ty) g.place.byte g.place.bit) (on line) ∷ kind.Fixed fixed.Colon ∷ kind.Fixed (fixed.Type g.ty) ∷ kind.Fixed fixed.Semicolon ∷ ks)
+    ∷ kind.Variable (var.Direct (area_form g.place.area) None (width_at g.ty) g.place.byte g.place.bit) (on line) ∷ kind.Fixed fixed.Colon ∷ kind.Fixed (fixed.Type g.ty)
+    ∷ kind.Fixed fixed.Semicolon ∷ ks)
 unfolding global_text
 reads_global g more line ks h k r =
     let at : List ℕ = place_text (width_at g.ty) g.place.byte g.place.bit in

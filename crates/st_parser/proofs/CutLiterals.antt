@@ -104,7 +104,8 @@ typed_read text ty n is h ten plain =
     let range : nat_le (unsigned_abs n) (greatest ty (int_lt n (pos 0))) ≡ true = in_range ty (int_lt n (pos 0)) (unsigned_abs n) h in
     record {
       is_kind = λ line. ap (λ (o : Option Found). number_kind o text) is.found ∙ ap (λ (b : Base). literal_kind b text found) ten
-          ∙ if_false (begins_with_digit base.Ten text) (decimal_kind found.number) (typed_kind found) plain ∙ if_true (nat_le (unsigned_abs n) (greatest ty (int_lt n (pos 0)))) _ _ range
+          ∙ if_false (begins_with_digit base.Ten text) (decimal_kind found.number) (typed_kind found) plain
+          ∙ if_true (nat_le (unsigned_abs n) (greatest ty (int_lt n (pos 0)))) _ _ range
           ∙ ap (λ (m : ℤ). kind.Literal (lit.Typed ty m)) (signed_same n);
       small = ap (λ (o : Option Found). is_great sort.Literal o) is.found ∙ ap not range;
     }
@@ -149,7 +150,8 @@ pub reads_decimal : (n : ℕ) (more : List ℕ) (line : ℕ) (ks : List Kind) �
 reads_decimal n more line ks h ends r =
     let read : IsRead (decimal n) (kind.Literal (lit.Decimal n)) = decimal_read n h in
     let small : n < 2 ^ 64 = omega (arith, below n 2147483647 h) in
-    reads_text sort.Literal (decimal n) more line (kind.Literal (lit.Decimal n)) ks (literals_stand.plain n h).is_token ends (decimal_no_line n small) (read.is_kind (on line)) read.small r
+    reads_text sort.Literal (decimal n) more line (kind.Literal (lit.Decimal n)) ks (literals_stand.plain n h).is_token ends (decimal_no_line n small)
+    (read.is_kind (on line)) read.small r
 
 pub reads_byte : (b : ℕ) (more : List ℕ) (line : ℕ) (ks : List Kind) → is_byte b ≡ true → ends_word more ≡ true → ReadsOn line more ks
     → ReadsOn line (byte_text b ++ more) (kind.Literal (lit.Byte b) ∷ ks)
@@ -195,7 +197,8 @@ small_value ty n h = within_64 ty (int_lt n (pos 0)) (unsigned_abs n) (in_range 
 -- a DINT from 0 on is plain
 reads_dint : (n : ℤ) (minus : Bool) (more : List ℕ) (line : ℕ) (ks : List Kind) → int_lt n (pos 0) ≡ minus
     → is_literal (if minus then lit.Typed type.Dint n else lit.Decimal (unsigned_abs n)) ≡ true → ends_word more ≡ true → ReadsOn line more ks
-    → ReadsOn line ((if minus then codes "DINT#" ++ integer_text n else decimal (unsigned_abs n)) ++ more) (kind.Literal (if minus then lit.Typed type.Dint n else lit.Decimal (unsigned_abs n)) ∷ ks)
+    → ReadsOn line ((if minus then codes "DINT#" ++ integer_text n else decimal (unsigned_abs n)) ++ more)
+    (kind.Literal (if minus then lit.Typed type.Dint n else lit.Decimal (unsigned_abs n)) ∷ ks)
 unfolding literal_text
 reads_dint n true more line ks e h ends r =
     let text : (if int_lt n (pos 0) then codes "DINT#" ++ integer_text n else decimal (unsigned_abs n)) ≡ codes "DINT#" ++ integer_text n = if_true (int_lt n (pos 0)) _ _ e in
@@ -261,7 +264,8 @@ bit_small width.Dword bit h = grind (arith, nat_tests)
 
 block_no_line : (a : AreaName) (block : Option ℕ) (w : Width) (byte bit : ℕ) → is_block_of a block ≡ true → byte < 2 ^ 64 → bit < 2 ^ 64
     → has_no_line (place_in a block w byte bit) ≡ true
-block_no_line a None w byte bit h k l = no_line_both (codes "%" ++ area_word a) (place_text w byte bit) (no_line_both (codes "%") (area_word a) refl (area_no_line a)) (place_no_line w byte bit k l)
+block_no_line a None w byte bit h k l =
+    no_line_both (codes "%" ++ area_word a) (place_text w byte bit) (no_line_both (codes "%") (area_word a) refl (area_no_line a)) (place_no_line w byte bit k l)
 block_no_line area.Db (Some n) w byte bit h k l =
     no_line_both ((codes "%DB" ++ decimal n) ++ codes ".DB") (place_text w byte bit)
     (no_line_both (codes "%DB" ++ decimal n) (codes ".DB") (no_line_both (codes "%DB") (decimal n) refl (decimal_no_line n (kept_small n h))) refl) (place_no_line w byte bit k l)

@@ -100,7 +100,8 @@ module _ (names : Names) where
 
   reads_actual : (formal : Local) (v : Var) (more : List ℕ) (line : ℕ) (ks : List Kind) → is_name formal.name ≡ true → is_variable (raw_var names v) ≡ true
       → ends_word more ≡ true → ReadsOn line more ks
-      → ReadsOn line ((formal.name ++ codes " := " ++ var_text names v) ++ more) (kind.Variable (var.Name formal.name) (on line) ∷ kind.Fixed fixed.Becomes ∷ kind.Variable (raw_var names v) (on line) ∷ ks)
+      → ReadsOn line ((formal.name ++ codes " := " ++ var_text names v) ++ more) (kind.Variable (var.Name formal.name) (on line) ∷ kind.Fixed fixed.Becomes
+      ∷ kind.Variable (raw_var names v) (on line) ∷ ks)
   reads_actual formal v more line ks h k ends r =
       reads_as (two formal.name (codes " := ") (var_text names v) more)
       (reads_name formal.name (codes " := " ++ (var_text names v ++ more)) line _ h refl (reads_blank (reads_becomes (reads_blank (reads_var names v more line ks k ends r)))))
@@ -108,7 +109,8 @@ module _ (names : Names) where
   reads_more_actuals : (others : Actuals) (formals : List Local) (vars : List Var) (more : List ℕ) (line : ℕ) (ks : List Kind)
       → ((xs : List Kind) → comma_behind others xs ≡ kind.Fixed fixed.Comma ∷ xs)
       → ActualsSpelled (actuals_from names line others formals vars) → ends_word more ≡ true → ReadsOn line more ks
-      → Behind (spell_actuals others) line (flat_map (λ text. codes ", " ++ text) (actuals_text names formals vars) ++ more) (spell_actuals (actuals_from names line others formals vars) ks)
+      → Behind (spell_actuals others) line (flat_map (λ text. codes ", " ++ text) (actuals_text names formals vars) ++ more)
+      (spell_actuals (actuals_from names line others formals vars) ks)
   reads_more_actuals others [] vars more line ks comma s ends r = record { inner = ks; reads = r; same = refl }
   reads_more_actuals others (formal ∷ formals) [] more line ks comma s ends r = record { inner = ks; reads = r; same = refl }
   reads_more_actuals others (formal ∷ formals) (v ∷ vars) more line ks comma s ends r =
@@ -120,7 +122,8 @@ module _ (names : Names) where
         inner = kind.Fixed fixed.Comma ∷ kind.Variable (var.Name formal.name) (on line) ∷ kind.Fixed fixed.Becomes ∷ kind.Variable (raw_var names v) (on line) ∷ b.inner;
         reads = reads_as (two (codes ", ") (formal.name ++ codes " := " ++ var_text names v) behind more)
             (reads_comma (reads_blank (reads_actual formal v (behind ++ more) line b.inner front.1 front.2 (commas_end (actuals_text names formals vars) more ends) b.reads)));
-        same = ap (spell_actuals others) (sym (comma (kind.Variable (var.Name formal.name) (on line) ∷ kind.Fixed fixed.Becomes ∷ kind.Variable (raw_var names v) (on line) ∷ b.inner))) ∙ b.same;
+        same = ap (spell_actuals others) (sym (comma (kind.Variable (var.Name formal.name) (on line) ∷ kind.Fixed fixed.Becomes ∷ kind.Variable (raw_var names v) (on line) ∷ b.inner)))
+            ∙ b.same;
       }
 
   reads_actuals : (formals : List Local) (vars : List Var) (more : List ℕ) (line : ℕ) (ks : List Kind) → ActualsSpelled (actuals_from names line no_actual formals vars)
@@ -241,7 +244,8 @@ module _ (names : Names) where
   reads_more_arms : (start : Line) (others : Arms) (ys : List AnArm) (level line : ℕ) (more : List ℕ) (ks : List Kind) → HasArm others
       → ArmsSpelled (arms_from others line (arm_froms ys)).0
       → ReadsOn (arms_from others line (arm_froms ys)).1 more ks
-      → Behind (spell_arms start others) line (flat_map (λ (a : ArmText). a (codes "ELSIF ") level) (arm_texts ys) ++ more) (spell_arms start (arms_from others line (arm_froms ys)).0 ks)
+      → Behind (spell_arms start others) line (flat_map (λ (a : ArmText). a (codes "ELSIF ") level) (arm_texts ys) ++ more)
+      (spell_arms start (arms_from others line (arm_froms ys)).0 ks)
   reads_more_arms start others [] level line more ks h s r = record { inner = ks; reads = r; same = refl }
   reads_more_arms start others (y ∷ ys) level line more ks h s r =
       let first = arm_from names y.0 others line in
@@ -264,7 +268,8 @@ module _ (names : Names) where
       let b = reads_more_arms (on line) first.0 ys level first.1 more ks (y.1.is_arm no_arm line) s r in
       let front : ArmsSpelled first.0 = arms_front first.0 first.1 ys s in
       let behind : List ℕ = flat_map (λ (a : ArmText). a (codes "ELSIF ") level) (arm_texts ys) in
-      let c = y.1.reads level line (on line) no_arm (codes "IF ") (behind ++ more) b.inner (λ bytes ls rest. reads_lead lead.If (32 ∷ bytes) line ls refl (reads_blank rest)) front b.reads in
+      let c = y.1.reads level line (on line) no_arm (codes "IF ") (behind ++ more) b.inner
+      (λ bytes ls rest. reads_lead lead.If (32 ∷ bytes) line ls refl (reads_blank rest)) front b.reads in
       reads_kinds (c.same ∙ b.same) (reads_as (append_assoc (arm_text names y.0 (codes "IF ") level) behind more) c.reads)
 
   -- Arms of a CASE
@@ -369,7 +374,8 @@ module _ (names : Names) where
       (reads_last level fixed.EndIf (codes "END_IF") more _ ks (λ bytes ls ends rest. reads_fixed fixed.EndIf bytes _ ls refl ends rest) r)))
 
   reads_case_head : (e : Expr) (level line : ℕ) (more : List ℕ) (ks : List Kind) → FormSpelled (expr_form names line e) → ReadsOn (line_after line) more ks
-      → ReadsOn line (line_text level (codes "CASE " ++ expr_text names e ++ codes " OF") ++ more) (kind.Lead lead.Case (on line) ∷ spell (expr_form names line e) (kind.Fixed fixed.Of ∷ ks))
+      → ReadsOn line (line_text level (codes "CASE " ++ expr_text names e ++ codes " OF") ++ more)
+      (kind.Lead lead.Case (on line) ∷ spell (expr_form names line e) (kind.Fixed fixed.Of ∷ ks))
   reads_case_head e level line more ks s r =
       reads_line level (codes "CASE " ++ expr_text names e ++ codes " OF") more
       (reads_as (two (codes "CASE ") (expr_text names e) (codes " OF") (10 ∷ more))
@@ -378,7 +384,8 @@ module _ (names : Names) where
       (reads_blank (reads_fixed fixed.Of (10 ∷ more) line ks refl refl (reads_line_end r)))))))
 
   reads_case : (e : Expr) (arms : List ACase) (other : List AStmt)
-      → ReadsStmt (λ level. line_text level (codes "CASE " ++ expr_text names e ++ codes " OF") ++ flat_map (λ (a : CaseText). a (type_of names e) level) (case_texts arms) ++ else_text level (texts other) ++ line_text level (codes "END_CASE;"))
+      → ReadsStmt (λ level. line_text level (codes "CASE " ++ expr_text names e ++ codes " OF") ++ flat_map (λ (a : CaseText). a (type_of names e) level) (case_texts arms)
+      ++ else_text level (texts other) ++ line_text level (codes "END_CASE;"))
       (λ line. canonical.cases_else_from line (expr_form names line e) (cases_from (type_of names e) no_case (line_after line) (case_froms arms)) (froms other))
   reads_case e arms [] level line more ks s r =
       let ty : StType = type_of names e in
@@ -446,7 +453,8 @@ module _ (names : Names) where
   step : (x : S.Stmt-F Stmt Arm CaseArm) (y : S.Stmt-F AStmt AnArm ACase) → bare y ≡ x → P (roll-Stmt x)
   step x y e =
       subst (λ z. P (roll-Stmt z)) e
-      (subst (λ (t : Text). ReadsStmt t (statement_from names (roll-Stmt (bare y)))) (sym (fold-roll-Stmt Text ArmText CaseText (spelling.statement_step names) (spelling.arm_step names) spelling.case_step (bare y)))
+      (subst (λ (t : Text). ReadsStmt t (statement_from names (roll-Stmt (bare y)))) (sym
+      (fold-roll-Stmt Text ArmText CaseText (spelling.statement_step names) (spelling.arm_step names) spelling.case_step (bare y)))
       (subst (λ (f : FromLine). ReadsStmt (given_text (bare y)) f)
       (sym (fold-roll-Stmt FromLine ArmFromLine CaseFromLine (canonical.statement_step names) (canonical.arm_step names) canonical.case_step (bare y))) (core y)))
 
@@ -479,7 +487,8 @@ module _ (names : Names) where
   step_arm : (x : S.Arm-F Stmt Arm CaseArm) (y : S.Arm-F AStmt AnArm ACase) → bare_arm y ≡ x → PArm (roll-Arm x)
   step_arm x y e =
       subst (λ z. PArm (roll-Arm z)) e
-      (subst (λ (t : ArmText). ReadsArm t (arm_from names (roll-Arm (bare_arm y)))) (sym (fold-roll-Arm Text ArmText CaseText (spelling.statement_step names) (spelling.arm_step names) spelling.case_step (bare_arm y)))
+      (subst (λ (t : ArmText). ReadsArm t (arm_from names (roll-Arm (bare_arm y)))) (sym
+      (fold-roll-Arm Text ArmText CaseText (spelling.statement_step names) (spelling.arm_step names) spelling.case_step (bare_arm y)))
       (subst (λ (f : ArmFromLine). ReadsArm (λ word level. line_text level (word ++ expr_text names y.test ++ codes " THEN") ++ texts_at (level + 1) (texts y.body)) f)
       (sym (fold-roll-Arm FromLine ArmFromLine CaseFromLine (canonical.statement_step names) (canonical.arm_step names) canonical.case_step (bare_arm y))) (reads_arm y.test y.body)))
 
@@ -507,9 +516,11 @@ module _ (names : Names) where
   step_case : (x : S.CaseArm-F Stmt Arm CaseArm) (y : S.CaseArm-F AStmt AnArm ACase) → bare_case y ≡ x → PCase (roll-CaseArm x)
   step_case x y e =
       subst (λ z. PCase (roll-CaseArm z)) e
-      (subst (λ (t : CaseText). ReadsCase t (case_from names (roll-CaseArm (bare_case y)))) (sym (fold-roll-CaseArm Text ArmText CaseText (spelling.statement_step names) (spelling.arm_step names) spelling.case_step (bare_case y)))
+      (subst (λ (t : CaseText). ReadsCase t (case_from names (roll-CaseArm (bare_case y))))
+      (sym (fold-roll-CaseArm Text ArmText CaseText (spelling.statement_step names) (spelling.arm_step names) spelling.case_step (bare_case y)))
       (subst (λ (f : CaseFromLine). ReadsCase (λ ty level. line_text (level + 1) (labels_text ty y.labels ++ codes ":") ++ texts_at (level + 2) (texts y.body)) f)
-      (sym (fold-roll-CaseArm FromLine ArmFromLine CaseFromLine (canonical.statement_step names) (canonical.arm_step names) canonical.case_step (bare_case y))) (reads_case_arm y.labels y.body)))
+      (sym (fold-roll-CaseArm FromLine ArmFromLine CaseFromLine (canonical.statement_step names) (canonical.arm_step names) canonical.case_step (bare_case y)))
+      (reads_case_arm y.labels y.body)))
 
   pub reads_statement : (x : Stmt) → P x
   reads_statement = ind-Stmt P PArm PCase step step_arm step_case

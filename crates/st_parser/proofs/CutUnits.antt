@@ -32,7 +32,8 @@ reads_word_line level f more line ks h r = reads_line level (fixed_text f) more 
 -- Locals
 
 reads_local : (first : Local) (more : List ℕ) (line : ℕ) (ks : List Kind) → is_name first.name ≡ true → ReadsOn (line_after line) more ks
-    → ReadsOn line (local_text first ++ more) (kind.Variable (var.Name first.name) (on line) ∷ kind.Fixed fixed.Colon ∷ kind.Fixed (fixed.Type first.ty) ∷ kind.Fixed fixed.Semicolon ∷ ks)
+    → ReadsOn line (local_text first ++ more) (kind.Variable (var.Name first.name) (on line) ∷ kind.Fixed fixed.Colon ∷ kind.Fixed (fixed.Type first.ty)
+    ∷ kind.Fixed fixed.Semicolon ∷ ks)
 unfolding local_text
 reads_local first more line ks h r =
     reads_line 2 (first.name ++ codes " : " ++ type_word first.ty ++ codes ";") more
@@ -100,7 +101,8 @@ reads_unit text others u line more ks s r =
     let inside_kinds : List Kind = spell_formals formals.0 (spell_temps locals.0 last_kinds) in
     record {
       inner = grammar.unit_word u.program (on line) ∷ kind.Variable (var.Name u.name) (on line) ∷ inside_kinds;
-      reads = reads_as (four (line_text 0 (unit_word u.program ++ codes " " ++ u.name)) (section_text (codes "VAR_IN_OUT") u.formals) (section_text (codes "VAR_TEMP") u.locals) (body_text names 1 u.body)
+      reads = reads_as (four (line_text 0 (unit_word u.program ++ codes " " ++ u.name)) (section_text (codes "VAR_IN_OUT") u.formals)
+          (section_text (codes "VAR_TEMP") u.locals) (body_text names 1 u.body)
           (line_text 0 (codes "END_" ++ unit_word u.program)) more)
           (reads_line 0 (unit_word u.program ++ codes " " ++ u.name) inside
           (reads_as (two (unit_word u.program) (codes " ") u.name (10 ∷ inside))

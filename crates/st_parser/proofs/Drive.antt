@@ -1,14 +1,13 @@
 -- The pass goes over the tokens that an expression spells, and has read it then.
-use Rattle.std.proofs.Common.{◌≡◌, ℕ, suc, ◌+◌, ◌-◌, ◌<◌, ◌≤◌, Bool, true, false, List, [], ◌∷◌, Option, Some, None, refl, sym, ap, ◌∙◌, arith}
-use Rattle.std.specs.Prelude.{max, nat_le, if◌then◌else◌, option_and_then, option_map}
+use Rattle.std.proofs.Common.{◌≡◌, ℕ, suc, ◌+◌, ◌-◌, ◌<◌, ◌≤◌, Bool, true, false, List, [], ◌∷◌, Option, Some, None, refl, ap, ◌∙◌, arith}
+use Rattle.std.specs.Prelude.{nat_le, if◌then◌else◌, option_and_then, option_map}
 use Rattle.std.proofs.lemmas.Bool.Decides.{nat_tests}
 use Rattle.st_parser.specs.Forms.{Form, literal, variable, group, prefix, infix_of, apply, shift, select, Locals, Section}
-use Rattle.st_parser.specs.Grammar.{prefix_level, infix_level, level, is_value, Binds, prefix_kind, spell}
+use Rattle.st_parser.specs.Grammar.{prefix_level, infix_level, level, Binds, prefix_kind, spell}
 use Rattle.st_parser.specs.Levels.{height, levels}
-use Rattle.st_parser.specs.Machine.{written, Frame, unary, left, bracket, argument, waiting, within, only, shifted, shifted_by, gate, first, second, Place, operand, operator, opening, Spot, Top, State, inside}
+use Rattle.st_parser.specs.Machine.{written, Frame, unary, left, bracket, argument, waiting, within, only, shifted, shifted_by, gate, first, second, Place, operand, operator, Spot, Top, State, inside}
 use Rattle.st_parser.specs.Steps.{spot, weakest, limit, Reduced, reduced_to, reduce, with_prefix, waits, leave, next, level_at, mark, Passed, shallower, passes}
 use Rattle.st_parser.specs.declared.kind.Fixed.TheVariants as fixed
-use Rattle.st_parser.specs.declared.kind.Function.TheVariants as function
 use Rattle.st_parser.specs.declared.kind.Kind.{Kind}
 use Rattle.st_parser.specs.declared.kind.Kind.TheVariants as kind
 use Rattle.st_parser.specs.declared.kind.Prefix.{Prefix}

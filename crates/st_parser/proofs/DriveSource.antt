@@ -1,14 +1,14 @@
 -- The pass goes over the tokens that a text spells, and has read it then.
-use Rattle.std.proofs.Common.{◌≡◌, ℕ, zero, suc, ◌≤◌, Bool, true, false, List, [], ◌∷◌, Option, Some, None, refl, sym, ap, subst, ◌∙◌, arith}
-use Rattle.std.specs.Prelude.{max, ◌||◌, if◌then◌else◌, option_map}
+use Rattle.std.proofs.Common.{◌≡◌, ℕ, Bool, true, false, List, [], ◌∷◌, Option, Some, None, refl, ap, ◌∙◌}
+use Rattle.std.specs.Prelude.{◌||◌, if◌then◌else◌, option_map}
 use Rattle.s7_base.specs.declared.reason.Line.{Line}
-use Rattle.st_parser.proofs.Drive.{Unit_read, run, go}
+use Rattle.st_parser.proofs.Drive.{go}
 use Rattle.st_parser.proofs.DriveStatements.{drive_all}
-use Rattle.st_parser.specs.Forms.{Statements, none, Items, no_item, single, times, GlobalType, plain, bytes, Globals, no_global, global, Locals, no_local, local, Section, absent, present, Head, Units, no_unit, unit, Source}
-use Rattle.st_parser.specs.Grammar.{is_direct, is_global, GlobalsFit, FormalsFit, LocalsFit, IfPresent, HeadFits, UnitsFit, SourceFits, AllFit, spell_all, spell_items, spell_type, spell_globals, spell_locals, unit_word, end_word, spell_formals, spell_temps, spell_head, spell_units, spell_source}
-use Rattle.st_parser.specs.Kinds.{is_free, names_block, may_name_global, may_name_local, may_name_unit}
-use Rattle.st_parser.specs.Levels.{levels_all, levels_past, levels_items, levels_type, levels_globals, levels_locals, levels_section, levels_units, levels_source}
-use Rattle.st_parser.specs.Machine.{written, statement, Row, at_place, at_colon, at_type, at_square, at_item, at_comma, at_end, at_word, local_colon, local_type, local_end, Before, Top, Which, formals, temps, State, start, globals, row, between, heading, opened, formals_done, section, typing, inside, over}
+use Rattle.st_parser.specs.Forms.{Statements, Items, no_item, single, times, GlobalType, plain, bytes, Globals, no_global, global, Locals, no_local, local, Section, absent, present, Head, Units, no_unit, unit, Source}
+use Rattle.st_parser.specs.Grammar.{is_global, GlobalsFit, FormalsFit, LocalsFit, IfPresent, HeadFits, UnitsFit, SourceFits, AllFit, spell_all, spell_items, spell_type, spell_globals, spell_locals, unit_word, end_word, spell_formals, spell_temps, spell_head, spell_units, spell_source}
+use Rattle.st_parser.specs.Kinds.{is_free, names_block, may_name_global}
+use Rattle.st_parser.specs.Levels.{levels_all, levels_items, levels_type, levels_globals, levels_locals, levels_section, levels_units, levels_source}
+use Rattle.st_parser.specs.Machine.{written, statement, Row, at_colon, at_type, at_square, at_item, at_comma, at_end, at_word, local_colon, local_end, Before, Top, Which, formals, temps, State, start, globals, row, between, heading, opened, formals_done, section, typing, inside, over}
 use Rattle.st_parser.specs.Steps.{spot, top_of, may_name, may_type, no_spot, ends, Passed, passes}
 use Rattle.st_parser.specs.declared.kind.Fixed.TheVariants as fixed
 use Rattle.st_parser.specs.declared.kind.Kind.{Kind}

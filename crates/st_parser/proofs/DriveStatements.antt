@@ -1,10 +1,10 @@
 -- The pass goes over the tokens that statements spell, and has read them then.
-use Rattle.std.proofs.Common.{◌≡◌, ℕ, suc, ◌≤◌, Bool, true, false, List, [], ◌∷◌, Option, Some, None, refl, sym, ap, ◌∙◌, arith}
-use Rattle.std.specs.Prelude.{max, if◌then◌else◌, option_map}
+use Rattle.std.proofs.Common.{◌≡◌, ℕ, suc, Bool, true, List, ◌∷◌, Option, Some, None, refl, ap, ◌∙◌}
+use Rattle.std.specs.Prelude.{if◌then◌else◌, option_map}
 use Rattle.s7_base.specs.declared.reason.Line.{Line}
 use Rattle.st_parser.proofs.Drive.{Unit_read, run, go, level_most, close, comma, drive}
 use Rattle.st_parser.specs.Forms.{Form, Actuals, no_actual, actual, Labels, label, more_labels, Statement, assign, write, invoke, choice, choice_else, cases, cases_else, loop, jump, Statements, none, empty, further, Arms, no_arm, arm, CaseArms, no_case, case_arm}
-use Rattle.st_parser.specs.Grammar.{is_value, Binds, may_jump, LabelsFit, Fits, AllFit, ArmsFit, CasesFit, arm_word, spell, spell_actuals, spell_labels, spell_one, spell_all, spell_arms, spell_cases}
+use Rattle.st_parser.specs.Grammar.{is_value, Binds, LabelsFit, Fits, AllFit, ArmsFit, CasesFit, arm_word, spell, spell_actuals, spell_labels, spell_one, spell_all, spell_arms, spell_cases}
 use Rattle.st_parser.specs.Levels.{levels, levels_actuals, levels_labels, levels_one, levels_all, levels_arms, levels_cases}
 use Rattle.st_parser.specs.Machine.{written, Begun, Frame, waiting, within, to_var, to_area, area_value, test, selector, loop_test, choosing, otherwise, looping, selecting, otherwise_case, first_formal, given, first_label, labelled, statement, part, closing, operand, Spot, inside}
 use Rattle.st_parser.specs.Steps.{spot, in_loop, begun, Passed}

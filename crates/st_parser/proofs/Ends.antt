@@ -1,5 +1,5 @@
 -- At the end of a text the pass is over.
-use Rattle.std.proofs.Common.{◌≡◌, ℕ, Bool, true, false, List, [], ◌∷◌, ◌++◌, Option, Some, None, Result, Ok, Err, refl, sym, ap, subst, ◌∙◌}
+use Rattle.std.proofs.Common.{◌≡◌, ℕ, Bool, true, false, List, [], ◌∷◌, ◌++◌, Option, Some, None, Result, Ok, Err, refl, sym, subst}
 use Rattle.std.specs.Prelude.{IfSome, nat_lt, if◌then◌else◌, option_map}
 use Rattle.s7_base.specs.declared.reason.Line.{Line}
 use Rattle.s7_base.specs.declared.reason.Reason.TheVariants.{TooDeep}
@@ -9,12 +9,11 @@ use Rattle.st_parser.specs.Judge.{turn, reached, judged, on_good, judge}
 use Rattle.st_parser.specs.Levels.{deepest}
 use Rattle.st_parser.specs.Machine as machine
 use Rattle.st_parser.specs.Machine.{code, Frame, unary, left, bracket, argument, waiting, within, Argument, Use, Body, Part, target, write_open, first_formal, next_formal, becoming, giving, given, first_label, next_label, labelled, Place, statement, part, closing, operand, operator, opening, Spot, Row, State, start, globals, row, between, heading, opened, formals_done, section, typing, inside, over, Which, formals, temps}
-use Rattle.st_parser.specs.Steps.{weakest, reduce, closed, in_body, at_target, at_call, at_part, step_at, row_step, row_array, row_items, is_array, at_row, at_inside, at_typing, next, mark}
+use Rattle.st_parser.specs.Steps.{weakest, reduce, closed, in_body, at_part, step_at, row_step, at_typing, next}
 use Rattle.st_parser.specs.Syntax.{Lined, end_on}
 use Rattle.st_parser.specs.declared.kind.Fixed.TheVariants as fixed
 use Rattle.st_parser.specs.declared.kind.Kind.{Kind}
 use Rattle.st_parser.specs.declared.kind.Kind.TheVariants as kind
-use Rattle.st_tree.specs.declared.raw.RawVar.{RawVar}
 use Rattle.st_tree.specs.declared.raw.RawVar.TheVariants as var
 
 abbrev end : Kind

@@ -1,18 +1,17 @@
 -- What the pass says of a text's tokens: where it stops is the first that cannot follow, where a level
 -- is too great the first that makes one, and at the end it has read the text.
-use Rattle.std.proofs.Common.{◌≡◌, ℕ, zero, suc, ◌<◌, ◌≤◌, Bool, true, false, List, [], ◌∷◌, ◌++◌, length, drop, map, Option, Some, None, refl, sym, ap, subst, ◌∙◌, arith, append_assoc, append-nil}
+use Rattle.std.proofs.Common.{◌≡◌, ℕ, zero, suc, ◌<◌, ◌≤◌, List, [], ◌∷◌, ◌++◌, length, drop, Option, Some, None, refl, sym, ap, subst, ◌∙◌, append_assoc, append-nil}
 use Rattle.std.specs.Prelude.{IfSome, option_and_then, option_map}
 use Rattle.std.proofs.lemmas.List.{map-append}
-use Rattle.s7_base.specs.declared.reason.Line.{Line}
 use Rattle.st_parser.proofs.Bare.{bare, bare_before, next_bare, mark_bare}
 use Rattle.st_parser.proofs.DriveSource.{finished, drive_source}
 use Rattle.st_parser.proofs.Finish.{Ends, finishes}
 use Rattle.st_parser.proofs.Kept.{past, Shaped, Kept}
 use Rattle.st_parser.proofs.KeptText.{kept}
 use Rattle.st_parser.specs.Forms.{Source}
-use Rattle.st_parser.specs.Grammar.{SourceFits, spell_source, raw_tree}
+use Rattle.st_parser.specs.Grammar.{spell_source, raw_tree}
 use Rattle.st_parser.specs.Levels.{deepest, levels_source}
-use Rattle.st_parser.specs.Machine.{written, code, Before, State, start, globals, row, between, heading, opened, formals_done, section, typing, inside, over}
+use Rattle.st_parser.specs.Machine.{written, code, Before, State, start, over}
 use Rattle.st_parser.specs.Steps.{next, mark, Passed, passes}
 use Rattle.st_parser.specs.Syntax.{Lined, kinds, Reads, AllWithin, Begins, levels_in, BeginsWithin, FirstWrong, FirstDeep}
 use Rattle.st_parser.specs.declared.kind.Kind.{Kind}

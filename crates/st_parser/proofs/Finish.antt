@@ -1,17 +1,17 @@
 -- Each state of the pass can be finished: tokens lead from it to the end of a text.
-use Rattle.std.proofs.Common.{◌≡◌, ℕ, suc, ◌-◌, ◌<◌, ◌≤◌, Bool, true, false, List, [], ◌∷◌, ◌++◌, Option, Some, None, refl, sym, ap, ◌∙◌, arith}
+use Rattle.std.proofs.Common.{◌≡◌, ℕ, suc, ◌-◌, ◌<◌, ◌≤◌, Bool, true, false, List, [], ◌∷◌, ◌++◌, Option, Some, None, refl, ap, ◌∙◌, arith}
 use Rattle.std.specs.Prelude.{pos, codes, ◌||◌, if◌then◌else◌, option_map}
 use Rattle.s7_base.specs.declared.reason.Line.{Line}
 use Rattle.memory_areas.specs.declared.place.AreaName.TheVariants.{Db}
 use Rattle.s7_base.specs.declared.word.Width.TheVariants as width
 use Rattle.st_parser.proofs.Drive.{Unit_read, within_unit, run, go, Lets, close, comma, past_unary, past_left, infix_some}
 use Rattle.st_parser.proofs.DriveSource.{with_unit, unit_left}
-use Rattle.st_parser.proofs.Kept.{InStatements, InExpr, PlaceFits, RowFits, WhichFits, Shaped}
-use Rattle.st_parser.specs.Forms.{Form, literal, group, prefix, infix_of, apply, shift, select, Actuals, actual, Labels, label, more_labels, Items, single, times, no_unit, none, local, Statement, choice, choice_else, cases, cases_else, loop, Statements, further, Arms, arm, CaseArms, case_arm, Globals, GlobalType, plain, bytes, no_item, Locals, no_local, Section, absent, present, Head}
-use Rattle.st_parser.specs.Grammar.{infix_level, level, Binds, is_global, end_word}
+use Rattle.st_parser.proofs.Kept.{InStatements, InExpr, PlaceFits, Shaped}
+use Rattle.st_parser.specs.Forms.{Form, literal, group, prefix, infix_of, apply, shift, select, Actuals, actual, Labels, label, more_labels, Items, single, times, no_unit, none, local, Statement, choice, choice_else, cases, cases_else, loop, Statements, further, arm, CaseArms, case_arm, Globals, GlobalType, plain, bytes, no_item, Locals, Section, absent, present}
+use Rattle.st_parser.specs.Grammar.{infix_level, level, Binds, end_word}
 use Rattle.st_parser.specs.Kinds.{is_free, names_block, may_name_global}
-use Rattle.st_parser.specs.Machine.{written, Begun, only, shifted, shifted_by, gate, first, second, to_var, to_area, area_value, test, selector, loop_test, choosing, otherwise, looping, selecting, otherwise_case, Frame, unary, left, bracket, argument, waiting, within, Part, target, write_open, first_formal, next_formal, becoming, giving, given, first_label, next_label, labelled, Place, statement, part, closing, operand, operator, opening, Spot, Row, at_word, at_place, at_colon, at_type, at_square, at_zero, at_dots, at_last, at_close, at_of, at_byte, at_becomes, at_open, at_item, at_count, at_value, at_value_end, at_comma, at_end, Typing, local_colon, local_type, local_end, Before, Top, Which, formals, temps, State, start, globals, row, between, heading, opened, formals_done, section, typing, inside, over}
-use Rattle.st_parser.specs.Steps.{spot, shallower, limit, may_type, no_spot, Passed, passes}
+use Rattle.st_parser.specs.Machine.{written, Begun, only, shifted, shifted_by, gate, first, second, to_var, to_area, area_value, test, selector, loop_test, choosing, otherwise, looping, selecting, otherwise_case, Frame, unary, left, bracket, argument, waiting, within, Part, target, write_open, first_formal, next_formal, becoming, giving, given, first_label, next_label, labelled, Place, statement, part, closing, operand, operator, opening, Row, at_word, at_place, at_colon, at_type, at_square, at_zero, at_dots, at_last, at_close, at_of, at_byte, at_becomes, at_open, at_item, at_count, at_value, at_value_end, at_comma, at_end, Typing, local_colon, local_type, local_end, Before, Top, Which, formals, temps, State, start, globals, row, between, heading, opened, formals_done, section, typing, inside, over}
+use Rattle.st_parser.specs.Steps.{shallower, limit, no_spot, passes}
 use Rattle.st_parser.specs.declared.kind.Fixed.TheVariants as fixed
 use Rattle.st_parser.specs.declared.kind.Function.{Function}
 use Rattle.st_parser.specs.declared.kind.Function.TheVariants as function

@@ -1,15 +1,15 @@
 -- The pass keeps in its state what it has passed, and what is open stands in order.
-use Rattle.std.proofs.Common.{◌≡◌, ℕ, suc, ◌-◌, ◌<◌, ◌≤◌, Bool, true, false, List, [], ◌∷◌, Option, Some, None, refl, sym, ap, subst, ◌∙◌, arith}
-use Rattle.std.specs.Prelude.{IfSome, nat_le, ◌||◌, if◌then◌else◌, option_map}
+use Rattle.std.proofs.Common.{◌≡◌, ℕ, suc, ◌-◌, ◌<◌, ◌≤◌, Bool, true, false, List, [], ◌∷◌, Option, Some, None, refl, sym, ap, ◌∙◌, arith}
+use Rattle.std.specs.Prelude.{IfSome, nat_le, if◌then◌else◌}
 use Rattle.std.proofs.lemmas.Bool.Decides.{nat_tests}
 use Rattle.s7_base.specs.declared.reason.Line.{Line}
 use Rattle.st_parser.proofs.Drive.{infix_most, infix_some}
 use Rattle.st_parser.proofs.DriveSource.{Declared}
-use Rattle.st_parser.specs.Forms.{Form, prefix, infix_of, Actuals, no_actual, actual, Labels, label, more_labels, Statement, Statements, none, empty, further, Arms, no_arm, arm, CaseArms, no_case, case_arm, Items, no_item, single, times, GlobalType, plain, bytes, Globals, no_global, Locals, no_local, Section, absent, present, Head, Units, no_unit, unit, Source}
-use Rattle.st_parser.specs.Grammar.{prefix_level, infix_level, level, is_value, Binds, may_jump, LabelsFit, HasArm, HasCase, Fits, AllFit, ArmsFit, CasesFit, is_direct, is_global, GlobalsFit, is_formal_type, FormalsFit, LocalsFit, IfPresent, HeadFits, UnitsFit, SourceFits, prefix_kind, spell, comma_behind, spell_actuals, spell_labels, arm_word, spell_one, spell_all, spell_arms, spell_cases, comma_past, spell_items, spell_type, spell_globals, spell_locals, unit_word, end_word, spell_section, spell_formals, spell_temps, spell_head, spell_units, spell_source}
-use Rattle.st_parser.specs.Kinds.{is_free, names_block, may_name_global, may_name_local, may_name_unit}
+use Rattle.st_parser.specs.Forms.{Form, prefix, infix_of, Actuals, no_actual, actual, Labels, label, more_labels, Statement, Statements, CaseArms, Items, no_item, single, times}
+use Rattle.st_parser.specs.Grammar.{prefix_level, infix_level, level, is_value, Binds, may_jump, LabelsFit, HasArm, HasCase, Fits, AllFit, ArmsFit, CasesFit, is_direct, is_global, GlobalsFit, LocalsFit, IfPresent, HeadFits, UnitsFit, prefix_kind, spell, comma_behind, spell_actuals, spell_labels, arm_word, spell_one, spell_all, spell_arms, spell_cases, comma_past, spell_items, spell_type, spell_globals, spell_locals, unit_word, spell_section, spell_formals, spell_temps, spell_head, spell_units}
+use Rattle.st_parser.specs.Kinds.{names_block, may_name_global, may_name_unit}
 use Rattle.st_parser.specs.Machine.{written, Begun, Argument, only, shifted, shifted_by, gate, first, second, Use, to_var, to_area, area_value, test, selector, loop_test, Body, choosing, otherwise, looping, selecting, otherwise_case, Frame, unary, left, bracket, argument, waiting, within, Part, target, write_open, first_formal, next_formal, becoming, giving, given, first_label, next_label, labelled, Place, statement, part, closing, operand, operator, opening, Spot, Row, at_word, at_place, at_colon, at_type, at_square, at_zero, at_dots, at_last, at_close, at_of, at_byte, at_becomes, at_open, at_item, at_count, at_value, at_value_end, at_comma, at_end, Typing, local_colon, local_type, local_end, Before, Top, Which, formals, temps, State, start, globals, row, between, heading, opened, formals_done, section, typing, inside, over}
-use Rattle.st_parser.specs.Steps.{spot, shallower, weakest, limit, Reduced, reduce, reduced_to, with_prefix, argument_closed, use_closed, closed, waits, in_loop, body_closed, in_body, begun, at_lead, at_statement, at_target, at_label, at_call, at_part, at_closing, at_operand, at_opening, at_operator, step_at, row_type, row_place, row_array, row_items, row_step, row_end, at_row, is_zero, at_globals, before_units, top_of, may_name, may_type, no_spot, section_end, at_between, at_start, at_heading, at_section, at_typing, ends, leave, at_inside, at_formals_done, at_opened, next}
+use Rattle.st_parser.specs.Steps.{spot, shallower, weakest, limit, Reduced, reduce, reduced_to, with_prefix, argument_closed, use_closed, closed, waits, in_loop, body_closed, in_body, at_lead, at_statement, at_target, at_label, at_part, at_closing, at_operand, at_opening, at_operator, step_at, may_name, may_type}
 use Rattle.st_parser.specs.declared.kind.Fixed.TheVariants as fixed
 use Rattle.st_parser.specs.declared.kind.Function.{Function}
 use Rattle.st_parser.specs.declared.kind.Function.TheVariants as function
@@ -23,7 +23,6 @@ use Rattle.st_parser.specs.declared.kind.Prefix.{Prefix}
 use Rattle.st_parser.specs.declared.kind.Prefix.TheVariants as before
 use Rattle.st_tree.specs.declared.expr.BinaryOp.{BinaryOp}
 use Rattle.st_tree.specs.declared.expr.BinaryOp.TheVariants as binary
-use Rattle.st_tree.specs.declared.expr.StType.{StType}
 use Rattle.st_tree.specs.declared.expr.StType.TheVariants as type
 use Rattle.st_tree.specs.declared.raw.RawVar.{RawVar}
 use Rattle.st_tree.specs.declared.raw.RawVar.TheVariants as var

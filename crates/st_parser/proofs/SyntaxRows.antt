@@ -1,20 +1,19 @@
 -- Worked rows of the syntax.
-use Rattle.std.proofs.Common.{◌≡◌, ℕ, suc, ◌≤◌, ◌<◌, Bool, true, false, List, [], ◌∷◌, Option, Some, None, refl, arith}
+use Rattle.std.proofs.Common.{◌≡◌, ℕ, ◌≤◌, ◌<◌, true, false, List, [], ◌∷◌, Some, refl, arith}
 use Rattle.std.specs.Prelude.{pos, codes}
-use Rattle.memory_areas.specs.declared.place.AreaName.TheVariants.{Db, M}
+use Rattle.memory_areas.specs.declared.place.AreaName.TheVariants.{Db}
 use Rattle.s7_base.specs.declared.reason.Line.{Line}
 use Rattle.s7_base.specs.declared.word.Width.TheVariants as width
 use Rattle.st_tree.specs.declared.token.StKind.{StKind}
 use Rattle.st_tree.specs.declared.token.StKind.TheVariants as sort
 use Rattle.st_tree.specs.declared.token.StToken.{StToken}
-use Rattle.st_parser.specs.Forms.{Form, literal, variable, group, prefix, infix_of, select, Labels, label, more_labels, Statement, assign, choice, choice_else, cases_else, jump, Statements, none, empty, further, no_arm, arm, no_case, case_arm, no_item, single, times, plain, bytes, Globals, no_global, global, no_local, local, absent, present, no_unit, unit, Source}
-use Rattle.st_parser.specs.Grammar.{Binds, Fits, is_global, spell, spell_one, spell_globals, spell_source, tree, tree_globals, raw_tree, on_line, arm_of, case_of}
+use Rattle.st_parser.specs.Forms.{Form, literal, variable, group, prefix, infix_of, label, more_labels, assign, choice_else, cases_else, jump, Statements, none, empty, further, no_arm, arm, no_case, case_arm, no_item, single, times, plain, bytes, Globals, no_global, global, absent, no_unit, unit, Source}
+use Rattle.st_parser.specs.Grammar.{Binds, Fits, is_global, spell, spell_one, spell_globals, spell_source, tree, tree_globals, raw_tree, on_line, arm_of}
 use Rattle.st_parser.specs.Kinds.{kind_of, word_named, word_text, sign_named, is_free, may_name_local, may_name_unit, may_name_global}
 use Rattle.st_parser.specs.Levels.{levels, levels_source}
 use Rattle.st_parser.specs.declared.kind.Fixed.TheVariants as fixed
 use Rattle.st_parser.specs.declared.kind.Function.TheVariants as function
 use Rattle.st_parser.specs.declared.kind.Jump.TheVariants as jump_word
-use Rattle.st_parser.specs.declared.kind.Kind.{Kind}
 use Rattle.st_parser.specs.declared.kind.Kind.TheVariants as kind
 use Rattle.st_parser.specs.declared.kind.Lead.TheVariants as lead
 use Rattle.st_parser.specs.declared.kind.Literal.TheVariants as lit

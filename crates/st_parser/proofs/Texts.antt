@@ -6,7 +6,7 @@ use Rattle.s7_base.specs.declared.reason.Rejection.{Rejection}
 use Rattle.s7_base.specs.declared.reason.Rejection.TheVariants as rejection
 use Rattle.st_parser.proofs.Nesting.{nests_within}
 use Rattle.st_parser.specs.Syntax.{HasRawTree}
-use Rattle.st_parser.specs.Texts.{IsRefusedAs, IsRefusedText, by_rules}
+use Rattle.st_parser.specs.Texts.{IsRefusedAs, by_rules}
 use Rattle.st_tree.specs.Runnable.{IsRunnable}
 use Rattle.st_tree.specs.declared.program.StProgram.{StProgram}
 use Rattle.st_tree.specs.declared.raw.RawSt.{RawSt}

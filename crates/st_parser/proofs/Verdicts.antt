@@ -1,5 +1,5 @@
 -- The judgement of a text's tokens says exactly what the text is.
-use Rattle.std.proofs.Common.{◌≡◌, ℕ, ◌<◌, ◌≤◌, Bool, true, false, List, [], ◌∷◌, ◌++◌, Option, Some, None, Result, Ok, Err, refl, sym, ap, subst, ◌∙◌, arith, append_assoc, append-nil}
+use Rattle.std.proofs.Common.{◌≡◌, ℕ, ◌<◌, ◌≤◌, Bool, true, false, List, [], ◌∷◌, ◌++◌, Option, Some, None, Result, Ok, Err, refl, sym, subst, arith, append_assoc, append-nil}
 use Rattle.std.specs.Prelude.{nat_lt, if◌then◌else◌}
 use Rattle.std.proofs.lemmas.Bool.Decides.{nat_tests}
 use Rattle.s7_base.specs.declared.reason.Line.{Line}
@@ -7,15 +7,13 @@ use Rattle.s7_base.specs.declared.reason.Reason.{Reason}
 use Rattle.s7_base.specs.declared.reason.Reason.TheVariants as reason
 use Rattle.s7_base.specs.declared.reason.Rejection.{Rejection}
 use Rattle.s7_base.specs.declared.reason.Rejection.TheVariants.{Refused, NoMemory}
-use Rattle.st_parser.proofs.Exact.{Read, none_read, read_more, wrong_at, deep_at, ReadAll, read_all, raw_of}
+use Rattle.st_parser.proofs.Exact.{Read, none_read, read_more, wrong_at, deep_at}
 use Rattle.st_parser.specs.Judge.{turn, reached, judged, on_good, judge}
 use Rattle.st_parser.specs.Levels.{deepest}
-use Rattle.st_parser.specs.Machine.{code, Before, State, start, globals, row, between, heading, opened, formals_done, section, typing, inside, over}
+use Rattle.st_parser.specs.Machine.{code, State, start}
 use Rattle.st_parser.specs.Steps.{next, mark}
-use Rattle.st_parser.specs.Syntax.{Lined, end_on, FirstWrong, FirstDeep}
-use Rattle.st_parser.specs.declared.kind.Fixed.TheVariants as fixed
+use Rattle.st_parser.specs.Syntax.{Lined, FirstWrong, FirstDeep}
 use Rattle.st_parser.specs.declared.kind.Kind.{Kind}
-use Rattle.st_parser.specs.declared.kind.Kind.TheVariants as kind
 
 -- what a refusal says
 abbrev pub Refuses : List Lined → Line → Reason → Type 0

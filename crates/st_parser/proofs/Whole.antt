@@ -1,5 +1,5 @@
 -- What the judgement of a text's tokens says of the text.
-use Rattle.std.proofs.Common.{◌≡◌, ℕ, false, List, [], ◌∷◌, ◌++◌, map, Option, Some, None, Result, Ok, Err, refl, sym, ap, subst, ◌∙◌}
+use Rattle.std.proofs.Common.{◌≡◌, ℕ, false, List, map, Option, Some, None, Result, Ok, Err, refl, sym, subst}
 use Rattle.s7_base.specs.Tokens.{line_at_end}
 use Rattle.s7_base.specs.declared.reason.Line.{Line}
 use Rattle.s7_base.specs.declared.reason.Reason.{Reason}
@@ -9,15 +9,15 @@ use Rattle.s7_base.specs.declared.reason.Rejection.TheVariants.{Refused, NoMemor
 use Rattle.st_lexer.specs.Answers.{Answers}
 use Rattle.st_lexer.specs.StTokens.{answer, cut_from, first_bad, great_from, tokens_of}
 use Rattle.st_tree.specs.declared.token.StToken.{StToken}
-use Rattle.st_parser.proofs.Ends.{IsOver, ends_over}
-use Rattle.st_parser.proofs.Exact.{Read, ReadAll, read_all, raw_of}
+use Rattle.st_parser.proofs.Ends.{ends_over}
+use Rattle.st_parser.proofs.Exact.{Read, read_all, raw_of}
 use Rattle.st_parser.proofs.Verdicts.{Refuses, Says, says}
 use Rattle.st_parser.specs.Answers.{IfRefused}
 use Rattle.st_parser.specs.Judge.{HasText, judge, text_in}
 use Rattle.st_parser.specs.Machine.{code, Before, State, start, over}
 use Rattle.st_parser.specs.declared.state.Before.{Before as Found}
 use Rattle.st_tree.specs.declared.raw.RawSt.{RawSt}
-use Rattle.st_parser.specs.Syntax.{Lined, lined, all_lined, HasLined, HasRawTree, IsSyntaxRefused}
+use Rattle.st_parser.specs.Syntax.{lined, all_lined, HasRawTree, IsSyntaxRefused}
 
 -- a text whose tokens are judged good has the tree of its end
 pub tree_of : (bytes : List ℕ) (tokens : List StToken) (q : State code) (text : Before code) → tokens_of bytes ≡ Ok tokens → judge start (all_lined tokens (line_at_end bytes)) ≡ Ok q → text_in q ≡ Some text

@@ -1,12 +1,11 @@
 -- The judgement of the parser's pass over a text's tokens. Private: no public clause names it.
-use Rattle.std.specs.Prelude.{◌≡◌, ℕ, Bool, nat_lt, if◌then◌else◌, List, [], ◌∷◌, Option, Some, None, Result, Ok, Err}
+use Rattle.std.specs.Prelude.{◌≡◌, ℕ, nat_lt, if◌then◌else◌, List, [], ◌∷◌, Option, Some, None, Result, Ok, Err}
 use Rattle.s7_base.specs.declared.reason.Line.{Line}
-use Rattle.s7_base.specs.declared.reason.Reason.{Reason}
 use Rattle.s7_base.specs.declared.reason.Reason.TheVariants.{BadSyntax, TooDeep}
 use Rattle.s7_base.specs.declared.reason.Rejection.{Rejection}
 use Rattle.s7_base.specs.declared.reason.Rejection.TheVariants.{Refused, NoMemory}
 use Rattle.st_parser.specs.Levels.{deepest}
-use Rattle.st_parser.specs.Machine.{code, Before, State, start, globals, row, between, heading, opened, formals_done, section, typing, inside, over}
+use Rattle.st_parser.specs.Machine.{code, Before, State, over}
 use Rattle.st_parser.specs.Steps.{next, mark}
 use Rattle.st_parser.specs.Syntax.{Lined}
 use Rattle.st_parser.specs.Views.{state_of}

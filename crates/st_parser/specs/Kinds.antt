@@ -1,9 +1,8 @@
 -- What a token stands for in the grammar, by tables of words and signs.
-use Rattle.std.specs.Prelude.{ℕ, ◌+◌, ◌-◌, ◌^◌, min, ℤ, pos, neg_ℤ, Bool, true, false, not, ◌==◌, ◌&&◌, ◌||◌, nat_lt, if◌then◌else◌, List, [], ◌∷◌, length, take, drop, map, codes, Option, Some, None}
+use Rattle.std.specs.Prelude.{ℕ, ◌-◌, ◌^◌, min, pos, Bool, true, false, not, ◌==◌, ◌&&◌, ◌||◌, nat_lt, if◌then◌else◌, List, [], ◌∷◌, length, take, drop, codes, Option, Some, None}
 use Rattle.std.specs.List.{prefix_len, list_all, find}
 use Rattle.s7_base.specs.Tokens.{is_between, is_same_word, is_among}
 use Rattle.s7_base.specs.declared.reason.Line.{Line}
-use Rattle.s7_base.specs.declared.word.Width.{Width}
 use Rattle.s7_base.specs.declared.word.Width.TheVariants as width
 use Rattle.st_lexer.specs.Direct.{direct_of}
 use Rattle.st_lexer.specs.Literals.{type_named, base_at, begins_with_digit, literal_at, signed, is_in_range}

@@ -1,5 +1,5 @@
 -- The parser's pass over the tokens, one step for each. Private: no public clause names it.
-use Rattle.std.specs.Prelude.{ℕ, zero, suc, ◌+◌, ◌-◌, max, Bool, true, false, ◌||◌, ◌&&◌, nat_le, nat_lt, if◌then◌else◌, List, [], ◌∷◌, Option, Some, None, option_and_then, option_map}
+use Rattle.std.specs.Prelude.{ℕ, zero, suc, ◌+◌, ◌-◌, Bool, true, false, ◌||◌, nat_le, if◌then◌else◌, List, [], ◌∷◌, Option, Some, None, option_and_then, option_map}
 use Rattle.s7_base.specs.declared.reason.Line.{Line}
 use Rattle.st_parser.specs.Grammar.{prefix_level, infix_level, is_value, may_jump, is_direct, is_formal_type}
 use Rattle.st_parser.specs.Kinds.{is_free, names_block, may_name_global, may_name_local, may_name_unit}

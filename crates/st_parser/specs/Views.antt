@@ -1,5 +1,5 @@
 -- The code's states as those of the pass. Private: no public clause names them.
-use Rattle.std.specs.Prelude.{ℕ, List, map, reverse}
+use Rattle.std.specs.Prelude.{List, map, reverse}
 use Rattle.st_parser.specs.Machine as machine
 use Rattle.st_parser.specs.Machine.{code}
 use Rattle.st_parser.specs.Steps.{spot, Reduced, reduced_to}

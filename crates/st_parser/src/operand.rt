@@ -1,10 +1,10 @@
 //! Steps of the parser in expressions.
-ghost use Rattle.std.specs.Prelude.{◌≡◌, length, IfOk, option_map};
-ghost use Rattle.st_parser.specs.Machine.{code, to_var, area_value};
-ghost use Rattle.st_parser.specs.Steps.{limit, reduce, function_argument, with_prefix, at_operand, at_opening, close_argument, next_argument, argument_closed, use_closed, closed, at_operator, weakest};
+ghost use Rattle.std.specs.Prelude.{◌≡◌, ◌∷◌, Some, length, IfOk, option_map};
+ghost use Rattle.st_parser.specs.Machine.{code, first_label, no_cases, no_statements, part, statement, to_area, to_var, area_value, within};
+ghost use Rattle.st_parser.specs.Steps.{spot, limit, reduce, function_argument, with_prefix, at_operand, at_opening, close_argument, next_argument, argument_closed, use_closed, closed, at_operator, weakest};
 ghost use Rattle.st_parser.specs.declared.kind.Fixed.TheVariants as fixed;
 ghost use Rattle.st_parser.specs.declared.kind.Kind.TheVariants as kind;
-ghost use Rattle.st_parser.specs.Views.{argument_of, begun_of, use_of, stack_of, spot_of, reduced_of};
+ghost use Rattle.st_parser.specs.Views.{argument_of, begun_of, body_of, use_of, stack_of, spot_of, reduced_of};
 
 use crate::expression::{
     Measured, infix_level, is_value, of_apply, of_infix, of_literal, of_prefix, of_select,
@@ -266,11 +266,64 @@ fn written(
     }))
 }
 
+/// The place of an AREA_WRITE ends, and its value begins.
+fn value_next(
+    depth: usize,
+    mut frames: Vec<Frame>,
+    begun: Begun,
+    width: Width,
+    operand: Measured,
+) -> Result<Option<Spot>, NoMemory>
+    ensures { IfOk result (λ o. option_map spot_of o ≡ use_closed code depth (stack_of frames.items) (begun_of begun) (to_area width) operand (kind.Fixed fixed.Comma)) }
+{
+    frames.push(Frame::Waiting(begun, Use::AreaValue(width, operand)))?;
+    Ok(Some(Spot {
+        depth,
+        frames,
+        place: Place::Operand,
+    }))
+}
+
+/// The statements inside of one that has begun are next.
+fn body_next(
+    alloc: Global,
+    depth: usize,
+    mut frames: Vec<Frame>,
+    begun: Begun,
+    body: Body,
+) -> Result<Option<Spot>, NoMemory>
+    ensures { IfOk result (λ o. option_map spot_of o ≡ Some (spot code depth (within (begun_of begun) (body_of body) ∷ stack_of frames.items) (statement (no_statements code)))) }
+{
+    frames.push(Frame::Within(begun, body))?;
+    Ok(Some(Spot {
+        depth,
+        frames,
+        place: Place::Statement(List::new(alloc)),
+    }))
+}
+
+/// The labels of a CASE are next.
+fn labels_next(
+    alloc: Global,
+    depth: usize,
+    frames: Vec<Frame>,
+    begun: Begun,
+    selector: Measured,
+) -> Spot
+    ensures { spot_of result ≡ spot code depth (stack_of frames.items) (part (begun_of begun) (first_label selector (no_cases code))) }
+{
+    Spot {
+        depth,
+        frames,
+        place: Place::Part(begun, Part::FirstLabel(selector, List::new(alloc))),
+    }
+}
+
 /// The expression that a statement needs ends.
 fn use_closed(
     alloc: Global,
     depth: usize,
-    mut frames: Vec<Frame>,
+    frames: Vec<Frame>,
     begun: Begun,
     need: Use,
     operand: Measured,
@@ -278,51 +331,38 @@ fn use_closed(
 ) -> Result<Option<Spot>, NoMemory>
     ensures { IfOk result (λ o. option_map spot_of o ≡ use_closed code depth (stack_of frames.items) (begun_of begun) (use_of need) operand kind) }
 {
-    let place = match need {
+    match need {
         Use::ToVar(var) => match kind {
-            Kind::Fixed(Fixed::Semicolon) => return assigned(depth, frames, begun, var, operand),
-            _ => return Ok(None),
+            Kind::Fixed(Fixed::Semicolon) => assigned(depth, frames, begun, var, operand),
+            _ => Ok(None),
         },
         Use::ToArea(width) => match kind {
-            Kind::Fixed(Fixed::Comma) => {
-                frames.push(Frame::Waiting(begun, Use::AreaValue(width, operand)))?;
-                Place::Operand
-            }
-            _ => return Ok(None),
+            Kind::Fixed(Fixed::Comma) => value_next(depth, frames, begun, width, operand),
+            _ => Ok(None),
         },
         Use::AreaValue(width, pointer) => match kind {
             Kind::Fixed(Fixed::Close) => {
-                return written(alloc, depth, frames, begun, width, pointer, operand);
+                written(alloc, depth, frames, begun, width, pointer, operand)
             }
-            _ => return Ok(None),
+            _ => Ok(None),
         },
         Use::Test(arms) => match kind {
             Kind::Fixed(Fixed::Then) => {
-                frames.push(Frame::Within(begun, Body::Choosing(arms, operand)))?;
-                Place::Statement(List::new(alloc))
+                body_next(alloc, depth, frames, begun, Body::Choosing(arms, operand))
             }
-            _ => return Ok(None),
+            _ => Ok(None),
         },
         Use::Selector => match kind {
-            Kind::Fixed(Fixed::Of) => Place::Part(
-                begun,
-                Part::FirstLabel(operand, List::new(alloc)),
-            ),
-            _ => return Ok(None),
+            Kind::Fixed(Fixed::Of) => Ok(Some(labels_next(alloc, depth, frames, begun, operand))),
+            _ => Ok(None),
         },
         Use::LoopTest => match kind {
             Kind::Fixed(Fixed::Do) => {
-                frames.push(Frame::Within(begun, Body::Looping(operand)))?;
-                Place::Statement(List::new(alloc))
+                body_next(alloc, depth, frames, begun, Body::Looping(operand))
             }
-            _ => return Ok(None),
+            _ => Ok(None),
         },
-    };
-    Ok(Some(Spot {
-        depth,
-        frames,
-        place,
-    }))
+    }
 }
 
 /// An expression ends at a token that is no operator.

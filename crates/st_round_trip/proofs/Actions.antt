@@ -1,5 +1,5 @@
 -- What a statement is in the tree, its calls and its canonical form, at each variant.
-use Rattle.std.proofs.Common.{◌≡◌, ℕ, ◌++◌, ℤ, List, [], ◌∷◌, map, refl, sym, ap, ◌∙◌}
+use Rattle.std.proofs.Common.{◌≡◌, ℕ, ◌++◌, ℤ, List, [], map, sym, ap, ◌∙◌}
 use Rattle.s7_base.specs.declared.reason.Line.{Line}
 use Rattle.s7_base.specs.declared.word.Width.{Width}
 use Rattle.st_parser.specs.Canonical.{ArmFromLine, CaseFromLine, FromLine, arm_from, case_from, statement_from}
@@ -14,8 +14,8 @@ use Rattle.st_tree.specs.declared.program.CaseArm.{CaseArm, fold_out-CaseArm}
 use Rattle.st_tree.specs.declared.program.Stmt.{Stmt, fold-roll-Stmt, map-Stmt, roll-Stmt}
 use Rattle.st_tree.specs.declared.program.Stmt.TheOpen as S
 use Rattle.st_tree.specs.declared.program.Stmt.TheVariants as stmt
-use Rattle.st_tree.specs.declared.raw.RawArm.{RawArm, RawArm-F, fold-roll-RawArm}
-use Rattle.st_tree.specs.declared.raw.RawCaseArm.{RawCaseArm, RawCaseArm-F, fold-roll-RawCaseArm}
+use Rattle.st_tree.specs.declared.raw.RawArm.{RawArm, fold-roll-RawArm}
+use Rattle.st_tree.specs.declared.raw.RawCaseArm.{RawCaseArm, fold-roll-RawCaseArm}
 use Rattle.st_tree.specs.declared.raw.RawExpr.{RawExpr}
 use Rattle.st_tree.specs.declared.raw.RawStmt.{RawStmt, fold_out-RawStmt}
 use Rattle.st_tree.specs.declared.raw.RawStmtKind.{RawStmtKind, fold-roll-RawStmtKind, map-RawStmtKind, roll-RawStmtKind}
@@ -36,7 +36,8 @@ module _ (s : Scope) (l : Line) where
   -- What they are
 
   act_at : (x : RawStmtKind) (y : K.RawStmtKind-F RawStmtKind RawArm RawCaseArm RawStmt) → x ≡ roll-RawStmtKind y
-      → statement s (on_line l x) ≡ kind_step s (map-RawStmtKind RawStmtKind RawArm RawCaseArm RawStmt Done Armed Labelled (Judged Stmt) (action s) (arm s) (case_arm s) (statement s) y) l
+      → statement s (on_line l x) ≡ kind_step s (map-RawStmtKind RawStmtKind RawArm RawCaseArm RawStmt Done Armed Labelled (Judged Stmt) (action s) (arm s)
+      (case_arm s) (statement s) y) l
   act_at x y e =
       fold_out-RawStmt Done Armed Labelled (Judged Stmt) (kind_step s) (arm_step s) case_arm_step statement_step (on_line l x)
       ∙ ap (λ (d : Done). d l) (ap (action s) e ∙ fold-roll-RawStmtKind Done Armed Labelled (Judged Stmt) (kind_step s) (arm_step s) case_arm_step statement_step y)
@@ -53,7 +54,8 @@ module _ (s : Scope) (l : Line) where
   pub act_if : (arms : List RawArm) (other : List RawStmt) → statement s (on_line l (raw.If arms other)) ≡ kind_step s (K.If (map (arm s) arms) (statements s other)) l
   act_if arms other = act_at (raw.If arms other) (K.If arms other) (sym (raw.rolls-If arms other))
 
-  pub act_case : (e : RawExpr) (arms : List RawCaseArm) (other : List RawStmt) → statement s (on_line l (raw.Case e arms other)) ≡ kind_step s (K.Case e (map (case_arm s) arms) (statements s other)) l
+  pub act_case : (e : RawExpr) (arms : List RawCaseArm) (other : List RawStmt)
+      → statement s (on_line l (raw.Case e arms other)) ≡ kind_step s (K.Case e (map (case_arm s) arms) (statements s other)) l
   act_case e arms other = act_at (raw.Case e arms other) (K.Case e arms other) (sym (raw.rolls-Case e arms other))
 
   pub act_while : (e : RawExpr) (body : List RawStmt) → statement s (on_line l (raw.While e body)) ≡ kind_step s (K.While e (statements s body)) l
@@ -72,7 +74,8 @@ module _ (s : Scope) (l : Line) where
 
   calls_at : (x : RawStmtKind) (y : K.RawStmtKind-F RawStmtKind RawArm RawCaseArm RawStmt) → x ≡ roll-RawStmtKind y
       → calls_of s (on_line l x)
-      ≡ calls.kind_step s (map-RawStmtKind RawStmtKind RawArm RawCaseArm RawStmt OnLine (List Call) (List Call) (List Call) (calls_of_action s) (calls_of_arm s) (calls_of_case_arm s) (calls_of s) y) l
+      ≡ calls.kind_step s (map-RawStmtKind RawStmtKind RawArm RawCaseArm RawStmt OnLine (List Call) (List Call) (List Call) (calls_of_action s) (calls_of_arm s)
+      (calls_of_case_arm s) (calls_of s) y) l
   calls_at x y e =
       fold_out-RawStmt OnLine (List Call) (List Call) (List Call) (calls.kind_step s) calls.arm_step calls.case_arm_step calls.statement_step (on_line l x)
       ∙ ap (λ (d : OnLine). d l)
@@ -90,7 +93,8 @@ module _ (s : Scope) (l : Line) where
   pub calls_if : (arms : List RawArm) (other : List RawStmt) → calls_of s (on_line l (raw.If arms other)) ≡ joined (map (calls_of_arm s) arms) ++ all_calls s other
   calls_if arms other = calls_at (raw.If arms other) (K.If arms other) (sym (raw.rolls-If arms other))
 
-  pub calls_case : (e : RawExpr) (arms : List RawCaseArm) (other : List RawStmt) → calls_of s (on_line l (raw.Case e arms other)) ≡ joined (map (calls_of_case_arm s) arms) ++ all_calls s other
+  pub calls_case : (e : RawExpr) (arms : List RawCaseArm) (other : List RawStmt)
+      → calls_of s (on_line l (raw.Case e arms other)) ≡ joined (map (calls_of_case_arm s) arms) ++ all_calls s other
   calls_case e arms other = calls_at (raw.Case e arms other) (K.Case e arms other) (sym (raw.rolls-Case e arms other))
 
   pub calls_while : (e : RawExpr) (body : List RawStmt) → calls_of s (on_line l (raw.While e body)) ≡ all_calls s body
@@ -112,7 +116,8 @@ module _ (s : Scope) where
   act_arm test body = fold-roll-RawArm Done Armed Labelled (Judged Stmt) (kind_step s) (arm_step s) case_arm_step statement_step (record { test = test; body = body })
 
   pub act_case_arm : (labels : List (StType × ℤ)) (body : List RawStmt) → case_arm s (case_of labels body) ≡ case_arm_step (record { labels = labels; body = statements s body })
-  act_case_arm labels body = fold-roll-RawCaseArm Done Armed Labelled (Judged Stmt) (kind_step s) (arm_step s) case_arm_step statement_step (record { labels = labels; body = body })
+  act_case_arm labels body =
+      fold-roll-RawCaseArm Done Armed Labelled (Judged Stmt) (kind_step s) (arm_step s) case_arm_step statement_step (record { labels = labels; body = body })
 
   pub calls_arm : (test : RawExpr) (body : List RawStmt) → calls_of_arm s (arm_of test body) ≡ all_calls s body
   calls_arm test body =
@@ -120,13 +125,15 @@ module _ (s : Scope) where
 
   pub calls_case_arm : (labels : List (StType × ℤ)) (body : List RawStmt) → calls_of_case_arm s (case_of labels body) ≡ all_calls s body
   calls_case_arm labels body =
-      fold-roll-RawCaseArm OnLine (List Call) (List Call) (List Call) (calls.kind_step s) calls.arm_step calls.case_arm_step calls.statement_step (record { labels = labels; body = body })
+      fold-roll-RawCaseArm OnLine (List Call) (List Call) (List Call) (calls.kind_step s) calls.arm_step calls.case_arm_step calls.statement_step
+      (record { labels = labels; body = body })
 
 -- Canonical forms
 
 module _ (names : Names) where
   from_at : (x : Stmt) (y : S.Stmt-F Stmt Arm CaseArm) → x ≡ roll-Stmt y
-      → statement_from names x ≡ canonical.statement_step names (map-Stmt Stmt Arm CaseArm FromLine ArmFromLine CaseFromLine (statement_from names) (arm_from names) (case_from names) y)
+      → statement_from names x ≡ canonical.statement_step names (map-Stmt Stmt Arm CaseArm FromLine ArmFromLine CaseFromLine (statement_from names) (arm_from names)
+      (case_from names) y)
   from_at x y e = ap (statement_from names) e ∙ fold-roll-Stmt FromLine ArmFromLine CaseFromLine (canonical.statement_step names) (canonical.arm_step names) canonical.case_step y
 
   pub from_assign : (v : Var) (e : Expr) → statement_from names (stmt.Assign v e) ≡ canonical.statement_step names (S.Assign v e)
@@ -138,7 +145,8 @@ module _ (names : Names) where
   pub from_invoke : (n : ℕ) (vars : List Var) → statement_from names (stmt.Invoke n vars) ≡ canonical.statement_step names (S.Invoke n vars)
   from_invoke n vars = from_at (stmt.Invoke n vars) (S.Invoke n vars) (sym (stmt.rolls-Invoke n vars))
 
-  pub from_if : (arms : List Arm) (other : List Stmt) → statement_from names (stmt.If arms other) ≡ canonical.statement_step names (S.If (map (arm_from names) arms) (map (statement_from names) other))
+  pub from_if : (arms : List Arm) (other : List Stmt)
+      → statement_from names (stmt.If arms other) ≡ canonical.statement_step names (S.If (map (arm_from names) arms) (map (statement_from names) other))
   from_if arms other = from_at (stmt.If arms other) (S.If arms other) (sym (stmt.rolls-If arms other))
 
   pub from_case : (e : Expr) (arms : List CaseArm) (other : List Stmt)

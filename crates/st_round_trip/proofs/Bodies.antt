@@ -1,11 +1,10 @@
 -- The statements of a unit: where they break no rule, their canonical form means the same, is of the language,
 -- nests no deeper and calls the same functions.
-use Rattle.std.proofs.Common.{◌≡◌, ℕ, ◌++◌, Bool, true, false, List, [], ◌∷◌, map, Option, Some, None, refl, sym, ap, subst, ◌∙◌}
+use Rattle.std.proofs.Common.{◌≡◌, Bool, true, [], map, Some, sym, ap, ◌∙◌}
 use Rattle.s7_base.specs.declared.reason.Line.{Line}
 use Rattle.st_parser.specs.Forms.{Form, Statement, assign, write, invoke, choice, choice_else, cases, cases_else, loop, jump, Statements, none, empty, further, Arms, no_arm, arm, CaseArms, no_case, case_arm}
 use Rattle.st_parser.specs.Grammar.{AllFit, ArmsFit, Binds, CasesFit, Fits, arm_of as raw_arm, case_of as raw_case, tree, tree_all, tree_arms, tree_cases, tree_labels, tree_one}
 use Rattle.st_parser.specs.Spelled.{AllSpelled, ArmsSpelled, CasesSpelled, FormSpelled, Spelled}
-use Rattle.st_round_trip.proofs.Actions.{act_assign}
 use Rattle.st_round_trip.proofs.CaseLabels.{found_labels, labels_typed}
 use Rattle.st_round_trip.proofs.Compound.{of_arm, of_assign, of_case_arm, of_cases, of_cases_else, of_choice, of_choice_else, of_jump, of_loop, of_no_arm, of_no_case, of_write}
 use Rattle.st_round_trip.proofs.Expressions.{Found, found}
@@ -16,9 +15,9 @@ use Rattle.st_round_trip.proofs.Variables.{Named, written}
 use Rattle.st_tree.specs.Typing.{Names}
 use Rattle.st_tree.specs.declared.expr.StType.{StType}
 use Rattle.st_types.proofs.Declared.{Declares, SameScope}
-use Rattle.st_types.specs.Broken.{Judged, breaks_in, sound}
+use Rattle.st_types.specs.Broken.{Judged, breaks_in}
 use Rattle.st_types.specs.Expressions.{expression}
-use Rattle.st_types.specs.Statements.{arm as arm_in, arms_on, case_arm as case_arm_in, case_arms_on, selector, statement, statements, test, type_of_selector}
+use Rattle.st_types.specs.Statements.{arm as arm_in, arms_on, case_arm as case_arm_in, case_arms_on, selector, statement, statements, type_of_selector}
 use Rattle.st_types.specs.declared.expression.Typed.{Typed}
 use Rattle.st_types.specs.declared.scope.Scope.{Scope}
 
@@ -60,7 +59,8 @@ module _ (scope again : Scope) (names : Names) (declares : Declares scope names)
         let clean = case_clean scope l (tree e) (tree_cases arms) (tree_all b) c in
         let g = an l e s.0 f.0 (selector_clean scope l (tree e) clean.0) in
         let ty = selector_type scope l (tree e) g.t g.found clean.0 in
-        of_cases_else scope again names inside l e arms b f.1 g ty (found_cases inside l g.t.ty arms s.1 f.2 (at_type l e arms g.t (selector_is scope l (tree e) g.t g.found ty) clean.1))
+        of_cases_else scope again names inside l e arms b f.1 g ty (found_cases inside l g.t.ty arms s.1 f.2
+        (at_type l e arms g.t (selector_is scope l (tree e) g.t g.found ty) clean.1))
         (found_all inside b s.2 f.3 clean.2)
     found_one inside (loop l e b) s f c =
         let clean = while_clean scope l (tree e) (tree_all b) c in
@@ -75,14 +75,17 @@ module _ (scope again : Scope) (names : Names) (declares : Declares scope names)
         let clean = breaks_last (statements scope (tree_all b)) (statement scope (tree_one x)) (sym (ap breaks_in (map_last (statement scope) (tree_all b) (tree_one x))) ∙ c) in
         of_further scope again names inside b x (found_all inside b s.0 f.0 clean.0) (found_one inside x s.1 f.1 clean.1)
 
-    found_arms : (inside : Bool) (l : Line) (a : Arms) → ArmsSpelled a → ArmsFit inside a → breaks_in (arms_on l (map (arm_in scope) (tree_arms a))) ≡ [] → FoundArms scope again names inside l a
+    found_arms : (inside : Bool) (l : Line) (a : Arms) → ArmsSpelled a → ArmsFit inside a → breaks_in (arms_on l (map (arm_in scope) (tree_arms a))) ≡ []
+        → FoundArms scope again names inside l a
     found_arms inside l no_arm s f c = of_no_arm scope again names inside l
     found_arms inside l (arm others e b) s f c =
         let read = raw_arm (tree e) (tree_all b) in
-        let clean = breaks_last (arms_on l (map (arm_in scope) (tree_arms others))) (arm_in scope read l) (sym (ap breaks_in (arms_read_last scope l (tree_arms others) read)) ∙ c) in
+        let clean =
+        breaks_last (arms_on l (map (arm_in scope) (tree_arms others))) (arm_in scope read l) (sym (ap breaks_in (arms_read_last scope l (tree_arms others) read)) ∙ c) in
         let own = arm_clean scope l (tree e) (tree_all b) clean.1 in
         let g = an l e s.1 f.1 (test_clean scope l (tree e) own.0) in
-        of_arm scope again names inside l others e b (found_arms inside l others s.0 f.0 clean.0) g (test_bool scope l (tree e) g.t g.found own.0) (found_all inside b s.2 f.2 own.1)
+        of_arm scope again names inside l others e b (found_arms inside l others s.0 f.0 clean.0) g (test_bool scope l (tree e) g.t g.found own.0)
+        (found_all inside b s.2 f.2 own.1)
 
     found_cases : (inside : Bool) (l : Line) (ty : StType) (a : CaseArms) → CasesSpelled a → CasesFit inside a
         → breaks_in (case_arms_on l (Some ty) (map (case_arm_in scope) (tree_cases a))) ≡ [] → FoundCases scope again names inside l ty a
@@ -92,5 +95,6 @@ module _ (scope again : Scope) (names : Names) (declares : Declares scope names)
         let clean = breaks_last (case_arms_on l (Some ty) (map (case_arm_in scope) (tree_cases others))) (case_arm_in scope read l (Some ty))
         (sym (ap breaks_in (cases_read_last scope l (Some ty) (tree_cases others) read)) ∙ c) in
         let own = case_arm_clean scope l ty (tree_labels labels) (tree_all b) clean.1 in
-        of_case_arm scope again names inside l ty others labels b (found_cases inside l ty others s.0 f.0 clean.0) (found_labels ty labels s.1 (labels_typed l ty (tree_labels labels) own.0))
+        of_case_arm scope again names inside l ty others labels b (found_cases inside l ty others s.0 f.0 clean.0)
+        (found_labels ty labels s.1 (labels_typed l ty (tree_labels labels) own.0))
         (found_all inside b s.2 f.2 own.1)

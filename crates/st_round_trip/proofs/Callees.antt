@@ -49,15 +49,18 @@ module _ (s : Scope) where
       ap (λ z. callees (joined z)) (map_last (calls_of_arm s) xs (raw_arm e body)) ∙ joined_last (map (calls_of_arm s) xs) (calls_of_arm s (raw_arm e body))
       ∙ ap (λ z. arms_callees s xs ++ callees z) (calls_arm s e body)
 
-  pub cases_last : (xs : List RawCaseArm) (labels : List (StType × ℤ)) (body : List RawStmt) → cases_callees s (xs ++ raw_case labels body ∷ []) ≡ cases_callees s xs ++ all_callees s body
+  pub cases_last : (xs : List RawCaseArm) (labels : List (StType × ℤ)) (body : List RawStmt)
+      → cases_callees s (xs ++ raw_case labels body ∷ []) ≡ cases_callees s xs ++ all_callees s body
   cases_last xs labels body =
-      ap (λ z. callees (joined z)) (map_last (calls_of_case_arm s) xs (raw_case labels body)) ∙ joined_last (map (calls_of_case_arm s) xs) (calls_of_case_arm s (raw_case labels body))
+      ap (λ z. callees (joined z)) (map_last (calls_of_case_arm s) xs (raw_case labels body))
+      ∙ joined_last (map (calls_of_case_arm s) xs) (calls_of_case_arm s (raw_case labels body))
       ∙ ap (λ z. cases_callees s xs ++ callees z) (calls_case_arm s labels body)
 
   pub callees_if : (l : Line) (arms : List RawArm) (other : List RawStmt) → callees_of s (on_line l (raw.If arms other)) ≡ arms_callees s arms ++ all_callees s other
   callees_if l arms other = ap callees (calls_if s l arms other) ∙ map_append (λ (c : Call). c.callee) (joined (map (calls_of_arm s) arms)) (all_calls s other)
 
-  pub callees_case : (l : Line) (e : RawExpr) (arms : List RawCaseArm) (other : List RawStmt) → callees_of s (on_line l (raw.Case e arms other)) ≡ cases_callees s arms ++ all_callees s other
+  pub callees_case : (l : Line) (e : RawExpr) (arms : List RawCaseArm) (other : List RawStmt)
+      → callees_of s (on_line l (raw.Case e arms other)) ≡ cases_callees s arms ++ all_callees s other
   callees_case l e arms other = ap callees (calls_case s l e arms other) ∙ map_append (λ (c : Call). c.callee) (joined (map (calls_of_case_arm s) arms)) (all_calls s other)
 
   pub callees_while : (l : Line) (e : RawExpr) (body : List RawStmt) → callees_of s (on_line l (raw.While e body)) ≡ all_callees s body

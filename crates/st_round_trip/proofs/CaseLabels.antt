@@ -1,5 +1,5 @@
 -- The labels of an arm of a CASE: where they have the selector's type, their canonical form says the same.
-use Rattle.std.proofs.Common.{◌≡◌, ℕ, ◌==◌, ℤ, Bool, true, false, ◌&&◌, cond, List, [], ◌∷◌, ◌++◌, map, Option, Some, refl, sym, ap, subst, ◌∙◌, arith}
+use Rattle.std.proofs.Common.{◌≡◌, ℕ, ◌==◌, ℤ, Bool, true, false, ◌&&◌, cond, List, [], ◌∷◌, ◌++◌, map, Some, refl, sym, ap, subst, ◌∙◌, arith}
 use Rattle.std.proofs.lemmas.Bool.Decides.{nat_tests}
 use Rattle.s7_base.specs.declared.reason.Line.{Line}
 use Rattle.s7_base.specs.declared.reason.Reason.TheVariants.{TypeMismatch}
@@ -16,7 +16,6 @@ use Rattle.st_tree.specs.declared.expr.StType.TheVariants as type
 use Rattle.st_types.specs.Broken.{broken}
 use Rattle.st_types.specs.Statements.{have_type, label_breaks}
 use Rattle.st_types.specs.Types.{is_type, place_of}
-use Rattle.st_types.specs.declared.broken.Break.{Break}
 
 -- Types
 
@@ -89,7 +88,8 @@ pub record FoundLabels (ty : StType) (labels : Labels) : Type 0 where
   pub fits : LabelsFit (labels_form ty (first ∷ others))
   pub spelled : LabelsSpelled (labels_form ty (first ∷ others))
 
-one_label : (c : Literal) (ty : StType) → is_literal c ≡ true → is_type (label_tree c).0 ty ≡ true → (label_tree c ≡ (ty, (label_tree c).1)) × Kept ty (label_tree c).1 (literal_form ty (label_tree c).1)
+one_label : (c : Literal) (ty : StType) → is_literal c ≡ true → is_type (label_tree c).0 ty ≡ true
+    → (label_tree c ≡ (ty, (label_tree c).1)) × Kept ty (label_tree c).1 (literal_form ty (label_tree c).1)
 one_label c ty h t =
     let n = (label_tree c).1 in
     let e : (label_tree c).0 ≡ ty = same_type (label_tree c).0 ty t in

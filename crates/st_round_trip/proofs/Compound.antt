@@ -1,21 +1,18 @@
 -- Each form of a statement by its parts: what holds of these and their canonical forms holds of it.
-use Rattle.std.proofs.Common.{◌≡◌, ℕ, suc, ◌+◌, ◌≤◌, max, ◌++◌, ℤ, Bool, true, false, List, [], ◌∷◌, map, Option, Some, None, Ok, refl, sym, ap, subst, ◌∙◌, arith}
+use Rattle.std.proofs.Common.{◌≡◌, ℕ, suc, ◌++◌, ℤ, Bool, true, List, [], ◌∷◌, map, Some, Ok, refl, sym, ap, subst, ◌∙◌, arith}
 use Rattle.s7_base.specs.Tokens.{line_after}
 use Rattle.s7_base.specs.declared.reason.Line.{Line}
 use Rattle.s7_base.specs.declared.word.Width.{Width}
-use Rattle.st_parser.specs.Canonical as canonical
-use Rattle.st_parser.specs.Canonical.{ArmFromLine, CaseFromLine, FromLine, Placed, all_from, arm_from, arms_from, body_from, case_from, cases_else_from, cases_from, choice_from, expr_form, labels_form, on, raw_var, statement_from}
-use Rattle.st_parser.specs.Forms.{Form, Labels, Statement, assign, write, choice, choice_else, cases, cases_else, loop, jump, Statements, none, empty, further, Arms, no_arm, arm, CaseArms, no_case, case_arm}
-use Rattle.st_parser.specs.Grammar.{arm_of as raw_arm, case_of as raw_case, AllFit, ArmsFit, Binds, CasesFit, Fits, HasArm, HasCase, may_jump, tree, tree_all, tree_arms, tree_cases, tree_labels, tree_one}
-use Rattle.st_parser.specs.Spelled.{AllSpelled, ArmsSpelled, CasesSpelled, FormSpelled, LabelsSpelled, Spelled, is_variable}
+use Rattle.st_parser.specs.Canonical.{ArmFromLine, CaseFromLine, FromLine, Placed, arm_from, arms_from, body_from, case_from, cases_else_from, cases_from, choice_from, expr_form, labels_form, on, raw_var, statement_from}
+use Rattle.st_parser.specs.Forms.{Form, Labels, Statement, assign, write, choice, choice_else, cases, cases_else, loop, jump, Statements, Arms, no_arm, arm, CaseArms, no_case, case_arm}
+use Rattle.st_parser.specs.Grammar.{arm_of as raw_arm, case_of as raw_case, HasArm, HasCase, may_jump, tree, tree_all, tree_arms, tree_cases, tree_labels}
 use Rattle.st_parser.specs.declared.kind.Jump.{Jump}
 use Rattle.st_parser.specs.declared.kind.Jump.TheVariants as jump_word
 use Rattle.st_round_trip.proofs.Actions.{act_continue, act_exit, act_return, calls_assign, calls_continue, calls_exit, calls_return, calls_write, from_arm, from_assign, from_case, from_case_arm, from_continue, from_exit, from_if, from_return, from_while, from_write}
-use Rattle.st_round_trip.proofs.Callees.{all_callees, arms_callees, arms_last, both, callees, callees_case, callees_if, callees_of, callees_while, cases_callees, cases_last}
-use Rattle.st_round_trip.proofs.CaseLabels.{FoundLabels, found_labels, labels_typed, no_label_breaks, values_of, of_type}
-use Rattle.st_round_trip.proofs.Expressions.{Found, Good}
-use Rattle.st_round_trip.proofs.Levels.{nest, top_all, top_arms, top_cases, top_one}
-use Rattle.st_round_trip.proofs.Parts.{AreSound, arm_is, assign_is, case_arm_is, case_is, if_is, map_last, selector_is, test_is, values, while_is, write_is, writes}
+use Rattle.st_round_trip.proofs.Callees.{all_callees, arms_last, both, callees, callees_case, callees_if, callees_while, cases_last}
+use Rattle.st_round_trip.proofs.CaseLabels.{FoundLabels, no_label_breaks, values_of}
+use Rattle.st_round_trip.proofs.Expressions.{Found}
+use Rattle.st_round_trip.proofs.Parts.{arm_is, assign_is, case_arm_is, case_is, if_is, map_last, selector_is, test_is, values, while_is, write_is, writes}
 use Rattle.st_round_trip.proofs.Statements.{FoundAll, FoundArms, FoundCases, FoundOne, GoodAll, GoodArms, GoodCases, GoodOne, arms_behind, arms_sound_last, cases_behind, cases_sound_last}
 use Rattle.st_round_trip.proofs.Variables.{Written}
 use Rattle.st_tree.specs.Typing.{Names}
@@ -24,20 +21,11 @@ use Rattle.st_tree.specs.declared.expr.StType.TheVariants as type
 use Rattle.st_tree.specs.declared.program.Arm.{Arm}
 use Rattle.st_tree.specs.declared.program.CaseArm.{CaseArm}
 use Rattle.st_tree.specs.declared.program.Stmt.{Stmt}
-use Rattle.st_tree.specs.declared.program.Stmt.TheOpen as S
 use Rattle.st_tree.specs.declared.program.Stmt.TheVariants as stmt
-use Rattle.st_tree.specs.declared.raw.RawArm.{RawArm}
-use Rattle.st_tree.specs.declared.raw.RawCaseArm.{RawCaseArm}
-use Rattle.st_tree.specs.declared.raw.RawExpr.{RawExpr}
-use Rattle.st_tree.specs.declared.raw.RawStmt.{RawStmt}
 use Rattle.st_tree.specs.declared.raw.RawVar.{RawVar}
-use Rattle.st_types.specs.Broken.{Judged, sound}
-use Rattle.st_types.specs.Calls.{all_calls, calls_of, calls_of_arm, calls_of_case_arm, joined}
-use Rattle.st_types.specs.Statements.{Armed, Labelled, arm as arm_in, arms_on, case_arm as case_arm_in, case_arms_on, label_breaks, statement, statements}
+use Rattle.st_types.specs.Statements.{label_breaks}
 use Rattle.st_types.specs.Types.{is_selector, is_type}
 use Rattle.st_types.specs.Variables.{variable as variable_in}
-use Rattle.st_types.specs.declared.call.Call.{Call}
-use Rattle.st_types.specs.declared.expression.Typed.{Typed}
 use Rattle.st_types.specs.declared.scope.Scope.{Scope}
 use Rattle.st_types.specs.declared.variable.TypedVar.{TypedVar}
 
@@ -59,7 +47,8 @@ module _ (scope again : Scope) (names : Names) (inside : Bool) where
 
   -- Assignments and writes
 
-  pub of_assign : (l : Line) (v : RawVar) (e : Form) (x : TypedVar) → variable_in scope v ≡ Ok x → Written names again x → (g : An l e) → is_type x.ty g.t.ty ≡ true → One (assign l v e)
+  pub of_assign : (l : Line) (v : RawVar) (e : Form) (x : TypedVar) → variable_in scope v ≡ Ok x → Written names again x → (g : An l e) → is_type x.ty g.t.ty ≡ true
+      → One (assign l v e)
   of_assign l v e x there w g fits =
       let y : Stmt = stmt.Assign x.var g.t.tree in
       record {
@@ -104,19 +93,37 @@ module _ (scope again : Scope) (names : Names) (inside : Bool) where
     x = stmt.Exit;
     found = act_exit scope l;
     good = λ k. subst (λ (f : FromLine). GoodOne scope again inside (jump l jump_word.Exit) stmt.Exit (f k).0) (sym (from_exit names))
-        (record { means = act_exit again (on k); fits = fits; spelled = tt; low = λ d. omega arith; calls = ap callees (calls_exit again (on k)) ∙ sym (ap callees (calls_exit scope l)) });
+        (record {
+          means = act_exit again (on k);
+          fits = fits;
+          spelled = tt;
+          low = λ d. omega arith;
+          calls = ap callees (calls_exit again (on k)) ∙ sym (ap callees (calls_exit scope l));
+        });
   }
   of_jump l jump_word.Continue fits = record {
     x = stmt.Continue;
     found = act_continue scope l;
     good = λ k. subst (λ (f : FromLine). GoodOne scope again inside (jump l jump_word.Continue) stmt.Continue (f k).0) (sym (from_continue names))
-        (record { means = act_continue again (on k); fits = fits; spelled = tt; low = λ d. omega arith; calls = ap callees (calls_continue again (on k)) ∙ sym (ap callees (calls_continue scope l)) });
+        (record {
+          means = act_continue again (on k);
+          fits = fits;
+          spelled = tt;
+          low = λ d. omega arith;
+          calls = ap callees (calls_continue again (on k)) ∙ sym (ap callees (calls_continue scope l));
+        });
   }
   of_jump l jump_word.Return fits = record {
     x = stmt.Return;
     found = act_return scope l;
     good = λ k. subst (λ (f : FromLine). GoodOne scope again inside (jump l jump_word.Return) stmt.Return (f k).0) (sym (from_return names))
-        (record { means = act_return again (on k); fits = fits; spelled = tt; low = λ d. omega arith; calls = ap callees (calls_return again (on k)) ∙ sym (ap callees (calls_return scope l)) });
+        (record {
+          means = act_return again (on k);
+          fits = fits;
+          spelled = tt;
+          low = λ d. omega arith;
+          calls = ap callees (calls_return again (on k)) ∙ sym (ap callees (calls_return scope l));
+        });
   }
 
   -- WHILE
@@ -243,7 +250,8 @@ module _ (scope again : Scope) (names : Names) (inside : Bool) where
       record {
         xs = p.xs ++ x ∷ [];
         found = cases_sound_last scope l (Some ty) (tree_cases others) (raw_case (tree_labels labels) (tree_all b)) p.xs x p.found
-            (case_arm_is scope l ty (tree_labels labels) (tree_all b) ns q.xs (ap (label_breaks l (Some ty)) g.found ∙ no_label_breaks l ty ns) (ap values g.found ∙ values_of ty ns) q.found);
+            (case_arm_is scope l ty (tree_labels labels) (tree_all b) ns q.xs (ap (label_breaks l (Some ty)) g.found ∙ no_label_breaks l ty ns)
+            (ap values g.found ∙ values_of ty ns) q.found);
         good = λ k m.
             let before = cases_from ty no_case k (map (case_from names) p.xs) in
             let i = p.good k m in
@@ -256,12 +264,14 @@ module _ (scope again : Scope) (names : Names) (inside : Bool) where
             ∙ ap (λ (f : CaseFromLine). (f ty before.0 before.1).0) (from_case_arm names x)))
             (record {
               means = cases_sound_last again m (Some ty) (tree_cases before.0) (raw_case (tree_labels c) (tree_all body)) p.xs x i.means
-                  (case_arm_is again m ty (tree_labels c) (tree_all body) ns q.xs (ap (label_breaks m (Some ty)) g.means ∙ no_label_breaks m ty ns) (ap values g.means ∙ values_of ty ns) j.means);
+                  (case_arm_is again m ty (tree_labels c) (tree_all body) ns q.xs (ap (label_breaks m (Some ty)) g.means ∙ no_label_breaks m ty ns)
+                  (ap values g.means ∙ values_of ty ns) j.means);
               fits = (i.fits, g.fits, j.fits);
               some = λ h. tt;
               spelled = (i.spelled, g.spelled, j.spelled);
               low = λ d. omega (arith, i.low d, j.low d);
-              calls = cases_last again (tree_cases before.0) (tree_labels c) (tree_all body) ∙ both _ _ _ _ i.calls j.calls ∙ sym (cases_last scope (tree_cases others) (tree_labels labels) (tree_all b));
+              calls = cases_last again (tree_cases before.0) (tree_labels c) (tree_all body) ∙ both _ _ _ _ i.calls j.calls
+                  ∙ sym (cases_last scope (tree_cases others) (tree_labels labels) (tree_all b));
             });
       }
 
@@ -279,7 +289,8 @@ module _ (scope again : Scope) (names : Names) (inside : Bool) where
             let c = expr_form names k g.t.tree in
             let a = (cases_from g.t.ty no_case (line_after k) (map (case_from names) p.xs)).0 in
             subst (λ (f : FromLine). GoodOne scope again inside (cases l e arms) y (f k).0) (sym (from_case names g.t.tree p.xs []))
-            (subst (λ ty. GoodOne scope again inside (cases l e arms) y (cases_else_from k c (cases_from ty no_case (line_after k) (map (case_from names) p.xs)) []).0) (sym h.has_type) (record {
+            (subst (λ ty. GoodOne scope again inside (cases l e arms) y (cases_else_from k c (cases_from ty no_case (line_after k) (map (case_from names) p.xs)) []).0)
+            (sym h.has_type) (record {
               means = case_is again (on k) (tree c) (tree_cases a) [] g.t p.xs [] (selector_is again (on k) (tree c) g.t h.sound.means fits) i.means refl;
               fits = (h.sound.binds, i.some some, i.fits);
               spelled = (h.sound.spelled, i.spelled);
@@ -288,7 +299,8 @@ module _ (scope again : Scope) (names : Names) (inside : Bool) where
             }));
       }
 
-  cases_else_good : (l : Line) (e : Form) (arms : CaseArms) (b : Statements) (k : ℕ) (g : An l e) (xs : List CaseArm) (a : Placed CaseArms) → HasCase arms → is_selector g.t.ty ≡ true
+  cases_else_good : (l : Line) (e : Form) (arms : CaseArms) (b : Statements) (k : ℕ) (g : An l e) (xs : List CaseArm) (a : Placed CaseArms) → HasCase arms
+      → is_selector g.t.ty ≡ true
       → GoodCases scope again inside (on k) g.t.ty arms xs a.0 → (ys : List Stmt) → ((k : ℕ) → GoodAll scope again inside b ys (body_from k (map (statement_from names) ys)).0)
       → GoodOne scope again inside (cases_else l e arms b) (stmt.Case g.t.tree xs ys) (cases_else_from k (expr_form names k g.t.tree) a (map (statement_from names) ys)).0
   cases_else_good l e arms b k g xs a some fits i [] q =
@@ -312,7 +324,8 @@ module _ (scope again : Scope) (names : Names) (inside : Bool) where
         fits = (h.sound.binds, i.some some, i.fits, j.fits);
         spelled = (h.sound.spelled, i.spelled, j.spelled);
         low = λ d. omega (arith, h.close.inner, i.low (suc d), j.low (suc d));
-        calls = callees_case again (on k) (tree c) (tree_cases a.0) (tree_all body) ∙ both _ _ _ _ i.calls j.calls ∙ sym (callees_case scope l (tree e) (tree_cases arms) (tree_all b));
+        calls =
+            callees_case again (on k) (tree c) (tree_cases a.0) (tree_all body) ∙ both _ _ _ _ i.calls j.calls ∙ sym (callees_case scope l (tree e) (tree_cases arms) (tree_all b));
       }
 
   pub of_cases_else : (l : Line) (e : Form) (arms : CaseArms) (b : Statements) → HasCase arms → (g : An l e) → is_selector g.t.ty ≡ true → SomeCases l g.t.ty arms → All b
@@ -326,7 +339,8 @@ module _ (scope again : Scope) (names : Names) (inside : Bool) where
             let h = g.good k (on k) in
             let c = expr_form names k g.t.tree in
             subst (λ (f : FromLine). GoodOne scope again inside (cases_else l e arms b) y (f k).0) (sym (from_case names g.t.tree p.xs q.xs))
-            (subst (λ ty. GoodOne scope again inside (cases_else l e arms b) y (cases_else_from k c (cases_from ty no_case (line_after k) (map (case_from names) p.xs)) (map (statement_from names) q.xs)).0)
+            (subst (λ ty. GoodOne scope again inside (cases_else l e arms b) y (cases_else_from k c (cases_from ty no_case (line_after k) (map (case_from names) p.xs))
+            (map (statement_from names) q.xs)).0)
             (sym h.has_type)
             (cases_else_good l e arms b k g p.xs (cases_from g.t.ty no_case (line_after k) (map (case_from names) p.xs)) some fits (p.good (line_after k) (on k)) q.xs q.good));
       }

@@ -1,6 +1,6 @@
 -- An expression that breaks no rule: its canonical form means the same on each line, is of the language, and
 -- nests no deeper.
-use Rattle.std.proofs.Common.{◌≡◌, ℕ, ◌-◌, ◌≤◌, Bool, true, false, List, [], Option, Some, None, Result, Ok, Err, refl, sym, ap, subst, ◌∙◌, arith}
+use Rattle.std.proofs.Common.{◌≡◌, ℕ, ◌-◌, ◌≤◌, Bool, true, false, [], Some, Result, Ok, Err, refl, sym, ap, subst, ◌∙◌, arith}
 use Rattle.std.specs.Prelude.{nat_lt, if◌then◌else◌}
 use Rattle.s7_base.specs.declared.reason.Line.{Line}
 use Rattle.s7_base.specs.declared.reason.Reason.{Reason}
@@ -15,8 +15,8 @@ use Rattle.st_parser.specs.declared.kind.Prefix.TheVariants as before
 use Rattle.st_round_trip.proofs.Nested.{Close, alike, close_apply, close_group, close_infix, close_prefix, close_select, close_shift, right_level, wrapped_level}
 use Rattle.st_round_trip.proofs.Equations.{before_operand, form_area, form_binary, form_convert, form_literal, form_read, form_select, form_shift, form_unary, read_literal, read_variable, type_area, type_binary, type_convert, type_literal, type_read, type_select, type_shift, type_unary, wrapped}
 use Rattle.st_round_trip.proofs.Literals.{kept, tree_of_label, value_of}
-use Rattle.st_round_trip.proofs.Operands.{Is, IsClean, area_found, area_operand, area_typed, binary_found, binary_is, binary_operands, binary_typed, choice_is, conversion_is, convert_found, convert_operand, convert_typed, read_is, select_found, select_operands, select_typed, shift_found, shift_is, shift_operands, shift_typed, unary_found, unary_is, unary_operand, unary_typed}
-use Rattle.st_round_trip.proofs.Variables.{Named, Written, written}
+use Rattle.st_round_trip.proofs.Operands.{IsClean, area_found, area_operand, area_typed, binary_found, binary_is, binary_operands, binary_typed, choice_is, conversion_is, convert_found, convert_operand, convert_typed, read_is, select_found, select_operands, select_typed, shift_found, shift_is, shift_operands, shift_typed, unary_found, unary_is, unary_operand, unary_typed}
+use Rattle.st_round_trip.proofs.Variables.{Named, written}
 use Rattle.st_tree.specs.Typing.{Names, binary_type, type_of, unary_type}
 use Rattle.st_tree.specs.declared.expr.BinaryOp.{BinaryOp}
 use Rattle.st_tree.specs.declared.expr.Expr.TheVariants as expr
@@ -24,13 +24,12 @@ use Rattle.st_tree.specs.declared.expr.ShiftOp.{ShiftOp}
 use Rattle.st_tree.specs.declared.expr.StType.{StType}
 use Rattle.st_tree.specs.declared.expr.UnaryOp.{UnaryOp}
 use Rattle.st_tree.specs.declared.expr.UnaryOp.TheVariants as unary
-use Rattle.st_tree.specs.declared.raw.RawExpr.{RawExpr}
 use Rattle.st_tree.specs.declared.raw.RawExpr.TheVariants as raw
 use Rattle.st_tree.specs.declared.raw.RawVar.{RawVar}
 use Rattle.st_types.proofs.Declared.{Declares, SameScope}
 use Rattle.st_types.specs.Broken.{Judged, sound}
 use Rattle.st_types.specs.Expressions.{answered, expression, read_of}
-use Rattle.st_types.specs.Types.{type_of_binary, type_of_choice, type_of_conversion, type_of_read, type_of_shift, type_of_unary}
+use Rattle.st_types.specs.Types.{type_of_unary}
 use Rattle.st_types.specs.Variables.{variable as variable_in}
 use Rattle.st_types.specs.declared.expression.Typed.{Typed}
 use Rattle.st_types.specs.declared.scope.Scope.{Scope}
@@ -106,9 +105,11 @@ module _ (scope again : Scope) (names : Names) (declares : Declares scope names)
         });
       }
 
-  read_is_variable : (s : Scope) (m : Line) (v : RawVar) (x : TypedVar) → variable_in s v ≡ Ok x → expression s m (raw.Read v) ≡ sound (record { ty = x.ty; tree = expr.Read x.var })
+  read_is_variable : (s : Scope) (m : Line) (v : RawVar) (x : TypedVar) → variable_in s v ≡ Ok x
+      → expression s m (raw.Read v) ≡ sound (record { ty = x.ty; tree = expr.Read x.var })
   read_is_variable s m v x e =
-      read_variable s m v ∙ ap (λ (r : Result TypedVar Reason). let j : Judged TypedVar = answered m r in let k : Judged Typed = record { found = read_of j.found; breaks = j.breaks } in k) e
+      read_variable s m v ∙ ap (λ (r : Result TypedVar Reason). let j : Judged TypedVar = answered m r in
+      let k : Judged Typed = record { found = read_of j.found; breaks = j.breaks } in k) e
 
   of_read : (v : RawVar) (line : Line) → is_variable v ≡ true → Clean (variable v line) → Fine (variable v line)
   of_read v line h clean = by (variable_in scope v) refl (sym (ap (λ (j : Judged Typed). j.breaks) (read_variable scope l v)) ∙ clean)

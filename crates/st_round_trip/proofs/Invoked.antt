@@ -1,23 +1,21 @@
 -- A call that breaks no rule: its canonical form gives each formal the same variable, in the order of the formals.
-use Rattle.std.proofs.Common.{◌≡◌, ℕ, zero, suc, Bool, true, false, ◌||◌, ◌&&◌, cond, List, [], ◌∷◌, ◌++◌, map, Option, Some, None, is_some, is_none, Result, Ok, Err, refl, sym, ap, subst, ◌∙◌, arith, eqb-true}
-use Rattle.std.specs.Prelude.{nat_eq, slice_get}
+use Rattle.std.proofs.Common.{◌≡◌, ℕ, suc, Bool, true, false, ◌||◌, cond, List, [], ◌∷◌, ◌++◌, map, Option, Some, None, is_some, is_none, Result, Ok, refl, sym, ap, subst, ◌∙◌, arith}
+use Rattle.std.specs.Prelude.{slice_get}
 use Rattle.std.specs.List.{fold}
-use Rattle.std.specs.Cmp.Lexicographic.{pointwise}
-use Rattle.std.proofs.lemmas.Cmp.{nat_list_eq_equiv}
 use Rattle.std.proofs.lemmas.List.{append_assoc, append-nil}
 use Rattle.s7_base.specs.declared.reason.Line.{Line}
 use Rattle.s7_base.specs.declared.reason.Reason.{Reason}
-use Rattle.s7_base.specs.declared.reason.Reason.TheVariants.{TypeMismatch, DuplicateName, UnknownName}
-use Rattle.st_parser.specs.Canonical.{FromLine, actuals_from, on, raw_var, statement_from}
-use Rattle.st_parser.specs.Forms.{Actuals, no_actual, actual, Statement, invoke}
+use Rattle.s7_base.specs.declared.reason.Reason.TheVariants.{TypeMismatch}
+use Rattle.st_parser.specs.Canonical.{FromLine, actuals_from, on, raw_var}
+use Rattle.st_parser.specs.Forms.{Actuals, no_actual, actual, invoke}
 use Rattle.st_parser.specs.Grammar.{on_line, tree_actuals, tree_one}
-use Rattle.st_parser.specs.Spelled.{ActualsSpelled, is_name, is_variable}
+use Rattle.st_parser.specs.Spelled.{ActualsSpelled, is_variable}
 use Rattle.st_round_trip.proofs.Actions.{act_invoke, calls_invoke, from_invoke}
 use Rattle.st_round_trip.proofs.Callees.{callees, callees_of}
 use Rattle.st_round_trip.proofs.Keyed.{AreAbsent, AreDistinct, absent_also, found_behind, none_absent, same_keys}
 use Rattle.st_round_trip.proofs.Parts.{variable_there}
 use Rattle.st_round_trip.proofs.Statements.{FoundOne, GoodOne}
-use Rattle.st_round_trip.proofs.Variables.{AreNames, IsNamed, Named, Written, written}
+use Rattle.st_round_trip.proofs.Variables.{AreNames, Named, Written, written}
 use Rattle.st_tree.specs.Spelling.{formals_of, unit_name}
 use Rattle.st_tree.specs.Typing.{Names}
 use Rattle.st_tree.specs.declared.expr.StType.{StType}
@@ -27,20 +25,17 @@ use Rattle.st_tree.specs.declared.program.Pou.{Pou}
 use Rattle.st_tree.specs.declared.program.Stmt.{Stmt}
 use Rattle.st_tree.specs.declared.program.Stmt.TheVariants as stmt
 use Rattle.st_tree.specs.declared.raw.RawStmtKind.TheVariants as raw
-use Rattle.st_tree.specs.declared.raw.RawVar.{RawVar}
 use Rattle.st_types.proofs.BodyCosts.{nil_first, nil_second}
-use Rattle.st_types.proofs.Declared.{Declares, IsFunctionAt, IsFunctionOf, SameScope, keys_of_locals, types_of_locals}
+use Rattle.st_types.proofs.Declared.{Declares, IsFunctionAt, IsFunctionOf, SameScope, keys_of_locals}
 use Rattle.st_types.specs.Broken.{Judged, behind, breaks_rule, broken, listed, sound}
-use Rattle.st_types.specs.Calls.{call_on, calls_of}
+use Rattle.st_types.specs.Calls.{call_on}
 use Rattle.st_types.specs.Expressions.{answered, variable_on}
-use Rattle.st_types.specs.Invocations.{Actual, Given, call_of, call_with, callee, formal_breaks, function_call, given_by, in_order, invocation, lacks, none_given, plain, var_given, with_actual}
+use Rattle.st_types.specs.Invocations.{Actual, Given, call_of, call_with, callee, formal_breaks, function_call, given_by, in_order, lacks, none_given, plain, var_given, with_actual}
 use Rattle.st_types.specs.Names.{Table, is_same, key_of, look_up, with_entry}
 use Rattle.st_types.specs.Scopes.{meaning_in}
 use Rattle.st_types.specs.Statements.{statement}
 use Rattle.st_types.specs.Types.{is_type}
-use Rattle.st_types.specs.Variables.{variable}
 use Rattle.st_types.specs.declared.broken.Break.{Break}
-use Rattle.st_types.specs.declared.call.Call.{Call}
 use Rattle.st_types.specs.declared.scope.Formals.{Formals}
 use Rattle.st_types.specs.declared.scope.Meaning.{Meaning}
 use Rattle.st_types.specs.declared.scope.Meaning.TheVariants as meaning
@@ -85,7 +80,8 @@ module _ (names : Names) (again : Scope) (types : Table StType) where
   looked_up [] key o h q = absurd cc
   looked_up (e ∷ table) key o h q = by (is_same key e.0) refl (looked_up table key o h.1) q
     where
-      by : (t : Bool) → is_same key e.0 ≡ t → (look_up key table ≡ Some o → IsGiven names again types key o) → cond t (Some e.1) (look_up key table) ≡ Some o → IsGiven names again types key o
+      by : (t : Bool) → is_same key e.0 ≡ t → (look_up key table ≡ Some o → IsGiven names again types key o) → cond t (Some e.1) (look_up key table) ≡ Some o
+          → IsGiven names again types key o
       by true s more r =
           let value : e.1 ≡ o = cc in
           subst (λ p. IsGiven names again types key p) value (subst (λ j. IsGiven names again types j e.1) (sym (same_keys key e.0 s)) h.0)
@@ -107,14 +103,16 @@ module _ (names : Names) (again : Scope) (types : Table StType) where
   are_in_order vars [] h q = record { xs = []; same = refl; fit = tt }
   are_in_order vars (l ∷ ls) h q = step (look_up (key_of l.name) vars) refl (are_in_order vars ls h) q
     where
-      step : (o : Option (Option Var)) → look_up (key_of l.name) vars ≡ o → (lacks vars (keys_of_locals ls) ≡ false → InOrder vars ls) → (is_none o || lacks vars (keys_of_locals ls)) ≡ false → InOrder vars (l ∷ ls)
+      step : (o : Option (Option Var)) → look_up (key_of l.name) vars ≡ o → (lacks vars (keys_of_locals ls) ≡ false → InOrder vars ls)
+          → (is_none o || lacks vars (keys_of_locals ls)) ≡ false → InOrder vars (l ∷ ls)
       step None e more f = absurd cc
       step (Some v) e more f =
           let g = looked_up vars (key_of l.name) v h e in
           let r = more f in
           record {
             xs = g.x ∷ r.xs;
-            same = ap (λ o. listed (var_given o) ++ in_order vars (keys_of_locals ls)) e ∙ ap (λ p. listed p ++ in_order vars (keys_of_locals ls)) g.is ∙ ap (λ vs. g.x.var ∷ vs) r.same;
+            same = ap (λ o. listed (var_given o) ++ in_order vars (keys_of_locals ls)) e ∙ ap (λ p. listed p ++ in_order vars (keys_of_locals ls)) g.is
+                ∙ ap (λ vs. g.x.var ∷ vs) r.same;
             fit = ((g.good, (g.ty, g.typed, g.fits)), r.fit);
           }
 
@@ -136,7 +134,8 @@ module _ (names : Names) (again : Scope) (types : Table StType) where
     abbrev IsSound : Given → Type 0
     IsSound given = given.breaks ≡ [] → AreGiven given.vars
 
-    formal_given : (key : List ℕ) (t : Option StType) (o : Option (Option Var)) (x : TypedVar) → look_up key types ≡ t → formal_breaks line t o (Some x) ≡ [] → Written names again x
+    formal_given : (key : List ℕ) (t : Option StType) (o : Option (Option Var)) (x : TypedVar) → look_up key types ≡ t → formal_breaks line t o (Some x) ≡ []
+        → Written names again x
         → IsGiven names again types key (Some x.var)
     formal_given key None o x e h w = absurd cc
     formal_given key (Some ty) (Some other) x e h w = absurd cc
@@ -183,7 +182,8 @@ module _ (names : Names) (again : Scope) (types : Table StType) where
     breaks = (answered m r).breaks ++ formal_breaks m t o (answered m r).found;
   }
 
-  one_again : (m : Line) (table : Table (Option Var)) (l : Local) (x : TypedVar) (ty : StType) → Written names again x → look_up (key_of l.name) types ≡ Some ty → is_type x.ty ty ≡ true
+  one_again : (m : Line) (table : Table (Option Var)) (l : Local) (x : TypedVar) (ty : StType) → Written names again x → look_up (key_of l.name) types ≡ Some ty
+      → is_type x.ty ty ≡ true
       → look_up (key_of l.name) table ≡ None
       → with_actual again m types (given_with table) (l.name, raw_var names x.var) ≡ given_with (table ++ (key_of l.name, Some x.var) ∷ [])
   one_again m table l x ty w t fits absent =
@@ -221,13 +221,15 @@ module _ (names : Names) (again : Scope) (types : Table StType) where
       )
 
   -- as forms
-  tree_again : (k : ℕ) (others : Actuals) (ls : List Local) (xs : List TypedVar) → tree_actuals (actuals_from names k others ls (vars_of xs)) ≡ tree_actuals others ++ actuals_of ls xs
+  tree_again : (k : ℕ) (others : Actuals) (ls : List Local) (xs : List TypedVar)
+      → tree_actuals (actuals_from names k others ls (vars_of xs)) ≡ tree_actuals others ++ actuals_of ls xs
   tree_again k others [] xs = sym (append-nil (tree_actuals others))
   tree_again k others (l ∷ ls) [] = sym (append-nil (tree_actuals others))
   tree_again k others (l ∷ ls) (x ∷ xs) =
       tree_again k (actual others l.name (on k) (raw_var names x.var) (on k)) ls xs ∙ append_assoc (tree_actuals others) ((l.name, raw_var names x.var) ∷ []) (actuals_of ls xs)
 
-  spelled_again : (k : ℕ) (others : Actuals) (ls : List Local) (xs : List TypedVar) → AreFit ls xs → AreNames ls → ActualsSpelled others → ActualsSpelled (actuals_from names k others ls (vars_of xs))
+  spelled_again : (k : ℕ) (others : Actuals) (ls : List Local) (xs : List TypedVar) → AreFit ls xs → AreNames ls → ActualsSpelled others
+      → ActualsSpelled (actuals_from names k others ls (vars_of xs))
   spelled_again k others [] [] f n s = s
   spelled_again k others [] (x ∷ xs) f n s = absurd f
   spelled_again k others (l ∷ ls) [] f n s = absurd f
@@ -241,7 +243,8 @@ abbrev pub AreFormals : List Pou → Type 0
 AreFormals units = (i : ℕ) (u : Pou) → slice_get units i ≡ Some u → AreDistinct u.formals
 
 -- a call of a function that is there
-call_is : (s : Scope) (m : Line) (name : List ℕ) (actuals : List Actual) (i : ℕ) (formals : Formals) (table : Table (Option Var)) → meaning_in s (key_of name) ≡ Some (meaning.Function i)
+call_is : (s : Scope) (m : Line) (name : List ℕ) (actuals : List Actual) (i : ℕ) (formals : Formals) (table : Table (Option Var))
+    → meaning_in s (key_of name) ≡ Some (meaning.Function i)
     → slice_get s.formals i ≡ Some formals → given_by s m formals.types actuals ≡ given_with table → lacks table formals.keys ≡ false
     → statement s (on_line m (raw.Invoke name actuals)) ≡ sound (stmt.Invoke i (in_order table formals.keys))
 call_is s m name actuals i formals table h there given none =
@@ -251,7 +254,8 @@ call_is s m name actuals i formals table h there given none =
     ∙ ap (λ (g : Given). behind g.breaks (call_with m i g.vars formals.keys)) given
     ∙ ap (λ b. behind [] (cond b (breaks_rule m TypeMismatch) (sound (stmt.Invoke i (in_order table formals.keys))))) none
 
-callees_is : (s : Scope) (m : Line) (name : List ℕ) (actuals : List Actual) (i : ℕ) → meaning_in s (key_of name) ≡ Some (meaning.Function i) → callees_of s (on_line m (raw.Invoke name actuals)) ≡ i ∷ []
+callees_is : (s : Scope) (m : Line) (name : List ℕ) (actuals : List Actual) (i : ℕ) → meaning_in s (key_of name) ≡ Some (meaning.Function i)
+    → callees_of s (on_line m (raw.Invoke name actuals)) ≡ i ∷ []
 callees_is s m name actuals i h = ap callees (calls_invoke s m name actuals) ∙ ap (λ o. callees (call_on m (callee o))) h
 
 -- what a call that breaks no rule is
@@ -259,7 +263,8 @@ record Called (s : Scope) (m : Line) (name : List ℕ) (actuals : List Actual) (
   clean : (given_by s m formals.types actuals).breaks ≡ []
   none : lacks (given_by s m formals.types actuals).vars formals.keys ≡ false
 
-called : (s : Scope) (m : Line) (name : List ℕ) (actuals : List Actual) (i : ℕ) (formals : Formals) → (function_call s m i (Some formals) actuals).breaks ≡ [] → Called s m name actuals i formals
+called : (s : Scope) (m : Line) (name : List ℕ) (actuals : List Actual) (i : ℕ) (formals : Formals) → (function_call s m i (Some formals) actuals).breaks ≡ []
+    → Called s m name actuals i formals
 called s m name actuals i formals h = by (lacks given.vars formals.keys) refl h
   where
     given : Given
@@ -272,13 +277,16 @@ called s m name actuals i formals h = by (lacks given.vars formals.keys) refl h
     by true e q = let own : (judged true).breaks ≡ [] = nil_second given.breaks (judged true).breaks q in absurd cc
     by false e q = record { clean = nil_first given.breaks [] q; none = e }
 
-module _ (scope again : Scope) (names : Names) (declares : Declares scope names) (same : SameScope again scope) (named : Named names) (distinct : AreFormals names.units) (inside : Bool) where
-  of_function : (l : Line) (name : List ℕ) (actuals : Actuals) (i : ℕ) (u : Pou) (formals : Formals) → ActualsSpelled actuals → meaning_in scope (key_of name) ≡ Some (meaning.Function i)
+module _ (scope again : Scope) (names : Names) (declares : Declares scope names) (same : SameScope again scope) (named : Named names) (distinct : AreFormals names.units)
+    (inside : Bool) where
+  of_function : (l : Line) (name : List ℕ) (actuals : Actuals) (i : ℕ) (u : Pou) (formals : Formals) → ActualsSpelled actuals
+      → meaning_in scope (key_of name) ≡ Some (meaning.Function i)
       → slice_get names.units i ≡ Some u → slice_get scope.formals i ≡ Some formals → IsFunctionOf (key_of name) u formals
       → Called scope l name (tree_actuals actuals) i formals → FoundOne scope again names inside (invoke l name actuals)
   of_function l name actuals i u formals s m unit there f c =
       let given = given_by scope l formals.types (tree_actuals actuals) in
-      let is_given = all_given names again formals.types scope declares same named l (tree_actuals actuals) none_given (have_variables names again formals.types actuals s) (λ h. tt) c.clean in
+      let is_given = all_given names again formals.types scope declares same named l (tree_actuals actuals) none_given
+      (have_variables names again formals.types actuals s) (λ h. tt) c.clean in
       let none : lacks given.vars (keys_of_locals u.formals) ≡ false = sym (ap (λ ks. lacks given.vars ks) f.keys) ∙ c.none in
       let r = are_in_order names again formals.types given.vars u.formals is_given none in
       let ls = u.formals in
@@ -299,7 +307,8 @@ module _ (scope again : Scope) (names : Names) (declares : Declares scope names)
             let args = actuals_from names k no_actual ls (vars_of r.xs) in
             let trees : tree_actuals args ≡ actuals_of names again formals.types ls r.xs = tree_again names again formals.types k no_actual ls r.xs in
             subst (λ (g : FromLine). GoodOne scope again inside (invoke l name actuals) y (g k).0) (sym (from_invoke names i (vars_of r.xs)))
-            (subst (λ (o : Option Pou). GoodOne scope again inside (invoke l name actuals) y (invoke (on k) (unit_name o) (actuals_from names k no_actual (formals_of o) (vars_of r.xs)))) (sym unit) (record {
+            (subst (λ (o : Option Pou). GoodOne scope again inside (invoke l name actuals) y
+            (invoke (on k) (unit_name o) (actuals_from names k no_actual (formals_of o) (vars_of r.xs)))) (sym unit) (record {
               means =
                   call_is again (on k) u.name (tree_actuals args) i formals table m2 there2
                   (ap (given_by again (on k) formals.types) trees ∙ given_again names again formals.types (on k) ls r.xs [] r.fit own (none_absent (Option Var) ls))
@@ -312,17 +321,20 @@ module _ (scope again : Scope) (names : Names) (declares : Declares scope names)
             }));
       }
 
-  pub of_invoke : (l : Line) (name : List ℕ) (actuals : Actuals) → ActualsSpelled actuals → (statement scope (tree_one (invoke l name actuals))).breaks ≡ [] → FoundOne scope again names inside (invoke l name actuals)
+  pub of_invoke : (l : Line) (name : List ℕ) (actuals : Actuals) → ActualsSpelled actuals → (statement scope (tree_one (invoke l name actuals))).breaks ≡ []
+      → FoundOne scope again names inside (invoke l name actuals)
   of_invoke l name actuals s h = by_meaning (meaning_in scope (key_of name)) refl (sym (ap (λ (j : Judged Stmt). j.breaks) (act_invoke scope l name (tree_actuals actuals))) ∙ h)
     where
-      by_function : (i : ℕ) (o : Option Pou) (p : Option Formals) → meaning_in scope (key_of name) ≡ Some (meaning.Function i) → slice_get names.units i ≡ o → slice_get scope.formals i ≡ p
+      by_function : (i : ℕ) (o : Option Pou) (p : Option Formals) → meaning_in scope (key_of name) ≡ Some (meaning.Function i) → slice_get names.units i ≡ o
+          → slice_get scope.formals i ≡ p
           → IsFunctionAt (key_of name) o p → (function_call scope l i p (tree_actuals actuals)).breaks ≡ [] → FoundOne scope again names inside (invoke l name actuals)
       by_function i None None m e g f c = absurd f
       by_function i None (Some formals) m e g f c = absurd f
       by_function i (Some u) None m e g f c = absurd f
       by_function i (Some u) (Some formals) m e g f c = of_function l name actuals i u formals s m e g f (called scope l name (tree_actuals actuals) i formals c)
 
-      by_meaning : (o : Option Meaning) → meaning_in scope (key_of name) ≡ o → (call_of scope l (callee o) (tree_actuals actuals)).breaks ≡ [] → FoundOne scope again names inside (invoke l name actuals)
+      by_meaning : (o : Option Meaning) → meaning_in scope (key_of name) ≡ o → (call_of scope l (callee o) (tree_actuals actuals)).breaks ≡ []
+          → FoundOne scope again names inside (invoke l name actuals)
       by_meaning None e c = absurd cc
       by_meaning (Some (meaning.Register r)) e c = absurd cc
       by_meaning (Some (meaning.Formal i ty)) e c = absurd cc

@@ -1,5 +1,5 @@
 -- How deep forms nest: the greatest of the levels of their tokens.
-use Rattle.std.proofs.Common.{◌≡◌, ℕ, suc, ◌+◌, ◌≤◌, max, List, [], ◌∷◌, refl, sym, ap, ◌∙◌, arith}
+use Rattle.std.proofs.Common.{◌≡◌, ℕ, suc, ◌+◌, ◌≤◌, max, List, [], ◌∷◌, arith}
 use Rattle.st_parser.specs.Forms.{Form, literal, variable, group, prefix, infix_of, apply, shift, select, Actuals, no_actual, actual, Labels, label, more_labels, Statement, assign, write, invoke, choice, choice_else, cases, cases_else, loop, jump, Statements, none, empty, further, Arms, no_arm, arm, CaseArms, no_case, case_arm}
 use Rattle.st_parser.specs.Levels.{height, levels, levels_actuals, levels_all, levels_arms, levels_cases, levels_labels, levels_one}
 use Rattle.st_parser.specs.Syntax.{AllWithin}
@@ -39,7 +39,12 @@ top_of d (infix_of op f g) before = omega (arith, top_of d g ((d + height f) ∷
 top_of d (apply op f) before = omega (arith, top_of (suc d) f (suc d ∷ d ∷ before))
 top_of d (shift op f g) before = omega (arith, top_of (suc d) g (suc d ∷ levels (suc d) f (suc d ∷ d ∷ before)), top_of (suc d) f (suc d ∷ d ∷ before))
 top_of d (select f g h) before =
-    omega (arith, top_of (suc d) h (suc d ∷ levels (suc d) g (suc d ∷ levels (suc d) f (suc d ∷ d ∷ before))), top_of (suc d) g (suc d ∷ levels (suc d) f (suc d ∷ d ∷ before)), top_of (suc d) f (suc d ∷ d ∷ before))
+    omega (
+      arith,
+      top_of (suc d) h (suc d ∷ levels (suc d) g (suc d ∷ levels (suc d) f (suc d ∷ d ∷ before))),
+      top_of (suc d) g (suc d ∷ levels (suc d) f (suc d ∷ d ∷ before)),
+      top_of (suc d) f (suc d ∷ d ∷ before),
+    )
 
 -- Statements
 
@@ -93,7 +98,12 @@ mutual
   top_of_one d (choice_else line arms body) before = omega (arith, top_of_all (suc d) body (suc d ∷ levels_arms (suc d) arms before), top_of_arms (suc d) arms before)
   top_of_one d (cases line e arms) before = omega (arith, top_of_cases (suc d) arms (suc d ∷ levels (suc d) e (suc d ∷ before)), top_of (suc d) e (suc d ∷ before))
   top_of_one d (cases_else line e arms body) before =
-      omega (arith, top_of_all (suc d) body (suc d ∷ levels_cases (suc d) arms (suc d ∷ levels (suc d) e (suc d ∷ before))), top_of_cases (suc d) arms (suc d ∷ levels (suc d) e (suc d ∷ before)), top_of (suc d) e (suc d ∷ before))
+      omega (
+        arith,
+        top_of_all (suc d) body (suc d ∷ levels_cases (suc d) arms (suc d ∷ levels (suc d) e (suc d ∷ before))),
+        top_of_cases (suc d) arms (suc d ∷ levels (suc d) e (suc d ∷ before)),
+        top_of (suc d) e (suc d ∷ before),
+      )
   top_of_one d (loop line e body) before = omega (arith, top_of_all (suc d) body (suc d ∷ levels (suc d) e (suc d ∷ before)), top_of (suc d) e (suc d ∷ before))
   top_of_one d (jump line word) before = omega arith
 
@@ -104,9 +114,15 @@ mutual
 
   pub top_of_arms : (d : ℕ) (a : Arms) (before : List ℕ) → greatest (levels_arms d a before) ≡ max (top_arms d a) (greatest before)
   top_of_arms d no_arm before = omega arith
-  top_of_arms d (arm others e body) before = omega (arith, top_of_all d body (d ∷ levels d e (d ∷ levels_arms d others before)), top_of d e (d ∷ levels_arms d others before), top_of_arms d others before)
+  top_of_arms d (arm others e body) before =
+      omega (arith, top_of_all d body (d ∷ levels d e (d ∷ levels_arms d others before)), top_of d e (d ∷ levels_arms d others before), top_of_arms d others before)
 
   pub top_of_cases : (d : ℕ) (a : CaseArms) (before : List ℕ) → greatest (levels_cases d a before) ≡ max (top_cases d a) (greatest before)
   top_of_cases d no_case before = omega arith
   top_of_cases d (case_arm others labels body) before =
-      omega (arith, top_of_all d body (d ∷ levels_labels d labels (levels_cases d others before)), top_of_labels d labels (levels_cases d others before), top_of_cases d others before)
+      omega (
+        arith,
+        top_of_all d body (d ∷ levels_labels d labels (levels_cases d others before)),
+        top_of_labels d labels (levels_cases d others before),
+        top_of_cases d others before,
+      )

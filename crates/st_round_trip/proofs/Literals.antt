@@ -1,5 +1,5 @@
 -- Literals as the canonical text writes them: they have their type and value, and tokens can have them.
-use Rattle.std.proofs.Common.{◌≡◌, ℕ, ◌≤◌, ℤ, pos, negsuc, Bool, true, false, ◌&&◌, cond, refl, sym, ap, subst, ◌∙◌, arith}
+use Rattle.std.proofs.Common.{◌≡◌, ℕ, ◌≤◌, ℤ, pos, negsuc, Bool, true, false, ◌&&◌, cond, refl, arith}
 use Rattle.std.specs.Prelude.{nat_le, nat_lt}
 use Rattle.std.proofs.lemmas.Bool.Decides.{nat_tests}
 use Rattle.st_lexer.specs.Literals.{greatest, is_signed}
@@ -27,11 +27,13 @@ never : (n : ℕ) → nat_lt n 0 ≡ false
 never n = grind (arith, nat_tests)
 
 -- a number from 0 on is not below it
-value_plain : (t : Bool) (n : ℕ) (ty : StType) → t ≡ false → nat_le n (greatest ty false) ≡ true → (cond t (is_signed ty && nat_le n (greatest ty true)) (nat_le n (greatest ty false))) ≡ true
+value_plain : (t : Bool) (n : ℕ) (ty : StType) → t ≡ false → nat_le n (greatest ty false) ≡ true
+    → (cond t (is_signed ty && nat_le n (greatest ty true)) (nat_le n (greatest ty false))) ≡ true
 value_plain true n ty e h = absurd cc
 value_plain false n ty e h = h
 
-plain_value : (t : Bool) (n : ℕ) (ty : StType) → t ≡ false → (cond t (is_signed ty && nat_le n (greatest ty true)) (nat_le n (greatest ty false))) ≡ true → nat_le n (greatest ty false) ≡ true
+plain_value : (t : Bool) (n : ℕ) (ty : StType) → t ≡ false → (cond t (is_signed ty && nat_le n (greatest ty true)) (nat_le n (greatest ty false))) ≡ true
+    → nat_le n (greatest ty false) ≡ true
 plain_value true n ty e h = absurd cc
 plain_value false n ty e h = h
 

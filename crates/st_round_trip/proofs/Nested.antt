@@ -7,7 +7,6 @@ use Rattle.st_parser.specs.Grammar.{infix_level, level, prefix_level}
 use Rattle.st_parser.specs.Levels.{height}
 use Rattle.st_parser.specs.declared.kind.OneOperand.{OneOperand}
 use Rattle.st_parser.specs.declared.kind.Prefix.{Prefix}
-use Rattle.st_parser.specs.declared.kind.Prefix.TheVariants as before
 use Rattle.st_round_trip.proofs.Equations.{wrapped}
 use Rattle.st_round_trip.proofs.Levels.{nest}
 use Rattle.st_tree.specs.declared.expr.BinaryOp.{BinaryOp}
@@ -63,7 +62,8 @@ pub close_group : (f c : Form) → Close f c → Close (group f) c
 close_group f c g = record { inner = omega (arith, g.inner); outer = λ j h. omega (arith, g.inner, wrap_nest j c); high = g.high }
 
 pub close_prefix : (op : Prefix) (f c : Form) → level f ≤ prefix_level op → Close f c → Close (prefix op f) (prefix op (wrapped (prefix_level op) c))
-close_prefix op f c h g = alike (prefix op f) (prefix op (wrapped (prefix_level op) c)) (omega arith) (omega (arith, g.outer (prefix_level op) h)) (ap (λ (n : ℕ). 1 + n) (wrap_height (prefix_level op) c ∙ g.high))
+close_prefix op f c h g = alike (prefix op f) (prefix op (wrapped (prefix_level op) c)) (omega arith)
+    (omega (arith, g.outer (prefix_level op) h)) (ap (λ (n : ℕ). 1 + n) (wrap_height (prefix_level op) c ∙ g.high))
 
 some : (op : BinaryOp) → 0 < infix_level op
 some binary.Mul = omega arith

@@ -1,5 +1,5 @@
 -- A statement by its parts: where it breaks no rule, and what it is.
-use Rattle.std.proofs.Common.{◌≡◌, ℕ, ◌++◌, ℤ, Bool, true, false, ◌&&◌, cond, List, [], ◌∷◌, map, Option, Some, None, Result, Ok, Err, refl, sym, ap, ◌∙◌}
+use Rattle.std.proofs.Common.{◌≡◌, ◌++◌, ℤ, Bool, true, false, ◌&&◌, cond, List, [], ◌∷◌, map, Option, Some, Result, Ok, Err, refl, sym, ap, ◌∙◌}
 use Rattle.s7_base.specs.declared.reason.Line.{Line}
 use Rattle.s7_base.specs.declared.reason.Reason.{Reason}
 use Rattle.s7_base.specs.declared.reason.Reason.TheVariants.{TypeMismatch}
@@ -20,7 +20,7 @@ use Rattle.st_tree.specs.declared.raw.RawStmt.{RawStmt}
 use Rattle.st_tree.specs.declared.raw.RawStmtKind.TheVariants as raw
 use Rattle.st_tree.specs.declared.raw.RawVar.{RawVar}
 use Rattle.st_types.proofs.BodyCosts.{nil_first, nil_second}
-use Rattle.st_types.specs.Broken.{Judged, behind, breaks_in, breaks_rule, found_in, listed, sound}
+use Rattle.st_types.specs.Broken.{Judged, behind, breaks_in, breaks_rule, found_in, sound}
 use Rattle.st_types.specs.Expressions.{answered, expression, variable_on}
 use Rattle.st_types.specs.Statements.{Armed, Labelled, area_write_of, arm, arm_of, arms_on, assignment_of, case_arm, case_arms_on, case_of, label_breaks, selector, selector_of, statement, statements, test, test_of, type_of_selector, while_of}
 use Rattle.st_types.specs.Types.{is_selector, is_type, type_of_width}
@@ -140,7 +140,8 @@ module _ (s : Scope) (l : Line) where
   assign_clean v e c =
       let j = variable_on s l v in
       let k = expression s l e in
-      let both : j.breaks ++ k.breaks ≡ [] = nil_first (j.breaks ++ k.breaks) (assignment_of l j.found k.found).breaks (sym (ap (λ (j : Judged Stmt). j.breaks) (act_assign s l v e)) ∙ c) in
+      let both : j.breaks ++ k.breaks ≡ [] =
+      nil_first (j.breaks ++ k.breaks) (assignment_of l j.found k.found).breaks (sym (ap (λ (j : Judged Stmt). j.breaks) (act_assign s l v e)) ∙ c) in
       (nil_first j.breaks k.breaks both, nil_second j.breaks k.breaks both)
 
   pub assign_fits : (v : RawVar) (e : RawExpr) (x : TypedVar) (t : Typed) → variable s v ≡ Ok x → expression s l e ≡ sound t
@@ -166,7 +167,8 @@ module _ (s : Scope) (l : Line) where
   write_clean w p e c =
       let j = expression s l p in
       let k = expression s l e in
-      let both : j.breaks ++ k.breaks ≡ [] = nil_first (j.breaks ++ k.breaks) (area_write_of l w j.found k.found).breaks (sym (ap (λ (j : Judged Stmt). j.breaks) (act_write s l w p e)) ∙ c) in
+      let both : j.breaks ++ k.breaks ≡ [] =
+      nil_first (j.breaks ++ k.breaks) (area_write_of l w j.found k.found).breaks (sym (ap (λ (j : Judged Stmt). j.breaks) (act_write s l w p e)) ∙ c) in
       (nil_first j.breaks k.breaks both, nil_second j.breaks k.breaks both)
 
   pub write_fits : (w : Width) (p e : RawExpr) (t u : Typed) → expression s l p ≡ sound t → expression s l e ≡ sound u
@@ -183,7 +185,8 @@ module _ (s : Scope) (l : Line) where
 
   -- IF
 
-  pub if_clean : (arms : List RawArm) (bs : List RawStmt) → (statement s (on_line l (raw.If arms bs))).breaks ≡ [] → (breaks_in (arms_on l (map (arm s) arms)) ≡ []) × (breaks_in (statements s bs) ≡ [])
+  pub if_clean : (arms : List RawArm) (bs : List RawStmt) → (statement s (on_line l (raw.If arms bs))).breaks ≡ []
+      → (breaks_in (arms_on l (map (arm s) arms)) ≡ []) × (breaks_in (statements s bs) ≡ [])
   if_clean arms bs c =
       let js = arms_on l (map (arm s) arms) in
       let ks = statements s bs in
@@ -219,7 +222,8 @@ module _ (s : Scope) (l : Line) where
       let js = case_arms_on l (Some t.ty) (map (case_arm s) arms) in
       let ks = statements s bs in
       act_case s l e arms bs
-      ∙ ap (λ (j : Judged Typed). let is = case_arms_on l (type_of_selector j.found) (map (case_arm s) arms) in of_parts (case_of j.found (found_in is) (found_in ks)) (j.breaks ++ breaks_in is ++ breaks_in ks)) f
+      ∙ ap (λ (j : Judged Typed). let is = case_arms_on l (type_of_selector j.found) (map (case_arm s) arms) in of_parts (case_of j.found (found_in is) (found_in ks))
+      (j.breaks ++ breaks_in is ++ breaks_in ks)) f
       ∙ judged (Some (stmt.Case t.tree (found_in js) (found_in ks))) (stmt.Case t.tree xs ys) (breaks_in js ++ breaks_in ks)
       (ap (λ z. Some (stmt.Case t.tree z (found_in ks))) (found_of js xs h) ∙ ap (λ z. Some (stmt.Case t.tree xs z)) (found_of ks ys g))
       (no_break (breaks_in js) (breaks_in ks) (clean_of js xs h) (clean_of ks ys g))
@@ -274,7 +278,8 @@ module _ (s : Scope) (l : Line) where
       let ks = statements s bs in
       ap (λ (d : Labelled). d l (Some ty)) (act_case_arm s labels bs)
       ∙ judged (Some (arm_with (values labels) (found_in ks))) (arm_with ns ys) (label_breaks l (Some ty) labels ++ breaks_in ks)
-      (ap (λ z. Some (arm_with z (found_in ks))) f ∙ ap (λ z. Some (arm_with ns z)) (found_of ks ys g)) (no_break (label_breaks l (Some ty) labels) (breaks_in ks) h (clean_of ks ys g))
+      (ap (λ z. Some (arm_with z (found_in ks))) f ∙ ap (λ z. Some (arm_with ns z)) (found_of ks ys g))
+      (no_break (label_breaks l (Some ty) labels) (breaks_in ks) h (clean_of ks ys g))
     where
       arm_with : List ℤ → List Stmt → CaseArm
       arm_with labels body = record { labels = labels; body = body }

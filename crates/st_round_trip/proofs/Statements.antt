@@ -1,45 +1,25 @@
 -- A statement that breaks no rule: its canonical form means the same on each line, is of the language, nests
 -- no deeper and calls the same functions.
-use Rattle.std.proofs.Common.{◌≡◌, ℕ, suc, ◌+◌, ◌≤◌, max, ◌++◌, ℤ, Bool, true, false, List, [], ◌∷◌, map, Option, Some, None, refl, sym, ap, subst, ◌∙◌, arith}
-use Rattle.s7_base.specs.Tokens.{line_after}
+use Rattle.std.proofs.Common.{◌≡◌, ℕ, ◌≤◌, ◌++◌, Bool, List, [], ◌∷◌, map, Option, Some, refl, sym, ap, subst, ◌∙◌, arith}
 use Rattle.s7_base.specs.declared.reason.Line.{Line}
-use Rattle.s7_base.specs.declared.word.Width.{Width}
-use Rattle.st_parser.specs.Canonical as canonical
-use Rattle.st_parser.specs.Canonical.{ArmFromLine, CaseFromLine, FromLine, Placed, all_from, arm_from, arms_from, body_from, case_from, cases_else_from, cases_from, choice_from, expr_form, labels_form, on, raw_var, statement_from}
-use Rattle.st_parser.specs.Forms.{Form, Labels, Statement, assign, write, choice, choice_else, cases, cases_else, loop, jump, Statements, none, empty, further, Arms, no_arm, arm, CaseArms, no_case, case_arm}
-use Rattle.st_parser.specs.Grammar.{AllFit, ArmsFit, Binds, CasesFit, Fits, HasArm, HasCase, may_jump, tree, tree_all, tree_arms, tree_cases, tree_labels, tree_one}
-use Rattle.st_parser.specs.Spelled.{AllSpelled, ArmsSpelled, CasesSpelled, FormSpelled, LabelsSpelled, Spelled, is_variable}
-use Rattle.st_parser.specs.declared.kind.Jump.{Jump}
-use Rattle.st_parser.specs.declared.kind.Jump.TheVariants as jump_word
-use Rattle.st_round_trip.proofs.Actions.{act_continue, act_exit, act_return, calls_assign, calls_continue, calls_exit, calls_return, calls_write, from_arm, from_assign, from_case, from_case_arm, from_continue, from_exit, from_if, from_return, from_while, from_write}
-use Rattle.st_round_trip.proofs.Callees.{all_callees, arms_callees, arms_last, both, callees, callees_case, callees_if, callees_last, callees_of, callees_while, cases_callees, cases_last}
-use Rattle.st_round_trip.proofs.CaseLabels.{FoundLabels, found_labels, labels_typed, no_label_breaks, values_of, of_type}
-use Rattle.st_round_trip.proofs.Expressions.{Found, Good}
-use Rattle.st_round_trip.proofs.Levels.{nest, top_all, top_arms, top_cases, top_one}
-use Rattle.st_round_trip.proofs.Parts.{AreSound, arm_is, assign_is, case_arm_is, case_is, if_is, map_last, selector_is, test_is, values, while_is, write_is, writes}
-use Rattle.st_round_trip.proofs.Variables.{Written}
+use Rattle.st_parser.specs.Canonical.{ArmFromLine, CaseFromLine, FromLine, all_from, arm_from, arms_from, body_from, case_from, cases_from, statement_from}
+use Rattle.st_parser.specs.Forms.{Statement, Statements, none, empty, further, Arms, no_arm, CaseArms, no_case}
+use Rattle.st_parser.specs.Grammar.{AllFit, ArmsFit, CasesFit, Fits, HasArm, HasCase, tree_all, tree_arms, tree_cases, tree_one}
+use Rattle.st_parser.specs.Spelled.{AllSpelled, ArmsSpelled, CasesSpelled, Spelled}
+use Rattle.st_round_trip.proofs.Callees.{all_callees, arms_callees, both, callees_last, callees_of, cases_callees}
+use Rattle.st_round_trip.proofs.Levels.{top_all, top_arms, top_cases, top_one}
+use Rattle.st_round_trip.proofs.Parts.{AreSound, map_last}
 use Rattle.st_tree.specs.Typing.{Names}
 use Rattle.st_tree.specs.declared.expr.StType.{StType}
-use Rattle.st_tree.specs.declared.expr.StType.TheVariants as type
 use Rattle.st_tree.specs.declared.program.Arm.{Arm}
 use Rattle.st_tree.specs.declared.program.CaseArm.{CaseArm}
 use Rattle.st_tree.specs.declared.program.Stmt.{Stmt}
-use Rattle.st_tree.specs.declared.program.Stmt.TheOpen as S
-use Rattle.st_tree.specs.declared.program.Stmt.TheVariants as stmt
 use Rattle.st_tree.specs.declared.raw.RawArm.{RawArm}
 use Rattle.st_tree.specs.declared.raw.RawCaseArm.{RawCaseArm}
-use Rattle.st_tree.specs.declared.raw.RawExpr.{RawExpr}
 use Rattle.st_tree.specs.declared.raw.RawStmt.{RawStmt}
-use Rattle.st_tree.specs.declared.raw.RawVar.{RawVar}
-use Rattle.st_types.specs.Broken.{Judged, sound}
-use Rattle.st_types.specs.Calls.{all_calls, calls_of, calls_of_arm, calls_of_case_arm, joined}
-use Rattle.st_types.specs.Statements.{Armed, Labelled, arm as arm_in, arms_on, case_arm as case_arm_in, case_arms_on, label_breaks, statement, statements}
-use Rattle.st_types.specs.Types.{is_selector, is_type}
-use Rattle.st_types.specs.Variables.{variable as variable_in}
-use Rattle.st_types.specs.declared.call.Call.{Call}
-use Rattle.st_types.specs.declared.expression.Typed.{Typed}
+use Rattle.st_types.specs.Broken.{sound}
+use Rattle.st_types.specs.Statements.{Armed, Labelled, arm as arm_in, arms_on, case_arm as case_arm_in, case_arms_on, statement, statements}
 use Rattle.st_types.specs.declared.scope.Scope.{Scope}
-use Rattle.st_types.specs.declared.variable.TypedVar.{TypedVar}
 
 -- what holds of statements that were read, their trees and the canonical forms of these
 module _ (scope again : Scope) (inside : Bool) where
@@ -102,7 +82,8 @@ pub all_last : (others : Statements) (k : ℕ) (fs : List FromLine) (f : FromLin
 all_last others k [] f = refl
 all_last others k (g ∷ fs) f = all_last (further others (g k).0) (g k).1 fs f
 
-pub arms_behind : (others : Arms) (k : ℕ) (fs : List ArmFromLine) (f : ArmFromLine) → (arms_from others k (fs ++ f ∷ [])).0 ≡ (f (arms_from others k fs).0 (arms_from others k fs).1).0
+pub arms_behind : (others : Arms) (k : ℕ) (fs : List ArmFromLine) (f : ArmFromLine)
+    → (arms_from others k (fs ++ f ∷ [])).0 ≡ (f (arms_from others k fs).0 (arms_from others k fs).1).0
 arms_behind others k [] f = refl
 arms_behind others k (g ∷ fs) f = arms_behind (g others k).0 (g others k).1 fs f
 
@@ -111,7 +92,8 @@ pub cases_behind : (ty : StType) (others : CaseArms) (k : ℕ) (fs : List CaseFr
 cases_behind ty others k [] f = refl
 cases_behind ty others k (g ∷ fs) f = cases_behind ty (g ty others k).0 (g ty others k).1 fs f
 
-statements_last : (s : Scope) (rs : List RawStmt) (r : RawStmt) (xs : List Stmt) (x : Stmt) → AreSound (statements s rs) xs → statement s r ≡ sound x → AreSound (statements s (rs ++ r ∷ [])) (xs ++ x ∷ [])
+statements_last : (s : Scope) (rs : List RawStmt) (r : RawStmt) (xs : List Stmt) (x : Stmt) → AreSound (statements s rs) xs → statement s r ≡ sound x
+    → AreSound (statements s (rs ++ r ∷ [])) (xs ++ x ∷ [])
 statements_last s rs r xs x h g =
     map_last (statement s) rs r ∙ ap (λ z. z ++ statement s r ∷ []) h ∙ ap (λ z. map sound xs ++ z ∷ []) g ∙ sym (map_last sound xs x)
 

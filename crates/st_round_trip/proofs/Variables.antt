@@ -1,9 +1,8 @@
 -- Variables as the canonical text writes them: they mean the same, and tokens can have them.
-use Rattle.std.proofs.Common.{◌≡◌, ℕ, Bool, true, false, ◌&&◌, cond, List, [], ◌∷◌, Option, Some, None, Result, Ok, Err, refl, sym, ap, subst, ◌∙◌}
+use Rattle.std.proofs.Common.{◌≡◌, ℕ, Bool, true, false, ◌&&◌, cond, List, Option, Some, None, Ok, Err, refl, ap, subst, ◌∙◌}
 use Rattle.std.specs.Prelude.{slice_get}
 use Rattle.memory_areas.specs.declared.place.AreaName.{AreaName}
 use Rattle.memory_areas.specs.declared.place.AreaName.TheVariants as area
-use Rattle.s7_base.specs.declared.reason.Reason.{Reason}
 use Rattle.s7_base.specs.declared.reason.Reason.TheVariants.{BadAddress}
 use Rattle.s7_base.specs.declared.register.Reg.{Reg}
 use Rattle.s7_base.specs.declared.register.Reg.TheVariants as reg
@@ -18,7 +17,6 @@ use Rattle.st_tree.specs.Typing.{Names, global_type, local_type, var_type}
 use Rattle.st_tree.specs.Values as values
 use Rattle.st_tree.specs.Words.{register_word}
 use Rattle.st_tree.specs.declared.expr.StType.{StType}
-use Rattle.st_tree.specs.declared.expr.Var.{Var}
 use Rattle.st_tree.specs.declared.expr.Var.TheVariants as var
 use Rattle.st_tree.specs.declared.program.Local.{Local}
 use Rattle.st_tree.specs.declared.program.Located.{Located}
@@ -29,7 +27,7 @@ use Rattle.st_types.proofs.Declared.{Declares, IsGlobalAt, IsLocalAt, SameScope}
 use Rattle.st_types.specs.Names.{key_of}
 use Rattle.st_types.specs.Scopes.{as_register, meaning_in, or_else, register_named}
 use Rattle.st_types.specs.Types.{type_of_width}
-use Rattle.st_types.specs.Variables.{is_block_number, is_place, place_at, type_of_register, variable, variable_named, variable_of}
+use Rattle.st_types.specs.Variables.{is_block_number, is_place, type_of_register, variable, variable_named, variable_of}
 use Rattle.st_types.specs.Names.{look_up}
 use Rattle.st_types.specs.declared.scope.Meaning.{Meaning}
 use Rattle.st_types.specs.declared.scope.Meaning.TheVariants as meaning
@@ -132,7 +130,9 @@ module _ (scope again : Scope) (names : Names) (declares : Declares scope names)
   register : (r : Reg) → Good (record { ty = type_of_register r; var = var.Register r })
   register r = record {
     has_type = register_type r;
-    means = ap (λ (o : Option Reg). variable_named (or_else (as_register o) (or_else (look_up (key_of (register_word r)) again.inner) (look_up (key_of (register_word r)) again.outer)))) (register_key r);
+    means =
+        ap (λ (o : Option Reg). variable_named (or_else (as_register o) (or_else (look_up (key_of (register_word r)) again.inner) (look_up (key_of (register_word r)) again.outer))))
+        (register_key r);
     spelled = register_is_name r;
   }
 
@@ -140,7 +140,8 @@ module _ (scope again : Scope) (names : Names) (declares : Declares scope names)
   by_key : (name key : List ℕ) (m : Option Meaning) → key_of name ≡ key → meaning_in scope key ≡ m → variable again (raw.Name name) ≡ variable_named m
   by_key name key m e h = ap variable_named (ap (meaning_in again) e ∙ same.same key ∙ h)
 
-  formal : (key : List ℕ) (i : ℕ) (ty : StType) (o : Option Local) → slice_get names.formals i ≡ o → IsLocalAt key ty o → meaning_in scope key ≡ Some (meaning.Formal i ty) → Good (record { ty = ty; var = var.Formal i })
+  formal : (key : List ℕ) (i : ℕ) (ty : StType) (o : Option Local) → slice_get names.formals i ≡ o → IsLocalAt key ty o
+      → meaning_in scope key ≡ Some (meaning.Formal i ty) → Good (record { ty = ty; var = var.Formal i })
   formal key i ty None e h m = absurd h
   formal key i ty (Some l) e h m = record {
     has_type = ap local_type e ∙ h.1;
@@ -148,7 +149,8 @@ module _ (scope again : Scope) (names : Names) (declares : Declares scope names)
     spelled = ap (λ o. is_name (local_name o)) e ∙ named.formals i l e;
   }
 
-  local : (key : List ℕ) (i : ℕ) (ty : StType) (o : Option Local) → slice_get names.locals i ≡ o → IsLocalAt key ty o → meaning_in scope key ≡ Some (meaning.Local i ty) → Good (record { ty = ty; var = var.Local i })
+  local : (key : List ℕ) (i : ℕ) (ty : StType) (o : Option Local) → slice_get names.locals i ≡ o → IsLocalAt key ty o
+      → meaning_in scope key ≡ Some (meaning.Local i ty) → Good (record { ty = ty; var = var.Local i })
   local key i ty None e h m = absurd h
   local key i ty (Some l) e h m = record {
     has_type = ap local_type e ∙ h.1;
@@ -156,7 +158,8 @@ module _ (scope again : Scope) (names : Names) (declares : Declares scope names)
     spelled = ap (λ o. is_name (local_name o)) e ∙ named.locals i l e;
   }
 
-  global : (key : List ℕ) (i : ℕ) (ty : StType) (o : Option Located) → slice_get names.globals i ≡ o → IsGlobalAt key ty o → meaning_in scope key ≡ Some (meaning.Global i ty) → Good (record { ty = ty; var = var.Global i })
+  global : (key : List ℕ) (i : ℕ) (ty : StType) (o : Option Located) → slice_get names.globals i ≡ o → IsGlobalAt key ty o
+      → meaning_in scope key ≡ Some (meaning.Global i ty) → Good (record { ty = ty; var = var.Global i })
   global key i ty None e h m = absurd h
   global key i ty (Some l) e h m = record {
     has_type = ap global_type e ∙ h.1;
@@ -197,7 +200,8 @@ module _ (scope again : Scope) (names : Names) (declares : Declares scope names)
   block_is area.Db n w byte bit h = h
   block_is area.Di n w byte bit h = absurd cc
 
-  block_place : (a : AreaName) (n : ℕ) (w : Width) (byte bit : ℕ) (v : TypedVar) (t : Bool) → (is_block_number n && is_place area.Db w byte bit) ≡ t → is_variable (raw.Direct a (Some n) w byte bit) ≡ true
+  block_place : (a : AreaName) (n : ℕ) (w : Width) (byte bit : ℕ) (v : TypedVar) (t : Bool) → (is_block_number n && is_place area.Db w byte bit) ≡ t
+      → is_variable (raw.Direct a (Some n) w byte bit) ≡ true
       → cond t (variable_of (type_of_width w) (var.InBlock n byte bit w)) (Err BadAddress) ≡ Ok v → Good v
   block_place a n w byte bit v false e s h = absurd cc
   block_place a n w byte bit v true e s h =

@@ -1,9 +1,9 @@
-use Rattle.std.proofs.Common.{◌≡◌, Option, None, Ok, sym, ap, subst, ◌∙◌}
+use Rattle.std.proofs.Common.{◌≡◌, Option, Ok, sym, ap, subst, ◌∙◌}
 use Rattle.std.specs.Prelude.{option_map}
 use Rattle.s7_base.specs.declared.reason.Rejection.{Rejection}
 use Rattle.st_parser.proofs.Whole.{not_over}
 use Rattle.st_parser.proofs.parser.whole.Goals as goal
-use Rattle.st_parser.specs.Judge.{JudgedIs, judge, seen, text_in}
+use Rattle.st_parser.specs.Judge.{JudgedIs, judge, seen}
 use Rattle.st_parser.specs.Syntax.{all_lined}
 use Rattle.st_parser.specs.Views.{before_of}
 use Rattle.st_parser.specs.declared.state.State.TheVariants as state
