@@ -12,8 +12,8 @@ use crate::direct::direct_at;
 use crate::literal::{Literal, is_in_range, literal_at, type_at};
 use crate::number::{Base, base_at, is_digit_to};
 use crate::text::{begins_with, front_of, rest_after, word_size};
-use st_tree::{StKind, StToken};
 use s7_base::{Line, List, NoMemory, Reason, Rejection};
+use st_tree::{StKind, StToken};
 use std::alloc::Global;
 
 /// What stands at the front of a text, with its size in bytes.

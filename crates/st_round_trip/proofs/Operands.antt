@@ -3,9 +3,9 @@ use Rattle.std.proofs.Common.{◌≡◌, ◌++◌, Bool, true, false, ◌&&◌, 
 use Rattle.s7_base.specs.declared.reason.Line.{Line}
 use Rattle.s7_base.specs.declared.word.Width.{Width}
 use Rattle.st_round_trip.proofs.Equations.{read_unary, read_binary, read_convert, read_select, read_shift, read_area}
-use Rattle.st_round_trip.proofs.Variables.{width_type}
 use Rattle.st_tree.specs.Typing.{binary_type, unary_type}
 use Rattle.st_tree.specs.Values as values
+use Rattle.st_tree.specs.Values.{type_of_width}
 use Rattle.st_tree.specs.declared.expr.BinaryOp.{BinaryOp}
 use Rattle.st_tree.specs.declared.expr.BinaryOp.TheVariants as binary
 use Rattle.st_tree.specs.declared.expr.Expr.{Expr}
@@ -20,7 +20,7 @@ use Rattle.st_tree.specs.declared.raw.RawExpr.TheVariants as raw
 use Rattle.st_types.proofs.BodyCosts.{nil_first, nil_second}
 use Rattle.st_types.specs.Broken.{Judged, behind, sound}
 use Rattle.st_types.specs.Expressions.{area_read_of, binary_of, choice_of, conversion_of, expression, shift_of, typed_as, unary_of}
-use Rattle.st_types.specs.Types.{has_bits, has_numbers, is_type, type_of_binary, type_of_choice, type_of_conversion, type_of_read, type_of_shift, type_of_unary, type_of_width, type_on_equals, where_true}
+use Rattle.st_types.specs.Types.{has_bits, has_numbers, is_type, type_of_binary, type_of_choice, type_of_conversion, type_of_read, type_of_shift, type_of_unary, type_on_equals, where_true}
 use Rattle.st_types.specs.declared.expression.Typed.{Typed}
 use Rattle.st_types.specs.declared.scope.Scope.{Scope}
 
@@ -77,7 +77,7 @@ pub shift_is : (a count ty : StType) → type_of_shift a count ≡ Some ty → a
 shift_is a count ty h = where_is (has_bits a && is_type count type.Int) a ty h
 
 pub read_is : (w : Width) (p ty : StType) → type_of_read w p ≡ Some ty → values.type_of_width w ≡ ty
-read_is w p ty h = width_type w ∙ where_is (is_type p type.Dword) (type_of_width w) ty h
+read_is w p ty h = where_is (is_type p type.Dword) (type_of_width w) ty h
 
 -- What is read
 

@@ -6,6 +6,7 @@ use Rattle.s7_base.specs.declared.reason.Reason.TheVariants.{TypeMismatch}
 use Rattle.s7_base.specs.declared.word.Width.{Width}
 use Rattle.st_parser.specs.Grammar.{arm_of as raw_arm, case_of as raw_case, on_line}
 use Rattle.st_round_trip.proofs.Actions.{act_arm, act_assign, act_case, act_case_arm, act_if, act_while, act_write}
+use Rattle.st_tree.specs.Values.{type_of_width}
 use Rattle.st_tree.specs.declared.expr.Expr.{Expr}
 use Rattle.st_tree.specs.declared.expr.StType.{StType}
 use Rattle.st_tree.specs.declared.expr.StType.TheVariants as type
@@ -23,7 +24,7 @@ use Rattle.st_types.proofs.BodyCosts.{nil_first, nil_second}
 use Rattle.st_types.specs.Broken.{Judged, behind, breaks_in, breaks_rule, found_in, sound}
 use Rattle.st_types.specs.Expressions.{answered, expression, variable_on}
 use Rattle.st_types.specs.Statements.{Armed, Labelled, area_write_of, arm, arm_of, arms_on, assignment_of, case_arm, case_arms_on, case_of, label_breaks, selector, selector_of, statement, statements, test, test_of, type_of_selector, while_of}
-use Rattle.st_types.specs.Types.{is_selector, is_type, type_of_width}
+use Rattle.st_types.specs.Types.{is_selector, is_type}
 use Rattle.st_types.specs.Variables.{variable}
 use Rattle.st_types.specs.declared.broken.Break.{Break}
 use Rattle.st_types.specs.declared.expression.Typed.{Typed}

@@ -7,14 +7,13 @@ use Rattle.s7_base.specs.declared.reason.Reason.TheVariants.{BadAddress}
 use Rattle.s7_base.specs.declared.register.Reg.{Reg}
 use Rattle.s7_base.specs.declared.register.Reg.TheVariants as reg
 use Rattle.s7_base.specs.declared.word.Width.{Width}
-use Rattle.s7_base.specs.declared.word.Width.TheVariants as width
 use Rattle.st_parser.specs.Canonical.{raw_var}
 use Rattle.st_parser.specs.Kinds.{word_named, word_text}
 use Rattle.st_parser.specs.Spelled.{is_name, is_variable}
 use Rattle.st_tree.specs.Spelling.{global_name, local_name}
-use Rattle.st_tree.specs.State as state
+use Rattle.st_tree.specs.State.{type_of_register}
 use Rattle.st_tree.specs.Typing.{Names, global_type, local_type, var_type}
-use Rattle.st_tree.specs.Values as values
+use Rattle.st_tree.specs.Values.{type_of_width}
 use Rattle.st_tree.specs.Words.{register_word}
 use Rattle.st_tree.specs.declared.expr.StType.{StType}
 use Rattle.st_tree.specs.declared.expr.Var.TheVariants as var
@@ -26,8 +25,7 @@ use Rattle.st_tree.specs.declared.raw.RawVar.TheVariants as raw
 use Rattle.st_types.proofs.Declared.{Declares, IsGlobalAt, IsLocalAt, SameScope}
 use Rattle.st_types.specs.Names.{key_of}
 use Rattle.st_types.specs.Scopes.{as_register, meaning_in, or_else, register_named}
-use Rattle.st_types.specs.Types.{type_of_width}
-use Rattle.st_types.specs.Variables.{is_block_number, is_place, type_of_register, variable, variable_named, variable_of}
+use Rattle.st_types.specs.Variables.{is_block_number, is_place, variable, variable_named, variable_of}
 use Rattle.st_types.specs.Names.{look_up}
 use Rattle.st_types.specs.declared.scope.Meaning.{Meaning}
 use Rattle.st_types.specs.declared.scope.Meaning.TheVariants as meaning
@@ -100,36 +98,13 @@ register_is_name reg.Cc0 = refl
 register_is_name reg.Cc1 = refl
 register_is_name reg.Br = refl
 
-register_type : (r : Reg) → state.type_of_register r ≡ type_of_register r
-register_type reg.Accu1 = refl
-register_type reg.Accu2 = refl
-register_type reg.Ar1 = refl
-register_type reg.Ar2 = refl
-register_type reg.DbNo = refl
-register_type reg.DiNo = refl
-register_type reg.Nfc = refl
-register_type reg.Rlo = refl
-register_type reg.Sta = refl
-register_type reg.Orb = refl
-register_type reg.Os = refl
-register_type reg.Ov = refl
-register_type reg.Cc0 = refl
-register_type reg.Cc1 = refl
-register_type reg.Br = refl
-
-pub width_type : (w : Width) → values.type_of_width w ≡ type_of_width w
-width_type width.Bit = refl
-width_type width.Byte = refl
-width_type width.Word = refl
-width_type width.Dword = refl
-
 module _ (scope again : Scope) (names : Names) (declares : Declares scope names) (same : SameScope again scope) (named : Named names) where
   abbrev Good : TypedVar → Type 0
   Good v = Written names again v
 
   register : (r : Reg) → Good (record { ty = type_of_register r; var = var.Register r })
   register r = record {
-    has_type = register_type r;
+    has_type = refl;
     means =
         ap (λ (o : Option Reg). variable_named (or_else (as_register o) (or_else (look_up (key_of (register_word r)) again.inner) (look_up (key_of (register_word r)) again.outer))))
         (register_key r);
@@ -187,7 +162,7 @@ module _ (scope again : Scope) (names : Names) (declares : Declares scope names)
       let x : TypedVar = record { ty = type_of_width w; var = var.Direct a byte bit w } in
       let is : x ≡ v = cc in
       subst Good is (record {
-        has_type = width_type w;
+        has_type = refl;
         means = ap (λ t. cond t (variable_of (type_of_width w) (var.Direct a byte bit w)) (Err BadAddress)) e;
         spelled = s;
       })
@@ -208,7 +183,7 @@ module _ (scope again : Scope) (names : Names) (declares : Declares scope names)
       let x : TypedVar = record { ty = type_of_width w; var = var.InBlock n byte bit w } in
       let is : x ≡ v = cc in
       subst Good is (record {
-        has_type = width_type w;
+        has_type = refl;
         means = ap (λ t. cond t (variable_of (type_of_width w) (var.InBlock n byte bit w)) (Err BadAddress)) e;
         spelled = block_is a n w byte bit s;
       })

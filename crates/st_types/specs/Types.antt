@@ -8,7 +8,7 @@ use Rattle.st_tree.specs.declared.expr.StType.{StType}
 use Rattle.st_tree.specs.declared.expr.StType.TheVariants as type
 use Rattle.st_tree.specs.declared.expr.UnaryOp.{UnaryOp}
 use Rattle.st_tree.specs.declared.expr.UnaryOp.TheVariants as unary
-pub use Rattle.st_tree.specs.Values.{type_of_width}
+use Rattle.st_tree.specs.Values.{type_of_width}
 
 -- the place of a type in the list of types: the four bit types, then the three number types
 abbrev pub place_of : StType → ℕ

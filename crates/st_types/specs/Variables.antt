@@ -7,7 +7,7 @@ use Rattle.memory_areas.specs.declared.sizes.TheConstants.{INPUT_BYTES, OUTPUT_B
 use Rattle.s7_base.specs.declared.reason.Reason.{Reason}
 use Rattle.s7_base.specs.declared.reason.Reason.TheVariants.{UnknownName, BadAddress, TypeMismatch}
 use Rattle.s7_base.specs.declared.word.Width.{Width}
-pub use Rattle.st_tree.specs.State.{type_of_register}
+use Rattle.st_tree.specs.State.{type_of_register}
 use Rattle.st_tree.specs.Values.{type_of_width}
 use Rattle.st_tree.specs.declared.expr.StType.{StType}
 use Rattle.st_tree.specs.declared.expr.Var.{Var}
