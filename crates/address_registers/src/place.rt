@@ -1,10 +1,10 @@
 //! The place that a pointer names.
 ghost use Rattle.std.specs.Prelude.{◌≡◌};
-ghost use Rattle.memory_areas.specs.Access.{area_named, name_of_code};
+ghost use Rattle.memory_areas.specs.Access.{name_of_code};
 ghost use Rattle.address_registers.specs.Pointers.{resolved};
 
 use crate::pointer::Pointer;
-use memory_areas::{Area, AreaName, Place};
+use memory_areas::{AreaName, Place};
 use s7_base::Fault;
 
 /// The place that a pointer names. `db` and `di` are the numbers in the DB and the DI register, and
@@ -14,7 +14,7 @@ pub fn resolve(p: Pointer, db: u16, di: u16, depth: u8) -> Result<Place, Fault>
 {
     match name_of_code(p.area()) {
         Some(name) => Ok(Place {
-            area: area_named(name, db, di, depth),
+            area: name.area(db, di, depth),
             byte: p.byte(),
             bit: p.bit(),
         }),
@@ -33,18 +33,5 @@ fn name_of_code(code: u8) -> Option<AreaName>
         0x85 => Some(AreaName::Di),
         0x86 => Some(AreaName::L),
         _ => None,
-    }
-}
-
-fn area_named(name: AreaName, db: u16, di: u16, depth: u8) -> Area
-    ensures { result ≡ area_named name db di depth }
-{
-    match name {
-        AreaName::I => Area::I,
-        AreaName::Q => Area::Q,
-        AreaName::M => Area::M,
-        AreaName::L => Area::Local(depth),
-        AreaName::Db => Area::Db(db),
-        AreaName::Di => Area::Db(di),
     }
 }

@@ -1,4 +1,8 @@
 //! Places in the memory of a controller.
+ghost use Rattle.std.specs.Prelude.{◌≡◌, ◌<◌};
+ghost use Rattle.memory_areas.specs.Access.{area_named};
+ghost use Rattle.memory_areas.specs.Memory.{IsActivation};
+ghost use Rattle.memory_areas.specs.declared.sizes.TheConstants.{ACTIVATIONS};
 
 /// An area of memory as a place names it. `Local` and `Cell` are the local data and the constant
 /// actuals of an activation, numbered from 0 to 7; `Db` has the number of a data block, and is 0 where
@@ -22,6 +26,24 @@ pub enum AreaName {
     L,
     Db,
     Di,
+}
+
+impl AreaName {
+    /// The area that the name stands for. `db` and `di` are the numbers in the DB and the DI register, and
+    /// `activation` is that of the running activation.
+    pub fn area(self, db: u16, di: u16, activation: u8) -> Area
+        ensures area { result ≡ area_named self db di activation }
+        ensures activation { activation < ACTIVATIONS → IsActivation result }
+    {
+        match self {
+            AreaName::I => Area::I,
+            AreaName::Q => Area::Q,
+            AreaName::M => Area::M,
+            AreaName::L => Area::Local(activation),
+            AreaName::Db => Area::Db(db),
+            AreaName::Di => Area::Db(di),
+        }
+    }
 }
 
 /// A place in memory: an area, a byte from 0 and a bit from 0 to 7, which is 0 for a byte or more.

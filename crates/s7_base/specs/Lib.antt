@@ -1,3 +1,4 @@
+pub mod Answers
 pub mod Reason
 pub mod RegSet
 pub mod TokenGrammar

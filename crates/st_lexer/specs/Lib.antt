@@ -1,4 +1,3 @@
-pub mod Answers
 pub mod Direct
 pub mod Literals
 pub mod Pieces

@@ -1,7 +1,7 @@
 //! Cuts a text into pieces, and keeps those that are tokens.
 ghost use Rattle.std.specs.Prelude.{◌≡◌, ◌≤◌, ◌+◌, ◌++◌, ◌&&◌, ◌==◌, length, drop, take, false, IfSome, IfOk, OnOk, option_map};
 ghost use Rattle.s7_base.specs.Tokens.{begins_with, line_size, line_at_end};
-ghost use Rattle.st_lexer.specs.Answers.{Answers};
+ghost use Rattle.s7_base.specs.Answers.{Answers};
 ghost use Rattle.st_lexer.specs.Direct.{direct_at};
 ghost use Rattle.st_lexer.specs.Literals.{type_at, base_at, literal_at};
 ghost use Rattle.st_lexer.specs.Pieces.{view, cut_view};

@@ -6,13 +6,12 @@ use Rattle.s7_base.specs.declared.reason.Reason.{Reason}
 use Rattle.s7_base.specs.declared.reason.Reason.TheVariants as reason
 use Rattle.s7_base.specs.declared.reason.Rejection.{Rejection}
 use Rattle.s7_base.specs.declared.reason.Rejection.TheVariants.{Refused, NoMemory}
-use Rattle.st_lexer.specs.Answers.{Answers}
+use Rattle.s7_base.specs.Answers.{Answers, IfRefused}
 use Rattle.st_lexer.specs.StTokens.{answer, cut_from, first_bad, great_from, tokens_of}
 use Rattle.st_tree.specs.declared.token.StToken.{StToken}
 use Rattle.st_parser.proofs.Ends.{ends_over}
 use Rattle.st_parser.proofs.Exact.{Read, read_all, raw_of}
 use Rattle.st_parser.proofs.Verdicts.{Refuses, Says, says}
-use Rattle.st_parser.specs.Answers.{IfRefused}
 use Rattle.st_parser.specs.Judge.{HasText, judge, text_in}
 use Rattle.st_parser.specs.Machine.{code, Before, State, start, over}
 use Rattle.st_parser.specs.declared.state.Before.{Before as Found}

@@ -1,4 +1,3 @@
-pub mod Answers
 pub mod Canonical
 pub mod Derives
 pub mod Forms

@@ -1,7 +1,7 @@
 //! Judges the syntax of a text: its tree before names are looked up, or its first wrong token.
 ghost use Rattle.std.specs.Prelude.{◌≡◌, ◌+◌, nat_lt, Err, IfOk, option_map};
 ghost use Rattle.s7_base.specs.declared.reason.Rejection.TheVariants.{Refused};
-ghost use Rattle.st_parser.specs.Answers.{IfRefused};
+ghost use Rattle.s7_base.specs.Answers.{IfRefused};
 ghost use Rattle.st_parser.specs.Judge.{seen, turn, reached, judged, judge, text_in, HasText, JudgedIs};
 ghost use Rattle.st_parser.specs.Kinds.{kind_of};
 ghost use Rattle.st_parser.specs.Levels.{deepest};

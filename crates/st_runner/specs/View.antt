@@ -9,7 +9,6 @@ use Rattle.st_runner.specs.declared.registers.Registers.{Registers}
 use Rattle.st_runner.specs.declared.state.Activation.{Activation as Kept}
 use Rattle.st_runner.specs.declared.state.State.{State as Parts}
 use Rattle.st_tree.specs.State.{Activation, State, locals_of, there, with_local}
-use Rattle.st_tree.specs.declared.program.Located.{Located}
 use Rattle.st_tree.specs.declared.expr.Var.{Var}
 use Rattle.st_tree.specs.declared.program.Pou.{Pou}
 use Rattle.st_tree.specs.declared.state.Reference.{Reference}

@@ -1,6 +1,6 @@
 //! What variables and pointers stand for, and what they read and write.
 ghost use Rattle.std.specs.Prelude.{◌≡◌, ◌<◌, length, slice_get, IfOk, Ok, ℕ};
-ghost use Rattle.memory_areas.specs.Access.{and_then, area_named};
+ghost use Rattle.memory_areas.specs.Access.{and_then};
 ghost use Rattle.memory_areas.specs.Memory.{IsActivation};
 ghost use Rattle.memory_areas.specs.declared.sizes.TheConstants.{ACTIVATIONS};
 ghost use Rattle.st_runner.specs.View.{Changes, IsReachable, IsRunning, IsSound, SameShape, state_of};
@@ -15,21 +15,6 @@ use address_registers::{Pointer, resolve};
 use memory_areas::{Area, AreaName, Place};
 use s7_base::{Fault, Reg, Width};
 use st_tree::{Located, Reference, Value, Var, type_of_width};
-
-fn area_named(name: AreaName, db: u16, di: u16, depth: u8) -> Area
-    requires { depth < ACTIVATIONS }
-    ensures area { result ≡ area_named name db di depth }
-    ensures activation { IsActivation result }
-{
-    match name {
-        AreaName::I => Area::I,
-        AreaName::Q => Area::Q,
-        AreaName::M => Area::M,
-        AreaName::L => Area::Local(depth),
-        AreaName::Db => Area::Db(db),
-        AreaName::Di => Area::Db(di),
-    }
-}
 
 impl State {
     /// The number of the running activation.
@@ -60,7 +45,7 @@ impl State {
         ensures activation { IsActivation result.area }
     {
         Place {
-            area: area_named(name, self.db_number(), self.di_number(), self.depth()),
+            area: name.area(self.db_number(), self.di_number(), self.depth()),
             byte,
             bit,
         }

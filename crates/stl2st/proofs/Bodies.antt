@@ -1,6 +1,7 @@
 -- How the reader's loop follows the definition of a body, item by item.
 use Rattle.std.proofs.Common.{◌≡◌, ◌≤◌, List, [], ◌∷◌, ◌++◌, length, drop, get_or, Bool, true, false, if◌then◌else◌, Result, Ok, Err, refl, sym, ap, subst, ◌∙◌, arith, append_assoc}
 use Rattle.std.specs.Prelude.{codes}
+use Rattle.s7_base.specs.Answers.{Answers}
 use Rattle.s7_base.specs.declared.reason.Line.{Line}
 use Rattle.s7_base.specs.declared.reason.Rejection.{Rejection}
 use Rattle.s7_base.specs.declared.reason.Rejection.TheVariants.{Refused, NoMemory}
@@ -11,7 +12,7 @@ use Rattle.stl_tree.specs.Verdict.{prepend_instrs, body_from, with_item, with_en
 use Rattle.stl_tree.specs.Words.{is_word}
 use Rattle.stl_tree.specs.declared.program.Instr.{Instr}
 use Rattle.stl_tree.specs.declared.program.Program.{Program}
-use Rattle.stl2st.specs.Answers.{Answers, EndsBody, PutsItem}
+use Rattle.stl2st.specs.Answers.{EndsBody, PutsItem}
 
 -- instructions before instructions before others
 pub prepend-prepend : (xs ys : List Instr) (r : Result (List Instr) Rejection) → prepend_instrs xs (prepend_instrs ys r) ≡ prepend_instrs (xs ++ ys) r

@@ -6,12 +6,6 @@ use Rattle.s7_base.specs.declared.token.Token.{Token}
 use Rattle.stl_tree.specs.Verdict.{prepend_instrs, with_item}
 use Rattle.stl_tree.specs.declared.program.Instr.{Instr}
 
--- the answer is the defined one, or want of memory
-abbrev pub Answers : {X : Type 0} → Result X Rejection → Result X Rejection → Type 0
-Answers (Ok x) defined = defined ≡ Ok x
-Answers (Err (Refused line reason)) defined = defined ≡ Err (Refused line reason)
-Answers (Err NoMemory) defined = Unit {0}
-
 -- the end of a body stands behind the instructions before it, or it is refused
 abbrev pub EndsBody : List Instr → List Instr → Result (List Instr) Rejection → Result (Unit {0}) Rejection → Type 0
 EndsBody old new defined (Ok done) = prepend_instrs old defined ≡ Ok new

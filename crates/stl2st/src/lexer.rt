@@ -3,7 +3,7 @@ ghost use Rattle.std.specs.Prelude.{◌≡◌, ◌-◌, ◌≤◌, ◌+◌, ◌&
 ghost use Rattle.s7_base.specs.Tokens.{is_blank, is_word_byte, is_sign, is_double_sign, begins_with, after_blanks, line_size, closed_size, word_piece, sign_piece, comment_or_sign, mark_piece, piece_at, piece_size, token, gap, token_text, line_behind, token_of, tokens_of};
 ghost use Rattle.std.specs.List.{prefix_len};
 ghost use Rattle.std.specs.Str.{str_eq_ignore_ascii_case};
-ghost use Rattle.stl2st.specs.Answers.{Answers};
+ghost use Rattle.s7_base.specs.Answers.{Answers};
 ghost use Rattle.stl2st.specs.Pieces.{view, IsWithin};
 
 use crate::words::is_same_word;

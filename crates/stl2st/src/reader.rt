@@ -1,9 +1,10 @@
 //! Judges a source text: its program, or the line and the reason of the first broken rule.
 ghost use Rattle.std.specs.Prelude.{◌≡◌, ◌+◌, ◌<◌, ◌≤◌, length, IfOk, OnOk};
+ghost use Rattle.s7_base.specs.Answers.{Answers};
 ghost use Rattle.s7_base.specs.Tokens.{line_at_end};
 ghost use Rattle.stl_tree.specs.Items.{block_number, heading_with, heading_number, short_heading, heading_name, statement_of, statement_size};
 ghost use Rattle.stl_tree.specs.Verdict.{misfit_at, one_block, with_end, body_from, begin_from, with_heading, program_of, verdict};
-ghost use Rattle.stl2st.specs.Answers.{Answers, EndsBody, PutsItem, IsFirst};
+ghost use Rattle.stl2st.specs.Answers.{EndsBody, PutsItem, IsFirst};
 
 use crate::lexer::{rest_after, tokens};
 use crate::number::number_of;

@@ -1,12 +1,11 @@
 //! The registers of the machine, and what single instructions make of them.
 ghost use Rattle.std.specs.Prelude.{◌≡◌};
-ghost use Rattle.memory_areas.specs.Access.{area_named};
 ghost use Rattle.memory_areas.specs.Memory.{IsActivation};
 ghost use Rattle.stl_machine.specs.Machine.{values};
 ghost use Rattle.stl_tree.specs.Instructions.{after_assign, after_check, after_end, orb_after, place_of, rlo_after};
 ghost use Rattle.stl_tree.specs.Registers.{start};
 
-use memory_areas::{Area, AreaName, Place};
+use memory_areas::Place;
 use s7_base::Check;
 use stl_tree::Operand;
 
@@ -28,20 +27,6 @@ pub struct Registers {
     pub cc0: bool,
     pub cc1: bool,
     pub br: bool,
-}
-
-/// The area that a name stands for in the first activation.
-fn area_named(name: AreaName, db: u16, di: u16) -> Area
-    ensures { result ≡ area_named name db di 0 }
-{
-    match name {
-        AreaName::I => Area::I,
-        AreaName::Q => Area::Q,
-        AreaName::M => Area::M,
-        AreaName::L => Area::Local(0),
-        AreaName::Db => Area::Db(db),
-        AreaName::Di => Area::Db(di),
-    }
 }
 
 impl Registers {
@@ -75,7 +60,7 @@ impl Registers {
     {
         let Operand::Direct(name, byte, bit) = operand;
         Place {
-            area: area_named(name, self.db, self.di),
+            area: name.area(self.db, self.di, 0),
             byte,
             bit,
         }

@@ -1,9 +1,15 @@
--- How an answer that want of memory may take the place of stands to its refusals.
-use Rattle.std.specs.Prelude.{Result, Ok, Err}
+-- How an answer that want of memory may take the place of stands to the defined one.
+use Rattle.std.specs.Prelude.{◌≡◌, Result, Ok, Err}
 use Rattle.s7_base.specs.declared.reason.Line.{Line}
 use Rattle.s7_base.specs.declared.reason.Reason.{Reason}
 use Rattle.s7_base.specs.declared.reason.Rejection.{Rejection}
 use Rattle.s7_base.specs.declared.reason.Rejection.TheVariants.{Refused, NoMemory}
+
+-- the answer is the defined one, or want of memory
+abbrev pub Answers : {X : Type 0} → Result X Rejection → Result X Rejection → Type 0
+Answers (Ok x) defined = defined ≡ Ok x
+Answers (Err (Refused line reason)) defined = defined ≡ Err (Refused line reason)
+Answers (Err NoMemory) defined = Unit {0}
 
 -- what holds of a refusal's line and reason; want of memory may always come
 abbrev pub IfRefused : {X : Type 0} → Result X Rejection → (Line → Reason → Type 0) → Type 0
