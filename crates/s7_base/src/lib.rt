@@ -23,8 +23,6 @@ mod memory;
 mod outcome;
 mod reason;
 mod register;
-#[cfg(test)]
-mod tests;
 mod token;
 mod token_laws;
 mod word;

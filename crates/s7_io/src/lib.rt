@@ -23,6 +23,4 @@ mod read;
 mod sink;
 mod source;
 mod std_streams;
-#[cfg(test)]
-mod tests;
 mod write;

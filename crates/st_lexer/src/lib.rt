@@ -21,8 +21,6 @@ mod lexer;
 mod literal;
 mod number;
 mod spelling_laws;
-#[cfg(test)]
-mod tests;
 mod text;
 mod token_facts;
 mod token_laws;

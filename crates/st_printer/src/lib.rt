@@ -11,8 +11,6 @@ mod global;
 mod literal;
 mod names;
 mod statement;
-#[cfg(test)]
-mod tests;
 mod text;
 mod unit;
 mod variable;

@@ -22,8 +22,6 @@ mod lexer;
 mod number;
 mod operand;
 mod reader;
-#[cfg(test)]
-mod refusal_tests;
 mod reply;
 mod statement;
 mod status;

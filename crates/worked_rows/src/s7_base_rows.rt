@@ -1,6 +1,6 @@
 //! What no clause says: that calls succeed while there is memory. And that the texts which the
 //! clauses promise are the ones that were asked for.
-use crate::{Boxed, Kind, List, Reason};
+use s7_base::{Boxed, Kind, List, Reason};
 use std::test::Fail;
 
 #[test]

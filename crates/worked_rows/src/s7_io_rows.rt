@@ -1,7 +1,7 @@
 //! What no clause says: that the calls succeed where memory is found, how much is asked of a
 //! source, and what comes of a reader or a writer that fails in the middle.
 
-use crate::{
+use s7_io::{
     Failed, MemSink, MemSource, NoFile, ReadRefusal, Source, StdSink, StdSource, SureSource,
     WriteFault, read_all, write_all,
 };

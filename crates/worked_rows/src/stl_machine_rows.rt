@@ -2,7 +2,6 @@
 //! STL ask for, and that a machine is made while there is memory.
 ghost use Rattle.memory_areas.specs.Memory.{IsActivation};
 
-use crate::{Machine, MachineRefusal};
 use memory_areas::{
     ACTIVATIONS, Area, AreaName, INPUT_BYTES, LOCAL_BYTES, MARKER_BYTES, Memory, OUTPUT_BYTES,
     Place,
@@ -10,6 +9,7 @@ use memory_areas::{
 use s7_base::{Check, Fault, Line, List, NoMemory, Outcome};
 use std::alloc::Global;
 use std::test::Fail;
+use stl_machine::{Machine, MachineRefusal};
 use stl_tree::{BitArg, Block, BlockName, Call, Instr, Op, Operand, Program};
 
 const INPUT: Operand = Operand::Direct(AreaName::I, 0, 0);

@@ -1,5 +1,5 @@
 //! What no clause says: that the definitions give the pointers that a programmer writes.
-use crate::{Pointer, resolve};
+use address_registers::{Pointer, resolve};
 use memory_areas::{Area, Place};
 use s7_base::Fault;
 use std::test::Fail;

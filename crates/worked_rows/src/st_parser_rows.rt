@@ -1,9 +1,9 @@
 //! Which Structured Texts are refused: each rule, with the line that is named, and texts that keep all rules.
-use crate::status::Status;
-use crate::tests::answered;
+use crate::answers::{BAD_CALL, ENDED, answer};
 use s7_base::NoMemory;
 use std::alloc::Global;
 use std::test::Fail;
+use stl_tree::BlockName;
 
 /// A text, and the line that it is answered.
 type Row = (&'static str, &'static str);
@@ -569,8 +569,6 @@ const TAKEN: [&str; 8] = [
 /// A text, and how often it stands there.
 type Repeated = (usize, &'static [u8]);
 
-const ENDED: &[u8] = b"# ENDED\n";
-
 const TOO_DEEP: &[u8] = b"line 3: TooDeep\n";
 
 /// Statements made of repeated pieces on lines 2 and 3, and what is answered.
@@ -664,8 +662,8 @@ fn put_block(alloc: Global, text: &mut Vec<u8>, number: u32) -> Result<(), NoMem
 
 /// A text is refused with this line.
 fn is_refused(alloc: Global, text: &str, line: &str) -> Result<bool, NoMemory> {
-    let (status, out) = answered(alloc, "run-st 9 OB2 img", text.as_bytes(), b"")?;
-    Ok(status == Status::Refused && out.taken() == line.as_bytes())
+    let written = answer(alloc, 9, BlockName::Ob(2), text.as_bytes())?;
+    Ok(written.as_slice() == line.as_bytes())
 }
 
 #[test]
@@ -712,8 +710,8 @@ fn statements_are_judged(rt: HostRuntime) -> Result<(), Fail> {
 #[test]
 fn texts_that_break_no_rule_are_read(rt: HostRuntime) -> Result<(), Fail> {
     for text in TAKEN {
-        let (status, _) = answered(rt.alloc(), "run-st 9 OB2 img", text.as_bytes(), b"")?;
-        assert_eq!(rt; status, Status::BadCall, "{text}");
+        let written = answer(rt.alloc(), 9, BlockName::Ob(2), text.as_bytes())?;
+        assert_eq!(rt; written.as_slice(), BAD_CALL, "{text}");
     }
     Ok(())
 }
@@ -722,8 +720,8 @@ fn texts_that_break_no_rule_are_read(rt: HostRuntime) -> Result<(), Fail> {
 fn level_201_is_too_deep(rt: HostRuntime) -> Result<(), Fail> {
     for (pieces, line) in NESTED {
         let text = nested(rt.alloc(), pieces)?;
-        let (_, out) = answered(rt.alloc(), "run-st 9 OB1 img", text.as_slice(), b"")?;
-        assert_eq!(rt; out.taken(), line, "{}", text.escape_ascii());
+        let written = answer(rt.alloc(), 9, BlockName::Ob(1), text.as_slice())?;
+        assert_eq!(rt; written.as_slice(), line, "{}", text.escape_ascii());
     }
     Ok(())
 }
@@ -731,10 +729,10 @@ fn level_201_is_too_deep(rt: HostRuntime) -> Result<(), Fail> {
 #[test]
 fn a_text_has_1024_data_blocks(rt: HostRuntime) -> Result<(), Fail> {
     let alloc = rt.alloc();
-    for (count, line) in [(1024, &b"bad call\n"[..]), (1025, b"line 1026: TooLarge\n")] {
+    for (count, line) in [(1024, BAD_CALL), (1025, b"line 1026: TooLarge\n")] {
         let text = blocks(alloc, count)?;
-        let (_, out) = answered(alloc, "run-st 9 OB2 img", text.as_slice(), b"")?;
-        assert_eq!(rt; out.taken(), line, "{count}");
+        let written = answer(alloc, 9, BlockName::Ob(2), text.as_slice())?;
+        assert_eq!(rt; written.as_slice(), line, "{count}");
     }
     Ok(())
 }

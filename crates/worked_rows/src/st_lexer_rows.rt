@@ -1,8 +1,10 @@
 //! What no clause says: that the definition gives the tokens that the language asks for, and that a
 //! call answers while there is memory.
-use crate::{Direct, Literal, StKind, StToken, StType, direct_at, end_line, literal_at, st_tokens};
 use memory_areas::AreaName;
 use s7_base::{Line, NoMemory, Reason, Rejection, Width};
+use st_lexer::{
+    Direct, Literal, StKind, StToken, StType, direct_at, end_line, literal_at, st_tokens,
+};
 use std::alloc::Global;
 use std::test::Fail;
 

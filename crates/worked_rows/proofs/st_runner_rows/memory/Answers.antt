@@ -1,4 +1,4 @@
-use Rattle.st_runner.proofs.tests.memory.Goals as goal
+use Rattle.worked_rows.proofs.st_runner_rows.memory.Goals as goal
 
 pub returns : goal.returns
 returns c = c.in_ok-memory.ensures.memory

@@ -4,9 +4,7 @@ ghost use Rattle.std.specs.Prelude.{◌≡◌, ◌≤◌, ◌<◌, true, IfOk, l
 ghost use Rattle.memory_areas.specs.Areas.{AreBlocks};
 ghost use Rattle.memory_areas.specs.Memory.{IsActivation};
 
-use crate::data_block::{DataBlock, are_blocks};
-use crate::memory::Memory;
-use crate::place::{Area, Place};
+use memory_areas::{Area, DataBlock, Memory, Place, are_blocks};
 use s7_base::{Fault, List, NoMemory, Width};
 use std::alloc::Global;
 use std::test::Fail;

@@ -1,7 +1,7 @@
 //! Exact texts: each rule of the canonical spelling.
-use crate::unit::print;
 use memory_areas::{Area, AreaName, DataBlock, Place};
 use s7_base::{Boxed, List, NoMemory, Reg, Width};
+use st_printer::print;
 use st_tree::{
     Arm, BinaryOp, CaseArm, Expr, Local, Located, Pou, ShiftOp, StProgram, StType, Stmt, UnaryOp,
     Var,

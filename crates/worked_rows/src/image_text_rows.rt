@@ -3,9 +3,7 @@
 ghost use Rattle.std.specs.Prelude.{◌≡◌, IfOk};
 ghost use Rattle.memory_areas.specs.Areas.{AreBlocks};
 
-use crate::read::read_image;
-use crate::refusal::ImageRefusal;
-use crate::report::image_text;
+use image_text::{ImageRefusal, image_text, read_image};
 use memory_areas::DataBlock;
 use s7_base::{Fault, Line, List, NoMemory, Outcome};
 use std::alloc::Global;

@@ -1,5 +1,5 @@
 //! What no clause says: that the definitions give the patterns that a programmer knows, both ways.
-use crate::{bcd3_to_int, bcd7_to_dint, dint_to_bcd7, int_to_bcd3};
+use bcd_words::{bcd3_to_int, bcd7_to_dint, dint_to_bcd7, int_to_bcd3};
 use s7_base::Fault;
 use std::test::Fail;
 
