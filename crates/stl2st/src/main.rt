@@ -9,15 +9,16 @@
 
 use crate::answer::stl2st;
 use crate::command::image_name;
+use crate::image_file::ImageFile;
 use crate::status::Status;
 use s7_io::{NoFile, StdSink, StdSource};
-use std::fs::File;
 use std::process::ExitCode;
 use std::{env, io};
 
 mod answer;
 mod call;
 mod command;
+mod image_file;
 mod lexer;
 mod number;
 mod operand;
@@ -42,14 +43,6 @@ fn arguments(rt: &HostRuntime) -> io::Result<Vec<String>> {
     Ok(words)
 }
 
-/// The file with the image, if the words name one and it can be opened.
-fn image_file(rt: &HostRuntime, words: &[String]) -> Option<File> {
-    match image_name(words) {
-        Some(name) => File::open(rt, name).ok(),
-        None => None,
-    }
-}
-
 fn run(rt: &HostRuntime) -> Status {
     let words = match arguments(rt) {
         Ok(words) => words,
@@ -60,9 +53,9 @@ fn run(rt: &HostRuntime) -> Status {
     let words = words.as_slice();
     let mut program = StdSource::new(rt.reader());
     let mut out = StdSink::new(io::writer(rt));
-    match image_file(rt, words) {
-        Some(file) => {
-            let mut image = StdSource::new(file);
+    match image_name(words) {
+        Some(name) => {
+            let mut image = StdSource::new(ImageFile::named(rt, name));
             stl2st(rt.alloc(), words, &mut program, &mut image, &mut out)
         }
         None => {
