@@ -2,8 +2,8 @@
 use Rattle.std.proofs.Common.{◌≡◌, ℕ, ◌++◌, ℤ, List, [], map, sym, ap, ◌∙◌}
 use Rattle.s7_base.specs.declared.reason.Line.{Line}
 use Rattle.s7_base.specs.declared.word.Width.{Width}
-use Rattle.st_syntax.specs.Canonical.{ArmFromLine, CaseFromLine, FromLine, arm_from, case_from, statement_from}
-use Rattle.st_syntax.specs.Canonical as canonical
+use Rattle.st_canonical.specs.Canonical.{ArmFromLine, CaseFromLine, FromLine, arm_from, case_from, statement_from}
+use Rattle.st_canonical.specs.Canonical as canonical
 use Rattle.st_syntax.specs.Grammar.{arm_of, case_of, on_line}
 use Rattle.st_tree.specs.Typing.{Names}
 use Rattle.st_tree.specs.declared.expr.Expr.{Expr}

@@ -3,7 +3,7 @@ use Rattle.std.proofs.Common.{◌≡◌, ℕ, suc, ◌++◌, ℤ, Bool, true, Li
 use Rattle.s7_base.specs.Tokens.{line_after}
 use Rattle.s7_base.specs.declared.reason.Line.{Line}
 use Rattle.s7_base.specs.declared.word.Width.{Width}
-use Rattle.st_syntax.specs.Canonical.{ArmFromLine, CaseFromLine, FromLine, Placed, arm_from, arms_from, body_from, case_from, cases_else_from, cases_from, choice_from, expr_form, labels_form, on, raw_var, statement_from}
+use Rattle.st_canonical.specs.Canonical.{ArmFromLine, CaseFromLine, FromLine, Placed, arm_from, arms_from, body_from, case_from, cases_else_from, cases_from, choice_from, expr_form, labels_form, on, raw_var, statement_from}
 use Rattle.st_syntax.specs.Forms.{Form, Labels, Statement, assign, write, choice, choice_else, cases, cases_else, loop, jump, Statements, Arms, no_arm, arm, CaseArms, no_case, case_arm}
 use Rattle.st_syntax.specs.Grammar.{arm_of as raw_arm, case_of as raw_case, HasArm, HasCase, may_jump, tree, tree_all, tree_arms, tree_cases, tree_labels}
 use Rattle.st_syntax.specs.declared.kind.Jump.{Jump}

@@ -3,7 +3,7 @@ use Rattle.std.proofs.Common.{◌≡◌, ℕ, ◌-◌, ℤ, Bool, true, false, r
 use Rattle.std.specs.Prelude.{nat_lt, if◌then◌else◌}
 use Rattle.s7_base.specs.declared.reason.Line.{Line}
 use Rattle.s7_base.specs.declared.word.Width.{Width}
-use Rattle.st_syntax.specs.Canonical.{expr_form, form_of, literal_form, on, raw_var}
+use Rattle.st_canonical.specs.Canonical.{expr_form, form_of, literal_form, on, raw_var}
 use Rattle.st_syntax.specs.Forms.{Form, literal, variable, group, prefix, infix_of, apply, shift, select}
 use Rattle.st_syntax.specs.Grammar.{infix_level, level}
 use Rattle.st_syntax.specs.declared.kind.OneOperand.TheVariants as one

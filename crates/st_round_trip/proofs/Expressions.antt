@@ -5,10 +5,10 @@ use Rattle.std.specs.Prelude.{nat_lt, if◌then◌else◌}
 use Rattle.s7_base.specs.declared.reason.Line.{Line}
 use Rattle.s7_base.specs.declared.reason.Reason.{Reason}
 use Rattle.s7_base.specs.declared.word.Width.{Width}
-use Rattle.st_syntax.specs.Canonical.{expr_form, literal_form, on, raw_var, unary_form}
+use Rattle.st_canonical.specs.Canonical.{expr_form, literal_form, on, raw_var, unary_form}
 use Rattle.st_syntax.specs.Forms.{Form, literal, variable, group, prefix, infix_of, apply, shift, select}
 use Rattle.st_syntax.specs.Grammar.{Binds, infix_level, label_tree, level, tree}
-use Rattle.st_syntax.specs.Spelled.{FormSpelled, is_function, is_literal, is_variable}
+use Rattle.st_canonical.specs.Spelled.{FormSpelled, is_function, is_literal, is_variable}
 use Rattle.st_syntax.specs.declared.kind.Literal.{Literal}
 use Rattle.st_syntax.specs.declared.kind.OneOperand.TheVariants as one
 use Rattle.st_syntax.specs.declared.kind.Prefix.TheVariants as before

@@ -1,12 +1,4 @@
 mod Bare
-mod CanonicalRows
-mod CutExpressions
-mod CutGlobals
-mod CutLiterals
-mod CutStatements
-mod CutUnits
-mod CutWords
-mod Cuts
 mod Drive
 mod DriveSource
 mod DriveStatements
@@ -21,6 +13,5 @@ mod OneGrammar
 pub mod OneSyntax
 pub mod SomeSyntax
 mod SyntaxRows
-pub mod TextReads
 mod Verdicts
 mod Whole

@@ -1,4 +1,3 @@
-pub mod Canonical
 pub mod Derives
 pub mod Forms
 pub mod Grammar
@@ -6,7 +5,6 @@ pub mod Judge
 pub mod Kinds
 pub mod Levels
 pub mod Machine
-pub mod Spelled
 pub mod Steps
 pub mod Syntax
 pub mod SyntaxLaws

@@ -2,16 +2,16 @@
 use Rattle.std.proofs.Common.{◌≡◌, ℕ, Bool, true, false, List, [], ◌∷◌, ◌++◌, map, refl, ◌∙◌, append_assoc}
 use Rattle.std.specs.Prelude.{codes, flat_map}
 use Rattle.s7_base.specs.Tokens.{line_after}
-use Rattle.st_syntax.proofs.CutExpressions.{three, two}
-use Rattle.st_syntax.proofs.CutStatements.{Behind, reads_body, reads_kinds}
-use Rattle.st_syntax.proofs.CutWords.{is_keyword, reads_colon, reads_fixed, reads_lead, reads_name, reads_semicolon, reads_type}
-use Rattle.st_syntax.proofs.Cuts.{ReadsOn, reads_as, reads_blank, reads_line, reads_line_end}
-use Rattle.st_syntax.specs.Canonical.{body_from, locals_from, on, section_from, statement_from, unit_from, units_from}
+use Rattle.st_canonical.proofs.CutExpressions.{three, two}
+use Rattle.st_canonical.proofs.CutStatements.{Behind, reads_body, reads_kinds}
+use Rattle.st_canonical.proofs.CutWords.{is_keyword, reads_colon, reads_fixed, reads_lead, reads_name, reads_semicolon, reads_type}
+use Rattle.st_canonical.proofs.Cuts.{ReadsOn, reads_as, reads_blank, reads_line, reads_line_end}
+use Rattle.st_canonical.specs.Canonical.{body_from, locals_from, on, section_from, statement_from, unit_from, units_from}
 use Rattle.st_syntax.specs.Forms.{Locals, no_local, local, Units, no_unit}
 use Rattle.st_syntax.specs.Grammar.{IfPresent, end_word, spell_all, spell_formals, spell_locals, spell_section, spell_temps, spell_units}
 use Rattle.st_syntax.specs.Grammar as grammar
 use Rattle.st_syntax.specs.Kinds.{fixed_text}
-use Rattle.st_syntax.specs.Spelled.{LocalsSpelled, UnitsSpelled, is_name}
+use Rattle.st_canonical.specs.Spelled.{LocalsSpelled, UnitsSpelled, is_name}
 use Rattle.st_syntax.specs.declared.kind.Fixed.{Fixed}
 use Rattle.st_syntax.specs.declared.kind.Fixed.TheVariants as fixed
 use Rattle.st_syntax.specs.declared.kind.Kind.{Kind}

@@ -6,16 +6,16 @@ use Rattle.s7_base.specs.declared.reason.Line.{Line}
 use Rattle.s7_base.specs.declared.word.Width.{Width}
 use Rattle.s7_base.specs.declared.word.Width.TheVariants as width
 use Rattle.st_lexer.specs.Spelled.{ends_word}
-use Rattle.st_syntax.proofs.CutExpressions.{expr_no_star, five, reads_expr, three, two}
-use Rattle.st_syntax.proofs.CutLiterals.{name_no_star, reads_literal, reads_var}
-use Rattle.st_syntax.proofs.CutWords.{reads_becomes, reads_close, reads_comma, reads_fixed, reads_last_colon, reads_lead, reads_name, reads_open, reads_semicolon}
-use Rattle.st_syntax.proofs.Cuts.{ReadsOn, reads_as, reads_blank, reads_line, reads_line_end}
-use Rattle.st_syntax.specs.Canonical.{ArmFromLine, CaseFromLine, FromLine, Placed, actuals_from, all_from, arms_from, arm_from, body_from, case_from, cases_from, choice_from, expr_form, labels_behind, labels_form, literal_form, on, raw_var, statement_from}
-use Rattle.st_syntax.specs.Canonical as canonical
+use Rattle.st_canonical.proofs.CutExpressions.{expr_no_star, five, reads_expr, three, two}
+use Rattle.st_canonical.proofs.CutLiterals.{name_no_star, reads_literal, reads_var}
+use Rattle.st_canonical.proofs.CutWords.{reads_becomes, reads_close, reads_comma, reads_fixed, reads_last_colon, reads_lead, reads_name, reads_open, reads_semicolon}
+use Rattle.st_canonical.proofs.Cuts.{ReadsOn, reads_as, reads_blank, reads_line, reads_line_end}
+use Rattle.st_canonical.specs.Canonical.{ArmFromLine, CaseFromLine, FromLine, Placed, actuals_from, all_from, arms_from, arm_from, body_from, case_from, cases_from, choice_from, expr_form, labels_behind, labels_form, literal_form, on, raw_var, statement_from}
+use Rattle.st_canonical.specs.Canonical as canonical
 use Rattle.st_syntax.specs.Forms.{Actuals, no_actual, actual, Arms, no_arm, arm, CaseArms, no_case, case_arm, Labels, label, more_labels, Statement, assign, write, invoke, jump, Statements, none, further}
 use Rattle.st_syntax.specs.Grammar.{HasArm, arm_word, comma_behind, spell, spell_actuals, spell_all, spell_arms, spell_cases, spell_labels, spell_one}
 use Rattle.st_syntax.specs.Kinds.{lead_text}
-use Rattle.st_syntax.specs.Spelled.{ActualsSpelled, AllSpelled, ArmsSpelled, CasesSpelled, FormSpelled, LabelsSpelled, Spelled, is_literal, is_name, is_variable}
+use Rattle.st_canonical.specs.Spelled.{ActualsSpelled, AllSpelled, ArmsSpelled, CasesSpelled, FormSpelled, LabelsSpelled, Spelled, is_literal, is_name, is_variable}
 use Rattle.st_syntax.specs.declared.kind.Fixed.{Fixed}
 use Rattle.st_syntax.specs.declared.kind.Fixed.TheVariants as fixed
 use Rattle.st_syntax.specs.declared.kind.Jump.{Jump}

@@ -10,16 +10,16 @@ use Rattle.s7_base.specs.Tokens.{line_after}
 use Rattle.s7_base.specs.declared.word.Width.TheVariants as width
 use Rattle.st_lexer.specs.Spelled.{ends_word}
 use Rattle.st_lexer.specs.SpellingLaws.{place_in}
-use Rattle.st_syntax.proofs.CutExpressions.{six, three, two}
-use Rattle.st_syntax.proofs.CutLiterals.{reads_byte, reads_decimal, reads_place}
-use Rattle.st_syntax.proofs.CutStatements.{Behind, reads_kinds}
-use Rattle.st_syntax.proofs.CutUnits.{reads_word_line}
-use Rattle.st_syntax.proofs.CutWords.{reads_becomes, reads_close, reads_close_square, reads_colon, reads_comma, reads_dots, reads_fixed, reads_name, reads_open, reads_open_square, reads_semicolon, reads_type}
-use Rattle.st_syntax.proofs.Cuts.{ReadsOn, reads_as, reads_blank, reads_line, reads_line_end}
-use Rattle.st_syntax.specs.Canonical.{area_form, block_name, blocks_from, globals_from, items_behind, items_form, located_from, on, run_behind}
+use Rattle.st_canonical.proofs.CutExpressions.{six, three, two}
+use Rattle.st_canonical.proofs.CutLiterals.{reads_byte, reads_decimal, reads_place}
+use Rattle.st_canonical.proofs.CutStatements.{Behind, reads_kinds}
+use Rattle.st_canonical.proofs.CutUnits.{reads_word_line}
+use Rattle.st_canonical.proofs.CutWords.{reads_becomes, reads_close, reads_close_square, reads_colon, reads_comma, reads_dots, reads_fixed, reads_name, reads_open, reads_open_square, reads_semicolon, reads_type}
+use Rattle.st_canonical.proofs.Cuts.{ReadsOn, reads_as, reads_blank, reads_line, reads_line_end}
+use Rattle.st_canonical.specs.Canonical.{area_form, block_name, blocks_from, globals_from, items_behind, items_form, located_from, on, run_behind}
 use Rattle.st_syntax.specs.Forms.{Globals, no_global, global, Items, no_item, single, times, plain, bytes}
 use Rattle.st_syntax.specs.Grammar.{IfPresent, comma_past, spell_globals, spell_initial, spell_items, spell_section, spell_type}
-use Rattle.st_syntax.specs.Spelled.{GlobalsSpelled, ItemsSpelled, TypeSpelled, is_name, is_variable}
+use Rattle.st_canonical.specs.Spelled.{GlobalsSpelled, ItemsSpelled, TypeSpelled, is_name, is_variable}
 use Rattle.st_syntax.specs.declared.kind.Fixed.TheVariants as fixed
 use Rattle.st_syntax.specs.declared.kind.Kind.{Kind}
 use Rattle.st_syntax.specs.declared.kind.Kind.TheVariants as kind

@@ -5,12 +5,12 @@ use Rattle.s7_base.specs.Tokens.{begins_with}
 use Rattle.s7_base.specs.declared.word.Width.{Width}
 use Rattle.s7_base.specs.declared.word.Width.TheVariants as width
 use Rattle.st_lexer.specs.Spelled.{ends_word}
-use Rattle.st_syntax.proofs.CutLiterals.{literal_no_star, reads_literal, reads_var, var_no_star}
-use Rattle.st_syntax.proofs.CutWords.{infix_ends, reads_close, reads_comma, reads_convert, reads_fixed, reads_infix, reads_minus, reads_open, reads_shift}
-use Rattle.st_syntax.proofs.Cuts.{ReadsOn, reads_as, reads_blank}
-use Rattle.st_syntax.specs.Canonical.{expr_form, form_of}
+use Rattle.st_canonical.proofs.CutLiterals.{literal_no_star, reads_literal, reads_var, var_no_star}
+use Rattle.st_canonical.proofs.CutWords.{infix_ends, reads_close, reads_comma, reads_convert, reads_fixed, reads_infix, reads_minus, reads_open, reads_shift}
+use Rattle.st_canonical.proofs.Cuts.{ReadsOn, reads_as, reads_blank}
+use Rattle.st_canonical.specs.Canonical.{expr_form, form_of}
 use Rattle.st_syntax.specs.Grammar.{spell}
-use Rattle.st_syntax.specs.Spelled.{FormSpelled}
+use Rattle.st_canonical.specs.Spelled.{FormSpelled}
 use Rattle.st_syntax.specs.declared.kind.Fixed.TheVariants as fixed
 use Rattle.st_syntax.specs.declared.kind.Function.TheVariants as function
 use Rattle.st_syntax.specs.declared.kind.Kind.{Kind}

@@ -5,16 +5,16 @@ use Rattle.s7_base.specs.Tokens.{line_at_end}
 use Rattle.s7_base.specs.declared.reason.Line.{Line}
 use Rattle.st_lexer.specs.StTokens.{answer, answer_to, first_bad, tokens_of}
 use Rattle.st_tree.specs.declared.token.StToken.{StToken}
-use Rattle.st_syntax.proofs.CutGlobals.{reads_globals}
-use Rattle.st_syntax.proofs.CutUnits.{reads_units}
-use Rattle.st_syntax.proofs.Cuts.{ReadsOn, reads_as, reads_end}
-use Rattle.st_syntax.specs.Canonical.{globals_from, source_of, units_from}
+use Rattle.st_canonical.proofs.CutGlobals.{reads_globals}
+use Rattle.st_canonical.proofs.CutUnits.{reads_units}
+use Rattle.st_canonical.proofs.Cuts.{ReadsOn, reads_as, reads_end}
+use Rattle.st_canonical.specs.Canonical.{globals_from, source_of, units_from}
+use Rattle.st_canonical.specs.CanonicalLaws.{CanonicalTextReads}
 use Rattle.st_syntax.specs.Forms.{no_unit}
-use Rattle.st_syntax.specs.Grammar.{SourceFits, raw_tree, spell_source, spell_units}
-use Rattle.st_syntax.specs.Levels.{deepest, levels_source}
+use Rattle.st_syntax.specs.Grammar.{raw_tree, spell_source, spell_units}
 use Rattle.st_syntax.specs.Kinds.{kind_of}
-use Rattle.st_syntax.specs.Spelled.{SourceSpelled}
-use Rattle.st_syntax.specs.Syntax.{AllWithin, HasRawTree, all_lined, kinds}
+use Rattle.st_canonical.specs.Spelled.{SourceSpelled}
+use Rattle.st_syntax.specs.Syntax.{all_lined, kinds}
 use Rattle.st_syntax.specs.declared.kind.Fixed.TheVariants as fixed
 use Rattle.st_syntax.specs.declared.kind.Kind.{Kind}
 use Rattle.st_syntax.specs.declared.kind.Kind.TheVariants as kind
@@ -40,8 +40,8 @@ same_kinds [] line = refl
 same_kinds (first ∷ rest) line = ap (λ (ks : List Kind). kind_of first ∷ ks) (same_kinds rest line)
 
 -- where the form is of the language, can be spelled and lies within the levels, its text has its raw tree
-pub canonical_reads : (text : StProgram) → SourceFits (source_of text) → SourceSpelled (source_of text) → AllWithin deepest (levels_source (source_of text)) → HasRawTree (spelling text) (raw_tree (source_of text))
-canonical_reads text fits spelled within =
+pub canonical_text_reads : CanonicalTextReads
+canonical_text_reads text fits spelled within =
     let bytes : List ℕ = spelling text in
     let r : ReadsOn 1 bytes (spell_source (source_of text)) = reads_text text spelled in
     record {

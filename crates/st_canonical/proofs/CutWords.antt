@@ -9,10 +9,10 @@ use Rattle.st_lexer.proofs.Words.{and_both}
 use Rattle.st_lexer.specs.Spelled.{ends_word}
 use Rattle.st_lexer.specs.StTokens.{is_letter, token, piece_at}
 use Rattle.st_tree.specs.declared.token.StKind.TheVariants as sort
-use Rattle.st_syntax.proofs.Cuts.{ReadsOn, reads_token, reads_word, reads_blank}
-use Rattle.st_syntax.specs.Canonical.{on}
+use Rattle.st_canonical.proofs.Cuts.{ReadsOn, reads_token, reads_word, reads_blank}
+use Rattle.st_canonical.specs.Canonical.{on}
 use Rattle.st_syntax.specs.Kinds.{conversion_named, fixed_text, lead_text, name_kind, shift_text, sign_named, text_kind, type_text, word_kind, word_named, word_text}
-use Rattle.st_syntax.specs.Spelled.{is_function, is_name, is_unreserved}
+use Rattle.st_canonical.specs.Spelled.{is_function, is_name, is_unreserved}
 use Rattle.st_syntax.specs.declared.kind.Fixed.{Fixed}
 use Rattle.st_syntax.specs.declared.kind.Fixed.TheVariants as fixed
 use Rattle.st_syntax.specs.declared.kind.Function.TheVariants as function

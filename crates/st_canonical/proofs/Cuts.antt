@@ -14,7 +14,7 @@ use Rattle.st_lexer.specs.TokenGrammar.{line_past}
 use Rattle.st_tree.specs.declared.token.StKind.{StKind}
 use Rattle.st_tree.specs.declared.token.StKind.TheVariants as sort
 use Rattle.st_tree.specs.declared.token.StToken.{StToken}
-use Rattle.st_syntax.specs.Canonical.{on}
+use Rattle.st_canonical.specs.Canonical.{on}
 use Rattle.st_syntax.specs.Kinds.{kind_of, text_kind}
 use Rattle.st_syntax.specs.declared.kind.Fixed.TheVariants as fixed
 use Rattle.st_syntax.specs.declared.kind.Kind.{Kind}
