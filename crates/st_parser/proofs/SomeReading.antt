@@ -3,7 +3,7 @@ use Rattle.std.proofs.Common.{◌≡◌, ◌⊎◌, ℕ, List, [], ◌∷◌, Op
 use Rattle.s7_base.specs.declared.reason.Line.{Line}
 use Rattle.s7_base.specs.declared.reason.Reason.{Reason}
 use Rattle.s7_base.specs.declared.reason.Reason.TheVariants.{CallCycle, NoBlocks}
-use Rattle.st_types.proofs.FoundCycle.{found_cycle}
+use Rattle.call_chains.proofs.FoundCycle.{found_cycle}
 use Rattle.st_syntax.proofs.SomeSyntax.{each_has_one_syntax}
 use Rattle.st_syntax.specs.Syntax.{HasRawTree, IsSyntaxRefused}
 use Rattle.st_parser.specs.TextLaws.{EachHasOne}
@@ -11,7 +11,8 @@ use Rattle.st_parser.specs.Texts.{IsRefusedText, IsTextOf, by_rules, by_syntax}
 use Rattle.st_tree.specs.declared.program.StProgram.{StProgram}
 use Rattle.st_tree.specs.declared.raw.RawPou.{RawPou}
 use Rattle.st_tree.specs.declared.raw.RawSt.{RawSt}
-use Rattle.st_types.specs.Chain.{Graph, IsFirstCycle, NoCycle, first_long_chain}
+use Rattle.call_chains.specs.Chain.{Graph, IsFirstCycle, NoCycle}
+use Rattle.st_types.specs.LongChains.{first_long_chain}
 use Rattle.st_types.specs.Typed as of_raw
 use Rattle.st_types.specs.Typed.{Breaks, BreaksChain, HasTree, IsChain, calls_in, chained, cycle, first_break, long, named, no_unit}
 use Rattle.st_types.specs.declared.broken.Break.{Break}

@@ -12,7 +12,7 @@ use Rattle.st_tree.specs.declared.raw.RawExpr.{RawExpr}
 use Rattle.st_tree.specs.declared.raw.RawStmt.{RawStmt}
 use Rattle.st_tree.specs.declared.raw.RawStmtKind.TheVariants as raw
 use Rattle.st_types.specs.Calls.{all_calls, calls_of, calls_of_arm, calls_of_case_arm, joined}
-use Rattle.st_types.specs.declared.call.Call.{Call}
+use Rattle.call_chains.specs.declared.call.Call.{Call}
 use Rattle.st_types.specs.declared.scope.Scope.{Scope}
 
 abbrev pub callees : List Call → List ℕ

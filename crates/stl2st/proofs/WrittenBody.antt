@@ -28,7 +28,7 @@ use Rattle.st_types.specs.Calls as calls
 use Rattle.st_types.specs.Calls.{OnLine, all_calls, calls_of, calls_of_action, joined}
 use Rattle.st_types.specs.Statements.{Armed, Done, Labelled, action, arm_step, case_arm_step, kind_step, statement, statement_step, statements}
 use Rattle.st_types.specs.declared.broken.Break.{Break}
-use Rattle.st_types.specs.declared.call.Call.{Call}
+use Rattle.call_chains.specs.declared.call.Call.{Call}
 use Rattle.st_types.specs.declared.scope.Scope.{Scope}
 use Rattle.stl2st.proofs.Written.{IsAssigned}
 

@@ -16,12 +16,12 @@ use Rattle.st_tree.specs.declared.program.Stmt.{Stmt}
 use Rattle.st_tree.specs.declared.raw.RawPou.{RawPou}
 use Rattle.st_tree.specs.declared.raw.RawSt.{RawSt}
 use Rattle.st_types.specs.Broken.{first_of_all}
-use Rattle.st_types.specs.Chain.{Graph, call_at}
+use Rattle.call_chains.specs.Chain.{Graph, call_at}
 use Rattle.st_types.specs.Declarations.{formals_of}
 use Rattle.st_types.specs.Typed.{HasTree, IsChain, names_of}
 use Rattle.st_types.specs.Units.{scope_in}
 use Rattle.st_types.specs.declared.broken.Break.{Break}
-use Rattle.st_types.specs.declared.call.Call.{Call}
+use Rattle.call_chains.specs.declared.call.Call.{Call}
 use Rattle.st_types.specs.declared.scope.Scope.{Scope}
 use Rattle.stl2st.proofs.WrittenBody.{AreBoolAssigns, IsBody, body_is}
 
