@@ -6,9 +6,8 @@ ghost use Rattle.st_lexer.specs.Pieces.{IsWithin};
 ghost use Rattle.st_lexer.specs.declared.number.Base.TheVariants.{Ten};
 
 use crate::number::{Base, Number, begins_with_digit, number_to};
-use crate::text::{begins_with, rest_after};
 use memory_areas::AreaName;
-use s7_base::Width;
+use s7_base::{Width, begins_with, rest_after};
 
 /// A direct variable at the front of a text, as `%IX0.0`. A number above the greatest of 32 bits is
 /// kept as that.

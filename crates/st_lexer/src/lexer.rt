@@ -11,8 +11,8 @@ ghost use Rattle.st_lexer.specs.TokenGrammar.{line_past};
 use crate::direct::direct_at;
 use crate::literal::{Literal, is_in_range, literal_at, type_at};
 use crate::number::{Base, base_at, is_digit_to};
-use crate::text::{begins_with, front_of, rest_after, word_size};
-use s7_base::{Line, List, NoMemory, Reason, Rejection};
+use crate::text::word_size;
+use s7_base::{Line, List, NoMemory, Reason, Rejection, begins_with, front_of, rest_after};
 use st_tree::{StKind, StToken};
 use std::alloc::Global;
 

@@ -10,9 +10,9 @@ pub use direct::{Direct, direct_at};
 pub use lexer::{end_line, st_tokens};
 pub use literal::{Literal, is_in_range, literal_at, type_named};
 pub use number::{Base, Number, base_at, begins_with_digit};
+pub use s7_base::{front_of, is_same_word, rest_after};
 pub use spelling_laws::{literals_are_tokens, places_are_tokens, words_are_tokens};
 pub use st_tree::{StKind, StToken, StType};
-pub use text::{front_of, is_same_word, rest_after};
 pub use token_facts::tokens_are_of_their_sorts;
 pub use token_laws::tokens_are_cut;
 

@@ -11,7 +11,7 @@ use Rattle.st_tree.specs.declared.raw.RawStmtKind.TheOpen as K
 use Rattle.st_types.specs.Invocations.{callee}
 use Rattle.st_types.specs.Names.{key_of}
 use Rattle.st_types.specs.Scopes.{meaning_in}
-use Rattle.st_types.specs.declared.call.Call.{Call}
+use Rattle.call_chains.specs.declared.call.Call.{Call}
 use Rattle.st_types.specs.declared.scope.Scope.{Scope}
 
 -- all calls of some parts

@@ -9,7 +9,8 @@ use Rattle.st_tree.specs.declared.program.StProgram.{StProgram}
 use Rattle.st_tree.specs.declared.raw.RawPou.{RawPou}
 use Rattle.st_tree.specs.declared.raw.RawSt.{RawSt}
 use Rattle.st_types.specs.Broken.{first_of_all}
-use Rattle.st_types.specs.Chain.{Graph, NoCycle, FirstCycle, first_long_chain}
+use Rattle.call_chains.specs.Chain.{Graph, NoCycle, FirstCycle}
+use Rattle.st_types.specs.LongChains.{first_long_chain}
 use Rattle.st_types.specs.Declarations.{all_outside, formals_of}
 use Rattle.st_types.specs.Globals.{all_blocks, all_global_breaks, all_located}
 use Rattle.st_types.specs.Names.{Table}

@@ -9,7 +9,7 @@ use Rattle.st_types.specs.Declarations.{all_inside, locals_of}
 use Rattle.st_types.specs.Names.{Table}
 use Rattle.st_types.specs.Statements.{statements}
 use Rattle.st_types.specs.declared.broken.Break.{Break}
-use Rattle.st_types.specs.declared.call.Call.{Call}
+use Rattle.call_chains.specs.declared.call.Call.{Call}
 use Rattle.st_types.specs.declared.scope.Formals.{Formals}
 use Rattle.st_types.specs.declared.scope.Meaning.{Meaning}
 use Rattle.st_types.specs.declared.scope.Scope.{Scope}

@@ -5,12 +5,13 @@ ghost use Rattle.st_types.specs.Declarations.{all_inside};
 ghost use Rattle.st_types.specs.Units.{all_unit_breaks, all_units, breaks_of_unit, calls_of_unit, calls_of_units, scope_in, unit_breaks, unit_in, unit_of};
 
 use crate::broken::Break;
-use crate::call::{Call, all_calls};
+use crate::call::all_calls;
 use crate::declaration::{all_inside, locals_of};
 use crate::lists::put_breaks;
 use crate::scope::{Formals, Meaning, Scope};
 use crate::statement::statements;
 use crate::table::Table;
+use call_chains::Call;
 use s7_base::{List, NoMemory};
 use st_tree::{Pou, RawPou};
 use std::alloc::Global;

@@ -12,7 +12,7 @@ use Rattle.s7_io.specs.Source.{GaveAll, GaveExactly}
 use Rattle.stl_tree.specs.declared.program.Call.{Call}
 use Rattle.stl_tree.specs.declared.program.Program.{Program}
 use Rattle.st_tree.specs.Spelling.{spelling}
-use Rattle.stl2st.specs.Translation.{translation}
+use Rattle.stl_translate.specs.Translation.{translation}
 use Rattle.image_text.specs.Reading.{Reads}
 use Rattle.image_text.specs.declared.refusal.ImageRefusal.{ImageRefusal}
 use Rattle.image_text.specs.declared.refusal.ImageRefusal.TheVariants as why

@@ -24,8 +24,8 @@ use Rattle.st_parser.specs.Texts.{IsTextOf, IsRefusedText}
 use Rattle.st_tree.specs.Spelling.{spelling}
 use Rattle.st_tree.specs.StRun.{FitsSt, st_run}
 use Rattle.st_tree.specs.declared.program.StProgram.{StProgram}
-use Rattle.stl2st.specs.Same.{Same}
-use Rattle.stl2st.specs.Translation.{translation}
+use Rattle.stl_translate.specs.Same.{Same}
+use Rattle.stl_translate.specs.Translation.{translation}
 use Rattle.stl2st.specs.declared.command.Command.{Command}
 use Rattle.stl2st.specs.declared.command.Command.TheVariants.{Translate, Check, RunStl, RunSt}
 use Rattle.stl2st.specs.declared.answer.TheConstants.{INPUT_LIMIT, IMAGE_LIMIT}

@@ -2,9 +2,9 @@
 //! source did, or names the first broken rule and its line. It runs both on memory images.
 //!
 //! `answer` has the call that `main` makes, with the promises of the program as its clauses. Below it
-//! `command` and `call` read the words, `reply` makes the answer of a command; `lexer`, `operand`,
-//! `statement` and `reader` judge a source text, and `translate` turns its program into a tree, which
-//! `st_printer` writes. `st_parser` and `st_runner` read and run Structured Text.
+//! `command` and `call` read the words, and `reply` makes the answer of a command. `stl_checks` judges a
+//! source text, `stl_translate` turns its program into a tree, which `st_printer` writes. `st_parser` and
+//! `st_runner` read and run Structured Text.
 #![tactic(auto)]
 
 use crate::answer::stl2st;
@@ -19,20 +19,13 @@ mod answer;
 mod call;
 mod command;
 mod image_file;
-mod lexer;
-mod number;
-mod operand;
-mod reader;
 mod reply;
-mod statement;
 mod status;
 #[cfg(test)]
 mod tests;
 mod text;
 #[cfg(test)]
 mod text_tests;
-mod translate;
-mod words;
 
 /// The words behind the program's name.
 fn arguments(rt: &HostRuntime) -> io::Result<Vec<String>> {

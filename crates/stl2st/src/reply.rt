@@ -10,15 +10,13 @@ ghost use Rattle.stl2st.specs.Command.{command_meant};
 ghost use Rattle.stl2st.specs.Inputs.{FailedToRead, ReadsImage, ReadsProgram, ReadsRunImage, input};
 ghost use Rattle.stl2st.specs.Replies.{Answered, AnsweredFor, AnsweredRun, AnsweredTree, HasImage, IsReply, IsStl, IsWritten, ReadsOwnImage, bytes_of_text, ending, reply_of};
 ghost use Rattle.stl2st.specs.declared.command.Command.TheVariants.{RunStl, RunSt};
-ghost use Rattle.stl2st.specs.Translation.{IsTranslatable};
-ghost use Rattle.stl2st.specs.WellFormed.{IsWellFormed};
+ghost use Rattle.stl_translate.specs.Translation.{IsTranslatable};
+ghost use Rattle.stl_translate.specs.WellFormed.{IsWellFormed};
 
 use crate::answer::{IMAGE_LIMIT, INPUT_LIMIT};
 use crate::command::{Command, WordsRefusal, read_words};
-use crate::reader::verdict;
 use crate::status::Status;
 use crate::text::{put, put_number};
-use crate::translate::translate;
 use image_text::{ImageRefusal, image_text, read_image};
 use memory_areas::Memory;
 use s7_base::{Line, NoMemory, Outcome, Reason, Rejection};
@@ -28,7 +26,9 @@ use st_printer::print;
 use st_runner::{Runner, RunnerRefusal};
 use st_tree::StProgram;
 use std::alloc::Global;
+use stl_checks::verdict;
 use stl_machine::{Machine, MachineRefusal};
+use stl_translate::translate;
 use stl_tree::{Call, Program};
 
 const USAGE_LINE: &str =
