@@ -9,7 +9,8 @@ abbrev pub digits : ℕ → ℕ → ℕ → List ℕ
 digits base zero n = []
 digits base (suc count) n = n % base ∷ digits base count (n / base)
 
--- the sum of each digit times the power of the base that its position says, where the first stands at `position`
+-- the sum of each digit times the power of the base that its position says, where the first stands at
+-- `position`
 abbrev pub worth_from : ℕ → ℕ → List ℕ → ℕ
 worth_from base position [] = 0
 worth_from base position (digit ∷ rest) = digit * base ^ position + worth_from base (position + 1) rest
@@ -39,8 +40,8 @@ bcd_value count n =
 abbrev pub sign_digit : ℤ → ℕ
 sign_digit v = if int_lt v (pos 0) then 0xF else 0
 
--- the pattern of a number in so many digits: those of its amount, and above them the sign digit; none where the
--- amount has more digits
+-- the pattern of a number in so many digits: those of its amount, and above them the sign digit; none
+-- where the amount has more digits
 abbrev pub bcd_of : ℕ → ℤ → Option ℕ
 bcd_of count v =
     if nat_lt (unsigned_abs v) (10 ^ count) then Some (worth 16 (digits 10 count (unsigned_abs v) ++ sign_digit v ∷ [])) else None
