@@ -24,7 +24,7 @@ is_number [] = false
 is_number (d ∷ []) = is_digit d
 is_number (d ∷ e ∷ rest) = not (d == 48) && list_all is_digit (d ∷ e ∷ rest)
 
--- the number that digits write behind those of a number
+-- the number that digits write after those of a number
 abbrev pub number_from : ℕ → List ℕ → ℕ
 number_from before [] = before
 number_from before (d ∷ rest) = number_from (before * 10 + (d - 48)) rest

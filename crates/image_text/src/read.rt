@@ -34,7 +34,7 @@ fn has_room(memory: &Memory, area: Area, byte: u32, count: usize) -> bool
     }
 }
 
-/// The byte of the first field, and what stands behind it.
+/// The byte of the first field, and what stands after it.
 fn next_value(left: &[u8]) -> (u8, &[u8])
     requires some { 0 < length left.now }
     requires bytes { IsSome (values_of (pieces_left is_blank left.now)) }
