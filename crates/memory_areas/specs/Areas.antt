@@ -137,10 +137,11 @@ bit_of_byte b x = b / 2 ^ x % 2 == 1
 abbrev pub byte_with : ℕ → ℕ → Bool → ℕ
 byte_with b x v = b / 2 ^ (x + 1) * 2 ^ (x + 1) + (if v then 2 ^ x else 0) + b % 2 ^ x
 
--- the bytes of a word and of a double word
+-- the two bytes of a word, the high one first
 abbrev pub bytes_of_word : ℕ → List ℕ
 bytes_of_word w = w / 256 ∷ w % 256 ∷ []
 
+-- the four bytes of a double word, the highest first
 abbrev pub bytes_of_dword : ℕ → List ℕ
 bytes_of_dword w = w / 2 ^ 24 ∷ w / 2 ^ 16 % 256 ∷ w / 2 ^ 8 % 256 ∷ w % 256 ∷ []
 
