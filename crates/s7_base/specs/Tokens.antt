@@ -122,13 +122,13 @@ line_after line = min (line + 1) (2 ^ 32 - 1)
 abbrev pub line_at_end : List ℕ → Line
 line_at_end bytes = record { 0 = min (count_by (λ b. b == 10) bytes + 1) (2 ^ 32 - 1) }
 
--- the line behind a piece on a line
+-- the line after a piece on a line
 abbrev pub line_behind : Piece → ℕ → ℕ
 line_behind line_end line = line_after line
 line_behind (gap size) line = line
 line_behind (token kind size) line = line
 
--- the token that a piece is, at the front of a text and behind a byte: it is glued where that is no
+-- the token that a piece is, at the front of a text and after a byte: it is glued where that is no
 -- blank
 abbrev pub token_of : Piece → List ℕ → ℕ → ℕ → List Token
 token_of line_end bytes line before = []
@@ -146,7 +146,7 @@ abbrev pub with_piece : Option Piece → ℕ → (Piece → Result (List Token) 
 with_piece None line next = Err (Refused (record { 0 = line }) BadToken)
 with_piece (Some piece) line next = next piece
 
--- the tokens from a place on, on a line and behind a byte; `skip` bytes still belong to the piece before
+-- the tokens from a place on, on a line and after a byte; `skip` bytes still belong to the piece before
 abbrev pub tokens_from : ℕ → ℕ → ℕ → List ℕ → Result (List Token) Rejection
 tokens_from skip line before [] = Ok []
 tokens_from (suc skip) line before (b ∷ rest) = tokens_from skip line b rest
