@@ -13,6 +13,7 @@ use Rattle.st_tree.specs.declared.expr.StType.TheVariants as type
 abbrev pub is_decimal : ℕ → Bool
 is_decimal n = nat_le n (greatest type.Dint false)
 
+-- a number that a byte can hold, 0 to 255, as the initial value of a data block's byte
 abbrev pub is_byte : ℕ → Bool
 is_byte b = nat_le b 255
 

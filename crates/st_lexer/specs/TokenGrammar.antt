@@ -1,4 +1,4 @@
--- The tokens of an ST text as a relation: a text is a piece and what stands behind it, to its end.
+-- The tokens of an ST text as a relation: a text is a piece and what stands after it, to its end.
 use Rattle.std.specs.Prelude.{◌≡◌, ℕ, ◌<◌, false, List, [], ◌∷◌, ◌++◌, length, Some, None, Ok, Err}
 use Rattle.s7_base.specs.Tokens.{line_at_end}
 use Rattle.s7_base.specs.declared.reason.Line.{Line}
@@ -7,7 +7,7 @@ use Rattle.s7_base.specs.declared.reason.Rejection.TheVariants.{Refused}
 use Rattle.st_lexer.specs.StTokens.{Piece, piece_at, piece_size, line_behind, token_of, great_from, tokens_of}
 use Rattle.st_tree.specs.declared.token.StToken.{StToken}
 
--- the line behind some bytes
+-- the line after some bytes
 abbrev pub line_past : ℕ → List ℕ → ℕ
 line_past line [] = line
 line_past line (b ∷ bytes) = line_past (line_behind b line) bytes

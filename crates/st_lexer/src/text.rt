@@ -3,7 +3,7 @@ ghost use Rattle.std.specs.Prelude.{◌≡◌, ◌≤◌, length, take, drop};
 ghost use Rattle.s7_base.specs.Tokens.{is_word_byte, is_same_word, begins_with};
 ghost use Rattle.st_lexer.specs.Literals.{word_size};
 
-/// What is left of a list behind its first items; nothing if there are fewer.
+/// What is left of a list after its first items; nothing if there are fewer.
 pub fn rest_after<T>(list: &[T], size: usize) -> &[T]
     ensures { result.now ≡ drop size list.now }
 {
@@ -17,6 +17,7 @@ pub fn front_of<T>(list: &[T], size: usize) -> &[T]
     list.get(..size).unwrap_or(list)
 }
 
+/// Whether this byte stands first.
 pub fn begins_with(b: u8, bytes: &[u8]) -> bool
     ensures { result ≡ begins_with b bytes.now }
 {
