@@ -1,4 +1,4 @@
--- The grammar of expressions with one case for each binding strength.
+-- The grammar of expressions with one case for each precedence level.
 use Rattle.std.specs.Prelude.{◌≡◌, ℕ, ◌-◌, ◌≤◌, true, List, [], ◌∷◌, ◌++◌}
 use Rattle.s7_base.specs.declared.reason.Line.{Line}
 use Rattle.st_parser.specs.Forms.{Form}
@@ -16,7 +16,7 @@ use Rattle.st_tree.specs.declared.raw.RawExpr.{RawExpr}
 use Rattle.st_tree.specs.declared.raw.RawExpr.TheVariants as expr
 use Rattle.st_tree.specs.declared.raw.RawVar.{RawVar}
 
--- the weakest level of binding, that of OR
+-- the lowest precedence, that of OR
 abbrev pub weakest : ℕ
 weakest = 9
 
@@ -28,7 +28,7 @@ bracketed ts = kind.Fixed fixed.Open ∷ (ts ++ kind.Fixed fixed.Close ∷ [])
 abbrev pub with_comma : List Kind → List Kind → List Kind
 with_comma ts us = ts ++ kind.Fixed fixed.Comma ∷ us
 
--- tokens are an expression that binds as strongly as a level asks, or more, and this is its tree
+-- tokens are an expression that binds as tightly as a level asks, or more, and this is its tree
 pub data Derives : ℕ → List Kind → RawExpr → Type 0 where
   value : {k : ℕ} {c : Literal} → is_value c ≡ true → Derives k (kind.Literal c ∷ []) (literal_tree c)
   read : {k : ℕ} {v : RawVar} {line : Line} → Derives k (kind.Variable v line ∷ []) (expr.Read v)
@@ -43,7 +43,7 @@ pub data Derives : ℕ → List Kind → RawExpr → Type 0 where
   selected : {k : ℕ} {ts us vs : List Kind} {e f g : RawExpr} → Derives weakest ts e → Derives weakest us f → Derives weakest vs g →
       Derives k (kind.Fixed (fixed.Function function.Select) ∷ bracketed (with_comma ts (with_comma us vs))) (expr.Select e f g)
 
--- tokens are those of a form that binds as strongly as a level asks, or more, and this is its tree
+-- tokens are those of a form that binds as tightly as a level asks, or more, and this is its tree
 pub record IsSpelled (k : ℕ) (ts : List Kind) (e : RawExpr) : Type 0 where
   pub form : Form
   pub binds : Binds form

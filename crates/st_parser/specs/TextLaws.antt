@@ -1,5 +1,5 @@
 -- Laws of reading: a text has one tree or one refusal, the canonical text of a proper tree reads as the
--- tree, and the grammar by binding strengths has the expressions of the forms.
+-- tree, and the grammar by precedence levels has the expressions of the forms.
 use Rattle.std.specs.Prelude.{◌≡◌, ◌⊎◌, ℕ, List}
 use Rattle.s7_base.specs.declared.reason.Line.{Line}
 use Rattle.s7_base.specs.declared.reason.Reason.{Reason}
@@ -37,6 +37,6 @@ EachHasOne = (bytes : List ℕ) → ((tree : StProgram) × IsTextOf bytes tree) 
 abbrev pub ProperReadsBack : Type 0
 ProperReadsBack = (text : StProgram) → Proper text → IsTextOf (spelling text) text
 
--- the grammar by binding strengths and the forms that keep their brackets are one
+-- the grammar by precedence levels and the forms that keep their brackets are one
 abbrev pub OneGrammar : Type 0
 OneGrammar = (k : ℕ) (ts : List Kind) (e : RawExpr) → (Derives k ts e → IsSpelled k ts e) × (IsSpelled k ts e → Derives k ts e)

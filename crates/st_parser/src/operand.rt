@@ -16,7 +16,7 @@ use s7_base::{Boxed, List, NoMemory, Width};
 use st_tree::{BinaryOp, RawStmt, RawStmtKind, RawVar};
 use std::alloc::Global;
 
-/// The weakest level of binding.
+/// The lowest precedence, that of OR.
 const WEAKEST: u32 = 9;
 
 /// An operand that has taken operators before it.
@@ -27,7 +27,7 @@ pub struct Reduced {
     pub operand: Measured,
 }
 
-/// The weakest level that the operand here may have.
+/// The lowest precedence that an operator of the operand here may have.
 fn limit(frames: &[Frame]) -> u32
     ensures { result ≡ limit code (stack_of frames.now) }
 {
@@ -38,8 +38,8 @@ fn limit(frames: &[Frame]) -> u32
     }
 }
 
-/// The operand takes the operators before it that bind as strongly as a level, or more. As many stand
-/// there as levels of binding and levels of nesting at most.
+/// The operand takes the operators before it that bind as tightly as a level, or more. As many stand
+/// there as levels of precedence and levels of nesting at most.
 fn reduce(
     alloc: Global,
     level: u32,
@@ -98,6 +98,7 @@ fn with_prefix(depth: usize, mut frames: Vec<Frame>, op: Prefix) -> Result<Optio
     }))
 }
 
+/// A token where an operand must begin.
 pub fn at_operand(
     depth: usize,
     mut frames: Vec<Frame>,
@@ -137,6 +138,7 @@ pub fn at_operand(
     }))
 }
 
+/// The bracket after the word of a function, the one token that may stand there.
 pub fn at_opening(
     depth: usize,
     mut frames: Vec<Frame>,
@@ -396,6 +398,7 @@ fn closed(
     }
 }
 
+/// A token after an operand: an operator between operands, or one that ends the expression.
 pub fn at_operator(
     alloc: Global,
     depth: usize,

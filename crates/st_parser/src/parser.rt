@@ -66,7 +66,7 @@ struct Judged {
     refusal: Option<Rejection>,
 }
 
-/// The state behind one more token.
+/// The state after one more token.
 fn advance(alloc: Global, state: State, kind: Kind, line: Line) -> Judged
     ensures { JudgedIs (seen result.state) result.refusal (judged (turn (seen state) kind) line) }
 {
@@ -102,7 +102,7 @@ fn advance_token(alloc: Global, state: State, token: &StToken) -> Judged
     }
 }
 
-/// The state behind all tokens of a text that ends on a line.
+/// The state after all tokens of a text that ends on a line.
 fn judge(alloc: Global, tokens: &[StToken], end: Line) -> Judged
     ensures { JudgedIs (seen result.state) result.refusal (judge (seen state.Start) (all_lined tokens.now end)) }
 {
@@ -119,7 +119,7 @@ fn judge(alloc: Global, tokens: &[StToken], end: Line) -> Judged
     advance(alloc, state, Kind::Fixed(Fixed::End), end)
 }
 
-/// The whole text, if the state is behind its end. The parts of another state are given up in calls of
+/// The whole text, if the state is after its end. The parts of another state are given up in calls of
 /// their own, since they are too many for one function's borrow check.
 #[tactic(auto, unfolding(crate::specs::Judge::seen))]
 fn finish(state: State) -> Option<Before>

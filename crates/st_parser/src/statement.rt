@@ -295,7 +295,7 @@ fn at_statement(
     }
 }
 
-/// What stands behind a variable at the beginning of a statement.
+/// What stands after a variable at the beginning of a statement.
 fn at_target(
     depth: usize,
     mut frames: Vec<Frame>,
@@ -326,7 +326,7 @@ fn at_target(
     }
 }
 
-/// A label of an arm, behind others.
+/// A label of an arm, after others.
 fn at_label(
     depth: usize,
     frames: Vec<Frame>,
@@ -373,7 +373,7 @@ fn at_formal(
     }
 }
 
-/// What stands behind the actuals of a call.
+/// What stands after the actuals of a call.
 fn at_given(
     depth: usize,
     frames: Vec<Frame>,
@@ -421,7 +421,7 @@ fn at_actual(
     }))
 }
 
-/// What stands behind the bracket of a call.
+/// What stands after the bracket of a call.
 fn at_first_formal(
     alloc: Global,
     depth: usize,
@@ -441,7 +441,7 @@ fn at_first_formal(
     }
 }
 
-/// What stands behind a label.
+/// What stands after a label.
 fn at_labelled(
     alloc: Global,
     depth: usize,
@@ -490,7 +490,7 @@ fn at_write_open(
     }))
 }
 
-/// The `:=` behind the name of a formal.
+/// The `:=` after the name of a formal.
 fn at_becoming(
     depth: usize,
     frames: Vec<Frame>,

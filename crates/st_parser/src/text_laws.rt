@@ -31,7 +31,7 @@ pub fn proper_reads_back()
     ensures { ProperReadsBack }
 {}
 
-/// The grammar of expressions with a case for each binding strength has those of the forms that keep
+/// The grammar of expressions with a case for each precedence level has those of the forms that keep
 /// their brackets, with the same trees.
 pub fn one_grammar()
     ensures { OneGrammar }

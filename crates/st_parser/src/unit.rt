@@ -125,7 +125,7 @@ fn at_section(
     }
 }
 
-/// A token of a formal or a local behind its name.
+/// A token of a formal or a local after its name.
 fn at_typing(
     top: Top,
     which: Which,
@@ -244,7 +244,7 @@ fn at_inside(
     }
 }
 
-/// A token behind the formals of a unit.
+/// A token after the formals of a unit.
 fn at_formals_done(
     alloc: Global,
     top: Top,
@@ -263,7 +263,7 @@ fn at_formals_done(
     }
 }
 
-/// A token behind the name of a unit.
+/// A token after the name of a unit.
 fn at_opened(alloc: Global, top: Top, kind: Kind) -> Result<Option<State>, NoMemory>
     ensures { IfOk result (λ o. option_map state_of o ≡ at_opened code (top_in top) kind) }
 {
