@@ -12,14 +12,14 @@ use crate::word::width_word;
 use s7_base::{NoMemory, Width};
 use st_tree::{Arm, CaseArm, Expr, Local, Pou, StProgram, StType, Stmt, Var};
 
-// The next level. No tree in a machine's memory has as many levels as a machine can count.
+/// The next level. No tree in a machine's memory has as many levels as a machine can count.
 fn deeper(level: usize) -> Result<usize, NoMemory>
     ensures { IfOk result (λ next. next ≡ level + 1) }
 {
     level.checked_add(1).ok_or(NoMemory)
 }
 
-// A line that is a word.
+/// Puts a line at the end that is one word, at a level of four blanks each.
 #[tactic(auto, unfolding(st_tree::specs::Spelling::line))]
 pub fn put_line(out: &mut Vec<u8>, level: usize, text: &str) -> Result<(), NoMemory>
     ensures { OnOk result (out.new.items ≡ out.old.items ++ line level text.now) }
@@ -47,7 +47,7 @@ fn put_assign(
     put(out, ";\n")
 }
 
-// The operands of an area write and the end of its line.
+/// The operands of an area write and the end of its line.
 fn put_operands(
     out: &mut Vec<u8>,
     tree: &StProgram,
@@ -82,7 +82,7 @@ fn put_area_write(
     put_operands(out, tree, unit, pointer, value)
 }
 
-// A formal with its variable.
+/// A formal with its variable.
 fn put_actual(
     out: &mut Vec<u8>,
     tree: &StProgram,
@@ -97,7 +97,7 @@ fn put_actual(
     put_var(out, tree, unit, var)
 }
 
-// The actuals behind the first, each with its comma.
+/// The actuals after the first, each with its comma.
 fn put_more_actuals(
     out: &mut Vec<u8>,
     tree: &StProgram,
@@ -156,7 +156,7 @@ fn put_call(
     put(out, ");\n")
 }
 
-// A line of a word, an expression and a word.
+/// A line of a word, an expression and a word.
 #[tactic(auto, unfolding(st_tree::specs::Spelling::line))]
 fn put_head(
     out: &mut Vec<u8>,
@@ -205,7 +205,7 @@ fn put_label_list(out: &mut Vec<u8>, ty: StType, labels: &[i64]) -> Result<(), N
     }
 }
 
-// The line of an arm's labels.
+/// The line of an arm's labels.
 #[tactic(auto, unfolding(st_tree::specs::Spelling::line))]
 fn put_labels(out: &mut Vec<u8>, level: usize, ty: StType, labels: &[i64]) -> Result<(), NoMemory>
     ensures { OnOk result (out.new.items ≡ out.old.items ++ line level (labels_text ty labels.now ++ codes ":")) }
@@ -215,6 +215,7 @@ fn put_labels(out: &mut Vec<u8>, level: usize, ty: StType, labels: &[i64]) -> Re
     put(out, ":\n")
 }
 
+/// Puts the statements of a body at the end, each at this level.
 #[cycle(statements)]
 pub fn put_body(
     out: &mut Vec<u8>,
@@ -272,7 +273,7 @@ fn put_statement(
     }
 }
 
-// An arm of an IF behind its word and a blank.
+/// An arm of an IF after its word and a blank.
 #[cycle(statements)]
 fn put_arm(
     out: &mut Vec<u8>,

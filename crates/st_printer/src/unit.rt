@@ -47,7 +47,7 @@ fn put_locals(out: &mut Vec<u8>, locals: &[Local]) -> Result<(), NoMemory>
     Ok(())
 }
 
-// A section of a unit; an empty one is not written.
+/// A section of a unit; an empty one is not written.
 fn put_section(out: &mut Vec<u8>, word: &str, locals: &[Local]) -> Result<(), NoMemory>
     ensures { OnOk result (out.new.items ≡ out.old.items ++ section_text word.now locals.now) }
 {
