@@ -81,8 +81,8 @@ abbrev pub StaysOver : Outcome → Standing → Type 0
 StaysOver (outcome.Ended f) standing = (units : ℕ) → end_within standing units ≡ Ended standing.memory.areas f
 StaysOver outcome.Going standing = Unit {0}
 
--- a new runner ends within each number of units as the run of its call does; there is none exactly where the
--- call does not fit, or for want of memory
+-- a new runner ends within each number of units as the run of its call does; there is none exactly
+-- where the call does not fit, or where memory ran out
 abbrev pub IsNew : StProgram → Call → Areas → Result Standing RunnerRefusal → Type 0
 IsNew tree c areas (Ok runner) = FitsSt tree c × ((units : ℕ) → end_within runner units ≡ st_run tree c areas units)
 IsNew tree c areas (Err BadCall) = FitsSt tree c → ⊥

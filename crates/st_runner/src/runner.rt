@@ -23,6 +23,7 @@ pub enum RunnerRefusal {
     /// The call does not fit the tree.
     BadCall,
 
+    /// Memory ran out.
     NoMemory,
 }
 
