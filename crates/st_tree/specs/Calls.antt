@@ -22,7 +22,7 @@ abbrev pub entered : Pou → List Reference → State → State
 entered unit formals s =
     record s { memory = cleared (length s.activations) s.memory; activations = s.activations ++ activation_of unit formals ∷ [] }
 
--- the state behind a call: the last activation is gone
+-- the state after a call: the last activation is gone
 abbrev pub left : State → State
 left s = record s { activations = take (depth s) s.activations }
 

@@ -38,6 +38,7 @@ is_program (name.Ob n) = true
 is_program (name.Fc n) = false
 is_program (name.Fb n) = false
 
+-- both are programs, or both are functions
 abbrev pub is_same_kind : Bool → Bool → Bool
 is_same_kind false b = not b
 is_same_kind true b = b
@@ -107,10 +108,12 @@ formals_given (name.Ob n) formals actuals = []
 formals_given (name.Fc n) formals actuals = references formals actuals
 formals_given (name.Fb n) formals actuals = []
 
--- the register variables at the start: all zero, but that DINO is the instance of a function block
+-- the register variables at the start: all zero
 abbrev pub all_zero : Reg → ℤ
 all_zero r = pos 0
 
+-- the register variables at the start of a call from outside: all zero, but that DINO is the instance
+-- of a function block
 abbrev pub registers_at_start : BlockName → ℕ → Reg → ℤ
 registers_at_start (name.Ob n) instance = all_zero
 registers_at_start (name.Fc n) instance = all_zero

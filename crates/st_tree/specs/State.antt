@@ -38,15 +38,17 @@ pub record State : Type 0 where
 abbrev pub depth : State → ℕ
 depth s = length s.activations - 1
 
--- the locals and the formals of an activation that is there
+-- the values of the locals of an activation; none where it is not there
 abbrev pub locals_of : Option Activation → List Value
 locals_of None = []
 locals_of (Some a) = a.locals
 
+-- what the formals of an activation stand for; none where it is not there
 abbrev pub formals_of : Option Activation → List Reference
 formals_of None = []
 formals_of (Some a) = a.formals
 
+-- two register variables are the same one
 abbrev pub is_same_register : Reg → Reg → Bool
 is_same_register q r = place q == place r
 
@@ -72,10 +74,11 @@ with_local (suc d) i v (a ∷ rest) = a ∷ with_local d i v rest
 
 -- Places
 
--- the numbers of the data blocks that DBNO and DINO name at an access, each a WORD
+-- the number of the data block that DBNO names at an access, a WORD; 0 where none is open
 abbrev pub db_number : State → ℕ
 db_number s = pattern 16 (s.registers reg.DbNo)
 
+-- the number of the data block that DINO names at an access, a WORD; 0 where none is open
 abbrev pub di_number : State → ℕ
 di_number s = pattern 16 (s.registers reg.DiNo)
 
