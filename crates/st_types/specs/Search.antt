@@ -13,10 +13,11 @@ Decides P false = P → ⊥
 abbrev pub has : ℕ → List Bool → ℕ → Bool
 has from seen i = i == from || get_or seen i true
 
--- the marks and the units that wait, after one more unit
+-- the marks after one more unit is met
 abbrev pub marks_after : ℕ → ℕ → List Bool → List Bool
 marks_after from i seen = if has from seen i then seen else slice_set seen i true
 
+-- the units that wait after one more unit is met; one that is seen already does not wait again
 abbrev pub work_after : ℕ → ℕ → List Bool → List ℕ → List ℕ
 work_after from i seen work = if has from seen i then work else work ++ i ∷ []
 

@@ -60,7 +60,8 @@ pub record HasTree (raw : RawSt) (tree : StProgram) : Type 0 where
   pub chain : IsChain (calls_in raw) raw.pous
   pub same : tree ≡ tree_of raw
 
--- the first rule that a text breaks: first those of names, types and places, then those of the chain of calls
+-- the first rule that a text breaks: first those of names, types and places, then those of the chain of
+-- calls
 pub data Breaks (raw : RawSt) : Line → Reason → Type 0 where
   named : {line : Line} {rule : Reason} → first_break raw ≡ Some (record { line = line; rule = rule }) → Breaks raw line rule
   chained : {line : Line} {rule : Reason} → first_break raw ≡ None → BreaksChain (calls_in raw) raw.pous line rule → Breaks raw line rule
@@ -70,6 +71,7 @@ abbrev pub IsRefused : RawSt → Rejection → Type 0
 IsRefused raw (rejection.Refused line rule) = Breaks raw line rule
 IsRefused raw rejection.NoMemory = Unit {0}
 
+-- a refusal names the first rule that the chain of calls breaks; or memory ran out
 abbrev pub IsChainRefused : Graph → List RawPou → Rejection → Type 0
 IsChainRefused graph units (rejection.Refused line rule) = BreaksChain graph units line rule
 IsChainRefused graph units rejection.NoMemory = Unit {0}

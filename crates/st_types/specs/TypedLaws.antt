@@ -35,7 +35,7 @@ pub record FirstOfAll : Type 0 where
   pub some : (breaks : List Break) (b : Break) → first_of_all breaks ≡ Some b → IsFirst breaks b
   pub none : (breaks : List Break) → first_of_all breaks ≡ None → breaks ≡ []
 
--- n calls one behind another are followed from a unit to a unit that is there
+-- n calls one after another are followed from a unit to a unit that is there
 pub record IsFollowed (graph : Graph) (n i : ℕ) : Type 0 where
   pub calls : List ℕ
   pub last : ℕ

@@ -14,6 +14,8 @@ use s7_base::{Line, List, NoMemory, Reason};
 use st_tree::{RawVar, StType, Stmt, Var};
 use std::alloc::Global;
 
+/// The position of the function that a name means. A name that means nothing is UnknownName, one that
+/// means no function TypeMismatch.
 pub fn callee(meaning: Option<Meaning>) -> Result<u32, Reason>
     ensures { result ≡ callee meaning }
 {

@@ -10,8 +10,13 @@ use std::alloc::Global;
 /// The units that are seen so far, and those whose calls wait to be looked at.
 #[derive(Drop)]
 pub struct Search {
+    /// The unit where the search begins.
     pub from: usize,
+
+    /// Which units a call was found to.
     pub seen: Vec<bool>,
+
+    /// The units whose calls are still to be looked at.
     pub work: Vec<usize>,
 }
 
