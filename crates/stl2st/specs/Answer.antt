@@ -34,7 +34,7 @@ use Rattle.stl2st.specs.declared.status.Status.TheVariants.{Done, Refused, Usage
 
 -- Lines
 
--- the line that words which are no command get
+-- the line for arguments that are no command
 abbrev pub usage_line : List ℕ
 usage_line = codes "usage: stl2st translate | check | run-stl STEPS CALL IMAGE | run-st UNITS CALL IMAGE | demo N\n"
 
@@ -77,7 +77,7 @@ run_status (outcome.Ended None) = Done
 run_status (outcome.Ended (Some f)) = Faulted
 run_status outcome.Going = Going
 
--- a run within its bound: its report; one that goes on shows no memory, so that at its start serves
+-- a run within its bound: its report; one that goes on shows no memory, so the one at its start will do
 abbrev pub run_reply : Areas → End → Reply
 run_reply start (Ended areas f) = (run_status (outcome.Ended f), report (outcome.Ended f) areas)
 run_reply start Unended = (run_status outcome.Going, report outcome.Going start)
@@ -97,10 +97,11 @@ abbrev pub run_stl_reply : ℕ → Call → List ℕ → Program → Reply
 run_stl_reply steps call text program =
     if nat_lt IMAGE_LIMIT (length text) then (TooLong, too_long_line) else memory_reply program call steps (image_of text [])
 
--- what the other commands answer to a program that is accepted
+-- what `translate` answers to a program that is accepted
 abbrev pub translate_reply : Program → Reply
 translate_reply program = (Done, spelling (translation program))
 
+-- what `check` answers to a program that is accepted
 abbrev pub check_reply : Program → Reply
 check_reply program = (Done, accepted_line)
 
@@ -178,7 +179,7 @@ WantsImage command left = (source : List ℕ) × AreOf left source × Wants comm
 
 -- What is written
 
--- what the sink has taken, by the status: the text of the answer; a proper front of it where writing
+-- what the sink has taken, by the status: the text of the answer; a proper prefix of it where writing
 -- failed; nothing where reading failed or memory ran out
 abbrev pub Sends : Option Command → List ℕ → List ℕ → Option (List ℕ) → Option (List ℕ) → Status → Type 0
 Sends command source text before after ReadFault = after ≡ before

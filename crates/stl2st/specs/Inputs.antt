@@ -16,6 +16,7 @@ pub record Input : Type 0 where
   pub faults : ℕ
   pub faults_after : ℕ
 
+-- a source by what its object tells before and after the call
 abbrev pub input : Option (List ℕ) → Option (List ℕ) → ℕ → ℕ → Input
 input left left_after faults faults_after = record { left = left; left_after = left_after; faults = faults; faults_after = faults_after }
 

@@ -102,6 +102,6 @@ HasImage Check = ⊥
 HasImage (RunStl steps call) = Unit {0}
 HasImage (RunSt units call) = Unit {0}
 
--- a text was written, or a proper front of it
+-- a text was written, or a proper prefix of it
 abbrev pub Ends : Option (List ℕ) → Option (List ℕ) → Status → List ℕ → Status → Type 0
 Ends before after status bytes result = ((result ≡ status) × Took before after bytes) ⊎ ((result ≡ WriteFault) × TookFewer before after bytes)

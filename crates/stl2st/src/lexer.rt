@@ -13,12 +13,17 @@ use std::alloc::Global;
 /// What stands at the front of a text, with its size in bytes.
 #[derive(Clone, Copy)]
 pub enum Piece {
+    /// The end of a line, one byte.
     LineEnd,
+
+    /// A blank, a comment, an attribute or a title.
     Gap(usize),
+
+    /// A token of this kind.
     Token(TokenKind, usize),
 }
 
-/// What is left of a list behind its first items.
+/// What is left of a list after its first items.
 pub fn rest_after<T>(list: &[T], size: usize) -> &[T]
     requires { size ≤ length list.now }
     ensures { result.now ≡ drop size list.now }
@@ -33,6 +38,7 @@ fn is_blank(b: u8) -> bool
     b == b' ' || b == b'\t' || b == b'\r'
 }
 
+/// A letter, a digit or `_`, of which words are made.
 pub fn is_word_byte(b: u8) -> bool
     ensures { result ≡ is_word_byte b }
 {

@@ -43,11 +43,15 @@ const BAD_CALL_LINE: &str = "bad call\n";
 /// A text to write, which takes memory only where it is made.
 #[derive(Debug, Drop)]
 pub enum Text {
+    /// A line that is the same for every input.
     Fixed(&'static str),
+
+    /// A text that was made for this input.
     Made(Vec<u8>),
 }
 
 impl Text {
+    /// The bytes of the text.
     pub fn as_bytes(&self) -> &[u8]
         ensures { result.now ≡ bytes_of_text self.now }
     {
@@ -71,6 +75,7 @@ pub enum Stop {
     /// An input could not be read.
     ReadFault,
 
+    /// Memory ran out.
     NoMemory,
 }
 
@@ -342,7 +347,7 @@ fn text_reply<P: Source, M: Source>(
     }
 }
 
-/// What the words ask for, done on the inputs.
+/// What the arguments ask for, done on the inputs.
 pub fn reply_to<P: Source, M: Source>(
     alloc: Global,
     words: &[String],

@@ -22,7 +22,7 @@ const MNEMONICS: [&str; 110] = [
 /// The signs that are a mnemonic or begin one, whatever follows.
 const SIGN_MNEMONICS: [&str; 3] = [")", "=", "+"];
 
-/// The signs that are a mnemonic with a type letter behind them.
+/// The signs that are a mnemonic with a type letter after them.
 const TYPED_SIGNS: [&str; 9] = ["-", "*", "/", "==", "<>", ">", "<", ">=", "<="];
 
 const TYPE_LETTERS: [&str; 3] = ["I", "D", "R"];
@@ -59,6 +59,7 @@ const BLOCK_WORDS: [&str; 28] = [
     "END_DATA_BLOCK",
 ];
 
+/// Whether two words are the same, letters in any case.
 pub fn is_same_word(word: &[u8], entry: &str) -> bool
     ensures { result ≡ str_eq_ignore_ascii_case word.now entry.now }
 {
@@ -106,7 +107,7 @@ pub fn is_mnemonic_sign(token: &Token) -> bool
     matches!(token.kind, TokenKind::Sign) && is_listed(token.text.as_slice(), &SIGN_MNEMONICS)
 }
 
-/// The token is a sign that is a mnemonic with a type letter behind it.
+/// The token is a sign that is a mnemonic with a type letter after it.
 pub fn is_typed_sign(token: &Token) -> bool
     ensures { result ≡ is_sign_among typed_signs token.now }
 {
