@@ -18,6 +18,7 @@ pub enum MachineRefusal {
     /// The call does not fit the program.
     BadCall,
 
+    /// Memory ran out.
     NoMemory,
 }
 
