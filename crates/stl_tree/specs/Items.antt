@@ -25,7 +25,7 @@ use Rattle.stl_tree.specs.declared.program.Operand.TheVariants.{Direct}
 
 -- Numbers and operands
 
--- the number that digits stand for behind those of `value`, where it is at most `most`
+-- the number that digits stand for after those of `value`, where it is at most `most`
 abbrev pub number_from : ℕ → ℕ → List ℕ → Option ℕ
 number_from most value [] = Some value
 number_from most value (digit ∷ rest) =
@@ -137,6 +137,7 @@ pub data Context : Type 0 where
   outside : Context
   in_body : Context
 
+-- a label and its colon stand at the front, where labels may stand
 abbrev pub label_at : Context → List Token → Bool
 label_at outside tokens = false
 label_at in_body tokens = begins_with_label tokens
@@ -169,11 +170,13 @@ statement_of tokens =
 abbrev pub block_number : List ℕ → Option ℕ
 block_number digits = option_and_then (λ number. if number == 0 then None else Some number) (number_of 65535 digits)
 
+-- a heading whose number is read, with how many tokens the name of its block takes; one with no number
+-- in range is not built yet
 abbrev pub heading_with : ℕ → Option ℕ → Result (BlockName × ℕ) Reason
 heading_with size None = Err (Unsupported NotBuilt)
 heading_with size (Some number) = Ok (Ob number, size)
 
--- OB and the number behind it; a text that ends before the number cuts the heading off
+-- OB and the number after it; a text that ends before the number cuts the heading off
 abbrev pub heading_number : List Token → Result (BlockName × ℕ) Reason
 heading_number [] = Err BadStatement
 heading_number (number ∷ rest) = if is_word_kind number.kind then heading_with 2 (block_number number.text) else Err (Unsupported NotBuilt)
@@ -183,7 +186,7 @@ abbrev pub short_heading : Token → Result (BlockName × ℕ) Reason
 short_heading name =
     if is_word_kind name.kind && str_eq_ignore_ascii_case (take 2 name.text) (codes "OB") then heading_with 1 (block_number (drop 2 name.text)) else Err (Unsupported NotBuilt)
 
--- what stands behind ORGANIZATION_BLOCK, with how many tokens it takes
+-- what stands after ORGANIZATION_BLOCK, with how many tokens it takes
 abbrev pub heading_name : List Token → Result (BlockName × ℕ) Reason
 heading_name [] = Err BadStatement
 heading_name (name ∷ rest) = if is_word (codes "OB") name then heading_number rest else short_heading name

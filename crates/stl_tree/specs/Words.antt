@@ -6,11 +6,14 @@ use Rattle.s7_base.specs.declared.token.Token.{Token}
 use Rattle.s7_base.specs.declared.token.TokenKind.{TokenKind}
 use Rattle.s7_base.specs.declared.token.TokenKind.TheVariants.{Word, Quoted, Text, Sign}
 
+-- the mnemonics of bit logic, of setting and resetting, and of edges
 abbrev pub bit_mnemonics : List (List ℕ)
 bit_mnemonics =
     codes "A" ∷ codes "AN" ∷ codes "O" ∷ codes "ON" ∷ codes "X" ∷ codes "XN" ∷ codes "S" ∷ codes "R"
     ∷ codes "SET" ∷ codes "CLR" ∷ codes "NOT" ∷ codes "SAVE" ∷ codes "FP" ∷ codes "FN" ∷ []
 
+-- the mnemonics of loading and transferring, and of arithmetic, shifts, word logic and conversions in
+-- the accumulators; those that are signs stand below
 abbrev pub accumulator_mnemonics : List (List ℕ)
 accumulator_mnemonics =
     codes "L" ∷ codes "T" ∷ codes "MOD" ∷ codes "INC" ∷ codes "DEC"
@@ -19,9 +22,11 @@ accumulator_mnemonics =
     ∷ codes "BTI" ∷ codes "BTD" ∷ codes "ITB" ∷ codes "DTB" ∷ codes "ITD" ∷ codes "INVI" ∷ codes "INVD" ∷ codes "CAW" ∷ codes "CAD" ∷ codes "NEGI" ∷ codes "NEGD"
     ∷ codes "TAK" ∷ codes "PUSH" ∷ codes "POP" ∷ []
 
+-- the mnemonics of address registers, of opening data blocks, and those that do nothing
 abbrev pub register_mnemonics : List (List ℕ)
 register_mnemonics = codes "LAR1" ∷ codes "LAR2" ∷ codes "TAR1" ∷ codes "TAR2" ∷ codes "CAR" ∷ codes "OPN" ∷ codes "CDB" ∷ codes "NOP" ∷ codes "BLD" ∷ []
 
+-- the mnemonics of jumps, block ends and calls
 abbrev pub control_mnemonics : List (List ℕ)
 control_mnemonics =
     codes "JU" ∷ codes "JC" ∷ codes "JCN" ∷ codes "JCB" ∷ codes "JNB" ∷ codes "JBI" ∷ codes "JNBI" ∷ codes "JO" ∷ codes "JOS"
@@ -44,10 +49,12 @@ mnemonics = bit_mnemonics ++ accumulator_mnemonics ++ register_mnemonics ++ cont
 abbrev pub sign_mnemonics : List (List ℕ)
 sign_mnemonics = codes ")" ∷ codes "=" ∷ codes "+" ∷ []
 
--- the signs that are a mnemonic with one of the letters I, D and R behind them
+-- the signs that are a mnemonic with one of the letters I, D and R after them
 abbrev pub typed_signs : List (List ℕ)
 typed_signs = codes "-" ∷ codes "*" ∷ codes "/" ∷ codes "==" ∷ codes "<>" ∷ codes ">" ∷ codes "<" ∷ codes ">=" ∷ codes "<=" ∷ []
 
+-- the letters of the types that a sign works on: I for whole numbers of 16 bits, D of 32 bits, R for
+-- reals
 abbrev pub type_letters : List (List ℕ)
 type_letters = codes "I" ∷ codes "D" ∷ codes "R" ∷ []
 
@@ -60,12 +67,14 @@ block_words =
     ∷ codes "END_SYMBOL_TABLE" ∷ codes "END_VAR" ∷ codes "END_STRUCT"
     ∷ codes "END_ORGANIZATION_BLOCK" ∷ codes "END_FUNCTION" ∷ codes "END_FUNCTION_BLOCK" ∷ codes "END_DATA_BLOCK" ∷ []
 
+-- the token is a word, not what stands in quotes, nor a sign
 abbrev pub is_word_kind : TokenKind → Bool
 is_word_kind Word = true
 is_word_kind Quoted = false
 is_word_kind Text = false
 is_word_kind Sign = false
 
+-- the token is a sign
 abbrev pub is_sign_kind : TokenKind → Bool
 is_sign_kind Word = false
 is_sign_kind Quoted = false
