@@ -34,7 +34,8 @@ with_sign negative amount = if negative then neg_ℤ (pos amount) else pos amoun
 -- the number that a pattern with so many digits says; a fault where a digit is above 9
 abbrev pub bcd_value : ℕ → ℕ → Result ℤ Fault
 bcd_value count n =
-    if are_decimal (digits 16 count n) then Ok (with_sign (is_negative count n) (worth 10 (digits 16 count n))) else Err BcdDigit
+    if are_decimal (digits 16 count n) then Ok (with_sign (is_negative count n) (worth 10 (digits 16 count n)))
+    else Err BcdDigit
 
 -- the sign digit that is written for a number
 abbrev pub sign_digit : ℤ → ℕ
@@ -44,4 +45,5 @@ sign_digit v = if int_lt v (pos 0) then 0xF else 0
 -- where the amount has more digits
 abbrev pub bcd_of : ℕ → ℤ → Option ℕ
 bcd_of count v =
-    if nat_lt (unsigned_abs v) (10 ^ count) then Some (worth 16 (digits 10 count (unsigned_abs v) ++ sign_digit v ∷ [])) else None
+    if nat_lt (unsigned_abs v) (10 ^ count) then Some (worth 16 (digits 10 count (unsigned_abs v) ++ sign_digit v ∷ []))
+    else None
