@@ -74,7 +74,11 @@ area_if_named (Some a) db di activation = Some (area_named a db di activation)
 -- an operand through a pointer that names its area by a code
 abbrev pub pointed : ℕ → ℕ → ℕ → ℕ → Aim
 pointed p db di activation =
-    record { area = area_if_named (name_of_code (code_of_pointer p)) db di activation; byte = byte_of_pointer p; bit = bit_of_pointer p }
+    record {
+      area = area_if_named (name_of_code (code_of_pointer p)) db di activation;
+      byte = byte_of_pointer p;
+      bit = bit_of_pointer p;
+    }
 
 -- a place
 abbrev pub aimed : Place → Aim
@@ -119,7 +123,8 @@ bytes_there (Some a) m = or_none (bytes_of a m)
 -- the tests of an access in their order, each with its fault
 abbrev pub tests : Aim → Width → Contents → List (Bool × Fault)
 tests aim w m =
-    (is_closed aim.area, DbNotOpen) ∷ (is_missing aim.area m, DbMissing) ∷ (is_none aim.area, AreaCode) ∷ (is_unaligned w aim.bit, Alignment)
+    (is_closed aim.area, DbNotOpen) ∷ (is_missing aim.area m, DbMissing) ∷ (is_none aim.area, AreaCode)
+    ∷ (is_unaligned w aim.bit, Alignment)
     ∷ (nat_lt (length (bytes_there aim.area m)) (aim.byte + bytes_wide w), AreaLength) ∷ []
 
 -- the fault of the first test that holds
@@ -179,7 +184,8 @@ put p bytes new m = with_bytes p.area (replaced bytes p.byte new) m
 -- the memory after a write of one bit, the other seven of its byte as they were, or the fault of the
 -- access
 abbrev pub write_bit : Place → Bool → Contents → Result Contents Fault
-write_bit p v m = and_then (reached p width.Bit m) (λ bytes. Ok (put p bytes (byte_with (byte_at bytes p.byte) p.bit v ∷ []) m))
+write_bit p v m =
+    and_then (reached p width.Bit m) (λ bytes. Ok (put p bytes (byte_with (byte_at bytes p.byte) p.bit v ∷ []) m))
 
 -- the memory after a write of a byte, or the fault of the access
 abbrev pub write_byte : Place → ℕ → Contents → Result Contents Fault

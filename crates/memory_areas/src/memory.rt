@@ -239,7 +239,8 @@ impl Memory {
     fn reached(&self, place: Place, width: Width) -> Result<&[u8], Fault>
         requires { IsActivation place.area }
         ensures { MatchResult result
-            (λ bytes. (reached place width self.now ≡ Ok bytes.now) × (place.byte + bytes_wide width ≤ length bytes.now))
+            (λ bytes. (reached place width self.now ≡ Ok bytes.now)
+            × (place.byte + bytes_wide width ≤ length bytes.now))
             (λ fault. reached place width self.now ≡ Err fault) }
     {
         if is_closed(place.area) {
