@@ -30,7 +30,9 @@ pub record NoPiece (rest : List ℕ) : Type 0 where
 -- a text has these tokens exactly where it is cut to its end, and a bad token on a line exactly where
 -- it is cut up to that line and no piece stands there
 pub record TokensAreCut : Type 0 where
-  pub sound : (bytes : List ℕ) (tokens : List Token) → tokens_of bytes ≡ Ok tokens → (line : ℕ) × Cuts 1 10 bytes tokens line []
-  pub complete : (bytes : List ℕ) (tokens : List Token) (line : ℕ) → Cuts 1 10 bytes tokens line [] → tokens_of bytes ≡ Ok tokens
+  pub sound : (bytes : List ℕ) (tokens : List Token) → tokens_of bytes ≡ Ok tokens
+      → (line : ℕ) × Cuts 1 10 bytes tokens line []
+  pub complete : (bytes : List ℕ) (tokens : List Token) (line : ℕ) → Cuts 1 10 bytes tokens line []
+      → tokens_of bytes ≡ Ok tokens
   pub bad : (bytes : List ℕ) (tokens : List Token) (line : ℕ) (rest : List ℕ) →
       Cuts 1 10 bytes tokens line rest → NoPiece rest → tokens_of bytes ≡ Err (Refused (record { 0 = line }) BadToken)
