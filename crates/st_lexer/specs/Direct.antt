@@ -22,7 +22,14 @@ kept number = min number.value (2 ^ 32 - 1)
 -- the bit's number
 abbrev pub bit_variable : AreaName → Option ℕ → ℕ → Number → Number → Direct
 bit_variable area block before byte bit =
-    record { area = area; block = block; width = Bit; byte = kept byte; bit = kept bit; size = before + byte.size + 1 + bit.size }
+    record {
+      area = area;
+      block = block;
+      width = Bit;
+      byte = kept byte;
+      bit = kept bit;
+      size = before + byte.size + 1 + bit.size;
+    }
 
 -- the direct variable of a byte, a word or a double word, `%MW10`, with no bit number
 abbrev pub whole_variable : AreaName → Option ℕ → Width → ℕ → Number → Direct
@@ -65,11 +72,13 @@ place_at area block (Some width) before bytes = whole_at area block width before
 -- the letter of a width, and the numbers of the place
 abbrev pub lettered_at : AreaName → Option ℕ → ℕ → List ℕ → Option Direct
 lettered_at area block before [] = None
-lettered_at area block before (letter ∷ rest) = place_at area block (width_named (to_ascii_uppercase letter)) (before + 1) rest
+lettered_at area block before (letter ∷ rest) =
+    place_at area block (width_named (to_ascii_uppercase letter)) (before + 1) rest
 
 -- in I, Q, M and L the letter X of a bit may be left out
 abbrev pub unlettered_at : AreaName → List ℕ → Option Direct
-unlettered_at area bytes = if begins_with_digit Ten bytes then bit_at area None 2 bytes else lettered_at area None 2 bytes
+unlettered_at area bytes =
+    if begins_with_digit Ten bytes then bit_at area None 2 bytes else lettered_at area None 2 bytes
 
 -- the text begins with `.DB`, in any case
 abbrev pub begins_with_block : List ℕ → Bool
@@ -78,7 +87,8 @@ begins_with_block bytes = false
 
 -- after the number of a data block stands its place
 abbrev pub numbered_at : Number → List ℕ → Option Direct
-numbered_at block rest = if begins_with_block rest then lettered_at Db (Some (kept block)) (block.size + 6) (drop 3 rest) else None
+numbered_at block rest =
+    if begins_with_block rest then lettered_at Db (Some (kept block)) (block.size + 6) (drop 3 rest) else None
 
 -- a place in the data block whose number is written, or in the one that the DB register names
 abbrev pub block_at : Option Number → List ℕ → Option Direct
@@ -111,7 +121,8 @@ area_at None letter bytes = if letter == 68 then data_at bytes else None
 abbrev pub direct_at : List ℕ → Option Direct
 direct_at [] = None
 direct_at (percent ∷ []) = None
-direct_at (percent ∷ letter ∷ rest) = if percent == 37 then area_at (area_named (to_ascii_uppercase letter)) (to_ascii_uppercase letter) rest else None
+direct_at (percent ∷ letter ∷ rest) =
+    if percent == 37 then area_at (area_named (to_ascii_uppercase letter)) (to_ascii_uppercase letter) rest else None
 
 -- the place that the text of a direct variable's token names
 abbrev pub direct_of : List ℕ → Option Direct

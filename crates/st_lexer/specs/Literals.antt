@@ -14,7 +14,10 @@ use Rattle.st_tree.specs.declared.expr.StType.TheVariants.{Bool as Truth, Byte, 
 -- what a character stands for as a digit: 0 to 9, A to F in any case; 16 for one that is no digit
 abbrev pub digit_value : ℕ → ℕ
 digit_value b =
-    if is_between 48 57 b then b - 48 else if is_between 65 70 b then b - 55 else if is_between 97 102 b then b - 87 else 16
+    if is_between 48 57 b then b - 48
+    else if is_between 65 70 b then b - 55
+    else if is_between 97 102 b then b - 87
+    else 16
 
 -- how many digits a base has: a digit counts this many of the next lower place
 abbrev pub radix : Base → ℕ
@@ -35,7 +38,8 @@ begins_with_digit base (first ∷ rest) = is_digit_to base first
 -- how many bytes at the front are digits, or a `_` that a digit follows
 abbrev pub digits_size : Base → List ℕ → ℕ
 digits_size base [] = 0
-digits_size base (first ∷ rest) = if is_digit_to base first || (first == 95 && begins_with_digit base rest) then digits_size base rest + 1 else 0
+digits_size base (first ∷ rest) =
+    if is_digit_to base first || (first == 95 && begins_with_digit base rest) then digits_size base rest + 1 else 0
 
 -- a number with one more digit; `_` says nothing, and a number that is too great is kept as the greatest
 abbrev pub with_digit : Base → ℕ → ℕ → ℕ
@@ -61,7 +65,11 @@ stands_to base bytes = starts_with nat_eq bytes (mark base) && begins_with_digit
 
 -- the base of the number at the front
 abbrev pub base_at : List ℕ → Base
-base_at bytes = if stands_to Sixteen bytes then Sixteen else if stands_to Eight bytes then Eight else if stands_to Two bytes then Two else Ten
+base_at bytes =
+    if stands_to Sixteen bytes then Sixteen
+    else if stands_to Eight bytes then Eight
+    else if stands_to Two bytes then Two
+    else Ten
 
 -- digits after their mark, and the number that they stand for
 abbrev pub digits_behind : ℕ → Base → List ℕ → Number
@@ -71,7 +79,9 @@ digits_behind before base digits =
 
 -- the longest number to this base at the front
 abbrev pub number_to : Base → List ℕ → Option Number
-number_to base bytes = if stands_to base bytes then Some (digits_behind (length (mark base)) base (drop (length (mark base)) bytes)) else None
+number_to base bytes =
+    if stands_to base bytes then Some (digits_behind (length (mark base)) base (drop (length (mark base)) bytes))
+    else None
 
 -- the longest number at the front
 abbrev pub number_at : List ℕ → Option Number
@@ -124,13 +134,16 @@ word_size bytes = prefix_len is_word_byte bytes
 
 -- a literal of a type, whose number stands after so many bytes
 abbrev pub literal_of_number : StType → Bool → ℕ → Number → Literal
-literal_of_number type minus before number = record { kind = type; minus = minus; number = number.value; size = before + number.size }
+literal_of_number type minus before number =
+    record { kind = type; minus = minus; number = number.value; size = before + number.size }
 
 -- the literal of a word of so many bytes that stands after its type: TRUE or FALSE in any case
 abbrev pub truth_named : ℕ → List ℕ → Option Literal
 truth_named before word =
-    if is_same_word word (codes "TRUE") then Some (record { kind = Truth; minus = false; number = 1; size = before + length word })
-    else if is_same_word word (codes "FALSE") then Some (record { kind = Truth; minus = false; number = 0; size = before + length word })
+    if is_same_word word (codes "TRUE")
+    then Some (record { kind = Truth; minus = false; number = 1; size = before + length word })
+    else if is_same_word word (codes "FALSE") then Some
+    (record { kind = Truth; minus = false; number = 0; size = before + length word })
     else None
 
 -- one thing, or another where there is none
@@ -141,7 +154,8 @@ or_else None other = other
 -- the value of BOOL after so many bytes: TRUE, FALSE or a decimal
 abbrev pub truth_behind : ℕ → List ℕ → Option Literal
 truth_behind before bytes =
-    or_else (truth_named before (take (word_size bytes) bytes)) (option_map (literal_of_number Truth false before) (number_to Ten bytes))
+    or_else (truth_named before (take (word_size bytes) bytes))
+    (option_map (literal_of_number Truth false before) (number_to Ten bytes))
 
 -- the value of another type: a number with its mark or without one, or a `-` and a decimal
 abbrev pub number_behind : StType → ℕ → List ℕ → Option Literal
@@ -157,7 +171,8 @@ value_behind type before bytes = number_behind type before bytes
 
 -- the type whose word stands at the front with `#` after it
 abbrev pub type_at : List ℕ → Option StType
-type_at bytes = if begins_with 35 (drop (word_size bytes) bytes) then type_named (take (word_size bytes) bytes) else None
+type_at bytes =
+    if begins_with 35 (drop (word_size bytes) bytes) then type_named (take (word_size bytes) bytes) else None
 
 -- a decimal is a DINT, a number with a mark a DWORD
 abbrev pub type_of_base : Base → StType

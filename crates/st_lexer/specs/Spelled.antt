@@ -20,7 +20,8 @@ is_byte b = nat_le b 255
 -- a type has a value; only those with a sign have values below 0
 abbrev pub has_value : StType → ℤ → Bool
 has_value ty n =
-    if int_lt n (pos 0) then is_signed ty && nat_le (unsigned_abs n) (greatest ty true) else nat_le (unsigned_abs n) (greatest ty false)
+    if int_lt n (pos 0) then is_signed ty && nat_le (unsigned_abs n) (greatest ty true)
+    else nat_le (unsigned_abs n) (greatest ty false)
 
 -- a number of 32 bits, as far as numbers of places are kept
 abbrev pub is_kept : ℕ → Bool

@@ -29,7 +29,8 @@ WordsAreTokens = (b : ℕ) (w : List ℕ) → is_letter b ≡ true → list_all 
 -- the text of a literal other than TRUE and FALSE has its type and its value
 pub record IsLiteral (text : List ℕ) (ty : StType) (n : ℤ) : Type 0 where
   pub is_token : IsToken sort.Literal text
-  pub found : literal_at text ≡ Some (record { kind = ty; minus = int_lt n (pos 0); number = unsigned_abs n; size = length text })
+  pub found : literal_at text
+      ≡ Some (record { kind = ty; minus = int_lt n (pos 0); number = unsigned_abs n; size = length text })
 
 -- the types with numbers
 abbrev pub is_number : StType → Bool
@@ -42,9 +43,11 @@ is_number other = true
 pub record LiteralsAreTokens : Type 0 where
   pub typed : (ty : StType) (n : ℤ) → is_number ty ≡ true → has_value ty n ≡ true → IsLiteral (literal_text ty n) ty n
   pub plain : (n : ℕ) → is_decimal n ≡ true → IsLiteral (decimal n) type.Dint (pos n)
-  pub in_plain : (n : ℕ) → is_decimal n ≡ true → (base_at (decimal n) ≡ base.Ten) × (begins_with_digit base.Ten (decimal n) ≡ true)
+  pub in_plain : (n : ℕ) → is_decimal n ≡ true
+      → (base_at (decimal n) ≡ base.Ten) × (begins_with_digit base.Ten (decimal n) ≡ true)
   pub byte : (b : ℕ) → is_byte b ≡ true → IsLiteral (byte_text b) type.Dword (pos b)
-  pub in_byte : (b : ℕ) → is_byte b ≡ true → (base_at (byte_text b) ≡ base.Sixteen) × (length (drop 3 (byte_text b)) ≡ 2)
+  pub in_byte : (b : ℕ) → is_byte b ≡ true
+      → (base_at (byte_text b) ≡ base.Sixteen) × (length (drop 3 (byte_text b)) ≡ 2)
 
 -- the text of a place after `%` and the letters of its area, or of a data block with its number
 abbrev pub place_in : AreaName → Option ℕ → Width → ℕ → ℕ → List ℕ
@@ -55,8 +58,17 @@ place_in a (Some n) w byte bit = codes "%DB" ++ decimal n ++ codes ".DB" ++ plac
 pub record IsDirect (a : AreaName) (block : Option ℕ) (w : Width) (byte bit : ℕ) : Type 0 where
   pub is_token : IsToken sort.Direct (place_in a block w byte bit)
   pub found : direct_of (place_in a block w byte bit)
-      ≡ Some (record { area = a; block = block; width = w; byte = byte; bit = bit; size = length (place_in a block w byte bit) })
+      ≡ Some (record {
+        area = a;
+        block = block;
+        width = w;
+        byte = byte;
+        bit = bit;
+        size = length (place_in a block w byte bit);
+      })
 
 -- the text of each place with numbers of 32 bits is one token, a direct variable of that place
 abbrev pub PlacesAreTokens : Type 0
-PlacesAreTokens = (a : AreaName) (block : Option ℕ) (w : Width) (byte bit : ℕ) → is_place a block w byte bit ≡ true → IsDirect a block w byte bit
+PlacesAreTokens =
+    (a : AreaName) (block : Option ℕ) (w : Width) (byte bit : ℕ) → is_place a block w byte bit ≡ true
+    → IsDirect a block w byte bit

@@ -36,7 +36,8 @@ is_sign b = list_any (λ sign. sign == b) (codes ":;,()[]+-*/=<>&")
 
 -- a sign of two characters: := .. <> >= <=
 abbrev pub is_double_sign : ℕ → ℕ → Bool
-is_double_sign a b = (a == 58 && b == 61) || (a == 46 && b == 46) || (a == 60 && b == 62) || (a == 62 && b == 61) || (a == 60 && b == 61)
+is_double_sign a b =
+    (a == 58 && b == 61) || (a == 46 && b == 46) || (a == 60 && b == 62) || (a == 62 && b == 61) || (a == 60 && b == 61)
 
 -- Pieces
 
@@ -59,7 +60,9 @@ comment_size (first ∷ rest) = if first == 42 && begins_with 41 rest then Some 
 abbrev pub sign_piece : ℕ → List ℕ → Option Piece
 sign_piece first [] = if is_sign first then Some (token sort.Sign 1) else None
 sign_piece first (second ∷ rest) =
-    if is_double_sign first second then Some (token sort.Sign 2) else if is_sign first then Some (token sort.Sign 1) else None
+    if is_double_sign first second then Some (token sort.Sign 2)
+    else if is_sign first then Some (token sort.Sign 1)
+    else None
 
 -- a comment, up to its `*)` or to the end of its line, or a sign
 abbrev pub mark_piece : ℕ → List ℕ → Option Piece

@@ -40,8 +40,10 @@ pub record TokensAreCut : Type 0 where
   pub great : (bytes : List ℕ) (tokens : List StToken) (end : ℕ) (line : Line) →
       Cuts 1 bytes tokens end [] → great_from false tokens ≡ Some line → tokens_of bytes ≡ Err (Refused line BadToken)
   pub great_before : (bytes : List ℕ) (tokens : List StToken) (end : ℕ) (line : Line) (rest : List ℕ) →
-      Cuts 1 bytes tokens end rest → NoPiece rest → great_from false tokens ≡ Some line → tokens_of bytes ≡ Err (Refused line BadToken)
+      Cuts 1 bytes tokens end rest → NoPiece rest → great_from false tokens ≡ Some line
+      → tokens_of bytes ≡ Err (Refused line BadToken)
   pub bad : (bytes : List ℕ) (tokens : List StToken) (line : ℕ) (rest : List ℕ) →
       Cuts 1 bytes tokens line rest → NoPiece rest → great_from false tokens ≡ None
       → tokens_of bytes ≡ Err (Refused (record { 0 = line }) BadToken)
-  pub ends : (bytes : List ℕ) (tokens : List StToken) (line : ℕ) → Cuts 1 bytes tokens line [] → line_at_end bytes ≡ record { 0 = line }
+  pub ends : (bytes : List ℕ) (tokens : List StToken) (line : ℕ) → Cuts 1 bytes tokens line []
+      → line_at_end bytes ≡ record { 0 = line }
