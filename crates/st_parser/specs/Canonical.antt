@@ -159,11 +159,13 @@ labels_form ty (n ∷ ns) = labels_behind ty (label (literal_form ty n)) ns
 
 -- an arm of an IF: its test on one line, its statements from the next on
 abbrev pub arm_step : Names → Arm-F FromLine ArmFromLine CaseFromLine → ArmFromLine
-arm_step names a others line = let body = body_from (line_after line) a.body in (arm others (expr_form names line a.test) body.0, body.1)
+arm_step names a others line =
+    let body = body_from (line_after line) a.body in (arm others (expr_form names line a.test) body.0, body.1)
 
 -- an arm of a CASE: its labels on one line, its statements from the next on
 abbrev pub case_step : CaseArm-F FromLine ArmFromLine CaseFromLine → CaseFromLine
-case_step a ty others line = let body = body_from (line_after line) a.body in (case_arm others (labels_form ty a.labels) body.0, body.1)
+case_step a ty others line =
+    let body = body_from (line_after line) a.body in (case_arm others (labels_form ty a.labels) body.0, body.1)
 
 -- a statement of one line
 abbrev pub one_line : ℕ → Statement → Placed Statement
@@ -172,11 +174,15 @@ one_line line s = ended s line
 -- a statement whose inner statements stand where they are given; its own first line is that of its word
 abbrev pub statement_step : Names → S.Stmt-F FromLine ArmFromLine CaseFromLine → FromLine
 statement_step names (S.Assign v e) line = one_line line (assign (on line) (raw_var names v) (expr_form names line e))
-statement_step names (S.AreaWrite w p e) line = one_line line (write (on line) w (expr_form names line p) (expr_form names line e))
+statement_step names (S.AreaWrite w p e) line =
+    one_line line (write (on line) w (expr_form names line p) (expr_form names line e))
 statement_step names (S.Invoke n vars) line =
-    one_line line (invoke (on line) (unit_name (slice_get names.units n)) (actuals_from names line no_actual (formals_of (slice_get names.units n)) vars))
+    one_line line
+    (invoke (on line) (unit_name (slice_get names.units n))
+    (actuals_from names line no_actual (formals_of (slice_get names.units n)) vars))
 statement_step names (S.If arms other) line = choice_from line (arms_from no_arm line arms) other
-statement_step names (S.Case e arms other) line = cases_else_from line (expr_form names line e) (cases_from (type_of names e) no_case (line_after line) arms) other
+statement_step names (S.Case e arms other) line =
+    cases_else_from line (expr_form names line e) (cases_from (type_of names e) no_case (line_after line) arms) other
 statement_step names (S.While e body) line = loop_from line (expr_form names line e) (body_from (line_after line) body)
 statement_step names S.Exit line = one_line line (jump (on line) jump_word.Exit)
 statement_step names S.Continue line = one_line line (jump (on line) jump_word.Continue)
@@ -204,7 +210,8 @@ locals_from others line (first ∷ more) = locals_from (local others first.name 
 -- a section of formals or locals; an empty one is not written
 abbrev pub section_from : ℕ → List Local → Placed (Section Locals)
 section_from line [] = (absent, line)
-section_from line (first ∷ more) = let locals = locals_from no_local (line_after line) (first ∷ more) in ended (present locals.0) locals.1
+section_from line (first ∷ more) =
+    let locals = locals_from no_local (line_after line) (first ∷ more) in ended (present locals.0) locals.1
 
 -- a unit after others
 abbrev pub unit_from : StProgram → Units → ℕ → Pou → Placed Units
@@ -212,7 +219,10 @@ unit_from text others line u =
     let formals = section_from (line_after line) u.formals in
     let locals = section_from formals.1 u.locals in
     let body = body_from locals.1 (map (statement_from (names_in text u)) u.body) in
-    ended (unit others (record { program = u.program; name = u.name; line = on line; place = on line }) formals.0 locals.0 body.0) body.1
+    ended
+    (unit others (record { program = u.program; name = u.name; line = on line; place = on line })
+    formals.0 locals.0 body.0)
+    body.1
 
 -- units after others, in the tree's order
 abbrev pub units_from : StProgram → Units → ℕ → List Pou → Placed Units
@@ -228,7 +238,8 @@ run_behind others count b = if count == 1 then single others b else times others
 -- bytes after so many equal ones, after others
 abbrev pub items_behind : Items → ℕ → ℕ → List ℕ → Items
 items_behind others count b [] = run_behind others count b
-items_behind others count b (next ∷ rest) = if b == next then items_behind others (count + 1) b rest else items_behind (run_behind others count b) 1 next rest
+items_behind others count b (next ∷ rest) =
+    if b == next then items_behind others (count + 1) b rest else items_behind (run_behind others count b) 1 next rest
 
 -- bytes, equal ones that stand together as one item; a data block has one, and none are written as one
 -- that no token has
@@ -244,7 +255,10 @@ block_name number = codes "DB" ++ decimal number
 abbrev pub blocks_from : Globals → ℕ → List DataBlock → Placed Globals
 blocks_from others line [] = (others, line)
 blocks_from others line (b ∷ more) =
-    blocks_from (global others (block_name b.number) (on line) (raw.Direct area.Db (Some b.number) width.Byte 0 0) (on line) (bytes (length b.bytes - 1) (items_form b.bytes))) (line_after line) more
+    blocks_from
+    (global others (block_name b.number) (on line) (raw.Direct area.Db (Some b.number) width.Byte 0 0) (on line)
+    (bytes (length b.bytes - 1) (items_form b.bytes)))
+    (line_after line) more
 
 -- the area of a global's place
 abbrev pub area_form : Area → AreaName
@@ -256,7 +270,10 @@ area_form other = area.M
 abbrev pub located_from : Globals → ℕ → List Located → Placed Globals
 located_from others line [] = (others, line)
 located_from others line (g ∷ more) =
-    located_from (global others g.name (on line) (raw.Direct (area_form g.place.area) None (width_at g.ty) g.place.byte g.place.bit) (on line) (plain g.ty)) (line_after line) more
+    located_from
+    (global others g.name (on line)
+    (raw.Direct (area_form g.place.area) None (width_at g.ty) g.place.byte g.place.bit) (on line) (plain g.ty))
+    (line_after line) more
 
 -- data blocks, then other globals
 abbrev pub globals_form : ℕ → List DataBlock → List Located → Placed Globals
@@ -265,7 +282,8 @@ globals_form line blocks globals = let first = blocks_from no_global line blocks
 -- the section of globals; an empty one is not written
 abbrev pub globals_from : ℕ → List DataBlock → List Located → Placed (Section Globals)
 globals_from line [] [] = (absent, line)
-globals_from line blocks globals = let inner = globals_form (line_after line) blocks globals in ended (present inner.0) inner.1
+globals_from line blocks globals =
+    let inner = globals_form (line_after line) blocks globals in ended (present inner.0) inner.1
 
 -- the canonical form of a tree, from line 1 on
 abbrev pub source_of : StProgram → Source

@@ -188,7 +188,8 @@ HeadFits program (present formals) = (program ≡ false) × FormalsFit formals
 abbrev pub UnitsFit : Units → Type 0
 UnitsFit no_unit = Unit {0}
 UnitsFit (unit others head formals locals body) =
-    UnitsFit others × (may_name_unit head.name ≡ true) × HeadFits head.program formals × IfPresent LocalsFit locals × AllFit false body
+    UnitsFit others × (may_name_unit head.name ≡ true) × HeadFits head.program formals
+    × IfPresent LocalsFit locals × AllFit false body
 
 -- a whole text is of the language
 abbrev pub SourceFits : Source → Type 0
@@ -208,9 +209,11 @@ spell (variable v line) more = kind.Variable v line ∷ more
 spell (group f) more = kind.Fixed fixed.Open ∷ spell f (kind.Fixed fixed.Close ∷ more)
 spell (prefix op f) more = prefix_kind op ∷ spell f more
 spell (infix_of op f g) more = spell f (kind.Fixed (fixed.Between op) ∷ spell g more)
-spell (apply op f) more = kind.Fixed (fixed.Function (function.One op)) ∷ kind.Fixed fixed.Open ∷ spell f (kind.Fixed fixed.Close ∷ more)
+spell (apply op f) more =
+    kind.Fixed (fixed.Function (function.One op)) ∷ kind.Fixed fixed.Open ∷ spell f (kind.Fixed fixed.Close ∷ more)
 spell (shift op f g) more =
-    kind.Fixed (fixed.Function (function.Shift op)) ∷ kind.Fixed fixed.Open ∷ spell f (kind.Fixed fixed.Comma ∷ spell g (kind.Fixed fixed.Close ∷ more))
+    kind.Fixed (fixed.Function (function.Shift op)) ∷ kind.Fixed fixed.Open
+    ∷ spell f (kind.Fixed fixed.Comma ∷ spell g (kind.Fixed fixed.Close ∷ more))
 spell (select f g h) more =
     kind.Fixed (fixed.Function function.Select) ∷ kind.Fixed fixed.Open
     ∷ spell f (kind.Fixed fixed.Comma ∷ spell g (kind.Fixed fixed.Comma ∷ spell h (kind.Fixed fixed.Close ∷ more)))
@@ -224,7 +227,8 @@ comma_behind (actual others name line v place) more = kind.Fixed fixed.Comma ∷
 abbrev pub spell_actuals : Actuals → List Kind → List Kind
 spell_actuals no_actual more = more
 spell_actuals (actual others name line v place) more =
-    spell_actuals others (comma_behind others (kind.Variable (var.Name name) line ∷ kind.Fixed fixed.Becomes ∷ kind.Variable v place ∷ more))
+    spell_actuals others
+    (comma_behind others (kind.Variable (var.Name name) line ∷ kind.Fixed fixed.Becomes ∷ kind.Variable v place ∷ more))
 
 -- the tokens of an arm's labels, with commas between them
 abbrev pub spell_labels : Labels → List Kind → List Kind
@@ -241,16 +245,22 @@ abbrev mutual
   pub spell_one : Statement → List Kind → List Kind
   spell_one (assign line v e) more = kind.Variable v line ∷ kind.Fixed fixed.Becomes ∷ spell e more
   spell_one (write line w p e) more =
-      kind.Lead (lead.AreaWrite w) line ∷ kind.Fixed fixed.Open ∷ spell p (kind.Fixed fixed.Comma ∷ spell e (kind.Fixed fixed.Close ∷ more))
+      kind.Lead (lead.AreaWrite w) line ∷ kind.Fixed fixed.Open
+      ∷ spell p (kind.Fixed fixed.Comma ∷ spell e (kind.Fixed fixed.Close ∷ more))
   spell_one (invoke line name actuals) more =
       kind.Variable (var.Name name) line ∷ kind.Fixed fixed.Open ∷ spell_actuals actuals (kind.Fixed fixed.Close ∷ more)
   spell_one (choice line arms) more = spell_arms line arms (kind.Fixed fixed.EndIf ∷ more)
-  spell_one (choice_else line arms body) more = spell_arms line arms (kind.Fixed fixed.Else ∷ spell_all body (kind.Fixed fixed.EndIf ∷ more))
-  spell_one (cases line e arms) more = kind.Lead lead.Case line ∷ spell e (kind.Fixed fixed.Of ∷ spell_cases arms (kind.Fixed fixed.EndCase ∷ more))
+  spell_one (choice_else line arms body) more =
+      spell_arms line arms (kind.Fixed fixed.Else ∷ spell_all body (kind.Fixed fixed.EndIf ∷ more))
+  spell_one (cases line e arms) more =
+      kind.Lead lead.Case line ∷ spell e (kind.Fixed fixed.Of ∷ spell_cases arms (kind.Fixed fixed.EndCase ∷ more))
   spell_one (cases_else line e arms body) more =
       kind.Lead lead.Case line
-      ∷ spell e (kind.Fixed fixed.Of ∷ spell_cases arms (kind.Fixed fixed.Else ∷ spell_all body (kind.Fixed fixed.EndCase ∷ more)))
-  spell_one (loop line e body) more = kind.Lead lead.While line ∷ spell e (kind.Fixed fixed.Do ∷ spell_all body (kind.Fixed fixed.EndWhile ∷ more))
+      ∷ spell e
+      (kind.Fixed fixed.Of
+      ∷ spell_cases arms (kind.Fixed fixed.Else ∷ spell_all body (kind.Fixed fixed.EndCase ∷ more)))
+  spell_one (loop line e body) more =
+      kind.Lead lead.While line ∷ spell e (kind.Fixed fixed.Do ∷ spell_all body (kind.Fixed fixed.EndWhile ∷ more))
   spell_one (jump line word) more = kind.Lead (lead.Jump word) line ∷ more
 
   -- statements in their order, each with its `;`; an empty one is its `;` alone
@@ -262,12 +272,14 @@ abbrev mutual
   -- the arms of an IF that begins on a line: word, test, THEN and statements
   pub spell_arms : Line → Arms → List Kind → List Kind
   spell_arms line no_arm more = more
-  spell_arms line (arm others e body) more = spell_arms line others (arm_word line others ∷ spell e (kind.Fixed fixed.Then ∷ spell_all body more))
+  spell_arms line (arm others e body) more =
+      spell_arms line others (arm_word line others ∷ spell e (kind.Fixed fixed.Then ∷ spell_all body more))
 
   -- the arms of a CASE: labels, `:` and statements
   pub spell_cases : CaseArms → List Kind → List Kind
   spell_cases no_case more = more
-  spell_cases (case_arm others labels body) more = spell_cases others (spell_labels labels (kind.Fixed fixed.Colon ∷ spell_all body more))
+  spell_cases (case_arm others labels body) more =
+      spell_cases others (spell_labels labels (kind.Fixed fixed.Colon ∷ spell_all body more))
 
 -- a comma after the bytes, before the next ones
 abbrev pub comma_past : Items → List Kind → List Kind
@@ -280,17 +292,22 @@ abbrev pub spell_items : Items → List Kind → List Kind
 spell_items no_item more = more
 spell_items (single others b) more = spell_items others (comma_past others (kind.Literal (lit.Byte b) ∷ more))
 spell_items (times others count b) more =
-    spell_items others (comma_past others (kind.Literal (lit.Decimal count) ∷ kind.Fixed fixed.Open ∷ kind.Literal (lit.Byte b) ∷ kind.Fixed fixed.Close ∷ more))
+    spell_items others
+    (comma_past others
+    (kind.Literal (lit.Decimal count) ∷ kind.Fixed fixed.Open ∷ kind.Literal (lit.Byte b)
+    ∷ kind.Fixed fixed.Close ∷ more))
 
 -- `:=` and the bytes in square brackets, if there are any
 abbrev pub spell_initial : Items → List Kind → List Kind
 spell_initial no_item more = more
-spell_initial items more = kind.Fixed fixed.Becomes ∷ kind.Fixed fixed.OpenSquare ∷ spell_items items (kind.Fixed fixed.CloseSquare ∷ more)
+spell_initial items more =
+    kind.Fixed fixed.Becomes ∷ kind.Fixed fixed.OpenSquare ∷ spell_items items (kind.Fixed fixed.CloseSquare ∷ more)
 
 -- `ARRAY[0..k] OF BYTE` before the tokens after it
 abbrev pub spell_array : ℕ → List Kind → List Kind
 spell_array last more =
-    kind.Fixed fixed.Array ∷ kind.Fixed fixed.OpenSquare ∷ kind.Literal (lit.Decimal 0) ∷ kind.Fixed fixed.Dots ∷ kind.Literal (lit.Decimal last)
+    kind.Fixed fixed.Array ∷ kind.Fixed fixed.OpenSquare ∷ kind.Literal (lit.Decimal 0) ∷ kind.Fixed fixed.Dots
+    ∷ kind.Literal (lit.Decimal last)
     ∷ kind.Fixed fixed.CloseSquare ∷ kind.Fixed fixed.Of ∷ kind.Fixed (fixed.Type type.Byte) ∷ more
 
 -- the tokens of a global's type, for a data block with its bytes
@@ -302,13 +319,17 @@ spell_type (bytes last items) more = spell_array last (spell_initial items more)
 abbrev pub spell_globals : Globals → List Kind → List Kind
 spell_globals no_global more = more
 spell_globals (global others name line v place ty) more =
-    spell_globals others (kind.Variable (var.Name name) line ∷ kind.Fixed fixed.At ∷ kind.Variable v place ∷ kind.Fixed fixed.Colon ∷ spell_type ty (kind.Fixed fixed.Semicolon ∷ more))
+    spell_globals others
+    (kind.Variable (var.Name name) line ∷ kind.Fixed fixed.At ∷ kind.Variable v place ∷ kind.Fixed fixed.Colon
+    ∷ spell_type ty (kind.Fixed fixed.Semicolon ∷ more))
 
 -- the tokens of formals or locals: name, `:`, type and `;`
 abbrev pub spell_locals : Locals → List Kind → List Kind
 spell_locals no_local more = more
 spell_locals (local others name line ty) more =
-    spell_locals others (kind.Variable (var.Name name) line ∷ kind.Fixed fixed.Colon ∷ kind.Fixed (fixed.Type ty) ∷ kind.Fixed fixed.Semicolon ∷ more)
+    spell_locals others
+    (kind.Variable (var.Name name) line ∷ kind.Fixed fixed.Colon ∷ kind.Fixed (fixed.Type ty)
+    ∷ kind.Fixed fixed.Semicolon ∷ more)
 
 -- a section from its word to END_VAR, if it is there
 abbrev pub spell_section : {X : Type 0} → Kind → (X → List Kind → List Kind) → Section X → List Kind → List Kind
@@ -341,11 +362,14 @@ spell_head head more = unit_word head.program head.line ∷ kind.Variable (var.N
 abbrev pub spell_units : Units → List Kind → List Kind
 spell_units no_unit more = more
 spell_units (unit others head formals locals body) more =
-    spell_units others (spell_head head (spell_formals formals (spell_temps locals (spell_all body (end_word head.program ∷ more)))))
+    spell_units others
+    (spell_head head (spell_formals formals (spell_temps locals (spell_all body (end_word head.program ∷ more)))))
 
 -- the whole text, with its end
 abbrev pub spell_source : Source → List Kind
-spell_source source = spell_section (kind.Fixed fixed.VarGlobal) spell_globals source.globals (spell_units source.units (kind.Fixed fixed.End ∷ []))
+spell_source source =
+    spell_section (kind.Fixed fixed.VarGlobal) spell_globals source.globals
+    (spell_units source.units (kind.Fixed fixed.End ∷ []))
 
 -- Trees
 
@@ -455,7 +479,8 @@ tree_type (bytes last items) = global_type.Bytes last (tree_items items)
 -- the globals of a text in their order, data blocks among them
 abbrev pub tree_globals : Globals → List RawGlobal
 tree_globals no_global = []
-tree_globals (global others name line v place ty) = tree_globals others ++ record { name = name; line = line; at = v; ty = tree_type ty } ∷ []
+tree_globals (global others name line v place ty) =
+    tree_globals others ++ record { name = name; line = line; at = v; ty = tree_type ty } ∷ []
 
 -- the formals or the locals of a unit in their order
 abbrev pub tree_locals : Locals → List RawLocal
@@ -472,7 +497,14 @@ abbrev pub tree_units : Units → List RawPou
 tree_units no_unit = []
 tree_units (unit others head formals locals body) =
     tree_units others
-    ++ record { program = head.program; name = head.name; line = head.line; formals = held tree_locals formals; locals = held tree_locals locals; body = tree_all body } ∷ []
+    ++ record {
+      program = head.program;
+      name = head.name;
+      line = head.line;
+      formals = held tree_locals formals;
+      locals = held tree_locals locals;
+      body = tree_all body;
+    } ∷ []
 
 -- the tree of a whole text before its names are looked up
 abbrev pub raw_tree : Source → RawSt

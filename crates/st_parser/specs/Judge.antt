@@ -32,7 +32,8 @@ judged None line = Err (Refused line BadSyntax)
 judged (Some to) line = if nat_lt deepest (reached to) then Err (Refused line TooDeep) else Ok to
 
 -- what comes of a judgement
-abbrev pub on_good : Result (State code) Rejection → (State code → Result (State code) Rejection) → Result (State code) Rejection
+abbrev pub on_good : Result (State code) Rejection → (State code → Result (State code) Rejection)
+    → Result (State code) Rejection
 on_good (Ok to) on = on to
 on_good (Err refused) on = Err refused
 

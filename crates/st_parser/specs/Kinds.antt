@@ -159,7 +159,8 @@ is_numbered letters name = is_same_word (take 2 name) letters && are_digits (dro
 -- the variables that need no declaration
 abbrev pub register_names : List (List ℕ)
 register_names =
-    codes "ACCU1" ∷ codes "ACCU2" ∷ codes "AR1" ∷ codes "AR2" ∷ codes "DBNO" ∷ codes "DINO" ∷ codes "NFC" ∷ codes "RLO" ∷ codes "STA" ∷ codes "ORB"
+    codes "ACCU1" ∷ codes "ACCU2" ∷ codes "AR1" ∷ codes "AR2" ∷ codes "DBNO" ∷ codes "DINO" ∷ codes "NFC"
+    ∷ codes "RLO" ∷ codes "STA" ∷ codes "ORB"
     ∷ codes "OS" ∷ codes "OV" ∷ codes "CC0" ∷ codes "CC1" ∷ codes "BR" ∷ []
 
 -- the name of a register variable, in any case
@@ -274,8 +275,10 @@ decimal_kind n = kind.Literal (literal.Decimal (min n (2 ^ 32 - 1)))
 -- a literal by the base of the number at its front: `5` is a decimal, `16#0A` with two digits may be a
 -- byte of a data block, and any other has its type
 abbrev pub literal_kind : Base → List ℕ → Found → Kind
-literal_kind base.Ten text found = if begins_with_digit base.Ten text then decimal_kind found.number else typed_kind found
-literal_kind base.Sixteen text found = if are_two_digits (drop 3 text) then kind.Literal (literal.Byte (min found.number 255)) else typed_kind found
+literal_kind base.Ten text found =
+    if begins_with_digit base.Ten text then decimal_kind found.number else typed_kind found
+literal_kind base.Sixteen text found =
+    if are_two_digits (drop 3 text) then kind.Literal (literal.Byte (min found.number 255)) else typed_kind found
 literal_kind to text found = typed_kind found
 
 -- the text of a literal as what it stands for

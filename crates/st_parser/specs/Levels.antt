@@ -28,7 +28,8 @@ levels d (prefix op f) before = levels (suc d) f (suc d ∷ before)
 levels d (infix_of op f g) before = levels d g ((d + height f) ∷ levels d f before)
 levels d (apply op f) before = d ∷ levels (suc d) f (suc d ∷ d ∷ before)
 levels d (shift op f g) before = d ∷ levels (suc d) g (suc d ∷ levels (suc d) f (suc d ∷ d ∷ before))
-levels d (select f g h) before = d ∷ levels (suc d) h (suc d ∷ levels (suc d) g (suc d ∷ levels (suc d) f (suc d ∷ d ∷ before)))
+levels d (select f g h) before =
+    d ∷ levels (suc d) h (suc d ∷ levels (suc d) g (suc d ∷ levels (suc d) f (suc d ∷ d ∷ before)))
 
 -- a comma after the actuals, at the depth inside the call's bracket
 abbrev pub levels_comma : ℕ → Actuals → List ℕ → List ℕ
@@ -38,7 +39,8 @@ levels_comma d (actual others name line v place) before = d ∷ before
 -- the actuals of a call, each of three tokens, at the depth inside its bracket
 abbrev pub levels_actuals : ℕ → Actuals → List ℕ → List ℕ
 levels_actuals d no_actual before = before
-levels_actuals d (actual others name line v place) before = d ∷ d ∷ d ∷ levels_comma d others (levels_actuals d others before)
+levels_actuals d (actual others name line v place) before =
+    d ∷ d ∷ d ∷ levels_comma d others (levels_actuals d others before)
 
 -- the labels of an arm, at the depth inside its CASE
 abbrev pub levels_labels : ℕ → Labels → List ℕ → List ℕ
@@ -53,9 +55,11 @@ abbrev mutual
   levels_one d (write line w p e) before = d ∷ levels (suc d) e (suc d ∷ levels (suc d) p (suc d ∷ d ∷ before))
   levels_one d (invoke line name actuals) before = d ∷ levels_actuals (suc d) actuals (suc d ∷ d ∷ before)
   levels_one d (choice line arms) before = d ∷ levels_arms (suc d) arms before
-  levels_one d (choice_else line arms body) before = d ∷ levels_all (suc d) body (suc d ∷ levels_arms (suc d) arms before)
+  levels_one d (choice_else line arms body) before =
+      d ∷ levels_all (suc d) body (suc d ∷ levels_arms (suc d) arms before)
   levels_one d (cases line e arms) before = d ∷ levels_cases (suc d) arms (suc d ∷ levels (suc d) e (suc d ∷ before))
-  levels_one d (cases_else line e arms body) before = d ∷ levels_all (suc d) body (suc d ∷ levels_cases (suc d) arms (suc d ∷ levels (suc d) e (suc d ∷ before)))
+  levels_one d (cases_else line e arms body) before =
+      d ∷ levels_all (suc d) body (suc d ∷ levels_cases (suc d) arms (suc d ∷ levels (suc d) e (suc d ∷ before)))
   levels_one d (loop line e body) before = d ∷ levels_all (suc d) body (suc d ∷ levels (suc d) e (suc d ∷ before))
   levels_one d (jump line word) before = d ∷ before
 
@@ -73,7 +77,8 @@ abbrev mutual
   -- the arms of a CASE, at the depth inside it
   pub levels_cases : ℕ → CaseArms → List ℕ → List ℕ
   levels_cases d no_case before = before
-  levels_cases d (case_arm others labels body) before = levels_all d body (d ∷ levels_labels d labels (levels_cases d others before))
+  levels_cases d (case_arm others labels body) before =
+      levels_all d body (d ∷ levels_labels d labels (levels_cases d others before))
 
 -- a comma after the bytes of a data block, at depth 0 as all tokens of declarations, but those in a
 -- bracket
@@ -101,7 +106,8 @@ levels_type (bytes last items) before = levels_initial items (0 ∷ 0 ∷ 0 ∷ 
 -- the globals, each a name, AT, a place, `:`, a type and `;`
 abbrev pub levels_globals : Globals → List ℕ → List ℕ
 levels_globals no_global before = before
-levels_globals (global others name line v place ty) before = 0 ∷ levels_type ty (0 ∷ 0 ∷ 0 ∷ 0 ∷ levels_globals others before)
+levels_globals (global others name line v place ty) before =
+    0 ∷ levels_type ty (0 ∷ 0 ∷ 0 ∷ 0 ∷ levels_globals others before)
 
 -- formals or locals, each a name, `:`, a type and `;`
 abbrev pub levels_locals : Locals → List ℕ → List ℕ
@@ -117,7 +123,9 @@ levels_section inner (present x) before = 0 ∷ inner x (0 ∷ before)
 abbrev pub levels_units : Units → List ℕ → List ℕ
 levels_units no_unit before = before
 levels_units (unit others head formals locals body) before =
-    0 ∷ levels_all 0 body (levels_section levels_locals locals (levels_section levels_locals formals (0 ∷ 0 ∷ levels_units others before)))
+    0
+    ∷ levels_all 0 body
+    (levels_section levels_locals locals (levels_section levels_locals formals (0 ∷ 0 ∷ levels_units others before)))
 
 -- the levels of a whole text's tokens, with its end
 abbrev pub levels_source : Source → List ℕ

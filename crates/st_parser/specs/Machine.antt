@@ -167,7 +167,8 @@ of_shift code op a b = record { tree = expr.Shift op a.tree b.tree; height = 1 +
 -- SEL of three operands
 abbrev pub of_select : (m : Mode) → ExprIn m → ExprIn m → ExprIn m → ExprIn m
 of_select written f g h = select f g h
-of_select code a b c = record { tree = expr.Select a.tree b.tree c.tree; height = 1 + max (max a.height b.height) c.height }
+of_select code a b c =
+    record { tree = expr.Select a.tree b.tree c.tree; height = 1 + max (max a.height b.height) c.height }
 
 -- how high the tree of an expression is
 abbrev pub height_in : (m : Mode) → ExprIn m → ℕ
@@ -365,10 +366,19 @@ no_units written = no_unit
 no_units code = []
 
 -- one more unit
-abbrev pub add_unit : (m : Mode) → UnitsIn m → HeadIn m → LocalSectionIn m → LocalSectionIn m → StatementsIn m → UnitsIn m
+abbrev pub add_unit : (m : Mode) → UnitsIn m → HeadIn m → LocalSectionIn m → LocalSectionIn m → StatementsIn m
+    → UnitsIn m
 add_unit written units head formals locals body = unit units head formals locals body
 add_unit code units head formals locals body =
-    units ++ record { program = head.program; name = head.name; line = head.line; formals = formals; locals = locals; body = body } ∷ []
+    units
+    ++ record {
+      program = head.program;
+      name = head.name;
+      line = head.line;
+      formals = formals;
+      locals = locals;
+      body = body;
+    } ∷ []
 
 -- What is open
 

@@ -53,7 +53,8 @@ FormSpelled (select f g h) = FormSpelled f × FormSpelled g × FormSpelled h
 -- tokens can have the formals and the variables of a call's actuals
 abbrev pub ActualsSpelled : Actuals → Type 0
 ActualsSpelled no_actual = Unit {0}
-ActualsSpelled (actual others name line v place) = ActualsSpelled others × (is_name name ≡ true) × (is_variable v ≡ true)
+ActualsSpelled (actual others name line v place) =
+    ActualsSpelled others × (is_name name ≡ true) × (is_variable v ≡ true)
 
 -- tokens can have each label of an arm
 abbrev pub LabelsSpelled : Labels → Type 0
@@ -103,7 +104,8 @@ TypeSpelled (bytes last items) = (is_decimal last ≡ true) × ItemsSpelled item
 -- tokens can have the name, the place and the type of each global
 abbrev pub GlobalsSpelled : Globals → Type 0
 GlobalsSpelled no_global = Unit {0}
-GlobalsSpelled (global others name line v place ty) = GlobalsSpelled others × (is_name name ≡ true) × (is_variable v ≡ true) × TypeSpelled ty
+GlobalsSpelled (global others name line v place ty) =
+    GlobalsSpelled others × (is_name name ≡ true) × (is_variable v ≡ true) × TypeSpelled ty
 
 -- tokens can have the name of each formal or local
 abbrev pub LocalsSpelled : Locals → Type 0
@@ -114,7 +116,8 @@ LocalsSpelled (local others name line ty) = LocalsSpelled others × (is_name nam
 abbrev pub UnitsSpelled : Units → Type 0
 UnitsSpelled no_unit = Unit {0}
 UnitsSpelled (unit others head formals locals body) =
-    UnitsSpelled others × (is_name head.name ≡ true) × IfPresent LocalsSpelled formals × IfPresent LocalsSpelled locals × AllSpelled body
+    UnitsSpelled others × (is_name head.name ≡ true) × IfPresent LocalsSpelled formals
+    × IfPresent LocalsSpelled locals × AllSpelled body
 
 -- tokens can have all that stands in a whole text
 abbrev pub SourceSpelled : Source → Type 0

@@ -60,8 +60,11 @@ reduced_to m d s e = record { depth = d; stack = s; operand = e }
 -- an operand takes the operators before it that bind as tightly as a level, or more
 abbrev pub reduce : (m : Mode) → ℕ → ℕ → List (Frame m) → ExprIn m → Reduced m
 reduce m k d [] e = reduced_to m d [] e
-reduce m k d (unary op ∷ s) e = if nat_le (prefix_level op) k then reduce m k (shallower d) s (of_prefix m op e) else reduced_to m d (unary op ∷ s) e
-reduce m k d (left op a ∷ s) e = if nat_le (infix_level op) k then reduce m k d s (of_infix m op a e) else reduced_to m d (left op a ∷ s) e
+reduce m k d (unary op ∷ s) e =
+    if nat_le (prefix_level op) k then reduce m k (shallower d) s (of_prefix m op e)
+    else reduced_to m d (unary op ∷ s) e
+reduce m k d (left op a ∷ s) e =
+    if nat_le (infix_level op) k then reduce m k d s (of_infix m op a e) else reduced_to m d (left op a ∷ s) e
 reduce m k d (bracket ∷ s) e = reduced_to m d (bracket ∷ s) e
 reduce m k d (argument a ∷ s) e = reduced_to m d (argument a ∷ s) e
 reduce m k d (waiting b u ∷ s) e = reduced_to m d (waiting b u ∷ s) e
@@ -75,7 +78,8 @@ function_argument m function.Select = gate
 
 -- `-` or NOT before an operand, where the operator before it leaves room for its precedence
 abbrev pub with_prefix : (m : Mode) → ℕ → List (Frame m) → Prefix → Option (Spot m)
-with_prefix m d s op = if nat_le (prefix_level op) (limit m s) then Some (spot m (suc d) (unary op ∷ s) operand) else None
+with_prefix m d s op =
+    if nat_le (prefix_level op) (limit m s) then Some (spot m (suc d) (unary op ∷ s) operand) else None
 
 -- a token where an operand must begin
 abbrev pub at_operand : (m : Mode) → ℕ → List (Frame m) → Kind → Option (Spot m)
@@ -160,18 +164,24 @@ in_loop m (frame ∷ s) = is_loop m frame || in_loop m s
 
 -- statements end, or a further arm begins
 abbrev pub body_closed : (m : Mode) → ℕ → List (Frame m) → Begun m → Body m → StatementsIn m → Kind → Option (Spot m)
-body_closed m d s b (choosing arms e) body (kind.Fixed fixed.Elsif) = Some (spot m d (waiting b (test (add_arm m arms e body)) ∷ s) operand)
-body_closed m d s b (choosing arms e) body (kind.Fixed fixed.Else) = Some (spot m d (within b (otherwise (add_arm m arms e body)) ∷ s) (statement (no_statements m)))
-body_closed m d s b (choosing arms e) body (kind.Fixed fixed.EndIf) = Some (spot m (shallower d) s (closing b.before (of_choice m b.line (add_arm m arms e body))))
-body_closed m d s b (otherwise arms) body (kind.Fixed fixed.EndIf) = Some (spot m (shallower d) s (closing b.before (of_choice_else m b.line arms body)))
-body_closed m d s b (looping e) body (kind.Fixed fixed.EndWhile) = Some (spot m (shallower d) s (closing b.before (of_loop m b.line e body)))
+body_closed m d s b (choosing arms e) body (kind.Fixed fixed.Elsif) =
+    Some (spot m d (waiting b (test (add_arm m arms e body)) ∷ s) operand)
+body_closed m d s b (choosing arms e) body (kind.Fixed fixed.Else) =
+    Some (spot m d (within b (otherwise (add_arm m arms e body)) ∷ s) (statement (no_statements m)))
+body_closed m d s b (choosing arms e) body (kind.Fixed fixed.EndIf) =
+    Some (spot m (shallower d) s (closing b.before (of_choice m b.line (add_arm m arms e body))))
+body_closed m d s b (otherwise arms) body (kind.Fixed fixed.EndIf) =
+    Some (spot m (shallower d) s (closing b.before (of_choice_else m b.line arms body)))
+body_closed m d s b (looping e) body (kind.Fixed fixed.EndWhile) =
+    Some (spot m (shallower d) s (closing b.before (of_loop m b.line e body)))
 body_closed m d s b (selecting e arms labels) body (kind.Literal c) =
     if is_value c then Some (spot m d s (part b (labelled e (add_case m arms labels body) (of_label m c)))) else None
 body_closed m d s b (selecting e arms labels) body (kind.Fixed fixed.Else) =
     Some (spot m d (within b (otherwise_case e (add_case m arms labels body)) ∷ s) (statement (no_statements m)))
 body_closed m d s b (selecting e arms labels) body (kind.Fixed fixed.EndCase) =
     Some (spot m (shallower d) s (closing b.before (of_cases m b.line e (add_case m arms labels body))))
-body_closed m d s b (otherwise_case e arms) body (kind.Fixed fixed.EndCase) = Some (spot m (shallower d) s (closing b.before (of_cases_else m b.line e arms body)))
+body_closed m d s b (otherwise_case e arms) body (kind.Fixed fixed.EndCase) =
+    Some (spot m (shallower d) s (closing b.before (of_cases_else m b.line e arms body)))
 body_closed m d s b y body other = None
 
 -- a token that ends statements, or begins a further arm, of the innermost statement that is open
@@ -188,7 +198,8 @@ abbrev pub at_lead : (m : Mode) → ℕ → List (Frame m) → StatementsIn m �
 at_lead m d s body lead.If line = Some (spot m (suc d) (waiting (begun m body line) (test (no_arms m)) ∷ s) operand)
 at_lead m d s body lead.Case line = Some (spot m (suc d) (waiting (begun m body line) selector ∷ s) operand)
 at_lead m d s body lead.While line = Some (spot m (suc d) (waiting (begun m body line) loop_test ∷ s) operand)
-at_lead m d s body (lead.Jump word) line = if may_jump (in_loop m s) word then Some (spot m d s (closing body (of_jump m line word))) else None
+at_lead m d s body (lead.Jump word) line =
+    if may_jump (in_loop m s) word then Some (spot m d s (closing body (of_jump m line word))) else None
 at_lead m d s body (lead.AreaWrite w) line = Some (spot m d s (part (begun m body line) (write_open w)))
 at_lead m d s body other line = None
 
@@ -206,19 +217,27 @@ at_target m d s b (var.Name name) (kind.Fixed fixed.Open) = Some (spot m (suc d)
 at_target m d s b v other = None
 
 -- a label of an arm where one must stand
-abbrev pub at_label : (m : Mode) → ℕ → List (Frame m) → Begun m → ExprIn m → CasesIn m → (Literal → LabelsIn m) → Kind → Option (Spot m)
-at_label m d s b e arms labels (kind.Literal c) = if is_value c then Some (spot m d s (part b (labelled e arms (labels c)))) else None
+abbrev pub at_label : (m : Mode) → ℕ → List (Frame m) → Begun m → ExprIn m → CasesIn m → (Literal → LabelsIn m) → Kind
+    → Option (Spot m)
+at_label m d s b e arms labels (kind.Literal c) =
+    if is_value c then Some (spot m d s (part b (labelled e arms (labels c)))) else None
 at_label m d s b e arms labels other = None
 
 -- a call: formals with their variables
 abbrev pub at_call : (m : Mode) → ℕ → List (Frame m) → Begun m → Part m → Kind → Option (Spot m)
-at_call m d s b (first_formal name) (kind.Variable (var.Name formal) line) = Some (spot m d s (part b (becoming name (no_actuals m) (named m formal line))))
-at_call m d s b (first_formal name) (kind.Fixed fixed.Close) = Some (spot m (shallower d) s (closing b.before (of_invoke m b.line name (no_actuals m))))
-at_call m d s b (next_formal name actuals) (kind.Variable (var.Name formal) line) = Some (spot m d s (part b (becoming name actuals (named m formal line))))
-at_call m d s b (becoming name actuals formal) (kind.Fixed fixed.Becomes) = Some (spot m d s (part b (giving name actuals formal)))
-at_call m d s b (giving name actuals formal) (kind.Variable v line) = Some (spot m d s (part b (given name (add_actual m actuals formal v line))))
+at_call m d s b (first_formal name) (kind.Variable (var.Name formal) line) =
+    Some (spot m d s (part b (becoming name (no_actuals m) (named m formal line))))
+at_call m d s b (first_formal name) (kind.Fixed fixed.Close) =
+    Some (spot m (shallower d) s (closing b.before (of_invoke m b.line name (no_actuals m))))
+at_call m d s b (next_formal name actuals) (kind.Variable (var.Name formal) line) =
+    Some (spot m d s (part b (becoming name actuals (named m formal line))))
+at_call m d s b (becoming name actuals formal) (kind.Fixed fixed.Becomes) =
+    Some (spot m d s (part b (giving name actuals formal)))
+at_call m d s b (giving name actuals formal) (kind.Variable v line) =
+    Some (spot m d s (part b (given name (add_actual m actuals formal v line))))
 at_call m d s b (given name actuals) (kind.Fixed fixed.Comma) = Some (spot m d s (part b (next_formal name actuals)))
-at_call m d s b (given name actuals) (kind.Fixed fixed.Close) = Some (spot m (shallower d) s (closing b.before (of_invoke m b.line name actuals)))
+at_call m d s b (given name actuals) (kind.Fixed fixed.Close) =
+    Some (spot m (shallower d) s (closing b.before (of_invoke m b.line name actuals)))
 at_call m d s b x other = None
 
 -- a token in a part of a statement that is no expression
@@ -228,8 +247,10 @@ at_part m d s b (write_open w) (kind.Fixed fixed.Open) = Some (spot m (suc d) (w
 at_part m d s b (write_open w) k = None
 at_part m d s b (first_label e arms) k = at_label m d s b e arms (of_label m) k
 at_part m d s b (next_label e arms labels) k = at_label m d s b e arms (add_label m labels) k
-at_part m d s b (labelled e arms labels) (kind.Fixed fixed.Comma) = Some (spot m d s (part b (next_label e arms labels)))
-at_part m d s b (labelled e arms labels) (kind.Fixed fixed.Colon) = Some (spot m d (within b (selecting e arms labels) ∷ s) (statement (no_statements m)))
+at_part m d s b (labelled e arms labels) (kind.Fixed fixed.Comma) =
+    Some (spot m d s (part b (next_label e arms labels)))
+at_part m d s b (labelled e arms labels) (kind.Fixed fixed.Colon) =
+    Some (spot m d (within b (selecting e arms labels) ∷ s) (statement (no_statements m)))
 at_part m d s b (labelled e arms labels) k = None
 at_part m d s b x k = at_call m d s b x k
 
@@ -299,7 +320,8 @@ row_items m (at_item v last items) (kind.Literal (lit.Byte b)) = Some (at_comma 
 row_items m (at_item v last items) (kind.Literal (lit.Decimal count)) = Some (at_count v last items count)
 row_items m (at_count v last items count) (kind.Fixed fixed.Open) = Some (at_value v last items count)
 row_items m (at_value v last items count) (kind.Literal (lit.Byte b)) = Some (at_value_end v last items count b)
-row_items m (at_value_end v last items count b) (kind.Fixed fixed.Close) = Some (at_comma v last (add_times m items count b))
+row_items m (at_value_end v last items count b) (kind.Fixed fixed.Close) =
+    Some (at_comma v last (add_times m items count b))
 row_items m (at_comma v last items) (kind.Fixed fixed.Comma) = Some (at_item v last items)
 row_items m (at_comma v last items) (kind.Fixed fixed.CloseSquare) = Some (at_end v (of_bytes m last items))
 row_items m x other = None
@@ -317,7 +339,8 @@ row_step m name x k = if is_array m x then row_array m x k else row_items m x k
 -- a global ends
 abbrev pub row_end : (m : Mode) → GlobalsIn m → List ℕ → Line → Row m → Option (State m)
 row_end m done name line (at_end v ty) = Some (globals (add_global m done name line v ty))
-row_end m done name line (at_becomes v last) = Some (globals (add_global m done name line v (of_bytes m last (no_items m))))
+row_end m done name line (at_becomes v last) =
+    Some (globals (add_global m done name line v (of_bytes m last (no_items m))))
 row_end m done name line x = None
 
 -- a token of a global after its name
@@ -331,7 +354,8 @@ before_units m before = record { globals = before; units = no_units m }
 
 -- a token in the section of globals where a global may begin
 abbrev pub at_globals : (m : Mode) → GlobalsIn m → Kind → Option (State m)
-at_globals m done (kind.Variable (var.Name name) line) = if may_name_global name then Some (row done name line at_word) else None
+at_globals m done (kind.Variable (var.Name name) line) =
+    if may_name_global name then Some (row done name line at_word) else None
 at_globals m done (kind.Fixed fixed.EndVar) = Some (between (before_units m (global_section m done)))
 at_globals m done other = None
 
@@ -380,16 +404,19 @@ section_end m top (temps before) done = inside top before (section_of m done) (n
 
 -- a token in a section of a unit where a declaration may begin
 abbrev pub at_section : (m : Mode) → Top m → Which m → LocalsIn m → Kind → Option (State m)
-at_section m top which done (kind.Variable (var.Name name) line) = if may_name m which name then Some (typing top which done name line local_colon) else None
+at_section m top which done (kind.Variable (var.Name name) line) =
+    if may_name m which name then Some (typing top which done name line local_colon) else None
 at_section m top which done (kind.Fixed fixed.EndVar) = Some (section_end m top which done)
 at_section m top which done other = None
 
 -- a token of a formal or a local after its name
 abbrev pub at_typing : (m : Mode) → Top m → Which m → LocalsIn m → List ℕ → Line → Typing → Kind → Option (State m)
-at_typing m top which done name line local_colon (kind.Fixed fixed.Colon) = Some (typing top which done name line local_type)
+at_typing m top which done name line local_colon (kind.Fixed fixed.Colon) =
+    Some (typing top which done name line local_type)
 at_typing m top which done name line local_type (kind.Fixed (fixed.Type ty)) =
     if may_type m which ty then Some (typing top which done name line (local_end ty)) else None
-at_typing m top which done name line (local_end ty) (kind.Fixed fixed.Semicolon) = Some (section top which (add_local m done name line ty))
+at_typing m top which done name line (local_end ty) (kind.Fixed fixed.Semicolon) =
+    Some (section top which (add_local m done name line ty))
 at_typing m top which done name line x other = None
 
 -- whether an end word is that of the unit: END_PROGRAM for a program, END_FUNCTION for a function
@@ -399,10 +426,14 @@ ends false false = true
 ends a b = false
 
 -- a unit ends where nothing is open
-abbrev pub leave : (m : Mode) → Bool → Top m → LocalSectionIn m → LocalSectionIn m → List (Frame m) → Place m → Option (State m)
+abbrev pub leave : (m : Mode) → Bool → Top m → LocalSectionIn m → LocalSectionIn m → List (Frame m) → Place m
+    → Option (State m)
 leave m program top before locals [] (statement body) =
     if ends program (is_program m top.head)
-    then Some (between (record { globals = top.text.globals; units = add_unit m top.text.units top.head before locals body }))
+    then Some (between (record {
+      globals = top.text.globals;
+      units = add_unit m top.text.units top.head before locals body;
+    }))
     else None
 leave m program top before locals s p = None
 
@@ -419,7 +450,8 @@ at_formals_done m top before k = at_inside m top before (no_section m) (no_spot 
 
 -- a token after the name of a unit; a program has no formals
 abbrev pub at_opened : (m : Mode) → Top m → Kind → Option (State m)
-at_opened m top (kind.Fixed fixed.VarInOut) = if is_program m top.head then None else Some (section top formals (no_locals m))
+at_opened m top (kind.Fixed fixed.VarInOut) =
+    if is_program m top.head then None else Some (section top formals (no_locals m))
 at_opened m top k = at_formals_done m top (no_section m) k
 
 -- one token

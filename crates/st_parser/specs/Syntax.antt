@@ -89,7 +89,8 @@ pub record FirstDeep (all : List Lined) (line : Line) : Type 0 where
 
 -- the text has these tokens
 abbrev pub HasLined : List ℕ → List Lined → Type 0
-HasLined bytes all = (tokens : List StToken) × (tokens_of bytes ≡ Ok tokens) × (all_lined tokens (line_at_end bytes) ≡ all)
+HasLined bytes all =
+    (tokens : List StToken) × (tokens_of bytes ≡ Ok tokens) × (all_lined tokens (line_at_end bytes) ≡ all)
 
 -- the text reads as this tree
 pub record HasRawTree (bytes : List ℕ) (raw : RawSt) : Type 0 where

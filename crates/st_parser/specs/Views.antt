@@ -153,6 +153,7 @@ state_of (state.Heading text program line) = machine.heading (before_of text) pr
 state_of (state.Opened top) = machine.opened (top_in top)
 state_of (state.FormalsDone top before) = machine.formals_done (top_in top) before
 state_of (state.Section top which done) = machine.section (top_in top) (which_of which) done
-state_of (state.Typing top which done name line x) = machine.typing (top_in top) (which_of which) done name line (typing_of x)
+state_of (state.Typing top which done name line x) =
+    machine.typing (top_in top) (which_of which) done name line (typing_of x)
 state_of (state.Inside top before locals at) = machine.inside (top_in top) before locals (spot_of at)
 state_of (state.Over text) = machine.over (before_of text)

@@ -166,7 +166,8 @@ fn close_argument(
     argument: Argument,
     operand: Measured,
 ) -> Result<Option<Spot>, NoMemory>
-    ensures { IfOk result (λ o. option_map spot_of o ≡ close_argument code depth (stack_of frames.items) (argument_of argument) operand) }
+    ensures { IfOk result (λ o. option_map spot_of o
+        ≡ close_argument code depth (stack_of frames.items) (argument_of argument) operand) }
 {
     let whole = match argument {
         Argument::Only(op) => of_apply(alloc, op, operand)?,
@@ -188,7 +189,8 @@ fn next_argument(
     argument: Argument,
     operand: Measured,
 ) -> Result<Option<Spot>, NoMemory>
-    ensures { IfOk result (λ o. option_map spot_of o ≡ next_argument code depth (stack_of frames.items) (argument_of argument) operand) }
+    ensures { IfOk result (λ o. option_map spot_of o
+        ≡ next_argument code depth (stack_of frames.items) (argument_of argument) operand) }
 {
     let next = match argument {
         Argument::Shifted(op) => Argument::ShiftedBy(op, operand),
@@ -213,7 +215,8 @@ fn argument_closed(
     operand: Measured,
     kind: Kind,
 ) -> Result<Option<Spot>, NoMemory>
-    ensures { IfOk result (λ o. option_map spot_of o ≡ argument_closed code depth (stack_of frames.items) (argument_of argument) operand kind) }
+    ensures { IfOk result (λ o. option_map spot_of o
+        ≡ argument_closed code depth (stack_of frames.items) (argument_of argument) operand kind) }
 {
     match kind {
         Kind::Fixed(Fixed::Close) => close_argument(alloc, depth, frames, argument, operand),
@@ -230,7 +233,9 @@ fn assigned(
     var: RawVar,
     operand: Measured,
 ) -> Result<Option<Spot>, NoMemory>
-    ensures { IfOk result (λ o. option_map spot_of o ≡ use_closed code depth (stack_of frames.items) (begun_of begun) (to_var var) operand (kind.Fixed fixed.Semicolon)) }
+    ensures { IfOk result (λ o. option_map spot_of o
+        ≡ use_closed code depth (stack_of frames.items)
+        (begun_of begun) (to_var var) operand (kind.Fixed fixed.Semicolon)) }
 {
     begun.before.push(RawStmt {
         line: begun.line,
@@ -253,7 +258,9 @@ fn written(
     pointer: Measured,
     operand: Measured,
 ) -> Result<Option<Spot>, NoMemory>
-    ensures { IfOk result (λ o. option_map spot_of o ≡ use_closed code depth (stack_of frames.items) (begun_of begun) (area_value width pointer) operand (kind.Fixed fixed.Close)) }
+    ensures { IfOk result (λ o. option_map spot_of o
+        ≡ use_closed code depth (stack_of frames.items)
+        (begun_of begun) (area_value width pointer) operand (kind.Fixed fixed.Close)) }
 {
     let first = Boxed::new(alloc, pointer.tree)?;
     let second = Boxed::new(alloc, operand.tree)?;
@@ -276,7 +283,9 @@ fn value_next(
     width: Width,
     operand: Measured,
 ) -> Result<Option<Spot>, NoMemory>
-    ensures { IfOk result (λ o. option_map spot_of o ≡ use_closed code depth (stack_of frames.items) (begun_of begun) (to_area width) operand (kind.Fixed fixed.Comma)) }
+    ensures { IfOk result (λ o. option_map spot_of o
+        ≡ use_closed code depth (stack_of frames.items)
+        (begun_of begun) (to_area width) operand (kind.Fixed fixed.Comma)) }
 {
     frames.push(Frame::Waiting(begun, Use::AreaValue(width, operand)))?;
     Ok(Some(Spot {
@@ -294,7 +303,9 @@ fn body_next(
     begun: Begun,
     body: Body,
 ) -> Result<Option<Spot>, NoMemory>
-    ensures { IfOk result (λ o. option_map spot_of o ≡ Some (spot code depth (within (begun_of begun) (body_of body) ∷ stack_of frames.items) (statement (no_statements code)))) }
+    ensures { IfOk result (λ o. option_map spot_of o
+        ≡ Some (spot code depth (within (begun_of begun) (body_of body) ∷ stack_of frames.items)
+        (statement (no_statements code)))) }
 {
     frames.push(Frame::Within(begun, body))?;
     Ok(Some(Spot {
@@ -312,7 +323,8 @@ fn labels_next(
     begun: Begun,
     selector: Measured,
 ) -> Spot
-    ensures { spot_of result ≡ spot code depth (stack_of frames.items) (part (begun_of begun) (first_label selector (no_cases code))) }
+    ensures { spot_of result
+        ≡ spot code depth (stack_of frames.items) (part (begun_of begun) (first_label selector (no_cases code))) }
 {
     Spot {
         depth,
@@ -331,7 +343,8 @@ fn use_closed(
     operand: Measured,
     kind: Kind,
 ) -> Result<Option<Spot>, NoMemory>
-    ensures { IfOk result (λ o. option_map spot_of o ≡ use_closed code depth (stack_of frames.items) (begun_of begun) (use_of need) operand kind) }
+    ensures { IfOk result (λ o. option_map spot_of o
+        ≡ use_closed code depth (stack_of frames.items) (begun_of begun) (use_of need) operand kind) }
 {
     match need {
         Use::ToVar(var) => match kind {

@@ -31,7 +31,8 @@ fn is_above(depth: usize, height: usize) -> bool
 }
 
 fn is_deep_at(spot: &Spot) -> bool
-    ensures { result ≡ nat_lt deepest (level_at code spot.now.depth (place_of spot.now.place) (stack_of spot.now.frames.items)) }
+    ensures { result
+        ≡ nat_lt deepest (level_at code spot.now.depth (place_of spot.now.place) (stack_of spot.now.frames.items)) }
 {
     match spot.place {
         Place::Operand => match spot.frames.last() {
@@ -91,7 +92,8 @@ fn advance(alloc: Global, state: State, kind: Kind, line: Line) -> Judged
 }
 
 fn advance_token(alloc: Global, state: State, token: &StToken) -> Judged
-    ensures { JudgedIs (seen result.state) result.refusal (judged (turn (seen state) (kind_of token.now)) token.now.line) }
+    ensures { JudgedIs (seen result.state) result.refusal
+        (judged (turn (seen state) (kind_of token.now)) token.now.line) }
 {
     match kind_of(alloc, token) {
         Ok(kind) => advance(alloc, state, kind, token.line),
@@ -148,8 +150,10 @@ fn finish(state: State) -> Option<Before>
 
 /// The whole text of these tokens, or why it is refused.
 fn whole(alloc: Global, tokens: &[StToken], end: Line) -> Result<Before, Rejection>
-    ensures text { IfOk result (λ text. HasText (judge (seen state.Start) (all_lined tokens.now end)) (before_of text)) }
-    ensures refused { IfRefused result (λ line reason. judge (seen state.Start) (all_lined tokens.now end) ≡ Err (Refused line reason)) }
+    ensures text { IfOk result
+        (λ text. HasText (judge (seen state.Start) (all_lined tokens.now end)) (before_of text)) }
+    ensures refused { IfRefused result
+        (λ line reason. judge (seen state.Start) (all_lined tokens.now end) ≡ Err (Refused line reason)) }
 {
     let Judged { state, refusal } = judge(alloc, tokens, end);
     let text = finish(state);
