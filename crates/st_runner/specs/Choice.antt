@@ -15,7 +15,8 @@ use Rattle.st_tree.specs.declared.program.Stmt.{Stmt}
 -- the body of the first arm whose test is TRUE, or else the statements after ELSE
 abbrev pub picked : List Located → List Arm → List Stmt → State → Result (List Stmt) Fault
 picked globals [] other s = Ok other
-picked globals (arm ∷ rest) other s = and_then (value globals arm.test s) (λ v. if is_set v then Ok arm.body else picked globals rest other s)
+picked globals (arm ∷ rest) other s =
+    and_then (value globals arm.test s) (λ v. if is_set v then Ok arm.body else picked globals rest other s)
 
 -- an arm has a value
 unfoldable pub has_label : List ℤ → ℤ → Bool

@@ -50,7 +50,9 @@ reach k work next = max (tall k work) (sizes k work + next_tall k next)
 
 -- a call costs no less than its unit
 abbrev pub Covers : Costs → StProgram → Type 0
-Covers k tree = (n : ℕ) (actuals : List Var) (unit : Pou) → slice_get tree.pous n ≡ Some unit → k.unit + (k.rest + body_most k unit.body) ≤ k.call n actuals
+Covers k tree =
+    (n : ℕ) (actuals : List Var) (unit : Pou) → slice_get tree.pous n ≡ Some unit
+    → k.unit + (k.rest + body_most k unit.body) ≤ k.call n actuals
 
 -- the costs of a frame alone: how many units wait
 abbrev pub unit_costs : Costs

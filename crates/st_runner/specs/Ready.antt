@@ -59,7 +59,8 @@ next_of (Err f) = at.Over (Some f)
 -- a statement was done up to where it needs a unit: what comes next means what the statement does, and
 -- costs no more
 pub record Done (tree : StProgram) (stmt : Stmt) (before after : List Frame) (next : At) (s t : State) : Type 0 where
-  pub meaning : (c : Calls) (u : ℕ) → end_at tree.globals c after next u t ≡ ending tree.globals c before (meaning tree.globals c stmt u s)
+  pub meaning : (c : Calls) (u : ℕ)
+      → end_at tree.globals c after next u t ≡ ending tree.globals c before (meaning tree.globals c stmt u s)
   pub reach : (k : Costs) → reach k after next ≤ max (tall k before) (sizes k before + most k stmt)
   pub units : units after ≡ units before
   pub weight : IfWork next (work_weight after + 1 ≤ work_weight before + weight stmt)
@@ -67,15 +68,19 @@ pub record Done (tree : StProgram) (stmt : Stmt) (before after : List Frame) (ne
 -- what needs no unit was done: from the frames that waited, what comes next ends as they did, costs no
 -- more, and keeps what is kept
 pub record Stepped (tree : StProgram) (before after : List Frame) (next : At) (s t : Parts) : Type 0 where
-  pub meaning : (c : Calls) (u : ℕ) → end_at tree.globals c after next u (state_of t) ≡ end_at tree.globals c before at.Work u (state_of s)
+  pub meaning : (c : Calls) (u : ℕ)
+      → end_at tree.globals c after next u (state_of t) ≡ end_at tree.globals c before at.Work u (state_of s)
   pub reach : (k : Costs) → reach k after next ≤ tall k before
   pub weight : IfWork next (work_weight after + 1 ≤ work_weight before)
   pub sound : (l f : ℕ) → IsSound l f s → IsSound l f t
   pub count : length s.activations.items ≡ 1 + units before → length t.activations.items ≡ 1 + units after
 
 -- a unit was spent: with a unit less, what comes next ends as what came next before, and is ready
-pub record Spent (tree : StProgram) (capacity : ℕ) (before after : List Frame) (last next : At) (s t : Parts) : Type 0 where
-  pub meaning : (u : ℕ) → end_at tree.globals (calls_to u tree) after next u (state_of t) ≡ end_at tree.globals (calls_to (suc u) tree) before last (suc u) (state_of s)
+pub record Spent (tree : StProgram) (capacity : ℕ) (before after : List Frame) (last next : At)
+    (s t : Parts) : Type 0 where
+  pub meaning : (u : ℕ)
+      → end_at tree.globals (calls_to u tree) after next u (state_of t)
+      ≡ end_at tree.globals (calls_to (suc u) tree) before last (suc u) (state_of s)
   pub ready : IsReady tree capacity after next t
 
 -- what comes next needs a unit: it is the test of a WHILE or a call

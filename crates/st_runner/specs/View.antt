@@ -25,7 +25,8 @@ seen a = record { locals = a.locals.items; formals = a.formals.items }
 
 -- what the runner keeps, as the state of a run
 abbrev pub state_of : Parts → State
-state_of s = record { memory = s.memory; registers = numbers_of s.registers; activations = map seen s.activations.items }
+state_of s =
+    record { memory = s.memory; registers = numbers_of s.registers; activations = map seen s.activations.items }
 
 -- a change gave the state that it should; one that is refused leaves the state as it was
 abbrev pub Changes : Result State Fault → Result (Unit {0}) Fault → State → State → Type 0
@@ -38,7 +39,8 @@ IsLocal activations d i = i < length (locals_of (slice_get (map seen activations
 
 -- a local of an activation took a value; one that is not there has a fault, and nothing changed
 abbrev pub HasLocal : ℕ → ℕ → Value → Result (Unit {0}) Fault → List Activation → List Activation → Type 0
-HasLocal d i v (Ok done) before after = IsOk (there (slice_get (locals_of (slice_get before d)) i)) × (after ≡ with_local d i v before)
+HasLocal d i v (Ok done) before after =
+    IsOk (there (slice_get (locals_of (slice_get before d)) i)) × (after ≡ with_local d i v before)
 HasLocal d i v (Err f) before after = (there (slice_get (locals_of (slice_get before d)) i) ≡ Err f) × (after ≡ before)
 
 -- What is kept from step to step
