@@ -63,7 +63,8 @@ assigned globals v e s = and_then (value globals e s) (λ w. write globals v w s
 
 -- an area write evaluates its pointer, then its expression, then locates and writes
 abbrev pub area_assigned : List Located → Width → Expr → Expr → State → Result State Fault
-area_assigned globals w p e s = and_then (value globals p s) (λ at. and_then (value globals e s) (λ v. area_write w at v s))
+area_assigned globals w p e s =
+    and_then (value globals p s) (λ at. and_then (value globals e s) (λ v. area_write w at v s))
 
 -- Choices
 
@@ -83,12 +84,14 @@ Labelled = List ℤ × Sem
 -- the first arm whose test is TRUE, or else the statements after ELSE
 abbrev pub first_true : List Guarded → Sem → Sem
 first_true [] other units s = other units s
-first_true (arm ∷ rest) other units s = with_value (arm.0 s) units s (λ v. if is_set v then arm.1 units s else first_true rest other units s)
+first_true (arm ∷ rest) other units s =
+    with_value (arm.0 s) units s (λ v. if is_set v then arm.1 units s else first_true rest other units s)
 
 -- the first arm that has the value, or else the statements after ELSE
 abbrev pub first_with : ℤ → List Labelled → Sem → Sem
 first_with n [] other units s = other units s
-first_with n (arm ∷ rest) other units s = if list_any (λ label. int_eq label n) arm.0 then arm.1 units s else first_with n rest other units s
+first_with n (arm ∷ rest) other units s =
+    if list_any (λ label. int_eq label n) arm.0 then arm.1 units s else first_with n rest other units s
 
 -- Loops
 
@@ -104,7 +107,8 @@ after_body (NoUnits s) again = NoUnits s
 -- a turn of a loop: a unit is taken, then the test is evaluated
 abbrev pub turn : Worth → Sem → Sem → Sem
 turn test body again zero s = NoUnits s
-turn test body again (suc units) s = with_value (test s) units s (λ v. if is_set v then after_body (body units s) again else Normal units s)
+turn test body again (suc units) s =
+    with_value (test s) units s (λ v. if is_set v then after_body (body units s) again else Normal units s)
 
 -- at most so many turns
 abbrev pub turns : ℕ → Worth → Sem → Sem
@@ -135,7 +139,8 @@ located_actual globals v s = and_then (reference_of globals v s) (λ r. tested r
 -- what the actuals of a call stand for, located in their order
 abbrev pub located_actuals : List Located → List Var → State → Result (List Reference) Fault
 located_actuals globals [] s = Ok []
-located_actuals globals (v ∷ rest) s = and_then (located_actual globals v s) (λ r. and_then (located_actuals globals rest s) (λ more. Ok (r ∷ more)))
+located_actuals globals (v ∷ rest) s =
+    and_then (located_actual globals v s) (λ r. and_then (located_actuals globals rest s) (λ more. Ok (r ∷ more)))
 
 -- a call with its actuals located
 abbrev pub called : Calls → ℕ → Result (List Reference) Fault → Sem
@@ -155,7 +160,8 @@ stmt_step globals calls (S.Assign v e) units s = changed (assigned globals v e s
 stmt_step globals calls (S.AreaWrite w p e) units s = changed (area_assigned globals w p e s) units s
 stmt_step globals calls (S.Invoke n actuals) units s = invoked globals calls n actuals units s
 stmt_step globals calls (S.If arms other) units s = first_true arms (in_order other) units s
-stmt_step globals calls (S.Case e arms other) units s = with_value (value globals e s) units s (λ v. first_with v.n arms (in_order other) units s)
+stmt_step globals calls (S.Case e arms other) units s =
+    with_value (value globals e s) units s (λ v. first_with v.n arms (in_order other) units s)
 stmt_step globals calls (S.While test body) units s = loop (value globals test) (in_order body) units s
 stmt_step globals calls S.Exit units s = Exits units s
 stmt_step globals calls S.Continue units s = Continues units s

@@ -106,9 +106,12 @@ written names (group f) = codes "(" ++ written names f ++ codes ")"
 written names (prefix op f) = prefix_word op ++ written names f
 written names (infix_of op f g) = written names f ++ infix_word op ++ written names g
 written names (digits_to op f) = prefix_word op ++ written names f ++ codes ")"
-written names (convert from to f) = type_word from ++ codes "_TO_" ++ type_word to ++ codes "(" ++ written names f ++ codes ")"
-written names (select f g h) = codes "SEL(" ++ written names f ++ codes ", " ++ written names g ++ codes ", " ++ written names h ++ codes ")"
-written names (shift op f g) = shift_word op ++ codes "(" ++ written names f ++ codes ", " ++ written names g ++ codes ")"
+written names (convert from to f) =
+    type_word from ++ codes "_TO_" ++ type_word to ++ codes "(" ++ written names f ++ codes ")"
+written names (select f g h) =
+    codes "SEL(" ++ written names f ++ codes ", " ++ written names g ++ codes ", " ++ written names h ++ codes ")"
+written names (shift op f g) =
+    shift_word op ++ codes "(" ++ written names f ++ codes ", " ++ written names g ++ codes ")"
 written names (area_read w f) = codes "AREA_READ_" ++ width_word w ++ codes "(" ++ written names f ++ codes ")"
 
 -- the text of an expression, in brackets only where precedence asks for them
@@ -158,11 +161,13 @@ formals_of (Some unit) = unit.formals
 abbrev pub actuals_text : Names → List Local → List Var → List (List ℕ)
 actuals_text names [] vars = []
 actuals_text names (formal ∷ formals) [] = []
-actuals_text names (formal ∷ formals) (v ∷ vars) = (formal.name ++ codes " := " ++ var_text names v) ∷ actuals_text names formals vars
+actuals_text names (formal ∷ formals) (v ∷ vars) =
+    (formal.name ++ codes " := " ++ var_text names v) ∷ actuals_text names formals vars
 
 -- a call of a unit: its name, and each formal with its variable in brackets
 abbrev pub call_text : Names → Option Pou → List Var → List ℕ
-call_text names unit vars = unit_name unit ++ codes "(" ++ listed (actuals_text names (formals_of unit) vars) ++ codes ");"
+call_text names unit vars =
+    unit_name unit ++ codes "(" ++ listed (actuals_text names (formals_of unit) vars) ++ codes ");"
 
 -- a label of an arm of a CASE after others, a literal of the selector's type
 unfoldable pub label_text : StType → ℤ → List ℕ
@@ -175,7 +180,8 @@ labels_text ty (first ∷ more) = literal_text ty first ++ flat_map (label_text 
 
 -- an arm of an IF: its word, its test and THEN on a line, and its statements one level in
 abbrev pub arm_step : Names → Arm-F Text ArmText CaseText → ArmText
-arm_step names arm word level = line level (word ++ expr_text names arm.test ++ codes " THEN") ++ texts_at (level + 1) arm.body
+arm_step names arm word level =
+    line level (word ++ expr_text names arm.test ++ codes " THEN") ++ texts_at (level + 1) arm.body
 
 -- an arm of a CASE: its labels on a line one level in, and its statements two levels in
 abbrev pub case_step : CaseArm-F Text ArmText CaseText → CaseText
@@ -184,13 +190,22 @@ case_step arm ty level = line (level + 1) (labels_text ty arm.labels ++ codes ":
 -- a statement whose inner statements are spelled as given; a CASE spells its labels in the type of its
 -- selector
 abbrev pub statement_step : Names → S.Stmt-F Text ArmText CaseText → Text
-statement_step names (S.Assign v e) level = line level (var_text names v ++ codes " := " ++ expr_text names e ++ codes ";")
-statement_step names (S.AreaWrite w p e) level = line level (codes "AREA_WRITE_" ++ width_word w ++ codes "(" ++ expr_text names p ++ codes ", " ++ expr_text names e ++ codes ");")
+statement_step names (S.Assign v e) level =
+    line level (var_text names v ++ codes " := " ++ expr_text names e ++ codes ";")
+statement_step names (S.AreaWrite w p e) level =
+    line level
+    (codes "AREA_WRITE_" ++ width_word w ++ codes "(" ++ expr_text names p ++ codes ", " ++ expr_text names e
+    ++ codes ");")
 statement_step names (S.Invoke unit vars) level = line level (call_text names (slice_get names.units unit) vars)
-statement_step names (S.If arms other) level = arms_text level arms ++ else_text level other ++ line level (codes "END_IF;")
+statement_step names (S.If arms other) level =
+    arms_text level arms ++ else_text level other ++ line level (codes "END_IF;")
 statement_step names (S.Case e arms other) level =
-    line level (codes "CASE " ++ expr_text names e ++ codes " OF") ++ flat_map (λ arm. arm (type_of names e) level) arms ++ else_text level other ++ line level (codes "END_CASE;")
-statement_step names (S.While e body) level = line level (codes "WHILE " ++ expr_text names e ++ codes " DO") ++ texts_at (level + 1) body ++ line level (codes "END_WHILE;")
+    line level (codes "CASE " ++ expr_text names e ++ codes " OF")
+    ++ flat_map (λ arm. arm (type_of names e) level) arms ++ else_text level other
+    ++ line level (codes "END_CASE;")
+statement_step names (S.While e body) level =
+    line level (codes "WHILE " ++ expr_text names e ++ codes " DO") ++ texts_at (level + 1) body
+    ++ line level (codes "END_WHILE;")
 statement_step names S.Exit level = line level (codes "EXIT;")
 statement_step names S.Continue level = line level (codes "CONTINUE;")
 statement_step names S.Return level = line level (codes "RETURN;")
@@ -234,7 +249,8 @@ names_in tree unit = record { globals = tree.globals; units = tree.pous; formals
 -- a unit between its heading and its end word
 unfoldable pub unit_text : StProgram → Pou → List ℕ
 unit_text tree unit =
-    line 0 (unit_word unit.program ++ codes " " ++ unit.name) ++ section_text (codes "VAR_IN_OUT") unit.formals ++ section_text (codes "VAR_TEMP") unit.locals
+    line 0 (unit_word unit.program ++ codes " " ++ unit.name) ++ section_text (codes "VAR_IN_OUT") unit.formals
+    ++ section_text (codes "VAR_TEMP") unit.locals
     ++ body_text (names_in tree unit) 1 unit.body ++ line 0 (codes "END_" ++ unit_word unit.program)
 
 -- Globals
@@ -250,7 +266,8 @@ run_text count b = if count == 1 then byte_text b else decimal count ++ codes "(
 -- the list of these bytes after so many equal ones
 abbrev pub list_behind : ℕ → ℕ → List ℕ → List ℕ
 list_behind count b [] = run_text count b
-list_behind count b (next ∷ rest) = if b == next then list_behind (count + 1) b rest else run_text count b ++ codes ", " ++ list_behind 1 next rest
+list_behind count b (next ∷ rest) =
+    if b == next then list_behind (count + 1) b rest else run_text count b ++ codes ", " ++ list_behind 1 next rest
 
 -- bytes, equal ones that stand together as one item
 abbrev pub list_text : List ℕ → List ℕ
@@ -260,7 +277,9 @@ list_text (b ∷ rest) = list_behind 1 b rest
 -- a data block as a global: its location, its last index, and its bytes, which are always written
 unfoldable pub block_text : DataBlock → List ℕ
 block_text block =
-    line 1 (codes "DB" ++ decimal block.number ++ codes " AT %DB" ++ decimal block.number ++ codes ".DBB0 : ARRAY[0.." ++ decimal (length block.bytes - 1) ++ codes "] OF BYTE := ["
+    line 1
+    (codes "DB" ++ decimal block.number ++ codes " AT %DB" ++ decimal block.number ++ codes ".DBB0 : ARRAY[0.."
+    ++ decimal (length block.bytes - 1) ++ codes "] OF BYTE := ["
     ++ list_text block.bytes ++ codes "];")
 
 -- the letter of the area of a global's place
@@ -272,12 +291,17 @@ place_word other = codes "M"
 -- a global on I, Q or M: its name, its location and its type, on a line one level in
 unfoldable pub global_text : Located → List ℕ
 global_text global =
-    line 1 (global.name ++ codes " AT %" ++ place_word global.place.area ++ place_text (width_at global.ty) global.place.byte global.place.bit ++ codes " : " ++ type_word global.ty ++ codes ";")
+    line 1
+    (global.name ++ codes " AT %" ++ place_word global.place.area
+    ++ place_text (width_at global.ty) global.place.byte global.place.bit ++ codes " : " ++ type_word global.ty
+    ++ codes ";")
 
 -- the section of globals, data blocks first; an empty one is not written
 abbrev pub globals_text : List DataBlock → List Located → List ℕ
 globals_text [] [] = []
-globals_text blocks globals = line 0 (codes "VAR_GLOBAL") ++ flat_map block_text blocks ++ flat_map global_text globals ++ line 0 (codes "END_VAR")
+globals_text blocks globals =
+    line 0 (codes "VAR_GLOBAL") ++ flat_map block_text blocks ++ flat_map global_text globals
+    ++ line 0 (codes "END_VAR")
 
 -- the whole text: data blocks, other globals, units
 abbrev pub spelling : StProgram → List ℕ

@@ -45,7 +45,8 @@ is_same_kind true b = b
 
 -- a unit is the one that a call means: it has its name, case ignored, and its kind
 abbrev pub is_meant : BlockName → Pou → Bool
-is_meant called unit = str_eq_ignore_ascii_case unit.name (called_name called) && is_same_kind (is_program called) unit.program
+is_meant called unit =
+    str_eq_ignore_ascii_case unit.name (called_name called) && is_same_kind (is_program called) unit.program
 
 -- the unit that a call means
 abbrev pub unit_called : BlockName → List Pou → Option Pou
@@ -71,7 +72,8 @@ abbrev pub FitFormals : List DataBlock → List Local → List (Place × Width) 
 FitFormals blocks [] [] = Unit {0}
 FitFormals blocks [] (actual ∷ actuals) = ⊥
 FitFormals blocks (formal ∷ formals) [] = ⊥
-FitFormals blocks (formal ∷ formals) (actual ∷ actuals) = FitsFormal blocks formal actual × FitFormals blocks formals actuals
+FitFormals blocks (formal ∷ formals) (actual ∷ actuals) =
+    FitsFormal blocks formal actual × FitFormals blocks formals actuals
 
 -- the unit of a function block has no formals, and the instance is there
 pub record FitsInstance (blocks : List DataBlock) (unit : Pou) (instance : ℕ) : Type 0 where

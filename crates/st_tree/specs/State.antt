@@ -122,9 +122,11 @@ abbrev pub reference_of : List Located → Var → State → Result Reference Fa
 reference_of globals (var.Register r) s = Ok (reference.Register r)
 reference_of globals (var.Local i) s = Ok (reference.Local (depth s) i)
 reference_of globals (var.Formal i) s = there (slice_get (formals_of (slice_get s.activations (depth s))) i)
-reference_of globals (var.Global i) s = and_then (there (slice_get globals i)) (λ (g : Located). Ok (reference.Place g.place g.ty))
+reference_of globals (var.Global i) s =
+    and_then (there (slice_get globals i)) (λ (g : Located). Ok (reference.Place g.place g.ty))
 reference_of globals (var.Direct a byte x w) s = Ok (reference.Place (place_of a byte x s) (type_of_width w))
-reference_of globals (var.InBlock n byte x w) s = Ok (reference.Place (record { area = area.Db n; byte = byte; bit = x }) (type_of_width w))
+reference_of globals (var.InBlock n byte x w) s =
+    Ok (reference.Place (record { area = area.Db n; byte = byte; bit = x }) (type_of_width w))
 
 -- the value at a reference
 abbrev pub read_at : Reference → State → Result Value Fault
@@ -136,8 +138,10 @@ read_at (reference.Place p ty) s = read_place ty p s.memory
 abbrev pub write_at : Reference → Value → State → Result State Fault
 write_at (reference.Register r) v s = Ok (record s { registers = with_register r v.n s.registers })
 write_at (reference.Local d i) v s =
-    and_then (there (slice_get (locals_of (slice_get s.activations d)) i)) (λ (old : Value). Ok (record s { activations = with_local d i v s.activations }))
-write_at (reference.Place p ty) v s = and_then (write_place ty p v s.memory) (λ memory. Ok (record s { memory = memory }))
+    and_then (there (slice_get (locals_of (slice_get s.activations d)) i))
+    (λ (old : Value). Ok (record s { activations = with_local d i v s.activations }))
+write_at (reference.Place p ty) v s =
+    and_then (write_place ty p v s.memory) (λ memory. Ok (record s { memory = memory }))
 
 -- the value of a variable
 abbrev pub read : List Located → Var → State → Result Value Fault
