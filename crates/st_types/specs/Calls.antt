@@ -54,19 +54,23 @@ statement_step s = s.kind s.line
 
 -- the calls of a statement, in the order of the text
 abbrev pub calls_of : Scope → RawStmt → List Call
-calls_of scope = fold-RawStmt OnLine (List Call) (List Call) (List Call) (kind_step scope) arm_step case_arm_step statement_step
+calls_of scope =
+    fold-RawStmt OnLine (List Call) (List Call) (List Call) (kind_step scope) arm_step case_arm_step statement_step
 
 -- the calls of an arm of an IF
 abbrev pub calls_of_arm : Scope → RawArm → List Call
-calls_of_arm scope = fold-RawArm OnLine (List Call) (List Call) (List Call) (kind_step scope) arm_step case_arm_step statement_step
+calls_of_arm scope =
+    fold-RawArm OnLine (List Call) (List Call) (List Call) (kind_step scope) arm_step case_arm_step statement_step
 
 -- the calls of an arm of a CASE
 abbrev pub calls_of_case_arm : Scope → RawCaseArm → List Call
-calls_of_case_arm scope = fold-RawCaseArm OnLine (List Call) (List Call) (List Call) (kind_step scope) arm_step case_arm_step statement_step
+calls_of_case_arm scope =
+    fold-RawCaseArm OnLine (List Call) (List Call) (List Call) (kind_step scope) arm_step case_arm_step statement_step
 
 -- the calls of what a statement does, once its line is known
 abbrev pub calls_of_action : Scope → RawStmtKind → OnLine
-calls_of_action scope = fold-RawStmtKind OnLine (List Call) (List Call) (List Call) (kind_step scope) arm_step case_arm_step statement_step
+calls_of_action scope =
+    fold-RawStmtKind OnLine (List Call) (List Call) (List Call) (kind_step scope) arm_step case_arm_step statement_step
 
 -- the calls of a list of statements
 abbrev pub all_calls : Scope → List RawStmt → List Call

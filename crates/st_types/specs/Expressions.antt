@@ -62,7 +62,8 @@ abbrev pub choice_of : Line → Option Typed → Option Typed → Option Typed �
 choice_of line None a b = nothing
 choice_of line (Some gate) None b = nothing
 choice_of line (Some gate) (Some a) None = nothing
-choice_of line (Some gate) (Some a) (Some b) = typed_as line (type_of_choice gate.ty a.ty b.ty) (expr.Select gate.tree a.tree b.tree)
+choice_of line (Some gate) (Some a) (Some b) =
+    typed_as line (type_of_choice gate.ty a.ty b.ty) (expr.Select gate.tree a.tree b.tree)
 
 -- a shift or a rotation by a count; nothing where the value or the count breaks a rule
 abbrev pub shift_of : Line → ShiftOp → Option Typed → Option Typed → Judged Typed
@@ -82,12 +83,15 @@ variable_on scope line v = answered line (variable scope v)
 -- an expression on a line by its form, with its operands as they are judged
 abbrev pub expression_step : Scope → Line → E.RawExpr-F (Judged Typed) → Judged Typed
 expression_step scope line (E.Literal ty value) = sound (literal_of ty value)
-expression_step scope line (E.Read v) = record { found = read_of (variable_on scope line v).found; breaks = (variable_on scope line v).breaks }
+expression_step scope line (E.Read v) =
+    record { found = read_of (variable_on scope line v).found; breaks = (variable_on scope line v).breaks }
 expression_step scope line (E.Unary op a) = behind a.breaks (unary_of line op a.found)
 expression_step scope line (E.Binary op a b) = behind (a.breaks ++ b.breaks) (binary_of line op a.found b.found)
 expression_step scope line (E.Convert from to a) = behind a.breaks (conversion_of line from to a.found)
-expression_step scope line (E.Select gate a b) = behind (gate.breaks ++ a.breaks ++ b.breaks) (choice_of line gate.found a.found b.found)
-expression_step scope line (E.Shift op a count) = behind (a.breaks ++ count.breaks) (shift_of line op a.found count.found)
+expression_step scope line (E.Select gate a b) =
+    behind (gate.breaks ++ a.breaks ++ b.breaks) (choice_of line gate.found a.found b.found)
+expression_step scope line (E.Shift op a count) =
+    behind (a.breaks ++ count.breaks) (shift_of line op a.found count.found)
 expression_step scope line (E.AreaRead w p) = behind p.breaks (area_read_of line w p.found)
 
 -- an expression on a line

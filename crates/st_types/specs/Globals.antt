@@ -52,12 +52,14 @@ fits_type ty (raw.Direct a (Some n) w byte bit) = false
 -- a global in the tree, in an area
 abbrev pub located_in : List ℕ → StType → Option Area → ℕ → ℕ → Option Located
 located_in name ty None byte bit = None
-located_in name ty (Some a) byte bit = Some (record { name = name; place = record { area = a; byte = byte; bit = bit }; ty = ty })
+located_in name ty (Some a) byte bit =
+    Some (record { name = name; place = record { area = a; byte = byte; bit = bit }; ty = ty })
 
 -- a global in the tree, by its location; none where that is no address or does not fit its type
 abbrev pub located_at : List ℕ → StType → RawVar → Option Located
 located_at name ty (raw.Name other) = None
-located_at name ty (raw.Direct a None w byte bit) = if is_address a None w byte bit && has_width ty w then located_in name ty (area_of a) byte bit else None
+located_at name ty (raw.Direct a None w byte bit) =
+    if is_address a None w byte bit && has_width ty w then located_in name ty (area_of a) byte bit else None
 located_at name ty (raw.Direct a (Some n) w byte bit) = None
 
 -- Data blocks
@@ -113,7 +115,8 @@ has_block_form number at last list = is_start_of number at && nat_le 1 last && f
 abbrev pub block_breaks : Line → ℕ → RawVar → ℕ → List (ℕ × ℕ) → List Break
 block_breaks line number at last list =
     unless (has_block_address number at) (broken line BadAddress)
-    ++ (unless (is_small_enough last) (broken line TooLarge) ++ unless (has_block_form number at last list) (broken line TypeMismatch))
+    ++ (unless (is_small_enough last) (broken line TooLarge)
+    ++ unless (has_block_form number at last list) (broken line TypeMismatch))
 
 -- a data block of a number in the tree; none where a rule is broken
 abbrev pub block_at : ℕ → RawVar → ℕ → List (ℕ × ℕ) → Option DataBlock
@@ -146,7 +149,8 @@ block_of (type.Bytes last list) name at = block_at (block_number name) at last l
 
 -- the rules that a declaration breaks by its location, its size or its initial value
 abbrev pub global_breaks : RawGlobalType → Line → List ℕ → RawVar → List Break
-global_breaks (type.Plain ty) line name at = unless (has_address at) (broken line BadAddress) ++ unless (fits_type ty at) (broken line TypeMismatch)
+global_breaks (type.Plain ty) line name at =
+    unless (has_address at) (broken line BadAddress) ++ unless (fits_type ty at) (broken line TypeMismatch)
 global_breaks (type.Bytes last list) line name at = block_breaks line (block_number name) at last list
 
 -- all globals on I, Q and M, in the order of the text

@@ -39,4 +39,5 @@ lead_to_seen from seen calls = list_all (λ (c : Call). has from seen c.callee) 
 -- so do the calls of all seen units from unit i on
 abbrev pub are_closed : ℕ → List Bool → ℕ → Graph → Bool
 are_closed from seen i [] = true
-are_closed from seen i (calls ∷ graph) = (not (has from seen i) || lead_to_seen from seen calls) && are_closed from seen (i + 1) graph
+are_closed from seen i (calls ∷ graph) =
+    (not (has from seen i) || lead_to_seen from seen calls) && are_closed from seen (i + 1) graph

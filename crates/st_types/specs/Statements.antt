@@ -32,14 +32,16 @@ use Rattle.st_types.specs.declared.variable.TypedVar.{TypedVar}
 abbrev pub assignment_of : Line → Option TypedVar → Option Typed → Judged Stmt
 assignment_of line None e = nothing
 assignment_of line (Some v) None = nothing
-assignment_of line (Some v) (Some e) = if is_type v.ty e.ty then sound (stmt.Assign v.var e.tree) else breaks_rule line TypeMismatch
+assignment_of line (Some v) (Some e) =
+    if is_type v.ty e.ty then sound (stmt.Assign v.var e.tree) else breaks_rule line TypeMismatch
 
 -- a write through a pointer, which is a DWORD, of a value of the width's bit type
 abbrev pub area_write_of : Line → Width → Option Typed → Option Typed → Judged Stmt
 area_write_of line w None e = nothing
 area_write_of line w (Some p) None = nothing
 area_write_of line w (Some p) (Some e) =
-    if is_type p.ty type.Dword && is_type e.ty (type_of_width w) then sound (stmt.AreaWrite w p.tree e.tree) else breaks_rule line TypeMismatch
+    if is_type p.ty type.Dword && is_type e.ty (type_of_width w) then sound (stmt.AreaWrite w p.tree e.tree)
+    else breaks_rule line TypeMismatch
 
 -- the test of an IF or a WHILE, once its expression is judged: it must be a BOOL
 abbrev pub test_of : Line → Option Typed → Judged Expr
@@ -141,7 +143,10 @@ kind_step scope (K.If arms other) line = record {
 kind_step scope (K.Case e arms other) line =
     let j = selector scope line e in
     let ks = case_arms_on line (type_of_selector j.found) arms in
-    record { found = case_of j.found (found_in ks) (found_in other); breaks = j.breaks ++ breaks_in ks ++ breaks_in other }
+    record {
+      found = case_of j.found (found_in ks) (found_in other);
+      breaks = j.breaks ++ breaks_in ks ++ breaks_in other;
+    }
 kind_step scope (K.While e body) line = record {
   found = while_of (test scope line e).found (found_in body);
   breaks = (test scope line e).breaks ++ breaks_in body;
@@ -156,19 +161,23 @@ statement_step s = s.kind s.line
 
 -- a statement in a scope: what it is in the tree, and the rules that it breaks
 abbrev pub statement : Scope → RawStmt → Judged Stmt
-statement scope = fold-RawStmt Done Armed Labelled (Judged Stmt) (kind_step scope) (arm_step scope) case_arm_step statement_step
+statement scope =
+    fold-RawStmt Done Armed Labelled (Judged Stmt) (kind_step scope) (arm_step scope) case_arm_step statement_step
 
 -- an arm of an IF in a scope
 abbrev pub arm : Scope → RawArm → Armed
-arm scope = fold-RawArm Done Armed Labelled (Judged Stmt) (kind_step scope) (arm_step scope) case_arm_step statement_step
+arm scope =
+    fold-RawArm Done Armed Labelled (Judged Stmt) (kind_step scope) (arm_step scope) case_arm_step statement_step
 
 -- an arm of a CASE in a scope
 abbrev pub case_arm : Scope → RawCaseArm → Labelled
-case_arm scope = fold-RawCaseArm Done Armed Labelled (Judged Stmt) (kind_step scope) (arm_step scope) case_arm_step statement_step
+case_arm scope =
+    fold-RawCaseArm Done Armed Labelled (Judged Stmt) (kind_step scope) (arm_step scope) case_arm_step statement_step
 
 -- what a statement in a scope does, once its line is known
 abbrev pub action : Scope → RawStmtKind → Done
-action scope = fold-RawStmtKind Done Armed Labelled (Judged Stmt) (kind_step scope) (arm_step scope) case_arm_step statement_step
+action scope =
+    fold-RawStmtKind Done Armed Labelled (Judged Stmt) (kind_step scope) (arm_step scope) case_arm_step statement_step
 
 -- a list of statements
 abbrev pub statements : Scope → List RawStmt → List (Judged Stmt)

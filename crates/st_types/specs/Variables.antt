@@ -50,9 +50,11 @@ variable_of ty v = Ok (record { ty = ty; var = v })
 
 -- a place that is written with its address, with the number of a data block where there is one
 abbrev pub place_at : AreaName → Option ℕ → Width → ℕ → ℕ → Result TypedVar Reason
-place_at a None w byte bit = if is_place a w byte bit then variable_of (type_of_width w) (var.Direct a byte bit w) else Err BadAddress
+place_at a None w byte bit =
+    if is_place a w byte bit then variable_of (type_of_width w) (var.Direct a byte bit w) else Err BadAddress
 place_at a (Some n) w byte bit =
-    if is_block_number n && is_place area.Db w byte bit then variable_of (type_of_width w) (var.InBlock n byte bit w) else Err BadAddress
+    if is_block_number n && is_place area.Db w byte bit then variable_of (type_of_width w) (var.InBlock n byte bit w)
+    else Err BadAddress
 
 -- what a name means as a variable: a unit or a data block is none
 abbrev pub variable_named : Option Meaning → Result TypedVar Reason

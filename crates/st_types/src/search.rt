@@ -31,7 +31,8 @@ impl Search {
     fn reach(&mut self, unit: usize) -> Result<(), NoMemory>
         ensures from { OnOk result (self.new.from ≡ self.old.from) }
         ensures seen { OnOk result (self.new.seen.items ≡ marks_after self.old.from unit self.old.seen.items) }
-        ensures work { OnOk result (self.new.work.items ≡ work_after self.old.from unit self.old.seen.items self.old.work.items) }
+        ensures work { OnOk result (self.new.work.items
+            ≡ work_after self.old.from unit self.old.seen.items self.old.work.items) }
     {
         if self.has(unit) {
             return Ok(());
