@@ -89,13 +89,15 @@ call_reply (Some block) program call steps memory = run_reply memory (stl_run pr
 
 -- a run from an image, which starts with the program's data blocks; no form that is built declares one
 abbrev pub memory_reply : Program → Call → ℕ → Result Contents ImageRefusal → Reply
-memory_reply program call steps (Ok memory) = call_reply (block_called call.block program.blocks) program call steps memory.areas
+memory_reply program call steps (Ok memory) =
+    call_reply (block_called call.block program.blocks) program call steps memory.areas
 memory_reply program call steps (Err refused) = image_reply refused
 
 -- what a run answers to a program that is accepted, and to the text of an image
 abbrev pub run_stl_reply : ℕ → Call → List ℕ → Program → Reply
 run_stl_reply steps call text program =
-    if nat_lt IMAGE_LIMIT (length text) then (TooLong, too_long_line) else memory_reply program call steps (image_of text [])
+    if nat_lt IMAGE_LIMIT (length text) then (TooLong, too_long_line)
+    else memory_reply program call steps (image_of text [])
 
 -- what `translate` answers to a program that is accepted
 abbrev pub translate_reply : Program → Reply
@@ -113,14 +115,17 @@ verdict_reply reply (Err rejection.NoMemory) = (NoMemory, [])
 
 -- what is answered to the bytes of a source
 abbrev pub source_reply : (Program → Reply) → List ℕ → Reply
-source_reply reply source = if nat_lt INPUT_LIMIT (length source) then (TooLong, too_long_line) else verdict_reply reply (verdict source)
+source_reply reply source =
+    if nat_lt INPUT_LIMIT (length source) then (TooLong, too_long_line) else verdict_reply reply (verdict source)
 
 -- what a run answers to the tree of a Structured Text, and to the text of an image; the image begins with
 -- the tree's data blocks
 pub data AnswersTree (units : ℕ) (call : Call) (text : List ℕ) (tree : StProgram) : Reply → Type 0 where
   image_too_long : IMAGE_LIMIT < length text → AnswersTree units call text tree (TooLong, too_long_line)
-  bad_image : {refused : ImageRefusal} → length text ≤ IMAGE_LIMIT → image_of text tree.dbs ≡ Err refused → AnswersTree units call text tree (image_reply refused)
-  bad_call : {memory : Contents} → length text ≤ IMAGE_LIMIT → image_of text tree.dbs ≡ Ok memory → (FitsSt tree call → ⊥) →
+  bad_image : {refused : ImageRefusal} → length text ≤ IMAGE_LIMIT → image_of text tree.dbs ≡ Err refused
+      → AnswersTree units call text tree (image_reply refused)
+  bad_call : {memory : Contents} → length text ≤ IMAGE_LIMIT → image_of text tree.dbs ≡ Ok memory
+      → (FitsSt tree call → ⊥) →
       AnswersTree units call text tree (BadCall, bad_call_line)
   run : {memory : Contents} → length text ≤ IMAGE_LIMIT → image_of text tree.dbs ≡ Ok memory → FitsSt tree call →
       AnswersTree units call text tree (run_reply memory.areas (st_run tree call memory.areas units))
@@ -130,7 +135,8 @@ pub data AnswersText (units : ℕ) (call : Call) (source text : List ℕ) : Repl
   source_too_long : INPUT_LIMIT < length source → AnswersText units call source text (TooLong, too_long_line)
   refused : {line : Line} {reason : Reason} → length source ≤ INPUT_LIMIT → IsRefusedText source line reason →
       AnswersText units call source text (Refused, refusal_line line reason)
-  read : {tree : StProgram} {reply : Reply} → length source ≤ INPUT_LIMIT → IsTextOf source tree → AnswersTree units call text tree reply →
+  read : {tree : StProgram} {reply : Reply} → length source ≤ INPUT_LIMIT → IsTextOf source tree
+      → AnswersTree units call text tree reply →
       AnswersText units call source text reply
 
 -- the status and the text to write are the answer for a command, the bytes of the source and those of the
@@ -184,11 +190,14 @@ WantsImage command left = (source : List ℕ) × AreOf left source × Wants comm
 abbrev pub Sends : Option Command → List ℕ → List ℕ → Option (List ℕ) → Option (List ℕ) → Status → Type 0
 Sends command source text before after ReadFault = after ≡ before
 Sends command source text before after NoMemory = after ≡ before
-Sends command source text before after WriteFault = (reply : Reply) × Answers command source text reply × TookFewer before after reply.1
-Sends command source text before after status = (reply : Reply) × Answers command source text reply × (reply.0 ≡ status) × Took before after reply.1
+Sends command source text before after WriteFault =
+    (reply : Reply) × Answers command source text reply × TookFewer before after reply.1
+Sends command source text before after status =
+    (reply : Reply) × Answers command source text reply × (reply.0 ≡ status) × Took before after reply.1
 
 -- what the sink has taken is the answer to the bytes of the source and of the image
-pub record Writes (command : Option Command) (left image : Option (List ℕ)) (before after : Option (List ℕ)) (status : Status) : Type 0 where
+pub record Writes (command : Option Command) (left image : Option (List ℕ)) (before after : Option (List ℕ))
+    (status : Status) : Type 0 where
   pub source : List ℕ
   pub of_source : AreOf left source
   pub text : List ℕ

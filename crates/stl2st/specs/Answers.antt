@@ -19,6 +19,8 @@ IsFirst first (token ∷ rest) = first ≡ token
 
 -- the item stands after the instructions before it, or it is refused, whatever follows
 abbrev pub PutsItem : List Instr → List Instr → Token → List Token → Result (Unit {0}) Rejection → Type 0
-PutsItem old new first tokens (Ok done) = (rest : Result (List Instr) Rejection) → prepend_instrs old (with_item first tokens rest) ≡ prepend_instrs new rest
-PutsItem old new first tokens (Err (Refused line reason)) = (rest : Result (List Instr) Rejection) → with_item first tokens rest ≡ Err (Refused line reason)
+PutsItem old new first tokens (Ok done) =
+    (rest : Result (List Instr) Rejection) → prepend_instrs old (with_item first tokens rest) ≡ prepend_instrs new rest
+PutsItem old new first tokens (Err (Refused line reason)) =
+    (rest : Result (List Instr) Rejection) → with_item first tokens rest ≡ Err (Refused line reason)
 PutsItem old new first tokens (Err NoMemory) = Unit {0}

@@ -57,12 +57,18 @@ back text = drop (front_size text) text
 -- the area of a letter
 abbrev pub letter_area : ℕ → Option Area
 letter_area letter =
-    if letter == 73 then Some area.I else if letter == 81 then Some area.Q else if letter == 77 then Some area.M else None
+    if letter == 73 then Some area.I
+    else if letter == 81 then Some area.Q
+    else if letter == 77 then Some area.M
+    else None
 
 -- the width of a letter
 abbrev pub letter_width : ℕ → Option Width
 letter_width letter =
-    if letter == 66 then Some width.Byte else if letter == 87 then Some width.Word else if letter == 68 then Some width.Dword else None
+    if letter == 66 then Some width.Byte
+    else if letter == 87 then Some width.Word
+    else if letter == 68 then Some width.Dword
+    else None
 
 -- a point and a digit from 0 to 7
 abbrev pub bit_number : List ℕ → Option ℕ
@@ -74,30 +80,35 @@ bit_number (point ∷ digit ∷ more ∷ rest) = None
 -- `0.7`: a bit of an area
 abbrev pub bit_actual : Area → List ℕ → Option (Place × Width)
 bit_actual area text =
-    option_and_then (λ byte. option_map (λ bit. (record { area = area; byte = byte; bit = bit }, width.Bit)) (bit_number (back text)))
+    option_and_then
+    (λ byte. option_map (λ bit. (record { area = area; byte = byte; bit = bit }, width.Bit)) (bit_number (back text)))
     (short_number (front text))
 
 -- `B4`, `W4` or `D4`: a byte or more of an area
 abbrev pub bytes_actual : Area → List ℕ → Option (Place × Width)
 bytes_actual area [] = None
 bytes_actual area (letter ∷ digits) =
-    option_and_then (λ width. option_map (λ byte. (record { area = area; byte = byte; bit = 0 }, width)) (short_number digits))
+    option_and_then
+    (λ width. option_map (λ byte. (record { area = area; byte = byte; bit = 0 }, width)) (short_number digits))
     (letter_width (to_ascii_uppercase letter))
 
 -- `I0.7` or `MW4`
 abbrev pub area_actual : List ℕ → Option (Place × Width)
 area_actual [] = None
 area_actual (letter ∷ text) =
-    option_and_then (λ area. option_or (bit_actual area text) (bytes_actual area text)) (letter_area (to_ascii_uppercase letter))
+    option_and_then (λ area. option_or (bit_actual area text) (bytes_actual area text))
+    (letter_area (to_ascii_uppercase letter))
 
 -- `.DBX0.7` or `.DBW4`, after the name of a data block
 abbrev pub part_of : Area → List ℕ → Option (Place × Width)
 part_of area text =
-    option_or (option_and_then (bit_actual area) (behind (codes ".DBX") text)) (option_and_then (bytes_actual area) (behind (codes ".DB") text))
+    option_or (option_and_then (bit_actual area) (behind (codes ".DBX") text))
+    (option_and_then (bytes_actual area) (behind (codes ".DB") text))
 
 -- `DB5.DBX0.7` or `DB5.DBW4`
 abbrev pub block_actual : List ℕ → Option (Place × Width)
-block_actual text = option_and_then (λ number. part_of (area.Db number) (back text)) (number_behind (codes "DB") (front text))
+block_actual text =
+    option_and_then (λ number. part_of (area.Db number) (back text)) (number_behind (codes "DB") (front text))
 
 -- an actual: its place and its width
 abbrev pub actual_of : List ℕ → Option (Place × Width)
@@ -141,7 +152,8 @@ call_with (Ob number) (first ∷ rest) = None
 call_with (Fc number) text =
     option_map (λ actuals. record { block = Fc number; instance = 0; actuals = actuals }) (actuals_behind text)
 call_with (Fb number) text =
-    option_map (λ instance. record { block = Fb number; instance = instance; actuals = [] }) (number_behind (codes "/DB") text)
+    option_map (λ instance. record { block = Fb number; instance = instance; actuals = [] })
+    (number_behind (codes "/DB") text)
 
 -- the call that the argument CALL means, if it is one
 abbrev pub call_meant : List ℕ → Option Call

@@ -29,7 +29,9 @@ run_meant (a ∷ b ∷ c ∷ d ∷ rest) = None
 -- a command of one argument
 abbrev pub word_meant : List ℕ → Option Command
 word_meant word =
-    if bytes_eq word (codes "translate") then Some Translate else if bytes_eq word (codes "check") then Some Check else None
+    if bytes_eq word (codes "translate") then Some Translate
+    else if bytes_eq word (codes "check") then Some Check
+    else None
 
 -- the command that arguments mean, if they are one; the first is compared exactly, case counts
 abbrev pub command_meant : List (List ℕ) → Option Command

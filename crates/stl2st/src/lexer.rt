@@ -119,7 +119,9 @@ fn closed_size(close: u8, rest: &[u8]) -> Option<usize>
 
 fn is_title(bytes: &[u8], size: usize) -> bool
     requires { size ≤ length bytes.now }
-    ensures { result ≡ (str_eq_ignore_ascii_case (take size bytes.now) (codes "TITLE") && begins_with 61 (after_blanks (drop size bytes.now))) }
+    ensures { result
+        ≡ (str_eq_ignore_ascii_case (take size bytes.now) (codes "TITLE")
+        && begins_with 61 (after_blanks (drop size bytes.now))) }
 {
     is_same_word(&bytes[..size], "TITLE")
         && begins_with(b'=', after_blanks(rest_after(bytes, size)))

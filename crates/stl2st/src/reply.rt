@@ -241,7 +241,8 @@ fn source_reply<P: Source, M: Source>(
     requires { IsStl command.now }
     ensures reply { IfOk result (Answered (Some command.now) (P.left program.old) (M.left image.old)) }
     ensures reads_program { ReadsProgram (Some command.now)
-        (input (P.left program.old) (P.left program.new) (P.faults program.old) (P.faults program.new)) (ending result) }
+        (input (P.left program.old) (P.left program.new) (P.faults program.old) (P.faults program.new))
+        (ending result) }
     ensures reads_image { ReadsImage (Some command.now) (P.left program.old)
         (input (M.left image.old) (M.left image.new) (M.faults image.old) (M.faults image.new)) (ending result) }
     ensures read_fault { result ≡ Err Stop.ReadFault → FailedToRead (Some command.now)
@@ -357,7 +358,8 @@ pub fn reply_to<P: Source, M: Source>(
     ensures reply { IfOk result
         (Answered (command_meant (map (λ word. string_bytes word) words.now)) (P.left program.old) (M.left image.old)) }
     ensures reads_program { ReadsProgram (command_meant (map (λ word. string_bytes word) words.now))
-        (input (P.left program.old) (P.left program.new) (P.faults program.old) (P.faults program.new)) (ending result) }
+        (input (P.left program.old) (P.left program.new) (P.faults program.old) (P.faults program.new))
+        (ending result) }
     ensures reads_image { ReadsImage (command_meant (map (λ word. string_bytes word) words.now)) (P.left program.old)
         (input (M.left image.old) (M.left image.new) (M.faults image.old) (M.faults image.new)) (ending result) }
     ensures read_fault { result ≡ Err Stop.ReadFault
