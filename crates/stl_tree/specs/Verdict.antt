@@ -32,7 +32,8 @@ with_statement line (Err reason) rest = Err (Refused line reason)
 
 -- an empty statement or a statement at the front of these tokens, and the items after it
 abbrev pub with_item : Token → List Token → Result (List Instr) Rejection → Result (List Instr) Rejection
-with_item first tokens rest = if is_sign (codes ";") first then rest else with_statement first.line (statement_of tokens) rest
+with_item first tokens rest =
+    if is_sign (codes ";") first then rest else with_statement first.line (statement_of tokens) rest
 
 -- an end word, after which the text ends
 abbrev pub with_end : Line → List Token → Result (List Instr) Rejection
@@ -52,7 +53,8 @@ body_from end zero (first ∷ rest) =
 -- BEGIN and the body after it
 abbrev pub begin_from : Line → List Token → Result (List Instr) Rejection
 begin_from end [] = Err (Refused end BadStatement)
-begin_from end (first ∷ rest) = if is_word (codes "BEGIN") first then body_from end 0 rest else Err (misfit_at (first ∷ rest) first.line)
+begin_from end (first ∷ rest) =
+    if is_word (codes "BEGIN") first then body_from end 0 rest else Err (misfit_at (first ∷ rest) first.line)
 
 -- the program of one block
 abbrev pub one_block : BlockName → Line → Result (List Instr) Rejection → Result Program Rejection
