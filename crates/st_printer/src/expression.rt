@@ -77,7 +77,8 @@ fn put_unary(
     op: UnaryOp,
     operand: &Expr,
 ) -> Result<(), NoMemory>
-    ensures { OnOk result (out.new.items ≡ out.old.items ++ written (names_in tree.now unit.now) (unary_form op (canon operand.now))) }
+    ensures { OnOk result (out.new.items ≡ out.old.items
+        ++ written (names_in tree.now unit.now) (unary_form op (canon operand.now))) }
 {
     put(out, prefix_word(op))?;
     match op {
@@ -98,7 +99,8 @@ fn put_operand(
     expr: &Expr,
     limit: u8,
 ) -> Result<(), NoMemory>
-    ensures { OnOk result (out.new.items ≡ out.old.items ++ written (names_in tree.now unit.now) (wrap limit (canon expr.now))) }
+    ensures { OnOk result (out.new.items ≡ out.old.items
+        ++ written (names_in tree.now unit.now) (wrap limit (canon expr.now))) }
 {
     if level_of(expr) <= limit {
         return put_expr(out, tree, unit, expr);
@@ -113,7 +115,8 @@ fn put_in_brackets(
     unit: &Pou,
     expr: &Expr,
 ) -> Result<(), NoMemory>
-    ensures { OnOk result (out.new.items ≡ out.old.items ++ codes "(" ++ expr_text (names_in tree.now unit.now) expr.now ++ codes ")") }
+    ensures { OnOk result (out.new.items ≡ out.old.items
+        ++ codes "(" ++ expr_text (names_in tree.now unit.now) expr.now ++ codes ")") }
 {
     put(out, "(")?;
     put_expr(out, tree, unit, expr)?;
@@ -123,7 +126,8 @@ fn put_in_brackets(
 /// An operand after another one.
 #[cycle(expr)]
 fn put_next(out: &mut Vec<u8>, tree: &StProgram, unit: &Pou, expr: &Expr) -> Result<(), NoMemory>
-    ensures { OnOk result (out.new.items ≡ out.old.items ++ codes ", " ++ expr_text (names_in tree.now unit.now) expr.now) }
+    ensures { OnOk result (out.new.items ≡ out.old.items
+        ++ codes ", " ++ expr_text (names_in tree.now unit.now) expr.now) }
 {
     put(out, ", ")?;
     put_expr(out, tree, unit, expr)
@@ -132,7 +136,8 @@ fn put_next(out: &mut Vec<u8>, tree: &StProgram, unit: &Pou, expr: &Expr) -> Res
 /// The last operand, and the closing bracket.
 #[cycle(expr)]
 fn put_last(out: &mut Vec<u8>, tree: &StProgram, unit: &Pou, expr: &Expr) -> Result<(), NoMemory>
-    ensures { OnOk result (out.new.items ≡ out.old.items ++ codes ", " ++ expr_text (names_in tree.now unit.now) expr.now ++ codes ")") }
+    ensures { OnOk result (out.new.items ≡ out.old.items
+        ++ codes ", " ++ expr_text (names_in tree.now unit.now) expr.now ++ codes ")") }
 {
     put(out, ", ")?;
     put_expr(out, tree, unit, expr)?;

@@ -63,7 +63,8 @@ fn put_list(out: &mut Vec<u8>, bytes: &[u8]) -> Result<(), NoMemory>
 /// The name, the place and the last index of a data block.
 fn put_block_head(out: &mut Vec<u8>, number: u16, length: usize) -> Result<(), NoMemory>
     ensures { OnOk result (out.new.items ≡ out.old.items
-        ++ codes "    DB" ++ decimal number ++ codes " AT %DB" ++ decimal number ++ codes ".DBB0 : ARRAY[0.." ++ decimal (length - 1) ++ codes "] OF BYTE := [") }
+        ++ codes "    DB" ++ decimal number ++ codes " AT %DB" ++ decimal number ++ codes ".DBB0 : ARRAY[0.."
+        ++ decimal (length - 1) ++ codes "] OF BYTE := [") }
 {
     put(out, "    DB")?;
     put_number(out, u64::from(number))?;
@@ -96,7 +97,9 @@ fn place_word(area: Area) -> &'static str
 /// The place and the type of a global, to the end of its line.
 fn put_located(out: &mut Vec<u8>, global: &Located) -> Result<(), NoMemory>
     ensures { OnOk result (out.new.items ≡ out.old.items
-        ++ place_word global.now.place.area ++ place_text (width_at global.now.ty) global.now.place.byte global.now.place.bit ++ codes " : " ++ type_word global.now.ty ++ codes ";\n") }
+        ++ place_word global.now.place.area
+        ++ place_text (width_at global.now.ty) global.now.place.byte global.now.place.bit
+        ++ codes " : " ++ type_word global.now.ty ++ codes ";\n") }
 {
     put(out, place_word(global.place.area))?;
     put_place(
