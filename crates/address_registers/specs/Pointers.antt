@@ -10,8 +10,8 @@ use Rattle.memory_areas.specs.declared.place.Place.{Place}
 abbrev pub with_offset : ℕ → ℕ → ℕ
 with_offset p offset = p / 2 ^ 19 * 2 ^ 19 + (p % 2 ^ 19 + offset) % 2 ^ 19
 
--- the pointer after an amount is added to an address register: the lowest 24 bits are the sum modulo 2
--- ^ 24, and the area code stays
+-- the pointer after an amount is added to an address register: the lowest 24 bits are the sum modulo
+-- 2 ^ 24, and the area code stays
 abbrev pub moved : ℕ → ℤ → ℕ
 moved p amount = p / 2 ^ 24 * 2 ^ 24 + unsigned_abs (int_rem_euclid (pos (p % 2 ^ 24) +ℤ amount) (pos (2 ^ 24)))
 

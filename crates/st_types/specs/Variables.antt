@@ -21,8 +21,8 @@ use Rattle.st_types.specs.declared.scope.Meaning.TheVariants as meaning
 use Rattle.st_types.specs.declared.scope.Scope.{Scope}
 use Rattle.st_types.specs.declared.variable.TypedVar.{TypedVar}
 
--- how many bytes a written address may reach in its area; that of a data block has a byte number of at
--- most 65,535, whatever its width
+-- the bytes of a written address lie in its area; in a data block, whose length shows at run time alone,
+-- its byte number is at most 65,535, whatever its width
 abbrev pub is_byte_in : AreaName → Width → ℕ → Bool
 is_byte_in area.I w byte = nat_le (byte + bytes_wide w) INPUT_BYTES
 is_byte_in area.Q w byte = nat_le (byte + bytes_wide w) OUTPUT_BYTES
