@@ -62,7 +62,7 @@ IsFirstCycle graph (Some line) = FirstCycle graph line
 abbrev pub calls_one : List Bool → List Call → Bool
 calls_one some calls = list_any (λ (c : Call). get_or some c.callee false) calls
 
--- whether n calls one behind another begin at each unit
+-- whether n calls one after another begin at each unit
 abbrev pub chains : Graph → ℕ → List Bool
 chains graph zero = replicate (length graph) true
 chains graph (suc n) = map (calls_one (chains graph n)) graph

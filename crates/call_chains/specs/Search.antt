@@ -13,10 +13,11 @@ Decides P false = P → ⊥
 abbrev pub has : ℕ → List Bool → ℕ → Bool
 has from seen i = i == from || get_or seen i true
 
--- the marks and the units that wait, after one more unit
+-- the marks after one more unit is met
 abbrev pub marks_after : ℕ → ℕ → List Bool → List Bool
 marks_after from i seen = if has from seen i then seen else slice_set seen i true
 
+-- the units that wait after one more unit is met; one that is seen already does not wait again
 abbrev pub work_after : ℕ → ℕ → List Bool → List ℕ → List ℕ
 work_after from i seen work = if has from seen i then work else work ++ i ∷ []
 
@@ -38,4 +39,5 @@ lead_to_seen from seen calls = list_all (λ (c : Call). has from seen c.callee) 
 -- so do the calls of all seen units from unit i on
 abbrev pub are_closed : ℕ → List Bool → ℕ → Graph → Bool
 are_closed from seen i [] = true
-are_closed from seen i (calls ∷ graph) = (not (has from seen i) || lead_to_seen from seen calls) && are_closed from seen (i + 1) graph
+are_closed from seen i (calls ∷ graph) =
+    (not (has from seen i) || lead_to_seen from seen calls) && are_closed from seen (i + 1) graph

@@ -10,8 +10,13 @@ use std::alloc::Global;
 /// The units that are seen so far, and those whose calls wait to be looked at.
 #[derive(Drop)]
 pub struct Search {
+    /// The unit where the search begins.
     pub from: usize,
+
+    /// Which units a call was found to.
     pub seen: Vec<bool>,
+
+    /// The units whose calls are still to be looked at.
     pub work: Vec<usize>,
 }
 
@@ -26,7 +31,8 @@ impl Search {
     fn reach(&mut self, unit: usize) -> Result<(), NoMemory>
         ensures from { OnOk result (self.new.from ≡ self.old.from) }
         ensures seen { OnOk result (self.new.seen.items ≡ marks_after self.old.from unit self.old.seen.items) }
-        ensures work { OnOk result (self.new.work.items ≡ work_after self.old.from unit self.old.seen.items self.old.work.items) }
+        ensures work { OnOk result (self.new.work.items
+            ≡ work_after self.old.from unit self.old.seen.items self.old.work.items) }
     {
         if self.has(unit) {
             return Ok(());

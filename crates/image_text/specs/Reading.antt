@@ -13,7 +13,7 @@ use Rattle.image_text.specs.declared.refusal.ImageRefusal.{ImageRefusal}
 use Rattle.image_text.specs.declared.refusal.ImageRefusal.TheVariants.{NoMemory}
 use Rattle.image_text.specs.declared.shape.Shape.{Shape as Found}
 
--- the answer is the defined one, or want of memory
+-- the answer is the defined one, or memory ran out
 abbrev pub Reads : Result Contents ImageRefusal → Result Contents ImageRefusal → Type 0
 Reads (Err NoMemory) defined = Unit {0}
 Reads answer defined = defined ≡ answer
@@ -23,7 +23,7 @@ abbrev pub LineDoes : Result Contents ImageRefusal → Result (Unit {0}) ImageRe
 LineDoes defined (Ok done) after = defined ≡ Ok after
 LineDoes defined (Err refused) after = defined ≡ Err refused
 
--- what stands behind a piece of a text: nothing, or a separator and further pieces
+-- what stands after a piece of a text: nothing, or a separator and further pieces
 abbrev pub pieces_left : (ℕ → Bool) → List ℕ → List (List ℕ)
 pieces_left p [] = []
 pieces_left p (b ∷ behind) = slice_split p behind

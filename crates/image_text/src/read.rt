@@ -34,11 +34,12 @@ fn has_room(memory: &Memory, area: Area, byte: u32, count: usize) -> bool
     }
 }
 
-/// The byte of the first field, and what stands behind it.
+/// The byte of the first field, and what stands after it.
 fn next_value(left: &[u8]) -> (u8, &[u8])
     requires some { 0 < length left.now }
     requires bytes { IsSome (values_of (pieces_left is_blank left.now)) }
-    ensures first { or_none (values_of (pieces_left is_blank left.now)) ≡ result.0 ∷ or_none (values_of (pieces_left is_blank result.1.now)) }
+    ensures first { or_none (values_of (pieces_left is_blank left.now))
+        ≡ result.0 ∷ or_none (values_of (pieces_left is_blank result.1.now)) }
     ensures bytes { IsSome (values_of (pieces_left is_blank result.1.now)) }
     ensures shorter { length result.1.now < length left.now }
 {
@@ -68,7 +69,9 @@ fn put_fields(memory: &mut Memory, area: Area, byte: u32, fields: &[u8])
     requires named { IsNamed area }
     requires is_open { is_closed (Some area) ≡ false }
     requires bytes { IsSome (values_of (pieces_left is_blank fields.now)) }
-    requires room { has_room (bytes_of area memory.old) byte (length (or_none (values_of (pieces_left is_blank fields.now)))) ≡ true }
+    requires room { has_room (bytes_of area memory.old) byte
+        (length (or_none (values_of (pieces_left is_blank fields.now))))
+        ≡ true }
     requires small { byte + length (or_none (values_of (pieces_left is_blank fields.now))) < 2 ^ 32 }
     ensures done { memory.new ≡ written area byte (or_none (values_of (pieces_left is_blank fields.now))) memory.old }
     ensures stays { MemoryStays memory.old memory.new }

@@ -1,4 +1,4 @@
--- The expressions of a canonical text, each before what is read behind it.
+-- The expressions of a canonical text, each before what is read after it.
 use Rattle.std.proofs.Common.{◌≡◌, ℕ, ◌-◌, Bool, true, false, List, ◌∷◌, ◌++◌, refl, sym, subst, ◌∙◌, append_assoc}
 use Rattle.std.specs.Prelude.{if◌then◌else◌, codes, nat_lt}
 use Rattle.s7_base.specs.Tokens.{begins_with}

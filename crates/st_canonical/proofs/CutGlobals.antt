@@ -1,4 +1,4 @@
--- The globals of a canonical text, each before what is read behind it.
+-- The globals of a canonical text, each before what is read after it.
 use Rattle.std.proofs.Common.{◌≡◌, ℕ, ◌+◌, ◌-◌, Bool, true, false, ◌==◌, List, [], ◌∷◌, ◌++◌, length, Some, None, refl, sym, ap, ◌∙◌, append_assoc}
 use Rattle.std.specs.Fmt.{digits}
 use Rattle.std.specs.Prelude.{if◌then◌else◌, codes, decimal, flat_map}
@@ -37,7 +37,7 @@ use Rattle.st_tree.specs.declared.raw.RawVar.TheVariants as var
 abbrev comma_items : Items → List Kind → List Kind
 comma_items others ks = spell_items others (comma_past others ks)
 
--- so many equal bytes behind others
+-- so many equal bytes after others
 reads_run : (others : Items) (count b : ℕ) (more : List ℕ) (line : ℕ) (ks : List Kind) → ItemsSpelled (run_behind others count b) → ends_word more ≡ true → ReadsOn line more ks
     → Behind (comma_items others) line (run_text count b ++ more) (spell_items (run_behind others count b) ks)
 reads_run others count b more line ks s ends r = by (count == 1) s
@@ -68,7 +68,7 @@ run_comma others count b ks = by (count == 1)
     by true = refl
     by false = refl
 
--- some bytes are written behind `:=` in square brackets
+-- some bytes are written after `:=` in square brackets
 abbrev IsInitial : Items → List Kind → Type 0
 IsInitial items ks = spell_initial items ks ≡ kind.Fixed fixed.Becomes ∷ kind.Fixed fixed.OpenSquare ∷ spell_items items (kind.Fixed fixed.CloseSquare ∷ ks)
 
@@ -184,7 +184,7 @@ reads_block block more line ks h k s r =
     (reads_list block.bytes (59 ∷ 10 ∷ more) line (kind.Fixed fixed.Semicolon ∷ ks) s.1
     (reads_semicolon (reads_line_end r)))))))))))))))))))))))))
 
--- a data block and what stands behind it
+-- a data block and what stands after it
 abbrev with_block : Globals → ℕ → DataBlock → Globals
 with_block others line b =
     global others (block_name b.number) (on line) (var.Direct area.Db (Some b.number) width.Byte 0 0) (on line) (bytes (length b.bytes - 1) (items_form b.bytes))

@@ -1,4 +1,4 @@
--- The literals and variables of a canonical text, each before what is read behind it.
+-- The literals and variables of a canonical text, each before what is read after it.
 use Rattle.std.proofs.Common.{◌≡◌, ℕ, suc, zero, ◌+◌, ◌-◌, ◌/◌, ◌%◌, ◌^◌, ◌<◌, ◌≤◌, Bool, true, false, not, ◌&&◌, ◌==◌, ◌⊎◌, inl, inr, List, [], ◌∷◌, ◌++◌, length, drop, Option, Some, None, refl, sym, ap, subst, ◌∙◌, arith}
 use Rattle.std.specs.Prelude.{ℤ, pos, negsuc, neg_ℤ, unsigned_abs, int_lt, nat_lt, nat_le, min, if◌then◌else◌, codes, decimal}
 use Rattle.std.specs.Ordering.{int_eq}

@@ -1,4 +1,4 @@
--- The statements of a canonical text, each before what is read behind it.
+-- The statements of a canonical text, each before what is read after it.
 use Rattle.std.proofs.Common.{◌≡◌, ℕ, ◌+◌, true, false, ℤ, List, [], ◌∷◌, ◌++◌, map, Option, refl, sym, ap, subst, ◌∙◌, append_assoc}
 use Rattle.std.specs.Prelude.{codes, flat_map, slice_get}
 use Rattle.s7_base.specs.Tokens.{begins_with, line_after}
@@ -40,7 +40,7 @@ use Rattle.st_tree.specs.declared.raw.RawVar.TheVariants as var
 
 -- Lists, with their last element outermost
 
--- what is read goes on behind what is spelled before
+-- what is read goes on after what is spelled before
 pub record Behind (before : List Kind → List Kind) (line : ℕ) (bytes : List ℕ) (kinds : List Kind) : Type 0 where
   pub inner : List Kind
   pub reads : ReadsOn line bytes inner

@@ -1,4 +1,4 @@
--- The declarations and units of a canonical text, each before what is read behind it.
+-- The declarations and units of a canonical text, each before what is read after it.
 use Rattle.std.proofs.Common.{◌≡◌, ℕ, Bool, true, false, List, [], ◌∷◌, ◌++◌, map, refl, ◌∙◌, append_assoc}
 use Rattle.std.specs.Prelude.{codes, flat_map}
 use Rattle.s7_base.specs.Tokens.{line_after}

@@ -1,4 +1,4 @@
--- The words and signs of a canonical text, each before what is read behind it.
+-- The words and signs of a canonical text, each before what is read after it.
 use Rattle.std.proofs.Common.{◌≡◌, ℕ, Bool, true, false, ◌&&◌, List, [], ◌∷◌, ◌++◌, Option, Some, None, refl, sym, subst}
 use Rattle.std.specs.Prelude.{codes, is_none}
 use Rattle.std.specs.List.{list_all}
@@ -366,7 +366,7 @@ pub reads_close_square : {line : ℕ} {more : List ℕ} {ks : List Kind} → Rea
 unfolding sign_named
 reads_close_square {line} {more} {ks} r = reads_token sort.Sign 93 [] more line (kind.Fixed fixed.CloseSquare) ks (close_square_at more) refl refl refl r
 
--- a bracket opens a comment where `*` stands behind it
+-- a bracket opens a comment where `*` stands after it
 open_at : (more : List ℕ) → begins_with 42 more ≡ false → piece_at (40 ∷ more) ≡ Some (token sort.Sign 1)
 open_at [] h = refl
 open_at (b ∷ more) h = rw h refl

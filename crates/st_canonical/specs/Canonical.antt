@@ -79,38 +79,43 @@ form_of names line (tree.select f g h) = select (form_of names line f) (form_of 
 form_of names line (tree.shift op f g) = shift op (form_of names line f) (form_of names line g)
 form_of names line (tree.area_read w f) = apply (one.AreaRead w) (form_of names line f)
 
+-- an expression of a tree on a line, with the brackets that precedence asks for and no others
 abbrev pub expr_form : Names → ℕ → Expr → Form
 expr_form names line e = form_of names line (canon e)
 
--- Statements: each part from the line on which it begins, with the line behind it
+-- Statements: each part from the line on which it begins, with the line after it
 
--- a part and the line behind it
+-- a part and the line after it
 abbrev pub Placed : Type 0 → Type 0
 Placed X = X × ℕ
 
--- what a statement, an arm of an IF behind others, and an arm of a CASE of a type behind others are from
--- a line on
+-- what a statement is from a line on
 abbrev pub FromLine : Type 0
 FromLine = ℕ → Placed Statement
 
+-- what the arms of an IF are with one more, from a line on
 abbrev pub ArmFromLine : Type 0
 ArmFromLine = Arms → ℕ → Placed Arms
 
+-- what the arms of a CASE are with one more, from a line on, by the type of the selector
 abbrev pub CaseFromLine : Type 0
 CaseFromLine = StType → CaseArms → ℕ → Placed CaseArms
 
--- statements behind others
+-- statements after others
 abbrev pub all_from : Statements → ℕ → List FromLine → Placed Statements
 all_from others line [] = (others, line)
 all_from others line (first ∷ more) = let s = first line in all_from (further others s.0) s.1 more
 
+-- the statements of a body from a line on
 abbrev pub body_from : ℕ → List FromLine → Placed Statements
 body_from line body = all_from none line body
 
+-- arms of an IF after others
 abbrev pub arms_from : Arms → ℕ → List ArmFromLine → Placed Arms
 arms_from others line [] = (others, line)
 arms_from others line (first ∷ more) = let a = first others line in arms_from a.0 a.1 more
 
+-- arms of a CASE after others
 abbrev pub cases_from : StType → CaseArms → ℕ → List CaseFromLine → Placed CaseArms
 cases_from ty others line [] = (others, line)
 cases_from ty others line (first ∷ more) = let a = first ty others line in cases_from ty a.0 a.1 more
@@ -119,17 +124,19 @@ cases_from ty others line (first ∷ more) = let a = first ty others line in cas
 abbrev pub ended : {X : Type 0} → X → ℕ → Placed X
 ended x line = (x, line_after line)
 
--- an IF and a CASE without the statements where no arm applies, and with them behind the line of ELSE
+-- an IF; where no arm applies and statements follow, they begin on the line after ELSE
 abbrev pub choice_from : ℕ → Placed Arms → List FromLine → Placed Statement
 choice_from line arms [] = ended (choice (on line) arms.0) arms.1
 choice_from line arms (first ∷ more) =
     let body = body_from (line_after arms.1) (first ∷ more) in ended (choice_else (on line) arms.0 body.0) body.1
 
+-- a CASE; where no arm applies and statements follow, they begin on the line after ELSE
 abbrev pub cases_else_from : ℕ → Form → Placed CaseArms → List FromLine → Placed Statement
 cases_else_from line e arms [] = ended (cases (on line) e arms.0) arms.1
 cases_else_from line e arms (first ∷ more) =
     let body = body_from (line_after arms.1) (first ∷ more) in ended (cases_else (on line) e arms.0 body.0) body.1
 
+-- a WHILE, whose statements begin on the line after its test
 abbrev pub loop_from : ℕ → Form → Placed Statements → Placed Statement
 loop_from line e body = ended (loop (on line) e body.0) body.1
 
@@ -140,7 +147,7 @@ actuals_from names line others (formal ∷ formals) [] = others
 actuals_from names line others (formal ∷ formals) (v ∷ vars) =
     actuals_from names line (actual others formal.name (on line) (raw_var names v) (on line)) formals vars
 
--- labels of a type, behind others
+-- labels of a type, after others
 abbrev pub labels_behind : StType → Labels → List ℤ → Labels
 labels_behind ty others [] = others
 labels_behind ty others (n ∷ ns) = labels_behind ty (more_labels others (literal_form ty n)) ns
@@ -150,71 +157,89 @@ abbrev pub labels_form : StType → List ℤ → Labels
 labels_form ty [] = label (lit.Byte 256)
 labels_form ty (n ∷ ns) = labels_behind ty (label (literal_form ty n)) ns
 
+-- an arm of an IF: its test on one line, its statements from the next on
 abbrev pub arm_step : Names → Arm-F FromLine ArmFromLine CaseFromLine → ArmFromLine
-arm_step names a others line = let body = body_from (line_after line) a.body in (arm others (expr_form names line a.test) body.0, body.1)
+arm_step names a others line =
+    let body = body_from (line_after line) a.body in (arm others (expr_form names line a.test) body.0, body.1)
 
+-- an arm of a CASE: its labels on one line, its statements from the next on
 abbrev pub case_step : CaseArm-F FromLine ArmFromLine CaseFromLine → CaseFromLine
-case_step a ty others line = let body = body_from (line_after line) a.body in (case_arm others (labels_form ty a.labels) body.0, body.1)
+case_step a ty others line =
+    let body = body_from (line_after line) a.body in (case_arm others (labels_form ty a.labels) body.0, body.1)
 
 -- a statement of one line
 abbrev pub one_line : ℕ → Statement → Placed Statement
 one_line line s = ended s line
 
+-- a statement whose inner statements stand where they are given; its own first line is that of its word
 abbrev pub statement_step : Names → S.Stmt-F FromLine ArmFromLine CaseFromLine → FromLine
 statement_step names (S.Assign v e) line = one_line line (assign (on line) (raw_var names v) (expr_form names line e))
-statement_step names (S.AreaWrite w p e) line = one_line line (write (on line) w (expr_form names line p) (expr_form names line e))
+statement_step names (S.AreaWrite w p e) line =
+    one_line line (write (on line) w (expr_form names line p) (expr_form names line e))
 statement_step names (S.Invoke n vars) line =
-    one_line line (invoke (on line) (unit_name (slice_get names.units n)) (actuals_from names line no_actual (formals_of (slice_get names.units n)) vars))
+    one_line line
+    (invoke (on line) (unit_name (slice_get names.units n))
+    (actuals_from names line no_actual (formals_of (slice_get names.units n)) vars))
 statement_step names (S.If arms other) line = choice_from line (arms_from no_arm line arms) other
-statement_step names (S.Case e arms other) line = cases_else_from line (expr_form names line e) (cases_from (type_of names e) no_case (line_after line) arms) other
+statement_step names (S.Case e arms other) line =
+    cases_else_from line (expr_form names line e) (cases_from (type_of names e) no_case (line_after line) arms) other
 statement_step names (S.While e body) line = loop_from line (expr_form names line e) (body_from (line_after line) body)
 statement_step names S.Exit line = one_line line (jump (on line) jump_word.Exit)
 statement_step names S.Continue line = one_line line (jump (on line) jump_word.Continue)
 statement_step names S.Return line = one_line line (jump (on line) jump_word.Return)
 
--- a statement from a line on, an arm of an IF, and one of a CASE
+-- a statement from a line on
 abbrev pub statement_from : Names → Stmt → FromLine
 statement_from names = fold-Stmt FromLine ArmFromLine CaseFromLine (statement_step names) (arm_step names) case_step
 
+-- an arm of an IF from a line on
 abbrev pub arm_from : Names → Arm → ArmFromLine
 arm_from names = fold-Arm FromLine ArmFromLine CaseFromLine (statement_step names) (arm_step names) case_step
 
+-- an arm of a CASE from a line on
 abbrev pub case_from : Names → CaseArm → CaseFromLine
 case_from names = fold-CaseArm FromLine ArmFromLine CaseFromLine (statement_step names) (arm_step names) case_step
 
 -- Units
 
--- declarations behind others, and a section of them; an empty one is not written
+-- formals or locals after others, each on a line of its own
 abbrev pub locals_from : Locals → ℕ → List Local → Placed Locals
 locals_from others line [] = (others, line)
 locals_from others line (first ∷ more) = locals_from (local others first.name (on line) first.ty) (line_after line) more
 
+-- a section of formals or locals; an empty one is not written
 abbrev pub section_from : ℕ → List Local → Placed (Section Locals)
 section_from line [] = (absent, line)
-section_from line (first ∷ more) = let locals = locals_from no_local (line_after line) (first ∷ more) in ended (present locals.0) locals.1
+section_from line (first ∷ more) =
+    let locals = locals_from no_local (line_after line) (first ∷ more) in ended (present locals.0) locals.1
 
--- a unit behind others
+-- a unit after others
 abbrev pub unit_from : StProgram → Units → ℕ → Pou → Placed Units
 unit_from text others line u =
     let formals = section_from (line_after line) u.formals in
     let locals = section_from formals.1 u.locals in
     let body = body_from locals.1 (map (statement_from (names_in text u)) u.body) in
-    ended (unit others (record { program = u.program; name = u.name; line = on line; place = on line }) formals.0 locals.0 body.0) body.1
+    ended
+    (unit others (record { program = u.program; name = u.name; line = on line; place = on line })
+    formals.0 locals.0 body.0)
+    body.1
 
+-- units after others, in the tree's order
 abbrev pub units_from : StProgram → Units → ℕ → List Pou → Placed Units
 units_from text others line [] = (others, line)
 units_from text others line (first ∷ more) = let u = unit_from text others line first in units_from text u.0 u.1 more
 
 -- Globals
 
--- so many equal bytes behind others; two or more have their count
+-- so many equal bytes after others; two or more have their count
 abbrev pub run_behind : Items → ℕ → ℕ → Items
 run_behind others count b = if count == 1 then single others b else times others count b
 
--- bytes behind so many equal ones, behind others
+-- bytes after so many equal ones, after others
 abbrev pub items_behind : Items → ℕ → ℕ → List ℕ → Items
 items_behind others count b [] = run_behind others count b
-items_behind others count b (next ∷ rest) = if b == next then items_behind others (count + 1) b rest else items_behind (run_behind others count b) 1 next rest
+items_behind others count b (next ∷ rest) =
+    if b == next then items_behind others (count + 1) b rest else items_behind (run_behind others count b) 1 next rest
 
 -- bytes, equal ones that stand together as one item; a data block has one, and none are written as one
 -- that no token has
@@ -226,11 +251,14 @@ items_form (b ∷ rest) = items_behind no_item 1 b rest
 abbrev pub block_name : ℕ → List ℕ
 block_name number = codes "DB" ++ decimal number
 
--- data blocks behind others
+-- data blocks after others
 abbrev pub blocks_from : Globals → ℕ → List DataBlock → Placed Globals
 blocks_from others line [] = (others, line)
 blocks_from others line (b ∷ more) =
-    blocks_from (global others (block_name b.number) (on line) (raw.Direct area.Db (Some b.number) width.Byte 0 0) (on line) (bytes (length b.bytes - 1) (items_form b.bytes))) (line_after line) more
+    blocks_from
+    (global others (block_name b.number) (on line) (raw.Direct area.Db (Some b.number) width.Byte 0 0) (on line)
+    (bytes (length b.bytes - 1) (items_form b.bytes)))
+    (line_after line) more
 
 -- the area of a global's place
 abbrev pub area_form : Area → AreaName
@@ -238,11 +266,14 @@ area_form place.I = area.I
 area_form place.Q = area.Q
 area_form other = area.M
 
--- globals behind others
+-- globals after others
 abbrev pub located_from : Globals → ℕ → List Located → Placed Globals
 located_from others line [] = (others, line)
 located_from others line (g ∷ more) =
-    located_from (global others g.name (on line) (raw.Direct (area_form g.place.area) None (width_at g.ty) g.place.byte g.place.bit) (on line) (plain g.ty)) (line_after line) more
+    located_from
+    (global others g.name (on line)
+    (raw.Direct (area_form g.place.area) None (width_at g.ty) g.place.byte g.place.bit) (on line) (plain g.ty))
+    (line_after line) more
 
 -- data blocks, then other globals
 abbrev pub globals_form : ℕ → List DataBlock → List Located → Placed Globals
@@ -251,7 +282,8 @@ globals_form line blocks globals = let first = blocks_from no_global line blocks
 -- the section of globals; an empty one is not written
 abbrev pub globals_from : ℕ → List DataBlock → List Located → Placed (Section Globals)
 globals_from line [] [] = (absent, line)
-globals_from line blocks globals = let inner = globals_form (line_after line) blocks globals in ended (present inner.0) inner.1
+globals_from line blocks globals =
+    let inner = globals_form (line_after line) blocks globals in ended (present inner.0) inner.1
 
 -- the canonical form of a tree, from line 1 on
 abbrev pub source_of : StProgram → Source

@@ -19,7 +19,10 @@ use std::alloc::Global;
 /// What stands at the front of a text, with its size in bytes.
 #[derive(Clone, Copy)]
 pub enum Piece {
+    /// A blank or a comment.
     Gap(usize),
+
+    /// A token of this sort.
     Token(StKind, usize),
 }
 
@@ -196,7 +199,7 @@ fn line_behind(b: u8, line: u32) -> u32
     }
 }
 
-/// The line behind some bytes.
+/// The line after some bytes.
 fn line_past(start: u32, bytes: &[u8]) -> u32
     ensures { result ≡ line_past start bytes.now }
 {
@@ -250,7 +253,7 @@ fn cut_text(alloc: Global, bytes: &[u8]) -> Result<Cut, NoMemory>
     Ok(Cut { tokens, bad: None })
 }
 
-/// The token is a literal whose type has not its number.
+/// The token is a literal outside its type's range.
 fn is_great(token: &StToken) -> bool
     ensures { result ≡ is_great token.now.kind (literal_at token.now.text) }
 {

@@ -153,7 +153,7 @@ fn value_behind(kind: StType, before: usize, bytes: &[u8]) -> Option<Literal>
     }
 }
 
-/// The type whose word stands at the front with `#` behind it.
+/// The type whose word stands at the front with `#` after it.
 pub fn type_at(bytes: &[u8]) -> Option<StType>
     ensures { result ≡ type_at bytes.now }
 {

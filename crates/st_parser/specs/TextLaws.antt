@@ -14,7 +14,8 @@ OneTree = (bytes : List ℕ) (s t : StProgram) → IsTextOf bytes s → IsTextOf
 
 -- two refusals of a text have the same line and the same reason
 abbrev pub OneRefusal : Type 0
-OneRefusal = (bytes : List ℕ) (l m : Line) (q r : Reason) → IsRefusedText bytes l q → IsRefusedText bytes m r → (l ≡ m) × (q ≡ r)
+OneRefusal =
+    (bytes : List ℕ) (l m : Line) (q r : Reason) → IsRefusedText bytes l q → IsRefusedText bytes m r → (l ≡ m) × (q ≡ r)
 
 -- no text has both
 abbrev pub NotBoth : Type 0
@@ -22,7 +23,9 @@ NotBoth = (bytes : List ℕ) (t : StProgram) (l : Line) (r : Reason) → IsTextO
 
 -- each text has one of them
 abbrev pub EachHasOne : Type 0
-EachHasOne = (bytes : List ℕ) → ((tree : StProgram) × IsTextOf bytes tree) ⊎ ((line : Line) × (reason : Reason) × IsRefusedText bytes line reason)
+EachHasOne =
+    (bytes : List ℕ)
+    → ((tree : StProgram) × IsTextOf bytes tree) ⊎ ((line : Line) × (reason : Reason) × IsRefusedText bytes line reason)
 
 -- the canonical text of a proper tree reads as the tree
 abbrev pub ProperReadsBack : Type 0

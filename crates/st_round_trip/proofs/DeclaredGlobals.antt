@@ -27,7 +27,7 @@ record AreSound (gs : Globals) : Type 0 where
   fit : GlobalsFit gs
   spelled : GlobalsSpelled gs
 
--- globals behind others, with what they declare
+-- globals after others, with what they declare
 record Behind (others all : Globals) (P : List RawGlobal → Type 0) : Type 0 where
   sound : AreSound all
   more : List RawGlobal

@@ -88,7 +88,7 @@ module _ (names : Names) where
 
 -- Canonical forms
 
--- the form at a place that takes levels up to j, in brackets where it binds more weakly
+-- the form at a place that takes levels up to j, in brackets where its precedence is lower
 abbrev pub wrapped : ℕ → Form → Form
 wrapped j f = if nat_lt j (level f) then group f else f
 
@@ -132,7 +132,7 @@ module _ (names : Names) (k : ℕ) where
   abbrev HasLevel : Expr → Type 0
   HasLevel e = level (expr_form names k e) ≡ tree.level (canon e)
 
-  -- a canonical form binds as weakly as what it is of
+  -- a canonical form has the precedence of what it is of
   form_level : (e : Expr) → HasLevel e
   form_level = ind-Expr HasLevel (λ (x : E.Expr-F Expr) (y : E.Expr-F ((e : Expr) × HasLevel e)) e.
       subst (λ (f : tree.Form). level (form_of names k f) ≡ tree.level f) (sym (fold-roll-Expr tree.Form canon_step x)) (core (map-Expr Expr tree.Form canon x)))

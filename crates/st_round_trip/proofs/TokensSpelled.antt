@@ -200,7 +200,7 @@ tokens_spelled : (tokens : List StToken) (line : Line) → All IsOfItsSort token
 tokens_spelled [] line a = (refl, tt)
 tokens_spelled (t ∷ ts) line a = (text_spelled t.kind t.text t.line (All-head IsOfItsSort t ts a), tokens_spelled ts line (All-tail IsOfItsSort t ts a))
 
--- What a form spells, and what stands behind it
+-- What a form spells, and what stands after it
 
 literal_written : (c : Literal) → is_value c ≡ true → IsWritten c → is_literal c ≡ true
 literal_written (lit.Decimal n) v h = v

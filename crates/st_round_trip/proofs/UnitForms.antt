@@ -183,7 +183,7 @@ pub record HasBody (text : StProgram) (u : Pou) : Type 0 where
   pub spelled : (line : ℕ) → AllSpelled (body_at text u line)
   pub within : (line : ℕ) (before : List ℕ) → AreWithin before → AreWithin (levels_all 0 (body_at text u line) before)
 
--- units of the language that tokens can have, behind others
+-- units of the language that tokens can have, after others
 pub record AreUnits (all : Units) : Type 0 where
   pub fit : UnitsFit all
   pub spelled : UnitsSpelled all
@@ -207,7 +207,7 @@ pub record Declare (text : StProgram) (us : List Pou) (others all : Units) : Typ
   pub are : AreUnitsAt us more
   pub forms : HaveForms text us more
 
--- the lines behind the sections of a unit
+-- the lines after the sections of a unit
 abbrev formals_of_unit : ℕ → Pou → Placed (Section Locals)
 formals_of_unit line u = section_from (line_after line) u.formals
 
@@ -224,7 +224,7 @@ unit_raw text line u = record {
   body = tree_all (body_at text u (locals_of_unit line u).1);
 }
 
--- a unit behind others
+-- a unit after others
 one_unit : (text : StProgram) (u : Pou) (others : Units) (line : ℕ) → IsHeaded u → HasBody text u → AreUnits others → AreUnits (unit_from text others line u).0
 one_unit text u others line h b a =
     let formals = formals_section u.program u.formals (line_after line) h.may h.formals in

@@ -28,11 +28,11 @@ within_unit u d s p = inside u.top u.formals u.locals (spot written d s p)
 abbrev pub run : Unit_read → ℕ → List (Frame written) → Place written → List ℕ → List Kind → Option (Passed written)
 run u d s p w ks = passes written (within_unit u d s p) w ks
 
--- the pass behind a token
+-- the pass after a token
 abbrev pub go : List ℕ → List Kind → Option (State written) → Option (Passed written)
 go w ks o = option_and_then (λ r. passes written r (mark written r ∷ w) ks) o
 
--- Levels of binding
+-- Levels of precedence
 
 pub prefix_above : (u : Prefix) (op : BinaryOp) → prefix_level u < infix_level op
 prefix_above before.Minus binary.Mul = omega arith
@@ -103,7 +103,7 @@ le_true a b h = grind (arith, nat_tests)
 pub le_false : (a b : ℕ) → b < a → nat_le a b ≡ false
 le_false a b h = grind (arith, nat_tests)
 
--- the next token is no operator that binds more strongly than a level
+-- the next token is no operator that binds more tightly than a level
 abbrev pub Lets : ℕ → Kind → Type 0
 Lets k (kind.Fixed (fixed.Between op)) = k ≤ infix_level op
 Lets k other = Unit {0}
@@ -132,7 +132,7 @@ past_left u d op a s f (kind.Fixed fixed.EndProgram) h = no_end u true s (infix_
 past_left u d op a s f (kind.Fixed fixed.EndFunction) h = no_end u false s (infix_of op a f)
 past_left u d op a s f other h = rw (le_true (infix_level op) weakest (infix_most op)) refl
 
--- where the place takes operands of a level, no operator before it binds as strongly
+-- where the place takes operands of a level, no operator before it binds as tightly
 unmoved : (op : BinaryOp) (d : ℕ) (s : List (Frame written)) (f : Form) → infix_level op ≤ limit written s → reduce written (infix_level op) d s f ≡ reduced_to written d s f
 unmoved op d [] f h = refl
 unmoved op d (unary u ∷ s) f h = absurd (let k = prefix_above u op in omega arith)

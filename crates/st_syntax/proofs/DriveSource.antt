@@ -37,7 +37,7 @@ items_all done name line v last (times (single o a) count b) more w h =
 items_all done name line v last (times (times o n a) count b) more w h =
     items_all done name line v last (times o n a) (kind.Fixed fixed.Comma ∷ kind.Literal (lit.Decimal count) ∷ kind.Fixed fixed.Open ∷ kind.Literal (lit.Byte b) ∷ kind.Fixed fixed.Close ∷ more) w tt
 
--- the pass behind a token of a global
+-- the pass after a token of a global
 abbrev go_row : Globals → List ℕ → Line → List ℕ → List Kind → Option (Row written) → Option (Passed written)
 go_row done name line w ks o = go w ks (option_map (λ (y : Row written). row done name line y) o)
 

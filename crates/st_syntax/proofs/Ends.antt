@@ -135,6 +135,6 @@ last_judged (item ∷ items) line q = by (judged (turn q item.kind) item.line) (
     by (Ok to) h = h to
     by (Err refused) h = tt
 
--- the state that is judged good behind the end of a text
+-- the state that is judged good after the end of a text
 pub ends_over : (items : List Lined) (line : Line) (q : State code) → judge start (items ++ end_on line ∷ []) ≡ Ok q → IsOver q
 ends_over items line q e = subst GoodOver e (last_judged items line start)

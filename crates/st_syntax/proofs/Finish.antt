@@ -48,7 +48,7 @@ semicolon = kind.Fixed fixed.Semicolon
 abbrev EndsIn : Unit_read → ℕ → List (Frame written) → Place written → List ℕ → Type 0
 EndsIn u d s p w = Ends (within_unit u d s p) w
 
--- the state behind some tokens is finished
+-- the state after some tokens is finished
 by_tokens : (front : List Kind) (q r : State written) (w v : List ℕ) → ((ks : List Kind) → passes written q w (front ++ ks) ≡ passes written r v ks) → Ends r v → Ends q w
 by_tokens front q r w v step e = record { more = front ++ e.more; text = e.text; levels = e.levels; reaches = step e.more ∙ e.reaches }
 
@@ -319,7 +319,7 @@ unit_read top f l = record { top = top; formals = f; locals = l }
 inside_ends : (top : Top written) (f l : Section Locals) (w : List ℕ) → Ends (inside top f l (no_spot written)) w
 inside_ends top f l w = statement_ends (unit_read top f l) 0 [] none w tt
 
--- the end word of a unit, directly behind its head
+-- the end word of a unit, directly after its head
 bare_end : (top : Top written) (f : Section Locals) (p : Bool) (w : List ℕ) → top.head.program ≡ p →
     passes written (formals_done top f) w (end_word p ∷ kind.Fixed fixed.End ∷ []) ≡ Some (record { state = over (with_unit top.text top.head f absent none); levels = 0 ∷ 0 ∷ w })
 bare_end top f true w e = unit_left top.text top.head f absent 0 none true (kind.Fixed fixed.End ∷ []) w e

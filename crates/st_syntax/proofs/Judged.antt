@@ -39,11 +39,11 @@ lt_false m n h = grind (arith, nat_tests)
 lt_true : (m n : ℕ) → m < n → nat_lt m n ≡ true
 lt_true m n h = grind (arith, nat_tests)
 
--- what comes of a token behind which a state is, by whether its level is too great
+-- what comes of a token after which a state is, by whether its level is too great
 abbrev by_level : Lined → List Lined → State code → Bool → Result (State code) Rejection
 by_level item back to deep = on_good (if deep then Err (Refused item.line TooDeep) else Ok to) (λ next_to. judge next_to back)
 
--- what comes of a token by what is behind it
+-- what comes of a token by what is after it
 abbrev by_turn : Lined → List Lined → Option (State code) → Result (State code) Rejection
 by_turn item back o = on_good (judged o item.line) (λ to. judge to back)
 
@@ -102,7 +102,7 @@ passes_source all source r = ap (λ (ks : List Kind). passes written start [] ks
 
 -- What a text is
 
--- a text's tokens are judged good, and the state behind them is its end
+-- a text's tokens are judged good, and the state after them is its end
 pub good_judged : (all : List Lined) (source : Source) → Reads (kinds all) source → AllWithin deepest (levels_source source) → judge start all ≡ Ok (bare (finished source))
 good_judged all source r h =
     let whole = passes_source (kinds all) source r in

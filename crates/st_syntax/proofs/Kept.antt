@@ -27,7 +27,7 @@ use Rattle.st_tree.specs.declared.expr.StType.TheVariants as type
 use Rattle.st_tree.specs.declared.raw.RawVar.{RawVar}
 use Rattle.st_tree.specs.declared.raw.RawVar.TheVariants as var
 
--- What a state has passed, before the tokens behind it
+-- What a state has passed, before the tokens after it
 
 abbrev open_kind : Kind
 open_kind = kind.Fixed fixed.Open

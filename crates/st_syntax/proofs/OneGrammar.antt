@@ -1,4 +1,4 @@
--- The grammar by binding strengths has the expressions of the forms that keep their brackets.
+-- The grammar by precedence levels has the expressions of the forms that keep their brackets.
 use Rattle.std.proofs.Common.{◌≡◌, ℕ, ◌-◌, ◌<◌, ◌≤◌, List, [], ◌∷◌, ◌++◌, refl, sym, ap, subst, ◌∙◌, arith, append_assoc}
 use Rattle.st_syntax.specs.Derives.{Derives, value, read, brackets, unary, binary, applied, shifted, selected, IsSpelled, bracketed, weakest, with_comma}
 use Rattle.st_syntax.specs.Forms.{Form, literal, variable, group, prefix, infix_of, apply, shift, select}
@@ -55,7 +55,7 @@ below_one j k p h = omega arith
 
 -- Tokens
 
--- what stands behind a part stands behind its tokens
+-- what stands after a part stands after its tokens
 abbrev Passes : (List Kind → List Kind) → Type 0
 Passes s = (more : List Kind) → s more ≡ s [] ++ more
 
@@ -101,7 +101,7 @@ passes (select f g h) more =
     in_brackets inner (kind.Fixed (fixed.Function function.Select))
     (listed (spell f) last (passes f) (listed (spell g) (to_close (spell h)) (passes g) (closed (spell h) (passes h)))) more
 
--- the tokens of parts with a bracket, an operator or commas behind them
+-- the tokens of parts with a bracket, an operator or commas after them
 with_close : (f : Form) → spell f (kind.Fixed fixed.Close ∷ []) ≡ spell f [] ++ kind.Fixed fixed.Close ∷ []
 with_close f = passes f (kind.Fixed fixed.Close ∷ [])
 

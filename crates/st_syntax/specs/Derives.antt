@@ -1,4 +1,4 @@
--- The grammar of expressions with one case for each binding strength.
+-- The grammar of expressions with one case for each precedence level.
 use Rattle.std.specs.Prelude.{◌≡◌, ℕ, ◌-◌, ◌≤◌, true, List, [], ◌∷◌, ◌++◌}
 use Rattle.s7_base.specs.declared.reason.Line.{Line}
 use Rattle.st_syntax.specs.Forms.{Form}
@@ -16,7 +16,7 @@ use Rattle.st_tree.specs.declared.raw.RawExpr.{RawExpr}
 use Rattle.st_tree.specs.declared.raw.RawExpr.TheVariants as expr
 use Rattle.st_tree.specs.declared.raw.RawVar.{RawVar}
 
--- the weakest level of binding, that of OR
+-- the lowest precedence, that of OR
 abbrev pub weakest : ℕ
 weakest = 9
 
@@ -28,22 +28,26 @@ bracketed ts = kind.Fixed fixed.Open ∷ (ts ++ kind.Fixed fixed.Close ∷ [])
 abbrev pub with_comma : List Kind → List Kind → List Kind
 with_comma ts us = ts ++ kind.Fixed fixed.Comma ∷ us
 
--- tokens are an expression that binds as strongly as a level asks, or more, and this is its tree
+-- tokens are an expression that binds as tightly as a level asks, or more, and this is its tree
 pub data Derives : ℕ → List Kind → RawExpr → Type 0 where
   value : {k : ℕ} {c : Literal} → is_value c ≡ true → Derives k (kind.Literal c ∷ []) (literal_tree c)
   read : {k : ℕ} {v : RawVar} {line : Line} → Derives k (kind.Variable v line ∷ []) (expr.Read v)
   brackets : {k : ℕ} {ts : List Kind} {e : RawExpr} → Derives weakest ts e → Derives k (bracketed ts) e
-  unary : {k : ℕ} {ts : List Kind} {e : RawExpr} (op : Prefix) → prefix_level op ≤ k → Derives (prefix_level op) ts e → Derives k (prefix_kind op ∷ ts) (prefix_tree op e)
-  binary : {k : ℕ} {ts us : List Kind} {e f : RawExpr} (op : BinaryOp) → infix_level op ≤ k → Derives (infix_level op) ts e → Derives (infix_level op - 1) us f →
+  unary : {k : ℕ} {ts : List Kind} {e : RawExpr} (op : Prefix) → prefix_level op ≤ k → Derives (prefix_level op) ts e
+      → Derives k (prefix_kind op ∷ ts) (prefix_tree op e)
+  binary : {k : ℕ} {ts us : List Kind} {e f : RawExpr} (op : BinaryOp) → infix_level op ≤ k
+      → Derives (infix_level op) ts e → Derives (infix_level op - 1) us f →
       Derives k (ts ++ kind.Fixed (fixed.Between op) ∷ us) (expr.Binary op e f)
   applied : {k : ℕ} {ts : List Kind} {e : RawExpr} (op : OneOperand) → Derives weakest ts e →
       Derives k (kind.Fixed (fixed.Function (function.One op)) ∷ bracketed ts) (apply_tree op e)
   shifted : {k : ℕ} {ts us : List Kind} {e f : RawExpr} (op : ShiftOp) → Derives weakest ts e → Derives weakest us f →
       Derives k (kind.Fixed (fixed.Function (function.Shift op)) ∷ bracketed (with_comma ts us)) (expr.Shift op e f)
-  selected : {k : ℕ} {ts us vs : List Kind} {e f g : RawExpr} → Derives weakest ts e → Derives weakest us f → Derives weakest vs g →
-      Derives k (kind.Fixed (fixed.Function function.Select) ∷ bracketed (with_comma ts (with_comma us vs))) (expr.Select e f g)
+  selected : {k : ℕ} {ts us vs : List Kind} {e f g : RawExpr} → Derives weakest ts e → Derives weakest us f
+      → Derives weakest vs g →
+      Derives k (kind.Fixed (fixed.Function function.Select) ∷ bracketed (with_comma ts (with_comma us vs)))
+      (expr.Select e f g)
 
--- tokens are those of a form that binds as strongly as a level asks, or more, and this is its tree
+-- tokens are those of a form that binds as tightly as a level asks, or more, and this is its tree
 pub record IsSpelled (k : ℕ) (ts : List Kind) (e : RawExpr) : Type 0 where
   pub form : Form
   pub binds : Binds form

@@ -33,7 +33,7 @@ pub data Labels : Type 0 where
   label : Literal → Labels
   more_labels : Labels → Literal → Labels
 
--- a statement without its `;`, and statements, each list with its last one outermost
+-- a statement without its `;`; of lists here the last item is the outermost
 mutual
   pub data Statement : Type 0 where
     assign : Line → RawVar → Form → Statement
@@ -46,6 +46,7 @@ mutual
     loop : Line → Form → Statements → Statement
     jump : Line → Jump → Statement
 
+  -- statements, each with its `;`; an empty one is its `;` alone
   pub data Statements : Type 0 where
     none : Statements
     empty : Statements → Statements

@@ -38,13 +38,15 @@ use Rattle.st_tree.specs.declared.raw.RawStmtKind.TheVariants as stmt
 use Rattle.st_tree.specs.declared.raw.RawVar.{RawVar}
 use Rattle.st_tree.specs.declared.raw.RawVar.TheVariants as var
 
--- The levels of binding, the strongest first: operands, brackets and functions 0, `-` 1, NOT 2,
+-- The levels of precedence, the highest first: operands, brackets and functions 0, `-` 1, NOT 2,
 -- `*` `/` MOD 3, `+` `-` 4, `<` `>` `<=` `>=` 5, `=` `<>` 6, AND 7, XOR 8, OR 9.
 
+-- the precedence of an operator before its operand, 0 the highest
 abbrev pub prefix_level : Prefix → ℕ
 prefix_level before.Minus = 1
 prefix_level before.Not = 2
 
+-- the precedence of an operator between its operands, 0 the highest
 abbrev pub infix_level : BinaryOp → ℕ
 infix_level binary.Mul = 3
 infix_level binary.Div = 3
@@ -61,7 +63,7 @@ infix_level binary.And = 7
 infix_level binary.Xor = 8
 infix_level binary.Or = 9
 
--- how weakly an expression binds: by its outermost operator that no brackets enclose
+-- the precedence of an expression: that of its outermost operator that no brackets enclose
 abbrev pub level : Form → ℕ
 level (literal c) = 0
 level (variable v line) = 0
@@ -80,7 +82,7 @@ is_value (lit.Decimal n) = nat_le n 2147483647
 is_value (lit.Byte b) = true
 is_value (lit.Typed ty n) = true
 
--- each operand binds as strongly as its place asks; operators between operands group to the left
+-- each operand binds as tightly as its place asks; operators between operands group to the left
 abbrev pub Binds : Form → Type 0
 Binds (literal c) = is_value c ≡ true
 Binds (variable v line) = Unit {0}
@@ -125,15 +127,18 @@ abbrev mutual
   Fits inside (loop line e body) = Binds e × AllFit true body
   Fits inside (jump line word) = may_jump inside word ≡ true
 
+  -- each of some statements is of the language
   pub AllFit : Bool → Statements → Type 0
   AllFit inside none = Unit {0}
   AllFit inside (empty before) = AllFit inside before
   AllFit inside (further before s) = AllFit inside before × Fits inside s
 
+  -- each arm of an IF has a test and statements of the language
   pub ArmsFit : Bool → Arms → Type 0
   ArmsFit inside no_arm = Unit {0}
   ArmsFit inside (arm others e body) = ArmsFit inside others × Binds e × AllFit inside body
 
+  -- each arm of a CASE has labels and statements of the language
   pub CasesFit : Bool → CaseArms → Type 0
   CasesFit inside no_case = Unit {0}
   CasesFit inside (case_arm others labels body) = CasesFit inside others × LabelsFit labels × AllFit inside body
@@ -148,6 +153,7 @@ abbrev pub is_global : List ℕ → GlobalType → Bool
 is_global name (plain ty) = is_free name
 is_global name (bytes last items) = names_block name
 
+-- each global stands at a direct variable, and its name goes with what is declared
 abbrev pub GlobalsFit : Globals → Type 0
 GlobalsFit no_global = Unit {0}
 GlobalsFit (global others name line v place ty) = GlobalsFit others × (is_direct v ≡ true) × (is_global name ty ≡ true)
@@ -157,10 +163,12 @@ abbrev pub is_formal_type : StType → Bool
 is_formal_type type.Lint = false
 is_formal_type other = true
 
+-- each formal has a free name and a type that a formal may have
 abbrev pub FormalsFit : Locals → Type 0
 FormalsFit no_local = Unit {0}
 FormalsFit (local others name line ty) = FormalsFit others × (is_free name ≡ true) × (is_formal_type ty ≡ true)
 
+-- each local is named `NEXT` or by a free name
 abbrev pub LocalsFit : Locals → Type 0
 LocalsFit no_local = Unit {0}
 LocalsFit (local others name line ty) = LocalsFit others × (may_name_local name ≡ true)
@@ -175,43 +183,54 @@ abbrev pub HeadFits : Bool → Section Locals → Type 0
 HeadFits program absent = Unit {0}
 HeadFits program (present formals) = (program ≡ false) × FormalsFit formals
 
+-- each unit has a name that a unit may have, sections that may stand in it, and statements of the
+-- language
 abbrev pub UnitsFit : Units → Type 0
 UnitsFit no_unit = Unit {0}
 UnitsFit (unit others head formals locals body) =
-    UnitsFit others × (may_name_unit head.name ≡ true) × HeadFits head.program formals × IfPresent LocalsFit locals × AllFit false body
+    UnitsFit others × (may_name_unit head.name ≡ true) × HeadFits head.program formals
+    × IfPresent LocalsFit locals × AllFit false body
 
+-- a whole text is of the language
 abbrev pub SourceFits : Source → Type 0
 SourceFits source = IfPresent GlobalsFit source.globals × UnitsFit source.units
 
--- What is spelled: each form before the tokens behind it
+-- What is spelled: each form before the tokens after it
 
+-- the token of an operator before its operand
 abbrev pub prefix_kind : Prefix → Kind
 prefix_kind before.Minus = kind.Fixed (fixed.Between binary.Sub)
 prefix_kind before.Not = kind.Fixed fixed.Not
 
+-- the tokens of an expression, before those after it
 abbrev pub spell : Form → List Kind → List Kind
 spell (literal c) more = kind.Literal c ∷ more
 spell (variable v line) more = kind.Variable v line ∷ more
 spell (group f) more = kind.Fixed fixed.Open ∷ spell f (kind.Fixed fixed.Close ∷ more)
 spell (prefix op f) more = prefix_kind op ∷ spell f more
 spell (infix_of op f g) more = spell f (kind.Fixed (fixed.Between op) ∷ spell g more)
-spell (apply op f) more = kind.Fixed (fixed.Function (function.One op)) ∷ kind.Fixed fixed.Open ∷ spell f (kind.Fixed fixed.Close ∷ more)
+spell (apply op f) more =
+    kind.Fixed (fixed.Function (function.One op)) ∷ kind.Fixed fixed.Open ∷ spell f (kind.Fixed fixed.Close ∷ more)
 spell (shift op f g) more =
-    kind.Fixed (fixed.Function (function.Shift op)) ∷ kind.Fixed fixed.Open ∷ spell f (kind.Fixed fixed.Comma ∷ spell g (kind.Fixed fixed.Close ∷ more))
+    kind.Fixed (fixed.Function (function.Shift op)) ∷ kind.Fixed fixed.Open
+    ∷ spell f (kind.Fixed fixed.Comma ∷ spell g (kind.Fixed fixed.Close ∷ more))
 spell (select f g h) more =
     kind.Fixed (fixed.Function function.Select) ∷ kind.Fixed fixed.Open
     ∷ spell f (kind.Fixed fixed.Comma ∷ spell g (kind.Fixed fixed.Comma ∷ spell h (kind.Fixed fixed.Close ∷ more)))
 
--- a comma behind the actuals before the next one
+-- a comma after the actuals, before the next one
 abbrev pub comma_behind : Actuals → List Kind → List Kind
 comma_behind no_actual more = more
 comma_behind (actual others name line v place) more = kind.Fixed fixed.Comma ∷ more
 
+-- the tokens of a call's actuals, formal `:=` variable, with commas between them
 abbrev pub spell_actuals : Actuals → List Kind → List Kind
 spell_actuals no_actual more = more
 spell_actuals (actual others name line v place) more =
-    spell_actuals others (comma_behind others (kind.Variable (var.Name name) line ∷ kind.Fixed fixed.Becomes ∷ kind.Variable v place ∷ more))
+    spell_actuals others
+    (comma_behind others (kind.Variable (var.Name name) line ∷ kind.Fixed fixed.Becomes ∷ kind.Variable v place ∷ more))
 
+-- the tokens of an arm's labels, with commas between them
 abbrev pub spell_labels : Labels → List Kind → List Kind
 spell_labels (label c) more = kind.Literal c ∷ more
 spell_labels (more_labels others c) more = spell_labels others (kind.Fixed fixed.Comma ∷ kind.Literal c ∷ more)
@@ -221,120 +240,157 @@ abbrev pub arm_word : Line → Arms → Kind
 arm_word line no_arm = kind.Lead lead.If line
 arm_word line (arm others e body) = kind.Fixed fixed.Elsif
 
+-- the tokens of statements, before those after them
 abbrev mutual
   pub spell_one : Statement → List Kind → List Kind
   spell_one (assign line v e) more = kind.Variable v line ∷ kind.Fixed fixed.Becomes ∷ spell e more
   spell_one (write line w p e) more =
-      kind.Lead (lead.AreaWrite w) line ∷ kind.Fixed fixed.Open ∷ spell p (kind.Fixed fixed.Comma ∷ spell e (kind.Fixed fixed.Close ∷ more))
+      kind.Lead (lead.AreaWrite w) line ∷ kind.Fixed fixed.Open
+      ∷ spell p (kind.Fixed fixed.Comma ∷ spell e (kind.Fixed fixed.Close ∷ more))
   spell_one (invoke line name actuals) more =
       kind.Variable (var.Name name) line ∷ kind.Fixed fixed.Open ∷ spell_actuals actuals (kind.Fixed fixed.Close ∷ more)
   spell_one (choice line arms) more = spell_arms line arms (kind.Fixed fixed.EndIf ∷ more)
-  spell_one (choice_else line arms body) more = spell_arms line arms (kind.Fixed fixed.Else ∷ spell_all body (kind.Fixed fixed.EndIf ∷ more))
-  spell_one (cases line e arms) more = kind.Lead lead.Case line ∷ spell e (kind.Fixed fixed.Of ∷ spell_cases arms (kind.Fixed fixed.EndCase ∷ more))
+  spell_one (choice_else line arms body) more =
+      spell_arms line arms (kind.Fixed fixed.Else ∷ spell_all body (kind.Fixed fixed.EndIf ∷ more))
+  spell_one (cases line e arms) more =
+      kind.Lead lead.Case line ∷ spell e (kind.Fixed fixed.Of ∷ spell_cases arms (kind.Fixed fixed.EndCase ∷ more))
   spell_one (cases_else line e arms body) more =
       kind.Lead lead.Case line
-      ∷ spell e (kind.Fixed fixed.Of ∷ spell_cases arms (kind.Fixed fixed.Else ∷ spell_all body (kind.Fixed fixed.EndCase ∷ more)))
-  spell_one (loop line e body) more = kind.Lead lead.While line ∷ spell e (kind.Fixed fixed.Do ∷ spell_all body (kind.Fixed fixed.EndWhile ∷ more))
+      ∷ spell e
+      (kind.Fixed fixed.Of
+      ∷ spell_cases arms (kind.Fixed fixed.Else ∷ spell_all body (kind.Fixed fixed.EndCase ∷ more)))
+  spell_one (loop line e body) more =
+      kind.Lead lead.While line ∷ spell e (kind.Fixed fixed.Do ∷ spell_all body (kind.Fixed fixed.EndWhile ∷ more))
   spell_one (jump line word) more = kind.Lead (lead.Jump word) line ∷ more
 
+  -- statements in their order, each with its `;`; an empty one is its `;` alone
   pub spell_all : Statements → List Kind → List Kind
   spell_all none more = more
   spell_all (empty before) more = spell_all before (kind.Fixed fixed.Semicolon ∷ more)
   spell_all (further before s) more = spell_all before (spell_one s (kind.Fixed fixed.Semicolon ∷ more))
 
+  -- the arms of an IF that begins on a line: word, test, THEN and statements
   pub spell_arms : Line → Arms → List Kind → List Kind
   spell_arms line no_arm more = more
-  spell_arms line (arm others e body) more = spell_arms line others (arm_word line others ∷ spell e (kind.Fixed fixed.Then ∷ spell_all body more))
+  spell_arms line (arm others e body) more =
+      spell_arms line others (arm_word line others ∷ spell e (kind.Fixed fixed.Then ∷ spell_all body more))
 
+  -- the arms of a CASE: labels, `:` and statements
   pub spell_cases : CaseArms → List Kind → List Kind
   spell_cases no_case more = more
-  spell_cases (case_arm others labels body) more = spell_cases others (spell_labels labels (kind.Fixed fixed.Colon ∷ spell_all body more))
+  spell_cases (case_arm others labels body) more =
+      spell_cases others (spell_labels labels (kind.Fixed fixed.Colon ∷ spell_all body more))
 
--- a comma behind the bytes before the next ones
+-- a comma after the bytes, before the next ones
 abbrev pub comma_past : Items → List Kind → List Kind
 comma_past no_item more = more
 comma_past (single others b) more = kind.Fixed fixed.Comma ∷ more
 comma_past (times others count b) more = kind.Fixed fixed.Comma ∷ more
 
+-- the tokens of the bytes of a data block, `16#0A` or `3(16#0A)`, with commas between them
 abbrev pub spell_items : Items → List Kind → List Kind
 spell_items no_item more = more
 spell_items (single others b) more = spell_items others (comma_past others (kind.Literal (lit.Byte b) ∷ more))
 spell_items (times others count b) more =
-    spell_items others (comma_past others (kind.Literal (lit.Decimal count) ∷ kind.Fixed fixed.Open ∷ kind.Literal (lit.Byte b) ∷ kind.Fixed fixed.Close ∷ more))
+    spell_items others
+    (comma_past others
+    (kind.Literal (lit.Decimal count) ∷ kind.Fixed fixed.Open ∷ kind.Literal (lit.Byte b)
+    ∷ kind.Fixed fixed.Close ∷ more))
 
 -- `:=` and the bytes in square brackets, if there are any
 abbrev pub spell_initial : Items → List Kind → List Kind
 spell_initial no_item more = more
-spell_initial items more = kind.Fixed fixed.Becomes ∷ kind.Fixed fixed.OpenSquare ∷ spell_items items (kind.Fixed fixed.CloseSquare ∷ more)
+spell_initial items more =
+    kind.Fixed fixed.Becomes ∷ kind.Fixed fixed.OpenSquare ∷ spell_items items (kind.Fixed fixed.CloseSquare ∷ more)
 
--- `ARRAY[0..k] OF BYTE` before the tokens behind it
+-- `ARRAY[0..k] OF BYTE` before the tokens after it
 abbrev pub spell_array : ℕ → List Kind → List Kind
 spell_array last more =
-    kind.Fixed fixed.Array ∷ kind.Fixed fixed.OpenSquare ∷ kind.Literal (lit.Decimal 0) ∷ kind.Fixed fixed.Dots ∷ kind.Literal (lit.Decimal last)
+    kind.Fixed fixed.Array ∷ kind.Fixed fixed.OpenSquare ∷ kind.Literal (lit.Decimal 0) ∷ kind.Fixed fixed.Dots
+    ∷ kind.Literal (lit.Decimal last)
     ∷ kind.Fixed fixed.CloseSquare ∷ kind.Fixed fixed.Of ∷ kind.Fixed (fixed.Type type.Byte) ∷ more
 
+-- the tokens of a global's type, for a data block with its bytes
 abbrev pub spell_type : GlobalType → List Kind → List Kind
 spell_type (plain ty) more = kind.Fixed (fixed.Type ty) ∷ more
 spell_type (bytes last items) more = spell_array last (spell_initial items more)
 
+-- the tokens of globals: name, AT, place, `:`, type and `;`
 abbrev pub spell_globals : Globals → List Kind → List Kind
 spell_globals no_global more = more
 spell_globals (global others name line v place ty) more =
-    spell_globals others (kind.Variable (var.Name name) line ∷ kind.Fixed fixed.At ∷ kind.Variable v place ∷ kind.Fixed fixed.Colon ∷ spell_type ty (kind.Fixed fixed.Semicolon ∷ more))
+    spell_globals others
+    (kind.Variable (var.Name name) line ∷ kind.Fixed fixed.At ∷ kind.Variable v place ∷ kind.Fixed fixed.Colon
+    ∷ spell_type ty (kind.Fixed fixed.Semicolon ∷ more))
 
+-- the tokens of formals or locals: name, `:`, type and `;`
 abbrev pub spell_locals : Locals → List Kind → List Kind
 spell_locals no_local more = more
 spell_locals (local others name line ty) more =
-    spell_locals others (kind.Variable (var.Name name) line ∷ kind.Fixed fixed.Colon ∷ kind.Fixed (fixed.Type ty) ∷ kind.Fixed fixed.Semicolon ∷ more)
+    spell_locals others
+    (kind.Variable (var.Name name) line ∷ kind.Fixed fixed.Colon ∷ kind.Fixed (fixed.Type ty)
+    ∷ kind.Fixed fixed.Semicolon ∷ more)
 
 -- a section from its word to END_VAR, if it is there
 abbrev pub spell_section : {X : Type 0} → Kind → (X → List Kind → List Kind) → Section X → List Kind → List Kind
 spell_section word spelled absent more = more
 spell_section word spelled (present x) more = word ∷ spelled x (kind.Fixed fixed.EndVar ∷ more)
 
+-- the first word of a unit: PROGRAM or FUNCTION, with its line
 abbrev pub unit_word : Bool → Line → Kind
 unit_word true line = kind.Lead lead.Program line
 unit_word false line = kind.Lead lead.Function line
 
+-- the last word of a unit: END_PROGRAM or END_FUNCTION
 abbrev pub end_word : Bool → Kind
 end_word true = kind.Fixed fixed.EndProgram
 end_word false = kind.Fixed fixed.EndFunction
 
+-- the tokens of the section VAR_IN_OUT of a function, if it is there
 abbrev pub spell_formals : Section Locals → List Kind → List Kind
 spell_formals formals more = spell_section (kind.Fixed fixed.VarInOut) spell_locals formals more
 
+-- the tokens of the section VAR_TEMP of a unit, if it is there
 abbrev pub spell_temps : Section Locals → List Kind → List Kind
 spell_temps locals more = spell_section (kind.Fixed fixed.VarTemp) spell_locals locals more
 
+-- the tokens of a unit's heading: its first word and its name
 abbrev pub spell_head : Head → List Kind → List Kind
 spell_head head more = unit_word head.program head.line ∷ kind.Variable (var.Name head.name) head.place ∷ more
 
+-- the tokens of units: heading, sections, statements and end word
 abbrev pub spell_units : Units → List Kind → List Kind
 spell_units no_unit more = more
 spell_units (unit others head formals locals body) more =
-    spell_units others (spell_head head (spell_formals formals (spell_temps locals (spell_all body (end_word head.program ∷ more)))))
+    spell_units others
+    (spell_head head (spell_formals formals (spell_temps locals (spell_all body (end_word head.program ∷ more)))))
 
 -- the whole text, with its end
 abbrev pub spell_source : Source → List Kind
-spell_source source = spell_section (kind.Fixed fixed.VarGlobal) spell_globals source.globals (spell_units source.units (kind.Fixed fixed.End ∷ []))
+spell_source source =
+    spell_section (kind.Fixed fixed.VarGlobal) spell_globals source.globals
+    (spell_units source.units (kind.Fixed fixed.End ∷ []))
 
 -- Trees
 
--- the type and the value of a literal
+-- a literal as an expression: a decimal is a DINT, a byte is a DWORD
 abbrev pub literal_tree : Literal → RawExpr
 literal_tree (lit.Decimal n) = expr.Literal type.Dint (pos n)
 literal_tree (lit.Byte b) = expr.Literal type.Dword (pos b)
 literal_tree (lit.Typed ty n) = expr.Literal ty n
 
+-- a label as its type and its value: a decimal is a DINT, a byte is a DWORD
 abbrev pub label_tree : Literal → StType × ℤ
 label_tree (lit.Decimal n) = (type.Dint, pos n)
 label_tree (lit.Byte b) = (type.Dword, pos b)
 label_tree (lit.Typed ty n) = (ty, n)
 
+-- `-` or NOT on an expression
 abbrev pub prefix_tree : Prefix → RawExpr → RawExpr
 prefix_tree before.Minus e = expr.Unary unary.Minus e
 prefix_tree before.Not e = expr.Unary unary.Not e
 
+-- a function of one operand on an expression
 abbrev pub apply_tree : OneOperand → RawExpr → RawExpr
 apply_tree (one.Convert from to) e = expr.Convert from to e
 apply_tree one.BcdToInt e = expr.Unary unary.BcdToInt e
@@ -352,14 +408,17 @@ tree (apply op f) = apply_tree op (tree f)
 tree (shift op f g) = expr.Shift op (tree f) (tree g)
 tree (select f g h) = expr.Select (tree f) (tree g) (tree h)
 
+-- the actuals of a call, each its formal's name and its variable, in the order of the text
 abbrev pub tree_actuals : Actuals → List (List ℕ × RawVar)
 tree_actuals no_actual = []
 tree_actuals (actual others name line v place) = tree_actuals others ++ (name, v) ∷ []
 
+-- the labels of an arm in the order of the text, with their types
 abbrev pub tree_labels : Labels → List (StType × ℤ)
 tree_labels (label c) = label_tree c ∷ []
 tree_labels (more_labels others c) = tree_labels others ++ label_tree c ∷ []
 
+-- EXIT, CONTINUE or RETURN
 abbrev pub jump_tree : Jump → RawStmtKind
 jump_tree jump_word.Exit = stmt.Exit
 jump_tree jump_word.Continue = stmt.Continue
@@ -369,14 +428,15 @@ jump_tree jump_word.Return = stmt.Return
 abbrev pub on_line : Line → RawStmtKind → RawStmt
 on_line line what = record { line = line; kind = what }
 
--- arms with their statements
+-- an arm of an IF, with its statements
 abbrev pub arm_of : RawExpr → List RawStmt → RawArm
 arm_of test body = roll-RawArm (record { test = test; body = body })
 
+-- an arm of a CASE, with its statements
 abbrev pub case_of : List (StType × ℤ) → List RawStmt → RawCaseArm
 case_of labels body = roll-RawCaseArm (record { labels = labels; body = body })
 
--- empty statements and an empty ELSE count as nothing
+-- the trees of statements; empty statements and an empty ELSE count as nothing
 abbrev mutual
   pub tree_one : Statement → RawStmt
   tree_one (assign line v e) = on_line line (stmt.Assign v (tree e))
@@ -389,15 +449,18 @@ abbrev mutual
   tree_one (loop line e body) = on_line line (stmt.While (tree e) (tree_all body))
   tree_one (jump line word) = on_line line (jump_tree word)
 
+  -- statements in the order of the text
   pub tree_all : Statements → List RawStmt
   tree_all none = []
   tree_all (empty before) = tree_all before
   tree_all (further before s) = tree_all before ++ tree_one s ∷ []
 
+  -- the arms of an IF in the order of the text
   pub tree_arms : Arms → List RawArm
   tree_arms no_arm = []
   tree_arms (arm others e body) = tree_arms others ++ arm_of (tree e) (tree_all body) ∷ []
 
+  -- the arms of a CASE in the order of the text
   pub tree_cases : CaseArms → List RawCaseArm
   tree_cases no_case = []
   tree_cases (case_arm others labels body) = tree_cases others ++ case_of (tree_labels labels) (tree_all body) ∷ []
@@ -408,14 +471,18 @@ tree_items no_item = []
 tree_items (single others b) = tree_items others ++ (1, b) ∷ []
 tree_items (times others count b) = tree_items others ++ (count, b) ∷ []
 
+-- the type of a global, for a data block its last index and its bytes
 abbrev pub tree_type : GlobalType → RawGlobalType
 tree_type (plain ty) = global_type.Plain ty
 tree_type (bytes last items) = global_type.Bytes last (tree_items items)
 
+-- the globals of a text in their order, data blocks among them
 abbrev pub tree_globals : Globals → List RawGlobal
 tree_globals no_global = []
-tree_globals (global others name line v place ty) = tree_globals others ++ record { name = name; line = line; at = v; ty = tree_type ty } ∷ []
+tree_globals (global others name line v place ty) =
+    tree_globals others ++ record { name = name; line = line; at = v; ty = tree_type ty } ∷ []
 
+-- the formals or the locals of a unit in their order
 abbrev pub tree_locals : Locals → List RawLocal
 tree_locals no_local = []
 tree_locals (local others name line ty) = tree_locals others ++ record { name = name; line = line; ty = ty } ∷ []
@@ -425,11 +492,20 @@ abbrev pub held : {X Y : Type 0} → (X → List Y) → Section X → List Y
 held trees absent = []
 held trees (present x) = trees x
 
+-- the units of a text in their order
 abbrev pub tree_units : Units → List RawPou
 tree_units no_unit = []
 tree_units (unit others head formals locals body) =
     tree_units others
-    ++ record { program = head.program; name = head.name; line = head.line; formals = held tree_locals formals; locals = held tree_locals locals; body = tree_all body } ∷ []
+    ++ record {
+      program = head.program;
+      name = head.name;
+      line = head.line;
+      formals = held tree_locals formals;
+      locals = held tree_locals locals;
+      body = tree_all body;
+    } ∷ []
 
+-- the tree of a whole text before its names are looked up
 abbrev pub raw_tree : Source → RawSt
 raw_tree source = record { globals = held tree_globals source.globals; pous = tree_units source.units }

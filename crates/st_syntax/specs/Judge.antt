@@ -14,31 +14,35 @@ use Rattle.st_syntax.specs.declared.state.State.{State as Found}
 
 -- the code's state, one step and its level, each kept shut so that proofs of the whole don't open them
 
+-- where the code stands in a text, as a state of the pass
 unfoldable pub seen : Found → State code
 seen state = state_of state
 
+-- the state after one more token, if the token can follow
 unfoldable pub turn : State code → Kind → Option (State code)
 turn q k = next code q k
 
+-- the level that the last token made
 unfoldable pub reached : State code → ℕ
 reached q = mark code q
 
--- the state behind a token on a line, if the token can follow and makes no level too many
+-- the state after a token on a line, if the token can follow and makes no level too many
 abbrev pub judged : Option (State code) → Line → Result (State code) Rejection
 judged None line = Err (Refused line BadSyntax)
 judged (Some to) line = if nat_lt deepest (reached to) then Err (Refused line TooDeep) else Ok to
 
 -- what comes of a judgement
-abbrev pub on_good : Result (State code) Rejection → (State code → Result (State code) Rejection) → Result (State code) Rejection
+abbrev pub on_good : Result (State code) Rejection → (State code → Result (State code) Rejection)
+    → Result (State code) Rejection
 on_good (Ok to) on = on to
 on_good (Err refused) on = Err refused
 
--- the state behind tokens, or the first refusal
+-- the state after tokens, or the first refusal
 abbrev pub judge : State code → List Lined → Result (State code) Rejection
 judge q [] = Ok q
 judge q (item ∷ items) = on_good (judged (turn q item.kind) item.line) (λ to. judge to items)
 
--- the whole text, if a state is behind its end
+-- the whole text, if a state is after its end
 abbrev pub text_in : State code → Option (Before code)
 text_in (over text) = Some text
 text_in other = None
@@ -48,7 +52,7 @@ abbrev pub HasText : Result (State code) Rejection → Before code → Type 0
 HasText (Ok q) text = text_in q ≡ Some text
 HasText (Err refused) text = ⊥
 
--- the code's answer is the judgement, or want of memory
+-- the code's answer is the judgement, or memory ran out
 abbrev pub JudgedIs : State code → Option Rejection → Result (State code) Rejection → Type 0
 JudgedIs state None given = given ≡ Ok state
 JudgedIs state (Some (Refused line reason)) given = given ≡ Err (Refused line reason)

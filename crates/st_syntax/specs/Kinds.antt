@@ -37,6 +37,7 @@ use Rattle.st_tree.specs.declared.raw.RawVar.TheVariants as var
 
 -- Spellings
 
+-- the word of a type
 abbrev pub type_text : StType → List ℕ
 type_text type.Bool = codes "BOOL"
 type_text type.Byte = codes "BYTE"
@@ -46,6 +47,7 @@ type_text type.Int = codes "INT"
 type_text type.Dint = codes "DINT"
 type_text type.Lint = codes "LINT"
 
+-- the word or the sign of an operator between operands
 abbrev pub operator_text : BinaryOp → List ℕ
 operator_text binary.Mul = codes "*"
 operator_text binary.Div = codes "/"
@@ -62,6 +64,7 @@ operator_text binary.And = codes "AND"
 operator_text binary.Xor = codes "XOR"
 operator_text binary.Or = codes "OR"
 
+-- the word of a shift or a rotation
 abbrev pub shift_text : ShiftOp → List ℕ
 shift_text shift_op.Shl = codes "SHL"
 shift_text shift_op.Shr = codes "SHR"
@@ -78,6 +81,7 @@ one_text (one.AreaRead width.Byte) = codes "AREA_READ_B"
 one_text (one.AreaRead width.Word) = codes "AREA_READ_W"
 one_text (one.AreaRead width.Dword) = codes "AREA_READ_D"
 
+-- a word or a sign that begins no statement, as it is written; the end of a text has no characters
 abbrev pub fixed_text : Fixed → List ℕ
 fixed_text fixed.VarGlobal = codes "VAR_GLOBAL"
 fixed_text fixed.VarInOut = codes "VAR_IN_OUT"
@@ -112,6 +116,7 @@ fixed_text fixed.CloseSquare = codes "]"
 fixed_text fixed.Dots = codes ".."
 fixed_text fixed.End = []
 
+-- a word that a statement or a unit begins with, as it is written
 abbrev pub lead_text : Lead → List ℕ
 lead_text lead.If = codes "IF"
 lead_text lead.Case = codes "CASE"
@@ -126,6 +131,7 @@ lead_text (lead.AreaWrite width.Dword) = codes "AREA_WRITE_D"
 lead_text lead.Program = codes "PROGRAM"
 lead_text lead.Function = codes "FUNCTION"
 
+-- a word of the language, as it is written
 unfoldable pub word_text : Word → List ℕ
 word_text (word.Fixed f) = fixed_text f
 word_text (word.Lead l) = lead_text l
@@ -146,16 +152,18 @@ sign_named text = find (λ entry. is_same_word text (fixed_text entry)) SIGNS
 abbrev pub are_digits : List ℕ → Bool
 are_digits text = nat_lt 0 (length text) && list_all (λ b. is_between 48 57 b) text
 
--- two letters in any case, and a number behind them
+-- two letters in any case, and a number after them
 abbrev pub is_numbered : List ℕ → List ℕ → Bool
 is_numbered letters name = is_same_word (take 2 name) letters && are_digits (drop 2 name)
 
 -- the variables that need no declaration
 abbrev pub register_names : List (List ℕ)
 register_names =
-    codes "ACCU1" ∷ codes "ACCU2" ∷ codes "AR1" ∷ codes "AR2" ∷ codes "DBNO" ∷ codes "DINO" ∷ codes "NFC" ∷ codes "RLO" ∷ codes "STA" ∷ codes "ORB"
+    codes "ACCU1" ∷ codes "ACCU2" ∷ codes "AR1" ∷ codes "AR2" ∷ codes "DBNO" ∷ codes "DINO" ∷ codes "NFC"
+    ∷ codes "RLO" ∷ codes "STA" ∷ codes "ORB"
     ∷ codes "OS" ∷ codes "OV" ∷ codes "CC0" ∷ codes "CC1" ∷ codes "BR" ∷ []
 
+-- the name of a register variable, in any case
 abbrev pub is_register : List ℕ → Bool
 is_register name = is_among register_names name
 
@@ -200,6 +208,7 @@ conversion_between type.Dint type.Dint = None
 conversion_between type.Lint type.Lint = None
 conversion_between from to = Some (one.Convert from to)
 
+-- the conversion between what stands on either side of `_TO_`, where both are types
 abbrev pub conversion_of_types : Option StType → Option StType → Option OneOperand
 conversion_of_types (Some from) (Some to) = conversion_between from to
 conversion_of_types from to = None
@@ -221,6 +230,7 @@ abbrev pub truth : Bool → Kind
 truth true = kind.Literal (literal.Typed type.Bool (pos 1))
 truth false = kind.Literal (literal.Typed type.Bool (pos 0))
 
+-- what a word of the language stands for; one that a statement or a unit begins with keeps its line
 abbrev pub kind_of_word : Word → Line → Kind
 kind_of_word (word.Fixed f) line = kind.Fixed f
 kind_of_word (word.Lead l) line = kind.Lead l line
@@ -243,6 +253,7 @@ abbrev pub sign_kind : Option Fixed → List ℕ → Kind
 sign_kind (Some f) text = kind.Fixed f
 sign_kind None text = if is_same_word text (codes "&") then kind.Fixed (fixed.Between binary.And) else kind.Misfit
 
+-- a direct variable as a variable at its place, on its line
 abbrev pub direct_kind : Option Direct → Line → Kind
 direct_kind None line = kind.Misfit
 direct_kind (Some d) line = kind.Variable (var.Direct d.area d.block d.width d.byte d.bit) line
@@ -261,11 +272,16 @@ typed_kind found = if is_in_range found then kind.Literal (literal.Typed found.k
 abbrev pub decimal_kind : ℕ → Kind
 decimal_kind n = kind.Literal (literal.Decimal (min n (2 ^ 32 - 1)))
 
+-- a literal by the base of the number at its front: `5` is a decimal, `16#0A` with two digits may be a
+-- byte of a data block, and any other has its type
 abbrev pub literal_kind : Base → List ℕ → Found → Kind
-literal_kind base.Ten text found = if begins_with_digit base.Ten text then decimal_kind found.number else typed_kind found
-literal_kind base.Sixteen text found = if are_two_digits (drop 3 text) then kind.Literal (literal.Byte (min found.number 255)) else typed_kind found
+literal_kind base.Ten text found =
+    if begins_with_digit base.Ten text then decimal_kind found.number else typed_kind found
+literal_kind base.Sixteen text found =
+    if are_two_digits (drop 3 text) then kind.Literal (literal.Byte (min found.number 255)) else typed_kind found
 literal_kind to text found = typed_kind found
 
+-- the text of a literal as what it stands for
 abbrev pub number_kind : Option Found → List ℕ → Kind
 number_kind None text = kind.Misfit
 number_kind (Some found) text = literal_kind (base_at text) text found
@@ -277,5 +293,6 @@ text_kind sort.Direct text line = direct_kind (direct_of text) line
 text_kind sort.Literal text line = number_kind (literal_at text) text
 text_kind sort.Sign text line = sign_kind (sign_named text) text
 
+-- what a token stands for in the grammar
 abbrev pub kind_of : StToken → Kind
 kind_of token = text_kind token.kind token.text token.line

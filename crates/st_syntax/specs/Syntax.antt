@@ -22,6 +22,7 @@ pub record Lined : Type 0 where
   pub kind : Kind
   pub line : Line
 
+-- what a token stands for, with its line
 abbrev pub lined : StToken → Lined
 lined token = record { kind = kind_of token; line = token.line }
 
@@ -33,6 +34,7 @@ end_on line = record { kind = kind.Fixed fixed.End; line = line }
 abbrev pub all_lined : List StToken → Line → List Lined
 all_lined tokens line = map lined tokens ++ end_on line ∷ []
 
+-- what tokens stand for, without their lines
 abbrev pub kinds : List Lined → List Kind
 kinds items = map (λ (item : Lined). item.kind) items
 
@@ -87,7 +89,8 @@ pub record FirstDeep (all : List Lined) (line : Line) : Type 0 where
 
 -- the text has these tokens
 abbrev pub HasLined : List ℕ → List Lined → Type 0
-HasLined bytes all = (tokens : List StToken) × (tokens_of bytes ≡ Ok tokens) × (all_lined tokens (line_at_end bytes) ≡ all)
+HasLined bytes all =
+    (tokens : List StToken) × (tokens_of bytes ≡ Ok tokens) × (all_lined tokens (line_at_end bytes) ≡ all)
 
 -- the text reads as this tree
 pub record HasRawTree (bytes : List ℕ) (raw : RawSt) : Type 0 where

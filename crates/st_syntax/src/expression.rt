@@ -24,12 +24,14 @@ pub fn one_more(number: usize) -> Result<usize, NoMemory>
     number.checked_add(1).ok_or(NoMemory)
 }
 
+/// One level less.
 pub fn shallower(depth: usize) -> usize
     ensures { result ≡ shallower depth }
 {
     depth.saturating_sub(1)
 }
 
+/// The precedence of an operator before its operand, 0 the highest.
 pub fn prefix_level(op: Prefix) -> u32
     ensures { result ≡ prefix_level op }
 {
@@ -39,6 +41,7 @@ pub fn prefix_level(op: Prefix) -> u32
     }
 }
 
+/// The precedence of an operator between its operands, 0 the highest.
 pub fn infix_level(op: BinaryOp) -> u32
     ensures { result ≡ infix_level op }
 {
@@ -74,6 +77,7 @@ pub fn label_of(literal: Literal) -> (StType, i64)
     }
 }
 
+/// A literal as an expression.
 pub fn of_literal(literal: Literal) -> Measured
     ensures { result ≡ of_literal code literal }
 {
@@ -84,6 +88,7 @@ pub fn of_literal(literal: Literal) -> Measured
     }
 }
 
+/// A variable that is read.
 pub fn of_variable(var: RawVar, line: Line) -> Measured
     ensures { result ≡ of_variable code var line }
 {
@@ -93,6 +98,7 @@ pub fn of_variable(var: RawVar, line: Line) -> Measured
     }
 }
 
+/// `-` or NOT on an operand.
 pub fn of_prefix(alloc: Global, op: Prefix, operand: Measured) -> Result<Measured, NoMemory>
     ensures { IfOk result (λ whole. whole ≡ of_prefix code op operand) }
 {
@@ -105,6 +111,7 @@ pub fn of_prefix(alloc: Global, op: Prefix, operand: Measured) -> Result<Measure
     Ok(Measured { tree, height })
 }
 
+/// An operator between two operands.
 pub fn of_infix(
     alloc: Global,
     op: BinaryOp,
@@ -122,6 +129,7 @@ pub fn of_infix(
     })
 }
 
+/// A function of one operand.
 pub fn of_apply(alloc: Global, op: OneOperand, operand: Measured) -> Result<Measured, NoMemory>
     ensures { IfOk result (λ whole. whole ≡ of_apply code op operand) }
 {
@@ -136,6 +144,7 @@ pub fn of_apply(alloc: Global, op: OneOperand, operand: Measured) -> Result<Meas
     Ok(Measured { tree, height })
 }
 
+/// A shift or a rotation of a pattern by a count.
 pub fn of_shift(
     alloc: Global,
     op: ShiftOp,
@@ -153,6 +162,7 @@ pub fn of_shift(
     })
 }
 
+/// SEL of a BOOL and two values.
 pub fn of_select(
     alloc: Global,
     gate: Measured,

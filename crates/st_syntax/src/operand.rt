@@ -16,7 +16,7 @@ use s7_base::{Boxed, List, NoMemory, Width};
 use st_tree::{BinaryOp, RawStmt, RawStmtKind, RawVar};
 use std::alloc::Global;
 
-/// The weakest level of binding.
+/// The lowest precedence, that of OR.
 const WEAKEST: u32 = 9;
 
 /// An operand that has taken operators before it.
@@ -27,7 +27,7 @@ pub struct Reduced {
     pub operand: Measured,
 }
 
-/// The weakest level that the operand here may have.
+/// The lowest precedence that an operator of the operand here may have.
 fn limit(frames: &[Frame]) -> u32
     ensures { result ≡ limit code (stack_of frames.now) }
 {
@@ -38,8 +38,8 @@ fn limit(frames: &[Frame]) -> u32
     }
 }
 
-/// The operand takes the operators before it that bind as strongly as a level, or more. As many stand
-/// there as levels of binding and levels of nesting at most.
+/// The operand takes the operators before it that bind as tightly as a level, or more. As many stand
+/// there as levels of precedence and levels of nesting at most.
 fn reduce(
     alloc: Global,
     level: u32,
@@ -98,6 +98,7 @@ fn with_prefix(depth: usize, mut frames: Vec<Frame>, op: Prefix) -> Result<Optio
     }))
 }
 
+/// A token where an operand must begin.
 pub fn at_operand(
     depth: usize,
     mut frames: Vec<Frame>,
@@ -137,6 +138,7 @@ pub fn at_operand(
     }))
 }
 
+/// The bracket after the word of a function, the one token that may stand there.
 pub fn at_opening(
     depth: usize,
     mut frames: Vec<Frame>,
@@ -164,7 +166,8 @@ fn close_argument(
     argument: Argument,
     operand: Measured,
 ) -> Result<Option<Spot>, NoMemory>
-    ensures { IfOk result (λ o. option_map spot_of o ≡ close_argument code depth (stack_of frames.items) (argument_of argument) operand) }
+    ensures { IfOk result (λ o. option_map spot_of o
+        ≡ close_argument code depth (stack_of frames.items) (argument_of argument) operand) }
 {
     let whole = match argument {
         Argument::Only(op) => of_apply(alloc, op, operand)?,
@@ -186,7 +189,8 @@ fn next_argument(
     argument: Argument,
     operand: Measured,
 ) -> Result<Option<Spot>, NoMemory>
-    ensures { IfOk result (λ o. option_map spot_of o ≡ next_argument code depth (stack_of frames.items) (argument_of argument) operand) }
+    ensures { IfOk result (λ o. option_map spot_of o
+        ≡ next_argument code depth (stack_of frames.items) (argument_of argument) operand) }
 {
     let next = match argument {
         Argument::Shifted(op) => Argument::ShiftedBy(op, operand),
@@ -211,7 +215,8 @@ fn argument_closed(
     operand: Measured,
     kind: Kind,
 ) -> Result<Option<Spot>, NoMemory>
-    ensures { IfOk result (λ o. option_map spot_of o ≡ argument_closed code depth (stack_of frames.items) (argument_of argument) operand kind) }
+    ensures { IfOk result (λ o. option_map spot_of o
+        ≡ argument_closed code depth (stack_of frames.items) (argument_of argument) operand kind) }
 {
     match kind {
         Kind::Fixed(Fixed::Close) => close_argument(alloc, depth, frames, argument, operand),
@@ -228,7 +233,9 @@ fn assigned(
     var: RawVar,
     operand: Measured,
 ) -> Result<Option<Spot>, NoMemory>
-    ensures { IfOk result (λ o. option_map spot_of o ≡ use_closed code depth (stack_of frames.items) (begun_of begun) (to_var var) operand (kind.Fixed fixed.Semicolon)) }
+    ensures { IfOk result (λ o. option_map spot_of o
+        ≡ use_closed code depth (stack_of frames.items)
+        (begun_of begun) (to_var var) operand (kind.Fixed fixed.Semicolon)) }
 {
     begun.before.push(RawStmt {
         line: begun.line,
@@ -251,7 +258,9 @@ fn written(
     pointer: Measured,
     operand: Measured,
 ) -> Result<Option<Spot>, NoMemory>
-    ensures { IfOk result (λ o. option_map spot_of o ≡ use_closed code depth (stack_of frames.items) (begun_of begun) (area_value width pointer) operand (kind.Fixed fixed.Close)) }
+    ensures { IfOk result (λ o. option_map spot_of o
+        ≡ use_closed code depth (stack_of frames.items)
+        (begun_of begun) (area_value width pointer) operand (kind.Fixed fixed.Close)) }
 {
     let first = Boxed::new(alloc, pointer.tree)?;
     let second = Boxed::new(alloc, operand.tree)?;
@@ -274,7 +283,9 @@ fn value_next(
     width: Width,
     operand: Measured,
 ) -> Result<Option<Spot>, NoMemory>
-    ensures { IfOk result (λ o. option_map spot_of o ≡ use_closed code depth (stack_of frames.items) (begun_of begun) (to_area width) operand (kind.Fixed fixed.Comma)) }
+    ensures { IfOk result (λ o. option_map spot_of o
+        ≡ use_closed code depth (stack_of frames.items)
+        (begun_of begun) (to_area width) operand (kind.Fixed fixed.Comma)) }
 {
     frames.push(Frame::Waiting(begun, Use::AreaValue(width, operand)))?;
     Ok(Some(Spot {
@@ -292,7 +303,9 @@ fn body_next(
     begun: Begun,
     body: Body,
 ) -> Result<Option<Spot>, NoMemory>
-    ensures { IfOk result (λ o. option_map spot_of o ≡ Some (spot code depth (within (begun_of begun) (body_of body) ∷ stack_of frames.items) (statement (no_statements code)))) }
+    ensures { IfOk result (λ o. option_map spot_of o
+        ≡ Some (spot code depth (within (begun_of begun) (body_of body) ∷ stack_of frames.items)
+        (statement (no_statements code)))) }
 {
     frames.push(Frame::Within(begun, body))?;
     Ok(Some(Spot {
@@ -310,7 +323,8 @@ fn labels_next(
     begun: Begun,
     selector: Measured,
 ) -> Spot
-    ensures { spot_of result ≡ spot code depth (stack_of frames.items) (part (begun_of begun) (first_label selector (no_cases code))) }
+    ensures { spot_of result
+        ≡ spot code depth (stack_of frames.items) (part (begun_of begun) (first_label selector (no_cases code))) }
 {
     Spot {
         depth,
@@ -329,7 +343,8 @@ fn use_closed(
     operand: Measured,
     kind: Kind,
 ) -> Result<Option<Spot>, NoMemory>
-    ensures { IfOk result (λ o. option_map spot_of o ≡ use_closed code depth (stack_of frames.items) (begun_of begun) (use_of need) operand kind) }
+    ensures { IfOk result (λ o. option_map spot_of o
+        ≡ use_closed code depth (stack_of frames.items) (begun_of begun) (use_of need) operand kind) }
 {
     match need {
         Use::ToVar(var) => match kind {
@@ -396,6 +411,7 @@ fn closed(
     }
 }
 
+/// A token after an operand: an operator between operands, or one that ends the expression.
 pub fn at_operator(
     alloc: Global,
     depth: usize,

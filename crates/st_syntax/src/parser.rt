@@ -31,7 +31,8 @@ fn is_above(depth: usize, height: usize) -> bool
 }
 
 fn is_deep_at(spot: &Spot) -> bool
-    ensures { result ≡ nat_lt deepest (level_at code spot.now.depth (place_of spot.now.place) (stack_of spot.now.frames.items)) }
+    ensures { result
+        ≡ nat_lt deepest (level_at code spot.now.depth (place_of spot.now.place) (stack_of spot.now.frames.items)) }
 {
     match spot.place {
         Place::Operand => match spot.frames.last() {
@@ -66,7 +67,7 @@ struct Judged {
     refusal: Option<Rejection>,
 }
 
-/// The state behind one more token.
+/// The state after one more token.
 fn advance(alloc: Global, state: State, kind: Kind, line: Line) -> Judged
     ensures { JudgedIs (seen result.state) result.refusal (judged (turn (seen state) kind) line) }
 {
@@ -91,7 +92,8 @@ fn advance(alloc: Global, state: State, kind: Kind, line: Line) -> Judged
 }
 
 fn advance_token(alloc: Global, state: State, token: &StToken) -> Judged
-    ensures { JudgedIs (seen result.state) result.refusal (judged (turn (seen state) (kind_of token.now)) token.now.line) }
+    ensures { JudgedIs (seen result.state) result.refusal
+        (judged (turn (seen state) (kind_of token.now)) token.now.line) }
 {
     match kind_of(alloc, token) {
         Ok(kind) => advance(alloc, state, kind, token.line),
@@ -102,7 +104,7 @@ fn advance_token(alloc: Global, state: State, token: &StToken) -> Judged
     }
 }
 
-/// The state behind all tokens of a text that ends on a line.
+/// The state after all tokens of a text that ends on a line.
 fn judge(alloc: Global, tokens: &[StToken], end: Line) -> Judged
     ensures { JudgedIs (seen result.state) result.refusal (judge (seen state.Start) (all_lined tokens.now end)) }
 {
@@ -119,7 +121,7 @@ fn judge(alloc: Global, tokens: &[StToken], end: Line) -> Judged
     advance(alloc, state, Kind::Fixed(Fixed::End), end)
 }
 
-/// The whole text, if the state is behind its end. The parts of another state are given up in calls of
+/// The whole text, if the state is after its end. The parts of another state are given up in calls of
 /// their own, since they are too many for one function's borrow check.
 #[tactic(auto, unfolding(crate::specs::Judge::seen))]
 fn finish(state: State) -> Option<Before>
@@ -148,8 +150,10 @@ fn finish(state: State) -> Option<Before>
 
 /// The whole text of these tokens, or why it is refused.
 fn whole(alloc: Global, tokens: &[StToken], end: Line) -> Result<Before, Rejection>
-    ensures text { IfOk result (λ text. HasText (judge (seen state.Start) (all_lined tokens.now end)) (before_of text)) }
-    ensures refused { IfRefused result (λ line reason. judge (seen state.Start) (all_lined tokens.now end) ≡ Err (Refused line reason)) }
+    ensures text { IfOk result
+        (λ text. HasText (judge (seen state.Start) (all_lined tokens.now end)) (before_of text)) }
+    ensures refused { IfRefused result
+        (λ line reason. judge (seen state.Start) (all_lined tokens.now end) ≡ Err (Refused line reason)) }
 {
     let Judged { state, refusal } = judge(alloc, tokens, end);
     let text = finish(state);

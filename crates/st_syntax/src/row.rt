@@ -12,7 +12,7 @@ use s7_base::{Line, List, NoMemory};
 use st_tree::{RawGlobal, RawGlobalType, RawVar, StType};
 use std::alloc::Global;
 
-/// What stands behind `AT`.
+/// What stands after `AT`.
 fn row_place(kind: Kind) -> Option<Row>
     ensures { option_map row_of result ≡ row_place code kind }
 {
@@ -168,7 +168,7 @@ fn row_items(alloc: Global, row: Row, kind: Kind) -> Result<Option<Row>, NoMemor
     Ok(Some(next))
 }
 
-/// A token of a global behind its name, but the `;`.
+/// A token of a global after its name, but the `;`.
 fn row_step(alloc: Global, name: &[u8], row: Row, kind: Kind) -> Result<Option<Row>, NoMemory>
     ensures { IfOk result (λ o. option_map row_of o ≡ row_step code name.now (row_of row) kind) }
 {
@@ -215,7 +215,7 @@ fn row_end(
     Ok(Some(State::Globals(done)))
 }
 
-/// A token of a global behind its name.
+/// A token of a global after its name.
 pub fn at_row(
     alloc: Global,
     done: List<RawGlobal>,

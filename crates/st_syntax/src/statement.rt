@@ -72,7 +72,8 @@ fn choosing_closed(
     body: List<RawStmt>,
     kind: Kind,
 ) -> Result<Option<Spot>, NoMemory>
-    ensures { IfOk result (λ o. option_map spot_of o ≡ body_closed code depth (stack_of frames.items) (begun_of begun) (choosing arms test) body kind) }
+    ensures { IfOk result (λ o. option_map spot_of o
+        ≡ body_closed code depth (stack_of frames.items) (begun_of begun) (choosing arms test) body kind) }
 {
     let arm = RawArm {
         test: test.tree,
@@ -118,7 +119,8 @@ fn selecting_closed(
     body: List<RawStmt>,
     kind: Kind,
 ) -> Result<Option<Spot>, NoMemory>
-    ensures { IfOk result (λ o. option_map spot_of o ≡ body_closed code depth (stack_of frames.items) (begun_of begun) (selecting selector arms labels) body kind) }
+    ensures { IfOk result (λ o. option_map spot_of o
+        ≡ body_closed code depth (stack_of frames.items) (begun_of begun) (selecting selector arms labels) body kind) }
 {
     let arm = RawCaseArm { labels, body };
     match kind {
@@ -163,7 +165,8 @@ fn body_closed(
     body: List<RawStmt>,
     kind: Kind,
 ) -> Result<Option<Spot>, NoMemory>
-    ensures { IfOk result (λ o. option_map spot_of o ≡ body_closed code depth (stack_of frames.items) (begun_of begun) (body_of outer) body kind) }
+    ensures { IfOk result (λ o. option_map spot_of o
+        ≡ body_closed code depth (stack_of frames.items) (begun_of begun) (body_of outer) body kind) }
 {
     let statement = match outer {
         Body::Choosing(arms, test) => {
@@ -253,7 +256,8 @@ fn at_jump(
     jump: Jump,
     line: Line,
 ) -> Result<Option<Spot>, NoMemory>
-    ensures { IfOk result (λ o. option_map spot_of o ≡ at_lead code depth (stack_of frames.items) before (lead.Jump jump) line) }
+    ensures { IfOk result (λ o. option_map spot_of o
+        ≡ at_lead code depth (stack_of frames.items) before (lead.Jump jump) line) }
 {
     if !may_jump(in_loop(&frames), jump) {
         return Ok(None);
@@ -295,7 +299,7 @@ fn at_statement(
     }
 }
 
-/// What stands behind a variable at the beginning of a statement.
+/// What stands after a variable at the beginning of a statement.
 fn at_target(
     depth: usize,
     mut frames: Vec<Frame>,
@@ -303,7 +307,8 @@ fn at_target(
     var: RawVar,
     kind: Kind,
 ) -> Result<Option<Spot>, NoMemory>
-    ensures { IfOk result (λ o. option_map spot_of o ≡ at_target code depth (stack_of frames.items) (begun_of begun) var kind) }
+    ensures { IfOk result (λ o. option_map spot_of o
+        ≡ at_target code depth (stack_of frames.items) (begun_of begun) var kind) }
 {
     match kind {
         Kind::Fixed(Fixed::Becomes) => {
@@ -326,7 +331,7 @@ fn at_target(
     }
 }
 
-/// A label of an arm, behind others.
+/// A label of an arm, after others.
 fn at_label(
     depth: usize,
     frames: Vec<Frame>,
@@ -336,7 +341,9 @@ fn at_label(
     mut labels: List<(StType, i64)>,
     kind: Kind,
 ) -> Result<Option<Spot>, NoMemory>
-    ensures { IfOk result (λ o. option_map spot_of o ≡ at_label code depth (stack_of frames.items) (begun_of begun) selector arms (λ c. labels ++ label_tree c ∷ []) kind) }
+    ensures { IfOk result (λ o. option_map spot_of o
+        ≡ at_label code depth (stack_of frames.items) (begun_of begun) selector arms
+        (λ c. labels ++ label_tree c ∷ []) kind) }
 {
     let Kind::Literal(literal) = kind else {
         return Ok(None);
@@ -361,7 +368,8 @@ fn at_formal(
     actuals: List<(List<u8>, RawVar)>,
     kind: Kind,
 ) -> Result<Option<Spot>, NoMemory>
-    ensures { IfOk result (λ o. option_map spot_of o ≡ at_call code depth (stack_of frames.items) (begun_of begun) (next_formal name actuals) kind) }
+    ensures { IfOk result (λ o. option_map spot_of o
+        ≡ at_call code depth (stack_of frames.items) (begun_of begun) (next_formal name actuals) kind) }
 {
     match kind {
         Kind::Variable(RawVar::Name(formal), _) => Ok(Some(Spot {
@@ -373,7 +381,7 @@ fn at_formal(
     }
 }
 
-/// What stands behind the actuals of a call.
+/// What stands after the actuals of a call.
 fn at_given(
     depth: usize,
     frames: Vec<Frame>,
@@ -382,7 +390,8 @@ fn at_given(
     actuals: List<(List<u8>, RawVar)>,
     kind: Kind,
 ) -> Result<Option<Spot>, NoMemory>
-    ensures { IfOk result (λ o. option_map spot_of o ≡ at_call code depth (stack_of frames.items) (begun_of begun) (given name actuals) kind) }
+    ensures { IfOk result (λ o. option_map spot_of o
+        ≡ at_call code depth (stack_of frames.items) (begun_of begun) (given name actuals) kind) }
 {
     match kind {
         Kind::Fixed(Fixed::Comma) => Ok(Some(Spot {
@@ -408,7 +417,8 @@ fn at_actual(
     formal: List<u8>,
     kind: Kind,
 ) -> Result<Option<Spot>, NoMemory>
-    ensures { IfOk result (λ o. option_map spot_of o ≡ at_call code depth (stack_of frames.items) (begun_of begun) (giving name actuals formal) kind) }
+    ensures { IfOk result (λ o. option_map spot_of o
+        ≡ at_call code depth (stack_of frames.items) (begun_of begun) (giving name actuals formal) kind) }
 {
     let Kind::Variable(var, _) = kind else {
         return Ok(None);
@@ -421,7 +431,7 @@ fn at_actual(
     }))
 }
 
-/// What stands behind the bracket of a call.
+/// What stands after the bracket of a call.
 fn at_first_formal(
     alloc: Global,
     depth: usize,
@@ -430,7 +440,8 @@ fn at_first_formal(
     name: List<u8>,
     kind: Kind,
 ) -> Result<Option<Spot>, NoMemory>
-    ensures { IfOk result (λ o. option_map spot_of o ≡ at_call code depth (stack_of frames.items) (begun_of begun) (first_formal name) kind) }
+    ensures { IfOk result (λ o. option_map spot_of o
+        ≡ at_call code depth (stack_of frames.items) (begun_of begun) (first_formal name) kind) }
 {
     match kind {
         Kind::Fixed(Fixed::Close) => {
@@ -441,7 +452,7 @@ fn at_first_formal(
     }
 }
 
-/// What stands behind a label.
+/// What stands after a label.
 fn at_labelled(
     alloc: Global,
     depth: usize,
@@ -452,7 +463,8 @@ fn at_labelled(
     labels: List<(StType, i64)>,
     kind: Kind,
 ) -> Result<Option<Spot>, NoMemory>
-    ensures { IfOk result (λ o. option_map spot_of o ≡ at_part code depth (stack_of frames.items) (begun_of begun) (labelled selector arms labels) kind) }
+    ensures { IfOk result (λ o. option_map spot_of o
+        ≡ at_part code depth (stack_of frames.items) (begun_of begun) (labelled selector arms labels) kind) }
 {
     let place = match kind {
         Kind::Fixed(Fixed::Comma) => Place::Part(begun, Part::NextLabel(selector, arms, labels)),
@@ -477,7 +489,8 @@ fn at_write_open(
     width: Width,
     kind: Kind,
 ) -> Result<Option<Spot>, NoMemory>
-    ensures { IfOk result (λ o. option_map spot_of o ≡ at_part code depth (stack_of frames.items) (begun_of begun) (write_open width) kind) }
+    ensures { IfOk result (λ o. option_map spot_of o
+        ≡ at_part code depth (stack_of frames.items) (begun_of begun) (write_open width) kind) }
 {
     let Kind::Fixed(Fixed::Open) = kind else {
         return Ok(None);
@@ -490,7 +503,7 @@ fn at_write_open(
     }))
 }
 
-/// The `:=` behind the name of a formal.
+/// The `:=` after the name of a formal.
 fn at_becoming(
     depth: usize,
     frames: Vec<Frame>,
@@ -500,7 +513,8 @@ fn at_becoming(
     formal: List<u8>,
     kind: Kind,
 ) -> Result<Option<Spot>, NoMemory>
-    ensures { IfOk result (λ o. option_map spot_of o ≡ at_call code depth (stack_of frames.items) (begun_of begun) (becoming name actuals formal) kind) }
+    ensures { IfOk result (λ o. option_map spot_of o
+        ≡ at_call code depth (stack_of frames.items) (begun_of begun) (becoming name actuals formal) kind) }
 {
     let Kind::Fixed(Fixed::Becomes) = kind else {
         return Ok(None);
@@ -520,7 +534,8 @@ fn at_part(
     part: Part,
     kind: Kind,
 ) -> Result<Option<Spot>, NoMemory>
-    ensures { IfOk result (λ o. option_map spot_of o ≡ at_part code depth (stack_of frames.items) (begun_of begun) (part_of part) kind) }
+    ensures { IfOk result (λ o. option_map spot_of o
+        ≡ at_part code depth (stack_of frames.items) (begun_of begun) (part_of part) kind) }
 {
     match part {
         Part::Target(var) => at_target(depth, frames, begun, var, kind),
@@ -554,7 +569,8 @@ fn at_closing(
     statement: RawStmt,
     kind: Kind,
 ) -> Result<Option<Spot>, NoMemory>
-    ensures { IfOk result (λ o. option_map spot_of o ≡ at_closing code depth (stack_of frames.items) before statement kind) }
+    ensures { IfOk result (λ o. option_map spot_of o
+        ≡ at_closing code depth (stack_of frames.items) before statement kind) }
 {
     let Kind::Fixed(Fixed::Semicolon) = kind else {
         return Ok(None);
@@ -569,7 +585,8 @@ fn at_closing(
 
 /// One token in statements; `None` where it cannot follow.
 pub fn step(alloc: Global, spot: Spot, kind: Kind) -> Result<Option<Spot>, NoMemory>
-    ensures { IfOk result (λ o. option_map spot_of o ≡ step_at code spot.depth (stack_of spot.frames.items) (place_of spot.place) kind) }
+    ensures { IfOk result (λ o. option_map spot_of o
+        ≡ step_at code spot.depth (stack_of spot.frames.items) (place_of spot.place) kind) }
 {
     let Spot {
         depth,

@@ -125,7 +125,7 @@ fn at_section(
     }
 }
 
-/// A token of a formal or a local behind its name.
+/// A token of a formal or a local after its name.
 fn at_typing(
     top: Top,
     which: Which,
@@ -135,7 +135,8 @@ fn at_typing(
     typing: Typing,
     kind: Kind,
 ) -> Result<Option<State>, NoMemory>
-    ensures { IfOk result (λ o. option_map state_of o ≡ at_typing code (top_in top) (which_of which) done name line (typing_of typing) kind) }
+    ensures { IfOk result (λ o. option_map state_of o
+        ≡ at_typing code (top_in top) (which_of which) done name line (typing_of typing) kind) }
 {
     match typing {
         Typing::Colon => match kind {
@@ -181,7 +182,8 @@ fn with_unit(
     locals: List<RawLocal>,
     body: List<RawStmt>,
 ) -> Result<Before, NoMemory>
-    ensures { IfOk result (λ text. before_of text ≡ record { globals = top.text.globals; units = add_unit code top.text.units top.head formals locals body }) }
+    ensures { IfOk result (λ text. before_of text
+        ≡ record { globals = top.text.globals; units = add_unit code top.text.units top.head formals locals body }) }
 {
     let Top { mut text, head } = top;
     text.units.push(RawPou {
@@ -203,7 +205,8 @@ fn leave(
     locals: List<RawLocal>,
     spot: Spot,
 ) -> Result<Option<State>, NoMemory>
-    ensures { IfOk result (λ o. option_map state_of o ≡ leave code program (top_in top) formals locals (stack_of spot.frames.items) (place_of spot.place)) }
+    ensures { IfOk result (λ o. option_map state_of o
+        ≡ leave code program (top_in top) formals locals (stack_of spot.frames.items) (place_of spot.place)) }
 {
     let Spot {
         mut frames,
@@ -232,7 +235,8 @@ fn at_inside(
     spot: Spot,
     kind: Kind,
 ) -> Result<Option<State>, NoMemory>
-    ensures { IfOk result (λ o. option_map state_of o ≡ at_inside code (top_in top) formals locals (spot_of spot) kind) }
+    ensures { IfOk result (λ o. option_map state_of o
+        ≡ at_inside code (top_in top) formals locals (spot_of spot) kind) }
 {
     match kind {
         Kind::Fixed(Fixed::EndProgram) => leave(true, top, formals, locals, spot),
@@ -244,7 +248,7 @@ fn at_inside(
     }
 }
 
-/// A token behind the formals of a unit.
+/// A token after the formals of a unit.
 fn at_formals_done(
     alloc: Global,
     top: Top,
@@ -263,7 +267,7 @@ fn at_formals_done(
     }
 }
 
-/// A token behind the name of a unit.
+/// A token after the name of a unit.
 fn at_opened(alloc: Global, top: Top, kind: Kind) -> Result<Option<State>, NoMemory>
     ensures { IfOk result (λ o. option_map state_of o ≡ at_opened code (top_in top) kind) }
 {

@@ -266,7 +266,7 @@ fn are_digits(text: &[u8]) -> bool
     !text.is_empty() && all_digits(text)
 }
 
-/// Two letters in any case, and a number behind them.
+/// Two letters in any case, and a number after them.
 fn is_numbered(letters: &str, name: &[u8]) -> bool
     ensures { result ≡ is_numbered letters.now name.now }
 {
@@ -311,18 +311,21 @@ pub fn is_free(name: &[u8]) -> bool
     !is_register(name) && !is_next(name) && !names_block(name) && !is_unit_number(name)
 }
 
+/// A name that a local may have: `NEXT`, or one that isn't reserved.
 pub fn may_name_local(name: &[u8]) -> bool
     ensures { result ≡ may_name_local name.now }
 {
     is_next(name) || is_free(name)
 }
 
+/// A name that a unit may have: OB, FC or FB with a number, or one that isn't reserved.
 pub fn may_name_unit(name: &[u8]) -> bool
     ensures { result ≡ may_name_unit name.now }
 {
     is_unit_number(name) || is_free(name)
 }
 
+/// A name that a global may have: DB with a number for a data block, or one that isn't reserved.
 pub fn may_name_global(name: &[u8]) -> bool
     ensures { result ≡ may_name_global name.now }
 {

@@ -83,7 +83,8 @@ pub enum Var {
 /// An expression, without the brackets of a text.
 #[derive(Debug, Drop, PartialEq)]
 pub enum Expr {
-    /// A value of its type. FALSE is 0 and TRUE is 1; that of a bit type is its pattern, read without a sign.
+    /// A value of its type. FALSE is 0 and TRUE is 1; that of a bit type is its pattern, read without a
+    /// sign.
     Literal(StType, i64),
 
     Read(Var),

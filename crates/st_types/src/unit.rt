@@ -48,7 +48,8 @@ fn unit_in(
     breaks: &mut List<Break>,
 ) -> Result<Pou, NoMemory>
     ensures unit { IfOk result (λ unit. unit ≡ unit_in (scope_in scope.old.outer scope.old.formals raw.now) raw.now) }
-    ensures breaks { OnOk result (breaks.new ≡ breaks.old ++ unit_breaks (scope_in scope.old.outer scope.old.formals raw.now) raw.now) }
+    ensures breaks { OnOk result (breaks.new ≡ breaks.old
+        ++ unit_breaks (scope_in scope.old.outer scope.old.formals raw.now) raw.now) }
     ensures scope { OnOk result (scope.new ≡ scope_in scope.old.outer scope.old.formals raw.now) }
 {
     enter(alloc, scope, raw, breaks)?;
@@ -68,9 +69,12 @@ fn with_unit(
     raw: &RawPou,
     all: &mut Units,
 ) -> Result<(), NoMemory>
-    ensures units { OnOk result (all.new.units ≡ all.old.units ++ unit_of scope.old.outer scope.old.formals raw.now ∷ []) }
-    ensures calls { OnOk result (all.new.calls ≡ all.old.calls ++ calls_of_unit scope.old.outer scope.old.formals raw.now ∷ []) }
-    ensures breaks { OnOk result (all.new.breaks ≡ all.old.breaks ++ breaks_of_unit scope.old.outer scope.old.formals raw.now) }
+    ensures units { OnOk result (all.new.units ≡ all.old.units
+        ++ unit_of scope.old.outer scope.old.formals raw.now ∷ []) }
+    ensures calls { OnOk result (all.new.calls ≡ all.old.calls
+        ++ calls_of_unit scope.old.outer scope.old.formals raw.now ∷ []) }
+    ensures breaks { OnOk result (all.new.breaks ≡ all.old.breaks
+        ++ breaks_of_unit scope.old.outer scope.old.formals raw.now) }
     ensures outer { OnOk result (scope.new.outer ≡ scope.old.outer) }
     ensures formals { OnOk result (scope.new.formals ≡ scope.old.formals) }
 {

@@ -111,7 +111,7 @@ literal_is false = record { binds = λ names line. refl; spelled = λ names line
 group_is : (f : written.Form) (e : Expr) → IsBoolean f e → IsBoolean (written.group f) e
 group_is f e h = record { binds = h.binds; spelled = h.spelled; typed = h.typed }
 
--- an operator binds more weakly than its operand on each line
+-- an operator has a lower precedence than its operand on each line
 abbrev Fit : ℕ → written.Form → Type 0
 Fit k f = (names : Names) (line : ℕ) → level (form_of names line f) ≤ k
 
@@ -199,7 +199,7 @@ before_or_is = and_is rlo nfc _ _ (λ names line. omega arith) (λ names line. o
 abbrev not_form : Var → written.Form
 not_form v = written.prefix unary.Not (written.variable v)
 
--- the form of the RLO behind a check of a variable
+-- the form of the RLO after a check of a variable
 abbrev check_form : Check → Var → written.Form
 check_form check.A v = written.infix_of binary.And before_and (written.variable v)
 check_form check.An v = written.infix_of binary.And before_and (not_form v)

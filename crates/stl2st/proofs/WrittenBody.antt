@@ -132,7 +132,7 @@ one_more names form body line v e h k =
       same = λ scope. found_more scope (tree_all form) x ∙ rw (h.same scope, assign_sound names scope line v e k) refl;
     }
 
--- all of them behind others, from a line on
+-- all of them after others, from a line on
 all_behind : (names : Names) (form : Statements) (body rest : List Stmt) (line : ℕ) → IsBody form body → AreBoolAssigns rest →
     IsBody (all_from form line (map (statement_from names) rest)).0 (body ++ rest)
 all_behind names form body [] line h k = subst (λ (b : List Stmt). IsBody form b) (sym (append-nil body)) h

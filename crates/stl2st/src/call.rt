@@ -1,4 +1,4 @@
-//! The word for the block that a run calls, as `OB1`, `FC10(MW4,M0.0)` or `FB1/DB5`.
+//! The argument for the block that a run calls, as `OB1`, `FC10(MW4,M0.0)` or `FB1/DB5`.
 ghost use Rattle.std.specs.Prelude.{◌≡◌, ◌*◌, ◌-◌, ◌<◌, ◌≤◌, ◌&&◌, ◌==◌, not, take, length, option_map, IfOk, IfSome};
 ghost use Rattle.std.specs.List.{prefix_len};
 ghost use Rattle.s7_base.specs.Tokens.{is_word_byte};
@@ -40,7 +40,7 @@ fn begins_with_letter(letter: u8, text: &[u8]) -> bool
     }
 }
 
-/// What stands behind letters, which are given as capitals.
+/// What stands after letters, which are given as capitals.
 fn behind<'t>(letters: &str, text: &'t [u8]) -> Option<&'t [u8]>
     ensures { option_map (λ rest. rest.now) result ≡ behind letters.now text.now }
 {
@@ -226,7 +226,7 @@ fn block_meant(word: &[u8]) -> Option<BlockName>
     }
 }
 
-/// The call of a block, by what stands behind its name.
+/// The call of a block, by what stands after its name.
 fn call_with(alloc: Global, block: BlockName, text: &[u8]) -> Result<Option<Call>, NoMemory>
     ensures { IfOk result (λ call. call ≡ call_with block text.now) }
 {

@@ -43,11 +43,15 @@ const BAD_CALL_LINE: &str = "bad call\n";
 /// A text to write, which takes memory only where it is made.
 #[derive(Debug, Drop)]
 pub enum Text {
+    /// A line that is the same for every input.
     Fixed(&'static str),
+
+    /// A text that was made for this input.
     Made(Vec<u8>),
 }
 
 impl Text {
+    /// The bytes of the text.
     pub fn as_bytes(&self) -> &[u8]
         ensures { result.now ≡ bytes_of_text self.now }
     {
@@ -71,6 +75,7 @@ pub enum Stop {
     /// An input could not be read.
     ReadFault,
 
+    /// Memory ran out.
     NoMemory,
 }
 
@@ -236,7 +241,8 @@ fn source_reply<P: Source, M: Source>(
     requires { IsStl command.now }
     ensures reply { IfOk result (Answered (Some command.now) (P.left program.old) (M.left image.old)) }
     ensures reads_program { ReadsProgram (Some command.now)
-        (input (P.left program.old) (P.left program.new) (P.faults program.old) (P.faults program.new)) (ending result) }
+        (input (P.left program.old) (P.left program.new) (P.faults program.old) (P.faults program.new))
+        (ending result) }
     ensures reads_image { ReadsImage (Some command.now) (P.left program.old)
         (input (M.left image.old) (M.left image.new) (M.faults image.old) (M.faults image.new)) (ending result) }
     ensures read_fault { result ≡ Err Stop.ReadFault → FailedToRead (Some command.now)
@@ -342,7 +348,7 @@ fn text_reply<P: Source, M: Source>(
     }
 }
 
-/// What the words ask for, done on the inputs.
+/// What the arguments ask for, done on the inputs.
 pub fn reply_to<P: Source, M: Source>(
     alloc: Global,
     words: &[String],
@@ -352,7 +358,8 @@ pub fn reply_to<P: Source, M: Source>(
     ensures reply { IfOk result
         (Answered (command_meant (map (λ word. string_bytes word) words.now)) (P.left program.old) (M.left image.old)) }
     ensures reads_program { ReadsProgram (command_meant (map (λ word. string_bytes word) words.now))
-        (input (P.left program.old) (P.left program.new) (P.faults program.old) (P.faults program.new)) (ending result) }
+        (input (P.left program.old) (P.left program.new) (P.faults program.old) (P.faults program.new))
+        (ending result) }
     ensures reads_image { ReadsImage (command_meant (map (λ word. string_bytes word) words.now)) (P.left program.old)
         (input (M.left image.old) (M.left image.new) (M.faults image.old) (M.faults image.new)) (ending result) }
     ensures read_fault { result ≡ Err Stop.ReadFault

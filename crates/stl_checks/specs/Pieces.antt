@@ -4,6 +4,7 @@ use Rattle.s7_base.specs.Tokens.{Piece, line_end, gap, token, piece_size}
 use Rattle.stl_checks.specs.declared.lexer.Piece.{Piece as Found}
 use Rattle.stl_checks.specs.declared.lexer.Piece.TheVariants as found
 
+-- a piece that the lexer found, as the definition has it: what it is, and how many bytes it takes
 abbrev pub view : Found → Piece
 view found.LineEnd = line_end
 view (found.Gap size) = gap size

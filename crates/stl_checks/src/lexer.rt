@@ -15,8 +15,13 @@ use std::alloc::Global;
 /// What stands at the front of a text, with its size in bytes.
 #[derive(Clone, Copy)]
 pub enum Piece {
+    /// The end of a line, one byte.
     LineEnd,
+
+    /// A blank, a comment, an attribute or a title.
     Gap(usize),
+
+    /// A token of this kind.
     Token(TokenKind, usize),
 }
 
@@ -91,7 +96,9 @@ fn closed_size(close: u8, rest: &[u8]) -> Option<usize>
 
 fn is_title(bytes: &[u8], size: usize) -> bool
     requires { size ≤ length bytes.now }
-    ensures { result ≡ (str_eq_ignore_ascii_case (take size bytes.now) (codes "TITLE") && begins_with 61 (after_blanks (drop size bytes.now))) }
+    ensures { result
+        ≡ (str_eq_ignore_ascii_case (take size bytes.now) (codes "TITLE")
+        && begins_with 61 (after_blanks (drop size bytes.now))) }
 {
     is_same_word(&bytes[..size], "TITLE")
         && begins_with(b'=', after_blanks(rest_after(bytes, size)))

@@ -32,7 +32,7 @@ fn heading_with(size: usize, number: Option<u16>) -> Result<(BlockName, usize), 
     }
 }
 
-/// What stands behind `OB`.
+/// What stands after `OB`.
 fn heading_number(tokens: &[Token]) -> Result<(BlockName, usize), Reason>
     ensures name { result ≡ heading_number tokens.now }
     ensures within { IfOk result (λ heading. heading.1 ≤ length tokens.now + 1) }
@@ -47,7 +47,7 @@ fn heading_number(tokens: &[Token]) -> Result<(BlockName, usize), Reason>
     }
 }
 
-/// What stands behind `ORGANIZATION_BLOCK`, with how many tokens it takes.
+/// What stands after `ORGANIZATION_BLOCK`, with how many tokens it takes.
 fn heading_name(tokens: &[Token]) -> Result<(BlockName, usize), Reason>
     ensures name { result ≡ heading_name tokens.now }
     ensures within { IfOk result (λ heading. heading.1 ≤ length tokens.now) }
@@ -83,7 +83,7 @@ fn misfit(tokens: &[Token], first: &Token) -> Rejection
     Rejection::Refused(first.line, misfit_reason(Context::Outside, tokens))
 }
 
-/// Ends a body, behind whose end word nothing may stand.
+/// Ends a body, after whose end word nothing may stand.
 fn end_body(instrs: &mut List<Instr>, line: Line, behind: &[Token]) -> Result<(), Rejection>
     ensures { EndsBody instrs.old instrs.new (with_end line behind.now) result }
 {
@@ -97,7 +97,7 @@ fn end_body(instrs: &mut List<Instr>, line: Line, behind: &[Token]) -> Result<()
     Ok(())
 }
 
-/// Puts the item at the front of these tokens behind the instructions before it.
+/// Puts the item at the front of these tokens after the instructions before it.
 fn put_item(instrs: &mut List<Instr>, first: &Token, tokens: &[Token]) -> Result<(), Rejection>
     requires { IsFirst first.now tokens.now }
     ensures item { PutsItem instrs.old instrs.new first.now tokens.now result }
@@ -136,7 +136,7 @@ fn body(alloc: Global, tokens: &[Token], end: Line) -> Result<List<Instr>, Rejec
     Err(Rejection::Refused(end, Reason::BadStatement))
 }
 
-/// `BEGIN` and the body behind it.
+/// `BEGIN` and the body after it.
 fn begin(alloc: Global, tokens: &[Token], end: Line) -> Result<List<Instr>, Rejection>
     ensures { Answers result (begin_from end tokens.now) }
 {
@@ -160,7 +160,7 @@ fn one_block(
     Ok(Program { blocks })
 }
 
-/// A heading and the block behind it.
+/// A heading and the block after it.
 fn block(alloc: Global, tokens: &[Token], line: Line, end: Line) -> Result<Program, Rejection>
     ensures { Answers result (with_heading end line tokens.now (heading_name tokens.now)) }
 {

@@ -22,7 +22,7 @@ const MNEMONICS: [&str; 110] = [
 /// The signs that are a mnemonic or begin one, whatever follows.
 const SIGN_MNEMONICS: [&str; 3] = [")", "=", "+"];
 
-/// The signs that are a mnemonic with a type letter behind them.
+/// The signs that are a mnemonic with a type letter after them.
 const TYPED_SIGNS: [&str; 9] = ["-", "*", "/", "==", "<>", ">", "<", ">=", "<="];
 
 const TYPE_LETTERS: [&str; 3] = ["I", "D", "R"];
@@ -100,7 +100,7 @@ pub fn is_mnemonic_sign(token: &Token) -> bool
     matches!(token.kind, TokenKind::Sign) && is_listed(token.text.as_slice(), &SIGN_MNEMONICS)
 }
 
-/// The token is a sign that is a mnemonic with a type letter behind it.
+/// The token is a sign that is a mnemonic with a type letter after it.
 pub fn is_typed_sign(token: &Token) -> bool
     ensures { result ≡ is_sign_among typed_signs token.now }
 {

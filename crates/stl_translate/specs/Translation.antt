@@ -74,7 +74,8 @@ set_of r e = stmt.Assign (var.Register r) e
 
 -- the statements of an instruction
 abbrev pub statements_of : Op → List Stmt
-statements_of (op.Check c (arg.At o)) = set_of reg.Rlo (next_rlo c (expr.Read (bit_of o))) ∷ set_of reg.Nfc (literal_of true) ∷ []
+statements_of (op.Check c (arg.At o)) =
+    set_of reg.Rlo (next_rlo c (expr.Read (bit_of o))) ∷ set_of reg.Nfc (literal_of true) ∷ []
 statements_of (op.Assign o) = stmt.Assign (bit_of o) (read_of reg.Rlo) ∷ set_of reg.Nfc (literal_of false) ∷ []
 statements_of op.BlockEnd = []
 
@@ -87,7 +88,13 @@ unit_name_of (name.Fb n) = codes "FB" ++ decimal n
 -- a block as a unit
 abbrev pub unit_of : Block → Pou
 unit_of b =
-    record { program = true; name = unit_name_of b.name; formals = []; locals = []; body = flat_map (λ (i : Instr). statements_of i.op) b.body }
+    record {
+      program = true;
+      name = unit_name_of b.name;
+      formals = [];
+      locals = [];
+      body = flat_map (λ (i : Instr). statements_of i.op) b.body;
+    }
 
 -- the text's tree of a program
 abbrev pub translation : Program → StProgram

@@ -14,7 +14,7 @@ IsNumbered (name.Ob n) = n < 2 ^ 16
 IsNumbered (name.Fc n) = n < 2 ^ 16
 IsNumbered (name.Fb n) = n < 2 ^ 16
 
--- nothing stands behind an end word; behind another instruction the body is as it should be
+-- nothing stands after an end word; after another instruction the body is as it should be
 abbrev pub EndsBehind : Op → List Instr → Type 0 → Type 0
 EndsBehind op.BlockEnd rest more = rest ≡ []
 EndsBehind (op.Check c b) rest more = more
@@ -30,5 +30,6 @@ pub record IsWellFormedBlock (block : Block) : Type 0 where
   pub numbered : IsNumbered block.name
   pub ends : EndsOnce block.body
 
+-- each block of a program has a number of 16 bits and one end word
 abbrev pub IsWellFormed : Program → Type 0
 IsWellFormed program = All IsWellFormedBlock program.blocks

@@ -84,7 +84,7 @@ fn push_statements(alloc: Global, body: &mut List<Stmt>, op: Op) -> Result<(), N
     }
 }
 
-// What the RLO becomes at a check of a bit.
+/// What the RLO becomes at a check of a bit.
 fn next_rlo(alloc: Global, check: Check, bit: Expr) -> Result<Expr, NoMemory>
     requires { IsTranslatableCheck check }
     ensures { IfOk result (λ value. value ≡ next_rlo check bit) }
@@ -98,14 +98,14 @@ fn next_rlo(alloc: Global, check: Check, bit: Expr) -> Result<Expr, NoMemory>
     }
 }
 
-// The RLO before an AND: a first check, where NFC is FALSE, takes it as TRUE.
+/// The RLO before an AND: a first check, where NFC is FALSE, takes it as TRUE.
 fn rlo_before_and(alloc: Global) -> Result<Expr, NoMemory>
     ensures { IfOk result (λ value. value ≡ rlo_before_and) }
 {
     or(alloc, read(Reg::Rlo), not(alloc, read(Reg::Nfc))?)
 }
 
-// The RLO before an OR: a first check, where NFC is FALSE, takes it as FALSE.
+/// The RLO before an OR: a first check, where NFC is FALSE, takes it as FALSE.
 fn rlo_before_or(alloc: Global) -> Result<Expr, NoMemory>
     ensures { IfOk result (λ value. value ≡ rlo_before_or) }
 {

@@ -2,7 +2,7 @@ use Rattle.std.proofs.Common.{◌≡◌, ◌≤◌, drop}
 use Rattle.stl_tree.specs.Items.{number_from}
 use Rattle.stl_tree.proofs.number.number_of.Given as goal
 
--- the digits that are left, behind the value so far, give the number of all
+-- the digits that are left, after the value so far, give the number of all
 abbrev pub invariant-loop-digit : goal.invariant-loop-digit
 invariant-loop-digit l = record {
   within : l.value ≤ l.most;
