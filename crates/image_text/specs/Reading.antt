@@ -1,13 +1,13 @@
 -- How the calls that read an image answer.
 use Rattle.std.specs.Prelude.{◌≡◌, ℕ, ◌^◌, ◌-◌, ◌<◌, ◌≤◌, min, nat_lt, if◌then◌else◌, List, [], ◌∷◌, length, All, Bool, Some, Result, Ok, Err}
 use Rattle.std.specs.List.{slice_split}
-use Rattle.memory_areas.specs.Access.{bytes_there}
+use Rattle.memory_areas.specs.Access.{bytes_there, or_none}
 use Rattle.memory_areas.specs.Areas.{Contents, IsMemoryOf}
 use Rattle.memory_areas.specs.declared.data_block.DataBlock.{DataBlock}
 use Rattle.memory_areas.specs.declared.place.Area.{Area}
 use Rattle.memory_areas.specs.declared.place.Area.TheVariants as area
 use Rattle.memory_areas.specs.declared.sizes.TheConstants.{MOST_BLOCK_BYTES}
-use Rattle.image_text.specs.Image.{Shape, is_blank}
+use Rattle.image_text.specs.Image.{Shape, is_blank, values_of}
 use Rattle.image_text.specs.Report.{block_text}
 use Rattle.image_text.specs.declared.refusal.ImageRefusal.{ImageRefusal}
 use Rattle.image_text.specs.declared.refusal.ImageRefusal.TheVariants.{NoMemory}
@@ -27,6 +27,10 @@ LineDoes defined (Err refused) after = defined ≡ Err refused
 abbrev pub pieces_left : (ℕ → Bool) → List ℕ → List (List ℕ)
 pieces_left p [] = []
 pieces_left p (b ∷ behind) = slice_split p behind
+
+-- the bytes of the fields that are left of a line, where each of them writes one
+abbrev pub values_left : List ℕ → List ℕ
+values_left left = or_none (values_of (pieces_left is_blank left))
 
 -- a number that is kept in 32 bits; one past the greatest is kept as that one
 abbrev pub kept : ℕ → ℕ

@@ -60,9 +60,13 @@ pub record IsMemoryOf (blocks : List DataBlock) (areas : Areas) : Type 0 where
   pub markers : IsArea MARKER_BYTES areas.markers
   pub matching : Match areas.blocks blocks
 
+-- the local data, or the constant actuals, of an activation, all zero
+abbrev pub zero_locals : List ℕ
+zero_locals = replicate LOCAL_BYTES 0
+
 -- local data, or constant actuals, of each activation, all zero
 abbrev pub no_locals : List (List ℕ)
-no_locals = replicate ACTIVATIONS (replicate LOCAL_BYTES 0)
+no_locals = replicate ACTIVATIONS zero_locals
 
 -- a memory with these areas, whose local data and constant actuals are zero
 abbrev pub with_areas : Areas → Contents
@@ -115,7 +119,7 @@ with_bytes (area.Db n) bytes m = record m { areas = record m.areas { blocks = wi
 
 -- the memory with zeros in the local data and the constant actuals of an activation
 abbrev pub cleared : ℕ → Contents → Contents
-cleared d m = record m { locals = slice_set m.locals d (replicate LOCAL_BYTES 0); cells = slice_set m.cells d (replicate LOCAL_BYTES 0) }
+cleared d m = record m { locals = slice_set m.locals d zero_locals; cells = slice_set m.cells d zero_locals }
 
 -- Numbers in bytes: words and double words have their highest byte first
 

@@ -137,13 +137,15 @@ abbrev pub literal_of_number : StType → Bool → ℕ → Number → Literal
 literal_of_number type minus before number =
     record { kind = type; minus = minus; number = number.value; size = before + number.size }
 
--- the literal of a word of so many bytes that stands after its type: TRUE or FALSE in any case
+-- a truth value, 1 or 0, by its word after so many bytes of its type
+abbrev pub truth_literal : ℕ → List ℕ → ℕ → Literal
+truth_literal before word n = record { kind = Truth; minus = false; number = n; size = before + length word }
+
+-- the literal of a word that stands after so many bytes of its type: TRUE or FALSE in any case
 abbrev pub truth_named : ℕ → List ℕ → Option Literal
 truth_named before word =
-    if is_same_word word (codes "TRUE")
-    then Some (record { kind = Truth; minus = false; number = 1; size = before + length word })
-    else if is_same_word word (codes "FALSE") then Some
-    (record { kind = Truth; minus = false; number = 0; size = before + length word })
+    if is_same_word word (codes "TRUE") then Some (truth_literal before word 1)
+    else if is_same_word word (codes "FALSE") then Some (truth_literal before word 0)
     else None
 
 -- one thing, or another where there is none

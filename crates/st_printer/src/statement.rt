@@ -38,9 +38,9 @@ fn put_assign(
     var: Var,
     value: &Expr,
 ) -> Result<(), NoMemory>
-    ensures { OnOk result (out.new.items ≡ out.old.items
-        ++ line level (var_text (names_in tree.now unit.now) var ++ codes " := "
-        ++ expr_text (names_in tree.now unit.now) value.now ++ codes ";")) }
+    ensures { let names = names_in tree.now unit.now in
+        OnOk result (out.new.items ≡ out.old.items
+        ++ line level (var_text names var ++ codes " := " ++ expr_text names value.now ++ codes ";")) }
 {
     put_blanks(out, level)?;
     put_var(out, tree, unit, var)?;
@@ -57,9 +57,9 @@ fn put_operands(
     pointer: &Expr,
     value: &Expr,
 ) -> Result<(), NoMemory>
-    ensures { OnOk result (out.new.items ≡ out.old.items
-        ++ expr_text (names_in tree.now unit.now) pointer.now ++ codes ", "
-        ++ expr_text (names_in tree.now unit.now) value.now ++ codes ");\n") }
+    ensures { let names = names_in tree.now unit.now in
+        OnOk result (out.new.items ≡ out.old.items
+        ++ expr_text names pointer.now ++ codes ", " ++ expr_text names value.now ++ codes ");\n") }
 {
     put_expr(out, tree, unit, pointer)?;
     put(out, ", ")?;
@@ -77,10 +77,10 @@ fn put_area_write(
     pointer: &Expr,
     value: &Expr,
 ) -> Result<(), NoMemory>
-    ensures { OnOk result (out.new.items ≡ out.old.items
-        ++ line level (codes "AREA_WRITE_" ++ width_word width ++ codes "("
-        ++ expr_text (names_in tree.now unit.now) pointer.now ++ codes ", "
-        ++ expr_text (names_in tree.now unit.now) value.now ++ codes ");")) }
+    ensures { let names = names_in tree.now unit.now in
+        OnOk result (out.new.items ≡ out.old.items
+        ++ line level (codes "AREA_WRITE_" ++ width_word width ++ codes "(" ++ expr_text names pointer.now
+        ++ codes ", " ++ expr_text names value.now ++ codes ");")) }
 {
     put_blanks(out, level)?;
     put(out, "AREA_WRITE_")?;

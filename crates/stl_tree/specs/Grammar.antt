@@ -1,10 +1,9 @@
 -- The grammar of a source text, as far as built: a relation between the tokens of a text and the
 -- program that they stand for, one case for each form. The verdict accepts exactly what it relates.
-use Rattle.std.specs.Prelude.{◌≡◌, ℕ, Bool, true, false, ◌&&◌, List, [], ◌∷◌, ◌++◌, length, take, drop, codes, Some, Ok}
-use Rattle.std.specs.Str.{str_eq_ignore_ascii_case}
+use Rattle.std.specs.Prelude.{◌≡◌, ℕ, Bool, true, false, List, [], ◌∷◌, ◌++◌, length, drop, codes, Some, Ok}
 use Rattle.s7_base.specs.declared.reason.Line.{Line}
 use Rattle.s7_base.specs.declared.token.Token.{Token}
-use Rattle.stl_tree.specs.Items.{block_number, statement_op, statement_size}
+use Rattle.stl_tree.specs.Items.{begins_with_ob, block_number, statement_op, statement_size}
 use Rattle.stl_tree.specs.Verdict.{program_of}
 use Rattle.stl_tree.specs.Words.{is_word, is_sign, is_word_kind}
 use Rattle.stl_tree.specs.declared.program.BlockName.{BlockName}
@@ -28,8 +27,7 @@ pub data IsName : List Token → BlockName → Type 0 where
       is_word (codes "OB") word ≡ true → is_word_kind number.kind ≡ true → block_number number.text ≡ Some n
       → IsName (word ∷ number ∷ []) (Ob n)
   together : (word : Token) {n : ℕ} →
-      is_word (codes "OB") word ≡ false
-      → (is_word_kind word.kind && str_eq_ignore_ascii_case (take 2 word.text) (codes "OB")) ≡ true
+      is_word (codes "OB") word ≡ false → begins_with_ob word ≡ true
       → block_number (drop 2 word.text) ≡ Some n → IsName (word ∷ []) (Ob n)
 
 -- a body: empty statements, statements up to their `;`, and the end word

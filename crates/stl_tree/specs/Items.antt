@@ -191,12 +191,14 @@ heading_number [] = Err BadStatement
 heading_number (number ∷ rest) =
     if is_word_kind number.kind then heading_with 2 (block_number number.text) else Err (Unsupported NotBuilt)
 
+-- a word that begins with OB, in any case
+abbrev pub begins_with_ob : Token → Bool
+begins_with_ob token = is_word_kind token.kind && str_eq_ignore_ascii_case (take 2 token.text) (codes "OB")
+
 -- `OB1` in one word
 abbrev pub short_heading : Token → Result (BlockName × ℕ) Reason
 short_heading name =
-    if is_word_kind name.kind && str_eq_ignore_ascii_case (take 2 name.text) (codes "OB")
-    then heading_with 1 (block_number (drop 2 name.text))
-    else Err (Unsupported NotBuilt)
+    if begins_with_ob name then heading_with 1 (block_number (drop 2 name.text)) else Err (Unsupported NotBuilt)
 
 -- what stands after ORGANIZATION_BLOCK, with how many tokens it takes
 abbrev pub heading_name : List Token → Result (BlockName × ℕ) Reason
