@@ -3,16 +3,20 @@
 
 text_file=   # the file that the program read as its source, where it can be read again
 text_name=   # how that file is shown
+position=    # where standard input stood before the run, in bytes
 
-# Finds the file that is the source, also where it is standard input and is read from its beginning.
+# To be called before the run: a source on standard input is the whole file only where that is at its start.
+note_position() {
+    read -r _ position < "/proc/$$/fdinfo/0"
+} 2> /dev/null
+
+# Finds the file that was the source, by its name or as standard input.
 find_text() {
-    local file position
+    local file
     if [[ $1 != - ]]; then
         text_name=$(shown "$1")
         [[ ! -f $1 ]] || text_file=$1
-    elif file=$(readlink "/proc/$$/fd/0") && [[ -f $file && $file -ef /proc/$$/fd/0 ]]; then
-        read -r _ position < "/proc/$$/fdinfo/0"
-        [[ $position == 0 ]] || return
+    elif [[ $position == 0 ]] && file=$(readlink "/proc/$$/fd/0") && [[ -f $file && $file -ef /proc/$$/fd/0 ]]; then
         text_name=$(shown "${file#"$PWD/"}")
         text_file=$file
     fi
@@ -125,7 +129,10 @@ hint_too_long() {
     fi
 }
 
+# Says what the status means for this source.
 hint() {
+    [[ $status != 0 ]] || return 0
+    find_text "$1"
     case $status in
         1) hint_refused ;;
         2) hint_usage ;;

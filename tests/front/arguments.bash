@@ -25,13 +25,16 @@ says "an unknown name gets the names" "TooManyBrackets"
 front explain
 equal "explain alone lists the names" "$status: $(grep -c DivideByZero "$room/out")" "0: 1"
 
-# Each name of the code has its words.
-for name in $(sed -n 's/.*::\([A-Za-z]*\) => "\([A-Za-z]*\)",.*/\2/p' "$top/crates/s7_base/src/reason.rt" | sort -u) \
-    Unsupported $(sed -n '/enum Fault/,/^}/s/^    \([A-Z][A-Za-z]*\),$/\1/p' "$top/crates/s7_base/src/outcome.rt") \
-    $(sed -n '/enum ImageRefusal/,/^}/s/^    \([A-Z][A-Za-z]*\)(Line),$/\1/p' "$top/crates/image_text/src/refusal.rt"); do
-    front explain "$name"
-    equal "$name is explained" "$status: $(grep -c "^$name (" "$room/out" | sed 's/2/1/'; grep -c '    When:' "$room/out" | sed 's/2/1/')" $'0: 1\n1'
-done
+# Each name of the code has its words, once or in both texts.
+names=(Unsupported
+    $(sed -n 's/.*::[A-Za-z]* => "\([A-Za-z]*\)",.*/\1/p' "$top/crates/s7_base/src/reason.rt")
+    $(sed -n '/enum Fault/,/^}/s/^    \([A-Z][A-Za-z]*\),$/\1/p' "$top/crates/s7_base/src/outcome.rt")
+    $(sed -n '/enum ImageRefusal/,/^}/s/^    \([A-Z][A-Za-z]*\)(Line),$/\1/p' "$top/crates/image_text/src/refusal.rt"))
+front explain "${names[@]}"
+equal "there are ${#names[@]} names in the code" "$([[ ${#names[@]} -ge 52 ]] || echo "too few")" ""
+equal "each name of the code is explained" "$status: $(sed -n 's/^\([A-Za-z]*\) (.*/\1/p' "$room/out" | sort -u | tr '\n' ' ')" \
+    "0: $(printf '%s\n' "${names[@]}" | sort -u | tr '\n' ' ')"
+equal "each has its clause" "$(grep -c '^    When: ' "$room/out")" "$(grep -c '^[A-Z]' "$room/out")"
 
 # Arguments that are no command get the program's usage line.
 while read -r -a arguments; do

@@ -139,7 +139,7 @@ gives "a link to the front" 0 accepted
 if has_terminal; then
     echo "// terminal" >> "$repo/crates/stl2st/src/lib.rt"
     echo 2 > "$bin/slow"
-    PATH=$path TERM=xterm script -qec "'$repo/stl2st' check a.awl" /dev/null < /dev/null > "$room/err" 2>&1
+    PATH=$path TERM=xterm timeout 20 script -qec "'$repo/stl2st' check a.awl" /dev/null < /dev/null > "$room/err" 2>&1
     says "a terminal shows the crate that is proved" "proving s7_base, 0 min"
     rm "$bin/slow"
 fi

@@ -53,7 +53,8 @@ says "a number that is none" "'1x' is no number"
 front run-stl 1 OB image <<< "ANSWER 2 usage"
 says "a call that is none" "'1 OB'"
 if has_terminal; then
-    PATH=$path script -qec "'$repo/stl2st' check" /dev/null < <(echo BLOCK; sleep 0.2; printf '\4') > "$room/err" 2>&1
+    PATH=$path timeout 20 script -qec "'$repo/stl2st' check" /dev/null \
+        < <(for _ in {1..30}; do sleep 0.3; printf '\4'; done) > "$room/err" 2>&1
     says "on a terminal it says that it waits" "waiting for the text on standard input"
 fi
 
