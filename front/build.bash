@@ -20,10 +20,10 @@ empty_block=$'ORGANIZATION_BLOCK OB 1\nBEGIN\nEND_ORGANIZATION_BLOCK'
 # What it has no line for is the kit's.
 crates_below() {
     local -A below=() seen=()
-    local line name libraries left=(stl2st)
-    while IFS= read -r line || [[ -n $line ]]; do
+    local line name library left=(stl2st)
+    while read -r line || [[ -n $line ]]; do
         line=${line%%#*}
-        read -r name _ <<< "${line%%:*}"
+        name=${line%%[: ]*}
         [[ -z $name ]] || below[$name]=${line#*:}
     done < "$top/crates.txt"
     while [[ ${#left[@]} -gt 0 ]]; do
@@ -31,8 +31,7 @@ crates_below() {
         left=("${left[@]:1}")
         [[ -n ${below[$name]+is} && -z ${seen[$name]-} ]] || continue
         seen[$name]=yes
-        read -ra libraries <<< "${below[$name]}"
-        left+=("${libraries[@]}")
+        for library in ${below[$name]}; do left+=("$library"); done
         echo "$name"
     done
 }
@@ -65,7 +64,7 @@ why_not_built() {
     else
         mapfile -t sums < "$stamp"
         if [[ ${sums[0]-} != "$(sources_sum)" ]]; then
-            echo "older than its sources"
+            echo "built from other sources"
         elif [[ ${sums[1]-} != "$(file_sum "$program")" ]]; then
             echo "not the one that was built"
         fi
@@ -83,11 +82,11 @@ stop_where_unbuildable() {
 
 # The crate that is being proved: it stands in the arguments of a process that the builder started.
 crate_of() {
-    local child arguments at
+    local child parts at
     for child in $(cat "/proc/$1/task"/*/children); do
-        mapfile -d '' arguments < "/proc/$child/cmdline"
-        for at in "${!arguments[@]}"; do
-            [[ ${arguments[at]} != --crate-name ]] || echo "${arguments[at + 1]-}"
+        mapfile -d '' parts < "/proc/$child/cmdline"
+        for at in "${!parts[@]}"; do
+            [[ ${parts[at]} != --crate-name ]] || echo "${parts[at + 1]-}"
         done
         crate_of "$child"
     done 2> /dev/null
@@ -101,19 +100,25 @@ show_progress() {
     printf '\r\033[Kstl2st: %s, %d min' "$what" $(((SECONDS - begun) / 60)) >&2
 }
 
+clear_progress() {
+    [[ $on_terminal == no ]] || printf '\r\033[K' >&2
+}
+
 # Ends all that the build started, and then the front.
 end_build() {
     local tries
-    kill -TERM -- "-$builder"
-    for tries in {1..50}; do
-        kill -0 -- "-$builder" || break
-        [[ $tries != 40 ]] || kill -KILL -- "-$builder"
-        sleep 0.1
-    done
-    [[ $on_terminal == no ]] || printf '\r\033[K' >&3
-    printf 'stl2st: the build was stopped; what is proved so far is kept\n' >&3
+    {
+        kill -TERM -- "-$builder"
+        for tries in {1..50}; do
+            kill -0 -- "-$builder" || break
+            [[ $tries != 40 ]] || kill -KILL -- "-$builder"
+            sleep 0.1
+        done
+    } 2> /dev/null
+    clear_progress
+    say "the build was stopped; what is proved so far is kept"
     end_by "$1"
-} 3>&2 2> /dev/null
+}
 
 # Stops the build with the front, and goes on with it.
 pause_build() {
@@ -132,29 +137,29 @@ run_build() {
     done
     trap pause_build TSTP
     set -m
-    (cd -- "$crate" && exec rt run -- check) <<< "$empty_block" > "$out/answer" 2> "$log" &
+    (cd -- "$crate" && exec rt run -- check) < <(echo "$empty_block") > "$out/answer" 2> "$log" &
     builder=$!
     set +m
     while [[ $on_terminal == yes ]] && kill -0 "$builder" 2> /dev/null; do
         show_progress
-        sleep 0.5 <&- >&- 2>&- &
+        sleep 1 <&- >&- 2>&- &
         wait "$!"
     done
     # (a pause ends the wait, and not the build)
     until wait "$builder"; ended=$?; ! kill -0 "$builder" 2> /dev/null; do :; done
     trap - HUP INT QUIT TERM TSTP
-    [[ $on_terminal == no ]] || printf '\r\033[K' >&2
+    clear_progress
     [[ $ended == 0 && -x $crate/out/stl2st && $(tail -n 1 -- "$out/answer") == accepted ]]
 }
 
 # Moves the new program into place. Without its stamp a program does not count as built.
 install_program() {
-    rm -f -- "$stamp" \
-        && cp -- "$crate/out/stl2st" "$program.new" \
+    cp -- "$crate/out/stl2st" "$program.new" \
+        && printf '%s\n' "$1" "$(file_sum "$program.new")" > "$stamp.new" \
+        && rm -f -- "$stamp" \
         && mv -f -- "$program.new" "$program" \
-        && printf '%s\n' "$1" "$(file_sum "$program")" > "$stamp.new" \
         && mv -f -- "$stamp.new" "$stamp"
-}
+} 2> /dev/null
 
 # Builds until the sources stayed the same throughout. A failed build leaves the former program.
 build() {

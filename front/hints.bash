@@ -25,9 +25,9 @@ find_text() {
 # The first line that the program writes, by a second run. There is none where an input can't be read twice,
 # or where the run is a long one.
 first_line() {
-    local image=${words[3]-}
+    local image=${arguments[3]-}
     [[ -n $text_file && (! -e $image || -f $image) ]] || return 0
-    timeout --foreground 5 "$program" "${words[@]}" < "$text_file" 2> /dev/null | head -n 1
+    timeout --foreground 5 "$program" "${arguments[@]}" < "$text_file" 2> /dev/null | head -n 1
 }
 
 # A line of a file, to be shown on one line: blanks are squeezed, control characters left out, and Latin-1 is
@@ -39,11 +39,11 @@ line_of() {
     line=${line# }
     line=${line% }
     if [[ ${LC_ALL:-${LC_CTYPE:-${LANG-}}} != *[Uu][Tt][Ff]* ]]; then
-        tr '\200-\377' '?' <<< "$line"
-    elif iconv -f UTF-8 -t UTF-8 <<< "$line" > /dev/null 2>&1; then
+        printf '%s\n' "$line" | tr '\200-\377' '?'
+    elif printf '%s' "$line" | iconv -f UTF-8 -t UTF-8 > /dev/null 2>&1; then
         printf '%s\n' "$line"
     else
-        iconv -f ISO-8859-1 -t UTF-8 <<< "$line"
+        printf '%s\n' "$line" | iconv -f ISO-8859-1 -t UTF-8
     fi
 }
 
@@ -54,31 +54,29 @@ say_where() {
     printf '%s:%s: %s%s\n' "$name" "$line" "$sentence" "${text:+: $text}" >&2
 }
 
-# The section of the page that has the reasons of this command's text.
-section_of_reasons() {
-    [[ ${words[0]} == run-st ]] && echo "A Structured Text" || echo "A source of Statement List"
-}
-
 # A refusal of the source: its line, a sentence, and where more is said.
 hint_refused() {
-    local form='^line ([0-9]+): ([A-Za-z]+)(\(([A-Za-z]+)\))?$' line name
+    local form='^line ([0-9]+): ([A-Za-z]+)(\(([A-Za-z]+)\))?$' section="A source of Statement List" line name
+    [[ ${arguments[0]} != run-st ]] || section="A Structured Text"
     if [[ $(first_line) =~ $form ]]; then
         line=${BASH_REMATCH[1]}
         name=${BASH_REMATCH[4]:-${BASH_REMATCH[2]}}
-        say_where "$text_name" "$text_file" "$line" "$(from_page sentence "$name" "$(section_of_reasons)")"
+        say_where "$text_name" "$text_file" "$line" "$(from_page sentence "$name" "$section")"
         say "'$self explain $name' says what to change"
     else
-        say "the text breaks a rule; '$self explain NAME' says what to change for the reason above"
+        say "the text breaks a rule, which standard output names with its line; '$self explain NAME' says what to change"
     fi
 }
 
 hint_image() {
-    local form='^image line ([0-9]+): ([A-Za-z]+)$'
+    local form='^image line ([0-9]+): ([A-Za-z]+)$' image=${arguments[3]-} line name
     if [[ $(first_line) =~ $form ]]; then
-        say_where "$(shown "${words[3]}")" "${words[3]}" "${BASH_REMATCH[1]}" "$(from_page sentence "${BASH_REMATCH[2]}" "An image")"
-        say "'$self explain ${BASH_REMATCH[2]}' says what to change"
+        line=${BASH_REMATCH[1]}
+        name=${BASH_REMATCH[2]}
+        say_where "$(shown "$image")" "$image" "$line" "$(from_page sentence "$name" "An image")"
+        say "'$self explain $name' says what to change"
     else
-        say "the image breaks a rule; '$self explain NAME' says what to change for the reason above"
+        say "the image breaks a rule, which standard output names with its line; '$self explain NAME' says what to change"
     fi
 }
 
@@ -86,26 +84,26 @@ hint_fault() {
     local form='^# FAULT ([A-Za-z]+)$'
     if [[ $(first_line) =~ $form ]]; then
         say "the run ended with a fault: $(from_page sentence "${BASH_REMATCH[1]}")"
-        say "'$self explain ${BASH_REMATCH[1]}' says more"
+        say "'$self explain ${BASH_REMATCH[1]}' says what to change"
     else
-        say "the run ended with the fault in the report's first line; '$self explain NAME' says what it means"
+        say "the run ended with the fault that the report's first line names; '$self explain NAME' says what to change"
     fi
 }
 
 # Which of the three arguments of a run is no such argument.
 hint_usage() {
-    if [[ ! ${words[1]-} =~ ^[0-9]{1,20}$ ]]; then
-        say "'$(shown "${words[1]}")' is no number of one to twenty digits"
-    elif [[ -z ${words[3]-} ]]; then
+    if [[ ! ${arguments[1]-} =~ ^[0-9]{1,20}$ ]]; then
+        say "'$(shown "${arguments[1]}")' is no number of one to twenty digits"
+    elif [[ -z ${arguments[3]-} ]]; then
         say "the image needs a name"
     else
-        say "a number up to 18446744073709551615 is needed, and then a call, as OB1, FC10(MW4,M0.0) or FB1/DB5: '$(shown "${words[1]}") $(shown "${words[2]}")'"
+        say "a number up to 18446744073709551615 is needed, and then a call, as OB1, FC10(MW4,M0.0) or FB1/DB5: '$(shown "${arguments[1]}") $(shown "${arguments[2]}")'"
     fi
 }
 
 # Which input could not be read. That a source is not there is said before the run.
 hint_unread() {
-    local image=${words[3]-} why=
+    local image=${arguments[3]-} why=
     [[ -z $image ]] || why=$(unreadable "$image")
     if [[ -n $why ]]; then
         say "the image $(shown "$image") can't be read: $why"
@@ -119,7 +117,7 @@ is_longer() {
 }
 
 hint_too_long() {
-    local image=${words[3]-}
+    local image=${arguments[3]-}
     if is_longer "$image" 67108864 && ! is_longer "$text_file" 4194304; then
         say "the image $(shown "$image") has more than 67,108,864 bytes"
     elif [[ -z $image ]] || is_longer "$text_file" 4194304; then
@@ -129,21 +127,20 @@ hint_too_long() {
     fi
 }
 
-# Says what the status means for this source.
+# Says what a status that is not 0 means for this source.
 hint() {
-    [[ $status != 0 ]] || return 0
     find_text "$1"
     case $status in
         1) hint_refused ;;
         2) hint_usage ;;
         3) hint_image ;;
-        4) say "the source has nothing that the call $(shown "${words[2]}") fits: no such block or unit, or other parameters" ;;
+        4) say "the source has nothing that the call $(shown "${arguments[2]-}") fits: no such block or unit, or other parameters" ;;
         5) hint_fault ;;
-        6) say "the run has not ended after $(shown "${words[1]}"); give it more, or look for a loop that does not end" ;;
+        6) say "the run has not ended after $(shown "${arguments[1]-}"); give it more, or look for a loop that does not end" ;;
         7) hint_unread ;;
         8) say "$(shown "${output:-standard output}") could not be written whole" ;;
         9) hint_too_long ;;
         10) say "memory ran out, and nothing was written" ;;
     esac
-    [[ -z $output || $status == 0 || $status == 8 ]] || say "$(shown "$output") is not written"
+    [[ -z $output || $status == 8 ]] || say "$(shown "$output") is not written"
 }

@@ -61,5 +61,5 @@ mode == "whole" && tolower(here) == tolower(name) { whole() }
 mode == "sentence" && here == name && (found == "" || section_here == section) { found = clause(cells[3]) }
 END {
     for (at = 1; at <= sections; at++) paragraph(order[at], list[order[at]])
-    if (mode == "sentence") print found
+    if (mode == "sentence") print found == "" ? name : found
 }

@@ -28,7 +28,7 @@ changed() {
     before=$(builds)
     front check a.awl
     gives "$1" 0 accepted
-    says "$1 says why" "${2-older than its sources}"
+    says "$1 says why" "${2-built from other sources}"
     front check a.awl
     equal "$1 builds once" "$(builds)" $((before + 1))
 }
@@ -63,7 +63,7 @@ echo "// broken" >> "$repo/crates/stl2st/src/lib.rt"
 front check a.awl
 gives "a build that fails" 125 ""
 says "it shows the end of the log" "not proved"
-says "it says that the program is older" "the program is older than its sources"
+says "it says that the program is that of others" "the program is built from other sources"
 equal "the former program stays" "$(cksum < "$repo/out/stl2st")" "$sum"
 rm "$bin/fails"
 sed -i '$d' "$repo/crates/stl2st/src/lib.rt"
@@ -123,7 +123,7 @@ if "${nobody[@]}" test -x "$repo/stl2st" 2> /dev/null; then
     PATH=$path "${nobody[@]}" "$repo/stl2st" check a.awl > "$room/out" 2> "$room/err"
     status=$?
     gives "a checkout that can't be written is not built" 125 ""
-    equal "and says so in one line" "$(cat "$room/err")" "stl2st: the program is older than its sources, and $repo can't be written: build it in a checkout that can"
+    equal "and says so in one line" "$(cat "$room/err")" "stl2st: the program is built from other sources, and $repo can't be written: build it in a checkout that can"
 fi
 chmod -R u+w "$repo"
 

@@ -26,7 +26,7 @@ front run-st 1 OB1 image c.st
 says "a Structured Text has its own sentence, without control characters" "c.st:2: characters form no token, or a literal does not fit its type: x := ?;[31m"
 printf '# all\nM 0: 0G\n' > "$room/image"
 front run-stl 1 OB1 image - <<< "ANSWER 3 image line 2: BadByte"
-says "an image from a pipe's run" "the image breaks a rule"
+says "an image from a pipe's run" "the image breaks a rule, which standard output names"
 echo "ANSWER 3 image line 2: BadByte" > "$room/d.awl"
 front run-stl 1 OB1 image d.awl
 says "a line of an image" "image:2: a field is not exactly two hexadecimal digits: M 0: 0G"
