@@ -104,16 +104,15 @@ clear_progress() {
     [[ $on_terminal == no ]] || printf '\r\033[K' >&2
 }
 
-# Ends all that the build started, and then the front.
+# Ends all that the build started, and then the front. rt has two seconds to end by itself.
 end_build() {
-    local tries
     {
         kill -TERM -- "-$builder"
-        for tries in {1..50}; do
-            kill -0 -- "-$builder" || break
-            [[ $tries != 40 ]] || kill -KILL -- "-$builder"
+        for _ in {1..20}; do
+            kill -0 "$builder" || break
             sleep 0.1
         done
+        kill -KILL -- "-$builder"
     } 2> /dev/null
     clear_progress
     say "the build was stopped; what is proved so far is kept"
@@ -136,8 +135,9 @@ run_build() {
         trap "end_build $signal" "$signal"
     done
     trap pause_build TSTP
+    bind_to_front TERM
     set -m
-    (cd -- "$crate" && exec rt run -- check) < <(echo "$empty_block") > "$out/answer" 2> "$log" &
+    (cd -- "$crate" && exec "${bound[@]}" rt run -- check) < <(echo "$empty_block") > "$out/answer" 2> "$log" &
     builder=$!
     set +m
     while [[ $on_terminal == yes ]] && kill -0 "$builder" 2> /dev/null; do

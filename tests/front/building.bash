@@ -92,9 +92,21 @@ for signal in TERM HUP INT; do
     { wait "$caller"; } 2> /dev/null
     equal "SIG$signal ends the front by it" "$(kill -l $?)" "$signal"
     group=$(cat "$bin/builds")
-    equal "SIG$signal ends the build" "$(kill -0 -- "-$group" 2> /dev/null && echo "it runs")" ""
+    equal "SIG$signal ends the build" "$(running_in "$group")" ""
     says "SIG$signal is told" "the build was stopped"
 done
+if can_bind; then
+    : > "$bin/builds"
+    PATH=$path "$repo/stl2st" check a.awl > "$room/out" 2> "$room/err" &
+    caller=$!
+    for _ in {1..50}; do [[ -s $bin/builds ]] && break; sleep 0.1; done
+    kill -KILL "$caller"
+    { wait "$caller"; } 2> /dev/null
+    sleep 0.2
+    builder=$(cat "$bin/builds")
+    equal "SIGKILL ends rt too" "$(is_running "$builder" && echo "it runs")" ""
+    kill -KILL -- "-$builder" 2> /dev/null
+fi
 rm "$bin/slow"
 
 # What a build needs.

@@ -30,7 +30,9 @@ for signal in KILL TERM PIPE ABRT; do
     { bash -c 'PATH=$1 "$2" check <<< "KILL $3"' "" "$path" "$repo/stl2st" "$signal"; } > "$room/out" 2> "$room/err"
     equal "SIG$signal of the program is handed on" "$(kill -l $?)" "$signal"
 done
-for signal in TERM HUP INT QUIT; do
+signals=(TERM HUP INT QUIT)
+! can_bind || signals+=(KILL)
+for signal in "${signals[@]}"; do
     rm -f "$room/number"
     PATH=$path env --default-signal=INT,QUIT "$repo/stl2st" check <<< "SLEEP $room/number" > "$room/out" 2> "$room/err" &
     caller=$!
@@ -38,7 +40,8 @@ for signal in TERM HUP INT QUIT; do
     kill -s "$signal" "$caller"
     { wait "$caller"; } 2> /dev/null
     ended=$?
-    kill -0 "$(cat "$room/number")" 2> /dev/null && ended="the program runs"
+    sleep 0.1
+    ! is_running "$(cat "$room/number")" || ended="the program runs"
     equal "SIG$signal ends the front and the program" "$ended" "$((128 + $(kill -l "$signal")))"
 done
 
