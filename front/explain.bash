@@ -3,9 +3,10 @@
 
 page=$top/docs/reference/refusals.md
 
-# Reads the page: names; whole NAME; sentence NAME SECTION.
+# Reads the page: names; whole NAME; sentence NAME SECTION. Without the page a name stands for itself.
 from_page() {
-    awk -v mode="$1" -v name="${2-}" -v section="${3-}" -f "$top/front/refusals.awk" "$page"
+    awk -v mode="$1" -v name="${2-}" -v section="${3-}" -f "$top/front/refusals.awk" "$page" 2> /dev/null \
+        || printf '%s\n' "${2-}"
 }
 
 # Prints what the page has of each name, in any case and also as in Unsupported(Timer); with no name the

@@ -75,6 +75,10 @@ equal "with the mode of a new file" "$(stat -c %a "$room/folder/a.st")" 640
 front translate -o folder/a.st a.awl
 gives "the option stands anywhere" 0 ""
 chmod 604 "$room/folder/a.st"
+ln "$room/folder/a.st" "$room/folder/former.st"
+echo former > "$room/folder/a.st"
+front translate a.awl -o folder/a.st
+equal "a former output is replaced and not written over" "$(cat "$room/folder/former.st")" former
 echo "ANSWER 1 line 1: BadToken" > "$room/bad.awl"
 front translate bad.awl -o folder/a.st
 gives "a refusal goes to standard output" 1 "line 1: BadToken"

@@ -15,8 +15,11 @@ LC_ALL=C front check a.awl
 says "the text without umlauts where they can't be shown" "//F?rderband"
 front check < "$room/a.awl"
 equal "the same for standard input from a file" "$(head -c 39 "$room/err")" "a.awl:3: this form is not supported: SP"
-cat "$room/a.awl" | PATH=$path "$repo/stl2st" check > "$room/out" 2> "$room/err"
+front check < <(cat "$room/a.awl")
 says "no text from a pipe" "explain NAME' says what to change"
+printf '%s\n' one 'ANSWER 1 line 1: BadToken' > "$room/two.awl"
+{ read -r && front check; } < "$room/two.awl"
+says "no text from a file that is read from its middle" "the text breaks a rule, which standard output names"
 printf 'ANSWER 1 line 9: BadStatement\n' > "$room/b.awl"
 front translate b.awl
 says "a line past the end has no text" "b.awl:9: this is no form of the language at its place"
