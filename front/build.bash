@@ -73,9 +73,12 @@ why_not_built() {
 
 # What a build needs.
 stop_where_unbuildable() {
+    local tool
     command -v rt > /dev/null \
         || fail 125 "the program is $1, and the kit's command 'rt', which proves and builds it, is not on the path"
-    command -v flock > /dev/null || fail 125 "the program is $1, and 'flock', which a build needs, is not on the path"
+    for tool in flock setsid sha256sum; do
+        command -v "$tool" > /dev/null || fail 125 "the program is $1, and '$tool', which a build needs, is not on the path"
+    done
     { mkdir -p -- "$out" && [[ -w $out && -w $crate ]]; } 2> /dev/null \
         || fail 125 "the program is $1, and $top can't be written: build it in a checkout that can"
 }
@@ -119,14 +122,17 @@ end_build() {
     end_by "$1"
 }
 
-# Stops the build with the front, and goes on with it.
+# Stops the build with the front, and goes on with it. rt first stops what it started in other groups.
 pause_build() {
-    kill -TSTP -- "-$builder"
+    kill -TSTP "$builder"
+    sleep 0.3
+    kill -STOP -- "-$builder"
     kill -STOP "$$"
     kill -CONT -- "-$builder"
 } 2> /dev/null
 
-# Proves and builds the program by rt, in a process group of its own, and tries it on an empty block.
+# Proves and builds the program by rt, in a process group of its own, and tries it on an empty block. (Job
+# control would give it a group too, and take the terminal from the pipe that the front stands in.)
 run_build() {
     local signal on_terminal=no builder= ended
     [[ ! -t 2 || ${TERM-dumb} == dumb ]] || on_terminal=yes
@@ -136,10 +142,9 @@ run_build() {
     done
     trap pause_build TSTP
     bind_to_front TERM
-    set -m
-    (cd -- "$crate" && exec "${bound[@]}" rt run -- check) < <(echo "$empty_block") > "$out/answer" 2> "$log" &
+    (cd -- "$crate" && exec "${bound[@]}" setsid rt run -- check) \
+        < <(echo "$empty_block") > "$out/answer" 2> "$log" &
     builder=$!
-    set +m
     while [[ $on_terminal == yes ]] && kill -0 "$builder" 2> /dev/null; do
         show_progress
         sleep 1 <&- >&- 2>&- &
