@@ -7,7 +7,10 @@ position=    # where standard input stood before the run, in bytes
 
 # To be called before the run: a source on standard input is the whole file only where that is at its start.
 note_position() {
-    read -r _ position < "/proc/$$/fdinfo/0"
+    local info
+    exec {info}< "/proc/$$/fdinfo/0" || return
+    read -r -u "$info" _ position
+    exec {info}<&-
 } 2> /dev/null
 
 # Finds the file that was the source, by its name or as standard input.
@@ -27,7 +30,7 @@ find_text() {
 first_line() {
     local image=${arguments[3]-}
     [[ -n $text_file && (! -e $image || -f $image) ]] || return 0
-    timeout --foreground 5 "$program" "${arguments[@]}" < "$text_file" 2> /dev/null | head -n 1
+    timeout --foreground 5 "$program" "${arguments[@]}" < "$text_file" 2> /dev/null | head -n 1 | head -c 200 | tr -d '\0'
 }
 
 # A line of a file, to be shown on one line: blanks are squeezed, control characters left out, and Latin-1 is

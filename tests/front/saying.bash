@@ -17,7 +17,7 @@ front check < "$room/a.awl"
 equal "the same for standard input from a file" "$(head -c 39 "$room/err")" "a.awl:3: this form is not supported: SP"
 front check < <(cat "$room/a.awl")
 says "no text from a pipe" "explain NAME' says what to change"
-printf '%s\n' one 'ANSWER 1 line 1: BadToken' > "$room/two.awl"
+printf '%s\n' 'ANSWER 1 line 1: NoBlocks' 'ANSWER 1 line 1: BadToken' > "$room/two.awl"
 { read -r && front check; } < "$room/two.awl"
 says "no text from a file that is read from its middle" "the text breaks a rule, which standard output names"
 printf 'ANSWER 1 line 9: BadStatement\n' > "$room/b.awl"
