@@ -180,7 +180,7 @@ build() {
         say "the sources changed during the build, so it begins again"
     done
     install_program "$sum" || fail 125 "the program was built, and $out can't be written: is the disk full?"
-    say "built in $(((SECONDS - begun + 59) / 60)) min"
+    say "built in $(((SECONDS - begun) / 60)) min $(((SECONDS - begun) % 60)) s"
 }
 
 # Builds the program where it is not built; of several calls at a time one builds and the others wait.
