@@ -104,6 +104,12 @@ hint_usage() {
     fi
 }
 
+hint_going() {
+    local bound=steps
+    [[ ${arguments[0]} != run-st ]] || bound=units
+    say "the run has not ended within $(shown "${arguments[1]-}") $bound: give it more, or look for a loop that does not end"
+}
+
 # Which input could not be read. That a source is not there is said before the run.
 hint_unread() {
     local image=${arguments[3]-} why=
@@ -139,7 +145,7 @@ hint() {
         3) hint_image ;;
         4) say "the source has nothing that the call $(shown "${arguments[2]-}") fits: no such block or unit, or other parameters" ;;
         5) hint_fault ;;
-        6) say "the run has not ended after $(shown "${arguments[1]-}"); give it more, or look for a loop that does not end" ;;
+        6) hint_going ;;
         7) hint_unread ;;
         8) say "$(shown "${output:-standard output}") could not be written whole" ;;
         9) hint_too_long ;;

@@ -106,9 +106,8 @@ if can_bind; then
     for _ in {1..50}; do [[ -s $bin/builds ]] && break; sleep 0.1; done
     kill -KILL "$caller"
     { wait "$caller"; } 2> /dev/null
-    sleep 0.2
     builder=$(cat "$bin/builds")
-    equal "SIGKILL ends rt too" "$(is_running "$builder" && echo "it runs")" ""
+    equal "SIGKILL ends rt too" "$(running "$builder")" ""
     kill -KILL -- "-$builder" 2> /dev/null
 fi
 rm "$bin/slow"

@@ -40,8 +40,7 @@ for signal in "${signals[@]}"; do
     kill -s "$signal" "$caller"
     { wait "$caller"; } 2> /dev/null
     ended=$?
-    sleep 0.1
-    ! is_running "$(cat "$room/number")" || ended="the program runs"
+    ended+=$(running "$(cat "$room/number")")
     equal "SIG$signal ends the front and the program" "$ended" "$((128 + $(kill -l "$signal")))"
 done
 

@@ -40,7 +40,7 @@ front run-st 1 OB1 image e.st
 says "a fault" "the run ended with a fault: a divisor is 0"
 explained "where more is said of it" DivideByZero
 front run-stl 1000 OB1 image <<< "ANSWER 6 # GOING"
-says "a run that goes on" "the run has not ended after 1000"
+says "a run that goes on" "the run has not ended within 1000 steps"
 front run-stl 1 OB1 nowhere <<< "ANSWER 7"
 says "an image that is not there" "the image nowhere can't be read: there is no such file"
 front check <<< "ANSWER 8"
