@@ -5,13 +5,13 @@ use Rattle.s7_base.specs.declared.outcome.Fault.{Fault}
 use Rattle.memory_areas.specs.Access.{Aim, pointed, place_aimed}
 use Rattle.memory_areas.specs.declared.place.Place.{Place}
 
--- the pointer of an access with an offset: the byte and bit number, which are the lowest 19 bits, count on without
--- a carry into the bits above, which stay
+-- the pointer of an access with an offset: the byte and bit number, which are the lowest 19 bits, count
+-- on without a carry into the bits above, which stay
 abbrev pub with_offset : ℕ → ℕ → ℕ
 with_offset p offset = p / 2 ^ 19 * 2 ^ 19 + (p % 2 ^ 19 + offset) % 2 ^ 19
 
--- the pointer after an amount is added to an address register: the lowest 24 bits are the sum modulo 2 ^ 24, and
--- the area code stays
+-- the pointer after an amount is added to an address register: the lowest 24 bits are the sum modulo
+-- 2 ^ 24, and the area code stays
 abbrev pub moved : ℕ → ℤ → ℕ
 moved p amount = p / 2 ^ 24 * 2 ^ 24 + unsigned_abs (int_rem_euclid (pos (p % 2 ^ 24) +ℤ amount) (pos (2 ^ 24)))
 
@@ -19,6 +19,7 @@ moved p amount = p / 2 ^ 24 * 2 ^ 24 + unsigned_abs (int_rem_euclid (pos (p % 2 
 abbrev pub place_of : Aim → Result Place Fault
 place_of aim = place_aimed aim.area aim.byte aim.bit
 
--- the place that a pointer names, with the numbers in the DB and the DI register and that of the running activation
+-- the place that a pointer names, with the numbers in the DB and the DI register and that of the
+-- running activation
 abbrev pub resolved : ℕ → ℕ → ℕ → ℕ → Result Place Fault
 resolved p db di activation = place_of (pointed p db di activation)

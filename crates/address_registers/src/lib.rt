@@ -10,5 +10,3 @@ pub use pointer::Pointer;
 
 mod place;
 mod pointer;
-#[cfg(test)]
-mod tests;

@@ -9,7 +9,8 @@ abbrev pub digits : ℕ → ℕ → ℕ → List ℕ
 digits base zero n = []
 digits base (suc count) n = n % base ∷ digits base count (n / base)
 
--- the sum of each digit times the power of the base that its position says, where the first stands at `position`
+-- the sum of each digit times the power of the base that its position says, where the first stands at
+-- `position`
 abbrev pub worth_from : ℕ → ℕ → List ℕ → ℕ
 worth_from base position [] = 0
 worth_from base position (digit ∷ rest) = digit * base ^ position + worth_from base (position + 1) rest
@@ -33,14 +34,16 @@ with_sign negative amount = if negative then neg_ℤ (pos amount) else pos amoun
 -- the number that a pattern with so many digits says; a fault where a digit is above 9
 abbrev pub bcd_value : ℕ → ℕ → Result ℤ Fault
 bcd_value count n =
-    if are_decimal (digits 16 count n) then Ok (with_sign (is_negative count n) (worth 10 (digits 16 count n))) else Err BcdDigit
+    if are_decimal (digits 16 count n) then Ok (with_sign (is_negative count n) (worth 10 (digits 16 count n)))
+    else Err BcdDigit
 
 -- the sign digit that is written for a number
 abbrev pub sign_digit : ℤ → ℕ
 sign_digit v = if int_lt v (pos 0) then 0xF else 0
 
--- the pattern of a number in so many digits: those of its amount, and above them the sign digit; none where the
--- amount has more digits
+-- the pattern of a number in so many digits: those of its amount, and above them the sign digit; none
+-- where the amount has more digits
 abbrev pub bcd_of : ℕ → ℤ → Option ℕ
 bcd_of count v =
-    if nat_lt (unsigned_abs v) (10 ^ count) then Some (worth 16 (digits 10 count (unsigned_abs v) ++ sign_digit v ∷ [])) else None
+    if nat_lt (unsigned_abs v) (10 ^ count) then Some (worth 16 (digits 10 count (unsigned_abs v) ++ sign_digit v ∷ []))
+    else None

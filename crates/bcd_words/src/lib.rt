@@ -11,5 +11,3 @@ pub use encode::{dint_to_bcd7, int_to_bcd3};
 mod bcd_laws;
 mod decode;
 mod encode;
-#[cfg(test)]
-mod tests;

@@ -10,7 +10,7 @@ grows : (value : ℕ) (digits : List ℕ) → value ≤ number_from value digits
 grows value [] = omega arith
 grows value (d ∷ rest) = let more = grows (value * 10 + (d - 48)) rest in omega arith
 
--- digits behind a number that is kept give what they give behind the number
+-- digits after a number that is kept give what they give after the number
 pub kept_from : (value : ℕ) (digits : List ℕ) → kept (number_from (kept value) digits) ≡ kept (number_from value digits)
 kept_from value digits =
     grind (arith, grows value digits, grows (kept value) digits, λ (same : kept value ≡ value). ap (λ v. kept (number_from v digits)) same)

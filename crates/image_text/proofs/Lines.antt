@@ -99,7 +99,7 @@ pub left_behind : (p : ℕ → Bool) (behind : List ℕ) → 0 < length behind �
 left_behind p [] h = absurd (omega arith)
 left_behind p (b ∷ rest) h = refl
 
--- the lines behind one that was not refused
+-- the lines after one that was not refused
 pub line_done : (line next : ℕ) (rest text behind : List ℕ) (m after : Contents) (whole : Result Contents ImageRefusal)
     → slice_split (λ b. b == 10) rest ≡ text ∷ pieces_left (λ b. b == 10) behind → lines_on line (slice_split (λ b. b == 10) rest) m ≡ whole
     → LineDoes (line_on (record { 0 = line }) (line_said (strip_carriage_return text)) m) (Ok tt) after → next ≡ line_after line

@@ -19,7 +19,7 @@ between all name (suc k) h at (b ∷ rest) e =
     ∙ between all name k (omega arith) (at + 1) rest whole
     ∙ ap (λ i. area_text all name i (drop k rest)) next
 
--- the line at a multiple of 16, and those behind it
+-- the line at a multiple of 16, and those after it
 pub turn : (all : Bool) (name : List ℕ) (at : ℕ) (rest : List ℕ) → at % 16 ≡ 0 → 0 < length rest
     → area_text all name at rest ≡ row_shown all name at (take 16 rest) ++ area_text all name (at + 16) (drop 16 rest)
 turn all name at [] e h = absurd (omega arith)

@@ -24,7 +24,7 @@ is_number [] = false
 is_number (d ∷ []) = is_digit d
 is_number (d ∷ e ∷ rest) = not (d == 48) && list_all is_digit (d ∷ e ∷ rest)
 
--- the number that digits write behind those of a number
+-- the number that digits write after those of a number
 abbrev pub number_from : ℕ → List ℕ → ℕ
 number_from before [] = before
 number_from before (d ∷ rest) = number_from (before * 10 + (d - 48)) rest
@@ -35,7 +35,8 @@ number_of word = if is_number word then Some (number_from 0 word) else None
 
 -- the area of a letter: I, Q or M
 abbrev pub area_of_letter : ℕ → Option Area
-area_of_letter b = if b == 73 then Some area.I else if b == 81 then Some area.Q else if b == 77 then Some area.M else None
+area_of_letter b =
+    if b == 73 then Some area.I else if b == 81 then Some area.Q else if b == 77 then Some area.M else None
 
 -- the area of a word: a letter, or D, B and the number of a data block
 abbrev pub area_of : List ℕ → Option Area
@@ -51,7 +52,11 @@ byte_number word = if slice_index word (length word - 1) == 58 then number_of (t
 
 -- the value of a hexadecimal digit, small or capital
 abbrev pub hex_value : ℕ → Option ℕ
-hex_value b = if is_between 48 57 b then Some (b - 48) else if is_between 65 70 b then Some (b - 55) else if is_between 97 102 b then Some (b - 87) else None
+hex_value b =
+    if is_between 48 57 b then Some (b - 48)
+    else if is_between 65 70 b then Some (b - 55)
+    else if is_between 97 102 b then Some (b - 87)
+    else None
 
 -- the byte of its high and its low digit, where each is one
 abbrev pub two_digits : Option ℕ → Option ℕ → Option ℕ
@@ -97,7 +102,8 @@ pub record Shape : Type 0 where
 abbrev pub shaped : Option Area → Option ℕ → List (List ℕ) → Option Shape
 shaped None byte fields = None
 shaped (Some a) None fields = None
-shaped (Some a) (Some n) fields = if list_any is_empty fields then None else Some (record { area = a; byte = n; fields = fields })
+shaped (Some a) (Some n) fields =
+    if list_any is_empty fields then None else Some (record { area = a; byte = n; fields = fields })
 
 -- the shape of a line that is cut at each blank: an area, a byte number, and one field or more
 abbrev pub shape_of : List (List ℕ) → Option Shape
@@ -154,7 +160,8 @@ line_on line (bytes_at a byte values) m =
     if has_room (bytes_of a m) byte (length values) then Ok (written a byte values m) else Err (OutsideArea line)
 
 -- what comes of a memory, where no line was refused
-abbrev pub and_then : Result Contents ImageRefusal → (Contents → Result Contents ImageRefusal) → Result Contents ImageRefusal
+abbrev pub and_then : Result Contents ImageRefusal → (Contents → Result Contents ImageRefusal)
+    → Result Contents ImageRefusal
 and_then (Ok m) next = next m
 and_then (Err refused) next = Err refused
 
@@ -162,7 +169,8 @@ and_then (Err refused) next = Err refused
 abbrev pub lines_on : ℕ → List (List ℕ) → Contents → Result Contents ImageRefusal
 lines_on line [] m = Ok m
 lines_on line (text ∷ more) m =
-    and_then (line_on (record { 0 = line }) (line_said (strip_carriage_return text)) m) (λ n. lines_on (line_after line) more n)
+    and_then (line_on (record { 0 = line }) (line_said (strip_carriage_return text)) m)
+    (λ n. lines_on (line_after line) more n)
 
 -- the memory of an image, which begins as a new one with these data blocks
 abbrev pub image_of : List ℕ → List DataBlock → Result Contents ImageRefusal

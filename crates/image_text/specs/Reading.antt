@@ -1,19 +1,19 @@
 -- How the calls that read an image answer.
 use Rattle.std.specs.Prelude.{◌≡◌, ℕ, ◌^◌, ◌-◌, ◌<◌, ◌≤◌, min, nat_lt, if◌then◌else◌, List, [], ◌∷◌, length, All, Bool, Some, Result, Ok, Err}
 use Rattle.std.specs.List.{slice_split}
-use Rattle.memory_areas.specs.Access.{bytes_there}
+use Rattle.memory_areas.specs.Access.{bytes_there, or_none}
 use Rattle.memory_areas.specs.Areas.{Contents, IsMemoryOf}
 use Rattle.memory_areas.specs.declared.data_block.DataBlock.{DataBlock}
 use Rattle.memory_areas.specs.declared.place.Area.{Area}
 use Rattle.memory_areas.specs.declared.place.Area.TheVariants as area
 use Rattle.memory_areas.specs.declared.sizes.TheConstants.{MOST_BLOCK_BYTES}
-use Rattle.image_text.specs.Image.{Shape, is_blank}
+use Rattle.image_text.specs.Image.{Shape, is_blank, values_of}
 use Rattle.image_text.specs.Report.{block_text}
 use Rattle.image_text.specs.declared.refusal.ImageRefusal.{ImageRefusal}
 use Rattle.image_text.specs.declared.refusal.ImageRefusal.TheVariants.{NoMemory}
 use Rattle.image_text.specs.declared.shape.Shape.{Shape as Found}
 
--- the answer is the defined one, or want of memory
+-- the answer is the defined one, or memory ran out
 abbrev pub Reads : Result Contents ImageRefusal → Result Contents ImageRefusal → Type 0
 Reads (Err NoMemory) defined = Unit {0}
 Reads answer defined = defined ≡ answer
@@ -23,10 +23,14 @@ abbrev pub LineDoes : Result Contents ImageRefusal → Result (Unit {0}) ImageRe
 LineDoes defined (Ok done) after = defined ≡ Ok after
 LineDoes defined (Err refused) after = defined ≡ Err refused
 
--- what stands behind a piece of a text: nothing, or a separator and further pieces
+-- what stands after a piece of a text: nothing, or a separator and further pieces
 abbrev pub pieces_left : (ℕ → Bool) → List ℕ → List (List ℕ)
 pieces_left p [] = []
 pieces_left p (b ∷ behind) = slice_split p behind
+
+-- the bytes of the fields that are left of a line, where each of them writes one
+abbrev pub values_left : List ℕ → List ℕ
+values_left left = or_none (values_of (pieces_left is_blank left))
 
 -- a number that is kept in 32 bits; one past the greatest is kept as that one
 abbrev pub kept : ℕ → ℕ

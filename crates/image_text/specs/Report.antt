@@ -41,7 +41,8 @@ row_shown all name at row = if all || list_any is_set row then row_text name at 
 -- the lines of an area from byte `at` on, one of 16 bytes at each multiple of 16
 abbrev pub area_text : Bool → List ℕ → ℕ → List ℕ → List ℕ
 area_text all name at [] = []
-area_text all name at (b ∷ rest) = (if at % 16 == 0 then row_shown all name at (take 16 (b ∷ rest)) else []) ++ area_text all name (at + 1) rest
+area_text all name at (b ∷ rest) =
+    (if at % 16 == 0 then row_shown all name at (take 16 (b ∷ rest)) else []) ++ area_text all name (at + 1) rest
 
 -- the lines of a data block, all of them
 abbrev pub block_text : DataBlock → List ℕ
@@ -50,7 +51,8 @@ block_text block = area_text true (codes "DB" ++ decimal block.number) 0 block.b
 -- the lines of a memory
 abbrev pub memory_text : Areas → List ℕ
 memory_text m =
-    area_text false (codes "I") 0 m.inputs ++ area_text false (codes "Q") 0 m.outputs ++ area_text false (codes "M") 0 m.markers ++ flat_map block_text m.blocks
+    area_text false (codes "I") 0 m.inputs ++ area_text false (codes "Q") 0 m.outputs
+    ++ area_text false (codes "M") 0 m.markers ++ flat_map block_text m.blocks
 
 -- how a run ended
 abbrev pub end_text : Option Fault → List ℕ

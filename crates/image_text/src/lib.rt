@@ -14,5 +14,3 @@ mod read;
 mod refusal;
 mod report;
 mod shape;
-#[cfg(test)]
-mod tests;

@@ -1,9 +1,9 @@
 //! Reads an image.
 ghost use Rattle.std.specs.Prelude.{ℕ, ◌≡◌, ◌∷◌, [], ◌+◌, ◌<◌, ◌^◌, All, IfOk, IsSome, OnOk, Some, false, length, true};
-ghost use Rattle.memory_areas.specs.Access.{is_closed, or_none};
+ghost use Rattle.memory_areas.specs.Access.{is_closed};
 ghost use Rattle.memory_areas.specs.Areas.{AreBlocks, IsMemoryOf, bytes_of, fresh};
 ghost use Rattle.image_text.specs.Image.{has_room, image_of, is_blank, line_on, line_said, says_nothing, shape_said, values_of, written};
-ghost use Rattle.image_text.specs.Reading.{IsNamed, IsUsable, LineDoes, MemoryStays, Reads, pieces_left, view};
+ghost use Rattle.image_text.specs.Reading.{IsNamed, IsUsable, LineDoes, MemoryStays, Reads, pieces_left, values_left, view};
 
 use crate::number::byte_of;
 use crate::pieces::{cut_line, next_piece, rest_after, strip_return};
@@ -34,11 +34,11 @@ fn has_room(memory: &Memory, area: Area, byte: u32, count: usize) -> bool
     }
 }
 
-/// The byte of the first field, and what stands behind it.
+/// The byte of the first field, and what stands after it.
 fn next_value(left: &[u8]) -> (u8, &[u8])
     requires some { 0 < length left.now }
     requires bytes { IsSome (values_of (pieces_left is_blank left.now)) }
-    ensures first { or_none (values_of (pieces_left is_blank left.now)) ≡ result.0 ∷ or_none (values_of (pieces_left is_blank result.1.now)) }
+    ensures first { values_left left.now ≡ result.0 ∷ values_left result.1.now }
     ensures bytes { IsSome (values_of (pieces_left is_blank result.1.now)) }
     ensures shorter { length result.1.now < length left.now }
 {
@@ -68,9 +68,9 @@ fn put_fields(memory: &mut Memory, area: Area, byte: u32, fields: &[u8])
     requires named { IsNamed area }
     requires is_open { is_closed (Some area) ≡ false }
     requires bytes { IsSome (values_of (pieces_left is_blank fields.now)) }
-    requires room { has_room (bytes_of area memory.old) byte (length (or_none (values_of (pieces_left is_blank fields.now)))) ≡ true }
-    requires small { byte + length (or_none (values_of (pieces_left is_blank fields.now))) < 2 ^ 32 }
-    ensures done { memory.new ≡ written area byte (or_none (values_of (pieces_left is_blank fields.now))) memory.old }
+    requires room { has_room (bytes_of area memory.old) byte (length (values_left fields.now)) ≡ true }
+    requires small { byte + length (values_left fields.now) < 2 ^ 32 }
+    ensures done { memory.new ≡ written area byte (values_left fields.now) memory.old }
     ensures stays { MemoryStays memory.old memory.new }
 {
     let mut left = fields;

@@ -4,11 +4,11 @@ ghost use Rattle.image_text.specs.declared.refusal.ImageRefusal.TheVariants as r
 
 use s7_base::{Line, NoMemory};
 
-/// Why a text gave no memory: its first faulty line, or want of memory. Of two faults of one line the
+/// Why a text gave no memory: its first faulty line, or memory ran out. Of two faults of one line the
 /// one that stands first here counts.
 #[derive(Clone, Copy, Debug, PartialEq, Eq)]
 pub enum ImageRefusal {
-    /// The line has not the shape of one.
+    /// The line does not have the shape of an image's line.
     BadLine(Line),
 
     /// A field is not exactly two hexadecimal digits.
@@ -17,6 +17,7 @@ pub enum ImageRefusal {
     /// The data block is not there, or a byte stands past the area.
     OutsideArea(Line),
 
+    /// Memory ran out.
     NoMemory,
 }
 

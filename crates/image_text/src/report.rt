@@ -132,7 +132,8 @@ fn block_name(alloc: Global, number: u16) -> Result<Vec<u8>, NoMemory>
 }
 
 fn put_block(alloc: Global, out: &mut Vec<u8>, number: u16, bytes: &[u8]) -> Result<(), NoMemory>
-    ensures { OnOk result (out.new.items ≡ out.old.items ++ block_text (record { number = number; bytes = bytes.now })) }
+    ensures { OnOk result (out.new.items ≡ out.old.items
+        ++ block_text (record { number = number; bytes = bytes.now })) }
 {
     let name = block_name(alloc, number)?;
     put_area(out, true, name.as_slice(), bytes)

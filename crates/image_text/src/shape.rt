@@ -8,7 +8,7 @@ use crate::number::{byte_number, byte_of, number_of};
 use crate::pieces::{cut_piece, next_piece};
 use memory_areas::Area;
 
-/// A line of the right shape: where its bytes go, and its fields, each behind a blank. A number of a
+/// A line of the right shape: where its bytes go, and its fields, each after a blank. A number of a
 /// data block past the greatest is kept as 0, which no block has.
 #[derive(Clone, Copy)]
 pub struct Shape<'a> {

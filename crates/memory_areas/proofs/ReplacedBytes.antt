@@ -48,7 +48,7 @@ byte_behind bytes i new j h behind =
     ∙ get_or-drop (i + length new) bytes (j - (i + length new)) 0
     ∙ ap (λ n. get_or bytes n 0) same
 
--- the bytes before them and behind them stay
+-- the bytes before them and after them stay
 pub other_byte : (bytes : List ℕ) (i : ℕ) (new : List ℕ) (j : ℕ) → i + length new ≤ length bytes → (j < i) ⊎ (i + length new ≤ j) → get_or (replaced bytes i new) j 0 ≡ get_or bytes j 0
 other_byte bytes i new j h = ⊎_elim (byte_before bytes i new j h) (byte_behind bytes i new j h)
 

@@ -44,14 +44,15 @@ name_of_code code =
     else if code == 134 then Some name.L
     else None
 
--- a pointer has a bit number in its bits 0 to 2, a byte number in bits 3 to 18, and an area code in bits
--- 24 to 31
+-- the bit number of a pointer, 0 to 7: its bits 0 to 2
 abbrev pub bit_of_pointer : ℕ → ℕ
 bit_of_pointer p = p % 8
 
+-- the byte number of a pointer, 0 to 65,535: its bits 3 to 18; bits 19 to 23 say nothing
 abbrev pub byte_of_pointer : ℕ → ℕ
 byte_of_pointer p = p / 8 % 2 ^ 16
 
+-- the area code of a pointer of 32 bits: its bits 24 to 31
 abbrev pub code_of_pointer : ℕ → ℕ
 code_of_pointer p = p / 2 ^ 24
 
@@ -73,7 +74,11 @@ area_if_named (Some a) db di activation = Some (area_named a db di activation)
 -- an operand through a pointer that names its area by a code
 abbrev pub pointed : ℕ → ℕ → ℕ → ℕ → Aim
 pointed p db di activation =
-    record { area = area_if_named (name_of_code (code_of_pointer p)) db di activation; byte = byte_of_pointer p; bit = bit_of_pointer p }
+    record {
+      area = area_if_named (name_of_code (code_of_pointer p)) db di activation;
+      byte = byte_of_pointer p;
+      bit = bit_of_pointer p;
+    }
 
 -- a place
 abbrev pub aimed : Place → Aim
@@ -98,7 +103,7 @@ abbrev pub is_missing : Option Area → Contents → Bool
 is_missing (Some (area.Db n)) m = is_none (block_of n m.areas.blocks)
 is_missing other m = false
 
--- a bit number that a byte has not; a byte or more has none but 0
+-- a bit number that the width does not have: one above 7, and for a byte or more any but 0
 abbrev pub is_unaligned : Width → ℕ → Bool
 is_unaligned width.Bit x = nat_lt 7 x
 is_unaligned width.Byte x = nat_lt 0 x
@@ -118,7 +123,8 @@ bytes_there (Some a) m = or_none (bytes_of a m)
 -- the tests of an access in their order, each with its fault
 abbrev pub tests : Aim → Width → Contents → List (Bool × Fault)
 tests aim w m =
-    (is_closed aim.area, DbNotOpen) ∷ (is_missing aim.area m, DbMissing) ∷ (is_none aim.area, AreaCode) ∷ (is_unaligned w aim.bit, Alignment)
+    (is_closed aim.area, DbNotOpen) ∷ (is_missing aim.area m, DbMissing) ∷ (is_none aim.area, AreaCode)
+    ∷ (is_unaligned w aim.bit, Alignment)
     ∷ (nat_lt (length (bytes_there aim.area m)) (aim.byte + bytes_wide w), AreaLength) ∷ []
 
 -- the fault of the first test that holds
@@ -155,15 +161,19 @@ located aim w m = and_then (unless (fault_of aim w m) aim) (λ (a : Aim). place_
 abbrev pub reached : Place → Width → Contents → Result (List ℕ) Fault
 reached p w m = unless (fault_of (aimed p) w m) (bytes_there (Some p.area) m)
 
+-- the bit at a place, or the fault of the access
 abbrev pub read_bit : Place → Contents → Result Bool Fault
 read_bit p m = and_then (reached p width.Bit m) (λ bytes. Ok (bit_of_byte (byte_at bytes p.byte) p.bit))
 
+-- the byte at a place, 0 to 255, or the fault of the access
 abbrev pub read_byte : Place → Contents → Result ℕ Fault
 read_byte p m = and_then (reached p width.Byte m) (λ bytes. Ok (byte_at bytes p.byte))
 
+-- the word that begins at a place, its first byte the high one, or the fault of the access
 abbrev pub read_word : Place → Contents → Result ℕ Fault
 read_word p m = and_then (reached p width.Word m) (λ bytes. Ok (word_at bytes p.byte))
 
+-- the double word that begins at a place, its first byte the highest, or the fault of the access
 abbrev pub read_dword : Place → Contents → Result ℕ Fault
 read_dword p m = and_then (reached p width.Dword m) (λ bytes. Ok (dword_at bytes p.byte))
 
@@ -171,14 +181,21 @@ read_dword p m = and_then (reached p width.Dword m) (λ bytes. Ok (dword_at byte
 abbrev pub put : Place → List ℕ → List ℕ → Contents → Contents
 put p bytes new m = with_bytes p.area (replaced bytes p.byte new) m
 
+-- the memory after a write of one bit, the other seven of its byte as they were, or the fault of the
+-- access
 abbrev pub write_bit : Place → Bool → Contents → Result Contents Fault
-write_bit p v m = and_then (reached p width.Bit m) (λ bytes. Ok (put p bytes (byte_with (byte_at bytes p.byte) p.bit v ∷ []) m))
+write_bit p v m =
+    and_then (reached p width.Bit m) (λ bytes. Ok (put p bytes (byte_with (byte_at bytes p.byte) p.bit v ∷ []) m))
 
+-- the memory after a write of a byte, or the fault of the access
 abbrev pub write_byte : Place → ℕ → Contents → Result Contents Fault
 write_byte p v m = and_then (reached p width.Byte m) (λ bytes. Ok (put p bytes (v ∷ []) m))
 
+-- the memory after a write of a word into two bytes, the high one first, or the fault of the access
 abbrev pub write_word : Place → ℕ → Contents → Result Contents Fault
 write_word p v m = and_then (reached p width.Word m) (λ bytes. Ok (put p bytes (bytes_of_word v) m))
 
+-- the memory after a write of a double word into four bytes, the highest first, or the fault of the
+-- access
 abbrev pub write_dword : Place → ℕ → Contents → Result Contents Fault
 write_dword p v m = and_then (reached p width.Dword m) (λ bytes. Ok (put p bytes (bytes_of_dword v) m))

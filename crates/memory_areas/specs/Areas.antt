@@ -50,7 +50,8 @@ abbrev pub Match : List DataBlock → List DataBlock → Type 0
 Match [] [] = Unit {0}
 Match [] (given ∷ more) = ⊥
 Match (block ∷ rest) [] = ⊥
-Match (block ∷ rest) (given ∷ more) = (block.number ≡ given.number) × IsArea (length given.bytes) block.bytes × Match rest more
+Match (block ∷ rest) (given ∷ more) =
+    (block.number ≡ given.number) × IsArea (length given.bytes) block.bytes × Match rest more
 
 -- a memory whose areas have their sizes, and that has exactly these data blocks
 pub record IsMemoryOf (blocks : List DataBlock) (areas : Areas) : Type 0 where
@@ -59,9 +60,13 @@ pub record IsMemoryOf (blocks : List DataBlock) (areas : Areas) : Type 0 where
   pub markers : IsArea MARKER_BYTES areas.markers
   pub matching : Match areas.blocks blocks
 
+-- the local data, or the constant actuals, of an activation, all zero
+abbrev pub zero_locals : List ℕ
+zero_locals = replicate LOCAL_BYTES 0
+
 -- local data, or constant actuals, of each activation, all zero
 abbrev pub no_locals : List (List ℕ)
-no_locals = replicate ACTIVATIONS (replicate LOCAL_BYTES 0)
+no_locals = replicate ACTIVATIONS zero_locals
 
 -- a memory with these areas, whose local data and constant actuals are zero
 abbrev pub with_areas : Areas → Contents
@@ -86,7 +91,8 @@ block_of number blocks = find (λ (b : DataBlock). b.number == number) blocks
 -- the data blocks, of which that of a number has other bytes
 abbrev pub with_block : ℕ → List ℕ → List DataBlock → List DataBlock
 with_block number bytes [] = []
-with_block number bytes (b ∷ bs) = if b.number == number then record b { bytes = bytes } ∷ bs else b ∷ with_block number bytes bs
+with_block number bytes (b ∷ bs) =
+    if b.number == number then record b { bytes = bytes } ∷ bs else b ∷ with_block number bytes bs
 
 -- the bytes of a data block that is there
 abbrev pub bytes_in : Option DataBlock → Option (List ℕ)
@@ -113,7 +119,7 @@ with_bytes (area.Db n) bytes m = record m { areas = record m.areas { blocks = wi
 
 -- the memory with zeros in the local data and the constant actuals of an activation
 abbrev pub cleared : ℕ → Contents → Contents
-cleared d m = record m { locals = slice_set m.locals d (replicate LOCAL_BYTES 0); cells = slice_set m.cells d (replicate LOCAL_BYTES 0) }
+cleared d m = record m { locals = slice_set m.locals d zero_locals; cells = slice_set m.cells d zero_locals }
 
 -- Numbers in bytes: words and double words have their highest byte first
 
@@ -127,7 +133,8 @@ word_at bytes i = 256 * byte_at bytes i + byte_at bytes (i + 1)
 
 -- the double word that begins at byte i
 abbrev pub dword_at : List ℕ → ℕ → ℕ
-dword_at bytes i = 2 ^ 24 * byte_at bytes i + 2 ^ 16 * byte_at bytes (i + 1) + 2 ^ 8 * byte_at bytes (i + 2) + byte_at bytes (i + 3)
+dword_at bytes i =
+    2 ^ 24 * byte_at bytes i + 2 ^ 16 * byte_at bytes (i + 1) + 2 ^ 8 * byte_at bytes (i + 2) + byte_at bytes (i + 3)
 
 -- bit x of a byte, counted from the lowest
 abbrev pub bit_of_byte : ℕ → ℕ → Bool
@@ -137,10 +144,11 @@ bit_of_byte b x = b / 2 ^ x % 2 == 1
 abbrev pub byte_with : ℕ → ℕ → Bool → ℕ
 byte_with b x v = b / 2 ^ (x + 1) * 2 ^ (x + 1) + (if v then 2 ^ x else 0) + b % 2 ^ x
 
--- the bytes of a word and of a double word
+-- the two bytes of a word, the high one first
 abbrev pub bytes_of_word : ℕ → List ℕ
 bytes_of_word w = w / 256 ∷ w % 256 ∷ []
 
+-- the four bytes of a double word, the highest first
 abbrev pub bytes_of_dword : ℕ → List ℕ
 bytes_of_dword w = w / 2 ^ 24 ∷ w / 2 ^ 16 % 256 ∷ w / 2 ^ 8 % 256 ∷ w % 256 ∷ []
 

@@ -19,5 +19,3 @@ mod memory;
 mod parts;
 mod place;
 mod sizes;
-#[cfg(test)]
-mod tests;

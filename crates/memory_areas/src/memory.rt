@@ -239,7 +239,8 @@ impl Memory {
     fn reached(&self, place: Place, width: Width) -> Result<&[u8], Fault>
         requires { IsActivation place.area }
         ensures { MatchResult result
-            (λ bytes. (reached place width self.now ≡ Ok bytes.now) × (place.byte + bytes_wide width ≤ length bytes.now))
+            (λ bytes. (reached place width self.now ≡ Ok bytes.now)
+            × (place.byte + bytes_wide width ≤ length bytes.now))
             (λ fault. reached place width self.now ≡ Err fault) }
     {
         if is_closed(place.area) {
@@ -257,6 +258,7 @@ impl Memory {
         Ok(bytes)
     }
 
+    /// The bit at a place, or the fault of the access.
     pub fn read_bit(&self, place: Place) -> Result<bool, Fault>
         requires { IsActivation place.area }
         ensures { result ≡ read_bit place self.now }
@@ -265,6 +267,7 @@ impl Memory {
         Ok(bit_of_byte(bytes[place.byte as usize], place.bit))
     }
 
+    /// The byte at a place, or the fault of the access.
     pub fn read_byte(&self, place: Place) -> Result<u8, Fault>
         requires { IsActivation place.area }
         ensures { result ≡ read_byte place self.now }
@@ -273,6 +276,7 @@ impl Memory {
         Ok(bytes[place.byte as usize])
     }
 
+    /// The word that begins at a place, its first byte the high one, or the fault of the access.
     pub fn read_word(&self, place: Place) -> Result<u16, Fault>
         requires { IsActivation place.area }
         ensures { result ≡ read_word place self.now }
@@ -281,6 +285,7 @@ impl Memory {
         Ok(word_at(bytes, place.byte as usize))
     }
 
+    /// The double word that begins at a place, its first byte the highest, or the fault of the access.
     pub fn read_dword(&self, place: Place) -> Result<u32, Fault>
         requires { IsActivation place.area }
         ensures { result ≡ read_dword place self.now }
@@ -309,6 +314,7 @@ impl Memory {
         }
     }
 
+    /// Writes one bit; a refused write leaves the memory as it was.
     pub fn write_bit(&mut self, place: Place, value: bool) -> Result<(), Fault>
         requires { IsActivation place.area }
         ensures { Writes (write_bit place value self.old) result self.old self.new }
@@ -319,6 +325,7 @@ impl Memory {
         Ok(())
     }
 
+    /// Writes a byte; a refused write leaves the memory as it was.
     pub fn write_byte(&mut self, place: Place, value: u8) -> Result<(), Fault>
         requires { IsActivation place.area }
         ensures { Writes (write_byte place value self.old) result self.old self.new }
@@ -328,6 +335,7 @@ impl Memory {
         Ok(())
     }
 
+    /// Writes a word into two bytes, the high one first; a refused write leaves the memory as it was.
     pub fn write_word(&mut self, place: Place, value: u16) -> Result<(), Fault>
         requires { IsActivation place.area }
         ensures { Writes (write_word place value self.old) result self.old self.new }
@@ -337,6 +345,8 @@ impl Memory {
         Ok(())
     }
 
+    /// Writes a double word into four bytes, the highest first; a refused write leaves the memory as it
+    /// was.
     pub fn write_dword(&mut self, place: Place, value: u32) -> Result<(), Fault>
         requires { IsActivation place.area }
         ensures { Writes (write_dword place value self.old) result self.old self.new }

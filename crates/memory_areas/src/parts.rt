@@ -35,6 +35,7 @@ pub fn is_unaligned(width: Width, bit: u8) -> bool
     }
 }
 
+/// The word that begins at a byte, the high byte first.
 pub fn word_at(bytes: &[u8], at: usize) -> u16
     requires { at + 2 ≤ length bytes.now }
     ensures { result ≡ word_at bytes.now at }
@@ -42,6 +43,7 @@ pub fn word_at(bytes: &[u8], at: usize) -> u16
     u16::from(bytes[at]) * 256 + u16::from(bytes[at + 1])
 }
 
+/// The double word that begins at a byte, the highest byte first.
 pub fn dword_at(bytes: &[u8], at: usize) -> u32
     requires { at + 4 ≤ length bytes.now }
     ensures { result ≡ dword_at bytes.now at }
@@ -72,12 +74,14 @@ pub fn byte_with(byte: u8, x: u8, value: bool) -> u8
     }
 }
 
+/// The two bytes of a word, the high one first.
 pub fn bytes_of_word(word: u16) -> [u8; 2]
     ensures { result ≡ bytes_of_word word }
 {
     [(word >> 8) as u8, (word & 0xff) as u8]
 }
 
+/// The four bytes of a double word, the highest first.
 pub fn bytes_of_dword(word: u32) -> [u8; 4]
     ensures { result ≡ bytes_of_dword word }
 {

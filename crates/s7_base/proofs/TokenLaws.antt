@@ -1,4 +1,4 @@
--- A text has the tokens of its first piece, and then those of what stands behind it.
+-- A text has the tokens of its first piece, and then those of what stands after it.
 use Rattle.std.proofs.Common.{◌≡◌, ℕ, zero, suc, ◌+◌, ◌-◌, ◌<◌, ◌≤◌, Bool, true, false, not, cond, ◌&&◌, ◌||◌, ◌==◌, if◌then◌else◌, List, [], ◌∷◌, ◌++◌, length, take, drop, get_or, Option, Some, None, Result, Ok, Err, refl, sym, ap, subst, ◌∙◌, arith, append_assoc, append-nil, length-append, length-drop, length-take-le}
 use Rattle.std.proofs.Math.Seq.{drop-append_seam}
 use Rattle.std.proofs.lemmas.List.Sums.{prefix_len-le-length}
@@ -30,7 +30,7 @@ skipped zero line before bytes h = refl
 skipped (suc n) line before [] h = absurd (omega arith)
 skipped (suc n) line before (b ∷ rest) h = skipped n line b rest (omega arith)
 
--- the piece at the front, and the tokens behind it
+-- the piece at the front, and the tokens after it
 pub next_piece : (bytes : List ℕ) (piece : Piece) (size line before : ℕ) → piece_at bytes ≡ Some piece → piece_size piece ≡ size → 0 < size → size ≤ length bytes →
     tokens_from 0 line before bytes
     ≡ prepend_tokens (token_of piece bytes line before) (tokens_from 0 (line_behind piece line) (get_or bytes (size - 1) 0) (drop size bytes))

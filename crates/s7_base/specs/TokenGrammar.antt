@@ -1,4 +1,4 @@
--- The tokens of a source text as a relation: a text is a piece and what stands behind it, to its end.
+-- The tokens of a source text as a relation: a text is a piece and what stands after it, to its end.
 use Rattle.std.specs.Prelude.{◌≡◌, ℕ, ◌<◌, List, [], ◌∷◌, ◌++◌, length, Some, None, Ok, Err}
 use Rattle.s7_base.specs.Tokens.{Piece, piece_at, piece_size, line_behind, token_of, tokens_of}
 use Rattle.s7_base.specs.declared.reason.Reason.TheVariants.{BadToken}
@@ -15,7 +15,7 @@ pub record Stands (piece : Piece) (front rest : List ℕ) : Type 0 where
   pub found : piece_at (front ++ rest) ≡ Some piece
   pub size : piece_size piece ≡ length front
 
--- a text on a line and behind a byte is cut up to a rest on a line, and these are its tokens so far
+-- a text on a line and after a byte is cut up to a rest on a line, and these are its tokens so far
 pub data Cuts : ℕ → ℕ → List ℕ → List Token → ℕ → List ℕ → Type 0 where
   here : {line before : ℕ} {rest : List ℕ} → Cuts line before rest [] line rest
   next : (piece : Piece) (front : List ℕ) {line before end : ℕ} {more rest : List ℕ} {tokens : List Token} →
@@ -30,7 +30,9 @@ pub record NoPiece (rest : List ℕ) : Type 0 where
 -- a text has these tokens exactly where it is cut to its end, and a bad token on a line exactly where
 -- it is cut up to that line and no piece stands there
 pub record TokensAreCut : Type 0 where
-  pub sound : (bytes : List ℕ) (tokens : List Token) → tokens_of bytes ≡ Ok tokens → (line : ℕ) × Cuts 1 10 bytes tokens line []
-  pub complete : (bytes : List ℕ) (tokens : List Token) (line : ℕ) → Cuts 1 10 bytes tokens line [] → tokens_of bytes ≡ Ok tokens
+  pub sound : (bytes : List ℕ) (tokens : List Token) → tokens_of bytes ≡ Ok tokens
+      → (line : ℕ) × Cuts 1 10 bytes tokens line []
+  pub complete : (bytes : List ℕ) (tokens : List Token) (line : ℕ) → Cuts 1 10 bytes tokens line []
+      → tokens_of bytes ≡ Ok tokens
   pub bad : (bytes : List ℕ) (tokens : List Token) (line : ℕ) (rest : List ℕ) →
       Cuts 1 10 bytes tokens line rest → NoPiece rest → tokens_of bytes ≡ Err (Refused (record { 0 = line }) BadToken)

@@ -39,7 +39,8 @@ is_sign b = list_any (λ sign. sign == b) (codes ":;,.()[]=+-*/<>#")
 -- a sign of two characters: := .. == <> >= <=
 abbrev pub is_double_sign : ℕ → ℕ → Bool
 is_double_sign a b =
-    (a == 58 && b == 61) || (a == 46 && b == 46) || (a == 61 && b == 61) || (a == 60 && b == 62) || (a == 62 && b == 61) || (a == 60 && b == 61)
+    (a == 58 && b == 61) || (a == 46 && b == 46) || (a == 61 && b == 61) || (a == 60 && b == 62)
+    || (a == 62 && b == 61) || (a == 60 && b == 61)
 
 -- the text begins with this byte
 abbrev pub begins_with : ℕ → List ℕ → Bool
@@ -88,7 +89,8 @@ sign_piece first (second ∷ rest) =
 
 -- a comment, which takes the rest of its line, or a sign
 abbrev pub comment_or_sign : ℕ → List ℕ → Option Piece
-comment_or_sign first rest = if first == 47 && begins_with 47 rest then Some (gap (line_size rest + 1)) else sign_piece first rest
+comment_or_sign first rest =
+    if first == 47 && begins_with 47 rest then Some (gap (line_size rest + 1)) else sign_piece first rest
 
 -- a piece that begins with a mark: a quoted name, a text, an attribute, a comment or a sign
 abbrev pub mark_piece : ℕ → List ℕ → Option Piece
@@ -122,19 +124,24 @@ line_after line = min (line + 1) (2 ^ 32 - 1)
 abbrev pub line_at_end : List ℕ → Line
 line_at_end bytes = record { 0 = min (count_by (λ b. b == 10) bytes + 1) (2 ^ 32 - 1) }
 
--- the line behind a piece on a line
+-- the line after a piece on a line
 abbrev pub line_behind : Piece → ℕ → ℕ
 line_behind line_end line = line_after line
 line_behind (gap size) line = line
 line_behind (token kind size) line = line
 
--- the token that a piece is, at the front of a text and behind a byte: it is glued where that is no
+-- the token that a piece is, at the front of a text and after a byte: it is glued where that is no
 -- blank
 abbrev pub token_of : Piece → List ℕ → ℕ → ℕ → List Token
 token_of line_end bytes line before = []
 token_of (gap size) bytes line before = []
 token_of (token kind size) bytes line before =
-    record { kind = kind; text = token_text kind (take size bytes); line = record { 0 = line }; glued = not (is_blank before) } ∷ []
+    record {
+      kind = kind;
+      text = token_text kind (take size bytes);
+      line = record { 0 = line };
+      glued = not (is_blank before);
+    } ∷ []
 
 -- tokens before others
 abbrev pub prepend_tokens : List Token → Result (List Token) Rejection → Result (List Token) Rejection
@@ -146,13 +153,14 @@ abbrev pub with_piece : Option Piece → ℕ → (Piece → Result (List Token) 
 with_piece None line next = Err (Refused (record { 0 = line }) BadToken)
 with_piece (Some piece) line next = next piece
 
--- the tokens from a place on, on a line and behind a byte; `skip` bytes still belong to the piece before
+-- the tokens from a place on, on a line and after a byte; `skip` bytes still belong to the piece before
 abbrev pub tokens_from : ℕ → ℕ → ℕ → List ℕ → Result (List Token) Rejection
 tokens_from skip line before [] = Ok []
 tokens_from (suc skip) line before (b ∷ rest) = tokens_from skip line b rest
 tokens_from zero line before (b ∷ rest) =
     with_piece (piece_at (b ∷ rest)) line (λ piece.
-    prepend_tokens (token_of piece (b ∷ rest) line before) (tokens_from (piece_size piece - 1) (line_behind piece line) b rest))
+    prepend_tokens (token_of piece (b ∷ rest) line before)
+    (tokens_from (piece_size piece - 1) (line_behind piece line) b rest))
 
 -- the tokens of a text, which begins as a line does, or the line of its first bad token
 unfoldable pub tokens_of : List ℕ → Result (List Token) Rejection

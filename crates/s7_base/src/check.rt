@@ -3,11 +3,22 @@
 /// How a bit check combines its bit with the result of logic operation.
 #[derive(Clone, Copy, Debug, PartialEq, Eq)]
 pub enum Check {
+    /// AND.
     A,
+
+    /// AND with the bit negated.
     An,
+
+    /// OR.
     O,
+
+    /// OR with the bit negated.
     On,
+
+    /// Exclusive OR.
     X,
+
+    /// Exclusive OR with the bit negated.
     Xn,
 }
 

@@ -12,6 +12,7 @@ pub use memory::NoMemory;
 pub use outcome::{Fault, Outcome};
 pub use reason::{Kind, Line, Reason, Rejection};
 pub use register::{Reg, RegSet};
+pub use text::{begins_with, front_of, is_same_word, is_word_byte, rest_after};
 pub use token::{Token, TokenKind};
 pub use token_laws::tokens_are_cut;
 pub use word::{Width, high_word, low_byte, low_word, put_low_byte, put_low_word};
@@ -23,8 +24,7 @@ mod memory;
 mod outcome;
 mod reason;
 mod register;
-#[cfg(test)]
-mod tests;
+mod text;
 mod token;
 mod token_laws;
 mod word;

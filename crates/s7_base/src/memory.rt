@@ -1,4 +1,4 @@
-//! Want of memory, the one answer that no clause ties to a cause.
+//! Out of memory, the one answer that no clause ties to a cause.
 use std::alloc::{AllocError, AllocFailed};
 
 /// Memory ran out. Whoever answers it has changed nothing that its caller can still see.

@@ -10,64 +10,150 @@ use std::fmt;
 #[derive(Clone, Copy, Debug, PartialEq, Eq, PartialOrd, Ord)]
 pub struct Line(pub u32);
 
-/// Why a text gave no program: the first broken rule and its line, or want of memory.
+/// Why a text gave no program: it breaks a rule, or memory ran out.
 #[derive(Clone, Copy, Debug, PartialEq, Eq)]
 pub enum Rejection {
+    /// The line of the first broken rule, and the rule.
     Refused(Line, Reason),
+
+    /// Memory ran out.
     NoMemory,
 }
 
 /// A rule that a text may break. Of two on one line the one that stands first here counts.
 #[derive(Clone, Copy, Debug, PartialEq, Eq)]
 pub enum Reason {
+    /// Characters form no token; in Structured Text also a literal outside its type's range.
     BadToken,
+
+    /// An item of STL has no form of the language at its place.
     BadStatement,
+
+    /// An item of STL has a form that is not supported, of this kind.
     Unsupported(Kind),
+
+    /// Nothing declares the name.
     UnknownName,
+
+    /// A called block, or the data block or function block of an instance, is not in the text.
     UnknownBlock,
+
+    /// An operand, a constant, an initial value or an actual has the wrong width or kind; a name or a
+    /// data block is none of the kind that its place asks for; or a formal has no actual.
     BadOperand,
+
+    /// A written address lies outside its area, a bit number is above 7, or a block number is out of
+    /// range.
     BadAddress,
+
+    /// A second block has the same kind and number.
     DuplicateBlock,
+
+    /// A name is declared twice in its scope, or a formal is given twice in a call.
     DuplicateName,
+
+    /// Array bounds are out of order or out of range, or there are more than 6 dimensions.
     BadType,
+
+    /// A data block, an interface or local data has too many bytes, or there are too many data blocks.
     TooLarge,
+
+    /// A label stands twice in a body.
     DuplicateLabel,
+
+    /// A jump leads to a label that its body lacks.
     UnknownLabel,
+
+    /// A label, a jump, a call or an end comes while a bracket is open.
     BracketOpen,
+
+    /// `)` comes while no bracket is open.
     BracketMissing,
+
+    /// An eighth bracket opens.
     TooManyBrackets,
+
+    /// After `JL` must come one to 255 `JU` without labels, and then its label.
     BadJumpList,
+
+    /// A body has more than 32,768 instructions, its end word not counted.
     TooManyInstructions,
+
+    /// A block has more than 64 formals.
     TooManyParameters,
+
+    /// A call lies on a cycle of calls.
     CallCycle,
+
+    /// A chain of calls has more than 8 blocks.
     CallTooDeep,
+
+    /// The text has no block that can be called; on line 1.
     NoBlocks,
+
+    /// Structured Text: the token cannot follow here.
     BadSyntax,
+
+    /// Structured Text: the token makes more than 200 levels of nesting.
     TooDeep,
+
+    /// Structured Text: an expression, a target, an actual, a location or an initial value has the
+    /// wrong type or length; a call leaves out a formal, or names what is no function.
     TypeMismatch,
 }
 
-/// A group of forms of STL that the translator does not take.
+/// A group of forms of STL that the translator does not support.
 #[derive(Clone, Copy, Debug, PartialEq, Eq)]
 pub enum Kind {
+    /// Timers: `SP`, `SE`, `SD`, `SS`, `SF`, operands `T 1`.
     Timer,
+
+    /// Counters: `CU`, `CD`, operands `C 1`.
     Counter,
+
+    /// Floating point: instructions, constants and the type REAL.
     Real,
+
+    /// The master control relay: `MCR(`, `)MCR`, `MCRA`, `MCRD`.
     MasterControl,
+
+    /// System functions and system function blocks: SFC, SFB.
     SystemCall,
+
+    /// `UC` or `CC` of a function block, or of a block whose number stands in memory.
     IndirectBlock,
+
+    /// An instance inside an instance: `CALL #name`, a variable of type `FB 1`.
     MultiInstance,
+
+    /// The types ANY, POINTER, TIMER, COUNTER, and those of blocks.
     PointerType,
+
+    /// The type STRING.
     StringType,
+
+    /// Types and constants of time and date.
     DateTime,
+
+    /// User-defined types: UDT, TYPE.
     UserType,
+
+    /// A formal of ARRAY or STRUCT.
     ComplexParameter,
+
+    /// The length of an open data block: `L DBLG`, `L DILG`.
     DbLength,
+
+    /// A pointer to a name: `P##name`.
     NamePointer,
+
+    /// Peripheral inputs and outputs: PI, PQ.
     Peripheral,
+
+    /// The third and the fourth accumulator of the S7-400: `ENT`, `LEAVE`.
     Accumulators,
 
-    /// A form of the language that the translator is to take and does not take yet.
+    /// A form of the language that a later release will support.
     NotBuilt,
 }
 

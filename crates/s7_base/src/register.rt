@@ -6,20 +6,49 @@ ghost use Rattle.s7_base.specs.RegSet.{has_reg, place};
 /// A register of the controller; the last nine are the bits of the status word.
 #[derive(Clone, Copy, Debug, PartialEq, Eq)]
 pub enum Reg {
+    /// Accumulator 1, of 32 bits.
     Accu1,
+
+    /// Accumulator 2, of 32 bits.
     Accu2,
+
+    /// Address register 1, which holds a pointer.
     Ar1,
+
+    /// Address register 2, which holds a pointer.
     Ar2,
+
+    /// The number of the open data block, 0 where none is open.
     DbNo,
+
+    /// The number of the open instance data block, 0 where none is open.
     DiNo,
+
+    /// /FC: set while a chain of checks goes on; where it is not, the next check is a first one.
     Nfc,
+
+    /// The result of logic operation.
     Rlo,
+
+    /// The status: the bit that was last checked or written.
     Sta,
+
+    /// OR: the result of an AND before an `O` without operand.
     Orb,
+
+    /// Stored overflow, which stays until it is reset.
     Os,
+
+    /// Overflow of the last calculation.
     Ov,
+
+    /// Condition code 0, which with condition code 1 shows the sign of a result.
     Cc0,
+
+    /// Condition code 1, which also holds the last bit that was shifted out.
     Cc1,
+
+    /// The binary result, which keeps a result of logic operation.
     Br,
 }
 

@@ -38,7 +38,7 @@ GaveAtMost-piece a b c xs piece n most first second within few = (
   Gave-more a b c xs (take n piece) first second,
 )
 
--- the piece that was copied to the front of a buffer, and the bytes behind it, were to come
+-- the piece that was copied to the front of a buffer, and the bytes after it, were to come
 pub copied-front : (bytes shown copied tail : List ℕ) (next n : ℕ) → shown ≡ bytes
     → copied ≡ take n (take (length shown - next) (drop next shown)) → length copied ≡ n
     → drop next bytes ≡ take n (copied ++ tail) ++ drop (next + n) bytes

@@ -2,14 +2,14 @@
 use Rattle.std.specs.Prelude.{◌≡◌, ℕ, ◌-◌, ◌<◌, min, List, ◌++◌, length, take, Option, None, Some}
 use Rattle.s7_io.specs.Faults.{Plan}
 
--- these bytes were put behind those that the sink had taken
+-- these bytes were put after those that the sink had taken
 abbrev pub Took : Option (List ℕ) → Option (List ℕ) → List ℕ → Type 0
 Took None None bytes = Unit {0}
 Took None (Some after) bytes = ⊥
 Took (Some before) None bytes = ⊥
 Took (Some before) (Some after) bytes = after ≡ before ++ bytes
 
--- only a front of these bytes, shorter than the whole, was put behind those that the sink had taken
+-- only a proper prefix of these bytes was put after those that the sink had taken
 abbrev pub TookFewer : Option (List ℕ) → Option (List ℕ) → List ℕ → Type 0
 TookFewer before after bytes =
     (count : ℕ) × (count < length bytes) × Took before after (take count bytes)

@@ -1,4 +1,4 @@
--- What stands behind a source or a sink over std.
+-- The reader of a source over std, and the writer of a sink over std.
 use Rattle.s7_io.specs.declared.std_streams.StdSource.{StdSource}
 use Rattle.s7_io.specs.declared.std_streams.StdSink.{StdSink}
 

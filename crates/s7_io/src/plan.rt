@@ -28,6 +28,7 @@ impl Model for FailPlan {
 }
 
 impl FailPlan {
+    /// No call counted yet, and no fault.
     pub(crate) fn new(alloc: Global, fails: &[u32]) -> Result<FailPlan, NoMemory>
         ensures { IfOk result (λ plan. plan ≡ record { fails = fails.now; calls = 0; faults = 0 }) }
     {

@@ -63,7 +63,7 @@ pub begins_digit : (base : Base) (ds more : List ℕ) → list_all (is_digit_to 
 begins_digit base [] more h some = absurd (omega arith)
 begins_digit base (d ∷ ds) more h some = (and_both (is_digit_to base d) (list_all (is_digit_to base) ds) h).0
 
--- the number that digits stand for, whatever stands behind them that does not go on with it
+-- the number that digits stand for, whatever stands after them that does not go on with it
 pub number_of_digits : (before : ℕ) (base : Base) (n : ℕ) (ds more : List ℕ) → Digits base n ds → ends_word more ≡ true
     → digits_behind before base (ds ++ more) ≡ record { value = n; size = before + length ds }
 number_of_digits before base n ds more d ends =

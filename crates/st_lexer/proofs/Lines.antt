@@ -1,4 +1,4 @@
--- The line behind some bytes.
+-- The line after some bytes.
 use Rattle.std.proofs.Common.{◌≡◌, ℕ, ◌+◌, ◌-◌, ◌^◌, ◌≤◌, Bool, true, false, cond, ◌==◌, List, [], ◌∷◌, ◌++◌, refl, sym, ap, ◌∙◌, arith}
 use Rattle.std.proofs.lemmas.List.Sums.{sum_by-cons}
 use Rattle.std.specs.Prelude.{count_by, min, if◌then◌else◌}
@@ -12,7 +12,7 @@ by_test : (test : Bool) (line : ℕ) (past : ℕ → ℕ) (n : ℕ) → past (li
 by_test true line past n p q = omega (arith, p)
 by_test false line past n p q = omega (arith, q)
 
--- the line behind a text is one more than its ends of lines
+-- the line after a text is one more than its ends of lines
 pub lines_counted : (line : ℕ) (bytes : List ℕ) → line ≤ 2 ^ 32 - 1 → line_past line bytes ≡ min (line + count_by (λ b. b == 10) bytes) (2 ^ 32 - 1)
 lines_counted line [] h = omega (arith, h)
 lines_counted line (b ∷ rest) h =
@@ -20,7 +20,7 @@ lines_counted line (b ∷ rest) h =
     by_test (b == 10) line (λ l. line_past l rest) (count_by (λ b. b == 10) rest) (lines_counted (line_after line) rest more) (lines_counted line rest h)
     ∙ ap (λ (n : ℕ). min (line + n) (2 ^ 32 - 1)) (sym (sum_by-cons (λ (x : ℕ). cond (x == 10) 1 0) b rest))
 
--- the line behind two texts
+-- the line after two texts
 past_both : (line : ℕ) (front rest : List ℕ) → line_past line (front ++ rest) ≡ line_past (line_past line front) rest
 past_both line [] rest = refl
 past_both line (b ∷ front) rest = past_both (line_behind b line) front rest

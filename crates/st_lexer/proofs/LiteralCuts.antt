@@ -1,4 +1,4 @@
--- Literals of a canonical text, whatever stands behind them that does not go on with them.
+-- Literals of a canonical text, whatever stands after them that does not go on with them.
 use Rattle.std.proofs.Common.{◌≡◌, ℕ, suc, ◌+◌, ◌^◌, ◌<◌, Bool, true, false, ◌&&◌, List, [], ◌∷◌, ◌++◌, length, Option, Some, refl, sym, ap, ◌∙◌, arith, append_assoc, append-nil, length-append}
 use Rattle.std.specs.Prelude.{ℤ, pos, unsigned_abs, int_lt, if◌then◌else◌, nat_le, decimal, codes, option_map}
 use Rattle.std.proofs.lemmas.Bool.Decides.{nat_tests}
@@ -21,7 +21,7 @@ use Rattle.st_tree.specs.declared.expr.StType.TheVariants as type
 abbrev literal : StType → Bool → ℕ → ℕ → Literal
 literal ty minus n size = record { kind = ty; minus = minus; number = n; size = size }
 
--- a text is a literal where it is a piece and has this value, whatever stands behind it
+-- a text is a literal where it is a piece and has this value, whatever stands after it
 literal_is : (text : List ℕ) (ty : StType) (n : ℤ)
     → ((more : List ℕ) → ends_word more ≡ true → literal_at (text ++ more) ≡ Some (literal ty (int_lt n (pos 0)) (unsigned_abs n) (length text)))
     → ((more : List ℕ) → ends_word more ≡ true → piece_at (text ++ more) ≡ Some (token sort.Literal (length text))) → IsLiteral text ty n
@@ -30,7 +30,7 @@ literal_is text ty n at piece = record {
   found = ap literal_at (sym (append-nil text)) ∙ at [] refl;
 }
 
--- Behind a type
+-- After a type
 
 -- the word of a type and `#`
 record IsType (ty : StType) (word : List ℕ) : Type 0 where
@@ -55,7 +55,7 @@ dint_word = record { at = λ x. refl; piece = λ x. refl }
 lint_word : IsType type.Lint (codes "LINT#")
 lint_word = record { at = λ x. refl; piece = λ x. refl }
 
--- a text behind a type is a literal where its number is found
+-- a text after a type is a literal where its number is found
 typed_is : (ty : StType) (word x : List ℕ) (n : ℤ) → IsType ty word → nat_le (unsigned_abs n) (greatest ty (int_lt n (pos 0))) ≡ true
     → ((more : List ℕ) → ends_word more ≡ true → number_behind ty (length word) (x ++ more) ≡ Some (literal ty (int_lt n (pos 0)) (unsigned_abs n) (length word + length x)))
     → IsLiteral (word ++ x) ty n
@@ -71,7 +71,7 @@ typed_is ty word x n is_type kept number = literal_is (word ++ x) ty n at (λ mo
         ap piece_at (append_assoc word x more) ∙ is_type.piece (x ++ more) ∙ ap (λ (text : List ℕ). ranged_piece (literal_at text)) (sym (append_assoc word x more))
         ∙ ap ranged_piece (at more ends) ∙ if_true (nat_le (unsigned_abs n) (greatest ty (int_lt n (pos 0)))) _ _ kept
 
--- a pattern behind its type
+-- a pattern after its type
 pattern_behind : (ty : StType) (before count m : ℕ) (more : List ℕ) → is_signed ty ≡ false → 0 < count → m < past count → m < 2 ^ 64 → ends_word more ≡ true
     → number_behind ty before ((codes "16#" ++ hexadecimal count m) ++ more) ≡ Some (literal ty false m (before + length (codes "16#" ++ hexadecimal count m)))
 pattern_behind ty before count m more unsigned some below small ends =
@@ -92,7 +92,7 @@ no_sign m more small =
 abbrev with_sign : Bool → ℕ → List ℕ
 with_sign minus m = if minus then codes "-" ++ decimal m else decimal m
 
--- an integer behind its type
+-- an integer after its type
 integer_behind : (ty : StType) (before m : ℕ) (minus : Bool) (more : List ℕ) → is_signed ty ≡ true → m < 2 ^ 64 → ends_word more ≡ true
     → number_behind ty before (with_sign minus m ++ more) ≡ Some (literal ty minus m (before + length (with_sign minus m)))
 integer_behind ty before m true more is small ends =
@@ -101,7 +101,7 @@ integer_behind ty before m true more is small ends =
 integer_behind ty before m false more is small ends =
     rw (is, no_sign m more small) (ap (option_map (literal_of_number ty false before)) (decimal_at m more small ends).1)
 
--- a type has a number behind a `-` or without one
+-- a type has a number after a `-` or without one
 abbrev fits : StType → Bool → ℕ → Bool
 fits ty minus m = if minus then is_signed ty && nat_le m (greatest ty true) else nat_le m (greatest ty false)
 

@@ -1,4 +1,4 @@
--- Numbers at the front of a text, whatever stands behind them that does not go on with them.
+-- Numbers at the front of a text, whatever stands after them that does not go on with them.
 use Rattle.std.proofs.Common.{◌≡◌, ℕ, ◌+◌, ◌^◌, ◌<◌, Bool, true, false, not, ◌&&◌, ◌==◌, List, [], ◌∷◌, ◌++◌, length, Some, refl, ap, ◌∙◌, arith}
 use Rattle.std.specs.Prelude.{nat_eq, decimal, codes}
 use Rattle.std.specs.List.{list_all, starts_with}
@@ -20,7 +20,7 @@ none_of_two false b e = refl
 word_no_mark : (b : ℕ) → is_word_byte b ≡ true → nat_eq 35 b ≡ false
 word_no_mark b h = grind (arith, nat_tests)
 
--- no `#` stands in a word, nor directly behind it
+-- no `#` stands in a word, nor directly after it
 no_second : (a : Bool) (w more : List ℕ) → list_all is_word_byte w ≡ true → ends_word more ≡ true → (a && starts_with nat_eq (w ++ more) (codes "#")) ≡ false
 no_second a w more h e = none_of_two a _ (by w more h e)
   where
@@ -70,7 +70,7 @@ decimal_at n more small e =
 
 -- Hexadecimal numbers
 
--- digits behind `16#` are a hexadecimal number
+-- digits after `16#` are a hexadecimal number
 pub marked_at : (n : ℕ) (ds more : List ℕ) → Digits Sixteen n ds → ends_word more ≡ true
     → (base_at (codes "16#" ++ (ds ++ more)) ≡ Sixteen) × (number_at (codes "16#" ++ (ds ++ more)) ≡ Some (record { value = n; size = 3 + length ds }))
 marked_at n ds more d e =

@@ -1,4 +1,4 @@
--- Places of a canonical text, whatever stands behind them that does not go on with them.
+-- Places of a canonical text, whatever stands after them that does not go on with them.
 use Rattle.std.proofs.Common.{◌≡◌, ℕ, ◌+◌, ◌^◌, ◌<◌, true, false, ◌&&◌, ◌==◌, List, [], ◌∷◌, ◌++◌, length, Option, Some, None, refl, sym, ap, ◌∙◌, arith, append_assoc, append-nil, length-append}
 use Rattle.std.specs.Prelude.{decimal, codes, option_map}
 use Rattle.std.proofs.lemmas.Bool.Decides.{nat_tests}
@@ -41,7 +41,7 @@ decimal_kept n more h ends = decimal_to n more (omega (arith, keeps n h)) ends
 is_zero : (n : ℕ) → (n == 0) ≡ true → n ≡ 0
 is_zero n h = grind (arith, nat_tests)
 
--- the numbers behind the letter of a width
+-- the numbers after the letter of a width
 abbrev numbers : Width → ℕ → ℕ → List ℕ
 numbers w byte bit = decimal byte ++ bit_text w bit
 
@@ -68,7 +68,7 @@ whole_found a block w before byte bit more h k ends =
     ∙ ap (λ (n : ℕ). Some (variable_of a block w byte n (before + length (decimal byte)))) (sym (is_zero bit k))
     ∙ ap (λ (text : List ℕ). Some (variable_of a block w byte bit (before + length text))) (sym (append-nil (decimal byte)))
 
--- the numbers of a place, whatever stands behind them
+-- the numbers of a place, whatever stands after them
 numbers_found : (a : AreaName) (block : Option ℕ) (w : Width) (before byte bit : ℕ) (more : List ℕ) → is_kept byte ≡ true → is_bit_of w bit ≡ true → ends_word more ≡ true
     → place_at a block (Some w) before (numbers w byte bit ++ more) ≡ Some (variable_of a block w byte bit (before + length (numbers w byte bit)))
 numbers_found a block width.Bit before byte bit more h k ends = bit_found a block before byte bit more h k ends
@@ -96,7 +96,7 @@ letter_size width.Byte = refl
 letter_size width.Word = refl
 letter_size width.Dword = refl
 
--- a place stands behind the letters of an area, where no digit stands behind them
+-- a place stands after the letters of an area, where no digit stands after them
 area_found : (a : AreaName) (x : List ℕ) → begins_with_digit Ten x ≡ false → direct_at ((codes "%" ++ area_word a) ++ x) ≡ lettered_at a None (length (codes "%" ++ area_word a)) x
 area_found area.I x h = if_false (begins_with_digit Ten x) _ _ h
 area_found area.Q x h = if_false (begins_with_digit Ten x) _ _ h
@@ -105,7 +105,7 @@ area_found area.L x h = if_false (begins_with_digit Ten x) _ _ h
 area_found area.Db x h = ap (λ (o : Option Number). block_at o x) (if_false (begins_with_digit Ten x) _ _ h)
 area_found area.Di x h = refl
 
--- and behind those of a data block with its number
+-- and after those of a data block with its number
 block_found : (n : ℕ) (x : List ℕ) → is_kept n ≡ true → direct_at (codes "%DB" ++ (decimal n ++ (codes ".DB" ++ x))) ≡ lettered_at area.Db (Some n) (length (decimal n) + 6) x
 block_found n x h =
     ap (λ (o : Option Number). block_at o (decimal n ++ (codes ".DB" ++ x))) (decimal_kept n (codes ".DB" ++ x) h refl)
@@ -114,7 +114,7 @@ block_found n x h =
 
 -- Places
 
--- a text is a direct variable where its place is found, whatever stands behind it
+-- a text is a direct variable where its place is found, whatever stands after it
 direct_is : (a : AreaName) (block : Option ℕ) (w : Width) (byte bit : ℕ)
     → ((more : List ℕ) → ends_word more ≡ true → direct_at (place_in a block w byte bit ++ more) ≡ Some (variable_of a block w byte bit (length (place_in a block w byte bit))))
     → ((more : List ℕ) → piece_at (place_in a block w byte bit ++ more) ≡ direct_piece (direct_at (place_in a block w byte bit ++ more))) → IsDirect a block w byte bit

@@ -141,7 +141,7 @@ chosen : (b : Bool) (o : Option StType) (kind : StType) → (if b then o else No
 chosen true o kind e = refl
 chosen false o kind e = absurd cc
 
--- a `#` stands behind the word of a type
+-- a `#` stands after the word of a type
 pub type_before : (bytes : List ℕ) (kind : StType) → type_at bytes ≡ Some kind → word_size bytes < length bytes
 type_before bytes kind e =
     let size = word_size bytes in

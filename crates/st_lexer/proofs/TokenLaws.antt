@@ -1,4 +1,4 @@
--- A text has the tokens of its first piece, and then those of what stands behind it.
+-- A text has the tokens of its first piece, and then those of what stands after it.
 use Rattle.std.proofs.Common.{◌≡◌, ℕ, zero, suc, ◌-◌, ◌<◌, ◌≤◌, false, List, [], ◌∷◌, ◌++◌, length, take, drop, Option, Some, None, Ok, Err, refl, sym, ap, subst, ◌∙◌, arith, append_assoc, append-nil, length-drop, length-take-le}
 use Rattle.std.proofs.Math.Seq.{take-append_seam, drop-append_seam}
 use Rattle.std.proofs.lemmas.List.{take-append-drop}
@@ -24,7 +24,7 @@ skipped zero line bytes = refl
 skipped (suc n) line [] = refl
 skipped (suc n) line (b ∷ rest) = skipped n (line_behind b line) rest
 
--- the piece at the front, and the tokens behind it
+-- the piece at the front, and the tokens after it
 pub next_piece : (bytes : List ℕ) (piece : Piece) (size line : ℕ) → piece_at bytes ≡ Some piece → piece_size piece ≡ size → 0 < size →
     cut_from 0 line bytes ≡ prepend_tokens (token_of piece bytes line) (cut_from 0 (line_past line (take size bytes)) (drop size bytes))
 next_piece [] piece size line found same one = absurd cc

@@ -1,4 +1,4 @@
--- A word at the front of a text, whatever stands behind it that does not go on with it.
+-- A word at the front of a text, whatever stands after it that does not go on with it.
 use Rattle.std.proofs.Common.{◌≡◌, ℕ, Bool, true, false, not, ◌&&◌, ◌==◌, List, [], ◌∷◌, ◌++◌, length, drop, Some, None, refl, ap, ◌∙◌, arith}
 use Rattle.std.specs.Prelude.{if◌then◌else◌}
 use Rattle.std.specs.List.{list_all}
@@ -36,7 +36,7 @@ run_size (b ∷ w) more h e =
     let both = and_both (is_word_byte b) (list_all is_word_byte w) h in
     rw both.0 (rw (run_size w more both.1 e) (omega arith))
 
--- no `#` stands behind the end of a word
+-- no `#` stands after the end of a word
 pub no_mark : (more : List ℕ) → ends_word more ≡ true → begins_with 35 more ≡ false
 no_mark [] e = refl
 no_mark (b ∷ more) e = not_true (b == 35) (and_both (not (is_word_byte b)) (not (b == 35)) e).1

@@ -14,17 +14,23 @@ use Rattle.st_tree.specs.declared.expr.StType.TheVariants.{Bool as Truth, Byte, 
 -- what a character stands for as a digit: 0 to 9, A to F in any case; 16 for one that is no digit
 abbrev pub digit_value : ℕ → ℕ
 digit_value b =
-    if is_between 48 57 b then b - 48 else if is_between 65 70 b then b - 55 else if is_between 97 102 b then b - 87 else 16
+    if is_between 48 57 b then b - 48
+    else if is_between 65 70 b then b - 55
+    else if is_between 97 102 b then b - 87
+    else 16
 
+-- how many digits a base has: a digit counts this many of the next lower place
 abbrev pub radix : Base → ℕ
 radix Two = 2
 radix Eight = 8
 radix Ten = 10
 radix Sixteen = 16
 
+-- a character is a digit of a base, as 0 to 7 to the base 8; A to F, in any case, to the base 16 alone
 abbrev pub is_digit_to : Base → ℕ → Bool
 is_digit_to base b = nat_lt (digit_value b) (radix base)
 
+-- a digit of a base stands at the front of a text
 abbrev pub begins_with_digit : Base → List ℕ → Bool
 begins_with_digit base [] = false
 begins_with_digit base (first ∷ rest) = is_digit_to base first
@@ -32,13 +38,14 @@ begins_with_digit base (first ∷ rest) = is_digit_to base first
 -- how many bytes at the front are digits, or a `_` that a digit follows
 abbrev pub digits_size : Base → List ℕ → ℕ
 digits_size base [] = 0
-digits_size base (first ∷ rest) = if is_digit_to base first || (first == 95 && begins_with_digit base rest) then digits_size base rest + 1 else 0
+digits_size base (first ∷ rest) =
+    if is_digit_to base first || (first == 95 && begins_with_digit base rest) then digits_size base rest + 1 else 0
 
 -- a number with one more digit; `_` says nothing, and a number that is too great is kept as the greatest
 abbrev pub with_digit : Base → ℕ → ℕ → ℕ
 with_digit base value digit = if digit == 95 then value else min (value * radix base + digit_value digit) (2 ^ 64 - 1)
 
--- the number that digits stand for behind those of `value`
+-- the number that digits stand for after those of `value`
 abbrev pub value_from : Base → ℕ → List ℕ → ℕ
 value_from base value [] = value
 value_from base value (digit ∷ rest) = value_from base (with_digit base value digit) rest
@@ -52,15 +59,19 @@ mark Eight = codes "8#"
 mark Ten = []
 mark Sixteen = codes "16#"
 
--- a number to this base stands at the front: its mark, and a digit behind it
+-- a number to this base stands at the front: its mark, and a digit after it
 abbrev pub stands_to : Base → List ℕ → Bool
 stands_to base bytes = starts_with nat_eq bytes (mark base) && begins_with_digit base (drop (length (mark base)) bytes)
 
 -- the base of the number at the front
 abbrev pub base_at : List ℕ → Base
-base_at bytes = if stands_to Sixteen bytes then Sixteen else if stands_to Eight bytes then Eight else if stands_to Two bytes then Two else Ten
+base_at bytes =
+    if stands_to Sixteen bytes then Sixteen
+    else if stands_to Eight bytes then Eight
+    else if stands_to Two bytes then Two
+    else Ten
 
--- digits behind their mark, and the number that they stand for
+-- digits after their mark, and the number that they stand for
 abbrev pub digits_behind : ℕ → Base → List ℕ → Number
 digits_behind before base digits =
     let size = digits_size base digits in
@@ -68,7 +79,9 @@ digits_behind before base digits =
 
 -- the longest number to this base at the front
 abbrev pub number_to : Base → List ℕ → Option Number
-number_to base bytes = if stands_to base bytes then Some (digits_behind (length (mark base)) base (drop (length (mark base)) bytes)) else None
+number_to base bytes =
+    if stands_to base bytes then Some (digits_behind (length (mark base)) base (drop (length (mark base)) bytes))
+    else None
 
 -- the longest number at the front
 abbrev pub number_at : List ℕ → Option Number
@@ -76,7 +89,7 @@ number_at bytes = number_to (base_at bytes) bytes
 
 -- Types
 
--- the greatest number of a type, and that behind a `-`
+-- the greatest number of a type, and that after a `-`
 abbrev pub greatest : StType → Bool → ℕ
 greatest Truth minus = 1
 greatest Byte minus = 255
@@ -119,15 +132,20 @@ type_named word =
 abbrev pub word_size : List ℕ → ℕ
 word_size bytes = prefix_len is_word_byte bytes
 
--- a literal of a type, whose number stands behind so many bytes
+-- a literal of a type, whose number stands after so many bytes
 abbrev pub literal_of_number : StType → Bool → ℕ → Number → Literal
-literal_of_number type minus before number = record { kind = type; minus = minus; number = number.value; size = before + number.size }
+literal_of_number type minus before number =
+    record { kind = type; minus = minus; number = number.value; size = before + number.size }
 
--- the literal of a word of so many bytes that stands behind its type: TRUE or FALSE in any case
+-- a truth value, 1 or 0, by its word after so many bytes of its type
+abbrev pub truth_literal : ℕ → List ℕ → ℕ → Literal
+truth_literal before word n = record { kind = Truth; minus = false; number = n; size = before + length word }
+
+-- the literal of a word that stands after so many bytes of its type: TRUE or FALSE in any case
 abbrev pub truth_named : ℕ → List ℕ → Option Literal
 truth_named before word =
-    if is_same_word word (codes "TRUE") then Some (record { kind = Truth; minus = false; number = 1; size = before + length word })
-    else if is_same_word word (codes "FALSE") then Some (record { kind = Truth; minus = false; number = 0; size = before + length word })
+    if is_same_word word (codes "TRUE") then Some (truth_literal before word 1)
+    else if is_same_word word (codes "FALSE") then Some (truth_literal before word 0)
     else None
 
 -- one thing, or another where there is none
@@ -135,10 +153,11 @@ abbrev pub or_else : Option Literal → Option Literal → Option Literal
 or_else (Some found) other = Some found
 or_else None other = other
 
--- the value of BOOL behind so many bytes: TRUE, FALSE or a decimal
+-- the value of BOOL after so many bytes: TRUE, FALSE or a decimal
 abbrev pub truth_behind : ℕ → List ℕ → Option Literal
 truth_behind before bytes =
-    or_else (truth_named before (take (word_size bytes) bytes)) (option_map (literal_of_number Truth false before) (number_to Ten bytes))
+    or_else (truth_named before (take (word_size bytes) bytes))
+    (option_map (literal_of_number Truth false before) (number_to Ten bytes))
 
 -- the value of another type: a number with its mark or without one, or a `-` and a decimal
 abbrev pub number_behind : StType → ℕ → List ℕ → Option Literal
@@ -147,14 +166,15 @@ number_behind type before bytes =
     then option_map (literal_of_number type true (before + 1)) (number_to Ten (drop 1 bytes))
     else option_map (literal_of_number type false before) (number_at bytes)
 
--- the value of a type behind so many bytes
+-- the value of a type after so many bytes
 abbrev pub value_behind : StType → ℕ → List ℕ → Option Literal
 value_behind Truth before bytes = truth_behind before bytes
 value_behind type before bytes = number_behind type before bytes
 
--- the type whose word stands at the front with `#` behind it
+-- the type whose word stands at the front with `#` after it
 abbrev pub type_at : List ℕ → Option StType
-type_at bytes = if begins_with 35 (drop (word_size bytes) bytes) then type_named (take (word_size bytes) bytes) else None
+type_at bytes =
+    if begins_with 35 (drop (word_size bytes) bytes) then type_named (take (word_size bytes) bytes) else None
 
 -- a decimal is a DINT, a number with a mark a DWORD
 abbrev pub type_of_base : Base → StType
@@ -163,7 +183,7 @@ type_of_base Two = Dword
 type_of_base Eight = Dword
 type_of_base Sixteen = Dword
 
--- the literal at the front behind a type, or without one
+-- the literal at the front after a type, or without one
 abbrev pub literal_behind : Option StType → List ℕ → Option Literal
 literal_behind (Some type) bytes = value_behind type (word_size bytes + 1) (drop (word_size bytes + 1) bytes)
 literal_behind None bytes = option_map (literal_of_number (type_of_base (base_at bytes)) false 0) (number_at bytes)

@@ -5,10 +5,13 @@ use Rattle.st_lexer.specs.declared.lexer.Cut.{Cut as FoundCut}
 use Rattle.st_lexer.specs.declared.lexer.Piece.{Piece as Found}
 use Rattle.st_lexer.specs.declared.lexer.Piece.TheVariants as found
 
+-- a piece that the code found, as the definition has it: the sort of a token, and how many bytes the
+-- piece takes
 abbrev pub view : Found → Piece
 view (found.Gap size) = gap size
 view (found.Token kind size) = token kind size
 
+-- the tokens that the code has cut and the line where it stopped, as the definition has them
 abbrev pub cut_view : FoundCut → Cut
 cut_view cut = record { tokens = cut.tokens; bad = cut.bad }
 

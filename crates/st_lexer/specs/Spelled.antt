@@ -13,13 +13,15 @@ use Rattle.st_tree.specs.declared.expr.StType.TheVariants as type
 abbrev pub is_decimal : ℕ → Bool
 is_decimal n = nat_le n (greatest type.Dint false)
 
+-- a number that a byte can hold, 0 to 255, as the initial value of a data block's byte
 abbrev pub is_byte : ℕ → Bool
 is_byte b = nat_le b 255
 
 -- a type has a value; only those with a sign have values below 0
 abbrev pub has_value : StType → ℤ → Bool
 has_value ty n =
-    if int_lt n (pos 0) then is_signed ty && nat_le (unsigned_abs n) (greatest ty true) else nat_le (unsigned_abs n) (greatest ty false)
+    if int_lt n (pos 0) then is_signed ty && nat_le (unsigned_abs n) (greatest ty true)
+    else nat_le (unsigned_abs n) (greatest ty false)
 
 -- a number of 32 bits, as far as numbers of places are kept
 abbrev pub is_kept : ℕ → Bool

@@ -1,4 +1,4 @@
--- What a canonical text writes for a word, a literal or a place is one token, whatever stands behind it
+-- What a canonical text writes for a word, a literal or a place is one token, whatever stands after it
 -- that does not go on with it, and stands for what it was written for.
 use Rattle.std.specs.Prelude.{◌≡◌, ℕ, ℤ, pos, unsigned_abs, int_lt, Bool, true, false, List, ◌∷◌, ◌++◌, codes, decimal, length, drop, Option, Some, None}
 use Rattle.std.specs.List.{list_all}
@@ -18,7 +18,7 @@ use Rattle.st_tree.specs.Words.{area_word}
 use Rattle.st_tree.specs.declared.expr.StType.{StType}
 use Rattle.st_tree.specs.declared.expr.StType.TheVariants as type
 
--- a text is one token of a sort, whatever stands behind it that does not go on with it
+-- a text is one token of a sort, whatever stands after it that does not go on with it
 abbrev pub IsToken : StKind → List ℕ → Type 0
 IsToken kind text = (more : List ℕ) → ends_word more ≡ true → Stands (token kind (length text)) text more
 
@@ -29,21 +29,27 @@ WordsAreTokens = (b : ℕ) (w : List ℕ) → is_letter b ≡ true → list_all 
 -- the text of a literal other than TRUE and FALSE has its type and its value
 pub record IsLiteral (text : List ℕ) (ty : StType) (n : ℤ) : Type 0 where
   pub is_token : IsToken sort.Literal text
-  pub found : literal_at text ≡ Some (record { kind = ty; minus = int_lt n (pos 0); number = unsigned_abs n; size = length text })
+  pub found : literal_at text
+      ≡ Some (record { kind = ty; minus = int_lt n (pos 0); number = unsigned_abs n; size = length text })
 
 -- the types with numbers
 abbrev pub is_number : StType → Bool
 is_number type.Bool = false
 is_number other = true
 
+-- a literal of a canonical text is one token with its type and its value: one with its type in front, a
+-- plain DINT from 0 on, and a byte of a data block as `16#0A`, which is a DWORD to the base 16 with two
+-- digits
 pub record LiteralsAreTokens : Type 0 where
   pub typed : (ty : StType) (n : ℤ) → is_number ty ≡ true → has_value ty n ≡ true → IsLiteral (literal_text ty n) ty n
   pub plain : (n : ℕ) → is_decimal n ≡ true → IsLiteral (decimal n) type.Dint (pos n)
-  pub in_plain : (n : ℕ) → is_decimal n ≡ true → (base_at (decimal n) ≡ base.Ten) × (begins_with_digit base.Ten (decimal n) ≡ true)
+  pub in_plain : (n : ℕ) → is_decimal n ≡ true
+      → (base_at (decimal n) ≡ base.Ten) × (begins_with_digit base.Ten (decimal n) ≡ true)
   pub byte : (b : ℕ) → is_byte b ≡ true → IsLiteral (byte_text b) type.Dword (pos b)
-  pub in_byte : (b : ℕ) → is_byte b ≡ true → (base_at (byte_text b) ≡ base.Sixteen) × (length (drop 3 (byte_text b)) ≡ 2)
+  pub in_byte : (b : ℕ) → is_byte b ≡ true
+      → (base_at (byte_text b) ≡ base.Sixteen) × (length (drop 3 (byte_text b)) ≡ 2)
 
--- the text of a place behind `%` and the letters of its area, or of a data block with its number
+-- the text of a place after `%` and the letters of its area, or of a data block with its number
 abbrev pub place_in : AreaName → Option ℕ → Width → ℕ → ℕ → List ℕ
 place_in a None w byte bit = codes "%" ++ area_word a ++ place_text w byte bit
 place_in a (Some n) w byte bit = codes "%DB" ++ decimal n ++ codes ".DB" ++ place_text w byte bit
@@ -52,7 +58,17 @@ place_in a (Some n) w byte bit = codes "%DB" ++ decimal n ++ codes ".DB" ++ plac
 pub record IsDirect (a : AreaName) (block : Option ℕ) (w : Width) (byte bit : ℕ) : Type 0 where
   pub is_token : IsToken sort.Direct (place_in a block w byte bit)
   pub found : direct_of (place_in a block w byte bit)
-      ≡ Some (record { area = a; block = block; width = w; byte = byte; bit = bit; size = length (place_in a block w byte bit) })
+      ≡ Some (record {
+        area = a;
+        block = block;
+        width = w;
+        byte = byte;
+        bit = bit;
+        size = length (place_in a block w byte bit);
+      })
 
+-- the text of each place with numbers of 32 bits is one token, a direct variable of that place
 abbrev pub PlacesAreTokens : Type 0
-PlacesAreTokens = (a : AreaName) (block : Option ℕ) (w : Width) (byte bit : ℕ) → is_place a block w byte bit ≡ true → IsDirect a block w byte bit
+PlacesAreTokens =
+    (a : AreaName) (block : Option ℕ) (w : Width) (byte bit : ℕ) → is_place a block w byte bit ≡ true
+    → IsDirect a block w byte bit

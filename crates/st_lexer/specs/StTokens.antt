@@ -1,6 +1,6 @@
 -- The tokens of an ST text. A text is cut into pieces, each standing at the front of what the pieces
 -- before it leave: gaps (a blank, a comment) and tokens. Where no piece stands is a bad token, and so
--- is a decimal that is too great for a DINT, but directly behind `..` and before `(`.
+-- is a decimal that is too great for a DINT, but directly after `..` and before `(`.
 use Rattle.std.specs.Prelude.{ℕ, suc, zero, ◌+◌, ◌-◌, Bool, false, not, ◌==◌, ◌&&◌, ◌||◌, if◌then◌else◌, List, [], ◌∷◌, ◌++◌, take, drop, codes, Option, Some, None, option_map, Result, Ok, Err, nat_eq}
 use Rattle.std.specs.Cmp.Lexicographic.{pointwise}
 use Rattle.std.specs.List.{list_any}
@@ -36,7 +36,8 @@ is_sign b = list_any (λ sign. sign == b) (codes ":;,()[]+-*/=<>&")
 
 -- a sign of two characters: := .. <> >= <=
 abbrev pub is_double_sign : ℕ → ℕ → Bool
-is_double_sign a b = (a == 58 && b == 61) || (a == 46 && b == 46) || (a == 60 && b == 62) || (a == 62 && b == 61) || (a == 60 && b == 61)
+is_double_sign a b =
+    (a == 58 && b == 61) || (a == 46 && b == 46) || (a == 60 && b == 62) || (a == 62 && b == 61) || (a == 60 && b == 61)
 
 -- Pieces
 
@@ -59,7 +60,9 @@ comment_size (first ∷ rest) = if first == 42 && begins_with 41 rest then Some 
 abbrev pub sign_piece : ℕ → List ℕ → Option Piece
 sign_piece first [] = if is_sign first then Some (token sort.Sign 1) else None
 sign_piece first (second ∷ rest) =
-    if is_double_sign first second then Some (token sort.Sign 2) else if is_sign first then Some (token sort.Sign 1) else None
+    if is_double_sign first second then Some (token sort.Sign 2)
+    else if is_sign first then Some (token sort.Sign 1)
+    else None
 
 -- a comment, up to its `*)` or to the end of its line, or a sign
 abbrev pub mark_piece : ℕ → List ℕ → Option Piece
@@ -104,7 +107,7 @@ piece_at (first ∷ rest) =
 
 -- Tokens
 
--- the line behind a byte on a line
+-- the line after a byte on a line
 abbrev pub line_behind : ℕ → ℕ → ℕ
 line_behind b line = if b == 10 then line_after line else line
 
@@ -137,7 +140,7 @@ cut_from zero line (b ∷ rest) =
 
 -- Decimals
 
--- a literal whose type has not its number; of those that are cut, decimals alone
+-- a literal outside its type's range; of those that are cut, only a decimal can be one
 abbrev pub is_great : StKind → Option Literal → Bool
 is_great sort.Literal (Some literal) = not (is_in_range literal)
 is_great kind literal = false
@@ -151,7 +154,7 @@ abbrev pub begins_with_bracket : List StToken → Bool
 begins_with_bracket [] = false
 begins_with_bracket (first ∷ rest) = has_text (codes "(") first
 
--- the line of the first decimal that is too great where it stands; the first token may stand behind `..`
+-- the line of the first decimal that is too great where it stands; the first token may stand after `..`
 abbrev pub great_from : Bool → List StToken → Option Line
 great_from behind_dots [] = None
 great_from behind_dots (first ∷ rest) =
@@ -159,7 +162,7 @@ great_from behind_dots (first ∷ rest) =
     then Some first.line
     else great_from (has_text (codes "..") first) rest
 
--- the line of a decimal that is too great, or else that of the place where no piece stands, behind all
+-- the line of a decimal that is too great, or else that of the place where no piece stands, after all
 -- tokens
 abbrev pub first_bad : Option Line → Option Line → Option Line
 first_bad (Some line) place = Some line

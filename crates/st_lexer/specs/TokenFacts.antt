@@ -33,6 +33,7 @@ IsOfSort sort.Direct text = IfSome (direct_of text) HasPlace
 IsOfSort sort.Literal text = IfSome (literal_at text) HasValue
 IsOfSort sort.Sign text = Unit {0}
 
+-- the text of a token is what its sort says
 abbrev pub IsOfItsSort : StToken → Type 0
 IsOfItsSort token = IsOfSort token.kind token.text
 

@@ -1,4 +1,4 @@
--- The tokens of an ST text as a relation: a text is a piece and what stands behind it, to its end.
+-- The tokens of an ST text as a relation: a text is a piece and what stands after it, to its end.
 use Rattle.std.specs.Prelude.{◌≡◌, ℕ, ◌<◌, false, List, [], ◌∷◌, ◌++◌, length, Some, None, Ok, Err}
 use Rattle.s7_base.specs.Tokens.{line_at_end}
 use Rattle.s7_base.specs.declared.reason.Line.{Line}
@@ -7,7 +7,7 @@ use Rattle.s7_base.specs.declared.reason.Rejection.TheVariants.{Refused}
 use Rattle.st_lexer.specs.StTokens.{Piece, piece_at, piece_size, line_behind, token_of, great_from, tokens_of}
 use Rattle.st_tree.specs.declared.token.StToken.{StToken}
 
--- the line behind some bytes
+-- the line after some bytes
 abbrev pub line_past : ℕ → List ℕ → ℕ
 line_past line [] = line
 line_past line (b ∷ bytes) = line_past (line_behind b line) bytes
@@ -40,8 +40,10 @@ pub record TokensAreCut : Type 0 where
   pub great : (bytes : List ℕ) (tokens : List StToken) (end : ℕ) (line : Line) →
       Cuts 1 bytes tokens end [] → great_from false tokens ≡ Some line → tokens_of bytes ≡ Err (Refused line BadToken)
   pub great_before : (bytes : List ℕ) (tokens : List StToken) (end : ℕ) (line : Line) (rest : List ℕ) →
-      Cuts 1 bytes tokens end rest → NoPiece rest → great_from false tokens ≡ Some line → tokens_of bytes ≡ Err (Refused line BadToken)
+      Cuts 1 bytes tokens end rest → NoPiece rest → great_from false tokens ≡ Some line
+      → tokens_of bytes ≡ Err (Refused line BadToken)
   pub bad : (bytes : List ℕ) (tokens : List StToken) (line : ℕ) (rest : List ℕ) →
       Cuts 1 bytes tokens line rest → NoPiece rest → great_from false tokens ≡ None
       → tokens_of bytes ≡ Err (Refused (record { 0 = line }) BadToken)
-  pub ends : (bytes : List ℕ) (tokens : List StToken) (line : ℕ) → Cuts 1 bytes tokens line [] → line_at_end bytes ≡ record { 0 = line }
+  pub ends : (bytes : List ℕ) (tokens : List StToken) (line : ℕ) → Cuts 1 bytes tokens line []
+      → line_at_end bytes ≡ record { 0 = line }

@@ -6,9 +6,8 @@ ghost use Rattle.st_lexer.specs.Pieces.{IsWithin};
 ghost use Rattle.st_lexer.specs.declared.number.Base.TheVariants.{Ten};
 
 use crate::number::{Base, Number, begins_with_digit, number_to};
-use crate::text::{begins_with, rest_after};
 use memory_areas::AreaName;
-use s7_base::Width;
+use s7_base::{Width, begins_with, rest_after};
 
 /// A direct variable at the front of a text, as `%IX0.0`. A number above the greatest of 32 bits is
 /// kept as that.
@@ -153,7 +152,7 @@ fn begins_with_block(bytes: &[u8]) -> bool
     }
 }
 
-/// The place behind the number of a data block.
+/// The place after the number of a data block.
 fn numbered_at(block: Number, rest: &[u8]) -> Option<Direct>
     requires { block.size + length rest.now < 2 ^ 63 }
     ensures direct { result ≡ numbered_at block rest.now }
@@ -182,7 +181,7 @@ fn block_at(bytes: &[u8]) -> Option<Direct>
     }
 }
 
-/// A place behind `%D`.
+/// A place after `%D`.
 fn data_at(bytes: &[u8]) -> Option<Direct>
     ensures direct { result ≡ data_at bytes.now }
     ensures within { IfSome result (λ direct. IsWithin direct.size (2 + length bytes.now)) }
@@ -209,7 +208,7 @@ fn area_named(letter: u8) -> Option<AreaName>
     }
 }
 
-/// A place behind the letter of its area.
+/// A place after the letter of its area.
 fn area_at(letter: u8, bytes: &[u8]) -> Option<Direct>
     ensures direct { result ≡ area_at (area_named letter) letter bytes.now }
     ensures within { IfSome result (λ direct. IsWithin direct.size (2 + length bytes.now)) }

@@ -11,15 +11,18 @@ ghost use Rattle.st_lexer.specs.TokenGrammar.{line_past};
 use crate::direct::direct_at;
 use crate::literal::{Literal, is_in_range, literal_at, type_at};
 use crate::number::{Base, base_at, is_digit_to};
-use crate::text::{begins_with, front_of, rest_after, word_size};
-use s7_base::{Line, List, NoMemory, Reason, Rejection};
+use crate::text::word_size;
+use s7_base::{Line, List, NoMemory, Reason, Rejection, begins_with, front_of, rest_after};
 use st_tree::{StKind, StToken};
 use std::alloc::Global;
 
 /// What stands at the front of a text, with its size in bytes.
 #[derive(Clone, Copy)]
 pub enum Piece {
+    /// A blank or a comment.
     Gap(usize),
+
+    /// A token of this sort.
     Token(StKind, usize),
 }
 
@@ -196,7 +199,7 @@ fn line_behind(b: u8, line: u32) -> u32
     }
 }
 
-/// The line behind some bytes.
+/// The line after some bytes.
 fn line_past(start: u32, bytes: &[u8]) -> u32
     ensures { result ≡ line_past start bytes.now }
 {
@@ -250,7 +253,7 @@ fn cut_text(alloc: Global, bytes: &[u8]) -> Result<Cut, NoMemory>
     Ok(Cut { tokens, bad: None })
 }
 
-/// The token is a literal whose type has not its number.
+/// The token is a literal outside its type's range.
 fn is_great(token: &StToken) -> bool
     ensures { result ≡ is_great token.now.kind (literal_at token.now.text) }
 {

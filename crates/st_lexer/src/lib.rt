@@ -1,18 +1,18 @@
 //! The tokens of a Structured Text.
 //!
-//! Stands on `s7_base`, `memory_areas` and `st_tree`. `specs/` has what the tokens of a text are, the value of a
-//! literal and the place of a direct variable; `token_laws` says the same of tokens as a relation, `token_facts` what
-//! the tokens of a text are by their sorts, and `spelling_laws` that what a canonical text writes for a word, a literal
-//! or a place is one token of it.
+//! Stands on `s7_base`, `memory_areas` and `st_tree`. `specs/` has what the tokens of a text are, the
+//! value of a literal and the place of a direct variable; `token_laws` says the same of tokens as a
+//! relation, `token_facts` what the tokens of a text are by their sorts, and `spelling_laws` that what
+//! a canonical text writes for a word, a literal or a place is one token of it.
 #![tactic(auto)]
 
 pub use direct::{Direct, direct_at};
 pub use lexer::{end_line, st_tokens};
 pub use literal::{Literal, is_in_range, literal_at, type_named};
 pub use number::{Base, Number, base_at, begins_with_digit};
+pub use s7_base::{front_of, is_same_word, rest_after};
 pub use spelling_laws::{literals_are_tokens, places_are_tokens, words_are_tokens};
 pub use st_tree::{StKind, StToken, StType};
-pub use text::{front_of, is_same_word, rest_after};
 pub use token_facts::tokens_are_of_their_sorts;
 pub use token_laws::tokens_are_cut;
 
@@ -21,8 +21,6 @@ mod lexer;
 mod literal;
 mod number;
 mod spelling_laws;
-#[cfg(test)]
-mod tests;
 mod text;
 mod token_facts;
 mod token_laws;

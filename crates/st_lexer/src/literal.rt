@@ -4,7 +4,8 @@ ghost use Rattle.st_lexer.specs.Literals.{greatest, is_signed, integer_named, ty
 ghost use Rattle.st_lexer.specs.Pieces.{IsWithin};
 
 use crate::number::{Base, Number, base_at, number_at, number_to};
-use crate::text::{begins_with, front_of, is_same_word, rest_after, word_size};
+use crate::text::word_size;
+use s7_base::{begins_with, front_of, is_same_word, rest_after};
 use st_tree::StType;
 
 /// A literal at the front of a text.
@@ -152,7 +153,7 @@ fn value_behind(kind: StType, before: usize, bytes: &[u8]) -> Option<Literal>
     }
 }
 
-/// The type whose word stands at the front with `#` behind it.
+/// The type whose word stands at the front with `#` after it.
 pub fn type_at(bytes: &[u8]) -> Option<StType>
     ensures { result ≡ type_at bytes.now }
 {

@@ -3,7 +3,7 @@ ghost use Rattle.std.specs.Prelude.{◌≡◌, ◌≤◌, ◌<◌, ◌+◌, ◌^
 ghost use Rattle.st_lexer.specs.Literals.{digit_value, radix, is_digit_to, begins_with_digit, digits_size, with_digit, value_from, mark, stands_to, base_at, digits_behind, number_to, number_at};
 ghost use Rattle.st_lexer.specs.Pieces.{IsWithin};
 
-use crate::text::{front_of, rest_after};
+use s7_base::{front_of, rest_after};
 
 /// How the digits of a number are read.
 #[derive(Clone, Copy, Debug, PartialEq, Eq)]

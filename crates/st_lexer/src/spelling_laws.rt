@@ -1,7 +1,8 @@
 //! Laws of what a canonical text writes. They compute nothing: their contracts are the laws.
 ghost use Rattle.st_lexer.specs.SpellingLaws.{LiteralsAreTokens, PlacesAreTokens, WordsAreTokens};
 
-/// A letter or `_` and more bytes of a word are one token, whatever stands behind them that does not go on with it.
+/// A letter or `_` and more bytes of a word are one token, whatever stands after them that does not go
+/// on with it.
 pub fn words_are_tokens()
     ensures { WordsAreTokens }
 {}

@@ -1,28 +1,5 @@
-mod Bare
-mod CanonicalRows
-mod CutExpressions
-mod CutGlobals
-mod CutLiterals
-mod CutStatements
-mod CutUnits
-mod CutWords
-mod Cuts
-mod Drive
-mod DriveSource
-mod DriveStatements
-mod Ends
-mod Exact
-mod Finish
-mod Judged
-mod Kept
-mod KeptText
-mod Loops
 pub mod Nesting
-mod OneGrammar
 mod OneReading
 mod SomeReading
-mod SyntaxRows
 pub mod TextReads
 mod Texts
-mod Verdicts
-mod Whole

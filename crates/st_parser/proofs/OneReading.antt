@@ -1,85 +1,27 @@
 -- A text has one reading.
-use Rattle.std.proofs.Common.{◌≡◌, ℕ, List, Option, Some, None, Result, Ok, Err, sym, ap, subst, ◌∙◌}
-use Rattle.s7_base.specs.Tokens.{line_at_end}
+use Rattle.std.proofs.Common.{◌≡◌, List, ℕ, subst}
 use Rattle.s7_base.specs.declared.reason.Line.{Line}
 use Rattle.s7_base.specs.declared.reason.Reason.{Reason}
-use Rattle.s7_base.specs.declared.reason.Reason.TheVariants as reason
-use Rattle.s7_base.specs.declared.reason.Rejection.{Rejection}
-use Rattle.s7_base.specs.declared.reason.Rejection.TheVariants.{Refused}
-use Rattle.st_lexer.specs.StTokens.{tokens_of}
-use Rattle.st_tree.specs.declared.token.StToken.{StToken}
-use Rattle.st_parser.proofs.Bare.{bare}
-use Rattle.st_parser.proofs.DriveSource.{finished}
-use Rattle.st_parser.proofs.Exact.{raw_of}
-use Rattle.st_parser.proofs.Judged.{good_judged, wrong_judged, deep_judged}
-use Rattle.st_parser.specs.Judge.{judge}
-use Rattle.st_parser.specs.Machine.{code, State, start, over}
-use Rattle.st_parser.specs.Syntax.{Lined, all_lined, HasLined, HasRawTree, IsSyntaxRefused}
-use Rattle.st_parser.specs.TextLaws.{NotBoth, OneRawTree, OneRefusal, OneTree}
+use Rattle.st_parser.specs.TextLaws.{NotBoth, OneRefusal, OneTree}
 use Rattle.st_parser.specs.Texts.{by_rules, by_syntax}
+use Rattle.st_syntax.proofs.OneSyntax.{not_both_syntaxes, one_raw_tree, one_syntax_refusal}
 use Rattle.st_tree.specs.declared.raw.RawSt.{RawSt}
 use Rattle.st_types.proofs.OneAnswer as of_raw
 use Rattle.st_types.specs.Typed.{Breaks, HasTree}
-
--- the judgement of a text: that of its tokens, if none of them is bad
-abbrev verdict_on : List ℕ → Result (List StToken) Rejection → Result (State code) Rejection
-verdict_on bytes (Ok tokens) = judge start (all_lined tokens (line_at_end bytes))
-verdict_on bytes (Err refused) = Err refused
-
-abbrev verdict : List ℕ → Result (State code) Rejection
-verdict bytes = verdict_on bytes (tokens_of bytes)
-
-of_tokens : (bytes : List ℕ) (all : List Lined) → HasLined bytes all → verdict bytes ≡ judge start all
-of_tokens bytes all h = ap (verdict_on bytes) h.1 ∙ ap (judge start) h.2
-
--- a text with a tree is judged good
-of_tree : (bytes : List ℕ) (raw : RawSt) (h : HasRawTree bytes raw) → verdict bytes ≡ Ok (bare (finished h.source))
-of_tree bytes raw h = of_tokens bytes h.all h.found ∙ good_judged h.all h.source h.reads h.within
-
--- a text that is refused is judged so
-of_refusal : (bytes : List ℕ) (line : Line) (why : Reason) → IsSyntaxRefused bytes line why → verdict bytes ≡ Err (Refused line why)
-of_refusal bytes line reason.BadToken h = ap (verdict_on bytes) h
-of_refusal bytes line reason.BadSyntax h = of_tokens bytes h.0 h.1 ∙ wrong_judged h.0 line h.2
-of_refusal bytes line reason.TooDeep h = of_tokens bytes h.0 h.1 ∙ deep_judged h.0 line h.2
-of_refusal bytes line other h = absurd h
-
--- the tree at the end of a text
-abbrev tree_at : Result (State code) Rejection → Option RawSt
-tree_at (Ok (over text)) = Some (raw_of text)
-tree_at other = None
-
-tree_is : (bytes : List ℕ) (raw : RawSt) → HasRawTree bytes raw → tree_at (verdict bytes) ≡ Some raw
-tree_is bytes raw h = ap tree_at (of_tree bytes raw h) ∙ ap (λ (r : RawSt). Some r) h.same
-
-pub one_raw_tree : OneRawTree
-one_raw_tree bytes r s a b = let e : Some r ≡ Some s = sym (tree_is bytes r a) ∙ tree_is bytes s b in cc
 
 pub one_tree : OneTree
 one_tree bytes s t a b =
     let same : b.raw ≡ a.raw = one_raw_tree bytes b.raw a.raw b.reads a.reads in
     of_raw.one_tree a.raw s t a.typed (subst (λ (raw : RawSt). HasTree raw t) same b.typed)
 
-same_refusal : (v : Result (State code) Rejection) (l m : Line) (q r : Reason) → v ≡ Err (Refused l q) → v ≡ Err (Refused m r) → (l ≡ m) × (q ≡ r)
-same_refusal v l m q r a b = (cc, cc)
-
-good_or_not : (v : Result (State code) Rejection) (q : State code) (refused : Rejection) → v ≡ Ok q → v ≡ Err refused → ⊥
-good_or_not v q refused a b = absurd cc
-
-one_syntax_refusal : (bytes : List ℕ) (l m : Line) (q r : Reason) → IsSyntaxRefused bytes l q → IsSyntaxRefused bytes m r → (l ≡ m) × (q ≡ r)
-one_syntax_refusal bytes l m q r a b = same_refusal (verdict bytes) l m q r (of_refusal bytes l q a) (of_refusal bytes m r b)
-
--- no text has a tree and a refusal of its syntax
-tree_or_refusal : (bytes : List ℕ) (raw : RawSt) (line : Line) (why : Reason) → HasRawTree bytes raw → IsSyntaxRefused bytes line why → ⊥
-tree_or_refusal bytes raw line why a b = good_or_not (verdict bytes) (bare (finished a.source)) (Refused line why) (of_tree bytes raw a) (of_refusal bytes line why b)
-
 pub one_refusal : OneRefusal
 one_refusal bytes l m q r (by_syntax a) (by_syntax b) = one_syntax_refusal bytes l m q r a b
-one_refusal bytes l m q r (by_syntax a) (by_rules {raw = raw} h b) = absurd (tree_or_refusal bytes raw l q h a)
-one_refusal bytes l m q r (by_rules {raw = raw} h a) (by_syntax b) = absurd (tree_or_refusal bytes raw m r h b)
+one_refusal bytes l m q r (by_syntax a) (by_rules {raw = raw} h b) = absurd (not_both_syntaxes bytes raw l q h a)
+one_refusal bytes l m q r (by_rules {raw = raw} h a) (by_syntax b) = absurd (not_both_syntaxes bytes raw m r h b)
 one_refusal bytes l m q r (by_rules {raw = x} h a) (by_rules {raw = y} k b) =
     of_raw.one_refusal x l m q r a (subst (λ (raw : RawSt). Breaks raw m r) (one_raw_tree bytes y x k h) b)
 
 pub not_both : NotBoth
-not_both bytes t l r a (by_syntax b) = tree_or_refusal bytes a.raw l r a.reads b
+not_both bytes t l r a (by_syntax b) = not_both_syntaxes bytes a.raw l r a.reads b
 not_both bytes t l r a (by_rules {raw = raw} h b) =
     of_raw.not_both a.raw t l r a.typed (subst (λ (x : RawSt). Breaks x l r) (one_raw_tree bytes raw a.raw h a.reads) b)

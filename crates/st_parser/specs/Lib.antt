@@ -1,15 +1,3 @@
-pub mod Canonical
-pub mod Derives
-pub mod Forms
-pub mod Grammar
-pub mod Judge
-pub mod Kinds
-pub mod Levels
-pub mod Machine
 pub mod Proper
-pub mod Spelled
-pub mod Steps
-pub mod Syntax
 pub mod TextLaws
 pub mod Texts
-pub mod Views

@@ -1,21 +1,12 @@
--- Laws of reading: a text has one tree or one refusal, the canonical text of a proper tree reads as the
--- tree, and the grammar by binding strengths has the expressions of the forms.
+-- Laws of reading: a text has one tree or one refusal, and the canonical text of a proper tree reads as the
+-- tree.
 use Rattle.std.specs.Prelude.{◌≡◌, ◌⊎◌, ℕ, List}
 use Rattle.s7_base.specs.declared.reason.Line.{Line}
 use Rattle.s7_base.specs.declared.reason.Reason.{Reason}
-use Rattle.st_parser.specs.Derives.{Derives, IsSpelled}
 use Rattle.st_parser.specs.Proper.{Proper}
-use Rattle.st_parser.specs.Syntax.{HasRawTree}
 use Rattle.st_parser.specs.Texts.{IsRefusedText, IsTextOf}
-use Rattle.st_parser.specs.declared.kind.Kind.{Kind}
 use Rattle.st_tree.specs.Spelling.{spelling}
 use Rattle.st_tree.specs.declared.program.StProgram.{StProgram}
-use Rattle.st_tree.specs.declared.raw.RawExpr.{RawExpr}
-use Rattle.st_tree.specs.declared.raw.RawSt.{RawSt}
-
--- two trees of a text before its names are looked up are the same
-abbrev pub OneRawTree : Type 0
-OneRawTree = (bytes : List ℕ) (r s : RawSt) → HasRawTree bytes r → HasRawTree bytes s → r ≡ s
 
 -- two trees of a text are the same
 abbrev pub OneTree : Type 0
@@ -23,7 +14,8 @@ OneTree = (bytes : List ℕ) (s t : StProgram) → IsTextOf bytes s → IsTextOf
 
 -- two refusals of a text have the same line and the same reason
 abbrev pub OneRefusal : Type 0
-OneRefusal = (bytes : List ℕ) (l m : Line) (q r : Reason) → IsRefusedText bytes l q → IsRefusedText bytes m r → (l ≡ m) × (q ≡ r)
+OneRefusal =
+    (bytes : List ℕ) (l m : Line) (q r : Reason) → IsRefusedText bytes l q → IsRefusedText bytes m r → (l ≡ m) × (q ≡ r)
 
 -- no text has both
 abbrev pub NotBoth : Type 0
@@ -31,12 +23,10 @@ NotBoth = (bytes : List ℕ) (t : StProgram) (l : Line) (r : Reason) → IsTextO
 
 -- each text has one of them
 abbrev pub EachHasOne : Type 0
-EachHasOne = (bytes : List ℕ) → ((tree : StProgram) × IsTextOf bytes tree) ⊎ ((line : Line) × (reason : Reason) × IsRefusedText bytes line reason)
+EachHasOne =
+    (bytes : List ℕ)
+    → ((tree : StProgram) × IsTextOf bytes tree) ⊎ ((line : Line) × (reason : Reason) × IsRefusedText bytes line reason)
 
 -- the canonical text of a proper tree reads as the tree
 abbrev pub ProperReadsBack : Type 0
 ProperReadsBack = (text : StProgram) → Proper text → IsTextOf (spelling text) text
-
--- the grammar by binding strengths and the forms that keep their brackets are one
-abbrev pub OneGrammar : Type 0
-OneGrammar = (k : ℕ) (ts : List Kind) (e : RawExpr) → (Derives k ts e → IsSpelled k ts e) × (IsSpelled k ts e → Derives k ts e)

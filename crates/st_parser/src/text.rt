@@ -4,8 +4,8 @@ ghost use Rattle.memory_areas.specs.Areas.{AreBlocks};
 ghost use Rattle.st_parser.specs.Texts.{IsRefusedAs, IsTextOf};
 ghost use Rattle.st_tree.specs.Runnable.{IsRunnable};
 
-use crate::parser::syntax;
 use s7_base::Rejection;
+use st_syntax::syntax;
 use st_tree::StProgram;
 use st_types::typed;
 use std::alloc::Global;

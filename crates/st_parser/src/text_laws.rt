@@ -1,10 +1,5 @@
 //! Laws of what the reading of a text is. They compute nothing: their contracts are the laws.
-ghost use Rattle.st_parser.specs.TextLaws.{EachHasOne, NotBoth, OneGrammar, OneRawTree, OneRefusal, OneTree, ProperReadsBack};
-
-/// A text has one tree at most before its names are looked up.
-pub fn one_raw_tree()
-    ensures { OneRawTree }
-{}
+ghost use Rattle.st_parser.specs.TextLaws.{EachHasOne, NotBoth, OneRefusal, OneTree, ProperReadsBack};
 
 /// A text has one tree at most.
 pub fn one_tree()
@@ -29,10 +24,4 @@ pub fn each_has_one()
 /// The canonical text of a proper tree reads back as the tree.
 pub fn proper_reads_back()
     ensures { ProperReadsBack }
-{}
-
-/// The grammar of expressions with a case for each binding strength has those of the forms that keep
-/// their brackets, with the same trees.
-pub fn one_grammar()
-    ensures { OneGrammar }
 {}

@@ -1,4 +1,4 @@
-//! Expressions, with the brackets that binding needs.
+//! Expressions, with the brackets that precedence asks for.
 ghost use Rattle.std.specs.Prelude.{◌≡◌, ◌++◌, codes, OnOk};
 ghost use Rattle.st_tree.specs.Form.{level, wrap, unary_form, canon};
 ghost use Rattle.st_tree.specs.Spelling.{written, expr_text, names_in};
@@ -12,7 +12,7 @@ use crate::word::{
 use s7_base::NoMemory;
 use st_tree::{Expr, Pou, StProgram, UnaryOp};
 
-// How weakly the text of an expression binds.
+/// The precedence of the text of an expression, 0 the highest.
 fn level_of(expr: &Expr) -> u8
     ensures { result ≡ level (canon expr.now) }
 {
@@ -24,6 +24,7 @@ fn level_of(expr: &Expr) -> u8
     }
 }
 
+/// Puts the text of an expression of a unit at the end, in brackets only where precedence asks for them.
 #[cycle(expr)]
 pub fn put_expr(
     out: &mut Vec<u8>,
@@ -76,7 +77,8 @@ fn put_unary(
     op: UnaryOp,
     operand: &Expr,
 ) -> Result<(), NoMemory>
-    ensures { OnOk result (out.new.items ≡ out.old.items ++ written (names_in tree.now unit.now) (unary_form op (canon operand.now))) }
+    ensures { OnOk result (out.new.items ≡ out.old.items
+        ++ written (names_in tree.now unit.now) (unary_form op (canon operand.now))) }
 {
     put(out, prefix_word(op))?;
     match op {
@@ -88,7 +90,7 @@ fn put_unary(
     }
 }
 
-// The expression, in brackets where it binds more weakly than its place takes.
+/// The expression, in brackets where its precedence is lower than its place takes.
 #[cycle(expr)]
 fn put_operand(
     out: &mut Vec<u8>,
@@ -97,7 +99,8 @@ fn put_operand(
     expr: &Expr,
     limit: u8,
 ) -> Result<(), NoMemory>
-    ensures { OnOk result (out.new.items ≡ out.old.items ++ written (names_in tree.now unit.now) (wrap limit (canon expr.now))) }
+    ensures { OnOk result (out.new.items ≡ out.old.items
+        ++ written (names_in tree.now unit.now) (wrap limit (canon expr.now))) }
 {
     if level_of(expr) <= limit {
         return put_expr(out, tree, unit, expr);
@@ -112,26 +115,29 @@ fn put_in_brackets(
     unit: &Pou,
     expr: &Expr,
 ) -> Result<(), NoMemory>
-    ensures { OnOk result (out.new.items ≡ out.old.items ++ codes "(" ++ expr_text (names_in tree.now unit.now) expr.now ++ codes ")") }
+    ensures { OnOk result (out.new.items ≡ out.old.items
+        ++ codes "(" ++ expr_text (names_in tree.now unit.now) expr.now ++ codes ")") }
 {
     put(out, "(")?;
     put_expr(out, tree, unit, expr)?;
     put(out, ")")
 }
 
-// An operand behind another one.
+/// An operand after another one.
 #[cycle(expr)]
 fn put_next(out: &mut Vec<u8>, tree: &StProgram, unit: &Pou, expr: &Expr) -> Result<(), NoMemory>
-    ensures { OnOk result (out.new.items ≡ out.old.items ++ codes ", " ++ expr_text (names_in tree.now unit.now) expr.now) }
+    ensures { OnOk result (out.new.items ≡ out.old.items
+        ++ codes ", " ++ expr_text (names_in tree.now unit.now) expr.now) }
 {
     put(out, ", ")?;
     put_expr(out, tree, unit, expr)
 }
 
-// The last operand, and the closing bracket.
+/// The last operand, and the closing bracket.
 #[cycle(expr)]
 fn put_last(out: &mut Vec<u8>, tree: &StProgram, unit: &Pou, expr: &Expr) -> Result<(), NoMemory>
-    ensures { OnOk result (out.new.items ≡ out.old.items ++ codes ", " ++ expr_text (names_in tree.now unit.now) expr.now ++ codes ")") }
+    ensures { OnOk result (out.new.items ≡ out.old.items
+        ++ codes ", " ++ expr_text (names_in tree.now unit.now) expr.now ++ codes ")") }
 {
     put(out, ", ")?;
     put_expr(out, tree, unit, expr)?;

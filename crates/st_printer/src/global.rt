@@ -18,7 +18,7 @@ fn put_byte(out: &mut Vec<u8>, byte: u8) -> Result<(), NoMemory>
     put_hexadecimal(out, 2, u64::from(byte))
 }
 
-// Equal bytes that stand together.
+/// Equal bytes that stand together.
 fn put_run(out: &mut Vec<u8>, count: usize, byte: u8) -> Result<(), NoMemory>
     ensures { OnOk result (out.new.items ≡ out.old.items ++ run_text count byte) }
 {
@@ -60,10 +60,11 @@ fn put_list(out: &mut Vec<u8>, bytes: &[u8]) -> Result<(), NoMemory>
     }
 }
 
-// The name, the place and the last index of a data block.
+/// The name, the place and the last index of a data block.
 fn put_block_head(out: &mut Vec<u8>, number: u16, length: usize) -> Result<(), NoMemory>
     ensures { OnOk result (out.new.items ≡ out.old.items
-        ++ codes "    DB" ++ decimal number ++ codes " AT %DB" ++ decimal number ++ codes ".DBB0 : ARRAY[0.." ++ decimal (length - 1) ++ codes "] OF BYTE := [") }
+        ++ codes "    DB" ++ decimal number ++ codes " AT %DB" ++ decimal number ++ codes ".DBB0 : ARRAY[0.."
+        ++ decimal (length - 1) ++ codes "] OF BYTE := [") }
 {
     put(out, "    DB")?;
     put_number(out, u64::from(number))?;
@@ -93,10 +94,12 @@ fn place_word(area: Area) -> &'static str
     }
 }
 
-// The place and the type of a global, to the end of its line.
+/// The place and the type of a global, to the end of its line.
 fn put_located(out: &mut Vec<u8>, global: &Located) -> Result<(), NoMemory>
     ensures { OnOk result (out.new.items ≡ out.old.items
-        ++ place_word global.now.place.area ++ place_text (width_at global.now.ty) global.now.place.byte global.now.place.bit ++ codes " : " ++ type_word global.now.ty ++ codes ";\n") }
+        ++ place_word global.now.place.area
+        ++ place_text (width_at global.now.ty) global.now.place.byte global.now.place.bit
+        ++ codes " : " ++ type_word global.now.ty ++ codes ";\n") }
 {
     put(out, place_word(global.place.area))?;
     put_place(
@@ -136,7 +139,7 @@ fn put_located_globals(out: &mut Vec<u8>, globals: &[Located]) -> Result<(), NoM
     Ok(())
 }
 
-// The section of globals; an empty one is not written.
+/// Puts the section of globals at the end; an empty one is not written.
 pub fn put_globals(out: &mut Vec<u8>, tree: &StProgram) -> Result<(), NoMemory>
     ensures { OnOk result (out.new.items ≡ out.old.items ++ globals_text tree.now.dbs tree.now.globals) }
 {

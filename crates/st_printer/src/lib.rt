@@ -1,7 +1,8 @@
 //! The canonical text of a tree.
 //!
-//! Stands on `s7_base`, `memory_areas` and `st_tree`, whose `Spelling` says what the text is; `itoa` prints the
-//! numbers. Each part of a text is written behind what stands there already, so a text is made in one pass.
+//! Stands on `s7_base`, `memory_areas` and `st_tree`, whose `Spelling` says what the text is; `itoa`
+//! prints the numbers. Each part of a text is written after what stands there already, so a text is
+//! made in one pass.
 #![tactic(auto)]
 
 pub use unit::print;
@@ -11,8 +12,6 @@ mod global;
 mod literal;
 mod names;
 mod statement;
-#[cfg(test)]
-mod tests;
 mod text;
 mod unit;
 mod variable;

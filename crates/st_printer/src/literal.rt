@@ -6,6 +6,8 @@ use crate::text::{put, put_hexadecimal, put_integer};
 use s7_base::NoMemory;
 use st_tree::StType;
 
+/// Puts a literal of a type at the end: a DINT from 0 on in plain digits, any other value with its
+/// type.
 #[tactic(auto, unfolding(st_tree::specs::Spelling::literal_text))]
 pub fn put_literal(out: &mut Vec<u8>, ty: StType, value: i64) -> Result<(), NoMemory>
     ensures { OnOk result (out.new.items ≡ out.old.items ++ literal_text ty value) }

@@ -8,6 +8,7 @@ use st_tree::{
     type_of_width,
 };
 
+/// The name of the formal or the local at a position; empty past the last.
 pub fn local_name(locals: &[Local], position: u32) -> &[u8]
     ensures { result.now ≡ local_name (slice_get locals.now position) }
 {
@@ -17,6 +18,7 @@ pub fn local_name(locals: &[Local], position: u32) -> &[u8]
     }
 }
 
+/// The name of the global at a position; empty past the last.
 pub fn global_name(globals: &[Located], position: u32) -> &[u8]
     ensures { result.now ≡ global_name (slice_get globals.now position) }
 {
@@ -26,6 +28,7 @@ pub fn global_name(globals: &[Located], position: u32) -> &[u8]
     }
 }
 
+/// The name of the unit at a position; empty past the last.
 pub fn unit_name(units: &[Pou], position: u32) -> &[u8]
     ensures { result.now ≡ unit_name (slice_get units.now position) }
 {
@@ -35,6 +38,7 @@ pub fn unit_name(units: &[Pou], position: u32) -> &[u8]
     }
 }
 
+/// The formals of the unit at a position; none past the last.
 pub fn formals_of(units: &[Pou], position: u32) -> &[Local]
     ensures { result.now ≡ formals_of (slice_get units.now position) }
 {

@@ -12,14 +12,14 @@ use crate::word::width_word;
 use s7_base::{NoMemory, Width};
 use st_tree::{Arm, CaseArm, Expr, Local, Pou, StProgram, StType, Stmt, Var};
 
-// The next level. No tree in a machine's memory has as many levels as a machine can count.
+/// The next level. No tree in a machine's memory has as many levels as a machine can count.
 fn deeper(level: usize) -> Result<usize, NoMemory>
     ensures { IfOk result (λ next. next ≡ level + 1) }
 {
     level.checked_add(1).ok_or(NoMemory)
 }
 
-// A line that is a word.
+/// Puts a line at the end that is one word, at a level of four blanks each.
 #[tactic(auto, unfolding(st_tree::specs::Spelling::line))]
 pub fn put_line(out: &mut Vec<u8>, level: usize, text: &str) -> Result<(), NoMemory>
     ensures { OnOk result (out.new.items ≡ out.old.items ++ line level text.now) }
@@ -38,7 +38,9 @@ fn put_assign(
     var: Var,
     value: &Expr,
 ) -> Result<(), NoMemory>
-    ensures { OnOk result (out.new.items ≡ out.old.items ++ line level (var_text (names_in tree.now unit.now) var ++ codes " := " ++ expr_text (names_in tree.now unit.now) value.now ++ codes ";")) }
+    ensures { let names = names_in tree.now unit.now in
+        OnOk result (out.new.items ≡ out.old.items
+        ++ line level (var_text names var ++ codes " := " ++ expr_text names value.now ++ codes ";")) }
 {
     put_blanks(out, level)?;
     put_var(out, tree, unit, var)?;
@@ -47,7 +49,7 @@ fn put_assign(
     put(out, ";\n")
 }
 
-// The operands of an area write and the end of its line.
+/// The operands of an area write and the end of its line.
 fn put_operands(
     out: &mut Vec<u8>,
     tree: &StProgram,
@@ -55,7 +57,9 @@ fn put_operands(
     pointer: &Expr,
     value: &Expr,
 ) -> Result<(), NoMemory>
-    ensures { OnOk result (out.new.items ≡ out.old.items ++ expr_text (names_in tree.now unit.now) pointer.now ++ codes ", " ++ expr_text (names_in tree.now unit.now) value.now ++ codes ");\n") }
+    ensures { let names = names_in tree.now unit.now in
+        OnOk result (out.new.items ≡ out.old.items
+        ++ expr_text names pointer.now ++ codes ", " ++ expr_text names value.now ++ codes ");\n") }
 {
     put_expr(out, tree, unit, pointer)?;
     put(out, ", ")?;
@@ -73,7 +77,10 @@ fn put_area_write(
     pointer: &Expr,
     value: &Expr,
 ) -> Result<(), NoMemory>
-    ensures { OnOk result (out.new.items ≡ out.old.items ++ line level (codes "AREA_WRITE_" ++ width_word width ++ codes "(" ++ expr_text (names_in tree.now unit.now) pointer.now ++ codes ", " ++ expr_text (names_in tree.now unit.now) value.now ++ codes ");")) }
+    ensures { let names = names_in tree.now unit.now in
+        OnOk result (out.new.items ≡ out.old.items
+        ++ line level (codes "AREA_WRITE_" ++ width_word width ++ codes "(" ++ expr_text names pointer.now
+        ++ codes ", " ++ expr_text names value.now ++ codes ");")) }
 {
     put_blanks(out, level)?;
     put(out, "AREA_WRITE_")?;
@@ -82,7 +89,7 @@ fn put_area_write(
     put_operands(out, tree, unit, pointer, value)
 }
 
-// A formal with its variable.
+/// A formal with its variable.
 fn put_actual(
     out: &mut Vec<u8>,
     tree: &StProgram,
@@ -90,14 +97,15 @@ fn put_actual(
     formal: &Local,
     var: Var,
 ) -> Result<(), NoMemory>
-    ensures { OnOk result (out.new.items ≡ out.old.items ++ formal.now.name ++ codes " := " ++ var_text (names_in tree.now unit.now) var) }
+    ensures { OnOk result (out.new.items ≡ out.old.items
+        ++ formal.now.name ++ codes " := " ++ var_text (names_in tree.now unit.now) var) }
 {
     put_bytes(out, formal.name.as_slice())?;
     put(out, " := ")?;
     put_var(out, tree, unit, var)
 }
 
-// The actuals behind the first, each with its comma.
+/// The actuals after the first, each with its comma.
 fn put_more_actuals(
     out: &mut Vec<u8>,
     tree: &StProgram,
@@ -105,7 +113,8 @@ fn put_more_actuals(
     formals: &[Local],
     vars: &[Var],
 ) -> Result<(), NoMemory>
-    ensures { OnOk result (out.new.items ≡ out.old.items ++ flat_map (λ text. codes ", " ++ text) (actuals_text (names_in tree.now unit.now) formals.now vars.now)) }
+    ensures { OnOk result (out.new.items ≡ out.old.items
+        ++ flat_map (λ text. codes ", " ++ text) (actuals_text (names_in tree.now unit.now) formals.now vars.now)) }
 {
     let [formal, formals @ ..] = formals else {
         return Ok(());
@@ -125,7 +134,8 @@ fn put_actuals(
     formals: &[Local],
     vars: &[Var],
 ) -> Result<(), NoMemory>
-    ensures { OnOk result (out.new.items ≡ out.old.items ++ listed (actuals_text (names_in tree.now unit.now) formals.now vars.now)) }
+    ensures { OnOk result (out.new.items ≡ out.old.items
+        ++ listed (actuals_text (names_in tree.now unit.now) formals.now vars.now)) }
 {
     let [formal, formals @ ..] = formals else {
         return Ok(());
@@ -146,7 +156,8 @@ fn put_call(
     callee: u32,
     vars: &[Var],
 ) -> Result<(), NoMemory>
-    ensures { OnOk result (out.new.items ≡ out.old.items ++ line level (call_text (names_in tree.now unit.now) (slice_get tree.now.pous callee) vars.now)) }
+    ensures { OnOk result (out.new.items ≡ out.old.items
+        ++ line level (call_text (names_in tree.now unit.now) (slice_get tree.now.pous callee) vars.now)) }
 {
     let units = tree.pous.as_slice();
     put_blanks(out, level)?;
@@ -156,7 +167,7 @@ fn put_call(
     put(out, ");\n")
 }
 
-// A line of a word, an expression and a word.
+/// A line of a word, an expression and a word.
 #[tactic(auto, unfolding(st_tree::specs::Spelling::line))]
 fn put_head(
     out: &mut Vec<u8>,
@@ -167,7 +178,8 @@ fn put_head(
     expr: &Expr,
     behind: &str,
 ) -> Result<(), NoMemory>
-    ensures { OnOk result (out.new.items ≡ out.old.items ++ line level (before.now ++ expr_text (names_in tree.now unit.now) expr.now ++ behind.now)) }
+    ensures { OnOk result (out.new.items ≡ out.old.items
+        ++ line level (before.now ++ expr_text (names_in tree.now unit.now) expr.now ++ behind.now)) }
 {
     put_blanks(out, level)?;
     put(out, before)?;
@@ -205,7 +217,7 @@ fn put_label_list(out: &mut Vec<u8>, ty: StType, labels: &[i64]) -> Result<(), N
     }
 }
 
-// The line of an arm's labels.
+/// The line of an arm's labels.
 #[tactic(auto, unfolding(st_tree::specs::Spelling::line))]
 fn put_labels(out: &mut Vec<u8>, level: usize, ty: StType, labels: &[i64]) -> Result<(), NoMemory>
     ensures { OnOk result (out.new.items ≡ out.old.items ++ line level (labels_text ty labels.now ++ codes ":")) }
@@ -215,6 +227,7 @@ fn put_labels(out: &mut Vec<u8>, level: usize, ty: StType, labels: &[i64]) -> Re
     put(out, ":\n")
 }
 
+/// Puts the statements of a body at the end, each at this level.
 #[cycle(statements)]
 pub fn put_body(
     out: &mut Vec<u8>,
@@ -239,7 +252,8 @@ fn put_statement(
     level: usize,
     statement: &Stmt,
 ) -> Result<(), NoMemory>
-    ensures { OnOk result (out.new.items ≡ out.old.items ++ statement_text (names_in tree.now unit.now) statement.now level) }
+    ensures { OnOk result (out.new.items ≡ out.old.items
+        ++ statement_text (names_in tree.now unit.now) statement.now level) }
 {
     match statement {
         Stmt::Assign(var, value) => put_assign(out, tree, unit, level, *var, value),
@@ -272,7 +286,7 @@ fn put_statement(
     }
 }
 
-// An arm of an IF behind its word and a blank.
+/// An arm of an IF after its word and a blank.
 #[cycle(statements)]
 fn put_arm(
     out: &mut Vec<u8>,
@@ -282,7 +296,8 @@ fn put_arm(
     word: &str,
     arm: &Arm,
 ) -> Result<(), NoMemory>
-    ensures { OnOk result (out.new.items ≡ out.old.items ++ arm_text (names_in tree.now unit.now) arm.now word.now level) }
+    ensures { OnOk result (out.new.items ≡ out.old.items
+        ++ arm_text (names_in tree.now unit.now) arm.now word.now level) }
 {
     put_head(out, tree, unit, level, word, &arm.test, " THEN")?;
     put_body(out, tree, unit, deeper(level)?, arm.body.as_slice())
@@ -296,7 +311,8 @@ fn put_arms(
     level: usize,
     arms: &[Arm],
 ) -> Result<(), NoMemory>
-    ensures { OnOk result (out.new.items ≡ out.old.items ++ arms_text level (map (arm_text (names_in tree.now unit.now)) arms.now)) }
+    ensures { OnOk result (out.new.items ≡ out.old.items
+        ++ arms_text level (map (arm_text (names_in tree.now unit.now)) arms.now)) }
 {
     let [first, more @ ..] = arms else {
         return Ok(());
@@ -317,7 +333,8 @@ fn put_cases(
     ty: StType,
     arms: &[CaseArm],
 ) -> Result<(), NoMemory>
-    ensures { OnOk result (out.new.items ≡ out.old.items ++ flat_map (λ arm. arm ty level) (map (case_text (names_in tree.now unit.now)) arms.now)) }
+    ensures { OnOk result (out.new.items ≡ out.old.items
+        ++ flat_map (λ arm. arm ty level) (map (case_text (names_in tree.now unit.now)) arms.now)) }
 {
     for arm in arms {
         put_case(out, tree, unit, level, ty, arm)?;
@@ -349,7 +366,8 @@ fn put_else(
     level: usize,
     other: &[Stmt],
 ) -> Result<(), NoMemory>
-    ensures { OnOk result (out.new.items ≡ out.old.items ++ else_text level (map (statement_text (names_in tree.now unit.now)) other.now)) }
+    ensures { OnOk result (out.new.items ≡ out.old.items
+        ++ else_text level (map (statement_text (names_in tree.now unit.now)) other.now)) }
 {
     if other.is_empty() {
         return Ok(());

@@ -1,10 +1,11 @@
-//! Pieces of text behind others.
+//! Pieces of text after others.
 ghost use Rattle.std.specs.Prelude.{◌≡◌, ◌<◌, ◌++◌, decimal, OnOk};
 ghost use Rattle.st_tree.specs.Spelling.{blanks, digit, hexadecimal, integer_text};
 
 use itoa::Buffer;
 use s7_base::NoMemory;
 
+/// Puts a text at the end.
 pub fn put(out: &mut Vec<u8>, text: &str) -> Result<(), NoMemory>
     ensures { OnOk result (out.new.items ≡ out.old.items ++ text.now) }
 {
@@ -12,6 +13,7 @@ pub fn put(out: &mut Vec<u8>, text: &str) -> Result<(), NoMemory>
     Ok(())
 }
 
+/// Puts bytes at the end, as they are.
 pub fn put_bytes(out: &mut Vec<u8>, bytes: &[u8]) -> Result<(), NoMemory>
     ensures { OnOk result (out.new.items ≡ out.old.items ++ bytes.now) }
 {
@@ -19,6 +21,7 @@ pub fn put_bytes(out: &mut Vec<u8>, bytes: &[u8]) -> Result<(), NoMemory>
     Ok(())
 }
 
+/// Puts a number at the end, in decimal digits without zeros before them.
 pub fn put_number(out: &mut Vec<u8>, number: u64) -> Result<(), NoMemory>
     ensures { OnOk result (out.new.items ≡ out.old.items ++ decimal number) }
 {
@@ -26,7 +29,7 @@ pub fn put_number(out: &mut Vec<u8>, number: u64) -> Result<(), NoMemory>
     put(out, buffer.format(number))
 }
 
-// A whole number with its sign.
+/// Puts a whole number at the end, with `-` before it where it is below 0.
 pub fn put_integer(out: &mut Vec<u8>, number: i64) -> Result<(), NoMemory>
     ensures { OnOk result (out.new.items ≡ out.old.items ++ integer_text number) }
 {
@@ -43,7 +46,8 @@ fn digit_of(value: u8) -> u8
     if value < 10 { 48 + value } else { 55 + value }
 }
 
-// The last so many hexadecimal digits.
+/// Puts the last so many hexadecimal digits of a number at the end, in capitals and with zeros before
+/// them.
 pub fn put_hexadecimal(out: &mut Vec<u8>, count: u32, number: u64) -> Result<(), NoMemory>
     ensures { OnOk result (out.new.items ≡ out.old.items ++ hexadecimal count number) }
 {
@@ -55,7 +59,7 @@ pub fn put_hexadecimal(out: &mut Vec<u8>, count: u32, number: u64) -> Result<(),
     Ok(())
 }
 
-// Four blanks for each level.
+/// Puts four blanks for each level at the end.
 pub fn put_blanks(out: &mut Vec<u8>, level: usize) -> Result<(), NoMemory>
     ensures { OnOk result (out.new.items ≡ out.old.items ++ blanks level) }
 {

@@ -47,7 +47,7 @@ fn put_locals(out: &mut Vec<u8>, locals: &[Local]) -> Result<(), NoMemory>
     Ok(())
 }
 
-// A section of a unit; an empty one is not written.
+/// A section of a unit; an empty one is not written.
 fn put_section(out: &mut Vec<u8>, word: &str, locals: &[Local]) -> Result<(), NoMemory>
     ensures { OnOk result (out.new.items ≡ out.old.items ++ section_text word.now locals.now) }
 {
@@ -67,7 +67,8 @@ fn unit_word(program: bool) -> &'static str
 
 #[tactic(auto, unfolding(st_tree::specs::Spelling::line))]
 fn put_heading(out: &mut Vec<u8>, unit: &Pou) -> Result<(), NoMemory>
-    ensures { OnOk result (out.new.items ≡ out.old.items ++ line 0 (unit_word unit.now.program ++ codes " " ++ unit.now.name)) }
+    ensures { OnOk result (out.new.items ≡ out.old.items
+        ++ line 0 (unit_word unit.now.program ++ codes " " ++ unit.now.name)) }
 {
     put(out, unit_word(unit.program))?;
     put(out, " ")?;

@@ -9,7 +9,7 @@ use crate::word::{area_word, register_word, type_word, width_word};
 use s7_base::{NoMemory, Width};
 use st_tree::{Pou, StProgram, StType, Var};
 
-// The number of a bit, which a bit alone shows.
+/// The number of a bit, which a bit alone shows.
 fn put_bit(out: &mut Vec<u8>, width: Width, bit: u8) -> Result<(), NoMemory>
     ensures { OnOk result (out.new.items ≡ out.old.items ++ bit_text width bit) }
 {
@@ -22,7 +22,7 @@ fn put_bit(out: &mut Vec<u8>, width: Width, bit: u8) -> Result<(), NoMemory>
     }
 }
 
-// A place behind the letters of its area.
+/// Puts a place after the letters of its area, as `X0.0` or `W10`.
 pub fn put_place(out: &mut Vec<u8>, width: Width, byte: u32, bit: u8) -> Result<(), NoMemory>
     ensures { OnOk result (out.new.items ≡ out.old.items ++ place_text width byte bit) }
 {
@@ -31,6 +31,8 @@ pub fn put_place(out: &mut Vec<u8>, width: Width, byte: u32, bit: u8) -> Result<
     put_bit(out, width, bit)
 }
 
+/// Puts a variable of a unit at the end: a register or a name as it is declared, a direct variable as
+/// `%MW10` or `%DB5.DBW4`.
 pub fn put_var(out: &mut Vec<u8>, tree: &StProgram, unit: &Pou, var: Var) -> Result<(), NoMemory>
     ensures { OnOk result (out.new.items ≡ out.old.items ++ var_text (names_in tree.now unit.now) var) }
 {
@@ -53,7 +55,7 @@ pub fn put_var(out: &mut Vec<u8>, tree: &StProgram, unit: &Pou, var: Var) -> Res
     }
 }
 
-// The type of a declaration, to the end of its line.
+/// Puts the type of a declaration, to the end of its line.
 pub fn put_type(out: &mut Vec<u8>, ty: StType) -> Result<(), NoMemory>
     ensures { OnOk result (out.new.items ≡ out.old.items ++ codes " : " ++ type_word ty ++ codes ";\n") }
 {

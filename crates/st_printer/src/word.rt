@@ -7,6 +7,7 @@ use memory_areas::AreaName;
 use s7_base::{Reg, Width};
 use st_tree::{BinaryOp, ShiftOp, StType, UnaryOp};
 
+/// The name of a register variable.
 pub fn register_word(register: Reg) -> &'static str
     ensures { result.now ≡ register_word register }
 {
@@ -29,6 +30,7 @@ pub fn register_word(register: Reg) -> &'static str
     }
 }
 
+/// The letters of an area.
 pub fn area_word(area: AreaName) -> &'static str
     ensures { result.now ≡ area_word area }
 {
@@ -42,6 +44,7 @@ pub fn area_word(area: AreaName) -> &'static str
     }
 }
 
+/// The letter of a width.
 pub fn width_word(width: Width) -> &'static str
     ensures { result.now ≡ width_word width }
 {
@@ -53,6 +56,7 @@ pub fn width_word(width: Width) -> &'static str
     }
 }
 
+/// The name of a type.
 pub fn type_word(ty: StType) -> &'static str
     ensures { result.now ≡ type_word ty }
 {
@@ -67,7 +71,7 @@ pub fn type_word(ty: StType) -> &'static str
     }
 }
 
-// An operator before its operand, or a function with its bracket.
+/// An operator before its operand, with the blank after NOT, or a function with its bracket.
 pub fn prefix_word(op: UnaryOp) -> &'static str
     ensures { result.now ≡ prefix_word op }
 {
@@ -79,6 +83,7 @@ pub fn prefix_word(op: UnaryOp) -> &'static str
     }
 }
 
+/// An operator between its operands, with a blank on either side.
 pub fn infix_word(op: BinaryOp) -> &'static str
     ensures { result.now ≡ infix_word op }
 {
@@ -100,6 +105,7 @@ pub fn infix_word(op: BinaryOp) -> &'static str
     }
 }
 
+/// The name of a shift or a rotation.
 pub fn shift_word(op: ShiftOp) -> &'static str
     ensures { result.now ≡ shift_word op }
 {
@@ -111,7 +117,7 @@ pub fn shift_word(op: ShiftOp) -> &'static str
     }
 }
 
-// How weakly an operator before its operand binds.
+/// The precedence of an operator before its operand: 0 for a function, the highest, 1 for minus, 2 for NOT.
 pub fn prefix_level_of(op: UnaryOp) -> u8
     ensures { result ≡ prefix_level op }
 {
@@ -122,7 +128,7 @@ pub fn prefix_level_of(op: UnaryOp) -> u8
     }
 }
 
-// How weakly an operator between its operands binds.
+/// The precedence of an operator between its operands, from 3 for `*` to 9 for OR, the lowest.
 pub fn infix_level_of(op: BinaryOp) -> u8
     ensures { result ≡ infix_level op }
 {

@@ -2,9 +2,9 @@
 use Rattle.std.proofs.Common.{◌≡◌, ℕ, ◌++◌, ℤ, List, [], map, sym, ap, ◌∙◌}
 use Rattle.s7_base.specs.declared.reason.Line.{Line}
 use Rattle.s7_base.specs.declared.word.Width.{Width}
-use Rattle.st_parser.specs.Canonical.{ArmFromLine, CaseFromLine, FromLine, arm_from, case_from, statement_from}
-use Rattle.st_parser.specs.Canonical as canonical
-use Rattle.st_parser.specs.Grammar.{arm_of, case_of, on_line}
+use Rattle.st_canonical.specs.Canonical.{ArmFromLine, CaseFromLine, FromLine, arm_from, case_from, statement_from}
+use Rattle.st_canonical.specs.Canonical as canonical
+use Rattle.st_syntax.specs.Grammar.{arm_of, case_of, on_line}
 use Rattle.st_tree.specs.Typing.{Names}
 use Rattle.st_tree.specs.declared.expr.Expr.{Expr}
 use Rattle.st_tree.specs.declared.expr.StType.{StType}
@@ -29,7 +29,7 @@ use Rattle.st_types.specs.Invocations.{Actual, callee}
 use Rattle.st_types.specs.Names.{key_of}
 use Rattle.st_types.specs.Scopes.{meaning_in}
 use Rattle.st_types.specs.Statements.{Armed, Done, Labelled, action, arm, arm_step, case_arm, case_arm_step, kind_step, statement, statement_step, statements}
-use Rattle.st_types.specs.declared.call.Call.{Call}
+use Rattle.call_chains.specs.declared.call.Call.{Call}
 use Rattle.st_types.specs.declared.scope.Scope.{Scope}
 
 module _ (s : Scope) (l : Line) where

@@ -2,7 +2,7 @@
 use Rattle.std.proofs.Common.{◌≡◌, ℕ, ◌++◌, ℤ, List, [], ◌∷◌, map, refl, sym, ap, ◌∙◌}
 use Rattle.std.proofs.lemmas.List.{append_assoc}
 use Rattle.s7_base.specs.declared.reason.Line.{Line}
-use Rattle.st_parser.specs.Grammar.{arm_of as raw_arm, case_of as raw_case, on_line}
+use Rattle.st_syntax.specs.Grammar.{arm_of as raw_arm, case_of as raw_case, on_line}
 use Rattle.st_round_trip.proofs.Actions.{calls_arm, calls_case, calls_case_arm, calls_if, calls_while}
 use Rattle.st_round_trip.proofs.Parts.{map_append, map_last}
 use Rattle.st_tree.specs.declared.expr.StType.{StType}
@@ -12,7 +12,7 @@ use Rattle.st_tree.specs.declared.raw.RawExpr.{RawExpr}
 use Rattle.st_tree.specs.declared.raw.RawStmt.{RawStmt}
 use Rattle.st_tree.specs.declared.raw.RawStmtKind.TheVariants as raw
 use Rattle.st_types.specs.Calls.{all_calls, calls_of, calls_of_arm, calls_of_case_arm, joined}
-use Rattle.st_types.specs.declared.call.Call.{Call}
+use Rattle.call_chains.specs.declared.call.Call.{Call}
 use Rattle.st_types.specs.declared.scope.Scope.{Scope}
 
 abbrev pub callees : List Call → List ℕ

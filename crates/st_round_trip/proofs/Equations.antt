@@ -3,11 +3,11 @@ use Rattle.std.proofs.Common.{◌≡◌, ℕ, ◌-◌, ℤ, Bool, true, false, r
 use Rattle.std.specs.Prelude.{nat_lt, if◌then◌else◌}
 use Rattle.s7_base.specs.declared.reason.Line.{Line}
 use Rattle.s7_base.specs.declared.word.Width.{Width}
-use Rattle.st_parser.specs.Canonical.{expr_form, form_of, literal_form, on, raw_var}
-use Rattle.st_parser.specs.Forms.{Form, literal, variable, group, prefix, infix_of, apply, shift, select}
-use Rattle.st_parser.specs.Grammar.{infix_level, level}
-use Rattle.st_parser.specs.declared.kind.OneOperand.TheVariants as one
-use Rattle.st_parser.specs.declared.kind.Prefix.TheVariants as before
+use Rattle.st_canonical.specs.Canonical.{expr_form, form_of, literal_form, on, raw_var}
+use Rattle.st_syntax.specs.Forms.{Form, literal, variable, group, prefix, infix_of, apply, shift, select}
+use Rattle.st_syntax.specs.Grammar.{infix_level, level}
+use Rattle.st_syntax.specs.declared.kind.OneOperand.TheVariants as one
+use Rattle.st_syntax.specs.declared.kind.Prefix.TheVariants as before
 use Rattle.st_tree.proofs.CanonEquations.{canon_literal, canon_read, canon_unary, canon_binary, canon_convert, canon_select, canon_shift, canon_area_read}
 use Rattle.st_tree.specs.Form as tree
 use Rattle.st_tree.specs.Form.{canon, canon_step}
@@ -88,7 +88,7 @@ module _ (names : Names) where
 
 -- Canonical forms
 
--- the form at a place that takes levels up to j, in brackets where it binds more weakly
+-- the form at a place that takes levels up to j, in brackets where its precedence is lower
 abbrev pub wrapped : ℕ → Form → Form
 wrapped j f = if nat_lt j (level f) then group f else f
 
@@ -132,7 +132,7 @@ module _ (names : Names) (k : ℕ) where
   abbrev HasLevel : Expr → Type 0
   HasLevel e = level (expr_form names k e) ≡ tree.level (canon e)
 
-  -- a canonical form binds as weakly as what it is of
+  -- a canonical form has the precedence of what it is of
   form_level : (e : Expr) → HasLevel e
   form_level = ind-Expr HasLevel (λ (x : E.Expr-F Expr) (y : E.Expr-F ((e : Expr) × HasLevel e)) e.
       subst (λ (f : tree.Form). level (form_of names k f) ≡ tree.level f) (sym (fold-roll-Expr tree.Form canon_step x)) (core (map-Expr Expr tree.Form canon x)))

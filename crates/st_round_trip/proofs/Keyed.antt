@@ -1,4 +1,4 @@
--- Tables by keys: what stands under a key behind other entries, and formals with keys of their own.
+-- Tables by keys: what stands under a key after other entries, and formals with keys of their own.
 use Rattle.std.proofs.Common.{◌≡◌, ℕ, Bool, true, false, cond, List, [], ◌∷◌, ◌++◌, Some, None, refl, ap, ◌∙◌, eqb-true}
 use Rattle.std.specs.Prelude.{nat_eq}
 use Rattle.std.specs.Cmp.Lexicographic.{pointwise}
@@ -18,7 +18,7 @@ same_keys (x ∷ xs) (y ∷ ys) h =
 own_key : (k : List ℕ) → is_same k k ≡ true
 own_key k = nat_list_eq_equiv.refl k
 
--- what stands under a key behind entries that do not have it
+-- what stands under a key after entries that do not have it
 pub found_behind : {T : Type 0} (table : Table T) (k : List ℕ) (x : T) (rest : Table T) → look_up k table ≡ None → look_up k (table ++ (k, x) ∷ rest) ≡ Some x
 found_behind {T} [] k x rest h = ap (λ t. cond t (Some x) (look_up k rest)) (own_key k)
 found_behind {T} (e ∷ table) k x rest h = by (is_same k e.0) (found_behind table k x rest) h
@@ -28,7 +28,7 @@ found_behind {T} (e ∷ table) k x rest h = by (is_same k e.0) (found_behind tab
     by true more q = absurd cc
     by false more q = more q
 
--- a key that is not there is not there behind one more entry with another key
+-- a key that is not there is not there after one more entry with another key
 pub absent_last : {T : Type 0} (table : Table T) (k j : List ℕ) (x : T) → look_up k table ≡ None → is_same k j ≡ false → look_up k (table ++ (j, x) ∷ []) ≡ None
 absent_last {T} [] k j x h e = ap (λ t. cond t (Some x) None) e
 absent_last {T} (first ∷ table) k j x h e = by (is_same k first.0) (λ q. absent_last table k j x q e) h

@@ -1,13 +1,13 @@
 -- A tree that was read is proper, where its statements mean the same in their canonical form.
 use Rattle.std.proofs.Common.{◌≡◌, ℕ, zero, suc, ◌≤◌, max, false, List, [], ◌∷◌, map, length, Some, refl, sym, ap, subst, ◌∙◌, arith}
 use Rattle.std.specs.Prelude.{slice_get}
-use Rattle.st_parser.specs.Canonical.{body_from, globals_from, source_of, statement_from, units_from}
-use Rattle.st_parser.specs.Forms.{Statements, Locals, no_local, local, Globals, Section, absent, present, Units, no_unit, unit, Source}
-use Rattle.st_parser.specs.Grammar.{AllFit, GlobalsFit, IfPresent, SourceFits, UnitsFit, held, raw_tree, tree_all, tree_globals, tree_units}
-use Rattle.st_parser.specs.Levels.{deepest, levels_all, levels_globals, levels_locals, levels_section, levels_source, levels_units}
+use Rattle.st_canonical.specs.Canonical.{body_from, globals_from, source_of, statement_from, units_from}
+use Rattle.st_syntax.specs.Forms.{Statements, Locals, no_local, local, Globals, Section, absent, present, Units, no_unit, unit, Source}
+use Rattle.st_syntax.specs.Grammar.{AllFit, GlobalsFit, IfPresent, SourceFits, UnitsFit, held, raw_tree, tree_all, tree_globals, tree_units}
+use Rattle.st_syntax.specs.Levels.{deepest, levels_all, levels_globals, levels_locals, levels_section, levels_source, levels_units}
 use Rattle.st_parser.specs.Proper.{Proper}
-use Rattle.st_parser.specs.Spelled.{AllSpelled, UnitsSpelled}
-use Rattle.st_parser.specs.Syntax.{AllWithin}
+use Rattle.st_canonical.specs.Spelled.{AllSpelled, UnitsSpelled}
+use Rattle.st_syntax.specs.Syntax.{AllWithin}
 use Rattle.st_parser.specs.Texts.{IsTextOf}
 use Rattle.st_round_trip.proofs.BlockForms.{AreWithin, IsFull, are_full, with_zero}
 use Rattle.st_round_trip.proofs.Callees.{all_callees}

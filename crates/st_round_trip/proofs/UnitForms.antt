@@ -3,12 +3,12 @@
 use Rattle.std.proofs.Common.{◌≡◌, ℕ, Bool, true, false, List, [], ◌∷◌, ◌++◌, map, refl, sym, subst, ◌∙◌, append_assoc, append-nil}
 use Rattle.std.proofs.lemmas.List.{map-append}
 use Rattle.s7_base.specs.Tokens.{line_after}
-use Rattle.st_parser.specs.Canonical.{Placed, body_from, locals_from, on, section_from, statement_from, unit_from, units_from}
-use Rattle.st_parser.specs.Forms.{Statements, Locals, no_local, local, Section, absent, present, Head, Units, no_unit, unit}
-use Rattle.st_parser.specs.Grammar.{AllFit, FormalsFit, HeadFits, IfPresent, LocalsFit, UnitsFit, held, is_formal_type, tree_all, tree_locals, tree_units}
-use Rattle.st_parser.specs.Kinds.{is_free, may_name_local, may_name_unit}
-use Rattle.st_parser.specs.Levels.{levels_all, levels_locals, levels_section, levels_units}
-use Rattle.st_parser.specs.Spelled.{AllSpelled, LocalsSpelled, UnitsSpelled, is_name}
+use Rattle.st_canonical.specs.Canonical.{Placed, body_from, locals_from, on, section_from, statement_from, unit_from, units_from}
+use Rattle.st_syntax.specs.Forms.{Statements, Locals, no_local, local, Section, absent, present, Head, Units, no_unit, unit}
+use Rattle.st_syntax.specs.Grammar.{AllFit, FormalsFit, HeadFits, IfPresent, LocalsFit, UnitsFit, held, is_formal_type, tree_all, tree_locals, tree_units}
+use Rattle.st_syntax.specs.Kinds.{is_free, may_name_local, may_name_unit}
+use Rattle.st_syntax.specs.Levels.{levels_all, levels_locals, levels_section, levels_units}
+use Rattle.st_canonical.specs.Spelled.{AllSpelled, LocalsSpelled, UnitsSpelled, is_name}
 use Rattle.st_round_trip.proofs.BlockForms.{AreWithin, with_four, with_zero}
 use Rattle.st_round_trip.proofs.GlobalForms.{Each, each_append}
 use Rattle.st_tree.specs.Spelling.{names_in}
@@ -183,7 +183,7 @@ pub record HasBody (text : StProgram) (u : Pou) : Type 0 where
   pub spelled : (line : ℕ) → AllSpelled (body_at text u line)
   pub within : (line : ℕ) (before : List ℕ) → AreWithin before → AreWithin (levels_all 0 (body_at text u line) before)
 
--- units of the language that tokens can have, behind others
+-- units of the language that tokens can have, after others
 pub record AreUnits (all : Units) : Type 0 where
   pub fit : UnitsFit all
   pub spelled : UnitsSpelled all
@@ -207,7 +207,7 @@ pub record Declare (text : StProgram) (us : List Pou) (others all : Units) : Typ
   pub are : AreUnitsAt us more
   pub forms : HaveForms text us more
 
--- the lines behind the sections of a unit
+-- the lines after the sections of a unit
 abbrev formals_of_unit : ℕ → Pou → Placed (Section Locals)
 formals_of_unit line u = section_from (line_after line) u.formals
 
@@ -224,7 +224,7 @@ unit_raw text line u = record {
   body = tree_all (body_at text u (locals_of_unit line u).1);
 }
 
--- a unit behind others
+-- a unit after others
 one_unit : (text : StProgram) (u : Pou) (others : Units) (line : ℕ) → IsHeaded u → HasBody text u → AreUnits others → AreUnits (unit_from text others line u).0
 one_unit text u others line h b a =
     let formals = formals_section u.program u.formals (line_after line) h.may h.formals in

@@ -1,7 +1,8 @@
-//! Laws of reading and spelling together: what is read is proper, and its canonical text reads as the same tree.
+//! Laws of reading and spelling together: what is read is proper, and its canonical text reads as the
+//! same tree.
 //!
-//! Stands on `st_parser`, `st_types`, `st_lexer` and `st_tree`, whose definitions these laws are about. It computes
-//! nothing: the contracts of its functions are the laws.
+//! Stands on `st_parser`, `st_types`, `st_lexer` and `st_tree`, whose definitions these laws are about.
+//! It computes nothing: the contracts of its functions are the laws.
 #![tactic(auto)]
 
 ghost use Rattle.st_round_trip.specs.RoundTrip.{Rereads, WhatIsReadIsProper};

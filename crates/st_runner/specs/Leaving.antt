@@ -10,7 +10,8 @@ use Rattle.st_tree.specs.declared.program.Located.{Located}
 
 -- frames that are left mean after one end what all meant after another, and cost no more
 pub record Leaves (from to : ℕ → State → Out) (before after : List Frame) : Type 0 where
-  pub meaning : (g : List Located) (c : Calls) (u : ℕ) (s : State) → ending g c after (to u s) ≡ ending g c before (from u s)
+  pub meaning : (g : List Located) (c : Calls) (u : ℕ) (s : State)
+      → ending g c after (to u s) ≡ ending g c before (from u s)
   pub tall : (k : Costs) → tall k after ≤ tall k before
   pub units : units after ≡ units before
   pub weight : work_weight after ≤ work_weight before

@@ -15,22 +15,24 @@ use Rattle.st_tree.specs.declared.program.StProgram.{StProgram}
 use Rattle.st_tree.specs.declared.program.Stmt.{Stmt, fold-Stmt}
 use Rattle.st_tree.specs.declared.program.Stmt.TheOpen as S
 
--- what a frame costs, and the most that it costs with what stands above it
+-- what a frame costs by itself
 abbrev pub size : Costs → Frame → ℕ
 size k (frame.Rest body) = k.rest
 size k (frame.Again test body) = k.again
 size k frame.Unit = k.unit
 
+-- the most that a frame costs while the statements that it holds run
 abbrev pub frame_tall : Costs → Frame → ℕ
 frame_tall k (frame.Rest body) = k.rest + body_most k body.now
 frame_tall k (frame.Again test body) = k.again + (k.rest + body_most k body.now)
 frame_tall k frame.Unit = k.unit
 
--- and so for all frames
+-- what all frames cost together
 abbrev pub sizes : Costs → List Frame → ℕ
 sizes k [] = 0
 sizes k (f ∷ rest) = size k f + sizes k rest
 
+-- the most that frames cost until the last of them is done, each on top of those that still wait
 abbrev pub tall : Costs → List Frame → ℕ
 tall k [] = 0
 tall k (f ∷ rest) = max (frame_tall k f) (size k f + tall k rest)
@@ -42,25 +44,31 @@ next_tall k (at.Test test body) = k.again + (k.rest + body_most k body.now)
 next_tall k (at.Call n actuals) = k.call n actuals.now
 next_tall k (at.Over f) = 0
 
+-- the most that a run costs from here on, with what waits and what comes next
 abbrev pub reach : Costs → List Frame → At → ℕ
 reach k work next = max (tall k work) (sizes k work + next_tall k next)
 
 -- a call costs no less than its unit
 abbrev pub Covers : Costs → StProgram → Type 0
-Covers k tree = (n : ℕ) (actuals : List Var) (unit : Pou) → slice_get tree.pous n ≡ Some unit → k.unit + (k.rest + body_most k unit.body) ≤ k.call n actuals
+Covers k tree =
+    (n : ℕ) (actuals : List Var) (unit : Pou) → slice_get tree.pous n ≡ Some unit
+    → k.unit + (k.rest + body_most k unit.body) ≤ k.call n actuals
 
 -- the costs of a frame alone: how many units wait
 abbrev pub unit_costs : Costs
 unit_costs = record { rest = 0; again = 0; unit = 1; call = λ n actuals. 0 }
 
+-- how many called units wait for their end
 abbrev pub units : List Frame → ℕ
 units work = sizes unit_costs work
 
--- how many steps without a unit follow at most: each takes a statement or a frame
+-- the sum of some numbers
 abbrev pub sum : List ℕ → ℕ
 sum [] = 0
 sum (n ∷ ns) = n + sum ns
 
+-- how many steps a statement takes at most without a unit, by those of the statements in it; a WHILE
+-- takes one up to its test, which needs a unit
 abbrev pub weight_step : S.Stmt-F ℕ ℕ ℕ → ℕ
 weight_step (S.Assign v e) = 1
 weight_step (S.AreaWrite w p e) = 1
@@ -72,23 +80,30 @@ weight_step S.Exit = 1
 weight_step S.Continue = 1
 weight_step S.Return = 1
 
+-- how many steps a statement takes at most before a unit is needed
 abbrev pub weight : Stmt → ℕ
 weight = fold-Stmt ℕ ℕ ℕ weight_step (λ arm. sum arm.body) (λ arm. sum arm.body)
 
+-- how many steps the statements of an arm of an IF take at most
 abbrev pub arm_weight : Arm → ℕ
 arm_weight = fold-Arm ℕ ℕ ℕ weight_step (λ arm. sum arm.body) (λ arm. sum arm.body)
 
+-- how many steps the statements of an arm of a CASE take at most
 abbrev pub case_weight : CaseArm → ℕ
 case_weight = fold-CaseArm ℕ ℕ ℕ weight_step (λ arm. sum arm.body) (λ arm. sum arm.body)
 
+-- how many steps a list of statements takes at most
 abbrev pub body_weight : List Stmt → ℕ
 body_weight body = sum (map weight body)
 
+-- how many steps a frame takes at most: its statements and its own end
 abbrev pub frame_weight : Frame → ℕ
 frame_weight (frame.Rest body) = 1 + body_weight body.now
 frame_weight (frame.Again test body) = 1
 frame_weight frame.Unit = 1
 
+-- how many steps all frames take at most, before a unit is needed; each step lowers it, so a run cannot
+-- go on without one
 abbrev pub work_weight : List Frame → ℕ
 work_weight [] = 0
 work_weight (f ∷ rest) = frame_weight f + work_weight rest

@@ -18,11 +18,12 @@ use Rattle.st_tree.specs.declared.program.Pou.{Pou}
 use Rattle.st_tree.specs.declared.program.StProgram.{StProgram}
 use Rattle.st_tree.specs.declared.program.Stmt.{Stmt}
 
--- the most locals, and the most formals, of a unit
+-- the most locals that a unit of a text has, which each activation has room for
 abbrev pub most_locals : List Pou → ℕ
 most_locals [] = 0
 most_locals (unit ∷ rest) = max (length unit.locals) (most_locals rest)
 
+-- the most formals that a unit of a text has, which each activation has room for
 abbrev pub most_formals : List Pou → ℕ
 most_formals [] = 0
 most_formals (unit ∷ rest) = max (length unit.formals) (most_formals rest)
@@ -55,33 +56,41 @@ abbrev pub next_of : Result (Unit {0}) Fault → At
 next_of (Ok done) = at.Work
 next_of (Err f) = at.Over (Some f)
 
--- a statement was done up to where it needs a unit: what comes next means what the statement does, and costs no more
+-- a statement was done up to where it needs a unit: what comes next means what the statement does, and
+-- costs no more
 pub record Done (tree : StProgram) (stmt : Stmt) (before after : List Frame) (next : At) (s t : State) : Type 0 where
-  pub meaning : (c : Calls) (u : ℕ) → end_at tree.globals c after next u t ≡ ending tree.globals c before (meaning tree.globals c stmt u s)
+  pub meaning : (c : Calls) (u : ℕ)
+      → end_at tree.globals c after next u t ≡ ending tree.globals c before (meaning tree.globals c stmt u s)
   pub reach : (k : Costs) → reach k after next ≤ max (tall k before) (sizes k before + most k stmt)
   pub units : units after ≡ units before
   pub weight : IfWork next (work_weight after + 1 ≤ work_weight before + weight stmt)
 
--- what needs no unit was done: from the frames that waited, what comes next ends as they did, costs no more, and keeps what is kept
+-- what needs no unit was done: from the frames that waited, what comes next ends as they did, costs no
+-- more, and keeps what is kept
 pub record Stepped (tree : StProgram) (before after : List Frame) (next : At) (s t : Parts) : Type 0 where
-  pub meaning : (c : Calls) (u : ℕ) → end_at tree.globals c after next u (state_of t) ≡ end_at tree.globals c before at.Work u (state_of s)
+  pub meaning : (c : Calls) (u : ℕ)
+      → end_at tree.globals c after next u (state_of t) ≡ end_at tree.globals c before at.Work u (state_of s)
   pub reach : (k : Costs) → reach k after next ≤ tall k before
   pub weight : IfWork next (work_weight after + 1 ≤ work_weight before)
   pub sound : (l f : ℕ) → IsSound l f s → IsSound l f t
   pub count : length s.activations.items ≡ 1 + units before → length t.activations.items ≡ 1 + units after
 
 -- a unit was spent: with a unit less, what comes next ends as what came next before, and is ready
-pub record Spent (tree : StProgram) (capacity : ℕ) (before after : List Frame) (last next : At) (s t : Parts) : Type 0 where
-  pub meaning : (u : ℕ) → end_at tree.globals (calls_to u tree) after next u (state_of t) ≡ end_at tree.globals (calls_to (suc u) tree) before last (suc u) (state_of s)
+pub record Spent (tree : StProgram) (capacity : ℕ) (before after : List Frame) (last next : At)
+    (s t : Parts) : Type 0 where
+  pub meaning : (u : ℕ)
+      → end_at tree.globals (calls_to u tree) after next u (state_of t)
+      ≡ end_at tree.globals (calls_to (suc u) tree) before last (suc u) (state_of s)
   pub ready : IsReady tree capacity after next t
 
--- a unit is needed
+-- what comes next needs a unit: it is the test of a WHILE or a call
 abbrev pub NeedsUnit : At → Type 0
 NeedsUnit at.Work = ⊥
 NeedsUnit (at.Test test body) = Unit {0}
 NeedsUnit (at.Call n actuals) = Unit {0}
 NeedsUnit (at.Over f) = ⊥
 
+-- whether what comes next needs a unit: the test of a WHILE or a call
 abbrev pub needs_unit : At → Bool
 needs_unit at.Work = false
 needs_unit (at.Test test body) = true

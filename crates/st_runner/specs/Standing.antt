@@ -58,18 +58,26 @@ all_followed globals calls (p ∷ more) o = followed globals calls p (all_follow
 -- the state there
 abbrev pub state_there : Standing → State
 state_there standing =
-    record { memory = standing.memory; registers = λ q. get_or standing.numbers (place q) (pos 0); activations = standing.activations }
+    record {
+      memory = standing.memory;
+      registers = λ q. get_or standing.numbers (place q) (pos 0);
+      activations = standing.activations;
+    }
 
 -- how a run ends with some units for which this comes next, before what waits, in a state
 abbrev pub end_by : List Located → Calls → List Pending → Coming → ℕ → State → End
 end_by globals calls waits work units s = end_seen (all_followed globals calls waits (Normal units s))
-end_by globals calls waits (test t body) units s = end_seen (all_followed globals calls waits (loop (value globals t) (body_meaning globals calls body) units s))
-end_by globals calls waits (call n actuals) units s = end_seen (all_followed globals calls waits (invoked globals calls n actuals units s))
+end_by globals calls waits (test t body) units s =
+    end_seen (all_followed globals calls waits (loop (value globals t) (body_meaning globals calls body) units s))
+end_by globals calls waits (call n actuals) units s =
+    end_seen (all_followed globals calls waits (invoked globals calls n actuals units s))
 end_by globals calls waits (over f) units s = Ended s.memory.areas f
 
 -- how a run that stands here ends within some further units
 abbrev pub end_within : Standing → ℕ → End
-end_within standing units = end_by standing.tree.globals (calls_to units standing.tree) standing.waits standing.next units (state_there standing)
+end_within standing units =
+    end_by standing.tree.globals (calls_to units standing.tree) standing.waits standing.next units
+    (state_there standing)
 
 -- an outcome is what the definition shows, with the areas as they then are
 abbrev pub Shows : Outcome → End → Areas → Type 0
@@ -81,8 +89,8 @@ abbrev pub StaysOver : Outcome → Standing → Type 0
 StaysOver (outcome.Ended f) standing = (units : ℕ) → end_within standing units ≡ Ended standing.memory.areas f
 StaysOver outcome.Going standing = Unit {0}
 
--- a new runner ends within each number of units as the run of its call does; there is none exactly where the
--- call does not fit, or for want of memory
+-- a new runner ends within each number of units as the run of its call does; there is none exactly
+-- where the call does not fit, or where memory ran out
 abbrev pub IsNew : StProgram → Call → Areas → Result Standing RunnerRefusal → Type 0
 IsNew tree c areas (Ok runner) = FitsSt tree c × ((units : ℕ) → end_within runner units ≡ st_run tree c areas units)
 IsNew tree c areas (Err BadCall) = FitsSt tree c → ⊥

@@ -23,8 +23,10 @@ numbers_of r q = get_or r.numbers (place q) (pos 0)
 abbrev pub seen : Kept → Activation
 seen a = record { locals = a.locals.items; formals = a.formals.items }
 
+-- what the runner keeps, as the state of a run
 abbrev pub state_of : Parts → State
-state_of s = record { memory = s.memory; registers = numbers_of s.registers; activations = map seen s.activations.items }
+state_of s =
+    record { memory = s.memory; registers = numbers_of s.registers; activations = map seen s.activations.items }
 
 -- a change gave the state that it should; one that is refused leaves the state as it was
 abbrev pub Changes : Result State Fault → Result (Unit {0}) Fault → State → State → Type 0
@@ -37,7 +39,8 @@ IsLocal activations d i = i < length (locals_of (slice_get (map seen activations
 
 -- a local of an activation took a value; one that is not there has a fault, and nothing changed
 abbrev pub HasLocal : ℕ → ℕ → Value → Result (Unit {0}) Fault → List Activation → List Activation → Type 0
-HasLocal d i v (Ok done) before after = IsOk (there (slice_get (locals_of (slice_get before d)) i)) × (after ≡ with_local d i v before)
+HasLocal d i v (Ok done) before after =
+    IsOk (there (slice_get (locals_of (slice_get before d)) i)) × (after ≡ with_local d i v before)
 HasLocal d i v (Err f) before after = (there (slice_get (locals_of (slice_get before d)) i) ≡ Err f) × (after ≡ before)
 
 -- What is kept from step to step
@@ -52,10 +55,12 @@ IsReachable (reference.Register r) = Unit {0}
 IsReachable (reference.Local d i) = Unit {0}
 IsReachable (reference.Place p ty) = IsActivation p.area
 
+-- each of some references can be reached
 abbrev pub AreReachable : List Reference → Type 0
 AreReachable [] = Unit {0}
 AreReachable (r ∷ rest) = IsReachable r × AreReachable rest
 
+-- what the formals of each activation stand for can be reached
 abbrev pub AreHeld : List Kept → Type 0
 AreHeld [] = Unit {0}
 AreHeld (a ∷ rest) = AreReachable a.formals.items × AreHeld rest
@@ -72,6 +77,7 @@ pub record IsFrame (locals formals : ℕ) (a : Kept) : Type 0 where
   pub formals_room : formals ≤ vec_capacity a.formals
   pub reachable : AreReachable a.formals.items
 
+-- each of some activations has room for so many locals and formals, and its formals can be reached
 abbrev pub AreFrames : ℕ → ℕ → List Kept → Type 0
 AreFrames l f [] = Unit {0}
 AreFrames l f (a ∷ rest) = IsFrame l f a × AreFrames l f rest
@@ -92,6 +98,8 @@ pub record CanEnter (locals formals : ℕ) (s : Parts) (unit : Pou) (actuals : L
   pub locals_fit : length unit.locals ≤ locals
   pub actuals_fit : length actuals ≤ formals
 
+-- a unit may be entered with these actuals: there is room for one more activation with its locals and
+-- formals
 abbrev pub MayEnter : Parts → Pou → List Var → Type 0
 MayEnter s unit actuals = (locals : ℕ) × (formals : ℕ) × CanEnter locals formals s unit actuals
 

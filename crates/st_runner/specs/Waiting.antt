@@ -17,7 +17,8 @@ use Rattle.st_tree.specs.declared.program.Located.{Located}
 -- what follows where the statements above a frame ended so
 abbrev pub framed : List Located → Calls → Frame → Out → Out
 framed globals calls (frame.Rest body) o = then_do o (body_meaning globals calls body.now)
-framed globals calls (frame.Again test body) o = after_body o (loop (value globals test.now) (body_meaning globals calls body.now))
+framed globals calls (frame.Again test body) o =
+    after_body o (loop (value globals test.now) (body_meaning globals calls body.now))
 framed globals calls frame.Unit o = after_unit o
 
 -- what follows in all frames, of which the last is done first
@@ -32,8 +33,10 @@ ending globals calls work o = end_seen (unwound globals calls work o)
 -- how a run ends with some units that stands here: frames wait, this comes next, in this state
 abbrev pub end_at : List Located → Calls → List Frame → At → ℕ → State → End
 end_at globals calls work at.Work units s = ending globals calls work (Normal units s)
-end_at globals calls work (at.Test test body) units s = ending globals calls work (loop (value globals test.now) (body_meaning globals calls body.now) units s)
-end_at globals calls work (at.Call n actuals) units s = ending globals calls work (invoked globals calls n actuals.now units s)
+end_at globals calls work (at.Test test body) units s =
+    ending globals calls work (loop (value globals test.now) (body_meaning globals calls body.now) units s)
+end_at globals calls work (at.Call n actuals) units s =
+    ending globals calls work (invoked globals calls n actuals.now units s)
 end_at globals calls work (at.Over f) units s = Ended s.memory.areas f
 
 -- the outcome of a run for which this comes next

@@ -39,7 +39,8 @@ impl State {
     fn located(&self, globals: &[Located], var: Var) -> Result<Reference, Fault>
         requires running { IsRunning self.now }
         requires globals { AreGlobals globals.now }
-        ensures value { result ≡ and_then (reference_of globals.now var (state_of self.now)) (λ r. tested r (state_of self.now)) }
+        ensures value { result
+            ≡ and_then (reference_of globals.now var (state_of self.now)) (λ r. tested r (state_of self.now)) }
         ensures reachable { IfOk result IsReachable }
     {
         let reference = self.reference_of(globals, var)?;
@@ -73,8 +74,10 @@ impl State {
         requires running { IsRunning self.now }
         requires globals { AreGlobals globals.now }
         requires room { length actuals.now ≤ vec_capacity formals.old }
-        ensures located { OnOk result (located_actuals globals.now actuals.now (state_of self.now) ≡ Ok formals.new.items) }
-        ensures fault { IfErr result (λ fault. located_actuals globals.now actuals.now (state_of self.now) ≡ Err fault) }
+        ensures located { OnOk result (located_actuals globals.now actuals.now (state_of self.now)
+            ≡ Ok formals.new.items) }
+        ensures fault { IfErr result
+            (λ fault. located_actuals globals.now actuals.now (state_of self.now) ≡ Err fault) }
         ensures reachable { AreReachable formals.new.items }
         ensures capacity { vec_capacity formals.new ≡ vec_capacity formals.old }
     {
@@ -93,7 +96,8 @@ impl State {
         requires may { MayEnter self.old unit.now actuals.now }
         requires globals { AreGlobals globals.now }
         ensures change { Changes
-            (and_then (located_actuals globals.now actuals.now (state_of self.old)) (λ formals. Ok (entered unit.now formals (state_of self.old))))
+            (and_then (located_actuals globals.now actuals.now (state_of self.old))
+            (λ formals. Ok (entered unit.now formals (state_of self.old))))
             result (state_of self.old) (state_of self.new) }
         ensures sound { (l f : ℕ) → IsSound l f self.old → IsSound l f self.new }
         ensures deeper { IsDeeper result self.old self.new }

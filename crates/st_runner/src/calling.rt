@@ -55,7 +55,8 @@ fn is_meant(block: BlockName, name: &[u8], unit: &Pou) -> bool
 /// The unit that a call means.
 pub fn unit_called<'t>(block: BlockName, name: &[u8], units: &'t [Pou]) -> Option<&'t Pou>
     requires { name.now ≡ called_name block }
-    ensures { MatchOption result (unit_called block units.now ≡ None) (λ unit. unit_called block units.now ≡ Some unit.now) }
+    ensures { MatchOption result (unit_called block units.now ≡ None)
+        (λ unit. unit_called block units.now ≡ Some unit.now) }
 {
     let mut rest = units;
     while let Some((unit, behind)) = rest.split_first() {
@@ -91,7 +92,8 @@ fn is_there(memory: &Memory, place: Place, width: Width) -> bool
 
 /// An actual fits a formal.
 fn fits_formal(memory: &Memory, formal: &Local, place: Place, width: Width) -> bool
-    ensures { (blocks : List DataBlock) → IsMemoryOf blocks memory.now.areas → Decides result (FitsFormal blocks formal.now (place, width)) }
+    ensures { (blocks : List DataBlock) → IsMemoryOf blocks memory.now.areas
+        → Decides result (FitsFormal blocks formal.now (place, width)) }
 {
     if width != width_at(formal.ty) {
         return false;
@@ -104,7 +106,8 @@ fn fits_formal(memory: &Memory, formal: &Local, place: Place, width: Width) -> b
 
 /// The actuals fit the formals.
 fn fit_formals(memory: &Memory, formals: &[Local], actuals: &[(Place, Width)]) -> bool
-    ensures { (blocks : List DataBlock) → IsMemoryOf blocks memory.now.areas → Decides result (FitFormals blocks formals.now actuals.now) }
+    ensures { (blocks : List DataBlock) → IsMemoryOf blocks memory.now.areas
+        → Decides result (FitFormals blocks formals.now actuals.now) }
 {
     let mut formals_left = formals;
     let mut actuals_left = actuals;
@@ -123,7 +126,8 @@ fn fit_formals(memory: &Memory, formals: &[Local], actuals: &[(Place, Width)]) -
 
 /// A call fits the unit that it means.
 pub fn fits_unit(memory: &Memory, unit: &Pou, call: &Call) -> bool
-    ensures { (blocks : List DataBlock) → IsMemoryOf blocks memory.now.areas → Decides result (FitsUnit blocks unit.now call.now.block call.now.instance call.now.actuals) }
+    ensures { (blocks : List DataBlock) → IsMemoryOf blocks memory.now.areas
+        → Decides result (FitsUnit blocks unit.now call.now.block call.now.instance call.now.actuals) }
 {
     match call.block {
         BlockName::Ob(_) => true,

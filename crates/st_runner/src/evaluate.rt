@@ -68,7 +68,8 @@ impl State {
     pub fn assign(&mut self, globals: &[Located], var: Var, e: &Expr) -> Result<(), Fault>
         requires running { IsRunning self.old }
         requires globals { AreGlobals globals.now }
-        ensures change { Changes (assigned globals.now var e.now (state_of self.old)) result (state_of self.old) (state_of self.new) }
+        ensures change { Changes (assigned globals.now var e.now (state_of self.old)) result
+            (state_of self.old) (state_of self.new) }
         ensures sound { (l f : ℕ) → IsSound l f self.old → IsSound l f self.new }
         ensures same { SameShape self.old self.new }
     {
@@ -86,7 +87,8 @@ impl State {
     ) -> Result<(), Fault>
         requires running { IsRunning self.old }
         requires globals { AreGlobals globals.now }
-        ensures change { Changes (area_assigned globals.now width pointer.now e.now (state_of self.old)) result (state_of self.old) (state_of self.new) }
+        ensures change { Changes (area_assigned globals.now width pointer.now e.now (state_of self.old)) result
+            (state_of self.old) (state_of self.new) }
         ensures sound { (l f : ℕ) → IsSound l f self.old → IsSound l f self.new }
         ensures same { SameShape self.old self.new }
     {

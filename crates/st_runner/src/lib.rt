@@ -22,5 +22,3 @@ mod runner;
 mod runs;
 mod state;
 mod steps;
-#[cfg(test)]
-mod tests;

@@ -54,7 +54,8 @@ impl State {
     /// What a formal of the running unit stands for.
     fn formal(&self, i: u32) -> Result<Reference, Fault>
         requires { IsRunning self.now }
-        ensures { result ≡ there (slice_get (formals_of (slice_get (state_of self.now).activations (depth (state_of self.now)))) i) }
+        ensures { result
+            ≡ there (slice_get (formals_of (slice_get (state_of self.now).activations (depth (state_of self.now)))) i) }
     {
         let running = &self.activations[self.activations.len() - 1];
         match running.formals.get(i as usize) {
@@ -111,7 +112,8 @@ impl State {
     pub fn write(&mut self, globals: &[Located], var: Var, v: Value) -> Result<(), Fault>
         requires running { IsRunning self.old }
         requires globals { AreGlobals globals.now }
-        ensures change { Changes (write globals.now var v (state_of self.old)) result (state_of self.old) (state_of self.new) }
+        ensures change { Changes (write globals.now var v (state_of self.old)) result
+            (state_of self.old) (state_of self.new) }
         ensures sound { (l f : ℕ) → IsSound l f self.old → IsSound l f self.new }
         ensures same { SameShape self.old self.new }
     {
@@ -131,7 +133,8 @@ impl State {
     /// Gives the place that a pointer names a value of a width. A fault changes nothing.
     pub fn area_write(&mut self, width: Width, p: Value, v: Value) -> Result<(), Fault>
         requires { IsRunning self.old }
-        ensures change { Changes (area_write width p v (state_of self.old)) result (state_of self.old) (state_of self.new) }
+        ensures change { Changes (area_write width p v (state_of self.old)) result
+            (state_of self.old) (state_of self.new) }
         ensures sound { (l f : ℕ) → IsSound l f self.old → IsSound l f self.new }
         ensures same { SameShape self.old self.new }
     {
@@ -142,7 +145,8 @@ impl State {
 
 /// What a global stands for.
 fn global(globals: &[Located], i: u32) -> Result<Reference, Fault>
-    ensures { result ≡ and_then (there (slice_get globals.now i)) (λ (g : GlobalPlace). Ok (PlaceReference g.place g.ty)) }
+    ensures { result
+        ≡ and_then (there (slice_get globals.now i)) (λ (g : GlobalPlace). Ok (PlaceReference g.place g.ty)) }
 {
     match globals.get(i as usize) {
         Some(global) => Ok(Reference::Place(global.place, global.ty)),

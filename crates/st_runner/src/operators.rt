@@ -29,18 +29,21 @@ fn low_bit(n: i64) -> u8
     (n.cast_unsigned() % 2) as u8
 }
 
+/// The lowest 8 bits of a number, as the pattern of a BYTE.
 pub fn low_byte(n: i64) -> u8
     ensures { result ≡ pattern 8 n }
 {
     (n.cast_unsigned() & 0xff) as u8
 }
 
+/// The lowest 16 bits of a number, as the pattern of a WORD or an INT.
 pub fn low_word(n: i64) -> u16
     ensures { result ≡ pattern 16 n }
 {
     (n.cast_unsigned() & 0xffff) as u16
 }
 
+/// The lowest 32 bits of a number, as the pattern of a DWORD or a DINT.
 pub fn low_dword(n: i64) -> u32
     ensures { result ≡ pattern 32 n }
 {
@@ -90,6 +93,7 @@ fn of_bits(ty: StType, bits: u64) -> Value
     typed(ty, bits.cast_signed())
 }
 
+/// A truth value as a BOOL.
 pub fn flag(b: bool) -> Value
     ensures { result ≡ flag b }
 {
@@ -99,6 +103,7 @@ pub fn flag(b: bool) -> Value
     }
 }
 
+/// Whether a BOOL is TRUE.
 pub fn is_set(v: Value) -> bool
     ensures { result ≡ is_set v }
 {

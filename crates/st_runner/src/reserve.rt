@@ -113,7 +113,8 @@ fn give_formals(given: &mut Vec<Reference>, formals: &[Local], actuals: &[(Place
 fn begin(first: &mut Activation, unit: &Pou, call: &Call)
     requires locals { length unit.now.locals ≤ vec_capacity first.old.locals }
     requires formals { length unit.now.formals ≤ vec_capacity first.old.formals }
-    ensures seen { seen first.new ≡ activation_of unit.now (formals_given call.now.block unit.now.formals call.now.actuals) }
+    ensures seen { seen first.new
+        ≡ activation_of unit.now (formals_given call.now.block unit.now.formals call.now.actuals) }
     ensures locals_room { vec_capacity first.new.locals ≡ vec_capacity first.old.locals }
     ensures formals_room { vec_capacity first.new.formals ≡ vec_capacity first.old.formals }
 {

@@ -23,6 +23,7 @@ pub enum RunnerRefusal {
     /// The call does not fit the tree.
     BadCall,
 
+    /// Memory ran out.
     NoMemory,
 }
 
@@ -59,7 +60,8 @@ impl<'t> Model for Runner<'t> {
       activations = map seen r.state.activations.items;
     } };
 
-    ghost invariant = { λ r. IsRunnable r.tree.now × IsReady r.tree.now (vec_capacity r.work) r.work.items r.at r.state };
+    ghost invariant = { λ r. IsRunnable r.tree.now
+        × IsReady r.tree.now (vec_capacity r.work) r.work.items r.at r.state };
 }
 
 /// The outcome of a run for which this comes next.

@@ -48,7 +48,8 @@ fn spend<'t>(tree: &'t StProgram, at: &mut At<'t>, work: &mut Vec<Frame<'t>>, st
     requires runnable { IsRunnable tree.now }
     requires ready { IsReady tree.now (vec_capacity work.old) work.old.items at.old state.old }
     requires needed { needs_unit at.old ≡ true }
-    ensures meaning { (u : ℕ) → end_at tree.now.globals (calls_to u tree.now) work.new.items at.new u (state_of state.new)
+    ensures meaning { (u : ℕ)
+        → end_at tree.now.globals (calls_to u tree.now) work.new.items at.new u (state_of state.new)
         ≡ end_at tree.now.globals (calls_to (suc u) tree.now) work.old.items at.old (suc u) (state_of state.old) }
     ensures ready { IsReady tree.now (vec_capacity work.new) work.new.items at.new state.new }
 {
@@ -71,7 +72,8 @@ pub fn go<'t>(
     requires runnable { IsRunnable tree.now }
     requires ready { IsReady tree.now (vec_capacity work.old) work.old.items at.old state.old }
     ensures later { (j : ℕ) → end_at tree.now.globals (calls_to j tree.now) work.new.items at.new j (state_of state.new)
-        ≡ end_at tree.now.globals (calls_to (units + j) tree.now) work.old.items at.old (units + j) (state_of state.old) }
+        ≡ end_at tree.now.globals (calls_to (units + j) tree.now) work.old.items at.old (units + j)
+        (state_of state.old) }
     ensures settled { IsSettled at.new }
     ensures ready { IsReady tree.now (vec_capacity work.new) work.new.items at.new state.new }
 {

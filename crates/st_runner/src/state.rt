@@ -113,7 +113,8 @@ impl State {
     /// Writes a value at a reference. A fault changes nothing.
     pub fn write_at(&mut self, reference: Reference, v: Value) -> Result<(), Fault>
         requires { IsReachable reference }
-        ensures change { Changes (write_at reference v (state_of self.old)) result (state_of self.old) (state_of self.new) }
+        ensures change { Changes (write_at reference v (state_of self.old)) result
+            (state_of self.old) (state_of self.new) }
         ensures sound { (l f : ℕ) → IsSound l f self.old → IsSound l f self.new }
         ensures same { SameShape self.old self.new }
     {

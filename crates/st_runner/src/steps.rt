@@ -43,7 +43,8 @@ pub fn statement<'t>(
     requires running { IsRunning state.old }
     requires globals { AreGlobals tree.now.globals }
     requires room { length work.old.items + most (stack_costs tree.now) stmt.now ≤ vec_capacity work.old }
-    ensures done { Done tree.now stmt.now work.old.items work.new.items result (state_of state.old) (state_of state.new) }
+    ensures done { Done tree.now stmt.now work.old.items work.new.items result
+        (state_of state.old) (state_of state.new) }
     ensures sound { (l f : ℕ) → IsSound l f state.old → IsSound l f state.new }
     ensures same { SameShape state.old state.new }
     ensures capacity { vec_capacity work.new ≡ vec_capacity work.old }
@@ -139,7 +140,8 @@ pub fn spend_test<'t>(
 ) -> At<'t>
     requires globals { AreGlobals tree.now.globals }
     requires ready { IsReady tree.now (vec_capacity work.old) work.old.items (Test test body) state.old }
-    ensures spent { Spent tree.now (vec_capacity work.old) work.old.items work.new.items (Test test.entry body.entry) result state.old state.new }
+    ensures spent { Spent tree.now (vec_capacity work.old) work.old.items work.new.items
+        (Test test.entry body.entry) result state.old state.new }
     ensures capacity { vec_capacity work.new ≡ vec_capacity work.old }
 {
     match state.is_true(tree.globals.as_slice(), test) {
@@ -163,7 +165,8 @@ pub fn spend_call<'t>(
 ) -> At<'t>
     requires runnable { IsRunnable tree.now }
     requires ready { IsReady tree.now (vec_capacity work.old) work.old.items (Call n actuals) state.old }
-    ensures spent { Spent tree.now (vec_capacity work.old) work.old.items work.new.items (Call n actuals.entry) result state.old state.new }
+    ensures spent { Spent tree.now (vec_capacity work.old) work.old.items work.new.items
+        (Call n actuals.entry) result state.old state.new }
     ensures capacity { vec_capacity work.new ≡ vec_capacity work.old }
 {
     let unit = &tree.pous.as_slice()[n as usize];

@@ -31,7 +31,7 @@ nfc = expr.Read (var.Register reg.Nfc)
 abbrev br : Expr
 br = expr.Read (var.Register reg.Br)
 
--- OR binds more weakly than AND
+-- OR has a lower precedence than AND
 or_in_and : text_of (expr.Binary binary.And (expr.Binary binary.Or rlo nfc) br) ≡ codes "(RLO OR NFC) AND BR"
 or_in_and = simp canon_equations
 
@@ -48,7 +48,7 @@ right_or = simp canon_equations
 right_and : text_of (expr.Binary binary.And rlo (expr.Binary binary.And nfc br)) ≡ codes "RLO AND (NFC AND BR)"
 right_and = simp canon_equations
 
--- NOT binds more strongly than both, and stands before another NOT without brackets
+-- NOT binds more tightly than both, and stands before another NOT without brackets
 not_of_or : text_of (expr.Unary unary.Not (expr.Binary binary.Or rlo nfc)) ≡ codes "NOT (RLO OR NFC)"
 not_of_or = simp canon_equations
 

@@ -19,7 +19,7 @@ use Rattle.st_tree.specs.declared.program.Stmt.{Stmt, fold-roll-Stmt, ind-Stmt, 
 use Rattle.st_tree.specs.declared.program.Stmt.TheOpen as S
 use Rattle.st_tree.specs.declared.state.Reference.{Reference}
 
--- the second ends as the first with j units more left, and the first has gained none; for want of a unit
+-- the second ends as the first with j units more left, and the first has gained none; without a unit left
 -- the first says something of the second only where that has no more
 abbrev pub Follows : ℕ → ℕ → Out → Out → Type 0
 Follows j most (Normal u s) o = (o ≡ Normal (u + j) s) × (u ≤ most)

@@ -20,9 +20,12 @@ activation_of unit formals = record { locals = map zero_of unit.locals; formals 
 -- the state in which a called unit begins: one more activation runs, and its local data is zero
 abbrev pub entered : Pou → List Reference → State → State
 entered unit formals s =
-    record s { memory = cleared (length s.activations) s.memory; activations = s.activations ++ activation_of unit formals ∷ [] }
+    record s {
+      memory = cleared (length s.activations) s.memory;
+      activations = s.activations ++ activation_of unit formals ∷ [];
+    }
 
--- the state behind a call: the last activation is gone
+-- the state after a call: the last activation is gone
 abbrev pub left : State → State
 left s = record s { activations = take (depth s) s.activations }
 
@@ -38,7 +41,8 @@ after_unit (NoUnits s) = NoUnits s
 -- a unit that is there is entered; one that is not, as in no proper tree, never ends
 abbrev pub unit_step : StProgram → Calls → Option Pou → List Reference → Sem
 unit_step tree calls None formals units s = NoUnits s
-unit_step tree calls (Some unit) formals units s = after_unit (body_meaning tree.globals calls unit.body units (entered unit formals s))
+unit_step tree calls (Some unit) formals units s =
+    after_unit (body_meaning tree.globals calls unit.body units (entered unit formals s))
 
 -- calls of the units of a text that nest at most so deep. Since each call takes a unit, calls within
 -- some units nest no deeper than these are many, and a larger depth changes nothing.

@@ -30,14 +30,18 @@ most_step k S.Exit = 0
 most_step k S.Continue = 0
 most_step k S.Return = 0
 
+-- the most that a statement costs at a time, with the statements in it, beside the frame that holds it
 abbrev pub most : Costs → Stmt → ℕ
 most k = fold-Stmt ℕ ℕ ℕ (most_step k) (λ arm. greatest arm.body) (λ arm. greatest arm.body)
 
+-- the most that the statements of an arm of an IF cost at a time
 abbrev pub arm_most : Costs → Arm → ℕ
 arm_most k = fold-Arm ℕ ℕ ℕ (most_step k) (λ arm. greatest arm.body) (λ arm. greatest arm.body)
 
+-- the most that the statements of an arm of a CASE cost at a time
 abbrev pub case_most : Costs → CaseArm → ℕ
 case_most k = fold-CaseArm ℕ ℕ ℕ (most_step k) (λ arm. greatest arm.body) (λ arm. greatest arm.body)
 
+-- the most that a list of statements costs at a time: that of its dearest statement
 abbrev pub body_most : Costs → List Stmt → ℕ
 body_most k body = greatest (map (most k) body)

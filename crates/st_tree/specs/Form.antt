@@ -24,8 +24,8 @@ pub data Form : Type 0 where
   shift : ShiftOp → Form → Form → Form
   area_read : Width → Form → Form
 
--- The levels of binding, the strongest first: operands, functions and brackets 0, `-` 1, NOT 2, `*` `/` MOD 3,
--- `+` `-` 4, `<` `>` `<=` `>=` 5, `=` `<>` 6, AND 7, XOR 8, OR 9.
+-- The levels of precedence, the highest first: operands, functions and brackets 0, `-` 1, NOT 2, `*`
+-- `/` MOD 3, `+` `-` 4, `<` `>` `<=` `>=` 5, `=` `<>` 6, AND 7, XOR 8, OR 9.
 
 -- the level of an operator before its operand; the BCD conversions are functions
 abbrev pub prefix_level : UnaryOp → ℕ
@@ -50,13 +50,13 @@ infix_level binary.And = 7
 infix_level binary.Xor = 8
 infix_level binary.Or = 9
 
--- how weakly an expression binds: by its outermost operator that no brackets enclose
+-- the precedence of an expression: that of its outermost operator that no brackets enclose
 abbrev pub level : Form → ℕ
 level (prefix op f) = prefix_level op
 level (infix_of op f g) = infix_level op
 level operand = 0
 
--- the expression at a place that takes levels up to k, in brackets where it binds more weakly
+-- the expression at a place that takes levels up to k, in brackets where its precedence is lower
 abbrev pub wrap : ℕ → Form → Form
 wrap k f = if nat_lt k (level f) then group f else f
 
@@ -66,7 +66,8 @@ unary_form unary.Minus f = prefix unary.Minus (wrap (prefix_level unary.Minus) f
 unary_form unary.Not f = prefix unary.Not (wrap (prefix_level unary.Not) f)
 unary_form function f = digits_to function f
 
--- one layer of an expression whose operands have their brackets; operators between operands group to the left
+-- one layer of an expression whose operands have their brackets; operators between operands group to
+-- the left
 abbrev pub canon_step : E.Expr-F Form → Form
 canon_step (E.Literal ty n) = literal ty n
 canon_step (E.Read v) = variable v
@@ -77,6 +78,6 @@ canon_step (E.Select f g h) = select f g h
 canon_step (E.Shift op f g) = shift op f g
 canon_step (E.AreaRead w f) = area_read w f
 
--- the expression with the brackets that binding needs, and no others
+-- the expression with the brackets that precedence asks for, and no others
 abbrev pub canon : Expr → Form
 canon = fold-Expr Form canon_step

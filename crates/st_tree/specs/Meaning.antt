@@ -21,7 +21,7 @@ use Rattle.st_tree.specs.declared.state.Reference.{Reference}
 use Rattle.st_tree.specs.declared.state.Reference.TheVariants as reference
 
 -- how statements end: at their end, by EXIT, CONTINUE or RETURN, each with the units that are left; by a
--- fault; or for want of a unit; and the state then
+-- fault; or because no unit is left; and the state then
 pub data Out : Type 0 where
   Normal : ℕ → State → Out
   Exits : ℕ → State → Out
@@ -63,7 +63,8 @@ assigned globals v e s = and_then (value globals e s) (λ w. write globals v w s
 
 -- an area write evaluates its pointer, then its expression, then locates and writes
 abbrev pub area_assigned : List Located → Width → Expr → Expr → State → Result State Fault
-area_assigned globals w p e s = and_then (value globals p s) (λ at. and_then (value globals e s) (λ v. area_write w at v s))
+area_assigned globals w p e s =
+    and_then (value globals p s) (λ at. and_then (value globals e s) (λ v. area_write w at v s))
 
 -- Choices
 
@@ -72,22 +73,25 @@ abbrev pub with_value : Result Value Fault → ℕ → State → (Value → Out)
 with_value (Ok v) units s next = next v
 with_value (Err f) units s next = Faults f s
 
--- a test and what its arm does; the literals of an arm of a CASE and what it does
+-- an arm of an IF: the value of its test, and what its statements do
 abbrev pub Guarded : Type 0
 Guarded = Worth × Sem
 
+-- an arm of a CASE: its labels, and what its statements do
 abbrev pub Labelled : Type 0
 Labelled = List ℤ × Sem
 
--- the first arm whose test is TRUE, or else the statements behind them
+-- the first arm whose test is TRUE, or else the statements after ELSE
 abbrev pub first_true : List Guarded → Sem → Sem
 first_true [] other units s = other units s
-first_true (arm ∷ rest) other units s = with_value (arm.0 s) units s (λ v. if is_set v then arm.1 units s else first_true rest other units s)
+first_true (arm ∷ rest) other units s =
+    with_value (arm.0 s) units s (λ v. if is_set v then arm.1 units s else first_true rest other units s)
 
--- the first arm that has the value, or else the statements behind them
+-- the first arm that has the value, or else the statements after ELSE
 abbrev pub first_with : ℤ → List Labelled → Sem → Sem
 first_with n [] other units s = other units s
-first_with n (arm ∷ rest) other units s = if list_any (λ label. int_eq label n) arm.0 then arm.1 units s else first_with n rest other units s
+first_with n (arm ∷ rest) other units s =
+    if list_any (λ label. int_eq label n) arm.0 then arm.1 units s else first_with n rest other units s
 
 -- Loops
 
@@ -103,7 +107,8 @@ after_body (NoUnits s) again = NoUnits s
 -- a turn of a loop: a unit is taken, then the test is evaluated
 abbrev pub turn : Worth → Sem → Sem → Sem
 turn test body again zero s = NoUnits s
-turn test body again (suc units) s = with_value (test s) units s (λ v. if is_set v then after_body (body units s) again else Normal units s)
+turn test body again (suc units) s =
+    with_value (test s) units s (λ v. if is_set v then after_body (body units s) again else Normal units s)
 
 -- at most so many turns
 abbrev pub turns : ℕ → Worth → Sem → Sem
@@ -134,7 +139,8 @@ located_actual globals v s = and_then (reference_of globals v s) (λ r. tested r
 -- what the actuals of a call stand for, located in their order
 abbrev pub located_actuals : List Located → List Var → State → Result (List Reference) Fault
 located_actuals globals [] s = Ok []
-located_actuals globals (v ∷ rest) s = and_then (located_actual globals v s) (λ r. and_then (located_actuals globals rest s) (λ more. Ok (r ∷ more)))
+located_actuals globals (v ∷ rest) s =
+    and_then (located_actual globals v s) (λ r. and_then (located_actuals globals rest s) (λ more. Ok (r ∷ more)))
 
 -- a call with its actuals located
 abbrev pub called : Calls → ℕ → Result (List Reference) Fault → Sem
@@ -154,15 +160,18 @@ stmt_step globals calls (S.Assign v e) units s = changed (assigned globals v e s
 stmt_step globals calls (S.AreaWrite w p e) units s = changed (area_assigned globals w p e s) units s
 stmt_step globals calls (S.Invoke n actuals) units s = invoked globals calls n actuals units s
 stmt_step globals calls (S.If arms other) units s = first_true arms (in_order other) units s
-stmt_step globals calls (S.Case e arms other) units s = with_value (value globals e s) units s (λ v. first_with v.n arms (in_order other) units s)
+stmt_step globals calls (S.Case e arms other) units s =
+    with_value (value globals e s) units s (λ v. first_with v.n arms (in_order other) units s)
 stmt_step globals calls (S.While test body) units s = loop (value globals test) (in_order body) units s
 stmt_step globals calls S.Exit units s = Exits units s
 stmt_step globals calls S.Continue units s = Continues units s
 stmt_step globals calls S.Return units s = Returns units s
 
+-- an arm of an IF whose statements mean what is given
 abbrev pub arm_step : List Located → S.Arm-F Sem Guarded Labelled → Guarded
 arm_step globals arm = (value globals arm.test, in_order arm.body)
 
+-- an arm of a CASE whose statements mean what is given
 abbrev pub case_step : S.CaseArm-F Sem Guarded Labelled → Labelled
 case_step arm = (arm.labels, in_order arm.body)
 
@@ -174,9 +183,10 @@ meaning globals calls = fold-Stmt Sem Guarded Labelled (stmt_step globals calls)
 abbrev pub body_meaning : List Located → Calls → List Stmt → Sem
 body_meaning globals calls body = in_order (map (meaning globals calls) body)
 
--- an arm of an IF and an arm of a CASE
+-- the test of an arm of an IF, and what its statements do
 abbrev pub arm_meaning : List Located → Calls → Arm → Guarded
 arm_meaning globals calls = fold-Arm Sem Guarded Labelled (stmt_step globals calls) (arm_step globals) case_step
 
+-- the labels of an arm of a CASE, and what its statements do
 abbrev pub case_meaning : List Located → Calls → CaseArm → Labelled
 case_meaning globals calls = fold-CaseArm Sem Guarded Labelled (stmt_step globals calls) (arm_step globals) case_step

@@ -22,6 +22,8 @@ abbrev pub unit_chain : (ℕ → ℕ) → ℕ → Option Pou → ℕ
 unit_chain chain most None = suc most
 unit_chain chain most (Some unit) = suc (body_most (chain_costs chain) unit.body)
 
+-- how many units the longest chain of calls has that begins at the unit of a position, counted up to a
+-- number
 abbrev pub chain_to : ℕ → StProgram → ℕ → ℕ
 chain_to zero tree n = 0
 chain_to (suc most) tree n = unit_chain (chain_to most tree) most (slice_get tree.pous n)
@@ -47,6 +49,8 @@ formals_of_unit (Some unit) = length unit.formals
 abbrev pub misfit : StProgram → ℕ → List Var → ℕ
 misfit tree n actuals = if length actuals == formals_of_unit (slice_get tree.pous n) then 0 else 1
 
+-- costs at which a body costs more than nothing exactly where a call in it gives too few or too many
+-- actuals
 abbrev pub misfit_costs : StProgram → Costs
 misfit_costs tree = record { rest = 0; again = 0; unit = 0; call = misfit tree }
 
@@ -63,6 +67,8 @@ pub record IsRunnableUnit (tree : StProgram) (n : ℕ) (unit : Pou) : Type 0 whe
   pub nesting : body_most nesting_costs unit.body ≤ deepest
   pub actuals : body_most (misfit_costs tree) unit.body ≡ 0
 
+-- what a runner asks of a tree: what each of its units keeps, and globals that stand for areas of a
+-- memory
 pub record IsRunnable (tree : StProgram) : Type 0 where
   pub units : (n : ℕ) (unit : Pou) → slice_get tree.pous n ≡ Some unit → IsRunnableUnit tree n unit
   pub globals : AreGlobals tree.globals

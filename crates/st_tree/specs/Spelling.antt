@@ -57,6 +57,7 @@ abbrev pub local_name : Option Local → List ℕ
 local_name None = []
 local_name (Some local) = local.name
 
+-- the name of a global on I, Q or M
 abbrev pub global_name : Option Located → List ℕ
 global_name None = []
 global_name (Some global) = global.name
@@ -68,7 +69,7 @@ bit_text width.Byte bit = []
 bit_text width.Word bit = []
 bit_text width.Dword bit = []
 
--- a place behind the letters of its area, as `X0.0` or `W10`
+-- a place after the letters of its area, as `X0.0` or `W10`
 abbrev pub place_text : Width → ℕ → ℕ → List ℕ
 place_text w byte bit = width_word w ++ decimal byte ++ bit_text w bit
 
@@ -105,23 +106,30 @@ written names (group f) = codes "(" ++ written names f ++ codes ")"
 written names (prefix op f) = prefix_word op ++ written names f
 written names (infix_of op f g) = written names f ++ infix_word op ++ written names g
 written names (digits_to op f) = prefix_word op ++ written names f ++ codes ")"
-written names (convert from to f) = type_word from ++ codes "_TO_" ++ type_word to ++ codes "(" ++ written names f ++ codes ")"
-written names (select f g h) = codes "SEL(" ++ written names f ++ codes ", " ++ written names g ++ codes ", " ++ written names h ++ codes ")"
-written names (shift op f g) = shift_word op ++ codes "(" ++ written names f ++ codes ", " ++ written names g ++ codes ")"
+written names (convert from to f) =
+    type_word from ++ codes "_TO_" ++ type_word to ++ codes "(" ++ written names f ++ codes ")"
+written names (select f g h) =
+    codes "SEL(" ++ written names f ++ codes ", " ++ written names g ++ codes ", " ++ written names h ++ codes ")"
+written names (shift op f g) =
+    shift_word op ++ codes "(" ++ written names f ++ codes ", " ++ written names g ++ codes ")"
 written names (area_read w f) = codes "AREA_READ_" ++ width_word w ++ codes "(" ++ written names f ++ codes ")"
 
+-- the text of an expression, in brackets only where precedence asks for them
 abbrev pub expr_text : Names → Expr → List ℕ
 expr_text names e = written names (canon e)
 
 -- Statements
 
--- what a statement, an arm of an IF behind its word, and an arm of a CASE of a type spell at a level
+-- what a statement spells at a level, each level four blanks
 abbrev pub Text : Type 0
 Text = ℕ → List ℕ
 
+-- what an arm of an IF spells after its first word, `IF ` or `ELSIF `, at the level of its statement
 abbrev pub ArmText : Type 0
 ArmText = List ℕ → ℕ → List ℕ
 
+-- what an arm of a CASE spells, by the type of the selector, in which labels are spelled, at the level
+-- of its statement
 abbrev pub CaseText : Type 0
 CaseText = StType → ℕ → List ℕ
 
@@ -139,11 +147,12 @@ abbrev pub arms_text : ℕ → List ArmText → List ℕ
 arms_text level [] = []
 arms_text level (first ∷ more) = first (codes "IF ") level ++ flat_map (λ arm. arm (codes "ELSIF ") level) more
 
--- the unit that a call names, and its formals
+-- the name of the unit that a call means
 abbrev pub unit_name : Option Pou → List ℕ
 unit_name None = []
 unit_name (Some unit) = unit.name
 
+-- the formals of the unit that a call means
 abbrev pub formals_of : Option Pou → List Local
 formals_of None = []
 formals_of (Some unit) = unit.formals
@@ -152,12 +161,15 @@ formals_of (Some unit) = unit.formals
 abbrev pub actuals_text : Names → List Local → List Var → List (List ℕ)
 actuals_text names [] vars = []
 actuals_text names (formal ∷ formals) [] = []
-actuals_text names (formal ∷ formals) (v ∷ vars) = (formal.name ++ codes " := " ++ var_text names v) ∷ actuals_text names formals vars
+actuals_text names (formal ∷ formals) (v ∷ vars) =
+    (formal.name ++ codes " := " ++ var_text names v) ∷ actuals_text names formals vars
 
+-- a call of a unit: its name, and each formal with its variable in brackets
 abbrev pub call_text : Names → Option Pou → List Var → List ℕ
-call_text names unit vars = unit_name unit ++ codes "(" ++ listed (actuals_text names (formals_of unit) vars) ++ codes ");"
+call_text names unit vars =
+    unit_name unit ++ codes "(" ++ listed (actuals_text names (formals_of unit) vars) ++ codes ");"
 
--- a label of an arm of a CASE behind others, a literal of its type
+-- a label of an arm of a CASE after others, a literal of the selector's type
 unfoldable pub label_text : StType → ℤ → List ℕ
 label_text ty label = codes ", " ++ literal_text ty label
 
@@ -166,20 +178,34 @@ abbrev pub labels_text : StType → List ℤ → List ℕ
 labels_text ty [] = []
 labels_text ty (first ∷ more) = literal_text ty first ++ flat_map (label_text ty) more
 
+-- an arm of an IF: its word, its test and THEN on a line, and its statements one level in
 abbrev pub arm_step : Names → Arm-F Text ArmText CaseText → ArmText
-arm_step names arm word level = line level (word ++ expr_text names arm.test ++ codes " THEN") ++ texts_at (level + 1) arm.body
+arm_step names arm word level =
+    line level (word ++ expr_text names arm.test ++ codes " THEN") ++ texts_at (level + 1) arm.body
 
+-- an arm of a CASE: its labels on a line one level in, and its statements two levels in
 abbrev pub case_step : CaseArm-F Text ArmText CaseText → CaseText
 case_step arm ty level = line (level + 1) (labels_text ty arm.labels ++ codes ":") ++ texts_at (level + 2) arm.body
 
+-- a statement whose inner statements are spelled as given; a CASE spells its labels in the type of its
+-- selector
 abbrev pub statement_step : Names → S.Stmt-F Text ArmText CaseText → Text
-statement_step names (S.Assign v e) level = line level (var_text names v ++ codes " := " ++ expr_text names e ++ codes ";")
-statement_step names (S.AreaWrite w p e) level = line level (codes "AREA_WRITE_" ++ width_word w ++ codes "(" ++ expr_text names p ++ codes ", " ++ expr_text names e ++ codes ");")
+statement_step names (S.Assign v e) level =
+    line level (var_text names v ++ codes " := " ++ expr_text names e ++ codes ";")
+statement_step names (S.AreaWrite w p e) level =
+    line level
+    (codes "AREA_WRITE_" ++ width_word w ++ codes "(" ++ expr_text names p ++ codes ", " ++ expr_text names e
+    ++ codes ");")
 statement_step names (S.Invoke unit vars) level = line level (call_text names (slice_get names.units unit) vars)
-statement_step names (S.If arms other) level = arms_text level arms ++ else_text level other ++ line level (codes "END_IF;")
+statement_step names (S.If arms other) level =
+    arms_text level arms ++ else_text level other ++ line level (codes "END_IF;")
 statement_step names (S.Case e arms other) level =
-    line level (codes "CASE " ++ expr_text names e ++ codes " OF") ++ flat_map (λ arm. arm (type_of names e) level) arms ++ else_text level other ++ line level (codes "END_CASE;")
-statement_step names (S.While e body) level = line level (codes "WHILE " ++ expr_text names e ++ codes " DO") ++ texts_at (level + 1) body ++ line level (codes "END_WHILE;")
+    line level (codes "CASE " ++ expr_text names e ++ codes " OF")
+    ++ flat_map (λ arm. arm (type_of names e) level) arms ++ else_text level other
+    ++ line level (codes "END_CASE;")
+statement_step names (S.While e body) level =
+    line level (codes "WHILE " ++ expr_text names e ++ codes " DO") ++ texts_at (level + 1) body
+    ++ line level (codes "END_WHILE;")
 statement_step names S.Exit level = line level (codes "EXIT;")
 statement_step names S.Continue level = line level (codes "CONTINUE;")
 statement_step names S.Return level = line level (codes "RETURN;")
@@ -188,10 +214,11 @@ statement_step names S.Return level = line level (codes "RETURN;")
 abbrev pub statement_text : Names → Stmt → Text
 statement_text names = fold-Stmt Text ArmText CaseText (statement_step names) (arm_step names) case_step
 
--- an arm of an IF, and one of a CASE
+-- the text of an arm of an IF
 abbrev pub arm_text : Names → Arm → ArmText
 arm_text names = fold-Arm Text ArmText CaseText (statement_step names) (arm_step names) case_step
 
+-- the text of an arm of a CASE
 abbrev pub case_text : Names → CaseArm → CaseText
 case_text names = fold-CaseArm Text ArmText CaseText (statement_step names) (arm_step names) case_step
 
@@ -201,6 +228,7 @@ body_text names level body = texts_at level (map (statement_text names) body)
 
 -- Units
 
+-- a declaration of a formal or a local, on a line two levels in
 unfoldable pub local_text : Local → List ℕ
 local_text local = line 2 (local.name ++ codes " : " ++ type_word local.ty ++ codes ";")
 
@@ -209,6 +237,7 @@ abbrev pub section_text : List ℕ → List Local → List ℕ
 section_text word [] = []
 section_text word (first ∷ more) = line 1 word ++ flat_map local_text (first ∷ more) ++ line 1 (codes "END_VAR")
 
+-- the first word of a unit
 abbrev pub unit_word : Bool → List ℕ
 unit_word true = codes "PROGRAM"
 unit_word false = codes "FUNCTION"
@@ -220,7 +249,8 @@ names_in tree unit = record { globals = tree.globals; units = tree.pous; formals
 -- a unit between its heading and its end word
 unfoldable pub unit_text : StProgram → Pou → List ℕ
 unit_text tree unit =
-    line 0 (unit_word unit.program ++ codes " " ++ unit.name) ++ section_text (codes "VAR_IN_OUT") unit.formals ++ section_text (codes "VAR_TEMP") unit.locals
+    line 0 (unit_word unit.program ++ codes " " ++ unit.name) ++ section_text (codes "VAR_IN_OUT") unit.formals
+    ++ section_text (codes "VAR_TEMP") unit.locals
     ++ body_text (names_in tree unit) 1 unit.body ++ line 0 (codes "END_" ++ unit_word unit.program)
 
 -- Globals
@@ -233,19 +263,23 @@ byte_text b = codes "16#" ++ hexadecimal 2 b
 abbrev pub run_text : ℕ → ℕ → List ℕ
 run_text count b = if count == 1 then byte_text b else decimal count ++ codes "(" ++ byte_text b ++ codes ")"
 
--- the list of these bytes behind so many equal ones
+-- the list of these bytes after so many equal ones
 abbrev pub list_behind : ℕ → ℕ → List ℕ → List ℕ
 list_behind count b [] = run_text count b
-list_behind count b (next ∷ rest) = if b == next then list_behind (count + 1) b rest else run_text count b ++ codes ", " ++ list_behind 1 next rest
+list_behind count b (next ∷ rest) =
+    if b == next then list_behind (count + 1) b rest else run_text count b ++ codes ", " ++ list_behind 1 next rest
 
 -- bytes, equal ones that stand together as one item
 abbrev pub list_text : List ℕ → List ℕ
 list_text [] = []
 list_text (b ∷ rest) = list_behind 1 b rest
 
+-- a data block as a global: its location, its last index, and its bytes, which are always written
 unfoldable pub block_text : DataBlock → List ℕ
 block_text block =
-    line 1 (codes "DB" ++ decimal block.number ++ codes " AT %DB" ++ decimal block.number ++ codes ".DBB0 : ARRAY[0.." ++ decimal (length block.bytes - 1) ++ codes "] OF BYTE := ["
+    line 1
+    (codes "DB" ++ decimal block.number ++ codes " AT %DB" ++ decimal block.number ++ codes ".DBB0 : ARRAY[0.."
+    ++ decimal (length block.bytes - 1) ++ codes "] OF BYTE := ["
     ++ list_text block.bytes ++ codes "];")
 
 -- the letter of the area of a global's place
@@ -254,14 +288,20 @@ place_word area.I = codes "I"
 place_word area.Q = codes "Q"
 place_word other = codes "M"
 
+-- a global on I, Q or M: its name, its location and its type, on a line one level in
 unfoldable pub global_text : Located → List ℕ
 global_text global =
-    line 1 (global.name ++ codes " AT %" ++ place_word global.place.area ++ place_text (width_at global.ty) global.place.byte global.place.bit ++ codes " : " ++ type_word global.ty ++ codes ";")
+    line 1
+    (global.name ++ codes " AT %" ++ place_word global.place.area
+    ++ place_text (width_at global.ty) global.place.byte global.place.bit ++ codes " : " ++ type_word global.ty
+    ++ codes ";")
 
 -- the section of globals, data blocks first; an empty one is not written
 abbrev pub globals_text : List DataBlock → List Located → List ℕ
 globals_text [] [] = []
-globals_text blocks globals = line 0 (codes "VAR_GLOBAL") ++ flat_map block_text blocks ++ flat_map global_text globals ++ line 0 (codes "END_VAR")
+globals_text blocks globals =
+    line 0 (codes "VAR_GLOBAL") ++ flat_map block_text blocks ++ flat_map global_text globals
+    ++ line 0 (codes "END_VAR")
 
 -- the whole text: data blocks, other globals, units
 abbrev pub spelling : StProgram → List ℕ

@@ -38,13 +38,15 @@ is_program (name.Ob n) = true
 is_program (name.Fc n) = false
 is_program (name.Fb n) = false
 
+-- both are programs, or both are functions
 abbrev pub is_same_kind : Bool → Bool → Bool
 is_same_kind false b = not b
 is_same_kind true b = b
 
 -- a unit is the one that a call means: it has its name, case ignored, and its kind
 abbrev pub is_meant : BlockName → Pou → Bool
-is_meant called unit = str_eq_ignore_ascii_case unit.name (called_name called) && is_same_kind (is_program called) unit.program
+is_meant called unit =
+    str_eq_ignore_ascii_case unit.name (called_name called) && is_same_kind (is_program called) unit.program
 
 -- the unit that a call means
 abbrev pub unit_called : BlockName → List Pou → Option Pou
@@ -70,7 +72,8 @@ abbrev pub FitFormals : List DataBlock → List Local → List (Place × Width) 
 FitFormals blocks [] [] = Unit {0}
 FitFormals blocks [] (actual ∷ actuals) = ⊥
 FitFormals blocks (formal ∷ formals) [] = ⊥
-FitFormals blocks (formal ∷ formals) (actual ∷ actuals) = FitsFormal blocks formal actual × FitFormals blocks formals actuals
+FitFormals blocks (formal ∷ formals) (actual ∷ actuals) =
+    FitsFormal blocks formal actual × FitFormals blocks formals actuals
 
 -- the unit of a function block has no formals, and the instance is there
 pub record FitsInstance (blocks : List DataBlock) (unit : Pou) (instance : ℕ) : Type 0 where
@@ -107,10 +110,12 @@ formals_given (name.Ob n) formals actuals = []
 formals_given (name.Fc n) formals actuals = references formals actuals
 formals_given (name.Fb n) formals actuals = []
 
--- the register variables at the start: all zero, but that DINO is the instance of a function block
+-- the register variables at the start: all zero
 abbrev pub all_zero : Reg → ℤ
 all_zero r = pos 0
 
+-- the register variables at the start of a call from outside: all zero, but that DINO is the instance
+-- of a function block
 abbrev pub registers_at_start : BlockName → ℕ → Reg → ℤ
 registers_at_start (name.Ob n) instance = all_zero
 registers_at_start (name.Fc n) instance = all_zero

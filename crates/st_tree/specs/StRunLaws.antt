@@ -21,4 +21,5 @@ EndStays =
 abbrev pub DepthIsFree : Type 0
 DepthIsFree =
     (tree : StProgram) (body : List Stmt) (units deep : ℕ) (s : State) → units ≤ deep
-    → body_meaning tree.globals (calls_to deep tree) body units s ≡ body_meaning tree.globals (calls_to units tree) body units s
+    → body_meaning tree.globals (calls_to deep tree) body units s
+    ≡ body_meaning tree.globals (calls_to units tree) body units s

@@ -38,15 +38,17 @@ pub record State : Type 0 where
 abbrev pub depth : State → ℕ
 depth s = length s.activations - 1
 
--- the locals and the formals of an activation that is there
+-- the values of the locals of an activation; none where it is not there
 abbrev pub locals_of : Option Activation → List Value
 locals_of None = []
 locals_of (Some a) = a.locals
 
+-- what the formals of an activation stand for; none where it is not there
 abbrev pub formals_of : Option Activation → List Reference
 formals_of None = []
 formals_of (Some a) = a.formals
 
+-- two register variables are the same one
 abbrev pub is_same_register : Reg → Reg → Bool
 is_same_register q r = place q == place r
 
@@ -72,10 +74,11 @@ with_local (suc d) i v (a ∷ rest) = a ∷ with_local d i v rest
 
 -- Places
 
--- the numbers of the data blocks that DBNO and DINO name at an access, each a WORD
+-- the number of the data block that DBNO names at an access, a WORD; 0 where none is open
 abbrev pub db_number : State → ℕ
 db_number s = pattern 16 (s.registers reg.DbNo)
 
+-- the number of the data block that DINO names at an access, a WORD; 0 where none is open
 abbrev pub di_number : State → ℕ
 di_number s = pattern 16 (s.registers reg.DiNo)
 
@@ -119,9 +122,11 @@ abbrev pub reference_of : List Located → Var → State → Result Reference Fa
 reference_of globals (var.Register r) s = Ok (reference.Register r)
 reference_of globals (var.Local i) s = Ok (reference.Local (depth s) i)
 reference_of globals (var.Formal i) s = there (slice_get (formals_of (slice_get s.activations (depth s))) i)
-reference_of globals (var.Global i) s = and_then (there (slice_get globals i)) (λ (g : Located). Ok (reference.Place g.place g.ty))
+reference_of globals (var.Global i) s =
+    and_then (there (slice_get globals i)) (λ (g : Located). Ok (reference.Place g.place g.ty))
 reference_of globals (var.Direct a byte x w) s = Ok (reference.Place (place_of a byte x s) (type_of_width w))
-reference_of globals (var.InBlock n byte x w) s = Ok (reference.Place (record { area = area.Db n; byte = byte; bit = x }) (type_of_width w))
+reference_of globals (var.InBlock n byte x w) s =
+    Ok (reference.Place (record { area = area.Db n; byte = byte; bit = x }) (type_of_width w))
 
 -- the value at a reference
 abbrev pub read_at : Reference → State → Result Value Fault
@@ -133,8 +138,10 @@ read_at (reference.Place p ty) s = read_place ty p s.memory
 abbrev pub write_at : Reference → Value → State → Result State Fault
 write_at (reference.Register r) v s = Ok (record s { registers = with_register r v.n s.registers })
 write_at (reference.Local d i) v s =
-    and_then (there (slice_get (locals_of (slice_get s.activations d)) i)) (λ (old : Value). Ok (record s { activations = with_local d i v s.activations }))
-write_at (reference.Place p ty) v s = and_then (write_place ty p v s.memory) (λ memory. Ok (record s { memory = memory }))
+    and_then (there (slice_get (locals_of (slice_get s.activations d)) i))
+    (λ (old : Value). Ok (record s { activations = with_local d i v s.activations }))
+write_at (reference.Place p ty) v s =
+    and_then (write_place ty p v s.memory) (λ memory. Ok (record s { memory = memory }))
 
 -- the value of a variable
 abbrev pub read : List Located → Var → State → Result Value Fault

@@ -28,6 +28,7 @@ abbrev pub local_type : Option Local → StType
 local_type None = type.Bool
 local_type (Some local) = local.ty
 
+-- the type of a global; a position past the last has none, and BOOL stands for it
 abbrev pub global_type : Option Located → StType
 global_type None = type.Bool
 global_type (Some global) = global.ty
@@ -58,6 +59,7 @@ binary_type binary.Eq left = type.Bool
 binary_type binary.Ne left = type.Bool
 binary_type other left = left
 
+-- the type of an expression by those of its operands; they are not tested here
 abbrev pub type_step : Names → E.Expr-F StType → StType
 type_step names (E.Literal ty n) = ty
 type_step names (E.Read v) = var_type names v

@@ -49,6 +49,7 @@ width_word width.Byte = codes "B"
 width_word width.Word = codes "W"
 width_word width.Dword = codes "D"
 
+-- the name of a type
 abbrev pub type_word : StType → List ℕ
 type_word type.Bool = codes "BOOL"
 type_word type.Byte = codes "BYTE"
@@ -82,6 +83,7 @@ infix_word binary.And = codes " AND "
 infix_word binary.Xor = codes " XOR "
 infix_word binary.Or = codes " OR "
 
+-- the name of a shift or a rotation
 abbrev pub shift_word : ShiftOp → List ℕ
 shift_word shifts.Shl = codes "SHL"
 shift_word shifts.Shr = codes "SHR"

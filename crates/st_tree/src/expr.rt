@@ -83,7 +83,8 @@ pub enum Var {
 /// An expression, without the brackets of a text.
 #[derive(Debug, Drop, PartialEq)]
 pub enum Expr {
-    /// A value of its type. FALSE is 0 and TRUE is 1; that of a bit type is its pattern, read without a sign.
+    /// A value of its type. FALSE is 0 and TRUE is 1; that of a bit type is its pattern, read without a
+    /// sign.
     Literal(StType, i64),
 
     Read(Var),
@@ -140,41 +141,5 @@ impl Expr {
                 Ok(Expr::AreaRead(*width, pointer))
             }
         }
-    }
-}
-
-#[cfg(test)]
-mod tests {
-    use super::*;
-    use std::test::Fail;
-
-    fn read(register: Reg) -> Expr {
-        Expr::Read(Var::Register(register))
-    }
-
-    #[test]
-    fn copies_an_expression(rt: HostRuntime) -> Result<(), Fail> {
-        let alloc = rt.alloc();
-        let first_check = Expr::Unary(UnaryOp::Not, Boxed::new(alloc, read(Reg::Nfc))?);
-        let left = Expr::Binary(
-            BinaryOp::Or,
-            Boxed::new(alloc, read(Reg::Rlo))?,
-            Boxed::new(alloc, first_check)?,
-        );
-        let bit = Expr::Read(Var::Direct(AreaName::I, 0, 1, Width::Bit));
-        let whole = Expr::Binary(
-            BinaryOp::And,
-            Boxed::new(alloc, left)?,
-            Boxed::new(alloc, bit)?,
-        );
-        assert_eq!(rt; whole.copy(alloc)?, whole);
-        Ok(())
-    }
-
-    #[test]
-    fn copies_a_literal(rt: HostRuntime) -> Result<(), Fail> {
-        let literal = Expr::Literal(StType::Bool, 1);
-        assert_eq!(rt; literal.copy(rt.alloc())?, literal);
-        Ok(())
     }
 }

@@ -17,10 +17,10 @@ pub enum Stmt {
     /// Calls the unit at this position, with one variable for each of its formals, in their order.
     Invoke(u32, List<Var>),
 
-    /// The first arm whose test is TRUE, or else the statements behind them.
+    /// The first arm whose test is TRUE, or else the statements after them.
     If(List<Arm>, List<Stmt>),
 
-    /// The first arm that has the expression's value, or else the statements behind them.
+    /// The first arm that has the expression's value, or else the statements after them.
     Case(Expr, List<CaseArm>, List<Stmt>),
 
     While(Expr, List<Stmt>),

@@ -23,7 +23,7 @@ same_keys (x ∷ xs) (y ∷ ys) h =
 
 -- What stands under a key
 
--- what stands under a key in one table behind another
+-- what stands under a key in one table after another
 pub looked_behind : (k : List ℕ) (xs ys : Table Meaning) → look_up k (xs ++ ys) ≡ or_else (look_up k xs) (look_up k ys)
 looked_behind k [] ys = refl
 looked_behind k (x ∷ xs) ys = by (is_same k x.0) (looked_behind k xs ys)
@@ -60,7 +60,7 @@ apart_between k m (x ∷ xs) ys a h = by (is_same k x.0) refl (λ q. apart_betwe
     by true e more q = absurd cc
     by false e more q = (missing_between x.0 k m xs ys (nat_list_eq_equiv.symm x.0 k ∙ e) a.0, more q)
 
--- a key that stands behind some others is none of them
+-- a key that stands after some others is none of them
 pub is_new : (k : List ℕ) (m : Meaning) (xs ys : Table Meaning) → AreApart (xs ++ (k, m) ∷ ys) → look_up k xs ≡ None
 is_new k m [] ys a = refl
 is_new k m (x ∷ xs) ys a = by (is_same k x.0) refl (is_new k m xs ys a.1)
@@ -105,7 +105,7 @@ not_twice : (line : Line) (first : Option Meaning) → twice line first ≡ [] �
 not_twice line None h = refl
 not_twice line (Some m) h = absurd cc
 
--- a new name goes behind the others
+-- a new name goes after the others
 goes_last : (k : List ℕ) (m : Meaning) (names : Table Meaning) → look_up k names ≡ None → with_entry k m names ≡ names ++ (k, m) ∷ []
 goes_last k m names h = ap (λ (o : Option Meaning). cond (is_some o) names (names ++ (k, m) ∷ [])) h
 
@@ -121,7 +121,7 @@ pub declared_last : (line : Line) (k : List ℕ) (m : Meaning) (names es : Table
     → Lists (with_entry k m names) (es ++ (k, m) ∷ [])
 declared_last line k m names es l h = declared_between line k m names es [] (subst (λ (table : Table Meaning). Lists names table) (sym (append-nil es)) l) h
 
--- where no key stands twice, the first of more declarations breaks no rule and goes behind the others
+-- where no key stands twice, the first of more declarations breaks no rule and goes after the others
 pub record IsNew (line : Line) (k : List ℕ) (m : Meaning) (names more : Table Meaning) : Type 0 where
   pub none : look_up k names ≡ None
   pub once : twice line (look_up k names) ≡ []

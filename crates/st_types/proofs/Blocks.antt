@@ -8,7 +8,7 @@ use Rattle.st_types.specs.Globals.{inserted}
 further : (n : ℕ) (c b : DataBlock) (cs : List DataBlock) → insert (c ∷ cs) (1 + n) b ≡ c ∷ insert cs n b
 further n c b cs = let e : 1 + n ≡ suc n = omega arith in ap (λ k. insert (c ∷ cs) k b) e
 
--- it goes behind those with lesser numbers at the front
+-- it goes after those with lesser numbers at the front
 pub placed : (b : DataBlock) (cs : List DataBlock) → insert cs (prefix_len (λ (c : DataBlock). nat_lt c.number b.number) cs) b ≡ inserted b cs
 placed b [] = refl
 placed b (c ∷ cs) = step (nat_lt c.number b.number) (placed b cs)

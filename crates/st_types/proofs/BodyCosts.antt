@@ -28,7 +28,7 @@ use Rattle.st_types.specs.Names.{key_of}
 use Rattle.st_types.specs.Scopes.{meaning_in}
 use Rattle.st_types.specs.Statements.{Armed, Done, Labelled, action, area_write_of, arm, arm_of, arm_step, arms_on, assignment_of, case_arm, case_arm_step, case_arms_on, case_of, kind_step, label_breaks, selector, statement, statement_step, statements, test, type_of_selector, while_of}
 use Rattle.st_types.specs.Types.{is_type}
-use Rattle.st_types.specs.declared.call.Call.{Call}
+use Rattle.call_chains.specs.declared.call.Call.{Call}
 use Rattle.st_types.specs.declared.expression.Typed.{Typed}
 use Rattle.st_types.specs.declared.scope.Scope.{Scope}
 use Rattle.st_types.specs.declared.variable.TypedVar.{TypedVar}

@@ -4,13 +4,10 @@ pub mod BlockKeys
 pub mod BlockSizes
 pub mod Blocks
 pub mod BodyCosts
-pub mod Cycles
 pub mod DataBlocks
 pub mod Declared
 pub mod DeclaredNames
 pub mod FirstBreak
-pub mod Followed
-pub mod FoundCycle
 pub mod GlobalAreas
 pub mod NameRows
 pub mod Nesting
@@ -18,7 +15,6 @@ pub mod OneAnswer
 pub mod PlainNumbers
 pub mod PlainTexts
 pub mod RawNests
-pub mod Reached
 pub mod Redeclared
 pub mod Refusals
 pub mod RunnableUnits

@@ -4,7 +4,8 @@ use Rattle.s7_base.specs.declared.reason.Line.{Line}
 use Rattle.s7_base.specs.declared.reason.Reason.{Reason}
 use Rattle.st_tree.specs.declared.raw.RawPou.{RawPou}
 use Rattle.st_tree.specs.declared.raw.RawSt.{RawSt}
-use Rattle.st_types.specs.Chain.{Graph, NoCycle, FirstCycle, call_at, first_long_chain}
+use Rattle.call_chains.specs.Chain.{Graph, NoCycle, FirstCycle, call_at}
+use Rattle.st_types.specs.LongChains.{first_long_chain}
 use Rattle.st_types.specs.Typed.{BreaksChain, IsChain, calls_in, chained, cycle, long, named, names_of, no_unit}
 use Rattle.st_types.specs.Declarations.{formals_of}
 use Rattle.st_types.specs.Units.{calls_of_unit}

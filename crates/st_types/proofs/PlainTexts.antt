@@ -170,7 +170,7 @@ sound_located (l ∷ ls) (g ∷ gs) a p =
 
 -- What is declared outside the units
 
--- some declarations more break no rule, and their names go behind those before them
+-- some declarations more break no rule, and their names go after those before them
 record Goes (d e : Outside) (entries more : Table Meaning) : Type 0 where
   sound : e.breaks ≡ []
   order : e.names ++ more ≡ d.names ++ (entries ++ more)

@@ -54,7 +54,7 @@ arm_nest_is test body = fold-roll-RawArm ℕ ℕ ℕ ℕ nest_step arm_step case
 pub case_nest_is : (labels : List (StType × ℤ)) (body : List RawStmt) → case_nest (roll-RawCaseArm (record { labels = labels; body = body })) ≡ raw_nest body
 case_nest_is labels body = fold-roll-RawCaseArm ℕ ℕ ℕ ℕ nest_step arm_step case_arm_step statement_step (record { labels = labels; body = body })
 
--- one part more behind some parts
+-- one part more after some parts
 pub greatest_last : {X : Type 0} (f : X → ℕ) (xs : List X) (x : X) → greatest (map f (xs ++ x ∷ [])) ≡ max (greatest (map f xs)) (f x)
 greatest_last f [] x = omega arith
 greatest_last f (y ∷ xs) x = let rest = greatest_last f xs x in omega (arith, rest)

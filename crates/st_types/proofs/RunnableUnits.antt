@@ -22,7 +22,8 @@ use Rattle.st_types.proofs.BodyCosts.{OfEach, body_within, most_invoke, nil_firs
 use Rattle.st_types.proofs.FirstBreak.{first_of_all_is_first}
 use Rattle.st_types.specs.Broken.{breaks_in, listed}
 use Rattle.st_types.specs.Calls.{call_on}
-use Rattle.st_types.specs.Chain.{Graph, calls_one, chain_break, chains, long_chains}
+use Rattle.call_chains.specs.Chain.{Graph, calls_one, chains}
+use Rattle.st_types.specs.LongChains.{chain_break, long_chains}
 use Rattle.st_types.specs.Declarations.{all_inside, all_outside, formals_of, local_of}
 use Rattle.st_types.specs.Globals.{all_global_breaks}
 use Rattle.st_types.specs.Invocations.{Actual, callee, invocation}
@@ -31,7 +32,7 @@ use Rattle.st_types.specs.Scopes.{meaning_in}
 use Rattle.st_types.specs.Statements.{statements}
 use Rattle.st_types.specs.Typed.{HasTree, breaks_of, calls_in, first_break, names_of}
 use Rattle.st_types.specs.Units.{all_unit_breaks, all_units, breaks_of_unit, calls_of_unit, calls_of_units, scope_in, unit_of}
-use Rattle.st_types.specs.declared.call.Call.{Call}
+use Rattle.call_chains.specs.declared.call.Call.{Call}
 use Rattle.st_types.specs.declared.scope.Formals.{Formals}
 use Rattle.st_types.specs.declared.scope.Meaning.{Meaning}
 use Rattle.st_types.specs.declared.scope.Scope.{Scope}

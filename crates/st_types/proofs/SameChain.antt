@@ -8,10 +8,11 @@ use Rattle.memory_areas.specs.declared.sizes.TheConstants.{ACTIVATIONS}
 use Rattle.s7_base.specs.declared.reason.Line.{Line}
 use Rattle.st_tree.specs.declared.raw.RawPou.{RawPou}
 use Rattle.st_types.specs.Broken.{first_of_all}
-use Rattle.st_types.specs.Chain.{Graph, NoCycle, call_at, call_in, calls_one, chain_break, chains, follow, long_chains, with_call}
+use Rattle.call_chains.specs.Chain.{Graph, NoCycle, call_at, call_in, calls_one, chains, follow, with_call}
+use Rattle.st_types.specs.LongChains.{chain_break, long_chains}
 use Rattle.st_types.specs.Typed.{IsChain}
 use Rattle.st_types.specs.declared.broken.Break.{Break}
-use Rattle.st_types.specs.declared.call.Call.{Call}
+use Rattle.call_chains.specs.declared.call.Call.{Call}
 use Rattle.st_types.proofs.BodyCosts.{nil_first, nil_second}
 use Rattle.st_types.proofs.FirstBreak.{first_of_all_is_first}
 

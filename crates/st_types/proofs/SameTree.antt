@@ -15,7 +15,7 @@ use Rattle.st_types.specs.Globals.{all_global_breaks, all_located}
 use Rattle.st_types.specs.Statements.{statements}
 use Rattle.st_types.specs.Typed.{HasTree, IsChain, breaks_of, calls_in, names_of, tree_of}
 use Rattle.st_types.specs.Units.{all_unit_breaks, all_units, breaks_of_unit, calls_of_unit, scope_in, unit_of}
-use Rattle.st_types.specs.declared.call.Call.{Call}
+use Rattle.call_chains.specs.declared.call.Call.{Call}
 use Rattle.st_types.specs.declared.scope.Scope.{Scope}
 use Rattle.st_types.proofs.Redeclared.{AreLocalsAt, IsUnitAt, Redeclares}
 use Rattle.st_types.proofs.SameChain.{same_chain}

@@ -11,7 +11,7 @@ use Rattle.st_tree.specs.declared.program.Stmt.TheVariants as stmt
 use Rattle.st_tree.specs.declared.raw.RawVar.{RawVar}
 use Rattle.st_tree.specs.declared.raw.RawVar.TheVariants as raw
 use Rattle.st_types.specs.Broken.{broken, breaks_rule, first_of_all, sound}
-use Rattle.st_types.specs.Chain.{Graph, chains, follow}
+use Rattle.call_chains.specs.Chain.{Graph, chains, follow}
 use Rattle.st_types.specs.Declarations.{one_too_many}
 use Rattle.st_types.specs.Globals.{block_breaks, block_number, contents, fits_type, inserted}
 use Rattle.st_types.specs.Invocations.{call_with, formal_breaks}

@@ -69,7 +69,7 @@ nothing = record { found = None; breaks = [] }
 abbrev pub breaks_rule : {T : Type 0} → Line → Reason → Judged T
 breaks_rule line rule = record { found = None; breaks = broken line rule }
 
--- a part behind parts that break some rules
+-- a part after parts that break some rules
 abbrev pub behind : {T : Type 0} → List Break → Judged T → Judged T
 behind breaks j = record { found = j.found; breaks = breaks ++ j.breaks }
 

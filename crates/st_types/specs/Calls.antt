@@ -11,7 +11,7 @@ use Rattle.st_tree.specs.declared.raw.RawStmtKind.TheOpen as K
 use Rattle.st_types.specs.Invocations.{callee}
 use Rattle.st_types.specs.Names.{key_of}
 use Rattle.st_types.specs.Scopes.{meaning_in}
-use Rattle.st_types.specs.declared.call.Call.{Call}
+use Rattle.call_chains.specs.declared.call.Call.{Call}
 use Rattle.st_types.specs.declared.scope.Scope.{Scope}
 
 -- all calls of some parts
@@ -27,6 +27,8 @@ call_on line (Err rule) = []
 abbrev pub OnLine : Type 0
 OnLine = Line → List Call
 
+-- the calls of what a statement does, on its line, by those of the statements in it; a name that is no
+-- function calls nothing
 abbrev pub kind_step : Scope → K.RawStmtKind-F OnLine (List Call) (List Call) (List Call) → OnLine
 kind_step scope (K.Assign v e) line = []
 kind_step scope (K.AreaWrite w p e) line = []
@@ -38,27 +40,37 @@ kind_step scope K.Exit line = []
 kind_step scope K.Continue line = []
 kind_step scope K.Return line = []
 
+-- the calls of an arm of an IF, in the order of its statements
 abbrev pub arm_step : RawArm-F OnLine (List Call) (List Call) (List Call) → List Call
 arm_step a = joined a.body
 
+-- the calls of an arm of a CASE, in the order of its statements
 abbrev pub case_arm_step : RawCaseArm-F OnLine (List Call) (List Call) (List Call) → List Call
 case_arm_step a = joined a.body
 
+-- the calls of a statement, whose own call stands on its line
 abbrev pub statement_step : RawStmt-F OnLine (List Call) (List Call) (List Call) → List Call
 statement_step s = s.kind s.line
 
--- the calls of a statement, of its arms and of what it does
+-- the calls of a statement, in the order of the text
 abbrev pub calls_of : Scope → RawStmt → List Call
-calls_of scope = fold-RawStmt OnLine (List Call) (List Call) (List Call) (kind_step scope) arm_step case_arm_step statement_step
+calls_of scope =
+    fold-RawStmt OnLine (List Call) (List Call) (List Call) (kind_step scope) arm_step case_arm_step statement_step
 
+-- the calls of an arm of an IF
 abbrev pub calls_of_arm : Scope → RawArm → List Call
-calls_of_arm scope = fold-RawArm OnLine (List Call) (List Call) (List Call) (kind_step scope) arm_step case_arm_step statement_step
+calls_of_arm scope =
+    fold-RawArm OnLine (List Call) (List Call) (List Call) (kind_step scope) arm_step case_arm_step statement_step
 
+-- the calls of an arm of a CASE
 abbrev pub calls_of_case_arm : Scope → RawCaseArm → List Call
-calls_of_case_arm scope = fold-RawCaseArm OnLine (List Call) (List Call) (List Call) (kind_step scope) arm_step case_arm_step statement_step
+calls_of_case_arm scope =
+    fold-RawCaseArm OnLine (List Call) (List Call) (List Call) (kind_step scope) arm_step case_arm_step statement_step
 
+-- the calls of what a statement does, once its line is known
 abbrev pub calls_of_action : Scope → RawStmtKind → OnLine
-calls_of_action scope = fold-RawStmtKind OnLine (List Call) (List Call) (List Call) (kind_step scope) arm_step case_arm_step statement_step
+calls_of_action scope =
+    fold-RawStmtKind OnLine (List Call) (List Call) (List Call) (kind_step scope) arm_step case_arm_step statement_step
 
 -- the calls of a list of statements
 abbrev pub all_calls : Scope → List RawStmt → List Call

@@ -126,9 +126,10 @@ types_of formals = fold with_type [] formals
 abbrev pub formals_of : RawPou → Formals
 formals_of u = record { keys = keys_of u.formals; types = types_of u.formals }
 
--- formals and locals in the tree
+-- a formal or a local in the tree
 abbrev pub local_of : RawLocal → Local
 local_of l = record { name = l.name; ty = l.ty }
 
+-- the formals or the locals of a unit in the tree, in the order of the text
 abbrev pub locals_of : List RawLocal → List Local
 locals_of locals = map local_of locals

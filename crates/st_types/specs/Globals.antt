@@ -52,17 +52,19 @@ fits_type ty (raw.Direct a (Some n) w byte bit) = false
 -- a global in the tree, in an area
 abbrev pub located_in : List ℕ → StType → Option Area → ℕ → ℕ → Option Located
 located_in name ty None byte bit = None
-located_in name ty (Some a) byte bit = Some (record { name = name; place = record { area = a; byte = byte; bit = bit }; ty = ty })
+located_in name ty (Some a) byte bit =
+    Some (record { name = name; place = record { area = a; byte = byte; bit = bit }; ty = ty })
 
 -- a global in the tree, by its location; none where that is no address or does not fit its type
 abbrev pub located_at : List ℕ → StType → RawVar → Option Located
 located_at name ty (raw.Name other) = None
-located_at name ty (raw.Direct a None w byte bit) = if is_address a None w byte bit && has_width ty w then located_in name ty (area_of a) byte bit else None
+located_at name ty (raw.Direct a None w byte bit) =
+    if is_address a None w byte bit && has_width ty w then located_in name ty (area_of a) byte bit else None
 located_at name ty (raw.Direct a (Some n) w byte bit) = None
 
 -- Data blocks
 
--- a number from its digits, behind a number; above 4,294,967,295 it is that
+-- a number from its digits, after a number; above 4,294,967,295 it is that
 abbrev pub number_from : ℕ → List ℕ → ℕ
 number_from value [] = value
 number_from value (digit ∷ digits) = number_from (min (value * 10 + (digit - 48)) (2 ^ 32 - 1)) digits
@@ -71,6 +73,8 @@ number_from value (digit ∷ digits) = number_from (min (value * 10 + (digit - 4
 abbrev pub number_in : List ℕ → ℕ
 number_in key = if is_block_name key then number_from 0 (drop 2 key) else 0
 
+-- the number of a data block by its name as written, in any case and with zeros before it; 0 for
+-- another name
 abbrev pub block_number : List ℕ → ℕ
 block_number name = number_in (key_of name)
 
@@ -95,7 +99,7 @@ abbrev pub contents : ℕ → List (ℕ × ℕ) → List ℕ
 contents last [] = replicate (last + 1) 0
 contents last (run ∷ runs) = flat_map (λ (r : ℕ × ℕ). replicate r.0 r.1) (run ∷ runs)
 
--- a data block has not too many bytes
+-- a data block has no more bytes than it may
 abbrev pub is_small_enough : ℕ → Bool
 is_small_enough last = nat_le (last + 1) MOST_BLOCK_BYTES
 
@@ -111,7 +115,8 @@ has_block_form number at last list = is_start_of number at && nat_le 1 last && f
 abbrev pub block_breaks : Line → ℕ → RawVar → ℕ → List (ℕ × ℕ) → List Break
 block_breaks line number at last list =
     unless (has_block_address number at) (broken line BadAddress)
-    ++ (unless (is_small_enough last) (broken line TooLarge) ++ unless (has_block_form number at last list) (broken line TypeMismatch))
+    ++ (unless (is_small_enough last) (broken line TooLarge)
+    ++ unless (has_block_form number at last list) (broken line TypeMismatch))
 
 -- a data block of a number in the tree; none where a rule is broken
 abbrev pub block_at : ℕ → RawVar → ℕ → List (ℕ × ℕ) → Option DataBlock
@@ -132,25 +137,30 @@ with_block (Some b) blocks = if nat_lt (length blocks) MOST_BLOCKS then inserted
 
 -- Both
 
--- the global in the tree that is no data block, the data block, and the broken rules of a declaration
+-- the global on I, Q or M that a declaration gives, if it gives one
 abbrev pub located_of : RawGlobalType → List ℕ → RawVar → Option Located
 located_of (type.Plain ty) name at = located_at name ty at
 located_of (type.Bytes last list) name at = None
 
+-- the data block that a declaration gives, if it gives one and breaks no rule
 abbrev pub block_of : RawGlobalType → List ℕ → RawVar → Option DataBlock
 block_of (type.Plain ty) name at = None
 block_of (type.Bytes last list) name at = block_at (block_number name) at last list
 
+-- the rules that a declaration breaks by its location, its size or its initial value
 abbrev pub global_breaks : RawGlobalType → Line → List ℕ → RawVar → List Break
-global_breaks (type.Plain ty) line name at = unless (has_address at) (broken line BadAddress) ++ unless (fits_type ty at) (broken line TypeMismatch)
+global_breaks (type.Plain ty) line name at =
+    unless (has_address at) (broken line BadAddress) ++ unless (fits_type ty at) (broken line TypeMismatch)
 global_breaks (type.Bytes last list) line name at = block_breaks line (block_number name) at last list
 
--- all globals in the tree that are no data blocks, all data blocks, and all broken rules
+-- all globals on I, Q and M, in the order of the text
 abbrev pub all_located : List RawGlobal → List Located
 all_located globals = flat_map (λ (g : RawGlobal). listed (located_of g.ty g.name g.at)) globals
 
+-- all data blocks, in ascending order of their numbers
 abbrev pub all_blocks : List RawGlobal → List DataBlock
 all_blocks globals = fold (λ blocks (g : RawGlobal). with_block (block_of g.ty g.name g.at) blocks) [] globals
 
+-- the rules that all declarations of globals break by their locations, sizes and initial values
 abbrev pub all_global_breaks : List RawGlobal → List Break
 all_global_breaks globals = flat_map (λ (g : RawGlobal). global_breaks g.ty g.line g.name g.at) globals

@@ -83,7 +83,8 @@ in_order vars keys = flat_map (λ key. listed (var_given (look_up key vars))) ke
 
 -- a call with what its formals are given: each must be given something
 abbrev pub call_with : Line → ℕ → Table (Option Var) → List (List ℕ) → Judged Stmt
-call_with line i vars keys = if lacks vars keys then breaks_rule line TypeMismatch else sound (stmt.Invoke i (in_order vars keys))
+call_with line i vars keys =
+    if lacks vars keys then breaks_rule line TypeMismatch else sound (stmt.Invoke i (in_order vars keys))
 
 -- the rules that are broken in the variables of some actuals
 abbrev pub actual_breaks : Scope → Line → List Actual → List Break

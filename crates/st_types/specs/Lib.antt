@@ -1,15 +1,13 @@
 pub mod Broken
 pub mod Calls
-pub mod Chain
-pub mod Cycles
 pub mod Declarations
 pub mod Expressions
 pub mod Globals
 pub mod Invocations
+pub mod LongChains
 pub mod Names
 pub mod RawNesting
 pub mod Scopes
-pub mod Search
 pub mod Statements
 pub mod Typed
 pub mod TypedLaws

@@ -31,7 +31,8 @@ is_block_name [] = false
 is_block_name (a ∷ []) = false
 is_block_name (a ∷ b ∷ digits) = a == 68 && b == 66 && is_number digits
 
--- the number that the name of a data block has behind its letters, in digits without zeros before them
+-- the name of a data block without the zeros before its number, so that DB5 and DB05 are one name; any
+-- other name as it is
 abbrev pub with_plain_number : List ℕ → List ℕ
 with_plain_number name = if is_block_name name then 68 ∷ 66 ∷ without_zeros (drop 2 name) else name
 

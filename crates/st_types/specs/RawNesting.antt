@@ -22,25 +22,31 @@ nest_step K.Exit = 0
 nest_step K.Continue = 0
 nest_step K.Return = 0
 
+-- how deep the statements of an arm of an IF nest
 abbrev pub arm_step : RawArm-F ℕ ℕ ℕ ℕ → ℕ
 arm_step a = greatest a.body
 
+-- how deep the statements of an arm of a CASE nest
 abbrev pub case_arm_step : RawCaseArm-F ℕ ℕ ℕ ℕ → ℕ
 case_arm_step a = greatest a.body
 
+-- how deep a statement nests: as deep as what it does
 abbrev pub statement_step : RawStmt-F ℕ ℕ ℕ ℕ → ℕ
 statement_step s = s.kind
 
--- how deep a statement nests, its arms and what it does
+-- how deep a statement nests; 0 for one with no IF, CASE or WHILE
 abbrev pub nest : RawStmt → ℕ
 nest = fold-RawStmt ℕ ℕ ℕ ℕ nest_step arm_step case_arm_step statement_step
 
+-- how deep an arm of an IF nests
 abbrev pub arm_nest : RawArm → ℕ
 arm_nest = fold-RawArm ℕ ℕ ℕ ℕ nest_step arm_step case_arm_step statement_step
 
+-- how deep an arm of a CASE nests
 abbrev pub case_nest : RawCaseArm → ℕ
 case_nest = fold-RawCaseArm ℕ ℕ ℕ ℕ nest_step arm_step case_arm_step statement_step
 
+-- how deep what a statement does nests
 abbrev pub action_nest : RawStmtKind → ℕ
 action_nest = fold-RawStmtKind ℕ ℕ ℕ ℕ nest_step arm_step case_arm_step statement_step
 

@@ -42,4 +42,5 @@ as_register (Some r) = Some (meaning.Register r)
 
 -- what a key means in a unit: a register, else its formal or local, else what is declared outside
 abbrev pub meaning_in : Scope → List ℕ → Option Meaning
-meaning_in scope key = or_else (as_register (register_named key)) (or_else (look_up key scope.inner) (look_up key scope.outer))
+meaning_in scope key =
+    or_else (as_register (register_named key)) (or_else (look_up key scope.inner) (look_up key scope.outer))

@@ -32,28 +32,32 @@ use Rattle.st_types.specs.declared.variable.TypedVar.{TypedVar}
 abbrev pub assignment_of : Line → Option TypedVar → Option Typed → Judged Stmt
 assignment_of line None e = nothing
 assignment_of line (Some v) None = nothing
-assignment_of line (Some v) (Some e) = if is_type v.ty e.ty then sound (stmt.Assign v.var e.tree) else breaks_rule line TypeMismatch
+assignment_of line (Some v) (Some e) =
+    if is_type v.ty e.ty then sound (stmt.Assign v.var e.tree) else breaks_rule line TypeMismatch
 
 -- a write through a pointer, which is a DWORD, of a value of the width's bit type
 abbrev pub area_write_of : Line → Width → Option Typed → Option Typed → Judged Stmt
 area_write_of line w None e = nothing
 area_write_of line w (Some p) None = nothing
 area_write_of line w (Some p) (Some e) =
-    if is_type p.ty type.Dword && is_type e.ty (type_of_width w) then sound (stmt.AreaWrite w p.tree e.tree) else breaks_rule line TypeMismatch
+    if is_type p.ty type.Dword && is_type e.ty (type_of_width w) then sound (stmt.AreaWrite w p.tree e.tree)
+    else breaks_rule line TypeMismatch
 
--- the test of an IF or a WHILE is a BOOL
+-- the test of an IF or a WHILE, once its expression is judged: it must be a BOOL
 abbrev pub test_of : Line → Option Typed → Judged Expr
 test_of line None = nothing
 test_of line (Some e) = if is_type e.ty type.Bool then sound e.tree else breaks_rule line TypeMismatch
 
+-- the test of an IF or a WHILE, on the line of its statement
 abbrev pub test : Scope → Line → RawExpr → Judged Expr
 test scope line e = let j = expression scope line e in behind j.breaks (test_of line j.found)
 
--- the selector of a CASE is an INT or a DINT
+-- the selector of a CASE, once its expression is judged: it must be an INT or a DINT
 abbrev pub selector_of : Line → Option Typed → Judged Typed
 selector_of line None = nothing
 selector_of line (Some e) = if is_selector e.ty then sound e else breaks_rule line TypeMismatch
 
+-- the selector of a CASE, on the line of its statement
 abbrev pub selector : Scope → Line → RawExpr → Judged Typed
 selector scope line e = let j = expression scope line e in behind j.breaks (selector_of line j.found)
 
@@ -71,27 +75,31 @@ abbrev pub label_breaks : Line → Option StType → List (StType × ℤ) → Li
 label_breaks line None labels = []
 label_breaks line (Some ty) labels = if have_type ty labels then [] else broken line TypeMismatch
 
--- parts with the statements in them
+-- an arm of an IF; none where its test breaks a rule
 abbrev pub arm_of : Option Expr → List Stmt → Option Arm
 arm_of None body = None
 arm_of (Some e) body = Some (record { test = e; body = body })
 
+-- a WHILE; none where its test breaks a rule
 abbrev pub while_of : Option Expr → List Stmt → Option Stmt
 while_of None body = None
 while_of (Some e) body = Some (stmt.While e body)
 
+-- a CASE; none where its selector breaks a rule
 abbrev pub case_of : Option Typed → List CaseArm → List Stmt → Option Stmt
 case_of None arms other = None
 case_of (Some e) arms other = Some (stmt.Case e.tree arms other)
 
--- An arm waits for the line of its statement, an arm of a CASE for the type of the selector too, and what
--- a statement does for its line.
+-- an arm of an IF, which waits for the line of its statement
 abbrev pub Armed : Type 0
 Armed = Line → Judged Arm
 
+-- an arm of a CASE, which waits for the line of its statement and for the type of the selector, if
+-- there is one
 abbrev pub Labelled : Type 0
 Labelled = Line → Option StType → Judged CaseArm
 
+-- what a statement does, which waits for its line
 abbrev pub Done : Type 0
 Done = Line → Judged Stmt
 
@@ -109,10 +117,11 @@ case_arm_step a line ty = record {
   breaks = label_breaks line ty a.labels ++ breaks_in a.body;
 }
 
--- the arms on a line
+-- the arms of an IF, judged on its line
 abbrev pub arms_on : Line → List Armed → List (Judged Arm)
 arms_on line arms = map (λ (arm : Armed). arm line) arms
 
+-- the arms of a CASE, judged on its line and by the type of its selector
 abbrev pub case_arms_on : Line → Option StType → List Labelled → List (Judged CaseArm)
 case_arms_on line ty arms = map (λ (arm : Labelled). arm line ty) arms
 
@@ -134,7 +143,10 @@ kind_step scope (K.If arms other) line = record {
 kind_step scope (K.Case e arms other) line =
     let j = selector scope line e in
     let ks = case_arms_on line (type_of_selector j.found) arms in
-    record { found = case_of j.found (found_in ks) (found_in other); breaks = j.breaks ++ breaks_in ks ++ breaks_in other }
+    record {
+      found = case_of j.found (found_in ks) (found_in other);
+      breaks = j.breaks ++ breaks_in ks ++ breaks_in other;
+    }
 kind_step scope (K.While e body) line = record {
   found = while_of (test scope line e).found (found_in body);
   breaks = (test scope line e).breaks ++ breaks_in body;
@@ -143,21 +155,29 @@ kind_step scope K.Exit line = sound stmt.Exit
 kind_step scope K.Continue line = sound stmt.Continue
 kind_step scope K.Return line = sound stmt.Return
 
--- a statement on its line
+-- a statement, judged on its own line
 abbrev pub statement_step : RawStmt-F Done Armed Labelled (Judged Stmt) → Judged Stmt
 statement_step s = s.kind s.line
 
+-- a statement in a scope: what it is in the tree, and the rules that it breaks
 abbrev pub statement : Scope → RawStmt → Judged Stmt
-statement scope = fold-RawStmt Done Armed Labelled (Judged Stmt) (kind_step scope) (arm_step scope) case_arm_step statement_step
+statement scope =
+    fold-RawStmt Done Armed Labelled (Judged Stmt) (kind_step scope) (arm_step scope) case_arm_step statement_step
 
+-- an arm of an IF in a scope
 abbrev pub arm : Scope → RawArm → Armed
-arm scope = fold-RawArm Done Armed Labelled (Judged Stmt) (kind_step scope) (arm_step scope) case_arm_step statement_step
+arm scope =
+    fold-RawArm Done Armed Labelled (Judged Stmt) (kind_step scope) (arm_step scope) case_arm_step statement_step
 
+-- an arm of a CASE in a scope
 abbrev pub case_arm : Scope → RawCaseArm → Labelled
-case_arm scope = fold-RawCaseArm Done Armed Labelled (Judged Stmt) (kind_step scope) (arm_step scope) case_arm_step statement_step
+case_arm scope =
+    fold-RawCaseArm Done Armed Labelled (Judged Stmt) (kind_step scope) (arm_step scope) case_arm_step statement_step
 
+-- what a statement in a scope does, once its line is known
 abbrev pub action : Scope → RawStmtKind → Done
-action scope = fold-RawStmtKind Done Armed Labelled (Judged Stmt) (kind_step scope) (arm_step scope) case_arm_step statement_step
+action scope =
+    fold-RawStmtKind Done Armed Labelled (Judged Stmt) (kind_step scope) (arm_step scope) case_arm_step statement_step
 
 -- a list of statements
 abbrev pub statements : Scope → List RawStmt → List (Judged Stmt)

@@ -9,7 +9,8 @@ use Rattle.st_tree.specs.declared.program.StProgram.{StProgram}
 use Rattle.st_tree.specs.declared.raw.RawPou.{RawPou}
 use Rattle.st_tree.specs.declared.raw.RawSt.{RawSt}
 use Rattle.st_types.specs.Broken.{first_of_all}
-use Rattle.st_types.specs.Chain.{Graph, NoCycle, FirstCycle, first_long_chain}
+use Rattle.call_chains.specs.Chain.{Graph, NoCycle, FirstCycle}
+use Rattle.st_types.specs.LongChains.{first_long_chain}
 use Rattle.st_types.specs.Declarations.{all_outside, formals_of}
 use Rattle.st_types.specs.Globals.{all_blocks, all_global_breaks, all_located}
 use Rattle.st_types.specs.Names.{Table}
@@ -24,7 +25,8 @@ names_of raw = (all_outside raw.globals raw.pous).names
 -- all rules of names, types and places that are broken in a text
 abbrev pub breaks_of : RawSt → List Break
 breaks_of raw =
-    (all_outside raw.globals raw.pous).breaks ++ (all_global_breaks raw.globals ++ all_unit_breaks (names_of raw) (map formals_of raw.pous) raw.pous)
+    (all_outside raw.globals raw.pous).breaks
+    ++ (all_global_breaks raw.globals ++ all_unit_breaks (names_of raw) (map formals_of raw.pous) raw.pous)
 
 -- the first of them by line, then by number
 abbrev pub first_break : RawSt → Option Break
@@ -51,7 +53,9 @@ pub record IsChain (graph : Graph) (units : List RawPou) : Type 0 where
 -- the first rule that the chain of calls breaks: first cycles, then long chains, then that there is a unit
 pub data BreaksChain (graph : Graph) (units : List RawPou) : Line → Reason → Type 0 where
   cycle : {line : Line} → FirstCycle graph line → BreaksChain graph units line CallCycle
-  long : {line : Line} {rule : Reason} → NoCycle graph → first_long_chain graph units ≡ Some (record { line = line; rule = rule }) → BreaksChain graph units line rule
+  long : {line : Line} {rule : Reason} → NoCycle graph
+      → first_long_chain graph units ≡ Some (record { line = line; rule = rule })
+      → BreaksChain graph units line rule
   no_unit : {line : Line} → units ≡ [] → line.0 ≡ 1 → BreaksChain graph units line NoBlocks
 
 -- a text has a tree
@@ -60,16 +64,20 @@ pub record HasTree (raw : RawSt) (tree : StProgram) : Type 0 where
   pub chain : IsChain (calls_in raw) raw.pous
   pub same : tree ≡ tree_of raw
 
--- the first rule that a text breaks: first those of names, types and places, then those of the chain of calls
+-- the first rule that a text breaks: first those of names, types and places, then those of the chain of
+-- calls
 pub data Breaks (raw : RawSt) : Line → Reason → Type 0 where
-  named : {line : Line} {rule : Reason} → first_break raw ≡ Some (record { line = line; rule = rule }) → Breaks raw line rule
-  chained : {line : Line} {rule : Reason} → first_break raw ≡ None → BreaksChain (calls_in raw) raw.pous line rule → Breaks raw line rule
+  named : {line : Line} {rule : Reason} → first_break raw ≡ Some (record { line = line; rule = rule })
+      → Breaks raw line rule
+  chained : {line : Line} {rule : Reason} → first_break raw ≡ None → BreaksChain (calls_in raw) raw.pous line rule
+      → Breaks raw line rule
 
 -- a refusal names the first rule that is broken; or memory ran out
 abbrev pub IsRefused : RawSt → Rejection → Type 0
 IsRefused raw (rejection.Refused line rule) = Breaks raw line rule
 IsRefused raw rejection.NoMemory = Unit {0}
 
+-- a refusal names the first rule that the chain of calls breaks; or memory ran out
 abbrev pub IsChainRefused : Graph → List RawPou → Rejection → Type 0
 IsChainRefused graph units (rejection.Refused line rule) = BreaksChain graph units line rule
 IsChainRefused graph units rejection.NoMemory = Unit {0}

@@ -1,14 +1,12 @@
 -- A text has one answer: one tree, or one line and rule. And the first of some broken rules is one of
--- them before which no other comes; chains of calls are calls that are followed; and the data blocks of a
--- tree are ones that a memory may have.
-use Rattle.std.specs.Prelude.{◌≡◌, ℕ, ◌<◌, true, false, List, [], length, get_or, slice_get, Some, None}
+-- them before which no other comes; and the data blocks of a tree are ones that a memory may have.
+use Rattle.std.specs.Prelude.{◌≡◌, ℕ, false, List, [], slice_get, Some, None}
 use Rattle.memory_areas.specs.Areas.{AreBlocks}
 use Rattle.s7_base.specs.declared.reason.Line.{Line}
 use Rattle.s7_base.specs.declared.reason.Reason.{Reason}
 use Rattle.st_tree.specs.declared.program.StProgram.{StProgram}
 use Rattle.st_tree.specs.declared.raw.RawSt.{RawSt}
 use Rattle.st_types.specs.Broken.{comes_before, first_of_all}
-use Rattle.st_types.specs.Chain.{Graph, chains, follow}
 use Rattle.st_types.specs.Typed.{Breaks, HasTree}
 use Rattle.st_types.specs.declared.broken.Break.{Break}
 
@@ -34,19 +32,6 @@ pub record IsFirst (breaks : List Break) (b : Break) : Type 0 where
 pub record FirstOfAll : Type 0 where
   pub some : (breaks : List Break) (b : Break) → first_of_all breaks ≡ Some b → IsFirst breaks b
   pub none : (breaks : List Break) → first_of_all breaks ≡ None → breaks ≡ []
-
--- n calls one behind another are followed from a unit to a unit that is there
-pub record IsFollowed (graph : Graph) (n i : ℕ) : Type 0 where
-  pub calls : List ℕ
-  pub last : ℕ
-  pub size : length calls ≡ n
-  pub followed : follow graph i calls ≡ Some last
-  pub there : last < length graph
-
--- chains of n calls begin at the units from which n calls are followed, and at no other
-pub record ChainsAreFollowed : Type 0 where
-  pub sound : (graph : Graph) (n i : ℕ) → get_or (chains graph n) i false ≡ true → IsFollowed graph n i
-  pub complete : (graph : Graph) (n i : ℕ) → IsFollowed graph n i → get_or (chains graph n) i false ≡ true
 
 -- a memory may have the data blocks of a tree
 abbrev pub BlocksFit : Type 0

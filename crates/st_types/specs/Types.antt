@@ -84,13 +84,14 @@ type_of_read w pointer = where_true (is_type pointer type.Dword) (type_of_width 
 abbrev pub is_selector : StType → Bool
 is_selector ty = is_type ty type.Int || is_type ty type.Dint
 
--- how many bits a width and a type have
+-- how many bits a place of a width has
 abbrev pub bits_of_width : Width → ℕ
 bits_of_width width.Bit = 1
 bits_of_width width.Byte = 8
 bits_of_width width.Word = 16
 bits_of_width width.Dword = 32
 
+-- how many bits a value of a type has; no place has the 64 of a LINT
 abbrev pub bits_of_type : StType → ℕ
 bits_of_type type.Bool = 1
 bits_of_type type.Byte = 8

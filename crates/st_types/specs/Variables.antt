@@ -21,8 +21,8 @@ use Rattle.st_types.specs.declared.scope.Meaning.TheVariants as meaning
 use Rattle.st_types.specs.declared.scope.Scope.{Scope}
 use Rattle.st_types.specs.declared.variable.TypedVar.{TypedVar}
 
--- how many bytes a written address may reach in its area; that of a data block has a byte number of at
--- most 65,535, whatever its width
+-- the bytes of a written address lie in its area; in a data block, whose length shows at run time alone,
+-- its byte number is at most 65,535, whatever its width
 abbrev pub is_byte_in : AreaName → Width → ℕ → Bool
 is_byte_in area.I w byte = nat_le (byte + bytes_wide w) INPUT_BYTES
 is_byte_in area.Q w byte = nat_le (byte + bytes_wide w) OUTPUT_BYTES
@@ -50,9 +50,11 @@ variable_of ty v = Ok (record { ty = ty; var = v })
 
 -- a place that is written with its address, with the number of a data block where there is one
 abbrev pub place_at : AreaName → Option ℕ → Width → ℕ → ℕ → Result TypedVar Reason
-place_at a None w byte bit = if is_place a w byte bit then variable_of (type_of_width w) (var.Direct a byte bit w) else Err BadAddress
+place_at a None w byte bit =
+    if is_place a w byte bit then variable_of (type_of_width w) (var.Direct a byte bit w) else Err BadAddress
 place_at a (Some n) w byte bit =
-    if is_block_number n && is_place area.Db w byte bit then variable_of (type_of_width w) (var.InBlock n byte bit w) else Err BadAddress
+    if is_block_number n && is_place area.Db w byte bit then variable_of (type_of_width w) (var.InBlock n byte bit w)
+    else Err BadAddress
 
 -- what a name means as a variable: a unit or a data block is none
 abbrev pub variable_named : Option Meaning → Result TypedVar Reason

@@ -5,16 +5,10 @@ ghost use Rattle.st_types.specs.Calls.{all_calls, call_on, calls_of, calls_of_ac
 use crate::invocation::callee;
 use crate::names::key_of;
 use crate::scope::Scope;
+use call_chains::Call;
 use s7_base::{Line, List, NoMemory, Reason};
 use st_tree::{RawArm, RawCaseArm, RawStmt, RawStmtKind};
 use std::alloc::Global;
-
-/// A call: its line, and the position of the function that is called.
-#[derive(Clone, Copy, Debug, PartialEq, Eq)]
-pub struct Call {
-    pub line: Line,
-    pub callee: u32,
-}
 
 fn call_on(line: Line, called: Result<u32, Reason>, calls: &mut List<Call>) -> Result<(), NoMemory>
     ensures { OnOk result (calls.new ≡ calls.old ++ call_on line called) }

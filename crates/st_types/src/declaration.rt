@@ -36,7 +36,7 @@ pub struct Inside {
     pub breaks: List<Break>,
 }
 
-/// A sum that a position in the tree can be. One that is too great counts as want of memory.
+/// A sum that a position in the tree can be. One that is too great counts as out of memory.
 fn sum_of(a: u32, b: u32) -> Result<u32, NoMemory>
     ensures { IfOk result (λ sum. sum ≡ a + b) }
 {

@@ -311,9 +311,11 @@ fn with_plain(
     global: &RawGlobal,
     ty: StType,
 ) -> Result<(), NoMemory>
-    ensures located { OnOk result (all.new.located ≡ all.old.located ++ listed (located_at global.now.name ty global.now.at)) }
+    ensures located { OnOk result (all.new.located ≡ all.old.located
+        ++ listed (located_at global.now.name ty global.now.at)) }
     ensures blocks { OnOk result (all.new.blocks ≡ all.old.blocks) }
-    ensures breaks { OnOk result (all.new.breaks ≡ all.old.breaks ++ global_breaks (RawGlobalType.Plain ty) global.now.line global.now.name global.now.at) }
+    ensures breaks { OnOk result (all.new.breaks ≡ all.old.breaks
+        ++ global_breaks (RawGlobalType.Plain ty) global.now.line global.now.name global.now.at) }
 {
     judge(
         has_address(&global.at),
@@ -339,8 +341,10 @@ fn with_bytes(
     list: &[(u32, u8)],
 ) -> Result<(), NoMemory>
     ensures located { OnOk result (all.new.located ≡ all.old.located) }
-    ensures blocks { OnOk result (all.new.blocks.items ≡ with_block (block_at (block_number global.now.name) global.now.at last list.now) all.old.blocks.items) }
-    ensures breaks { OnOk result (all.new.breaks ≡ all.old.breaks ++ block_breaks global.now.line (block_number global.now.name) global.now.at last list.now) }
+    ensures blocks { OnOk result (all.new.blocks.items
+        ≡ with_block (block_at (block_number global.now.name) global.now.at last list.now) all.old.blocks.items) }
+    ensures breaks { OnOk result (all.new.breaks ≡ all.old.breaks
+        ++ block_breaks global.now.line (block_number global.now.name) global.now.at last list.now) }
 {
     let number = block_number(alloc, &global.name)?;
     judge_block(global.line, number, &global.at, last, list, &mut all.breaks)?;
@@ -349,9 +353,12 @@ fn with_bytes(
 }
 
 fn with_global(alloc: Global, all: &mut Globals, global: &RawGlobal) -> Result<(), NoMemory>
-    ensures located { OnOk result (all.new.located ≡ all.old.located ++ listed (located_of global.now.ty global.now.name global.now.at)) }
-    ensures blocks { OnOk result (all.new.blocks.items ≡ with_block (block_of global.now.ty global.now.name global.now.at) all.old.blocks.items) }
-    ensures breaks { OnOk result (all.new.breaks ≡ all.old.breaks ++ global_breaks global.now.ty global.now.line global.now.name global.now.at) }
+    ensures located { OnOk result (all.new.located ≡ all.old.located
+        ++ listed (located_of global.now.ty global.now.name global.now.at)) }
+    ensures blocks { OnOk result (all.new.blocks.items
+        ≡ with_block (block_of global.now.ty global.now.name global.now.at) all.old.blocks.items) }
+    ensures breaks { OnOk result (all.new.breaks ≡ all.old.breaks
+        ++ global_breaks global.now.ty global.now.line global.now.name global.now.at) }
 {
     match &global.ty {
         RawGlobalType::Plain(ty) => with_plain(alloc, all, global, *ty),

@@ -14,6 +14,8 @@ use s7_base::{Line, List, NoMemory, Reason};
 use st_tree::{RawVar, StType, Stmt, Var};
 use std::alloc::Global;
 
+/// The position of the function that a name means. A name that means nothing is UnknownName, one that
+/// means no function TypeMismatch.
 pub fn callee(meaning: Option<Meaning>) -> Result<u32, Reason>
     ensures { result ≡ callee meaning }
 {
@@ -70,8 +72,10 @@ fn with_actual(
     vars: &mut Table<Option<Var>>,
     breaks: &mut List<Break>,
 ) -> Result<(), NoMemory>
-    ensures vars { OnOk result (vars.new ≡ (with_actual scope.now line types.now (record { vars = vars.old; breaks = [] }) actual.now).vars) }
-    ensures breaks { OnOk result (breaks.new ≡ breaks.old ++ (with_actual scope.now line types.now (record { vars = vars.old; breaks = [] }) actual.now).breaks) }
+    ensures vars { OnOk result (vars.new
+        ≡ (with_actual scope.now line types.now (record { vars = vars.old; breaks = [] }) actual.now).vars) }
+    ensures breaks { OnOk result (breaks.new ≡ breaks.old
+        ++ (with_actual scope.now line types.now (record { vars = vars.old; breaks = [] }) actual.now).breaks) }
 {
     let key = key_of(alloc, actual.0.as_slice())?;
     let variable = variable_on(alloc, scope, line, &actual.1, breaks)?;
@@ -191,8 +195,10 @@ fn call_of(
     actuals: &[(List<u8>, RawVar)],
     breaks: &mut List<Break>,
 ) -> Result<Option<Stmt>, NoMemory>
-    ensures found { IfOk result (λ found. found ≡ (function_call scope.now line position (Some formals.now) actuals.now).found) }
-    ensures breaks { OnOk result (breaks.new ≡ breaks.old ++ (function_call scope.now line position (Some formals.now) actuals.now).breaks) }
+    ensures found { IfOk result (λ found. found
+        ≡ (function_call scope.now line position (Some formals.now) actuals.now).found) }
+    ensures breaks { OnOk result (breaks.new ≡ breaks.old
+        ++ (function_call scope.now line position (Some formals.now) actuals.now).breaks) }
 {
     let vars = given_by(alloc, scope, line, &formals.types, actuals, breaks)?;
     call_with(

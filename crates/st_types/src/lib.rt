@@ -6,8 +6,6 @@ pub use text::typed;
 
 mod broken;
 mod call;
-mod components;
-mod cycle;
 mod declaration;
 mod depth;
 mod expression;
@@ -16,7 +14,6 @@ mod invocation;
 mod lists;
 mod names;
 mod scope;
-mod search;
 mod statement;
 mod table;
 mod text;

@@ -1,4 +1,4 @@
-//! What goes behind the items of a list.
+//! What goes after the items of a list.
 ghost use Rattle.std.specs.Prelude.{◌≡◌, ◌++◌, OnOk};
 ghost use Rattle.st_types.specs.Broken.{listed};
 
@@ -15,7 +15,7 @@ pub fn keep<T: Drop>(list: &mut List<T>, found: Option<T>) -> Result<(), NoMemor
     }
 }
 
-/// Puts broken rules behind others.
+/// Puts broken rules after others.
 pub fn put_breaks(breaks: &mut List<Break>, more: &[Break]) -> Result<(), NoMemory>
     ensures { OnOk result (breaks.new ≡ breaks.old ++ more.now) }
 {

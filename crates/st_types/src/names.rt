@@ -23,7 +23,7 @@ fn is_number(digits: &[u8]) -> bool
     0 < digits.len() && are_digits(digits)
 }
 
-/// What is left of a text behind its first bytes.
+/// What is left of a text after its first bytes.
 pub fn rest_after(text: &[u8], size: usize) -> &[u8]
     ensures { result.now ≡ drop size text.now }
 {
@@ -46,6 +46,7 @@ fn without_zeros(digits: &[u8]) -> &[u8]
     )
 }
 
+/// Whether a name in capitals is `DB` and digits, as a data block has.
 pub fn is_block_name(capitals: &[u8]) -> bool
     ensures { result ≡ is_block_name capitals.now }
 {

@@ -27,7 +27,8 @@ pub struct Formals {
     pub types: Table<StType>,
 }
 
-/// What is declared: outside the units, the formals of each unit, and in the unit whose names are asked for.
+/// What is declared: outside the units, the formals of each unit, and in the unit whose names are asked
+/// for.
 #[derive(Drop)]
 pub struct Scope {
     pub outer: Table<Meaning>,

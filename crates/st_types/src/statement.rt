@@ -266,8 +266,10 @@ fn case_arms(
     raws: &[RawCaseArm],
     breaks: &mut List<Break>,
 ) -> Result<List<CaseArm>, NoMemory>
-    ensures found { IfOk result (λ arms. arms ≡ found_in (case_arms_on line selector (map (case_arm scope.now) raws.now))) }
-    ensures breaks { OnOk result (breaks.new ≡ breaks.old ++ breaks_in (case_arms_on line selector (map (case_arm scope.now) raws.now))) }
+    ensures found { IfOk result (λ arms. arms
+        ≡ found_in (case_arms_on line selector (map (case_arm scope.now) raws.now))) }
+    ensures breaks { OnOk result (breaks.new ≡ breaks.old
+        ++ breaks_in (case_arms_on line selector (map (case_arm scope.now) raws.now))) }
 {
     let mut arms = List::new(alloc);
     for raw in raws {

@@ -7,7 +7,8 @@ use s7_base::NoMemory;
 use std::alloc::Global;
 use std::marker::Model;
 
-/// What stands under keys. Contracts see it as the list of keys and values, in the order in which they came.
+/// What stands under keys. Contracts see it as the list of keys and values, in the order in which they
+/// came.
 #[derive(Drop)]
 pub struct Table<T> {
     entries: IndexMap<Vec<u8>, T>,

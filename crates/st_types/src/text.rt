@@ -4,13 +4,12 @@ ghost use Rattle.st_types.specs.Declarations.{formals_of};
 ghost use Rattle.st_types.specs.Typed.{breaks_of, calls_in, tree_of, HasTree, IsChain, IsChainRefused, IsRefused};
 
 use crate::broken::{Break, first_of_all};
-use crate::call::Call;
-use crate::cycle::first_cycle;
 use crate::declaration::{all_outside, formals_of};
 use crate::depth::first_long_chain;
 use crate::global::all_globals;
 use crate::lists::put_breaks;
 use crate::unit::all_units;
+use call_chains::{Call, first_cycle};
 use s7_base::{Line, List, NoMemory, Reason, Rejection};
 use st_tree::{RawPou, RawSt, StProgram};
 use std::alloc::Global;

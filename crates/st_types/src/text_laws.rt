@@ -1,5 +1,5 @@
 //! Laws of what the answer to a text is. They compute nothing: their contracts are the laws.
-ghost use Rattle.st_types.specs.TypedLaws.{BlocksFit, ChainsAreFollowed, FirstOfAll, NotBoth, OneRefusal, OneTree};
+ghost use Rattle.st_types.specs.TypedLaws.{BlocksFit, FirstOfAll, NotBoth, OneRefusal, OneTree};
 
 /// A text has one tree at most.
 pub fn one_tree()
@@ -19,11 +19,6 @@ pub fn not_both()
 /// The first of some broken rules is one of them before which no other comes.
 pub fn first_of_all()
     ensures { FirstOfAll }
-{}
-
-/// Chains of so many calls begin at the units from which so many calls are followed, and at no other.
-pub fn chains_are_followed()
-    ensures { ChainsAreFollowed }
 {}
 
 /// A memory may have the data blocks of a tree.

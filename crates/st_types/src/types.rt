@@ -36,6 +36,8 @@ fn where_true(test: bool, ty: StType) -> Option<StType>
     if test { Some(ty) } else { None }
 }
 
+/// The type that minus, NOT or a BCD conversion gives; `None` where the operand has another type than
+/// it takes.
 pub fn type_of_unary(op: UnaryOp, ty: StType) -> Option<StType>
     ensures { result ≡ type_of_unary op ty }
 {
@@ -60,6 +62,8 @@ fn type_on_equals(op: BinaryOp, ty: StType) -> Option<StType>
     }
 }
 
+/// The type that an operator between two operands gives; `None` where their types differ or it takes
+/// none of that type.
 pub fn type_of_binary(op: BinaryOp, a: StType, b: StType) -> Option<StType>
     ensures { result ≡ type_of_binary op a b }
 {
@@ -70,24 +74,29 @@ pub fn type_of_binary(op: BinaryOp, a: StType, b: StType) -> Option<StType>
     }
 }
 
+/// The type that `A_TO_B` gives; `None` where the operand is no A.
 pub fn type_of_conversion(from: StType, to: StType, ty: StType) -> Option<StType>
     ensures { result ≡ type_of_conversion from to ty }
 {
     where_true(is_type(ty, from), to)
 }
 
+/// The type that SEL gives; `None` where the gate is no BOOL or the two values differ in type.
 pub fn type_of_choice(gate: StType, a: StType, b: StType) -> Option<StType>
     ensures { result ≡ type_of_choice gate a b }
 {
     where_true(is_type(gate, StType::Bool) && is_type(a, b), a)
 }
 
+/// The type that a shift or a rotation gives; `None` where the value is a number or the count is no
+/// INT.
 pub fn type_of_shift(ty: StType, count: StType) -> Option<StType>
     ensures { result ≡ type_of_shift ty count }
 {
     where_true(has_bits(ty) && is_type(count, StType::Int), ty)
 }
 
+/// The type that a read through a pointer gives; `None` where the pointer is no DWORD.
 pub fn type_of_read(width: Width, pointer: StType) -> Option<StType>
     ensures { result ≡ type_of_read width pointer }
 {

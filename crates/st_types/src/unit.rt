@@ -5,12 +5,13 @@ ghost use Rattle.st_types.specs.Declarations.{all_inside};
 ghost use Rattle.st_types.specs.Units.{all_unit_breaks, all_units, breaks_of_unit, calls_of_unit, calls_of_units, scope_in, unit_breaks, unit_in, unit_of};
 
 use crate::broken::Break;
-use crate::call::{Call, all_calls};
+use crate::call::all_calls;
 use crate::declaration::{all_inside, locals_of};
 use crate::lists::put_breaks;
 use crate::scope::{Formals, Meaning, Scope};
 use crate::statement::statements;
 use crate::table::Table;
+use call_chains::Call;
 use s7_base::{List, NoMemory};
 use st_tree::{Pou, RawPou};
 use std::alloc::Global;
@@ -47,7 +48,8 @@ fn unit_in(
     breaks: &mut List<Break>,
 ) -> Result<Pou, NoMemory>
     ensures unit { IfOk result (λ unit. unit ≡ unit_in (scope_in scope.old.outer scope.old.formals raw.now) raw.now) }
-    ensures breaks { OnOk result (breaks.new ≡ breaks.old ++ unit_breaks (scope_in scope.old.outer scope.old.formals raw.now) raw.now) }
+    ensures breaks { OnOk result (breaks.new ≡ breaks.old
+        ++ unit_breaks (scope_in scope.old.outer scope.old.formals raw.now) raw.now) }
     ensures scope { OnOk result (scope.new ≡ scope_in scope.old.outer scope.old.formals raw.now) }
 {
     enter(alloc, scope, raw, breaks)?;
@@ -67,9 +69,12 @@ fn with_unit(
     raw: &RawPou,
     all: &mut Units,
 ) -> Result<(), NoMemory>
-    ensures units { OnOk result (all.new.units ≡ all.old.units ++ unit_of scope.old.outer scope.old.formals raw.now ∷ []) }
-    ensures calls { OnOk result (all.new.calls ≡ all.old.calls ++ calls_of_unit scope.old.outer scope.old.formals raw.now ∷ []) }
-    ensures breaks { OnOk result (all.new.breaks ≡ all.old.breaks ++ breaks_of_unit scope.old.outer scope.old.formals raw.now) }
+    ensures units { OnOk result (all.new.units ≡ all.old.units
+        ++ unit_of scope.old.outer scope.old.formals raw.now ∷ []) }
+    ensures calls { OnOk result (all.new.calls ≡ all.old.calls
+        ++ calls_of_unit scope.old.outer scope.old.formals raw.now ∷ []) }
+    ensures breaks { OnOk result (all.new.breaks ≡ all.old.breaks
+        ++ breaks_of_unit scope.old.outer scope.old.formals raw.now) }
     ensures outer { OnOk result (scope.new.outer ≡ scope.old.outer) }
     ensures formals { OnOk result (scope.new.formals ≡ scope.old.formals) }
 {

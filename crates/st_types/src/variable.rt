@@ -40,6 +40,7 @@ fn is_byte_in(area: AreaName, width: Width, byte: u32) -> bool
     }
 }
 
+/// Whether a data block may have this number, 1 to 65,535.
 pub fn is_block_number(number: u32) -> bool
     ensures { result ≡ is_block_number number }
 {

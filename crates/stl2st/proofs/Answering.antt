@@ -12,7 +12,7 @@ use Rattle.s7_io.specs.Source.{GaveAll, GaveExactly}
 use Rattle.stl_tree.specs.declared.program.Call.{Call}
 use Rattle.stl_tree.specs.declared.program.Program.{Program}
 use Rattle.st_tree.specs.Spelling.{spelling}
-use Rattle.stl2st.specs.Translation.{translation}
+use Rattle.stl_translate.specs.Translation.{translation}
 use Rattle.image_text.specs.Reading.{Reads}
 use Rattle.image_text.specs.declared.refusal.ImageRefusal.{ImageRefusal}
 use Rattle.image_text.specs.declared.refusal.ImageRefusal.TheVariants as why
@@ -305,7 +305,7 @@ reads_image Check left i status w r = r
 reads_image (RunStl steps call) left i status w r = reads_wanted (WantsImage (Some (RunStl steps call)) left) (w tt) i status r
 reads_image (RunSt units call) left i status w r = reads_wanted (WantsImage (Some (RunSt units call)) left) (w tt) i status r
 
--- the reply to words that are no command
+-- the reply to arguments that are no command
 pub usage_reply : (source image : Option (List ℕ)) (made : Made) → reply_of made ≡ (Usage, usage_line) → Answered None source image made
 usage_reply source image made e =
     let any = some_bytes source in

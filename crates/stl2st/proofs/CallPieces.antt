@@ -13,7 +13,7 @@ use Rattle.stl2st.specs.CallWord.{with_byte, pieces, actual_of, actuals_in}
 abbrev pub first_size : List ℕ → ℕ
 first_size text = prefix_len (λ b. not (b == 44)) text
 
--- the pieces behind the first one, by what stands behind that
+-- the pieces after the first one, by what stands after that
 abbrev pub pieces_behind : List ℕ → List (List ℕ)
 pieces_behind [] = []
 pieces_behind (comma ∷ rest) = pieces rest
@@ -74,7 +74,7 @@ pub at_last : (actuals : List (Place × Width)) (left : List ℕ) (whole : Optio
 at_last actuals [] whole h e = sym e ∙ ap Some (append-nil actuals)
 at_last actuals (comma ∷ rest) whole h e = absurd (omega arith)
 
--- there is a comma behind the first piece
+-- there is a comma after the first piece
 pub at_comma : (actuals : List (Place × Width)) (left : List ℕ) (whole : Option (List (Place × Width)))
     → 0 < length left → before actuals (actuals_in (pieces_behind left)) ≡ whole → before actuals (actuals_in (pieces (drop 1 left))) ≡ whole
 at_comma actuals [] whole h e = absurd (omega arith)

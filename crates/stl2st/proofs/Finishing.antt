@@ -12,13 +12,13 @@ use Rattle.st_tree.specs.Spelling.{spelling}
 use Rattle.stl2st.proofs.Accepted.{accepted as known_of}
 use Rattle.stl2st.proofs.Answering.{some_bytes}
 use Rattle.stl2st.proofs.ProperText.{proper}
-use Rattle.stl2st.proofs.SameAll.{same_all}
+use Rattle.stl_translate.proofs.SameAll.{same_all}
 use Rattle.stl_tree.specs.declared.program.Call.{Call}
 use Rattle.stl2st.specs.Answer.{Reply, AnswersText, AnswersTree, AreOf, Answers, IsAccepted, IsAnswered, IsRead, IsTranslated, Sends, Translates, Wants, WantsImage, Writes, refusal_line, run_stl_reply, source_reply, too_long_line, translate_reply, verdict_reply, source_too_long, refused, read}
 use Rattle.stl2st.specs.Inputs.{Input, ReadsImage, ReadsRunImage}
 use Rattle.stl2st.specs.Replies.{Answered, Ends, IsWritten, bytes_of_text, reply_of}
 use Rattle.stl2st.specs.declared.reply.Reply.{Reply as Made}
-use Rattle.stl2st.specs.Translation.{translation}
+use Rattle.stl_translate.specs.Translation.{translation}
 use Rattle.stl2st.specs.declared.answer.TheConstants.{INPUT_LIMIT}
 use Rattle.stl2st.specs.declared.command.Command.{Command}
 use Rattle.stl2st.specs.declared.command.Command.TheVariants.{Translate, Check, RunStl, RunSt}

@@ -10,12 +10,12 @@ use Rattle.s7_base.specs.declared.reason.Line.{Line}
 use Rattle.s7_base.specs.declared.register.Reg.TheVariants as reg
 use Rattle.s7_base.specs.declared.word.Width.TheVariants as width
 use Rattle.st_lexer.specs.Spelled.{is_kept}
-use Rattle.st_parser.specs.Canonical.{expr_form, form_of, raw_var}
-use Rattle.st_parser.specs.Grammar.{Binds, level, tree}
-use Rattle.st_parser.specs.Kinds.{word_named, word_text}
-use Rattle.st_parser.specs.Levels.{deepest, levels}
-use Rattle.st_parser.specs.Spelled.{FormSpelled, is_variable}
-use Rattle.st_parser.specs.Syntax.{AllWithin}
+use Rattle.st_canonical.specs.Canonical.{expr_form, form_of, raw_var}
+use Rattle.st_syntax.specs.Grammar.{Binds, level, tree}
+use Rattle.st_syntax.specs.Kinds.{word_named, word_text}
+use Rattle.st_syntax.specs.Levels.{deepest, levels}
+use Rattle.st_canonical.specs.Spelled.{FormSpelled, is_variable}
+use Rattle.st_syntax.specs.Syntax.{AllWithin}
 use Rattle.st_tree.proofs.CanonEquations.{canon_equations}
 use Rattle.st_tree.specs.Form as written
 use Rattle.st_tree.specs.Form.{canon}
@@ -42,7 +42,7 @@ use Rattle.st_types.specs.declared.expression.Typed.{Typed}
 use Rattle.st_types.specs.declared.scope.Scope.{Scope}
 use Rattle.stl_tree.specs.declared.program.Operand.{Operand}
 use Rattle.stl_tree.specs.declared.program.Operand.TheVariants.{Direct}
-use Rattle.stl2st.specs.Translation.{bit_of, literal_of, next_rlo, read_of, rlo_before_and, rlo_before_or}
+use Rattle.stl_translate.specs.Translation.{bit_of, literal_of, next_rlo, read_of, rlo_before_and, rlo_before_or}
 
 -- both of two tests
 pub and_both : (a b : Bool) → (a && b) ≡ true → (a ≡ true) × (b ≡ true)
@@ -111,7 +111,7 @@ literal_is false = record { binds = λ names line. refl; spelled = λ names line
 group_is : (f : written.Form) (e : Expr) → IsBoolean f e → IsBoolean (written.group f) e
 group_is f e h = record { binds = h.binds; spelled = h.spelled; typed = h.typed }
 
--- an operator binds more weakly than its operand on each line
+-- an operator has a lower precedence than its operand on each line
 abbrev Fit : ℕ → written.Form → Type 0
 Fit k f = (names : Names) (line : ℕ) → level (form_of names line f) ≤ k
 
@@ -199,7 +199,7 @@ before_or_is = and_is rlo nfc _ _ (λ names line. omega arith) (λ names line. o
 abbrev not_form : Var → written.Form
 not_form v = written.prefix unary.Not (written.variable v)
 
--- the form of the RLO behind a check of a variable
+-- the form of the RLO after a check of a variable
 abbrev check_form : Check → Var → written.Form
 check_form check.A v = written.infix_of binary.And before_and (written.variable v)
 check_form check.An v = written.infix_of binary.And before_and (not_form v)

@@ -5,12 +5,12 @@ use Rattle.std.proofs.Common.{sym, ap, subst, ◌∙◌, arith, append_assoc, ap
 use Rattle.std.proofs.lemmas.Grind.{flat_map-append}
 use Rattle.std.proofs.lemmas.List.{map-append}
 use Rattle.s7_base.specs.Tokens.{line_after}
-use Rattle.st_parser.specs.Canonical.{Placed, FromLine, ArmFromLine, CaseFromLine, all_from, arm_step as arm_from_step, case_step as case_from_step, expr_form, on, raw_var, statement_from, statement_step as from_step}
-use Rattle.st_parser.specs.Forms.{Statement, Statements, none, further, assign}
-use Rattle.st_parser.specs.Grammar.{AllFit, on_line, tree, tree_all}
-use Rattle.st_parser.specs.Levels.{deepest, levels_all}
-use Rattle.st_parser.specs.Spelled.{AllSpelled}
-use Rattle.st_parser.specs.Syntax.{AllWithin}
+use Rattle.st_canonical.specs.Canonical.{Placed, FromLine, ArmFromLine, CaseFromLine, all_from, arm_step as arm_from_step, case_step as case_from_step, expr_form, on, raw_var, statement_from, statement_step as from_step}
+use Rattle.st_syntax.specs.Forms.{Statement, Statements, none, further, assign}
+use Rattle.st_syntax.specs.Grammar.{AllFit, on_line, tree, tree_all}
+use Rattle.st_syntax.specs.Levels.{deepest, levels_all}
+use Rattle.st_canonical.specs.Spelled.{AllSpelled}
+use Rattle.st_syntax.specs.Syntax.{AllWithin}
 use Rattle.st_tree.specs.Typing.{Names}
 use Rattle.st_tree.specs.declared.expr.Expr.{Expr}
 use Rattle.st_tree.specs.declared.expr.Var.{Var}
@@ -28,7 +28,7 @@ use Rattle.st_types.specs.Calls as calls
 use Rattle.st_types.specs.Calls.{OnLine, all_calls, calls_of, calls_of_action, joined}
 use Rattle.st_types.specs.Statements.{Armed, Done, Labelled, action, arm_step, case_arm_step, kind_step, statement, statement_step, statements}
 use Rattle.st_types.specs.declared.broken.Break.{Break}
-use Rattle.st_types.specs.declared.call.Call.{Call}
+use Rattle.call_chains.specs.declared.call.Call.{Call}
 use Rattle.st_types.specs.declared.scope.Scope.{Scope}
 use Rattle.stl2st.proofs.Written.{IsAssigned}
 
@@ -132,7 +132,7 @@ one_more names form body line v e h k =
       same = λ scope. found_more scope (tree_all form) x ∙ rw (h.same scope, assign_sound names scope line v e k) refl;
     }
 
--- all of them behind others, from a line on
+-- all of them after others, from a line on
 all_behind : (names : Names) (form : Statements) (body rest : List Stmt) (line : ℕ) → IsBody form body → AreBoolAssigns rest →
     IsBody (all_from form line (map (statement_from names) rest)).0 (body ++ rest)
 all_behind names form body [] line h k = subst (λ (b : List Stmt). IsBody form b) (sym (append-nil body)) h

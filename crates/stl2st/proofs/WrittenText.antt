@@ -2,12 +2,12 @@
 -- tree that a text can have.
 use Rattle.std.specs.Prelude.{◌≡◌, ℕ, zero, suc, true, List, [], ◌∷◌, ◌++◌, map, Some, refl}
 use Rattle.std.proofs.Common.{sym, ap, subst, arith}
-use Rattle.st_parser.specs.Canonical.{all_from, on, statement_from}
-use Rattle.st_parser.specs.Forms.{Statements, none}
-use Rattle.st_parser.specs.Grammar.{tree_all}
-use Rattle.st_parser.specs.Kinds.{may_name_unit}
+use Rattle.st_canonical.specs.Canonical.{all_from, on, statement_from}
+use Rattle.st_syntax.specs.Forms.{Statements, none}
+use Rattle.st_syntax.specs.Grammar.{tree_all}
+use Rattle.st_syntax.specs.Kinds.{may_name_unit}
 use Rattle.st_parser.specs.Proper.{Proper}
-use Rattle.st_parser.specs.Spelled.{is_name}
+use Rattle.st_canonical.specs.Spelled.{is_name}
 use Rattle.st_tree.specs.Spelling.{names_in}
 use Rattle.st_tree.specs.Typing.{Names}
 use Rattle.st_tree.specs.declared.program.Pou.{Pou}
@@ -16,12 +16,12 @@ use Rattle.st_tree.specs.declared.program.Stmt.{Stmt}
 use Rattle.st_tree.specs.declared.raw.RawPou.{RawPou}
 use Rattle.st_tree.specs.declared.raw.RawSt.{RawSt}
 use Rattle.st_types.specs.Broken.{first_of_all}
-use Rattle.st_types.specs.Chain.{Graph, call_at}
+use Rattle.call_chains.specs.Chain.{Graph, call_at}
 use Rattle.st_types.specs.Declarations.{formals_of}
 use Rattle.st_types.specs.Typed.{HasTree, IsChain, names_of}
 use Rattle.st_types.specs.Units.{scope_in}
 use Rattle.st_types.specs.declared.broken.Break.{Break}
-use Rattle.st_types.specs.declared.call.Call.{Call}
+use Rattle.call_chains.specs.declared.call.Call.{Call}
 use Rattle.st_types.specs.declared.scope.Scope.{Scope}
 use Rattle.stl2st.proofs.WrittenBody.{AreBoolAssigns, IsBody, body_is}
 

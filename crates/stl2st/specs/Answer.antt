@@ -24,8 +24,8 @@ use Rattle.st_parser.specs.Texts.{IsTextOf, IsRefusedText}
 use Rattle.st_tree.specs.Spelling.{spelling}
 use Rattle.st_tree.specs.StRun.{FitsSt, st_run}
 use Rattle.st_tree.specs.declared.program.StProgram.{StProgram}
-use Rattle.stl2st.specs.Same.{Same}
-use Rattle.stl2st.specs.Translation.{translation}
+use Rattle.stl_translate.specs.Same.{Same}
+use Rattle.stl_translate.specs.Translation.{translation}
 use Rattle.stl2st.specs.declared.command.Command.{Command}
 use Rattle.stl2st.specs.declared.command.Command.TheVariants.{Translate, Check, RunStl, RunSt}
 use Rattle.stl2st.specs.declared.answer.TheConstants.{INPUT_LIMIT, IMAGE_LIMIT}
@@ -34,7 +34,7 @@ use Rattle.stl2st.specs.declared.status.Status.TheVariants.{Done, Refused, Usage
 
 -- Lines
 
--- the line that words which are no command get
+-- the line for arguments that are no command
 abbrev pub usage_line : List ℕ
 usage_line = codes "usage: stl2st translate | check | run-stl STEPS CALL IMAGE | run-st UNITS CALL IMAGE | demo N\n"
 
@@ -77,7 +77,7 @@ run_status (outcome.Ended None) = Done
 run_status (outcome.Ended (Some f)) = Faulted
 run_status outcome.Going = Going
 
--- a run within its bound: its report; one that goes on shows no memory, so that at its start serves
+-- a run within its bound: its report; one that goes on shows no memory, so the one at its start will do
 abbrev pub run_reply : Areas → End → Reply
 run_reply start (Ended areas f) = (run_status (outcome.Ended f), report (outcome.Ended f) areas)
 run_reply start Unended = (run_status outcome.Going, report outcome.Going start)
@@ -89,18 +89,21 @@ call_reply (Some block) program call steps memory = run_reply memory (stl_run pr
 
 -- a run from an image, which starts with the program's data blocks; no form that is built declares one
 abbrev pub memory_reply : Program → Call → ℕ → Result Contents ImageRefusal → Reply
-memory_reply program call steps (Ok memory) = call_reply (block_called call.block program.blocks) program call steps memory.areas
+memory_reply program call steps (Ok memory) =
+    call_reply (block_called call.block program.blocks) program call steps memory.areas
 memory_reply program call steps (Err refused) = image_reply refused
 
 -- what a run answers to a program that is accepted, and to the text of an image
 abbrev pub run_stl_reply : ℕ → Call → List ℕ → Program → Reply
 run_stl_reply steps call text program =
-    if nat_lt IMAGE_LIMIT (length text) then (TooLong, too_long_line) else memory_reply program call steps (image_of text [])
+    if nat_lt IMAGE_LIMIT (length text) then (TooLong, too_long_line)
+    else memory_reply program call steps (image_of text [])
 
--- what the other commands answer to a program that is accepted
+-- what `translate` answers to a program that is accepted
 abbrev pub translate_reply : Program → Reply
 translate_reply program = (Done, spelling (translation program))
 
+-- what `check` answers to a program that is accepted
 abbrev pub check_reply : Program → Reply
 check_reply program = (Done, accepted_line)
 
@@ -112,14 +115,17 @@ verdict_reply reply (Err rejection.NoMemory) = (NoMemory, [])
 
 -- what is answered to the bytes of a source
 abbrev pub source_reply : (Program → Reply) → List ℕ → Reply
-source_reply reply source = if nat_lt INPUT_LIMIT (length source) then (TooLong, too_long_line) else verdict_reply reply (verdict source)
+source_reply reply source =
+    if nat_lt INPUT_LIMIT (length source) then (TooLong, too_long_line) else verdict_reply reply (verdict source)
 
 -- what a run answers to the tree of a Structured Text, and to the text of an image; the image begins with
 -- the tree's data blocks
 pub data AnswersTree (units : ℕ) (call : Call) (text : List ℕ) (tree : StProgram) : Reply → Type 0 where
   image_too_long : IMAGE_LIMIT < length text → AnswersTree units call text tree (TooLong, too_long_line)
-  bad_image : {refused : ImageRefusal} → length text ≤ IMAGE_LIMIT → image_of text tree.dbs ≡ Err refused → AnswersTree units call text tree (image_reply refused)
-  bad_call : {memory : Contents} → length text ≤ IMAGE_LIMIT → image_of text tree.dbs ≡ Ok memory → (FitsSt tree call → ⊥) →
+  bad_image : {refused : ImageRefusal} → length text ≤ IMAGE_LIMIT → image_of text tree.dbs ≡ Err refused
+      → AnswersTree units call text tree (image_reply refused)
+  bad_call : {memory : Contents} → length text ≤ IMAGE_LIMIT → image_of text tree.dbs ≡ Ok memory
+      → (FitsSt tree call → ⊥) →
       AnswersTree units call text tree (BadCall, bad_call_line)
   run : {memory : Contents} → length text ≤ IMAGE_LIMIT → image_of text tree.dbs ≡ Ok memory → FitsSt tree call →
       AnswersTree units call text tree (run_reply memory.areas (st_run tree call memory.areas units))
@@ -129,7 +135,8 @@ pub data AnswersText (units : ℕ) (call : Call) (source text : List ℕ) : Repl
   source_too_long : INPUT_LIMIT < length source → AnswersText units call source text (TooLong, too_long_line)
   refused : {line : Line} {reason : Reason} → length source ≤ INPUT_LIMIT → IsRefusedText source line reason →
       AnswersText units call source text (Refused, refusal_line line reason)
-  read : {tree : StProgram} {reply : Reply} → length source ≤ INPUT_LIMIT → IsTextOf source tree → AnswersTree units call text tree reply →
+  read : {tree : StProgram} {reply : Reply} → length source ≤ INPUT_LIMIT → IsTextOf source tree
+      → AnswersTree units call text tree reply →
       AnswersText units call source text reply
 
 -- the status and the text to write are the answer for a command, the bytes of the source and those of the
@@ -178,16 +185,19 @@ WantsImage command left = (source : List ℕ) × AreOf left source × Wants comm
 
 -- What is written
 
--- what the sink has taken, by the status: the text of the answer; a proper front of it where writing
+-- what the sink has taken, by the status: the text of the answer; a proper prefix of it where writing
 -- failed; nothing where reading failed or memory ran out
 abbrev pub Sends : Option Command → List ℕ → List ℕ → Option (List ℕ) → Option (List ℕ) → Status → Type 0
 Sends command source text before after ReadFault = after ≡ before
 Sends command source text before after NoMemory = after ≡ before
-Sends command source text before after WriteFault = (reply : Reply) × Answers command source text reply × TookFewer before after reply.1
-Sends command source text before after status = (reply : Reply) × Answers command source text reply × (reply.0 ≡ status) × Took before after reply.1
+Sends command source text before after WriteFault =
+    (reply : Reply) × Answers command source text reply × TookFewer before after reply.1
+Sends command source text before after status =
+    (reply : Reply) × Answers command source text reply × (reply.0 ≡ status) × Took before after reply.1
 
 -- what the sink has taken is the answer to the bytes of the source and of the image
-pub record Writes (command : Option Command) (left image : Option (List ℕ)) (before after : Option (List ℕ)) (status : Status) : Type 0 where
+pub record Writes (command : Option Command) (left image : Option (List ℕ)) (before after : Option (List ℕ))
+    (status : Status) : Type 0 where
   pub source : List ℕ
   pub of_source : AreOf left source
   pub text : List ℕ

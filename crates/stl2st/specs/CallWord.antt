@@ -1,4 +1,4 @@
--- What the word CALL of a run means: the block that is called, the instance of a function block and
+-- What the argument CALL of a run means: the block that is called, the instance of a function block and
 -- the actuals of a function, as in `OB1`, `FC10(MW4,M0.0)` and `FB1/DB5`. Letters count in any case.
 use Rattle.std.specs.Prelude.{ℕ, ◌-◌, Bool, false, ◌==◌, ◌&&◌, nat_le, if◌then◌else◌, List, [], ◌∷◌, length, take, drop, codes, Option, Some, None, option_map, option_and_then}
 use Rattle.std.specs.Char.{to_ascii_uppercase}
@@ -31,12 +31,12 @@ abbrev pub begins_with_letter : ℕ → List ℕ → Bool
 begins_with_letter letter [] = false
 begins_with_letter letter (first ∷ rest) = to_ascii_uppercase first == letter
 
--- what stands behind letters, where a text begins with them in any case
+-- what stands after letters, where a text begins with them in any case
 abbrev pub behind : List ℕ → List ℕ → Option (List ℕ)
 behind [] text = Some text
 behind (letter ∷ letters) text = if begins_with_letter letter text then behind letters (drop 1 text) else None
 
--- the number behind letters
+-- the number after letters
 abbrev pub number_behind : List ℕ → List ℕ → Option ℕ
 number_behind letters text = option_and_then short_number (behind letters text)
 
@@ -48,7 +48,7 @@ front_size text = prefix_len is_word_byte text
 abbrev pub front : List ℕ → List ℕ
 front text = take (front_size text) text
 
--- what stands behind these
+-- what stands after these
 abbrev pub back : List ℕ → List ℕ
 back text = drop (front_size text) text
 
@@ -57,12 +57,18 @@ back text = drop (front_size text) text
 -- the area of a letter
 abbrev pub letter_area : ℕ → Option Area
 letter_area letter =
-    if letter == 73 then Some area.I else if letter == 81 then Some area.Q else if letter == 77 then Some area.M else None
+    if letter == 73 then Some area.I
+    else if letter == 81 then Some area.Q
+    else if letter == 77 then Some area.M
+    else None
 
 -- the width of a letter
 abbrev pub letter_width : ℕ → Option Width
 letter_width letter =
-    if letter == 66 then Some width.Byte else if letter == 87 then Some width.Word else if letter == 68 then Some width.Dword else None
+    if letter == 66 then Some width.Byte
+    else if letter == 87 then Some width.Word
+    else if letter == 68 then Some width.Dword
+    else None
 
 -- a point and a digit from 0 to 7
 abbrev pub bit_number : List ℕ → Option ℕ
@@ -74,30 +80,35 @@ bit_number (point ∷ digit ∷ more ∷ rest) = None
 -- `0.7`: a bit of an area
 abbrev pub bit_actual : Area → List ℕ → Option (Place × Width)
 bit_actual area text =
-    option_and_then (λ byte. option_map (λ bit. (record { area = area; byte = byte; bit = bit }, width.Bit)) (bit_number (back text)))
+    option_and_then
+    (λ byte. option_map (λ bit. (record { area = area; byte = byte; bit = bit }, width.Bit)) (bit_number (back text)))
     (short_number (front text))
 
 -- `B4`, `W4` or `D4`: a byte or more of an area
 abbrev pub bytes_actual : Area → List ℕ → Option (Place × Width)
 bytes_actual area [] = None
 bytes_actual area (letter ∷ digits) =
-    option_and_then (λ width. option_map (λ byte. (record { area = area; byte = byte; bit = 0 }, width)) (short_number digits))
+    option_and_then
+    (λ width. option_map (λ byte. (record { area = area; byte = byte; bit = 0 }, width)) (short_number digits))
     (letter_width (to_ascii_uppercase letter))
 
 -- `I0.7` or `MW4`
 abbrev pub area_actual : List ℕ → Option (Place × Width)
 area_actual [] = None
 area_actual (letter ∷ text) =
-    option_and_then (λ area. option_or (bit_actual area text) (bytes_actual area text)) (letter_area (to_ascii_uppercase letter))
+    option_and_then (λ area. option_or (bit_actual area text) (bytes_actual area text))
+    (letter_area (to_ascii_uppercase letter))
 
--- `.DBX0.7` or `.DBW4`, behind the name of a data block
+-- `.DBX0.7` or `.DBW4`, after the name of a data block
 abbrev pub part_of : Area → List ℕ → Option (Place × Width)
 part_of area text =
-    option_or (option_and_then (bit_actual area) (behind (codes ".DBX") text)) (option_and_then (bytes_actual area) (behind (codes ".DB") text))
+    option_or (option_and_then (bit_actual area) (behind (codes ".DBX") text))
+    (option_and_then (bytes_actual area) (behind (codes ".DB") text))
 
 -- `DB5.DBX0.7` or `DB5.DBW4`
 abbrev pub block_actual : List ℕ → Option (Place × Width)
-block_actual text = option_and_then (λ number. part_of (area.Db number) (back text)) (number_behind (codes "DB") (front text))
+block_actual text =
+    option_and_then (λ number. part_of (area.Db number) (back text)) (number_behind (codes "DB") (front text))
 
 -- an actual: its place and its width
 abbrev pub actual_of : List ℕ → Option (Place × Width)
@@ -134,15 +145,16 @@ block_meant word =
     option_or (option_map Ob (number_behind (codes "OB") word))
     (option_or (option_map Fc (number_behind (codes "FC") word)) (option_map Fb (number_behind (codes "FB") word)))
 
--- the call of a block by what stands behind its name: nothing, actuals or `/DB5`
+-- the call of a block by what stands after its name: nothing, actuals or `/DB5`
 abbrev pub call_with : BlockName → List ℕ → Option Call
 call_with (Ob number) [] = Some (record { block = Ob number; instance = 0; actuals = [] })
 call_with (Ob number) (first ∷ rest) = None
 call_with (Fc number) text =
     option_map (λ actuals. record { block = Fc number; instance = 0; actuals = actuals }) (actuals_behind text)
 call_with (Fb number) text =
-    option_map (λ instance. record { block = Fb number; instance = instance; actuals = [] }) (number_behind (codes "/DB") text)
+    option_map (λ instance. record { block = Fb number; instance = instance; actuals = [] })
+    (number_behind (codes "/DB") text)
 
--- the call that a word means, if it is one
+-- the call that the argument CALL means, if it is one
 abbrev pub call_meant : List ℕ → Option Call
 call_meant word = option_and_then (λ block. call_with block (back word)) (block_meant (front word))

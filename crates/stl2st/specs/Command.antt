@@ -1,4 +1,4 @@
--- What the words behind the program's name mean.
+-- What the arguments of the program mean.
 use Rattle.std.specs.Prelude.{◌≡◌, ℕ, ◌-◌, ◌^◌, List, [], ◌∷◌, Option, Some, None, option_map, option_and_then, Result, Ok, Err, codes, if◌then◌else◌}
 use Rattle.std.specs.Str.{bytes_eq}
 use Rattle.stl_tree.specs.declared.program.Call.{Call}
@@ -18,7 +18,7 @@ run_with steps call image =
     if bytes_eq image [] then None
     else option_and_then (λ number. option_map (λ block. (number, block)) (call_meant call)) (steps_meant steps)
 
--- a run by the words behind `run-stl` or `run-st`
+-- a run by the arguments after `run-stl` or `run-st`
 abbrev pub run_meant : List (List ℕ) → Option (ℕ × Call)
 run_meant [] = None
 run_meant (a ∷ []) = None
@@ -26,12 +26,14 @@ run_meant (a ∷ b ∷ []) = None
 run_meant (steps ∷ call ∷ image ∷ []) = run_with steps call image
 run_meant (a ∷ b ∷ c ∷ d ∷ rest) = None
 
--- a command of one word
+-- a command of one argument
 abbrev pub word_meant : List ℕ → Option Command
 word_meant word =
-    if bytes_eq word (codes "translate") then Some Translate else if bytes_eq word (codes "check") then Some Check else None
+    if bytes_eq word (codes "translate") then Some Translate
+    else if bytes_eq word (codes "check") then Some Check
+    else None
 
--- the command that a list of words means, if it is one; case counts in its first word
+-- the command that arguments mean, if they are one; the first is compared exactly, case counts
 abbrev pub command_meant : List (List ℕ) → Option Command
 command_meant [] = None
 command_meant (word ∷ []) = word_meant word
@@ -40,13 +42,13 @@ command_meant (word ∷ a ∷ rest) =
     else if bytes_eq word (codes "run-st") then option_map (λ run. RunSt run.0 run.1) (run_meant (a ∷ rest))
     else None
 
--- the answer is the command meant, or Usage exactly where there is none; or want of memory
+-- the answer is the command meant, or Usage exactly where there is none; or memory ran out
 abbrev pub Means : Option Command → Result Command WordsRefusal → Type 0
 Means meant (Ok command) = meant ≡ Some command
 Means meant (Err Usage) = meant ≡ None
 Means meant (Err NoMemory) = Unit {0}
 
--- the file of the image: the fourth word, where there are four
+-- the name of the image's file: the fourth argument, where there are four
 abbrev pub image_meant : List (List ℕ) → Option (List ℕ)
 image_meant [] = None
 image_meant (a ∷ []) = None

@@ -16,8 +16,10 @@ pub record Input : Type 0 where
   pub faults : ℕ
   pub faults_after : ℕ
 
+-- a source by what its object tells before and after the call
 abbrev pub input : Option (List ℕ) → Option (List ℕ) → ℕ → ℕ → Input
-input left left_after faults faults_after = record { left = left; left_after = left_after; faults = faults; faults_after = faults_after }
+input left left_after faults faults_after =
+    record { left = left; left_after = left_after; faults = faults; faults_after = faults_after }
 
 -- it was not read
 pub record IsUntouched (input : Input) : Type 0 where
@@ -54,7 +56,8 @@ ReadsRunImage wanted input Usage = IsUntouched input
 ReadsRunImage wanted input TooLong = IsUntouched input ⊎ (wanted × IsReadPast input IMAGE_LIMIT)
 ReadsRunImage wanted input ReadFault = IsUntouched input ⊎ (wanted × IsReadWithin input IMAGE_LIMIT)
 ReadsRunImage wanted input NoMemory = IsUntouched input ⊎ (wanted × IsReadWithin input IMAGE_LIMIT)
-ReadsRunImage wanted input WriteFault = IsUntouched input ⊎ (wanted × (IsReadWhole input ⊎ IsReadPast input IMAGE_LIMIT))
+ReadsRunImage wanted input WriteFault =
+    IsUntouched input ⊎ (wanted × (IsReadWhole input ⊎ IsReadPast input IMAGE_LIMIT))
 ReadsRunImage wanted input status = wanted × IsReadWhole input
 
 -- the image of a command; one that has none leaves it alone
@@ -62,11 +65,14 @@ abbrev pub ReadsImage : Option Command → Option (List ℕ) → Input → Statu
 ReadsImage None left input status = IsUntouched input
 ReadsImage (Some Translate) left input status = IsUntouched input
 ReadsImage (Some Check) left input status = IsUntouched input
-ReadsImage (Some (RunStl steps call)) left input status = ReadsRunImage (WantsImage (Some (RunStl steps call)) left) input status
-ReadsImage (Some (RunSt units call)) left input status = ReadsRunImage (WantsImage (Some (RunSt units call)) left) input status
+ReadsImage (Some (RunStl steps call)) left input status =
+    ReadsRunImage (WantsImage (Some (RunStl steps call)) left) input status
+ReadsImage (Some (RunSt units call)) left input status =
+    ReadsRunImage (WantsImage (Some (RunSt units call)) left) input status
 
 -- a read failed: of the source of a command, or of an image that is wanted
 abbrev pub FailedToRead : Option Command → Input → Input → Type 0
 FailedToRead None program image = ⊥
 FailedToRead (Some command) program image =
-    Rose program.faults program.faults_after ⊎ (WantsImage (Some command) program.left × Rose image.faults image.faults_after)
+    Rose program.faults program.faults_after
+    ⊎ (WantsImage (Some command) program.left × Rose image.faults image.faults_after)

@@ -1,12 +1,6 @@
 pub mod Answer
-pub mod Answers
 pub mod CallWord
 pub mod Command
-pub mod Contexts
 pub mod Inputs
-pub mod Pieces
 pub mod Replies
-pub mod Same
 pub mod Status
-pub mod Translation
-pub mod WellFormed

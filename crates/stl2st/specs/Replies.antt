@@ -78,10 +78,12 @@ pub record AnsweredFor (command : Command) (program : Program) (image : Option (
 -- the reply is that of a run of a tree from a memory
 abbrev pub AnsweredRun : ℕ → Call → StProgram → Areas → Made → Type 0
 AnsweredRun units call tree memory made =
-    (FitsSt tree call × IsReply (run_reply memory (st_run tree call memory units)) made) ⊎ ((FitsSt tree call → ⊥) × IsReply (BadCall, bad_call_line) made)
+    (FitsSt tree call × IsReply (run_reply memory (st_run tree call memory units)) made)
+    ⊎ ((FitsSt tree call → ⊥) × IsReply (BadCall, bad_call_line) made)
 
 -- the reply is that of a run to a tree and to the bytes of the image
-pub record AnsweredTree (units : ℕ) (call : Call) (tree : StProgram) (image : Option (List ℕ)) (made : Made) : Type 0 where
+pub record AnsweredTree (units : ℕ) (call : Call) (tree : StProgram) (image : Option (List ℕ))
+    (made : Made) : Type 0 where
   pub text : List ℕ
   pub of_image : AreOf image text
   pub reply : Reply
@@ -102,6 +104,7 @@ HasImage Check = ⊥
 HasImage (RunStl steps call) = Unit {0}
 HasImage (RunSt units call) = Unit {0}
 
--- a text was written, or a proper front of it
+-- a text was written, or a proper prefix of it
 abbrev pub Ends : Option (List ℕ) → Option (List ℕ) → Status → List ℕ → Status → Type 0
-Ends before after status bytes result = ((result ≡ status) × Took before after bytes) ⊎ ((result ≡ WriteFault) × TookFewer before after bytes)
+Ends before after status bytes result =
+    ((result ≡ status) × Took before after bytes) ⊎ ((result ≡ WriteFault) × TookFewer before after bytes)

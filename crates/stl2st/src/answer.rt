@@ -29,7 +29,7 @@ fn finish<K: Sink>(out: &mut K, status: Status, text: &[u8]) -> Status
     }
 }
 
-/// Does what the words behind the program's name ask for.
+/// Does what the arguments of the program ask for.
 ///
 /// `program` is the source that the command reads, `image` the memory image of a command that has one,
 /// and `out` takes the text. All memory is taken before the first byte is written.

@@ -1,16 +1,14 @@
-//! The word for the block that a run calls, as `OB1`, `FC10(MW4,M0.0)` or `FB1/DB5`.
+//! The argument for the block that a run calls, as `OB1`, `FC10(MW4,M0.0)` or `FB1/DB5`.
 ghost use Rattle.std.specs.Prelude.{◌≡◌, ◌*◌, ◌-◌, ◌<◌, ◌≤◌, ◌&&◌, ◌==◌, not, take, length, option_map, IfOk, IfSome};
 ghost use Rattle.std.specs.List.{prefix_len};
 ghost use Rattle.s7_base.specs.Tokens.{is_word_byte};
 ghost use Rattle.stl_tree.specs.Items.{number_of};
 ghost use Rattle.stl2st.specs.CallWord.{number_in, short_number, begins_with_letter, behind, number_behind, front_size, front, back, letter_area, letter_width, bit_number, bit_actual, bytes_actual, area_actual, part_of, block_actual, actual_of, pieces, actuals_in, actuals_behind, block_meant, call_with, call_meant};
 
-use crate::lexer::{is_word_byte, rest_after};
-use crate::number::number_of;
 use memory_areas::{Area, Place};
-use s7_base::{List, NoMemory, Width};
+use s7_base::{List, NoMemory, Width, is_word_byte, rest_after};
 use std::alloc::Global;
-use stl_tree::{BlockName, Call};
+use stl_tree::{BlockName, Call, number_of};
 
 /// A decimal number of one digit to `places`, and of at most `most`.
 pub fn number_in(places: usize, most: u64, digits: &[u8]) -> Option<u64>
@@ -42,7 +40,7 @@ fn begins_with_letter(letter: u8, text: &[u8]) -> bool
     }
 }
 
-/// What stands behind letters, which are given as capitals.
+/// What stands after letters, which are given as capitals.
 fn behind<'t>(letters: &str, text: &'t [u8]) -> Option<&'t [u8]>
     ensures { option_map (λ rest. rest.now) result ≡ behind letters.now text.now }
 {
@@ -228,7 +226,7 @@ fn block_meant(word: &[u8]) -> Option<BlockName>
     }
 }
 
-/// The call of a block, by what stands behind its name.
+/// The call of a block, by what stands after its name.
 fn call_with(alloc: Global, block: BlockName, text: &[u8]) -> Result<Option<Call>, NoMemory>
     ensures { IfOk result (λ call. call ≡ call_with block text.now) }
 {

@@ -1,4 +1,4 @@
-//! The words behind the program's name.
+//! The arguments of the program.
 ghost use Rattle.std.specs.Prelude.{◌≡◌, ◌-◌, map, option_map, string_bytes, IfOk};
 ghost use Rattle.stl2st.specs.Command.{command_meant, run_meant, run_with, word_meant, steps_meant, image_meant, Means};
 
@@ -8,7 +8,7 @@ use std::alloc::Global;
 use stl_tree::Call;
 use thiserror::Error;
 
-/// What the words ask for.
+/// What the arguments ask for.
 #[derive(Debug, Drop, PartialEq)]
 pub enum Command {
     /// Reads an STL source and writes it as Structured Text.
@@ -24,7 +24,7 @@ pub enum Command {
     RunSt(u64, Call),
 }
 
-/// Why the words give no command.
+/// Why the arguments give no command.
 #[derive(Clone, Copy, Debug, PartialEq, Eq, Error)]
 pub enum WordsRefusal {
     #[error("the words are no command")]
@@ -72,7 +72,7 @@ fn run_with(
     }
 }
 
-/// A run by the words behind `run-stl` or `run-st`.
+/// A run by the arguments after `run-stl` or `run-st`.
 fn run_meant(alloc: Global, words: &[String]) -> Result<Option<(u64, Call)>, NoMemory>
     ensures { IfOk result (λ run. run ≡ run_meant (map (λ word. string_bytes word) words.now)) }
 {
@@ -114,14 +114,14 @@ fn command_meant(alloc: Global, words: &[String]) -> Result<Option<Command>, NoM
     }
 }
 
-/// The command that the words behind the program's name mean. The first is compared exactly, case counts.
+/// The command that the arguments mean. The first is compared exactly, case counts.
 pub fn read_words(alloc: Global, words: &[String]) -> Result<Command, WordsRefusal>
     ensures { Means (command_meant (map (λ word. string_bytes word) words.now)) result }
 {
     command_meant(alloc, words)?.ok_or(WordsRefusal::Usage)
 }
 
-/// The name of the file with the image, which is the fourth of four words.
+/// The name of the file with the image, which is the fourth of four arguments.
 pub fn image_name(words: &[String]) -> Option<&str>
     ensures { option_map (λ name. name.now) result ≡ image_meant (map (λ word. string_bytes word) words.now) }
 {

@@ -2,38 +2,30 @@
 //! source did, or names the first broken rule and its line. It runs both on memory images.
 //!
 //! `answer` has the call that `main` makes, with the promises of the program as its clauses. Below it
-//! `command` and `call` read the words, `reply` makes the answer of a command; `lexer`, `operand`,
-//! `statement` and `reader` judge a source text, and `translate` turns its program into a tree, which
-//! `st_printer` writes. `st_parser` and `st_runner` read and run Structured Text.
+//! `command` and `call` read the words, and `reply` makes the answer of a command. `stl_checks` judges a
+//! source text, `stl_translate` turns its program into a tree, which `st_printer` writes. `st_parser` and
+//! `st_runner` read and run Structured Text.
 #![tactic(auto)]
 
 use crate::answer::stl2st;
 use crate::command::image_name;
+use crate::image_file::ImageFile;
 use crate::status::Status;
 use s7_io::{NoFile, StdSink, StdSource};
-use std::fs::File;
 use std::process::ExitCode;
 use std::{env, io};
 
 mod answer;
 mod call;
 mod command;
-mod lexer;
-mod number;
-mod operand;
-mod reader;
-#[cfg(test)]
-mod refusal_tests;
+mod image_file;
 mod reply;
-mod statement;
 mod status;
 #[cfg(test)]
 mod tests;
 mod text;
 #[cfg(test)]
 mod text_tests;
-mod translate;
-mod words;
 
 /// The words behind the program's name.
 fn arguments(rt: &HostRuntime) -> io::Result<Vec<String>> {
@@ -42,14 +34,6 @@ fn arguments(rt: &HostRuntime) -> io::Result<Vec<String>> {
         words.push(word)?;
     }
     Ok(words)
-}
-
-/// The file with the image, if the words name one and it can be opened.
-fn image_file(rt: &HostRuntime, words: &[String]) -> Option<File> {
-    match image_name(words) {
-        Some(name) => File::open(rt, name).ok(),
-        None => None,
-    }
 }
 
 fn run(rt: &HostRuntime) -> Status {
@@ -62,9 +46,9 @@ fn run(rt: &HostRuntime) -> Status {
     let words = words.as_slice();
     let mut program = StdSource::new(rt.reader());
     let mut out = StdSink::new(io::writer(rt));
-    match image_file(rt, words) {
-        Some(file) => {
-            let mut image = StdSource::new(file);
+    match image_name(words) {
+        Some(name) => {
+            let mut image = StdSource::new(ImageFile::named(rt, name));
             stl2st(rt.alloc(), words, &mut program, &mut image, &mut out)
         }
         None => {

@@ -10,15 +10,13 @@ ghost use Rattle.stl2st.specs.Command.{command_meant};
 ghost use Rattle.stl2st.specs.Inputs.{FailedToRead, ReadsImage, ReadsProgram, ReadsRunImage, input};
 ghost use Rattle.stl2st.specs.Replies.{Answered, AnsweredFor, AnsweredRun, AnsweredTree, HasImage, IsReply, IsStl, IsWritten, ReadsOwnImage, bytes_of_text, ending, reply_of};
 ghost use Rattle.stl2st.specs.declared.command.Command.TheVariants.{RunStl, RunSt};
-ghost use Rattle.stl2st.specs.Translation.{IsTranslatable};
-ghost use Rattle.stl2st.specs.WellFormed.{IsWellFormed};
+ghost use Rattle.stl_translate.specs.Translation.{IsTranslatable};
+ghost use Rattle.stl_translate.specs.WellFormed.{IsWellFormed};
 
 use crate::answer::{IMAGE_LIMIT, INPUT_LIMIT};
 use crate::command::{Command, WordsRefusal, read_words};
-use crate::reader::verdict;
 use crate::status::Status;
 use crate::text::{put, put_number};
-use crate::translate::translate;
 use image_text::{ImageRefusal, image_text, read_image};
 use memory_areas::Memory;
 use s7_base::{Line, NoMemory, Outcome, Reason, Rejection};
@@ -28,7 +26,9 @@ use st_printer::print;
 use st_runner::{Runner, RunnerRefusal};
 use st_tree::StProgram;
 use std::alloc::Global;
+use stl_checks::verdict;
 use stl_machine::{Machine, MachineRefusal};
+use stl_translate::translate;
 use stl_tree::{Call, Program};
 
 const USAGE_LINE: &str =
@@ -43,11 +43,15 @@ const BAD_CALL_LINE: &str = "bad call\n";
 /// A text to write, which takes memory only where it is made.
 #[derive(Debug, Drop)]
 pub enum Text {
+    /// A line that is the same for every input.
     Fixed(&'static str),
+
+    /// A text that was made for this input.
     Made(Vec<u8>),
 }
 
 impl Text {
+    /// The bytes of the text.
     pub fn as_bytes(&self) -> &[u8]
         ensures { result.now ≡ bytes_of_text self.now }
     {
@@ -71,6 +75,7 @@ pub enum Stop {
     /// An input could not be read.
     ReadFault,
 
+    /// Memory ran out.
     NoMemory,
 }
 
@@ -236,7 +241,8 @@ fn source_reply<P: Source, M: Source>(
     requires { IsStl command.now }
     ensures reply { IfOk result (Answered (Some command.now) (P.left program.old) (M.left image.old)) }
     ensures reads_program { ReadsProgram (Some command.now)
-        (input (P.left program.old) (P.left program.new) (P.faults program.old) (P.faults program.new)) (ending result) }
+        (input (P.left program.old) (P.left program.new) (P.faults program.old) (P.faults program.new))
+        (ending result) }
     ensures reads_image { ReadsImage (Some command.now) (P.left program.old)
         (input (M.left image.old) (M.left image.new) (M.faults image.old) (M.faults image.new)) (ending result) }
     ensures read_fault { result ≡ Err Stop.ReadFault → FailedToRead (Some command.now)
@@ -342,7 +348,7 @@ fn text_reply<P: Source, M: Source>(
     }
 }
 
-/// What the words ask for, done on the inputs.
+/// What the arguments ask for, done on the inputs.
 pub fn reply_to<P: Source, M: Source>(
     alloc: Global,
     words: &[String],
@@ -352,7 +358,8 @@ pub fn reply_to<P: Source, M: Source>(
     ensures reply { IfOk result
         (Answered (command_meant (map (λ word. string_bytes word) words.now)) (P.left program.old) (M.left image.old)) }
     ensures reads_program { ReadsProgram (command_meant (map (λ word. string_bytes word) words.now))
-        (input (P.left program.old) (P.left program.new) (P.faults program.old) (P.faults program.new)) (ending result) }
+        (input (P.left program.old) (P.left program.new) (P.faults program.old) (P.faults program.new))
+        (ending result) }
     ensures reads_image { ReadsImage (command_meant (map (λ word. string_bytes word) words.now)) (P.left program.old)
         (input (M.left image.old) (M.left image.new) (M.faults image.old) (M.faults image.new)) (ending result) }
     ensures read_fault { result ≡ Err Stop.ReadFault

@@ -11,7 +11,7 @@ pub enum Status {
     /// The text breaks a rule, which is written with its line.
     Refused = 1,
 
-    /// The words are no command.
+    /// The arguments are no command.
     Usage = 2,
 
     /// The memory image breaks a rule.

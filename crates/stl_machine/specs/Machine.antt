@@ -31,7 +31,7 @@ memory_of (running block r memory) = memory
 memory_of (over memory f) = memory
 
 -- a new machine stands where the run of its call begins; there is none exactly where the call does not
--- fit, or for want of memory
+-- fit, or where memory ran out
 abbrev pub IsNew : Program → Call → Areas → Result Standing MachineRefusal → Type 0
 IsNew program call areas (Ok machine) = Fits program call × (machine ≡ begun program call areas)
 IsNew program call areas (Err BadCall) = Fits program call → ⊥

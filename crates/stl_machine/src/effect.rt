@@ -19,7 +19,8 @@ pub enum Effect {
 
 /// Does an instruction. A fault leaves the memory as it was.
 pub fn effect_of(op: Op, registers: &mut Registers, memory: &mut Memory) -> Result<Effect, Fault>
-    ensures { HasEffect (effect_of op (values registers.old) memory.old) result (values registers.new) memory.old memory.new }
+    ensures { HasEffect (effect_of op (values registers.old) memory.old) result
+        (values registers.new) memory.old memory.new }
 {
     match op {
         Op::Check(check, BitArg::At(operand)) => {

@@ -11,5 +11,3 @@ pub use machine::{Machine, MachineRefusal};
 mod effect;
 mod machine;
 mod registers;
-#[cfg(test)]
-mod tests;

@@ -18,6 +18,7 @@ pub enum MachineRefusal {
     /// The call does not fit the program.
     BadCall,
 
+    /// Memory ran out.
     NoMemory,
 }
 
@@ -55,7 +56,8 @@ fn is_same_name(a: BlockName, b: BlockName) -> bool
 
 /// The block of a name, the first where there are several.
 fn block_named(blocks: &[Block], name: BlockName) -> Option<&Block>
-    ensures { MatchOption result (block_named name blocks.now ≡ None) (λ block. block_named name blocks.now ≡ Some block.now) }
+    ensures { MatchOption result (block_named name blocks.now ≡ None)
+        (λ block. block_named name blocks.now ≡ Some block.now) }
 {
     let mut rest = blocks;
     while let Some((block, behind)) = rest.split_first() {

@@ -88,6 +88,8 @@ impl Registers {
         }
     }
 
+    /// The registers after a check: the RLO is combined with the bit, negated for AN, ON and XN, or is
+    /// that bit where the check is the first of its chain.
     pub fn after_check(self, check: Check, bit: bool) -> Registers
         ensures { values result ≡ after_check check (values self) bit }
     {
@@ -100,6 +102,7 @@ impl Registers {
         }
     }
 
+    /// The registers after `=`: the bit that was written is in STA, and the next check is a first one.
     pub fn after_assign(self) -> Registers
         ensures { values result ≡ after_assign (values self) }
     {
@@ -111,6 +114,8 @@ impl Registers {
         }
     }
 
+    /// The registers after the end of a block: OS and OR are 0, STA is 1, and the next check is a first
+    /// one. The RLO stays.
     pub fn after_end(self) -> Registers
         ensures { values result ≡ after_end (values self) }
     {

@@ -47,7 +47,7 @@ size_open first rest test = ap (λ (b : Bool). cond (not b) (1 + statement_size 
 size_closed : (first : Token) (rest : List Token) → is_semicolon first ≡ true → statement_size (first ∷ rest) ≡ 0
 size_closed first rest test = ap (λ (b : Bool). cond (not b) (1 + statement_size rest) 0) test
 
--- a statement that reaches its `;`, the `;` and what stands behind it
+-- a statement that reaches its `;`, the `;` and what stands after it
 record Split (tokens : List Token) : Type 0 where
   front : List Token
   sign : Token
@@ -81,7 +81,7 @@ split_of (first ∷ rest) h =
     split_by (is_semicolon first) first rest refl
     (λ (test : is_semicolon first ≡ false). split_of rest (let e : statement_size (first ∷ rest) ≡ 1 + statement_size rest = size_open first rest test in omega arith))
 
--- a statement that is read, and the instructions behind it
+-- a statement that is read, and the instructions after it
 record Parts (line : Line) (said : Result Op Reason) (behind : Result (List Instr) Rejection) (instrs : List Instr) : Type 0 where
   op : Op
   more : List Instr
@@ -101,7 +101,7 @@ form_of true (Some x) reason op e = (refl, cc)
 form_of true None reason op e = absurd cc
 form_of false o reason op e = absurd cc
 
--- the tokens of a statement, and those behind its `;`
+-- the tokens of a statement, and those after its `;`
 taken : (tokens front : List Token) (sign : Token) (rest : List Token) (size : ℕ) → tokens ≡ front ++ (sign ∷ rest) → size ≡ length front → take size tokens ≡ front
 taken tokens front sign rest size split e =
     ap (λ (n : ℕ). take n tokens) e ∙ ap (λ (ts : List Token). take (length front) ts) split ∙ take-append_seam front (sign ∷ rest)
@@ -173,7 +173,7 @@ open_by false first front test none = refl
 first_open : (first : Token) (front : List Token) → statement_size (first ∷ front) ≡ length (first ∷ front) → is_semicolon first ≡ false
 first_open first front none = open_by (is_semicolon first) first front refl none
 
--- a statement is as long as it says, whatever stands behind its `;`
+-- a statement is as long as it says, whatever stands after its `;`
 size_append : (front : List Token) (sign : Token) (rest : List Token) → statement_size front ≡ length front → is_semicolon sign ≡ true →
     statement_size (front ++ (sign ∷ rest)) ≡ length front
 size_append [] sign rest none ends = size_closed sign rest ends
@@ -227,7 +227,7 @@ complete_body end (statement first more sign op {rest = rest} {instrs = instrs} 
 
 -- The heading
 
--- the number behind OB
+-- the number after OB
 record Named (tokens : List Token) (size : ℕ) (name : BlockName) : Type 0 where
   names : List Token
   rest : List Token
@@ -289,7 +289,7 @@ name_read rest (together word {n = n} no_ob test digits) =
 
 -- The text
 
--- a body behind BEGIN
+-- a body after BEGIN
 record Begun (tokens : List Token) (instrs : List Instr) : Type 0 where
   begin : Token
   body : List Token

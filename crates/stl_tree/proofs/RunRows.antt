@@ -57,7 +57,7 @@ too_few_steps = refl
 end_word_counts : size_of (program_of series) ≡ 4
 end_word_counts = refl
 
--- the check behind an assignment is a first check
+-- the check after an assignment is a first check
 first_check : stl_run (program_of (op.Check check.A (At (input 0)) ∷ op.Assign (output 0) ∷ op.Check check.O (At (input 1)) ∷ op.Assign (output 1) ∷ [])) (call_of 1) (memory_of 1 2) 5 ≡ Ended (memory_of 1 1) None
 first_check = refl
 
@@ -74,7 +74,7 @@ past_the_end = refl
 before_the_fault : stl_run (program_of (op.Check check.An (At (input 0)) ∷ op.Assign (output 0) ∷ op.Assign (Direct area.Q 1 0) ∷ [])) (call_of 1) (memory_of 0 0) 2 ≡ Going
 before_the_fault = refl
 
--- each check, first in its chain and behind another: the outputs 0 and 1 take the two results
+-- each check, first in its chain and after another: the outputs 0 and 1 take the two results
 abbrev twice : Op → List Op
 twice o = o ∷ op.Assign (output 0) ∷ op.Check check.A (At (input 7)) ∷ o ∷ op.Assign (output 1) ∷ []
 
@@ -99,7 +99,7 @@ exclusive_row = refl
 exclusive_not_row : outputs_after (op.Check check.Xn (At (input 0))) 129 ≡ Ended (memory_of 129 2) None
 exclusive_not_row = refl
 
--- behind an assignment the RLO of the chain before counts no more
+-- after an assignment the RLO of the chain before counts no more
 first_or_not : stl_run (program_of (op.Check check.A (At (input 0)) ∷ op.Assign (output 0) ∷ op.Check check.On (At (input 0)) ∷ op.Assign (output 1) ∷ [])) (call_of 1) (memory_of 1 0) 5 ≡ Ended (memory_of 1 1) None
 first_or_not = refl
 

@@ -69,5 +69,6 @@ after_end r = record r { os = false; orb = false; sta = true; fc = false }
 -- the row of each instruction
 abbrev pub effect_of : Op → RegisterValues → Contents → Effect
 effect_of (op.Check c b) r memory = with_value (bit_checked b r memory) (λ v. next (after_check c r v) memory)
-effect_of (op.Assign o) r memory = with_value (write_bit (place_of o r) r.rlo memory) (λ after. next (after_assign r) after)
+effect_of (op.Assign o) r memory =
+    with_value (write_bit (place_of o r) r.rlo memory) (λ after. next (after_assign r) after)
 effect_of op.BlockEnd r memory = leave (after_end r) memory

@@ -25,7 +25,7 @@ use Rattle.stl_tree.specs.declared.program.Operand.TheVariants.{Direct}
 
 -- Numbers and operands
 
--- the number that digits stand for behind those of `value`, where it is at most `most`
+-- the number that digits stand for after those of `value`, where it is at most `most`
 abbrev pub number_from : ℕ → ℕ → List ℕ → Option ℕ
 number_from most value [] = Some value
 number_from most value (digit ∷ rest) =
@@ -40,7 +40,10 @@ number_of most (digit ∷ rest) = number_from most 0 (digit ∷ rest)
 -- the area of a bit operand, by its letter
 abbrev pub area_of_letter : ℕ → Option AreaName
 area_of_letter letter =
-    if letter == 73 then Some area.I else if letter == 81 then Some area.Q else if letter == 77 then Some area.M else None
+    if letter == 73 then Some area.I
+    else if letter == 81 then Some area.Q
+    else if letter == 77 then Some area.M
+    else None
 
 -- the area of a bit operand, by a word of one letter in either case
 abbrev pub area_of : List ℕ → Option AreaName
@@ -61,12 +64,16 @@ is_bit_number point bit = is_sign (codes ".") point && point.glued && is_word_ki
 -- `I0.0`: the area and the byte in one word
 abbrev pub short_operand : Token → Token → Token → Option Operand
 short_operand place point bit =
-    if is_word_kind place.kind && is_bit_number point bit then bit_at (area_of (take 1 place.text)) (drop 1 place.text) bit.text else None
+    if is_word_kind place.kind && is_bit_number point bit
+    then bit_at (area_of (take 1 place.text)) (drop 1 place.text) bit.text
+    else None
 
 -- `I 0.0`: the area and the byte in a word each
 abbrev pub long_operand : Token → Token → Token → Token → Option Operand
 long_operand name byte point bit =
-    if is_word_kind name.kind && is_word_kind byte.kind && is_bit_number point bit then bit_at (area_of name.text) byte.text bit.text else None
+    if is_word_kind name.kind && is_word_kind byte.kind && is_bit_number point bit
+    then bit_at (area_of name.text) byte.text bit.text
+    else None
 
 -- a bit as it is written
 abbrev pub bit_operand : List Token → Option Operand
@@ -103,7 +110,8 @@ statement_size tokens = prefix_len (λ token. not (is_sign (codes ";") token)) t
 -- a sign and a type letter, as in +I, with no blank between them
 abbrev pub begins_with_typed_sign : Token → List Token → Bool
 begins_with_typed_sign first [] = false
-begins_with_typed_sign first (second ∷ rest) = is_sign_among typed_signs first && second.glued && is_word_among type_letters second
+begins_with_typed_sign first (second ∷ rest) =
+    is_sign_among typed_signs first && second.glued && is_word_among type_letters second
 
 -- MCR and a bracket
 abbrev pub begins_master_control : Token → List Token → Bool
@@ -114,7 +122,8 @@ begins_master_control first (second ∷ rest) = is_word (codes "MCR") first && i
 abbrev pub begins_with_mnemonic : List Token → Bool
 begins_with_mnemonic [] = false
 begins_with_mnemonic (first ∷ rest) =
-    is_word_among mnemonics first || is_sign_among sign_mnemonics first || begins_with_typed_sign first rest || begins_master_control first rest
+    is_word_among mnemonics first || is_sign_among sign_mnemonics first || begins_with_typed_sign first rest
+    || begins_master_control first rest
 
 -- one to four letters, digits or `_`, the first of them no digit
 abbrev pub is_label : List ℕ → Bool
@@ -137,6 +146,7 @@ pub data Context : Type 0 where
   outside : Context
   in_body : Context
 
+-- a label and its colon stand at the front, where labels may stand
 abbrev pub label_at : Context → List Token → Bool
 label_at outside tokens = false
 label_at in_body tokens = begins_with_label tokens
@@ -169,21 +179,28 @@ statement_of tokens =
 abbrev pub block_number : List ℕ → Option ℕ
 block_number digits = option_and_then (λ number. if number == 0 then None else Some number) (number_of 65535 digits)
 
+-- a heading whose number is read, with how many tokens the name of its block takes; one with no number
+-- in range is not built yet
 abbrev pub heading_with : ℕ → Option ℕ → Result (BlockName × ℕ) Reason
 heading_with size None = Err (Unsupported NotBuilt)
 heading_with size (Some number) = Ok (Ob number, size)
 
--- OB and the number behind it; a text that ends before the number cuts the heading off
+-- OB and the number after it; a text that ends before the number cuts the heading off
 abbrev pub heading_number : List Token → Result (BlockName × ℕ) Reason
 heading_number [] = Err BadStatement
-heading_number (number ∷ rest) = if is_word_kind number.kind then heading_with 2 (block_number number.text) else Err (Unsupported NotBuilt)
+heading_number (number ∷ rest) =
+    if is_word_kind number.kind then heading_with 2 (block_number number.text) else Err (Unsupported NotBuilt)
+
+-- a word that begins with OB, in any case
+abbrev pub begins_with_ob : Token → Bool
+begins_with_ob token = is_word_kind token.kind && str_eq_ignore_ascii_case (take 2 token.text) (codes "OB")
 
 -- `OB1` in one word
 abbrev pub short_heading : Token → Result (BlockName × ℕ) Reason
 short_heading name =
-    if is_word_kind name.kind && str_eq_ignore_ascii_case (take 2 name.text) (codes "OB") then heading_with 1 (block_number (drop 2 name.text)) else Err (Unsupported NotBuilt)
+    if begins_with_ob name then heading_with 1 (block_number (drop 2 name.text)) else Err (Unsupported NotBuilt)
 
--- what stands behind ORGANIZATION_BLOCK, with how many tokens it takes
+-- what stands after ORGANIZATION_BLOCK, with how many tokens it takes
 abbrev pub heading_name : List Token → Result (BlockName × ℕ) Reason
 heading_name [] = Err BadStatement
 heading_name (name ∷ rest) = if is_word (codes "OB") name then heading_number rest else short_heading name

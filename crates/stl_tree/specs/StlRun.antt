@@ -96,7 +96,8 @@ body_called (Some b) = b.body
 
 -- where the run of a call begins; local data and constant actuals are zero
 abbrev pub begun : Program → Call → Areas → Standing
-begun program call memory = running (record { body = body_called (block_called call.block program.blocks); at = 0 }) start (with_areas memory)
+begun program call memory =
+    running (record { body = body_called (block_called call.block program.blocks); at = 0 }) start (with_areas memory)
 
 -- the run of a call within n steps
 abbrev pub stl_run : Program → Call → Areas → ℕ → End

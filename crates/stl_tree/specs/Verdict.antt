@@ -25,16 +25,17 @@ abbrev pub prepend_instrs : List Instr → Result (List Instr) Rejection → Res
 prepend_instrs instrs (Ok more) = Ok (instrs ++ more)
 prepend_instrs instrs (Err refused) = Err refused
 
--- a statement and the items behind it
+-- a statement and the items after it
 abbrev pub with_statement : Line → Result Op Reason → Result (List Instr) Rejection → Result (List Instr) Rejection
 with_statement line (Ok op) rest = prepend_instrs (record { line = line; op = op } ∷ []) rest
 with_statement line (Err reason) rest = Err (Refused line reason)
 
--- an empty statement or a statement at the front of these tokens, and the items behind it
+-- an empty statement or a statement at the front of these tokens, and the items after it
 abbrev pub with_item : Token → List Token → Result (List Instr) Rejection → Result (List Instr) Rejection
-with_item first tokens rest = if is_sign (codes ";") first then rest else with_statement first.line (statement_of tokens) rest
+with_item first tokens rest =
+    if is_sign (codes ";") first then rest else with_statement first.line (statement_of tokens) rest
 
--- an end word, behind which the text ends
+-- an end word, after which the text ends
 abbrev pub with_end : Line → List Token → Result (List Instr) Rejection
 with_end line [] = Ok (record { line = line; op = BlockEnd } ∷ [])
 with_end line (next ∷ rest) = Err (misfit_at (next ∷ rest) next.line)
@@ -49,17 +50,18 @@ body_from end zero (first ∷ rest) =
     then with_end first.line rest
     else with_item first (first ∷ rest) (body_from end (statement_size (first ∷ rest)) rest)
 
--- BEGIN and the body behind it
+-- BEGIN and the body after it
 abbrev pub begin_from : Line → List Token → Result (List Instr) Rejection
 begin_from end [] = Err (Refused end BadStatement)
-begin_from end (first ∷ rest) = if is_word (codes "BEGIN") first then body_from end 0 rest else Err (misfit_at (first ∷ rest) first.line)
+begin_from end (first ∷ rest) =
+    if is_word (codes "BEGIN") first then body_from end 0 rest else Err (misfit_at (first ∷ rest) first.line)
 
 -- the program of one block
 abbrev pub one_block : BlockName → Line → Result (List Instr) Rejection → Result Program Rejection
 one_block name line (Ok body) = Ok (record { blocks = record { name = name; line = line; body = body } ∷ [] })
 one_block name line (Err refused) = Err refused
 
--- a heading and the block behind it
+-- a heading and the block after it
 abbrev pub with_heading : Line → Line → List Token → Result (BlockName × ℕ) Reason → Result Program Rejection
 with_heading end line rest (Ok heading) = one_block heading.0 line (begin_from end (drop heading.1 rest))
 with_heading end line rest (Err reason) = Err (Refused line reason)
@@ -72,6 +74,7 @@ program_of end (first ∷ rest) =
     then with_heading end first.line rest (heading_name rest)
     else Err (misfit_at (first ∷ rest) first.line)
 
+-- the program of a text whose tokens are cut; a bad token is the first broken rule, wherever it stands
 abbrev pub judged : Line → Result (List Token) Rejection → Result Program Rejection
 judged end (Ok tokens) = program_of end tokens
 judged end (Err refused) = Err refused

@@ -6,10 +6,12 @@
 //! program does, too: the registers, the instruction table and the run, whose laws `run_laws` proves.
 #![tactic(auto)]
 
+pub use number::number_of;
 pub use program::{BitArg, Block, BlockName, Call, Instr, Op, Operand, Program};
 pub use run_laws::{end_stays, steps_add};
 pub use source_laws::verdict_accepts_the_grammar;
 
+mod number;
 mod program;
 mod run_laws;
 mod source_laws;

@@ -1,7 +1,8 @@
 -- What lets a type hold itself through `Boxed`, as an expression holds its operands.
 --
 -- The check has to be told that a `Boxed` holds one value, and that it owns, lends and is coded by what
--- that value is. It looks for this file by the struct's name, and checks every line of it against the struct.
+-- that value is. It looks for this file by the struct's name, and checks every line of it against the
+-- struct.
 use mathlib.Core.Path.{◌≡◌, refl}
 use mathlib.Core.Former.{Former, this, const, pair, via}
 use base.Stored.{gnil}
@@ -49,6 +50,7 @@ box_at location value = record { ptr = location.0; alloc = location.1; value = v
 abbrev parts_of : (T : Type 0) → Inside T → Location × T
 parts_of T fields = ((fields.inner.ptr, fields.inner.alloc), fields.inner.value)
 
+-- the fields of a box that lies at this location and holds this value
 abbrev fields_of : (T : Type 0) → Location × T → Inside T
 fields_of T parts = record { inner = box_at parts.0 parts.1 }
 

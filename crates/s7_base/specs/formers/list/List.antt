@@ -53,6 +53,7 @@ the_items_listed = list-listed
 abbrev items_of : (T : Type 0) → Inside T → Vec T Global
 items_of T fields = fields.items
 
+-- the fields of a list that keeps its items in this `Vec`
 abbrev fields_of : (T : Type 0) → Vec T Global → Inside T
 fields_of T items = record { items = items }
 

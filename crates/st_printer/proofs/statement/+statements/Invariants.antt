@@ -3,7 +3,7 @@ use Rattle.std.specs.Prelude.{codes, map, flat_map}
 use Rattle.st_tree.specs.Spelling.{arm_text, case_text, body_text, names_in}
 use Rattle.st_printer.proofs.statement.+statements.Given as goal
 
--- what was passed so far stands behind what stood there
+-- what was passed so far stands after what stood there
 abbrev pub invariant-put_body-loop-statement : goal.invariant-put_body-loop-statement
 invariant-put_body-loop-statement l = l.out.items ≡ l.initial.out.items ++ body_text (names_in l.tree l.unit) l.level (take l.statement-index l.body)
 

@@ -3,6 +3,6 @@ use Rattle.std.specs.Prelude.{flat_map}
 use Rattle.st_tree.specs.Spelling.{local_text}
 use Rattle.st_printer.proofs.unit.put_locals.Given as goal
 
--- what was passed so far stands behind what stood there
+-- what was passed so far stands after what stood there
 abbrev pub invariant-loop-local : goal.invariant-loop-local
 invariant-loop-local l = l.out.items ≡ l.fn.out.items ++ flat_map local_text (take l.local-index l.locals)

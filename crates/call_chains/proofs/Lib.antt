@@ -1,0 +1,4 @@
+pub mod Cycles
+pub mod FoundCycle
+pub mod Followed
+pub mod Reached

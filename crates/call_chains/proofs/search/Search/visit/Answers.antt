@@ -1,0 +1,15 @@
+use Rattle.std.proofs.Common.{sym, ◌∙◌, subst}
+use Rattle.call_chains.specs.Chain.{Reaches}
+use Rattle.call_chains.proofs.Reached.{visited}
+use Rattle.call_chains.proofs.search.Search.visit.Goals as goal
+
+pub loop-call-preserved : goal.loop-call-preserved
+loop-call-preserved c =
+    let unit = c.in-Some.ensures.lookup in
+    let reached = subst (λ n. Reaches c.args.graph.now n c.args.unit) (sym c.loop-call.invariant.from) c.requires.reached in
+    let sound = visited c.args.graph.now c.loop-call.self.from c.args.unit c.loop-call.call-index c.in-Some.calls.now c.as_slice-call-items.result.now _ _ _ unit.3.0 unit.1
+    c.as_slice-call-items.ensures c.loop-call-test.true c.loop-call.invariant.sound reached in
+    record {
+      from = c.in_ok-reach.ensures.from ∙ c.loop-call.invariant.from;
+      sound = rw (c.in_ok-reach.ensures.from, c.in_ok-reach.ensures.seen, c.in_ok-reach.ensures.work) sound;
+    }

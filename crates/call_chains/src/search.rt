@@ -1,0 +1,127 @@
+//! A search for the units that are reached from one.
+ghost use Rattle.std.specs.Prelude.{◌≡◌, ◌<◌, [], ◌∷◌, true, false, length, replicate, IfOk, OnOk};
+ghost use Rattle.call_chains.specs.Chain.{Reaches};
+ghost use Rattle.call_chains.specs.Search.{are_closed, has, lead_to_seen, marks_after, work_after, Decides, IsSound};
+
+use crate::call::Call;
+use s7_base::{List, NoMemory};
+use std::alloc::Global;
+
+/// The units that are seen so far, and those whose calls wait to be looked at.
+#[derive(Drop)]
+pub struct Search {
+    /// The unit where the search begins.
+    pub from: usize,
+
+    /// Which units a call was found to.
+    pub seen: Vec<bool>,
+
+    /// The units whose calls are still to be looked at.
+    pub work: Vec<usize>,
+}
+
+impl Search {
+    fn has(&self, unit: usize) -> bool
+        ensures { result ≡ has self.now.from self.now.seen.items unit }
+    {
+        unit == self.from || self.seen.get(unit).copied().unwrap_or(true)
+    }
+
+    /// Sees one more unit.
+    fn reach(&mut self, unit: usize) -> Result<(), NoMemory>
+        ensures from { OnOk result (self.new.from ≡ self.old.from) }
+        ensures seen { OnOk result (self.new.seen.items ≡ marks_after self.old.from unit self.old.seen.items) }
+        ensures work { OnOk result (self.new.work.items
+            ≡ work_after self.old.from unit self.old.seen.items self.old.work.items) }
+    {
+        if self.has(unit) {
+            return Ok(());
+        }
+        self.work.push(unit)?;
+        if unit < self.seen.len() {
+            self.seen[unit] = true;
+        }
+        Ok(())
+    }
+
+    /// Sees the units that a unit calls.
+    fn visit(&mut self, graph: &[List<Call>], unit: usize) -> Result<(), NoMemory>
+        requires sound { IsSound graph.now self.old.from self.old.seen.items self.old.work.items }
+        requires reached { Reaches graph.now self.old.from unit }
+        ensures from { OnOk result (self.new.from ≡ self.old.from) }
+        ensures sound { OnOk result (IsSound graph.now self.new.from self.new.seen.items self.new.work.items) }
+    {
+        let Some(calls) = graph.get(unit) else {
+            return Ok(());
+        };
+        for call in calls.as_slice() {
+            self.reach(call.callee as usize)?;
+        }
+        Ok(())
+    }
+
+    /// Looks at the calls of all units that wait.
+    fn run(&mut self, graph: &[List<Call>]) -> Result<(), NoMemory>
+        requires sound { IsSound graph.now self.old.from self.old.seen.items self.old.work.items }
+        ensures from { OnOk result (self.new.from ≡ self.old.from) }
+        ensures sound { OnOk result (IsSound graph.now self.new.from self.new.seen.items self.new.work.items) }
+    {
+        for _ in 0..u64::MAX {
+            let Some(unit) = self.work.pop() else {
+                return Ok(());
+            };
+            self.visit(graph, unit)?;
+        }
+        Ok(())
+    }
+
+    fn leads_to_seen(&self, calls: &[Call]) -> bool
+        ensures { result ≡ lead_to_seen self.now.from self.now.seen.items calls.now }
+    {
+        calls.iter().all(|call| self.has(call.callee as usize))
+    }
+
+    /// Whether the units that are seen call no others.
+    fn is_closed(&self, graph: &[List<Call>]) -> bool
+        ensures { result ≡ are_closed self.now.from self.now.seen.items 0 graph.now }
+    {
+        for (unit, calls) in graph.iter().enumerate() {
+            if self.has(unit) && !self.leads_to_seen(calls.as_slice()) {
+                return false;
+            }
+        }
+        true
+    }
+
+    fn new(alloc: Global, size: usize, from: usize) -> Result<Search, NoMemory>
+        ensures from { IfOk result (λ search. search.from ≡ from) }
+        ensures seen { IfOk result (λ search. search.seen.items ≡ replicate size false) }
+        ensures work { IfOk result (λ search. search.work.items ≡ from ∷ []) }
+    {
+        let mut seen = Vec::new(alloc);
+        seen.resize(size, false)?;
+        let mut work = Vec::new(alloc);
+        work.push(from)?;
+        Ok(Search { from, seen, work })
+    }
+}
+
+/// Whether a unit is reached from another by calls. One round sees all that are.
+pub fn reaches(
+    alloc: Global,
+    graph: &[List<Call>],
+    from: usize,
+    to: usize,
+) -> Result<bool, NoMemory>
+    requires { to < length graph.now }
+    ensures { IfOk result (Decides (Reaches graph.now from to)) }
+{
+    let mut search = Search::new(alloc, graph.len(), from)?;
+    for _ in 0..u64::MAX {
+        search.run(graph)?;
+        if search.is_closed(graph) {
+            return Ok(search.has(to));
+        }
+    }
+    Err(NoMemory)
+}

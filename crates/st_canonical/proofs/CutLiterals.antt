@@ -1,0 +1,346 @@
+-- The literals and variables of a canonical text, each before what is read after it.
+use Rattle.std.proofs.Common.{◌≡◌, ℕ, suc, zero, ◌+◌, ◌-◌, ◌/◌, ◌%◌, ◌^◌, ◌<◌, ◌≤◌, Bool, true, false, not, ◌&&◌, ◌==◌, ◌⊎◌, inl, inr, List, [], ◌∷◌, ◌++◌, length, drop, Option, Some, None, refl, sym, ap, subst, ◌∙◌, arith}
+use Rattle.std.specs.Prelude.{ℤ, pos, negsuc, neg_ℤ, unsigned_abs, int_lt, nat_lt, nat_le, min, if◌then◌else◌, codes, decimal}
+use Rattle.std.specs.Ordering.{int_eq}
+use Rattle.std.proofs.lemmas.Bool.Decides.{nat_tests}
+use Rattle.std.proofs.lemmas.Fmt.{decimal_by_steps}
+use Rattle.std.proofs.lemmas.List.Folds.{list_all-append}
+use Rattle.memory_areas.specs.declared.place.AreaName.{AreaName}
+use Rattle.memory_areas.specs.declared.place.AreaName.TheVariants as area
+use Rattle.s7_base.specs.Tokens.{begins_with}
+use Rattle.s7_base.specs.declared.reason.Line.{Line}
+use Rattle.s7_base.specs.declared.word.Width.{Width}
+use Rattle.s7_base.specs.declared.word.Width.TheVariants as width
+use Rattle.st_lexer.proofs.LiteralCuts.{literals_stand}
+use Rattle.st_lexer.proofs.PlaceCuts.{places_stand}
+use Rattle.st_lexer.proofs.Words.{and_both, if_true, if_false}
+use Rattle.st_lexer.specs.Literals.{base_at, begins_with_digit, greatest, is_signed, literal_at}
+use Rattle.st_lexer.specs.Spelled.{ends_word, has_value, is_bit_of, is_block_of, is_byte, is_decimal, is_place}
+use Rattle.st_lexer.specs.SpellingLaws.{IsLiteral, IsToken, place_in}
+use Rattle.st_lexer.specs.StTokens.{is_great, is_letter, token, piece_at}
+use Rattle.st_lexer.specs.declared.literal.Literal.{Literal as Found}
+use Rattle.st_lexer.specs.declared.number.Base.{Base}
+use Rattle.st_lexer.specs.declared.number.Base.TheVariants as base
+use Rattle.st_tree.specs.declared.token.StKind.{StKind}
+use Rattle.st_tree.specs.declared.token.StKind.TheVariants as sort
+use Rattle.st_canonical.proofs.Cuts.{ReadsOn, has_no_line, reads_text}
+use Rattle.st_canonical.proofs.CutWords.{reads_keyword, reads_name}
+use Rattle.st_canonical.specs.Canonical.{literal_form, on, raw_var}
+use Rattle.st_syntax.specs.Kinds.{are_two_digits, decimal_kind, direct_kind, literal_kind, number_kind, text_kind, typed_kind, word_named, word_text}
+use Rattle.st_canonical.specs.Spelled.{is_literal, is_name, is_variable}
+use Rattle.st_syntax.specs.declared.kind.Kind.{Kind}
+use Rattle.st_syntax.specs.declared.kind.Kind.TheVariants as kind
+use Rattle.st_syntax.specs.declared.kind.Literal.TheVariants as lit
+use Rattle.st_tree.specs.Spelling.{bit_text, byte_text, digit, hexadecimal, integer_text, literal_text, place_text, var_text}
+use Rattle.st_tree.specs.Typing.{Names}
+use Rattle.st_tree.specs.Words.{area_word, width_word}
+use Rattle.st_tree.specs.declared.expr.StType.{StType}
+use Rattle.st_tree.specs.declared.expr.StType.TheVariants as type
+use Rattle.st_tree.specs.declared.expr.Var.{Var}
+use Rattle.st_tree.specs.declared.expr.Var.TheVariants as tree_var
+use Rattle.st_tree.specs.declared.raw.RawVar.TheVariants as var
+
+-- No end of a line
+
+pub no_line_both : (a b : List ℕ) → has_no_line a ≡ true → has_no_line b ≡ true → has_no_line (a ++ b) ≡ true
+no_line_both a b h k = list_all-append (λ x. not (x == 10)) a b ∙ rw (h, k) refl
+
+one_digit : (n : ℕ) → n < 10 → has_no_line ((48 + n) ∷ []) ≡ true
+one_digit n h = grind (arith, nat_tests)
+
+more_digits : (n : ℕ) (ds : List ℕ) → 10 ≤ n → has_no_line ds ≡ true → has_no_line (ds ++ ((48 + n % 10) ∷ [])) ≡ true
+more_digits n ds h d = no_line_both ds ((48 + n % 10) ∷ []) d (one_digit (n % 10) (omega arith))
+
+decimal_no_line : (n : ℕ) → n < 2 ^ 64 → has_no_line (decimal n) ≡ true
+decimal_no_line n small = decimal_by_steps (λ m ds. has_no_line ds ≡ true) one_digit more_digits n small
+
+digit_no_line : (d : ℕ) → has_no_line (digit d ∷ []) ≡ true
+digit_no_line d = by (nat_lt d 10)
+  where
+    by : (t : Bool) → has_no_line ((if t then 48 + d else 55 + d) ∷ []) ≡ true
+    by true = grind (arith, nat_tests)
+    by false = grind (arith, nat_tests)
+
+hexadecimal_no_line : (count n : ℕ) → has_no_line (hexadecimal count n) ≡ true
+unfolding hexadecimal
+hexadecimal_no_line zero n = refl
+hexadecimal_no_line (suc count) n = no_line_both (hexadecimal count (n / 16)) (digit (n % 16) ∷ []) (hexadecimal_no_line count (n / 16)) (digit_no_line (n % 16))
+
+-- Literals
+
+in_range : (ty : StType) (minus : Bool) (m : ℕ) → (if minus then is_signed ty && nat_le m (greatest ty true) else nat_le m (greatest ty false)) ≡ true
+    → nat_le m (greatest ty minus) ≡ true
+in_range ty true m h = (and_both (is_signed ty) (nat_le m (greatest ty true)) h).1
+in_range ty false m h = h
+
+below : (m most : ℕ) → nat_le m most ≡ true → m < suc most
+below m most h = grind (arith, nat_tests)
+
+within_64 : (ty : StType) (minus : Bool) (m : ℕ) → nat_le m (greatest ty minus) ≡ true → m < 2 ^ 64
+within_64 type.Bool minus m h = omega (arith, below m 1 h)
+within_64 type.Byte minus m h = omega (arith, below m 255 h)
+within_64 type.Word minus m h = omega (arith, below m 65535 h)
+within_64 type.Dword minus m h = omega (arith, below m 4294967295 h)
+within_64 type.Int true m h = omega (arith, below m 32768 h)
+within_64 type.Int false m h = omega (arith, below m 32767 h)
+within_64 type.Dint true m h = omega (arith, below m 2147483648 h)
+within_64 type.Dint false m h = omega (arith, below m 2147483647 h)
+within_64 type.Lint true m h = omega (arith, below m 9223372036854775808 h)
+within_64 type.Lint false m h = omega (arith, below m 9223372036854775807 h)
+
+signed_same : (n : ℤ) → (if int_lt n (pos 0) then neg_ℤ (pos (unsigned_abs n)) else pos (unsigned_abs n)) ≡ n
+signed_same (pos m) = let plus : int_lt (pos m) (pos 0) ≡ false = grind (arith, nat_tests) in if_false (int_lt (pos m) (pos 0)) (neg_ℤ (pos m)) (pos m) plus
+signed_same (negsuc m) = refl
+
+-- a token of a literal that its type has
+record IsRead (text : List ℕ) (k : Kind) : Type 0 where
+  is_kind : (line : Line) → text_kind sort.Literal text line ≡ k
+  small : is_great sort.Literal (literal_at text) ≡ false
+
+typed_read : (text : List ℕ) (ty : StType) (n : ℤ) → IsLiteral text ty n → has_value ty n ≡ true → base_at text ≡ base.Ten → begins_with_digit base.Ten text ≡ false
+    → IsRead text (kind.Literal (lit.Typed ty n))
+typed_read text ty n is h ten plain =
+    let found : Found = record { kind = ty; minus = int_lt n (pos 0); number = unsigned_abs n; size = length text } in
+    let range : nat_le (unsigned_abs n) (greatest ty (int_lt n (pos 0))) ≡ true = in_range ty (int_lt n (pos 0)) (unsigned_abs n) h in
+    record {
+      is_kind = λ line. ap (λ (o : Option Found). number_kind o text) is.found ∙ ap (λ (b : Base). literal_kind b text found) ten
+          ∙ if_false (begins_with_digit base.Ten text) (decimal_kind found.number) (typed_kind found) plain
+          ∙ if_true (nat_le (unsigned_abs n) (greatest ty (int_lt n (pos 0)))) _ _ range
+          ∙ ap (λ (m : ℤ). kind.Literal (lit.Typed ty m)) (signed_same n);
+      small = ap (λ (o : Option Found). is_great sort.Literal o) is.found ∙ ap not range;
+    }
+
+decimal_read : (n : ℕ) → is_decimal n ≡ true → IsRead (decimal n) (kind.Literal (lit.Decimal n))
+decimal_read n h =
+    let is : IsLiteral (decimal n) type.Dint (pos n) = literals_stand.plain n h in
+    let plain = literals_stand.in_plain n h in
+    let found : Found = record { kind = type.Dint; minus = int_lt (pos n) (pos 0); number = n; size = length (decimal n) } in
+    let plus : int_lt (pos n) (pos 0) ≡ false = grind (arith, nat_tests) in
+    let range : nat_le n (greatest type.Dint (int_lt (pos n) (pos 0))) ≡ true = ap (λ (b : Bool). nat_le n (greatest type.Dint b)) plus ∙ h in
+    let kept : min n (2 ^ 32 - 1) ≡ n = omega (arith, below n 2147483647 h) in
+    record {
+      is_kind = λ line. ap (λ (o : Option Found). number_kind o (decimal n)) is.found ∙ ap (λ (b : Base). literal_kind b (decimal n) found) plain.0
+          ∙ if_true (begins_with_digit base.Ten (decimal n)) (decimal_kind n) (typed_kind found) plain.1
+          ∙ ap (λ (m : ℕ). kind.Literal (lit.Decimal m)) kept;
+      small = ap (λ (o : Option Found). is_great sort.Literal o) is.found ∙ ap not range;
+    }
+
+two_digits : (text : List ℕ) → length text ≡ 2 → are_two_digits text ≡ true
+two_digits [] h = absurd (omega (arith, h))
+two_digits (a ∷ []) h = absurd (omega (arith, h))
+two_digits (a ∷ b ∷ []) h = refl
+two_digits (a ∷ b ∷ c ∷ text) h = absurd (omega (arith, h))
+
+byte_read : (b : ℕ) → is_byte b ≡ true → IsRead (byte_text b) (kind.Literal (lit.Byte b))
+byte_read b h =
+    let is : IsLiteral (byte_text b) type.Dword (pos b) = literals_stand.byte b h in
+    let plain = literals_stand.in_byte b h in
+    let found : Found = record { kind = type.Dword; minus = int_lt (pos b) (pos 0); number = b; size = length (byte_text b) } in
+    let kept : min b 255 ≡ b = omega (arith, below b 255 h) in
+    let range : nat_le b 4294967295 ≡ true = grind (arith, nat_tests) in
+    record {
+      is_kind = λ line. ap (λ (o : Option Found). number_kind o (byte_text b)) is.found ∙ ap (λ (a : Base). literal_kind a (byte_text b) found) plain.0
+          ∙ if_true (are_two_digits (drop 3 (byte_text b))) (kind.Literal (lit.Byte (min b 255))) (typed_kind found) (two_digits (drop 3 (byte_text b)) plain.1)
+          ∙ ap (λ (m : ℕ). kind.Literal (lit.Byte m)) kept;
+      small = ap (λ (o : Option Found). is_great sort.Literal o) is.found ∙ ap not range;
+    }
+
+pub reads_decimal : (n : ℕ) (more : List ℕ) (line : ℕ) (ks : List Kind) → is_decimal n ≡ true → ends_word more ≡ true → ReadsOn line more ks
+    → ReadsOn line (decimal n ++ more) (kind.Literal (lit.Decimal n) ∷ ks)
+reads_decimal n more line ks h ends r =
+    let read : IsRead (decimal n) (kind.Literal (lit.Decimal n)) = decimal_read n h in
+    let small : n < 2 ^ 64 = omega (arith, below n 2147483647 h) in
+    reads_text sort.Literal (decimal n) more line (kind.Literal (lit.Decimal n)) ks (literals_stand.plain n h).is_token ends (decimal_no_line n small)
+    (read.is_kind (on line)) read.small r
+
+pub reads_byte : (b : ℕ) (more : List ℕ) (line : ℕ) (ks : List Kind) → is_byte b ≡ true → ends_word more ≡ true → ReadsOn line more ks
+    → ReadsOn line (byte_text b ++ more) (kind.Literal (lit.Byte b) ∷ ks)
+reads_byte b more line ks h ends r =
+    let read : IsRead (byte_text b) (kind.Literal (lit.Byte b)) = byte_read b h in
+    reads_text sort.Literal (byte_text b) more line (kind.Literal (lit.Byte b)) ks (literals_stand.byte b h).is_token ends
+    (no_line_both (codes "16#") (hexadecimal 2 b) refl (hexadecimal_no_line 2 b)) (read.is_kind (on line)) read.small r
+
+-- a typed text, with what is known of its front
+reads_typed : (text : List ℕ) (ty : StType) (n : ℤ) (more : List ℕ) (line : ℕ) (ks : List Kind) → IsLiteral text ty n → has_value ty n ≡ true → base_at text ≡ base.Ten
+    → begins_with_digit base.Ten text ≡ false → has_no_line text ≡ true → ends_word more ≡ true → ReadsOn line more ks
+    → ReadsOn line (text ++ more) (kind.Literal (lit.Typed ty n) ∷ ks)
+reads_typed text ty n more line ks is h ten plain no_line ends r =
+    let read : IsRead text (kind.Literal (lit.Typed ty n)) = typed_read text ty n is h ten plain in
+    reads_text sort.Literal text more line (kind.Literal (lit.Typed ty n)) ks is.is_token ends no_line (read.is_kind (on line)) read.small r
+
+integer_no_line : (n : ℤ) → unsigned_abs n < 2 ^ 64 → has_no_line (integer_text n) ≡ true
+integer_no_line n small = by (int_lt n (pos 0))
+  where
+    by : (t : Bool) → has_no_line (if t then codes "-" ++ decimal (unsigned_abs n) else decimal (unsigned_abs n)) ≡ true
+    by true = decimal_no_line (unsigned_abs n) small
+    by false = decimal_no_line (unsigned_abs n) small
+
+value_cases : (n : ℤ) → has_value type.Bool n ≡ true → (n ≡ pos 0) ⊎ (n ≡ pos 1)
+value_cases (pos zero) h = inl refl
+value_cases (pos (suc zero)) h = inr refl
+value_cases (pos (suc (suc m))) h = absurd (omega (arith, below (suc (suc m)) 1 (in_range type.Bool (int_lt (pos (suc (suc m))) (pos 0)) (suc (suc m)) h)))
+value_cases (negsuc m) h = absurd cc
+
+reads_truth : (n : ℤ) (more : List ℕ) (line : ℕ) (ks : List Kind) → (n ≡ pos 0) ⊎ (n ≡ pos 1) → ends_word more ≡ true → ReadsOn line more ks
+    → ReadsOn line (literal_text type.Bool n ++ more) (kind.Literal (lit.Typed type.Bool n) ∷ ks)
+unfolding literal_text word_named word_text
+reads_truth n more line ks (inl e) ends r =
+    subst (λ (m : ℤ). ReadsOn line (literal_text type.Bool m ++ more) (kind.Literal (lit.Typed type.Bool m) ∷ ks)) (sym e)
+    (reads_keyword (codes "FALSE") more line (kind.Literal (lit.Typed type.Bool (pos 0))) ks refl ends refl r)
+reads_truth n more line ks (inr e) ends r =
+    subst (λ (m : ℤ). ReadsOn line (literal_text type.Bool m ++ more) (kind.Literal (lit.Typed type.Bool m) ∷ ks)) (sym e)
+    (reads_keyword (codes "TRUE") more line (kind.Literal (lit.Typed type.Bool (pos 1))) ks refl ends refl r)
+
+small_value : (ty : StType) (n : ℤ) → has_value ty n ≡ true → unsigned_abs n < 2 ^ 64
+small_value ty n h = within_64 ty (int_lt n (pos 0)) (unsigned_abs n) (in_range ty (int_lt n (pos 0)) (unsigned_abs n) h)
+
+-- a DINT from 0 on is plain
+reads_dint : (n : ℤ) (minus : Bool) (more : List ℕ) (line : ℕ) (ks : List Kind) → int_lt n (pos 0) ≡ minus
+    → is_literal (if minus then lit.Typed type.Dint n else lit.Decimal (unsigned_abs n)) ≡ true → ends_word more ≡ true → ReadsOn line more ks
+    → ReadsOn line ((if minus then codes "DINT#" ++ integer_text n else decimal (unsigned_abs n)) ++ more)
+    (kind.Literal (if minus then lit.Typed type.Dint n else lit.Decimal (unsigned_abs n)) ∷ ks)
+unfolding literal_text
+reads_dint n true more line ks e h ends r =
+    let text : (if int_lt n (pos 0) then codes "DINT#" ++ integer_text n else decimal (unsigned_abs n)) ≡ codes "DINT#" ++ integer_text n = if_true (int_lt n (pos 0)) _ _ e in
+    reads_typed (codes "DINT#" ++ integer_text n) type.Dint n more line ks (subst (λ (t : List ℕ). IsLiteral t type.Dint n) text (literals_stand.typed type.Dint n refl h)) h refl refl
+    (no_line_both (codes "DINT#") (integer_text n) refl (integer_no_line n (small_value type.Dint n h))) ends r
+reads_dint n false more line ks e h ends r = reads_decimal (unsigned_abs n) more line ks h ends r
+
+pub reads_literal : (ty : StType) (n : ℤ) (more : List ℕ) (line : ℕ) (ks : List Kind) → is_literal (literal_form ty n) ≡ true → ends_word more ≡ true → ReadsOn line more ks
+    → ReadsOn line (literal_text ty n ++ more) (kind.Literal (literal_form ty n) ∷ ks)
+unfolding literal_text
+reads_literal type.Bool n more line ks h ends r = reads_truth n more line ks (value_cases n h) ends r
+reads_literal type.Byte n more line ks h ends r =
+    reads_typed (literal_text type.Byte n) type.Byte n more line ks (literals_stand.typed type.Byte n refl h) h refl refl
+    (no_line_both (codes "BYTE#16#") (hexadecimal 2 (unsigned_abs n)) refl (hexadecimal_no_line 2 (unsigned_abs n))) ends r
+reads_literal type.Word n more line ks h ends r =
+    reads_typed (literal_text type.Word n) type.Word n more line ks (literals_stand.typed type.Word n refl h) h refl refl
+    (no_line_both (codes "WORD#16#") (hexadecimal 4 (unsigned_abs n)) refl (hexadecimal_no_line 4 (unsigned_abs n))) ends r
+reads_literal type.Dword n more line ks h ends r =
+    reads_typed (literal_text type.Dword n) type.Dword n more line ks (literals_stand.typed type.Dword n refl h) h refl refl
+    (no_line_both (codes "DWORD#16#") (hexadecimal 8 (unsigned_abs n)) refl (hexadecimal_no_line 8 (unsigned_abs n))) ends r
+reads_literal type.Int n more line ks h ends r =
+    reads_typed (literal_text type.Int n) type.Int n more line ks (literals_stand.typed type.Int n refl h) h refl refl
+    (no_line_both (codes "INT#") (integer_text n) refl (integer_no_line n (small_value type.Int n h))) ends r
+reads_literal type.Dint n more line ks h ends r = reads_dint n (int_lt n (pos 0)) more line ks refl h ends r
+reads_literal type.Lint n more line ks h ends r =
+    reads_typed (literal_text type.Lint n) type.Lint n more line ks (literals_stand.typed type.Lint n refl h) h refl refl
+    (no_line_both (codes "LINT#") (integer_text n) refl (integer_no_line n (small_value type.Lint n h))) ends r
+
+-- Places
+
+kept_small : (n : ℕ) → nat_lt n (2 ^ 32) ≡ true → n < 2 ^ 64
+kept_small n h = grind (arith, nat_tests)
+
+bit_no_line : (w : Width) (bit : ℕ) → bit < 2 ^ 64 → has_no_line (bit_text w bit) ≡ true
+bit_no_line width.Bit bit small = decimal_no_line bit small
+bit_no_line width.Byte bit small = refl
+bit_no_line width.Word bit small = refl
+bit_no_line width.Dword bit small = refl
+
+width_no_line : (w : Width) → has_no_line (width_word w) ≡ true
+width_no_line width.Bit = refl
+width_no_line width.Byte = refl
+width_no_line width.Word = refl
+width_no_line width.Dword = refl
+
+area_no_line : (a : AreaName) → has_no_line (area_word a) ≡ true
+area_no_line area.I = refl
+area_no_line area.Q = refl
+area_no_line area.M = refl
+area_no_line area.L = refl
+area_no_line area.Db = refl
+area_no_line area.Di = refl
+
+place_no_line : (w : Width) (byte bit : ℕ) → byte < 2 ^ 64 → bit < 2 ^ 64 → has_no_line (place_text w byte bit) ≡ true
+place_no_line w byte bit h k =
+    no_line_both (width_word w ++ decimal byte) (bit_text w bit) (no_line_both (width_word w) (decimal byte) (width_no_line w) (decimal_no_line byte h)) (bit_no_line w bit k)
+
+bit_small : (w : Width) (bit : ℕ) → is_bit_of w bit ≡ true → bit < 2 ^ 64
+bit_small width.Bit bit h = kept_small bit h
+bit_small width.Byte bit h = grind (arith, nat_tests)
+bit_small width.Word bit h = grind (arith, nat_tests)
+bit_small width.Dword bit h = grind (arith, nat_tests)
+
+block_no_line : (a : AreaName) (block : Option ℕ) (w : Width) (byte bit : ℕ) → is_block_of a block ≡ true → byte < 2 ^ 64 → bit < 2 ^ 64
+    → has_no_line (place_in a block w byte bit) ≡ true
+block_no_line a None w byte bit h k l =
+    no_line_both (codes "%" ++ area_word a) (place_text w byte bit) (no_line_both (codes "%") (area_word a) refl (area_no_line a)) (place_no_line w byte bit k l)
+block_no_line area.Db (Some n) w byte bit h k l =
+    no_line_both ((codes "%DB" ++ decimal n) ++ codes ".DB") (place_text w byte bit)
+    (no_line_both (codes "%DB" ++ decimal n) (codes ".DB") (no_line_both (codes "%DB") (decimal n) refl (decimal_no_line n (kept_small n h))) refl) (place_no_line w byte bit k l)
+block_no_line other (Some n) w byte bit h k l = absurd cc
+
+pub reads_place : (a : AreaName) (block : Option ℕ) (w : Width) (byte bit : ℕ) (more : List ℕ) (line : ℕ) (ks : List Kind) → is_place a block w byte bit ≡ true
+    → ends_word more ≡ true
+    → ReadsOn line more ks → ReadsOn line (place_in a block w byte bit ++ more) (kind.Variable (var.Direct a block w byte bit) (on line) ∷ ks)
+reads_place a block w byte bit more line ks h ends r =
+    let is = places_stand a block w byte bit h in
+    let outer = and_both _ (is_bit_of w bit) h in
+    let both = and_both (is_block_of a block) _ outer.0 in
+    reads_text sort.Direct (place_in a block w byte bit) more line (kind.Variable (var.Direct a block w byte bit) (on line)) ks is.is_token ends
+    (block_no_line a block w byte bit both.0 (kept_small byte both.1) (bit_small w bit outer.1)) (ap (λ o. direct_kind o (on line)) is.found) refl r
+
+-- a variable
+pub reads_var : (names : Names) (v : Var) (more : List ℕ) (line : ℕ) (ks : List Kind) → is_variable (raw_var names v) ≡ true → ends_word more ≡ true
+    → ReadsOn line more ks → ReadsOn line (var_text names v ++ more) (kind.Variable (raw_var names v) (on line) ∷ ks)
+reads_var names (tree_var.Register r) more line ks h ends rest = reads_name _ more line ks h ends rest
+reads_var names (tree_var.Local i) more line ks h ends rest = reads_name _ more line ks h ends rest
+reads_var names (tree_var.Formal i) more line ks h ends rest = reads_name _ more line ks h ends rest
+reads_var names (tree_var.Global i) more line ks h ends rest = reads_name _ more line ks h ends rest
+reads_var names (tree_var.Direct a byte bit w) more line ks h ends rest = reads_place a None w byte bit more line ks h ends rest
+reads_var names (tree_var.InBlock block byte bit w) more line ks h ends rest = reads_place area.Db (Some block) w byte bit more line ks h ends rest
+
+-- What begins with no `*`
+
+star_at : (more : List ℕ) → piece_at (42 ∷ more) ≡ Some (token sort.Sign 1)
+star_at [] = refl
+star_at (b ∷ more) = refl
+
+is_literal_token : (k : StKind) (text more : List ℕ) → k ≡ sort.Literal → IsToken k text → begins_with 42 (text ++ more) ≡ false
+is_literal_token k [] more e is = absurd (let none = (is [] refl).found in cc)
+is_literal_token k (b ∷ w) more e is = by (b == 42) (λ h. let same : b ≡ 42 = grind (arith, nat_tests) in same)
+  where
+    by : (t : Bool) → (t ≡ true → b ≡ 42) → t ≡ false
+    by false h = refl
+    by true h = absurd (
+        let found : piece_at (b ∷ (w ++ [])) ≡ Some (token k (length (b ∷ w))) = (is [] refl).found in
+        let star : piece_at (b ∷ (w ++ [])) ≡ Some (token sort.Sign 1) = ap (λ (x : ℕ). piece_at (x ∷ (w ++ []))) (h refl) ∙ star_at (w ++ []) in
+        cc)
+
+letter_no_star : (b : ℕ) → is_letter b ≡ true → (b == 42) ≡ false
+letter_no_star b h = grind (arith, nat_tests)
+
+pub name_no_star : (name more : List ℕ) → is_name name ≡ true → begins_with 42 (name ++ more) ≡ false
+name_no_star [] more h = absurd cc
+name_no_star (b ∷ w) more h = letter_no_star b (and_both (is_letter b) _ (and_both _ _ h).0).0
+
+pub decimal_no_star : (n : ℕ) (more : List ℕ) → is_decimal n ≡ true → begins_with 42 (decimal n ++ more) ≡ false
+decimal_no_star n more h = is_literal_token sort.Literal (decimal n) more refl (literals_stand.plain n h).is_token
+
+truth_no_star : (t : Bool) (more : List ℕ) → begins_with 42 ((if t then codes "FALSE" else codes "TRUE") ++ more) ≡ false
+truth_no_star true more = refl
+truth_no_star false more = refl
+
+dint_no_star : (n : ℤ) (minus : Bool) (more : List ℕ) → is_literal (if minus then lit.Typed type.Dint n else lit.Decimal (unsigned_abs n)) ≡ true
+    → begins_with 42 ((if minus then codes "DINT#" ++ integer_text n else decimal (unsigned_abs n)) ++ more) ≡ false
+dint_no_star n true more h = refl
+dint_no_star n false more h = decimal_no_star (unsigned_abs n) more h
+
+pub literal_no_star : (ty : StType) (n : ℤ) (more : List ℕ) → is_literal (literal_form ty n) ≡ true → begins_with 42 (literal_text ty n ++ more) ≡ false
+unfolding literal_text
+literal_no_star type.Bool n more h = truth_no_star (int_eq n (pos 0)) more
+literal_no_star type.Byte n more h = refl
+literal_no_star type.Word n more h = refl
+literal_no_star type.Dword n more h = refl
+literal_no_star type.Int n more h = refl
+literal_no_star type.Dint n more h = dint_no_star n (int_lt n (pos 0)) more h
+literal_no_star type.Lint n more h = refl
+
+pub var_no_star : (names : Names) (v : Var) (more : List ℕ) → is_variable (raw_var names v) ≡ true → begins_with 42 (var_text names v ++ more) ≡ false
+var_no_star names (tree_var.Register r) more h = name_no_star (var_text names (tree_var.Register r)) more h
+var_no_star names (tree_var.Local i) more h = name_no_star (var_text names (tree_var.Local i)) more h
+var_no_star names (tree_var.Formal i) more h = name_no_star (var_text names (tree_var.Formal i)) more h
+var_no_star names (tree_var.Global i) more h = name_no_star (var_text names (tree_var.Global i)) more h
+var_no_star names (tree_var.Direct a byte bit w) more h = refl
+var_no_star names (tree_var.InBlock block byte bit w) more h = refl

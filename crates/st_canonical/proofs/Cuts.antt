@@ -1,0 +1,137 @@
+-- What is read of a text from a place on, one piece before what is read after it.
+use Rattle.std.proofs.Common.{◌≡◌, ℕ, suc, zero, ◌-◌, Bool, true, false, not, ◌==◌, List, [], ◌∷◌, ◌++◌, length, map, Option, Some, None, refl, sym, ap, subst, ◌∙◌, arith, append_assoc}
+use Rattle.std.specs.Prelude.{codes}
+use Rattle.std.specs.List.{list_all}
+use Rattle.std.proofs.lemmas.Bool.Decides.{nat_tests}
+use Rattle.std.proofs.Math.Seq.{take-append_seam}
+use Rattle.s7_base.specs.Tokens.{is_word_byte, line_after}
+use Rattle.st_lexer.proofs.Words.{and_both, if_false, not_true, word_stands}
+use Rattle.st_lexer.specs.Literals.{literal_at}
+use Rattle.st_lexer.specs.Spelled.{ends_word}
+use Rattle.st_lexer.specs.SpellingLaws.{IsToken}
+use Rattle.st_lexer.specs.StTokens.{is_letter, Piece, gap, token, piece_at, piece_size, token_of, line_behind, Cut, prepend_tokens, with_piece, cut_from, is_great, great_from, has_text}
+use Rattle.st_lexer.specs.TokenGrammar.{line_past}
+use Rattle.st_tree.specs.declared.token.StKind.{StKind}
+use Rattle.st_tree.specs.declared.token.StKind.TheVariants as sort
+use Rattle.st_tree.specs.declared.token.StToken.{StToken}
+use Rattle.st_canonical.specs.Canonical.{on}
+use Rattle.st_syntax.specs.Kinds.{kind_of, text_kind}
+use Rattle.st_syntax.specs.declared.kind.Fixed.TheVariants as fixed
+use Rattle.st_syntax.specs.declared.kind.Kind.{Kind}
+use Rattle.st_syntax.specs.declared.kind.Kind.TheVariants as kind
+use Rattle.st_tree.specs.Spelling.{blanks, line as line_text}
+
+-- the bytes from a line on are cut to their end, none of their decimals is too great, and these are the
+-- kinds of their tokens, with the end
+pub record ReadsOn (line : ℕ) (bytes : List ℕ) (kinds : List Kind) : Type 0 where
+  pub tokens : List StToken
+  pub cut : cut_from 0 line bytes ≡ record { tokens = tokens; bad = None }
+  pub same : map kind_of tokens ++ kind.Fixed fixed.End ∷ [] ≡ kinds
+  pub calm : (behind : Bool) → great_from behind tokens ≡ None
+
+-- the end of a text
+pub reads_end : (line : ℕ) → ReadsOn line [] (kind.Fixed fixed.End ∷ [])
+reads_end line = record { tokens = []; cut = refl; same = refl; calm = λ behind. refl }
+
+-- the same bytes in another form
+pub reads_as : {line : ℕ} {a b : List ℕ} {ks : List Kind} → a ≡ b → ReadsOn line b ks → ReadsOn line a ks
+reads_as {line} {a} {b} {ks} e r = subst (λ (x : List ℕ). ReadsOn line x ks) (sym e) r
+
+-- no byte ends a line
+abbrev pub has_no_line : List ℕ → Bool
+has_no_line text = list_all (λ b. not (b == 10)) text
+
+-- bytes that belong to the piece before are passed over
+skipped : (w : List ℕ) (line : ℕ) (more : List ℕ) → cut_from (length w) line (w ++ more) ≡ cut_from 0 (line_past line w) more
+skipped [] line more = refl
+skipped (b ∷ w) line more = skipped w (line_behind b line) more
+
+-- a text without an end of line leaves the line
+past_none : (line : ℕ) (w : List ℕ) → has_no_line w ≡ true → line_past line w ≡ line
+past_none line [] h = refl
+past_none line (b ∷ w) h =
+    let both = and_both (not (b == 10)) (has_no_line w) h in
+    ap (λ (n : ℕ). line_past n w) (if_false (b == 10) (line_after line) line (not_true (b == 10) both.0)) ∙ past_none line w both.1
+
+-- one piece
+pieced : (b : ℕ) (w more : List ℕ) (piece : Piece) (line : ℕ) → piece_at (b ∷ (w ++ more)) ≡ Some piece → piece_size piece ≡ suc (length w)
+    → cut_from 0 line (b ∷ (w ++ more)) ≡ prepend_tokens (token_of piece (b ∷ (w ++ more)) line) (cut_from 0 (line_past line (b ∷ w)) more)
+pieced b w more piece line found size =
+    let less : piece_size piece - 1 ≡ length w = omega arith in
+    let here = λ (p : Piece). prepend_tokens (token_of p (b ∷ (w ++ more)) line) (cut_from (piece_size p - 1) (line_behind b line) (w ++ more)) in
+    ap (λ (o : Option Piece). with_piece o line here) found
+    ∙ ap (λ (n : ℕ). prepend_tokens (token_of piece (b ∷ (w ++ more)) line) (cut_from n (line_behind b line) (w ++ more))) less
+    ∙ ap (λ (c : Cut). prepend_tokens (token_of piece (b ∷ (w ++ more)) line) c) (skipped w (line_behind b line) more)
+
+-- a token that is no great decimal before others
+calm_before : (first : StToken) (rest : List StToken) (behind : Bool) → is_great first.kind (literal_at first.text) ≡ false → ((b : Bool) → great_from b rest ≡ None)
+    → great_from behind (first ∷ rest) ≡ None
+calm_before first rest behind small calm = rw small (calm (has_text (codes "..") first))
+
+-- one token
+pub reads_token : (sort : StKind) (b : ℕ) (w more : List ℕ) (line : ℕ) (k : Kind) (ks : List Kind) → piece_at (b ∷ (w ++ more)) ≡ Some (token sort (suc (length w)))
+    → has_no_line (b ∷ w) ≡ true → text_kind sort (b ∷ w) (on line) ≡ k → is_great sort (literal_at (b ∷ w)) ≡ false → ReadsOn line more ks
+    → ReadsOn line (b ∷ (w ++ more)) (k ∷ ks)
+reads_token sort b w more line k ks found plain same small r =
+    let here : StToken = record { kind = sort; text = b ∷ w; line = on line } in
+    record {
+      tokens = here ∷ r.tokens;
+      cut = pieced b w more (token sort (suc (length w))) line found refl
+          ∙ ap (λ (n : ℕ). prepend_tokens (token_of (token sort (suc (length w))) (b ∷ (w ++ more)) line) (cut_from 0 n more)) (past_none line (b ∷ w) plain)
+          ∙ ap (λ (c : Cut). prepend_tokens (token_of (token sort (suc (length w))) (b ∷ (w ++ more)) line) c) r.cut
+          ∙ ap (λ (text : List ℕ). record { tokens = record { kind = sort; text = text; line = on line } ∷ r.tokens; bad = None }) (take-append_seam (b ∷ w) more);
+      same = ap (λ (x : Kind). x ∷ (map kind_of r.tokens ++ kind.Fixed fixed.End ∷ [])) same ∙ ap (λ (xs : List Kind). k ∷ xs) r.same;
+      calm = λ behind. calm_before here r.tokens behind small r.calm;
+    }
+
+-- a text that is a token of a sort
+pub reads_text : (sort : StKind) (text more : List ℕ) (line : ℕ) (k : Kind) (ks : List Kind) → IsToken sort text → ends_word more ≡ true → has_no_line text ≡ true
+    → text_kind sort text (on line) ≡ k → is_great sort (literal_at text) ≡ false → ReadsOn line more ks → ReadsOn line (text ++ more) (k ∷ ks)
+reads_text sort [] more line k ks is ends plain same small r = absurd (let none = (is [] refl).found in cc)
+reads_text sort (b ∷ w) more line k ks is ends plain same small r = reads_token sort b w more line k ks (is more ends).found plain same small r
+
+-- one blank
+pub reads_blank : {line : ℕ} {more : List ℕ} {ks : List Kind} → ReadsOn line more ks → ReadsOn line (32 ∷ more) ks
+reads_blank {line} {more} {ks} r = record {
+  tokens = r.tokens;
+  cut = pieced 32 [] more (gap 1) line refl refl ∙ ap (λ (c : Cut). prepend_tokens [] c) r.cut;
+  same = r.same;
+  calm = r.calm;
+}
+
+-- the end of a line
+pub reads_line_end : {line : ℕ} {more : List ℕ} {ks : List Kind} → ReadsOn (line_after line) more ks → ReadsOn line (10 ∷ more) ks
+reads_line_end {line} {more} {ks} r = record {
+  tokens = r.tokens;
+  cut = pieced 10 [] more (gap 1) line refl refl ∙ ap (λ (c : Cut). prepend_tokens [] c) r.cut;
+  same = r.same;
+  calm = r.calm;
+}
+
+pub reads_blanks : (level : ℕ) {line : ℕ} {more : List ℕ} {ks : List Kind} → ReadsOn line more ks → ReadsOn line (blanks level ++ more) ks
+reads_blanks zero r = r
+reads_blanks (suc level) r = reads_blank (reads_blank (reads_blank (reads_blank (reads_blanks level r))))
+
+-- a line at a level
+pub reads_line : (level : ℕ) (text more : List ℕ) {line : ℕ} {ks : List Kind} → ReadsOn line (text ++ 10 ∷ more) ks → ReadsOn line (line_text level text ++ more) ks
+unfolding line_text
+reads_line level text more r =
+    reads_as (append_assoc (blanks level ++ text) (codes "\n") more ∙ append_assoc (blanks level) text (10 ∷ more)) (reads_blanks level r)
+
+word_no_line : (b : ℕ) → is_word_byte b ≡ true → not (b == 10) ≡ true
+word_no_line b h = grind (arith, nat_tests)
+
+pub words_no_line : (w : List ℕ) → list_all is_word_byte w ≡ true → has_no_line w ≡ true
+words_no_line [] h = refl
+words_no_line (b ∷ w) h =
+    let both = and_both (is_word_byte b) (list_all is_word_byte w) h in
+    rw (word_no_line b both.0, words_no_line w both.1) refl
+
+letter_no_line : (b : ℕ) → is_letter b ≡ true → not (b == 10) ≡ true
+letter_no_line b h = grind (arith, nat_tests)
+
+-- a word, with what it stands for
+pub reads_word : (b : ℕ) (w more : List ℕ) (line : ℕ) (k : Kind) (ks : List Kind) → is_letter b ≡ true → list_all is_word_byte w ≡ true → ends_word more ≡ true
+    → text_kind sort.Word (b ∷ w) (on line) ≡ k → ReadsOn line more ks → ReadsOn line (b ∷ (w ++ more)) (k ∷ ks)
+reads_word b w more line k ks letter all ends same r =
+    reads_token sort.Word b w more line k ks (word_stands b w letter all more ends).found (rw (letter_no_line b letter, words_no_line w all) refl) same refl r

@@ -1,0 +1,9 @@
+mod CanonicalRows
+mod CutExpressions
+mod CutGlobals
+mod CutLiterals
+mod CutStatements
+mod CutUnits
+mod CutWords
+mod Cuts
+pub mod TextReads

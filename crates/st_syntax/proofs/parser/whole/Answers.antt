@@ -1,0 +1,17 @@
+use Rattle.std.proofs.Common.{◌≡◌, Option, Ok, sym, ap, subst, ◌∙◌}
+use Rattle.std.specs.Prelude.{option_map}
+use Rattle.s7_base.specs.declared.reason.Rejection.{Rejection}
+use Rattle.st_syntax.proofs.Whole.{not_over}
+use Rattle.st_syntax.proofs.parser.whole.Goals as goal
+use Rattle.st_syntax.specs.Judge.{JudgedIs, judge, seen}
+use Rattle.st_syntax.specs.Syntax.{all_lined}
+use Rattle.st_syntax.specs.Views.{before_of}
+use Rattle.st_syntax.specs.declared.state.State.TheVariants as state
+
+pub unreachable-requires : goal.unreachable-requires
+unfolding seen
+unreachable-requires c =
+    let given = judge (seen state.Start) (all_lined c.args.tokens.now c.args.end) in
+    let at = seen c.judge-state.result.state in
+    let good : given ≡ Ok at = subst (λ (r : Option Rejection). JudgedIs at r given) c.in_default.is c.judge-state.ensures in
+    not_over c.args.tokens.now c.args.end at good (sym c.finish-text.ensures ∙ ap (option_map before_of) c.in-None.is)

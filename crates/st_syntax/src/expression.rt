@@ -1,0 +1,182 @@
+//! Expressions while they are read.
+ghost use Rattle.std.specs.Prelude.{◌≡◌, suc, ◌+◌, IfOk};
+ghost use Rattle.st_syntax.specs.Grammar.{prefix_level, infix_level, is_value, literal_tree, label_tree, prefix_tree, apply_tree};
+ghost use Rattle.st_syntax.specs.Machine.{code, of_literal, of_variable, of_prefix, of_infix, of_apply, of_shift, of_select};
+ghost use Rattle.st_syntax.specs.Steps.{shallower};
+
+use crate::kind::{Literal, OneOperand, Prefix};
+use s7_base::{Boxed, Line, NoMemory};
+use st_tree::{BinaryOp, RawExpr, RawVar, ShiftOp, StType, UnaryOp};
+use std::alloc::Global;
+
+/// An expression, and how high its tree is.
+#[derive(Drop)]
+pub struct Measured {
+    pub tree: RawExpr,
+    pub height: usize,
+}
+
+/// One more; memory has no room for what would be above the greatest number.
+pub fn one_more(number: usize) -> Result<usize, NoMemory>
+    ensures sum { IfOk result (λ more. more ≡ 1 + number) }
+    ensures next { IfOk result (λ more. more ≡ suc number) }
+{
+    number.checked_add(1).ok_or(NoMemory)
+}
+
+/// One level less.
+pub fn shallower(depth: usize) -> usize
+    ensures { result ≡ shallower depth }
+{
+    depth.saturating_sub(1)
+}
+
+/// The precedence of an operator before its operand, 0 the highest.
+pub fn prefix_level(op: Prefix) -> u32
+    ensures { result ≡ prefix_level op }
+{
+    match op {
+        Prefix::Minus => 1,
+        Prefix::Not => 2,
+    }
+}
+
+/// The precedence of an operator between its operands, 0 the highest.
+pub fn infix_level(op: BinaryOp) -> u32
+    ensures { result ≡ infix_level op }
+{
+    match op {
+        BinaryOp::Mul | BinaryOp::Div | BinaryOp::Mod => 3,
+        BinaryOp::Add | BinaryOp::Sub => 4,
+        BinaryOp::Lt | BinaryOp::Gt | BinaryOp::Le | BinaryOp::Ge => 5,
+        BinaryOp::Eq | BinaryOp::Ne => 6,
+        BinaryOp::And => 7,
+        BinaryOp::Xor => 8,
+        BinaryOp::Or => 9,
+    }
+}
+
+/// A literal that has a value; a decimal without a type is a DINT.
+pub fn is_value(literal: Literal) -> bool
+    ensures { result ≡ is_value literal }
+{
+    match literal {
+        Literal::Decimal(number) => number <= 2_147_483_647,
+        Literal::Byte(_) | Literal::Typed(..) => true,
+    }
+}
+
+/// The type and the value of a literal.
+pub fn label_of(literal: Literal) -> (StType, i64)
+    ensures { result ≡ label_tree literal }
+{
+    match literal {
+        Literal::Decimal(number) => (StType::Dint, i64::from(number)),
+        Literal::Byte(byte) => (StType::Dword, i64::from(byte)),
+        Literal::Typed(ty, value) => (ty, value),
+    }
+}
+
+/// A literal as an expression.
+pub fn of_literal(literal: Literal) -> Measured
+    ensures { result ≡ of_literal code literal }
+{
+    let (ty, value) = label_of(literal);
+    Measured {
+        tree: RawExpr::Literal(ty, value),
+        height: 1,
+    }
+}
+
+/// A variable that is read.
+pub fn of_variable(var: RawVar, line: Line) -> Measured
+    ensures { result ≡ of_variable code var line }
+{
+    Measured {
+        tree: RawExpr::Read(var),
+        height: 1,
+    }
+}
+
+/// `-` or NOT on an operand.
+pub fn of_prefix(alloc: Global, op: Prefix, operand: Measured) -> Result<Measured, NoMemory>
+    ensures { IfOk result (λ whole. whole ≡ of_prefix code op operand) }
+{
+    let height = one_more(operand.height)?;
+    let inner = Boxed::new(alloc, operand.tree)?;
+    let tree = match op {
+        Prefix::Minus => RawExpr::Unary(UnaryOp::Minus, inner),
+        Prefix::Not => RawExpr::Unary(UnaryOp::Not, inner),
+    };
+    Ok(Measured { tree, height })
+}
+
+/// An operator between two operands.
+pub fn of_infix(
+    alloc: Global,
+    op: BinaryOp,
+    left: Measured,
+    right: Measured,
+) -> Result<Measured, NoMemory>
+    ensures { IfOk result (λ whole. whole ≡ of_infix code op left right) }
+{
+    let height = one_more(left.height.max(right.height))?;
+    let first = Boxed::new(alloc, left.tree)?;
+    let second = Boxed::new(alloc, right.tree)?;
+    Ok(Measured {
+        tree: RawExpr::Binary(op, first, second),
+        height,
+    })
+}
+
+/// A function of one operand.
+pub fn of_apply(alloc: Global, op: OneOperand, operand: Measured) -> Result<Measured, NoMemory>
+    ensures { IfOk result (λ whole. whole ≡ of_apply code op operand) }
+{
+    let height = one_more(operand.height)?;
+    let inner = Boxed::new(alloc, operand.tree)?;
+    let tree = match op {
+        OneOperand::Convert(from, to) => RawExpr::Convert(from, to, inner),
+        OneOperand::BcdToInt => RawExpr::Unary(UnaryOp::BcdToInt, inner),
+        OneOperand::BcdToDint => RawExpr::Unary(UnaryOp::BcdToDint, inner),
+        OneOperand::AreaRead(width) => RawExpr::AreaRead(width, inner),
+    };
+    Ok(Measured { tree, height })
+}
+
+/// A shift or a rotation of a pattern by a count.
+pub fn of_shift(
+    alloc: Global,
+    op: ShiftOp,
+    pattern: Measured,
+    count: Measured,
+) -> Result<Measured, NoMemory>
+    ensures { IfOk result (λ whole. whole ≡ of_shift code op pattern count) }
+{
+    let height = one_more(pattern.height.max(count.height))?;
+    let first = Boxed::new(alloc, pattern.tree)?;
+    let second = Boxed::new(alloc, count.tree)?;
+    Ok(Measured {
+        tree: RawExpr::Shift(op, first, second),
+        height,
+    })
+}
+
+/// SEL of a BOOL and two values.
+pub fn of_select(
+    alloc: Global,
+    gate: Measured,
+    first: Measured,
+    second: Measured,
+) -> Result<Measured, NoMemory>
+    ensures { IfOk result (λ whole. whole ≡ of_select code gate first second) }
+{
+    let height = one_more(gate.height.max(first.height).max(second.height))?;
+    let a = Boxed::new(alloc, gate.tree)?;
+    let b = Boxed::new(alloc, first.tree)?;
+    let c = Boxed::new(alloc, second.tree)?;
+    Ok(Measured {
+        tree: RawExpr::Select(a, b, c),
+        height,
+    })
+}

@@ -1,0 +1,258 @@
+//! Steps of the parser in globals.
+ghost use Rattle.std.specs.Prelude.{◌≡◌, IfOk, option_map};
+ghost use Rattle.st_syntax.specs.Grammar.{is_direct};
+ghost use Rattle.st_syntax.specs.Machine.{code, at_item};
+ghost use Rattle.st_syntax.specs.Steps.{is_zero, is_array, row_type, row_place, row_array, row_items, row_step, row_end, at_row, at_globals};
+ghost use Rattle.st_syntax.specs.Views.{row_of, state_of};
+
+use crate::kind::{Fixed, Kind, Literal};
+use crate::state::{Before, Row, State};
+use crate::words::{is_free, may_name_global, names_block};
+use s7_base::{Line, List, NoMemory};
+use st_tree::{RawGlobal, RawGlobalType, RawVar, StType};
+use std::alloc::Global;
+
+/// What stands after `AT`.
+fn row_place(kind: Kind) -> Option<Row>
+    ensures { option_map row_of result ≡ row_place code kind }
+{
+    match kind {
+        Kind::Variable(var, _) => match var {
+            RawVar::Direct(area, block, width, byte, bit) => Some(Row::AtColon(RawVar::Direct(
+                area, block, width, byte, bit,
+            ))),
+            RawVar::Name(_) => None,
+        },
+        _ => None,
+    }
+}
+
+/// The name of a data block goes on with its bytes, another name with its type.
+fn row_type(name: &[u8], at: RawVar, kind: Kind) -> Option<Row>
+    ensures { option_map row_of result ≡ row_type code name.now at kind }
+{
+    match kind {
+        Kind::Fixed(Fixed::Type(ty)) => {
+            if !is_free(name) {
+                return None;
+            }
+            Some(Row::AtEnd(at, RawGlobalType::Plain(ty)))
+        }
+        Kind::Fixed(Fixed::Array) => {
+            if !names_block(name) {
+                return None;
+            }
+            Some(Row::AtSquare(at))
+        }
+        _ => None,
+    }
+}
+
+fn is_zero(number: u32) -> bool
+    ensures { result ≡ is_zero number }
+{
+    number == 0
+}
+
+fn is_array(row: &Row) -> bool
+    ensures { result ≡ is_array code (row_of row.now) }
+{
+    match row {
+        Row::AtSquare(_)
+        | Row::AtZero(_)
+        | Row::AtDots(_)
+        | Row::AtLast(_)
+        | Row::AtClose(..)
+        | Row::AtOf(..)
+        | Row::AtByte(..) => true,
+        _ => false,
+    }
+}
+
+/// `[0..k] OF BYTE`.
+fn row_array(row: Row, kind: Kind) -> Option<Row>
+    ensures { option_map row_of result ≡ row_array code (row_of row) kind }
+{
+    match row {
+        Row::AtSquare(at) => match kind {
+            Kind::Fixed(Fixed::OpenSquare) => Some(Row::AtZero(at)),
+            _ => None,
+        },
+        Row::AtZero(at) => match kind {
+            Kind::Literal(Literal::Decimal(number)) => if is_zero(number) {
+                Some(Row::AtDots(at))
+            } else {
+                None
+            },
+            _ => None,
+        },
+        Row::AtDots(at) => match kind {
+            Kind::Fixed(Fixed::Dots) => Some(Row::AtLast(at)),
+            _ => None,
+        },
+        Row::AtLast(at) => match kind {
+            Kind::Literal(Literal::Decimal(last)) => Some(Row::AtClose(at, last)),
+            _ => None,
+        },
+        Row::AtClose(at, last) => match kind {
+            Kind::Fixed(Fixed::CloseSquare) => Some(Row::AtOf(at, last)),
+            _ => None,
+        },
+        Row::AtOf(at, last) => match kind {
+            Kind::Fixed(Fixed::Of) => Some(Row::AtByte(at, last)),
+            _ => None,
+        },
+        Row::AtByte(at, last) => match kind {
+            Kind::Fixed(Fixed::Type(StType::Byte)) => Some(Row::AtBecomes(at, last)),
+            _ => None,
+        },
+        _ => None,
+    }
+}
+
+/// A byte, or how many of it.
+fn row_item(
+    at: RawVar,
+    last: u32,
+    mut items: List<(u32, u8)>,
+    kind: Kind,
+) -> Result<Option<Row>, NoMemory>
+    ensures { IfOk result (λ o. option_map row_of o ≡ row_items code (at_item at last items) kind) }
+{
+    match kind {
+        Kind::Literal(Literal::Byte(byte)) => {
+            items.push((1, byte))?;
+            Ok(Some(Row::AtComma(at, last, items)))
+        }
+        Kind::Literal(Literal::Decimal(count)) => Ok(Some(Row::AtCount(at, last, items, count))),
+        _ => Ok(None),
+    }
+}
+
+/// The bytes in square brackets.
+fn row_items(alloc: Global, row: Row, kind: Kind) -> Result<Option<Row>, NoMemory>
+    ensures { IfOk result (λ o. option_map row_of o ≡ row_items code (row_of row) kind) }
+{
+    let next = match row {
+        Row::AtBecomes(at, last) => match kind {
+            Kind::Fixed(Fixed::Becomes) => Row::AtOpen(at, last),
+            _ => return Ok(None),
+        },
+        Row::AtOpen(at, last) => match kind {
+            Kind::Fixed(Fixed::OpenSquare) => Row::AtItem(at, last, List::new(alloc)),
+            _ => return Ok(None),
+        },
+        Row::AtItem(at, last, items) => return row_item(at, last, items, kind),
+        Row::AtCount(at, last, items, count) => match kind {
+            Kind::Fixed(Fixed::Open) => Row::AtValue(at, last, items, count),
+            _ => return Ok(None),
+        },
+        Row::AtValue(at, last, items, count) => match kind {
+            Kind::Literal(Literal::Byte(byte)) => Row::AtValueEnd(at, last, items, count, byte),
+            _ => return Ok(None),
+        },
+        Row::AtValueEnd(at, last, mut items, count, byte) => match kind {
+            Kind::Fixed(Fixed::Close) => {
+                items.push((count, byte))?;
+                Row::AtComma(at, last, items)
+            }
+            _ => return Ok(None),
+        },
+        Row::AtComma(at, last, items) => match kind {
+            Kind::Fixed(Fixed::Comma) => Row::AtItem(at, last, items),
+            Kind::Fixed(Fixed::CloseSquare) => Row::AtEnd(at, RawGlobalType::Bytes(last, items)),
+            _ => return Ok(None),
+        },
+        _ => return Ok(None),
+    };
+    Ok(Some(next))
+}
+
+/// A token of a global after its name, but the `;`.
+fn row_step(alloc: Global, name: &[u8], row: Row, kind: Kind) -> Result<Option<Row>, NoMemory>
+    ensures { IfOk result (λ o. option_map row_of o ≡ row_step code name.now (row_of row) kind) }
+{
+    match row {
+        Row::AtWord => match kind {
+            Kind::Fixed(Fixed::At) => Ok(Some(Row::AtPlace)),
+            _ => Ok(None),
+        },
+        Row::AtPlace => Ok(row_place(kind)),
+        Row::AtColon(at) => match kind {
+            Kind::Fixed(Fixed::Colon) => Ok(Some(Row::AtType(at))),
+            _ => Ok(None),
+        },
+        Row::AtType(at) => Ok(row_type(name, at, kind)),
+        other => {
+            if is_array(&other) {
+                return Ok(row_array(other, kind));
+            }
+            row_items(alloc, other, kind)
+        }
+    }
+}
+
+/// A global ends.
+fn row_end(
+    alloc: Global,
+    mut done: List<RawGlobal>,
+    name: List<u8>,
+    line: Line,
+    row: Row,
+) -> Result<Option<State>, NoMemory>
+    ensures { IfOk result (λ o. option_map state_of o ≡ row_end code done name line (row_of row)) }
+{
+    match row {
+        Row::AtEnd(at, ty) => done.push(RawGlobal { name, line, at, ty })?,
+        Row::AtBecomes(at, last) => done.push(RawGlobal {
+            name,
+            line,
+            at,
+            ty: RawGlobalType::Bytes(last, List::new(alloc)),
+        })?,
+        _ => return Ok(None),
+    }
+    Ok(Some(State::Globals(done)))
+}
+
+/// A token of a global after its name.
+pub fn at_row(
+    alloc: Global,
+    done: List<RawGlobal>,
+    name: List<u8>,
+    line: Line,
+    row: Row,
+    kind: Kind,
+) -> Result<Option<State>, NoMemory>
+    ensures { IfOk result (λ o. option_map state_of o ≡ at_row code done name line (row_of row) kind) }
+{
+    match kind {
+        Kind::Fixed(Fixed::Semicolon) => row_end(alloc, done, name, line, row),
+        other => match row_step(alloc, name.as_slice(), row, other)? {
+            Some(next) => Ok(Some(State::Row(done, name, line, next))),
+            None => Ok(None),
+        },
+    }
+}
+
+/// A token before the name of a global.
+pub fn at_globals(alloc: Global, done: List<RawGlobal>, kind: Kind) -> Option<State>
+    ensures { option_map state_of result ≡ at_globals code done kind }
+{
+    match kind {
+        Kind::Variable(var, line) => match var {
+            RawVar::Name(name) => {
+                if !may_name_global(name.as_slice()) {
+                    return None;
+                }
+                Some(State::Row(done, name, line, Row::AtWord))
+            }
+            RawVar::Direct(..) => None,
+        },
+        Kind::Fixed(Fixed::EndVar) => Some(State::Between(Before {
+            globals: done,
+            units: List::new(alloc),
+        })),
+        _ => None,
+    }
+}

@@ -1,0 +1,306 @@
+//! Steps of the parser in units.
+ghost use Rattle.std.specs.Prelude.{◌≡◌, IfOk, option_map};
+ghost use Rattle.st_syntax.specs.Grammar.{is_formal_type};
+ghost use Rattle.st_syntax.specs.Machine.{code, add_unit};
+ghost use Rattle.st_syntax.specs.Steps.{at_between, at_start, at_heading, may_name, may_type, section_end, at_section, at_typing, ends, leave, at_inside, at_formals_done, at_opened, next, no_spot};
+ghost use Rattle.st_syntax.specs.Views.{before_of, place_of, spot_of, stack_of, state_of, top_in, typing_of, which_of};
+
+use crate::declaration::Heading;
+use crate::kind::{Fixed, Kind, Lead};
+use crate::row::{at_globals, at_row};
+use crate::state::{Before, Place, Spot, State, Top, Typing, Which};
+use crate::statement::step;
+use crate::words::{is_free, may_name_local, may_name_unit};
+use s7_base::{Line, List, NoMemory};
+use st_tree::{RawLocal, RawPou, RawStmt, RawVar, StType};
+use std::alloc::Global;
+
+fn at_between(text: Before, kind: Kind) -> Option<State>
+    ensures { option_map state_of result ≡ at_between code (before_of text) kind }
+{
+    match kind {
+        Kind::Lead(Lead::Program, line) => Some(State::Heading(text, true, line)),
+        Kind::Lead(Lead::Function, line) => Some(State::Heading(text, false, line)),
+        Kind::Fixed(Fixed::End) => Some(State::Over(text)),
+        _ => None,
+    }
+}
+
+fn at_start(alloc: Global, kind: Kind) -> Option<State>
+    ensures { option_map state_of result ≡ at_start code kind }
+{
+    match kind {
+        Kind::Fixed(Fixed::VarGlobal) => Some(State::Globals(List::new(alloc))),
+        other => {
+            let text = Before {
+                globals: List::new(alloc),
+                units: List::new(alloc),
+            };
+            at_between(text, other)
+        }
+    }
+}
+
+/// The name of a unit.
+fn at_heading(text: Before, program: bool, line: Line, kind: Kind) -> Option<State>
+    ensures { option_map state_of result ≡ at_heading code (before_of text) program line kind }
+{
+    match kind {
+        Kind::Variable(RawVar::Name(name), _) => {
+            if !may_name_unit(name.as_slice()) {
+                return None;
+            }
+            let head = Heading {
+                program,
+                name,
+                line,
+            };
+            Some(State::Opened(Top { text, head }))
+        }
+        _ => None,
+    }
+}
+
+fn may_name(which: &Which, name: &[u8]) -> bool
+    ensures { result ≡ may_name code (which_of which.now) name.now }
+{
+    match which {
+        Which::Formals => is_free(name),
+        Which::Temps(_) => may_name_local(name),
+    }
+}
+
+/// A formal has another type than LINT.
+fn may_type(which: &Which, ty: StType) -> bool
+    ensures { result ≡ may_type code (which_of which.now) ty }
+{
+    match which {
+        Which::Formals => !matches!(ty, StType::Lint),
+        Which::Temps(_) => true,
+    }
+}
+
+/// The beginning of a unit's statements.
+fn no_spot(alloc: Global) -> Spot
+    ensures { spot_of result ≡ no_spot code }
+{
+    Spot {
+        depth: 0,
+        frames: Vec::new(alloc),
+        place: Place::Statement(List::new(alloc)),
+    }
+}
+
+fn section_end(alloc: Global, top: Top, which: Which, done: List<RawLocal>) -> State
+    ensures { state_of result ≡ section_end code (top_in top) (which_of which) done }
+{
+    match which {
+        Which::Formals => State::FormalsDone(top, done),
+        Which::Temps(formals) => State::Inside(top, formals, done, no_spot(alloc)),
+    }
+}
+
+/// A token before the name of a formal or a local.
+fn at_section(
+    alloc: Global,
+    top: Top,
+    which: Which,
+    done: List<RawLocal>,
+    kind: Kind,
+) -> Option<State>
+    ensures { option_map state_of result ≡ at_section code (top_in top) (which_of which) done kind }
+{
+    match kind {
+        Kind::Variable(var, line) => match var {
+            RawVar::Name(name) => {
+                if !may_name(&which, name.as_slice()) {
+                    return None;
+                }
+                Some(State::Typing(top, which, done, name, line, Typing::Colon))
+            }
+            RawVar::Direct(..) => None,
+        },
+        Kind::Fixed(Fixed::EndVar) => Some(section_end(alloc, top, which, done)),
+        _ => None,
+    }
+}
+
+/// A token of a formal or a local after its name.
+fn at_typing(
+    top: Top,
+    which: Which,
+    mut done: List<RawLocal>,
+    name: List<u8>,
+    line: Line,
+    typing: Typing,
+    kind: Kind,
+) -> Result<Option<State>, NoMemory>
+    ensures { IfOk result (λ o. option_map state_of o
+        ≡ at_typing code (top_in top) (which_of which) done name line (typing_of typing) kind) }
+{
+    match typing {
+        Typing::Colon => match kind {
+            Kind::Fixed(Fixed::Colon) => Ok(Some(State::Typing(
+                top,
+                which,
+                done,
+                name,
+                line,
+                Typing::Type,
+            ))),
+            _ => Ok(None),
+        },
+        Typing::Type => match kind {
+            Kind::Fixed(Fixed::Type(ty)) => {
+                if !may_type(&which, ty) {
+                    return Ok(None);
+                }
+                Ok(Some(State::Typing(top, which, done, name, line, Typing::End(ty))))
+            }
+            _ => Ok(None),
+        },
+        Typing::End(ty) => match kind {
+            Kind::Fixed(Fixed::Semicolon) => {
+                done.push(RawLocal { name, line, ty })?;
+                Ok(Some(State::Section(top, which, done)))
+            }
+            _ => Ok(None),
+        },
+    }
+}
+
+fn ends(program: bool, other: bool) -> bool
+    ensures { result ≡ ends program other }
+{
+    program == other
+}
+
+/// The text with one more unit.
+fn with_unit(
+    top: Top,
+    formals: List<RawLocal>,
+    locals: List<RawLocal>,
+    body: List<RawStmt>,
+) -> Result<Before, NoMemory>
+    ensures { IfOk result (λ text. before_of text
+        ≡ record { globals = top.text.globals; units = add_unit code top.text.units top.head formals locals body }) }
+{
+    let Top { mut text, head } = top;
+    text.units.push(RawPou {
+        program: head.program,
+        name: head.name,
+        line: head.line,
+        formals,
+        locals,
+        body,
+    })?;
+    Ok(text)
+}
+
+/// The end word of a program, or that of a function.
+fn leave(
+    program: bool,
+    top: Top,
+    formals: List<RawLocal>,
+    locals: List<RawLocal>,
+    spot: Spot,
+) -> Result<Option<State>, NoMemory>
+    ensures { IfOk result (λ o. option_map state_of o
+        ≡ leave code program (top_in top) formals locals (stack_of spot.frames.items) (place_of spot.place)) }
+{
+    let Spot {
+        mut frames,
+        place,
+        ..
+    } = spot;
+    if let Some(_) = frames.pop() {
+        return Ok(None);
+    }
+    match place {
+        Place::Statement(body) => {
+            if !ends(program, top.head.program) {
+                return Ok(None);
+            }
+            Ok(Some(State::Between(with_unit(top, formals, locals, body)?)))
+        }
+        _ => Ok(None),
+    }
+}
+
+fn at_inside(
+    alloc: Global,
+    top: Top,
+    formals: List<RawLocal>,
+    locals: List<RawLocal>,
+    spot: Spot,
+    kind: Kind,
+) -> Result<Option<State>, NoMemory>
+    ensures { IfOk result (λ o. option_map state_of o
+        ≡ at_inside code (top_in top) formals locals (spot_of spot) kind) }
+{
+    match kind {
+        Kind::Fixed(Fixed::EndProgram) => leave(true, top, formals, locals, spot),
+        Kind::Fixed(Fixed::EndFunction) => leave(false, top, formals, locals, spot),
+        other => match step(alloc, spot, other)? {
+            Some(to) => Ok(Some(State::Inside(top, formals, locals, to))),
+            None => Ok(None),
+        },
+    }
+}
+
+/// A token after the formals of a unit.
+fn at_formals_done(
+    alloc: Global,
+    top: Top,
+    formals: List<RawLocal>,
+    kind: Kind,
+) -> Result<Option<State>, NoMemory>
+    ensures { IfOk result (λ o. option_map state_of o ≡ at_formals_done code (top_in top) formals kind) }
+{
+    match kind {
+        Kind::Fixed(Fixed::VarTemp) => Ok(Some(State::Section(
+            top,
+            Which::Temps(formals),
+            List::new(alloc),
+        ))),
+        other => at_inside(alloc, top, formals, List::new(alloc), no_spot(alloc), other),
+    }
+}
+
+/// A token after the name of a unit.
+fn at_opened(alloc: Global, top: Top, kind: Kind) -> Result<Option<State>, NoMemory>
+    ensures { IfOk result (λ o. option_map state_of o ≡ at_opened code (top_in top) kind) }
+{
+    match kind {
+        Kind::Fixed(Fixed::VarInOut) => {
+            if top.head.program {
+                return Ok(None);
+            }
+            Ok(Some(State::Section(top, Which::Formals, List::new(alloc))))
+        }
+        other => at_formals_done(alloc, top, List::new(alloc), other),
+    }
+}
+
+/// One token of a text; `None` where it cannot follow.
+pub fn next(alloc: Global, state: State, kind: Kind) -> Result<Option<State>, NoMemory>
+    ensures { IfOk result (λ o. option_map state_of o ≡ next code (state_of state) kind) }
+{
+    match state {
+        State::Start => Ok(at_start(alloc, kind)),
+        State::Globals(done) => Ok(at_globals(alloc, done, kind)),
+        State::Row(done, name, line, row) => at_row(alloc, done, name, line, row, kind),
+        State::Between(text) => Ok(at_between(text, kind)),
+        State::Heading(text, program, line) => Ok(at_heading(text, program, line, kind)),
+        State::Opened(top) => at_opened(alloc, top, kind),
+        State::FormalsDone(top, formals) => at_formals_done(alloc, top, formals, kind),
+        State::Section(top, which, done) => Ok(at_section(alloc, top, which, done, kind)),
+        State::Typing(top, which, done, name, line, typing) => {
+            at_typing(top, which, done, name, line, typing, kind)
+        }
+        State::Inside(top, formals, locals, spot) => {
+            at_inside(alloc, top, formals, locals, spot, kind)
+        }
+        State::Over(_) => Ok(None),
+    }
+}

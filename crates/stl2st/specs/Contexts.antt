@@ -1,8 +1,0 @@
--- The reader's contexts as those of the definition.
-use Rattle.stl_tree.specs.Items.{Context, outside, in_body}
-use Rattle.stl2st.specs.declared.statement.Context.{Context as Found}
-use Rattle.stl2st.specs.declared.statement.Context.TheVariants as found
-
-abbrev pub view : Found → Context
-view found.Outside = outside
-view found.InBody = in_body
