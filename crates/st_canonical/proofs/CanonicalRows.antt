@@ -7,13 +7,13 @@ use Rattle.memory_areas.specs.declared.place.AreaName.TheVariants as area
 use Rattle.s7_base.specs.declared.register.Reg.TheVariants as reg
 use Rattle.s7_base.specs.declared.word.Width.TheVariants as width
 use Rattle.st_canonical.specs.Canonical.{ArmFromLine, CaseFromLine, FromLine, arm_from, arm_step, case_from, case_step, items_form, labels_form, on, source_of, statement_from, statement_step}
-use Rattle.st_syntax.specs.Forms.{variable, no_actual, actual, label, more_labels, invoke, choice_else, cases_else, loop, jump, none, further, no_arm, arm, no_case, case_arm, no_item, single, times, plain, bytes, no_global, global, no_local, local, absent, present, no_unit, unit, Source}
-use Rattle.st_syntax.specs.Grammar.{SourceFits}
-use Rattle.st_syntax.specs.Kinds.{word_named, word_text}
+use Rattle.st_grammar.specs.Forms.{variable, no_actual, actual, label, more_labels, invoke, choice_else, cases_else, loop, jump, none, further, no_arm, arm, no_case, case_arm, no_item, single, times, plain, bytes, no_global, global, no_local, local, absent, present, no_unit, unit, Source}
+use Rattle.st_grammar.specs.Grammar.{SourceFits}
+use Rattle.st_grammar.specs.Kinds.{word_named, word_text}
 use Rattle.st_canonical.specs.Spelled.{ItemsSpelled, LabelsSpelled, SourceSpelled, is_function}
-use Rattle.st_syntax.specs.declared.kind.Jump.TheVariants as jump_word
-use Rattle.st_syntax.specs.declared.kind.Literal.TheVariants as lit
-use Rattle.st_syntax.specs.declared.kind.OneOperand.TheVariants as one
+use Rattle.st_grammar.specs.declared.kind.Jump.TheVariants as jump_word
+use Rattle.st_grammar.specs.declared.kind.Literal.TheVariants as lit
+use Rattle.st_grammar.specs.declared.kind.OneOperand.TheVariants as one
 use Rattle.st_tree.proofs.CanonEquations.{canon_read}
 use Rattle.st_tree.specs.Form as tree
 use Rattle.st_tree.specs.Form.{canon}

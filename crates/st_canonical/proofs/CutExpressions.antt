@@ -9,13 +9,13 @@ use Rattle.st_canonical.proofs.CutLiterals.{literal_no_star, reads_literal, read
 use Rattle.st_canonical.proofs.CutWords.{infix_ends, reads_close, reads_comma, reads_convert, reads_fixed, reads_infix, reads_minus, reads_open, reads_shift}
 use Rattle.st_canonical.proofs.Cuts.{ReadsOn, reads_as, reads_blank}
 use Rattle.st_canonical.specs.Canonical.{expr_form, form_of}
-use Rattle.st_syntax.specs.Grammar.{spell}
+use Rattle.st_grammar.specs.Grammar.{spell}
 use Rattle.st_canonical.specs.Spelled.{FormSpelled}
-use Rattle.st_syntax.specs.declared.kind.Fixed.TheVariants as fixed
-use Rattle.st_syntax.specs.declared.kind.Function.TheVariants as function
-use Rattle.st_syntax.specs.declared.kind.Kind.{Kind}
-use Rattle.st_syntax.specs.declared.kind.Kind.TheVariants as kind
-use Rattle.st_syntax.specs.declared.kind.OneOperand.TheVariants as one
+use Rattle.st_grammar.specs.declared.kind.Fixed.TheVariants as fixed
+use Rattle.st_grammar.specs.declared.kind.Function.TheVariants as function
+use Rattle.st_grammar.specs.declared.kind.Kind.{Kind}
+use Rattle.st_grammar.specs.declared.kind.Kind.TheVariants as kind
+use Rattle.st_grammar.specs.declared.kind.OneOperand.TheVariants as one
 use Rattle.st_tree.specs.Form.{Form, literal, variable, group, prefix, infix_of, digits_to, convert, select, shift, area_read, level, wrap, prefix_level, infix_level, canon_step, canon}
 use Rattle.st_tree.specs.Spelling.{expr_text, written}
 use Rattle.st_tree.specs.Typing.{Names}

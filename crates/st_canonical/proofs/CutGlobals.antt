@@ -17,13 +17,13 @@ use Rattle.st_canonical.proofs.CutUnits.{reads_word_line}
 use Rattle.st_canonical.proofs.CutWords.{reads_becomes, reads_close, reads_close_square, reads_colon, reads_comma, reads_dots, reads_fixed, reads_name, reads_open, reads_open_square, reads_semicolon, reads_type}
 use Rattle.st_canonical.proofs.Cuts.{ReadsOn, reads_as, reads_blank, reads_line, reads_line_end}
 use Rattle.st_canonical.specs.Canonical.{area_form, block_name, blocks_from, globals_from, items_behind, items_form, located_from, on, run_behind}
-use Rattle.st_syntax.specs.Forms.{Globals, no_global, global, Items, no_item, single, times, plain, bytes}
-use Rattle.st_syntax.specs.Grammar.{IfPresent, comma_past, spell_globals, spell_initial, spell_items, spell_section, spell_type}
+use Rattle.st_grammar.specs.Forms.{Globals, no_global, global, Items, no_item, single, times, plain, bytes}
+use Rattle.st_grammar.specs.Grammar.{IfPresent, comma_past, spell_globals, spell_initial, spell_items, spell_section, spell_type}
 use Rattle.st_canonical.specs.Spelled.{GlobalsSpelled, ItemsSpelled, TypeSpelled, is_name, is_variable}
-use Rattle.st_syntax.specs.declared.kind.Fixed.TheVariants as fixed
-use Rattle.st_syntax.specs.declared.kind.Kind.{Kind}
-use Rattle.st_syntax.specs.declared.kind.Kind.TheVariants as kind
-use Rattle.st_syntax.specs.declared.kind.Literal.TheVariants as lit
+use Rattle.st_grammar.specs.declared.kind.Fixed.TheVariants as fixed
+use Rattle.st_grammar.specs.declared.kind.Kind.{Kind}
+use Rattle.st_grammar.specs.declared.kind.Kind.TheVariants as kind
+use Rattle.st_grammar.specs.declared.kind.Literal.TheVariants as lit
 use Rattle.st_tree.specs.Spelling.{block_text, byte_text, global_text, globals_text, line as line_text, list_behind, list_text, place_text, place_word, run_text}
 use Rattle.st_tree.specs.Values.{width_at}
 use Rattle.st_tree.specs.Words.{area_word, type_word}

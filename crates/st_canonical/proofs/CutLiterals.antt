@@ -26,11 +26,11 @@ use Rattle.st_tree.specs.declared.token.StKind.TheVariants as sort
 use Rattle.st_canonical.proofs.Cuts.{ReadsOn, has_no_line, reads_text}
 use Rattle.st_canonical.proofs.CutWords.{reads_keyword, reads_name}
 use Rattle.st_canonical.specs.Canonical.{literal_form, on, raw_var}
-use Rattle.st_syntax.specs.Kinds.{are_two_digits, decimal_kind, direct_kind, literal_kind, number_kind, text_kind, typed_kind, word_named, word_text}
+use Rattle.st_grammar.specs.Kinds.{are_two_digits, decimal_kind, direct_kind, literal_kind, number_kind, text_kind, typed_kind, word_named, word_text}
 use Rattle.st_canonical.specs.Spelled.{is_literal, is_name, is_variable}
-use Rattle.st_syntax.specs.declared.kind.Kind.{Kind}
-use Rattle.st_syntax.specs.declared.kind.Kind.TheVariants as kind
-use Rattle.st_syntax.specs.declared.kind.Literal.TheVariants as lit
+use Rattle.st_grammar.specs.declared.kind.Kind.{Kind}
+use Rattle.st_grammar.specs.declared.kind.Kind.TheVariants as kind
+use Rattle.st_grammar.specs.declared.kind.Literal.TheVariants as lit
 use Rattle.st_tree.specs.Spelling.{bit_text, byte_text, digit, hexadecimal, integer_text, literal_text, place_text, var_text}
 use Rattle.st_tree.specs.Typing.{Names}
 use Rattle.st_tree.specs.Words.{area_word, width_word}

@@ -12,17 +12,17 @@ use Rattle.st_canonical.proofs.CutWords.{reads_becomes, reads_close, reads_comma
 use Rattle.st_canonical.proofs.Cuts.{ReadsOn, reads_as, reads_blank, reads_line, reads_line_end}
 use Rattle.st_canonical.specs.Canonical.{ArmFromLine, CaseFromLine, FromLine, Placed, actuals_from, all_from, arms_from, arm_from, body_from, case_from, cases_from, choice_from, expr_form, labels_behind, labels_form, literal_form, on, raw_var, statement_from}
 use Rattle.st_canonical.specs.Canonical as canonical
-use Rattle.st_syntax.specs.Forms.{Actuals, no_actual, actual, Arms, no_arm, arm, CaseArms, no_case, case_arm, Labels, label, more_labels, Statement, assign, write, invoke, jump, Statements, none, further}
-use Rattle.st_syntax.specs.Grammar.{HasArm, arm_word, comma_behind, spell, spell_actuals, spell_all, spell_arms, spell_cases, spell_labels, spell_one}
-use Rattle.st_syntax.specs.Kinds.{lead_text}
+use Rattle.st_grammar.specs.Forms.{Actuals, no_actual, actual, Arms, no_arm, arm, CaseArms, no_case, case_arm, Labels, label, more_labels, Statement, assign, write, invoke, jump, Statements, none, further}
+use Rattle.st_grammar.specs.Grammar.{HasArm, arm_word, comma_behind, spell, spell_actuals, spell_all, spell_arms, spell_cases, spell_labels, spell_one}
+use Rattle.st_grammar.specs.Kinds.{lead_text}
 use Rattle.st_canonical.specs.Spelled.{ActualsSpelled, AllSpelled, ArmsSpelled, CasesSpelled, FormSpelled, LabelsSpelled, Spelled, is_literal, is_name, is_variable}
-use Rattle.st_syntax.specs.declared.kind.Fixed.{Fixed}
-use Rattle.st_syntax.specs.declared.kind.Fixed.TheVariants as fixed
-use Rattle.st_syntax.specs.declared.kind.Jump.{Jump}
-use Rattle.st_syntax.specs.declared.kind.Jump.TheVariants as jump_word
-use Rattle.st_syntax.specs.declared.kind.Kind.{Kind}
-use Rattle.st_syntax.specs.declared.kind.Kind.TheVariants as kind
-use Rattle.st_syntax.specs.declared.kind.Lead.TheVariants as lead
+use Rattle.st_grammar.specs.declared.kind.Fixed.{Fixed}
+use Rattle.st_grammar.specs.declared.kind.Fixed.TheVariants as fixed
+use Rattle.st_grammar.specs.declared.kind.Jump.{Jump}
+use Rattle.st_grammar.specs.declared.kind.Jump.TheVariants as jump_word
+use Rattle.st_grammar.specs.declared.kind.Kind.{Kind}
+use Rattle.st_grammar.specs.declared.kind.Kind.TheVariants as kind
+use Rattle.st_grammar.specs.declared.kind.Lead.TheVariants as lead
 use Rattle.st_tree.specs.Spelling.{ArmText, CaseText, Text, actuals_text, arm_text, arms_text, body_text, call_text, case_text, else_text, expr_text, formals_of, label_text, labels_text, line as line_text, listed, literal_text, statement_text, texts_at, unit_name, var_text}
 use Rattle.st_tree.specs.Spelling as spelling
 use Rattle.st_tree.specs.Typing.{Names, type_of}

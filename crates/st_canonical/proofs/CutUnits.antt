@@ -7,16 +7,16 @@ use Rattle.st_canonical.proofs.CutStatements.{Behind, reads_body, reads_kinds}
 use Rattle.st_canonical.proofs.CutWords.{is_keyword, reads_colon, reads_fixed, reads_lead, reads_name, reads_semicolon, reads_type}
 use Rattle.st_canonical.proofs.Cuts.{ReadsOn, reads_as, reads_blank, reads_line, reads_line_end}
 use Rattle.st_canonical.specs.Canonical.{body_from, locals_from, on, section_from, statement_from, unit_from, units_from}
-use Rattle.st_syntax.specs.Forms.{Locals, no_local, local, Units, no_unit}
-use Rattle.st_syntax.specs.Grammar.{IfPresent, end_word, spell_all, spell_formals, spell_locals, spell_section, spell_temps, spell_units}
-use Rattle.st_syntax.specs.Grammar as grammar
-use Rattle.st_syntax.specs.Kinds.{fixed_text}
+use Rattle.st_grammar.specs.Forms.{Locals, no_local, local, Units, no_unit}
+use Rattle.st_grammar.specs.Grammar.{IfPresent, end_word, spell_all, spell_formals, spell_locals, spell_section, spell_temps, spell_units}
+use Rattle.st_grammar.specs.Grammar as grammar
+use Rattle.st_grammar.specs.Kinds.{fixed_text}
 use Rattle.st_canonical.specs.Spelled.{LocalsSpelled, UnitsSpelled, is_name}
-use Rattle.st_syntax.specs.declared.kind.Fixed.{Fixed}
-use Rattle.st_syntax.specs.declared.kind.Fixed.TheVariants as fixed
-use Rattle.st_syntax.specs.declared.kind.Kind.{Kind}
-use Rattle.st_syntax.specs.declared.kind.Kind.TheVariants as kind
-use Rattle.st_syntax.specs.declared.kind.Lead.TheVariants as lead
+use Rattle.st_grammar.specs.declared.kind.Fixed.{Fixed}
+use Rattle.st_grammar.specs.declared.kind.Fixed.TheVariants as fixed
+use Rattle.st_grammar.specs.declared.kind.Kind.{Kind}
+use Rattle.st_grammar.specs.declared.kind.Kind.TheVariants as kind
+use Rattle.st_grammar.specs.declared.kind.Lead.TheVariants as lead
 use Rattle.st_tree.specs.Spelling.{body_text, line as line_text, local_text, names_in, section_text, unit_text, unit_word}
 use Rattle.st_tree.specs.Words.{type_word}
 use Rattle.st_tree.specs.declared.program.Local.{Local}

@@ -11,18 +11,18 @@ use Rattle.st_lexer.specs.StTokens.{is_letter, token, piece_at}
 use Rattle.st_tree.specs.declared.token.StKind.TheVariants as sort
 use Rattle.st_canonical.proofs.Cuts.{ReadsOn, reads_token, reads_word, reads_blank}
 use Rattle.st_canonical.specs.Canonical.{on}
-use Rattle.st_syntax.specs.Kinds.{conversion_named, fixed_text, lead_text, name_kind, shift_text, sign_named, text_kind, type_text, word_kind, word_named, word_text}
+use Rattle.st_grammar.specs.Kinds.{conversion_named, fixed_text, lead_text, name_kind, shift_text, sign_named, text_kind, type_text, word_kind, word_named, word_text}
 use Rattle.st_canonical.specs.Spelled.{is_function, is_name, is_unreserved}
-use Rattle.st_syntax.specs.declared.kind.Fixed.{Fixed}
-use Rattle.st_syntax.specs.declared.kind.Fixed.TheVariants as fixed
-use Rattle.st_syntax.specs.declared.kind.Function.TheVariants as function
-use Rattle.st_syntax.specs.declared.kind.Jump.TheVariants as jump
-use Rattle.st_syntax.specs.declared.kind.Kind.{Kind}
-use Rattle.st_syntax.specs.declared.kind.Kind.TheVariants as kind
-use Rattle.st_syntax.specs.declared.kind.Lead.{Lead}
-use Rattle.st_syntax.specs.declared.kind.Lead.TheVariants as lead
-use Rattle.st_syntax.specs.declared.kind.OneOperand.TheVariants as one
-use Rattle.st_syntax.specs.declared.kind.Word.{Word}
+use Rattle.st_grammar.specs.declared.kind.Fixed.{Fixed}
+use Rattle.st_grammar.specs.declared.kind.Fixed.TheVariants as fixed
+use Rattle.st_grammar.specs.declared.kind.Function.TheVariants as function
+use Rattle.st_grammar.specs.declared.kind.Jump.TheVariants as jump
+use Rattle.st_grammar.specs.declared.kind.Kind.{Kind}
+use Rattle.st_grammar.specs.declared.kind.Kind.TheVariants as kind
+use Rattle.st_grammar.specs.declared.kind.Lead.{Lead}
+use Rattle.st_grammar.specs.declared.kind.Lead.TheVariants as lead
+use Rattle.st_grammar.specs.declared.kind.OneOperand.TheVariants as one
+use Rattle.st_grammar.specs.declared.kind.Word.{Word}
 use Rattle.st_tree.specs.Words.{infix_word, shift_word, type_word}
 use Rattle.st_tree.specs.declared.expr.BinaryOp.{BinaryOp}
 use Rattle.st_tree.specs.declared.expr.BinaryOp.TheVariants as binary

@@ -15,10 +15,10 @@ use Rattle.st_tree.specs.declared.token.StKind.{StKind}
 use Rattle.st_tree.specs.declared.token.StKind.TheVariants as sort
 use Rattle.st_tree.specs.declared.token.StToken.{StToken}
 use Rattle.st_canonical.specs.Canonical.{on}
-use Rattle.st_syntax.specs.Kinds.{kind_of, text_kind}
-use Rattle.st_syntax.specs.declared.kind.Fixed.TheVariants as fixed
-use Rattle.st_syntax.specs.declared.kind.Kind.{Kind}
-use Rattle.st_syntax.specs.declared.kind.Kind.TheVariants as kind
+use Rattle.st_grammar.specs.Kinds.{kind_of, text_kind}
+use Rattle.st_grammar.specs.declared.kind.Fixed.TheVariants as fixed
+use Rattle.st_grammar.specs.declared.kind.Kind.{Kind}
+use Rattle.st_grammar.specs.declared.kind.Kind.TheVariants as kind
 use Rattle.st_tree.specs.Spelling.{blanks, line as line_text}
 
 -- the bytes from a line on are cut to their end, none of their decimals is too great, and these are the

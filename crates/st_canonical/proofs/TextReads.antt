@@ -10,14 +10,14 @@ use Rattle.st_canonical.proofs.CutUnits.{reads_units}
 use Rattle.st_canonical.proofs.Cuts.{ReadsOn, reads_as, reads_end}
 use Rattle.st_canonical.specs.Canonical.{globals_from, source_of, units_from}
 use Rattle.st_canonical.specs.CanonicalLaws.{CanonicalTextReads}
-use Rattle.st_syntax.specs.Forms.{no_unit}
-use Rattle.st_syntax.specs.Grammar.{raw_tree, spell_source, spell_units}
-use Rattle.st_syntax.specs.Kinds.{kind_of}
+use Rattle.st_grammar.specs.Forms.{no_unit}
+use Rattle.st_grammar.specs.Grammar.{raw_tree, spell_source, spell_units}
+use Rattle.st_grammar.specs.Kinds.{kind_of}
 use Rattle.st_canonical.specs.Spelled.{SourceSpelled}
-use Rattle.st_syntax.specs.Syntax.{all_lined, kinds}
-use Rattle.st_syntax.specs.declared.kind.Fixed.TheVariants as fixed
-use Rattle.st_syntax.specs.declared.kind.Kind.{Kind}
-use Rattle.st_syntax.specs.declared.kind.Kind.TheVariants as kind
+use Rattle.st_grammar.specs.Syntax.{all_lined, kinds}
+use Rattle.st_grammar.specs.declared.kind.Fixed.TheVariants as fixed
+use Rattle.st_grammar.specs.declared.kind.Kind.{Kind}
+use Rattle.st_grammar.specs.declared.kind.Kind.TheVariants as kind
 use Rattle.st_tree.specs.Spelling.{globals_text, spelling, unit_text}
 use Rattle.st_tree.specs.declared.program.StProgram.{StProgram}
 

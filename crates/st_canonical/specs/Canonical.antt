@@ -9,12 +9,12 @@ use Rattle.memory_areas.specs.declared.place.AreaName.TheVariants as area
 use Rattle.s7_base.specs.Tokens.{line_after}
 use Rattle.s7_base.specs.declared.reason.Line.{Line}
 use Rattle.s7_base.specs.declared.word.Width.TheVariants as width
-use Rattle.st_syntax.specs.Forms.{Form, literal, variable, group, prefix, infix_of, apply, shift, select, Actuals, no_actual, actual, Labels, label, more_labels, Statement, assign, write, invoke, choice, choice_else, cases, cases_else, loop, jump, Statements, none, further, Arms, no_arm, arm, CaseArms, no_case, case_arm, Items, no_item, single, times, plain, bytes, Globals, no_global, global, Locals, no_local, local, Section, absent, present, Units, no_unit, unit, Source}
-use Rattle.st_syntax.specs.declared.kind.Jump.TheVariants as jump_word
-use Rattle.st_syntax.specs.declared.kind.Literal.{Literal}
-use Rattle.st_syntax.specs.declared.kind.Literal.TheVariants as lit
-use Rattle.st_syntax.specs.declared.kind.OneOperand.TheVariants as one
-use Rattle.st_syntax.specs.declared.kind.Prefix.TheVariants as before
+use Rattle.st_grammar.specs.Forms.{Form, literal, variable, group, prefix, infix_of, apply, shift, select, Actuals, no_actual, actual, Labels, label, more_labels, Statement, assign, write, invoke, choice, choice_else, cases, cases_else, loop, jump, Statements, none, further, Arms, no_arm, arm, CaseArms, no_case, case_arm, Items, no_item, single, times, plain, bytes, Globals, no_global, global, Locals, no_local, local, Section, absent, present, Units, no_unit, unit, Source}
+use Rattle.st_grammar.specs.declared.kind.Jump.TheVariants as jump_word
+use Rattle.st_grammar.specs.declared.kind.Literal.{Literal}
+use Rattle.st_grammar.specs.declared.kind.Literal.TheVariants as lit
+use Rattle.st_grammar.specs.declared.kind.OneOperand.TheVariants as one
+use Rattle.st_grammar.specs.declared.kind.Prefix.TheVariants as before
 use Rattle.st_tree.specs.Form as tree
 use Rattle.st_tree.specs.Form.{canon}
 use Rattle.st_tree.specs.Spelling.{formals_of, global_name, local_name, names_in, unit_name}

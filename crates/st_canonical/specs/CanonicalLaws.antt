@@ -1,9 +1,9 @@
 -- The law of the canonical form: it is what the canonical text says.
 use Rattle.st_canonical.specs.Canonical.{source_of}
 use Rattle.st_canonical.specs.Spelled.{SourceSpelled}
-use Rattle.st_syntax.specs.Grammar.{SourceFits, raw_tree}
-use Rattle.st_syntax.specs.Levels.{deepest, levels_source}
-use Rattle.st_syntax.specs.Syntax.{AllWithin, HasRawTree}
+use Rattle.st_grammar.specs.Grammar.{SourceFits, raw_tree}
+use Rattle.st_grammar.specs.Levels.{deepest, levels_source}
+use Rattle.st_grammar.specs.Syntax.{AllWithin, HasRawTree}
 use Rattle.st_tree.specs.Spelling.{spelling}
 use Rattle.st_tree.specs.declared.program.StProgram.{StProgram}
 

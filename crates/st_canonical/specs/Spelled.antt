@@ -4,13 +4,13 @@ use Rattle.std.specs.List.{list_all}
 use Rattle.s7_base.specs.Tokens.{is_word_byte}
 use Rattle.st_lexer.specs.Spelled.{has_value, is_byte, is_decimal, is_place}
 use Rattle.st_lexer.specs.StTokens.{is_letter}
-use Rattle.st_syntax.specs.Forms.{Form, literal, variable, group, prefix, infix_of, apply, shift, select, Actuals, no_actual, actual, Labels, label, more_labels, Statement, assign, write, invoke, choice, choice_else, cases, cases_else, loop, jump, Statements, none, empty, further, Arms, no_arm, arm, CaseArms, no_case, case_arm, Items, no_item, single, times, GlobalType, plain, bytes, Globals, no_global, global, Locals, no_local, local, Units, no_unit, unit, Source}
-use Rattle.st_syntax.specs.Grammar.{IfPresent}
-use Rattle.st_syntax.specs.Kinds.{word_named, conversion_named, conversion_between}
-use Rattle.st_syntax.specs.declared.kind.Literal.{Literal}
-use Rattle.st_syntax.specs.declared.kind.Literal.TheVariants as lit
-use Rattle.st_syntax.specs.declared.kind.OneOperand.{OneOperand}
-use Rattle.st_syntax.specs.declared.kind.OneOperand.TheVariants as one
+use Rattle.st_grammar.specs.Forms.{Form, literal, variable, group, prefix, infix_of, apply, shift, select, Actuals, no_actual, actual, Labels, label, more_labels, Statement, assign, write, invoke, choice, choice_else, cases, cases_else, loop, jump, Statements, none, empty, further, Arms, no_arm, arm, CaseArms, no_case, case_arm, Items, no_item, single, times, GlobalType, plain, bytes, Globals, no_global, global, Locals, no_local, local, Units, no_unit, unit, Source}
+use Rattle.st_grammar.specs.Grammar.{IfPresent}
+use Rattle.st_grammar.specs.Kinds.{word_named, conversion_named, conversion_between}
+use Rattle.st_grammar.specs.declared.kind.Literal.{Literal}
+use Rattle.st_grammar.specs.declared.kind.Literal.TheVariants as lit
+use Rattle.st_grammar.specs.declared.kind.OneOperand.{OneOperand}
+use Rattle.st_grammar.specs.declared.kind.OneOperand.TheVariants as one
 use Rattle.st_tree.specs.declared.raw.RawVar.{RawVar}
 use Rattle.st_tree.specs.declared.raw.RawVar.TheVariants as var
 

@@ -1,5 +1,1 @@
-pub mod Nesting
-mod OneReading
-mod SomeReading
-pub mod TextReads
-mod Texts
+mod JudgedTexts

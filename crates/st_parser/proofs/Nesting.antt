@@ -1,12 +1,12 @@
 -- IF, CASE and WHILE of a text that is read nest no deeper than they may.
 use Rattle.std.proofs.Common.{◌≡◌, ℕ, zero, suc, ◌+◌, ◌≤◌, max, Bool, true, false, List, [], ◌∷◌, ◌++◌, map, Some, subst, ◌∙◌, arith}
 use Rattle.std.specs.Prelude.{slice_get}
-use Rattle.st_syntax.specs.Forms.{Form, literal, variable, group, prefix, infix_of, apply, shift, select, Actuals, no_actual, actual, Labels, label, more_labels, Statement, assign, write, invoke, choice, choice_else, cases, cases_else, loop, jump, Statements, none, empty, further, Arms, no_arm, arm, CaseArms, no_case, case_arm, Locals, no_local, local, Section, absent, present, Units, no_unit, unit}
-use Rattle.st_syntax.specs.Grammar.{HasArm, Fits, AllFit, ArmsFit, CasesFit, UnitsFit, arm_of, case_of, jump_tree, tree, tree_actuals, tree_all, tree_arms, tree_cases, tree_labels, tree_one, tree_units}
-use Rattle.st_syntax.specs.Levels.{deepest, height, levels, levels_comma, levels_actuals, levels_labels, levels_one, levels_all, levels_arms, levels_cases, levels_globals, levels_locals, levels_section, levels_units}
-use Rattle.st_syntax.specs.Syntax.{AllWithin, HasRawTree}
-use Rattle.st_syntax.specs.declared.kind.Jump.{Jump}
-use Rattle.st_syntax.specs.declared.kind.Jump.TheVariants as jump_word
+use Rattle.st_grammar.specs.Forms.{Form, literal, variable, group, prefix, infix_of, apply, shift, select, Actuals, no_actual, actual, Labels, label, more_labels, Statement, assign, write, invoke, choice, choice_else, cases, cases_else, loop, jump, Statements, none, empty, further, Arms, no_arm, arm, CaseArms, no_case, case_arm, Locals, no_local, local, Section, absent, present, Units, no_unit, unit}
+use Rattle.st_grammar.specs.Grammar.{HasArm, Fits, AllFit, ArmsFit, CasesFit, UnitsFit, arm_of, case_of, jump_tree, tree, tree_actuals, tree_all, tree_arms, tree_cases, tree_labels, tree_one, tree_units}
+use Rattle.st_grammar.specs.Levels.{deepest, height, levels, levels_comma, levels_actuals, levels_labels, levels_one, levels_all, levels_arms, levels_cases, levels_globals, levels_locals, levels_section, levels_units}
+use Rattle.st_grammar.specs.Syntax.{AllWithin, HasRawTree}
+use Rattle.st_grammar.specs.declared.kind.Jump.{Jump}
+use Rattle.st_grammar.specs.declared.kind.Jump.TheVariants as jump_word
 use Rattle.st_tree.specs.Costs.{greatest}
 use Rattle.st_tree.specs.declared.raw.RawPou.{RawPou}
 use Rattle.st_tree.specs.declared.raw.RawSt.{RawSt}

@@ -4,8 +4,8 @@ use Rattle.s7_base.specs.declared.reason.Line.{Line}
 use Rattle.s7_base.specs.declared.reason.Reason.{Reason}
 use Rattle.s7_base.specs.declared.reason.Reason.TheVariants.{CallCycle, NoBlocks}
 use Rattle.call_chains.proofs.FoundCycle.{found_cycle}
-use Rattle.st_syntax.proofs.SomeSyntax.{each_has_one_syntax}
-use Rattle.st_syntax.specs.Syntax.{HasRawTree, IsSyntaxRefused}
+use Rattle.st_syntax_laws.proofs.SomeSyntax.{each_has_one_syntax}
+use Rattle.st_grammar.specs.Syntax.{HasRawTree, IsSyntaxRefused}
 use Rattle.st_parser.specs.TextLaws.{EachHasOne}
 use Rattle.st_parser.specs.Texts.{IsRefusedText, IsTextOf, by_rules, by_syntax}
 use Rattle.st_tree.specs.declared.program.StProgram.{StProgram}

@@ -2,7 +2,7 @@
 use Rattle.st_parser.specs.TextLaws.{ProperReadsBack}
 use Rattle.st_canonical.proofs.TextReads.{canonical_text_reads}
 use Rattle.st_canonical.specs.Canonical.{source_of}
-use Rattle.st_syntax.specs.Grammar.{raw_tree}
+use Rattle.st_grammar.specs.Grammar.{raw_tree}
 
 pub proper_reads : ProperReadsBack
 proper_reads text proper = record {

@@ -5,7 +5,7 @@ use Rattle.memory_areas.specs.Areas.{AreBlocks}
 use Rattle.s7_base.specs.declared.reason.Rejection.{Rejection}
 use Rattle.s7_base.specs.declared.reason.Rejection.TheVariants as rejection
 use Rattle.st_parser.proofs.Nesting.{nests_within}
-use Rattle.st_syntax.specs.Syntax.{HasRawTree}
+use Rattle.st_grammar.specs.Syntax.{HasRawTree}
 use Rattle.st_parser.specs.Texts.{IsRefusedAs, by_rules}
 use Rattle.st_tree.specs.Runnable.{IsRunnable}
 use Rattle.st_tree.specs.declared.program.StProgram.{StProgram}

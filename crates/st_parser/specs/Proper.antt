@@ -1,10 +1,10 @@
 -- The trees that a text can have. The rules are those of the language, on the form that the tree has in
 -- its canonical text.
 use Rattle.st_canonical.specs.Canonical.{source_of}
-use Rattle.st_syntax.specs.Grammar.{SourceFits, raw_tree}
-use Rattle.st_syntax.specs.Levels.{deepest, levels_source}
+use Rattle.st_grammar.specs.Grammar.{SourceFits, raw_tree}
+use Rattle.st_grammar.specs.Levels.{deepest, levels_source}
 use Rattle.st_canonical.specs.Spelled.{SourceSpelled}
-use Rattle.st_syntax.specs.Syntax.{AllWithin}
+use Rattle.st_grammar.specs.Syntax.{AllWithin}
 use Rattle.st_tree.specs.declared.program.StProgram.{StProgram}
 use Rattle.st_types.specs.Typed.{HasTree}
 

@@ -5,7 +5,7 @@ use Rattle.s7_base.specs.declared.reason.Line.{Line}
 use Rattle.s7_base.specs.declared.reason.Reason.{Reason}
 use Rattle.s7_base.specs.declared.reason.Rejection.{Rejection}
 use Rattle.s7_base.specs.declared.reason.Rejection.TheVariants as rejection
-use Rattle.st_syntax.specs.Syntax.{HasRawTree, IsSyntaxRefused}
+use Rattle.st_grammar.specs.Syntax.{HasRawTree, IsSyntaxRefused}
 use Rattle.st_tree.specs.declared.program.StProgram.{StProgram}
 use Rattle.st_tree.specs.declared.raw.RawSt.{RawSt}
 use Rattle.st_types.specs.Typed.{Breaks, HasTree}

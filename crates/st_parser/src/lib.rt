@@ -1,8 +1,10 @@
 //! Reads Structured Text: its syntax by `st_syntax`, and by `st_types` its names, types, places and calls.
+//!
+//! `st_syntax` gives what the pass over a text's tokens judges, `st_syntax_laws` that this is the raw tree
+//! or the refusal of the text. Here they are put together.
 #![tactic(auto)]
 
-pub use st_syntax::syntax;
-pub use text::parse;
+pub use text::{parse, syntax};
 
 mod text;
 pub mod text_laws;

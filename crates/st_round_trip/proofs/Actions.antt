@@ -4,7 +4,7 @@ use Rattle.s7_base.specs.declared.reason.Line.{Line}
 use Rattle.s7_base.specs.declared.word.Width.{Width}
 use Rattle.st_canonical.specs.Canonical.{ArmFromLine, CaseFromLine, FromLine, arm_from, case_from, statement_from}
 use Rattle.st_canonical.specs.Canonical as canonical
-use Rattle.st_syntax.specs.Grammar.{arm_of, case_of, on_line}
+use Rattle.st_grammar.specs.Grammar.{arm_of, case_of, on_line}
 use Rattle.st_tree.specs.Typing.{Names}
 use Rattle.st_tree.specs.declared.expr.Expr.{Expr}
 use Rattle.st_tree.specs.declared.expr.StType.{StType}

@@ -2,8 +2,8 @@
 -- nests no deeper and calls the same functions.
 use Rattle.std.proofs.Common.{◌≡◌, Bool, true, [], map, Some, sym, ap, ◌∙◌}
 use Rattle.s7_base.specs.declared.reason.Line.{Line}
-use Rattle.st_syntax.specs.Forms.{Form, Statement, assign, write, invoke, choice, choice_else, cases, cases_else, loop, jump, Statements, none, empty, further, Arms, no_arm, arm, CaseArms, no_case, case_arm}
-use Rattle.st_syntax.specs.Grammar.{AllFit, ArmsFit, Binds, CasesFit, Fits, arm_of as raw_arm, case_of as raw_case, tree, tree_all, tree_arms, tree_cases, tree_labels, tree_one}
+use Rattle.st_grammar.specs.Forms.{Form, Statement, assign, write, invoke, choice, choice_else, cases, cases_else, loop, jump, Statements, none, empty, further, Arms, no_arm, arm, CaseArms, no_case, case_arm}
+use Rattle.st_grammar.specs.Grammar.{AllFit, ArmsFit, Binds, CasesFit, Fits, arm_of as raw_arm, case_of as raw_case, tree, tree_all, tree_arms, tree_cases, tree_labels, tree_one}
 use Rattle.st_canonical.specs.Spelled.{AllSpelled, ArmsSpelled, CasesSpelled, FormSpelled, Spelled}
 use Rattle.st_round_trip.proofs.CaseLabels.{found_labels, labels_typed}
 use Rattle.st_round_trip.proofs.Compound.{of_arm, of_assign, of_case_arm, of_cases, of_cases_else, of_choice, of_choice_else, of_jump, of_loop, of_no_arm, of_no_case, of_write}

@@ -2,7 +2,7 @@
 use Rattle.std.proofs.Common.{◌≡◌, ℕ, ◌++◌, ℤ, List, [], ◌∷◌, map, refl, sym, ap, ◌∙◌}
 use Rattle.std.proofs.lemmas.List.{append_assoc}
 use Rattle.s7_base.specs.declared.reason.Line.{Line}
-use Rattle.st_syntax.specs.Grammar.{arm_of as raw_arm, case_of as raw_case, on_line}
+use Rattle.st_grammar.specs.Grammar.{arm_of as raw_arm, case_of as raw_case, on_line}
 use Rattle.st_round_trip.proofs.Actions.{calls_arm, calls_case, calls_case_arm, calls_if, calls_while}
 use Rattle.st_round_trip.proofs.Parts.{map_append, map_last}
 use Rattle.st_tree.specs.declared.expr.StType.{StType}

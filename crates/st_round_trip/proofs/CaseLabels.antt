@@ -5,10 +5,10 @@ use Rattle.s7_base.specs.declared.reason.Line.{Line}
 use Rattle.s7_base.specs.declared.reason.Reason.TheVariants.{TypeMismatch}
 use Rattle.st_lexer.specs.Spelled.{has_value}
 use Rattle.st_canonical.specs.Canonical.{labels_behind, labels_form, literal_form}
-use Rattle.st_syntax.specs.Forms.{Labels, label, more_labels}
-use Rattle.st_syntax.specs.Grammar.{LabelsFit, label_tree, tree_labels}
+use Rattle.st_grammar.specs.Forms.{Labels, label, more_labels}
+use Rattle.st_grammar.specs.Grammar.{LabelsFit, label_tree, tree_labels}
 use Rattle.st_canonical.specs.Spelled.{LabelsSpelled, is_literal}
-use Rattle.st_syntax.specs.declared.kind.Literal.{Literal}
+use Rattle.st_grammar.specs.declared.kind.Literal.{Literal}
 use Rattle.st_round_trip.proofs.Literals.{Kept, kept, value_of}
 use Rattle.st_round_trip.proofs.Parts.{map_last, values}
 use Rattle.st_tree.specs.declared.expr.StType.{StType}

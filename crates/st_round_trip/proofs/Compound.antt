@@ -4,10 +4,10 @@ use Rattle.s7_base.specs.Tokens.{line_after}
 use Rattle.s7_base.specs.declared.reason.Line.{Line}
 use Rattle.s7_base.specs.declared.word.Width.{Width}
 use Rattle.st_canonical.specs.Canonical.{ArmFromLine, CaseFromLine, FromLine, Placed, arm_from, arms_from, body_from, case_from, cases_else_from, cases_from, choice_from, expr_form, labels_form, on, raw_var, statement_from}
-use Rattle.st_syntax.specs.Forms.{Form, Labels, Statement, assign, write, choice, choice_else, cases, cases_else, loop, jump, Statements, Arms, no_arm, arm, CaseArms, no_case, case_arm}
-use Rattle.st_syntax.specs.Grammar.{arm_of as raw_arm, case_of as raw_case, HasArm, HasCase, may_jump, tree, tree_all, tree_arms, tree_cases, tree_labels}
-use Rattle.st_syntax.specs.declared.kind.Jump.{Jump}
-use Rattle.st_syntax.specs.declared.kind.Jump.TheVariants as jump_word
+use Rattle.st_grammar.specs.Forms.{Form, Labels, Statement, assign, write, choice, choice_else, cases, cases_else, loop, jump, Statements, Arms, no_arm, arm, CaseArms, no_case, case_arm}
+use Rattle.st_grammar.specs.Grammar.{arm_of as raw_arm, case_of as raw_case, HasArm, HasCase, may_jump, tree, tree_all, tree_arms, tree_cases, tree_labels}
+use Rattle.st_grammar.specs.declared.kind.Jump.{Jump}
+use Rattle.st_grammar.specs.declared.kind.Jump.TheVariants as jump_word
 use Rattle.st_round_trip.proofs.Actions.{act_continue, act_exit, act_return, calls_assign, calls_continue, calls_exit, calls_return, calls_write, from_arm, from_assign, from_case, from_case_arm, from_continue, from_exit, from_if, from_return, from_while, from_write}
 use Rattle.st_round_trip.proofs.Callees.{all_callees, arms_last, both, callees, callees_case, callees_if, callees_while, cases_last}
 use Rattle.st_round_trip.proofs.CaseLabels.{FoundLabels, no_label_breaks, values_of}

@@ -9,9 +9,9 @@ use Rattle.memory_areas.specs.declared.place.AreaName.TheVariants as area
 use Rattle.s7_base.specs.Tokens.{line_after}
 use Rattle.s7_base.specs.declared.word.Width.TheVariants as width
 use Rattle.st_canonical.specs.Canonical.{area_form, block_name, blocks_from, globals_form, globals_from, items_form, located_from, on}
-use Rattle.st_syntax.specs.Forms.{plain, bytes, Globals, no_global, global, Section, present}
-use Rattle.st_syntax.specs.Grammar.{GlobalsFit, IfPresent, held, tree_globals, tree_items}
-use Rattle.st_syntax.specs.Levels.{levels_globals, levels_section}
+use Rattle.st_grammar.specs.Forms.{plain, bytes, Globals, no_global, global, Section, present}
+use Rattle.st_grammar.specs.Grammar.{GlobalsFit, IfPresent, held, tree_globals, tree_items}
+use Rattle.st_grammar.specs.Levels.{levels_globals, levels_section}
 use Rattle.st_canonical.specs.Spelled.{GlobalsSpelled, is_variable}
 use Rattle.st_round_trip.proofs.BlockForms.{AreWithin, IsFull, block_is_name, block_is_named, globals_within, is_written, with_zero}
 use Rattle.st_round_trip.proofs.GlobalForms.{Each, IsPlain}

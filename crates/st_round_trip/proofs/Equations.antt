@@ -4,10 +4,10 @@ use Rattle.std.specs.Prelude.{nat_lt, if◌then◌else◌}
 use Rattle.s7_base.specs.declared.reason.Line.{Line}
 use Rattle.s7_base.specs.declared.word.Width.{Width}
 use Rattle.st_canonical.specs.Canonical.{expr_form, form_of, literal_form, on, raw_var}
-use Rattle.st_syntax.specs.Forms.{Form, literal, variable, group, prefix, infix_of, apply, shift, select}
-use Rattle.st_syntax.specs.Grammar.{infix_level, level}
-use Rattle.st_syntax.specs.declared.kind.OneOperand.TheVariants as one
-use Rattle.st_syntax.specs.declared.kind.Prefix.TheVariants as before
+use Rattle.st_grammar.specs.Forms.{Form, literal, variable, group, prefix, infix_of, apply, shift, select}
+use Rattle.st_grammar.specs.Grammar.{infix_level, level}
+use Rattle.st_grammar.specs.declared.kind.OneOperand.TheVariants as one
+use Rattle.st_grammar.specs.declared.kind.Prefix.TheVariants as before
 use Rattle.st_tree.proofs.CanonEquations.{canon_literal, canon_read, canon_unary, canon_binary, canon_convert, canon_select, canon_shift, canon_area_read}
 use Rattle.st_tree.specs.Form as tree
 use Rattle.st_tree.specs.Form.{canon, canon_step}

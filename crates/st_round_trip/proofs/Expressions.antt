@@ -6,12 +6,12 @@ use Rattle.s7_base.specs.declared.reason.Line.{Line}
 use Rattle.s7_base.specs.declared.reason.Reason.{Reason}
 use Rattle.s7_base.specs.declared.word.Width.{Width}
 use Rattle.st_canonical.specs.Canonical.{expr_form, literal_form, on, raw_var, unary_form}
-use Rattle.st_syntax.specs.Forms.{Form, literal, variable, group, prefix, infix_of, apply, shift, select}
-use Rattle.st_syntax.specs.Grammar.{Binds, infix_level, label_tree, level, tree}
+use Rattle.st_grammar.specs.Forms.{Form, literal, variable, group, prefix, infix_of, apply, shift, select}
+use Rattle.st_grammar.specs.Grammar.{Binds, infix_level, label_tree, level, tree}
 use Rattle.st_canonical.specs.Spelled.{FormSpelled, is_function, is_literal, is_variable}
-use Rattle.st_syntax.specs.declared.kind.Literal.{Literal}
-use Rattle.st_syntax.specs.declared.kind.OneOperand.TheVariants as one
-use Rattle.st_syntax.specs.declared.kind.Prefix.TheVariants as before
+use Rattle.st_grammar.specs.declared.kind.Literal.{Literal}
+use Rattle.st_grammar.specs.declared.kind.OneOperand.TheVariants as one
+use Rattle.st_grammar.specs.declared.kind.Prefix.TheVariants as before
 use Rattle.st_round_trip.proofs.Nested.{Close, alike, close_apply, close_group, close_infix, close_prefix, close_select, close_shift, right_level, wrapped_level}
 use Rattle.st_round_trip.proofs.Equations.{before_operand, form_area, form_binary, form_convert, form_literal, form_read, form_select, form_shift, form_unary, read_literal, read_variable, type_area, type_binary, type_convert, type_literal, type_read, type_select, type_shift, type_unary, wrapped}
 use Rattle.st_round_trip.proofs.Literals.{kept, tree_of_label, value_of}

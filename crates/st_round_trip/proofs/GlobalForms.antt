@@ -10,9 +10,9 @@ use Rattle.s7_base.specs.declared.word.Width.TheVariants as width
 use Rattle.st_lexer.specs.Spelled.{is_place}
 use Rattle.st_lexer.proofs.Words.{and_both}
 use Rattle.st_canonical.specs.Canonical.{area_form}
-use Rattle.st_syntax.specs.Forms.{GlobalType, plain, bytes, Globals, no_global, global}
-use Rattle.st_syntax.specs.Grammar.{GlobalsFit, is_global, tree_globals, tree_type}
-use Rattle.st_syntax.specs.Kinds.{is_free}
+use Rattle.st_grammar.specs.Forms.{GlobalType, plain, bytes, Globals, no_global, global}
+use Rattle.st_grammar.specs.Grammar.{GlobalsFit, is_global, tree_globals, tree_type}
+use Rattle.st_grammar.specs.Kinds.{is_free}
 use Rattle.st_canonical.specs.Spelled.{is_name, is_variable}
 use Rattle.st_round_trip.proofs.TokensSpelled.{GlobalsWorded}
 use Rattle.st_tree.specs.Values.{width_at}

@@ -7,8 +7,8 @@ use Rattle.s7_base.specs.declared.reason.Line.{Line}
 use Rattle.s7_base.specs.declared.reason.Reason.{Reason}
 use Rattle.s7_base.specs.declared.reason.Reason.TheVariants.{TypeMismatch}
 use Rattle.st_canonical.specs.Canonical.{FromLine, actuals_from, on, raw_var}
-use Rattle.st_syntax.specs.Forms.{Actuals, no_actual, actual, invoke}
-use Rattle.st_syntax.specs.Grammar.{on_line, tree_actuals, tree_one}
+use Rattle.st_grammar.specs.Forms.{Actuals, no_actual, actual, invoke}
+use Rattle.st_grammar.specs.Grammar.{on_line, tree_actuals, tree_one}
 use Rattle.st_canonical.specs.Spelled.{ActualsSpelled, is_variable}
 use Rattle.st_round_trip.proofs.Actions.{act_invoke, calls_invoke, from_invoke}
 use Rattle.st_round_trip.proofs.Callees.{callees, callees_of}

@@ -5,10 +5,10 @@ use Rattle.std.proofs.lemmas.Bool.Decides.{nat_tests}
 use Rattle.st_lexer.specs.Literals.{greatest, is_signed}
 use Rattle.st_lexer.specs.Spelled.{has_value, is_byte}
 use Rattle.st_canonical.specs.Canonical.{literal_form}
-use Rattle.st_syntax.specs.Grammar.{is_value, label_tree, literal_tree}
+use Rattle.st_grammar.specs.Grammar.{is_value, label_tree, literal_tree}
 use Rattle.st_canonical.specs.Spelled.{is_literal}
-use Rattle.st_syntax.specs.declared.kind.Literal.{Literal}
-use Rattle.st_syntax.specs.declared.kind.Literal.TheVariants as lit
+use Rattle.st_grammar.specs.declared.kind.Literal.{Literal}
+use Rattle.st_grammar.specs.declared.kind.Literal.TheVariants as lit
 use Rattle.st_tree.specs.declared.expr.StType.{StType}
 use Rattle.st_tree.specs.declared.expr.StType.TheVariants as type
 use Rattle.st_tree.specs.declared.raw.RawExpr.TheVariants as raw

@@ -2,11 +2,11 @@
 use Rattle.std.proofs.Common.{◌≡◌, ℕ, ◌+◌, ◌-◌, ◌<◌, ◌≤◌, Bool, true, false, max, refl, sym, ap, subst, ◌∙◌, arith}
 use Rattle.std.specs.Prelude.{nat_lt, if◌then◌else◌}
 use Rattle.std.proofs.lemmas.Bool.Decides.{nat_tests}
-use Rattle.st_syntax.specs.Forms.{Form, group, prefix, infix_of, apply, shift, select}
-use Rattle.st_syntax.specs.Grammar.{infix_level, level, prefix_level}
-use Rattle.st_syntax.specs.Levels.{height}
-use Rattle.st_syntax.specs.declared.kind.OneOperand.{OneOperand}
-use Rattle.st_syntax.specs.declared.kind.Prefix.{Prefix}
+use Rattle.st_grammar.specs.Forms.{Form, group, prefix, infix_of, apply, shift, select}
+use Rattle.st_grammar.specs.Grammar.{infix_level, level, prefix_level}
+use Rattle.st_grammar.specs.Levels.{height}
+use Rattle.st_grammar.specs.declared.kind.OneOperand.{OneOperand}
+use Rattle.st_grammar.specs.declared.kind.Prefix.{Prefix}
 use Rattle.st_round_trip.proofs.Equations.{wrapped}
 use Rattle.st_round_trip.proofs.Levels.{nest}
 use Rattle.st_tree.specs.declared.expr.BinaryOp.{BinaryOp}

@@ -4,7 +4,7 @@ use Rattle.s7_base.specs.declared.reason.Line.{Line}
 use Rattle.s7_base.specs.declared.reason.Reason.{Reason}
 use Rattle.s7_base.specs.declared.reason.Reason.TheVariants.{TypeMismatch}
 use Rattle.s7_base.specs.declared.word.Width.{Width}
-use Rattle.st_syntax.specs.Grammar.{arm_of as raw_arm, case_of as raw_case, on_line}
+use Rattle.st_grammar.specs.Grammar.{arm_of as raw_arm, case_of as raw_case, on_line}
 use Rattle.st_round_trip.proofs.Actions.{act_arm, act_assign, act_case, act_case_arm, act_if, act_while, act_write}
 use Rattle.st_tree.specs.Values.{type_of_width}
 use Rattle.st_tree.specs.declared.expr.Expr.{Expr}

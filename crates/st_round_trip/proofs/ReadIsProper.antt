@@ -2,12 +2,12 @@
 use Rattle.std.proofs.Common.{◌≡◌, ℕ, zero, suc, ◌≤◌, max, false, List, [], ◌∷◌, map, length, Some, refl, sym, ap, subst, ◌∙◌, arith}
 use Rattle.std.specs.Prelude.{slice_get}
 use Rattle.st_canonical.specs.Canonical.{body_from, globals_from, source_of, statement_from, units_from}
-use Rattle.st_syntax.specs.Forms.{Statements, Locals, no_local, local, Globals, Section, absent, present, Units, no_unit, unit, Source}
-use Rattle.st_syntax.specs.Grammar.{AllFit, GlobalsFit, IfPresent, SourceFits, UnitsFit, held, raw_tree, tree_all, tree_globals, tree_units}
-use Rattle.st_syntax.specs.Levels.{deepest, levels_all, levels_globals, levels_locals, levels_section, levels_source, levels_units}
+use Rattle.st_grammar.specs.Forms.{Statements, Locals, no_local, local, Globals, Section, absent, present, Units, no_unit, unit, Source}
+use Rattle.st_grammar.specs.Grammar.{AllFit, GlobalsFit, IfPresent, SourceFits, UnitsFit, held, raw_tree, tree_all, tree_globals, tree_units}
+use Rattle.st_grammar.specs.Levels.{deepest, levels_all, levels_globals, levels_locals, levels_section, levels_source, levels_units}
 use Rattle.st_parser.specs.Proper.{Proper}
 use Rattle.st_canonical.specs.Spelled.{AllSpelled, UnitsSpelled}
-use Rattle.st_syntax.specs.Syntax.{AllWithin}
+use Rattle.st_grammar.specs.Syntax.{AllWithin}
 use Rattle.st_parser.specs.Texts.{IsTextOf}
 use Rattle.st_round_trip.proofs.BlockForms.{AreWithin, IsFull, are_full, with_zero}
 use Rattle.st_round_trip.proofs.Callees.{all_callees}

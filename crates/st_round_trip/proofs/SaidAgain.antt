@@ -2,8 +2,8 @@
 use Rattle.std.proofs.Common.{◌≡◌, ℕ, ◌≤◌, false, List, [], map, sym, subst}
 use Rattle.st_parser.proofs.TextReads.{proper_reads}
 use Rattle.st_canonical.specs.Canonical.{body_from, statement_from}
-use Rattle.st_syntax.specs.Forms.{Statements}
-use Rattle.st_syntax.specs.Grammar.{AllFit, tree_all}
+use Rattle.st_grammar.specs.Forms.{Statements}
+use Rattle.st_grammar.specs.Grammar.{AllFit, tree_all}
 use Rattle.st_canonical.specs.Spelled.{AllSpelled}
 use Rattle.st_round_trip.proofs.Bodies.{found_all}
 use Rattle.st_round_trip.proofs.Callees.{all_callees}

@@ -3,8 +3,8 @@
 use Rattle.std.proofs.Common.{◌≡◌, ℕ, ◌≤◌, ◌++◌, Bool, List, [], ◌∷◌, map, Option, Some, refl, sym, ap, subst, ◌∙◌, arith}
 use Rattle.s7_base.specs.declared.reason.Line.{Line}
 use Rattle.st_canonical.specs.Canonical.{ArmFromLine, CaseFromLine, FromLine, all_from, arm_from, arms_from, body_from, case_from, cases_from, statement_from}
-use Rattle.st_syntax.specs.Forms.{Statement, Statements, none, empty, further, Arms, no_arm, CaseArms, no_case}
-use Rattle.st_syntax.specs.Grammar.{AllFit, ArmsFit, CasesFit, Fits, HasArm, HasCase, tree_all, tree_arms, tree_cases, tree_one}
+use Rattle.st_grammar.specs.Forms.{Statement, Statements, none, empty, further, Arms, no_arm, CaseArms, no_case}
+use Rattle.st_grammar.specs.Grammar.{AllFit, ArmsFit, CasesFit, Fits, HasArm, HasCase, tree_all, tree_arms, tree_cases, tree_one}
 use Rattle.st_canonical.specs.Spelled.{AllSpelled, ArmsSpelled, CasesSpelled, Spelled}
 use Rattle.st_round_trip.proofs.Callees.{all_callees, arms_callees, both, callees_last, callees_of, cases_callees}
 use Rattle.st_round_trip.proofs.Levels.{top_all, top_arms, top_cases, top_one}

@@ -20,21 +20,21 @@ use Rattle.st_lexer.specs.declared.number.Base.TheVariants as base
 use Rattle.st_tree.specs.declared.token.StKind.{StKind}
 use Rattle.st_tree.specs.declared.token.StKind.TheVariants as sort
 use Rattle.st_tree.specs.declared.token.StToken.{StToken}
-use Rattle.st_syntax.specs.Forms.{Form, literal, variable, group, prefix, infix_of, apply, shift, select, Actuals, no_actual, actual, Labels, label, more_labels, Statement, assign, write, invoke, choice, choice_else, cases, cases_else, loop, jump, Statements, none, empty, further, Arms, no_arm, arm, CaseArms, no_case, case_arm, Items, no_item, single, times, GlobalType, plain, bytes, Globals, no_global, global, Locals, no_local, local, Section, absent, present, Units, no_unit, unit, Source}
-use Rattle.st_syntax.specs.Grammar.{is_value, Binds, LabelsFit, Fits, AllFit, ArmsFit, CasesFit, UnitsFit, SourceFits, IfPresent, spell, comma_behind, spell_actuals, spell_labels, arm_word, spell_one, spell_all, spell_arms, spell_cases, comma_past, spell_items, spell_initial, spell_type, spell_globals, spell_locals, spell_section, end_word, spell_formals, spell_temps, spell_head, spell_units, spell_source}
-use Rattle.st_syntax.specs.Kinds.{word_text, fixed_text, size_before_line, conversion_between, conversion_of_types, word_named, conversion_named, kind_of_word, name_kind, word_kind, sign_named, sign_kind, direct_kind, are_two_digits, typed_kind, literal_kind, number_kind, text_kind}
+use Rattle.st_grammar.specs.Forms.{Form, literal, variable, group, prefix, infix_of, apply, shift, select, Actuals, no_actual, actual, Labels, label, more_labels, Statement, assign, write, invoke, choice, choice_else, cases, cases_else, loop, jump, Statements, none, empty, further, Arms, no_arm, arm, CaseArms, no_case, case_arm, Items, no_item, single, times, GlobalType, plain, bytes, Globals, no_global, global, Locals, no_local, local, Section, absent, present, Units, no_unit, unit, Source}
+use Rattle.st_grammar.specs.Grammar.{is_value, Binds, LabelsFit, Fits, AllFit, ArmsFit, CasesFit, UnitsFit, SourceFits, IfPresent, spell, comma_behind, spell_actuals, spell_labels, arm_word, spell_one, spell_all, spell_arms, spell_cases, comma_past, spell_items, spell_initial, spell_type, spell_globals, spell_locals, spell_section, end_word, spell_formals, spell_temps, spell_head, spell_units, spell_source}
+use Rattle.st_grammar.specs.Kinds.{word_text, fixed_text, size_before_line, conversion_between, conversion_of_types, word_named, conversion_named, kind_of_word, name_kind, word_kind, sign_named, sign_kind, direct_kind, are_two_digits, typed_kind, literal_kind, number_kind, text_kind}
 use Rattle.st_canonical.specs.Spelled.{is_unreserved, is_function, is_variable, is_name, is_literal, FormSpelled, ActualsSpelled, LabelsSpelled, Spelled, AllSpelled, ArmsSpelled, CasesSpelled, LocalsSpelled, UnitsSpelled}
-use Rattle.st_syntax.specs.Syntax.{HasRawTree, all_lined, kinds}
-use Rattle.st_syntax.specs.declared.kind.Fixed.{Fixed}
-use Rattle.st_syntax.specs.declared.kind.Fixed.TheVariants as fixed
-use Rattle.st_syntax.specs.declared.kind.Function.TheVariants as function
-use Rattle.st_syntax.specs.declared.kind.Kind.{Kind}
-use Rattle.st_syntax.specs.declared.kind.Kind.TheVariants as kind
-use Rattle.st_syntax.specs.declared.kind.Literal.{Literal}
-use Rattle.st_syntax.specs.declared.kind.Literal.TheVariants as lit
-use Rattle.st_syntax.specs.declared.kind.OneOperand.{OneOperand}
-use Rattle.st_syntax.specs.declared.kind.Word.{Word}
-use Rattle.st_syntax.specs.declared.kind.Word.TheVariants as word
+use Rattle.st_grammar.specs.Syntax.{HasRawTree, all_lined, kinds}
+use Rattle.st_grammar.specs.declared.kind.Fixed.{Fixed}
+use Rattle.st_grammar.specs.declared.kind.Fixed.TheVariants as fixed
+use Rattle.st_grammar.specs.declared.kind.Function.TheVariants as function
+use Rattle.st_grammar.specs.declared.kind.Kind.{Kind}
+use Rattle.st_grammar.specs.declared.kind.Kind.TheVariants as kind
+use Rattle.st_grammar.specs.declared.kind.Literal.{Literal}
+use Rattle.st_grammar.specs.declared.kind.Literal.TheVariants as lit
+use Rattle.st_grammar.specs.declared.kind.OneOperand.{OneOperand}
+use Rattle.st_grammar.specs.declared.kind.Word.{Word}
+use Rattle.st_grammar.specs.declared.kind.Word.TheVariants as word
 use Rattle.st_tree.specs.declared.expr.StType.{StType}
 use Rattle.st_tree.specs.declared.expr.StType.TheVariants as type
 use Rattle.st_tree.specs.declared.raw.RawSt.{RawSt}

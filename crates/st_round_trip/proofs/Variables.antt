@@ -8,7 +8,7 @@ use Rattle.s7_base.specs.declared.register.Reg.{Reg}
 use Rattle.s7_base.specs.declared.register.Reg.TheVariants as reg
 use Rattle.s7_base.specs.declared.word.Width.{Width}
 use Rattle.st_canonical.specs.Canonical.{raw_var}
-use Rattle.st_syntax.specs.Kinds.{word_named, word_text}
+use Rattle.st_grammar.specs.Kinds.{word_named, word_text}
 use Rattle.st_canonical.specs.Spelled.{is_name, is_variable}
 use Rattle.st_tree.specs.Spelling.{global_name, local_name}
 use Rattle.st_tree.specs.State.{type_of_register}

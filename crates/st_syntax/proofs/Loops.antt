@@ -3,9 +3,9 @@ use Rattle.std.proofs.Common.{◌≡◌, Bool, true, false, List, [], ◌∷◌,
 use Rattle.std.specs.Prelude.{◌||◌}
 use Rattle.std.specs.List.{list_any}
 use Rattle.std.proofs.lemmas.List.{reverse-append}
-use Rattle.st_syntax.specs.Machine.{code, Frame}
-use Rattle.st_syntax.specs.Steps.{is_loop, in_loop}
-use Rattle.st_syntax.specs.Views.{frame_of, stack_of}
+use Rattle.st_grammar.specs.inner.Machine.{code, Frame}
+use Rattle.st_grammar.specs.inner.Steps.{is_loop, in_loop}
+use Rattle.st_syntax.specs.inner.Views.{frame_of, stack_of}
 use Rattle.st_syntax.specs.declared.state.Frame.{Frame as Found}
 
 or_assoc : (a b c : Bool) → (a || (b || c)) ≡ ((a || b) || c)

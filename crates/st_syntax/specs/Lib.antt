@@ -1,11 +1,1 @@
-pub mod Derives
-pub mod Forms
-pub mod Grammar
-pub mod Judge
-pub mod Kinds
-pub mod Levels
-pub mod Machine
-pub mod Steps
-pub mod Syntax
-pub mod SyntaxLaws
-pub mod Views
+pub mod inner

@@ -1,20 +1,13 @@
 //! Expressions while they are read.
 ghost use Rattle.std.specs.Prelude.{◌≡◌, suc, ◌+◌, IfOk};
-ghost use Rattle.st_syntax.specs.Grammar.{prefix_level, infix_level, is_value, literal_tree, label_tree, prefix_tree, apply_tree};
-ghost use Rattle.st_syntax.specs.Machine.{code, of_literal, of_variable, of_prefix, of_infix, of_apply, of_shift, of_select};
-ghost use Rattle.st_syntax.specs.Steps.{shallower};
+ghost use Rattle.st_grammar.specs.Grammar.{prefix_level, infix_level, is_value, literal_tree, label_tree, prefix_tree, apply_tree};
+ghost use Rattle.st_grammar.specs.inner.Machine.{code, of_literal, of_variable, of_prefix, of_infix, of_apply, of_shift, of_select};
+ghost use Rattle.st_grammar.specs.inner.Steps.{shallower};
 
-use crate::kind::{Literal, OneOperand, Prefix};
 use s7_base::{Boxed, Line, NoMemory};
+use st_grammar::{Literal, Measured, OneOperand, Prefix};
 use st_tree::{BinaryOp, RawExpr, RawVar, ShiftOp, StType, UnaryOp};
 use std::alloc::Global;
-
-/// An expression, and how high its tree is.
-#[derive(Drop)]
-pub struct Measured {
-    pub tree: RawExpr,
-    pub height: usize,
-}
 
 /// One more; memory has no room for what would be above the greatest number.
 pub fn one_more(number: usize) -> Result<usize, NoMemory>

@@ -1,18 +1,18 @@
 //! Steps of the parser in expressions.
 ghost use Rattle.std.specs.Prelude.{◌≡◌, ◌∷◌, Some, length, IfOk, option_map};
-ghost use Rattle.st_syntax.specs.Machine.{code, first_label, no_cases, no_statements, part, statement, to_area, to_var, area_value, within};
-ghost use Rattle.st_syntax.specs.Steps.{spot, limit, reduce, function_argument, with_prefix, at_operand, at_opening, close_argument, next_argument, argument_closed, use_closed, closed, at_operator, weakest};
-ghost use Rattle.st_syntax.specs.declared.kind.Fixed.TheVariants as fixed;
-ghost use Rattle.st_syntax.specs.declared.kind.Kind.TheVariants as kind;
-ghost use Rattle.st_syntax.specs.Views.{argument_of, begun_of, body_of, use_of, stack_of, spot_of, reduced_of};
+ghost use Rattle.st_grammar.specs.inner.Machine.{code, first_label, no_cases, no_statements, part, statement, to_area, to_var, area_value, within};
+ghost use Rattle.st_grammar.specs.inner.Steps.{spot, limit, reduce, function_argument, with_prefix, at_operand, at_opening, close_argument, next_argument, argument_closed, use_closed, closed, at_operator, weakest};
+ghost use Rattle.st_grammar.specs.declared.kind.Fixed.TheVariants as fixed;
+ghost use Rattle.st_grammar.specs.declared.kind.Kind.TheVariants as kind;
+ghost use Rattle.st_syntax.specs.inner.Views.{argument_of, begun_of, body_of, use_of, stack_of, spot_of, reduced_of};
 
 use crate::expression::{
-    Measured, infix_level, is_value, of_apply, of_infix, of_literal, of_prefix, of_select,
-    of_shift, of_variable, one_more, prefix_level, shallower,
+    infix_level, is_value, of_apply, of_infix, of_literal, of_prefix, of_select, of_shift,
+    of_variable, one_more, prefix_level, shallower,
 };
-use crate::kind::{Fixed, Function, Kind, Prefix};
 use crate::state::{Argument, Begun, Body, Frame, Part, Place, Spot, Use};
 use s7_base::{Boxed, List, NoMemory, Width};
+use st_grammar::{Fixed, Function, Kind, Measured, Prefix};
 use st_tree::{BinaryOp, RawStmt, RawStmtKind, RawVar};
 use std::alloc::Global;
 

@@ -1,21 +1,21 @@
 //! Judges the syntax of a text: its tree before names are looked up, or its first wrong token.
-ghost use Rattle.std.specs.Prelude.{◌≡◌, ◌+◌, nat_lt, Err, IfOk, option_map};
+ghost use Rattle.std.specs.Prelude.{◌≡◌, ◌+◌, nat_lt, Some, Err, IfOk, option_map};
 ghost use Rattle.s7_base.specs.declared.reason.Rejection.TheVariants.{Refused};
 ghost use Rattle.s7_base.specs.Answers.{IfRefused};
-ghost use Rattle.st_syntax.specs.Judge.{seen, turn, reached, judged, judge, text_in, HasText, JudgedIs};
-ghost use Rattle.st_syntax.specs.Kinds.{kind_of};
-ghost use Rattle.st_syntax.specs.Levels.{deepest};
-ghost use Rattle.st_syntax.specs.Machine.{code};
+ghost use Rattle.st_grammar.specs.inner.Judge.{turn, reached, judged, judge, text_in, tree_at, verdict};
+ghost use Rattle.st_grammar.specs.Kinds.{kind_of};
+ghost use Rattle.st_grammar.specs.Levels.{deepest};
+ghost use Rattle.st_grammar.specs.inner.Machine.{code};
 ghost use Rattle.st_syntax.specs.declared.state.State.TheVariants as state;
-ghost use Rattle.st_syntax.specs.Steps.{level_at};
-ghost use Rattle.st_syntax.specs.Syntax.{all_lined, HasRawTree, IsSyntaxRefused};
-ghost use Rattle.st_syntax.specs.Views.{before_of, place_of, stack_of};
+ghost use Rattle.st_grammar.specs.inner.Steps.{level_at};
+ghost use Rattle.st_grammar.specs.Syntax.{all_lined};
+ghost use Rattle.st_syntax.specs.inner.Seen.{seen, HasText, JudgedIs};
+ghost use Rattle.st_syntax.specs.inner.Views.{before_of, place_of, stack_of};
 
-use crate::kind::{Fixed, Kind};
 use crate::state::{Before, Frame, Place, Spot, State};
-use crate::token::kind_of;
 use crate::unit::next;
 use s7_base::{Line, NoMemory, Reason, Rejection};
+use st_grammar::{Fixed, Kind, kind_of};
 use st_lexer::{StToken, end_line, rest_after, st_tokens};
 use st_tree::RawSt;
 use std::alloc::Global;
@@ -44,7 +44,7 @@ fn is_deep_at(spot: &Spot) -> bool
 }
 
 /// The last token made a level above the greatest.
-#[tactic(auto, unfolding(crate::specs::Judge::seen, crate::specs::Judge::reached))]
+#[tactic(auto, unfolding(crate::specs::inner::Seen::seen, st_grammar::specs::inner::Judge::reached))]
 fn is_deep(state: &State) -> bool
     ensures { result ≡ nat_lt deepest (reached (seen state.now)) }
 {
@@ -123,7 +123,7 @@ fn judge(alloc: Global, tokens: &[StToken], end: Line) -> Judged
 
 /// The whole text, if the state is after its end. The parts of another state are given up in calls of
 /// their own, since they are too many for one function's borrow check.
-#[tactic(auto, unfolding(crate::specs::Judge::seen))]
+#[tactic(auto, unfolding(crate::specs::inner::Seen::seen))]
 fn finish(state: State) -> Option<Before>
     ensures { option_map before_of result ≡ text_in (seen state) }
 {
@@ -167,10 +167,10 @@ fn whole(alloc: Global, tokens: &[StToken], end: Line) -> Result<Before, Rejecti
 }
 
 /// The tree of a text before its names are looked up, or the line and the reason of its first broken
-/// rule of syntax or nesting.
+/// rule of syntax or nesting, as the pass over its tokens judges it.
 pub fn syntax(alloc: Global, bytes: &[u8]) -> Result<RawSt, Rejection>
-    ensures tree { IfOk result (HasRawTree bytes.now) }
-    ensures refused { IfRefused result (IsSyntaxRefused bytes.now) }
+    ensures tree { IfOk result (λ raw. tree_at (verdict bytes.now) ≡ Some raw) }
+    ensures refused { IfRefused result (λ line reason. verdict bytes.now ≡ Err (Refused line reason)) }
 {
     let tokens = match st_tokens(alloc, bytes) {
         Ok(tokens) => tokens,

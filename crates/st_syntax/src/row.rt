@@ -1,14 +1,13 @@
 //! Steps of the parser in globals.
 ghost use Rattle.std.specs.Prelude.{◌≡◌, IfOk, option_map};
-ghost use Rattle.st_syntax.specs.Grammar.{is_direct};
-ghost use Rattle.st_syntax.specs.Machine.{code, at_item};
-ghost use Rattle.st_syntax.specs.Steps.{is_zero, is_array, row_type, row_place, row_array, row_items, row_step, row_end, at_row, at_globals};
-ghost use Rattle.st_syntax.specs.Views.{row_of, state_of};
+ghost use Rattle.st_grammar.specs.Grammar.{is_direct};
+ghost use Rattle.st_grammar.specs.inner.Machine.{code, at_item};
+ghost use Rattle.st_grammar.specs.inner.Steps.{is_zero, is_array, row_type, row_place, row_array, row_items, row_step, row_end, at_row, at_globals};
+ghost use Rattle.st_syntax.specs.inner.Views.{row_of, state_of};
 
-use crate::kind::{Fixed, Kind, Literal};
 use crate::state::{Before, Row, State};
-use crate::words::{is_free, may_name_global, names_block};
 use s7_base::{Line, List, NoMemory};
+use st_grammar::{Fixed, Kind, Literal, is_free, may_name_global, names_block};
 use st_tree::{RawGlobal, RawGlobalType, RawVar, StType};
 use std::alloc::Global;
 

@@ -1,9 +1,7 @@
 //! Where the parser stands between two tokens: what is open, and what may come next.
 
-use crate::declaration::Heading;
-use crate::expression::Measured;
-use crate::kind::{Function, OneOperand, Prefix};
 use s7_base::{Line, List, Width};
+use st_grammar::{Function, Heading, Measured, OneOperand, Prefix};
 use st_tree::{
     BinaryOp, RawArm, RawCaseArm, RawGlobal, RawGlobalType, RawLocal, RawPou, RawStmt, RawVar,
     ShiftOp, StType,

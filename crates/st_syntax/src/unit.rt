@@ -1,17 +1,15 @@
 //! Steps of the parser in units.
 ghost use Rattle.std.specs.Prelude.{◌≡◌, IfOk, option_map};
-ghost use Rattle.st_syntax.specs.Grammar.{is_formal_type};
-ghost use Rattle.st_syntax.specs.Machine.{code, add_unit};
-ghost use Rattle.st_syntax.specs.Steps.{at_between, at_start, at_heading, may_name, may_type, section_end, at_section, at_typing, ends, leave, at_inside, at_formals_done, at_opened, next, no_spot};
-ghost use Rattle.st_syntax.specs.Views.{before_of, place_of, spot_of, stack_of, state_of, top_in, typing_of, which_of};
+ghost use Rattle.st_grammar.specs.Grammar.{is_formal_type};
+ghost use Rattle.st_grammar.specs.inner.Machine.{code, add_unit};
+ghost use Rattle.st_grammar.specs.inner.Steps.{at_between, at_start, at_heading, may_name, may_type, section_end, at_section, at_typing, ends, leave, at_inside, at_formals_done, at_opened, next, no_spot};
+ghost use Rattle.st_syntax.specs.inner.Views.{before_of, place_of, spot_of, stack_of, state_of, top_in, typing_of, which_of};
 
-use crate::declaration::Heading;
-use crate::kind::{Fixed, Kind, Lead};
 use crate::row::{at_globals, at_row};
 use crate::state::{Before, Place, Spot, State, Top, Typing, Which};
 use crate::statement::step;
-use crate::words::{is_free, may_name_local, may_name_unit};
 use s7_base::{Line, List, NoMemory};
+use st_grammar::{Fixed, Heading, Kind, Lead, is_free, may_name_local, may_name_unit};
 use st_tree::{RawLocal, RawPou, RawStmt, RawVar, StType};
 use std::alloc::Global;
 

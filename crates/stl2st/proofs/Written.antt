@@ -11,11 +11,11 @@ use Rattle.s7_base.specs.declared.register.Reg.TheVariants as reg
 use Rattle.s7_base.specs.declared.word.Width.TheVariants as width
 use Rattle.st_lexer.specs.Spelled.{is_kept}
 use Rattle.st_canonical.specs.Canonical.{expr_form, form_of, raw_var}
-use Rattle.st_syntax.specs.Grammar.{Binds, level, tree}
-use Rattle.st_syntax.specs.Kinds.{word_named, word_text}
-use Rattle.st_syntax.specs.Levels.{deepest, levels}
+use Rattle.st_grammar.specs.Grammar.{Binds, level, tree}
+use Rattle.st_grammar.specs.Kinds.{word_named, word_text}
+use Rattle.st_grammar.specs.Levels.{deepest, levels}
 use Rattle.st_canonical.specs.Spelled.{FormSpelled, is_variable}
-use Rattle.st_syntax.specs.Syntax.{AllWithin}
+use Rattle.st_grammar.specs.Syntax.{AllWithin}
 use Rattle.st_tree.proofs.CanonEquations.{canon_equations}
 use Rattle.st_tree.specs.Form as written
 use Rattle.st_tree.specs.Form.{canon}

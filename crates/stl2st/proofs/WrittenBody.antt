@@ -6,11 +6,11 @@ use Rattle.std.proofs.lemmas.Grind.{flat_map-append}
 use Rattle.std.proofs.lemmas.List.{map-append}
 use Rattle.s7_base.specs.Tokens.{line_after}
 use Rattle.st_canonical.specs.Canonical.{Placed, FromLine, ArmFromLine, CaseFromLine, all_from, arm_step as arm_from_step, case_step as case_from_step, expr_form, on, raw_var, statement_from, statement_step as from_step}
-use Rattle.st_syntax.specs.Forms.{Statement, Statements, none, further, assign}
-use Rattle.st_syntax.specs.Grammar.{AllFit, on_line, tree, tree_all}
-use Rattle.st_syntax.specs.Levels.{deepest, levels_all}
+use Rattle.st_grammar.specs.Forms.{Statement, Statements, none, further, assign}
+use Rattle.st_grammar.specs.Grammar.{AllFit, on_line, tree, tree_all}
+use Rattle.st_grammar.specs.Levels.{deepest, levels_all}
 use Rattle.st_canonical.specs.Spelled.{AllSpelled}
-use Rattle.st_syntax.specs.Syntax.{AllWithin}
+use Rattle.st_grammar.specs.Syntax.{AllWithin}
 use Rattle.st_tree.specs.Typing.{Names}
 use Rattle.st_tree.specs.declared.expr.Expr.{Expr}
 use Rattle.st_tree.specs.declared.expr.Var.{Var}

@@ -8,7 +8,7 @@ use Rattle.std.proofs.lemmas.Fmt.{decimal_by_steps}
 use Rattle.std.proofs.lemmas.List.{length-append}
 use Rattle.std.proofs.lemmas.List.Folds.{list_all-append}
 use Rattle.s7_base.specs.Tokens.{is_between, is_word_byte}
-use Rattle.st_syntax.specs.Kinds.{conversion_named, may_name_unit, size_before_line, word_named, word_text}
+use Rattle.st_grammar.specs.Kinds.{conversion_named, may_name_unit, size_before_line, word_named, word_text}
 use Rattle.st_canonical.specs.Spelled.{is_name}
 use Rattle.stl2st.proofs.Written.{and_both}
 

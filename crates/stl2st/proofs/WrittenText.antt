@@ -3,9 +3,9 @@
 use Rattle.std.specs.Prelude.{◌≡◌, ℕ, zero, suc, true, List, [], ◌∷◌, ◌++◌, map, Some, refl}
 use Rattle.std.proofs.Common.{sym, ap, subst, arith}
 use Rattle.st_canonical.specs.Canonical.{all_from, on, statement_from}
-use Rattle.st_syntax.specs.Forms.{Statements, none}
-use Rattle.st_syntax.specs.Grammar.{tree_all}
-use Rattle.st_syntax.specs.Kinds.{may_name_unit}
+use Rattle.st_grammar.specs.Forms.{Statements, none}
+use Rattle.st_grammar.specs.Grammar.{tree_all}
+use Rattle.st_grammar.specs.Kinds.{may_name_unit}
 use Rattle.st_parser.specs.Proper.{Proper}
 use Rattle.st_canonical.specs.Spelled.{is_name}
 use Rattle.st_tree.specs.Spelling.{names_in}

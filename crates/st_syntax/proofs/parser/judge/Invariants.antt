@@ -1,6 +1,7 @@
 use Rattle.std.proofs.Common.{◌≡◌, length}
-use Rattle.st_syntax.specs.Judge.{seen, judge}
-use Rattle.st_syntax.specs.Syntax.{all_lined}
+use Rattle.st_grammar.specs.inner.Judge.{judge}
+use Rattle.st_syntax.specs.inner.Seen.{seen}
+use Rattle.st_grammar.specs.Syntax.{all_lined}
 use Rattle.st_syntax.specs.declared.state.State.TheVariants.{Start}
 use Rattle.st_syntax.proofs.parser.judge.Given as goal
 

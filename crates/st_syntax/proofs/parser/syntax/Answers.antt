@@ -2,8 +2,8 @@ use Rattle.std.proofs.Common.{◌≡◌, Ok, sym, ap, ◌∙◌}
 use Rattle.st_lexer.specs.StTokens.{tokens_of}
 use Rattle.st_syntax.proofs.Whole.{bad_tokens, read_as, refused_as}
 use Rattle.st_syntax.proofs.parser.syntax.Goals as goal
-use Rattle.st_syntax.specs.Judge.{seen}
-use Rattle.st_syntax.specs.Views.{before_of}
+use Rattle.st_syntax.specs.inner.Seen.{seen}
+use Rattle.st_syntax.specs.inner.Views.{before_of}
 
 pub returns-in-Err-clause-refused : goal.returns-in-Err-clause-refused
 returns-in-Err-clause-refused c = bad_tokens c.args.bytes.now c.in-Err.refused c.in-Err.ensures

@@ -1,4 +1,5 @@
-use Rattle.st_syntax.specs.Judge.{seen, turn}
+use Rattle.st_grammar.specs.inner.Judge.{turn}
+use Rattle.st_syntax.specs.inner.Seen.{seen}
 use Rattle.st_syntax.proofs.parser.turn.Goals as goal
 
 pub returns : goal.returns

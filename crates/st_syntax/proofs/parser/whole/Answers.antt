@@ -1,11 +1,12 @@
 use Rattle.std.proofs.Common.{◌≡◌, Option, Ok, sym, ap, subst, ◌∙◌}
 use Rattle.std.specs.Prelude.{option_map}
 use Rattle.s7_base.specs.declared.reason.Rejection.{Rejection}
-use Rattle.st_syntax.proofs.Whole.{not_over}
+use Rattle.st_grammar.proofs.Ends.{not_over}
 use Rattle.st_syntax.proofs.parser.whole.Goals as goal
-use Rattle.st_syntax.specs.Judge.{JudgedIs, judge, seen}
-use Rattle.st_syntax.specs.Syntax.{all_lined}
-use Rattle.st_syntax.specs.Views.{before_of}
+use Rattle.st_grammar.specs.inner.Judge.{judge}
+use Rattle.st_syntax.specs.inner.Seen.{JudgedIs, seen}
+use Rattle.st_grammar.specs.Syntax.{all_lined}
+use Rattle.st_syntax.specs.inner.Views.{before_of}
 use Rattle.st_syntax.specs.declared.state.State.TheVariants as state
 
 pub unreachable-requires : goal.unreachable-requires

@@ -1,0 +1,184 @@
+//! The kinds of a text's tokens.
+ghost use Rattle.std.specs.Prelude.{◌≡◌, IfOk};
+ghost use Rattle.st_grammar.specs.Kinds.{conversion_between, conversion_of_types, conversion_named, size_before_line, kind_of_word, truth, name_kind, word_kind, sign_kind, direct_kind, are_two_digits, typed_kind, decimal_kind, literal_kind, number_kind, word_named, sign_named, text_kind, kind_of};
+ghost use Rattle.st_lexer.specs.Literals.{literal_at, base_at, signed};
+ghost use Rattle.st_lexer.specs.Direct.{direct_of};
+
+use crate::kind::{Fixed, Function, Kind, Literal, OneOperand, Word};
+use crate::words::{sign_named, word_named};
+use s7_base::{Line, List, NoMemory};
+use st_lexer::{
+    Base, Literal as Found, StKind, StToken, base_at, begins_with_digit, direct_at, front_of,
+    is_in_range, is_same_word, literal_at, rest_after, type_named,
+};
+use st_tree::{BinaryOp, RawVar, StType};
+use std::alloc::Global;
+
+/// A conversion between two types other than BOOL, or from BOOL.
+fn conversion_between(from: StType, to: StType) -> Option<OneOperand>
+    ensures { result ≡ conversion_between from to }
+{
+    match (from, to) {
+        (_, StType::Bool)
+        | (StType::Byte, StType::Byte)
+        | (StType::Word, StType::Word)
+        | (StType::Dword, StType::Dword)
+        | (StType::Int, StType::Int)
+        | (StType::Dint, StType::Dint)
+        | (StType::Lint, StType::Lint) => None,
+        _ => Some(OneOperand::Convert(from, to)),
+    }
+}
+
+fn size_before_line(text: &[u8]) -> usize
+    ensures { result ≡ size_before_line text.now }
+{
+    text.iter().take_while(|b| **b != b'_').count()
+}
+
+/// A type, `_TO_` and another type.
+fn conversion_named(text: &[u8]) -> Option<OneOperand>
+    ensures { result ≡ conversion_named text.now }
+{
+    let size = size_before_line(text);
+    let rest = rest_after(text, size);
+    if !is_same_word(front_of(rest, 4), "_TO_") {
+        return None;
+    }
+    match (
+        type_named(front_of(text, size)),
+        type_named(rest_after(rest, 4)),
+    ) {
+        (Some(from), Some(to)) => conversion_between(from, to),
+        _ => None,
+    }
+}
+
+fn kind_of_word(word: Word, line: Line) -> Kind
+    ensures { result ≡ kind_of_word word line }
+{
+    match word {
+        Word::Fixed(fixed) => Kind::Fixed(fixed),
+        Word::Lead(lead) => Kind::Lead(lead, line),
+        Word::Truth(true) => Kind::Literal(Literal::Typed(StType::Bool, 1)),
+        Word::Truth(false) => Kind::Literal(Literal::Typed(StType::Bool, 0)),
+    }
+}
+
+/// A reserved word, or else a conversion or a name.
+fn word_kind(alloc: Global, text: &[u8], line: Line) -> Result<Kind, NoMemory>
+    ensures { IfOk result (λ kind. kind ≡ word_kind (word_named text.now) text.now line) }
+{
+    if let Some(word) = word_named(text) {
+        return Ok(kind_of_word(word, line));
+    }
+    match conversion_named(text) {
+        Some(op) => Ok(Kind::Fixed(Fixed::Function(Function::One(op)))),
+        None => {
+            let name = List::from_vec(Vec::from_slice(alloc, text)?);
+            Ok(Kind::Variable(RawVar::Name(name), line))
+        }
+    }
+}
+
+/// `&` is another spelling of AND.
+fn sign_kind(text: &[u8]) -> Kind
+    ensures { result ≡ sign_kind (sign_named text.now) text.now }
+{
+    match sign_named(text) {
+        Some(fixed) => Kind::Fixed(fixed),
+        None => if is_same_word(text, "&") {
+            Kind::Fixed(Fixed::Between(BinaryOp::And))
+        } else {
+            Kind::Misfit
+        },
+    }
+}
+
+fn direct_kind(text: &[u8], line: Line) -> Kind
+    ensures { result ≡ direct_kind (direct_of text.now) line }
+{
+    match direct_at(text) {
+        Some(direct) => Kind::Variable(
+            RawVar::Direct(
+                direct.area,
+                direct.block,
+                direct.width,
+                direct.byte,
+                direct.bit,
+            ),
+            line,
+        ),
+        None => Kind::Misfit,
+    }
+}
+
+/// Two digits, with `_` between them or without it.
+fn are_two_digits(text: &[u8]) -> bool
+    ensures { result ≡ are_two_digits text.now }
+{
+    match text {
+        [_, _] => true,
+        [_, line, _] => *line == b'_',
+        _ => false,
+    }
+}
+
+/// The value of a literal whose type has its number.
+fn typed_kind(found: Found) -> Kind
+    ensures { result ≡ typed_kind found }
+{
+    if !is_in_range(found) {
+        return Kind::Misfit;
+    }
+    let number = i128::from(found.number);
+    let value = if found.minus { -number } else { number };
+    Kind::Literal(Literal::Typed(found.kind, value as i64))
+}
+
+/// A decimal without a type; a number above the greatest of 32 bits is kept as that.
+fn decimal_kind(number: u64) -> Kind
+    ensures { result ≡ decimal_kind number }
+{
+    Kind::Literal(Literal::Decimal(u32::try_from(number).unwrap_or(u32::MAX)))
+}
+
+fn literal_kind(base: Base, text: &[u8], found: Found) -> Kind
+    ensures { result ≡ literal_kind base text.now found }
+{
+    match base {
+        Base::Ten => if begins_with_digit(Base::Ten, text) {
+            decimal_kind(found.number)
+        } else {
+            typed_kind(found)
+        },
+        Base::Sixteen => if are_two_digits(rest_after(text, 3)) {
+            Kind::Literal(Literal::Byte(u8::try_from(found.number).unwrap_or(u8::MAX)))
+        } else {
+            typed_kind(found)
+        },
+        Base::Two | Base::Eight => typed_kind(found),
+    }
+}
+
+fn number_kind(text: &[u8]) -> Kind
+    ensures { result ≡ number_kind (literal_at text.now) text.now }
+{
+    match literal_at(text) {
+        Some(found) => literal_kind(base_at(text), text, found),
+        None => Kind::Misfit,
+    }
+}
+
+/// What a token stands for in the grammar.
+pub fn kind_of(alloc: Global, token: &StToken) -> Result<Kind, NoMemory>
+    ensures { IfOk result (λ kind. kind ≡ kind_of token.now) }
+{
+    let text = token.text.as_slice();
+    match token.kind {
+        StKind::Word => word_kind(alloc, text, token.line),
+        StKind::Direct => Ok(direct_kind(text, token.line)),
+        StKind::Literal => Ok(number_kind(text)),
+        StKind::Sign => Ok(sign_kind(text)),
+    }
+}

@@ -1,0 +1,24 @@
+-- What the loop over a text's tokens keeps, beside the judgement that it gives.
+use Rattle.std.specs.Prelude.{◌≡◌, Option, Some, None, Result, Ok, Err}
+use Rattle.s7_base.specs.declared.reason.Rejection.{Rejection}
+use Rattle.s7_base.specs.declared.reason.Rejection.TheVariants.{Refused, NoMemory}
+use Rattle.st_grammar.specs.inner.Judge.{text_in}
+use Rattle.st_grammar.specs.inner.Machine.{code, Before, State}
+use Rattle.st_syntax.specs.inner.Views.{state_of}
+use Rattle.st_syntax.specs.declared.state.State.{State as Found}
+
+-- where the code stands in a text, as a state of the pass; kept shut so that proofs of the whole don't
+-- open it
+unfoldable pub seen : Found → State code
+seen state = state_of state
+
+-- a judgement that is good comes to this text
+abbrev pub HasText : Result (State code) Rejection → Before code → Type 0
+HasText (Ok q) text = text_in q ≡ Some text
+HasText (Err refused) text = ⊥
+
+-- the code's answer is the judgement, or memory ran out
+abbrev pub JudgedIs : State code → Option Rejection → Result (State code) Rejection → Type 0
+JudgedIs state None given = given ≡ Ok state
+JudgedIs state (Some (Refused line reason)) given = given ≡ Err (Refused line reason)
+JudgedIs state (Some NoMemory) given = Unit {0}

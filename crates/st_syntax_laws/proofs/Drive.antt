@@ -1,0 +1,192 @@
+-- The pass goes over the tokens that an expression spells, and has read it then.
+use Rattle.std.proofs.Common.{◌≡◌, ℕ, suc, ◌+◌, ◌-◌, ◌<◌, ◌≤◌, Bool, true, false, List, [], ◌∷◌, Option, Some, None, refl, ap, ◌∙◌, arith}
+use Rattle.std.specs.Prelude.{nat_le, if◌then◌else◌, option_and_then, option_map}
+use Rattle.std.proofs.lemmas.Bool.Decides.{nat_tests}
+use Rattle.st_grammar.specs.Forms.{Form, literal, variable, group, prefix, infix_of, apply, shift, select, Locals, Section}
+use Rattle.st_grammar.specs.Grammar.{prefix_level, infix_level, level, Binds, prefix_kind, spell}
+use Rattle.st_grammar.specs.Levels.{height, levels}
+use Rattle.st_grammar.specs.inner.Machine.{written, Frame, unary, left, bracket, argument, waiting, within, only, shifted, shifted_by, gate, first, second, Place, operand, operator, Spot, Top, State, inside}
+use Rattle.st_grammar.specs.inner.Steps.{spot, weakest, limit, Reduced, reduced_to, reduce, with_prefix, waits, leave, next, level_at, mark, Passed, shallower, passes}
+use Rattle.st_grammar.specs.declared.kind.Fixed.TheVariants as fixed
+use Rattle.st_grammar.specs.declared.kind.Kind.{Kind}
+use Rattle.st_grammar.specs.declared.kind.Kind.TheVariants as kind
+use Rattle.st_grammar.specs.declared.kind.Prefix.{Prefix}
+use Rattle.st_grammar.specs.declared.kind.Prefix.TheVariants as before
+use Rattle.st_tree.specs.declared.expr.BinaryOp.{BinaryOp}
+use Rattle.st_tree.specs.declared.expr.BinaryOp.TheVariants as binary
+
+-- a unit that is read: what stands before its statements
+pub record Unit_read : Type 0 where
+  pub top : Top written
+  pub formals : Section Locals
+  pub locals : Section Locals
+
+-- the pass from a place in a unit
+abbrev pub within_unit : Unit_read → ℕ → List (Frame written) → Place written → State written
+within_unit u d s p = inside u.top u.formals u.locals (spot written d s p)
+
+abbrev pub run : Unit_read → ℕ → List (Frame written) → Place written → List ℕ → List Kind → Option (Passed written)
+run u d s p w ks = passes written (within_unit u d s p) w ks
+
+-- the pass after a token
+abbrev pub go : List ℕ → List Kind → Option (State written) → Option (Passed written)
+go w ks o = option_and_then (λ r. passes written r (mark written r ∷ w) ks) o
+
+-- Levels of precedence
+
+pub prefix_above : (u : Prefix) (op : BinaryOp) → prefix_level u < infix_level op
+prefix_above before.Minus binary.Mul = omega arith
+prefix_above before.Minus binary.Div = omega arith
+prefix_above before.Minus binary.Mod = omega arith
+prefix_above before.Minus binary.Add = omega arith
+prefix_above before.Minus binary.Sub = omega arith
+prefix_above before.Minus binary.Lt = omega arith
+prefix_above before.Minus binary.Gt = omega arith
+prefix_above before.Minus binary.Le = omega arith
+prefix_above before.Minus binary.Ge = omega arith
+prefix_above before.Minus binary.Eq = omega arith
+prefix_above before.Minus binary.Ne = omega arith
+prefix_above before.Minus binary.And = omega arith
+prefix_above before.Minus binary.Xor = omega arith
+prefix_above before.Minus binary.Or = omega arith
+prefix_above before.Not binary.Mul = omega arith
+prefix_above before.Not binary.Div = omega arith
+prefix_above before.Not binary.Mod = omega arith
+prefix_above before.Not binary.Add = omega arith
+prefix_above before.Not binary.Sub = omega arith
+prefix_above before.Not binary.Lt = omega arith
+prefix_above before.Not binary.Gt = omega arith
+prefix_above before.Not binary.Le = omega arith
+prefix_above before.Not binary.Ge = omega arith
+prefix_above before.Not binary.Eq = omega arith
+prefix_above before.Not binary.Ne = omega arith
+prefix_above before.Not binary.And = omega arith
+prefix_above before.Not binary.Xor = omega arith
+prefix_above before.Not binary.Or = omega arith
+
+pub infix_most : (op : BinaryOp) → infix_level op ≤ weakest
+infix_most binary.Mul = omega arith
+infix_most binary.Div = omega arith
+infix_most binary.Mod = omega arith
+infix_most binary.Add = omega arith
+infix_most binary.Sub = omega arith
+infix_most binary.Lt = omega arith
+infix_most binary.Gt = omega arith
+infix_most binary.Le = omega arith
+infix_most binary.Ge = omega arith
+infix_most binary.Eq = omega arith
+infix_most binary.Ne = omega arith
+infix_most binary.And = omega arith
+infix_most binary.Xor = omega arith
+infix_most binary.Or = omega arith
+
+pub infix_some : (op : BinaryOp) → 0 < infix_level op
+infix_some op = let h = prefix_above before.Not op in omega arith
+
+pub prefix_most : (u : Prefix) → prefix_level u ≤ weakest
+prefix_most before.Minus = omega arith
+prefix_most before.Not = omega arith
+
+pub level_most : (f : Form) → level f ≤ weakest
+level_most (literal c) = omega arith
+level_most (variable v line) = omega arith
+level_most (group f) = omega arith
+level_most (prefix op f) = prefix_most op
+level_most (infix_of op f g) = infix_most op
+level_most (apply op f) = omega arith
+level_most (shift op f g) = omega arith
+level_most (select f g h) = omega arith
+
+pub le_true : (a b : ℕ) → a ≤ b → nat_le a b ≡ true
+le_true a b h = grind (arith, nat_tests)
+
+pub le_false : (a b : ℕ) → b < a → nat_le a b ≡ false
+le_false a b h = grind (arith, nat_tests)
+
+-- the next token is no operator that binds more tightly than a level
+abbrev pub Lets : ℕ → Kind → Type 0
+Lets k (kind.Fixed (fixed.Between op)) = k ≤ infix_level op
+Lets k other = Unit {0}
+
+lets_less : (j k : ℕ) (t : Kind) → j ≤ k → Lets k t → Lets j t
+lets_less j k (kind.Fixed (fixed.Between op)) h l = omega arith
+lets_less j k other h l = tt
+
+-- no unit ends in an expression
+no_end : (u : Unit_read) (program : Bool) (s : List (Frame written)) (f : Form) → None ≡ leave written program u.top u.formals u.locals s (operator f)
+no_end u program [] f = refl
+no_end u program (x ∷ s) f = refl
+
+-- an operator with its operand behaves as the expression that it makes
+pub past_unary : (u : Unit_read) (d : ℕ) (op : Prefix) (s : List (Frame written)) (f : Form) (t : Kind) →
+    next written (within_unit u d (unary op ∷ s) (operator f)) t ≡ next written (within_unit u (shallower d) s (operator (prefix op f))) t
+past_unary u d op s f (kind.Fixed (fixed.Between o)) = rw (le_true (prefix_level op) (infix_level o) (let h = prefix_above op o in omega arith)) refl
+past_unary u d op s f (kind.Fixed fixed.EndProgram) = no_end u true s (prefix op f)
+past_unary u d op s f (kind.Fixed fixed.EndFunction) = no_end u false s (prefix op f)
+past_unary u d op s f other = rw (le_true (prefix_level op) weakest (prefix_most op)) refl
+
+pub past_left : (u : Unit_read) (d : ℕ) (op : BinaryOp) (a : Form) (s : List (Frame written)) (f : Form) (t : Kind) → Lets (infix_level op) t →
+    next written (within_unit u d (left op a ∷ s) (operator f)) t ≡ next written (within_unit u d s (operator (infix_of op a f))) t
+past_left u d op a s f (kind.Fixed (fixed.Between o)) h = rw (le_true (infix_level op) (infix_level o) h) refl
+past_left u d op a s f (kind.Fixed fixed.EndProgram) h = no_end u true s (infix_of op a f)
+past_left u d op a s f (kind.Fixed fixed.EndFunction) h = no_end u false s (infix_of op a f)
+past_left u d op a s f other h = rw (le_true (infix_level op) weakest (infix_most op)) refl
+
+-- where the place takes operands of a level, no operator before it binds as tightly
+unmoved : (op : BinaryOp) (d : ℕ) (s : List (Frame written)) (f : Form) → infix_level op ≤ limit written s → reduce written (infix_level op) d s f ≡ reduced_to written d s f
+unmoved op d [] f h = refl
+unmoved op d (unary u ∷ s) f h = absurd (let k = prefix_above u op in omega arith)
+unmoved op d (left o a ∷ s) f h = rw (le_false (infix_level o) (infix_level op) (strict (infix_level op) (infix_level o) (infix_some o) h)) refl
+  where
+    strict : (j k : ℕ) → 0 < k → j ≤ k - 1 → j < k
+    strict j k p h = omega arith
+unmoved op d (bracket ∷ s) f h = refl
+unmoved op d (argument a ∷ s) f h = refl
+unmoved op d (waiting b x ∷ s) f h = refl
+unmoved op d (within b x ∷ s) f h = refl
+
+-- an operator before its operand
+prefix_next : (u : Unit_read) (d : ℕ) (s : List (Frame written)) (op : Prefix) →
+    next written (within_unit u d s operand) (prefix_kind op) ≡ option_map (λ (to : Spot written). inside u.top u.formals u.locals to) (with_prefix written d s op)
+prefix_next u d s before.Minus = refl
+prefix_next u d s before.Not = refl
+
+abbrev pub close : Kind
+close = kind.Fixed fixed.Close
+
+abbrev pub comma : Kind
+comma = kind.Fixed fixed.Comma
+
+pub drive : (u : Unit_read) (d : ℕ) (s : List (Frame written)) (f : Form) (t : Kind) (ts : List Kind) (w : List ℕ) → Binds f → level f ≤ limit written s → Lets (level f) t →
+    run u d s operand w (spell f (t ∷ ts)) ≡ run u d s (operator f) (levels d f w) (t ∷ ts)
+drive u d s (literal c) t ts w b h l =
+    ap (λ (v : Bool). go w (t ∷ ts) (option_map (λ (to : Spot written). inside u.top u.formals u.locals to) (if v then Some (spot written d s (operator (literal c))) else None))) b
+drive u d s (variable v line) t ts w b h l = refl
+drive u d s (group f) t ts w b h l = drive u (suc d) (bracket ∷ s) f close (t ∷ ts) (suc d ∷ w) b (level_most f) tt
+drive u d s (prefix op f) t ts w b h l =
+    ap (λ (o : Option (State written)). go w (spell f (t ∷ ts)) o) (prefix_next u d s op
+    ∙ ap (λ (c : Bool). option_map (λ (to : Spot written). inside u.top u.formals u.locals to) (if c then Some (spot written (suc d) (unary op ∷ s) operand) else None)) (le_true (prefix_level op) (limit written s) h))
+    ∙ drive u (suc d) (unary op ∷ s) f t ts (suc d ∷ w) b.1 b.0 (lets_less (level f) (prefix_level op) t b.0 l)
+    ∙ ap (λ (o : Option (State written)). go (levels (suc d) f (suc d ∷ w)) ts o) (past_unary u (suc d) op s f t)
+drive u d s (infix_of op f g) t ts w b fits l =
+    drive u d s f (kind.Fixed (fixed.Between op)) (spell g (t ∷ ts)) w b.2 (le_through (level f) (infix_level op) (limit written s) b.0 fits) b.0
+    ∙ ap (λ (r : Reduced written). passes written (inside u.top u.formals u.locals (waits written op r)) (level_at written r.depth operand (left op r.operand ∷ r.stack) ∷ levels d f w) (spell g (t ∷ ts))) (unmoved op d s f fits)
+    ∙ drive u d (left op f ∷ s) g t ts ((d + height f) ∷ levels d f w) b.3 (below (level g) (infix_level op) b.1) (lets_less (level g) (infix_level op) t (less (level g) (infix_level op) b.1) l)
+    ∙ ap (λ (o : Option (State written)). go (levels d g ((d + height f) ∷ levels d f w)) ts o) (past_left u d op f s g t l)
+  where
+    below : (j k : ℕ) → j < k → j ≤ k - 1
+    below j k h = omega arith
+
+    less : (j k : ℕ) → j < k → j ≤ k
+    less j k h = omega arith
+
+    le_through : (i j k : ℕ) → i ≤ j → j ≤ k → i ≤ k
+    le_through i j k p q = omega arith
+drive u d s (apply op f) t ts w b h l = drive u (suc d) (argument (only op) ∷ s) f close (t ∷ ts) (suc d ∷ d ∷ w) b (level_most f) tt
+drive u d s (shift op f g) t ts w b h l =
+    drive u (suc d) (argument (shifted op) ∷ s) f comma (spell g (close ∷ t ∷ ts)) (suc d ∷ d ∷ w) b.0 (level_most f) tt
+    ∙ drive u (suc d) (argument (shifted_by op f) ∷ s) g close (t ∷ ts) (suc d ∷ levels (suc d) f (suc d ∷ d ∷ w)) b.1 (level_most g) tt
+drive u d s (select f g h) t ts w b fits l =
+    drive u (suc d) (argument gate ∷ s) f comma (spell g (comma ∷ spell h (close ∷ t ∷ ts))) (suc d ∷ d ∷ w) b.0 (level_most f) tt
+    ∙ drive u (suc d) (argument (first f) ∷ s) g comma (spell h (close ∷ t ∷ ts)) (suc d ∷ levels (suc d) f (suc d ∷ d ∷ w)) b.1 (level_most g) tt
+    ∙ drive u (suc d) (argument (second f g) ∷ s) h close (t ∷ ts) (suc d ∷ levels (suc d) g (suc d ∷ levels (suc d) f (suc d ∷ d ∷ w))) b.2 (level_most h) tt

@@ -1,0 +1,534 @@
+-- The pass keeps in its state what it has passed, and what is open stands in order.
+use Rattle.std.proofs.Common.{◌≡◌, ℕ, suc, ◌-◌, ◌<◌, ◌≤◌, Bool, true, false, List, [], ◌∷◌, Option, Some, None, refl, sym, ap, ◌∙◌, arith}
+use Rattle.std.specs.Prelude.{IfSome, nat_le, if◌then◌else◌}
+use Rattle.std.proofs.lemmas.Bool.Decides.{nat_tests}
+use Rattle.s7_base.specs.declared.reason.Line.{Line}
+use Rattle.st_syntax_laws.proofs.Drive.{infix_most, infix_some}
+use Rattle.st_syntax_laws.proofs.DriveSource.{Declared}
+use Rattle.st_grammar.specs.Forms.{Form, prefix, infix_of, Actuals, no_actual, actual, Labels, label, more_labels, Statement, Statements, CaseArms, Items, no_item, single, times}
+use Rattle.st_grammar.specs.Grammar.{prefix_level, infix_level, level, is_value, Binds, may_jump, LabelsFit, HasArm, HasCase, Fits, AllFit, ArmsFit, CasesFit, is_direct, is_global, GlobalsFit, LocalsFit, IfPresent, HeadFits, UnitsFit, prefix_kind, spell, comma_behind, spell_actuals, spell_labels, arm_word, spell_one, spell_all, spell_arms, spell_cases, comma_past, spell_items, spell_type, spell_globals, spell_locals, unit_word, spell_section, spell_formals, spell_temps, spell_head, spell_units}
+use Rattle.st_grammar.specs.Kinds.{names_block, may_name_global, may_name_unit}
+use Rattle.st_grammar.specs.inner.Machine.{written, Begun, Argument, only, shifted, shifted_by, gate, first, second, Use, to_var, to_area, area_value, test, selector, loop_test, Body, choosing, otherwise, looping, selecting, otherwise_case, Frame, unary, left, bracket, argument, waiting, within, Part, target, write_open, first_formal, next_formal, becoming, giving, given, first_label, next_label, labelled, Place, statement, part, closing, operand, operator, opening, Spot, Row, at_word, at_place, at_colon, at_type, at_square, at_zero, at_dots, at_last, at_close, at_of, at_byte, at_becomes, at_open, at_item, at_count, at_value, at_value_end, at_comma, at_end, Typing, local_colon, local_type, local_end, Before, Top, Which, formals, temps, State, start, globals, row, between, heading, opened, formals_done, section, typing, inside, over}
+use Rattle.st_grammar.specs.inner.Steps.{spot, shallower, weakest, limit, Reduced, reduce, reduced_to, with_prefix, argument_closed, use_closed, closed, waits, in_loop, body_closed, in_body, at_lead, at_statement, at_target, at_label, at_part, at_closing, at_operand, at_opening, at_operator, step_at, may_name, may_type}
+use Rattle.st_grammar.specs.declared.kind.Fixed.TheVariants as fixed
+use Rattle.st_grammar.specs.declared.kind.Function.{Function}
+use Rattle.st_grammar.specs.declared.kind.Function.TheVariants as function
+use Rattle.st_grammar.specs.declared.kind.Kind.{Kind}
+use Rattle.st_grammar.specs.declared.kind.Kind.TheVariants as kind
+use Rattle.st_grammar.specs.declared.kind.Lead.{Lead}
+use Rattle.st_grammar.specs.declared.kind.Lead.TheVariants as lead
+use Rattle.st_grammar.specs.declared.kind.Literal.{Literal}
+use Rattle.st_grammar.specs.declared.kind.Literal.TheVariants as lit
+use Rattle.st_grammar.specs.declared.kind.Prefix.{Prefix}
+use Rattle.st_grammar.specs.declared.kind.Prefix.TheVariants as before
+use Rattle.st_tree.specs.declared.expr.BinaryOp.{BinaryOp}
+use Rattle.st_tree.specs.declared.expr.BinaryOp.TheVariants as binary
+use Rattle.st_tree.specs.declared.expr.StType.TheVariants as type
+use Rattle.st_tree.specs.declared.raw.RawVar.{RawVar}
+use Rattle.st_tree.specs.declared.raw.RawVar.TheVariants as var
+
+-- What a state has passed, before the tokens after it
+
+abbrev open_kind : Kind
+open_kind = kind.Fixed fixed.Open
+
+abbrev comma_kind : Kind
+comma_kind = kind.Fixed fixed.Comma
+
+abbrev past_argument : Argument written → List Kind → List Kind
+past_argument (only op) more = kind.Fixed (fixed.Function (function.One op)) ∷ open_kind ∷ more
+past_argument (shifted op) more = kind.Fixed (fixed.Function (function.Shift op)) ∷ open_kind ∷ more
+past_argument (shifted_by op f) more = kind.Fixed (fixed.Function (function.Shift op)) ∷ open_kind ∷ spell f (comma_kind ∷ more)
+past_argument gate more = kind.Fixed (fixed.Function function.Select) ∷ open_kind ∷ more
+past_argument (first f) more = kind.Fixed (fixed.Function function.Select) ∷ open_kind ∷ spell f (comma_kind ∷ more)
+past_argument (second f g) more = kind.Fixed (fixed.Function function.Select) ∷ open_kind ∷ spell f (comma_kind ∷ spell g (comma_kind ∷ more))
+
+abbrev past_use : Line → Use written → List Kind → List Kind
+past_use line (to_var v) more = kind.Variable v line ∷ kind.Fixed fixed.Becomes ∷ more
+past_use line (to_area w) more = kind.Lead (lead.AreaWrite w) line ∷ open_kind ∷ more
+past_use line (area_value w p) more = kind.Lead (lead.AreaWrite w) line ∷ open_kind ∷ spell p (comma_kind ∷ more)
+past_use line (test arms) more = spell_arms line arms (arm_word line arms ∷ more)
+past_use line selector more = kind.Lead lead.Case line ∷ more
+past_use line loop_test more = kind.Lead lead.While line ∷ more
+
+abbrev past_body : Line → Body written → List Kind → List Kind
+past_body line (choosing arms e) more = spell_arms line arms (arm_word line arms ∷ spell e (kind.Fixed fixed.Then ∷ more))
+past_body line (otherwise arms) more = spell_arms line arms (kind.Fixed fixed.Else ∷ more)
+past_body line (looping e) more = kind.Lead lead.While line ∷ spell e (kind.Fixed fixed.Do ∷ more)
+past_body line (selecting e arms labels) more = kind.Lead lead.Case line ∷ spell e (kind.Fixed fixed.Of ∷ spell_cases arms (spell_labels labels (kind.Fixed fixed.Colon ∷ more)))
+past_body line (otherwise_case e arms) more = kind.Lead lead.Case line ∷ spell e (kind.Fixed fixed.Of ∷ spell_cases arms (kind.Fixed fixed.Else ∷ more))
+
+abbrev pub past_stack : List (Frame written) → List Kind → List Kind
+past_stack [] more = more
+past_stack (unary op ∷ s) more = past_stack s (prefix_kind op ∷ more)
+past_stack (left op f ∷ s) more = past_stack s (spell f (kind.Fixed (fixed.Between op) ∷ more))
+past_stack (bracket ∷ s) more = past_stack s (open_kind ∷ more)
+past_stack (argument a ∷ s) more = past_stack s (past_argument a more)
+past_stack (waiting b u ∷ s) more = past_stack s (spell_all b.before (past_use b.line u more))
+past_stack (within b y ∷ s) more = past_stack s (spell_all b.before (past_body b.line y more))
+
+abbrev past_call : Line → List ℕ → List Kind → List Kind
+past_call line name more = kind.Variable (var.Name name) line ∷ open_kind ∷ more
+
+abbrev past_case : Line → Form → CaseArms → List Kind → List Kind
+past_case line e arms more = kind.Lead lead.Case line ∷ spell e (kind.Fixed fixed.Of ∷ spell_cases arms more)
+
+abbrev past_part : Line → Part written → List Kind → List Kind
+past_part line (target v) more = kind.Variable v line ∷ more
+past_part line (write_open w) more = kind.Lead (lead.AreaWrite w) line ∷ more
+past_part line (first_formal name) more = past_call line name more
+past_part line (next_formal name actuals) more = past_call line name (spell_actuals actuals (comma_kind ∷ more))
+past_part line (becoming name actuals formal) more = past_call line name (spell_actuals actuals (comma_behind actuals (kind.Variable (var.Name formal.0) formal.1 ∷ more)))
+past_part line (giving name actuals formal) more = past_call line name (spell_actuals actuals (comma_behind actuals (kind.Variable (var.Name formal.0) formal.1 ∷ kind.Fixed fixed.Becomes ∷ more)))
+past_part line (given name actuals) more = past_call line name (spell_actuals actuals more)
+past_part line (first_label e arms) more = past_case line e arms more
+past_part line (next_label e arms labels) more = past_case line e arms (spell_labels labels (comma_kind ∷ more))
+past_part line (labelled e arms labels) more = past_case line e arms (spell_labels labels more)
+
+abbrev function_kind : Function → Kind
+function_kind f = kind.Fixed (fixed.Function f)
+
+abbrev pub past_place : Place written → List Kind → List Kind
+past_place (statement body) more = spell_all body more
+past_place (part b x) more = spell_all b.before (past_part b.line x more)
+past_place (closing before x) more = spell_all before (spell_one x more)
+past_place operand more = more
+past_place (operator f) more = spell f more
+past_place (opening f) more = function_kind f ∷ more
+
+abbrev past_at : RawVar × Line → List Kind → List Kind
+past_at v more = kind.Fixed fixed.At ∷ kind.Variable v.0 v.1 ∷ more
+
+abbrev pub past_colon : RawVar × Line → List Kind → List Kind
+past_colon v more = past_at v (kind.Fixed fixed.Colon ∷ more)
+
+abbrev past_zero : RawVar × Line → List Kind → List Kind
+past_zero v more = past_colon v (kind.Fixed fixed.Array ∷ kind.Fixed fixed.OpenSquare ∷ kind.Literal (lit.Decimal 0) ∷ more)
+
+abbrev past_last : RawVar × Line → ℕ → List Kind → List Kind
+past_last v last more = past_zero v (kind.Fixed fixed.Dots ∷ kind.Literal (lit.Decimal last) ∷ more)
+
+abbrev pub past_array : RawVar × Line → ℕ → List Kind → List Kind
+past_array v last more = past_last v last (kind.Fixed fixed.CloseSquare ∷ kind.Fixed fixed.Of ∷ kind.Fixed (fixed.Type type.Byte) ∷ more)
+
+abbrev past_items : RawVar × Line → ℕ → Items → List Kind → List Kind
+past_items v last items more = past_array v last (kind.Fixed fixed.Becomes ∷ kind.Fixed fixed.OpenSquare ∷ spell_items items more)
+
+abbrev pub past_row : Row written → List Kind → List Kind
+past_row at_word more = more
+past_row at_place more = kind.Fixed fixed.At ∷ more
+past_row (at_colon v) more = past_at v more
+past_row (at_type v) more = past_colon v more
+past_row (at_square v) more = past_colon v (kind.Fixed fixed.Array ∷ more)
+past_row (at_zero v) more = past_colon v (kind.Fixed fixed.Array ∷ kind.Fixed fixed.OpenSquare ∷ more)
+past_row (at_dots v) more = past_zero v more
+past_row (at_last v) more = past_zero v (kind.Fixed fixed.Dots ∷ more)
+past_row (at_close v last) more = past_last v last more
+past_row (at_of v last) more = past_last v last (kind.Fixed fixed.CloseSquare ∷ more)
+past_row (at_byte v last) more = past_last v last (kind.Fixed fixed.CloseSquare ∷ kind.Fixed fixed.Of ∷ more)
+past_row (at_becomes v last) more = past_array v last more
+past_row (at_open v last) more = past_array v last (kind.Fixed fixed.Becomes ∷ more)
+past_row (at_item v last items) more = past_items v last items (comma_past items more)
+past_row (at_count v last items count) more = past_items v last items (comma_past items (kind.Literal (lit.Decimal count) ∷ more))
+past_row (at_value v last items count) more = past_items v last items (comma_past items (kind.Literal (lit.Decimal count) ∷ open_kind ∷ more))
+past_row (at_value_end v last items count b) more = past_items v last items (comma_past items (kind.Literal (lit.Decimal count) ∷ open_kind ∷ kind.Literal (lit.Byte b) ∷ more))
+past_row (at_comma v last items) more = past_items v last items more
+past_row (at_end v ty) more = past_colon v (spell_type ty more)
+
+abbrev pub past_before : Before written → List Kind → List Kind
+past_before text more = spell_section (kind.Fixed fixed.VarGlobal) spell_globals text.globals (spell_units text.units more)
+
+abbrev pub past_top : Top written → List Kind → List Kind
+past_top top more = past_before top.text (spell_head top.head more)
+
+abbrev pub past_which : Which written → List Kind → List Kind
+past_which formals more = kind.Fixed fixed.VarInOut ∷ more
+past_which (temps f) more = spell_formals f (kind.Fixed fixed.VarTemp ∷ more)
+
+abbrev past_typing : Typing → List Kind → List Kind
+past_typing local_colon more = more
+past_typing local_type more = kind.Fixed fixed.Colon ∷ more
+past_typing (local_end ty) more = kind.Fixed fixed.Colon ∷ kind.Fixed (fixed.Type ty) ∷ more
+
+abbrev pub past : State written → List Kind → List Kind
+past start more = more
+past (globals done) more = kind.Fixed fixed.VarGlobal ∷ spell_globals done more
+past (row done name line x) more = kind.Fixed fixed.VarGlobal ∷ spell_globals done (kind.Variable (var.Name name) line ∷ past_row x more)
+past (between text) more = past_before text more
+past (heading text program line) more = past_before text (unit_word program line ∷ more)
+past (opened top) more = past_top top more
+past (formals_done top f) more = past_top top (spell_formals f more)
+past (section top which done) more = past_top top (past_which which (spell_locals done more))
+past (typing top which done name line x) more = past_top top (past_which which (spell_locals done (kind.Variable (var.Name name) line ∷ past_typing x more)))
+past (inside top f l at) more = past_top top (spell_formals f (spell_temps l (past_stack at.stack (past_place at.place more))))
+past (over text) more = past_before text (kind.Fixed fixed.End ∷ more)
+
+-- What is open stands in order
+
+abbrev pub ArgumentFits : Argument written → Type 0
+ArgumentFits (only op) = Unit {0}
+ArgumentFits (shifted op) = Unit {0}
+ArgumentFits (shifted_by op f) = Binds f
+ArgumentFits gate = Unit {0}
+ArgumentFits (first f) = Binds f
+ArgumentFits (second f g) = Binds f × Binds g
+
+abbrev pub UseFits : Bool → Use written → Type 0
+UseFits i (to_var v) = Unit {0}
+UseFits i (to_area w) = Unit {0}
+UseFits i (area_value w p) = Binds p
+UseFits i (test arms) = ArmsFit i arms
+UseFits i selector = Unit {0}
+UseFits i loop_test = Unit {0}
+
+abbrev pub BodyFits : Bool → Body written → Type 0
+BodyFits i (choosing arms e) = ArmsFit i arms × Binds e
+BodyFits i (otherwise arms) = HasArm arms × ArmsFit i arms
+BodyFits i (looping e) = Binds e
+BodyFits i (selecting e arms labels) = Binds e × CasesFit i arms × LabelsFit labels
+BodyFits i (otherwise_case e arms) = Binds e × HasCase arms × CasesFit i arms
+
+abbrev pub HasActual : Actuals → Type 0
+HasActual no_actual = ⊥
+HasActual (actual others name line v place) = Unit {0}
+
+abbrev pub HasItem : Items → Type 0
+HasItem no_item = ⊥
+HasItem (single others b) = Unit {0}
+HasItem (times others count b) = Unit {0}
+
+abbrev pub PartFits : Bool → Part written → Type 0
+PartFits i (target v) = Unit {0}
+PartFits i (write_open w) = Unit {0}
+PartFits i (first_formal name) = Unit {0}
+PartFits i (next_formal name actuals) = HasActual actuals
+PartFits i (becoming name actuals formal) = Unit {0}
+PartFits i (giving name actuals formal) = Unit {0}
+PartFits i (given name actuals) = HasActual actuals
+PartFits i (first_label e arms) = Binds e × CasesFit i arms
+PartFits i (next_label e arms labels) = Binds e × CasesFit i arms × LabelsFit labels
+PartFits i (labelled e arms labels) = Binds e × CasesFit i arms × LabelsFit labels
+
+-- statements alone are open
+abbrev pub InStatements : List (Frame written) → Type 0
+InStatements [] = Unit {0}
+InStatements (within b y ∷ s) = AllFit (in_loop written s) b.before × BodyFits (in_loop written s) y × InStatements s
+InStatements (frame ∷ s) = ⊥
+
+-- an expression is open, and the statement that it belongs to
+abbrev pub InExpr : List (Frame written) → Type 0
+InExpr [] = ⊥
+InExpr (unary op ∷ s) = (prefix_level op ≤ limit written s) × InExpr s
+InExpr (left op f ∷ s) = (level f ≤ infix_level op) × Binds f × (infix_level op ≤ limit written s) × InExpr s
+InExpr (bracket ∷ s) = InExpr s
+InExpr (argument a ∷ s) = ArgumentFits a × InExpr s
+InExpr (waiting b u ∷ s) = AllFit (in_loop written s) b.before × UseFits (in_loop written s) u × InStatements s
+InExpr (within b y ∷ s) = ⊥
+
+abbrev pub PlaceFits : List (Frame written) → Place written → Type 0
+PlaceFits s (statement body) = InStatements s × AllFit (in_loop written s) body
+PlaceFits s (part b x) = InStatements s × AllFit (in_loop written s) b.before × PartFits (in_loop written s) x
+PlaceFits s (closing before x) = InStatements s × AllFit (in_loop written s) before × Fits (in_loop written s) x
+PlaceFits s operand = InExpr s
+PlaceFits s (operator f) = InExpr s × Binds f × (level f ≡ 0)
+PlaceFits s (opening f) = InExpr s
+
+abbrev pub RowFits : List ℕ → Row written → Type 0
+RowFits name at_word = Unit {0}
+RowFits name at_place = Unit {0}
+RowFits name (at_colon v) = is_direct v.0 ≡ true
+RowFits name (at_type v) = is_direct v.0 ≡ true
+RowFits name (at_square v) = (is_direct v.0 ≡ true) × (names_block name ≡ true)
+RowFits name (at_zero v) = (is_direct v.0 ≡ true) × (names_block name ≡ true)
+RowFits name (at_dots v) = (is_direct v.0 ≡ true) × (names_block name ≡ true)
+RowFits name (at_last v) = (is_direct v.0 ≡ true) × (names_block name ≡ true)
+RowFits name (at_close v last) = (is_direct v.0 ≡ true) × (names_block name ≡ true)
+RowFits name (at_of v last) = (is_direct v.0 ≡ true) × (names_block name ≡ true)
+RowFits name (at_byte v last) = (is_direct v.0 ≡ true) × (names_block name ≡ true)
+RowFits name (at_becomes v last) = (is_direct v.0 ≡ true) × (names_block name ≡ true)
+RowFits name (at_open v last) = (is_direct v.0 ≡ true) × (names_block name ≡ true)
+RowFits name (at_item v last items) = (is_direct v.0 ≡ true) × (names_block name ≡ true)
+RowFits name (at_count v last items count) = (is_direct v.0 ≡ true) × (names_block name ≡ true)
+RowFits name (at_value v last items count) = (is_direct v.0 ≡ true) × (names_block name ≡ true)
+RowFits name (at_value_end v last items count b) = (is_direct v.0 ≡ true) × (names_block name ≡ true)
+RowFits name (at_comma v last items) = (is_direct v.0 ≡ true) × (names_block name ≡ true) × HasItem items
+RowFits name (at_end v ty) = (is_direct v.0 ≡ true) × (is_global name ty ≡ true)
+
+abbrev pub TextFits : Before written → Type 0
+TextFits text = IfPresent GlobalsFit text.globals × UnitsFit text.units
+
+abbrev pub TopFits : Top written → Type 0
+TopFits top = TextFits top.text × (may_name_unit top.head.name ≡ true)
+
+abbrev pub WhichFits : Top written → Which written → Type 0
+WhichFits top formals = top.head.program ≡ false
+WhichFits top (temps f) = HeadFits top.head.program f
+
+abbrev pub TypingFits : Which written → Typing → Type 0
+TypingFits which local_colon = Unit {0}
+TypingFits which local_type = Unit {0}
+TypingFits which (local_end ty) = may_type written which ty ≡ true
+
+abbrev pub Shaped : State written → Type 0
+Shaped start = Unit {0}
+Shaped (globals done) = GlobalsFit done
+Shaped (row done name line x) = GlobalsFit done × (may_name_global name ≡ true) × RowFits name x
+Shaped (between text) = TextFits text
+Shaped (heading text program line) = TextFits text
+Shaped (opened top) = TopFits top
+Shaped (formals_done top f) = TopFits top × HeadFits top.head.program f
+Shaped (section top which done) = TopFits top × WhichFits top which × Declared which done
+Shaped (typing top which done name line x) = TopFits top × WhichFits top which × Declared which done × (may_name written which name ≡ true) × TypingFits which x
+Shaped (inside top f l at) = TopFits top × HeadFits top.head.program f × IfPresent LocalsFit l × PlaceFits at.stack at.place
+Shaped (over text) = TextFits text
+
+-- A step keeps both
+
+abbrev pub past_spot : Spot written → List Kind → List Kind
+past_spot z more = past_stack z.stack (past_place z.place more)
+
+pub record KeptIn (before : List Kind → List Kind) (z : Spot written) : Type 0 where
+  pub fits : PlaceFits z.stack z.place
+  pub grown : (more : List Kind) → past_spot z more ≡ before more
+
+pub record Kept (before : List Kind → List Kind) (r : State written) : Type 0 where
+  pub shaped : Shaped r
+  pub grown : (more : List Kind) → past r more ≡ before more
+
+abbrev pub KeepsIn : (List Kind → List Kind) → Option (Spot written) → Type 0
+KeepsIn before o = IfSome o (KeptIn before)
+
+same_in : (p q : List Kind → List Kind) → ((more : List Kind) → p more ≡ q more) → (o : Option (Spot written)) → KeepsIn p o → KeepsIn q o
+same_in p q e None h = tt
+same_in p q e (Some z) h = record { fits = h.fits; grown = λ more. h.grown more ∙ e more }
+
+-- a state that a test allows
+if_in : (before : List Kind → List Kind) (c : Bool) (z : Spot written) → (c ≡ true → KeptIn before z) → KeepsIn before (if c then Some z else None)
+if_in before true z h = h refl
+if_in before false z h = tt
+
+pub if_to : (before : List Kind → List Kind) (c : Bool) (r : State written) → (c ≡ true → Kept before r) → IfSome (if c then Some r else None) (Kept before)
+if_to before true r h = h refl
+if_to before false r h = tt
+
+-- Expressions
+
+pub record Fitting (k : ℕ) (s : List (Frame written)) (f : Form) (r : Reduced written) : Type 0 where
+  pub inner : InExpr r.stack
+  pub binds : Binds r.operand
+  pub strong : level r.operand ≤ k
+  pub room : k ≤ limit written r.stack
+  pub same : (more : List Kind) → past_stack r.stack (spell r.operand more) ≡ past_stack s (spell f more)
+
+le_cases : (a b : ℕ) (P : Bool → Type 0) → (a ≤ b → P true) → (b < a → P false) → P (nat_le a b)
+le_cases a b P low high = by (nat_le a b) (at_true a b) (at_false a b)
+  where
+    by : (c : Bool) → (c ≡ true → a ≤ b) → (c ≡ false → b < a) → P c
+    by true p q = low (p refl)
+    by false p q = high (q refl)
+
+    at_true : (m n : ℕ) → nat_le m n ≡ true → m ≤ n
+    at_true m n h = grind (arith, nat_tests)
+
+    at_false : (m n : ℕ) → nat_le m n ≡ false → n < m
+    at_false m n h = grind (arith, nat_tests)
+
+below_one : (j n : ℕ) → 0 < n → j ≤ n - 1 → j < n
+below_one j n p q = omega arith
+
+at_least : (j n : ℕ) → j < n → j ≤ n - 1
+at_least j n p = omega arith
+
+fitting : (k d : ℕ) (s : List (Frame written)) (f : Form) → k ≤ weakest → InExpr s → Binds f → level f ≤ k → level f ≤ limit written s → Fitting k s f (reduce written k d s f)
+fitting k d [] f most h b strong fits = absurd h
+fitting k d (unary op ∷ s) f most h b strong fits =
+    le_cases (prefix_level op) k (λ c. Fitting k (unary op ∷ s) f (if c then reduce written k (shallower d) s (prefix op f) else reduced_to written d (unary op ∷ s) f))
+    (λ low. let r = fitting k (shallower d) s (prefix op f) most h.1 (fits, b) low h.0 in
+    record { inner = r.inner; binds = r.binds; strong = r.strong; room = r.room; same = r.same })
+    (λ high. record { inner = h; binds = b; strong = strong; room = omega arith; same = λ more. refl })
+fitting k d (left op g ∷ s) f most h b strong fits =
+    le_cases (infix_level op) k (λ c. Fitting k (left op g ∷ s) f (if c then reduce written k d s (infix_of op g f) else reduced_to written d (left op g ∷ s) f))
+    (λ low. let r = fitting k d s (infix_of op g f) most h.3 (h.0, below_one (level f) (infix_level op) (infix_some op) fits, h.1, b) low h.2 in
+    record { inner = r.inner; binds = r.binds; strong = r.strong; room = r.room; same = r.same })
+    (λ high. record { inner = h; binds = b; strong = strong; room = at_least k (infix_level op) high; same = λ more. refl })
+fitting k d (bracket ∷ s) f most h b strong fits = record { inner = h; binds = b; strong = strong; room = most; same = λ more. refl }
+fitting k d (argument a ∷ s) f most h b strong fits = record { inner = h; binds = b; strong = strong; room = most; same = λ more. refl }
+fitting k d (waiting x u ∷ s) f most h b strong fits = record { inner = h; binds = b; strong = strong; room = most; same = λ more. refl }
+fitting k d (within x y ∷ s) f most h b strong fits = absurd h
+
+argument_kept : (d : ℕ) (s : List (Frame written)) (a : Argument written) (f : Form) (k : Kind) → ArgumentFits a → InExpr s → Binds f → KeepsIn (λ more. past_stack s (past_argument a (spell f (k ∷ more)))) (argument_closed written d s a f k)
+argument_kept d s (only op) f (kind.Fixed fixed.Close) a h b = record { fits = (h, b, refl); grown = λ more. refl }
+argument_kept d s (only op) f k a h b = tt
+argument_kept d s (shifted op) f (kind.Fixed fixed.Comma) a h b = record { fits = (b, h); grown = λ more. refl }
+argument_kept d s (shifted op) f k a h b = tt
+argument_kept d s (shifted_by op g) f (kind.Fixed fixed.Close) a h b = record { fits = (h, (a, b), refl); grown = λ more. refl }
+argument_kept d s (shifted_by op g) f k a h b = tt
+argument_kept d s gate f (kind.Fixed fixed.Comma) a h b = record { fits = (b, h); grown = λ more. refl }
+argument_kept d s gate f k a h b = tt
+argument_kept d s (first g) f (kind.Fixed fixed.Comma) a h b = record { fits = ((a, b), h); grown = λ more. refl }
+argument_kept d s (first g) f k a h b = tt
+argument_kept d s (second g e) f (kind.Fixed fixed.Close) a h b = record { fits = (h, (a.0, a.1, b), refl); grown = λ more. refl }
+argument_kept d s (second g e) f k a h b = tt
+
+use_kept : (d : ℕ) (s : List (Frame written)) (b : Begun written) (u : Use written) (f : Form) (k : Kind) → AllFit (in_loop written s) b.before → UseFits (in_loop written s) u → InStatements s → Binds f
+    → KeepsIn (λ more. past_stack s (spell_all b.before (past_use b.line u (spell f (k ∷ more))))) (use_closed written d s b u f k)
+use_kept d s b (to_var v) f (kind.Fixed fixed.Semicolon) a u h e = record { fits = (h, (a, e)); grown = λ more. refl }
+use_kept d s b (to_var v) f k a u h e = tt
+use_kept d s b (to_area w) f (kind.Fixed fixed.Comma) a u h e = record { fits = (a, e, h); grown = λ more. refl }
+use_kept d s b (to_area w) f k a u h e = tt
+use_kept d s b (area_value w p) f (kind.Fixed fixed.Close) a u h e = record { fits = (h, a, (u, e)); grown = λ more. refl }
+use_kept d s b (area_value w p) f k a u h e = tt
+use_kept d s b (test arms) f (kind.Fixed fixed.Then) a u h e = record { fits = ((a, (u, e), h), tt); grown = λ more. refl }
+use_kept d s b (test arms) f k a u h e = tt
+use_kept d s b selector f (kind.Fixed fixed.Of) a u h e = record { fits = (h, a, (e, tt)); grown = λ more. refl }
+use_kept d s b selector f k a u h e = tt
+use_kept d s b loop_test f (kind.Fixed fixed.Do) a u h e = record { fits = ((a, e, h), tt); grown = λ more. refl }
+use_kept d s b loop_test f k a u h e = tt
+
+closed_kept : (d : ℕ) (s : List (Frame written)) (f : Form) (k : Kind) → InExpr s → Binds f → KeepsIn (λ more. past_stack s (spell f (k ∷ more))) (closed written d s f k)
+closed_kept d [] f k h b = tt
+closed_kept d (unary op ∷ s) f k h b = tt
+closed_kept d (left op g ∷ s) f k h b = tt
+closed_kept d (bracket ∷ s) f (kind.Fixed fixed.Close) h b = record { fits = (h, b, refl); grown = λ more. refl }
+closed_kept d (bracket ∷ s) f k h b = tt
+closed_kept d (argument a ∷ s) f k h b = argument_kept d s a f k h.0 h.1 b
+closed_kept d (waiting x u ∷ s) f k h b = use_kept d s x u f k h.0 h.1 h.2 b
+closed_kept d (within x y ∷ s) f k h b = tt
+
+reduced_kept : (d : ℕ) (s : List (Frame written)) (f : Form) (r : Reduced written) (k : Kind) → Fitting weakest s f r → KeepsIn (λ more. past_stack s (spell f (k ∷ more))) (closed written r.depth r.stack r.operand k)
+reduced_kept d s f r k t =
+    same_in (λ more. past_stack r.stack (spell r.operand (k ∷ more))) (λ more. past_stack s (spell f (k ∷ more))) (λ more. t.same (k ∷ more)) (closed written r.depth r.stack r.operand k)
+    (closed_kept r.depth r.stack r.operand k t.inner t.binds)
+
+waits_kept : (s : List (Frame written)) (f : Form) (r : Reduced written) (op : BinaryOp) → Fitting (infix_level op) s f r → KeptIn (λ more. past_stack s (spell f (kind.Fixed (fixed.Between op) ∷ more))) (waits written op r)
+waits_kept s f r op t = record { fits = (t.strong, t.binds, t.room, t.inner); grown = λ more. t.same (kind.Fixed (fixed.Between op) ∷ more) }
+
+operator_kept : (d : ℕ) (s : List (Frame written)) (f : Form) (k : Kind) → InExpr s → Binds f → level f ≡ 0 → KeepsIn (λ more. past_stack s (spell f (k ∷ more))) (at_operator written d s f k)
+operator_kept d s f (kind.Fixed (fixed.Between op)) h b z = waits_kept s f (reduce written (infix_level op) d s f) op (fitting (infix_level op) d s f (infix_most op) h b (omega arith) (omega arith))
+operator_kept d s f other h b z = reduced_kept d s f (reduce written weakest d s f) other (fitting weakest d s f (omega arith) h b (omega arith) (omega arith))
+
+prefix_kept : (d : ℕ) (s : List (Frame written)) (op : Prefix) → InExpr s → KeepsIn (λ more. past_stack s (prefix_kind op ∷ more)) (with_prefix written d s op)
+prefix_kept d s op h =
+    le_cases (prefix_level op) (limit written s) (λ c. KeepsIn (λ more. past_stack s (prefix_kind op ∷ more)) (if c then Some (spot written (suc d) (unary op ∷ s) operand) else None))
+    (λ low. record { fits = (low, h); grown = λ more. refl }) (λ high. tt)
+
+operand_kept : (d : ℕ) (s : List (Frame written)) (k : Kind) → InExpr s → KeepsIn (λ more. past_stack s (k ∷ more)) (at_operand written d s k)
+operand_kept d s (kind.Literal c) h = if_in (λ more. past_stack s (kind.Literal c ∷ more)) (is_value c) _ (λ v. record { fits = (h, v, refl); grown = λ more. refl })
+operand_kept d s (kind.Variable v line) h = record { fits = (h, tt, refl); grown = λ more. refl }
+operand_kept d s (kind.Fixed fixed.Not) h = prefix_kept d s before.Not h
+operand_kept d s (kind.Fixed (fixed.Between binary.Sub)) h = prefix_kept d s before.Minus h
+operand_kept d s (kind.Fixed fixed.Open) h = record { fits = h; grown = λ more. refl }
+operand_kept d s (kind.Fixed (fixed.Function f)) h = record { fits = h; grown = λ more. refl }
+operand_kept d s other h = tt
+
+opening_kept : (d : ℕ) (s : List (Frame written)) (f : Function) (k : Kind) → InExpr s → KeepsIn (λ more. past_stack s (function_kind f ∷ k ∷ more)) (at_opening written d s f k)
+opening_kept d s (function.One op) (kind.Fixed fixed.Open) h = record { fits = (tt, h); grown = λ more. refl }
+opening_kept d s (function.Shift op) (kind.Fixed fixed.Open) h = record { fits = (tt, h); grown = λ more. refl }
+opening_kept d s function.Select (kind.Fixed fixed.Open) h = record { fits = (tt, h); grown = λ more. refl }
+opening_kept d s f other h = tt
+
+-- Statements
+
+body_kept : (d : ℕ) (s : List (Frame written)) (b : Begun written) (y : Body written) (body : Statements) (k : Kind) → AllFit (in_loop written s) b.before → BodyFits (in_loop written s) y → InStatements s → AllFit (in_loop written (within b y ∷ s)) body
+    → KeepsIn (λ more. past_stack s (spell_all b.before (past_body b.line y (spell_all body (k ∷ more))))) (body_closed written d s b y body k)
+body_kept d s b (choosing arms e) body (kind.Fixed fixed.Elsif) a y h p = record { fits = (a, (y.0, y.1, p), h); grown = λ more. refl }
+body_kept d s b (choosing arms e) body (kind.Fixed fixed.Else) a y h p = record { fits = ((a, (tt, (y.0, y.1, p)), h), tt); grown = λ more. refl }
+body_kept d s b (choosing arms e) body (kind.Fixed fixed.EndIf) a y h p = record { fits = (h, a, (tt, (y.0, y.1, p))); grown = λ more. refl }
+body_kept d s b (choosing arms e) body k a y h p = tt
+body_kept d s b (otherwise arms) body (kind.Fixed fixed.EndIf) a y h p = record { fits = (h, a, (y.0, y.1, p)); grown = λ more. refl }
+body_kept d s b (otherwise arms) body k a y h p = tt
+body_kept d s b (looping e) body (kind.Fixed fixed.EndWhile) a y h p = record { fits = (h, a, (y, p)); grown = λ more. refl }
+body_kept d s b (looping e) body k a y h p = tt
+body_kept d s b (selecting e arms labels) body (kind.Literal c) a y h p =
+    if_in (λ more. past_stack s (spell_all b.before (past_body b.line (selecting e arms labels) (spell_all body (kind.Literal c ∷ more))))) (is_value c) _
+    (λ v. record { fits = (h, a, (y.0, (y.1, y.2, p), v)); grown = λ more. refl })
+body_kept d s b (selecting e arms labels) body (kind.Fixed fixed.Else) a y h p = record { fits = ((a, (y.0, tt, (y.1, y.2, p)), h), tt); grown = λ more. refl }
+body_kept d s b (selecting e arms labels) body (kind.Fixed fixed.EndCase) a y h p = record { fits = (h, a, (y.0, tt, (y.1, y.2, p))); grown = λ more. refl }
+body_kept d s b (selecting e arms labels) body k a y h p = tt
+body_kept d s b (otherwise_case e arms) body (kind.Fixed fixed.EndCase) a y h p = record { fits = (h, a, (y.0, y.1, y.2, p)); grown = λ more. refl }
+body_kept d s b (otherwise_case e arms) body k a y h p = tt
+
+in_body_kept : (d : ℕ) (s : List (Frame written)) (body : Statements) (k : Kind) → InStatements s → AllFit (in_loop written s) body → KeepsIn (λ more. past_stack s (spell_all body (k ∷ more))) (in_body written d s body k)
+in_body_kept d [] body k h p = tt
+in_body_kept d (unary op ∷ s) body k h p = tt
+in_body_kept d (left op f ∷ s) body k h p = tt
+in_body_kept d (bracket ∷ s) body k h p = tt
+in_body_kept d (argument a ∷ s) body k h p = tt
+in_body_kept d (waiting b u ∷ s) body k h p = tt
+in_body_kept d (within b y ∷ s) body k h p = body_kept d s b y body k h.0 h.1 h.2 p
+
+lead_kept : (d : ℕ) (s : List (Frame written)) (body : Statements) (word : Lead) (line : Line) → InStatements s → AllFit (in_loop written s) body → KeepsIn (λ more. past_stack s (spell_all body (kind.Lead word line ∷ more))) (at_lead written d s body word line)
+lead_kept d s body lead.If line h p = record { fits = (p, tt, h); grown = λ more. refl }
+lead_kept d s body lead.Case line h p = record { fits = (p, tt, h); grown = λ more. refl }
+lead_kept d s body lead.While line h p = record { fits = (p, tt, h); grown = λ more. refl }
+lead_kept d s body (lead.Jump word) line h p =
+    if_in (λ more. past_stack s (spell_all body (kind.Lead (lead.Jump word) line ∷ more))) (may_jump (in_loop written s) word) _ (λ v. record { fits = (h, p, v); grown = λ more. refl })
+lead_kept d s body (lead.AreaWrite w) line h p = record { fits = (h, p, tt); grown = λ more. refl }
+lead_kept d s body other line h p = tt
+
+statement_kept : (d : ℕ) (s : List (Frame written)) (body : Statements) (k : Kind) → InStatements s → AllFit (in_loop written s) body → KeepsIn (λ more. past_stack s (spell_all body (k ∷ more))) (at_statement written d s body k)
+statement_kept d s body (kind.Variable v line) h p = record { fits = (h, p, tt); grown = λ more. refl }
+statement_kept d s body (kind.Lead word line) h p = lead_kept d s body word line h p
+statement_kept d s body (kind.Fixed fixed.Semicolon) h p = record { fits = (h, p); grown = λ more. refl }
+statement_kept d s body other h p = in_body_kept d s body other h p
+
+target_kept : (d : ℕ) (s : List (Frame written)) (b : Begun written) (v : RawVar) (k : Kind) → InStatements s → AllFit (in_loop written s) b.before → KeepsIn (λ more. past_stack s (spell_all b.before (kind.Variable v b.line ∷ k ∷ more))) (at_target written d s b v k)
+target_kept d s b v (kind.Fixed fixed.Becomes) h p = record { fits = (p, tt, h); grown = λ more. refl }
+target_kept d s b (var.Name name) (kind.Fixed fixed.Open) h p = record { fits = (h, p, tt); grown = λ more. refl }
+target_kept d s b (var.Direct area block w byte bit) (kind.Fixed fixed.Open) h p = tt
+target_kept d s b v other h p = tt
+
+label_kept : (d : ℕ) (s : List (Frame written)) (b : Begun written) (e : Form) (arms : CaseArms) (labels : Literal → Labels) (past_labels : List Kind → List Kind) (k : Kind) →
+    ((c : Literal) (more : List Kind) → spell_labels (labels c) more ≡ past_labels (kind.Literal c ∷ more)) → ((c : Literal) → is_value c ≡ true → LabelsFit (labels c))
+    → InStatements s → AllFit (in_loop written s) b.before → Binds e → CasesFit (in_loop written s) arms
+    → KeepsIn (λ more. past_stack s (spell_all b.before (past_case b.line e arms (past_labels (k ∷ more))))) (at_label written d s b e arms labels k)
+label_kept d s b e arms labels past_labels (kind.Literal c) same good h p f g =
+    if_in (λ more. past_stack s (spell_all b.before (past_case b.line e arms (past_labels (kind.Literal c ∷ more))))) (is_value c) _
+    (λ v. record { fits = (h, p, (f, g, good c v)); grown = λ more. ap (λ (ks : List Kind). past_stack s (spell_all b.before (past_case b.line e arms ks))) (same c more) })
+label_kept d s b e arms labels past_labels other same good h p f g = tt
+
+comma_is : (a : Actuals) (ks : List Kind) → HasActual a → comma_kind ∷ ks ≡ comma_behind a ks
+comma_is no_actual ks h = absurd h
+comma_is (actual others name line v place) ks h = refl
+
+part_kept : (d : ℕ) (s : List (Frame written)) (b : Begun written) (x : Part written) (k : Kind) → InStatements s → AllFit (in_loop written s) b.before → PartFits (in_loop written s) x
+    → KeepsIn (λ more. past_stack s (spell_all b.before (past_part b.line x (k ∷ more)))) (at_part written d s b x k)
+part_kept d s b (target v) k h p x = target_kept d s b v k h p
+part_kept d s b (write_open w) (kind.Fixed fixed.Open) h p x = record { fits = (p, tt, h); grown = λ more. refl }
+part_kept d s b (write_open w) k h p x = tt
+part_kept d s b (first_formal name) (kind.Variable (var.Name formal) line) h p x = record { fits = (h, p, tt); grown = λ more. refl }
+part_kept d s b (first_formal name) (kind.Variable (var.Direct area block w byte bit) line) h p x = tt
+part_kept d s b (first_formal name) (kind.Fixed fixed.Close) h p x = record { fits = (h, p, tt); grown = λ more. refl }
+part_kept d s b (first_formal name) k h p x = tt
+part_kept d s b (next_formal name actuals) (kind.Variable (var.Name formal) line) h p x = record {
+  fits = (h, p, tt);
+  grown = λ more. ap (λ (ks : List Kind). past_stack s (spell_all b.before (past_call b.line name (spell_actuals actuals ks)))) (sym (comma_is actuals (kind.Variable (var.Name formal) line ∷ more) x));
+}
+part_kept d s b (next_formal name actuals) (kind.Variable (var.Direct area block w byte bit) line) h p x = tt
+part_kept d s b (next_formal name actuals) k h p x = tt
+part_kept d s b (becoming name actuals formal) (kind.Fixed fixed.Becomes) h p x = record { fits = (h, p, tt); grown = λ more. refl }
+part_kept d s b (becoming name actuals formal) k h p x = tt
+part_kept d s b (giving name actuals formal) (kind.Variable v line) h p x = record { fits = (h, p, tt); grown = λ more. refl }
+part_kept d s b (giving name actuals formal) k h p x = tt
+part_kept d s b (given name actuals) (kind.Fixed fixed.Comma) h p x = record { fits = (h, p, x); grown = λ more. refl }
+part_kept d s b (given name actuals) (kind.Fixed fixed.Close) h p x = record { fits = (h, p, tt); grown = λ more. refl }
+part_kept d s b (given name actuals) k h p x = tt
+part_kept d s b (first_label e arms) k h p x = label_kept d s b e arms (λ c. label c) (λ ks. ks) k (λ c more. refl) (λ c v. v) h p x.0 x.1
+part_kept d s b (next_label e arms labels) k h p x =
+    label_kept d s b e arms (λ c. more_labels labels c) (λ ks. spell_labels labels (comma_kind ∷ ks)) k (λ c more. refl) (λ c v. (x.2, v)) h p x.0 x.1
+part_kept d s b (labelled e arms labels) (kind.Fixed fixed.Comma) h p x = record { fits = (h, p, x); grown = λ more. refl }
+part_kept d s b (labelled e arms labels) (kind.Fixed fixed.Colon) h p x = record { fits = ((p, x, h), tt); grown = λ more. refl }
+part_kept d s b (labelled e arms labels) k h p x = tt
+
+closing_kept : (d : ℕ) (s : List (Frame written)) (before : Statements) (x : Statement) (k : Kind) → InStatements s → AllFit (in_loop written s) before → Fits (in_loop written s) x
+    → KeepsIn (λ more. past_stack s (spell_all before (spell_one x (k ∷ more)))) (at_closing written d s before x k)
+closing_kept d s before x (kind.Fixed fixed.Semicolon) h p f = record { fits = (h, (p, f)); grown = λ more. refl }
+closing_kept d s before x other h p f = tt
+
+pub step_kept : (d : ℕ) (s : List (Frame written)) (p : Place written) (k : Kind) → PlaceFits s p → KeepsIn (λ more. past_stack s (past_place p (k ∷ more))) (step_at written d s p k)
+step_kept d s (statement body) k h = statement_kept d s body k h.0 h.1
+step_kept d s (part b x) k h = part_kept d s b x k h.0 h.1 h.2
+step_kept d s (closing before x) k h = closing_kept d s before x k h.0 h.1 h.2
+step_kept d s operand k h = operand_kept d s k h
+step_kept d s (operator f) k h = operator_kept d s f k h.0 h.1 h.2
+step_kept d s (opening f) k h = opening_kept d s f k h

@@ -1,0 +1,218 @@
+-- The grammar by precedence levels has the expressions of the forms that keep their brackets.
+use Rattle.std.proofs.Common.{◌≡◌, ℕ, ◌-◌, ◌<◌, ◌≤◌, List, [], ◌∷◌, ◌++◌, refl, sym, ap, subst, ◌∙◌, arith, append_assoc}
+use Rattle.st_grammar.specs.Derives.{Derives, value, read, brackets, unary, binary, applied, shifted, selected, IsSpelled, bracketed, weakest, with_comma}
+use Rattle.st_grammar.specs.Forms.{Form, literal, variable, group, prefix, infix_of, apply, shift, select}
+use Rattle.st_grammar.specs.Grammar.{Binds, apply_tree, infix_level, level, prefix_kind, prefix_level, prefix_tree, spell, tree}
+use Rattle.st_syntax_laws.specs.SyntaxLaws.{OneGrammar}
+use Rattle.st_grammar.specs.declared.kind.Fixed.TheVariants as fixed
+use Rattle.st_grammar.specs.declared.kind.Function.TheVariants as function
+use Rattle.st_grammar.specs.declared.kind.Kind.{Kind}
+use Rattle.st_grammar.specs.declared.kind.Kind.TheVariants as kind
+use Rattle.st_grammar.specs.declared.kind.Prefix.{Prefix}
+use Rattle.st_grammar.specs.declared.kind.Prefix.TheVariants as before
+use Rattle.st_tree.specs.declared.expr.BinaryOp.{BinaryOp}
+use Rattle.st_tree.specs.declared.expr.BinaryOp.TheVariants as op
+use Rattle.st_tree.specs.declared.raw.RawExpr.{RawExpr}
+use Rattle.st_tree.specs.declared.raw.RawExpr.TheVariants as expr
+
+-- Levels
+
+prefix_most : (o : Prefix) → prefix_level o ≤ weakest
+prefix_most before.Minus = omega arith
+prefix_most before.Not = omega arith
+
+infix_within : (o : BinaryOp) → (infix_level o ≤ weakest) × (0 < infix_level o)
+infix_within op.Mul = (omega arith, omega arith)
+infix_within op.Div = (omega arith, omega arith)
+infix_within op.Mod = (omega arith, omega arith)
+infix_within op.Add = (omega arith, omega arith)
+infix_within op.Sub = (omega arith, omega arith)
+infix_within op.Lt = (omega arith, omega arith)
+infix_within op.Gt = (omega arith, omega arith)
+infix_within op.Le = (omega arith, omega arith)
+infix_within op.Ge = (omega arith, omega arith)
+infix_within op.Eq = (omega arith, omega arith)
+infix_within op.Ne = (omega arith, omega arith)
+infix_within op.And = (omega arith, omega arith)
+infix_within op.Xor = (omega arith, omega arith)
+infix_within op.Or = (omega arith, omega arith)
+
+level_most : (f : Form) → level f ≤ weakest
+level_most (literal c) = omega arith
+level_most (variable v line) = omega arith
+level_most (group f) = omega arith
+level_most (prefix o f) = prefix_most o
+level_most (infix_of o f g) = (infix_within o).0
+level_most (apply o f) = omega arith
+level_most (shift o f g) = omega arith
+level_most (select f g h) = omega arith
+
+less_one : (j k : ℕ) → j < k → j ≤ k - 1
+less_one j k h = omega arith
+
+below_one : (j k : ℕ) → 0 < k → j ≤ k - 1 → j < k
+below_one j k p h = omega arith
+
+-- Tokens
+
+-- what stands after a part stands after its tokens
+abbrev Passes : (List Kind → List Kind) → Type 0
+Passes s = (more : List Kind) → s more ≡ s [] ++ more
+
+-- a part, a token, and another part
+joined : (s t : List Kind → List Kind) (k : Kind) → Passes s → Passes t → Passes (λ more. s (k ∷ t more))
+joined s t k p q more =
+    p (k ∷ t more) ∙ ap (λ (ks : List Kind). s [] ++ k ∷ ks) (q more) ∙ sym (append_assoc (s []) (k ∷ t []) more)
+    ∙ ap (λ (ks : List Kind). ks ++ more) (sym (p (k ∷ t [])))
+
+-- a part up to its bracket
+abbrev to_close : (List Kind → List Kind) → List Kind → List Kind
+to_close s more = s (kind.Fixed fixed.Close ∷ more)
+
+closed : (s : List Kind → List Kind) → Passes s → Passes (to_close s)
+closed s p = joined s (λ more. more) (kind.Fixed fixed.Close) p (λ more. refl)
+
+-- two parts with a comma between them
+abbrev comma : (List Kind → List Kind) → (List Kind → List Kind) → List Kind → List Kind
+comma s t more = s (kind.Fixed fixed.Comma ∷ t more)
+
+listed : (s t : List Kind → List Kind) → Passes s → Passes t → Passes (comma s t)
+listed s t p q = joined s t (kind.Fixed fixed.Comma) p q
+
+begun : (s : List Kind → List Kind) (k : Kind) → Passes s → Passes (λ more. k ∷ s more)
+begun s k p more = ap (λ (ks : List Kind). k ∷ ks) (p more)
+
+in_brackets : (s : List Kind → List Kind) (k : Kind) → Passes s → Passes (λ more. k ∷ kind.Fixed fixed.Open ∷ s more)
+in_brackets s k p more = ap (λ (ks : List Kind). k ∷ kind.Fixed fixed.Open ∷ ks) (p more)
+
+pub passes : (f : Form) (more : List Kind) → spell f more ≡ spell f [] ++ more
+passes (literal c) more = refl
+passes (variable v line) more = refl
+passes (group f) more = begun (to_close (spell f)) (kind.Fixed fixed.Open) (closed (spell f) (passes f)) more
+passes (prefix o f) more = begun (spell f) (prefix_kind o) (passes f) more
+passes (infix_of o f g) more = joined (spell f) (spell g) (kind.Fixed (fixed.Between o)) (passes f) (passes g) more
+passes (apply o f) more = in_brackets (to_close (spell f)) (kind.Fixed (fixed.Function (function.One o))) (closed (spell f) (passes f)) more
+passes (shift o f g) more =
+    let inner = comma (spell f) (to_close (spell g)) in
+    in_brackets inner (kind.Fixed (fixed.Function (function.Shift o))) (listed (spell f) (to_close (spell g)) (passes f) (closed (spell g) (passes g))) more
+passes (select f g h) more =
+    let last = comma (spell g) (to_close (spell h)) in
+    let inner = comma (spell f) last in
+    in_brackets inner (kind.Fixed (fixed.Function function.Select))
+    (listed (spell f) last (passes f) (listed (spell g) (to_close (spell h)) (passes g) (closed (spell h) (passes h)))) more
+
+-- the tokens of parts with a bracket, an operator or commas after them
+with_close : (f : Form) → spell f (kind.Fixed fixed.Close ∷ []) ≡ spell f [] ++ kind.Fixed fixed.Close ∷ []
+with_close f = passes f (kind.Fixed fixed.Close ∷ [])
+
+with_two : (f g : Form) → spell f (kind.Fixed fixed.Comma ∷ spell g (kind.Fixed fixed.Close ∷ [])) ≡ with_comma (spell f []) (spell g []) ++ kind.Fixed fixed.Close ∷ []
+with_two f g =
+    passes f (kind.Fixed fixed.Comma ∷ spell g (kind.Fixed fixed.Close ∷ []))
+    ∙ ap (λ (ks : List Kind). spell f [] ++ kind.Fixed fixed.Comma ∷ ks) (with_close g)
+    ∙ sym (append_assoc (spell f []) (kind.Fixed fixed.Comma ∷ spell g []) (kind.Fixed fixed.Close ∷ []))
+
+with_three : (f g h : Form) → spell f (kind.Fixed fixed.Comma ∷ spell g (kind.Fixed fixed.Comma ∷ spell h (kind.Fixed fixed.Close ∷ [])))
+    ≡ with_comma (spell f []) (with_comma (spell g []) (spell h [])) ++ kind.Fixed fixed.Close ∷ []
+with_three f g h =
+    passes f (kind.Fixed fixed.Comma ∷ spell g (kind.Fixed fixed.Comma ∷ spell h (kind.Fixed fixed.Close ∷ [])))
+    ∙ ap (λ (ks : List Kind). spell f [] ++ kind.Fixed fixed.Comma ∷ ks) (with_two g h)
+    ∙ sym (append_assoc (spell f []) (kind.Fixed fixed.Comma ∷ with_comma (spell g []) (spell h [])) (kind.Fixed fixed.Close ∷ []))
+
+-- From forms to the grammar
+
+to_kinds : {k : ℕ} {e : RawExpr} (ts us : List Kind) → us ≡ ts → Derives k ts e → Derives k us e
+to_kinds {k} {e} ts us same d = subst (λ (ks : List Kind). Derives k ks e) (sym same) d
+
+abbrev begin_with : Kind → List Kind → List Kind
+begin_with word ts = word ∷ kind.Fixed fixed.Open ∷ ts
+
+derived : (f : Form) (k : ℕ) → Binds f → level f ≤ k → Derives k (spell f []) (tree f)
+derived (literal c) k b h = value b
+derived (variable v line) k b h = read
+derived (group f) k b h = to_kinds _ _ (ap (λ (ks : List Kind). kind.Fixed fixed.Open ∷ ks) (with_close f)) (brackets (derived f weakest b (level_most f)))
+derived (prefix o f) k b h = unary o h (derived f (prefix_level o) b.1 b.0)
+derived (infix_of o f g) k b h =
+    to_kinds _ _ (passes f (kind.Fixed (fixed.Between o) ∷ spell g []))
+    (binary o h (derived f (infix_level o) b.2 b.0) (derived g (infix_level o - 1) b.3 (less_one (level g) (infix_level o) b.1)))
+derived (apply o f) k b h =
+    to_kinds _ _ (ap (begin_with (kind.Fixed (fixed.Function (function.One o)))) (with_close f)) (applied o (derived f weakest b (level_most f)))
+derived (shift o f g) k b h =
+    to_kinds _ _ (ap (begin_with (kind.Fixed (fixed.Function (function.Shift o)))) (with_two f g))
+    (shifted o (derived f weakest b.0 (level_most f)) (derived g weakest b.1 (level_most g)))
+derived (select f g i) k b h =
+    to_kinds _ _ (ap (begin_with (kind.Fixed (fixed.Function function.Select))) (with_three f g i))
+    (selected (derived f weakest b.0 (level_most f)) (derived g weakest b.1 (level_most g)) (derived i weakest b.2 (level_most i)))
+
+-- From the grammar to forms
+
+spelled : (k : ℕ) (ts : List Kind) (e : RawExpr) → Derives k ts e → IsSpelled k ts e
+spelled k ts e (value {c = c} v) = record { form = literal c; binds = v; strong = omega arith; spelled = refl; same = refl }
+spelled k ts e (read {v = v} {line = line}) = record { form = variable v line; binds = tt; strong = omega arith; spelled = refl; same = refl }
+spelled k ts e (brackets {ts = us} {e = x} d) =
+    let f = spelled weakest us x d in
+    record {
+      form = group f.form;
+      binds = f.binds;
+      strong = omega arith;
+      spelled = ap (λ (ks : List Kind). kind.Fixed fixed.Open ∷ ks) (with_close f.form) ∙ ap bracketed f.spelled;
+      same = f.same;
+    }
+spelled k ts e (unary {ts = us} {e = x} o h d) =
+    let f = spelled (prefix_level o) us x d in
+    record { form = prefix o f.form; binds = (f.strong, f.binds); strong = h; spelled = ap (λ (ks : List Kind). prefix_kind o ∷ ks) f.spelled; same = ap (prefix_tree o) f.same }
+spelled k ts e (binary {ts = us} {us = vs} {e = x} {f = y} o h d c) =
+    let f = spelled (infix_level o) us x d in
+    let g = spelled (infix_level o - 1) vs y c in
+    let between = kind.Fixed (fixed.Between o) in
+    record {
+      form = infix_of o f.form g.form;
+      binds = (f.strong, below_one (level g.form) (infix_level o) (infix_within o).1 g.strong, f.binds, g.binds);
+      strong = h;
+      spelled = passes f.form (between ∷ spell g.form []) ∙ ap (λ (ks : List Kind). ks ++ between ∷ spell g.form []) f.spelled ∙ ap (λ (ks : List Kind). us ++ between ∷ ks) g.spelled;
+      same = ap (λ (z : RawExpr). expr.Binary o z (tree g.form)) f.same ∙ ap (λ (z : RawExpr). expr.Binary o x z) g.same;
+    }
+spelled k ts e (applied {ts = us} {e = x} o d) =
+    let f = spelled weakest us x d in
+    record {
+      form = apply o f.form;
+      binds = f.binds;
+      strong = omega arith;
+      spelled = ap (begin_with (kind.Fixed (fixed.Function (function.One o)))) (with_close f.form ∙ ap (λ (ks : List Kind). ks ++ kind.Fixed fixed.Close ∷ []) f.spelled);
+      same = ap (apply_tree o) f.same;
+    }
+spelled k ts e (shifted {ts = us} {us = vs} {e = x} {f = y} o d c) =
+    let f = spelled weakest us x d in
+    let g = spelled weakest vs y c in
+    let rest = λ (ks : List Kind). ks ++ kind.Fixed fixed.Close ∷ [] in
+    record {
+      form = shift o f.form g.form;
+      binds = (f.binds, g.binds);
+      strong = omega arith;
+      spelled =
+          ap (begin_with (kind.Fixed (fixed.Function (function.Shift o))))
+          (with_two f.form g.form ∙ ap (λ (ks : List Kind). rest (with_comma ks (spell g.form []))) f.spelled ∙ ap (λ (ks : List Kind). rest (with_comma us ks)) g.spelled);
+      same = ap (λ (z : RawExpr). expr.Shift o z (tree g.form)) f.same ∙ ap (λ (z : RawExpr). expr.Shift o x z) g.same;
+    }
+spelled k ts e (selected {ts = us} {us = vs} {vs = ws} {e = x} {f = y} {g = z} d c b) =
+    let f = spelled weakest us x d in
+    let g = spelled weakest vs y c in
+    let i = spelled weakest ws z b in
+    let rest = λ (ks : List Kind). ks ++ kind.Fixed fixed.Close ∷ [] in
+    record {
+      form = select f.form g.form i.form;
+      binds = (f.binds, g.binds, i.binds);
+      strong = omega arith;
+      spelled =
+          ap (begin_with (kind.Fixed (fixed.Function function.Select)))
+          (with_three f.form g.form i.form ∙ ap (λ (ks : List Kind). rest (with_comma ks (with_comma (spell g.form []) (spell i.form [])))) f.spelled
+          ∙ ap (λ (ks : List Kind). rest (with_comma us (with_comma ks (spell i.form [])))) g.spelled ∙ ap (λ (ks : List Kind). rest (with_comma us (with_comma vs ks))) i.spelled);
+      same =
+          ap (λ (r : RawExpr). expr.Select r (tree g.form) (tree i.form)) f.same ∙ ap (λ (r : RawExpr). expr.Select x r (tree i.form)) g.same
+          ∙ ap (λ (r : RawExpr). expr.Select x y r) i.same;
+    }
+
+back : (k : ℕ) (ts : List Kind) (e : RawExpr) → IsSpelled k ts e → Derives k ts e
+back k ts e s = subst (λ (x : RawExpr). Derives k ts x) s.same (subst (λ (us : List Kind). Derives k us (tree s.form)) s.spelled (derived s.form k s.binds s.strong))
+
+pub one_grammar : OneGrammar
+one_grammar k ts e = (spelled k ts e, back k ts e)

@@ -1,0 +1,2 @@
+pub mod SyntaxLaws
+pub mod inner
