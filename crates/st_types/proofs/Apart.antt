@@ -5,7 +5,7 @@ use Rattle.std.specs.Cmp.Lexicographic.{pointwise}
 use Rattle.std.proofs.lemmas.Cmp.{nat_list_eq_equiv}
 use Rattle.std.proofs.lemmas.List.{append-nil, append_assoc}
 use Rattle.s7_base.specs.declared.reason.Line.{Line}
-use Rattle.st_types.specs.Declarations.{twice}
+use Rattle.st_types.specs.Broken.{twice}
 use Rattle.st_types.specs.Names.{Table, is_same, look_up, with_entry}
 use Rattle.st_types.specs.Scopes.{or_else}
 use Rattle.st_types.specs.declared.scope.Meaning.{Meaning}

@@ -11,7 +11,8 @@ use Rattle.s7_base.specs.declared.reason.Line.{Line}
 use Rattle.st_tree.specs.declared.program.StProgram.{StProgram}
 use Rattle.st_tree.specs.declared.raw.RawGlobal.{RawGlobal}
 use Rattle.st_tree.specs.declared.raw.RawPou.{RawPou}
-use Rattle.st_types.specs.Declarations.{all_outside, meaning_of_global, no_outside, twice, with_global, with_unit}
+use Rattle.st_types.specs.Broken.{twice}
+use Rattle.st_types.specs.Declarations.{all_outside, meaning_of_global, no_outside, with_global, with_unit}
 use Rattle.st_types.specs.Globals.{block_number, block_of, inserted, with_block}
 use Rattle.st_types.specs.Names.{Table, is_same, key_of, look_up, with_entry}
 use Rattle.st_types.specs.Typed.{breaks_of}

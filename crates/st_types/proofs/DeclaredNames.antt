@@ -28,8 +28,8 @@ use Rattle.st_tree.specs.declared.raw.RawLocal.{RawLocal}
 use Rattle.st_tree.specs.declared.raw.RawPou.{RawPou}
 use Rattle.st_tree.specs.declared.raw.RawVar.{RawVar}
 use Rattle.st_tree.specs.declared.raw.RawVar.TheVariants as var
-use Rattle.st_types.specs.Broken.{broken, listed}
-use Rattle.st_types.specs.Declarations.{all_inside, meaning_of_unit, no_inside, one_if, one_too_many, twice, with_formal, with_global, with_local, with_unit}
+use Rattle.st_types.specs.Broken.{broken, listed, twice}
+use Rattle.st_types.specs.Declarations.{all_inside, meaning_of_unit, no_inside, one_if, one_too_many, with_formal, with_global, with_local, with_unit}
 use Rattle.st_types.specs.Globals.{all_global_breaks, all_located, area_of, block_at, block_breaks, block_number, block_of, contents, fits_type, global_breaks, has_address, has_block_address, has_block_form, inserted, is_small_enough, located_at, located_in, located_of, unless, with_block}
 use Rattle.st_types.specs.Names.{Table, key_of, look_up, with_entry}
 use Rattle.st_types.specs.Types.{has_width}

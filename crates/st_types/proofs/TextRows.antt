@@ -14,8 +14,9 @@ use Rattle.st_types.specs.Broken.{broken, breaks_rule, first_of_all, sound}
 use Rattle.call_chains.specs.Chain.{Graph, chains, follow}
 use Rattle.st_types.specs.Declarations.{one_too_many}
 use Rattle.st_types.specs.Globals.{block_breaks, block_number, contents, fits_type, inserted}
-use Rattle.st_types.specs.Invocations.{call_with, formal_breaks}
+use Rattle.st_types.specs.Invocations.{call_with, formal_breaks, no_call}
 use Rattle.st_types.specs.Names.{key_of}
+use Rattle.st_types.specs.declared.scope.Scope.{Scope}
 
 abbrev line : ℕ → Line
 line n = record { 0 = n }
@@ -44,6 +45,16 @@ in_order = refl
 
 left_out : call_with (line 5) 2 ((codes "B", Some (var.Local 1)) ∷ []) (codes "A" ∷ codes "B" ∷ []) ≡ breaks_rule (line 5) TypeMismatch
 left_out = refl
+
+-- What is called is no function: a name that is given twice is noted behind what is called
+
+abbrev nowhere : Scope
+nowhere = record { outer = []; formals = []; inner = [] }
+
+given_twice : (no_call nowhere (line 5) TypeMismatch ((codes "a", raw.Direct area.M None width.Word 0 0) ∷ (codes "A", raw.Direct area.M None width.Word 2 0) ∷ [])).breaks
+    ≡ broken (line 5) TypeMismatch ++ broken (line 5) DuplicateName
+unfolding key_of
+given_twice = refl
 
 -- Data blocks: number, location, size, list
 

@@ -51,6 +51,11 @@ first_of_all breaks = fold sooner None breaks
 abbrev pub broken : Line → Reason → List Break
 broken line rule = record { line = line; rule = rule } ∷ []
 
+-- a key that stands on a line where it has stood before
+abbrev pub twice : {T : Type 0} → Line → Option T → List Break
+twice line None = []
+twice line (Some first) = broken line reason.DuplicateName
+
 -- a part of a text as it is judged: what it is in the tree, if it has its place there, and the rules
 -- that are broken in it
 pub record Judged (T : Type 0) : Type 0 where

@@ -3,7 +3,7 @@ use Rattle.std.specs.Prelude.{ℕ, ◌+◌, Bool, true, false, not, ◌&&◌, na
 use Rattle.std.specs.List.{fold}
 use Rattle.memory_areas.specs.declared.sizes.TheConstants.{MOST_BLOCKS}
 use Rattle.s7_base.specs.declared.reason.Line.{Line}
-use Rattle.s7_base.specs.declared.reason.Reason.TheVariants.{DuplicateName, TooLarge}
+use Rattle.s7_base.specs.declared.reason.Reason.TheVariants.{TooLarge}
 use Rattle.st_tree.specs.declared.expr.StType.{StType}
 use Rattle.st_tree.specs.declared.program.Local.{Local}
 use Rattle.st_tree.specs.declared.raw.RawGlobal.{RawGlobal}
@@ -11,7 +11,7 @@ use Rattle.st_tree.specs.declared.raw.RawGlobalType.{RawGlobalType}
 use Rattle.st_tree.specs.declared.raw.RawGlobalType.TheVariants as raw
 use Rattle.st_tree.specs.declared.raw.RawLocal.{RawLocal}
 use Rattle.st_tree.specs.declared.raw.RawPou.{RawPou}
-use Rattle.st_types.specs.Broken.{broken}
+use Rattle.st_types.specs.Broken.{broken, twice}
 use Rattle.st_types.specs.Names.{Table, key_of, look_up, with_entry}
 use Rattle.st_types.specs.declared.broken.Break.{Break}
 use Rattle.st_types.specs.declared.declaration.Inside.{Inside}
@@ -19,11 +19,6 @@ use Rattle.st_types.specs.declared.declaration.Outside.{Outside}
 use Rattle.st_types.specs.declared.scope.Formals.{Formals}
 use Rattle.st_types.specs.declared.scope.Meaning.{Meaning}
 use Rattle.st_types.specs.declared.scope.Meaning.TheVariants as meaning
-
--- a key that is declared on a line where it already means something
-abbrev pub twice : {T : Type 0} → Line → Option T → List Break
-twice line None = []
-twice line (Some first) = broken line DuplicateName
 
 -- Outside the units: globals, data blocks and units, in the order of the text
 

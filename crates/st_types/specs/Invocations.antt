@@ -9,7 +9,7 @@ use Rattle.st_tree.specs.declared.expr.Var.{Var}
 use Rattle.st_tree.specs.declared.program.Stmt.{Stmt}
 use Rattle.st_tree.specs.declared.program.Stmt.TheVariants as stmt
 use Rattle.st_tree.specs.declared.raw.RawVar.{RawVar}
-use Rattle.st_types.specs.Broken.{Judged, sound, breaks_rule, behind, broken, listed}
+use Rattle.st_types.specs.Broken.{Judged, sound, breaks_rule, behind, broken, listed, twice}
 use Rattle.st_types.specs.Expressions.{variable_on}
 use Rattle.st_types.specs.Names.{Table, key_of, look_up, with_entry}
 use Rattle.st_types.specs.Scopes.{meaning_in}
@@ -86,13 +86,24 @@ abbrev pub call_with : Line → ℕ → Table (Option Var) → List (List ℕ) �
 call_with line i vars keys =
     if lacks vars keys then breaks_rule line TypeMismatch else sound (stmt.Invoke i (in_order vars keys))
 
--- the rules that are broken in the variables of some actuals
-abbrev pub actual_breaks : Scope → Line → List Actual → List Break
-actual_breaks scope line actuals = flat_map (λ (actual : Actual). (variable_on scope line actual.1).breaks) actuals
+-- one actual more of a call of what is no function: no formal is looked up, but its name may stand once
+abbrev pub with_name : Scope → Line → Given → Actual → Given
+with_name scope line given actual =
+    let key = key_of actual.0 in
+    let v = variable_on scope line actual.1 in
+    record {
+      vars = with_entry key (plain v.found) given.vars;
+      breaks = given.breaks ++ (v.breaks ++ twice line (look_up key given.vars));
+    }
 
--- a call that breaks a rule by what it calls; its formals aren't looked up
+-- what all actuals of such a call give
+abbrev pub given_to_none : Scope → Line → List Actual → Given
+given_to_none scope line actuals = fold (with_name scope line) none_given actuals
+
+-- a call that breaks a rule by what it calls; whether its actuals name formals is not asked
 abbrev pub no_call : Scope → Line → Reason → List Actual → Judged Stmt
-no_call scope line rule actuals = record { found = None; breaks = broken line rule ++ actual_breaks scope line actuals }
+no_call scope line rule actuals =
+    record { found = None; breaks = broken line rule ++ (given_to_none scope line actuals).breaks }
 
 -- a call of a function with these formals
 abbrev pub function_call : Scope → Line → ℕ → Option Formals → List Actual → Judged Stmt

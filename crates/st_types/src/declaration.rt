@@ -1,7 +1,8 @@
 //! Declarations: what names mean by them, and the rules that are broken in them.
 ghost use Rattle.std.specs.Prelude.{◌≡◌, ◌+◌, ◌++◌, map, not, is_some, IfOk, OnOk};
 ghost use Rattle.std.specs.List.{fold};
-ghost use Rattle.st_types.specs.Declarations.{all_inside, all_outside, formals_of, is_block, keys_of, local_of, locals_of, meaning_of_global, meaning_of_unit, no_inside, no_outside, one_if, one_too_many, twice, types_of, with_formal, with_global, with_local, with_type, with_unit};
+ghost use Rattle.st_types.specs.Broken.{twice};
+ghost use Rattle.st_types.specs.Declarations.{all_inside, all_outside, formals_of, is_block, keys_of, local_of, locals_of, meaning_of_global, meaning_of_unit, no_inside, no_outside, one_if, one_too_many, types_of, with_formal, with_global, with_local, with_type, with_unit};
 ghost use Rattle.st_types.specs.Names.{key_of, look_up, with_entry};
 
 use crate::broken::{Break, note};

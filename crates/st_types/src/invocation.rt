@@ -1,6 +1,6 @@
 //! Calls of functions: which function is called, and what each of its formals is given.
 ghost use Rattle.std.specs.Prelude.{◌≡◌, [], ◌++◌, Some, IfOk, OnOk};
-ghost use Rattle.st_types.specs.Invocations.{actual_breaks, call_with, callee, formal_breaks, function_call, given_by, in_order, invocation, lacks, no_call, plain, var_given, with_actual};
+ghost use Rattle.st_types.specs.Invocations.{call_with, callee, formal_breaks, function_call, given_by, given_to_none, in_order, invocation, lacks, no_call, plain, var_given, with_actual, with_name};
 
 use crate::broken::{Break, note};
 use crate::expression::variable_on;
@@ -154,7 +154,30 @@ fn call_with(
     Ok(Some(Stmt::Invoke(position, list)))
 }
 
-/// Judges the variables of some actuals alone.
+/// Takes one actual more of a call of what is no function: its name may stand once.
+fn with_name(
+    alloc: Global,
+    scope: &Scope,
+    line: Line,
+    actual: &(List<u8>, RawVar),
+    vars: &mut Table<Option<Var>>,
+    breaks: &mut List<Break>,
+) -> Result<(), NoMemory>
+    ensures vars { OnOk result (vars.new
+        ≡ (with_name scope.now line (record { vars = vars.old; breaks = [] }) actual.now).vars) }
+    ensures breaks { OnOk result (breaks.new ≡ breaks.old
+        ++ (with_name scope.now line (record { vars = vars.old; breaks = [] }) actual.now).breaks) }
+{
+    let key = key_of(alloc, actual.0.as_slice())?;
+    let variable = variable_on(alloc, scope, line, &actual.1, breaks)?;
+    if vars.declare(key, plain(variable))? {
+        Ok(())
+    } else {
+        note(breaks, line, Reason::DuplicateName)
+    }
+}
+
+/// Judges the names and the variables of some actuals, without the formals that they name.
 fn judge_actuals(
     alloc: Global,
     scope: &Scope,
@@ -162,10 +185,11 @@ fn judge_actuals(
     actuals: &[(List<u8>, RawVar)],
     breaks: &mut List<Break>,
 ) -> Result<(), NoMemory>
-    ensures { OnOk result (breaks.new ≡ breaks.old ++ actual_breaks scope.now line actuals.now) }
+    ensures { OnOk result (breaks.new ≡ breaks.old ++ (given_to_none scope.now line actuals.now).breaks) }
 {
+    let mut vars = Table::new(alloc);
     for actual in actuals {
-        variable_on(alloc, scope, line, &actual.1, breaks)?;
+        with_name(alloc, scope, line, actual, &mut vars, breaks)?;
     }
     Ok(())
 }

@@ -1,6 +1,9 @@
 use Rattle.std.proofs.Common.{◌≡◌, ◌++◌, take}
-use Rattle.st_types.specs.Invocations.{actual_breaks}
+use Rattle.st_types.specs.Invocations.{given_to_none}
 use Rattle.st_types.proofs.invocation.judge_actuals.Given as goal
 
 abbrev pub invariant-loop-actual : goal.invariant-loop-actual
-invariant-loop-actual l = l.breaks ≡ l.initial.breaks ++ actual_breaks l.scope l.line (take l.actual-index l.actuals)
+invariant-loop-actual l = record {
+  vars : l.vars ≡ (given_to_none l.scope l.line (take l.actual-index l.actuals)).vars;
+  breaks : l.breaks ≡ l.initial.breaks ++ (given_to_none l.scope l.line (take l.actual-index l.actuals)).breaks;
+}
