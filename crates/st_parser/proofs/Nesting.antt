@@ -10,8 +10,8 @@ use Rattle.st_grammar.specs.declared.kind.Jump.TheVariants as jump_word
 use Rattle.st_tree.specs.Costs.{greatest}
 use Rattle.st_tree.specs.declared.raw.RawPou.{RawPou}
 use Rattle.st_tree.specs.declared.raw.RawSt.{RawSt}
-use Rattle.st_types.proofs.RawNests.{arm_nest_is, case_nest_is, greatest_last, nest_area, nest_assign, nest_case, nest_continue, nest_exit, nest_if, nest_invoke, nest_is, nest_return, nest_while}
-use Rattle.st_types.specs.RawNesting.{NestsWithin, action_nest, arm_nest, case_nest, nest, raw_nest}
+use Rattle.st_types_laws.proofs.RawNests.{arm_nest_is, case_nest_is, greatest_last, nest_area, nest_assign, nest_case, nest_continue, nest_exit, nest_if, nest_invoke, nest_is, nest_return, nest_while}
+use Rattle.st_types_laws.specs.RawNesting.{NestsWithin, action_nest, arm_nest, case_nest, nest, raw_nest}
 
 -- Levels of what stands before
 

@@ -12,10 +12,10 @@ use Rattle.st_tree.specs.declared.program.StProgram.{StProgram}
 use Rattle.st_tree.specs.declared.raw.RawPou.{RawPou}
 use Rattle.st_tree.specs.declared.raw.RawSt.{RawSt}
 use Rattle.call_chains.specs.Chain.{Graph, IsFirstCycle, NoCycle}
-use Rattle.st_types.specs.LongChains.{first_long_chain}
-use Rattle.st_types.specs.Typed as of_raw
-use Rattle.st_types.specs.Typed.{Breaks, BreaksChain, HasTree, IsChain, calls_in, chained, cycle, first_break, long, named, no_unit}
-use Rattle.st_types.specs.declared.broken.Break.{Break}
+use Rattle.st_rules.specs.LongChains.{first_long_chain}
+use Rattle.st_rules.specs.Typed as of_raw
+use Rattle.st_rules.specs.Typed.{Breaks, BreaksChain, HasTree, IsChain, calls_in, chained, cycle, first_break, long, named, no_unit}
+use Rattle.st_rules.specs.declared.broken.Break.{Break}
 
 -- a line and a reason of which something holds
 abbrev ForSome : (Line → Reason → Type 0) → Type 0

@@ -10,9 +10,9 @@ use Rattle.st_parser.specs.Texts.{IsRefusedAs, by_rules}
 use Rattle.st_tree.specs.Runnable.{IsRunnable}
 use Rattle.st_tree.specs.declared.program.StProgram.{StProgram}
 use Rattle.st_tree.specs.declared.raw.RawSt.{RawSt}
-use Rattle.st_types.proofs.DataBlocks.{are_blocks}
-use Rattle.st_types.proofs.Runs.{runnable}
-use Rattle.st_types.specs.Typed.{HasTree, IsRefused}
+use Rattle.st_types_laws.proofs.DataBlocks.{are_blocks}
+use Rattle.st_types_laws.proofs.Runs.{runnable}
+use Rattle.st_rules.specs.Typed.{HasTree, IsRefused}
 
 pub refused_by_rules : (bytes : List ℕ) (raw : RawSt) (r : Result StProgram Rejection) → HasRawTree bytes raw → IfErr r (IsRefused raw) → IfErr r (IsRefusedAs bytes)
 refused_by_rules bytes raw (Ok tree) reads h = tt

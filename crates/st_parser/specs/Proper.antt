@@ -6,7 +6,7 @@ use Rattle.st_grammar.specs.Levels.{deepest, levels_source}
 use Rattle.st_canonical.specs.Spelled.{SourceSpelled}
 use Rattle.st_grammar.specs.Syntax.{AllWithin}
 use Rattle.st_tree.specs.declared.program.StProgram.{StProgram}
-use Rattle.st_types.specs.Typed.{HasTree}
+use Rattle.st_rules.specs.Typed.{HasTree}
 
 -- a tree's form is of the language, tokens can have its names, literals and places, it nests no deeper
 -- than it may, and its names, types, places and calls break no rule and mean the tree again

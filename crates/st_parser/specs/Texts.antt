@@ -8,7 +8,7 @@ use Rattle.s7_base.specs.declared.reason.Rejection.TheVariants as rejection
 use Rattle.st_grammar.specs.Syntax.{HasRawTree, IsSyntaxRefused}
 use Rattle.st_tree.specs.declared.program.StProgram.{StProgram}
 use Rattle.st_tree.specs.declared.raw.RawSt.{RawSt}
-use Rattle.st_types.specs.Typed.{Breaks, HasTree}
+use Rattle.st_rules.specs.Typed.{Breaks, HasTree}
 
 -- the text reads as this tree
 pub record IsTextOf (bytes : List ℕ) (tree : StProgram) : Type 0 where

@@ -29,8 +29,8 @@ use Rattle.st_round_trip.proofs.GlobalForms.{Each}
 use Rattle.st_round_trip.proofs.TokensSpelled.{GlobalsWorded, ItemsWorded, TypeWorded}
 use Rattle.st_tree.specs.declared.raw.RawGlobal.{RawGlobal}
 use Rattle.st_tree.specs.declared.raw.RawVar.{RawVar}
-use Rattle.st_types.proofs.BlockSizes.{is_block}
-use Rattle.st_types.specs.Globals.{all_blocks, block_at, block_number, block_of, contents, has_block_address, has_block_form, inserted, is_small_enough, total, with_block}
+use Rattle.st_types_laws.proofs.BlockSizes.{is_block}
+use Rattle.st_rules.specs.Globals.{all_blocks, block_at, block_number, block_of, contents, has_block_address, has_block_form, inserted, is_small_enough, total, with_block}
 
 -- Names
 

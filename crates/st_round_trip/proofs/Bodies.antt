@@ -14,12 +14,12 @@ use Rattle.st_round_trip.proofs.Statements.{FoundAll, FoundArms, FoundCases, Fou
 use Rattle.st_round_trip.proofs.Variables.{Named, written}
 use Rattle.st_tree.specs.Typing.{Names}
 use Rattle.st_tree.specs.declared.expr.StType.{StType}
-use Rattle.st_types.proofs.Declared.{Declares, SameScope}
-use Rattle.st_types.specs.Broken.{Judged, breaks_in}
-use Rattle.st_types.specs.Expressions.{expression}
-use Rattle.st_types.specs.Statements.{arm as arm_in, arms_on, case_arm as case_arm_in, case_arms_on, selector, statement, statements, type_of_selector}
-use Rattle.st_types.specs.declared.expression.Typed.{Typed}
-use Rattle.st_types.specs.declared.scope.Scope.{Scope}
+use Rattle.st_types_laws.proofs.Declared.{Declares, SameScope}
+use Rattle.st_rules.specs.Broken.{Judged, breaks_in}
+use Rattle.st_rules.specs.Expressions.{expression}
+use Rattle.st_rules.specs.Statements.{arm as arm_in, arms_on, case_arm as case_arm_in, case_arms_on, selector, statement, statements, type_of_selector}
+use Rattle.st_rules.specs.declared.expression.Typed.{Typed}
+use Rattle.st_rules.specs.declared.scope.Scope.{Scope}
 
 module _ (scope again : Scope) (names : Names) (declares : Declares scope names) (same : SameScope again scope) (named : Named names) (distinct : AreFormals names.units) where
   an : (l : Line) (f : Form) → FormSpelled f → Binds f → (expression scope l (tree f)).breaks ≡ [] → Found scope again names l f

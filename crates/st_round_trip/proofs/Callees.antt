@@ -11,9 +11,9 @@ use Rattle.st_tree.specs.declared.raw.RawCaseArm.{RawCaseArm}
 use Rattle.st_tree.specs.declared.raw.RawExpr.{RawExpr}
 use Rattle.st_tree.specs.declared.raw.RawStmt.{RawStmt}
 use Rattle.st_tree.specs.declared.raw.RawStmtKind.TheVariants as raw
-use Rattle.st_types.specs.Calls.{all_calls, calls_of, calls_of_arm, calls_of_case_arm, joined}
+use Rattle.st_rules.specs.Calls.{all_calls, calls_of, calls_of_arm, calls_of_case_arm, joined}
 use Rattle.call_chains.specs.declared.call.Call.{Call}
-use Rattle.st_types.specs.declared.scope.Scope.{Scope}
+use Rattle.st_rules.specs.declared.scope.Scope.{Scope}
 
 abbrev pub callees : List Call → List ℕ
 callees cs = map (λ (c : Call). c.callee) cs

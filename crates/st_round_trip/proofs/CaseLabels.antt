@@ -13,9 +13,9 @@ use Rattle.st_round_trip.proofs.Literals.{Kept, kept, value_of}
 use Rattle.st_round_trip.proofs.Parts.{map_last, values}
 use Rattle.st_tree.specs.declared.expr.StType.{StType}
 use Rattle.st_tree.specs.declared.expr.StType.TheVariants as type
-use Rattle.st_types.specs.Broken.{broken}
-use Rattle.st_types.specs.Statements.{have_type, label_breaks}
-use Rattle.st_types.specs.Types.{is_type, place_of}
+use Rattle.st_rules.specs.Broken.{broken}
+use Rattle.st_rules.specs.Statements.{have_type, label_breaks}
+use Rattle.st_rules.specs.Types.{is_type, place_of}
 
 -- Types
 

@@ -23,11 +23,11 @@ use Rattle.st_tree.specs.declared.program.CaseArm.{CaseArm}
 use Rattle.st_tree.specs.declared.program.Stmt.{Stmt}
 use Rattle.st_tree.specs.declared.program.Stmt.TheVariants as stmt
 use Rattle.st_tree.specs.declared.raw.RawVar.{RawVar}
-use Rattle.st_types.specs.Statements.{label_breaks}
-use Rattle.st_types.specs.Types.{is_selector, is_type}
-use Rattle.st_types.specs.Variables.{variable as variable_in}
-use Rattle.st_types.specs.declared.scope.Scope.{Scope}
-use Rattle.st_types.specs.declared.variable.TypedVar.{TypedVar}
+use Rattle.st_rules.specs.Statements.{label_breaks}
+use Rattle.st_rules.specs.Types.{is_selector, is_type}
+use Rattle.st_rules.specs.Variables.{variable as variable_in}
+use Rattle.st_rules.specs.declared.scope.Scope.{Scope}
+use Rattle.st_rules.specs.declared.variable.TypedVar.{TypedVar}
 
 module _ (scope again : Scope) (names : Names) (inside : Bool) where
   abbrev One : Statement → Type 0

@@ -20,7 +20,7 @@ use Rattle.st_tree.specs.declared.program.Located.{Located}
 use Rattle.st_tree.specs.declared.raw.RawGlobal.{RawGlobal}
 use Rattle.st_tree.specs.declared.raw.RawGlobalType.TheVariants as type
 use Rattle.st_tree.specs.declared.raw.RawVar.TheVariants as raw
-use Rattle.st_types.proofs.Redeclared.{AreBlocksAt, AreLocatedAt, IsBlockAt, IsLocatedAt}
+use Rattle.st_types_laws.proofs.Redeclared.{AreBlocksAt, AreLocatedAt, IsBlockAt, IsLocatedAt}
 
 -- globals of the language that tokens can have
 record AreSound (gs : Globals) : Type 0 where

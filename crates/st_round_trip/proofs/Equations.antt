@@ -27,10 +27,10 @@ use Rattle.st_tree.specs.declared.raw.RawExpr.{RawExpr, fold-roll-RawExpr}
 use Rattle.st_tree.specs.declared.raw.RawExpr.TheOpen as R
 use Rattle.st_tree.specs.declared.raw.RawExpr.TheVariants as raw
 use Rattle.st_tree.specs.declared.raw.RawVar.{RawVar}
-use Rattle.st_types.specs.Broken.{Judged}
-use Rattle.st_types.specs.Expressions.{expression, expression_step}
-use Rattle.st_types.specs.declared.expression.Typed.{Typed}
-use Rattle.st_types.specs.declared.scope.Scope.{Scope}
+use Rattle.st_rules.specs.Broken.{Judged}
+use Rattle.st_rules.specs.Expressions.{expression, expression_step}
+use Rattle.st_rules.specs.declared.expression.Typed.{Typed}
+use Rattle.st_rules.specs.declared.scope.Scope.{Scope}
 
 -- Expressions as they are read
 

@@ -26,14 +26,14 @@ use Rattle.st_tree.specs.declared.expr.UnaryOp.{UnaryOp}
 use Rattle.st_tree.specs.declared.expr.UnaryOp.TheVariants as unary
 use Rattle.st_tree.specs.declared.raw.RawExpr.TheVariants as raw
 use Rattle.st_tree.specs.declared.raw.RawVar.{RawVar}
-use Rattle.st_types.proofs.Declared.{Declares, SameScope}
-use Rattle.st_types.specs.Broken.{Judged, sound}
-use Rattle.st_types.specs.Expressions.{answered, expression, read_of}
-use Rattle.st_types.specs.Types.{type_of_unary}
-use Rattle.st_types.specs.Variables.{variable as variable_in}
-use Rattle.st_types.specs.declared.expression.Typed.{Typed}
-use Rattle.st_types.specs.declared.scope.Scope.{Scope}
-use Rattle.st_types.specs.declared.variable.TypedVar.{TypedVar}
+use Rattle.st_types_laws.proofs.Declared.{Declares, SameScope}
+use Rattle.st_rules.specs.Broken.{Judged, sound}
+use Rattle.st_rules.specs.Expressions.{answered, expression, read_of}
+use Rattle.st_rules.specs.Types.{type_of_unary}
+use Rattle.st_rules.specs.Variables.{variable as variable_in}
+use Rattle.st_rules.specs.declared.expression.Typed.{Typed}
+use Rattle.st_rules.specs.declared.scope.Scope.{Scope}
+use Rattle.st_rules.specs.declared.variable.TypedVar.{TypedVar}
 
 -- a form is one of this expression, and of the language
 pub record Sound (again : Scope) (m : Line) (t : Typed) (c : Form) : Type 0 where

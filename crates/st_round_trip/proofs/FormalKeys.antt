@@ -9,18 +9,18 @@ use Rattle.st_tree.specs.declared.program.StProgram.{StProgram}
 use Rattle.st_tree.specs.declared.raw.RawLocal.{RawLocal}
 use Rattle.st_tree.specs.declared.raw.RawPou.{RawPou}
 use Rattle.st_tree.specs.declared.raw.RawSt.{RawSt}
-use Rattle.st_types.proofs.Apart.{AreApart}
-use Rattle.st_types.proofs.BodyCosts.{nil_first, nil_second}
-use Rattle.st_types.proofs.DeclaredNames.{formal_entries, gather_inside, local_entries}
-use Rattle.st_types.proofs.Redeclared.{AreLocalsAt}
-use Rattle.st_types.proofs.RunnableUnits.{sound_units}
-use Rattle.st_types.specs.Declarations.{all_inside, formals_of, locals_of}
-use Rattle.st_types.specs.Names.{Table, is_same, key_of, look_up}
-use Rattle.st_types.specs.Typed.{HasTree, names_of}
-use Rattle.st_types.specs.Units.{all_units, breaks_of_unit, unit_of}
-use Rattle.st_types.specs.declared.scope.Formals.{Formals}
-use Rattle.st_types.specs.declared.scope.Meaning.{Meaning}
-use Rattle.st_types.specs.declared.scope.Meaning.TheVariants as meaning
+use Rattle.st_types_laws.proofs.Apart.{AreApart}
+use Rattle.st_types_laws.proofs.BodyCosts.{nil_first, nil_second}
+use Rattle.st_types_laws.proofs.DeclaredNames.{formal_entries, gather_inside, local_entries}
+use Rattle.st_types_laws.proofs.Redeclared.{AreLocalsAt}
+use Rattle.st_types_laws.proofs.RunnableUnits.{sound_units}
+use Rattle.st_rules.specs.Declarations.{all_inside, formals_of, locals_of}
+use Rattle.st_rules.specs.Names.{Table, is_same, key_of, look_up}
+use Rattle.st_rules.specs.Typed.{HasTree, names_of}
+use Rattle.st_rules.specs.Units.{all_units, breaks_of_unit, unit_of}
+use Rattle.st_rules.specs.declared.scope.Formals.{Formals}
+use Rattle.st_rules.specs.declared.scope.Meaning.{Meaning}
+use Rattle.st_rules.specs.declared.scope.Meaning.TheVariants as meaning
 
 -- a key that does not stand in a table is that of no formal in it
 others_of : (k : List ℕ) (i : ℕ) (ls : List Local) (more : Table Meaning) → look_up k (formal_entries i ls ++ more) ≡ None → IsOther k ls

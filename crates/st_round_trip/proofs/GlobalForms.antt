@@ -22,11 +22,11 @@ use Rattle.st_tree.specs.declared.program.Located.{Located}
 use Rattle.st_tree.specs.declared.raw.RawGlobal.{RawGlobal}
 use Rattle.st_tree.specs.declared.raw.RawVar.{RawVar}
 use Rattle.st_tree.specs.declared.raw.RawVar.TheVariants as raw
-use Rattle.st_types.proofs.Redeclared.{name_of_area}
-use Rattle.st_types.specs.Broken.{listed}
-use Rattle.st_types.specs.Globals.{all_located, area_of, located_at, located_in, located_of}
-use Rattle.st_types.specs.Types.{has_width}
-use Rattle.st_types.specs.Variables.{is_address}
+use Rattle.st_types_laws.proofs.Redeclared.{name_of_area}
+use Rattle.st_rules.specs.Broken.{listed}
+use Rattle.st_rules.specs.Globals.{all_located, area_of, located_at, located_in, located_of}
+use Rattle.st_rules.specs.Types.{has_width}
+use Rattle.st_rules.specs.Variables.{is_address}
 
 -- Facts of each of some things
 

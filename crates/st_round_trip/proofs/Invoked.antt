@@ -25,22 +25,22 @@ use Rattle.st_tree.specs.declared.program.Pou.{Pou}
 use Rattle.st_tree.specs.declared.program.Stmt.{Stmt}
 use Rattle.st_tree.specs.declared.program.Stmt.TheVariants as stmt
 use Rattle.st_tree.specs.declared.raw.RawStmtKind.TheVariants as raw
-use Rattle.st_types.proofs.BodyCosts.{nil_first, nil_second}
-use Rattle.st_types.proofs.Declared.{Declares, IsFunctionAt, IsFunctionOf, SameScope, keys_of_locals}
-use Rattle.st_types.specs.Broken.{Judged, behind, breaks_rule, broken, listed, sound}
-use Rattle.st_types.specs.Calls.{call_on}
-use Rattle.st_types.specs.Expressions.{answered, variable_on}
-use Rattle.st_types.specs.Invocations.{Actual, Given, call_of, call_with, callee, formal_breaks, function_call, given_by, in_order, lacks, none_given, plain, var_given, with_actual}
-use Rattle.st_types.specs.Names.{Table, is_same, key_of, look_up, with_entry}
-use Rattle.st_types.specs.Scopes.{meaning_in}
-use Rattle.st_types.specs.Statements.{statement}
-use Rattle.st_types.specs.Types.{is_type}
-use Rattle.st_types.specs.declared.broken.Break.{Break}
-use Rattle.st_types.specs.declared.scope.Formals.{Formals}
-use Rattle.st_types.specs.declared.scope.Meaning.{Meaning}
-use Rattle.st_types.specs.declared.scope.Meaning.TheVariants as meaning
-use Rattle.st_types.specs.declared.scope.Scope.{Scope}
-use Rattle.st_types.specs.declared.variable.TypedVar.{TypedVar}
+use Rattle.st_types_laws.proofs.BodyCosts.{nil_first, nil_second}
+use Rattle.st_types_laws.proofs.Declared.{Declares, IsFunctionAt, IsFunctionOf, SameScope, keys_of_locals}
+use Rattle.st_rules.specs.Broken.{Judged, behind, breaks_rule, broken, listed, sound}
+use Rattle.st_rules.specs.Calls.{call_on}
+use Rattle.st_rules.specs.Expressions.{answered, variable_on}
+use Rattle.st_rules.specs.Invocations.{Actual, Given, call_of, call_with, callee, formal_breaks, function_call, given_by, in_order, lacks, none_given, plain, var_given, with_actual}
+use Rattle.st_rules.specs.Names.{Table, is_same, key_of, look_up, with_entry}
+use Rattle.st_rules.specs.Scopes.{meaning_in}
+use Rattle.st_rules.specs.Statements.{statement}
+use Rattle.st_rules.specs.Types.{is_type}
+use Rattle.st_rules.specs.declared.broken.Break.{Break}
+use Rattle.st_rules.specs.declared.scope.Formals.{Formals}
+use Rattle.st_rules.specs.declared.scope.Meaning.{Meaning}
+use Rattle.st_rules.specs.declared.scope.Meaning.TheVariants as meaning
+use Rattle.st_rules.specs.declared.scope.Scope.{Scope}
+use Rattle.st_rules.specs.declared.variable.TypedVar.{TypedVar}
 
 -- Variables that formals are given
 

@@ -4,8 +4,8 @@ use Rattle.std.specs.Prelude.{nat_eq}
 use Rattle.std.specs.Cmp.Lexicographic.{pointwise}
 use Rattle.std.proofs.lemmas.Cmp.{nat_list_eq_equiv}
 use Rattle.st_tree.specs.declared.program.Local.{Local}
-use Rattle.st_types.proofs.BlockKeys.{both}
-use Rattle.st_types.specs.Names.{Table, is_same, key_of, look_up}
+use Rattle.st_types_laws.proofs.BlockKeys.{both}
+use Rattle.st_rules.specs.Names.{Table, is_same, key_of, look_up}
 
 pub same_keys : (a b : List ℕ) → is_same a b ≡ true → a ≡ b
 same_keys [] [] h = refl

@@ -17,12 +17,12 @@ use Rattle.st_tree.specs.declared.expr.UnaryOp.{UnaryOp}
 use Rattle.st_tree.specs.declared.expr.UnaryOp.TheVariants as unary
 use Rattle.st_tree.specs.declared.raw.RawExpr.{RawExpr}
 use Rattle.st_tree.specs.declared.raw.RawExpr.TheVariants as raw
-use Rattle.st_types.proofs.BodyCosts.{nil_first, nil_second}
-use Rattle.st_types.specs.Broken.{Judged, behind, sound}
-use Rattle.st_types.specs.Expressions.{area_read_of, binary_of, choice_of, conversion_of, expression, shift_of, typed_as, unary_of}
-use Rattle.st_types.specs.Types.{has_bits, has_numbers, is_type, type_of_binary, type_of_choice, type_of_conversion, type_of_read, type_of_shift, type_of_unary, type_on_equals, where_true}
-use Rattle.st_types.specs.declared.expression.Typed.{Typed}
-use Rattle.st_types.specs.declared.scope.Scope.{Scope}
+use Rattle.st_types_laws.proofs.BodyCosts.{nil_first, nil_second}
+use Rattle.st_rules.specs.Broken.{Judged, behind, sound}
+use Rattle.st_rules.specs.Expressions.{area_read_of, binary_of, choice_of, conversion_of, expression, shift_of, typed_as, unary_of}
+use Rattle.st_rules.specs.Types.{has_bits, has_numbers, is_type, type_of_binary, type_of_choice, type_of_conversion, type_of_read, type_of_shift, type_of_unary, type_on_equals, where_true}
+use Rattle.st_rules.specs.declared.expression.Typed.{Typed}
+use Rattle.st_rules.specs.declared.scope.Scope.{Scope}
 
 -- Types
 

@@ -27,19 +27,19 @@ use Rattle.st_tree.specs.declared.program.Stmt.{Stmt}
 use Rattle.st_tree.specs.declared.raw.RawPou.{RawPou}
 use Rattle.st_tree.specs.declared.raw.RawSt.{RawSt}
 use Rattle.st_tree.specs.declared.raw.RawStmt.{RawStmt}
-use Rattle.st_types.proofs.BodyCosts.{nil_second}
-use Rattle.st_types.proofs.Declared.{Declares, SameScope}
-use Rattle.st_types.proofs.Redeclared.{Redeclares}
-use Rattle.st_types.proofs.RunnableUnits.{mapped_at, nil_at, sound_units}
-use Rattle.st_types.proofs.SameDeclarations.{IsRedeclared, redeclared, same_length}
-use Rattle.st_types.proofs.SameTree.{AllSayAgain, has_tree_again, scope_of}
-use Rattle.st_types.specs.Broken.{breaks_in, found_in}
-use Rattle.st_types.specs.Declarations.{all_inside, formals_of}
-use Rattle.st_types.specs.Globals.{all_blocks, all_located}
-use Rattle.st_types.specs.Statements.{statements}
-use Rattle.st_types.specs.Typed.{HasTree, names_of}
-use Rattle.st_types.specs.Units.{breaks_of_unit, unit_of}
-use Rattle.st_types.specs.declared.scope.Scope.{Scope}
+use Rattle.st_types_laws.proofs.BodyCosts.{nil_second}
+use Rattle.st_types_laws.proofs.Declared.{Declares, SameScope}
+use Rattle.st_types_laws.proofs.Redeclared.{Redeclares}
+use Rattle.st_types_laws.proofs.RunnableUnits.{mapped_at, nil_at, sound_units}
+use Rattle.st_types_laws.proofs.SameDeclarations.{IsRedeclared, redeclared, same_length}
+use Rattle.st_types_laws.proofs.SameTree.{AllSayAgain, has_tree_again, scope_of}
+use Rattle.st_rules.specs.Broken.{breaks_in, found_in}
+use Rattle.st_rules.specs.Declarations.{all_inside, formals_of}
+use Rattle.st_rules.specs.Globals.{all_blocks, all_located}
+use Rattle.st_rules.specs.Statements.{statements}
+use Rattle.st_rules.specs.Typed.{HasTree, names_of}
+use Rattle.st_rules.specs.Units.{breaks_of_unit, unit_of}
+use Rattle.st_rules.specs.declared.scope.Scope.{Scope}
 
 -- Lists
 

@@ -14,9 +14,9 @@ use Rattle.st_round_trip.proofs.Statements.{FoundAll}
 use Rattle.st_round_trip.specs.RoundTrip.{Rereads, WhatIsReadIsProper}
 use Rattle.st_tree.specs.Typing.{Names}
 use Rattle.st_tree.specs.declared.program.Stmt.{Stmt}
-use Rattle.st_types.specs.Broken.{breaks_in, found_in}
-use Rattle.st_types.specs.Statements.{statements}
-use Rattle.st_types.specs.declared.scope.Scope.{Scope}
+use Rattle.st_rules.specs.Broken.{breaks_in, found_in}
+use Rattle.st_rules.specs.Statements.{statements}
+use Rattle.st_rules.specs.declared.scope.Scope.{Scope}
 
 -- what statements are in the tree says the same in its canonical form
 pub said_again : (scope again : Scope) (names : Names) (body : Statements) → FoundAll scope again names false body → IsSaidAgain scope again names body

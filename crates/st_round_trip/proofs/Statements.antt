@@ -17,9 +17,9 @@ use Rattle.st_tree.specs.declared.program.Stmt.{Stmt}
 use Rattle.st_tree.specs.declared.raw.RawArm.{RawArm}
 use Rattle.st_tree.specs.declared.raw.RawCaseArm.{RawCaseArm}
 use Rattle.st_tree.specs.declared.raw.RawStmt.{RawStmt}
-use Rattle.st_types.specs.Broken.{sound}
-use Rattle.st_types.specs.Statements.{Armed, Labelled, arm as arm_in, arms_on, case_arm as case_arm_in, case_arms_on, statement, statements}
-use Rattle.st_types.specs.declared.scope.Scope.{Scope}
+use Rattle.st_rules.specs.Broken.{sound}
+use Rattle.st_rules.specs.Statements.{Armed, Labelled, arm as arm_in, arms_on, case_arm as case_arm_in, case_arms_on, statement, statements}
+use Rattle.st_rules.specs.declared.scope.Scope.{Scope}
 
 -- what holds of statements that were read, their trees and the canonical forms of these
 module _ (scope again : Scope) (inside : Bool) where

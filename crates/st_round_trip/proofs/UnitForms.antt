@@ -17,12 +17,12 @@ use Rattle.st_tree.specs.declared.program.Pou.{Pou}
 use Rattle.st_tree.specs.declared.program.StProgram.{StProgram}
 use Rattle.st_tree.specs.declared.raw.RawLocal.{RawLocal}
 use Rattle.st_tree.specs.declared.raw.RawPou.{RawPou}
-use Rattle.st_types.proofs.Redeclared.{AreLocalsAt, AreUnitsAt}
-use Rattle.st_types.specs.Declarations.{local_of, locals_of}
-use Rattle.st_types.specs.Names.{Table}
-use Rattle.st_types.specs.Units.{all_units, unit_of}
-use Rattle.st_types.specs.declared.scope.Formals.{Formals}
-use Rattle.st_types.specs.declared.scope.Meaning.{Meaning}
+use Rattle.st_types_laws.proofs.Redeclared.{AreLocalsAt, AreUnitsAt}
+use Rattle.st_rules.specs.Declarations.{local_of, locals_of}
+use Rattle.st_rules.specs.Names.{Table}
+use Rattle.st_rules.specs.Units.{all_units, unit_of}
+use Rattle.st_rules.specs.declared.scope.Formals.{Formals}
+use Rattle.st_rules.specs.declared.scope.Meaning.{Meaning}
 
 -- What is read
 

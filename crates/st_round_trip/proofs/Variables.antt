@@ -22,15 +22,15 @@ use Rattle.st_tree.specs.declared.program.Located.{Located}
 use Rattle.st_tree.specs.declared.program.Pou.{Pou}
 use Rattle.st_tree.specs.declared.raw.RawVar.{RawVar}
 use Rattle.st_tree.specs.declared.raw.RawVar.TheVariants as raw
-use Rattle.st_types.proofs.Declared.{Declares, IsGlobalAt, IsLocalAt, SameScope}
-use Rattle.st_types.specs.Names.{key_of}
-use Rattle.st_types.specs.Scopes.{as_register, meaning_in, or_else, register_named}
-use Rattle.st_types.specs.Variables.{is_block_number, is_place, variable, variable_named, variable_of}
-use Rattle.st_types.specs.Names.{look_up}
-use Rattle.st_types.specs.declared.scope.Meaning.{Meaning}
-use Rattle.st_types.specs.declared.scope.Meaning.TheVariants as meaning
-use Rattle.st_types.specs.declared.scope.Scope.{Scope}
-use Rattle.st_types.specs.declared.variable.TypedVar.{TypedVar}
+use Rattle.st_types_laws.proofs.Declared.{Declares, IsGlobalAt, IsLocalAt, SameScope}
+use Rattle.st_rules.specs.Names.{key_of}
+use Rattle.st_rules.specs.Scopes.{as_register, meaning_in, or_else, register_named}
+use Rattle.st_rules.specs.Variables.{is_block_number, is_place, variable, variable_named, variable_of}
+use Rattle.st_rules.specs.Names.{look_up}
+use Rattle.st_rules.specs.declared.scope.Meaning.{Meaning}
+use Rattle.st_rules.specs.declared.scope.Meaning.TheVariants as meaning
+use Rattle.st_rules.specs.declared.scope.Scope.{Scope}
+use Rattle.st_rules.specs.declared.variable.TypedVar.{TypedVar}
 
 -- names that tokens can have, by position
 abbrev pub AreNames : List Local → Type 0

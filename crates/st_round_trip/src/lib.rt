@@ -1,7 +1,8 @@
 //! Laws of reading and spelling together: what is read is proper, and its canonical text reads as the
 //! same tree.
 //!
-//! Stands on `st_parser`, `st_types`, `st_lexer` and `st_tree`, whose definitions these laws are about.
+//! Stands on `st_parser`, `st_rules`, `st_lexer` and `st_tree`, whose definitions these laws are about, and
+//! on the lemmas of `st_types_laws`.
 //! It computes nothing: the contracts of its functions are the laws.
 #![tactic(auto)]
 

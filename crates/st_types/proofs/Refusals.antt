@@ -3,7 +3,7 @@ use Rattle.std.proofs.Common.{◌≡◌, true, ◌==◌, List, [], ◌∷◌, le
 use Rattle.s7_base.specs.declared.reason.Rejection.{Rejection}
 use Rattle.s7_base.specs.declared.reason.Rejection.TheVariants as rejection
 use Rattle.st_tree.specs.declared.raw.RawSt.{RawSt}
-use Rattle.st_types.specs.Typed.{calls_in, chained, first_break, IsChainRefused, IsRefused}
+use Rattle.st_rules.specs.Typed.{calls_in, chained, first_break, IsChainRefused, IsRefused}
 
 -- a refusal of the chain of calls is one of the text
 pub refused_by_chain : (raw : RawSt) (r : Rejection) → first_break raw ≡ None → IsChainRefused (calls_in raw) raw.pous r → IsRefused raw r

@@ -1,12 +1,12 @@
 //! The calls of functions in the statements of a unit, with their lines.
 ghost use Rattle.std.specs.Prelude.{◌≡◌, ◌++◌, map, OnOk};
-ghost use Rattle.st_types.specs.Calls.{all_calls, call_on, calls_of, calls_of_action, calls_of_arm, calls_of_case_arm, joined};
+ghost use Rattle.st_rules.specs.Calls.{all_calls, call_on, calls_of, calls_of_action, calls_of_arm, calls_of_case_arm, joined};
 
-use crate::invocation::callee;
-use crate::names::key_of;
-use crate::scope::Scope;
 use call_chains::Call;
 use s7_base::{Line, List, NoMemory, Reason};
+use st_rules::names::key_of;
+use st_rules::scope::Scope;
+use st_statements::callee;
 use st_tree::{RawArm, RawCaseArm, RawStmt, RawStmtKind};
 use std::alloc::Global;
 

@@ -1,11 +1,11 @@
 //! At which headings chains of calls are too long.
 ghost use Rattle.std.specs.Prelude.{◌≡◌, ◌++◌, IfOk, OnOk};
-ghost use Rattle.st_types.specs.LongChains.{chain_break, first_long_chain, long_chains};
+ghost use Rattle.st_rules.specs.LongChains.{chain_break, first_long_chain, long_chains};
 
-use crate::broken::{Break, first_of_all, note};
 use call_chains::{Call, chains};
 use memory_areas::ACTIVATIONS;
 use s7_base::{Line, List, NoMemory, Reason};
+use st_rules::broken::{Break, first_of_all, note};
 use st_tree::RawPou;
 use std::alloc::Global;
 

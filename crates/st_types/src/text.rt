@@ -1,16 +1,15 @@
 //! A text with its names, types and places: its tree, or the first rule that is broken.
 ghost use Rattle.std.specs.Prelude.{◌≡◌, ◌++◌, map, IfErr, IfOk, OnOk};
-ghost use Rattle.st_types.specs.Declarations.{formals_of};
-ghost use Rattle.st_types.specs.Typed.{breaks_of, calls_in, tree_of, HasTree, IsChain, IsChainRefused, IsRefused};
+ghost use Rattle.st_rules.specs.Declarations.{formals_of};
+ghost use Rattle.st_rules.specs.Typed.{breaks_of, calls_in, tree_of, HasTree, IsChain, IsChainRefused, IsRefused};
 
-use crate::broken::{Break, first_of_all};
-use crate::declaration::{all_outside, formals_of};
 use crate::depth::first_long_chain;
-use crate::global::all_globals;
-use crate::lists::put_breaks;
 use crate::unit::all_units;
 use call_chains::{Call, first_cycle};
 use s7_base::{Line, List, NoMemory, Reason, Rejection};
+use st_declarations::{all_globals, all_outside, formals_of};
+use st_rules::broken::{Break, first_of_all};
+use st_rules::lists::put_breaks;
 use st_tree::{RawPou, RawSt, StProgram};
 use std::alloc::Global;
 

@@ -1,18 +1,18 @@
 //! Units: what they are in the tree, what they call, and the rules that are broken in them.
 ghost use Rattle.std.specs.Prelude.{◌≡◌, [], ◌∷◌, ◌++◌, IfOk, OnOk};
-ghost use Rattle.st_types.specs.Calls.{all_calls};
-ghost use Rattle.st_types.specs.Declarations.{all_inside};
-ghost use Rattle.st_types.specs.Units.{all_unit_breaks, all_units, breaks_of_unit, calls_of_unit, calls_of_units, scope_in, unit_breaks, unit_in, unit_of};
+ghost use Rattle.st_rules.specs.Calls.{all_calls};
+ghost use Rattle.st_rules.specs.Declarations.{all_inside};
+ghost use Rattle.st_rules.specs.Units.{all_unit_breaks, all_units, breaks_of_unit, calls_of_unit, calls_of_units, scope_in, unit_breaks, unit_in, unit_of};
 
-use crate::broken::Break;
 use crate::call::all_calls;
-use crate::declaration::{all_inside, locals_of};
-use crate::lists::put_breaks;
-use crate::scope::{Formals, Meaning, Scope};
-use crate::statement::statements;
-use crate::table::Table;
 use call_chains::Call;
 use s7_base::{List, NoMemory};
+use st_declarations::{all_inside, locals_of};
+use st_rules::broken::Break;
+use st_rules::lists::put_breaks;
+use st_rules::scope::{Formals, Meaning, Scope};
+use st_rules::table::Table;
+use st_statements::statements;
 use st_tree::{Pou, RawPou};
 use std::alloc::Global;
 

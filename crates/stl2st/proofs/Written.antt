@@ -33,13 +33,13 @@ use Rattle.st_tree.specs.declared.raw.RawExpr.{RawExpr, fold-roll-RawExpr}
 use Rattle.st_tree.specs.declared.raw.RawExpr.TheOpen as E
 use Rattle.st_tree.specs.declared.raw.RawExpr.TheVariants as raw
 use Rattle.st_tree.specs.declared.raw.RawVar.{RawVar}
-use Rattle.st_types.specs.Broken.{Judged, sound}
-use Rattle.st_types.specs.Expressions.{expression, expression_step}
-use Rattle.st_types.specs.Names.{key_of}
-use Rattle.st_types.specs.Scopes.{register_named}
-use Rattle.st_types.specs.Variables.{is_place, variable}
-use Rattle.st_types.specs.declared.expression.Typed.{Typed}
-use Rattle.st_types.specs.declared.scope.Scope.{Scope}
+use Rattle.st_rules.specs.Broken.{Judged, sound}
+use Rattle.st_rules.specs.Expressions.{expression, expression_step}
+use Rattle.st_rules.specs.Names.{key_of}
+use Rattle.st_rules.specs.Scopes.{register_named}
+use Rattle.st_rules.specs.Variables.{is_place, variable}
+use Rattle.st_rules.specs.declared.expression.Typed.{Typed}
+use Rattle.st_rules.specs.declared.scope.Scope.{Scope}
 use Rattle.stl_tree.specs.declared.program.Operand.{Operand}
 use Rattle.stl_tree.specs.declared.program.Operand.TheVariants.{Direct}
 use Rattle.stl_translate.specs.Translation.{bit_of, literal_of, next_rlo, read_of, rlo_before_and, rlo_before_or}

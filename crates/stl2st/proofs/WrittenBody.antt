@@ -23,13 +23,13 @@ use Rattle.st_tree.specs.declared.raw.RawStmtKind.{fold-roll-RawStmtKind}
 use Rattle.st_tree.specs.declared.raw.RawStmtKind.TheOpen as K
 use Rattle.st_tree.specs.declared.raw.RawStmtKind.TheVariants as raw
 use Rattle.st_tree.specs.declared.raw.RawVar.{RawVar}
-use Rattle.st_types.specs.Broken.{Judged, breaks_in, found_in, listed, sound}
-use Rattle.st_types.specs.Calls as calls
-use Rattle.st_types.specs.Calls.{OnLine, all_calls, calls_of, calls_of_action, joined}
-use Rattle.st_types.specs.Statements.{Armed, Done, Labelled, action, arm_step, case_arm_step, kind_step, statement, statement_step, statements}
-use Rattle.st_types.specs.declared.broken.Break.{Break}
+use Rattle.st_rules.specs.Broken.{Judged, breaks_in, found_in, listed, sound}
+use Rattle.st_rules.specs.Calls as calls
+use Rattle.st_rules.specs.Calls.{OnLine, all_calls, calls_of, calls_of_action, joined}
+use Rattle.st_rules.specs.Statements.{Armed, Done, Labelled, action, arm_step, case_arm_step, kind_step, statement, statement_step, statements}
+use Rattle.st_rules.specs.declared.broken.Break.{Break}
 use Rattle.call_chains.specs.declared.call.Call.{Call}
-use Rattle.st_types.specs.declared.scope.Scope.{Scope}
+use Rattle.st_rules.specs.declared.scope.Scope.{Scope}
 use Rattle.stl2st.proofs.Written.{IsAssigned}
 
 -- One assignment

@@ -15,14 +15,14 @@ use Rattle.st_tree.specs.declared.program.StProgram.{StProgram}
 use Rattle.st_tree.specs.declared.program.Stmt.{Stmt}
 use Rattle.st_tree.specs.declared.raw.RawPou.{RawPou}
 use Rattle.st_tree.specs.declared.raw.RawSt.{RawSt}
-use Rattle.st_types.specs.Broken.{first_of_all}
+use Rattle.st_rules.specs.Broken.{first_of_all}
 use Rattle.call_chains.specs.Chain.{Graph, call_at}
-use Rattle.st_types.specs.Declarations.{formals_of}
-use Rattle.st_types.specs.Typed.{HasTree, IsChain, names_of}
-use Rattle.st_types.specs.Units.{scope_in}
-use Rattle.st_types.specs.declared.broken.Break.{Break}
+use Rattle.st_rules.specs.Declarations.{formals_of}
+use Rattle.st_rules.specs.Typed.{HasTree, IsChain, names_of}
+use Rattle.st_rules.specs.Units.{scope_in}
+use Rattle.st_rules.specs.declared.broken.Break.{Break}
 use Rattle.call_chains.specs.declared.call.Call.{Call}
-use Rattle.st_types.specs.declared.scope.Scope.{Scope}
+use Rattle.st_rules.specs.declared.scope.Scope.{Scope}
 use Rattle.stl2st.proofs.WrittenBody.{AreBoolAssigns, IsBody, body_is}
 
 -- a program of one unit without declarations, in the tree and before names are looked up

@@ -9,7 +9,7 @@ use stl_tree::BlockName;
 type Row = (&'static str, &'static str);
 
 /// Texts with a bad token, a name that is not declared or declared twice, a bad address, or too many bytes.
-const RULES: [Row; 32] = [
+const RULES: [Row; 34] = [
     (
         "PROGRAM OB1\n%MD0 := DINT_TO_DWORD(2147483648);\nEND_PROGRAM",
         "line 2: BadToken\n",
@@ -85,6 +85,14 @@ const RULES: [Row; 32] = [
     (
         "FUNCTION F VAR_IN_OUT a : WORD; END_VAR END_FUNCTION\nPROGRAM OB1\nF(a := %MW0, A := %MD0);\nEND_PROGRAM",
         "line 3: DuplicateName\n",
+    ),
+    (
+        "PROGRAM P\nP(a := %MW0, a := %MW2);\nEND_PROGRAM",
+        "line 2: DuplicateName\n",
+    ),
+    (
+        "PROGRAM P\nP(a := %MW0, b := %MW2);\nEND_PROGRAM",
+        "line 2: TypeMismatch\n",
     ),
     (
         "VAR_GLOBAL\nDB5 AT %DB5.DBB0 : ARRAY[0..16384] OF BYTE;\nEND_VAR PROGRAM OB1 END_PROGRAM",
@@ -459,7 +467,7 @@ const EXPRESSIONS: [Row; 26] = [
 ];
 
 /// The same of IF, WHILE, CASE and what stands in a unit.
-const STATEMENTS: [Row; 26] = [
+const STATEMENTS: [Row; 27] = [
     (
         "PROGRAM OB1\nF(\n%MW0 := b);\nEND_PROGRAM",
         "line 3: BadSyntax\n",
@@ -494,6 +502,10 @@ const STATEMENTS: [Row; 26] = [
     ),
     (
         "PROGRAM OB1\nIF a THEN\nEXIT; END_IF;\nEND_PROGRAM",
+        "line 3: BadSyntax\n",
+    ),
+    (
+        "PROGRAM OB1\nCASE a OF\n5000000000\n(1): END_CASE;\nEND_PROGRAM",
         "line 3: BadSyntax\n",
     ),
     (

@@ -1,5 +1,5 @@
 use Rattle.std.proofs.Common.{◌≡◌, ◌++◌, map, take}
-use Rattle.st_types.specs.Calls.{all_calls, calls_of_arm, calls_of_case_arm, joined}
+use Rattle.st_rules.specs.Calls.{all_calls, calls_of_arm, calls_of_case_arm, joined}
 use Rattle.st_types.proofs.call.«+calls».Given as goal
 
 abbrev pub invariant-all_calls-loop-raw : goal.invariant-all_calls-loop-raw

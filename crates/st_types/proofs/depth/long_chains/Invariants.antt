@@ -1,5 +1,5 @@
 use Rattle.std.proofs.Common.{◌≡◌, ◌++◌, drop}
-use Rattle.st_types.specs.LongChains.{long_chains}
+use Rattle.st_rules.specs.LongChains.{long_chains}
 use Rattle.st_types.proofs.depth.long_chains.Given as goal
 
 abbrev pub invariant-loop-index : goal.invariant-loop-index

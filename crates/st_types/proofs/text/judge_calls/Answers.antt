@@ -1,6 +1,6 @@
 use Rattle.std.proofs.Common.{sym, ◌∙◌, subst, refl}
 use Rattle.call_chains.specs.Chain.{IsFirstCycle}
-use Rattle.st_types.specs.Typed.{cycle, long, no_unit}
+use Rattle.st_rules.specs.Typed.{cycle, long, no_unit}
 use Rattle.st_types.proofs.Refusals.{is_nil}
 use Rattle.st_types.proofs.text.judge_calls.Goals as goal
 

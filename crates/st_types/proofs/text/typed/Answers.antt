@@ -1,7 +1,7 @@
 use Rattle.std.proofs.Common.{◌≡◌, sym, ap, ◌∙◌, subst, None}
-use Rattle.st_types.specs.Broken.{first_of_all}
+use Rattle.st_rules.specs.Broken.{first_of_all}
 use Rattle.call_chains.specs.Chain.{Graph}
-use Rattle.st_types.specs.Typed.{first_break, named, IsChainRefused}
+use Rattle.st_rules.specs.Typed.{first_break, named, IsChainRefused}
 use Rattle.st_types.proofs.Refusals.{refused_by_chain}
 use Rattle.st_types.proofs.text.typed.Goals as goal
 

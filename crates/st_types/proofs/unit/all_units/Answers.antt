@@ -1,5 +1,5 @@
 use Rattle.std.proofs.Common.{◌≡◌, ◌++◌, ◌∷◌, [], ◌∙◌}
-use Rattle.st_types.specs.Units.{unit_of, calls_of_unit, breaks_of_unit}
+use Rattle.st_rules.specs.Units.{unit_of, calls_of_unit, breaks_of_unit}
 use Rattle.st_types.proofs.Taken.{mapped, flattened}
 use Rattle.st_types.proofs.unit.all_units.Goals as goal
 

@@ -1,5 +1,5 @@
 use Rattle.std.proofs.Common.{◌≡◌, take}
-use Rattle.st_types.specs.Units.{all_units, calls_of_units, all_unit_breaks}
+use Rattle.st_rules.specs.Units.{all_units, calls_of_units, all_unit_breaks}
 use Rattle.st_types.proofs.unit.all_units.Given as goal
 
 abbrev pub invariant-loop-raw : goal.invariant-loop-raw

@@ -1,0 +1,3 @@
+pub mod NameRows
+pub mod Tables
+pub mod TextRows

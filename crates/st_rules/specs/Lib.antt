@@ -1,0 +1,14 @@
+pub mod Broken
+pub mod Calls
+pub mod Declarations
+pub mod Expressions
+pub mod Globals
+pub mod Invocations
+pub mod LongChains
+pub mod Names
+pub mod Scopes
+pub mod Statements
+pub mod Typed
+pub mod Types
+pub mod Units
+pub mod Variables

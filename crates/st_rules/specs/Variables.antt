@@ -1,0 +1,73 @@
+-- Written variables: what they are in the tree and their types, or the rule that they break.
+use Rattle.std.specs.Prelude.{ℕ, ◌+◌, Bool, ◌&&◌, nat_le, if◌then◌else◌, Option, Some, None, Result, Ok, Err}
+use Rattle.memory_areas.specs.Access.{bytes_wide}
+use Rattle.memory_areas.specs.declared.place.AreaName.{AreaName}
+use Rattle.memory_areas.specs.declared.place.AreaName.TheVariants as area
+use Rattle.memory_areas.specs.declared.sizes.TheConstants.{INPUT_BYTES, OUTPUT_BYTES, MARKER_BYTES, LOCAL_BYTES}
+use Rattle.s7_base.specs.declared.reason.Reason.{Reason}
+use Rattle.s7_base.specs.declared.reason.Reason.TheVariants.{UnknownName, BadAddress, TypeMismatch}
+use Rattle.s7_base.specs.declared.word.Width.{Width}
+use Rattle.st_tree.specs.State.{type_of_register}
+use Rattle.st_tree.specs.Values.{type_of_width}
+use Rattle.st_tree.specs.declared.expr.StType.{StType}
+use Rattle.st_tree.specs.declared.expr.Var.{Var}
+use Rattle.st_tree.specs.declared.expr.Var.TheVariants as var
+use Rattle.st_tree.specs.declared.raw.RawVar.{RawVar}
+use Rattle.st_tree.specs.declared.raw.RawVar.TheVariants as raw
+use Rattle.st_rules.specs.Names.{key_of}
+use Rattle.st_rules.specs.Scopes.{meaning_in}
+use Rattle.st_rules.specs.declared.scope.Meaning.{Meaning}
+use Rattle.st_rules.specs.declared.scope.Meaning.TheVariants as meaning
+use Rattle.st_rules.specs.declared.scope.Scope.{Scope}
+use Rattle.st_rules.specs.declared.variable.TypedVar.{TypedVar}
+
+-- the bytes of a written address lie in its area; in a data block, whose length shows at run time alone,
+-- its byte number is at most 65,535, whatever its width
+abbrev pub is_byte_in : AreaName → Width → ℕ → Bool
+is_byte_in area.I w byte = nat_le (byte + bytes_wide w) INPUT_BYTES
+is_byte_in area.Q w byte = nat_le (byte + bytes_wide w) OUTPUT_BYTES
+is_byte_in area.M w byte = nat_le (byte + bytes_wide w) MARKER_BYTES
+is_byte_in area.L w byte = nat_le (byte + bytes_wide w) LOCAL_BYTES
+is_byte_in area.Db w byte = nat_le byte 65535
+is_byte_in area.Di w byte = nat_le byte 65535
+
+-- a data block has a number from 1 to 65,535
+abbrev pub is_block_number : ℕ → Bool
+is_block_number n = nat_le 1 n && nat_le n 65535
+
+-- the byte and the bit of a written address are ones that its area may have
+abbrev pub is_place : AreaName → Width → ℕ → ℕ → Bool
+is_place a w byte bit = is_byte_in a w byte && nat_le bit 7
+
+-- a written address is one that there may be, with the number of a data block where there is one
+abbrev pub is_address : AreaName → Option ℕ → Width → ℕ → ℕ → Bool
+is_address a None w byte bit = is_place a w byte bit
+is_address a (Some n) w byte bit = is_block_number n && is_place area.Db w byte bit
+
+-- a variable of a type
+abbrev pub variable_of : StType → Var → Result TypedVar Reason
+variable_of ty v = Ok (record { ty = ty; var = v })
+
+-- a place that is written with its address, with the number of a data block where there is one
+abbrev pub place_at : AreaName → Option ℕ → Width → ℕ → ℕ → Result TypedVar Reason
+place_at a None w byte bit =
+    if is_place a w byte bit then variable_of (type_of_width w) (var.Direct a byte bit w) else Err BadAddress
+place_at a (Some n) w byte bit =
+    if is_block_number n && is_place area.Db w byte bit then variable_of (type_of_width w) (var.InBlock n byte bit w)
+    else Err BadAddress
+
+-- what a name means as a variable: a unit or a data block is none
+abbrev pub variable_named : Option Meaning → Result TypedVar Reason
+variable_named None = Err UnknownName
+variable_named (Some (meaning.Register r)) = variable_of (type_of_register r) (var.Register r)
+variable_named (Some (meaning.Formal i ty)) = variable_of ty (var.Formal i)
+variable_named (Some (meaning.Local i ty)) = variable_of ty (var.Local i)
+variable_named (Some (meaning.Global i ty)) = variable_of ty (var.Global i)
+variable_named (Some meaning.Block) = Err TypeMismatch
+variable_named (Some meaning.Program) = Err TypeMismatch
+variable_named (Some (meaning.Function i)) = Err TypeMismatch
+
+-- a variable as it is written
+abbrev pub variable : Scope → RawVar → Result TypedVar Reason
+variable scope (raw.Name name) = variable_named (meaning_in scope (key_of name))
+variable scope (raw.Direct a block w byte bit) = place_at a block w byte bit

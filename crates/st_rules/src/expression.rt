@@ -1,0 +1,9 @@
+//! An expression as it is judged.
+use st_tree::{Expr, StType};
+
+/// An expression of the tree, and its type.
+#[derive(Debug, Drop, PartialEq)]
+pub struct Typed {
+    pub ty: StType,
+    pub tree: Expr,
+}

@@ -1,0 +1,141 @@
+//! Written variables: what they are in the tree and their types, or the rule that they break.
+ghost use Rattle.std.specs.Prelude.{◌≡◌, IfOk};
+ghost use Rattle.memory_areas.specs.Access.{bytes_wide};
+ghost use Rattle.st_rules.specs.Variables.{is_address, is_block_number, is_byte_in, is_place, place_at, variable, variable_named};
+
+use crate::names::key_of;
+use crate::scope::{Meaning, Scope};
+use memory_areas::{AreaName, INPUT_BYTES, LOCAL_BYTES, MARKER_BYTES, OUTPUT_BYTES};
+use s7_base::{NoMemory, Reason, Width};
+use st_tree::{RawVar, StType, Var, type_of_register, type_of_width};
+use std::alloc::Global;
+
+/// A variable of the tree, and its type.
+#[derive(Clone, Copy, Debug, PartialEq, Eq)]
+pub struct TypedVar {
+    pub ty: StType,
+    pub var: Var,
+}
+
+fn bytes_wide(width: Width) -> usize
+    ensures { result ≡ bytes_wide width }
+{
+    match width {
+        Width::Bit | Width::Byte => 1,
+        Width::Word => 2,
+        Width::Dword => 4,
+    }
+}
+
+fn is_byte_in(area: AreaName, width: Width, byte: u32) -> bool
+    ensures { result ≡ is_byte_in area width byte }
+{
+    let end = byte as usize + bytes_wide(width);
+    match area {
+        AreaName::I => end <= INPUT_BYTES,
+        AreaName::Q => end <= OUTPUT_BYTES,
+        AreaName::M => end <= MARKER_BYTES,
+        AreaName::L => end <= LOCAL_BYTES,
+        AreaName::Db | AreaName::Di => byte <= 65535,
+    }
+}
+
+/// Whether a data block may have this number, 1 to 65,535.
+pub fn is_block_number(number: u32) -> bool
+    ensures { result ≡ is_block_number number }
+{
+    1 <= number && number <= 65535
+}
+
+/// Whether the byte and the bit of a written address are ones that its area may have.
+pub fn is_place(area: AreaName, width: Width, byte: u32, bit: u32) -> bool
+    ensures { result ≡ is_place area width byte bit }
+{
+    is_byte_in(area, width, byte) && bit <= 7
+}
+
+/// Whether a written address is one that there may be.
+pub fn is_address(area: AreaName, block: Option<u32>, width: Width, byte: u32, bit: u32) -> bool
+    ensures { result ≡ is_address area block width byte bit }
+{
+    match block {
+        None => is_place(area, width, byte, bit),
+        Some(number) => is_block_number(number) && is_place(AreaName::Db, width, byte, bit),
+    }
+}
+
+fn place_at(
+    area: AreaName,
+    block: Option<u32>,
+    width: Width,
+    byte: u32,
+    bit: u32,
+) -> Result<TypedVar, Reason>
+    ensures { result ≡ place_at area block width byte bit }
+{
+    let ty = type_of_width(width);
+    match block {
+        None => {
+            if is_place(area, width, byte, bit) {
+                let var = Var::Direct(area, byte, bit as u8, width);
+                Ok(TypedVar { ty, var })
+            } else {
+                Err(Reason::BadAddress)
+            }
+        }
+        Some(number) => {
+            if is_block_number(number) && is_place(AreaName::Db, width, byte, bit) {
+                let var = Var::InBlock(number as u16, byte, bit as u8, width);
+                Ok(TypedVar { ty, var })
+            } else {
+                Err(Reason::BadAddress)
+            }
+        }
+    }
+}
+
+fn variable_named(meaning: Option<Meaning>) -> Result<TypedVar, Reason>
+    ensures { result ≡ variable_named meaning }
+{
+    match meaning {
+        None => Err(Reason::UnknownName),
+        Some(Meaning::Register(register)) => Ok(TypedVar {
+            ty: type_of_register(register),
+            var: Var::Register(register),
+        }),
+        Some(Meaning::Formal(position, ty)) => Ok(TypedVar {
+            ty,
+            var: Var::Formal(position),
+        }),
+        Some(Meaning::Local(position, ty)) => Ok(TypedVar {
+            ty,
+            var: Var::Local(position),
+        }),
+        Some(Meaning::Global(position, ty)) => Ok(TypedVar {
+            ty,
+            var: Var::Global(position),
+        }),
+        Some(Meaning::Block | Meaning::Program | Meaning::Function(_)) => {
+            Err(Reason::TypeMismatch)
+        }
+    }
+}
+
+/// A variable as it is written.
+pub fn variable(
+    alloc: Global,
+    scope: &Scope,
+    raw: &RawVar,
+) -> Result<Result<TypedVar, Reason>, NoMemory>
+    ensures { IfOk result (λ answer. answer ≡ variable scope.now raw.now) }
+{
+    match raw {
+        RawVar::Name(name) => {
+            let key = key_of(alloc, name.as_slice())?;
+            Ok(variable_named(scope.meaning(key.as_slice())))
+        }
+        RawVar::Direct(area, block, width, byte, bit) => {
+            Ok(place_at(*area, *block, *width, *byte, *bit))
+        }
+    }
+}

@@ -1,0 +1,22 @@
+use Rattle.std.proofs.Common.{◌≡◌, ◌++◌, map, take}
+use Rattle.st_rules.specs.Broken.{breaks_in, found_in}
+use Rattle.st_rules.specs.Statements.{arm, arms_on, case_arm, case_arms_on, statements}
+use Rattle.st_statements.proofs.statement.«+judge».Given as goal
+
+abbrev pub invariant-arms-loop-raw : goal.invariant-arms-loop-raw
+invariant-arms-loop-raw l = record {
+  found : l.arms ≡ found_in (arms_on l.line (map (arm l.scope) (take l.raw-index l.raws)));
+  breaks : l.breaks ≡ l.initial.breaks ++ breaks_in (arms_on l.line (map (arm l.scope) (take l.raw-index l.raws)));
+}
+
+abbrev pub invariant-case_arms-loop-raw : goal.invariant-case_arms-loop-raw
+invariant-case_arms-loop-raw l = record {
+  found : l.arms ≡ found_in (case_arms_on l.line l.selector (map (case_arm l.scope) (take l.raw-index l.raws)));
+  breaks : l.breaks ≡ l.initial.breaks ++ breaks_in (case_arms_on l.line l.selector (map (case_arm l.scope) (take l.raw-index l.raws)));
+}
+
+abbrev pub invariant-statements-loop-raw : goal.invariant-statements-loop-raw
+invariant-statements-loop-raw l = record {
+  found : l.body ≡ found_in (statements l.scope (take l.raw-index l.raws));
+  breaks : l.breaks ≡ l.initial.breaks ++ breaks_in (statements l.scope (take l.raw-index l.raws));
+}

@@ -1,0 +1,258 @@
+//! Calls of functions: which function is called, and what each of its formals is given.
+ghost use Rattle.std.specs.Prelude.{◌≡◌, [], ◌++◌, Some, IfOk, OnOk};
+ghost use Rattle.st_rules.specs.Invocations.{call_with, callee, formal_breaks, function_call, given_by, given_to_none, in_order, invocation, lacks, no_call, plain, var_given, with_actual, with_name};
+
+use crate::expression::variable_on;
+use s7_base::{Line, List, NoMemory, Reason};
+use st_rules::broken::{Break, note};
+use st_rules::lists::keep;
+use st_rules::names::key_of;
+use st_rules::scope::{Formals, Meaning, Scope};
+use st_rules::table::Table;
+use st_rules::types::is_type;
+use st_rules::variable::TypedVar;
+use st_tree::{RawVar, StType, Stmt, Var};
+use std::alloc::Global;
+
+/// The position of the function that a name means. A name that means nothing is UnknownName, one that
+/// means no function TypeMismatch.
+pub fn callee(meaning: Option<Meaning>) -> Result<u32, Reason>
+    ensures { result ≡ callee meaning }
+{
+    match meaning {
+        None => Err(Reason::UnknownName),
+        Some(Meaning::Function(position)) => Ok(position),
+        Some(_) => Err(Reason::TypeMismatch),
+    }
+}
+
+fn plain(variable: Option<TypedVar>) -> Option<Var>
+    ensures { result ≡ plain variable }
+{
+    match variable {
+        Some(variable) => Some(variable.var),
+        None => None,
+    }
+}
+
+fn judge_formal(
+    line: Line,
+    formal: Option<StType>,
+    before: Option<Option<Var>>,
+    variable: Option<TypedVar>,
+    breaks: &mut List<Break>,
+) -> Result<(), NoMemory>
+    ensures { OnOk result (breaks.new ≡ breaks.old ++ formal_breaks line formal before variable) }
+{
+    let Some(ty) = formal else {
+        return note(breaks, line, Reason::UnknownName);
+    };
+    if before.is_some() {
+        return note(breaks, line, Reason::DuplicateName);
+    }
+    match variable {
+        Some(variable) => {
+            if is_type(variable.ty, ty) {
+                Ok(())
+            } else {
+                note(breaks, line, Reason::TypeMismatch)
+            }
+        }
+        None => Ok(()),
+    }
+}
+
+/// Takes one actual more into what the formals are given.
+fn with_actual(
+    alloc: Global,
+    scope: &Scope,
+    line: Line,
+    types: &Table<StType>,
+    actual: &(List<u8>, RawVar),
+    vars: &mut Table<Option<Var>>,
+    breaks: &mut List<Break>,
+) -> Result<(), NoMemory>
+    ensures vars { OnOk result (vars.new
+        ≡ (with_actual scope.now line types.now (record { vars = vars.old; breaks = [] }) actual.now).vars) }
+    ensures breaks { OnOk result (breaks.new ≡ breaks.old
+        ++ (with_actual scope.now line types.now (record { vars = vars.old; breaks = [] }) actual.now).breaks) }
+{
+    let key = key_of(alloc, actual.0.as_slice())?;
+    let variable = variable_on(alloc, scope, line, &actual.1, breaks)?;
+    let formal = types.look_up(key.as_slice());
+    let before = vars.look_up(key.as_slice());
+    judge_formal(line, formal, before, variable, breaks)?;
+    vars.declare(key, plain(variable))?;
+    Ok(())
+}
+
+/// What the formals are given by all actuals.
+fn given_by(
+    alloc: Global,
+    scope: &Scope,
+    line: Line,
+    types: &Table<StType>,
+    actuals: &[(List<u8>, RawVar)],
+    breaks: &mut List<Break>,
+) -> Result<Table<Option<Var>>, NoMemory>
+    ensures vars { IfOk result (λ vars. vars ≡ (given_by scope.now line types.now actuals.now).vars) }
+    ensures breaks { OnOk result (breaks.new ≡ breaks.old ++ (given_by scope.now line types.now actuals.now).breaks) }
+{
+    let mut vars = Table::new(alloc);
+    for actual in actuals {
+        with_actual(alloc, scope, line, types, actual, &mut vars, breaks)?;
+    }
+    Ok(vars)
+}
+
+fn var_given(given: Option<Option<Var>>) -> Option<Var>
+    ensures { result ≡ var_given given }
+{
+    match given {
+        Some(var) => var,
+        None => None,
+    }
+}
+
+fn lacks(vars: &Table<Option<Var>>, keys: &[List<u8>]) -> bool
+    ensures { result ≡ lacks vars.now keys.now }
+{
+    keys.iter()
+        .any(|key| vars.look_up(key.as_slice()).is_none())
+}
+
+fn in_order(
+    alloc: Global,
+    vars: &Table<Option<Var>>,
+    keys: &[List<u8>],
+) -> Result<List<Var>, NoMemory>
+    ensures { IfOk result (λ list. list ≡ in_order vars.now keys.now) }
+{
+    let mut list = List::new(alloc);
+    for key in keys {
+        keep(&mut list, var_given(vars.look_up(key.as_slice())))?;
+    }
+    Ok(list)
+}
+
+fn call_with(
+    alloc: Global,
+    line: Line,
+    position: u32,
+    vars: &Table<Option<Var>>,
+    keys: &[List<u8>],
+    breaks: &mut List<Break>,
+) -> Result<Option<Stmt>, NoMemory>
+    ensures found { IfOk result (λ found. found ≡ (call_with line position vars.now keys.now).found) }
+    ensures breaks { OnOk result (breaks.new ≡ breaks.old ++ (call_with line position vars.now keys.now).breaks) }
+{
+    if lacks(vars, keys) {
+        note(breaks, line, Reason::TypeMismatch)?;
+        return Ok(None);
+    }
+    let list = in_order(alloc, vars, keys)?;
+    Ok(Some(Stmt::Invoke(position, list)))
+}
+
+/// Takes one actual more of a call of what is no function: its name may stand once.
+fn with_name(
+    alloc: Global,
+    scope: &Scope,
+    line: Line,
+    actual: &(List<u8>, RawVar),
+    vars: &mut Table<Option<Var>>,
+    breaks: &mut List<Break>,
+) -> Result<(), NoMemory>
+    ensures vars { OnOk result (vars.new
+        ≡ (with_name scope.now line (record { vars = vars.old; breaks = [] }) actual.now).vars) }
+    ensures breaks { OnOk result (breaks.new ≡ breaks.old
+        ++ (with_name scope.now line (record { vars = vars.old; breaks = [] }) actual.now).breaks) }
+{
+    let key = key_of(alloc, actual.0.as_slice())?;
+    let variable = variable_on(alloc, scope, line, &actual.1, breaks)?;
+    if vars.declare(key, plain(variable))? {
+        Ok(())
+    } else {
+        note(breaks, line, Reason::DuplicateName)
+    }
+}
+
+/// Judges the names and the variables of some actuals, without the formals that they name.
+fn judge_actuals(
+    alloc: Global,
+    scope: &Scope,
+    line: Line,
+    actuals: &[(List<u8>, RawVar)],
+    breaks: &mut List<Break>,
+) -> Result<(), NoMemory>
+    ensures { OnOk result (breaks.new ≡ breaks.old ++ (given_to_none scope.now line actuals.now).breaks) }
+{
+    let mut vars = Table::new(alloc);
+    for actual in actuals {
+        with_name(alloc, scope, line, actual, &mut vars, breaks)?;
+    }
+    Ok(())
+}
+
+fn no_call(
+    alloc: Global,
+    scope: &Scope,
+    line: Line,
+    rule: Reason,
+    actuals: &[(List<u8>, RawVar)],
+    breaks: &mut List<Break>,
+) -> Result<Option<Stmt>, NoMemory>
+    ensures found { IfOk result (λ found. found ≡ (no_call scope.now line rule actuals.now).found) }
+    ensures breaks { OnOk result (breaks.new ≡ breaks.old ++ (no_call scope.now line rule actuals.now).breaks) }
+{
+    note(breaks, line, rule)?;
+    judge_actuals(alloc, scope, line, actuals, breaks)?;
+    Ok(None)
+}
+
+fn call_of(
+    alloc: Global,
+    scope: &Scope,
+    line: Line,
+    position: u32,
+    formals: &Formals,
+    actuals: &[(List<u8>, RawVar)],
+    breaks: &mut List<Break>,
+) -> Result<Option<Stmt>, NoMemory>
+    ensures found { IfOk result (λ found. found
+        ≡ (function_call scope.now line position (Some formals.now) actuals.now).found) }
+    ensures breaks { OnOk result (breaks.new ≡ breaks.old
+        ++ (function_call scope.now line position (Some formals.now) actuals.now).breaks) }
+{
+    let vars = given_by(alloc, scope, line, &formals.types, actuals, breaks)?;
+    call_with(
+        alloc,
+        line,
+        position,
+        &vars,
+        formals.keys.as_slice(),
+        breaks,
+    )
+}
+
+/// A call as it is written; notes the rules that are broken in it.
+pub fn invocation(
+    alloc: Global,
+    scope: &Scope,
+    line: Line,
+    name: &List<u8>,
+    actuals: &[(List<u8>, RawVar)],
+    breaks: &mut List<Break>,
+) -> Result<Option<Stmt>, NoMemory>
+    ensures found { IfOk result (λ found. found ≡ (invocation scope.now line name.now actuals.now).found) }
+    ensures breaks { OnOk result (breaks.new ≡ breaks.old ++ (invocation scope.now line name.now actuals.now).breaks) }
+{
+    let key = key_of(alloc, name.as_slice())?;
+    match callee(scope.meaning(key.as_slice())) {
+        Err(rule) => no_call(alloc, scope, line, rule, actuals, breaks),
+        Ok(position) => match scope.formals.as_slice().get(position as usize) {
+            Some(formals) => call_of(alloc, scope, line, position, formals, actuals, breaks),
+            None => no_call(alloc, scope, line, Reason::TypeMismatch, actuals, breaks),
+        },
+    }
+}

@@ -1,0 +1,362 @@
+//! Statements: what they are in the tree, and the rules that are broken in them.
+ghost use Rattle.std.specs.Prelude.{◌≡◌, ◌++◌, map, IfOk, OnOk};
+ghost use Rattle.st_rules.specs.Broken.{breaks_in, found_in};
+ghost use Rattle.st_rules.specs.Statements.{action, area_write_of, arm, arm_of, arms_on, assignment_of, case_arm, case_arms_on, case_of, have_type, label_breaks, selector, selector_of, statement, statements, test, test_of, type_of_selector, while_of};
+
+use crate::expression::{expression, variable_on};
+use crate::invocation::invocation;
+use s7_base::{Boxed, Line, List, NoMemory, Reason, Width};
+use st_rules::broken::{Break, note};
+use st_rules::expression::Typed;
+use st_rules::lists::keep;
+use st_rules::scope::Scope;
+use st_rules::types::{is_selector, is_type};
+use st_rules::variable::TypedVar;
+use st_tree::{
+    Arm, CaseArm, Expr, RawArm, RawCaseArm, RawExpr, RawStmt, RawStmtKind, StType, Stmt,
+    type_of_width,
+};
+use std::alloc::Global;
+
+fn assignment_of(
+    line: Line,
+    target: Option<TypedVar>,
+    value: Option<Typed>,
+    breaks: &mut List<Break>,
+) -> Result<Option<Stmt>, NoMemory>
+    ensures found { IfOk result (λ found. found ≡ (assignment_of line target value).found) }
+    ensures breaks { OnOk result (breaks.new ≡ breaks.old ++ (assignment_of line target value).breaks) }
+{
+    let Some(target) = target else {
+        return Ok(None);
+    };
+    let Some(value) = value else {
+        return Ok(None);
+    };
+    if is_type(target.ty, value.ty) {
+        Ok(Some(Stmt::Assign(target.var, value.tree)))
+    } else {
+        note(breaks, line, Reason::TypeMismatch)?;
+        Ok(None)
+    }
+}
+
+fn area_write_of(
+    alloc: Global,
+    line: Line,
+    width: Width,
+    pointer: Option<Typed>,
+    value: Option<Typed>,
+    breaks: &mut List<Break>,
+) -> Result<Option<Stmt>, NoMemory>
+    ensures found { IfOk result (λ found. found ≡ (area_write_of line width pointer value).found) }
+    ensures breaks { OnOk result (breaks.new ≡ breaks.old ++ (area_write_of line width pointer value).breaks) }
+{
+    let Some(pointer) = pointer else {
+        return Ok(None);
+    };
+    let Some(value) = value else {
+        return Ok(None);
+    };
+    if is_type(pointer.ty, StType::Dword) && is_type(value.ty, type_of_width(width)) {
+        let pointer = Boxed::new(alloc, pointer.tree)?;
+        Ok(Some(Stmt::AreaWrite(width, pointer, Boxed::new(alloc, value.tree)?)))
+    } else {
+        note(breaks, line, Reason::TypeMismatch)?;
+        Ok(None)
+    }
+}
+
+fn test_of(
+    line: Line,
+    value: Option<Typed>,
+    breaks: &mut List<Break>,
+) -> Result<Option<Expr>, NoMemory>
+    ensures found { IfOk result (λ found. found ≡ (test_of line value).found) }
+    ensures breaks { OnOk result (breaks.new ≡ breaks.old ++ (test_of line value).breaks) }
+{
+    let Some(value) = value else {
+        return Ok(None);
+    };
+    if is_type(value.ty, StType::Bool) {
+        Ok(Some(value.tree))
+    } else {
+        note(breaks, line, Reason::TypeMismatch)?;
+        Ok(None)
+    }
+}
+
+fn test(
+    alloc: Global,
+    scope: &Scope,
+    line: Line,
+    raw: &RawExpr,
+    breaks: &mut List<Break>,
+) -> Result<Option<Expr>, NoMemory>
+    ensures found { IfOk result (λ found. found ≡ (test scope.now line raw.now).found) }
+    ensures breaks { OnOk result (breaks.new ≡ breaks.old ++ (test scope.now line raw.now).breaks) }
+{
+    let value = expression(alloc, scope, line, raw, breaks)?;
+    test_of(line, value, breaks)
+}
+
+fn selector_of(
+    line: Line,
+    value: Option<Typed>,
+    breaks: &mut List<Break>,
+) -> Result<Option<Typed>, NoMemory>
+    ensures found { IfOk result (λ found. found ≡ (selector_of line value).found) }
+    ensures breaks { OnOk result (breaks.new ≡ breaks.old ++ (selector_of line value).breaks) }
+{
+    let Some(value) = value else {
+        return Ok(None);
+    };
+    if is_selector(value.ty) {
+        Ok(Some(value))
+    } else {
+        note(breaks, line, Reason::TypeMismatch)?;
+        Ok(None)
+    }
+}
+
+fn selector(
+    alloc: Global,
+    scope: &Scope,
+    line: Line,
+    raw: &RawExpr,
+    breaks: &mut List<Break>,
+) -> Result<Option<Typed>, NoMemory>
+    ensures found { IfOk result (λ found. found ≡ (selector scope.now line raw.now).found) }
+    ensures breaks { OnOk result (breaks.new ≡ breaks.old ++ (selector scope.now line raw.now).breaks) }
+{
+    let value = expression(alloc, scope, line, raw, breaks)?;
+    selector_of(line, value, breaks)
+}
+
+fn type_of_selector(selector: &Option<Typed>) -> Option<StType>
+    ensures { result ≡ type_of_selector selector.now }
+{
+    match selector {
+        Some(value) => Some(value.ty),
+        None => None,
+    }
+}
+
+fn have_type(ty: StType, labels: &[(StType, i64)]) -> bool
+    ensures { result ≡ have_type ty labels.now }
+{
+    labels.iter().all(|label| is_type(label.0, ty))
+}
+
+fn judge_labels(
+    line: Line,
+    selector: Option<StType>,
+    labels: &[(StType, i64)],
+    breaks: &mut List<Break>,
+) -> Result<(), NoMemory>
+    ensures { OnOk result (breaks.new ≡ breaks.old ++ label_breaks line selector labels.now) }
+{
+    match selector {
+        None => Ok(()),
+        Some(ty) => {
+            if have_type(ty, labels) {
+                Ok(())
+            } else {
+                note(breaks, line, Reason::TypeMismatch)
+            }
+        }
+    }
+}
+
+fn values_of(alloc: Global, labels: &[(StType, i64)]) -> Result<List<i64>, NoMemory>
+    ensures { IfOk result (λ values. values ≡ map (λ label. label.1) labels.now) }
+{
+    let mut values = List::new(alloc);
+    for label in labels {
+        values.push(label.1)?;
+    }
+    Ok(values)
+}
+
+fn arm_of(test: Option<Expr>, body: List<Stmt>) -> Option<Arm>
+    ensures { result ≡ arm_of test body }
+{
+    match test {
+        Some(test) => Some(Arm { test, body }),
+        None => None,
+    }
+}
+
+fn while_of(test: Option<Expr>, body: List<Stmt>) -> Option<Stmt>
+    ensures { result ≡ while_of test body }
+{
+    match test {
+        Some(test) => Some(Stmt::While(test, body)),
+        None => None,
+    }
+}
+
+fn case_of(selector: Option<Typed>, arms: List<CaseArm>, other: List<Stmt>) -> Option<Stmt>
+    ensures { result ≡ case_of selector arms other }
+{
+    match selector {
+        Some(selector) => Some(Stmt::Case(selector.tree, arms, other)),
+        None => None,
+    }
+}
+
+#[cycle(judge)]
+fn arm(
+    alloc: Global,
+    scope: &Scope,
+    line: Line,
+    raw: &RawArm,
+    breaks: &mut List<Break>,
+) -> Result<Option<Arm>, NoMemory>
+    ensures found { IfOk result (λ found. found ≡ (arm scope.now raw.now line).found) }
+    ensures breaks { OnOk result (breaks.new ≡ breaks.old ++ (arm scope.now raw.now line).breaks) }
+{
+    let test = test(alloc, scope, line, &raw.test, breaks)?;
+    let body = statements(alloc, scope, raw.body.as_slice(), breaks)?;
+    Ok(arm_of(test, body))
+}
+
+#[cycle(judge)]
+fn arms(
+    alloc: Global,
+    scope: &Scope,
+    line: Line,
+    raws: &[RawArm],
+    breaks: &mut List<Break>,
+) -> Result<List<Arm>, NoMemory>
+    ensures found { IfOk result (λ arms. arms ≡ found_in (arms_on line (map (arm scope.now) raws.now))) }
+    ensures breaks { OnOk result (breaks.new ≡ breaks.old ++ breaks_in (arms_on line (map (arm scope.now) raws.now))) }
+{
+    let mut arms = List::new(alloc);
+    for raw in raws {
+        let found = arm(alloc, scope, line, raw, breaks)?;
+        keep(&mut arms, found)?;
+    }
+    Ok(arms)
+}
+
+#[cycle(judge)]
+fn case_arm(
+    alloc: Global,
+    scope: &Scope,
+    line: Line,
+    selector: Option<StType>,
+    raw: &RawCaseArm,
+    breaks: &mut List<Break>,
+) -> Result<Option<CaseArm>, NoMemory>
+    ensures found { IfOk result (λ found. found ≡ (case_arm scope.now raw.now line selector).found) }
+    ensures breaks { OnOk result (breaks.new ≡ breaks.old ++ (case_arm scope.now raw.now line selector).breaks) }
+{
+    judge_labels(line, selector, raw.labels.as_slice(), breaks)?;
+    let labels = values_of(alloc, raw.labels.as_slice())?;
+    let body = statements(alloc, scope, raw.body.as_slice(), breaks)?;
+    Ok(Some(CaseArm { labels, body }))
+}
+
+#[cycle(judge)]
+fn case_arms(
+    alloc: Global,
+    scope: &Scope,
+    line: Line,
+    selector: Option<StType>,
+    raws: &[RawCaseArm],
+    breaks: &mut List<Break>,
+) -> Result<List<CaseArm>, NoMemory>
+    ensures found { IfOk result (λ arms. arms
+        ≡ found_in (case_arms_on line selector (map (case_arm scope.now) raws.now))) }
+    ensures breaks { OnOk result (breaks.new ≡ breaks.old
+        ++ breaks_in (case_arms_on line selector (map (case_arm scope.now) raws.now))) }
+{
+    let mut arms = List::new(alloc);
+    for raw in raws {
+        let found = case_arm(alloc, scope, line, selector, raw, breaks)?;
+        keep(&mut arms, found)?;
+    }
+    Ok(arms)
+}
+
+/// A list of statements; notes the rules that are broken in them.
+#[cycle(judge)]
+pub fn statements(
+    alloc: Global,
+    scope: &Scope,
+    raws: &[RawStmt],
+    breaks: &mut List<Break>,
+) -> Result<List<Stmt>, NoMemory>
+    ensures found { IfOk result (λ body. body ≡ found_in (statements scope.now raws.now)) }
+    ensures breaks { OnOk result (breaks.new ≡ breaks.old ++ breaks_in (statements scope.now raws.now)) }
+{
+    let mut body = List::new(alloc);
+    for raw in raws {
+        let found = statement(alloc, scope, raw, breaks)?;
+        keep(&mut body, found)?;
+    }
+    Ok(body)
+}
+
+#[cycle(judge)]
+fn statement(
+    alloc: Global,
+    scope: &Scope,
+    raw: &RawStmt,
+    breaks: &mut List<Break>,
+) -> Result<Option<Stmt>, NoMemory>
+    ensures found { IfOk result (λ found. found ≡ (statement scope.now raw.now).found) }
+    ensures breaks { OnOk result (breaks.new ≡ breaks.old ++ (statement scope.now raw.now).breaks) }
+{
+    action(alloc, scope, raw.line, &raw.kind, breaks)
+}
+
+/// What a statement does, on its line.
+#[cycle(judge)]
+fn action(
+    alloc: Global,
+    scope: &Scope,
+    line: Line,
+    raw: &RawStmtKind,
+    breaks: &mut List<Break>,
+) -> Result<Option<Stmt>, NoMemory>
+    ensures found { IfOk result (λ found. found ≡ (action scope.now raw.now line).found) }
+    ensures breaks { OnOk result (breaks.new ≡ breaks.old ++ (action scope.now raw.now line).breaks) }
+{
+    match raw {
+        RawStmtKind::Assign(target, value) => {
+            let target = variable_on(alloc, scope, line, target, breaks)?;
+            let value = expression(alloc, scope, line, value, breaks)?;
+            assignment_of(line, target, value, breaks)
+        }
+        RawStmtKind::AreaWrite(width, pointer, value) => {
+            let pointer = expression(alloc, scope, line, pointer.get(), breaks)?;
+            let value = expression(alloc, scope, line, value.get(), breaks)?;
+            area_write_of(alloc, line, *width, pointer, value, breaks)
+        }
+        RawStmtKind::Invoke(name, actuals) => {
+            invocation(alloc, scope, line, name, actuals.as_slice(), breaks)
+        }
+        RawStmtKind::If(raws, other) => {
+            let arms = arms(alloc, scope, line, raws.as_slice(), breaks)?;
+            let other = statements(alloc, scope, other.as_slice(), breaks)?;
+            Ok(Some(Stmt::If(arms, other)))
+        }
+        RawStmtKind::Case(value, raws, other) => {
+            let selector = selector(alloc, scope, line, value, breaks)?;
+            let ty = type_of_selector(&selector);
+            let arms = case_arms(alloc, scope, line, ty, raws.as_slice(), breaks)?;
+            let other = statements(alloc, scope, other.as_slice(), breaks)?;
+            Ok(case_of(selector, arms, other))
+        }
+        RawStmtKind::While(value, raws) => {
+            let test = test(alloc, scope, line, value, breaks)?;
+            let body = statements(alloc, scope, raws.as_slice(), breaks)?;
+            Ok(while_of(test, body))
+        }
+        RawStmtKind::Exit => Ok(Some(Stmt::Exit)),
+        RawStmtKind::Continue => Ok(Some(Stmt::Continue)),
+        RawStmtKind::Return => Ok(Some(Stmt::Return)),
+    }
+}

@@ -1,7 +1,0 @@
-use Rattle.std.proofs.Common.{◌≡◌, take}
-use Rattle.std.specs.List.{fold}
-use Rattle.st_types.specs.Declarations.{no_inside, with_formal}
-use Rattle.st_types.proofs.declaration.inside_formals.Given as goal
-
-abbrev pub invariant-loop-formal : goal.invariant-loop-formal
-invariant-loop-formal l = l.declared ≡ fold with_formal no_inside (take l.formal-index l.formals)

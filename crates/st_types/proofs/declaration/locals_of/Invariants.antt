@@ -1,6 +1,0 @@
-use Rattle.std.proofs.Common.{◌≡◌, take}
-use Rattle.st_types.specs.Declarations.{locals_of}
-use Rattle.st_types.proofs.declaration.locals_of.Given as goal
-
-abbrev pub invariant-loop-local : goal.invariant-loop-local
-invariant-loop-local l = l.all ≡ locals_of (take l.local-index l.locals)

@@ -1,7 +1,0 @@
-use Rattle.std.proofs.Common.{◌≡◌, take}
-use Rattle.std.specs.List.{fold}
-use Rattle.st_types.specs.Declarations.{no_outside, with_global}
-use Rattle.st_types.proofs.declaration.outside_globals.Given as goal
-
-abbrev pub invariant-loop-global : goal.invariant-loop-global
-invariant-loop-global l = l.declared ≡ fold with_global no_outside (take l.global-index l.globals)

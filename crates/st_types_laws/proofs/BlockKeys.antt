@@ -1,0 +1,173 @@
+-- Keys of data blocks with one number are the same.
+use Rattle.std.proofs.Common.{◌≡◌, ◌<◌, ◌≤◌, ◌+◌, ◌*◌, ◌-◌, ◌^◌, ℕ, zero, suc, min, Bool, true, false, cond, ◌&&◌, ◌==◌, nat_le, nat_lt, List, [], ◌∷◌, map, drop, length, refl, sym, ap, subst, ◌∙◌, arith}
+use Rattle.std.specs.List.{list_all}
+use Rattle.std.specs.Char.{to_ascii_uppercase}
+use Rattle.std.proofs.Math.Nat.{le-min, min-le_right, min-eq_left, min-eq_right}
+use Rattle.std.proofs.lemmas.Bool.{eqb-false, leb-true, leb-false, ltb-true, ltb-false}
+use Rattle.st_rules.specs.Globals.{block_number, number_from, number_in}
+use Rattle.st_rules.specs.Names.{is_block_name, is_digit, is_number, key_of, without_zeros, zeros_before}
+
+pub both : (a b : Bool) → (a && b) ≡ true → (a ≡ true) × (b ≡ true)
+both true b h = (refl, h)
+both false b h = absurd cc
+
+pub digit : (b : ℕ) → is_digit b ≡ true → (48 ≤ b) × (b ≤ 57)
+digit b h = let t = both (nat_le 48 b) (nat_le b 57) h in (leb-true 48 b t.0, leb-true b 57 t.1)
+
+-- Numbers from digits
+
+-- the greatest number that is kept
+abbrev most : ℕ
+most = 2 ^ 32 - 1
+
+-- a number with one digit more
+abbrev with_digit : ℕ → ℕ → ℕ
+with_digit v d = min (v * 10 + (d - 48)) (2 ^ 32 - 1)
+
+kept : (v d : ℕ) → with_digit v d ≤ most
+kept v d = min-le_right (v * 10 + (d - 48)) most
+
+-- a number below the greatest one is no other number that is kept as that
+in_full : (x m : ℕ) → min x m < m → min x m ≡ x
+in_full x m h = by_size (nat_le x m) refl
+  where
+    by_size : (t : Bool) → nat_le x m ≡ t → min x m ≡ x
+    by_size true e = min-eq_left (leb-true x m e)
+    by_size false e =
+        let above : m < x = leb-false x m e in
+        let same : min x m ≡ m = min-eq_right (omega (arith, above)) in
+        absurd (omega (arith, same, h))
+
+-- with more digits no number grows less
+grows : (ds : List ℕ) (v : ℕ) → v ≤ most → v ≤ number_from v ds
+grows [] v h = omega arith
+grows (d ∷ ds) v h =
+    let up : v ≤ with_digit v d = le-min (omega arith) h in
+    let rest : with_digit v d ≤ number_from (with_digit v d) ds = grows ds (with_digit v d) (kept v d) in
+    omega (arith, up, rest)
+
+-- what a digit adds to a number is in it, where the number from it and more digits is below the greatest one
+adds : (ds : List ℕ) (v d : ℕ) → number_from (with_digit v d) ds < most → with_digit v d ≡ v * 10 + (d - 48)
+adds ds v d h =
+    let rest : with_digit v d ≤ number_from (with_digit v d) ds = grows ds (with_digit v d) (kept v d) in
+    in_full (v * 10 + (d - 48)) most (omega (arith, rest, h))
+
+-- as many digits of one number are the same, and so is what stands before them
+aligned : (ds es : List ℕ) (v w : ℕ) → list_all is_digit ds ≡ true → list_all is_digit es ≡ true → length ds ≡ length es → number_from v ds ≡ number_from w es
+    → number_from v ds < most → (v ≡ w) × (ds ≡ es)
+aligned [] [] v w a b size same small = (same, refl)
+aligned [] (e ∷ es) v w a b size same small = absurd (omega (arith, size))
+aligned (d ∷ ds) [] v w a b size same small = absurd (omega (arith, size))
+aligned (d ∷ ds) (e ∷ es) v w a b size same small =
+    let a = both (is_digit d) (list_all is_digit ds) a in
+    let b = both (is_digit e) (list_all is_digit es) b in
+    let rest = aligned ds es (with_digit v d) (with_digit w e) a.1 b.1 (omega (arith, size)) same small in
+    let other : number_from (with_digit w e) es < most = subst (λ n. n < most) same small in
+    let head : v * 10 + (d - 48) ≡ w * 10 + (e - 48) = sym (adds ds v d small) ∙ rest.0 ∙ adds es w e other in
+    let p = digit d a.0 in
+    let q = digit e b.0 in
+    let first : d ≡ e = omega (arith, head, p.0, p.1, q.0, q.1) in
+    (omega (arith, head, p.0, p.1, q.0, q.1), ap (λ x. x ∷ ds) first ∙ ap (λ xs. e ∷ xs) rest.1)
+
+-- digits of one number with more before them have zero before them
+longer : (k : ℕ) (ds es : List ℕ) (v : ℕ) → list_all is_digit ds ≡ true → list_all is_digit es ≡ true → length ds ≡ k + length es → number_from v ds ≡ number_from 0 es
+    → number_from v ds < most → v ≡ 0
+longer zero ds es v a b size same small = (aligned ds es v 0 a b (omega (arith, size)) same small).0
+longer (suc k) [] es v a b size same small = absurd (omega (arith, size))
+longer (suc k) (d ∷ ds) es v a b size same small =
+    let a = both (is_digit d) (list_all is_digit ds) a in
+    let rest : with_digit v d ≡ 0 = longer k ds es (with_digit v d) a.1 b (omega (arith, size)) same small in
+    omega (arith, adds ds v d small, rest)
+
+-- the digits of a number, without a zero before them
+record AreDigits (n : ℕ) (ds : List ℕ) : Type 0 where
+  digits : list_all is_digit ds ≡ true
+  plain : (rest : List ℕ) → ds ≡ 48 ∷ rest → ⊥
+  worth : number_from 0 ds ≡ n
+
+no_longer : (n k : ℕ) (ds es : List ℕ) → n < most → AreDigits n ds → AreDigits n es → length ds ≡ suc k + length es → ⊥
+no_longer n k [] es small a b size = omega (arith, size)
+no_longer n k (d ∷ ds) es small a b size =
+    let t = both (is_digit d) (list_all is_digit ds) a.digits in
+    let below : number_from (with_digit 0 d) ds < most = omega (arith, small, a.worth) in
+    let zero_first : with_digit 0 d ≡ 0 = longer k ds es (with_digit 0 d) t.1 b.digits (omega (arith, size)) (a.worth ∙ sym b.worth) below in
+    let p = digit d t.0 in
+    let first : d ≡ 48 = omega (arith, adds ds 0 d below, zero_first, p.0) in
+    a.plain ds (ap (λ x. x ∷ ds) first)
+
+one_list : (n : ℕ) (ds es : List ℕ) → n < most → AreDigits n ds → AreDigits n es → ds ≡ es
+one_list n ds es small a b = by_sizes (nat_lt (length ds) (length es)) (nat_lt (length es) (length ds)) refl refl
+  where
+    by_sizes : (t u : Bool) → nat_lt (length ds) (length es) ≡ t → nat_lt (length es) (length ds) ≡ u → ds ≡ es
+    by_sizes true u f g = absurd (no_longer n (length es - length ds - 1) es ds small b a (omega (arith, ltb-true (length ds) (length es) f)))
+    by_sizes false true f g = absurd (no_longer n (length ds - length es - 1) ds es small a b (omega (arith, ltb-true (length es) (length ds) g)))
+    by_sizes false false f g =
+        let size : length ds ≡ length es = omega (arith, ltb-false (length ds) (length es) f, ltb-false (length es) (length ds) g) in
+        (aligned ds es 0 0 a.digits b.digits size (a.worth ∙ sym b.worth) (omega (arith, small, a.worth))).1
+
+-- Keys
+
+-- the key of a data block of a number
+pub record IsKey (n : ℕ) (key : List ℕ) : Type 0 where
+  digits : List ℕ
+  named : key ≡ 68 ∷ 66 ∷ digits
+  sound : AreDigits n digits
+
+pub one_key : (n : ℕ) (k l : List ℕ) → n ≤ 65535 → IsKey n k → IsKey n l → k ≡ l
+one_key n k l small a b = a.named ∙ ap (λ ds. 68 ∷ 66 ∷ ds) (one_list n a.digits b.digits (omega (arith, small)) a.sound b.sound) ∙ sym b.named
+
+-- zeros that stand before others are left out
+left_out : (d e : ℕ) (ds : List ℕ) (z l k : ℕ) → l ≡ k + 1 → drop (min (1 + z) l) (d ∷ e ∷ ds) ≡ drop (min z k) (e ∷ ds)
+left_out d e ds z l k h = let m : min (1 + z) l ≡ suc (min z k) = omega (arith, h) in ap (λ n. drop n (d ∷ e ∷ ds)) m
+
+fewer : (d e : ℕ) (ds : List ℕ) → (d == 48) ≡ true → without_zeros (d ∷ e ∷ ds) ≡ without_zeros (e ∷ ds)
+fewer d e ds h =
+    ap (λ t. drop (min (cond t (1 + zeros_before (e ∷ ds)) 0) (length (d ∷ e ∷ ds) - 1)) (d ∷ e ∷ ds)) h
+    ∙ left_out d e ds (zeros_before (e ∷ ds)) (length (d ∷ e ∷ ds) - 1) (length (e ∷ ds) - 1) (omega arith)
+
+no_fewer : (d e : ℕ) (ds : List ℕ) → (d == 48) ≡ false → without_zeros (d ∷ e ∷ ds) ≡ d ∷ e ∷ ds
+no_fewer d e ds h =
+    let m : min 0 (length (d ∷ e ∷ ds) - 1) ≡ 0 = omega arith in
+    ap (λ t. drop (min (cond t (1 + zeros_before (e ∷ ds)) 0) (length (d ∷ e ∷ ds) - 1)) (d ∷ e ∷ ds)) h ∙ ap (λ n. drop n (d ∷ e ∷ ds)) m
+
+single : (d z : ℕ) → drop (min z 0) (d ∷ []) ≡ d ∷ []
+single d z = let m : min z 0 ≡ 0 = omega arith in ap (λ n. drop n (d ∷ [])) m
+
+-- one zero alone may stand first
+zero_alone : (ds rest : List ℕ) → without_zeros ds ≡ 48 ∷ rest → rest ≡ []
+zero_alone [] rest h = absurd cc
+zero_alone (d ∷ []) rest h = sym (ap (drop 1) (sym (single d (zeros_before (d ∷ []))) ∙ h))
+zero_alone (d ∷ e ∷ ds) rest h = by_test (d == 48) refl (λ q. zero_alone (e ∷ ds) rest q)
+  where
+    by_test : (t : Bool) → (d == 48) ≡ t → (without_zeros (e ∷ ds) ≡ 48 ∷ rest → rest ≡ []) → rest ≡ []
+    by_test true f more = more (sym (fewer d e ds f) ∙ h)
+    by_test false f more =
+        let same : d ∷ e ∷ ds ≡ 48 ∷ rest = sym (no_fewer d e ds f) ∙ h in
+        let first : d ≡ 48 = cc in
+        absurd (eqb-false d 48 f first)
+
+-- a name that is the key of a data block has a plain number
+has_plain : (n : ℕ) (capitals : List ℕ) (t : Bool) → is_block_name capitals ≡ t → number_in (cond t (68 ∷ 66 ∷ without_zeros (drop 2 capitals)) capitals) ≡ n → 1 ≤ n
+    → IsKey n (cond t (68 ∷ 66 ∷ without_zeros (drop 2 capitals)) capitals)
+has_plain n capitals false e h some =
+    let none : number_in capitals ≡ 0 = ap (λ t. cond t (number_from 0 (drop 2 capitals)) 0) e in
+    absurd (omega (arith, none, h, some))
+has_plain n capitals true e h some = by_test (is_number ds) refl h
+  where
+    ds : List ℕ
+    ds = without_zeros (drop 2 capitals)
+
+    by_test : (t : Bool) → is_number ds ≡ t → cond t (number_from 0 ds) 0 ≡ n → IsKey n (68 ∷ 66 ∷ ds)
+    by_test false f g = absurd (omega (arith, g, some))
+    by_test true f g = record { digits = ds; named = refl; sound = record { digits = (both (nat_lt 0 (length ds)) (list_all is_digit ds) f).1; plain = plain; worth = g } }
+      where
+        plain : (rest : List ℕ) → ds ≡ 48 ∷ rest → ⊥
+        plain rest q =
+            let alone : ds ≡ 48 ∷ [] = q ∙ ap (λ xs. 48 ∷ xs) (zero_alone (drop 2 capitals) rest q) in
+            let zero_worth : number_from 0 ds ≡ 0 = ap (number_from 0) alone in
+            omega (arith, zero_worth, g, some)
+
+-- the key of a name that has the number of a data block
+pub is_key : (n : ℕ) (name : List ℕ) → block_number name ≡ n → 1 ≤ n → IsKey n (key_of name)
+unfolding key_of
+is_key n name h some = let capitals = map to_ascii_uppercase name in has_plain n capitals (is_block_name capitals) refl h some

@@ -1,0 +1,417 @@
+-- What names mean by the declarations of a tree, and that they mean the same in a text that has the tree.
+use Rattle.std.proofs.Common.{◌≡◌, ◌+◌, ℕ, Bool, true, false, not, cond, ◌&&◌, nat_lt, List, [], ◌∷◌, ◌++◌, length, Option, Some, None, is_some, refl, sym, ap, subst, ◌∙◌, arith, length-append}
+use Rattle.std.specs.Prelude.{codes, decimal}
+use Rattle.std.specs.List.{fold}
+use Rattle.std.proofs.lemmas.List.{append-nil, append_assoc}
+use Rattle.memory_areas.specs.declared.data_block.DataBlock.{DataBlock}
+use Rattle.memory_areas.specs.declared.place.Area.{Area}
+use Rattle.memory_areas.specs.declared.place.Area.TheVariants as place
+use Rattle.memory_areas.specs.declared.place.AreaName.{AreaName}
+use Rattle.memory_areas.specs.declared.place.AreaName.TheVariants as area
+use Rattle.memory_areas.specs.declared.sizes.TheConstants.{MOST_BLOCKS}
+use Rattle.s7_base.specs.declared.reason.Line.{Line}
+use Rattle.s7_base.specs.declared.reason.Reason.{Reason}
+use Rattle.s7_base.specs.declared.reason.Reason.TheVariants.{TooLarge}
+use Rattle.s7_base.specs.declared.word.Width.{Width}
+use Rattle.s7_base.specs.declared.word.Width.TheVariants as width
+use Rattle.st_tree.specs.Values.{width_at}
+use Rattle.st_tree.specs.declared.expr.StType.{StType}
+use Rattle.st_tree.specs.declared.expr.StType.TheVariants as st
+use Rattle.st_tree.specs.declared.program.Local.{Local}
+use Rattle.st_tree.specs.declared.program.Located.{Located}
+use Rattle.st_tree.specs.declared.program.Pou.{Pou}
+use Rattle.st_tree.specs.declared.program.StProgram.{StProgram}
+use Rattle.st_tree.specs.declared.raw.RawGlobal.{RawGlobal}
+use Rattle.st_tree.specs.declared.raw.RawGlobalType.{RawGlobalType}
+use Rattle.st_tree.specs.declared.raw.RawGlobalType.TheVariants as type
+use Rattle.st_tree.specs.declared.raw.RawLocal.{RawLocal}
+use Rattle.st_tree.specs.declared.raw.RawPou.{RawPou}
+use Rattle.st_tree.specs.declared.raw.RawVar.{RawVar}
+use Rattle.st_tree.specs.declared.raw.RawVar.TheVariants as var
+use Rattle.st_rules.specs.Broken.{broken, listed, twice}
+use Rattle.st_rules.specs.Declarations.{all_inside, meaning_of_unit, no_inside, one_if, one_too_many, with_formal, with_global, with_local, with_unit}
+use Rattle.st_rules.specs.Globals.{all_global_breaks, all_located, area_of, block_at, block_breaks, block_number, block_of, contents, fits_type, global_breaks, has_address, has_block_address, has_block_form, inserted, is_small_enough, located_at, located_in, located_of, unless, with_block}
+use Rattle.st_rules.specs.Names.{Table, key_of, look_up, with_entry}
+use Rattle.st_rules.specs.Types.{has_width}
+use Rattle.st_rules.specs.Variables.{is_address}
+use Rattle.st_rules.specs.declared.declaration.Inside.{Inside}
+use Rattle.st_rules.specs.declared.declaration.Outside.{Outside}
+use Rattle.st_rules.specs.declared.scope.Meaning.{Meaning}
+use Rattle.st_rules.specs.declared.scope.Meaning.TheVariants as meaning
+use Rattle.st_types_laws.proofs.Apart.{Lists, declared_between, declared_last}
+use Rattle.st_types_laws.proofs.BlockKeys.{both}
+use Rattle.st_types_laws.proofs.BlockSizes.{IsBlock, is_block}
+use Rattle.st_types_laws.proofs.BodyCosts.{nil_first, nil_second}
+use Rattle.st_types_laws.proofs.DataBlocks.{before_globals, before_units, one_more}
+use Rattle.st_types_laws.proofs.PlainNumbers.{key_by_number}
+use Rattle.st_types_laws.proofs.Redeclared.{AreLocalsAt, AreUnitsAt, location_of, name_of_area}
+
+-- What names mean
+
+-- the names of data blocks
+abbrev pub block_entries : List DataBlock → Table Meaning
+block_entries [] = []
+block_entries (b ∷ bs) = (key_of (codes "DB" ++ decimal b.number), meaning.Block) ∷ block_entries bs
+
+-- the names of other globals, of which so many stand before them
+abbrev pub located_entries : ℕ → List Located → Table Meaning
+located_entries i [] = []
+located_entries i (l ∷ ls) = (key_of l.name, meaning.Global i l.ty) ∷ located_entries (i + 1) ls
+
+-- the names of units
+abbrev pub unit_entries : ℕ → List Pou → Table Meaning
+unit_entries i [] = []
+unit_entries i (p ∷ ps) = (key_of p.name, meaning_of_unit i p.program) ∷ unit_entries (i + 1) ps
+
+-- all names outside the units of a tree
+abbrev pub outer_entries : StProgram → Table Meaning
+outer_entries t = block_entries t.dbs ++ (located_entries 0 t.globals ++ unit_entries 0 t.pous)
+
+-- the names of formals and of locals
+abbrev pub formal_entries : ℕ → List Local → Table Meaning
+formal_entries i [] = []
+formal_entries i (l ∷ ls) = (key_of l.name, meaning.Formal i l.ty) ∷ formal_entries (i + 1) ls
+
+abbrev pub local_entries : ℕ → List Local → Table Meaning
+local_entries i [] = []
+local_entries i (l ∷ ls) = (key_of l.name, meaning.Local i l.ty) ∷ local_entries (i + 1) ls
+
+-- all names in a unit
+abbrev pub inner_entries : Pou → Table Meaning
+inner_entries p = formal_entries 0 p.formals ++ local_entries 0 p.locals
+
+blocks_joined : (xs ys : List DataBlock) → block_entries (xs ++ ys) ≡ block_entries xs ++ block_entries ys
+blocks_joined [] ys = refl
+blocks_joined (x ∷ xs) ys = ap (λ es. (key_of (codes "DB" ++ decimal x.number), meaning.Block) ∷ es) (blocks_joined xs ys)
+
+-- one global more goes last
+located_last : (i : ℕ) (ls : List Located) (l : Located) → located_entries i (ls ++ l ∷ []) ≡ located_entries i ls ++ (key_of l.name, meaning.Global (i + length ls) l.ty) ∷ []
+located_last i [] l = let e : i ≡ i + 0 = omega arith in ap (λ n. (key_of l.name, meaning.Global n l.ty) ∷ []) e
+located_last i (x ∷ ls) l =
+    let e : i + 1 + length ls ≡ i + length (x ∷ ls) = omega arith in
+    ap (λ es. (key_of x.name, meaning.Global i x.ty) ∷ es) (located_last (i + 1) ls l)
+    ∙ ap (λ n. (key_of x.name, meaning.Global i x.ty) ∷ (located_entries (i + 1) ls ++ (key_of l.name, meaning.Global n l.ty) ∷ [])) e
+
+-- Parts of a tree
+
+-- each data block has a number and a size that one may have
+abbrev pub AreNumbered : List DataBlock → Type 0
+AreNumbered [] = Unit {0}
+AreNumbered (b ∷ bs) = IsBlock b.number b × AreNumbered bs
+
+-- a global's own location is one that it may have
+pub record IsPlaced (l : Located) : Type 0 where
+  pub address : has_address (location_of l) ≡ true
+  pub fits : fits_type l.ty (location_of l) ≡ true
+  pub found : located_at l.name l.ty (location_of l) ≡ Some l
+
+abbrev pub ArePlaced : List Located → Type 0
+ArePlaced [] = Unit {0}
+ArePlaced (l ∷ ls) = IsPlaced l × ArePlaced ls
+
+placed_also : (ls : List Located) (l : Located) → ArePlaced ls → IsPlaced l → ArePlaced (ls ++ l ∷ [])
+placed_also [] l h p = (p, tt)
+placed_also (x ∷ ls) l h p = (h.0, placed_also ls l h.1 p)
+
+numbered_also : (b : DataBlock) (bs : List DataBlock) → IsBlock b.number b → AreNumbered bs → AreNumbered (inserted b bs)
+numbered_also b [] i h = (i, tt)
+numbered_also b (c ∷ cs) i h = by (nat_lt c.number b.number) (numbered_also b cs i h.1)
+  where
+    by : (t : Bool) → AreNumbered (inserted b cs) → AreNumbered (cond t (c ∷ inserted b cs) (b ∷ c ∷ cs))
+    by true more = (h.0, more)
+    by false more = (i, h)
+
+-- where one data block more goes
+record IsPut (b : DataBlock) (old new : List DataBlock) : Type 0 where
+  before : List DataBlock
+  after : List DataBlock
+  whole : old ≡ before ++ after
+  put : new ≡ before ++ b ∷ after
+
+is_put : (b : DataBlock) (bs : List DataBlock) → IsPut b bs (inserted b bs)
+is_put b [] = record { before = []; after = []; whole = refl; put = refl }
+is_put b (c ∷ cs) = by (nat_lt c.number b.number) (is_put b cs)
+  where
+    by : (t : Bool) → IsPut b cs (inserted b cs) → IsPut b (c ∷ cs) (cond t (c ∷ inserted b cs) (b ∷ c ∷ cs))
+    by true more = record { before = c ∷ more.before; after = more.after; whole = ap (λ l. c ∷ l) more.whole; put = ap (λ l. c ∷ l) more.put }
+    by false more = record { before = []; after = c ∷ cs; whole = refl; put = refl }
+
+-- Tests
+
+holds : (t : Bool) (line : Line) (rule : Reason) → unless t (broken line rule) ≡ [] → t ≡ true
+holds true line rule h = refl
+holds false line rule h = absurd cc
+
+two_hold : (a b : Bool) → a ≡ true → b ≡ true → (a && b) ≡ true
+two_hold true b h g = g
+two_hold false b h g = absurd cc
+
+-- Globals that are no data blocks
+
+same_width : (ty : StType) (w : Width) → has_width ty w ≡ true → width_at ty ≡ w
+same_width st.Bool width.Bit h = refl
+same_width st.Bool width.Byte h = absurd cc
+same_width st.Bool width.Word h = absurd cc
+same_width st.Bool width.Dword h = absurd cc
+same_width st.Byte width.Bit h = absurd cc
+same_width st.Byte width.Byte h = refl
+same_width st.Byte width.Word h = absurd cc
+same_width st.Byte width.Dword h = absurd cc
+same_width st.Word width.Bit h = absurd cc
+same_width st.Word width.Byte h = absurd cc
+same_width st.Word width.Word h = refl
+same_width st.Word width.Dword h = absurd cc
+same_width st.Dword width.Bit h = absurd cc
+same_width st.Dword width.Byte h = absurd cc
+same_width st.Dword width.Word h = absurd cc
+same_width st.Dword width.Dword h = refl
+same_width st.Int width.Bit h = absurd cc
+same_width st.Int width.Byte h = absurd cc
+same_width st.Int width.Word h = refl
+same_width st.Int width.Dword h = absurd cc
+same_width st.Dint width.Bit h = absurd cc
+same_width st.Dint width.Byte h = absurd cc
+same_width st.Dint width.Word h = absurd cc
+same_width st.Dint width.Dword h = refl
+same_width st.Lint width.Bit h = absurd cc
+same_width st.Lint width.Byte h = absurd cc
+same_width st.Lint width.Word h = absurd cc
+same_width st.Lint width.Dword h = absurd cc
+
+-- a global of a name and a type that has a place in the tree
+record HasPlace (name : List ℕ) (ty : StType) (at : RawVar) : Type 0 where
+  located : Located
+  found : located_at name ty at ≡ Some located
+  named : located.name ≡ name
+  typed : located.ty ≡ ty
+  placed : IsPlaced located
+
+on_area : (name : List ℕ) (ty : StType) (a : AreaName) (r : Area) (w : Width) (byte bit : ℕ) → area_of a ≡ Some r → name_of_area r ≡ a → is_address a None w byte bit ≡ true
+    → (is_some (area_of a) && has_width ty w) ≡ true → HasPlace name ty (var.Direct a None w byte bit)
+on_area name ty a r w byte bit there back address fits =
+    record {
+      located = made;
+      found = found;
+      named = refl;
+      typed = refl;
+      placed = record { address = ap has_address own ∙ address; fits = ap (fits_type ty) own ∙ fits; found = ap (located_at name ty) own ∙ found };
+    }
+  where
+    made : Located
+    made = record { name = name; place = record { area = r; byte = byte; bit = bit }; ty = ty }
+
+    wide : has_width ty w ≡ true
+    wide = (both (is_some (area_of a)) (has_width ty w) fits).1
+
+    own : location_of made ≡ var.Direct a None w byte bit
+    own = ap (λ b. var.Direct b None (width_at ty) byte bit) back ∙ ap (λ v. var.Direct a None v byte bit) (same_width ty w wide)
+
+    found : located_at name ty (var.Direct a None w byte bit) ≡ Some made
+    found =
+        ap (λ t. cond t (located_in name ty (area_of a) byte bit) None) (two_hold (is_address a None w byte bit) (has_width ty w) address wide)
+        ∙ ap (λ o. located_in name ty o byte bit) there
+
+has_place : (name : List ℕ) (ty : StType) (at : RawVar) → has_address at ≡ true → fits_type ty at ≡ true → HasPlace name ty at
+has_place name ty (var.Name other) h g = absurd cc
+has_place name ty (var.Direct a (Some n) w byte bit) h g = absurd cc
+has_place name ty (var.Direct area.I None w byte bit) h g = on_area name ty area.I place.I w byte bit refl refl h g
+has_place name ty (var.Direct area.Q None w byte bit) h g = on_area name ty area.Q place.Q w byte bit refl refl h g
+has_place name ty (var.Direct area.M None w byte bit) h g = on_area name ty area.M place.M w byte bit refl refl h g
+has_place name ty (var.Direct area.L None w byte bit) h g = absurd cc
+has_place name ty (var.Direct area.Db None w byte bit) h g = absurd cc
+has_place name ty (var.Direct area.Di None w byte bit) h g = absurd cc
+
+-- Data blocks
+
+has_block : (line : Line) (n : ℕ) (at : RawVar) (last : ℕ) (list : List (ℕ × ℕ)) → block_breaks line n at last list ≡ []
+    → block_at n at last list ≡ Some (record { number = n; bytes = contents last list })
+has_block line n at last list h =
+    let first = holds (has_block_address n at) line _ (nil_first _ _ h) in
+    let rest = nil_second (unless (has_block_address n at) (broken line _)) _ h in
+    let second = holds (is_small_enough last) line _ (nil_first _ _ rest) in
+    let third = holds (has_block_form n at last list) line _ (nil_second (unless (is_small_enough last) (broken line _)) _ rest) in
+    ap (λ t. cond t (Some (record { number = n; bytes = contents last list })) None)
+    (two_hold (has_block_address n at && is_small_enough last) (has_block_form n at last list) (two_hold (has_block_address n at) (is_small_enough last) first second) third)
+
+-- there is room for a new data block
+has_room : (line : Line) (first : Option Meaning) (blocks : ℕ) → (twice line first ++ one_too_many line (not (is_some first) && true) blocks) ≡ [] → nat_lt blocks MOST_BLOCKS ≡ true
+has_room line (Some m) blocks h = absurd cc
+has_room line None blocks h = by (nat_lt blocks MOST_BLOCKS) h
+  where
+    by : (t : Bool) → cond (not t) (broken line TooLarge) [] ≡ [] → t ≡ true
+    by true q = refl
+    by false q = absurd cc
+
+-- Globals
+
+-- what is known of the globals so far, and of the data blocks and other globals that they are in the tree
+pub record Gathered (d : Outside) (bs : List DataBlock) (ls : List Located) : Type 0 where
+  pub names : Lists d.names (block_entries bs ++ located_entries 0 ls)
+  pub globals : d.globals ≡ length ls
+  pub blocks : d.blocks ≡ length bs
+  pub units : d.units ≡ 0
+  pub numbered : AreNumbered bs
+  pub placed : ArePlaced ls
+
+module _ (d : Outside) (bs : List DataBlock) (ls : List Located) (name : List ℕ) (line : Line) (at : RawVar) (so : Gathered d bs ls) where
+  abbrev declaration : RawGlobalType → RawGlobal
+  declaration ty = record { name = name; line = line; at = at; ty = ty }
+
+  abbrev first : Option Meaning
+  first = look_up (key_of name) d.names
+
+  no_block : (x : Option Meaning) → d.blocks + one_if (not (is_some x) && false) ≡ d.blocks
+  no_block None = omega arith
+  no_block (Some m) = omega arith
+
+  one_located : (ty : StType) → (with_global d (declaration (type.Plain ty))).breaks ≡ [] → HasPlace name ty at
+      → Gathered (with_global d (declaration (type.Plain ty))) bs (ls ++ listed (located_at name ty at))
+  one_located ty e p =
+      let count : d.globals + 1 ≡ length (ls ++ p.located ∷ []) = omega (arith, so.globals, length-append ls (p.located ∷ [])) in
+      let once : twice line first ≡ [] = nil_first (twice line first) _ (nil_second d.breaks _ e) in
+      let last : Lists (with_entry (key_of name) (meaning.Global d.globals ty) d.names) ((block_entries bs ++ located_entries 0 ls) ++ (key_of name, meaning.Global d.globals ty) ∷ []) =
+      declared_last line (key_of name) (meaning.Global d.globals ty) d.names (block_entries bs ++ located_entries 0 ls) so.names once in
+      let size : d.globals ≡ 0 + length ls = omega (arith, so.globals) in
+      let entry : (key_of name, meaning.Global d.globals ty) ≡ (key_of p.located.name, meaning.Global (0 + length ls) p.located.ty) =
+      ap (λ k. (key_of k, meaning.Global d.globals ty)) (sym p.named) ∙ ap (λ n. (key_of p.located.name, meaning.Global n ty)) size
+      ∙ ap (λ s. (key_of p.located.name, meaning.Global (0 + length ls) s)) (sym p.typed) in
+      let order : (block_entries bs ++ located_entries 0 ls) ++ (key_of name, meaning.Global d.globals ty) ∷ [] ≡ block_entries bs ++ located_entries 0 (ls ++ p.located ∷ []) =
+      append_assoc (block_entries bs) (located_entries 0 ls) ((key_of name, meaning.Global d.globals ty) ∷ [])
+      ∙ ap (λ x. block_entries bs ++ (located_entries 0 ls ++ x ∷ [])) entry ∙ ap (λ es. block_entries bs ++ es) (sym (located_last 0 ls p.located)) in
+      let done : Gathered (with_global d (declaration (type.Plain ty))) bs (ls ++ p.located ∷ []) = record {
+        names = subst (Lists (with_entry (key_of name) (meaning.Global d.globals ty) d.names)) order last;
+        globals = count;
+        blocks = no_block first ∙ so.blocks;
+        units = so.units;
+        numbered = so.numbered;
+        placed = placed_also ls p.located so.placed p.placed;
+      } in
+      subst (λ o. Gathered (with_global d (declaration (type.Plain ty))) bs (ls ++ listed o)) (sym p.found) done
+
+  one_block : (last : ℕ) (list : List (ℕ × ℕ)) → (with_global d (declaration (type.Bytes last list))).breaks ≡ []
+      → block_at (block_number name) at last list ≡ Some (record { number = block_number name; bytes = contents last list })
+      → Gathered (with_global d (declaration (type.Bytes last list))) (with_block (block_at (block_number name) at last list) bs) (ls ++ [])
+  one_block last list e found =
+      let n = block_number name in
+      let b : DataBlock = record { number = n; bytes = contents last list } in
+      let i : IsBlock n b = is_block (type.Bytes last list) name at b found in
+      let both_nil = nil_second d.breaks _ e in
+      let once : twice line first ≡ [] = nil_first (twice line first) _ both_nil in
+      let room : nat_lt (length bs) MOST_BLOCKS ≡ true = ap (λ m. nat_lt m MOST_BLOCKS) (sym so.blocks) ∙ has_room line first d.blocks both_nil in
+      let p = is_put b bs in
+      let rest = located_entries 0 ls in
+      let key : key_of name ≡ key_of (codes "DB" ++ decimal n) = key_by_number n name refl i.some i.small in
+      let before : block_entries bs ++ rest ≡ block_entries p.before ++ (block_entries p.after ++ rest) =
+      ap (λ xs. block_entries xs ++ rest) p.whole ∙ ap (λ es. es ++ rest) (blocks_joined p.before p.after) ∙ append_assoc (block_entries p.before) (block_entries p.after) rest in
+      let after : block_entries p.before ++ (key_of name, meaning.Block) ∷ (block_entries p.after ++ rest) ≡ block_entries (inserted b bs) ++ rest =
+      ap (λ k. block_entries p.before ++ (k, meaning.Block) ∷ (block_entries p.after ++ rest)) key
+      ∙ sym (append_assoc (block_entries p.before) (block_entries (b ∷ p.after)) rest)
+      ∙ ap (λ es. es ++ rest) (sym (blocks_joined p.before (b ∷ p.after)))
+      ∙ ap (λ xs. block_entries xs ++ rest) (sym p.put) in
+      let put : Lists (with_entry (key_of name) meaning.Block d.names) (block_entries p.before ++ (key_of name, meaning.Block) ∷ (block_entries p.after ++ rest)) =
+      declared_between line (key_of name) meaning.Block d.names (block_entries p.before) (block_entries p.after ++ rest) (subst (Lists d.names) before so.names) once in
+      let count : d.blocks + one_if (not (is_some first) && true) ≡ length (inserted b bs) = counted first once ∙ omega (arith, so.blocks, one_more b bs) in
+      let done : Gathered (with_global d (declaration (type.Bytes last list))) (inserted b bs) ls = record {
+        names = subst (Lists (with_entry (key_of name) meaning.Block d.names)) after put;
+        globals = omega (arith, so.globals);
+        blocks = count;
+        units = so.units;
+        numbered = numbered_also b bs i so.numbered;
+        placed = so.placed;
+      } in
+      let there : inserted b bs ≡ with_block (block_at n at last list) bs = sym (ap (λ o. with_block o bs) found ∙ ap (λ t. cond t (inserted b bs) bs) room) in
+      subst (λ xs. Gathered (with_global d (declaration (type.Bytes last list))) xs (ls ++ [])) there
+      (subst (λ xs. Gathered (with_global d (declaration (type.Bytes last list))) (inserted b bs) xs) (sym (append-nil ls)) done)
+    where
+      counted : (x : Option Meaning) → twice line x ≡ [] → d.blocks + one_if (not (is_some x) && true) ≡ d.blocks + 1
+      counted None h = refl
+      counted (Some m) h = absurd cc
+
+  one_global : (ty : RawGlobalType) → (with_global d (declaration ty)).breaks ≡ [] → global_breaks ty line name at ≡ []
+      → Gathered (with_global d (declaration ty)) (with_block (block_of ty name at) bs) (ls ++ listed (located_of ty name at))
+  one_global (type.Plain ty) e none =
+      let address = holds (has_address at) line _ (nil_first _ _ none) in
+      let fits = holds (fits_type ty at) line _ (nil_second (unless (has_address at) (broken line _)) _ none) in
+      one_located ty e (has_place name ty at address fits)
+  one_global (type.Bytes last list) e none = one_block last list e (has_block line (block_number name) at last list none)
+
+pub gather : (gs : List RawGlobal) (d : Outside) (bs : List DataBlock) (ls : List Located) → Gathered d bs ls → (fold with_global d gs).breaks ≡ [] → all_global_breaks gs ≡ []
+    → Gathered (fold with_global d gs) (fold (λ blocks (g : RawGlobal). with_block (block_of g.ty g.name g.at) blocks) bs gs) (ls ++ all_located gs)
+gather [] d bs ls so e none = subst (Gathered d bs) (sym (append-nil ls)) so
+gather (g ∷ gs) d bs ls so e none =
+    let here = listed (located_of g.ty g.name g.at) in
+    let blocks = with_block (block_of g.ty g.name g.at) bs in
+    let own = global_breaks g.ty g.line g.name g.at in
+    let one = one_global d bs ls g.name g.line g.at so g.ty (before_globals gs (with_global d g) e) (nil_first own (all_global_breaks gs) none) in
+    let more = gather gs (with_global d g) blocks (ls ++ here) one e (nil_second own (all_global_breaks gs) none) in
+    subst (Gathered (fold with_global (with_global d g) gs) (fold (λ blocks (h : RawGlobal). with_block (block_of h.ty h.name h.at) blocks) blocks gs))
+    (append_assoc ls here (all_located gs)) more
+
+-- Units
+
+pub gather_units : (ps : List Pou) (us : List RawPou) → AreUnitsAt ps us → (d : Outside) (es : Table Meaning) → Lists d.names es → (fold with_unit d us).breaks ≡ []
+    → Lists (fold with_unit d us).names (es ++ unit_entries d.units ps)
+gather_units [] [] a d es l e = subst (Lists d.names) (sym (append-nil es)) l
+gather_units [] (u ∷ us) a d es l e = absurd a
+gather_units (p ∷ ps) [] a d es l e = absurd a
+gather_units (p ∷ ps) (u ∷ us) a d es l e =
+    let once : twice u.line (look_up (key_of u.name) d.names) ≡ [] = nil_second d.breaks _ (before_units us (with_unit d u) e) in
+    let one = declared_last u.line (key_of u.name) (meaning_of_unit d.units u.program) d.names es l once in
+    let more = gather_units ps us a.1 (with_unit d u) (es ++ (key_of u.name, meaning_of_unit d.units u.program) ∷ []) one e in
+    let order : (es ++ (key_of u.name, meaning_of_unit d.units u.program) ∷ []) ++ unit_entries (d.units + 1) ps ≡ es ++ unit_entries d.units (p ∷ ps) =
+    append_assoc es ((key_of u.name, meaning_of_unit d.units u.program) ∷ []) (unit_entries (d.units + 1) ps)
+    ∙ ap (λ name. es ++ (key_of name, meaning_of_unit d.units u.program) ∷ unit_entries (d.units + 1) ps) a.0.named
+    ∙ ap (λ program. es ++ (key_of p.name, meaning_of_unit d.units program) ∷ unit_entries (d.units + 1) ps) a.0.program in
+    subst (Lists (fold with_unit (with_unit d u) us).names) order more
+
+-- Formals and locals
+
+before_formals : (rs : List RawLocal) (d : Inside) → (fold with_formal d rs).breaks ≡ [] → d.breaks ≡ []
+before_formals [] d e = e
+before_formals (r ∷ rs) d e = nil_first d.breaks _ (before_formals rs (with_formal d r) e)
+
+before_locals : (rs : List RawLocal) (d : Inside) → (fold with_local d rs).breaks ≡ [] → d.breaks ≡ []
+before_locals [] d e = e
+before_locals (r ∷ rs) d e = nil_first d.breaks _ (before_locals rs (with_local d r) e)
+
+gather_formals : (ls : List Local) (rs : List RawLocal) → AreLocalsAt ls rs → (d : Inside) (es : Table Meaning) → Lists d.names es → (fold with_formal d rs).breaks ≡ []
+    → Lists (fold with_formal d rs).names (es ++ formal_entries d.formals ls)
+gather_formals [] [] a d es l e = subst (Lists d.names) (sym (append-nil es)) l
+gather_formals [] (r ∷ rs) a d es l e = absurd a
+gather_formals (x ∷ ls) [] a d es l e = absurd a
+gather_formals (x ∷ ls) (r ∷ rs) a d es l e =
+    let once : twice r.line (look_up (key_of r.name) d.names) ≡ [] = nil_second d.breaks _ (before_formals rs (with_formal d r) e) in
+    let one = declared_last r.line (key_of r.name) (meaning.Formal d.formals r.ty) d.names es l once in
+    let more = gather_formals ls rs a.1 (with_formal d r) (es ++ (key_of r.name, meaning.Formal d.formals r.ty) ∷ []) one e in
+    let order : (es ++ (key_of r.name, meaning.Formal d.formals r.ty) ∷ []) ++ formal_entries (d.formals + 1) ls ≡ es ++ formal_entries d.formals (x ∷ ls) =
+    append_assoc es ((key_of r.name, meaning.Formal d.formals r.ty) ∷ []) (formal_entries (d.formals + 1) ls)
+    ∙ ap (λ name. es ++ (key_of name, meaning.Formal d.formals r.ty) ∷ formal_entries (d.formals + 1) ls) a.0.named
+    ∙ ap (λ ty. es ++ (key_of x.name, meaning.Formal d.formals ty) ∷ formal_entries (d.formals + 1) ls) a.0.typed in
+    subst (Lists (fold with_formal (with_formal d r) rs).names) order more
+
+gather_locals : (ls : List Local) (rs : List RawLocal) → AreLocalsAt ls rs → (d : Inside) (es : Table Meaning) → Lists d.names es → (fold with_local d rs).breaks ≡ []
+    → Lists (fold with_local d rs).names (es ++ local_entries d.locals ls)
+gather_locals [] [] a d es l e = subst (Lists d.names) (sym (append-nil es)) l
+gather_locals [] (r ∷ rs) a d es l e = absurd a
+gather_locals (x ∷ ls) [] a d es l e = absurd a
+gather_locals (x ∷ ls) (r ∷ rs) a d es l e =
+    let once : twice r.line (look_up (key_of r.name) d.names) ≡ [] = nil_second d.breaks _ (before_locals rs (with_local d r) e) in
+    let one = declared_last r.line (key_of r.name) (meaning.Local d.locals r.ty) d.names es l once in
+    let more = gather_locals ls rs a.1 (with_local d r) (es ++ (key_of r.name, meaning.Local d.locals r.ty) ∷ []) one e in
+    let order : (es ++ (key_of r.name, meaning.Local d.locals r.ty) ∷ []) ++ local_entries (d.locals + 1) ls ≡ es ++ local_entries d.locals (x ∷ ls) =
+    append_assoc es ((key_of r.name, meaning.Local d.locals r.ty) ∷ []) (local_entries (d.locals + 1) ls)
+    ∙ ap (λ name. es ++ (key_of name, meaning.Local d.locals r.ty) ∷ local_entries (d.locals + 1) ls) a.0.named
+    ∙ ap (λ ty. es ++ (key_of x.name, meaning.Local d.locals ty) ∷ local_entries (d.locals + 1) ls) a.0.typed in
+    subst (Lists (fold with_local (with_local d r) rs).names) order more
+
+no_locals_before : (rs : List RawLocal) (d : Inside) → (fold with_formal d rs).locals ≡ d.locals
+no_locals_before [] d = refl
+no_locals_before (r ∷ rs) d = no_locals_before rs (with_formal d r)
+
+pub gather_inside : (p : Pou) (u : RawPou) → AreLocalsAt p.formals u.formals → AreLocalsAt p.locals u.locals → (all_inside u.formals u.locals).breaks ≡ []
+    → Lists (all_inside u.formals u.locals).names (inner_entries p)
+gather_inside p u a b e =
+    let empty : Lists [] [] = record { same = λ k. refl; apart = tt } in
+    let formals = gather_formals p.formals u.formals a no_inside [] empty (before_locals u.locals (fold with_formal no_inside u.formals) e) in
+    let locals = gather_locals p.locals u.locals b (fold with_formal no_inside u.formals) (formal_entries 0 p.formals) formals e in
+    subst (λ i. Lists (all_inside u.formals u.locals).names (formal_entries 0 p.formals ++ local_entries i p.locals)) (no_locals_before u.formals no_inside) locals

@@ -1,0 +1,328 @@
+-- A text that declares what a tree has breaks no rule in its declarations, and has the tree's data blocks and
+-- globals again.
+use Rattle.std.proofs.Common.{◌≡◌, ◌≤◌, ◌+◌, ◌-◌, ℕ, suc, Bool, true, false, not, cond, ◌&&◌, ◌==◌, nat_le, nat_lt, List, [], ◌∷◌, ◌++◌, length, Option, Some, None, is_some, refl, sym, ap, subst, ◌∙◌, arith, length-append}
+use Rattle.std.specs.Prelude.{codes, decimal}
+use Rattle.std.specs.List.{fold}
+use Rattle.std.proofs.lemmas.Bool.Decides.{nat_tests}
+use Rattle.std.proofs.lemmas.Grind.{flat_map-append}
+use Rattle.std.proofs.lemmas.List.{append-nil, append_assoc}
+use Rattle.std.proofs.lemmas.List.Sums.{fold-append}
+use Rattle.memory_areas.specs.Areas.{Ascend, numbers_of}
+use Rattle.memory_areas.specs.declared.data_block.DataBlock.{DataBlock}
+use Rattle.memory_areas.specs.declared.place.AreaName.TheVariants as area
+use Rattle.memory_areas.specs.declared.sizes.TheConstants.{MOST_BLOCKS}
+use Rattle.s7_base.specs.declared.reason.Line.{Line}
+use Rattle.s7_base.specs.declared.reason.Reason.{Reason}
+use Rattle.s7_base.specs.declared.reason.Reason.TheVariants.{BadAddress, TypeMismatch}
+use Rattle.s7_base.specs.declared.word.Width.TheVariants as width
+use Rattle.st_tree.specs.declared.program.Local.{Local}
+use Rattle.st_tree.specs.declared.program.Located.{Located}
+use Rattle.st_tree.specs.declared.program.Pou.{Pou}
+use Rattle.st_tree.specs.declared.raw.RawGlobal.{RawGlobal}
+use Rattle.st_tree.specs.declared.raw.RawGlobalType.TheVariants as type
+use Rattle.st_tree.specs.declared.raw.RawLocal.{RawLocal}
+use Rattle.st_tree.specs.declared.raw.RawPou.{RawPou}
+use Rattle.st_tree.specs.declared.raw.RawVar.{RawVar}
+use Rattle.st_tree.specs.declared.raw.RawVar.TheVariants as var
+use Rattle.st_rules.specs.Broken.{broken, listed, twice}
+use Rattle.st_rules.specs.Declarations.{all_inside, all_outside, is_block, meaning_of_global, meaning_of_unit, no_inside, no_outside, one_if, one_too_many, with_formal, with_global, with_local, with_unit}
+use Rattle.st_rules.specs.Globals.{all_blocks, all_global_breaks, all_located, block_at, block_breaks, block_number, block_of, contents, fills, fits_type, global_breaks, has_address, has_block_address, has_block_form, inserted, is_small_enough, is_start_of, located_of, total, unless, with_block}
+use Rattle.st_rules.specs.Names.{Table, key_of, look_up}
+use Rattle.st_rules.specs.Variables.{is_block_number}
+use Rattle.st_rules.specs.declared.declaration.Inside.{Inside}
+use Rattle.st_rules.specs.declared.declaration.Outside.{Outside}
+use Rattle.st_rules.specs.declared.scope.Meaning.{Meaning}
+use Rattle.st_rules.specs.declared.scope.Meaning.TheVariants as meaning
+use Rattle.st_types_laws.proofs.Apart.{AreApart, declares_new}
+use Rattle.st_types_laws.proofs.BlockSizes.{IsBlock}
+use Rattle.st_types_laws.proofs.DeclaredNames.{AreNumbered, ArePlaced, block_entries, formal_entries, inner_entries, local_entries, located_entries, unit_entries}
+use Rattle.st_types_laws.proofs.PlainNumbers.{plain_number}
+use Rattle.st_types_laws.proofs.Redeclared.{AreBlocksAt, AreLocalsAt, AreLocatedAt, AreUnitsAt, IsBlockAt, location_of}
+
+-- One data block
+
+-- where its own byte 0 is
+abbrev start_of : ℕ → RawVar
+start_of n = var.Direct area.Db (Some n) width.Byte 0 0
+
+numbered : (n : ℕ) → 1 ≤ n → n ≤ 65535 → is_block_number n ≡ true
+numbered n some small = grind (arith, nat_tests)
+
+has_start : (n : ℕ) → is_block_number n ≡ true → has_block_address n (start_of n) ≡ true
+has_start n h = rw h refl
+
+is_start : (n : ℕ) → is_start_of n (start_of n) ≡ true
+is_start n = let same : (n == n) ≡ true = grind (arith, nat_tests) in rw same refl
+
+is_filled : (last : ℕ) (list : List (ℕ × ℕ)) → total list ≡ last + 1 → fills last list ≡ true
+is_filled last [] h = refl
+is_filled last (run ∷ runs) h = grind (arith, nat_tests)
+
+-- a data block of its own number breaks no rule and is itself in the tree
+record IsAgain (b : DataBlock) (g : RawGlobal) : Type 0 where
+  again : block_of g.ty g.name g.at ≡ Some b
+  sound : global_breaks g.ty g.line g.name g.at ≡ []
+  key : key_of g.name ≡ key_of (codes "DB" ++ decimal b.number)
+  last : ℕ
+  list : List (ℕ × ℕ)
+  typed : g.ty ≡ type.Bytes last list
+
+plain_block : (b : DataBlock) (last : ℕ) (list : List (ℕ × ℕ)) → IsBlock b.number b → last ≡ length b.bytes - 1 → contents last list ≡ b.bytes → total list ≡ length b.bytes
+    → (block_at b.number (start_of b.number) last list ≡ Some b) × ((line : Line) → block_breaks line b.number (start_of b.number) last list ≡ [])
+plain_block b last list i greatest bytes size =
+    let number : is_block_number b.number ≡ true = numbered b.number i.some i.small in
+    let address : has_block_address b.number (start_of b.number) ≡ true = has_start b.number number in
+    let least = i.sized.0 in
+    let most = i.sized.1 in
+    let small : is_small_enough last ≡ true = grind (arith, nat_tests) in
+    let some : nat_le 1 last ≡ true = grind (arith, nat_tests) in
+    let filled : fills last list ≡ true = is_filled last list (omega (arith, size, greatest, least)) in
+    let form : has_block_form b.number (start_of b.number) last list ≡ true = rw (is_start b.number, some, filled) refl in
+    let same : Some (record { number = b.number; bytes = contents last list }) ≡ Some b = ap (λ (l : List ℕ). Some (record { number = b.number; bytes = l })) bytes in
+    (rw (address, small, form) same, λ line. rw (address, small, form) refl)
+
+by_parts : (b : DataBlock) (g : RawGlobal) (n last : ℕ) (list : List (ℕ × ℕ)) → n ≡ b.number → block_number g.name ≡ n → g.at ≡ start_of n → g.ty ≡ type.Bytes last list
+    → (block_at n (start_of n) last list ≡ Some b) × ((line : Line) → block_breaks line n (start_of n) last list ≡ [])
+    → (block_of g.ty g.name g.at ≡ Some b) × (global_breaks g.ty g.line g.name g.at ≡ [])
+by_parts b g n last list e number at ty h = (
+  ap (λ t. block_of t g.name g.at) ty ∙ ap (λ k. block_at k g.at last list) number ∙ ap (λ a. block_at n a last list) at ∙ h.0,
+  ap (λ t. global_breaks t g.line g.name g.at) ty ∙ ap (λ k. block_breaks g.line k g.at last list) number ∙ ap (λ a. block_breaks g.line n a last list) at ∙ h.1 g.line,
+)
+
+block_again : (b : DataBlock) (g : RawGlobal) → IsBlock b.number b → IsBlockAt b g → IsAgain b g
+block_again b g i p =
+    let number : block_number g.name ≡ b.number = ap block_number p.named ∙ plain_number b.number i.some i.small in
+    let parts = by_parts b g b.number p.last p.list refl number p.placed p.typed (plain_block b p.last p.list i p.greatest p.bytes p.size) in
+    record { again = parts.0; sound = parts.1; key = ap key_of p.named; last = p.last; list = p.list; typed = p.typed }
+
+-- All data blocks
+
+-- where the numbers of data blocks ascend, each goes last
+number_behind : (least : ℕ) (xs : List DataBlock) (b : DataBlock) (ys : List DataBlock) → Ascend least (numbers_of (xs ++ b ∷ ys)) → least ≤ b.number
+number_behind least [] b ys h = h.0
+number_behind least (x ∷ xs) b ys h = let more : x.number + 1 ≤ b.number = number_behind (x.number + 1) xs b ys h.1 in omega (arith, h.0, more)
+
+goes_last : (least : ℕ) (xs : List DataBlock) (b : DataBlock) (ys : List DataBlock) → Ascend least (numbers_of (xs ++ b ∷ ys)) → inserted b xs ≡ xs ++ b ∷ []
+goes_last least [] b ys h = refl
+goes_last least (x ∷ xs) b ys h =
+    let more : x.number + 1 ≤ b.number = number_behind (x.number + 1) xs b ys h.1 in
+    let test : nat_lt x.number b.number ≡ true = grind (arith, nat_tests) in
+    ap (λ t. cond t (x ∷ inserted b xs) (b ∷ x ∷ xs)) test ∙ ap (λ l. x ∷ l) (goes_last (x.number + 1) xs b ys h.1)
+
+blocks_again : (bs : List DataBlock) (gs : List RawGlobal) → AreBlocksAt bs gs → AreNumbered bs → (old : List DataBlock) → Ascend 1 (numbers_of (old ++ bs))
+    → length old + length bs ≤ MOST_BLOCKS → fold (λ blocks (g : RawGlobal). with_block (block_of g.ty g.name g.at) blocks) old gs ≡ old ++ bs
+blocks_again [] [] a n old h few = sym (append-nil old)
+blocks_again [] (g ∷ gs) a n old h few = absurd a
+blocks_again (b ∷ bs) [] a n old h few = absurd a
+blocks_again (b ∷ bs) (g ∷ gs) a n old h few =
+    let i = block_again b g n.0 a.0 in
+    let room : nat_lt (length old) MOST_BLOCKS ≡ true = grind (arith, nat_tests) in
+    let one : with_block (block_of g.ty g.name g.at) old ≡ old ++ b ∷ [] = ap (λ o. with_block o old) i.again ∙ ap (λ t. cond t (inserted b old) old) room ∙ goes_last 1 old b bs h in
+    let order : (old ++ b ∷ []) ++ bs ≡ old ++ b ∷ bs = append_assoc old (b ∷ []) bs in
+    let ascend : Ascend 1 (numbers_of ((old ++ b ∷ []) ++ bs)) = subst (λ l. Ascend 1 (numbers_of l)) (sym order) h in
+    ap (λ blocks. fold (λ more (f : RawGlobal). with_block (block_of f.ty f.name f.at) more) blocks gs) one
+    ∙ blocks_again bs gs a.1 n.1 (old ++ b ∷ []) ascend (omega (arith, few, length-append old (b ∷ []))) ∙ order
+
+no_located : (bs : List DataBlock) (gs : List RawGlobal) → AreBlocksAt bs gs → all_located gs ≡ []
+no_located [] [] a = refl
+no_located [] (g ∷ gs) a = absurd a
+no_located (b ∷ bs) [] a = absurd a
+no_located (b ∷ bs) (g ∷ gs) a = ap (λ t. listed (located_of t g.name g.at) ++ all_located gs) a.0.typed ∙ no_located bs gs a.1
+
+sound_blocks : (bs : List DataBlock) (gs : List RawGlobal) → AreBlocksAt bs gs → AreNumbered bs → all_global_breaks gs ≡ []
+sound_blocks [] [] a n = refl
+sound_blocks [] (g ∷ gs) a n = absurd a
+sound_blocks (b ∷ bs) [] a n = absurd a
+sound_blocks (b ∷ bs) (g ∷ gs) a n = ap (λ l. l ++ all_global_breaks gs) (block_again b g n.0 a.0).sound ∙ sound_blocks bs gs a.1 n.1
+
+-- Other globals
+
+located_again : (ls : List Located) (gs : List RawGlobal) → AreLocatedAt ls gs → ArePlaced ls → all_located gs ≡ ls
+located_again [] [] a p = refl
+located_again [] (g ∷ gs) a p = absurd a
+located_again (l ∷ ls) [] a p = absurd a
+located_again (l ∷ ls) (g ∷ gs) a p =
+    let one : located_of g.ty g.name g.at ≡ Some l =
+    ap (λ t. located_of t g.name g.at) a.0.typed ∙ ap (λ n. located_of (type.Plain l.ty) n g.at) a.0.named ∙ ap (located_of (type.Plain l.ty) l.name) a.0.placed ∙ p.0.found in
+    ap (λ o. listed o ++ all_located gs) one ∙ ap (λ xs. l ∷ xs) (located_again ls gs a.1 p.1)
+
+no_blocks : (ls : List Located) (gs : List RawGlobal) → AreLocatedAt ls gs → (bs : List DataBlock)
+    → fold (λ blocks (g : RawGlobal). with_block (block_of g.ty g.name g.at) blocks) bs gs ≡ bs
+no_blocks [] [] a bs = refl
+no_blocks [] (g ∷ gs) a bs = absurd a
+no_blocks (l ∷ ls) [] a bs = absurd a
+no_blocks (l ∷ ls) (g ∷ gs) a bs =
+    ap (λ t. fold (λ blocks (f : RawGlobal). with_block (block_of f.ty f.name f.at) blocks) (with_block (block_of t g.name g.at) bs) gs) a.0.typed
+    ∙ no_blocks ls gs a.1 bs
+
+two_tests : (a b : Bool) (line : Line) (q r : Reason) → a ≡ true → b ≡ true → (unless a (broken line q) ++ unless b (broken line r)) ≡ []
+two_tests a b line q r h g = rw (h, g) refl
+
+sound_located : (ls : List Located) (gs : List RawGlobal) → AreLocatedAt ls gs → ArePlaced ls → all_global_breaks gs ≡ []
+sound_located [] [] a p = refl
+sound_located [] (g ∷ gs) a p = absurd a
+sound_located (l ∷ ls) [] a p = absurd a
+sound_located (l ∷ ls) (g ∷ gs) a p =
+    let one : global_breaks g.ty g.line g.name g.at ≡ [] =
+    ap (λ t. global_breaks t g.line g.name g.at) a.0.typed ∙ ap (global_breaks (type.Plain l.ty) g.line g.name) a.0.placed
+    ∙ two_tests (has_address (location_of l)) (fits_type l.ty (location_of l)) g.line BadAddress TypeMismatch p.0.address p.0.fits in
+    ap (λ breaks. breaks ++ all_global_breaks gs) one ∙ sound_located ls gs a.1 p.1
+
+-- What is declared outside the units
+
+-- some declarations more break no rule, and their names go after those before them
+record Goes (d e : Outside) (entries more : Table Meaning) : Type 0 where
+  sound : e.breaks ≡ []
+  order : e.names ++ more ≡ d.names ++ (entries ++ more)
+  units : e.units ≡ d.units
+
+-- one global more
+one_goes : (d : Outside) (g : RawGlobal) (k : List ℕ) (m : Meaning) (more : Table Meaning) → d.breaks ≡ [] → key_of g.name ≡ k → meaning_of_global d.globals g.ty ≡ m
+    → ((x : Option Meaning) → one_too_many g.line (not (is_some x) && is_block g.ty) d.blocks ≡ []) → AreApart (d.names ++ (k, m) ∷ more) → Goes d (with_global d g) ((k, m) ∷ []) more
+one_goes d g k m more sound key meant room apart =
+    let first = look_up (key_of g.name) d.names in
+    let own = meaning_of_global d.globals g.ty in
+    let entry : (key_of g.name, own) ≡ (k, m) = ap (λ l. (l, own)) key ∙ ap (λ n. (k, n)) meant in
+    let new = declares_new g.line (key_of g.name) own d.names more (subst (λ e. AreApart (d.names ++ e ∷ more)) (sym entry) apart) in
+    let broken_none : d.breaks ++ (twice g.line first ++ one_too_many g.line (not (is_some first) && is_block g.ty) d.blocks) ≡ [] =
+    ap (λ l. l ++ (twice g.line first ++ one_too_many g.line (not (is_some first) && is_block g.ty) d.blocks)) sound
+    ∙ ap (λ l. l ++ one_too_many g.line (not (is_some first) && is_block g.ty) d.blocks) new.once ∙ room first in
+    record { sound = broken_none; order = new.order ∙ ap (λ e. d.names ++ e ∷ more) entry; units = refl }
+
+roomy : (x : Option Meaning) (t : Bool) (line : Line) (blocks : ℕ) → nat_lt blocks MOST_BLOCKS ≡ true → one_too_many line (not (is_some x) && t) blocks ≡ []
+roomy None true line blocks h = rw h refl
+roomy None false line blocks h = refl
+roomy (Some m) t line blocks h = refl
+
+no_block : (x : Option Meaning) (line : Line) (blocks : ℕ) → one_too_many line (not (is_some x) && false) blocks ≡ []
+no_block None line blocks = refl
+no_block (Some m) line blocks = refl
+
+-- one data block more is one at most
+grown : (x : Option Meaning) (t : Bool) (blocks rest most : ℕ) → blocks + suc rest ≤ most → blocks + one_if (not (is_some x) && t) + rest ≤ most
+grown None true blocks rest most h = omega (arith, h)
+grown None false blocks rest most h = omega (arith, h)
+grown (Some m) t blocks rest most h = omega (arith, h)
+
+go_blocks : (bs : List DataBlock) (gs : List RawGlobal) → AreBlocksAt bs gs → AreNumbered bs → (d : Outside) (more : Table Meaning) → d.breaks ≡ []
+    → AreApart (d.names ++ (block_entries bs ++ more)) → d.blocks + length bs ≤ MOST_BLOCKS
+    → Goes d (fold with_global d gs) (block_entries bs) more × ((fold with_global d gs).globals ≡ d.globals)
+go_blocks [] [] a n d more sound apart few = (record { sound = sound; order = refl; units = refl }, refl)
+go_blocks [] (g ∷ gs) a n d more sound apart few = absurd a
+go_blocks (b ∷ bs) [] a n d more sound apart few = absurd a
+go_blocks (b ∷ bs) (g ∷ gs) a n d more sound apart few =
+    let i = block_again b g n.0 a.0 in
+    let room : nat_lt d.blocks MOST_BLOCKS ≡ true = grind (arith, nat_tests) in
+    let count : (with_global d g).globals ≡ d.globals = ap (λ t. d.globals + one_if (not (is_block t))) i.typed ∙ omega arith in
+    let one = one_goes d g (key_of (codes "DB" ++ decimal b.number)) meaning.Block (block_entries bs ++ more) sound i.key (ap (meaning_of_global d.globals) i.typed)
+    (λ x. roomy x (is_block g.ty) g.line d.blocks room) apart in
+    let rest = go_blocks bs gs a.1 n.1 (with_global d g) more one.sound (subst AreApart (sym one.order) apart)
+    (grown (look_up (key_of g.name) d.names) (is_block g.ty) d.blocks (length bs) MOST_BLOCKS few) in
+    (record { sound = rest.0.sound; order = rest.0.order ∙ one.order; units = rest.0.units ∙ one.units }, rest.1 ∙ count)
+
+go_located : (ls : List Located) (gs : List RawGlobal) → AreLocatedAt ls gs → (d : Outside) (more : Table Meaning) → d.breaks ≡ []
+    → AreApart (d.names ++ (located_entries d.globals ls ++ more)) → Goes d (fold with_global d gs) (located_entries d.globals ls) more
+go_located [] [] a d more sound apart = record { sound = sound; order = refl; units = refl }
+go_located [] (g ∷ gs) a d more sound apart = absurd a
+go_located (l ∷ ls) [] a d more sound apart = absurd a
+go_located (l ∷ ls) (g ∷ gs) a d more sound apart =
+    let count : (with_global d g).globals ≡ d.globals + 1 = ap (λ t. d.globals + one_if (not (is_block t))) a.0.typed in
+    let meant : meaning_of_global d.globals g.ty ≡ meaning.Global d.globals l.ty = ap (meaning_of_global d.globals) a.0.typed in
+    let one = one_goes d g (key_of l.name) (meaning.Global d.globals l.ty) (located_entries (d.globals + 1) ls ++ more) sound (ap key_of a.0.named) meant
+    (λ x. ap (λ t. one_too_many g.line (not (is_some x) && is_block t) d.blocks) a.0.typed ∙ no_block x g.line d.blocks) apart in
+    let order : (with_global d g).names ++ (located_entries (with_global d g).globals ls ++ more) ≡ d.names ++ (located_entries d.globals (l ∷ ls) ++ more) =
+    ap (λ n. (with_global d g).names ++ (located_entries n ls ++ more)) count ∙ one.order in
+    let rest = go_located ls gs a.1 (with_global d g) more one.sound (subst AreApart (sym order) apart) in
+    record { sound = rest.sound; order = rest.order ∙ order; units = rest.units ∙ one.units }
+
+go_units : (ps : List Pou) (us : List RawPou) → AreUnitsAt ps us → (d : Outside) → d.breaks ≡ [] → AreApart (d.names ++ unit_entries d.units ps)
+    → ((fold with_unit d us).breaks ≡ []) × ((fold with_unit d us).names ≡ d.names ++ unit_entries d.units ps)
+go_units [] [] a d sound apart = (sound, sym (append-nil d.names))
+go_units [] (u ∷ us) a d sound apart = absurd a
+go_units (p ∷ ps) [] a d sound apart = absurd a
+go_units (p ∷ ps) (u ∷ us) a d sound apart =
+    let own = meaning_of_unit d.units u.program in
+    let entry : (key_of u.name, own) ≡ (key_of p.name, meaning_of_unit d.units p.program) =
+    ap (λ name. (key_of name, own)) a.0.named ∙ ap (λ t. (key_of p.name, meaning_of_unit d.units t)) a.0.program in
+    let more = unit_entries (d.units + 1) ps in
+    let new = declares_new u.line (key_of u.name) own d.names more (subst (λ e. AreApart (d.names ++ e ∷ more)) (sym entry) apart) in
+    let none : (with_unit d u).breaks ≡ [] = ap (λ l. l ++ twice u.line (look_up (key_of u.name) d.names)) sound ∙ new.once in
+    let rest = go_units ps us a.1 (with_unit d u) none new.apart in
+    (rest.0, rest.1 ∙ new.order ∙ ap (λ e. d.names ++ e ∷ more) entry)
+
+-- What is declared in a unit
+
+go_formals : (ls : List Local) (rs : List RawLocal) → AreLocalsAt ls rs → (d : Inside) (more : Table Meaning) → d.breaks ≡ []
+    → AreApart (d.names ++ (formal_entries d.formals ls ++ more))
+    → ((fold with_formal d rs).breaks ≡ []) × ((fold with_formal d rs).names ++ more ≡ d.names ++ (formal_entries d.formals ls ++ more)) × ((fold with_formal d rs).locals ≡ d.locals)
+go_formals [] [] a d more sound apart = (sound, refl, refl)
+go_formals [] (r ∷ rs) a d more sound apart = absurd a
+go_formals (l ∷ ls) [] a d more sound apart = absurd a
+go_formals (l ∷ ls) (r ∷ rs) a d more sound apart =
+    let own = meaning.Formal d.formals r.ty in
+    let entry : (key_of r.name, own) ≡ (key_of l.name, meaning.Formal d.formals l.ty) =
+    ap (λ name. (key_of name, own)) a.0.named ∙ ap (λ ty. (key_of l.name, meaning.Formal d.formals ty)) a.0.typed in
+    let behind = formal_entries (d.formals + 1) ls ++ more in
+    let new = declares_new r.line (key_of r.name) own d.names behind (subst (λ e. AreApart (d.names ++ e ∷ behind)) (sym entry) apart) in
+    let none : (with_formal d r).breaks ≡ [] = ap (λ l. l ++ twice r.line (look_up (key_of r.name) d.names)) sound ∙ new.once in
+    let rest = go_formals ls rs a.1 (with_formal d r) more none new.apart in
+    (rest.0, rest.1 ∙ new.order ∙ ap (λ e. d.names ++ e ∷ behind) entry, rest.2)
+
+go_locals : (ls : List Local) (rs : List RawLocal) → AreLocalsAt ls rs → (d : Inside) → d.breaks ≡ [] → AreApart (d.names ++ local_entries d.locals ls)
+    → ((fold with_local d rs).breaks ≡ []) × ((fold with_local d rs).names ≡ d.names ++ local_entries d.locals ls)
+go_locals [] [] a d sound apart = (sound, sym (append-nil d.names))
+go_locals [] (r ∷ rs) a d sound apart = absurd a
+go_locals (l ∷ ls) [] a d sound apart = absurd a
+go_locals (l ∷ ls) (r ∷ rs) a d sound apart =
+    let own = meaning.Local d.locals r.ty in
+    let entry : (key_of r.name, own) ≡ (key_of l.name, meaning.Local d.locals l.ty) =
+    ap (λ name. (key_of name, own)) a.0.named ∙ ap (λ ty. (key_of l.name, meaning.Local d.locals ty)) a.0.typed in
+    let behind = local_entries (d.locals + 1) ls in
+    let new = declares_new r.line (key_of r.name) own d.names behind (subst (λ e. AreApart (d.names ++ e ∷ behind)) (sym entry) apart) in
+    let none : (with_local d r).breaks ≡ [] = ap (λ l. l ++ twice r.line (look_up (key_of r.name) d.names)) sound ∙ new.once in
+    let rest = go_locals ls rs a.1 (with_local d r) none new.apart in
+    (rest.0, rest.1 ∙ new.order ∙ ap (λ e. d.names ++ e ∷ behind) entry)
+
+pub inside_again : (p : Pou) (u : RawPou) → AreLocalsAt p.formals u.formals → AreLocalsAt p.locals u.locals → AreApart (inner_entries p)
+    → ((all_inside u.formals u.locals).breaks ≡ []) × ((all_inside u.formals u.locals).names ≡ inner_entries p)
+inside_again p u a b apart =
+    let first = go_formals p.formals u.formals a no_inside (local_entries 0 p.locals) refl apart in
+    let d = fold with_formal no_inside u.formals in
+    let order : d.names ++ local_entries d.locals p.locals ≡ inner_entries p = ap (λ n. d.names ++ local_entries n p.locals) first.2 ∙ first.1 in
+    let second = go_locals p.locals u.locals b d first.0 (subst AreApart (sym order) apart) in
+    (second.0, second.1 ∙ order)
+
+-- A text
+
+-- what a text has that declares some data blocks, other globals and units
+pub record IsPlainText (bs : List DataBlock) (ls : List Located) (ps : List Pou) (globals : List RawGlobal) (units : List RawPou) : Type 0 where
+  pub outside : (all_outside globals units).breaks ≡ []
+  pub names : (all_outside globals units).names ≡ block_entries bs ++ (located_entries 0 ls ++ unit_entries 0 ps)
+  pub sound : all_global_breaks globals ≡ []
+  pub blocks : all_blocks globals ≡ bs
+  pub located : all_located globals ≡ ls
+
+pub plain_text : (bs : List DataBlock) (ls : List Located) (ps : List Pou) (first second : List RawGlobal) (us : List RawPou)
+    → AreBlocksAt bs first → AreLocatedAt ls second → AreUnitsAt ps us → AreNumbered bs → ArePlaced ls → Ascend 1 (numbers_of bs) → length bs ≤ MOST_BLOCKS
+    → AreApart (block_entries bs ++ (located_entries 0 ls ++ unit_entries 0 ps)) → IsPlainText bs ls ps (first ++ second) us
+plain_text bs ls ps first second us a b c sizes placed ascend few apart =
+    let d = fold with_global no_outside first in
+    let e = fold with_global d second in
+    let one = go_blocks bs first a sizes no_outside (located_entries 0 ls ++ unit_entries 0 ps) refl apart (omega (arith, few)) in
+    let order_of_located : d.names ++ (located_entries d.globals ls ++ unit_entries 0 ps) ≡ block_entries bs ++ (located_entries 0 ls ++ unit_entries 0 ps) =
+    ap (λ n. d.names ++ (located_entries n ls ++ unit_entries 0 ps)) one.1 ∙ one.0.order in
+    let two = go_located ls second b d (unit_entries 0 ps) one.0.sound (subst AreApart (sym order_of_located) apart) in
+    let order_of_units : e.names ++ unit_entries e.units ps ≡ block_entries bs ++ (located_entries 0 ls ++ unit_entries 0 ps) =
+    ap (λ n. e.names ++ unit_entries n ps) (two.units ∙ one.0.units) ∙ two.order ∙ order_of_located in
+    let three = go_units ps us c e two.sound (subst AreApart (sym order_of_units) apart) in
+    let whole : fold with_global no_outside (first ++ second) ≡ e = fold-append with_global no_outside first second in
+    record {
+      outside = ap (λ (o : Outside). (fold with_unit o us).breaks) whole ∙ three.0;
+      names = ap (λ (o : Outside). (fold with_unit o us).names) whole ∙ three.1 ∙ order_of_units;
+      sound = flat_map-append (λ (g : RawGlobal). global_breaks g.ty g.line g.name g.at) first second
+          ∙ ap (λ l. l ++ all_global_breaks second) (sound_blocks bs first a sizes) ∙ sound_located ls second b placed;
+      blocks = fold-append (λ blocks (g : RawGlobal). with_block (block_of g.ty g.name g.at) blocks) [] first second
+          ∙ no_blocks ls second b (all_blocks first) ∙ blocks_again bs first a sizes [] ascend (omega (arith, few));
+      located = flat_map-append (λ (g : RawGlobal). listed (located_of g.ty g.name g.at)) first second
+          ∙ ap (λ l. l ++ all_located second) (no_located bs first a) ∙ located_again ls second b placed;
+    }

@@ -1,0 +1,95 @@
+-- Raw texts that declare what a tree has, whatever their lines are.
+use Rattle.std.proofs.Common.{◌≡◌, ℕ, ◌-◌, List, [], ◌∷◌, ◌++◌, length, Some, None}
+use Rattle.std.specs.Prelude.{codes, decimal}
+use Rattle.memory_areas.specs.declared.data_block.DataBlock.{DataBlock}
+use Rattle.memory_areas.specs.declared.place.Area.{Area}
+use Rattle.memory_areas.specs.declared.place.Area.TheVariants as place
+use Rattle.memory_areas.specs.declared.place.AreaName.{AreaName}
+use Rattle.memory_areas.specs.declared.place.AreaName.TheVariants as area
+use Rattle.s7_base.specs.declared.word.Width.TheVariants as width
+use Rattle.st_tree.specs.Values.{width_at}
+use Rattle.st_tree.specs.declared.program.Local.{Local}
+use Rattle.st_tree.specs.declared.program.Located.{Located}
+use Rattle.st_tree.specs.declared.program.Pou.{Pou}
+use Rattle.st_tree.specs.declared.program.StProgram.{StProgram}
+use Rattle.st_tree.specs.declared.raw.RawGlobal.{RawGlobal}
+use Rattle.st_tree.specs.declared.raw.RawGlobalType.TheVariants as type
+use Rattle.st_tree.specs.declared.raw.RawLocal.{RawLocal}
+use Rattle.st_tree.specs.declared.raw.RawPou.{RawPou}
+use Rattle.st_tree.specs.declared.raw.RawSt.{RawSt}
+use Rattle.st_tree.specs.declared.raw.RawVar.{RawVar}
+use Rattle.st_tree.specs.declared.raw.RawVar.TheVariants as var
+use Rattle.st_rules.specs.Globals.{contents, total}
+
+-- a data block under its plain name, at its own byte 0, with a list of all its bytes
+pub record IsBlockAt (b : DataBlock) (g : RawGlobal) : Type 0 where
+  pub last : ℕ
+  pub list : List (ℕ × ℕ)
+  pub named : g.name ≡ codes "DB" ++ decimal b.number
+  pub placed : g.at ≡ var.Direct area.Db (Some b.number) width.Byte 0 0
+  pub typed : g.ty ≡ type.Bytes last list
+  pub greatest : last ≡ length b.bytes - 1
+  pub bytes : contents last list ≡ b.bytes
+  pub size : total list ≡ length b.bytes
+
+abbrev pub AreBlocksAt : List DataBlock → List RawGlobal → Type 0
+AreBlocksAt [] [] = Unit {0}
+AreBlocksAt [] (g ∷ gs) = ⊥
+AreBlocksAt (b ∷ bs) [] = ⊥
+AreBlocksAt (b ∷ bs) (g ∷ gs) = IsBlockAt b g × AreBlocksAt bs gs
+
+-- the area that a global's location names; no global stands in another than I, Q and M
+abbrev pub name_of_area : Area → AreaName
+name_of_area place.I = area.I
+name_of_area place.Q = area.Q
+name_of_area place.M = area.M
+name_of_area other = area.L
+
+-- the location of a global in its type's width
+abbrev pub location_of : Located → RawVar
+location_of l = var.Direct (name_of_area l.place.area) None (width_at l.ty) l.place.byte l.place.bit
+
+-- a global under its name, at its place, of its type
+pub record IsLocatedAt (l : Located) (g : RawGlobal) : Type 0 where
+  pub named : g.name ≡ l.name
+  pub placed : g.at ≡ location_of l
+  pub typed : g.ty ≡ type.Plain l.ty
+
+abbrev pub AreLocatedAt : List Located → List RawGlobal → Type 0
+AreLocatedAt [] [] = Unit {0}
+AreLocatedAt [] (g ∷ gs) = ⊥
+AreLocatedAt (l ∷ ls) [] = ⊥
+AreLocatedAt (l ∷ ls) (g ∷ gs) = IsLocatedAt l g × AreLocatedAt ls gs
+
+-- a local or a formal under its name, of its type
+pub record IsLocalOf (l : Local) (r : RawLocal) : Type 0 where
+  pub named : r.name ≡ l.name
+  pub typed : r.ty ≡ l.ty
+
+abbrev pub AreLocalsAt : List Local → List RawLocal → Type 0
+AreLocalsAt [] [] = Unit {0}
+AreLocalsAt [] (r ∷ rs) = ⊥
+AreLocalsAt (l ∷ ls) [] = ⊥
+AreLocalsAt (l ∷ ls) (r ∷ rs) = IsLocalOf l r × AreLocalsAt ls rs
+
+-- a unit with its name, its formals and its locals, of any body
+pub record IsUnitAt (p : Pou) (u : RawPou) : Type 0 where
+  pub program : u.program ≡ p.program
+  pub named : u.name ≡ p.name
+  pub formals : AreLocalsAt p.formals u.formals
+  pub locals : AreLocalsAt p.locals u.locals
+
+abbrev pub AreUnitsAt : List Pou → List RawPou → Type 0
+AreUnitsAt [] [] = Unit {0}
+AreUnitsAt [] (u ∷ us) = ⊥
+AreUnitsAt (p ∷ ps) [] = ⊥
+AreUnitsAt (p ∷ ps) (u ∷ us) = IsUnitAt p u × AreUnitsAt ps us
+
+-- a text that declares what a tree has: first its data blocks, then its other globals, then its units
+pub record Redeclares (t : StProgram) (raw : RawSt) : Type 0 where
+  pub blocks : List RawGlobal
+  pub others : List RawGlobal
+  pub globals : raw.globals ≡ blocks ++ others
+  pub are_blocks : AreBlocksAt t.dbs blocks
+  pub are_located : AreLocatedAt t.globals others
+  pub are_units : AreUnitsAt t.pous raw.pous

@@ -1,0 +1,2 @@
+pub mod RawNesting
+pub mod TypedLaws
