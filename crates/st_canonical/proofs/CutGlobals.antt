@@ -211,7 +211,10 @@ reads_blocks others (b ∷ bs) line more ks s r =
 same_area : (a : Area) → place_word a ≡ area_word (area_form a)
 same_area place.I = refl
 same_area place.Q = refl
-same_area other = refl
+same_area place.M = refl
+same_area (place.Db n) = refl
+same_area (place.Local d) = refl
+same_area (place.Cell d) = refl
 
 reads_global : (g : Located) (more : List ℕ) (line : ℕ) (ks : List Kind) → is_name g.name ≡ true
     → is_variable (var.Direct (area_form g.place.area) None (width_at g.ty) g.place.byte g.place.bit) ≡ true

@@ -260,11 +260,14 @@ blocks_from others line (b ∷ more) =
     (bytes (length b.bytes - 1) (items_form b.bytes)))
     (line_after line) more
 
--- the area of a global's place
+-- the area of a global's place; no proper tree has a global on an area but I, Q and M
 abbrev pub area_form : Area → AreaName
 area_form place.I = area.I
 area_form place.Q = area.Q
-area_form other = area.M
+area_form place.M = area.M
+area_form (place.Db n) = area.M
+area_form (place.Local d) = area.M
+area_form (place.Cell d) = area.M
 
 -- globals after others
 abbrev pub located_from : Globals → ℕ → List Located → Placed Globals

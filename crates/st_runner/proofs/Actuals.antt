@@ -3,7 +3,7 @@ use Rattle.std.proofs.Common.{◌≡◌, ℕ, suc, zero, ◌<◌, List, [], ◌�
 use Rattle.memory_areas.specs.Access.{and_then}
 use Rattle.s7_base.specs.declared.outcome.Fault.{Fault}
 use Rattle.st_runner.specs.View.{AreReachable, IsReachable}
-use Rattle.st_tree.specs.Meaning.{located_actual, located_actuals}
+use Rattle.st_tree.specs.Calls.{located_actual, located_actuals}
 use Rattle.st_tree.specs.State.{State}
 use Rattle.st_tree.specs.declared.expr.Var.{Var}
 use Rattle.st_tree.specs.declared.program.Located.{Located}

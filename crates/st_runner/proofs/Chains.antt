@@ -2,17 +2,18 @@
 use Rattle.std.proofs.Common.{◌≡◌, ℕ, zero, suc, ◌+◌, ◌*◌, ◌<◌, ◌≤◌, max, List, [], ◌∷◌, map, Option, Some, None, refl, sym, ap, subst, arith}
 use Rattle.std.specs.Prelude.{slice_get}
 use Rattle.memory_areas.specs.declared.sizes.TheConstants.{ACTIVATIONS}
-use Rattle.st_tree.specs.Costs.{Costs, arm_most, body_most, case_most, greatest, most, most_step}
+use Rattle.st_tree.specs.Costs.{Costs, arm_most, body_most, case_most, greatest, most}
 use Rattle.st_runner.specs.Measures.{depth_costs, stack_costs}
 use Rattle.st_tree.specs.Runnable.{IsRunnableUnit, chain_costs, chain_of, chain_to, nesting_costs, unit_chain}
 use Rattle.st_runner.specs.declared.steps.TheConstants.{MOST_NESTING, UNIT_FRAMES}
 use Rattle.st_tree.specs.declared.expr.Var.{Var}
-use Rattle.st_tree.specs.declared.program.Arm.{Arm, fold-roll-Arm, map-Arm, roll-Arm}
-use Rattle.st_tree.specs.declared.program.CaseArm.{CaseArm, fold-roll-CaseArm, map-CaseArm, roll-CaseArm}
+use Rattle.st_tree.specs.declared.program.Arm.{Arm}
+use Rattle.st_tree.specs.declared.program.CaseArm.{CaseArm}
 use Rattle.st_tree.specs.declared.program.Pou.{Pou}
 use Rattle.st_tree.specs.declared.program.StProgram.{StProgram}
-use Rattle.st_tree.specs.declared.program.Stmt.{Stmt, fold-roll-Stmt, ind-Stmt, map-Stmt, roll-Stmt}
-use Rattle.st_tree.specs.declared.program.Stmt.TheOpen as S
+use Rattle.st_tree.specs.declared.program.Stmt.{Stmt}
+use Rattle.st_tree.proofs.Equations.{most_area_write, most_arm, most_assign, most_case, most_case_arm, most_continue, most_exit, most_if, most_invoke, most_return, most_while}
+use Rattle.st_tree.proofs.Induction.{Each, InArm, InCase, StmtSteps, every_body}
 
 -- three measures of one statement that are related at its parts are related
 module _ (p q r : Costs) (R : ℕ → ℕ → ℕ → Type 0) (none : R 0 0 0) (either : (a b c x y z : ℕ) → R a b c → R x y z → R (max a x) (max b y) (max c z))
@@ -21,98 +22,43 @@ module _ (p q r : Costs) (R : ℕ → ℕ → ℕ → Type 0) (none : R 0 0 0) (
   abbrev P : Stmt → Type 0
   P x = R (most p x) (most q x) (most r x)
 
-  abbrev PArm : Arm → Type 0
-  PArm x = R (arm_most p x) (arm_most q x) (arm_most r x)
+  -- the same of equal measures
+  opened : (a b c x y z : ℕ) → a ≡ x → b ≡ y → c ≡ z → R x y z → R a b c
+  opened a b c x y z e f g h = subst (λ n. R n b c) (sym e) (subst (λ n. R x n c) (sym f) (subst (λ n. R x y n) (sym g) h))
 
-  abbrev PCase : CaseArm → Type 0
-  PCase x = R (case_most p x) (case_most q x) (case_most r x)
+  stmts_hold : (xs : List Stmt) → Each P xs → R (body_most p xs) (body_most q xs) (body_most r xs)
+  stmts_hold [] each = none
+  stmts_hold (x ∷ xs) each = either _ _ _ _ _ _ each.0 (stmts_hold xs each.1)
 
-  abbrev AStmt : Type 0
-  AStmt = (x : Stmt) × P x
+  arms_hold : (xs : List Arm) → Each (InArm P) xs → R (greatest (map (arm_most p) xs)) (greatest (map (arm_most q) xs)) (greatest (map (arm_most r) xs))
+  arms_hold [] each = none
+  arms_hold (x ∷ xs) each = either _ _ _ _ _ _ (opened _ _ _ _ _ _ (most_arm p x) (most_arm q x) (most_arm r x) (stmts_hold x.body each.0)) (arms_hold xs each.1)
 
-  abbrev AnArm : Type 0
-  AnArm = (x : Arm) × PArm x
+  cases_hold : (xs : List CaseArm) → Each (InCase P) xs → R (greatest (map (case_most p) xs)) (greatest (map (case_most q) xs)) (greatest (map (case_most r) xs))
+  cases_hold [] each = none
+  cases_hold (x ∷ xs) each = either _ _ _ _ _ _ (opened _ _ _ _ _ _ (most_case_arm p x) (most_case_arm q x) (most_case_arm r x) (stmts_hold x.body each.0)) (cases_hold xs each.1)
 
-  abbrev ACase : Type 0
-  ACase = (x : CaseArm) × PCase x
-
-  stmts_hold : (ys : List AStmt) → R (greatest (map (most p) (map (λ (y : AStmt). y.0) ys))) (greatest (map (most q) (map (λ (y : AStmt). y.0) ys))) (greatest (map (most r) (map (λ (y : AStmt). y.0) ys)))
-  stmts_hold [] = none
-  stmts_hold (y ∷ ys) = either _ _ _ _ _ _ y.1 (stmts_hold ys)
-
-  arms_hold : (ys : List AnArm) → R (greatest (map (arm_most p) (map (λ (y : AnArm). y.0) ys))) (greatest (map (arm_most q) (map (λ (y : AnArm). y.0) ys))) (greatest (map (arm_most r) (map (λ (y : AnArm). y.0) ys)))
-  arms_hold [] = none
-  arms_hold (y ∷ ys) = either _ _ _ _ _ _ y.1 (arms_hold ys)
-
-  cases_hold : (ys : List ACase) → R (greatest (map (case_most p) (map (λ (y : ACase). y.0) ys))) (greatest (map (case_most q) (map (λ (y : ACase). y.0) ys))) (greatest (map (case_most r) (map (λ (y : ACase). y.0) ys)))
-  cases_hold [] = none
-  cases_hold (y ∷ ys) = either _ _ _ _ _ _ y.1 (cases_hold ys)
-
-  abbrev bare : S.Stmt-F AStmt AnArm ACase → S.Stmt-F Stmt Arm CaseArm
-  bare y = map-Stmt AStmt AnArm ACase Stmt Arm CaseArm (λ e. e.0) (λ e. e.0) (λ e. e.0) y
-
-  abbrev given : Costs → S.Stmt-F Stmt Arm CaseArm → ℕ
-  given k x = most_step k (map-Stmt Stmt Arm CaseArm ℕ ℕ ℕ (most k) (arm_most k) (case_most k) x)
-
-  core : (y : S.Stmt-F AStmt AnArm ACase) → R (given p (bare y)) (given q (bare y)) (given r (bare y))
-  core (S.Assign v e) = none
-  core (S.AreaWrite w a e) = none
-  core (S.Invoke n actuals) = at_call n actuals
-  core (S.If arms other) = nested _ _ _ (either _ _ _ _ _ _ (arms_hold arms) (stmts_hold other))
-  core (S.Case e arms other) = nested _ _ _ (either _ _ _ _ _ _ (cases_hold arms) (stmts_hold other))
-  core (S.While test body) = turned _ _ _ (stmts_hold body)
-  core S.Exit = none
-  core S.Continue = none
-  core S.Return = none
-
-  opened : (k : Costs) (x : S.Stmt-F Stmt Arm CaseArm) → given k x ≡ most k (roll-Stmt x)
-  opened k x = sym (fold-roll-Stmt ℕ ℕ ℕ (most_step k) (λ arm. greatest arm.body) (λ arm. greatest arm.body) x)
-
-  step : (x : S.Stmt-F Stmt Arm CaseArm) (y : S.Stmt-F AStmt AnArm ACase) → bare y ≡ x → P (roll-Stmt x)
-  step x y e =
-      subst (λ z. P (roll-Stmt z)) e
-      (subst (λ n. R n (most q (roll-Stmt (bare y))) (most r (roll-Stmt (bare y)))) (opened p (bare y))
-      (subst (λ n. R (given p (bare y)) n (most r (roll-Stmt (bare y)))) (opened q (bare y))
-      (subst (λ n. R (given p (bare y)) (given q (bare y)) n) (opened r (bare y)) (core y))))
-
-  abbrev given_arm : Costs → S.Arm-F Stmt Arm CaseArm → ℕ
-  given_arm k x = greatest (map-Arm Stmt Arm CaseArm ℕ ℕ ℕ (most k) (arm_most k) (case_most k) x).body
-
-  opened_arm : (k : Costs) (x : S.Arm-F Stmt Arm CaseArm) → given_arm k x ≡ arm_most k (roll-Arm x)
-  opened_arm k x = sym (fold-roll-Arm ℕ ℕ ℕ (most_step k) (λ arm. greatest arm.body) (λ arm. greatest arm.body) x)
-
-  abbrev bare_arm : S.Arm-F AStmt AnArm ACase → S.Arm-F Stmt Arm CaseArm
-  bare_arm y = map-Arm AStmt AnArm ACase Stmt Arm CaseArm (λ e. e.0) (λ e. e.0) (λ e. e.0) y
-
-  step_arm : (x : S.Arm-F Stmt Arm CaseArm) (y : S.Arm-F AStmt AnArm ACase) → bare_arm y ≡ x → PArm (roll-Arm x)
-  step_arm x y e =
-      subst (λ z. PArm (roll-Arm z)) e
-      (subst (λ n. R n (arm_most q (roll-Arm (bare_arm y))) (arm_most r (roll-Arm (bare_arm y)))) (opened_arm p (bare_arm y))
-      (subst (λ n. R (given_arm p (bare_arm y)) n (arm_most r (roll-Arm (bare_arm y)))) (opened_arm q (bare_arm y))
-      (subst (λ n. R (given_arm p (bare_arm y)) (given_arm q (bare_arm y)) n) (opened_arm r (bare_arm y)) (stmts_hold y.body))))
-
-  abbrev given_case : Costs → S.CaseArm-F Stmt Arm CaseArm → ℕ
-  given_case k x = greatest (map-CaseArm Stmt Arm CaseArm ℕ ℕ ℕ (most k) (arm_most k) (case_most k) x).body
-
-  opened_case : (k : Costs) (x : S.CaseArm-F Stmt Arm CaseArm) → given_case k x ≡ case_most k (roll-CaseArm x)
-  opened_case k x = sym (fold-roll-CaseArm ℕ ℕ ℕ (most_step k) (λ arm. greatest arm.body) (λ arm. greatest arm.body) x)
-
-  abbrev bare_case : S.CaseArm-F AStmt AnArm ACase → S.CaseArm-F Stmt Arm CaseArm
-  bare_case y = map-CaseArm AStmt AnArm ACase Stmt Arm CaseArm (λ e. e.0) (λ e. e.0) (λ e. e.0) y
-
-  step_case : (x : S.CaseArm-F Stmt Arm CaseArm) (y : S.CaseArm-F AStmt AnArm ACase) → bare_case y ≡ x → PCase (roll-CaseArm x)
-  step_case x y e =
-      subst (λ z. PCase (roll-CaseArm z)) e
-      (subst (λ n. R n (case_most q (roll-CaseArm (bare_case y))) (case_most r (roll-CaseArm (bare_case y)))) (opened_case p (bare_case y))
-      (subst (λ n. R (given_case p (bare_case y)) n (case_most r (roll-CaseArm (bare_case y)))) (opened_case q (bare_case y))
-      (subst (λ n. R (given_case p (bare_case y)) (given_case q (bare_case y)) n) (opened_case r (bare_case y)) (stmts_hold y.body))))
-
-  stmt_holds : (x : Stmt) → P x
-  stmt_holds = ind-Stmt P PArm PCase step step_arm step_case
+  steps : StmtSteps P
+  steps =
+      record {
+        assign = λ v e. opened _ _ _ _ _ _ (most_assign p v e) (most_assign q v e) (most_assign r v e) none;
+        area_write = λ w a e. opened _ _ _ _ _ _ (most_area_write p w a e) (most_area_write q w a e) (most_area_write r w a e) none;
+        invoke = λ n actuals. opened _ _ _ _ _ _ (most_invoke p n actuals) (most_invoke q n actuals) (most_invoke r n actuals) (at_call n actuals);
+        choice = λ arms other each rest.
+            opened _ _ _ _ _ _ (most_if p arms other) (most_if q arms other) (most_if r arms other)
+            (nested _ _ _ (either _ _ _ _ _ _ (arms_hold arms each) (stmts_hold other rest)));
+        selection = λ e arms other each rest.
+            opened _ _ _ _ _ _ (most_case p e arms other) (most_case q e arms other) (most_case r e arms other)
+            (nested _ _ _ (either _ _ _ _ _ _ (cases_hold arms each) (stmts_hold other rest)));
+        loop = λ test body each.
+            opened _ _ _ _ _ _ (most_while p test body) (most_while q test body) (most_while r test body) (turned _ _ _ (stmts_hold body each));
+        exit = opened _ _ _ _ _ _ (most_exit p) (most_exit q) (most_exit r) none;
+        continue = opened _ _ _ _ _ _ (most_continue p) (most_continue q) (most_continue r) none;
+        return = opened _ _ _ _ _ _ (most_return p) (most_return q) (most_return r) none;
+      }
 
   pub body_holds : (body : List Stmt) → R (body_most p body) (body_most q body) (body_most r body)
-  body_holds [] = none
-  body_holds (x ∷ xs) = either _ _ _ _ _ _ (stmt_holds x) (body_holds xs)
+  body_holds body = stmts_hold body (every_body P steps body)
 
 -- Chains
 

@@ -1,78 +1,50 @@
--- What statements cost and weigh, at each variant.
-use Rattle.std.proofs.Common.{◌≡◌, ℕ, ◌+◌, ◌≤◌, Bool, true, false, if◌then◌else◌, ℤ, max, List, [], ◌∷◌, map, Result, Ok, Err, sym, ap, subst, ◌∙◌, arith}
+-- What statements weigh at each variant, and that what is chosen costs and weighs no more than the choice.
+use Rattle.std.proofs.Common.{◌≡◌, ℕ, ◌+◌, ◌≤◌, Bool, true, false, if◌then◌else◌, ℤ, max, List, [], ◌∷◌, map, Result, Ok, Err, subst, arith}
 use Rattle.memory_areas.specs.Access.{and_then}
 use Rattle.s7_base.specs.declared.outcome.Fault.{Fault}
 use Rattle.s7_base.specs.declared.word.Width.{Width}
 use Rattle.st_runner.specs.Choice.{has_label, labelled, picked}
 use Rattle.st_runner.specs.Measures.{arm_weight, body_weight, case_weight, sum, weight, weight_step}
-use Rattle.st_tree.specs.Costs.{Costs, arm_most, body_most, case_most, greatest, most, most_step}
+use Rattle.st_tree.specs.Costs.{Costs, arm_most, body_most, case_most, greatest, most}
 use Rattle.st_tree.specs.State.{State}
 use Rattle.st_tree.specs.Value.{value}
 use Rattle.st_tree.specs.Values.{is_set}
 use Rattle.st_tree.specs.declared.expr.Expr.{Expr}
 use Rattle.st_tree.specs.declared.expr.Var.{Var}
-use Rattle.st_tree.specs.declared.program.Arm.{Arm, fold_out-Arm}
-use Rattle.st_tree.specs.declared.program.CaseArm.{CaseArm, fold_out-CaseArm}
+use Rattle.st_tree.specs.declared.program.Arm.{Arm}
+use Rattle.st_tree.specs.declared.program.CaseArm.{CaseArm}
 use Rattle.st_tree.specs.declared.program.Located.{Located}
-use Rattle.st_tree.specs.declared.program.Stmt.{Stmt, fold-roll-Stmt, map-Stmt, roll-Stmt}
-use Rattle.st_tree.specs.declared.program.Stmt.TheOpen as S
+use Rattle.st_tree.specs.declared.program.Stmt.{Stmt}
 use Rattle.st_tree.specs.declared.program.Stmt.TheVariants as stmt
 use Rattle.st_tree.specs.declared.state.Value.{Value}
-
-module _ (k : Costs) where
-  most_at : (x : Stmt) (y : S.Stmt-F Stmt Arm CaseArm) → x ≡ roll-Stmt y → most k x ≡ most_step k (map-Stmt Stmt Arm CaseArm ℕ ℕ ℕ (most k) (arm_most k) (case_most k) y)
-  most_at x y e = ap (most k) e ∙ fold-roll-Stmt ℕ ℕ ℕ (most_step k) (λ arm. greatest arm.body) (λ arm. greatest arm.body) y
-
-  pub most_if : (arms : List Arm) (other : List Stmt) → most k (stmt.If arms other) ≡ k.rest + max (greatest (map (arm_most k) arms)) (body_most k other)
-  most_if arms other = most_at (stmt.If arms other) (S.If arms other) (sym (stmt.rolls-If arms other))
-
-  pub most_case : (e : Expr) (arms : List CaseArm) (other : List Stmt) → most k (stmt.Case e arms other) ≡ k.rest + max (greatest (map (case_most k) arms)) (body_most k other)
-  most_case e arms other = most_at (stmt.Case e arms other) (S.Case e arms other) (sym (stmt.rolls-Case e arms other))
-
-  pub most_while : (e : Expr) (body : List Stmt) → most k (stmt.While e body) ≡ k.again + k.rest + body_most k body
-  most_while e body = most_at (stmt.While e body) (S.While e body) (sym (stmt.rolls-While e body))
-
-  pub most_invoke : (n : ℕ) (actuals : List Var) → most k (stmt.Invoke n actuals) ≡ k.call n actuals
-  most_invoke n actuals = most_at (stmt.Invoke n actuals) (S.Invoke n actuals) (sym (stmt.rolls-Invoke n actuals))
-
-  pub most_assign : (v : Var) (e : Expr) → most k (stmt.Assign v e) ≡ 0
-  most_assign v e = most_at (stmt.Assign v e) (S.Assign v e) (sym (stmt.rolls-Assign v e))
-
-  pub arm_is : (arm : Arm) → arm_most k arm ≡ body_most k arm.body
-  arm_is arm = fold_out-Arm ℕ ℕ ℕ (most_step k) (λ arm. greatest arm.body) (λ arm. greatest arm.body) arm
-
-  pub case_is : (arm : CaseArm) → case_most k arm ≡ body_most k arm.body
-  case_is arm = fold_out-CaseArm ℕ ℕ ℕ (most_step k) (λ arm. greatest arm.body) (λ arm. greatest arm.body) arm
-
-weight_at : (x : Stmt) (y : S.Stmt-F Stmt Arm CaseArm) → x ≡ roll-Stmt y → weight x ≡ weight_step (map-Stmt Stmt Arm CaseArm ℕ ℕ ℕ weight arm_weight case_weight y)
-weight_at x y e = ap weight e ∙ fold-roll-Stmt ℕ ℕ ℕ weight_step (λ arm. sum arm.body) (λ arm. sum arm.body) y
+use Rattle.st_tree.proofs.Equations.{fold_area_write, fold_arm, fold_assign, fold_case, fold_case_arm, fold_continue, fold_exit, fold_if, fold_return, most_arm, most_case, most_case_arm, most_if}
 
 pub weight_if : (arms : List Arm) (other : List Stmt) → weight (stmt.If arms other) ≡ 2 + max (greatest (map arm_weight arms)) (body_weight other)
-weight_if arms other = weight_at (stmt.If arms other) (S.If arms other) (sym (stmt.rolls-If arms other))
+weight_if = fold_if ℕ ℕ ℕ weight_step (λ arm. sum arm.body) (λ arm. sum arm.body)
 
 pub weight_case : (e : Expr) (arms : List CaseArm) (other : List Stmt) → weight (stmt.Case e arms other) ≡ 2 + max (greatest (map case_weight arms)) (body_weight other)
-weight_case e arms other = weight_at (stmt.Case e arms other) (S.Case e arms other) (sym (stmt.rolls-Case e arms other))
+weight_case = fold_case ℕ ℕ ℕ weight_step (λ arm. sum arm.body) (λ arm. sum arm.body)
 
 pub weight_assign : (v : Var) (e : Expr) → weight (stmt.Assign v e) ≡ 1
-weight_assign v e = weight_at (stmt.Assign v e) (S.Assign v e) (sym (stmt.rolls-Assign v e))
+weight_assign = fold_assign ℕ ℕ ℕ weight_step (λ arm. sum arm.body) (λ arm. sum arm.body)
 
 pub weight_area : (w : Width) (p e : Expr) → weight (stmt.AreaWrite w p e) ≡ 1
-weight_area w p e = weight_at (stmt.AreaWrite w p e) (S.AreaWrite w p e) (sym (stmt.rolls-AreaWrite w p e))
+weight_area = fold_area_write ℕ ℕ ℕ weight_step (λ arm. sum arm.body) (λ arm. sum arm.body)
 
 pub weight_exit : weight stmt.Exit ≡ 1
-weight_exit = weight_at stmt.Exit S.Exit (sym stmt.rolls-Exit)
+weight_exit = fold_exit ℕ ℕ ℕ weight_step (λ arm. sum arm.body) (λ arm. sum arm.body)
 
 pub weight_continue : weight stmt.Continue ≡ 1
-weight_continue = weight_at stmt.Continue S.Continue (sym stmt.rolls-Continue)
+weight_continue = fold_continue ℕ ℕ ℕ weight_step (λ arm. sum arm.body) (λ arm. sum arm.body)
 
 pub weight_return : weight stmt.Return ≡ 1
-weight_return = weight_at stmt.Return S.Return (sym stmt.rolls-Return)
+weight_return = fold_return ℕ ℕ ℕ weight_step (λ arm. sum arm.body) (λ arm. sum arm.body)
 
 arm_weighs : (arm : Arm) → arm_weight arm ≡ body_weight arm.body
-arm_weighs arm = fold_out-Arm ℕ ℕ ℕ weight_step (λ arm. sum arm.body) (λ arm. sum arm.body) arm
+arm_weighs = fold_arm ℕ ℕ ℕ weight_step (λ arm. sum arm.body) (λ arm. sum arm.body)
 
 case_weighs : (arm : CaseArm) → case_weight arm ≡ body_weight arm.body
-case_weighs arm = fold_out-CaseArm ℕ ℕ ℕ weight_step (λ arm. sum arm.body) (λ arm. sum arm.body) arm
+case_weighs = fold_case_arm ℕ ℕ ℕ weight_step (λ arm. sum arm.body) (λ arm. sum arm.body)
 
 -- what is chosen costs no more than all that may be
 abbrev Within : (List Stmt → ℕ) → ℕ → Result (List Stmt) Fault → Type 0
@@ -119,7 +91,7 @@ module _ (size : List Stmt → ℕ) where
 pub picked_most : (k : Costs) (g : List Located) (arms : List Arm) (other : List Stmt) (s : State) (body : List Stmt) → picked g arms other s ≡ Ok body → k.rest + body_most k body ≤ most k (stmt.If arms other)
 picked_most k g arms other s body e =
     let w : body_most k body ≤ max (greatest (map (arm_most k) arms)) (body_most k other) =
-    subst (λ r. Within (body_most k) (max (greatest (map (arm_most k) arms)) (body_most k other)) r) e (picked_within (body_most k) (arm_most k) (arm_is k) g arms other s) in
+    subst (λ r. Within (body_most k) (max (greatest (map (arm_most k) arms)) (body_most k other)) r) e (picked_within (body_most k) (arm_most k) (most_arm k) g arms other s) in
     let m : most k (stmt.If arms other) ≡ k.rest + max (greatest (map (arm_most k) arms)) (body_most k other) = most_if k arms other in
     omega arith
 
@@ -132,7 +104,7 @@ picked_weight g arms other s body e =
 
 pub labelled_most : (k : Costs) (e : Expr) (n : ℤ) (arms : List CaseArm) (other : List Stmt) → k.rest + body_most k (labelled n arms other) ≤ most k (stmt.Case e arms other)
 labelled_most k e n arms other =
-    let w : body_most k (labelled n arms other) ≤ max (greatest (map (case_most k) arms)) (body_most k other) = labelled_within (body_most k) (case_most k) (case_is k) n arms other in
+    let w : body_most k (labelled n arms other) ≤ max (greatest (map (case_most k) arms)) (body_most k other) = labelled_within (body_most k) (case_most k) (most_case_arm k) n arms other in
     let m : most k (stmt.Case e arms other) ≡ k.rest + max (greatest (map (case_most k) arms)) (body_most k other) = most_case k e arms other in
     omega arith
 

@@ -14,7 +14,7 @@ use Rattle.st_runner.specs.declared.frame.At.{At}
 use Rattle.st_runner.specs.declared.frame.At.TheVariants as at
 use Rattle.st_runner.specs.declared.frame.Frame.{Frame}
 use Rattle.st_runner.specs.declared.frame.Frame.TheVariants as frame
-use Rattle.st_runner.proofs.Costs.{labelled_most, labelled_weight, most_invoke, most_while, picked_most, picked_weight, weight_area, weight_assign, weight_continue, weight_exit, weight_return}
+use Rattle.st_runner.proofs.Costs.{labelled_most, labelled_weight, picked_most, picked_weight, weight_area, weight_assign, weight_continue, weight_exit, weight_return}
 use Rattle.st_runner.proofs.Means.{area_err, area_ok, assign_err, assign_ok, case_means, chosen_out, if_means}
 use Rattle.st_runner.proofs.Stack.{sizes_tall, unwound_faults}
 use Rattle.st_runner.proofs.Tops.{on_top, top_sizes, top_tall, top_weight}
@@ -30,7 +30,7 @@ use Rattle.st_tree.specs.declared.program.StProgram.{StProgram}
 use Rattle.st_tree.specs.declared.program.Stmt.{Stmt}
 use Rattle.st_tree.specs.declared.program.Stmt.TheVariants as stmt
 use Rattle.st_tree.specs.declared.state.Value.{Value}
-use Rattle.st_tree.proofs.Opened.{meaning_continue, meaning_exit, meaning_invoke, meaning_return, meaning_while}
+use Rattle.st_tree.proofs.Equations.{meaning_continue, meaning_exit, meaning_invoke, meaning_return, meaning_while, most_invoke, most_while}
 
 -- frames that stay as they are cost no more
 stay_reach : (k : Costs) (ws : List Frame) (n : ℕ) → reach k ws at.Work ≤ max (tall k ws) (sizes k ws + n)

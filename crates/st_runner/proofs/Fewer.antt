@@ -8,8 +8,8 @@ use Rattle.st_runner.specs.declared.frame.At.TheVariants as at
 use Rattle.st_runner.specs.declared.frame.Frame.{Frame}
 use Rattle.st_runner.specs.declared.frame.Frame.TheVariants as frame
 use Rattle.st_runner.proofs.Stack.{unwound_faults}
-use Rattle.st_tree.specs.Calls.{after_unit, calls_to, entered, unit_step}
-use Rattle.st_tree.specs.Meaning.{Out, Normal, Calls, after_body, body_meaning, called, invoked, located_actuals, loop, turns, with_value}
+use Rattle.st_tree.specs.Calls.{after_unit, called, calls_to, entered, located_actuals, unit_step}
+use Rattle.st_tree.specs.Meaning.{Out, Normal, Calls, after_body, body_meaning, loop, turns, with_value}
 use Rattle.st_tree.specs.StRun.{end_seen}
 use Rattle.st_tree.specs.State.{State}
 use Rattle.st_tree.specs.Value.{value}
@@ -98,13 +98,13 @@ module _ (tree : StProgram) (u : ℕ) where
         ∙ ap (ending g d ws) (sym (by_truth test b (value g test s) true e))
 
     -- a call
-    pub call_faults : (n : ℕ) (actuals : List Var) (f : Fault) → located_actuals g actuals s ≡ Err f → end_at g c ws (at.Over (Some f)) u s ≡ ending g d ws (invoked g d n actuals (suc u) s)
-    call_faults n actuals f e = sym (ap end_seen (unwound_faults g d ws f s)) ∙ ap (λ r. ending g d ws (called d n r u s)) (sym e)
+    pub call_faults : (n : ℕ) (actuals : List Var) (f : Fault) → located_actuals g actuals s ≡ Err f → end_at g c ws (at.Over (Some f)) u s ≡ ending g d ws (d n actuals (suc u) s)
+    call_faults n actuals f e = sym (ap end_seen (unwound_faults g d ws f s)) ∙ ap (λ r. ending g d ws (called (unit_step tree c (slice_get tree.pous n)) r u s)) (sym e)
 
     pub call_enters : (n : ℕ) (actuals : List Var) (unit : Pou) (formals : List Reference) → slice_get tree.pous n ≡ Some unit → located_actuals g actuals s ≡ Ok formals →
-        ending g c ws (after_unit (body_meaning g c unit.body u (entered unit formals s))) ≡ ending g d ws (invoked g d n actuals (suc u) s)
+        ending g c ws (after_unit (body_meaning g c unit.body u (entered unit formals s))) ≡ ending g d ws (d n actuals (suc u) s)
     call_enters n actuals unit formals there e =
         same_ending ws (after_unit (body_meaning g c unit.body u (entered unit formals s))) (after_unit (body_meaning g c unit.body u (entered unit formals s)))
         (unit_follows u 0 u (body_meaning g c unit.body u (entered unit formals s)) (body_meaning g c unit.body u (entered unit formals s)) (body_bound unit.body (entered unit formals s)))
         ∙ ap (λ (o : Option Pou). ending g d ws (unit_step tree c o formals u s)) (sym there)
-        ∙ ap (λ r. ending g d ws (called d n r u s)) (sym e)
+        ∙ ap (λ r. ending g d ws (called (unit_step tree c (slice_get tree.pous n)) r u s)) (sym e)

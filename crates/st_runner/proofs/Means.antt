@@ -21,7 +21,7 @@ use Rattle.st_tree.specs.declared.program.Located.{Located}
 use Rattle.st_tree.specs.declared.program.Stmt.{Stmt}
 use Rattle.st_tree.specs.declared.program.Stmt.TheVariants as stmt
 use Rattle.st_tree.specs.declared.state.Value.{Value}
-use Rattle.st_tree.proofs.Opened.{meaning_area, meaning_arm, meaning_assign, meaning_case, meaning_case_arm, meaning_if}
+use Rattle.st_tree.proofs.Equations.{meaning_area_write, meaning_arm, meaning_assign, meaning_case, meaning_case_arm, meaning_if}
 
 module _ (g : List Located) (c : Calls) (fs : List Frame) (u : ℕ) where
   changed_ok : (r : Result State Fault) (s t : State) → r ≡ Ok t → end_at g c fs at.Work u t ≡ ending g c fs (changed r u s)
@@ -40,10 +40,10 @@ module _ (g : List Located) (c : Calls) (fs : List Frame) (u : ℕ) where
   assign_err v e s f h = changed_err (assigned g v e s) s f h ∙ ap (ending g c fs) (sym (meaning_assign g c u s v e))
 
   pub area_ok : (w : Width) (p e : Expr) (s t : State) → area_assigned g w p e s ≡ Ok t → end_at g c fs at.Work u t ≡ ending g c fs (meaning g c (stmt.AreaWrite w p e) u s)
-  area_ok w p e s t h = changed_ok (area_assigned g w p e s) s t h ∙ ap (ending g c fs) (sym (meaning_area g c u s w p e))
+  area_ok w p e s t h = changed_ok (area_assigned g w p e s) s t h ∙ ap (ending g c fs) (sym (meaning_area_write g c u s w p e))
 
   pub area_err : (w : Width) (p e : Expr) (s : State) (f : Fault) → area_assigned g w p e s ≡ Err f → end_at g c fs (at.Over (Some f)) u s ≡ ending g c fs (meaning g c (stmt.AreaWrite w p e) u s)
-  area_err w p e s f h = changed_err (area_assigned g w p e s) s f h ∙ ap (ending g c fs) (sym (meaning_area g c u s w p e))
+  area_err w p e s f h = changed_err (area_assigned g w p e s) s f h ∙ ap (ending g c fs) (sym (meaning_area_write g c u s w p e))
 
 -- the chosen statements, or the fault of the choice
 abbrev pub chosen_out : List Located → Calls → ℕ → State → Result (List Stmt) Fault → Out

@@ -22,8 +22,8 @@ use Rattle.st_runner.proofs.Fewer.{call_enters, call_faults, test_ends, test_fau
 use Rattle.st_runner.proofs.Stack.{sizes_tall}
 use Rattle.st_runner.proofs.Stepping.{stack_length}
 use Rattle.st_runner.proofs.Tops.{on_top, top_sizes, top_tall}
-use Rattle.st_tree.specs.Calls.{after_unit, calls_to, entered}
-use Rattle.st_tree.specs.Meaning.{Normal, body_meaning, located_actuals}
+use Rattle.st_tree.specs.Calls.{after_unit, calls_to, entered, located_actuals}
+use Rattle.st_tree.specs.Meaning.{Normal, body_meaning}
 use Rattle.st_tree.specs.State.{State}
 use Rattle.st_tree.specs.Value.{value}
 use Rattle.st_tree.specs.Values.{is_set}

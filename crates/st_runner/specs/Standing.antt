@@ -9,7 +9,7 @@ use Rattle.s7_base.specs.declared.outcome.Outcome.TheVariants as outcome
 use Rattle.st_runner.specs.declared.runner.RunnerRefusal.{RunnerRefusal}
 use Rattle.st_runner.specs.declared.runner.RunnerRefusal.TheVariants.{BadCall, NoMemory}
 use Rattle.st_tree.specs.Calls.{after_unit, calls_to}
-use Rattle.st_tree.specs.Meaning.{Out, Normal, Calls, after_body, body_meaning, invoked, loop, then_do}
+use Rattle.st_tree.specs.Meaning.{Out, Normal, Calls, after_body, body_meaning, loop, then_do}
 use Rattle.st_tree.specs.StRun.{FitsSt, end_seen, st_run}
 use Rattle.st_tree.specs.State.{Activation, State}
 use Rattle.st_tree.specs.Value.{value}
@@ -70,7 +70,7 @@ end_by globals calls waits work units s = end_seen (all_followed globals calls w
 end_by globals calls waits (test t body) units s =
     end_seen (all_followed globals calls waits (loop (value globals t) (body_meaning globals calls body) units s))
 end_by globals calls waits (call n actuals) units s =
-    end_seen (all_followed globals calls waits (invoked globals calls n actuals units s))
+    end_seen (all_followed globals calls waits (calls n actuals units s))
 end_by globals calls waits (over f) units s = Ended s.memory.areas f
 
 -- how a run that stands here ends within some further units

@@ -8,7 +8,7 @@ use Rattle.st_runner.specs.declared.frame.At.TheVariants as at
 use Rattle.st_runner.specs.declared.frame.Frame.{Frame}
 use Rattle.st_runner.specs.declared.frame.Frame.TheVariants as frame
 use Rattle.st_tree.specs.Calls.{after_unit}
-use Rattle.st_tree.specs.Meaning.{Out, Normal, Calls, after_body, body_meaning, invoked, loop, then_do}
+use Rattle.st_tree.specs.Meaning.{Out, Normal, Calls, after_body, body_meaning, loop, then_do}
 use Rattle.st_tree.specs.StRun.{end_seen}
 use Rattle.st_tree.specs.State.{State}
 use Rattle.st_tree.specs.Value.{value}
@@ -36,7 +36,7 @@ end_at globals calls work at.Work units s = ending globals calls work (Normal un
 end_at globals calls work (at.Test test body) units s =
     ending globals calls work (loop (value globals test.now) (body_meaning globals calls body.now) units s)
 end_at globals calls work (at.Call n actuals) units s =
-    ending globals calls work (invoked globals calls n actuals.now units s)
+    ending globals calls work (calls n actuals.now units s)
 end_at globals calls work (at.Over f) units s = Ended s.memory.areas f
 
 -- the outcome of a run for which this comes next

@@ -3,8 +3,7 @@ ghost use Rattle.std.specs.Prelude.{◌≡◌, ◌+◌, ◌≤◌, [], length, m
 ghost use Rattle.memory_areas.specs.Access.{and_then};
 ghost use Rattle.st_runner.specs.View.{AreReachable, Changes, IsDeeper, IsReachable, IsRunning, IsSound, MayEnter, MayLeave, state_of};
 ghost use Rattle.st_tree.specs.Runnable.{AreGlobals};
-ghost use Rattle.st_tree.specs.Calls.{entered, left, zero_of};
-ghost use Rattle.st_tree.specs.Meaning.{located_actual, located_actuals, tested};
+ghost use Rattle.st_tree.specs.Calls.{entered, left, located_actual, located_actuals, tested, zero_of};
 ghost use Rattle.st_tree.specs.State.{reference_of};
 
 use crate::state::State;

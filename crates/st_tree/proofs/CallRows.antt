@@ -22,7 +22,7 @@ use Rattle.st_tree.specs.declared.program.Pou.{Pou}
 use Rattle.st_tree.specs.declared.program.StProgram.{StProgram}
 use Rattle.st_tree.specs.declared.program.Stmt.{Stmt}
 use Rattle.st_tree.specs.declared.program.Stmt.TheVariants as stmt
-use Rattle.st_tree.proofs.Opened.{opened}
+use Rattle.st_tree.proofs.Equations.{meaning_equations}
 
 abbrev function : List ℕ → List Local → List Stmt → Pou
 function name formals body = record { program = false; name = name; formals = formals; locals = []; body = body }
@@ -51,12 +51,12 @@ memory_of outputs = record { inputs = []; outputs = outputs; markers = []; block
 -- a formal is a reference to the actual
 writes_actual : st_run tree (call_of (Fc 1) 0 (at place.Q 0 0 width.Word ∷ [])) (memory_of (0 ∷ 0 ∷ [])) 0 ≡ Ended (memory_of (1 ∷ 2 ∷ [])) None
 unfolding digits
-writes_actual = simp opened
+writes_actual = simp meaning_equations
 
 -- DINO begins as the instance of a function block
 reads_instance : st_run tree (call_of (Fb 2) 7 []) (memory_of (0 ∷ 0 ∷ [])) 0 ≡ Ended (memory_of (2 ∷ 0 ∷ [])) None
 unfolding digits
-reads_instance = simp opened
+reads_instance = simp meaning_equations
 
 -- an actual of the width of its formal that lies in its area fits
 fits_output : FitsSt tree (call_of (Fc 1) 0 (at place.Q 2046 0 width.Word ∷ []))

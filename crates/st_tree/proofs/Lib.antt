@@ -1,10 +1,11 @@
-pub mod Assignments
 pub mod CanonEquations
 pub mod Ends
-pub mod Opened
-pub mod StatementLines
+pub mod Equations
+pub mod Induction
+pub mod PartEquations
 pub mod Units
 mod CallRows
 mod OperatorRows
+mod PartRows
 mod RunRows
 mod SpellingRows

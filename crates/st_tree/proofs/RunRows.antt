@@ -25,7 +25,7 @@ use Rattle.st_tree.specs.declared.program.Pou.{Pou}
 use Rattle.st_tree.specs.declared.program.StProgram.{StProgram}
 use Rattle.st_tree.specs.declared.program.Stmt.{Stmt}
 use Rattle.st_tree.specs.declared.program.Stmt.TheVariants as stmt
-use Rattle.st_tree.proofs.Opened.{opened}
+use Rattle.st_tree.proofs.Equations.{meaning_equations}
 
 abbrev local_of : StType → Local
 local_of ty = record { name = codes "x"; ty = ty }
@@ -87,32 +87,32 @@ show i v = stmt.Assign (out i) (expr.Convert type.Int type.Byte (get v))
 -- locals are zero at the start and keep what they are given; no unit is needed
 locals : run_of [] (stmt.Assign first (expr.Binary binary.Add (get second) (int 5)) ∷ show 0 first ∷ show 1 second ∷ []) 0 ≡ ended (5 ∷ 0 ∷ []) None
 unfolding digits
-locals = simp opened
+locals = simp meaning_equations
 
 -- the first fault ends the run, with what was written before it
 faults : run_of [] (stmt.Assign (out 0) (byte 9) ∷ stmt.Assign first (expr.Binary binary.Div (int 1) (get second)) ∷ stmt.Assign (out 1) (byte 9) ∷ []) 0 ≡ ended (9 ∷ 0 ∷ []) (Some DivideByZero)
 unfolding digits
-faults = simp opened
+faults = simp meaning_equations
 
 -- SEL evaluates both sides, and AND both operands
 both_sides : run_of [] (stmt.Assign first (expr.Select (truth 0) (int 1) (expr.Binary binary.Div (int 1) (int 0))) ∷ []) 0 ≡ ended (0 ∷ 0 ∷ []) (Some DivideByZero)
 unfolding digits
-both_sides = simp opened
+both_sides = simp meaning_equations
 
 both_operands :
     run_of [] (stmt.Assign (var.Register reg.Rlo) (expr.Binary binary.And (truth 0) (expr.Binary binary.Eq (int 1) (expr.Binary binary.Div (int 1) (int 0)))) ∷ []) 0
     ≡ ended (0 ∷ 0 ∷ []) (Some DivideByZero)
 unfolding digits
-both_operands = simp opened
+both_operands = simp meaning_equations
 
 -- the expression is evaluated before the variable is located; the left operand before the right
 expression_first : run_of [] (stmt.Assign (out 5) (expr.Convert type.Int type.Byte (expr.Binary binary.Div (int 1) (int 0))) ∷ []) 0 ≡ ended (0 ∷ 0 ∷ []) (Some DivideByZero)
 unfolding digits
-expression_first = simp opened
+expression_first = simp meaning_equations
 
 left_first : run_of [] (stmt.Assign (out 0) (expr.Binary binary.Or (get (out 5)) (get (var.Direct area.Db 0 0 width.Byte))) ∷ []) 0 ≡ ended (0 ∷ 0 ∷ []) (Some AreaLength)
 unfolding digits
-left_first = simp opened
+left_first = simp meaning_equations
 
 -- a data block is the one that DBNO names at the access
 blocks :
@@ -122,11 +122,11 @@ blocks :
     ∷ stmt.Assign (out 0) (get (var.Direct area.Db 1 0 width.Byte)) ∷ []) 0
     ≡ ended (2 ∷ 1 ∷ []) (Some DbMissing)
 unfolding digits
-blocks = simp opened
+blocks = simp meaning_equations
 
 no_block : run_of [] (stmt.Assign (out 0) (get (var.Direct area.Di 1 0 width.Byte)) ∷ []) 0 ≡ ended (0 ∷ 0 ∷ []) (Some DbNotOpen)
 unfolding digits
-no_block = simp opened
+no_block = simp meaning_equations
 
 -- through a pointer: QB 1 is 16#82000008, and 16#87000000 has no area
 pointers :
@@ -136,7 +136,7 @@ pointers :
     ∷ stmt.AreaWrite width.Byte (expr.Literal type.Dword (pos 2264924160)) (byte 4) ∷ []) 0
     ≡ ended (3 ∷ 3 ∷ []) (Some AreaCode)
 unfolding digits
-pointers = simp opened
+pointers = simp meaning_equations
 
 -- IF: the first arm whose test is TRUE, or else ELSE
 arms :
@@ -145,7 +145,7 @@ arms :
     ∷ stmt.If (record { test = truth 0; body = [] } ∷ []) (stmt.Assign (out 1) (byte 4) ∷ []) ∷ []) 0
     ≡ ended (2 ∷ 4 ∷ []) None
 unfolding digits
-arms = simp opened
+arms = simp meaning_equations
 
 -- CASE: the first arm that has the value, or else ELSE
 cases :
@@ -154,27 +154,27 @@ cases :
     ∷ stmt.Case (int 7) (record { labels = pos 4 ∷ []; body = [] } ∷ []) (stmt.Assign (out 1) (byte 4) ∷ []) ∷ []) 0
     ≡ ended (2 ∷ 4 ∷ []) None
 unfolding digits
-cases = simp opened
+cases = simp meaning_equations
 
 -- WHILE: each test takes a unit first, also one that would fault; the last test is one too
 unit_first : run_of [] (stmt.While (expr.Binary binary.Eq (expr.Binary binary.Div (int 1) (int 0)) (int 1)) [] ∷ []) 0 ≡ Going
 unfolding digits
-unit_first = simp opened
+unit_first = simp meaning_equations
 
 then_test : run_of [] (stmt.While (expr.Binary binary.Eq (expr.Binary binary.Div (int 1) (int 0)) (int 1)) [] ∷ []) 1 ≡ ended (0 ∷ 0 ∷ []) (Some DivideByZero)
 unfolding digits
-then_test = simp opened
+then_test = simp meaning_equations
 
 abbrev counting : List Stmt
 counting = stmt.While (expr.Binary binary.Lt (get first) (int 2)) (stmt.Assign first (expr.Binary binary.Add (get first) (int 1)) ∷ []) ∷ show 0 first ∷ []
 
 turns_short : run_of [] counting 2 ≡ Going
 unfolding digits
-turns_short = simp opened
+turns_short = simp meaning_equations
 
 turns_enough : run_of [] counting 3 ≡ ended (2 ∷ 0 ∷ []) None
 unfolding digits
-turns_enough = simp opened
+turns_enough = simp meaning_equations
 
 -- EXIT ends the loop, CONTINUE leads to the test, RETURN ends the unit
 leaving :
@@ -186,7 +186,7 @@ leaving :
     ∷ show 0 first ∷ show 1 second ∷ stmt.Return ∷ stmt.Assign (out 0) (byte 9) ∷ []) 2
     ≡ ended (2 ∷ 2 ∷ []) None
 unfolding digits
-leaving = simp opened
+leaving = simp meaning_equations
 
 -- a call takes a unit before it locates its actuals
 abbrev calling : List Stmt
@@ -194,11 +194,11 @@ calling = stmt.Invoke 1 (out 5 ∷ []) ∷ []
 
 call_waits : run_of (function (local_of type.Byte ∷ []) [] [] ∷ []) calling 0 ≡ Going
 unfolding digits
-call_waits = simp opened
+call_waits = simp meaning_equations
 
 actual_faults : run_of (function (local_of type.Byte ∷ []) [] [] ∷ []) calling 1 ≡ ended (0 ∷ 0 ∷ []) (Some AreaLength)
 unfolding digits
-actual_faults = simp opened
+actual_faults = simp meaning_equations
 
 -- formals are references: both stand for one local, and a place given on is written
 abbrev double : Pou
@@ -208,14 +208,14 @@ double =
 
 aliases : run_of (double ∷ []) (stmt.Invoke 1 (first ∷ first ∷ []) ∷ show 0 first ∷ []) 1 ≡ ended (6 ∷ 0 ∷ []) None
 unfolding digits
-aliases = simp opened
+aliases = simp meaning_equations
 
 abbrev setter : Pou
 setter = function (local_of type.Byte ∷ []) [] (stmt.Assign (var.Formal 0) (byte 8) ∷ [])
 
 given_on : run_of (function (local_of type.Byte ∷ []) [] (stmt.Invoke 2 (var.Formal 0 ∷ []) ∷ []) ∷ setter ∷ []) (stmt.Invoke 1 (out 1 ∷ []) ∷ []) 2 ≡ ended (0 ∷ 8 ∷ []) None
 unfolding digits
-given_on = simp opened
+given_on = simp meaning_equations
 
 -- locals of a unit are zero at each call of it
 abbrev stepper : Pou
@@ -223,7 +223,7 @@ stepper = function (local_of type.Int ∷ []) (local_of type.Int ∷ []) (stmt.A
 
 locals_anew : run_of (stepper ∷ []) (stmt.Invoke 1 (first ∷ []) ∷ stmt.Invoke 1 (second ∷ []) ∷ show 0 first ∷ show 1 second ∷ []) 2 ≡ ended (1 ∷ 1 ∷ []) None
 unfolding digits
-locals_anew = simp opened
+locals_anew = simp meaning_equations
 
 -- a unit that is not there has no run
 no_unit : st_run (text_of [] []) (call_of (Fc 1)) (memory_of []) 9 ≡ Going

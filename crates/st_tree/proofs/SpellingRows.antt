@@ -7,7 +7,7 @@ use Rattle.s7_base.specs.declared.word.Width.TheVariants as width
 use Rattle.st_tree.specs.Form.{canon}
 use Rattle.st_tree.specs.Spelling.{literal_text, written, var_text}
 use Rattle.st_tree.specs.Typing.{Names}
-use Rattle.st_tree.proofs.CanonEquations.{canon_equations}
+use Rattle.st_tree.proofs.Equations.{canon_equations}
 use Rattle.st_tree.specs.declared.expr.StType.TheVariants as type
 use Rattle.st_tree.specs.declared.expr.UnaryOp.TheVariants as unary
 use Rattle.st_tree.specs.declared.expr.BinaryOp.TheVariants as binary

@@ -1,23 +1,25 @@
 -- Units: more of them never change what has ended, and calls that may nest deeper than there are units
 -- change nothing. Two meanings are compared, of which the second has j units more.
-use Rattle.std.proofs.Common.{◌≡◌, ℕ, zero, suc, ◌+◌, ◌≤◌, ◌<◌, Bool, true, false, if◌then◌else◌, ℤ, List, [], ◌∷◌, map, Option, Some, None, Result, Ok, Err, refl, sym, ap, subst, arith}
+use Rattle.std.proofs.Common.{◌≡◌, ℕ, zero, suc, ◌+◌, ◌≤◌, Bool, true, false, if◌then◌else◌, ℤ, List, [], ◌∷◌, map, Option, Some, None, Result, Ok, Err, refl, sym, ap, subst, arith}
 use Rattle.std.specs.Prelude.{slice_get}
 use Rattle.std.specs.List.{list_any}
 use Rattle.std.specs.Ordering.{int_eq}
 use Rattle.s7_base.specs.declared.outcome.Fault.{Fault}
-use Rattle.st_tree.specs.Calls.{after_unit, calls_to, entered, unit_step}
-use Rattle.st_tree.specs.Meaning.{Out, Normal, Exits, Continues, Returns, Faults, NoUnits, Sem, Calls, Guarded, Labelled, after_body, arm_meaning, arm_step, body_meaning, called, case_meaning, case_step, changed, first_true, first_with, in_order, located_actuals, meaning, stmt_step, then_do, turns, with_value}
+use Rattle.st_tree.specs.Calls.{after_unit, called, calls_to, entered, invoked, located_actuals, unit_step}
+use Rattle.st_tree.specs.Meaning.{Out, Normal, Exits, Continues, Returns, Faults, NoUnits, Sem, Calls, Guarded, Labelled, after_body, area_assigned, arm_meaning, assigned, body_meaning, case_meaning, changed, first_true, first_with, meaning, then_do, turns, with_value}
 use Rattle.st_tree.specs.State.{State}
 use Rattle.st_tree.specs.Value.{Worth, value}
 use Rattle.st_tree.specs.Values.{Value, is_set}
-use Rattle.st_tree.specs.declared.program.Arm.{Arm, fold-roll-Arm, map-Arm, roll-Arm}
-use Rattle.st_tree.specs.declared.program.CaseArm.{CaseArm, fold-roll-CaseArm, map-CaseArm, roll-CaseArm}
+use Rattle.st_tree.specs.declared.expr.Var.{Var}
+use Rattle.st_tree.specs.declared.program.Arm.{Arm}
+use Rattle.st_tree.specs.declared.program.CaseArm.{CaseArm}
 use Rattle.st_tree.specs.declared.program.Located.{Located}
 use Rattle.st_tree.specs.declared.program.Pou.{Pou}
 use Rattle.st_tree.specs.declared.program.StProgram.{StProgram}
-use Rattle.st_tree.specs.declared.program.Stmt.{Stmt, fold-roll-Stmt, ind-Stmt, map-Stmt, roll-Stmt}
-use Rattle.st_tree.specs.declared.program.Stmt.TheOpen as S
+use Rattle.st_tree.specs.declared.program.Stmt.{Stmt}
 use Rattle.st_tree.specs.declared.state.Reference.{Reference}
+use Rattle.st_tree.proofs.Equations.{meaning_area_write, meaning_arm, meaning_assign, meaning_case, meaning_case_arm, meaning_continue, meaning_exit, meaning_if, meaning_invoke, meaning_return, meaning_while}
+use Rattle.st_tree.proofs.Induction.{Each, InArm, InCase, StmtSteps, every_body}
 
 -- the second ends as the first with j units more left, and the first has gained none; without a unit left
 -- the first says something of the second only where that has no more
@@ -33,9 +35,9 @@ Follows j most (NoUnits s) o = j ≡ 0 → o ≡ NoUnits s
 abbrev pub Follow : ℕ → Sem → Sem → Type 0
 Follow k f g = (u j : ℕ) (s : State) → u ≤ k → Follows j u (f u s) (g (u + j) s)
 
--- calls with less than k units
+-- calls with up to k units
 abbrev pub CallsFollow : ℕ → Calls → Calls → Type 0
-CallsFollow k c d = (n : ℕ) (r : List Reference) (u j : ℕ) (s : State) → u < k → Follows j u (c n r u s) (d n r (u + j) s)
+CallsFollow k c d = (n : ℕ) (actuals : List Var) → Follow k (c n actuals) (d n actuals)
 
 pub wider : (j least most : ℕ) (o p : Out) → least ≤ most → Follows j least o p → Follows j most o p
 wider j least most (Normal u s) p h f = let b = f.1 in (f.0, omega arith)
@@ -112,139 +114,94 @@ module _ (k : ℕ) where
       (body_follows j u (f u s) (g (u + j) s) (turns m test f) (turns n test g) again (more u j s within))
       (refl, same))))
 
-  module _ (globals : List Located) (c d : Calls) (calls : CallsFollow k c d) where
-    called_follows : (n : ℕ) (r : Result (List Reference) Fault) (u j : ℕ) (s : State) → u < k → Follows j u (called c n r u s) (called d n r (u + j) s)
-    called_follows n (Ok formals) u j s h = calls n formals u j s h
-    called_follows n (Err f) u j s h = refl
+  -- the same of equal ends
+  opened : (j u : ℕ) (o p q r : Out) → o ≡ q → p ≡ r → Follows j u q r → Follows j u o p
+  opened j u o p q r e f h = subst (λ (x : Out). Follows j u x p) (sym e) (subst (λ (x : Out). Follows j u q x) (sym f) h)
 
+  module _ (g : List Located) (c d : Calls) (calls : CallsFollow k c d) where
     abbrev P : Stmt → Type 0
-    P x = Follow k (meaning globals c x) (meaning globals d x)
+    P x = Follow k (meaning g c x) (meaning g d x)
 
-    abbrev PArm : Arm → Type 0
-    PArm a = ((arm_meaning globals c a).0 ≡ (arm_meaning globals d a).0) × Follow k (arm_meaning globals c a).1 (arm_meaning globals d a).1
+    list_follows : (xs : List Stmt) → Each P xs → Follow k (body_meaning g c xs) (body_meaning g d xs)
+    list_follows [] each u j s h = (refl, omega arith)
+    list_follows (x ∷ xs) each u j s h =
+        then_follows j u (meaning g c x u s) (meaning g d x (u + j) s) (body_meaning g c xs) (body_meaning g d xs) h (list_follows xs each.1) (each.0 u j s h)
 
-    abbrev PCase : CaseArm → Type 0
-    PCase a = ((case_meaning globals c a).0 ≡ (case_meaning globals d a).0) × Follow k (case_meaning globals c a).1 (case_meaning globals d a).1
+    arms_follow : (arms : List Arm) → Each (InArm P) arms → (f h : Sem) → Follow k f h → Follow k (first_true (map (arm_meaning g c) arms) f) (first_true (map (arm_meaning g d) arms) h)
+    arms_follow [] each f h more u j s b = more u j s b
+    arms_follow (x ∷ xs) each f h more u j s b =
+        opened j u _ _ _ _
+        (ap (λ (a : Guarded). first_true (a ∷ map (arm_meaning g c) xs) f u s) (meaning_arm g c x))
+        (ap (λ (a : Guarded). first_true (a ∷ map (arm_meaning g d) xs) h (u + j) s) (meaning_arm g d x))
+        (valued (value g x.test s) j u (u + j) s _ _ (λ v. picked (is_set v) j u _ _ _ _ (list_follows x.body each.0 u j s b) (arms_follow xs each.1 f h more u j s b)))
 
-    -- children with their proofs
-    abbrev AStmt : Type 0
-    AStmt = (x : Stmt) × P x
+    cases_follow : (n : ℤ) (arms : List CaseArm) → Each (InCase P) arms → (f h : Sem) → Follow k f h → Follow k (first_with n (map (case_meaning g c) arms) f) (first_with n (map (case_meaning g d) arms) h)
+    cases_follow n [] each f h more u j s b = more u j s b
+    cases_follow n (x ∷ xs) each f h more u j s b =
+        opened j u _ _ _ _
+        (ap (λ (a : Labelled). first_with n (a ∷ map (case_meaning g c) xs) f u s) (meaning_case_arm g c x))
+        (ap (λ (a : Labelled). first_with n (a ∷ map (case_meaning g d) xs) h (u + j) s) (meaning_case_arm g d x))
+        (picked (list_any (λ label. int_eq label n) x.labels) j u _ _ _ _ (list_follows x.body each.0 u j s b) (cases_follow n xs each.1 f h more u j s b))
 
-    abbrev AnArm : Type 0
-    AnArm = (x : Arm) × PArm x
+    steps : StmtSteps P
+    steps =
+        record {
+          assign = λ v e u j s h. opened j u _ _ _ _ (meaning_assign g c u s v e) (meaning_assign g d (u + j) s v e) (changed_follows (assigned g v e s) j u s);
+          area_write = λ w p e u j s h. opened j u _ _ _ _ (meaning_area_write g c u s w p e) (meaning_area_write g d (u + j) s w p e) (changed_follows (area_assigned g w p e s) j u s);
+          invoke = λ n actuals u j s h. opened j u _ _ _ _ (meaning_invoke g c u s n actuals) (meaning_invoke g d (u + j) s n actuals) (calls n actuals u j s h);
+          choice = λ arms other each rest u j s h.
+              opened j u _ _ _ _ (meaning_if g c u s arms other) (meaning_if g d (u + j) s arms other)
+              (arms_follow arms each (body_meaning g c other) (body_meaning g d other) (list_follows other rest) u j s h);
+          selection = λ e arms other each rest u j s h.
+              opened j u _ _ _ _ (meaning_case g c u s e arms other) (meaning_case g d (u + j) s e arms other)
+              (valued (value g e s) j u (u + j) s _ _ (λ v. cases_follow v.n arms each (body_meaning g c other) (body_meaning g d other) (list_follows other rest) u j s h));
+          loop = λ test body each u j s h.
+              opened j u _ _ _ _ (meaning_while g c u s test body) (meaning_while g d (u + j) s test body)
+              (turns_follow u (u + j) (value g test) (body_meaning g c body) (body_meaning g d body) (list_follows body each) u j s h (omega arith) (omega arith));
+          exit = λ u j s h. opened j u _ _ _ _ (meaning_exit g c u s) (meaning_exit g d (u + j) s) (refl, omega arith);
+          continue = λ u j s h. opened j u _ _ _ _ (meaning_continue g c u s) (meaning_continue g d (u + j) s) (refl, omega arith);
+          return = λ u j s h. opened j u _ _ _ _ (meaning_return g c u s) (meaning_return g d (u + j) s) (refl, omega arith);
+        }
 
-    abbrev ACase : Type 0
-    ACase = (x : CaseArm) × PCase x
+    pub statements_follow : (body : List Stmt) → Follow k (body_meaning g c body) (body_meaning g d body)
+    statements_follow body = list_follows body (every_body P steps body)
 
-    abbrev stmts : List AStmt → List Stmt
-    stmts ys = map (λ (y : AStmt). y.0) ys
+-- Calls
 
-    list_follows : (ys : List AStmt) → Follow k (in_order (map (meaning globals c) (stmts ys))) (in_order (map (meaning globals d) (stmts ys)))
-    list_follows [] u j s h = (refl, omega arith)
-    list_follows (y ∷ ys) u j s h =
-        then_follows j u (meaning globals c y.0 u s) (meaning globals d y.0 (u + j) s) (in_order (map (meaning globals c) (stmts ys))) (in_order (map (meaning globals d) (stmts ys))) h
-        (list_follows ys) (y.1 u j s h)
-
-    arms_follow : (ys : List AnArm) (f g : Sem) → Follow k f g →
-        Follow k (first_true (map (arm_meaning globals c) (map (λ (y : AnArm). y.0) ys)) f) (first_true (map (arm_meaning globals d) (map (λ (y : AnArm). y.0) ys)) g)
-    arms_follow [] f g more u j s h = more u j s h
-    arms_follow (y ∷ ys) f g more u j s h =
-        subst (λ (w : Worth). Follows j u (first_true (map (arm_meaning globals c) (map (λ (y : AnArm). y.0) (y ∷ ys))) f u s) (with_value (w s) (u + j) s (λ v. if is_set v then (arm_meaning globals d y.0).1 (u + j) s else first_true (map (arm_meaning globals d) (map (λ (y : AnArm). y.0) ys)) g (u + j) s)))
-        y.1.0
-        (valued ((arm_meaning globals c y.0).0 s) j u (u + j) s _ _ (λ x. picked (is_set x) j u _ _ _ _ (y.1.1 u j s h) (arms_follow ys f g more u j s h)))
-
-    cases_follow : (n : ℤ) (ys : List ACase) (f g : Sem) → Follow k f g →
-        Follow k (first_with n (map (case_meaning globals c) (map (λ (y : ACase). y.0) ys)) f) (first_with n (map (case_meaning globals d) (map (λ (y : ACase). y.0) ys)) g)
-    cases_follow n [] f g more u j s h = more u j s h
-    cases_follow n (y ∷ ys) f g more u j s h =
-        subst (λ (labels : List ℤ). Follows j u (first_with n (map (case_meaning globals c) (map (λ (y : ACase). y.0) (y ∷ ys))) f u s) (if list_any (λ label. int_eq label n) labels then (case_meaning globals d y.0).1 (u + j) s else first_with n (map (case_meaning globals d) (map (λ (y : ACase). y.0) ys)) g (u + j) s))
-        y.1.0
-        (picked (list_any (λ label. int_eq label n) (case_meaning globals c y.0).0) j u _ _ _ _ (y.1.1 u j s h) (cases_follow n ys f g more u j s h))
-
-    abbrev bare : S.Stmt-F AStmt AnArm ACase → S.Stmt-F Stmt Arm CaseArm
-    bare y = map-Stmt AStmt AnArm ACase Stmt Arm CaseArm (λ e. e.0) (λ e. e.0) (λ e. e.0) y
-
-    abbrev given : Calls → S.Stmt-F Stmt Arm CaseArm → Sem
-    given e x = stmt_step globals e (map-Stmt Stmt Arm CaseArm Sem Guarded Labelled (meaning globals e) (arm_meaning globals e) (case_meaning globals e) x)
-
-    core : (y : S.Stmt-F AStmt AnArm ACase) → Follow k (given c (bare y)) (given d (bare y))
-    core (S.Assign v e) u j s h = changed_follows _ j u s
-    core (S.AreaWrite w p e) u j s h = changed_follows _ j u s
-    core (S.Invoke n actuals) zero zero s h = λ none. refl
-    core (S.Invoke n actuals) zero (suc j) s h = λ none. cc
-    core (S.Invoke n actuals) (suc u) j s h =
-        let less : u < k = omega arith in
-        let step : u ≤ suc u = omega arith in
-        let one : suc (u + j) ≡ suc u + j = omega arith in
-        subst (λ (z : ℕ). Follows j (suc u) (given c (bare (S.Invoke n actuals)) (suc u) s) (given d (bare (S.Invoke n actuals)) z s)) one
-        (wider j u (suc u) _ _ step (called_follows n (located_actuals globals actuals s) u j s less))
-    core (S.If arms other) u j s h = arms_follow arms (in_order (map (meaning globals c) (stmts other))) (in_order (map (meaning globals d) (stmts other))) (list_follows other) u j s h
-    core (S.Case e arms other) u j s h =
-        valued (value globals e s) j u (u + j) s _ _ (λ x. cases_follow x.n arms (in_order (map (meaning globals c) (stmts other))) (in_order (map (meaning globals d) (stmts other))) (list_follows other) u j s h)
-    core (S.While test body) u j s h =
-        turns_follow u (u + j) (value globals test) (in_order (map (meaning globals c) (stmts body))) (in_order (map (meaning globals d) (stmts body))) (list_follows body) u j s h (omega arith) (omega arith)
-    core S.Exit u j s h = (refl, omega arith)
-    core S.Continue u j s h = (refl, omega arith)
-    core S.Return u j s h = (refl, omega arith)
-
-    opened : (e : Calls) (x : S.Stmt-F Stmt Arm CaseArm) → given e x ≡ meaning globals e (roll-Stmt x)
-    opened e x = sym (fold-roll-Stmt Sem Guarded Labelled (stmt_step globals e) (arm_step globals) case_step x)
-
-    step : (x : S.Stmt-F Stmt Arm CaseArm) (y : S.Stmt-F AStmt AnArm ACase) → bare y ≡ x → P (roll-Stmt x)
-    step x y e =
-        subst (λ z. P (roll-Stmt z)) e
-        (subst (λ (f : Sem). Follow k f (meaning globals d (roll-Stmt (bare y)))) (opened c (bare y))
-        (subst (λ (f : Sem). Follow k (given c (bare y)) f) (opened d (bare y)) (core y)))
-
-    abbrev bare_arm : S.Arm-F AStmt AnArm ACase → S.Arm-F Stmt Arm CaseArm
-    bare_arm y = map-Arm AStmt AnArm ACase Stmt Arm CaseArm (λ e. e.0) (λ e. e.0) (λ e. e.0) y
-
-    abbrev given_arm : Calls → S.Arm-F Stmt Arm CaseArm → Guarded
-    given_arm e x = arm_step globals (map-Arm Stmt Arm CaseArm Sem Guarded Labelled (meaning globals e) (arm_meaning globals e) (case_meaning globals e) x)
-
-    opened_arm : (e : Calls) (x : S.Arm-F Stmt Arm CaseArm) → given_arm e x ≡ arm_meaning globals e (roll-Arm x)
-    opened_arm e x = sym (fold-roll-Arm Sem Guarded Labelled (stmt_step globals e) (arm_step globals) case_step x)
-
-    step_arm : (x : S.Arm-F Stmt Arm CaseArm) (y : S.Arm-F AStmt AnArm ACase) → bare_arm y ≡ x → PArm (roll-Arm x)
-    step_arm x y e =
-        subst (λ z. PArm (roll-Arm z)) e
-        (subst (λ (f : Guarded). (f.0 ≡ (arm_meaning globals d (roll-Arm (bare_arm y))).0) × Follow k f.1 (arm_meaning globals d (roll-Arm (bare_arm y))).1) (opened_arm c (bare_arm y))
-        (subst (λ (f : Guarded). ((given_arm c (bare_arm y)).0 ≡ f.0) × Follow k (given_arm c (bare_arm y)).1 f.1) (opened_arm d (bare_arm y)) (refl, list_follows y.body)))
-
-    abbrev bare_case : S.CaseArm-F AStmt AnArm ACase → S.CaseArm-F Stmt Arm CaseArm
-    bare_case y = map-CaseArm AStmt AnArm ACase Stmt Arm CaseArm (λ e. e.0) (λ e. e.0) (λ e. e.0) y
-
-    abbrev given_case : Calls → S.CaseArm-F Stmt Arm CaseArm → Labelled
-    given_case e x = case_step (map-CaseArm Stmt Arm CaseArm Sem Guarded Labelled (meaning globals e) (arm_meaning globals e) (case_meaning globals e) x)
-
-    opened_case : (e : Calls) (x : S.CaseArm-F Stmt Arm CaseArm) → given_case e x ≡ case_meaning globals e (roll-CaseArm x)
-    opened_case e x = sym (fold-roll-CaseArm Sem Guarded Labelled (stmt_step globals e) (arm_step globals) case_step x)
-
-    step_case : (x : S.CaseArm-F Stmt Arm CaseArm) (y : S.CaseArm-F AStmt AnArm ACase) → bare_case y ≡ x → PCase (roll-CaseArm x)
-    step_case x y e =
-        subst (λ z. PCase (roll-CaseArm z)) e
-        (subst (λ (f : Labelled). (f.0 ≡ (case_meaning globals d (roll-CaseArm (bare_case y))).0) × Follow k f.1 (case_meaning globals d (roll-CaseArm (bare_case y))).1) (opened_case c (bare_case y))
-        (subst (λ (f : Labelled). ((given_case c (bare_case y)).0 ≡ f.0) × Follow k (given_case c (bare_case y)).1 f.1) (opened_case d (bare_case y)) (refl, list_follows y.body)))
-
-    pub stmt_follows : (x : Stmt) → P x
-    stmt_follows = ind-Stmt P PArm PCase step step_arm step_case
-
-    pub statements_follow : (body : List Stmt) → Follow k (body_meaning globals c body) (body_meaning globals d body)
-    statements_follow [] u j s h = (refl, omega arith)
-    statements_follow (x ∷ xs) u j s h =
-        then_follows j u (meaning globals c x u s) (meaning globals d x (u + j) s) (body_meaning globals c xs) (body_meaning globals d xs) h (statements_follow xs) (stmt_follows x u j s h)
-
--- calls that may nest as deep as there are units
-unit_given : (k : ℕ) (tree : StProgram) (c d : Calls) (calls : CallsFollow k c d) (o : Option Pou) (r : List Reference) (u j : ℕ) (s : State) → u ≤ k →
-    Follows j u (unit_step tree c o r u s) (unit_step tree d o r (u + j) s)
+unit_given : (k : ℕ) (tree : StProgram) (c d : Calls) (calls : CallsFollow k c d) (o : Option Pou) (r : List Reference) → Follow k (unit_step tree c o r) (unit_step tree d o r)
 unit_given k tree c d calls None r u j s h = λ none. refl
 unit_given k tree c d calls (Some unit) r u j s h =
     unit_follows k j u (body_meaning tree.globals c unit.body u (entered unit r s)) (body_meaning tree.globals d unit.body (u + j) (entered unit r s))
     (statements_follow k tree.globals c d calls unit.body u j (entered unit r s) h)
 
+called_follows : (k : ℕ) (f h : List Reference → Sem) → ((r : List Reference) → Follow k (f r) (h r)) → (r : Result (List Reference) Fault) → Follow k (called f r) (called h r)
+called_follows k f h enter (Ok formals) u j s b = enter formals u j s b
+called_follows k f h enter (Err x) u j s b = refl
+
+invoked_follows : (k : ℕ) (tree : StProgram) (c d : Calls) → CallsFollow k c d → CallsFollow (suc k) (invoked tree c) (invoked tree d)
+invoked_follows k tree c d calls n actuals zero zero s h = λ none. refl
+invoked_follows k tree c d calls n actuals zero (suc j) s h = λ none. cc
+invoked_follows k tree c d calls n actuals (suc u) j s h =
+    let step : u ≤ suc u = omega arith in
+    let one : suc (u + j) ≡ suc u + j = omega arith in
+    let o : Option Pou = slice_get tree.pous n in
+    subst (λ (z : ℕ). Follows j (suc u) (invoked tree c n actuals (suc u) s) (invoked tree d n actuals z s)) one
+    (wider j u (suc u) _ _ step (called_follows k (unit_step tree c o) (unit_step tree d o) (unit_given k tree c d calls o) (located_actuals tree.globals actuals s) u j s (omega arith)))
+
+-- without a unit no call is begun
+pub no_call : (deep : ℕ) (tree : StProgram) (n : ℕ) (actuals : List Var) (s : State) → calls_to deep tree n actuals 0 s ≡ NoUnits s
+no_call zero tree n actuals s = refl
+no_call (suc deep) tree n actuals s = refl
+
+none_given : (a b : ℕ) (tree : StProgram) (n : ℕ) (actuals : List Var) (j : ℕ) (s : State) → Follows j 0 (calls_to a tree n actuals 0 s) (calls_to b tree n actuals (0 + j) s)
+none_given a b tree n actuals zero s = opened 0 0 0 _ _ _ _ (no_call a tree n actuals s) (no_call b tree n actuals s) (λ none. refl)
+none_given a b tree n actuals (suc j) s = opened 0 (suc j) 0 _ _ (NoUnits s) _ (no_call a tree n actuals s) refl (λ none. cc)
+
+-- calls that may nest as deep as there are units
 pub calls_follow : (k a b : ℕ) (tree : StProgram) → k ≤ a → k ≤ b → CallsFollow k (calls_to a tree) (calls_to b tree)
-calls_follow zero a b tree x y n r u j s h = absurd (omega arith)
-calls_follow (suc k) zero b tree x y n r u j s h = absurd (omega arith)
-calls_follow (suc k) (suc a) zero tree x y n r u j s h = absurd (omega arith)
-calls_follow (suc k) (suc a) (suc b) tree x y n r u j s h =
-    unit_given k tree (calls_to a tree) (calls_to b tree) (calls_follow k a b tree (omega arith) (omega arith)) (slice_get tree.pous n) r u j s (omega arith)
+calls_follow zero a b tree x y n actuals zero j s h = none_given a b tree n actuals j s
+calls_follow zero a b tree x y n actuals (suc u) j s h = absurd (omega arith)
+calls_follow (suc k) zero b tree x y n actuals u j s h = absurd (omega arith)
+calls_follow (suc k) (suc a) zero tree x y n actuals u j s h = absurd (omega arith)
+calls_follow (suc k) (suc a) (suc b) tree x y n actuals u j s h =
+    invoked_follows k tree (calls_to a tree) (calls_to b tree) (calls_follow k a b tree (omega arith) (omega arith)) n actuals u j s h

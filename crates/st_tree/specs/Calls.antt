@@ -1,13 +1,40 @@
--- What the units of a text do when they are called.
-use Rattle.std.specs.Prelude.{ℕ, zero, suc, pos, List, [], ◌∷◌, ◌++◌, length, map, take, slice_get, Option, Some, None}
+-- What the calls of a text do: each takes a unit, then locates its actuals, then runs the called unit.
+use Rattle.std.specs.Prelude.{ℕ, zero, suc, pos, List, [], ◌∷◌, ◌++◌, length, map, take, slice_get, Option, Some, None, Result, Ok, Err}
+use Rattle.memory_areas.specs.Access.{and_then, aimed, fault_of, unless}
 use Rattle.memory_areas.specs.Areas.{cleared}
+use Rattle.s7_base.specs.declared.outcome.Fault.{Fault}
 use Rattle.st_tree.specs.Meaning.{Out, Normal, Exits, Continues, Returns, Faults, NoUnits, Sem, Calls, body_meaning}
-use Rattle.st_tree.specs.State.{Activation, State, depth}
-use Rattle.st_tree.specs.Values.{Value}
+use Rattle.st_tree.specs.State.{Activation, State, depth, reference_of}
+use Rattle.st_tree.specs.Values.{Value, width_at}
+use Rattle.st_tree.specs.declared.expr.Var.{Var}
+use Rattle.st_tree.specs.declared.expr.Var.TheVariants as var
 use Rattle.st_tree.specs.declared.program.Local.{Local}
+use Rattle.st_tree.specs.declared.program.Located.{Located}
 use Rattle.st_tree.specs.declared.program.Pou.{Pou}
 use Rattle.st_tree.specs.declared.program.StProgram.{StProgram}
 use Rattle.st_tree.specs.declared.state.Reference.{Reference}
+use Rattle.st_tree.specs.declared.state.Reference.TheVariants as reference
+
+-- Actuals
+
+-- the fault of an access to what a variable stands for; nothing is read, and a register or a local has none
+abbrev pub tested : Reference → State → Result Reference Fault
+tested (reference.Register r) s = Ok (reference.Register r)
+tested (reference.Local d i) s = Ok (reference.Local d i)
+tested (reference.Place p ty) s = unless (fault_of (aimed p) (width_at ty) s.memory) (reference.Place p ty)
+
+-- what an actual stands for, once located; a formal passes its reference on
+abbrev pub located_actual : List Located → Var → State → Result Reference Fault
+located_actual globals (var.Formal i) s = reference_of globals (var.Formal i) s
+located_actual globals v s = and_then (reference_of globals v s) (λ r. tested r s)
+
+-- what the actuals of a call stand for, located in their order
+abbrev pub located_actuals : List Located → List Var → State → Result (List Reference) Fault
+located_actuals globals [] s = Ok []
+located_actuals globals (v ∷ rest) s =
+    and_then (located_actual globals v s) (λ r. and_then (located_actuals globals rest s) (λ more. Ok (r ∷ more)))
+
+-- Units
 
 -- locals begin as zero, FALSE for a BOOL
 abbrev pub zero_of : Local → Value
@@ -38,14 +65,29 @@ after_unit (Returns units s) = Normal units (left s)
 after_unit (Faults f s) = Faults f s
 after_unit (NoUnits s) = NoUnits s
 
--- a unit that is there is entered; one that is not, as in no proper tree, never ends
+-- what a unit does whose formals stand for these: one that is there is entered; one that is not, as in no
+-- proper tree, never ends
 abbrev pub unit_step : StProgram → Calls → Option Pou → List Reference → Sem
 unit_step tree calls None formals units s = NoUnits s
 unit_step tree calls (Some unit) formals units s =
     after_unit (body_meaning tree.globals calls unit.body units (entered unit formals s))
 
+-- Calls
+
+-- what is done with the actuals of a call, once they are located
+abbrev pub called : (List Reference → Sem) → Result (List Reference) Fault → Sem
+called enter (Ok formals) units s = enter formals units s
+called enter (Err f) units s = Faults f s
+
+-- a call of a unit takes a unit of work, then locates its actuals, then enters; the calls in the unit are
+-- given
+abbrev pub invoked : StProgram → Calls → ℕ → List Var → Sem
+invoked tree calls n actuals zero s = NoUnits s
+invoked tree calls n actuals (suc units) s =
+    called (unit_step tree calls (slice_get tree.pous n)) (located_actuals tree.globals actuals s) units s
+
 -- calls of the units of a text that nest at most so deep. Since each call takes a unit, calls within
 -- some units nest no deeper than these are many, and a larger depth changes nothing.
 abbrev pub calls_to : ℕ → StProgram → Calls
-calls_to zero tree n formals units s = NoUnits s
-calls_to (suc deep) tree n formals units s = unit_step tree (calls_to deep tree) (slice_get tree.pous n) formals units s
+calls_to zero tree n actuals units s = NoUnits s
+calls_to (suc deep) tree n actuals units s = invoked tree (calls_to deep tree) n actuals units s

@@ -31,7 +31,8 @@ pub data Form : Type 0 where
 abbrev pub prefix_level : UnaryOp → ℕ
 prefix_level unary.Minus = 1
 prefix_level unary.Not = 2
-prefix_level function = 0
+prefix_level unary.BcdToInt = 0
+prefix_level unary.BcdToDint = 0
 
 -- the level of an operator between its operands
 abbrev pub infix_level : BinaryOp → ℕ
@@ -52,9 +53,16 @@ infix_level binary.Or = 9
 
 -- the precedence of an expression: that of its outermost operator that no brackets enclose
 abbrev pub level : Form → ℕ
+level (literal ty n) = 0
+level (variable v) = 0
+level (group f) = 0
 level (prefix op f) = prefix_level op
 level (infix_of op f g) = infix_level op
-level operand = 0
+level (digits_to op f) = 0
+level (convert from to f) = 0
+level (select f g h) = 0
+level (shift op f g) = 0
+level (area_read w f) = 0
 
 -- the expression at a place that takes levels up to k, in brackets where its precedence is lower
 abbrev pub wrap : ℕ → Form → Form
@@ -64,7 +72,8 @@ wrap k f = if nat_lt k (level f) then group f else f
 abbrev pub unary_form : UnaryOp → Form → Form
 unary_form unary.Minus f = prefix unary.Minus (wrap (prefix_level unary.Minus) f)
 unary_form unary.Not f = prefix unary.Not (wrap (prefix_level unary.Not) f)
-unary_form function f = digits_to function f
+unary_form unary.BcdToInt f = digits_to unary.BcdToInt f
+unary_form unary.BcdToDint f = digits_to unary.BcdToDint f
 
 -- one layer of an expression whose operands have their brackets; operators between operands group to
 -- the left

@@ -4,6 +4,7 @@ pub mod Depth
 pub mod Form
 pub mod Meaning
 pub mod Operators
+pub mod Parts
 pub mod Runnable
 pub mod Spelling
 pub mod StRun

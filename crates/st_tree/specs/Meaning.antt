@@ -1,24 +1,21 @@
--- What statements do to a state, within a number of units. Each test of a WHILE and each call takes one
--- unit first.
+-- What statements do to a state, within a number of units. Each test of a WHILE takes one unit first. What a
+-- call does, the units that it takes too, is given.
 use Rattle.std.specs.Prelude.{ℕ, zero, suc, if◌then◌else◌, ℤ, List, [], ◌∷◌, map, Result, Ok, Err}
 use Rattle.std.specs.List.{list_any}
 use Rattle.std.specs.Ordering.{int_eq}
-use Rattle.memory_areas.specs.Access.{and_then, aimed, fault_of, unless}
+use Rattle.memory_areas.specs.Access.{and_then}
 use Rattle.s7_base.specs.declared.outcome.Fault.{Fault}
 use Rattle.s7_base.specs.declared.word.Width.{Width}
-use Rattle.st_tree.specs.State.{State, area_write, reference_of, write}
+use Rattle.st_tree.specs.State.{State, area_write, write}
 use Rattle.st_tree.specs.Value.{Worth, value}
-use Rattle.st_tree.specs.Values.{Value, is_set, width_at}
+use Rattle.st_tree.specs.Values.{Value, is_set}
 use Rattle.st_tree.specs.declared.expr.Expr.{Expr}
 use Rattle.st_tree.specs.declared.expr.Var.{Var}
-use Rattle.st_tree.specs.declared.expr.Var.TheVariants as var
 use Rattle.st_tree.specs.declared.program.Arm.{Arm, fold-Arm}
 use Rattle.st_tree.specs.declared.program.CaseArm.{CaseArm, fold-CaseArm}
 use Rattle.st_tree.specs.declared.program.Located.{Located}
 use Rattle.st_tree.specs.declared.program.Stmt.{Stmt, fold-Stmt}
 use Rattle.st_tree.specs.declared.program.Stmt.TheOpen as S
-use Rattle.st_tree.specs.declared.state.Reference.{Reference}
-use Rattle.st_tree.specs.declared.state.Reference.TheVariants as reference
 
 -- how statements end: at their end, by EXIT, CONTINUE or RETURN, each with the units that are left; by a
 -- fault; or because no unit is left; and the state then
@@ -121,36 +118,10 @@ loop test body units s = turns units test body units s
 
 -- Calls
 
--- what the unit at a position does when it is entered with what its formals stand for
+-- all that a call of the unit at a position does, with these actuals: the units that it takes, the locating
+-- of its actuals, and what the unit does
 abbrev pub Calls : Type 0
-Calls = ℕ → List Reference → Sem
-
--- the fault of an access to what a variable stands for; nothing is read, and a register or a local has none
-abbrev pub tested : Reference → State → Result Reference Fault
-tested (reference.Register r) s = Ok (reference.Register r)
-tested (reference.Local d i) s = Ok (reference.Local d i)
-tested (reference.Place p ty) s = unless (fault_of (aimed p) (width_at ty) s.memory) (reference.Place p ty)
-
--- what an actual stands for, once located; a formal passes its reference on
-abbrev pub located_actual : List Located → Var → State → Result Reference Fault
-located_actual globals (var.Formal i) s = reference_of globals (var.Formal i) s
-located_actual globals v s = and_then (reference_of globals v s) (λ r. tested r s)
-
--- what the actuals of a call stand for, located in their order
-abbrev pub located_actuals : List Located → List Var → State → Result (List Reference) Fault
-located_actuals globals [] s = Ok []
-located_actuals globals (v ∷ rest) s =
-    and_then (located_actual globals v s) (λ r. and_then (located_actuals globals rest s) (λ more. Ok (r ∷ more)))
-
--- a call with its actuals located
-abbrev pub called : Calls → ℕ → Result (List Reference) Fault → Sem
-called calls n (Ok formals) units s = calls n formals units s
-called calls n (Err f) units s = Faults f s
-
--- a call takes a unit, then locates its actuals
-abbrev pub invoked : List Located → Calls → ℕ → List Var → Sem
-invoked globals calls n actuals zero s = NoUnits s
-invoked globals calls n actuals (suc units) s = called calls n (located_actuals globals actuals s) units s
+Calls = ℕ → List Var → Sem
 
 -- Each statement
 
@@ -158,7 +129,7 @@ invoked globals calls n actuals (suc units) s = called calls n (located_actuals 
 abbrev pub stmt_step : List Located → Calls → S.Stmt-F Sem Guarded Labelled → Sem
 stmt_step globals calls (S.Assign v e) units s = changed (assigned globals v e s) units s
 stmt_step globals calls (S.AreaWrite w p e) units s = changed (area_assigned globals w p e s) units s
-stmt_step globals calls (S.Invoke n actuals) units s = invoked globals calls n actuals units s
+stmt_step globals calls (S.Invoke n actuals) units s = calls n actuals units s
 stmt_step globals calls (S.If arms other) units s = first_true arms (in_order other) units s
 stmt_step globals calls (S.Case e arms other) units s =
     with_value (value globals e s) units s (λ v. first_with v.n arms (in_order other) units s)

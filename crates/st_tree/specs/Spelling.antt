@@ -282,11 +282,14 @@ block_text block =
     ++ decimal (length block.bytes - 1) ++ codes "] OF BYTE := ["
     ++ list_text block.bytes ++ codes "];")
 
--- the letter of the area of a global's place
+-- the letter of the area of a global's place; no proper tree has a global on an area but I, Q and M
 abbrev pub place_word : Area → List ℕ
 place_word area.I = codes "I"
 place_word area.Q = codes "Q"
-place_word other = codes "M"
+place_word area.M = codes "M"
+place_word (area.Db n) = codes "M"
+place_word (area.Local d) = codes "M"
+place_word (area.Cell d) = codes "M"
 
 -- a global on I, Q or M: its name, its location and its type, on a line one level in
 unfoldable pub global_text : Located → List ℕ

@@ -64,7 +64,15 @@ type_of_register reg.Ar1 = type.Dword
 type_of_register reg.Ar2 = type.Dword
 type_of_register reg.DbNo = type.Word
 type_of_register reg.DiNo = type.Word
-type_of_register other = type.Bool
+type_of_register reg.Nfc = type.Bool
+type_of_register reg.Rlo = type.Bool
+type_of_register reg.Sta = type.Bool
+type_of_register reg.Orb = type.Bool
+type_of_register reg.Os = type.Bool
+type_of_register reg.Ov = type.Bool
+type_of_register reg.Cc0 = type.Bool
+type_of_register reg.Cc1 = type.Bool
+type_of_register reg.Br = type.Bool
 
 -- the activations after a local of one of them took a value
 abbrev pub with_local : ℕ → ℕ → Value → List Activation → List Activation

@@ -51,13 +51,20 @@ unary_type unary.BcdToDint operand = type.Dint
 
 -- the type that an operator between operands gives: BOOL for a comparison, else that of the left one
 abbrev pub binary_type : BinaryOp → StType → StType
+binary_type binary.Mul left = left
+binary_type binary.Div left = left
+binary_type binary.Mod left = left
+binary_type binary.Add left = left
+binary_type binary.Sub left = left
 binary_type binary.Lt left = type.Bool
 binary_type binary.Gt left = type.Bool
 binary_type binary.Le left = type.Bool
 binary_type binary.Ge left = type.Bool
 binary_type binary.Eq left = type.Bool
 binary_type binary.Ne left = type.Bool
-binary_type other left = left
+binary_type binary.And left = left
+binary_type binary.Xor left = left
+binary_type binary.Or left = left
 
 -- the type of an expression by those of its operands; they are not tested here
 abbrev pub type_step : Names → E.Expr-F StType → StType

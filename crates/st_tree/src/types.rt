@@ -13,7 +13,15 @@ pub fn type_of_register(register: Reg) -> StType
     match register {
         Reg::Accu1 | Reg::Accu2 | Reg::Ar1 | Reg::Ar2 => StType::Dword,
         Reg::DbNo | Reg::DiNo => StType::Word,
-        _ => StType::Bool,
+        Reg::Nfc
+        | Reg::Rlo
+        | Reg::Sta
+        | Reg::Orb
+        | Reg::Os
+        | Reg::Ov
+        | Reg::Cc0
+        | Reg::Cc1
+        | Reg::Br => StType::Bool,
     }
 }
 

@@ -18,7 +18,7 @@ use Rattle.st_tree.specs.declared.expr.UnaryOp.TheVariants as unary
 use Rattle.st_tree.specs.declared.program.Located.{Located}
 use Rattle.st_tree.specs.declared.expr.Expr.TheVariants as expr
 use Rattle.st_tree.specs.declared.expr.Var.{Var}
-use Rattle.st_tree.proofs.Opened.{values_opened}
+use Rattle.st_tree.proofs.Equations.{value_equations}
 use Rattle.stl_translate.specs.Translation.{next_rlo, IsTranslatableCheck}
 
 -- the registers of both languages agree, as far as the statements and their places read them, OR is clear,
@@ -84,17 +84,17 @@ or_not_row false false false = refl
 
 pub checked_value : (g : List Located) (c : Check) → IsTranslatableCheck c → (v : Var) (r : RegisterValues) (s : State) (b : Bool) → AreAlike r s → read g v s ≡ Ok (flag b) →
     value g (next_rlo c (expr.Read v)) s ≡ Ok (flag (rlo_after c r b))
-checked_value g check.A h v r s b alike e = simp (values_opened, e, alike.rlo, alike.nfc, alike.orb) (and_row r.rlo r.fc b)
-checked_value g check.An h v r s b alike e = simp (values_opened, e, alike.rlo, alike.nfc, alike.orb) (and_not_row r.rlo r.fc b)
-checked_value g check.O h v r s b alike e = simp (values_opened, e, alike.rlo, alike.nfc) (or_row r.rlo r.fc b)
-checked_value g check.On h v r s b alike e = simp (values_opened, e, alike.rlo, alike.nfc) (or_not_row r.rlo r.fc b)
+checked_value g check.A h v r s b alike e = simp (value_equations, e, alike.rlo, alike.nfc, alike.orb) (and_row r.rlo r.fc b)
+checked_value g check.An h v r s b alike e = simp (value_equations, e, alike.rlo, alike.nfc, alike.orb) (and_not_row r.rlo r.fc b)
+checked_value g check.O h v r s b alike e = simp (value_equations, e, alike.rlo, alike.nfc) (or_row r.rlo r.fc b)
+checked_value g check.On h v r s b alike e = simp (value_equations, e, alike.rlo, alike.nfc) (or_not_row r.rlo r.fc b)
 checked_value g check.X h v r s b alike e = elim h [ ]
 checked_value g check.Xn h v r s b alike e = elim h [ ]
 
 pub checked_fault : (g : List Located) (c : Check) → IsTranslatableCheck c → (v : Var) (s : State) (f : Fault) → read g v s ≡ Err f → value g (next_rlo c (expr.Read v)) s ≡ Err f
-checked_fault g check.A h v s f e = simp (values_opened, e)
-checked_fault g check.An h v s f e = simp (values_opened, e)
-checked_fault g check.O h v s f e = simp (values_opened, e)
-checked_fault g check.On h v s f e = simp (values_opened, e)
+checked_fault g check.A h v s f e = simp (value_equations, e)
+checked_fault g check.An h v s f e = simp (value_equations, e)
+checked_fault g check.O h v s f e = simp (value_equations, e)
+checked_fault g check.On h v s f e = simp (value_equations, e)
 checked_fault g check.X h v s f e = elim h [ ]
 checked_fault g check.Xn h v s f e = elim h [ ]

@@ -13,8 +13,7 @@ use Rattle.stl_tree.specs.declared.program.Op.TheVariants as op
 use Rattle.stl_tree.specs.declared.program.Instr.{Instr}
 use Rattle.stl_tree.specs.declared.program.Block.{Block}
 use Rattle.st_tree.specs.Spelling.{unit_text, line, literal_text, spelling}
-use Rattle.st_tree.proofs.CanonEquations.{canon_equations}
-use Rattle.st_tree.proofs.StatementLines.{statement_line}
+use Rattle.st_tree.proofs.Equations.{canon_equations, text_assign}
 use Rattle.stl_translate.specs.Translation.{translation}
 
 abbrev instr_of : Op → Instr
@@ -38,22 +37,22 @@ series_of_two : text_of (block_of (name.Ob 1)
     ++ codes "    %QX4.0 := RLO;\n    NFC := FALSE;\n"
     ++ codes "END_PROGRAM\n"
 unfolding digits unit_text line literal_text
-series_of_two = simp (statement_line, canon_equations)
+series_of_two = simp (text_assign, canon_equations)
 
 negated_series : text_of (block_of (name.Fc 10) (op.Check check.An (arg.At (input 0)) ∷ []) ∷ [])
     ≡ codes "PROGRAM FC10\n    RLO := (RLO OR NOT NFC) AND NOT %IX0.0;\n    NFC := TRUE;\nEND_PROGRAM\n"
 unfolding digits unit_text line literal_text
-negated_series = simp (statement_line, canon_equations)
+negated_series = simp (text_assign, canon_equations)
 
 parallel : text_of (block_of (name.Fb 1) (op.Check check.O (arg.At (input 0)) ∷ []) ∷ [])
     ≡ codes "PROGRAM FB1\n    RLO := RLO AND NFC OR %IX0.0;\n    NFC := TRUE;\nEND_PROGRAM\n"
 unfolding digits unit_text line literal_text
-parallel = simp (statement_line, canon_equations)
+parallel = simp (text_assign, canon_equations)
 
 negated_parallel : text_of (block_of (name.Ob 65535) (op.Check check.On (arg.At (operand.Direct area.M 8191 7)) ∷ []) ∷ [])
     ≡ codes "PROGRAM OB65535\n    RLO := RLO AND NFC OR NOT %MX8191.7;\n    NFC := TRUE;\nEND_PROGRAM\n"
 unfolding digits unit_text line literal_text
-negated_parallel = simp (statement_line, canon_equations)
+negated_parallel = simp (text_assign, canon_equations)
 
 two_blocks : text_of (block_of (name.Ob 1) [] ∷ block_of (name.Ob 35) [] ∷ [])
     ≡ codes "PROGRAM OB1\nEND_PROGRAM\nPROGRAM OB35\nEND_PROGRAM\n"

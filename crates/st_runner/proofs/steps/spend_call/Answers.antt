@@ -4,8 +4,7 @@ use Rattle.std.specs.Vec.{vec_len}
 use Rattle.memory_areas.specs.Access.{and_then}
 use Rattle.st_runner.specs.View.{Changes, IsDeeper, state_of}
 use Rattle.st_runner.proofs.Spending.{call_done, call_fault, call_may, call_room, call_there, indexed}
-use Rattle.st_tree.specs.Calls.{entered}
-use Rattle.st_tree.specs.Meaning.{located_actuals}
+use Rattle.st_tree.specs.Calls.{entered, located_actuals}
 use Rattle.st_tree.specs.declared.program.Located.{Located}
 use Rattle.st_tree.specs.declared.program.Pou.{Pou}
 use Rattle.st_runner.proofs.steps.spend_call.Goals as goal

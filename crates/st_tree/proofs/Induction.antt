@@ -1,0 +1,134 @@
+-- Induction over expressions and over statements: a fact holds of each where it is shown at each variant, with
+-- the fact of the parts.
+use Rattle.std.specs.Prelude.{◌≡◌, ℕ, ℤ, List, [], ◌∷◌, map}
+use Rattle.std.proofs.Common.{sym, subst}
+use Rattle.s7_base.specs.declared.word.Width.{Width}
+use Rattle.st_tree.specs.declared.expr.BinaryOp.{BinaryOp}
+use Rattle.st_tree.specs.declared.expr.Expr.{Expr, ind-Expr, map-Expr, roll-Expr}
+use Rattle.st_tree.specs.declared.expr.Expr.TheVariants as expr
+use Rattle.st_tree.specs.declared.expr.Expr.TheOpen as E
+use Rattle.st_tree.specs.declared.expr.ShiftOp.{ShiftOp}
+use Rattle.st_tree.specs.declared.expr.StType.{StType}
+use Rattle.st_tree.specs.declared.expr.UnaryOp.{UnaryOp}
+use Rattle.st_tree.specs.declared.expr.Var.{Var}
+use Rattle.st_tree.specs.declared.program.Arm.{Arm, map-Arm, roll-Arm}
+use Rattle.st_tree.specs.declared.program.CaseArm.{CaseArm, map-CaseArm, roll-CaseArm}
+use Rattle.st_tree.specs.declared.program.Stmt.{Stmt, ind-Stmt, map-Stmt, roll-Stmt}
+use Rattle.st_tree.specs.declared.program.Stmt.TheOpen as S
+use Rattle.st_tree.specs.declared.program.Stmt.TheVariants as stmt
+
+-- Expressions
+
+-- what shows a fact of every expression
+pub record ExprSteps (P : Expr → Type 0) : Type 0 where
+  pub literal : (ty : StType) (n : ℤ) → P (expr.Literal ty n)
+  pub read : (v : Var) → P (expr.Read v)
+  pub unary : (op : UnaryOp) (a : Expr) → P a → P (expr.Unary op a)
+  pub binary : (op : BinaryOp) (a b : Expr) → P a → P b → P (expr.Binary op a b)
+  pub convert : (from to : StType) (a : Expr) → P a → P (expr.Convert from to a)
+  pub select : (a b c : Expr) → P a → P b → P c → P (expr.Select a b c)
+  pub shift : (op : ShiftOp) (a b : Expr) → P a → P b → P (expr.Shift op a b)
+  pub area_read : (w : Width) (a : Expr) → P a → P (expr.AreaRead w a)
+
+module _ (P : Expr → Type 0) (h : ExprSteps P) where
+  -- an operand with its fact
+  abbrev AnExpr : Type 0
+  AnExpr = (x : Expr) × P x
+
+  abbrev bare_expr : E.Expr-F AnExpr → E.Expr-F Expr
+  bare_expr y = map-Expr AnExpr Expr (λ e. e.0) y
+
+  expr_core : (y : E.Expr-F AnExpr) → P (roll-Expr (bare_expr y))
+  expr_core (E.Literal ty n) = subst P (sym (expr.rolls-Literal ty n)) (h.literal ty n)
+  expr_core (E.Read v) = subst P (sym (expr.rolls-Read v)) (h.read v)
+  expr_core (E.Unary op a) = subst P (sym (expr.rolls-Unary op a.0)) (h.unary op a.0 a.1)
+  expr_core (E.Binary op a b) = subst P (sym (expr.rolls-Binary op a.0 b.0)) (h.binary op a.0 b.0 a.1 b.1)
+  expr_core (E.Convert from to a) = subst P (sym (expr.rolls-Convert from to a.0)) (h.convert from to a.0 a.1)
+  expr_core (E.Select a b c) = subst P (sym (expr.rolls-Select a.0 b.0 c.0)) (h.select a.0 b.0 c.0 a.1 b.1 c.1)
+  expr_core (E.Shift op a b) = subst P (sym (expr.rolls-Shift op a.0 b.0)) (h.shift op a.0 b.0 a.1 b.1)
+  expr_core (E.AreaRead w a) = subst P (sym (expr.rolls-AreaRead w a.0)) (h.area_read w a.0 a.1)
+
+  pub every_expr : (e : Expr) → P e
+  every_expr =
+      ind-Expr P (λ (x : E.Expr-F Expr) (y : E.Expr-F AnExpr) e.
+      subst (λ (z : E.Expr-F Expr). P (roll-Expr z)) e (expr_core y))
+
+-- Statements
+
+-- a fact of each of some elements
+abbrev pub Each : {A : Type 0} → (A → Type 0) → List A → Type 0
+Each P [] = Unit {0}
+Each P (x ∷ xs) = P x × Each P xs
+
+-- a fact of each statement of an arm
+abbrev pub InArm : (Stmt → Type 0) → Arm → Type 0
+InArm P arm = Each P arm.body
+
+abbrev pub InCase : (Stmt → Type 0) → CaseArm → Type 0
+InCase P arm = Each P arm.body
+
+-- what shows a fact of every statement
+pub record StmtSteps (P : Stmt → Type 0) : Type 0 where
+  pub assign : (v : Var) (e : Expr) → P (stmt.Assign v e)
+  pub area_write : (w : Width) (p e : Expr) → P (stmt.AreaWrite w p e)
+  pub invoke : (n : ℕ) (actuals : List Var) → P (stmt.Invoke n actuals)
+  pub choice : (arms : List Arm) (other : List Stmt) → Each (InArm P) arms → Each P other → P (stmt.If arms other)
+  pub selection : (e : Expr) (arms : List CaseArm) (other : List Stmt) → Each (InCase P) arms → Each P other
+      → P (stmt.Case e arms other)
+  pub loop : (test : Expr) (body : List Stmt) → Each P body → P (stmt.While test body)
+  pub exit : P stmt.Exit
+  pub continue : P stmt.Continue
+  pub return : P stmt.Return
+
+module _ (P : Stmt → Type 0) (h : StmtSteps P) where
+  -- a part with its fact
+  abbrev AStmt : Type 0
+  AStmt = (x : Stmt) × P x
+
+  abbrev AnArm : Type 0
+  AnArm = (x : Arm) × InArm P x
+
+  abbrev ACase : Type 0
+  ACase = (x : CaseArm) × InCase P x
+
+  all_hold : {A : Type 0} (Q : A → Type 0) (ys : List ((x : A) × Q x)) → Each Q (map (λ (y : (x : A) × Q x). y.0) ys)
+  all_hold Q [] = tt
+  all_hold Q (y ∷ ys) = (y.1, all_hold Q ys)
+
+  abbrev bare : S.Stmt-F AStmt AnArm ACase → S.Stmt-F Stmt Arm CaseArm
+  bare y = map-Stmt AStmt AnArm ACase Stmt Arm CaseArm (λ e. e.0) (λ e. e.0) (λ e. e.0) y
+
+  core : (y : S.Stmt-F AStmt AnArm ACase) → P (roll-Stmt (bare y))
+  core (S.Assign v e) = subst P (sym (stmt.rolls-Assign v e)) (h.assign v e)
+  core (S.AreaWrite w p e) = subst P (sym (stmt.rolls-AreaWrite w p e)) (h.area_write w p e)
+  core (S.Invoke n actuals) = subst P (sym (stmt.rolls-Invoke n actuals)) (h.invoke n actuals)
+  core (S.If arms other) = subst P (sym (stmt.rolls-If _ _)) (h.choice _ _ (all_hold (InArm P) arms) (all_hold P other))
+  core (S.Case e arms other) =
+      subst P (sym (stmt.rolls-Case e _ _)) (h.selection e _ _ (all_hold (InCase P) arms) (all_hold P other))
+  core (S.While test body) = subst P (sym (stmt.rolls-While test _)) (h.loop test _ (all_hold P body))
+  core S.Exit = subst P (sym stmt.rolls-Exit) h.exit
+  core S.Continue = subst P (sym stmt.rolls-Continue) h.continue
+  core S.Return = subst P (sym stmt.rolls-Return) h.return
+
+  step : (x : S.Stmt-F Stmt Arm CaseArm) (y : S.Stmt-F AStmt AnArm ACase) → bare y ≡ x → P (roll-Stmt x)
+  step x y e = subst (λ (z : S.Stmt-F Stmt Arm CaseArm). P (roll-Stmt z)) e (core y)
+
+  abbrev bare_arm : S.Arm-F AStmt AnArm ACase → S.Arm-F Stmt Arm CaseArm
+  bare_arm y = map-Arm AStmt AnArm ACase Stmt Arm CaseArm (λ e. e.0) (λ e. e.0) (λ e. e.0) y
+
+  step_arm : (x : S.Arm-F Stmt Arm CaseArm) (y : S.Arm-F AStmt AnArm ACase) → bare_arm y ≡ x → InArm P (roll-Arm x)
+  step_arm x y e = subst (λ (z : S.Arm-F Stmt Arm CaseArm). InArm P (roll-Arm z)) e (all_hold P y.body)
+
+  abbrev bare_case : S.CaseArm-F AStmt AnArm ACase → S.CaseArm-F Stmt Arm CaseArm
+  bare_case y = map-CaseArm AStmt AnArm ACase Stmt Arm CaseArm (λ e. e.0) (λ e. e.0) (λ e. e.0) y
+
+  step_case : (x : S.CaseArm-F Stmt Arm CaseArm) (y : S.CaseArm-F AStmt AnArm ACase) → bare_case y
+      ≡ x → InCase P (roll-CaseArm x)
+  step_case x y e = subst (λ (z : S.CaseArm-F Stmt Arm CaseArm). InCase P (roll-CaseArm z)) e (all_hold P y.body)
+
+  pub every_stmt : (x : Stmt) → P x
+  every_stmt = ind-Stmt P (InArm P) (InCase P) step step_arm step_case
+
+  pub every_body : (body : List Stmt) → Each P body
+  every_body [] = tt
+  every_body (x ∷ xs) = (every_stmt x, every_body xs)
