@@ -9,7 +9,8 @@
 
 pub use number::number_of;
 pub use program::{
-    Actual, BitArg, Block, BlockCall, BlockName, Call, Formal, Instance, Instr, Mode, Op, Operand, Program, Symbol,
+    Actual, BitArg, Block, BlockCall, BlockName, Call, Formal, Instance, Instr, Mode, Op, Operand,
+    Program, Symbol,
 };
 pub use run_laws::{end_stays, steps_add};
 pub use source_laws::{verdict_accepts_the_grammar, verdict_is_accepted};
