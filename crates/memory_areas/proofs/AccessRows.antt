@@ -2,7 +2,7 @@
 use Rattle.std.proofs.Common.{◌≡◌, refl, ℕ, ◌+◌, ◌*◌, ◌^◌, true, false, List, [], ◌∷◌, Some, None, Ok, Err}
 use Rattle.s7_base.specs.declared.outcome.Fault.TheVariants.{DbNotOpen, DbMissing, AreaCode, Alignment, AreaLength}
 use Rattle.s7_base.specs.declared.word.Width.TheVariants as width
-use Rattle.memory_areas.specs.Access.{aimed, area_bytes, area_named, bit_of_pointer, byte_of_pointer, code_of_pointer, fault_of, located, name_of_code, pointed, read_bit, read_byte, read_dword, read_word, written, write_bit, write_byte, write_dword, write_word}
+use Rattle.memory_areas.specs.Access.{aimed, area_named, bit_of_pointer, byte_of_pointer, code_of_pointer, fault_of, is_byte_in, located, name_of_code, pointed, read_bit, read_byte, read_dword, read_word, written, write_bit, write_byte, write_dword, write_word}
 use Rattle.memory_areas.specs.Areas.{Contents}
 use Rattle.memory_areas.specs.declared.data_block.DataBlock.{DataBlock}
 use Rattle.memory_areas.specs.declared.place.Area.{Area}
@@ -149,8 +149,17 @@ outputs_are_outputs = refl
 markers_are_markers : area_named name.M 3 10 5 ≡ area.M
 markers_are_markers = refl
 
-bytes_of_operands : (area_bytes name.I ∷ area_bytes name.Q ∷ area_bytes name.M ∷ area_bytes name.L ∷ area_bytes name.Db ∷ area_bytes name.Di ∷ []) ≡ 2048 ∷ 2048 ∷ 8192 ∷ 0 ∷ 0 ∷ 0 ∷ []
-bytes_of_operands = refl
+last_bytes :
+    (is_byte_in name.I width.Bit 2047 ∷ is_byte_in name.Q width.Word 2046 ∷ is_byte_in name.M width.Dword 8188 ∷ is_byte_in name.L width.Byte 255
+    ∷ is_byte_in name.Db width.Dword 65535 ∷ is_byte_in name.Di width.Bit 65535 ∷ [])
+    ≡ true ∷ true ∷ true ∷ true ∷ true ∷ true ∷ []
+last_bytes = refl
+
+bytes_past_the_end :
+    (is_byte_in name.I width.Bit 2048 ∷ is_byte_in name.Q width.Word 2047 ∷ is_byte_in name.M width.Dword 8189 ∷ is_byte_in name.L width.Byte 256
+    ∷ is_byte_in name.Db width.Bit 65536 ∷ is_byte_in name.Di width.Word 65536 ∷ [])
+    ≡ false ∷ false ∷ false ∷ false ∷ false ∷ false ∷ []
+bytes_past_the_end = refl
 
 -- the area codes 16#81 to 16#86, and none beside them
 area_codes :

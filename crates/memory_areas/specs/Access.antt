@@ -1,11 +1,11 @@
 -- The access to a place in memory: which place it reaches, or which fault it meets.
-use Rattle.std.specs.Prelude.{ℕ, ◌+◌, ◌/◌, ◌%◌, ◌^◌, Bool, false, ◌==◌, nat_lt, if◌then◌else◌, List, [], ◌∷◌, length, Option, Some, None, is_none, Result, Ok, Err}
+use Rattle.std.specs.Prelude.{ℕ, ◌+◌, ◌/◌, ◌%◌, ◌^◌, Bool, false, ◌==◌, nat_lt, nat_le, if◌then◌else◌, List, [], ◌∷◌, length, Option, Some, None, is_none, Result, Ok, Err}
 use Rattle.s7_base.specs.declared.outcome.Fault.{Fault}
 use Rattle.s7_base.specs.declared.outcome.Fault.TheVariants.{DbNotOpen, DbMissing, AreaCode, Alignment, AreaLength}
 use Rattle.s7_base.specs.declared.word.Width.{Width}
 use Rattle.s7_base.specs.declared.word.Width.TheVariants as width
 use Rattle.memory_areas.specs.Areas.{Contents, block_of, bytes_of, with_bytes, byte_at, word_at, dword_at, bit_of_byte, byte_with, bytes_of_word, bytes_of_dword, replaced}
-use Rattle.memory_areas.specs.declared.sizes.TheConstants.{INPUT_BYTES, OUTPUT_BYTES, MARKER_BYTES}
+use Rattle.memory_areas.specs.declared.sizes.TheConstants.{INPUT_BYTES, OUTPUT_BYTES, MARKER_BYTES, LOCAL_BYTES}
 use Rattle.memory_areas.specs.declared.place.Area.{Area}
 use Rattle.memory_areas.specs.declared.place.Area.TheVariants as area
 use Rattle.memory_areas.specs.declared.place.AreaName.{AreaName}
@@ -24,14 +24,22 @@ area_named name.L db di activation = area.Local activation
 area_named name.Db db di activation = area.Db db
 area_named name.Di db di activation = area.Db di
 
--- how many bytes of an area an operand may name; nothing that is built names local data or a data block
-abbrev pub area_bytes : AreaName → ℕ
-area_bytes name.I = INPUT_BYTES
-area_bytes name.Q = OUTPUT_BYTES
-area_bytes name.M = MARKER_BYTES
-area_bytes name.L = 0
-area_bytes name.Db = 0
-area_bytes name.Di = 0
+-- how many bytes a width reaches
+abbrev pub bytes_wide : Width → ℕ
+bytes_wide width.Bit = 1
+bytes_wide width.Byte = 1
+bytes_wide width.Word = 2
+bytes_wide width.Dword = 4
+
+-- the bytes that an operand of this width names, from this one on, lie in its area; the length of a data
+-- block is judged at run time, so there the byte number alone is held to 65,535, whatever the width
+abbrev pub is_byte_in : AreaName → Width → ℕ → Bool
+is_byte_in name.I w byte = nat_le (byte + bytes_wide w) INPUT_BYTES
+is_byte_in name.Q w byte = nat_le (byte + bytes_wide w) OUTPUT_BYTES
+is_byte_in name.M w byte = nat_le (byte + bytes_wide w) MARKER_BYTES
+is_byte_in name.L w byte = nat_le (byte + bytes_wide w) LOCAL_BYTES
+is_byte_in name.Db w byte = nat_le byte 65535
+is_byte_in name.Di w byte = nat_le byte 65535
 
 -- the name that the area code of a pointer stands for; no other code has one
 abbrev pub name_of_code : ℕ → Option AreaName
@@ -85,13 +93,6 @@ abbrev pub aimed : Place → Aim
 aimed p = record { area = Some p.area; byte = p.byte; bit = p.bit }
 
 -- The tests of an access
-
--- how many bytes a width reaches
-abbrev pub bytes_wide : Width → ℕ
-bytes_wide width.Bit = 1
-bytes_wide width.Byte = 1
-bytes_wide width.Word = 2
-bytes_wide width.Dword = 4
 
 -- no data block is open
 abbrev pub is_closed : Option Area → Bool

@@ -7,7 +7,7 @@
 
 pub use data_block::{DataBlock, are_blocks};
 pub use memory::Memory;
-pub use place::{Area, AreaName, Place};
+pub use place::{Area, AreaName, Place, is_byte_in};
 pub use sizes::{
     ACTIVATIONS, INPUT_BYTES, LEAST_BLOCK_BYTES, LOCAL_BYTES, MARKER_BYTES, MOST_BLOCK_BYTES,
     MOST_BLOCKS, OUTPUT_BYTES,

@@ -1,8 +1,12 @@
 //! Places in the memory of a controller.
 ghost use Rattle.std.specs.Prelude.{◌≡◌, ◌<◌};
-ghost use Rattle.memory_areas.specs.Access.{area_named};
+ghost use Rattle.memory_areas.specs.Access.{area_named, is_byte_in};
 ghost use Rattle.memory_areas.specs.Memory.{IsActivation};
 ghost use Rattle.memory_areas.specs.declared.sizes.TheConstants.{ACTIVATIONS};
+
+use crate::parts::bytes_wide;
+use crate::sizes::{INPUT_BYTES, LOCAL_BYTES, MARKER_BYTES, OUTPUT_BYTES};
+use s7_base::Width;
 
 /// An area of memory as a place names it. `Local` and `Cell` are the local data and the constant
 /// actuals of an activation, numbered from 0 to 7; `Db` has the number of a data block, and is 0 where
@@ -43,6 +47,21 @@ impl AreaName {
             AreaName::Db => Area::Db(db),
             AreaName::Di => Area::Db(di),
         }
+    }
+}
+
+/// Whether the bytes that an operand names lie in its area. The length of a data block is judged at run
+/// time.
+pub fn is_byte_in(area: AreaName, width: Width, byte: u32) -> bool
+    ensures { result ≡ is_byte_in area width byte }
+{
+    let end = byte as usize + bytes_wide(width);
+    match area {
+        AreaName::I => end <= INPUT_BYTES,
+        AreaName::Q => end <= OUTPUT_BYTES,
+        AreaName::M => end <= MARKER_BYTES,
+        AreaName::L => end <= LOCAL_BYTES,
+        AreaName::Db | AreaName::Di => byte <= 65535,
     }
 }
 

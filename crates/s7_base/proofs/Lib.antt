@@ -1,3 +1,4 @@
 pub mod Sets
+mod StatusRows
 pub mod TokenLaws
 mod TokenRows

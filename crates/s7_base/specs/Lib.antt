@@ -1,6 +1,7 @@
 pub mod Answers
 pub mod Reason
 pub mod RegSet
+pub mod StatusBits
 pub mod TokenGrammar
 pub mod Tokens
 pub mod formers

@@ -1,11 +1,10 @@
 //! Reads the operand of a bit instruction.
-ghost use Rattle.std.specs.Prelude.{◌≡◌, ◌&&◌, ◌-◌, ◌<◌};
-ghost use Rattle.memory_areas.specs.Access.{area_bytes};
-ghost use Rattle.stl_tree.specs.Items.{area_of, area_of_letter, bit_at, is_bit_number, short_operand, long_operand, bit_operand};
+ghost use Rattle.std.specs.Prelude.{◌≡◌, ◌&&◌};
+ghost use Rattle.stl_tree.specs.Items.{area_of, area_of_letter, bit_at, byte_in, is_bit_number, short_operand, long_operand, bit_operand};
 
 use crate::words::{is_sign, is_word_kind};
-use memory_areas::{AreaName, INPUT_BYTES, MARKER_BYTES, OUTPUT_BYTES};
-use s7_base::Token;
+use memory_areas::{AreaName, is_byte_in};
+use s7_base::{Token, Width};
 use stl_tree::{Operand, number_of};
 
 fn area_of_letter(letter: u8) -> Option<AreaName>
@@ -28,14 +27,15 @@ fn area_of(word: &[u8]) -> Option<AreaName>
     }
 }
 
-fn area_bytes(area: AreaName) -> u32
-    ensures { result ≡ area_bytes area }
+/// A byte number, where a bit of that byte lies in the area.
+fn byte_in(area: AreaName, width: Width, byte: Option<u32>) -> Option<u32>
+    ensures { result ≡ byte_in area width byte }
 {
-    match area {
-        AreaName::I => INPUT_BYTES as u32,
-        AreaName::Q => OUTPUT_BYTES as u32,
-        AreaName::M => MARKER_BYTES as u32,
-        AreaName::L | AreaName::Db | AreaName::Di => 0,
+    let byte = byte?;
+    if is_byte_in(area, width, byte) {
+        Some(byte)
+    } else {
+        None
     }
 }
 
@@ -44,9 +44,13 @@ fn bit_at(area: Option<AreaName>, byte: &[u8], bit: &[u8]) -> Option<Operand>
     ensures { result ≡ bit_at area byte.now bit.now }
 {
     let area = area?;
-    let byte = number_of(u64::from(area_bytes(area).saturating_sub(1)), byte)?;
+    let byte = byte_in(
+        area,
+        Width::Bit,
+        number_of(65535, byte).map(|byte| byte as u32),
+    )?;
     let bit = number_of(7, bit)?;
-    Some(Operand::Direct(area, byte as u32, bit as u8))
+    Some(Operand::Direct(area, byte, bit as u8))
 }
 
 /// A point and a number with no blank before either.

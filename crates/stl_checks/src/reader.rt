@@ -2,8 +2,9 @@
 ghost use Rattle.std.specs.Prelude.{◌≡◌, ◌+◌, ◌<◌, ◌≤◌, length, IfOk, OnOk};
 ghost use Rattle.s7_base.specs.Answers.{Answers};
 ghost use Rattle.s7_base.specs.Tokens.{line_at_end};
+ghost use Rattle.stl_tree.specs.Accepted.{IsAccepted};
 ghost use Rattle.stl_tree.specs.Items.{block_number, heading_with, heading_number, short_heading, heading_name, statement_of, statement_size};
-ghost use Rattle.stl_tree.specs.Verdict.{misfit_at, one_block, with_end, body_from, begin_from, with_heading, program_of, verdict};
+ghost use Rattle.stl_tree.specs.Verdict.{misfit_at, program_with, with_end, body_from, begin_from, with_heading, program_of, verdict};
 ghost use Rattle.stl_checks.specs.Answers.{EndsBody, PutsItem, IsFirst};
 
 use crate::lexer::tokens;
@@ -153,11 +154,21 @@ fn one_block(
     line: Line,
     body: List<Instr>,
 ) -> Result<Program, NoMemory>
-    ensures { IfOk result (λ program. one_block name line (Ok body) ≡ Ok program) }
+    ensures { IfOk result (λ program. program ≡ program_with name line body) }
 {
     let mut blocks = List::new(alloc);
-    blocks.push(Block { name, line, body })?;
-    Ok(Program { blocks })
+    blocks.push(Block {
+        name,
+        line,
+        formals: List::new(alloc),
+        body,
+    })?;
+    Ok(Program {
+        dbs: List::new(alloc),
+        instances: List::new(alloc),
+        blocks,
+        symbols: List::new(alloc),
+    })
 }
 
 /// A heading and the block after it.
@@ -200,7 +211,8 @@ fn line_at_end(bytes: &[u8]) -> Line
 /// The program of a text, or its first broken rule.
 #[tactic(auto, unfolding(stl_tree::specs::Verdict::verdict))]
 pub fn verdict(alloc: Global, bytes: &[u8]) -> Result<Program, Rejection>
-    ensures { Answers result (verdict bytes.now) }
+    ensures verdict { Answers result (verdict bytes.now) }
+    ensures accepted { IfOk result (λ program. IsAccepted program) }
 {
     let tokens = tokens(alloc, bytes)?;
     program(alloc, tokens.as_slice(), line_at_end(bytes))

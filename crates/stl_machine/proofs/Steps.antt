@@ -1,9 +1,9 @@
 -- Steps, one after another.
 use Rattle.std.proofs.Common.{◌≡◌, ℕ, zero, suc, ◌+◌, ◌-◌, ◌≤◌, true, Option, Some, None, refl, sym, ap, ◌∙◌, arith}
-use Rattle.std.specs.Prelude.{is_none, slice_get}
+use Rattle.std.specs.Prelude.{is_none}
 use Rattle.stl_machine.specs.Machine.{is_still}
 use Rattle.stl_tree.proofs.Runs.{steps_on-add}
-use Rattle.stl_tree.specs.StlRun.{Standing, running, over, step, step_by, steps_on}
+use Rattle.stl_tree.specs.StlRun.{Standing, running, over, instruction, step, step_by, steps_on}
 use Rattle.stl_tree.specs.declared.program.Instr.{Instr}
 
 -- one more step
@@ -20,7 +20,7 @@ none_there None e = refl
 none_there (Some i) e = cc
 
 step_still : (s : Standing) → is_still s ≡ true → step s ≡ s
-step_still (running block r memory) e = ap (λ (o : Option Instr). step_by o block r memory) (none_there (slice_get block.body block.at) e)
+step_still (running program now) e = ap (λ (o : Option Instr). step_by o program now) (none_there (instruction program now.activations) e)
 step_still (over memory f) e = refl
 
 -- a run that stays where it is before its bound stands there at the bound

@@ -1,6 +1,7 @@
 -- The machine as where its run stands.
-use Rattle.std.specs.Prelude.{◌≡◌, ℕ, Bool, true, List, Result, Ok, Err, is_none, slice_get}
+use Rattle.std.specs.Prelude.{◌≡◌, Bool, true, [], ◌∷◌, Result, Ok, Err, is_none}
 use Rattle.memory_areas.specs.Areas.{Areas, Contents}
+use Rattle.s7_base.specs.StatusBits.{StatusBits}
 use Rattle.s7_base.specs.declared.outcome.Fault.{Fault}
 use Rattle.s7_base.specs.declared.outcome.Outcome.{Outcome}
 use Rattle.s7_base.specs.declared.outcome.Outcome.TheVariants.{Ended, Going}
@@ -10,24 +11,25 @@ use Rattle.stl_machine.specs.declared.machine.MachineRefusal.{MachineRefusal}
 use Rattle.stl_machine.specs.declared.machine.MachineRefusal.TheVariants.{BadCall, NoMemory}
 use Rattle.stl_machine.specs.declared.machine.Progress.{Progress}
 use Rattle.stl_machine.specs.declared.machine.Progress.TheVariants as progress
-use Rattle.stl_machine.specs.declared.registers.Registers.{Registers}
-use Rattle.stl_tree.specs.Instructions.{Effect, next, leave, fault}
+use Rattle.stl_machine.specs.declared.state.Registers.{Registers}
+use Rattle.stl_machine.specs.declared.state.State.{State}
+use Rattle.stl_machine.specs.declared.status.Status.{Status}
+use Rattle.stl_tree.specs.Now.{Now, Effect, next, leave, fault}
 use Rattle.stl_tree.specs.Registers.{RegisterValues}
-use Rattle.stl_tree.specs.StlRun.{Fits, Standing, running, over, begun}
+use Rattle.stl_tree.specs.StlRun.{Fits, Standing, running, over, begun, instruction}
 use Rattle.stl_tree.specs.declared.program.Call.{Call}
-use Rattle.stl_tree.specs.declared.program.Instr.{Instr}
 use Rattle.stl_tree.specs.declared.program.Program.{Program}
 
 -- What callers see
 
 -- the outcome that a run shows where it stands
 abbrev pub outcome_of : Standing → Outcome
-outcome_of (running block r memory) = Going
+outcome_of (running program now) = Going
 outcome_of (over memory f) = Ended f
 
 -- the memory where a run stands
 abbrev pub memory_of : Standing → Contents
-memory_of (running block r memory) = memory
+memory_of (running program now) = now.memory
 memory_of (over memory f) = memory
 
 -- a new machine stands where the run of its call begins; there is none exactly where the call does not
@@ -39,6 +41,21 @@ IsNew program call areas (Err NoMemory) = Unit {0}
 
 -- What the machine is made of
 
+-- the status bits as the instruction table sees them
+abbrev pub bits : Status → StatusBits
+bits s =
+    record {
+      fc = s.fc;
+      rlo = s.rlo;
+      sta = s.sta;
+      orb = s.orb;
+      os = s.os;
+      ov = s.ov;
+      cc0 = s.cc0;
+      cc1 = s.cc1;
+      br = s.br;
+    }
+
 -- the registers as the instruction table sees them
 abbrev pub values : Registers → RegisterValues
 values r =
@@ -49,30 +66,32 @@ values r =
       ar2 = r.ar2;
       db = r.db;
       di = r.di;
-      fc = r.fc;
-      rlo = r.rlo;
-      sta = r.sta;
-      orb = r.orb;
-      os = r.os;
-      ov = r.ov;
-      cc0 = r.cc0;
-      cc1 = r.cc1;
-      br = r.br;
+      status = bits r.status;
+    }
+
+-- what an instruction works on: no bracket is open and one block runs, since none that opens the one or
+-- calls the other is built
+abbrev pub seen : State → Now
+seen s =
+    record {
+      registers = values s.registers;
+      brackets = [];
+      memory = s.memory;
+      activations = record { block = s.block; at = s.position; db = 0; di = 0; formals = [] } ∷ [];
     }
 
 -- where a run stands, from its parts
-abbrev pub standing : Progress → List Instr → ℕ → RegisterValues → Contents → Standing
-standing progress.Running body at r memory = running (record { body = body; at = at }) r memory
-standing (progress.Over f) body at r memory = over memory f
+abbrev pub standing : Program → Progress → State → Standing
+standing program progress.Running s = running program (seen s)
+standing program (progress.Over f) s = over s.memory f
 
 -- a run stays where it is: no instruction stands next, or it is over
 abbrev pub is_still : Standing → Bool
-is_still (running block r memory) = is_none (slice_get block.body block.at)
+is_still (running program now) = is_none (instruction program now.activations)
 is_still (over memory f) = true
 
--- an instruction did what its row says, with the registers and the memory after it; a fault leaves the
--- memory as it was
-abbrev pub HasEffect : Effect → Result Found Fault → RegisterValues → Contents → Contents → Type 0
-HasEffect defined (Ok Next) r before after = defined ≡ next r after
-HasEffect defined (Ok Leave) r before after = defined ≡ leave r after
-HasEffect defined (Err f) r before after = (defined ≡ fault f) × (after ≡ before)
+-- an instruction did what its row says, with the state after it; a fault leaves the memory as it was
+abbrev pub HasEffect : Effect → Result Found Fault → State → State → Type 0
+HasEffect defined (Ok Next) before after = defined ≡ next (seen after)
+HasEffect defined (Ok Leave) before after = defined ≡ leave (seen after)
+HasEffect defined (Err f) before after = (defined ≡ fault f) × (after.memory ≡ before.memory)

@@ -1,9 +1,9 @@
 //! What one instruction does.
-ghost use Rattle.stl_machine.specs.Machine.{values, HasEffect};
+ghost use Rattle.std.specs.Prelude.{◌≡◌};
+ghost use Rattle.stl_machine.specs.Machine.{seen, HasEffect};
 ghost use Rattle.stl_tree.specs.Instructions.{effect_of};
 
-use crate::registers::Registers;
-use memory_areas::Memory;
+use crate::state::State;
 use s7_base::Fault;
 use stl_tree::{BitArg, Op};
 
@@ -18,23 +18,26 @@ pub enum Effect {
 }
 
 /// Does an instruction. A fault leaves the memory as it was.
-pub fn effect_of(op: Op, registers: &mut Registers, memory: &mut Memory) -> Result<Effect, Fault>
-    ensures { HasEffect (effect_of op (values registers.old) memory.old) result
-        (values registers.new) memory.old memory.new }
+pub fn effect_of(op: &Op, state: &mut State) -> Result<Effect, Fault>
+    ensures effect { HasEffect (effect_of op.now (seen state.old)) result state.old state.new }
+    ensures block { state.new.block ≡ state.old.block }
+    ensures position { state.new.position ≡ state.old.position }
 {
     match op {
         Op::Check(check, BitArg::At(operand)) => {
-            let bit = memory.read_bit(registers.place_of(operand))?;
-            *registers = registers.after_check(check, bit);
+            let place = state.place_of(operand);
+            let bit = state.memory.read_bit(place)?;
+            state.registers.status = state.registers.status.after_check(*check, bit);
             Ok(Effect::Next)
         }
         Op::Assign(operand) => {
-            memory.write_bit(registers.place_of(operand), registers.rlo)?;
-            *registers = registers.after_assign();
+            let place = state.place_of(operand);
+            state.memory.write_bit(place, state.registers.status.rlo)?;
+            state.registers.status = state.registers.status.after_assign();
             Ok(Effect::Next)
         }
         Op::BlockEnd => {
-            *registers = registers.after_end();
+            state.registers.status = state.registers.status.after_end();
             Ok(Effect::Leave)
         }
     }

@@ -10,4 +10,5 @@ pub use machine::{Machine, MachineRefusal};
 
 mod effect;
 mod machine;
-mod registers;
+mod state;
+mod status;

@@ -1,11 +1,11 @@
 //! The machine itself.
-ghost use Rattle.std.specs.Prelude.{◌≡◌, MatchOption, Some, None};
-ghost use Rattle.stl_machine.specs.Machine.{IsNew, is_still, memory_of, outcome_of};
-ghost use Rattle.stl_tree.specs.StlRun.{block_called, block_named, is_same_name, step, steps_on};
+ghost use Rattle.std.specs.Prelude.{◌≡◌, ◌+◌, ◌^◌, ◌<◌, IfSome, MatchOption, Some, None};
+ghost use Rattle.stl_machine.specs.Machine.{IsNew, is_still, memory_of, outcome_of, seen};
+ghost use Rattle.stl_tree.specs.StlRun.{block_called, block_named, instruction, is_same_name, step, steps_on};
 ghost use Rattle.memory_areas.specs.Areas.{with_areas};
 
 use crate::effect::{Effect, effect_of};
-use crate::registers::Registers;
+use crate::state::{Registers, State};
 use memory_areas::{ACTIVATIONS, Memory};
 use s7_base::{Fault, Outcome};
 use std::alloc::Global;
@@ -32,20 +32,18 @@ enum Progress {
 /// A run of a block of a program, which can be taken further in any portions of steps.
 #[derive(Debug, Drop)]
 pub struct Machine<'p> {
-    body: &'p [Instr],
-    position: usize,
-    registers: Registers,
-    memory: Memory,
+    program: &'p Program,
+    state: State,
     progress: Progress,
 }
 
 impl<'p> Model for Machine<'p> {
-    ghost use Rattle.stl_machine.specs.Machine.{standing, values};
+    ghost use Rattle.stl_machine.specs.Machine.{standing};
     ghost use Rattle.stl_tree.specs.StlRun.{Standing};
 
     ghost Value = { Standing };
 
-    ghost view = { λ m. standing m.progress m.body.now m.position (values m.registers) m.memory };
+    ghost view = { λ m. standing m.program.now m.progress m.state };
 }
 
 fn is_same_name(a: BlockName, b: BlockName) -> bool
@@ -54,30 +52,33 @@ fn is_same_name(a: BlockName, b: BlockName) -> bool
     a == b
 }
 
-/// The block of a name, the first where there are several.
-fn block_named(blocks: &[Block], name: BlockName) -> Option<&Block>
-    ensures { MatchOption result (block_named name blocks.now ≡ None)
-        (λ block. block_named name blocks.now ≡ Some block.now) }
+/// The position of the block of a name, the first where there are several.
+fn block_named(blocks: &[Block], name: BlockName) -> Option<usize>
+    ensures { result ≡ block_named name blocks.now }
 {
-    let mut rest = blocks;
-    while let Some((block, behind)) = rest.split_first() {
-        if is_same_name(block.name, name) {
-            return Some(block);
-        }
-        rest = behind;
-    }
-    None
+    blocks
+        .iter()
+        .position(|block| is_same_name(block.name, name))
 }
 
-/// The block that a call from outside runs, if the call fits.
-fn block_called<'p>(program: &'p Program, call: &Call) -> Option<&'p Block>
-    ensures { MatchOption result (block_called call.now.block program.now.blocks ≡ None)
-        (λ block. block_called call.now.block program.now.blocks ≡ Some block.now) }
+/// The position of the block that a call from outside runs, if the call fits.
+fn block_called(program: &Program, call: &Call) -> Option<usize>
+    ensures { result ≡ block_called call.now.block program.now.blocks }
 {
     match call.block {
         BlockName::Ob(_) => block_named(program.blocks.as_slice(), call.block),
         BlockName::Fc(_) | BlockName::Fb(_) => None,
     }
+}
+
+/// The instruction to come.
+fn instruction<'p>(program: &'p Program, state: &State) -> Option<&'p Instr>
+    ensures instruction { MatchOption result (instruction program.now (seen state.now).activations ≡ None)
+        (λ instr. instruction program.now (seen state.now).activations ≡ Some instr.now) }
+    ensures room { IfSome result (λ instr. state.now.position + 1 < 2 ^ 64) }
+{
+    let block = program.blocks.as_slice().get(state.block)?;
+    block.body.as_slice().get(state.position)
 }
 
 /// The memory with zeros in the local data and the constant actuals of each activation.
@@ -104,10 +105,13 @@ impl<'p> Machine<'p> {
             return Err(MachineRefusal::BadCall);
         };
         Ok(Machine {
-            body: block.body.as_slice(),
-            position: 0,
-            registers: Registers::start(),
-            memory: cleared(memory),
+            program,
+            state: State {
+                registers: Registers::start(),
+                memory: cleared(memory),
+                block,
+                position: 0,
+            },
             progress: Progress::Running,
         })
     }
@@ -130,7 +134,7 @@ impl<'p> Machine<'p> {
     pub fn memory(&self) -> &Memory
         ensures { result.now ≡ memory_of self.now }
     {
-        &self.memory
+        &self.state.memory
     }
 
     /// The run stays where it is: it is over, or no instruction stands next.
@@ -138,7 +142,7 @@ impl<'p> Machine<'p> {
         ensures { result ≡ is_still self.now }
     {
         match self.progress {
-            Progress::Running => self.body.get(self.position).is_none(),
+            Progress::Running => instruction(self.program, &self.state).is_none(),
             Progress::Over(_) => true,
         }
     }
@@ -159,11 +163,11 @@ impl<'p> Machine<'p> {
         if let Progress::Over(_) = self.progress {
             return;
         }
-        let Some(instr) = self.body.get(self.position) else {
+        let Some(instr) = instruction(self.program, &self.state) else {
             return;
         };
-        match effect_of(instr.op, &mut self.registers, &mut self.memory) {
-            Ok(Effect::Next) => self.position += 1,
+        match effect_of(&instr.op, &mut self.state) {
+            Ok(Effect::Next) => self.state.position += 1,
             Ok(Effect::Leave) => self.progress = Progress::Over(None),
             Err(fault) => self.progress = Progress::Over(Some(fault)),
         }

@@ -1,13 +1,17 @@
 -- A call finds the unit of the block that it finds: the names of units are as different as those of blocks.
-use Rattle.std.proofs.Common.{◌≡◌, ℕ, suc, ◌+◌, ◌%◌, ◌^◌, ◌<◌, ◌≤◌, Bool, true, false, ◌&&◌, cond, ◌==◌, List, [], ◌∷◌, length, map, Option, Some, None, refl, ◌⊎◌, inl, inr, ⊎_elim, ap, ◌∙◌, subst, arith}
-use Rattle.std.specs.Prelude.{All, decimal, option_map}
+use Rattle.std.proofs.Common.{◌≡◌, ℕ, zero, suc, ◌+◌, ◌%◌, ◌^◌, ◌<◌, ◌≤◌, Bool, true, false, ◌&&◌, cond, ◌==◌, List, [], ◌∷◌, length, map, Option, Some, None, refl, sym, ◌⊎◌, inl, inr, ⊎_elim, ap, ◌∙◌, subst, arith}
+use Rattle.std.specs.Prelude.{All, IsSome, decimal, find, nat_lt, option_map, slice_get}
+use Rattle.std.specs.List.{position_or_len}
 use Rattle.std.specs.Char.{to_ascii_lowercase}
 use Rattle.std.specs.Str.{bytes_eq, str_eq_ignore_ascii_case}
-use Rattle.std.proofs.lemmas.Bool.{eqb-true}
+use Rattle.std.proofs.lemmas.Bool.{eqb-true, ltb-true, ltb-false}
+use Rattle.std.proofs.lemmas.List.Folds.{find_at}
+use Rattle.std.proofs.lemmas.Option.{slice_get_past}
 use Rattle.std.proofs.lemmas.Bool.Decides.{nat_tests, same_from_decides, Decides-eqb, Decides-like}
 use Rattle.std.proofs.lemmas.Fmt.{decimal_by_steps, decimal_injective}
 use Rattle.std.proofs.lemmas.List.{map-append}
 use Rattle.std.proofs.lemmas.Slice.Eq.{bytes_eq-Decides}
+use Rattle.stl_tree.specs.Accepted.{IsAcceptedBlock, IsBlockNumber}
 use Rattle.stl_tree.specs.StlRun.{block_named, greatest, is_same_name}
 use Rattle.stl_tree.specs.declared.program.Block.{Block}
 use Rattle.stl_tree.specs.declared.program.BlockName.{BlockName}
@@ -15,7 +19,7 @@ use Rattle.stl_tree.specs.declared.program.BlockName.TheVariants as name
 use Rattle.st_tree.specs.StRun.{called_name, is_program, is_same_kind, unit_called}
 use Rattle.st_tree.specs.declared.program.Pou.{Pou}
 use Rattle.stl_translate.specs.Translation.{unit_name_of, unit_of}
-use Rattle.stl_translate.specs.WellFormed.{IsNumbered, IsWellFormedBlock}
+use Rattle.stl_translate.specs.WellFormed.{IsNumbered}
 
 -- Numbers in names
 
@@ -51,7 +55,64 @@ same_name (name.Fc m) (name.Fb n) h k = refl
 same_name (name.Fb m) (name.Ob n) h k = refl
 same_name (name.Fb m) (name.Fc n) h k = refl
 
+-- the number of a block has 16 bits
+numbered : (name : BlockName) → IsBlockNumber name → IsNumbered name
+numbered (name.Ob n) h = omega (arith, h.1)
+numbered (name.Fc n) h = omega arith
+numbered (name.Fb n) h = omega arith
+
 -- Blocks and units
+
+-- the block of a name, the first where there are several
+abbrev pub block_of : BlockName → List Block → Option Block
+block_of called blocks = find (λ (b : Block). is_same_name b.name called) blocks
+
+-- the block that stands at the position of a name
+pub record IsAt (called : BlockName) (blocks : List Block) (i : ℕ) : Type 0 where
+  pub block : Block
+  pub found : block_of called blocks ≡ Some block
+  pub there : slice_get blocks i ≡ Some block
+
+at_position : (test : Bool) (k i : ℕ) → cond test (Some k) None ≡ Some i → k ≡ i
+at_position true k i e = cc
+at_position false k i e = absurd cc
+
+within : (test : Bool) (k i : ℕ) → cond test (Some k) None ≡ Some i → test ≡ true
+within true k i e = refl
+within false k i e = absurd cc
+
+some_there : (xs : List Block) (k : ℕ) → k < length xs → (b : Block) × (slice_get xs k ≡ Some b)
+some_there [] k h = absurd (omega arith)
+some_there (x ∷ xs) zero h = (x, refl)
+some_there (x ∷ xs) (suc k) h = some_there xs k (omega arith)
+
+-- the position of a name is that of a block
+pub block_at : (called : BlockName) (blocks : List Block) (i : ℕ) → block_named called blocks ≡ Some i → IsAt called blocks i
+block_at called blocks i e =
+    let k : ℕ = position_or_len (λ (b : Block). is_same_name b.name called) blocks in
+    let same : k ≡ i = at_position (nat_lt k (length blocks)) k i e in
+    let small : k < length blocks = ltb-true k (length blocks) (within (nat_lt k (length blocks)) k i e) in
+    let some = some_there blocks k small in
+    record {
+      block = some.0;
+      found = find_at (λ (b : Block). is_same_name b.name called) blocks ∙ some.1;
+      there = ap (λ (n : ℕ). slice_get blocks n) (sym same) ∙ some.1;
+    }
+
+no_block : (o : Option Block) → o ≡ None → IsSome o → ⊥
+no_block None e h = cc
+no_block (Some b) e h = cc
+
+by_test : (called : BlockName) (blocks : List Block) (test : Bool) → nat_lt (position_or_len (λ (b : Block). is_same_name b.name called) blocks) (length blocks) ≡ test
+    → IsSome (block_of called blocks) → IsSome (cond test (Some (position_or_len (λ (b : Block). is_same_name b.name called) blocks)) None)
+by_test called blocks true e h = refl
+by_test called blocks false e h =
+    let k : ℕ = position_or_len (λ (b : Block). is_same_name b.name called) blocks in
+    absurd (no_block (block_of called blocks) (find_at (λ (b : Block). is_same_name b.name called) blocks ∙ slice_get_past blocks k (ltb-false k (length blocks) e)) h)
+
+-- a block that is there has a position
+pub position_of : (called : BlockName) (blocks : List Block) → IsSome (block_of called blocks) → IsSome (block_named called blocks)
+position_of called blocks h = by_test called blocks (nat_lt (position_or_len (λ (b : Block). is_same_name b.name called) blocks) (length blocks)) refl h
 
 first_of : (P : Block → Type 0) (b : Block) (bs : List Block) → All P (b ∷ bs) → P b
 first_of P b bs all = all 0 b (omega arith)
@@ -72,14 +133,14 @@ and_false true = refl
 and_false false = refl
 
 -- the unit that a call of an organization block finds is that of the block that it finds
-pub unit_found : (n : ℕ) → IsNumbered (name.Ob n) → (blocks : List Block) → All IsWellFormedBlock blocks →
-    unit_called (name.Ob n) (map unit_of blocks) ≡ option_map unit_of (block_named (name.Ob n) blocks)
+pub unit_found : (n : ℕ) → IsNumbered (name.Ob n) → (blocks : List Block) → All IsAcceptedBlock blocks →
+    unit_called (name.Ob n) (map unit_of blocks) ≡ option_map unit_of (block_of (name.Ob n) blocks)
 unit_found n h [] all = refl
 unit_found n h (b ∷ bs) all =
-    let formed = first_of IsWellFormedBlock b bs all in
+    let formed = first_of IsAcceptedBlock b bs all in
     let called : BlockName = name.Ob n in
-    ap (λ test. cond test (Some (unit_of b)) (unit_called called (map unit_of bs))) (and_true (str_eq_ignore_ascii_case (unit_name_of b.name) (called_name called)) ∙ same_name b.name called formed.numbered h)
-    ∙ chosen (is_same_name b.name called) b (block_named called bs) (unit_called called (map unit_of bs)) (unit_found n h bs (rest_of IsWellFormedBlock b bs all))
+    ap (λ test. cond test (Some (unit_of b)) (unit_called called (map unit_of bs))) (and_true (str_eq_ignore_ascii_case (unit_name_of b.name) (called_name called)) ∙ same_name b.name called (numbered b.name formed.number) h)
+    ∙ chosen (is_same_name b.name called) b (block_of called bs) (unit_called called (map unit_of bs)) (unit_found n h bs (rest_of IsAcceptedBlock b bs all))
 
 -- a text without functions has none to call
 pub no_function : (called : BlockName) → is_program called ≡ false → (blocks : List Block) → unit_called called (map unit_of blocks) ≡ None
@@ -95,28 +156,28 @@ at_find true x b o e = inl (refl, cc)
 at_find false x b o e = inr e
 
 -- what holds of each block holds of the one that is found
-pub found_each : (P : Block → Type 0) (called : BlockName) (blocks : List Block) (b : Block) → block_named called blocks ≡ Some b → All P blocks → P b
+pub found_each : (P : Block → Type 0) (called : BlockName) (blocks : List Block) (b : Block) → block_of called blocks ≡ Some b → All P blocks → P b
 found_each P called [] b e all = cc
 found_each P called (x ∷ xs) b e all =
     ⊎_elim (λ (h : (is_same_name x.name called ≡ true) × (x ≡ b)). subst P h.1 (first_of P x xs all))
-    (λ (h : block_named called xs ≡ Some b). found_each P called xs b h (rest_of P x xs all))
-    (at_find (is_same_name x.name called) x b (block_named called xs) e)
+    (λ (h : block_of called xs ≡ Some b). found_each P called xs b h (rest_of P x xs all))
+    (at_find (is_same_name x.name called) x b (block_of called xs) e)
 
 -- it has the name that was called
-found_named : (called : BlockName) (blocks : List Block) (b : Block) → block_named called blocks ≡ Some b → is_same_name b.name called ≡ true
+found_named : (called : BlockName) (blocks : List Block) (b : Block) → block_of called blocks ≡ Some b → is_same_name b.name called ≡ true
 found_named called [] b e = cc
 found_named called (x ∷ xs) b e =
     ⊎_elim (λ (h : (is_same_name x.name called ≡ true) × (x ≡ b)). subst (λ (y : Block). is_same_name y.name called ≡ true) h.1 h.0)
-    (λ (h : block_named called xs ≡ Some b). found_named called xs b h)
-    (at_find (is_same_name x.name called) x b (block_named called xs) e)
+    (λ (h : block_of called xs ≡ Some b). found_named called xs b h)
+    (at_find (is_same_name x.name called) x b (block_of called xs) e)
 
 -- it is not larger than the largest
-pub found_size : (called : BlockName) (blocks : List Block) (b : Block) → block_named called blocks ≡ Some b → length b.body ≤ greatest (map (λ (y : Block). length y.body) blocks)
+pub found_size : (called : BlockName) (blocks : List Block) (b : Block) → block_of called blocks ≡ Some b → length b.body ≤ greatest (map (λ (y : Block). length y.body) blocks)
 found_size called [] b e = cc
 found_size called (x ∷ xs) b e =
     ⊎_elim (λ (h : (is_same_name x.name called ≡ true) × (x ≡ b)). let same : length x.body ≡ length b.body = ap (λ (y : Block). length y.body) h.1 in omega arith)
-    (λ (h : block_named called xs ≡ Some b). let within = found_size called xs b h in omega arith)
-    (at_find (is_same_name x.name called) x b (block_named called xs) e)
+    (λ (h : block_of called xs ≡ Some b). let within = found_size called xs b h in omega arith)
+    (at_find (is_same_name x.name called) x b (block_of called xs) e)
 
 numbered_alike : (b called : BlockName) → is_same_name b called ≡ true → IsNumbered b → IsNumbered called
 numbered_alike (name.Ob m) (name.Ob n) e h = let same = eqb-true m n e in omega arith
@@ -130,7 +191,7 @@ numbered_alike (name.Fb m) (name.Ob n) e h = cc
 numbered_alike (name.Fb m) (name.Fc n) e h = cc
 
 -- a call that finds a block has a number of 16 bits too
-pub found_numbered : (called : BlockName) (blocks : List Block) (b : Block) → block_named called blocks ≡ Some b → All IsWellFormedBlock blocks → IsNumbered called
+pub found_numbered : (called : BlockName) (blocks : List Block) (b : Block) → block_of called blocks ≡ Some b → All IsAcceptedBlock blocks → IsNumbered called
 found_numbered called blocks b e all =
-    let formed = found_each IsWellFormedBlock called blocks b e all in
-    numbered_alike b.name called (found_named called blocks b e) formed.numbered
+    let formed = found_each IsAcceptedBlock called blocks b e all in
+    numbered_alike b.name called (found_named called blocks b e) (numbered b.name formed.number)

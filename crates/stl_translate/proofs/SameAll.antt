@@ -1,10 +1,11 @@
 -- A program and its translation mean the same.
 use Rattle.std.proofs.Common.{◌≡◌, ℕ, ◌+◌, ◌*◌, ◌≤◌, List, [], map, length, Option, Some, None, refl, sym, ap, ◌∙◌, subst, arith}
-use Rattle.std.specs.Prelude.{IsSome, option_map}
+use Rattle.std.specs.Prelude.{All, IsSome, option_map}
 use Rattle.std.proofs.Math.Nat.{suc-mul}
 use Rattle.memory_areas.specs.Areas.{Areas, with_areas}
+use Rattle.stl_tree.specs.Accepted.{IsAccepted, IsAcceptedBlock}
 use Rattle.stl_tree.specs.Registers.{start}
-use Rattle.stl_tree.specs.StlRun.{block_called, block_named, body_called, end_of, running, size_of, steps_on, stl_run}
+use Rattle.stl_tree.specs.StlRun.{block_called, block_named, end_of, first_activation, running, size_of, steps_on, stl_run}
 use Rattle.stl_tree.specs.declared.program.Block.{Block}
 use Rattle.stl_tree.specs.declared.program.BlockName.{BlockName}
 use Rattle.stl_tree.specs.declared.program.BlockName.TheVariants as name
@@ -16,53 +17,56 @@ use Rattle.st_tree.specs.StRun.{FitsSt, FitsIfThere, FitsUnit, run_of_unit, st_r
 use Rattle.st_tree.specs.declared.program.StProgram.{StProgram}
 use Rattle.st_tree.specs.declared.program.Pou.{Pou}
 use Rattle.stl_translate.specs.Same.{Same, SameRuns}
-use Rattle.stl_translate.specs.Translation.{translation, unit_of, IsTranslatable, IsTranslatableBlock}
-use Rattle.stl_translate.specs.WellFormed.{IsNumbered, IsWellFormed, IsWellFormedBlock}
-use Rattle.stl_translate.proofs.Names.{found_each, found_numbered, found_size, unit_found, no_function}
+use Rattle.stl_translate.specs.Translation.{translation, unit_of}
+use Rattle.stl_translate.specs.WellFormed.{IsNumbered}
+use Rattle.stl_translate.proofs.Names.{IsAt, block_at, block_of, found_each, found_numbered, found_size, position_of, unit_found, no_function}
 use Rattle.stl_translate.proofs.Straight.{body_same}
 
-some_of : (o : Option Block) → IsSome o → (b : Block) × (o ≡ Some b)
+some_of : (o : Option ℕ) → IsSome o → (i : ℕ) × (o ≡ Some i)
 some_of None h = cc
-some_of (Some b) h = (b, refl)
+some_of (Some i) h = (i, refl)
 
 -- what is called has that name
-named_of : (called : BlockName) (blocks : List Block) (b : Block) → block_called called blocks ≡ Some b → block_named called blocks ≡ Some b
-named_of (name.Ob n) blocks b e = e
-named_of (name.Fc n) blocks b e = cc
-named_of (name.Fb n) blocks b e = cc
+named_of : (called : BlockName) (blocks : List Block) (i : ℕ) → block_called called blocks ≡ Some i → block_named called blocks ≡ Some i
+named_of (name.Ob n) blocks i e = e
+named_of (name.Fc n) blocks i e = cc
+named_of (name.Fb n) blocks i e = cc
 
 -- a block that is called is an organization block
-number_of : (called : BlockName) (blocks : List Block) (b : Block) → block_called called blocks ≡ Some b → (n : ℕ) × (called ≡ name.Ob n)
-number_of (name.Ob n) blocks b e = (n, refl)
-number_of (name.Fc n) blocks b e = cc
-number_of (name.Fb n) blocks b e = cc
+number_of : (called : BlockName) (blocks : List Block) (i : ℕ) → block_called called blocks ≡ Some i → (n : ℕ) × (called ≡ name.Ob n)
+number_of (name.Ob n) blocks i e = (n, refl)
+number_of (name.Fc n) blocks i e = cc
+number_of (name.Fb n) blocks i e = cc
 
-module _ (program : Program) (can : IsTranslatable program) (formed : IsWellFormed program) (call : Call) (b : Block) (called : block_called call.block program.blocks ≡ Some b) where
-  found : block_named call.block program.blocks ≡ Some b
-  found = named_of call.block program.blocks b called
+module _ (program : Program) (formed : All IsAcceptedBlock program.blocks) (call : Call) (i : ℕ) (called : block_called call.block program.blocks ≡ Some i) where
+  at : IsAt call.block program.blocks i
+  at = block_at call.block program.blocks i (named_of call.block program.blocks i called)
+
+  abbrev b : Block
+  b = at.block
 
   abbrev tree : StProgram
   tree = translation program
 
   number : (n : ℕ) × (call.block ≡ name.Ob n)
-  number = number_of call.block program.blocks b called
+  number = number_of call.block program.blocks i called
 
   -- the call finds the unit of the block
   unit_there : unit_called call.block (map unit_of program.blocks) ≡ Some (unit_of b)
   unit_there =
-      let numbered : IsNumbered (name.Ob number.0) = subst IsNumbered number.1 (found_numbered call.block program.blocks b found formed) in
+      let numbered : IsNumbered (name.Ob number.0) = subst IsNumbered number.1 (found_numbered call.block program.blocks b at.found formed) in
       ap (λ (called : BlockName). unit_called called (map unit_of program.blocks)) number.1
       ∙ unit_found number.0 numbered program.blocks formed
-      ∙ ap (option_map unit_of) (ap (λ (called : BlockName). block_named called program.blocks) (sym number.1) ∙ found)
+      ∙ ap (option_map unit_of) (ap (λ (called : BlockName). block_of called program.blocks) (sym number.1) ∙ at.found)
 
   -- with as many steps as a block has instructions, the runs are equal, whatever the units
   runs_equal : (memory : Areas) (steps units : ℕ) → size_of program ≤ steps → stl_run program call memory steps ≡ st_run tree call memory units
   runs_equal memory steps units h =
-      let shape = found_each IsWellFormedBlock call.block program.blocks b found formed in
-      let within = found_size call.block program.blocks b found in
+      let shape = found_each IsAcceptedBlock call.block program.blocks b at.found formed in
+      let within = found_size call.block program.blocks b at.found in
       let room : length b.body ≤ steps = omega arith in
-      ap (λ o. end_of (steps_on steps (running (record { body = body_called o; at = 0 }) start (with_areas memory)))) called
-      ∙ body_same [] (calls_to units tree) (unit_of b) call number.0 number.1 b.body shape.ends (found_each IsTranslatableBlock call.block program.blocks b found can) steps units memory room
+      ap (λ o. end_of (steps_on steps (running program (record { registers = start; brackets = []; memory = with_areas memory; activations = first_activation o })))) called
+      ∙ body_same [] (calls_to units tree) (unit_of b) call number.0 number.1 program i b at.there shape.ends steps units memory room
       ∙ sym (ap (λ o. run_of_unit tree o call memory units) unit_there)
 
   same_runs : SameRuns (stl_run program call) (st_run tree call) (size_of program)
@@ -87,18 +91,20 @@ some_unit None text call h = absurd h
 some_unit (Some b) text call h = refl
 
 -- a call of a text's program is one of the block that it was translated from
-fits_program : (program : Program) → IsWellFormed program → (call : Call) (called : BlockName) → IsNumbered called → FitsIfThere (translation program) call (unit_called called (map unit_of program.blocks)) → IsSome (block_called called program.blocks)
+fits_program : (program : Program) → All IsAcceptedBlock program.blocks → (call : Call) (called : BlockName) → IsNumbered called → FitsIfThere (translation program) call (unit_called called (map unit_of program.blocks)) → IsSome (block_called called program.blocks)
 fits_program program formed call (name.Ob n) numbered fits =
-    some_unit (block_named (name.Ob n) program.blocks) (translation program) call
-    (subst (λ (o : Option Pou). FitsIfThere (translation program) call o) (unit_found n numbered program.blocks formed) fits)
+    position_of (name.Ob n) program.blocks
+    (some_unit (block_of (name.Ob n) program.blocks) (translation program) call
+    (subst (λ (o : Option Pou). FitsIfThere (translation program) call o) (unit_found n numbered program.blocks formed) fits))
 fits_program program formed call (name.Fc n) numbered fits = absurd (subst (λ (o : Option Pou). FitsIfThere (translation program) call o) (no_function (name.Fc n) refl program.blocks) fits)
 fits_program program formed call (name.Fb n) numbered fits = absurd (subst (λ (o : Option Pou). FitsIfThere (translation program) call o) (no_function (name.Fb n) refl program.blocks) fits)
 
--- a program of blocks that are as they should be means what its translation means
-pub same_all : (program : Program) → IsTranslatable program → IsWellFormed program → Same program (translation program)
-same_all program can formed =
+-- an accepted program means what its translation means
+pub same_all : (program : Program) → IsAccepted program → Same program (translation program)
+same_all program accepted =
+    let formed = accepted.blocks in
     record {
       fits_back = λ call numbered fits. fits_program program formed call call.block numbered fits;
-      fits = λ call fits. let b = some_of (block_called call.block program.blocks) fits in fits_text program can formed call b.0 b.1;
-      runs = λ call fits. let b = some_of (block_called call.block program.blocks) fits in same_runs program can formed call b.0 b.1;
+      fits = λ call fits. let i = some_of (block_called call.block program.blocks) fits in fits_text program formed call i.0 i.1;
+      runs = λ call fits. let i = some_of (block_called call.block program.blocks) fits in same_runs program formed call i.0 i.1;
     }

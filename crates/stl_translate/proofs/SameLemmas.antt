@@ -1,10 +1,10 @@
 -- What the statements of a check and of an assignment do, beside the rows of the instruction table.
 use Rattle.std.proofs.Common.{◌≡◌, Bool, true, false, not, ◌&&◌, ◌||◌, if◌then◌else◌, List, Result, Ok, Err, refl}
+use Rattle.s7_base.specs.StatusBits.{rlo_after}
 use Rattle.s7_base.specs.declared.check.Check.{Check}
 use Rattle.s7_base.specs.declared.check.Check.TheVariants as check
 use Rattle.s7_base.specs.declared.outcome.Fault.{Fault}
 use Rattle.s7_base.specs.declared.register.Reg.TheVariants as reg
-use Rattle.stl_tree.specs.Instructions.{rlo_after}
 use Rattle.stl_tree.specs.Registers.{RegisterValues}
 use Rattle.memory_areas.specs.Access.{and_then}
 use Rattle.st_tree.specs.Operators.{unary_value, binary_value}
@@ -19,14 +19,14 @@ use Rattle.st_tree.specs.declared.program.Located.{Located}
 use Rattle.st_tree.specs.declared.expr.Expr.TheVariants as expr
 use Rattle.st_tree.specs.declared.expr.Var.{Var}
 use Rattle.st_tree.proofs.Equations.{value_equations}
-use Rattle.stl_translate.specs.Translation.{next_rlo, IsTranslatableCheck}
+use Rattle.stl_translate.specs.Translation.{next_rlo}
 
 -- the registers of both languages agree, as far as the statements and their places read them, OR is clear,
 -- and the first activation runs
 pub record AreAlike (r : RegisterValues) (s : State) : Type 0 where
-  pub rlo : s.registers reg.Rlo ≡ number_of r.rlo
-  pub nfc : s.registers reg.Nfc ≡ number_of r.fc
-  pub orb : r.orb ≡ false
+  pub rlo : s.registers reg.Rlo ≡ number_of r.status.rlo
+  pub nfc : s.registers reg.Nfc ≡ number_of r.status.fc
+  pub orb : r.status.orb ≡ false
   pub db : db_number s ≡ r.db
   pub di : di_number s ≡ r.di
   pub first : depth s ≡ 0
@@ -80,21 +80,41 @@ or_not_row false true false = refl
 or_not_row false false true = refl
 or_not_row false false false = refl
 
+exclusive_row : (rlo fc b : Bool) → joined binary.Xor (joined binary.And (Ok (flag rlo)) (Ok (flag fc))) (Ok (flag b)) ≡ Ok (flag (if fc then (if rlo then not b else b) else b))
+exclusive_row true true true = refl
+exclusive_row true true false = refl
+exclusive_row true false true = refl
+exclusive_row true false false = refl
+exclusive_row false true true = refl
+exclusive_row false true false = refl
+exclusive_row false false true = refl
+exclusive_row false false false = refl
+
+exclusive_not_row : (rlo fc b : Bool) → joined binary.Xor (joined binary.And (Ok (flag rlo)) (Ok (flag fc))) (inverted b) ≡ Ok (flag (if fc then (if rlo then b else not b) else not b))
+exclusive_not_row true true true = refl
+exclusive_not_row true true false = refl
+exclusive_not_row true false true = refl
+exclusive_not_row true false false = refl
+exclusive_not_row false true true = refl
+exclusive_not_row false true false = refl
+exclusive_not_row false false true = refl
+exclusive_not_row false false false = refl
+
 -- The value of what the RLO becomes
 
-pub checked_value : (g : List Located) (c : Check) → IsTranslatableCheck c → (v : Var) (r : RegisterValues) (s : State) (b : Bool) → AreAlike r s → read g v s ≡ Ok (flag b) →
-    value g (next_rlo c (expr.Read v)) s ≡ Ok (flag (rlo_after c r b))
-checked_value g check.A h v r s b alike e = simp (value_equations, e, alike.rlo, alike.nfc, alike.orb) (and_row r.rlo r.fc b)
-checked_value g check.An h v r s b alike e = simp (value_equations, e, alike.rlo, alike.nfc, alike.orb) (and_not_row r.rlo r.fc b)
-checked_value g check.O h v r s b alike e = simp (value_equations, e, alike.rlo, alike.nfc) (or_row r.rlo r.fc b)
-checked_value g check.On h v r s b alike e = simp (value_equations, e, alike.rlo, alike.nfc) (or_not_row r.rlo r.fc b)
-checked_value g check.X h v r s b alike e = elim h [ ]
-checked_value g check.Xn h v r s b alike e = elim h [ ]
+pub checked_value : (g : List Located) (c : Check) (v : Var) (r : RegisterValues) (s : State) (b : Bool) → AreAlike r s → read g v s ≡ Ok (flag b) →
+    value g (next_rlo c (expr.Read v)) s ≡ Ok (flag (rlo_after c b r.status))
+checked_value g check.A v r s b alike e = simp (value_equations, e, alike.rlo, alike.nfc, alike.orb) (and_row r.status.rlo r.status.fc b)
+checked_value g check.An v r s b alike e = simp (value_equations, e, alike.rlo, alike.nfc, alike.orb) (and_not_row r.status.rlo r.status.fc b)
+checked_value g check.O v r s b alike e = simp (value_equations, e, alike.rlo, alike.nfc) (or_row r.status.rlo r.status.fc b)
+checked_value g check.On v r s b alike e = simp (value_equations, e, alike.rlo, alike.nfc) (or_not_row r.status.rlo r.status.fc b)
+checked_value g check.X v r s b alike e = simp (value_equations, e, alike.rlo, alike.nfc) (exclusive_row r.status.rlo r.status.fc b)
+checked_value g check.Xn v r s b alike e = simp (value_equations, e, alike.rlo, alike.nfc) (exclusive_not_row r.status.rlo r.status.fc b)
 
-pub checked_fault : (g : List Located) (c : Check) → IsTranslatableCheck c → (v : Var) (s : State) (f : Fault) → read g v s ≡ Err f → value g (next_rlo c (expr.Read v)) s ≡ Err f
-checked_fault g check.A h v s f e = simp (value_equations, e)
-checked_fault g check.An h v s f e = simp (value_equations, e)
-checked_fault g check.O h v s f e = simp (value_equations, e)
-checked_fault g check.On h v s f e = simp (value_equations, e)
-checked_fault g check.X h v s f e = elim h [ ]
-checked_fault g check.Xn h v s f e = elim h [ ]
+pub checked_fault : (g : List Located) (c : Check) (v : Var) (s : State) (f : Fault) → read g v s ≡ Err f → value g (next_rlo c (expr.Read v)) s ≡ Err f
+checked_fault g check.A v s f e = simp (value_equations, e)
+checked_fault g check.An v s f e = simp (value_equations, e)
+checked_fault g check.O v s f e = simp (value_equations, e)
+checked_fault g check.On v s f e = simp (value_equations, e)
+checked_fault g check.X v s f e = simp (value_equations, e)
+checked_fault g check.Xn v s f e = simp (value_equations, e)

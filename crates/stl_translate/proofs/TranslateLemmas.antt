@@ -21,10 +21,10 @@ instr_of o = record { line = record { 0 = 3 }; op = o }
 
 -- a block with these instructions before its end word
 abbrev block_of : BlockName → List Op → Block
-block_of n ops = record { name = n; line = record { 0 = 1 }; body = map instr_of (ops ++ op.BlockEnd ∷ []) }
+block_of n ops = record { name = n; line = record { 0 = 1 }; formals = []; body = map instr_of (ops ++ op.BlockEnd ∷ []) }
 
 abbrev text_of : List Block → List ℕ
-text_of blocks = spelling (translation (record { blocks = blocks }))
+text_of blocks = spelling (translation (record { dbs = []; instances = []; blocks = blocks; symbols = [] }))
 
 abbrev input : ℕ → Operand
 input bit = operand.Direct area.I 0 bit
@@ -53,6 +53,14 @@ negated_parallel : text_of (block_of (name.Ob 65535) (op.Check check.On (arg.At 
     ≡ codes "PROGRAM OB65535\n    RLO := RLO AND NFC OR NOT %MX8191.7;\n    NFC := TRUE;\nEND_PROGRAM\n"
 unfolding digits unit_text line literal_text
 negated_parallel = simp (text_assign, canon_equations)
+
+exclusive : text_of (block_of (name.Ob 1) (op.Check check.X (arg.At (input 0)) ∷ op.Check check.Xn (arg.At (input 1)) ∷ []) ∷ [])
+    ≡ codes "PROGRAM OB1\n"
+    ++ codes "    RLO := RLO AND NFC XOR %IX0.0;\n    NFC := TRUE;\n"
+    ++ codes "    RLO := RLO AND NFC XOR NOT %IX0.1;\n    NFC := TRUE;\n"
+    ++ codes "END_PROGRAM\n"
+unfolding digits unit_text line literal_text
+exclusive = simp (statement_line, canon_equations)
 
 two_blocks : text_of (block_of (name.Ob 1) [] ∷ block_of (name.Ob 35) [] ∷ [])
     ≡ codes "PROGRAM OB1\nEND_PROGRAM\nPROGRAM OB35\nEND_PROGRAM\n"

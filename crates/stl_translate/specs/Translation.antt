@@ -1,5 +1,5 @@
 -- What a program says in ST: a unit for each block, two assignments for each instruction.
-use Rattle.std.specs.Prelude.{ℕ, pos, Bool, true, false, List, [], ◌∷◌, ◌++◌, map, flat_map, All, codes, decimal, if◌then◌else◌}
+use Rattle.std.specs.Prelude.{ℕ, pos, Bool, true, false, List, [], ◌∷◌, ◌++◌, map, flat_map, codes, decimal, if◌then◌else◌}
 use Rattle.s7_base.specs.declared.check.Check.{Check}
 use Rattle.s7_base.specs.declared.check.Check.TheVariants as check
 use Rattle.s7_base.specs.declared.register.Reg.{Reg}
@@ -43,6 +43,10 @@ and_of e f = expr.Binary binary.And e f
 abbrev pub or_of : Expr → Expr → Expr
 or_of e f = expr.Binary binary.Or e f
 
+-- XOR
+abbrev pub xor_of : Expr → Expr → Expr
+xor_of e f = expr.Binary binary.Xor e f
+
 -- TRUE or FALSE
 abbrev pub literal_of : Bool → Expr
 literal_of b = expr.Literal type.Bool (if b then pos 1 else pos 0)
@@ -51,18 +55,18 @@ literal_of b = expr.Literal type.Bool (if b then pos 1 else pos 0)
 abbrev pub rlo_before_and : Expr
 rlo_before_and = or_of (read_of reg.Rlo) (not_of (read_of reg.Nfc))
 
--- the RLO before an OR: a first check, where NFC is FALSE, takes it as FALSE
+-- the RLO before an OR or an XOR: a first check, where NFC is FALSE, takes it as FALSE
 abbrev pub rlo_before_or : Expr
 rlo_before_or = and_of (read_of reg.Rlo) (read_of reg.Nfc)
 
--- what the RLO becomes at a check of the bit b; no program that is translated has X or XN
+-- what the RLO becomes at a check of the bit b
 abbrev pub next_rlo : Check → Expr → Expr
 next_rlo check.A b = and_of rlo_before_and b
 next_rlo check.An b = and_of rlo_before_and (not_of b)
 next_rlo check.O b = or_of rlo_before_or b
 next_rlo check.On b = or_of rlo_before_or (not_of b)
-next_rlo check.X b = b
-next_rlo check.Xn b = b
+next_rlo check.X b = xor_of rlo_before_or b
+next_rlo check.Xn b = xor_of rlo_before_or (not_of b)
 
 -- the bit of an operand, as a variable
 abbrev pub bit_of : Operand → Var
@@ -99,30 +103,3 @@ unit_of b =
 -- the text's tree of a program
 abbrev pub translation : Program → StProgram
 translation p = record { dbs = []; globals = []; pous = map unit_of p.blocks }
-
--- a check that is translated so far: not X or XN
-abbrev pub IsTranslatableCheck : Check → Type 0
-IsTranslatableCheck check.A = Unit {0}
-IsTranslatableCheck check.An = Unit {0}
-IsTranslatableCheck check.O = Unit {0}
-IsTranslatableCheck check.On = Unit {0}
-IsTranslatableCheck check.X = ⊥
-IsTranslatableCheck check.Xn = ⊥
-
--- an instruction with such a check, or with none
-abbrev pub IsTranslatableOp : Op → Type 0
-IsTranslatableOp (op.Check c b) = IsTranslatableCheck c
-IsTranslatableOp (op.Assign o) = Unit {0}
-IsTranslatableOp op.BlockEnd = Unit {0}
-
--- a body of such instructions
-abbrev pub AreTranslatable : List Instr → Type 0
-AreTranslatable body = All (λ (i : Instr). IsTranslatableOp i.op) body
-
--- a block with such a body
-abbrev pub IsTranslatableBlock : Block → Type 0
-IsTranslatableBlock b = AreTranslatable b.body
-
--- a program of such blocks
-abbrev pub IsTranslatable : Program → Type 0
-IsTranslatable p = All IsTranslatableBlock p.blocks

@@ -2,9 +2,9 @@
 //!
 //! Each instruction but the end word becomes two assignments, so the text keeps the order of the source.
 ghost use Rattle.std.specs.Prelude.{◌≡◌, ◌++◌, decimal, IfOk, OnOk};
-ghost use Rattle.stl_translate.specs.Translation.{read_of, not_of, and_of, or_of, literal_of, rlo_before_and, rlo_before_or, next_rlo, bit_of, set_of, statements_of, unit_name_of, unit_of, translation, IsTranslatableCheck, IsTranslatableOp, IsTranslatableBlock, IsTranslatable};
+ghost use Rattle.stl_tree.specs.Accepted.{IsAccepted};
+ghost use Rattle.stl_translate.specs.Translation.{read_of, not_of, and_of, or_of, xor_of, literal_of, rlo_before_and, rlo_before_or, next_rlo, bit_of, set_of, statements_of, unit_name_of, unit_of, translation};
 ghost use Rattle.stl_translate.specs.Same.{Same};
-ghost use Rattle.stl_translate.specs.WellFormed.{IsWellFormed};
 
 use itoa::Buffer;
 use s7_base::{Boxed, Check, List, NoMemory, Reg, Width};
@@ -14,8 +14,7 @@ use stl_tree::{BitArg, Block, BlockName, Op, Operand, Program};
 
 /// The text's tree: a unit for each block, in the order of the blocks. It means the same as the program.
 pub fn translate(alloc: Global, program: &Program) -> Result<StProgram, NoMemory>
-    requires translatable { IsTranslatable program.now }
-    requires well_formed { IsWellFormed program.now }
+    requires { IsAccepted program.now }
     ensures tree { IfOk result (λ tree. tree ≡ translation program.now) }
     ensures same { IfOk result (λ tree. Same program.now tree) }
 {
@@ -31,13 +30,12 @@ pub fn translate(alloc: Global, program: &Program) -> Result<StProgram, NoMemory
 }
 
 fn unit(alloc: Global, block: &Block) -> Result<Pou, NoMemory>
-    requires { IsTranslatableBlock block.now }
     ensures { IfOk result (λ unit. unit ≡ unit_of block.now) }
 {
     let name = unit_name(alloc, block.name)?;
     let mut body = List::new(alloc);
     for instr in block.body.as_slice() {
-        push_statements(alloc, &mut body, instr.op)?;
+        push_statements(alloc, &mut body, &instr.op)?;
     }
     Ok(Pou {
         program: true,
@@ -66,13 +64,12 @@ fn numbered(alloc: Global, word: &str, number: u16) -> Result<List<u8>, NoMemory
     Ok(List::from_vec(text))
 }
 
-fn push_statements(alloc: Global, body: &mut List<Stmt>, op: Op) -> Result<(), NoMemory>
-    requires { IsTranslatableOp op }
-    ensures { OnOk result (body.new ≡ body.old ++ statements_of op) }
+fn push_statements(alloc: Global, body: &mut List<Stmt>, op: &Op) -> Result<(), NoMemory>
+    ensures { OnOk result (body.new ≡ body.old ++ statements_of op.now) }
 {
     match op {
         Op::Check(check, BitArg::At(operand)) => {
-            let value = next_rlo(alloc, check, Expr::Read(bit(operand)))?;
+            let value = next_rlo(alloc, *check, Expr::Read(bit(operand)))?;
             body.push(set(Reg::Rlo, value))?;
             body.push(set(Reg::Nfc, literal(true)))
         }
@@ -86,7 +83,6 @@ fn push_statements(alloc: Global, body: &mut List<Stmt>, op: Op) -> Result<(), N
 
 /// What the RLO becomes at a check of a bit.
 fn next_rlo(alloc: Global, check: Check, bit: Expr) -> Result<Expr, NoMemory>
-    requires { IsTranslatableCheck check }
     ensures { IfOk result (λ value. value ≡ next_rlo check bit) }
 {
     match check {
@@ -94,7 +90,8 @@ fn next_rlo(alloc: Global, check: Check, bit: Expr) -> Result<Expr, NoMemory>
         Check::An => and(alloc, rlo_before_and(alloc)?, not(alloc, bit)?),
         Check::O => or(alloc, rlo_before_or(alloc)?, bit),
         Check::On => or(alloc, rlo_before_or(alloc)?, not(alloc, bit)?),
-        Check::X | Check::Xn => unreachable!(),
+        Check::X => xor(alloc, rlo_before_or(alloc)?, bit),
+        Check::Xn => xor(alloc, rlo_before_or(alloc)?, not(alloc, bit)?),
     }
 }
 
@@ -105,17 +102,17 @@ fn rlo_before_and(alloc: Global) -> Result<Expr, NoMemory>
     or(alloc, read(Reg::Rlo), not(alloc, read(Reg::Nfc))?)
 }
 
-/// The RLO before an OR: a first check, where NFC is FALSE, takes it as FALSE.
+/// The RLO before an OR or an XOR: a first check, where NFC is FALSE, takes it as FALSE.
 fn rlo_before_or(alloc: Global) -> Result<Expr, NoMemory>
     ensures { IfOk result (λ value. value ≡ rlo_before_or) }
 {
     and(alloc, read(Reg::Rlo), read(Reg::Nfc))
 }
 
-fn bit(operand: Operand) -> Var
-    ensures { result ≡ bit_of operand }
+fn bit(operand: &Operand) -> Var
+    ensures { result ≡ bit_of operand.now }
 {
-    let Operand::Direct(area, byte, bit) = operand;
+    let Operand::Direct(area, byte, bit) = *operand;
     Var::Direct(area, byte, bit, Width::Bit)
 }
 
@@ -153,6 +150,12 @@ fn or(alloc: Global, left: Expr, right: Expr) -> Result<Expr, NoMemory>
     ensures { IfOk result (λ value. value ≡ or_of left right) }
 {
     binary(alloc, BinaryOp::Or, left, right)
+}
+
+fn xor(alloc: Global, left: Expr, right: Expr) -> Result<Expr, NoMemory>
+    ensures { IfOk result (λ value. value ≡ xor_of left right) }
+{
+    binary(alloc, BinaryOp::Xor, left, right)
 }
 
 fn binary(alloc: Global, op: BinaryOp, left: Expr, right: Expr) -> Result<Expr, NoMemory>

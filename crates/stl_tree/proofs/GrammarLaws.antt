@@ -16,7 +16,7 @@ use Rattle.stl_tree.specs.Words.{is_word, is_word_kind}
 use Rattle.stl_tree.specs.declared.program.BlockName.{BlockName}
 use Rattle.stl_tree.specs.declared.program.BlockName.TheVariants.{Ob}
 use Rattle.stl_tree.specs.Items.{block_number, heading_with, heading_number, heading_name, short_heading, in_body, misfit_reason, is_complete, statement_op, statement_of, statement_size}
-use Rattle.stl_tree.specs.Verdict.{with_statement, with_item, with_end, body_from, begin_from, misfit_at, one_block, with_heading, program_of}
+use Rattle.stl_tree.specs.Verdict.{with_statement, with_item, with_end, body_from, begin_from, misfit_at, one_block, with_heading, program_of, program_with}
 use Rattle.stl_tree.specs.declared.program.Instr.{Instr}
 use Rattle.stl_tree.specs.declared.program.Program.{Program}
 use Rattle.stl_tree.specs.declared.program.Op.{Op}
@@ -311,7 +311,7 @@ begun_of end (first ∷ rest) instrs e = begun_by (is_word (codes "BEGIN") first
 record Made (name : BlockName) (line : Line) (body : Result (List Instr) Rejection) (program : Program) : Type 0 where
   instrs : List Instr
   body_is : body ≡ Ok instrs
-  program_is : record { blocks = record { name = name; line = line; body = instrs } ∷ [] } ≡ program
+  program_is : program_with name line instrs ≡ program
 
 made_of : (name : BlockName) (line : Line) (body : Result (List Instr) Rejection) (program : Program) → one_block name line body ≡ Ok program → Made name line body program
 made_of name line (Ok instrs) program e = record { instrs = instrs; body_is = refl; program_is = cc }

@@ -6,6 +6,7 @@ use Rattle.s7_base.specs.declared.check.Check.TheVariants as check
 use Rattle.s7_base.specs.declared.outcome.Fault.TheVariants.{AreaLength}
 use Rattle.memory_areas.specs.declared.place.AreaName.TheVariants as area
 use Rattle.stl_tree.specs.StlRun.{stl_run, size_of}
+use Rattle.stl_tree.specs.Verdict.{program_with}
 use Rattle.stl_tree.specs.declared.program.BitArg.TheVariants.{At}
 use Rattle.stl_tree.specs.declared.program.BlockName.TheVariants.{Ob}
 use Rattle.stl_tree.specs.declared.program.Call.{Call}
@@ -18,14 +19,7 @@ use Rattle.stl_tree.specs.declared.program.Program.{Program}
 -- OB 1 with these instructions and its end word
 abbrev program_of : List Op → Program
 program_of ops =
-    record {
-      blocks =
-          record {
-            name = Ob 1;
-            line = record { 0 = 1 };
-            body = map (λ (o : Op). record { line = record { 0 = 3 }; op = o }) (ops ++ op.BlockEnd ∷ []);
-          } ∷ [];
-    }
+    program_with (Ob 1) (record { 0 = 1 }) (map (λ (o : Op). record { line = record { 0 = 3 }; op = o }) (ops ++ op.BlockEnd ∷ []))
 
 -- the call of an organization block
 abbrev call_of : ℕ → Call

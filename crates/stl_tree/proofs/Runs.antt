@@ -16,7 +16,7 @@ steps_on-add (suc n) j s = let e : suc n + j ≡ suc (n + j) = omega arith in ap
 
 -- what is seen to have ended is seen so ever after
 stays_ended : (s : Standing) (k : ℕ) (memory : Areas) (f : Option Fault) → end_of s ≡ Ended memory f → end_of (steps_on k s) ≡ Ended memory f
-stays_ended (running block r m) k memory f e = cc
+stays_ended (running program now) k memory f e = cc
 stays_ended (over m g) k memory f e = ap end_of (over_stays k m g) ∙ e
 
 pub end_kept : (s : Standing) (n more : ℕ) (memory : Areas) (f : Option Fault) → n ≤ more → end_of (steps_on n s) ≡ Ended memory f → end_of (steps_on more s) ≡ Ended memory f

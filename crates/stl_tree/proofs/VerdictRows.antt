@@ -31,16 +31,20 @@ on_line_3 what = record { line = record { 0 = 3 }; op = what }
 three_instructions :
     verdict (with_body (codes "A I 0.0; A I 0.1; = Q 4.0;"))
     ≡ Ok (record {
+      dbs = [];
+      instances = [];
       blocks =
           record {
             name = Ob 1;
             line = record { 0 = 1 };
+            formals = [];
             body =
                 on_line_3 (op.Check check.A (At (Direct area.I 0 0)))
                 ∷ on_line_3 (op.Check check.A (At (Direct area.I 0 1)))
                 ∷ on_line_3 (op.Assign (Direct area.Q 4 0))
                 ∷ record { line = record { 0 = 4 }; op = op.BlockEnd } ∷ [];
           } ∷ [];
+      symbols = [];
     })
 unfolding verdict tokens_of
 three_instructions = refl
@@ -149,14 +153,18 @@ comment_alone = refl
 spelled_freely :
     verdict (codes "organization_block ob01 {x} title == it's\nBegin ;a i0.07;; END_organization_BLOCK")
     ≡ Ok (record {
+      dbs = [];
+      instances = [];
       blocks =
           record {
             name = Ob 1;
             line = record { 0 = 1 };
+            formals = [];
             body =
                 record { line = record { 0 = 2 }; op = op.Check check.A (At (Direct area.I 0 7)) }
                 ∷ record { line = record { 0 = 2 }; op = op.BlockEnd } ∷ [];
           } ∷ [];
+      symbols = [];
     })
 unfolding verdict tokens_of
 spelled_freely = refl

@@ -4,7 +4,7 @@ use Rattle.std.specs.Prelude.{◌≡◌, ℕ, Bool, true, false, List, [], ◌�
 use Rattle.s7_base.specs.declared.reason.Line.{Line}
 use Rattle.s7_base.specs.declared.token.Token.{Token}
 use Rattle.stl_tree.specs.Items.{begins_with_ob, block_number, statement_op, statement_size}
-use Rattle.stl_tree.specs.Verdict.{program_of}
+use Rattle.stl_tree.specs.Verdict.{program_of, program_with}
 use Rattle.stl_tree.specs.Words.{is_word, is_sign, is_word_kind}
 use Rattle.stl_tree.specs.declared.program.BlockName.{BlockName}
 use Rattle.stl_tree.specs.declared.program.BlockName.TheVariants.{Ob}
@@ -47,7 +47,7 @@ pub data IsText : List Token → Program → Type 0 where
       is_word (codes "ORGANIZATION_BLOCK") heading ≡ true → IsName names name
       → is_word (codes "BEGIN") begin ≡ true → IsBody body instrs
       → IsText (heading ∷ (names ++ (begin ∷ body)))
-      (record { blocks = record { name = name; line = heading.line; body = instrs } ∷ [] })
+      (program_with name heading.line instrs)
 
 -- what the verdict accepts is what the grammar relates, on whatever line the text ends
 pub record AcceptsTheGrammar : Type 0 where

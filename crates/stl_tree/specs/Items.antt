@@ -5,7 +5,7 @@ use Rattle.std.specs.Option.{ok_or}
 use Rattle.std.specs.Str.{str_eq_ignore_ascii_case}
 use Rattle.std.specs.Char.{to_ascii_uppercase}
 use Rattle.std.specs.List.{prefix_len}
-use Rattle.memory_areas.specs.Access.{area_bytes}
+use Rattle.memory_areas.specs.Access.{is_byte_in}
 use Rattle.s7_base.specs.Tokens.{is_between}
 use Rattle.memory_areas.specs.declared.place.AreaName.{AreaName}
 use Rattle.memory_areas.specs.declared.place.AreaName.TheVariants as area
@@ -14,6 +14,8 @@ use Rattle.s7_base.specs.declared.reason.Kind.TheVariants.{NotBuilt}
 use Rattle.s7_base.specs.declared.reason.Reason.{Reason}
 use Rattle.s7_base.specs.declared.reason.Reason.TheVariants.{BadStatement, Unsupported}
 use Rattle.s7_base.specs.declared.token.Token.{Token}
+use Rattle.s7_base.specs.declared.word.Width.{Width}
+use Rattle.s7_base.specs.declared.word.Width.TheVariants as width
 use Rattle.stl_tree.specs.Words.{is_word, is_sign, is_word_kind, is_word_among, is_sign_among, mnemonics, sign_mnemonics, typed_signs, type_letters, block_words}
 use Rattle.stl_tree.specs.declared.program.BitArg.TheVariants.{At}
 use Rattle.stl_tree.specs.declared.program.BlockName.{BlockName}
@@ -51,11 +53,17 @@ area_of [] = None
 area_of (letter ∷ []) = area_of_letter (to_ascii_uppercase letter)
 area_of (letter ∷ more ∷ rest) = None
 
+-- a byte number, where the bytes of this width that begin there lie in the area
+abbrev pub byte_in : AreaName → Width → Option ℕ → Option ℕ
+byte_in name w None = None
+byte_in name w (Some byte) = if is_byte_in name w byte then Some byte else None
+
 -- a bit by its area, its byte and its number, the byte within the area
 abbrev pub bit_at : Option AreaName → List ℕ → List ℕ → Option Operand
 bit_at None byte bit = None
 bit_at (Some name) byte bit =
-    option_and_then (λ y. option_and_then (λ x. Some (Direct name y x)) (number_of 7 bit)) (number_of (area_bytes name - 1) byte)
+    option_and_then (λ y. option_and_then (λ x. Some (Direct name y x)) (number_of 7 bit))
+    (byte_in name width.Bit (number_of 65535 byte))
 
 -- a point and a number with no blank before either
 abbrev pub is_bit_number : Token → Token → Bool

@@ -1,6 +1,9 @@
+pub mod Accepted
 pub mod Grammar
 pub mod Instructions
 pub mod Items
+pub mod Now
+pub mod Operands
 pub mod Registers
 pub mod RunLaws
 pub mod StlRun

@@ -1,12 +1,15 @@
 -- What a program does when one of its blocks is called: its instructions one after another, within a
 -- bound on their number.
-use Rattle.std.specs.Prelude.{ℕ, zero, suc, ◌+◌, max, Bool, false, ◌==◌, List, [], ◌∷◌, length, map, find, slice_get, IsSome, Option, Some, None}
+use Rattle.std.specs.Prelude.{ℕ, zero, suc, ◌+◌, max, Bool, false, ◌==◌, if◌then◌else◌, List, [], ◌∷◌, length, map, slice_get, IsSome, Option, Some, None, option_and_then}
+use Rattle.std.specs.List.{position}
 use Rattle.s7_base.specs.declared.outcome.Fault.{Fault}
-use Rattle.memory_areas.specs.Areas.{Areas, Contents, with_areas}
+use Rattle.memory_areas.specs.Areas.{Areas, Contents, cleared, with_areas}
 use Rattle.memory_areas.specs.End.{End, Ended, Going}
-use Rattle.stl_tree.specs.Instructions.{Effect, next, leave, fault, effect_of}
+use Rattle.stl_tree.specs.Instructions.{effect_of}
+use Rattle.stl_tree.specs.Now.{Activation, Now, Effect, next, go, enter, leave, fault}
 use Rattle.stl_tree.specs.Registers.{RegisterValues, start}
 use Rattle.stl_tree.specs.declared.program.Block.{Block}
+use Rattle.stl_tree.specs.declared.program.BlockCall.{BlockCall}
 use Rattle.stl_tree.specs.declared.program.BlockName.{BlockName}
 use Rattle.stl_tree.specs.declared.program.BlockName.TheVariants as name
 use Rattle.stl_tree.specs.declared.program.Call.{Call}
@@ -27,13 +30,14 @@ is_same_name (name.Fc m) (name.Fb n) = false
 is_same_name (name.Fb m) (name.Ob n) = false
 is_same_name (name.Fb m) (name.Fc n) = false
 
--- the block of a name, the first where there are several
-abbrev pub block_named : BlockName → List Block → Option Block
-block_named called blocks = find (λ (b : Block). is_same_name b.name called) blocks
+-- the position of the block of a name, the first where there are several
+abbrev pub block_named : BlockName → List Block → Option ℕ
+block_named called blocks = position (λ (b : Block). is_same_name b.name called) blocks
 
--- the block that a call from outside runs, if it fits: an organization block, which has no formals, so
--- the call's actuals are not looked at; functions and function blocks are not built, so no call of one fits
-abbrev pub block_called : BlockName → List Block → Option Block
+-- the position of the block that a call from outside runs, if it fits: an organization block, which has no
+-- formals, so the call's actuals are not looked at; functions and function blocks are not built, so no
+-- call of one fits
+abbrev pub block_called : BlockName → List Block → Option ℕ
 block_called (name.Ob n) blocks = block_named (name.Ob n) blocks
 block_called (name.Fc n) blocks = None
 block_called (name.Fb n) blocks = None
@@ -53,30 +57,71 @@ size_of program = greatest (map (λ (b : Block). length b.body) program.blocks)
 
 -- Runs
 
--- a block that runs: its body, and the position of the instruction to come
-pub record Activation : Type 0 where
-  pub body : List Instr
-  pub at : ℕ
-
--- where a run stands: a block runs, with the registers and the memory; or the run has ended
+-- where a run stands: the program goes on with this state, or the run has ended
 pub data Standing : Type 0 where
-  running : Activation → RegisterValues → Contents → Standing
+  running : Program → Now → Standing
   over : Contents → Option Fault → Standing
 
+-- the activations, of which the running one goes on at a position
+abbrev pub going_on_at : ℕ → List Activation → List Activation
+going_on_at to [] = []
+going_on_at to (a ∷ waiting) = record a { at = to } ∷ waiting
+
+-- the activations, of which the running one goes on behind its instruction
+abbrev pub going_on : List Activation → List Activation
+going_on [] = []
+going_on (a ∷ waiting) = record a { at = a.at + 1 } ∷ waiting
+
+-- the DI register where a block is entered: its instance, where it has one
+abbrev pub instance_or : ℕ → ℕ → ℕ
+instance_or instance di = if instance == 0 then di else instance
+
+-- the state where a called block begins: its local data and constant actuals are zero, the DB and the DI
+-- register are put back when it ends, and its caller goes on behind the call. Actuals are found and
+-- copied here, once calls with formals are built
+abbrev pub entered : BlockCall → Now → Now
+entered call now =
+    record now {
+      registers = record now.registers { di = instance_or call.instance now.registers.di };
+      memory = cleared (length now.activations) now.memory;
+      activations =
+          record { block = call.block; at = 0; db = now.registers.db; di = now.registers.di; formals = [] }
+          ∷ going_on now.activations;
+    }
+
+-- where a run stands when the first of these activations has ended: with the one that waited for it, the DB
+-- and the DI register put back; or the run is over
+abbrev pub returned : Program → List Activation → Now → Standing
+returned program [] now = over now.memory None
+returned program (done ∷ []) now = over now.memory None
+returned program (done ∷ caller ∷ waiting) now =
+    running program (record now {
+      registers = record now.registers { db = done.db; di = done.di };
+      activations = caller ∷ waiting;
+    })
+
 -- where a run stands after an effect; by a fault the memory stays as it was
-abbrev pub after_effect : Activation → Contents → Effect → Standing
-after_effect block memory (next r changed) = running (record block { at = block.at + 1 }) r changed
-after_effect block memory (leave r changed) = over changed None
-after_effect block memory (fault f) = over memory (Some f)
+abbrev pub after_effect : Program → Now → Effect → Standing
+after_effect program now (next n) = running program (record n { activations = going_on n.activations })
+after_effect program now (go to n) = running program (record n { activations = going_on_at to n.activations })
+after_effect program now (enter call n) = running program (entered call n)
+after_effect program now (leave n) = returned program n.activations n
+after_effect program now (fault f) = over now.memory (Some f)
+
+-- the instruction to come
+abbrev pub instruction : Program → List Activation → Option Instr
+instruction program [] = None
+instruction program (a ∷ waiting) =
+    option_and_then (λ (b : Block). slice_get b.body a.at) (slice_get program.blocks a.block)
 
 -- the step of an instruction; where there is none, as in a block that is not there, a run stays for ever
-abbrev pub step_by : Option Instr → Activation → RegisterValues → Contents → Standing
-step_by None block r memory = running block r memory
-step_by (Some i) block r memory = after_effect block memory (effect_of i.op r memory)
+abbrev pub step_by : Option Instr → Program → Now → Standing
+step_by None program now = running program now
+step_by (Some i) program now = after_effect program now (effect_of i.op now)
 
 -- one step, which is one instruction; the end word is one, and so is the instruction that faults
 abbrev pub step : Standing → Standing
-step (running block r memory) = step_by (slice_get block.body block.at) block r memory
+step (running program now) = step_by (instruction program now.activations) program now
 step (over memory f) = over memory f
 
 -- where a run stands n steps on
@@ -86,18 +131,23 @@ steps_on (suc n) s = steps_on n (step s)
 
 -- what can be seen of a run that stands here
 abbrev pub end_of : Standing → End
-end_of (running block r memory) = Going
+end_of (running program now) = Going
 end_of (over memory f) = Ended memory.areas f
 
--- the instructions of the block that is called
-abbrev pub body_called : Option Block → List Instr
-body_called None = []
-body_called (Some b) = b.body
+-- the activation with which a run begins, that of the block at a position; none where no block is called
+abbrev pub first_activation : Option ℕ → List Activation
+first_activation None = []
+first_activation (Some block) = record { block = block; at = 0; db = 0; di = 0; formals = [] } ∷ []
 
--- where the run of a call begins; local data and constant actuals are zero
+-- where the run of a call begins; registers, local data and constant actuals are zero, no bracket is open
 abbrev pub begun : Program → Call → Areas → Standing
 begun program call memory =
-    running (record { body = body_called (block_called call.block program.blocks); at = 0 }) start (with_areas memory)
+    running program (record {
+      registers = start;
+      brackets = [];
+      memory = with_areas memory;
+      activations = first_activation (block_called call.block program.blocks);
+    })
 
 -- the run of a call within n steps
 abbrev pub stl_run : Program → Call → Areas → ℕ → End

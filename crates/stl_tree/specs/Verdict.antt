@@ -56,9 +56,19 @@ begin_from end [] = Err (Refused end BadStatement)
 begin_from end (first ∷ rest) =
     if is_word (codes "BEGIN") first then body_from end 0 rest else Err (misfit_at (first ∷ rest) first.line)
 
--- the program of one block
+-- the program of one block and nothing else
+abbrev pub program_with : BlockName → Line → List Instr → Program
+program_with name line body =
+    record {
+      dbs = [];
+      instances = [];
+      blocks = record { name = name; line = line; formals = []; body = body } ∷ [];
+      symbols = [];
+    }
+
+-- the program of one block, where it is read
 abbrev pub one_block : BlockName → Line → Result (List Instr) Rejection → Result Program Rejection
-one_block name line (Ok body) = Ok (record { blocks = record { name = name; line = line; body = body } ∷ [] })
+one_block name line (Ok body) = Ok (program_with name line body)
 one_block name line (Err refused) = Err refused
 
 -- a heading and the block after it

@@ -1,15 +1,19 @@
 //! STL programs, and what a source text means as one.
 //!
-//! Stands on `s7_base` and `memory_areas`. The types are those that the forms built so far need; a later
-//! form adds a variant or a field. `specs/` has the source grammar above its tokens: the items of a text,
-//! its blocks, and the verdict, which is a program or the first broken rule and its line. It has what a
-//! program does, too: the registers, the instruction table and the run, whose laws `run_laws` proves.
+//! Stands on `s7_base` and `memory_areas`. A form that is built later adds a variant, or fills a field that
+//! is empty so far. `specs/` has the source grammar above its tokens: the items of a text, its blocks, and
+//! the verdict, which is a program or the first broken rule and its line; and the rules that each such
+//! program keeps. It has what a program does, too: the state that an instruction works on, what operands
+//! name, the instruction table and the run, whose laws `run_laws` proves.
 #![tactic(auto)]
 
 pub use number::number_of;
-pub use program::{BitArg, Block, BlockName, Call, Instr, Op, Operand, Program};
+pub use program::{
+    Actual, BitArg, Block, BlockCall, BlockName, Call, Formal, Instance, Instr, Mode, Op, Operand,
+    Program, Symbol,
+};
 pub use run_laws::{end_stays, steps_add};
-pub use source_laws::verdict_accepts_the_grammar;
+pub use source_laws::{verdict_accepts_the_grammar, verdict_is_accepted};
 
 mod number;
 mod program;

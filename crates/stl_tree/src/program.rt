@@ -1,6 +1,6 @@
 //! The program that a source text stands for.
 
-use memory_areas::{AreaName, Place};
+use memory_areas::{AreaName, DataBlock, Place};
 use s7_base::{Check, Line, List, Width};
 
 /// A block by its kind and number: an organization block, a function or a function block.
@@ -24,8 +24,29 @@ pub enum BitArg {
     At(Operand),
 }
 
-/// What an instruction does, with its operand.
+/// What a formal of a called block stands for.
 #[derive(Clone, Copy, Debug, PartialEq, Eq)]
+pub enum Actual {
+    /// The call leaves the formal out.
+    Missing,
+
+    /// A constant, extended to 32 bits.
+    Constant(u32),
+
+    At(Operand),
+}
+
+/// A call inside a program: the position of its block, the data block of its instance, which is 0 for a
+/// function, and what the formals of the block stand for, in their order.
+#[derive(Debug, Drop, PartialEq)]
+pub struct BlockCall {
+    pub block: u32,
+    pub instance: u16,
+    pub actuals: List<Actual>,
+}
+
+/// What an instruction does, with its operand.
+#[derive(Debug, Drop, PartialEq)]
 pub enum Op {
     /// `A`, `AN`, `O` and `ON` on a bit.
     Check(Check, BitArg),
@@ -38,10 +59,28 @@ pub enum Op {
 }
 
 /// An instruction, with the line of its first token.
-#[derive(Clone, Copy, Debug, PartialEq, Eq)]
+#[derive(Debug, Drop, PartialEq)]
 pub struct Instr {
     pub line: Line,
     pub op: Op,
+}
+
+/// How a called block and its caller share a formal.
+#[derive(Clone, Copy, Debug, PartialEq, Eq)]
+pub enum Mode {
+    Input,
+    Output,
+    InOut,
+}
+
+/// A formal of a block, with its place in the instance of a function block.
+#[derive(Debug, Drop, PartialEq)]
+pub struct Formal {
+    pub name: List<u8>,
+    pub mode: Mode,
+    pub width: Width,
+    pub byte: u32,
+    pub bit: u8,
 }
 
 /// A block, with the line of its heading. The last instruction of its body is that of its end word.
@@ -49,13 +88,33 @@ pub struct Instr {
 pub struct Block {
     pub name: BlockName,
     pub line: Line,
+    pub formals: List<Formal>,
     pub body: List<Instr>,
 }
 
-/// The blocks of a text, in the order of the text.
+/// A data block that is an instance of a function block.
+#[derive(Clone, Copy, Debug, PartialEq, Eq)]
+pub struct Instance {
+    pub db: u16,
+    pub fb: u16,
+}
+
+/// A name of the symbol table for a place.
+#[derive(Debug, Drop, PartialEq)]
+pub struct Symbol {
+    pub name: List<u8>,
+    pub place: Place,
+    pub width: Width,
+}
+
+/// A text: its data blocks in ascending order of their numbers; and its instances, blocks and symbols in
+/// the order of the text.
 #[derive(Debug, Drop, PartialEq)]
 pub struct Program {
+    pub dbs: List<DataBlock>,
+    pub instances: List<Instance>,
     pub blocks: List<Block>,
+    pub symbols: List<Symbol>,
 }
 
 /// A call of a block from outside: its name, the data block of its instance, which only a function

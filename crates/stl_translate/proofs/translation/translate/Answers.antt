@@ -13,4 +13,4 @@ returns-clause-same c =
     let e : c.loop-block.pous ≡ map unit_of c.args.program.now.blocks = first_of (search rules, grind (arith, common_steps)) in
     subst (λ (dbs : List DataBlock). Same c.args.program.now (record { dbs = dbs; globals = c.new-2.result; pous = c.loop-block.pous })) (sym c.new.ensures)
     (subst (λ (globals : List Located). Same c.args.program.now (record { dbs = []; globals = globals; pous = c.loop-block.pous })) (sym c.new-2.ensures)
-    (subst (λ (pous : List Pou). Same c.args.program.now (record { dbs = []; globals = []; pous = pous })) (sym e) (same_all c.args.program.now c.requires.translatable c.requires.well_formed)))
+    (subst (λ (pous : List Pou). Same c.args.program.now (record { dbs = []; globals = []; pous = pous })) (sym e) (same_all c.args.program.now c.requires)))

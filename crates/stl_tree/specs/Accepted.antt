@@ -1,0 +1,86 @@
+-- The rules that a program keeps where the verdict gives it.
+use Rattle.std.specs.Prelude.{◌≡◌, ℕ, ◌≤◌, Bool, true, false, List, [], ◌∷◌, All, None, Ok}
+use Rattle.memory_areas.specs.Access.{is_byte_in, is_unaligned}
+use Rattle.memory_areas.specs.Areas.{AreBlocks}
+use Rattle.s7_base.specs.declared.word.Width.{Width}
+use Rattle.s7_base.specs.declared.word.Width.TheVariants as width
+use Rattle.stl_tree.specs.StlRun.{block_named}
+use Rattle.stl_tree.specs.Verdict.{verdict}
+use Rattle.stl_tree.specs.declared.program.BitArg.TheVariants as arg
+use Rattle.stl_tree.specs.declared.program.Block.{Block}
+use Rattle.stl_tree.specs.declared.program.BlockName.{BlockName}
+use Rattle.stl_tree.specs.declared.program.BlockName.TheVariants as name
+use Rattle.stl_tree.specs.declared.program.Instr.{Instr}
+use Rattle.stl_tree.specs.declared.program.Op.{Op}
+use Rattle.stl_tree.specs.declared.program.Op.TheVariants as op
+use Rattle.stl_tree.specs.declared.program.Operand.{Operand}
+use Rattle.stl_tree.specs.declared.program.Operand.TheVariants as operand
+use Rattle.stl_tree.specs.declared.program.Program.{Program}
+
+-- Operands
+
+-- an operand of a width names bytes of its area, and a bit number that the width has
+abbrev pub IsOperand : Width → Operand → Type 0
+IsOperand w (operand.Direct a byte x) = (is_byte_in a w byte ≡ true) × (is_unaligned w x ≡ false)
+
+-- the operand of an instruction is one of the width that the instruction has
+abbrev pub HasOperand : Op → Type 0
+HasOperand (op.Check c (arg.At o)) = IsOperand width.Bit o
+HasOperand (op.Assign o) = IsOperand width.Bit o
+HasOperand op.BlockEnd = Unit {0}
+
+-- each instruction of a body has its operand
+abbrev pub HaveOperands : List Instr → Type 0
+HaveOperands body = All (λ (i : Instr). HasOperand i.op) body
+
+-- Ends
+
+-- nothing stands after an end word; after another instruction the body is as it should be
+abbrev pub EndsBehind : Op → List Instr → Type 0 → Type 0
+EndsBehind op.BlockEnd rest more = rest ≡ []
+EndsBehind (op.Check c b) rest more = more
+EndsBehind (op.Assign o) rest more = more
+
+-- a body has one end word, its last instruction
+abbrev pub EndsOnce : List Instr → Type 0
+EndsOnce [] = ⊥
+EndsOnce (i ∷ rest) = EndsBehind i.op rest (EndsOnce rest)
+
+-- Numbers and names
+
+-- a block has a number that its kind has
+abbrev pub IsBlockNumber : BlockName → Type 0
+IsBlockNumber (name.Ob n) = (1 ≤ n) × (n ≤ 65535)
+IsBlockNumber (name.Fc n) = n ≤ 65535
+IsBlockNumber (name.Fb n) = n ≤ 65535
+
+-- no block has the name of another
+abbrev pub AreDistinct : List Block → Type 0
+AreDistinct [] = Unit {0}
+AreDistinct (b ∷ rest) = (block_named b.name rest ≡ None) × AreDistinct rest
+
+-- The rules, a record a group
+
+-- what stands in a block: its operands lie in their areas, it has one end word, its number is in range, and
+-- it has no formals, since none are read yet
+pub record IsAcceptedBlock (block : Block) : Type 0 where
+  pub operands : HaveOperands block.body
+  pub ends : EndsOnce block.body
+  pub number : IsBlockNumber block.name
+  pub formals : block.formals ≡ []
+
+-- what stands beside the blocks: nothing, since no form of it is read yet
+pub record HasBlocksAlone (program : Program) : Type 0 where
+  pub dbs : program.dbs ≡ []
+  pub instances : program.instances ≡ []
+  pub symbols : program.symbols ≡ []
+
+-- a program keeps the rules: each of its blocks does, no two have one name, and nothing else stands there
+pub record IsAccepted (program : Program) : Type 0 where
+  pub blocks : All IsAcceptedBlock program.blocks
+  pub names : AreDistinct program.blocks
+  pub alone : HasBlocksAlone program
+
+-- the verdict gives only programs that keep the rules
+abbrev pub VerdictIsAccepted : Type 0
+VerdictIsAccepted = (bytes : List ℕ) (program : Program) → verdict bytes ≡ Ok program → IsAccepted program

@@ -1,0 +1,55 @@
+-- What an instruction works on, and what it does.
+use Rattle.std.specs.Prelude.{ℕ, List, [], ◌∷◌, length, Result, Ok, Err}
+use Rattle.memory_areas.specs.Areas.{Contents}
+use Rattle.memory_areas.specs.declared.place.Place.{Place}
+use Rattle.s7_base.specs.StatusBits.{StatusBits}
+use Rattle.s7_base.specs.declared.check.Entry.{Entry}
+use Rattle.s7_base.specs.declared.outcome.Fault.{Fault}
+use Rattle.stl_tree.specs.Registers.{RegisterValues}
+use Rattle.stl_tree.specs.declared.program.BlockCall.{BlockCall}
+
+-- a block that runs or waits for one that it called: its position in the program; that of the instruction
+-- to come in its body; the numbers that the DB and the DI register take again when it ends; and the place
+-- that each of its formals stands for
+pub record Activation : Type 0 where
+  pub block : ℕ
+  pub at : ℕ
+  pub db : ℕ
+  pub di : ℕ
+  pub formals : List Place
+
+-- what an instruction works on: the registers; the open brackets, the last one first, at most seven; the
+-- memory, with the local data and the constant actuals of each activation; and the activations, the
+-- running one first
+pub record Now : Type 0 where
+  pub registers : RegisterValues
+  pub brackets : List Entry
+  pub memory : Contents
+  pub activations : List Activation
+
+-- the number of the running activation, from 0: how many wait
+abbrev pub depth : List Activation → ℕ
+depth [] = 0
+depth (running ∷ waiting) = length waiting
+
+-- the same with other status bits
+abbrev pub with_status : (StatusBits → StatusBits) → Now → Now
+with_status row now = record now { registers = record now.registers { status = row now.registers.status } }
+
+-- what an instruction does: the next one follows, or the one at a position of its body; it calls a block;
+-- or its block ends, each with the state as it then is; or it ends the run by a fault and changes nothing
+pub data Effect : Type 0 where
+  next : Now → Effect
+  go : ℕ → Now → Effect
+  enter : BlockCall → Now → Effect
+  leave : Now → Effect
+  fault : Fault → Effect
+
+-- the effect by a value, where no fault stands in its place
+abbrev pub with_value : {A : Type 0} → Result A Fault → (A → Effect) → Effect
+with_value (Ok x) effect = effect x
+with_value (Err f) effect = fault f
+
+-- the effect on the state with a memory, where no fault stands in its place
+abbrev pub with_memory : Result Contents Fault → Now → (Now → Effect) → Effect
+with_memory written now effect = with_value written (λ m. effect (record now { memory = m }))

@@ -1,0 +1,35 @@
+-- What an operand names.
+use Rattle.std.specs.Prelude.{Bool, Result, Ok}
+use Rattle.memory_areas.specs.Access.{area_named, read_bit}
+use Rattle.memory_areas.specs.declared.place.Place.{Place}
+use Rattle.s7_base.specs.declared.outcome.Fault.{Fault}
+use Rattle.stl_tree.specs.Now.{Now, Effect, depth, with_value}
+use Rattle.stl_tree.specs.declared.program.BitArg.{BitArg}
+use Rattle.stl_tree.specs.declared.program.BitArg.TheVariants as arg
+use Rattle.stl_tree.specs.declared.program.Operand.{Operand}
+use Rattle.stl_tree.specs.declared.program.Operand.TheVariants as operand
+
+-- an operand that was found: its place, and the state after it was found
+pub record Found : Type 0 where
+  pub place : Place
+  pub after : Now
+
+-- what an operand names, or the first fault on the way to its place. A written place has none. One that a
+-- pointer in memory names, as `M [MD 4]`, is found by an access to the pointer first; one by an address
+-- register may meet a wrong area code; one with the number of its data block, as `DB5.DBX 0.0`, is found
+-- with that number in the DB register; a formal is what its activation says. Each of them is a case here.
+abbrev pub found : Operand → Now → Result Found Fault
+found (operand.Direct a byte x) now =
+    Ok (record {
+      place = record { area = area_named a now.registers.db now.registers.di (depth now.activations); byte = byte; bit = x };
+      after = now;
+    })
+
+-- the effect by the place of an operand, in the state after it was found
+abbrev pub with_place : Operand → Now → (Place → Now → Effect) → Effect
+with_place o now effect = with_value (found o now) (λ f. effect f.place f.after)
+
+-- the effect by what a check looks at: the bit of an operand; a flag of the status word is to be a case
+abbrev pub with_checked : BitArg → Now → (Bool → Now → Effect) → Effect
+with_checked (arg.At o) now effect =
+    with_place o now (λ p after. with_value (read_bit p after.memory) (λ b. effect b after))
