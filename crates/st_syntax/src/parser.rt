@@ -1,47 +1,24 @@
 //! Judges the syntax of a text: its tree before names are looked up, or its first wrong token.
-ghost use Rattle.std.specs.Prelude.{◌≡◌, ◌+◌, nat_lt, Some, Err, IfOk, option_map};
+ghost use Rattle.std.specs.Prelude.{◌≡◌, nat_lt, Some, Err, IfOk, option_map};
 ghost use Rattle.s7_base.specs.declared.reason.Rejection.TheVariants.{Refused};
 ghost use Rattle.s7_base.specs.Answers.{IfRefused};
 ghost use Rattle.st_grammar.specs.inner.Judge.{turn, reached, judged, judge, text_in, tree_at, verdict};
 ghost use Rattle.st_grammar.specs.Kinds.{kind_of};
 ghost use Rattle.st_grammar.specs.Levels.{deepest};
-ghost use Rattle.st_grammar.specs.inner.Machine.{code};
 ghost use Rattle.st_syntax.specs.declared.state.State.TheVariants as state;
-ghost use Rattle.st_grammar.specs.inner.Steps.{level_at};
 ghost use Rattle.st_grammar.specs.Syntax.{all_lined};
 ghost use Rattle.st_syntax.specs.inner.Seen.{seen, HasText, JudgedIs};
-ghost use Rattle.st_syntax.specs.inner.Views.{before_of, place_of, stack_of};
+ghost use Rattle.st_syntax.specs.inner.Views.{before_of};
 
-use crate::state::{Before, Frame, Place, Spot, State};
+use crate::state::{Before, State};
 use crate::unit::next;
 use s7_base::{Line, NoMemory, Reason, Rejection};
-use st_grammar::{Fixed, Kind, kind_of};
+use st_bodies::is_deep_at;
+use st_grammar::{Fixed, Kind};
 use st_lexer::{StToken, end_line, rest_after, st_tokens};
 use st_tree::RawSt;
+use st_words::kind_of;
 use std::alloc::Global;
-
-/// The greatest level of nesting.
-const DEEPEST: usize = 200;
-
-/// A level above the greatest.
-fn is_above(depth: usize, height: usize) -> bool
-    ensures { result ≡ nat_lt deepest (depth + height) }
-{
-    depth > DEEPEST || height > DEEPEST - depth
-}
-
-fn is_deep_at(spot: &Spot) -> bool
-    ensures { result
-        ≡ nat_lt deepest (level_at code spot.now.depth (place_of spot.now.place) (stack_of spot.now.frames.items)) }
-{
-    match spot.place {
-        Place::Operand => match spot.frames.last() {
-            Some(Frame::Left(_, left)) => is_above(spot.depth, left.height),
-            _ => spot.depth > DEEPEST,
-        },
-        _ => spot.depth > DEEPEST,
-    }
-}
 
 /// The last token made a level above the greatest.
 #[tactic(auto, unfolding(crate::specs::inner::Seen::seen, st_grammar::specs::inner::Judge::reached))]

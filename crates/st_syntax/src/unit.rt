@@ -3,14 +3,16 @@ ghost use Rattle.std.specs.Prelude.{◌≡◌, IfOk, option_map};
 ghost use Rattle.st_grammar.specs.Grammar.{is_formal_type};
 ghost use Rattle.st_grammar.specs.inner.Machine.{code, add_unit};
 ghost use Rattle.st_grammar.specs.inner.Steps.{at_between, at_start, at_heading, may_name, may_type, section_end, at_section, at_typing, ends, leave, at_inside, at_formals_done, at_opened, next, no_spot};
-ghost use Rattle.st_syntax.specs.inner.Views.{before_of, place_of, spot_of, stack_of, state_of, top_in, typing_of, which_of};
+ghost use Rattle.st_bodies.specs.inner.Spots.{place_of, spot_of, stack_of};
+ghost use Rattle.st_syntax.specs.inner.Views.{before_of, state_of, top_in, typing_of, which_of};
 
 use crate::row::{at_globals, at_row};
-use crate::state::{Before, Place, Spot, State, Top, Typing, Which};
-use crate::statement::step;
+use crate::state::{Before, State, Top, Typing, Which};
 use s7_base::{Line, List, NoMemory};
-use st_grammar::{Fixed, Heading, Kind, Lead, is_free, may_name_local, may_name_unit};
+use st_bodies::{Place, Spot, step};
+use st_grammar::{Fixed, Heading, Kind, Lead};
 use st_tree::{RawLocal, RawPou, RawStmt, RawVar, StType};
+use st_words::{is_free, may_name_local, may_name_unit};
 use std::alloc::Global;
 
 fn at_between(text: Before, kind: Kind) -> Option<State>

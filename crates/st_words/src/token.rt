@@ -4,9 +4,9 @@ ghost use Rattle.st_grammar.specs.Kinds.{conversion_between, conversion_of_types
 ghost use Rattle.st_lexer.specs.Literals.{literal_at, base_at, signed};
 ghost use Rattle.st_lexer.specs.Direct.{direct_of};
 
-use crate::kind::{Fixed, Function, Kind, Literal, OneOperand, Word};
 use crate::words::{sign_named, word_named};
 use s7_base::{Line, List, NoMemory};
+use st_grammar::{Fixed, Function, Kind, Literal, OneOperand, Word};
 use st_lexer::{
     Base, Literal as Found, StKind, StToken, base_at, begins_with_digit, direct_at, front_of,
     is_in_range, is_same_word, literal_at, rest_after, type_named,

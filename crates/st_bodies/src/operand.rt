@@ -4,13 +4,13 @@ ghost use Rattle.st_grammar.specs.inner.Machine.{code, first_label, no_cases, no
 ghost use Rattle.st_grammar.specs.inner.Steps.{spot, limit, reduce, function_argument, with_prefix, at_operand, at_opening, close_argument, next_argument, argument_closed, use_closed, closed, at_operator, weakest};
 ghost use Rattle.st_grammar.specs.declared.kind.Fixed.TheVariants as fixed;
 ghost use Rattle.st_grammar.specs.declared.kind.Kind.TheVariants as kind;
-ghost use Rattle.st_syntax.specs.inner.Views.{argument_of, begun_of, body_of, use_of, stack_of, spot_of, reduced_of};
+ghost use Rattle.st_bodies.specs.inner.Spots.{argument_of, begun_of, body_of, use_of, stack_of, spot_of, reduced_of};
 
 use crate::expression::{
     infix_level, is_value, of_apply, of_infix, of_literal, of_prefix, of_select, of_shift,
     of_variable, one_more, prefix_level, shallower,
 };
-use crate::state::{Argument, Begun, Body, Frame, Part, Place, Spot, Use};
+use crate::spot::{Argument, Begun, Body, Frame, Part, Place, Spot, Use};
 use s7_base::{Boxed, List, NoMemory, Width};
 use st_grammar::{Fixed, Function, Kind, Measured, Prefix};
 use st_tree::{BinaryOp, RawStmt, RawStmtKind, RawVar};

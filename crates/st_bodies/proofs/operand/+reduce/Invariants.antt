@@ -1,5 +1,5 @@
 use Rattle.std.proofs.Common.{length}
-use Rattle.st_syntax.proofs.operand.+reduce.Given as goal
+use Rattle.st_bodies.proofs.operand.+reduce.Given as goal
 
 abbrev pub decreases-reduce : goal.decreases-reduce
 decreases-reduce l = length l.frames.items

@@ -1,6 +1,6 @@
 use Rattle.std.proofs.Common.{◌∙◌}
-use Rattle.st_syntax.proofs.Loops.{in_loop_is}
-use Rattle.st_syntax.proofs.statement.in_loop.Goals as goal
+use Rattle.st_bodies.proofs.Loops.{in_loop_is}
+use Rattle.st_bodies.proofs.statement.in_loop.Goals as goal
 
 -- src/statement.rt:34:1
 pub returns : goal.returns

@@ -5,11 +5,11 @@ ghost use Rattle.st_grammar.specs.Grammar.{may_jump, on_line, label_tree};
 ghost use Rattle.st_grammar.specs.inner.Machine.{code, choosing, selecting, closing as at_end, write_open, first_formal, next_formal, becoming, giving, given, labelled};
 ghost use Rattle.st_grammar.specs.inner.Steps.{spot, shallower, is_loop, in_loop, body_closed, in_body, at_lead, at_statement, at_target, at_label, at_call, at_part, at_closing, step_at};
 ghost use Rattle.st_grammar.specs.declared.kind.Lead.TheVariants as lead;
-ghost use Rattle.st_syntax.specs.inner.Views.{begun_of, body_of, frame_of, part_of, place_of, stack_of, spot_of};
+ghost use Rattle.st_bodies.specs.inner.Spots.{begun_of, body_of, frame_of, part_of, place_of, stack_of, spot_of};
 
 use crate::expression::{is_value, label_of, one_more, shallower};
 use crate::operand::{at_opening, at_operand, at_operator};
-use crate::state::{Begun, Body, Frame, Part, Place, Spot, Use};
+use crate::spot::{Begun, Body, Frame, Part, Place, Spot, Use};
 use s7_base::{Line, List, NoMemory, Width};
 use st_grammar::{Fixed, Jump, Kind, Lead, Measured};
 use st_tree::{RawArm, RawCaseArm, RawStmt, RawStmtKind, RawVar, StType};

@@ -1,0 +1,93 @@
+-- The code's places in statements as those of the pass.
+use Rattle.std.specs.Prelude.{List, map, reverse}
+use Rattle.st_grammar.specs.inner.Machine as machine
+use Rattle.st_grammar.specs.inner.Machine.{code}
+use Rattle.st_grammar.specs.inner.Steps.{spot, Reduced, reduced_to}
+use Rattle.st_bodies.specs.declared.operand.Reduced.{Reduced as Taken}
+use Rattle.st_bodies.specs.declared.spot.Begun.{Begun}
+use Rattle.st_bodies.specs.declared.spot.Argument.{Argument}
+use Rattle.st_bodies.specs.declared.spot.Argument.TheVariants as argument
+use Rattle.st_bodies.specs.declared.spot.Use.{Use}
+use Rattle.st_bodies.specs.declared.spot.Use.TheVariants as need
+use Rattle.st_bodies.specs.declared.spot.Body.{Body}
+use Rattle.st_bodies.specs.declared.spot.Body.TheVariants as body
+use Rattle.st_bodies.specs.declared.spot.Frame.{Frame}
+use Rattle.st_bodies.specs.declared.spot.Frame.TheVariants as frame
+use Rattle.st_bodies.specs.declared.spot.Part.{Part}
+use Rattle.st_bodies.specs.declared.spot.Part.TheVariants as part
+use Rattle.st_bodies.specs.declared.spot.Place.{Place}
+use Rattle.st_bodies.specs.declared.spot.Place.TheVariants as place
+use Rattle.st_bodies.specs.declared.spot.Spot.{Spot}
+
+-- a statement that has begun
+abbrev pub begun_of : Begun → machine.Begun code
+begun_of b = record { before = b.before; line = b.line }
+
+-- an operand of a function, with those before it
+abbrev pub argument_of : Argument → machine.Argument code
+argument_of (argument.Only op) = machine.only op
+argument_of (argument.Shifted op) = machine.shifted op
+argument_of (argument.ShiftedBy op e) = machine.shifted_by op e
+argument_of argument.Gate = machine.gate
+argument_of (argument.First e) = machine.first e
+argument_of (argument.Second e f) = machine.second e f
+
+-- what a statement needs an expression for
+abbrev pub use_of : Use → machine.Use code
+use_of (need.ToVar v) = machine.to_var v
+use_of (need.ToArea w) = machine.to_area w
+use_of (need.AreaValue w e) = machine.area_value w e
+use_of (need.Test arms) = machine.test arms
+use_of need.Selector = machine.selector
+use_of need.LoopTest = machine.loop_test
+
+-- a statement whose own statements are read
+abbrev pub body_of : Body → machine.Body code
+body_of (body.Choosing arms e) = machine.choosing arms e
+body_of (body.Otherwise arms) = machine.otherwise arms
+body_of (body.Looping e) = machine.looping e
+body_of (body.Selecting e arms labels) = machine.selecting e arms labels
+body_of (body.OtherwiseCase e arms) = machine.otherwise_case e arms
+
+-- what is open
+abbrev pub frame_of : Frame → machine.Frame code
+frame_of (frame.Unary op) = machine.unary op
+frame_of (frame.Left op e) = machine.left op e
+frame_of frame.Bracket = machine.bracket
+frame_of (frame.Argument a) = machine.argument (argument_of a)
+frame_of (frame.Waiting b u) = machine.waiting (begun_of b) (use_of u)
+frame_of (frame.Within b y) = machine.within (begun_of b) (body_of y)
+
+-- the frame that was opened last stands first
+abbrev pub stack_of : List Frame → List (machine.Frame code)
+stack_of frames = reverse (map frame_of frames)
+
+-- an operand that has taken operators before it
+abbrev pub reduced_of : Taken → Reduced code
+reduced_of r = reduced_to code r.depth (stack_of r.frames.items) r.operand
+
+-- a part of a statement that is no expression
+abbrev pub part_of : Part → machine.Part code
+part_of (part.Target v) = machine.target v
+part_of (part.WriteOpen w) = machine.write_open w
+part_of (part.FirstFormal name) = machine.first_formal name
+part_of (part.NextFormal name actuals) = machine.next_formal name actuals
+part_of (part.Becoming name actuals formal) = machine.becoming name actuals formal
+part_of (part.Giving name actuals formal) = machine.giving name actuals formal
+part_of (part.Given name actuals) = machine.given name actuals
+part_of (part.FirstLabel e arms) = machine.first_label e arms
+part_of (part.NextLabel e arms labels) = machine.next_label e arms labels
+part_of (part.Labelled e arms labels) = machine.labelled e arms labels
+
+-- what may come next in statements
+abbrev pub place_of : Place → machine.Place code
+place_of (place.Statement before) = machine.statement before
+place_of (place.Part b x) = machine.part (begun_of b) (part_of x)
+place_of (place.Closing before x) = machine.closing before x
+place_of place.Operand = machine.operand
+place_of (place.Operator e) = machine.operator e
+place_of (place.Opening f) = machine.opening f
+
+-- where the pass is in statements
+abbrev pub spot_of : Spot → machine.Spot code
+spot_of at = spot code at.depth (stack_of at.frames.items) (place_of at.place)

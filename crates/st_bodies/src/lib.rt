@@ -1,0 +1,16 @@
+//! Reads the body of a unit of Structured Text: what one more token makes of the place where the parser
+//! stands in expressions and statements, and whether it makes a level too many.
+//!
+//! Stands on `st_grammar`, and gives what the pass defined there does. It knows nothing of declarations,
+//! and not which names may be declared.
+#![tactic(auto)]
+
+pub use depth::is_deep_at;
+pub use spot::{Argument, Begun, Body, Frame, Part, Place, Spot, Use};
+pub use statement::step;
+
+mod depth;
+mod expression;
+mod operand;
+mod spot;
+mod statement;
