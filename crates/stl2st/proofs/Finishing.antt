@@ -9,7 +9,7 @@ use Rattle.stl_tree.specs.declared.program.Program.{Program}
 use Rattle.st_parser.proofs.TextReads.{proper_reads}
 use Rattle.st_parser.specs.Texts.{IsTextOf}
 use Rattle.st_tree.specs.Spelling.{spelling}
-use Rattle.stl2st.proofs.Accepted.{accepted as known_of}
+use Rattle.stl_tree.proofs.AcceptedLaws.{verdict_accepted}
 use Rattle.stl2st.proofs.Answering.{some_bytes}
 use Rattle.stl2st.proofs.ProperText.{proper}
 use Rattle.stl_translate.proofs.SameAll.{same_all}
@@ -187,13 +187,12 @@ complete command left image before after result source text w no_read no_write e
 translates : (bytes : List ℕ) (program : Program) (text : List ℕ) → verdict bytes ≡ Ok program → spelling (translation program) ≡ text → Translates program text
 translates bytes program text accepted e =
     let P : List ℕ → Type 0 = λ written. IsTextOf written (translation program) in
-    let known = known_of bytes program accepted in
     record {
       tree = translation program;
       proper = proper bytes program accepted;
       spelled = sym e;
       reads_back = subst P e (proper_reads (translation program) (proper bytes program accepted));
-      same = same_all program known.can known.formed;
+      same = same_all program (verdict_accepted bytes program accepted);
     }
 
 of_reply : (left before after : Option (List ℕ)) (bytes text : List ℕ) (v : Result Program Rejection) → AreOf left bytes → verdict bytes ≡ v →

@@ -1,8 +1,6 @@
-pub mod Accepted
 pub mod Answering
 pub mod CallPieces
 mod CallRows
-pub mod EachInstruction
 pub mod Finishing
 pub mod ProperOperands
 pub mod ProperText

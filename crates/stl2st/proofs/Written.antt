@@ -140,6 +140,15 @@ or_is f g d e j k h i = record {
       ∙ rw (h.typed names scope line place, i.typed names scope line place) refl;
 }
 
+xor_is : (f g : written.Form) (d e : Expr) → Fit 8 f → Fit 7 g → IsBoolean f d → IsBoolean g e → IsBoolean (written.infix_of binary.Xor f g) (expr.Binary binary.Xor d e)
+xor_is f g d e j k h i = record {
+  binds = λ names line. (j names line, omega (arith, k names line), h.binds names line, i.binds names line);
+  spelled = λ names line. (h.spelled names line, i.spelled names line);
+  typed = λ names scope line place.
+      type_of_binary scope place binary.Xor (tree (form_of names line f)) (tree (form_of names line g))
+      ∙ rw (h.typed names scope line place, i.typed names scope line place) refl;
+}
+
 -- Assignments
 
 -- an assignment of a value of type BOOL
@@ -205,7 +214,8 @@ check_form check.A v = written.infix_of binary.And before_and (written.variable 
 check_form check.An v = written.infix_of binary.And before_and (not_form v)
 check_form check.O v = written.infix_of binary.Or before_or (written.variable v)
 check_form check.On v = written.infix_of binary.Or before_or (not_form v)
-check_form other v = written.variable v
+check_form check.X v = written.infix_of binary.Xor before_or (written.variable v)
+check_form check.Xn v = written.infix_of binary.Xor before_or (not_form v)
 
 check_canon : (c : Check) (v : Var) → canon (next_rlo c (expr.Read v)) ≡ check_form c v
 check_canon check.A v = simp canon_equations
@@ -224,8 +234,10 @@ check_is check.O v b = or_is before_or (written.variable v) _ _ (λ names line. 
 check_is check.On v b =
     or_is before_or (not_form v) _ _ (λ names line. omega arith) (λ names line. omega arith) before_or_is
     (not_is (written.variable v) _ (λ names line. omega arith) (variable_is v b))
-check_is check.X v b = variable_is v b
-check_is check.Xn v b = variable_is v b
+check_is check.X v b = xor_is before_or (written.variable v) _ _ (λ names line. omega arith) (λ names line. omega arith) before_or_is (variable_is v b)
+check_is check.Xn v b =
+    xor_is before_or (not_form v) _ _ (λ names line. omega arith) (λ names line. omega arith) before_or_is
+    (not_is (written.variable v) _ (λ names line. omega arith) (variable_is v b))
 
 -- levels that are small, above others
 small_levels : (levels before : List ℕ) → list_all (λ n. nat_le n deepest) levels ≡ true → AllWithin deepest before → AllWithin deepest (levels ++ before)
@@ -242,8 +254,8 @@ check_flat check.A v names line before h = small_levels (0 ∷ 3 ∷ 0 ∷ 2 ∷
 check_flat check.An v names line before h = small_levels (1 ∷ 1 ∷ 3 ∷ 0 ∷ 2 ∷ 2 ∷ 2 ∷ 1 ∷ 1 ∷ []) before refl h
 check_flat check.O v names line before h = small_levels (0 ∷ 2 ∷ 0 ∷ 1 ∷ 0 ∷ []) before refl h
 check_flat check.On v names line before h = small_levels (1 ∷ 1 ∷ 2 ∷ 0 ∷ 1 ∷ 0 ∷ []) before refl h
-check_flat check.X v names line before h = small_levels (0 ∷ []) before refl h
-check_flat check.Xn v names line before h = small_levels (0 ∷ []) before refl h
+check_flat check.X v names line before h = small_levels (0 ∷ 2 ∷ 0 ∷ 1 ∷ 0 ∷ []) before refl h
+check_flat check.Xn v names line before h = small_levels (1 ∷ 1 ∷ 2 ∷ 0 ∷ 1 ∷ 0 ∷ []) before refl h
 
 -- the three sorts of assignments
 

@@ -16,7 +16,6 @@ use Rattle.s7_base.specs.declared.reason.Rejection.TheVariants as rejection
 use Rattle.s7_io.specs.Sink.{Took, TookFewer}
 use Rattle.stl_tree.specs.StlRun.{block_called, stl_run}
 use Rattle.stl_tree.specs.Verdict.{verdict}
-use Rattle.stl_tree.specs.declared.program.Block.{Block}
 use Rattle.stl_tree.specs.declared.program.Call.{Call}
 use Rattle.stl_tree.specs.declared.program.Program.{Program}
 use Rattle.st_parser.specs.Proper.{Proper}
@@ -83,7 +82,7 @@ run_reply start (Ended areas f) = (run_status (outcome.Ended f), report (outcome
 run_reply start Unended = (run_status outcome.Going, report outcome.Going start)
 
 -- a run from a memory, where its call fits
-abbrev pub call_reply : Option Block → Program → Call → ℕ → Areas → Reply
+abbrev pub call_reply : Option ℕ → Program → Call → ℕ → Areas → Reply
 call_reply None program call steps memory = (BadCall, bad_call_line)
 call_reply (Some block) program call steps memory = run_reply memory (stl_run program call memory steps)
 

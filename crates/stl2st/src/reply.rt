@@ -3,6 +3,7 @@ ghost use Rattle.std.specs.Prelude.{◌≡◌, Some, Err, [], IfOk, map, string_
 ghost use Rattle.memory_areas.specs.Areas.{AreBlocks, IsMemoryOf};
 ghost use Rattle.st_tree.specs.Runnable.{IsRunnable};
 ghost use Rattle.s7_io.specs.Faults.{Rose};
+ghost use Rattle.stl_tree.specs.Accepted.{IsAccepted};
 ghost use Rattle.stl_tree.specs.StlRun.{block_called};
 ghost use Rattle.stl_tree.specs.Verdict.{verdict};
 ghost use Rattle.stl2st.specs.Answer.{call_reply, image_line, image_reply, refusal_line, run_status};
@@ -10,8 +11,6 @@ ghost use Rattle.stl2st.specs.Command.{command_meant};
 ghost use Rattle.stl2st.specs.Inputs.{FailedToRead, ReadsImage, ReadsProgram, ReadsRunImage, input};
 ghost use Rattle.stl2st.specs.Replies.{Answered, AnsweredFor, AnsweredRun, AnsweredTree, HasImage, IsReply, IsStl, IsWritten, ReadsOwnImage, bytes_of_text, ending, reply_of};
 ghost use Rattle.stl2st.specs.declared.command.Command.TheVariants.{RunStl, RunSt};
-ghost use Rattle.stl_translate.specs.Translation.{IsTranslatable};
-ghost use Rattle.stl_translate.specs.WellFormed.{IsWellFormed};
 
 use crate::answer::{IMAGE_LIMIT, INPUT_LIMIT};
 use crate::command::{Command, WordsRefusal, read_words};
@@ -212,8 +211,7 @@ fn program_reply<M: Source>(
     image: &mut M,
 ) -> Result<Reply, Stop>
     requires stl { IsStl command.now }
-    requires translatable { IsTranslatable program.now }
-    requires well_formed { IsWellFormed program.now }
+    requires accepted { IsAccepted program.now }
     ensures reply { IfOk result (AnsweredFor command.now program.now (M.left image.old)) }
     ensures reads { ReadsOwnImage command.now
         (input (M.left image.old) (M.left image.new) (M.faults image.old) (M.faults image.new)) (ending result) }

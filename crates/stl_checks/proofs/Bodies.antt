@@ -1,12 +1,13 @@
 -- How the reader's loop follows the definition of a body, item by item.
 use Rattle.std.proofs.Common.{◌≡◌, ◌≤◌, List, [], ◌∷◌, ◌++◌, length, drop, get_or, Bool, true, false, if◌then◌else◌, Result, Ok, Err, refl, sym, ap, subst, ◌∙◌, arith, append_assoc}
-use Rattle.std.specs.Prelude.{codes}
+use Rattle.std.specs.Prelude.{IfOk, codes}
 use Rattle.s7_base.specs.Answers.{Answers}
 use Rattle.s7_base.specs.declared.reason.Line.{Line}
 use Rattle.s7_base.specs.declared.reason.Rejection.{Rejection}
 use Rattle.s7_base.specs.declared.reason.Rejection.TheVariants.{Refused, NoMemory}
 use Rattle.s7_base.specs.declared.token.Token.{Token}
 use Rattle.stl_tree.proofs.GrammarLaws.{at_item, at_end_word}
+use Rattle.stl_tree.specs.Accepted.{IsAccepted}
 use Rattle.stl_tree.specs.Items.{statement_size, heading_name}
 use Rattle.stl_tree.specs.Verdict.{prepend_instrs, body_from, with_item, with_end, with_heading, misfit_at, program_of}
 use Rattle.stl_tree.specs.Words.{is_word}
@@ -68,3 +69,9 @@ at_heading end first tokens rest result split is test h =
     let P : List Token → Type 0 = λ (xs : List Token). Answers result (with_heading end first.line xs (heading_name xs)) in
     let R : List Token → Type 0 = λ (xs : List Token). Answers result (program_of end xs) in
     subst R (sym split) (subst Q (sym test) (subst P is h))
+
+-- a program that is answered keeps the rules where the defined one does
+pub answer_accepted : (answer defined : Result Program Rejection) → Answers answer defined → IfOk defined IsAccepted → IfOk answer IsAccepted
+answer_accepted (Ok program) defined e h = let P : Result Program Rejection → Type 0 = λ r. IfOk r IsAccepted in subst P e h
+answer_accepted (Err (Refused line reason)) defined e h = tt
+answer_accepted (Err NoMemory) defined e h = tt

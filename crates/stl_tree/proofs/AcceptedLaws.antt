@@ -121,7 +121,7 @@ heading_name_is (name ∷ rest) =
 
 -- Programs
 
-abbrev IsProgram : Result Program Rejection → Type 0
+abbrev pub IsProgram : Result Program Rejection → Type 0
 IsProgram r = IfOk r IsAccepted
 
 block_is : (name : BlockName) (line : Line) (body : Result (List Instr) Rejection) → IsBlockNumber name → Body body → IsProgram (one_block name line body)
@@ -142,7 +142,8 @@ choose_program : (b : Bool) (x y : Result Program Rejection) → IsProgram x →
 choose_program true x y p q = p
 choose_program false x y p q = q
 
-program_is : (end : Line) (tokens : List Token) → IsProgram (program_of end tokens)
+-- the program of some tokens keeps the rules
+pub program_is : (end : Line) (tokens : List Token) → IsProgram (program_of end tokens)
 program_is end [] = tt
 program_is end (first ∷ rest) =
     choose_program (is_word (codes "ORGANIZATION_BLOCK") first) _ _ (heading_is end first.line rest (heading_name rest) (heading_name_is rest)) tt
@@ -151,6 +152,7 @@ judged_is : (end : Line) (tokens : Result (List Token) Rejection) → IsProgram 
 judged_is end (Ok tokens) = program_is end tokens
 judged_is end (Err e) = tt
 
+-- and so does that of a text
 pub verdict_accepted : VerdictIsAccepted
 unfolding verdict
 verdict_accepted bytes program e = let P : Result Program Rejection → Type 0 = IsProgram in subst P e (judged_is (line_at_end bytes) (tokens_of bytes))

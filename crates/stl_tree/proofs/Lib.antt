@@ -1,4 +1,4 @@
-mod AcceptedLaws
+pub mod AcceptedLaws
 pub mod GrammarLaws
 mod OperandLaws
 mod RunRows

@@ -1,11 +1,14 @@
 -- Runs of small programs, held against worked rows by computing them.
 use Rattle.std.proofs.Common.{◌≡◌, refl, ℕ, List, [], ◌∷◌, ◌++◌, map, Some, None}
-use Rattle.memory_areas.specs.Areas.{Areas}
+use Rattle.memory_areas.specs.Areas.{Areas, Contents, cleared}
 use Rattle.memory_areas.specs.End.{End, Ended, Going}
 use Rattle.s7_base.specs.declared.check.Check.TheVariants as check
+use Rattle.s7_base.specs.declared.outcome.Fault.{Fault}
 use Rattle.s7_base.specs.declared.outcome.Fault.TheVariants.{AreaLength}
 use Rattle.memory_areas.specs.declared.place.AreaName.TheVariants as area
-use Rattle.stl_tree.specs.StlRun.{stl_run, size_of}
+use Rattle.stl_tree.specs.Now.{Activation, Now, go, enter, leave, fault}
+use Rattle.stl_tree.specs.Registers.{RegisterValues}
+use Rattle.stl_tree.specs.StlRun.{after_effect, over, running, stl_run, size_of}
 use Rattle.stl_tree.specs.Verdict.{program_with}
 use Rattle.stl_tree.specs.declared.program.BitArg.TheVariants.{At}
 use Rattle.stl_tree.specs.declared.program.BlockName.TheVariants.{Ob}
@@ -99,3 +102,33 @@ first_or_not = refl
 
 first_exclusive : stl_run (program_of (op.Check check.A (At (input 0)) ∷ op.Assign (output 0) ∷ op.Check check.Xn (At (input 0)) ∷ op.Assign (output 1) ∷ [])) (call_of 1) (memory_of 1 0) 5 ≡ Ended (memory_of 1 1) None
 first_exclusive = refl
+
+-- What follows an effect, in a program and from a state of any kind
+
+abbrev caller : Activation
+caller = record { block = 0; at = 3; db = 0; di = 0; formals = [] }
+
+abbrev state : RegisterValues → Contents → List Activation → Now
+state r m activations = record { registers = r; brackets = []; memory = m; activations = activations }
+
+jump_goes_to_its_target : (p : Program) (now : Now) (r : RegisterValues) (m : Contents) →
+    after_effect p now (go 9 (state r m (caller ∷ []))) ≡ running p (state r m (record caller { at = 9 } ∷ []))
+jump_goes_to_its_target p now r m = refl
+
+-- a called block has local data of its own, and its caller goes on behind the call
+call_enters_its_block : (p : Program) (now : Now) (r : RegisterValues) (m : Contents) →
+    after_effect p now (enter (record { block = 2; instance = 7; actuals = [] }) (state r m (caller ∷ [])))
+    ≡ running p (state (record r { di = 7 }) (cleared 1 m) (record { block = 2; at = 0; db = r.db; di = r.di; formals = [] } ∷ record caller { at = 4 } ∷ []))
+call_enters_its_block p now r m = refl
+
+-- its end puts the DB and the DI register back
+end_returns_to_the_caller : (p : Program) (now : Now) (r : RegisterValues) (m : Contents) →
+    after_effect p now (leave (state r m (record { block = 2; at = 5; db = 10; di = 11; formals = [] } ∷ caller ∷ [])))
+    ≡ running p (state (record r { db = 10; di = 11 }) m (caller ∷ []))
+end_returns_to_the_caller p now r m = refl
+
+end_of_the_first_ends_the_run : (p : Program) (now : Now) (r : RegisterValues) (m : Contents) → after_effect p now (leave (state r m (caller ∷ []))) ≡ over m None
+end_of_the_first_ends_the_run p now r m = refl
+
+fault_changes_nothing : (p : Program) (now : Now) (f : Fault) → after_effect p now (fault f) ≡ over now.memory (Some f)
+fault_changes_nothing p now f = refl

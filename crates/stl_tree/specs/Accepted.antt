@@ -38,8 +38,7 @@ HaveOperands body = All (λ (i : Instr). HasOperand i.op) body
 -- nothing stands after an end word; after another instruction the body is as it should be
 abbrev pub EndsBehind : Op → List Instr → Type 0 → Type 0
 EndsBehind op.BlockEnd rest more = rest ≡ []
-EndsBehind (op.Check c b) rest more = more
-EndsBehind (op.Assign o) rest more = more
+EndsBehind other rest more = more
 
 -- a body has one end word, its last instruction
 abbrev pub EndsOnce : List Instr → Type 0

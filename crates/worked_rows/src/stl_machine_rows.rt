@@ -30,23 +30,46 @@ fn check(check: Check, operand: Operand) -> Op {
     Op::Check(check, BitArg::At(operand))
 }
 
+fn copy(op: &Op) -> Op {
+    match op {
+        Op::Check(check, argument) => Op::Check(*check, *argument),
+        Op::Assign(operand) => Op::Assign(*operand),
+        Op::BlockEnd => Op::BlockEnd,
+    }
+}
+
 /// A block of some instructions, with its end word behind them.
 fn block(alloc: Global, name: BlockName, ops: &[Op]) -> Result<Block, NoMemory> {
     let line = Line(1);
     let mut body = List::new(alloc);
     for op in ops {
-        body.push(Instr { line, op: *op })?;
+        body.push(Instr { line, op: copy(op) })?;
     }
     let op = Op::BlockEnd;
     body.push(Instr { line, op })?;
-    Ok(Block { name, line, body })
+    Ok(Block {
+        name,
+        line,
+        formals: List::new(alloc),
+        body,
+    })
+}
+
+/// A program of some blocks and nothing else.
+fn program_with(alloc: Global, blocks: List<Block>) -> Program {
+    Program {
+        dbs: List::new(alloc),
+        instances: List::new(alloc),
+        blocks,
+        symbols: List::new(alloc),
+    }
 }
 
 /// The program of the block OB 1 alone.
 fn program(alloc: Global, ops: &[Op]) -> Result<Program, NoMemory> {
     let mut blocks = List::new(alloc);
     blocks.push(block(alloc, BlockName::Ob(1), ops)?)?;
-    Ok(Program { blocks })
+    Ok(program_with(alloc, blocks))
 }
 
 fn call(alloc: Global, block: BlockName) -> Call {
@@ -265,7 +288,7 @@ fn program_of_several(alloc: Global) -> Result<Program, NoMemory> {
     for (name, first) in bodies {
         blocks.push(block(alloc, name, &[first, Op::Assign(OUTPUT)])?)?;
     }
-    Ok(Program { blocks })
+    Ok(program_with(alloc, blocks))
 }
 
 #[test]
