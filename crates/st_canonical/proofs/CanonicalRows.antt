@@ -14,7 +14,7 @@ use Rattle.st_canonical.specs.Spelled.{ItemsSpelled, LabelsSpelled, SourceSpelle
 use Rattle.st_grammar.specs.declared.kind.Jump.TheVariants as jump_word
 use Rattle.st_grammar.specs.declared.kind.Literal.TheVariants as lit
 use Rattle.st_grammar.specs.declared.kind.OneOperand.TheVariants as one
-use Rattle.st_tree.proofs.CanonEquations.{canon_read}
+use Rattle.st_tree.proofs.Equations.{canon_read}
 use Rattle.st_tree.specs.Form as tree
 use Rattle.st_tree.specs.Form.{canon}
 use Rattle.st_tree.specs.Spelling.{names_in}

@@ -8,7 +8,7 @@ use Rattle.st_grammar.specs.Forms.{Form, literal, variable, group, prefix, infix
 use Rattle.st_grammar.specs.Grammar.{infix_level, level}
 use Rattle.st_grammar.specs.declared.kind.OneOperand.TheVariants as one
 use Rattle.st_grammar.specs.declared.kind.Prefix.TheVariants as before
-use Rattle.st_tree.proofs.CanonEquations.{canon_literal, canon_read, canon_unary, canon_binary, canon_convert, canon_select, canon_shift, canon_area_read}
+use Rattle.st_tree.proofs.Equations.{canon_literal, canon_read, canon_unary, canon_binary, canon_convert, canon_select, canon_shift, canon_area_read}
 use Rattle.st_tree.specs.Form as tree
 use Rattle.st_tree.specs.Form.{canon, canon_step}
 use Rattle.st_tree.specs.Typing.{Names, binary_type, type_of, type_step, unary_type, var_type}

@@ -16,7 +16,7 @@ use Rattle.st_grammar.specs.Kinds.{word_named, word_text}
 use Rattle.st_grammar.specs.Levels.{deepest, levels}
 use Rattle.st_canonical.specs.Spelled.{FormSpelled, is_variable}
 use Rattle.st_grammar.specs.Syntax.{AllWithin}
-use Rattle.st_tree.proofs.CanonEquations.{canon_equations}
+use Rattle.st_tree.proofs.Equations.{canon_equations}
 use Rattle.st_tree.specs.Form as written
 use Rattle.st_tree.specs.Form.{canon}
 use Rattle.st_tree.specs.Typing.{Names}

@@ -60,7 +60,7 @@ exclusive : text_of (block_of (name.Ob 1) (op.Check check.X (arg.At (input 0)) �
     ++ codes "    RLO := RLO AND NFC XOR NOT %IX0.1;\n    NFC := TRUE;\n"
     ++ codes "END_PROGRAM\n"
 unfolding digits unit_text line literal_text
-exclusive = simp (statement_line, canon_equations)
+exclusive = simp (text_assign, canon_equations)
 
 two_blocks : text_of (block_of (name.Ob 1) [] ∷ block_of (name.Ob 35) [] ∷ [])
     ≡ codes "PROGRAM OB1\nEND_PROGRAM\nPROGRAM OB35\nEND_PROGRAM\n"
