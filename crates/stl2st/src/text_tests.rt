@@ -1,6 +1,9 @@
 //! What `run-st` answers, by each status, and that translations run as their sources do.
 use crate::status::Status;
-use crate::tests::answered;
+use crate::tests::{answered, wants_answer, wants_run, with_body};
+use s7_base::NoMemory;
+use std::alloc::Global;
+use std::process::Abort;
 use std::test::Fail;
 
 const WAITS: &[u8] = b"PROGRAM OB1\nWHILE %IX0.0 DO END_WHILE;\nEND_PROGRAM\n";
@@ -137,14 +140,7 @@ DB5 0: 00 41 02 02
 fn texts_are_run(rt: HostRuntime) -> Result<(), Fail> {
     let alloc = rt.alloc();
     for (line, text, image, answer, report) in RUNS {
-        let (status, out) = answered(alloc, line, text, image)?;
-        assert_eq!(rt;
-            (status, out.taken()),
-            (answer, report),
-            "{line}: {}: {}",
-            text.escape_ascii(),
-            image.escape_ascii()
-        );
+        wants_run(&rt, alloc, (line, text, image), (answer, report))?;
     }
     Ok(())
 }
@@ -164,19 +160,27 @@ const TRANSLATED: [(&[u8], &[u8]); 4] = [
 fn translations_run_as_their_sources_do(rt: HostRuntime) -> Result<(), Fail> {
     let alloc = rt.alloc();
     for (body, image) in TRANSLATED {
-        let mut source = Vec::from_slice(alloc, b"ORGANIZATION_BLOCK OB 1\nBEGIN\n")?;
-        source.extend_from_slice(body)?;
-        source.extend_from_slice(b"\nEND_ORGANIZATION_BLOCK\n")?;
+        let source = with_body(alloc, body)?;
         let (before, ran) = answered(alloc, "run-stl 99 OB1 img", source.as_slice(), image)?;
-        let (_, text) = answered(alloc, "translate", source.as_slice(), b"")?;
-        let (behind, reran) = answered(alloc, "run-st 99 OB1 img", text.taken(), image)?;
-        assert_eq!(rt; before, Status::Done, "{}", body.escape_ascii());
-        assert_eq!(rt;
-            (behind, reran.taken()),
-            (before, ran.taken()),
-            "{}",
-            body.escape_ascii()
-        );
+        wants_answer(&rt, body, (before, b""), (Status::Done, b""));
+        wants_rerun(&rt, alloc, source.as_slice(), image, (before, ran.taken()))?;
     }
     Ok(())
+}
+
+/// The translation of a source is run with this answer.
+fn wants_rerun(
+    rt: &impl Abort,
+    alloc: Global,
+    source: &[u8],
+    image: &[u8],
+    wanted: (Status, &[u8]),
+) -> Result<(), NoMemory> {
+    let (_, text) = answered(alloc, "translate", source, b"")?;
+    wants_run(
+        rt,
+        alloc,
+        ("run-st 99 OB1 img", text.taken(), image),
+        wanted,
+    )
 }
