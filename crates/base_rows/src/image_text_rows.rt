@@ -13,8 +13,10 @@ use std::test::Fail;
 
 const EMPTY: &[u8] = b"# ENDED\n";
 
-/// Images and the reports of their memories, or why they are refused.
-const IMAGES: [(&[u8], Result<&[u8], ImageRefusal>); 46] = [
+/// An image, and the report of its memory or why it is refused.
+type Row = (&'static [u8], Result<&'static [u8], ImageRefusal>);
+
+const IMAGES: [Row; 46] = [
     (b"", Ok(EMPTY)),
     (b"\n\r\n\r", Ok(EMPTY)),
     (b"# I 0: 01\n#\r\n#", Ok(EMPTY)),
@@ -112,12 +114,16 @@ fn wants_answer(
     Ok(())
 }
 
-#[test]
-fn images_are_read_or_refused(rt: HostRuntime) -> Result<(), Fail> {
-    for (image, answer) in IMAGES {
-        wants_answer(&rt, rt.alloc(), image, &[], answer)?;
+fn want_answers(rt: &impl Abort, alloc: Global, rows: &[Row]) -> Result<(), NoMemory> {
+    for (image, wanted) in rows {
+        wants_answer(rt, alloc, image, &[], *wanted)?;
     }
     Ok(())
+}
+
+#[test]
+fn images_are_read_or_refused(rt: HostRuntime) -> Result<(), Fail> {
+    Ok(want_answers(&rt, rt.alloc(), &IMAGES)?)
 }
 
 #[test]

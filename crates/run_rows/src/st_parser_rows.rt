@@ -701,21 +701,33 @@ fn statements_are_judged(rt: HostRuntime) -> Result<(), Fail> {
 }
 
 /// No program has the name of the call, which is looked for in texts that are read alone.
+fn want_read(rt: &impl Abort, alloc: Global, texts: &[&str]) -> Result<(), NoMemory> {
+    for text in texts {
+        wants_answer(rt, alloc, BlockName::Ob(2), text.as_bytes(), BAD_CALL)?;
+    }
+    Ok(())
+}
+
 #[test]
 fn texts_that_break_no_rule_are_read(rt: HostRuntime) -> Result<(), Fail> {
-    for text in TAKEN {
-        wants_answer(&rt, rt.alloc(), BlockName::Ob(2), text.as_bytes(), BAD_CALL)?;
+    Ok(want_read(&rt, rt.alloc(), &TAKEN)?)
+}
+
+fn want_nested(
+    rt: &impl Abort,
+    alloc: Global,
+    rows: &[(&[Repeated], &[u8])],
+) -> Result<(), NoMemory> {
+    for (pieces, line) in rows {
+        let text = nested(alloc, pieces)?;
+        wants_answer(rt, alloc, BlockName::Ob(1), text.as_slice(), line)?;
     }
     Ok(())
 }
 
 #[test]
 fn level_201_is_too_deep(rt: HostRuntime) -> Result<(), Fail> {
-    for (pieces, line) in NESTED {
-        let text = nested(rt.alloc(), pieces)?;
-        wants_answer(&rt, rt.alloc(), BlockName::Ob(1), text.as_slice(), line)?;
-    }
-    Ok(())
+    Ok(want_nested(&rt, rt.alloc(), &NESTED)?)
 }
 
 #[test]

@@ -226,14 +226,12 @@ fn with_markers(alloc: Global, bytes: &str) -> Result<Vec<u8>, NoMemory> {
     Ok(report)
 }
 
-#[test]
-fn statements_leave_their_memory(rt: HostRuntime) -> Result<(), Fail> {
-    let alloc = rt.alloc();
-    for (statements, bytes) in STATEMENTS {
+fn want_markers(rt: &impl Abort, alloc: Global, rows: &[(&str, &str)]) -> Result<(), NoMemory> {
+    for (statements, bytes) in rows {
         let text = with_statements(alloc, &[statements.as_bytes()])?;
         let report = with_markers(alloc, bytes)?;
         wants_answer(
-            &rt,
+            rt,
             alloc,
             BlockName::Ob(1),
             text.as_slice(),
@@ -244,13 +242,21 @@ fn statements_leave_their_memory(rt: HostRuntime) -> Result<(), Fail> {
 }
 
 #[test]
-fn faults_end_a_run(rt: HostRuntime) -> Result<(), Fail> {
-    let alloc = rt.alloc();
-    for (statements, report) in FAULTS {
+fn statements_leave_their_memory(rt: HostRuntime) -> Result<(), Fail> {
+    Ok(want_markers(&rt, rt.alloc(), &STATEMENTS)?)
+}
+
+fn want_faults(rt: &impl Abort, alloc: Global, rows: &[(&str, &[u8])]) -> Result<(), NoMemory> {
+    for (statements, report) in rows {
         let text = with_statements(alloc, &[statements.as_bytes()])?;
-        wants_answer(&rt, alloc, BlockName::Ob(1), text.as_slice(), report)?;
+        wants_answer(rt, alloc, BlockName::Ob(1), text.as_slice(), report)?;
     }
     Ok(())
+}
+
+#[test]
+fn faults_end_a_run(rt: HostRuntime) -> Result<(), Fail> {
+    Ok(want_faults(&rt, rt.alloc(), &FAULTS)?)
 }
 
 /// A piece so many times.

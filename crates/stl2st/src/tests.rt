@@ -208,14 +208,12 @@ fn wants_translation(
     Ok(())
 }
 
-#[test]
-fn bodies_are_translated(rt: HostRuntime) -> Result<(), Fail> {
-    let alloc = rt.alloc();
-    for (body, lines) in BODIES {
+fn want_texts(rt: &impl Abort, alloc: Global, rows: &[(&[u8], &[&str])]) -> Result<(), NoMemory> {
+    for (body, lines) in rows {
         let source = with_body(alloc, body)?;
         let text = unit_with(alloc, lines)?;
         wants_translation(
-            &rt,
+            rt,
             alloc,
             source.as_slice(),
             (Status::Done, text.as_slice()),
@@ -225,59 +223,78 @@ fn bodies_are_translated(rt: HostRuntime) -> Result<(), Fail> {
 }
 
 #[test]
-fn bodies_are_refused(rt: HostRuntime) -> Result<(), Fail> {
-    let alloc = rt.alloc();
-    let bodies: [(&[u8], &[u8]); 14] = [
-        (b"L 5;", b"line 3: Unsupported(NotBuilt)\n"),
-        (b"SP T 1;", b"line 3: Unsupported(NotBuilt)\n"),
-        (b"a: A I 0.0;", b"line 3: Unsupported(NotBuilt)\n"),
-        (b"A I 0 .0;", b"line 3: Unsupported(NotBuilt)\n"),
-        (b"A I 2048.0;", b"line 3: Unsupported(NotBuilt)\n"),
-        (b"A I 0.8;", b"line 3: Unsupported(NotBuilt)\n"),
-        (b"FOO 5;", b"line 3: BadStatement\n"),
-        (b"TITLE\n= Q 4.0;", b"line 3: BadStatement\n"),
-        (b"A I 0.0", b"line 3: BadStatement\n"),
-        (b"A I 0.0;\n\n\xF6", b"line 5: BadToken\n"),
-        (b"A 'x", b"line 3: BadToken\n"),
-        (b"{ open", b"line 3: BadToken\n"),
-        // All tokens are read before the first statement.
-        (b"FOO 5;\n\"open", b"line 4: BadToken\n"),
-        (b"END_ORGANIZATION_BLOCK\n;", b"line 4: BadStatement\n"),
-    ];
-    for (body, text) in bodies {
+fn bodies_are_translated(rt: HostRuntime) -> Result<(), Fail> {
+    Ok(want_texts(&rt, rt.alloc(), &BODIES)?)
+}
+
+/// Bodies that are refused, and the line that is written.
+const REFUSED_BODIES: [(&[u8], &[u8]); 14] = [
+    (b"L 5;", b"line 3: Unsupported(NotBuilt)\n"),
+    (b"SP T 1;", b"line 3: Unsupported(NotBuilt)\n"),
+    (b"a: A I 0.0;", b"line 3: Unsupported(NotBuilt)\n"),
+    (b"A I 0 .0;", b"line 3: Unsupported(NotBuilt)\n"),
+    (b"A I 2048.0;", b"line 3: Unsupported(NotBuilt)\n"),
+    (b"A I 0.8;", b"line 3: Unsupported(NotBuilt)\n"),
+    (b"FOO 5;", b"line 3: BadStatement\n"),
+    (b"TITLE\n= Q 4.0;", b"line 3: BadStatement\n"),
+    (b"A I 0.0", b"line 3: BadStatement\n"),
+    (b"A I 0.0;\n\n\xF6", b"line 5: BadToken\n"),
+    (b"A 'x", b"line 3: BadToken\n"),
+    (b"{ open", b"line 3: BadToken\n"),
+    // All tokens are read before the first statement.
+    (b"FOO 5;\n\"open", b"line 4: BadToken\n"),
+    (b"END_ORGANIZATION_BLOCK\n;", b"line 4: BadStatement\n"),
+];
+
+fn want_bodies_refused(
+    rt: &impl Abort,
+    alloc: Global,
+    rows: &[(&[u8], &[u8])],
+) -> Result<(), NoMemory> {
+    for (body, text) in rows {
         let source = with_body(alloc, body)?;
-        wants_translation(&rt, alloc, source.as_slice(), (Status::Refused, text))?;
+        wants_translation(rt, alloc, source.as_slice(), (Status::Refused, text))?;
+    }
+    Ok(())
+}
+
+#[test]
+fn bodies_are_refused(rt: HostRuntime) -> Result<(), Fail> {
+    Ok(want_bodies_refused(&rt, rt.alloc(), &REFUSED_BODIES)?)
+}
+
+/// The same of whole sources.
+const REFUSED_SOURCES: [(&[u8], &[u8]); 6] = [
+    (b"", b"line 1: NoBlocks\n"),
+    (b"ORGANIZATION_BLOCK OB", b"line 1: BadStatement\n"),
+    (
+        b"ORGANIZATION_BLOCK OB 1\nBEGIN\n",
+        b"line 3: BadStatement\n",
+    ),
+    (
+        b"ORGANIZATION_BLOCK OB 0\nBEGIN\nEND_ORGANIZATION_BLOCK\n",
+        b"line 1: Unsupported(NotBuilt)\n",
+    ),
+    (
+        b"FUNCTION FC 1 : VOID\nBEGIN\nEND_FUNCTION\n",
+        b"line 1: Unsupported(NotBuilt)\n",
+    ),
+    (
+        b"ORGANIZATION_BLOCK OB 1\nBEGIN\nEND_ORGANIZATION_BLOCK\nORGANIZATION_BLOCK OB 2\nBEGIN\nEND_ORGANIZATION_BLOCK\n",
+        b"line 4: Unsupported(NotBuilt)\n",
+    ),
+];
+
+fn want_refused(rt: &impl Abort, alloc: Global, rows: &[(&[u8], &[u8])]) -> Result<(), NoMemory> {
+    for (source, text) in rows {
+        wants_translation(rt, alloc, source, (Status::Refused, text))?;
     }
     Ok(())
 }
 
 #[test]
 fn sources_are_refused(rt: HostRuntime) -> Result<(), Fail> {
-    let alloc = rt.alloc();
-    let sources: [(&[u8], &[u8]); 6] = [
-        (b"", b"line 1: NoBlocks\n"),
-        (b"ORGANIZATION_BLOCK OB", b"line 1: BadStatement\n"),
-        (
-            b"ORGANIZATION_BLOCK OB 1\nBEGIN\n",
-            b"line 3: BadStatement\n",
-        ),
-        (
-            b"ORGANIZATION_BLOCK OB 0\nBEGIN\nEND_ORGANIZATION_BLOCK\n",
-            b"line 1: Unsupported(NotBuilt)\n",
-        ),
-        (
-            b"FUNCTION FC 1 : VOID\nBEGIN\nEND_FUNCTION\n",
-            b"line 1: Unsupported(NotBuilt)\n",
-        ),
-        (
-            b"ORGANIZATION_BLOCK OB 1\nBEGIN\nEND_ORGANIZATION_BLOCK\nORGANIZATION_BLOCK OB 2\nBEGIN\nEND_ORGANIZATION_BLOCK\n",
-            b"line 4: Unsupported(NotBuilt)\n",
-        ),
-    ];
-    for (source, text) in sources {
-        wants_translation(&rt, alloc, source, (Status::Refused, text))?;
-    }
-    Ok(())
+    Ok(want_refused(&rt, rt.alloc(), &REFUSED_SOURCES)?)
 }
 
 /// The command that runs five steps of a block.
@@ -366,51 +383,57 @@ fn has_its_image(alloc: Global, call: &str) -> Result<bool, NoMemory> {
     Ok(image_name(words.as_slice()).is_some_and(|name| name == "image"))
 }
 
-#[test]
-fn lines_are_commands(rt: HostRuntime) -> Result<(), Fail> {
-    let alloc = rt.alloc();
-    for (line, is_command) in [
-        ("translate", true),
-        ("check", true),
-        ("run-stl 0 OB1 x", true),
-        ("run-stl 18446744073709551615 OB1 x", true),
-        ("run-stl 18446744073709551616 OB1 x", false),
-        ("run-stl 000000000000000000001 OB1 x", false),
-        ("run-stl - OB1 x", false),
-        ("run-stl +1 OB1 x", false),
-        ("run-stl 5 OB1 -", false),
-        ("run-stl 5 OB1", false),
-        ("run-stl 5 OB1 x y", false),
-        ("RUN-STL 5 OB1 x", false),
-        ("run-st 5 OB1 x", true),
-        ("run-st 18446744073709551615 FC10(MW4,M0.0) x", true),
-        ("run-st 18446744073709551616 OB1 x", false),
-        ("run-st 5 OB1", false),
-        ("RUN-ST 5 OB1 x", false),
-        ("run-stl 5 FC10() x", false),
-        ("run-stl 5 FC10(M0.8) x", false),
-        ("run-stl 5 FC10(M0.00) x", false),
-        ("run-stl 5 FC10(IX0.0) x", false),
-        ("run-stl 5 FC1(MB65535) x", true),
-        ("run-stl 5 FC1(MB70000) x", false),
-        ("run-stl 5 FC1(M0.0,) x", false),
-        ("run-stl 5 OB65536 x", false),
-        ("run-stl 5 OB000001 x", false),
-        ("run-stl 5 FB1 x", false),
-        ("run-stl 5 OBä x", false),
-        ("Check", false),
-        ("translate x", false),
-        ("", false),
-    ] {
+/// Lines, and whether their words are a command.
+const LINES: [(&str, bool); 31] = [
+    ("translate", true),
+    ("check", true),
+    ("run-stl 0 OB1 x", true),
+    ("run-stl 18446744073709551615 OB1 x", true),
+    ("run-stl 18446744073709551616 OB1 x", false),
+    ("run-stl 000000000000000000001 OB1 x", false),
+    ("run-stl - OB1 x", false),
+    ("run-stl +1 OB1 x", false),
+    ("run-stl 5 OB1 -", false),
+    ("run-stl 5 OB1", false),
+    ("run-stl 5 OB1 x y", false),
+    ("RUN-STL 5 OB1 x", false),
+    ("run-st 5 OB1 x", true),
+    ("run-st 18446744073709551615 FC10(MW4,M0.0) x", true),
+    ("run-st 18446744073709551616 OB1 x", false),
+    ("run-st 5 OB1", false),
+    ("RUN-ST 5 OB1 x", false),
+    ("run-stl 5 FC10() x", false),
+    ("run-stl 5 FC10(M0.8) x", false),
+    ("run-stl 5 FC10(M0.00) x", false),
+    ("run-stl 5 FC10(IX0.0) x", false),
+    ("run-stl 5 FC1(MB65535) x", true),
+    ("run-stl 5 FC1(MB70000) x", false),
+    ("run-stl 5 FC1(M0.0,) x", false),
+    ("run-stl 5 OB65536 x", false),
+    ("run-stl 5 OB000001 x", false),
+    ("run-stl 5 FB1 x", false),
+    ("run-stl 5 OBä x", false),
+    ("Check", false),
+    ("translate x", false),
+    ("", false),
+];
+
+fn want_commands(rt: &impl Abort, alloc: Global, rows: &[(&str, bool)]) -> Result<(), NoMemory> {
+    for (line, is_command) in rows {
         let refused = read_refused(alloc, line)?;
-        wants(&rt, line, refused.is_none() == is_command);
+        wants(rt, line, refused.is_none() == *is_command);
         wants(
-            &rt,
+            rt,
             line,
-            (refused == Some(WordsRefusal::Usage)) != is_command,
+            (refused == Some(WordsRefusal::Usage)) != *is_command,
         );
     }
     Ok(())
+}
+
+#[test]
+fn lines_are_commands(rt: HostRuntime) -> Result<(), Fail> {
+    Ok(want_commands(&rt, rt.alloc(), &LINES)?)
 }
 
 /// Why the words of a line are no command, if they are none.
@@ -449,8 +472,17 @@ I 0: 03 00 00 00 00 00 00 00 00 00 00 00 00 00 00 00
 Q 0: 00 00 00 00 01 00 00 00 00 00 00 00 00 00 00 00
 ";
 
-/// The words, the body and the image of runs; then the answer.
-const RUNS: [(&str, &[u8], &[u8], Status, &[u8]); 22] = [
+/// The words, the text and the image of a run; then the answer.
+pub type Run = (
+    &'static str,
+    &'static [u8],
+    &'static [u8],
+    Status,
+    &'static [u8],
+);
+
+/// Runs of bodies.
+const RUNS: [Run; 22] = [
     ("run-stl 1 OB1 img", b"", b"", Status::Done, b"# ENDED\n"),
     ("run-stl 0 OB1 img", b"", b"", Status::Going, b"# GOING\n"),
     (
@@ -578,14 +610,17 @@ const RUNS: [(&str, &[u8], &[u8], Status, &[u8]); 22] = [
     ),
 ];
 
-#[test]
-fn bodies_are_run(rt: HostRuntime) -> Result<(), Fail> {
-    let alloc = rt.alloc();
-    for (line, body, image, answer, text) in RUNS {
+fn want_body_runs(rt: &impl Abort, alloc: Global, rows: &[Run]) -> Result<(), NoMemory> {
+    for (line, body, image, answer, text) in rows {
         let source = with_body(alloc, body)?;
-        wants_run(&rt, alloc, (line, source.as_slice(), image), (answer, text))?;
+        wants_run(rt, alloc, (line, source.as_slice(), image), (*answer, text))?;
     }
     Ok(())
+}
+
+#[test]
+fn bodies_are_run(rt: HostRuntime) -> Result<(), Fail> {
+    Ok(want_body_runs(&rt, rt.alloc(), &RUNS)?)
 }
 
 /// The words of a line are answered so for a source and an image, where nothing fails.
@@ -601,63 +636,68 @@ pub fn wants_run(
     Ok(())
 }
 
-#[test]
-fn faults_are_answered(rt: HostRuntime) -> Result<(), Fail> {
-    let alloc = rt.alloc();
-    // The words; the reads of the source and of the image and the write that fail, and the room; then
-    // the answer, and how much of the text is taken.
-    let rows: [(&str, Faults, Answer<'_>); 13] = [
-        ("translate", (0, 1, 0, 1000), (Status::Done, ROW_TEXT)),
-        ("translate", (3, 1, 0, 1000), (Status::ReadFault, b"")),
-        (
-            "translate",
-            (0, 1, 0, 10),
-            (Status::WriteFault, b"PROGRAM OB"),
-        ),
-        (
-            "translate",
-            (0, 1, 2, 1000),
-            (Status::WriteFault, b"PROGRAM"),
-        ),
-        ("check", (0, 1, 0, 1000), (Status::Done, b"accepted\n")),
-        ("check", (3, 1, 0, 1000), (Status::ReadFault, b"")),
-        ("check", (0, 1, 1, 1000), (Status::WriteFault, b"")),
-        (
-            "run-stl 9 OB1 img",
-            (0, 0, 0, 1000),
-            (Status::Done, BOTH_SET),
-        ),
-        (
-            "run-stl 9 OB1 img",
-            (1, 0, 0, 1000),
-            (Status::ReadFault, b""),
-        ),
-        (
-            "run-stl 9 OB1 img",
-            (0, 1, 0, 1000),
-            (Status::ReadFault, b""),
-        ),
-        (
-            "run-stl 9 OB1 img",
-            (0, 3, 0, 1000),
-            (Status::ReadFault, b""),
-        ),
-        (
-            "run-stl 9 OB1 img",
-            (0, 0, 2, 1000),
-            (Status::WriteFault, b"# ENDED"),
-        ),
-        (
-            "run-stl 9 OB1 img",
-            (0, 0, 0, 9),
-            (Status::WriteFault, b"# ENDED\nI"),
-        ),
-    ];
+/// The words, the calls that fail, and the answer with how much of the text is taken.
+type Faulty = (&'static str, Faults, Answer<'static>);
+
+const FAULTS: [Faulty; 13] = [
+    ("translate", (0, 1, 0, 1000), (Status::Done, ROW_TEXT)),
+    ("translate", (3, 1, 0, 1000), (Status::ReadFault, b"")),
+    (
+        "translate",
+        (0, 1, 0, 10),
+        (Status::WriteFault, b"PROGRAM OB"),
+    ),
+    (
+        "translate",
+        (0, 1, 2, 1000),
+        (Status::WriteFault, b"PROGRAM"),
+    ),
+    ("check", (0, 1, 0, 1000), (Status::Done, b"accepted\n")),
+    ("check", (3, 1, 0, 1000), (Status::ReadFault, b"")),
+    ("check", (0, 1, 1, 1000), (Status::WriteFault, b"")),
+    (
+        "run-stl 9 OB1 img",
+        (0, 0, 0, 1000),
+        (Status::Done, BOTH_SET),
+    ),
+    (
+        "run-stl 9 OB1 img",
+        (1, 0, 0, 1000),
+        (Status::ReadFault, b""),
+    ),
+    (
+        "run-stl 9 OB1 img",
+        (0, 1, 0, 1000),
+        (Status::ReadFault, b""),
+    ),
+    (
+        "run-stl 9 OB1 img",
+        (0, 3, 0, 1000),
+        (Status::ReadFault, b""),
+    ),
+    (
+        "run-stl 9 OB1 img",
+        (0, 0, 2, 1000),
+        (Status::WriteFault, b"# ENDED"),
+    ),
+    (
+        "run-stl 9 OB1 img",
+        (0, 0, 0, 9),
+        (Status::WriteFault, b"# ENDED\nI"),
+    ),
+];
+
+fn want_faults(rt: &impl Abort, alloc: Global, rows: &[Faulty]) -> Result<(), NoMemory> {
     for (line, faults, wanted) in rows {
-        let (status, out) = faulted(alloc, line, ROW, b"I 0: 03\n", faults)?;
-        wants_answer(&rt, line.as_bytes(), (status, out.taken()), wanted);
+        let (status, out) = faulted(alloc, line, ROW, b"I 0: 03\n", *faults)?;
+        wants_answer(rt, line.as_bytes(), (status, out.taken()), *wanted);
     }
     Ok(())
+}
+
+#[test]
+fn faults_are_answered(rt: HostRuntime) -> Result<(), Fail> {
+    Ok(want_faults(&rt, rt.alloc(), &FAULTS)?)
 }
 
 #[test]

@@ -1,6 +1,6 @@
 //! What `run-st` answers, by each status, and that translations run as their sources do.
 use crate::status::Status;
-use crate::tests::{answered, wants_answer, wants_run, with_body};
+use crate::tests::{Run, answered, wants_answer, wants_run, with_body};
 use s7_base::NoMemory;
 use std::alloc::Global;
 use std::process::Abort;
@@ -36,8 +36,8 @@ PROGRAM OB1
 END_PROGRAM
 ";
 
-/// The words, the text and the image; then the answer.
-const RUNS: [(&str, &[u8], &[u8], Status, &[u8]); 15] = [
+/// Runs of texts.
+const RUNS: [Run; 15] = [
     (
         "run-st 0 OB1 img",
         b"PROGRAM OB1\nEND_PROGRAM",
@@ -136,13 +136,16 @@ DB5 0: 00 41 02 02
     ),
 ];
 
-#[test]
-fn texts_are_run(rt: HostRuntime) -> Result<(), Fail> {
-    let alloc = rt.alloc();
-    for (line, text, image, answer, report) in RUNS {
-        wants_run(&rt, alloc, (line, text, image), (answer, report))?;
+fn want_runs(rt: &impl Abort, alloc: Global, rows: &[Run]) -> Result<(), NoMemory> {
+    for (line, text, image, answer, report) in rows {
+        wants_run(rt, alloc, (line, text, image), (*answer, report))?;
     }
     Ok(())
+}
+
+#[test]
+fn texts_are_run(rt: HostRuntime) -> Result<(), Fail> {
+    Ok(want_runs(&rt, rt.alloc(), &RUNS)?)
 }
 
 /// Bodies whose translation runs as they do, from an image.
@@ -156,14 +159,19 @@ const TRANSLATED: [(&[u8], &[u8]); 4] = [
     ),
 ];
 
+/// A source runs to its end, and its translation as it does.
+fn wants_same(rt: &impl Abort, alloc: Global, source: &[u8], image: &[u8]) -> Result<(), NoMemory> {
+    let (before, ran) = answered(alloc, "run-stl 99 OB1 img", source, image)?;
+    wants_answer(rt, source, (before, b""), (Status::Done, b""));
+    wants_rerun(rt, alloc, source, image, (before, ran.taken()))
+}
+
 #[test]
 fn translations_run_as_their_sources_do(rt: HostRuntime) -> Result<(), Fail> {
     let alloc = rt.alloc();
     for (body, image) in TRANSLATED {
         let source = with_body(alloc, body)?;
-        let (before, ran) = answered(alloc, "run-stl 99 OB1 img", source.as_slice(), image)?;
-        wants_answer(&rt, body, (before, b""), (Status::Done, b""));
-        wants_rerun(&rt, alloc, source.as_slice(), image, (before, ran.taken()))?;
+        wants_same(&rt, alloc, source.as_slice(), image)?;
     }
     Ok(())
 }

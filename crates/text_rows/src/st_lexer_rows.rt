@@ -10,8 +10,10 @@ use std::alloc::Global;
 use std::process::Abort;
 use std::test::Fail;
 
-/// Texts, and their tokens as `shown` writes them or the line of their first bad token.
-const TEXTS: [(&[u8], Result<&[u8], u32>); 51] = [
+/// A text, and its tokens as `shown` writes them or the line of its first bad token.
+type Row = (&'static [u8], Result<&'static [u8], u32>);
+
+const TEXTS: [Row; 51] = [
     (b"", Ok(b"")),
     (
         b"a:=16#fF; (* x *) // y\n%q0.1",
@@ -139,12 +141,16 @@ fn wants_tokens(
     Ok(())
 }
 
-#[test]
-fn cuts_texts(rt: HostRuntime) -> Result<(), Fail> {
-    for (text, want) in TEXTS {
-        wants_tokens(&rt, rt.alloc(), text, want)?;
+fn want_tokens(rt: &impl Abort, alloc: Global, rows: &[Row]) -> Result<(), NoMemory> {
+    for (text, wanted) in rows {
+        wants_tokens(rt, alloc, text, *wanted)?;
     }
     Ok(())
+}
+
+#[test]
+fn cuts_texts(rt: HostRuntime) -> Result<(), Fail> {
+    Ok(want_tokens(&rt, rt.alloc(), &TEXTS)?)
 }
 
 #[test]
