@@ -16,7 +16,7 @@ const EMPTY: &[u8] = b"# ENDED\n";
 /// An image, and the report of its memory or why it is refused.
 type Row = (&'static [u8], Result<&'static [u8], ImageRefusal>);
 
-const IMAGES: [Row; 46] = [
+static IMAGES: [Row; 46] = [
     (b"", Ok(EMPTY)),
     (b"\n\r\n\r", Ok(EMPTY)),
     (b"# I 0: 01\n#\r\n#", Ok(EMPTY)),

@@ -10,7 +10,7 @@ use stl_tree::BlockName;
 type Row = (&'static str, &'static str);
 
 /// Texts with a bad token, a name that is not declared or declared twice, a bad address, or too many bytes.
-const RULES: [Row; 32] = [
+static RULES: [Row; 32] = [
     (
         "PROGRAM OB1\n%MD0 := DINT_TO_DWORD(2147483648);\nEND_PROGRAM",
         "line 2: BadToken\n",
@@ -130,7 +130,7 @@ const RULES: [Row; 32] = [
 ];
 
 /// Texts whose types or calls break a rule.
-const TYPES: [Row; 31] = [
+static TYPES: [Row; 31] = [
     (
         "PROGRAM OB1\n%MW0 := TRUE;\nEND_PROGRAM",
         "line 2: TypeMismatch\n",
@@ -255,7 +255,7 @@ const TYPES: [Row; 31] = [
 ];
 
 /// Texts whose sections, declarations or units break the grammar.
-const SECTIONS: [Row; 33] = [
+static SECTIONS: [Row; 33] = [
     (";", "line 1: BadSyntax\n"),
     ("\nPROGRAM OB1\n", "line 3: BadSyntax\n"),
     ("PROGRAM OB1 END_PROGRAM\n;", "line 2: BadSyntax\n"),
@@ -358,7 +358,7 @@ const SECTIONS: [Row; 33] = [
 ];
 
 /// Programs whose statements break the grammar: names, operators, functions, calls.
-const EXPRESSIONS: [Row; 26] = [
+static EXPRESSIONS: [Row; 26] = [
     (
         "PROGRAM OB1\n%MW0 := %MW2;\nIF THEN\nEND_IF;\nEND_PROGRAM",
         "line 3: BadSyntax\n",
@@ -460,7 +460,7 @@ const EXPRESSIONS: [Row; 26] = [
 ];
 
 /// The same of IF, WHILE, CASE and what stands in a unit.
-const STATEMENTS: [Row; 26] = [
+static STATEMENTS: [Row; 26] = [
     (
         "PROGRAM OB1\nF(\n%MW0 := b);\nEND_PROGRAM",
         "line 3: BadSyntax\n",
@@ -556,7 +556,7 @@ const STATEMENTS: [Row; 26] = [
 ];
 
 /// Texts that break no rule.
-const TAKEN: [&str; 8] = [
+static TAKEN: [&str; 8] = [
     "FUNCTION A B(); END_FUNCTION FUNCTION B C(); END_FUNCTION FUNCTION C D(); END_FUNCTION FUNCTION D E(); END_FUNCTION\nFUNCTION E F(); END_FUNCTION FUNCTION F G(); END_FUNCTION FUNCTION G H(); END_FUNCTION FUNCTION H END_FUNCTION",
     "PROGRAM OB1\nEND_PROGRAM\n",
     "VAR_GLOBAL\n    DB5 AT %DB5.DBB0 : ARRAY[0..3] OF BYTE := [16#01, 2(16#0A), 16#FF];\n    DB7 AT %DB7.DBB0 : ARRAY[0..16383] OF BYTE;\n    Start AT %IX0.0 : BOOL;\n    Level AT %MD4 : DINT;\nEND_VAR\nPROGRAM OB1\n    Level := Level + 1;\n    Start := %DB5.DBX0.7 OR level > DINT#-5;\nEND_PROGRAM\n",
@@ -573,7 +573,7 @@ type Repeated = (usize, &'static [u8]);
 const TOO_DEEP: &[u8] = b"line 3: TooDeep\n";
 
 /// Statements made of repeated pieces on lines 2 and 3, and what is answered.
-const NESTED: [(&[Repeated], &[u8]); 11] = [
+static NESTED: [(&[Repeated], &[u8]); 11] = [
     (&[(1, b"RLO := "), (200, b"NOT "), (1, b"RLO;")], ENDED),
     (
         &[

@@ -97,7 +97,7 @@ fn each_test_of_a_loop_takes_a_unit(rt: HostRuntime) -> Result<(), Fail> {
 }
 
 /// Statements, and the first bytes of the bit memory behind them; what follows is zero.
-const STATEMENTS: [(&str, &str); 45] = [
+static STATEMENTS: [(&str, &str); 45] = [
     ("%MD0 := DINT_TO_DWORD(2147483647 + 1);", "80 00 00 00"),
     (
         "%MD0 := DINT_TO_DWORD(DINT#-2147483648 - 1);",
@@ -185,7 +185,7 @@ const STATEMENTS: [(&str, &str); 45] = [
 ];
 
 /// Statements that end in a fault before they write.
-const FAULTS: [(&str, &[u8]); 11] = [
+static FAULTS: [(&str, &[u8]); 11] = [
     ("%MW0 := %DBW0;", b"# FAULT DbNotOpen\n"),
     ("DBNO := WORD#9; %MW0 := %DBW0;", b"# FAULT DbMissing\n"),
     ("%MW0 := %DB9.DBW0;", b"# FAULT DbMissing\n"),

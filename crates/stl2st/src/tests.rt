@@ -33,7 +33,7 @@ const USAGE_LINE: &[u8] =
 const CHECK: &[&str] = &["RLO := (RLO OR NOT NFC) AND %IX0.0;", "NFC := TRUE;"];
 
 /// Bodies, and their statements in ST.
-const BODIES: [(&[u8], &[&str]); 14] = [
+static BODIES: [(&[u8], &[&str]); 14] = [
     (b"", &[]),
     (b"A I 0.0;", CHECK),
     (
@@ -184,14 +184,15 @@ fn in_pieces(
     alloc: Global,
     line: &str,
     source: &[u8],
-    pieces: (usize, usize),
+    read: usize,
+    written: usize,
 ) -> Result<(Status, MemSink), NoMemory>
-    requires read { 1 ≤ pieces.0 }
-    requires written { 1 ≤ pieces.1 }
+    requires read { 1 ≤ read }
+    requires written { 1 ≤ written }
 {
-    let mut program = SureSource::new(alloc, source, pieces.0)?;
+    let mut program = SureSource::new(alloc, source, read)?;
     let mut image = NoFile::new();
-    let mut out = MemSink::new(alloc, 1000, pieces.1, &[])?;
+    let mut out = MemSink::new(alloc, 1000, written, &[])?;
     let status = call(alloc, line, &mut program, &mut image, &mut out)?;
     Ok((status, out))
 }
@@ -228,7 +229,7 @@ fn bodies_are_translated(rt: HostRuntime) -> Result<(), Fail> {
 }
 
 /// Bodies that are refused, and the line that is written.
-const REFUSED_BODIES: [(&[u8], &[u8]); 14] = [
+static REFUSED_BODIES: [(&[u8], &[u8]); 14] = [
     (b"L 5;", b"line 3: Unsupported(NotBuilt)\n"),
     (b"SP T 1;", b"line 3: Unsupported(NotBuilt)\n"),
     (b"a: A I 0.0;", b"line 3: Unsupported(NotBuilt)\n"),
@@ -264,7 +265,7 @@ fn bodies_are_refused(rt: HostRuntime) -> Result<(), Fail> {
 }
 
 /// The same of whole sources.
-const REFUSED_SOURCES: [(&[u8], &[u8]); 6] = [
+static REFUSED_SOURCES: [(&[u8], &[u8]); 6] = [
     (b"", b"line 1: NoBlocks\n"),
     (b"ORGANIZATION_BLOCK OB", b"line 1: BadStatement\n"),
     (
@@ -384,7 +385,7 @@ fn has_its_image(alloc: Global, call: &str) -> Result<bool, NoMemory> {
 }
 
 /// Lines, and whether their words are a command.
-const LINES: [(&str, bool); 31] = [
+static LINES: [(&str, bool); 31] = [
     ("translate", true),
     ("check", true),
     ("run-stl 0 OB1 x", true),
@@ -482,7 +483,7 @@ pub type Run = (
 );
 
 /// Runs of bodies.
-const RUNS: [Run; 22] = [
+static RUNS: [Run; 22] = [
     ("run-stl 1 OB1 img", b"", b"", Status::Done, b"# ENDED\n"),
     ("run-stl 0 OB1 img", b"", b"", Status::Going, b"# GOING\n"),
     (
@@ -639,7 +640,7 @@ pub fn wants_run(
 /// The words, the calls that fail, and the answer with how much of the text is taken.
 type Faulty = (&'static str, Faults, Answer<'static>);
 
-const FAULTS: [Faulty; 13] = [
+static FAULTS: [Faulty; 13] = [
     ("translate", (0, 1, 0, 1000), (Status::Done, ROW_TEXT)),
     ("translate", (3, 1, 0, 1000), (Status::ReadFault, b"")),
     (
@@ -721,7 +722,7 @@ fn a_missing_file_is_a_read_fault(rt: HostRuntime) -> Result<(), Fail> {
         ),
     ];
     for (line, source, answer, taken) in missing {
-        let (status, out) = in_pieces(alloc, line, source, (20, 7))?;
+        let (status, out) = in_pieces(alloc, line, source, 20, 7)?;
         wants_answer(&rt, line.as_bytes(), (status, out.taken()), (answer, taken));
     }
     Ok(())
@@ -740,7 +741,7 @@ fn sources_at_the_limit_are_taken(rt: HostRuntime) -> Result<(), Fail> {
         ("translate", INPUT_LIMIT + 1, Status::TooLong, b"too long\n"),
     ] {
         source.resize(size, b'\n')?;
-        let (status, out) = in_pieces(alloc, line, source.as_slice(), (4096, 1000))?;
+        let (status, out) = in_pieces(alloc, line, source.as_slice(), 4096, 1000)?;
         wants_answer(&rt, line.as_bytes(), (status, out.taken()), (answer, text));
     }
     Ok(())

@@ -37,7 +37,7 @@ END_PROGRAM
 ";
 
 /// Runs of texts.
-const RUNS: [Run; 15] = [
+static RUNS: [Run; 15] = [
     (
         "run-st 0 OB1 img",
         b"PROGRAM OB1\nEND_PROGRAM",
@@ -149,7 +149,7 @@ fn texts_are_run(rt: HostRuntime) -> Result<(), Fail> {
 }
 
 /// Bodies whose translation runs as they do, from an image.
-const TRANSLATED: [(&[u8], &[u8]); 4] = [
+static TRANSLATED: [(&[u8], &[u8]); 4] = [
     (b"AN I 0.0; = Q 4.0;", b""),
     (b"AN I 0.0; = Q 4.0;", b"I 0: 01\n"),
     (b"A I 0.0; A I 0.1; = Q 4.0;", b"I 0: 03\n"),
@@ -166,14 +166,17 @@ fn wants_same(rt: &impl Abort, alloc: Global, source: &[u8], image: &[u8]) -> Re
     wants_rerun(rt, alloc, source, image, (before, ran.taken()))
 }
 
-#[test]
-fn translations_run_as_their_sources_do(rt: HostRuntime) -> Result<(), Fail> {
-    let alloc = rt.alloc();
-    for (body, image) in TRANSLATED {
+fn want_same(rt: &impl Abort, alloc: Global, rows: &[(&[u8], &[u8])]) -> Result<(), NoMemory> {
+    for (body, image) in rows {
         let source = with_body(alloc, body)?;
-        wants_same(&rt, alloc, source.as_slice(), image)?;
+        wants_same(rt, alloc, source.as_slice(), image)?;
     }
     Ok(())
+}
+
+#[test]
+fn translations_run_as_their_sources_do(rt: HostRuntime) -> Result<(), Fail> {
+    Ok(want_same(&rt, rt.alloc(), &TRANSLATED)?)
 }
 
 /// The translation of a source is run with this answer.

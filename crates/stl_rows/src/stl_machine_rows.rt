@@ -9,6 +9,7 @@ use memory_areas::{
 };
 use s7_base::{Check, Fault, Line, List, NoMemory, Outcome};
 use std::alloc::Global;
+use std::process::Abort;
 use std::test::Fail;
 use stl_machine::{Machine, MachineRefusal};
 use stl_tree::{BitArg, Block, BlockName, Call, Instr, Op, Operand, Program};
@@ -162,7 +163,7 @@ const FIRST_CHECKS: [(Check, bool, bool); 12] = [
 ];
 
 /// The RLO after a check, by the RLO before it and its bit.
-const LATER_CHECKS: [(Check, bool, bool, bool); 24] = [
+static LATER_CHECKS: [(Check, bool, bool, bool); 24] = [
     (Check::A, false, false, false),
     (Check::A, false, true, false),
     (Check::A, true, false, false),
@@ -213,20 +214,39 @@ fn a_first_check_forgets_the_rlo(rt: HostRuntime) -> Result<(), Fail> {
     Ok(())
 }
 
-#[test]
-fn a_later_check_is_combined_with_the_rlo(rt: HostRuntime) -> Result<(), Fail> {
-    let alloc = rt.alloc();
-    for (later, before, bit, rlo) in LATER_CHECKS {
-        let inputs = u8::from(before) + u8::from(bit) * 2;
-        let chain = [
-            check(Check::A, INPUT),
-            check(later, NEXT_INPUT),
-            Op::Assign(OUTPUT),
-        ];
-        let ended = run(alloc, memory(alloc, inputs, 0)?, &chain)?;
-        wants(&rt, &(before, later, bit), &ended, &(ENDED, u8::from(rlo)));
+/// A check behind `A I 0.0`, of `I 0.1`, leaves this RLO.
+fn wants_rlo(
+    rt: &impl Abort,
+    alloc: Global,
+    later: Check,
+    bits: (bool, bool),
+    rlo: bool,
+) -> Result<(), Fail> {
+    let inputs = u8::from(bits.0) + u8::from(bits.1) * 2;
+    let chain = [
+        check(Check::A, INPUT),
+        check(later, NEXT_INPUT),
+        Op::Assign(OUTPUT),
+    ];
+    let ended = run(alloc, memory(alloc, inputs, 0)?, &chain)?;
+    wants(rt, &(later, bits), &ended, &(ENDED, u8::from(rlo)));
+    Ok(())
+}
+
+fn want_rlos(
+    rt: &impl Abort,
+    alloc: Global,
+    rows: &[(Check, bool, bool, bool)],
+) -> Result<(), Fail> {
+    for (later, before, bit, rlo) in rows {
+        wants_rlo(rt, alloc, *later, (*before, *bit), *rlo)?;
     }
     Ok(())
+}
+
+#[test]
+fn a_later_check_is_combined_with_the_rlo(rt: HostRuntime) -> Result<(), Fail> {
+    want_rlos(&rt, rt.alloc(), &LATER_CHECKS)
 }
 
 #[test]

@@ -13,7 +13,7 @@ use std::test::Fail;
 /// A text, and its tokens as `shown` writes them or the line of its first bad token.
 type Row = (&'static [u8], Result<&'static [u8], u32>);
 
-const TEXTS: [Row; 51] = [
+static TEXTS: [Row; 51] = [
     (b"", Ok(b"")),
     (
         b"a:=16#fF; (* x *) // y\n%q0.1",
