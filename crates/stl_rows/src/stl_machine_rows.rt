@@ -97,8 +97,10 @@ fn is_zero_but(memory: &Memory, output_4: u8) -> bool {
         && memory.numbers().is_empty()
 }
 
-/// The steps of each portion, and how the run then stands, with output byte 4.
-const PORTIONS: [&[(u64, Outcome, u8)]; 7] = [
+/// The steps of a portion, and how the run then stands, with output byte 4.
+type Portion = (u64, Outcome, u8);
+
+static PORTIONS: [&[Portion]; 7] = [
     &[(2, GOING, 1), (1, ENDED, 1)],
     &[(3, ENDED, 1)],
     &[(1, GOING, 0), (1, GOING, 1), (1, ENDED, 1)],
@@ -113,24 +115,39 @@ const PORTIONS: [&[(u64, Outcome, u8)]; 7] = [
     ],
 ];
 
+/// A run in these portions stands so after each.
+fn wants_portions(
+    rt: &impl Abort,
+    alloc: Global,
+    program: &Program,
+    portions: &[Portion],
+) -> Result<(), Fail> {
+    let call = call(alloc, BlockName::Ob(1));
+    let mut machine = Machine::new(alloc, program, memory(alloc, 0, 0)?, &call)?;
+    for (steps, outcome, output_4) in portions {
+        wants(rt, steps, &machine.run(*steps), outcome);
+        wants(rt, steps, &is_zero_but(machine.memory(), *output_4), &true);
+    }
+    Ok(())
+}
+
+fn want_portions(
+    rt: &impl Abort,
+    alloc: Global,
+    program: &Program,
+    rows: &[&[Portion]],
+) -> Result<(), Fail> {
+    for portions in rows {
+        wants_portions(rt, alloc, program, portions)?;
+    }
+    Ok(())
+}
+
 #[test]
 fn a_run_is_the_same_in_any_portions_and_stays_at_its_end(rt: HostRuntime) -> Result<(), Fail> {
     let alloc = rt.alloc();
     let program = program(alloc, &[check(Check::An, INPUT), Op::Assign(OUTPUT)])?;
-    let call = call(alloc, BlockName::Ob(1));
-    for portions in PORTIONS {
-        let mut machine = Machine::new(alloc, &program, memory(alloc, 0, 0)?, &call)?;
-        for (steps, outcome, output_4) in portions {
-            wants(&rt, &portions, &machine.run(*steps), outcome);
-            wants(
-                &rt,
-                &portions,
-                &is_zero_but(machine.memory(), *output_4),
-                &true,
-            );
-        }
-    }
-    Ok(())
+    want_portions(&rt, alloc, &program, &PORTIONS)
 }
 
 #[test]
