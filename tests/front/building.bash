@@ -17,7 +17,7 @@ equal "one build so far" "$(builds)" 1
 touch "$repo"/crates/*/src/* "$repo/crates.txt"
 front check a.awl
 equal "a new time alone builds nothing" "$(builds)" 1
-echo "// more" >> "$repo/crates/worked_rows/src/lib.rt"
+echo "// more" >> "$repo/crates/base_rows/src/lib.rt"
 echo "notes" > "$repo/crates/stl2st/src/notes.md"
 front check a.awl
 equal "what the program does not stand on builds nothing" "$(builds)" 1
@@ -46,7 +46,7 @@ mv "$repo/crates/stl2st/proofs/A.antt" "$repo/crates/stl2st/proofs/C.antt"
 changed "a file of another name"
 echo 'Handles allowed: Wait.' > "$repo/HANDLES"
 changed "another line in HANDLES"
-sed -i 's/^stl2st: s7_base itoa/& worked_rows/' "$repo/crates.txt"
+sed -i 's/^stl2st: s7_base itoa/& base_rows/' "$repo/crates.txt"
 changed "a crate more in crates.txt"
 cp "$bin/program" "$repo/out/stl2st"
 echo "# another" >> "$repo/out/stl2st"

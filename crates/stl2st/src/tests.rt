@@ -1,5 +1,7 @@
 //! What no clause says: that the definitions give the texts and the refusals that the standard asks
 //! for, and that a call answers while there is memory.
+ghost use Rattle.std.specs.Prelude.{◌≤◌};
+
 use crate::answer::{INPUT_LIMIT, stl2st};
 use crate::command::{Command, WordsRefusal, image_name, read_words};
 use crate::status::Status;
@@ -7,6 +9,7 @@ use memory_areas::{Area, Place};
 use s7_base::{List, NoMemory, Width};
 use s7_io::{MemSink, MemSource, NoFile, Source, SureSource};
 use std::alloc::Global;
+use std::process::Abort;
 use std::test::Fail;
 use stl_tree::{BlockName, Call};
 
@@ -30,7 +33,7 @@ const USAGE_LINE: &[u8] =
 const CHECK: &[&str] = &["RLO := (RLO OR NOT NFC) AND %IX0.0;", "NFC := TRUE;"];
 
 /// Bodies, and their statements in ST.
-const BODIES: [(&[u8], &[&str]); 14] = [
+static BODIES: [(&[u8], &[&str]); 14] = [
     (b"", &[]),
     (b"A I 0.0;", CHECK),
     (
@@ -83,7 +86,7 @@ fn words_of(alloc: Global, line: &str) -> Result<Vec<String>, NoMemory> {
 }
 
 /// A source text of one block, whose body begins on line 3.
-fn with_body(alloc: Global, body: &[u8]) -> Result<Vec<u8>, NoMemory> {
+pub fn with_body(alloc: Global, body: &[u8]) -> Result<Vec<u8>, NoMemory> {
     let mut source = Vec::from_slice(alloc, b"ORGANIZATION_BLOCK OB 1\nBEGIN\n")?;
     source.extend_from_slice(body)?;
     source.extend_from_slice(b"\nEND_ORGANIZATION_BLOCK\n")?;
@@ -102,6 +105,20 @@ fn unit_with(alloc: Global, lines: &[&str]) -> Result<Vec<u8>, NoMemory> {
     Ok(text)
 }
 
+/// A status, and what is written with it.
+type Answer<'a> = (Status, &'a [u8]);
+
+/// Ends the test where an answer is not the wanted one. An assertion costs the prover seconds in every
+/// place where it stands, so each kind stands once.
+pub fn wants_answer(rt: &impl Abort, case: &[u8], found: Answer<'_>, wanted: Answer<'_>) {
+    assert_eq!(rt; found, wanted, "{}", case.escape_ascii());
+}
+
+/// The same of what is asked of a row.
+fn wants(rt: &impl Abort, case: &str, holds: bool) {
+    assert!(rt; holds, "{case}");
+}
+
 /// Calls the program with the words of a line.
 fn call<P: Source, M: Source>(
     alloc: Global,
@@ -112,6 +129,25 @@ fn call<P: Source, M: Source>(
 ) -> Result<Status, NoMemory> {
     let words = words_of(alloc, line)?;
     Ok(stl2st(alloc, words.as_slice(), program, image, out))
+}
+
+/// Which calls fail: a read of the source, one of the image, a write; and the room that there is.
+type Faults = (u32, u32, u32, usize);
+
+/// What the words end with for a source and an image, where such calls fail.
+fn faulted(
+    alloc: Global,
+    line: &str,
+    source: &[u8],
+    image: &[u8],
+    faults: Faults,
+) -> Result<(Status, MemSink), NoMemory> {
+    let (read, image_read, write, room) = faults;
+    let mut program = MemSource::new(alloc, source, 20, &[read])?;
+    let mut image = MemSource::new(alloc, image, 4, &[image_read])?;
+    let mut out = MemSink::new(alloc, room, 7, &[write])?;
+    let status = call(alloc, line, &mut program, &mut image, &mut out)?;
+    Ok((status, out))
 }
 
 /// What the words end with and write for a source and an image, where nothing fails.
@@ -128,98 +164,138 @@ pub fn answered(
     Ok((status, out))
 }
 
-/// What `translate` ends with and writes for a source. A read of its image would fail.
-fn translated(alloc: Global, source: &[u8]) -> Result<(Status, MemSink), NoMemory> {
-    let mut program = MemSource::new(alloc, source, 20, &[])?;
+/// What the words end with and write for a source, whose first reads may fail, where a read of the image
+/// would.
+fn without_image(
+    alloc: Global,
+    line: &str,
+    source: &[u8],
+    fails: &[u32],
+) -> Result<(Status, MemSink), NoMemory> {
+    let mut program = MemSource::new(alloc, source, 20, fails)?;
     let mut image = NoFile::new();
     let mut out = MemSink::new(alloc, 1000, 7, &[])?;
-    let status = call(alloc, "translate", &mut program, &mut image, &mut out)?;
+    let status = call(alloc, line, &mut program, &mut image, &mut out)?;
     Ok((status, out))
+}
+
+/// The same for a source of any size, no read of which fails, in pieces of so many bytes read and written.
+fn in_pieces(
+    alloc: Global,
+    line: &str,
+    source: &[u8],
+    read: usize,
+    written: usize,
+) -> Result<(Status, MemSink), NoMemory>
+    requires read { 1 ≤ read }
+    requires written { 1 ≤ written }
+{
+    let mut program = SureSource::new(alloc, source, read)?;
+    let mut image = NoFile::new();
+    let mut out = MemSink::new(alloc, 1000, written, &[])?;
+    let status = call(alloc, line, &mut program, &mut image, &mut out)?;
+    Ok((status, out))
+}
+
+/// A source is translated so.
+fn wants_translation(
+    rt: &impl Abort,
+    alloc: Global,
+    source: &[u8],
+    wanted: Answer<'_>,
+) -> Result<(), NoMemory> {
+    let (status, out) = without_image(alloc, "translate", source, &[])?;
+    wants_answer(rt, source, (status, out.taken()), wanted);
+    Ok(())
+}
+
+fn want_texts(rt: &impl Abort, alloc: Global, rows: &[(&[u8], &[&str])]) -> Result<(), NoMemory> {
+    for (body, lines) in rows {
+        let source = with_body(alloc, body)?;
+        let text = unit_with(alloc, lines)?;
+        wants_translation(
+            rt,
+            alloc,
+            source.as_slice(),
+            (Status::Done, text.as_slice()),
+        )?;
+    }
+    Ok(())
 }
 
 #[test]
 fn bodies_are_translated(rt: HostRuntime) -> Result<(), Fail> {
-    let alloc = rt.alloc();
-    for (body, lines) in BODIES {
+    Ok(want_texts(&rt, rt.alloc(), &BODIES)?)
+}
+
+/// Bodies that are refused, and the line that is written.
+static REFUSED_BODIES: [(&[u8], &[u8]); 14] = [
+    (b"L 5;", b"line 3: Unsupported(NotBuilt)\n"),
+    (b"SP T 1;", b"line 3: Unsupported(NotBuilt)\n"),
+    (b"a: A I 0.0;", b"line 3: Unsupported(NotBuilt)\n"),
+    (b"A I 0 .0;", b"line 3: Unsupported(NotBuilt)\n"),
+    (b"A I 2048.0;", b"line 3: Unsupported(NotBuilt)\n"),
+    (b"A I 0.8;", b"line 3: Unsupported(NotBuilt)\n"),
+    (b"FOO 5;", b"line 3: BadStatement\n"),
+    (b"TITLE\n= Q 4.0;", b"line 3: BadStatement\n"),
+    (b"A I 0.0", b"line 3: BadStatement\n"),
+    (b"A I 0.0;\n\n\xF6", b"line 5: BadToken\n"),
+    (b"A 'x", b"line 3: BadToken\n"),
+    (b"{ open", b"line 3: BadToken\n"),
+    // All tokens are read before the first statement.
+    (b"FOO 5;\n\"open", b"line 4: BadToken\n"),
+    (b"END_ORGANIZATION_BLOCK\n;", b"line 4: BadStatement\n"),
+];
+
+fn want_bodies_refused(
+    rt: &impl Abort,
+    alloc: Global,
+    rows: &[(&[u8], &[u8])],
+) -> Result<(), NoMemory> {
+    for (body, text) in rows {
         let source = with_body(alloc, body)?;
-        let text = unit_with(alloc, lines)?;
-        let (status, out) = translated(alloc, source.as_slice())?;
-        assert_eq!(rt;
-            (status, out.taken()),
-            (Status::Done, text.as_slice()),
-            "{}",
-            body.escape_ascii()
-        );
+        wants_translation(rt, alloc, source.as_slice(), (Status::Refused, text))?;
     }
     Ok(())
 }
 
 #[test]
 fn bodies_are_refused(rt: HostRuntime) -> Result<(), Fail> {
-    let alloc = rt.alloc();
-    let bodies: [(&[u8], &[u8]); 14] = [
-        (b"L 5;", b"line 3: Unsupported(NotBuilt)\n"),
-        (b"SP T 1;", b"line 3: Unsupported(NotBuilt)\n"),
-        (b"a: A I 0.0;", b"line 3: Unsupported(NotBuilt)\n"),
-        (b"A I 0 .0;", b"line 3: Unsupported(NotBuilt)\n"),
-        (b"A I 2048.0;", b"line 3: Unsupported(NotBuilt)\n"),
-        (b"A I 0.8;", b"line 3: Unsupported(NotBuilt)\n"),
-        (b"FOO 5;", b"line 3: BadStatement\n"),
-        (b"TITLE\n= Q 4.0;", b"line 3: BadStatement\n"),
-        (b"A I 0.0", b"line 3: BadStatement\n"),
-        (b"A I 0.0;\n\n\xF6", b"line 5: BadToken\n"),
-        (b"A 'x", b"line 3: BadToken\n"),
-        (b"{ open", b"line 3: BadToken\n"),
-        // All tokens are read before the first statement.
-        (b"FOO 5;\n\"open", b"line 4: BadToken\n"),
-        (b"END_ORGANIZATION_BLOCK\n;", b"line 4: BadStatement\n"),
-    ];
-    for (body, text) in bodies {
-        let source = with_body(alloc, body)?;
-        let (status, out) = translated(alloc, source.as_slice())?;
-        assert_eq!(rt;
-            (status, out.taken()),
-            (Status::Refused, text),
-            "{}",
-            body.escape_ascii()
-        );
+    Ok(want_bodies_refused(&rt, rt.alloc(), &REFUSED_BODIES)?)
+}
+
+/// The same of whole sources.
+static REFUSED_SOURCES: [(&[u8], &[u8]); 6] = [
+    (b"", b"line 1: NoBlocks\n"),
+    (b"ORGANIZATION_BLOCK OB", b"line 1: BadStatement\n"),
+    (
+        b"ORGANIZATION_BLOCK OB 1\nBEGIN\n",
+        b"line 3: BadStatement\n",
+    ),
+    (
+        b"ORGANIZATION_BLOCK OB 0\nBEGIN\nEND_ORGANIZATION_BLOCK\n",
+        b"line 1: Unsupported(NotBuilt)\n",
+    ),
+    (
+        b"FUNCTION FC 1 : VOID\nBEGIN\nEND_FUNCTION\n",
+        b"line 1: Unsupported(NotBuilt)\n",
+    ),
+    (
+        b"ORGANIZATION_BLOCK OB 1\nBEGIN\nEND_ORGANIZATION_BLOCK\nORGANIZATION_BLOCK OB 2\nBEGIN\nEND_ORGANIZATION_BLOCK\n",
+        b"line 4: Unsupported(NotBuilt)\n",
+    ),
+];
+
+fn want_refused(rt: &impl Abort, alloc: Global, rows: &[(&[u8], &[u8])]) -> Result<(), NoMemory> {
+    for (source, text) in rows {
+        wants_translation(rt, alloc, source, (Status::Refused, text))?;
     }
     Ok(())
 }
 
 #[test]
 fn sources_are_refused(rt: HostRuntime) -> Result<(), Fail> {
-    let alloc = rt.alloc();
-    let sources: [(&[u8], &[u8]); 6] = [
-        (b"", b"line 1: NoBlocks\n"),
-        (b"ORGANIZATION_BLOCK OB", b"line 1: BadStatement\n"),
-        (
-            b"ORGANIZATION_BLOCK OB 1\nBEGIN\n",
-            b"line 3: BadStatement\n",
-        ),
-        (
-            b"ORGANIZATION_BLOCK OB 0\nBEGIN\nEND_ORGANIZATION_BLOCK\n",
-            b"line 1: Unsupported(NotBuilt)\n",
-        ),
-        (
-            b"FUNCTION FC 1 : VOID\nBEGIN\nEND_FUNCTION\n",
-            b"line 1: Unsupported(NotBuilt)\n",
-        ),
-        (
-            b"ORGANIZATION_BLOCK OB 1\nBEGIN\nEND_ORGANIZATION_BLOCK\nORGANIZATION_BLOCK OB 2\nBEGIN\nEND_ORGANIZATION_BLOCK\n",
-            b"line 4: Unsupported(NotBuilt)\n",
-        ),
-    ];
-    for (source, text) in sources {
-        let (status, out) = translated(alloc, source)?;
-        assert_eq!(rt;
-            (status, out.taken()),
-            (Status::Refused, text),
-            "{}",
-            source.escape_ascii()
-        );
-    }
-    Ok(())
+    Ok(want_refused(&rt, rt.alloc(), &REFUSED_SOURCES)?)
 }
 
 /// The command that runs five steps of a block.
@@ -283,57 +359,88 @@ fn calls_are_read(rt: HostRuntime) -> Result<(), Fail> {
         ),
     ];
     for (call, block, instance, actuals) in calls {
-        let line = format!(in alloc; "run-stl 05 {call} image")?;
-        let words = words_of(alloc, line.as_str())?;
         let want = run_of(alloc, block, instance, actuals)?;
-        assert_eq!(rt; read_words(alloc, words.as_slice()), Ok(want), "{call}");
-        assert_eq!(rt; image_name(words.as_slice()), Some("image"), "{call}");
+        wants(&rt, call, is_read_as(alloc, call, &want)?);
+        wants(&rt, call, has_its_image(alloc, call)?);
+    }
+    Ok(())
+}
+
+/// The words that run five steps of a call.
+fn run_words(alloc: Global, call: &str) -> Result<Vec<String>, NoMemory> {
+    let line = format!(in alloc; "run-stl 05 {call} image")?;
+    words_of(alloc, line.as_str())
+}
+
+/// The words of a call are read as a command.
+fn is_read_as(alloc: Global, call: &str, want: &Command) -> Result<bool, NoMemory> {
+    let words = run_words(alloc, call)?;
+    Ok(read_words(alloc, words.as_slice()).is_ok_and(|found| found == *want))
+}
+
+/// The words of a call name the image.
+fn has_its_image(alloc: Global, call: &str) -> Result<bool, NoMemory> {
+    let words = run_words(alloc, call)?;
+    Ok(image_name(words.as_slice()).is_some_and(|name| name == "image"))
+}
+
+/// Lines, and whether their words are a command.
+static LINES: [(&str, bool); 31] = [
+    ("translate", true),
+    ("check", true),
+    ("run-stl 0 OB1 x", true),
+    ("run-stl 18446744073709551615 OB1 x", true),
+    ("run-stl 18446744073709551616 OB1 x", false),
+    ("run-stl 000000000000000000001 OB1 x", false),
+    ("run-stl - OB1 x", false),
+    ("run-stl +1 OB1 x", false),
+    ("run-stl 5 OB1 -", false),
+    ("run-stl 5 OB1", false),
+    ("run-stl 5 OB1 x y", false),
+    ("RUN-STL 5 OB1 x", false),
+    ("run-st 5 OB1 x", true),
+    ("run-st 18446744073709551615 FC10(MW4,M0.0) x", true),
+    ("run-st 18446744073709551616 OB1 x", false),
+    ("run-st 5 OB1", false),
+    ("RUN-ST 5 OB1 x", false),
+    ("run-stl 5 FC10() x", false),
+    ("run-stl 5 FC10(M0.8) x", false),
+    ("run-stl 5 FC10(M0.00) x", false),
+    ("run-stl 5 FC10(IX0.0) x", false),
+    ("run-stl 5 FC1(MB65535) x", true),
+    ("run-stl 5 FC1(MB70000) x", false),
+    ("run-stl 5 FC1(M0.0,) x", false),
+    ("run-stl 5 OB65536 x", false),
+    ("run-stl 5 OB000001 x", false),
+    ("run-stl 5 FB1 x", false),
+    ("run-stl 5 OBä x", false),
+    ("Check", false),
+    ("translate x", false),
+    ("", false),
+];
+
+fn want_commands(rt: &impl Abort, alloc: Global, rows: &[(&str, bool)]) -> Result<(), NoMemory> {
+    for (line, is_command) in rows {
+        let refused = read_refused(alloc, line)?;
+        wants(rt, line, refused.is_none() == *is_command);
+        wants(
+            rt,
+            line,
+            (refused == Some(WordsRefusal::Usage)) != *is_command,
+        );
     }
     Ok(())
 }
 
 #[test]
 fn lines_are_commands(rt: HostRuntime) -> Result<(), Fail> {
-    let alloc = rt.alloc();
-    for (line, is_command) in [
-        ("translate", true),
-        ("check", true),
-        ("run-stl 0 OB1 x", true),
-        ("run-stl 18446744073709551615 OB1 x", true),
-        ("run-stl 18446744073709551616 OB1 x", false),
-        ("run-stl 000000000000000000001 OB1 x", false),
-        ("run-stl - OB1 x", false),
-        ("run-stl +1 OB1 x", false),
-        ("run-stl 5 OB1 -", false),
-        ("run-stl 5 OB1", false),
-        ("run-stl 5 OB1 x y", false),
-        ("RUN-STL 5 OB1 x", false),
-        ("run-st 5 OB1 x", true),
-        ("run-st 18446744073709551615 FC10(MW4,M0.0) x", true),
-        ("run-st 18446744073709551616 OB1 x", false),
-        ("run-st 5 OB1", false),
-        ("RUN-ST 5 OB1 x", false),
-        ("run-stl 5 FC10() x", false),
-        ("run-stl 5 FC10(M0.8) x", false),
-        ("run-stl 5 FC10(M0.00) x", false),
-        ("run-stl 5 FC10(IX0.0) x", false),
-        ("run-stl 5 FC1(MB65535) x", true),
-        ("run-stl 5 FC1(MB70000) x", false),
-        ("run-stl 5 FC1(M0.0,) x", false),
-        ("run-stl 5 OB65536 x", false),
-        ("run-stl 5 OB000001 x", false),
-        ("run-stl 5 FB1 x", false),
-        ("run-stl 5 OBä x", false),
-        ("Check", false),
-        ("translate x", false),
-        ("", false),
-    ] {
-        let words = words_of(alloc, line)?;
-        let answer = read_words(alloc, words.as_slice());
-        assert_eq!(rt; answer.is_ok(), is_command, "{line}");
-        assert_eq!(rt; answer == Err(WordsRefusal::Usage), !is_command, "{line}");
-    }
-    Ok(())
+    Ok(want_commands(&rt, rt.alloc(), &LINES)?)
+}
+
+/// Why the words of a line are no command, if they are none.
+fn read_refused(alloc: Global, line: &str) -> Result<Option<WordsRefusal>, NoMemory> {
+    let words = words_of(alloc, line)?;
+    Ok(read_words(alloc, words.as_slice()).err())
 }
 
 #[test]
@@ -347,15 +454,9 @@ fn words_that_are_no_command_get_the_usage_line(rt: HostRuntime) -> Result<(), F
         "demo 3",
     ] {
         // A read of either source would fail.
-        let mut program = MemSource::new(alloc, ROW, 20, &[1])?;
-        let mut image = NoFile::new();
-        let mut out = MemSink::new(alloc, 1000, 7, &[])?;
-        let status = call(alloc, line, &mut program, &mut image, &mut out)?;
-        assert_eq!(rt;
-            (status, out.taken()),
-            (Status::Usage, USAGE_LINE),
-            "{line}"
-        );
+        let (status, out) = without_image(alloc, line, ROW, &[1])?;
+        let wanted = (Status::Usage, USAGE_LINE);
+        wants_answer(&rt, line.as_bytes(), (status, out.taken()), wanted);
     }
     Ok(())
 }
@@ -372,8 +473,17 @@ I 0: 03 00 00 00 00 00 00 00 00 00 00 00 00 00 00 00
 Q 0: 00 00 00 00 01 00 00 00 00 00 00 00 00 00 00 00
 ";
 
-/// The words, the body and the image of runs; then the answer.
-const RUNS: [(&str, &[u8], &[u8], Status, &[u8]); 22] = [
+/// The words, the text and the image of a run; then the answer.
+pub type Run = (
+    &'static str,
+    &'static [u8],
+    &'static [u8],
+    Status,
+    &'static [u8],
+);
+
+/// Runs of bodies.
+static RUNS: [Run; 22] = [
     ("run-stl 1 OB1 img", b"", b"", Status::Done, b"# ENDED\n"),
     ("run-stl 0 OB1 img", b"", b"", Status::Going, b"# GOING\n"),
     (
@@ -501,71 +611,94 @@ const RUNS: [(&str, &[u8], &[u8], Status, &[u8]); 22] = [
     ),
 ];
 
+fn want_body_runs(rt: &impl Abort, alloc: Global, rows: &[Run]) -> Result<(), NoMemory> {
+    for (line, body, image, answer, text) in rows {
+        let source = with_body(alloc, body)?;
+        wants_run(rt, alloc, (line, source.as_slice(), image), (*answer, text))?;
+    }
+    Ok(())
+}
+
 #[test]
 fn bodies_are_run(rt: HostRuntime) -> Result<(), Fail> {
-    let alloc = rt.alloc();
-    for (line, body, image, answer, text) in RUNS {
-        let source = with_body(alloc, body)?;
-        let (status, out) = answered(alloc, line, source.as_slice(), image)?;
-        assert_eq!(rt;
-            (status, out.taken()),
-            (answer, text),
-            "{line}: {}: {}",
-            body.escape_ascii(),
-            image.escape_ascii()
-        );
+    Ok(want_body_runs(&rt, rt.alloc(), &RUNS)?)
+}
+
+/// The words of a line are answered so for a source and an image, where nothing fails.
+pub fn wants_run(
+    rt: &impl Abort,
+    alloc: Global,
+    row: (&str, &[u8], &[u8]),
+    wanted: Answer<'_>,
+) -> Result<(), NoMemory> {
+    let (line, source, image) = row;
+    let (status, out) = answered(alloc, line, source, image)?;
+    wants_answer(rt, source, (status, out.taken()), wanted);
+    Ok(())
+}
+
+/// The words, the calls that fail, and the answer with how much of the text is taken.
+type Faulty = (&'static str, Faults, Answer<'static>);
+
+static FAULTS: [Faulty; 13] = [
+    ("translate", (0, 1, 0, 1000), (Status::Done, ROW_TEXT)),
+    ("translate", (3, 1, 0, 1000), (Status::ReadFault, b"")),
+    (
+        "translate",
+        (0, 1, 0, 10),
+        (Status::WriteFault, b"PROGRAM OB"),
+    ),
+    (
+        "translate",
+        (0, 1, 2, 1000),
+        (Status::WriteFault, b"PROGRAM"),
+    ),
+    ("check", (0, 1, 0, 1000), (Status::Done, b"accepted\n")),
+    ("check", (3, 1, 0, 1000), (Status::ReadFault, b"")),
+    ("check", (0, 1, 1, 1000), (Status::WriteFault, b"")),
+    (
+        "run-stl 9 OB1 img",
+        (0, 0, 0, 1000),
+        (Status::Done, BOTH_SET),
+    ),
+    (
+        "run-stl 9 OB1 img",
+        (1, 0, 0, 1000),
+        (Status::ReadFault, b""),
+    ),
+    (
+        "run-stl 9 OB1 img",
+        (0, 1, 0, 1000),
+        (Status::ReadFault, b""),
+    ),
+    (
+        "run-stl 9 OB1 img",
+        (0, 3, 0, 1000),
+        (Status::ReadFault, b""),
+    ),
+    (
+        "run-stl 9 OB1 img",
+        (0, 0, 2, 1000),
+        (Status::WriteFault, b"# ENDED"),
+    ),
+    (
+        "run-stl 9 OB1 img",
+        (0, 0, 0, 9),
+        (Status::WriteFault, b"# ENDED\nI"),
+    ),
+];
+
+fn want_faults(rt: &impl Abort, alloc: Global, rows: &[Faulty]) -> Result<(), NoMemory> {
+    for (line, faults, wanted) in rows {
+        let (status, out) = faulted(alloc, line, ROW, b"I 0: 03\n", *faults)?;
+        wants_answer(rt, line.as_bytes(), (status, out.taken()), *wanted);
     }
     Ok(())
 }
 
 #[test]
 fn faults_are_answered(rt: HostRuntime) -> Result<(), Fail> {
-    let alloc = rt.alloc();
-    // The words; the reads of the source and of the image and the write that fail, and the room; then
-    // the answer, and how much of the text is taken.
-    let faults: [(&str, u32, u32, u32, usize, Status, &[u8]); 13] = [
-        ("translate", 0, 1, 0, 1000, Status::Done, ROW_TEXT),
-        ("translate", 3, 1, 0, 1000, Status::ReadFault, b""),
-        ("translate", 0, 1, 0, 10, Status::WriteFault, b"PROGRAM OB"),
-        ("translate", 0, 1, 2, 1000, Status::WriteFault, b"PROGRAM"),
-        ("check", 0, 1, 0, 1000, Status::Done, b"accepted\n"),
-        ("check", 3, 1, 0, 1000, Status::ReadFault, b""),
-        ("check", 0, 1, 1, 1000, Status::WriteFault, b""),
-        ("run-stl 9 OB1 img", 0, 0, 0, 1000, Status::Done, BOTH_SET),
-        ("run-stl 9 OB1 img", 1, 0, 0, 1000, Status::ReadFault, b""),
-        ("run-stl 9 OB1 img", 0, 1, 0, 1000, Status::ReadFault, b""),
-        ("run-stl 9 OB1 img", 0, 3, 0, 1000, Status::ReadFault, b""),
-        (
-            "run-stl 9 OB1 img",
-            0,
-            0,
-            2,
-            1000,
-            Status::WriteFault,
-            b"# ENDED",
-        ),
-        (
-            "run-stl 9 OB1 img",
-            0,
-            0,
-            0,
-            9,
-            Status::WriteFault,
-            b"# ENDED\nI",
-        ),
-    ];
-    for (line, read, image_read, write, room, answer, taken) in faults {
-        let mut program = MemSource::new(alloc, ROW, 20, &[read])?;
-        let mut image = MemSource::new(alloc, b"I 0: 03\n", 4, &[image_read])?;
-        let mut out = MemSink::new(alloc, room, 7, &[write])?;
-        let status = call(alloc, line, &mut program, &mut image, &mut out)?;
-        assert_eq!(rt;
-            (status, out.taken()),
-            (answer, taken),
-            "{line}, read {read} and {image_read}, write {write}, room {room}"
-        );
-    }
-    Ok(())
+    Ok(want_faults(&rt, rt.alloc(), &FAULTS)?)
 }
 
 #[test]
@@ -589,11 +722,8 @@ fn a_missing_file_is_a_read_fault(rt: HostRuntime) -> Result<(), Fail> {
         ),
     ];
     for (line, source, answer, taken) in missing {
-        let mut program = SureSource::new(alloc, source, 20)?;
-        let mut image = NoFile::new();
-        let mut out = MemSink::new(alloc, 1000, 7, &[])?;
-        let status = call(alloc, line, &mut program, &mut image, &mut out)?;
-        assert_eq!(rt; (status, out.taken()), (answer, taken), "{line}");
+        let (status, out) = in_pieces(alloc, line, source, 20, 7)?;
+        wants_answer(&rt, line.as_bytes(), (status, out.taken()), (answer, taken));
     }
     Ok(())
 }
@@ -611,15 +741,8 @@ fn sources_at_the_limit_are_taken(rt: HostRuntime) -> Result<(), Fail> {
         ("translate", INPUT_LIMIT + 1, Status::TooLong, b"too long\n"),
     ] {
         source.resize(size, b'\n')?;
-        let mut program = SureSource::new(alloc, source.as_slice(), 4096)?;
-        let mut image = NoFile::new();
-        let mut out = MemSink::new(alloc, 1000, 1000, &[])?;
-        let status = call(alloc, line, &mut program, &mut image, &mut out)?;
-        assert_eq!(rt;
-            (status, out.taken()),
-            (answer, text),
-            "{line}: {size} bytes"
-        );
+        let (status, out) = in_pieces(alloc, line, source.as_slice(), 4096, 1000)?;
+        wants_answer(&rt, line.as_bytes(), (status, out.taken()), (answer, text));
     }
     Ok(())
 }

@@ -1,6 +1,9 @@
 //! What `run-st` answers, by each status, and that translations run as their sources do.
 use crate::status::Status;
-use crate::tests::answered;
+use crate::tests::{Run, answered, wants_answer, wants_run, with_body};
+use s7_base::NoMemory;
+use std::alloc::Global;
+use std::process::Abort;
 use std::test::Fail;
 
 const WAITS: &[u8] = b"PROGRAM OB1\nWHILE %IX0.0 DO END_WHILE;\nEND_PROGRAM\n";
@@ -33,8 +36,8 @@ PROGRAM OB1
 END_PROGRAM
 ";
 
-/// The words, the text and the image; then the answer.
-const RUNS: [(&str, &[u8], &[u8], Status, &[u8]); 15] = [
+/// Runs of texts.
+static RUNS: [Run; 15] = [
     (
         "run-st 0 OB1 img",
         b"PROGRAM OB1\nEND_PROGRAM",
@@ -133,24 +136,20 @@ DB5 0: 00 41 02 02
     ),
 ];
 
-#[test]
-fn texts_are_run(rt: HostRuntime) -> Result<(), Fail> {
-    let alloc = rt.alloc();
-    for (line, text, image, answer, report) in RUNS {
-        let (status, out) = answered(alloc, line, text, image)?;
-        assert_eq!(rt;
-            (status, out.taken()),
-            (answer, report),
-            "{line}: {}: {}",
-            text.escape_ascii(),
-            image.escape_ascii()
-        );
+fn want_runs(rt: &impl Abort, alloc: Global, rows: &[Run]) -> Result<(), NoMemory> {
+    for (line, text, image, answer, report) in rows {
+        wants_run(rt, alloc, (line, text, image), (*answer, report))?;
     }
     Ok(())
 }
 
+#[test]
+fn texts_are_run(rt: HostRuntime) -> Result<(), Fail> {
+    Ok(want_runs(&rt, rt.alloc(), &RUNS)?)
+}
+
 /// Bodies whose translation runs as they do, from an image.
-const TRANSLATED: [(&[u8], &[u8]); 4] = [
+static TRANSLATED: [(&[u8], &[u8]); 4] = [
     (b"AN I 0.0; = Q 4.0;", b""),
     (b"AN I 0.0; = Q 4.0;", b"I 0: 01\n"),
     (b"A I 0.0; A I 0.1; = Q 4.0;", b"I 0: 03\n"),
@@ -160,23 +159,39 @@ const TRANSLATED: [(&[u8], &[u8]); 4] = [
     ),
 ];
 
-#[test]
-fn translations_run_as_their_sources_do(rt: HostRuntime) -> Result<(), Fail> {
-    let alloc = rt.alloc();
-    for (body, image) in TRANSLATED {
-        let mut source = Vec::from_slice(alloc, b"ORGANIZATION_BLOCK OB 1\nBEGIN\n")?;
-        source.extend_from_slice(body)?;
-        source.extend_from_slice(b"\nEND_ORGANIZATION_BLOCK\n")?;
-        let (before, ran) = answered(alloc, "run-stl 99 OB1 img", source.as_slice(), image)?;
-        let (_, text) = answered(alloc, "translate", source.as_slice(), b"")?;
-        let (behind, reran) = answered(alloc, "run-st 99 OB1 img", text.taken(), image)?;
-        assert_eq!(rt; before, Status::Done, "{}", body.escape_ascii());
-        assert_eq!(rt;
-            (behind, reran.taken()),
-            (before, ran.taken()),
-            "{}",
-            body.escape_ascii()
-        );
+/// A source runs to its end, and its translation as it does.
+fn wants_same(rt: &impl Abort, alloc: Global, source: &[u8], image: &[u8]) -> Result<(), NoMemory> {
+    let (before, ran) = answered(alloc, "run-stl 99 OB1 img", source, image)?;
+    wants_answer(rt, source, (before, b""), (Status::Done, b""));
+    wants_rerun(rt, alloc, source, image, (before, ran.taken()))
+}
+
+fn want_same(rt: &impl Abort, alloc: Global, rows: &[(&[u8], &[u8])]) -> Result<(), NoMemory> {
+    for (body, image) in rows {
+        let source = with_body(alloc, body)?;
+        wants_same(rt, alloc, source.as_slice(), image)?;
     }
     Ok(())
+}
+
+#[test]
+fn translations_run_as_their_sources_do(rt: HostRuntime) -> Result<(), Fail> {
+    Ok(want_same(&rt, rt.alloc(), &TRANSLATED)?)
+}
+
+/// The translation of a source is run with this answer.
+fn wants_rerun(
+    rt: &impl Abort,
+    alloc: Global,
+    source: &[u8],
+    image: &[u8],
+    wanted: (Status, &[u8]),
+) -> Result<(), NoMemory> {
+    let (_, text) = answered(alloc, "translate", source, b"")?;
+    wants_run(
+        rt,
+        alloc,
+        ("run-st 99 OB1 img", text.taken(), image),
+        wanted,
+    )
 }

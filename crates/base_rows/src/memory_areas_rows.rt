@@ -1,0 +1,375 @@
+//! What no clause says: that the definitions give the faults, the bits and the order of bytes that the
+//! controller has, and that a call answers while there is memory.
+ghost use Rattle.std.specs.Prelude.{◌≡◌, true, IfOk};
+ghost use Rattle.memory_areas.specs.Memory.{IsActivation};
+
+use crate::wants::{wants, wants_text};
+use memory_areas::{Area, DataBlock, Memory, Place, are_blocks};
+use s7_base::{Fault, List, NoMemory, Width};
+use std::alloc::Global;
+use std::test::Fail;
+
+/// The areas of `memory_of`, and how many bytes each has.
+const AREAS: [(Area, u32); 9] = [
+    (Area::I, 2048),
+    (Area::Q, 2048),
+    (Area::M, 8192),
+    (Area::Local(0), 256),
+    (Area::Local(7), 256),
+    (Area::Cell(0), 256),
+    (Area::Cell(7), 256),
+    (Area::Db(3), 4),
+    (Area::Db(7), 6),
+];
+
+/// The widths, and how many bytes each reaches.
+const WIDTHS: [(Width, u32); 4] = [
+    (Width::Bit, 1),
+    (Width::Byte, 1),
+    (Width::Word, 2),
+    (Width::Dword, 4),
+];
+
+/// A data block of these bytes.
+fn block_of(alloc: Global, number: u16, bytes: &[u8]) -> Result<DataBlock, NoMemory>
+    ensures { IfOk result (λ block. block ≡ record { number = number; bytes = bytes.now }) }
+{
+    let bytes = List::from_vec(Vec::from_slice(alloc, bytes)?);
+    Ok(DataBlock { number, bytes })
+}
+
+/// A memory with data block 3 of four bytes and data block 7 of six.
+fn memory_of(alloc: Global) -> Result<Memory, NoMemory> {
+    let three = block_of(alloc, 3, &[0; 4])?;
+    let seven = block_of(alloc, 7, &[0; 6])?;
+    Memory::new(alloc, &[three, seven])
+}
+
+/// The area names no activation but the eight.
+fn is_activation(area: Area) -> bool
+    ensures { result ≡ true → IsActivation area }
+{
+    match area {
+        Area::Local(activation) | Area::Cell(activation) => activation < 8,
+        Area::I | Area::Q | Area::M | Area::Db(_) => true,
+    }
+}
+
+/// What an access meets. `AreaCode`, which no place meets, stands for an activation that is none.
+fn find(memory: &Memory, area: Area, byte: u32, bit: u8, width: Width) -> Result<(), Fault> {
+    if is_activation(area) {
+        memory.find(Place { area, byte, bit }, width)
+    } else {
+        Err(Fault::AreaCode)
+    }
+}
+
+/// Writes the lowest bits of a value.
+fn write(memory: &mut Memory, place: Place, width: Width, value: u32) -> Result<(), Fault> {
+    if !is_activation(place.area) {
+        return Err(Fault::AreaCode);
+    }
+    match width {
+        Width::Bit => memory.write_bit(place, value % 2 == 1),
+        Width::Byte => memory.write_byte(place, (value & 0xff) as u8),
+        Width::Word => memory.write_word(place, (value & 0xffff) as u16),
+        Width::Dword => memory.write_dword(place, value),
+    }
+}
+
+/// Reads a value.
+fn read(memory: &Memory, place: Place, width: Width) -> Result<u32, Fault> {
+    if !is_activation(place.area) {
+        return Err(Fault::AreaCode);
+    }
+    match width {
+        Width::Bit => Ok(u32::from(memory.read_bit(place)?)),
+        Width::Byte => Ok(u32::from(memory.read_byte(place)?)),
+        Width::Word => Ok(u32::from(memory.read_word(place)?)),
+        Width::Dword => memory.read_dword(place),
+    }
+}
+
+/// The bytes of an area.
+fn bytes_of(memory: &Memory, area: Area) -> Option<&[u8]> {
+    if is_activation(area) {
+        memory.bytes(area)
+    } else {
+        None
+    }
+}
+
+/// How many bytes are not zero.
+fn count_in(bytes: &[u8]) -> usize {
+    let mut count = 0_usize;
+    for byte in bytes {
+        count = count.saturating_add(usize::from(*byte != 0));
+    }
+    count
+}
+
+/// How many bytes of all these areas are not zero.
+fn count_set(memory: &Memory) -> usize {
+    let mut count = 0_usize;
+    for (area, _) in AREAS {
+        count = count.saturating_add(count_in(bytes_of(memory, area).unwrap_or(&[])));
+    }
+    count
+}
+
+/// A memory in which each area begins with the bytes 1, 3, 5 and 7.
+fn filled(alloc: Global) -> Result<Memory, NoMemory> {
+    let mut memory = memory_of(alloc)?;
+    for (area, _) in AREAS {
+        let place = Place {
+            area,
+            byte: 0,
+            bit: 0,
+        };
+        let _ = write(&mut memory, place, Width::Dword, 0x0103_0507);
+    }
+    Ok(memory)
+}
+
+#[test]
+fn last_bytes_are_reached_and_none_behind(rt: HostRuntime) -> Result<(), Fail> {
+    let memory = memory_of(rt.alloc())?;
+    for (area, size) in AREAS {
+        for (width, reach) in WIDTHS {
+            let last = size.saturating_sub(reach);
+            for (byte, answer) in [
+                (0, Ok(())),
+                (last, Ok(())),
+                (last.saturating_add(1), Err(Fault::AreaLength)),
+                (0xffff_ffff, Err(Fault::AreaLength)),
+            ] {
+                let found = find(&memory, area, byte, 0, width);
+                wants(&rt, &(area, byte, width), &found, &answer);
+            }
+        }
+    }
+    Ok(())
+}
+
+/// Accesses, and the first fault of each.
+const ACCESSES: [(Area, u32, u8, Width, Result<(), Fault>); 13] = [
+    (Area::Db(0), 9, 9, Width::Bit, Err(Fault::DbNotOpen)),
+    (Area::Db(0), 0, 0, Width::Byte, Err(Fault::DbNotOpen)),
+    (Area::Db(4), 9, 9, Width::Bit, Err(Fault::DbMissing)),
+    (Area::Db(65535), 0, 1, Width::Word, Err(Fault::DbMissing)),
+    (Area::Db(3), 9, 8, Width::Bit, Err(Fault::Alignment)),
+    (Area::Db(3), 3, 7, Width::Bit, Ok(())),
+    (Area::I, 2048, 1, Width::Byte, Err(Fault::Alignment)),
+    (Area::Q, 2048, 1, Width::Word, Err(Fault::Alignment)),
+    (Area::M, 8192, 1, Width::Dword, Err(Fault::Alignment)),
+    (Area::M, 2048, 7, Width::Bit, Ok(())),
+    (Area::M, 0, 8, Width::Bit, Err(Fault::Alignment)),
+    (Area::Local(3), 256, 0, Width::Bit, Err(Fault::AreaLength)),
+    (Area::Cell(3), 0, 255, Width::Bit, Err(Fault::Alignment)),
+];
+
+#[test]
+fn the_first_fault_is_named(rt: HostRuntime) -> Result<(), Fail> {
+    let memory = memory_of(rt.alloc())?;
+    for (area, byte, bit, width, answer) in ACCESSES {
+        let found = find(&memory, area, byte, bit, width);
+        wants(&rt, &(area, byte, bit, width), &found, &answer);
+    }
+    Ok(())
+}
+
+#[test]
+fn writes_are_read_back_highest_byte_first(rt: HostRuntime) -> Result<(), Fail> {
+    let alloc = rt.alloc();
+    // What is written from byte 1 on, the first four bytes then, and what is read at byte 0.
+    let writes: [(Width, u8, u32, &[u8], u32); 8] = [
+        (Width::Bit, 0, 0, &[1, 2, 5, 7], 0x0102_0507),
+        (Width::Bit, 1, 0, &[1, 1, 5, 7], 0x0101_0507),
+        (Width::Bit, 1, 1, &[1, 3, 5, 7], 0x0103_0507),
+        (Width::Bit, 7, 1, &[1, 131, 5, 7], 0x0183_0507),
+        (Width::Byte, 0, 255, &[1, 255, 5, 7], 0x01ff_0507),
+        (Width::Word, 0, 0x1234, &[1, 0x12, 0x34, 7], 0x0112_3407),
+        (Width::Word, 0, 0xff80, &[1, 255, 128, 7], 0x01ff_8007),
+        (Width::Word, 0, 0x0105, &[1, 1, 5, 7], 0x0101_0507),
+    ];
+    for (area, size) in AREAS {
+        for (width, bit, value, first, whole) in writes {
+            let mut memory = filled(alloc)?;
+            let place = Place { area, byte: 1, bit };
+            let written = write(&mut memory, place, width, value);
+            wants(&rt, &place, &written, &Ok(()));
+            wants(&rt, &place, &read(&memory, place, width), &Ok(value));
+            let all = Place {
+                area,
+                byte: 0,
+                bit: 0,
+            };
+            wants(&rt, &place, &read(&memory, all, Width::Dword), &Ok(whole));
+            let bytes = bytes_of(&memory, area).unwrap_or(&[]);
+            wants(&rt, &place, &bytes.len(), &(size as usize));
+            wants(&rt, &place, &bytes.starts_with(first), &true);
+            // Four bytes in each area, as before.
+            wants(&rt, &place, &count_set(&memory), &36);
+        }
+    }
+    Ok(())
+}
+
+#[test]
+fn a_refused_write_changes_nothing(rt: HostRuntime) -> Result<(), Fail> {
+    let mut memory = memory_of(rt.alloc())?;
+    for (area, byte, bit, width, fault) in [
+        (Area::Db(0), 0, 0, Width::Bit, Fault::DbNotOpen),
+        (Area::Db(4), 0, 0, Width::Byte, Fault::DbMissing),
+        (Area::I, 0, 8, Width::Bit, Fault::Alignment),
+        (Area::Q, 0, 1, Width::Byte, Fault::Alignment),
+        (Area::M, 8191, 0, Width::Word, Fault::AreaLength),
+        (Area::Db(3), 1, 0, Width::Dword, Fault::AreaLength),
+        (Area::Local(0), 253, 0, Width::Dword, Fault::AreaLength),
+        (Area::Cell(7), 256, 0, Width::Bit, Fault::AreaLength),
+    ] {
+        let place = Place { area, byte, bit };
+        let written = write(&mut memory, place, width, 0xffff_ffff);
+        wants(&rt, &place, &written, &Err(fault));
+        wants(&rt, &place, &read(&memory, place, width), &Err(fault));
+        wants(&rt, &place, &count_set(&memory), &0);
+    }
+    Ok(())
+}
+
+#[test]
+fn a_new_memory_has_zeros_and_its_blocks(rt: HostRuntime) -> Result<(), Fail> {
+    let memory = memory_of(rt.alloc())?;
+    let numbers: &[u16] = &[3, 7];
+    wants(&rt, &"numbers", &memory.numbers(), &numbers);
+    for (number, there) in [
+        (0, false),
+        (1, false),
+        (3, true),
+        (5, false),
+        (7, true),
+        (8, false),
+    ] {
+        wants(&rt, &number, &memory.has_block(number), &there);
+        wants(
+            &rt,
+            &number,
+            &memory.bytes(Area::Db(number)).is_some(),
+            &there,
+        );
+    }
+    for (area, size) in AREAS {
+        let length = bytes_of(&memory, area).map(|bytes| bytes.len());
+        wants(&rt, &area, &length, &Some(size as usize));
+    }
+    wants(&rt, &"zeros", &count_set(&memory), &0);
+    Ok(())
+}
+
+#[test]
+fn a_copy_has_the_same_bytes_and_goes_its_own_way(rt: HostRuntime) -> Result<(), Fail> {
+    let alloc = rt.alloc();
+    let memory = filled(alloc)?;
+    let mut copy = memory.copy(alloc)?;
+    for (area, _) in AREAS {
+        wants(&rt, &area, &bytes_of(&copy, area), &bytes_of(&memory, area));
+        let place = Place {
+            area,
+            byte: 0,
+            bit: 0,
+        };
+        let written = write(&mut copy, place, Width::Byte, 9);
+        wants(&rt, &area, &written, &Ok(()));
+        wants(&rt, &area, &read(&copy, place, Width::Word), &Ok(0x0903));
+        wants(&rt, &area, &read(&memory, place, Width::Word), &Ok(0x0103));
+    }
+    Ok(())
+}
+
+#[test]
+fn clear_makes_one_activation_zero(rt: HostRuntime) -> Result<(), Fail> {
+    let mut memory = filled(rt.alloc())?;
+    memory.clear(7);
+    for (area, _) in AREAS {
+        let place = Place {
+            area,
+            byte: 0,
+            bit: 0,
+        };
+        let value = match area {
+            Area::Local(7) | Area::Cell(7) => 0,
+            _ => 0x0103_0507,
+        };
+        wants(&rt, &area, &read(&memory, place, Width::Dword), &Ok(value));
+    }
+    Ok(())
+}
+
+#[test]
+fn a_data_block_is_copied(rt: HostRuntime) -> Result<(), Fail> {
+    let alloc = rt.alloc();
+    let bytes = Vec::from_slice(alloc, &[0, 5, 255, 128])?;
+    let block = DataBlock {
+        number: 7,
+        bytes: List::from_vec(bytes),
+    };
+    let copy = block.copy(alloc)?;
+    wants(&rt, &"a copy", &copy.number, &7);
+    wants_text(&rt, b"a copy", copy.bytes.as_slice(), &[0, 5, 255, 128]);
+    Ok(())
+}
+
+/// A data block of zeros.
+fn zeros(alloc: Global, number: u16, count: usize) -> Result<DataBlock, NoMemory> {
+    let bytes = vec![in alloc; 0; count]?;
+    Ok(DataBlock {
+        number,
+        bytes: List::from_vec(bytes),
+    })
+}
+
+/// Data blocks of zeros, by their numbers and sizes.
+fn blocks_of(alloc: Global, parts: &[(u16, usize)]) -> Result<Vec<DataBlock>, NoMemory> {
+    let mut blocks = Vec::new(alloc);
+    for (number, count) in parts {
+        blocks.push(zeros(alloc, *number, *count)?)?;
+    }
+    Ok(blocks)
+}
+
+#[test]
+fn blocks_ascend_and_have_their_sizes(rt: HostRuntime) -> Result<(), Fail> {
+    let alloc = rt.alloc();
+    let lists: [(&[(u16, usize)], bool); 12] = [
+        (&[], true),
+        (&[(1, 2)], true),
+        (&[(0, 2)], false),
+        (&[(1, 1)], false),
+        (&[(65535, 16384)], true),
+        (&[(65535, 16385)], false),
+        (&[(3, 4), (7, 6)], true),
+        (&[(7, 6), (3, 4)], false),
+        (&[(3, 4), (3, 4)], false),
+        (&[(3, 4), (7, 1)], false),
+        (&[(3, 4), (4, 4), (65535, 2)], true),
+        (&[(3, 4), (65535, 2), (4, 4)], false),
+    ];
+    for (parts, answer) in lists {
+        let blocks = blocks_of(alloc, parts)?;
+        wants(&rt, &parts, &are_blocks(blocks.as_slice()), &answer);
+    }
+    Ok(())
+}
+
+#[test]
+fn no_more_than_1024_blocks(rt: HostRuntime) -> Result<(), Fail> {
+    let alloc = rt.alloc();
+    let mut blocks = Vec::new(alloc);
+    for number in 1..=1024 {
+        blocks.push(zeros(alloc, number, 2)?)?;
+    }
+    wants(&rt, &1024, &are_blocks(blocks.as_slice()), &true);
+    blocks.push(zeros(alloc, 1025, 2)?)?;
+    wants(&rt, &1025, &are_blocks(blocks.as_slice()), &false);
+    Ok(())
+}

@@ -1,0 +1,38 @@
+//! What no clause says: that calls succeed while there is memory. And that the texts which the
+//! clauses promise are the ones that were asked for.
+use crate::wants::{wants, wants_text};
+use s7_base::{Boxed, Kind, List, Reason};
+use std::test::Fail;
+
+#[test]
+fn takes_memory(rt: HostRuntime) -> Result<(), Fail> {
+    let alloc = rt.alloc();
+    let mut list = List::new(alloc);
+    list.push(7u8)?;
+    list.push(9)?;
+    let mut copy = list.copy(alloc)?;
+    wants_text(&rt, b"a copy", copy.as_slice(), &[7, 9]);
+    wants(&rt, &"a copy", &copy, &list);
+
+    wants(&rt, &"the last", &copy.pop(), &Some(9));
+    wants(&rt, &"another list", &(copy == list), &false);
+
+    let boxed = Boxed::new(alloc, list)?;
+    let other = Boxed::new(alloc, copy)?;
+    wants(&rt, &"another box", &(boxed == other), &false);
+    wants_text(&rt, b"a box", boxed.get().as_slice(), &[7, 9]);
+    Ok(())
+}
+
+#[test]
+fn shows_reasons(rt: HostRuntime) -> Result<(), Fail> {
+    let shown = [
+        (Reason::BadToken, "BadToken"),
+        (Reason::Unsupported(Kind::NotBuilt), "Unsupported(NotBuilt)"),
+    ];
+    for (reason, want) in shown {
+        let text = format!(in rt.alloc(); "{reason}")?;
+        wants_text(&rt, want.as_bytes(), text.as_bytes(), want.as_bytes());
+    }
+    Ok(())
+}

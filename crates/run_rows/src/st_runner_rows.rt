@@ -1,0 +1,313 @@
+//! What no clause says: that a runner is made while there is memory, and that it runs as the rules say:
+//! the statements, operators and functions of Structured Text at their edges, each with the memory that it
+//! leaves.
+ghost use Rattle.std.specs.Prelude.{◌≡◌, [], IfOk};
+ghost use Rattle.memory_areas.specs.Areas.{IsMemoryOf};
+ghost use Rattle.st_tree.specs.Runnable.{IsRunnable};
+
+use crate::answers::{ENDED, wants_answer};
+use crate::wants::wants;
+use memory_areas::Memory;
+use s7_base::{Boxed, List, NoMemory, Outcome};
+use st_runner::Runner;
+use st_tree::{BinaryOp, Expr, Local, Pou, StProgram, StType, Stmt, Var};
+use std::alloc::Global;
+use std::process::Abort;
+use std::test::Fail;
+use stl_tree::{BlockName, Call};
+
+/// The first local, an operator and a number.
+fn of_local(alloc: Global, op: BinaryOp, number: i64) -> Result<Expr, NoMemory> {
+    let local = Boxed::new(alloc, Expr::Read(Var::Local(0)))?;
+    let number = Boxed::new(alloc, Expr::Literal(StType::Dint, number))?;
+    Ok(Expr::Binary(op, local, number))
+}
+
+fn bytes(alloc: Global, text: &str) -> Result<List<u8>, NoMemory> {
+    Ok(List::from_vec(Vec::from_slice(alloc, text.as_bytes())?))
+}
+
+/// `PROGRAM OB1` that counts its local from 0 to a number in a loop.
+fn counting(alloc: Global, turns: i64) -> Result<StProgram, NoMemory>
+    ensures runnable { IfOk result (λ tree. IsRunnable tree) }
+    ensures blocks { IfOk result (λ tree. tree.dbs ≡ []) }
+{
+    let test = of_local(alloc, BinaryOp::Lt, turns)?;
+    let mut turn = List::new(alloc);
+    turn.push(Stmt::Assign(Var::Local(0), of_local(alloc, BinaryOp::Add, 1)?))?;
+    let mut body = List::new(alloc);
+    body.push(Stmt::While(test, turn))?;
+    let mut locals = List::new(alloc);
+    let ty = StType::Dint;
+    locals.push(Local {
+        name: bytes(alloc, "count")?,
+        ty,
+    })?;
+    let mut pous = List::new(alloc);
+    pous.push(Pou {
+        program: true,
+        name: bytes(alloc, "OB1")?,
+        formals: List::new(alloc),
+        locals,
+        body,
+    })?;
+    Ok(StProgram {
+        dbs: List::new(alloc),
+        globals: List::new(alloc),
+        pous,
+    })
+}
+
+/// A new memory without data blocks.
+fn memory(alloc: Global) -> Result<Memory, NoMemory>
+    ensures { IfOk result (λ memory. IsMemoryOf [] memory.areas) }
+{
+    let memory = Memory::new(alloc, &[])?;
+    Ok(memory)
+}
+
+fn call(alloc: Global, block: BlockName) -> Call {
+    Call {
+        block,
+        instance: 0,
+        actuals: List::new(alloc),
+    }
+}
+
+#[test]
+fn each_test_of_a_loop_takes_a_unit(rt: HostRuntime) -> Result<(), Fail> {
+    let alloc = rt.alloc();
+    let tree = counting(alloc, 2)?;
+    for (units, outcome) in [
+        (0, Outcome::Going),
+        (2, Outcome::Going),
+        (3, Outcome::Ended(None)),
+        (9, Outcome::Ended(None)),
+    ] {
+        let memory = memory(alloc)?;
+        match Runner::new(alloc, &tree, memory, &call(alloc, BlockName::Ob(1))) {
+            Ok(mut runner) => {
+                wants(&rt, &units, &runner.run(units), &outcome);
+                wants(&rt, &units, &runner.run(3), &Outcome::Ended(None));
+            }
+            Err(_) => return Err(NoMemory.into()),
+        }
+    }
+    Ok(())
+}
+
+/// Statements, and the first bytes of the bit memory behind them; what follows is zero.
+static STATEMENTS: [(&str, &str); 45] = [
+    ("%MD0 := DINT_TO_DWORD(2147483647 + 1);", "80 00 00 00"),
+    (
+        "%MD0 := DINT_TO_DWORD(DINT#-2147483648 - 1);",
+        "7F FF FF FF",
+    ),
+    ("%MW0 := INT_TO_WORD(INT#-32768 * INT#-1);", "80 00 00 00"),
+    ("%MD0 := DINT_TO_DWORD(-7 / 2);", "FF FF FF FD"),
+    ("%MD0 := DINT_TO_DWORD(-7 MOD 2);", "FF FF FF FF"),
+    (
+        "%MD0 := DINT_TO_DWORD(DINT#-2147483648 / -1);",
+        "80 00 00 00",
+    ),
+    ("%MX0.0 := WORD#16#8000 > WORD#16#7FFF;", "01 00 00 00"),
+    ("%MX0.0 := INT#-1 < INT#0;", "01 00 00 00"),
+    ("%MX0.0 := FALSE < TRUE;", "01 00 00 00"),
+    ("%MX0.0 := 1 + 2 * 3 = 7;", "01 00 00 00"),
+    ("%MX0.0 := 9 - 4 - 3 = 2;", "01 00 00 00"),
+    ("%MX0.0 := TRUE OR TRUE XOR TRUE;", "01 00 00 00"),
+    ("%MX0.0 := TRUE XOR TRUE & FALSE;", "01 00 00 00"),
+    ("%MX0.0 := FALSE = 2 > 3;", "01 00 00 00"),
+    ("%MX0.0 := NOT FALSE OR TRUE;", "01 00 00 00"),
+    ("%MB0 := NOT BYTE#16#0F;", "F0 00 00 00"),
+    ("%MW0 := SHL(WORD#16#8001, INT#1);", "00 02 00 00"),
+    ("%MW0 := SHR(WORD#16#8001, INT#15);", "00 01 00 00"),
+    ("%MB0 := NOT SHL(BYTE#16#01, INT#8);", "FF 00 00 00"),
+    ("%MW0 := SHL(WORD#16#0001, INT#-1);", "00 01 00 00"),
+    ("%MW0 := ROL(WORD#16#8001, INT#17);", "00 03 00 00"),
+    ("%MD0 := ROR(16#00000001, INT#33);", "80 00 00 00"),
+    ("%MD0 := DINT_TO_DWORD(SEL(TRUE, 1, 2));", "00 00 00 02"),
+    ("%MD0 := DINT_TO_DWORD(SEL(FALSE, 1, 2));", "00 00 00 01"),
+    ("%MD0 := DINT_TO_DWORD(INT_TO_DINT(INT#-2));", "FF FF FF FE"),
+    ("%MD0 := WORD_TO_DWORD(WORD#16#FFFF);", "00 00 FF FF"),
+    ("%MB0 := DWORD_TO_BYTE(16#1234);", "34 00 00 00"),
+    ("%MW0 := BOOL_TO_WORD(TRUE);", "00 01 00 00"),
+    (
+        "%MD0 := DINT_TO_DWORD(LINT_TO_DINT(LINT#4294967297));",
+        "00 00 00 01",
+    ),
+    (
+        "%MW0 := INT_TO_WORD(BCD_TO_INT(WORD#16#8999));",
+        "FC 19 00 00",
+    ),
+    (
+        "%MD0 := DINT_TO_DWORD(BCD_TO_DINT(16#09999999));",
+        "00 98 96 7F",
+    ),
+    ("AREA_WRITE_W(16#83000000, WORD#16#1234);", "12 34 00 00"),
+    ("AREA_WRITE_X(16#83000003, TRUE);", "08 00 00 00"),
+    (
+        "%MB1 := BYTE#7; %MB0 := AREA_READ_B(16#83000008);",
+        "07 07 00 00",
+    ),
+    (
+        "IF FALSE THEN %MB0 := BYTE#1; ELSIF TRUE THEN %MB0 := BYTE#2; ELSE %MB0 := BYTE#3; END_IF;",
+        "02 00 00 00",
+    ),
+    (
+        "CASE 2 OF 1: %MB0 := BYTE#1; 3, 2: %MB0 := BYTE#2; ELSE %MB0 := BYTE#4; END_CASE;",
+        "02 00 00 00",
+    ),
+    (
+        "CASE INT#-5 OF INT#5: %MB0 := BYTE#1; ELSE %MB0 := BYTE#2; END_CASE;",
+        "02 00 00 00",
+    ),
+    (
+        "WHILE %MB0 < BYTE#3 DO %MB0 := WORD_TO_BYTE(INT_TO_WORD(BYTE_TO_INT(%MB0) + INT#1)); END_WHILE;",
+        "03 00 00 00",
+    ),
+    (
+        "WHILE TRUE DO %MB0 := BYTE#1; EXIT; %MB0 := BYTE#2; END_WHILE;",
+        "01 00 00 00",
+    ),
+    (
+        "WHILE %MB0 = BYTE#0 DO %MB0 := BYTE#1; CONTINUE; %MB0 := BYTE#2; END_WHILE;",
+        "01 00 00 00",
+    ),
+    ("%MB0 := BYTE#1; RETURN; %MB0 := BYTE#2;", "01 00 00 00"),
+    ("RLO := TRUE; %MX0.0 := RLO;", "01 00 00 00"),
+    ("ACCU1 := 16#12345678; %MD0 := ACCU1;", "12 34 56 78"),
+    ("%LW0 := WORD#16#0102; %MW0 := %LW0;", "01 02 00 00"),
+    (
+        "%mx0.1 := true; (* a comment *) ;; // and another",
+        "02 00 00 00",
+    ),
+];
+
+/// Statements that end in a fault before they write.
+static FAULTS: [(&str, &[u8]); 11] = [
+    ("%MW0 := %DBW0;", b"# FAULT DbNotOpen\n"),
+    ("DBNO := WORD#9; %MW0 := %DBW0;", b"# FAULT DbMissing\n"),
+    ("%MW0 := %DB9.DBW0;", b"# FAULT DbMissing\n"),
+    ("%MB0 := AREA_READ_B(16#00000000);", b"# FAULT AreaCode\n"),
+    ("%MB0 := AREA_READ_B(16#83000001);", b"# FAULT Alignment\n"),
+    ("%MB0 := AREA_READ_B(16#83010000);", b"# FAULT AreaLength\n"),
+    ("%MX0.0 := FALSE AND 1 / 0 = 1;", b"# FAULT DivideByZero\n"),
+    ("%MX0.0 := TRUE OR 1 MOD 0 = 1;", b"# FAULT DivideByZero\n"),
+    (
+        "%MD0 := DINT_TO_DWORD(SEL(FALSE, 1, 1 / 0));",
+        b"# FAULT DivideByZero\n",
+    ),
+    (
+        "%MW0 := INT_TO_WORD(BCD_TO_INT(WORD#16#09A1));",
+        b"# FAULT BcdDigit\n",
+    ),
+    (
+        "%MD0 := DINT_TO_DWORD(BCD_TO_DINT(16#0A000000));",
+        b"# FAULT BcdDigit\n",
+    ),
+];
+
+/// A program of these statements, which stand on its second line.
+fn with_statements(alloc: Global, statements: &[&[u8]]) -> Result<Vec<u8>, NoMemory> {
+    let mut text = Vec::from_slice(alloc, b"PROGRAM OB1\n")?;
+    for part in statements {
+        text.extend_from_slice(part)?;
+    }
+    text.extend_from_slice(b"\nEND_PROGRAM\n")?;
+    Ok(text)
+}
+
+/// The report of a run that ended with these bytes at the front of the bit memory.
+fn with_markers(alloc: Global, bytes: &str) -> Result<Vec<u8>, NoMemory> {
+    let mut report = Vec::from_slice(alloc, b"# ENDED\nM 0: ")?;
+    report.extend_from_slice(bytes.as_bytes())?;
+    report.extend_from_slice(b" 00 00 00 00 00 00 00 00 00 00 00 00\n")?;
+    Ok(report)
+}
+
+fn want_markers(rt: &impl Abort, alloc: Global, rows: &[(&str, &str)]) -> Result<(), NoMemory> {
+    for (statements, bytes) in rows {
+        let text = with_statements(alloc, &[statements.as_bytes()])?;
+        let report = with_markers(alloc, bytes)?;
+        wants_answer(
+            rt,
+            alloc,
+            BlockName::Ob(1),
+            text.as_slice(),
+            report.as_slice(),
+        )?;
+    }
+    Ok(())
+}
+
+#[test]
+fn statements_leave_their_memory(rt: HostRuntime) -> Result<(), Fail> {
+    Ok(want_markers(&rt, rt.alloc(), &STATEMENTS)?)
+}
+
+fn want_faults(rt: &impl Abort, alloc: Global, rows: &[(&str, &[u8])]) -> Result<(), NoMemory> {
+    for (statements, report) in rows {
+        let text = with_statements(alloc, &[statements.as_bytes()])?;
+        wants_answer(rt, alloc, BlockName::Ob(1), text.as_slice(), report)?;
+    }
+    Ok(())
+}
+
+#[test]
+fn faults_end_a_run(rt: HostRuntime) -> Result<(), Fail> {
+    Ok(want_faults(&rt, rt.alloc(), &FAULTS)?)
+}
+
+/// A piece so many times.
+fn repeated(alloc: Global, count: usize, piece: &[u8]) -> Result<Vec<u8>, NoMemory> {
+    let mut text = Vec::new(alloc);
+    for _ in 0..count {
+        text.extend_from_slice(piece)?;
+    }
+    Ok(text)
+}
+
+/// A statement with so many brackets.
+fn brackets(alloc: Global, count: usize) -> Result<Vec<u8>, NoMemory> {
+    let mut text = repeated(alloc, count, b"(")?;
+    text.extend_from_slice(b"RLO")?;
+    let close = repeated(alloc, count, b")")?;
+    text.extend_from_slice(close.as_slice())?;
+    Ok(text)
+}
+
+/// A program that assigns this expression is answered so.
+fn wants_assigned(
+    rt: &impl Abort,
+    alloc: Global,
+    expression: &[u8],
+    wanted: &[u8],
+) -> Result<(), NoMemory> {
+    let text = with_statements(alloc, &[b"RLO := RLO", expression, b";"])?;
+    wants_answer(rt, alloc, BlockName::Ob(1), text.as_slice(), wanted)
+}
+
+const TOO_DEEP: &[u8] = b"line 2: TooDeep\n";
+
+#[test]
+fn two_hundred_brackets_are_run(rt: HostRuntime) -> Result<(), Fail> {
+    let alloc = rt.alloc();
+    for (count, report) in [(200, ENDED), (201, TOO_DEEP)] {
+        let mut text = Vec::from_slice(alloc, b" OR ")?;
+        let deep = brackets(alloc, count)?;
+        text.extend_from_slice(deep.as_slice())?;
+        wants_assigned(&rt, alloc, text.as_slice(), report)?;
+    }
+    Ok(())
+}
+
+#[test]
+fn a_chain_of_two_hundred_is_run(rt: HostRuntime) -> Result<(), Fail> {
+    let alloc = rt.alloc();
+    for (count, report) in [(200, ENDED), (201, TOO_DEEP)] {
+        let chain = repeated(alloc, count, b" AND RLO")?;
+        wants_assigned(&rt, alloc, chain.as_slice(), report)?;
+    }
+    Ok(())
+}

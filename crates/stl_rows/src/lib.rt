@@ -1,0 +1,8 @@
+//! The rows that show what no clause says of the machine: that the definitions of instructions and runs
+//! give the answers that the rules of STL ask for, over public calls alone.
+#![tactic(auto)]
+
+#[cfg(test)]
+mod stl_machine_rows;
+#[cfg(test)]
+mod wants;

@@ -1,0 +1,186 @@
+//! What no clause says: that the definition gives the tokens that the language asks for, and that a
+//! call answers while there is memory.
+use crate::wants::{wants, wants_text};
+use memory_areas::AreaName;
+use s7_base::{Line, NoMemory, Reason, Rejection, Width};
+use st_lexer::{
+    Direct, Literal, StKind, StToken, StType, direct_at, end_line, literal_at, st_tokens,
+};
+use std::alloc::Global;
+use std::process::Abort;
+use std::test::Fail;
+
+/// A text, and its tokens as `shown` writes them or the line of its first bad token.
+type Row = (&'static [u8], Result<&'static [u8], u32>);
+
+static TEXTS: [Row; 51] = [
+    (b"", Ok(b"")),
+    (
+        b"a:=16#fF; (* x *) // y\n%q0.1",
+        Ok(b" wa s:= l16#fF s;\n d%q0.1"),
+    ),
+    (b"\t\r\n a\n\n b", Ok(b"\n wa\n\n wb")),
+    (b"TRUE false _x1", Ok(b" wTRUE wfalse w_x1")),
+    (
+        b"16#FFG 5abc 1__0 5_ %MW0x 1=1AND",
+        Ok(b" l16#FF wG l5 wabc l1 w__0 l5 w_ d%MW0 wx l1 s= l1 wAND"),
+    ),
+    (b"2#12 INT#5x 8#78", Ok(b" l2#1 l2 lINT#5 wx l8#7 l8")),
+    (b"=>**<<=:==..", Ok(b" s= s> s* s* s< s<= s:= s= s..")),
+    (b"a\n.b", Err(2)),
+    (b"a\n#b", Err(2)),
+    (b"a\n16#", Err(2)),
+    (b"1\n2#2", Err(2)),
+    (b"(* (* *) *)", Ok(b" s* s)")),
+    (b"a\n(*)\nb", Err(2)),
+    (b"(*)*) (* // *) // (* ", Ok(b"")),
+    (b"(*\n\n*) a", Ok(b"\n\n wa")),
+    (
+        b"2147483647 002147483647 2_147_483_647",
+        Ok(b" l2147483647 l002147483647 l2_147_483_647"),
+    ),
+    (b"a\n2147483648\n;", Err(2)),
+    (b"-\n2147483648", Err(2)),
+    (b"DINT#-2147483648", Ok(b" lDINT#-2147483648")),
+    (b"DINT#-2147483649", Err(1)),
+    (b"[0..3000000000]", Ok(b" s[ l0 s.. l3000000000 s]")),
+    (b".. (* x *)\n 3000000000", Ok(b" s..\n l3000000000")),
+    (
+        b"[5000000000 (**) (16#00)]",
+        Ok(b" s[ l5000000000 s( l16#00 s) s]"),
+    ),
+    (b".. x\n3000000000", Err(2)),
+    (b"3000000000\n$", Err(1)),
+    (b"3000000000(\n$", Err(2)),
+    (b"3000000000(\n3000000000", Err(2)),
+    (
+        b"16#FFFF_FFFF 2#1_0 8#17 16#0_5",
+        Ok(b" l16#FFFF_FFFF l2#1_0 l8#17 l16#0_5"),
+    ),
+    (b"16#100000000", Err(1)),
+    (b"..16#100000000", Err(1)),
+    (
+        b"int#-5 LINT#5 word#16#0005 INT#16#7F BYTE#15 BOOL#1 bool#true BOOL#01",
+        Ok(b" lint#-5 lLINT#5 lword#16#0005 lINT#16#7F lBYTE#15 lBOOL#1 lbool#true lBOOL#01"),
+    ),
+    (b"INT BOOL INT1", Ok(b" wINT wBOOL wINT1")),
+    (b"a\nINT#+5", Err(2)),
+    (b"a\nINT#-16#5", Err(2)),
+    (b"a\nWORD#-1", Err(2)),
+    (b"a\nBOOL#16#1", Err(2)),
+    (b"a\nBOOL#2", Err(2)),
+    (b"a\nBOOL#10", Err(2)),
+    (b"a\nBOOL#TRUEx", Err(2)),
+    (b"a\nINT#x", Err(2)),
+    (b"a\nINT#16#FFFF", Err(2)),
+    (b"a\nDWORD#16#1_0000_0000", Err(2)),
+    (b"a\nLINT#9223372036854775808", Err(2)),
+    (
+        b"INT#32767 INT#-32768 LINT#9223372036854775807 LINT#-9223372036854775808 DINT#2147483647 BYTE#255 WORD#65535 DWORD#4294967295 BOOL#0",
+        Ok(
+            b" lINT#32767 lINT#-32768 lLINT#9223372036854775807 lLINT#-9223372036854775808 lDINT#2147483647 lBYTE#255 lWORD#65535 lDWORD#4294967295 lBOOL#0",
+        ),
+    ),
+    (
+        b"%IX0.0 %q1.7 %MB3 %lw4 %MD5 %DBX0.0 %DBB1 %dbw2 %DBD3 %DIX0.1 %DIB1 %DIW2 %did3 %DB5.DBX0.0 %db5.dbb1 %DB5.DBW2 %DB5.DBD3 %MW1_0 %MW010 %I99999999999.9",
+        Ok(
+            b" d%IX0.0 d%q1.7 d%MB3 d%lw4 d%MD5 d%DBX0.0 d%DBB1 d%dbw2 d%DBD3 d%DIX0.1 d%DIB1 d%DIW2 d%did3 d%DB5.DBX0.0 d%db5.dbb1 d%DB5.DBW2 d%DB5.DBD3 d%MW1_0 d%MW010 d%I99999999999.9",
+        ),
+    ),
+    (b"a\n%I0", Err(2)),
+    (b"a\n%DB0.0", Err(2)),
+    (b"a\n%DB5", Err(2)),
+    (b"a\n%MB_1", Err(2)),
+    (b"a\n\x0c", Err(2)),
+    (b"(* \xff \x0c *) // \x80\n\xc3", Err(2)),
+];
+
+fn letter(kind: StKind) -> u8 {
+    match kind {
+        StKind::Word => b'w',
+        StKind::Direct => b'd',
+        StKind::Literal => b'l',
+        StKind::Sign => b's',
+    }
+}
+
+/// The tokens, each behind a blank and the letter of its kind, on their lines.
+fn shown(alloc: Global, tokens: &[StToken]) -> Result<Vec<u8>, NoMemory> {
+    let mut out = Vec::new(alloc);
+    let mut line = 1;
+    for token in tokens {
+        for _ in line..token.line.0 {
+            out.push(b'\n')?;
+        }
+        line = token.line.0;
+        out.push(b' ')?;
+        out.push(letter(token.kind))?;
+        out.extend_from_slice(token.text.as_slice())?;
+    }
+    Ok(out)
+}
+
+/// A text has these tokens, or its first bad token stands on this line.
+fn wants_tokens(
+    rt: &impl Abort,
+    alloc: Global,
+    text: &[u8],
+    wanted: Result<&[u8], u32>,
+) -> Result<(), NoMemory> {
+    match (st_tokens(alloc, text), wanted) {
+        (Ok(tokens), Ok(wanted)) => {
+            let found = shown(alloc, tokens.as_slice())?;
+            wants_text(rt, text, found.as_slice(), wanted);
+        }
+        (Ok(_), Err(line)) => wants(rt, &text, &0, &line),
+        (Err(refused), wanted) => {
+            let bad = Rejection::Refused(Line(wanted.err().unwrap_or(0)), Reason::BadToken);
+            wants(rt, &text, &refused, &bad);
+        }
+    }
+    Ok(())
+}
+
+fn want_tokens(rt: &impl Abort, alloc: Global, rows: &[Row]) -> Result<(), NoMemory> {
+    for (text, wanted) in rows {
+        wants_tokens(rt, alloc, text, *wanted)?;
+    }
+    Ok(())
+}
+
+#[test]
+fn cuts_texts(rt: HostRuntime) -> Result<(), Fail> {
+    Ok(want_tokens(&rt, rt.alloc(), &TEXTS)?)
+}
+
+#[test]
+fn reads_values(rt: HostRuntime) {
+    let least = Literal {
+        kind: StType::Lint,
+        minus: true,
+        number: 1 << 63,
+        size: 25,
+    };
+    for (text, literal) in [
+        (b"lint#-9223372036854775808".as_slice(), Some(least)),
+        (b"INT#x".as_slice(), None),
+    ] {
+        wants(&rt, &text, &literal_at(text), &literal);
+    }
+
+    let bit = Direct {
+        area: AreaName::Db,
+        block: Some(5),
+        width: Width::Bit,
+        byte: u32::MAX,
+        bit: 7,
+        size: 20,
+    };
+    for (text, direct) in [
+        (b"%DB5.DBX4294967296.7".as_slice(), Some(bit)),
+        (b"%DB5".as_slice(), None),
+    ] {
+        wants(&rt, &text, &direct_at(text), &direct);
+    }
+    wants(&rt, &"the end", &end_line(b"a\n(*\n*)\n"), &Line(4));
+}
