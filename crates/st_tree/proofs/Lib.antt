@@ -3,6 +3,7 @@ pub mod Ends
 pub mod Equations
 pub mod Induction
 pub mod PartEquations
+pub mod RawInduction
 pub mod Units
 mod CallRows
 mod OperatorRows

@@ -209,7 +209,7 @@ inner_continue = opened stmt.Continue S.Continue (sym stmt.rolls-Continue)
 pub inner_return : inner_statements stmt.Return ≡ []
 inner_return = opened stmt.Return S.Return (sym stmt.rolls-Return)
 
--- each rule for itself; of a body that is written out they compute all that its parts are
+-- by these `simp` computes all the parts of a body that is written out
 pub ruleset part_equations = (
   reads_equations,
   height_equations,
