@@ -402,7 +402,7 @@ fn a_fault_ends_the_run_and_the_writes_before_it_stand(rt: HostRuntime) -> Resul
         let ops = [
             check(Check::An, INPUT),
             Op::Assign(OUTPUT),
-            op,
+            copy(&op),
             Op::Assign(NEXT_OUTPUT),
         ];
         let program = program(alloc, &ops)?;
