@@ -13,8 +13,7 @@ use Rattle.stl_tree.specs.declared.program.Op.TheVariants as op
 use Rattle.stl_tree.specs.declared.program.Instr.{Instr}
 use Rattle.stl_tree.specs.declared.program.Block.{Block}
 use Rattle.st_tree.specs.Spelling.{unit_text, line, literal_text, spelling}
-use Rattle.st_tree.proofs.CanonEquations.{canon_equations}
-use Rattle.st_tree.proofs.Equations.{text_assign}
+use Rattle.st_tree.proofs.Equations.{canon_equations, text_assign}
 use Rattle.stl_translate.specs.Translation.{translation}
 
 abbrev instr_of : Op → Instr
