@@ -1,12 +1,11 @@
 -- The operand that is read of a statement is a bit in its area.
-use Rattle.std.proofs.Common.{◌≡◌, ℕ, ◌+◌, ◌-◌, ◌*◌, ◌<◌, ◌≤◌, List, [], ◌∷◌, drop, take, Bool, true, false, ◌&&◌, if◌then◌else◌, Option, Some, None, refl, arith}
+use Rattle.std.proofs.Common.{◌≡◌, ℕ, ◌+◌, ◌-◌, ◌*◌, ◌≤◌, List, [], ◌∷◌, drop, take, Bool, true, false, ◌&&◌, if◌then◌else◌, Option, Some, None, refl, arith}
 use Rattle.std.specs.Prelude.{IfSome, codes, nat_le, option_and_then}
 use Rattle.std.proofs.lemmas.Bool.{leb-true, le-ltb}
 use Rattle.memory_areas.specs.Access.{is_byte_in}
 use Rattle.memory_areas.specs.declared.place.AreaName.{AreaName}
 use Rattle.s7_base.specs.Tokens.{is_between}
 use Rattle.s7_base.specs.declared.token.Token.{Token}
-use Rattle.s7_base.specs.declared.word.Width.{Width}
 use Rattle.s7_base.specs.declared.word.Width.TheVariants as width
 use Rattle.stl_tree.specs.Accepted.{HasOperand, IsOperand}
 use Rattle.stl_tree.specs.Items.{number_from, number_of, area_of, bit_at, byte_in, is_bit_number, bit_operand, op_with, statement_op}

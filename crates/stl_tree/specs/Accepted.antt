@@ -1,5 +1,5 @@
 -- The rules that a program keeps where the verdict gives it.
-use Rattle.std.specs.Prelude.{◌≡◌, ℕ, ◌≤◌, Bool, true, false, List, [], ◌∷◌, All, None, Ok}
+use Rattle.std.specs.Prelude.{◌≡◌, ℕ, ◌≤◌, true, false, List, [], ◌∷◌, All, None, Ok}
 use Rattle.memory_areas.specs.Access.{is_byte_in, is_unaligned}
 use Rattle.memory_areas.specs.Areas.{AreBlocks}
 use Rattle.s7_base.specs.declared.word.Width.{Width}

@@ -7,7 +7,7 @@ use Rattle.memory_areas.specs.Areas.{Areas, Contents, cleared, with_areas}
 use Rattle.memory_areas.specs.End.{End, Ended, Going}
 use Rattle.stl_tree.specs.Instructions.{effect_of}
 use Rattle.stl_tree.specs.Now.{Activation, Now, Effect, next, go, enter, leave, fault}
-use Rattle.stl_tree.specs.Registers.{RegisterValues, start}
+use Rattle.stl_tree.specs.Registers.{start}
 use Rattle.stl_tree.specs.declared.program.Block.{Block}
 use Rattle.stl_tree.specs.declared.program.BlockCall.{BlockCall}
 use Rattle.stl_tree.specs.declared.program.BlockName.{BlockName}
