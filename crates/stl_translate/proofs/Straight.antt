@@ -35,7 +35,7 @@ use Rattle.st_tree.specs.declared.program.Stmt.{Stmt}
 use Rattle.st_tree.specs.declared.program.Stmt.TheVariants as stmt
 use Rattle.st_tree.proofs.Assignments.{assign_goes_on, assign_stops_at_value, assign_stops_at_place}
 use Rattle.st_tree.proofs.Opened.{value_literal, value_read}
-use Rattle.stl_translate.specs.Translation.{bit_of, literal_of, next_rlo, read_of, set_of, statements_of, IsTranslatableCheck, IsTranslatableOp, AreTranslatable}
+use Rattle.stl_translate.specs.inner.Translation.{bit_of, literal_of, next_rlo, read_of, set_of, statements_of, IsTranslatableCheck, IsTranslatableOp, AreTranslatable}
 use Rattle.stl_translate.specs.WellFormed.{EndsBehind, EndsOnce}
 use Rattle.stl_translate.proofs.SameLemmas.{AreAlike, checked_value, checked_fault}
 

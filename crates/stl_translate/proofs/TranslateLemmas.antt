@@ -15,7 +15,7 @@ use Rattle.stl_tree.specs.declared.program.Block.{Block}
 use Rattle.st_tree.specs.Spelling.{unit_text, line, literal_text, spelling}
 use Rattle.st_tree.proofs.CanonEquations.{canon_equations}
 use Rattle.st_tree.proofs.StatementLines.{statement_line}
-use Rattle.stl_translate.specs.Translation.{translation}
+use Rattle.stl_translate.specs.inner.Translation.{translation}
 
 abbrev instr_of : Op → Instr
 instr_of o = record { line = record { 0 = 3 }; op = o }
