@@ -21,7 +21,7 @@ use Rattle.stl_tree.specs.declared.program.Op.TheVariants as op
 use Rattle.stl_tree.specs.declared.program.Operand.{Operand}
 use Rattle.stl_tree.specs.declared.program.Program.{Program}
 use Rattle.stl2st.proofs.ProperOperands.{number_most}
-use Rattle.stl_translate.specs.Translation.{IsTranslatable, IsTranslatableBlock, IsTranslatableCheck, IsTranslatableOp, AreTranslatable}
+use Rattle.stl_translate.specs.inner.Translation.{IsTranslatable, IsTranslatableBlock, IsTranslatableCheck, IsTranslatableOp, AreTranslatable}
 use Rattle.stl_translate.specs.WellFormed.{EndsOnce, IsNumbered, IsWellFormed, IsWellFormedBlock}
 
 -- a statement is no end word, and can be translated

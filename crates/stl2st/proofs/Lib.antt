@@ -4,6 +4,7 @@ pub mod CallPieces
 mod CallRows
 pub mod EachInstruction
 pub mod Finishing
+pub mod InputsRead
 pub mod ProperOperands
 pub mod ProperText
 pub mod Written

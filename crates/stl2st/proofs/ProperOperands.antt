@@ -17,7 +17,7 @@ use Rattle.stl_tree.specs.declared.program.Operand.{Operand}
 use Rattle.stl_tree.specs.declared.program.Operand.TheVariants.{Direct}
 use Rattle.st_lexer.specs.Spelled.{is_kept}
 use Rattle.stl2st.proofs.Written.{IsProperOperand}
-use Rattle.stl_translate.specs.Translation.{IsTranslatableOp}
+use Rattle.stl_translate.specs.inner.Translation.{IsTranslatableOp}
 
 -- a number that is read is at most the greatest
 

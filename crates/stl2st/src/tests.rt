@@ -1,7 +1,8 @@
 //! What no clause says: that the definitions give the texts and the refusals that the standard asks
 //! for, and that a call answers while there is memory.
-use crate::answer::{INPUT_LIMIT, stl2st};
+use crate::answer::stl2st;
 use crate::command::{Command, WordsRefusal, image_name, read_words};
+use crate::limits::INPUT_LIMIT;
 use crate::status::Status;
 use memory_areas::{Area, Place};
 use s7_base::{List, NoMemory, Width};
