@@ -2,6 +2,7 @@ pub mod Answering
 pub mod CallPieces
 mod CallRows
 pub mod Finishing
+pub mod InputsRead
 pub mod ProperOperands
 pub mod ProperText
 pub mod Written

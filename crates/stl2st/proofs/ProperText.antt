@@ -25,7 +25,7 @@ use Rattle.stl2st.proofs.Written.{check_assigned, flag_assigned, store_assigned}
 use Rattle.stl2st.proofs.WrittenBody.{AreBoolAssigns, both_are}
 use Rattle.stl2st.proofs.WrittenNames.{block_is_name, block_names_unit, decimal_digits}
 use Rattle.stl2st.proofs.WrittenText.{proper_text}
-use Rattle.stl_translate.specs.Translation.{statements_of, translation}
+use Rattle.stl_translate.specs.inner.Translation.{statements_of, translation}
 
 -- Statements
 

@@ -42,7 +42,7 @@ use Rattle.st_rules.specs.declared.expression.Typed.{Typed}
 use Rattle.st_rules.specs.declared.scope.Scope.{Scope}
 use Rattle.stl_tree.specs.declared.program.Operand.{Operand}
 use Rattle.stl_tree.specs.declared.program.Operand.TheVariants.{Direct}
-use Rattle.stl_translate.specs.Translation.{bit_of, literal_of, next_rlo, read_of, rlo_before_and, rlo_before_or}
+use Rattle.stl_translate.specs.inner.Translation.{bit_of, literal_of, next_rlo, read_of, rlo_before_and, rlo_before_or}
 
 -- both of two tests
 pub and_both : (a b : Bool) → (a && b) ≡ true → (a ≡ true) × (b ≡ true)

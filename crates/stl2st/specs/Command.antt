@@ -1,5 +1,5 @@
 -- What the arguments of the program mean.
-use Rattle.std.specs.Prelude.{◌≡◌, ℕ, ◌-◌, ◌^◌, List, [], ◌∷◌, Option, Some, None, option_map, option_and_then, Result, Ok, Err, codes, if◌then◌else◌}
+use Rattle.std.specs.Prelude.{◌≡◌, ℕ, ◌-◌, ◌^◌, List, [], ◌∷◌, map, Option, Some, None, String, string_bytes, option_map, option_and_then, Result, Ok, Err, codes, if◌then◌else◌}
 use Rattle.std.specs.Str.{bytes_eq}
 use Rattle.stl_tree.specs.declared.program.Call.{Call}
 use Rattle.stl2st.specs.CallWord.{number_in, call_meant}
@@ -41,6 +41,10 @@ command_meant (word ∷ a ∷ rest) =
     if bytes_eq word (codes "run-stl") then option_map (λ run. RunStl run.0 run.1) (run_meant (a ∷ rest))
     else if bytes_eq word (codes "run-st") then option_map (λ run. RunSt run.0 run.1) (run_meant (a ∷ rest))
     else None
+
+-- the command that the arguments of the program ask for
+abbrev pub asked : {A : Type 0} → List (String A) → Option Command
+asked {A = A} words = command_meant (map (λ (word : String A). string_bytes word) words)
 
 -- the answer is the command meant, or Usage exactly where there is none; or memory ran out
 abbrev pub Means : Option Command → Result Command WordsRefusal → Type 0

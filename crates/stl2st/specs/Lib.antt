@@ -1,6 +1,8 @@
 pub mod Answer
 pub mod CallWord
 pub mod Command
+pub mod Devices
 pub mod Inputs
-pub mod Replies
+pub mod Promises
 pub mod Status
+pub mod inner

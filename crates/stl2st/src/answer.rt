@@ -1,27 +1,24 @@
 //! The call that `main` makes: reads, judges, translates or runs, and writes.
-ghost use Rattle.std.specs.Prelude.{◌≡◌, ◌⊎◌, List, ℕ, Some, true, map, string_bytes};
-ghost use Rattle.s7_io.specs.Faults.{Rose};
-ghost use Rattle.stl2st.specs.Answer.{IsAnswered, IsTranslated, Wants, Writes};
-ghost use Rattle.stl2st.specs.Command.{command_meant};
-ghost use Rattle.stl2st.specs.Inputs.{FailedToRead, ReadsImage, ReadsProgram, input};
-ghost use Rattle.stl2st.specs.Replies.{Ends};
-ghost use Rattle.stl2st.specs.declared.command.Command.TheVariants.{Translate};
+//!
+//! `writes` is the theorem: for `translate` it says that the written text means what the source means.
+//! What the other clauses say of the text, `translated` and `complete`, follows from it.
+ghost use Rattle.std.specs.Prelude.{◌≡◌, ◌⊎◌, ◌≤◌};
+ghost use Rattle.stl2st.specs.Command.{asked};
+ghost use Rattle.stl2st.specs.Devices.{NoCountFell, WriteFailed, devices, output};
+ghost use Rattle.stl2st.specs.Inputs.{Reads};
+ghost use Rattle.stl2st.specs.Promises.{Completes, HasCause, Translated, Writes};
+ghost use Rattle.stl2st.specs.inner.Replies.{Ends};
 
 use crate::reply::{Stop, reply_to};
 use crate::status::Status;
 use s7_io::{Sink, Source, write_all};
 use std::alloc::Global;
 
-/// How many bytes a source may have.
-pub const INPUT_LIMIT: usize = 4_194_304;
-
-/// How many bytes an image may have.
-pub const IMAGE_LIMIT: usize = 67_108_864;
-
 /// Writes a text, and answers its status where it was written whole.
 fn finish<K: Sink>(out: &mut K, status: Status, text: &[u8]) -> Status
     ensures ends { Ends (K.taken out.old) (K.taken out.new) status text.now result }
-    ensures cause { (result ≡ status) ⊎ Rose (K.faults out.old) (K.faults out.new) }
+    ensures cause { (result ≡ status) ⊎ WriteFailed (output K.Sink out.old out.new) }
+    ensures later { K.faults out.old ≤ K.faults out.new }
 {
     match write_all(out, text) {
         Ok(()) => status,
@@ -40,36 +37,30 @@ pub fn stl2st<P: Source, M: Source, K: Sink>(
     image: &mut M,
     out: &mut K,
 ) -> Status
-    // What is written is the answer, by its status.
-    ensures writes { Writes (command_meant (map (λ word. string_bytes word) words.now))
-        (P.left program.old) (M.left image.old) (K.taken out.old) (K.taken out.new) result }
+    // THE THEOREM. By the status, what the sink took is an answer to the arguments, the source and the
+    // image; for `translate` it is a text that means what the source means.
+    ensures writes { Writes (asked words.now) result
+        (devices P.Source M.Source K.Sink program.old image.old out.old program.new image.new out.new) }
 
-    // A translated text that is written whole means what the source means.
-    ensures translated { command_meant (map (λ word. string_bytes word) words.now) ≡ Some Translate
-        → result ≡ Status.Done
-        → IsTranslated (P.left program.old) (K.taken out.old) (K.taken out.new) }
+    // Where `translate` is done, the written text means what the source means.
+    ensures translated { Translated (asked words.now) result
+        (devices P.Source M.Source K.Sink program.old image.old out.old program.new image.new out.new) }
 
-    // Told inputs get their answer, where no fault comes and memory is found; an image that is not
-    // wanted may be anything.
-    ensures complete { (source text : List ℕ) → P.left program.old ≡ Some source
-        → let wanted = Wants (command_meant (map (λ word. string_bytes word) words.now)) source in
-        (wanted → M.left image.old ≡ Some text)
-        → ¬ Rose (P.faults program.old) (P.faults program.new)
-        → (wanted → ¬ Rose (M.faults image.old) (M.faults image.new))
-        → ¬ Rose (K.faults out.old) (K.faults out.new)
-        → IsAnswered (command_meant (map (λ word. string_bytes word) words.now)) source text result
-        ⊎ (result ≡ Status.NoMemory) }
+    // Told inputs get an answer, where no read and no write fails and memory is found.
+    ensures complete { Completes (asked words.now) result
+        (devices P.Source M.Source K.Sink program.old image.old out.old program.new image.new out.new) }
 
-    ensures reads_program { ReadsProgram (command_meant (map (λ word. string_bytes word) words.now))
-        (input (P.left program.old) (P.left program.new) (P.faults program.old) (P.faults program.new)) result }
-    ensures reads_image { ReadsImage (command_meant (map (λ word. string_bytes word) words.now)) (P.left program.old)
-        (input (M.left image.old) (M.left image.new) (M.faults image.old) (M.faults image.new)) result }
-    ensures read_fault { result ≡ Status.ReadFault
-        → FailedToRead (command_meant (map (λ word. string_bytes word) words.now))
-        (input (P.left program.old) (P.left program.new) (P.faults program.old) (P.faults program.new))
-        (input (M.left image.old) (M.left image.new) (M.faults image.old) (M.faults image.new)) }
-    ensures write_fault { result ≡ Status.WriteFault
-        → Rose (K.faults out.old) (K.faults out.new) }
+    // The inputs are read as far as they are needed.
+    ensures reads { Reads (asked words.now) result
+        (devices P.Source M.Source K.Sink program.old image.old out.old program.new image.new out.new) }
+
+    // Each fault that is answered is one of a device.
+    ensures cause { HasCause (asked words.now) result
+        (devices P.Source M.Source K.Sink program.old image.old out.old program.new image.new out.new) }
+
+    // No count of faults falls.
+    ensures counts { NoCountFell
+        (devices P.Source M.Source K.Sink program.old image.old out.old program.new image.new out.new) }
 {
     match reply_to(alloc, words, program, image) {
         Ok(reply) => finish(out, reply.status, reply.text.as_bytes()),

@@ -19,6 +19,7 @@ mod answer;
 mod call;
 mod command;
 mod image_file;
+mod limits;
 mod reply;
 mod status;
 #[cfg(test)]

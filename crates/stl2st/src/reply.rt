@@ -1,19 +1,22 @@
 //! What a command answers: a status and the text that goes with it.
-ghost use Rattle.std.specs.Prelude.{◌≡◌, Some, Err, [], IfOk, map, string_bytes};
+//!
+//! `reply_to` sends each command on its way. `source_reply` and `text_reply` read and judge a source of
+//! their language, `program_reply` does a job with a program, and runs read their image then.
+ghost use Rattle.std.specs.Prelude.{◌≡◌, ◌≢◌, ◌≤◌, Some, Ok, None, IfOk, IfErr, MatchOption, length};
 ghost use Rattle.memory_areas.specs.Areas.{AreBlocks, IsMemoryOf};
 ghost use Rattle.st_tree.specs.Runnable.{IsRunnable};
-ghost use Rattle.s7_io.specs.Faults.{Rose};
+ghost use Rattle.st_tree.specs.StRun.{FitsSt, st_run};
 ghost use Rattle.stl_tree.specs.Accepted.{IsAccepted};
-ghost use Rattle.stl_tree.specs.StlRun.{block_called};
-ghost use Rattle.stl_tree.specs.Verdict.{verdict};
-ghost use Rattle.stl2st.specs.Answer.{call_reply, image_line, image_reply, refusal_line, run_status};
-ghost use Rattle.stl2st.specs.Command.{command_meant};
-ghost use Rattle.stl2st.specs.Inputs.{FailedToRead, ReadsImage, ReadsProgram, ReadsRunImage, input};
-ghost use Rattle.stl2st.specs.Replies.{Answered, AnsweredFor, AnsweredRun, AnsweredTree, HasImage, IsReply, IsStl, IsWritten, ReadsOwnImage, bytes_of_text, ending, reply_of};
-ghost use Rattle.stl2st.specs.declared.command.Command.TheVariants.{RunStl, RunSt};
+ghost use Rattle.stl_tree.specs.StlRun.{Fits, stl_run};
+ghost use Rattle.stl2st.specs.Answer.{AnswersRunSt, AnswersRunStl, image_line, image_reply, refusal_line, run_status};
+ghost use Rattle.stl2st.specs.Command.{asked};
+ghost use Rattle.stl2st.specs.Devices.{input};
+ghost use Rattle.stl2st.specs.Inputs.{IsReadPast, IsReadWhole, IsReadWithin, ReadsFor, ReadsInputs, SaysRead, Stopped};
+ghost use Rattle.stl2st.specs.inner.Replies.{Answered, AnsweredCall, AnsweredTo, AnswersJob, HasSource, IsWritten, ReadsImage, ReadsJob, bytes_of_text, command_of, ending, reply_of, stop_status};
+ghost use Rattle.stl2st.specs.declared.command.Command.TheVariants.{RunSt};
 
-use crate::answer::{IMAGE_LIMIT, INPUT_LIMIT};
 use crate::command::{Command, WordsRefusal, read_words};
+use crate::limits::{IMAGE_LIMIT, INPUT_LIMIT};
 use crate::status::Status;
 use crate::text::{put, put_number};
 use image_text::{ImageRefusal, image_text, read_image};
@@ -89,6 +92,19 @@ impl From<NoMemory> for Stop {
     }
 }
 
+/// What is done with the program of an STL source.
+#[derive(Debug, Drop)]
+pub enum Job {
+    /// It is written as Structured Text.
+    Translate,
+
+    /// It is only said to be accepted.
+    Check,
+
+    /// It runs for so many steps at most, from a call on.
+    Run(u64, Call),
+}
+
 fn fixed(status: Status, line: &'static str) -> Reply
     ensures { reply_of result ≡ (status, line.now) }
 {
@@ -135,7 +151,8 @@ fn image_line(alloc: Global, line: Line, name: &str) -> Result<Vec<u8>, NoMemory
 }
 
 fn image_reply(alloc: Global, refusal: ImageRefusal) -> Result<Reply, NoMemory>
-    ensures { IfOk result (λ reply. IsReply (image_reply refusal) reply) }
+    ensures value { IfOk result (λ reply. reply_of reply ≡ image_reply refusal) }
+    ensures status { IfOk result (λ reply. IsWritten reply.status × SaysRead reply.status) }
 {
     let text = match refusal {
         ImageRefusal::BadLine(line) => image_line(alloc, line, "BadLine")?,
@@ -148,12 +165,33 @@ fn image_reply(alloc: Global, refusal: ImageRefusal) -> Result<Reply, NoMemory>
 
 fn run_status(outcome: Outcome) -> Status
     ensures value { result ≡ run_status outcome }
-    ensures written { IsWritten result }
+    ensures status { IsWritten result × SaysRead result }
 {
     match outcome {
         Outcome::Ended(None) => Status::Done,
         Outcome::Ended(Some(_)) => Status::Faulted,
         Outcome::Going => Status::Going,
+    }
+}
+
+/// An input, read to its end; `None` where it is longer than its limit.
+fn read_input<S: Source>(
+    alloc: Global,
+    source: &mut S,
+    limit: usize,
+) -> Result<Option<Vec<u8>>, Stop>
+    ensures found { IfOk result (λ found. MatchOption found
+        (IsReadPast (input S.Source source.old source.new) limit)
+        (λ bytes. IsReadWhole (input S.Source source.old source.new) bytes.items × (length bytes.items ≤ limit))) }
+    ensures stopped { IfErr result (λ stop. Stopped (input S.Source source.old source.new) (stop_status stop)) }
+    ensures within { result ≢ Ok None → IsReadWithin (input S.Source source.old source.new) limit }
+    ensures later { S.faults source.old ≤ S.faults source.new }
+{
+    match read_all(alloc, source, limit) {
+        Ok(bytes) => Ok(Some(bytes)),
+        Err(ReadRefusal::TooLong) => Ok(None),
+        Err(ReadRefusal::ReadFault) => Err(Stop::ReadFault),
+        Err(ReadRefusal::NoMemory) => Err(Stop::NoMemory),
     }
 }
 
@@ -165,8 +203,9 @@ fn call_reply(
     steps: u64,
     memory: Memory,
 ) -> Result<Reply, NoMemory>
-    ensures { IfOk result (λ reply. IsReply
-        (call_reply (block_called call.now.block program.now.blocks) program.now call.now steps memory.areas) reply) }
+    ensures answer { IfOk result (AnsweredCall (Fits program.now call.now)
+        (λ start. stl_run program.now call.now start steps) memory.areas) }
+    ensures status { IfOk result (λ reply. IsWritten reply.status × SaysRead reply.status) }
 {
     let mut machine = match Machine::new(alloc, program, memory, call) {
         Ok(machine) => machine,
@@ -186,75 +225,67 @@ fn run_reply<M: Source>(
     steps: u64,
     image: &mut M,
 ) -> Result<Reply, Stop>
-    ensures reply { IfOk result (AnsweredFor (RunStl steps call.now) program.now (M.left image.old)) }
-    ensures reads { ReadsRunImage (Unit {0})
-        (input (M.left image.old) (M.left image.new) (M.faults image.old) (M.faults image.new)) (ending result) }
-    ensures read_fault { result ≡ Err Stop.ReadFault → Rose (M.faults image.old) (M.faults image.new) }
+    requires { AreBlocks program.now.dbs }
+    ensures answer { IfOk result (AnsweredTo (λ bytes reply. AnswersRunStl steps call.now bytes program.now reply)
+        (input M.Source image.old image.new)) }
+    ensures reads { ReadsImage (input M.Source image.old image.new) (ending result) }
+    ensures later { M.faults image.old ≤ M.faults image.new }
 {
-    let text = match read_all(alloc, image, IMAGE_LIMIT) {
-        Ok(text) => text,
-        Err(ReadRefusal::TooLong) => return Ok(fixed(Status::TooLong, TOO_LONG_LINE)),
-        Err(ReadRefusal::ReadFault) => return Err(Stop::ReadFault),
-        Err(ReadRefusal::NoMemory) => return Err(Stop::NoMemory),
+    let text = match read_input(alloc, image, IMAGE_LIMIT) {
+        Ok(Some(text)) => text,
+        Ok(None) => return Ok(fixed(Status::TooLong, TOO_LONG_LINE)),
+        Err(stop) => return Err(stop),
     };
-    match read_image(alloc, text.as_slice(), &[]) {
+    match read_image(alloc, text.as_slice(), program.dbs.as_slice()) {
         Ok(memory) => Ok(call_reply(alloc, program, call, steps, memory)?),
         Err(refusal) => Ok(image_reply(alloc, refusal)?),
     }
 }
 
-/// What a command answers to a program that is accepted.
+/// What is answered to a program that is accepted, by what is to be done with it.
 fn program_reply<M: Source>(
     alloc: Global,
-    command: &Command,
+    job: &Job,
     program: &Program,
     image: &mut M,
 ) -> Result<Reply, Stop>
-    requires stl { IsStl command.now }
+    requires source { HasSource program.now }
     requires accepted { IsAccepted program.now }
-    ensures reply { IfOk result (AnsweredFor command.now program.now (M.left image.old)) }
-    ensures reads { ReadsOwnImage command.now
-        (input (M.left image.old) (M.left image.new) (M.faults image.old) (M.faults image.new)) (ending result) }
-    ensures read_fault { result ≡ Err Stop.ReadFault
-        → HasImage command.now × Rose (M.faults image.old) (M.faults image.new) }
+    ensures answer { IfOk result (AnsweredTo (AnswersJob job.now program.now) (input M.Source image.old image.new)) }
+    ensures reads { ReadsJob job.now (input M.Source image.old image.new) (ending result) }
+    ensures later { M.faults image.old ≤ M.faults image.new }
 {
-    match command {
-        Command::Translate => {
+    match job {
+        Job::Translate => {
             let tree = translate(alloc, program)?;
             Ok(made(Status::Done, print(alloc, &tree)?))
         }
-        Command::Check => Ok(fixed(Status::Done, ACCEPTED_LINE)),
-        Command::RunStl(steps, call) => run_reply(alloc, program, call, *steps, image),
-        Command::RunSt(_, _) => unreachable!(),
+        Job::Check => Ok(fixed(Status::Done, ACCEPTED_LINE)),
+        Job::Run(steps, call) => run_reply(alloc, program, call, *steps, image),
     }
 }
 
-/// What a command answers to an STL source, and to an image where it has one.
+/// What is answered to an STL source, and to an image where the job has one.
 fn source_reply<P: Source, M: Source>(
     alloc: Global,
-    command: &Command,
+    job: &Job,
     program: &mut P,
     image: &mut M,
 ) -> Result<Reply, Stop>
-    requires { IsStl command.now }
-    ensures reply { IfOk result (Answered (Some command.now) (P.left program.old) (M.left image.old)) }
-    ensures reads_program { ReadsProgram (Some command.now)
-        (input (P.left program.old) (P.left program.new) (P.faults program.old) (P.faults program.new))
-        (ending result) }
-    ensures reads_image { ReadsImage (Some command.now) (P.left program.old)
-        (input (M.left image.old) (M.left image.new) (M.faults image.old) (M.faults image.new)) (ending result) }
-    ensures read_fault { result ≡ Err Stop.ReadFault → FailedToRead (Some command.now)
-        (input (P.left program.old) (P.left program.new) (P.faults program.old) (P.faults program.new))
-        (input (M.left image.old) (M.left image.new) (M.faults image.old) (M.faults image.new)) }
+    ensures answer { IfOk result (Answered (Some (command_of job.now))
+        (input P.Source program.old program.new) (input M.Source image.old image.new)) }
+    ensures reads { ReadsFor (command_of job.now)
+        (input P.Source program.old program.new) (input M.Source image.old image.new) (ending result) }
+    ensures program_later { P.faults program.old ≤ P.faults program.new }
+    ensures image_later { M.faults image.old ≤ M.faults image.new }
 {
-    let source = match read_all(alloc, program, INPUT_LIMIT) {
-        Ok(source) => source,
-        Err(ReadRefusal::TooLong) => return Ok(fixed(Status::TooLong, TOO_LONG_LINE)),
-        Err(ReadRefusal::ReadFault) => return Err(Stop::ReadFault),
-        Err(ReadRefusal::NoMemory) => return Err(Stop::NoMemory),
+    let source = match read_input(alloc, program, INPUT_LIMIT) {
+        Ok(Some(source)) => source,
+        Ok(None) => return Ok(fixed(Status::TooLong, TOO_LONG_LINE)),
+        Err(stop) => return Err(stop),
     };
     match verdict(alloc, source.as_slice()) {
-        Ok(program) => program_reply(alloc, command, &program, image),
+        Ok(program) => program_reply(alloc, job, &program, image),
         Err(Rejection::Refused(line, reason)) => Ok(made(
             Status::Refused,
             refusal_line(alloc, line, reason)?,
@@ -273,7 +304,9 @@ fn text_call_reply(
 ) -> Result<Reply, NoMemory>
     requires runnable { IsRunnable tree.now }
     requires memory { IsMemoryOf tree.now.dbs memory.areas }
-    ensures { IfOk result (AnsweredRun units call.now tree.now memory.areas) }
+    ensures answer { IfOk result (AnsweredCall (FitsSt tree.now call.now)
+        (λ start. st_run tree.now call.now start units) memory.areas) }
+    ensures status { IfOk result (λ reply. IsWritten reply.status × SaysRead reply.status) }
 {
     let mut runner = match Runner::new(alloc, tree, memory, call) {
         Ok(runner) => runner,
@@ -296,16 +329,15 @@ fn tree_reply<M: Source>(
 ) -> Result<Reply, Stop>
     requires blocks { AreBlocks tree.now.dbs }
     requires runnable { IsRunnable tree.now }
-    ensures reply { IfOk result (AnsweredTree units call.now tree.now (M.left image.old)) }
-    ensures reads { ReadsRunImage (Unit {0})
-        (input (M.left image.old) (M.left image.new) (M.faults image.old) (M.faults image.new)) (ending result) }
-    ensures read_fault { result ≡ Err Stop.ReadFault → Rose (M.faults image.old) (M.faults image.new) }
+    ensures answer { IfOk result (AnsweredTo (λ bytes reply. AnswersRunSt units call.now bytes tree.now reply)
+        (input M.Source image.old image.new)) }
+    ensures reads { ReadsImage (input M.Source image.old image.new) (ending result) }
+    ensures later { M.faults image.old ≤ M.faults image.new }
 {
-    let text = match read_all(alloc, image, IMAGE_LIMIT) {
-        Ok(text) => text,
-        Err(ReadRefusal::TooLong) => return Ok(fixed(Status::TooLong, TOO_LONG_LINE)),
-        Err(ReadRefusal::ReadFault) => return Err(Stop::ReadFault),
-        Err(ReadRefusal::NoMemory) => return Err(Stop::NoMemory),
+    let text = match read_input(alloc, image, IMAGE_LIMIT) {
+        Ok(Some(text)) => text,
+        Ok(None) => return Ok(fixed(Status::TooLong, TOO_LONG_LINE)),
+        Err(stop) => return Err(stop),
     };
     match read_image(alloc, text.as_slice(), tree.dbs.as_slice()) {
         Ok(memory) => Ok(text_call_reply(alloc, tree, call, units, memory)?),
@@ -321,20 +353,17 @@ fn text_reply<P: Source, M: Source>(
     text: &mut P,
     image: &mut M,
 ) -> Result<Reply, Stop>
-    ensures reply { IfOk result (Answered (Some (RunSt units call.now)) (P.left text.old) (M.left image.old)) }
-    ensures reads_program { ReadsProgram (Some (RunSt units call.now))
-        (input (P.left text.old) (P.left text.new) (P.faults text.old) (P.faults text.new)) (ending result) }
-    ensures reads_image { ReadsImage (Some (RunSt units call.now)) (P.left text.old)
-        (input (M.left image.old) (M.left image.new) (M.faults image.old) (M.faults image.new)) (ending result) }
-    ensures read_fault { result ≡ Err Stop.ReadFault → FailedToRead (Some (RunSt units call.now))
-        (input (P.left text.old) (P.left text.new) (P.faults text.old) (P.faults text.new))
-        (input (M.left image.old) (M.left image.new) (M.faults image.old) (M.faults image.new)) }
+    ensures answer { IfOk result (Answered (Some (RunSt units call.now))
+        (input P.Source text.old text.new) (input M.Source image.old image.new)) }
+    ensures reads { ReadsFor (RunSt units call.now)
+        (input P.Source text.old text.new) (input M.Source image.old image.new) (ending result) }
+    ensures text_later { P.faults text.old ≤ P.faults text.new }
+    ensures image_later { M.faults image.old ≤ M.faults image.new }
 {
-    let source = match read_all(alloc, text, INPUT_LIMIT) {
-        Ok(source) => source,
-        Err(ReadRefusal::TooLong) => return Ok(fixed(Status::TooLong, TOO_LONG_LINE)),
-        Err(ReadRefusal::ReadFault) => return Err(Stop::ReadFault),
-        Err(ReadRefusal::NoMemory) => return Err(Stop::NoMemory),
+    let source = match read_input(alloc, text, INPUT_LIMIT) {
+        Ok(Some(source)) => source,
+        Ok(None) => return Ok(fixed(Status::TooLong, TOO_LONG_LINE)),
+        Err(stop) => return Err(stop),
     };
     match parse(alloc, source.as_slice()) {
         Ok(tree) => tree_reply(alloc, &tree, call, units, image),
@@ -353,21 +382,20 @@ pub fn reply_to<P: Source, M: Source>(
     program: &mut P,
     image: &mut M,
 ) -> Result<Reply, Stop>
-    ensures reply { IfOk result
-        (Answered (command_meant (map (λ word. string_bytes word) words.now)) (P.left program.old) (M.left image.old)) }
-    ensures reads_program { ReadsProgram (command_meant (map (λ word. string_bytes word) words.now))
-        (input (P.left program.old) (P.left program.new) (P.faults program.old) (P.faults program.new))
-        (ending result) }
-    ensures reads_image { ReadsImage (command_meant (map (λ word. string_bytes word) words.now)) (P.left program.old)
-        (input (M.left image.old) (M.left image.new) (M.faults image.old) (M.faults image.new)) (ending result) }
-    ensures read_fault { result ≡ Err Stop.ReadFault
-        → FailedToRead (command_meant (map (λ word. string_bytes word) words.now))
-        (input (P.left program.old) (P.left program.new) (P.faults program.old) (P.faults program.new))
-        (input (M.left image.old) (M.left image.new) (M.faults image.old) (M.faults image.new)) }
+    ensures answer { IfOk result (Answered (asked words.now)
+        (input P.Source program.old program.new) (input M.Source image.old image.new)) }
+    ensures reads { ReadsInputs (asked words.now)
+        (input P.Source program.old program.new) (input M.Source image.old image.new) (ending result) }
+    ensures program_later { P.faults program.old ≤ P.faults program.new }
+    ensures image_later { M.faults image.old ≤ M.faults image.new }
 {
     match read_words(alloc, words) {
+        Ok(Command::Translate) => source_reply(alloc, &Job::Translate, program, image),
+        Ok(Command::Check) => source_reply(alloc, &Job::Check, program, image),
+        Ok(Command::RunStl(steps, call)) => {
+            source_reply(alloc, &Job::Run(steps, call), program, image)
+        }
         Ok(Command::RunSt(units, call)) => text_reply(alloc, units, &call, program, image),
-        Ok(command) => source_reply(alloc, &command, program, image),
         Err(WordsRefusal::Usage) => Ok(fixed(Status::Usage, USAGE_LINE)),
         Err(WordsRefusal::NoMemory) => Err(Stop::NoMemory),
     }

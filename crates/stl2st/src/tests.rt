@@ -2,8 +2,9 @@
 //! for, and that a call answers while there is memory.
 ghost use Rattle.std.specs.Prelude.{◌≤◌};
 
-use crate::answer::{INPUT_LIMIT, stl2st};
+use crate::answer::stl2st;
 use crate::command::{Command, WordsRefusal, image_name, read_words};
+use crate::limits::INPUT_LIMIT;
 use crate::status::Status;
 use memory_areas::{Area, Place};
 use s7_base::{List, NoMemory, Width};

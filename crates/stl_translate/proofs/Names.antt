@@ -18,7 +18,7 @@ use Rattle.stl_tree.specs.declared.program.BlockName.{BlockName}
 use Rattle.stl_tree.specs.declared.program.BlockName.TheVariants as name
 use Rattle.st_tree.specs.StRun.{called_name, is_program, is_same_kind, unit_called}
 use Rattle.st_tree.specs.declared.program.Pou.{Pou}
-use Rattle.stl_translate.specs.Translation.{unit_name_of, unit_of}
+use Rattle.stl_translate.specs.inner.Translation.{unit_name_of, unit_of}
 use Rattle.stl_translate.specs.WellFormed.{IsNumbered}
 
 -- Numbers in names

@@ -16,8 +16,8 @@ use Rattle.st_tree.specs.Calls.{calls_to}
 use Rattle.st_tree.specs.StRun.{FitsSt, FitsIfThere, FitsUnit, run_of_unit, st_run, unit_called}
 use Rattle.st_tree.specs.declared.program.StProgram.{StProgram}
 use Rattle.st_tree.specs.declared.program.Pou.{Pou}
-use Rattle.stl_translate.specs.Same.{Same, SameRuns}
-use Rattle.stl_translate.specs.Translation.{translation, unit_of}
+use Rattle.stl_translate.specs.Same.{HasNoInstance, Same, SameRuns}
+use Rattle.stl_translate.specs.inner.Translation.{translation, unit_of}
 use Rattle.stl_translate.specs.WellFormed.{IsNumbered}
 use Rattle.stl_translate.proofs.Names.{IsAt, block_at, block_of, found_each, found_numbered, found_size, position_of, unit_found, no_function}
 use Rattle.stl_translate.proofs.Straight.{body_same}
@@ -69,7 +69,7 @@ module _ (program : Program) (formed : All IsAcceptedBlock program.blocks) (call
       ∙ body_same [] (calls_to units tree) (unit_of b) call number.0 number.1 program i b at.there shape.ends steps units memory room
       ∙ sym (ap (λ o. run_of_unit tree o call memory units) unit_there)
 
-  same_runs : SameRuns (stl_run program call) (st_run tree call) (size_of program)
+  same_runs : SameRuns program.dbs (stl_run program call) (st_run tree call) (size_of program)
   same_runs =
       record {
         forth = λ memory valid steps after fault ended.
@@ -91,19 +91,20 @@ some_unit None text call h = absurd h
 some_unit (Some b) text call h = refl
 
 -- a call of a text's program is one of the block that it was translated from
-fits_program : (program : Program) → All IsAcceptedBlock program.blocks → (call : Call) (called : BlockName) → IsNumbered called → FitsIfThere (translation program) call (unit_called called (map unit_of program.blocks)) → IsSome (block_called called program.blocks)
+fits_program : (program : Program) → All IsAcceptedBlock program.blocks → (call : Call) (called : BlockName) → HasNoInstance called → FitsIfThere (translation program) call (unit_called called (map unit_of program.blocks)) → IsSome (block_called called program.blocks)
 fits_program program formed call (name.Ob n) numbered fits =
     position_of (name.Ob n) program.blocks
     (some_unit (block_of (name.Ob n) program.blocks) (translation program) call
     (subst (λ (o : Option Pou). FitsIfThere (translation program) call o) (unit_found n numbered program.blocks formed) fits))
 fits_program program formed call (name.Fc n) numbered fits = absurd (subst (λ (o : Option Pou). FitsIfThere (translation program) call o) (no_function (name.Fc n) refl program.blocks) fits)
-fits_program program formed call (name.Fb n) numbered fits = absurd (subst (λ (o : Option Pou). FitsIfThere (translation program) call o) (no_function (name.Fb n) refl program.blocks) fits)
+fits_program program formed call (name.Fb n) none fits = absurd none
 
 -- an accepted program means what its translation means
 pub same_all : (program : Program) → IsAccepted program → Same program (translation program)
 same_all program accepted =
     let formed = accepted.blocks in
     record {
+      blocks = sym accepted.alone.dbs;
       fits_back = λ call numbered fits. fits_program program formed call call.block numbered fits;
       fits = λ call fits. let i = some_of (block_called call.block program.blocks) fits in fits_text program formed call i.0 i.1;
       runs = λ call fits. let i = some_of (block_called call.block program.blocks) fits in same_runs program formed call i.0 i.1;

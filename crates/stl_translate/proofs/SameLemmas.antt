@@ -19,7 +19,7 @@ use Rattle.st_tree.specs.declared.program.Located.{Located}
 use Rattle.st_tree.specs.declared.expr.Expr.TheVariants as expr
 use Rattle.st_tree.specs.declared.expr.Var.{Var}
 use Rattle.st_tree.proofs.Equations.{value_equations}
-use Rattle.stl_translate.specs.Translation.{next_rlo}
+use Rattle.stl_translate.specs.inner.Translation.{next_rlo}
 
 -- the registers of both languages agree, as far as the statements and their places read them, OR is clear,
 -- and the first activation runs

@@ -12,7 +12,7 @@ use Rattle.s7_base.specs.declared.register.Reg.TheVariants as reg
 use Rattle.s7_base.specs.StatusBits.{orb_after, rlo_after, StatusBits, after_check, after_assign}
 use Rattle.stl_tree.specs.Accepted.{EndsBehind, EndsOnce}
 use Rattle.stl_tree.specs.Instructions.{effect_of}
-use Rattle.stl_tree.specs.Now.{Activation, Now, next, with_memory, with_status, with_value}
+use Rattle.stl_tree.specs.Now.{Now, next, with_memory, with_status, with_value}
 use Rattle.stl_tree.specs.Registers.{RegisterValues, start}
 use Rattle.stl_tree.specs.StlRun.{instruction, running, over, after_effect, step_by, steps_on, end_of}
 use Rattle.stl_tree.specs.declared.program.Block.{Block}
@@ -41,7 +41,7 @@ use Rattle.st_tree.specs.declared.expr.Var.TheVariants as var
 use Rattle.st_tree.specs.declared.program.Stmt.{Stmt}
 use Rattle.st_tree.specs.declared.program.Stmt.TheVariants as stmt
 use Rattle.st_tree.proofs.Equations.{assign_goes_on, assign_stops_at_value, assign_stops_at_place, value_literal, value_read}
-use Rattle.stl_translate.specs.Translation.{bit_of, literal_of, next_rlo, read_of, set_of, statements_of}
+use Rattle.stl_translate.specs.inner.Translation.{bit_of, literal_of, next_rlo, read_of, set_of, statements_of}
 use Rattle.stl_translate.proofs.SameLemmas.{AreAlike, checked_value, checked_fault}
 
 -- Operands

@@ -14,7 +14,7 @@ use Rattle.stl_tree.specs.declared.program.Instr.{Instr}
 use Rattle.stl_tree.specs.declared.program.Block.{Block}
 use Rattle.st_tree.specs.Spelling.{unit_text, line, literal_text, spelling}
 use Rattle.st_tree.proofs.Equations.{canon_equations, text_assign}
-use Rattle.stl_translate.specs.Translation.{translation}
+use Rattle.stl_translate.specs.inner.Translation.{translation}
 
 abbrev instr_of : Op → Instr
 instr_of o = record { line = record { 0 = 3 }; op = o }

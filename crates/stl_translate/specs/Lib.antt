@@ -1,3 +1,3 @@
 pub mod Same
-pub mod Translation
 pub mod WellFormed
+pub mod inner

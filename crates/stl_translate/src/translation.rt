@@ -3,7 +3,7 @@
 //! Each instruction but the end word becomes two assignments, so the text keeps the order of the source.
 ghost use Rattle.std.specs.Prelude.{◌≡◌, ◌++◌, decimal, IfOk, OnOk};
 ghost use Rattle.stl_tree.specs.Accepted.{IsAccepted};
-ghost use Rattle.stl_translate.specs.Translation.{read_of, not_of, and_of, or_of, xor_of, literal_of, rlo_before_and, rlo_before_or, next_rlo, bit_of, set_of, statements_of, unit_name_of, unit_of, translation};
+ghost use Rattle.stl_translate.specs.inner.Translation.{read_of, not_of, and_of, or_of, xor_of, literal_of, rlo_before_and, rlo_before_or, next_rlo, bit_of, set_of, statements_of, unit_name_of, unit_of, translation};
 ghost use Rattle.stl_translate.specs.Same.{Same};
 
 use itoa::Buffer;

@@ -1,30 +1,45 @@
-use Rattle.std.proofs.Common.{◌≡◌, ◌∙◌, List, ℕ, sym, ap, Err}
+use Rattle.std.proofs.Common.{◌≡◌, ◌∙◌, List, ℕ, Ok, Err, refl, sym, ap}
 use Rattle.s7_base.specs.declared.reason.Rejection.TheVariants as rejection
 use Rattle.stl_tree.specs.Verdict.{verdict}
+use Rattle.stl2st.proofs.Answering.{ToJob, job_up, source_long, source_read, source_refused}
+use Rattle.stl2st.proofs.InputsRead.{job_reads, not_none, refused_alone, refused_wants_none}
+use Rattle.stl2st.specs.Answer.{IsAcceptedAs, IsRefusedSource}
 use Rattle.stl2st.specs.declared.status.Status.TheVariants.{Refused}
-use Rattle.stl2st.proofs.Answering.{reads_image, stl_accepted, stl_refused, stl_too_long, wants}
+use Rattle.stl2st.specs.inner.Replies.{command_of}
 use Rattle.stl2st.proofs.reply.source_reply.Goals as goal
 
-pub returns-in-Err-TooLong-clause-reply : goal.returns-in-Err-TooLong-clause-reply
-returns-in-Err-TooLong-clause-reply g c =
-    stl_too_long c.args.command.now c.requires _ _ _ c.fixed.result (c.in-Err-TooLong.ensures.too_long (ap Err c.in-Err-TooLong.field-0-is)) c.fixed.ensures
+pub returns-in-Ok-None-clause-answer : goal.returns-in-Ok-None-clause-answer
+returns-in-Ok-None-clause-answer g c =
+    source_long IsAcceptedAs IsRefusedSource (ToJob c.args.job.now) (command_of c.args.job.now) (job_up c.args.job.now) _ _ c.fixed.result
+    (rw c.in-Ok-None.field-0-is at c.in-Ok-None.ensures.found) c.fixed.ensures
 
-pub returns-in-Ok-verdict-clause-reads_image : goal.returns-in-Ok-verdict-clause-reads_image
-returns-in-Ok-verdict-clause-reads_image g c =
-    reads_image c.args.command.now _ _ _
-    (λ has. wants c.args.command.now c.requires has _ _ c.in-Ok.source.items c.in-Ok-verdict.program c.in-Ok.ensures.whole c.in-Ok.ensures.within
-    (ap verdict (sym c.as_slice.ensures.value) ∙ c.in-Ok-verdict.ensures.verdict))
-    c.program_reply.ensures.reads
+pub returns-in-Ok-clause-answer : goal.returns-in-Ok-clause-answer
+returns-in-Ok-clause-answer g c =
+    let found = rw c.in-Ok-Some.field-0-is at c.in-Ok-Some.ensures.found in
+    source_read IsAcceptedAs IsRefusedSource (ToJob c.args.job.now) (command_of c.args.job.now) (job_up c.args.job.now) _ _ c.in-Ok-Some.source.items c.in-Ok.program c.program_reply.result found.0 found.1
+    (ap verdict (sym c.as_slice.ensures.value) ∙ c.in-Ok.ensures.verdict) c.program_reply.ensures.answer
 
-pub returns-in-Err-Refused-clause-reply : goal.returns-in-Err-Refused-clause-reply
-returns-in-Err-Refused-clause-reply g c =
+pub returns-in-Ok-clause-reads : goal.returns-in-Ok-clause-reads
+returns-in-Ok-clause-reads g c =
+    let found = rw c.in-Ok-Some.field-0-is at c.in-Ok-Some.ensures.found in
+    job_reads c.args.job.now _ _ c.in-Ok-Some.source.items c.in-Ok.program _ found.0 found.1
+    (c.read_input.ensures.within (not_none c.in-Ok-Some.field-0 c.in-Ok-Some.source c.in-Ok-Some.field-0-is c.read_input.result c.in-Ok-Some.is))
+    (ap verdict (sym c.as_slice.ensures.value) ∙ c.in-Ok.ensures.verdict) c.program_reply.ensures.reads
+
+pub returns-in-Err-Refused-clause-answer : goal.returns-in-Err-Refused-clause-answer
+returns-in-Err-Refused-clause-answer g c =
+    let found = rw c.in-Ok-Some.field-0-is at c.in-Ok-Some.ensures.found in
     let refused : verdict c.as_slice.result.now ≡ Err (rejection.Refused c.in-Err-Refused.line c.in-Err-Refused.reason) =
     rw c.in-Err-Refused.field-0-is at c.in-Err-Refused.ensures.verdict in
-    stl_refused c.args.command.now c.requires _ _ _ c.in-Ok.source.items c.in-Err-Refused.line c.in-Err-Refused.reason c.made.result c.in-Ok.ensures.whole c.in-Ok.ensures.within
+    source_refused IsAcceptedAs IsRefusedSource (ToJob c.args.job.now) (command_of c.args.job.now) (job_up c.args.job.now) _ _ c.in-Ok-Some.source.items c.in-Err-Refused.line c.in-Err-Refused.reason c.made.result found.0 found.1
     (ap verdict (sym c.as_slice.ensures.value) ∙ refused)
     (c.made.ensures ∙ ap (λ (text : List ℕ). (Refused, text)) c.in_ok-refusal_line-in-Err-Refused.ensures)
 
-pub returns-in-Ok-verdict-clause-reply : goal.returns-in-Ok-verdict-clause-reply
-returns-in-Ok-verdict-clause-reply g c =
-    stl_accepted c.args.command.now c.requires _ _ _ c.in-Ok.source.items c.in-Ok-verdict.program c.program_reply.result c.in-Ok.ensures.whole c.in-Ok.ensures.within
-    (ap verdict (sym c.as_slice.ensures.value) ∙ c.in-Ok-verdict.ensures.verdict) c.program_reply.ensures.reply
+pub returns-in-Err-Refused-clause-reads : goal.returns-in-Err-Refused-clause-reads
+returns-in-Err-Refused-clause-reads g c =
+    let found = rw c.in-Ok-Some.field-0-is at c.in-Ok-Some.ensures.found in
+    let refused : verdict c.as_slice.result.now ≡ Err (rejection.Refused c.in-Err-Refused.line c.in-Err-Refused.reason) =
+    rw c.in-Err-Refused.field-0-is at c.in-Err-Refused.ensures.verdict in
+    refused_alone (command_of c.args.job.now) _ _ c.in-Ok-Some.source.items c.made.result _ c.made.ensures found.0
+    (refused_wants_none c.args.job.now c.in-Ok-Some.source.items c.in-Err-Refused.line c.in-Err-Refused.reason (ap verdict (sym c.as_slice.ensures.value) ∙ refused))
+    (record { left = refl; faults = refl })

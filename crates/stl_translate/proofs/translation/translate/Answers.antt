@@ -4,7 +4,7 @@ use Rattle.memory_areas.specs.declared.data_block.DataBlock.{DataBlock}
 use Rattle.st_tree.specs.declared.program.Located.{Located}
 use Rattle.st_tree.specs.declared.program.Pou.{Pou}
 use Rattle.stl_translate.specs.Same.{Same}
-use Rattle.stl_translate.specs.Translation.{unit_of}
+use Rattle.stl_translate.specs.inner.Translation.{unit_of}
 use Rattle.stl_translate.proofs.SameAll.{same_all}
 use Rattle.stl_translate.proofs.translation.translate.Goals as goal
 

@@ -1,0 +1,117 @@
+-- The parts of the program that make a reply, and what each answers.
+use Rattle.std.specs.Prelude.{◌≡◌, ℕ, ◌⊎◌, List, Option, Some, Result, Ok, Err}
+use Rattle.s7_io.specs.Sink.{Took, TookFewer}
+use Rattle.memory_areas.specs.Areas.{Areas}
+use Rattle.memory_areas.specs.End.{End}
+use Rattle.stl_tree.specs.declared.program.Program.{Program}
+use Rattle.stl2st.specs.Answer.{Reply, Answers, AnswersTranslate, AnswersCheck, AnswersRunStl, IsAcceptedAs, bad_call_line, run_reply}
+use Rattle.stl2st.specs.Devices.{AreOf, Input}
+use Rattle.stl2st.specs.Inputs.{IsReadPast, IsReadWhole, IsReadWithin, IsUntouched, SaysRead, SaysTooLong, Stopped}
+use Rattle.stl2st.specs.declared.command.Command.{Command}
+use Rattle.stl2st.specs.declared.command.Command.TheVariants as command
+use Rattle.stl2st.specs.declared.limits.TheConstants.{IMAGE_LIMIT}
+use Rattle.stl2st.specs.declared.reply.Job.{Job}
+use Rattle.stl2st.specs.declared.reply.Job.TheVariants as job
+use Rattle.stl2st.specs.declared.reply.Reply.{Reply as Made}
+use Rattle.stl2st.specs.declared.reply.Stop.{Stop}
+use Rattle.stl2st.specs.declared.reply.Stop.TheVariants as stop
+use Rattle.stl2st.specs.declared.reply.Text.{Text}
+use Rattle.stl2st.specs.declared.reply.Text.TheVariants as text
+use Rattle.stl2st.specs.declared.status.Status.{Status}
+use Rattle.stl2st.specs.declared.status.Status.TheVariants.{BadCall, ReadFault, WriteFault, NoMemory}
+
+-- Replies
+
+-- the bytes of a text
+abbrev pub bytes_of_text : Text → List ℕ
+bytes_of_text (text.Fixed line) = line.now
+bytes_of_text (text.Made bytes) = bytes.items
+
+-- a status and the text that goes with it
+abbrev pub reply_of : Made → Reply
+reply_of made = (made.status, bytes_of_text made.text)
+
+-- a status whose text is written whole
+abbrev pub IsWritten : Status → Type 0
+IsWritten ReadFault = ⊥
+IsWritten WriteFault = ⊥
+IsWritten NoMemory = ⊥
+IsWritten status = Unit {0}
+
+-- the status of what stopped a reply
+abbrev pub stop_status : Stop → Status
+stop_status stop.ReadFault = ReadFault
+stop_status stop.NoMemory = NoMemory
+
+-- the status that a reply ends with, or that of what stopped it
+abbrev pub ending : Result Made Stop → Status
+ending (Ok made) = made.status
+ending (Err why) = stop_status why
+
+-- What is answered
+
+-- the reply is an answer to the bytes of the image
+pub record AnsweredTo (To : List ℕ → Reply → Type 0) (image : Input) (made : Made) : Type 0 where
+  pub bytes : List ℕ
+  pub of_image : AreOf image.left bytes
+  pub answers : To bytes (reply_of made)
+  pub written : IsWritten made.status
+
+-- the reply is an answer to the command, the bytes of the source and those of the image
+pub record Answered (command : Option Command) (program image : Input) (made : Made) : Type 0 where
+  pub source : List ℕ
+  pub of_source : AreOf program.left source
+  pub bytes : List ℕ
+  pub of_image : AreOf image.left bytes
+  pub answers : Answers command source bytes (reply_of made)
+  pub written : IsWritten made.status
+
+-- the reply is that of a call which fits or does not, and of its run from a memory
+abbrev pub AnsweredCall : Type 0 → (Areas → End) → Areas → Made → Type 0
+AnsweredCall Fits run memory made =
+    (Fits × (reply_of made ≡ run_reply memory (run memory)))
+    ⊎ (¬ Fits × (reply_of made ≡ (BadCall, bad_call_line)))
+
+-- Programs
+
+-- some source is accepted as the program
+pub record HasSource (program : Program) : Type 0 where
+  pub bytes : List ℕ
+  pub accepted : IsAcceptedAs bytes program
+
+-- the command that does a job
+abbrev pub command_of : Job → Command
+command_of job.Translate = command.Translate
+command_of job.Check = command.Check
+command_of (job.Run steps call) = command.RunStl steps call
+
+-- what a job answers to a program and the bytes of an image
+abbrev pub AnswersJob : Job → Program → List ℕ → Reply → Type 0
+AnswersJob job.Translate program bytes reply = AnswersTranslate program reply
+AnswersJob job.Check program bytes reply = AnswersCheck program reply
+AnswersJob (job.Run steps call) program bytes reply = AnswersRunStl steps call bytes program reply
+
+-- How far an input was read
+
+-- how far the image of a run was read
+pub data ReadsImage (image : Input) (status : Status) : Type 0 where
+  stopped : Stopped image status → IsReadWithin image IMAGE_LIMIT → ReadsImage image status
+  long : SaysTooLong status → IsReadPast image IMAGE_LIMIT → ReadsImage image status
+  whole : (bytes : List ℕ) → SaysRead status → IsReadWhole image bytes → ReadsImage image status
+
+-- the image was not read, and no input was too long
+abbrev pub ReadsNoImage : Input → Status → Type 0
+ReadsNoImage image status = IsUntouched image × (SaysRead status ⊎ (status ≡ NoMemory))
+
+-- how far a job reads the image
+abbrev pub ReadsJob : Job → Input → Status → Type 0
+ReadsJob job.Translate image status = ReadsNoImage image status
+ReadsJob job.Check image status = ReadsNoImage image status
+ReadsJob (job.Run steps call) image status = ReadsImage image status
+
+-- What is written
+
+-- a text was written, or a proper prefix of it
+abbrev pub Ends : Option (List ℕ) → Option (List ℕ) → Status → List ℕ → Status → Type 0
+Ends before after status bytes result =
+    ((result ≡ status) × Took before after bytes) ⊎ ((result ≡ WriteFault) × TookFewer before after bytes)
