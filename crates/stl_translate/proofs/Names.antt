@@ -19,9 +19,14 @@ use Rattle.stl_tree.specs.declared.program.BlockName.TheVariants as name
 use Rattle.st_tree.specs.StRun.{called_name, is_program, is_same_kind, unit_called}
 use Rattle.st_tree.specs.declared.program.Pou.{Pou}
 use Rattle.stl_translate.specs.inner.Translation.{unit_name_of, unit_of}
-use Rattle.stl_translate.specs.WellFormed.{IsNumbered}
 
 -- Numbers in names
+
+-- the number of a block has 16 bits
+abbrev pub IsNumbered : BlockName → Type 0
+IsNumbered (name.Ob n) = n < 2 ^ 16
+IsNumbered (name.Fc n) = n < 2 ^ 16
+IsNumbered (name.Fb n) = n < 2 ^ 16
 
 -- a digit has one case
 digit_stays : (n : ℕ) → n < 10 → to_ascii_lowercase (48 + n) ≡ 48 + n
@@ -55,7 +60,7 @@ same_name (name.Fc m) (name.Fb n) h k = refl
 same_name (name.Fb m) (name.Ob n) h k = refl
 same_name (name.Fb m) (name.Fc n) h k = refl
 
--- the number of a block has 16 bits
+-- that of an accepted block has
 numbered : (name : BlockName) → IsBlockNumber name → IsNumbered name
 numbered (name.Ob n) h = omega (arith, h.1)
 numbered (name.Fc n) h = omega arith

@@ -18,8 +18,7 @@ use Rattle.st_tree.specs.declared.program.StProgram.{StProgram}
 use Rattle.st_tree.specs.declared.program.Pou.{Pou}
 use Rattle.stl_translate.specs.Same.{HasNoInstance, Same, SameRuns}
 use Rattle.stl_translate.specs.inner.Translation.{translation, unit_of}
-use Rattle.stl_translate.specs.WellFormed.{IsNumbered}
-use Rattle.stl_translate.proofs.Names.{IsAt, block_at, block_of, found_each, found_numbered, found_size, position_of, unit_found, no_function}
+use Rattle.stl_translate.proofs.Names.{IsAt, IsNumbered, block_at, block_of, found_each, found_numbered, found_size, position_of, unit_found, no_function}
 use Rattle.stl_translate.proofs.Straight.{body_same}
 
 some_of : (o : Option ℕ) → IsSome o → (i : ℕ) × (o ≡ Some i)
