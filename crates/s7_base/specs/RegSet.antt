@@ -1,4 +1,4 @@
-use Rattle.std.specs.Prelude.{ℕ, Bool, ◌==◌}
+use Rattle.std.specs.Prelude.{◌≡◌, ℕ, Bool, ◌==◌}
 use Rattle.std.specs.Int.{bit_at}
 use Rattle.s7_base.specs.declared.register.Reg.{Reg}
 use Rattle.s7_base.specs.declared.register.Reg.TheVariants as reg
@@ -22,6 +22,14 @@ place reg.Cc0 = 12
 place reg.Cc1 = 13
 place reg.Br = 14
 
+-- whether the bits of a set have that of a register
+unfoldable pub has_bit : ℕ → Reg → Bool
+has_bit bits r = bit_at bits (place r) == 1
+
 -- whether a set holds a register
-unfoldable pub has_reg : RegSet → Reg → Bool
-has_reg s r = bit_at s.0 (place r) == 1
+abbrev pub has_reg : RegSet → Reg → Bool
+has_reg s r = has_bit s.bits r
+
+-- sets with the same registers are equal
+abbrev pub SameRegistersAreEqual : Type 0
+SameRegistersAreEqual = (s t : RegSet) → ((r : Reg) → has_reg s r ≡ has_reg t r) → s ≡ t

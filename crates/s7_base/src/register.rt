@@ -1,7 +1,5 @@
 //! The registers that both languages know, and sets of them.
-ghost use Rattle.std.specs.Prelude.{◌≡◌, ◌≢◌, ◌||◌, true, false};
-ghost use Rattle.s7_base.specs.declared.register.Reg.{Reg};
-ghost use Rattle.s7_base.specs.RegSet.{has_reg, place};
+ghost use Rattle.std.specs.Prelude.{◌^◌, ◌<◌};
 
 /// A register of the controller; the last nine are the bits of the status word.
 #[derive(Clone, Copy, Debug, PartialEq, Eq)]
@@ -52,17 +50,37 @@ pub enum Reg {
     Br,
 }
 
-/// A set of registers: a bit for each, in their order from the lowest. The highest bit stands for none.
-#[derive(Clone, Copy, Debug, PartialEq, Eq)]
-pub struct RegSet(pub u16);
+impl Reg {
+    ghost use Rattle.std.specs.Prelude.{◌≡◌};
+    ghost use Rattle.s7_base.specs.RegSet.{place};
 
-#[tactic(auto, using(crate::proofs::Sets::set_lemmas), unfolding(crate::specs::RegSet::has_reg))]
+    /// The place of the register's bit in a set.
+    fn place(self) -> u32
+        ensures { result ≡ place self }
+    {
+        self as u32
+    }
+}
+
+/// A set of registers: a bit for each, in their order from the lowest, and no other bit. So sets with the
+/// same registers are equal.
+#[derive(Clone, Copy, Debug, PartialEq, Eq)]
+pub struct RegSet {
+    bits: u16,
+    ghost within: { bits < 2 ^ 15 },
+}
+
+#[tactic(auto, using(crate::proofs::Sets::set_lemmas), unfolding(crate::specs::RegSet::has_bit))]
 impl RegSet {
+    ghost use Rattle.std.specs.Prelude.{◌≡◌, ◌≢◌, ◌||◌, true, false};
+    ghost use Rattle.s7_base.specs.declared.register.Reg.{Reg};
+    ghost use Rattle.s7_base.specs.RegSet.{has_reg};
+
     /// The empty set.
     pub fn none() -> RegSet
         ensures { (q : Reg) → has_reg result q ≡ false }
     {
-        RegSet(0)
+        RegSet { bits: 0 }
     }
 
     /// The set with one more register.
@@ -70,7 +88,9 @@ impl RegSet {
         ensures same { has_reg result r ≡ true }
         ensures other { (q : Reg) → q ≢ r → has_reg result q ≡ has_reg self q }
     {
-        RegSet(self.0 | 1 << place_of(r))
+        RegSet {
+            bits: self.bits | 1 << r.place(),
+        }
     }
 
     /// The set with one register less.
@@ -78,27 +98,24 @@ impl RegSet {
         ensures same { has_reg result r ≡ false }
         ensures other { (q : Reg) → q ≢ r → has_reg result q ≡ has_reg self q }
     {
-        RegSet(self.0 & !(1 << place_of(r)))
+        RegSet {
+            bits: self.bits & !(1 << r.place()),
+        }
     }
 
     /// Whether the register is in the set.
     pub fn has(self, r: Reg) -> bool
         ensures { result ≡ has_reg self r }
     {
-        self.0 >> place_of(r) & 1 == 1
+        self.bits >> r.place() & 1 == 1
     }
 
     /// The registers of either set.
     pub fn union(self, other: RegSet) -> RegSet
         ensures { (q : Reg) → has_reg result q ≡ (has_reg self q || has_reg other q) }
     {
-        RegSet(self.0 | other.0)
+        RegSet {
+            bits: self.bits | other.bits,
+        }
     }
-}
-
-/// The place of a register's bit in a set.
-fn place_of(r: Reg) -> u32
-    ensures { result ≡ place r }
-{
-    r as u32
 }
