@@ -1,6 +1,6 @@
 mod JudgedTexts
 pub mod Nesting
-mod OneReading
+pub mod OneReading
 mod SomeReading
 pub mod TextReads
 mod Texts

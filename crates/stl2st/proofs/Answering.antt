@@ -1,5 +1,5 @@
 -- How the parts of a reply give its answer.
-use Rattle.std.proofs.Common.{◌≡◌, ℕ, ◌+◌, ◌<◌, ◌≤◌, ◌⊎◌, inl, inr, List, [], length, Option, Some, None, refl, sym, ap, subst, ◌∙◌, Result, Ok, Err, arith, length-append}
+use Rattle.std.proofs.Common.{◌≡◌, ℕ, ◌+◌, ◌<◌, ◌≤◌, inl, inr, List, [], length, Option, Some, None, refl, sym, ap, subst, ◌∙◌, Result, Ok, Err, arith, length-append}
 use Rattle.std.specs.Prelude.{IfOk}
 use Rattle.s7_base.specs.declared.outcome.Outcome.{Outcome}
 use Rattle.s7_base.specs.declared.outcome.Outcome.TheVariants as outcome
@@ -27,7 +27,7 @@ use Rattle.stl_tree.specs.Accepted.{IsAccepted}
 use Rattle.stl_tree.specs.StlRun.{Standing, running, over, end_of}
 use Rattle.stl_tree.specs.declared.program.Program.{Program}
 use Rattle.stl2st.proofs.ProperText.{proper}
-use Rattle.stl2st.specs.Answer.{Reply, Answers, AnswersRun, AnswersSource, IsAcceptedAs, IsRefusedSource, Translates, accepted_line, bad_call_line, image_reply, refusal_line, run_reply, run_status, too_long_line, usage_line, source_too_long, refused, read, image_too_long, bad_image, bad_call, ran}
+use Rattle.stl2st.specs.Answer.{Reply, Answers, AnswersRun, AnswersSource, IsAcceptedAs, IsRefusedSource, Translates, accepted_line, image_reply, refusal_line, run_reply, run_status, too_long_line, usage_line, source_too_long, refused, read, image_too_long, bad_image, bad_call, ran}
 use Rattle.stl2st.specs.Devices.{AreOf, Input}
 use Rattle.stl2st.specs.Inputs.{IsReadPast, IsReadWhole}
 use Rattle.stl2st.specs.declared.command.Command.{Command}
@@ -37,7 +37,7 @@ use Rattle.stl2st.specs.declared.reply.Job.TheVariants as job
 use Rattle.stl2st.specs.declared.reply.Reply.{Reply as Made}
 use Rattle.stl2st.specs.declared.reply.Stop.{Stop}
 use Rattle.stl2st.specs.declared.status.Status.{Status}
-use Rattle.stl2st.specs.declared.status.Status.TheVariants.{Done, Refused, Usage, BadCall, TooLong}
+use Rattle.stl2st.specs.declared.status.Status.TheVariants.{Done, Refused, Usage, TooLong}
 use Rattle.stl2st.specs.inner.Replies.{Answered, AnsweredCall, AnsweredTo, AnswersJob, HasSource, IsWritten, command_of, reply_of}
 
 -- Bytes of an input
@@ -114,7 +114,7 @@ run_shown outcome.Going shown start areas made s e = e ∙ sym (ap (run_reply st
 
 -- and that of a run of STL, which its standing shows
 pub run_stood : (s : Standing) (start : Areas) (made : Made) → reply_of made ≡ (run_status (outcome_of s), report (outcome_of s) (memory_of s).areas) → reply_of made ≡ run_reply start (end_of s)
-run_stood (running block r memory) start made e = e
+run_stood (running program now) start made e = e
 run_stood (over memory f) start made e = e
 
 -- Programs

@@ -1,5 +1,5 @@
 -- What stands when a reply is written, or could not be: the theorem, and what follows from it.
-use Rattle.std.proofs.Common.{◌≡◌, ℕ, ◌⊎◌, inl, inr, List, Option, Some, None, refl, sym, ap, subst, ◌∙◌}
+use Rattle.std.proofs.Common.{◌≡◌, ℕ, ◌⊎◌, inl, inr, List, Option, Some, None, refl, sym, subst, ◌∙◌}
 use Rattle.s7_base.specs.declared.reason.Line.{Line}
 use Rattle.s7_base.specs.declared.reason.Reason.{Reason}
 use Rattle.s7_io.specs.Sink.{Took}
@@ -7,7 +7,7 @@ use Rattle.stl_tree.specs.declared.program.Program.{Program}
 use Rattle.stl2st.proofs.Answering.{HasBytes, some_bytes}
 use Rattle.st_parser.specs.Texts.{IsTextOf, IsRefusedText}
 use Rattle.stl2st.specs.Answer.{Reply, Answers, AnswersRunSt, AnswersRunStl, AnswersSource, AnswersStl, AnswersTranslate, IsAcceptedAs, IsRead, IsRefusedSource, Translates, Wants, source_too_long, refused, read}
-use Rattle.stl2st.specs.Devices.{AreOf, Devices, Input, Output, ReadFailed, WriteFailed}
+use Rattle.stl2st.specs.Devices.{AreOf, Devices, Input, Output, ReadFailed}
 use Rattle.stl2st.specs.Promises.{Completes, FailedToRead, HasCause, IsAnswered, IsTranslated, Sends, Translated, Writes}
 use Rattle.stl2st.specs.declared.command.Command.{Command}
 use Rattle.stl2st.specs.declared.command.Command.TheVariants.{Translate, Check, RunStl, RunSt}

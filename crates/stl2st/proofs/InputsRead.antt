@@ -1,8 +1,7 @@
 -- How far the inputs were read, at each way out.
-use Rattle.std.proofs.Common.{◌≡◌, ℕ, ◌≤◌, ◌⊎◌, inl, inr, List, length, Option, Some, None, refl, sym, ap, subst, ◌∙◌}
+use Rattle.std.proofs.Common.{◌≡◌, ℕ, ◌≤◌, inl, inr, List, length, Option, Some, None, refl, sym, ap, subst, ◌∙◌}
 use Rattle.s7_base.specs.declared.reason.Line.{Line}
 use Rattle.s7_base.specs.declared.reason.Reason.{Reason}
-use Rattle.s7_base.specs.declared.reason.Rejection.{Rejection}
 use Rattle.s7_base.specs.declared.reason.Rejection.TheVariants as rejection
 use Rattle.std.specs.Prelude.{Result, Ok, Err}
 use Rattle.st_parser.proofs.OneReading.{not_both}
@@ -12,13 +11,13 @@ use Rattle.stl_tree.specs.declared.program.Call.{Call}
 use Rattle.stl_tree.specs.declared.program.Program.{Program}
 use Rattle.stl2st.proofs.Answering.{are_of}
 use Rattle.stl2st.specs.declared.reply.Reply.{Reply as Made}
-use Rattle.stl2st.specs.Answer.{Reply, IsAcceptedAs, IsRead, IsRefusedSource, Wants}
-use Rattle.stl2st.specs.Devices.{AreOf, Input, ReadFailed}
-use Rattle.stl2st.specs.Inputs.{IsReadPast, IsReadWhole, IsReadWithin, IsUntouched, ReadsFor, ReadsInputs, SaysRead, SaysTooLong, Stopped, source_failed, source_long, source_alone, image_failed, image_long, both}
+use Rattle.stl2st.specs.Answer.{Reply, IsAcceptedAs, IsRefusedSource, Wants}
+use Rattle.stl2st.specs.Devices.{Input}
+use Rattle.stl2st.specs.Inputs.{IsReadWhole, IsReadWithin, IsUntouched, ReadsFor, ReadsInputs, SaysRead, SaysTooLong, Stopped, source_failed, source_long, source_alone, image_failed, image_long, both}
 use Rattle.stl2st.specs.Promises.{FailedToRead}
 use Rattle.stl2st.specs.declared.command.Command.{Command}
 use Rattle.stl2st.specs.declared.command.Command.TheVariants.{Translate, Check, RunStl, RunSt}
-use Rattle.stl2st.specs.declared.limits.TheConstants.{INPUT_LIMIT, IMAGE_LIMIT}
+use Rattle.stl2st.specs.declared.limits.TheConstants.{INPUT_LIMIT}
 use Rattle.stl2st.specs.declared.reply.Job.{Job}
 use Rattle.stl2st.specs.declared.reply.Job.TheVariants as job
 use Rattle.stl2st.specs.declared.status.Status.{Status}

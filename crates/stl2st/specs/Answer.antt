@@ -27,7 +27,7 @@ use Rattle.stl2st.specs.declared.command.Command.{Command}
 use Rattle.stl2st.specs.declared.command.Command.TheVariants.{Translate, Check, RunStl, RunSt}
 use Rattle.stl2st.specs.declared.limits.TheConstants.{INPUT_LIMIT, IMAGE_LIMIT}
 use Rattle.stl2st.specs.declared.status.Status.{Status}
-use Rattle.stl2st.specs.declared.status.Status.TheVariants.{Done, Refused, Usage, BadImage, BadCall, Faulted, Going, ReadFault, WriteFault, TooLong, NoMemory}
+use Rattle.stl2st.specs.declared.status.Status.TheVariants.{Done, Refused, Usage, BadImage, BadCall, Faulted, Going, TooLong, NoMemory}
 
 -- Lines
 

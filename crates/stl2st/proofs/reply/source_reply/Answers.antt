@@ -1,4 +1,4 @@
-use Rattle.std.proofs.Common.{◌≡◌, ◌∙◌, List, ℕ, Ok, Err, refl, sym, ap}
+use Rattle.std.proofs.Common.{◌≡◌, ◌∙◌, List, ℕ, Err, refl, sym, ap}
 use Rattle.s7_base.specs.declared.reason.Rejection.TheVariants as rejection
 use Rattle.stl_tree.specs.Verdict.{verdict}
 use Rattle.stl2st.proofs.Answering.{ToJob, job_up, source_long, source_read, source_refused}

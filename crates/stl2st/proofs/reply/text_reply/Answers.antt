@@ -1,9 +1,10 @@
-use Rattle.std.proofs.Common.{List, ℕ, subst}
+use Rattle.std.proofs.Common.{◌∙◌, List, ℕ, refl, ap, subst}
 use Rattle.st_parser.specs.Texts.{IsTextOf, IsRefusedText}
-use Rattle.stl2st.proofs.Answering.{source_long, source_read}
-use Rattle.stl2st.proofs.InputsRead.{text_reads}
+use Rattle.stl2st.proofs.Answering.{source_long, source_read, source_refused}
+use Rattle.stl2st.proofs.InputsRead.{refused_alone, refused_text_wants_none, text_reads}
 use Rattle.stl2st.specs.Answer.{AnswersRunSt}
 use Rattle.stl2st.specs.declared.command.Command.TheVariants.{RunSt}
+use Rattle.stl2st.specs.declared.status.Status.TheVariants.{Refused}
 use Rattle.stl2st.proofs.reply.text_reply.Goals as goal
 
 pub returns-in-Ok-None-clause-answer : goal.returns-in-Ok-None-clause-answer
@@ -22,3 +23,22 @@ returns-in-Ok-clause-reads g c =
     let found = rw c.in-Ok-Some.field-0-is at c.in-Ok-Some.ensures.found in
     text_reads c.args.units c.args.call.now _ _ c.in-Ok-Some.source.items c.in-Ok.tree _ found.0 found.1
     (subst (λ (bytes : List ℕ). IsTextOf bytes c.in-Ok.tree) c.as_slice.ensures.value c.in-Ok.ensures.tree) c.tree_reply.ensures.reads
+
+pub returns-in-Err-Refused-clause-answer : goal.returns-in-Err-Refused-clause-answer
+returns-in-Err-Refused-clause-answer g c =
+    let found = rw c.in-Ok-Some.field-0-is at c.in-Ok-Some.ensures.found in
+    let refused : IsRefusedText c.as_slice.result.now c.in-Err-Refused.line c.in-Err-Refused.reason =
+    rw c.in-Err-Refused.field-0-is at c.in-Err-Refused.ensures.refused in
+    source_refused IsTextOf IsRefusedText (AnswersRunSt c.args.units c.args.call.now) (RunSt c.args.units c.args.call.now) (λ source bytes reply a. a) _ _ c.in-Ok-Some.source.items c.in-Err-Refused.line c.in-Err-Refused.reason c.made.result found.0 found.1
+    (subst (λ (bytes : List ℕ). IsRefusedText bytes c.in-Err-Refused.line c.in-Err-Refused.reason) c.as_slice.ensures.value refused)
+    (c.made.ensures ∙ ap (λ (text : List ℕ). (Refused, text)) c.in_ok-written-in-Err-Refused.ensures)
+
+pub returns-in-Err-Refused-clause-reads : goal.returns-in-Err-Refused-clause-reads
+returns-in-Err-Refused-clause-reads g c =
+    let found = rw c.in-Ok-Some.field-0-is at c.in-Ok-Some.ensures.found in
+    let refused : IsRefusedText c.as_slice.result.now c.in-Err-Refused.line c.in-Err-Refused.reason =
+    rw c.in-Err-Refused.field-0-is at c.in-Err-Refused.ensures.refused in
+    refused_alone (RunSt c.args.units c.args.call.now) _ _ c.in-Ok-Some.source.items c.made.result _ c.made.ensures found.0
+    (refused_text_wants_none c.args.units c.args.call.now c.in-Ok-Some.source.items c.in-Err-Refused.line c.in-Err-Refused.reason
+    (subst (λ (bytes : List ℕ). IsRefusedText bytes c.in-Err-Refused.line c.in-Err-Refused.reason) c.as_slice.ensures.value refused))
+    (record { left = refl; faults = refl })
