@@ -1,12 +1,25 @@
 pub mod CanonEquations
 pub mod Ends
 pub mod Equations
+pub mod FittingCalls
+pub mod FittingMemory
+pub mod FittingStart
+pub mod FittingStatements
+pub mod FittingStates
+pub mod FittingValues
+pub mod FittingWrites
 pub mod Induction
 pub mod PartEquations
+pub mod ProperRuns
 pub mod RawInduction
+pub mod TypedParts
+pub mod TypesAgree
+pub mod TypingEquations
 pub mod Units
 mod CallRows
+mod FittingRows
 mod OperatorRows
 mod PartRows
+mod ProperRows
 mod RunRows
 mod SpellingRows

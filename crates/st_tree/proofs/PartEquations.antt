@@ -15,7 +15,7 @@ use Rattle.st_tree.specs.declared.expr.UnaryOp.{UnaryOp}
 use Rattle.st_tree.specs.declared.expr.Var.{Var}
 use Rattle.st_tree.specs.declared.program.Arm.{Arm, out-Arm, para-Arm, para-roll-Arm, roll-out-Arm}
 use Rattle.st_tree.specs.declared.program.CaseArm.{CaseArm, out-CaseArm, para-CaseArm, para-roll-CaseArm, roll-out-CaseArm}
-use Rattle.st_tree.specs.declared.program.Stmt.{Stmt, map-Stmt, out-Stmt, out-roll-Stmt, para-Stmt, para-roll-Stmt, roll-Stmt}
+use Rattle.st_tree.specs.declared.program.Stmt.{Stmt, map-Stmt, out-Stmt, out-roll-Stmt, para-roll-Stmt, roll-Stmt}
 use Rattle.st_tree.specs.declared.program.Stmt.TheOpen as S
 use Rattle.st_tree.specs.declared.program.Stmt.TheVariants as stmt
 use Rattle.st_tree.proofs.Equations.{fold_literal, fold_read, fold_unary, fold_binary, fold_convert, fold_select, fold_shift, fold_area_read}

@@ -57,16 +57,16 @@ unit_there (q ∷ ps) (v ∷ us) a zero p u h g =
 unit_there (q ∷ ps) (v ∷ us) a (suc n) p u h g = unit_there ps us a.1 n p u h g
 
 -- what a text that has a tree declares
-record IsDeclared (raw : RawSt) (t : StProgram) : Type 0 where
-  blocks : all_blocks raw.globals ≡ t.dbs
-  located : all_located raw.globals ≡ t.globals
-  units : AreUnitsAt t.pous raw.pous
-  names : Lists (names_of raw) (outer_entries t)
-  numbered : AreNumbered t.dbs
-  placed : ArePlaced t.globals
-  inside : (n : ℕ) (u : RawPou) → slice_get raw.pous n ≡ Some u → (all_inside u.formals u.locals).breaks ≡ []
+pub record IsDeclared (raw : RawSt) (t : StProgram) : Type 0 where
+  pub blocks : all_blocks raw.globals ≡ t.dbs
+  pub located : all_located raw.globals ≡ t.globals
+  pub units : AreUnitsAt t.pous raw.pous
+  pub names : Lists (names_of raw) (outer_entries t)
+  pub numbered : AreNumbered t.dbs
+  pub placed : ArePlaced t.globals
+  pub inside : (n : ℕ) (u : RawPou) → slice_get raw.pous n ≡ Some u → (all_inside u.formals u.locals).breaks ≡ []
 
-is_declared : (raw : RawSt) (t : StProgram) → HasTree raw t → IsDeclared raw t
+pub is_declared : (raw : RawSt) (t : StProgram) → HasTree raw t → IsDeclared raw t
 is_declared raw t h =
     let outer = names_of raw in
     let formals = map formals_of raw.pous in
@@ -116,10 +116,10 @@ types_same (l ∷ ls) (r ∷ rs) a types =
     ap (λ more. fold with_type more rs) one ∙ types_same ls rs a.1 (with_entry (key_of l.name) l.ty types)
 
 -- the formals of a unit of the tree
-abbrev formals_in : Pou → Formals
+abbrev pub formals_in : Pou → Formals
 formals_in p = record { keys = keys_of_locals p.formals; types = types_of_locals p.formals }
 
-formals_same : (ps : List Pou) (us : List RawPou) → AreUnitsAt ps us → map formals_of us ≡ map formals_in ps
+pub formals_same : (ps : List Pou) (us : List RawPou) → AreUnitsAt ps us → map formals_of us ≡ map formals_in ps
 formals_same [] [] a = refl
 formals_same [] (u ∷ us) a = absurd a
 formals_same (p ∷ ps) [] a = absurd a
@@ -245,7 +245,7 @@ from_start : {X : Type 0} (xs : List X) (n : ℕ) (x : X) → slice_get xs n ≡
 from_start xs n x h = let e : 0 + n ≡ n = omega arith in ap (slice_get xs) e ∙ h
 
 -- a scope says of each name what stands in the tree
-scope_declares : (t : StProgram) (p : Pou) (scope : Scope) → Lists scope.inner (inner_entries p) → Lists scope.outer (outer_entries t) → scope.formals ≡ map formals_in t.pous
+pub scope_declares : (t : StProgram) (p : Pou) (scope : Scope) → Lists scope.inner (inner_entries p) → Lists scope.outer (outer_entries t) → scope.formals ≡ map formals_in t.pous
     → Declares scope (names_in t p)
 scope_declares t p scope inner outer formals = record {
   formal = λ key i ty h. stands key (meaning.Formal i ty) tt h;

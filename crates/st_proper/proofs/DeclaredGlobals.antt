@@ -1,0 +1,180 @@
+-- The section of globals of a proper tree: it is of the language, tokens can have its parts, it
+-- nests no deeper than it may, and it declares what the tree has.
+use Rattle.std.proofs.Common.{◌≡◌, ℕ, ◌-◌, ◌≤◌, ◌^◌, true, List, [], ◌∷◌, ◌++◌, length, Some, None, refl, sym, ap, ◌∙◌, arith, append_assoc, append-nil}
+use Rattle.std.specs.Prelude.{nat_lt}
+use Rattle.std.proofs.lemmas.Bool.Decides.{nat_tests}
+use Rattle.memory_areas.specs.declared.data_block.DataBlock.{DataBlock}
+use Rattle.memory_areas.specs.declared.place.AreaName.{AreaName}
+use Rattle.memory_areas.specs.declared.place.AreaName.TheVariants as area
+use Rattle.s7_base.specs.Tokens.{line_after}
+use Rattle.s7_base.specs.declared.word.Width.TheVariants as width
+use Rattle.st_canonical.specs.Canonical.{area_form, block_name, blocks_from, globals_form, globals_from, items_form, located_from, on}
+use Rattle.st_grammar.specs.Forms.{plain, bytes, Globals, no_global, global, Section, present}
+use Rattle.st_grammar.specs.Grammar.{GlobalsFit, IfPresent, held, tree_globals, tree_items}
+use Rattle.st_grammar.specs.Levels.{levels_globals, levels_section}
+use Rattle.st_canonical.specs.Spelled.{GlobalsSpelled, is_variable}
+use Rattle.st_proper.proofs.BlockForms.{AreWithin, IsFull, block_is_name, block_is_named, globals_within, is_written, with_zero}
+use Rattle.st_proper.proofs.GlobalForms.{Each, IsPlain}
+use Rattle.st_tree.specs.Values.{width_at}
+use Rattle.st_tree.specs.declared.program.Located.{Located}
+use Rattle.st_tree.specs.declared.raw.RawGlobal.{RawGlobal}
+use Rattle.st_tree.specs.declared.raw.RawGlobalType.TheVariants as type
+use Rattle.st_tree.specs.declared.raw.RawVar.TheVariants as raw
+use Rattle.st_types_laws.proofs.Redeclared.{AreBlocksAt, AreLocatedAt, IsBlockAt, IsLocatedAt}
+
+-- globals of the language that tokens can have
+record AreSound (gs : Globals) : Type 0 where
+  fit : GlobalsFit gs
+  spelled : GlobalsSpelled gs
+
+-- globals after others, with what they declare
+record Behind (others all : Globals) (P : List RawGlobal → Type 0) : Type 0 where
+  sound : AreSound all
+  more : List RawGlobal
+  same : tree_globals all ≡ tree_globals others ++ more
+  are : P more
+
+-- Data blocks
+
+block_placed : (b : DataBlock) → IsFull b → is_variable (raw.Direct area.Db (Some b.number) width.Byte 0 0) ≡ true
+block_placed b f = let small : nat_lt b.number (2 ^ 32)
+    ≡ true = let s : b.number ≤ 65535 = f.small in grind (arith, nat_tests) in rw small refl
+
+-- what it declares
+abbrev block_global : DataBlock → ℕ → RawGlobal
+block_global b line = record {
+  name = block_name b.number;
+  line = on line;
+  at = raw.Direct area.Db (Some b.number) width.Byte 0 0;
+  ty = type.Bytes (length b.bytes - 1) (tree_items (items_form b.bytes));
+}
+
+block_at : (b : DataBlock) (line : ℕ) → IsFull b → IsBlockAt b (block_global b line)
+block_at b line f =
+    let w = is_written b f in
+    record {
+      last = length b.bytes - 1;
+      list = tree_items
+          (items_form b.bytes);
+      named = refl;
+      placed = refl;
+      typed = refl;
+      greatest = refl;
+      bytes = w.same;
+      size = w.size;
+    }
+
+block_sound : (b : DataBlock) (others : Globals) (line : ℕ) → IsFull b → AreSound others
+    → AreSound (global others (block_name b.number) (on line) (raw.Direct area.Db (Some b.number) width.Byte 0 0)
+    (on line) (bytes (length b.bytes - 1) (items_form b.bytes)))
+block_sound b others line f s =
+    let w = is_written b f in
+    record {
+      fit = (s.fit, refl, block_is_named b.number f.small);
+      spelled = (s.spelled, block_is_name b.number f.small, block_placed b f, (w.last, w.spelled));
+    }
+
+blocks_behind : (bs : List DataBlock) (others : Globals) (line : ℕ) → Each IsFull bs → AreSound others
+    → Behind others (blocks_from others line bs).0 (AreBlocksAt bs)
+blocks_behind [] others line h s =
+    record { sound = s; more = []; same = sym (append-nil (tree_globals others)); are = tt }
+blocks_behind (b ∷ bs) others line h s =
+    let next = global others (block_name b.number) (on line) (raw.Direct area.Db (Some b.number) width.Byte 0 0)
+    (on line) (bytes (length b.bytes - 1) (items_form b.bytes)) in
+    let r = blocks_behind bs next (line_after line) h.1 (block_sound b others line h.0 s) in
+    let own : RawGlobal = block_global b line in
+    record {
+      sound = r.sound;
+      more = own ∷ r.more;
+      same = r.same
+          ∙ append_assoc (tree_globals others) (own ∷ []) r.more;
+      are = (block_at b line h.0, r.are);
+    }
+
+-- Other globals
+
+abbrev located_global : Located → ℕ → RawGlobal
+located_global g line = record {
+  name = g.name;
+  line = on line;
+  at = raw.Direct (area_form g.place.area) None
+      (width_at g.ty) g.place.byte g.place.bit;
+  ty = type.Plain g.ty;
+}
+
+located_global_at : (g : Located) (line : ℕ) → IsPlain g → IsLocatedAt g (located_global g line)
+located_global_at g line p = record {
+  named = refl;
+  placed = ap (λ (a : AreaName). raw.Direct a None (width_at g.ty) g.place.byte g.place.bit) (sym p.known);
+  typed = refl;
+}
+
+located_sound : (g : Located) (others : Globals) (line : ℕ) → IsPlain g → AreSound others
+    → AreSound (global others g.name (on line)
+    (raw.Direct (area_form g.place.area) None (width_at g.ty) g.place.byte g.place.bit) (on line) (plain g.ty))
+located_sound g others line p s = record { fit = (s.fit, refl, p.free); spelled = (s.spelled, p.name, p.placed, tt) }
+
+located_behind : (gs : List Located) (others : Globals) (line : ℕ) → Each IsPlain gs → AreSound others
+    → Behind others (located_from others line gs).0 (AreLocatedAt gs)
+located_behind [] others line h s =
+    record { sound = s; more = []; same = sym (append-nil (tree_globals others)); are = tt }
+located_behind (g ∷ gs) others line h s =
+    let next = global others g.name (on line)
+    (raw.Direct (area_form g.place.area) None (width_at g.ty) g.place.byte g.place.bit) (on line) (plain g.ty) in
+    let r = located_behind gs next (line_after line) h.1 (located_sound g others line h.0 s) in
+    let own : RawGlobal = located_global g line in
+    record {
+      sound = r.sound;
+      more = own ∷ r.more;
+      same = r.same
+          ∙ append_assoc (tree_globals others) (own ∷ []) r.more;
+      are = (located_global_at g line h.0, r.are);
+    }
+
+-- Both
+
+-- what the section of globals is
+pub record IsSection (bs : List DataBlock) (gs : List Located) (section : Section Globals) : Type 0 where
+  pub fit : IfPresent GlobalsFit section
+  pub spelled : IfPresent GlobalsSpelled section
+  pub within : (before : List ℕ) → AreWithin before → AreWithin (levels_section levels_globals section before)
+  pub blocks : List RawGlobal
+  pub others : List RawGlobal
+  pub globals : held tree_globals section ≡ blocks ++ others
+  pub are_blocks : AreBlocksAt bs blocks
+  pub are_located : AreLocatedAt gs others
+
+written : (bs : List DataBlock) (gs : List Located) (line : ℕ) → Each IsFull bs → Each IsPlain gs
+    → IsSection bs gs (present (globals_form line bs gs).0)
+written bs gs line h k =
+    let none : AreSound no_global = record { fit = tt; spelled = tt } in
+    let first = blocks_behind bs no_global line h none in
+    let all = located_behind gs (blocks_from no_global line bs).0 (blocks_from no_global line bs).1 k first.sound in
+    record {
+      fit = all.sound.fit;
+      spelled = all.sound.spelled;
+      within = λ before w. with_zero (levels_globals (globals_form line bs gs).0 (0 ∷ before))
+          (globals_within (globals_form line bs gs).0 (0 ∷ before) (with_zero before w));
+      blocks = first.more;
+      others = all.more;
+      globals = all.same ∙ ap (λ xs. xs ++ all.more) first.same;
+      are_blocks = first.are;
+      are_located = all.are;
+    }
+
+-- the section of globals of a proper tree
+pub is_section : (bs : List DataBlock) (gs : List Located) (line : ℕ) → Each IsFull bs → Each IsPlain gs
+    → IsSection bs gs (globals_from line bs gs).0
+is_section [] [] line h k = record {
+  fit = tt;
+  spelled = tt;
+  within = λ before w. w;
+  blocks = [];
+  others = [];
+  globals = refl;
+  are_blocks = tt;
+  are_located = tt;
+}
+is_section [] (g ∷ gs) line h k = written [] (g ∷ gs) (line_after line) h k
+is_section (b ∷ bs) [] line h k = written (b ∷ bs) [] (line_after line) h k
+is_section (b ∷ bs) (g ∷ gs) line h k = written (b ∷ bs) (g ∷ gs) (line_after line) h k

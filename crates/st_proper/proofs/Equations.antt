@@ -1,0 +1,215 @@
+-- What an expression is in the tree, its type and its canonical form, at each variant.
+use Rattle.std.proofs.Common.{◌≡◌, ℕ, ◌-◌, ℤ, Bool, true, false, refl, sym, ap, subst, ◌∙◌}
+use Rattle.std.specs.Prelude.{nat_lt, if◌then◌else◌}
+use Rattle.s7_base.specs.declared.reason.Line.{Line}
+use Rattle.s7_base.specs.declared.word.Width.{Width}
+use Rattle.st_canonical.specs.Canonical.{expr_form, form_of, literal_form, on, raw_var}
+use Rattle.st_grammar.specs.Forms.{Form, literal, variable, group, prefix, infix_of, apply, shift, select}
+use Rattle.st_grammar.specs.Grammar.{infix_level, level}
+use Rattle.st_grammar.specs.declared.kind.OneOperand.TheVariants as one
+use Rattle.st_grammar.specs.declared.kind.Prefix.TheVariants as before
+use Rattle.st_tree.proofs.Equations.{canon_literal, canon_read, canon_unary, canon_binary, canon_convert, canon_select, canon_shift, canon_area_read}
+use Rattle.st_tree.specs.Form as tree
+use Rattle.st_tree.specs.Form.{canon, canon_step}
+use Rattle.st_tree.specs.Typing.{Names, binary_type, type_of, type_step, unary_type, var_type}
+use Rattle.st_tree.specs.Values.{type_of_width}
+use Rattle.st_tree.specs.declared.expr.BinaryOp.{BinaryOp}
+use Rattle.st_tree.specs.declared.expr.BinaryOp.TheVariants as binary
+use Rattle.st_tree.specs.declared.expr.Expr.{Expr, fold-roll-Expr, ind-Expr, map-Expr}
+use Rattle.st_tree.specs.declared.expr.Expr.TheOpen as E
+use Rattle.st_tree.specs.declared.expr.Expr.TheVariants as expr
+use Rattle.st_tree.specs.declared.expr.ShiftOp.{ShiftOp}
+use Rattle.st_tree.specs.declared.expr.StType.{StType}
+use Rattle.st_tree.specs.declared.expr.UnaryOp.{UnaryOp}
+use Rattle.st_tree.specs.declared.expr.UnaryOp.TheVariants as unary
+use Rattle.st_tree.specs.declared.expr.Var.{Var}
+use Rattle.st_tree.specs.declared.raw.RawExpr.{RawExpr, fold-roll-RawExpr}
+use Rattle.st_tree.specs.declared.raw.RawExpr.TheOpen as R
+use Rattle.st_tree.specs.declared.raw.RawExpr.TheVariants as raw
+use Rattle.st_tree.specs.declared.raw.RawVar.{RawVar}
+use Rattle.st_rules.specs.Broken.{Judged}
+use Rattle.st_rules.specs.Expressions.{expression, expression_step}
+use Rattle.st_rules.specs.declared.expression.Typed.{Typed}
+use Rattle.st_rules.specs.declared.scope.Scope.{Scope}
+
+-- Expressions as they are read
+
+module _ (s : Scope) (l : Line) where
+  pub read_literal : (ty : StType) (n : ℤ) → expression s l (raw.Literal ty n) ≡ expression_step s l (R.Literal ty n)
+  read_literal ty n = ap (expression s l) (sym (raw.rolls-Literal ty n))
+      ∙ fold-roll-RawExpr (Judged Typed) (expression_step s l) (R.Literal ty n)
+
+  pub read_variable : (v : RawVar) → expression s l (raw.Read v) ≡ expression_step s l (R.Read v)
+  read_variable v = ap (expression s l) (sym (raw.rolls-Read v))
+      ∙ fold-roll-RawExpr (Judged Typed) (expression_step s l) (R.Read v)
+
+  pub read_unary : (op : UnaryOp) (a : RawExpr)
+      → expression s l (raw.Unary op a) ≡ expression_step s l (R.Unary op (expression s l a))
+  read_unary op a = ap (expression s l) (sym (raw.rolls-Unary op a))
+      ∙ fold-roll-RawExpr (Judged Typed) (expression_step s l) (R.Unary op a)
+
+  pub read_binary : (op : BinaryOp) (a b : RawExpr)
+      → expression s l (raw.Binary op a b) ≡ expression_step s l (R.Binary op (expression s l a) (expression s l b))
+  read_binary op a b = ap (expression s l) (sym (raw.rolls-Binary op a b))
+      ∙ fold-roll-RawExpr (Judged Typed) (expression_step s l) (R.Binary op a b)
+
+  pub read_convert : (from to : StType) (a : RawExpr)
+      → expression s l (raw.Convert from to a) ≡ expression_step s l (R.Convert from to (expression s l a))
+  read_convert from to a = ap (expression s l) (sym (raw.rolls-Convert from to a))
+      ∙ fold-roll-RawExpr (Judged Typed) (expression_step s l) (R.Convert from to a)
+
+  pub read_select : (a b c : RawExpr)
+      → expression s l (raw.Select a b c)
+      ≡ expression_step s l (R.Select (expression s l a) (expression s l b) (expression s l c))
+  read_select a b c = ap (expression s l) (sym (raw.rolls-Select a b c))
+      ∙ fold-roll-RawExpr (Judged Typed) (expression_step s l) (R.Select a b c)
+
+  pub read_shift : (op : ShiftOp) (a b : RawExpr)
+      → expression s l (raw.Shift op a b) ≡ expression_step s l (R.Shift op (expression s l a) (expression s l b))
+  read_shift op a b = ap (expression s l) (sym (raw.rolls-Shift op a b))
+      ∙ fold-roll-RawExpr (Judged Typed) (expression_step s l) (R.Shift op a b)
+
+  pub read_area : (w : Width) (a : RawExpr)
+      → expression s l (raw.AreaRead w a) ≡ expression_step s l (R.AreaRead w (expression s l a))
+  read_area w a = ap (expression s l) (sym (raw.rolls-AreaRead w a))
+      ∙ fold-roll-RawExpr (Judged Typed) (expression_step s l) (R.AreaRead w a)
+
+-- Types
+
+module _ (names : Names) where
+  pub type_literal : (ty : StType) (n : ℤ) → type_of names (expr.Literal ty n) ≡ ty
+  type_literal ty n = ap (type_of names) (sym (expr.rolls-Literal ty n))
+      ∙ fold-roll-Expr StType (type_step names) (E.Literal ty n)
+
+  pub type_read : (v : Var) → type_of names (expr.Read v) ≡ var_type names v
+  type_read v = ap (type_of names) (sym (expr.rolls-Read v)) ∙ fold-roll-Expr StType (type_step names) (E.Read v)
+
+  pub type_unary : (op : UnaryOp) (a : Expr) → type_of names (expr.Unary op a) ≡ unary_type op (type_of names a)
+  type_unary op a = ap (type_of names) (sym (expr.rolls-Unary op a))
+      ∙ fold-roll-Expr StType (type_step names) (E.Unary op a)
+
+  pub type_binary : (op : BinaryOp) (a b : Expr) → type_of names (expr.Binary op a b) ≡ binary_type op (type_of names a)
+  type_binary op a b = ap (type_of names) (sym (expr.rolls-Binary op a b))
+      ∙ fold-roll-Expr StType (type_step names) (E.Binary op a b)
+
+  pub type_convert : (from to : StType) (a : Expr) → type_of names (expr.Convert from to a) ≡ to
+  type_convert from to a = ap (type_of names) (sym (expr.rolls-Convert from to a))
+      ∙ fold-roll-Expr StType (type_step names) (E.Convert from to a)
+
+  pub type_select : (a b c : Expr) → type_of names (expr.Select a b c) ≡ type_of names b
+  type_select a b c = ap (type_of names) (sym (expr.rolls-Select a b c))
+      ∙ fold-roll-Expr StType (type_step names) (E.Select a b c)
+
+  pub type_shift : (op : ShiftOp) (a b : Expr) → type_of names (expr.Shift op a b) ≡ type_of names a
+  type_shift op a b = ap (type_of names) (sym (expr.rolls-Shift op a b))
+      ∙ fold-roll-Expr StType (type_step names) (E.Shift op a b)
+
+  pub type_area : (w : Width) (a : Expr) → type_of names (expr.AreaRead w a) ≡ type_of_width w
+  type_area w a = ap (type_of names) (sym (expr.rolls-AreaRead w a))
+      ∙ fold-roll-Expr StType (type_step names) (E.AreaRead w a)
+
+-- Canonical forms
+
+-- the form at a place that takes levels up to j, in brackets where its precedence is lower
+abbrev pub wrapped : ℕ → Form → Form
+wrapped j f = if nat_lt j (level f) then group f else f
+
+same_level : (op : BinaryOp) → tree.infix_level op ≡ infix_level op
+same_level binary.Mul = refl
+same_level binary.Div = refl
+same_level binary.Mod = refl
+same_level binary.Add = refl
+same_level binary.Sub = refl
+same_level binary.Lt = refl
+same_level binary.Gt = refl
+same_level binary.Le = refl
+same_level binary.Ge = refl
+same_level binary.Eq = refl
+same_level binary.Ne = refl
+same_level binary.And = refl
+same_level binary.Xor = refl
+same_level binary.Or = refl
+
+-- an operator before its operand, in the form that the operand has
+abbrev pub before_operand : UnaryOp → Form → Form
+before_operand unary.Minus f = prefix before.Minus (wrapped 1 f)
+before_operand unary.Not f = prefix before.Not (wrapped 2 f)
+before_operand unary.BcdToInt f = apply one.BcdToInt f
+before_operand unary.BcdToDint f = apply one.BcdToDint f
+
+module _ (names : Names) (k : ℕ) where
+  core : (y : E.Expr-F tree.Form) → level (form_of names k (canon_step y)) ≡ tree.level (canon_step y)
+  core (E.Literal ty n) = refl
+  core (E.Read v) = refl
+  core (E.Unary unary.Minus f) = refl
+  core (E.Unary unary.Not f) = refl
+  core (E.Unary unary.BcdToInt f) = refl
+  core (E.Unary unary.BcdToDint f) = refl
+  core (E.Binary op f g) = sym (same_level op)
+  core (E.Convert from to f) = refl
+  core (E.Select f g h) = refl
+  core (E.Shift op f g) = refl
+  core (E.AreaRead w f) = refl
+
+  abbrev HasLevel : Expr → Type 0
+  HasLevel e = level (expr_form names k e) ≡ tree.level (canon e)
+
+  -- a canonical form has the precedence of what it is of
+  form_level : (e : Expr) → HasLevel e
+  form_level = ind-Expr HasLevel (λ (x : E.Expr-F Expr) (y : E.Expr-F ((e : Expr) × HasLevel e)) e.
+      subst (λ (f : tree.Form). level (form_of names k f) ≡ tree.level f) (sym (fold-roll-Expr tree.Form canon_step x))
+      (core (map-Expr Expr tree.Form canon x)))
+
+  form_wrap : (j : ℕ) (e : Expr) → form_of names k (tree.wrap j (canon e)) ≡ wrapped j (expr_form names k e)
+  form_wrap j e = by (nat_lt j (tree.level (canon e))) (nat_lt j (level (expr_form names k e)))
+      (ap (nat_lt j) (sym (form_level e)))
+    where
+      by : (b c : Bool) → b ≡ c → form_of names k (if b then tree.group (canon e) else canon e)
+          ≡ (if c then group (expr_form names k e) else expr_form names k e)
+      by true true e = refl
+      by true false e = absurd cc
+      by false true e = absurd cc
+      by false false e = refl
+
+  pub form_literal : (ty : StType) (n : ℤ) → expr_form names k (expr.Literal ty n) ≡ literal (literal_form ty n)
+  form_literal ty n = ap (form_of names k) (canon_literal ty n)
+
+  pub form_read : (v : Var) → expr_form names k (expr.Read v) ≡ variable (raw_var names v) (on k)
+  form_read v = ap (form_of names k) (canon_read v)
+
+  pub form_unary : (op : UnaryOp) (e : Expr)
+      → expr_form names k (expr.Unary op e) ≡ before_operand op (expr_form names k e)
+  form_unary unary.Minus e = ap (form_of names k) (canon_unary unary.Minus e)
+      ∙ ap (λ f. prefix before.Minus f) (form_wrap 1 e)
+  form_unary unary.Not e = ap (form_of names k) (canon_unary unary.Not e)
+      ∙ ap (λ f. prefix before.Not f) (form_wrap 2 e)
+  form_unary unary.BcdToInt e = ap (form_of names k) (canon_unary unary.BcdToInt e)
+  form_unary unary.BcdToDint e = ap (form_of names k) (canon_unary unary.BcdToDint e)
+
+  pub form_binary : (op : BinaryOp) (e g : Expr) →
+      expr_form names k (expr.Binary op e g)
+      ≡ infix_of op (wrapped (infix_level op) (expr_form names k e))
+      (wrapped (infix_level op - 1) (expr_form names k g))
+  form_binary op e g =
+      ap (form_of names k) (canon_binary op e g)
+      ∙ ap (λ f. infix_of op f (form_of names k (tree.wrap (tree.infix_level op - 1) (canon g))))
+      (form_wrap (tree.infix_level op) e)
+      ∙ ap (λ f. infix_of op (wrapped (tree.infix_level op) (expr_form names k e)) f)
+      (form_wrap (tree.infix_level op - 1) g)
+      ∙ ap (λ n. infix_of op (wrapped n (expr_form names k e)) (wrapped (n - 1) (expr_form names k g))) (same_level op)
+
+  pub form_convert : (from to : StType) (e : Expr)
+      → expr_form names k (expr.Convert from to e) ≡ apply (one.Convert from to) (expr_form names k e)
+  form_convert from to e = ap (form_of names k) (canon_convert from to e)
+
+  pub form_select : (e g h : Expr)
+      → expr_form names k (expr.Select e g h) ≡ select (expr_form names k e) (expr_form names k g) (expr_form names k h)
+  form_select e g h = ap (form_of names k) (canon_select e g h)
+
+  pub form_shift : (op : ShiftOp) (e g : Expr)
+      → expr_form names k (expr.Shift op e g) ≡ shift op (expr_form names k e) (expr_form names k g)
+  form_shift op e g = ap (form_of names k) (canon_shift op e g)
+
+  pub form_area : (w : Width) (e : Expr)
+      → expr_form names k (expr.AreaRead w e) ≡ apply (one.AreaRead w) (expr_form names k e)
+  form_area w e = ap (form_of names k) (canon_area_read w e)

@@ -1,0 +1,288 @@
+-- A well typed expression in its canonical form: it means the expression on each line, is of the language, and
+-- tokens can have its parts.
+use Rattle.std.proofs.Common.{◌≡◌, ℕ, ◌-◌, ℤ, Bool, true, false, not, Option, Some, Result, Ok, refl, sym, ap, subst, ◌∙◌, arith}
+use Rattle.std.specs.Prelude.{nat_lt, if◌then◌else◌}
+use Rattle.s7_base.specs.declared.reason.Line.{Line}
+use Rattle.s7_base.specs.declared.reason.Reason.{Reason}
+use Rattle.s7_base.specs.declared.word.Width.{Width}
+use Rattle.st_canonical.specs.Canonical.{expr_form, form_of, raw_var}
+use Rattle.st_canonical.specs.Spelled.{FormSpelled, is_function}
+use Rattle.st_grammar.specs.Forms.{Form, group}
+use Rattle.st_grammar.specs.Grammar.{Binds, infix_level, level, tree}
+use Rattle.st_grammar.specs.Levels.{height}
+use Rattle.st_grammar.specs.declared.kind.OneOperand.TheVariants as one
+use Rattle.st_proper.proofs.Equations.{before_operand, form_area, form_binary, form_convert, form_literal, form_read, form_select, form_shift, form_unary, read_literal, read_variable, wrapped}
+use Rattle.st_proper.proofs.Levels.{nest}
+use Rattle.st_proper.proofs.Literals.{kept}
+use Rattle.st_proper.proofs.Nested.{right_level, wrapped_level}
+use Rattle.st_proper.proofs.Operands.{area_found, binary_found, convert_found, select_found, shift_found, unary_found}
+use Rattle.st_proper.proofs.SameTypes.{given, same_binary, same_choice, same_conversion, same_read, same_shift, same_unary, where_given}
+use Rattle.st_proper.proofs.Scope.{Sees, sight_by}
+use Rattle.st_proper.proofs.Values.{has_value}
+use Rattle.st_proper.proofs.Variables.{of_type, written}
+use Rattle.st_proper.proofs.Words.{conversion_there}
+use Rattle.st_rules.specs.Broken.{Judged, sound}
+use Rattle.st_rules.specs.Expressions.{answered, expression, read_of}
+use Rattle.st_rules.specs.Types.{type_of_unary}
+use Rattle.st_rules.specs.Variables.{variable as variable_in}
+use Rattle.st_rules.specs.declared.expression.Typed.{Typed}
+use Rattle.st_rules.specs.declared.scope.Scope.{Scope}
+use Rattle.st_rules.specs.declared.variable.TypedVar.{TypedVar}
+use Rattle.st_tree.proofs.Induction.{ExprSteps, every_expr}
+use Rattle.st_tree.proofs.TypingEquations.{typed_area_read, typed_binary, typed_convert, typed_literal, typed_read, typed_select, typed_shift, typed_unary}
+use Rattle.st_tree.specs.Form as bare
+use Rattle.st_tree.specs.Naming.{is_conversion}
+use Rattle.st_tree.specs.Nesting.{form_height, form_nesting}
+use Rattle.st_tree.specs.TypeRules as types
+use Rattle.st_tree.specs.TypeRules.{where_true}
+use Rattle.st_tree.specs.Typing.{Names}
+use Rattle.st_tree.specs.WellTyped.{expression_type, is_value, on_type}
+use Rattle.st_tree.specs.declared.expr.BinaryOp.{BinaryOp}
+use Rattle.st_tree.specs.declared.expr.Expr.{Expr}
+use Rattle.st_tree.specs.declared.expr.Expr.TheVariants as expr
+use Rattle.st_tree.specs.declared.expr.ShiftOp.{ShiftOp}
+use Rattle.st_tree.specs.declared.expr.StType.{StType}
+use Rattle.st_tree.specs.declared.expr.UnaryOp.{UnaryOp}
+use Rattle.st_tree.specs.declared.expr.UnaryOp.TheVariants as unary
+use Rattle.st_tree.specs.declared.expr.Var.{Var}
+use Rattle.st_tree.specs.declared.raw.RawExpr.TheVariants as raw
+use Rattle.st_tree.specs.declared.raw.RawVar.{RawVar}
+
+-- a form is one of this expression, and of the language
+pub record Sound (s : Scope) (m : Line) (t : Typed) (c : Form) : Type 0 where
+  pub means : expression s m (tree c) ≡ sound t
+  pub binds : Binds c
+  pub spelled : FormSpelled c
+
+-- an expression of a type
+abbrev pub typed_tree : StType → Expr → Typed
+typed_tree ty e = record { ty = ty; tree = e }
+
+wrap_sound : (s : Scope) (m : Line) (t : Typed) (c : Form) (j : ℕ) → Sound s m t c → Sound s m t (wrapped j c)
+wrap_sound s m t c j h = by (nat_lt j (level c))
+  where
+    by : (b : Bool) → Sound s m t (if b then group c else c)
+    by true = record { means = h.means; binds = h.binds; spelled = h.spelled }
+    by false = h
+
+before_sound : (s : Scope) (m : Line) (op : UnaryOp) (t : Typed) (ty : StType) (c : Form) → Sound s m t c
+    → type_of_unary op t.ty ≡ Some ty
+    → Sound s m (typed_tree ty (expr.Unary op t.tree)) (before_operand op c)
+before_sound s m unary.Minus t ty c h e =
+    let w = wrap_sound s m t c 1 h in
+    record {
+      means = unary_found s m unary.Minus (tree (wrapped 1 c)) t ty w.means e;
+      binds =
+          (wrapped_level 1 c, w.binds);
+      spelled = w.spelled;
+    }
+before_sound s m unary.Not t ty c h e =
+    let w = wrap_sound s m t c 2 h in
+    record {
+      means = unary_found s m unary.Not (tree (wrapped 2 c)) t ty w.means e;
+      binds =
+          (wrapped_level 2 c, w.binds);
+      spelled = w.spelled;
+    }
+before_sound s m unary.BcdToInt t ty c h e =
+    record {
+      means = unary_found s m unary.BcdToInt (tree c) t ty h.means e;
+      binds = h.binds;
+      spelled =
+          (refl, h.spelled);
+    }
+before_sound s m unary.BcdToDint t ty c h e =
+    record {
+      means = unary_found s m unary.BcdToDint (tree c) t ty h.means e;
+      binds = h.binds;
+      spelled =
+          (refl, h.spelled);
+    }
+
+-- Expressions
+
+module _ (s : Scope) (names : Names) (sees : Sees s names) where
+  abbrev type_in : Expr → Option StType
+  type_in e = expression_type (sight_by names) e
+
+  abbrev Good : Expr → Type 0
+  Good e = (ty : StType) → type_in e ≡ Some ty → (k : ℕ) (m : Line) → Sound s m (typed_tree ty e) (expr_form names k e)
+
+  literal_good : (ty : StType) (n : ℤ) → Good (expr.Literal ty n)
+  literal_good ty n u h k m =
+      let w = where_given (is_value ty n) ty u (sym (typed_literal (sight_by names) ty n) ∙ h) in
+      let g = kept ty n (has_value ty n w.0) in
+      subst (λ v. Sound s m (typed_tree v (expr.Literal ty n)) (expr_form names k (expr.Literal ty n))) w.1
+      (subst (Sound s m (typed_tree ty (expr.Literal ty n))) (sym (form_literal names k ty n)) (record {
+        means = ap (expression s m) g.tree ∙ read_literal s m ty n;
+        binds = g.value;
+        spelled = g.spelled;
+      }))
+
+  read_is_variable : (m : Line) (v : RawVar) (x : TypedVar) → variable_in s v ≡ Ok x
+      → expression s m (raw.Read v) ≡ sound (typed_tree x.ty (expr.Read x.var))
+  read_is_variable m v x e =
+      read_variable s m v ∙ ap (λ (r : Result TypedVar Reason). let j : Judged TypedVar = answered m r in
+      let k : Judged Typed = record { found = read_of j.found; breaks = j.breaks } in k) e
+
+  read_good : (v : Var) → Good (expr.Read v)
+  read_good v u h k m =
+      let w = written s names sees v u (sym (typed_read (sight_by names) v) ∙ h) in
+      subst (Sound s m (typed_tree u (expr.Read v))) (sym (form_read names k v)) (record {
+        means = read_is_variable m (raw_var names v) (of_type u v) w.means;
+        binds = tt;
+        spelled = w.spelled;
+      })
+
+  unary_good : (op : UnaryOp) (a : Expr) → Good a → Good (expr.Unary op a)
+  unary_good op a p u h k m =
+      let g = given (type_in a) (types.type_of_unary op) u (sym (typed_unary (sight_by names) op a) ∙ h) in
+      subst (Sound s m (typed_tree u (expr.Unary op a))) (sym (form_unary names k op a))
+      (before_sound s m op (typed_tree g.first a) u (expr_form names k a) (p g.first g.is k m)
+      (same_unary op g.first ∙ g.rest))
+
+  binary_good : (op : BinaryOp) (a b : Expr) → Good a → Good b → Good (expr.Binary op a b)
+  binary_good op a b p q u h k m =
+      let g = given (type_in a) (λ ty. on_type (type_in b) (types.type_of_binary op ty)) u
+      (sym (typed_binary (sight_by names) op a b) ∙ h) in
+      let f = given (type_in b) (types.type_of_binary op g.first) u g.rest in
+      let c = expr_form names k a in
+      let d = expr_form names k b in
+      let x = wrap_sound s m (typed_tree g.first a) c (infix_level op) (p g.first g.is k m) in
+      let y = wrap_sound s m (typed_tree f.first b) d (infix_level op - 1) (q f.first f.is k m) in
+      subst (Sound s m (typed_tree u (expr.Binary op a b))) (sym (form_binary names k op a b)) (record {
+        means = binary_found s m op (tree (wrapped (infix_level op) c)) (tree (wrapped (infix_level op - 1) d))
+            (typed_tree g.first a) (typed_tree f.first b) u
+            x.means y.means (same_binary op g.first f.first ∙ f.rest);
+        binds = (wrapped_level (infix_level op) c, right_level op d, x.binds, y.binds);
+        spelled = (x.spelled, y.spelled);
+      })
+
+  convert_good : (from to : StType) (a : Expr) → Good a → Good (expr.Convert from to a)
+  convert_good from to a p u h k m =
+      let g = given (type_in a) (λ ty. on_type (types.type_of_conversion from to ty)
+      (where_true (is_conversion from to))) u
+      (sym (typed_convert (sight_by names) from to a) ∙ h) in
+      let f = given (types.type_of_conversion from to g.first) (where_true (is_conversion from to)) u g.rest in
+      let w = where_given (is_conversion from to) f.first u f.rest in
+      let x = p g.first g.is k m in
+      let c = expr_form names k a in
+      let there : is_function (one.Convert from to) ≡ true =
+      ap not (conversion_there from to) ∙ ap (λ t. not (not t)) w.0 in
+      subst (Sound s m (typed_tree u (expr.Convert from to a))) (sym (form_convert names k from to a)) (record {
+        means = convert_found s m from to (tree c) (typed_tree g.first a) u x.means
+            (same_conversion from to g.first ∙ f.is ∙ ap (λ t. Some t) w.1);
+        binds = x.binds;
+        spelled = (there, x.spelled);
+      })
+
+  select_good : (a b e : Expr) → Good a → Good b → Good e → Good (expr.Select a b e)
+  select_good a b e p q r u h k m =
+      let g = given (type_in a) (λ x. on_type (type_in b) (λ y. on_type (type_in e) (types.type_of_choice x y))) u
+      (sym (typed_select (sight_by names) a b e) ∙ h) in
+      let f = given (type_in b) (λ y. on_type (type_in e) (types.type_of_choice g.first y)) u g.rest in
+      let i = given (type_in e) (types.type_of_choice g.first f.first) u f.rest in
+      let x = p g.first g.is k m in
+      let y = q f.first f.is k m in
+      let z = r i.first i.is k m in
+      subst (Sound s m (typed_tree u (expr.Select a b e))) (sym (form_select names k a b e)) (record {
+        means = select_found s m (tree (expr_form names k a)) (tree (expr_form names k b)) (tree (expr_form names k e))
+            (typed_tree g.first a)
+            (typed_tree f.first b) (typed_tree i.first e) u x.means y.means z.means
+            (same_choice g.first f.first i.first ∙ i.rest);
+        binds = (x.binds, y.binds, z.binds);
+        spelled = (x.spelled, y.spelled, z.spelled);
+      })
+
+  shift_good : (op : ShiftOp) (a b : Expr) → Good a → Good b → Good (expr.Shift op a b)
+  shift_good op a b p q u h k m =
+      let g = given (type_in a) (λ ty. on_type (type_in b) (types.type_of_shift ty)) u
+      (sym (typed_shift (sight_by names) op a b) ∙ h) in
+      let f = given (type_in b) (types.type_of_shift g.first) u g.rest in
+      let x = p g.first g.is k m in
+      let y = q f.first f.is k m in
+      subst (Sound s m (typed_tree u (expr.Shift op a b))) (sym (form_shift names k op a b)) (record {
+        means = shift_found s m op (tree (expr_form names k a)) (tree (expr_form names k b)) (typed_tree g.first a)
+            (typed_tree f.first b) u x.means y.means
+            (same_shift g.first f.first ∙ f.rest);
+        binds = (x.binds, y.binds);
+        spelled = (x.spelled, y.spelled);
+      })
+
+  area_good : (w : Width) (a : Expr) → Good a → Good (expr.AreaRead w a)
+  area_good w a p u h k m =
+      let g = given (type_in a) (types.type_of_read w) u (sym (typed_area_read (sight_by names) w a) ∙ h) in
+      let x = p g.first g.is k m in
+      subst (Sound s m (typed_tree u (expr.AreaRead w a))) (sym (form_area names k w a)) (record {
+        means = area_found s m w (tree (expr_form names k a)) (typed_tree g.first a) u x.means
+            (same_read w g.first ∙ g.rest);
+        binds = x.binds;
+        spelled = (refl, x.spelled);
+      })
+
+  steps : ExprSteps Good
+  steps = record {
+    literal = literal_good;
+    read = read_good;
+    unary = unary_good;
+    binary = binary_good;
+    convert = convert_good;
+    select = select_good;
+    shift = shift_good;
+    area_read = area_good;
+  }
+
+  -- a well typed expression
+  pub expression_sound : (e : Expr) (ty : StType) → type_in e ≡ Some ty → (k : ℕ) (m : Line)
+      → Sound s m (typed_tree ty e) (expr_form names k e)
+  expression_sound = every_expr Good steps
+
+-- How deep it nests
+
+-- a form nests as deep as the tree says, and is as high
+record IsDeep (f : bare.Form) (c : Form) : Type 0 where
+  inner : nest c ≡ form_nesting f
+  high : height c ≡ form_height f
+
+module _ (names : Names) (k : ℕ) where
+  unary_deep : (op : UnaryOp) (f : bare.Form) → IsDeep f (form_of names k f)
+      → IsDeep (bare.prefix op f) (form_of names k (bare.prefix op f))
+  unary_deep unary.Minus f h = record { inner = omega (arith, h.inner); high = omega (arith, h.high) }
+  unary_deep unary.Not f h = record { inner = omega (arith, h.inner); high = omega (arith, h.high) }
+  unary_deep unary.BcdToInt f h = record { inner = omega (arith, h.inner); high = omega (arith, h.high) }
+  unary_deep unary.BcdToDint f h = record { inner = omega (arith, h.inner); high = omega (arith, h.high) }
+
+  digits_deep : (op : UnaryOp) (f : bare.Form) → IsDeep f (form_of names k f)
+      → IsDeep (bare.digits_to op f) (form_of names k (bare.digits_to op f))
+  digits_deep unary.Minus f h = record { inner = omega (arith, h.inner); high = omega (arith, h.high) }
+  digits_deep unary.Not f h = record { inner = omega (arith, h.inner); high = omega (arith, h.high) }
+  digits_deep unary.BcdToInt f h = record { inner = omega (arith, h.inner); high = omega (arith, h.high) }
+  digits_deep unary.BcdToDint f h = record { inner = omega (arith, h.inner); high = omega (arith, h.high) }
+
+  is_deep : (f : bare.Form) → IsDeep f (form_of names k f)
+  is_deep (bare.literal ty n) = record { inner = refl; high = refl }
+  is_deep (bare.variable v) = record { inner = refl; high = refl }
+  is_deep (bare.group f) = let h = is_deep f in record { inner = omega (arith, h.inner); high = h.high }
+  is_deep (bare.prefix op f) = unary_deep op f (is_deep f)
+  is_deep (bare.infix_of op f g) =
+      let h = is_deep f in
+      let i = is_deep g in
+      record { inner = omega (arith, h.inner, h.high, i.inner); high = omega (arith, h.high, i.high) }
+  is_deep (bare.digits_to op f) = digits_deep op f (is_deep f)
+  is_deep (bare.convert from to f) = let h =
+      is_deep f in record { inner = omega (arith, h.inner); high = omega (arith, h.high) }
+  is_deep (bare.select f g j) =
+      let h = is_deep f in
+      let i = is_deep g in
+      let l = is_deep j in
+      record { inner = omega (arith, h.inner, i.inner, l.inner); high = omega (arith, h.high, i.high, l.high) }
+  is_deep (bare.shift op f g) =
+      let h = is_deep f in
+      let i = is_deep g in
+      record { inner = omega (arith, h.inner, i.inner); high = omega (arith, h.high, i.high) }
+  is_deep (bare.area_read w f) = let h =
+      is_deep f in record { inner = omega (arith, h.inner); high = omega (arith, h.high) }
+
+-- an expression nests as deep as the tree says
+pub nest_is : (names : Names) (k : ℕ) (e : Expr) → nest (expr_form names k e) ≡ form_nesting (bare.canon e)
+nest_is names k e = (is_deep names k (bare.canon e)).inner

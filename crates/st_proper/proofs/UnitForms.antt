@@ -1,0 +1,233 @@
+-- The units of a proper tree, in their canonical form: they are of the language, tokens can have
+-- their names, they nest no deeper than they may, and they declare what the tree has.
+use Rattle.std.proofs.Common.{◌≡◌, ℕ, Bool, true, false, List, [], ◌∷◌, ◌++◌, map, refl, sym, subst, ◌∙◌, append_assoc, append-nil}
+use Rattle.s7_base.specs.Tokens.{line_after}
+use Rattle.st_canonical.specs.Canonical.{Placed, body_from, locals_from, on, section_from, statement_from, unit_from, units_from}
+use Rattle.st_grammar.specs.Forms.{Statements, Locals, no_local, local, Section, absent, present, Units, no_unit}
+use Rattle.st_grammar.specs.Grammar.{AllFit, FormalsFit, HeadFits, IfPresent, LocalsFit, UnitsFit, held, is_formal_type, tree_all, tree_locals, tree_units}
+use Rattle.st_grammar.specs.Kinds.{is_free, may_name_local, may_name_unit}
+use Rattle.st_grammar.specs.Levels.{levels_all, levels_locals, levels_section, levels_units}
+use Rattle.st_canonical.specs.Spelled.{AllSpelled, LocalsSpelled, UnitsSpelled, is_name}
+use Rattle.st_proper.proofs.BlockForms.{AreWithin, with_four, with_zero}
+use Rattle.st_proper.proofs.GlobalForms.{Each}
+use Rattle.st_tree.specs.Spelling.{names_in}
+use Rattle.st_tree.specs.declared.program.Local.{Local}
+use Rattle.st_tree.specs.declared.program.Pou.{Pou}
+use Rattle.st_tree.specs.declared.program.StProgram.{StProgram}
+use Rattle.st_tree.specs.declared.raw.RawLocal.{RawLocal}
+use Rattle.st_tree.specs.declared.raw.RawPou.{RawPou}
+use Rattle.st_types_laws.proofs.Redeclared.{AreLocalsAt, AreUnitsAt}
+
+-- What is read
+
+-- a formal and a local of a proper tree
+pub record IsFormal (l : Local) : Type 0 where
+  pub name : is_name l.name ≡ true
+  pub free : is_free l.name ≡ true
+  pub typed : is_formal_type l.ty ≡ true
+
+pub record IsLocal (l : Local) : Type 0 where
+  pub name : is_name l.name ≡ true
+  pub free : may_name_local l.name ≡ true
+
+-- only functions have formals
+abbrev pub MayHave : Bool → List Local → Type 0
+MayHave program [] = Unit {0}
+MayHave program (l ∷ ls) = program ≡ false
+
+-- a unit of a proper tree
+pub record IsHeaded (u : Pou) : Type 0 where
+  pub name : is_name u.name ≡ true
+  pub free : may_name_unit u.name ≡ true
+  pub may : MayHave u.program u.formals
+  pub formals : Each IsFormal u.formals
+  pub locals : Each IsLocal u.locals
+
+-- Their sections
+
+-- locals that tokens can have
+record AreSound (P : Locals → Type 0) (others all : Locals) (ls : List Local) : Type 0 where
+  fit : P all
+  spelled : LocalsSpelled all
+  more : List RawLocal
+  same : tree_locals all ≡ tree_locals others ++ more
+  are : AreLocalsAt ls more
+
+formals_behind : (ls : List Local) (others : Locals) (line : ℕ) → Each IsFormal ls → FormalsFit others
+    → LocalsSpelled others
+    → AreSound FormalsFit others (locals_from others line ls).0 ls
+formals_behind [] others line h f s =
+    record { fit = f; spelled = s; more = []; same = sym (append-nil (tree_locals others)); are = tt }
+formals_behind (l ∷ ls) others line h f s =
+    let r = formals_behind ls (local others l.name (on line) l.ty) (line_after line) h.1 (f, h.0.free, h.0.typed)
+    (s, h.0.name) in
+    let own : RawLocal = record { name = l.name; line = on line; ty = l.ty } in
+    record {
+      fit = r.fit;
+      spelled = r.spelled;
+      more = own ∷ r.more;
+      same = r.same ∙ append_assoc (tree_locals others) (own ∷ []) r.more;
+      are = (record { named = refl; typed = refl }, r.are);
+    }
+
+locals_behind : (ls : List Local) (others : Locals) (line : ℕ) → Each IsLocal ls → LocalsFit others
+    → LocalsSpelled others
+    → AreSound LocalsFit others (locals_from others line ls).0 ls
+locals_behind [] others line h f s =
+    record { fit = f; spelled = s; more = []; same = sym (append-nil (tree_locals others)); are = tt }
+locals_behind (l ∷ ls) others line h f s =
+    let r = locals_behind ls (local others l.name (on line) l.ty) (line_after line) h.1 (f, h.0.free) (s, h.0.name) in
+    let own : RawLocal = record { name = l.name; line = on line; ty = l.ty } in
+    record {
+      fit = r.fit;
+      spelled = r.spelled;
+      more = own ∷ r.more;
+      same = r.same ∙ append_assoc (tree_locals others) (own ∷ []) r.more;
+      are = (record { named = refl; typed = refl }, r.are);
+    }
+
+locals_within : (ls : Locals) (before : List ℕ) → AreWithin before → AreWithin (levels_locals ls before)
+locals_within no_local before h = h
+locals_within (local others name line ty) before h = with_four (levels_locals others before)
+    (locals_within others before h)
+
+section_within : (s : Section Locals) (before : List ℕ) → AreWithin before
+    → AreWithin (levels_section levels_locals s before)
+section_within absent before h = h
+section_within (present ls) before h = with_zero (levels_locals ls (0 ∷ before))
+    (locals_within ls (0 ∷ before) (with_zero before h))
+
+-- what a section of formals and one of locals are
+record IsSection (P : Section Locals → Type 0) (s : Section Locals) (ls : List Local) : Type 0 where
+  fit : P s
+  spelled : IfPresent LocalsSpelled s
+  are : AreLocalsAt ls (held tree_locals s)
+
+formals_section : (program : Bool) (ls : List Local) (line : ℕ) → MayHave program ls → Each IsFormal ls
+    → IsSection (HeadFits program) (section_from line ls).0 ls
+formals_section program [] line m h = record { fit = tt; spelled = tt; are = tt }
+formals_section program (l ∷ ls) line m h =
+    let r = formals_behind (l ∷ ls) no_local (line_after line) h tt tt in
+    record { fit = (m, r.fit); spelled = r.spelled; are = subst (AreLocalsAt (l ∷ ls)) (sym r.same) r.are }
+
+locals_section : (ls : List Local) (line : ℕ) → Each IsLocal ls
+    → IsSection (IfPresent LocalsFit) (section_from line ls).0 ls
+locals_section [] line h = record { fit = tt; spelled = tt; are = tt }
+locals_section (l ∷ ls) line h =
+    let r = locals_behind (l ∷ ls) no_local (line_after line) h tt tt in
+    record { fit = r.fit; spelled = r.spelled; are = subst (AreLocalsAt (l ∷ ls)) (sym r.same) r.are }
+
+-- Units
+
+-- the statements of a unit from a line on
+abbrev pub body_at : StProgram → Pou → ℕ → Statements
+body_at text u line = (body_from line (map (statement_from (names_in text u)) u.body)).0
+
+-- they are of the language, tokens can have their parts, and they nest no deeper than they may
+pub record HasBody (text : StProgram) (u : Pou) : Type 0 where
+  pub fit : (line : ℕ) → AllFit false (body_at text u line)
+  pub spelled : (line : ℕ) → AllSpelled (body_at text u line)
+  pub within : (line : ℕ) (before : List ℕ) → AreWithin before → AreWithin (levels_all 0 (body_at text u line) before)
+
+-- units of the language that tokens can have, after others
+pub record AreUnits (all : Units) : Type 0 where
+  pub fit : UnitsFit all
+  pub spelled : UnitsSpelled all
+  pub within : (before : List ℕ) → AreWithin before → AreWithin (levels_units all before)
+
+-- a unit has the canonical form of the other's statements
+pub record HasForm (text : StProgram) (u : Pou) (v : RawPou) : Type 0 where
+  pub line : ℕ
+  pub same : v.body ≡ tree_all (body_at text u line)
+
+abbrev pub HaveForms : StProgram → List Pou → List RawPou → Type 0
+HaveForms text [] [] = Unit {0}
+HaveForms text [] (v ∷ vs) = ⊥
+HaveForms text (u ∷ us) [] = ⊥
+HaveForms text (u ∷ us) (v ∷ vs) = HasForm text u v × HaveForms text us vs
+
+-- what they declare and say
+pub record Declare (text : StProgram) (us : List Pou) (others all : Units) : Type 0 where
+  pub more : List RawPou
+  pub same : tree_units all ≡ tree_units others ++ more
+  pub are : AreUnitsAt us more
+  pub forms : HaveForms text us more
+
+-- the lines after the sections of a unit
+abbrev formals_of_unit : ℕ → Pou → Placed (Section Locals)
+formals_of_unit line u = section_from (line_after line) u.formals
+
+abbrev locals_of_unit : ℕ → Pou → Placed (Section Locals)
+locals_of_unit line u = section_from (formals_of_unit line u).1 u.locals
+
+abbrev unit_raw : StProgram → ℕ → Pou → RawPou
+unit_raw text line u = record {
+  program = u.program;
+  name = u.name;
+  line = on line;
+  formals = held tree_locals (formals_of_unit line u).0;
+  locals = held tree_locals (locals_of_unit line u).0;
+  body = tree_all (body_at text u (locals_of_unit line u).1);
+}
+
+-- a unit after others
+one_unit : (text : StProgram) (u : Pou) (others : Units) (line : ℕ) → IsHeaded u → HasBody text u → AreUnits others
+    → AreUnits (unit_from text others line u).0
+one_unit text u others line h b a =
+    let formals = formals_section u.program u.formals (line_after line) h.may h.formals in
+    let locals = locals_section u.locals (formals_of_unit line u).1 h.locals in
+    let at = (locals_of_unit line u).1 in
+    record {
+      fit = (a.fit, h.free, formals.fit, locals.fit, b.fit at);
+      spelled = (a.spelled, h.name, formals.spelled, locals.spelled, b.spelled at);
+      within = λ before k.
+          let one = 0 ∷ levels_units others before in
+          let two = 0 ∷ one in
+          let three = levels_section levels_locals (formals_of_unit line u).0 two in
+          let four = levels_section levels_locals (locals_of_unit line u).0 three in
+          let w = with_zero one (with_zero (levels_units others before) (a.within before k)) in
+          with_zero (levels_all 0 (body_at text u at) four)
+          (b.within at four (section_within (locals_of_unit line u).0 three
+          (section_within (formals_of_unit line u).0 two w)));
+    }
+
+units_behind : (text : StProgram) (us : List Pou) (others : Units) (line : ℕ) → Each IsHeaded us
+    → Each (HasBody text) us → AreUnits others
+    → AreUnits (units_from text others line us).0
+units_behind text [] others line h b a = a
+units_behind text (u ∷ us) others line h b a =
+    let next = unit_from text others line u in
+    units_behind text us next.0 next.1 h.1 b.1 (one_unit text u others line h.0 b.0 a)
+
+-- the units of a text are of the language
+pub units_are : (text : StProgram) (us : List Pou) (line : ℕ) → Each IsHeaded us → Each (HasBody text) us
+    → AreUnits (units_from text no_unit line us).0
+units_are text us line h b = units_behind text us no_unit line h b
+    (record { fit = tt; spelled = tt; within = λ before w. w })
+
+units_declare : (text : StProgram) (us : List Pou) (others : Units) (line : ℕ) → Each IsHeaded us
+    → Declare text us others (units_from text others line us).0
+units_declare text [] others line h =
+    record { more = []; same = sym (append-nil (tree_units others)); are = tt; forms = tt }
+units_declare text (u ∷ us) others line h =
+    let next = unit_from text others line u in
+    let r = units_declare text us next.0 next.1 h.1 in
+    let formals = formals_section u.program u.formals (line_after line) h.0.may h.0.formals in
+    let locals = locals_section u.locals (formals_of_unit line u).1 h.0.locals in
+    record {
+      more = unit_raw text line u ∷ r.more;
+      same = r.same ∙ append_assoc (tree_units others) (unit_raw text line u ∷ []) r.more;
+      are = (record { program = refl; named = refl; formals = formals.are; locals = locals.are }, r.are);
+      forms = (record { line = (locals_of_unit line u).1; same = refl }, r.forms);
+    }
+
+-- the units of a text declare what it has, and have the canonical form of its statements
+pub record DeclareAll (text : StProgram) (us : List Pou) (units : List RawPou) : Type 0 where
+  pub are : AreUnitsAt us units
+  pub forms : HaveForms text us units
+
+pub all_declare : (text : StProgram) (us : List Pou) (line : ℕ) → Each IsHeaded us
+    → DeclareAll text us (tree_units (units_from text no_unit line us).0)
+all_declare text us line h =
+    let r = units_declare text us no_unit line h in
+    record { are = subst (AreUnitsAt us) (sym r.same) r.are; forms = subst (HaveForms text us) (sym r.same) r.forms }

@@ -1,0 +1,135 @@
+-- A value that a type has is one that a token can have, and a place that a tree may name is one that a token can
+-- have and that breaks no rule.
+use Rattle.std.proofs.Common.{◌≡◌, ℕ, suc, ◌+◌, ◌-◌, ◌^◌, ◌<◌, ◌≤◌, ℤ, pos, negsuc, Bool, true, false, ◌&&◌, cond, None, Some, refl, sym, ap, subst, ◌∙◌, arith}
+use Rattle.std.specs.Prelude.{nat_le, nat_lt}
+use Rattle.std.proofs.lemmas.Bool.{eqb-true, le-leb, leb-true, lt-ltb, ltb-false, ltb-true}
+use Rattle.std.proofs.lemmas.Bool.Decides.{Decides-int_eq, nat_tests}
+use Rattle.memory_areas.specs.Access.{is_byte_in}
+use Rattle.memory_areas.specs.declared.place.AreaName.{AreaName}
+use Rattle.memory_areas.specs.declared.place.AreaName.TheVariants as area
+use Rattle.s7_base.specs.declared.word.Width.{Width}
+use Rattle.s7_base.specs.declared.word.Width.TheVariants as width
+use Rattle.st_lexer.proofs.Words.{and_both}
+use Rattle.st_lexer.specs.Literals.{greatest, is_signed}
+use Rattle.st_lexer.specs.Spelled as text
+use Rattle.st_rules.specs.Variables as rules
+use Rattle.st_tree.proofs.FittingValues.{pattern_below}
+use Rattle.st_tree.specs.PlaceRules.{is_bit_of, is_block_number, is_place}
+use Rattle.st_tree.specs.Values.{fit, number, pattern}
+use Rattle.st_tree.specs.WellTyped.{is_value}
+use Rattle.st_tree.specs.declared.expr.StType.{StType}
+use Rattle.st_tree.specs.declared.expr.StType.TheVariants as type
+
+-- Values
+
+-- a number from 0 on that is no greater than the greatest of its type
+plain : (ty : StType) (n : ℕ) → n ≤ greatest ty false → text.has_value ty (pos n) ≡ true
+plain ty n h = let never : nat_lt n 0 ≡ false = grind (arith, nat_tests) in rw never (le-leb n (greatest ty false) h)
+
+-- a number of bits, none of them a sign
+bits : (ty : StType) (k : ℕ) (z : ℤ) → 2 ^ k ≤ suc (greatest ty false) → pos (pattern k z) ≡ z
+    → text.has_value ty z ≡ true
+bits ty k z most h =
+    subst (λ (n : ℤ). text.has_value ty n ≡ true) h
+    (plain ty (pattern k z) (let below : pattern k z < 2 ^ k = pattern_below k z in omega (arith, below, most)))
+
+-- a number with a sign, of so many patterns from 0 on and as many below 0
+signed : (ty : StType) (half p : ℕ) (z : ℤ) → is_signed ty ≡ true → half ≡ suc (greatest ty false)
+    → half ≡ greatest ty true
+    → p < half + half → (t : Bool) → nat_lt p half ≡ t → cond t (pos p) (negsuc (half + half - 1 - p)) ≡ z
+    → text.has_value ty z ≡ true
+signed ty half p z s most least small true e h =
+    let below : p < half = ltb-true p half e in
+    subst (λ (n : ℤ). text.has_value ty n ≡ true) h (plain ty p (omega (arith, most, below)))
+signed ty half p z s most least small false e h =
+    let above : half ≤ p = ltb-false p half e in
+    subst (λ (n : ℤ). text.has_value ty n ≡ true) h
+    (ap (λ b. b && nat_le (suc (half + half - 1 - p)) (greatest ty true)) s
+    ∙ le-leb (suc (half + half - 1 - p)) (greatest ty true) (omega (arith, least, above, small)))
+
+int_value : (z : ℤ) → number 16 (pattern 16 z) ≡ z → text.has_value type.Int z ≡ true
+int_value z h =
+    signed type.Int 32768 (pattern 16 z) z refl refl refl (pattern_below 16 z) (nat_lt (pattern 16 z) 32768) refl h
+
+dint_value : (z : ℤ) → number 32 (pattern 32 z) ≡ z → text.has_value type.Dint z ≡ true
+dint_value z h =
+    signed type.Dint 2147483648 (pattern 32 z) z refl refl refl (pattern_below 32 z) (nat_lt (pattern 32 z) 2147483648)
+    refl h
+
+lint_value : (z : ℤ) → number 64 (pattern 64 z) ≡ z → text.has_value type.Lint z ≡ true
+lint_value z h =
+    signed type.Lint 9223372036854775808 (pattern 64 z) z refl refl refl (pattern_below 64 z)
+    (nat_lt (pattern 64 z) 9223372036854775808) refl h
+
+fitting : (ty : StType) (z : ℤ) → fit ty z ≡ z → text.has_value ty z ≡ true
+fitting type.Bool z h = bits type.Bool 1 z (omega arith) h
+fitting type.Byte z h = bits type.Byte 8 z (omega arith) h
+fitting type.Word z h = bits type.Word 16 z (omega arith) h
+fitting type.Dword z h = bits type.Dword 32 z (omega arith) h
+fitting type.Int z h = int_value z h
+fitting type.Dint z h = dint_value z h
+fitting type.Lint z h = lint_value z h
+
+-- a token can have a value of a type
+pub has_value : (ty : StType) (z : ℤ) → is_value ty z ≡ true → text.has_value ty z ≡ true
+has_value ty z h = fitting ty z ((Decides-int_eq (fit ty z) z).0 h)
+
+-- Places
+
+-- a number that is small enough to be kept
+kept : (n : ℕ) → n ≤ 65535 → text.is_kept n ≡ true
+kept n h = lt-ltb n (2 ^ 32) (omega (arith, h))
+
+-- what is known of the numbers of a place
+pub record IsPlaced (a : AreaName) (w : Width) (byte bit : ℕ) : Type 0 where
+  pub rules : rules.is_place a w byte bit ≡ true
+  pub kept_byte : text.is_kept byte ≡ true
+  pub kept_bit : text.is_bit_of w bit ≡ true
+
+small_bit : (w : Width) (bit : ℕ) → is_bit_of w bit ≡ true → (nat_le bit 7 ≡ true) × (text.is_bit_of w bit ≡ true)
+small_bit width.Bit bit h = let less : bit ≤ 7 = leb-true bit 7 h in (h, kept bit (omega (arith, less)))
+small_bit width.Byte bit h = let none : bit ≡ 0 = eqb-true bit 0 h in (le-leb bit 7 (omega (arith, none)), h)
+small_bit width.Word bit h = let none : bit ≡ 0 = eqb-true bit 0 h in (le-leb bit 7 (omega (arith, none)), h)
+small_bit width.Dword bit h = let none : bit ≡ 0 = eqb-true bit 0 h in (le-leb bit 7 (omega (arith, none)), h)
+
+small_byte : (a : AreaName) (w : Width) (byte : ℕ) → rules.is_byte_in a w byte ≡ true → byte ≤ 65535
+small_byte area.I w byte h = let less = leb-true _ 2048 h in omega (arith, less)
+small_byte area.Q w byte h = let less = leb-true _ 2048 h in omega (arith, less)
+small_byte area.M w byte h = let less = leb-true _ 8192 h in omega (arith, less)
+small_byte area.L w byte h = let less = leb-true _ 256 h in omega (arith, less)
+small_byte area.Db w byte h = leb-true byte 65535 h
+small_byte area.Di w byte h = leb-true byte 65535 h
+
+same_bytes : (a : AreaName) (w : Width) (byte : ℕ) → is_byte_in a w byte ≡ rules.is_byte_in a w byte
+same_bytes area.I w byte = refl
+same_bytes area.Q w byte = refl
+same_bytes area.M w byte = refl
+same_bytes area.L w byte = refl
+same_bytes area.Db w byte = refl
+same_bytes area.Di w byte = refl
+
+pub placed : (a : AreaName) (w : Width) (byte bit : ℕ) → is_place a w byte bit ≡ true → IsPlaced a w byte bit
+placed a w byte bit h =
+    let both = and_both (is_byte_in a w byte) (is_bit_of w bit) h in
+    let inside : rules.is_byte_in a w byte ≡ true = sym (same_bytes a w byte) ∙ both.0 in
+    let small = small_bit w bit both.1 in
+    record {
+      rules = ap (λ b. b && nat_le bit 7) inside ∙ small.0;
+      kept_byte = kept byte (small_byte a w byte inside);
+      kept_bit = small.1;
+    }
+
+-- a token can have a place without a data block's number
+pub plain_place : (a : AreaName) (w : Width) (byte bit : ℕ) → IsPlaced a w byte bit
+    → text.is_place a None w byte bit ≡ true
+plain_place a w byte bit p = ap (λ b. b && text.is_bit_of w bit) p.kept_byte ∙ p.kept_bit
+
+-- and one with it
+pub block_place : (n : ℕ) (w : Width) (byte bit : ℕ) → n ≤ 65535 → IsPlaced area.Db w byte bit
+    → text.is_place area.Db (Some n) w byte bit ≡ true
+block_place n w byte bit h p =
+    ap (λ b. b && text.is_kept byte && text.is_bit_of w bit) (kept n h)
+    ∙ ap (λ b. b && text.is_bit_of w bit) p.kept_byte ∙ p.kept_bit
+
+pub small_number : (n : ℕ) → is_block_number n ≡ true → n ≤ 65535
+small_number n h = leb-true n 65535 (and_both (nat_le 1 n) (nat_le n 65535) h).1

@@ -1,0 +1,458 @@
+-- A proper tree has a canonical form: its declarations and its units together.
+use Rattle.std.proofs.Common.{◌≡◌, ◌≢◌, ℕ, zero, suc, ◌+◌, ◌<◌, ◌≤◌, max, Bool, true, false, ◌&&◌, cond, List, [], ◌∷◌, ◌++◌, map, length, slice_get, Some, None, refl, sym, ap, subst, ◌∙◌, arith}
+use Rattle.std.specs.Prelude.{All}
+use Rattle.std.specs.List.{flat_map, list_all}
+use Rattle.std.proofs.lemmas.Bool.{le-leb}
+use Rattle.std.proofs.lemmas.List.Elements.{All-head, All-tail}
+use Rattle.std.proofs.lemmas.List.{length-map}
+use Rattle.memory_areas.specs.Areas.{Ascend, IsSized, numbers_of}
+use Rattle.memory_areas.specs.declared.data_block.DataBlock.{DataBlock}
+use Rattle.memory_areas.specs.declared.place.Area.{Area}
+use Rattle.memory_areas.specs.declared.place.Area.TheVariants as place
+use Rattle.memory_areas.specs.declared.place.AreaName.TheVariants as area
+use Rattle.st_canonical.specs.Canonical.{globals_from, source_of, units_from}
+use Rattle.st_grammar.specs.Forms.{no_unit}
+use Rattle.st_grammar.specs.Grammar.{is_formal_type, raw_tree}
+use Rattle.st_grammar.specs.Levels.{deepest, levels_all, levels_globals, levels_section, levels_units}
+use Rattle.st_lexer.specs.Spelled.{is_byte}
+use Rattle.st_proper.proofs.BlockForms.{IsFull, with_zero}
+use Rattle.st_proper.proofs.Bounds.{bound}
+use Rattle.st_proper.proofs.Chains.{AreBounded, is_chain}
+use Rattle.st_proper.proofs.DeclaredGlobals.{IsSection, is_section}
+use Rattle.st_proper.proofs.GlobalForms.{IsPlain}
+use Rattle.st_proper.proofs.Good.{GoodAll}
+use Rattle.st_proper.proofs.Levels.{all_within, greatest, greatest_within, top_all, top_of_all}
+use Rattle.st_proper.proofs.Parts.{clean_of, found_of}
+use Rattle.st_proper.proofs.Scope.{each_at, each_of, formals_in, formals_same, inner_apart, outer_apart, sees, units_proper}
+use Rattle.st_proper.proofs.Statements.{statements_good}
+use Rattle.st_proper.proofs.UnitForms.{AreUnits, DeclareAll, HasBody, HasForm, HaveForms, IsFormal as IsFormalForm, IsHeaded, IsLocal as IsLocalForm, MayHave, all_declare, body_at, units_are}
+use Rattle.st_proper.proofs.Values.{placed, plain_place}
+use Rattle.st_proper.proofs.Words.{spelled_name}
+use Rattle.st_proper.specs.CanonicalForms.{HasCanonicalForm, ProperHasForm}
+use Rattle.st_rules.specs.Broken.{breaks_in, first_of_all, found_in}
+use Rattle.st_rules.specs.Calls.{all_calls}
+use Rattle.st_rules.specs.Declarations.{all_outside, formals_of, local_of, locals_of}
+use Rattle.st_rules.specs.Globals.{all_blocks, all_global_breaks, all_located}
+use Rattle.st_rules.specs.Statements.{statements}
+use Rattle.st_rules.specs.Types.{has_width}
+use Rattle.st_rules.specs.Typed.{IsChain, breaks_of, calls_in, names_of, tree_of}
+use Rattle.st_rules.specs.Units.{all_unit_breaks, all_units, breaks_of_unit, calls_of_unit, scope_in, unit_of}
+use Rattle.st_rules.specs.Variables as rules
+use Rattle.st_rules.specs.declared.scope.Scope.{Scope}
+use Rattle.st_tree.proofs.Induction.{Each}
+use Rattle.st_tree.proofs.TypesAgree.{types_agree}
+use Rattle.st_tree.specs.Costs.{body_most}
+use Rattle.st_tree.specs.PlaceRules.{is_located}
+use Rattle.st_tree.specs.Proper.{IsDataBlock, IsFormal, IsGlobal, IsLocal, IsProperUnit, Proper}
+use Rattle.st_tree.specs.Runnable.{chain_costs}
+use Rattle.st_tree.specs.Spelling.{names_in}
+use Rattle.st_tree.specs.Values.{width_at}
+use Rattle.st_tree.specs.WellTyped.{head_of}
+use Rattle.st_tree.specs.declared.expr.StType.{StType}
+use Rattle.st_tree.specs.declared.expr.StType.TheVariants as type
+use Rattle.st_tree.specs.declared.program.Local.{Local}
+use Rattle.st_tree.specs.declared.program.Located.{Located}
+use Rattle.st_tree.specs.declared.program.Pou.{Pou}
+use Rattle.st_tree.specs.declared.program.StProgram.{StProgram}
+use Rattle.st_tree.specs.declared.raw.RawLocal.{RawLocal}
+use Rattle.st_tree.specs.declared.raw.RawPou.{RawPou}
+use Rattle.st_tree.specs.declared.raw.RawSt.{RawSt}
+use Rattle.st_types_laws.proofs.DeclaredNames.{AreNumbered, ArePlaced, IsPlaced, outer_entries}
+use Rattle.st_types_laws.proofs.PlainTexts.{IsPlainText, inside_again, plain_text}
+use Rattle.st_types_laws.proofs.Redeclared.{AreLocalsAt, IsUnitAt}
+use Rattle.st_types_laws.proofs.SameDeclarations.{same_length, unit_there}
+
+-- Data blocks
+
+all_bytes : (bs : List ℕ) → All (λ b. b < 256) bs → list_all is_byte bs ≡ true
+all_bytes [] h = refl
+all_bytes (b ∷ bs) h =
+    let less : b < 256 = All-head (λ b. b < 256) b bs h in
+    rw (le-leb b 255 (omega (arith, less)), all_bytes bs (All-tail (λ b. b < 256) b bs h)) refl
+
+are_full : (least : ℕ) (bs : List DataBlock) → 1 ≤ least → Ascend least (numbers_of bs) → Each IsDataBlock bs
+    → Each IsSized bs → Each IsFull bs
+are_full least [] some a d s = tt
+are_full least (b ∷ bs) some a d s = (
+  record {
+    some = omega (arith, some, a.0);
+    small = d.0.number;
+    least = s.0.0;
+    most = s.0.1;
+    bytes = all_bytes b.bytes d.0.bytes;
+  },
+  are_full (b.number + 1) bs (omega arith) a.1 d.1 s.1,
+)
+
+are_numbered : (least : ℕ) (bs : List DataBlock) → 1 ≤ least → Ascend least (numbers_of bs) → Each IsDataBlock bs
+    → Each IsSized bs → AreNumbered bs
+are_numbered least [] some a d s = tt
+are_numbered least (b ∷ bs) some a d s = (
+  record { number = refl; some = omega (arith, some, a.0); small = d.0.number; sized = s.0 },
+  are_numbered (b.number + 1) bs (omega arith) a.1 d.1 s.1,
+)
+
+-- Globals
+
+wide : (ty : StType) → ty ≢ type.Lint → has_width ty (width_at ty) ≡ true
+wide type.Bool h = refl
+wide type.Byte h = refl
+wide type.Word h = refl
+wide type.Dword h = refl
+wide type.Int h = refl
+wide type.Dint h = refl
+wide type.Lint h = absurd (h refl)
+
+abbrev global_at : List ℕ → StType → Area → ℕ → ℕ → Located
+global_at name ty a byte bit = record { name = name; place = record { area = a; byte = byte; bit = bit }; ty = ty }
+
+both_hold : (a b : Bool) → a ≡ true → b ≡ true → (a && b) ≡ true
+both_hold true b h g = g
+both_hold false b h g = absurd cc
+
+on_area : (name : List ℕ) (ty : StType) (byte bit : ℕ) (a : Area) → is_located a (width_at ty) byte bit ≡ true
+    → ty ≢ type.Lint → IsPlaced (global_at name ty a byte bit)
+on_area name ty byte bit place.I h t =
+    let p = placed area.I (width_at ty) byte bit h in
+    record {
+      address = p.rules;
+      fits = wide ty t;
+      found = ap (λ b. cond b (Some (global_at name ty place.I byte bit)) None)
+          (both_hold (rules.is_place area.I (width_at ty) byte bit) (has_width ty (width_at ty)) p.rules (wide ty t));
+    }
+on_area name ty byte bit place.Q h t =
+    let p = placed area.Q (width_at ty) byte bit h in
+    record {
+      address = p.rules;
+      fits = wide ty t;
+      found = ap (λ b. cond b (Some (global_at name ty place.Q byte bit)) None)
+          (both_hold (rules.is_place area.Q (width_at ty) byte bit) (has_width ty (width_at ty)) p.rules (wide ty t));
+    }
+on_area name ty byte bit place.M h t =
+    let p = placed area.M (width_at ty) byte bit h in
+    record {
+      address = p.rules;
+      fits = wide ty t;
+      found = ap (λ b. cond b (Some (global_at name ty place.M byte bit)) None)
+          (both_hold (rules.is_place area.M (width_at ty) byte bit) (has_width ty (width_at ty)) p.rules (wide ty t));
+    }
+on_area name ty byte bit (place.Db n) h t = absurd cc
+on_area name ty byte bit (place.Local n) h t = absurd cc
+on_area name ty byte bit (place.Cell n) h t = absurd cc
+
+are_placed : (gs : List Located) → Each IsGlobal gs → ArePlaced gs
+are_placed [] h = tt
+are_placed (g ∷ gs) h = (
+  on_area g.name g.ty g.place.byte g.place.bit g.place.area h.0.place h.0.type,
+  are_placed gs h.1,
+)
+
+is_plain : (name : List ℕ) (ty : StType) (byte bit : ℕ) (a : Area) → IsGlobal (global_at name ty a byte bit)
+    → is_located a (width_at ty) byte bit ≡ true → IsPlain (global_at name ty a byte bit)
+is_plain name ty byte bit place.I g h =
+    record {
+      name = spelled_name name g.name;
+      free = g.free;
+      placed = plain_place area.I (width_at ty) byte bit
+          (placed area.I (width_at ty) byte bit h);
+      known = refl;
+    }
+is_plain name ty byte bit place.Q g h =
+    record {
+      name = spelled_name name g.name;
+      free = g.free;
+      placed = plain_place area.Q (width_at ty) byte bit
+          (placed area.Q (width_at ty) byte bit h);
+      known = refl;
+    }
+is_plain name ty byte bit place.M g h =
+    record {
+      name = spelled_name name g.name;
+      free = g.free;
+      placed = plain_place area.M (width_at ty) byte bit
+          (placed area.M (width_at ty) byte bit h);
+      known = refl;
+    }
+is_plain name ty byte bit (place.Db n) g h = absurd cc
+is_plain name ty byte bit (place.Local n) g h = absurd cc
+is_plain name ty byte bit (place.Cell n) g h = absurd cc
+
+are_plain : (gs : List Located) → Each IsGlobal gs → Each IsPlain gs
+are_plain [] h = tt
+are_plain (g ∷ gs) h = (is_plain g.name g.ty g.place.byte g.place.bit g.place.area h.0 h.0.place, are_plain gs h.1)
+
+-- Units
+
+formal_type : (ty : StType) → ty ≢ type.Lint → is_formal_type ty ≡ true
+formal_type type.Bool h = refl
+formal_type type.Byte h = refl
+formal_type type.Word h = refl
+formal_type type.Dword h = refl
+formal_type type.Int h = refl
+formal_type type.Dint h = refl
+formal_type type.Lint h = absurd (h refl)
+
+are_formals : (ls : List Local) → Each IsFormal ls → Each IsFormalForm ls
+are_formals [] h = tt
+are_formals (l ∷ ls) h = (
+  record {
+    name = spelled_name l.name h.0.name;
+    free = h.0.free;
+    typed = formal_type l.ty h.0.type;
+  },
+  are_formals ls h.1,
+)
+
+are_locals : (ls : List Local) → Each IsLocal ls → Each IsLocalForm ls
+are_locals [] h = tt
+are_locals (l ∷ ls) h = (record { name = spelled_name l.name h.0.name; free = h.0.free }, are_locals ls h.1)
+
+may_have : (program : Bool) (ls : List Local) → (program ≡ true → ls ≡ []) → MayHave program ls
+may_have program [] h = tt
+may_have false (l ∷ ls) h = refl
+may_have true (l ∷ ls) h = let none = h refl in absurd cc
+
+are_headed : (t : StProgram) (us : List Pou) → Each (IsProperUnit t.globals (map head_of t.pous)) us → Each IsHeaded us
+are_headed t [] h = tt
+are_headed t (u ∷ us) h = (
+  record {
+    name = spelled_name u.name h.0.name;
+    free = h.0.free;
+    may = may_have u.program u.formals h.0.program;
+    formals = are_formals u.formals (each_of IsFormal u.formals h.0.formals);
+    locals = are_locals u.locals (each_of IsLocal u.locals h.0.locals);
+  },
+  are_headed t us h.1,
+)
+
+-- Lists
+
+each_from : {X : Type 0} (P : X → Type 0) (xs : List X) → ((n : ℕ) (x : X) → slice_get xs n ≡ Some x → P x) → Each P xs
+each_from P [] h = tt
+each_from P (x ∷ xs) h = (h 0 x refl, each_from P xs (λ n y q. h (suc n) y q))
+
+fellow : {X Y : Type 0} (xs : List X) (ys : List Y) (n : ℕ) (x : X) → length xs ≡ length ys → slice_get xs n ≡ Some x
+    → (y : Y) × (slice_get ys n ≡ Some y)
+fellow [] ys n x size h = absurd cc
+fellow (a ∷ xs) [] n x size h = absurd (omega (arith, size))
+fellow (a ∷ xs) (b ∷ ys) zero x size h = (b, refl)
+fellow (a ∷ xs) (b ∷ ys) (suc n) x size h = fellow xs ys n x (omega (arith, size)) h
+
+each_is : {X Y : Type 0} (f : X → Y) (xs : List X) (ys : List Y) → length xs ≡ length ys
+    → ((n : ℕ) (x : X) (y : Y) → slice_get xs n ≡ Some x → slice_get ys n ≡ Some y → f x ≡ y)
+    → map f xs ≡ ys
+each_is f [] [] size h = refl
+each_is f [] (y ∷ ys) size h = absurd (omega (arith, size))
+each_is f (x ∷ xs) [] size h = absurd (omega (arith, size))
+each_is f (x ∷ xs) (y ∷ ys) size h = ap (λ z. z ∷ map f xs) (h 0 x y refl refl)
+    ∙ ap (λ zs. y ∷ zs) (each_is f xs ys (omega (arith, size)) (λ n a b p q. h (suc n) a b p q))
+
+all_nil : {X Y : Type 0} (f : X → List Y) (xs : List X) → ((n : ℕ) (x : X) → slice_get xs n ≡ Some x → f x ≡ [])
+    → flat_map f xs ≡ []
+all_nil f [] h = refl
+all_nil f (x ∷ xs) h = ap (λ l. l ++ flat_map f xs) (h 0 x refl) ∙ all_nil f xs (λ n a p. h (suc n) a p)
+
+mapped_from : {X Y : Type 0} (f : X → Y) (xs : List X) (i : ℕ) (y : Y) → slice_get (map f xs) i ≡ Some y
+    → (x : X) × (slice_get xs i ≡ Some x) × (y ≡ f x)
+mapped_from f [] i y h = absurd cc
+mapped_from f (z ∷ xs) zero y h = let same : y ≡ f z = cc in (z, refl, same)
+mapped_from f (z ∷ xs) (suc i) y h = mapped_from f xs i y h
+
+locals_again : (ls : List Local) (rs : List RawLocal) → AreLocalsAt ls rs → locals_of rs ≡ ls
+locals_again [] [] a = refl
+locals_again [] (r ∷ rs) a = absurd a
+locals_again (l ∷ ls) [] a = absurd a
+locals_again (l ∷ ls) (r ∷ rs) a =
+    let one : local_of r ≡ l = ap (λ name. record { name = name; ty = r.ty }) a.0.named
+    ∙ ap (λ ty. record { name = l.name; ty = ty }) a.0.typed in
+    ap (λ x. x ∷ locals_of rs) one ∙ ap (λ xs. l ∷ xs) (locals_again ls rs a.1)
+
+form_there : (text : StProgram) (us : List Pou) (vs : List RawPou) → HaveForms text us vs
+    → (n : ℕ) (u : Pou) (v : RawPou) → slice_get us n ≡ Some u → slice_get vs n ≡ Some v
+    → HasForm text u v
+form_there text [] vs h n u v q s = absurd cc
+form_there text (a ∷ us) [] h n u v q s = absurd h
+form_there text (a ∷ us) (b ∷ vs) h zero u v q s =
+    let one : a ≡ u = cc in
+    let two : b ≡ v = cc in
+    subst (λ w. HasForm text u w) two (subst (λ w. HasForm text w b) one h.0)
+form_there text (a ∷ us) (b ∷ vs) h (suc n) u v q s = form_there text us vs h.1 n u v q s
+
+unit_again : (raw : RawSt) (p : Pou) (v : RawPou) → IsUnitAt p v
+    → found_in (statements (scope_in (names_of raw) (map formals_of raw.pous) v) v.body) ≡ p.body
+    → unit_of (names_of raw) (map formals_of raw.pous) v ≡ p
+unit_again raw p v at body =
+    let found = found_in (statements (scope_in (names_of raw) (map formals_of raw.pous) v) v.body) in
+    ap (λ t. record {
+      program = t;
+      name = v.name;
+      formals = locals_of v.formals;
+      locals = locals_of v.locals;
+      body = found;
+    }) at.program
+    ∙ ap (λ name. record {
+      program = p.program;
+      name = name;
+      formals = locals_of v.formals;
+      locals = locals_of v.locals;
+      body = found;
+    }) at.named
+    ∙ ap (λ ls. record { program = p.program; name = p.name; formals = ls; locals = locals_of v.locals; body = found })
+    (locals_again p.formals v.formals at.formals)
+    ∙ ap (λ ls. record { program = p.program; name = p.name; formals = p.formals; locals = ls; body = found })
+    (locals_again p.locals v.locals at.locals)
+    ∙ ap (λ b. record { program = p.program; name = p.name; formals = p.formals; locals = p.locals; body = b }) body
+
+some_units : (vs : List RawPou) (ps : List Pou) → length vs ≡ length ps → ps ≢ [] → vs ≢ []
+some_units [] [] size some e = some refl
+some_units [] (p ∷ ps) size some e = omega (arith, size)
+some_units (v ∷ vs) ps size some e = let none : length (v ∷ vs) ≡ 0 = ap length e in omega (arith, none)
+
+-- A tree
+
+module _ (t : StProgram) (p : Proper t) where
+  abbrev raw : RawSt
+  raw = raw_tree (source_of t)
+
+  abbrev scope_of : RawPou → Scope
+  scope_of v = scope_in (names_of raw) (map formals_of raw.pous) v
+
+  blocks : Each IsDataBlock t.dbs
+  blocks = each_of IsDataBlock t.dbs p.bytes
+
+  sized : Each IsSized t.dbs
+  sized = each_of IsSized t.dbs p.blocks.sized
+
+  globals : Each IsGlobal t.globals
+  globals = each_of IsGlobal t.globals p.globals
+
+  headed : Each IsHeaded t.pous
+  headed = are_headed t t.pous (units_proper t p)
+
+  section : IsSection t.dbs t.globals (globals_from 1 t.dbs t.globals).0
+  section = is_section t.dbs t.globals 1 (are_full 1 t.dbs (omega arith) p.blocks.ascend blocks sized)
+      (are_plain t.globals globals)
+
+  declare : DeclareAll t t.pous raw.pous
+  declare = all_declare t t.pous (globals_from 1 t.dbs t.globals).1 headed
+
+  plain : IsPlainText t.dbs t.globals t.pous (section.blocks ++ section.others) raw.pous
+  plain =
+      plain_text t.dbs t.globals t.pous section.blocks section.others raw.pous section.are_blocks section.are_located declare.are
+      (are_numbered 1 t.dbs (omega arith) p.blocks.ascend blocks sized)
+      (are_placed t.globals globals) p.blocks.ascend p.blocks.few (outer_apart t p)
+
+  outer : names_of raw ≡ outer_entries t
+  outer = ap (λ gs. (all_outside gs raw.pous).names) section.globals ∙ plain.names
+
+  formals : map formals_of raw.pous ≡ map formals_in t.pous
+  formals = formals_same t.pous raw.pous declare.are
+
+  size : length raw.pous ≡ length t.pous
+  size = same_length t.pous raw.pous declare.are
+
+  -- the statements of a unit
+  body : (n : ℕ) (u : Pou) (v : RawPou) → slice_get t.pous n ≡ Some u → slice_get raw.pous n ≡ Some v → (line : ℕ)
+      → GoodAll (scope_of v) false u.body (body_at t u line)
+  body n u v q d line =
+      let h = each_at (IsProperUnit t.globals (map head_of t.pous)) t.pous n u (units_proper t p) q in
+      let at = unit_there t.pous raw.pous declare.are n u v q d in
+      let inside = inside_again u v at.formals at.locals (inner_apart u h.apart) in
+      statements_good (scope_of v) (names_in t u) (sees t u (scope_of v) p h inside.1 outer formals)
+      (λ e ty g. types_agree t u e ty g) false u.body h.typed line
+
+  has_body : (n : ℕ) (u : Pou) → slice_get t.pous n ≡ Some u → HasBody t u
+  has_body n u q =
+      let h = each_at (IsProperUnit t.globals (map head_of t.pous)) t.pous n u (units_proper t p) q in
+      let v = fellow t.pous raw.pous n u (sym size) q in
+      record {
+        fit = λ line. (body n u v.0 q v.1 line).fits;
+        spelled = λ line. (body n u v.0 q v.1 line).spelled;
+        within = λ line before w.
+            let form = body_at t u line in
+            let low = (body n u v.0 q v.1 line).low 0 in
+            let rest : greatest before ≤ deepest = greatest_within deepest before w in
+            let sum : greatest (levels_all 0 form before)
+            ≡ max (top_all 0 form) (greatest before) = top_of_all 0 form before in
+            all_within deepest (levels_all 0 form before) (omega (arith, low, h.nesting, rest, sum));
+      }
+
+  units : AreUnits (units_from t no_unit (globals_from 1 t.dbs t.globals).1 t.pous).0
+  units = units_are t t.pous (globals_from 1 t.dbs t.globals).1 headed (each_from (HasBody t) t.pous has_body)
+
+  -- what a unit of the text is
+  said : (n : ℕ) (u : Pou) (v : RawPou) → slice_get t.pous n ≡ Some u → slice_get raw.pous n ≡ Some v
+      → (breaks_in (statements (scope_of v) v.body) ≡ []) × (found_in (statements (scope_of v) v.body) ≡ u.body)
+      × ((f : ℕ → ℕ) → bound f (all_calls (scope_of v) v.body) ≤ body_most (chain_costs f) u.body)
+  said n u v q d =
+      let form = form_there t t.pous raw.pous declare.forms n u v q d in
+      let g = body n u v q d form.line in (
+        ap (λ b. breaks_in (statements (scope_of v) b)) form.same ∙ clean_of _ _ g.means,
+        ap (λ b. found_in (statements (scope_of v) b)) form.same ∙ found_of _ _ g.means,
+        λ f. subst (λ b. bound f (all_calls (scope_of v) b) ≤ body_most (chain_costs f) u.body) (sym form.same)
+            (g.calls f),
+      )
+
+  sound_unit : (n : ℕ) (v : RawPou) → slice_get raw.pous n ≡ Some v
+      → breaks_of_unit (names_of raw) (map formals_of raw.pous) v ≡ []
+  sound_unit n v d =
+      let u = fellow raw.pous t.pous n v size d in
+      let h = each_at (IsProperUnit t.globals (map head_of t.pous)) t.pous n u.0 (units_proper t p) u.1 in
+      let at = unit_there t.pous raw.pous declare.are n u.0 v u.1 d in
+      let inside = inside_again u.0 v at.formals at.locals (inner_apart u.0 h.apart) in
+      ap (λ l. l ++ breaks_in (statements (scope_of v) v.body)) inside.0 ∙ (said n u.0 v u.1 d).0
+
+  no_breaks : breaks_of raw ≡ []
+  no_breaks =
+      ap (λ l. l ++ (all_global_breaks raw.globals ++ all_unit_breaks (names_of raw)
+      (map formals_of raw.pous) raw.pous))
+      (ap (λ gs. (all_outside gs raw.pous).breaks) section.globals ∙ plain.outside)
+      ∙ ap (λ l. l ++ all_unit_breaks (names_of raw) (map formals_of raw.pous) raw.pous)
+      (ap all_global_breaks section.globals ∙ plain.sound)
+      ∙ all_nil (breaks_of_unit (names_of raw) (map formals_of raw.pous)) raw.pous sound_unit
+
+  all_again : all_units (names_of raw) (map formals_of raw.pous) raw.pous ≡ t.pous
+  all_again =
+      each_is (unit_of (names_of raw) (map formals_of raw.pous)) raw.pous t.pous size
+      (λ n v u d q. unit_again raw u v (unit_there t.pous raw.pous declare.are n u v q d) (said n u v q d).1)
+
+  same : t ≡ tree_of raw
+  same =
+      sym (ap (λ bs. record {
+        dbs = bs;
+        globals = all_located raw.globals;
+        pous = all_units (names_of raw)
+            (map formals_of raw.pous) raw.pous;
+      })
+      (ap all_blocks section.globals ∙ plain.blocks)
+      ∙ ap (λ ls. record {
+        dbs = t.dbs;
+        globals = ls;
+        pous = all_units (names_of raw)
+            (map formals_of raw.pous) raw.pous;
+      })
+      (ap all_located section.globals ∙ plain.located)
+      ∙ ap (λ ps. record { dbs = t.dbs; globals = t.globals; pous = ps }) all_again)
+
+  bounded : AreBounded t (calls_in raw)
+  bounded i calls unit e q f =
+      let v = mapped_from (calls_of_unit (names_of raw) (map formals_of raw.pous)) raw.pous i calls e in
+      subst (λ cs. bound f cs ≤ body_most (chain_costs f) unit.body) (sym v.2) ((said i unit v.0 q v.1).2 f)
+
+  chain : IsChain (calls_in raw) raw.pous
+  chain =
+      is_chain t (calls_in raw) bounded p.chains
+      (length-map raw.pous (calls_of_unit (names_of raw) (map formals_of raw.pous)) ∙ size) raw.pous
+      (some_units raw.pous t.pous size p.some)
+
+  pub proper_form : HasCanonicalForm t
+  proper_form = record {
+    fits = (section.fit, units.fit);
+    spelled = (section.spelled, units.spelled);
+    within = with_zero (levels_units (source_of t).units (levels_section levels_globals (source_of t).globals []))
+        (units.within (levels_section levels_globals (source_of t).globals []) (section.within [] tt));
+    typed = record { sound = ap first_of_all no_breaks; chain = chain; same = same };
+  }
+
+pub proper_has_form : ProperHasForm
+proper_has_form t p = proper_form t p

@@ -1,0 +1,134 @@
+-- The units of a tree that was read: their names, formals and locals are ones that they may have, and their
+-- statements are well typed.
+use Rattle.std.proofs.Common.{◌≡◌, ◌≢◌, ℕ, ◌≤◌, max, Bool, true, false, List, [], ◌∷◌, refl, sym, subst, ◌∙◌, arith}
+use Rattle.std.proofs.lemmas.List.{map-append}
+use Rattle.st_canonical.specs.Spelled.{AllSpelled, LocalsSpelled, UnitsSpelled}
+use Rattle.st_grammar.specs.Forms.{Locals, Section, Statements, Units, absent, local, no_local, no_unit, present, unit}
+use Rattle.st_grammar.specs.Grammar.{AllFit, FormalsFit, HeadFits, IfPresent, LocalsFit, UnitsFit, held, is_formal_type, tree_all, tree_locals, tree_units}
+use Rattle.st_grammar.specs.Forms.{Head}
+use Rattle.st_grammar.specs.Levels.{deepest, levels_all, levels_locals, levels_section, levels_units}
+use Rattle.st_grammar.specs.Syntax.{AllWithin}
+use Rattle.st_read_proper.proofs.Each.{Each, each_append}
+use Rattle.st_read_proper.proofs.Levels.{all_within, greatest, greatest_within, top_all, top_of_all}
+use Rattle.st_read_proper.proofs.Names.{free_is, local_is, name_is, unit_is}
+use Rattle.st_rules.specs.Declarations.{local_of, locals_of}
+use Rattle.st_rules.specs.Names.{Table}
+use Rattle.st_rules.specs.Units.{all_units, unit_of}
+use Rattle.st_rules.specs.declared.scope.Formals.{Formals}
+use Rattle.st_rules.specs.declared.scope.Meaning.{Meaning}
+use Rattle.st_tree.specs.Naming.{is_name, may_name_unit}
+use Rattle.st_tree.specs.Proper.{IsFormal, IsLocal}
+use Rattle.st_tree.specs.declared.expr.StType.{StType}
+use Rattle.st_tree.specs.declared.expr.StType.TheVariants as type
+use Rattle.st_tree.specs.declared.program.Pou.{Pou}
+use Rattle.st_tree.specs.declared.raw.RawLocal.{RawLocal}
+use Rattle.st_tree.specs.declared.raw.RawPou.{RawPou}
+
+-- Formals and locals
+
+no_lint : (ty : StType) → is_formal_type ty ≡ true → ty ≢ type.Lint
+no_lint ty h e = let none : is_formal_type type.Lint ≡ true = subst (λ t. is_formal_type t ≡ true) e h in absurd cc
+
+are_formals : (ls : Locals) → FormalsFit ls → LocalsSpelled ls → Each IsFormal (locals_of (tree_locals ls))
+are_formals no_local f s = tt
+are_formals (local others name line ty) f s =
+    let last : RawLocal = record { name = name; line = line; ty = ty } in
+    subst (Each IsFormal) (sym (map-append local_of (tree_locals others) (last ∷ [])))
+    (each_append IsFormal (locals_of (tree_locals others)) (local_of last ∷ []) (are_formals others f.0 s.0)
+    (record { name = name_is name s.1; free = free_is name f.1; type = no_lint ty f.2 }, tt))
+
+are_locals : (ls : Locals) → LocalsFit ls → LocalsSpelled ls → Each IsLocal (locals_of (tree_locals ls))
+are_locals no_local f s = tt
+are_locals (local others name line ty) f s =
+    let last : RawLocal = record { name = name; line = line; ty = ty } in
+    subst (Each IsLocal) (sym (map-append local_of (tree_locals others) (last ∷ [])))
+    (each_append IsLocal (locals_of (tree_locals others)) (local_of last ∷ []) (are_locals others f.0 s.0)
+    (record { name = name_is name s.1; free = local_is name f.1 }, tt))
+
+formals_held : (program : Bool) (s : Section Locals) → HeadFits program s → IfPresent LocalsSpelled s
+    → Each IsFormal (locals_of (held tree_locals s))
+formals_held program absent f s = tt
+formals_held program (present ls) f s = are_formals ls f.1 s
+
+locals_held : (s : Section Locals) → IfPresent LocalsFit s → IfPresent LocalsSpelled s
+    → Each IsLocal (locals_of (held tree_locals s))
+locals_held absent f s = tt
+locals_held (present ls) f s = are_locals ls f s
+
+-- only functions have formals
+none_held : (program : Bool) (s : Section Locals) → HeadFits program s → program ≡ true → locals_of (held tree_locals s) ≡ []
+none_held program absent f h = refl
+none_held program (present ls) f h = let never : true ≡ false = sym h ∙ f.0 in absurd cc
+
+-- Heads
+
+-- what is asked of a unit's head and declarations alone
+pub record IsHeaded (u : Pou) : Type 0 where
+  pub name : is_name u.name ≡ true
+  pub free : may_name_unit u.name ≡ true
+  pub program : u.program ≡ true → u.formals ≡ []
+  pub formals : Each IsFormal u.formals
+  pub locals : Each IsLocal u.locals
+
+-- a unit by its head, its formals, its locals and its statements
+abbrev raw_unit : Head → Section Locals → Section Locals → Statements → RawPou
+raw_unit head formals locals body = record {
+  program = head.program;
+  name = head.name;
+  line = head.line;
+  formals = held tree_locals formals;
+  locals = held tree_locals locals;
+  body = tree_all body;
+}
+
+pub are_headed : (outer : Table Meaning) (formals : List Formals) (us : Units) → UnitsFit us → UnitsSpelled us
+    → Each IsHeaded (all_units outer formals (tree_units us))
+are_headed outer formals no_unit f s = tt
+are_headed outer formals (unit others head formal own body) f s =
+    let last = raw_unit head formal own body in
+    subst (Each IsHeaded) (sym (map-append (unit_of outer formals) (tree_units others) (last ∷ [])))
+    (each_append IsHeaded (all_units outer formals (tree_units others)) (unit_of outer formals last ∷ []) (are_headed outer formals others f.0 s.0) (
+      record {
+        name = name_is head.name s.1;
+        free = unit_is head.name f.1;
+        program = none_held head.program formal f.2;
+        formals = formals_held head.program formal f.2 s.2;
+        locals = locals_held own f.3 s.3;
+      },
+      tt,
+    ))
+
+-- Statements
+
+abbrev pub AreWithin : List ℕ → Type 0
+AreWithin levels = AllWithin deepest levels
+
+-- the statements of a unit
+pub record WasRead (u : RawPou) : Type 0 where
+  pub body : Statements
+  pub same : u.body ≡ tree_all body
+  pub fit : AllFit false body
+  pub spelled : AllSpelled body
+  pub within : top_all 0 body ≤ deepest
+
+locals_before : (ls : Locals) (before : List ℕ) → AreWithin (levels_locals ls before) → AreWithin before
+locals_before no_local before h = h
+locals_before (local others name line ty) before h = locals_before others before h.1.1.1.1
+
+section_before : (s : Section Locals) (before : List ℕ) → AreWithin (levels_section levels_locals s before) → AreWithin before
+section_before absent before h = h
+section_before (present ls) before h = (locals_before ls (0 ∷ before) h.1).1
+
+pub were_read : (us : Units) (before : List ℕ) → UnitsFit us → UnitsSpelled us → AreWithin (levels_units us before) → Each WasRead (tree_units us)
+were_read no_unit before f s w = tt
+were_read (unit others head formals own body) before f s w =
+    let two = 0 ∷ 0 ∷ levels_units others before in
+    let one = levels_section levels_locals formals two in
+    let both = levels_section levels_locals own one in
+    let top : greatest (levels_all 0 body both) ≤ deepest = greatest_within deepest (levels_all 0 body both) w.1 in
+    let sum : greatest (levels_all 0 body both) ≡ max (top_all 0 body) (greatest both) = top_of_all 0 body both in
+    let behind : AreWithin both = all_within deepest both (omega (arith, top, sum)) in
+    let last = raw_unit head formals own body in
+    each_append WasRead (tree_units others) (last ∷ [])
+    (were_read others before f.0 s.0 (section_before formals two (section_before own one behind)).1.1)
+    (record { body = body; same = refl; fit = f.4; spelled = s.4; within = omega (arith, top, sum) }, tt)

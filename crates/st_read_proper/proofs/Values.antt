@@ -1,0 +1,129 @@
+-- A literal that tokens can have has a value of its type.
+use Rattle.std.proofs.Common.{◌≡◌, ℕ, suc, ◌<◌, ◌≤◌, ◌+◌, ◌-◌, ◌%◌, ◌^◌, ℤ, pos, negsuc, Bool, true, false, ◌&&◌, cond, refl, ap, ◌∙◌, arith}
+use Rattle.std.specs.Prelude.{nat_le, nat_lt}
+use Rattle.std.specs.Ordering.{int_eq}
+use Rattle.std.proofs.lemmas.Bool.{leb-true}
+use Rattle.std.proofs.lemmas.Bool.Decides.{nat_tests}
+use Rattle.std.proofs.lemmas.Cmp.{int_eq_equiv}
+use Rattle.st_canonical.specs.Spelled.{is_literal}
+use Rattle.st_grammar.specs.Grammar.{label_tree, literal_tree}
+use Rattle.st_grammar.specs.declared.kind.Literal.{Literal}
+use Rattle.st_grammar.specs.declared.kind.Literal.TheVariants as lit
+use Rattle.st_lexer.specs.Literals.{greatest, is_signed}
+use Rattle.st_lexer.specs.Spelled.{has_value, is_byte}
+use Rattle.st_tree.specs.Values.{fit}
+use Rattle.st_tree.specs.WellTyped.{is_value}
+use Rattle.st_tree.specs.declared.expr.StType.{StType}
+use Rattle.st_tree.specs.declared.expr.StType.TheVariants as type
+use Rattle.st_tree.specs.declared.raw.RawExpr.TheVariants as raw
+
+never : (n : ℕ) → nat_lt n 0 ≡ false
+never n = grind (arith, nat_tests)
+
+-- a number from 0 on is not below it
+value_plain : (t : Bool) (n : ℕ) (ty : StType) → t ≡ false → nat_le n (greatest ty false) ≡ true
+    → (cond t (is_signed ty && nat_le n (greatest ty true)) (nat_le n (greatest ty false))) ≡ true
+value_plain true n ty e h = absurd cc
+value_plain false n ty e h = h
+
+plain_value : (t : Bool) (n : ℕ) (ty : StType) → t ≡ false
+    → (cond t (is_signed ty && nat_le n (greatest ty true)) (nat_le n (greatest ty false))) ≡ true
+    → nat_le n (greatest ty false) ≡ true
+plain_value true n ty e h = absurd cc
+plain_value false n ty e h = h
+
+-- What a type keeps
+
+-- a number from 0 on
+signed_kept : (n half whole : ℕ) → n < half → n % whole ≡ n
+    → cond (nat_lt (n % whole) half) (pos (n % whole)) (negsuc (whole - 1 - n % whole)) ≡ pos n
+signed_kept n half whole h same =
+    let below : nat_lt n half ≡ true = grind (arith, nat_tests) in
+    ap (λ m. cond (nat_lt m half) (pos m) (negsuc (whole - 1 - m))) same
+    ∙ ap (λ t. cond t (pos n) (negsuc (whole - 1 - n))) below
+
+-- a number below 0
+below_kept : (n half whole : ℕ) → n < half → n % whole ≡ n → whole ≡ half + half
+    → cond (nat_lt (whole - 1 - n % whole) half) (pos (whole - 1 - n % whole)) (negsuc (whole - 1 - (whole - 1 - n % whole)))
+    ≡ negsuc n
+below_kept n half whole h same twice =
+    let high : half ≤ whole - 1 - n = omega (arith, h, twice) in
+    let above : nat_lt (whole - 1 - n) half ≡ false = by (whole - 1 - n) high in
+    let back : whole - 1 - (whole - 1 - n) ≡ n = omega (arith, h, twice) in
+    ap (λ m. cond (nat_lt (whole - 1 - m) half) (pos (whole - 1 - m)) (negsuc (whole - 1 - (whole - 1 - m)))) same
+    ∙ ap (λ t. cond t (pos (whole - 1 - n)) (negsuc (whole - 1 - (whole - 1 - n)))) above
+    ∙ ap negsuc back
+  where
+    by : (m : ℕ) → half ≤ m → nat_lt m half ≡ false
+    by m h = grind (arith, nat_tests)
+
+plain_fits : (ty : StType) (n : ℕ) → nat_le n (greatest ty false) ≡ true → fit ty (pos n) ≡ pos n
+plain_fits type.Bool n h =
+    let b = leb-true n 1 h in let e : n % 2 ^ 1 ≡ n = omega (arith, b) in ap pos e
+plain_fits type.Byte n h =
+    let b = leb-true n 255 h in let e : n % 2 ^ 8 ≡ n = omega (arith, b) in ap pos e
+plain_fits type.Word n h =
+    let b = leb-true n 65535 h in let e : n % 2 ^ 16 ≡ n = omega (arith, b) in ap pos e
+plain_fits type.Dword n h =
+    let b = leb-true n 4294967295 h in let e : n % 2 ^ 32 ≡ n = omega (arith, b) in ap pos e
+plain_fits type.Int n h =
+    let b = leb-true n 32767 h in
+    let e : n % 2 ^ 16 ≡ n = omega (arith, b) in
+    signed_kept n (2 ^ (16 - 1)) (2 ^ 16) (omega (arith, b)) e
+plain_fits type.Dint n h =
+    let b = leb-true n 2147483647 h in
+    let e : n % 2 ^ 32 ≡ n = omega (arith, b) in
+    signed_kept n (2 ^ (32 - 1)) (2 ^ 32) (omega (arith, b)) e
+plain_fits type.Lint n h =
+    let b = leb-true n 9223372036854775807 h in
+    let e : n % 2 ^ 64 ≡ n = omega (arith, b) in
+    signed_kept n (2 ^ (64 - 1)) (2 ^ 64) (omega (arith, b)) e
+
+below_fits : (ty : StType) (n : ℕ) → (is_signed ty && nat_le (suc n) (greatest ty true)) ≡ true
+    → fit ty (negsuc n) ≡ negsuc n
+below_fits type.Bool n h = absurd cc
+below_fits type.Byte n h = absurd cc
+below_fits type.Word n h = absurd cc
+below_fits type.Dword n h = absurd cc
+below_fits type.Int n h =
+    let b = leb-true (suc n) 32768 h in
+    let e : n % 2 ^ 16 ≡ n = omega (arith, b) in
+    below_kept n (2 ^ (16 - 1)) (2 ^ 16) (omega (arith, b)) e (omega arith)
+below_fits type.Dint n h =
+    let b = leb-true (suc n) 2147483648 h in
+    let e : n % 2 ^ 32 ≡ n = omega (arith, b) in
+    below_kept n (2 ^ (32 - 1)) (2 ^ 32) (omega (arith, b)) e (omega arith)
+below_fits type.Lint n h =
+    let b = leb-true (suc n) 9223372036854775808 h in
+    let e : n % 2 ^ 64 ≡ n = omega (arith, b) in
+    below_kept n (2 ^ (64 - 1)) (2 ^ 64) (omega (arith, b)) e (omega arith)
+
+fits : (ty : StType) (n : ℤ) → has_value ty n ≡ true → fit ty n ≡ n
+fits ty (pos n) h = plain_fits ty n (plain_value (nat_lt n 0) n ty (never n) h)
+fits ty (negsuc n) h = below_fits ty n h
+
+-- a value that tokens can have is one of its type
+pub value_is : (ty : StType) (n : ℤ) → has_value ty n ≡ true → is_value ty n ≡ true
+value_is ty n h = ap (λ m. int_eq m n) (fits ty n h) ∙ int_eq_equiv.refl n
+
+-- Literals that were read
+
+byte_value : (b : ℕ) → is_byte b ≡ true → nat_le b (greatest type.Dword false) ≡ true
+byte_value b h = let small : b ≤ 255 = grind (arith, nat_tests) in by (greatest type.Dword false) (omega arith)
+  where
+    by : (n : ℕ) → b ≤ n → nat_le b n ≡ true
+    by n h = grind (arith, nat_tests)
+
+has_label_value : (c : Literal) → is_literal c ≡ true → has_value (label_tree c).0 (label_tree c).1 ≡ true
+has_label_value (lit.Decimal n) h = value_plain (nat_lt n 0) n type.Dint (never n) h
+has_label_value (lit.Byte b) h = value_plain (nat_lt b 0) b type.Dword (never b) (byte_value b h)
+has_label_value (lit.Typed ty n) h = h
+
+-- a literal that was read has a value of its type
+pub label_value : (c : Literal) → is_literal c ≡ true → is_value (label_tree c).0 (label_tree c).1 ≡ true
+label_value c h = value_is (label_tree c).0 (label_tree c).1 (has_label_value c h)
+
+pub tree_of_label : (c : Literal) → literal_tree c ≡ raw.Literal (label_tree c).0 (label_tree c).1
+tree_of_label (lit.Decimal n) = refl
+tree_of_label (lit.Byte b) = refl
+tree_of_label (lit.Typed ty n) = refl

@@ -1,0 +1,2 @@
+pub mod ReadProper
+pub mod Worded

@@ -1,0 +1,164 @@
+-- A call from outside begins in a state that fits, and its run leads to no other.
+use Rattle.std.specs.Prelude.{◌≡◌, ℕ, zero, suc, ◌≤◌, ◌<◌, ◌^◌, ◌==◌, Bool, true, false, cond, if◌then◌else◌, pos, List, [], ◌∷◌, find, map, replicate, slice_get, All, Contains, Option, Some, IsSome}
+use Rattle.std.specs.Str.{str_eq_ignore_ascii_case}
+use Rattle.std.proofs.Common.{refl, sym, ap, subst, arith, eqb-true, mod-eq_of_lt}
+use Rattle.std.proofs.lemmas.Bool.{and_parts}
+use Rattle.std.proofs.lemmas.List.Elements.{All-cons, All-head, All-nil, All-tail}
+use Rattle.memory_areas.specs.Access.{or_none}
+use Rattle.memory_areas.specs.Areas.{Areas, IsMemoryOf, Match, block_of, bytes_in, with_areas, zero_locals}
+use Rattle.memory_areas.specs.declared.data_block.DataBlock.{DataBlock}
+use Rattle.memory_areas.specs.declared.place.Area.TheVariants as area
+use Rattle.memory_areas.specs.declared.place.Place.{Place}
+use Rattle.memory_areas.specs.declared.sizes.TheConstants.{ACTIVATIONS}
+use Rattle.s7_base.specs.declared.register.Reg.TheVariants.{DiNo}
+use Rattle.s7_base.specs.declared.word.Width.{Width}
+use Rattle.stl_tree.specs.declared.program.BlockName.{BlockName}
+use Rattle.stl_tree.specs.declared.program.BlockName.TheVariants as name
+use Rattle.stl_tree.specs.declared.program.Call.{Call}
+use Rattle.st_tree.specs.Calls.{calls_to}
+use Rattle.st_tree.specs.Fitting.{EndsFit, Fits, HoldsBytes, Paired, RegistersFit, StandsFor}
+use Rattle.st_tree.specs.Meaning.{body_meaning}
+use Rattle.st_tree.specs.Proper.{IsDataBlock, IsProperUnit, Proper}
+use Rattle.st_tree.specs.StRun.{FitFormals, FitsIfThere, FitsSt, FitsUnit, all_zero, called_name, formals_given, is_meant, references, registers_at_start, state_at_start, unit_called}
+use Rattle.st_tree.specs.State.{type_of_register}
+use Rattle.st_tree.specs.WellTyped.{head_of}
+use Rattle.st_tree.specs.declared.program.Local.{Local}
+use Rattle.st_tree.specs.declared.program.Pou.{Pou}
+use Rattle.st_tree.specs.declared.program.StProgram.{StProgram}
+use Rattle.st_tree.specs.declared.state.Reference.{Reference}
+use Rattle.st_tree.proofs.FittingCalls.{at_position, calls_fit, is_in, zero_fits, zeros_fit}
+use Rattle.st_tree.proofs.FittingMemory.{AreBytes, zeros_small}
+use Rattle.st_tree.proofs.FittingStatements.{statements_keep}
+use Rattle.st_tree.proofs.FittingWrites.{register_fits}
+
+-- The unit that is called
+
+-- a unit that is found stands somewhere, and passes the test
+record IsFound (p : Pou → Bool) (xs : List Pou) (x : Pou) : Type 0 where
+  at : ℕ
+  there : slice_get xs at ≡ Some x
+  passes : p x ≡ true
+
+found : (p : Pou → Bool) (xs : List Pou) (x : Pou) → find p xs ≡ Some x → IsFound p xs x
+found p [] x e = cc
+found p (y ∷ xs) x e = by (p y) refl e (found p xs x)
+  where
+    by : (b : Bool) → p y ≡ b → (if b then Some y else find p xs) ≡ Some x
+        → (find p xs ≡ Some x → IsFound p xs x) → IsFound p (y ∷ xs) x
+    by true t h more =
+        let same : y ≡ x = cc in
+        record { at = 0; there = h; passes = subst (λ (u : Pou). p u ≡ true) same t }
+    by false t h more = let r = more h in record { at = suc r.at; there = r.there; passes = r.passes }
+
+-- Registers
+
+all_zero_fits : RegistersFit all_zero
+all_zero_fits r = zero_fits (type_of_register r)
+
+block_small : (n : ℕ) (bs : List DataBlock) → IsSome (block_of n bs) → All IsDataBlock bs → n ≤ 65535
+block_small n [] h all = cc
+block_small n (b ∷ bs) h all = by (b.number == n) refl h (λ k. block_small n bs k (All-tail IsDataBlock b bs all))
+  where
+    by : (t : Bool) → (b.number == n) ≡ t → IsSome (cond t (Some b) (block_of n bs))
+        → (IsSome (block_of n bs) → n ≤ 65535) → n ≤ 65535
+    by true e k more =
+        let same : b.number ≡ n = eqb-true b.number n e in
+        let small : b.number ≤ 65535 = (All-head IsDataBlock b bs all).number in
+        omega arith
+    by false e k more = more k
+
+registers_fit : (tree : StProgram) (unit : Pou) (block : BlockName) (instance : ℕ) (actuals : List (Place × Width))
+    → Proper tree → FitsUnit tree.dbs unit block instance actuals → RegistersFit (registers_at_start block instance)
+registers_fit tree unit (name.Ob n) instance actuals proper fits = all_zero_fits
+registers_fit tree unit (name.Fc n) instance actuals proper fits = all_zero_fits
+registers_fit tree unit (name.Fb n) instance actuals proper fits =
+    let small : instance ≤ 65535 = block_small instance tree.dbs fits.block proper.bytes in
+    let below : instance < 2 ^ 16 = omega arith in
+    register_fits DiNo (pos instance) all_zero (ap (λ k. pos k) (mod-eq_of_lt below)) all_zero_fits
+
+-- Memory
+
+local_small : (k d : ℕ) → AreBytes (or_none (slice_get (replicate k zero_locals) d))
+local_small zero d = All-nil (λ b. b < 256)
+local_small (suc k) zero = zeros_small
+local_small (suc k) (suc d) = local_small k d
+
+blocks_small : (n : ℕ) (bs given : List DataBlock) → Match bs given → AreBytes (or_none (bytes_in (block_of n bs)))
+blocks_small n [] given h = All-nil (λ b. b < 256)
+blocks_small n (b ∷ bs) [] h = absurd h
+blocks_small n (b ∷ bs) (g ∷ gs) h = by (b.number == n) (blocks_small n bs gs h.2)
+  where
+    by : (t : Bool) → AreBytes (or_none (bytes_in (block_of n bs)))
+        → AreBytes (or_none (bytes_in (cond t (Some b) (block_of n bs))))
+    by true more = h.1.bytes
+    by false more = more
+
+memory_holds : (blocks : List DataBlock) (areas : Areas) → IsMemoryOf blocks areas → HoldsBytes (with_areas areas)
+memory_holds blocks areas h area.I = h.inputs.bytes
+memory_holds blocks areas h area.Q = h.outputs.bytes
+memory_holds blocks areas h area.M = h.markers.bytes
+memory_holds blocks areas h (area.Local d) = local_small ACTIVATIONS d
+memory_holds blocks areas h (area.Cell d) = local_small ACTIVATIONS d
+memory_holds blocks areas h (area.Db n) = blocks_small n areas.blocks blocks h.matching
+
+-- Formals
+
+abbrev AreGiven : List Local → List Reference → Type 0
+AreGiven fs rs = Paired (λ (f : Local) r. StandsFor [] f.ty r) fs rs
+
+places_given : (blocks : List DataBlock) (fs : List Local) (actuals : List (Place × Width))
+    → FitFormals blocks fs actuals → AreGiven fs (references fs actuals)
+places_given blocks [] actuals h = tt
+places_given blocks (f ∷ fs) [] h = absurd h
+places_given blocks (f ∷ fs) (a ∷ actuals) h = (refl, places_given blocks fs actuals h.1)
+
+formals_fit : (tree : StProgram) (unit : Pou) (block : BlockName) (instance : ℕ) (actuals : List (Place × Width))
+    → IsProperUnit tree.globals (map head_of tree.pous) unit → is_meant block unit ≡ true
+    → FitsUnit tree.dbs unit block instance actuals
+    → AreGiven unit.formals (formals_given block unit.formals actuals)
+formals_fit tree unit (name.Ob n) instance actuals proper meant fits =
+    let program = (and_parts (str_eq_ignore_ascii_case unit.name (called_name (name.Ob n))) unit.program meant).1 in
+    subst (λ (fs : List Local). AreGiven fs []) (sym (proper.program program)) tt
+formals_fit tree unit (name.Fc n) instance actuals proper meant fits =
+    places_given tree.dbs unit.formals actuals fits
+formals_fit tree unit (name.Fb n) instance actuals proper meant fits =
+    subst (λ (fs : List Local). AreGiven fs []) (sym fits.formals) tt
+
+-- States
+
+module _ (tree : StProgram) (call : Call) (unit : Pou) (areas : Areas) (proper : Proper tree)
+    (there : unit_called call.block tree.pous ≡ Some unit) (fits : FitsSt tree call)
+    (memory : IsMemoryOf tree.dbs areas)
+  where
+    place : IsFound (is_meant call.block) tree.pous unit
+    place = found (is_meant call.block) tree.pous unit there
+
+    own : IsProperUnit tree.globals (map head_of tree.pous) unit
+    own =
+        at_position (IsProperUnit tree.globals (map head_of tree.pous)) tree.pous place.at unit proper.units place.there
+
+    fits_unit : FitsUnit tree.dbs unit call.block call.instance call.actuals
+    fits_unit = subst (λ (o : Option Pou). FitsIfThere tree call o) there fits
+
+    pub start_fits : Fits tree [] unit (state_at_start unit call areas)
+    start_fits =
+        record {
+          units =
+              All-cons (Contains tree.pous) unit [] (is_in tree.pous place.at unit place.there)
+              (All-nil (Contains tree.pous));
+          registers = registers_fit tree unit call.block call.instance call.actuals proper fits_unit;
+          memory = memory_holds tree.dbs areas memory;
+          activations = (
+            record {
+              locals = zeros_fit unit.locals;
+              formals = formals_fit tree unit call.block call.instance call.actuals own place.passes fits_unit;
+            },
+            tt,
+          );
+        }
+
+    pub run_fits : (units : ℕ) → EndsFit tree [] unit
+        (body_meaning tree.globals (calls_to units tree) unit.body units (state_at_start unit call areas))
+    run_fits units =
+        statements_keep tree [] unit (calls_to units tree) (calls_fit tree units proper) false unit.body own.typed units
+        (state_at_start unit call areas) start_fits

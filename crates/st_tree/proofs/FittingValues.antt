@@ -1,0 +1,236 @@
+-- What operators give is of the type that the rules say, by one lemma a class of operators.
+use Rattle.std.specs.Prelude.{◌≡◌, ℕ, ◌-◌, ◌<◌, ◌^◌, ◌%◌, Bool, true, false, ◌&&◌, nat_lt, if◌then◌else◌, ℤ, pos, negsuc, int_lt, Option, Some, None, Result, Ok, Err}
+use Rattle.std.specs.Ordering.{int_eq}
+use Rattle.std.proofs.Common.{refl, sym, ap, ◌∙◌, subst, arith, mod-eq_of_lt, pow_pos}
+use Rattle.std.proofs.lemmas.Bool.{and_parts}
+use Rattle.memory_areas.specs.Access.{and_then, read_bit, read_byte, read_dword, read_word}
+use Rattle.memory_areas.specs.Areas.{Contents}
+use Rattle.memory_areas.specs.declared.place.Place.{Place}
+use Rattle.s7_base.specs.declared.outcome.Fault.{Fault}
+use Rattle.s7_base.specs.declared.word.Width.{Width}
+use Rattle.bcd_words.specs.Bcd.{bcd_value}
+use Rattle.st_tree.specs.Fitting.{IsOf}
+use Rattle.st_tree.specs.Naming.{is_conversion}
+use Rattle.st_tree.specs.Operators.{binary_value, chosen, converted, from_digits, shift_value, unary_value}
+use Rattle.st_tree.specs.State.{State, area_read, pointed_at, read_place}
+use Rattle.st_tree.specs.TypeRules.{has_bits, has_numbers, is_type, type_of_binary, type_of_choice, type_of_conversion, type_of_read, type_of_shift, type_of_unary, type_on_equals, where_true}
+use Rattle.st_tree.specs.Values.{Value, fit, flag, is_set, number, pattern, type_of_width, typed}
+use Rattle.st_tree.specs.WellTyped.{on_type}
+use Rattle.st_tree.specs.declared.expr.BinaryOp.{BinaryOp}
+use Rattle.st_tree.specs.declared.expr.BinaryOp.TheVariants as binary
+use Rattle.st_tree.specs.declared.expr.ShiftOp.{ShiftOp}
+use Rattle.st_tree.specs.declared.expr.StType.{StType}
+use Rattle.st_tree.specs.declared.expr.StType.TheVariants as type
+use Rattle.st_tree.specs.declared.expr.UnaryOp.{UnaryOp}
+use Rattle.st_tree.specs.declared.expr.UnaryOp.TheVariants as unary
+use Rattle.st_tree.proofs.TypingEquations.{same_type}
+
+-- a value, where there are a type and one, is of the type
+abbrev pub Typed : Option StType → Result Value Fault → Type 0
+Typed None r = Unit {0}
+Typed (Some ty) (Ok v) = IsOf ty v
+Typed (Some ty) (Err f) = Unit {0}
+
+-- A number that was fitted to a type fits it
+
+pub pattern_below : (k : ℕ) (z : ℤ) → pattern k z < 2 ^ k
+pattern_below k (pos n) = let p = pow_pos k in omega arith
+pattern_below k (negsuc n) = let p = pow_pos k in omega arith
+
+pattern_again : (k p : ℕ) → p < 2 ^ k → pattern k (pos p) ≡ p
+pattern_again k p h = mod-eq_of_lt h
+
+sign_again : (b : Bool) (k p : ℕ) → p < 2 ^ k → pattern k (if b then pos p else negsuc (2 ^ k - 1 - p)) ≡ p
+sign_again true k p h = mod-eq_of_lt h
+sign_again false k p h =
+    let less : 2 ^ k - 1 - p < 2 ^ k = omega arith in
+    let same : (2 ^ k - 1 - p) % 2 ^ k ≡ 2 ^ k - 1 - p = mod-eq_of_lt less in
+    rw same (omega arith)
+
+pattern_of_number : (k p : ℕ) → p < 2 ^ k → pattern k (number k p) ≡ p
+pattern_of_number k p h = sign_again (nat_lt p (2 ^ (k - 1))) k p h
+
+bits_again : (k : ℕ) (z : ℤ) → pos (pattern k (pos (pattern k z))) ≡ pos (pattern k z)
+bits_again k z = ap (λ n. pos n) (pattern_again k (pattern k z) (pattern_below k z))
+
+number_again : (k : ℕ) (z : ℤ) → number k (pattern k (number k (pattern k z))) ≡ number k (pattern k z)
+number_again k z = ap (number k) (pattern_of_number k (pattern k z) (pattern_below k z))
+
+pub fits_again : (ty : StType) (z : ℤ) → fit ty (fit ty z) ≡ fit ty z
+fits_again type.Bool z = bits_again 1 z
+fits_again type.Byte z = bits_again 8 z
+fits_again type.Word z = bits_again 16 z
+fits_again type.Dword z = bits_again 32 z
+fits_again type.Int z = number_again 16 z
+fits_again type.Dint z = number_again 32 z
+fits_again type.Lint z = number_again 64 z
+
+pub typed_is : (ty : StType) (z : ℤ) → IsOf ty (typed ty z)
+typed_is ty z = record { type = refl; number = fits_again ty z }
+
+-- a value of a type is the one that its number leaves there
+pub is_typed : (ty : StType) (v : Value) → IsOf ty v → v ≡ typed ty v.n
+is_typed ty v h =
+    ap (λ (t : StType). record { ty = t; n = v.n }) h.type ∙ ap (λ n. record { ty = ty; n = n }) (sym h.number)
+
+-- of the type of an operand
+typed_as : (ty : StType) (v : Value) (z : ℤ) → IsOf ty v → IsOf ty (typed v.ty z)
+typed_as ty v z h = subst (λ (t : StType). IsOf t (typed v.ty z)) h.type (typed_is v.ty z)
+
+pub flag_is : (b : Bool) → IsOf type.Bool (flag b)
+flag_is true = record { type = refl; number = refl }
+flag_is false = record { type = refl; number = refl }
+
+-- Tests of types
+
+pub fault_typed : (o : Option StType) (f : Fault) → Typed o (Err f)
+fault_typed None f = tt
+fault_typed (Some ty) f = tt
+
+pub where_typed : (b : Bool) (ty : StType) (r : Result Value Fault) → (b ≡ true → Typed (Some ty) r)
+    → Typed (where_true b ty) r
+where_typed true ty r h = h refl
+where_typed false ty r h = tt
+
+if_typed : (b : Bool) (o : Option StType) (r : Result Value Fault) → (b ≡ true → Typed o r)
+    → Typed (if b then o else None) r
+if_typed true o r h = h refl
+if_typed false o r h = tt
+
+on_typed : (o : Option StType) (b : Bool) (r : Result Value Fault) → Typed o r → Typed (on_type o (where_true b)) r
+on_typed None b r h = tt
+on_typed (Some ty) b r h = where_typed b ty r (λ e. h)
+
+pub then_typed : {A : Type 0} (r : Result A Fault) (f : A → Value) (ty : StType) → ((x : A) → IsOf ty (f x))
+    → Typed (Some ty) (and_then r (λ x. Ok (f x)))
+then_typed (Ok x) f ty h = h x
+then_typed (Err e) f ty h = tt
+
+-- Operators
+
+digits_typed : (ty : StType) (r : Result ℤ Fault) → Typed (Some ty) (from_digits ty r)
+digits_typed ty (Ok z) = typed_is ty z
+digits_typed ty (Err f) = tt
+
+one_typed : (op : UnaryOp) (ty : StType) (v : Value) → IsOf ty v → Typed (type_of_unary op ty) (unary_value op v)
+one_typed unary.Minus ty v h = where_typed (has_numbers ty) ty _ (λ e. typed_as ty v _ h)
+one_typed unary.Not ty v h = where_typed (has_bits ty) ty _ (λ e. typed_as ty v _ h)
+one_typed unary.BcdToInt ty v h =
+    where_typed (is_type ty type.Word) type.Int _ (λ e. digits_typed type.Int (bcd_value 3 (pattern 16 v.n)))
+one_typed unary.BcdToDint ty v h =
+    where_typed (is_type ty type.Dword) type.Dint _ (λ e. digits_typed type.Dint (bcd_value 7 (pattern 32 v.n)))
+
+pub unary_typed : (op : UnaryOp) (a : Option StType) (r : Result Value Fault) → Typed a r
+    → Typed (on_type a (type_of_unary op)) (and_then r (unary_value op))
+unary_typed op None r h = tt
+unary_typed op (Some ty) (Ok v) h = one_typed op ty v h
+unary_typed op (Some ty) (Err f) h = fault_typed (type_of_unary op ty) f
+
+divided_typed : (b : Bool) (f : Fault) (ty : StType) (v : Value) → IsOf ty v
+    → Typed (Some ty) (if b then Err f else Ok v)
+divided_typed true f ty v h = tt
+divided_typed false f ty v h = h
+
+equals_typed : (op : BinaryOp) (ty : StType) (v w : Value) → IsOf ty v
+    → Typed (type_on_equals op ty) (binary_value op v w)
+equals_typed binary.Mul ty v w h = where_typed (has_numbers ty) ty _ (λ e. typed_as ty v _ h)
+equals_typed binary.Div ty v w h =
+    where_typed (has_numbers ty) ty _ (λ e. divided_typed (int_eq w.n (pos 0)) _ ty _ (typed_as ty v _ h))
+equals_typed binary.Mod ty v w h =
+    where_typed (has_numbers ty) ty _ (λ e. divided_typed (int_eq w.n (pos 0)) _ ty _ (typed_as ty v _ h))
+equals_typed binary.Add ty v w h = where_typed (has_numbers ty) ty _ (λ e. typed_as ty v _ h)
+equals_typed binary.Sub ty v w h = where_typed (has_numbers ty) ty _ (λ e. typed_as ty v _ h)
+equals_typed binary.Lt ty v w h = flag_is _
+equals_typed binary.Gt ty v w h = flag_is _
+equals_typed binary.Le ty v w h = flag_is _
+equals_typed binary.Ge ty v w h = flag_is _
+equals_typed binary.Eq ty v w h = flag_is _
+equals_typed binary.Ne ty v w h = flag_is _
+equals_typed binary.And ty v w h = where_typed (has_bits ty) ty _ (λ e. typed_as ty v _ h)
+equals_typed binary.Xor ty v w h = where_typed (has_bits ty) ty _ (λ e. typed_as ty v _ h)
+equals_typed binary.Or ty v w h = where_typed (has_bits ty) ty _ (λ e. typed_as ty v _ h)
+
+pub binary_typed : (op : BinaryOp) (a b : Option StType) (r q : Result Value Fault) → Typed a r → Typed b q
+    → Typed (on_type a (λ ty. on_type b (type_of_binary op ty)))
+    (and_then r (λ v. and_then q (binary_value op v)))
+binary_typed op None b r q h k = tt
+binary_typed op (Some s) None r q h k = tt
+binary_typed op (Some s) (Some t) (Err f) q h k = fault_typed (type_of_binary op s t) f
+binary_typed op (Some s) (Some t) (Ok v) (Err f) h k = fault_typed (type_of_binary op s t) f
+binary_typed op (Some s) (Some t) (Ok v) (Ok w) h k =
+    if_typed (is_type s t) (type_on_equals op s) (binary_value op v w) (λ e. equals_typed op s v w h)
+
+pub convert_typed : (from to : StType) (a : Option StType) (r : Result Value Fault) → Typed a r
+    → Typed (on_type a (λ ty. on_type (type_of_conversion from to ty) (where_true (is_conversion from to))))
+    (and_then r (λ v. Ok (converted to v)))
+convert_typed from to None r h = tt
+convert_typed from to (Some ty) r h =
+    on_typed (type_of_conversion from to ty) (is_conversion from to) (and_then r (λ v. Ok (converted to v)))
+    (where_typed (is_type ty from) to _ (λ e. then_typed r (converted to) to (λ v. typed_is to v.n)))
+
+chosen_number : (b : Bool) (ty : StType) (m n : ℤ) → fit ty m ≡ m → fit ty n ≡ n
+    → fit ty (if b then m else n) ≡ (if b then m else n)
+chosen_number true ty m n h k = h
+chosen_number false ty m n h k = k
+
+chosen_is : (gate : Value) (ty : StType) (v w : Value) → IsOf ty v → IsOf ty w → IsOf ty (chosen gate v w)
+chosen_is gate ty v w h k =
+    record { type = h.type; number = chosen_number (is_set gate) ty w.n v.n k.number h.number }
+
+choice_typed : (g a b : StType) (gate v w : Value) → IsOf a v → IsOf b w
+    → Typed (type_of_choice g a b) (Ok (chosen gate v w))
+choice_typed g a b gate v w h k =
+    where_typed (is_type g type.Bool && is_type a b) a (Ok (chosen gate v w))
+    (λ e.
+    let same : b ≡ a = sym (same_type a b (and_parts (is_type g type.Bool) (is_type a b) e).1) in
+    chosen_is gate a v w h (subst (λ (t : StType). IsOf t w) same k))
+
+pub select_typed : (g a b : Option StType) (o r q : Result Value Fault) → Typed g o → Typed a r → Typed b q
+    → Typed (on_type g (λ t. on_type a (λ ty. on_type b (type_of_choice t ty))))
+    (and_then o (λ gate. and_then r (λ v. and_then q (λ w. Ok (chosen gate v w)))))
+select_typed None a b o r q i h k = tt
+select_typed (Some t) None b o r q i h k = tt
+select_typed (Some t) (Some x) None o r q i h k = tt
+select_typed (Some t) (Some x) (Some y) (Err f) r q i h k = fault_typed (type_of_choice t x y) f
+select_typed (Some t) (Some x) (Some y) (Ok gate) (Err f) q i h k = fault_typed (type_of_choice t x y) f
+select_typed (Some t) (Some x) (Some y) (Ok gate) (Ok v) (Err f) i h k = fault_typed (type_of_choice t x y) f
+select_typed (Some t) (Some x) (Some y) (Ok gate) (Ok v) (Ok w) i h k = choice_typed t x y gate v w h k
+
+shifted_is : (b : Bool) (ty : StType) (v w : Value) → IsOf ty v → IsOf ty w → IsOf ty (if b then v else w)
+shifted_is true ty v w h k = h
+shifted_is false ty v w h k = k
+
+pub shift_typed : (op : ShiftOp) (a b : Option StType) (r q : Result Value Fault) → Typed a r → Typed b q
+    → Typed (on_type a (λ ty. on_type b (type_of_shift ty)))
+    (and_then r (λ v. and_then q (λ count. Ok (shift_value op v count))))
+shift_typed op None b r q h k = tt
+shift_typed op (Some s) None r q h k = tt
+shift_typed op (Some s) (Some t) (Err f) q h k = fault_typed (type_of_shift s t) f
+shift_typed op (Some s) (Some t) (Ok v) (Err f) h k = fault_typed (type_of_shift s t) f
+shift_typed op (Some s) (Some t) (Ok v) (Ok count) h k =
+    where_typed (has_bits s && is_type t type.Int) s (Ok (shift_value op v count))
+    (λ e. shifted_is (int_lt count.n (pos 0)) s v _ h (typed_as s v _ h))
+
+-- Places
+
+pub place_typed : (ty : StType) (p : Place) (m : Contents) → Typed (Some ty) (read_place ty p m)
+place_typed type.Bool p m = then_typed (read_bit p m) flag type.Bool flag_is
+place_typed type.Byte p m = then_typed (read_byte p m) _ type.Byte (λ n. typed_is type.Byte (pos n))
+place_typed type.Word p m = then_typed (read_word p m) _ type.Word (λ n. typed_is type.Word (pos n))
+place_typed type.Dword p m = then_typed (read_dword p m) _ type.Dword (λ n. typed_is type.Dword (pos n))
+place_typed type.Int p m = then_typed (read_word p m) _ type.Int (λ n. typed_is type.Int (pos n))
+place_typed type.Dint p m = then_typed (read_dword p m) _ type.Dint (λ n. typed_is type.Dint (pos n))
+place_typed type.Lint p m = then_typed (read_dword p m) _ type.Lint (λ n. typed_is type.Lint (pos n))
+
+pointed_typed : (ty : StType) (r : Result Place Fault) (m : Contents)
+    → Typed (Some ty) (and_then r (λ place. read_place ty place m))
+pointed_typed ty (Ok p) m = place_typed ty p m
+pointed_typed ty (Err f) m = tt
+
+pub area_typed : (w : Width) (a : Option StType) (r : Result Value Fault) (s : State) → Typed a r
+    → Typed (on_type a (type_of_read w)) (and_then r (λ p. area_read w p s))
+area_typed w None r s h = tt
+area_typed w (Some ty) (Err f) s h = fault_typed (type_of_read w ty) f
+area_typed w (Some ty) (Ok p) s h =
+    where_typed (is_type ty type.Dword) (type_of_width w) (area_read w p s)
+    (λ e. pointed_typed (type_of_width w) (pointed_at p s) s.memory)

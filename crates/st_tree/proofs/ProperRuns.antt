@@ -1,0 +1,227 @@
+-- A proper tree can be run.
+use Rattle.std.specs.Prelude.{◌≡◌, ℕ, suc, ◌≤◌, ◌==◌, max, Bool, true, false, not, ◌&&◌, if◌then◌else◌, List, [], ◌∷◌, length, map, slice_get, All, Option, Some, None, option_map}
+use Rattle.std.proofs.Common.{refl, sym, ap, ◌∙◌, subst, arith, eq-eqb}
+use Rattle.std.proofs.lemmas.Bool.{and_parts}
+use Rattle.std.proofs.lemmas.List.Elements.{All-head, All-tail}
+use Rattle.std.proofs.lemmas.Option.{slice_get-map}
+use Rattle.memory_areas.specs.Memory.{IsActivation}
+use Rattle.memory_areas.specs.declared.place.Area.{Area}
+use Rattle.memory_areas.specs.declared.place.Area.TheVariants as place
+use Rattle.s7_base.specs.declared.word.Width.{Width}
+use Rattle.st_tree.specs.Costs.{Costs, arm_most, body_most, case_most, greatest, most}
+use Rattle.st_tree.specs.Nesting.{arm_nesting, body_nesting, case_nesting, nesting}
+use Rattle.st_tree.specs.PlaceRules.{is_located}
+use Rattle.st_tree.specs.Proper.{IsGlobal, IsProperUnit, Proper}
+use Rattle.st_tree.specs.Runnable.{AreGlobals, IsRunnable, formals_of_unit, misfit, misfit_costs, nesting_costs}
+use Rattle.st_tree.specs.Values.{width_at}
+use Rattle.st_tree.specs.WellTyped.{Head, Sight, are_given, are_well_typed, each, each_case, has_type, head_of, is_arm, is_call, is_case_arm, is_seen, is_well_typed, sight_in, variable_type}
+use Rattle.st_tree.specs.declared.expr.StType.{StType}
+use Rattle.st_tree.specs.declared.expr.Var.{Var}
+use Rattle.st_tree.specs.declared.program.Arm.{Arm}
+use Rattle.st_tree.specs.declared.program.CaseArm.{CaseArm}
+use Rattle.st_tree.specs.declared.program.Local.{Local}
+use Rattle.st_tree.specs.declared.program.Located.{Located}
+use Rattle.st_tree.specs.declared.program.Pou.{Pou}
+use Rattle.st_tree.specs.declared.program.StProgram.{StProgram}
+use Rattle.st_tree.specs.declared.program.Stmt.{Stmt}
+use Rattle.st_tree.proofs.Equations.{most_area_write, most_arm, most_assign, most_case, most_case_arm, most_continue, most_exit, most_if, most_invoke, most_return, most_while}
+use Rattle.st_tree.proofs.FittingCalls.{at_position}
+use Rattle.st_tree.proofs.Induction.{Each, InArm, InCase, StmtSteps, every_body}
+use Rattle.st_tree.proofs.TypedParts.{body_of_case, parts_of_arm, parts_of_arms, parts_of_body, parts_of_case, parts_of_cases, parts_of_if, parts_of_while}
+use Rattle.st_tree.proofs.TypingEquations.{good_invoke, nesting_arm, nesting_case, nesting_case_arm, nesting_if, nesting_while}
+
+-- IF, CASE and WHILE alone nest no deeper than a text does
+
+max_up : (a b c d : ℕ) → a ≤ c → b ≤ d → max a b ≤ max c d
+max_up a b c d h k = omega arith
+
+abbrev Shallow : Stmt → Type 0
+Shallow x = most nesting_costs x ≤ nesting x
+
+shallow_list : (xs : List Stmt) → Each Shallow xs → body_most nesting_costs xs ≤ body_nesting xs
+shallow_list [] all = omega arith
+shallow_list (x ∷ xs) all = max_up _ _ _ _ all.0 (shallow_list xs all.1)
+
+shallow_arms : (arms : List Arm) → Each (InArm Shallow) arms
+    → greatest (map (arm_most nesting_costs) arms) ≤ greatest (map arm_nesting arms)
+shallow_arms [] all = omega arith
+shallow_arms (x ∷ xs) all =
+    let m = most_arm nesting_costs x in
+    let n = nesting_arm x in
+    let own = shallow_list x.body all.0 in
+    let one : arm_most nesting_costs x ≤ arm_nesting x = omega arith in
+    max_up _ _ _ _ one (shallow_arms xs all.1)
+
+shallow_cases : (arms : List CaseArm) → Each (InCase Shallow) arms
+    → greatest (map (case_most nesting_costs) arms) ≤ greatest (map case_nesting arms)
+shallow_cases [] all = omega arith
+shallow_cases (x ∷ xs) all =
+    let m = most_case_arm nesting_costs x in
+    let n = nesting_case_arm x in
+    let own = shallow_list x.body all.0 in
+    let one : case_most nesting_costs x ≤ case_nesting x = omega arith in
+    max_up _ _ _ _ one (shallow_cases xs all.1)
+
+-- what costs nothing
+free : (x : Stmt) → most nesting_costs x ≡ 0 → Shallow x
+free x e = omega arith
+
+shallow_steps : StmtSteps Shallow
+shallow_steps =
+    record {
+      assign = λ v e. free _ (most_assign nesting_costs v e);
+      area_write = λ w p e. free _ (most_area_write nesting_costs w p e);
+      invoke = λ n actuals. free _ (most_invoke nesting_costs n actuals);
+      choice = λ arms other all rest.
+          let m = most_if nesting_costs arms other in
+          let n = nesting_if arms other in
+          let a = shallow_arms arms all in
+          let b = shallow_list other rest in
+          omega arith;
+      selection = λ e arms other all rest.
+          let m = most_case nesting_costs e arms other in
+          let n = nesting_case e arms other in
+          let a = shallow_cases arms all in
+          let b = shallow_list other rest in
+          omega arith;
+      loop = λ test body all.
+          let m = most_while nesting_costs test body in
+          let n = nesting_while test body in
+          let a = shallow_list body all in
+          omega arith;
+      exit = free _ (most_exit nesting_costs);
+      continue = free _ (most_continue nesting_costs);
+      return = free _ (most_return nesting_costs);
+    }
+
+body_shallow : (body : List Stmt) → body_most nesting_costs body ≤ body_nesting body
+body_shallow body = shallow_list body (every_body Shallow shallow_steps body)
+
+-- Well typed calls give as many actuals as there are formals
+
+as_many : (sight : Sight) (fs : List Local) (vars : List Var) → are_given sight fs vars ≡ true
+    → length vars ≡ length fs
+as_many sight [] [] h = refl
+as_many sight [] (v ∷ vars) h = cc
+as_many sight (f ∷ fs) [] h = cc
+as_many sight (f ∷ fs) (v ∷ vars) h =
+    ap suc (as_many sight fs vars (and_parts (has_type f.ty (variable_type sight v)) (are_given sight fs vars) h).1)
+
+module _ (tree : StProgram) (unit : Pou) where
+  abbrev sight : Sight
+  sight = sight_in tree unit
+
+  abbrev costs : Costs
+  costs = misfit_costs tree
+
+  abbrev cost : Bool → ℕ
+  cost b = if b then 0 else 1
+
+  call_fits : (o : Option Pou) (actuals : List Var) → is_call sight (option_map head_of o) actuals ≡ true
+      → cost (length actuals == formals_of_unit o) ≡ 0
+  call_fits None actuals h = cc
+  call_fits (Some callee) actuals h =
+      let called : Bool = not callee.program && is_seen sight callee.name in
+      let given = (and_parts called (are_given sight callee.formals actuals) h).1 in
+      let same = eq-eqb (length actuals) (length callee.formals) (as_many sight callee.formals actuals given) in
+      ap cost same
+
+  invoke_fits : (n : ℕ) (actuals : List Var) → is_call sight (slice_get sight.heads n) actuals ≡ true
+      → misfit tree n actuals ≡ 0
+  invoke_fits n actuals h =
+      call_fits (slice_get tree.pous n) actuals
+      (subst (λ (o : Option Head). is_call sight o actuals ≡ true) (slice_get-map head_of tree.pous n) h)
+
+  abbrev Given : Stmt → Type 0
+  Given x = (inside : Bool) → is_well_typed sight x inside ≡ true → most costs x ≡ 0
+
+  max_none : (a b : ℕ) → a ≡ 0 → b ≡ 0 → max a b ≡ 0
+  max_none a b h k = omega arith
+
+  given_list : (xs : List Stmt) → Each Given xs → (inside : Bool) → are_well_typed sight inside xs ≡ true
+      → body_most costs xs ≡ 0
+  given_list [] all inside good = refl
+  given_list (x ∷ xs) all inside good =
+      let parts = parts_of_body sight inside x xs good in
+      max_none (most costs x) (body_most costs xs) (all.0 inside parts.0) (given_list xs all.1 inside parts.1)
+
+  given_arms : (arms : List Arm) → Each (InArm Given) arms → (inside : Bool)
+      → each inside (map (is_arm sight) arms) ≡ true → greatest (map (arm_most costs) arms) ≡ 0
+  given_arms [] all inside good = refl
+  given_arms (x ∷ xs) all inside good =
+      let parts = parts_of_arms sight inside x xs good in
+      let body = given_list x.body all.0 inside (parts_of_arm sight inside x parts.0).1 in
+      max_none (arm_most costs x) (greatest (map (arm_most costs) xs)) (most_arm costs x ∙ body)
+      (given_arms xs all.1 inside parts.1)
+
+  given_cases : (ty : StType) (arms : List CaseArm) → Each (InCase Given) arms → (inside : Bool)
+      → each_case ty inside (map (is_case_arm sight) arms) ≡ true → greatest (map (case_most costs) arms) ≡ 0
+  given_cases ty [] all inside good = refl
+  given_cases ty (x ∷ xs) all inside good =
+      let parts = parts_of_cases sight inside ty x xs good in
+      let body = given_list x.body all.0 inside (body_of_case sight inside x ty parts.0) in
+      max_none (case_most costs x) (greatest (map (case_most costs) xs)) (most_case_arm costs x ∙ body)
+      (given_cases ty xs all.1 inside parts.1)
+
+  steps : StmtSteps Given
+  steps =
+      record {
+        assign = λ v e inside good. most_assign costs v e;
+        area_write = λ w p e inside good. most_area_write costs w p e;
+        invoke = λ n actuals inside good.
+            most_invoke costs n actuals ∙ invoke_fits n actuals (sym (good_invoke sight inside n actuals) ∙ good);
+        choice = λ arms other all rest inside good.
+            let parts = parts_of_if sight inside arms other good in
+            let m = most_if costs arms other in
+            let a = given_arms arms all inside parts.0 in
+            let b = given_list other rest inside parts.1 in
+            omega arith;
+        selection = λ e arms other all rest inside good.
+            let parts = parts_of_case sight inside e arms other good in
+            let m = most_case costs e arms other in
+            let a = given_cases parts.0.type arms all inside parts.0.arms in
+            let b = given_list other rest inside parts.1 in
+            omega arith;
+        loop = λ test body all inside good.
+            let m = most_while costs test body in
+            let a = given_list body all true (parts_of_while sight inside test body good).1 in
+            omega arith;
+        exit = λ inside good. most_exit costs;
+        continue = λ inside good. most_continue costs;
+        return = λ inside good. most_return costs;
+      }
+
+  pub body_given : (body : List Stmt) → are_well_typed sight false body ≡ true → body_most costs body ≡ 0
+  body_given body good = given_list body (every_body Given steps body) false good
+
+-- The tree
+
+area_there : (a : Area) (w : Width) (byte bit : ℕ) → is_located a w byte bit ≡ true → IsActivation a
+area_there place.I w byte bit h = tt
+area_there place.Q w byte bit h = tt
+area_there place.M w byte bit h = tt
+area_there (place.Local d) w byte bit h = cc
+area_there (place.Cell d) w byte bit h = cc
+area_there (place.Db n) w byte bit h = tt
+
+globals_there : (globals : List Located) → All IsGlobal globals → AreGlobals globals
+globals_there [] all = tt
+globals_there (g ∷ rest) all = (
+  area_there g.place.area (width_at g.ty) g.place.byte g.place.bit (All-head IsGlobal g rest all).place,
+  globals_there rest (All-tail IsGlobal g rest all),
+)
+
+pub proper_runs : (tree : StProgram) → Proper tree → IsRunnable tree
+proper_runs tree proper =
+    record {
+      units = λ n unit e.
+          let own = at_position (IsProperUnit tree.globals (map head_of tree.pous)) tree.pous n unit proper.units e in
+          let shallow = body_shallow unit.body in
+          let deep = own.nesting in
+          record {
+            chain = proper.chains n unit e;
+            nesting = omega arith;
+            actuals = body_given tree unit unit.body own.typed;
+          };
+      globals = globals_there tree.globals proper.globals;
+    }

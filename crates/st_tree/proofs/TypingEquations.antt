@@ -1,0 +1,236 @@
+-- What the rules of types and of nesting say of an expression and of a statement at each variant, and which types
+-- are the same.
+use Rattle.std.specs.Prelude.{◌≡◌, ℕ, suc, max, Bool, true, ◌&&◌, ◌==◌, if◌then◌else◌, ℤ, List, map, slice_get, Option, Some, None}
+use Rattle.std.specs.List.{list_all}
+use Rattle.std.proofs.Common.{refl, sym, ap, ◌∙◌, eqb-true}
+use Rattle.s7_base.specs.declared.word.Width.{Width}
+use Rattle.st_tree.specs.Costs.{greatest}
+use Rattle.st_tree.specs.Nesting
+use Rattle.st_tree.specs.Nesting.{arm_nesting, body_nesting, case_nesting, expression_nesting, nesting, nesting_step}
+use Rattle.st_tree.specs.TypeRules.{is_type, place_of}
+use Rattle.st_tree.specs.WellTyped.{CaseCheck, Check, Sight, arm_step, case_step, are_well_typed, expression_step, expression_type, has_type, is_arm, is_assigned, is_call, is_case_arm, is_some_of, is_value, is_well_typed, statement_step, variable_type}
+use Rattle.st_tree.specs.Values.{type_of_width}
+use Rattle.st_tree.specs.declared.expr.BinaryOp.{BinaryOp}
+use Rattle.st_tree.specs.declared.expr.Expr.{Expr}
+use Rattle.st_tree.specs.declared.expr.Expr.TheVariants as expr
+use Rattle.st_tree.specs.declared.expr.Expr.TheOpen as E
+use Rattle.st_tree.specs.declared.expr.ShiftOp.{ShiftOp}
+use Rattle.st_tree.specs.declared.expr.StType.{StType}
+use Rattle.st_tree.specs.declared.expr.StType.TheVariants as type
+use Rattle.st_tree.specs.declared.expr.UnaryOp.{UnaryOp}
+use Rattle.st_tree.specs.declared.expr.Var.{Var}
+use Rattle.st_tree.specs.declared.program.Arm.{Arm}
+use Rattle.st_tree.specs.declared.program.CaseArm.{CaseArm}
+use Rattle.st_tree.specs.declared.program.Stmt.{Stmt}
+use Rattle.st_tree.specs.declared.program.Stmt.TheOpen as S
+use Rattle.st_tree.specs.declared.program.Stmt.TheVariants as stmt
+use Rattle.st_tree.proofs.Equations.{canon_equations, fold_area_read, fold_area_write, fold_arm, fold_assign, fold_binary, fold_case, fold_case_arm, fold_continue, fold_convert, fold_exit, fold_if, fold_invoke, fold_literal, fold_read, fold_return, fold_select, fold_shift, fold_unary, fold_while}
+
+-- Expressions
+
+module _ (sight : Sight) where
+  pub typed_literal : (ty : StType) (n : ℤ) → expression_type sight (expr.Literal ty n)
+      ≡ expression_step sight (E.Literal ty n)
+  typed_literal ty n = fold_literal (Option StType) (expression_step sight) ty n
+
+  pub typed_read : (v : Var) → expression_type sight (expr.Read v) ≡ variable_type sight v
+  typed_read v = fold_read (Option StType) (expression_step sight) v
+
+  pub typed_unary : (op : UnaryOp) (a : Expr) → expression_type sight (expr.Unary op a)
+      ≡ expression_step sight (E.Unary op (expression_type sight a))
+  typed_unary op a = fold_unary (Option StType) (expression_step sight) op a
+
+  pub typed_binary : (op : BinaryOp) (a b : Expr) → expression_type sight (expr.Binary op a b)
+      ≡ expression_step sight (E.Binary op (expression_type sight a) (expression_type sight b))
+  typed_binary op a b = fold_binary (Option StType) (expression_step sight) op a b
+
+  pub typed_convert : (from to : StType) (a : Expr) → expression_type sight (expr.Convert from to a)
+      ≡ expression_step sight (E.Convert from to (expression_type sight a))
+  typed_convert from to a = fold_convert (Option StType) (expression_step sight) from to a
+
+  pub typed_select : (a b c : Expr) → expression_type sight (expr.Select a b c)
+      ≡ expression_step sight (E.Select (expression_type sight a) (expression_type sight b) (expression_type sight c))
+  typed_select a b c = fold_select (Option StType) (expression_step sight) a b c
+
+  pub typed_shift : (op : ShiftOp) (a b : Expr) → expression_type sight (expr.Shift op a b)
+      ≡ expression_step sight (E.Shift op (expression_type sight a) (expression_type sight b))
+  typed_shift op a b = fold_shift (Option StType) (expression_step sight) op a b
+
+  pub typed_area_read : (w : Width) (a : Expr) → expression_type sight (expr.AreaRead w a)
+      ≡ expression_step sight (E.AreaRead w (expression_type sight a))
+  typed_area_read w a = fold_area_read (Option StType) (expression_step sight) w a
+
+pub ruleset typed_equations = (
+  typed_literal,
+  typed_read,
+  typed_unary,
+  typed_binary,
+  typed_convert,
+  typed_select,
+  typed_shift,
+  typed_area_read,
+)
+
+-- Statements, inside a WHILE or not
+
+module _ (sight : Sight) (inside : Bool) where
+  abbrev at : Check → Bool
+  at check = check inside
+
+  pub good_assign : (v : Var) (e : Expr) → is_well_typed sight (stmt.Assign v e) inside
+      ≡ is_assigned (variable_type sight v) (expression_type sight e)
+  good_assign v e =
+      ap at (fold_assign Check Check CaseCheck (statement_step sight) (arm_step sight) case_step v e)
+
+  pub good_area_write : (w : Width) (p e : Expr) → is_well_typed sight (stmt.AreaWrite w p e) inside
+      ≡ has_type type.Dword (expression_type sight p) && has_type (type_of_width w) (expression_type sight e)
+  good_area_write w p e =
+      ap at
+      (fold_area_write Check Check CaseCheck (statement_step sight) (arm_step sight) case_step w p e)
+
+  pub good_invoke : (n : ℕ) (actuals : List Var) → is_well_typed sight (stmt.Invoke n actuals) inside
+      ≡ is_call sight (slice_get sight.heads n) actuals
+  good_invoke n actuals =
+      ap at
+      (fold_invoke Check Check CaseCheck (statement_step sight) (arm_step sight) case_step n actuals)
+
+  pub good_if : (arms : List Arm) (other : List Stmt) → is_well_typed sight (stmt.If arms other) inside
+      ≡ statement_step sight (S.If (map (is_arm sight) arms) (map (is_well_typed sight) other)) inside
+  good_if arms other =
+      ap at
+      (fold_if Check Check CaseCheck (statement_step sight) (arm_step sight) case_step arms other)
+
+  pub good_case : (e : Expr) (arms : List CaseArm) (other : List Stmt)
+      → is_well_typed sight (stmt.Case e arms other) inside
+      ≡ statement_step sight (S.Case e (map (is_case_arm sight) arms) (map (is_well_typed sight) other)) inside
+  good_case e arms other =
+      ap at
+      (fold_case Check Check CaseCheck (statement_step sight) (arm_step sight) case_step e arms other)
+
+  pub good_while : (test : Expr) (body : List Stmt) → is_well_typed sight (stmt.While test body) inside
+      ≡ has_type type.Bool (expression_type sight test) && are_well_typed sight true body
+  good_while test body =
+      ap at
+      (fold_while Check Check CaseCheck (statement_step sight) (arm_step sight) case_step test body)
+
+  pub good_arm : (x : Arm) → is_arm sight x inside
+      ≡ has_type type.Bool (expression_type sight x.test) && are_well_typed sight inside x.body
+  good_arm x =
+      ap at (fold_arm Check Check CaseCheck (statement_step sight) (arm_step sight) case_step x)
+
+  pub good_case_arm : (x : CaseArm) (ty : StType) → is_case_arm sight x ty inside
+      ≡ is_some_of x.labels && list_all (is_value ty) x.labels && are_well_typed sight inside x.body
+  good_case_arm x ty =
+      ap (λ (check : CaseCheck). check ty inside)
+      (fold_case_arm Check Check CaseCheck (statement_step sight) (arm_step sight) case_step x)
+
+  pub good_exit : is_well_typed sight stmt.Exit inside ≡ inside
+  good_exit =
+      ap at (fold_exit Check Check CaseCheck (statement_step sight) (arm_step sight) case_step)
+
+  pub good_continue : is_well_typed sight stmt.Continue inside ≡ inside
+  good_continue =
+      ap at (fold_continue Check Check CaseCheck (statement_step sight) (arm_step sight) case_step)
+
+  pub good_return : is_well_typed sight stmt.Return inside ≡ true
+  good_return =
+      ap at (fold_return Check Check CaseCheck (statement_step sight) (arm_step sight) case_step)
+
+pub ruleset good_equations = (
+  typed_equations,
+  good_assign,
+  good_area_write,
+  good_invoke,
+  good_if,
+  good_case,
+  good_while,
+  good_arm,
+  good_case_arm,
+  good_exit,
+  good_continue,
+  good_return,
+)
+
+-- Nesting
+
+pub nesting_assign : (v : Var) (e : Expr) → nesting (stmt.Assign v e) ≡ expression_nesting e
+nesting_assign v e = fold_assign ℕ ℕ ℕ nesting_step Nesting.arm_step Nesting.case_step v e
+
+pub nesting_area_write : (w : Width) (p e : Expr) → nesting (stmt.AreaWrite w p e)
+    ≡ suc (max (expression_nesting p) (expression_nesting e))
+nesting_area_write w p e = fold_area_write ℕ ℕ ℕ nesting_step Nesting.arm_step Nesting.case_step w p e
+
+pub nesting_invoke : (n : ℕ) (actuals : List Var) → nesting (stmt.Invoke n actuals) ≡ 1
+nesting_invoke n actuals = fold_invoke ℕ ℕ ℕ nesting_step Nesting.arm_step Nesting.case_step n actuals
+
+pub nesting_if : (arms : List Arm) (other : List Stmt) → nesting (stmt.If arms other)
+    ≡ suc (max (greatest (map arm_nesting arms)) (body_nesting other))
+nesting_if arms other = fold_if ℕ ℕ ℕ nesting_step Nesting.arm_step Nesting.case_step arms other
+
+pub nesting_case : (e : Expr) (arms : List CaseArm) (other : List Stmt) → nesting (stmt.Case e arms other)
+    ≡ suc (max (expression_nesting e) (max (greatest (map case_nesting arms)) (body_nesting other)))
+nesting_case e arms other = fold_case ℕ ℕ ℕ nesting_step Nesting.arm_step Nesting.case_step e arms other
+
+pub nesting_while : (test : Expr) (body : List Stmt) → nesting (stmt.While test body)
+    ≡ suc (max (expression_nesting test) (body_nesting body))
+nesting_while test body = fold_while ℕ ℕ ℕ nesting_step Nesting.arm_step Nesting.case_step test body
+
+pub nesting_arm : (x : Arm) → arm_nesting x ≡ max (expression_nesting x.test) (body_nesting x.body)
+nesting_arm x = fold_arm ℕ ℕ ℕ nesting_step Nesting.arm_step Nesting.case_step x
+
+pub nesting_case_arm : (x : CaseArm) → case_nesting x ≡ body_nesting x.body
+nesting_case_arm x = fold_case_arm ℕ ℕ ℕ nesting_step Nesting.arm_step Nesting.case_step x
+
+pub nesting_exit : nesting stmt.Exit ≡ 0
+nesting_exit = fold_exit ℕ ℕ ℕ nesting_step Nesting.arm_step Nesting.case_step
+
+pub nesting_continue : nesting stmt.Continue ≡ 0
+nesting_continue = fold_continue ℕ ℕ ℕ nesting_step Nesting.arm_step Nesting.case_step
+
+pub nesting_return : nesting stmt.Return ≡ 0
+nesting_return = fold_return ℕ ℕ ℕ nesting_step Nesting.arm_step Nesting.case_step
+
+pub ruleset nesting_equations = (
+  canon_equations,
+  nesting_assign,
+  nesting_area_write,
+  nesting_invoke,
+  nesting_if,
+  nesting_case,
+  nesting_while,
+  nesting_arm,
+  nesting_case_arm,
+  nesting_exit,
+  nesting_continue,
+  nesting_return,
+)
+
+-- Types
+
+-- the type at a place in the list of types
+type_at : ℕ → StType
+type_at n =
+    if n == 0 then type.Bool
+    else if n == 1 then type.Byte
+    else if n == 2 then type.Word
+    else if n == 3 then type.Dword
+    else if n == 4 then type.Int
+    else if n == 5 then type.Dint
+    else type.Lint
+
+at_place : (ty : StType) → type_at (place_of ty) ≡ ty
+unfolding type_at
+at_place type.Bool = refl
+at_place type.Byte = refl
+at_place type.Word = refl
+at_place type.Dword = refl
+at_place type.Int = refl
+at_place type.Dint = refl
+at_place type.Lint = refl
+
+pub same_type : (a b : StType) → is_type a b ≡ true → a ≡ b
+same_type a b h = sym (at_place a) ∙ ap type_at (eqb-true (place_of a) (place_of b) h) ∙ at_place b
+
+pub type_had : (ty : StType) (o : Option StType) → has_type ty o ≡ true → o ≡ Some ty
+type_had ty None h = cc
+type_had ty (Some found) h = ap (λ (t : StType). Some t) (same_type found ty h)
