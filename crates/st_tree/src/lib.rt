@@ -9,6 +9,7 @@
 #![tactic(auto)]
 
 pub use expr::{BinaryOp, Expr, ShiftOp, StType, UnaryOp, Var};
+pub use graph::{GraphPou, GraphProgram, StExit, StGraph, StNode};
 pub use memory_areas::AreaName;
 pub use program::{Arm, CaseArm, Local, Located, Pou, StProgram, Stmt};
 pub use raw::{
@@ -20,6 +21,8 @@ pub use token::{StKind, StToken};
 pub use types::{type_of_register, type_of_width, width_at};
 
 mod expr;
+mod graph;
+pub mod graph_laws;
 mod program;
 mod raw;
 pub mod run_laws;
