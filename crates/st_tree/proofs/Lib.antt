@@ -1,3 +1,4 @@
+pub mod CalledMost
 pub mod CanonEquations
 pub mod Ends
 pub mod Equations
@@ -11,7 +12,6 @@ pub mod FittingWrites
 pub mod GraphUnits
 pub mod Induction
 pub mod PartEquations
-pub mod ProperRuns
 pub mod RawInduction
 pub mod TypedParts
 pub mod TypesAgree
