@@ -10,7 +10,7 @@ use Rattle.memory_areas.specs.End.{Ended}
 use Rattle.s7_base.specs.declared.outcome.Fault.{Fault}
 use Rattle.stl_tree.specs.declared.program.Call.{Call}
 use Rattle.st_tree.specs.Calls.{called, entered, located_actuals}
-use Rattle.st_tree.specs.Costs.{greatest}
+use Rattle.st_tree.specs.Depth.{greatest}
 use Rattle.st_tree.specs.GraphRun.{Counting, Way, counted, counted_if, entry_or, exit_meaning, follow, graph_calls, longest, most_nodes, node_meaning, nodes_do, out, run_of_graph, to, unit_begun, way_of}
 use Rattle.st_tree.specs.GraphRunLaws.{FreeIsForward, GraphEndStays, LengthIsFree}
 use Rattle.st_tree.specs.Meaning.{Out, Normal, NoUnits, Sem, body_meaning}
