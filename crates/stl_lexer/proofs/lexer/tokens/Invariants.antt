@@ -1,6 +1,6 @@
 use Rattle.std.proofs.Common.{◌≡◌, length}
 use Rattle.s7_base.specs.Tokens.{prepend_tokens, tokens_from}
-use Rattle.stl_checks.proofs.lexer.tokens.Given as goal
+use Rattle.stl_lexer.proofs.lexer.tokens.Given as goal
 
 -- the tokens so far and those of the rest are those of the whole text
 abbrev pub invariant-loop-rest : goal.invariant-loop-rest

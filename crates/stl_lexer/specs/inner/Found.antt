@@ -1,8 +1,8 @@
 -- The lexer's pieces as those of the definition.
 use Rattle.std.specs.Prelude.{ℕ, ◌<◌, ◌≤◌}
 use Rattle.s7_base.specs.Tokens.{Piece, line_end, gap, token, piece_size}
-use Rattle.stl_checks.specs.declared.lexer.Piece.{Piece as Found}
-use Rattle.stl_checks.specs.declared.lexer.Piece.TheVariants as found
+use Rattle.stl_lexer.specs.declared.piece.Piece.{Piece as Found}
+use Rattle.stl_lexer.specs.declared.piece.Piece.TheVariants as found
 
 -- a piece that the lexer found, as the definition has it: what it is, and how many bytes it takes
 abbrev pub view : Found → Piece

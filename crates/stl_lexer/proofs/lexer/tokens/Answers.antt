@@ -1,8 +1,8 @@
 use Rattle.std.proofs.Common.{rules, ◌≡◌, Some, sym}
 use Rattle.s7_base.specs.Tokens.{tokens_of, piece_at}
-use Rattle.stl_checks.specs.Pieces.{view}
-use Rattle.stl_checks.proofs.Cuts.{at_end, at_bad_token, after_piece}
-use Rattle.stl_checks.proofs.lexer.tokens.Goals as goal
+use Rattle.stl_lexer.specs.inner.Found.{view}
+use Rattle.stl_lexer.proofs.Following.{at_end, at_bad_token, after_piece}
+use Rattle.stl_lexer.proofs.lexer.tokens.Goals as goal
 
 pub returns : goal.returns
 unfolding tokens_of

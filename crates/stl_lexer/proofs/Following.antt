@@ -1,6 +1,6 @@
 -- How the lexer's loop follows the definition of the tokens, piece by piece.
 use Rattle.std.proofs.Common.{◌≡◌, ℕ, ◌-◌, ◌<◌, ◌≤◌, List, [], ◌∷◌, ◌++◌, length, drop, get_or, Result, Ok, Err, Option, Some, None, refl, sym, ap, ◌∙◌, arith, append-nil}
-use Rattle.s7_base.proofs.TokenLaws.{prepend-prepend, next_piece}
+use Rattle.stl_lexer.proofs.TokenSteps.{prepend-prepend, next_piece}
 use Rattle.s7_base.specs.Tokens.{Piece, piece_at, piece_size, token_of, line_behind, prepend_tokens, with_piece, tokens_from}
 use Rattle.s7_base.specs.declared.reason.Reason.TheVariants.{BadToken}
 use Rattle.s7_base.specs.declared.reason.Rejection.{Rejection}

@@ -1,16 +1,11 @@
-//! Cuts a source text into pieces, and keeps those that are tokens.
-ghost use Rattle.std.specs.Prelude.{◌≡◌, ◌-◌, ◌≤◌, ◌+◌, ◌&&◌, length, take, drop, codes, not, ◌==◌, ◌||◌, ◌<◌, IfSome, OnOk, option_map, ◌++◌};
-ghost use Rattle.s7_base.specs.Tokens.{is_blank, is_word_byte, is_sign, is_double_sign, begins_with, after_blanks, line_size, closed_size, word_piece, sign_piece, comment_or_sign, mark_piece, piece_at, piece_size, token, gap, token_text, line_behind, token_of, tokens_of};
+//! Finds the piece that stands at the front of a text.
+ghost use Rattle.std.specs.Prelude.{◌≡◌, ◌≤◌, ◌+◌, ◌&&◌, length, take, drop, codes, not, ◌==◌, ◌||◌, ◌<◌, IfSome, option_map};
+ghost use Rattle.s7_base.specs.Tokens.{is_blank, is_word_byte, is_sign, is_double_sign, begins_with, after_blanks, line_size, closed_size, word_piece, sign_piece, comment_or_sign, mark_piece, piece_at, piece_size, token, gap, line_behind};
 ghost use Rattle.std.specs.List.{prefix_len};
 ghost use Rattle.std.specs.Str.{str_eq_ignore_ascii_case};
-ghost use Rattle.s7_base.specs.Answers.{Answers};
-ghost use Rattle.stl_checks.specs.Pieces.{view, IsWithin};
+ghost use Rattle.stl_lexer.specs.inner.Found.{view, IsWithin};
 
-use s7_base::{
-    Line, List, NoMemory, Reason, Rejection, Token, TokenKind, begins_with, is_same_word,
-    is_word_byte, rest_after,
-};
-use std::alloc::Global;
+use s7_base::{TokenKind, begins_with, is_same_word, is_word_byte, rest_after};
 
 /// What stands at the front of a text, with its size in bytes.
 #[derive(Clone, Copy)]
@@ -25,7 +20,8 @@ pub enum Piece {
     Token(TokenKind, usize),
 }
 
-fn is_blank(b: u8) -> bool
+/// Space, TAB and CR.
+pub fn is_blank(b: u8) -> bool
     ensures { result ≡ is_blank b }
 {
     b == b' ' || b == b'\t' || b == b'\r'
@@ -177,7 +173,8 @@ fn mark_piece(first: u8, rest: &[u8]) -> Option<Piece>
     }
 }
 
-fn piece_at(bytes: &[u8]) -> Option<Piece>
+/// The piece at the front of a text.
+pub fn piece_at(bytes: &[u8]) -> Option<Piece>
     ensures piece { option_map view result ≡ piece_at bytes.now }
     ensures within { IfSome result (λ piece. IsWithin piece (length bytes.now)) }
 {
@@ -192,26 +189,8 @@ fn piece_at(bytes: &[u8]) -> Option<Piece>
     }
 }
 
-/// The characters of a token, without the quotes.
-fn token_text(kind: TokenKind, bytes: &[u8]) -> &[u8]
-    ensures { result.now ≡ token_text kind bytes.now }
-{
-    match kind {
-        TokenKind::Word | TokenKind::Sign => bytes,
-        TokenKind::Quoted | TokenKind::Text => without_ends(bytes),
-    }
-}
-
-fn without_ends(bytes: &[u8]) -> &[u8]
-    ensures { result.now ≡ take (length bytes.now - 2) (drop 1 bytes.now) }
-{
-    match bytes {
-        [_, inside @ .., _] => inside,
-        _ => &[],
-    }
-}
-
-fn size_of(piece: Piece) -> usize
+/// How many bytes a piece has.
+pub fn size_of(piece: Piece) -> usize
     ensures { result ≡ piece_size (view piece) }
 {
     match piece {
@@ -220,57 +199,12 @@ fn size_of(piece: Piece) -> usize
     }
 }
 
-fn line_behind(piece: Piece, line: u32) -> u32
+/// The line after a piece on a line.
+pub fn line_behind(piece: Piece, line: u32) -> u32
     ensures { result ≡ line_behind (view piece) line }
 {
     match piece {
         Piece::LineEnd => line.saturating_add(1),
         Piece::Gap(_) | Piece::Token(..) => line,
     }
-}
-
-/// Keeps the token that a piece at the front of `bytes` is, if it is one.
-fn keep_token(
-    alloc: Global,
-    tokens: &mut List<Token>,
-    piece: Piece,
-    bytes: &[u8],
-    line: u32,
-    before: u8,
-) -> Result<(), NoMemory>
-    requires { IsWithin piece (length bytes.now) }
-    ensures { OnOk result (tokens.new ≡ tokens.old ++ token_of (view piece) bytes.now line before) }
-{
-    let Piece::Token(kind, size) = piece else {
-        return Ok(());
-    };
-    let text = List::from_vec(Vec::from_slice(alloc, token_text(kind, &bytes[..size]))?);
-    let glued = !is_blank(before);
-    tokens.push(Token {
-        kind,
-        text,
-        line: Line(line),
-        glued,
-    })
-}
-
-/// The tokens of a text, or the line of the first place where none stands.
-pub fn tokens(alloc: Global, bytes: &[u8]) -> Result<List<Token>, Rejection>
-    ensures { Answers result (tokens_of bytes.now) }
-{
-    let mut tokens = List::new(alloc);
-    let mut rest = bytes;
-    let mut line = 1;
-    let mut before = b'\n';
-    while !rest.is_empty() {
-        let Some(piece) = piece_at(rest) else {
-            return Err(Rejection::Refused(Line(line), Reason::BadToken));
-        };
-        let size = size_of(piece);
-        keep_token(alloc, &mut tokens, piece, rest, line, before)?;
-        line = line_behind(piece, line);
-        before = rest[size - 1];
-        rest = rest_after(rest, size);
-    }
-    Ok(tokens)
 }
