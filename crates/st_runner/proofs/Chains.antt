@@ -2,9 +2,12 @@
 use Rattle.std.proofs.Common.{◌≡◌, ℕ, zero, suc, ◌+◌, ◌*◌, ◌<◌, ◌≤◌, max, List, [], ◌∷◌, map, Option, Some, None, refl, sym, ap, subst, arith}
 use Rattle.std.specs.Prelude.{slice_get}
 use Rattle.memory_areas.specs.declared.sizes.TheConstants.{ACTIVATIONS}
-use Rattle.st_tree.specs.Costs.{Costs, arm_most, body_most, case_most, greatest, most}
-use Rattle.st_runner.specs.Measures.{depth_costs, stack_costs}
-use Rattle.st_tree.specs.Runnable.{IsRunnableUnit, chain_costs, chain_of, chain_to, nesting_costs, unit_chain}
+use Rattle.st_runner.specs.inner.Costs.{Costs, arm_most, body_most, case_most, most}
+use Rattle.st_tree.specs.Depth.{greatest}
+use Rattle.st_runner.specs.inner.Measures.{depth_costs, stack_costs}
+use Rattle.st_runner.specs.inner.Runnable.{IsRunnableUnit, chain_costs, nesting_costs}
+use Rattle.st_tree.specs.Chains.{called_in, chain_of, chain_to, unit_chain}
+use Rattle.st_runner.proofs.CalledCosts.{called_cost}
 use Rattle.st_runner.specs.declared.steps.TheConstants.{MOST_NESTING, UNIT_FRAMES}
 use Rattle.st_tree.specs.declared.expr.Var.{Var}
 use Rattle.st_tree.specs.declared.program.Arm.{Arm}
@@ -12,7 +15,7 @@ use Rattle.st_tree.specs.declared.program.CaseArm.{CaseArm}
 use Rattle.st_tree.specs.declared.program.Pou.{Pou}
 use Rattle.st_tree.specs.declared.program.StProgram.{StProgram}
 use Rattle.st_tree.specs.declared.program.Stmt.{Stmt}
-use Rattle.st_tree.proofs.Equations.{most_area_write, most_arm, most_assign, most_case, most_case_arm, most_continue, most_exit, most_if, most_invoke, most_return, most_while}
+use Rattle.st_runner.proofs.CostEquations.{most_area_write, most_arm, most_assign, most_case, most_case_arm, most_continue, most_exit, most_if, most_invoke, most_return, most_while}
 use Rattle.st_tree.proofs.Induction.{Each, InArm, InCase, StmtSteps, every_body}
 
 -- three measures of one statement that are related at its parts are related
@@ -62,33 +65,23 @@ module _ (p q r : Costs) (R : ℕ → ℕ → ℕ → Type 0) (none : R 0 0 0) (
 
 -- Chains
 
--- a chain that is shorter than the count is no longer by a greater count
-abbrev Stays : ℕ → ℕ → ℕ → ℕ → Type 0
-Stays k a b c = b < k → a ≤ b
-
-stays_either : (k a b c x y z : ℕ) → Stays k a b c → Stays k x y z → Stays k (max a x) (max b y) (max c z)
-stays_either k a b c x y z h m less =
-    let p : a ≤ b = h (omega arith) in
-    let q : x ≤ y = m (omega arith) in
+-- where each that is less than a bound is no more by another count, so is the greatest of some
+greatest_stays : (f g : ℕ → ℕ) (k : ℕ) → ((n : ℕ) → g n < k → f n ≤ g n) → (ns : List ℕ)
+    → greatest (map g ns) < k → greatest (map f ns) ≤ greatest (map g ns)
+greatest_stays f g k each [] less = omega arith
+greatest_stays f g k each (n ∷ ns) less =
+    let first : f n ≤ g n = each n (omega arith) in
+    let more : greatest (map f ns) ≤ greatest (map g ns) = greatest_stays f g k each ns (omega arith) in
     omega arith
 
-stays_nested : (k a b c : ℕ) → Stays k a b c → Stays k (0 + a) (0 + b) (0 + c)
-stays_nested k a b c h less = let m : a ≤ b = h (omega arith) in omega arith
-
-stays_turned : (k a b c : ℕ) → Stays k a b c → Stays k (0 + 0 + a) (0 + 0 + b) (0 + 0 + c)
-stays_turned k a b c h less = let m : a ≤ b = h (omega arith) in omega arith
-
-body_stays : (f g : ℕ → ℕ) (k : ℕ) → ((n : ℕ) → g n < k → f n ≤ g n) → (body : List Stmt) → body_most (chain_costs g) body < k → body_most (chain_costs f) body ≤ body_most (chain_costs g) body
-body_stays f g k calls body =
-    body_holds (chain_costs f) (chain_costs g) (chain_costs g) (Stays k) (λ less. omega arith) (stays_either k) (stays_nested k) (stays_turned k) (λ n actuals. calls n) body
-
-unit_stays : (k : ℕ) (tree : StProgram) (o : Option Pou) → ((n : ℕ) → chain_to k tree n < k → chain_to (suc k) tree n ≤ chain_to k tree n)
+-- a chain that is shorter than the count is no longer by a greater count
+unit_stays : (k : ℕ) (tree : StProgram) (o : Option Pou)
+    → ((n : ℕ) → chain_to k tree n < k → chain_to (suc k) tree n ≤ chain_to k tree n)
     → unit_chain (chain_to k tree) k o < suc k → unit_chain (chain_to (suc k) tree) (suc k) o ≤ unit_chain (chain_to k tree) k o
 unit_stays k tree None calls less = absurd (omega arith)
 unit_stays k tree (Some unit) calls less =
-    let b : body_most (chain_costs (chain_to k tree)) unit.body < k = omega arith in
-    let h : body_most (chain_costs (chain_to (suc k) tree)) unit.body ≤ body_most (chain_costs (chain_to k tree)) unit.body = body_stays (chain_to (suc k) tree) (chain_to k tree) k calls unit.body b in
-    omega arith
+    let h = greatest_stays (chain_to (suc k) tree) (chain_to k tree) k calls (called_in unit.body) (omega arith) in
+    omega (arith, h)
 
 chain_stays : (k : ℕ) (tree : StProgram) (n : ℕ) → chain_to k tree n < k → chain_to (suc k) tree n ≤ chain_to k tree n
 chain_stays zero tree n less = absurd (omega arith)
@@ -97,10 +90,9 @@ chain_stays (suc k) tree n less = unit_stays k tree (slice_get tree.pous n) (cha
 -- a unit's chain is one longer than those of its calls
 pub chain_covers : (tree : StProgram) (n : ℕ) (unit : Pou) → slice_get tree.pous n ≡ Some unit → chain_of tree n ≤ ACTIVATIONS → 1 + body_most (depth_costs tree) unit.body ≤ chain_of tree n
 chain_covers tree n unit e few =
-    let is : chain_of tree n ≡ suc (body_most (chain_costs (chain_to 8 tree)) unit.body) = ap (unit_chain (chain_to 8 tree) 8) e in
-    let less : body_most (chain_costs (chain_to 8 tree)) unit.body < 8 = omega arith in
-    let h : body_most (depth_costs tree) unit.body ≤ body_most (chain_costs (chain_to 8 tree)) unit.body = body_stays (chain_to 9 tree) (chain_to 8 tree) 8 (chain_stays 8 tree) unit.body less in
-    omega arith
+    let is : chain_of tree n ≡ suc (greatest (map (chain_to 8 tree) (called_in unit.body))) = ap (unit_chain (chain_to 8 tree) 8) e in
+    let h = greatest_stays (chain_to 9 tree) (chain_to 8 tree) 8 (chain_stays 8 tree) (called_in unit.body) (omega arith) in
+    omega (arith, is, h, called_cost (chain_of tree) unit.body)
 
 -- a unit whose chain ends is there
 unit_found : (f : ℕ → ℕ) (o : Option Pou) → unit_chain f 8 o ≤ 8 → (unit : Pou) × (o ≡ Some unit)

@@ -3,9 +3,10 @@ use Rattle.std.proofs.Common.{◌≡◌, ℕ, ◌+◌, ◌≤◌, Bool, true, fa
 use Rattle.memory_areas.specs.Access.{and_then}
 use Rattle.s7_base.specs.declared.outcome.Fault.{Fault}
 use Rattle.s7_base.specs.declared.word.Width.{Width}
-use Rattle.st_runner.specs.Choice.{has_label, labelled, picked}
-use Rattle.st_runner.specs.Measures.{arm_weight, body_weight, case_weight, sum, weight, weight_step}
-use Rattle.st_tree.specs.Costs.{Costs, arm_most, body_most, case_most, greatest, most}
+use Rattle.st_runner.specs.inner.Choice.{has_label, labelled, picked}
+use Rattle.st_runner.specs.inner.Measures.{arm_weight, body_weight, case_weight, sum, weight, weight_step}
+use Rattle.st_runner.specs.inner.Costs.{Costs, arm_most, body_most, case_most, most}
+use Rattle.st_tree.specs.Depth.{greatest}
 use Rattle.st_tree.specs.State.{State}
 use Rattle.st_tree.specs.Value.{value}
 use Rattle.st_tree.specs.Values.{is_set}
@@ -17,7 +18,8 @@ use Rattle.st_tree.specs.declared.program.Located.{Located}
 use Rattle.st_tree.specs.declared.program.Stmt.{Stmt}
 use Rattle.st_tree.specs.declared.program.Stmt.TheVariants as stmt
 use Rattle.st_tree.specs.declared.state.Value.{Value}
-use Rattle.st_tree.proofs.Equations.{fold_area_write, fold_arm, fold_assign, fold_case, fold_case_arm, fold_continue, fold_exit, fold_if, fold_return, most_arm, most_case, most_case_arm, most_if}
+use Rattle.st_tree.proofs.Equations.{fold_area_write, fold_arm, fold_assign, fold_case, fold_case_arm, fold_continue, fold_exit, fold_if, fold_return}
+use Rattle.st_runner.proofs.CostEquations.{most_arm, most_case, most_case_arm, most_if}
 
 pub weight_if : (arms : List Arm) (other : List Stmt) → weight (stmt.If arms other) ≡ 2 + max (greatest (map arm_weight arms)) (body_weight other)
 weight_if = fold_if ℕ ℕ ℕ weight_step (λ arm. sum arm.body) (λ arm. sum arm.body)

@@ -3,13 +3,13 @@ use Rattle.std.proofs.Common.{◌≡◌, ℕ, ◌+◌, ◌≤◌, max, Bor, List
 use Rattle.memory_areas.specs.Access.{and_then}
 use Rattle.s7_base.specs.declared.outcome.Fault.{Fault}
 use Rattle.s7_base.specs.declared.word.Width.{Width}
-use Rattle.st_runner.specs.Choice.{labelled, picked}
-use Rattle.st_runner.specs.Leaving.{Leaves}
-use Rattle.st_runner.specs.Measures.{body_weight, reach, sizes, tall, unit_costs, units, weight, work_weight}
-use Rattle.st_tree.specs.Costs.{Costs, body_most, most}
-use Rattle.st_runner.specs.Ready.{Done, next_of}
-use Rattle.st_runner.specs.Waiting.{end_at, ending}
-use Rattle.st_runner.specs.View.{Changes}
+use Rattle.st_runner.specs.inner.Choice.{labelled, picked}
+use Rattle.st_runner.specs.inner.Leaving.{Leaves}
+use Rattle.st_runner.specs.inner.Measures.{body_weight, reach, sizes, tall, unit_costs, units, weight, work_weight}
+use Rattle.st_runner.specs.inner.Costs.{Costs, body_most, most}
+use Rattle.st_runner.specs.inner.Ready.{Done, next_of}
+use Rattle.st_runner.specs.inner.Waiting.{end_at, ending}
+use Rattle.st_runner.specs.inner.View.{Changes}
 use Rattle.st_runner.specs.declared.frame.At.{At}
 use Rattle.st_runner.specs.declared.frame.At.TheVariants as at
 use Rattle.st_runner.specs.declared.frame.Frame.{Frame}
@@ -30,7 +30,8 @@ use Rattle.st_tree.specs.declared.program.StProgram.{StProgram}
 use Rattle.st_tree.specs.declared.program.Stmt.{Stmt}
 use Rattle.st_tree.specs.declared.program.Stmt.TheVariants as stmt
 use Rattle.st_tree.specs.declared.state.Value.{Value}
-use Rattle.st_tree.proofs.Equations.{meaning_continue, meaning_exit, meaning_invoke, meaning_return, meaning_while, most_invoke, most_while}
+use Rattle.st_tree.proofs.Equations.{meaning_continue, meaning_exit, meaning_invoke, meaning_return, meaning_while}
+use Rattle.st_runner.proofs.CostEquations.{most_invoke, most_while}
 
 -- frames that stay as they are cost no more
 stay_reach : (k : Costs) (ws : List Frame) (n : ℕ) → reach k ws at.Work ≤ max (tall k ws) (sizes k ws + n)

@@ -6,7 +6,7 @@ use Rattle.memory_areas.specs.Areas.{Contents, IsMemoryOf, block_of}
 use Rattle.memory_areas.specs.declared.data_block.DataBlock.{DataBlock}
 use Rattle.memory_areas.specs.declared.place.Place.{Place}
 use Rattle.s7_base.specs.declared.word.Width.{Width}
-use Rattle.st_runner.specs.Fitting.{Decides}
+use Rattle.st_runner.specs.inner.Fitting.{Decides}
 use Rattle.st_runner.proofs.Sizes.{block_same, fault_same}
 use Rattle.st_tree.specs.StRun.{FitsFormal, FitsInstance, IsOutsidePlace}
 use Rattle.st_tree.specs.Values.{width_at}

@@ -2,8 +2,8 @@
 use Rattle.std.proofs.Common.{◌≡◌, ℕ, zero, suc, ◌+◌, ◌<◌, ◌≤◌, List, [], ◌∷◌, length, map, slice_index_or, slice_set, Some, None, Result, Ok, refl, sym, ap, subst, ◌∙◌, arith}
 use Rattle.std.specs.Prelude.{IfOk, slice_get, vec_capacity}
 use Rattle.std.specs.Vec.{with_item}
-use Rattle.st_runner.specs.View.{AreFrames, AreHeld, AreReachable, IsLocal, IsReachable, IsRunning, IsSound, seen, state_of}
-use Rattle.st_tree.specs.Runnable.{AreGlobals}
+use Rattle.st_runner.specs.inner.View.{AreFrames, AreHeld, AreReachable, IsLocal, IsReachable, IsRunning, IsSound, seen, state_of}
+use Rattle.st_runner.specs.inner.Runnable.{AreGlobals}
 use Rattle.st_runner.specs.declared.state.Activation.{Activation as Kept}
 use Rattle.st_runner.specs.declared.state.State.{State as Parts}
 use Rattle.memory_areas.specs.Access.{and_then}

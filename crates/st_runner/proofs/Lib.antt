@@ -1,6 +1,8 @@
 pub mod Actuals
+pub mod CalledCosts
 pub mod Chains
 pub mod Clearing
+pub mod CostEquations
 pub mod Costs
 pub mod Dones
 pub mod Fewer
@@ -10,6 +12,7 @@ pub mod Means
 pub mod Moves
 pub mod Opening
 pub mod Outward
+pub mod ProperRuns
 pub mod Shifts
 pub mod Sizes
 pub mod Spending

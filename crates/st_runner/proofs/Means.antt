@@ -3,8 +3,8 @@ use Rattle.std.proofs.Common.{◌≡◌, ℕ, Bool, true, false, if◌then◌els
 use Rattle.memory_areas.specs.Access.{and_then}
 use Rattle.s7_base.specs.declared.outcome.Fault.{Fault}
 use Rattle.s7_base.specs.declared.word.Width.{Width}
-use Rattle.st_runner.specs.Choice.{has_label, labelled, picked}
-use Rattle.st_runner.specs.Waiting.{end_at, ending}
+use Rattle.st_runner.specs.inner.Choice.{has_label, labelled, picked}
+use Rattle.st_runner.specs.inner.Waiting.{end_at, ending}
 use Rattle.st_runner.specs.declared.frame.At.TheVariants as at
 use Rattle.st_runner.specs.declared.frame.Frame.{Frame}
 use Rattle.st_runner.proofs.Stack.{unwound_faults}

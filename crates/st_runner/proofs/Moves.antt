@@ -3,7 +3,7 @@ use Rattle.std.proofs.Common.{◌≡◌, ℕ, ◌+◌, ◌<◌, ◌≤◌, List,
 use Rattle.std.specs.Prelude.{vec_capacity}
 use Rattle.std.proofs.lemmas.List.{length-append}
 use Rattle.memory_areas.specs.declared.sizes.TheConstants.{ACTIVATIONS}
-use Rattle.st_runner.specs.View.{AreFrames, AreReachable, IsFrame, IsSound}
+use Rattle.st_runner.specs.inner.View.{AreFrames, AreReachable, IsFrame, IsSound}
 use Rattle.st_runner.specs.declared.state.Activation.{Activation as Kept}
 use Rattle.st_runner.specs.declared.state.State.{State as Parts}
 

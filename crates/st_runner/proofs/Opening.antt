@@ -9,14 +9,15 @@ use Rattle.memory_areas.specs.declared.place.Area.TheVariants as area
 use Rattle.memory_areas.specs.declared.place.Place.{Place}
 use Rattle.memory_areas.specs.declared.sizes.TheConstants.{ACTIVATIONS}
 use Rattle.s7_base.specs.declared.word.Width.{Width}
-use Rattle.st_runner.specs.Measures.{reach, units, depth_costs, stack_costs}
-use Rattle.st_tree.specs.Costs.{Costs, body_most}
-use Rattle.st_runner.specs.Plain.{coming, pending}
-use Rattle.st_runner.specs.Ready.{IsReady, most_formals, most_locals}
-use Rattle.st_tree.specs.Runnable.{IsRunnable, chain_of, formals_of_unit, misfit_costs}
+use Rattle.st_runner.specs.inner.Measures.{reach, units, depth_costs, stack_costs}
+use Rattle.st_runner.specs.inner.Costs.{Costs, body_most}
+use Rattle.st_runner.specs.inner.Plain.{coming, pending}
+use Rattle.st_runner.specs.inner.Ready.{IsReady, most_formals, most_locals}
+use Rattle.st_runner.specs.inner.Runnable.{IsRunnable, formals_of_unit, misfit_costs}
+use Rattle.st_tree.specs.Chains.{chain_of}
 use Rattle.st_runner.specs.Standing.{end_by}
-use Rattle.st_runner.specs.View.{AreReachable, IsSound}
-use Rattle.st_runner.specs.Waiting.{end_at}
+use Rattle.st_runner.specs.inner.View.{AreReachable, IsSound}
+use Rattle.st_runner.specs.inner.Waiting.{end_at}
 use Rattle.st_runner.specs.declared.frame.At.TheVariants as at
 use Rattle.st_runner.specs.declared.frame.Frame.{Frame}
 use Rattle.st_runner.specs.declared.frame.Frame.TheVariants as frame

@@ -1,9 +1,9 @@
 -- What callers see of a runner is what it is made of.
 use Rattle.std.proofs.Common.{◌≡◌, ℕ, List, [], ◌∷◌, map, refl, ap, ◌∙◌}
-use Rattle.st_runner.specs.Plain.{coming, pending}
-use Rattle.st_runner.specs.Ready.{IsSettled}
+use Rattle.st_runner.specs.inner.Plain.{coming, pending}
+use Rattle.st_runner.specs.inner.Ready.{IsSettled}
 use Rattle.st_runner.specs.Standing.{Shows, all_followed, end_by, followed}
-use Rattle.st_runner.specs.Waiting.{end_at, framed, outcome_of, unwound}
+use Rattle.st_runner.specs.inner.Waiting.{end_at, framed, outcome_of, unwound}
 use Rattle.st_runner.specs.declared.frame.At.{At}
 use Rattle.st_runner.specs.declared.frame.At.TheVariants as at
 use Rattle.st_runner.specs.declared.frame.Frame.{Frame}

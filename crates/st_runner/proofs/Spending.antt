@@ -6,12 +6,13 @@ use Rattle.st_runner.specs.declared.steps.TheConstants.{UNIT_FRAMES}
 use Rattle.memory_areas.specs.Access.{and_then}
 use Rattle.memory_areas.specs.declared.sizes.TheConstants.{ACTIVATIONS}
 use Rattle.s7_base.specs.declared.outcome.Fault.{Fault}
-use Rattle.st_runner.specs.Measures.{frame_tall, reach, size, sizes, tall, unit_costs, units, depth_costs, stack_costs}
-use Rattle.st_tree.specs.Costs.{Costs, body_most}
-use Rattle.st_runner.specs.Ready.{IsReady, Spent, most_formals, most_locals}
-use Rattle.st_tree.specs.Runnable.{IsRunnable, chain_of, formals_of_unit, misfit, misfit_costs}
-use Rattle.st_runner.specs.Waiting.{end_at, ending}
-use Rattle.st_runner.specs.View.{Changes, IsSound, MayEnter, state_of}
+use Rattle.st_runner.specs.inner.Measures.{frame_tall, reach, size, sizes, tall, unit_costs, units, depth_costs, stack_costs}
+use Rattle.st_runner.specs.inner.Costs.{Costs, body_most}
+use Rattle.st_runner.specs.inner.Ready.{IsReady, Spent, most_formals, most_locals}
+use Rattle.st_runner.specs.inner.Runnable.{IsRunnable, formals_of_unit, misfit, misfit_costs}
+use Rattle.st_tree.specs.Chains.{chain_of}
+use Rattle.st_runner.specs.inner.Waiting.{end_at, ending}
+use Rattle.st_runner.specs.inner.View.{Changes, IsSound, MayEnter, state_of}
 use Rattle.st_runner.specs.declared.frame.At.{At}
 use Rattle.st_runner.specs.declared.frame.At.TheVariants as at
 use Rattle.st_runner.specs.declared.frame.Frame.{Frame}

@@ -1,9 +1,9 @@
 -- Frames that wait: what is pushed is done first, and how much they cost.
 use Rattle.std.proofs.Common.{◌≡◌, ◌+◌, ◌≤◌, max, List, [], ◌∷◌, ◌++◌, refl, ap, ◌∙◌, arith}
 use Rattle.s7_base.specs.declared.outcome.Fault.{Fault}
-use Rattle.st_runner.specs.Measures.{frame_tall, frame_weight, size, sizes, tall, work_weight}
-use Rattle.st_tree.specs.Costs.{Costs}
-use Rattle.st_runner.specs.Waiting.{framed, unwound}
+use Rattle.st_runner.specs.inner.Measures.{frame_tall, frame_weight, size, sizes, tall, work_weight}
+use Rattle.st_runner.specs.inner.Costs.{Costs}
+use Rattle.st_runner.specs.inner.Waiting.{framed, unwound}
 use Rattle.st_runner.specs.declared.frame.Frame.{Frame}
 use Rattle.st_runner.specs.declared.frame.Frame.TheVariants as frame
 use Rattle.st_tree.specs.Meaning.{Out, Faults, NoUnits, Calls}

@@ -1,12 +1,12 @@
 -- What needs no unit, frame by frame.
 use Rattle.std.proofs.Common.{◌≡◌, ℕ, ◌+◌, ◌<◌, ◌≤◌, max, Bor, List, [], ◌∷◌, ◌++◌, length, None, refl, sym, ap, subst, ◌∙◌, arith}
 use Rattle.memory_areas.specs.declared.sizes.TheConstants.{ACTIVATIONS}
-use Rattle.st_runner.specs.Measures.{body_weight, frame_tall, frame_weight, reach, sizes, tall, unit_costs, units, weight, work_weight, depth_costs, stack_costs}
-use Rattle.st_tree.specs.Costs.{Costs, body_most, most}
-use Rattle.st_runner.specs.Ready.{Done, IfWork, IsReady, Stepped, most_formals, most_locals}
-use Rattle.st_tree.specs.Runnable.{misfit_costs}
-use Rattle.st_runner.specs.Waiting.{ending}
-use Rattle.st_runner.specs.View.{IsRunning, IsSound, MayLeave, SameShape, state_of}
+use Rattle.st_runner.specs.inner.Measures.{body_weight, frame_tall, frame_weight, reach, sizes, tall, unit_costs, units, weight, work_weight, depth_costs, stack_costs}
+use Rattle.st_runner.specs.inner.Costs.{Costs, body_most, most}
+use Rattle.st_runner.specs.inner.Ready.{Done, IfWork, IsReady, Stepped, most_formals, most_locals}
+use Rattle.st_runner.specs.inner.Runnable.{misfit_costs}
+use Rattle.st_runner.specs.inner.Waiting.{ending}
+use Rattle.st_runner.specs.inner.View.{IsRunning, IsSound, MayLeave, SameShape, state_of}
 use Rattle.st_runner.specs.declared.frame.At.{At}
 use Rattle.st_runner.specs.declared.frame.At.TheVariants as at
 use Rattle.st_runner.specs.declared.frame.Frame.{Frame}

@@ -1,9 +1,9 @@
 -- Frames on top of others, and those that EXIT, CONTINUE and RETURN take away.
 use Rattle.std.proofs.Common.{◌≡◌, ℕ, ◌+◌, ◌≤◌, max, List, [], ◌∷◌, ◌++◌, refl, sym, ap, subst, ◌∙◌, arith}
-use Rattle.st_runner.specs.Leaving.{Leaves}
-use Rattle.st_runner.specs.Measures.{frame_tall, frame_weight, size, sizes, tall, unit_costs, units, work_weight}
-use Rattle.st_tree.specs.Costs.{Costs}
-use Rattle.st_runner.specs.Waiting.{ending, framed}
+use Rattle.st_runner.specs.inner.Leaving.{Leaves}
+use Rattle.st_runner.specs.inner.Measures.{frame_tall, frame_weight, size, sizes, tall, unit_costs, units, work_weight}
+use Rattle.st_runner.specs.inner.Costs.{Costs}
+use Rattle.st_runner.specs.inner.Waiting.{ending, framed}
 use Rattle.st_runner.specs.declared.frame.Frame.{Frame}
 use Rattle.st_runner.proofs.Stack.{sizes_push, tall_push, unwound_push, weight_push}
 use Rattle.st_tree.specs.Meaning.{Out, Normal, Exits, Calls}

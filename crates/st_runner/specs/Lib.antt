@@ -1,9 +1,2 @@
-pub mod Choice
-pub mod Fitting
-pub mod Leaving
-pub mod Measures
-pub mod Plain
-pub mod Ready
 pub mod Standing
-pub mod View
-pub mod Waiting
+pub mod inner

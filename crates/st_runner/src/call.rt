@@ -1,8 +1,8 @@
 //! Activations: how a unit is entered and left.
 ghost use Rattle.std.specs.Prelude.{◌≡◌, ◌+◌, ◌≤◌, [], length, map, Ok, Err, IfErr, IfOk, OnOk, vec_capacity, ℕ};
 ghost use Rattle.memory_areas.specs.Access.{and_then};
-ghost use Rattle.st_runner.specs.View.{AreReachable, Changes, IsDeeper, IsReachable, IsRunning, IsSound, MayEnter, MayLeave, state_of};
-ghost use Rattle.st_tree.specs.Runnable.{AreGlobals};
+ghost use Rattle.st_runner.specs.inner.View.{AreReachable, Changes, IsDeeper, IsReachable, IsRunning, IsSound, MayEnter, MayLeave, state_of};
+ghost use Rattle.st_runner.specs.inner.Runnable.{AreGlobals};
 ghost use Rattle.st_tree.specs.Calls.{entered, left, located_actual, located_actuals, tested, zero_of};
 ghost use Rattle.st_tree.specs.State.{reference_of};
 

@@ -5,8 +5,8 @@ ghost use Rattle.memory_areas.specs.Access.{aimed, fault_of};
 ghost use Rattle.memory_areas.specs.Areas.{IsMemoryOf, block_of};
 ghost use Rattle.memory_areas.specs.Memory.{IsActivation};
 ghost use Rattle.memory_areas.specs.declared.data_block.DataBlock.{DataBlock};
-ghost use Rattle.st_runner.specs.Fitting.{Decides};
-ghost use Rattle.st_runner.specs.View.{AreReachable};
+ghost use Rattle.st_runner.specs.inner.Fitting.{Decides};
+ghost use Rattle.st_runner.specs.inner.View.{AreReachable};
 ghost use Rattle.st_tree.specs.StRun.{FitFormals, FitsFormal, FitsUnit, IsOutsidePlace, called_name, formals_given, is_meant, references, unit_called};
 
 use memory_areas::{Area, Memory, Place};

@@ -1,9 +1,9 @@
 //! Expressions, assignments and choices.
 ghost use Rattle.std.specs.Prelude.{◌≡◌, Ok, Err, MatchResult, ℕ};
 ghost use Rattle.memory_areas.specs.Access.{and_then};
-ghost use Rattle.st_runner.specs.Choice.{has_label, labelled, picked};
-ghost use Rattle.st_runner.specs.View.{Changes, IsRunning, IsSound, SameShape, state_of};
-ghost use Rattle.st_tree.specs.Runnable.{AreGlobals};
+ghost use Rattle.st_runner.specs.inner.Choice.{has_label, labelled, picked};
+ghost use Rattle.st_runner.specs.inner.View.{Changes, IsRunning, IsSound, SameShape, state_of};
+ghost use Rattle.st_runner.specs.inner.Runnable.{AreGlobals};
 ghost use Rattle.st_tree.specs.Meaning.{area_assigned, assigned};
 ghost use Rattle.st_tree.specs.Value.{value};
 ghost use Rattle.st_tree.specs.Values.{is_set};
@@ -122,7 +122,7 @@ impl State {
 }
 
 /// An arm of a CASE has a value.
-#[tactic(auto, unfolding(crate::specs::Choice::has_label))]
+#[tactic(auto, unfolding(crate::specs::inner::Choice::has_label))]
 fn has_label(labels: &[i64], v: Value) -> bool
     ensures { result ≡ has_label labels.now v.n }
 {

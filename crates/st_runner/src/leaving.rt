@@ -1,6 +1,6 @@
 //! EXIT, CONTINUE and RETURN: which frames they take away.
 ghost use Rattle.std.specs.Prelude.{◌≡◌, vec_capacity};
-ghost use Rattle.st_runner.specs.Leaving.{Leaves};
+ghost use Rattle.st_runner.specs.inner.Leaving.{Leaves};
 ghost use Rattle.st_tree.specs.Meaning.{Continues, Exits, Normal, Returns};
 
 use crate::frame::Frame;

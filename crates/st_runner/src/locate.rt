@@ -3,8 +3,8 @@ ghost use Rattle.std.specs.Prelude.{◌≡◌, ◌<◌, length, slice_get, IfOk,
 ghost use Rattle.memory_areas.specs.Access.{and_then};
 ghost use Rattle.memory_areas.specs.Memory.{IsActivation};
 ghost use Rattle.memory_areas.specs.declared.sizes.TheConstants.{ACTIVATIONS};
-ghost use Rattle.st_runner.specs.View.{Changes, IsReachable, IsRunning, IsSound, SameShape, state_of};
-ghost use Rattle.st_tree.specs.Runnable.{AreGlobals};
+ghost use Rattle.st_runner.specs.inner.View.{Changes, IsReachable, IsRunning, IsSound, SameShape, state_of};
+ghost use Rattle.st_runner.specs.inner.Runnable.{AreGlobals};
 ghost use Rattle.st_tree.specs.State.{area_read, area_write, db_number, depth, di_number, formals_of, place_of, pointed_at, read, reference_of, there, write};
 ghost use Rattle.st_tree.specs.declared.program.Located.{Located as GlobalPlace};
 ghost use Rattle.st_tree.specs.declared.state.Reference.TheVariants.{Place as PlaceReference};

@@ -1,7 +1,7 @@
 //! The register variables, each as a number.
 ghost use Rattle.std.specs.Prelude.{◌≡◌, ◌<◌, get_or};
 ghost use Rattle.s7_base.specs.RegSet.{place};
-ghost use Rattle.st_runner.specs.View.{numbers_of};
+ghost use Rattle.st_runner.specs.inner.View.{numbers_of};
 ghost use Rattle.st_tree.specs.State.{with_register};
 ghost use Rattle.st_tree.specs.StRun.{all_zero};
 

@@ -4,8 +4,8 @@ ghost use Rattle.memory_areas.specs.Areas.{with_areas};
 ghost use Rattle.memory_areas.specs.declared.sizes.TheConstants.{ACTIVATIONS};
 ghost use Rattle.st_runner.specs.declared.frame.Frame.TheVariants.{Rest};
 ghost use Rattle.st_runner.specs.declared.steps.TheConstants.{UNIT_FRAMES};
-ghost use Rattle.st_runner.specs.Ready.{most_formals, most_locals};
-ghost use Rattle.st_runner.specs.View.{AreFrames, AreReachable, IsFrame, IsSound, numbers_of, seen, state_of};
+ghost use Rattle.st_runner.specs.inner.Ready.{most_formals, most_locals};
+ghost use Rattle.st_runner.specs.inner.View.{AreFrames, AreReachable, IsFrame, IsSound, numbers_of, seen, state_of};
 ghost use Rattle.st_tree.specs.Calls.{activation_of};
 ghost use Rattle.st_tree.specs.StRun.{formals_given, references, registers_at_start, state_at_start};
 

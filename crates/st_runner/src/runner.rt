@@ -1,9 +1,9 @@
 //! The runner itself.
 ghost use Rattle.std.specs.Prelude.{◌≡◌, ◌+◌, ℕ};
 ghost use Rattle.memory_areas.specs.Areas.{IsMemoryOf};
-ghost use Rattle.st_tree.specs.Runnable.{IsRunnable};
+ghost use Rattle.st_tree.specs.Proper.{Proper};
 ghost use Rattle.st_runner.specs.Standing.{IsNew, Shows, StaysOver, end_within};
-ghost use Rattle.st_runner.specs.Waiting.{outcome_of};
+ghost use Rattle.st_runner.specs.inner.Waiting.{outcome_of};
 
 use crate::calling::{called_name, fits_unit, unit_called};
 use crate::frame::{At, Frame};
@@ -39,11 +39,11 @@ pub struct Runner<'t> {
 impl<'t> Model for Runner<'t> {
     ghost use Rattle.std.specs.Coded.{codes};
     ghost use Rattle.std.specs.Prelude.{map, vec_capacity};
-    ghost use Rattle.st_runner.specs.Plain.{coming, pending};
-    ghost use Rattle.st_runner.specs.Ready.{IsReady};
-    ghost use Rattle.st_tree.specs.Runnable.{IsRunnable};
+    ghost use Rattle.st_runner.specs.inner.Plain.{coming, pending};
+    ghost use Rattle.st_runner.specs.inner.Ready.{IsReady};
+    ghost use Rattle.st_runner.specs.inner.Runnable.{IsRunnable};
     ghost use Rattle.st_runner.specs.Standing.{Standing};
-    ghost use Rattle.st_runner.specs.View.{seen};
+    ghost use Rattle.st_runner.specs.inner.View.{seen};
     ghost use Rattle.st_tree.specs.contracts.expr.Expr as expr;
     ghost use Rattle.st_tree.specs.contracts.program.Stmt as stmt;
 
@@ -95,7 +95,7 @@ impl<'t> Runner<'t> {
         memory: Memory,
         call: &Call,
     ) -> Result<Runner<'t>, RunnerRefusal>
-        requires runnable { IsRunnable tree.now }
+        requires proper { Proper tree.now }
         requires memory { IsMemoryOf tree.now.dbs memory.areas }
         ensures { IsNew tree.now call.now memory.areas result }
     {

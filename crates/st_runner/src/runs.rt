@@ -1,9 +1,9 @@
 //! Runs: steps within a number of units.
 ghost use Rattle.std.specs.Prelude.{◌≡◌, ◌+◌, suc, vec_capacity, true, ℕ};
-ghost use Rattle.st_runner.specs.Ready.{IsReady, IsSettled, NeedsUnit, needs_unit};
-ghost use Rattle.st_tree.specs.Runnable.{IsRunnable};
-ghost use Rattle.st_runner.specs.Waiting.{end_at};
-ghost use Rattle.st_runner.specs.View.{state_of};
+ghost use Rattle.st_runner.specs.inner.Ready.{IsReady, IsSettled, NeedsUnit, needs_unit};
+ghost use Rattle.st_runner.specs.inner.Runnable.{IsRunnable};
+ghost use Rattle.st_runner.specs.inner.Waiting.{end_at};
+ghost use Rattle.st_runner.specs.inner.View.{state_of};
 ghost use Rattle.st_tree.specs.Calls.{calls_to};
 ghost use Rattle.st_tree.specs.Meaning.{Calls};
 

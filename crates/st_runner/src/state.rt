@@ -1,8 +1,8 @@
 //! The state of a run: its memory, its registers and its activations.
 ghost use Rattle.std.specs.Prelude.{◌≡◌, ◌<◌, ◌-◌, length, map, slice_get, Ok, Err, IfOk, pos, vec_capacity, ℕ};
 ghost use Rattle.memory_areas.specs.Memory.{IsActivation, Writes};
-ghost use Rattle.st_runner.specs.View.{AreFrames, Changes, HasLocal, IsLocal, IsReachable, SameShape, IsSound, seen, state_of};
-ghost use Rattle.st_tree.specs.Runnable.{AreGlobals};
+ghost use Rattle.st_runner.specs.inner.View.{AreFrames, Changes, HasLocal, IsLocal, IsReachable, SameShape, IsSound, seen, state_of};
+ghost use Rattle.st_runner.specs.inner.Runnable.{AreGlobals};
 ghost use Rattle.st_tree.specs.State.{locals_of, read_at, read_place, there, with_local, write_at, write_place};
 
 use crate::operators::{flag, is_set, low_byte, low_dword, low_word, typed};

@@ -1,11 +1,11 @@
 //! Steps: what needs no unit, and what takes one.
 ghost use Rattle.std.specs.Prelude.{◌≡◌, ◌+◌, ◌<◌, ◌≤◌, max, length, vec_capacity, ℕ, Some, None};
-ghost use Rattle.st_runner.specs.Measures.{next_tall, reach, sizes, tall, units, weight, work_weight, stack_costs};
-ghost use Rattle.st_tree.specs.Costs.{Costs, body_most, most};
-ghost use Rattle.st_runner.specs.Ready.{Done, IsReady, IsSettled, Spent, Stepped, next_of};
-ghost use Rattle.st_tree.specs.Runnable.{IsRunnable, AreGlobals};
-ghost use Rattle.st_runner.specs.Waiting.{end_at, ending};
-ghost use Rattle.st_runner.specs.View.{IsRunning, IsSound, SameShape, state_of};
+ghost use Rattle.st_runner.specs.inner.Measures.{next_tall, reach, sizes, tall, units, weight, work_weight, stack_costs};
+ghost use Rattle.st_runner.specs.inner.Costs.{Costs, body_most, most};
+ghost use Rattle.st_runner.specs.inner.Ready.{Done, IsReady, IsSettled, Spent, Stepped, next_of};
+ghost use Rattle.st_runner.specs.inner.Runnable.{IsRunnable, AreGlobals};
+ghost use Rattle.st_runner.specs.inner.Waiting.{end_at, ending};
+ghost use Rattle.st_runner.specs.inner.View.{IsRunning, IsSound, SameShape, state_of};
 ghost use Rattle.st_runner.specs.declared.frame.At.TheVariants.{Call, Test, Work};
 ghost use Rattle.st_tree.specs.Meaning.{Calls, meaning};
 

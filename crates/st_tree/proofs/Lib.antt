@@ -1,3 +1,4 @@
+pub mod CalledMost
 pub mod CanonEquations
 pub mod Ends
 pub mod Equations
@@ -10,7 +11,6 @@ pub mod FittingValues
 pub mod FittingWrites
 pub mod Induction
 pub mod PartEquations
-pub mod ProperRuns
 pub mod RawInduction
 pub mod TypedParts
 pub mod TypesAgree

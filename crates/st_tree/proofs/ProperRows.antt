@@ -13,11 +13,11 @@ use Rattle.s7_base.specs.declared.register.Reg.TheVariants as reg
 use Rattle.s7_base.specs.declared.word.Width.TheVariants as width
 use Rattle.stl_tree.specs.declared.program.BlockName.TheVariants.{Ob}
 use Rattle.stl_tree.specs.declared.program.Call.{Call}
+use Rattle.st_tree.specs.Chains.{chain_of}
 use Rattle.st_tree.specs.Depth.{deepest}
 use Rattle.st_tree.specs.Naming.{are_apart, is_free, is_name, key_of, may_name_local, may_name_unit}
 use Rattle.st_tree.specs.Nesting.{body_nesting, expression_nesting}
 use Rattle.st_tree.specs.Proper.{IsDataBlock, IsFormal, IsGlobal, IsLocal, IsProperUnit, Proper, outer_keys}
-use Rattle.st_tree.specs.Runnable.{chain_of}
 use Rattle.st_tree.specs.Fitting.{Fits}
 use Rattle.st_tree.specs.StRun.{FitsSt, state_at_start, unit_called}
 use Rattle.st_tree.specs.WellTyped.{Sight, are_well_typed, expression_type, head_of, is_well_typed, sight_of}
@@ -34,8 +34,8 @@ use Rattle.st_tree.specs.declared.program.Pou.{Pou}
 use Rattle.st_tree.specs.declared.program.StProgram.{StProgram}
 use Rattle.st_tree.specs.declared.program.Stmt.{Stmt}
 use Rattle.st_tree.specs.declared.program.Stmt.TheVariants as stmt
-use Rattle.st_tree.proofs.Equations.{cost_equations}
 use Rattle.st_tree.proofs.FittingStart.{start_fits}
+use Rattle.st_tree.proofs.PartEquations.{part_equations}
 use Rattle.st_tree.proofs.TypingEquations.{good_equations, nesting_equations, typed_equations}
 
 -- Names
@@ -246,10 +246,10 @@ main_is =
     }
 
 one_long : chain_of tree 0 ≡ 1
-one_long = simp cost_equations
+one_long = simp part_equations
 
 two_long : chain_of tree 1 ≡ 2
-two_long = simp cost_equations
+two_long = simp part_equations
 
 chains : (n : ℕ) (unit : Pou) → slice_get tree.pous n ≡ Some unit → chain_of tree n ≤ ACTIVATIONS
 chains zero unit e = subst (λ (n : ℕ). n ≤ ACTIVATIONS) (sym one_long) (omega arith)

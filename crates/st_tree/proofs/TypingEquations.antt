@@ -4,7 +4,7 @@ use Rattle.std.specs.Prelude.{◌≡◌, ℕ, suc, max, Bool, true, ◌&&◌, �
 use Rattle.std.specs.List.{list_all}
 use Rattle.std.proofs.Common.{refl, sym, ap, ◌∙◌, eqb-true}
 use Rattle.s7_base.specs.declared.word.Width.{Width}
-use Rattle.st_tree.specs.Costs.{greatest}
+use Rattle.st_tree.specs.Depth.{greatest}
 use Rattle.st_tree.specs.Nesting
 use Rattle.st_tree.specs.Nesting.{arm_nesting, body_nesting, case_nesting, expression_nesting, nesting, nesting_step}
 use Rattle.st_tree.specs.TypeRules.{is_type, place_of}

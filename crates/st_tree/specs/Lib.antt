@@ -1,5 +1,5 @@
 pub mod Calls
-pub mod Costs
+pub mod Chains
 pub mod Depth
 pub mod Fitting
 pub mod Form
@@ -11,7 +11,6 @@ pub mod Parts
 pub mod PlaceRules
 pub mod Proper
 pub mod ProperLaws
-pub mod Runnable
 pub mod Spelling
 pub mod StRun
 pub mod StRunLaws

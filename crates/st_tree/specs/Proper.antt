@@ -4,11 +4,11 @@ use Rattle.std.specs.Prelude.{◌≡◌, ◌≢◌, ℕ, ◌≤◌, ◌<◌, tru
 use Rattle.memory_areas.specs.Areas.{AreBlocks}
 use Rattle.memory_areas.specs.declared.data_block.DataBlock.{DataBlock}
 use Rattle.memory_areas.specs.declared.sizes.TheConstants.{ACTIVATIONS}
+use Rattle.st_tree.specs.Chains.{chain_of}
 use Rattle.st_tree.specs.Depth.{deepest}
 use Rattle.st_tree.specs.Naming.{are_apart, is_free, is_name, key_of, may_name_local, may_name_unit}
 use Rattle.st_tree.specs.Nesting.{body_nesting}
 use Rattle.st_tree.specs.PlaceRules.{is_located}
-use Rattle.st_tree.specs.Runnable.{chain_of}
 use Rattle.st_tree.specs.Values.{width_at}
 use Rattle.st_tree.specs.WellTyped.{Head, are_well_typed, head_of, keys_of, sight_of}
 use Rattle.st_tree.specs.declared.expr.StType.TheVariants as type

@@ -1,8 +1,5 @@
--- What holds of each proper tree, and of each well typed expression.
+-- What holds of each well typed expression of a tree.
 use Rattle.std.specs.Prelude.{◌≡◌, Some}
-use Rattle.memory_areas.specs.Areas.{AreBlocks}
-use Rattle.st_tree.specs.Proper.{Proper}
-use Rattle.st_tree.specs.Runnable.{IsRunnable}
 use Rattle.st_tree.specs.Spelling.{names_in}
 use Rattle.st_tree.specs.Typing.{type_of}
 use Rattle.st_tree.specs.WellTyped.{expression_type, sight_in}
@@ -10,14 +7,6 @@ use Rattle.st_tree.specs.declared.expr.Expr.{Expr}
 use Rattle.st_tree.specs.declared.expr.StType.{StType}
 use Rattle.st_tree.specs.declared.program.Pou.{Pou}
 use Rattle.st_tree.specs.declared.program.StProgram.{StProgram}
-
--- it can be run
-abbrev pub ProperRuns : Type 0
-ProperRuns = (tree : StProgram) → Proper tree → IsRunnable tree
-
--- its data blocks are ones that a memory may have
-abbrev pub HasBlocks : Type 0
-HasBlocks = (tree : StProgram) → Proper tree → AreBlocks tree.dbs
 
 -- the type of a well typed expression is the one in which its canonical text writes labels
 abbrev pub TypesAgree : Type 0

@@ -3,9 +3,9 @@
 //! Stands on `s7_base` and `memory_areas`, and on `stl_tree` for the call of a block. The trees are
 //! those of the whole language, and so are the raw trees, which have names as texts and lines, and the
 //! tokens. `specs/` has the canonical spelling of every tree and the types of expressions; the value of
-//! an expression, the meaning of statements and the run of a unit (`run_laws`); which trees a text can
-//! have (`tree_laws`), and that their runs keep types (`type_laws`); and what of a tree can be run. How
-//! a text is read stands in `st_lexer`, `st_types` and `st_parser`.
+//! an expression, the meaning of statements and the run of a unit (`run_laws`); and which trees a text
+//! can have, whose runs keep types (`type_laws`). How a text is read stands in `st_lexer`, `st_types` and
+//! `st_parser`.
 #![tactic(auto)]
 
 pub use expr::{BinaryOp, Expr, ShiftOp, StType, UnaryOp, Var};

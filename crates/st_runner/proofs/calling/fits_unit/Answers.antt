@@ -1,5 +1,5 @@
 use Rattle.std.proofs.Common.{sym, subst, ◌∙◌}
-use Rattle.st_runner.specs.Fitting.{Decides}
+use Rattle.st_runner.specs.inner.Fitting.{Decides}
 use Rattle.st_runner.proofs.Fits.{instance_decides, none_declared}
 use Rattle.st_tree.specs.StRun.{FitsUnit}
 use Rattle.stl_tree.specs.declared.program.BlockName.{BlockName}

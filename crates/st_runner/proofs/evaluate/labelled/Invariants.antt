@@ -1,5 +1,5 @@
 use Rattle.std.proofs.Common.{◌≡◌, length}
-use Rattle.st_runner.specs.Choice.{labelled}
+use Rattle.st_runner.specs.inner.Choice.{labelled}
 use Rattle.st_runner.proofs.evaluate.labelled.Given as goal
 
 abbrev pub decreases-loop-arm : goal.decreases-loop-arm

@@ -1,6 +1,6 @@
 use Rattle.std.proofs.Common.{[], ◌∷◌, ◌++◌, ap, sym, ◌∙◌}
-use Rattle.st_runner.specs.Measures.{size, unit_costs}
-use Rattle.st_runner.specs.Waiting.{framed}
+use Rattle.st_runner.specs.inner.Measures.{size, unit_costs}
+use Rattle.st_runner.specs.inner.Waiting.{framed}
 use Rattle.st_tree.specs.Meaning.{Exits, Normal}
 use Rattle.st_runner.proofs.Tops.{loop_ended, passed, stopped}
 use Rattle.st_runner.proofs.leaving.exit_loop.Goals as goal

@@ -1,5 +1,5 @@
 use Rattle.std.proofs.Common.{◌≡◌, length, max}
-use Rattle.st_runner.specs.Ready.{most_locals}
+use Rattle.st_runner.specs.inner.Ready.{most_locals}
 use Rattle.st_runner.proofs.reserve.most_locals.Given as goal
 
 abbrev pub decreases-loop-unit : goal.decreases-loop-unit

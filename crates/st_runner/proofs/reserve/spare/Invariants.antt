@@ -1,7 +1,7 @@
 use Rattle.std.proofs.Common.{◌≡◌, length}
 use Rattle.std.specs.Prelude.{vec_capacity}
 use Rattle.memory_areas.specs.declared.sizes.TheConstants.{ACTIVATIONS}
-use Rattle.st_runner.specs.View.{AreFrames}
+use Rattle.st_runner.specs.inner.View.{AreFrames}
 use Rattle.st_runner.proofs.reserve.spare.Given as goal
 
 abbrev pub invariant-loop : goal.invariant-loop

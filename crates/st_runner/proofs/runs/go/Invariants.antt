@@ -1,8 +1,8 @@
 use Rattle.std.proofs.Common.{◌≡◌, ℕ, ◌+◌}
 use Rattle.std.specs.Prelude.{vec_capacity}
-use Rattle.st_runner.specs.Ready.{IsReady, IsSettled}
-use Rattle.st_runner.specs.Waiting.{end_at}
-use Rattle.st_runner.specs.View.{state_of}
+use Rattle.st_runner.specs.inner.Ready.{IsReady, IsSettled}
+use Rattle.st_runner.specs.inner.Waiting.{end_at}
+use Rattle.st_runner.specs.inner.View.{state_of}
 use Rattle.st_tree.specs.Calls.{calls_to}
 use Rattle.st_runner.proofs.runs.go.Given as goal
 

@@ -1,6 +1,6 @@
 use Rattle.std.proofs.Common.{suc, sym, ap, ◌∙◌}
-use Rattle.st_runner.specs.Waiting.{end_at}
-use Rattle.st_runner.specs.View.{state_of}
+use Rattle.st_runner.specs.inner.Waiting.{end_at}
+use Rattle.st_runner.specs.inner.View.{state_of}
 use Rattle.st_runner.specs.declared.frame.At.{At}
 use Rattle.st_tree.specs.Calls.{calls_to}
 use Rattle.st_runner.proofs.runs.spend.Goals as goal

@@ -1,9 +1,9 @@
 use Rattle.std.proofs.Common.{◌≡◌, ℕ, suc}
 use Rattle.std.specs.Prelude.{vec_capacity}
-use Rattle.st_runner.specs.Measures.{work_weight}
-use Rattle.st_runner.specs.Ready.{IsReady}
-use Rattle.st_runner.specs.Waiting.{end_at}
-use Rattle.st_runner.specs.View.{state_of}
+use Rattle.st_runner.specs.inner.Measures.{work_weight}
+use Rattle.st_runner.specs.inner.Ready.{IsReady}
+use Rattle.st_runner.specs.inner.Waiting.{end_at}
+use Rattle.st_runner.specs.inner.View.{state_of}
 use Rattle.st_runner.specs.declared.frame.At.{At}
 use Rattle.st_runner.specs.declared.frame.At.TheVariants as at
 use Rattle.st_tree.specs.Meaning.{Calls}

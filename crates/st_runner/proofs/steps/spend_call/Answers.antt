@@ -2,7 +2,7 @@ use Rattle.std.proofs.Common.{◌≡◌, ◌+◌, ◌≤◌, List, length, slice
 use Rattle.std.specs.Prelude.{vec_capacity}
 use Rattle.std.specs.Vec.{vec_len}
 use Rattle.memory_areas.specs.Access.{and_then}
-use Rattle.st_runner.specs.View.{Changes, IsDeeper, state_of}
+use Rattle.st_runner.specs.inner.View.{Changes, IsDeeper, state_of}
 use Rattle.st_runner.proofs.Spending.{call_done, call_fault, call_may, call_room, call_there, indexed}
 use Rattle.st_tree.specs.Calls.{entered, located_actuals}
 use Rattle.st_tree.specs.declared.program.Located.{Located}

@@ -2,7 +2,7 @@ use Rattle.std.proofs.Common.{◌≡◌, ◌+◌, ◌≤◌, true, false, List, 
 use Rattle.std.specs.Prelude.{vec_capacity}
 use Rattle.std.specs.Vec.{vec_len}
 use Rattle.memory_areas.specs.Access.{and_then}
-use Rattle.st_runner.specs.View.{state_of}
+use Rattle.st_runner.specs.inner.View.{state_of}
 use Rattle.st_runner.proofs.Spending.{test_false, test_fault, test_is_fault, test_room, test_true}
 use Rattle.st_runner.proofs.Stepping.{ready_running}
 use Rattle.st_tree.specs.Value.{value}

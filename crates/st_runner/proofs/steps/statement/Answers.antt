@@ -1,7 +1,7 @@
 use Rattle.std.proofs.Common.{◌≡◌, List, Some, Ok, Err, sym, ap, subst, ◌∙◌}
-use Rattle.st_runner.specs.Choice.{labelled, picked}
-use Rattle.st_runner.specs.Ready.{Done}
-use Rattle.st_runner.specs.View.{Changes, state_of}
+use Rattle.st_runner.specs.inner.Choice.{labelled, picked}
+use Rattle.st_runner.specs.inner.Ready.{Done}
+use Rattle.st_runner.specs.inner.View.{Changes, state_of}
 use Rattle.st_runner.specs.declared.frame.At.TheVariants as at
 use Rattle.st_runner.proofs.Dones.{area_done, assign_done, case_done, case_fault, continue_done, exit_done, if_done, if_fault, return_done}
 use Rattle.st_tree.specs.Meaning.{area_assigned, assigned}

@@ -1,8 +1,9 @@
 use Rattle.std.proofs.Common.{◌≡◌, Bool, List, Some, sym, subst}
-use Rattle.st_runner.specs.Fitting.{Decides}
-use Rattle.st_runner.specs.Ready.{IsReady, most_formals, most_locals}
-use Rattle.st_runner.specs.View.{IsSound, state_of}
+use Rattle.st_runner.specs.inner.Fitting.{Decides}
+use Rattle.st_runner.specs.inner.Ready.{IsReady, most_formals, most_locals}
+use Rattle.st_runner.specs.inner.View.{IsSound, state_of}
 use Rattle.st_runner.specs.declared.frame.At.TheVariants as at
+use Rattle.st_runner.proofs.ProperRuns.{proper_runs}
 use Rattle.st_runner.proofs.Opening.{called_formals, called_locals, ends_as_run, fits_there, given_reached, ready_at_start}
 use Rattle.st_tree.specs.StRun.{FitsUnit, unit_called}
 use Rattle.st_tree.specs.declared.program.Pou.{Pou}
@@ -27,11 +28,12 @@ invariant_of-result c =
     let call = c.args.call.now in
     let unit = c.in-Some.unit.now in
     let work = c.in_ok-work.work in
+    let runnable = proper_runs tree c.requires.proper in
     let called = subst (λ (xs : List Pou). unit_called call.block xs ≡ Some unit) c.as_slice-units.ensures c.in-Some.ensures in
     let sound = subst (λ (xs : List Pou). IsSound (most_locals xs) (most_formals xs) c.in_ok-state.state) c.as_slice-units.ensures c.in_ok-state.ensures.sound in (
-      c.requires.runnable,
+      runnable,
       subst (λ n. IsReady tree n work.items at.Work c.in_ok-state.state) (sym c.in_ok-work.ensures.room)
-          (ready_at_start tree c.requires.runnable call unit c.as_slice-2.result c.in_ok-state.state work.items called c.as_slice-2.ensures c.in_ok-work.ensures.items sound c.in_ok-state.ensures.one),
+          (ready_at_start tree runnable call unit c.as_slice-2.result c.in_ok-state.state work.items called c.as_slice-2.ensures c.in_ok-work.ensures.items sound c.in_ok-state.ensures.one),
     )
 
 pub returns : goal.returns

@@ -1,7 +1,7 @@
 use Rattle.std.proofs.Common.{rules, ◌≡◌, suc, ◌+◌, ◌∷◌, [], List, length, take, Ok, sym, ap, subst, ◌∙◌, arith}
 use Rattle.std.proofs.lemmas.List.{length-append}
 use Rattle.st_runner.proofs.Actuals.{located_fault, located_more, reachable_push}
-use Rattle.st_runner.specs.View.{AreReachable, state_of}
+use Rattle.st_runner.specs.inner.View.{AreReachable, state_of}
 use Rattle.st_tree.specs.Calls.{located_actuals}
 use Rattle.st_tree.specs.declared.state.Reference.{Reference}
 use Rattle.st_runner.proofs.state.State.locate_actuals.Goals as goal

@@ -1,6 +1,6 @@
 use Rattle.std.proofs.Common.{◌≡◌, length, take, Ok}
 use Rattle.std.specs.Prelude.{vec_capacity}
-use Rattle.st_runner.specs.View.{AreReachable, state_of}
+use Rattle.st_runner.specs.inner.View.{AreReachable, state_of}
 use Rattle.st_tree.specs.Calls.{located_actuals}
 use Rattle.st_runner.proofs.state.State.locate_actuals.Given as goal
 

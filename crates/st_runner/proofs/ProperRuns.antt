@@ -8,11 +8,12 @@ use Rattle.memory_areas.specs.Memory.{IsActivation}
 use Rattle.memory_areas.specs.declared.place.Area.{Area}
 use Rattle.memory_areas.specs.declared.place.Area.TheVariants as place
 use Rattle.s7_base.specs.declared.word.Width.{Width}
-use Rattle.st_tree.specs.Costs.{Costs, arm_most, body_most, case_most, greatest, most}
+use Rattle.st_runner.specs.inner.Costs.{Costs, arm_most, body_most, case_most, most}
+use Rattle.st_tree.specs.Depth.{greatest}
 use Rattle.st_tree.specs.Nesting.{arm_nesting, body_nesting, case_nesting, nesting}
 use Rattle.st_tree.specs.PlaceRules.{is_located}
 use Rattle.st_tree.specs.Proper.{IsGlobal, IsProperUnit, Proper}
-use Rattle.st_tree.specs.Runnable.{AreGlobals, IsRunnable, formals_of_unit, misfit, misfit_costs, nesting_costs}
+use Rattle.st_runner.specs.inner.Runnable.{AreGlobals, IsRunnable, formals_of_unit, misfit, misfit_costs, nesting_costs}
 use Rattle.st_tree.specs.Values.{width_at}
 use Rattle.st_tree.specs.WellTyped.{Head, Sight, are_given, are_well_typed, each, each_case, has_type, head_of, is_arm, is_call, is_case_arm, is_seen, is_well_typed, sight_in, variable_type}
 use Rattle.st_tree.specs.declared.expr.StType.{StType}
@@ -24,7 +25,7 @@ use Rattle.st_tree.specs.declared.program.Located.{Located}
 use Rattle.st_tree.specs.declared.program.Pou.{Pou}
 use Rattle.st_tree.specs.declared.program.StProgram.{StProgram}
 use Rattle.st_tree.specs.declared.program.Stmt.{Stmt}
-use Rattle.st_tree.proofs.Equations.{most_area_write, most_arm, most_assign, most_case, most_case_arm, most_continue, most_exit, most_if, most_invoke, most_return, most_while}
+use Rattle.st_runner.proofs.CostEquations.{most_area_write, most_arm, most_assign, most_case, most_case_arm, most_continue, most_exit, most_if, most_invoke, most_return, most_while}
 use Rattle.st_tree.proofs.FittingCalls.{at_position}
 use Rattle.st_tree.proofs.Induction.{Each, InArm, InCase, StmtSteps, every_body}
 use Rattle.st_tree.proofs.TypedParts.{body_of_case, parts_of_arm, parts_of_arms, parts_of_body, parts_of_case, parts_of_cases, parts_of_if, parts_of_while}
@@ -32,35 +33,24 @@ use Rattle.st_tree.proofs.TypingEquations.{good_invoke, nesting_arm, nesting_cas
 
 -- IF, CASE and WHILE alone nest no deeper than a text does
 
-max_up : (a b c d : ℕ) → a ≤ c → b ≤ d → max a b ≤ max c d
-max_up a b c d h k = omega arith
-
 abbrev Shallow : Stmt → Type 0
 Shallow x = most nesting_costs x ≤ nesting x
 
 shallow_list : (xs : List Stmt) → Each Shallow xs → body_most nesting_costs xs ≤ body_nesting xs
 shallow_list [] all = omega arith
-shallow_list (x ∷ xs) all = max_up _ _ _ _ all.0 (shallow_list xs all.1)
+shallow_list (x ∷ xs) all = omega (arith, all.0, shallow_list xs all.1)
 
 shallow_arms : (arms : List Arm) → Each (InArm Shallow) arms
     → greatest (map (arm_most nesting_costs) arms) ≤ greatest (map arm_nesting arms)
 shallow_arms [] all = omega arith
 shallow_arms (x ∷ xs) all =
-    let m = most_arm nesting_costs x in
-    let n = nesting_arm x in
-    let own = shallow_list x.body all.0 in
-    let one : arm_most nesting_costs x ≤ arm_nesting x = omega arith in
-    max_up _ _ _ _ one (shallow_arms xs all.1)
+    omega (arith, most_arm nesting_costs x, nesting_arm x, shallow_list x.body all.0, shallow_arms xs all.1)
 
 shallow_cases : (arms : List CaseArm) → Each (InCase Shallow) arms
     → greatest (map (case_most nesting_costs) arms) ≤ greatest (map case_nesting arms)
 shallow_cases [] all = omega arith
 shallow_cases (x ∷ xs) all =
-    let m = most_case_arm nesting_costs x in
-    let n = nesting_case_arm x in
-    let own = shallow_list x.body all.0 in
-    let one : case_most nesting_costs x ≤ case_nesting x = omega arith in
-    max_up _ _ _ _ one (shallow_cases xs all.1)
+    omega (arith, most_case_arm nesting_costs x, nesting_case_arm x, shallow_list x.body all.0, shallow_cases xs all.1)
 
 -- what costs nothing
 free : (x : Stmt) → most nesting_costs x ≡ 0 → Shallow x
@@ -73,22 +63,11 @@ shallow_steps =
       area_write = λ w p e. free _ (most_area_write nesting_costs w p e);
       invoke = λ n actuals. free _ (most_invoke nesting_costs n actuals);
       choice = λ arms other all rest.
-          let m = most_if nesting_costs arms other in
-          let n = nesting_if arms other in
-          let a = shallow_arms arms all in
-          let b = shallow_list other rest in
-          omega arith;
+          omega (arith, most_if nesting_costs arms other, nesting_if arms other, shallow_arms arms all, shallow_list other rest);
       selection = λ e arms other all rest.
-          let m = most_case nesting_costs e arms other in
-          let n = nesting_case e arms other in
-          let a = shallow_cases arms all in
-          let b = shallow_list other rest in
-          omega arith;
+          omega (arith, most_case nesting_costs e arms other, nesting_case e arms other, shallow_cases arms all, shallow_list other rest);
       loop = λ test body all.
-          let m = most_while nesting_costs test body in
-          let n = nesting_while test body in
-          let a = shallow_list body all in
-          omega arith;
+          omega (arith, most_while nesting_costs test body, nesting_while test body, shallow_list body all);
       exit = free _ (most_exit nesting_costs);
       continue = free _ (most_continue nesting_costs);
       return = free _ (most_return nesting_costs);

@@ -1,5 +1,6 @@
 -- What statements cost at a time, by what a waiting frame and a call cost.
-use Rattle.std.specs.Prelude.{ℕ, ◌+◌, max, List, [], ◌∷◌, map}
+use Rattle.std.specs.Prelude.{ℕ, ◌+◌, max, List, map}
+use Rattle.st_tree.specs.Depth.{greatest}
 use Rattle.st_tree.specs.declared.expr.Var.{Var}
 use Rattle.st_tree.specs.declared.program.Arm.{Arm, fold-Arm}
 use Rattle.st_tree.specs.declared.program.CaseArm.{CaseArm, fold-CaseArm}
@@ -12,11 +13,6 @@ pub record Costs : Type 0 where
   pub again : ℕ
   pub unit : ℕ
   pub call : ℕ → List Var → ℕ
-
--- the greatest of some numbers
-abbrev pub greatest : List ℕ → ℕ
-greatest [] = 0
-greatest (n ∷ ns) = max n (greatest ns)
 
 -- the most that a statement costs at a time beside the frame that holds it
 abbrev pub most_step : Costs → S.Stmt-F ℕ ℕ ℕ → ℕ

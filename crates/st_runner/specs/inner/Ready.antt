@@ -2,11 +2,11 @@
 use Rattle.std.specs.Prelude.{◌≡◌, ℕ, suc, ◌+◌, ◌<◌, ◌≤◌, max, Bool, true, false, List, [], ◌∷◌, length, Some, Result, Ok, Err}
 use Rattle.s7_base.specs.declared.outcome.Fault.{Fault}
 use Rattle.memory_areas.specs.declared.sizes.TheConstants.{ACTIVATIONS}
-use Rattle.st_runner.specs.Measures.{reach, sizes, tall, units, weight, work_weight, depth_costs, stack_costs}
-use Rattle.st_tree.specs.Costs.{Costs, most}
-use Rattle.st_tree.specs.Runnable.{misfit_costs}
-use Rattle.st_runner.specs.Waiting.{end_at, ending}
-use Rattle.st_runner.specs.View.{IsSound, state_of}
+use Rattle.st_runner.specs.inner.Measures.{reach, sizes, tall, units, weight, work_weight, depth_costs, stack_costs}
+use Rattle.st_runner.specs.inner.Costs.{Costs, most}
+use Rattle.st_runner.specs.inner.Runnable.{misfit_costs}
+use Rattle.st_runner.specs.inner.Waiting.{end_at, ending}
+use Rattle.st_runner.specs.inner.View.{IsSound, state_of}
 use Rattle.st_runner.specs.declared.frame.At.{At}
 use Rattle.st_runner.specs.declared.frame.At.TheVariants as at
 use Rattle.st_runner.specs.declared.frame.Frame.{Frame}

@@ -1,8 +1,8 @@
 -- What EXIT, CONTINUE and RETURN leave of the frames that wait.
 use Rattle.std.specs.Prelude.{◌≡◌, ℕ, ◌≤◌, List}
-use Rattle.st_runner.specs.Measures.{tall, units, work_weight}
-use Rattle.st_tree.specs.Costs.{Costs}
-use Rattle.st_runner.specs.Waiting.{ending}
+use Rattle.st_runner.specs.inner.Measures.{tall, units, work_weight}
+use Rattle.st_runner.specs.inner.Costs.{Costs}
+use Rattle.st_runner.specs.inner.Waiting.{ending}
 use Rattle.st_runner.specs.declared.frame.Frame.{Frame}
 use Rattle.st_tree.specs.Meaning.{Out, Calls}
 use Rattle.st_tree.specs.State.{State}

@@ -1,9 +1,11 @@
--- What a tree keeps that can be run: its chains of calls and its statements nest no deeper than they may,
--- its calls give as many actuals as there are formals, and its globals stand for areas that a memory has.
-use Rattle.std.specs.Prelude.{◌≡◌, ℕ, zero, suc, ◌≤◌, ◌==◌, if◌then◌else◌, List, [], ◌∷◌, length, Option, Some, None, slice_get}
+-- What a runner needs of a tree, as costs of its statements: its chains of calls and its statements nest no
+-- deeper than they may, its calls give as many actuals as there are formals, and its globals stand for areas
+-- that a memory has.
+use Rattle.std.specs.Prelude.{◌≡◌, ℕ, ◌≤◌, ◌==◌, if◌then◌else◌, List, [], ◌∷◌, length, Option, Some, None, slice_get}
 use Rattle.memory_areas.specs.Memory.{IsActivation}
 use Rattle.memory_areas.specs.declared.sizes.TheConstants.{ACTIVATIONS}
-use Rattle.st_tree.specs.Costs.{Costs, body_most}
+use Rattle.st_runner.specs.inner.Costs.{Costs, body_most}
+use Rattle.st_tree.specs.Chains.{chain_of}
 use Rattle.st_tree.specs.Depth.{deepest}
 use Rattle.st_tree.specs.declared.expr.Var.{Var}
 use Rattle.st_tree.specs.declared.program.Located.{Located}
@@ -15,22 +17,6 @@ use Rattle.st_tree.specs.declared.program.StProgram.{StProgram}
 -- a unit costs one, and each call what its unit's chain has
 abbrev pub chain_costs : (ℕ → ℕ) → Costs
 chain_costs chain = record { rest = 0; again = 0; unit = 1; call = λ n actuals. chain n }
-
--- how many units the longest chain of calls has that begins at a unit, counted up to a number; a unit that
--- is not there counts as one whose chain never ends
-abbrev pub unit_chain : (ℕ → ℕ) → ℕ → Option Pou → ℕ
-unit_chain chain most None = suc most
-unit_chain chain most (Some unit) = suc (body_most (chain_costs chain) unit.body)
-
--- how many units the longest chain of calls has that begins at the unit of a position, counted up to a
--- number
-abbrev pub chain_to : ℕ → StProgram → ℕ → ℕ
-chain_to zero tree n = 0
-chain_to (suc most) tree n = unit_chain (chain_to most tree) most (slice_get tree.pous n)
-
--- the longest chain from a unit, where 9 stands for all that are longer than 8
-abbrev pub chain_of : StProgram → ℕ → ℕ
-chain_of tree n = chain_to (suc ACTIVATIONS) tree n
 
 -- Nesting
 
@@ -67,8 +53,7 @@ pub record IsRunnableUnit (tree : StProgram) (n : ℕ) (unit : Pou) : Type 0 whe
   pub nesting : body_most nesting_costs unit.body ≤ deepest
   pub actuals : body_most (misfit_costs tree) unit.body ≡ 0
 
--- what a runner asks of a tree: what each of its units keeps, and globals that stand for areas of a
--- memory
+-- what a runner needs of a tree: what each of its units keeps, and globals that stand for areas of a memory
 pub record IsRunnable (tree : StProgram) : Type 0 where
   pub units : (n : ℕ) (unit : Pou) → slice_get tree.pous n ≡ Some unit → IsRunnableUnit tree n unit
   pub globals : AreGlobals tree.globals

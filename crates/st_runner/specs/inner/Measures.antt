@@ -5,8 +5,10 @@ use Rattle.st_runner.specs.declared.frame.At.TheVariants as at
 use Rattle.st_runner.specs.declared.frame.Frame.{Frame}
 use Rattle.st_runner.specs.declared.frame.Frame.TheVariants as frame
 use Rattle.st_runner.specs.declared.steps.TheConstants.{UNIT_FRAMES}
-use Rattle.st_tree.specs.Costs.{Costs, body_most, greatest}
-use Rattle.st_tree.specs.Runnable.{chain_costs, chain_of}
+use Rattle.st_runner.specs.inner.Costs.{Costs, body_most}
+use Rattle.st_tree.specs.Depth.{greatest}
+use Rattle.st_runner.specs.inner.Runnable.{chain_costs}
+use Rattle.st_tree.specs.Chains.{chain_of}
 use Rattle.st_tree.specs.declared.expr.Var.{Var}
 use Rattle.st_tree.specs.declared.program.Arm.{Arm, fold-Arm}
 use Rattle.st_tree.specs.declared.program.CaseArm.{CaseArm, fold-CaseArm}

@@ -1,0 +1,51 @@
+-- What a body costs by its calls alone is the greatest that the units give which it calls.
+use Rattle.std.proofs.Common.{◌≡◌, ℕ, ◌+◌, max, List, [], ◌∷◌, map, refl, sym, ap, ◌∙◌, arith}
+use Rattle.st_runner.proofs.CostEquations.{most_area_write, most_arm, most_assign, most_case, most_case_arm, most_continue, most_exit, most_if, most_invoke, most_return, most_while}
+use Rattle.st_runner.specs.inner.Costs.{Costs, arm_most, body_most, case_most, most}
+use Rattle.st_runner.specs.inner.Runnable.{chain_costs}
+use Rattle.st_tree.proofs.CalledMost.{called_area_write, called_assign, called_case, called_continue, called_exit, called_first, called_if, called_invoke, called_most, called_return, called_while}
+use Rattle.st_tree.proofs.Induction.{Each, InArm, InCase, StmtSteps, every_body}
+use Rattle.st_tree.specs.Depth.{greatest}
+use Rattle.st_tree.specs.declared.program.Arm.{Arm}
+use Rattle.st_tree.specs.declared.program.CaseArm.{CaseArm}
+use Rattle.st_tree.specs.declared.program.Stmt.{Stmt}
+
+module _ (f : ℕ → ℕ) where
+  abbrev k : Costs
+  k = chain_costs f
+
+  abbrev Same : Stmt → Type 0
+  Same x = most k x ≡ called_most f (x ∷ [])
+
+  body_same : (xs : List Stmt) → Each Same xs → body_most k xs ≡ called_most f xs
+  body_same [] all = refl
+  body_same (x ∷ xs) all = omega (arith, called_first f x xs, all.0, body_same xs all.1)
+
+  arms_same : (arms : List Arm) → Each (InArm Same) arms
+      → greatest (map (arm_most k) arms) ≡ greatest (map (λ (arm : Arm). called_most f arm.body) arms)
+  arms_same [] all = refl
+  arms_same (x ∷ xs) all = omega (arith, most_arm k x, body_same x.body all.0, arms_same xs all.1)
+
+  cases_same : (arms : List CaseArm) → Each (InCase Same) arms
+      → greatest (map (case_most k) arms) ≡ greatest (map (λ (arm : CaseArm). called_most f arm.body) arms)
+  cases_same [] all = refl
+  cases_same (x ∷ xs) all = omega (arith, most_case_arm k x, body_same x.body all.0, cases_same xs all.1)
+
+  steps : StmtSteps Same
+  steps =
+      record {
+        assign = λ v e. most_assign k v e ∙ sym (called_assign f v e);
+        area_write = λ w p e. most_area_write k w p e ∙ sym (called_area_write f w p e);
+        invoke = λ n actuals. most_invoke k n actuals ∙ sym (called_invoke f n actuals);
+        choice = λ arms other all rest.
+            omega (arith, most_if k arms other, called_if f arms other, arms_same arms all, body_same other rest);
+        selection = λ e arms other all rest.
+            omega (arith, most_case k e arms other, called_case f e arms other, cases_same arms all, body_same other rest);
+        loop = λ test body all. omega (arith, most_while k test body, called_while f test body, body_same body all);
+        exit = most_exit k ∙ sym (called_exit f);
+        continue = most_continue k ∙ sym (called_continue f);
+        return = most_return k ∙ sym (called_return f);
+      }
+
+  pub called_cost : (body : List Stmt) → body_most k body ≡ called_most f body
+  called_cost body = body_same body (every_body Same steps body)

@@ -1,0 +1,10 @@
+pub mod Choice
+pub mod Costs
+pub mod Fitting
+pub mod Leaving
+pub mod Measures
+pub mod Plain
+pub mod Ready
+pub mod Runnable
+pub mod View
+pub mod Waiting
