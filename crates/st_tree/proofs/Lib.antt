@@ -18,6 +18,7 @@ pub mod TypingEquations
 pub mod Units
 mod CallRows
 mod FittingRows
+mod NameWords
 mod OperatorRows
 mod PartRows
 mod ProperRows

@@ -1,9 +1,10 @@
 //! The types of expressions by those of their operands.
 ghost use Rattle.std.specs.Prelude.{◌≡◌};
-ghost use Rattle.st_rules.specs.Types.{bits_of_type, bits_of_width, has_bits, has_numbers, has_width, is_selector, is_type, place_of, type_of_binary, type_of_choice, type_of_conversion, type_of_read, type_of_shift, type_of_unary, type_on_equals, where_true};
+ghost use Rattle.st_tree.specs.TypeRules.{bits_of_type, bits_of_width, has_bits, has_numbers, has_width, is_selector, is_type, place_of, type_of_binary, type_of_choice, type_of_conversion, type_of_read, type_of_shift, type_of_unary, type_on_equals, where_true};
 
+use crate::expr::{BinaryOp, StType, UnaryOp};
+use crate::types::type_of_width;
 use s7_base::Width;
-use st_tree::{BinaryOp, StType, UnaryOp, type_of_width};
 
 fn place_of(ty: StType) -> u32
     ensures { result ≡ place_of ty }

@@ -1,11 +1,11 @@
-//! Words in capitals.
+//! The words and letters of the language, all in capitals, and the precedence of operators.
 ghost use Rattle.std.specs.Prelude.{◌≡◌};
-ghost use Rattle.st_tree.specs.Words.{register_word, area_word, width_word, type_word, prefix_word, infix_word, shift_word};
+ghost use Rattle.st_tree.specs.Words.{register_word, area_word, width_word, type_word, prefix_word, operator_word, shift_word};
 ghost use Rattle.st_tree.specs.Form.{prefix_level, infix_level};
 
+use crate::expr::{BinaryOp, ShiftOp, StType, UnaryOp};
 use memory_areas::AreaName;
 use s7_base::{Reg, Width};
-use st_tree::{BinaryOp, ShiftOp, StType, UnaryOp};
 
 /// The name of a register variable.
 pub fn register_word(register: Reg) -> &'static str
@@ -83,25 +83,25 @@ pub fn prefix_word(op: UnaryOp) -> &'static str
     }
 }
 
-/// An operator between its operands, with a blank on either side.
-pub fn infix_word(op: BinaryOp) -> &'static str
-    ensures { result.now ≡ infix_word op }
+/// An operator between its operands.
+pub fn operator_word(op: BinaryOp) -> &'static str
+    ensures { result.now ≡ operator_word op }
 {
     match op {
-        BinaryOp::Mul => " * ",
-        BinaryOp::Div => " / ",
-        BinaryOp::Mod => " MOD ",
-        BinaryOp::Add => " + ",
-        BinaryOp::Sub => " - ",
-        BinaryOp::Lt => " < ",
-        BinaryOp::Gt => " > ",
-        BinaryOp::Le => " <= ",
-        BinaryOp::Ge => " >= ",
-        BinaryOp::Eq => " = ",
-        BinaryOp::Ne => " <> ",
-        BinaryOp::And => " AND ",
-        BinaryOp::Xor => " XOR ",
-        BinaryOp::Or => " OR ",
+        BinaryOp::Mul => "*",
+        BinaryOp::Div => "/",
+        BinaryOp::Mod => "MOD",
+        BinaryOp::Add => "+",
+        BinaryOp::Sub => "-",
+        BinaryOp::Lt => "<",
+        BinaryOp::Gt => ">",
+        BinaryOp::Le => "<=",
+        BinaryOp::Ge => ">=",
+        BinaryOp::Eq => "=",
+        BinaryOp::Ne => "<>",
+        BinaryOp::And => "AND",
+        BinaryOp::Xor => "XOR",
+        BinaryOp::Or => "OR",
     }
 }
 
