@@ -1,6 +1,6 @@
 -- A body without jumps: its run is what its statements mean, with steps enough.
 use Rattle.std.proofs.Common.{◌≡◌, ℕ, zero, suc, ◌+◌, ◌≤◌, Bool, true, false, List, [], ◌∷◌, ◌++◌, length, pos, Option, Some, None, Result, Ok, Err, refl, sym, ap, ◌∙◌, arith}
-use Rattle.std.specs.Prelude.{flat_map, option_and_then, slice_get}
+use Rattle.std.specs.Prelude.{option_and_then, slice_get}
 use Rattle.memory_areas.specs.Access.{and_then, read_bit, write_bit}
 use Rattle.memory_areas.specs.Areas.{Areas, Contents, with_areas}
 use Rattle.memory_areas.specs.declared.place.AreaName.{AreaName}
@@ -10,7 +10,7 @@ use Rattle.s7_base.specs.declared.check.Check.TheVariants as check
 use Rattle.s7_base.specs.declared.outcome.Fault.{Fault}
 use Rattle.s7_base.specs.declared.register.Reg.TheVariants as reg
 use Rattle.s7_base.specs.StatusBits.{orb_after, rlo_after, StatusBits, after_check, after_assign}
-use Rattle.stl_tree.specs.Accepted.{EndsBehind, EndsOnce}
+use Rattle.stl_tree.specs.Accepted.{IsEnded}
 use Rattle.stl_tree.specs.Instructions.{effect_of}
 use Rattle.stl_tree.specs.Now.{Now, next, with_memory, with_status, with_value}
 use Rattle.stl_tree.specs.Registers.{RegisterValues, start}
@@ -28,7 +28,7 @@ use Rattle.stl_tree.proofs.Runs.{over_stays}
 use Rattle.st_tree.specs.State.{place_of as place_of_variable, State, with_register, read, write}
 use Rattle.st_tree.specs.Value.{value}
 use Rattle.st_tree.specs.Values.{flag, is_set, number_of}
-use Rattle.st_tree.specs.Meaning.{Calls, body_meaning}
+use Rattle.st_tree.specs.Meaning.{Calls, Returns, body_meaning, then_do}
 use Rattle.st_tree.specs.StRun.{end_seen, state_at_start}
 use Rattle.st_tree.specs.declared.program.Located.{Located}
 use Rattle.st_tree.specs.declared.program.Pou.{Pou}
@@ -40,8 +40,8 @@ use Rattle.st_tree.specs.declared.expr.Var.{Var}
 use Rattle.st_tree.specs.declared.expr.Var.TheVariants as var
 use Rattle.st_tree.specs.declared.program.Stmt.{Stmt}
 use Rattle.st_tree.specs.declared.program.Stmt.TheVariants as stmt
-use Rattle.st_tree.proofs.Equations.{assign_goes_on, assign_stops_at_value, assign_stops_at_place, value_literal, value_read}
-use Rattle.stl_translate.specs.inner.Translation.{bit_of, literal_of, next_rlo, read_of, set_of, statements_of}
+use Rattle.st_tree.proofs.Equations.{assign_goes_on, assign_stops_at_value, assign_stops_at_place, meaning_return, value_literal, value_read}
+use Rattle.stl_translate.specs.inner.Translation.{bit_of, is_last, lines_of, literal_of, next_rlo, read_of, set_of, statements_of}
 use Rattle.stl_translate.proofs.SameLemmas.{AreAlike, checked_value, checked_fault}
 
 -- Operands
@@ -154,19 +154,21 @@ module _ (g : List Located) (calls : Calls) (n : ℕ) (p : Program) (block at : 
       ended n s.memory (Some f)
       ∙ sym (ap end_seen (assign_stops_at_place g calls o (read_of reg.Rlo) (set_of reg.Nfc (literal_of false) ∷ rest) units s (flag r.status.rlo) f rlo_value (bit_not_written g a byte x r s r.status.rlo f alike e)))
 
--- the statements of a body
-abbrev pub lines_of : List Instr → List Stmt
-lines_of body = flat_map (λ (i : Instr). statements_of i.op) body
+-- an end word that is not the last
+returns : (g : List Located) (calls : Calls) (rest : List Stmt) (units : ℕ) (s : State)
+    → body_meaning g calls (stmt.Return ∷ rest) units s ≡ Returns units s
+returns g calls rest units s = ap (λ o. then_do o (body_meaning g calls rest)) (meaning_return g calls units s)
 
-one_same : (g : List Located) (calls : Calls) (o : Op) (is : List Instr) → EndsBehind o is (EndsOnce is) → (n : ℕ) (p : Program) (block at units : ℕ) →
-    (EndsOnce is → GoesOn g calls n p block (at + 1) (lines_of is) units) → (r : RegisterValues) (s : State) → AreAlike r s →
-    end_of (steps_on n (after_effect p (here block at r s.memory) (effect_of o (here block at r s.memory)))) ≡ end_seen (body_meaning g calls (statements_of o ++ lines_of is) units s)
-one_same g calls (op.Check c (arg.At (operand.Direct a byte x))) is ends n p block at units more r s alike =
-    check_by g calls n p block at (lines_of is) units (more ends) r s alike c a byte x (read_bit (place_by a byte x r) s.memory) refl
-one_same g calls (op.Assign (operand.Direct a byte x)) is ends n p block at units more r s alike =
-    assign_by g calls n p block at (lines_of is) units (more ends) r s alike a byte x (write_bit (place_by a byte x r) r.status.rlo s.memory) refl
-one_same g calls op.BlockEnd is ends n p block at units more r s alike =
-    ended n s.memory None ∙ sym (ap (λ (xs : List Instr). end_seen (body_meaning g calls (lines_of xs) units s)) ends)
+one_same : (g : List Located) (calls : Calls) (o : Op) (is : List Instr) → (n : ℕ) (p : Program) (block at units : ℕ) →
+    ((o ≡ op.BlockEnd → ⊥) → GoesOn g calls n p block (at + 1) (lines_of is) units) → (r : RegisterValues) (s : State) → AreAlike r s →
+    end_of (steps_on n (after_effect p (here block at r s.memory) (effect_of o (here block at r s.memory)))) ≡ end_seen (body_meaning g calls (statements_of o (is_last is) ++ lines_of is) units s)
+one_same g calls (op.Check c (arg.At (operand.Direct a byte x))) is n p block at units more r s alike =
+    check_by g calls n p block at (lines_of is) units (more (λ e. cc)) r s alike c a byte x (read_bit (place_by a byte x r) s.memory) refl
+one_same g calls (op.Assign (operand.Direct a byte x)) is n p block at units more r s alike =
+    assign_by g calls n p block at (lines_of is) units (more (λ e. cc)) r s alike a byte x (write_bit (place_by a byte x r) r.status.rlo s.memory) refl
+one_same g calls op.BlockEnd [] n p block at units more r s alike = ended n s.memory None
+one_same g calls op.BlockEnd (i ∷ is) n p block at units more r s alike =
+    ended n s.memory None ∙ sym (ap end_seen (returns g calls (lines_of (i ∷ is)) units s))
 
 -- A whole body
 
@@ -184,18 +186,23 @@ has_rest body at i is has j = let e : at + 1 + j ≡ at + suc j = omega arith in
 instruction_there : (p : Program) (block at : ℕ) (b : Block) → slice_get p.blocks block ≡ Some b → (r : RegisterValues) (m : Contents) → instruction p (here block at r m).activations ≡ slice_get b.body at
 instruction_there p block at b there r m = ap (option_and_then (λ (b : Block). slice_get b.body at)) there
 
-body_from_same : (g : List Located) (calls : Calls) (p : Program) (block : ℕ) (b : Block) → slice_get p.blocks block ≡ Some b → (is : List Instr) → EndsOnce is → (at : ℕ) → HasFrom b.body at is → (n units : ℕ) → length is ≤ n →
+-- what stands behind another instruction than an end word is ended as the body is
+ended_behind : (i : Instr) (is : List Instr) → IsEnded (i ∷ is) → (i.op ≡ op.BlockEnd → ⊥) → IsEnded is
+ended_behind i [] ends other = absurd (other ends)
+ended_behind i (j ∷ is) ends other = ends
+
+body_from_same : (g : List Located) (calls : Calls) (p : Program) (block : ℕ) (b : Block) → slice_get p.blocks block ≡ Some b → (is : List Instr) → IsEnded is → (at : ℕ) → HasFrom b.body at is → (n units : ℕ) → length is ≤ n →
     GoesOn g calls n p block at (lines_of is) units
 body_from_same g calls p block b there [] ends at has n units h r s alike = elim ends [ ]
 body_from_same g calls p block b there (i ∷ is) ends at has zero units h r s alike = absurd (omega arith)
 body_from_same g calls p block b there (i ∷ is) ends at has (suc n) units h r s alike =
     let fewer : length is ≤ n = omega arith in
     ap (λ o. end_of (steps_on n (step_by o p (here block at r s.memory)))) (instruction_there p block at b there r s.memory ∙ has_first b.body at i is has)
-    ∙ one_same g calls i.op is ends n p block at units
-    (λ e. body_from_same g calls p block b there is e (at + 1) (has_rest b.body at i is has) n units fewer) r s alike
+    ∙ one_same g calls i.op is n p block at units
+    (λ other. body_from_same g calls p block b there is (ended_behind i is ends other) (at + 1) (has_rest b.body at i is has) n units fewer) r s alike
 
 -- from the start of a call of a program, with as many steps as the body has instructions
-pub body_same : (g : List Located) (calls : Calls) (unit : Pou) (call : Call) (number : ℕ) → call.block ≡ name.Ob number → (p : Program) (block : ℕ) (b : Block) → slice_get p.blocks block ≡ Some b → EndsOnce b.body →
+pub body_same : (g : List Located) (calls : Calls) (unit : Pou) (call : Call) (number : ℕ) → call.block ≡ name.Ob number → (p : Program) (block : ℕ) (b : Block) → slice_get p.blocks block ≡ Some b → IsEnded b.body →
     (n units : ℕ) (memory : Areas) → length b.body ≤ n →
     end_of (steps_on n (running p (here block 0 start (with_areas memory)))) ≡ end_seen (body_meaning g calls (lines_of b.body) units (state_at_start unit call memory))
 body_same g calls unit call number named p block b there ends n units memory h =

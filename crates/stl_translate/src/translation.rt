@@ -1,21 +1,23 @@
 //! From an STL program to the tree of an ST text, block by block and instruction by instruction.
 //!
-//! Each instruction but the end word becomes two assignments, so the text keeps the order of the source.
+//! There is a unit for each block. Each instruction but the end word becomes two assignments, so the text
+//! keeps the order of the source.
 ghost use Rattle.std.specs.Prelude.{◌≡◌, ◌++◌, decimal, IfOk, OnOk};
+ghost use Rattle.st_tree.specs.Proper.{Proper};
 ghost use Rattle.stl_tree.specs.Accepted.{IsAccepted};
-ghost use Rattle.stl_translate.specs.inner.Translation.{read_of, not_of, and_of, or_of, xor_of, literal_of, rlo_before_and, rlo_before_or, next_rlo, bit_of, set_of, statements_of, unit_name_of, unit_of, translation};
+ghost use Rattle.stl_translate.specs.inner.Translation.{read_of, not_of, and_of, or_of, xor_of, literal_of, rlo_before_and, rlo_before_or, next_rlo, bit_of, set_of, is_last, statements_of, unit_name_of, unit_of};
 ghost use Rattle.stl_translate.specs.Same.{Same};
 
 use itoa::Buffer;
 use s7_base::{Boxed, Check, List, NoMemory, Reg, Width};
 use st_tree::{BinaryOp, Expr, Pou, StProgram, StType, Stmt, UnaryOp, Var};
 use std::alloc::Global;
-use stl_tree::{BitArg, Block, BlockName, Op, Operand, Program};
+use stl_tree::{BitArg, Block, BlockName, Instr, Op, Operand, Program};
 
-/// The text's tree: a unit for each block, in the order of the blocks. It means the same as the program.
+/// The tree of a text that means the same as the program, and that a text can have.
 pub fn translate(alloc: Global, program: &Program) -> Result<StProgram, NoMemory>
     requires { IsAccepted program.now }
-    ensures tree { IfOk result (λ tree. tree ≡ translation program.now) }
+    ensures proper { IfOk result Proper }
     ensures same { IfOk result (λ tree. Same program.now tree) }
 {
     let mut pous = List::new(alloc);
@@ -34,8 +36,10 @@ fn unit(alloc: Global, block: &Block) -> Result<Pou, NoMemory>
 {
     let name = unit_name(alloc, block.name)?;
     let mut body = List::new(alloc);
-    for instr in block.body.as_slice() {
-        push_statements(alloc, &mut body, &instr.op)?;
+    let mut rest = block.body.as_slice();
+    while let Some((instr, behind)) = rest.split_first() {
+        push_statements(alloc, &mut body, &instr.op, is_last(behind))?;
+        rest = behind;
     }
     Ok(Pou {
         program: true,
@@ -64,8 +68,24 @@ fn numbered(alloc: Global, word: &str, number: u16) -> Result<List<u8>, NoMemory
     Ok(List::from_vec(text))
 }
 
-fn push_statements(alloc: Global, body: &mut List<Stmt>, op: &Op) -> Result<(), NoMemory>
-    ensures { OnOk result (body.new ≡ body.old ++ statements_of op.now) }
+/// No instruction follows.
+fn is_last(behind: &[Instr]) -> bool
+    ensures { result ≡ is_last behind.now }
+{
+    match behind {
+        [] => true,
+        _ => false,
+    }
+}
+
+/// Pushes the statements of an instruction, the last of its body or not.
+fn push_statements(
+    alloc: Global,
+    body: &mut List<Stmt>,
+    op: &Op,
+    last: bool,
+) -> Result<(), NoMemory>
+    ensures { OnOk result (body.new ≡ body.old ++ statements_of op.now last) }
 {
     match op {
         Op::Check(check, BitArg::At(operand)) => {
@@ -77,7 +97,12 @@ fn push_statements(alloc: Global, body: &mut List<Stmt>, op: &Op) -> Result<(), 
             body.push(Stmt::Assign(bit(operand), read(Reg::Rlo)))?;
             body.push(set(Reg::Nfc, literal(false)))
         }
-        Op::BlockEnd => Ok(()),
+        Op::BlockEnd => {
+            if last {
+                return Ok(());
+            }
+            body.push(Stmt::Return)
+        }
     }
 }
 

@@ -10,7 +10,7 @@ use Rattle.s7_base.specs.declared.reason.Line.{Line}
 use Rattle.s7_base.specs.declared.reason.Reason.{Reason}
 use Rattle.s7_base.specs.declared.reason.Rejection.{Rejection}
 use Rattle.s7_base.specs.declared.token.Token.{Token}
-use Rattle.stl_tree.specs.Accepted.{EndsOnce, HasOperand, HaveOperands, IsAccepted, IsAcceptedBlock, IsBlockNumber, VerdictIsAccepted}
+use Rattle.stl_tree.specs.Accepted.{HasOperand, HaveOperands, IsAccepted, IsAcceptedBlock, IsBlockNumber, IsEnded, VerdictIsAccepted}
 use Rattle.stl_tree.specs.Items.{statement_op, statement_of, statement_size, is_complete, misfit_reason, in_body, heading_name, heading_number, heading_with, block_number, number_of}
 use Rattle.stl_tree.specs.Verdict.{body_from, with_end, with_statement, begin_from, one_block, with_heading, program_of, judged, verdict}
 use Rattle.stl_tree.specs.Words.{is_word, is_sign, is_word_kind}
@@ -42,7 +42,7 @@ statement_said tokens = choose (is_complete tokens) _ _ (from_option _ (misfit_r
 
 record IsBody (body : List Instr) : Type 0 where
   operands : HaveOperands body
-  ends : EndsOnce body
+  ends : IsEnded body
 
 abbrev Body : Result (List Instr) Rejection → Type 0
 Body r = IfOk r IsBody
@@ -50,12 +50,21 @@ Body r = IfOk r IsBody
 abbrev Holds : Instr → Type 0
 Holds i = HasOperand i.op
 
+operand_of : (o : Op) → IsStatement o → HasOperand o
+operand_of (op.Check c b) h = h
+operand_of (op.Assign o) h = h
+operand_of op.BlockEnd h = tt
+
+ends_behind : (i : Instr) (rest : List Instr) → IsEnded rest → IsEnded (i ∷ rest)
+ends_behind i [] h = absurd h
+ends_behind i (j ∷ rest) h = h
+
 statement_before : (line : Line) (o : Op) (rest : List Instr) → IsStatement o → IsBody rest → IsBody (record { line = line; op = o } ∷ rest)
-statement_before line (op.Check c b) rest h body =
-    record { operands = All-cons Holds (record { line = line; op = op.Check c b }) rest h body.operands; ends = body.ends }
-statement_before line (op.Assign o) rest h body =
-    record { operands = All-cons Holds (record { line = line; op = op.Assign o }) rest h body.operands; ends = body.ends }
-statement_before line op.BlockEnd rest h body = elim h [ ]
+statement_before line o rest h body =
+    record {
+      operands = All-cons Holds (record { line = line; op = o }) rest (operand_of o h) body.operands;
+      ends = ends_behind (record { line = line; op = o }) rest body.ends;
+    }
 
 choose_body : (b : Bool) (x y : Result (List Instr) Rejection) → Body x → Body y → Body (if b then x else y)
 choose_body true x y p q = p
@@ -128,6 +137,7 @@ block_is : (name : BlockName) (line : Line) (body : Result (List Instr) Rejectio
 block_is name line (Ok body) n h =
     let block : Block = record { name = name; line = line; formals = []; body = body } in
     record {
+      some = λ e. cc;
       blocks = All-cons IsAcceptedBlock block [] (record { operands = h.operands; ends = h.ends; number = n; formals = refl }) (All-nil IsAcceptedBlock);
       names = (refl, tt);
       alone = record { dbs = refl; instances = refl; symbols = refl };

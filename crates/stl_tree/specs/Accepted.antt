@@ -1,5 +1,5 @@
 -- The rules that a program keeps where the verdict gives it.
-use Rattle.std.specs.Prelude.{◌≡◌, ℕ, ◌≤◌, true, false, List, [], ◌∷◌, All, None, Ok}
+use Rattle.std.specs.Prelude.{◌≡◌, ◌≢◌, ℕ, ◌≤◌, true, false, List, [], ◌∷◌, All, None, Ok}
 use Rattle.memory_areas.specs.Access.{is_byte_in, is_unaligned}
 use Rattle.memory_areas.specs.Areas.{AreBlocks}
 use Rattle.s7_base.specs.declared.word.Width.{Width}
@@ -35,15 +35,11 @@ HaveOperands body = All (λ (i : Instr). HasOperand i.op) body
 
 -- Ends
 
--- nothing stands after an end word; after another instruction the body is as it should be
-abbrev pub EndsBehind : Op → List Instr → Type 0 → Type 0
-EndsBehind op.BlockEnd rest more = rest ≡ []
-EndsBehind other rest more = more
-
--- a body has one end word, its last instruction
-abbrev pub EndsOnce : List Instr → Type 0
-EndsOnce [] = ⊥
-EndsOnce (i ∷ rest) = EndsBehind i.op rest (EndsOnce rest)
+-- the last instruction of a body is an end word
+abbrev pub IsEnded : List Instr → Type 0
+IsEnded [] = ⊥
+IsEnded (i ∷ []) = i.op ≡ op.BlockEnd
+IsEnded (i ∷ j ∷ rest) = IsEnded (j ∷ rest)
 
 -- Numbers and names
 
@@ -60,11 +56,11 @@ AreDistinct (b ∷ rest) = (block_named b.name rest ≡ None) × AreDistinct res
 
 -- The rules, a record a group
 
--- what stands in a block: its operands lie in their areas, it has one end word, its number is in range, and
--- it has no formals, since none are read yet
+-- what stands in a block: its operands lie in their areas, it ends with an end word, its number is in range,
+-- and it has no formals, since none are read yet
 pub record IsAcceptedBlock (block : Block) : Type 0 where
   pub operands : HaveOperands block.body
-  pub ends : EndsOnce block.body
+  pub ends : IsEnded block.body
   pub number : IsBlockNumber block.name
   pub formals : block.formals ≡ []
 
@@ -74,8 +70,10 @@ pub record HasBlocksAlone (program : Program) : Type 0 where
   pub instances : program.instances ≡ []
   pub symbols : program.symbols ≡ []
 
--- a program keeps the rules: each of its blocks does, no two have one name, and nothing else stands there
+-- a program keeps the rules: there is a block, each of its blocks keeps them, no two have one name, and
+-- nothing else stands there
 pub record IsAccepted (program : Program) : Type 0 where
+  pub some : program.blocks ≢ []
   pub blocks : All IsAcceptedBlock program.blocks
   pub names : AreDistinct program.blocks
   pub alone : HasBlocksAlone program

@@ -1,5 +1,5 @@
--- What a program says in ST: a unit for each block, two assignments for each instruction.
-use Rattle.std.specs.Prelude.{ℕ, pos, Bool, true, false, List, [], ◌∷◌, ◌++◌, map, flat_map, codes, decimal, if◌then◌else◌}
+-- What a program says in ST: a unit for each block, two assignments for each instruction but the end word.
+use Rattle.std.specs.Prelude.{ℕ, pos, Bool, true, false, List, [], ◌∷◌, ◌++◌, map, codes, decimal, if◌then◌else◌}
 use Rattle.s7_base.specs.declared.check.Check.{Check}
 use Rattle.s7_base.specs.declared.check.Check.TheVariants as check
 use Rattle.s7_base.specs.declared.register.Reg.{Reg}
@@ -76,12 +76,22 @@ bit_of (operand.Direct a byte bit) = var.Direct a byte bit width.Bit
 abbrev pub set_of : Reg → Expr → Stmt
 set_of r e = stmt.Assign (var.Register r) e
 
--- the statements of an instruction
-abbrev pub statements_of : Op → List Stmt
-statements_of (op.Check c (arg.At o)) =
+-- the statements of an instruction, the last of its body or not
+abbrev pub statements_of : Op → Bool → List Stmt
+statements_of (op.Check c (arg.At o)) last =
     set_of reg.Rlo (next_rlo c (expr.Read (bit_of o))) ∷ set_of reg.Nfc (literal_of true) ∷ []
-statements_of (op.Assign o) = stmt.Assign (bit_of o) (read_of reg.Rlo) ∷ set_of reg.Nfc (literal_of false) ∷ []
-statements_of op.BlockEnd = []
+statements_of (op.Assign o) last = stmt.Assign (bit_of o) (read_of reg.Rlo) ∷ set_of reg.Nfc (literal_of false) ∷ []
+statements_of op.BlockEnd last = if last then [] else stmt.Return ∷ []
+
+-- no instruction follows
+abbrev pub is_last : List Instr → Bool
+is_last [] = true
+is_last (i ∷ rest) = false
+
+-- the statements of a body
+abbrev pub lines_of : List Instr → List Stmt
+lines_of [] = []
+lines_of (i ∷ rest) = statements_of i.op (is_last rest) ++ lines_of rest
 
 -- the name of a block's unit: its kind and its number
 abbrev pub unit_name_of : BlockName → List ℕ
@@ -97,7 +107,7 @@ unit_of b =
       name = unit_name_of b.name;
       formals = [];
       locals = [];
-      body = flat_map (λ (i : Instr). statements_of i.op) b.body;
+      body = lines_of b.body;
     }
 
 -- the text's tree of a program

@@ -1,0 +1,115 @@
+-- The names of the units that a program is translated to: a text may have them, and no two are the same.
+use Rattle.std.proofs.Common.{◌≡◌, ℕ, ◌+◌, ◌%◌, ◌^◌, ◌<◌, ◌≤◌, ◌==◌, Bool, true, false, not, ◌&&◌, ◌||◌, cond, List, [], ◌∷◌, ◌++◌, map, length, Option, Some, None, refl, sym, ap, ◌∙◌, arith}
+use Rattle.std.specs.Prelude.{All, IsSome, decimal}
+use Rattle.std.proofs.lemmas.List.Elements.{All-head, All-tail}
+use Rattle.std.specs.Char.{to_ascii_uppercase}
+use Rattle.std.specs.List.{list_all, list_any}
+use Rattle.std.proofs.lemmas.Bool.{and_parts, lt-ltb}
+use Rattle.std.proofs.lemmas.Bool.Decides.{nat_tests}
+use Rattle.std.proofs.lemmas.Fmt.{decimal_by_steps}
+use Rattle.std.proofs.lemmas.List.{length-append}
+use Rattle.std.proofs.lemmas.List.Folds.{list_all-append}
+use Rattle.s7_base.specs.Tokens.{is_between, is_word_byte}
+use Rattle.st_tree.specs.Naming.{are_apart, is_name, is_new, is_same, key_of, may_name_unit}
+use Rattle.st_tree.specs.declared.program.Pou.{Pou}
+use Rattle.stl_translate.specs.inner.Translation.{unit_name_of, unit_of}
+use Rattle.stl_translate.proofs.Names.{IsNumbered, block_of, numbered, position_of, same_number}
+use Rattle.stl_tree.specs.Accepted.{AreDistinct, IsAcceptedBlock}
+use Rattle.stl_tree.specs.StlRun.{block_named, is_same_name}
+use Rattle.stl_tree.specs.declared.program.Block.{Block}
+use Rattle.stl_tree.specs.declared.program.BlockName.{BlockName}
+use Rattle.stl_tree.specs.declared.program.BlockName.TheVariants as name
+
+-- Names
+
+-- a decimal is a digit and more
+record Digits (ds : List ℕ) : Type 0 where
+  digits : list_all (λ b. is_between 48 57 b) ds ≡ true
+  bytes : list_all is_word_byte ds ≡ true
+  some : 0 < length ds
+
+is_digit : (n : ℕ) → n < 10 → is_between 48 57 (48 + n) ≡ true
+is_digit n h = grind (arith, nat_tests)
+
+is_byte : (n : ℕ) → n < 10 → is_word_byte (48 + n) ≡ true
+is_byte n h = ap (λ (d : Bool). d || is_between 65 90 (48 + n) || is_between 97 122 (48 + n) || 48 + n == 95) (is_digit n h)
+
+one_digit : (n : ℕ) → n < 10 → Digits ((48 + n) ∷ [])
+one_digit n h = record { digits = rw (is_digit n h) refl; bytes = rw (is_byte n h) refl; some = omega arith }
+
+more_digits : (n : ℕ) (ds : List ℕ) → 10 ≤ n → Digits ds → Digits (ds ++ ((48 + n % 10) ∷ []))
+more_digits n ds h d =
+    let last : n % 10 < 10 = omega arith in
+    record {
+      digits = list_all-append (λ b. is_between 48 57 b) ds ((48 + n % 10) ∷ []) ∙ rw (d.digits, is_digit (n % 10) last) refl;
+      bytes = list_all-append is_word_byte ds ((48 + n % 10) ∷ []) ∙ rw (d.bytes, is_byte (n % 10) last) refl;
+      some = omega (arith, length-append ds ((48 + n % 10) ∷ []));
+    }
+
+decimal_digits : (n : ℕ) → n < 2 ^ 64 → Digits (decimal n)
+decimal_digits n h = decimal_by_steps (λ n ds. Digits ds) one_digit more_digits n h
+
+pub has_name : (b : BlockName) → IsNumbered b → is_name (unit_name_of b) ≡ true
+has_name (name.Ob n) h = rw (decimal_digits n (omega arith)).bytes refl
+has_name (name.Fc n) h = rw (decimal_digits n (omega arith)).bytes refl
+has_name (name.Fb n) h = rw (decimal_digits n (omega arith)).bytes refl
+
+pub names_unit : (b : BlockName) → IsNumbered b → may_name_unit (unit_name_of b) ≡ true
+names_unit (name.Ob n) h = let d = decimal_digits n (omega arith) in rw (lt-ltb 0 (length (decimal n)) d.some, d.digits) refl
+names_unit (name.Fc n) h = let d = decimal_digits n (omega arith) in rw (lt-ltb 0 (length (decimal n)) d.some, d.digits) refl
+names_unit (name.Fb n) h = let d = decimal_digits n (omega arith) in rw (lt-ltb 0 (length (decimal n)) d.some, d.digits) refl
+
+-- Names of blocks that are not the same
+
+upper_digit : (n : ℕ) → n < 10 → to_ascii_uppercase (48 + n) ≡ 48 + n
+upper_digit n h = grind (arith, nat_tests)
+
+turned : (m n : ℕ) → (m == n) ≡ (n == m)
+turned m n = grind (arith, nat_tests)
+
+-- two units have one name exactly where their blocks have
+same_keys : (b c : BlockName) → IsNumbered b → IsNumbered c → is_same (key_of (unit_name_of b)) (key_of (unit_name_of c)) ≡ is_same_name c b
+unfolding key_of
+same_keys (name.Ob m) (name.Ob n) h k = same_number to_ascii_uppercase upper_digit m n (omega arith) (omega arith) ∙ turned m n
+same_keys (name.Fc m) (name.Fc n) h k = same_number to_ascii_uppercase upper_digit m n (omega arith) (omega arith) ∙ turned m n
+same_keys (name.Fb m) (name.Fb n) h k = same_number to_ascii_uppercase upper_digit m n (omega arith) (omega arith) ∙ turned m n
+same_keys (name.Ob m) (name.Fc n) h k = refl
+same_keys (name.Ob m) (name.Fb n) h k = refl
+same_keys (name.Fc m) (name.Ob n) h k = refl
+same_keys (name.Fc m) (name.Fb n) h k = refl
+same_keys (name.Fb m) (name.Ob n) h k = refl
+same_keys (name.Fb m) (name.Fc n) h k = refl
+
+nothing_named : (called : BlockName) (blocks : List Block) → block_named called blocks ≡ None → block_of called blocks ≡ None
+nothing_named called blocks e = by (block_of called blocks) refl
+  where
+    no_position : (o : Option ℕ) → o ≡ None → IsSome o → ⊥
+    no_position None e h = cc
+    no_position (Some n) e h = cc
+
+    by : (o : Option Block) → block_of called blocks ≡ o → o ≡ None
+    by None is = refl
+    by (Some b) is =
+        absurd (no_position (block_named called blocks) e (position_of called blocks (rw is refl)))
+
+first_not : (test : Bool) (b : Block) (o : Option Block) → cond test (Some b) o ≡ None → (test ≡ false) × (o ≡ None)
+first_not true b o e = absurd cc
+first_not false b o e = (refl, e)
+
+is_new_name : (b : Block) (blocks : List Block) → IsNumbered b.name → All IsAcceptedBlock blocks → block_of b.name blocks ≡ None
+    → is_new (key_of (unit_name_of b.name)) (map (λ (u : Pou). key_of u.name) (map unit_of blocks)) ≡ true
+is_new_name b [] h all e = refl
+is_new_name b (c ∷ blocks) h all e =
+    let not_first = first_not (is_same_name c.name b.name) c (block_of b.name blocks) e in
+    let own = All-head IsAcceptedBlock c blocks all in
+    let more = is_new_name b blocks h (All-tail IsAcceptedBlock c blocks all) not_first.1 in
+    rw (same_keys b.name c.name h (numbered c.name own.number), not_first.0) more
+
+pub units_apart : (blocks : List Block) → All IsAcceptedBlock blocks → AreDistinct blocks
+    → are_apart (map (λ (u : Pou). key_of u.name) (map unit_of blocks)) ≡ true
+units_apart [] all h = refl
+units_apart (b ∷ blocks) all h =
+    let own = All-head IsAcceptedBlock b blocks all in
+    let rest = All-tail IsAcceptedBlock b blocks all in
+    rw (is_new_name b blocks (numbered b.name own.number) rest (nothing_named b.name blocks h.0))
+    (units_apart blocks rest h.1)
