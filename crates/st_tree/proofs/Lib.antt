@@ -9,6 +9,7 @@ pub mod FittingStatements
 pub mod FittingStates
 pub mod FittingValues
 pub mod FittingWrites
+pub mod GraphUnits
 pub mod Induction
 pub mod PartEquations
 pub mod RawInduction

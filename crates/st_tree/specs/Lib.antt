@@ -3,6 +3,8 @@ pub mod Chains
 pub mod Depth
 pub mod Fitting
 pub mod Form
+pub mod GraphRun
+pub mod GraphRunLaws
 pub mod Meaning
 pub mod Naming
 pub mod Nesting

@@ -9,6 +9,7 @@
 #![tactic(auto)]
 
 pub use expr::{BinaryOp, Expr, ShiftOp, StType, UnaryOp, Var};
+pub use graph::{GraphPou, GraphProgram, StExit, StGraph, StNode};
 pub use memory_areas::AreaName;
 pub use names::{
     is_free, is_name, is_unreserved, key_of, may_name_global, may_name_local, may_name_unit,
@@ -32,6 +33,8 @@ pub use words::{
 };
 
 mod expr;
+mod graph;
+pub mod graph_laws;
 mod names;
 mod program;
 mod raw;

@@ -1,0 +1,230 @@
+-- A program and its graph program mean the same.
+use Rattle.std.proofs.Common.{◌≡◌, ℕ, zero, suc, ◌+◌, ◌*◌, ◌≤◌, false, List, [], ◌∷◌, ◌++◌, map, length, Option, Some, None, refl, sym, ap, ◌∙◌, subst, arith}
+use Rattle.std.specs.Prelude.{All, IsSome, find, flat_map, option_map, slice_get}
+use Rattle.std.proofs.lemmas.Simd.{map-map}
+use Rattle.memory_areas.specs.Areas.{Areas, Contents, with_areas}
+use Rattle.memory_areas.specs.End.{End, Ended, Going}
+use Rattle.s7_base.specs.declared.outcome.Fault.{Fault}
+use Rattle.s7_base.specs.declared.register.Reg.{Reg}
+use Rattle.s7_base.specs.declared.register.Reg.TheVariants as reg
+use Rattle.stl_tree.specs.Accepted.{IsAccepted, IsAcceptedBlock}
+use Rattle.stl_tree.specs.Now.{Activation, Now}
+use Rattle.stl_tree.specs.Registers.{start}
+use Rattle.stl_tree.specs.StlRun.{block_called, block_named, end_of, first_activation, running, size_of, steps_on, stl_run}
+use Rattle.stl_tree.specs.declared.program.BitArg.TheVariants as arg
+use Rattle.stl_tree.specs.declared.program.Block.{Block}
+use Rattle.stl_tree.specs.declared.program.BlockName.{BlockName}
+use Rattle.stl_tree.specs.declared.program.BlockName.TheVariants as name
+use Rattle.stl_tree.specs.declared.program.Call.{Call}
+use Rattle.stl_tree.specs.declared.program.Instr.{Instr}
+use Rattle.stl_tree.specs.declared.program.Op.{Op}
+use Rattle.stl_tree.specs.declared.program.Op.TheVariants as op
+use Rattle.stl_tree.specs.declared.program.Program.{Program}
+use Rattle.stl_tree.proofs.Runs.{over_stays}
+use Rattle.st_tree.specs.GraphRun.{Counting, FitsGraph, counted_run, each_node, each_pass, graph_run, heads_of, longest, most_nodes, nodes_do, pass_run, run_of_graph}
+use Rattle.st_tree.specs.Meaning.{Continues, Exits, Faults, NoUnits, Normal, Out, Returns}
+use Rattle.st_tree.specs.StRun.{FitsIfThere, FitsUnit, all_zero, end_seen, is_meant, is_program, registers_at_start, state_at_start, unit_called}
+use Rattle.st_tree.specs.State.{State}
+use Rattle.st_tree.specs.declared.graph.GraphPou.{GraphPou}
+use Rattle.st_tree.specs.declared.graph.GraphProgram.{GraphProgram}
+use Rattle.st_tree.specs.declared.program.Pou.{Pou}
+use Rattle.st_tree.specs.declared.program.StProgram.{StProgram}
+use Rattle.st_tree.specs.declared.program.Stmt.{Stmt}
+use Rattle.st_tree.specs.declared.program.Stmt.TheVariants as stmt
+use Rattle.instruction_lowering.specs.Lowered.{AreAssignments, AreUnitsOf, HasNoInstance, IsUnitOf, Lowered, SameRuns, head_of_block}
+use Rattle.instruction_lowering.specs.inner.Lowering.{lowered, node_of, steps_of, unit_of}
+use Rattle.instruction_lowering.specs.inner.Templates.{statements_of}
+use Rattle.instruction_lowering.proofs.Alike.{AreAlike, HandedOn, IsKept, Related}
+use Rattle.instruction_lowering.proofs.Bounds.{Begun, Side, back, begun_back, begun_forth, forth}
+use Rattle.instruction_lowering.proofs.Names.{IsAt, IsNumbered, block_at, block_of, found_each, found_numbered, found_of, found_size, meant, none_of, not_meant, position_of}
+use Rattle.instruction_lowering.proofs.Simulation.{Follows, Sees, at_node, both_end, ran, through}
+
+-- Units
+
+two_parts : (xs ys : List Stmt) → AreAssignments xs → AreAssignments ys → AreAssignments (xs ++ ys)
+two_parts [] ys h k = k
+two_parts (stmt.Assign v e ∷ xs) ys h k = two_parts xs ys h k
+two_parts (x ∷ xs) ys h k = elim h [ ]
+
+of_instruction : (o : Op) → AreAssignments (statements_of o)
+of_instruction (op.Check c (arg.At o)) = tt
+of_instruction (op.Assign o) = tt
+of_instruction op.BlockEnd = tt
+
+of_body : (is : List Instr) → AreAssignments (steps_of is)
+of_body [] = tt
+of_body (i ∷ is) = two_parts (statements_of i.op) (steps_of is) (of_instruction i.op) (of_body is)
+
+units_of : (blocks : List Block) → AreUnitsOf blocks (map unit_of blocks)
+units_of [] = tt
+units_of (b ∷ bs) =
+    (record { head = refl; node = node_of b.body; nodes = refl; exit = refl; only_end = refl; steps = of_body b.body }, units_of bs)
+
+-- The block that is called
+
+some_of : (o : Option ℕ) → IsSome o → (i : ℕ) × (o ≡ Some i)
+some_of None h = cc
+some_of (Some i) h = (i, refl)
+
+-- what is called has that name
+named_of : (called : BlockName) (blocks : List Block) (i : ℕ) → block_called called blocks ≡ Some i → block_named called blocks ≡ Some i
+named_of (name.Ob n) blocks i e = e
+named_of (name.Fc n) blocks i e = cc
+named_of (name.Fb n) blocks i e = cc
+
+-- a block that is called is an organization block
+number_of : (called : BlockName) (blocks : List Block) (i : ℕ) → block_called called blocks ≡ Some i → (n : ℕ) × (called ≡ name.Ob n)
+number_of (name.Ob n) blocks i e = (n, refl)
+number_of (name.Fc n) blocks i e = cc
+number_of (name.Fb n) blocks i e = cc
+
+-- the first unit's end is what is seen
+seen_through : (o : Out) → end_seen o ≡ through o (λ units s. Ended s.memory.areas None)
+seen_through (Normal units s) = refl
+seen_through (Exits units s) = refl
+seen_through (Continues units s) = refl
+seen_through (Returns units s) = refl
+seen_through (Faults f s) = refl
+seen_through (NoUnits s) = refl
+
+-- heads are found as blocks are
+heads_found : (n : ℕ) → IsNumbered (name.Ob n) → (blocks : List Block) → All IsAcceptedBlock blocks →
+    unit_called (name.Ob n) (map (λ (u : GraphPou). u.head) (map unit_of blocks)) ≡ option_map (λ (b : Block). head_of_block b.name) (block_of (name.Ob n) blocks)
+heads_found n h blocks formed =
+    ap (unit_called (name.Ob n)) (map-map (λ (u : GraphPou). u.head) unit_of blocks)
+    ∙ found_of Pou (λ (b : Block). head_of_block b.name) (is_meant (name.Ob n)) (name.Ob n) (meant n h) blocks formed
+
+no_head : (called : BlockName) → is_program called ≡ false → (blocks : List Block) → unit_called called (map (λ (u : GraphPou). u.head) (map unit_of blocks)) ≡ None
+no_head called h blocks =
+    ap (unit_called called) (map-map (λ (u : GraphPou). u.head) unit_of blocks)
+    ∙ none_of Pou (λ (b : Block). head_of_block b.name) (is_meant called) (not_meant called h) blocks
+
+-- Runs
+
+module _ (program : Program) (formed : All IsAcceptedBlock program.blocks) (call : Call) (i : ℕ) (called : block_called call.block program.blocks ≡ Some i) where
+  at : IsAt call.block program.blocks i
+  at = block_at call.block program.blocks i (named_of call.block program.blocks i called)
+
+  abbrev b : Block
+  b = at.block
+
+  abbrev graph : GraphProgram
+  graph = lowered program
+
+  number : (n : ℕ) × (call.block ≡ name.Ob n)
+  number = number_of call.block program.blocks i called
+
+  numbered : IsNumbered (name.Ob number.0)
+  numbered = subst IsNumbered number.1 (found_numbered call.block program.blocks b at.found formed)
+
+  found : block_of (name.Ob number.0) program.blocks ≡ Some b
+  found = ap (λ (called : BlockName). block_of called program.blocks) (sym number.1) ∙ at.found
+
+  -- the call finds the unit of the block
+  unit_there : find (λ (u : GraphPou). is_meant call.block u.head) (map unit_of program.blocks) ≡ Some (unit_of b)
+  unit_there =
+      ap (λ (called : BlockName). find (λ (u : GraphPou). is_meant called u.head) (map unit_of program.blocks)) number.1
+      ∙ found_of GraphPou unit_of (λ (u : GraphPou). is_meant (name.Ob number.0) u.head) (name.Ob number.0) (meant number.0 numbered) program.blocks formed
+      ∙ ap (option_map unit_of) found
+
+  abbrev first : Activation
+  first = record { block = i; at = 0; db = 0; di = 0; formals = [] }
+
+  abbrev now : Areas → Now
+  now memory = record { registers = start; brackets = []; memory = with_areas memory; activations = first ∷ [] }
+
+  abbrev state : Areas → State
+  state memory = state_at_start (head_of_block b.name) call memory
+
+  -- both begin alike: all registers are zero
+  start_alike : (called : BlockName) → (n : ℕ) → called ≡ name.Ob n → AreAlike IsKept start (registers_at_start called call.instance)
+  start_alike (name.Ob n) m e = zeros
+    where
+      zeros : AreAlike IsKept start all_zero
+      zeros reg.Sta asked = elim asked [ ]
+      zeros q asked = refl
+  start_alike (name.Fc n) m e = cc
+  start_alike (name.Fb n) m e = cc
+
+  start_related : (memory : Areas) → Related (first ∷ []) (now memory) (state memory)
+  start_related memory =
+      record { registers = start_alike call.block number.0 number.1; memory = refl; activations = refl; depth = refl; db = omega arith; di = omega arith; orb = refl }
+
+  -- behind the first block nothing follows
+  nothing_follows : (counts : Counting) (side : Side) (n : ℕ) → Follows program graph counts side (size_of program) n first [] (λ units s. Ended s.memory.areas None) 0
+  nothing_follows counts side n j small units within to after s handed =
+      both_end side _ _ (ap end_of (over_stays j after.memory None) ∙ sym (ap (λ (m : Contents). Ended m.areas None) handed.memory))
+
+  abbrev graph_from : Counting → Areas → ℕ → ℕ → Out
+  graph_from counts memory most units = nodes_do counts graph most (node_of b.body ∷ []) 0 units (state memory)
+
+  stl_is : (memory : Areas) (n : ℕ) → stl_run program call memory n ≡ ran n (running program (now memory))
+  stl_is memory n = ap (λ o. end_of (steps_on n (running program (record { registers = start; brackets = []; memory = with_areas memory; activations = first_activation o })))) called
+
+  graph_is : (counts : Counting) (memory : Areas) (units : ℕ) → counted_run counts graph call memory (suc units) ≡ through (graph_from counts memory (most_nodes graph (suc units)) units) (λ units s. Ended s.memory.areas None)
+  graph_is counts memory units =
+      ap (λ o. run_of_graph counts graph o call memory (suc units)) unit_there
+      ∙ seen_through (graph_from counts memory (most_nodes graph (suc units)) units)
+
+  simulated : (counts : Counting) (side : Side) (memory : Areas) (n units most : ℕ) → Begun side (size_of program) n units most 0 0
+      → Sees side (ran n (running program (now memory))) (through (graph_from counts memory most units) (λ units s. Ended s.memory.areas None))
+  simulated counts side memory n units most begun =
+      let shape = found_each IsAcceptedBlock call.block program.blocks b at.found formed in
+      let within : length b.body ≤ size_of program = found_size call.block program.blocks b at.found in
+      at_node program graph counts side (size_of program) n first [] b at.there refl shape.ends (omega arith) (now memory) (state memory) (start_related memory) units most 0 begun
+      (λ units s. Ended s.memory.areas None) (nothing_follows counts side n)
+
+  nodes_end : (memory : Areas) (n : ℕ) (after : Areas) (fault : Option Fault) → stl_run program call memory n ≡ Ended after fault → graph_run graph call memory n ≡ Ended after fault
+  nodes_end memory zero after fault ended = absurd (going (sym (stl_is memory 0) ∙ ended))
+    where
+      going : Going ≡ Ended after fault → ⊥
+      going e = cc
+  nodes_end memory (suc n) after fault ended =
+      graph_is each_node memory n
+      ∙ simulated each_node forth memory (suc n) n (most_nodes graph (suc n)) (begun_forth (size_of program) n (longest graph)) after fault (sym (stl_is memory (suc n)) ∙ ended)
+
+  passes_end : (memory : Areas) (n : ℕ) (after : Areas) (fault : Option Fault) → pass_run graph call memory n ≡ Ended after fault → stl_run program call memory (n * size_of program) ≡ Ended after fault
+  passes_end memory zero after fault ended = absurd (going (sym (ap (λ o. run_of_graph each_pass graph o call memory 0) unit_there) ∙ ended))
+    where
+      going : Going ≡ Ended after fault → ⊥
+      going e = cc
+  passes_end memory (suc n) after fault ended =
+      stl_is memory (suc n * size_of program)
+      ∙ simulated each_pass back memory (suc n * size_of program) n (most_nodes graph (suc n)) (begun_back (size_of program) n (most_nodes graph (suc n))) after fault (sym (graph_is each_pass memory n) ∙ ended)
+
+  same_runs : SameRuns program.dbs (stl_run program call) (graph_run graph call) (pass_run graph call) (size_of program)
+  same_runs =
+      record { forth = λ memory valid n after fault ended. nodes_end memory n after fault ended; back = λ memory valid n after fault ended. passes_end memory n after fault ended }
+
+  fits_graph : FitsGraph graph call
+  fits_graph =
+      subst (λ (o : Option Pou). FitsIfThere (heads_of graph) call o)
+      (sym (ap (λ (called : BlockName). unit_called called (heads_of graph).pous) number.1 ∙ heads_found number.0 numbered program.blocks formed ∙ ap (option_map (λ (b : Block). head_of_block b.name)) found))
+      (subst (λ (called : BlockName). FitsUnit [] (head_of_block b.name) called call.instance call.actuals) (sym number.1) tt)
+
+some_unit : (o : Option Block) (text : StProgram) (call : Call) → FitsIfThere text call (option_map (λ (b : Block). head_of_block b.name) o) → IsSome o
+some_unit None text call h = absurd h
+some_unit (Some b) text call h = refl
+
+-- a call of a graph program is one of the block that its unit was lowered from
+fits_program : (program : Program) → All IsAcceptedBlock program.blocks → (call : Call) (called : BlockName) → HasNoInstance called
+    → FitsIfThere (heads_of (lowered program)) call (unit_called called (heads_of (lowered program)).pous) → IsSome (block_called called program.blocks)
+fits_program program formed call (name.Ob n) small fits =
+    position_of (name.Ob n) program.blocks
+    (some_unit (block_of (name.Ob n) program.blocks) (heads_of (lowered program)) call
+    (subst (λ (o : Option Pou). FitsIfThere (heads_of (lowered program)) call o) (heads_found n small program.blocks formed) fits))
+fits_program program formed call (name.Fc n) small fits = absurd (subst (λ (o : Option Pou). FitsIfThere (heads_of (lowered program)) call o) (no_head (name.Fc n) refl program.blocks) fits)
+fits_program program formed call (name.Fb n) none fits = absurd none
+
+-- an accepted program means what its graph program means
+pub lowered_same : (program : Program) → IsAccepted program → Lowered program (lowered program)
+lowered_same program accepted =
+    let formed = accepted.blocks in
+    record {
+      blocks = sym accepted.alone.dbs;
+      globals = refl;
+      units = units_of program.blocks;
+      fits = λ call fits. let i = some_of (block_called call.block program.blocks) fits in fits_graph program formed call i.0 i.1;
+      fits_back = λ call numbered fits. fits_program program formed call call.block numbered fits;
+      runs = λ call fits. let i = some_of (block_called call.block program.blocks) fits in same_runs program formed call i.0 i.1;
+    }

@@ -1,0 +1,265 @@
+-- A program and its graph run alike: one induction over the steps for both directions, on one lemma an instruction.
+use Rattle.std.proofs.Common.{◌≡◌, ℕ, zero, suc, ◌+◌, ◌<◌, ◌≤◌, List, [], ◌∷◌, ◌++◌, length, map, Option, Some, None, refl, sym, ap, ◌∙◌, subst, ◌⊎◌, inl, inr, ⊎_elim, arith}
+use Rattle.std.specs.Prelude.{option_and_then, slice_get}
+use Rattle.std.proofs.Math.Nat.{eq-or-lt_of_le}
+use Rattle.memory_areas.specs.Areas.{Areas, Contents}
+use Rattle.memory_areas.specs.End.{End, Ended, Going}
+use Rattle.s7_base.specs.StatusBits.{after_end}
+use Rattle.s7_base.specs.declared.outcome.Fault.{Fault}
+use Rattle.s7_base.specs.declared.register.Reg.{Reg}
+use Rattle.s7_base.specs.declared.register.Reg.TheVariants as reg
+use Rattle.stl_tree.specs.Accepted.{EndsBehind, EndsOnce}
+use Rattle.stl_tree.specs.Instructions.{effect_of}
+use Rattle.stl_tree.specs.Now.{Activation, Effect, Now, enter, fault, go, leave, next, with_status}
+use Rattle.stl_tree.specs.StlRun.{Standing, after_effect, end_of, going_on, instruction, over, returned, running, step_by, steps_on}
+use Rattle.stl_tree.specs.declared.program.Block.{Block}
+use Rattle.stl_tree.specs.declared.program.Instr.{Instr}
+use Rattle.stl_tree.specs.declared.program.Op.{Op}
+use Rattle.stl_tree.specs.declared.program.Op.TheVariants as op
+use Rattle.stl_tree.specs.declared.program.Program.{Program}
+use Rattle.stl_tree.proofs.Runs.{over_stays}
+use Rattle.st_tree.specs.GraphRun.{Counting, exit_meaning, graph_calls, nodes_do}
+use Rattle.st_tree.specs.Meaning.{Calls, Continues, Exits, Faults, NoUnits, Normal, Out, Returns, Sem, body_meaning, in_order, meaning, then_do}
+use Rattle.st_tree.specs.State.{State}
+use Rattle.st_tree.specs.declared.graph.GraphProgram.{GraphProgram}
+use Rattle.st_tree.specs.declared.graph.StExit.TheVariants as exit
+use Rattle.st_tree.specs.declared.graph.StNode.{StNode}
+use Rattle.st_tree.specs.declared.program.Located.{Located}
+use Rattle.st_tree.specs.declared.program.Stmt.{Stmt}
+use Rattle.instruction_lowering.specs.inner.Lowering.{node_of, steps_of}
+use Rattle.instruction_lowering.specs.inner.Templates.{statements_of}
+use Rattle.instruction_lowering.proofs.Alike.{AreAlike, HandedOn, IsHandedOn, IsKept, Related, keep_bits, keep_position}
+use Rattle.instruction_lowering.proofs.BitRows.{does}
+use Rattle.instruction_lowering.proofs.Bounds.{Begun, Behind, Side, Within, back, IsBack, IsForth, first_step, forth, last_step, next_step, no_first_step, no_node, no_step}
+use Rattle.instruction_lowering.proofs.Does.{Does, IsInside}
+
+-- Ends
+
+-- one side sees what the other has ended with: e is the program's end, t the graph's
+abbrev pub Sees : Side → End → End → Type 0
+Sees forth e t = (after : Areas) (f : Option Fault) → e ≡ Ended after f → t ≡ Ended after f
+Sees back e t = (after : Areas) (f : Option Fault) → t ≡ Ended after f → e ≡ Ended after f
+
+pub both_end : (side : Side) (e t : End) → e ≡ t → Sees side e t
+both_end forth e t same = λ after f ended. sym same ∙ ended
+both_end back e t same = λ after f ended. same ∙ ended
+
+-- a side that has not ended says nothing
+none_forth : (side : Side) (t : End) → IsForth side → Sees side Going t
+none_forth forth t h = λ after f ended. cc
+none_forth back t h = elim h [ ]
+
+none_back : (side : Side) (e : End) → IsBack side → Sees side e Going
+none_back forth e h = elim h [ ]
+none_back back e h = λ after f ended. cc
+
+-- what follows the end of a unit, which RETURN leads to as well, and EXIT and CONTINUE, which stand in loops alone
+abbrev pub through : Out → (ℕ → State → End) → End
+through (Normal units s) k = k units s
+through (Exits units s) k = k units s
+through (Continues units s) k = k units s
+through (Returns units s) k = k units s
+through (Faults f s) k = Ended s.memory.areas (Some f)
+through (NoUnits s) k = Going
+
+-- Statements in two parts
+
+then_in_parts : (o : Out) (f h : Sem) → then_do (then_do o f) h ≡ then_do o (λ units s. then_do (f units s) h)
+then_in_parts (Normal units s) f h = refl
+then_in_parts (Exits units s) f h = refl
+then_in_parts (Continues units s) f h = refl
+then_in_parts (Returns units s) f h = refl
+then_in_parts (Faults x s) f h = refl
+then_in_parts (NoUnits s) f h = refl
+
+in_parts : (g : List Located) (calls : Calls) (xs ys : List Stmt) (units : ℕ) (s : State)
+    → body_meaning g calls (xs ++ ys) units s ≡ then_do (body_meaning g calls xs units s) (body_meaning g calls ys)
+in_parts g calls [] ys units s = refl
+in_parts g calls (x ∷ xs) ys units s =
+    ap (λ (rest : Sem). then_do (meaning g calls x units s) rest) (λ i u t. in_parts g calls xs ys u t i)
+    ∙ sym (then_in_parts (meaning g calls x units s) (body_meaning g calls xs) (body_meaning g calls ys))
+
+-- Bodies
+
+-- these instructions are what a body has from a position on
+abbrev pub HasFrom : List Instr → ℕ → List Instr → Type 0
+HasFrom body at is = (j : ℕ) → slice_get body (at + j) ≡ slice_get is j
+
+has_first : (body : List Instr) (at : ℕ) (i : Instr) (is : List Instr) → HasFrom body at (i ∷ is) → slice_get body at ≡ Some i
+has_first body at i is has = let e : at ≡ at + 0 = omega arith in ap (slice_get body) e ∙ has 0
+
+has_rest : (body : List Instr) (at : ℕ) (i : Instr) (is : List Instr) → HasFrom body at (i ∷ is) → HasFrom body (at + 1) is
+has_rest body at i is has j = let e : at + 1 + j ≡ at + suc j = omega arith in ap (slice_get body) e ∙ has (suc j)
+
+-- an instruction of a body stands inside it, or is its end word, behind which nothing stands
+stands : (i : Instr) (is : List Instr) → EndsBehind i.op is (EndsOnce is) → (IsInside i.op × EndsOnce is) ⊎ ((i.op ≡ op.BlockEnd) × (is ≡ []))
+stands i is h = by i.op is (EndsOnce is) h
+  where
+    by : (o : Op) (rest : List Instr) (more : Type 0) → EndsBehind o rest more → (IsInside o × more) ⊎ ((o ≡ op.BlockEnd) × (rest ≡ []))
+    by (op.Check c b) rest more h = inl (tt, h)
+    by (op.Assign x) rest more h = inl (tt, h)
+    by op.BlockEnd rest more h = inr (refl, h)
+
+-- The end word
+
+end_alike : (now : Now) (s : State) (acts : List Activation) → Related acts now s → AreAlike IsHandedOn (record now.registers { status = after_end now.registers.status }) s.registers
+end_alike now s acts related reg.Nfc asked = elim asked [ ]
+end_alike now s acts related reg.Sta asked = elim asked [ ]
+end_alike now s acts related reg.Orb asked = elim asked [ ]
+end_alike now s acts related reg.Os asked = elim asked [ ]
+end_alike now s acts related q asked = related.registers q tt
+
+-- it hands the registers and the memory on
+ends : (acts : List Activation) (now : Now) (s : State) → Related acts now s → HandedOn acts (with_status after_end now) s
+ends acts now s related = keep_bits IsKept acts now s related IsHandedOn (after_end now.registers.status) s.registers refl (end_alike now s acts related)
+
+-- Runs
+
+-- what can be seen n steps on
+abbrev pub ran : ℕ → Standing → End
+ran n here = end_of (steps_on n here)
+
+module _ (p : Program) (g : GraphProgram) (counts : Counting) (side : Side) (size : ℕ) where
+  -- what follows the unit of a running block, k, is what follows the block, for all numbers of steps up to n
+  abbrev pub Follows : ℕ → Activation → List Activation → (ℕ → State → End) → ℕ → Type 0
+  Follows n a waiting k debt =
+      (j : ℕ) → j ≤ n → (units : ℕ) → Behind side size j units debt → (at : ℕ) (now : Now) (s : State) → HandedOn (record a { at = at } ∷ waiting) now s
+      → Sees side (ran j (returned p (record a { at = at } ∷ waiting) now)) (k units s)
+
+  abbrev calls_within : ℕ → Calls
+  calls_within most = graph_calls (λ begun. nodes_do counts g most begun 0) g
+
+  -- what is left of a node, and then its exit
+  abbrev rest_of : ℕ → List StNode → List Instr → Sem
+  rest_of most nodes is units s =
+      then_do (body_meaning g.globals (calls_within most) (steps_of is) units s) (exit_meaning g.globals counts (nodes_do counts g most nodes) 0 exit.End)
+
+  -- a node begins with its block
+  abbrev pub AtNode : ℕ → Type 0
+  AtNode n =
+      (a : Activation) (waiting : List Activation) (b : Block) → slice_get p.blocks a.block ≡ Some b → a.at ≡ 0 → EndsOnce b.body → a.at + length b.body ≤ size
+      → (now : Now) (s : State) → Related (a ∷ waiting) now s → (units most debt : ℕ) → Begun side size n units most a.at debt
+      → (k : ℕ → State → End) → Follows n a waiting k debt
+      → Sees side (ran n (running p now)) (through (nodes_do counts g most (node_of b.body ∷ []) 0 units s) k)
+
+  -- it goes on at an instruction
+  abbrev Inside : ℕ → Type 0
+  Inside n =
+      (a : Activation) (waiting : List Activation) (b : Block) → slice_get p.blocks a.block ≡ Some b → (nodes : List StNode) (is : List Instr) → HasFrom b.body a.at is → EndsOnce is → a.at + length is ≤ size
+      → (now : Now) (s : State) → Related (a ∷ waiting) now s → (units most debt : ℕ) → Within side size n units most a.at debt
+      → (k : ℕ → State → End) → Follows n a waiting k debt
+      → Sees side (ran n (running p now)) (through (rest_of most nodes is units s) k)
+
+  -- One instruction
+
+  module _ (n : ℕ) (a : Activation) (waiting : List Activation) (b : Block) (there : slice_get p.blocks a.block ≡ Some b) (nodes : List StNode) (i : Instr) (is : List Instr) (has : HasFrom b.body a.at (i ∷ is)) (ending : EndsBehind i.op is (EndsOnce is)) (fits : a.at + suc (length is) ≤ size)
+      (now : Now) (s : State) (related : Related (a ∷ waiting) now s) (units most debt : ℕ) (within : Within side size n units most (a.at + 1) debt)
+      (k : ℕ → State → End) (follows : Follows n a waiting k debt) (inside : Inside n) where
+    abbrev here : Sem
+    here u t = body_meaning g.globals (calls_within most) (statements_of i.op) u t
+
+    abbrev behind : Sem
+    behind = rest_of most nodes is
+
+    -- the instruction to come is the one that is here
+    arrives : (goal : Standing → Type 0) → goal (after_effect p now (effect_of i.op now)) → goal (step_by (instruction p now.activations) p now)
+    arrives goal h =
+        subst (λ (o : Option Instr). goal (step_by o p now))
+        (sym (ap (instruction p) related.activations ∙ ap (option_and_then (λ (b : Block). slice_get b.body a.at)) there ∙ has_first b.body a.at i is has)) h
+
+    -- its statements are the first of those that are left
+    splits : rest_of most nodes (i ∷ is) units s ≡ then_do (here units s) behind
+    splits =
+        ap (λ (o : Out). then_do o (exit_meaning g.globals counts (nodes_do counts g most nodes) 0 exit.End)) (in_parts g.globals (calls_within most) (statements_of i.op) (steps_of is) units s)
+        ∙ then_in_parts (here units s) (body_meaning g.globals (calls_within most) (steps_of is)) (exit_meaning g.globals counts (nodes_do counts g most nodes) 0 exit.End)
+
+    meets : (e : Effect) (o : Out) → EndsOnce is → Does o units (a ∷ waiting) now.memory e → Sees side (ran n (after_effect p now e)) (through (then_do o behind) k)
+    meets (next after) o ends done =
+        subst (λ (x : Out). Sees side (ran n (after_effect p now (next after))) (through (then_do x behind) k)) (sym done.1)
+        (inside (record a { at = a.at + 1 }) waiting b there nodes is (has_rest b.body a.at i is has) ends (omega arith)
+        (record after { activations = going_on after.activations }) done.0 (keep_position IsKept a waiting after done.0 done.2) units most debt within k follows)
+    meets (fault f) o ends done =
+        both_end side _ _
+        (ap end_of (over_stays n now.memory (Some f)) ∙ sym (ap (λ (x : Out). through (then_do x behind) k) done.1 ∙ ap (λ (m : Contents). Ended m.areas (Some f)) done.2))
+    meets (go to after) o ends done = elim done [ ]
+    meets (enter call after) o ends done = elim done [ ]
+    meets (leave after) o ends done = elim done [ ]
+
+    by_inside : IsInside i.op × EndsOnce is → Sees side (ran (suc n) (running p now)) (through (rest_of most nodes (i ∷ is) units s) k)
+    by_inside h =
+        arrives (λ stand. Sees side (ran n stand) (through (rest_of most nodes (i ∷ is) units s) k))
+        (subst (λ (x : Out). Sees side (ran n (after_effect p now (effect_of i.op now))) (through x k)) (sym splits)
+        (meets (effect_of i.op now) (here units s) h.1 (does g.globals (calls_within most) units (a ∷ waiting) now s related i.op h.0)))
+
+    -- the end word has no statements
+    nothing_left : (o : Op) (rest : List Instr) → o ≡ op.BlockEnd → rest ≡ [] → then_do (body_meaning g.globals (calls_within most) (statements_of o) units s) (rest_of most nodes rest) ≡ Normal units s
+    nothing_left o rest e none =
+        ap (λ (x : Op). then_do (body_meaning g.globals (calls_within most) (statements_of x) units s) (rest_of most nodes rest)) e
+        ∙ ap (λ (xs : List Instr). rest_of most nodes xs units s) none
+
+    by_end : (i.op ≡ op.BlockEnd) × (is ≡ []) → Sees side (ran (suc n) (running p now)) (through (rest_of most nodes (i ∷ is) units s) k)
+    by_end h =
+        let same : n ≤ n = omega arith in
+        let small : a.at + 1 ≤ size = omega arith in
+        arrives (λ stand. Sees side (ran n stand) (through (rest_of most nodes (i ∷ is) units s) k))
+        (subst (λ (x : Op). Sees side (ran n (after_effect p now (effect_of x now))) (through (rest_of most nodes (i ∷ is) units s) k)) (sym h.0)
+        (subst (λ (x : Out). Sees side (ran n (returned p now.activations (with_status after_end now))) (through x k)) (sym (splits ∙ nothing_left i.op is h.0 h.1))
+        (subst (λ (acts : List Activation). Sees side (ran n (returned p acts (with_status after_end now))) (k units s)) (sym related.activations)
+        (follows n same units (last_step side size n units most a.at debt small within) a.at (with_status after_end now) s (ends (a ∷ waiting) now s related)))))
+
+    pub one_step : Sees side (ran (suc n) (running p now)) (through (rest_of most nodes (i ∷ is) units s) k)
+    one_step = ⊎_elim by_inside by_end (stands i is ending)
+
+  -- All of them, from fewer steps to more
+
+  fewer : (n m : ℕ) (a : Activation) (waiting : List Activation) (k : ℕ → State → End) (debt : ℕ) → n ≤ m → Follows m a waiting k debt → Follows n a waiting k debt
+  fewer n m a waiting k debt h follows j small = follows j (omega arith)
+
+  not_empty : (is : List Instr) → EndsOnce is → 1 ≤ length is
+  not_empty [] ends = elim ends [ ]
+  not_empty (i ∷ is) ends = omega arith
+
+  node_none : AtNode 0
+  node_none a waiting b there start ends fits now s related units most debt begun k follows =
+      let some : 1 ≤ length b.body = not_empty b.body ends in
+      none_forth side _ (no_first_step side size units most a.at debt (omega arith) begun)
+
+  inside_none : Inside 0
+  inside_none a waiting b there nodes is has ends fits now s related units most debt within k follows =
+      let some : 1 ≤ length is = not_empty is ends in
+      none_forth side _ (no_step side size units most a.at debt (omega arith) within)
+
+  -- one more step, at an instruction of which nothing is known but that one is there
+  more_step : (n : ℕ) → Inside n → (a : Activation) (waiting : List Activation) (b : Block) → slice_get p.blocks a.block ≡ Some b → (nodes : List StNode) (is : List Instr) → HasFrom b.body a.at is → EndsOnce is → a.at + length is ≤ size
+      → (now : Now) (s : State) → Related (a ∷ waiting) now s → (units most debt : ℕ) → Within side size n units most (a.at + 1) debt
+      → (k : ℕ → State → End) → Follows n a waiting k debt
+      → Sees side (ran (suc n) (running p now)) (through (rest_of most nodes is units s) k)
+  more_step n inside a waiting b there nodes [] has ends fits now s related units most debt within k follows = elim ends [ ]
+  more_step n inside a waiting b there nodes (i ∷ is) has ends fits now s related units most debt within k follows =
+      one_step n a waiting b there nodes i is has ends (omega arith) now s related units most debt within k follows inside
+
+  inside_next : (n : ℕ) → Inside n → Inside (suc n)
+  inside_next n inside a waiting b there nodes is has ends fits now s related units most debt within k follows =
+      more_step n inside a waiting b there nodes is has ends fits now s related units most debt (next_step side size n units most a.at debt within) k
+      (fewer n (suc n) a waiting k debt (omega arith) follows)
+
+  node_next : (n : ℕ) → Inside n → AtNode (suc n)
+  node_next n inside a waiting b there start ends fits now s related units zero debt begun k follows = none_back side _ (no_node side size n units a.at debt begun)
+  node_next n inside a waiting b there start ends fits now s related units (suc most) debt begun k follows =
+      more_step n inside a waiting b there (node_of b.body ∷ []) b.body (λ j. let e : a.at + j ≡ j = omega arith in ap (slice_get b.body) e) ends fits now s related units most debt
+      (first_step side size n units most a.at debt begun) k (fewer n (suc n) a waiting k debt (omega arith) follows)
+
+  abbrev pub Both : ℕ → Type 0
+  Both n = AtNode n × Inside n
+
+  -- from all smaller numbers, which jumps and calls ask for
+  both_next : (n : ℕ) → ((m : ℕ) → m ≤ n → Both m) → Both (suc n)
+  both_next n smaller = let here : Both n = smaller n (omega arith) in (node_next n here.1, inside_next n here.1)
+
+  both_within : (n m : ℕ) → m ≤ n → Both m
+  both_within zero zero h = (node_none, inside_none)
+  both_within zero (suc m) h = absurd (omega arith)
+  both_within (suc n) m h = ⊎_elim (λ (e : m ≡ suc n). subst Both (sym e) (both_next n (both_within n))) (λ (less : m < suc n). both_within n m (omega arith)) (eq-or-lt_of_le h)
+
+  pub at_node : (n : ℕ) → AtNode n
+  at_node n = let both = both_within n n (omega arith) in both.0

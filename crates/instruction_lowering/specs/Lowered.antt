@@ -1,0 +1,78 @@
+-- A graph program that means the same as a program.
+use Rattle.std.specs.Prelude.{◌≡◌, ℕ, ◌*◌, ◌^◌, ◌<◌, true, ◌==◌, List, [], ◌∷◌, length, Option}
+use Rattle.memory_areas.specs.Areas.{Areas, IsMemoryOf}
+use Rattle.memory_areas.specs.End.{End, Ended}
+use Rattle.memory_areas.specs.declared.data_block.DataBlock.{DataBlock}
+use Rattle.s7_base.specs.declared.outcome.Fault.{Fault}
+use Rattle.stl_tree.specs.StlRun.{Fits, size_of, stl_run}
+use Rattle.stl_tree.specs.declared.program.Block.{Block}
+use Rattle.stl_tree.specs.declared.program.BlockName.{BlockName}
+use Rattle.stl_tree.specs.declared.program.BlockName.TheVariants as name
+use Rattle.stl_tree.specs.declared.program.Call.{Call}
+use Rattle.stl_tree.specs.declared.program.Program.{Program}
+use Rattle.st_tree.specs.GraphRun.{FitsGraph, graph_run, pass_run}
+use Rattle.st_tree.specs.StRun.{called_name}
+use Rattle.st_tree.specs.declared.graph.GraphPou.{GraphPou}
+use Rattle.st_tree.specs.declared.graph.GraphProgram.{GraphProgram}
+use Rattle.st_tree.specs.declared.graph.StExit.TheVariants as exit
+use Rattle.st_tree.specs.declared.graph.StNode.{StNode}
+use Rattle.st_tree.specs.declared.program.Pou.{Pou}
+use Rattle.st_tree.specs.declared.program.Stmt.{Stmt}
+use Rattle.st_tree.specs.declared.program.Stmt.TheVariants as stmt
+
+-- Units
+
+-- the head of a block's unit: a program with the name of the block
+abbrev pub head_of_block : BlockName → Pou
+head_of_block name = record { program = true; name = called_name name; formals = []; locals = []; body = [] }
+
+-- each of some statements is an assignment; there is no other, as long as no instruction calls a block
+abbrev pub AreAssignments : List Stmt → Type 0
+AreAssignments [] = Unit {0}
+AreAssignments (stmt.Assign v e ∷ rest) = AreAssignments rest
+AreAssignments (other ∷ rest) = ⊥
+
+-- a unit is that of a block: it has its head, and one node, since no instruction jumps, which ends it
+pub record IsUnitOf (block : Block) (unit : GraphPou) : Type 0 where
+  pub head : unit.head ≡ head_of_block block.name
+  pub node : StNode
+  pub nodes : unit.graph.nodes ≡ node ∷ []
+  pub exit : node.exit ≡ exit.End
+  pub only_end : node.only_end ≡ length block.body == 1
+  pub steps : AreAssignments node.steps
+
+-- there is a unit for each block, in the same order
+abbrev pub AreUnitsOf : List Block → List GraphPou → Type 0
+AreUnitsOf [] [] = Unit {0}
+AreUnitsOf [] (unit ∷ units) = ⊥
+AreUnitsOf (block ∷ blocks) [] = ⊥
+AreUnitsOf (block ∷ blocks) (unit ∷ units) = IsUnitOf block unit × AreUnitsOf blocks units
+
+-- Runs
+
+-- the runs of a program and of a graph from a memory of these data blocks: where the first ends within some steps,
+-- the graph ends with the same memory and the same fault within as many nodes; where the graph ends within some
+-- passes, the program ends so within as many steps for each as the largest block has; so where one goes on for
+-- ever, the other does
+pub record SameRuns (blocks : List DataBlock) (stl nodes passes : Areas → ℕ → End) (size : ℕ) : Type 0 where
+  pub forth : (memory : Areas) → IsMemoryOf blocks memory → (n : ℕ) (after : Areas) (fault : Option Fault)
+      → stl memory n ≡ Ended after fault → nodes memory n ≡ Ended after fault
+  pub back : (memory : Areas) → IsMemoryOf blocks memory → (n : ℕ) (after : Areas) (fault : Option Fault)
+      → passes memory n ≡ Ended after fault → stl memory (n * size) ≡ Ended after fault
+
+-- an organization block or a function is called, by a number of 16 bits
+abbrev pub HasNoInstance : BlockName → Type 0
+HasNoInstance (name.Ob n) = n < 2 ^ 16
+HasNoInstance (name.Fc n) = n < 2 ^ 16
+HasNoInstance (name.Fb n) = ⊥
+
+-- a graph program has the data blocks of the program and a unit for each block; each call that fits the program
+-- fits it, and its runs are the same; a call without an instance that fits it fits the program
+pub record Lowered (program : Program) (graph : GraphProgram) : Type 0 where
+  pub blocks : graph.dbs ≡ program.dbs
+  pub globals : graph.globals ≡ []
+  pub units : AreUnitsOf program.blocks graph.pous
+  pub fits : (call : Call) → Fits program call → FitsGraph graph call
+  pub fits_back : (call : Call) → HasNoInstance call.block → FitsGraph graph call → Fits program call
+  pub runs : (call : Call) → Fits program call
+      → SameRuns program.dbs (stl_run program call) (graph_run graph call) (pass_run graph call) (size_of program)

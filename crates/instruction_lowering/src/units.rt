@@ -1,0 +1,89 @@
+//! The units of a program's blocks.
+//!
+//! No instruction of the language so far jumps, so each unit is one node, which its end word ends.
+ghost use Rattle.std.specs.Prelude.{◌≡◌, ◌++◌, decimal, IfOk};
+ghost use Rattle.st_tree.specs.StRun.{called_name};
+ghost use Rattle.stl_tree.specs.Accepted.{IsAccepted};
+ghost use Rattle.instruction_lowering.specs.Lowered.{Lowered, head_of_block};
+ghost use Rattle.instruction_lowering.specs.inner.Lowering.{lowered, node_of, unit_of};
+
+use crate::statements::push_statements;
+use itoa::Buffer;
+use s7_base::{List, NoMemory};
+use st_tree::{GraphPou, GraphProgram, Pou, StExit, StGraph, StNode};
+use std::alloc::Global;
+use stl_tree::{Block, BlockName, Instr, Program};
+
+/// The graph program of a program: a unit for each block, in the order of the blocks. It means the same.
+pub fn lower(alloc: Global, program: &Program) -> Result<GraphProgram, NoMemory>
+    requires { IsAccepted program.now }
+    ensures same { IfOk result (λ graph. Lowered program.now graph) }
+{
+    let mut pous = List::new(alloc);
+    for block in program.blocks.as_slice() {
+        pous.push(unit(alloc, block)?)?;
+    }
+    Ok(GraphProgram {
+        dbs: List::new(alloc),
+        globals: List::new(alloc),
+        pous,
+    })
+}
+
+fn unit(alloc: Global, block: &Block) -> Result<GraphPou, NoMemory>
+    ensures { IfOk result (λ unit. unit ≡ unit_of block.now) }
+{
+    let head = head(alloc, block.name)?;
+    let mut nodes = List::new(alloc);
+    nodes.push(node(alloc, block.body.as_slice())?)?;
+    Ok(GraphPou {
+        head,
+        graph: StGraph { nodes },
+    })
+}
+
+fn head(alloc: Global, name: BlockName) -> Result<Pou, NoMemory>
+    ensures { IfOk result (λ head. head ≡ head_of_block name) }
+{
+    let name = unit_name(alloc, name)?;
+    Ok(Pou {
+        program: true,
+        name,
+        formals: List::new(alloc),
+        locals: List::new(alloc),
+        body: List::new(alloc),
+    })
+}
+
+fn unit_name(alloc: Global, name: BlockName) -> Result<List<u8>, NoMemory>
+    ensures { IfOk result (λ text. text ≡ called_name name) }
+{
+    match name {
+        BlockName::Ob(number) => numbered(alloc, "OB", number),
+        BlockName::Fc(number) => numbered(alloc, "FC", number),
+        BlockName::Fb(number) => numbered(alloc, "FB", number),
+    }
+}
+
+fn numbered(alloc: Global, word: &str, number: u16) -> Result<List<u8>, NoMemory>
+    ensures { IfOk result (λ text. text ≡ word.now ++ decimal number) }
+{
+    let mut text = Vec::from_slice(alloc, word.as_bytes())?;
+    text.extend_from_slice(Buffer::new().format(number).as_bytes())?;
+    Ok(List::from_vec(text))
+}
+
+/// The node of a body of which no instruction jumps.
+fn node(alloc: Global, body: &[Instr]) -> Result<StNode, NoMemory>
+    ensures { IfOk result (λ node. node ≡ node_of body.now) }
+{
+    let mut steps = List::new(alloc);
+    for instr in body {
+        push_statements(alloc, &mut steps, &instr.op)?;
+    }
+    Ok(StNode {
+        steps,
+        exit: StExit::End,
+        only_end: body.len() == 1,
+    })
+}

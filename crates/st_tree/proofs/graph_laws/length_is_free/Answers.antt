@@ -1,0 +1,5 @@
+use Rattle.st_tree.proofs.GraphUnits.{longer_is_same}
+use Rattle.st_tree.proofs.graph_laws.length_is_free.Goals as goal
+
+pub returns : goal.returns
+returns c = longer_is_same
