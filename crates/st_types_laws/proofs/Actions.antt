@@ -1,21 +1,11 @@
--- What a statement is in the tree, its calls and its canonical form, at each variant.
+-- What a statement is in the tree, and its calls, at each variant.
 use Rattle.std.proofs.Common.{◌≡◌, ℕ, ◌++◌, ℤ, List, [], map, sym, ap, ◌∙◌}
 use Rattle.s7_base.specs.declared.reason.Line.{Line}
 use Rattle.s7_base.specs.declared.word.Width.{Width}
-use Rattle.st_canonical.specs.Canonical.{ArmFromLine, CaseFromLine, FromLine, arm_from, case_from, statement_from}
-use Rattle.st_canonical.specs.Canonical as canonical
-use Rattle.st_grammar.specs.Grammar.{arm_of, case_of, on_line}
-use Rattle.st_tree.specs.Typing.{Names}
-use Rattle.st_tree.specs.declared.expr.Expr.{Expr}
 use Rattle.st_tree.specs.declared.expr.StType.{StType}
-use Rattle.st_tree.specs.declared.expr.Var.{Var}
-use Rattle.st_tree.specs.declared.program.Arm.{Arm, fold_out-Arm}
-use Rattle.st_tree.specs.declared.program.CaseArm.{CaseArm, fold_out-CaseArm}
-use Rattle.st_tree.specs.declared.program.Stmt.{Stmt, fold-roll-Stmt, map-Stmt, roll-Stmt}
-use Rattle.st_tree.specs.declared.program.Stmt.TheOpen as S
-use Rattle.st_tree.specs.declared.program.Stmt.TheVariants as stmt
-use Rattle.st_tree.specs.declared.raw.RawArm.{RawArm, fold-roll-RawArm}
-use Rattle.st_tree.specs.declared.raw.RawCaseArm.{RawCaseArm, fold-roll-RawCaseArm}
+use Rattle.st_tree.specs.declared.program.Stmt.{Stmt}
+use Rattle.st_tree.specs.declared.raw.RawArm.{RawArm, fold-roll-RawArm, roll-RawArm}
+use Rattle.st_tree.specs.declared.raw.RawCaseArm.{RawCaseArm, fold-roll-RawCaseArm, roll-RawCaseArm}
 use Rattle.st_tree.specs.declared.raw.RawExpr.{RawExpr}
 use Rattle.st_tree.specs.declared.raw.RawStmt.{RawStmt, fold_out-RawStmt}
 use Rattle.st_tree.specs.declared.raw.RawStmtKind.{RawStmtKind, fold-roll-RawStmtKind, map-RawStmtKind, roll-RawStmtKind}
@@ -31,6 +21,18 @@ use Rattle.st_rules.specs.Scopes.{meaning_in}
 use Rattle.st_rules.specs.Statements.{Armed, Done, Labelled, action, arm, arm_step, case_arm, case_arm_step, kind_step, statement, statement_step, statements}
 use Rattle.call_chains.specs.declared.call.Call.{Call}
 use Rattle.st_rules.specs.declared.scope.Scope.{Scope}
+
+-- a statement on a line
+abbrev pub on_line : Line → RawStmtKind → RawStmt
+on_line line kind = record { line = line; kind = kind }
+
+-- an arm of an IF, with its statements
+abbrev pub raw_arm : RawExpr → List RawStmt → RawArm
+raw_arm test body = roll-RawArm (record { test = test; body = body })
+
+-- an arm of a CASE, with its statements
+abbrev pub raw_case : List (StType × ℤ) → List RawStmt → RawCaseArm
+raw_case labels body = roll-RawCaseArm (record { labels = labels; body = body })
 
 module _ (s : Scope) (l : Line) where
   -- What they are
@@ -129,82 +131,25 @@ module _ (s : Scope) (l : Line) where
 
 module _ (s : Scope) where
   pub act_arm : (test : RawExpr) (body : List RawStmt)
-      → arm s (arm_of test body) ≡ arm_step s (record { test = test; body = statements s body })
+      → arm s (raw_arm test body) ≡ arm_step s (record { test = test; body = statements s body })
   act_arm test body = fold-roll-RawArm Done Armed Labelled (Judged Stmt) (kind_step s)
       (arm_step s) case_arm_step statement_step (record { test = test; body = body })
 
   pub act_case_arm : (labels : List (StType × ℤ)) (body : List RawStmt)
-      → case_arm s (case_of labels body) ≡ case_arm_step (record { labels = labels; body = statements s body })
+      → case_arm s (raw_case labels body) ≡ case_arm_step (record { labels = labels; body = statements s body })
   act_case_arm labels body =
       fold-roll-RawCaseArm Done Armed Labelled (Judged Stmt) (kind_step s) (arm_step s) case_arm_step statement_step
       (record { labels = labels; body = body })
 
-  pub calls_arm : (test : RawExpr) (body : List RawStmt) → calls_of_arm s (arm_of test body) ≡ all_calls s body
+  pub calls_arm : (test : RawExpr) (body : List RawStmt) → calls_of_arm s (raw_arm test body) ≡ all_calls s body
   calls_arm test body =
       fold-roll-RawArm OnLine (List Call) (List Call) (List Call)
       (calls.kind_step s) calls.arm_step calls.case_arm_step calls.statement_step
       (record { test = test; body = body })
 
   pub calls_case_arm : (labels : List (StType × ℤ)) (body : List RawStmt)
-      → calls_of_case_arm s (case_of labels body) ≡ all_calls s body
+      → calls_of_case_arm s (raw_case labels body) ≡ all_calls s body
   calls_case_arm labels body =
       fold-roll-RawCaseArm OnLine (List Call) (List Call) (List Call)
       (calls.kind_step s) calls.arm_step calls.case_arm_step calls.statement_step
       (record { labels = labels; body = body })
-
--- Canonical forms
-
-module _ (names : Names) where
-  from_at : (x : Stmt) (y : S.Stmt-F Stmt Arm CaseArm) → x ≡ roll-Stmt y
-      → statement_from names x ≡ canonical.statement_step names
-      (map-Stmt Stmt Arm CaseArm FromLine ArmFromLine CaseFromLine (statement_from names) (arm_from names)
-      (case_from names) y)
-  from_at x y e = ap (statement_from names) e
-      ∙ fold-roll-Stmt FromLine ArmFromLine CaseFromLine (canonical.statement_step names)
-      (canonical.arm_step names) canonical.case_step y
-
-  pub from_assign : (v : Var) (e : Expr)
-      → statement_from names (stmt.Assign v e) ≡ canonical.statement_step names (S.Assign v e)
-  from_assign v e = from_at (stmt.Assign v e) (S.Assign v e) (sym (stmt.rolls-Assign v e))
-
-  pub from_write : (w : Width) (p e : Expr)
-      → statement_from names (stmt.AreaWrite w p e) ≡ canonical.statement_step names (S.AreaWrite w p e)
-  from_write w p e = from_at (stmt.AreaWrite w p e) (S.AreaWrite w p e) (sym (stmt.rolls-AreaWrite w p e))
-
-  pub from_invoke : (n : ℕ) (vars : List Var)
-      → statement_from names (stmt.Invoke n vars) ≡ canonical.statement_step names (S.Invoke n vars)
-  from_invoke n vars = from_at (stmt.Invoke n vars) (S.Invoke n vars) (sym (stmt.rolls-Invoke n vars))
-
-  pub from_if : (arms : List Arm) (other : List Stmt)
-      → statement_from names (stmt.If arms other)
-      ≡ canonical.statement_step names (S.If (map (arm_from names) arms) (map (statement_from names) other))
-  from_if arms other = from_at (stmt.If arms other) (S.If arms other) (sym (stmt.rolls-If arms other))
-
-  pub from_case : (e : Expr) (arms : List CaseArm) (other : List Stmt)
-      → statement_from names (stmt.Case e arms other)
-      ≡ canonical.statement_step names (S.Case e (map (case_from names) arms) (map (statement_from names) other))
-  from_case e arms other = from_at (stmt.Case e arms other) (S.Case e arms other) (sym (stmt.rolls-Case e arms other))
-
-  pub from_while : (e : Expr) (body : List Stmt)
-      → statement_from names (stmt.While e body)
-      ≡ canonical.statement_step names (S.While e (map (statement_from names) body))
-  from_while e body = from_at (stmt.While e body) (S.While e body) (sym (stmt.rolls-While e body))
-
-  pub from_exit : statement_from names stmt.Exit ≡ canonical.statement_step names S.Exit
-  from_exit = from_at stmt.Exit S.Exit (sym stmt.rolls-Exit)
-
-  pub from_continue : statement_from names stmt.Continue ≡ canonical.statement_step names S.Continue
-  from_continue = from_at stmt.Continue S.Continue (sym stmt.rolls-Continue)
-
-  pub from_return : statement_from names stmt.Return ≡ canonical.statement_step names S.Return
-  from_return = from_at stmt.Return S.Return (sym stmt.rolls-Return)
-
-  pub from_arm : (a : Arm) → arm_from names a
-      ≡ canonical.arm_step names (record { test = a.test; body = map (statement_from names) a.body })
-  from_arm a = fold_out-Arm FromLine ArmFromLine CaseFromLine (canonical.statement_step names)
-      (canonical.arm_step names) canonical.case_step a
-
-  pub from_case_arm : (a : CaseArm)
-      → case_from names a ≡ canonical.case_step (record { labels = a.labels; body = map (statement_from names) a.body })
-  from_case_arm a = fold_out-CaseArm FromLine ArmFromLine CaseFromLine (canonical.statement_step names)
-      (canonical.arm_step names) canonical.case_step a

@@ -4,8 +4,7 @@ use Rattle.s7_base.specs.declared.reason.Line.{Line}
 use Rattle.s7_base.specs.declared.reason.Reason.{Reason}
 use Rattle.s7_base.specs.declared.reason.Reason.TheVariants.{TypeMismatch}
 use Rattle.s7_base.specs.declared.word.Width.{Width}
-use Rattle.st_grammar.specs.Grammar.{arm_of as raw_arm, case_of as raw_case, on_line}
-use Rattle.st_read_proper.proofs.Actions.{act_arm, act_assign, act_case, act_case_arm, act_if, act_while, act_write}
+use Rattle.st_types_laws.proofs.Actions.{act_arm, act_assign, act_case, act_case_arm, act_if, act_while, act_write, on_line, raw_arm, raw_case}
 use Rattle.st_tree.specs.Values.{type_of_width}
 use Rattle.st_tree.specs.declared.expr.Expr.{Expr}
 use Rattle.st_tree.specs.declared.expr.StType.{StType}
@@ -20,7 +19,7 @@ use Rattle.st_tree.specs.declared.raw.RawExpr.{RawExpr}
 use Rattle.st_tree.specs.declared.raw.RawStmt.{RawStmt}
 use Rattle.st_tree.specs.declared.raw.RawStmtKind.TheVariants as raw
 use Rattle.st_tree.specs.declared.raw.RawVar.{RawVar}
-use Rattle.st_types_laws.proofs.BodyCosts.{nil_first, nil_second}
+use Rattle.st_types_laws.proofs.Lists.{map_last, nil_first, nil_second}
 use Rattle.st_rules.specs.Broken.{Judged, behind, breaks_in, breaks_rule, found_in, sound}
 use Rattle.st_rules.specs.Expressions.{answered, expression, variable_on}
 use Rattle.st_rules.specs.Statements.{Armed, Labelled, area_write_of, arm, arm_of, arms_on, assignment_of, case_arm, case_arms_on, case_of, label_breaks, selector, selector_of, statement, statements, test, test_of, type_of_selector, while_of}
@@ -50,14 +49,6 @@ found_of js xs h = ap found_in h ∙ found_sound xs
 
 pub clean_of : {T : Type 0} (js : List (Judged T)) (xs : List T) → AreSound js xs → breaks_in js ≡ []
 clean_of js xs h = ap breaks_in h ∙ breaks_sound xs
-
-pub map_append : {X Y : Type 0} (f : X → Y) (xs ys : List X) → map f (xs ++ ys) ≡ map f xs ++ map f ys
-map_append f [] ys = refl
-map_append f (x ∷ xs) ys = ap (λ l. f x ∷ l) (map_append f xs ys)
-
-pub map_last : {X Y : Type 0} (f : X → Y) (xs : List X) (x : X) → map f (xs ++ x ∷ []) ≡ map f xs ++ f x ∷ []
-map_last f [] x = refl
-map_last f (y ∷ xs) x = ap (λ l. f y ∷ l) (map_last f xs x)
 
 pub breaks_last : {T : Type 0} (js : List (Judged T)) (j : Judged T) → breaks_in (js ++ j ∷ []) ≡ [] → (breaks_in js ≡ []) × (j.breaks ≡ [])
 breaks_last [] j h = (refl, nil_first j.breaks [] h)
@@ -284,3 +275,36 @@ module _ (s : Scope) (l : Line) where
     where
       arm_with : List ℤ → List Stmt → CaseArm
       arm_with labels body = record { labels = labels; body = body }
+
+-- Lists, with one part more
+
+pub statements_last : (s : Scope) (rs : List RawStmt) (r : RawStmt) (xs : List Stmt) (x : Stmt)
+    → AreSound (statements s rs) xs → statement s r ≡ sound x
+    → AreSound (statements s (rs ++ r ∷ [])) (xs ++ x ∷ [])
+statements_last s rs r xs x h g =
+    map_last (statement s) rs r ∙ ap (λ z. z ++ statement s r ∷ []) h ∙ ap (λ z. map sound xs ++ z ∷ []) g
+    ∙ sym (map_last sound xs x)
+
+pub arms_read_last : (s : Scope) (m : Line) (rs : List RawArm) (r : RawArm)
+    → arms_on m (map (arm s) (rs ++ r ∷ [])) ≡ arms_on m (map (arm s) rs) ++ arm s r m ∷ []
+arms_read_last s m rs r = ap (arms_on m) (map_last (arm s) rs r)
+    ∙ map_last (λ (a : Armed). a m) (map (arm s) rs) (arm s r)
+
+pub cases_read_last : (s : Scope) (m : Line) (ty : Option StType) (rs : List RawCaseArm) (r : RawCaseArm)
+    → case_arms_on m ty (map (case_arm s) (rs ++ r ∷ []))
+    ≡ case_arms_on m ty (map (case_arm s) rs) ++ case_arm s r m ty ∷ []
+cases_read_last s m ty rs r = ap (case_arms_on m ty) (map_last (case_arm s) rs r)
+    ∙ map_last (λ (a : Labelled). a m ty) (map (case_arm s) rs) (case_arm s r)
+
+pub arms_sound_last : (s : Scope) (m : Line) (rs : List RawArm) (r : RawArm) (xs : List Arm) (x : Arm)
+    → AreSound (arms_on m (map (arm s) rs)) xs → arm s r m ≡ sound x
+    → AreSound (arms_on m (map (arm s) (rs ++ r ∷ []))) (xs ++ x ∷ [])
+arms_sound_last s m rs r xs x h g = arms_read_last s m rs r ∙ ap (λ z. z ++ arm s r m ∷ []) h
+    ∙ ap (λ z. map sound xs ++ z ∷ []) g ∙ sym (map_last sound xs x)
+
+pub cases_sound_last : (s : Scope) (m : Line) (ty : Option StType) (rs : List RawCaseArm) (r : RawCaseArm)
+    (xs : List CaseArm) (x : CaseArm)
+    → AreSound (case_arms_on m ty (map (case_arm s) rs)) xs → case_arm s r m ty ≡ sound x
+    → AreSound (case_arms_on m ty (map (case_arm s) (rs ++ r ∷ []))) (xs ++ x ∷ [])
+cases_sound_last s m ty rs r xs x h g = cases_read_last s m ty rs r ∙ ap (λ z. z ++ case_arm s r m ty ∷ []) h
+    ∙ ap (λ z. map sound xs ++ z ∷ []) g ∙ sym (map_last sound xs x)

@@ -1,12 +1,11 @@
 -- The types of expressions by the rules of the tree are those by the rules of the text.
-use Rattle.std.proofs.Common.{◌≡◌, Bool, true, false, not, ◌&&◌, ◌||◌, ◌==◌, cond, Option, Some, None, refl, ap, ◌∙◌}
+use Rattle.std.proofs.Common.{◌≡◌, Bool, not, ◌&&◌, ◌||◌, ◌==◌, cond, None, refl, ap, ◌∙◌}
 use Rattle.std.specs.Prelude.{nat_lt}
 use Rattle.s7_base.specs.declared.word.Width.{Width}
 use Rattle.st_rules.specs.Types as rules
 use Rattle.st_tree.specs.TypeRules as tree
 use Rattle.st_tree.specs.TypeRules.{where_true}
 use Rattle.st_tree.specs.Values.{type_of_width}
-use Rattle.st_tree.specs.WellTyped.{on_type}
 use Rattle.st_tree.specs.declared.expr.BinaryOp.{BinaryOp}
 use Rattle.st_tree.specs.declared.expr.BinaryOp.TheVariants as binary
 use Rattle.st_tree.specs.declared.expr.StType.{StType}
@@ -79,20 +78,3 @@ pub same_selector : (ty : StType) → rules.is_selector ty ≡ tree.is_selector 
 same_selector ty =
     ap (λ t. t || rules.is_type ty type.Dint) (same_is ty type.Int)
     ∙ ap (λ t. tree.is_type ty type.Int || t) (same_is ty type.Dint)
-
--- Types that are given
-
--- an operand has a type, from which a rule gives this one
-pub record Given (o : Option StType) (rule : StType → Option StType) (ty : StType) : Type 0 where
-  pub first : StType
-  pub is : o ≡ Some first
-  pub rest : rule first ≡ Some ty
-
-pub given : (o : Option StType) (rule : StType → Option StType) (ty : StType) → on_type o rule ≡ Some ty
-    → Given o rule ty
-given None rule ty h = absurd cc
-given (Some x) rule ty h = record { first = x; is = refl; rest = h }
-
-pub where_given : (t : Bool) (x y : StType) → where_true t x ≡ Some y → (t ≡ true) × (x ≡ y)
-where_given true x y h = let same : x ≡ y = cc in (refl, same)
-where_given false x y h = absurd cc

@@ -2,9 +2,8 @@
 use Rattle.std.proofs.Common.{◌≡◌, ℕ, ◌≤◌, max, ◌++◌, ℤ, List, [], ◌∷◌, map, ap, ◌∙◌, arith}
 use Rattle.call_chains.specs.declared.call.Call.{Call}
 use Rattle.s7_base.specs.declared.reason.Line.{Line}
-use Rattle.st_grammar.specs.Grammar.{arm_of as raw_arm, case_of as raw_case, on_line}
-use Rattle.st_proper.proofs.Actions.{calls_arm, calls_case, calls_case_arm, calls_if, calls_while}
-use Rattle.st_proper.proofs.Parts.{map_last}
+use Rattle.st_types_laws.proofs.Actions.{calls_arm, calls_case, calls_case_arm, calls_if, calls_while, on_line, raw_arm, raw_case}
+use Rattle.st_types_laws.proofs.Lists.{map_last}
 use Rattle.st_rules.specs.Calls.{all_calls, calls_of, calls_of_arm, calls_of_case_arm, joined}
 use Rattle.st_rules.specs.declared.scope.Scope.{Scope}
 use Rattle.st_tree.specs.Costs.{greatest}

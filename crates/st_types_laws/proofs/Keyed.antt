@@ -1,19 +1,12 @@
 -- Tables by keys: what stands under a key after other entries, and formals with keys of their own.
-use Rattle.std.proofs.Common.{◌≡◌, ℕ, Bool, true, false, cond, List, [], ◌∷◌, ◌++◌, Some, None, refl, ap, ◌∙◌, eqb-true}
-use Rattle.std.specs.Prelude.{nat_eq}
-use Rattle.std.specs.Cmp.Lexicographic.{pointwise}
+use Rattle.std.proofs.Common.{◌≡◌, ℕ, ◌+◌, Bool, true, false, cond, List, [], ◌∷◌, ◌++◌, Some, None, refl, ap, ◌∙◌}
 use Rattle.std.proofs.lemmas.Cmp.{nat_list_eq_equiv}
 use Rattle.st_tree.specs.declared.program.Local.{Local}
-use Rattle.st_types_laws.proofs.BlockKeys.{both}
+use Rattle.st_rules.specs.declared.scope.Meaning.{Meaning}
+use Rattle.st_rules.specs.declared.scope.Meaning.TheVariants as meaning
+use Rattle.st_types_laws.proofs.Apart.{AreApart}
+use Rattle.st_types_laws.proofs.DeclaredNames.{formal_entries}
 use Rattle.st_rules.specs.Names.{Table, is_same, key_of, look_up}
-
-pub same_keys : (a b : List ℕ) → is_same a b ≡ true → a ≡ b
-same_keys [] [] h = refl
-same_keys [] (y ∷ ys) h = absurd cc
-same_keys (x ∷ xs) [] h = absurd cc
-same_keys (x ∷ xs) (y ∷ ys) h =
-    let t = both (nat_eq x y) (pointwise nat_eq xs ys) h in
-    ap (λ k. k ∷ xs) (eqb-true x y t.0) ∙ ap (λ l. y ∷ l) (same_keys xs ys t.1)
 
 own_key : (k : List ℕ) → is_same k k ≡ true
 own_key k = nat_list_eq_equiv.refl k
@@ -62,3 +55,17 @@ absent_also table k x (l ∷ ls) h o = (absent_last table (key_of l.name) k x h.
 pub none_absent : (T : Type 0) (ls : List Local) → AreAbsent {T = T} [] ls
 none_absent T [] = tt
 none_absent T (l ∷ ls) = (refl, none_absent T ls)
+
+-- a key that does not stand in a table is that of no formal in it
+others_of : (k : List ℕ) (i : ℕ) (ls : List Local) (more : Table Meaning) → look_up k (formal_entries i ls ++ more) ≡ None → IsOther k ls
+others_of k i [] more h = tt
+others_of k i (l ∷ ls) more h = by (is_same k (key_of l.name)) refl (others_of k (i + 1) ls more) h
+  where
+    by : (t : Bool) → is_same k (key_of l.name) ≡ t → (look_up k (formal_entries (i + 1) ls ++ more) ≡ None → IsOther k ls)
+        → cond t (Some (meaning.Formal i l.ty)) (look_up k (formal_entries (i + 1) ls ++ more)) ≡ None → IsOther k (l ∷ ls)
+    by true e next q = absurd cc
+    by false e next q = (e, next q)
+
+pub distinct_of : (i : ℕ) (ls : List Local) (more : Table Meaning) → AreApart (formal_entries i ls ++ more) → AreDistinct ls
+distinct_of i [] more a = tt
+distinct_of i (l ∷ ls) more a = (others_of (key_of l.name) (i + 1) ls more a.0, distinct_of (i + 1) ls more a.1)

@@ -2,7 +2,7 @@
 use Rattle.std.proofs.Common.{◌≡◌, ◌++◌, [], Option, Some, None, refl, sym, ap, ◌∙◌}
 use Rattle.s7_base.specs.declared.reason.Line.{Line}
 use Rattle.s7_base.specs.declared.word.Width.{Width}
-use Rattle.st_read_proper.proofs.ReadEquations.{read_unary, read_binary, read_convert, read_select, read_shift, read_area}
+use Rattle.st_types_laws.proofs.ReadEquations.{read_unary, read_binary, read_convert, read_select, read_shift, read_area}
 use Rattle.st_tree.specs.declared.expr.BinaryOp.{BinaryOp}
 use Rattle.st_tree.specs.declared.expr.Expr.{Expr}
 use Rattle.st_tree.specs.declared.expr.Expr.TheVariants as expr
@@ -11,7 +11,7 @@ use Rattle.st_tree.specs.declared.expr.StType.{StType}
 use Rattle.st_tree.specs.declared.expr.UnaryOp.{UnaryOp}
 use Rattle.st_tree.specs.declared.raw.RawExpr.{RawExpr}
 use Rattle.st_tree.specs.declared.raw.RawExpr.TheVariants as raw
-use Rattle.st_types_laws.proofs.BodyCosts.{nil_first, nil_second}
+use Rattle.st_types_laws.proofs.Lists.{nil_first, nil_second}
 use Rattle.st_rules.specs.Broken.{Judged, behind, sound}
 use Rattle.st_rules.specs.Expressions.{area_read_of, binary_of, choice_of, conversion_of, expression, shift_of, typed_as, unary_of}
 use Rattle.st_rules.specs.Types.{type_of_binary, type_of_choice, type_of_conversion, type_of_read, type_of_shift, type_of_unary}

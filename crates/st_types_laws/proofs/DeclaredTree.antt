@@ -1,5 +1,4 @@
--- A text that declares again what the tree of another has: its declarations break no rule, give the same data
--- blocks and globals, and names mean the same in both.
+-- What a text declares that has a tree, and that names in a scope say what stands in the tree.
 use Rattle.std.proofs.Common.{◌≡◌, ◌⊎◌, ℕ, zero, suc, ◌+◌, Bool, true, false, cond, List, [], ◌∷◌, ◌++◌, map, length, Option, Some, None, inl, inr, refl, sym, ap, subst, ◌∙◌, arith}
 use Rattle.std.specs.Prelude.{slice_get}
 use Rattle.std.specs.List.{fold}
@@ -16,29 +15,34 @@ use Rattle.st_tree.specs.declared.program.StProgram.{StProgram}
 use Rattle.st_tree.specs.declared.raw.RawLocal.{RawLocal}
 use Rattle.st_tree.specs.declared.raw.RawPou.{RawPou}
 use Rattle.st_tree.specs.declared.raw.RawSt.{RawSt}
-use Rattle.st_rules.specs.Declarations.{all_inside, all_outside, formals_of, keys_of, locals_of, no_outside, types_of, with_global, with_type}
+use Rattle.st_rules.specs.Declarations.{meaning_of_unit, all_inside, all_outside, formals_of, keys_of, locals_of, no_outside, types_of, with_global, with_type}
 use Rattle.st_rules.specs.Globals.{all_blocks, all_global_breaks, all_located}
 use Rattle.st_rules.specs.Names.{Table, is_same, key_of, look_up, with_entry}
 use Rattle.st_rules.specs.Scopes.{as_register, meaning_in, or_else, register_named}
-use Rattle.st_rules.specs.Typed.{HasTree, breaks_of, names_of}
-use Rattle.st_rules.specs.Units.{all_unit_breaks, all_units, breaks_of_unit, scope_in}
+use Rattle.st_rules.specs.Typed.{HasTree, breaks_of, first_break, names_of}
+use Rattle.st_rules.specs.Units.{all_unit_breaks, all_units, breaks_of_unit}
 use Rattle.st_rules.specs.declared.scope.Formals.{Formals}
 use Rattle.st_rules.specs.declared.scope.Meaning.{Meaning}
 use Rattle.st_rules.specs.declared.scope.Meaning.TheVariants as meaning
 use Rattle.st_rules.specs.declared.scope.Scope.{Scope}
 use Rattle.st_types_laws.proofs.Apart.{Lists, same_keys}
-use Rattle.st_types_laws.proofs.BodyCosts.{nil_first, nil_second}
-use Rattle.st_types_laws.proofs.DataBlocks.{are_blocks, before_units}
-use Rattle.st_types_laws.proofs.Declared.{Declares, IsFunctionAt, IsGlobalAt, IsLocalAt, SameScope, keys_of_locals, types_of_locals}
-use Rattle.st_types_laws.proofs.DeclaredNames.{AreNumbered, ArePlaced, Gathered, block_entries, formal_entries, gather, gather_inside, gather_units, inner_entries, local_entries, located_entries, outer_entries, unit_entries}
+use Rattle.st_types_laws.proofs.Lists.{nil_first, nil_second, mapped_at, nil_at}
+use Rattle.st_types_laws.proofs.DataBlocks.{before_units}
+use Rattle.st_types_laws.proofs.Declared.{Declares, IsFunctionAt, IsGlobalAt, IsLocalAt, keys_of_locals, types_of_locals}
+use Rattle.st_types_laws.proofs.DeclaredNames.{AreNumbered, ArePlaced, Gathered, block_entries, entries, formal_entries, gather, gather_units, inner_entries, local_entries, located_entries, outer_entries, unit_entries}
 use Rattle.st_types_laws.proofs.FirstBreak.{first_of_all_is_first}
-use Rattle.st_types_laws.proofs.PlainTexts.{inside_again, plain_text}
-use Rattle.st_types_laws.proofs.Redeclared.{AreLocalsAt, AreUnitsAt, IsUnitAt, Redeclares}
-use Rattle.st_types_laws.proofs.RunnableUnits.{mapped_at, nil_at, sound_units}
+use Rattle.st_types_laws.proofs.Redeclared.{AreLocalsAt, AreUnitsAt, IsUnitAt}
+
+pub sound_units : (raw : RawSt) → first_break raw ≡ None → all_unit_breaks (names_of raw) (map formals_of raw.pous) raw.pous ≡ []
+sound_units raw h =
+    let outside = (all_outside raw.globals raw.pous).breaks in
+    let globals = all_global_breaks raw.globals in
+    let inside = all_unit_breaks (names_of raw) (map formals_of raw.pous) raw.pous in
+    nil_second globals inside (nil_second outside (globals ++ inside) (first_of_all_is_first.none (breaks_of raw) h))
 
 -- A text declares what its own tree has
 
-locals_there : (rs : List RawLocal) → AreLocalsAt (locals_of rs) rs
+pub locals_there : (rs : List RawLocal) → AreLocalsAt (locals_of rs) rs
 locals_there [] = tt
 locals_there (r ∷ rs) = (record { named = refl; typed = refl }, locals_there rs)
 
@@ -163,47 +167,17 @@ module _ (names : Names) (formals : List Formals) where
   blocks_stand [] = tt
   blocks_stand (b ∷ bs) = (tt, blocks_stand bs)
 
-  located_stand : (i : ℕ) (ls : List Located) → ((n : ℕ) (l : Located) → slice_get ls n ≡ Some l → slice_get names.globals (i + n) ≡ Some l) → AllStand (located_entries i ls)
-  located_stand i [] h = tt
-  located_stand i (l ∷ ls) h =
-      let here : i + 0 ≡ i = omega arith in
-      let there : slice_get names.globals i ≡ Some l = ap (slice_get names.globals) (sym here) ∙ h 0 l refl in (
-        subst (IsGlobalAt (key_of l.name) l.ty) (sym there) (refl, refl),
-        located_stand (i + 1) ls (λ n x q. let next : i + 1 + n ≡ i + suc n = omega arith in ap (slice_get names.globals) next ∙ h (suc n) x q),
+  entries_stand : {X : Type 0} (name : X → List ℕ) (mean : ℕ → X → Meaning) (i : ℕ) (xs : List X)
+      → ((n : ℕ) (x : X) → slice_get xs n ≡ Some x → Stands names formals (key_of (name x)) (mean (i + n) x))
+      → AllStand (entries (λ x. key_of (name x)) mean i xs)
+  entries_stand name mean i [] h = tt
+  entries_stand name mean i (x ∷ xs) h =
+      let here : i + 0 ≡ i = omega arith in (
+        subst (λ j. Stands names formals (key_of (name x)) (mean j x)) here (h 0 x refl),
+        entries_stand name mean (i + 1) xs (λ n y q.
+            let next : i + suc n ≡ i + 1 + n = omega arith in
+            subst (λ j. Stands names formals (key_of (name y)) (mean j y)) next (h (suc n) y q)),
       )
-
-  formals_stand : (i : ℕ) (ls : List Local) → ((n : ℕ) (l : Local) → slice_get ls n ≡ Some l → slice_get names.formals (i + n) ≡ Some l) → AllStand (formal_entries i ls)
-  formals_stand i [] h = tt
-  formals_stand i (l ∷ ls) h =
-      let here : i + 0 ≡ i = omega arith in
-      let there : slice_get names.formals i ≡ Some l = ap (slice_get names.formals) (sym here) ∙ h 0 l refl in (
-        subst (IsLocalAt (key_of l.name) l.ty) (sym there) (refl, refl),
-        formals_stand (i + 1) ls (λ n x q. let next : i + 1 + n ≡ i + suc n = omega arith in ap (slice_get names.formals) next ∙ h (suc n) x q),
-      )
-
-  locals_stand : (i : ℕ) (ls : List Local) → ((n : ℕ) (l : Local) → slice_get ls n ≡ Some l → slice_get names.locals (i + n) ≡ Some l) → AllStand (local_entries i ls)
-  locals_stand i [] h = tt
-  locals_stand i (l ∷ ls) h =
-      let here : i + 0 ≡ i = omega arith in
-      let there : slice_get names.locals i ≡ Some l = ap (slice_get names.locals) (sym here) ∙ h 0 l refl in (
-        subst (IsLocalAt (key_of l.name) l.ty) (sym there) (refl, refl),
-        locals_stand (i + 1) ls (λ n x q. let next : i + 1 + n ≡ i + suc n = omega arith in ap (slice_get names.locals) next ∙ h (suc n) x q),
-      )
-
-  units_stand : (i : ℕ) (ps : List Pou) → formals ≡ map formals_in names.units
-      → ((n : ℕ) (p : Pou) → slice_get ps n ≡ Some p → slice_get names.units (i + n) ≡ Some p) → AllStand (unit_entries i ps)
-  units_stand i [] e h = tt
-  units_stand i (p ∷ ps) e h =
-      (by p.program, units_stand (i + 1) ps e (λ n x q. let next : i + 1 + n ≡ i + suc n = omega arith in ap (slice_get names.units) next ∙ h (suc n) x q))
-    where
-      by : (t : Bool) → Stands names formals (key_of p.name) (cond t meaning.Program (meaning.Function i))
-      by true = tt
-      by false =
-          let here : i + 0 ≡ i = omega arith in
-          let there : slice_get names.units i ≡ Some p = ap (slice_get names.units) (sym here) ∙ h 0 p refl in
-          let seen : slice_get formals i ≡ Some (formals_in p) = ap (λ fs. slice_get fs i) e ∙ mapped_at formals_in names.units i p there in
-          subst (λ o. IsFunctionAt (key_of p.name) o (slice_get formals i)) (sym there)
-          (subst (IsFunctionAt (key_of p.name) (Some p)) (sym seen) (record { named = refl; keys = refl; types = refl }))
 
 -- the meaning of another name than a register's stands in a table
 abbrev IsNoRegister : Meaning → Type 0
@@ -215,25 +189,7 @@ in_tables (Some r) x y m other h = let same : meaning.Register r ≡ m = cc in a
 in_tables None (Some n) y m other h = inl h
 in_tables None None y m other h = inr h
 
--- Both texts
-
--- a unit that is declared again: names mean the same in it, they stand in the tree where they mean, and its own
--- declarations break no rule
-pub record IsUnitAgain (t : StProgram) (raw again : RawSt) (u v : RawPou) (p : Pou) : Type 0 where
-  pub same : SameScope (scope_in (names_of again) (map formals_of again.pous) v) (scope_in (names_of raw) (map formals_of raw.pous) u)
-  pub declares : Declares (scope_in (names_of raw) (map formals_of raw.pous) u) (names_in t p)
-  pub inside : (all_inside v.formals v.locals).breaks ≡ []
-
--- what holds of a text that declares again what the tree of another has
-pub record IsRedeclared (t : StProgram) (raw again : RawSt) : Type 0 where
-  pub outside : (all_outside again.globals again.pous).breaks ≡ []
-  pub globals : all_global_breaks again.globals ≡ []
-  pub blocks : all_blocks again.globals ≡ t.dbs
-  pub located : all_located again.globals ≡ t.globals
-  pub formals : map formals_of again.pous ≡ map formals_of raw.pous
-  pub names : (key : List ℕ) → look_up key (names_of again) ≡ look_up key (names_of raw)
-  pub size : length again.pous ≡ length raw.pous
-  pub unit : (n : ℕ) (u v : RawPou) (p : Pou) → slice_get raw.pous n ≡ Some u → slice_get again.pous n ≡ Some v → slice_get t.pous n ≡ Some p → IsUnitAgain t raw again u v p
+-- A scope
 
 pub same_length : (ps : List Pou) (us : List RawPou) → AreUnitsAt ps us → length us ≡ length ps
 same_length [] [] a = refl
@@ -257,16 +213,34 @@ scope_declares t p scope inner outer formals = record {
     names : Names
     names = names_in t p
 
+    unit_stands : (n : ℕ) (u : Pou) → slice_get t.pous n ≡ Some u
+        → Stands names scope.formals (key_of u.name) (meaning_of_unit (0 + n) u.program)
+    unit_stands n u q = by u.program
+      where
+        by : (b : Bool) → Stands names scope.formals (key_of u.name) (meaning_of_unit (0 + n) b)
+        by true = tt
+        by false =
+            let there = from_start t.pous n u q in
+            let seen : slice_get scope.formals (0 + n) ≡ Some (formals_in u) =
+            ap (λ fs. slice_get fs (0 + n)) formals ∙ mapped_at formals_in t.pous (0 + n) u there in
+            subst (λ o. IsFunctionAt (key_of u.name) o (slice_get scope.formals (0 + n))) (sym there)
+            (subst (IsFunctionAt (key_of u.name) (Some u)) (sym seen) (record { named = refl; keys = refl; types = refl }))
+
     inner_stands : AllStand names scope.formals (inner_entries p)
     inner_stands =
-        stand_joined names scope.formals (formal_entries 0 p.formals) (local_entries 0 p.locals) (formals_stand names scope.formals 0 p.formals (λ n l q. from_start p.formals n l q))
-        (locals_stand names scope.formals 0 p.locals (λ n l q. from_start p.locals n l q))
+        stand_joined names scope.formals (formal_entries 0 p.formals) (local_entries 0 p.locals)
+        (entries_stand names scope.formals (λ (l : Local). l.name) _ 0 p.formals (λ n l q.
+        subst (IsLocalAt (key_of l.name) l.ty) (sym (from_start p.formals n l q)) (refl, refl)))
+        (entries_stand names scope.formals (λ (l : Local). l.name) _ 0 p.locals (λ n l q.
+        subst (IsLocalAt (key_of l.name) l.ty) (sym (from_start p.locals n l q)) (refl, refl)))
 
     outer_stands : AllStand names scope.formals (outer_entries t)
     outer_stands =
         stand_joined names scope.formals (block_entries t.dbs) (located_entries 0 t.globals ++ unit_entries 0 t.pous) (blocks_stand names scope.formals t.dbs)
-        (stand_joined names scope.formals (located_entries 0 t.globals) (unit_entries 0 t.pous) (located_stand names scope.formals 0 t.globals (λ n l q. from_start t.globals n l q))
-        (units_stand names scope.formals 0 t.pous formals (λ n q r. from_start t.pous n q r)))
+        (stand_joined names scope.formals (located_entries 0 t.globals) (unit_entries 0 t.pous)
+        (entries_stand names scope.formals (λ (g : Located). g.name) _ 0 t.globals (λ n g q.
+        subst (IsGlobalAt (key_of g.name) g.ty) (sym (from_start t.globals n g q)) (refl, refl)))
+        (entries_stand names scope.formals (λ (u : Pou). u.name) _ 0 t.pous unit_stands))
 
     stands : (key : List ℕ) (m : Meaning) → IsNoRegister m → meaning_in scope key ≡ Some m → Stands names scope.formals key m
     stands key m other h = by (in_tables (register_named key) (look_up key scope.inner) (look_up key scope.outer) m other h)
@@ -274,39 +248,3 @@ scope_declares t p scope inner outer formals = record {
         by : (look_up key scope.inner ≡ Some m) ⊎ (look_up key scope.outer ≡ Some m) → Stands names scope.formals key m
         by (inl q) = found_stands names scope.formals key m (inner_entries p) (sym (inner.same key) ∙ q) inner_stands
         by (inr q) = found_stands names scope.formals key m (outer_entries t) (sym (outer.same key) ∙ q) outer_stands
-
--- what declares again what the tree of a text has is sound, and means the same
-pub redeclared : (t : StProgram) (raw again : RawSt) → HasTree raw t → Redeclares t again → IsRedeclared t raw again
-redeclared t raw again h r =
-    let i = is_declared raw t h in
-    let fit = are_blocks raw t h in
-    let plain = plain_text t.dbs t.globals t.pous r.blocks r.others again.pous r.are_blocks r.are_located r.are_units i.numbered i.placed fit.ascend fit.few i.names.apart in
-    let names_again : names_of again ≡ outer_entries t = ap (λ globals. (all_outside globals again.pous).names) r.globals ∙ plain.names in
-    let own = formals_same t.pous raw.pous i.units in
-    let formals : map formals_of again.pous ≡ map formals_of raw.pous = formals_same t.pous again.pous r.are_units ∙ sym own in
-    let same_names : (key : List ℕ) → look_up key (names_of again) ≡ look_up key (names_of raw) = λ key. ap (look_up key) names_again ∙ sym (i.names.same key) in
-    record {
-      outside = ap (λ globals. (all_outside globals again.pous).breaks) r.globals ∙ plain.outside;
-      globals = ap all_global_breaks r.globals ∙ plain.sound;
-      blocks = ap all_blocks r.globals ∙ plain.blocks;
-      located = ap all_located r.globals ∙ plain.located;
-      formals = formals;
-      names = same_names;
-      size = same_length t.pous again.pous r.are_units ∙ sym (same_length t.pous raw.pous i.units);
-      unit = λ n u v p q s d.
-          let own_unit = unit_there t.pous raw.pous i.units n p u d q in
-          let other_unit = unit_there t.pous again.pous r.are_units n p v d s in
-          let inner = gather_inside p u own_unit.formals own_unit.locals (i.inside n u q) in
-          let inside = inside_again p v other_unit.formals other_unit.locals inner.apart in
-          record {
-            same = record {
-              same = λ key.
-                  ap (λ table. or_else (as_register (register_named key)) (or_else (look_up key table) (look_up key (names_of again)))) inside.1
-                  ∙ ap (λ o. or_else (as_register (register_named key)) (or_else o (look_up key (names_of again)))) (sym (inner.same key))
-                  ∙ ap (λ o. or_else (as_register (register_named key)) (or_else (look_up key (all_inside u.formals u.locals).names) o)) (same_names key);
-              formals = formals;
-            };
-            declares = scope_declares t p (scope_in (names_of raw) (map formals_of raw.pous) u) inner i.names own;
-            inside = inside.0;
-          };
-    }
