@@ -18,14 +18,13 @@ use Rattle.st_proper.proofs.Literals.{kept}
 use Rattle.st_proper.proofs.Nested.{right_level, wrapped_level}
 use Rattle.st_types_laws.proofs.Operands.{area_found, binary_found, convert_found, select_found, shift_found, unary_found}
 use Rattle.st_proper.proofs.Given.{given, where_given}
-use Rattle.st_types_laws.proofs.SameTypes.{same_binary, same_choice, same_conversion, same_read, same_shift, same_unary}
 use Rattle.st_proper.proofs.Scope.{Sees, sight_by}
 use Rattle.st_proper.proofs.Values.{has_value}
 use Rattle.st_proper.proofs.Variables.{of_type, written}
 use Rattle.st_proper.proofs.Words.{conversion_there}
 use Rattle.st_rules.specs.Broken.{Judged, sound}
 use Rattle.st_rules.specs.Expressions.{answered, expression, read_of}
-use Rattle.st_rules.specs.Types.{type_of_unary}
+use Rattle.st_tree.specs.TypeRules.{type_of_unary}
 use Rattle.st_rules.specs.Variables.{variable as variable_in}
 use Rattle.st_rules.specs.declared.expression.Typed.{Typed}
 use Rattle.st_rules.specs.declared.scope.Scope.{Scope}
@@ -141,7 +140,7 @@ module _ (s : Scope) (names : Names) (sees : Sees s names) where
       let g = given (type_in a) (types.type_of_unary op) u (sym (typed_unary (sight_by names) op a) ∙ h) in
       subst (Sound s m (typed_tree u (expr.Unary op a))) (sym (form_unary names k op a))
       (before_sound s m op (typed_tree g.first a) u (expr_form names k a) (p g.first g.is k m)
-      (same_unary op g.first ∙ g.rest))
+      g.rest)
 
   binary_good : (op : BinaryOp) (a b : Expr) → Good a → Good b → Good (expr.Binary op a b)
   binary_good op a b p q u h k m =
@@ -155,7 +154,7 @@ module _ (s : Scope) (names : Names) (sees : Sees s names) where
       subst (Sound s m (typed_tree u (expr.Binary op a b))) (sym (form_binary names k op a b)) (record {
         means = binary_found s m op (tree (wrapped (infix_level op) c)) (tree (wrapped (infix_level op - 1) d))
             (typed_tree g.first a) (typed_tree f.first b) u
-            x.means y.means (same_binary op g.first f.first ∙ f.rest);
+            x.means y.means f.rest;
         binds = (wrapped_level (infix_level op) c, right_level op d, x.binds, y.binds);
         spelled = (x.spelled, y.spelled);
       })
@@ -173,7 +172,7 @@ module _ (s : Scope) (names : Names) (sees : Sees s names) where
       ap not (conversion_there from to) ∙ ap (λ t. not (not t)) w.0 in
       subst (Sound s m (typed_tree u (expr.Convert from to a))) (sym (form_convert names k from to a)) (record {
         means = convert_found s m from to (tree c) (typed_tree g.first a) u x.means
-            (same_conversion from to g.first ∙ f.is ∙ ap (λ t. Some t) w.1);
+            (f.is ∙ ap (λ t. Some t) w.1);
         binds = x.binds;
         spelled = (there, x.spelled);
       })
@@ -191,7 +190,7 @@ module _ (s : Scope) (names : Names) (sees : Sees s names) where
         means = select_found s m (tree (expr_form names k a)) (tree (expr_form names k b)) (tree (expr_form names k e))
             (typed_tree g.first a)
             (typed_tree f.first b) (typed_tree i.first e) u x.means y.means z.means
-            (same_choice g.first f.first i.first ∙ i.rest);
+            i.rest;
         binds = (x.binds, y.binds, z.binds);
         spelled = (x.spelled, y.spelled, z.spelled);
       })
@@ -206,7 +205,7 @@ module _ (s : Scope) (names : Names) (sees : Sees s names) where
       subst (Sound s m (typed_tree u (expr.Shift op a b))) (sym (form_shift names k op a b)) (record {
         means = shift_found s m op (tree (expr_form names k a)) (tree (expr_form names k b)) (typed_tree g.first a)
             (typed_tree f.first b) u x.means y.means
-            (same_shift g.first f.first ∙ f.rest);
+            f.rest;
         binds = (x.binds, y.binds);
         spelled = (x.spelled, y.spelled);
       })
@@ -217,7 +216,7 @@ module _ (s : Scope) (names : Names) (sees : Sees s names) where
       let x = p g.first g.is k m in
       subst (Sound s m (typed_tree u (expr.AreaRead w a))) (sym (form_area names k w a)) (record {
         means = area_found s m w (tree (expr_form names k a)) (typed_tree g.first a) u x.means
-            (same_read w g.first ∙ g.rest);
+            g.rest;
         binds = x.binds;
         spelled = (refl, x.spelled);
       })

@@ -25,10 +25,11 @@ use Rattle.st_rules.specs.Broken.{behind, breaks_rule, broken, listed, sound}
 use Rattle.st_rules.specs.Calls.{call_on, calls_of}
 use Rattle.st_rules.specs.Expressions.{answered}
 use Rattle.st_rules.specs.Invocations.{Actual, Given, call_of, call_with, callee, formal_breaks, function_call, given_by, in_order, lacks, plain, var_given, with_actual}
-use Rattle.st_rules.specs.Names.{Table, key_of, look_up, with_entry}
+use Rattle.st_rules.specs.Names.{Table, look_up, with_entry}
+use Rattle.st_tree.specs.Naming.{key_of}
 use Rattle.st_rules.specs.Scopes.{meaning_in}
 use Rattle.st_rules.specs.Statements.{statement}
-use Rattle.st_rules.specs.Types.{is_type}
+use Rattle.st_tree.specs.TypeRules.{is_type}
 use Rattle.st_rules.specs.declared.scope.Formals.{Formals}
 use Rattle.st_rules.specs.declared.scope.Meaning.TheVariants as meaning
 use Rattle.st_rules.specs.declared.scope.Scope.{Scope}

@@ -13,14 +13,15 @@ use Rattle.st_lexer.proofs.Words.{and_both, not_true}
 use Rattle.st_proper.proofs.Words.{of_same, same_of}
 use Rattle.st_rules.specs.Globals.{number_from, number_in}
 use Rattle.st_rules.specs.Names as rules
-use Rattle.st_rules.specs.Names.{is_block_name, is_digit, is_same, without_zeros}
-use Rattle.st_rules.specs.Scopes.{register_name, register_named}
+use Rattle.st_tree.specs.Naming.{is_digit}
+use Rattle.st_tree.specs.Naming.{is_same, names_block, without_zeros}
+use Rattle.st_rules.specs.Scopes.{register_named}
+use Rattle.st_tree.specs.Words.{register_word}
 use Rattle.st_rules.specs.declared.scope.TheConstants.{REGISTERS}
 use Rattle.st_tree.specs.Naming as tree
 use Rattle.st_tree.specs.Naming.{is_free, is_next, is_numbered, is_register, is_unit_number, may_name_local, may_name_unit, names_block, register_names}
 use Rattle.st_types_laws.proofs.Apart.{same_keys}
 use Rattle.st_types_laws.proofs.Lists.{both_true}
-use Rattle.st_types_laws.proofs.SameKeys.{block_agrees}
 use Rattle.st_types_laws.proofs.PlainNumbers.{plain_number}
 
 -- Names of data blocks
@@ -67,35 +68,35 @@ size_upper (x ∷ name) = ap suc (size_upper name)
 block_back : (name : List ℕ) → names_block (map to_ascii_uppercase name) ≡ true → names_block name ≡ true
 block_back name h =
     let capitals = map to_ascii_uppercase name in
-    let parts = and_both (is_same_word (take 2 capitals) (codes "DB")) (tree.are_digits (drop 2 capitals)) h in
+    let parts = and_both (is_same_word (take 2 capitals) (codes "DB")) (are_digits (drop 2 capitals)) h in
     let rest = map to_ascii_uppercase (drop 2 name) in
-    let digits : tree.are_digits rest ≡ true = ap tree.are_digits (sym (rest_upper name)) ∙ parts.1 in
+    let digits : are_digits rest ≡ true = ap are_digits (sym (rest_upper name)) ∙ parts.1 in
     let more = and_both (nat_lt 0 (length rest)) (list_all is_digit rest) digits in
     let letters : is_same_word (take 2 name) (codes "DB") ≡ true =
     of_same (take 2 name) (codes "DB")
     (sym (lower_upper (take 2 name)) ∙ ap str_to_ascii_lowercase (sym (two_upper name))
     ∙ same_of (take 2 capitals) (codes "DB") parts.0) in
-    both_true (is_same_word (take 2 name) (codes "DB")) (tree.are_digits (drop 2 name)) letters
+    both_true (is_same_word (take 2 name) (codes "DB")) (are_digits (drop 2 name)) letters
     (both_true (nat_lt 0 (length (drop 2 name))) (list_all is_digit (drop 2 name))
     (ap (nat_lt 0) (sym (size_upper (drop 2 name))) ∙ more.0) (digits_back (drop 2 name) more.1))
 
-not_block : (name : List ℕ) → names_block name ≡ false → is_block_name (map to_ascii_uppercase name) ≡ false
-not_block name h = by (is_block_name (map to_ascii_uppercase name)) refl
+not_block : (name : List ℕ) → names_block name ≡ false → names_block (map to_ascii_uppercase name) ≡ false
+not_block name h = by (names_block (map to_ascii_uppercase name)) refl
   where
-    by : (t : Bool) → is_block_name (map to_ascii_uppercase name) ≡ t → t ≡ false
+    by : (t : Bool) → names_block (map to_ascii_uppercase name) ≡ t → t ≡ false
     by false e = refl
-    by true e = let back = block_back name (sym (block_agrees name) ∙ e) in absurd cc
+    by true e = let back = block_back name e in absurd cc
 
 -- the key of another name is its capitals
-key_is : (name : List ℕ) → names_block name ≡ false → rules.key_of name ≡ map to_ascii_uppercase name
-unfolding rules.key_of
+key_is : (name : List ℕ) → names_block name ≡ false → key_of name ≡ map to_ascii_uppercase name
+unfolding key_of
 key_is name h =
     let capitals = map to_ascii_uppercase name in
     ap (λ t. cond t (68 ∷ 66 ∷ without_zeros (drop 2 capitals)) capitals) (not_block name h)
 
 -- Registers
 
-registers_are : map register_name REGISTERS ≡ register_names
+registers_are : map register_word REGISTERS ≡ register_names
 registers_are = refl
 
 is_word : (name w : List ℕ) → is_same w (map to_ascii_uppercase name) ≡ true → is_same_word name w ≡ true
@@ -103,39 +104,39 @@ is_word name w h =
     of_same name w (sym (lower_upper name)
     ∙ ap str_to_ascii_lowercase (sym (same_keys w (map to_ascii_uppercase name) h)))
 
-not_found : (name : List ℕ) (rs : List Reg) → is_among (map register_name rs) name ≡ false
-    → find (λ r. is_same (register_name r) (map to_ascii_uppercase name)) rs ≡ None
+not_found : (name : List ℕ) (rs : List Reg) → is_among (map register_word rs) name ≡ false
+    → find (λ r. is_same (register_word r) (map to_ascii_uppercase name)) rs ≡ None
 not_found name [] h = refl
 not_found name (r ∷ rs) h =
-    by (is_same (register_name r) (map to_ascii_uppercase name)) refl (is_same_word name (register_name r)) refl
+    by (is_same (register_word r) (map to_ascii_uppercase name)) refl (is_same_word name (register_word r)) refl
     (not_found name rs) h
   where
-    by : (t : Bool) → is_same (register_name r) (map to_ascii_uppercase name) ≡ t → (u : Bool)
-        → is_same_word name (register_name r) ≡ u
-        → (is_among (map register_name rs) name ≡ false
-        → find (λ r. is_same (register_name r) (map to_ascii_uppercase name)) rs ≡ None)
-        → (u || is_among (map register_name rs) name) ≡ false
-        → cond t (Some r) (find (λ r. is_same (register_name r) (map to_ascii_uppercase name)) rs) ≡ None
+    by : (t : Bool) → is_same (register_word r) (map to_ascii_uppercase name) ≡ t → (u : Bool)
+        → is_same_word name (register_word r) ≡ u
+        → (is_among (map register_word rs) name ≡ false
+        → find (λ r. is_same (register_word r) (map to_ascii_uppercase name)) rs ≡ None)
+        → (u || is_among (map register_word rs) name) ≡ false
+        → cond t (Some r) (find (λ r. is_same (register_word r) (map to_ascii_uppercase name)) rs) ≡ None
     by t e true f more g = absurd cc
-    by true e false f more g = let is = is_word name (register_name r) e in absurd cc
+    by true e false f more g = let is = is_word name (register_word r) e in absurd cc
     by false e false f more g = more g
 
 no_register : (name : List ℕ) → names_block name ≡ false → is_register name ≡ false
-    → register_named (rules.key_of name) ≡ None
+    → register_named (key_of name) ≡ None
 unfolding register_named
 no_register name h g =
-    ap (λ k. find (λ r. is_same (register_name r) k) REGISTERS) (key_is name h)
+    ap (λ k. find (λ r. is_same (register_word r) k) REGISTERS) (key_is name h)
     ∙ not_found name REGISTERS (ap (λ ws. is_among ws name) registers_are ∙ g)
 
 -- What a name is that names no register and no data block
 
 pub record IsOther (name : List ℕ) : Type 0 where
-  pub block : is_block_name (rules.key_of name) ≡ false
-  pub register : register_named (rules.key_of name) ≡ None
+  pub block : names_block (key_of name) ≡ false
+  pub register : register_named (key_of name) ≡ None
 
 is_other : (name : List ℕ) → names_block name ≡ false → is_register name ≡ false → IsOther name
 is_other name h g = record {
-  block = ap is_block_name (key_is name h)
+  block = ap names_block (key_is name h)
       ∙ not_block name h;
   register = no_register name h g;
 }
@@ -166,7 +167,7 @@ next_letters name h =
     ap (λ l. bytes_eq l (codes "db")) (lower_two name ∙ ap (take 2) (same_of name (codes "NEXT") h))
 
 no_letters : (name : List ℕ) → is_same_word (take 2 name) (codes "DB") ≡ false → names_block name ≡ false
-no_letters name h = ap (λ t. t && tree.are_digits (drop 2 name)) h
+no_letters name h = ap (λ t. t && are_digits (drop 2 name)) h
 
 -- a name that begins with other letters than each of some words is none of them
 begins_other : (ws : List (List ℕ)) (name letters : List ℕ) → is_same_word (take 2 name) letters ≡ true
@@ -190,7 +191,7 @@ numbered : (name letters : List ℕ) → is_numbered letters name ≡ true
     → bytes_eq (str_to_ascii_lowercase letters) (codes "db") ≡ false
     → list_any (λ w. is_same_word letters (take 2 w)) register_names ≡ false → IsOther name
 numbered name letters h g r =
-    let same = (and_both (is_same_word (take 2 name) letters) (tree.are_digits (drop 2 name)) h).0 in
+    let same = (and_both (is_same_word (take 2 name) letters) (are_digits (drop 2 name)) h).0 in
     is_other name (no_letters name (ap (λ l. bytes_eq l (codes "db")) (same_of (take 2 name) letters same) ∙ g))
     (begins_other register_names name letters same r)
 
@@ -222,36 +223,36 @@ unit_name name h = by (is_unit_number name) refl h
     by false e g = free_name name g
 
 -- the key of a data block is that of no other name, and of no data block of another number
-pub block_key : (n : ℕ) → 1 ≤ n → n ≤ 65535 → is_block_name (rules.key_of (codes "DB" ++ decimal n)) ≡ true
-block_key n some small = by (is_block_name (rules.key_of (codes "DB" ++ decimal n))) refl (plain_number n some small)
+pub block_key : (n : ℕ) → 1 ≤ n → n ≤ 65535 → names_block (key_of (codes "DB" ++ decimal n)) ≡ true
+block_key n some small = by (names_block (key_of (codes "DB" ++ decimal n))) refl (plain_number n some small)
   where
-    by : (t : Bool) → is_block_name (rules.key_of (codes "DB" ++ decimal n)) ≡ t
-        → cond t (number_from 0 (drop 2 (rules.key_of (codes "DB" ++ decimal n)))) 0 ≡ n → t ≡ true
+    by : (t : Bool) → names_block (key_of (codes "DB" ++ decimal n)) ≡ t
+        → cond t (number_from 0 (drop 2 (key_of (codes "DB" ++ decimal n)))) 0 ≡ n → t ≡ true
     by true e h = refl
     by false e h = absurd (omega (arith, h, some))
 
-pub other_key : (key : List ℕ) (name : List ℕ) → is_block_name key ≡ true → IsOther name
-    → is_same key (rules.key_of name) ≡ false
-other_key key name h o = by (is_same key (rules.key_of name)) refl
+pub other_key : (key : List ℕ) (name : List ℕ) → names_block key ≡ true → IsOther name
+    → is_same key (key_of name) ≡ false
+other_key key name h o = by (is_same key (key_of name)) refl
   where
-    by : (t : Bool) → is_same key (rules.key_of name) ≡ t → t ≡ false
+    by : (t : Bool) → is_same key (key_of name) ≡ t → t ≡ false
     by false e = refl
     by true e =
-        let is : is_block_name (rules.key_of name) ≡ true = ap is_block_name (sym (same_keys key (rules.key_of name) e))
+        let is : names_block (key_of name) ≡ true = ap names_block (sym (same_keys key (key_of name) e))
         ∙ h in
         let no = o.block in
         absurd cc
 
 pub other_number : (n m : ℕ) → 1 ≤ n → n < m → m ≤ 65535
-    → is_same (rules.key_of (codes "DB" ++ decimal n)) (rules.key_of (codes "DB" ++ decimal m)) ≡ false
+    → is_same (key_of (codes "DB" ++ decimal n)) (key_of (codes "DB" ++ decimal m)) ≡ false
 other_number n m some less small = by
-    (is_same (rules.key_of (codes "DB" ++ decimal n)) (rules.key_of (codes "DB" ++ decimal m))) refl
+    (is_same (key_of (codes "DB" ++ decimal n)) (key_of (codes "DB" ++ decimal m))) refl
   where
-    by : (t : Bool) → is_same (rules.key_of (codes "DB" ++ decimal n)) (rules.key_of (codes "DB" ++ decimal m)) ≡ t
+    by : (t : Bool) → is_same (key_of (codes "DB" ++ decimal n)) (key_of (codes "DB" ++ decimal m)) ≡ t
         → t ≡ false
     by false e = refl
     by true e =
-        let same = same_keys (rules.key_of (codes "DB" ++ decimal n)) (rules.key_of (codes "DB" ++ decimal m)) e in
+        let same = same_keys (key_of (codes "DB" ++ decimal n)) (key_of (codes "DB" ++ decimal m)) e in
         let equal : n ≡ m =
         sym (plain_number n some (omega (arith, less, small))) ∙ ap number_in same
         ∙ plain_number m (omega (arith, some, less)) small in

@@ -9,10 +9,10 @@ use Rattle.st_canonical.specs.Spelled.{is_name}
 use Rattle.st_lexer.proofs.Words.{and_both}
 use Rattle.st_types_laws.proofs.Keyed.{AreDistinct, distinct_of, found_behind}
 use Rattle.st_proper.proofs.Keys.{IsOther, block_key, free_name, local_name, other_key, other_number, unit_name}
-use Rattle.st_types_laws.proofs.SameKeys.{same_key}
 use Rattle.st_proper.proofs.Words.{spelled_name}
 use Rattle.st_rules.specs.Declarations.{meaning_of_unit}
-use Rattle.st_rules.specs.Names.{Table, is_block_name, is_same, key_of, look_up}
+use Rattle.st_rules.specs.Names.{Table, look_up}
+use Rattle.st_tree.specs.Naming.{is_same, key_of, names_block}
 use Rattle.st_rules.specs.Scopes.{as_register, meaning_in, or_else, register_named}
 use Rattle.st_rules.specs.declared.scope.Meaning.{Meaning}
 use Rattle.st_rules.specs.declared.scope.Meaning.TheVariants as meaning
@@ -111,9 +111,9 @@ key_of_block n = key_of (codes "DB" ++ decimal n)
 -- no data block has one of these keys
 abbrev AreOther : Table Meaning → Type 0
 AreOther [] = Unit {0}
-AreOther (e ∷ es) = ((key : List ℕ) → is_block_name key ≡ true → is_same key e.0 ≡ false) × AreOther es
+AreOther (e ∷ es) = ((key : List ℕ) → names_block key ≡ true → is_same key e.0 ≡ false) × AreOther es
 
-no_other : (k : List ℕ) (es : Table Meaning) → is_block_name k ≡ true → AreOther es → look_up k es ≡ None
+no_other : (k : List ℕ) (es : Table Meaning) → names_block k ≡ true → AreOther es → look_up k es ≡ None
 no_other k [] h o = refl
 no_other k (e ∷ es) h o = ap (λ t. cond t (Some e.1) (look_up k es)) (o.0 k h) ∙ no_other k es h o.1
 
@@ -292,5 +292,4 @@ sees t u s p h inner outer formals = record {
     hidden name seen =
         ap (look_up (key_of name)) inner
         ∙ missing (key_of name) (inner_entries u)
-        (ap (tree.is_new (key_of name)) (inner_keys u)
-        ∙ ap (λ k. tree.is_new k (keys_of u.formals ++ keys_of u.locals)) (same_key name) ∙ seen)
+        (ap (tree.is_new (key_of name)) (inner_keys u) ∙ seen)

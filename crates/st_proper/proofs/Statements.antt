@@ -19,7 +19,6 @@ use Rattle.st_proper.proofs.Expressions.{expression_sound, nest_is, typed_tree}
 use Rattle.st_proper.proofs.Good.{GoodAll, GoodArms, GoodCases, GoodOne}
 use Rattle.st_proper.proofs.Invoked.{invoke_good}
 use Rattle.st_types_laws.proofs.Parts.{arm_is, assign_is, case_arm_is, case_is, if_is, selector_is, test_is, values, while_is, write_is, arms_sound_last, cases_sound_last, statements_last}
-use Rattle.st_types_laws.proofs.SameTypes.{same_selector}
 use Rattle.st_proper.proofs.Scope.{Sees, sight_by}
 use Rattle.st_proper.proofs.Variables.{of_type, written}
 use Rattle.st_rules.specs.Statements.{label_breaks}
@@ -412,7 +411,7 @@ module _ (s : Scope) (names : Names) (sees : Sees s names) (agree : TypesAgreeIn
       let c = expr_form names k e in
       record {
         means = case_is s (on k) (tree c) (tree_cases a.0) [] (typed_tree t.ty e) arms []
-            (selector_is s (on k) (tree c) (typed_tree t.ty e) i.means (same_selector t.ty ∙ t.selects)) g.means refl;
+            (selector_is s (on k) (tree c) (typed_tree t.ty e) i.means (t.selects)) g.means refl;
         fits = (i.binds, g.some t.some, g.fits);
         spelled = (i.spelled, g.spelled);
         low = λ d. omega (arith, nest_is names k e, g.low (suc d), nesting_case e arms []);
@@ -432,7 +431,7 @@ module _ (s : Scope) (names : Names) (sees : Sees s names) (agree : TypesAgreeIn
       record {
         means = case_is s (on k) (tree c) (tree_cases a.0) (tree_all form) (typed_tree t.ty e) arms (y ∷ ys)
             (selector_is s (on k) (tree c) (typed_tree t.ty e) i.means
-            (same_selector t.ty ∙ t.selects)) g.means h.means;
+            (t.selects)) g.means h.means;
         fits = (i.binds, g.some t.some, g.fits, h.fits);
         spelled = (i.spelled, g.spelled, h.spelled);
         low = λ d. omega (arith, nest_is names k e, g.low (suc d), h.low (suc d), nesting_case e arms (y ∷ ys));

@@ -5,7 +5,7 @@ use Rattle.s7_base.specs.Tokens.{line_after}
 use Rattle.st_canonical.specs.Canonical.{Placed, body_from, locals_from, on, section_from, statement_from, unit_from, units_from}
 use Rattle.st_grammar.specs.Forms.{Statements, Locals, no_local, local, Section, absent, present, Units, no_unit}
 use Rattle.st_grammar.specs.Grammar.{AllFit, FormalsFit, HeadFits, IfPresent, LocalsFit, UnitsFit, held, is_formal_type, tree_all, tree_locals, tree_units}
-use Rattle.st_grammar.specs.Kinds.{is_free, may_name_local, may_name_unit}
+use Rattle.st_tree.specs.Naming.{is_free, may_name_local, may_name_unit}
 use Rattle.st_grammar.specs.Levels.{levels_all, levels_locals, levels_section, levels_units}
 use Rattle.st_canonical.specs.Spelled.{AllSpelled, LocalsSpelled, UnitsSpelled, is_name}
 use Rattle.st_proper.proofs.BlockForms.{AreWithin, with_four, with_zero}

@@ -14,7 +14,8 @@ use Rattle.st_lexer.proofs.Words.{and_both}
 use Rattle.st_proper.proofs.Given.{where_given}
 use Rattle.st_proper.proofs.Scope.{Sees, sight_by}
 use Rattle.st_proper.proofs.Values.{block_place, placed, plain_place, small_number}
-use Rattle.st_rules.specs.Names.{key_of, look_up}
+use Rattle.st_rules.specs.Names.{look_up}
+use Rattle.st_tree.specs.Naming.{key_of}
 use Rattle.st_rules.specs.Scopes.{as_register, or_else, register_named}
 use Rattle.st_rules.specs.Variables as rules
 use Rattle.st_rules.specs.Variables.{variable, variable_named, variable_of}
@@ -143,7 +144,7 @@ module _ (s : Scope) (names : Names) (sees : Sees s names) where
       → Good (type_of_width w) (var.InBlock n byte bit w)
   in_block n byte bit w h g =
       let p = placed area.Db w byte bit g in
-      let both : (rules.is_block_number n && rules.is_place area.Db w byte bit)
+      let both : (is_block_number n && rules.is_place area.Db w byte bit)
       ≡ true = ap (λ t. t && rules.is_place area.Db w byte bit) h ∙ p.rules in
       record {
         means = ap (λ t. cond t (variable_of (type_of_width w) (var.InBlock n byte bit w)) (Err BadAddress)) both;

@@ -36,7 +36,7 @@ use Rattle.st_rules.specs.Calls.{all_calls}
 use Rattle.st_rules.specs.Declarations.{all_outside, formals_of, local_of, locals_of}
 use Rattle.st_rules.specs.Globals.{all_blocks, all_global_breaks, all_located}
 use Rattle.st_rules.specs.Statements.{statements}
-use Rattle.st_rules.specs.Types.{has_width}
+use Rattle.st_tree.specs.TypeRules.{has_width}
 use Rattle.st_rules.specs.Typed.{IsChain, breaks_of, calls_in, names_of, tree_of}
 use Rattle.st_rules.specs.Units.{all_unit_breaks, all_units, breaks_of_unit, calls_of_unit, scope_in, unit_of}
 use Rattle.st_rules.specs.Variables as rules

@@ -7,9 +7,9 @@ use Rattle.memory_areas.specs.declared.data_block.DataBlock.{DataBlock}
 use Rattle.st_types_laws.proofs.Lists.{Each, each_at, mapped_at, both_true}
 use Rattle.st_types_laws.proofs.Apart.{same_keys, AreApart, Lists}
 use Rattle.st_types_laws.proofs.Keyed.{AreDistinct}
-use Rattle.st_types_laws.proofs.SameKeys.{same_key}
 use Rattle.st_read_proper.proofs.Sees.{IsCallable, Sees}
-use Rattle.st_rules.specs.Names.{Table, is_same, look_up}
+use Rattle.st_rules.specs.Names.{Table, look_up}
+use Rattle.st_tree.specs.Naming.{is_same}
 use Rattle.st_rules.specs.Names as rules
 use Rattle.st_rules.specs.Scopes.{as_register, meaning_in, or_else, register_named}
 use Rattle.st_rules.specs.declared.scope.Formals.{Formals}
@@ -70,7 +70,7 @@ IsInner other = ⊥
 
 local_means : (i : ℕ) (ls : List Local) (k : List ℕ) (m : Meaning) → look_up k (local_entries i ls) ≡ Some m → IsInner m
 local_means i [] k m h = absurd cc
-local_means i (l ∷ ls) k m h = by (is_same k (rules.key_of l.name)) (local_means (i + 1) ls k m) h
+local_means i (l ∷ ls) k m h = by (is_same k (key_of l.name)) (local_means (i + 1) ls k m) h
   where
     by : (t : Bool) → (look_up k (local_entries (i + 1) ls) ≡ Some m → IsInner m)
         → cond t (Some (meaning.Local i l.ty)) (look_up k (local_entries (i + 1) ls)) ≡ Some m → IsInner m
@@ -80,7 +80,7 @@ local_means i (l ∷ ls) k m h = by (is_same k (rules.key_of l.name)) (local_mea
 inner_means : (i : ℕ) (ls : List Local) (rest : Table Meaning) (k : List ℕ) (m : Meaning) → (look_up k rest ≡ Some m → IsInner m)
     → look_up k (formal_entries i ls ++ rest) ≡ Some m → IsInner m
 inner_means i [] rest k m f h = f h
-inner_means i (l ∷ ls) rest k m f h = by (is_same k (rules.key_of l.name)) (inner_means (i + 1) ls rest k m f) h
+inner_means i (l ∷ ls) rest k m f h = by (is_same k (key_of l.name)) (inner_means (i + 1) ls rest k m f) h
   where
     by : (t : Bool) → (look_up k (formal_entries (i + 1) ls ++ rest) ≡ Some m → IsInner m)
         → cond t (Some (meaning.Formal i l.ty)) (look_up k (formal_entries (i + 1) ls ++ rest)) ≡ Some m → IsInner m
@@ -120,12 +120,11 @@ outside p outer key m None None o h a b e = record { hidden = a; there = b ∙ e
 
 -- a name that stands for nothing inside is seen
 seen_of : (sight : Sight) (p : Pou) (key name : List ℕ) → sight.formals ≡ p.formals → sight.locals ≡ p.locals
-    → look_up key (inner_entries p) ≡ None → rules.key_of name ≡ key → is_seen sight name ≡ true
+    → look_up key (inner_entries p) ≡ None → key_of name ≡ key → is_seen sight name ≡ true
 seen_of sight p key name f l h e =
     let keys : keys_in (inner_entries p) ≡ keys_of sight.formals ++ keys_of sight.locals =
     inner_keys p ∙ ap (λ ls. keys_of ls ++ keys_of p.locals) (sym f) ∙ ap (λ ls. keys_of sight.formals ++ keys_of ls) (sym l) in
-    let own : key ≡ key_of name = sym e ∙ same_key name in
-    ap (λ k. is_new k (keys_of sight.formals ++ keys_of sight.locals)) (sym own)
+    ap (λ k. is_new k (keys_of sight.formals ++ keys_of sight.locals)) e
     ∙ subst (λ ks. is_new key ks ≡ true) keys (new_of key (inner_entries p) h)
 
 -- Units
@@ -137,12 +136,12 @@ record IsUnit (ps : List Pou) (j i : ℕ) (key : List ℕ) : Type 0 where
   p : Pou
   there : slice_get ps n ≡ Some p
   function : p.program ≡ false
-  named : rules.key_of p.name ≡ key
+  named : key_of p.name ≡ key
 
 past_blocks : (bs : List DataBlock) (rest : Table Meaning) (k : List ℕ) (i : ℕ) → look_up k (block_entries bs ++ rest) ≡ Some (meaning.Function i)
     → look_up k rest ≡ Some (meaning.Function i)
 past_blocks [] rest k i h = h
-past_blocks (b ∷ bs) rest k i h = by (is_same k (rules.key_of (codes "DB" ++ decimal b.number))) (past_blocks bs rest k i) h
+past_blocks (b ∷ bs) rest k i h = by (is_same k (key_of (codes "DB" ++ decimal b.number))) (past_blocks bs rest k i) h
   where
     by : (t : Bool) → (look_up k (block_entries bs ++ rest) ≡ Some (meaning.Function i) → look_up k rest ≡ Some (meaning.Function i))
         → cond t (Some meaning.Block) (look_up k (block_entries bs ++ rest)) ≡ Some (meaning.Function i) → look_up k rest ≡ Some (meaning.Function i)
@@ -152,7 +151,7 @@ past_blocks (b ∷ bs) rest k i h = by (is_same k (rules.key_of (codes "DB" ++ d
 past_globals : (j : ℕ) (gs : List Located) (rest : Table Meaning) (k : List ℕ) (i : ℕ) → look_up k (located_entries j gs ++ rest) ≡ Some (meaning.Function i)
     → look_up k rest ≡ Some (meaning.Function i)
 past_globals j [] rest k i h = h
-past_globals j (g ∷ gs) rest k i h = by (is_same k (rules.key_of g.name)) (past_globals (j + 1) gs rest k i) h
+past_globals j (g ∷ gs) rest k i h = by (is_same k (key_of g.name)) (past_globals (j + 1) gs rest k i) h
   where
     by : (t : Bool) → (look_up k (located_entries (j + 1) gs ++ rest) ≡ Some (meaning.Function i) → look_up k rest ≡ Some (meaning.Function i))
         → cond t (Some (meaning.Global j g.ty)) (look_up k (located_entries (j + 1) gs ++ rest)) ≡ Some (meaning.Function i) → look_up k rest ≡ Some (meaning.Function i)
@@ -161,14 +160,14 @@ past_globals j (g ∷ gs) rest k i h = by (is_same k (rules.key_of g.name)) (pas
 
 unit_found : (j : ℕ) (ps : List Pou) (k : List ℕ) (i : ℕ) → look_up k (unit_entries j ps) ≡ Some (meaning.Function i) → IsUnit ps j i k
 unit_found j [] k i h = absurd cc
-unit_found j (p ∷ ps) k i h = by (is_same k (rules.key_of p.name)) p.program refl refl (unit_found (j + 1) ps k i) h
+unit_found j (p ∷ ps) k i h = by (is_same k (key_of p.name)) p.program refl refl (unit_found (j + 1) ps k i) h
   where
-    by : (t u : Bool) → is_same k (rules.key_of p.name) ≡ t → p.program ≡ u → (look_up k (unit_entries (j + 1) ps) ≡ Some (meaning.Function i) → IsUnit ps (j + 1) i k)
+    by : (t u : Bool) → is_same k (key_of p.name) ≡ t → p.program ≡ u → (look_up k (unit_entries (j + 1) ps) ≡ Some (meaning.Function i) → IsUnit ps (j + 1) i k)
         → cond t (Some (cond u meaning.Program (meaning.Function j))) (look_up k (unit_entries (j + 1) ps)) ≡ Some (meaning.Function i) → IsUnit (p ∷ ps) j i k
     by true true e f more q = absurd cc
     by true false e f more q =
         let same : j ≡ i = cc in
-        record { n = 0; place = omega (arith, same); p = p; there = refl; function = f; named = sym (same_keys k (rules.key_of p.name) e) }
+        record { n = 0; place = omega (arith, same); p = p; there = refl; function = f; named = sym (same_keys k (key_of p.name) e) }
     by false u e f more q =
         let r = more q in
         record { n = suc r.n; place = omega (arith, r.place); p = r.p; there = r.there; function = r.function; named = r.named }

@@ -14,17 +14,17 @@ use Rattle.st_types_laws.proofs.Bounds.{bound}
 use Rattle.st_types_laws.proofs.Keyed.{AreAbsent, AreDistinct, absent_also, found_behind, none_absent}
 use Rattle.st_types_laws.proofs.Apart.{same_keys}
 use Rattle.st_types_laws.proofs.Parts.{variable_there}
-use Rattle.st_types_laws.proofs.SameTypes.{same_is}
 use Rattle.st_read_proper.proofs.Sees.{IsCallable, Sees, variable_has}
 use Rattle.st_read_proper.proofs.Statements.{FoundOne, cost_of, of_heads}
 use Rattle.st_rules.specs.Broken.{Judged, behind, breaks_rule, broken, listed, sound}
 use Rattle.st_rules.specs.Calls.{call_on, calls_of}
 use Rattle.st_rules.specs.Expressions.{answered, variable_on}
 use Rattle.st_rules.specs.Invocations.{Actual, Given, call_of, call_with, callee, formal_breaks, function_call, given_by, in_order, lacks, none_given, plain, var_given, with_actual}
-use Rattle.st_rules.specs.Names.{Table, is_same, key_of, look_up, with_entry}
+use Rattle.st_rules.specs.Names.{Table, look_up, with_entry}
+use Rattle.st_tree.specs.Naming.{is_same, key_of}
 use Rattle.st_rules.specs.Scopes.{meaning_in}
 use Rattle.st_rules.specs.Statements.{statement}
-use Rattle.st_rules.specs.Types.{is_type}
+use Rattle.st_tree.specs.TypeRules.{is_type}
 use Rattle.st_rules.specs.declared.broken.Break.{Break}
 use Rattle.st_rules.specs.declared.scope.Formals.{Formals}
 use Rattle.st_rules.specs.declared.scope.Meaning.{Meaning}
@@ -133,7 +133,7 @@ module _ (sight : Sight) (types : Table StType) where
   of_formal l o g t =
       let there : Some g.ty ≡ Some l.ty = sym g.typed ∙ t in
       let same : g.ty ≡ l.ty = cc in
-      ap (has_type l.ty) g.has ∙ sym (same_is g.x.ty l.ty)
+      ap (has_type l.ty) g.has
       ∙ subst (λ ty. is_type g.x.ty ty ≡ true) same g.fits
 
   are_in_order : (vars : Table (Option Var)) (ls : List Local) → AreGiven vars → AreTyped types ls

@@ -11,9 +11,10 @@ use Rattle.st_lexer.specs.Spelled as written
 use Rattle.std.proofs.lemmas.Bool.{and_parts}
 use Rattle.st_types_laws.proofs.Keyed.{AreDistinct}
 use Rattle.st_read_proper.proofs.Places.{place_is}
-use Rattle.st_rules.specs.Names.{key_of}
+use Rattle.st_tree.specs.Naming.{key_of}
 use Rattle.st_rules.specs.Scopes.{meaning_in}
-use Rattle.st_rules.specs.Variables.{is_block_number, is_place, variable, variable_named, variable_of}
+use Rattle.st_tree.specs.PlaceRules.{is_block_number}
+use Rattle.st_rules.specs.Variables.{is_place, variable, variable_named, variable_of}
 use Rattle.st_rules.specs.declared.scope.Formals.{Formals}
 use Rattle.st_rules.specs.declared.scope.Meaning.{Meaning}
 use Rattle.st_rules.specs.declared.scope.Meaning.TheVariants as meaning

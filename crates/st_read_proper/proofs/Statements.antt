@@ -18,11 +18,10 @@ use Rattle.st_canonical.proofs.Levels.{top_all, top_arms, top_cases, top_one}
 use Rattle.st_types_laws.proofs.Bounds.{all_last, arms_last, bound, bound_all, bound_arms, bound_case, bound_cases, bound_if, bound_while, cases_last, greatest_last}
 use Rattle.st_types_laws.proofs.Parts.{AreSound, arm_is, assign_is, case_arm_is, case_is, if_is, selector_is, test_is, values, while_is, write_is, writes, arms_sound_last, cases_sound_last, statements_last}
 use Rattle.st_types_laws.proofs.Lists.{both_true}
-use Rattle.st_types_laws.proofs.SameTypes.{same_is, same_selector}
 use Rattle.st_rules.specs.Broken.{sound}
 use Rattle.st_rules.specs.Calls.{calls_of}
 use Rattle.st_rules.specs.Statements.{arm as arm_in, arms_on, case_arm as case_arm_in, case_arms_on, label_breaks, statement, statements}
-use Rattle.st_rules.specs.Types as rules
+use Rattle.st_tree.specs.TypeRules as rules
 use Rattle.st_rules.specs.Variables.{variable as variable_in}
 use Rattle.st_rules.specs.declared.scope.Scope.{Scope}
 use Rattle.st_rules.specs.declared.variable.TypedVar.{TypedVar}
@@ -124,7 +123,7 @@ module _ (scope : Scope) (sight : Sight) (inside : Bool) where
   -- an expression of a type
   typed_as : (l : Line) (e : Form) (ty : StType) → (g : An l e) → rules.is_type g.t.ty ty ≡ true
       → has_type ty (expression_type sight g.t.tree) ≡ true
-  typed_as l e ty g fits = ap (has_type ty) g.typed ∙ sym (same_is g.t.ty ty) ∙ fits
+  typed_as l e ty g fits = ap (has_type ty) g.typed ∙ fits
 
   abbrev costs : (ℕ → ℕ) → ℕ → ℕ
   costs f = of_heads sight.heads f
@@ -161,7 +160,7 @@ module _ (scope : Scope) (sight : Sight) (inside : Bool) where
     found = assign_is scope l v (tree e) x g.t there g.found fits;
     typed = good_assign sight inside x.var g.t.tree
         ∙ ap (λ o. is_assigned o (expression_type sight g.t.tree)) has
-        ∙ ap (has_type x.ty) g.typed ∙ sym (same_is g.t.ty x.ty) ∙ turned x.ty g.t.ty fits;
+        ∙ ap (has_type x.ty) g.typed ∙ turned x.ty g.t.ty fits;
     low = λ d. omega (arith, nesting_assign x.var g.t.tree, g.close.inner);
     calls = λ f. omega (arith, most_assign (chain_costs f) x.var g.t.tree);
   }
@@ -342,7 +341,7 @@ module _ (scope : Scope) (sight : Sight) (inside : Bool) where
       ∙ ap (λ o. are_cases o inside checks && are_well_typed sight inside other) g.typed
       ∙ both_true (first && each_case g.t.ty inside checks) (are_well_typed sight inside other)
       (both_true first (each_case g.t.ty inside checks)
-      (both_true (is_selector g.t.ty) (is_some_of checks) (sym (same_selector g.t.ty) ∙ fits) some) h) more
+      (both_true (is_selector g.t.ty) (is_some_of checks) (fits) some) h) more
 
   pub of_cases : (l : Line) (e : Form) (arms : CaseArms) → HasCase arms → (g : An l e)
       → rules.is_selector g.t.ty ≡ true → SomeCases l g.t.ty arms → One (cases l e arms)

@@ -18,9 +18,13 @@ use Rattle.st_tree.specs.declared.expr.StType.TheVariants as type
 abbrev pub is_letter : ℕ → Bool
 is_letter b = is_between 65 90 b || is_between 97 122 b || b == 95
 
+-- a digit
+abbrev pub is_digit : ℕ → Bool
+is_digit b = is_between 48 57 b
+
 -- a digit and more, and nothing else
 abbrev pub are_digits : List ℕ → Bool
-are_digits text = nat_lt 0 (length text) && list_all (λ b. is_between 48 57 b) text
+are_digits text = nat_lt 0 (length text) && list_all is_digit text
 
 -- two letters in any case, and a number after them
 abbrev pub is_numbered : List ℕ → List ℕ → Bool

@@ -16,7 +16,7 @@ use Rattle.st_rules.specs.Broken.{Judged}
 use Rattle.st_rules.specs.Calls as calls
 use Rattle.st_rules.specs.Calls.{OnLine, all_calls, call_on, calls_of, calls_of_action, calls_of_arm, calls_of_case_arm, joined}
 use Rattle.st_rules.specs.Invocations.{Actual, callee}
-use Rattle.st_rules.specs.Names.{key_of}
+use Rattle.st_tree.specs.Naming.{key_of}
 use Rattle.st_rules.specs.Scopes.{meaning_in}
 use Rattle.st_rules.specs.Statements.{Armed, Done, Labelled, action, arm, arm_step, case_arm, case_arm_step, kind_step, statement, statement_step, statements}
 use Rattle.call_chains.specs.declared.call.Call.{Call}

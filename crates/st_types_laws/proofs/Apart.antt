@@ -6,7 +6,8 @@ use Rattle.std.proofs.lemmas.Cmp.{nat_list_eq_equiv}
 use Rattle.std.proofs.lemmas.List.{append-nil, append_assoc}
 use Rattle.s7_base.specs.declared.reason.Line.{Line}
 use Rattle.st_rules.specs.Broken.{twice}
-use Rattle.st_rules.specs.Names.{Table, is_same, look_up, with_entry}
+use Rattle.st_rules.specs.Names.{Table, look_up, with_entry}
+use Rattle.st_tree.specs.Naming.{is_same}
 use Rattle.st_rules.specs.Scopes.{or_else}
 use Rattle.st_rules.specs.declared.scope.Meaning.{Meaning}
 use Rattle.std.proofs.lemmas.Bool.{and_parts}

@@ -6,7 +6,8 @@ use Rattle.std.proofs.Math.Nat.{le-min, min-le_right, min-eq_left, min-eq_right}
 use Rattle.std.proofs.lemmas.Bool.{eqb-false, leb-true, leb-false, ltb-true, ltb-false}
 use Rattle.std.proofs.lemmas.Bool.{and_parts}
 use Rattle.st_rules.specs.Globals.{block_number, number_from, number_in}
-use Rattle.st_rules.specs.Names.{is_block_name, is_digit, is_number, key_of, without_zeros, zeros_before}
+use Rattle.st_tree.specs.Naming.{is_digit}
+use Rattle.st_tree.specs.Naming.{are_digits, key_of, names_block, without_zeros, zeros_before}
 
 pub digit : (b : ℕ) → is_digit b ≡ true → (48 ≤ b) × (b ≤ 57)
 digit b h = let t = and_parts (nat_le 48 b) (nat_le b 57) h in (leb-true 48 b t.0, leb-true b 57 t.1)
@@ -144,17 +145,17 @@ zero_alone (d ∷ e ∷ ds) rest h = by_test (d == 48) refl (λ q. zero_alone (e
         absurd (eqb-false d 48 f first)
 
 -- a name that is the key of a data block has a plain number
-has_plain : (n : ℕ) (capitals : List ℕ) (t : Bool) → is_block_name capitals ≡ t → number_in (cond t (68 ∷ 66 ∷ without_zeros (drop 2 capitals)) capitals) ≡ n → 1 ≤ n
+has_plain : (n : ℕ) (capitals : List ℕ) (t : Bool) → names_block capitals ≡ t → number_in (cond t (68 ∷ 66 ∷ without_zeros (drop 2 capitals)) capitals) ≡ n → 1 ≤ n
     → IsKey n (cond t (68 ∷ 66 ∷ without_zeros (drop 2 capitals)) capitals)
 has_plain n capitals false e h some =
     let none : number_in capitals ≡ 0 = ap (λ t. cond t (number_from 0 (drop 2 capitals)) 0) e in
     absurd (omega (arith, none, h, some))
-has_plain n capitals true e h some = by_test (is_number ds) refl h
+has_plain n capitals true e h some = by_test (are_digits ds) refl h
   where
     ds : List ℕ
     ds = without_zeros (drop 2 capitals)
 
-    by_test : (t : Bool) → is_number ds ≡ t → cond t (number_from 0 ds) 0 ≡ n → IsKey n (68 ∷ 66 ∷ ds)
+    by_test : (t : Bool) → are_digits ds ≡ t → cond t (number_from 0 ds) 0 ≡ n → IsKey n (68 ∷ 66 ∷ ds)
     by_test false f g = absurd (omega (arith, g, some))
     by_test true f g = record { digits = ds; named = refl; sound = record { digits = (and_parts (nat_lt 0 (length ds)) (list_all is_digit ds) f).1; plain = plain; worth = g } }
       where
@@ -167,4 +168,4 @@ has_plain n capitals true e h some = by_test (is_number ds) refl h
 -- the key of a name that has the number of a data block
 pub is_key : (n : ℕ) (name : List ℕ) → block_number name ≡ n → 1 ≤ n → IsKey n (key_of name)
 unfolding key_of
-is_key n name h some = let capitals = map to_ascii_uppercase name in has_plain n capitals (is_block_name capitals) refl h some
+is_key n name h some = let capitals = map to_ascii_uppercase name in has_plain n capitals (names_block capitals) refl h some

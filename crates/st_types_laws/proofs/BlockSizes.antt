@@ -11,7 +11,7 @@ use Rattle.st_tree.specs.declared.raw.RawGlobalType.{RawGlobalType}
 use Rattle.st_tree.specs.declared.raw.RawGlobalType.TheVariants as type
 use Rattle.st_tree.specs.declared.raw.RawVar.{RawVar}
 use Rattle.st_rules.specs.Globals.{block_at, block_number, block_of, contents, fills, has_address, has_block_address, has_block_form, is_small_enough, is_start_of, total}
-use Rattle.st_rules.specs.Variables.{is_block_number}
+use Rattle.st_tree.specs.PlaceRules.{is_block_number}
 
 -- runs have as many bytes as their counts say
 runs_size : (runs : List (ℕ × ℕ)) → length (flat_map (λ (r : ℕ × ℕ). replicate r.0 r.1) runs) ≡ total runs

@@ -14,7 +14,8 @@ use Rattle.st_tree.specs.declared.raw.RawPou.{RawPou}
 use Rattle.st_rules.specs.Broken.{twice}
 use Rattle.st_rules.specs.Declarations.{all_outside, meaning_of_global, no_outside, with_global, with_unit}
 use Rattle.st_rules.specs.Globals.{block_number, block_of, inserted, with_block}
-use Rattle.st_rules.specs.Names.{Table, is_same, key_of, look_up, with_entry}
+use Rattle.st_rules.specs.Names.{Table, look_up, with_entry}
+use Rattle.st_tree.specs.Naming.{is_same, key_of}
 use Rattle.st_rules.specs.Typed.{breaks_of}
 use Rattle.st_types_laws.specs.TypedLaws.{BlocksFit}
 use Rattle.st_rules.specs.declared.declaration.Outside.{Outside}

@@ -31,8 +31,9 @@ use Rattle.st_tree.specs.declared.raw.RawVar.TheVariants as var
 use Rattle.st_rules.specs.Broken.{broken, listed, twice}
 use Rattle.st_rules.specs.Declarations.{all_inside, meaning_of_unit, no_inside, one_if, one_too_many, with_formal, with_global, with_local, with_unit}
 use Rattle.st_rules.specs.Globals.{all_global_breaks, all_located, area_of, block_at, block_breaks, block_number, block_of, contents, fits_type, global_breaks, has_address, has_block_address, has_block_form, inserted, is_small_enough, located_at, located_in, located_of, unless, with_block}
-use Rattle.st_rules.specs.Names.{Table, key_of, look_up, with_entry}
-use Rattle.st_rules.specs.Types.{has_width}
+use Rattle.st_rules.specs.Names.{Table, look_up, with_entry}
+use Rattle.st_tree.specs.Naming.{key_of}
+use Rattle.st_tree.specs.TypeRules.{has_width}
 use Rattle.st_rules.specs.Variables.{is_address}
 use Rattle.st_rules.specs.declared.declaration.Inside.{Inside}
 use Rattle.st_rules.specs.declared.declaration.Outside.{Outside}

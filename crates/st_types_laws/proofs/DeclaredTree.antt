@@ -17,7 +17,8 @@ use Rattle.st_tree.specs.declared.raw.RawPou.{RawPou}
 use Rattle.st_tree.specs.declared.raw.RawSt.{RawSt}
 use Rattle.st_rules.specs.Declarations.{meaning_of_unit, all_inside, all_outside, formals_of, keys_of, locals_of, no_outside, types_of, with_global, with_type}
 use Rattle.st_rules.specs.Globals.{all_blocks, all_global_breaks, all_located}
-use Rattle.st_rules.specs.Names.{Table, is_same, key_of, look_up, with_entry}
+use Rattle.st_rules.specs.Names.{Table, look_up, with_entry}
+use Rattle.st_tree.specs.Naming.{is_same, key_of}
 use Rattle.st_rules.specs.Scopes.{as_register, meaning_in, or_else, register_named}
 use Rattle.st_rules.specs.Typed.{HasTree, breaks_of, first_break, names_of}
 use Rattle.st_rules.specs.Units.{all_unit_breaks, all_units, breaks_of_unit}

@@ -1,7 +1,6 @@
--- The keys of the names that a tree declares, by the rules of trees.
+-- The keys of the names that a tree declares.
 use Rattle.std.proofs.Common.{◌≡◌, ℕ, ◌+◌, List, [], ◌∷◌, ◌++◌, map, refl, ap, ◌∙◌}
 use Rattle.std.proofs.lemmas.List.{map-append}
-use Rattle.st_rules.specs.Names as rules
 use Rattle.st_rules.specs.Names.{Table}
 use Rattle.st_rules.specs.declared.scope.Meaning.{Meaning}
 use Rattle.st_tree.specs.Naming.{key_of}
@@ -12,18 +11,16 @@ use Rattle.st_tree.specs.declared.program.Located.{Located}
 use Rattle.st_tree.specs.declared.program.Pou.{Pou}
 use Rattle.st_tree.specs.declared.program.StProgram.{StProgram}
 use Rattle.st_types_laws.proofs.DeclaredNames.{entries, formal_entries, inner_entries, local_entries, located_entries, unit_entries}
-use Rattle.st_types_laws.proofs.SameKeys.{same_key}
 
 -- the keys of a table
 abbrev pub keys_in : Table Meaning → List (List ℕ)
 keys_in es = map (λ (e : List ℕ × Meaning). e.0) es
 
 entry_keys : {X : Type 0} (name : X → List ℕ) (mean : ℕ → X → Meaning) (i : ℕ) (xs : List X)
-    → keys_in (entries (λ x. rules.key_of (name x)) mean i xs) ≡ map (λ x. key_of (name x)) xs
+    → keys_in (entries (λ x. key_of (name x)) mean i xs) ≡ map (λ x. key_of (name x)) xs
 entry_keys name mean i [] = refl
 entry_keys name mean i (x ∷ xs) =
-    ap (λ k. k ∷ keys_in (entries (λ x. rules.key_of (name x)) mean (i + 1) xs)) (same_key (name x))
-    ∙ ap (λ ks. key_of (name x) ∷ ks) (entry_keys name mean (i + 1) xs)
+    ap (λ ks. key_of (name x) ∷ ks) (entry_keys name mean (i + 1) xs)
 
 joined_keys : (xs ys : Table Meaning) (first second : List (List ℕ)) → keys_in xs ≡ first → keys_in ys ≡ second
     → keys_in (xs ++ ys) ≡ first ++ second

@@ -6,7 +6,8 @@ use Rattle.st_rules.specs.declared.scope.Meaning.{Meaning}
 use Rattle.st_rules.specs.declared.scope.Meaning.TheVariants as meaning
 use Rattle.st_types_laws.proofs.Apart.{AreApart}
 use Rattle.st_types_laws.proofs.DeclaredNames.{formal_entries}
-use Rattle.st_rules.specs.Names.{Table, is_same, key_of, look_up}
+use Rattle.st_rules.specs.Names.{Table, look_up}
+use Rattle.st_tree.specs.Naming.{is_same, key_of}
 
 own_key : (k : List ℕ) → is_same k k ≡ true
 own_key k = nat_list_eq_equiv.refl k

@@ -4,17 +4,16 @@ use Rattle.s7_base.specs.declared.reason.Line.{Line}
 use Rattle.s7_base.specs.declared.reason.Reason.TheVariants.{TypeMismatch}
 use Rattle.st_rules.specs.Broken.{broken}
 use Rattle.st_rules.specs.Statements.{have_type, label_breaks}
-use Rattle.st_rules.specs.Types.{is_type}
+use Rattle.st_tree.specs.TypeRules.{is_type}
 use Rattle.st_tree.proofs.TypingEquations as tree_types
 use Rattle.st_tree.specs.declared.expr.StType.{StType}
 use Rattle.st_tree.specs.declared.expr.StType.TheVariants as type
 use Rattle.st_types_laws.proofs.Parts.{values}
-use Rattle.st_types_laws.proofs.SameTypes.{same_is}
 
 -- Types
 
 pub same_type : (a b : StType) → is_type a b ≡ true → a ≡ b
-same_type a b h = tree_types.same_type a b (sym (same_is a b) ∙ h)
+same_type a b h = tree_types.same_type a b h
 
 pub is_own_type : (a : StType) → is_type a a ≡ true
 is_own_type type.Bool = refl

@@ -19,5 +19,3 @@ pub mod PlainNumbers
 pub mod PlainTexts
 pub mod ReadEquations
 pub mod Redeclared
-pub mod SameKeys
-pub mod SameTypes
