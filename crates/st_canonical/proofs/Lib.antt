@@ -6,4 +6,5 @@ mod CutStatements
 mod CutUnits
 mod CutWords
 mod Cuts
+pub mod Levels
 pub mod TextReads

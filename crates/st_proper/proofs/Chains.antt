@@ -6,7 +6,8 @@ use Rattle.call_chains.proofs.Followed.{followed}
 use Rattle.call_chains.specs.Chain.{Graph, NoCycle, call_at, call_in, chains, follow, with_call}
 use Rattle.call_chains.specs.declared.call.Call.{Call}
 use Rattle.memory_areas.specs.declared.sizes.TheConstants.{ACTIVATIONS}
-use Rattle.st_proper.proofs.Bounds.{bound}
+use Rattle.st_types_laws.proofs.Bounds.{bound}
+use Rattle.st_types_laws.proofs.Lists.{there_at}
 use Rattle.st_rules.specs.Broken.{first_of_all}
 use Rattle.st_rules.specs.LongChains.{chain_break, long_chains}
 use Rattle.st_rules.specs.Typed.{IsChain}
@@ -58,11 +59,6 @@ abbrev pub AreBounded : StProgram → Graph → Type 0
 AreBounded tree graph = (i : ℕ) (calls : List Call) (unit : Pou) → slice_get graph i ≡ Some calls
     → slice_get tree.pous i ≡ Some unit
     → (f : ℕ → ℕ) → bound f calls ≤ body_most (chain_costs f) unit.body
-
-there_at : {X : Type 0} (xs : List X) (i : ℕ) → i < length xs → (x : X) × (slice_get xs i ≡ Some x)
-there_at [] i h = absurd (omega (arith, h))
-there_at (x ∷ xs) zero h = (x, refl)
-there_at (x ∷ xs) (suc i) h = there_at xs i (omega (arith, h))
 
 none_long : (begins : List Bool) (i : ℕ) (us : List RawPou) → ((n : ℕ) → get_or begins n false ≡ false)
     → long_chains begins i us ≡ []

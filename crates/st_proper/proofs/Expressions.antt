@@ -11,12 +11,14 @@ use Rattle.st_grammar.specs.Forms.{Form, group}
 use Rattle.st_grammar.specs.Grammar.{Binds, infix_level, level, tree}
 use Rattle.st_grammar.specs.Levels.{height}
 use Rattle.st_grammar.specs.declared.kind.OneOperand.TheVariants as one
-use Rattle.st_proper.proofs.Equations.{before_operand, form_area, form_binary, form_convert, form_literal, form_read, form_select, form_shift, form_unary, read_literal, read_variable, wrapped}
-use Rattle.st_proper.proofs.Levels.{nest}
+use Rattle.st_proper.proofs.Equations.{before_operand, form_area, form_binary, form_convert, form_literal, form_read, form_select, form_shift, form_unary, wrapped}
+use Rattle.st_types_laws.proofs.ReadEquations.{read_literal, read_variable}
+use Rattle.st_canonical.proofs.Levels.{nest}
 use Rattle.st_proper.proofs.Literals.{kept}
 use Rattle.st_proper.proofs.Nested.{right_level, wrapped_level}
-use Rattle.st_proper.proofs.Operands.{area_found, binary_found, convert_found, select_found, shift_found, unary_found}
-use Rattle.st_proper.proofs.SameTypes.{given, same_binary, same_choice, same_conversion, same_read, same_shift, same_unary, where_given}
+use Rattle.st_types_laws.proofs.Operands.{area_found, binary_found, convert_found, select_found, shift_found, unary_found}
+use Rattle.st_proper.proofs.Given.{given, where_given}
+use Rattle.st_types_laws.proofs.SameTypes.{same_binary, same_choice, same_conversion, same_read, same_shift, same_unary}
 use Rattle.st_proper.proofs.Scope.{Sees, sight_by}
 use Rattle.st_proper.proofs.Values.{has_value}
 use Rattle.st_proper.proofs.Variables.{of_type, written}

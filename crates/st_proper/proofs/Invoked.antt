@@ -12,12 +12,14 @@ use Rattle.st_canonical.specs.Canonical.{FromLine, actuals_from, on, raw_var, st
 use Rattle.st_canonical.specs.Spelled.{ActualsSpelled, is_name}
 use Rattle.st_grammar.specs.Forms.{Actuals, no_actual, actual, invoke}
 use Rattle.st_grammar.specs.Grammar.{on_line, tree_actuals}
-use Rattle.st_proper.proofs.Actions.{act_invoke, calls_invoke, from_invoke}
-use Rattle.st_proper.proofs.Bounds.{bound}
-use Rattle.st_proper.proofs.CaseLabels.{is_own_type}
+use Rattle.st_types_laws.proofs.Actions.{act_invoke, calls_invoke}
+use Rattle.st_proper.proofs.StatementForms.{from_invoke}
+use Rattle.st_types_laws.proofs.Bounds.{bound}
+use Rattle.st_types_laws.proofs.Labels.{is_own_type}
 use Rattle.st_proper.proofs.Good.{GoodOne}
-use Rattle.st_proper.proofs.Keyed.{AreAbsent, AreDistinct, absent_also, found_behind, none_absent}
-use Rattle.st_proper.proofs.Scope.{Callable, Sees, formals_in, sight_by}
+use Rattle.st_types_laws.proofs.Keyed.{AreAbsent, AreDistinct, absent_also, found_behind, none_absent}
+use Rattle.st_proper.proofs.Scope.{Callable, Sees, sight_by}
+use Rattle.st_types_laws.proofs.DeclaredTree.{formals_in}
 use Rattle.st_proper.proofs.Variables.{Written, of_type, written}
 use Rattle.st_rules.specs.Broken.{behind, breaks_rule, broken, listed, sound}
 use Rattle.st_rules.specs.Calls.{call_on, calls_of}

@@ -10,14 +10,16 @@ use Rattle.s7_base.specs.declared.word.Width.{Width}
 use Rattle.st_canonical.specs.Canonical.{ArmFromLine, CaseFromLine, FromLine, Placed, all_from, arm_from, arms_from, body_from, case_from, cases_else_from, cases_from, choice_from, expr_form, labels_form, on, raw_var, statement_from}
 use Rattle.st_grammar.specs.Forms.{Statement, Statements, none, further, Arms, no_arm, arm, CaseArms, no_case, case_arm}
 use Rattle.st_grammar.specs.Grammar.{arm_of as raw_arm, case_of as raw_case, tree, tree_all, tree_arms, tree_cases, tree_labels, tree_one}
-use Rattle.st_proper.proofs.Actions.{act_continue, act_exit, act_return, calls_assign, calls_continue, calls_exit, calls_return, calls_write, from_arm, from_assign, from_case, from_case_arm, from_continue, from_exit, from_if, from_return, from_while, from_write}
-use Rattle.st_proper.proofs.Bounds.{all_last, arms_last, bound_case, bound_if, bound_none, bound_while, cases_last, greatest_last}
-use Rattle.st_proper.proofs.CaseLabels.{form_labels, is_own_type, no_label_breaks, values_of}
+use Rattle.st_types_laws.proofs.Actions.{act_continue, act_exit, act_return, calls_assign, calls_continue, calls_exit, calls_return, calls_write}
+use Rattle.st_proper.proofs.StatementForms.{from_arm, from_assign, from_case, from_case_arm, from_continue, from_exit, from_if, from_return, from_while, from_write}
+use Rattle.st_types_laws.proofs.Bounds.{all_last, arms_last, bound_case, bound_if, bound_none, bound_while, cases_last, greatest_last}
+use Rattle.st_proper.proofs.CaseLabels.{form_labels}
+use Rattle.st_types_laws.proofs.Labels.{is_own_type, no_label_breaks, values_of}
 use Rattle.st_proper.proofs.Expressions.{expression_sound, nest_is, typed_tree}
-use Rattle.st_proper.proofs.Good.{GoodAll, GoodArms, GoodCases, GoodOne, arms_sound_last, cases_sound_last, statements_last}
+use Rattle.st_proper.proofs.Good.{GoodAll, GoodArms, GoodCases, GoodOne}
 use Rattle.st_proper.proofs.Invoked.{invoke_good}
-use Rattle.st_proper.proofs.Parts.{arm_is, assign_is, case_arm_is, case_is, if_is, selector_is, test_is, values, while_is, write_is}
-use Rattle.st_proper.proofs.SameTypes.{same_selector}
+use Rattle.st_types_laws.proofs.Parts.{arm_is, assign_is, case_arm_is, case_is, if_is, selector_is, test_is, values, while_is, write_is, arms_sound_last, cases_sound_last, statements_last}
+use Rattle.st_types_laws.proofs.SameTypes.{same_selector}
 use Rattle.st_proper.proofs.Scope.{Sees, sight_by}
 use Rattle.st_proper.proofs.Variables.{of_type, written}
 use Rattle.st_rules.specs.Statements.{label_breaks}

@@ -9,7 +9,7 @@ use Rattle.st_grammar.specs.Kinds.{is_free, may_name_local, may_name_unit}
 use Rattle.st_grammar.specs.Levels.{levels_all, levels_locals, levels_section, levels_units}
 use Rattle.st_canonical.specs.Spelled.{AllSpelled, LocalsSpelled, UnitsSpelled, is_name}
 use Rattle.st_proper.proofs.BlockForms.{AreWithin, with_four, with_zero}
-use Rattle.st_proper.proofs.GlobalForms.{Each}
+use Rattle.st_types_laws.proofs.Lists.{Each}
 use Rattle.st_tree.specs.Spelling.{names_in}
 use Rattle.st_tree.specs.declared.program.Local.{Local}
 use Rattle.st_tree.specs.declared.program.Pou.{Pou}

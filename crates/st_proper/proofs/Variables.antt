@@ -11,7 +11,7 @@ use Rattle.st_canonical.specs.Canonical.{raw_var}
 use Rattle.st_canonical.specs.Spelled.{is_name, is_variable}
 use Rattle.st_grammar.specs.Kinds.{word_named, word_text}
 use Rattle.st_lexer.proofs.Words.{and_both}
-use Rattle.st_proper.proofs.SameTypes.{where_given}
+use Rattle.st_proper.proofs.Given.{where_given}
 use Rattle.st_proper.proofs.Scope.{Sees, sight_by}
 use Rattle.st_proper.proofs.Values.{block_place, placed, plain_place, small_number}
 use Rattle.st_rules.specs.Names.{key_of, look_up}

@@ -1,5 +1,5 @@
 -- A proper tree has a canonical form: its declarations and its units together.
-use Rattle.std.proofs.Common.{◌≡◌, ◌≢◌, ℕ, zero, suc, ◌+◌, ◌<◌, ◌≤◌, max, Bool, true, false, ◌&&◌, cond, List, [], ◌∷◌, ◌++◌, map, length, slice_get, Some, None, refl, sym, ap, subst, ◌∙◌, arith}
+use Rattle.std.proofs.Common.{◌≡◌, ◌≢◌, ℕ, zero, suc, ◌+◌, ◌<◌, ◌≤◌, max, Bool, true, false, cond, List, [], ◌∷◌, ◌++◌, map, length, slice_get, Some, None, refl, sym, ap, subst, ◌∙◌, arith}
 use Rattle.std.specs.Prelude.{All}
 use Rattle.std.specs.List.{flat_map, list_all}
 use Rattle.std.proofs.lemmas.Bool.{le-leb}
@@ -16,14 +16,16 @@ use Rattle.st_grammar.specs.Grammar.{is_formal_type, raw_tree}
 use Rattle.st_grammar.specs.Levels.{deepest, levels_all, levels_globals, levels_section, levels_units}
 use Rattle.st_lexer.specs.Spelled.{is_byte}
 use Rattle.st_proper.proofs.BlockForms.{IsFull, with_zero}
-use Rattle.st_proper.proofs.Bounds.{bound}
+use Rattle.st_types_laws.proofs.Bounds.{bound}
 use Rattle.st_proper.proofs.Chains.{AreBounded, is_chain}
 use Rattle.st_proper.proofs.DeclaredGlobals.{IsSection, is_section}
 use Rattle.st_proper.proofs.GlobalForms.{IsPlain}
 use Rattle.st_proper.proofs.Good.{GoodAll}
-use Rattle.st_proper.proofs.Levels.{all_within, greatest, greatest_within, top_all, top_of_all}
-use Rattle.st_proper.proofs.Parts.{clean_of, found_of}
-use Rattle.st_proper.proofs.Scope.{each_at, each_of, formals_in, formals_same, inner_apart, outer_apart, sees, units_proper}
+use Rattle.st_canonical.proofs.Levels.{all_within, greatest, greatest_within, top_all, top_of_all}
+use Rattle.st_types_laws.proofs.Parts.{clean_of, found_of}
+use Rattle.st_types_laws.proofs.Lists.{each_at, each_of, both_true, each_from, mapped_from}
+use Rattle.st_types_laws.proofs.DeclaredTree.{formals_in, formals_same, same_length, unit_there}
+use Rattle.st_proper.proofs.Scope.{inner_apart, outer_apart, sees, units_proper}
 use Rattle.st_proper.proofs.Statements.{statements_good}
 use Rattle.st_proper.proofs.UnitForms.{AreUnits, DeclareAll, HasBody, HasForm, HaveForms, IsFormal as IsFormalForm, IsHeaded, IsLocal as IsLocalForm, MayHave, all_declare, body_at, units_are}
 use Rattle.st_proper.proofs.Values.{placed, plain_place}
@@ -60,7 +62,6 @@ use Rattle.st_tree.specs.declared.raw.RawSt.{RawSt}
 use Rattle.st_types_laws.proofs.DeclaredNames.{AreNumbered, ArePlaced, IsPlaced, outer_entries}
 use Rattle.st_types_laws.proofs.PlainTexts.{IsPlainText, inside_again, plain_text}
 use Rattle.st_types_laws.proofs.Redeclared.{AreLocalsAt, IsUnitAt}
-use Rattle.st_types_laws.proofs.SameDeclarations.{same_length, unit_there}
 
 -- Data blocks
 
@@ -106,10 +107,6 @@ wide type.Lint h = absurd (h refl)
 abbrev global_at : List ℕ → StType → Area → ℕ → ℕ → Located
 global_at name ty a byte bit = record { name = name; place = record { area = a; byte = byte; bit = bit }; ty = ty }
 
-both_hold : (a b : Bool) → a ≡ true → b ≡ true → (a && b) ≡ true
-both_hold true b h g = g
-both_hold false b h g = absurd cc
-
 on_area : (name : List ℕ) (ty : StType) (byte bit : ℕ) (a : Area) → is_located a (width_at ty) byte bit ≡ true
     → ty ≢ type.Lint → IsPlaced (global_at name ty a byte bit)
 on_area name ty byte bit place.I h t =
@@ -118,7 +115,7 @@ on_area name ty byte bit place.I h t =
       address = p.rules;
       fits = wide ty t;
       found = ap (λ b. cond b (Some (global_at name ty place.I byte bit)) None)
-          (both_hold (rules.is_place area.I (width_at ty) byte bit) (has_width ty (width_at ty)) p.rules (wide ty t));
+          (both_true (rules.is_place area.I (width_at ty) byte bit) (has_width ty (width_at ty)) p.rules (wide ty t));
     }
 on_area name ty byte bit place.Q h t =
     let p = placed area.Q (width_at ty) byte bit h in
@@ -126,7 +123,7 @@ on_area name ty byte bit place.Q h t =
       address = p.rules;
       fits = wide ty t;
       found = ap (λ b. cond b (Some (global_at name ty place.Q byte bit)) None)
-          (both_hold (rules.is_place area.Q (width_at ty) byte bit) (has_width ty (width_at ty)) p.rules (wide ty t));
+          (both_true (rules.is_place area.Q (width_at ty) byte bit) (has_width ty (width_at ty)) p.rules (wide ty t));
     }
 on_area name ty byte bit place.M h t =
     let p = placed area.M (width_at ty) byte bit h in
@@ -134,7 +131,7 @@ on_area name ty byte bit place.M h t =
       address = p.rules;
       fits = wide ty t;
       found = ap (λ b. cond b (Some (global_at name ty place.M byte bit)) None)
-          (both_hold (rules.is_place area.M (width_at ty) byte bit) (has_width ty (width_at ty)) p.rules (wide ty t));
+          (both_true (rules.is_place area.M (width_at ty) byte bit) (has_width ty (width_at ty)) p.rules (wide ty t));
     }
 on_area name ty byte bit (place.Db n) h t = absurd cc
 on_area name ty byte bit (place.Local n) h t = absurd cc
@@ -227,10 +224,6 @@ are_headed t (u ∷ us) h = (
 
 -- Lists
 
-each_from : {X : Type 0} (P : X → Type 0) (xs : List X) → ((n : ℕ) (x : X) → slice_get xs n ≡ Some x → P x) → Each P xs
-each_from P [] h = tt
-each_from P (x ∷ xs) h = (h 0 x refl, each_from P xs (λ n y q. h (suc n) y q))
-
 fellow : {X Y : Type 0} (xs : List X) (ys : List Y) (n : ℕ) (x : X) → length xs ≡ length ys → slice_get xs n ≡ Some x
     → (y : Y) × (slice_get ys n ≡ Some y)
 fellow [] ys n x size h = absurd cc
@@ -251,12 +244,6 @@ all_nil : {X Y : Type 0} (f : X → List Y) (xs : List X) → ((n : ℕ) (x : X)
     → flat_map f xs ≡ []
 all_nil f [] h = refl
 all_nil f (x ∷ xs) h = ap (λ l. l ++ flat_map f xs) (h 0 x refl) ∙ all_nil f xs (λ n a p. h (suc n) a p)
-
-mapped_from : {X Y : Type 0} (f : X → Y) (xs : List X) (i : ℕ) (y : Y) → slice_get (map f xs) i ≡ Some y
-    → (x : X) × (slice_get xs i ≡ Some x) × (y ≡ f x)
-mapped_from f [] i y h = absurd cc
-mapped_from f (z ∷ xs) zero y h = let same : y ≡ f z = cc in (z, refl, same)
-mapped_from f (z ∷ xs) (suc i) y h = mapped_from f xs i y h
 
 locals_again : (ls : List Local) (rs : List RawLocal) → AreLocalsAt ls rs → locals_of rs ≡ ls
 locals_again [] [] a = refl

@@ -12,9 +12,9 @@ use Rattle.st_grammar.specs.declared.kind.Literal.{Literal}
 use Rattle.st_grammar.specs.declared.kind.OneOperand.TheVariants as one
 use Rattle.st_grammar.specs.declared.kind.Prefix.TheVariants as before
 use Rattle.st_read_proper.proofs.Nested.{Close, Under, alike, close_area, close_convert, close_group, close_infix, close_select, close_shift, close_unary, written}
-use Rattle.st_read_proper.proofs.Operands.{IsClean, area_found, area_operand, area_typed, binary_found, binary_operands, binary_typed, convert_found, convert_operand, convert_typed, select_found, select_operands, select_typed, shift_found, shift_operands, shift_typed, unary_found, unary_operand, unary_typed}
-use Rattle.st_read_proper.proofs.ReadEquations.{read_literal, read_variable}
-use Rattle.st_read_proper.proofs.RulesAgree.{binary_agrees, choice_agrees, conversion_agrees, read_agrees, shift_agrees, unary_agrees}
+use Rattle.st_types_laws.proofs.Operands.{IsClean, area_found, area_operand, area_typed, binary_found, binary_operands, binary_typed, convert_found, convert_operand, convert_typed, select_found, select_operands, select_typed, shift_found, shift_operands, shift_typed, unary_found, unary_operand, unary_typed}
+use Rattle.st_types_laws.proofs.ReadEquations.{read_literal, read_variable}
+use Rattle.st_types_laws.proofs.SameTypes.{same_binary, same_choice, same_conversion, same_read, same_shift, same_unary}
 use Rattle.st_read_proper.proofs.Sees.{Sees, variable_has}
 use Rattle.st_read_proper.proofs.Values.{label_value, tree_of_label}
 use Rattle.st_rules.specs.Broken.{Judged, sound}
@@ -108,7 +108,7 @@ module _ (scope : Scope) (sight : Sight) (sees : Sees scope sight) (l : Line) wh
         t = record { ty = ty.0; tree = expr.Unary op g.t.tree };
         found = ap (expression scope l) same_tree ∙ unary_found scope l op (tree f) g.t ty.0 g.found ty.1;
         typed = typed_unary sight op g.t.tree ∙ ap (λ o. on_type o (type_of_unary op)) g.typed
-            ∙ sym (unary_agrees op g.t.ty) ∙ ty.1;
+            ∙ sym (same_unary op g.t.ty) ∙ ty.1;
         close = subst (Close (written op f)) (sym (canon_unary op g.t.tree)) (close_unary op f (canon g.t.tree) under g.close);
       }
 
@@ -122,7 +122,7 @@ module _ (scope : Scope) (sight : Sight) (sees : Sees scope sight) (l : Line) wh
         typed = typed_binary sight op p.t.tree q.t.tree
             ∙ ap (λ o. on_type o (λ ty. on_type (type_of q.t) (type_of_binary op ty))) p.typed
             ∙ ap (λ o. on_type o (type_of_binary op p.t.ty)) q.typed
-            ∙ sym (binary_agrees op p.t.ty q.t.ty) ∙ ty.1;
+            ∙ sym (same_binary op p.t.ty q.t.ty) ∙ ty.1;
         close = subst (Close (infix_of op f g)) (sym (canon_binary op p.t.tree q.t.tree))
             (close_infix op f g (canon p.t.tree) (canon q.t.tree) b.0 b.1 p.close q.close);
       }
@@ -137,7 +137,7 @@ module _ (scope : Scope) (sight : Sight) (sees : Sees scope sight) (l : Line) wh
         found = convert_found scope l from to (tree f) g.t ty.0 g.found ty.1;
         typed = typed_convert sight from to g.t.tree
             ∙ ap (λ o. on_type o (λ ty. on_type (type_of_conversion from to ty) (where_true (is_conversion from to)))) g.typed
-            ∙ ap (λ o. on_type o (where_true (is_conversion from to))) (sym (conversion_agrees from to g.t.ty) ∙ ty.1)
+            ∙ ap (λ o. on_type o (where_true (is_conversion from to))) (sym (same_conversion from to g.t.ty) ∙ ty.1)
             ∙ ap (λ t. where_true t ty.0) known;
         close = subst (Close (apply (one.Convert from to) f)) (sym (canon_convert from to g.t.tree))
             (close_convert from to f (canon g.t.tree) g.close);
@@ -150,7 +150,7 @@ module _ (scope : Scope) (sight : Sight) (sees : Sees scope sight) (l : Line) wh
         t = record { ty = ty.0; tree = expr.AreaRead w g.t.tree };
         found = area_found scope l w (tree f) g.t ty.0 g.found ty.1;
         typed = typed_area_read sight w g.t.tree ∙ ap (λ o. on_type o (type_of_read w)) g.typed
-            ∙ sym (read_agrees w g.t.ty) ∙ ty.1;
+            ∙ sym (same_read w g.t.ty) ∙ ty.1;
         close = subst (Close (apply (one.AreaRead w) f)) (sym (canon_area_read w g.t.tree))
             (close_area w f (canon g.t.tree) g.close);
       }
@@ -164,7 +164,7 @@ module _ (scope : Scope) (sight : Sight) (sees : Sees scope sight) (l : Line) wh
         typed = typed_shift sight op p.t.tree q.t.tree
             ∙ ap (λ o. on_type o (λ ty. on_type (type_of q.t) (type_of_shift ty))) p.typed
             ∙ ap (λ o. on_type o (type_of_shift p.t.ty)) q.typed
-            ∙ sym (shift_agrees p.t.ty q.t.ty) ∙ ty.1;
+            ∙ sym (same_shift p.t.ty q.t.ty) ∙ ty.1;
         close = subst (Close (shift op f g)) (sym (canon_shift op p.t.tree q.t.tree))
             (close_shift op f g (canon p.t.tree) (canon q.t.tree) p.close q.close);
       }
@@ -179,7 +179,7 @@ module _ (scope : Scope) (sight : Sight) (sees : Sees scope sight) (l : Line) wh
             ∙ ap (λ o. on_type o (λ g. on_type (type_of q.t) (λ ty. on_type (type_of r.t) (type_of_choice g ty)))) p.typed
             ∙ ap (λ o. on_type o (λ ty. on_type (type_of r.t) (type_of_choice p.t.ty ty))) q.typed
             ∙ ap (λ o. on_type o (type_of_choice p.t.ty q.t.ty)) r.typed
-            ∙ sym (choice_agrees p.t.ty q.t.ty r.t.ty) ∙ ty.1;
+            ∙ sym (same_choice p.t.ty q.t.ty r.t.ty) ∙ ty.1;
         close = subst (Close (select f g h)) (sym (canon_select p.t.tree q.t.tree r.t.tree))
             (close_select f g h (canon p.t.tree) (canon q.t.tree) (canon r.t.tree) p.close q.close r.close);
       }

@@ -1,5 +1,6 @@
 -- The globals of a tree that was read have names that a global may have, and lie on I, Q or M at places of
 -- their types' widths.
+use Rattle.std.proofs.lemmas.Bool.{and_parts}
 use Rattle.std.proofs.Common.{◌≡◌, ◌≢◌, ℕ, Bool, true, false, ◌&&◌, List, [], ◌∷◌, ◌++◌, Some, None, refl, sym, subst}
 use Rattle.std.specs.Prelude.{if◌then◌else◌}
 use Rattle.std.proofs.lemmas.Grind.{flat_map-append}
@@ -11,9 +12,9 @@ use Rattle.st_lexer.specs.Spelled as written
 use Rattle.st_grammar.specs.Forms.{GlobalType, plain, bytes, Globals, no_global, global}
 use Rattle.st_grammar.specs.Grammar.{GlobalsFit, is_global, tree_globals, tree_type}
 use Rattle.st_canonical.specs.Spelled.{is_name as spelled_name, is_variable}
-use Rattle.st_read_proper.proofs.Each.{Each, each_append}
-use Rattle.st_read_proper.proofs.Names.{free_is, name_is, two}
-use Rattle.st_read_proper.proofs.RulesAgree.{place_is}
+use Rattle.st_types_laws.proofs.Lists.{Each, each_append}
+use Rattle.st_read_proper.proofs.Names.{free_is, name_is}
+use Rattle.st_read_proper.proofs.Places.{place_is}
 use Rattle.st_read_proper.specs.Worded.{GlobalsWorded}
 use Rattle.st_tree.specs.Naming.{is_free, is_name}
 use Rattle.st_tree.specs.PlaceRules as places
@@ -89,8 +90,8 @@ global_if : (t : Bool) (name : List ℕ) (ty : StType) (a : AreaName) (w : Width
     → written.is_place a None w byte bit ≡ true
     → Each IsGlobal (listed (if t then located_in name ty (area_of a) byte bit else None))
 global_if true name ty a w byte bit h n f p =
-    let parts = two (is_address a None w byte bit) (has_width ty w) h in
-    let bits : written.is_bit_of w bit ≡ true = (two (written.is_kept byte) (written.is_bit_of w bit) p).1 in
+    let parts = and_parts (is_address a None w byte bit) (has_width ty w) h in
+    let bits : written.is_bit_of w bit ≡ true = (and_parts (written.is_kept byte) (written.is_bit_of w bit) p).1 in
     global_in name ty a w byte bit n f (no_lint ty w parts.1) (place_is a w byte bit bits parts.0) (width_of ty w parts.1)
 global_if false name ty a w byte bit h n f p = tt
 

@@ -1,5 +1,5 @@
 -- A call that breaks no rule gives each formal of a function a variable of its type.
-use Rattle.std.proofs.Common.{◌≡◌, ℕ, Bool, true, false, not, ◌&&◌, ◌||◌, cond, List, [], ◌∷◌, ◌++◌, Option, Some, None, is_some, is_none, Result, refl, sym, ap, subst, ◌∙◌, arith}
+use Rattle.std.proofs.Common.{◌≡◌, ℕ, max, Bool, true, false, not, ◌&&◌, ◌||◌, cond, List, [], ◌∷◌, ◌++◌, Option, Some, None, is_some, is_none, Result, refl, sym, ap, subst, ◌∙◌, arith}
 use Rattle.std.specs.Prelude.{slice_get}
 use Rattle.std.specs.List.{fold}
 use Rattle.std.proofs.lemmas.List.{append_assoc, append-nil}
@@ -9,13 +9,16 @@ use Rattle.s7_base.specs.declared.reason.Reason.TheVariants.{TypeMismatch}
 use Rattle.st_canonical.specs.Spelled.{ActualsSpelled, is_variable}
 use Rattle.st_grammar.specs.Forms.{Actuals, no_actual, actual, invoke}
 use Rattle.st_grammar.specs.Grammar.{on_line, tree_actuals, tree_one}
-use Rattle.st_read_proper.proofs.Actions.{act_invoke}
-use Rattle.st_read_proper.proofs.Keyed.{AreAbsent, AreDistinct, absent_also, found_behind, none_absent, same_keys}
-use Rattle.st_read_proper.proofs.Parts.{variable_there}
-use Rattle.st_read_proper.proofs.RulesAgree.{is_type_agrees}
+use Rattle.st_types_laws.proofs.Actions.{act_invoke, calls_invoke}
+use Rattle.st_types_laws.proofs.Bounds.{bound}
+use Rattle.st_types_laws.proofs.Keyed.{AreAbsent, AreDistinct, absent_also, found_behind, none_absent}
+use Rattle.st_types_laws.proofs.Apart.{same_keys}
+use Rattle.st_types_laws.proofs.Parts.{variable_there}
+use Rattle.st_types_laws.proofs.SameTypes.{same_is}
 use Rattle.st_read_proper.proofs.Sees.{IsCallable, Sees, variable_has}
-use Rattle.st_read_proper.proofs.Statements.{FoundOne}
+use Rattle.st_read_proper.proofs.Statements.{FoundOne, cost_of, of_heads}
 use Rattle.st_rules.specs.Broken.{Judged, behind, breaks_rule, broken, listed, sound}
+use Rattle.st_rules.specs.Calls.{call_on, calls_of}
 use Rattle.st_rules.specs.Expressions.{answered, variable_on}
 use Rattle.st_rules.specs.Invocations.{Actual, Given, call_of, call_with, callee, formal_breaks, function_call, given_by, in_order, lacks, none_given, plain, var_given, with_actual}
 use Rattle.st_rules.specs.Names.{Table, is_same, key_of, look_up, with_entry}
@@ -28,6 +31,8 @@ use Rattle.st_rules.specs.declared.scope.Meaning.{Meaning}
 use Rattle.st_rules.specs.declared.scope.Meaning.TheVariants as meaning
 use Rattle.st_rules.specs.declared.scope.Scope.{Scope}
 use Rattle.st_rules.specs.declared.variable.TypedVar.{TypedVar}
+use Rattle.st_tree.proofs.Equations.{most_invoke}
+use Rattle.st_tree.specs.Runnable.{chain_costs}
 use Rattle.st_tree.proofs.TypingEquations.{good_invoke, nesting_invoke}
 use Rattle.st_tree.specs.WellTyped.{Head, Sight, are_given, has_type, is_call, is_seen, is_well_typed, variable_type}
 use Rattle.st_tree.specs.declared.expr.StType.{StType}
@@ -36,7 +41,7 @@ use Rattle.st_tree.specs.declared.program.Local.{Local}
 use Rattle.st_tree.specs.declared.program.Stmt.{Stmt}
 use Rattle.st_tree.specs.declared.program.Stmt.TheVariants as stmt
 use Rattle.st_tree.specs.declared.raw.RawStmtKind.TheVariants as raw
-use Rattle.st_types_laws.proofs.BodyCosts.{nil_first, nil_second}
+use Rattle.st_types_laws.proofs.Lists.{nil_first, nil_second}
 use Rattle.st_types_laws.proofs.Declared.{keys_of_locals, types_of_locals}
 
 -- The types of formals with keys of their own
@@ -128,7 +133,7 @@ module _ (sight : Sight) (types : Table StType) where
   of_formal l o g t =
       let there : Some g.ty ≡ Some l.ty = sym g.typed ∙ t in
       let same : g.ty ≡ l.ty = cc in
-      ap (has_type l.ty) g.has ∙ sym (is_type_agrees g.x.ty l.ty)
+      ap (has_type l.ty) g.has ∙ sym (same_is g.x.ty l.ty)
       ∙ subst (λ ty. is_type g.x.ty ty ≡ true) same g.fits
 
   are_in_order : (vars : Table (Option Var)) (ls : List Local) → AreGiven vars → AreTyped types ls
@@ -264,6 +269,13 @@ module _ (scope : Scope) (sight : Sight) (sees : Sees scope sight) (inside : Boo
             ∙ ap (λ vs. sound (stmt.Invoke i vs)) order;
         typed = call_typed i r.xs c.head c.there c.function c.seen r.given;
         low = λ d. omega (arith, nesting_invoke i r.xs);
+        calls = λ f.
+            let own : bound (of_heads sight.heads f) (calls_of scope (tree_one (invoke l name actuals)))
+            ≡ max (of_heads sight.heads f i) 0 =
+            ap (bound (of_heads sight.heads f)) (calls_invoke scope l name (tree_actuals actuals)
+            ∙ ap (λ o. call_on l (callee o)) m) in
+            let cost : of_heads sight.heads f i ≡ f i = ap (λ o. cost_of o (f i)) c.there in
+            omega (arith, own, cost, most_invoke (chain_costs f) i r.xs);
       }
 
   pub of_invoke : (l : Line) (name : List ℕ) (actuals : Actuals) → ActualsSpelled actuals

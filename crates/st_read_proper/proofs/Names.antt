@@ -1,10 +1,11 @@
--- A word that tokens can have as a name is one by the rules of trees; and keys are the same by both rules.
+-- A word that tokens can have as a name is one by the rules of trees.
 use Rattle.std.proofs.Common.{◌≡◌, ℕ, ◌+◌, ◌==◌, Bool, true, false, not, ◌&&◌, ◌||◌, cond, List, [], ◌∷◌, map, take, drop, Option, Some, None, refl, sym, ap, ◌∙◌, arith}
 use Rattle.std.specs.Prelude.{codes, is_none, is_some}
-use Rattle.std.specs.Char.{to_ascii_lowercase, to_ascii_uppercase}
+use Rattle.std.specs.Char.{to_ascii_lowercase}
 use Rattle.std.specs.List.{find, list_all, list_any}
 use Rattle.std.specs.Str.{bytes_eq, str_to_ascii_lowercase}
 use Rattle.std.proofs.lemmas.List.{drop-map, take-map}
+use Rattle.std.proofs.lemmas.Bool.{and_parts}
 use Rattle.std.proofs.lemmas.Bool.Decides.{nat_tests}
 use Rattle.s7_base.specs.Tokens.{is_same_word, is_word_byte}
 use Rattle.st_canonical.specs.Spelled as spelled
@@ -14,19 +15,12 @@ use Rattle.st_grammar.specs.declared.kind.OneOperand.{OneOperand}
 use Rattle.st_grammar.specs.declared.words.TheConstants.{WORDS}
 use Rattle.st_lexer.specs.Literals.{type_named}
 use Rattle.st_lexer.specs.StTokens as tokens
-use Rattle.st_read_proper.proofs.Keyed.{same_keys}
-use Rattle.st_rules.specs.Names as rules
+use Rattle.st_types_laws.proofs.Lists.{both_true}
+use Rattle.st_types_laws.proofs.Apart.{same_keys}
 use Rattle.st_tree.specs.Naming as naming
-use Rattle.st_tree.specs.Naming.{conversion_word, is_conversion, is_conversion_word, key_of, keywords, types}
+use Rattle.st_tree.specs.Naming.{conversion_word, is_conversion, is_conversion_word, keywords, types}
 use Rattle.st_tree.specs.declared.expr.StType.{StType}
 use Rattle.st_tree.specs.declared.expr.StType.TheVariants as type
-
-pub two : (a b : Bool) → (a && b) ≡ true → (a ≡ true) × (b ≡ true)
-two true b h = (refl, h)
-two false b h = absurd cc
-
-pub all_true : (a b : Bool) → a ≡ true → b ≡ true → (a && b) ≡ true
-all_true a b h g = ap (λ t. t && b) h ∙ g
 
 -- Keywords
 
@@ -119,7 +113,7 @@ none_of : {X : Type 0} (p good : X → Bool) (xs : List X) → list_all good xs 
     → ((x : X) → good x ≡ true → p x ≡ false) → list_any p xs ≡ false
 none_of p good [] h f = refl
 none_of p good (x ∷ xs) h f =
-    let parts = two (good x) (list_all good xs) h in
+    let parts = and_parts (good x) (list_all good xs) h in
     ap (λ t. t || list_any p xs) (f x parts.0) ∙ none_of p good xs parts.1 f
 
 not_named : (name : List ℕ) → is_none (conversion_named name) ≡ true → (from to : StType) → is_found from to ≡ true
@@ -154,12 +148,12 @@ no_conversion name none =
 pub name_is : (name : List ℕ) → spelled.is_name name ≡ true → naming.is_name name ≡ true
 name_is [] h = absurd cc
 name_is (b ∷ w) h =
-    let parts = two (tokens.is_letter b && list_all is_word_byte w) (spelled.is_unreserved (b ∷ w)) h in
-    let free = two (is_none (word_named (b ∷ w))) (is_none (conversion_named (b ∷ w))) parts.1 in
+    let parts = and_parts (tokens.is_letter b && list_all is_word_byte w) (spelled.is_unreserved (b ∷ w)) h in
+    let free = and_parts (is_none (word_named (b ∷ w))) (is_none (conversion_named (b ∷ w))) parts.1 in
     let keyword : not (list_any (λ entry. is_same_word (b ∷ w) entry) keywords) ≡ true = sym (no_keyword (b ∷ w)) ∙ free.0 in
     let conversion : not (is_conversion_word (b ∷ w)) ≡ true = ap not (no_conversion (b ∷ w) free.1) in
-    all_true (tokens.is_letter b && list_all is_word_byte w) (naming.is_unreserved (b ∷ w)) parts.0
-    (all_true (not (list_any (λ entry. is_same_word (b ∷ w) entry) keywords)) (not (is_conversion_word (b ∷ w)))
+    both_true (tokens.is_letter b && list_all is_word_byte w) (naming.is_unreserved (b ∷ w)) parts.0
+    (both_true (not (list_any (λ entry. is_same_word (b ∷ w) entry) keywords)) (not (is_conversion_word (b ∷ w)))
     keyword conversion)
 
 -- what a name may be given to is said alike
@@ -171,34 +165,3 @@ local_is name h = h
 
 pub unit_is : (name : List ℕ) → kinds.may_name_unit name ≡ true → naming.may_name_unit name ≡ true
 unit_is name h = h
-
--- Keys
-
-capital_d : (x : ℕ) → (to_ascii_uppercase x == 68) ≡ (to_ascii_lowercase (to_ascii_uppercase x) == 100)
-capital_d x = grind (arith, nat_tests)
-
-capital_b : (x : ℕ) → (to_ascii_uppercase x == 66) ≡ (to_ascii_lowercase (to_ascii_uppercase x) == 98)
-capital_b x = grind (arith, nat_tests)
-
-block_agrees : (name : List ℕ) → rules.is_block_name (map to_ascii_uppercase name) ≡ naming.names_block (map to_ascii_uppercase name)
-block_agrees [] = refl
-block_agrees (x ∷ []) = by (to_ascii_lowercase (to_ascii_uppercase x) == 100)
-  where
-    by : (t : Bool) → false ≡ ((t && false) && false)
-    by true = refl
-    by false = refl
-block_agrees (x ∷ y ∷ ds) =
-    by (to_ascii_lowercase (to_ascii_uppercase x) == 100) (to_ascii_lowercase (to_ascii_uppercase y) == 98)
-    (to_ascii_uppercase x == 68) (to_ascii_uppercase y == 66) (rules.is_number (map to_ascii_uppercase ds)) (capital_d x) (capital_b y)
-  where
-    by : (p q s t n : Bool) → s ≡ p → t ≡ q → ((s && t) && n) ≡ ((p && (q && true)) && n)
-    by true true s t n h g = ap (λ a. (a && t) && n) h ∙ ap (λ a. a && n) g
-    by true false s t n h g = ap (λ a. (a && t) && n) h ∙ ap (λ a. a && n) g
-    by false q s t n h g = ap (λ a. (a && t) && n) h
-
--- keys are the same by both rules
-pub key_agrees : (name : List ℕ) → rules.key_of name ≡ key_of name
-unfolding rules.key_of key_of
-key_agrees name =
-    let capitals = map to_ascii_uppercase name in
-    ap (λ t. cond t (68 ∷ 66 ∷ rules.without_zeros (drop 2 capitals)) capitals) (block_agrees name)

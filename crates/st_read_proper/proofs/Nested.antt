@@ -9,7 +9,7 @@ use Rattle.st_grammar.specs.Levels.{height}
 use Rattle.st_grammar.specs.declared.kind.OneOperand.{OneOperand}
 use Rattle.st_grammar.specs.declared.kind.OneOperand.TheVariants as one
 use Rattle.st_grammar.specs.declared.kind.Prefix.TheVariants as before
-use Rattle.st_read_proper.proofs.Levels.{nest}
+use Rattle.st_canonical.proofs.Levels.{nest}
 use Rattle.st_tree.specs.Form.{Form, area_read, convert, digits_to, group, infix_level, infix_of, level, prefix, select, shift, unary_form, wrap}
 use Rattle.st_tree.specs.Nesting.{form_height, form_nesting}
 use Rattle.st_tree.specs.declared.expr.BinaryOp.{BinaryOp}

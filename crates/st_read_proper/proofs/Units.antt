@@ -3,13 +3,12 @@
 use Rattle.std.proofs.Common.{◌≡◌, ◌≢◌, ℕ, ◌≤◌, max, Bool, true, false, List, [], ◌∷◌, refl, sym, subst, ◌∙◌, arith}
 use Rattle.std.proofs.lemmas.List.{map-append}
 use Rattle.st_canonical.specs.Spelled.{AllSpelled, LocalsSpelled, UnitsSpelled}
-use Rattle.st_grammar.specs.Forms.{Locals, Section, Statements, Units, absent, local, no_local, no_unit, present, unit}
+use Rattle.st_grammar.specs.Forms.{Locals, Section, Statements, Units, absent, local, no_local, no_unit, present, unit, Head}
 use Rattle.st_grammar.specs.Grammar.{AllFit, FormalsFit, HeadFits, IfPresent, LocalsFit, UnitsFit, held, is_formal_type, tree_all, tree_locals, tree_units}
-use Rattle.st_grammar.specs.Forms.{Head}
 use Rattle.st_grammar.specs.Levels.{deepest, levels_all, levels_locals, levels_section, levels_units}
 use Rattle.st_grammar.specs.Syntax.{AllWithin}
-use Rattle.st_read_proper.proofs.Each.{Each, each_append}
-use Rattle.st_read_proper.proofs.Levels.{all_within, greatest, greatest_within, top_all, top_of_all}
+use Rattle.st_types_laws.proofs.Lists.{Each, each_append}
+use Rattle.st_canonical.proofs.Levels.{all_within, greatest, greatest_within, top_all, top_of_all}
 use Rattle.st_read_proper.proofs.Names.{free_is, local_is, name_is, unit_is}
 use Rattle.st_rules.specs.Declarations.{local_of, locals_of}
 use Rattle.st_rules.specs.Names.{Table}

@@ -9,7 +9,7 @@ use Rattle.st_rules.specs.Broken.{twice}
 use Rattle.st_rules.specs.Names.{Table, is_same, look_up, with_entry}
 use Rattle.st_rules.specs.Scopes.{or_else}
 use Rattle.st_rules.specs.declared.scope.Meaning.{Meaning}
-use Rattle.st_types_laws.proofs.BlockKeys.{both}
+use Rattle.std.proofs.lemmas.Bool.{and_parts}
 
 -- Keys
 
@@ -18,7 +18,7 @@ same_keys [] [] h = refl
 same_keys [] (y ∷ ys) h = absurd cc
 same_keys (x ∷ xs) [] h = absurd cc
 same_keys (x ∷ xs) (y ∷ ys) h =
-    let t = both (nat_eq x y) (pointwise nat_eq xs ys) h in
+    let t = and_parts (nat_eq x y) (pointwise nat_eq xs ys) h in
     ap (λ k. k ∷ xs) (eqb-true x y t.0) ∙ ap (λ l. y ∷ l) (same_keys xs ys t.1)
 
 -- What stands under a key

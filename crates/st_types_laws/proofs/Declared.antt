@@ -46,8 +46,3 @@ pub record Declares (scope : Scope) (names : Names) : Type 0 where
   pub local : (key : List ℕ) (i : ℕ) (ty : StType) → meaning_in scope key ≡ Some (meaning.Local i ty) → IsLocalAt key ty (slice_get names.locals i)
   pub global : (key : List ℕ) (i : ℕ) (ty : StType) → meaning_in scope key ≡ Some (meaning.Global i ty) → IsGlobalAt key ty (slice_get names.globals i)
   pub function : (key : List ℕ) (i : ℕ) → meaning_in scope key ≡ Some (meaning.Function i) → IsFunctionAt key (slice_get names.units i) (slice_get scope.formals i)
-
--- names mean the same in two scopes
-pub record SameScope (a b : Scope) : Type 0 where
-  pub same : (key : List ℕ) → meaning_in a key ≡ meaning_in b key
-  pub formals : a.formals ≡ b.formals

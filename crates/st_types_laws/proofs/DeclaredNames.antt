@@ -39,9 +39,9 @@ use Rattle.st_rules.specs.declared.declaration.Outside.{Outside}
 use Rattle.st_rules.specs.declared.scope.Meaning.{Meaning}
 use Rattle.st_rules.specs.declared.scope.Meaning.TheVariants as meaning
 use Rattle.st_types_laws.proofs.Apart.{Lists, declared_between, declared_last}
-use Rattle.st_types_laws.proofs.BlockKeys.{both}
+use Rattle.std.proofs.lemmas.Bool.{and_parts}
 use Rattle.st_types_laws.proofs.BlockSizes.{IsBlock, is_block}
-use Rattle.st_types_laws.proofs.BodyCosts.{nil_first, nil_second}
+use Rattle.st_types_laws.proofs.Lists.{nil_first, nil_second}
 use Rattle.st_types_laws.proofs.DataBlocks.{before_globals, before_units, one_more}
 use Rattle.st_types_laws.proofs.PlainNumbers.{key_by_number}
 use Rattle.st_types_laws.proofs.Redeclared.{AreLocalsAt, AreUnitsAt, location_of, name_of_area}
@@ -53,15 +53,18 @@ abbrev pub block_entries : List DataBlock → Table Meaning
 block_entries [] = []
 block_entries (b ∷ bs) = (key_of (codes "DB" ++ decimal b.number), meaning.Block) ∷ block_entries bs
 
+-- each of some things under its key, by its position
+abbrev pub entries : {X : Type 0} → (X → List ℕ) → (ℕ → X → Meaning) → ℕ → List X → Table Meaning
+entries key mean i [] = []
+entries key mean i (x ∷ xs) = (key x, mean i x) ∷ entries key mean (i + 1) xs
+
 -- the names of other globals, of which so many stand before them
 abbrev pub located_entries : ℕ → List Located → Table Meaning
-located_entries i [] = []
-located_entries i (l ∷ ls) = (key_of l.name, meaning.Global i l.ty) ∷ located_entries (i + 1) ls
+located_entries i ls = entries (λ (l : Located). key_of l.name) (λ i (l : Located). meaning.Global i l.ty) i ls
 
 -- the names of units
 abbrev pub unit_entries : ℕ → List Pou → Table Meaning
-unit_entries i [] = []
-unit_entries i (p ∷ ps) = (key_of p.name, meaning_of_unit i p.program) ∷ unit_entries (i + 1) ps
+unit_entries i ps = entries (λ (p : Pou). key_of p.name) (λ i (p : Pou). meaning_of_unit i p.program) i ps
 
 -- all names outside the units of a tree
 abbrev pub outer_entries : StProgram → Table Meaning
@@ -69,12 +72,10 @@ outer_entries t = block_entries t.dbs ++ (located_entries 0 t.globals ++ unit_en
 
 -- the names of formals and of locals
 abbrev pub formal_entries : ℕ → List Local → Table Meaning
-formal_entries i [] = []
-formal_entries i (l ∷ ls) = (key_of l.name, meaning.Formal i l.ty) ∷ formal_entries (i + 1) ls
+formal_entries i ls = entries (λ (l : Local). key_of l.name) (λ i (l : Local). meaning.Formal i l.ty) i ls
 
 abbrev pub local_entries : ℕ → List Local → Table Meaning
-local_entries i [] = []
-local_entries i (l ∷ ls) = (key_of l.name, meaning.Local i l.ty) ∷ local_entries (i + 1) ls
+local_entries i ls = entries (λ (l : Local). key_of l.name) (λ i (l : Local). meaning.Local i l.ty) i ls
 
 -- all names in a unit
 abbrev pub inner_entries : Pou → Table Meaning
@@ -201,7 +202,7 @@ on_area name ty a r w byte bit there back address fits =
     made = record { name = name; place = record { area = r; byte = byte; bit = bit }; ty = ty }
 
     wide : has_width ty w ≡ true
-    wide = (both (is_some (area_of a)) (has_width ty w) fits).1
+    wide = (and_parts (is_some (area_of a)) (has_width ty w) fits).1
 
     own : location_of made ≡ var.Direct a None w byte bit
     own = ap (λ b. var.Direct b None (width_at ty) byte bit) back ∙ ap (λ v. var.Direct a None v byte bit) (same_width ty w wide)

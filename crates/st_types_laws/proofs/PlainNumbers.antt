@@ -9,7 +9,8 @@ use Rattle.std.proofs.lemmas.Fmt.{decimal_by_steps, first_decimal}
 use Rattle.std.proofs.lemmas.List.Folds.{list_all-append}
 use Rattle.st_rules.specs.Globals.{block_number, number_from, number_in}
 use Rattle.st_rules.specs.Names.{is_digit, is_number, key_of, with_plain_number, without_zeros, zeros_before}
-use Rattle.st_types_laws.proofs.BlockKeys.{both, digit, is_key, one_key}
+use Rattle.std.proofs.lemmas.Bool.{and_parts}
+use Rattle.st_types_laws.proofs.BlockKeys.{digit, is_key, one_key}
 
 number_behind : (v : ℕ) (ds : List ℕ) (d : ℕ) → number_from v (ds ++ d ∷ []) ≡ min (number_from v ds * 10 + (d - 48)) (2 ^ 32 - 1)
 number_behind v [] d = refl
@@ -50,7 +51,7 @@ no_capital b h = let d = digit b h in let small : nat_lt b 97 ≡ true = grind (
 no_capitals : (ds : List ℕ) → list_all is_digit ds ≡ true → map to_ascii_uppercase ds ≡ ds
 no_capitals [] h = refl
 no_capitals (d ∷ ds) h =
-    let t = both (is_digit d) (list_all is_digit ds) h in
+    let t = and_parts (is_digit d) (list_all is_digit ds) h in
     ap (λ x. x ∷ map to_ascii_uppercase ds) (no_capital d t.0) ∙ ap (λ xs. d ∷ xs) (no_capitals ds t.1)
 
 -- where no zero stands first, none is left out
