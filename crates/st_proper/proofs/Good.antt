@@ -1,5 +1,5 @@
 -- What holds of the canonical forms of well typed statements, and of a list of them with one more.
-use Rattle.std.proofs.Common.{◌≡◌, ℕ, ◌+◌, ◌≤◌, Bool, true, List, map, Some}
+use Rattle.std.proofs.Common.{◌≡◌, ℕ, ◌+◌, ◌≤◌, Bool, true, List, [], ◌∷◌, map, Some}
 use Rattle.s7_base.specs.declared.reason.Line.{Line}
 use Rattle.st_canonical.specs.Spelled.{AllSpelled, ArmsSpelled, CasesSpelled, Spelled}
 use Rattle.st_grammar.specs.Forms.{Statement, Statements, Arms, CaseArms}
@@ -11,9 +11,9 @@ use Rattle.st_rules.specs.Broken.{sound}
 use Rattle.st_rules.specs.Calls.{calls_of}
 use Rattle.st_rules.specs.Statements.{arm as arm_in, arms_on, case_arm as case_arm_in, case_arms_on, statement, statements}
 use Rattle.st_rules.specs.declared.scope.Scope.{Scope}
-use Rattle.st_tree.specs.Costs.{arm_most, body_most, case_most, greatest, most}
+use Rattle.st_tree.proofs.CalledMost.{called_in_arm, called_in_case, called_most}
+use Rattle.st_tree.specs.Depth.{greatest}
 use Rattle.st_tree.specs.Nesting.{arm_nesting, body_nesting, case_nesting, nesting}
-use Rattle.st_tree.specs.Runnable.{chain_costs}
 use Rattle.st_tree.specs.WellTyped.{is_some_of}
 use Rattle.st_tree.specs.declared.expr.StType.{StType}
 use Rattle.st_tree.specs.declared.program.Arm.{Arm}
@@ -27,14 +27,14 @@ module _ (s : Scope) (inside : Bool) where
     pub fits : Fits inside c
     pub spelled : Spelled c
     pub low : (d : ℕ) → top_one d c ≤ d + nesting x
-    pub calls : (f : ℕ → ℕ) → bound f (calls_of s (tree_one c)) ≤ most (chain_costs f) x
+    pub calls : (f : ℕ → ℕ) → bound f (calls_of s (tree_one c)) ≤ called_most f (x ∷ [])
 
   pub record GoodAll (xs : List Stmt) (c : Statements) : Type 0 where
     pub means : AreSound (statements s (tree_all c)) xs
     pub fits : AllFit inside c
     pub spelled : AllSpelled c
     pub low : (d : ℕ) → top_all d c ≤ d + body_nesting xs
-    pub calls : (f : ℕ → ℕ) → bound_all f s (tree_all c) ≤ body_most (chain_costs f) xs
+    pub calls : (f : ℕ → ℕ) → bound_all f s (tree_all c) ≤ called_most f xs
 
   pub record GoodArms (m : Line) (xs : List Arm) (c : Arms) : Type 0 where
     pub means : AreSound (arms_on m (map (arm_in s) (tree_arms c))) xs
@@ -42,7 +42,7 @@ module _ (s : Scope) (inside : Bool) where
     pub some : is_some_of xs ≡ true → HasArm c
     pub spelled : ArmsSpelled c
     pub low : (d : ℕ) → top_arms d c ≤ d + greatest (map arm_nesting xs)
-    pub calls : (f : ℕ → ℕ) → bound_arms f s (tree_arms c) ≤ greatest (map (arm_most (chain_costs f)) xs)
+    pub calls : (f : ℕ → ℕ) → bound_arms f s (tree_arms c) ≤ greatest (map (called_in_arm f) xs)
 
   pub record GoodCases (m : Line) (ty : StType) (xs : List CaseArm) (c : CaseArms) : Type 0 where
     pub means : AreSound (case_arms_on m (Some ty) (map (case_arm_in s) (tree_cases c))) xs
@@ -50,4 +50,4 @@ module _ (s : Scope) (inside : Bool) where
     pub some : is_some_of xs ≡ true → HasCase c
     pub spelled : CasesSpelled c
     pub low : (d : ℕ) → top_cases d c ≤ d + greatest (map case_nesting xs)
-    pub calls : (f : ℕ → ℕ) → bound_cases f s (tree_cases c) ≤ greatest (map (case_most (chain_costs f)) xs)
+    pub calls : (f : ℕ → ℕ) → bound_cases f s (tree_cases c) ≤ greatest (map (called_in_case f) xs)

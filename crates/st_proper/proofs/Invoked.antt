@@ -34,10 +34,8 @@ use Rattle.st_rules.specs.declared.scope.Formals.{Formals}
 use Rattle.st_rules.specs.declared.scope.Meaning.TheVariants as meaning
 use Rattle.st_rules.specs.declared.scope.Scope.{Scope}
 use Rattle.st_rules.specs.declared.variable.TypedVar.{TypedVar}
-use Rattle.st_tree.proofs.Equations.{most_invoke}
+use Rattle.st_tree.proofs.CalledMost.{called_invoke, called_most}
 use Rattle.st_tree.proofs.TypingEquations.{good_invoke, nesting_invoke, type_had}
-use Rattle.st_tree.specs.Costs.{most}
-use Rattle.st_tree.specs.Runnable.{chain_costs}
 use Rattle.st_tree.specs.Spelling.{formals_of, unit_name}
 use Rattle.st_tree.specs.Typing.{Names}
 use Rattle.st_tree.specs.WellTyped.{are_given, has_type, head_of, is_call, is_seen, is_well_typed, variable_type}
@@ -238,8 +236,8 @@ module _ (names : Names) (s : Scope) (sees : Sees s names) where
         low = λ d. omega (arith, nesting_invoke n (vars_of xs));
         calls = λ f. let b : bound f (calls_of s (on_line (on k) (raw.Invoke u.name form)))
             ≡ max (f n) 0 = ap (bound f) calls in
-            let m : most (chain_costs f) (stmt.Invoke n (vars_of xs))
-            ≡ f n = most_invoke (chain_costs f) n (vars_of xs) in
+            let m : called_most f (stmt.Invoke n (vars_of xs) ∷ [])
+            ≡ f n = called_invoke f n (vars_of xs) in
             omega (arith, b, m);
       }
 

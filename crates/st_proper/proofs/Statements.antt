@@ -23,13 +23,11 @@ use Rattle.st_proper.proofs.Scope.{Sees, sight_by}
 use Rattle.st_proper.proofs.Variables.{of_type, written}
 use Rattle.st_rules.specs.Statements.{label_breaks}
 use Rattle.st_rules.specs.declared.scope.Scope.{Scope}
-use Rattle.st_tree.proofs.Equations.{most_arm, most_case, most_case_arm, most_if, most_while}
+use Rattle.st_tree.proofs.CalledMost.{called_case, called_if, called_in_arm, called_in_case, called_last, called_while}
 use Rattle.st_tree.proofs.Induction.{Each, InArm, InCase, StmtSteps, every_body}
 use Rattle.st_tree.proofs.TypedParts.{both_sides, parts_of_arm, parts_of_arms, parts_of_body, parts_of_cases, parts_of_if, parts_of_while}
 use Rattle.st_tree.proofs.TypingEquations.{good_area_write, good_assign, good_case, good_case_arm, good_continue, good_exit, good_if, nesting_area_write, nesting_arm, nesting_assign, nesting_case, nesting_case_arm, nesting_continue, nesting_exit, nesting_if, nesting_return, nesting_while, type_had}
-use Rattle.st_tree.specs.Costs.{arm_most, case_most, most}
 use Rattle.st_tree.specs.Nesting.{arm_nesting, case_nesting, nesting}
-use Rattle.st_tree.specs.Runnable.{chain_costs}
 use Rattle.st_tree.specs.TypeRules.{is_selector}
 use Rattle.st_tree.specs.Typing.{Names, type_of}
 use Rattle.st_tree.specs.Values.{type_of_width}
@@ -141,7 +139,7 @@ module _ (s : Scope) (names : Names) (sees : Sees s names) (agree : TypesAgreeIn
       arith,
       g.calls f,
       h.calls f,
-      greatest_last (most (chain_costs f)) xs x,
+      called_last f xs x,
       all_last f s
           (tree_all others) (tree_one c),
     );
@@ -192,8 +190,8 @@ module _ (s : Scope) (names : Names) (sees : Sees s names) (agree : TypesAgreeIn
           arith,
           b.calls f,
           bound_while f s (on k) (tree c) (tree_all form),
-          most_while
-              (chain_costs f) e body,
+          called_while
+              f e body,
         );
       })
 
@@ -230,8 +228,7 @@ module _ (s : Scope) (names : Names) (sees : Sees s names) (agree : TypesAgreeIn
           g.calls f,
           b.calls f,
           arms_last f s (tree_arms others) (tree c) (tree_all form),
-          greatest_last (arm_most (chain_costs f)) xs x,
-          most_arm (chain_costs f) x,
+          greatest_last (called_in_arm f) xs x,
         );
       }
 
@@ -271,7 +268,7 @@ module _ (s : Scope) (names : Names) (sees : Sees s names) (agree : TypesAgreeIn
     fits = (g.some some, g.fits);
     spelled = g.spelled;
     low = λ d. omega (arith, g.low (suc d), nesting_if arms []);
-    calls = λ f. omega (arith, g.calls f, bound_if f s (on k) (tree_arms a.0) [], most_if (chain_costs f) arms []);
+    calls = λ f. omega (arith, g.calls f, bound_if f s (on k) (tree_arms a.0) [], called_if f arms []);
   }
   choice_by inside arms (y ∷ ys) k a some g b =
       let h = b (line_after a.1) in
@@ -286,8 +283,8 @@ module _ (s : Scope) (names : Names) (sees : Sees s names) (agree : TypesAgreeIn
           g.calls f,
           h.calls f,
           bound_if f s (on k) (tree_arms a.0) (tree_all form),
-          most_if
-              (chain_costs f) arms (y ∷ ys),
+          called_if
+              f arms (y ∷ ys),
         );
       }
 
@@ -342,8 +339,7 @@ module _ (s : Scope) (names : Names) (sees : Sees s names) (agree : TypesAgreeIn
           b.calls f,
           cases_last f s (tree_cases others) (tree_labels c)
               (tree_all form),
-          greatest_last (case_most (chain_costs f)) xs x,
-          most_case_arm (chain_costs f) x,
+          greatest_last (called_in_case f) xs x,
         );
       }
 
@@ -419,8 +415,8 @@ module _ (s : Scope) (names : Names) (sees : Sees s names) (agree : TypesAgreeIn
           arith,
           g.calls f,
           bound_case f s (on k) (tree c) (tree_cases a.0) [],
-          most_case
-              (chain_costs f) e arms [],
+          called_case
+              f e arms [],
         );
       }
   case_by inside e arms (y ∷ ys) k t a g b =
@@ -441,7 +437,7 @@ module _ (s : Scope) (names : Names) (sees : Sees s names) (agree : TypesAgreeIn
           h.calls f,
           bound_case f s (on k) (tree c) (tree_cases a.0)
               (tree_all form),
-          most_case (chain_costs f) e arms (y ∷ ys),
+          called_case f e arms (y ∷ ys),
         );
       }
 

@@ -41,12 +41,11 @@ use Rattle.st_rules.specs.Typed.{IsChain, breaks_of, calls_in, names_of, tree_of
 use Rattle.st_rules.specs.Units.{all_unit_breaks, all_units, breaks_of_unit, calls_of_unit, scope_in, unit_of}
 use Rattle.st_rules.specs.Variables as rules
 use Rattle.st_rules.specs.declared.scope.Scope.{Scope}
+use Rattle.st_tree.proofs.CalledMost.{called_most}
 use Rattle.st_tree.proofs.Induction.{Each}
 use Rattle.st_tree.proofs.TypesAgree.{types_agree}
-use Rattle.st_tree.specs.Costs.{body_most}
 use Rattle.st_tree.specs.PlaceRules.{is_located}
 use Rattle.st_tree.specs.Proper.{IsDataBlock, IsFormal, IsGlobal, IsLocal, IsProperUnit, Proper}
-use Rattle.st_tree.specs.Runnable.{chain_costs}
 use Rattle.st_tree.specs.Spelling.{names_in}
 use Rattle.st_tree.specs.Values.{width_at}
 use Rattle.st_tree.specs.WellTyped.{head_of}
@@ -370,13 +369,13 @@ module _ (t : StProgram) (p : Proper t) where
   -- what a unit of the text is
   said : (n : ℕ) (u : Pou) (v : RawPou) → slice_get t.pous n ≡ Some u → slice_get raw.pous n ≡ Some v
       → (breaks_in (statements (scope_of v) v.body) ≡ []) × (found_in (statements (scope_of v) v.body) ≡ u.body)
-      × ((f : ℕ → ℕ) → bound f (all_calls (scope_of v) v.body) ≤ body_most (chain_costs f) u.body)
+      × ((f : ℕ → ℕ) → bound f (all_calls (scope_of v) v.body) ≤ called_most f u.body)
   said n u v q d =
       let form = form_there t t.pous raw.pous declare.forms n u v q d in
       let g = body n u v q d form.line in (
         ap (λ b. breaks_in (statements (scope_of v) b)) form.same ∙ clean_of _ _ g.means,
         ap (λ b. found_in (statements (scope_of v) b)) form.same ∙ found_of _ _ g.means,
-        λ f. subst (λ b. bound f (all_calls (scope_of v) b) ≤ body_most (chain_costs f) u.body) (sym form.same)
+        λ f. subst (λ b. bound f (all_calls (scope_of v) b) ≤ called_most f u.body) (sym form.same)
             (g.calls f),
       )
 
@@ -424,7 +423,7 @@ module _ (t : StProgram) (p : Proper t) where
   bounded : AreBounded t (calls_in raw)
   bounded i calls unit e q f =
       let v = mapped_from (calls_of_unit (names_of raw) (map formals_of raw.pous)) raw.pous i calls e in
-      subst (λ cs. bound f cs ≤ body_most (chain_costs f) unit.body) (sym v.2) ((said i unit v.0 q v.1).2 f)
+      subst (λ cs. bound f cs ≤ called_most f unit.body) (sym v.2) ((said i unit v.0 q v.1).2 f)
 
   chain : IsChain (calls_in raw) raw.pous
   chain =

@@ -13,8 +13,8 @@ use Rattle.st_rules.specs.Declarations.{formals_of}
 use Rattle.st_rules.specs.LongChains.{chain_break, long_chains}
 use Rattle.st_rules.specs.Typed.{HasTree, calls_in, names_of}
 use Rattle.st_rules.specs.Units.{unit_of}
-use Rattle.st_tree.specs.Costs.{body_most}
-use Rattle.st_tree.specs.Runnable.{chain_costs, chain_of, chain_to, unit_chain}
+use Rattle.st_tree.proofs.CalledMost.{called_most}
+use Rattle.st_tree.specs.Chains.{chain_of, chain_to, unit_chain}
 use Rattle.st_tree.specs.WellTyped.{Head, head_of}
 use Rattle.st_tree.specs.declared.program.Pou.{Pou}
 use Rattle.st_tree.specs.declared.program.StProgram.{StProgram}
@@ -28,7 +28,7 @@ use Rattle.st_types_laws.proofs.Lists.{mapped_at, mapped_from, nil_first, nil_se
 pub record HasCalls (tree : StProgram) (graph : Graph) (n : ℕ) (unit : Pou) : Type 0 where
   pub calls : List Call
   pub there : slice_get graph n ≡ Some calls
-  pub most : (f : ℕ → ℕ) → body_most (chain_costs f) unit.body ≤ bound (of_heads (map head_of tree.pous) f) calls
+  pub most : (f : ℕ → ℕ) → called_most f unit.body ≤ bound (of_heads (map head_of tree.pous) f) calls
 
 -- each unit has its calls in a graph
 abbrev pub HaveCalls : StProgram → Graph → Type 0
@@ -70,7 +70,7 @@ module _ (tree : StProgram) (graph : Graph) (have : HaveCalls tree graph) where
       within_calls (of_heads (map head_of tree.pous) f) m (λ d. get_or (chains graph m) d.callee false) c.calls (sym here ∙ h)
       (λ d no. cost_within d.callee m f (slice_get (map head_of tree.pous) d.callee) refl
       (λ u p. chain_within m d.callee u p no)) in
-      let is : chain_to (suc (suc m)) tree n ≡ suc (body_most (chain_costs f) unit.body) = ap (unit_chain f (suc m)) q in
+      let is : chain_to (suc (suc m)) tree n ≡ suc (called_most f unit.body) = ap (unit_chain f (suc m)) q in
       omega (arith, is, few, c.most f)
 
 -- Headings

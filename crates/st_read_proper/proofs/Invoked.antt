@@ -31,8 +31,7 @@ use Rattle.st_rules.specs.declared.scope.Meaning.{Meaning}
 use Rattle.st_rules.specs.declared.scope.Meaning.TheVariants as meaning
 use Rattle.st_rules.specs.declared.scope.Scope.{Scope}
 use Rattle.st_rules.specs.declared.variable.TypedVar.{TypedVar}
-use Rattle.st_tree.proofs.Equations.{most_invoke}
-use Rattle.st_tree.specs.Runnable.{chain_costs}
+use Rattle.st_tree.proofs.CalledMost.{called_invoke}
 use Rattle.st_tree.proofs.TypingEquations.{good_invoke, nesting_invoke}
 use Rattle.st_tree.specs.WellTyped.{Head, Sight, are_given, has_type, is_call, is_seen, is_well_typed, variable_type}
 use Rattle.st_tree.specs.declared.expr.StType.{StType}
@@ -275,7 +274,7 @@ module _ (scope : Scope) (sight : Sight) (sees : Sees scope sight) (inside : Boo
             ap (bound (of_heads sight.heads f)) (calls_invoke scope l name (tree_actuals actuals)
             ∙ ap (λ o. call_on l (callee o)) m) in
             let cost : of_heads sight.heads f i ≡ f i = ap (λ o. cost_of o (f i)) c.there in
-            omega (arith, own, cost, most_invoke (chain_costs f) i r.xs);
+            omega (arith, own, cost, called_invoke f i r.xs);
       }
 
   pub of_invoke : (l : Line) (name : List ℕ) (actuals : Actuals) → ActualsSpelled actuals

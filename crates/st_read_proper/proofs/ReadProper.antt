@@ -29,9 +29,8 @@ use Rattle.st_rules.specs.Statements.{statements}
 use Rattle.st_rules.specs.Typed.{HasTree, calls_in, names_of}
 use Rattle.st_rules.specs.Units.{breaks_of_unit, calls_of_unit, scope_in, unit_of}
 use Rattle.st_rules.specs.declared.scope.Scope.{Scope}
-use Rattle.st_tree.specs.Costs.{body_most}
+use Rattle.st_tree.proofs.CalledMost.{called_most}
 use Rattle.st_tree.specs.Nesting.{body_nesting}
-use Rattle.st_tree.specs.Runnable.{chain_costs}
 use Rattle.st_tree.specs.Proper.{IsDataBlock, IsFormal, IsGlobal, IsLocal, IsProperUnit, Proper}
 use Rattle.st_tree.specs.WellTyped.{are_well_typed, head_of, sight_in}
 use Rattle.st_tree.specs.declared.program.Pou.{Pou}
@@ -149,8 +148,8 @@ module _ (source : Source) (t : StProgram) (fits : SourceFits source) (worded : 
         calls = all_calls (scope_of a.u) a.u.body;
         there = mapped_at (calls_of_unit (names_of raw) (map formals_of raw.pous)) raw.pous n a.u a.there;
         most = λ f.
-            subst (λ (xs : List Stmt). body_most (chain_costs f) xs ≤ bound_all (of_heads (map head_of t.pous) f) (scope_of a.u) a.u.body) (sym b.same)
-            (subst (λ (rs : List RawStmt). body_most (chain_costs f) b.found.xs ≤ bound_all (of_heads (map head_of t.pous) f) (scope_of a.u) rs)
+            subst (λ (xs : List Stmt). called_most f xs ≤ bound_all (of_heads (map head_of t.pous) f) (scope_of a.u) a.u.body) (sym b.same)
+            (subst (λ (rs : List RawStmt). called_most f b.found.xs ≤ bound_all (of_heads (map head_of t.pous) f) (scope_of a.u) rs)
             (sym b.read.same) (b.found.calls f));
       }
 

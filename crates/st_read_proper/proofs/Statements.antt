@@ -25,10 +25,9 @@ use Rattle.st_tree.specs.TypeRules as rules
 use Rattle.st_rules.specs.Variables.{variable as variable_in}
 use Rattle.st_rules.specs.declared.scope.Scope.{Scope}
 use Rattle.st_rules.specs.declared.variable.TypedVar.{TypedVar}
+use Rattle.st_tree.proofs.CalledMost.{called_area_write, called_assign, called_case, called_continue, called_exit, called_if, called_in_arm, called_in_case, called_last, called_most, called_return, called_while}
 use Rattle.st_tree.proofs.TypingEquations.{good_area_write, good_arm, good_assign, good_case, good_case_arm, good_continue, good_exit, good_if, good_return, good_while, nesting_area_write, nesting_arm, nesting_assign, nesting_case, nesting_case_arm, nesting_continue, nesting_exit, nesting_if, nesting_return, nesting_while}
-use Rattle.st_tree.proofs.Equations.{most_area_write, most_arm, most_assign, most_case, most_case_arm, most_continue, most_exit, most_if, most_return, most_while}
-use Rattle.st_tree.specs.Costs.{arm_most, body_most, case_most, greatest, most}
-use Rattle.st_tree.specs.Runnable.{chain_costs}
+use Rattle.st_tree.specs.Depth.{greatest}
 use Rattle.st_tree.specs.Nesting.{arm_nesting, body_nesting, case_nesting, nesting}
 use Rattle.st_tree.specs.TypeRules.{is_selector}
 use Rattle.st_tree.specs.Values.{type_of_width}
@@ -57,14 +56,14 @@ module _ (scope : Scope) (sight : Sight) (inside : Bool) where
     pub found : statement scope (tree_one s) ≡ sound x
     pub typed : is_well_typed sight x inside ≡ true
     pub low : (d : ℕ) → d + nesting x ≤ top_one d s
-    pub calls : (f : ℕ → ℕ) → most (chain_costs f) x ≤ bound (of_heads sight.heads f) (calls_of scope (tree_one s))
+    pub calls : (f : ℕ → ℕ) → called_most f (x ∷ []) ≤ bound (of_heads sight.heads f) (calls_of scope (tree_one s))
 
   pub record FoundAll (b : Statements) : Type 0 where
     pub xs : List Stmt
     pub found : AreSound (statements scope (tree_all b)) xs
     pub typed : are_well_typed sight inside xs ≡ true
     pub low : (d : ℕ) → d + body_nesting xs ≤ max d (top_all d b)
-    pub calls : (f : ℕ → ℕ) → body_most (chain_costs f) xs ≤ bound_all (of_heads sight.heads f) scope (tree_all b)
+    pub calls : (f : ℕ → ℕ) → called_most f xs ≤ bound_all (of_heads sight.heads f) scope (tree_all b)
 
   pub record FoundArms (l : Line) (arms : Arms) : Type 0 where
     pub xs : List Arm
@@ -72,7 +71,7 @@ module _ (scope : Scope) (sight : Sight) (inside : Bool) where
     pub typed : each inside (map (is_arm sight) xs) ≡ true
     pub some : HasArm arms → is_some_of (map (is_arm sight) xs) ≡ true
     pub low : (d : ℕ) → d + greatest (map arm_nesting xs) ≤ max d (top_arms d arms)
-    pub calls : (f : ℕ → ℕ) → greatest (map (arm_most (chain_costs f)) xs)
+    pub calls : (f : ℕ → ℕ) → greatest (map (called_in_arm f) xs)
         ≤ bound_arms (of_heads sight.heads f) scope (tree_arms arms)
 
   pub record FoundCases (l : Line) (ty : StType) (arms : CaseArms) : Type 0 where
@@ -81,7 +80,7 @@ module _ (scope : Scope) (sight : Sight) (inside : Bool) where
     pub typed : each_case ty inside (map (is_case_arm sight) xs) ≡ true
     pub some : HasCase arms → is_some_of (map (is_case_arm sight) xs) ≡ true
     pub low : (d : ℕ) → d + greatest (map case_nesting xs) ≤ max d (top_cases d arms)
-    pub calls : (f : ℕ → ℕ) → greatest (map (case_most (chain_costs f)) xs)
+    pub calls : (f : ℕ → ℕ) → greatest (map (called_in_case f) xs)
         ≤ bound_cases (of_heads sight.heads f) scope (tree_cases arms)
 
 -- Lists, with one part more
@@ -146,7 +145,7 @@ module _ (scope : Scope) (sight : Sight) (inside : Bool) where
       arith,
       p.calls f,
       q.calls f,
-      greatest_last (most (chain_costs f)) p.xs q.x,
+      called_last f p.xs q.x,
       all_last (costs f) scope (tree_all b) (tree_one s),
     );
   }
@@ -162,7 +161,7 @@ module _ (scope : Scope) (sight : Sight) (inside : Bool) where
         ∙ ap (λ o. is_assigned o (expression_type sight g.t.tree)) has
         ∙ ap (has_type x.ty) g.typed ∙ turned x.ty g.t.ty fits;
     low = λ d. omega (arith, nesting_assign x.var g.t.tree, g.close.inner);
-    calls = λ f. omega (arith, most_assign (chain_costs f) x.var g.t.tree);
+    calls = λ f. omega (arith, called_assign f x.var g.t.tree);
   }
 
   pub of_write : (l : Line) (w : Width) (p e : Form) → (f : An l p) → (g : An l e) → writes w f.t g.t ≡ true
@@ -177,7 +176,7 @@ module _ (scope : Scope) (sight : Sight) (inside : Bool) where
             (has_type (type_of_width w) (expression_type sight g.t.tree))
             (typed_as l p type.Dword f parts.0) (typed_as l e (type_of_width w) g parts.1);
         low = λ d. omega (arith, nesting_area_write w f.t.tree g.t.tree, f.close.inner, g.close.inner);
-        calls = λ h. omega (arith, most_area_write (chain_costs h) w f.t.tree g.t.tree);
+        calls = λ h. omega (arith, called_area_write h w f.t.tree g.t.tree);
       }
 
   -- Jumps
@@ -188,21 +187,21 @@ module _ (scope : Scope) (sight : Sight) (inside : Bool) where
     found = act_exit scope l;
     typed = good_exit sight inside ∙ fits;
     low = λ d. omega (arith, nesting_exit);
-    calls = λ f. omega (arith, most_exit (chain_costs f));
+    calls = λ f. omega (arith, called_exit f);
   }
   of_jump l jump_word.Continue fits = record {
     x = stmt.Continue;
     found = act_continue scope l;
     typed = good_continue sight inside ∙ fits;
     low = λ d. omega (arith, nesting_continue);
-    calls = λ f. omega (arith, most_continue (chain_costs f));
+    calls = λ f. omega (arith, called_continue f);
   }
   of_jump l jump_word.Return fits = record {
     x = stmt.Return;
     found = act_return scope l;
     typed = good_return sight inside;
     low = λ d. omega (arith, nesting_return);
-    calls = λ f. omega (arith, most_return (chain_costs f));
+    calls = λ f. omega (arith, called_return f);
   }
 
   -- WHILE
@@ -220,7 +219,7 @@ module _ (scope : Scope) (sight : Sight) (inside : Bool) where
       arith,
       p.calls f,
       bound_while (costs f) scope l (tree e) (tree_all b),
-      most_while (chain_costs f) g.t.tree p.xs,
+      called_while f g.t.tree p.xs,
     );
   }
 
@@ -254,8 +253,7 @@ module _ (scope : Scope) (sight : Sight) (inside : Bool) where
           arith,
           p.calls f,
           q.calls f,
-          greatest_last (arm_most (chain_costs f)) p.xs x,
-          most_arm (chain_costs f) x,
+          greatest_last (called_in_arm f) p.xs x,
           arms_last (costs f) scope (tree_arms others) (tree e) (tree_all b),
         );
       }
@@ -275,7 +273,7 @@ module _ (scope : Scope) (sight : Sight) (inside : Bool) where
     found = if_is scope l (tree_arms arms) [] p.xs [] p.found refl;
     typed = if_typed p.xs [] (p.some some) p.typed refl;
     low = λ d. omega (arith, nesting_if p.xs [], p.low (suc d), arms_high (suc d) arms some);
-    calls = λ f. omega (arith, p.calls f, bound_if (costs f) scope l (tree_arms arms) [], most_if (chain_costs f) p.xs []);
+    calls = λ f. omega (arith, p.calls f, bound_if (costs f) scope l (tree_arms arms) [], called_if f p.xs []);
   }
 
   pub of_choice_else : (l : Line) (arms : Arms) (b : Statements) → HasArm arms → SomeArms l arms → All b
@@ -290,7 +288,7 @@ module _ (scope : Scope) (sight : Sight) (inside : Bool) where
       p.calls f,
       q.calls f,
       bound_if (costs f) scope l (tree_arms arms) (tree_all b),
-      most_if (chain_costs f) p.xs q.xs,
+      called_if f p.xs q.xs,
     );
   }
 
@@ -324,8 +322,7 @@ module _ (scope : Scope) (sight : Sight) (inside : Bool) where
           arith,
           p.calls f,
           q.calls f,
-          greatest_last (case_most (chain_costs f)) p.xs x,
-          most_case_arm (chain_costs f) x,
+          greatest_last (called_in_case f) p.xs x,
           cases_last (costs f) scope (tree_cases others) (tree_labels labels) (tree_all b),
         );
       }
@@ -354,7 +351,7 @@ module _ (scope : Scope) (sight : Sight) (inside : Bool) where
       arith,
       p.calls f,
       bound_case (costs f) scope l (tree e) (tree_cases arms) [],
-      most_case (chain_costs f) g.t.tree p.xs [],
+      called_case f g.t.tree p.xs [],
     );
   }
 
@@ -370,6 +367,6 @@ module _ (scope : Scope) (sight : Sight) (inside : Bool) where
       p.calls f,
       q.calls f,
       bound_case (costs f) scope l (tree e) (tree_cases arms) (tree_all b),
-      most_case (chain_costs f) g.t.tree p.xs q.xs,
+      called_case f g.t.tree p.xs q.xs,
     );
   }

@@ -6,7 +6,7 @@ use Rattle.st_types_laws.proofs.Actions.{calls_arm, calls_case, calls_case_arm, 
 use Rattle.st_types_laws.proofs.Lists.{map_last}
 use Rattle.st_rules.specs.Calls.{all_calls, calls_of, calls_of_arm, calls_of_case_arm, joined}
 use Rattle.st_rules.specs.declared.scope.Scope.{Scope}
-use Rattle.st_tree.specs.Costs.{greatest}
+use Rattle.st_tree.specs.Depth.{greatest}
 use Rattle.st_tree.specs.declared.expr.StType.{StType}
 use Rattle.st_tree.specs.declared.raw.RawArm.{RawArm}
 use Rattle.st_tree.specs.declared.raw.RawCaseArm.{RawCaseArm}

@@ -13,7 +13,7 @@ use Rattle.stl_tree.specs.declared.program.Op.TheVariants as op
 use Rattle.stl_tree.specs.declared.program.Instr.{Instr}
 use Rattle.stl_tree.specs.declared.program.Block.{Block}
 use Rattle.st_tree.specs.Spelling.{unit_text, line, literal_text, spelling}
-use Rattle.st_tree.proofs.Equations.{canon_equations, text_assign}
+use Rattle.st_tree.proofs.Equations.{canon_equations, text_assign, text_return}
 use Rattle.stl_translate.specs.inner.Translation.{translation}
 
 abbrev instr_of : Op → Instr
@@ -61,6 +61,12 @@ exclusive : text_of (block_of (name.Ob 1) (op.Check check.X (arg.At (input 0)) �
     ++ codes "END_PROGRAM\n"
 unfolding digits unit_text line literal_text
 exclusive = simp (text_assign, canon_equations)
+
+-- an end word before others is RETURN, the last one is the end of the unit
+early_end : text_of (block_of (name.Ob 1) (op.BlockEnd ∷ op.Assign (operand.Direct area.Q 4 0) ∷ []) ∷ [])
+    ≡ codes "PROGRAM OB1\n    RETURN;\n    %QX4.0 := RLO;\n    NFC := FALSE;\nEND_PROGRAM\n"
+unfolding digits unit_text line literal_text
+early_end = simp (text_assign, text_return, canon_equations)
 
 two_blocks : text_of (block_of (name.Ob 1) [] ∷ block_of (name.Ob 35) [] ∷ [])
     ≡ codes "PROGRAM OB1\nEND_PROGRAM\nPROGRAM OB35\nEND_PROGRAM\n"
