@@ -1,6 +1,6 @@
 -- A well typed expression in its canonical form: it means the expression on each line, is of the language, and
 -- tokens can have its parts.
-use Rattle.std.proofs.Common.{◌≡◌, ℕ, ◌-◌, ℤ, Bool, true, false, not, Option, Some, Result, Ok, refl, sym, ap, subst, ◌∙◌, arith}
+use Rattle.std.proofs.Common.{◌≡◌, ℕ, ◌-◌, ℤ, Bool, true, false, Option, Some, Result, Ok, refl, sym, ap, subst, ◌∙◌, arith}
 use Rattle.std.specs.Prelude.{nat_lt, if◌then◌else◌}
 use Rattle.s7_base.specs.declared.reason.Line.{Line}
 use Rattle.s7_base.specs.declared.reason.Reason.{Reason}
@@ -22,7 +22,7 @@ use Rattle.st_types_laws.proofs.SameTypes.{same_binary, same_choice, same_conver
 use Rattle.st_proper.proofs.Scope.{Sees, sight_by}
 use Rattle.st_proper.proofs.Values.{has_value}
 use Rattle.st_proper.proofs.Variables.{of_type, written}
-use Rattle.st_proper.proofs.Words.{conversion_there}
+use Rattle.st_canonical.proofs.SameNames.{between}
 use Rattle.st_rules.specs.Broken.{Judged, sound}
 use Rattle.st_rules.specs.Expressions.{answered, expression, read_of}
 use Rattle.st_rules.specs.Types.{type_of_unary}
@@ -169,8 +169,7 @@ module _ (s : Scope) (names : Names) (sees : Sees s names) where
       let w = where_given (is_conversion from to) f.first u f.rest in
       let x = p g.first g.is k m in
       let c = expr_form names k a in
-      let there : is_function (one.Convert from to) ≡ true =
-      ap not (conversion_there from to) ∙ ap (λ t. not (not t)) w.0 in
+      let there : is_function (one.Convert from to) ≡ true = between from to ∙ w.0 in
       subst (Sound s m (typed_tree u (expr.Convert from to a))) (sym (form_convert names k from to a)) (record {
         means = convert_found s m from to (tree c) (typed_tree g.first a) u x.means
             (same_conversion from to g.first ∙ f.is ∙ ap (λ t. Some t) w.1);

@@ -1,13 +1,12 @@
 -- An expression that breaks no rule is well typed, and nests no deeper than it is written.
-use Rattle.std.proofs.Common.{◌≡◌, true, not, [], Option, Some, Result, Ok, Err, refl, sym, ap, subst, ◌∙◌, arith}
-use Rattle.std.specs.Prelude.{is_none}
+use Rattle.std.proofs.Common.{◌≡◌, true, [], Option, Some, Result, Ok, Err, refl, sym, ap, subst, ◌∙◌, arith}
 use Rattle.s7_base.specs.declared.reason.Line.{Line}
 use Rattle.s7_base.specs.declared.reason.Reason.{Reason}
 use Rattle.s7_base.specs.declared.word.Width.{Width}
+use Rattle.st_canonical.proofs.SameNames.{between}
 use Rattle.st_canonical.specs.Spelled.{FormSpelled, is_function, is_literal, is_variable}
 use Rattle.st_grammar.specs.Forms.{Form, literal, variable, group, prefix, infix_of, apply, shift, select}
 use Rattle.st_grammar.specs.Grammar.{Binds, label_tree, tree}
-use Rattle.st_grammar.specs.Kinds.{conversion_between}
 use Rattle.st_grammar.specs.declared.kind.Literal.{Literal}
 use Rattle.st_grammar.specs.declared.kind.OneOperand.TheVariants as one
 use Rattle.st_grammar.specs.declared.kind.Prefix.TheVariants as before
@@ -34,22 +33,10 @@ use Rattle.st_tree.specs.declared.expr.BinaryOp.{BinaryOp}
 use Rattle.st_tree.specs.declared.expr.Expr.TheVariants as expr
 use Rattle.st_tree.specs.declared.expr.ShiftOp.{ShiftOp}
 use Rattle.st_tree.specs.declared.expr.StType.{StType}
-use Rattle.st_tree.specs.declared.expr.StType.TheVariants as type
 use Rattle.st_tree.specs.declared.expr.UnaryOp.{UnaryOp}
 use Rattle.st_tree.specs.declared.expr.UnaryOp.TheVariants as unary
 use Rattle.st_tree.specs.declared.raw.RawExpr.TheVariants as raw
 use Rattle.st_tree.specs.declared.raw.RawVar.{RawVar}
-
--- the conversions that there are
-between : (from to : StType) → not (is_none (conversion_between from to)) ≡ is_conversion from to
-between from type.Bool = refl
-between type.Byte type.Byte = refl
-between type.Word type.Word = refl
-between type.Dword type.Dword = refl
-between type.Int type.Int = refl
-between type.Dint type.Dint = refl
-between type.Lint type.Lint = refl
-between from to = refl
 
 -- what an expression that was read is in the tree
 pub record Found (scope : Scope) (sight : Sight) (l : Line) (f : Form) : Type 0 where

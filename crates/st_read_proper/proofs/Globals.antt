@@ -13,7 +13,7 @@ use Rattle.st_grammar.specs.Forms.{GlobalType, plain, bytes, Globals, no_global,
 use Rattle.st_grammar.specs.Grammar.{GlobalsFit, is_global, tree_globals, tree_type}
 use Rattle.st_canonical.specs.Spelled.{is_name as spelled_name, is_variable}
 use Rattle.st_types_laws.proofs.Lists.{Each, each_append}
-use Rattle.st_read_proper.proofs.Names.{free_is, name_is}
+use Rattle.st_canonical.proofs.SameNames.{name_is}
 use Rattle.st_read_proper.proofs.Places.{place_is}
 use Rattle.st_read_proper.specs.Worded.{GlobalsWorded}
 use Rattle.st_tree.specs.Naming.{is_free, is_name}
@@ -104,7 +104,7 @@ global_at name ty (raw.Direct a (Some k) w byte bit) n f p = tt
 
 global_of : (name : List ℕ) (ty : GlobalType) (v : RawVar) → spelled_name name ≡ true → is_global name ty ≡ true
     → is_variable v ≡ true → Each IsGlobal (listed (located_of (tree_type ty) name v))
-global_of name (plain ty) v n f p = global_at name ty v (name_is name n) (free_is name f) p
+global_of name (plain ty) v n f p = global_at name ty v (name_is name n) (f) p
 global_of name (bytes last items) v n f p = tt
 
 -- the globals of a tree that are no data blocks
