@@ -57,13 +57,8 @@ module _ (P : Locals → Type 0) (Q : Local → Type 0) (named : (l : Local) →
       }
 
 formal_type : (ty : StType) → ty ≢ type.Lint → is_formal_type ty ≡ true
-formal_type type.Bool h = refl
-formal_type type.Byte h = refl
-formal_type type.Word h = refl
-formal_type type.Dword h = refl
-formal_type type.Int h = refl
-formal_type type.Dint h = refl
 formal_type type.Lint h = absurd (h refl)
+formal_type ty h = refl
 
 locals_within : (ls : Locals) (before : List ℕ) → AreWithin before → AreWithin (levels_locals ls before)
 locals_within no_local before h = h

@@ -96,13 +96,8 @@ are_numbered least (b ∷ bs) some a d s = (
 -- Globals
 
 wide : (ty : StType) → ty ≢ type.Lint → has_width ty (width_at ty) ≡ true
-wide type.Bool h = refl
-wide type.Byte h = refl
-wide type.Word h = refl
-wide type.Dword h = refl
-wide type.Int h = refl
-wide type.Dint h = refl
 wide type.Lint h = absurd (h refl)
+wide ty h = refl
 
 abbrev global_at : List ℕ → StType → Area → ℕ → ℕ → Located
 global_at name ty a byte bit = record { name = name; place = record { area = a; byte = byte; bit = bit }; ty = ty }
@@ -134,8 +129,7 @@ on_area name ty byte bit place.M h t =
           (both_true (rules.is_place area.M (width_at ty) byte bit) (has_width ty (width_at ty)) p.rules (wide ty t));
     }
 on_area name ty byte bit (place.Db n) h t = absurd cc
-on_area name ty byte bit (place.Local n) h t = absurd cc
-on_area name ty byte bit (place.Cell n) h t = absurd cc
+on_area name ty byte bit other h t = absurd cc
 
 are_placed : (gs : List Located) → Each IsGlobal gs → ArePlaced gs
 are_placed [] h = tt
@@ -171,8 +165,7 @@ is_plain name ty byte bit place.M g h =
       known = refl;
     }
 is_plain name ty byte bit (place.Db n) g h = absurd cc
-is_plain name ty byte bit (place.Local n) g h = absurd cc
-is_plain name ty byte bit (place.Cell n) g h = absurd cc
+is_plain name ty byte bit other g h = absurd cc
 
 are_plain : (gs : List Located) → Each IsGlobal gs → Each IsPlain gs
 are_plain [] h = tt
