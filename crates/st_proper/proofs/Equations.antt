@@ -65,19 +65,7 @@ wrapped j f = if nat_lt j (level f) then group f else f
 
 same_level : (op : BinaryOp) → tree.infix_level op ≡ infix_level op
 same_level binary.Mul = refl
-same_level binary.Div = refl
-same_level binary.Mod = refl
-same_level binary.Add = refl
-same_level binary.Sub = refl
-same_level binary.Lt = refl
-same_level binary.Gt = refl
-same_level binary.Le = refl
-same_level binary.Ge = refl
-same_level binary.Eq = refl
-same_level binary.Ne = refl
-same_level binary.And = refl
-same_level binary.Xor = refl
-same_level binary.Or = refl
+same_level other = refl
 
 -- an operator before its operand, in the form that the operand has
 abbrev pub before_operand : UnaryOp → Form → Form
@@ -96,9 +84,7 @@ module _ (names : Names) (k : ℕ) where
   core (E.Unary unary.BcdToDint f) = refl
   core (E.Binary op f g) = sym (same_level op)
   core (E.Convert from to f) = refl
-  core (E.Select f g h) = refl
-  core (E.Shift op f g) = refl
-  core (E.AreaRead w f) = refl
+  core other = refl
 
   abbrev HasLevel : Expr → Type 0
   HasLevel e = level (expr_form names k e) ≡ tree.level (canon e)

@@ -10,7 +10,7 @@ use Rattle.std.proofs.lemmas.Str.Ascii.{lowercase-uppercase}
 use Rattle.s7_base.specs.Tokens.{is_among, is_same_word}
 use Rattle.s7_base.specs.declared.register.Reg.{Reg}
 use Rattle.st_lexer.proofs.Words.{and_both, not_true}
-use Rattle.st_proper.proofs.Words.{of_same, same_of}
+use Rattle.st_canonical.proofs.SameNames.{of_same, same_of}
 use Rattle.st_rules.specs.Globals.{number_from, number_in}
 use Rattle.st_rules.specs.Names as rules
 use Rattle.st_tree.specs.Naming.{is_digit}

@@ -15,8 +15,7 @@ use Rattle.st_types_laws.proofs.Lists.{both_true}
 bit_agrees : (w : Width) (bit : ℕ) → written.is_bit_of w bit ≡ true → nat_le bit 7 ≡ true → places.is_bit_of w bit ≡ true
 bit_agrees width.Bit bit h g = g
 bit_agrees width.Byte bit h g = h
-bit_agrees width.Word bit h g = h
-bit_agrees width.Dword bit h g = h
+bit_agrees other bit h g = h
 
 -- a place that tokens can have, and that is an address, is one that a text may name
 pub place_is : (a : AreaName) (w : Width) (byte bit : ℕ) → written.is_bit_of w bit ≡ true

@@ -42,7 +42,7 @@ use Rattle.st_rules.specs.declared.scope.Meaning.TheVariants as meaning
 use Rattle.st_types_laws.proofs.Apart.{Lists, declared_between, declared_last}
 use Rattle.std.proofs.lemmas.Bool.{and_parts}
 use Rattle.st_types_laws.proofs.BlockSizes.{IsBlock, is_block}
-use Rattle.st_types_laws.proofs.Lists.{nil_first, nil_second}
+use Rattle.st_types_laws.proofs.Lists.{both_true, nil_first, nil_second}
 use Rattle.st_types_laws.proofs.DataBlocks.{before_globals, before_units, one_more}
 use Rattle.st_types_laws.proofs.PlainNumbers.{key_by_number}
 use Rattle.st_types_laws.proofs.Redeclared.{AreLocalsAt, AreUnitsAt, location_of, name_of_area}
@@ -144,41 +144,17 @@ holds : (t : Bool) (line : Line) (rule : Reason) → unless t (broken line rule)
 holds true line rule h = refl
 holds false line rule h = absurd cc
 
-two_hold : (a b : Bool) → a ≡ true → b ≡ true → (a && b) ≡ true
-two_hold true b h g = g
-two_hold false b h g = absurd cc
-
 -- Globals that are no data blocks
 
-same_width : (ty : StType) (w : Width) → has_width ty w ≡ true → width_at ty ≡ w
+pub same_width : (ty : StType) (w : Width) → has_width ty w ≡ true → width_at ty ≡ w
 same_width st.Bool width.Bit h = refl
-same_width st.Bool width.Byte h = absurd cc
-same_width st.Bool width.Word h = absurd cc
-same_width st.Bool width.Dword h = absurd cc
-same_width st.Byte width.Bit h = absurd cc
 same_width st.Byte width.Byte h = refl
-same_width st.Byte width.Word h = absurd cc
-same_width st.Byte width.Dword h = absurd cc
-same_width st.Word width.Bit h = absurd cc
-same_width st.Word width.Byte h = absurd cc
 same_width st.Word width.Word h = refl
-same_width st.Word width.Dword h = absurd cc
-same_width st.Dword width.Bit h = absurd cc
-same_width st.Dword width.Byte h = absurd cc
-same_width st.Dword width.Word h = absurd cc
 same_width st.Dword width.Dword h = refl
-same_width st.Int width.Bit h = absurd cc
-same_width st.Int width.Byte h = absurd cc
 same_width st.Int width.Word h = refl
-same_width st.Int width.Dword h = absurd cc
-same_width st.Dint width.Bit h = absurd cc
-same_width st.Dint width.Byte h = absurd cc
-same_width st.Dint width.Word h = absurd cc
 same_width st.Dint width.Dword h = refl
 same_width st.Lint width.Bit h = absurd cc
-same_width st.Lint width.Byte h = absurd cc
-same_width st.Lint width.Word h = absurd cc
-same_width st.Lint width.Dword h = absurd cc
+same_width ty w h = absurd cc
 
 -- a global of a name and a type that has a place in the tree
 record HasPlace (name : List ℕ) (ty : StType) (at : RawVar) : Type 0 where
@@ -210,7 +186,7 @@ on_area name ty a r w byte bit there back address fits =
 
     found : located_at name ty (var.Direct a None w byte bit) ≡ Some made
     found =
-        ap (λ t. cond t (located_in name ty (area_of a) byte bit) None) (two_hold (is_address a None w byte bit) (has_width ty w) address wide)
+        ap (λ t. cond t (located_in name ty (area_of a) byte bit) None) (both_true (is_address a None w byte bit) (has_width ty w) address wide)
         ∙ ap (λ o. located_in name ty o byte bit) there
 
 has_place : (name : List ℕ) (ty : StType) (at : RawVar) → has_address at ≡ true → fits_type ty at ≡ true → HasPlace name ty at
@@ -220,8 +196,7 @@ has_place name ty (var.Direct area.I None w byte bit) h g = on_area name ty area
 has_place name ty (var.Direct area.Q None w byte bit) h g = on_area name ty area.Q place.Q w byte bit refl refl h g
 has_place name ty (var.Direct area.M None w byte bit) h g = on_area name ty area.M place.M w byte bit refl refl h g
 has_place name ty (var.Direct area.L None w byte bit) h g = absurd cc
-has_place name ty (var.Direct area.Db None w byte bit) h g = absurd cc
-has_place name ty (var.Direct area.Di None w byte bit) h g = absurd cc
+has_place name ty other h g = absurd cc
 
 -- Data blocks
 
@@ -233,7 +208,7 @@ has_block line n at last list h =
     let second = holds (is_small_enough last) line _ (nil_first _ _ rest) in
     let third = holds (has_block_form n at last list) line _ (nil_second (unless (is_small_enough last) (broken line _)) _ rest) in
     ap (λ t. cond t (Some (record { number = n; bytes = contents last list })) None)
-    (two_hold (has_block_address n at && is_small_enough last) (has_block_form n at last list) (two_hold (has_block_address n at) (is_small_enough last) first second) third)
+    (both_true (has_block_address n at && is_small_enough last) (has_block_form n at last list) (both_true (has_block_address n at) (is_small_enough last) first second) third)
 
 -- there is room for a new data block
 has_room : (line : Line) (first : Option Meaning) (blocks : ℕ) → (twice line first ++ one_too_many line (not (is_some first) && true) blocks) ≡ [] → nat_lt blocks MOST_BLOCKS ≡ true

@@ -17,12 +17,7 @@ same_type a b h = tree_types.same_type a b h
 
 pub is_own_type : (a : StType) → is_type a a ≡ true
 is_own_type type.Bool = refl
-is_own_type type.Byte = refl
-is_own_type type.Word = refl
-is_own_type type.Dword = refl
-is_own_type type.Int = refl
-is_own_type type.Dint = refl
-is_own_type type.Lint = refl
+is_own_type other = refl
 
 -- Lists of labels
 

@@ -3,6 +3,7 @@ pub mod Apart
 pub mod BlockKeys
 pub mod BlockSizes
 pub mod Bounds
+pub mod Called
 pub mod DataBlocks
 pub mod Declared
 pub mod DeclaredNames
