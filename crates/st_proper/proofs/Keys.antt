@@ -12,14 +12,10 @@ use Rattle.s7_base.specs.declared.register.Reg.{Reg}
 use Rattle.st_lexer.proofs.Words.{and_both, not_true}
 use Rattle.st_canonical.proofs.SameNames.{of_same, same_of}
 use Rattle.st_rules.specs.Globals.{number_from, number_in}
-use Rattle.st_rules.specs.Names as rules
-use Rattle.st_tree.specs.Naming.{is_digit}
-use Rattle.st_tree.specs.Naming.{is_same, names_block, without_zeros}
+use Rattle.st_tree.specs.Naming.{are_digits, is_digit, is_free, is_next, is_numbered, is_register, is_same, is_unit_number, key_of, may_name_local, may_name_unit, names_block, register_names, without_zeros}
 use Rattle.st_rules.specs.Scopes.{register_named}
 use Rattle.st_tree.specs.Words.{register_word}
 use Rattle.st_rules.specs.declared.scope.TheConstants.{REGISTERS}
-use Rattle.st_tree.specs.Naming as tree
-use Rattle.st_tree.specs.Naming.{is_free, is_next, is_numbered, is_register, is_unit_number, may_name_local, may_name_unit, names_block, register_names}
 use Rattle.st_types_laws.proofs.Apart.{same_keys}
 use Rattle.st_types_laws.proofs.Lists.{both_true}
 use Rattle.st_types_laws.proofs.PlainNumbers.{plain_number}
