@@ -3,5 +3,7 @@ pub mod BitRows
 pub mod Bounds
 pub mod Does
 pub mod Names
+pub mod PlainGraph
+pub mod ProperNames
 pub mod Same
 pub mod Simulation

@@ -28,31 +28,32 @@ IsNumbered (name.Ob n) = n < 2 ^ 16
 IsNumbered (name.Fc n) = n < 2 ^ 16
 IsNumbered (name.Fb n) = n < 2 ^ 16
 
--- a digit has one case
-digit_stays : (n : ℕ) → n < 10 → to_ascii_lowercase (48 + n) ≡ 48 + n
-digit_stays n h = grind (arith, nat_tests)
+-- a change of letters alone keeps numbers
+module _ (change : ℕ → ℕ) (digit_stays : (n : ℕ) → n < 10 → change (48 + n) ≡ 48 + n) where
+  decimal_stays : (n : ℕ) → n < 2 ^ 64 → map change (decimal n) ≡ decimal n
+  decimal_stays =
+      decimal_by_steps (λ n ds. map change ds ≡ ds)
+      (λ n h. ap (λ d. d ∷ []) (digit_stays n h))
+      (λ n ds h e. let last : n % 10 < 10 = omega arith in
+      map-append change ds ((48 + n % 10) ∷ []) ∙ (rw (e, digit_stays (n % 10) last) refl))
 
-decimal_stays : (n : ℕ) → n < 2 ^ 64 → map to_ascii_lowercase (decimal n) ≡ decimal n
-decimal_stays =
-    decimal_by_steps (λ n ds. map to_ascii_lowercase ds ≡ ds)
-    (λ n h. ap (λ d. d ∷ []) (digit_stays n h))
-    (λ n ds h e. let last : n % 10 < 10 = omega arith in
-    map-append to_ascii_lowercase ds ((48 + n % 10) ∷ []) ∙ (rw (e, digit_stays (n % 10) last) refl))
+  -- two numbers are spelled alike exactly where they are the same
+  pub same_number : (m n : ℕ) → m < 2 ^ 64 → n < 2 ^ 64 → bytes_eq (map change (decimal m)) (map change (decimal n)) ≡ m == n
+  same_number m n h k =
+      ap (λ ds. bytes_eq ds (map change (decimal n))) (decimal_stays m h)
+      ∙ ap (λ ds. bytes_eq (decimal m) ds) (decimal_stays n k)
+      ∙ same_from_decides {P = m ≡ n} (bytes_eq (decimal m) (decimal n)) (m == n)
+      (Decides-like (bytes_eq (decimal m) (decimal n)) (decimal_injective m n h k) (λ (e : m ≡ n). ap decimal e) (bytes_eq-Decides (decimal m) (decimal n)))
+      (Decides-eqb m n)
 
--- two numbers are spelled alike exactly where they are the same
-same_number : (m n : ℕ) → m < 2 ^ 64 → n < 2 ^ 64 → bytes_eq (map to_ascii_lowercase (decimal m)) (map to_ascii_lowercase (decimal n)) ≡ m == n
-same_number m n h k =
-    ap (λ ds. bytes_eq ds (map to_ascii_lowercase (decimal n))) (decimal_stays m h)
-    ∙ ap (λ ds. bytes_eq (decimal m) ds) (decimal_stays n k)
-    ∙ same_from_decides {P = m ≡ n} (bytes_eq (decimal m) (decimal n)) (m == n)
-    (Decides-like (bytes_eq (decimal m) (decimal n)) (decimal_injective m n h k) (λ (e : m ≡ n). ap decimal e) (bytes_eq-Decides (decimal m) (decimal n)))
-    (Decides-eqb m n)
+lower_digit : (n : ℕ) → n < 10 → to_ascii_lowercase (48 + n) ≡ 48 + n
+lower_digit n h = grind (arith, nat_tests)
 
 -- a unit has the name of a call exactly where its block has it
 same_name : (b called : BlockName) → IsNumbered b → IsNumbered called → str_eq_ignore_ascii_case (called_name b) (called_name called) ≡ is_same_name b called
-same_name (name.Ob m) (name.Ob n) h k = same_number m n (omega arith) (omega arith)
-same_name (name.Fc m) (name.Fc n) h k = same_number m n (omega arith) (omega arith)
-same_name (name.Fb m) (name.Fb n) h k = same_number m n (omega arith) (omega arith)
+same_name (name.Ob m) (name.Ob n) h k = same_number to_ascii_lowercase lower_digit m n (omega arith) (omega arith)
+same_name (name.Fc m) (name.Fc n) h k = same_number to_ascii_lowercase lower_digit m n (omega arith) (omega arith)
+same_name (name.Fb m) (name.Fb n) h k = same_number to_ascii_lowercase lower_digit m n (omega arith) (omega arith)
 same_name (name.Ob m) (name.Fc n) h k = refl
 same_name (name.Ob m) (name.Fb n) h k = refl
 same_name (name.Fc m) (name.Ob n) h k = refl
@@ -61,7 +62,7 @@ same_name (name.Fb m) (name.Ob n) h k = refl
 same_name (name.Fb m) (name.Fc n) h k = refl
 
 -- that of an accepted block has
-numbered : (name : BlockName) → IsBlockNumber name → IsNumbered name
+pub numbered : (name : BlockName) → IsBlockNumber name → IsNumbered name
 numbered (name.Ob n) h = omega (arith, h.1)
 numbered (name.Fc n) h = omega arith
 numbered (name.Fb n) h = omega arith

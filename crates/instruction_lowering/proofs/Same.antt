@@ -1,5 +1,5 @@
 -- A program and its graph program mean the same.
-use Rattle.std.proofs.Common.{◌≡◌, ℕ, zero, suc, ◌+◌, ◌*◌, ◌≤◌, false, List, [], ◌∷◌, ◌++◌, map, length, Option, Some, None, refl, sym, ap, ◌∙◌, subst, arith}
+use Rattle.std.proofs.Common.{◌≡◌, ℕ, zero, suc, ◌+◌, ◌*◌, ◌≤◌, Bool, true, false, if◌then◌else◌, List, [], ◌∷◌, ◌++◌, map, length, Option, Some, None, refl, sym, ap, ◌∙◌, subst, arith}
 use Rattle.std.specs.Prelude.{All, IsSome, find, flat_map, option_map, slice_get}
 use Rattle.std.proofs.lemmas.Simd.{map-map}
 use Rattle.memory_areas.specs.Areas.{Areas, Contents, with_areas}
@@ -32,7 +32,7 @@ use Rattle.st_tree.specs.declared.program.StProgram.{StProgram}
 use Rattle.st_tree.specs.declared.program.Stmt.{Stmt}
 use Rattle.st_tree.specs.declared.program.Stmt.TheVariants as stmt
 use Rattle.instruction_lowering.specs.Lowered.{AreAssignments, AreUnitsOf, HasNoInstance, IsUnitOf, Lowered, SameRuns, head_of_block}
-use Rattle.instruction_lowering.specs.inner.Lowering.{lowered, node_of, steps_of, unit_of}
+use Rattle.instruction_lowering.specs.inner.Lowering.{ends_block, lowered, node_of, steps_of, unit_of}
 use Rattle.instruction_lowering.specs.inner.Templates.{statements_of}
 use Rattle.instruction_lowering.proofs.Alike.{AreAlike, HandedOn, IsKept, Related}
 use Rattle.instruction_lowering.proofs.Bounds.{Begun, Side, back, begun_back, begun_forth, forth}
@@ -53,7 +53,12 @@ of_instruction op.BlockEnd = tt
 
 of_body : (is : List Instr) → AreAssignments (steps_of is)
 of_body [] = tt
-of_body (i ∷ is) = two_parts (statements_of i.op) (steps_of is) (of_instruction i.op) (of_body is)
+of_body (i ∷ is) =
+    two_parts (statements_of i.op) (if ends_block i.op then [] else steps_of is) (of_instruction i.op) (up_to (ends_block i.op) (of_body is))
+  where
+    up_to : (b : Bool) → AreAssignments (steps_of is) → AreAssignments (if b then [] else steps_of is)
+    up_to true h = tt
+    up_to false h = h
 
 units_of : (blocks : List Block) → AreUnitsOf blocks (map unit_of blocks)
 units_of [] = tt

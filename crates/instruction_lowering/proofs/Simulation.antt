@@ -1,5 +1,5 @@
 -- A program and its graph run alike: one induction over the steps for both directions, on one lemma an instruction.
-use Rattle.std.proofs.Common.{◌≡◌, ℕ, zero, suc, ◌+◌, ◌<◌, ◌≤◌, List, [], ◌∷◌, ◌++◌, length, map, Option, Some, None, refl, sym, ap, ◌∙◌, subst, ◌⊎◌, inl, inr, ⊎_elim, arith}
+use Rattle.std.proofs.Common.{◌≡◌, ℕ, zero, suc, ◌+◌, ◌<◌, ◌≤◌, false, if◌then◌else◌, List, [], ◌∷◌, ◌++◌, length, map, Option, Some, None, refl, sym, ap, ◌∙◌, subst, ◌⊎◌, inl, inr, ⊎_elim, arith}
 use Rattle.std.specs.Prelude.{option_and_then, slice_get}
 use Rattle.std.proofs.Math.Nat.{eq-or-lt_of_le}
 use Rattle.memory_areas.specs.Areas.{Areas, Contents}
@@ -8,7 +8,7 @@ use Rattle.s7_base.specs.StatusBits.{after_end}
 use Rattle.s7_base.specs.declared.outcome.Fault.{Fault}
 use Rattle.s7_base.specs.declared.register.Reg.{Reg}
 use Rattle.s7_base.specs.declared.register.Reg.TheVariants as reg
-use Rattle.stl_tree.specs.Accepted.{EndsBehind, EndsOnce}
+use Rattle.stl_tree.specs.Accepted.{IsEnded}
 use Rattle.stl_tree.specs.Instructions.{effect_of}
 use Rattle.stl_tree.specs.Now.{Activation, Effect, Now, enter, fault, go, leave, next, with_status}
 use Rattle.stl_tree.specs.StlRun.{Standing, after_effect, end_of, going_on, instruction, over, returned, running, step_by, steps_on}
@@ -26,7 +26,7 @@ use Rattle.st_tree.specs.declared.graph.StExit.TheVariants as exit
 use Rattle.st_tree.specs.declared.graph.StNode.{StNode}
 use Rattle.st_tree.specs.declared.program.Located.{Located}
 use Rattle.st_tree.specs.declared.program.Stmt.{Stmt}
-use Rattle.instruction_lowering.specs.inner.Lowering.{node_of, steps_of}
+use Rattle.instruction_lowering.specs.inner.Lowering.{ends_block, node_of, steps_of}
 use Rattle.instruction_lowering.specs.inner.Templates.{statements_of}
 use Rattle.instruction_lowering.proofs.Alike.{AreAlike, HandedOn, IsHandedOn, IsKept, Related, keep_bits, keep_position}
 use Rattle.instruction_lowering.proofs.BitRows.{does}
@@ -91,14 +91,22 @@ has_first body at i is has = let e : at ≡ at + 0 = omega arith in ap (slice_ge
 has_rest : (body : List Instr) (at : ℕ) (i : Instr) (is : List Instr) → HasFrom body at (i ∷ is) → HasFrom body (at + 1) is
 has_rest body at i is has j = let e : at + 1 + j ≡ at + suc j = omega arith in ap (slice_get body) e ∙ has (suc j)
 
--- an instruction of a body stands inside it, or is its end word, behind which nothing stands
-stands : (i : Instr) (is : List Instr) → EndsBehind i.op is (EndsOnce is) → (IsInside i.op × EndsOnce is) ⊎ ((i.op ≡ op.BlockEnd) × (is ≡ []))
-stands i is h = by i.op is (EndsOnce is) h
+-- an instruction of a body stands inside it and others follow, or it ends the block, and nothing behind it is reached
+stands : (i : Instr) (is : List Instr) → IsEnded (i ∷ is)
+    → (IsInside i.op × IsEnded is × (steps_of (i ∷ is) ≡ statements_of i.op ++ steps_of is)) ⊎ ((i.op ≡ op.BlockEnd) × (steps_of (i ∷ is) ≡ []))
+stands i is h = by i.op refl
   where
-    by : (o : Op) (rest : List Instr) (more : Type 0) → EndsBehind o rest more → (IsInside o × more) ⊎ ((o ≡ op.BlockEnd) × (rest ≡ []))
-    by (op.Check c b) rest more h = inl (tt, h)
-    by (op.Assign x) rest more h = inl (tt, h)
-    by op.BlockEnd rest more h = inr (refl, h)
+    behind : (is : List Instr) → IsEnded (i ∷ is) → (i.op ≡ op.BlockEnd → ⊥) → IsEnded is
+    behind [] ended inside = absurd (inside ended)
+    behind (j ∷ rest) ended inside = ended
+
+    joined : (o : Op) → i.op ≡ o → ends_block o ≡ false → steps_of (i ∷ is) ≡ statements_of i.op ++ steps_of is
+    joined o e not = ap (λ b. statements_of i.op ++ (if b then [] else steps_of is)) (ap ends_block e ∙ not)
+
+    by : (o : Op) → i.op ≡ o → (IsInside i.op × IsEnded is × (steps_of (i ∷ is) ≡ statements_of i.op ++ steps_of is)) ⊎ ((i.op ≡ op.BlockEnd) × (steps_of (i ∷ is) ≡ []))
+    by (op.Check c b) e = inl (subst IsInside (sym e) tt, behind is h (λ end. cc), joined (op.Check c b) e refl)
+    by (op.Assign x) e = inl (subst IsInside (sym e) tt, behind is h (λ end. cc), joined (op.Assign x) e refl)
+    by op.BlockEnd e = inr (e, ap (λ (o : Op). statements_of o ++ (if ends_block o then [] else steps_of is)) e)
 
 -- The end word
 
@@ -129,15 +137,18 @@ module _ (p : Program) (g : GraphProgram) (counts : Counting) (side : Side) (siz
   abbrev calls_within : ℕ → Calls
   calls_within most = graph_calls (λ begun. nodes_do counts g most begun 0) g
 
+  -- the exit of a node that ends its unit
+  abbrev leaves : ℕ → List StNode → Sem
+  leaves most nodes = exit_meaning g.globals counts (nodes_do counts g most nodes) 0 exit.End
+
   -- what is left of a node, and then its exit
   abbrev rest_of : ℕ → List StNode → List Instr → Sem
-  rest_of most nodes is units s =
-      then_do (body_meaning g.globals (calls_within most) (steps_of is) units s) (exit_meaning g.globals counts (nodes_do counts g most nodes) 0 exit.End)
+  rest_of most nodes is units s = then_do (body_meaning g.globals (calls_within most) (steps_of is) units s) (leaves most nodes)
 
   -- a node begins with its block
   abbrev pub AtNode : ℕ → Type 0
   AtNode n =
-      (a : Activation) (waiting : List Activation) (b : Block) → slice_get p.blocks a.block ≡ Some b → a.at ≡ 0 → EndsOnce b.body → a.at + length b.body ≤ size
+      (a : Activation) (waiting : List Activation) (b : Block) → slice_get p.blocks a.block ≡ Some b → a.at ≡ 0 → IsEnded b.body → a.at + length b.body ≤ size
       → (now : Now) (s : State) → Related (a ∷ waiting) now s → (units most debt : ℕ) → Begun side size n units most a.at debt
       → (k : ℕ → State → End) → Follows n a waiting k debt
       → Sees side (ran n (running p now)) (through (nodes_do counts g most (node_of b.body ∷ []) 0 units s) k)
@@ -145,14 +156,14 @@ module _ (p : Program) (g : GraphProgram) (counts : Counting) (side : Side) (siz
   -- it goes on at an instruction
   abbrev Inside : ℕ → Type 0
   Inside n =
-      (a : Activation) (waiting : List Activation) (b : Block) → slice_get p.blocks a.block ≡ Some b → (nodes : List StNode) (is : List Instr) → HasFrom b.body a.at is → EndsOnce is → a.at + length is ≤ size
+      (a : Activation) (waiting : List Activation) (b : Block) → slice_get p.blocks a.block ≡ Some b → (nodes : List StNode) (is : List Instr) → HasFrom b.body a.at is → IsEnded is → a.at + length is ≤ size
       → (now : Now) (s : State) → Related (a ∷ waiting) now s → (units most debt : ℕ) → Within side size n units most a.at debt
       → (k : ℕ → State → End) → Follows n a waiting k debt
       → Sees side (ran n (running p now)) (through (rest_of most nodes is units s) k)
 
   -- One instruction
 
-  module _ (n : ℕ) (a : Activation) (waiting : List Activation) (b : Block) (there : slice_get p.blocks a.block ≡ Some b) (nodes : List StNode) (i : Instr) (is : List Instr) (has : HasFrom b.body a.at (i ∷ is)) (ending : EndsBehind i.op is (EndsOnce is)) (fits : a.at + suc (length is) ≤ size)
+  module _ (n : ℕ) (a : Activation) (waiting : List Activation) (b : Block) (there : slice_get p.blocks a.block ≡ Some b) (nodes : List StNode) (i : Instr) (is : List Instr) (has : HasFrom b.body a.at (i ∷ is)) (ending : IsEnded (i ∷ is)) (fits : a.at + suc (length is) ≤ size)
       (now : Now) (s : State) (related : Related (a ∷ waiting) now s) (units most debt : ℕ) (within : Within side size n units most (a.at + 1) debt)
       (k : ℕ → State → End) (follows : Follows n a waiting k debt) (inside : Inside n) where
     abbrev here : Sem
@@ -168,12 +179,13 @@ module _ (p : Program) (g : GraphProgram) (counts : Counting) (side : Side) (siz
         (sym (ap (instruction p) related.activations ∙ ap (option_and_then (λ (b : Block). slice_get b.body a.at)) there ∙ has_first b.body a.at i is has)) h
 
     -- its statements are the first of those that are left
-    splits : rest_of most nodes (i ∷ is) units s ≡ then_do (here units s) behind
-    splits =
-        ap (λ (o : Out). then_do o (exit_meaning g.globals counts (nodes_do counts g most nodes) 0 exit.End)) (in_parts g.globals (calls_within most) (statements_of i.op) (steps_of is) units s)
-        ∙ then_in_parts (here units s) (body_meaning g.globals (calls_within most) (steps_of is)) (exit_meaning g.globals counts (nodes_do counts g most nodes) 0 exit.End)
+    splits : steps_of (i ∷ is) ≡ statements_of i.op ++ steps_of is → rest_of most nodes (i ∷ is) units s ≡ then_do (here units s) behind
+    splits e =
+        ap (λ (xs : List Stmt). then_do (body_meaning g.globals (calls_within most) xs units s) (leaves most nodes)) e
+        ∙ ap (λ (o : Out). then_do o (leaves most nodes)) (in_parts g.globals (calls_within most) (statements_of i.op) (steps_of is) units s)
+        ∙ then_in_parts (here units s) (body_meaning g.globals (calls_within most) (steps_of is)) (leaves most nodes)
 
-    meets : (e : Effect) (o : Out) → EndsOnce is → Does o units (a ∷ waiting) now.memory e → Sees side (ran n (after_effect p now e)) (through (then_do o behind) k)
+    meets : (e : Effect) (o : Out) → IsEnded is → Does o units (a ∷ waiting) now.memory e → Sees side (ran n (after_effect p now e)) (through (then_do o behind) k)
     meets (next after) o ends done =
         subst (λ (x : Out). Sees side (ran n (after_effect p now (next after))) (through (then_do x behind) k)) (sym done.1)
         (inside (record a { at = a.at + 1 }) waiting b there nodes is (has_rest b.body a.at i is has) ends (omega arith)
@@ -185,25 +197,19 @@ module _ (p : Program) (g : GraphProgram) (counts : Counting) (side : Side) (siz
     meets (enter call after) o ends done = elim done [ ]
     meets (leave after) o ends done = elim done [ ]
 
-    by_inside : IsInside i.op × EndsOnce is → Sees side (ran (suc n) (running p now)) (through (rest_of most nodes (i ∷ is) units s) k)
+    by_inside : IsInside i.op × IsEnded is × (steps_of (i ∷ is) ≡ statements_of i.op ++ steps_of is) → Sees side (ran (suc n) (running p now)) (through (rest_of most nodes (i ∷ is) units s) k)
     by_inside h =
         arrives (λ stand. Sees side (ran n stand) (through (rest_of most nodes (i ∷ is) units s) k))
-        (subst (λ (x : Out). Sees side (ran n (after_effect p now (effect_of i.op now))) (through x k)) (sym splits)
+        (subst (λ (x : Out). Sees side (ran n (after_effect p now (effect_of i.op now))) (through x k)) (sym (splits h.2))
         (meets (effect_of i.op now) (here units s) h.1 (does g.globals (calls_within most) units (a ∷ waiting) now s related i.op h.0)))
 
-    -- the end word has no statements
-    nothing_left : (o : Op) (rest : List Instr) → o ≡ op.BlockEnd → rest ≡ [] → then_do (body_meaning g.globals (calls_within most) (statements_of o) units s) (rest_of most nodes rest) ≡ Normal units s
-    nothing_left o rest e none =
-        ap (λ (x : Op). then_do (body_meaning g.globals (calls_within most) (statements_of x) units s) (rest_of most nodes rest)) e
-        ∙ ap (λ (xs : List Instr). rest_of most nodes xs units s) none
-
-    by_end : (i.op ≡ op.BlockEnd) × (is ≡ []) → Sees side (ran (suc n) (running p now)) (through (rest_of most nodes (i ∷ is) units s) k)
+    by_end : (i.op ≡ op.BlockEnd) × (steps_of (i ∷ is) ≡ []) → Sees side (ran (suc n) (running p now)) (through (rest_of most nodes (i ∷ is) units s) k)
     by_end h =
         let same : n ≤ n = omega arith in
         let small : a.at + 1 ≤ size = omega arith in
         arrives (λ stand. Sees side (ran n stand) (through (rest_of most nodes (i ∷ is) units s) k))
         (subst (λ (x : Op). Sees side (ran n (after_effect p now (effect_of x now))) (through (rest_of most nodes (i ∷ is) units s) k)) (sym h.0)
-        (subst (λ (x : Out). Sees side (ran n (returned p now.activations (with_status after_end now))) (through x k)) (sym (splits ∙ nothing_left i.op is h.0 h.1))
+        (subst (λ (xs : List Stmt). Sees side (ran n (returned p now.activations (with_status after_end now))) (through (then_do (body_meaning g.globals (calls_within most) xs units s) (leaves most nodes)) k)) (sym h.1)
         (subst (λ (acts : List Activation). Sees side (ran n (returned p acts (with_status after_end now))) (k units s)) (sym related.activations)
         (follows n same units (last_step side size n units most a.at debt small within) a.at (with_status after_end now) s (ends (a ∷ waiting) now s related)))))
 
@@ -215,7 +221,7 @@ module _ (p : Program) (g : GraphProgram) (counts : Counting) (side : Side) (siz
   fewer : (n m : ℕ) (a : Activation) (waiting : List Activation) (k : ℕ → State → End) (debt : ℕ) → n ≤ m → Follows m a waiting k debt → Follows n a waiting k debt
   fewer n m a waiting k debt h follows j small = follows j (omega arith)
 
-  not_empty : (is : List Instr) → EndsOnce is → 1 ≤ length is
+  not_empty : (is : List Instr) → IsEnded is → 1 ≤ length is
   not_empty [] ends = elim ends [ ]
   not_empty (i ∷ is) ends = omega arith
 
@@ -230,7 +236,7 @@ module _ (p : Program) (g : GraphProgram) (counts : Counting) (side : Side) (siz
       none_forth side _ (no_step side size units most a.at debt (omega arith) within)
 
   -- one more step, at an instruction of which nothing is known but that one is there
-  more_step : (n : ℕ) → Inside n → (a : Activation) (waiting : List Activation) (b : Block) → slice_get p.blocks a.block ≡ Some b → (nodes : List StNode) (is : List Instr) → HasFrom b.body a.at is → EndsOnce is → a.at + length is ≤ size
+  more_step : (n : ℕ) → Inside n → (a : Activation) (waiting : List Activation) (b : Block) → slice_get p.blocks a.block ≡ Some b → (nodes : List StNode) (is : List Instr) → HasFrom b.body a.at is → IsEnded is → a.at + length is ≤ size
       → (now : Now) (s : State) → Related (a ∷ waiting) now s → (units most debt : ℕ) → Within side size n units most (a.at + 1) debt
       → (k : ℕ → State → End) → Follows n a waiting k debt
       → Sees side (ran (suc n) (running p now)) (through (rest_of most nodes is units s) k)

@@ -2,21 +2,23 @@
 //!
 //! No instruction of the language so far jumps, so each unit is one node, which its end word ends.
 ghost use Rattle.std.specs.Prelude.{◌≡◌, ◌++◌, decimal, IfOk};
+ghost use Rattle.st_tree.specs.Plain.{Plain};
 ghost use Rattle.st_tree.specs.StRun.{called_name};
 ghost use Rattle.stl_tree.specs.Accepted.{IsAccepted};
 ghost use Rattle.instruction_lowering.specs.Lowered.{Lowered, head_of_block};
-ghost use Rattle.instruction_lowering.specs.inner.Lowering.{lowered, node_of, unit_of};
+ghost use Rattle.instruction_lowering.specs.inner.Lowering.{ends_block, lowered, node_of, unit_of};
 
 use crate::statements::push_statements;
 use itoa::Buffer;
 use s7_base::{List, NoMemory};
 use st_tree::{GraphPou, GraphProgram, Pou, StExit, StGraph, StNode};
 use std::alloc::Global;
-use stl_tree::{Block, BlockName, Instr, Program};
+use stl_tree::{Block, BlockName, Instr, Op, Program};
 
 /// The graph program of a program: a unit for each block, in the order of the blocks. It means the same.
 pub fn lower(alloc: Global, program: &Program) -> Result<GraphProgram, NoMemory>
     requires { IsAccepted program.now }
+    ensures plain { IfOk result Plain }
     ensures same { IfOk result (λ graph. Lowered program.now graph) }
 {
     let mut pous = List::new(alloc);
@@ -73,17 +75,31 @@ fn numbered(alloc: Global, word: &str, number: u16) -> Result<List<u8>, NoMemory
     Ok(List::from_vec(text))
 }
 
-/// The node of a body of which no instruction jumps.
+/// The node of a body of which no instruction jumps; nothing behind an end word is reached.
 fn node(alloc: Global, body: &[Instr]) -> Result<StNode, NoMemory>
     ensures { IfOk result (λ node. node ≡ node_of body.now) }
 {
     let mut steps = List::new(alloc);
-    for instr in body {
+    let mut rest = body;
+    while let Some((instr, behind)) = rest.split_first() {
         push_statements(alloc, &mut steps, &instr.op)?;
+        if ends_block(&instr.op) {
+            break;
+        }
+        rest = behind;
     }
     Ok(StNode {
         steps,
         exit: StExit::End,
         only_end: body.len() == 1,
     })
+}
+
+fn ends_block(op: &Op) -> bool
+    ensures { result ≡ ends_block op.now }
+{
+    match op {
+        Op::Check(_, _) | Op::Assign(_) => false,
+        Op::BlockEnd => true,
+    }
 }

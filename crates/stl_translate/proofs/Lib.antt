@@ -1,7 +1,2 @@
-pub mod Names
-pub mod ProperNames
-pub mod ProperTree
-pub mod SameAll
-pub mod SameLemmas
-pub mod Straight
+pub mod Text
 mod TranslateLemmas

@@ -13,8 +13,9 @@ use Rattle.stl_tree.specs.declared.program.Op.TheVariants as op
 use Rattle.stl_tree.specs.declared.program.Instr.{Instr}
 use Rattle.stl_tree.specs.declared.program.Block.{Block}
 use Rattle.st_tree.specs.Spelling.{unit_text, line, literal_text, spelling}
-use Rattle.st_tree.proofs.Equations.{canon_equations, text_assign, text_return}
-use Rattle.stl_translate.specs.inner.Translation.{translation}
+use Rattle.st_tree.proofs.Equations.{canon_equations, text_assign}
+use Rattle.instruction_lowering.specs.inner.Lowering.{lowered}
+use Rattle.stl_translate.specs.inner.Straight.{straight}
 
 abbrev instr_of : Op → Instr
 instr_of o = record { line = record { 0 = 3 }; op = o }
@@ -24,7 +25,7 @@ abbrev block_of : BlockName → List Op → Block
 block_of n ops = record { name = n; line = record { 0 = 1 }; formals = []; body = map instr_of (ops ++ op.BlockEnd ∷ []) }
 
 abbrev text_of : List Block → List ℕ
-text_of blocks = spelling (translation (record { dbs = []; instances = []; blocks = blocks; symbols = [] }))
+text_of blocks = spelling (straight (lowered (record { dbs = []; instances = []; blocks = blocks; symbols = [] })))
 
 abbrev input : ℕ → Operand
 input bit = operand.Direct area.I 0 bit

@@ -1,1 +1,1 @@
-pub mod Translation
+pub mod Straight

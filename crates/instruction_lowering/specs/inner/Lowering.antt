@@ -1,7 +1,9 @@
 -- The graph program of a program: a unit for each block, of one node.
-use Rattle.std.specs.Prelude.{◌==◌, List, [], ◌∷◌, length, map, flat_map}
+use Rattle.std.specs.Prelude.{◌==◌, Bool, true, false, if◌then◌else◌, List, [], ◌∷◌, ◌++◌, length, map}
 use Rattle.stl_tree.specs.declared.program.Block.{Block}
 use Rattle.stl_tree.specs.declared.program.Instr.{Instr}
+use Rattle.stl_tree.specs.declared.program.Op.{Op}
+use Rattle.stl_tree.specs.declared.program.Op.TheVariants as op
 use Rattle.stl_tree.specs.declared.program.Program.{Program}
 use Rattle.st_tree.specs.declared.graph.GraphPou.{GraphPou}
 use Rattle.st_tree.specs.declared.graph.GraphProgram.{GraphProgram}
@@ -11,9 +13,16 @@ use Rattle.st_tree.specs.declared.program.Stmt.{Stmt}
 use Rattle.instruction_lowering.specs.Lowered.{head_of_block}
 use Rattle.instruction_lowering.specs.inner.Templates.{statements_of}
 
--- the statements of some instructions
+-- an instruction ends its block
+abbrev pub ends_block : Op → Bool
+ends_block (op.Check c b) = false
+ends_block (op.Assign o) = false
+ends_block op.BlockEnd = true
+
+-- the statements of a body up to its first end word; nothing behind that is reached
 abbrev pub steps_of : List Instr → List Stmt
-steps_of body = flat_map (λ (i : Instr). statements_of i.op) body
+steps_of [] = []
+steps_of (i ∷ behind) = statements_of i.op ++ (if ends_block i.op then [] else steps_of behind)
 
 -- the node of a body
 abbrev pub node_of : List Instr → StNode

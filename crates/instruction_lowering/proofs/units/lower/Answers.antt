@@ -1,19 +1,31 @@
 use Rattle.std.proofs.Common.{rules, ◌≡◌, List, [], map, sym, subst, arith}
 use Rattle.std.proofs.lemmas.Grind.{common_steps}
 use Rattle.memory_areas.specs.declared.data_block.DataBlock.{DataBlock}
+use Rattle.st_tree.specs.Plain.{Plain}
 use Rattle.st_tree.specs.declared.graph.GraphPou.{GraphPou}
+use Rattle.st_tree.specs.declared.graph.GraphProgram.{GraphProgram}
 use Rattle.st_tree.specs.declared.program.Located.{Located}
 use Rattle.instruction_lowering.specs.Lowered.{Lowered}
 use Rattle.instruction_lowering.specs.inner.Lowering.{unit_of}
+use Rattle.instruction_lowering.proofs.PlainGraph.{plain_graph}
 use Rattle.instruction_lowering.proofs.Same.{lowered_same}
 use Rattle.instruction_lowering.proofs.units.lower.Goals as goal
 
-pub returns : goal.returns
-returns c =
-    let e : c.loop-block.pous ≡ map unit_of c.args.program.now.blocks = first_of (search rules, grind (arith, common_steps)) in
-    record {
-      same =
-          subst (λ (dbs : List DataBlock). Lowered c.args.program.now (record { dbs = dbs; globals = c.new-2.result; pous = c.loop-block.pous })) (sym c.new.ensures)
-          (subst (λ (globals : List Located). Lowered c.args.program.now (record { dbs = []; globals = globals; pous = c.loop-block.pous })) (sym c.new-2.ensures)
-          (subst (λ (pous : List GraphPou). Lowered c.args.program.now (record { dbs = []; globals = []; pous = pous })) (sym e) (lowered_same c.args.program.now c.requires)));
-    }
+-- what holds of the lowered program holds of a graph program with its parts
+by_parts : (P : GraphProgram → Type 0) (dbs : List DataBlock) (globals : List Located) (pous units : List GraphPou)
+    → dbs ≡ [] → globals ≡ [] → pous ≡ units → P (record { dbs = []; globals = []; pous = units })
+    → P (record { dbs = dbs; globals = globals; pous = pous })
+by_parts P dbs globals pous units e f g h =
+    subst (λ x. P (record { dbs = x; globals = globals; pous = pous })) (sym e)
+    (subst (λ x. P (record { dbs = []; globals = x; pous = pous })) (sym f)
+    (subst (λ x. P (record { dbs = []; globals = []; pous = x })) (sym g) h))
+
+pub returns-clause-plain : goal.returns-clause-plain
+returns-clause-plain c =
+    by_parts Plain c.new.result c.new-2.result c.loop-block.pous (map unit_of c.args.program.now.blocks) c.new.ensures c.new-2.ensures
+    (first_of (search rules, grind (arith, common_steps))) (plain_graph c.args.program.now c.requires)
+
+pub returns-clause-same : goal.returns-clause-same
+returns-clause-same c =
+    by_parts (Lowered c.args.program.now) c.new.result c.new-2.result c.loop-block.pous (map unit_of c.args.program.now.blocks) c.new.ensures c.new-2.ensures
+    (first_of (search rules, grind (arith, common_steps))) (lowered_same c.args.program.now c.requires)

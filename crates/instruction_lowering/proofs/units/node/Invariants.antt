@@ -1,6 +1,9 @@
-use Rattle.std.proofs.Common.{◌≡◌, take}
+use Rattle.std.proofs.Common.{◌≡◌, ◌++◌, length}
 use Rattle.instruction_lowering.specs.inner.Lowering.{steps_of}
 use Rattle.instruction_lowering.proofs.units.node.Given as goal
 
+abbrev pub decreases-loop-instr : goal.decreases-loop-instr
+decreases-loop-instr l = length l.rest
+
 abbrev pub invariant-loop-instr : goal.invariant-loop-instr
-invariant-loop-instr l = l.steps ≡ steps_of (take l.instr-index l.body)
+invariant-loop-instr l = l.steps ++ steps_of l.rest ≡ steps_of l.body

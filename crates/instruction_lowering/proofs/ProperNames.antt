@@ -1,4 +1,4 @@
--- The names of the units that a program is translated to: a text may have them, and no two are the same.
+-- The names of the units of a program's blocks: a text may have them, and no two are the same.
 use Rattle.std.proofs.Common.{◌≡◌, ℕ, ◌+◌, ◌%◌, ◌^◌, ◌<◌, ◌≤◌, ◌==◌, Bool, true, false, not, ◌&&◌, ◌||◌, cond, List, [], ◌∷◌, ◌++◌, map, length, Option, Some, None, refl, sym, ap, ◌∙◌, arith}
 use Rattle.std.specs.Prelude.{All, IsSome, decimal}
 use Rattle.std.proofs.lemmas.List.Elements.{All-head, All-tail}
@@ -11,9 +11,8 @@ use Rattle.std.proofs.lemmas.List.{length-append}
 use Rattle.std.proofs.lemmas.List.Folds.{list_all-append}
 use Rattle.s7_base.specs.Tokens.{is_between, is_word_byte}
 use Rattle.st_tree.specs.Naming.{are_apart, is_name, is_new, is_same, key_of, may_name_unit}
-use Rattle.st_tree.specs.declared.program.Pou.{Pou}
-use Rattle.stl_translate.specs.inner.Translation.{unit_name_of, unit_of}
-use Rattle.stl_translate.proofs.Names.{IsNumbered, block_of, numbered, position_of, same_number}
+use Rattle.st_tree.specs.StRun.{called_name}
+use Rattle.instruction_lowering.proofs.Names.{IsNumbered, block_of, numbered, position_of, same_number}
 use Rattle.stl_tree.specs.Accepted.{AreDistinct, IsAcceptedBlock}
 use Rattle.stl_tree.specs.StlRun.{block_named, is_same_name}
 use Rattle.stl_tree.specs.declared.program.Block.{Block}
@@ -49,12 +48,12 @@ more_digits n ds h d =
 decimal_digits : (n : ℕ) → n < 2 ^ 64 → Digits (decimal n)
 decimal_digits n h = decimal_by_steps (λ n ds. Digits ds) one_digit more_digits n h
 
-pub has_name : (b : BlockName) → IsNumbered b → is_name (unit_name_of b) ≡ true
+pub has_name : (b : BlockName) → IsNumbered b → is_name (called_name b) ≡ true
 has_name (name.Ob n) h = rw (decimal_digits n (omega arith)).bytes refl
 has_name (name.Fc n) h = rw (decimal_digits n (omega arith)).bytes refl
 has_name (name.Fb n) h = rw (decimal_digits n (omega arith)).bytes refl
 
-pub names_unit : (b : BlockName) → IsNumbered b → may_name_unit (unit_name_of b) ≡ true
+pub names_unit : (b : BlockName) → IsNumbered b → may_name_unit (called_name b) ≡ true
 names_unit (name.Ob n) h = let d = decimal_digits n (omega arith) in rw (lt-ltb 0 (length (decimal n)) d.some, d.digits) refl
 names_unit (name.Fc n) h = let d = decimal_digits n (omega arith) in rw (lt-ltb 0 (length (decimal n)) d.some, d.digits) refl
 names_unit (name.Fb n) h = let d = decimal_digits n (omega arith) in rw (lt-ltb 0 (length (decimal n)) d.some, d.digits) refl
@@ -68,7 +67,7 @@ turned : (m n : ℕ) → (m == n) ≡ (n == m)
 turned m n = grind (arith, nat_tests)
 
 -- two units have one name exactly where their blocks have
-same_keys : (b c : BlockName) → IsNumbered b → IsNumbered c → is_same (key_of (unit_name_of b)) (key_of (unit_name_of c)) ≡ is_same_name c b
+same_keys : (b c : BlockName) → IsNumbered b → IsNumbered c → is_same (key_of (called_name b)) (key_of (called_name c)) ≡ is_same_name c b
 unfolding key_of
 same_keys (name.Ob m) (name.Ob n) h k = same_number to_ascii_uppercase upper_digit m n (omega arith) (omega arith) ∙ turned m n
 same_keys (name.Fc m) (name.Fc n) h k = same_number to_ascii_uppercase upper_digit m n (omega arith) (omega arith) ∙ turned m n
@@ -97,7 +96,7 @@ first_not true b o e = absurd cc
 first_not false b o e = (refl, e)
 
 is_new_name : (b : Block) (blocks : List Block) → IsNumbered b.name → All IsAcceptedBlock blocks → block_of b.name blocks ≡ None
-    → is_new (key_of (unit_name_of b.name)) (map (λ (u : Pou). key_of u.name) (map unit_of blocks)) ≡ true
+    → is_new (key_of (called_name b.name)) (map (λ (b : Block). key_of (called_name b.name)) blocks) ≡ true
 is_new_name b [] h all e = refl
 is_new_name b (c ∷ blocks) h all e =
     let not_first = first_not (is_same_name c.name b.name) c (block_of b.name blocks) e in
@@ -106,7 +105,7 @@ is_new_name b (c ∷ blocks) h all e =
     rw (same_keys b.name c.name h (numbered c.name own.number), not_first.0) more
 
 pub units_apart : (blocks : List Block) → All IsAcceptedBlock blocks → AreDistinct blocks
-    → are_apart (map (λ (u : Pou). key_of u.name) (map unit_of blocks)) ≡ true
+    → are_apart (map (λ (b : Block). key_of (called_name b.name)) blocks) ≡ true
 units_apart [] all h = refl
 units_apart (b ∷ blocks) all h =
     let own = All-head IsAcceptedBlock b blocks all in

@@ -1,7 +1,8 @@
--- What an accepted program is translated to is a tree that a text can have.
-use Rattle.std.proofs.Common.{◌≡◌, ◌≢◌, ℕ, suc, ◌≤◌, Bool, true, false, ◌&&◌, List, [], ◌∷◌, ◌++◌, map, Option, Some, refl, sym, ap, subst, ◌∙◌, arith}
+-- The graph program of an accepted program is plain.
+use Rattle.std.proofs.Common.{◌≡◌, ◌≢◌, ℕ, zero, suc, ◌≤◌, ◌==◌, Bool, true, false, ◌&&◌, if◌then◌else◌, List, [], ◌∷◌, ◌++◌, length, map, Option, Some, refl, sym, ap, subst, ◌∙◌, arith}
 use Rattle.std.specs.Prelude.{All, nat_le, slice_get}
-use Rattle.std.proofs.lemmas.Bool.{le-leb, ltb-false}
+use Rattle.std.proofs.lemmas.Bool.{eqb-true, le-leb, ltb-false}
+use Rattle.std.proofs.lemmas.List.{append-nil}
 use Rattle.std.proofs.lemmas.List.Elements.{All-cons, All-head, All-map, All-nil, All-tail}
 use Rattle.memory_areas.specs.Access.{is_byte_in}
 use Rattle.memory_areas.specs.Areas.{IsSized}
@@ -11,13 +12,16 @@ use Rattle.s7_base.specs.declared.check.Check.TheVariants as check
 use Rattle.s7_base.specs.declared.register.Reg.TheVariants as reg
 use Rattle.s7_base.specs.declared.word.Width.TheVariants as width
 use Rattle.st_tree.proofs.FittingCalls.{at_position}
-use Rattle.st_tree.proofs.PartEquations.{calls_in_append, calls_in_assign, calls_in_return}
-use Rattle.st_tree.proofs.TypingEquations.{good_assign, good_return, nesting_assign, nesting_equations, nesting_return, typed_binary, typed_equations, typed_read, typed_unary}
+use Rattle.st_tree.proofs.PartEquations.{calls_in_assign, out_assign}
+use Rattle.st_tree.proofs.TypingEquations.{good_assign, nesting_assign, nesting_equations, typed_binary, typed_equations, typed_read, typed_unary}
 use Rattle.st_tree.specs.Chains.{called_in, chain_of, chain_to, unit_chain}
 use Rattle.st_tree.specs.Depth.{deepest, greatest}
 use Rattle.st_tree.specs.Nesting.{body_nesting, expression_nesting, nesting}
 use Rattle.st_tree.specs.Parts.{calls_in}
+use Rattle.st_tree.specs.Naming.{are_apart, key_of}
+use Rattle.st_tree.specs.Plain.{AreSteps, IsOnlyEnd, IsStep, IsPlainNode, IsPlainUnit, Plain, listed, listed_text}
 use Rattle.st_tree.specs.PlaceRules.{is_place}
+use Rattle.st_tree.specs.StRun.{called_name}
 use Rattle.st_tree.specs.Proper.{IsDataBlock, IsFormal, IsGlobal, IsLocal, IsProperUnit, Proper}
 use Rattle.st_tree.specs.Values.{type_of_width}
 use Rattle.st_tree.specs.WellTyped.{Head, Sight, are_well_typed, expression_type, head_of, is_assigned, is_well_typed, sight_of, variable_type}
@@ -29,14 +33,19 @@ use Rattle.st_tree.specs.declared.expr.StType.TheVariants as type
 use Rattle.st_tree.specs.declared.expr.UnaryOp.TheVariants as unary
 use Rattle.st_tree.specs.declared.expr.Var.{Var}
 use Rattle.st_tree.specs.declared.expr.Var.TheVariants as var
+use Rattle.st_tree.specs.declared.graph.GraphPou.{GraphPou}
+use Rattle.st_tree.specs.declared.graph.StExit.TheVariants as exit
+use Rattle.st_tree.specs.declared.graph.StNode.{StNode}
 use Rattle.st_tree.specs.declared.program.Pou.{Pou}
 use Rattle.st_tree.specs.declared.program.StProgram.{StProgram}
-use Rattle.st_tree.specs.declared.program.Stmt.{Stmt}
+use Rattle.st_tree.specs.declared.program.Stmt.{Stmt, out-Stmt}
 use Rattle.st_tree.specs.declared.program.Stmt.TheVariants as stmt
-use Rattle.stl_translate.proofs.Names.{numbered}
-use Rattle.stl_translate.proofs.ProperNames.{has_name, names_unit, units_apart}
-use Rattle.stl_translate.specs.inner.Translation.{and_of, bit_of, is_last, lines_of, literal_of, next_rlo, not_of, or_of, read_of, rlo_before_and, rlo_before_or, set_of, statements_of, translation, unit_of, xor_of}
-use Rattle.stl_tree.specs.Accepted.{HasOperand, HaveOperands, IsAccepted, IsAcceptedBlock, IsOperand}
+use Rattle.instruction_lowering.proofs.Names.{numbered}
+use Rattle.instruction_lowering.proofs.ProperNames.{has_name, names_unit, units_apart}
+use Rattle.instruction_lowering.specs.Lowered.{head_of_block}
+use Rattle.instruction_lowering.specs.inner.Lowering.{ends_block, lowered, node_of, steps_of, unit_of}
+use Rattle.instruction_lowering.specs.inner.Templates.{and_of, bit_of, literal_of, next_rlo, not_of, or_of, read_of, rlo_before_and, rlo_before_or, set_of, statements_of, xor_of}
+use Rattle.stl_tree.specs.Accepted.{HasOperand, HaveOperands, IsAccepted, IsAcceptedBlock, IsEnded, IsOperand}
 use Rattle.stl_tree.specs.declared.program.BitArg.TheVariants as arg
 use Rattle.stl_tree.specs.declared.program.Block.{Block}
 use Rattle.stl_tree.specs.declared.program.Instr.{Instr}
@@ -92,29 +101,21 @@ module _ (sight : Sight) where
   -- Statements
 
   -- a body that is well typed, nests no deeper than it may and calls nothing
-  record IsPlain (body : List Stmt) : Type 0 where
+  record IsPlainBody (body : List Stmt) : Type 0 where
     typed : are_well_typed sight false body ≡ true
     low : body_nesting body ≤ deepest
     calls : calls_in body ≡ []
 
-  no_statement : IsPlain []
+  no_statement : IsPlainBody []
   no_statement = record { typed = refl; low = omega arith; calls = refl }
 
   assigned : (v : Var) (e : Expr) (rest : List Stmt) → variable_type sight v ≡ Some type.Bool → IsBool e
-      → expression_nesting e ≤ deepest → IsPlain rest → IsPlain (stmt.Assign v e ∷ rest)
+      → expression_nesting e ≤ deepest → IsPlainBody rest → IsPlainBody (stmt.Assign v e ∷ rest)
   assigned v e rest h k low plain =
       record {
         typed = rw (good_assign sight false v e, h, k) plain.typed;
         low = omega (arith, nesting_assign v e, low, plain.low);
         calls = calls_in_assign v e rest ∙ plain.calls;
-      }
-
-  returned : (rest : List Stmt) → IsPlain rest → IsPlain (stmt.Return ∷ rest)
-  returned rest plain =
-      record {
-        typed = rw (good_return sight false) plain.typed;
-        low = omega (arith, nesting_return, plain.low);
-        calls = calls_in_return rest ∙ plain.calls;
       }
 
   at_most : (m n : ℕ) → m ≡ n → n ≤ 3 → m ≤ deepest
@@ -137,31 +138,41 @@ module _ (sight : Sight) where
   rlo_bool : IsBool (read_of reg.Rlo)
   rlo_bool = simp typed_equations
 
-  nfc_set : (b : Bool) (rest : List Stmt) → IsPlain rest → IsPlain (set_of reg.Nfc (literal_of b) ∷ rest)
+  nfc_set : (b : Bool) (rest : List Stmt) → IsPlainBody rest → IsPlainBody (set_of reg.Nfc (literal_of b) ∷ rest)
   nfc_set b rest plain = assigned (var.Register reg.Nfc) (literal_of b) rest refl (literal_bool b) (literal_low b) plain
 
-  of_instruction : (o : Op) (last : Bool) (rest : List Stmt) → HasOperand o → IsPlain rest
-      → IsPlain (statements_of o last ++ rest)
-  of_instruction (op.Check c (arg.At o)) last rest h plain =
+  of_instruction : (o : Op) (rest : List Stmt) → HasOperand o → IsPlainBody rest → IsPlainBody (statements_of o ++ rest)
+  of_instruction (op.Check c (arg.At o)) rest h plain =
       assigned (var.Register reg.Rlo) (next_rlo c (expr.Read (bit_of o))) (set_of reg.Nfc (literal_of true) ∷ rest) refl
       (next_bool c (expr.Read (bit_of o)) (typed_read sight (bit_of o) ∙ bit_bool o h)) (next_low c (bit_of o))
       (nfc_set true rest plain)
-  of_instruction (op.Assign o) last rest h plain =
+  of_instruction (op.Assign o) rest h plain =
       assigned (bit_of o) (read_of reg.Rlo) (set_of reg.Nfc (literal_of false) ∷ rest) (bit_bool o h) rlo_bool
       (read_low (var.Register reg.Rlo)) (nfc_set false rest plain)
-  of_instruction op.BlockEnd true rest h plain = plain
-  of_instruction op.BlockEnd false rest h plain = returned rest plain
+  of_instruction op.BlockEnd rest h plain = plain
 
-  of_body : (body : List Instr) → HaveOperands body → IsPlain (lines_of body)
+  up_to : (b : Bool) (rest : List Stmt) → IsPlainBody rest → IsPlainBody (if b then [] else rest)
+  up_to true rest plain = no_statement
+  up_to false rest plain = plain
+
+  of_body : (body : List Instr) → HaveOperands body → IsPlainBody (steps_of body)
   of_body [] h = no_statement
   of_body (i ∷ rest) h =
-      of_instruction i.op (is_last rest) (lines_of rest) (All-head Holds i rest h) (of_body rest (All-tail Holds i rest h))
+      of_instruction i.op (if ends_block i.op then [] else steps_of rest) (All-head Holds i rest h)
+      (up_to (ends_block i.op) (steps_of rest) (of_body rest (All-tail Holds i rest h)))
+
+  -- so is the text of its one node
+  of_node : (body : List Instr) → HaveOperands body → IsPlainBody (listed (node_of body ∷ []))
+  of_node body h = subst IsPlainBody (sym (append-nil (steps_of body ++ []) ∙ append-nil (steps_of body))) (of_body body h)
 
 -- Units
 
-proper_unit : (heads : List Head) (block : Block) → IsAcceptedBlock block → IsProperUnit [] heads (unit_of block)
+abbrev text_of : GraphPou → Pou
+text_of u = record u.head { body = listed u.graph.nodes }
+
+proper_unit : (heads : List Head) (block : Block) → IsAcceptedBlock block → IsProperUnit [] heads (text_of (unit_of block))
 proper_unit heads block h =
-    let plain = of_body (sight_of [] heads (unit_of block)) block.body h.operands in
+    let plain = of_node (sight_of [] heads (text_of (unit_of block))) block.body h.operands in
     record {
       name = has_name block.name (numbered block.name h.number);
       free = names_unit block.name (numbered block.name h.number);
@@ -174,29 +185,78 @@ proper_unit heads block h =
     }
 
 proper_units : (heads : List Head) (blocks : List Block) → All IsAcceptedBlock blocks
-    → All (IsProperUnit [] heads) (map unit_of blocks)
+    → All (IsProperUnit [] heads) (map text_of (map unit_of blocks))
 proper_units heads [] h = All-nil (IsProperUnit [] heads)
 proper_units heads (b ∷ rest) h =
-    All-cons (IsProperUnit [] heads) (unit_of b) (map unit_of rest)
+    All-cons (IsProperUnit [] heads) (text_of (unit_of b)) (map text_of (map unit_of rest))
     (proper_unit heads b (All-head IsAcceptedBlock b rest h)) (proper_units heads rest (All-tail IsAcceptedBlock b rest h))
 
 -- no unit calls another
 abbrev CallsNothing : Pou → Type 0
 CallsNothing unit = calls_in unit.body ≡ []
 
-no_calls : (blocks : List Block) → All IsAcceptedBlock blocks → All CallsNothing (map unit_of blocks)
+no_calls : (blocks : List Block) → All IsAcceptedBlock blocks → All CallsNothing (map text_of (map unit_of blocks))
 no_calls [] h = All-nil CallsNothing
 no_calls (b ∷ rest) h =
-    let sight = sight_of [] [] (unit_of b) in
+    let sight = sight_of [] [] (text_of (unit_of b)) in
     let own = All-head IsAcceptedBlock b rest h in
-    All-cons CallsNothing (unit_of b) (map unit_of rest) (of_body sight b.body own.operands).calls
+    All-cons CallsNothing (text_of (unit_of b)) (map text_of (map unit_of rest)) (of_node sight b.body own.operands).calls
     (no_calls rest (All-tail IsAcceptedBlock b rest h))
 
--- The tree
+-- Nodes
+
+steps_in_order : (xs ys : List Stmt) → AreSteps xs → AreSteps ys → AreSteps (xs ++ ys)
+steps_in_order [] ys h k = k
+steps_in_order (x ∷ xs) ys h k = (h.0, steps_in_order xs ys h.1 k)
+
+only_end_of : (body : List Instr) → IsEnded body → length body == 1 ≡ true → IsOnlyEnd 1 0 (node_of body)
+only_end_of [] ended one = elim ended [ ]
+only_end_of (i ∷ []) ended one =
+    subst (λ (o : Op). IsOnlyEnd 1 0 (record { steps = statements_of o ++ (if ends_block o then [] else []); exit = exit.End; only_end = true })) (sym ended)
+    (record { last = refl; exit = refl; few = omega arith; settings = tt })
+only_end_of (i ∷ j ∷ rest) ended one = let long : length (i ∷ j ∷ rest) ≡ 1 = eqb-true (length (i ∷ j ∷ rest)) 1 one in absurd (omega arith)
+
+is_step : (v : Var) (e : Expr) → IsStep (out-Stmt (stmt.Assign v e))
+is_step v e = subst IsStep (sym (out_assign v e)) tt
+
+steps_are : (o : Op) → AreSteps (statements_of o)
+steps_are (op.Check c (arg.At o)) = (is_step _ _, (is_step _ _, tt))
+steps_are (op.Assign o) = (is_step _ _, (is_step _ _, tt))
+steps_are op.BlockEnd = tt
+
+body_steps : (body : List Instr) → AreSteps (steps_of body)
+body_steps [] = tt
+body_steps (i ∷ rest) =
+    steps_in_order (statements_of i.op) (if ends_block i.op then [] else steps_of rest) (steps_are i.op) (by (ends_block i.op) (body_steps rest))
+  where
+    by : (b : Bool) → AreSteps (steps_of rest) → AreSteps (if b then [] else steps_of rest)
+    by true h = tt
+    by false h = h
+
+plain_unit : (block : Block) → IsAcceptedBlock block → IsPlainUnit (unit_of block)
+plain_unit block h =
+    record { body = refl; some = λ e. cc; few = omega arith; nodes = nodes }
+  where
+    nodes : (at : ℕ) (node : StNode) → slice_get (node_of block.body ∷ []) at ≡ Some node → IsPlainNode 1 at node
+    nodes zero node e =
+        let there : node_of block.body ≡ node = cc in
+        subst (IsPlainNode 1 0) there (record { steps = body_steps block.body; exit = tt; only_end = only_end_of block.body h.ends })
+    nodes (suc at) node e = cc
+
+plain_units : (blocks : List Block) → All IsAcceptedBlock blocks → All IsPlainUnit (map unit_of blocks)
+plain_units [] h = All-nil IsPlainUnit
+plain_units (b ∷ rest) h =
+    All-cons IsPlainUnit (unit_of b) (map unit_of rest) (plain_unit b (All-head IsAcceptedBlock b rest h)) (plain_units rest (All-tail IsAcceptedBlock b rest h))
+
+-- The whole
+
+keys_are : (blocks : List Block) → map (λ (u : Pou). key_of u.name) (map text_of (map unit_of blocks)) ≡ map (λ (b : Block). key_of (called_name b.name)) blocks
+keys_are [] = refl
+keys_are (b ∷ rest) = ap (λ ks. key_of (called_name b.name) ∷ ks) (keys_are rest)
 
 module _ (program : Program) (accepted : IsAccepted program) where
   abbrev tree : StProgram
-  tree = translation program
+  tree = listed_text (lowered program)
 
   short : (n : ℕ) (unit : Pou) → slice_get tree.pous n ≡ Some unit → chain_of tree n ≤ ACTIVATIONS
   short n unit e =
@@ -206,18 +266,21 @@ module _ (program : Program) (accepted : IsAccepted program) where
       ∙ ap (λ (calls : List (ℕ × List Var)). suc (greatest (map (chain_to ACTIVATIONS tree) (map (λ (c : ℕ × List Var). c.0) calls)))) none in
       omega (arith, one)
 
-  some_unit : (blocks : List Block) → blocks ≢ [] → map unit_of blocks ≢ []
+  some_unit : (blocks : List Block) → blocks ≢ [] → map text_of (map unit_of blocks) ≢ []
   some_unit [] h e = h refl
   some_unit (b ∷ rest) h e = cc
 
-  pub proper_tree : Proper tree
-  proper_tree =
+  proper_text : Proper tree
+  proper_text =
       record {
         blocks = record { ascend = tt; few = omega arith; sized = All-nil IsSized };
         bytes = All-nil IsDataBlock;
         globals = All-nil IsGlobal;
-        apart = units_apart program.blocks accepted.blocks accepted.names;
+        apart = ap are_apart (keys_are program.blocks) ∙ units_apart program.blocks accepted.blocks accepted.names;
         some = some_unit program.blocks accepted.some;
         units = proper_units (map head_of tree.pous) program.blocks accepted.blocks;
         chains = short;
       }
+
+  pub plain_graph : Plain (lowered program)
+  plain_graph = record { text = proper_text; globals = refl; units = plain_units program.blocks accepted.blocks }

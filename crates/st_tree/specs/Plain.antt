@@ -1,0 +1,119 @@
+-- The graph programs that the passes of a translation hand on: they keep the rules of a text, and those of graphs.
+use Rattle.std.specs.Prelude.{◌≡◌, ◌≢◌, ℕ, suc, ◌≤◌, ◌<◌, pos, true, List, [], ◌∷◌, ◌++◌, length, map, flat_map, All, slice_get, Some}
+use Rattle.s7_base.specs.declared.register.Reg.{Reg}
+use Rattle.s7_base.specs.declared.register.Reg.TheVariants as reg
+use Rattle.st_tree.specs.Proper.{Proper}
+use Rattle.st_tree.specs.declared.expr.Expr.{Expr}
+use Rattle.st_tree.specs.declared.expr.Expr.TheVariants as expr
+use Rattle.st_tree.specs.declared.expr.Var.{Var}
+use Rattle.st_tree.specs.declared.expr.Var.TheVariants as var
+use Rattle.st_tree.specs.declared.graph.GraphPou.{GraphPou}
+use Rattle.st_tree.specs.declared.graph.GraphProgram.{GraphProgram}
+use Rattle.st_tree.specs.declared.graph.StExit.{StExit}
+use Rattle.st_tree.specs.declared.graph.StExit.TheVariants as exit
+use Rattle.st_tree.specs.declared.graph.StNode.{StNode}
+use Rattle.st_tree.specs.declared.program.Arm.{Arm, out-Arm}
+use Rattle.st_tree.specs.declared.program.CaseArm.{CaseArm}
+use Rattle.st_tree.specs.declared.program.Pou.{Pou}
+use Rattle.st_tree.specs.declared.program.StProgram.{StProgram}
+use Rattle.st_tree.specs.declared.program.Stmt.{Stmt, out-Stmt}
+use Rattle.st_tree.specs.declared.program.Stmt.TheOpen as S
+use Rattle.st_tree.specs.declared.program.Stmt.TheVariants as stmt
+
+-- The rules of a text
+
+-- the test of an exit as a statement: that of a branch in an IF, that of a table in a CASE
+abbrev pub test_of : StExit → List Stmt
+test_of exit.Fall = []
+test_of (exit.Jump j) = []
+test_of (exit.Branch e j) = stmt.If (record { test = e; body = [] } ∷ []) [] ∷ []
+test_of (exit.EndIf e) = stmt.If (record { test = e; body = [] } ∷ []) [] ∷ []
+test_of (exit.Table e targets last) = stmt.Case e (record { labels = pos 0 ∷ []; body = [] } ∷ []) [] ∷ []
+test_of exit.End = []
+
+-- the statements of nodes, one node after another, whatever their exits are, each with its test
+abbrev pub listed : List StNode → List Stmt
+listed nodes = flat_map (λ (n : StNode). n.steps ++ test_of n.exit) nodes
+
+-- a graph program as a text that says nothing of its exits
+abbrev pub listed_text : GraphProgram → StProgram
+listed_text graph =
+    record {
+      dbs = graph.dbs;
+      globals = graph.globals;
+      pous = map (λ (u : GraphPou). record u.head { body = listed u.graph.nodes }) graph.pous;
+    }
+
+-- Steps
+
+-- the DB and the DI register are put back
+abbrev pub ArePutBack : List Stmt → Type 0
+ArePutBack [] = Unit {0}
+ArePutBack (stmt.Assign (var.Register reg.DbNo) e ∷ rest) = ArePutBack rest
+ArePutBack (stmt.Assign (var.Register reg.DiNo) e ∷ rest) = ArePutBack rest
+ArePutBack (other ∷ rest) = ⊥
+
+-- values are put into locals, then one unit is called, then the DB and the DI register are put back
+abbrev pub IsGuarded : List Stmt → Type 0
+IsGuarded (stmt.Assign (var.Local i) e ∷ rest) = IsGuarded rest
+IsGuarded (stmt.Invoke n vars ∷ rest) = ArePutBack rest
+IsGuarded other = ⊥
+
+-- a step is an assignment, an area write, a call, or a call under an IF without ELSE
+abbrev pub IsStep : S.Stmt-F Stmt Arm CaseArm → Type 0
+IsStep (S.Assign v e) = Unit {0}
+IsStep (S.AreaWrite w p e) = Unit {0}
+IsStep (S.Invoke n vars) = Unit {0}
+IsStep (S.If (arm ∷ []) []) = IsGuarded (out-Arm arm).body
+IsStep other = ⊥
+
+-- each of some statements is a step
+abbrev pub AreSteps : List Stmt → Type 0
+AreSteps [] = Unit {0}
+AreSteps (x ∷ rest) = IsStep (out-Stmt x) × AreSteps rest
+
+-- each of some steps puts a literal into a register variable
+abbrev pub AreSettings : List Stmt → Type 0
+AreSettings [] = Unit {0}
+AreSettings (stmt.Assign (var.Register r) (expr.Literal ty n) ∷ rest) = AreSettings rest
+AreSettings (other ∷ rest) = ⊥
+
+-- Nodes
+
+-- an exit of the node at a position leads to nodes of a unit of so many; a table has 1 to 255 entries
+abbrev pub LeadsInside : ℕ → ℕ → StExit → Type 0
+LeadsInside count at exit.Fall = suc at < count
+LeadsInside count at (exit.Jump j) = j < count
+LeadsInside count at (exit.Branch e j) = (suc at < count) × (j < count)
+LeadsInside count at (exit.EndIf e) = suc at < count
+LeadsInside count at (exit.Table e targets last) =
+    (1 ≤ length targets) × (length targets ≤ 255) × All (λ (j : ℕ). j < count) targets × (last < count)
+LeadsInside count at exit.End = Unit {0}
+
+-- the node of the end word alone is the last one and ends its unit, and its steps put at most four literals into
+-- register variables
+pub record IsOnlyEnd (count at : ℕ) (node : StNode) : Type 0 where
+  pub last : suc at ≡ count
+  pub exit : node.exit ≡ exit.End
+  pub few : length node.steps ≤ 4
+  pub settings : AreSettings node.steps
+
+-- the node at a position of a unit of so many
+pub record IsPlainNode (count at : ℕ) (node : StNode) : Type 0 where
+  pub steps : AreSteps node.steps
+  pub exit : LeadsInside count at node.exit
+  pub only_end : node.only_end ≡ true → IsOnlyEnd count at node
+
+-- a unit: its head has no body, and there are 1 to 32,769 nodes
+pub record IsPlainUnit (unit : GraphPou) : Type 0 where
+  pub body : unit.head.body ≡ []
+  pub some : unit.graph.nodes ≢ []
+  pub few : length unit.graph.nodes ≤ 32769
+  pub nodes : (at : ℕ) (node : StNode) → slice_get unit.graph.nodes at ≡ Some node
+      → IsPlainNode (length unit.graph.nodes) at node
+
+-- a graph program: its steps and tests are those of a proper text without globals, and its units are plain
+pub record Plain (graph : GraphProgram) : Type 0 where
+  pub text : Proper (listed_text graph)
+  pub globals : graph.globals ≡ []
+  pub units : All IsPlainUnit graph.pous
