@@ -1,5 +1,5 @@
 -- The types of expressions by the rules of the tree are those by the rules of the text.
-use Rattle.std.proofs.Common.{◌≡◌, Bool, not, ◌&&◌, ◌||◌, ◌==◌, cond, None, refl, ap, ◌∙◌}
+use Rattle.std.proofs.Common.{◌≡◌, not, ◌&&◌, ◌||◌, ◌==◌, cond, None, refl, ap, ◌∙◌}
 use Rattle.std.specs.Prelude.{nat_lt}
 use Rattle.s7_base.specs.declared.word.Width.{Width}
 use Rattle.st_rules.specs.Types as rules
