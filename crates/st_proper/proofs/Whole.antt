@@ -54,6 +54,7 @@ use Rattle.st_tree.specs.declared.expr.StType.TheVariants as type
 use Rattle.st_tree.specs.declared.program.Local.{Local}
 use Rattle.st_tree.specs.declared.program.Located.{Located}
 use Rattle.st_tree.specs.declared.program.Pou.{Pou}
+use Rattle.st_tree.specs.declared.program.Stmt.{Stmt}
 use Rattle.st_tree.specs.declared.program.StProgram.{StProgram}
 use Rattle.st_tree.specs.declared.raw.RawLocal.{RawLocal}
 use Rattle.st_tree.specs.declared.raw.RawPou.{RawPou}
@@ -213,30 +214,28 @@ form_there text (a ∷ us) (b ∷ vs) h zero u v q s =
     subst (λ w. HasForm text u w) two (subst (λ w. HasForm text w b) one h.0)
 form_there text (a ∷ us) (b ∷ vs) h (suc n) u v q s = form_there text us vs h.1 n u v q s
 
+abbrev unit_with : Bool → List ℕ → List Local → List Local → List Stmt → Pou
+unit_with program name formals locals body =
+    record { program = program; name = name; formals = formals; locals = locals; body = body }
+
+same_unit : (a b : Bool) (m n : List ℕ) (f g k l : List Local) (x y : List Stmt) → a ≡ b → m ≡ n → f ≡ g → k ≡ l
+    → x ≡ y → unit_with a m f k x ≡ unit_with b n g l y
+same_unit a b m n f g k l x y p q r s t = cc
+
 unit_again : (raw : RawSt) (p : Pou) (v : RawPou) → IsUnitAt p v
     → found_in (statements (scope_in (names_of raw) (map formals_of raw.pous) v) v.body) ≡ p.body
     → unit_of (names_of raw) (map formals_of raw.pous) v ≡ p
 unit_again raw p v at body =
-    let found = found_in (statements (scope_in (names_of raw) (map formals_of raw.pous) v) v.body) in
-    ap (λ t. record {
-      program = t;
-      name = v.name;
-      formals = locals_of v.formals;
-      locals = locals_of v.locals;
-      body = found;
-    }) at.program
-    ∙ ap (λ name. record {
-      program = p.program;
-      name = name;
-      formals = locals_of v.formals;
-      locals = locals_of v.locals;
-      body = found;
-    }) at.named
-    ∙ ap (λ ls. record { program = p.program; name = p.name; formals = ls; locals = locals_of v.locals; body = found })
-    (locals_again p.formals v.formals at.formals)
-    ∙ ap (λ ls. record { program = p.program; name = p.name; formals = p.formals; locals = ls; body = found })
-    (locals_again p.locals v.locals at.locals)
-    ∙ ap (λ b. record { program = p.program; name = p.name; formals = p.formals; locals = p.locals; body = b }) body
+    same_unit v.program p.program v.name p.name (locals_of v.formals) p.formals (locals_of v.locals) p.locals
+    (found_in (statements (scope_in (names_of raw) (map formals_of raw.pous) v) v.body)) p.body at.program at.named
+    (locals_again p.formals v.formals at.formals) (locals_again p.locals v.locals at.locals) body
+
+abbrev tree_with : List DataBlock → List Located → List Pou → StProgram
+tree_with dbs globals pous = record { dbs = dbs; globals = globals; pous = pous }
+
+same_tree : (a b : List DataBlock) (f g : List Located) (x y : List Pou) → a ≡ b → f ≡ g → x ≡ y
+    → tree_with a f x ≡ tree_with b g y
+same_tree a b f g x y p q r = cc
 
 some_units : (vs : List RawPou) (ps : List Pou) → length vs ≡ length ps → ps ≢ [] → vs ≢ []
 some_units [] [] size some e = some refl
@@ -350,21 +349,9 @@ module _ (t : StProgram) (p : Proper t) where
 
   same : t ≡ tree_of raw
   same =
-      sym (ap (λ bs. record {
-        dbs = bs;
-        globals = all_located raw.globals;
-        pous = all_units (names_of raw)
-            (map formals_of raw.pous) raw.pous;
-      })
-      (ap all_blocks section.globals ∙ plain.blocks)
-      ∙ ap (λ ls. record {
-        dbs = t.dbs;
-        globals = ls;
-        pous = all_units (names_of raw)
-            (map formals_of raw.pous) raw.pous;
-      })
-      (ap all_located section.globals ∙ plain.located)
-      ∙ ap (λ ps. record { dbs = t.dbs; globals = t.globals; pous = ps }) all_again)
+      same_tree t.dbs (all_blocks raw.globals) t.globals (all_located raw.globals) t.pous
+      (all_units (names_of raw) (map formals_of raw.pous) raw.pous) (sym (ap all_blocks section.globals ∙ plain.blocks))
+      (sym (ap all_located section.globals ∙ plain.located)) (sym all_again)
 
   bounded : AreBounded t (calls_in raw)
   bounded i calls unit e q f =

@@ -102,7 +102,7 @@ one_between k m names xs ys l h = record { same = same; apart = apart_between k 
 
 -- Declarations
 
-not_twice : (line : Line) (first : Option Meaning) → twice line first ≡ [] → first ≡ None
+pub not_twice : (line : Line) (first : Option Meaning) → twice line first ≡ [] → first ≡ None
 not_twice line None h = refl
 not_twice line (Some m) h = absurd cc
 

@@ -1,5 +1,5 @@
 -- What names mean by the declarations of a tree, and that they mean the same in a text that has the tree.
-use Rattle.std.proofs.Common.{◌≡◌, ◌+◌, ℕ, Bool, true, false, not, cond, ◌&&◌, nat_lt, List, [], ◌∷◌, ◌++◌, length, Option, Some, None, is_some, refl, sym, ap, subst, ◌∙◌, arith, length-append}
+use Rattle.std.proofs.Common.{◌≡◌, ◌+◌, ℕ, Bool, true, false, not, cond, ◌&&◌, nat_lt, List, [], ◌∷◌, ◌++◌, length, Option, Some, None, is_some, refl, sym, ap, subst, ◌∙◌, arith, length-append, ◌≤◌, ◌<◌}
 use Rattle.std.specs.Prelude.{codes, decimal}
 use Rattle.std.specs.List.{fold}
 use Rattle.std.proofs.lemmas.List.{append-nil, append_assoc}
@@ -31,19 +31,21 @@ use Rattle.st_tree.specs.declared.raw.RawVar.TheVariants as var
 use Rattle.st_rules.specs.Broken.{broken, listed, twice}
 use Rattle.st_rules.specs.Declarations.{all_inside, meaning_of_unit, no_inside, one_if, one_too_many, with_formal, with_global, with_local, with_unit}
 use Rattle.st_rules.specs.Globals.{all_global_breaks, all_located, area_of, block_at, block_breaks, block_number, block_of, contents, fits_type, global_breaks, has_address, has_block_address, has_block_form, inserted, is_small_enough, located_at, located_in, located_of, unless, with_block}
+use Rattle.memory_areas.specs.Areas.{Ascend, numbers_of}
+use Rattle.std.proofs.lemmas.Bool.{ltb-false, ltb-true}
+use Rattle.std.proofs.lemmas.Cmp.{nat_list_eq_equiv}
 use Rattle.st_rules.specs.Names.{Table, look_up, with_entry}
-use Rattle.st_tree.specs.Naming.{key_of}
+use Rattle.st_tree.specs.Naming.{is_same, key_of}
 use Rattle.st_tree.specs.TypeRules.{has_width}
 use Rattle.st_rules.specs.Variables.{is_address}
 use Rattle.st_rules.specs.declared.declaration.Inside.{Inside}
 use Rattle.st_rules.specs.declared.declaration.Outside.{Outside}
 use Rattle.st_rules.specs.declared.scope.Meaning.{Meaning}
 use Rattle.st_rules.specs.declared.scope.Meaning.TheVariants as meaning
-use Rattle.st_types_laws.proofs.Apart.{Lists, declared_between, declared_last}
+use Rattle.st_types_laws.proofs.Apart.{Lists, declared_between, declared_last, not_twice}
 use Rattle.std.proofs.lemmas.Bool.{and_parts}
 use Rattle.st_types_laws.proofs.BlockSizes.{IsBlock, is_block}
 use Rattle.st_types_laws.proofs.Lists.{both_true, nil_first, nil_second}
-use Rattle.st_types_laws.proofs.DataBlocks.{before_globals, before_units, one_more}
 use Rattle.st_types_laws.proofs.PlainNumbers.{key_by_number}
 use Rattle.st_types_laws.proofs.Redeclared.{AreLocalsAt, AreUnitsAt, location_of, name_of_area}
 
@@ -122,6 +124,53 @@ numbered_also b (c ∷ cs) i h = by (nat_lt c.number b.number) (numbered_also b 
     by : (t : Bool) → AreNumbered (inserted b cs) → AreNumbered (cond t (c ∷ inserted b cs) (b ∷ c ∷ cs))
     by true more = (h.0, more)
     by false more = (i, h)
+
+-- one data block more
+one_more : (b : DataBlock) (bs : List DataBlock) → length (inserted b bs) ≡ length bs + 1
+one_more b [] = refl
+one_more b (c ∷ cs) = by_test (nat_lt c.number b.number) (one_more b cs)
+  where
+    by_test : (t : Bool) → length (inserted b cs) ≡ length cs + 1 → length (cond t (c ∷ inserted b cs) (b ∷ c ∷ cs)) ≡ length (c ∷ cs) + 1
+    by_test true more = omega (arith, more)
+    by_test false more = omega arith
+
+-- no data block has a number
+abbrev AreOthers : ℕ → List DataBlock → Type 0
+AreOthers n [] = Unit {0}
+AreOthers n (b ∷ bs) = (b.number ≡ n → ⊥) × AreOthers n bs
+
+-- a name that stands for nothing is that of no data block
+no_block_of : (n : ℕ) (bs : List DataBlock) (rest : Table Meaning)
+    → look_up (key_of (codes "DB" ++ decimal n)) (block_entries bs ++ rest) ≡ None → AreOthers n bs
+no_block_of n [] rest h = tt
+no_block_of n (b ∷ bs) rest h =
+    by (is_same (key_of (codes "DB" ++ decimal n)) (key_of (codes "DB" ++ decimal b.number))) refl (no_block_of n bs rest) h
+  where
+    differ : b.number ≡ n → is_same (key_of (codes "DB" ++ decimal n)) (key_of (codes "DB" ++ decimal b.number)) ≡ false → ⊥
+    differ same e =
+        let own : is_same (key_of (codes "DB" ++ decimal n)) (key_of (codes "DB" ++ decimal b.number)) ≡ true =
+        ap (λ m. is_same (key_of (codes "DB" ++ decimal n)) (key_of (codes "DB" ++ decimal m))) same
+        ∙ nat_list_eq_equiv.refl (key_of (codes "DB" ++ decimal n)) in
+        absurd cc
+
+    by : (t : Bool) → is_same (key_of (codes "DB" ++ decimal n)) (key_of (codes "DB" ++ decimal b.number)) ≡ t
+        → (look_up (key_of (codes "DB" ++ decimal n)) (block_entries bs ++ rest) ≡ None → AreOthers n bs)
+        → cond t (Some meaning.Block) (look_up (key_of (codes "DB" ++ decimal n)) (block_entries bs ++ rest)) ≡ None
+        → AreOthers n (b ∷ bs)
+    by true e more q = absurd cc
+    by false e more q = (λ same. differ same e, more q)
+
+ascends : (least : ℕ) (b : DataBlock) (bs : List DataBlock) → least ≤ b.number → AreOthers b.number bs → Ascend least (numbers_of bs) → Ascend least (numbers_of (inserted b bs))
+ascends least b [] first o h = (first, tt)
+ascends least b (c ∷ cs) first o h = by_test (nat_lt c.number b.number) refl (λ k q. ascends k b cs q o.1)
+  where
+    by_test : (t : Bool) → nat_lt c.number b.number ≡ t → ((k : ℕ) → k ≤ b.number → Ascend k (numbers_of cs) → Ascend k (numbers_of (inserted b cs)))
+        → Ascend least (numbers_of (cond t (c ∷ inserted b cs) (b ∷ c ∷ cs)))
+    by_test true e more = let l : c.number < b.number = ltb-true c.number b.number e in (h.0, more (c.number + 1) (omega (arith, l)) h.1)
+    by_test false e more =
+        let l : b.number ≤ c.number = ltb-false c.number b.number e in
+        let apart : c.number ≡ b.number → ⊥ = o.0 in
+        (first, (omega (arith, l, apart), h.1))
 
 -- where one data block more goes
 record IsPut (b : DataBlock) (old new : List DataBlock) : Type 0 where
@@ -221,6 +270,15 @@ has_room line None blocks h = by (nat_lt blocks MOST_BLOCKS) h
 
 -- Globals
 
+-- where nothing is broken at the end, nothing was before
+before_globals : (gs : List RawGlobal) (d : Outside) → (fold with_global d gs).breaks ≡ [] → d.breaks ≡ []
+before_globals [] d e = e
+before_globals (g ∷ gs) d e = nil_first d.breaks _ (before_globals gs (with_global d g) e)
+
+pub before_units : (us : List RawPou) (d : Outside) → (fold with_unit d us).breaks ≡ [] → d.breaks ≡ []
+before_units [] d e = e
+before_units (u ∷ us) d e = nil_first d.breaks _ (before_units us (with_unit d u) e)
+
 -- what is known of the globals so far, and of the data blocks and other globals that they are in the tree
 pub record Gathered (d : Outside) (bs : List DataBlock) (ls : List Located) : Type 0 where
   pub names : Lists d.names (block_entries bs ++ located_entries 0 ls)
@@ -228,6 +286,8 @@ pub record Gathered (d : Outside) (bs : List DataBlock) (ls : List Located) : Ty
   pub blocks : d.blocks ≡ length bs
   pub units : d.units ≡ 0
   pub numbered : AreNumbered bs
+  pub ascend : Ascend 1 (numbers_of bs)
+  pub few : length bs ≤ MOST_BLOCKS
   pub placed : ArePlaced ls
 
 module _ (d : Outside) (bs : List DataBlock) (ls : List Located) (name : List ℕ) (line : Line) (at : RawVar) (so : Gathered d bs ls) where
@@ -261,6 +321,8 @@ module _ (d : Outside) (bs : List DataBlock) (ls : List Located) (name : List �
         blocks = no_block first ∙ so.blocks;
         units = so.units;
         numbered = so.numbered;
+        ascend = so.ascend;
+        few = so.few;
         placed = placed_also ls p.located so.placed p.placed;
       } in
       subst (λ o. Gathered (with_global d (declaration (type.Plain ty))) bs (ls ++ listed o)) (sym p.found) done
@@ -278,6 +340,9 @@ module _ (d : Outside) (bs : List DataBlock) (ls : List Located) (name : List �
       let p = is_put b bs in
       let rest = located_entries 0 ls in
       let key : key_of name ≡ key_of (codes "DB" ++ decimal n) = key_by_number n name refl i.some i.small in
+      let none : look_up (key_of (codes "DB" ++ decimal n)) (block_entries bs ++ rest) ≡ None =
+      ap (λ k. look_up k (block_entries bs ++ rest)) (sym key) ∙ sym (so.names.same (key_of name)) ∙ not_twice line first once in
+      let less : length bs < MOST_BLOCKS = ltb-true (length bs) MOST_BLOCKS room in
       let before : block_entries bs ++ rest ≡ block_entries p.before ++ (block_entries p.after ++ rest) =
       ap (λ xs. block_entries xs ++ rest) p.whole ∙ ap (λ es. es ++ rest) (blocks_joined p.before p.after) ∙ append_assoc (block_entries p.before) (block_entries p.after) rest in
       let after : block_entries p.before ++ (key_of name, meaning.Block) ∷ (block_entries p.after ++ rest) ≡ block_entries (inserted b bs) ++ rest =
@@ -294,6 +359,8 @@ module _ (d : Outside) (bs : List DataBlock) (ls : List Located) (name : List �
         blocks = count;
         units = so.units;
         numbered = numbered_also b bs i so.numbered;
+        ascend = ascends 1 b bs i.some (no_block_of n bs rest none) so.ascend;
+        few = omega (arith, less, one_more b bs);
         placed = so.placed;
       } in
       let there : inserted b bs ≡ with_block (block_at n at last list) bs = sym (ap (λ o. with_block o bs) found ∙ ap (λ t. cond t (inserted b bs) bs) room) in

@@ -4,7 +4,6 @@ pub mod BlockKeys
 pub mod BlockSizes
 pub mod Bounds
 pub mod Called
-pub mod DataBlocks
 pub mod Declared
 pub mod DeclaredNames
 pub mod DeclaredTree
