@@ -1,7 +1,6 @@
 //! What a Structured Text is answered: the report of its run from a memory of zeros, or the line of its
 //! refusal, as `run-st` writes them.
-ghost use Rattle.memory_areas.specs.Areas.{AreBlocks};
-ghost use Rattle.st_tree.specs.Runnable.{IsRunnable};
+ghost use Rattle.st_tree.specs.Proper.{Proper};
 
 use crate::wants::wants_text;
 use image_text::{image_text, read_image};
@@ -55,8 +54,7 @@ fn report(
     units: u64,
     block: BlockName,
 ) -> Result<Vec<u8>, NoMemory>
-    requires blocks { AreBlocks tree.now.dbs }
-    requires runnable { IsRunnable tree.now }
+    requires { Proper tree.now }
 {
     let Ok(memory) = read_image(alloc, b"", tree.dbs.as_slice()) else {
         return Err(NoMemory);

@@ -1,70 +1,21 @@
 //! What no clause says: that a runner is made while there is memory, and that it runs as the rules say:
 //! the statements, operators and functions of Structured Text at their edges, each with the memory that it
 //! leaves.
-ghost use Rattle.std.specs.Prelude.{◌≡◌, [], IfOk};
-ghost use Rattle.memory_areas.specs.Areas.{IsMemoryOf};
-ghost use Rattle.st_tree.specs.Runnable.{IsRunnable};
 
 use crate::answers::{ENDED, wants_answer};
 use crate::wants::wants;
-use memory_areas::Memory;
-use s7_base::{Boxed, List, NoMemory, Outcome};
+use image_text::read_image;
+use s7_base::{List, NoMemory, Outcome};
+use st_parser::parse;
 use st_runner::Runner;
-use st_tree::{BinaryOp, Expr, Local, Pou, StProgram, StType, Stmt, Var};
 use std::alloc::Global;
 use std::process::Abort;
 use std::test::Fail;
 use stl_tree::{BlockName, Call};
 
-/// The first local, an operator and a number.
-fn of_local(alloc: Global, op: BinaryOp, number: i64) -> Result<Expr, NoMemory> {
-    let local = Boxed::new(alloc, Expr::Read(Var::Local(0)))?;
-    let number = Boxed::new(alloc, Expr::Literal(StType::Dint, number))?;
-    Ok(Expr::Binary(op, local, number))
-}
-
-fn bytes(alloc: Global, text: &str) -> Result<List<u8>, NoMemory> {
-    Ok(List::from_vec(Vec::from_slice(alloc, text.as_bytes())?))
-}
-
-/// `PROGRAM OB1` that counts its local from 0 to a number in a loop.
-fn counting(alloc: Global, turns: i64) -> Result<StProgram, NoMemory>
-    ensures runnable { IfOk result (λ tree. IsRunnable tree) }
-    ensures blocks { IfOk result (λ tree. tree.dbs ≡ []) }
-{
-    let test = of_local(alloc, BinaryOp::Lt, turns)?;
-    let mut turn = List::new(alloc);
-    turn.push(Stmt::Assign(Var::Local(0), of_local(alloc, BinaryOp::Add, 1)?))?;
-    let mut body = List::new(alloc);
-    body.push(Stmt::While(test, turn))?;
-    let mut locals = List::new(alloc);
-    let ty = StType::Dint;
-    locals.push(Local {
-        name: bytes(alloc, "count")?,
-        ty,
-    })?;
-    let mut pous = List::new(alloc);
-    pous.push(Pou {
-        program: true,
-        name: bytes(alloc, "OB1")?,
-        formals: List::new(alloc),
-        locals,
-        body,
-    })?;
-    Ok(StProgram {
-        dbs: List::new(alloc),
-        globals: List::new(alloc),
-        pous,
-    })
-}
-
-/// A new memory without data blocks.
-fn memory(alloc: Global) -> Result<Memory, NoMemory>
-    ensures { IfOk result (λ memory. IsMemoryOf [] memory.areas) }
-{
-    let memory = Memory::new(alloc, &[])?;
-    Ok(memory)
-}
+/// Counts a local from 0 to 2 in a loop.
+const COUNTING: &str = "PROGRAM OB1\n    VAR_TEMP\n        count : DINT;\n    END_VAR\n\
+    WHILE count < 2 DO\n        count := count + 1;\n    END_WHILE;\nEND_PROGRAM\n";
 
 fn call(alloc: Global, block: BlockName) -> Call {
     Call {
@@ -77,14 +28,18 @@ fn call(alloc: Global, block: BlockName) -> Call {
 #[test]
 fn each_test_of_a_loop_takes_a_unit(rt: HostRuntime) -> Result<(), Fail> {
     let alloc = rt.alloc();
-    let tree = counting(alloc, 2)?;
+    let Ok(tree) = parse(alloc, COUNTING.as_bytes()) else {
+        return Err(NoMemory.into());
+    };
     for (units, outcome) in [
         (0, Outcome::Going),
         (2, Outcome::Going),
         (3, Outcome::Ended(None)),
         (9, Outcome::Ended(None)),
     ] {
-        let memory = memory(alloc)?;
+        let Ok(memory) = read_image(alloc, b"", tree.dbs.as_slice()) else {
+            return Err(NoMemory.into());
+        };
         match Runner::new(alloc, &tree, memory, &call(alloc, BlockName::Ob(1))) {
             Ok(mut runner) => {
                 wants(&rt, &units, &runner.run(units), &outcome);

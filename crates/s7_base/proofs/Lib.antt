@@ -1,4 +1,3 @@
 pub mod Sets
 mod StatusRows
-pub mod TokenLaws
 mod TokenRows

@@ -2,6 +2,5 @@ pub mod Answers
 pub mod Reason
 pub mod RegSet
 pub mod StatusBits
-pub mod TokenGrammar
 pub mod Tokens
 pub mod formers

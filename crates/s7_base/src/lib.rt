@@ -15,7 +15,6 @@ pub use register::{Reg, RegSet};
 pub use set_laws::same_registers_are_equal;
 pub use text::{begins_with, front_of, is_same_word, is_word_byte, rest_after};
 pub use token::{Token, TokenKind};
-pub use token_laws::tokens_are_cut;
 pub use word::{Width, high_word, low_byte, low_word, put_low_byte, put_low_word};
 
 mod boxed;
@@ -28,5 +27,4 @@ mod register;
 mod set_laws;
 mod text;
 mod token;
-mod token_laws;
 mod word;

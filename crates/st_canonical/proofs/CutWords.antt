@@ -11,7 +11,7 @@ use Rattle.st_lexer.specs.StTokens.{is_letter, token, piece_at}
 use Rattle.st_tree.specs.declared.token.StKind.TheVariants as sort
 use Rattle.st_canonical.proofs.Cuts.{ReadsOn, reads_token, reads_word, reads_blank}
 use Rattle.st_canonical.specs.Canonical.{on}
-use Rattle.st_grammar.specs.Kinds.{conversion_named, fixed_text, lead_text, name_kind, shift_text, sign_named, text_kind, type_text, word_kind, word_named, word_text}
+use Rattle.st_grammar.specs.Kinds.{conversion_named, fixed_text, lead_text, name_kind, sign_named, text_kind, word_kind, word_named, word_text}
 use Rattle.st_canonical.specs.Spelled.{is_function, is_name, is_unreserved}
 use Rattle.st_grammar.specs.declared.kind.Fixed.{Fixed}
 use Rattle.st_grammar.specs.declared.kind.Fixed.TheVariants as fixed
@@ -165,21 +165,6 @@ reads_name (b ∷ w) more line ks h ends r =
 
 -- Types, shifts and conversions
 
-same_type : (ty : StType) → type_word ty ≡ type_text ty
-same_type type.Bool = refl
-same_type type.Byte = refl
-same_type type.Word = refl
-same_type type.Dword = refl
-same_type type.Int = refl
-same_type type.Dint = refl
-same_type type.Lint = refl
-
-same_shift : (op : ShiftOp) → shift_word op ≡ shift_text op
-same_shift shift_op.Shl = refl
-same_shift shift_op.Shr = refl
-same_shift shift_op.Rol = refl
-same_shift shift_op.Ror = refl
-
 type_keyword : (ty : StType) → is_keyword (fixed_text (fixed.Type ty)) ≡ true
 type_keyword type.Bool = refl
 type_keyword type.Byte = refl
@@ -198,13 +183,12 @@ shift_keyword shift_op.Ror = refl
 pub reads_type : (ty : StType) (more : List ℕ) (line : ℕ) (ks : List Kind) → ends_word more ≡ true → ReadsOn line more ks
     → ReadsOn line (type_word ty ++ more) (kind.Fixed (fixed.Type ty) ∷ ks)
 reads_type ty more line ks ends r =
-    subst (λ (text : List ℕ). ReadsOn line (text ++ more) (kind.Fixed (fixed.Type ty) ∷ ks)) (sym (same_type ty)) (reads_fixed (fixed.Type ty) more line ks (type_keyword ty) ends r)
+    reads_fixed (fixed.Type ty) more line ks (type_keyword ty) ends r
 
 pub reads_shift : (op : ShiftOp) (more : List ℕ) (line : ℕ) (ks : List Kind) → ends_word more ≡ true → ReadsOn line more ks
     → ReadsOn line (shift_word op ++ more) (kind.Fixed (fixed.Function (function.Shift op)) ∷ ks)
 reads_shift op more line ks ends r =
-    subst (λ (text : List ℕ). ReadsOn line (text ++ more) (kind.Fixed (fixed.Function (function.Shift op)) ∷ ks)) (sym (same_shift op))
-    (reads_fixed (fixed.Function (function.Shift op)) more line ks (shift_keyword op) ends r)
+    reads_fixed (fixed.Function (function.Shift op)) more line ks (shift_keyword op) ends r
 
 convert_kind : (from to : StType) (line : Line) → is_function (one.Convert from to) ≡ true
     → text_kind sort.Word (type_word from ++ codes "_TO_" ++ type_word to) line ≡ kind.Fixed (fixed.Function (function.One (one.Convert from to)))

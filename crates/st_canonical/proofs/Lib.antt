@@ -6,4 +6,6 @@ mod CutStatements
 mod CutUnits
 mod CutWords
 mod Cuts
+pub mod Levels
+pub mod SameNames
 pub mod TextReads

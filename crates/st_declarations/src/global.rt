@@ -6,13 +6,11 @@ ghost use Rattle.st_rules.specs.Broken.{broken, listed};
 ghost use Rattle.st_rules.specs.Globals.{all_blocks, all_global_breaks, all_located, area_of, block_at, block_breaks, block_number, block_of, contents, fills, fits_type, global_breaks, has_address, has_block_address, has_block_form, inserted, is_small_enough, is_start_of, located_at, located_in, located_of, number_from, number_in, total, unless, with_block};
 
 use memory_areas::{Area, AreaName, DataBlock, MOST_BLOCK_BYTES, MOST_BLOCKS, Place};
-use s7_base::{Line, List, NoMemory, Reason, Width};
+use s7_base::{Line, List, NoMemory, Reason, Width, rest_after};
 use st_rules::broken::{Break, note};
 use st_rules::lists::keep;
-use st_rules::names::{is_block_name, key_of, rest_after};
-use st_rules::types::has_width;
 use st_rules::variable::{is_address, is_block_number};
-use st_tree::{Located, RawGlobal, RawGlobalType, RawVar, StType};
+use st_tree::{Located, RawGlobal, RawGlobalType, RawVar, StType, has_width, key_of, names_block};
 use std::alloc::Global;
 
 fn has_address(at: &RawVar) -> bool
@@ -118,7 +116,7 @@ fn number_from(digits: &[u8]) -> u32
 fn number_in(key: &[u8]) -> u32
     ensures { result ≡ number_in key.now }
 {
-    if is_block_name(key) {
+    if names_block(key) {
         number_from(rest_after(key, 2))
     } else {
         0

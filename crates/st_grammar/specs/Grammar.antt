@@ -3,7 +3,7 @@
 use Rattle.std.specs.Prelude.{◌≡◌, ℕ, ◌≤◌, ◌<◌, ℤ, pos, Bool, true, false, nat_le, List, [], ◌∷◌, ◌++◌}
 use Rattle.s7_base.specs.declared.reason.Line.{Line}
 use Rattle.st_grammar.specs.Forms.{Form, literal, variable, group, prefix, infix_of, apply, shift, select, Actuals, no_actual, actual, Labels, label, more_labels, Statement, assign, write, invoke, choice, choice_else, cases, cases_else, loop, jump, Statements, none, empty, further, Arms, no_arm, arm, CaseArms, no_case, case_arm, Items, no_item, single, times, GlobalType, plain, bytes, Globals, no_global, global, Locals, no_local, local, Section, absent, present, Head, Units, no_unit, unit, Source}
-use Rattle.st_grammar.specs.Kinds.{is_free, names_block, may_name_local, may_name_unit}
+use Rattle.st_tree.specs.Naming.{is_free, may_name_local, may_name_unit, names_block}
 use Rattle.st_grammar.specs.declared.kind.Fixed.TheVariants as fixed
 use Rattle.st_grammar.specs.declared.kind.Function.TheVariants as function
 use Rattle.st_grammar.specs.declared.kind.Jump.{Jump}

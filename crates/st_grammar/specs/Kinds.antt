@@ -27,49 +27,13 @@ use Rattle.st_grammar.specs.declared.kind.OneOperand.TheVariants as one
 use Rattle.st_grammar.specs.declared.kind.Word.{Word}
 use Rattle.st_grammar.specs.declared.kind.Word.TheVariants as word
 use Rattle.st_grammar.specs.declared.words.TheConstants.{WORDS, SIGNS}
-use Rattle.st_tree.specs.declared.expr.BinaryOp.{BinaryOp}
+use Rattle.st_tree.specs.Words.{operator_word, shift_word, type_word}
 use Rattle.st_tree.specs.declared.expr.BinaryOp.TheVariants as binary
-use Rattle.st_tree.specs.declared.expr.ShiftOp.{ShiftOp}
-use Rattle.st_tree.specs.declared.expr.ShiftOp.TheVariants as shift_op
 use Rattle.st_tree.specs.declared.expr.StType.{StType}
 use Rattle.st_tree.specs.declared.expr.StType.TheVariants as type
 use Rattle.st_tree.specs.declared.raw.RawVar.TheVariants as var
 
 -- Spellings
-
--- the word of a type
-abbrev pub type_text : StType → List ℕ
-type_text type.Bool = codes "BOOL"
-type_text type.Byte = codes "BYTE"
-type_text type.Word = codes "WORD"
-type_text type.Dword = codes "DWORD"
-type_text type.Int = codes "INT"
-type_text type.Dint = codes "DINT"
-type_text type.Lint = codes "LINT"
-
--- the word or the sign of an operator between operands
-abbrev pub operator_text : BinaryOp → List ℕ
-operator_text binary.Mul = codes "*"
-operator_text binary.Div = codes "/"
-operator_text binary.Mod = codes "MOD"
-operator_text binary.Add = codes "+"
-operator_text binary.Sub = codes "-"
-operator_text binary.Lt = codes "<"
-operator_text binary.Gt = codes ">"
-operator_text binary.Le = codes "<="
-operator_text binary.Ge = codes ">="
-operator_text binary.Eq = codes "="
-operator_text binary.Ne = codes "<>"
-operator_text binary.And = codes "AND"
-operator_text binary.Xor = codes "XOR"
-operator_text binary.Or = codes "OR"
-
--- the word of a shift or a rotation
-abbrev pub shift_text : ShiftOp → List ℕ
-shift_text shift_op.Shl = codes "SHL"
-shift_text shift_op.Shr = codes "SHR"
-shift_text shift_op.Rol = codes "ROL"
-shift_text shift_op.Ror = codes "ROR"
 
 -- a function of one operand; conversions have no row, since they are told by their types
 abbrev pub one_text : OneOperand → List ℕ
@@ -100,10 +64,10 @@ fixed_text fixed.EndCase = codes "END_CASE"
 fixed_text fixed.Do = codes "DO"
 fixed_text fixed.EndWhile = codes "END_WHILE"
 fixed_text fixed.Not = codes "NOT"
-fixed_text (fixed.Between op) = operator_text op
-fixed_text (fixed.Type ty) = type_text ty
+fixed_text (fixed.Between op) = operator_word op
+fixed_text (fixed.Type ty) = type_word ty
 fixed_text (fixed.Function (function.One op)) = one_text op
-fixed_text (fixed.Function (function.Shift op)) = shift_text op
+fixed_text (fixed.Function (function.Shift op)) = shift_word op
 fixed_text (fixed.Function function.Select) = codes "SEL"
 fixed_text fixed.Becomes = codes ":="
 fixed_text fixed.Colon = codes ":"
@@ -145,55 +109,6 @@ word_named text = find (λ entry. is_same_word text (word_text entry)) WORDS
 -- the sign of the table that is spelled so
 unfoldable pub sign_named : List ℕ → Option Fixed
 sign_named text = find (λ entry. is_same_word text (fixed_text entry)) SIGNS
-
--- Names
-
--- a digit and more
-abbrev pub are_digits : List ℕ → Bool
-are_digits text = nat_lt 0 (length text) && list_all (λ b. is_between 48 57 b) text
-
--- two letters in any case, and a number after them
-abbrev pub is_numbered : List ℕ → List ℕ → Bool
-is_numbered letters name = is_same_word (take 2 name) letters && are_digits (drop 2 name)
-
--- the variables that need no declaration
-abbrev pub register_names : List (List ℕ)
-register_names =
-    codes "ACCU1" ∷ codes "ACCU2" ∷ codes "AR1" ∷ codes "AR2" ∷ codes "DBNO" ∷ codes "DINO" ∷ codes "NFC"
-    ∷ codes "RLO" ∷ codes "STA" ∷ codes "ORB"
-    ∷ codes "OS" ∷ codes "OV" ∷ codes "CC0" ∷ codes "CC1" ∷ codes "BR" ∷ []
-
--- the name of a register variable, in any case
-abbrev pub is_register : List ℕ → Bool
-is_register name = is_among register_names name
-
--- the name of a data block, as DB5
-abbrev pub names_block : List ℕ → Bool
-names_block name = is_numbered (codes "DB") name
-
--- OB, FC or FB with a number
-abbrev pub is_unit_number : List ℕ → Bool
-is_unit_number name = is_numbered (codes "OB") name || is_numbered (codes "FC") name || is_numbered (codes "FB") name
-
--- `NEXT`, which may name a local
-abbrev pub is_next : List ℕ → Bool
-is_next name = is_same_word name (codes "NEXT")
-
--- a name that a global on I, Q or M and a formal may have
-abbrev pub is_free : List ℕ → Bool
-is_free name = not (is_register name) && not (is_next name) && not (names_block name) && not (is_unit_number name)
-
--- a name that a local may have
-abbrev pub may_name_local : List ℕ → Bool
-may_name_local name = is_next name || is_free name
-
--- a name that a unit may have
-abbrev pub may_name_unit : List ℕ → Bool
-may_name_unit name = is_unit_number name || is_free name
-
--- a name that a global may have
-abbrev pub may_name_global : List ℕ → Bool
-may_name_global name = names_block name || is_free name
 
 -- Words
 

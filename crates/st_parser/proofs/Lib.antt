@@ -1,5 +1,4 @@
 mod JudgedTexts
-pub mod Nesting
 pub mod OneReading
 mod SomeReading
 pub mod TextReads

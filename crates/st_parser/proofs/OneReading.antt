@@ -1,7 +1,5 @@
 -- A text has one reading.
-use Rattle.std.proofs.Common.{◌≡◌, List, ℕ, subst}
-use Rattle.s7_base.specs.declared.reason.Line.{Line}
-use Rattle.s7_base.specs.declared.reason.Reason.{Reason}
+use Rattle.std.proofs.Common.{◌≡◌, subst}
 use Rattle.st_parser.specs.TextLaws.{NotBoth, OneRefusal, OneTree}
 use Rattle.st_parser.specs.Texts.{by_rules, by_syntax}
 use Rattle.st_syntax_laws.proofs.OneSyntax.{not_both_syntaxes, one_raw_tree, one_syntax_refusal}

@@ -1,3 +1,2 @@
-pub mod Proper
 pub mod TextLaws
 pub mod Texts

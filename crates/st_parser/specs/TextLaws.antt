@@ -1,10 +1,10 @@
--- Laws of reading: a text has one tree or one refusal, and the canonical text of a proper tree reads as the
--- tree.
+-- Laws of reading: a text has one tree or one refusal; exactly the trees that some text reads as are proper, and
+-- the canonical text of a proper tree reads as it.
 use Rattle.std.specs.Prelude.{◌≡◌, ◌⊎◌, ℕ, List}
 use Rattle.s7_base.specs.declared.reason.Line.{Line}
 use Rattle.s7_base.specs.declared.reason.Reason.{Reason}
-use Rattle.st_parser.specs.Proper.{Proper}
 use Rattle.st_parser.specs.Texts.{IsRefusedText, IsTextOf}
+use Rattle.st_tree.specs.Proper.{Proper}
 use Rattle.st_tree.specs.Spelling.{spelling}
 use Rattle.st_tree.specs.declared.program.StProgram.{StProgram}
 
@@ -29,4 +29,12 @@ EachHasOne =
 
 -- the canonical text of a proper tree reads as the tree
 abbrev pub ProperReadsBack : Type 0
-ProperReadsBack = (text : StProgram) → Proper text → IsTextOf (spelling text) text
+ProperReadsBack = (tree : StProgram) → Proper tree → IsTextOf (spelling tree) tree
+
+-- what a text reads as is proper
+abbrev pub WhatIsReadIsProper : Type 0
+WhatIsReadIsProper = (bytes : List ℕ) (tree : StProgram) → IsTextOf bytes tree → Proper tree
+
+-- so the canonical text of what a text reads as reads as the same
+abbrev pub Rereads : Type 0
+Rereads = (bytes : List ℕ) (tree : StProgram) → IsTextOf bytes tree → IsTextOf (spelling tree) tree

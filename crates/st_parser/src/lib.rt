@@ -2,6 +2,9 @@
 //!
 //! `st_syntax` gives what the pass over a text's tokens judges, `st_syntax_laws` that this is the raw tree
 //! or the refusal of the text. Here they are put together.
+//!
+//! By `st_read_proper` and `st_proper` exactly the trees that some text reads as are proper. They are laws here,
+//! beside those that a text has one reading.
 #![tactic(auto)]
 
 pub use text::{parse, syntax};

@@ -1,10 +1,9 @@
 //! Reads a Structured Text: first its syntax, then its names, types, places and calls.
 ghost use Rattle.std.specs.Prelude.{IfErr, IfOk};
 ghost use Rattle.s7_base.specs.Answers.{IfRefused};
-ghost use Rattle.memory_areas.specs.Areas.{AreBlocks};
 ghost use Rattle.st_grammar.specs.Syntax.{HasRawTree, IsSyntaxRefused};
 ghost use Rattle.st_parser.specs.Texts.{IsRefusedAs, IsTextOf};
-ghost use Rattle.st_tree.specs.Runnable.{IsRunnable};
+ghost use Rattle.st_tree.specs.Proper.{Proper};
 
 use s7_base::Rejection;
 use st_tree::{RawSt, StProgram};
@@ -20,13 +19,11 @@ pub fn syntax(alloc: Global, bytes: &[u8]) -> Result<RawSt, Rejection>
     st_syntax::syntax(alloc, bytes)
 }
 
-/// The tree of a text, or the line and the reason of the first rule that it breaks. The tree has data
-/// blocks that a memory may have, and can be run.
+/// The tree of a text, or the line and the reason of the first rule that it breaks.
 pub fn parse(alloc: Global, bytes: &[u8]) -> Result<StProgram, Rejection>
     ensures tree { IfOk result (IsTextOf bytes.now) }
     ensures refused { IfErr result (IsRefusedAs bytes.now) }
-    ensures blocks { IfOk result (λ tree. AreBlocks tree.dbs) }
-    ensures runnable { IfOk result IsRunnable }
+    ensures proper { IfOk result Proper }
 {
     match syntax(alloc, bytes) {
         Ok(raw) => typed(alloc, raw),

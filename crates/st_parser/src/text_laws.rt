@@ -1,5 +1,5 @@
 //! Laws of what the reading of a text is. They compute nothing: their contracts are the laws.
-ghost use Rattle.st_parser.specs.TextLaws.{EachHasOne, NotBoth, OneRefusal, OneTree, ProperReadsBack};
+ghost use Rattle.st_parser.specs.TextLaws.{EachHasOne, NotBoth, OneRefusal, OneTree, ProperReadsBack, Rereads, WhatIsReadIsProper};
 
 /// A text has one tree at most.
 pub fn one_tree()
@@ -24,4 +24,14 @@ pub fn each_has_one()
 /// The canonical text of a proper tree reads back as the tree.
 pub fn proper_reads_back()
     ensures { ProperReadsBack }
+{}
+
+/// What a text reads as is proper.
+pub fn what_is_read_is_proper()
+    ensures { WhatIsReadIsProper }
+{}
+
+/// The canonical text of what a text reads as reads as the same tree.
+pub fn rereads()
+    ensures { Rereads }
 {}

@@ -2,15 +2,16 @@
 ghost use Rattle.std.specs.Prelude.{◌≡◌, ◌++◌, codes, OnOk};
 ghost use Rattle.st_tree.specs.Form.{level, wrap, unary_form, canon};
 ghost use Rattle.st_tree.specs.Spelling.{written, expr_text, names_in};
+ghost use Rattle.st_tree.specs.Words.{infix_word};
 
 use crate::literal::put_literal;
 use crate::text::put;
 use crate::variable::put_var;
-use crate::word::{
-    infix_level_of, infix_word, prefix_level_of, prefix_word, shift_word, type_word, width_word,
-};
 use s7_base::NoMemory;
-use st_tree::{Expr, Pou, StProgram, UnaryOp};
+use st_tree::{
+    BinaryOp, Expr, Pou, StProgram, UnaryOp, infix_level_of, operator_word, prefix_level_of,
+    prefix_word, shift_word, type_word, width_word,
+};
 
 /// The precedence of the text of an expression, 0 the highest.
 fn level_of(expr: &Expr) -> u8
@@ -22,6 +23,15 @@ fn level_of(expr: &Expr) -> u8
         Expr::Binary(op, _, _) => infix_level_of(*op),
         _ => 0,
     }
+}
+
+/// Puts an operator between its operands at the end, with a blank on either side.
+fn put_infix(out: &mut Vec<u8>, op: BinaryOp) -> Result<(), NoMemory>
+    ensures { OnOk result (out.new.items ≡ out.old.items ++ infix_word op) }
+{
+    put(out, " ")?;
+    put(out, operator_word(op))?;
+    put(out, " ")
 }
 
 /// Puts the text of an expression of a unit at the end, in brackets only where precedence asks for them.
@@ -40,7 +50,7 @@ pub fn put_expr(
         Expr::Unary(op, operand) => put_unary(out, tree, unit, *op, operand.get()),
         Expr::Binary(op, left, right) => {
             put_operand(out, tree, unit, left.get(), infix_level_of(*op))?;
-            put(out, infix_word(*op))?;
+            put_infix(out, *op)?;
             put_operand(out, tree, unit, right.get(), infix_level_of(*op) - 1)
         }
         Expr::Convert(from, to, operand) => {

@@ -15,4 +15,3 @@ mod statement;
 mod text;
 mod unit;
 mod variable;
-mod word;

@@ -8,9 +8,8 @@ use crate::literal::put_literal;
 use crate::names::{formals_of, type_of, unit_name};
 use crate::text::{put, put_blanks, put_bytes};
 use crate::variable::put_var;
-use crate::word::width_word;
 use s7_base::{NoMemory, Width};
-use st_tree::{Arm, CaseArm, Expr, Local, Pou, StProgram, StType, Stmt, Var};
+use st_tree::{Arm, CaseArm, Expr, Local, Pou, StProgram, StType, Stmt, Var, width_word};
 
 /// The next level. No tree in a machine's memory has as many levels as a machine can count.
 fn deeper(level: usize) -> Result<usize, NoMemory>

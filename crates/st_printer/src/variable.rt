@@ -5,9 +5,8 @@ ghost use Rattle.st_tree.specs.Spelling.{bit_text, place_text, var_text, names_i
 
 use crate::names::{global_name, local_name};
 use crate::text::{put, put_bytes, put_number};
-use crate::word::{area_word, register_word, type_word, width_word};
 use s7_base::{NoMemory, Width};
-use st_tree::{Pou, StProgram, StType, Var};
+use st_tree::{Pou, StProgram, StType, Var, area_word, register_word, type_word, width_word};
 
 /// The number of a bit, which a bit alone shows.
 fn put_bit(out: &mut Vec<u8>, width: Width, bit: u8) -> Result<(), NoMemory>

@@ -18,7 +18,8 @@ use Rattle.st_lexer.specs.Spelled.{is_byte, is_decimal}
 use Rattle.st_canonical.specs.Canonical.{block_name, items_behind, items_form, run_behind}
 use Rattle.st_grammar.specs.Forms.{Items, no_item, single, times, GlobalType, plain, bytes, Globals, no_global, global}
 use Rattle.st_grammar.specs.Grammar.{tree_items}
-use Rattle.st_grammar.specs.Kinds.{conversion_named, conversion_of_types, names_block, size_before_line, word_named, word_text}
+use Rattle.st_grammar.specs.Kinds.{conversion_named, conversion_of_types, size_before_line, word_named, word_text}
+use Rattle.st_tree.specs.Naming.{names_block}
 use Rattle.st_grammar.specs.Levels.{deepest, levels_globals, levels_initial, levels_items, levels_past, levels_type}
 use Rattle.st_canonical.specs.Spelled.{ItemsSpelled, is_name}
 use Rattle.st_grammar.specs.Syntax.{AllWithin}

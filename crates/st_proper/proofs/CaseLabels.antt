@@ -1,70 +1,18 @@
 -- The labels of an arm of a CASE: their canonical form says their values.
-use Rattle.std.proofs.Common.{◌≡◌, ℕ, ◌==◌, ℤ, true, ◌&&◌, cond, List, [], ◌∷◌, ◌++◌, map, Some, refl, sym, ap, subst, ◌∙◌, arith}
-use Rattle.std.proofs.lemmas.Bool.Decides.{nat_tests}
-use Rattle.s7_base.specs.declared.reason.Line.{Line}
-use Rattle.s7_base.specs.declared.reason.Reason.TheVariants.{TypeMismatch}
+use Rattle.std.proofs.Common.{◌≡◌, ℤ, true, List, [], ◌∷◌, ◌++◌, sym, ap, subst, ◌∙◌}
 use Rattle.st_canonical.specs.Canonical.{labels_behind, labels_form, literal_form}
 use Rattle.st_grammar.specs.Forms.{Labels, label, more_labels}
 use Rattle.st_grammar.specs.Grammar.{LabelsFit, label_tree, tree_labels}
 use Rattle.st_canonical.specs.Spelled.{LabelsSpelled}
 use Rattle.st_proper.proofs.Literals.{Kept, kept}
-use Rattle.st_proper.proofs.Parts.{map_last, values}
+use Rattle.st_types_laws.proofs.Lists.{map_last}
+use Rattle.st_types_laws.proofs.Labels.{of_type}
 use Rattle.st_proper.proofs.Values.{has_value as value_of}
 use Rattle.st_lexer.proofs.Words.{and_both}
 use Rattle.std.specs.List.{list_all}
 use Rattle.std.proofs.lemmas.List.{append-nil, append_assoc}
 use Rattle.st_tree.specs.WellTyped.{is_some_of, is_value}
 use Rattle.st_tree.specs.declared.expr.StType.{StType}
-use Rattle.st_tree.specs.declared.expr.StType.TheVariants as type
-use Rattle.st_rules.specs.Broken.{broken}
-use Rattle.st_rules.specs.Statements.{have_type, label_breaks}
-use Rattle.st_rules.specs.Types.{is_type, place_of}
-
--- Types
-
-abbrev type_at : ℕ → StType
-type_at n = cond (n == 0) type.Bool
-    (cond (n == 1) type.Byte (cond (n == 2) type.Word
-    (cond (n == 3) type.Dword (cond (n == 4) type.Int (cond (n == 5) type.Dint type.Lint)))))
-
-at_place : (ty : StType) → type_at (place_of ty) ≡ ty
-at_place type.Bool = refl
-at_place type.Byte = refl
-at_place type.Word = refl
-at_place type.Dword = refl
-at_place type.Int = refl
-at_place type.Dint = refl
-at_place type.Lint = refl
-
-pub same_type : (a b : StType) → is_type a b ≡ true → a ≡ b
-same_type a b h = let e : place_of a ≡ place_of b = grind (arith, nat_tests) in sym (at_place a) ∙ ap type_at e
-    ∙ at_place b
-
-pub is_own_type : (a : StType) → is_type a a ≡ true
-is_own_type type.Bool = refl
-is_own_type type.Byte = refl
-is_own_type type.Word = refl
-is_own_type type.Dword = refl
-is_own_type type.Int = refl
-is_own_type type.Dint = refl
-is_own_type type.Lint = refl
-
--- Lists of labels
-
--- labels of a type by their values
-abbrev pub of_type : StType → List ℤ → List (StType × ℤ)
-of_type ty ns = map (λ (n : ℤ). (ty, n)) ns
-
-pub values_of : (ty : StType) (ns : List ℤ) → values (of_type ty ns) ≡ ns
-values_of ty [] = refl
-values_of ty (n ∷ ns) = ap (λ l. n ∷ l) (values_of ty ns)
-
-have_own_type : (ty : StType) (ns : List ℤ) → have_type ty (of_type ty ns) ≡ true
-have_own_type ty [] = refl
-have_own_type ty (n ∷ ns) = ap (λ b. b && have_type ty (of_type ty ns)) (is_own_type ty) ∙ have_own_type ty ns
-
-pub no_label_breaks : (l : Line) (ty : StType) (ns : List ℤ) → label_breaks l (Some ty) (of_type ty ns) ≡ []
-no_label_breaks l ty ns = ap (λ b. cond b [] (broken l TypeMismatch)) (have_own_type ty ns)
 
 -- Forms
 

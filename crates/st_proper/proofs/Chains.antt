@@ -6,12 +6,13 @@ use Rattle.call_chains.proofs.Followed.{followed}
 use Rattle.call_chains.specs.Chain.{Graph, NoCycle, call_at, call_in, chains, follow, with_call}
 use Rattle.call_chains.specs.declared.call.Call.{Call}
 use Rattle.memory_areas.specs.declared.sizes.TheConstants.{ACTIVATIONS}
-use Rattle.st_proper.proofs.Bounds.{bound}
+use Rattle.st_types_laws.proofs.Bounds.{bound}
+use Rattle.st_types_laws.proofs.Lists.{there_at}
 use Rattle.st_rules.specs.Broken.{first_of_all}
 use Rattle.st_rules.specs.LongChains.{chain_break, long_chains}
 use Rattle.st_rules.specs.Typed.{IsChain}
-use Rattle.st_tree.specs.Costs.{body_most}
-use Rattle.st_tree.specs.Runnable.{chain_costs, chain_of, chain_to, unit_chain}
+use Rattle.st_tree.proofs.CalledMost.{called_most}
+use Rattle.st_tree.specs.Chains.{chain_of, chain_to, unit_chain}
 use Rattle.st_tree.specs.declared.program.Pou.{Pou}
 use Rattle.st_tree.specs.declared.program.StProgram.{StProgram}
 use Rattle.st_tree.specs.declared.raw.RawPou.{RawPou}
@@ -57,12 +58,7 @@ times_size (suc n) x xs =
 abbrev pub AreBounded : StProgram → Graph → Type 0
 AreBounded tree graph = (i : ℕ) (calls : List Call) (unit : Pou) → slice_get graph i ≡ Some calls
     → slice_get tree.pous i ≡ Some unit
-    → (f : ℕ → ℕ) → bound f calls ≤ body_most (chain_costs f) unit.body
-
-there_at : {X : Type 0} (xs : List X) (i : ℕ) → i < length xs → (x : X) × (slice_get xs i ≡ Some x)
-there_at [] i h = absurd (omega (arith, h))
-there_at (x ∷ xs) zero h = (x, refl)
-there_at (x ∷ xs) (suc i) h = there_at xs i (omega (arith, h))
+    → (f : ℕ → ℕ) → bound f calls ≤ called_most f unit.body
 
 none_long : (begins : List Bool) (i : ℕ) (us : List RawPou) → ((n : ℕ) → get_or begins n false ≡ false)
     → long_chains begins i us ≡ []
@@ -80,8 +76,7 @@ module _ (tree : StProgram) (graph : Graph) (bounded : AreBounded tree graph) wh
   one_call m i k c (Some calls) (Some unit) e g h less =
       let within : chain_to (suc m) tree c.callee ≤ bound (chain_to (suc m) tree) calls = call_within
       (chain_to (suc m) tree) calls k c h in
-      let most : bound (chain_to (suc m) tree) calls ≤ body_most
-      (chain_costs (chain_to (suc m) tree)) unit.body = bounded i calls unit e g (chain_to (suc m) tree) in
+      let most : bound (chain_to (suc m) tree) calls ≤ called_most (chain_to (suc m) tree) unit.body = bounded i calls unit e g (chain_to (suc m) tree) in
       omega (arith, within, most, less)
 
   some_chain : (p : Option Pou) (f : ℕ → ℕ) → 1 ≤ unit_chain f 0 p

@@ -14,7 +14,8 @@ use Rattle.st_grammar.specs.Grammar.{GlobalsFit, IfPresent, held, tree_globals, 
 use Rattle.st_grammar.specs.Levels.{levels_globals, levels_section}
 use Rattle.st_canonical.specs.Spelled.{GlobalsSpelled, is_variable}
 use Rattle.st_proper.proofs.BlockForms.{AreWithin, IsFull, block_is_name, block_is_named, globals_within, is_written, with_zero}
-use Rattle.st_proper.proofs.GlobalForms.{Each, IsPlain}
+use Rattle.st_types_laws.proofs.Lists.{Each}
+use Rattle.st_proper.proofs.GlobalForms.{IsPlain}
 use Rattle.st_tree.specs.Values.{width_at}
 use Rattle.st_tree.specs.declared.program.Located.{Located}
 use Rattle.st_tree.specs.declared.raw.RawGlobal.{RawGlobal}

@@ -2,7 +2,7 @@
 use Rattle.std.proofs.Common.{◌≡◌, true, None}
 use Rattle.st_lexer.specs.Spelled.{is_place}
 use Rattle.st_canonical.specs.Canonical.{area_form}
-use Rattle.st_grammar.specs.Kinds.{is_free}
+use Rattle.st_tree.specs.Naming.{is_free}
 use Rattle.st_canonical.specs.Spelled.{is_name}
 pub use Rattle.st_tree.proofs.Induction.{Each}
 use Rattle.st_tree.specs.Values.{width_at}

@@ -1,27 +1,24 @@
 -- What holds of the canonical forms of well typed statements, and of a list of them with one more.
-use Rattle.std.proofs.Common.{◌≡◌, ℕ, ◌+◌, ◌≤◌, ◌++◌, Bool, true, List, [], ◌∷◌, map, Option, Some, sym, ap, ◌∙◌}
+use Rattle.std.proofs.Common.{◌≡◌, ℕ, ◌+◌, ◌≤◌, Bool, true, List, [], ◌∷◌, map, Some}
 use Rattle.s7_base.specs.declared.reason.Line.{Line}
 use Rattle.st_canonical.specs.Spelled.{AllSpelled, ArmsSpelled, CasesSpelled, Spelled}
 use Rattle.st_grammar.specs.Forms.{Statement, Statements, Arms, CaseArms}
 use Rattle.st_grammar.specs.Grammar.{AllFit, ArmsFit, CasesFit, Fits, HasArm, HasCase, tree_all, tree_arms, tree_cases, tree_one}
-use Rattle.st_proper.proofs.Bounds.{bound, bound_all, bound_arms, bound_cases}
-use Rattle.st_proper.proofs.Levels.{top_all, top_arms, top_cases, top_one}
-use Rattle.st_proper.proofs.Parts.{AreSound, map_last}
+use Rattle.st_types_laws.proofs.Bounds.{bound, bound_all, bound_arms, bound_cases}
+use Rattle.st_canonical.proofs.Levels.{top_all, top_arms, top_cases, top_one}
+use Rattle.st_types_laws.proofs.Parts.{AreSound}
 use Rattle.st_rules.specs.Broken.{sound}
 use Rattle.st_rules.specs.Calls.{calls_of}
-use Rattle.st_rules.specs.Statements.{Armed, Labelled, arm as arm_in, arms_on, case_arm as case_arm_in, case_arms_on, statement, statements}
+use Rattle.st_rules.specs.Statements.{arm as arm_in, arms_on, case_arm as case_arm_in, case_arms_on, statement, statements}
 use Rattle.st_rules.specs.declared.scope.Scope.{Scope}
-use Rattle.st_tree.specs.Costs.{arm_most, body_most, case_most, greatest, most}
+use Rattle.st_tree.proofs.CalledMost.{called_in_arm, called_in_case, called_most}
+use Rattle.st_tree.specs.Depth.{greatest}
 use Rattle.st_tree.specs.Nesting.{arm_nesting, body_nesting, case_nesting, nesting}
-use Rattle.st_tree.specs.Runnable.{chain_costs}
 use Rattle.st_tree.specs.WellTyped.{is_some_of}
 use Rattle.st_tree.specs.declared.expr.StType.{StType}
 use Rattle.st_tree.specs.declared.program.Arm.{Arm}
 use Rattle.st_tree.specs.declared.program.CaseArm.{CaseArm}
 use Rattle.st_tree.specs.declared.program.Stmt.{Stmt}
-use Rattle.st_tree.specs.declared.raw.RawArm.{RawArm}
-use Rattle.st_tree.specs.declared.raw.RawCaseArm.{RawCaseArm}
-use Rattle.st_tree.specs.declared.raw.RawStmt.{RawStmt}
 
 -- a form that means this statement, is of the language, nests no deeper, and calls no dearer units
 module _ (s : Scope) (inside : Bool) where
@@ -30,14 +27,14 @@ module _ (s : Scope) (inside : Bool) where
     pub fits : Fits inside c
     pub spelled : Spelled c
     pub low : (d : ℕ) → top_one d c ≤ d + nesting x
-    pub calls : (f : ℕ → ℕ) → bound f (calls_of s (tree_one c)) ≤ most (chain_costs f) x
+    pub calls : (f : ℕ → ℕ) → bound f (calls_of s (tree_one c)) ≤ called_most f (x ∷ [])
 
   pub record GoodAll (xs : List Stmt) (c : Statements) : Type 0 where
     pub means : AreSound (statements s (tree_all c)) xs
     pub fits : AllFit inside c
     pub spelled : AllSpelled c
     pub low : (d : ℕ) → top_all d c ≤ d + body_nesting xs
-    pub calls : (f : ℕ → ℕ) → bound_all f s (tree_all c) ≤ body_most (chain_costs f) xs
+    pub calls : (f : ℕ → ℕ) → bound_all f s (tree_all c) ≤ called_most f xs
 
   pub record GoodArms (m : Line) (xs : List Arm) (c : Arms) : Type 0 where
     pub means : AreSound (arms_on m (map (arm_in s) (tree_arms c))) xs
@@ -45,7 +42,7 @@ module _ (s : Scope) (inside : Bool) where
     pub some : is_some_of xs ≡ true → HasArm c
     pub spelled : ArmsSpelled c
     pub low : (d : ℕ) → top_arms d c ≤ d + greatest (map arm_nesting xs)
-    pub calls : (f : ℕ → ℕ) → bound_arms f s (tree_arms c) ≤ greatest (map (arm_most (chain_costs f)) xs)
+    pub calls : (f : ℕ → ℕ) → bound_arms f s (tree_arms c) ≤ greatest (map (called_in_arm f) xs)
 
   pub record GoodCases (m : Line) (ty : StType) (xs : List CaseArm) (c : CaseArms) : Type 0 where
     pub means : AreSound (case_arms_on m (Some ty) (map (case_arm_in s) (tree_cases c))) xs
@@ -53,37 +50,4 @@ module _ (s : Scope) (inside : Bool) where
     pub some : is_some_of xs ≡ true → HasCase c
     pub spelled : CasesSpelled c
     pub low : (d : ℕ) → top_cases d c ≤ d + greatest (map case_nesting xs)
-    pub calls : (f : ℕ → ℕ) → bound_cases f s (tree_cases c) ≤ greatest (map (case_most (chain_costs f)) xs)
-
--- Lists, with one part more
-
-pub statements_last : (s : Scope) (rs : List RawStmt) (r : RawStmt) (xs : List Stmt) (x : Stmt)
-    → AreSound (statements s rs) xs → statement s r ≡ sound x
-    → AreSound (statements s (rs ++ r ∷ [])) (xs ++ x ∷ [])
-statements_last s rs r xs x h g =
-    map_last (statement s) rs r ∙ ap (λ z. z ++ statement s r ∷ []) h ∙ ap (λ z. map sound xs ++ z ∷ []) g
-    ∙ sym (map_last sound xs x)
-
-arms_read_last : (s : Scope) (m : Line) (rs : List RawArm) (r : RawArm)
-    → arms_on m (map (arm_in s) (rs ++ r ∷ [])) ≡ arms_on m (map (arm_in s) rs) ++ arm_in s r m ∷ []
-arms_read_last s m rs r = ap (arms_on m) (map_last (arm_in s) rs r)
-    ∙ map_last (λ (a : Armed). a m) (map (arm_in s) rs) (arm_in s r)
-
-cases_read_last : (s : Scope) (m : Line) (ty : Option StType) (rs : List RawCaseArm) (r : RawCaseArm)
-    → case_arms_on m ty (map (case_arm_in s) (rs ++ r ∷ []))
-    ≡ case_arms_on m ty (map (case_arm_in s) rs) ++ case_arm_in s r m ty ∷ []
-cases_read_last s m ty rs r = ap (case_arms_on m ty) (map_last (case_arm_in s) rs r)
-    ∙ map_last (λ (a : Labelled). a m ty) (map (case_arm_in s) rs) (case_arm_in s r)
-
-pub arms_sound_last : (s : Scope) (m : Line) (rs : List RawArm) (r : RawArm) (xs : List Arm) (x : Arm)
-    → AreSound (arms_on m (map (arm_in s) rs)) xs → arm_in s r m ≡ sound x
-    → AreSound (arms_on m (map (arm_in s) (rs ++ r ∷ []))) (xs ++ x ∷ [])
-arms_sound_last s m rs r xs x h g = arms_read_last s m rs r ∙ ap (λ z. z ++ arm_in s r m ∷ []) h
-    ∙ ap (λ z. map sound xs ++ z ∷ []) g ∙ sym (map_last sound xs x)
-
-pub cases_sound_last : (s : Scope) (m : Line) (ty : Option StType) (rs : List RawCaseArm) (r : RawCaseArm)
-    (xs : List CaseArm) (x : CaseArm)
-    → AreSound (case_arms_on m ty (map (case_arm_in s) rs)) xs → case_arm_in s r m ty ≡ sound x
-    → AreSound (case_arms_on m ty (map (case_arm_in s) (rs ++ r ∷ []))) (xs ++ x ∷ [])
-cases_sound_last s m ty rs r xs x h g = cases_read_last s m ty rs r ∙ ap (λ z. z ++ case_arm_in s r m ty ∷ []) h
-    ∙ ap (λ z. map sound xs ++ z ∷ []) g ∙ sym (map_last sound xs x)
+    pub calls : (f : ℕ → ℕ) → bound_cases f s (tree_cases c) ≤ greatest (map (called_in_case f) xs)

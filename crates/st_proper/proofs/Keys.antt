@@ -1,107 +1,24 @@
 -- The key of a name in a tree is the one by which the text's names are compared; and what keys register
 -- variables, data blocks and other names have.
-use Rattle.std.proofs.Common.{◌≡◌, ℕ, suc, ◌+◌, ◌-◌, ◌<◌, ◌≤◌, ◌==◌, Bool, true, false, not, ◌&&◌, ◌||◌, cond, List, [], ◌∷◌, ◌++◌, map, length, take, drop, Some, None, refl, sym, ap, ◌∙◌, arith}
+use Rattle.std.proofs.Common.{◌≡◌, ℕ, suc, ◌+◌, ◌-◌, ◌<◌, ◌≤◌, Bool, true, false, not, ◌&&◌, ◌||◌, cond, List, [], ◌∷◌, ◌++◌, map, length, take, drop, Some, None, refl, sym, ap, ◌∙◌, arith}
 use Rattle.std.specs.Prelude.{codes, decimal, find, nat_le, nat_lt}
 use Rattle.std.specs.Char.{to_ascii_lowercase, to_ascii_uppercase}
 use Rattle.std.specs.List.{list_all, list_any}
 use Rattle.std.specs.Str.{bytes_eq, str_to_ascii_lowercase}
-use Rattle.std.proofs.lemmas.Bool.{eqb-false, eqb-true, leb-true, ltb-false, ltb-true}
-use Rattle.std.proofs.lemmas.Str.Ascii.{lowercase-uppercase, lowercase_is}
+use Rattle.std.proofs.lemmas.Bool.{leb-true, ltb-false}
+use Rattle.std.proofs.lemmas.Str.Ascii.{lowercase-uppercase}
 use Rattle.s7_base.specs.Tokens.{is_among, is_same_word}
 use Rattle.s7_base.specs.declared.register.Reg.{Reg}
 use Rattle.st_lexer.proofs.Words.{and_both, not_true}
-use Rattle.st_proper.proofs.Words.{of_same, same_of}
+use Rattle.st_canonical.proofs.SameNames.{of_same, same_of}
 use Rattle.st_rules.specs.Globals.{number_from, number_in}
-use Rattle.st_rules.specs.Names as rules
-use Rattle.st_rules.specs.Names.{is_block_name, is_digit, is_number, is_same, without_zeros}
-use Rattle.st_rules.specs.Scopes.{register_name, register_named}
+use Rattle.st_tree.specs.Naming.{are_digits, is_digit, is_free, is_next, is_numbered, is_register, is_same, is_unit_number, key_of, may_name_local, may_name_unit, names_block, register_names, without_zeros}
+use Rattle.st_rules.specs.Scopes.{register_named}
+use Rattle.st_tree.specs.Words.{register_word}
 use Rattle.st_rules.specs.declared.scope.TheConstants.{REGISTERS}
-use Rattle.st_tree.specs.Naming as tree
-use Rattle.st_tree.specs.Naming.{is_free, is_next, is_numbered, is_register, is_unit_number, may_name_local, may_name_unit, names_block, register_names}
 use Rattle.st_types_laws.proofs.Apart.{same_keys}
+use Rattle.st_types_laws.proofs.Lists.{both_true}
 use Rattle.st_types_laws.proofs.PlainNumbers.{plain_number}
-
--- Tests
-
-same_test : (m n p q : ℕ) → (m ≡ n → p ≡ q) → (p ≡ q → m ≡ n) → (m == n) ≡ (p == q)
-same_test m n p q f g = by (m == n) (p == q) refl refl
-  where
-    by : (a b : Bool) → (m == n) ≡ a → (p == q) ≡ b → a ≡ b
-    by true true e h = refl
-    by true false e h = absurd (eqb-false p q h (f (eqb-true m n e)))
-    by false true e h = absurd (eqb-false m n e (g (eqb-true p q h)))
-    by false false e h = refl
-
-and_false : (a : Bool) → (a && false) ≡ false
-and_false true = refl
-and_false false = refl
-
-grouped : (p q d : Bool) → ((p && (q && true)) && d) ≡ ((p && q) && d)
-grouped true true d = refl
-grouped true false d = refl
-grouped false q d = refl
-
--- Capitals
-
--- what is no small letter
-NoSmall : ℕ → Type 0
-NoSmall u = 97 ≤ u → 122 < u
-
-capital : (c : ℕ) → NoSmall (to_ascii_uppercase c)
-unfolding NoSmall
-capital c = by (nat_lt c 97) (nat_lt c 123) refl refl
-  where
-    by : (a b : Bool) → nat_lt c 97 ≡ a → nat_lt c 123 ≡ b → 97 ≤ cond a c (cond b (c - 32) c)
-        → 122 < cond a c (cond b (c - 32) c)
-    by true b e f h = let less = ltb-true c 97 e in omega (arith, less, h)
-    by false true e f h = let less = ltb-true c 123 f in omega (arith, less, h)
-    by false false e f h = let more = ltb-false c 123 f in omega (arith, more)
-
-letter_of : (u k : ℕ) → 65 ≤ k → k ≤ 90 → NoSmall u → to_ascii_lowercase u ≡ k + 32 → u ≡ k
-unfolding NoSmall
-letter_of u k low high none h = by (nat_lt u 65) (nat_lt 90 u) refl refl
-  where
-    by : (a b : Bool) → nat_lt u 65 ≡ a → nat_lt 90 u ≡ b → u ≡ k
-    by true b e f =
-        let less = ltb-true u 65 e in
-        let same = (lowercase_is u).1 less in
-        omega (arith, less, same, h, low)
-    by false true e f =
-        let more = ltb-true 90 u f in
-        let same = (lowercase_is u).2 more in
-        let at : u ≡ k + 32 = sym same ∙ h in
-        let above : 122 < u = none (omega (arith, at, low)) in
-        omega (arith, above, at, high)
-    by false false e f =
-        let more = ltb-false u 65 e in
-        let less = ltb-false 90 u f in
-        let same = (lowercase_is u).0 (more, less) in
-        omega (arith, same, h)
-
-letter_test : (c k : ℕ) → 65 ≤ k → k ≤ 90 → to_ascii_lowercase k ≡ k + 32
-    → (to_ascii_lowercase (to_ascii_uppercase c) == k + 32) ≡ (to_ascii_uppercase c == k)
-letter_test c k low high small =
-    same_test (to_ascii_lowercase (to_ascii_uppercase c)) (k + 32) (to_ascii_uppercase c) k
-    (letter_of (to_ascii_uppercase c) k low high (capital c)) (λ e. ap to_ascii_lowercase e ∙ small)
-
--- a name in capitals names a data block by both rules
-same_blocks : (name : List ℕ) → names_block (map to_ascii_uppercase name) ≡ is_block_name (map to_ascii_uppercase name)
-same_blocks [] = refl
-same_blocks (x ∷ []) = and_false (is_same_word (to_ascii_uppercase x ∷ []) (codes "DB"))
-same_blocks (x ∷ y ∷ more) =
-    let digits = is_number (map to_ascii_uppercase more) in
-    ap (λ t. (t && ((to_ascii_lowercase (to_ascii_uppercase y) == 98) && true)) && digits)
-    (letter_test x 68 (omega arith) (omega arith) refl)
-    ∙ ap (λ t. ((to_ascii_uppercase x == 68) && (t && true)) && digits)
-    (letter_test y 66 (omega arith) (omega arith) refl)
-    ∙ grouped (to_ascii_uppercase x == 68) (to_ascii_uppercase y == 66) digits
-
--- a key is the same by both rules
-pub same_key : (name : List ℕ) → tree.key_of name ≡ rules.key_of name
-unfolding tree.key_of rules.key_of
-same_key name =
-    let capitals = map to_ascii_uppercase name in
-    ap (λ t. cond t (68 ∷ 66 ∷ without_zeros (drop 2 capitals)) capitals) (same_blocks name)
 
 -- Names of data blocks
 
@@ -144,42 +61,38 @@ size_upper : (name : List ℕ) → length (map to_ascii_uppercase name) ≡ leng
 size_upper [] = refl
 size_upper (x ∷ name) = ap suc (size_upper name)
 
-both_hold : (a b : Bool) → a ≡ true → b ≡ true → (a && b) ≡ true
-both_hold true b h g = g
-both_hold false b h g = absurd cc
-
 block_back : (name : List ℕ) → names_block (map to_ascii_uppercase name) ≡ true → names_block name ≡ true
 block_back name h =
     let capitals = map to_ascii_uppercase name in
-    let parts = and_both (is_same_word (take 2 capitals) (codes "DB")) (tree.are_digits (drop 2 capitals)) h in
+    let parts = and_both (is_same_word (take 2 capitals) (codes "DB")) (are_digits (drop 2 capitals)) h in
     let rest = map to_ascii_uppercase (drop 2 name) in
-    let digits : tree.are_digits rest ≡ true = ap tree.are_digits (sym (rest_upper name)) ∙ parts.1 in
+    let digits : are_digits rest ≡ true = ap are_digits (sym (rest_upper name)) ∙ parts.1 in
     let more = and_both (nat_lt 0 (length rest)) (list_all is_digit rest) digits in
     let letters : is_same_word (take 2 name) (codes "DB") ≡ true =
     of_same (take 2 name) (codes "DB")
     (sym (lower_upper (take 2 name)) ∙ ap str_to_ascii_lowercase (sym (two_upper name))
     ∙ same_of (take 2 capitals) (codes "DB") parts.0) in
-    both_hold (is_same_word (take 2 name) (codes "DB")) (tree.are_digits (drop 2 name)) letters
-    (both_hold (nat_lt 0 (length (drop 2 name))) (list_all is_digit (drop 2 name))
+    both_true (is_same_word (take 2 name) (codes "DB")) (are_digits (drop 2 name)) letters
+    (both_true (nat_lt 0 (length (drop 2 name))) (list_all is_digit (drop 2 name))
     (ap (nat_lt 0) (sym (size_upper (drop 2 name))) ∙ more.0) (digits_back (drop 2 name) more.1))
 
-not_block : (name : List ℕ) → names_block name ≡ false → is_block_name (map to_ascii_uppercase name) ≡ false
-not_block name h = by (is_block_name (map to_ascii_uppercase name)) refl
+not_block : (name : List ℕ) → names_block name ≡ false → names_block (map to_ascii_uppercase name) ≡ false
+not_block name h = by (names_block (map to_ascii_uppercase name)) refl
   where
-    by : (t : Bool) → is_block_name (map to_ascii_uppercase name) ≡ t → t ≡ false
+    by : (t : Bool) → names_block (map to_ascii_uppercase name) ≡ t → t ≡ false
     by false e = refl
-    by true e = let back = block_back name (same_blocks name ∙ e) in absurd cc
+    by true e = let back = block_back name e in absurd cc
 
 -- the key of another name is its capitals
-key_is : (name : List ℕ) → names_block name ≡ false → rules.key_of name ≡ map to_ascii_uppercase name
-unfolding rules.key_of
+key_is : (name : List ℕ) → names_block name ≡ false → key_of name ≡ map to_ascii_uppercase name
+unfolding key_of
 key_is name h =
     let capitals = map to_ascii_uppercase name in
     ap (λ t. cond t (68 ∷ 66 ∷ without_zeros (drop 2 capitals)) capitals) (not_block name h)
 
 -- Registers
 
-registers_are : map register_name REGISTERS ≡ register_names
+registers_are : map register_word REGISTERS ≡ register_names
 registers_are = refl
 
 is_word : (name w : List ℕ) → is_same w (map to_ascii_uppercase name) ≡ true → is_same_word name w ≡ true
@@ -187,39 +100,39 @@ is_word name w h =
     of_same name w (sym (lower_upper name)
     ∙ ap str_to_ascii_lowercase (sym (same_keys w (map to_ascii_uppercase name) h)))
 
-not_found : (name : List ℕ) (rs : List Reg) → is_among (map register_name rs) name ≡ false
-    → find (λ r. is_same (register_name r) (map to_ascii_uppercase name)) rs ≡ None
+not_found : (name : List ℕ) (rs : List Reg) → is_among (map register_word rs) name ≡ false
+    → find (λ r. is_same (register_word r) (map to_ascii_uppercase name)) rs ≡ None
 not_found name [] h = refl
 not_found name (r ∷ rs) h =
-    by (is_same (register_name r) (map to_ascii_uppercase name)) refl (is_same_word name (register_name r)) refl
+    by (is_same (register_word r) (map to_ascii_uppercase name)) refl (is_same_word name (register_word r)) refl
     (not_found name rs) h
   where
-    by : (t : Bool) → is_same (register_name r) (map to_ascii_uppercase name) ≡ t → (u : Bool)
-        → is_same_word name (register_name r) ≡ u
-        → (is_among (map register_name rs) name ≡ false
-        → find (λ r. is_same (register_name r) (map to_ascii_uppercase name)) rs ≡ None)
-        → (u || is_among (map register_name rs) name) ≡ false
-        → cond t (Some r) (find (λ r. is_same (register_name r) (map to_ascii_uppercase name)) rs) ≡ None
+    by : (t : Bool) → is_same (register_word r) (map to_ascii_uppercase name) ≡ t → (u : Bool)
+        → is_same_word name (register_word r) ≡ u
+        → (is_among (map register_word rs) name ≡ false
+        → find (λ r. is_same (register_word r) (map to_ascii_uppercase name)) rs ≡ None)
+        → (u || is_among (map register_word rs) name) ≡ false
+        → cond t (Some r) (find (λ r. is_same (register_word r) (map to_ascii_uppercase name)) rs) ≡ None
     by t e true f more g = absurd cc
-    by true e false f more g = let is = is_word name (register_name r) e in absurd cc
+    by true e false f more g = let is = is_word name (register_word r) e in absurd cc
     by false e false f more g = more g
 
 no_register : (name : List ℕ) → names_block name ≡ false → is_register name ≡ false
-    → register_named (rules.key_of name) ≡ None
+    → register_named (key_of name) ≡ None
 unfolding register_named
 no_register name h g =
-    ap (λ k. find (λ r. is_same (register_name r) k) REGISTERS) (key_is name h)
+    ap (λ k. find (λ r. is_same (register_word r) k) REGISTERS) (key_is name h)
     ∙ not_found name REGISTERS (ap (λ ws. is_among ws name) registers_are ∙ g)
 
 -- What a name is that names no register and no data block
 
 pub record IsOther (name : List ℕ) : Type 0 where
-  pub block : is_block_name (rules.key_of name) ≡ false
-  pub register : register_named (rules.key_of name) ≡ None
+  pub block : names_block (key_of name) ≡ false
+  pub register : register_named (key_of name) ≡ None
 
 is_other : (name : List ℕ) → names_block name ≡ false → is_register name ≡ false → IsOther name
 is_other name h g = record {
-  block = ap is_block_name (key_is name h)
+  block = ap names_block (key_is name h)
       ∙ not_block name h;
   register = no_register name h g;
 }
@@ -250,7 +163,7 @@ next_letters name h =
     ap (λ l. bytes_eq l (codes "db")) (lower_two name ∙ ap (take 2) (same_of name (codes "NEXT") h))
 
 no_letters : (name : List ℕ) → is_same_word (take 2 name) (codes "DB") ≡ false → names_block name ≡ false
-no_letters name h = ap (λ t. t && tree.are_digits (drop 2 name)) h
+no_letters name h = ap (λ t. t && are_digits (drop 2 name)) h
 
 -- a name that begins with other letters than each of some words is none of them
 begins_other : (ws : List (List ℕ)) (name letters : List ℕ) → is_same_word (take 2 name) letters ≡ true
@@ -274,7 +187,7 @@ numbered : (name letters : List ℕ) → is_numbered letters name ≡ true
     → bytes_eq (str_to_ascii_lowercase letters) (codes "db") ≡ false
     → list_any (λ w. is_same_word letters (take 2 w)) register_names ≡ false → IsOther name
 numbered name letters h g r =
-    let same = (and_both (is_same_word (take 2 name) letters) (tree.are_digits (drop 2 name)) h).0 in
+    let same = (and_both (is_same_word (take 2 name) letters) (are_digits (drop 2 name)) h).0 in
     is_other name (no_letters name (ap (λ l. bytes_eq l (codes "db")) (same_of (take 2 name) letters same) ∙ g))
     (begins_other register_names name letters same r)
 
@@ -306,36 +219,36 @@ unit_name name h = by (is_unit_number name) refl h
     by false e g = free_name name g
 
 -- the key of a data block is that of no other name, and of no data block of another number
-pub block_key : (n : ℕ) → 1 ≤ n → n ≤ 65535 → is_block_name (rules.key_of (codes "DB" ++ decimal n)) ≡ true
-block_key n some small = by (is_block_name (rules.key_of (codes "DB" ++ decimal n))) refl (plain_number n some small)
+pub block_key : (n : ℕ) → 1 ≤ n → n ≤ 65535 → names_block (key_of (codes "DB" ++ decimal n)) ≡ true
+block_key n some small = by (names_block (key_of (codes "DB" ++ decimal n))) refl (plain_number n some small)
   where
-    by : (t : Bool) → is_block_name (rules.key_of (codes "DB" ++ decimal n)) ≡ t
-        → cond t (number_from 0 (drop 2 (rules.key_of (codes "DB" ++ decimal n)))) 0 ≡ n → t ≡ true
+    by : (t : Bool) → names_block (key_of (codes "DB" ++ decimal n)) ≡ t
+        → cond t (number_from 0 (drop 2 (key_of (codes "DB" ++ decimal n)))) 0 ≡ n → t ≡ true
     by true e h = refl
     by false e h = absurd (omega (arith, h, some))
 
-pub other_key : (key : List ℕ) (name : List ℕ) → is_block_name key ≡ true → IsOther name
-    → is_same key (rules.key_of name) ≡ false
-other_key key name h o = by (is_same key (rules.key_of name)) refl
+pub other_key : (key : List ℕ) (name : List ℕ) → names_block key ≡ true → IsOther name
+    → is_same key (key_of name) ≡ false
+other_key key name h o = by (is_same key (key_of name)) refl
   where
-    by : (t : Bool) → is_same key (rules.key_of name) ≡ t → t ≡ false
+    by : (t : Bool) → is_same key (key_of name) ≡ t → t ≡ false
     by false e = refl
     by true e =
-        let is : is_block_name (rules.key_of name) ≡ true = ap is_block_name (sym (same_keys key (rules.key_of name) e))
+        let is : names_block (key_of name) ≡ true = ap names_block (sym (same_keys key (key_of name) e))
         ∙ h in
         let no = o.block in
         absurd cc
 
 pub other_number : (n m : ℕ) → 1 ≤ n → n < m → m ≤ 65535
-    → is_same (rules.key_of (codes "DB" ++ decimal n)) (rules.key_of (codes "DB" ++ decimal m)) ≡ false
+    → is_same (key_of (codes "DB" ++ decimal n)) (key_of (codes "DB" ++ decimal m)) ≡ false
 other_number n m some less small = by
-    (is_same (rules.key_of (codes "DB" ++ decimal n)) (rules.key_of (codes "DB" ++ decimal m))) refl
+    (is_same (key_of (codes "DB" ++ decimal n)) (key_of (codes "DB" ++ decimal m))) refl
   where
-    by : (t : Bool) → is_same (rules.key_of (codes "DB" ++ decimal n)) (rules.key_of (codes "DB" ++ decimal m)) ≡ t
+    by : (t : Bool) → is_same (key_of (codes "DB" ++ decimal n)) (key_of (codes "DB" ++ decimal m)) ≡ t
         → t ≡ false
     by false e = refl
     by true e =
-        let same = same_keys (rules.key_of (codes "DB" ++ decimal n)) (rules.key_of (codes "DB" ++ decimal m)) e in
+        let same = same_keys (key_of (codes "DB" ++ decimal n)) (key_of (codes "DB" ++ decimal m)) e in
         let equal : n ≡ m =
         sym (plain_number n some (omega (arith, less, small))) ∙ ap number_in same
         ∙ plain_number m (omega (arith, some, less)) small in

@@ -1,96 +1,38 @@
 -- What names mean in the text of a proper tree: each position is found under its key.
 use Rattle.std.proofs.Common.{◌≡◌, ℕ, zero, suc, ◌+◌, ◌<◌, ◌≤◌, Bool, true, false, not, ◌||◌, cond, List, [], ◌∷◌, ◌++◌, map, Some, None, refl, sym, ap, subst, ◌∙◌, arith}
-use Rattle.std.specs.Prelude.{All, codes, decimal, slice_get}
-use Rattle.std.specs.List.{fold, list_any}
-use Rattle.std.proofs.lemmas.List.{append_assoc, map-append}
-use Rattle.std.proofs.lemmas.List.Elements.{All-head, All-tail}
+use Rattle.std.specs.Prelude.{codes, decimal, slice_get}
+use Rattle.std.specs.List.{list_any}
+use Rattle.std.proofs.lemmas.List.{append_assoc}
 use Rattle.memory_areas.specs.Areas.{Ascend, numbers_of}
 use Rattle.memory_areas.specs.declared.data_block.DataBlock.{DataBlock}
 use Rattle.st_canonical.specs.Spelled.{is_name}
 use Rattle.st_lexer.proofs.Words.{and_both}
-use Rattle.st_proper.proofs.Keyed.{AreDistinct, IsOther as IsOtherThan, found_behind}
-use Rattle.st_proper.proofs.Keys.{IsOther, block_key, free_name, local_name, other_key, other_number, same_key, unit_name}
-use Rattle.st_proper.proofs.Words.{spelled_name}
-use Rattle.st_rules.specs.Declarations.{formals_of, keys_of as raw_keys, meaning_of_unit, types_of, with_type}
-use Rattle.st_rules.specs.Names.{Table, is_block_name, is_same, key_of, look_up, with_entry}
+use Rattle.st_types_laws.proofs.Keyed.{AreDistinct, distinct_of, found_behind}
+use Rattle.st_proper.proofs.Keys.{IsOther, block_key, free_name, local_name, other_key, other_number, unit_name}
+use Rattle.st_canonical.proofs.SameNames.{spelled_name}
+use Rattle.st_rules.specs.Declarations.{meaning_of_unit}
+use Rattle.st_rules.specs.Names.{Table, look_up}
+use Rattle.st_tree.specs.Naming.{is_same, key_of, names_block}
 use Rattle.st_rules.specs.Scopes.{as_register, meaning_in, or_else, register_named}
-use Rattle.st_rules.specs.declared.scope.Formals.{Formals}
 use Rattle.st_rules.specs.declared.scope.Meaning.{Meaning}
 use Rattle.st_rules.specs.declared.scope.Meaning.TheVariants as meaning
 use Rattle.st_rules.specs.declared.scope.Scope.{Scope}
-use Rattle.st_tree.proofs.Induction.{Each}
 use Rattle.st_tree.specs.Naming as tree
-use Rattle.st_tree.specs.Proper.{IsDataBlock, IsFormal, IsGlobal, IsLocal, IsProperUnit, Proper, outer_keys}
+use Rattle.st_tree.specs.Proper.{IsDataBlock, IsFormal, IsGlobal, IsLocal, IsProperUnit, Proper}
 use Rattle.st_tree.specs.Spelling.{names_in}
 use Rattle.st_tree.specs.Typing.{Names}
 use Rattle.st_tree.specs.WellTyped.{Sight, head_of, is_seen, keys_of}
-use Rattle.st_tree.specs.declared.expr.StType.{StType}
 use Rattle.st_tree.specs.declared.program.Local.{Local}
 use Rattle.st_tree.specs.declared.program.Located.{Located}
 use Rattle.st_tree.specs.declared.program.Pou.{Pou}
 use Rattle.st_tree.specs.declared.program.StProgram.{StProgram}
-use Rattle.st_tree.specs.declared.raw.RawLocal.{RawLocal}
-use Rattle.st_tree.specs.declared.raw.RawPou.{RawPou}
 use Rattle.st_types_laws.proofs.Apart.{AreApart, is_new}
-use Rattle.st_types_laws.proofs.Declared.{keys_of_locals, types_of_locals}
-use Rattle.st_types_laws.proofs.DeclaredNames.{block_entries, formal_entries, inner_entries, local_entries, located_entries, outer_entries, unit_entries}
-use Rattle.st_types_laws.proofs.Redeclared.{AreLocalsAt, AreUnitsAt}
-use Rattle.st_types_laws.proofs.RunnableUnits.{mapped_at}
-
--- Lists
-
-pub each_of : {X : Type 0} (P : X → Type 0) (xs : List X) → All P xs → Each P xs
-each_of P [] h = tt
-each_of P (x ∷ xs) h = (All-head P x xs h, each_of P xs (All-tail P x xs h))
-
-pub each_at : {X : Type 0} (P : X → Type 0) (xs : List X) (n : ℕ) (x : X) → Each P xs → slice_get xs n ≡ Some x → P x
-each_at P [] n x h q = absurd cc
-each_at P (y ∷ xs) zero x h q = let same : y ≡ x = cc in subst P same h.0
-each_at P (y ∷ xs) (suc n) x h q = each_at P xs n x h.1 q
+use Rattle.st_types_laws.proofs.DeclaredTree.{formals_in}
+use Rattle.st_types_laws.proofs.EntryKeys.{inner_keys, keys_in, named_keys}
+use Rattle.st_types_laws.proofs.DeclaredNames.{block_entries, entries, formal_entries, inner_entries, local_entries, located_entries, outer_entries, unit_entries}
+use Rattle.st_types_laws.proofs.Lists.{Each, each_at, each_map, each_of, mapped_at}
 
 -- Entries of a table
-
--- each of some things under its key, by its position
-abbrev pub entries : {X : Type 0} → (X → List ℕ) → (ℕ → X → Meaning) → ℕ → List X → Table Meaning
-entries key mean i [] = []
-entries key mean i (x ∷ xs) = (key x, mean i x) ∷ entries key mean (i + 1) xs
-
-located_are : (i : ℕ) (ls : List Located)
-    → located_entries i ls ≡ entries (λ (l : Located). key_of l.name) (λ i (l : Located). meaning.Global i l.ty) i ls
-located_are i [] = refl
-located_are i (l ∷ ls) = ap (λ es. (key_of l.name, meaning.Global i l.ty) ∷ es) (located_are (i + 1) ls)
-
-formals_are : (i : ℕ) (ls : List Local)
-    → formal_entries i ls ≡ entries (λ (l : Local). key_of l.name) (λ i (l : Local). meaning.Formal i l.ty) i ls
-formals_are i [] = refl
-formals_are i (l ∷ ls) = ap (λ es. (key_of l.name, meaning.Formal i l.ty) ∷ es) (formals_are (i + 1) ls)
-
-locals_are : (i : ℕ) (ls : List Local)
-    → local_entries i ls ≡ entries (λ (l : Local). key_of l.name) (λ i (l : Local). meaning.Local i l.ty) i ls
-locals_are i [] = refl
-locals_are i (l ∷ ls) = ap (λ es. (key_of l.name, meaning.Local i l.ty) ∷ es) (locals_are (i + 1) ls)
-
-units_are : (i : ℕ) (ps : List Pou)
-    → unit_entries i ps ≡ entries (λ (p : Pou). key_of p.name) (λ i (p : Pou). meaning_of_unit i p.program) i ps
-units_are i [] = refl
-units_are i (p ∷ ps) = ap (λ es. (key_of p.name, meaning_of_unit i p.program) ∷ es) (units_are (i + 1) ps)
-
--- the keys of a table
-abbrev keys_in : Table Meaning → List (List ℕ)
-keys_in es = map (λ (e : List ℕ × Meaning). e.0) es
-
-keys_of_entries : {X : Type 0} (key : X → List ℕ) (mean : ℕ → X → Meaning) (i : ℕ) (xs : List X)
-    → keys_in (entries key mean i xs) ≡ map key xs
-keys_of_entries key mean i [] = refl
-keys_of_entries key mean i (x ∷ xs) = ap (λ ks. key x ∷ ks) (keys_of_entries key mean (i + 1) xs)
-
--- keys are the same by both rules
-same_keys_of : {X : Type 0} (name : X → List ℕ) (xs : List X)
-    → map (λ x. tree.key_of (name x)) xs ≡ map (λ x. key_of (name x)) xs
-same_keys_of name [] = refl
-same_keys_of name (x ∷ xs) =
-    ap (λ k. k ∷ map (λ y. tree.key_of (name y)) xs) (same_key (name x))
-    ∙ ap (λ ks. key_of (name x) ∷ ks) (same_keys_of name xs)
 
 missing : (k : List ℕ) (es : Table Meaning) → tree.is_new k (keys_in es) ≡ true → look_up k es ≡ None
 missing k [] h = refl
@@ -156,12 +98,10 @@ module _ {X : Type 0} (key : X → List ℕ) (mean : ℕ → X → Meaning) wher
             ∙ ap (λ j. (key y, mean i y) ∷ (r.before ++ (key x, mean j x) ∷ r.after)) next;
       }
 
-  held_at : (n : ℕ) (xs : List X) (x : X) (es : Table Meaning) → es ≡ entries key mean 0 xs → slice_get xs n ≡ Some x
-      → Holds (key x) (mean n x) es
-  held_at n xs x es e h =
+  held_at : (n : ℕ) (xs : List X) (x : X) → slice_get xs n ≡ Some x → Holds (key x) (mean n x) (entries key mean 0 xs)
+  held_at n xs x h =
       let start : 0 + n ≡ n = omega arith in
-      subst (Holds (key x) (mean n x)) (sym e)
-      (subst (λ j. Holds (key x) (mean j x) (entries key mean 0 xs)) start (held 0 n xs x h))
+      subst (λ j. Holds (key x) (mean j x) (entries key mean 0 xs)) start (held 0 n xs x h)
 
 -- Data blocks
 
@@ -171,9 +111,9 @@ key_of_block n = key_of (codes "DB" ++ decimal n)
 -- no data block has one of these keys
 abbrev AreOther : Table Meaning → Type 0
 AreOther [] = Unit {0}
-AreOther (e ∷ es) = ((key : List ℕ) → is_block_name key ≡ true → is_same key e.0 ≡ false) × AreOther es
+AreOther (e ∷ es) = ((key : List ℕ) → names_block key ≡ true → is_same key e.0 ≡ false) × AreOther es
 
-no_other : (k : List ℕ) (es : Table Meaning) → is_block_name k ≡ true → AreOther es → look_up k es ≡ None
+no_other : (k : List ℕ) (es : Table Meaning) → names_block k ≡ true → AreOther es → look_up k es ≡ None
 no_other k [] h o = refl
 no_other k (e ∷ es) h o = ap (λ t. cond t (Some e.1) (look_up k es)) (o.0 k h) ∙ no_other k es h o.1
 
@@ -210,10 +150,6 @@ blocks_apart least (b ∷ bs) rest some a s o p =
 
 -- The names of a tree
 
-each_map : {X : Type 0} (P Q : X → Type 0) (xs : List X) → ((x : X) → P x → Q x) → Each P xs → Each Q xs
-each_map P Q [] f h = tt
-each_map P Q (x ∷ xs) f h = (f x h.0, each_map P Q xs f h.1)
-
 module _ (t : StProgram) (p : Proper t) where
   abbrev IsUnit : Pou → Type 0
   IsUnit = IsProperUnit t.globals (map head_of t.pous)
@@ -227,27 +163,13 @@ module _ (t : StProgram) (p : Proper t) where
   abbrev named_entries : Table Meaning
   named_entries = located_entries 0 t.globals ++ unit_entries 0 t.pous
 
-  named_keys : keys_in named_entries ≡ outer_keys t
-  named_keys =
-      map-append (λ (e : List ℕ × Meaning). e.0) (located_entries 0 t.globals) (unit_entries 0 t.pous)
-      ∙ ap (λ es. keys_in es ++ keys_in (unit_entries 0 t.pous)) (located_are 0 t.globals)
-      ∙ ap (λ ks. ks ++ keys_in (unit_entries 0 t.pous)) (keys_of_entries _ _ 0 t.globals)
-      ∙ ap (λ es. map (λ (l : Located). key_of l.name) t.globals ++ keys_in es) (units_are 0 t.pous)
-      ∙ ap (λ ks. map (λ (l : Located). key_of l.name) t.globals ++ ks) (keys_of_entries _ _ 0 t.pous)
-      ∙ ap (λ ks. ks ++ map (λ (u : Pou). key_of u.name) t.pous)
-      (sym (same_keys_of (λ (l : Located). l.name) t.globals))
-      ∙ ap (λ ks. map (λ (l : Located). tree.key_of l.name) t.globals ++ ks)
-      (sym (same_keys_of (λ (u : Pou). u.name) t.pous))
-
   are_other : AreOther named_entries
   are_other =
       others_joined (located_entries 0 t.globals) (unit_entries 0 t.pous)
-      (subst AreOther (sym (located_are 0 t.globals))
       (others_of (λ (l : Located). l.name) _ 0 t.globals
-      (each_map IsGlobal (λ (l : Located). IsOther l.name) t.globals (λ l g. free_name l.name g.free) globals_proper)))
-      (subst AreOther (sym (units_are 0 t.pous))
+      (each_map IsGlobal (λ (l : Located). IsOther l.name) t.globals (λ l g. free_name l.name g.free) globals_proper))
       (others_of (λ (u : Pou). u.name) _ 0 t.pous
-      (each_map IsUnit (λ (u : Pou). IsOther u.name) t.pous (λ u g. unit_name u.name g.free) units_proper)))
+      (each_map IsUnit (λ (u : Pou). IsOther u.name) t.pous (λ u g. unit_name u.name g.free) units_proper))
 
   -- nothing is declared twice outside the units
   pub outer_apart : AreApart (outer_entries t)
@@ -255,77 +177,16 @@ module _ (t : StProgram) (p : Proper t) where
       blocks_apart 1 t.dbs named_entries (omega arith) p.blocks.ascend
       (each_map IsDataBlock (λ (b : DataBlock). b.number ≤ 65535) t.dbs (λ b d. d.number)
       (each_of IsDataBlock t.dbs p.bytes))
-      are_other (apart_of named_entries (ap tree.are_apart named_keys ∙ p.apart))
+      are_other (apart_of named_entries (ap tree.are_apart (named_keys t) ∙ p.apart))
 
 -- The names in a unit
-
-inner_keys : (u : Pou) → keys_in (inner_entries u) ≡ keys_of u.formals ++ keys_of u.locals
-inner_keys u =
-    map-append (λ (e : List ℕ × Meaning). e.0) (formal_entries 0 u.formals) (local_entries 0 u.locals)
-    ∙ ap (λ es. keys_in es ++ keys_in (local_entries 0 u.locals)) (formals_are 0 u.formals)
-    ∙ ap (λ ks. ks ++ keys_in (local_entries 0 u.locals)) (keys_of_entries _ _ 0 u.formals)
-    ∙ ap (λ es. map (λ (l : Local). key_of l.name) u.formals ++ keys_in es) (locals_are 0 u.locals)
-    ∙ ap (λ ks. map (λ (l : Local). key_of l.name) u.formals ++ ks) (keys_of_entries _ _ 0 u.locals)
-    ∙ ap (λ ks. ks ++ map (λ (l : Local). key_of l.name) u.locals)
-    (sym (same_keys_of (λ (l : Local). l.name) u.formals))
-    ∙ ap (λ ks. keys_of u.formals ++ ks) (sym (same_keys_of (λ (l : Local). l.name) u.locals))
 
 pub inner_apart : (u : Pou) → tree.are_apart (keys_of u.formals ++ keys_of u.locals) ≡ true → AreApart (inner_entries u)
 inner_apart u h = apart_of (inner_entries u) (ap tree.are_apart (inner_keys u) ∙ h)
 
 -- a unit's formals have keys of their own
-others_than : (k : List ℕ) (i : ℕ) (ls : List Local) (more : Table Meaning)
-    → look_up k (formal_entries i ls ++ more) ≡ None → IsOtherThan k ls
-others_than k i [] more h = tt
-others_than k i (l ∷ ls) more h = by (is_same k (key_of l.name)) refl (others_than k (i + 1) ls more) h
-  where
-    by : (t : Bool) → is_same k (key_of l.name) ≡ t
-        → (look_up k (formal_entries (i + 1) ls ++ more) ≡ None → IsOtherThan k ls)
-        → cond t (Some (meaning.Formal i l.ty)) (look_up k (formal_entries (i + 1) ls ++ more)) ≡ None
-        → IsOtherThan k (l ∷ ls)
-    by true e next q = absurd cc
-    by false e next q = (e, next q)
-
-distinct_of : (i : ℕ) (ls : List Local) (more : Table Meaning) → AreApart (formal_entries i ls ++ more) → AreDistinct ls
-distinct_of i [] more a = tt
-distinct_of i (l ∷ ls) more a = (others_than (key_of l.name) (i + 1) ls more a.0, distinct_of (i + 1) ls more a.1)
-
 pub are_distinct : (u : Pou) → tree.are_apart (keys_of u.formals ++ keys_of u.locals) ≡ true → AreDistinct u.formals
 are_distinct u h = distinct_of 0 u.formals (local_entries 0 u.locals) (inner_apart u h)
-
--- Formals as calls see them
-
--- the formals of a unit of the tree
-abbrev pub formals_in : Pou → Formals
-formals_in u = record { keys = keys_of_locals u.formals; types = types_of_locals u.formals }
-
-keys_same : (ls : List Local) (rs : List RawLocal) → AreLocalsAt ls rs → raw_keys rs ≡ keys_of_locals ls
-keys_same [] [] a = refl
-keys_same [] (r ∷ rs) a = absurd a
-keys_same (l ∷ ls) [] a = absurd a
-keys_same (l ∷ ls) (r ∷ rs) a = ap (λ k. key_of k ∷ raw_keys rs) a.0.named
-    ∙ ap (λ ks. key_of l.name ∷ ks) (keys_same ls rs a.1)
-
-types_same : (ls : List Local) (rs : List RawLocal) → AreLocalsAt ls rs → (types : Table StType)
-    → fold with_type types rs ≡ fold (λ types (l : Local). with_entry (key_of l.name) l.ty types) types ls
-types_same [] [] a types = refl
-types_same [] (r ∷ rs) a types = absurd a
-types_same (l ∷ ls) [] a types = absurd a
-types_same (l ∷ ls) (r ∷ rs) a types =
-    let one : with_type types r ≡ with_entry (key_of l.name) l.ty types =
-    ap (λ k. with_entry (key_of k) r.ty types) a.0.named ∙ ap (λ ty. with_entry (key_of l.name) ty types) a.0.typed in
-    ap (λ more. fold with_type more rs) one ∙ types_same ls rs a.1 (with_entry (key_of l.name) l.ty types)
-
-pub formals_same : (ps : List Pou) (us : List RawPou) → AreUnitsAt ps us → map formals_of us ≡ map formals_in ps
-formals_same [] [] a = refl
-formals_same [] (u ∷ us) a = absurd a
-formals_same (p ∷ ps) [] a = absurd a
-formals_same (p ∷ ps) (u ∷ us) a =
-    let one : formals_of u ≡ formals_in p =
-    ap (λ keys. record { keys = keys; types = types_of u.formals }) (keys_same p.formals u.formals a.0.formals)
-    ∙ ap (λ types. record { keys = keys_of_locals p.formals; types = types })
-    (types_same p.formals u.formals a.0.formals []) in
-    ap (λ f. f ∷ map formals_of us) one ∙ ap (λ fs. formals_in p ∷ fs) (formals_same ps us a.1)
 
 -- What a unit sees
 
@@ -381,8 +242,7 @@ sees t u s p h inner outer formals = record {
             (ap (look_up (key_of l.name)) inner
             ∙ found (key_of l.name) (meaning.Formal i l.ty) (inner_entries u)
             (in_first _ _ (formal_entries 0 u.formals) (local_entries 0 u.locals)
-            (held_at (λ (l : Local). key_of l.name) (λ i (l : Local). meaning.Formal i l.ty) i u.formals l _
-            (formals_are 0 u.formals) q))
+            (held_at (λ (l : Local). key_of l.name) (λ i (l : Local). meaning.Formal i l.ty) i u.formals l q))
             (inner_apart u h.apart)),
         spelled_name l.name f.name,
       );
@@ -392,8 +252,7 @@ sees t u s p h inner outer formals = record {
             (ap (look_up (key_of l.name)) inner
             ∙ found (key_of l.name) (meaning.Local i l.ty) (inner_entries u)
             (in_second _ _ (formal_entries 0 u.formals) (local_entries 0 u.locals)
-            (held_at (λ (l : Local). key_of l.name) (λ i (l : Local). meaning.Local i l.ty) i u.locals l _
-            (locals_are 0 u.locals) q))
+            (held_at (λ (l : Local). key_of l.name) (λ i (l : Local). meaning.Local i l.ty) i u.locals l q))
             (inner_apart u h.apart)),
         spelled_name l.name f.name,
       );
@@ -404,8 +263,7 @@ sees t u s p h inner outer formals = record {
             ∙ found (key_of g.name) (meaning.Global i g.ty) (outer_entries t)
             (in_second _ _ (block_entries t.dbs) (located_entries 0 t.globals ++ unit_entries 0 t.pous)
             (in_first _ _ (located_entries 0 t.globals) (unit_entries 0 t.pous)
-            (held_at (λ (l : Located). key_of l.name) (λ i (l : Located). meaning.Global i l.ty) i t.globals g _
-            (located_are 0 t.globals) q)))
+            (held_at (λ (l : Located). key_of l.name) (λ i (l : Located). meaning.Global i l.ty) i t.globals g q)))
             (outer_apart t p)),
         spelled_name g.name f.name,
       );
@@ -419,8 +277,7 @@ sees t u s p h inner outer formals = record {
               (in_second _ _ (block_entries t.dbs) (located_entries 0 t.globals ++ unit_entries 0 t.pous)
               (in_second _ _ (located_entries 0 t.globals) (unit_entries 0 t.pous)
               (subst (λ (b : Bool). Holds (key_of v.name) (meaning_of_unit i b) (unit_entries 0 t.pous)) no
-              (held_at (λ (u : Pou). key_of u.name) (λ i (u : Pou). meaning_of_unit i u.program) i t.pous v _
-              (units_are 0 t.pous) q))))
+              (held_at (λ (u : Pou). key_of u.name) (λ i (u : Pou). meaning_of_unit i u.program) i t.pous v q))))
               (outer_apart t p)),
           spelled_name v.name f.name,
         );
@@ -435,5 +292,4 @@ sees t u s p h inner outer formals = record {
     hidden name seen =
         ap (look_up (key_of name)) inner
         ∙ missing (key_of name) (inner_entries u)
-        (ap (tree.is_new (key_of name)) (inner_keys u)
-        ∙ ap (λ k. tree.is_new k (keys_of u.formals ++ keys_of u.locals)) (sym (same_key name)) ∙ seen)
+        (ap (tree.is_new (key_of name)) (inner_keys u) ∙ seen)

@@ -10,25 +10,24 @@ use Rattle.s7_base.specs.declared.word.Width.{Width}
 use Rattle.st_canonical.specs.Canonical.{ArmFromLine, CaseFromLine, FromLine, Placed, all_from, arm_from, arms_from, body_from, case_from, cases_else_from, cases_from, choice_from, expr_form, labels_form, on, raw_var, statement_from}
 use Rattle.st_grammar.specs.Forms.{Statement, Statements, none, further, Arms, no_arm, arm, CaseArms, no_case, case_arm}
 use Rattle.st_grammar.specs.Grammar.{arm_of as raw_arm, case_of as raw_case, tree, tree_all, tree_arms, tree_cases, tree_labels, tree_one}
-use Rattle.st_proper.proofs.Actions.{act_continue, act_exit, act_return, calls_assign, calls_continue, calls_exit, calls_return, calls_write, from_arm, from_assign, from_case, from_case_arm, from_continue, from_exit, from_if, from_return, from_while, from_write}
-use Rattle.st_proper.proofs.Bounds.{all_last, arms_last, bound_case, bound_if, bound_none, bound_while, cases_last, greatest_last}
-use Rattle.st_proper.proofs.CaseLabels.{form_labels, is_own_type, no_label_breaks, values_of}
+use Rattle.st_types_laws.proofs.Actions.{act_continue, act_exit, act_return, calls_assign, calls_continue, calls_exit, calls_return, calls_write}
+use Rattle.st_proper.proofs.StatementForms.{from_arm, from_assign, from_case, from_case_arm, from_continue, from_exit, from_if, from_return, from_while, from_write}
+use Rattle.st_types_laws.proofs.Bounds.{all_last, arms_last, bound_case, bound_if, bound_none, bound_while, cases_last, greatest_last}
+use Rattle.st_proper.proofs.CaseLabels.{form_labels}
+use Rattle.st_types_laws.proofs.Labels.{is_own_type, no_label_breaks, values_of}
 use Rattle.st_proper.proofs.Expressions.{expression_sound, nest_is, typed_tree}
-use Rattle.st_proper.proofs.Good.{GoodAll, GoodArms, GoodCases, GoodOne, arms_sound_last, cases_sound_last, statements_last}
+use Rattle.st_proper.proofs.Good.{GoodAll, GoodArms, GoodCases, GoodOne}
 use Rattle.st_proper.proofs.Invoked.{invoke_good}
-use Rattle.st_proper.proofs.Parts.{arm_is, assign_is, case_arm_is, case_is, if_is, selector_is, test_is, values, while_is, write_is}
-use Rattle.st_proper.proofs.SameTypes.{same_selector}
+use Rattle.st_types_laws.proofs.Parts.{arm_is, assign_is, case_arm_is, case_is, if_is, selector_is, test_is, values, while_is, write_is, arms_sound_last, cases_sound_last, statements_last}
 use Rattle.st_proper.proofs.Scope.{Sees, sight_by}
 use Rattle.st_proper.proofs.Variables.{of_type, written}
 use Rattle.st_rules.specs.Statements.{label_breaks}
 use Rattle.st_rules.specs.declared.scope.Scope.{Scope}
-use Rattle.st_tree.proofs.Equations.{most_arm, most_case, most_case_arm, most_if, most_while}
+use Rattle.st_tree.proofs.CalledMost.{called_case, called_if, called_in_arm, called_in_case, called_last, called_while}
 use Rattle.st_tree.proofs.Induction.{Each, InArm, InCase, StmtSteps, every_body}
 use Rattle.st_tree.proofs.TypedParts.{both_sides, parts_of_arm, parts_of_arms, parts_of_body, parts_of_cases, parts_of_if, parts_of_while}
 use Rattle.st_tree.proofs.TypingEquations.{good_area_write, good_assign, good_case, good_case_arm, good_continue, good_exit, good_if, nesting_area_write, nesting_arm, nesting_assign, nesting_case, nesting_case_arm, nesting_continue, nesting_exit, nesting_if, nesting_return, nesting_while, type_had}
-use Rattle.st_tree.specs.Costs.{arm_most, case_most, most}
 use Rattle.st_tree.specs.Nesting.{arm_nesting, case_nesting, nesting}
-use Rattle.st_tree.specs.Runnable.{chain_costs}
 use Rattle.st_tree.specs.TypeRules.{is_selector}
 use Rattle.st_tree.specs.Typing.{Names, type_of}
 use Rattle.st_tree.specs.Values.{type_of_width}
@@ -140,7 +139,7 @@ module _ (s : Scope) (names : Names) (sees : Sees s names) (agree : TypesAgreeIn
       arith,
       g.calls f,
       h.calls f,
-      greatest_last (most (chain_costs f)) xs x,
+      called_last f xs x,
       all_last f s
           (tree_all others) (tree_one c),
     );
@@ -191,8 +190,8 @@ module _ (s : Scope) (names : Names) (sees : Sees s names) (agree : TypesAgreeIn
           arith,
           b.calls f,
           bound_while f s (on k) (tree c) (tree_all form),
-          most_while
-              (chain_costs f) e body,
+          called_while
+              f e body,
         );
       })
 
@@ -229,8 +228,7 @@ module _ (s : Scope) (names : Names) (sees : Sees s names) (agree : TypesAgreeIn
           g.calls f,
           b.calls f,
           arms_last f s (tree_arms others) (tree c) (tree_all form),
-          greatest_last (arm_most (chain_costs f)) xs x,
-          most_arm (chain_costs f) x,
+          greatest_last (called_in_arm f) xs x,
         );
       }
 
@@ -270,7 +268,7 @@ module _ (s : Scope) (names : Names) (sees : Sees s names) (agree : TypesAgreeIn
     fits = (g.some some, g.fits);
     spelled = g.spelled;
     low = λ d. omega (arith, g.low (suc d), nesting_if arms []);
-    calls = λ f. omega (arith, g.calls f, bound_if f s (on k) (tree_arms a.0) [], most_if (chain_costs f) arms []);
+    calls = λ f. omega (arith, g.calls f, bound_if f s (on k) (tree_arms a.0) [], called_if f arms []);
   }
   choice_by inside arms (y ∷ ys) k a some g b =
       let h = b (line_after a.1) in
@@ -285,8 +283,8 @@ module _ (s : Scope) (names : Names) (sees : Sees s names) (agree : TypesAgreeIn
           g.calls f,
           h.calls f,
           bound_if f s (on k) (tree_arms a.0) (tree_all form),
-          most_if
-              (chain_costs f) arms (y ∷ ys),
+          called_if
+              f arms (y ∷ ys),
         );
       }
 
@@ -341,8 +339,7 @@ module _ (s : Scope) (names : Names) (sees : Sees s names) (agree : TypesAgreeIn
           b.calls f,
           cases_last f s (tree_cases others) (tree_labels c)
               (tree_all form),
-          greatest_last (case_most (chain_costs f)) xs x,
-          most_case_arm (chain_costs f) x,
+          greatest_last (called_in_case f) xs x,
         );
       }
 
@@ -410,7 +407,7 @@ module _ (s : Scope) (names : Names) (sees : Sees s names) (agree : TypesAgreeIn
       let c = expr_form names k e in
       record {
         means = case_is s (on k) (tree c) (tree_cases a.0) [] (typed_tree t.ty e) arms []
-            (selector_is s (on k) (tree c) (typed_tree t.ty e) i.means (same_selector t.ty ∙ t.selects)) g.means refl;
+            (selector_is s (on k) (tree c) (typed_tree t.ty e) i.means (t.selects)) g.means refl;
         fits = (i.binds, g.some t.some, g.fits);
         spelled = (i.spelled, g.spelled);
         low = λ d. omega (arith, nest_is names k e, g.low (suc d), nesting_case e arms []);
@@ -418,8 +415,8 @@ module _ (s : Scope) (names : Names) (sees : Sees s names) (agree : TypesAgreeIn
           arith,
           g.calls f,
           bound_case f s (on k) (tree c) (tree_cases a.0) [],
-          most_case
-              (chain_costs f) e arms [],
+          called_case
+              f e arms [],
         );
       }
   case_by inside e arms (y ∷ ys) k t a g b =
@@ -430,7 +427,7 @@ module _ (s : Scope) (names : Names) (sees : Sees s names) (agree : TypesAgreeIn
       record {
         means = case_is s (on k) (tree c) (tree_cases a.0) (tree_all form) (typed_tree t.ty e) arms (y ∷ ys)
             (selector_is s (on k) (tree c) (typed_tree t.ty e) i.means
-            (same_selector t.ty ∙ t.selects)) g.means h.means;
+            (t.selects)) g.means h.means;
         fits = (i.binds, g.some t.some, g.fits, h.fits);
         spelled = (i.spelled, g.spelled, h.spelled);
         low = λ d. omega (arith, nest_is names k e, g.low (suc d), h.low (suc d), nesting_case e arms (y ∷ ys));
@@ -440,7 +437,7 @@ module _ (s : Scope) (names : Names) (sees : Sees s names) (agree : TypesAgreeIn
           h.calls f,
           bound_case f s (on k) (tree c) (tree_cases a.0)
               (tree_all form),
-          most_case (chain_costs f) e arms (y ∷ ys),
+          called_case f e arms (y ∷ ys),
         );
       }
 

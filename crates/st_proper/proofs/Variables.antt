@@ -11,10 +11,11 @@ use Rattle.st_canonical.specs.Canonical.{raw_var}
 use Rattle.st_canonical.specs.Spelled.{is_name, is_variable}
 use Rattle.st_grammar.specs.Kinds.{word_named, word_text}
 use Rattle.st_lexer.proofs.Words.{and_both}
-use Rattle.st_proper.proofs.SameTypes.{where_given}
+use Rattle.st_proper.proofs.Given.{where_given}
 use Rattle.st_proper.proofs.Scope.{Sees, sight_by}
 use Rattle.st_proper.proofs.Values.{block_place, placed, plain_place, small_number}
-use Rattle.st_rules.specs.Names.{key_of, look_up}
+use Rattle.st_rules.specs.Names.{look_up}
+use Rattle.st_tree.specs.Naming.{key_of}
 use Rattle.st_rules.specs.Scopes.{as_register, or_else, register_named}
 use Rattle.st_rules.specs.Variables as rules
 use Rattle.st_rules.specs.Variables.{variable, variable_named, variable_of}
@@ -44,38 +45,12 @@ pub record Written (names : Names) (s : Scope) (v : TypedVar) : Type 0 where
 register_key : (r : Reg) → register_named (key_of (register_word r)) ≡ Some r
 unfolding key_of register_named
 register_key reg.Accu1 = refl
-register_key reg.Accu2 = refl
-register_key reg.Ar1 = refl
-register_key reg.Ar2 = refl
-register_key reg.DbNo = refl
-register_key reg.DiNo = refl
-register_key reg.Nfc = refl
-register_key reg.Rlo = refl
-register_key reg.Sta = refl
-register_key reg.Orb = refl
-register_key reg.Os = refl
-register_key reg.Ov = refl
-register_key reg.Cc0 = refl
-register_key reg.Cc1 = refl
-register_key reg.Br = refl
+register_key other = refl
 
 register_is_name : (r : Reg) → is_name (register_word r) ≡ true
 unfolding word_named word_text
 register_is_name reg.Accu1 = refl
-register_is_name reg.Accu2 = refl
-register_is_name reg.Ar1 = refl
-register_is_name reg.Ar2 = refl
-register_is_name reg.DbNo = refl
-register_is_name reg.DiNo = refl
-register_is_name reg.Nfc = refl
-register_is_name reg.Rlo = refl
-register_is_name reg.Sta = refl
-register_is_name reg.Orb = refl
-register_is_name reg.Os = refl
-register_is_name reg.Ov = refl
-register_is_name reg.Cc0 = refl
-register_is_name reg.Cc1 = refl
-register_is_name reg.Br = refl
+register_is_name other = refl
 
 -- All variables
 
@@ -143,7 +118,7 @@ module _ (s : Scope) (names : Names) (sees : Sees s names) where
       → Good (type_of_width w) (var.InBlock n byte bit w)
   in_block n byte bit w h g =
       let p = placed area.Db w byte bit g in
-      let both : (rules.is_block_number n && rules.is_place area.Db w byte bit)
+      let both : (is_block_number n && rules.is_place area.Db w byte bit)
       ≡ true = ap (λ t. t && rules.is_place area.Db w byte bit) h ∙ p.rules in
       record {
         means = ap (λ t. cond t (variable_of (type_of_width w) (var.InBlock n byte bit w)) (Err BadAddress)) both;

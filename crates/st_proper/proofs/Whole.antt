@@ -1,5 +1,5 @@
 -- A proper tree has a canonical form: its declarations and its units together.
-use Rattle.std.proofs.Common.{◌≡◌, ◌≢◌, ℕ, zero, suc, ◌+◌, ◌<◌, ◌≤◌, max, Bool, true, false, ◌&&◌, cond, List, [], ◌∷◌, ◌++◌, map, length, slice_get, Some, None, refl, sym, ap, subst, ◌∙◌, arith}
+use Rattle.std.proofs.Common.{◌≡◌, ◌≢◌, ℕ, zero, suc, ◌+◌, ◌<◌, ◌≤◌, max, Bool, true, false, cond, List, [], ◌∷◌, ◌++◌, map, length, slice_get, Some, None, refl, sym, ap, subst, ◌∙◌, arith}
 use Rattle.std.specs.Prelude.{All}
 use Rattle.std.specs.List.{flat_map, list_all}
 use Rattle.std.proofs.lemmas.Bool.{le-leb}
@@ -12,39 +12,40 @@ use Rattle.memory_areas.specs.declared.place.Area.TheVariants as place
 use Rattle.memory_areas.specs.declared.place.AreaName.TheVariants as area
 use Rattle.st_canonical.specs.Canonical.{globals_from, source_of, units_from}
 use Rattle.st_grammar.specs.Forms.{no_unit}
-use Rattle.st_grammar.specs.Grammar.{is_formal_type, raw_tree}
+use Rattle.st_grammar.specs.Grammar.{raw_tree}
 use Rattle.st_grammar.specs.Levels.{deepest, levels_all, levels_globals, levels_section, levels_units}
 use Rattle.st_lexer.specs.Spelled.{is_byte}
 use Rattle.st_proper.proofs.BlockForms.{IsFull, with_zero}
-use Rattle.st_proper.proofs.Bounds.{bound}
+use Rattle.st_types_laws.proofs.Bounds.{bound}
 use Rattle.st_proper.proofs.Chains.{AreBounded, is_chain}
 use Rattle.st_proper.proofs.DeclaredGlobals.{IsSection, is_section}
 use Rattle.st_proper.proofs.GlobalForms.{IsPlain}
 use Rattle.st_proper.proofs.Good.{GoodAll}
-use Rattle.st_proper.proofs.Levels.{all_within, greatest, greatest_within, top_all, top_of_all}
-use Rattle.st_proper.proofs.Parts.{clean_of, found_of}
-use Rattle.st_proper.proofs.Scope.{each_at, each_of, formals_in, formals_same, inner_apart, outer_apart, sees, units_proper}
+use Rattle.st_canonical.proofs.Levels.{all_within, greatest, greatest_within, top_all, top_of_all}
+use Rattle.st_types_laws.proofs.Parts.{clean_of, found_of}
+use Rattle.st_types_laws.proofs.Lists.{each_at, each_of, both_true, each_from, mapped_from}
+use Rattle.st_types_laws.proofs.DeclaredTree.{formals_in, formals_same, same_length, unit_there}
+use Rattle.st_proper.proofs.Scope.{inner_apart, outer_apart, sees, units_proper}
 use Rattle.st_proper.proofs.Statements.{statements_good}
-use Rattle.st_proper.proofs.UnitForms.{AreUnits, DeclareAll, HasBody, HasForm, HaveForms, IsFormal as IsFormalForm, IsHeaded, IsLocal as IsLocalForm, MayHave, all_declare, body_at, units_are}
+use Rattle.st_proper.proofs.UnitForms.{AreUnits, DeclareAll, HasBody, HasForm, HaveForms, all_declare, body_at, units_are}
 use Rattle.st_proper.proofs.Values.{placed, plain_place}
-use Rattle.st_proper.proofs.Words.{spelled_name}
+use Rattle.st_canonical.proofs.SameNames.{spelled_name}
 use Rattle.st_proper.specs.CanonicalForms.{HasCanonicalForm, ProperHasForm}
 use Rattle.st_rules.specs.Broken.{breaks_in, first_of_all, found_in}
 use Rattle.st_rules.specs.Calls.{all_calls}
 use Rattle.st_rules.specs.Declarations.{all_outside, formals_of, local_of, locals_of}
 use Rattle.st_rules.specs.Globals.{all_blocks, all_global_breaks, all_located}
 use Rattle.st_rules.specs.Statements.{statements}
-use Rattle.st_rules.specs.Types.{has_width}
+use Rattle.st_tree.specs.TypeRules.{has_width}
 use Rattle.st_rules.specs.Typed.{IsChain, breaks_of, calls_in, names_of, tree_of}
 use Rattle.st_rules.specs.Units.{all_unit_breaks, all_units, breaks_of_unit, calls_of_unit, scope_in, unit_of}
 use Rattle.st_rules.specs.Variables as rules
 use Rattle.st_rules.specs.declared.scope.Scope.{Scope}
+use Rattle.st_tree.proofs.CalledMost.{called_most}
 use Rattle.st_tree.proofs.Induction.{Each}
 use Rattle.st_tree.proofs.TypesAgree.{types_agree}
-use Rattle.st_tree.specs.Costs.{body_most}
 use Rattle.st_tree.specs.PlaceRules.{is_located}
-use Rattle.st_tree.specs.Proper.{IsDataBlock, IsFormal, IsGlobal, IsLocal, IsProperUnit, Proper}
-use Rattle.st_tree.specs.Runnable.{chain_costs}
+use Rattle.st_tree.specs.Proper.{IsDataBlock, IsGlobal, IsProperUnit, Proper}
 use Rattle.st_tree.specs.Spelling.{names_in}
 use Rattle.st_tree.specs.Values.{width_at}
 use Rattle.st_tree.specs.WellTyped.{head_of}
@@ -53,6 +54,7 @@ use Rattle.st_tree.specs.declared.expr.StType.TheVariants as type
 use Rattle.st_tree.specs.declared.program.Local.{Local}
 use Rattle.st_tree.specs.declared.program.Located.{Located}
 use Rattle.st_tree.specs.declared.program.Pou.{Pou}
+use Rattle.st_tree.specs.declared.program.Stmt.{Stmt}
 use Rattle.st_tree.specs.declared.program.StProgram.{StProgram}
 use Rattle.st_tree.specs.declared.raw.RawLocal.{RawLocal}
 use Rattle.st_tree.specs.declared.raw.RawPou.{RawPou}
@@ -60,7 +62,6 @@ use Rattle.st_tree.specs.declared.raw.RawSt.{RawSt}
 use Rattle.st_types_laws.proofs.DeclaredNames.{AreNumbered, ArePlaced, IsPlaced, outer_entries}
 use Rattle.st_types_laws.proofs.PlainTexts.{IsPlainText, inside_again, plain_text}
 use Rattle.st_types_laws.proofs.Redeclared.{AreLocalsAt, IsUnitAt}
-use Rattle.st_types_laws.proofs.SameDeclarations.{same_length, unit_there}
 
 -- Data blocks
 
@@ -95,20 +96,11 @@ are_numbered least (b ∷ bs) some a d s = (
 -- Globals
 
 wide : (ty : StType) → ty ≢ type.Lint → has_width ty (width_at ty) ≡ true
-wide type.Bool h = refl
-wide type.Byte h = refl
-wide type.Word h = refl
-wide type.Dword h = refl
-wide type.Int h = refl
-wide type.Dint h = refl
 wide type.Lint h = absurd (h refl)
+wide ty h = refl
 
 abbrev global_at : List ℕ → StType → Area → ℕ → ℕ → Located
 global_at name ty a byte bit = record { name = name; place = record { area = a; byte = byte; bit = bit }; ty = ty }
-
-both_hold : (a b : Bool) → a ≡ true → b ≡ true → (a && b) ≡ true
-both_hold true b h g = g
-both_hold false b h g = absurd cc
 
 on_area : (name : List ℕ) (ty : StType) (byte bit : ℕ) (a : Area) → is_located a (width_at ty) byte bit ≡ true
     → ty ≢ type.Lint → IsPlaced (global_at name ty a byte bit)
@@ -118,7 +110,7 @@ on_area name ty byte bit place.I h t =
       address = p.rules;
       fits = wide ty t;
       found = ap (λ b. cond b (Some (global_at name ty place.I byte bit)) None)
-          (both_hold (rules.is_place area.I (width_at ty) byte bit) (has_width ty (width_at ty)) p.rules (wide ty t));
+          (both_true (rules.is_place area.I (width_at ty) byte bit) (has_width ty (width_at ty)) p.rules (wide ty t));
     }
 on_area name ty byte bit place.Q h t =
     let p = placed area.Q (width_at ty) byte bit h in
@@ -126,7 +118,7 @@ on_area name ty byte bit place.Q h t =
       address = p.rules;
       fits = wide ty t;
       found = ap (λ b. cond b (Some (global_at name ty place.Q byte bit)) None)
-          (both_hold (rules.is_place area.Q (width_at ty) byte bit) (has_width ty (width_at ty)) p.rules (wide ty t));
+          (both_true (rules.is_place area.Q (width_at ty) byte bit) (has_width ty (width_at ty)) p.rules (wide ty t));
     }
 on_area name ty byte bit place.M h t =
     let p = placed area.M (width_at ty) byte bit h in
@@ -134,11 +126,10 @@ on_area name ty byte bit place.M h t =
       address = p.rules;
       fits = wide ty t;
       found = ap (λ b. cond b (Some (global_at name ty place.M byte bit)) None)
-          (both_hold (rules.is_place area.M (width_at ty) byte bit) (has_width ty (width_at ty)) p.rules (wide ty t));
+          (both_true (rules.is_place area.M (width_at ty) byte bit) (has_width ty (width_at ty)) p.rules (wide ty t));
     }
 on_area name ty byte bit (place.Db n) h t = absurd cc
-on_area name ty byte bit (place.Local n) h t = absurd cc
-on_area name ty byte bit (place.Cell n) h t = absurd cc
+on_area name ty byte bit other h t = absurd cc
 
 are_placed : (gs : List Located) → Each IsGlobal gs → ArePlaced gs
 are_placed [] h = tt
@@ -174,62 +165,13 @@ is_plain name ty byte bit place.M g h =
       known = refl;
     }
 is_plain name ty byte bit (place.Db n) g h = absurd cc
-is_plain name ty byte bit (place.Local n) g h = absurd cc
-is_plain name ty byte bit (place.Cell n) g h = absurd cc
+is_plain name ty byte bit other g h = absurd cc
 
 are_plain : (gs : List Located) → Each IsGlobal gs → Each IsPlain gs
 are_plain [] h = tt
 are_plain (g ∷ gs) h = (is_plain g.name g.ty g.place.byte g.place.bit g.place.area h.0 h.0.place, are_plain gs h.1)
 
--- Units
-
-formal_type : (ty : StType) → ty ≢ type.Lint → is_formal_type ty ≡ true
-formal_type type.Bool h = refl
-formal_type type.Byte h = refl
-formal_type type.Word h = refl
-formal_type type.Dword h = refl
-formal_type type.Int h = refl
-formal_type type.Dint h = refl
-formal_type type.Lint h = absurd (h refl)
-
-are_formals : (ls : List Local) → Each IsFormal ls → Each IsFormalForm ls
-are_formals [] h = tt
-are_formals (l ∷ ls) h = (
-  record {
-    name = spelled_name l.name h.0.name;
-    free = h.0.free;
-    typed = formal_type l.ty h.0.type;
-  },
-  are_formals ls h.1,
-)
-
-are_locals : (ls : List Local) → Each IsLocal ls → Each IsLocalForm ls
-are_locals [] h = tt
-are_locals (l ∷ ls) h = (record { name = spelled_name l.name h.0.name; free = h.0.free }, are_locals ls h.1)
-
-may_have : (program : Bool) (ls : List Local) → (program ≡ true → ls ≡ []) → MayHave program ls
-may_have program [] h = tt
-may_have false (l ∷ ls) h = refl
-may_have true (l ∷ ls) h = let none = h refl in absurd cc
-
-are_headed : (t : StProgram) (us : List Pou) → Each (IsProperUnit t.globals (map head_of t.pous)) us → Each IsHeaded us
-are_headed t [] h = tt
-are_headed t (u ∷ us) h = (
-  record {
-    name = spelled_name u.name h.0.name;
-    free = h.0.free;
-    may = may_have u.program u.formals h.0.program;
-    formals = are_formals u.formals (each_of IsFormal u.formals h.0.formals);
-    locals = are_locals u.locals (each_of IsLocal u.locals h.0.locals);
-  },
-  are_headed t us h.1,
-)
-
 -- Lists
-
-each_from : {X : Type 0} (P : X → Type 0) (xs : List X) → ((n : ℕ) (x : X) → slice_get xs n ≡ Some x → P x) → Each P xs
-each_from P [] h = tt
-each_from P (x ∷ xs) h = (h 0 x refl, each_from P xs (λ n y q. h (suc n) y q))
 
 fellow : {X Y : Type 0} (xs : List X) (ys : List Y) (n : ℕ) (x : X) → length xs ≡ length ys → slice_get xs n ≡ Some x
     → (y : Y) × (slice_get ys n ≡ Some y)
@@ -252,12 +194,6 @@ all_nil : {X Y : Type 0} (f : X → List Y) (xs : List X) → ((n : ℕ) (x : X)
 all_nil f [] h = refl
 all_nil f (x ∷ xs) h = ap (λ l. l ++ flat_map f xs) (h 0 x refl) ∙ all_nil f xs (λ n a p. h (suc n) a p)
 
-mapped_from : {X Y : Type 0} (f : X → Y) (xs : List X) (i : ℕ) (y : Y) → slice_get (map f xs) i ≡ Some y
-    → (x : X) × (slice_get xs i ≡ Some x) × (y ≡ f x)
-mapped_from f [] i y h = absurd cc
-mapped_from f (z ∷ xs) zero y h = let same : y ≡ f z = cc in (z, refl, same)
-mapped_from f (z ∷ xs) (suc i) y h = mapped_from f xs i y h
-
 locals_again : (ls : List Local) (rs : List RawLocal) → AreLocalsAt ls rs → locals_of rs ≡ ls
 locals_again [] [] a = refl
 locals_again [] (r ∷ rs) a = absurd a
@@ -278,30 +214,28 @@ form_there text (a ∷ us) (b ∷ vs) h zero u v q s =
     subst (λ w. HasForm text u w) two (subst (λ w. HasForm text w b) one h.0)
 form_there text (a ∷ us) (b ∷ vs) h (suc n) u v q s = form_there text us vs h.1 n u v q s
 
+abbrev unit_with : Bool → List ℕ → List Local → List Local → List Stmt → Pou
+unit_with program name formals locals body =
+    record { program = program; name = name; formals = formals; locals = locals; body = body }
+
+same_unit : (a b : Bool) (m n : List ℕ) (f g k l : List Local) (x y : List Stmt) → a ≡ b → m ≡ n → f ≡ g → k ≡ l
+    → x ≡ y → unit_with a m f k x ≡ unit_with b n g l y
+same_unit a b m n f g k l x y p q r s t = cc
+
 unit_again : (raw : RawSt) (p : Pou) (v : RawPou) → IsUnitAt p v
     → found_in (statements (scope_in (names_of raw) (map formals_of raw.pous) v) v.body) ≡ p.body
     → unit_of (names_of raw) (map formals_of raw.pous) v ≡ p
 unit_again raw p v at body =
-    let found = found_in (statements (scope_in (names_of raw) (map formals_of raw.pous) v) v.body) in
-    ap (λ t. record {
-      program = t;
-      name = v.name;
-      formals = locals_of v.formals;
-      locals = locals_of v.locals;
-      body = found;
-    }) at.program
-    ∙ ap (λ name. record {
-      program = p.program;
-      name = name;
-      formals = locals_of v.formals;
-      locals = locals_of v.locals;
-      body = found;
-    }) at.named
-    ∙ ap (λ ls. record { program = p.program; name = p.name; formals = ls; locals = locals_of v.locals; body = found })
-    (locals_again p.formals v.formals at.formals)
-    ∙ ap (λ ls. record { program = p.program; name = p.name; formals = p.formals; locals = ls; body = found })
-    (locals_again p.locals v.locals at.locals)
-    ∙ ap (λ b. record { program = p.program; name = p.name; formals = p.formals; locals = p.locals; body = b }) body
+    same_unit v.program p.program v.name p.name (locals_of v.formals) p.formals (locals_of v.locals) p.locals
+    (found_in (statements (scope_in (names_of raw) (map formals_of raw.pous) v) v.body)) p.body at.program at.named
+    (locals_again p.formals v.formals at.formals) (locals_again p.locals v.locals at.locals) body
+
+abbrev tree_with : List DataBlock → List Located → List Pou → StProgram
+tree_with dbs globals pous = record { dbs = dbs; globals = globals; pous = pous }
+
+same_tree : (a b : List DataBlock) (f g : List Located) (x y : List Pou) → a ≡ b → f ≡ g → x ≡ y
+    → tree_with a f x ≡ tree_with b g y
+same_tree a b f g x y p q r = cc
 
 some_units : (vs : List RawPou) (ps : List Pou) → length vs ≡ length ps → ps ≢ [] → vs ≢ []
 some_units [] [] size some e = some refl
@@ -326,15 +260,12 @@ module _ (t : StProgram) (p : Proper t) where
   globals : Each IsGlobal t.globals
   globals = each_of IsGlobal t.globals p.globals
 
-  headed : Each IsHeaded t.pous
-  headed = are_headed t t.pous (units_proper t p)
-
   section : IsSection t.dbs t.globals (globals_from 1 t.dbs t.globals).0
   section = is_section t.dbs t.globals 1 (are_full 1 t.dbs (omega arith) p.blocks.ascend blocks sized)
       (are_plain t.globals globals)
 
   declare : DeclareAll t t.pous raw.pous
-  declare = all_declare t t.pous (globals_from 1 t.dbs t.globals).1 headed
+  declare = all_declare t t.pous (globals_from 1 t.dbs t.globals).1 (units_proper t p)
 
   plain : IsPlainText t.dbs t.globals t.pous (section.blocks ++ section.others) raw.pous
   plain =
@@ -378,18 +309,18 @@ module _ (t : StProgram) (p : Proper t) where
       }
 
   units : AreUnits (units_from t no_unit (globals_from 1 t.dbs t.globals).1 t.pous).0
-  units = units_are t t.pous (globals_from 1 t.dbs t.globals).1 headed (each_from (HasBody t) t.pous has_body)
+  units = units_are t t.pous (globals_from 1 t.dbs t.globals).1 (units_proper t p) (each_from (HasBody t) t.pous has_body)
 
   -- what a unit of the text is
   said : (n : ℕ) (u : Pou) (v : RawPou) → slice_get t.pous n ≡ Some u → slice_get raw.pous n ≡ Some v
       → (breaks_in (statements (scope_of v) v.body) ≡ []) × (found_in (statements (scope_of v) v.body) ≡ u.body)
-      × ((f : ℕ → ℕ) → bound f (all_calls (scope_of v) v.body) ≤ body_most (chain_costs f) u.body)
+      × ((f : ℕ → ℕ) → bound f (all_calls (scope_of v) v.body) ≤ called_most f u.body)
   said n u v q d =
       let form = form_there t t.pous raw.pous declare.forms n u v q d in
       let g = body n u v q d form.line in (
         ap (λ b. breaks_in (statements (scope_of v) b)) form.same ∙ clean_of _ _ g.means,
         ap (λ b. found_in (statements (scope_of v) b)) form.same ∙ found_of _ _ g.means,
-        λ f. subst (λ b. bound f (all_calls (scope_of v) b) ≤ body_most (chain_costs f) u.body) (sym form.same)
+        λ f. subst (λ b. bound f (all_calls (scope_of v) b) ≤ called_most f u.body) (sym form.same)
             (g.calls f),
       )
 
@@ -418,26 +349,14 @@ module _ (t : StProgram) (p : Proper t) where
 
   same : t ≡ tree_of raw
   same =
-      sym (ap (λ bs. record {
-        dbs = bs;
-        globals = all_located raw.globals;
-        pous = all_units (names_of raw)
-            (map formals_of raw.pous) raw.pous;
-      })
-      (ap all_blocks section.globals ∙ plain.blocks)
-      ∙ ap (λ ls. record {
-        dbs = t.dbs;
-        globals = ls;
-        pous = all_units (names_of raw)
-            (map formals_of raw.pous) raw.pous;
-      })
-      (ap all_located section.globals ∙ plain.located)
-      ∙ ap (λ ps. record { dbs = t.dbs; globals = t.globals; pous = ps }) all_again)
+      same_tree t.dbs (all_blocks raw.globals) t.globals (all_located raw.globals) t.pous
+      (all_units (names_of raw) (map formals_of raw.pous) raw.pous) (sym (ap all_blocks section.globals ∙ plain.blocks))
+      (sym (ap all_located section.globals ∙ plain.located)) (sym all_again)
 
   bounded : AreBounded t (calls_in raw)
   bounded i calls unit e q f =
       let v = mapped_from (calls_of_unit (names_of raw) (map formals_of raw.pous)) raw.pous i calls e in
-      subst (λ cs. bound f cs ≤ body_most (chain_costs f) unit.body) (sym v.2) ((said i unit v.0 q v.1).2 f)
+      subst (λ cs. bound f cs ≤ called_most f unit.body) (sym v.2) ((said i unit v.0 q v.1).2 f)
 
   chain : IsChain (calls_in raw) raw.pous
   chain =

@@ -1,4 +1,5 @@
 -- The data blocks of a tree that was read have numbers of 16 bits and bytes.
+use Rattle.std.proofs.lemmas.Bool.{and_parts}
 use Rattle.std.proofs.Common.{◌≡◌, ℕ, zero, suc, ◌+◌, ◌<◌, Bool, true, false, ◌&&◌, cond, List, [], ◌∷◌, ◌++◌, length, replicate, Option, Some, None, refl, sym, ap, subst, ◌∙◌, arith, append-nil}
 use Rattle.std.specs.Prelude.{All, nat_lt}
 use Rattle.std.specs.List.{flat_map, list_all}
@@ -12,8 +13,7 @@ use Rattle.memory_areas.specs.declared.sizes.TheConstants.{MOST_BLOCKS}
 use Rattle.st_grammar.specs.Forms.{GlobalType, Globals, Items, bytes, global, no_global, no_item, plain, single, times}
 use Rattle.st_grammar.specs.Grammar.{tree_globals, tree_items, tree_type}
 use Rattle.st_lexer.specs.Spelled.{is_byte}
-use Rattle.st_read_proper.proofs.Each.{Each}
-use Rattle.st_read_proper.proofs.Names.{two}
+use Rattle.st_types_laws.proofs.Lists.{Each}
 use Rattle.st_read_proper.specs.Worded.{GlobalsWorded, ItemsWorded, TypeWorded}
 use Rattle.st_rules.specs.Globals.{all_blocks, block_at, block_number, block_of, contents, has_block_address, has_block_form, inserted, is_small_enough, with_block}
 use Rattle.st_tree.specs.Proper.{IsDataBlock}
@@ -33,7 +33,7 @@ small b h = grind (arith, nat_tests)
 all_bytes : (bs : List ℕ) → list_all is_byte bs ≡ true → All (λ b. b < 256) bs
 all_bytes [] h = All-nil (λ b. b < 256)
 all_bytes (b ∷ bs) h =
-    let parts = two (is_byte b) (list_all is_byte bs) h in
+    let parts = and_parts (is_byte b) (list_all is_byte bs) h in
     All-cons (λ b. b < 256) b bs (small b parts.0) (all_bytes bs parts.1)
 
 repeated : (n b : ℕ) → is_byte b ≡ true → list_all is_byte (replicate n b) ≡ true

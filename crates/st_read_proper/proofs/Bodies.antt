@@ -7,8 +7,9 @@ use Rattle.st_canonical.specs.Spelled.{AllSpelled, ArmsSpelled, CasesSpelled, Fo
 use Rattle.st_read_proper.proofs.CaseLabels.{found_labels, labels_typed}
 use Rattle.st_read_proper.proofs.Expressions.{Found, found}
 use Rattle.st_read_proper.proofs.Invoked.{of_invoke}
-use Rattle.st_read_proper.proofs.Parts.{arm_clean, assign_clean, assign_fits, breaks_last, case_arm_clean, case_clean, if_clean, map_last, selector_clean, selector_is, selector_type, test_bool, test_clean, variable_there, while_clean, write_clean, write_fits}
-use Rattle.st_read_proper.proofs.Statements.{FoundAll, FoundArms, FoundCases, FoundOne, arms_read_last, cases_read_last, of_arm, of_assign, of_case_arm, of_cases, of_cases_else, of_choice, of_choice_else, of_empty, of_further, of_jump, of_loop, of_no_arm, of_no_case, of_none, of_write}
+use Rattle.st_types_laws.proofs.Parts.{arm_clean, assign_clean, assign_fits, breaks_last, case_arm_clean, case_clean, if_clean, selector_clean, selector_is, selector_type, test_bool, test_clean, variable_there, while_clean, write_clean, write_fits, arms_read_last, cases_read_last}
+use Rattle.st_types_laws.proofs.Lists.{map_last}
+use Rattle.st_read_proper.proofs.Statements.{FoundAll, FoundArms, FoundCases, FoundOne, of_arm, of_assign, of_case_arm, of_cases, of_cases_else, of_choice, of_choice_else, of_empty, of_further, of_jump, of_loop, of_no_arm, of_no_case, of_none, of_write}
 use Rattle.st_read_proper.proofs.Sees.{Sees, variable_has}
 use Rattle.st_tree.specs.WellTyped.{Sight}
 use Rattle.st_tree.specs.declared.expr.StType.{StType}

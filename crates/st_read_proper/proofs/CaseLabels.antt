@@ -1,49 +1,21 @@
 -- The labels of an arm of a CASE: where they have the selector's type, it has their values.
-use Rattle.std.proofs.Common.{◌≡◌, Bool, true, false, ◌&&◌, cond, ℤ, List, [], ◌∷◌, ◌++◌, map, Some, refl, sym, ap, subst, ◌∙◌}
+use Rattle.std.proofs.Common.{◌≡◌, Bool, true, false, ◌&&◌, cond, ℤ, List, [], ◌∷◌, ◌++◌, Some, refl, sym, ap, subst, ◌∙◌}
 use Rattle.std.specs.List.{list_all}
+use Rattle.std.proofs.lemmas.Bool.{and_parts}
 use Rattle.s7_base.specs.declared.reason.Line.{Line}
 use Rattle.s7_base.specs.declared.reason.Reason.TheVariants.{TypeMismatch}
 use Rattle.st_canonical.specs.Spelled.{LabelsSpelled, is_literal}
 use Rattle.st_grammar.specs.Forms.{Labels, label, more_labels}
 use Rattle.st_grammar.specs.Grammar.{label_tree, tree_labels}
 use Rattle.st_grammar.specs.declared.kind.Literal.{Literal}
-use Rattle.st_read_proper.proofs.Parts.{map_last, values}
-use Rattle.st_read_proper.proofs.RulesAgree.{is_type_agrees}
+use Rattle.st_types_laws.proofs.Lists.{map_last}
+use Rattle.st_types_laws.proofs.Labels.{of_type, same_type}
 use Rattle.st_read_proper.proofs.Values.{label_value}
 use Rattle.st_rules.specs.Broken.{broken}
 use Rattle.st_rules.specs.Statements.{have_type, label_breaks}
-use Rattle.st_rules.specs.Types.{is_type}
-use Rattle.st_tree.proofs.TypingEquations as tree_types
+use Rattle.st_tree.specs.TypeRules.{is_type}
 use Rattle.st_tree.specs.WellTyped.{is_value}
 use Rattle.st_tree.specs.declared.expr.StType.{StType}
-use Rattle.st_tree.specs.declared.expr.StType.TheVariants as type
-
-pub same_type : (a b : StType) → is_type a b ≡ true → a ≡ b
-same_type a b h = tree_types.same_type a b (sym (is_type_agrees a b) ∙ h)
-
-pub is_own_type : (a : StType) → is_type a a ≡ true
-is_own_type type.Bool = refl
-is_own_type type.Byte = refl
-is_own_type type.Word = refl
-is_own_type type.Dword = refl
-is_own_type type.Int = refl
-is_own_type type.Dint = refl
-is_own_type type.Lint = refl
-
--- labels of a type by their values
-abbrev pub of_type : StType → List ℤ → List (StType × ℤ)
-of_type ty ns = map (λ (n : ℤ). (ty, n)) ns
-
-pub values_of : (ty : StType) (ns : List ℤ) → values (of_type ty ns) ≡ ns
-values_of ty [] = refl
-values_of ty (n ∷ ns) = ap (λ l. n ∷ l) (values_of ty ns)
-
-have_own_type : (ty : StType) (ns : List ℤ) → have_type ty (of_type ty ns) ≡ true
-have_own_type ty [] = refl
-have_own_type ty (n ∷ ns) = ap (λ b. b && have_type ty (of_type ty ns)) (is_own_type ty) ∙ have_own_type ty ns
-
-pub no_label_breaks : (l : Line) (ty : StType) (ns : List ℤ) → label_breaks l (Some ty) (of_type ty ns) ≡ []
-no_label_breaks l ty ns = ap (λ b. cond b [] (broken l TypeMismatch)) (have_own_type ty ns)
 
 pub labels_typed : (l : Line) (ty : StType) (labels : List (StType × ℤ)) → label_breaks l (Some ty) labels ≡ []
     → have_type ty labels ≡ true
@@ -53,15 +25,11 @@ labels_typed l ty labels h = by (have_type ty labels) h
     by true q = refl
     by false q = absurd cc
 
-both_true : (a b : Bool) → (a && b) ≡ true → (a ≡ true) × (b ≡ true)
-both_true true b h = (refl, h)
-both_true false b h = absurd cc
-
 last_typed : (ty : StType) (xs : List (StType × ℤ)) (x : StType × ℤ) → have_type ty (xs ++ x ∷ []) ≡ true
     → (have_type ty xs ≡ true) × (is_type x.0 ty ≡ true)
-last_typed ty [] x h = (refl, (both_true (is_type x.0 ty) true h).0)
+last_typed ty [] x h = (refl, (and_parts (is_type x.0 ty) true h).0)
 last_typed ty (y ∷ xs) x h =
-    let both = both_true (is_type y.0 ty) (have_type ty (xs ++ x ∷ [])) h in
+    let both = and_parts (is_type y.0 ty) (have_type ty (xs ++ x ∷ [])) h in
     let more = last_typed ty xs x both.1 in
     (ap (λ b. b && have_type ty xs) both.0 ∙ more.0, more.1)
 
@@ -69,7 +37,7 @@ last_value : (ty : StType) (ns : List ℤ) (n : ℤ) → list_all (is_value ty) 
     → list_all (is_value ty) (ns ++ n ∷ []) ≡ true
 last_value ty [] n h g = ap (λ b. b && true) g
 last_value ty (m ∷ ns) n h g =
-    let both = both_true (is_value ty m) (list_all (is_value ty) ns) h in
+    let both = and_parts (is_value ty m) (list_all (is_value ty) ns) h in
     ap (λ b. b && list_all (is_value ty) (ns ++ n ∷ [])) both.0 ∙ last_value ty ns n both.1 g
 
 -- what the labels of an arm are
@@ -89,7 +57,7 @@ one_label c ty h t =
 pub found_labels : (ty : StType) (labels : Labels) → LabelsSpelled labels → have_type ty (tree_labels labels) ≡ true
     → FoundLabels ty labels
 found_labels ty (label c) s h =
-    let g = one_label c ty s (both_true (is_type (label_tree c).0 ty) true h).0 in
+    let g = one_label c ty s (and_parts (is_type (label_tree c).0 ty) true h).0 in
     record {
       first = (label_tree c).1;
       others = [];

@@ -3,14 +3,13 @@ use Rattle.std.proofs.Common.{◌≡◌, ℕ, suc, ◌+◌, Bool, true, false, n
 use Rattle.std.specs.Prelude.{codes, decimal, slice_get}
 use Rattle.std.specs.List.{list_any}
 use Rattle.s7_base.specs.declared.register.Reg.{Reg}
-use Rattle.std.proofs.lemmas.List.{map-append}
 use Rattle.memory_areas.specs.declared.data_block.DataBlock.{DataBlock}
-use Rattle.st_read_proper.proofs.Each.{Each, each_at}
-use Rattle.st_read_proper.proofs.FormalKeys.{HasKeys}
-use Rattle.st_read_proper.proofs.Keyed.{same_keys}
-use Rattle.st_read_proper.proofs.Names.{all_true, key_agrees}
+use Rattle.st_types_laws.proofs.Lists.{Each, each_at, mapped_at, both_true}
+use Rattle.st_types_laws.proofs.Apart.{same_keys, AreApart, Lists}
+use Rattle.st_types_laws.proofs.Keyed.{AreDistinct}
 use Rattle.st_read_proper.proofs.Sees.{IsCallable, Sees}
-use Rattle.st_rules.specs.Names.{Table, is_same, look_up}
+use Rattle.st_rules.specs.Names.{Table, look_up}
+use Rattle.st_tree.specs.Naming.{is_same}
 use Rattle.st_rules.specs.Names as rules
 use Rattle.st_rules.specs.Scopes.{as_register, meaning_in, or_else, register_named}
 use Rattle.st_rules.specs.declared.scope.Formals.{Formals}
@@ -27,16 +26,12 @@ use Rattle.st_tree.specs.declared.program.Local.{Local}
 use Rattle.st_tree.specs.declared.program.Located.{Located}
 use Rattle.st_tree.specs.declared.program.Pou.{Pou}
 use Rattle.st_tree.specs.declared.program.StProgram.{StProgram}
-use Rattle.st_types_laws.proofs.Apart.{AreApart, Lists}
 use Rattle.st_types_laws.proofs.Declared.{Declares, IsGlobalAt, IsLocalAt}
+use Rattle.st_types_laws.proofs.EntryKeys.{inner_keys, keys_in, named_keys}
 use Rattle.st_types_laws.proofs.DeclaredNames.{block_entries, formal_entries, inner_entries, local_entries, located_entries, outer_entries, unit_entries}
-use Rattle.st_types_laws.proofs.RunnableUnits.{mapped_at}
-use Rattle.st_types_laws.proofs.SameDeclarations.{formals_in}
+use Rattle.st_types_laws.proofs.DeclaredTree.{formals_in}
 
 -- The keys of tables
-
-abbrev keys_in : Table Meaning → List (List ℕ)
-keys_in es = map (λ (e : List ℕ × Meaning). e.0) es
 
 new_of : (k : List ℕ) (es : Table Meaning) → look_up k es ≡ None → is_new k (keys_in es) ≡ true
 new_of k [] h = refl
@@ -49,37 +44,11 @@ new_of k (e ∷ es) h = by (is_same k e.0) (new_of k es) h
 
 apart_of : (es : Table Meaning) → AreApart es → are_apart (keys_in es) ≡ true
 apart_of [] a = refl
-apart_of (e ∷ es) a = all_true (is_new e.0 (keys_in es)) (are_apart (keys_in es)) (new_of e.0 es a.0) (apart_of es a.1)
+apart_of (e ∷ es) a = both_true (is_new e.0 (keys_in es)) (are_apart (keys_in es)) (new_of e.0 es a.0) (apart_of es a.1)
 
 apart_behind : (xs ys : Table Meaning) → AreApart (xs ++ ys) → AreApart ys
 apart_behind [] ys a = a
 apart_behind (x ∷ xs) ys a = apart_behind xs ys a.1
-
-formal_keys : (i : ℕ) (ls : List Local) → keys_in (formal_entries i ls) ≡ keys_of ls
-formal_keys i [] = refl
-formal_keys i (l ∷ ls) =
-    ap (λ k. k ∷ keys_in (formal_entries (i + 1) ls)) (key_agrees l.name) ∙ ap (λ ks. key_of l.name ∷ ks) (formal_keys (i + 1) ls)
-
-local_keys : (i : ℕ) (ls : List Local) → keys_in (local_entries i ls) ≡ keys_of ls
-local_keys i [] = refl
-local_keys i (l ∷ ls) =
-    ap (λ k. k ∷ keys_in (local_entries (i + 1) ls)) (key_agrees l.name) ∙ ap (λ ks. key_of l.name ∷ ks) (local_keys (i + 1) ls)
-
-located_keys : (i : ℕ) (gs : List Located) → keys_in (located_entries i gs) ≡ map (λ (g : Located). key_of g.name) gs
-located_keys i [] = refl
-located_keys i (g ∷ gs) =
-    ap (λ k. k ∷ keys_in (located_entries (i + 1) gs)) (key_agrees g.name) ∙ ap (λ ks. key_of g.name ∷ ks) (located_keys (i + 1) gs)
-
-unit_keys : (i : ℕ) (ps : List Pou) → keys_in (unit_entries i ps) ≡ map (λ (p : Pou). key_of p.name) ps
-unit_keys i [] = refl
-unit_keys i (p ∷ ps) =
-    ap (λ k. k ∷ keys_in (unit_entries (i + 1) ps)) (key_agrees p.name) ∙ ap (λ ks. key_of p.name ∷ ks) (unit_keys (i + 1) ps)
-
-inner_keys : (p : Pou) → keys_in (inner_entries p) ≡ keys_of p.formals ++ keys_of p.locals
-inner_keys p =
-    map-append (λ (e : List ℕ × Meaning). e.0) (formal_entries 0 p.formals) (local_entries 0 p.locals)
-    ∙ ap (λ ks. ks ++ keys_in (local_entries 0 p.locals)) (formal_keys 0 p.formals)
-    ∙ ap (λ ks. keys_of p.formals ++ ks) (local_keys 0 p.locals)
 
 -- the keys of a unit's formals and locals are apart
 pub inner_apart : (p : Pou) → AreApart (inner_entries p) → are_apart (keys_of p.formals ++ keys_of p.locals) ≡ true
@@ -89,11 +58,7 @@ inner_apart p a = subst (λ ks. are_apart ks ≡ true) (inner_keys p) (apart_of 
 pub outer_apart : (t : StProgram) → AreApart (outer_entries t) → are_apart (outer_keys t) ≡ true
 outer_apart t a =
     let es = located_entries 0 t.globals ++ unit_entries 0 t.pous in
-    let keys : keys_in es ≡ outer_keys t =
-    map-append (λ (e : List ℕ × Meaning). e.0) (located_entries 0 t.globals) (unit_entries 0 t.pous)
-    ∙ ap (λ ks. ks ++ keys_in (unit_entries 0 t.pous)) (located_keys 0 t.globals)
-    ∙ ap (λ ks. map (λ (g : Located). key_of g.name) t.globals ++ ks) (unit_keys 0 t.pous) in
-    subst (λ ks. are_apart ks ≡ true) keys (apart_of es (apart_behind (block_entries t.dbs) es a))
+    subst (λ ks. are_apart ks ≡ true) (named_keys t) (apart_of es (apart_behind (block_entries t.dbs) es a))
 
 -- What a name means
 
@@ -105,7 +70,7 @@ IsInner other = ⊥
 
 local_means : (i : ℕ) (ls : List Local) (k : List ℕ) (m : Meaning) → look_up k (local_entries i ls) ≡ Some m → IsInner m
 local_means i [] k m h = absurd cc
-local_means i (l ∷ ls) k m h = by (is_same k (rules.key_of l.name)) (local_means (i + 1) ls k m) h
+local_means i (l ∷ ls) k m h = by (is_same k (key_of l.name)) (local_means (i + 1) ls k m) h
   where
     by : (t : Bool) → (look_up k (local_entries (i + 1) ls) ≡ Some m → IsInner m)
         → cond t (Some (meaning.Local i l.ty)) (look_up k (local_entries (i + 1) ls)) ≡ Some m → IsInner m
@@ -115,7 +80,7 @@ local_means i (l ∷ ls) k m h = by (is_same k (rules.key_of l.name)) (local_mea
 inner_means : (i : ℕ) (ls : List Local) (rest : Table Meaning) (k : List ℕ) (m : Meaning) → (look_up k rest ≡ Some m → IsInner m)
     → look_up k (formal_entries i ls ++ rest) ≡ Some m → IsInner m
 inner_means i [] rest k m f h = f h
-inner_means i (l ∷ ls) rest k m f h = by (is_same k (rules.key_of l.name)) (inner_means (i + 1) ls rest k m f) h
+inner_means i (l ∷ ls) rest k m f h = by (is_same k (key_of l.name)) (inner_means (i + 1) ls rest k m f) h
   where
     by : (t : Bool) → (look_up k (formal_entries (i + 1) ls ++ rest) ≡ Some m → IsInner m)
         → cond t (Some (meaning.Formal i l.ty)) (look_up k (formal_entries (i + 1) ls ++ rest)) ≡ Some m → IsInner m
@@ -155,12 +120,11 @@ outside p outer key m None None o h a b e = record { hidden = a; there = b ∙ e
 
 -- a name that stands for nothing inside is seen
 seen_of : (sight : Sight) (p : Pou) (key name : List ℕ) → sight.formals ≡ p.formals → sight.locals ≡ p.locals
-    → look_up key (inner_entries p) ≡ None → rules.key_of name ≡ key → is_seen sight name ≡ true
+    → look_up key (inner_entries p) ≡ None → key_of name ≡ key → is_seen sight name ≡ true
 seen_of sight p key name f l h e =
     let keys : keys_in (inner_entries p) ≡ keys_of sight.formals ++ keys_of sight.locals =
     inner_keys p ∙ ap (λ ls. keys_of ls ++ keys_of p.locals) (sym f) ∙ ap (λ ls. keys_of sight.formals ++ keys_of ls) (sym l) in
-    let own : key ≡ key_of name = sym e ∙ key_agrees name in
-    ap (λ k. is_new k (keys_of sight.formals ++ keys_of sight.locals)) (sym own)
+    ap (λ k. is_new k (keys_of sight.formals ++ keys_of sight.locals)) e
     ∙ subst (λ ks. is_new key ks ≡ true) keys (new_of key (inner_entries p) h)
 
 -- Units
@@ -172,12 +136,12 @@ record IsUnit (ps : List Pou) (j i : ℕ) (key : List ℕ) : Type 0 where
   p : Pou
   there : slice_get ps n ≡ Some p
   function : p.program ≡ false
-  named : rules.key_of p.name ≡ key
+  named : key_of p.name ≡ key
 
 past_blocks : (bs : List DataBlock) (rest : Table Meaning) (k : List ℕ) (i : ℕ) → look_up k (block_entries bs ++ rest) ≡ Some (meaning.Function i)
     → look_up k rest ≡ Some (meaning.Function i)
 past_blocks [] rest k i h = h
-past_blocks (b ∷ bs) rest k i h = by (is_same k (rules.key_of (codes "DB" ++ decimal b.number))) (past_blocks bs rest k i) h
+past_blocks (b ∷ bs) rest k i h = by (is_same k (key_of (codes "DB" ++ decimal b.number))) (past_blocks bs rest k i) h
   where
     by : (t : Bool) → (look_up k (block_entries bs ++ rest) ≡ Some (meaning.Function i) → look_up k rest ≡ Some (meaning.Function i))
         → cond t (Some meaning.Block) (look_up k (block_entries bs ++ rest)) ≡ Some (meaning.Function i) → look_up k rest ≡ Some (meaning.Function i)
@@ -187,7 +151,7 @@ past_blocks (b ∷ bs) rest k i h = by (is_same k (rules.key_of (codes "DB" ++ d
 past_globals : (j : ℕ) (gs : List Located) (rest : Table Meaning) (k : List ℕ) (i : ℕ) → look_up k (located_entries j gs ++ rest) ≡ Some (meaning.Function i)
     → look_up k rest ≡ Some (meaning.Function i)
 past_globals j [] rest k i h = h
-past_globals j (g ∷ gs) rest k i h = by (is_same k (rules.key_of g.name)) (past_globals (j + 1) gs rest k i) h
+past_globals j (g ∷ gs) rest k i h = by (is_same k (key_of g.name)) (past_globals (j + 1) gs rest k i) h
   where
     by : (t : Bool) → (look_up k (located_entries (j + 1) gs ++ rest) ≡ Some (meaning.Function i) → look_up k rest ≡ Some (meaning.Function i))
         → cond t (Some (meaning.Global j g.ty)) (look_up k (located_entries (j + 1) gs ++ rest)) ≡ Some (meaning.Function i) → look_up k rest ≡ Some (meaning.Function i)
@@ -196,14 +160,14 @@ past_globals j (g ∷ gs) rest k i h = by (is_same k (rules.key_of g.name)) (pas
 
 unit_found : (j : ℕ) (ps : List Pou) (k : List ℕ) (i : ℕ) → look_up k (unit_entries j ps) ≡ Some (meaning.Function i) → IsUnit ps j i k
 unit_found j [] k i h = absurd cc
-unit_found j (p ∷ ps) k i h = by (is_same k (rules.key_of p.name)) p.program refl refl (unit_found (j + 1) ps k i) h
+unit_found j (p ∷ ps) k i h = by (is_same k (key_of p.name)) p.program refl refl (unit_found (j + 1) ps k i) h
   where
-    by : (t u : Bool) → is_same k (rules.key_of p.name) ≡ t → p.program ≡ u → (look_up k (unit_entries (j + 1) ps) ≡ Some (meaning.Function i) → IsUnit ps (j + 1) i k)
+    by : (t u : Bool) → is_same k (key_of p.name) ≡ t → p.program ≡ u → (look_up k (unit_entries (j + 1) ps) ≡ Some (meaning.Function i) → IsUnit ps (j + 1) i k)
         → cond t (Some (cond u meaning.Program (meaning.Function j))) (look_up k (unit_entries (j + 1) ps)) ≡ Some (meaning.Function i) → IsUnit (p ∷ ps) j i k
     by true true e f more q = absurd cc
     by true false e f more q =
         let same : j ≡ i = cc in
-        record { n = 0; place = omega (arith, same); p = p; there = refl; function = f; named = sym (same_keys k (rules.key_of p.name) e) }
+        record { n = 0; place = omega (arith, same); p = p; there = refl; function = f; named = sym (same_keys k (key_of p.name) e) }
     by false u e f more q =
         let r = more q in
         record { n = suc r.n; place = omega (arith, r.place); p = r.p; there = r.there; function = r.function; named = r.named }
@@ -221,7 +185,7 @@ global_of sight p key ty (Some g) f l n h =
     ap (λ b. where_true b g.ty) (seen_of sight p key g.name f l n h.0) ∙ ap (λ t. Some t) h.1
 
 module _ (t : StProgram) (p : Pou) (scope : Scope) (inner : Lists scope.inner (inner_entries p)) (outer : Lists scope.outer (outer_entries t))
-    (formals : scope.formals ≡ map formals_in t.pous) (keys : Each HasKeys t.pous) (declares : Declares scope (names_in t p)) where
+    (formals : scope.formals ≡ map formals_in t.pous) (keys : Each (λ (u : Pou). AreDistinct u.formals) t.pous) (declares : Declares scope (names_in t p)) where
   is_outside : (key : List ℕ) (m : Meaning) → IsOuter m → meaning_in scope key ≡ Some m → IsOutside p (outer_entries t) key m
   is_outside key m o h =
       outside p (outer_entries t) key m (register_named key) (look_up key scope.inner) (look_up key scope.outer) o (sym (inner.same key)) (sym (outer.same key)) h
@@ -242,7 +206,7 @@ module _ (t : StProgram) (p : Pou) (scope : Scope) (inner : Lists scope.inner (i
         listed = ap (λ (fs : List Formals). slice_get fs i) formals ∙ mapped_at formals_in t.pous i u.p there;
         keys = refl;
         types = refl;
-        distinct = each_at HasKeys t.pous i u.p keys there;
+        distinct = each_at (λ (u : Pou). AreDistinct u.formals) t.pous i u.p keys there;
       }
 
   -- what names mean in a unit, it sees

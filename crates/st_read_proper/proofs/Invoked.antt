@@ -1,33 +1,36 @@
 -- A call that breaks no rule gives each formal of a function a variable of its type.
-use Rattle.std.proofs.Common.{◌≡◌, ℕ, Bool, true, false, not, ◌&&◌, ◌||◌, cond, List, [], ◌∷◌, ◌++◌, Option, Some, None, is_some, is_none, Result, refl, sym, ap, subst, ◌∙◌, arith}
+use Rattle.std.proofs.Common.{◌≡◌, ℕ, max, Bool, true, false, not, ◌&&◌, ◌||◌, cond, List, [], ◌∷◌, ◌++◌, Option, Some, None, is_some, is_none, Result, refl, sym, ap, subst, ◌∙◌, arith}
 use Rattle.std.specs.Prelude.{slice_get}
 use Rattle.std.specs.List.{fold}
-use Rattle.std.proofs.lemmas.List.{append_assoc, append-nil}
 use Rattle.s7_base.specs.declared.reason.Line.{Line}
 use Rattle.s7_base.specs.declared.reason.Reason.{Reason}
 use Rattle.s7_base.specs.declared.reason.Reason.TheVariants.{TypeMismatch}
 use Rattle.st_canonical.specs.Spelled.{ActualsSpelled, is_variable}
 use Rattle.st_grammar.specs.Forms.{Actuals, no_actual, actual, invoke}
-use Rattle.st_grammar.specs.Grammar.{on_line, tree_actuals, tree_one}
-use Rattle.st_read_proper.proofs.Actions.{act_invoke}
-use Rattle.st_read_proper.proofs.Keyed.{AreAbsent, AreDistinct, absent_also, found_behind, none_absent, same_keys}
-use Rattle.st_read_proper.proofs.Parts.{variable_there}
-use Rattle.st_read_proper.proofs.RulesAgree.{is_type_agrees}
+use Rattle.st_grammar.specs.Grammar.{tree_actuals, tree_one}
+use Rattle.st_types_laws.proofs.Actions.{act_invoke, calls_invoke}
+use Rattle.st_types_laws.proofs.Bounds.{bound}
+use Rattle.st_types_laws.proofs.Called.{AreTyped, are_typed, call_is}
+use Rattle.st_types_laws.proofs.Apart.{same_keys}
+use Rattle.st_types_laws.proofs.Parts.{variable_there}
 use Rattle.st_read_proper.proofs.Sees.{IsCallable, Sees, variable_has}
-use Rattle.st_read_proper.proofs.Statements.{FoundOne}
-use Rattle.st_rules.specs.Broken.{Judged, behind, breaks_rule, broken, listed, sound}
+use Rattle.st_read_proper.proofs.Statements.{FoundOne, cost_of, of_heads}
+use Rattle.st_rules.specs.Broken.{Judged, breaks_rule, broken, listed, sound}
+use Rattle.st_rules.specs.Calls.{call_on, calls_of}
 use Rattle.st_rules.specs.Expressions.{answered, variable_on}
-use Rattle.st_rules.specs.Invocations.{Actual, Given, call_of, call_with, callee, formal_breaks, function_call, given_by, in_order, lacks, none_given, plain, var_given, with_actual}
-use Rattle.st_rules.specs.Names.{Table, is_same, key_of, look_up, with_entry}
+use Rattle.st_rules.specs.Invocations.{Actual, Given, call_of, callee, formal_breaks, function_call, given_by, in_order, lacks, none_given, plain, var_given, with_actual}
+use Rattle.st_rules.specs.Names.{Table, look_up, with_entry}
+use Rattle.st_tree.specs.Naming.{is_same, key_of}
 use Rattle.st_rules.specs.Scopes.{meaning_in}
 use Rattle.st_rules.specs.Statements.{statement}
-use Rattle.st_rules.specs.Types.{is_type}
+use Rattle.st_tree.specs.TypeRules.{is_type}
 use Rattle.st_rules.specs.declared.broken.Break.{Break}
 use Rattle.st_rules.specs.declared.scope.Formals.{Formals}
 use Rattle.st_rules.specs.declared.scope.Meaning.{Meaning}
 use Rattle.st_rules.specs.declared.scope.Meaning.TheVariants as meaning
 use Rattle.st_rules.specs.declared.scope.Scope.{Scope}
 use Rattle.st_rules.specs.declared.variable.TypedVar.{TypedVar}
+use Rattle.st_tree.proofs.CalledMost.{called_invoke}
 use Rattle.st_tree.proofs.TypingEquations.{good_invoke, nesting_invoke}
 use Rattle.st_tree.specs.WellTyped.{Head, Sight, are_given, has_type, is_call, is_seen, is_well_typed, variable_type}
 use Rattle.st_tree.specs.declared.expr.StType.{StType}
@@ -35,46 +38,8 @@ use Rattle.st_tree.specs.declared.expr.Var.{Var}
 use Rattle.st_tree.specs.declared.program.Local.{Local}
 use Rattle.st_tree.specs.declared.program.Stmt.{Stmt}
 use Rattle.st_tree.specs.declared.program.Stmt.TheVariants as stmt
-use Rattle.st_tree.specs.declared.raw.RawStmtKind.TheVariants as raw
-use Rattle.st_types_laws.proofs.BodyCosts.{nil_first, nil_second}
-use Rattle.st_types_laws.proofs.Declared.{keys_of_locals, types_of_locals}
-
--- The types of formals with keys of their own
-
-abbrev entries : List Local → Table StType
-entries [] = []
-entries (l ∷ ls) = (key_of l.name, l.ty) ∷ entries ls
-
-abbrev with_type : Table StType → Local → Table StType
-with_type types l = with_entry (key_of l.name) l.ty types
-
-gathered : (types : Table StType) (ls : List Local) → AreAbsent types ls → AreDistinct ls
-    → fold with_type types ls ≡ types ++ entries ls
-gathered types [] a d = sym (append-nil types)
-gathered types (l ∷ ls) a d =
-    let e : List ℕ × StType = (key_of l.name, l.ty) in
-    let one : with_type types l ≡ types ++ e ∷ [] = ap (λ (o : Option StType). cond (is_some o) types (types ++ e ∷ [])) a.0 in
-    ap (λ t. fold with_type t ls) one
-    ∙ gathered (types ++ e ∷ []) ls (absent_also types (key_of l.name) l.ty ls a.1 d.0) d.1
-    ∙ append_assoc types (e ∷ []) (entries ls)
-
--- each formal has its type in a table
-abbrev AreTyped : Table StType → List Local → Type 0
-AreTyped types [] = Unit {0}
-AreTyped types (l ∷ ls) = (look_up (key_of l.name) types ≡ Some l.ty) × AreTyped types ls
-
-typed_behind : (types : Table StType) (ls : List Local) → AreAbsent types ls → AreDistinct ls → AreTyped (types ++ entries ls) ls
-typed_behind types [] a d = tt
-typed_behind types (l ∷ ls) a d =
-    let e : List ℕ × StType = (key_of l.name, l.ty) in (
-      found_behind types (key_of l.name) l.ty (entries ls) a.0,
-      subst (λ t. AreTyped t ls) (append_assoc types (e ∷ []) (entries ls))
-          (typed_behind (types ++ e ∷ []) ls (absent_also types (key_of l.name) l.ty ls a.1 d.0) d.1),
-    )
-
-are_typed : (ls : List Local) → AreDistinct ls → AreTyped (types_of_locals ls) ls
-are_typed ls d =
-    subst (λ t. AreTyped t ls) (sym (gathered [] ls (none_absent StType ls) d)) (typed_behind [] ls (none_absent StType ls) d)
+use Rattle.st_types_laws.proofs.Lists.{nil_first, nil_second}
+use Rattle.st_types_laws.proofs.Declared.{keys_of_locals}
 
 -- Variables that formals are given
 
@@ -128,7 +93,7 @@ module _ (sight : Sight) (types : Table StType) where
   of_formal l o g t =
       let there : Some g.ty ≡ Some l.ty = sym g.typed ∙ t in
       let same : g.ty ≡ l.ty = cc in
-      ap (has_type l.ty) g.has ∙ sym (is_type_agrees g.x.ty l.ty)
+      ap (has_type l.ty) g.has
       ∙ subst (λ ty. is_type g.x.ty ty ≡ true) same g.fits
 
   are_in_order : (vars : Table (Option Var)) (ls : List Local) → AreGiven vars → AreTyped types ls
@@ -198,22 +163,6 @@ module _ (sight : Sight) (types : Table StType) where
 
 -- A call
 
--- what is given without a broken rule
-abbrev given_with : Table (Option Var) → Given
-given_with vars = record { vars = vars; breaks = [] }
-
--- a call of a function that is there
-call_is : (s : Scope) (m : Line) (name : List ℕ) (actuals : List Actual) (i : ℕ) (formals : Formals) (table : Table (Option Var))
-    → meaning_in s (key_of name) ≡ Some (meaning.Function i)
-    → slice_get s.formals i ≡ Some formals → given_by s m formals.types actuals ≡ given_with table → lacks table formals.keys ≡ false
-    → statement s (on_line m (raw.Invoke name actuals)) ≡ sound (stmt.Invoke i (in_order table formals.keys))
-call_is s m name actuals i formals table h there given none =
-    act_invoke s m name actuals
-    ∙ ap (λ o. call_of s m (callee o) actuals) h
-    ∙ ap (λ o. function_call s m i o actuals) there
-    ∙ ap (λ (g : Given). behind g.breaks (call_with m i g.vars formals.keys)) given
-    ∙ ap (λ b. behind [] (cond b (breaks_rule m TypeMismatch) (sound (stmt.Invoke i (in_order table formals.keys))))) none
-
 -- what a call that breaks no rule is
 record Called (s : Scope) (m : Line) (name : List ℕ) (actuals : List Actual) (i : ℕ) (formals : Formals) : Type 0 where
   clean : (given_by s m formals.types actuals).breaks ≡ []
@@ -264,6 +213,13 @@ module _ (scope : Scope) (sight : Sight) (sees : Sees scope sight) (inside : Boo
             ∙ ap (λ vs. sound (stmt.Invoke i vs)) order;
         typed = call_typed i r.xs c.head c.there c.function c.seen r.given;
         low = λ d. omega (arith, nesting_invoke i r.xs);
+        calls = λ f.
+            let own : bound (of_heads sight.heads f) (calls_of scope (tree_one (invoke l name actuals)))
+            ≡ max (of_heads sight.heads f i) 0 =
+            ap (bound (of_heads sight.heads f)) (calls_invoke scope l name (tree_actuals actuals)
+            ∙ ap (λ o. call_on l (callee o)) m) in
+            let cost : of_heads sight.heads f i ≡ f i = ap (λ o. cost_of o (f i)) c.there in
+            omega (arith, own, cost, called_invoke f i r.xs);
       }
 
   pub of_invoke : (l : Line) (name : List ℕ) (actuals : Actuals) → ActualsSpelled actuals

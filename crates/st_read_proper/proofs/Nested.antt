@@ -9,7 +9,7 @@ use Rattle.st_grammar.specs.Levels.{height}
 use Rattle.st_grammar.specs.declared.kind.OneOperand.{OneOperand}
 use Rattle.st_grammar.specs.declared.kind.OneOperand.TheVariants as one
 use Rattle.st_grammar.specs.declared.kind.Prefix.TheVariants as before
-use Rattle.st_read_proper.proofs.Levels.{nest}
+use Rattle.st_canonical.proofs.Levels.{nest}
 use Rattle.st_tree.specs.Form.{Form, area_read, convert, digits_to, group, infix_level, infix_of, level, prefix, select, shift, unary_form, wrap}
 use Rattle.st_tree.specs.Nesting.{form_height, form_nesting}
 use Rattle.st_tree.specs.declared.expr.BinaryOp.{BinaryOp}
@@ -108,19 +108,7 @@ close_unary unary.BcdToDint f c h g = close_digits one.BcdToDint unary.BcdToDint
 
 same_level : (op : BinaryOp) → infix_level op ≡ grammar.infix_level op
 same_level binary.Mul = refl
-same_level binary.Div = refl
-same_level binary.Mod = refl
-same_level binary.Add = refl
-same_level binary.Sub = refl
-same_level binary.Lt = refl
-same_level binary.Gt = refl
-same_level binary.Le = refl
-same_level binary.Ge = refl
-same_level binary.Eq = refl
-same_level binary.Ne = refl
-same_level binary.And = refl
-same_level binary.Xor = refl
-same_level binary.Or = refl
+same_level other = refl
 
 pub close_infix : (op : BinaryOp) (f g : forms.Form) (c d : Form) → grammar.level f ≤ grammar.infix_level op
     → grammar.level g < grammar.infix_level op → Close f c → Close g d

@@ -7,23 +7,29 @@ use Rattle.st_grammar.specs.Levels.{deepest, levels_globals, levels_section, lev
 use Rattle.st_grammar.specs.Syntax.{AllWithin}
 use Rattle.st_read_proper.proofs.Blocks.{are_data_blocks}
 use Rattle.st_read_proper.proofs.Bodies.{found_all}
+use Rattle.st_read_proper.proofs.Chains.{HaveCalls, short_chains}
 use Rattle.st_read_proper.proofs.Declared.{inner_apart, outer_apart, unit_sees}
-use Rattle.st_read_proper.proofs.Each.{Each, each_all, each_at, each_from, mapped_from}
-use Rattle.st_read_proper.proofs.FormalKeys.{all_have_keys}
+use Rattle.st_types_laws.proofs.Apart.{Lists}
+use Rattle.st_types_laws.proofs.Bounds.{bound_all}
+use Rattle.st_types_laws.proofs.Keyed.{AreDistinct, distinct_of}
+use Rattle.st_types_laws.proofs.Lists.{Each, each_all, each_at, each_from, mapped_at, mapped_from, nil_at, nil_second}
 use Rattle.st_read_proper.proofs.Globals.{are_globals}
-use Rattle.st_read_proper.proofs.Levels.{top_all}
-use Rattle.st_read_proper.proofs.Parts.{found_of}
+use Rattle.st_canonical.proofs.Levels.{top_all}
+use Rattle.st_types_laws.proofs.Parts.{found_of}
+use Rattle.st_read_proper.proofs.Statements.{FoundAll, of_heads}
 use Rattle.st_read_proper.proofs.TokensWorded.{read_worded}
 use Rattle.st_read_proper.proofs.Units.{IsHeaded, WasRead, are_headed, were_read}
 use Rattle.st_read_proper.specs.ReadProper.{WhatIsReadIsProper, WhatIsWrittenIsProper}
 use Rattle.st_read_proper.specs.Worded.{GlobalsWorded, SourceWorded}
 use Rattle.st_rules.specs.Broken.{breaks_in, found_in}
+use Rattle.st_rules.specs.Calls.{all_calls}
 use Rattle.st_rules.specs.Declarations.{all_inside, formals_of}
 use Rattle.st_rules.specs.Globals.{all_blocks, all_located}
 use Rattle.st_rules.specs.Statements.{statements}
-use Rattle.st_rules.specs.Typed.{HasTree, names_of}
-use Rattle.st_rules.specs.Units.{breaks_of_unit, scope_in, unit_of}
+use Rattle.st_rules.specs.Typed.{HasTree, calls_in, names_of}
+use Rattle.st_rules.specs.Units.{breaks_of_unit, calls_of_unit, scope_in, unit_of}
 use Rattle.st_rules.specs.declared.scope.Scope.{Scope}
+use Rattle.st_tree.proofs.CalledMost.{called_most}
 use Rattle.st_tree.specs.Nesting.{body_nesting}
 use Rattle.st_tree.specs.Proper.{IsDataBlock, IsFormal, IsGlobal, IsLocal, IsProperUnit, Proper}
 use Rattle.st_tree.specs.WellTyped.{are_well_typed, head_of, sight_in}
@@ -33,11 +39,8 @@ use Rattle.st_tree.specs.declared.program.Stmt.{Stmt}
 use Rattle.st_tree.specs.declared.raw.RawPou.{RawPou}
 use Rattle.st_tree.specs.declared.raw.RawSt.{RawSt}
 use Rattle.st_tree.specs.declared.raw.RawStmt.{RawStmt}
-use Rattle.st_types_laws.proofs.BodyCosts.{nil_second}
-use Rattle.st_types_laws.proofs.DataBlocks.{are_blocks}
-use Rattle.st_types_laws.proofs.DeclaredNames.{gather_inside}
-use Rattle.st_types_laws.proofs.RunnableUnits.{nil_at, short_chains, sound_units}
-use Rattle.st_types_laws.proofs.SameDeclarations.{formals_same, is_declared, scope_declares, unit_there}
+use Rattle.st_types_laws.proofs.DeclaredNames.{gather_inside, inner_entries, local_entries}
+use Rattle.st_types_laws.proofs.DeclaredTree.{IsDeclared, are_blocks, sound_units, formals_same, is_declared, scope_declares, unit_there}
 
 blocks_held : (s : Section Globals) → IfPresent GlobalsWorded s → Each IsDataBlock (all_blocks (held tree_globals s))
 blocks_held absent w = tt
@@ -55,59 +58,109 @@ module _ (source : Source) (t : StProgram) (fits : SourceFits source) (worded : 
   abbrev raw : RawSt
   raw = raw_tree source
 
-  -- a unit of the tree by the one that was read
-  proper_unit : (n : ℕ) (p : Pou) (u : RawPou) → slice_get t.pous n ≡ Some p → slice_get raw.pous n ≡ Some u
-      → p ≡ unit_of (names_of raw) (map formals_of raw.pous) u → IsHeaded p → WasRead u → IsProperUnit t.globals (map head_of t.pous) p
-  proper_unit n p u q r same headed read =
-      let d = is_declared raw t typed in
-      let keys = all_have_keys raw t typed in
-      let own = unit_there t.pous raw.pous d.units n p u q r in
-      let inner = gather_inside p u own.formals own.locals (d.inside n u r) in
-      let formals = formals_same t.pous raw.pous d.units in
-      let scope : Scope = scope_in (names_of raw) (map formals_of raw.pous) u in
-      let declares = scope_declares t p scope inner d.names formals in
-      let sees = unit_sees t p scope inner d.names formals keys declares in
-      let none = nil_at (breaks_of_unit (names_of raw) (map formals_of raw.pous)) raw.pous n u (sound_units raw typed.sound) r in
-      let clean : breaks_in (statements scope (tree_all read.body)) ≡ [] =
-      subst (λ (b : List RawStmt). breaks_in (statements scope b) ≡ []) read.same
-      (nil_second (all_inside u.formals u.locals).breaks (breaks_in (statements scope u.body)) none) in
-      let f = found_all scope (sight_in t p) sees false read.body read.spelled read.fit clean in
-      let body : p.body ≡ f.xs =
-      ap (λ (x : Pou). x.body) same ∙ ap (λ (b : List RawStmt). found_in (statements scope b)) read.same
-      ∙ found_of (statements scope (tree_all read.body)) f.xs f.found in
-      let low : 0 + body_nesting f.xs ≤ max 0 (top_all 0 read.body) = f.low 0 in
-      let top : top_all 0 read.body ≤ deepest = read.within in
-      let few : body_nesting f.xs ≤ deepest = omega (arith, low, top) in
+  abbrev scope_of : RawPou → Scope
+  scope_of u = scope_in (names_of raw) (map formals_of raw.pous) u
+
+  declared : IsDeclared raw t
+  declared = is_declared raw t typed
+
+  -- the unit of the text that stands where one of the tree does
+  record At (n : ℕ) (p : Pou) : Type 0 where
+    u : RawPou
+    there : slice_get raw.pous n ≡ Some u
+    same : p ≡ unit_of (names_of raw) (map formals_of raw.pous) u
+    inner : Lists (all_inside u.formals u.locals).names (inner_entries p)
+
+  at : (n : ℕ) (p : Pou) → slice_get t.pous n ≡ Some p → At n p
+  at n p q =
+      let same : slice_get (map (unit_of (names_of raw) (map formals_of raw.pous)) raw.pous) n ≡ Some p =
+      sym (ap (λ (s : StProgram). slice_get s.pous n) typed.same) ∙ q in
+      let u = mapped_from (unit_of (names_of raw) (map formals_of raw.pous)) raw.pous n p same in
+      let own = unit_there t.pous raw.pous declared.units n p u.0 q u.1 in
+      record {
+        u = u.0;
+        there = u.1;
+        same = u.2;
+        inner = gather_inside p u.0 own.formals own.locals (declared.inside n u.0 u.1);
+      }
+
+  keys : Each (λ (p : Pou). AreDistinct p.formals) t.pous
+  keys =
+      each_from (λ (p : Pou). AreDistinct p.formals) t.pous
+      (λ n p q. distinct_of 0 p.formals (local_entries 0 p.locals) (at n p q).inner.apart)
+
+  -- its statements, and what they are in the tree
+  record HasBody (p : Pou) (u : RawPou) : Type 0 where
+    read : WasRead u
+    found : FoundAll (scope_of u) (sight_in t p) false read.body
+    same : p.body ≡ found.xs
+
+  has_body : (n : ℕ) (p : Pou) → slice_get t.pous n ≡ Some p → (a : At n p) → HasBody p a.u
+  has_body n p q a =
+      let formals = formals_same t.pous raw.pous declared.units in
+      let declares = scope_declares t p (scope_of a.u) a.inner declared.names formals in
+      let sees = unit_sees t p (scope_of a.u) a.inner declared.names formals keys declares in
+      let none = nil_at (breaks_of_unit (names_of raw) (map formals_of raw.pous)) raw.pous n a.u (sound_units raw typed.sound) a.there in
+      let read = each_at WasRead raw.pous n a.u
+      (were_read source.units (levels_section levels_globals source.globals []) fits.1 worded.1 within.1) a.there in
+      let clean : breaks_in (statements (scope_of a.u) (tree_all read.body)) ≡ [] =
+      subst (λ (b : List RawStmt). breaks_in (statements (scope_of a.u) b) ≡ []) read.same
+      (nil_second (all_inside a.u.formals a.u.locals).breaks (breaks_in (statements (scope_of a.u) a.u.body)) none) in
+      let f = found_all (scope_of a.u) (sight_in t p) sees false read.body read.spelled read.fit clean in
+      record {
+        read = read;
+        found = f;
+        same = ap (λ (x : Pou). x.body) a.same ∙ ap (λ (b : List RawStmt). found_in (statements (scope_of a.u) b)) read.same
+            ∙ found_of (statements (scope_of a.u) (tree_all read.body)) f.xs f.found;
+      }
+
+  proper_unit : (n : ℕ) (p : Pou) → slice_get t.pous n ≡ Some p → IsHeaded p → IsProperUnit t.globals (map head_of t.pous) p
+  proper_unit n p q headed =
+      let a = at n p q in
+      let b = has_body n p q a in
+      let low : 0 + body_nesting b.found.xs ≤ max 0 (top_all 0 b.read.body) = b.found.low 0 in
+      let top : top_all 0 b.read.body ≤ deepest = b.read.within in
+      let few : body_nesting b.found.xs ≤ deepest = omega (arith, low, top) in
       record {
         name = headed.name;
         free = headed.free;
         program = headed.program;
         formals = each_all IsFormal p.formals headed.formals;
         locals = each_all IsLocal p.locals headed.locals;
-        apart = inner_apart p inner.apart;
-        typed = subst (λ (b : List Stmt). are_well_typed (sight_in t p) false b ≡ true) (sym body) f.typed;
-        nesting = subst (λ (b : List Stmt). body_nesting b ≤ deepest) (sym body) few;
+        apart = inner_apart p a.inner.apart;
+        typed = subst (λ (b : List Stmt). are_well_typed (sight_in t p) false b ≡ true) (sym b.same) b.found.typed;
+        nesting = subst (λ (b : List Stmt). body_nesting b ≤ deepest) (sym b.same) few;
       }
 
   proper_units : Each (IsProperUnit t.globals (map head_of t.pous)) t.pous
-  proper_units = each_from (IsProperUnit t.globals (map head_of t.pous)) t.pous (λ n p q.
-      let make = unit_of (names_of raw) (map formals_of raw.pous) in
-      let same = ap (λ (s : StProgram). s.pous) typed.same in
-      let u = mapped_from make raw.pous n p (sym (ap (λ (ps : List Pou). slice_get ps n) same) ∙ q) in
+  proper_units =
       let headed = subst (λ (s : StProgram). Each IsHeaded s.pous) (sym typed.same)
       (are_headed (names_of raw) (map formals_of raw.pous) source.units fits.1 worded.1) in
-      let read = were_read source.units (levels_section levels_globals source.globals []) fits.1 worded.1 within.1 in
-      proper_unit n p u.0 q u.1 u.2 (each_at IsHeaded t.pous n p headed q) (each_at WasRead raw.pous n u.0 read u.1))
+      each_from (IsProperUnit t.globals (map head_of t.pous)) t.pous
+      (λ n p q. proper_unit n p q (each_at IsHeaded t.pous n p headed q))
+
+  have_calls : HaveCalls t (calls_in raw)
+  have_calls n p q =
+      let a = at n p q in
+      let b = has_body n p q a in
+      record {
+        calls = all_calls (scope_of a.u) a.u.body;
+        there = mapped_at (calls_of_unit (names_of raw) (map formals_of raw.pous)) raw.pous n a.u a.there;
+        most = λ f.
+            subst (λ (xs : List Stmt). called_most f xs ≤ bound_all (of_heads (map head_of t.pous) f) (scope_of a.u) a.u.body) (sym b.same)
+            (subst (λ (rs : List RawStmt). called_most f b.found.xs ≤ bound_all (of_heads (map head_of t.pous) f) (scope_of a.u) rs)
+            (sym b.read.same) (b.found.calls f));
+      }
 
   proper : Proper t
   proper = record {
-    blocks = are_blocks raw t typed;
+    blocks = are_blocks raw t declared;
     bytes = each_all IsDataBlock t.dbs (subst (λ (s : StProgram). Each IsDataBlock s.dbs) (sym typed.same) (blocks_held source.globals worded.0));
     globals = each_all IsGlobal t.globals (subst (λ (s : StProgram). Each IsGlobal s.globals) (sym typed.same) (globals_held source.globals fits.0 worded.0));
-    apart = outer_apart t (is_declared raw t typed).names.apart;
+    apart = outer_apart t declared.names.apart;
     some = some_mapped (unit_of (names_of raw) (map formals_of raw.pous)) raw.pous t.pous (ap (λ (s : StProgram). s.pous) typed.same) typed.chain.some;
     units = each_all (IsProperUnit t.globals (map head_of t.pous)) t.pous proper_units;
-    chains = short_chains raw t typed;
+    chains = short_chains raw t typed have_calls;
   }
 
 -- what a source of the language has is proper

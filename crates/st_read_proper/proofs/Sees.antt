@@ -8,11 +8,13 @@ use Rattle.s7_base.specs.declared.reason.Reason.TheVariants.{BadAddress}
 use Rattle.s7_base.specs.declared.word.Width.{Width}
 use Rattle.st_canonical.specs.Spelled.{is_variable}
 use Rattle.st_lexer.specs.Spelled as written
-use Rattle.st_read_proper.proofs.Keyed.{AreDistinct}
-use Rattle.st_read_proper.proofs.RulesAgree.{place_is}
-use Rattle.st_rules.specs.Names.{key_of}
+use Rattle.std.proofs.lemmas.Bool.{and_parts}
+use Rattle.st_types_laws.proofs.Keyed.{AreDistinct}
+use Rattle.st_read_proper.proofs.Places.{place_is}
+use Rattle.st_tree.specs.Naming.{key_of}
 use Rattle.st_rules.specs.Scopes.{meaning_in}
-use Rattle.st_rules.specs.Variables.{is_block_number, is_place, variable, variable_named, variable_of}
+use Rattle.st_tree.specs.PlaceRules.{is_block_number}
+use Rattle.st_rules.specs.Variables.{is_place, variable, variable_named, variable_of}
 use Rattle.st_rules.specs.declared.scope.Formals.{Formals}
 use Rattle.st_rules.specs.declared.scope.Meaning.{Meaning}
 use Rattle.st_rules.specs.declared.scope.Meaning.TheVariants as meaning
@@ -53,10 +55,6 @@ pub record Sees (scope : Scope) (sight : Sight) : Type 0 where
 
 -- Variables
 
-two : (a b : Bool) → (a && b) ≡ true → (a ≡ true) × (b ≡ true)
-two true b h = (refl, h)
-two false b h = absurd cc
-
 module _ (scope : Scope) (sight : Sight) (sees : Sees scope sight) where
   -- a variable has its type
   abbrev pub Has : TypedVar → Type 0
@@ -74,15 +72,14 @@ module _ (scope : Scope) (sight : Sight) (sees : Sees scope sight) where
   of_meaning key (Some (meaning.Global i ty)) v e h =
       let is : record { ty = ty; var = var.Global i } ≡ v = cc in subst Has is (sees.global key i ty e)
   of_meaning key (Some meaning.Block) v e h = absurd cc
-  of_meaning key (Some meaning.Program) v e h = absurd cc
-  of_meaning key (Some (meaning.Function i)) v e h = absurd cc
+  of_meaning key other v e h = absurd cc
 
   plain_place : (a : AreaName) (w : Width) (byte bit : ℕ) (v : TypedVar) (t : Bool) → is_place a w byte bit ≡ t
       → written.is_place a None w byte bit ≡ true
       → cond t (variable_of (type_of_width w) (var.Direct a byte bit w)) (Err BadAddress) ≡ Ok v → Has v
   plain_place a w byte bit v false e s h = absurd cc
   plain_place a w byte bit v true e s h =
-      let bits : written.is_bit_of w bit ≡ true = (two (written.is_kept byte) (written.is_bit_of w bit) s).1 in
+      let bits : written.is_bit_of w bit ≡ true = (and_parts (written.is_kept byte) (written.is_bit_of w bit) s).1 in
       let is : record { ty = type_of_width w; var = var.Direct a byte bit w } ≡ v = cc in
       subst Has is (ap (λ t. where_true t (type_of_width w)) (place_is a w byte bit bits e))
 
@@ -92,8 +89,8 @@ module _ (scope : Scope) (sight : Sight) (sees : Sees scope sight) where
   block_place a n w byte bit v false e s h = absurd cc
   block_place a n w byte bit v true e s h =
       let bits : written.is_bit_of w bit ≡ true =
-      (two (written.is_block_of a (Some n) && written.is_kept byte) (written.is_bit_of w bit) s).1 in
-      let parts = two (is_block_number n) (is_place area.Db w byte bit) e in
+      (and_parts (written.is_block_of a (Some n) && written.is_kept byte) (written.is_bit_of w bit) s).1 in
+      let parts = and_parts (is_block_number n) (is_place area.Db w byte bit) e in
       let place : places.is_place area.Db w byte bit ≡ true = place_is area.Db w byte bit bits parts.1 in
       let is : record { ty = type_of_width w; var = var.InBlock n byte bit w } ≡ v = cc in
       subst Has is (

@@ -1,54 +1,69 @@
--- Statements that break no rule, by their parts: they are well typed, and nest no deeper than they are written.
-use Rattle.std.proofs.Common.{◌≡◌, ℕ, suc, ◌+◌, ◌≤◌, max, ◌++◌, ℤ, Bool, true, false, ◌&&◌, List, [], ◌∷◌, map, Option, Some, Ok, refl, sym, ap, subst, ◌∙◌, arith}
+-- Statements that break no rule, by their parts: they are well typed, nest no deeper than they are written, and
+-- call what the text calls.
+use Rattle.std.proofs.Common.{◌≡◌, ℕ, suc, ◌+◌, ◌≤◌, max, ◌++◌, ℤ, Bool, true, ◌&&◌, List, [], ◌∷◌, map, Option, Some, None, Ok, refl, sym, ap, subst, ◌∙◌, arith}
 use Rattle.std.specs.List.{list_all}
+use Rattle.std.specs.Prelude.{slice_get}
+use Rattle.std.proofs.lemmas.Bool.{and_parts}
 use Rattle.s7_base.specs.declared.reason.Line.{Line}
 use Rattle.s7_base.specs.declared.word.Width.{Width}
 use Rattle.st_grammar.specs.Forms.{Form, Labels, Statement, assign, write, choice, choice_else, cases, cases_else, loop, jump, Statements, none, empty, further, Arms, no_arm, arm, CaseArms, no_case, case_arm}
 use Rattle.st_grammar.specs.Grammar.{HasArm, HasCase, arm_of as raw_arm, case_of as raw_case, may_jump, tree, tree_all, tree_arms, tree_cases, tree_labels, tree_one}
 use Rattle.st_grammar.specs.declared.kind.Jump.{Jump}
 use Rattle.st_grammar.specs.declared.kind.Jump.TheVariants as jump_word
-use Rattle.st_read_proper.proofs.Actions.{act_continue, act_exit, act_return}
-use Rattle.st_read_proper.proofs.CaseLabels.{FoundLabels, is_own_type, no_label_breaks, same_type, values_of}
+use Rattle.st_types_laws.proofs.Actions.{act_continue, act_exit, act_return}
+use Rattle.st_read_proper.proofs.CaseLabels.{FoundLabels}
+use Rattle.st_types_laws.proofs.Labels.{is_own_type, no_label_breaks, same_type, values_of}
 use Rattle.st_read_proper.proofs.Expressions.{Found}
-use Rattle.st_read_proper.proofs.Levels.{top_all, top_arms, top_cases, top_one}
-use Rattle.st_read_proper.proofs.Parts.{AreSound, arm_is, assign_is, case_arm_is, case_is, if_is, map_last, selector_is, test_is, values, while_is, write_is, writes}
-use Rattle.st_read_proper.proofs.RulesAgree.{is_type_agrees, selector_agrees}
+use Rattle.st_canonical.proofs.Levels.{top_all, top_arms, top_cases, top_one}
+use Rattle.st_types_laws.proofs.Bounds.{all_last, arms_last, bound, bound_all, bound_arms, bound_case, bound_cases, bound_if, bound_while, cases_last, greatest_last}
+use Rattle.st_types_laws.proofs.Parts.{AreSound, arm_is, assign_is, case_arm_is, case_is, if_is, selector_is, test_is, values, while_is, write_is, writes, arms_sound_last, cases_sound_last, statements_last}
+use Rattle.st_types_laws.proofs.Lists.{both_true}
 use Rattle.st_rules.specs.Broken.{sound}
-use Rattle.st_rules.specs.Statements.{Armed, Labelled, arm as arm_in, arms_on, case_arm as case_arm_in, case_arms_on, label_breaks, statement, statements}
-use Rattle.st_rules.specs.Types as rules
+use Rattle.st_rules.specs.Calls.{calls_of}
+use Rattle.st_rules.specs.Statements.{arm as arm_in, arms_on, case_arm as case_arm_in, case_arms_on, label_breaks, statement, statements}
+use Rattle.st_tree.specs.TypeRules as rules
 use Rattle.st_rules.specs.Variables.{variable as variable_in}
 use Rattle.st_rules.specs.declared.scope.Scope.{Scope}
 use Rattle.st_rules.specs.declared.variable.TypedVar.{TypedVar}
+use Rattle.st_tree.proofs.CalledMost.{called_area_write, called_assign, called_case, called_continue, called_exit, called_if, called_in_arm, called_in_case, called_last, called_most, called_return, called_while}
 use Rattle.st_tree.proofs.TypingEquations.{good_area_write, good_arm, good_assign, good_case, good_case_arm, good_continue, good_exit, good_if, good_return, good_while, nesting_area_write, nesting_arm, nesting_assign, nesting_case, nesting_case_arm, nesting_continue, nesting_exit, nesting_if, nesting_return, nesting_while}
-use Rattle.st_tree.specs.Costs.{greatest}
+use Rattle.st_tree.specs.Depth.{greatest}
 use Rattle.st_tree.specs.Nesting.{arm_nesting, body_nesting, case_nesting, nesting}
 use Rattle.st_tree.specs.TypeRules.{is_selector}
 use Rattle.st_tree.specs.Values.{type_of_width}
-use Rattle.st_tree.specs.WellTyped.{Sight, are_cases, are_well_typed, each, each_case, expression_type, has_type, is_arm, is_assigned, is_case_arm, is_some_of, is_value, is_well_typed, variable_type}
+use Rattle.st_tree.specs.WellTyped.{Head, Sight, are_cases, are_well_typed, each, each_case, expression_type, has_type, is_arm, is_assigned, is_case_arm, is_some_of, is_value, is_well_typed, variable_type}
 use Rattle.st_tree.specs.declared.expr.StType.{StType}
 use Rattle.st_tree.specs.declared.expr.StType.TheVariants as type
 use Rattle.st_tree.specs.declared.program.Arm.{Arm}
 use Rattle.st_tree.specs.declared.program.CaseArm.{CaseArm}
 use Rattle.st_tree.specs.declared.program.Stmt.{Stmt}
 use Rattle.st_tree.specs.declared.program.Stmt.TheVariants as stmt
-use Rattle.st_tree.specs.declared.raw.RawArm.{RawArm}
-use Rattle.st_tree.specs.declared.raw.RawCaseArm.{RawCaseArm}
-use Rattle.st_tree.specs.declared.raw.RawStmt.{RawStmt}
 use Rattle.st_tree.specs.declared.raw.RawVar.{RawVar}
 
--- what was read is in the tree, is well typed, and nests no deeper
+-- what a unit costs that is there
+abbrev pub cost_of : Option Head → ℕ → ℕ
+cost_of None cost = 0
+cost_of (Some head) cost = cost
+
+-- the costs of the units that are there
+abbrev pub of_heads : List Head → (ℕ → ℕ) → ℕ → ℕ
+of_heads heads f n = cost_of (slice_get heads n) (f n)
+
+-- what was read is in the tree, is well typed, nests no deeper, and costs no more than the units that are called
 module _ (scope : Scope) (sight : Sight) (inside : Bool) where
   pub record FoundOne (s : Statement) : Type 0 where
     pub x : Stmt
     pub found : statement scope (tree_one s) ≡ sound x
     pub typed : is_well_typed sight x inside ≡ true
     pub low : (d : ℕ) → d + nesting x ≤ top_one d s
+    pub calls : (f : ℕ → ℕ) → called_most f (x ∷ []) ≤ bound (of_heads sight.heads f) (calls_of scope (tree_one s))
 
   pub record FoundAll (b : Statements) : Type 0 where
     pub xs : List Stmt
     pub found : AreSound (statements scope (tree_all b)) xs
     pub typed : are_well_typed sight inside xs ≡ true
     pub low : (d : ℕ) → d + body_nesting xs ≤ max d (top_all d b)
+    pub calls : (f : ℕ → ℕ) → called_most f xs ≤ bound_all (of_heads sight.heads f) scope (tree_all b)
 
   pub record FoundArms (l : Line) (arms : Arms) : Type 0 where
     pub xs : List Arm
@@ -56,6 +71,8 @@ module _ (scope : Scope) (sight : Sight) (inside : Bool) where
     pub typed : each inside (map (is_arm sight) xs) ≡ true
     pub some : HasArm arms → is_some_of (map (is_arm sight) xs) ≡ true
     pub low : (d : ℕ) → d + greatest (map arm_nesting xs) ≤ max d (top_arms d arms)
+    pub calls : (f : ℕ → ℕ) → greatest (map (called_in_arm f) xs)
+        ≤ bound_arms (of_heads sight.heads f) scope (tree_arms arms)
 
   pub record FoundCases (l : Line) (ty : StType) (arms : CaseArms) : Type 0 where
     pub xs : List CaseArm
@@ -63,52 +80,21 @@ module _ (scope : Scope) (sight : Sight) (inside : Bool) where
     pub typed : each_case ty inside (map (is_case_arm sight) xs) ≡ true
     pub some : HasCase arms → is_some_of (map (is_case_arm sight) xs) ≡ true
     pub low : (d : ℕ) → d + greatest (map case_nesting xs) ≤ max d (top_cases d arms)
+    pub calls : (f : ℕ → ℕ) → greatest (map (called_in_case f) xs)
+        ≤ bound_cases (of_heads sight.heads f) scope (tree_cases arms)
 
 -- Lists, with one part more
 
-all_true : (a b : Bool) → a ≡ true → b ≡ true → (a && b) ≡ true
-all_true a b h g = ap (λ t. t && b) h ∙ g
-
 checks_last : {X C : Type 0} (f : X → C) (t : C → Bool) (xs : List X) (x : X) → list_all t (map f xs) ≡ true
     → t (f x) ≡ true → list_all t (map f (xs ++ x ∷ [])) ≡ true
-checks_last f t [] x h g = all_true (t (f x)) true g refl
+checks_last f t [] x h g = both_true (t (f x)) true g refl
 checks_last f t (y ∷ xs) x h g =
-    let p = parts (t (f y)) (list_all t (map f xs)) h in
-    all_true (t (f y)) (list_all t (map f (xs ++ x ∷ []))) p.0 (checks_last f t xs x p.1 g)
-  where
-    parts : (a b : Bool) → (a && b) ≡ true → (a ≡ true) × (b ≡ true)
-    parts true b h = (refl, h)
-    parts false b h = absurd cc
+    let p = and_parts (t (f y)) (list_all t (map f xs)) h in
+    both_true (t (f y)) (list_all t (map f (xs ++ x ∷ []))) p.0 (checks_last f t xs x p.1 g)
 
 some_last : {X C : Type 0} (f : X → C) (xs : List X) (x : X) → is_some_of (map f (xs ++ x ∷ [])) ≡ true
 some_last f [] x = refl
 some_last f (y ∷ xs) x = refl
-
-greatest_last : {X : Type 0} (f : X → ℕ) (xs : List X) (x : X)
-    → greatest (map f (xs ++ x ∷ [])) ≡ max (greatest (map f xs)) (f x)
-greatest_last f [] x = omega arith
-greatest_last f (y ∷ xs) x = omega (arith, greatest_last f xs x)
-
-statements_last : (s : Scope) (rs : List RawStmt) (r : RawStmt) (xs : List Stmt) (x : Stmt) → AreSound (statements s rs) xs → statement s r ≡ sound x
-    → AreSound (statements s (rs ++ r ∷ [])) (xs ++ x ∷ [])
-statements_last s rs r xs x h g =
-    map_last (statement s) rs r ∙ ap (λ z. z ++ statement s r ∷ []) h ∙ ap (λ z. map sound xs ++ z ∷ []) g ∙ sym (map_last sound xs x)
-
-pub arms_read_last : (s : Scope) (m : Line) (rs : List RawArm) (r : RawArm)
-    → arms_on m (map (arm_in s) (rs ++ r ∷ [])) ≡ arms_on m (map (arm_in s) rs) ++ arm_in s r m ∷ []
-arms_read_last s m rs r = ap (arms_on m) (map_last (arm_in s) rs r) ∙ map_last (λ (a : Armed). a m) (map (arm_in s) rs) (arm_in s r)
-
-pub cases_read_last : (s : Scope) (m : Line) (ty : Option StType) (rs : List RawCaseArm) (r : RawCaseArm)
-    → case_arms_on m ty (map (case_arm_in s) (rs ++ r ∷ [])) ≡ case_arms_on m ty (map (case_arm_in s) rs) ++ case_arm_in s r m ty ∷ []
-cases_read_last s m ty rs r = ap (case_arms_on m ty) (map_last (case_arm_in s) rs r) ∙ map_last (λ (a : Labelled). a m ty) (map (case_arm_in s) rs) (case_arm_in s r)
-
-arms_sound_last : (s : Scope) (m : Line) (rs : List RawArm) (r : RawArm) (xs : List Arm) (x : Arm) → AreSound (arms_on m (map (arm_in s) rs)) xs → arm_in s r m ≡ sound x
-    → AreSound (arms_on m (map (arm_in s) (rs ++ r ∷ []))) (xs ++ x ∷ [])
-arms_sound_last s m rs r xs x h g = arms_read_last s m rs r ∙ ap (λ z. z ++ arm_in s r m ∷ []) h ∙ ap (λ z. map sound xs ++ z ∷ []) g ∙ sym (map_last sound xs x)
-
-cases_sound_last : (s : Scope) (m : Line) (ty : Option StType) (rs : List RawCaseArm) (r : RawCaseArm) (xs : List CaseArm) (x : CaseArm)
-    → AreSound (case_arms_on m ty (map (case_arm_in s) rs)) xs → case_arm_in s r m ty ≡ sound x → AreSound (case_arms_on m ty (map (case_arm_in s) (rs ++ r ∷ []))) (xs ++ x ∷ [])
-cases_sound_last s m ty rs r xs x h g = cases_read_last s m ty rs r ∙ ap (λ z. z ++ case_arm_in s r m ty ∷ []) h ∙ ap (λ z. map sound xs ++ z ∷ []) g ∙ sym (map_last sound xs x)
 
 arms_high : (d : ℕ) (arms : Arms) → HasArm arms → d ≤ top_arms d arms
 arms_high d no_arm h = absurd h
@@ -136,15 +122,18 @@ module _ (scope : Scope) (sight : Sight) (inside : Bool) where
   -- an expression of a type
   typed_as : (l : Line) (e : Form) (ty : StType) → (g : An l e) → rules.is_type g.t.ty ty ≡ true
       → has_type ty (expression_type sight g.t.tree) ≡ true
-  typed_as l e ty g fits = ap (has_type ty) g.typed ∙ sym (is_type_agrees g.t.ty ty) ∙ fits
+  typed_as l e ty g fits = ap (has_type ty) g.typed ∙ fits
+
+  abbrev costs : (ℕ → ℕ) → ℕ → ℕ
+  costs f = of_heads sight.heads f
 
   -- Bodies
 
   pub of_none : All none
-  of_none = record { xs = []; found = refl; typed = refl; low = λ d. omega arith }
+  of_none = record { xs = []; found = refl; typed = refl; low = λ d. omega arith; calls = λ f. omega arith }
 
   pub of_empty : (b : Statements) → All b → All (empty b)
-  of_empty b p = record { xs = p.xs; found = p.found; typed = p.typed; low = λ d. omega (arith, p.low d) }
+  of_empty b p = record { xs = p.xs; found = p.found; typed = p.typed; low = λ d. omega (arith, p.low d); calls = p.calls }
 
   pub of_further : (b : Statements) (s : Statement) → All b → One s → All (further b s)
   of_further b s p q = record {
@@ -152,6 +141,13 @@ module _ (scope : Scope) (sight : Sight) (inside : Bool) where
     found = statements_last scope (tree_all b) (tree_one s) p.xs q.x p.found q.found;
     typed = checks_last (is_well_typed sight) (λ c. c inside) p.xs q.x p.typed q.typed;
     low = λ d. omega (arith, greatest_last nesting p.xs q.x, p.low d, q.low d);
+    calls = λ f. omega (
+      arith,
+      p.calls f,
+      q.calls f,
+      called_last f p.xs q.x,
+      all_last (costs f) scope (tree_all b) (tree_one s),
+    );
   }
 
   -- Assignments and writes
@@ -163,27 +159,25 @@ module _ (scope : Scope) (sight : Sight) (inside : Bool) where
     found = assign_is scope l v (tree e) x g.t there g.found fits;
     typed = good_assign sight inside x.var g.t.tree
         ∙ ap (λ o. is_assigned o (expression_type sight g.t.tree)) has
-        ∙ ap (has_type x.ty) g.typed ∙ sym (is_type_agrees g.t.ty x.ty) ∙ turned x.ty g.t.ty fits;
+        ∙ ap (has_type x.ty) g.typed ∙ turned x.ty g.t.ty fits;
     low = λ d. omega (arith, nesting_assign x.var g.t.tree, g.close.inner);
+    calls = λ f. omega (arith, called_assign f x.var g.t.tree);
   }
 
   pub of_write : (l : Line) (w : Width) (p e : Form) → (f : An l p) → (g : An l e) → writes w f.t g.t ≡ true
       → One (write l w p e)
   of_write l w p e f g fits =
-      let parts = two (rules.is_type f.t.ty type.Dword) (rules.is_type g.t.ty (type_of_width w)) fits in
+      let parts = and_parts (rules.is_type f.t.ty type.Dword) (rules.is_type g.t.ty (type_of_width w)) fits in
       record {
         x = stmt.AreaWrite w f.t.tree g.t.tree;
         found = write_is scope l w (tree p) (tree e) f.t g.t f.found g.found fits;
         typed = good_area_write sight inside w f.t.tree g.t.tree
-            ∙ all_true (has_type type.Dword (expression_type sight f.t.tree))
+            ∙ both_true (has_type type.Dword (expression_type sight f.t.tree))
             (has_type (type_of_width w) (expression_type sight g.t.tree))
             (typed_as l p type.Dword f parts.0) (typed_as l e (type_of_width w) g parts.1);
         low = λ d. omega (arith, nesting_area_write w f.t.tree g.t.tree, f.close.inner, g.close.inner);
+        calls = λ h. omega (arith, called_area_write h w f.t.tree g.t.tree);
       }
-    where
-      two : (a b : Bool) → (a && b) ≡ true → (a ≡ true) × (b ≡ true)
-      two true b h = (refl, h)
-      two false b h = absurd cc
 
   -- Jumps
 
@@ -193,18 +187,21 @@ module _ (scope : Scope) (sight : Sight) (inside : Bool) where
     found = act_exit scope l;
     typed = good_exit sight inside ∙ fits;
     low = λ d. omega (arith, nesting_exit);
+    calls = λ f. omega (arith, called_exit f);
   }
   of_jump l jump_word.Continue fits = record {
     x = stmt.Continue;
     found = act_continue scope l;
     typed = good_continue sight inside ∙ fits;
     low = λ d. omega (arith, nesting_continue);
+    calls = λ f. omega (arith, called_continue f);
   }
   of_jump l jump_word.Return fits = record {
     x = stmt.Return;
     found = act_return scope l;
     typed = good_return sight inside;
     low = λ d. omega (arith, nesting_return);
+    calls = λ f. omega (arith, called_return f);
   }
 
   -- WHILE
@@ -215,15 +212,28 @@ module _ (scope : Scope) (sight : Sight) (inside : Bool) where
     x = stmt.While g.t.tree p.xs;
     found = while_is scope l (tree e) (tree_all b) g.t.tree p.xs (test_is scope l (tree e) g.t g.found fits) p.found;
     typed = good_while sight inside g.t.tree p.xs
-        ∙ all_true (has_type type.Bool (expression_type sight g.t.tree)) (are_well_typed sight true p.xs)
+        ∙ both_true (has_type type.Bool (expression_type sight g.t.tree)) (are_well_typed sight true p.xs)
         (typed_as l e type.Bool g fits) p.typed;
     low = λ d. omega (arith, nesting_while g.t.tree p.xs, g.close.inner, p.low (suc d));
+    calls = λ f. omega (
+      arith,
+      p.calls f,
+      bound_while (costs f) scope l (tree e) (tree_all b),
+      called_while f g.t.tree p.xs,
+    );
   }
 
   -- IF
 
   pub of_no_arm : (l : Line) → SomeArms l no_arm
-  of_no_arm l = record { xs = []; found = refl; typed = refl; some = λ h. absurd h; low = λ d. omega arith }
+  of_no_arm l = record {
+    xs = [];
+    found = refl;
+    typed = refl;
+    some = λ h. absurd h;
+    low = λ d. omega arith;
+    calls = λ f. omega arith;
+  }
 
   pub of_arm : (l : Line) (others : Arms) (e : Form) (b : Statements) → SomeArms l others → (g : An l e)
       → rules.is_type g.t.ty type.Bool ≡ true → All b → SomeArms l (arm others e b)
@@ -235,10 +245,17 @@ module _ (scope : Scope) (sight : Sight) (inside : Bool) where
         found = arms_sound_last scope l (tree_arms others) read p.xs x p.found
             (arm_is scope l (tree e) (tree_all b) g.t.tree q.xs (test_is scope l (tree e) g.t g.found fits) q.found);
         typed = checks_last (is_arm sight) (λ c. c inside) p.xs x p.typed (good_arm sight inside x
-            ∙ all_true (has_type type.Bool (expression_type sight g.t.tree)) (are_well_typed sight inside q.xs)
+            ∙ both_true (has_type type.Bool (expression_type sight g.t.tree)) (are_well_typed sight inside q.xs)
             (typed_as l e type.Bool g fits) q.typed);
         some = λ h. some_last (is_arm sight) p.xs x;
         low = λ d. omega (arith, greatest_last arm_nesting p.xs x, nesting_arm x, p.low d, g.close.inner, q.low d);
+        calls = λ f. omega (
+          arith,
+          p.calls f,
+          q.calls f,
+          greatest_last (called_in_arm f) p.xs x,
+          arms_last (costs f) scope (tree_arms others) (tree e) (tree_all b),
+        );
       }
 
   if_typed : (arms : List Arm) (other : List Stmt) → is_some_of (map (is_arm sight) arms) ≡ true
@@ -247,8 +264,8 @@ module _ (scope : Scope) (sight : Sight) (inside : Bool) where
   if_typed arms other some h g =
       let first : Bool = is_some_of (map (is_arm sight) arms) && each inside (map (is_arm sight) arms) in
       good_if sight inside arms other
-      ∙ all_true first (are_well_typed sight inside other)
-      (all_true (is_some_of (map (is_arm sight) arms)) (each inside (map (is_arm sight) arms)) some h) g
+      ∙ both_true first (are_well_typed sight inside other)
+      (both_true (is_some_of (map (is_arm sight) arms)) (each inside (map (is_arm sight) arms)) some h) g
 
   pub of_choice : (l : Line) (arms : Arms) → HasArm arms → SomeArms l arms → One (choice l arms)
   of_choice l arms some p = record {
@@ -256,6 +273,7 @@ module _ (scope : Scope) (sight : Sight) (inside : Bool) where
     found = if_is scope l (tree_arms arms) [] p.xs [] p.found refl;
     typed = if_typed p.xs [] (p.some some) p.typed refl;
     low = λ d. omega (arith, nesting_if p.xs [], p.low (suc d), arms_high (suc d) arms some);
+    calls = λ f. omega (arith, p.calls f, bound_if (costs f) scope l (tree_arms arms) [], called_if f p.xs []);
   }
 
   pub of_choice_else : (l : Line) (arms : Arms) (b : Statements) → HasArm arms → SomeArms l arms → All b
@@ -265,12 +283,26 @@ module _ (scope : Scope) (sight : Sight) (inside : Bool) where
     found = if_is scope l (tree_arms arms) (tree_all b) p.xs q.xs p.found q.found;
     typed = if_typed p.xs q.xs (p.some some) p.typed q.typed;
     low = λ d. omega (arith, nesting_if p.xs q.xs, p.low (suc d), q.low (suc d));
+    calls = λ f. omega (
+      arith,
+      p.calls f,
+      q.calls f,
+      bound_if (costs f) scope l (tree_arms arms) (tree_all b),
+      called_if f p.xs q.xs,
+    );
   }
 
   -- CASE
 
   pub of_no_case : (l : Line) (ty : StType) → SomeCases l ty no_case
-  of_no_case l ty = record { xs = []; found = refl; typed = refl; some = λ h. absurd h; low = λ d. omega arith }
+  of_no_case l ty = record {
+    xs = [];
+    found = refl;
+    typed = refl;
+    some = λ h. absurd h;
+    low = λ d. omega arith;
+    calls = λ f. omega arith;
+  }
 
   pub of_case_arm : (l : Line) (ty : StType) (others : CaseArms) (labels : Labels) (b : Statements)
       → SomeCases l ty others → FoundLabels ty labels → All b → SomeCases l ty (case_arm others labels b)
@@ -283,9 +315,16 @@ module _ (scope : Scope) (sight : Sight) (inside : Bool) where
             (case_arm_is scope l ty (tree_labels labels) (tree_all b) ns q.xs (ap (label_breaks l (Some ty)) g.found ∙ no_label_breaks l ty ns)
             (ap values g.found ∙ values_of ty ns) q.found);
         typed = checks_last (is_case_arm sight) (λ c. c ty inside) p.xs x p.typed (good_case_arm sight inside x ty
-            ∙ all_true (is_some_of ns && list_all (is_value ty) ns) (are_well_typed sight inside q.xs) g.typed q.typed);
+            ∙ both_true (is_some_of ns && list_all (is_value ty) ns) (are_well_typed sight inside q.xs) g.typed q.typed);
         some = λ h. some_last (is_case_arm sight) p.xs x;
         low = λ d. omega (arith, greatest_last case_nesting p.xs x, nesting_case_arm x, p.low d, q.low d);
+        calls = λ f. omega (
+          arith,
+          p.calls f,
+          q.calls f,
+          greatest_last (called_in_case f) p.xs x,
+          cases_last (costs f) scope (tree_cases others) (tree_labels labels) (tree_all b),
+        );
       }
 
   case_typed : (l : Line) (e : Form) (g : An l e) (arms : List CaseArm) (other : List Stmt)
@@ -297,9 +336,9 @@ module _ (scope : Scope) (sight : Sight) (inside : Bool) where
       let first : Bool = is_selector g.t.ty && is_some_of checks in
       good_case sight inside g.t.tree arms other
       ∙ ap (λ o. are_cases o inside checks && are_well_typed sight inside other) g.typed
-      ∙ all_true (first && each_case g.t.ty inside checks) (are_well_typed sight inside other)
-      (all_true first (each_case g.t.ty inside checks)
-      (all_true (is_selector g.t.ty) (is_some_of checks) (sym (selector_agrees g.t.ty) ∙ fits) some) h) more
+      ∙ both_true (first && each_case g.t.ty inside checks) (are_well_typed sight inside other)
+      (both_true first (each_case g.t.ty inside checks)
+      (both_true (is_selector g.t.ty) (is_some_of checks) (fits) some) h) more
 
   pub of_cases : (l : Line) (e : Form) (arms : CaseArms) → HasCase arms → (g : An l e)
       → rules.is_selector g.t.ty ≡ true → SomeCases l g.t.ty arms → One (cases l e arms)
@@ -308,6 +347,12 @@ module _ (scope : Scope) (sight : Sight) (inside : Bool) where
     found = case_is scope l (tree e) (tree_cases arms) [] g.t p.xs [] (selector_is scope l (tree e) g.t g.found fits) p.found refl;
     typed = case_typed l e g p.xs [] fits (p.some some) p.typed refl;
     low = λ d. omega (arith, nesting_case g.t.tree p.xs [], g.close.inner, p.low (suc d));
+    calls = λ f. omega (
+      arith,
+      p.calls f,
+      bound_case (costs f) scope l (tree e) (tree_cases arms) [],
+      called_case f g.t.tree p.xs [],
+    );
   }
 
   pub of_cases_else : (l : Line) (e : Form) (arms : CaseArms) (b : Statements) → HasCase arms → (g : An l e)
@@ -317,4 +362,11 @@ module _ (scope : Scope) (sight : Sight) (inside : Bool) where
     found = case_is scope l (tree e) (tree_cases arms) (tree_all b) g.t p.xs q.xs (selector_is scope l (tree e) g.t g.found fits) p.found q.found;
     typed = case_typed l e g p.xs q.xs fits (p.some some) p.typed q.typed;
     low = λ d. omega (arith, nesting_case g.t.tree p.xs q.xs, g.close.inner, p.low (suc d), q.low (suc d));
+    calls = λ f. omega (
+      arith,
+      p.calls f,
+      q.calls f,
+      bound_case (costs f) scope l (tree e) (tree_cases arms) (tree_all b),
+      called_case f g.t.tree p.xs q.xs,
+    );
   }

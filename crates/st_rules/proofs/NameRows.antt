@@ -10,9 +10,10 @@ use Rattle.st_tree.specs.declared.expr.BinaryOp.TheVariants as binary
 use Rattle.st_tree.specs.declared.expr.StType.TheVariants as type
 use Rattle.st_tree.specs.declared.expr.UnaryOp.TheVariants as unary
 use Rattle.st_tree.specs.declared.expr.Var.TheVariants as var
-use Rattle.st_rules.specs.Names.{key_of, look_up, with_entry}
+use Rattle.st_rules.specs.Names.{look_up, with_entry}
+use Rattle.st_tree.specs.Naming.{key_of}
 use Rattle.st_rules.specs.Scopes.{meaning_in, register_named}
-use Rattle.st_rules.specs.Types.{type_of_binary, type_of_choice, type_of_conversion, type_of_read, type_of_shift, type_of_unary, has_width}
+use Rattle.st_tree.specs.TypeRules.{type_of_binary, type_of_choice, type_of_conversion, type_of_read, type_of_shift, type_of_unary, has_width}
 use Rattle.st_rules.specs.Variables.{is_address, place_at, variable_named}
 use Rattle.st_rules.specs.declared.scope.Meaning.TheVariants as meaning
 

@@ -2,7 +2,8 @@
 use Rattle.std.proofs.Common.{◌≡◌, ℕ, Bool, true, false, cond, List, [], ◌∷◌, ◌++◌, map, Option, Some, None, is_some, refl, sym, ap, ◌∙◌}
 use Rattle.std.specs.Map.{lookup}
 use Rattle.indexmap.specs.IndexMap.{insert_entry}
-use Rattle.st_rules.specs.Names.{is_same, look_up, with_entry}
+use Rattle.st_rules.specs.Names.{look_up, with_entry}
+use Rattle.st_tree.specs.Naming.{is_same}
 
 -- the first key that is the same is found in either form
 pub looks : {K T : Type 0} (items : K → List ℕ) (key : List ℕ) (es : List (K × T))

@@ -15,7 +15,7 @@ use Rattle.call_chains.specs.Chain.{Graph, chains, follow}
 use Rattle.st_rules.specs.Declarations.{one_too_many}
 use Rattle.st_rules.specs.Globals.{block_breaks, block_number, contents, fits_type, inserted}
 use Rattle.st_rules.specs.Invocations.{call_with, formal_breaks, no_call}
-use Rattle.st_rules.specs.Names.{key_of}
+use Rattle.st_tree.specs.Naming.{key_of}
 use Rattle.st_rules.specs.declared.scope.Scope.{Scope}
 
 abbrev line : ℕ → Line

@@ -9,7 +9,7 @@ use Rattle.st_tree.specs.declared.raw.RawStmt.{RawStmt, RawStmt-F, fold-RawStmt}
 use Rattle.st_tree.specs.declared.raw.RawStmtKind.{RawStmtKind, fold-RawStmtKind}
 use Rattle.st_tree.specs.declared.raw.RawStmtKind.TheOpen as K
 use Rattle.st_rules.specs.Invocations.{callee}
-use Rattle.st_rules.specs.Names.{key_of}
+use Rattle.st_tree.specs.Naming.{key_of}
 use Rattle.st_rules.specs.Scopes.{meaning_in}
 use Rattle.call_chains.specs.declared.call.Call.{Call}
 use Rattle.st_rules.specs.declared.scope.Scope.{Scope}

@@ -18,9 +18,10 @@ use Rattle.st_tree.specs.declared.raw.RawGlobalType.TheVariants as type
 use Rattle.st_tree.specs.declared.raw.RawVar.{RawVar}
 use Rattle.st_tree.specs.declared.raw.RawVar.TheVariants as raw
 use Rattle.st_rules.specs.Broken.{broken, listed}
-use Rattle.st_rules.specs.Names.{key_of, is_block_name}
-use Rattle.st_rules.specs.Types.{has_width}
-use Rattle.st_rules.specs.Variables.{is_address, is_block_number}
+use Rattle.st_tree.specs.Naming.{key_of, names_block}
+use Rattle.st_tree.specs.TypeRules.{has_width}
+use Rattle.st_rules.specs.Variables.{is_address}
+use Rattle.st_tree.specs.PlaceRules.{is_block_number}
 use Rattle.st_rules.specs.declared.broken.Break.{Break}
 
 -- a location is an address that there may be
@@ -71,7 +72,7 @@ number_from value (digit ∷ digits) = number_from (min (value * 10 + (digit - 4
 
 -- the number of a data block by its key, which is its name with a plain number; 0 for another name
 abbrev pub number_in : List ℕ → ℕ
-number_in key = if is_block_name key then number_from 0 (drop 2 key) else 0
+number_in key = if names_block key then number_from 0 (drop 2 key) else 0
 
 -- the number of a data block by its name as written, in any case and with zeros before it; 0 for
 -- another name

@@ -9,6 +9,5 @@ pub mod Names
 pub mod Scopes
 pub mod Statements
 pub mod Typed
-pub mod Types
 pub mod Units
 pub mod Variables

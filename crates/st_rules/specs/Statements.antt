@@ -22,7 +22,7 @@ use Rattle.st_tree.specs.declared.raw.RawStmtKind.TheOpen as K
 use Rattle.st_rules.specs.Broken.{Judged, sound, nothing, breaks_rule, behind, broken, found_in, breaks_in}
 use Rattle.st_rules.specs.Expressions.{expression, variable_on}
 use Rattle.st_rules.specs.Invocations.{invocation}
-use Rattle.st_rules.specs.Types.{is_type, is_selector}
+use Rattle.st_tree.specs.TypeRules.{is_type, is_selector}
 use Rattle.st_rules.specs.declared.broken.Break.{Break}
 use Rattle.st_rules.specs.declared.expression.Typed.{Typed}
 use Rattle.st_rules.specs.declared.scope.Scope.{Scope}

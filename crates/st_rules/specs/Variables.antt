@@ -1,9 +1,8 @@
 -- Written variables: what they are in the tree and their types, or the rule that they break.
-use Rattle.std.specs.Prelude.{ℕ, ◌+◌, Bool, ◌&&◌, nat_le, if◌then◌else◌, Option, Some, None, Result, Ok, Err}
-use Rattle.memory_areas.specs.Access.{bytes_wide}
+use Rattle.std.specs.Prelude.{ℕ, Bool, ◌&&◌, nat_le, if◌then◌else◌, Option, Some, None, Result, Ok, Err}
+use Rattle.memory_areas.specs.Access.{is_byte_in}
 use Rattle.memory_areas.specs.declared.place.AreaName.{AreaName}
 use Rattle.memory_areas.specs.declared.place.AreaName.TheVariants as area
-use Rattle.memory_areas.specs.declared.sizes.TheConstants.{INPUT_BYTES, OUTPUT_BYTES, MARKER_BYTES, LOCAL_BYTES}
 use Rattle.s7_base.specs.declared.reason.Reason.{Reason}
 use Rattle.s7_base.specs.declared.reason.Reason.TheVariants.{UnknownName, BadAddress, TypeMismatch}
 use Rattle.s7_base.specs.declared.word.Width.{Width}
@@ -14,26 +13,13 @@ use Rattle.st_tree.specs.declared.expr.Var.{Var}
 use Rattle.st_tree.specs.declared.expr.Var.TheVariants as var
 use Rattle.st_tree.specs.declared.raw.RawVar.{RawVar}
 use Rattle.st_tree.specs.declared.raw.RawVar.TheVariants as raw
-use Rattle.st_rules.specs.Names.{key_of}
+use Rattle.st_tree.specs.Naming.{key_of}
+use Rattle.st_tree.specs.PlaceRules.{is_block_number}
 use Rattle.st_rules.specs.Scopes.{meaning_in}
 use Rattle.st_rules.specs.declared.scope.Meaning.{Meaning}
 use Rattle.st_rules.specs.declared.scope.Meaning.TheVariants as meaning
 use Rattle.st_rules.specs.declared.scope.Scope.{Scope}
 use Rattle.st_rules.specs.declared.variable.TypedVar.{TypedVar}
-
--- the bytes of a written address lie in its area; in a data block, whose length shows at run time alone,
--- its byte number is at most 65,535, whatever its width
-abbrev pub is_byte_in : AreaName → Width → ℕ → Bool
-is_byte_in area.I w byte = nat_le (byte + bytes_wide w) INPUT_BYTES
-is_byte_in area.Q w byte = nat_le (byte + bytes_wide w) OUTPUT_BYTES
-is_byte_in area.M w byte = nat_le (byte + bytes_wide w) MARKER_BYTES
-is_byte_in area.L w byte = nat_le (byte + bytes_wide w) LOCAL_BYTES
-is_byte_in area.Db w byte = nat_le byte 65535
-is_byte_in area.Di w byte = nat_le byte 65535
-
--- a data block has a number from 1 to 65,535
-abbrev pub is_block_number : ℕ → Bool
-is_block_number n = nat_le 1 n && nat_le n 65535
 
 -- the byte and the bit of a written address are ones that its area may have
 abbrev pub is_place : AreaName → Width → ℕ → ℕ → Bool

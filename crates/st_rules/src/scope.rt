@@ -1,10 +1,10 @@
 //! What names mean where they are used.
 ghost use Rattle.std.specs.Prelude.{◌≡◌};
-ghost use Rattle.st_rules.specs.Scopes.{as_register, meaning_in, or_else, register_name, register_named};
+ghost use Rattle.st_rules.specs.Scopes.{as_register, meaning_in, or_else, register_named};
 
 use crate::table::Table;
 use s7_base::{List, Reg};
-use st_tree::StType;
+use st_tree::{StType, register_word};
 
 /// What a name means. Positions are those of the tree.
 #[derive(Clone, Copy, Debug, PartialEq, Eq)]
@@ -55,28 +55,6 @@ pub const REGISTERS: [Reg; 15] = [
     Reg::Br,
 ];
 
-fn register_name(register: Reg) -> &'static str
-    ensures { result.now ≡ register_name register }
-{
-    match register {
-        Reg::Accu1 => "ACCU1",
-        Reg::Accu2 => "ACCU2",
-        Reg::Ar1 => "AR1",
-        Reg::Ar2 => "AR2",
-        Reg::DbNo => "DBNO",
-        Reg::DiNo => "DINO",
-        Reg::Nfc => "NFC",
-        Reg::Rlo => "RLO",
-        Reg::Sta => "STA",
-        Reg::Orb => "ORB",
-        Reg::Os => "OS",
-        Reg::Ov => "OV",
-        Reg::Cc0 => "CC0",
-        Reg::Cc1 => "CC1",
-        Reg::Br => "BR",
-    }
-}
-
 #[tactic(auto, unfolding(crate::specs::Scopes::register_named))]
 fn register_named(key: &[u8]) -> Option<Reg>
     ensures { result ≡ register_named key.now }
@@ -84,7 +62,7 @@ fn register_named(key: &[u8]) -> Option<Reg>
     REGISTERS
         .iter()
         .copied()
-        .find(|register| register_name(*register).as_bytes() == key)
+        .find(|register| register_word(*register).as_bytes() == key)
 }
 
 impl Scope {

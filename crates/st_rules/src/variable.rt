@@ -1,13 +1,12 @@
 //! Written variables: what they are in the tree and their types, or the rule that they break.
 ghost use Rattle.std.specs.Prelude.{◌≡◌, IfOk};
-ghost use Rattle.memory_areas.specs.Access.{bytes_wide};
-ghost use Rattle.st_rules.specs.Variables.{is_address, is_block_number, is_byte_in, is_place, place_at, variable, variable_named};
+ghost use Rattle.st_tree.specs.PlaceRules.{is_block_number};
+ghost use Rattle.st_rules.specs.Variables.{is_address, is_place, place_at, variable, variable_named};
 
-use crate::names::key_of;
 use crate::scope::{Meaning, Scope};
-use memory_areas::{AreaName, INPUT_BYTES, LOCAL_BYTES, MARKER_BYTES, OUTPUT_BYTES};
+use memory_areas::{AreaName, is_byte_in};
 use s7_base::{NoMemory, Reason, Width};
-use st_tree::{RawVar, StType, Var, type_of_register, type_of_width};
+use st_tree::{RawVar, StType, Var, key_of, type_of_register, type_of_width};
 use std::alloc::Global;
 
 /// A variable of the tree, and its type.
@@ -15,29 +14,6 @@ use std::alloc::Global;
 pub struct TypedVar {
     pub ty: StType,
     pub var: Var,
-}
-
-fn bytes_wide(width: Width) -> usize
-    ensures { result ≡ bytes_wide width }
-{
-    match width {
-        Width::Bit | Width::Byte => 1,
-        Width::Word => 2,
-        Width::Dword => 4,
-    }
-}
-
-fn is_byte_in(area: AreaName, width: Width, byte: u32) -> bool
-    ensures { result ≡ is_byte_in area width byte }
-{
-    let end = byte as usize + bytes_wide(width);
-    match area {
-        AreaName::I => end <= INPUT_BYTES,
-        AreaName::Q => end <= OUTPUT_BYTES,
-        AreaName::M => end <= MARKER_BYTES,
-        AreaName::L => end <= LOCAL_BYTES,
-        AreaName::Db | AreaName::Di => byte <= 65535,
-    }
 }
 
 /// Whether a data block may have this number, 1 to 65,535.

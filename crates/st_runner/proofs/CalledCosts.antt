@@ -3,7 +3,7 @@ use Rattle.std.proofs.Common.{◌≡◌, ℕ, ◌+◌, max, List, [], ◌∷◌,
 use Rattle.st_runner.proofs.CostEquations.{most_area_write, most_arm, most_assign, most_case, most_case_arm, most_continue, most_exit, most_if, most_invoke, most_return, most_while}
 use Rattle.st_runner.specs.inner.Costs.{Costs, arm_most, body_most, case_most, most}
 use Rattle.st_runner.specs.inner.Runnable.{chain_costs}
-use Rattle.st_tree.proofs.CalledMost.{called_area_write, called_assign, called_case, called_continue, called_exit, called_first, called_if, called_invoke, called_most, called_return, called_while}
+use Rattle.st_tree.proofs.CalledMost.{called_area_write, called_assign, called_case, called_continue, called_exit, called_first, called_if, called_in_arm, called_in_case, called_invoke, called_most, called_return, called_while}
 use Rattle.st_tree.proofs.Induction.{Each, InArm, InCase, StmtSteps, every_body}
 use Rattle.st_tree.specs.Depth.{greatest}
 use Rattle.st_tree.specs.declared.program.Arm.{Arm}
@@ -22,12 +22,12 @@ module _ (f : ℕ → ℕ) where
   body_same (x ∷ xs) all = omega (arith, called_first f x xs, all.0, body_same xs all.1)
 
   arms_same : (arms : List Arm) → Each (InArm Same) arms
-      → greatest (map (arm_most k) arms) ≡ greatest (map (λ (arm : Arm). called_most f arm.body) arms)
+      → greatest (map (arm_most k) arms) ≡ greatest (map (called_in_arm f) arms)
   arms_same [] all = refl
   arms_same (x ∷ xs) all = omega (arith, most_arm k x, body_same x.body all.0, arms_same xs all.1)
 
   cases_same : (arms : List CaseArm) → Each (InCase Same) arms
-      → greatest (map (case_most k) arms) ≡ greatest (map (λ (arm : CaseArm). called_most f arm.body) arms)
+      → greatest (map (case_most k) arms) ≡ greatest (map (called_in_case f) arms)
   cases_same [] all = refl
   cases_same (x ∷ xs) all = omega (arith, most_case_arm k x, body_same x.body all.0, cases_same xs all.1)
 

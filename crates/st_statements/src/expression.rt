@@ -6,11 +6,11 @@ use s7_base::{Boxed, Line, List, NoMemory, Reason, Width};
 use st_rules::broken::{Break, note};
 use st_rules::expression::Typed;
 use st_rules::scope::Scope;
-use st_rules::types::{
-    type_of_binary, type_of_choice, type_of_conversion, type_of_read, type_of_shift, type_of_unary,
-};
 use st_rules::variable::{TypedVar, variable};
-use st_tree::{BinaryOp, Expr, RawExpr, RawVar, ShiftOp, StType, UnaryOp};
+use st_tree::{
+    BinaryOp, Expr, RawExpr, RawVar, ShiftOp, StType, UnaryOp, type_of_binary, type_of_choice,
+    type_of_conversion, type_of_read, type_of_shift, type_of_unary,
+};
 use std::alloc::Global;
 
 fn typed_as(

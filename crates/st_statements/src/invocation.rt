@@ -6,12 +6,10 @@ use crate::expression::variable_on;
 use s7_base::{Line, List, NoMemory, Reason};
 use st_rules::broken::{Break, note};
 use st_rules::lists::keep;
-use st_rules::names::key_of;
 use st_rules::scope::{Formals, Meaning, Scope};
 use st_rules::table::Table;
-use st_rules::types::is_type;
 use st_rules::variable::TypedVar;
-use st_tree::{RawVar, StType, Stmt, Var};
+use st_tree::{RawVar, StType, Stmt, Var, is_type, key_of};
 use std::alloc::Global;
 
 /// The position of the function that a name means. A name that means nothing is UnknownName, one that

@@ -10,11 +10,10 @@ use st_rules::broken::{Break, note};
 use st_rules::expression::Typed;
 use st_rules::lists::keep;
 use st_rules::scope::Scope;
-use st_rules::types::{is_selector, is_type};
 use st_rules::variable::TypedVar;
 use st_tree::{
     Arm, CaseArm, Expr, RawArm, RawCaseArm, RawExpr, RawStmt, RawStmtKind, StType, Stmt,
-    type_of_width,
+    is_selector, is_type, type_of_width,
 };
 use std::alloc::Global;
 

@@ -6,7 +6,7 @@ use Rattle.st_syntax_laws.proofs.Drive.{go}
 use Rattle.st_syntax_laws.proofs.DriveStatements.{drive_all}
 use Rattle.st_grammar.specs.Forms.{Statements, Items, no_item, single, times, GlobalType, plain, bytes, Globals, no_global, global, Locals, no_local, local, Section, absent, present, Head, Units, no_unit, unit, Source}
 use Rattle.st_grammar.specs.Grammar.{is_global, GlobalsFit, FormalsFit, LocalsFit, IfPresent, HeadFits, UnitsFit, SourceFits, AllFit, spell_all, spell_items, spell_type, spell_globals, spell_locals, unit_word, end_word, spell_formals, spell_temps, spell_head, spell_units, spell_source}
-use Rattle.st_grammar.specs.Kinds.{is_free, names_block, may_name_global}
+use Rattle.st_tree.specs.Naming.{is_free, may_name_global, names_block}
 use Rattle.st_grammar.specs.Levels.{levels_all, levels_items, levels_type, levels_globals, levels_locals, levels_section, levels_units, levels_source}
 use Rattle.st_grammar.specs.inner.Machine.{written, statement, Row, at_colon, at_type, at_square, at_item, at_comma, at_end, at_word, local_colon, local_end, Before, Top, Which, formals, temps, State, start, globals, row, between, heading, opened, formals_done, section, typing, inside, over}
 use Rattle.st_grammar.specs.inner.Steps.{spot, top_of, may_name, may_type, no_spot, ends, Passed, passes}

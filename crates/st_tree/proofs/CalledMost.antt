@@ -27,9 +27,19 @@ module _ (f : ℕ → ℕ) where
   abbrev pub called_most : List Stmt → ℕ
   called_most body = greatest (map f (called_in body))
 
+  abbrev pub called_in_arm : Arm → ℕ
+  called_in_arm arm = called_most arm.body
+
+  abbrev pub called_in_case : CaseArm → ℕ
+  called_in_case arm = called_most arm.body
+
   pub called_first : (x : Stmt) (rest : List Stmt)
       → called_most (x ∷ rest) ≡ max (called_most (x ∷ [])) (called_most rest)
   called_first x rest = ap most (calls_in_append (x ∷ []) rest) ∙ both (calls_in (x ∷ [])) (calls_in rest)
+
+  pub called_last : (xs : List Stmt) (x : Stmt)
+      → called_most (xs ++ x ∷ []) ≡ max (called_most xs) (called_most (x ∷ []))
+  called_last xs x = ap most (calls_in_append xs (x ∷ [])) ∙ both (calls_in xs) (calls_in (x ∷ []))
 
   pub called_assign : (v : Var) (e : Expr) → called_most (stmt.Assign v e ∷ []) ≡ 0
   called_assign v e = ap most (calls_in_assign v e [])
@@ -56,12 +66,12 @@ module _ (f : ℕ → ℕ) where
       omega (arith, both (inner ++ calls_in other) [], both inner (calls_in other), over_arms body_of arms)
 
   pub called_if : (arms : List Arm) (other : List Stmt) → called_most (stmt.If arms other ∷ [])
-      ≡ max (greatest (map (λ (arm : Arm). called_most arm.body) arms)) (called_most other)
+      ≡ max (greatest (map called_in_arm arms)) (called_most other)
   called_if arms other = ap most (calls_in_if arms other []) ∙ over_bodies (λ (arm : Arm). arm.body) arms other
 
   pub called_case : (e : Expr) (arms : List CaseArm) (other : List Stmt)
       → called_most (stmt.Case e arms other ∷ [])
-      ≡ max (greatest (map (λ (arm : CaseArm). called_most arm.body) arms)) (called_most other)
+      ≡ max (greatest (map called_in_case arms)) (called_most other)
   called_case e arms other =
       ap most (calls_in_case e arms other []) ∙ over_bodies (λ (arm : CaseArm). arm.body) arms other
 

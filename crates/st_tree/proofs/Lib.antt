@@ -20,6 +20,7 @@ pub mod Units
 mod CallRows
 mod FittingRows
 mod GraphRows
+mod NameWords
 mod OperatorRows
 mod PartRows
 mod ProperRows

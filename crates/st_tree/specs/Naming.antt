@@ -5,8 +5,10 @@ use Rattle.std.specs.List.{list_all, list_any, prefix_len}
 use Rattle.std.specs.Char.{to_ascii_uppercase}
 use Rattle.std.specs.Cmp.Lexicographic.{pointwise}
 use Rattle.s7_base.specs.Tokens.{is_among, is_between, is_same_word, is_word_byte}
+use Rattle.s7_base.specs.declared.register.Reg.{Reg}
+use Rattle.s7_base.specs.declared.register.Reg.TheVariants as reg
 use Rattle.st_tree.specs.TypeRules.{is_type}
-use Rattle.st_tree.specs.Words.{type_word}
+use Rattle.st_tree.specs.Words.{register_word, type_word}
 use Rattle.st_tree.specs.declared.expr.StType.{StType}
 use Rattle.st_tree.specs.declared.expr.StType.TheVariants as type
 
@@ -16,9 +18,13 @@ use Rattle.st_tree.specs.declared.expr.StType.TheVariants as type
 abbrev pub is_letter : ℕ → Bool
 is_letter b = is_between 65 90 b || is_between 97 122 b || b == 95
 
+-- a digit
+abbrev pub is_digit : ℕ → Bool
+is_digit b = is_between 48 57 b
+
 -- a digit and more, and nothing else
 abbrev pub are_digits : List ℕ → Bool
-are_digits text = nat_lt 0 (length text) && list_all (λ b. is_between 48 57 b) text
+are_digits text = nat_lt 0 (length text) && list_all is_digit text
 
 -- two letters in any case, and a number after them
 abbrev pub is_numbered : List ℕ → List ℕ → Bool
@@ -39,12 +45,15 @@ keywords =
     ∷ codes "AREA_READ_D" ∷ codes "SHL" ∷ codes "SHR" ∷ codes "ROL" ∷ codes "ROR" ∷ codes "SEL"
     ∷ codes "AREA_WRITE_X" ∷ codes "AREA_WRITE_B" ∷ codes "AREA_WRITE_W" ∷ codes "AREA_WRITE_D" ∷ []
 
+-- the registers
+abbrev pub registers : List Reg
+registers =
+    reg.Accu1 ∷ reg.Accu2 ∷ reg.Ar1 ∷ reg.Ar2 ∷ reg.DbNo ∷ reg.DiNo ∷ reg.Nfc ∷ reg.Rlo ∷ reg.Sta ∷ reg.Orb
+    ∷ reg.Os ∷ reg.Ov ∷ reg.Cc0 ∷ reg.Cc1 ∷ reg.Br ∷ []
+
 -- the variables that need no declaration
 abbrev pub register_names : List (List ℕ)
-register_names =
-    codes "ACCU1" ∷ codes "ACCU2" ∷ codes "AR1" ∷ codes "AR2" ∷ codes "DBNO" ∷ codes "DINO" ∷ codes "NFC"
-    ∷ codes "RLO" ∷ codes "STA" ∷ codes "ORB"
-    ∷ codes "OS" ∷ codes "OV" ∷ codes "CC0" ∷ codes "CC1" ∷ codes "BR" ∷ []
+register_names = map register_word registers
 
 -- the types
 abbrev pub types : List StType
@@ -102,6 +111,10 @@ may_name_local name = is_next name || is_free name
 -- a name that a unit may have
 abbrev pub may_name_unit : List ℕ → Bool
 may_name_unit name = is_unit_number name || is_free name
+
+-- a name that a global may have
+abbrev pub may_name_global : List ℕ → Bool
+may_name_global name = names_block name || is_free name
 
 -- By what names are compared
 

@@ -1,5 +1,5 @@
--- The words and letters of a canonical text, all in capitals.
-use Rattle.std.specs.Prelude.{ℕ, List, codes}
+-- The words and letters of the language as a canonical text has them, all in capitals.
+use Rattle.std.specs.Prelude.{ℕ, List, ◌++◌, codes}
 use Rattle.memory_areas.specs.declared.place.AreaName.{AreaName}
 use Rattle.memory_areas.specs.declared.place.AreaName.TheVariants as area
 use Rattle.s7_base.specs.declared.register.Reg.{Reg}
@@ -67,21 +67,25 @@ prefix_word unary.BcdToInt = codes "BCD_TO_INT("
 prefix_word unary.BcdToDint = codes "BCD_TO_DINT("
 
 -- an operator between its operands
+abbrev pub operator_word : BinaryOp → List ℕ
+operator_word binary.Mul = codes "*"
+operator_word binary.Div = codes "/"
+operator_word binary.Mod = codes "MOD"
+operator_word binary.Add = codes "+"
+operator_word binary.Sub = codes "-"
+operator_word binary.Lt = codes "<"
+operator_word binary.Gt = codes ">"
+operator_word binary.Le = codes "<="
+operator_word binary.Ge = codes ">="
+operator_word binary.Eq = codes "="
+operator_word binary.Ne = codes "<>"
+operator_word binary.And = codes "AND"
+operator_word binary.Xor = codes "XOR"
+operator_word binary.Or = codes "OR"
+
+-- the same with a blank on either side, as it is written
 abbrev pub infix_word : BinaryOp → List ℕ
-infix_word binary.Mul = codes " * "
-infix_word binary.Div = codes " / "
-infix_word binary.Mod = codes " MOD "
-infix_word binary.Add = codes " + "
-infix_word binary.Sub = codes " - "
-infix_word binary.Lt = codes " < "
-infix_word binary.Gt = codes " > "
-infix_word binary.Le = codes " <= "
-infix_word binary.Ge = codes " >= "
-infix_word binary.Eq = codes " = "
-infix_word binary.Ne = codes " <> "
-infix_word binary.And = codes " AND "
-infix_word binary.Xor = codes " XOR "
-infix_word binary.Or = codes " OR "
+infix_word op = codes " " ++ (operator_word op ++ codes " ")
 
 -- the name of a shift or a rotation
 abbrev pub shift_word : ShiftOp → List ℕ

@@ -4,10 +4,9 @@ ghost use Rattle.st_rules.specs.Calls.{all_calls, call_on, calls_of, calls_of_ac
 
 use call_chains::Call;
 use s7_base::{Line, List, NoMemory, Reason};
-use st_rules::names::key_of;
 use st_rules::scope::Scope;
 use st_statements::callee;
-use st_tree::{RawArm, RawCaseArm, RawStmt, RawStmtKind};
+use st_tree::{RawArm, RawCaseArm, RawStmt, RawStmtKind, key_of};
 use std::alloc::Global;
 
 fn call_on(line: Line, called: Result<u32, Reason>, calls: &mut List<Call>) -> Result<(), NoMemory>

@@ -6,10 +6,11 @@ use Rattle.std.proofs.lemmas.Cmp.{nat_list_eq_equiv}
 use Rattle.std.proofs.lemmas.List.{append-nil, append_assoc}
 use Rattle.s7_base.specs.declared.reason.Line.{Line}
 use Rattle.st_rules.specs.Broken.{twice}
-use Rattle.st_rules.specs.Names.{Table, is_same, look_up, with_entry}
+use Rattle.st_rules.specs.Names.{Table, look_up, with_entry}
+use Rattle.st_tree.specs.Naming.{is_same}
 use Rattle.st_rules.specs.Scopes.{or_else}
 use Rattle.st_rules.specs.declared.scope.Meaning.{Meaning}
-use Rattle.st_types_laws.proofs.BlockKeys.{both}
+use Rattle.std.proofs.lemmas.Bool.{and_parts}
 
 -- Keys
 
@@ -18,7 +19,7 @@ same_keys [] [] h = refl
 same_keys [] (y ∷ ys) h = absurd cc
 same_keys (x ∷ xs) [] h = absurd cc
 same_keys (x ∷ xs) (y ∷ ys) h =
-    let t = both (nat_eq x y) (pointwise nat_eq xs ys) h in
+    let t = and_parts (nat_eq x y) (pointwise nat_eq xs ys) h in
     ap (λ k. k ∷ xs) (eqb-true x y t.0) ∙ ap (λ l. y ∷ l) (same_keys xs ys t.1)
 
 -- What stands under a key
@@ -101,7 +102,7 @@ one_between k m names xs ys l h = record { same = same; apart = apart_between k 
 
 -- Declarations
 
-not_twice : (line : Line) (first : Option Meaning) → twice line first ≡ [] → first ≡ None
+pub not_twice : (line : Line) (first : Option Meaning) → twice line first ≡ [] → first ≡ None
 not_twice line None h = refl
 not_twice line (Some m) h = absurd cc
 

@@ -1,18 +1,16 @@
 -- Keys of data blocks with one number are the same.
-use Rattle.std.proofs.Common.{◌≡◌, ◌<◌, ◌≤◌, ◌+◌, ◌*◌, ◌-◌, ◌^◌, ℕ, zero, suc, min, Bool, true, false, cond, ◌&&◌, ◌==◌, nat_le, nat_lt, List, [], ◌∷◌, map, drop, length, refl, sym, ap, subst, ◌∙◌, arith}
+use Rattle.std.proofs.Common.{◌≡◌, ◌<◌, ◌≤◌, ◌+◌, ◌*◌, ◌-◌, ◌^◌, ℕ, zero, suc, min, Bool, true, false, cond, ◌==◌, nat_le, nat_lt, List, [], ◌∷◌, map, drop, length, refl, sym, ap, subst, ◌∙◌, arith}
 use Rattle.std.specs.List.{list_all}
 use Rattle.std.specs.Char.{to_ascii_uppercase}
 use Rattle.std.proofs.Math.Nat.{le-min, min-le_right, min-eq_left, min-eq_right}
 use Rattle.std.proofs.lemmas.Bool.{eqb-false, leb-true, leb-false, ltb-true, ltb-false}
+use Rattle.std.proofs.lemmas.Bool.{and_parts}
 use Rattle.st_rules.specs.Globals.{block_number, number_from, number_in}
-use Rattle.st_rules.specs.Names.{is_block_name, is_digit, is_number, key_of, without_zeros, zeros_before}
-
-pub both : (a b : Bool) → (a && b) ≡ true → (a ≡ true) × (b ≡ true)
-both true b h = (refl, h)
-both false b h = absurd cc
+use Rattle.st_tree.specs.Naming.{is_digit}
+use Rattle.st_tree.specs.Naming.{are_digits, key_of, names_block, without_zeros, zeros_before}
 
 pub digit : (b : ℕ) → is_digit b ≡ true → (48 ≤ b) × (b ≤ 57)
-digit b h = let t = both (nat_le 48 b) (nat_le b 57) h in (leb-true 48 b t.0, leb-true b 57 t.1)
+digit b h = let t = and_parts (nat_le 48 b) (nat_le b 57) h in (leb-true 48 b t.0, leb-true b 57 t.1)
 
 -- Numbers from digits
 
@@ -59,8 +57,8 @@ aligned [] [] v w a b size same small = (same, refl)
 aligned [] (e ∷ es) v w a b size same small = absurd (omega (arith, size))
 aligned (d ∷ ds) [] v w a b size same small = absurd (omega (arith, size))
 aligned (d ∷ ds) (e ∷ es) v w a b size same small =
-    let a = both (is_digit d) (list_all is_digit ds) a in
-    let b = both (is_digit e) (list_all is_digit es) b in
+    let a = and_parts (is_digit d) (list_all is_digit ds) a in
+    let b = and_parts (is_digit e) (list_all is_digit es) b in
     let rest = aligned ds es (with_digit v d) (with_digit w e) a.1 b.1 (omega (arith, size)) same small in
     let other : number_from (with_digit w e) es < most = subst (λ n. n < most) same small in
     let head : v * 10 + (d - 48) ≡ w * 10 + (e - 48) = sym (adds ds v d small) ∙ rest.0 ∙ adds es w e other in
@@ -75,7 +73,7 @@ longer : (k : ℕ) (ds es : List ℕ) (v : ℕ) → list_all is_digit ds ≡ tru
 longer zero ds es v a b size same small = (aligned ds es v 0 a b (omega (arith, size)) same small).0
 longer (suc k) [] es v a b size same small = absurd (omega (arith, size))
 longer (suc k) (d ∷ ds) es v a b size same small =
-    let a = both (is_digit d) (list_all is_digit ds) a in
+    let a = and_parts (is_digit d) (list_all is_digit ds) a in
     let rest : with_digit v d ≡ 0 = longer k ds es (with_digit v d) a.1 b (omega (arith, size)) same small in
     omega (arith, adds ds v d small, rest)
 
@@ -88,7 +86,7 @@ record AreDigits (n : ℕ) (ds : List ℕ) : Type 0 where
 no_longer : (n k : ℕ) (ds es : List ℕ) → n < most → AreDigits n ds → AreDigits n es → length ds ≡ suc k + length es → ⊥
 no_longer n k [] es small a b size = omega (arith, size)
 no_longer n k (d ∷ ds) es small a b size =
-    let t = both (is_digit d) (list_all is_digit ds) a.digits in
+    let t = and_parts (is_digit d) (list_all is_digit ds) a.digits in
     let below : number_from (with_digit 0 d) ds < most = omega (arith, small, a.worth) in
     let zero_first : with_digit 0 d ≡ 0 = longer k ds es (with_digit 0 d) t.1 b.digits (omega (arith, size)) (a.worth ∙ sym b.worth) below in
     let p = digit d t.0 in
@@ -147,19 +145,19 @@ zero_alone (d ∷ e ∷ ds) rest h = by_test (d == 48) refl (λ q. zero_alone (e
         absurd (eqb-false d 48 f first)
 
 -- a name that is the key of a data block has a plain number
-has_plain : (n : ℕ) (capitals : List ℕ) (t : Bool) → is_block_name capitals ≡ t → number_in (cond t (68 ∷ 66 ∷ without_zeros (drop 2 capitals)) capitals) ≡ n → 1 ≤ n
+has_plain : (n : ℕ) (capitals : List ℕ) (t : Bool) → names_block capitals ≡ t → number_in (cond t (68 ∷ 66 ∷ without_zeros (drop 2 capitals)) capitals) ≡ n → 1 ≤ n
     → IsKey n (cond t (68 ∷ 66 ∷ without_zeros (drop 2 capitals)) capitals)
 has_plain n capitals false e h some =
     let none : number_in capitals ≡ 0 = ap (λ t. cond t (number_from 0 (drop 2 capitals)) 0) e in
     absurd (omega (arith, none, h, some))
-has_plain n capitals true e h some = by_test (is_number ds) refl h
+has_plain n capitals true e h some = by_test (are_digits ds) refl h
   where
     ds : List ℕ
     ds = without_zeros (drop 2 capitals)
 
-    by_test : (t : Bool) → is_number ds ≡ t → cond t (number_from 0 ds) 0 ≡ n → IsKey n (68 ∷ 66 ∷ ds)
+    by_test : (t : Bool) → are_digits ds ≡ t → cond t (number_from 0 ds) 0 ≡ n → IsKey n (68 ∷ 66 ∷ ds)
     by_test false f g = absurd (omega (arith, g, some))
-    by_test true f g = record { digits = ds; named = refl; sound = record { digits = (both (nat_lt 0 (length ds)) (list_all is_digit ds) f).1; plain = plain; worth = g } }
+    by_test true f g = record { digits = ds; named = refl; sound = record { digits = (and_parts (nat_lt 0 (length ds)) (list_all is_digit ds) f).1; plain = plain; worth = g } }
       where
         plain : (rest : List ℕ) → ds ≡ 48 ∷ rest → ⊥
         plain rest q =
@@ -170,4 +168,4 @@ has_plain n capitals true e h some = by_test (is_number ds) refl h
 -- the key of a name that has the number of a data block
 pub is_key : (n : ℕ) (name : List ℕ) → block_number name ≡ n → 1 ≤ n → IsKey n (key_of name)
 unfolding key_of
-is_key n name h some = let capitals = map to_ascii_uppercase name in has_plain n capitals (is_block_name capitals) refl h some
+is_key n name h some = let capitals = map to_ascii_uppercase name in has_plain n capitals (names_block capitals) refl h some

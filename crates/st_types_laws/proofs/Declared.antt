@@ -7,7 +7,8 @@ use Rattle.st_tree.specs.declared.expr.StType.{StType}
 use Rattle.st_tree.specs.declared.program.Local.{Local}
 use Rattle.st_tree.specs.declared.program.Located.{Located}
 use Rattle.st_tree.specs.declared.program.Pou.{Pou}
-use Rattle.st_rules.specs.Names.{Table, key_of, with_entry}
+use Rattle.st_rules.specs.Names.{Table, with_entry}
+use Rattle.st_tree.specs.Naming.{key_of}
 use Rattle.st_rules.specs.Scopes.{meaning_in}
 use Rattle.st_rules.specs.declared.scope.Formals.{Formals}
 use Rattle.st_rules.specs.declared.scope.Meaning.TheVariants as meaning
@@ -46,8 +47,3 @@ pub record Declares (scope : Scope) (names : Names) : Type 0 where
   pub local : (key : List ℕ) (i : ℕ) (ty : StType) → meaning_in scope key ≡ Some (meaning.Local i ty) → IsLocalAt key ty (slice_get names.locals i)
   pub global : (key : List ℕ) (i : ℕ) (ty : StType) → meaning_in scope key ≡ Some (meaning.Global i ty) → IsGlobalAt key ty (slice_get names.globals i)
   pub function : (key : List ℕ) (i : ℕ) → meaning_in scope key ≡ Some (meaning.Function i) → IsFunctionAt key (slice_get names.units i) (slice_get scope.formals i)
-
--- names mean the same in two scopes
-pub record SameScope (a b : Scope) : Type 0 where
-  pub same : (key : List ℕ) → meaning_in a key ≡ meaning_in b key
-  pub formals : a.formals ≡ b.formals

@@ -8,8 +8,10 @@ use Rattle.std.proofs.lemmas.Bool.Decides.{nat_tests}
 use Rattle.std.proofs.lemmas.Fmt.{decimal_by_steps, first_decimal}
 use Rattle.std.proofs.lemmas.List.Folds.{list_all-append}
 use Rattle.st_rules.specs.Globals.{block_number, number_from, number_in}
-use Rattle.st_rules.specs.Names.{is_digit, is_number, key_of, with_plain_number, without_zeros, zeros_before}
-use Rattle.st_types_laws.proofs.BlockKeys.{both, digit, is_key, one_key}
+use Rattle.st_tree.specs.Naming.{is_digit}
+use Rattle.st_tree.specs.Naming.{are_digits, key_of, with_plain_number, without_zeros, zeros_before}
+use Rattle.std.proofs.lemmas.Bool.{and_parts}
+use Rattle.st_types_laws.proofs.BlockKeys.{digit, is_key, one_key}
 
 number_behind : (v : ℕ) (ds : List ℕ) (d : ℕ) → number_from v (ds ++ d ∷ []) ≡ min (number_from v ds * 10 + (d - 48)) (2 ^ 32 - 1)
 number_behind v [] d = refl
@@ -50,7 +52,7 @@ no_capital b h = let d = digit b h in let small : nat_lt b 97 ≡ true = grind (
 no_capitals : (ds : List ℕ) → list_all is_digit ds ≡ true → map to_ascii_uppercase ds ≡ ds
 no_capitals [] h = refl
 no_capitals (d ∷ ds) h =
-    let t = both (is_digit d) (list_all is_digit ds) h in
+    let t = and_parts (is_digit d) (list_all is_digit ds) h in
     ap (λ x. x ∷ map to_ascii_uppercase ds) (no_capital d t.0) ∙ ap (λ xs. d ∷ xs) (no_capitals ds t.1)
 
 -- where no zero stands first, none is left out
@@ -64,7 +66,7 @@ all_kept (d ∷ ds) h =
     ap (λ n. drop n (d ∷ ds)) all
 
 -- a plain name is its own key
-key_is : (capitals ds : List ℕ) → capitals ≡ 68 ∷ 66 ∷ ds → is_number ds ≡ true → without_zeros ds ≡ ds → with_plain_number capitals ≡ 68 ∷ 66 ∷ ds
+key_is : (capitals ds : List ℕ) → capitals ≡ 68 ∷ 66 ∷ ds → are_digits ds ≡ true → without_zeros ds ≡ ds → with_plain_number capitals ≡ 68 ∷ 66 ∷ ds
 key_is capitals ds e number kept =
     ap with_plain_number e ∙ ap (λ t. cond t (68 ∷ 66 ∷ without_zeros ds) (68 ∷ 66 ∷ ds)) number ∙ ap (λ xs. 68 ∷ 66 ∷ xs) kept
 
@@ -73,7 +75,7 @@ unfolding key_of
 plain_key n some small =
     let w = written n (omega (arith, small)) in
     let few : nat_lt 0 (length (decimal n)) ≡ true = let l = w.some in grind (arith, nat_tests) in
-    let number : is_number (decimal n) ≡ true = ap (λ t. t && list_all is_digit (decimal n)) few ∙ w.digits in
+    let number : are_digits (decimal n) ≡ true = ap (λ t. t && list_all is_digit (decimal n)) few ∙ w.digits in
     key_is (map to_ascii_uppercase (68 ∷ 66 ∷ decimal n)) (decimal n) (ap (λ xs. 68 ∷ 66 ∷ xs) (no_capitals (decimal n) w.digits)) number
     (all_kept (decimal n) (first_decimal n (omega (arith, some)) (omega (arith, small))))
 
@@ -81,7 +83,7 @@ pub plain_number : (n : ℕ) → 1 ≤ n → n ≤ 65535 → block_number (codes
 plain_number n some small =
     let w = written n (omega (arith, small)) in
     let few : nat_lt 0 (length (decimal n)) ≡ true = let l = w.some in grind (arith, nat_tests) in
-    let number : is_number (decimal n) ≡ true = ap (λ t. t && list_all is_digit (decimal n)) few ∙ w.digits in
+    let number : are_digits (decimal n) ≡ true = ap (λ t. t && list_all is_digit (decimal n)) few ∙ w.digits in
     ap number_in (plain_key n some small) ∙ ap (λ t. cond t (number_from 0 (decimal n)) 0) number ∙ w.value (omega (arith, small))
 
 -- each name of a number has the key of the plain one

@@ -27,8 +27,9 @@ use Rattle.st_tree.specs.declared.raw.RawVar.TheVariants as var
 use Rattle.st_rules.specs.Broken.{broken, listed, twice}
 use Rattle.st_rules.specs.Declarations.{all_inside, all_outside, is_block, meaning_of_global, meaning_of_unit, no_inside, no_outside, one_if, one_too_many, with_formal, with_global, with_local, with_unit}
 use Rattle.st_rules.specs.Globals.{all_blocks, all_global_breaks, all_located, block_at, block_breaks, block_number, block_of, contents, fills, fits_type, global_breaks, has_address, has_block_address, has_block_form, inserted, is_small_enough, is_start_of, located_of, total, unless, with_block}
-use Rattle.st_rules.specs.Names.{Table, key_of, look_up}
-use Rattle.st_rules.specs.Variables.{is_block_number}
+use Rattle.st_rules.specs.Names.{Table, look_up}
+use Rattle.st_tree.specs.Naming.{key_of}
+use Rattle.st_tree.specs.PlaceRules.{is_block_number}
 use Rattle.st_rules.specs.declared.declaration.Inside.{Inside}
 use Rattle.st_rules.specs.declared.declaration.Outside.{Outside}
 use Rattle.st_rules.specs.declared.scope.Meaning.{Meaning}
@@ -201,8 +202,7 @@ no_block (Some m) line blocks = refl
 -- one data block more is one at most
 grown : (x : Option Meaning) (t : Bool) (blocks rest most : ℕ) → blocks + suc rest ≤ most → blocks + one_if (not (is_some x) && t) + rest ≤ most
 grown None true blocks rest most h = omega (arith, h)
-grown None false blocks rest most h = omega (arith, h)
-grown (Some m) t blocks rest most h = omega (arith, h)
+grown other one blocks rest most h = omega (arith, h)
 
 go_blocks : (bs : List DataBlock) (gs : List RawGlobal) → AreBlocksAt bs gs → AreNumbered bs → (d : Outside) (more : Table Meaning) → d.breaks ≡ []
     → AreApart (d.names ++ (block_entries bs ++ more)) → d.blocks + length bs ≤ MOST_BLOCKS

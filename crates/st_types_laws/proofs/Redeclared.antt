@@ -11,12 +11,10 @@ use Rattle.st_tree.specs.Values.{width_at}
 use Rattle.st_tree.specs.declared.program.Local.{Local}
 use Rattle.st_tree.specs.declared.program.Located.{Located}
 use Rattle.st_tree.specs.declared.program.Pou.{Pou}
-use Rattle.st_tree.specs.declared.program.StProgram.{StProgram}
 use Rattle.st_tree.specs.declared.raw.RawGlobal.{RawGlobal}
 use Rattle.st_tree.specs.declared.raw.RawGlobalType.TheVariants as type
 use Rattle.st_tree.specs.declared.raw.RawLocal.{RawLocal}
 use Rattle.st_tree.specs.declared.raw.RawPou.{RawPou}
-use Rattle.st_tree.specs.declared.raw.RawSt.{RawSt}
 use Rattle.st_tree.specs.declared.raw.RawVar.{RawVar}
 use Rattle.st_tree.specs.declared.raw.RawVar.TheVariants as var
 use Rattle.st_rules.specs.Globals.{contents, total}
@@ -84,12 +82,3 @@ AreUnitsAt [] [] = Unit {0}
 AreUnitsAt [] (u ∷ us) = ⊥
 AreUnitsAt (p ∷ ps) [] = ⊥
 AreUnitsAt (p ∷ ps) (u ∷ us) = IsUnitAt p u × AreUnitsAt ps us
-
--- a text that declares what a tree has: first its data blocks, then its other globals, then its units
-pub record Redeclares (t : StProgram) (raw : RawSt) : Type 0 where
-  pub blocks : List RawGlobal
-  pub others : List RawGlobal
-  pub globals : raw.globals ≡ blocks ++ others
-  pub are_blocks : AreBlocksAt t.dbs blocks
-  pub are_located : AreLocatedAt t.globals others
-  pub are_units : AreUnitsAt t.pous raw.pous

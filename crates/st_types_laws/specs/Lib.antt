@@ -1,2 +1,1 @@
-pub mod RawNesting
 pub mod TypedLaws

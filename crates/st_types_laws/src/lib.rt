@@ -5,7 +5,7 @@
 //! functions are the laws.
 #![tactic(auto)]
 
-ghost use Rattle.st_types_laws.specs.TypedLaws.{BlocksFit, FirstOfAll, NotBoth, OneRefusal, OneTree};
+ghost use Rattle.st_types_laws.specs.TypedLaws.{FirstOfAll, NotBoth, OneRefusal, OneTree};
 
 /// A text has one tree at most.
 pub fn one_tree()
@@ -25,9 +25,4 @@ pub fn not_both()
 /// The first of some broken rules is one of them before which no other comes.
 pub fn first_of_all()
     ensures { FirstOfAll }
-{}
-
-/// A memory may have the data blocks of a tree.
-pub fn blocks_fit()
-    ensures { BlocksFit }
 {}

@@ -15,18 +15,16 @@ use Rattle.memory_areas.specs.Areas.{AreBlocks, Areas, Contents}
 use Rattle.memory_areas.specs.End.{End}
 use Rattle.memory_areas.specs.declared.data_block.DataBlock.{DataBlock}
 use Rattle.st_parser.proofs.TextReads.{proper_reads}
-use Rattle.st_parser.specs.Proper.{Proper}
 use Rattle.st_parser.specs.Texts.{IsTextOf}
 use Rattle.st_runner.specs.Standing.{Shows}
+use Rattle.st_tree.specs.Proper.{Proper}
 use Rattle.st_tree.specs.Spelling.{spelling}
 use Rattle.st_tree.specs.declared.program.StProgram.{StProgram}
 use Rattle.stl_machine.specs.Machine.{memory_of, outcome_of}
 use Rattle.stl_translate.specs.Same.{Same}
-use Rattle.stl_translate.specs.inner.Translation.{translation}
 use Rattle.stl_tree.specs.Accepted.{IsAccepted}
 use Rattle.stl_tree.specs.StlRun.{Standing, running, over, end_of}
 use Rattle.stl_tree.specs.declared.program.Program.{Program}
-use Rattle.stl2st.proofs.ProperText.{proper}
 use Rattle.stl2st.specs.Answer.{Reply, Answers, AnswersRun, AnswersSource, IsAcceptedAs, IsRefusedSource, Translates, accepted_line, image_reply, refusal_line, run_reply, run_status, too_long_line, usage_line, source_too_long, refused, read, image_too_long, bad_image, bad_call, ran}
 use Rattle.stl2st.specs.Devices.{AreOf, Input}
 use Rattle.stl2st.specs.Inputs.{IsReadPast, IsReadWhole}
@@ -38,7 +36,7 @@ use Rattle.stl2st.specs.declared.reply.Reply.{Reply as Made}
 use Rattle.stl2st.specs.declared.reply.Stop.{Stop}
 use Rattle.stl2st.specs.declared.status.Status.{Status}
 use Rattle.stl2st.specs.declared.status.Status.TheVariants.{Done, Refused, Usage, TooLong}
-use Rattle.stl2st.specs.inner.Replies.{Answered, AnsweredCall, AnsweredTo, AnswersJob, HasSource, IsWritten, command_of, reply_of}
+use Rattle.stl2st.specs.inner.Replies.{Answered, AnsweredCall, AnsweredTo, AnswersJob, IsWritten, command_of, reply_of}
 
 -- Bytes of an input
 
@@ -130,23 +128,22 @@ pub no_blocks : (program : Program) → IsAccepted program → AreBlocks program
 no_blocks program accepted =
     subst (λ (blocks : List DataBlock). AreBlocks blocks) (sym accepted.alone.dbs) (record { ascend = tt; few = omega arith; sized = λ k b h. absurd (omega arith) })
 
--- the text of the translation of an accepted program means what the program means
-pub translates : (program : Program) (tree : StProgram) (text : List ℕ) → HasSource program → tree ≡ translation program → Same program tree → text ≡ spelling tree → Translates program text
-translates program tree text accepted is same spelled =
-    let p = subst (λ (t : StProgram). Proper t) (sym is) (proper accepted.bytes program accepted.accepted) in
+-- the spelling of a proper tree that means the same as a program is a text that means what the program means
+pub translates : (program : Program) (tree : StProgram) (text : List ℕ) → Proper tree → Same program tree → text ≡ spelling tree → Translates program text
+translates program tree text proper same spelled =
     record {
       tree = tree;
-      proper = p;
+      proper = proper;
       spelled = spelled;
-      reads_back = subst (λ (written : List ℕ). IsTextOf written tree) (sym spelled) (proper_reads tree p);
+      reads_back = subst (λ (written : List ℕ). IsTextOf written tree) (sym spelled) (proper_reads tree proper);
       same = same;
     }
 
 -- the reply of a translation
-pub translated_reply : (j : Job) (program : Program) (tree : StProgram) (text : List ℕ) (i : Input) (made : Made) → j ≡ job.Translate → HasSource program → tree ≡ translation program → Same program tree
+pub translated_reply : (j : Job) (program : Program) (tree : StProgram) (text : List ℕ) (i : Input) (made : Made) → j ≡ job.Translate → Proper tree → Same program tree
     → text ≡ spelling tree → reply_of made ≡ (Done, text) → AnsweredTo (AnswersJob j program) i made
-translated_reply j program tree text i made e accepted is same spelled reply =
-    let means : Translates program text = translates program tree text accepted is same spelled in
+translated_reply j program tree text i made e proper same spelled reply =
+    let means : Translates program text = translates program tree text proper same spelled in
     subst (λ (k : Job). AnsweredTo (AnswersJob k program) i made) (sym e)
     (job_alone job.Translate program i made
     (λ bytes. (ap (λ (r : Reply). r.0) reply, subst (λ (t : List ℕ). Translates program t) (sym (ap (λ (r : Reply). r.1) reply)) means))

@@ -17,8 +17,8 @@ use Rattle.stl_tree.specs.StlRun.{Fits, stl_run}
 use Rattle.stl_tree.specs.Verdict.{verdict}
 use Rattle.stl_tree.specs.declared.program.Call.{Call}
 use Rattle.stl_tree.specs.declared.program.Program.{Program}
-use Rattle.st_parser.specs.Proper.{Proper}
 use Rattle.st_parser.specs.Texts.{IsTextOf, IsRefusedText}
+use Rattle.st_tree.specs.Proper.{Proper}
 use Rattle.st_tree.specs.Spelling.{spelling}
 use Rattle.st_tree.specs.StRun.{FitsSt, st_run}
 use Rattle.st_tree.specs.declared.program.StProgram.{StProgram}

@@ -4,7 +4,7 @@
 //! their language, `program_reply` does a job with a program, and runs read their image then.
 ghost use Rattle.std.specs.Prelude.{◌≡◌, ◌≢◌, ◌≤◌, Some, Ok, None, IfOk, IfErr, MatchOption, length};
 ghost use Rattle.memory_areas.specs.Areas.{AreBlocks, IsMemoryOf};
-ghost use Rattle.st_tree.specs.Runnable.{IsRunnable};
+ghost use Rattle.st_tree.specs.Proper.{Proper};
 ghost use Rattle.st_tree.specs.StRun.{FitsSt, st_run};
 ghost use Rattle.stl_tree.specs.Accepted.{IsAccepted};
 ghost use Rattle.stl_tree.specs.StlRun.{Fits, stl_run};
@@ -12,7 +12,7 @@ ghost use Rattle.stl2st.specs.Answer.{AnswersRunSt, AnswersRunStl, image_line, i
 ghost use Rattle.stl2st.specs.Command.{asked};
 ghost use Rattle.stl2st.specs.Devices.{input};
 ghost use Rattle.stl2st.specs.Inputs.{IsReadPast, IsReadWhole, IsReadWithin, ReadsFor, ReadsInputs, SaysRead, Stopped};
-ghost use Rattle.stl2st.specs.inner.Replies.{Answered, AnsweredCall, AnsweredTo, AnswersJob, HasSource, IsWritten, ReadsImage, ReadsJob, bytes_of_text, command_of, ending, reply_of, stop_status};
+ghost use Rattle.stl2st.specs.inner.Replies.{Answered, AnsweredCall, AnsweredTo, AnswersJob, IsWritten, ReadsImage, ReadsJob, bytes_of_text, command_of, ending, reply_of, stop_status};
 ghost use Rattle.stl2st.specs.declared.command.Command.TheVariants.{RunSt};
 
 use crate::command::{Command, WordsRefusal, read_words};
@@ -249,8 +249,7 @@ fn program_reply<M: Source>(
     program: &Program,
     image: &mut M,
 ) -> Result<Reply, Stop>
-    requires source { HasSource program.now }
-    requires accepted { IsAccepted program.now }
+    requires { IsAccepted program.now }
     ensures answer { IfOk result (AnsweredTo (AnswersJob job.now program.now) (input M.Source image.old image.new)) }
     ensures reads { ReadsJob job.now (input M.Source image.old image.new) (ending result) }
     ensures later { M.faults image.old ≤ M.faults image.new }
@@ -302,7 +301,7 @@ fn text_call_reply(
     units: u64,
     memory: Memory,
 ) -> Result<Reply, NoMemory>
-    requires runnable { IsRunnable tree.now }
+    requires proper { Proper tree.now }
     requires memory { IsMemoryOf tree.now.dbs memory.areas }
     ensures answer { IfOk result (AnsweredCall (FitsSt tree.now call.now)
         (λ start. st_run tree.now call.now start units) memory.areas) }
@@ -327,8 +326,7 @@ fn tree_reply<M: Source>(
     units: u64,
     image: &mut M,
 ) -> Result<Reply, Stop>
-    requires blocks { AreBlocks tree.now.dbs }
-    requires runnable { IsRunnable tree.now }
+    requires { Proper tree.now }
     ensures answer { IfOk result (AnsweredTo (λ bytes reply. AnswersRunSt units call.now bytes tree.now reply)
         (input M.Source image.old image.new)) }
     ensures reads { ReadsImage (input M.Source image.old image.new) (ending result) }

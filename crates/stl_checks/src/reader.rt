@@ -7,11 +7,11 @@ ghost use Rattle.stl_tree.specs.Items.{block_number, heading_with, heading_numbe
 ghost use Rattle.stl_tree.specs.Verdict.{misfit_at, program_with, with_end, body_from, begin_from, with_heading, program_of, verdict};
 ghost use Rattle.stl_checks.specs.Answers.{EndsBody, PutsItem, IsFirst};
 
-use crate::lexer::tokens;
 use crate::statement::{Context, misfit_reason, statement_of, statement_size};
 use crate::words::{is_sign, is_word, is_word_kind};
 use s7_base::{Kind, Line, List, NoMemory, Reason, Rejection, Token, is_same_word, rest_after};
 use std::alloc::Global;
+use stl_lexer::tokens;
 use stl_tree::{Block, BlockName, Instr, Op, Program, number_of};
 
 /// The number of an organization block, from 1.

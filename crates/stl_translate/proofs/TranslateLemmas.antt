@@ -63,6 +63,12 @@ exclusive : text_of (block_of (name.Ob 1) (op.Check check.X (arg.At (input 0)) �
 unfolding digits unit_text line literal_text
 exclusive = simp (text_assign, canon_equations)
 
+-- nothing stands behind the first end word of a body
+early_end : text_of (block_of (name.Ob 1) (op.Assign (operand.Direct area.Q 4 0) ∷ op.BlockEnd ∷ op.Assign (operand.Direct area.Q 4 1) ∷ []) ∷ [])
+    ≡ codes "PROGRAM OB1\n    %QX4.0 := RLO;\n    NFC := FALSE;\nEND_PROGRAM\n"
+unfolding digits unit_text line literal_text
+early_end = simp (text_assign, canon_equations)
+
 two_blocks : text_of (block_of (name.Ob 1) [] ∷ block_of (name.Ob 35) [] ∷ [])
     ≡ codes "PROGRAM OB1\nEND_PROGRAM\nPROGRAM OB35\nEND_PROGRAM\n"
 unfolding digits unit_text line

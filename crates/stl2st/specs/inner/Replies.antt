@@ -4,7 +4,7 @@ use Rattle.s7_io.specs.Sink.{Took, TookFewer}
 use Rattle.memory_areas.specs.Areas.{Areas}
 use Rattle.memory_areas.specs.End.{End}
 use Rattle.stl_tree.specs.declared.program.Program.{Program}
-use Rattle.stl2st.specs.Answer.{Reply, Answers, AnswersTranslate, AnswersCheck, AnswersRunStl, IsAcceptedAs, bad_call_line, run_reply}
+use Rattle.stl2st.specs.Answer.{Reply, Answers, AnswersTranslate, AnswersCheck, AnswersRunStl, bad_call_line, run_reply}
 use Rattle.stl2st.specs.Devices.{AreOf, Input}
 use Rattle.stl2st.specs.Inputs.{IsReadPast, IsReadWhole, IsReadWithin, IsUntouched, SaysRead, SaysTooLong, Stopped}
 use Rattle.stl2st.specs.declared.command.Command.{Command}
@@ -73,11 +73,6 @@ AnsweredCall Fits run memory made =
     ⊎ (¬ Fits × (reply_of made ≡ (BadCall, bad_call_line)))
 
 -- Programs
-
--- some source is accepted as the program
-pub record HasSource (program : Program) : Type 0 where
-  pub bytes : List ℕ
-  pub accepted : IsAcceptedAs bytes program
 
 -- the command that does a job
 abbrev pub command_of : Job → Command

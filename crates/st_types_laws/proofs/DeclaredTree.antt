@@ -1,0 +1,265 @@
+-- What a text declares that has a tree, and that names in a scope say what stands in the tree.
+use Rattle.std.proofs.Common.{◌≡◌, ◌⊎◌, ℕ, zero, suc, ◌+◌, Bool, true, false, cond, List, [], ◌∷◌, ◌++◌, map, length, Option, Some, None, inl, inr, refl, sym, ap, subst, ◌∙◌, arith, ◌≤◌, All}
+use Rattle.std.specs.Prelude.{slice_get}
+use Rattle.std.specs.List.{fold}
+use Rattle.std.proofs.lemmas.List.{append_assoc}
+use Rattle.s7_base.specs.declared.register.Reg.{Reg}
+use Rattle.memory_areas.specs.declared.data_block.DataBlock.{DataBlock}
+use Rattle.st_tree.specs.Spelling.{names_in}
+use Rattle.st_tree.specs.Typing.{Names}
+use Rattle.st_tree.specs.declared.expr.StType.{StType}
+use Rattle.st_tree.specs.declared.program.Local.{Local}
+use Rattle.st_tree.specs.declared.program.Located.{Located}
+use Rattle.st_tree.specs.declared.program.Pou.{Pou}
+use Rattle.st_tree.specs.declared.program.StProgram.{StProgram}
+use Rattle.st_tree.specs.declared.raw.RawLocal.{RawLocal}
+use Rattle.st_tree.specs.declared.raw.RawPou.{RawPou}
+use Rattle.st_tree.specs.declared.raw.RawSt.{RawSt}
+use Rattle.std.proofs.lemmas.List.Elements.{All-cons, All-nil}
+use Rattle.memory_areas.specs.Areas.{AreBlocks, Ascend, IsSized, numbers_of}
+use Rattle.memory_areas.specs.declared.sizes.TheConstants.{MOST_BLOCKS}
+use Rattle.st_rules.specs.Declarations.{meaning_of_unit, all_inside, all_outside, formals_of, keys_of, locals_of, no_outside, types_of, with_global, with_type}
+use Rattle.st_rules.specs.Globals.{all_blocks, all_global_breaks, all_located}
+use Rattle.st_rules.specs.Names.{Table, look_up, with_entry}
+use Rattle.st_tree.specs.Naming.{is_same, key_of}
+use Rattle.st_rules.specs.Scopes.{as_register, meaning_in, or_else, register_named}
+use Rattle.st_rules.specs.Typed.{HasTree, breaks_of, first_break, names_of}
+use Rattle.st_rules.specs.Units.{all_unit_breaks, all_units, breaks_of_unit}
+use Rattle.st_rules.specs.declared.scope.Formals.{Formals}
+use Rattle.st_rules.specs.declared.scope.Meaning.{Meaning}
+use Rattle.st_rules.specs.declared.scope.Meaning.TheVariants as meaning
+use Rattle.st_rules.specs.declared.scope.Scope.{Scope}
+use Rattle.st_types_laws.proofs.Apart.{Lists, same_keys}
+use Rattle.st_types_laws.proofs.Lists.{nil_first, nil_second, mapped_at, nil_at}
+use Rattle.st_types_laws.proofs.Declared.{Declares, IsFunctionAt, IsGlobalAt, IsLocalAt, keys_of_locals, types_of_locals}
+use Rattle.st_types_laws.proofs.DeclaredNames.{AreNumbered, before_units, ArePlaced, Gathered, block_entries, entries, formal_entries, gather, gather_units, inner_entries, local_entries, located_entries, outer_entries, unit_entries}
+use Rattle.st_types_laws.proofs.FirstBreak.{first_of_all_is_first}
+use Rattle.st_types_laws.proofs.Redeclared.{AreLocalsAt, AreUnitsAt, IsUnitAt}
+
+pub sound_units : (raw : RawSt) → first_break raw ≡ None → all_unit_breaks (names_of raw) (map formals_of raw.pous) raw.pous ≡ []
+sound_units raw h =
+    let outside = (all_outside raw.globals raw.pous).breaks in
+    let globals = all_global_breaks raw.globals in
+    let inside = all_unit_breaks (names_of raw) (map formals_of raw.pous) raw.pous in
+    nil_second globals inside (nil_second outside (globals ++ inside) (first_of_all_is_first.none (breaks_of raw) h))
+
+-- A text declares what its own tree has
+
+pub locals_there : (rs : List RawLocal) → AreLocalsAt (locals_of rs) rs
+locals_there [] = tt
+locals_there (r ∷ rs) = (record { named = refl; typed = refl }, locals_there rs)
+
+units_there : (outer : Table Meaning) (formals : List Formals) (us : List RawPou) → AreUnitsAt (all_units outer formals us) us
+units_there outer formals [] = tt
+units_there outer formals (u ∷ us) =
+    (record { program = refl; named = refl; formals = locals_there u.formals; locals = locals_there u.locals }, units_there outer formals us)
+
+pub unit_there : (ps : List Pou) (us : List RawPou) → AreUnitsAt ps us → (n : ℕ) (p : Pou) (u : RawPou) → slice_get ps n ≡ Some p → slice_get us n ≡ Some u → IsUnitAt p u
+unit_there [] us a n p u h g = absurd cc
+unit_there (q ∷ ps) [] a n p u h g = absurd a
+unit_there (q ∷ ps) (v ∷ us) a zero p u h g =
+    let one : q ≡ p = cc in
+    let two : v ≡ u = cc in
+    subst (λ w. IsUnitAt p w) two (subst (λ w. IsUnitAt w v) one a.0)
+unit_there (q ∷ ps) (v ∷ us) a (suc n) p u h g = unit_there ps us a.1 n p u h g
+
+-- what a text that has a tree declares
+pub record IsDeclared (raw : RawSt) (t : StProgram) : Type 0 where
+  pub blocks : all_blocks raw.globals ≡ t.dbs
+  pub located : all_located raw.globals ≡ t.globals
+  pub units : AreUnitsAt t.pous raw.pous
+  pub names : Lists (names_of raw) (outer_entries t)
+  pub numbered : AreNumbered t.dbs
+  pub ascend : Ascend 1 (numbers_of t.dbs)
+  pub few : length t.dbs ≤ MOST_BLOCKS
+  pub placed : ArePlaced t.globals
+  pub inside : (n : ℕ) (u : RawPou) → slice_get raw.pous n ≡ Some u → (all_inside u.formals u.locals).breaks ≡ []
+
+pub is_declared : (raw : RawSt) (t : StProgram) → HasTree raw t → IsDeclared raw t
+is_declared raw t h =
+    let outer = names_of raw in
+    let formals = map formals_of raw.pous in
+    let none : breaks_of raw ≡ [] = first_of_all_is_first.none (breaks_of raw) h.sound in
+    let outside = nil_first (all_outside raw.globals raw.pous).breaks _ none in
+    let globals = nil_first (all_global_breaks raw.globals) (all_unit_breaks outer formals raw.pous) (nil_second (all_outside raw.globals raw.pous).breaks _ none) in
+    let empty : Lists [] [] = record { same = λ k. refl; apart = tt } in
+    let d = fold with_global no_outside raw.globals in
+    let begun : Gathered no_outside [] [] = record { names = empty; globals = refl; blocks = refl; units = refl; numbered = tt; ascend = tt; few = omega arith; placed = tt } in
+    let g = gather raw.globals no_outside [] [] begun (before_units raw.pous d outside) globals in
+    let blocks : all_blocks raw.globals ≡ t.dbs = ap (λ (s : StProgram). s.dbs) (sym h.same) in
+    let located : all_located raw.globals ≡ t.globals = ap (λ (s : StProgram). s.globals) (sym h.same) in
+    let units : AreUnitsAt t.pous raw.pous = subst (λ (s : StProgram). AreUnitsAt s.pous raw.pous) (sym h.same) (units_there outer formals raw.pous) in
+    let before = block_entries (all_blocks raw.globals) ++ located_entries 0 (all_located raw.globals) in
+    let names = gather_units t.pous raw.pous units d before g.names outside in
+    let order : before ++ unit_entries d.units t.pous ≡ outer_entries t =
+    append_assoc (block_entries (all_blocks raw.globals)) (located_entries 0 (all_located raw.globals)) (unit_entries d.units t.pous)
+    ∙ ap (λ bs. block_entries bs ++ (located_entries 0 (all_located raw.globals) ++ unit_entries d.units t.pous)) blocks
+    ∙ ap (λ ls. block_entries t.dbs ++ (located_entries 0 ls ++ unit_entries d.units t.pous)) located
+    ∙ ap (λ n. block_entries t.dbs ++ (located_entries 0 t.globals ++ unit_entries n t.pous)) g.units in
+    record {
+      blocks = blocks;
+      located = located;
+      units = units;
+      names = subst (Lists (names_of raw)) order names;
+      numbered = subst AreNumbered blocks g.numbered;
+      ascend = subst (λ bs. Ascend 1 (numbers_of bs)) blocks g.ascend;
+      few = subst (λ (bs : List DataBlock). length bs ≤ MOST_BLOCKS) blocks g.few;
+      placed = subst ArePlaced located g.placed;
+      inside = λ n u q. nil_first (all_inside u.formals u.locals).breaks _ (nil_at (breaks_of_unit outer formals) raw.pous n u (sound_units raw h.sound) q);
+    }
+
+-- the data blocks of a tree are ones that a memory may have
+are_sized : (bs : List DataBlock) → AreNumbered bs → All IsSized bs
+are_sized [] h = All-nil IsSized
+are_sized (b ∷ bs) h = All-cons IsSized b bs h.0.sized (are_sized bs h.1)
+
+pub are_blocks : (raw : RawSt) (t : StProgram) → IsDeclared raw t → AreBlocks t.dbs
+are_blocks raw t d = record { ascend = d.ascend; few = d.few; sized = are_sized t.dbs d.numbered }
+
+-- Formals as calls see them
+
+keys_same : (ls : List Local) (rs : List RawLocal) → AreLocalsAt ls rs → keys_of rs ≡ keys_of_locals ls
+keys_same [] [] a = refl
+keys_same [] (r ∷ rs) a = absurd a
+keys_same (l ∷ ls) [] a = absurd a
+keys_same (l ∷ ls) (r ∷ rs) a = ap (λ k. key_of k ∷ keys_of rs) a.0.named ∙ ap (λ ks. key_of l.name ∷ ks) (keys_same ls rs a.1)
+
+types_same : (ls : List Local) (rs : List RawLocal) → AreLocalsAt ls rs → (types : Table StType)
+    → fold with_type types rs ≡ fold (λ types (l : Local). with_entry (key_of l.name) l.ty types) types ls
+types_same [] [] a types = refl
+types_same [] (r ∷ rs) a types = absurd a
+types_same (l ∷ ls) [] a types = absurd a
+types_same (l ∷ ls) (r ∷ rs) a types =
+    let one : with_type types r ≡ with_entry (key_of l.name) l.ty types =
+    ap (λ k. with_entry (key_of k) r.ty types) a.0.named ∙ ap (λ ty. with_entry (key_of l.name) ty types) a.0.typed in
+    ap (λ more. fold with_type more rs) one ∙ types_same ls rs a.1 (with_entry (key_of l.name) l.ty types)
+
+-- the formals of a unit of the tree
+abbrev pub formals_in : Pou → Formals
+formals_in p = record { keys = keys_of_locals p.formals; types = types_of_locals p.formals }
+
+pub formals_same : (ps : List Pou) (us : List RawPou) → AreUnitsAt ps us → map formals_of us ≡ map formals_in ps
+formals_same [] [] a = refl
+formals_same [] (u ∷ us) a = absurd a
+formals_same (p ∷ ps) [] a = absurd a
+formals_same (p ∷ ps) (u ∷ us) a =
+    let one : formals_of u ≡ formals_in p =
+    ap (λ keys. record { keys = keys; types = types_of u.formals }) (keys_same p.formals u.formals a.0.formals)
+    ∙ ap (λ types. record { keys = keys_of_locals p.formals; types = types }) (types_same p.formals u.formals a.0.formals []) in
+    ap (λ f. f ∷ map formals_of us) one ∙ ap (λ fs. formals_in p ∷ fs) (formals_same ps us a.1)
+
+-- Names stand in the tree where their meanings say
+
+-- what a meaning says of what stands in the tree
+abbrev Stands : Names → List Formals → List ℕ → Meaning → Type 0
+Stands names formals key (meaning.Formal i ty) = IsLocalAt key ty (slice_get names.formals i)
+Stands names formals key (meaning.Local i ty) = IsLocalAt key ty (slice_get names.locals i)
+Stands names formals key (meaning.Global i ty) = IsGlobalAt key ty (slice_get names.globals i)
+Stands names formals key (meaning.Function i) = IsFunctionAt key (slice_get names.units i) (slice_get formals i)
+Stands names formals key other = Unit {0}
+
+module _ (names : Names) (formals : List Formals) where
+  -- each entry of a table is right
+  abbrev AllStand : Table Meaning → Type 0
+  AllStand [] = Unit {0}
+  AllStand (e ∷ es) = Stands names formals e.0 e.1 × AllStand es
+
+  stand_joined : (xs ys : Table Meaning) → AllStand xs → AllStand ys → AllStand (xs ++ ys)
+  stand_joined [] ys h g = g
+  stand_joined (x ∷ xs) ys h g = (h.0, stand_joined xs ys h.1 g)
+
+  found_stands : (k : List ℕ) (m : Meaning) (es : Table Meaning) → look_up k es ≡ Some m → AllStand es → Stands names formals k m
+  found_stands k m [] q h = absurd cc
+  found_stands k m (e ∷ es) q h = by (is_same k e.0) refl (λ r. found_stands k m es r h.1) q
+    where
+      by : (t : Bool) → is_same k e.0 ≡ t → (look_up k es ≡ Some m → Stands names formals k m) → cond t (Some e.1) (look_up k es) ≡ Some m → Stands names formals k m
+      by true f more r =
+          let meant : e.1 ≡ m = cc in
+          subst (Stands names formals k) meant (subst (λ j. Stands names formals j e.1) (sym (same_keys k e.0 f)) h.0)
+      by false f more r = more r
+
+  blocks_stand : (bs : List DataBlock) → AllStand (block_entries bs)
+  blocks_stand [] = tt
+  blocks_stand (b ∷ bs) = (tt, blocks_stand bs)
+
+  entries_stand : {X : Type 0} (name : X → List ℕ) (mean : ℕ → X → Meaning) (i : ℕ) (xs : List X)
+      → ((n : ℕ) (x : X) → slice_get xs n ≡ Some x → Stands names formals (key_of (name x)) (mean (i + n) x))
+      → AllStand (entries (λ x. key_of (name x)) mean i xs)
+  entries_stand name mean i [] h = tt
+  entries_stand name mean i (x ∷ xs) h =
+      let here : i + 0 ≡ i = omega arith in (
+        subst (λ j. Stands names formals (key_of (name x)) (mean j x)) here (h 0 x refl),
+        entries_stand name mean (i + 1) xs (λ n y q.
+            let next : i + suc n ≡ i + 1 + n = omega arith in
+            subst (λ j. Stands names formals (key_of (name y)) (mean j y)) next (h (suc n) y q)),
+      )
+
+-- the meaning of another name than a register's stands in a table
+abbrev IsNoRegister : Meaning → Type 0
+IsNoRegister (meaning.Register r) = ⊥
+IsNoRegister other = Unit {0}
+
+in_tables : (r : Option Reg) (x y : Option Meaning) (m : Meaning) → IsNoRegister m → or_else (as_register r) (or_else x y) ≡ Some m → (x ≡ Some m) ⊎ (y ≡ Some m)
+in_tables (Some r) x y m other h = let same : meaning.Register r ≡ m = cc in absurd (subst IsNoRegister (sym same) other)
+in_tables None (Some n) y m other h = inl h
+in_tables None None y m other h = inr h
+
+-- A scope
+
+pub same_length : (ps : List Pou) (us : List RawPou) → AreUnitsAt ps us → length us ≡ length ps
+same_length [] [] a = refl
+same_length [] (u ∷ us) a = absurd a
+same_length (p ∷ ps) [] a = absurd a
+same_length (p ∷ ps) (u ∷ us) a = omega (arith, same_length ps us a.1)
+
+from_start : {X : Type 0} (xs : List X) (n : ℕ) (x : X) → slice_get xs n ≡ Some x → slice_get xs (0 + n) ≡ Some x
+from_start xs n x h = let e : 0 + n ≡ n = omega arith in ap (slice_get xs) e ∙ h
+
+-- a scope says of each name what stands in the tree
+pub scope_declares : (t : StProgram) (p : Pou) (scope : Scope) → Lists scope.inner (inner_entries p) → Lists scope.outer (outer_entries t) → scope.formals ≡ map formals_in t.pous
+    → Declares scope (names_in t p)
+scope_declares t p scope inner outer formals = record {
+  formal = λ key i ty h. stands key (meaning.Formal i ty) tt h;
+  local = λ key i ty h. stands key (meaning.Local i ty) tt h;
+  global = λ key i ty h. stands key (meaning.Global i ty) tt h;
+  function = λ key i h. stands key (meaning.Function i) tt h;
+}
+  where
+    names : Names
+    names = names_in t p
+
+    unit_stands : (n : ℕ) (u : Pou) → slice_get t.pous n ≡ Some u
+        → Stands names scope.formals (key_of u.name) (meaning_of_unit (0 + n) u.program)
+    unit_stands n u q = by u.program
+      where
+        by : (b : Bool) → Stands names scope.formals (key_of u.name) (meaning_of_unit (0 + n) b)
+        by true = tt
+        by false =
+            let there = from_start t.pous n u q in
+            let seen : slice_get scope.formals (0 + n) ≡ Some (formals_in u) =
+            ap (λ fs. slice_get fs (0 + n)) formals ∙ mapped_at formals_in t.pous (0 + n) u there in
+            subst (λ o. IsFunctionAt (key_of u.name) o (slice_get scope.formals (0 + n))) (sym there)
+            (subst (IsFunctionAt (key_of u.name) (Some u)) (sym seen) (record { named = refl; keys = refl; types = refl }))
+
+    inner_stands : AllStand names scope.formals (inner_entries p)
+    inner_stands =
+        stand_joined names scope.formals (formal_entries 0 p.formals) (local_entries 0 p.locals)
+        (entries_stand names scope.formals (λ (l : Local). l.name) _ 0 p.formals (λ n l q.
+        subst (IsLocalAt (key_of l.name) l.ty) (sym (from_start p.formals n l q)) (refl, refl)))
+        (entries_stand names scope.formals (λ (l : Local). l.name) _ 0 p.locals (λ n l q.
+        subst (IsLocalAt (key_of l.name) l.ty) (sym (from_start p.locals n l q)) (refl, refl)))
+
+    outer_stands : AllStand names scope.formals (outer_entries t)
+    outer_stands =
+        stand_joined names scope.formals (block_entries t.dbs) (located_entries 0 t.globals ++ unit_entries 0 t.pous) (blocks_stand names scope.formals t.dbs)
+        (stand_joined names scope.formals (located_entries 0 t.globals) (unit_entries 0 t.pous)
+        (entries_stand names scope.formals (λ (g : Located). g.name) _ 0 t.globals (λ n g q.
+        subst (IsGlobalAt (key_of g.name) g.ty) (sym (from_start t.globals n g q)) (refl, refl)))
+        (entries_stand names scope.formals (λ (u : Pou). u.name) _ 0 t.pous unit_stands))
+
+    stands : (key : List ℕ) (m : Meaning) → IsNoRegister m → meaning_in scope key ≡ Some m → Stands names scope.formals key m
+    stands key m other h = by (in_tables (register_named key) (look_up key scope.inner) (look_up key scope.outer) m other h)
+      where
+        by : (look_up key scope.inner ≡ Some m) ⊎ (look_up key scope.outer ≡ Some m) → Stands names scope.formals key m
+        by (inl q) = found_stands names scope.formals key m (inner_entries p) (sym (inner.same key) ∙ q) inner_stands
+        by (inr q) = found_stands names scope.formals key m (outer_entries t) (sym (outer.same key) ∙ q) outer_stands

@@ -1,0 +1,129 @@
+-- An expression with operands by what its operands are: where it breaks no rule, and what it is.
+use Rattle.std.proofs.Common.{◌≡◌, ◌++◌, [], Option, Some, None, refl, sym, ap, ◌∙◌}
+use Rattle.s7_base.specs.declared.reason.Line.{Line}
+use Rattle.s7_base.specs.declared.word.Width.{Width}
+use Rattle.st_types_laws.proofs.ReadEquations.{read_unary, read_binary, read_convert, read_select, read_shift, read_area}
+use Rattle.st_tree.specs.declared.expr.BinaryOp.{BinaryOp}
+use Rattle.st_tree.specs.declared.expr.Expr.{Expr}
+use Rattle.st_tree.specs.declared.expr.Expr.TheVariants as expr
+use Rattle.st_tree.specs.declared.expr.ShiftOp.{ShiftOp}
+use Rattle.st_tree.specs.declared.expr.StType.{StType}
+use Rattle.st_tree.specs.declared.expr.UnaryOp.{UnaryOp}
+use Rattle.st_tree.specs.declared.raw.RawExpr.{RawExpr}
+use Rattle.st_tree.specs.declared.raw.RawExpr.TheVariants as raw
+use Rattle.st_types_laws.proofs.Lists.{nil_first, nil_second}
+use Rattle.st_rules.specs.Broken.{Judged, behind, sound}
+use Rattle.st_rules.specs.Expressions.{area_read_of, binary_of, choice_of, conversion_of, expression, shift_of, typed_as, unary_of}
+use Rattle.st_tree.specs.TypeRules.{type_of_binary, type_of_choice, type_of_conversion, type_of_read, type_of_shift, type_of_unary}
+use Rattle.st_rules.specs.declared.expression.Typed.{Typed}
+use Rattle.st_rules.specs.declared.scope.Scope.{Scope}
+
+-- Types
+
+-- an expression is judged by the type that a rule gives it
+pub record IsBy (l : Line) (j : Judged Typed) (o : Option StType) (e : Expr) : Type 0 where
+  pub is : j ≡ behind [] (typed_as l o e)
+
+-- a rule gives a type
+abbrev pub HasType : Option StType → Type 0
+HasType o = (ty : StType) × (o ≡ Some ty)
+
+-- it has a type where it breaks no rule
+pub has_type : {l : Line} {j : Judged Typed} {o : Option StType} {e : Expr} → IsBy l j o e → j.breaks ≡ [] → HasType o
+has_type {l} {j} {o} {e} h c = by o (sym (ap (λ (k : Judged Typed). k.breaks) h.is) ∙ c)
+  where
+    by : (o : Option StType) → (typed_as l o e).breaks ≡ [] → HasType o
+    by None q = absurd cc
+    by (Some ty) q = (ty, refl)
+
+-- and is an expression of the type that it has
+pub is_typed : {l : Line} {j : Judged Typed} {o : Option StType} {e : Expr} {ty : StType} → IsBy l j o e → o ≡ Some ty
+    → j ≡ sound (record { ty = ty; tree = e })
+is_typed {l} {j} {o} {e} h q = h.is ∙ ap (λ o. behind [] (typed_as l o e)) q
+
+-- What is read
+
+module _ (s : Scope) (l : Line) where
+  -- an expression that breaks no rule is this
+  abbrev pub Is : RawExpr → Typed → Type 0
+  Is a t = expression s l a ≡ sound t
+
+  abbrev pub IsClean : RawExpr → Type 0
+  IsClean a = (expression s l a).breaks ≡ []
+
+  -- the operands of what breaks no rule break none
+  pub unary_operand : (op : UnaryOp) (a : RawExpr) → IsClean (raw.Unary op a) → IsClean a
+  unary_operand op a h = nil_first (expression s l a).breaks (unary_of l op (expression s l a).found).breaks (sym (ap (λ (j : Judged Typed). j.breaks) (read_unary s l op a)) ∙ h)
+
+  pub binary_operands : (op : BinaryOp) (a b : RawExpr) → IsClean (raw.Binary op a b) → IsClean a × IsClean b
+  binary_operands op a b h =
+      let j = expression s l a in
+      let k = expression s l b in
+      let both : j.breaks ++ k.breaks ≡ [] =
+      nil_first (j.breaks ++ k.breaks) (binary_of l op j.found k.found).breaks (sym (ap (λ (j : Judged Typed). j.breaks) (read_binary s l op a b)) ∙ h) in
+      (nil_first j.breaks k.breaks both, nil_second j.breaks k.breaks both)
+
+  pub convert_operand : (from to : StType) (a : RawExpr) → IsClean (raw.Convert from to a) → IsClean a
+  convert_operand from to a h =
+      nil_first (expression s l a).breaks (conversion_of l from to (expression s l a).found).breaks (sym (ap (λ (j : Judged Typed). j.breaks) (read_convert s l from to a)) ∙ h)
+
+  pub select_operands : (a b c : RawExpr) → IsClean (raw.Select a b c) → IsClean a × IsClean b × IsClean c
+  select_operands a b c h =
+      let i = expression s l a in
+      let j = expression s l b in
+      let k = expression s l c in
+      let all : i.breaks ++ j.breaks ++ k.breaks ≡ [] =
+      nil_first (i.breaks ++ j.breaks ++ k.breaks) (choice_of l i.found j.found k.found).breaks (sym (ap (λ (j : Judged Typed). j.breaks) (read_select s l a b c)) ∙ h)
+      in
+      let both : i.breaks ++ j.breaks ≡ [] = nil_first (i.breaks ++ j.breaks) k.breaks all in
+      (nil_first i.breaks j.breaks both, nil_second i.breaks j.breaks both, nil_second (i.breaks ++ j.breaks) k.breaks all)
+
+  pub shift_operands : (op : ShiftOp) (a b : RawExpr) → IsClean (raw.Shift op a b) → IsClean a × IsClean b
+  shift_operands op a b h =
+      let j = expression s l a in
+      let k = expression s l b in
+      let both : j.breaks ++ k.breaks ≡ [] =
+      nil_first (j.breaks ++ k.breaks) (shift_of l op j.found k.found).breaks (sym (ap (λ (j : Judged Typed). j.breaks) (read_shift s l op a b)) ∙ h) in
+      (nil_first j.breaks k.breaks both, nil_second j.breaks k.breaks both)
+
+  pub area_operand : (w : Width) (a : RawExpr) → IsClean (raw.AreaRead w a) → IsClean a
+  area_operand w a h = nil_first (expression s l a).breaks (area_read_of l w (expression s l a).found).breaks (sym (ap (λ (j : Judged Typed). j.breaks) (read_area s l w a)) ∙ h)
+
+  -- what they are with the operands that they have
+  pub unary_by : (op : UnaryOp) (a : RawExpr) (t : Typed) → Is a t → IsBy l (expression s l (raw.Unary op a)) (type_of_unary op t.ty) (expr.Unary op t.tree)
+  unary_by op a t h = record {
+    is = read_unary s l op a ∙ ap (λ (j : Judged Typed). behind j.breaks (unary_of l op j.found)) h;
+  }
+
+  pub binary_by : (op : BinaryOp) (a b : RawExpr) (t u : Typed) → Is a t → Is b u → IsBy l (expression s l (raw.Binary op a b)) (type_of_binary op t.ty u.ty) (expr.Binary op t.tree u.tree)
+  binary_by op a b t u h g = record {
+    is = read_binary s l op a b
+        ∙ ap (λ (j : Judged Typed). behind (j.breaks ++ (expression s l b).breaks) (binary_of l op j.found (expression s l b).found)) h
+        ∙ ap (λ (j : Judged Typed). behind j.breaks (binary_of l op (Some t) j.found)) g;
+  }
+
+  pub convert_by : (from to : StType) (a : RawExpr) (t : Typed) → Is a t → IsBy l (expression s l (raw.Convert from to a)) (type_of_conversion from to t.ty) (expr.Convert from to t.tree)
+  convert_by from to a t h = record {
+    is = read_convert s l from to a ∙ ap (λ (j : Judged Typed). behind j.breaks (conversion_of l from to j.found)) h;
+  }
+
+  pub select_by : (a b c : RawExpr) (t u v : Typed) → Is a t → Is b u → Is c v → IsBy l (expression s l (raw.Select a b c)) (type_of_choice t.ty u.ty v.ty) (expr.Select t.tree u.tree v.tree)
+  select_by a b c t u v h g f = record {
+    is = read_select s l a b c
+        ∙ ap (λ (j : Judged Typed). behind (j.breaks ++ (expression s l b).breaks ++ (expression s l c).breaks)
+        (choice_of l j.found (expression s l b).found (expression s l c).found)) h
+        ∙ ap (λ (j : Judged Typed). behind (j.breaks ++ (expression s l c).breaks) (choice_of l (Some t) j.found (expression s l c).found)) g
+        ∙ ap (λ (j : Judged Typed). behind j.breaks (choice_of l (Some t) (Some u) j.found)) f;
+  }
+
+  pub shift_by : (op : ShiftOp) (a b : RawExpr) (t u : Typed) → Is a t → Is b u → IsBy l (expression s l (raw.Shift op a b)) (type_of_shift t.ty u.ty) (expr.Shift op t.tree u.tree)
+  shift_by op a b t u h g = record {
+    is = read_shift s l op a b
+        ∙ ap (λ (j : Judged Typed). behind (j.breaks ++ (expression s l b).breaks) (shift_of l op j.found (expression s l b).found)) h
+        ∙ ap (λ (j : Judged Typed). behind j.breaks (shift_of l op (Some t) j.found)) g;
+  }
+
+  pub area_by : (w : Width) (a : RawExpr) (t : Typed) → Is a t → IsBy l (expression s l (raw.AreaRead w a)) (type_of_read w t.ty) (expr.AreaRead w t.tree)
+  area_by w a t h = record {
+    is = read_area s l w a ∙ ap (λ (j : Judged Typed). behind j.breaks (area_read_of l w j.found)) h;
+  }

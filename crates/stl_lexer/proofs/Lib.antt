@@ -1,0 +1,5 @@
+mod Agreement
+mod Finding
+mod Following
+mod Forms
+mod TokenSteps
