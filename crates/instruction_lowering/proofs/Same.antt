@@ -31,7 +31,7 @@ use Rattle.st_tree.specs.declared.program.Pou.{Pou}
 use Rattle.st_tree.specs.declared.program.StProgram.{StProgram}
 use Rattle.st_tree.specs.declared.program.Stmt.{Stmt}
 use Rattle.st_tree.specs.declared.program.Stmt.TheVariants as stmt
-use Rattle.instruction_lowering.specs.Lowered.{AreAssignments, AreUnitsOf, HasNoInstance, IsUnitOf, Lowered, SameRuns, head_of_block}
+use Rattle.instruction_lowering.specs.Lowered.{AreAssignments, AreUnitsOf, HasNoInstance, IsUnitOf, Lowered, SameGraphRuns, head_of_block}
 use Rattle.instruction_lowering.specs.inner.Lowering.{ends_block, lowered, node_of, steps_of, unit_of}
 use Rattle.instruction_lowering.specs.inner.Templates.{statements_of}
 use Rattle.instruction_lowering.proofs.Alike.{AreAlike, HandedOn, IsKept, Related}
@@ -197,7 +197,7 @@ module _ (program : Program) (formed : All IsAcceptedBlock program.blocks) (call
       stl_is memory (suc n * size_of program)
       ∙ simulated each_pass back memory (suc n * size_of program) n (most_nodes graph (suc n)) (begun_back (size_of program) n (most_nodes graph (suc n))) after fault (sym (graph_is each_pass memory n) ∙ ended)
 
-  same_runs : SameRuns program.dbs (stl_run program call) (graph_run graph call) (pass_run graph call) (size_of program)
+  same_runs : SameGraphRuns program.dbs (stl_run program call) (graph_run graph call) (pass_run graph call) (size_of program)
   same_runs =
       record { forth = λ memory valid n after fault ended. nodes_end memory n after fault ended; back = λ memory valid n after fault ended. passes_end memory n after fault ended }
 

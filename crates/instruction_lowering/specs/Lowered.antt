@@ -54,7 +54,7 @@ AreUnitsOf (block ∷ blocks) (unit ∷ units) = IsUnitOf block unit × AreUnits
 -- the graph ends with the same memory and the same fault within as many nodes; where the graph ends within some
 -- passes, the program ends so within as many steps for each as the largest block has; so where one goes on for
 -- ever, the other does
-pub record SameRuns (blocks : List DataBlock) (stl nodes passes : Areas → ℕ → End) (size : ℕ) : Type 0 where
+pub record SameGraphRuns (blocks : List DataBlock) (stl nodes passes : Areas → ℕ → End) (size : ℕ) : Type 0 where
   pub forth : (memory : Areas) → IsMemoryOf blocks memory → (n : ℕ) (after : Areas) (fault : Option Fault)
       → stl memory n ≡ Ended after fault → nodes memory n ≡ Ended after fault
   pub back : (memory : Areas) → IsMemoryOf blocks memory → (n : ℕ) (after : Areas) (fault : Option Fault)
@@ -76,4 +76,4 @@ pub record Lowered (program : Program) (graph : GraphProgram) : Type 0 where
   pub fits : (call : Call) → Fits program call → FitsGraph graph call
   pub fits_back : (call : Call) → HasNoInstance call.block → FitsGraph graph call → Fits program call
   pub runs : (call : Call) → Fits program call
-      → SameRuns program.dbs (stl_run program call) (graph_run graph call) (pass_run graph call) (size_of program)
+      → SameGraphRuns program.dbs (stl_run program call) (graph_run graph call) (pass_run graph call) (size_of program)
