@@ -1,9 +1,8 @@
 -- What an accepted program is translated to is a tree that a text can have.
-use Rattle.std.proofs.Common.{◌≡◌, ◌≢◌, ℕ, suc, ◌≤◌, Bool, true, false, ◌&&◌, List, [], ◌∷◌, ◌++◌, map, Option, Some, refl, sym, ap, subst, ◌∙◌, arith}
-use Rattle.std.specs.Prelude.{All, nat_le, slice_get}
+use Rattle.std.proofs.Common.{◌≡◌, ◌≢◌, ℕ, suc, ◌≤◌, Bool, true, false, List, [], ◌∷◌, ◌++◌, map, Some, refl, ap, ◌∙◌, arith}
+use Rattle.std.specs.Prelude.{All, slice_get}
 use Rattle.std.proofs.lemmas.Bool.{le-leb, ltb-false}
-use Rattle.std.proofs.lemmas.List.Elements.{All-cons, All-head, All-map, All-nil, All-tail}
-use Rattle.memory_areas.specs.Access.{is_byte_in}
+use Rattle.std.proofs.lemmas.List.Elements.{All-cons, All-head, All-nil, All-tail}
 use Rattle.memory_areas.specs.Areas.{IsSized}
 use Rattle.memory_areas.specs.declared.sizes.TheConstants.{ACTIVATIONS}
 use Rattle.s7_base.specs.declared.check.Check.{Check}
@@ -11,20 +10,17 @@ use Rattle.s7_base.specs.declared.check.Check.TheVariants as check
 use Rattle.s7_base.specs.declared.register.Reg.TheVariants as reg
 use Rattle.s7_base.specs.declared.word.Width.TheVariants as width
 use Rattle.st_tree.proofs.FittingCalls.{at_position}
-use Rattle.st_tree.proofs.PartEquations.{calls_in_append, calls_in_assign, calls_in_return}
+use Rattle.st_tree.proofs.PartEquations.{calls_in_assign, calls_in_return}
 use Rattle.st_tree.proofs.TypingEquations.{good_assign, good_return, nesting_assign, nesting_equations, nesting_return, typed_binary, typed_equations, typed_read, typed_unary}
-use Rattle.st_tree.specs.Chains.{called_in, chain_of, chain_to, unit_chain}
+use Rattle.st_tree.specs.Chains.{chain_of, chain_to, unit_chain}
 use Rattle.st_tree.specs.Depth.{deepest, greatest}
-use Rattle.st_tree.specs.Nesting.{body_nesting, expression_nesting, nesting}
+use Rattle.st_tree.specs.Nesting.{body_nesting, expression_nesting}
 use Rattle.st_tree.specs.Parts.{calls_in}
-use Rattle.st_tree.specs.PlaceRules.{is_place}
 use Rattle.st_tree.specs.Proper.{IsDataBlock, IsFormal, IsGlobal, IsLocal, IsProperUnit, Proper}
-use Rattle.st_tree.specs.Values.{type_of_width}
-use Rattle.st_tree.specs.WellTyped.{Head, Sight, are_well_typed, expression_type, head_of, is_assigned, is_well_typed, sight_of, variable_type}
+use Rattle.st_tree.specs.WellTyped.{Head, Sight, are_well_typed, expression_type, head_of, sight_of, variable_type}
 use Rattle.st_tree.specs.declared.expr.BinaryOp.TheVariants as binary
 use Rattle.st_tree.specs.declared.expr.Expr.{Expr}
 use Rattle.st_tree.specs.declared.expr.Expr.TheVariants as expr
-use Rattle.st_tree.specs.declared.expr.StType.{StType}
 use Rattle.st_tree.specs.declared.expr.StType.TheVariants as type
 use Rattle.st_tree.specs.declared.expr.UnaryOp.TheVariants as unary
 use Rattle.st_tree.specs.declared.expr.Var.{Var}

@@ -6,7 +6,7 @@ use Rattle.st_tree.specs.declared.program.Located.{Located}
 use Rattle.st_tree.specs.declared.program.Pou.{Pou}
 use Rattle.st_tree.specs.declared.program.StProgram.{StProgram}
 use Rattle.stl_translate.specs.Same.{Same}
-use Rattle.stl_translate.specs.inner.Translation.{translation, unit_of}
+use Rattle.stl_translate.specs.inner.Translation.{unit_of}
 use Rattle.stl_translate.proofs.ProperTree.{proper_tree}
 use Rattle.stl_translate.proofs.SameAll.{same_all}
 use Rattle.stl_translate.proofs.translation.translate.Goals as goal
