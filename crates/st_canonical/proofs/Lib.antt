@@ -7,4 +7,5 @@ mod CutUnits
 mod CutWords
 mod Cuts
 pub mod Levels
+pub mod SameNames
 pub mod TextReads

@@ -1,6 +1,6 @@
 -- A well typed expression in its canonical form: it means the expression on each line, is of the language, and
 -- tokens can have its parts.
-use Rattle.std.proofs.Common.{◌≡◌, ℕ, ◌-◌, ℤ, Bool, true, false, not, Option, Some, Result, Ok, refl, sym, ap, subst, ◌∙◌, arith}
+use Rattle.std.proofs.Common.{◌≡◌, ℕ, ◌-◌, ℤ, Bool, true, false, Option, Some, Result, Ok, refl, sym, ap, subst, ◌∙◌, arith}
 use Rattle.std.specs.Prelude.{nat_lt, if◌then◌else◌}
 use Rattle.s7_base.specs.declared.reason.Line.{Line}
 use Rattle.s7_base.specs.declared.reason.Reason.{Reason}
@@ -16,13 +16,13 @@ use Rattle.st_types_laws.proofs.ReadEquations.{read_literal, read_variable}
 use Rattle.st_canonical.proofs.Levels.{nest}
 use Rattle.st_proper.proofs.Literals.{kept}
 use Rattle.st_proper.proofs.Nested.{right_level, wrapped_level}
-use Rattle.st_types_laws.proofs.Operands.{area_found, binary_found, convert_found, select_found, shift_found, unary_found}
+use Rattle.st_types_laws.proofs.Operands.{area_by, binary_by, convert_by, is_typed, select_by, shift_by, unary_by}
 use Rattle.st_proper.proofs.Given.{given, where_given}
 use Rattle.st_types_laws.proofs.SameTypes.{same_binary, same_choice, same_conversion, same_read, same_shift, same_unary}
 use Rattle.st_proper.proofs.Scope.{Sees, sight_by}
 use Rattle.st_proper.proofs.Values.{has_value}
 use Rattle.st_proper.proofs.Variables.{of_type, written}
-use Rattle.st_proper.proofs.Words.{conversion_there}
+use Rattle.st_canonical.proofs.SameNames.{between}
 use Rattle.st_rules.specs.Broken.{Judged, sound}
 use Rattle.st_rules.specs.Expressions.{answered, expression, read_of}
 use Rattle.st_rules.specs.Types.{type_of_unary}
@@ -73,7 +73,7 @@ before_sound : (s : Scope) (m : Line) (op : UnaryOp) (t : Typed) (ty : StType) (
 before_sound s m unary.Minus t ty c h e =
     let w = wrap_sound s m t c 1 h in
     record {
-      means = unary_found s m unary.Minus (tree (wrapped 1 c)) t ty w.means e;
+      means = is_typed (unary_by s m unary.Minus (tree (wrapped 1 c)) t w.means) e;
       binds =
           (wrapped_level 1 c, w.binds);
       spelled = w.spelled;
@@ -81,21 +81,21 @@ before_sound s m unary.Minus t ty c h e =
 before_sound s m unary.Not t ty c h e =
     let w = wrap_sound s m t c 2 h in
     record {
-      means = unary_found s m unary.Not (tree (wrapped 2 c)) t ty w.means e;
+      means = is_typed (unary_by s m unary.Not (tree (wrapped 2 c)) t w.means) e;
       binds =
           (wrapped_level 2 c, w.binds);
       spelled = w.spelled;
     }
 before_sound s m unary.BcdToInt t ty c h e =
     record {
-      means = unary_found s m unary.BcdToInt (tree c) t ty h.means e;
+      means = is_typed (unary_by s m unary.BcdToInt (tree c) t h.means) e;
       binds = h.binds;
       spelled =
           (refl, h.spelled);
     }
 before_sound s m unary.BcdToDint t ty c h e =
     record {
-      means = unary_found s m unary.BcdToDint (tree c) t ty h.means e;
+      means = is_typed (unary_by s m unary.BcdToDint (tree c) t h.means) e;
       binds = h.binds;
       spelled =
           (refl, h.spelled);
@@ -153,9 +153,8 @@ module _ (s : Scope) (names : Names) (sees : Sees s names) where
       let x = wrap_sound s m (typed_tree g.first a) c (infix_level op) (p g.first g.is k m) in
       let y = wrap_sound s m (typed_tree f.first b) d (infix_level op - 1) (q f.first f.is k m) in
       subst (Sound s m (typed_tree u (expr.Binary op a b))) (sym (form_binary names k op a b)) (record {
-        means = binary_found s m op (tree (wrapped (infix_level op) c)) (tree (wrapped (infix_level op - 1) d))
-            (typed_tree g.first a) (typed_tree f.first b) u
-            x.means y.means (same_binary op g.first f.first ∙ f.rest);
+        means = is_typed (binary_by s m op (tree (wrapped (infix_level op) c)) (tree (wrapped (infix_level op - 1) d))
+            (typed_tree g.first a) (typed_tree f.first b) x.means y.means) (same_binary op g.first f.first ∙ f.rest);
         binds = (wrapped_level (infix_level op) c, right_level op d, x.binds, y.binds);
         spelled = (x.spelled, y.spelled);
       })
@@ -169,10 +168,9 @@ module _ (s : Scope) (names : Names) (sees : Sees s names) where
       let w = where_given (is_conversion from to) f.first u f.rest in
       let x = p g.first g.is k m in
       let c = expr_form names k a in
-      let there : is_function (one.Convert from to) ≡ true =
-      ap not (conversion_there from to) ∙ ap (λ t. not (not t)) w.0 in
+      let there : is_function (one.Convert from to) ≡ true = between from to ∙ w.0 in
       subst (Sound s m (typed_tree u (expr.Convert from to a))) (sym (form_convert names k from to a)) (record {
-        means = convert_found s m from to (tree c) (typed_tree g.first a) u x.means
+        means = is_typed (convert_by s m from to (tree c) (typed_tree g.first a) x.means)
             (same_conversion from to g.first ∙ f.is ∙ ap (λ t. Some t) w.1);
         binds = x.binds;
         spelled = (there, x.spelled);
@@ -188,9 +186,8 @@ module _ (s : Scope) (names : Names) (sees : Sees s names) where
       let y = q f.first f.is k m in
       let z = r i.first i.is k m in
       subst (Sound s m (typed_tree u (expr.Select a b e))) (sym (form_select names k a b e)) (record {
-        means = select_found s m (tree (expr_form names k a)) (tree (expr_form names k b)) (tree (expr_form names k e))
-            (typed_tree g.first a)
-            (typed_tree f.first b) (typed_tree i.first e) u x.means y.means z.means
+        means = is_typed (select_by s m (tree (expr_form names k a)) (tree (expr_form names k b)) (tree (expr_form names k e))
+            (typed_tree g.first a) (typed_tree f.first b) (typed_tree i.first e) x.means y.means z.means)
             (same_choice g.first f.first i.first ∙ i.rest);
         binds = (x.binds, y.binds, z.binds);
         spelled = (x.spelled, y.spelled, z.spelled);
@@ -204,8 +201,8 @@ module _ (s : Scope) (names : Names) (sees : Sees s names) where
       let x = p g.first g.is k m in
       let y = q f.first f.is k m in
       subst (Sound s m (typed_tree u (expr.Shift op a b))) (sym (form_shift names k op a b)) (record {
-        means = shift_found s m op (tree (expr_form names k a)) (tree (expr_form names k b)) (typed_tree g.first a)
-            (typed_tree f.first b) u x.means y.means
+        means = is_typed (shift_by s m op (tree (expr_form names k a)) (tree (expr_form names k b)) (typed_tree g.first a)
+            (typed_tree f.first b) x.means y.means)
             (same_shift g.first f.first ∙ f.rest);
         binds = (x.binds, y.binds);
         spelled = (x.spelled, y.spelled);
@@ -216,7 +213,7 @@ module _ (s : Scope) (names : Names) (sees : Sees s names) where
       let g = given (type_in a) (types.type_of_read w) u (sym (typed_area_read (sight_by names) w a) ∙ h) in
       let x = p g.first g.is k m in
       subst (Sound s m (typed_tree u (expr.AreaRead w a))) (sym (form_area names k w a)) (record {
-        means = area_found s m w (tree (expr_form names k a)) (typed_tree g.first a) u x.means
+        means = is_typed (area_by s m w (tree (expr_form names k a)) (typed_tree g.first a) x.means)
             (same_read w g.first ∙ g.rest);
         binds = x.binds;
         spelled = (refl, x.spelled);
@@ -250,16 +247,12 @@ module _ (names : Names) (k : ℕ) where
   unary_deep : (op : UnaryOp) (f : bare.Form) → IsDeep f (form_of names k f)
       → IsDeep (bare.prefix op f) (form_of names k (bare.prefix op f))
   unary_deep unary.Minus f h = record { inner = omega (arith, h.inner); high = omega (arith, h.high) }
-  unary_deep unary.Not f h = record { inner = omega (arith, h.inner); high = omega (arith, h.high) }
-  unary_deep unary.BcdToInt f h = record { inner = omega (arith, h.inner); high = omega (arith, h.high) }
-  unary_deep unary.BcdToDint f h = record { inner = omega (arith, h.inner); high = omega (arith, h.high) }
+  unary_deep other f h = record { inner = omega (arith, h.inner); high = omega (arith, h.high) }
 
   digits_deep : (op : UnaryOp) (f : bare.Form) → IsDeep f (form_of names k f)
       → IsDeep (bare.digits_to op f) (form_of names k (bare.digits_to op f))
   digits_deep unary.Minus f h = record { inner = omega (arith, h.inner); high = omega (arith, h.high) }
-  digits_deep unary.Not f h = record { inner = omega (arith, h.inner); high = omega (arith, h.high) }
-  digits_deep unary.BcdToInt f h = record { inner = omega (arith, h.inner); high = omega (arith, h.high) }
-  digits_deep unary.BcdToDint f h = record { inner = omega (arith, h.inner); high = omega (arith, h.high) }
+  digits_deep other f h = record { inner = omega (arith, h.inner); high = omega (arith, h.high) }
 
   is_deep : (f : bare.Form) → IsDeep f (form_of names k f)
   is_deep (bare.literal ty n) = record { inner = refl; high = refl }

@@ -12,25 +12,23 @@ use Rattle.st_canonical.specs.Canonical.{FromLine, actuals_from, on, raw_var, st
 use Rattle.st_canonical.specs.Spelled.{ActualsSpelled, is_name}
 use Rattle.st_grammar.specs.Forms.{Actuals, no_actual, actual, invoke}
 use Rattle.st_grammar.specs.Grammar.{on_line, tree_actuals}
-use Rattle.st_types_laws.proofs.Actions.{act_invoke, calls_invoke}
+use Rattle.st_types_laws.proofs.Actions.{calls_invoke}
 use Rattle.st_proper.proofs.StatementForms.{from_invoke}
 use Rattle.st_types_laws.proofs.Bounds.{bound}
 use Rattle.st_types_laws.proofs.Labels.{is_own_type}
 use Rattle.st_proper.proofs.Good.{GoodOne}
 use Rattle.st_types_laws.proofs.Keyed.{AreAbsent, AreDistinct, absent_also, found_behind, none_absent}
+use Rattle.st_types_laws.proofs.Called.{AreTyped, are_typed, call_is, given_with}
 use Rattle.st_proper.proofs.Scope.{Callable, Sees, sight_by}
 use Rattle.st_types_laws.proofs.DeclaredTree.{formals_in}
 use Rattle.st_proper.proofs.Variables.{Written, of_type, written}
-use Rattle.st_rules.specs.Broken.{behind, breaks_rule, broken, listed, sound}
+use Rattle.st_rules.specs.Broken.{broken, listed, sound}
 use Rattle.st_rules.specs.Calls.{call_on, calls_of}
 use Rattle.st_rules.specs.Expressions.{answered}
-use Rattle.st_rules.specs.Invocations.{Actual, Given, call_of, call_with, callee, formal_breaks, function_call, given_by, in_order, lacks, plain, var_given, with_actual}
-use Rattle.st_rules.specs.Names.{Table, key_of, look_up, with_entry}
-use Rattle.st_rules.specs.Scopes.{meaning_in}
+use Rattle.st_rules.specs.Invocations.{Actual, Given, callee, formal_breaks, in_order, lacks, plain, var_given, with_actual}
+use Rattle.st_rules.specs.Names.{Table, key_of, look_up}
 use Rattle.st_rules.specs.Statements.{statement}
 use Rattle.st_rules.specs.Types.{is_type}
-use Rattle.st_rules.specs.declared.scope.Formals.{Formals}
-use Rattle.st_rules.specs.declared.scope.Meaning.TheVariants as meaning
 use Rattle.st_rules.specs.declared.scope.Scope.{Scope}
 use Rattle.st_rules.specs.declared.variable.TypedVar.{TypedVar}
 use Rattle.st_tree.proofs.CalledMost.{called_invoke, called_most}
@@ -48,10 +46,6 @@ use Rattle.st_types_laws.proofs.Declared.{keys_of_locals, types_of_locals}
 
 abbrev vars_of : List TypedVar → List Var
 vars_of xs = map (λ (x : TypedVar). x.var) xs
-
--- what is given without a broken rule
-abbrev given_with : Table (Option Var) → Given
-given_with vars = record { vars = vars; breaks = [] }
 
 -- The call as it is written
 
@@ -151,20 +145,7 @@ module _ (names : Names) (s : Scope) (types : Table StType) where
       are_spelled k (actual others l.name (on k) (raw_var names x.var) (on k)) ls xs f.1 (λ i m g. n (suc i) m g)
       (h, n 0 l refl, f.0.0.spelled)
 
--- The types of formals
-
-abbrev type_entries : List Local → Table StType
-type_entries ls = map (λ (l : Local). (key_of l.name, l.ty)) ls
-
-types_are : (ls : List Local) (table : Table StType) → AreAbsent table ls → AreDistinct ls
-    → fold (λ types (l : Local). with_entry (key_of l.name) l.ty types) table ls ≡ table ++ type_entries ls
-types_are [] table a d = sym (append-nil table)
-types_are (l ∷ ls) table a d =
-    let e : List ℕ × StType = (key_of l.name, l.ty) in
-    ap (λ (o : Option StType). fold (λ types (l : Local). with_entry (key_of l.name) l.ty types)
-    (cond (is_some o) table (table ++ e ∷ [])) ls) a.0
-    ∙ types_are ls (table ++ e ∷ []) (absent_also table (key_of l.name) l.ty ls a.1 d.0) d.1
-    ∙ append_assoc table (e ∷ []) (type_entries ls)
+-- The variables that a call gives
 
 module _ (names : Names) (s : Scope) (sees : Sees s names) where
   -- the variables that a call gives, with their types
@@ -173,43 +154,22 @@ module _ (names : Names) (s : Scope) (sees : Sees s names) where
     same : vars_of xs ≡ vars
     fit : AreFit names s types ls xs
 
-  have_types : (before : Table StType) (ls : List Local) (vars : List Var) → AreAbsent before ls → AreDistinct ls
-      → are_given (sight_by names) ls vars ≡ true → HaveTypes (before ++ type_entries ls) ls vars
-  have_types before [] [] a d h = record { xs = []; same = refl; fit = tt }
-  have_types before [] (v ∷ vars) a d h = absurd cc
-  have_types before (l ∷ ls) [] a d h = absurd cc
-  have_types before (l ∷ ls) (v ∷ vars) a d h =
+  have_types : (types : Table StType) (ls : List Local) (vars : List Var) → AreTyped types ls
+      → are_given (sight_by names) ls vars ≡ true → HaveTypes types ls vars
+  have_types types [] [] t h = record { xs = []; same = refl; fit = tt }
+  have_types types [] (v ∷ vars) t h = absurd cc
+  have_types types (l ∷ ls) [] t h = absurd cc
+  have_types types (l ∷ ls) (v ∷ vars) t h =
       let both = and_parts (has_type l.ty (variable_type (sight_by names) v)) (are_given (sight_by names) ls vars) h in
       let w = written s names sees v l.ty (type_had l.ty (variable_type (sight_by names) v) both.0) in
-      let e : List ℕ × StType = (key_of l.name, l.ty) in
-      let more = have_types (before ++ e ∷ []) ls vars
-      (absent_also before (key_of l.name) l.ty ls a.1 d.0) d.1 both.1 in
-      let there : look_up (key_of l.name) (before ++ e ∷ type_entries ls)
-      ≡ Some l.ty = found_behind before (key_of l.name) l.ty (type_entries ls) a.0 in
+      let more = have_types types ls vars t.1 both.1 in
       record {
         xs = of_type l.ty v ∷ more.xs;
         same = ap (λ vs. v ∷ vs) more.same;
-        fit = (
-          (w, (l.ty, there, is_own_type l.ty)),
-          subst (λ z. AreFit names s z ls more.xs) (append_assoc before (e ∷ []) (type_entries ls)) more.fit,
-        );
+        fit = ((w, (l.ty, t.0, is_own_type l.ty)), more.fit);
       }
 
   -- A call
-
-  -- a call of a function that is there
-  call_is : (m : Line) (name : List ℕ) (actuals : List Actual) (i : ℕ) (formals : Formals) (table : Table (Option Var))
-      → meaning_in s (key_of name) ≡ Some (meaning.Function i)
-      → slice_get s.formals i ≡ Some formals → given_by s m formals.types actuals ≡ given_with table
-      → lacks table formals.keys ≡ false
-      → statement s (on_line m (raw.Invoke name actuals)) ≡ sound (stmt.Invoke i (in_order table formals.keys))
-  call_is m name actuals i formals table h there given none =
-      act_invoke s m name actuals
-      ∙ ap (λ o. call_of s m (callee o) actuals) h
-      ∙ ap (λ o. function_call s m i o actuals) there
-      ∙ ap (λ (g : Given). behind g.breaks (call_with m i g.vars formals.keys)) given
-      ∙ ap (λ b. behind [] (cond b (breaks_rule m TypeMismatch)
-      (sound (stmt.Invoke i (in_order table formals.keys))))) none
 
   of_callable : (inside : Bool) (n : ℕ) (u : Pou) (k : ℕ) (xs : List TypedVar) → Callable s n u
       → AreFit names s (types_of_locals u.formals) u.formals xs
@@ -228,7 +188,7 @@ module _ (names : Names) (s : Scope) (sees : Sees s names) where
       calls_invoke s (on k) u.name form ∙ ap (λ o. call_on (on k) (callee o)) c.means.0 in
       record {
         means = ap (λ z. statement s (on_line (on k) (raw.Invoke u.name z))) same
-            ∙ call_is (on k) u.name actuals n (formals_in u) table c.means.0 c.formals given order.1
+            ∙ call_is s (on k) u.name actuals n (formals_in u) table c.means.0 c.formals given order.1
             ∙ ap (λ vs. sound (stmt.Invoke n vs)) order.0;
         fits = tt;
         spelled = (c.means.1, are_spelled names s types k no_actual u.formals xs fit c.named tt);
@@ -250,12 +210,11 @@ module _ (names : Names) (s : Scope) (sees : Sees s names) where
       (are_given (sight_by names) u.formals vars) h in
       let both = and_parts (not u.program) (is_seen (sight_by names) u.name) parts.0 in
       let c = sees.function n u e (not_program u.program both.0) both.1 in
-      let r = have_types [] u.formals vars (none_absent StType u.formals) c.distinct parts.1 in
-      let types : types_of_locals u.formals
-      ≡ type_entries u.formals = types_are u.formals [] (none_absent StType u.formals) c.distinct in
+      let types = types_of_locals u.formals in
+      let r = have_types types u.formals vars (are_typed u.formals c.distinct) parts.1 in
       subst (λ vs. GoodOne s inside (stmt.Invoke n vs)
       (invoke (on k) u.name (actuals_from names k no_actual u.formals vs))) r.same
-      (of_callable inside n u k r.xs c (subst (λ z. AreFit names s z u.formals r.xs) (sym types) r.fit))
+      (of_callable inside n u k r.xs c r.fit)
     where
       not_program : (t : Bool) → not t ≡ true → t ≡ false
       not_program true q = absurd cc

@@ -18,4 +18,3 @@ pub mod UnitForms
 pub mod Values
 pub mod Variables
 pub mod Whole
-pub mod Words

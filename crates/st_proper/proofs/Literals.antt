@@ -27,11 +27,6 @@ never : (n : ℕ) → nat_lt n 0 ≡ false
 never n = grind (arith, nat_tests)
 
 -- a number from 0 on is not below it
-value_plain : (t : Bool) (n : ℕ) (ty : StType) → t ≡ false → nat_le n (greatest ty false) ≡ true
-    → (cond t (is_signed ty && nat_le n (greatest ty true)) (nat_le n (greatest ty false))) ≡ true
-value_plain true n ty e h = absurd cc
-value_plain false n ty e h = h
-
 plain_value : (t : Bool) (n : ℕ) (ty : StType) → t ≡ false
     → (cond t (is_signed ty && nat_le n (greatest ty true)) (nat_le n (greatest ty false))) ≡ true
     → nat_le n (greatest ty false) ≡ true
@@ -46,9 +41,4 @@ decimal false n e h = record { tree = refl; label = refl; value = h; spelled = h
 pub kept : (ty : StType) (n : ℤ) → has_value ty n ≡ true → Kept ty n (literal_form ty n)
 kept type.Dint (pos n) h = decimal (nat_lt n 0) n (never n) (plain_value (nat_lt n 0) n type.Dint (never n) h)
 kept type.Dint (negsuc n) h = typed type.Dint (negsuc n) h
-kept type.Bool n h = typed type.Bool n h
-kept type.Byte n h = typed type.Byte n h
-kept type.Word n h = typed type.Word n h
-kept type.Dword n h = typed type.Dword n h
-kept type.Int n h = typed type.Int n h
-kept type.Lint n h = typed type.Lint n h
+kept ty n h = typed ty n h

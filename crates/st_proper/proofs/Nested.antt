@@ -17,19 +17,7 @@ wrapped_level j f = by (nat_lt j (level f)) (let t : Bool = nat_lt j (level f) i
 
 some : (op : BinaryOp) → 0 < infix_level op
 some binary.Mul = omega arith
-some binary.Div = omega arith
-some binary.Mod = omega arith
-some binary.Add = omega arith
-some binary.Sub = omega arith
-some binary.Lt = omega arith
-some binary.Gt = omega arith
-some binary.Le = omega arith
-some binary.Ge = omega arith
-some binary.Eq = omega arith
-some binary.Ne = omega arith
-some binary.And = omega arith
-some binary.Xor = omega arith
-some binary.Or = omega arith
+some other = omega arith
 
 pub right_level : (op : BinaryOp) (c : Form) → level (wrapped (infix_level op - 1) c) < infix_level op
 right_level op c = omega (arith, wrapped_level (infix_level op - 1) c, some op)

@@ -10,7 +10,7 @@ use Rattle.st_lexer.proofs.Words.{and_both}
 use Rattle.st_types_laws.proofs.Keyed.{AreDistinct, distinct_of, found_behind}
 use Rattle.st_proper.proofs.Keys.{IsOther, block_key, free_name, local_name, other_key, other_number, unit_name}
 use Rattle.st_types_laws.proofs.SameKeys.{same_key}
-use Rattle.st_proper.proofs.Words.{spelled_name}
+use Rattle.st_canonical.proofs.SameNames.{spelled_name}
 use Rattle.st_rules.specs.Declarations.{meaning_of_unit}
 use Rattle.st_rules.specs.Names.{Table, is_block_name, is_same, key_of, look_up}
 use Rattle.st_rules.specs.Scopes.{as_register, meaning_in, or_else, register_named}

@@ -1,15 +1,21 @@
 -- The units of a proper tree, in their canonical form: they are of the language, tokens can have
 -- their names, they nest no deeper than they may, and they declare what the tree has.
-use Rattle.std.proofs.Common.{◌≡◌, ℕ, Bool, true, false, List, [], ◌∷◌, ◌++◌, map, refl, sym, subst, ◌∙◌, append_assoc, append-nil}
+use Rattle.std.proofs.Common.{◌≡◌, ◌≢◌, ℕ, Bool, true, false, List, [], ◌∷◌, ◌++◌, map, refl, sym, subst, ◌∙◌, append_assoc, append-nil}
+use Rattle.std.specs.Prelude.{All}
+use Rattle.s7_base.specs.declared.reason.Line.{Line}
 use Rattle.s7_base.specs.Tokens.{line_after}
+use Rattle.st_canonical.proofs.SameNames.{spelled_name}
 use Rattle.st_canonical.specs.Canonical.{Placed, body_from, locals_from, on, section_from, statement_from, unit_from, units_from}
 use Rattle.st_grammar.specs.Forms.{Statements, Locals, no_local, local, Section, absent, present, Units, no_unit}
 use Rattle.st_grammar.specs.Grammar.{AllFit, FormalsFit, HeadFits, IfPresent, LocalsFit, UnitsFit, held, is_formal_type, tree_all, tree_locals, tree_units}
-use Rattle.st_grammar.specs.Kinds.{is_free, may_name_local, may_name_unit}
 use Rattle.st_grammar.specs.Levels.{levels_all, levels_locals, levels_section, levels_units}
 use Rattle.st_canonical.specs.Spelled.{AllSpelled, LocalsSpelled, UnitsSpelled, is_name}
 use Rattle.st_proper.proofs.BlockForms.{AreWithin, with_four, with_zero}
-use Rattle.st_types_laws.proofs.Lists.{Each}
+use Rattle.st_types_laws.proofs.Lists.{Each, each_of}
+use Rattle.st_tree.specs.Proper.{IsFormal, IsLocal, IsProperUnit}
+use Rattle.st_tree.specs.WellTyped.{head_of}
+use Rattle.st_tree.specs.declared.expr.StType.{StType}
+use Rattle.st_tree.specs.declared.expr.StType.TheVariants as type
 use Rattle.st_tree.specs.Spelling.{names_in}
 use Rattle.st_tree.specs.declared.program.Local.{Local}
 use Rattle.st_tree.specs.declared.program.Pou.{Pou}
@@ -18,30 +24,9 @@ use Rattle.st_tree.specs.declared.raw.RawLocal.{RawLocal}
 use Rattle.st_tree.specs.declared.raw.RawPou.{RawPou}
 use Rattle.st_types_laws.proofs.Redeclared.{AreLocalsAt, AreUnitsAt}
 
--- What is read
-
--- a formal and a local of a proper tree
-pub record IsFormal (l : Local) : Type 0 where
-  pub name : is_name l.name ≡ true
-  pub free : is_free l.name ≡ true
-  pub typed : is_formal_type l.ty ≡ true
-
-pub record IsLocal (l : Local) : Type 0 where
-  pub name : is_name l.name ≡ true
-  pub free : may_name_local l.name ≡ true
-
--- only functions have formals
-abbrev pub MayHave : Bool → List Local → Type 0
-MayHave program [] = Unit {0}
-MayHave program (l ∷ ls) = program ≡ false
-
 -- a unit of a proper tree
-pub record IsHeaded (u : Pou) : Type 0 where
-  pub name : is_name u.name ≡ true
-  pub free : may_name_unit u.name ≡ true
-  pub may : MayHave u.program u.formals
-  pub formals : Each IsFormal u.formals
-  pub locals : Each IsLocal u.locals
+abbrev pub IsUnit : StProgram → Pou → Type 0
+IsUnit text u = IsProperUnit text.globals (map head_of text.pous) u
 
 -- Their sections
 
@@ -53,38 +38,27 @@ record AreSound (P : Locals → Type 0) (others all : Locals) (ls : List Local) 
   same : tree_locals all ≡ tree_locals others ++ more
   are : AreLocalsAt ls more
 
-formals_behind : (ls : List Local) (others : Locals) (line : ℕ) → Each IsFormal ls → FormalsFit others
-    → LocalsSpelled others
-    → AreSound FormalsFit others (locals_from others line ls).0 ls
-formals_behind [] others line h f s =
-    record { fit = f; spelled = s; more = []; same = sym (append-nil (tree_locals others)); are = tt }
-formals_behind (l ∷ ls) others line h f s =
-    let r = formals_behind ls (local others l.name (on line) l.ty) (line_after line) h.1 (f, h.0.free, h.0.typed)
-    (s, h.0.name) in
-    let own : RawLocal = record { name = l.name; line = on line; ty = l.ty } in
-    record {
-      fit = r.fit;
-      spelled = r.spelled;
-      more = own ∷ r.more;
-      same = r.same ∙ append_assoc (tree_locals others) (own ∷ []) r.more;
-      are = (record { named = refl; typed = refl }, r.are);
-    }
+module _ (P : Locals → Type 0) (Q : Local → Type 0) (named : (l : Local) → Q l → is_name l.name ≡ true)
+    (fits : (others : Locals) (l : Local) (line : Line) → P others → Q l → P (local others l.name line l.ty)) where
+  all_behind : (ls : List Local) (others : Locals) (line : ℕ) → Each Q ls → P others → LocalsSpelled others
+      → AreSound P others (locals_from others line ls).0 ls
+  all_behind [] others line h f s =
+      record { fit = f; spelled = s; more = []; same = sym (append-nil (tree_locals others)); are = tt }
+  all_behind (l ∷ ls) others line h f s =
+      let r = all_behind ls (local others l.name (on line) l.ty) (line_after line) h.1 (fits others l (on line) f h.0)
+      (s, named l h.0) in
+      let own : RawLocal = record { name = l.name; line = on line; ty = l.ty } in
+      record {
+        fit = r.fit;
+        spelled = r.spelled;
+        more = own ∷ r.more;
+        same = r.same ∙ append_assoc (tree_locals others) (own ∷ []) r.more;
+        are = (record { named = refl; typed = refl }, r.are);
+      }
 
-locals_behind : (ls : List Local) (others : Locals) (line : ℕ) → Each IsLocal ls → LocalsFit others
-    → LocalsSpelled others
-    → AreSound LocalsFit others (locals_from others line ls).0 ls
-locals_behind [] others line h f s =
-    record { fit = f; spelled = s; more = []; same = sym (append-nil (tree_locals others)); are = tt }
-locals_behind (l ∷ ls) others line h f s =
-    let r = locals_behind ls (local others l.name (on line) l.ty) (line_after line) h.1 (f, h.0.free) (s, h.0.name) in
-    let own : RawLocal = record { name = l.name; line = on line; ty = l.ty } in
-    record {
-      fit = r.fit;
-      spelled = r.spelled;
-      more = own ∷ r.more;
-      same = r.same ∙ append_assoc (tree_locals others) (own ∷ []) r.more;
-      are = (record { named = refl; typed = refl }, r.are);
-    }
+formal_type : (ty : StType) → ty ≢ type.Lint → is_formal_type ty ≡ true
+formal_type type.Lint h = absurd (h refl)
+formal_type ty h = refl
 
 locals_within : (ls : Locals) (before : List ℕ) → AreWithin before → AreWithin (levels_locals ls before)
 locals_within no_local before h = h
@@ -103,18 +77,29 @@ record IsSection (P : Section Locals → Type 0) (s : Section Locals) (ls : List
   spelled : IfPresent LocalsSpelled s
   are : AreLocalsAt ls (held tree_locals s)
 
-formals_section : (program : Bool) (ls : List Local) (line : ℕ) → MayHave program ls → Each IsFormal ls
+no_program : (program : Bool) (l : Local) (ls : List Local) → (program ≡ true → l ∷ ls ≡ []) → program ≡ false
+no_program false l ls h = refl
+no_program true l ls h = let none = h refl in absurd cc
+
+formals_section : (program : Bool) (ls : List Local) (line : ℕ) → (program ≡ true → ls ≡ []) → All IsFormal ls
     → IsSection (HeadFits program) (section_from line ls).0 ls
 formals_section program [] line m h = record { fit = tt; spelled = tt; are = tt }
 formals_section program (l ∷ ls) line m h =
-    let r = formals_behind (l ∷ ls) no_local (line_after line) h tt tt in
-    record { fit = (m, r.fit); spelled = r.spelled; are = subst (AreLocalsAt (l ∷ ls)) (sym r.same) r.are }
+    let r = all_behind FormalsFit IsFormal (λ x q. spelled_name x.name q.name)
+    (λ others x at f q. (f, q.free, formal_type x.ty q.type)) (l ∷ ls) no_local (line_after line)
+    (each_of IsFormal (l ∷ ls) h) tt tt in
+    record {
+      fit = (no_program program l ls m, r.fit);
+      spelled = r.spelled;
+      are = subst (AreLocalsAt (l ∷ ls)) (sym r.same) r.are;
+    }
 
-locals_section : (ls : List Local) (line : ℕ) → Each IsLocal ls
+locals_section : (ls : List Local) (line : ℕ) → All IsLocal ls
     → IsSection (IfPresent LocalsFit) (section_from line ls).0 ls
 locals_section [] line h = record { fit = tt; spelled = tt; are = tt }
 locals_section (l ∷ ls) line h =
-    let r = locals_behind (l ∷ ls) no_local (line_after line) h tt tt in
+    let r = all_behind LocalsFit IsLocal (λ x q. spelled_name x.name q.name) (λ others x at f q. (f, q.free)) (l ∷ ls)
+    no_local (line_after line) (each_of IsLocal (l ∷ ls) h) tt tt in
     record { fit = r.fit; spelled = r.spelled; are = subst (AreLocalsAt (l ∷ ls)) (sym r.same) r.are }
 
 -- Units
@@ -171,15 +156,15 @@ unit_raw text line u = record {
 }
 
 -- a unit after others
-one_unit : (text : StProgram) (u : Pou) (others : Units) (line : ℕ) → IsHeaded u → HasBody text u → AreUnits others
+one_unit : (text : StProgram) (u : Pou) (others : Units) (line : ℕ) → IsUnit text u → HasBody text u → AreUnits others
     → AreUnits (unit_from text others line u).0
 one_unit text u others line h b a =
-    let formals = formals_section u.program u.formals (line_after line) h.may h.formals in
+    let formals = formals_section u.program u.formals (line_after line) h.program h.formals in
     let locals = locals_section u.locals (formals_of_unit line u).1 h.locals in
     let at = (locals_of_unit line u).1 in
     record {
       fit = (a.fit, h.free, formals.fit, locals.fit, b.fit at);
-      spelled = (a.spelled, h.name, formals.spelled, locals.spelled, b.spelled at);
+      spelled = (a.spelled, spelled_name u.name h.name, formals.spelled, locals.spelled, b.spelled at);
       within = λ before k.
           let one = 0 ∷ levels_units others before in
           let two = 0 ∷ one in
@@ -191,7 +176,7 @@ one_unit text u others line h b a =
           (section_within (formals_of_unit line u).0 two w)));
     }
 
-units_behind : (text : StProgram) (us : List Pou) (others : Units) (line : ℕ) → Each IsHeaded us
+units_behind : (text : StProgram) (us : List Pou) (others : Units) (line : ℕ) → Each (IsUnit text) us
     → Each (HasBody text) us → AreUnits others
     → AreUnits (units_from text others line us).0
 units_behind text [] others line h b a = a
@@ -200,19 +185,19 @@ units_behind text (u ∷ us) others line h b a =
     units_behind text us next.0 next.1 h.1 b.1 (one_unit text u others line h.0 b.0 a)
 
 -- the units of a text are of the language
-pub units_are : (text : StProgram) (us : List Pou) (line : ℕ) → Each IsHeaded us → Each (HasBody text) us
+pub units_are : (text : StProgram) (us : List Pou) (line : ℕ) → Each (IsUnit text) us → Each (HasBody text) us
     → AreUnits (units_from text no_unit line us).0
 units_are text us line h b = units_behind text us no_unit line h b
     (record { fit = tt; spelled = tt; within = λ before w. w })
 
-units_declare : (text : StProgram) (us : List Pou) (others : Units) (line : ℕ) → Each IsHeaded us
+units_declare : (text : StProgram) (us : List Pou) (others : Units) (line : ℕ) → Each (IsUnit text) us
     → Declare text us others (units_from text others line us).0
 units_declare text [] others line h =
     record { more = []; same = sym (append-nil (tree_units others)); are = tt; forms = tt }
 units_declare text (u ∷ us) others line h =
     let next = unit_from text others line u in
     let r = units_declare text us next.0 next.1 h.1 in
-    let formals = formals_section u.program u.formals (line_after line) h.0.may h.0.formals in
+    let formals = formals_section u.program u.formals (line_after line) h.0.program h.0.formals in
     let locals = locals_section u.locals (formals_of_unit line u).1 h.0.locals in
     record {
       more = unit_raw text line u ∷ r.more;
@@ -226,7 +211,7 @@ pub record DeclareAll (text : StProgram) (us : List Pou) (units : List RawPou) :
   pub are : AreUnitsAt us units
   pub forms : HaveForms text us units
 
-pub all_declare : (text : StProgram) (us : List Pou) (line : ℕ) → Each IsHeaded us
+pub all_declare : (text : StProgram) (us : List Pou) (line : ℕ) → Each (IsUnit text) us
     → DeclareAll text us (tree_units (units_from text no_unit line us).0)
 all_declare text us line h =
     let r = units_declare text us no_unit line h in

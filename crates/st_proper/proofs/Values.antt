@@ -89,8 +89,7 @@ pub record IsPlaced (a : AreaName) (w : Width) (byte bit : ℕ) : Type 0 where
 small_bit : (w : Width) (bit : ℕ) → is_bit_of w bit ≡ true → (nat_le bit 7 ≡ true) × (text.is_bit_of w bit ≡ true)
 small_bit width.Bit bit h = let less : bit ≤ 7 = leb-true bit 7 h in (h, kept bit (omega (arith, less)))
 small_bit width.Byte bit h = let none : bit ≡ 0 = eqb-true bit 0 h in (le-leb bit 7 (omega (arith, none)), h)
-small_bit width.Word bit h = let none : bit ≡ 0 = eqb-true bit 0 h in (le-leb bit 7 (omega (arith, none)), h)
-small_bit width.Dword bit h = let none : bit ≡ 0 = eqb-true bit 0 h in (le-leb bit 7 (omega (arith, none)), h)
+small_bit other bit h = let none : bit ≡ 0 = eqb-true bit 0 h in (le-leb bit 7 (omega (arith, none)), h)
 
 small_byte : (a : AreaName) (w : Width) (byte : ℕ) → rules.is_byte_in a w byte ≡ true → byte ≤ 65535
 small_byte area.I w byte h = let less = leb-true _ 2048 h in omega (arith, less)
@@ -102,11 +101,7 @@ small_byte area.Di w byte h = leb-true byte 65535 h
 
 same_bytes : (a : AreaName) (w : Width) (byte : ℕ) → is_byte_in a w byte ≡ rules.is_byte_in a w byte
 same_bytes area.I w byte = refl
-same_bytes area.Q w byte = refl
-same_bytes area.M w byte = refl
-same_bytes area.L w byte = refl
-same_bytes area.Db w byte = refl
-same_bytes area.Di w byte = refl
+same_bytes other w byte = refl
 
 pub placed : (a : AreaName) (w : Width) (byte bit : ℕ) → is_place a w byte bit ≡ true → IsPlaced a w byte bit
 placed a w byte bit h =

@@ -44,38 +44,12 @@ pub record Written (names : Names) (s : Scope) (v : TypedVar) : Type 0 where
 register_key : (r : Reg) → register_named (key_of (register_word r)) ≡ Some r
 unfolding key_of register_named
 register_key reg.Accu1 = refl
-register_key reg.Accu2 = refl
-register_key reg.Ar1 = refl
-register_key reg.Ar2 = refl
-register_key reg.DbNo = refl
-register_key reg.DiNo = refl
-register_key reg.Nfc = refl
-register_key reg.Rlo = refl
-register_key reg.Sta = refl
-register_key reg.Orb = refl
-register_key reg.Os = refl
-register_key reg.Ov = refl
-register_key reg.Cc0 = refl
-register_key reg.Cc1 = refl
-register_key reg.Br = refl
+register_key other = refl
 
 register_is_name : (r : Reg) → is_name (register_word r) ≡ true
 unfolding word_named word_text
 register_is_name reg.Accu1 = refl
-register_is_name reg.Accu2 = refl
-register_is_name reg.Ar1 = refl
-register_is_name reg.Ar2 = refl
-register_is_name reg.DbNo = refl
-register_is_name reg.DiNo = refl
-register_is_name reg.Nfc = refl
-register_is_name reg.Rlo = refl
-register_is_name reg.Sta = refl
-register_is_name reg.Orb = refl
-register_is_name reg.Os = refl
-register_is_name reg.Ov = refl
-register_is_name reg.Cc0 = refl
-register_is_name reg.Cc1 = refl
-register_is_name reg.Br = refl
+register_is_name other = refl
 
 -- All variables
 

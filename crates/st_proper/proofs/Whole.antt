@@ -12,7 +12,7 @@ use Rattle.memory_areas.specs.declared.place.Area.TheVariants as place
 use Rattle.memory_areas.specs.declared.place.AreaName.TheVariants as area
 use Rattle.st_canonical.specs.Canonical.{globals_from, source_of, units_from}
 use Rattle.st_grammar.specs.Forms.{no_unit}
-use Rattle.st_grammar.specs.Grammar.{is_formal_type, raw_tree}
+use Rattle.st_grammar.specs.Grammar.{raw_tree}
 use Rattle.st_grammar.specs.Levels.{deepest, levels_all, levels_globals, levels_section, levels_units}
 use Rattle.st_lexer.specs.Spelled.{is_byte}
 use Rattle.st_proper.proofs.BlockForms.{IsFull, with_zero}
@@ -27,9 +27,9 @@ use Rattle.st_types_laws.proofs.Lists.{each_at, each_of, both_true, each_from, m
 use Rattle.st_types_laws.proofs.DeclaredTree.{formals_in, formals_same, same_length, unit_there}
 use Rattle.st_proper.proofs.Scope.{inner_apart, outer_apart, sees, units_proper}
 use Rattle.st_proper.proofs.Statements.{statements_good}
-use Rattle.st_proper.proofs.UnitForms.{AreUnits, DeclareAll, HasBody, HasForm, HaveForms, IsFormal as IsFormalForm, IsHeaded, IsLocal as IsLocalForm, MayHave, all_declare, body_at, units_are}
+use Rattle.st_proper.proofs.UnitForms.{AreUnits, DeclareAll, HasBody, HasForm, HaveForms, all_declare, body_at, units_are}
 use Rattle.st_proper.proofs.Values.{placed, plain_place}
-use Rattle.st_proper.proofs.Words.{spelled_name}
+use Rattle.st_canonical.proofs.SameNames.{spelled_name}
 use Rattle.st_proper.specs.CanonicalForms.{HasCanonicalForm, ProperHasForm}
 use Rattle.st_rules.specs.Broken.{breaks_in, first_of_all, found_in}
 use Rattle.st_rules.specs.Calls.{all_calls}
@@ -45,7 +45,7 @@ use Rattle.st_tree.proofs.CalledMost.{called_most}
 use Rattle.st_tree.proofs.Induction.{Each}
 use Rattle.st_tree.proofs.TypesAgree.{types_agree}
 use Rattle.st_tree.specs.PlaceRules.{is_located}
-use Rattle.st_tree.specs.Proper.{IsDataBlock, IsFormal, IsGlobal, IsLocal, IsProperUnit, Proper}
+use Rattle.st_tree.specs.Proper.{IsDataBlock, IsGlobal, IsProperUnit, Proper}
 use Rattle.st_tree.specs.Spelling.{names_in}
 use Rattle.st_tree.specs.Values.{width_at}
 use Rattle.st_tree.specs.WellTyped.{head_of}
@@ -54,6 +54,7 @@ use Rattle.st_tree.specs.declared.expr.StType.TheVariants as type
 use Rattle.st_tree.specs.declared.program.Local.{Local}
 use Rattle.st_tree.specs.declared.program.Located.{Located}
 use Rattle.st_tree.specs.declared.program.Pou.{Pou}
+use Rattle.st_tree.specs.declared.program.Stmt.{Stmt}
 use Rattle.st_tree.specs.declared.program.StProgram.{StProgram}
 use Rattle.st_tree.specs.declared.raw.RawLocal.{RawLocal}
 use Rattle.st_tree.specs.declared.raw.RawPou.{RawPou}
@@ -95,13 +96,8 @@ are_numbered least (b ∷ bs) some a d s = (
 -- Globals
 
 wide : (ty : StType) → ty ≢ type.Lint → has_width ty (width_at ty) ≡ true
-wide type.Bool h = refl
-wide type.Byte h = refl
-wide type.Word h = refl
-wide type.Dword h = refl
-wide type.Int h = refl
-wide type.Dint h = refl
 wide type.Lint h = absurd (h refl)
+wide ty h = refl
 
 abbrev global_at : List ℕ → StType → Area → ℕ → ℕ → Located
 global_at name ty a byte bit = record { name = name; place = record { area = a; byte = byte; bit = bit }; ty = ty }
@@ -133,8 +129,7 @@ on_area name ty byte bit place.M h t =
           (both_true (rules.is_place area.M (width_at ty) byte bit) (has_width ty (width_at ty)) p.rules (wide ty t));
     }
 on_area name ty byte bit (place.Db n) h t = absurd cc
-on_area name ty byte bit (place.Local n) h t = absurd cc
-on_area name ty byte bit (place.Cell n) h t = absurd cc
+on_area name ty byte bit other h t = absurd cc
 
 are_placed : (gs : List Located) → Each IsGlobal gs → ArePlaced gs
 are_placed [] h = tt
@@ -170,56 +165,11 @@ is_plain name ty byte bit place.M g h =
       known = refl;
     }
 is_plain name ty byte bit (place.Db n) g h = absurd cc
-is_plain name ty byte bit (place.Local n) g h = absurd cc
-is_plain name ty byte bit (place.Cell n) g h = absurd cc
+is_plain name ty byte bit other g h = absurd cc
 
 are_plain : (gs : List Located) → Each IsGlobal gs → Each IsPlain gs
 are_plain [] h = tt
 are_plain (g ∷ gs) h = (is_plain g.name g.ty g.place.byte g.place.bit g.place.area h.0 h.0.place, are_plain gs h.1)
-
--- Units
-
-formal_type : (ty : StType) → ty ≢ type.Lint → is_formal_type ty ≡ true
-formal_type type.Bool h = refl
-formal_type type.Byte h = refl
-formal_type type.Word h = refl
-formal_type type.Dword h = refl
-formal_type type.Int h = refl
-formal_type type.Dint h = refl
-formal_type type.Lint h = absurd (h refl)
-
-are_formals : (ls : List Local) → Each IsFormal ls → Each IsFormalForm ls
-are_formals [] h = tt
-are_formals (l ∷ ls) h = (
-  record {
-    name = spelled_name l.name h.0.name;
-    free = h.0.free;
-    typed = formal_type l.ty h.0.type;
-  },
-  are_formals ls h.1,
-)
-
-are_locals : (ls : List Local) → Each IsLocal ls → Each IsLocalForm ls
-are_locals [] h = tt
-are_locals (l ∷ ls) h = (record { name = spelled_name l.name h.0.name; free = h.0.free }, are_locals ls h.1)
-
-may_have : (program : Bool) (ls : List Local) → (program ≡ true → ls ≡ []) → MayHave program ls
-may_have program [] h = tt
-may_have false (l ∷ ls) h = refl
-may_have true (l ∷ ls) h = let none = h refl in absurd cc
-
-are_headed : (t : StProgram) (us : List Pou) → Each (IsProperUnit t.globals (map head_of t.pous)) us → Each IsHeaded us
-are_headed t [] h = tt
-are_headed t (u ∷ us) h = (
-  record {
-    name = spelled_name u.name h.0.name;
-    free = h.0.free;
-    may = may_have u.program u.formals h.0.program;
-    formals = are_formals u.formals (each_of IsFormal u.formals h.0.formals);
-    locals = are_locals u.locals (each_of IsLocal u.locals h.0.locals);
-  },
-  are_headed t us h.1,
-)
 
 -- Lists
 
@@ -264,30 +214,28 @@ form_there text (a ∷ us) (b ∷ vs) h zero u v q s =
     subst (λ w. HasForm text u w) two (subst (λ w. HasForm text w b) one h.0)
 form_there text (a ∷ us) (b ∷ vs) h (suc n) u v q s = form_there text us vs h.1 n u v q s
 
+abbrev unit_with : Bool → List ℕ → List Local → List Local → List Stmt → Pou
+unit_with program name formals locals body =
+    record { program = program; name = name; formals = formals; locals = locals; body = body }
+
+same_unit : (a b : Bool) (m n : List ℕ) (f g k l : List Local) (x y : List Stmt) → a ≡ b → m ≡ n → f ≡ g → k ≡ l
+    → x ≡ y → unit_with a m f k x ≡ unit_with b n g l y
+same_unit a b m n f g k l x y p q r s t = cc
+
 unit_again : (raw : RawSt) (p : Pou) (v : RawPou) → IsUnitAt p v
     → found_in (statements (scope_in (names_of raw) (map formals_of raw.pous) v) v.body) ≡ p.body
     → unit_of (names_of raw) (map formals_of raw.pous) v ≡ p
 unit_again raw p v at body =
-    let found = found_in (statements (scope_in (names_of raw) (map formals_of raw.pous) v) v.body) in
-    ap (λ t. record {
-      program = t;
-      name = v.name;
-      formals = locals_of v.formals;
-      locals = locals_of v.locals;
-      body = found;
-    }) at.program
-    ∙ ap (λ name. record {
-      program = p.program;
-      name = name;
-      formals = locals_of v.formals;
-      locals = locals_of v.locals;
-      body = found;
-    }) at.named
-    ∙ ap (λ ls. record { program = p.program; name = p.name; formals = ls; locals = locals_of v.locals; body = found })
-    (locals_again p.formals v.formals at.formals)
-    ∙ ap (λ ls. record { program = p.program; name = p.name; formals = p.formals; locals = ls; body = found })
-    (locals_again p.locals v.locals at.locals)
-    ∙ ap (λ b. record { program = p.program; name = p.name; formals = p.formals; locals = p.locals; body = b }) body
+    same_unit v.program p.program v.name p.name (locals_of v.formals) p.formals (locals_of v.locals) p.locals
+    (found_in (statements (scope_in (names_of raw) (map formals_of raw.pous) v) v.body)) p.body at.program at.named
+    (locals_again p.formals v.formals at.formals) (locals_again p.locals v.locals at.locals) body
+
+abbrev tree_with : List DataBlock → List Located → List Pou → StProgram
+tree_with dbs globals pous = record { dbs = dbs; globals = globals; pous = pous }
+
+same_tree : (a b : List DataBlock) (f g : List Located) (x y : List Pou) → a ≡ b → f ≡ g → x ≡ y
+    → tree_with a f x ≡ tree_with b g y
+same_tree a b f g x y p q r = cc
 
 some_units : (vs : List RawPou) (ps : List Pou) → length vs ≡ length ps → ps ≢ [] → vs ≢ []
 some_units [] [] size some e = some refl
@@ -312,15 +260,12 @@ module _ (t : StProgram) (p : Proper t) where
   globals : Each IsGlobal t.globals
   globals = each_of IsGlobal t.globals p.globals
 
-  headed : Each IsHeaded t.pous
-  headed = are_headed t t.pous (units_proper t p)
-
   section : IsSection t.dbs t.globals (globals_from 1 t.dbs t.globals).0
   section = is_section t.dbs t.globals 1 (are_full 1 t.dbs (omega arith) p.blocks.ascend blocks sized)
       (are_plain t.globals globals)
 
   declare : DeclareAll t t.pous raw.pous
-  declare = all_declare t t.pous (globals_from 1 t.dbs t.globals).1 headed
+  declare = all_declare t t.pous (globals_from 1 t.dbs t.globals).1 (units_proper t p)
 
   plain : IsPlainText t.dbs t.globals t.pous (section.blocks ++ section.others) raw.pous
   plain =
@@ -364,7 +309,7 @@ module _ (t : StProgram) (p : Proper t) where
       }
 
   units : AreUnits (units_from t no_unit (globals_from 1 t.dbs t.globals).1 t.pous).0
-  units = units_are t t.pous (globals_from 1 t.dbs t.globals).1 headed (each_from (HasBody t) t.pous has_body)
+  units = units_are t t.pous (globals_from 1 t.dbs t.globals).1 (units_proper t p) (each_from (HasBody t) t.pous has_body)
 
   -- what a unit of the text is
   said : (n : ℕ) (u : Pou) (v : RawPou) → slice_get t.pous n ≡ Some u → slice_get raw.pous n ≡ Some v
@@ -404,21 +349,9 @@ module _ (t : StProgram) (p : Proper t) where
 
   same : t ≡ tree_of raw
   same =
-      sym (ap (λ bs. record {
-        dbs = bs;
-        globals = all_located raw.globals;
-        pous = all_units (names_of raw)
-            (map formals_of raw.pous) raw.pous;
-      })
-      (ap all_blocks section.globals ∙ plain.blocks)
-      ∙ ap (λ ls. record {
-        dbs = t.dbs;
-        globals = ls;
-        pous = all_units (names_of raw)
-            (map formals_of raw.pous) raw.pous;
-      })
-      (ap all_located section.globals ∙ plain.located)
-      ∙ ap (λ ps. record { dbs = t.dbs; globals = t.globals; pous = ps }) all_again)
+      same_tree t.dbs (all_blocks raw.globals) t.globals (all_located raw.globals) t.pous
+      (all_units (names_of raw) (map formals_of raw.pous) raw.pous) (sym (ap all_blocks section.globals ∙ plain.blocks))
+      (sym (ap all_located section.globals ∙ plain.located)) (sym all_again)
 
   bounded : AreBounded t (calls_in raw)
   bounded i calls unit e q f =

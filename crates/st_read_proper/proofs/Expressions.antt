@@ -1,18 +1,17 @@
 -- An expression that breaks no rule is well typed, and nests no deeper than it is written.
-use Rattle.std.proofs.Common.{◌≡◌, true, not, [], Option, Some, Result, Ok, Err, refl, sym, ap, subst, ◌∙◌, arith}
-use Rattle.std.specs.Prelude.{is_none}
+use Rattle.std.proofs.Common.{◌≡◌, true, [], Option, Some, Result, Ok, Err, refl, sym, ap, subst, ◌∙◌, arith}
 use Rattle.s7_base.specs.declared.reason.Line.{Line}
 use Rattle.s7_base.specs.declared.reason.Reason.{Reason}
 use Rattle.s7_base.specs.declared.word.Width.{Width}
+use Rattle.st_canonical.proofs.SameNames.{between}
 use Rattle.st_canonical.specs.Spelled.{FormSpelled, is_function, is_literal, is_variable}
 use Rattle.st_grammar.specs.Forms.{Form, literal, variable, group, prefix, infix_of, apply, shift, select}
 use Rattle.st_grammar.specs.Grammar.{Binds, label_tree, tree}
-use Rattle.st_grammar.specs.Kinds.{conversion_between}
 use Rattle.st_grammar.specs.declared.kind.Literal.{Literal}
 use Rattle.st_grammar.specs.declared.kind.OneOperand.TheVariants as one
 use Rattle.st_grammar.specs.declared.kind.Prefix.TheVariants as before
 use Rattle.st_read_proper.proofs.Nested.{Close, Under, alike, close_area, close_convert, close_group, close_infix, close_select, close_shift, close_unary, written}
-use Rattle.st_types_laws.proofs.Operands.{IsClean, area_found, area_operand, area_typed, binary_found, binary_operands, binary_typed, convert_found, convert_operand, convert_typed, select_found, select_operands, select_typed, shift_found, shift_operands, shift_typed, unary_found, unary_operand, unary_typed}
+use Rattle.st_types_laws.proofs.Operands.{IsClean, area_by, area_operand, binary_by, binary_operands, convert_by, convert_operand, has_type, is_typed, select_by, select_operands, shift_by, shift_operands, unary_by, unary_operand}
 use Rattle.st_types_laws.proofs.ReadEquations.{read_literal, read_variable}
 use Rattle.st_types_laws.proofs.SameTypes.{same_binary, same_choice, same_conversion, same_read, same_shift, same_unary}
 use Rattle.st_read_proper.proofs.Sees.{Sees, variable_has}
@@ -34,22 +33,10 @@ use Rattle.st_tree.specs.declared.expr.BinaryOp.{BinaryOp}
 use Rattle.st_tree.specs.declared.expr.Expr.TheVariants as expr
 use Rattle.st_tree.specs.declared.expr.ShiftOp.{ShiftOp}
 use Rattle.st_tree.specs.declared.expr.StType.{StType}
-use Rattle.st_tree.specs.declared.expr.StType.TheVariants as type
 use Rattle.st_tree.specs.declared.expr.UnaryOp.{UnaryOp}
 use Rattle.st_tree.specs.declared.expr.UnaryOp.TheVariants as unary
 use Rattle.st_tree.specs.declared.raw.RawExpr.TheVariants as raw
 use Rattle.st_tree.specs.declared.raw.RawVar.{RawVar}
-
--- the conversions that there are
-between : (from to : StType) → not (is_none (conversion_between from to)) ≡ is_conversion from to
-between from type.Bool = refl
-between type.Byte type.Byte = refl
-between type.Word type.Word = refl
-between type.Dword type.Dword = refl
-between type.Int type.Int = refl
-between type.Dint type.Dint = refl
-between type.Lint type.Lint = refl
-between from to = refl
 
 -- what an expression that was read is in the tree
 pub record Found (scope : Scope) (sight : Sight) (l : Line) (f : Form) : Type 0 where
@@ -103,10 +90,11 @@ module _ (scope : Scope) (sight : Sight) (sees : Sees scope sight) (l : Line) wh
   of_unary : (op : UnaryOp) (f : Form) → tree (written op f) ≡ raw.Unary op (tree f) → Under op f → Fine f
       → IsClean scope l (raw.Unary op (tree f)) → Fine (written op f)
   of_unary op f same_tree under g clean =
-      let ty = unary_typed scope l op (tree f) g.t g.found clean in
+      let by = unary_by scope l op (tree f) g.t g.found in
+      let ty = has_type by clean in
       record {
         t = record { ty = ty.0; tree = expr.Unary op g.t.tree };
-        found = ap (expression scope l) same_tree ∙ unary_found scope l op (tree f) g.t ty.0 g.found ty.1;
+        found = ap (expression scope l) same_tree ∙ is_typed by ty.1;
         typed = typed_unary sight op g.t.tree ∙ ap (λ o. on_type o (type_of_unary op)) g.typed
             ∙ sym (same_unary op g.t.ty) ∙ ty.1;
         close = subst (Close (written op f)) (sym (canon_unary op g.t.tree)) (close_unary op f (canon g.t.tree) under g.close);
@@ -115,10 +103,11 @@ module _ (scope : Scope) (sight : Sight) (sees : Sees scope sight) (l : Line) wh
   of_infix : (op : BinaryOp) (f g : Form) → Binds (infix_of op f g) → Fine f → Fine g → Clean (infix_of op f g)
       → Fine (infix_of op f g)
   of_infix op f g b p q clean =
-      let ty = binary_typed scope l op (tree f) (tree g) p.t q.t p.found q.found clean in
+      let by = binary_by scope l op (tree f) (tree g) p.t q.t p.found q.found in
+      let ty = has_type by clean in
       record {
         t = record { ty = ty.0; tree = expr.Binary op p.t.tree q.t.tree };
-        found = binary_found scope l op (tree f) (tree g) p.t q.t ty.0 p.found q.found ty.1;
+        found = is_typed by ty.1;
         typed = typed_binary sight op p.t.tree q.t.tree
             ∙ ap (λ o. on_type o (λ ty. on_type (type_of q.t) (type_of_binary op ty))) p.typed
             ∙ ap (λ o. on_type o (type_of_binary op p.t.ty)) q.typed
@@ -130,11 +119,12 @@ module _ (scope : Scope) (sight : Sight) (sees : Sees scope sight) (l : Line) wh
   of_convert : (from to : StType) (f : Form) → is_function (one.Convert from to) ≡ true → Fine f
       → Clean (apply (one.Convert from to) f) → Fine (apply (one.Convert from to) f)
   of_convert from to f there g clean =
-      let ty = convert_typed scope l from to (tree f) g.t g.found clean in
+      let by = convert_by scope l from to (tree f) g.t g.found in
+      let ty = has_type by clean in
       let known : is_conversion from to ≡ true = sym (between from to) ∙ there in
       record {
         t = record { ty = ty.0; tree = expr.Convert from to g.t.tree };
-        found = convert_found scope l from to (tree f) g.t ty.0 g.found ty.1;
+        found = is_typed by ty.1;
         typed = typed_convert sight from to g.t.tree
             ∙ ap (λ o. on_type o (λ ty. on_type (type_of_conversion from to ty) (where_true (is_conversion from to)))) g.typed
             ∙ ap (λ o. on_type o (where_true (is_conversion from to))) (sym (same_conversion from to g.t.ty) ∙ ty.1)
@@ -145,10 +135,11 @@ module _ (scope : Scope) (sight : Sight) (sees : Sees scope sight) (l : Line) wh
 
   of_area : (w : Width) (f : Form) → Fine f → Clean (apply (one.AreaRead w) f) → Fine (apply (one.AreaRead w) f)
   of_area w f g clean =
-      let ty = area_typed scope l w (tree f) g.t g.found clean in
+      let by = area_by scope l w (tree f) g.t g.found in
+      let ty = has_type by clean in
       record {
         t = record { ty = ty.0; tree = expr.AreaRead w g.t.tree };
-        found = area_found scope l w (tree f) g.t ty.0 g.found ty.1;
+        found = is_typed by ty.1;
         typed = typed_area_read sight w g.t.tree ∙ ap (λ o. on_type o (type_of_read w)) g.typed
             ∙ sym (same_read w g.t.ty) ∙ ty.1;
         close = subst (Close (apply (one.AreaRead w) f)) (sym (canon_area_read w g.t.tree))
@@ -157,10 +148,11 @@ module _ (scope : Scope) (sight : Sight) (sees : Sees scope sight) (l : Line) wh
 
   of_shift : (op : ShiftOp) (f g : Form) → Fine f → Fine g → Clean (shift op f g) → Fine (shift op f g)
   of_shift op f g p q clean =
-      let ty = shift_typed scope l op (tree f) (tree g) p.t q.t p.found q.found clean in
+      let by = shift_by scope l op (tree f) (tree g) p.t q.t p.found q.found in
+      let ty = has_type by clean in
       record {
         t = record { ty = ty.0; tree = expr.Shift op p.t.tree q.t.tree };
-        found = shift_found scope l op (tree f) (tree g) p.t q.t ty.0 p.found q.found ty.1;
+        found = is_typed by ty.1;
         typed = typed_shift sight op p.t.tree q.t.tree
             ∙ ap (λ o. on_type o (λ ty. on_type (type_of q.t) (type_of_shift ty))) p.typed
             ∙ ap (λ o. on_type o (type_of_shift p.t.ty)) q.typed
@@ -171,10 +163,11 @@ module _ (scope : Scope) (sight : Sight) (sees : Sees scope sight) (l : Line) wh
 
   of_select : (f g h : Form) → Fine f → Fine g → Fine h → Clean (select f g h) → Fine (select f g h)
   of_select f g h p q r clean =
-      let ty = select_typed scope l (tree f) (tree g) (tree h) p.t q.t r.t p.found q.found r.found clean in
+      let by = select_by scope l (tree f) (tree g) (tree h) p.t q.t r.t p.found q.found r.found in
+      let ty = has_type by clean in
       record {
         t = record { ty = ty.0; tree = expr.Select p.t.tree q.t.tree r.t.tree };
-        found = select_found scope l (tree f) (tree g) (tree h) p.t q.t r.t ty.0 p.found q.found r.found ty.1;
+        found = is_typed by ty.1;
         typed = typed_select sight p.t.tree q.t.tree r.t.tree
             ∙ ap (λ o. on_type o (λ g. on_type (type_of q.t) (λ ty. on_type (type_of r.t) (type_of_choice g ty)))) p.typed
             ∙ ap (λ o. on_type o (λ ty. on_type (type_of r.t) (type_of_choice p.t.ty ty))) q.typed

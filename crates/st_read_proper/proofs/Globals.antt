@@ -12,10 +12,11 @@ use Rattle.st_lexer.specs.Spelled as written
 use Rattle.st_grammar.specs.Forms.{GlobalType, plain, bytes, Globals, no_global, global}
 use Rattle.st_grammar.specs.Grammar.{GlobalsFit, is_global, tree_globals, tree_type}
 use Rattle.st_canonical.specs.Spelled.{is_name as spelled_name, is_variable}
+use Rattle.st_types_laws.proofs.DeclaredNames.{same_width}
 use Rattle.st_types_laws.proofs.Lists.{Each, each_append}
-use Rattle.st_read_proper.proofs.Names.{free_is, name_is}
+use Rattle.st_canonical.proofs.SameNames.{name_is}
 use Rattle.st_read_proper.proofs.Places.{place_is}
-use Rattle.st_read_proper.specs.Worded.{GlobalsWorded}
+use Rattle.st_read_proper.proofs.Worded.{GlobalsWorded}
 use Rattle.st_tree.specs.Naming.{is_free, is_name}
 use Rattle.st_tree.specs.PlaceRules as places
 use Rattle.st_tree.specs.Proper.{IsGlobal}
@@ -32,37 +33,6 @@ use Rattle.st_rules.specs.Variables.{is_address}
 
 -- Globals on I, Q or M
 
--- a width of as many bits as a type is that of its places
-width_of : (ty : StType) (w : Width) → has_width ty w ≡ true → w ≡ width_at ty
-width_of type.Bool width.Bit h = refl
-width_of type.Byte width.Byte h = refl
-width_of type.Word width.Word h = refl
-width_of type.Dword width.Dword h = refl
-width_of type.Int width.Word h = refl
-width_of type.Dint width.Dword h = refl
-width_of type.Bool width.Byte h = absurd cc
-width_of type.Bool width.Word h = absurd cc
-width_of type.Bool width.Dword h = absurd cc
-width_of type.Byte width.Bit h = absurd cc
-width_of type.Byte width.Word h = absurd cc
-width_of type.Byte width.Dword h = absurd cc
-width_of type.Word width.Bit h = absurd cc
-width_of type.Word width.Byte h = absurd cc
-width_of type.Word width.Dword h = absurd cc
-width_of type.Dword width.Bit h = absurd cc
-width_of type.Dword width.Byte h = absurd cc
-width_of type.Dword width.Word h = absurd cc
-width_of type.Int width.Bit h = absurd cc
-width_of type.Int width.Byte h = absurd cc
-width_of type.Int width.Dword h = absurd cc
-width_of type.Dint width.Bit h = absurd cc
-width_of type.Dint width.Byte h = absurd cc
-width_of type.Dint width.Word h = absurd cc
-width_of type.Lint width.Bit h = absurd cc
-width_of type.Lint width.Byte h = absurd cc
-width_of type.Lint width.Word h = absurd cc
-width_of type.Lint width.Dword h = absurd cc
-
 -- a global in an area
 global_in : (name : List ℕ) (ty : StType) (a : AreaName) (w : Width) (byte bit : ℕ) → is_name name ≡ true
     → is_free name ≡ true → ty ≢ type.Lint → places.is_place a w byte bit ≡ true → w ≡ width_at ty
@@ -74,16 +44,12 @@ global_in name ty area.Q w byte bit n f t p e =
 global_in name ty area.M w byte bit n f t p e =
     (record { name = n; free = f; type = t; place = subst (λ (v : Width). places.is_place area.M v byte bit ≡ true) e p }, tt)
 global_in name ty area.L w byte bit n f t p e = tt
-global_in name ty area.Db w byte bit n f t p e = tt
-global_in name ty area.Di w byte bit n f t p e = tt
+global_in name ty other w byte bit n f t p e = tt
 
 -- no place has the width of a LINT
 no_lint : (ty : StType) (w : Width) → has_width ty w ≡ true → ty ≢ type.Lint
 no_lint type.Lint width.Bit h e = absurd cc
-no_lint type.Lint width.Byte h e = absurd cc
-no_lint type.Lint width.Word h e = absurd cc
-no_lint type.Lint width.Dword h e = absurd cc
-no_lint ty w h e = absurd cc
+no_lint other one h e = absurd cc
 
 global_if : (t : Bool) (name : List ℕ) (ty : StType) (a : AreaName) (w : Width) (byte bit : ℕ)
     → (is_address a None w byte bit && has_width ty w) ≡ t → is_name name ≡ true → is_free name ≡ true
@@ -92,7 +58,7 @@ global_if : (t : Bool) (name : List ℕ) (ty : StType) (a : AreaName) (w : Width
 global_if true name ty a w byte bit h n f p =
     let parts = and_parts (is_address a None w byte bit) (has_width ty w) h in
     let bits : written.is_bit_of w bit ≡ true = (and_parts (written.is_kept byte) (written.is_bit_of w bit) p).1 in
-    global_in name ty a w byte bit n f (no_lint ty w parts.1) (place_is a w byte bit bits parts.0) (width_of ty w parts.1)
+    global_in name ty a w byte bit n f (no_lint ty w parts.1) (place_is a w byte bit bits parts.0) (sym (same_width ty w parts.1))
 global_if false name ty a w byte bit h n f p = tt
 
 global_at : (name : List ℕ) (ty : StType) (v : RawVar) → is_name name ≡ true → is_free name ≡ true → is_variable v ≡ true
@@ -104,7 +70,7 @@ global_at name ty (raw.Direct a (Some k) w byte bit) n f p = tt
 
 global_of : (name : List ℕ) (ty : GlobalType) (v : RawVar) → spelled_name name ≡ true → is_global name ty ≡ true
     → is_variable v ≡ true → Each IsGlobal (listed (located_of (tree_type ty) name v))
-global_of name (plain ty) v n f p = global_at name ty v (name_is name n) (free_is name f) p
+global_of name (plain ty) v n f p = global_at name ty v (name_is name n) (f) p
 global_of name (bytes last items) v n f p = tt
 
 -- the globals of a tree that are no data blocks

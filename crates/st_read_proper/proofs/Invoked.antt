@@ -2,25 +2,24 @@
 use Rattle.std.proofs.Common.{◌≡◌, ℕ, max, Bool, true, false, not, ◌&&◌, ◌||◌, cond, List, [], ◌∷◌, ◌++◌, Option, Some, None, is_some, is_none, Result, refl, sym, ap, subst, ◌∙◌, arith}
 use Rattle.std.specs.Prelude.{slice_get}
 use Rattle.std.specs.List.{fold}
-use Rattle.std.proofs.lemmas.List.{append_assoc, append-nil}
 use Rattle.s7_base.specs.declared.reason.Line.{Line}
 use Rattle.s7_base.specs.declared.reason.Reason.{Reason}
 use Rattle.s7_base.specs.declared.reason.Reason.TheVariants.{TypeMismatch}
 use Rattle.st_canonical.specs.Spelled.{ActualsSpelled, is_variable}
 use Rattle.st_grammar.specs.Forms.{Actuals, no_actual, actual, invoke}
-use Rattle.st_grammar.specs.Grammar.{on_line, tree_actuals, tree_one}
+use Rattle.st_grammar.specs.Grammar.{tree_actuals, tree_one}
 use Rattle.st_types_laws.proofs.Actions.{act_invoke, calls_invoke}
 use Rattle.st_types_laws.proofs.Bounds.{bound}
-use Rattle.st_types_laws.proofs.Keyed.{AreAbsent, AreDistinct, absent_also, found_behind, none_absent}
+use Rattle.st_types_laws.proofs.Called.{AreTyped, are_typed, call_is}
 use Rattle.st_types_laws.proofs.Apart.{same_keys}
 use Rattle.st_types_laws.proofs.Parts.{variable_there}
 use Rattle.st_types_laws.proofs.SameTypes.{same_is}
 use Rattle.st_read_proper.proofs.Sees.{IsCallable, Sees, variable_has}
 use Rattle.st_read_proper.proofs.Statements.{FoundOne, cost_of, of_heads}
-use Rattle.st_rules.specs.Broken.{Judged, behind, breaks_rule, broken, listed, sound}
+use Rattle.st_rules.specs.Broken.{Judged, breaks_rule, broken, listed, sound}
 use Rattle.st_rules.specs.Calls.{call_on, calls_of}
 use Rattle.st_rules.specs.Expressions.{answered, variable_on}
-use Rattle.st_rules.specs.Invocations.{Actual, Given, call_of, call_with, callee, formal_breaks, function_call, given_by, in_order, lacks, none_given, plain, var_given, with_actual}
+use Rattle.st_rules.specs.Invocations.{Actual, Given, call_of, callee, formal_breaks, function_call, given_by, in_order, lacks, none_given, plain, var_given, with_actual}
 use Rattle.st_rules.specs.Names.{Table, is_same, key_of, look_up, with_entry}
 use Rattle.st_rules.specs.Scopes.{meaning_in}
 use Rattle.st_rules.specs.Statements.{statement}
@@ -39,46 +38,8 @@ use Rattle.st_tree.specs.declared.expr.Var.{Var}
 use Rattle.st_tree.specs.declared.program.Local.{Local}
 use Rattle.st_tree.specs.declared.program.Stmt.{Stmt}
 use Rattle.st_tree.specs.declared.program.Stmt.TheVariants as stmt
-use Rattle.st_tree.specs.declared.raw.RawStmtKind.TheVariants as raw
 use Rattle.st_types_laws.proofs.Lists.{nil_first, nil_second}
-use Rattle.st_types_laws.proofs.Declared.{keys_of_locals, types_of_locals}
-
--- The types of formals with keys of their own
-
-abbrev entries : List Local → Table StType
-entries [] = []
-entries (l ∷ ls) = (key_of l.name, l.ty) ∷ entries ls
-
-abbrev with_type : Table StType → Local → Table StType
-with_type types l = with_entry (key_of l.name) l.ty types
-
-gathered : (types : Table StType) (ls : List Local) → AreAbsent types ls → AreDistinct ls
-    → fold with_type types ls ≡ types ++ entries ls
-gathered types [] a d = sym (append-nil types)
-gathered types (l ∷ ls) a d =
-    let e : List ℕ × StType = (key_of l.name, l.ty) in
-    let one : with_type types l ≡ types ++ e ∷ [] = ap (λ (o : Option StType). cond (is_some o) types (types ++ e ∷ [])) a.0 in
-    ap (λ t. fold with_type t ls) one
-    ∙ gathered (types ++ e ∷ []) ls (absent_also types (key_of l.name) l.ty ls a.1 d.0) d.1
-    ∙ append_assoc types (e ∷ []) (entries ls)
-
--- each formal has its type in a table
-abbrev AreTyped : Table StType → List Local → Type 0
-AreTyped types [] = Unit {0}
-AreTyped types (l ∷ ls) = (look_up (key_of l.name) types ≡ Some l.ty) × AreTyped types ls
-
-typed_behind : (types : Table StType) (ls : List Local) → AreAbsent types ls → AreDistinct ls → AreTyped (types ++ entries ls) ls
-typed_behind types [] a d = tt
-typed_behind types (l ∷ ls) a d =
-    let e : List ℕ × StType = (key_of l.name, l.ty) in (
-      found_behind types (key_of l.name) l.ty (entries ls) a.0,
-      subst (λ t. AreTyped t ls) (append_assoc types (e ∷ []) (entries ls))
-          (typed_behind (types ++ e ∷ []) ls (absent_also types (key_of l.name) l.ty ls a.1 d.0) d.1),
-    )
-
-are_typed : (ls : List Local) → AreDistinct ls → AreTyped (types_of_locals ls) ls
-are_typed ls d =
-    subst (λ t. AreTyped t ls) (sym (gathered [] ls (none_absent StType ls) d)) (typed_behind [] ls (none_absent StType ls) d)
+use Rattle.st_types_laws.proofs.Declared.{keys_of_locals}
 
 -- Variables that formals are given
 
@@ -201,22 +162,6 @@ module _ (sight : Sight) (types : Table StType) where
     all_given (a ∷ actuals) given v s = all_given actuals (with_actual scope line types given a) v.1 (one_more given a v.0 s)
 
 -- A call
-
--- what is given without a broken rule
-abbrev given_with : Table (Option Var) → Given
-given_with vars = record { vars = vars; breaks = [] }
-
--- a call of a function that is there
-call_is : (s : Scope) (m : Line) (name : List ℕ) (actuals : List Actual) (i : ℕ) (formals : Formals) (table : Table (Option Var))
-    → meaning_in s (key_of name) ≡ Some (meaning.Function i)
-    → slice_get s.formals i ≡ Some formals → given_by s m formals.types actuals ≡ given_with table → lacks table formals.keys ≡ false
-    → statement s (on_line m (raw.Invoke name actuals)) ≡ sound (stmt.Invoke i (in_order table formals.keys))
-call_is s m name actuals i formals table h there given none =
-    act_invoke s m name actuals
-    ∙ ap (λ o. call_of s m (callee o) actuals) h
-    ∙ ap (λ o. function_call s m i o actuals) there
-    ∙ ap (λ (g : Given). behind g.breaks (call_with m i g.vars formals.keys)) given
-    ∙ ap (λ b. behind [] (cond b (breaks_rule m TypeMismatch) (sound (stmt.Invoke i (in_order table formals.keys))))) none
 
 -- what a call that breaks no rule is
 record Called (s : Scope) (m : Line) (name : List ℕ) (actuals : List Actual) (i : ℕ) (formals : Formals) : Type 0 where

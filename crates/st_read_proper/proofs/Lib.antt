@@ -6,7 +6,6 @@ pub mod Declared
 pub mod Expressions
 pub mod Globals
 pub mod Invoked
-pub mod Names
 pub mod Nested
 pub mod Places
 pub mod ReadProper
@@ -15,3 +14,4 @@ pub mod Statements
 pub mod TokensWorded
 pub mod Units
 pub mod Values
+pub mod Worded

@@ -108,19 +108,7 @@ close_unary unary.BcdToDint f c h g = close_digits one.BcdToDint unary.BcdToDint
 
 same_level : (op : BinaryOp) → infix_level op ≡ grammar.infix_level op
 same_level binary.Mul = refl
-same_level binary.Div = refl
-same_level binary.Mod = refl
-same_level binary.Add = refl
-same_level binary.Sub = refl
-same_level binary.Lt = refl
-same_level binary.Gt = refl
-same_level binary.Le = refl
-same_level binary.Ge = refl
-same_level binary.Eq = refl
-same_level binary.Ne = refl
-same_level binary.And = refl
-same_level binary.Xor = refl
-same_level binary.Or = refl
+same_level other = refl
 
 pub close_infix : (op : BinaryOp) (f g : forms.Form) (c d : Form) → grammar.level f ≤ grammar.infix_level op
     → grammar.level g < grammar.infix_level op → Close f c → Close g d

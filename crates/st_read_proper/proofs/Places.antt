@@ -14,18 +14,13 @@ use Rattle.st_types_laws.proofs.Lists.{both_true}
 -- the bytes of an address by the rules of texts lie in the area by those of the memory
 byte_agrees : (a : AreaName) (w : Width) (byte : ℕ) → rules_of_variables.is_byte_in a w byte ≡ access.is_byte_in a w byte
 byte_agrees area.I w byte = refl
-byte_agrees area.Q w byte = refl
-byte_agrees area.M w byte = refl
-byte_agrees area.L w byte = refl
-byte_agrees area.Db w byte = refl
-byte_agrees area.Di w byte = refl
+byte_agrees other w byte = refl
 
 -- a bit that tokens can have and that an address may have
 bit_agrees : (w : Width) (bit : ℕ) → written.is_bit_of w bit ≡ true → nat_le bit 7 ≡ true → places.is_bit_of w bit ≡ true
 bit_agrees width.Bit bit h g = g
 bit_agrees width.Byte bit h g = h
-bit_agrees width.Word bit h g = h
-bit_agrees width.Dword bit h g = h
+bit_agrees other bit h g = h
 
 -- a place that tokens can have, and that is an address, is one that a text may name
 pub place_is : (a : AreaName) (w : Width) (byte bit : ℕ) → written.is_bit_of w bit ≡ true

@@ -19,8 +19,8 @@ use Rattle.st_types_laws.proofs.Parts.{found_of}
 use Rattle.st_read_proper.proofs.Statements.{FoundAll, of_heads}
 use Rattle.st_read_proper.proofs.TokensWorded.{read_worded}
 use Rattle.st_read_proper.proofs.Units.{IsHeaded, WasRead, are_headed, were_read}
-use Rattle.st_read_proper.specs.ReadProper.{WhatIsReadIsProper, WhatIsWrittenIsProper}
-use Rattle.st_read_proper.specs.Worded.{GlobalsWorded, SourceWorded}
+use Rattle.st_read_proper.specs.ReadProper.{ReadsAreProper}
+use Rattle.st_read_proper.proofs.Worded.{GlobalsWorded, SourceWorded}
 use Rattle.st_rules.specs.Broken.{breaks_in, found_in}
 use Rattle.st_rules.specs.Calls.{all_calls}
 use Rattle.st_rules.specs.Declarations.{all_inside, formals_of}
@@ -39,9 +39,8 @@ use Rattle.st_tree.specs.declared.program.Stmt.{Stmt}
 use Rattle.st_tree.specs.declared.raw.RawPou.{RawPou}
 use Rattle.st_tree.specs.declared.raw.RawSt.{RawSt}
 use Rattle.st_tree.specs.declared.raw.RawStmt.{RawStmt}
-use Rattle.st_types_laws.proofs.DataBlocks.{are_blocks}
 use Rattle.st_types_laws.proofs.DeclaredNames.{gather_inside, inner_entries, local_entries}
-use Rattle.st_types_laws.proofs.DeclaredTree.{IsDeclared, sound_units, formals_same, is_declared, scope_declares, unit_there}
+use Rattle.st_types_laws.proofs.DeclaredTree.{IsDeclared, are_blocks, sound_units, formals_same, is_declared, scope_declares, unit_there}
 
 blocks_held : (s : Section Globals) → IfPresent GlobalsWorded s → Each IsDataBlock (all_blocks (held tree_globals s))
 blocks_held absent w = tt
@@ -155,7 +154,7 @@ module _ (source : Source) (t : StProgram) (fits : SourceFits source) (worded : 
 
   proper : Proper t
   proper = record {
-    blocks = are_blocks raw t typed;
+    blocks = are_blocks raw t declared;
     bytes = each_all IsDataBlock t.dbs (subst (λ (s : StProgram). Each IsDataBlock s.dbs) (sym typed.same) (blocks_held source.globals worded.0));
     globals = each_all IsGlobal t.globals (subst (λ (s : StProgram). Each IsGlobal s.globals) (sym typed.same) (globals_held source.globals fits.0 worded.0));
     apart = outer_apart t declared.names.apart;
@@ -164,12 +163,8 @@ module _ (source : Source) (t : StProgram) (fits : SourceFits source) (worded : 
     chains = short_chains raw t typed have_calls;
   }
 
--- what a source of the language has is proper
-pub written_proper : WhatIsWrittenIsProper
-written_proper source t fits worded within typed = proper source t fits worded within typed
-
 -- what is read is proper
-pub read_proper : WhatIsReadIsProper
+pub read_proper : ReadsAreProper
 read_proper bytes raw t reads typed =
-    written_proper reads.source t reads.reads.fits (read_worded bytes raw reads) reads.within
+    proper reads.source t reads.reads.fits (read_worded bytes raw reads) reads.within
     (subst (λ (r : RawSt). HasTree r t) (sym reads.same) typed)

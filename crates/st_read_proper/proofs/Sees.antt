@@ -71,8 +71,7 @@ module _ (scope : Scope) (sight : Sight) (sees : Sees scope sight) where
   of_meaning key (Some (meaning.Global i ty)) v e h =
       let is : record { ty = ty; var = var.Global i } ≡ v = cc in subst Has is (sees.global key i ty e)
   of_meaning key (Some meaning.Block) v e h = absurd cc
-  of_meaning key (Some meaning.Program) v e h = absurd cc
-  of_meaning key (Some (meaning.Function i)) v e h = absurd cc
+  of_meaning key other v e h = absurd cc
 
   plain_place : (a : AreaName) (w : Width) (byte bit : ℕ) (v : TypedVar) (t : Bool) → is_place a w byte bit ≡ t
       → written.is_place a None w byte bit ≡ true

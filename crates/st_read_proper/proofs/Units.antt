@@ -9,7 +9,7 @@ use Rattle.st_grammar.specs.Levels.{deepest, levels_all, levels_locals, levels_s
 use Rattle.st_grammar.specs.Syntax.{AllWithin}
 use Rattle.st_types_laws.proofs.Lists.{Each, each_append}
 use Rattle.st_canonical.proofs.Levels.{all_within, greatest, greatest_within, top_all, top_of_all}
-use Rattle.st_read_proper.proofs.Names.{free_is, local_is, name_is, unit_is}
+use Rattle.st_canonical.proofs.SameNames.{name_is}
 use Rattle.st_rules.specs.Declarations.{local_of, locals_of}
 use Rattle.st_rules.specs.Names.{Table}
 use Rattle.st_rules.specs.Units.{all_units, unit_of}
@@ -34,7 +34,7 @@ are_formals (local others name line ty) f s =
     let last : RawLocal = record { name = name; line = line; ty = ty } in
     subst (Each IsFormal) (sym (map-append local_of (tree_locals others) (last ∷ [])))
     (each_append IsFormal (locals_of (tree_locals others)) (local_of last ∷ []) (are_formals others f.0 s.0)
-    (record { name = name_is name s.1; free = free_is name f.1; type = no_lint ty f.2 }, tt))
+    (record { name = name_is name s.1; free = f.1; type = no_lint ty f.2 }, tt))
 
 are_locals : (ls : Locals) → LocalsFit ls → LocalsSpelled ls → Each IsLocal (locals_of (tree_locals ls))
 are_locals no_local f s = tt
@@ -42,7 +42,7 @@ are_locals (local others name line ty) f s =
     let last : RawLocal = record { name = name; line = line; ty = ty } in
     subst (Each IsLocal) (sym (map-append local_of (tree_locals others) (last ∷ [])))
     (each_append IsLocal (locals_of (tree_locals others)) (local_of last ∷ []) (are_locals others f.0 s.0)
-    (record { name = name_is name s.1; free = local_is name f.1 }, tt))
+    (record { name = name_is name s.1; free = f.1 }, tt))
 
 formals_held : (program : Bool) (s : Section Locals) → HeadFits program s → IfPresent LocalsSpelled s
     → Each IsFormal (locals_of (held tree_locals s))
@@ -89,7 +89,7 @@ are_headed outer formals (unit others head formal own body) f s =
     (each_append IsHeaded (all_units outer formals (tree_units others)) (unit_of outer formals last ∷ []) (are_headed outer formals others f.0 s.0) (
       record {
         name = name_is head.name s.1;
-        free = unit_is head.name f.1;
+        free = f.1;
         program = none_held head.program formal f.2;
         formals = formals_held head.program formal f.2 s.2;
         locals = locals_held own f.3 s.3;

@@ -125,5 +125,4 @@ label_value c h = value_is (label_tree c).0 (label_tree c).1 (has_label_value c 
 
 pub tree_of_label : (c : Literal) → literal_tree c ≡ raw.Literal (label_tree c).0 (label_tree c).1
 tree_of_label (lit.Decimal n) = refl
-tree_of_label (lit.Byte b) = refl
-tree_of_label (lit.Typed ty n) = refl
+tree_of_label other = refl

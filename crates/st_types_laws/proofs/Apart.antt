@@ -33,10 +33,6 @@ looked_behind k (x ∷ xs) ys = by (is_same k x.0) (looked_behind k xs ys)
     by true h = refl
     by false h = h
 
-pub none_first : (a b : Option Meaning) → or_else a b ≡ None → a ≡ None
-none_first None b h = refl
-none_first (Some m) b h = absurd cc
-
 pub none_second : (a b : Option Meaning) → or_else a b ≡ None → b ≡ None
 none_second None b h = h
 none_second (Some m) b h = absurd cc
@@ -101,7 +97,7 @@ one_between k m names xs ys l h = record { same = same; apart = apart_between k 
 
 -- Declarations
 
-not_twice : (line : Line) (first : Option Meaning) → twice line first ≡ [] → first ≡ None
+pub not_twice : (line : Line) (first : Option Meaning) → twice line first ≡ [] → first ≡ None
 not_twice line None h = refl
 not_twice line (Some m) h = absurd cc
 

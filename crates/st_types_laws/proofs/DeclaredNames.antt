@@ -1,5 +1,5 @@
 -- What names mean by the declarations of a tree, and that they mean the same in a text that has the tree.
-use Rattle.std.proofs.Common.{◌≡◌, ◌+◌, ℕ, Bool, true, false, not, cond, ◌&&◌, nat_lt, List, [], ◌∷◌, ◌++◌, length, Option, Some, None, is_some, refl, sym, ap, subst, ◌∙◌, arith, length-append}
+use Rattle.std.proofs.Common.{◌≡◌, ◌+◌, ℕ, Bool, true, false, not, cond, ◌&&◌, nat_lt, List, [], ◌∷◌, ◌++◌, length, Option, Some, None, is_some, refl, sym, ap, subst, ◌∙◌, arith, length-append, ◌≤◌, ◌<◌}
 use Rattle.std.specs.Prelude.{codes, decimal}
 use Rattle.std.specs.List.{fold}
 use Rattle.std.proofs.lemmas.List.{append-nil, append_assoc}
@@ -31,18 +31,20 @@ use Rattle.st_tree.specs.declared.raw.RawVar.TheVariants as var
 use Rattle.st_rules.specs.Broken.{broken, listed, twice}
 use Rattle.st_rules.specs.Declarations.{all_inside, meaning_of_unit, no_inside, one_if, one_too_many, with_formal, with_global, with_local, with_unit}
 use Rattle.st_rules.specs.Globals.{all_global_breaks, all_located, area_of, block_at, block_breaks, block_number, block_of, contents, fits_type, global_breaks, has_address, has_block_address, has_block_form, inserted, is_small_enough, located_at, located_in, located_of, unless, with_block}
-use Rattle.st_rules.specs.Names.{Table, key_of, look_up, with_entry}
+use Rattle.memory_areas.specs.Areas.{Ascend, numbers_of}
+use Rattle.std.proofs.lemmas.Bool.{ltb-false, ltb-true}
+use Rattle.std.proofs.lemmas.Cmp.{nat_list_eq_equiv}
+use Rattle.st_rules.specs.Names.{is_same, Table, key_of, look_up, with_entry}
 use Rattle.st_rules.specs.Types.{has_width}
 use Rattle.st_rules.specs.Variables.{is_address}
 use Rattle.st_rules.specs.declared.declaration.Inside.{Inside}
 use Rattle.st_rules.specs.declared.declaration.Outside.{Outside}
 use Rattle.st_rules.specs.declared.scope.Meaning.{Meaning}
 use Rattle.st_rules.specs.declared.scope.Meaning.TheVariants as meaning
-use Rattle.st_types_laws.proofs.Apart.{Lists, declared_between, declared_last}
+use Rattle.st_types_laws.proofs.Apart.{Lists, declared_between, declared_last, not_twice}
 use Rattle.std.proofs.lemmas.Bool.{and_parts}
 use Rattle.st_types_laws.proofs.BlockSizes.{IsBlock, is_block}
-use Rattle.st_types_laws.proofs.Lists.{nil_first, nil_second}
-use Rattle.st_types_laws.proofs.DataBlocks.{before_globals, before_units, one_more}
+use Rattle.st_types_laws.proofs.Lists.{both_true, nil_first, nil_second}
 use Rattle.st_types_laws.proofs.PlainNumbers.{key_by_number}
 use Rattle.st_types_laws.proofs.Redeclared.{AreLocalsAt, AreUnitsAt, location_of, name_of_area}
 
@@ -122,6 +124,53 @@ numbered_also b (c ∷ cs) i h = by (nat_lt c.number b.number) (numbered_also b 
     by true more = (h.0, more)
     by false more = (i, h)
 
+-- one data block more
+one_more : (b : DataBlock) (bs : List DataBlock) → length (inserted b bs) ≡ length bs + 1
+one_more b [] = refl
+one_more b (c ∷ cs) = by_test (nat_lt c.number b.number) (one_more b cs)
+  where
+    by_test : (t : Bool) → length (inserted b cs) ≡ length cs + 1 → length (cond t (c ∷ inserted b cs) (b ∷ c ∷ cs)) ≡ length (c ∷ cs) + 1
+    by_test true more = omega (arith, more)
+    by_test false more = omega arith
+
+-- no data block has a number
+abbrev AreOthers : ℕ → List DataBlock → Type 0
+AreOthers n [] = Unit {0}
+AreOthers n (b ∷ bs) = (b.number ≡ n → ⊥) × AreOthers n bs
+
+-- a name that stands for nothing is that of no data block
+no_block_of : (n : ℕ) (bs : List DataBlock) (rest : Table Meaning)
+    → look_up (key_of (codes "DB" ++ decimal n)) (block_entries bs ++ rest) ≡ None → AreOthers n bs
+no_block_of n [] rest h = tt
+no_block_of n (b ∷ bs) rest h =
+    by (is_same (key_of (codes "DB" ++ decimal n)) (key_of (codes "DB" ++ decimal b.number))) refl (no_block_of n bs rest) h
+  where
+    differ : b.number ≡ n → is_same (key_of (codes "DB" ++ decimal n)) (key_of (codes "DB" ++ decimal b.number)) ≡ false → ⊥
+    differ same e =
+        let own : is_same (key_of (codes "DB" ++ decimal n)) (key_of (codes "DB" ++ decimal b.number)) ≡ true =
+        ap (λ m. is_same (key_of (codes "DB" ++ decimal n)) (key_of (codes "DB" ++ decimal m))) same
+        ∙ nat_list_eq_equiv.refl (key_of (codes "DB" ++ decimal n)) in
+        absurd cc
+
+    by : (t : Bool) → is_same (key_of (codes "DB" ++ decimal n)) (key_of (codes "DB" ++ decimal b.number)) ≡ t
+        → (look_up (key_of (codes "DB" ++ decimal n)) (block_entries bs ++ rest) ≡ None → AreOthers n bs)
+        → cond t (Some meaning.Block) (look_up (key_of (codes "DB" ++ decimal n)) (block_entries bs ++ rest)) ≡ None
+        → AreOthers n (b ∷ bs)
+    by true e more q = absurd cc
+    by false e more q = (λ same. differ same e, more q)
+
+ascends : (least : ℕ) (b : DataBlock) (bs : List DataBlock) → least ≤ b.number → AreOthers b.number bs → Ascend least (numbers_of bs) → Ascend least (numbers_of (inserted b bs))
+ascends least b [] first o h = (first, tt)
+ascends least b (c ∷ cs) first o h = by_test (nat_lt c.number b.number) refl (λ k q. ascends k b cs q o.1)
+  where
+    by_test : (t : Bool) → nat_lt c.number b.number ≡ t → ((k : ℕ) → k ≤ b.number → Ascend k (numbers_of cs) → Ascend k (numbers_of (inserted b cs)))
+        → Ascend least (numbers_of (cond t (c ∷ inserted b cs) (b ∷ c ∷ cs)))
+    by_test true e more = let l : c.number < b.number = ltb-true c.number b.number e in (h.0, more (c.number + 1) (omega (arith, l)) h.1)
+    by_test false e more =
+        let l : b.number ≤ c.number = ltb-false c.number b.number e in
+        let apart : c.number ≡ b.number → ⊥ = o.0 in
+        (first, (omega (arith, l, apart), h.1))
+
 -- where one data block more goes
 record IsPut (b : DataBlock) (old new : List DataBlock) : Type 0 where
   before : List DataBlock
@@ -143,41 +192,17 @@ holds : (t : Bool) (line : Line) (rule : Reason) → unless t (broken line rule)
 holds true line rule h = refl
 holds false line rule h = absurd cc
 
-two_hold : (a b : Bool) → a ≡ true → b ≡ true → (a && b) ≡ true
-two_hold true b h g = g
-two_hold false b h g = absurd cc
-
 -- Globals that are no data blocks
 
-same_width : (ty : StType) (w : Width) → has_width ty w ≡ true → width_at ty ≡ w
+pub same_width : (ty : StType) (w : Width) → has_width ty w ≡ true → width_at ty ≡ w
 same_width st.Bool width.Bit h = refl
-same_width st.Bool width.Byte h = absurd cc
-same_width st.Bool width.Word h = absurd cc
-same_width st.Bool width.Dword h = absurd cc
-same_width st.Byte width.Bit h = absurd cc
 same_width st.Byte width.Byte h = refl
-same_width st.Byte width.Word h = absurd cc
-same_width st.Byte width.Dword h = absurd cc
-same_width st.Word width.Bit h = absurd cc
-same_width st.Word width.Byte h = absurd cc
 same_width st.Word width.Word h = refl
-same_width st.Word width.Dword h = absurd cc
-same_width st.Dword width.Bit h = absurd cc
-same_width st.Dword width.Byte h = absurd cc
-same_width st.Dword width.Word h = absurd cc
 same_width st.Dword width.Dword h = refl
-same_width st.Int width.Bit h = absurd cc
-same_width st.Int width.Byte h = absurd cc
 same_width st.Int width.Word h = refl
-same_width st.Int width.Dword h = absurd cc
-same_width st.Dint width.Bit h = absurd cc
-same_width st.Dint width.Byte h = absurd cc
-same_width st.Dint width.Word h = absurd cc
 same_width st.Dint width.Dword h = refl
 same_width st.Lint width.Bit h = absurd cc
-same_width st.Lint width.Byte h = absurd cc
-same_width st.Lint width.Word h = absurd cc
-same_width st.Lint width.Dword h = absurd cc
+same_width ty w h = absurd cc
 
 -- a global of a name and a type that has a place in the tree
 record HasPlace (name : List ℕ) (ty : StType) (at : RawVar) : Type 0 where
@@ -209,7 +234,7 @@ on_area name ty a r w byte bit there back address fits =
 
     found : located_at name ty (var.Direct a None w byte bit) ≡ Some made
     found =
-        ap (λ t. cond t (located_in name ty (area_of a) byte bit) None) (two_hold (is_address a None w byte bit) (has_width ty w) address wide)
+        ap (λ t. cond t (located_in name ty (area_of a) byte bit) None) (both_true (is_address a None w byte bit) (has_width ty w) address wide)
         ∙ ap (λ o. located_in name ty o byte bit) there
 
 has_place : (name : List ℕ) (ty : StType) (at : RawVar) → has_address at ≡ true → fits_type ty at ≡ true → HasPlace name ty at
@@ -219,8 +244,7 @@ has_place name ty (var.Direct area.I None w byte bit) h g = on_area name ty area
 has_place name ty (var.Direct area.Q None w byte bit) h g = on_area name ty area.Q place.Q w byte bit refl refl h g
 has_place name ty (var.Direct area.M None w byte bit) h g = on_area name ty area.M place.M w byte bit refl refl h g
 has_place name ty (var.Direct area.L None w byte bit) h g = absurd cc
-has_place name ty (var.Direct area.Db None w byte bit) h g = absurd cc
-has_place name ty (var.Direct area.Di None w byte bit) h g = absurd cc
+has_place name ty other h g = absurd cc
 
 -- Data blocks
 
@@ -232,7 +256,7 @@ has_block line n at last list h =
     let second = holds (is_small_enough last) line _ (nil_first _ _ rest) in
     let third = holds (has_block_form n at last list) line _ (nil_second (unless (is_small_enough last) (broken line _)) _ rest) in
     ap (λ t. cond t (Some (record { number = n; bytes = contents last list })) None)
-    (two_hold (has_block_address n at && is_small_enough last) (has_block_form n at last list) (two_hold (has_block_address n at) (is_small_enough last) first second) third)
+    (both_true (has_block_address n at && is_small_enough last) (has_block_form n at last list) (both_true (has_block_address n at) (is_small_enough last) first second) third)
 
 -- there is room for a new data block
 has_room : (line : Line) (first : Option Meaning) (blocks : ℕ) → (twice line first ++ one_too_many line (not (is_some first) && true) blocks) ≡ [] → nat_lt blocks MOST_BLOCKS ≡ true
@@ -245,6 +269,15 @@ has_room line None blocks h = by (nat_lt blocks MOST_BLOCKS) h
 
 -- Globals
 
+-- where nothing is broken at the end, nothing was before
+before_globals : (gs : List RawGlobal) (d : Outside) → (fold with_global d gs).breaks ≡ [] → d.breaks ≡ []
+before_globals [] d e = e
+before_globals (g ∷ gs) d e = nil_first d.breaks _ (before_globals gs (with_global d g) e)
+
+pub before_units : (us : List RawPou) (d : Outside) → (fold with_unit d us).breaks ≡ [] → d.breaks ≡ []
+before_units [] d e = e
+before_units (u ∷ us) d e = nil_first d.breaks _ (before_units us (with_unit d u) e)
+
 -- what is known of the globals so far, and of the data blocks and other globals that they are in the tree
 pub record Gathered (d : Outside) (bs : List DataBlock) (ls : List Located) : Type 0 where
   pub names : Lists d.names (block_entries bs ++ located_entries 0 ls)
@@ -252,6 +285,8 @@ pub record Gathered (d : Outside) (bs : List DataBlock) (ls : List Located) : Ty
   pub blocks : d.blocks ≡ length bs
   pub units : d.units ≡ 0
   pub numbered : AreNumbered bs
+  pub ascend : Ascend 1 (numbers_of bs)
+  pub few : length bs ≤ MOST_BLOCKS
   pub placed : ArePlaced ls
 
 module _ (d : Outside) (bs : List DataBlock) (ls : List Located) (name : List ℕ) (line : Line) (at : RawVar) (so : Gathered d bs ls) where
@@ -285,6 +320,8 @@ module _ (d : Outside) (bs : List DataBlock) (ls : List Located) (name : List �
         blocks = no_block first ∙ so.blocks;
         units = so.units;
         numbered = so.numbered;
+        ascend = so.ascend;
+        few = so.few;
         placed = placed_also ls p.located so.placed p.placed;
       } in
       subst (λ o. Gathered (with_global d (declaration (type.Plain ty))) bs (ls ++ listed o)) (sym p.found) done
@@ -302,6 +339,9 @@ module _ (d : Outside) (bs : List DataBlock) (ls : List Located) (name : List �
       let p = is_put b bs in
       let rest = located_entries 0 ls in
       let key : key_of name ≡ key_of (codes "DB" ++ decimal n) = key_by_number n name refl i.some i.small in
+      let none : look_up (key_of (codes "DB" ++ decimal n)) (block_entries bs ++ rest) ≡ None =
+      ap (λ k. look_up k (block_entries bs ++ rest)) (sym key) ∙ sym (so.names.same (key_of name)) ∙ not_twice line first once in
+      let less : length bs < MOST_BLOCKS = ltb-true (length bs) MOST_BLOCKS room in
       let before : block_entries bs ++ rest ≡ block_entries p.before ++ (block_entries p.after ++ rest) =
       ap (λ xs. block_entries xs ++ rest) p.whole ∙ ap (λ es. es ++ rest) (blocks_joined p.before p.after) ∙ append_assoc (block_entries p.before) (block_entries p.after) rest in
       let after : block_entries p.before ++ (key_of name, meaning.Block) ∷ (block_entries p.after ++ rest) ≡ block_entries (inserted b bs) ++ rest =
@@ -318,6 +358,8 @@ module _ (d : Outside) (bs : List DataBlock) (ls : List Located) (name : List �
         blocks = count;
         units = so.units;
         numbered = numbered_also b bs i so.numbered;
+        ascend = ascends 1 b bs i.some (no_block_of n bs rest none) so.ascend;
+        few = omega (arith, less, one_more b bs);
         placed = so.placed;
       } in
       let there : inserted b bs ≡ with_block (block_at n at last list) bs = sym (ap (λ o. with_block o bs) found ∙ ap (λ t. cond t (inserted b bs) bs) room) in

@@ -1,5 +1,5 @@
 -- What a text declares that has a tree, and that names in a scope say what stands in the tree.
-use Rattle.std.proofs.Common.{◌≡◌, ◌⊎◌, ℕ, zero, suc, ◌+◌, Bool, true, false, cond, List, [], ◌∷◌, ◌++◌, map, length, Option, Some, None, inl, inr, refl, sym, ap, subst, ◌∙◌, arith}
+use Rattle.std.proofs.Common.{◌≡◌, ◌⊎◌, ℕ, zero, suc, ◌+◌, Bool, true, false, cond, List, [], ◌∷◌, ◌++◌, map, length, Option, Some, None, inl, inr, refl, sym, ap, subst, ◌∙◌, arith, ◌≤◌, All}
 use Rattle.std.specs.Prelude.{slice_get}
 use Rattle.std.specs.List.{fold}
 use Rattle.std.proofs.lemmas.List.{append_assoc}
@@ -15,6 +15,9 @@ use Rattle.st_tree.specs.declared.program.StProgram.{StProgram}
 use Rattle.st_tree.specs.declared.raw.RawLocal.{RawLocal}
 use Rattle.st_tree.specs.declared.raw.RawPou.{RawPou}
 use Rattle.st_tree.specs.declared.raw.RawSt.{RawSt}
+use Rattle.std.proofs.lemmas.List.Elements.{All-cons, All-nil}
+use Rattle.memory_areas.specs.Areas.{AreBlocks, Ascend, IsSized, numbers_of}
+use Rattle.memory_areas.specs.declared.sizes.TheConstants.{MOST_BLOCKS}
 use Rattle.st_rules.specs.Declarations.{meaning_of_unit, all_inside, all_outside, formals_of, keys_of, locals_of, no_outside, types_of, with_global, with_type}
 use Rattle.st_rules.specs.Globals.{all_blocks, all_global_breaks, all_located}
 use Rattle.st_rules.specs.Names.{Table, is_same, key_of, look_up, with_entry}
@@ -27,9 +30,8 @@ use Rattle.st_rules.specs.declared.scope.Meaning.TheVariants as meaning
 use Rattle.st_rules.specs.declared.scope.Scope.{Scope}
 use Rattle.st_types_laws.proofs.Apart.{Lists, same_keys}
 use Rattle.st_types_laws.proofs.Lists.{nil_first, nil_second, mapped_at, nil_at}
-use Rattle.st_types_laws.proofs.DataBlocks.{before_units}
 use Rattle.st_types_laws.proofs.Declared.{Declares, IsFunctionAt, IsGlobalAt, IsLocalAt, keys_of_locals, types_of_locals}
-use Rattle.st_types_laws.proofs.DeclaredNames.{AreNumbered, ArePlaced, Gathered, block_entries, entries, formal_entries, gather, gather_units, inner_entries, local_entries, located_entries, outer_entries, unit_entries}
+use Rattle.st_types_laws.proofs.DeclaredNames.{AreNumbered, before_units, ArePlaced, Gathered, block_entries, entries, formal_entries, gather, gather_units, inner_entries, local_entries, located_entries, outer_entries, unit_entries}
 use Rattle.st_types_laws.proofs.FirstBreak.{first_of_all_is_first}
 use Rattle.st_types_laws.proofs.Redeclared.{AreLocalsAt, AreUnitsAt, IsUnitAt}
 
@@ -67,6 +69,8 @@ pub record IsDeclared (raw : RawSt) (t : StProgram) : Type 0 where
   pub units : AreUnitsAt t.pous raw.pous
   pub names : Lists (names_of raw) (outer_entries t)
   pub numbered : AreNumbered t.dbs
+  pub ascend : Ascend 1 (numbers_of t.dbs)
+  pub few : length t.dbs ≤ MOST_BLOCKS
   pub placed : ArePlaced t.globals
   pub inside : (n : ℕ) (u : RawPou) → slice_get raw.pous n ≡ Some u → (all_inside u.formals u.locals).breaks ≡ []
 
@@ -79,7 +83,7 @@ is_declared raw t h =
     let globals = nil_first (all_global_breaks raw.globals) (all_unit_breaks outer formals raw.pous) (nil_second (all_outside raw.globals raw.pous).breaks _ none) in
     let empty : Lists [] [] = record { same = λ k. refl; apart = tt } in
     let d = fold with_global no_outside raw.globals in
-    let begun : Gathered no_outside [] [] = record { names = empty; globals = refl; blocks = refl; units = refl; numbered = tt; placed = tt } in
+    let begun : Gathered no_outside [] [] = record { names = empty; globals = refl; blocks = refl; units = refl; numbered = tt; ascend = tt; few = omega arith; placed = tt } in
     let g = gather raw.globals no_outside [] [] begun (before_units raw.pous d outside) globals in
     let blocks : all_blocks raw.globals ≡ t.dbs = ap (λ (s : StProgram). s.dbs) (sym h.same) in
     let located : all_located raw.globals ≡ t.globals = ap (λ (s : StProgram). s.globals) (sym h.same) in
@@ -97,9 +101,19 @@ is_declared raw t h =
       units = units;
       names = subst (Lists (names_of raw)) order names;
       numbered = subst AreNumbered blocks g.numbered;
+      ascend = subst (λ bs. Ascend 1 (numbers_of bs)) blocks g.ascend;
+      few = subst (λ (bs : List DataBlock). length bs ≤ MOST_BLOCKS) blocks g.few;
       placed = subst ArePlaced located g.placed;
       inside = λ n u q. nil_first (all_inside u.formals u.locals).breaks _ (nil_at (breaks_of_unit outer formals) raw.pous n u (sound_units raw h.sound) q);
     }
+
+-- the data blocks of a tree are ones that a memory may have
+are_sized : (bs : List DataBlock) → AreNumbered bs → All IsSized bs
+are_sized [] h = All-nil IsSized
+are_sized (b ∷ bs) h = All-cons IsSized b bs h.0.sized (are_sized bs h.1)
+
+pub are_blocks : (raw : RawSt) (t : StProgram) → IsDeclared raw t → AreBlocks t.dbs
+are_blocks raw t d = record { ascend = d.ascend; few = d.few; sized = are_sized t.dbs d.numbered }
 
 -- Formals as calls see them
 

@@ -10,30 +10,7 @@ use Rattle.st_rules.specs.declared.broken.Break.{Break}
 
 few : (r : Reason) → number_of r < 32
 few reason.BadToken = omega arith
-few reason.BadStatement = omega arith
-few (reason.Unsupported k) = omega arith
-few reason.UnknownName = omega arith
-few reason.UnknownBlock = omega arith
-few reason.BadOperand = omega arith
-few reason.BadAddress = omega arith
-few reason.DuplicateBlock = omega arith
-few reason.DuplicateName = omega arith
-few reason.BadType = omega arith
-few reason.TooLarge = omega arith
-few reason.DuplicateLabel = omega arith
-few reason.UnknownLabel = omega arith
-few reason.BracketOpen = omega arith
-few reason.BracketMissing = omega arith
-few reason.TooManyBrackets = omega arith
-few reason.BadJumpList = omega arith
-few reason.TooManyInstructions = omega arith
-few reason.TooManyParameters = omega arith
-few reason.CallCycle = omega arith
-few reason.CallTooDeep = omega arith
-few reason.NoBlocks = omega arith
-few reason.BadSyntax = omega arith
-few reason.TooDeep = omega arith
-few reason.TypeMismatch = omega arith
+few other = omega arith
 
 -- a number by which broken rules are ordered
 abbrev rank : Break → ℕ

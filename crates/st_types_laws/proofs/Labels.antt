@@ -1,5 +1,5 @@
 -- The labels of an arm of a CASE that have a type.
-use Rattle.std.proofs.Common.{◌≡◌, Bool, true, ◌&&◌, cond, ℤ, List, [], ◌∷◌, map, Some, refl, sym, ap, ◌∙◌}
+use Rattle.std.proofs.Common.{◌≡◌, true, ◌&&◌, cond, ℤ, List, [], ◌∷◌, map, Some, refl, sym, ap, ◌∙◌}
 use Rattle.s7_base.specs.declared.reason.Line.{Line}
 use Rattle.s7_base.specs.declared.reason.Reason.TheVariants.{TypeMismatch}
 use Rattle.st_rules.specs.Broken.{broken}
@@ -18,12 +18,7 @@ same_type a b h = tree_types.same_type a b (sym (same_is a b) ∙ h)
 
 pub is_own_type : (a : StType) → is_type a a ≡ true
 is_own_type type.Bool = refl
-is_own_type type.Byte = refl
-is_own_type type.Word = refl
-is_own_type type.Dword = refl
-is_own_type type.Int = refl
-is_own_type type.Dint = refl
-is_own_type type.Lint = refl
+is_own_type other = refl
 
 -- Lists of labels
 

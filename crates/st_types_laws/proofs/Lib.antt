@@ -3,7 +3,7 @@ pub mod Apart
 pub mod BlockKeys
 pub mod BlockSizes
 pub mod Bounds
-pub mod DataBlocks
+pub mod Called
 pub mod Declared
 pub mod DeclaredNames
 pub mod DeclaredTree

@@ -201,8 +201,7 @@ no_block (Some m) line blocks = refl
 -- one data block more is one at most
 grown : (x : Option Meaning) (t : Bool) (blocks rest most : ℕ) → blocks + suc rest ≤ most → blocks + one_if (not (is_some x) && t) + rest ≤ most
 grown None true blocks rest most h = omega (arith, h)
-grown None false blocks rest most h = omega (arith, h)
-grown (Some m) t blocks rest most h = omega (arith, h)
+grown other one blocks rest most h = omega (arith, h)
 
 go_blocks : (bs : List DataBlock) (gs : List RawGlobal) → AreBlocksAt bs gs → AreNumbered bs → (d : Outside) (more : Table Meaning) → d.breaks ≡ []
     → AreApart (d.names ++ (block_entries bs ++ more)) → d.blocks + length bs ≤ MOST_BLOCKS

@@ -1,5 +1,5 @@
 -- The types of expressions by the rules of the tree are those by the rules of the text.
-use Rattle.std.proofs.Common.{◌≡◌, Bool, not, ◌&&◌, ◌||◌, ◌==◌, cond, None, refl, ap, ◌∙◌}
+use Rattle.std.proofs.Common.{◌≡◌, not, ◌&&◌, ◌||◌, ◌==◌, cond, None, refl, ap, ◌∙◌}
 use Rattle.std.specs.Prelude.{nat_lt}
 use Rattle.s7_base.specs.declared.word.Width.{Width}
 use Rattle.st_rules.specs.Types as rules
@@ -15,12 +15,7 @@ use Rattle.st_tree.specs.declared.expr.UnaryOp.TheVariants as unary
 
 same_place : (ty : StType) → rules.place_of ty ≡ tree.place_of ty
 same_place type.Bool = refl
-same_place type.Byte = refl
-same_place type.Word = refl
-same_place type.Dword = refl
-same_place type.Int = refl
-same_place type.Dint = refl
-same_place type.Lint = refl
+same_place other = refl
 
 pub same_is : (a b : StType) → rules.is_type a b ≡ tree.is_type a b
 same_is a b = ap (λ n. n == rules.place_of b) (same_place a) ∙ ap (λ n. tree.place_of a == n) (same_place b)
@@ -43,15 +38,11 @@ same_equals binary.Div ty = with_numbers ty
 same_equals binary.Mod ty = with_numbers ty
 same_equals binary.Add ty = with_numbers ty
 same_equals binary.Sub ty = with_numbers ty
-same_equals binary.Lt ty = refl
-same_equals binary.Gt ty = refl
-same_equals binary.Le ty = refl
-same_equals binary.Ge ty = refl
-same_equals binary.Eq ty = refl
-same_equals binary.Ne ty = refl
 same_equals binary.And ty = with_bits ty
 same_equals binary.Xor ty = with_bits ty
 same_equals binary.Or ty = with_bits ty
+same_equals binary.Lt ty = refl
+same_equals other ty = refl
 
 pub same_binary : (op : BinaryOp) (a b : StType) → rules.type_of_binary op a b ≡ tree.type_of_binary op a b
 same_binary op a b =

@@ -1,7 +1,6 @@
 -- A text has one answer: one tree, or one line and rule. And the first of some broken rules is one of
--- them before which no other comes; and the data blocks of a tree are ones that a memory may have.
+-- them before which no other comes.
 use Rattle.std.specs.Prelude.{◌≡◌, ℕ, false, List, [], slice_get, Some, None}
-use Rattle.memory_areas.specs.Areas.{AreBlocks}
 use Rattle.s7_base.specs.declared.reason.Line.{Line}
 use Rattle.s7_base.specs.declared.reason.Reason.{Reason}
 use Rattle.st_tree.specs.declared.program.StProgram.{StProgram}
@@ -32,7 +31,3 @@ pub record IsFirst (breaks : List Break) (b : Break) : Type 0 where
 pub record FirstOfAll : Type 0 where
   pub some : (breaks : List Break) (b : Break) → first_of_all breaks ≡ Some b → IsFirst breaks b
   pub none : (breaks : List Break) → first_of_all breaks ≡ None → breaks ≡ []
-
--- a memory may have the data blocks of a tree
-abbrev pub BlocksFit : Type 0
-BlocksFit = (raw : RawSt) (t : StProgram) → HasTree raw t → AreBlocks t.dbs

@@ -1,11 +1,11 @@
-//! Laws of names, types, places and calls: what the answer to a text is. Other crates cite its lemmas, that
-//! what has a tree can be run and is declared as its tree says.
+//! Laws of names, types, places and calls: what the answer to a text is. Other crates cite its lemmas: what a text
+//! declares that has a tree, and what the rules make of expressions, statements and calls by their parts.
 //!
 //! Stands on `st_rules`, whose definitions these laws are about. It computes nothing: the contracts of its
 //! functions are the laws.
 #![tactic(auto)]
 
-ghost use Rattle.st_types_laws.specs.TypedLaws.{BlocksFit, FirstOfAll, NotBoth, OneRefusal, OneTree};
+ghost use Rattle.st_types_laws.specs.TypedLaws.{FirstOfAll, NotBoth, OneRefusal, OneTree};
 
 /// A text has one tree at most.
 pub fn one_tree()
@@ -25,9 +25,4 @@ pub fn not_both()
 /// The first of some broken rules is one of them before which no other comes.
 pub fn first_of_all()
     ensures { FirstOfAll }
-{}
-
-/// A memory may have the data blocks of a tree.
-pub fn blocks_fit()
-    ensures { BlocksFit }
 {}

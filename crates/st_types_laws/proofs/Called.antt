@@ -1,0 +1,77 @@
+-- Calls: the types of formals that have keys of their own stand under these keys, and what a call is of which all
+-- is given.
+use Rattle.std.proofs.Common.{◌≡◌, ℕ, cond, false, List, [], ◌∷◌, ◌++◌, Option, Some, is_some, sym, ap, subst, ◌∙◌}
+use Rattle.std.specs.List.{fold}
+use Rattle.std.proofs.lemmas.List.{append_assoc, append-nil}
+use Rattle.std.specs.Prelude.{slice_get}
+use Rattle.s7_base.specs.declared.reason.Line.{Line}
+use Rattle.s7_base.specs.declared.reason.Reason.TheVariants.{TypeMismatch}
+use Rattle.st_rules.specs.Broken.{behind, breaks_rule, sound}
+use Rattle.st_rules.specs.Invocations.{Actual, Given, call_of, call_with, callee, function_call, given_by, in_order, lacks}
+use Rattle.st_rules.specs.Scopes.{meaning_in}
+use Rattle.st_rules.specs.Statements.{statement}
+use Rattle.st_rules.specs.declared.scope.Formals.{Formals}
+use Rattle.st_rules.specs.declared.scope.Meaning.TheVariants as meaning
+use Rattle.st_rules.specs.declared.scope.Scope.{Scope}
+use Rattle.st_tree.specs.declared.expr.Var.{Var}
+use Rattle.st_tree.specs.declared.program.Stmt.TheVariants as stmt
+use Rattle.st_tree.specs.declared.raw.RawStmtKind.TheVariants as raw
+use Rattle.st_types_laws.proofs.Actions.{act_invoke, on_line}
+use Rattle.st_rules.specs.Names.{Table, key_of, look_up, with_entry}
+use Rattle.st_tree.specs.declared.expr.StType.{StType}
+use Rattle.st_tree.specs.declared.program.Local.{Local}
+use Rattle.st_types_laws.proofs.Declared.{types_of_locals}
+use Rattle.st_types_laws.proofs.Keyed.{AreAbsent, AreDistinct, absent_also, found_behind, none_absent}
+
+abbrev entries : List Local → Table StType
+entries [] = []
+entries (l ∷ ls) = (key_of l.name, l.ty) ∷ entries ls
+
+abbrev with_type : Table StType → Local → Table StType
+with_type types l = with_entry (key_of l.name) l.ty types
+
+gathered : (types : Table StType) (ls : List Local) → AreAbsent types ls → AreDistinct ls
+    → fold with_type types ls ≡ types ++ entries ls
+gathered types [] a d = sym (append-nil types)
+gathered types (l ∷ ls) a d =
+    let e : List ℕ × StType = (key_of l.name, l.ty) in
+    let one : with_type types l ≡ types ++ e ∷ [] = ap (λ (o : Option StType). cond (is_some o) types (types ++ e ∷ [])) a.0 in
+    ap (λ t. fold with_type t ls) one
+    ∙ gathered (types ++ e ∷ []) ls (absent_also types (key_of l.name) l.ty ls a.1 d.0) d.1
+    ∙ append_assoc types (e ∷ []) (entries ls)
+
+-- each formal has its type in a table
+abbrev pub AreTyped : Table StType → List Local → Type 0
+AreTyped types [] = Unit {0}
+AreTyped types (l ∷ ls) = (look_up (key_of l.name) types ≡ Some l.ty) × AreTyped types ls
+
+typed_behind : (types : Table StType) (ls : List Local) → AreAbsent types ls → AreDistinct ls → AreTyped (types ++ entries ls) ls
+typed_behind types [] a d = tt
+typed_behind types (l ∷ ls) a d =
+    let e : List ℕ × StType = (key_of l.name, l.ty) in (
+      found_behind types (key_of l.name) l.ty (entries ls) a.0,
+      subst (λ t. AreTyped t ls) (append_assoc types (e ∷ []) (entries ls))
+          (typed_behind (types ++ e ∷ []) ls (absent_also types (key_of l.name) l.ty ls a.1 d.0) d.1),
+    )
+
+pub are_typed : (ls : List Local) → AreDistinct ls → AreTyped (types_of_locals ls) ls
+are_typed ls d =
+    subst (λ t. AreTyped t ls) (sym (gathered [] ls (none_absent StType ls) d)) (typed_behind [] ls (none_absent StType ls) d)
+
+-- A call
+
+-- what is given without a broken rule
+abbrev pub given_with : Table (Option Var) → Given
+given_with vars = record { vars = vars; breaks = [] }
+
+-- a call of a function that is there
+pub call_is : (s : Scope) (m : Line) (name : List ℕ) (actuals : List Actual) (i : ℕ) (formals : Formals) (table : Table (Option Var))
+    → meaning_in s (key_of name) ≡ Some (meaning.Function i)
+    → slice_get s.formals i ≡ Some formals → given_by s m formals.types actuals ≡ given_with table → lacks table formals.keys ≡ false
+    → statement s (on_line m (raw.Invoke name actuals)) ≡ sound (stmt.Invoke i (in_order table formals.keys))
+call_is s m name actuals i formals table h there given none =
+    act_invoke s m name actuals
+    ∙ ap (λ o. call_of s m (callee o) actuals) h
+    ∙ ap (λ o. function_call s m i o actuals) there
+    ∙ ap (λ (g : Given). behind g.breaks (call_with m i g.vars formals.keys)) given
+    ∙ ap (λ b. behind [] (cond b (breaks_rule m TypeMismatch) (sound (stmt.Invoke i (in_order table formals.keys))))) none
