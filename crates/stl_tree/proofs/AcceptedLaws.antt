@@ -11,7 +11,7 @@ use Rattle.s7_base.specs.declared.reason.Reason.{Reason}
 use Rattle.s7_base.specs.declared.reason.Rejection.{Rejection}
 use Rattle.s7_base.specs.declared.token.Token.{Token}
 use Rattle.stl_tree.specs.Accepted.{HasOperand, HaveOperands, IsAccepted, IsAcceptedBlock, IsBlockNumber, IsEnded, VerdictIsAccepted}
-use Rattle.stl_tree.specs.Items.{statement_op, statement_of, statement_size, is_complete, misfit_reason, in_body, heading_name, heading_number, heading_with, block_number, number_of}
+use Rattle.stl_tree.specs.Items.{statement_of, statement_size, is_complete, misfit_reason, in_body, heading_name, heading_number, heading_with, block_number, number_of}
 use Rattle.stl_tree.specs.Verdict.{body_from, with_end, with_statement, begin_from, one_block, with_heading, program_of, judged, verdict}
 use Rattle.stl_tree.specs.Words.{is_word, is_sign, is_word_kind}
 use Rattle.stl_tree.specs.declared.program.Block.{Block}
