@@ -33,8 +33,9 @@ use Rattle.st_tree.specs.declared.program.Stmt.TheVariants as stmt
 use Rattle.st_tree.specs.declared.state.Value.{Value}
 use Rattle.st_tree.proofs.Equations.{assign_goes_on, assign_stops_at_place, assign_stops_at_value, value_equations, value_literal, value_read}
 use Rattle.instruction_lowering.specs.inner.Templates.{bit_of, literal_of, next_rlo, read_of, set_of, statements_of}
-use Rattle.instruction_lowering.proofs.Alike.{AreAlike, IsKept, Related, keep_bits, keep_memory, place_now, same_place}
-use Rattle.instruction_lowering.proofs.Does.{Does, IsInside}
+use Rattle.instruction_lowering.proofs.Alike.{AreAlike, IsKept, Related, keep_bits, keep_memory, place_now}
+use Rattle.instruction_lowering.proofs.Does.{Does}
+use Rattle.instruction_lowering.proofs.Operands.{bit_read, bit_wrote, rlo_value}
 
 -- Truth values
 
@@ -116,7 +117,7 @@ orb_clear check.On s e = refl
 orb_clear check.X s e = refl
 orb_clear check.Xn s e = refl
 
--- What is read and written
+-- Instructions
 
 module _ (g : List Located) (calls : Calls) (units : ℕ) (acts : List Activation) (now : Now) (s : State) (related : Related acts now s) where
   abbrev bits : StatusBits
@@ -140,28 +141,6 @@ module _ (g : List Located) (calls : Calls) (units : ℕ) (acts : List Activatio
   checked_fault check.X v f e = simp (value_equations, e)
   checked_fault check.Xn v f e = simp (value_equations, e)
 
-  -- the bit of a written operand, read through its variable
-  bit_read : (a : AreaName) (byte x : ℕ) (bit : Result Bool Fault) → read_bit (place_now a byte x now) now.memory ≡ bit → read g (bit_of (operand.Direct a byte x)) s ≡ and_then bit (λ b. Ok (flag b))
-  bit_read a byte x bit e =
-      ap (λ p. and_then (read_bit p s.memory) (λ b. Ok (flag b))) (same_place acts now s related a byte x)
-      ∙ ap (λ m. and_then (read_bit (place_now a byte x now) m) (λ b. Ok (flag b))) related.memory
-      ∙ ap (λ r. and_then r (λ b. Ok (flag b))) e
-
-  set_flag : (b : Bool) → is_set (flag b) ≡ b
-  set_flag true = refl
-  set_flag false = refl
-
-  -- the bit of a written operand, written through its variable
-  bit_wrote : (a : AreaName) (byte x : ℕ) (b : Bool) (memory : Result Contents Fault) → write_bit (place_now a byte x now) b now.memory ≡ memory
-      → write g (bit_of (operand.Direct a byte x)) (flag b) s ≡ and_then memory (λ m. Ok (record s { memory = m }))
-  bit_wrote a byte x b memory e =
-      ap (λ p. and_then (write_bit p (is_set (flag b)) s.memory) (λ m. Ok (record s { memory = m }))) (same_place acts now s related a byte x)
-      ∙ ap (λ v. and_then (write_bit (place_now a byte x now) v s.memory) (λ m. Ok (record s { memory = m }))) (set_flag b)
-      ∙ ap (λ m. and_then (write_bit (place_now a byte x now) b m) (λ m. Ok (record s { memory = m }))) related.memory
-      ∙ ap (λ r. and_then r (λ m. Ok (record s { memory = m }))) e
-
-  -- Instructions
-
   check_alike : (c : Check) (b : Bool) → AreAlike IsKept (record now.registers { status = after_check c b bits }) (with_register reg.Nfc (pos 1) (with_register reg.Rlo (number_of (rlo_after c b bits)) s.registers))
   check_alike c b reg.Rlo asked = refl
   check_alike c b reg.Nfc asked = refl
@@ -169,7 +148,8 @@ module _ (g : List Located) (calls : Calls) (units : ℕ) (acts : List Activatio
   check_alike c b reg.Sta asked = elim asked [ ]
   check_alike c b q asked = related.registers q asked
 
-  check_does : (c : Check) (a : AreaName) (byte x : ℕ) (bit : Result Bool Fault) → read_bit (place_now a byte x now) now.memory ≡ bit
+  -- a check of a bit, by what is read
+  pub check_does : (c : Check) (a : AreaName) (byte x : ℕ) (bit : Result Bool Fault) → read_bit (place_now a byte x now) now.memory ≡ bit
       → Does (body_meaning g calls (statements_of (op.Check c (arg.At (operand.Direct a byte x)))) units s) units acts now.memory (with_value bit (λ b. next (with_status (after_check c b) now)))
   check_does c a byte x (Ok b) e =
       let v = bit_of (operand.Direct a byte x) in
@@ -177,19 +157,16 @@ module _ (g : List Located) (calls : Calls) (units : ℕ) (acts : List Activatio
       let u : State = record t { registers = with_register reg.Nfc (pos 1) t.registers } in (
         u,
         assign_goes_on g calls (var.Register reg.Rlo) (next_rlo c (expr.Read v)) (set_of reg.Nfc (literal_of true) ∷ []) units s t (flag (rlo_after c b bits))
-            (checked_value c v b (bit_read a byte x (Ok b) e)) refl
+            (checked_value c v b (bit_read g acts now s related a byte x (Ok b) e)) refl
             ∙ assign_goes_on g calls (var.Register reg.Nfc) (literal_of true) [] units t u (flag true) (value_literal g type.Bool (pos 1) t) refl,
         keep_bits IsKept acts now s related IsKept (after_check c b bits) u.registers (orb_clear c bits related.orb) (check_alike c b),
       )
   check_does c a byte x (Err f) e =
       let v = bit_of (operand.Direct a byte x) in (
         s,
-        assign_stops_at_value g calls (var.Register reg.Rlo) (next_rlo c (expr.Read v)) (set_of reg.Nfc (literal_of true) ∷ []) units s f (checked_fault c v f (bit_read a byte x (Err f) e)),
+        assign_stops_at_value g calls (var.Register reg.Rlo) (next_rlo c (expr.Read v)) (set_of reg.Nfc (literal_of true) ∷ []) units s f (checked_fault c v f (bit_read g acts now s related a byte x (Err f) e)),
         related.memory,
       )
-
-  rlo_value : value g (read_of reg.Rlo) s ≡ Ok (flag bits.rlo)
-  rlo_value = value_read g (var.Register reg.Rlo) s ∙ ap (λ n. Ok (record { ty = type.Bool; n = n })) (related.registers reg.Rlo tt)
 
   assign_alike : AreAlike IsKept (record now.registers { status = after_assign bits }) (with_register reg.Nfc (pos 0) s.registers)
   assign_alike reg.Nfc asked = refl
@@ -197,26 +174,21 @@ module _ (g : List Located) (calls : Calls) (units : ℕ) (acts : List Activatio
   assign_alike reg.Sta asked = elim asked [ ]
   assign_alike q asked = related.registers q asked
 
-  assign_does : (a : AreaName) (byte x : ℕ) (memory : Result Contents Fault) → write_bit (place_now a byte x now) bits.rlo now.memory ≡ memory
+  -- an assignment to a bit, by what was written
+  pub assign_does : (a : AreaName) (byte x : ℕ) (memory : Result Contents Fault) → write_bit (place_now a byte x now) bits.rlo now.memory ≡ memory
       → Does (body_meaning g calls (statements_of (op.Assign (operand.Direct a byte x))) units s) units acts now.memory (with_memory memory now (λ done. next (with_status after_assign done)))
   assign_does a byte x (Ok m) e =
       let v = bit_of (operand.Direct a byte x) in
       let t : State = record s { memory = m } in
       let u : State = record t { registers = with_register reg.Nfc (pos 0) s.registers } in (
         u,
-        assign_goes_on g calls v (read_of reg.Rlo) (set_of reg.Nfc (literal_of false) ∷ []) units s t (flag bits.rlo) rlo_value (bit_wrote a byte x bits.rlo (Ok m) e)
+        assign_goes_on g calls v (read_of reg.Rlo) (set_of reg.Nfc (literal_of false) ∷ []) units s t (flag bits.rlo) (rlo_value g acts now s related) (bit_wrote g acts now s related a byte x bits.rlo (Ok m) e)
             ∙ assign_goes_on g calls (var.Register reg.Nfc) (literal_of false) [] units t u (flag false) (value_literal g type.Bool (pos 0) t) refl,
         keep_bits IsKept acts (record now { memory = m }) t (keep_memory IsKept acts now s related m) IsKept (after_assign bits) u.registers refl assign_alike,
       )
   assign_does a byte x (Err f) e =
       let v = bit_of (operand.Direct a byte x) in (
         s,
-        assign_stops_at_place g calls v (read_of reg.Rlo) (set_of reg.Nfc (literal_of false) ∷ []) units s (flag bits.rlo) f rlo_value (bit_wrote a byte x bits.rlo (Err f) e),
+        assign_stops_at_place g calls v (read_of reg.Rlo) (set_of reg.Nfc (literal_of false) ∷ []) units s (flag bits.rlo) f (rlo_value g acts now s related) (bit_wrote g acts now s related a byte x bits.rlo (Err f) e),
         related.memory,
       )
-
-  -- what an instruction does, its statements do
-  pub does : (o : Op) → IsInside o → Does (body_meaning g calls (statements_of o) units s) units acts now.memory (effect_of o now)
-  does (op.Check c (arg.At (operand.Direct a byte x))) inside = check_does c a byte x (read_bit (place_now a byte x now) now.memory) refl
-  does (op.Assign (operand.Direct a byte x)) inside = assign_does a byte x (write_bit (place_now a byte x now) bits.rlo now.memory) refl
-  does op.BlockEnd inside = elim inside [ ]

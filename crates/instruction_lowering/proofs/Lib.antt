@@ -3,7 +3,9 @@ pub mod BitRows
 pub mod Bounds
 pub mod Does
 pub mod Names
+pub mod Operands
 pub mod PlainGraph
 pub mod ProperNames
+pub mod Rows
 pub mod Same
 pub mod Simulation

@@ -12,14 +12,14 @@ use Rattle.s7_base.specs.declared.check.Check.TheVariants as check
 use Rattle.s7_base.specs.declared.register.Reg.TheVariants as reg
 use Rattle.s7_base.specs.declared.word.Width.TheVariants as width
 use Rattle.st_tree.proofs.FittingCalls.{at_position}
-use Rattle.st_tree.proofs.PartEquations.{calls_in_assign, out_assign}
+use Rattle.st_tree.proofs.PartEquations.{calls_in_assign, expressions_in_assign, height_equations, out_assign}
 use Rattle.st_tree.proofs.TypingEquations.{good_assign, nesting_assign, nesting_equations, typed_binary, typed_equations, typed_read, typed_unary}
 use Rattle.st_tree.specs.Chains.{called_in, chain_of, chain_to, unit_chain}
 use Rattle.st_tree.specs.Depth.{deepest, greatest}
 use Rattle.st_tree.specs.Nesting.{body_nesting, expression_nesting, nesting}
-use Rattle.st_tree.specs.Parts.{calls_in}
+use Rattle.st_tree.specs.Parts.{calls_in, expressions_in, height}
 use Rattle.st_tree.specs.Naming.{are_apart, key_of}
-use Rattle.st_tree.specs.Plain.{AreSteps, IsOnlyEnd, IsStep, IsPlainNode, IsPlainUnit, Plain, listed, listed_text}
+use Rattle.st_tree.specs.Plain.{AreSteps, IsGivenOn, IsOnlyEnd, IsStep, IsPlainNode, IsPlainUnit, Plain, listed, listed_text}
 use Rattle.st_tree.specs.PlaceRules.{is_place}
 use Rattle.st_tree.specs.StRun.{called_name}
 use Rattle.st_tree.specs.Proper.{IsDataBlock, IsFormal, IsGlobal, IsLocal, IsProperUnit, Proper}
@@ -54,6 +54,13 @@ use Rattle.stl_tree.specs.declared.program.Op.TheVariants as op
 use Rattle.stl_tree.specs.declared.program.Operand.{Operand}
 use Rattle.stl_tree.specs.declared.program.Operand.TheVariants as operand
 use Rattle.stl_tree.specs.declared.program.Program.{Program}
+
+-- an expression is low
+abbrev IsLow : Expr → Type 0
+IsLow e = height e ≤ 32
+
+is_low : (e : Expr) (n : ℕ) → height e ≡ n → n ≤ 32 → IsLow e
+is_low e n h small = omega arith
 
 module _ (sight : Sight) where
   -- Expressions of type BOOL
@@ -100,21 +107,23 @@ module _ (sight : Sight) where
 
   -- Statements
 
-  -- a body that is well typed, nests no deeper than it may and calls nothing
+  -- a body that is well typed, nests no deeper than it may, has low expressions and calls nothing
   record IsPlainBody (body : List Stmt) : Type 0 where
     typed : are_well_typed sight false body ≡ true
     low : body_nesting body ≤ deepest
+    high : All IsLow (expressions_in body)
     calls : calls_in body ≡ []
 
   no_statement : IsPlainBody []
-  no_statement = record { typed = refl; low = omega arith; calls = refl }
+  no_statement = record { typed = refl; low = omega arith; high = All-nil IsLow; calls = refl }
 
   assigned : (v : Var) (e : Expr) (rest : List Stmt) → variable_type sight v ≡ Some type.Bool → IsBool e
-      → expression_nesting e ≤ deepest → IsPlainBody rest → IsPlainBody (stmt.Assign v e ∷ rest)
-  assigned v e rest h k low plain =
+      → expression_nesting e ≤ deepest → IsLow e → IsPlainBody rest → IsPlainBody (stmt.Assign v e ∷ rest)
+  assigned v e rest h k low high plain =
       record {
         typed = rw (good_assign sight false v e, h, k) plain.typed;
         low = omega (arith, nesting_assign v e, low, plain.low);
+        high = subst (λ (es : List Expr). All IsLow es) (sym (expressions_in_assign v e rest)) (All-cons IsLow e (expressions_in rest) high plain.high);
         calls = calls_in_assign v e rest ∙ plain.calls;
       }
 
@@ -129,6 +138,20 @@ module _ (sight : Sight) where
   next_low check.X v = at_most _ 2 (simp nesting_equations) (omega arith)
   next_low check.Xn v = at_most _ 2 (simp nesting_equations) (omega arith)
 
+  next_height : (c : Check) (v : Var) → IsLow (next_rlo c (expr.Read v))
+  next_height check.A v = is_low _ 4 (simp height_equations) (omega arith)
+  next_height check.An v = is_low _ 4 (simp height_equations) (omega arith)
+  next_height check.O v = is_low _ 3 (simp height_equations) (omega arith)
+  next_height check.On v = is_low _ 3 (simp height_equations) (omega arith)
+  next_height check.X v = is_low _ 3 (simp height_equations) (omega arith)
+  next_height check.Xn v = is_low _ 3 (simp height_equations) (omega arith)
+
+  read_height : (v : Var) → IsLow (expr.Read v)
+  read_height v = is_low _ 1 (simp height_equations) (omega arith)
+
+  literal_height : (b : Bool) → IsLow (literal_of b)
+  literal_height b = is_low _ 1 (simp height_equations) (omega arith)
+
   read_low : (v : Var) → expression_nesting (expr.Read v) ≤ deepest
   read_low v = at_most _ 0 (simp nesting_equations) (omega arith)
 
@@ -139,16 +162,16 @@ module _ (sight : Sight) where
   rlo_bool = simp typed_equations
 
   nfc_set : (b : Bool) (rest : List Stmt) → IsPlainBody rest → IsPlainBody (set_of reg.Nfc (literal_of b) ∷ rest)
-  nfc_set b rest plain = assigned (var.Register reg.Nfc) (literal_of b) rest refl (literal_bool b) (literal_low b) plain
+  nfc_set b rest plain = assigned (var.Register reg.Nfc) (literal_of b) rest refl (literal_bool b) (literal_low b) (literal_height b) plain
 
   of_instruction : (o : Op) (rest : List Stmt) → HasOperand o → IsPlainBody rest → IsPlainBody (statements_of o ++ rest)
   of_instruction (op.Check c (arg.At o)) rest h plain =
       assigned (var.Register reg.Rlo) (next_rlo c (expr.Read (bit_of o))) (set_of reg.Nfc (literal_of true) ∷ rest) refl
-      (next_bool c (expr.Read (bit_of o)) (typed_read sight (bit_of o) ∙ bit_bool o h)) (next_low c (bit_of o))
+      (next_bool c (expr.Read (bit_of o)) (typed_read sight (bit_of o) ∙ bit_bool o h)) (next_low c (bit_of o)) (next_height c (bit_of o))
       (nfc_set true rest plain)
   of_instruction (op.Assign o) rest h plain =
       assigned (bit_of o) (read_of reg.Rlo) (set_of reg.Nfc (literal_of false) ∷ rest) (bit_bool o h) rlo_bool
-      (read_low (var.Register reg.Rlo)) (nfc_set false rest plain)
+      (read_low (var.Register reg.Rlo)) (read_height (var.Register reg.Rlo)) (nfc_set false rest plain)
   of_instruction op.BlockEnd rest h plain = plain
 
   up_to : (b : Bool) (rest : List Stmt) → IsPlainBody rest → IsPlainBody (if b then [] else rest)
@@ -235,12 +258,20 @@ body_steps (i ∷ rest) =
 
 plain_unit : (block : Block) → IsAcceptedBlock block → IsPlainUnit (unit_of block)
 plain_unit block h =
-    record { body = refl; some = λ e. cc; few = omega arith; nodes = nodes }
+    let body = of_node (sight_of [] [] (text_of (unit_of block))) block.body h.operands in
+    record {
+      body = refl;
+      some = λ e. cc;
+      few = omega arith;
+      nodes = nodes;
+      low = body.high;
+      calls = subst (λ (calls : List (ℕ × List Var)). All (λ (call : ℕ × List Var). All IsGivenOn call.1) calls) (sym body.calls) (All-nil (λ (call : ℕ × List Var). All IsGivenOn call.1));
+    }
   where
     nodes : (at : ℕ) (node : StNode) → slice_get (node_of block.body ∷ []) at ≡ Some node → IsPlainNode 1 at node
     nodes zero node e =
         let there : node_of block.body ≡ node = cc in
-        subst (IsPlainNode 1 0) there (record { steps = body_steps block.body; exit = tt; only_end = only_end_of block.body h.ends })
+        subst (IsPlainNode 1 0) there (record { steps = body_steps block.body; exit = tt; test = tt; only_end = only_end_of block.body h.ends })
     nodes (suc at) node e = cc
 
 plain_units : (blocks : List Block) → All IsAcceptedBlock blocks → All IsPlainUnit (map unit_of blocks)

@@ -19,6 +19,7 @@ pub mod TypingEquations
 pub mod Units
 mod CallRows
 mod FittingRows
+mod GraphRows
 mod NameWords
 mod OperatorRows
 mod PartRows

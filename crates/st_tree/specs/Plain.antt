@@ -1,10 +1,15 @@
 -- The graph programs that the passes of a translation hand on: they keep the rules of a text, and those of graphs.
-use Rattle.std.specs.Prelude.{◌≡◌, ◌≢◌, ℕ, suc, ◌≤◌, ◌<◌, pos, true, List, [], ◌∷◌, ◌++◌, length, map, flat_map, All, slice_get, Some}
+use Rattle.std.specs.Prelude.{◌≡◌, ◌≢◌, ℕ, suc, ◌≤◌, ◌<◌, pos, Bool, true, false, ◌&&◌, List, [], ◌∷◌, ◌++◌, length, map, flat_map, All, slice_get, Some}
 use Rattle.s7_base.specs.declared.register.Reg.{Reg}
 use Rattle.s7_base.specs.declared.register.Reg.TheVariants as reg
+use Rattle.memory_areas.specs.declared.place.AreaName.TheVariants as area
+use Rattle.st_tree.specs.Parts.{calls_in, expressions_in, height}
 use Rattle.st_tree.specs.Proper.{Proper}
-use Rattle.st_tree.specs.declared.expr.Expr.{Expr}
+use Rattle.st_tree.specs.declared.expr.BinaryOp.TheVariants as binary
+use Rattle.st_tree.specs.declared.expr.Expr.{Expr, fold-Expr}
+use Rattle.st_tree.specs.declared.expr.Expr.TheOpen as E
 use Rattle.st_tree.specs.declared.expr.Expr.TheVariants as expr
+use Rattle.st_tree.specs.declared.expr.UnaryOp.TheVariants as unary
 use Rattle.st_tree.specs.declared.expr.Var.{Var}
 use Rattle.st_tree.specs.declared.expr.Var.TheVariants as var
 use Rattle.st_tree.specs.declared.graph.GraphPou.{GraphPou}
@@ -78,6 +83,52 @@ AreSettings [] = Unit {0}
 AreSettings (stmt.Assign (var.Register r) (expr.Literal ty n) ∷ rest) = AreSettings rest
 AreSettings (other ∷ rest) = ⊥
 
+-- Expressions
+
+-- a variable whose read has no fault: a register, a local, a formal, a global, or a written place of I, Q, M or L
+abbrev pub is_sure : Var → Bool
+is_sure (var.Register r) = true
+is_sure (var.Local i) = true
+is_sure (var.Formal i) = true
+is_sure (var.Global i) = true
+is_sure (var.Direct area.Db byte bit w) = false
+is_sure (var.Direct area.Di byte bit w) = false
+is_sure (var.Direct a byte bit w) = true
+is_sure (var.InBlock n byte bit w) = false
+
+-- one layer of an expression that neither divides nor converts BCD, and reads such variables alone
+abbrev pub faultless_step : E.Expr-F Bool → Bool
+faultless_step (E.Literal ty n) = true
+faultless_step (E.Read v) = is_sure v
+faultless_step (E.Unary unary.BcdToInt a) = false
+faultless_step (E.Unary unary.BcdToDint a) = false
+faultless_step (E.Unary op a) = a
+faultless_step (E.Binary binary.Div a b) = false
+faultless_step (E.Binary binary.Mod a b) = false
+faultless_step (E.Binary op a b) = a && b
+faultless_step (E.Convert from to a) = a
+faultless_step (E.Select gate a b) = gate && a && b
+faultless_step (E.Shift op a count) = a && count
+faultless_step (E.AreaRead w pointer) = false
+
+-- an expression has no fault, whatever the state
+abbrev pub is_faultless : Expr → Bool
+is_faultless = fold-Expr Bool faultless_step
+
+-- the test of an exit has none
+abbrev pub HasSureTest : StExit → Type 0
+HasSureTest exit.Fall = Unit {0}
+HasSureTest (exit.Jump j) = Unit {0}
+HasSureTest (exit.Branch e j) = is_faultless e ≡ true
+HasSureTest (exit.EndIf e) = is_faultless e ≡ true
+HasSureTest (exit.Table e targets last) = is_faultless e ≡ true
+HasSureTest exit.End = Unit {0}
+
+-- no register variable is given to a call
+abbrev pub IsGivenOn : Var → Type 0
+IsGivenOn (var.Register r) = ⊥
+IsGivenOn v = Unit {0}
+
 -- Nodes
 
 -- an exit of the node at a position leads to nodes of a unit of so many; a table has 1 to 255 entries
@@ -102,15 +153,18 @@ pub record IsOnlyEnd (count at : ℕ) (node : StNode) : Type 0 where
 pub record IsPlainNode (count at : ℕ) (node : StNode) : Type 0 where
   pub steps : AreSteps node.steps
   pub exit : LeadsInside count at node.exit
+  pub test : HasSureTest node.exit
   pub only_end : node.only_end ≡ true → IsOnlyEnd count at node
 
--- a unit: its head has no body, and there are 1 to 32,769 nodes
+-- a unit: its head has no body, and there are 1 to 32,769 nodes; its expressions are at most 32 high
 pub record IsPlainUnit (unit : GraphPou) : Type 0 where
   pub body : unit.head.body ≡ []
   pub some : unit.graph.nodes ≢ []
   pub few : length unit.graph.nodes ≤ 32769
   pub nodes : (at : ℕ) (node : StNode) → slice_get unit.graph.nodes at ≡ Some node
       → IsPlainNode (length unit.graph.nodes) at node
+  pub low : All (λ (e : Expr). height e ≤ 32) (expressions_in (listed unit.graph.nodes))
+  pub calls : All (λ (call : ℕ × List Var). All IsGivenOn call.1) (calls_in (listed unit.graph.nodes))
 
 -- a graph program: its steps and tests are those of a proper text without globals, and its units are plain
 pub record Plain (graph : GraphProgram) : Type 0 where
