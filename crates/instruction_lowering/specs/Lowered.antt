@@ -60,7 +60,8 @@ pub record SameRuns (blocks : List DataBlock) (stl nodes passes : Areas → ℕ 
   pub back : (memory : Areas) → IsMemoryOf blocks memory → (n : ℕ) (after : Areas) (fault : Option Fault)
       → passes memory n ≡ Ended after fault → stl memory (n * size) ≡ Ended after fault
 
--- an organization block or a function is called, by a number of 16 bits
+-- an organization block or a function is called, by a number of 16 bits; of a function block a text can't say which
+-- data blocks are its instances
 abbrev pub HasNoInstance : BlockName → Type 0
 HasNoInstance (name.Ob n) = n < 2 ^ 16
 HasNoInstance (name.Fc n) = n < 2 ^ 16

@@ -1,16 +1,15 @@
 -- A text that means the same as a program.
-use Rattle.std.specs.Prelude.{◌≡◌, ℕ, ◌+◌, ◌*◌, ◌^◌, ◌<◌, List, Option}
+use Rattle.std.specs.Prelude.{◌≡◌, ℕ, ◌+◌, ◌*◌, List, Option}
 use Rattle.memory_areas.specs.Areas.{Areas, IsMemoryOf}
 use Rattle.memory_areas.specs.End.{End, Ended}
 use Rattle.memory_areas.specs.declared.data_block.DataBlock.{DataBlock}
 use Rattle.s7_base.specs.declared.outcome.Fault.{Fault}
 use Rattle.stl_tree.specs.StlRun.{Fits, size_of, stl_run}
-use Rattle.stl_tree.specs.declared.program.BlockName.{BlockName}
-use Rattle.stl_tree.specs.declared.program.BlockName.TheVariants as name
 use Rattle.stl_tree.specs.declared.program.Call.{Call}
 use Rattle.stl_tree.specs.declared.program.Program.{Program}
 use Rattle.st_tree.specs.StRun.{FitsSt, st_run}
 use Rattle.st_tree.specs.declared.program.StProgram.{StProgram}
+pub use Rattle.instruction_lowering.specs.Lowered.{HasNoInstance}
 
 -- two runs from a memory of these data blocks, within a bound: where one ends, the other ends with the
 -- same memory and the same fault, within a bound that the first one's bound gives; so where one goes on
@@ -20,13 +19,6 @@ pub record SameRuns (blocks : List DataBlock) (stl st : Areas → ℕ → End) (
       → stl memory steps ≡ Ended after fault → st memory (2 * steps) ≡ Ended after fault
   pub back : (memory : Areas) → IsMemoryOf blocks memory → (units : ℕ) (after : Areas) (fault : Option Fault)
       → st memory units ≡ Ended after fault → stl memory ((units + 1) * size) ≡ Ended after fault
-
--- an organization block or a function is called, by a number of 16 bits; of a function block a text can't
--- say which data blocks are its instances
-abbrev pub HasNoInstance : BlockName → Type 0
-HasNoInstance (name.Ob n) = n < 2 ^ 16
-HasNoInstance (name.Fc n) = n < 2 ^ 16
-HasNoInstance (name.Fb n) = ⊥
 
 -- a text has the data blocks of the program, each with its number and its bytes; each call that fits the
 -- program fits the text, and its two runs are the same; a call without an instance that fits the text fits
