@@ -1,4 +1,4 @@
--- What an expression is in the tree, its type and its canonical form, at each variant.
+-- The canonical form of an expression, at each variant.
 use Rattle.std.proofs.Common.{◌≡◌, ℕ, ◌-◌, ℤ, Bool, true, false, refl, sym, ap, subst, ◌∙◌}
 use Rattle.std.specs.Prelude.{nat_lt, if◌then◌else◌}
 use Rattle.s7_base.specs.declared.word.Width.{Width}
@@ -10,8 +10,7 @@ use Rattle.st_grammar.specs.declared.kind.Prefix.TheVariants as before
 use Rattle.st_tree.proofs.Equations.{canon_literal, canon_read, canon_unary, canon_binary, canon_convert, canon_select, canon_shift, canon_area_read}
 use Rattle.st_tree.specs.Form as tree
 use Rattle.st_tree.specs.Form.{canon, canon_step}
-use Rattle.st_tree.specs.Typing.{Names, binary_type, type_of, type_step, unary_type, var_type}
-use Rattle.st_tree.specs.Values.{type_of_width}
+use Rattle.st_tree.specs.Typing.{Names}
 use Rattle.st_tree.specs.declared.expr.BinaryOp.{BinaryOp}
 use Rattle.st_tree.specs.declared.expr.BinaryOp.TheVariants as binary
 use Rattle.st_tree.specs.declared.expr.Expr.{Expr, fold-roll-Expr, ind-Expr, map-Expr}
@@ -22,40 +21,6 @@ use Rattle.st_tree.specs.declared.expr.StType.{StType}
 use Rattle.st_tree.specs.declared.expr.UnaryOp.{UnaryOp}
 use Rattle.st_tree.specs.declared.expr.UnaryOp.TheVariants as unary
 use Rattle.st_tree.specs.declared.expr.Var.{Var}
-
--- Types
-
-module _ (names : Names) where
-  pub type_literal : (ty : StType) (n : ℤ) → type_of names (expr.Literal ty n) ≡ ty
-  type_literal ty n = ap (type_of names) (sym (expr.rolls-Literal ty n))
-      ∙ fold-roll-Expr StType (type_step names) (E.Literal ty n)
-
-  pub type_read : (v : Var) → type_of names (expr.Read v) ≡ var_type names v
-  type_read v = ap (type_of names) (sym (expr.rolls-Read v)) ∙ fold-roll-Expr StType (type_step names) (E.Read v)
-
-  pub type_unary : (op : UnaryOp) (a : Expr) → type_of names (expr.Unary op a) ≡ unary_type op (type_of names a)
-  type_unary op a = ap (type_of names) (sym (expr.rolls-Unary op a))
-      ∙ fold-roll-Expr StType (type_step names) (E.Unary op a)
-
-  pub type_binary : (op : BinaryOp) (a b : Expr) → type_of names (expr.Binary op a b) ≡ binary_type op (type_of names a)
-  type_binary op a b = ap (type_of names) (sym (expr.rolls-Binary op a b))
-      ∙ fold-roll-Expr StType (type_step names) (E.Binary op a b)
-
-  pub type_convert : (from to : StType) (a : Expr) → type_of names (expr.Convert from to a) ≡ to
-  type_convert from to a = ap (type_of names) (sym (expr.rolls-Convert from to a))
-      ∙ fold-roll-Expr StType (type_step names) (E.Convert from to a)
-
-  pub type_select : (a b c : Expr) → type_of names (expr.Select a b c) ≡ type_of names b
-  type_select a b c = ap (type_of names) (sym (expr.rolls-Select a b c))
-      ∙ fold-roll-Expr StType (type_step names) (E.Select a b c)
-
-  pub type_shift : (op : ShiftOp) (a b : Expr) → type_of names (expr.Shift op a b) ≡ type_of names a
-  type_shift op a b = ap (type_of names) (sym (expr.rolls-Shift op a b))
-      ∙ fold-roll-Expr StType (type_step names) (E.Shift op a b)
-
-  pub type_area : (w : Width) (a : Expr) → type_of names (expr.AreaRead w a) ≡ type_of_width w
-  type_area w a = ap (type_of names) (sym (expr.rolls-AreaRead w a))
-      ∙ fold-roll-Expr StType (type_step names) (E.AreaRead w a)
 
 -- Canonical forms
 

@@ -1,11 +1,12 @@
 -- The key of a name in a tree is the one by which the text's names are compared; and what keys register
 -- variables, data blocks and other names have.
-use Rattle.std.proofs.Common.{◌≡◌, ℕ, suc, ◌+◌, ◌-◌, ◌<◌, ◌≤◌, Bool, true, false, not, ◌&&◌, ◌||◌, cond, List, [], ◌∷◌, ◌++◌, map, length, take, drop, Some, None, refl, sym, ap, ◌∙◌, arith}
+use Rattle.std.proofs.Common.{◌≡◌, ℕ, ◌+◌, ◌-◌, ◌<◌, ◌≤◌, Bool, true, false, not, ◌&&◌, ◌||◌, cond, List, [], ◌∷◌, ◌++◌, map, length, take, drop, Some, None, refl, sym, ap, ◌∙◌, arith}
 use Rattle.std.specs.Prelude.{codes, decimal, find, nat_le, nat_lt}
 use Rattle.std.specs.Char.{to_ascii_lowercase, to_ascii_uppercase}
 use Rattle.std.specs.List.{list_all, list_any}
 use Rattle.std.specs.Str.{bytes_eq, str_to_ascii_lowercase}
 use Rattle.std.proofs.lemmas.Bool.{leb-true, ltb-false}
+use Rattle.std.proofs.lemmas.List.{drop-map, length-map, take-map}
 use Rattle.std.proofs.lemmas.Str.Ascii.{lowercase-uppercase}
 use Rattle.s7_base.specs.Tokens.{is_among, is_same_word}
 use Rattle.s7_base.specs.declared.register.Reg.{Reg}
@@ -47,34 +48,20 @@ lower_upper (c ∷ name) =
     ap (λ d. d ∷ str_to_ascii_lowercase (map to_ascii_uppercase name)) (lowercase-uppercase c)
     ∙ ap (λ ds. to_ascii_lowercase c ∷ ds) (lower_upper name)
 
-two_upper : (name : List ℕ) → take 2 (map to_ascii_uppercase name) ≡ map to_ascii_uppercase (take 2 name)
-two_upper [] = refl
-two_upper (x ∷ []) = refl
-two_upper (x ∷ y ∷ more) = refl
-
-rest_upper : (name : List ℕ) → drop 2 (map to_ascii_uppercase name) ≡ map to_ascii_uppercase (drop 2 name)
-rest_upper [] = refl
-rest_upper (x ∷ []) = refl
-rest_upper (x ∷ y ∷ more) = refl
-
-size_upper : (name : List ℕ) → length (map to_ascii_uppercase name) ≡ length name
-size_upper [] = refl
-size_upper (x ∷ name) = ap suc (size_upper name)
-
 block_back : (name : List ℕ) → names_block (map to_ascii_uppercase name) ≡ true → names_block name ≡ true
 block_back name h =
     let capitals = map to_ascii_uppercase name in
     let parts = and_both (is_same_word (take 2 capitals) (codes "DB")) (are_digits (drop 2 capitals)) h in
     let rest = map to_ascii_uppercase (drop 2 name) in
-    let digits : are_digits rest ≡ true = ap are_digits (sym (rest_upper name)) ∙ parts.1 in
+    let digits : are_digits rest ≡ true = ap are_digits (sym (drop-map to_ascii_uppercase 2 name)) ∙ parts.1 in
     let more = and_both (nat_lt 0 (length rest)) (list_all is_digit rest) digits in
     let letters : is_same_word (take 2 name) (codes "DB") ≡ true =
     of_same (take 2 name) (codes "DB")
-    (sym (lower_upper (take 2 name)) ∙ ap str_to_ascii_lowercase (sym (two_upper name))
+    (sym (lower_upper (take 2 name)) ∙ ap str_to_ascii_lowercase (sym (take-map to_ascii_uppercase 2 name))
     ∙ same_of (take 2 capitals) (codes "DB") parts.0) in
     both_true (is_same_word (take 2 name) (codes "DB")) (are_digits (drop 2 name)) letters
     (both_true (nat_lt 0 (length (drop 2 name))) (list_all is_digit (drop 2 name))
-    (ap (nat_lt 0) (sym (size_upper (drop 2 name))) ∙ more.0) (digits_back (drop 2 name) more.1))
+    (ap (nat_lt 0) (sym (length-map (drop 2 name) to_ascii_uppercase)) ∙ more.0) (digits_back (drop 2 name) more.1))
 
 not_block : (name : List ℕ) → names_block name ≡ false → names_block (map to_ascii_uppercase name) ≡ false
 not_block name h = by (names_block (map to_ascii_uppercase name)) refl
@@ -153,14 +140,9 @@ same_among (w ∷ ws) name word h =
     ap (λ l. bytes_eq l (str_to_ascii_lowercase w) || is_among ws name) (same_of name word h)
     ∙ ap (λ t. is_same_word word w || t) (same_among ws name word h)
 
-lower_two : (name : List ℕ) → str_to_ascii_lowercase (take 2 name) ≡ take 2 (str_to_ascii_lowercase name)
-lower_two [] = refl
-lower_two (x ∷ []) = refl
-lower_two (x ∷ y ∷ more) = refl
-
 next_letters : (name : List ℕ) → is_next name ≡ true → is_same_word (take 2 name) (codes "DB") ≡ false
 next_letters name h =
-    ap (λ l. bytes_eq l (codes "db")) (lower_two name ∙ ap (take 2) (same_of name (codes "NEXT") h))
+    ap (λ l. bytes_eq l (codes "db")) (sym (take-map to_ascii_lowercase 2 name) ∙ ap (take 2) (same_of name (codes "NEXT") h))
 
 no_letters : (name : List ℕ) → is_same_word (take 2 name) (codes "DB") ≡ false → names_block name ≡ false
 no_letters name h = ap (λ t. t && are_digits (drop 2 name)) h
@@ -180,7 +162,8 @@ begins_other (w ∷ ws) name letters h g =
     by true e false f more q =
         let is : is_same_word letters (take 2 w) ≡ true =
         of_same letters (take 2 w)
-        (sym (same_of (take 2 name) letters h) ∙ lower_two name ∙ ap (take 2) (same_of name w e) ∙ sym (lower_two w)) in
+        (sym (same_of (take 2 name) letters h) ∙ sym (take-map to_ascii_lowercase 2 name) ∙ ap (take 2) (same_of name w e)
+        ∙ take-map to_ascii_lowercase 2 w) in
         absurd cc
 
 numbered : (name letters : List ℕ) → is_numbered letters name ≡ true

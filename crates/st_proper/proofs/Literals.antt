@@ -27,11 +27,6 @@ never : (n : ℕ) → nat_lt n 0 ≡ false
 never n = grind (arith, nat_tests)
 
 -- a number from 0 on is not below it
-value_plain : (t : Bool) (n : ℕ) (ty : StType) → t ≡ false → nat_le n (greatest ty false) ≡ true
-    → (cond t (is_signed ty && nat_le n (greatest ty true)) (nat_le n (greatest ty false))) ≡ true
-value_plain true n ty e h = absurd cc
-value_plain false n ty e h = h
-
 plain_value : (t : Bool) (n : ℕ) (ty : StType) → t ≡ false
     → (cond t (is_signed ty && nat_le n (greatest ty true)) (nat_le n (greatest ty false))) ≡ true
     → nat_le n (greatest ty false) ≡ true

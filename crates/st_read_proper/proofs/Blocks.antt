@@ -14,7 +14,7 @@ use Rattle.st_grammar.specs.Forms.{GlobalType, Globals, Items, bytes, global, no
 use Rattle.st_grammar.specs.Grammar.{tree_globals, tree_items, tree_type}
 use Rattle.st_lexer.specs.Spelled.{is_byte}
 use Rattle.st_types_laws.proofs.Lists.{Each}
-use Rattle.st_read_proper.specs.Worded.{GlobalsWorded, ItemsWorded, TypeWorded}
+use Rattle.st_read_proper.proofs.Worded.{GlobalsWorded, ItemsWorded, TypeWorded}
 use Rattle.st_rules.specs.Globals.{all_blocks, block_at, block_number, block_of, contents, has_block_address, has_block_form, inserted, is_small_enough, with_block}
 use Rattle.st_tree.specs.Proper.{IsDataBlock}
 use Rattle.st_tree.specs.declared.raw.RawGlobal.{RawGlobal}

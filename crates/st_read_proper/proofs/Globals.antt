@@ -16,7 +16,7 @@ use Rattle.st_types_laws.proofs.DeclaredNames.{same_width}
 use Rattle.st_types_laws.proofs.Lists.{Each, each_append}
 use Rattle.st_canonical.proofs.SameNames.{name_is}
 use Rattle.st_read_proper.proofs.Places.{place_is}
-use Rattle.st_read_proper.specs.Worded.{GlobalsWorded}
+use Rattle.st_read_proper.proofs.Worded.{GlobalsWorded}
 use Rattle.st_tree.specs.Naming.{is_free, is_name}
 use Rattle.st_tree.specs.PlaceRules as places
 use Rattle.st_tree.specs.Proper.{IsGlobal}

@@ -14,3 +14,4 @@ pub mod Statements
 pub mod TokensWorded
 pub mod Units
 pub mod Values
+pub mod Worded

@@ -19,8 +19,8 @@ use Rattle.st_types_laws.proofs.Parts.{found_of}
 use Rattle.st_read_proper.proofs.Statements.{FoundAll, of_heads}
 use Rattle.st_read_proper.proofs.TokensWorded.{read_worded}
 use Rattle.st_read_proper.proofs.Units.{IsHeaded, WasRead, are_headed, were_read}
-use Rattle.st_read_proper.specs.ReadProper.{WhatIsReadIsProper, WhatIsWrittenIsProper}
-use Rattle.st_read_proper.specs.Worded.{GlobalsWorded, SourceWorded}
+use Rattle.st_read_proper.specs.ReadProper.{ReadsAreProper}
+use Rattle.st_read_proper.proofs.Worded.{GlobalsWorded, SourceWorded}
 use Rattle.st_rules.specs.Broken.{breaks_in, found_in}
 use Rattle.st_rules.specs.Calls.{all_calls}
 use Rattle.st_rules.specs.Declarations.{all_inside, formals_of}
@@ -163,12 +163,8 @@ module _ (source : Source) (t : StProgram) (fits : SourceFits source) (worded : 
     chains = short_chains raw t typed have_calls;
   }
 
--- what a source of the language has is proper
-pub written_proper : WhatIsWrittenIsProper
-written_proper source t fits worded within typed = proper source t fits worded within typed
-
 -- what is read is proper
-pub read_proper : WhatIsReadIsProper
+pub read_proper : ReadsAreProper
 read_proper bytes raw t reads typed =
-    written_proper reads.source t reads.reads.fits (read_worded bytes raw reads) reads.within
+    proper reads.source t reads.reads.fits (read_worded bytes raw reads) reads.within
     (subst (λ (r : RawSt). HasTree r t) (sym reads.same) typed)

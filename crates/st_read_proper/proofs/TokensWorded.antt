@@ -37,7 +37,7 @@ use Rattle.st_grammar.specs.declared.kind.Word.{Word}
 use Rattle.st_grammar.specs.declared.kind.Word.TheVariants as word
 use Rattle.st_tree.specs.declared.expr.StType.{StType}
 use Rattle.st_tree.specs.declared.expr.StType.TheVariants as type
-use Rattle.st_read_proper.specs.Worded.{GlobalsWorded, ItemsWorded, SourceWorded, TypeWorded}
+use Rattle.st_read_proper.proofs.Worded.{GlobalsWorded, ItemsWorded, SourceWorded, TypeWorded}
 use Rattle.st_tree.specs.declared.raw.RawSt.{RawSt}
 use Rattle.st_tree.specs.declared.raw.RawVar.TheVariants as var
 

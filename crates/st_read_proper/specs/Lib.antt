@@ -1,2 +1,1 @@
 pub mod ReadProper
-pub mod Worded

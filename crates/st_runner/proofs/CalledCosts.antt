@@ -1,5 +1,5 @@
 -- What a body costs by its calls alone is the greatest that the units give which it calls.
-use Rattle.std.proofs.Common.{◌≡◌, ℕ, ◌+◌, max, List, [], ◌∷◌, map, refl, sym, ap, ◌∙◌, arith}
+use Rattle.std.proofs.Common.{◌≡◌, ℕ, List, [], ◌∷◌, map, refl, sym, ◌∙◌, arith}
 use Rattle.st_runner.proofs.CostEquations.{most_area_write, most_arm, most_assign, most_case, most_case_arm, most_continue, most_exit, most_if, most_invoke, most_return, most_while}
 use Rattle.st_runner.specs.inner.Costs.{Costs, arm_most, body_most, case_most, most}
 use Rattle.st_runner.specs.inner.Runnable.{chain_costs}

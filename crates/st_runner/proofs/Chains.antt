@@ -5,7 +5,7 @@ use Rattle.memory_areas.specs.declared.sizes.TheConstants.{ACTIVATIONS}
 use Rattle.st_runner.specs.inner.Costs.{Costs, arm_most, body_most, case_most, most}
 use Rattle.st_tree.specs.Depth.{greatest}
 use Rattle.st_runner.specs.inner.Measures.{depth_costs, stack_costs}
-use Rattle.st_runner.specs.inner.Runnable.{IsRunnableUnit, chain_costs, nesting_costs}
+use Rattle.st_runner.specs.inner.Runnable.{IsRunnableUnit, nesting_costs}
 use Rattle.st_tree.specs.Chains.{called_in, chain_of, chain_to, unit_chain}
 use Rattle.st_runner.proofs.CalledCosts.{called_cost}
 use Rattle.st_runner.specs.declared.steps.TheConstants.{MOST_NESTING, UNIT_FRAMES}

@@ -8,9 +8,7 @@ ghost use Rattle.st_syntax.specs.inner.Views.{row_of, state_of};
 use crate::state::{Before, Row, State};
 use s7_base::{Line, List, NoMemory};
 use st_grammar::{Fixed, Kind, Literal};
-use st_tree::{
-    RawGlobal, RawGlobalType, RawVar, StType, is_free, may_name_global, names_block,
-};
+use st_tree::{RawGlobal, RawGlobalType, RawVar, StType, is_free, may_name_global, names_block};
 use std::alloc::Global;
 
 /// What stands after `AT`.

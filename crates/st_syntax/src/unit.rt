@@ -11,9 +11,7 @@ use crate::state::{Before, State, Top, Typing, Which};
 use s7_base::{Line, List, NoMemory};
 use st_bodies::{Place, Spot, step};
 use st_grammar::{Fixed, Heading, Kind, Lead};
-use st_tree::{
-    RawLocal, RawPou, RawStmt, RawVar, StType, is_free, may_name_local, may_name_unit,
-};
+use st_tree::{RawLocal, RawPou, RawStmt, RawVar, StType, is_free, may_name_local, may_name_unit};
 use std::alloc::Global;
 
 fn at_between(text: Before, kind: Kind) -> Option<State>

@@ -1,6 +1,6 @@
 -- What a fold over a tree is at each variant: of expressions, of statements and of arms. First any fold, and
 -- then those of this crate, as rules by which `simp` opens them.
-use Rattle.std.specs.Prelude.{◌≡◌, ℕ, ◌+◌, ◌-◌, max, ℤ, List, ◌∷◌, map, Ok, Err}
+use Rattle.std.specs.Prelude.{◌≡◌, ℕ, ◌-◌, ℤ, List, ◌∷◌, map, Ok, Err}
 use Rattle.std.proofs.Common.{sym, ap, ◌∙◌}
 use Rattle.memory_areas.specs.Access.{and_then}
 use Rattle.s7_base.specs.declared.outcome.Fault.{Fault}

@@ -34,10 +34,6 @@ looked_behind k (x ∷ xs) ys = by (is_same k x.0) (looked_behind k xs ys)
     by true h = refl
     by false h = h
 
-pub none_first : (a b : Option Meaning) → or_else a b ≡ None → a ≡ None
-none_first None b h = refl
-none_first (Some m) b h = absurd cc
-
 pub none_second : (a b : Option Meaning) → or_else a b ≡ None → b ≡ None
 none_second None b h = h
 none_second (Some m) b h = absurd cc

@@ -69,6 +69,14 @@ of_parts o bs = record { found = o; breaks = bs }
 judged : {T : Type 0} (o : Option T) (x : T) (bs : List Break) → o ≡ Some x → bs ≡ [] → of_parts o bs ≡ sound x
 judged {T} o x bs h g = ap (λ (p : Option T). of_parts p bs) h ∙ ap (λ (cs : List Break). of_parts (Some x) cs) g
 
+-- a test holds where no rule is broken by it
+held : {T : Type 0} (l : Line) (x : T) (b : Bool) → (cond b (sound x) (breaks_rule l TypeMismatch)).breaks ≡ [] → b ≡ true
+held l x true q = refl
+held l x false q = absurd cc
+
+both_nil : (xs ys : List Break) → xs ++ ys ≡ [] → (xs ≡ []) × (ys ≡ [])
+both_nil xs ys h = (nil_first xs ys h, nil_second xs ys h)
+
 -- the values of some labels
 abbrev pub values : List (StType × ℤ) → List ℤ
 values labels = map (λ (label : StType × ℤ). label.1) labels
@@ -90,11 +98,7 @@ module _ (s : Scope) (l : Line) where
   test_clean e h = nil_first (expression s l e).breaks (test_of l (expression s l e).found).breaks h
 
   pub test_bool : (e : RawExpr) (t : Typed) → expression s l e ≡ sound t → (test s l e).breaks ≡ [] → is_type t.ty type.Bool ≡ true
-  test_bool e t h c = by (is_type t.ty type.Bool) (sym (ap (λ (j : Judged Expr). j.breaks) (test_with e t h)) ∙ c)
-    where
-      by : (b : Bool) → (cond b (sound t.tree) (breaks_rule l TypeMismatch)).breaks ≡ [] → b ≡ true
-      by true q = refl
-      by false q = absurd cc
+  test_bool e t h c = held l t.tree (is_type t.ty type.Bool) (sym (ap (λ (j : Judged Expr). j.breaks) (test_with e t h)) ∙ c)
 
   selector_with : (e : RawExpr) (t : Typed) → expression s l e ≡ sound t → selector s l e ≡ behind [] (selector_of l (Some t))
   selector_with e t h = ap (λ (j : Judged Typed). behind j.breaks (selector_of l j.found)) h
@@ -106,11 +110,7 @@ module _ (s : Scope) (l : Line) where
   selector_clean e h = nil_first (expression s l e).breaks (selector_of l (expression s l e).found).breaks h
 
   pub selector_type : (e : RawExpr) (t : Typed) → expression s l e ≡ sound t → (selector s l e).breaks ≡ [] → is_selector t.ty ≡ true
-  selector_type e t h c = by (is_selector t.ty) (sym (ap (λ (j : Judged Typed). j.breaks) (selector_with e t h)) ∙ c)
-    where
-      by : (b : Bool) → (cond b (sound t) (breaks_rule l TypeMismatch)).breaks ≡ [] → b ≡ true
-      by true q = refl
-      by false q = absurd cc
+  selector_type e t h c = held l t (is_selector t.ty) (sym (ap (λ (j : Judged Typed). j.breaks) (selector_with e t h)) ∙ c)
 
   -- Assignments and writes
 
@@ -132,17 +132,12 @@ module _ (s : Scope) (l : Line) where
   assign_clean v e c =
       let j = variable_on s l v in
       let k = expression s l e in
-      let both : j.breaks ++ k.breaks ≡ [] =
-      nil_first (j.breaks ++ k.breaks) (assignment_of l j.found k.found).breaks (sym (ap (λ (j : Judged Stmt). j.breaks) (act_assign s l v e)) ∙ c) in
-      (nil_first j.breaks k.breaks both, nil_second j.breaks k.breaks both)
+      both_nil j.breaks k.breaks
+      (nil_first (j.breaks ++ k.breaks) (assignment_of l j.found k.found).breaks (sym (ap (λ (j : Judged Stmt). j.breaks) (act_assign s l v e)) ∙ c))
 
   pub assign_fits : (v : RawVar) (e : RawExpr) (x : TypedVar) (t : Typed) → variable s v ≡ Ok x → expression s l e ≡ sound t
       → (statement s (on_line l (raw.Assign v e))).breaks ≡ [] → is_type x.ty t.ty ≡ true
-  assign_fits v e x t h g c = by (is_type x.ty t.ty) (sym (ap (λ (j : Judged Stmt). j.breaks) (assign_with v e x t h g)) ∙ c)
-    where
-      by : (b : Bool) → (cond b (sound (stmt.Assign x.var t.tree)) (breaks_rule l TypeMismatch)).breaks ≡ [] → b ≡ true
-      by true q = refl
-      by false q = absurd cc
+  assign_fits v e x t h g c = held l (stmt.Assign x.var t.tree) (is_type x.ty t.ty) (sym (ap (λ (j : Judged Stmt). j.breaks) (assign_with v e x t h g)) ∙ c)
 
   pub assign_is : (v : RawVar) (e : RawExpr) (x : TypedVar) (t : Typed) → variable s v ≡ Ok x → expression s l e ≡ sound t → is_type x.ty t.ty ≡ true
       → statement s (on_line l (raw.Assign v e)) ≡ sound (stmt.Assign x.var t.tree)
@@ -159,17 +154,12 @@ module _ (s : Scope) (l : Line) where
   write_clean w p e c =
       let j = expression s l p in
       let k = expression s l e in
-      let both : j.breaks ++ k.breaks ≡ [] =
-      nil_first (j.breaks ++ k.breaks) (area_write_of l w j.found k.found).breaks (sym (ap (λ (j : Judged Stmt). j.breaks) (act_write s l w p e)) ∙ c) in
-      (nil_first j.breaks k.breaks both, nil_second j.breaks k.breaks both)
+      both_nil j.breaks k.breaks
+      (nil_first (j.breaks ++ k.breaks) (area_write_of l w j.found k.found).breaks (sym (ap (λ (j : Judged Stmt). j.breaks) (act_write s l w p e)) ∙ c))
 
   pub write_fits : (w : Width) (p e : RawExpr) (t u : Typed) → expression s l p ≡ sound t → expression s l e ≡ sound u
       → (statement s (on_line l (raw.AreaWrite w p e))).breaks ≡ [] → writes w t u ≡ true
-  write_fits w p e t u h g c = by (writes w t u) (sym (ap (λ (j : Judged Stmt). j.breaks) (write_with w p e t u h g)) ∙ c)
-    where
-      by : (b : Bool) → (cond b (sound (stmt.AreaWrite w t.tree u.tree)) (breaks_rule l TypeMismatch)).breaks ≡ [] → b ≡ true
-      by true q = refl
-      by false q = absurd cc
+  write_fits w p e t u h g c = held l (stmt.AreaWrite w t.tree u.tree) (writes w t u) (sym (ap (λ (j : Judged Stmt). j.breaks) (write_with w p e t u h g)) ∙ c)
 
   pub write_is : (w : Width) (p e : RawExpr) (t u : Typed) → expression s l p ≡ sound t → expression s l e ≡ sound u → writes w t u ≡ true
       → statement s (on_line l (raw.AreaWrite w p e)) ≡ sound (stmt.AreaWrite w t.tree u.tree)
@@ -182,8 +172,7 @@ module _ (s : Scope) (l : Line) where
   if_clean arms bs c =
       let js = arms_on l (map (arm s) arms) in
       let ks = statements s bs in
-      let both : breaks_in js ++ breaks_in ks ≡ [] = sym (ap (λ (j : Judged Stmt). j.breaks) (act_if s l arms bs)) ∙ c in
-      (nil_first (breaks_in js) (breaks_in ks) both, nil_second (breaks_in js) (breaks_in ks) both)
+      both_nil (breaks_in js) (breaks_in ks) (sym (ap (λ (j : Judged Stmt). j.breaks) (act_if s l arms bs)) ∙ c)
 
   pub if_is : (arms : List RawArm) (bs : List RawStmt) (xs : List Arm) (ys : List Stmt) → AreSound (arms_on l (map (arm s) arms)) xs → AreSound (statements s bs) ys
       → statement s (on_line l (raw.If arms bs)) ≡ sound (stmt.If xs ys)
@@ -226,8 +215,7 @@ module _ (s : Scope) (l : Line) where
   while_clean e bs c =
       let j = test s l e in
       let ks = statements s bs in
-      let both : j.breaks ++ breaks_in ks ≡ [] = sym (ap (λ (j : Judged Stmt). j.breaks) (act_while s l e bs)) ∙ c in
-      (nil_first j.breaks (breaks_in ks) both, nil_second j.breaks (breaks_in ks) both)
+      both_nil j.breaks (breaks_in ks) (sym (ap (λ (j : Judged Stmt). j.breaks) (act_while s l e bs)) ∙ c)
 
   pub while_is : (e : RawExpr) (bs : List RawStmt) (x : Expr) (ys : List Stmt) → test s l e ≡ sound x → AreSound (statements s bs) ys
       → statement s (on_line l (raw.While e bs)) ≡ sound (stmt.While x ys)
@@ -243,8 +231,7 @@ module _ (s : Scope) (l : Line) where
   arm_clean e bs c =
       let j = test s l e in
       let ks = statements s bs in
-      let both : j.breaks ++ breaks_in ks ≡ [] = sym (ap (λ (d : Armed). (d l).breaks) (act_arm s e bs)) ∙ c in
-      (nil_first j.breaks (breaks_in ks) both, nil_second j.breaks (breaks_in ks) both)
+      both_nil j.breaks (breaks_in ks) (sym (ap (λ (d : Armed). (d l).breaks) (act_arm s e bs)) ∙ c)
 
   pub arm_is : (e : RawExpr) (bs : List RawStmt) (x : Expr) (ys : List Stmt) → test s l e ≡ sound x → AreSound (statements s bs) ys
       → arm s (raw_arm e bs) l ≡ sound (record { test = x; body = ys })
@@ -261,8 +248,7 @@ module _ (s : Scope) (l : Line) where
       → (label_breaks l (Some ty) labels ≡ []) × (breaks_in (statements s bs) ≡ [])
   case_arm_clean ty labels bs c =
       let ks = statements s bs in
-      let both : label_breaks l (Some ty) labels ++ breaks_in ks ≡ [] = sym (ap (λ (d : Labelled). (d l (Some ty)).breaks) (act_case_arm s labels bs)) ∙ c in
-      (nil_first (label_breaks l (Some ty) labels) (breaks_in ks) both, nil_second (label_breaks l (Some ty) labels) (breaks_in ks) both)
+      both_nil (label_breaks l (Some ty) labels) (breaks_in ks) (sym (ap (λ (d : Labelled). (d l (Some ty)).breaks) (act_case_arm s labels bs)) ∙ c)
 
   pub case_arm_is : (ty : StType) (labels : List (StType × ℤ)) (bs : List RawStmt) (ns : List ℤ) (ys : List Stmt) → label_breaks l (Some ty) labels ≡ [] → values labels ≡ ns
       → AreSound (statements s bs) ys → case_arm s (raw_case labels bs) l (Some ty) ≡ sound (record { labels = ns; body = ys })

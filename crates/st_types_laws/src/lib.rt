@@ -1,5 +1,5 @@
-//! Laws of names, types, places and calls: what the answer to a text is. Other crates cite its lemmas, that
-//! what has a tree can be run and is declared as its tree says.
+//! Laws of names, types, places and calls: what the answer to a text is. Other crates cite its lemmas: what a text
+//! declares that has a tree, and what the rules make of expressions, statements and calls by their parts.
 //!
 //! Stands on `st_rules`, whose definitions these laws are about. It computes nothing: the contracts of its
 //! functions are the laws.

@@ -11,7 +11,7 @@ use Rattle.memory_areas.specs.declared.place.Place.{Place}
 use Rattle.s7_base.specs.Tokens.{is_between, is_word_byte}
 use Rattle.s7_base.specs.declared.word.Width.{Width}
 use Rattle.s7_base.specs.declared.word.Width.TheVariants as width
-use Rattle.stl_tree.specs.Items.{number_of}
+use Rattle.stl_tree.specs.Numbers.{number_of}
 use Rattle.stl_tree.specs.declared.program.BlockName.{BlockName}
 use Rattle.stl_tree.specs.declared.program.BlockName.TheVariants.{Ob, Fc, Fb}
 use Rattle.stl_tree.specs.declared.program.Call.{Call}

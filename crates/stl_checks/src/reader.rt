@@ -8,9 +8,9 @@ ghost use Rattle.stl_tree.specs.Verdict.{misfit_at, program_with, with_end, body
 ghost use Rattle.stl_checks.specs.Answers.{EndsBody, PutsItem, IsFirst};
 
 use crate::statement::{Context, misfit_reason, statement_of, statement_size};
-use crate::words::{is_sign, is_word, is_word_kind};
 use s7_base::{Kind, Line, List, NoMemory, Reason, Rejection, Token, is_same_word, rest_after};
 use std::alloc::Global;
+use stl_instructions::{is_sign, is_word, is_word_kind};
 use stl_lexer::tokens;
 use stl_tree::{Block, BlockName, Instr, Op, Program, number_of};
 
@@ -99,7 +99,12 @@ fn end_body(instrs: &mut List<Instr>, line: Line, behind: &[Token]) -> Result<()
 }
 
 /// Puts the item at the front of these tokens after the instructions before it.
-fn put_item(instrs: &mut List<Instr>, first: &Token, tokens: &[Token]) -> Result<(), Rejection>
+fn put_item(
+    alloc: Global,
+    instrs: &mut List<Instr>,
+    first: &Token,
+    tokens: &[Token],
+) -> Result<(), Rejection>
     requires { IsFirst first.now tokens.now }
     ensures item { PutsItem instrs.old instrs.new first.now tokens.now result }
     ensures complete { OnOk result (statement_size tokens.now < length tokens.now) }
@@ -107,7 +112,7 @@ fn put_item(instrs: &mut List<Instr>, first: &Token, tokens: &[Token]) -> Result
     if is_sign(first, ";") {
         return Ok(());
     }
-    match statement_of(tokens) {
+    match statement_of(alloc, tokens)? {
         Ok(op) => {
             instrs.push(Instr {
                 line: first.line,
@@ -131,7 +136,7 @@ fn body(alloc: Global, tokens: &[Token], end: Line) -> Result<List<Instr>, Rejec
             end_body(&mut instrs, first.line, behind)?;
             return Ok(instrs);
         }
-        put_item(&mut instrs, first, rest)?;
+        put_item(alloc, &mut instrs, first, rest)?;
         rest = rest_after(behind, statement_size(rest));
     }
     Err(Rejection::Refused(end, Reason::BadStatement))

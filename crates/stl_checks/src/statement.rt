@@ -1,16 +1,18 @@
-//! Reads one statement, and says why an item that fits no form is refused.
-ghost use Rattle.std.specs.Prelude.{◌≡◌, ◌≤◌, take, not, length};
-ghost use Rattle.stl_tree.specs.Items.{op_with, statement_op, statement_size, begins_with_typed_sign, begins_master_control, begins_with_mnemonic, begins_with_block_word, is_not_built, is_label, begins_with_label, label_at, is_complete, misfit_reason, statement_of};
+//! Reads the statement at the front of a body's tokens, and says why an item that fits no form is refused.
+ghost use Rattle.std.specs.Prelude.{◌≡◌, ◌≤◌, take, not, length, IfOk, option_and_then};
+ghost use Rattle.stl_tree.specs.Items.{operand_at, op_with, op_by, op_of, op_said, statement_op, statement_size, begins_with_block_word, is_not_built, label_at, is_complete, misfit_reason, no_instruction, complete_of, statement_of};
+ghost use Rattle.stl_tree.specs.Raw.{place_of};
+ghost use Rattle.stl_tree.specs.Statements.{statement};
 ghost use Rattle.stl_tree.specs.Words.{is_sign};
 ghost use Rattle.stl_checks.specs.Contexts.{view};
 
-use crate::operand::bit_operand;
-use crate::words::{
-    is_block_word, is_mnemonic_sign, is_mnemonic_word, is_sign, is_type_letter, is_typed_sign,
-    is_word, is_word_kind,
+use crate::words::is_block_word;
+use s7_base::{Kind, NoMemory, Reason, Rejection, Token, front_of};
+use std::alloc::Global;
+use stl_instructions::{
+    begins_with_label, begins_with_mnemonic, instruction, is_bit_in_area, is_sign, mnemonic_named,
 };
-use s7_base::{Check, Kind, Reason, Token};
-use stl_tree::{BitArg, Op, Operand};
+use stl_tree::{BitArg, Mnemonic, Op, Operand, RawInstr, RawOp, RawOperand, RawPlace};
 
 /// Where an item stands: labels stand in a body alone.
 #[derive(Clone, Copy)]
@@ -19,33 +21,44 @@ pub enum Context {
     InBody,
 }
 
-/// An instruction by its mnemonic and its operand.
-fn op_with(mnemonic: &Token, bit: Operand) -> Option<Op>
-    ensures { result ≡ op_with mnemonic.now bit }
+fn operand_at(place: RawPlace) -> Option<Operand>
+    ensures { result ≡ operand_at place }
 {
-    if is_word(mnemonic, "A") {
-        Some(Op::Check(Check::A, BitArg::At(bit)))
-    } else if is_word(mnemonic, "AN") {
-        Some(Op::Check(Check::An, BitArg::At(bit)))
-    } else if is_word(mnemonic, "O") {
-        Some(Op::Check(Check::O, BitArg::At(bit)))
-    } else if is_word(mnemonic, "ON") {
-        Some(Op::Check(Check::On, BitArg::At(bit)))
-    } else if is_sign(mnemonic, "=") {
-        Some(Op::Assign(bit))
+    if is_bit_in_area(place) {
+        Some(Operand::Direct(place.area, place.byte, place.bit as u8))
     } else {
         None
     }
 }
 
-/// What the tokens of a statement before its `;` do.
-fn statement_op(statement: &[Token]) -> Option<Op>
-    ensures { result ≡ statement_op statement.now }
+/// The written place that an operand is.
+fn place_of(operand: &RawOperand) -> Option<RawPlace>
+    ensures { result ≡ place_of operand.now }
 {
-    let [mnemonic, operand @ ..] = statement else {
-        return None;
-    };
-    op_with(mnemonic, bit_operand(operand)?)
+    match operand {
+        RawOperand::At(place) => Some(*place),
+        _ => None,
+    }
+}
+
+/// An instruction by what its mnemonic is, and its bit.
+fn op_with(what: Mnemonic, bit: Operand) -> Option<Op>
+    ensures { result ≡ op_with what bit }
+{
+    match what {
+        Mnemonic::Check(check) => Some(Op::Check(check, BitArg::At(bit))),
+        Mnemonic::Assign => Some(Op::Assign(bit)),
+        Mnemonic::Later | Mnemonic::LeftOut(_) => None,
+    }
+}
+
+/// The instruction that a raw one is.
+#[tactic(auto, unfolding(stl_tree::specs::Items::op_of))]
+fn op_of(raw: &RawOp) -> Option<Op>
+    ensures { result ≡ op_of raw.now }
+{
+    let what = mnemonic_named(raw.mnemonic.as_slice())?;
+    op_with(what, operand_at(place_of(&raw.operand)?)?)
 }
 
 /// How many tokens stand before the next `;`, or before the end of the text.
@@ -63,59 +76,6 @@ fn is_complete(tokens: &[Token]) -> bool
     ensures { result ≡ is_complete tokens.now }
 {
     statement_size(tokens) < tokens.len()
-}
-
-fn begins_with_typed_sign(first: &Token, rest: &[Token]) -> bool
-    ensures { result ≡ begins_with_typed_sign first.now rest.now }
-{
-    match rest {
-        [second, ..] => is_typed_sign(first) && second.glued && is_type_letter(second),
-        [] => false,
-    }
-}
-
-fn begins_master_control(first: &Token, rest: &[Token]) -> bool
-    ensures { result ≡ begins_master_control first.now rest.now }
-{
-    match rest {
-        [second, ..] => is_word(first, "MCR") && is_sign(second, "("),
-        [] => false,
-    }
-}
-
-fn begins_with_mnemonic(tokens: &[Token]) -> bool
-    ensures { result ≡ begins_with_mnemonic tokens.now }
-{
-    match tokens {
-        [first, rest @ ..] => {
-            is_mnemonic_word(first)
-                || is_mnemonic_sign(first)
-                || begins_with_typed_sign(first, rest)
-                || begins_master_control(first, rest)
-        }
-        [] => false,
-    }
-}
-
-/// One to four letters, digits or `_`, the first of them no digit.
-fn is_label(word: &[u8]) -> bool
-    ensures { result ≡ is_label word.now }
-{
-    match word {
-        [first, rest @ ..] => rest.len() < 4 && !first.is_ascii_digit(),
-        [] => false,
-    }
-}
-
-fn begins_with_label(tokens: &[Token]) -> bool
-    ensures { result ≡ begins_with_label tokens.now }
-{
-    match tokens {
-        [first, second, ..] => is_word_kind(first)
-            && is_label(first.text.as_slice())
-            && is_sign(second, ":"),
-        _ => false,
-    }
 }
 
 fn label_at(context: Context, tokens: &[Token]) -> bool
@@ -156,13 +116,44 @@ pub fn misfit_reason(context: Context, tokens: &[Token]) -> Reason
     }
 }
 
+/// Why a complete statement is refused that is no instruction, for this reason.
+fn no_instruction(tokens: &[Token], reason: Reason) -> Reason
+    ensures { result ≡ no_instruction tokens.now reason }
+{
+    if begins_with_block_word(tokens) {
+        Reason::Unsupported(Kind::NotBuilt)
+    } else {
+        reason
+    }
+}
+
+/// What the tokens of a statement say, or why they say nothing.
+fn said(alloc: Global, front: &[Token]) -> Result<Result<RawOp, Reason>, NoMemory>
+    ensures { IfOk result (λ said. said ≡ statement front.now) }
+{
+    match instruction(alloc, front) {
+        Ok(RawInstr { op, .. }) => Ok(Ok(op)),
+        Err(Rejection::Refused(_, reason)) => Ok(Err(reason)),
+        Err(Rejection::NoMemory) => Err(NoMemory),
+    }
+}
+
+fn op_said(alloc: Global, front: &[Token], tokens: &[Token]) -> Result<Result<Op, Reason>, NoMemory>
+    ensures { IfOk result (λ said. said ≡ complete_of tokens.now front.now) }
+{
+    Ok(match said(alloc, front)? {
+        Ok(raw) => op_of(&raw).ok_or(Reason::Unsupported(Kind::NotBuilt)),
+        Err(reason) => Err(no_instruction(tokens, reason)),
+    })
+}
+
 /// The statement at the front of a body's tokens.
-pub fn statement_of(tokens: &[Token]) -> Result<Op, Reason>
-    ensures { result ≡ statement_of tokens.now }
+pub fn statement_of(alloc: Global, tokens: &[Token]) -> Result<Result<Op, Reason>, NoMemory>
+    ensures { IfOk result (λ said. said ≡ statement_of tokens.now) }
 {
     let size = statement_size(tokens);
     if size == tokens.len() {
-        return Err(misfit_reason(Context::InBody, tokens));
+        return Ok(Err(misfit_reason(Context::InBody, tokens)));
     }
-    statement_op(&tokens[..size]).ok_or(misfit_reason(Context::InBody, tokens))
+    op_said(alloc, front_of(tokens, size), tokens)
 }

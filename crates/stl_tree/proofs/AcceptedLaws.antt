@@ -11,7 +11,9 @@ use Rattle.s7_base.specs.declared.reason.Reason.{Reason}
 use Rattle.s7_base.specs.declared.reason.Rejection.{Rejection}
 use Rattle.s7_base.specs.declared.token.Token.{Token}
 use Rattle.stl_tree.specs.Accepted.{HasOperand, HaveOperands, IsAccepted, IsAcceptedBlock, IsBlockNumber, IsEnded, VerdictIsAccepted}
-use Rattle.stl_tree.specs.Items.{statement_op, statement_of, statement_size, is_complete, misfit_reason, in_body, heading_name, heading_number, heading_with, block_number, number_of}
+use Rattle.stl_tree.specs.Items.{statement_op, statement_of, statement_size, is_complete, refusal, heading_name, heading_number, heading_with, block_number}
+use Rattle.stl_tree.specs.Numbers.{number_of}
+use Rattle.stl_tree.specs.Statements.{statement}
 use Rattle.stl_tree.specs.Verdict.{body_from, with_end, with_statement, begin_from, one_block, with_heading, program_of, judged, verdict}
 use Rattle.stl_tree.specs.Words.{is_word, is_sign, is_word_kind}
 use Rattle.stl_tree.specs.declared.program.Block.{Block}
@@ -36,7 +38,9 @@ choose true x y p q = p
 choose false x y p q = q
 
 statement_said : (tokens : List Token) → IsSaid (statement_of tokens)
-statement_said tokens = choose (is_complete tokens) _ _ (from_option _ (misfit_reason in_body tokens) (statement_is (take (statement_size tokens) tokens))) tt
+statement_said tokens =
+    let front = take (statement_size tokens) tokens in
+    choose (is_complete tokens) _ _ (from_option (statement_op front) (refusal tokens (statement front)) (statement_is front)) tt
 
 -- Bodies
 

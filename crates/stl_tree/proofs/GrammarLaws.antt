@@ -15,7 +15,8 @@ use Rattle.std.specs.Str.{str_eq_ignore_ascii_case}
 use Rattle.stl_tree.specs.Words.{is_word, is_word_kind}
 use Rattle.stl_tree.specs.declared.program.BlockName.{BlockName}
 use Rattle.stl_tree.specs.declared.program.BlockName.TheVariants.{Ob}
-use Rattle.stl_tree.specs.Items.{block_number, heading_with, heading_number, heading_name, short_heading, in_body, misfit_reason, is_complete, statement_op, statement_of, statement_size}
+use Rattle.stl_tree.specs.Items.{block_number, heading_with, heading_number, heading_name, short_heading, in_body, misfit_reason, refusal, is_complete, statement_op, statement_of, statement_size}
+use Rattle.stl_tree.specs.Statements.{statement as statement_said}
 use Rattle.stl_tree.specs.Verdict.{with_statement, with_item, with_end, body_from, begin_from, misfit_at, one_block, with_heading, program_of, program_with}
 use Rattle.stl_tree.specs.declared.program.Instr.{Instr}
 use Rattle.stl_tree.specs.declared.program.Program.{Program}
@@ -96,10 +97,10 @@ parts_of line (Ok op) (Err refused) instrs e = absurd cc
 parts_of line (Err reason) behind instrs e = absurd cc
 
 -- a statement that is read reaches its `;` and has a form
-form_of : (b : Bool) (o : Option Op) (reason : Reason) (op : Op) → (if b then ok_or o reason else Err reason) ≡ Ok op → (b ≡ true) × (o ≡ Some op)
-form_of true (Some x) reason op e = (refl, cc)
-form_of true None reason op e = absurd cc
-form_of false o reason op e = absurd cc
+form_of : (b : Bool) (o : Option Op) (reason other : Reason) (op : Op) → (if b then ok_or o reason else Err other) ≡ Ok op → (b ≡ true) × (o ≡ Some op)
+form_of true (Some x) reason other op e = (refl, cc)
+form_of true None reason other op e = absurd cc
+form_of false o reason other op e = absurd cc
 
 -- the tokens of a statement, and those after its `;`
 taken : (tokens front : List Token) (sign : Token) (rest : List Token) (size : ℕ) → tokens ≡ front ++ (sign ∷ rest) → size ≡ length front → take size tokens ≡ front
@@ -130,7 +131,8 @@ sound_statement : (n : ℕ) → Sound n → (end : Line) (first : Token) (rest :
     → with_statement first.line (statement_of (first ∷ rest)) (body_from end 0 (drop (statement_size (first ∷ rest)) rest)) ≡ Ok instrs → IsBody (first ∷ rest) instrs
 sound_statement n sound end first rest instrs h no_end test e =
     let p = parts_of first.line (statement_of (first ∷ rest)) (body_from end 0 (drop (statement_size (first ∷ rest)) rest)) instrs e in
-    let q = form_of (is_complete (first ∷ rest)) (statement_op (take (statement_size (first ∷ rest)) (first ∷ rest))) (misfit_reason in_body (first ∷ rest)) p.op p.said_is in
+    let q = form_of (is_complete (first ∷ rest)) (statement_op (take (statement_size (first ∷ rest)) (first ∷ rest)))
+    (refusal (first ∷ rest) (statement_said (take (statement_size (first ∷ rest)) (first ∷ rest)))) (misfit_reason in_body (first ∷ rest)) p.op p.said_is in
     let size : statement_size (first ∷ rest) ≡ 1 + statement_size rest = size_open first rest test in
     let reaches : statement_size (first ∷ rest) < length (first ∷ rest) = ltb-true _ _ q.0 in
     let s = split_of rest (let less : statement_size rest < length rest = omega arith in less) in
@@ -193,12 +195,11 @@ complete_statement end first front sign op rest instrs no_end none is ends behin
     let enough : statement_size (first ∷ more) < length (first ∷ more) = omega (arith, size, length-append front (sign ∷ rest)) in
     let reaches : is_complete (first ∷ more) ≡ true = lt-ltb _ _ enough in
     let front_is : take (statement_size (first ∷ more)) (first ∷ more) ≡ first ∷ front = taken (first ∷ more) (first ∷ front) sign rest (statement_size (first ∷ more)) refl size in
+    let of_front = λ (ts : List Token). ok_or (statement_op ts) (refusal (first ∷ more) (statement_said ts)) in
     let said : statement_of (first ∷ more) ≡ Ok op =
-    ap (λ (b : Bool). if b
-    then ok_or (statement_op (take (statement_size (first ∷ more)) (first ∷ more))) (misfit_reason in_body (first ∷ more))
-    else Err (misfit_reason in_body (first ∷ more))) reaches
-    ∙ ap (λ (ts : List Token). ok_or (statement_op ts) (misfit_reason in_body (first ∷ more))) front_is
-    ∙ ap (λ (o : Option Op). ok_or o (misfit_reason in_body (first ∷ more))) is in
+    ap (λ (b : Bool). if b then of_front (take (statement_size (first ∷ more)) (first ∷ more)) else Err (misfit_reason in_body (first ∷ more))) reaches
+    ∙ ap of_front front_is
+    ∙ ap (λ (o : Option Op). ok_or o (refusal (first ∷ more) (statement_said (first ∷ front)))) is in
     let rest_is : drop (statement_size (first ∷ more)) more ≡ rest = left_behind more front sign rest (statement_size (first ∷ more)) refl (omega (arith, size)) in
     let so_far : body_from end 0 (drop (statement_size (first ∷ more)) more) ≡ Ok instrs = ap (λ (ts : List Token). body_from end 0 ts) rest_is ∙ behind in
     at_item end first more no_end

@@ -1,19 +1,26 @@
 -- The operand that is read of a statement is a bit in its area.
-use Rattle.std.proofs.Common.{◌≡◌, ℕ, ◌+◌, ◌-◌, ◌*◌, ◌≤◌, List, [], ◌∷◌, drop, take, Bool, true, false, ◌&&◌, if◌then◌else◌, Option, Some, None, refl, arith}
-use Rattle.std.specs.Prelude.{IfSome, codes, nat_le, option_and_then}
-use Rattle.std.proofs.lemmas.Bool.{leb-true, le-ltb}
+use Rattle.std.proofs.Common.{◌≡◌, ℕ, ◌+◌, ◌-◌, ◌*◌, ◌≤◌, List, [], ◌∷◌, Bool, true, false, ◌&&◌, if◌then◌else◌, Option, Some, None, Result, Ok, Err, refl, arith}
+use Rattle.std.specs.Prelude.{IfSome, nat_le, option_and_then}
+use Rattle.std.proofs.lemmas.Bool.{and_parts, leb-true, le-ltb}
 use Rattle.memory_areas.specs.Access.{is_byte_in}
-use Rattle.memory_areas.specs.declared.place.AreaName.{AreaName}
 use Rattle.s7_base.specs.Tokens.{is_between}
+use Rattle.s7_base.specs.declared.reason.Reason.{Reason}
 use Rattle.s7_base.specs.declared.token.Token.{Token}
 use Rattle.s7_base.specs.declared.word.Width.TheVariants as width
 use Rattle.stl_tree.specs.Accepted.{HasOperand, IsOperand}
-use Rattle.stl_tree.specs.Items.{number_from, number_of, area_of, bit_at, byte_in, is_bit_number, bit_operand, op_with, statement_op}
-use Rattle.stl_tree.specs.Words.{is_word, is_sign, is_word_kind}
+use Rattle.stl_tree.specs.Items.{operand_at, op_with, op_by, op_of, op_said, statement_op}
+use Rattle.stl_tree.specs.Mnemonics.{mnemonic_named}
+use Rattle.stl_tree.specs.Numbers.{number_from, number_of}
+use Rattle.stl_tree.specs.Raw.{place_of}
+use Rattle.stl_tree.specs.Statements.{is_bit_in_area, statement}
+use Rattle.stl_tree.specs.declared.mnemonic.Mnemonic.{Mnemonic}
+use Rattle.stl_tree.specs.declared.mnemonic.Mnemonic.TheVariants as is
 use Rattle.stl_tree.specs.declared.program.Op.{Op}
 use Rattle.stl_tree.specs.declared.program.Op.TheVariants as op
 use Rattle.stl_tree.specs.declared.program.Operand.{Operand}
 use Rattle.stl_tree.specs.declared.program.Operand.TheVariants.{Direct}
+use Rattle.stl_tree.specs.declared.raw.RawOp.{RawOp}
+use Rattle.stl_tree.specs.declared.raw.RawPlace.{RawPlace}
 
 -- Numbers: one that is read is at most the greatest
 
@@ -42,42 +49,16 @@ number_most most (digit ∷ rest) = number_from_most most 0 (digit ∷ rest) (om
 abbrev IsBit : Option Operand → Type 0
 IsBit o = IfSome o (IsOperand width.Bit)
 
-abbrev InArea : AreaName → Option ℕ → Type 0
-InArea name o = IfSome o (λ byte. is_byte_in name width.Bit byte ≡ true)
+tested : (place : RawPlace) (b : Bool) → is_bit_in_area place ≡ b → IsBit (if b then Some (Direct place.area place.byte place.bit) else None)
+tested place true e = let p = and_parts (is_byte_in place.area width.Bit place.byte) (nat_le place.bit 7) e in (p.0, le-ltb 7 place.bit (leb-true place.bit 7 p.1))
+tested place false e = tt
 
-tested : (name : AreaName) (byte : ℕ) (b : Bool) → is_byte_in name width.Bit byte ≡ b → InArea name (if b then Some byte else None)
-tested name byte true e = e
-tested name byte false e = tt
+operand_is : (place : RawPlace) → IsBit (operand_at place)
+operand_is place = tested place (is_bit_in_area place) refl
 
-in_area : (name : AreaName) (o : Option ℕ) → InArea name (byte_in name width.Bit o)
-in_area name None = tt
-in_area name (Some byte) = tested name byte (is_byte_in name width.Bit byte) refl
-
-at_bit : (name : AreaName) (byte : ℕ) (bit : Option ℕ) → is_byte_in name width.Bit byte ≡ true → AtMost 7 bit → IsBit (option_and_then (λ x. Some (Direct name byte x)) bit)
-at_bit name byte None y x = tt
-at_bit name byte (Some bit) y x = (y, le-ltb 7 bit x)
-
-at_byte : (name : AreaName) (byte bit : Option ℕ) → InArea name byte → AtMost 7 bit → IsBit (option_and_then (λ y. option_and_then (λ x. Some (Direct name y x)) bit) byte)
-at_byte name None bit y x = tt
-at_byte name (Some byte) bit y x = at_bit name byte bit y x
-
-bit_is : (name : Option AreaName) (byte bit : List ℕ) → IsBit (bit_at name byte bit)
-bit_is None byte bit = tt
-bit_is (Some name) byte bit = at_byte name (byte_in name width.Bit (number_of 65535 byte)) (number_of 7 bit) (in_area name (number_of 65535 byte)) (number_most 7 bit)
-
-choose_operand : (b : Bool) (x y : Option Operand) → IsBit x → IsBit y → IsBit (if b then x else y)
-choose_operand true x y p q = p
-choose_operand false x y p q = q
-
-operand_is : (tokens : List Token) → IsBit (bit_operand tokens)
-operand_is [] = tt
-operand_is (a ∷ []) = tt
-operand_is (a ∷ b ∷ []) = tt
-operand_is (place ∷ point ∷ bit ∷ []) =
-    choose_operand (is_word_kind place.kind && is_bit_number point bit) _ None (bit_is (area_of (take 1 place.text)) (drop 1 place.text) bit.text) tt
-operand_is (name ∷ byte ∷ point ∷ bit ∷ []) =
-    choose_operand (is_word_kind name.kind && is_word_kind byte.kind && is_bit_number point bit) _ None (bit_is (area_of name.text) byte.text bit.text) tt
-operand_is (a ∷ b ∷ c ∷ d ∷ e ∷ rest) = tt
+operand_in : (place : Option RawPlace) → IsBit (option_and_then operand_at place)
+operand_in None = tt
+operand_in (Some place) = operand_is place
 
 -- Statements
 
@@ -90,20 +71,25 @@ IsStatement op.BlockEnd = ⊥
 abbrev MayBe : Option Op → Type 0
 MayBe o = IfSome o IsStatement
 
-choose_op : (b : Bool) (x y : Option Op) → MayBe x → MayBe y → MayBe (if b then x else y)
-choose_op true x y p q = p
-choose_op false x y p q = q
+with_is : (what : Mnemonic) (bit : Operand) → IsOperand width.Bit bit → MayBe (op_with what bit)
+with_is (is.Check check) bit h = h
+with_is is.Assign bit h = h
+with_is is.Later bit h = tt
+with_is (is.LeftOut kind) bit h = tt
 
-at_operand : (mnemonic : Token) (o : Option Operand) → IsBit o → MayBe (option_and_then (op_with mnemonic) o)
-at_operand mnemonic None h = tt
-at_operand mnemonic (Some bit) h =
-    choose_op (is_word (codes "A") mnemonic) _ _ h
-    (choose_op (is_word (codes "AN") mnemonic) _ _ h
-    (choose_op (is_word (codes "O") mnemonic) _ _ h
-    (choose_op (is_word (codes "ON") mnemonic) _ _ h
-    (choose_op (is_sign (codes "=") mnemonic) (Some (op.Assign bit)) None h tt))))
+by_is : (what : Option Mnemonic) (o : Option Operand) → IsBit o → MayBe (op_by what o)
+by_is None o h = tt
+by_is (Some what) None h = tt
+by_is (Some what) (Some bit) h = with_is what bit h
+
+op_is : (raw : RawOp) → MayBe (op_of raw)
+unfolding op_of
+op_is raw = by_is (mnemonic_named raw.mnemonic) (option_and_then operand_at (place_of raw.operand)) (operand_in (place_of raw.operand))
+
+said_is : (said : Result RawOp Reason) → MayBe (op_said said)
+said_is (Ok raw) = op_is raw
+said_is (Err reason) = tt
 
 -- what a statement says is one
 pub statement_is : (tokens : List Token) → MayBe (statement_op tokens)
-statement_is [] = tt
-statement_is (mnemonic ∷ operand) = at_operand mnemonic (bit_operand operand) (operand_is operand)
+statement_is tokens = said_is (statement tokens)

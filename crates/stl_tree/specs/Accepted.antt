@@ -1,7 +1,6 @@
 -- The rules that a program keeps where the verdict gives it.
 use Rattle.std.specs.Prelude.{◌≡◌, ◌≢◌, ℕ, ◌≤◌, true, false, List, [], ◌∷◌, All, None, Ok}
 use Rattle.memory_areas.specs.Access.{is_byte_in, is_unaligned}
-use Rattle.memory_areas.specs.Areas.{AreBlocks}
 use Rattle.s7_base.specs.declared.word.Width.{Width}
 use Rattle.s7_base.specs.declared.word.Width.TheVariants as width
 use Rattle.stl_tree.specs.StlRun.{block_named}

@@ -1,11 +1,16 @@
 pub mod Accepted
 pub mod Grammar
+pub mod InstructionForms
 pub mod Instructions
 pub mod Items
+pub mod Mnemonics
 pub mod Now
+pub mod Numbers
 pub mod Operands
+pub mod Raw
 pub mod Registers
 pub mod RunLaws
+pub mod Statements
 pub mod StlRun
 pub mod Verdict
 pub mod Words

@@ -7,15 +7,23 @@
 //! name, the instruction table and the run, whose laws `run_laws` proves.
 #![tactic(auto)]
 
+pub use mnemonic::{Mnemonic, Read};
 pub use number::number_of;
 pub use program::{
     Actual, BitArg, Block, BlockCall, BlockName, Call, Formal, Instance, Instr, Mode, Op, Operand,
     Program, Symbol,
 };
+pub use raw::{
+    Ar, BlockKind, Constant, DeclType, Declaration, ElemType, InitialItem, PathStep, RawActual,
+    RawBlock, RawCall, RawData, RawDataKind, RawInitial, RawInstr, RawName, RawOp, RawOperand,
+    RawPlace, RawPointer, RawProgram, SymbolAddress, SymbolLine,
+};
 pub use run_laws::{end_stays, steps_add};
 pub use source_laws::{verdict_accepts_the_grammar, verdict_is_accepted};
 
+mod mnemonic;
 mod number;
 mod program;
+mod raw;
 mod run_laws;
 mod source_laws;

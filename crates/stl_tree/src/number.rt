@@ -1,7 +1,7 @@
 //! Decimal numbers.
 ghost use Rattle.std.specs.Prelude.{◌≡◌, ◌+◌, ◌*◌, ◌-◌, ◌≤◌, ◌&&◌, nat_le, IfSome};
 ghost use Rattle.s7_base.specs.Tokens.{is_between};
-ghost use Rattle.stl_tree.specs.Items.{number_of};
+ghost use Rattle.stl_tree.specs.Numbers.{number_of};
 
 fn is_next_digit(most: u64, value: u64, digit: u8) -> bool
     requires { value ≤ most }

@@ -1,0 +1,3 @@
+mod InstructionLaws
+mod TableLaws
+mod Tables

@@ -1,0 +1,17 @@
+//! Reads the tokens of one statement of STL, without its `;`: its mnemonic and its operand.
+//!
+//! Stands on `stl_tree`, which has the table of mnemonics and the forms of operands as definitions. The
+//! code has the table a second time, as data, and one look-up for all rows.
+#![tactic(auto)]
+
+pub use laws::{instructions_have_forms, mnemonics_are_longest};
+pub use operand::is_bit_in_area;
+pub use statement::{begins_with_label, instruction};
+pub use table::{begins_with_mnemonic, mnemonic_named};
+pub use words::{is_sign, is_word, is_word_kind};
+
+mod laws;
+mod operand;
+mod statement;
+mod table;
+mod words;

@@ -1,0 +1,301 @@
+//! Reads the operand of an instruction.
+ghost use Rattle.std.specs.Prelude.{◌≡◌, ◌&&◌, ◌||◌, map, option_map};
+ghost use Rattle.std.specs.List.{find, list_all};
+ghost use Rattle.s7_base.specs.Tokens.{is_between};
+ghost use Rattle.stl_tree.specs.Statements.{area_of, area_of_letter, bit_of, is_bit_in_area, in_area, bit_at, is_bit_number, short_bit, long_bit, are_digits, is_named, is_numbered, has_form, left_out_forms, fitting, or_else, short_at, long_at, left_out_by, bit_operand, at_place, operand_of};
+ghost use Rattle.stl_instructions.specs.inner.Rows.{seen};
+
+use crate::words::{is_sign, is_word, is_word_kind};
+use memory_areas::{AreaName, is_byte_in};
+use s7_base::{Kind, Token, Width, front_of, is_same_word, rest_after};
+use stl_tree::{Mnemonic, RawOperand, RawPlace, Read, number_of};
+
+/// A form that is left out where a bit may stand: a word with a number, or with a bracket where it may be
+/// indirect, and its kind.
+#[derive(Clone, Copy)]
+pub struct NamedForm {
+    word: &'static str,
+    is_indirect: bool,
+    kind: Kind,
+}
+
+/// Timers, counters, and the peripheral inputs and outputs.
+static LEFT_OUT_FORMS: [NamedForm; 8] = [
+    NamedForm {
+        word: "T",
+        is_indirect: false,
+        kind: Kind::Timer,
+    },
+    NamedForm {
+        word: "C",
+        is_indirect: false,
+        kind: Kind::Counter,
+    },
+    NamedForm {
+        word: "PIB",
+        is_indirect: true,
+        kind: Kind::Peripheral,
+    },
+    NamedForm {
+        word: "PIW",
+        is_indirect: true,
+        kind: Kind::Peripheral,
+    },
+    NamedForm {
+        word: "PID",
+        is_indirect: true,
+        kind: Kind::Peripheral,
+    },
+    NamedForm {
+        word: "PQB",
+        is_indirect: true,
+        kind: Kind::Peripheral,
+    },
+    NamedForm {
+        word: "PQW",
+        is_indirect: true,
+        kind: Kind::Peripheral,
+    },
+    NamedForm {
+        word: "PQD",
+        is_indirect: true,
+        kind: Kind::Peripheral,
+    },
+];
+
+fn area_of_letter(letter: u8) -> Option<AreaName>
+    ensures { result ≡ area_of_letter letter }
+{
+    match letter {
+        b'I' => Some(AreaName::I),
+        b'Q' => Some(AreaName::Q),
+        b'M' => Some(AreaName::M),
+        _ => None,
+    }
+}
+
+fn area_of(word: &[u8]) -> Option<AreaName>
+    ensures { result ≡ area_of word.now }
+{
+    match word {
+        [letter] => area_of_letter(letter.to_ascii_uppercase()),
+        _ => None,
+    }
+}
+
+/// The place is a bit of its area.
+pub fn is_bit_in_area(place: RawPlace) -> bool
+    ensures { result ≡ is_bit_in_area place }
+{
+    is_byte_in(place.area, Width::Bit, place.byte) && place.bit <= 7
+}
+
+fn in_area(place: RawPlace) -> Option<RawPlace>
+    ensures { result ≡ in_area place }
+{
+    if is_bit_in_area(place) {
+        Some(place)
+    } else {
+        None
+    }
+}
+
+/// A bit by its area, its byte and its number, the byte within the area.
+fn bit_at(area: Option<AreaName>, byte: &[u8], bit: &[u8]) -> Option<RawPlace>
+    ensures { result ≡ bit_at area byte.now bit.now }
+{
+    let area = area?;
+    let byte = number_of(65535, byte)? as u32;
+    let bit = number_of(7, bit)? as u32;
+    in_area(RawPlace {
+        block: None,
+        area,
+        width: Width::Bit,
+        byte,
+        bit,
+    })
+}
+
+/// A point and a number with no blank before either.
+fn is_bit_number(point: &Token, bit: &Token) -> bool
+    ensures { result ≡ is_bit_number point.now bit.now }
+{
+    is_sign(point, ".") && point.glued && is_word_kind(bit) && bit.glued
+}
+
+/// `I0.0`: the area and the byte in one word.
+fn short_bit(place: &Token, point: &Token, bit: &Token) -> Option<RawPlace>
+    ensures { result ≡ short_bit place.now point.now bit.now }
+{
+    if !(is_word_kind(place) && is_bit_number(point, bit)) {
+        return None;
+    }
+    match place.text.as_slice() {
+        [letter, byte @ ..] => bit_at(
+            area_of_letter(letter.to_ascii_uppercase()),
+            byte,
+            bit.text.as_slice(),
+        ),
+        [] => None,
+    }
+}
+
+/// `I 0.0`: the area and the byte in a word each.
+fn long_bit(name: &Token, byte: &Token, point: &Token, bit: &Token) -> Option<RawPlace>
+    ensures { result ≡ long_bit name.now byte.now point.now bit.now }
+{
+    if is_word_kind(name) && is_word_kind(byte) && is_bit_number(point, bit) {
+        bit_at(
+            area_of(name.text.as_slice()),
+            byte.text.as_slice(),
+            bit.text.as_slice(),
+        )
+    } else {
+        None
+    }
+}
+
+fn fitting(size: usize, place: Option<RawPlace>) -> Read<RawPlace>
+    ensures { result ≡ fitting size place }
+{
+    match place {
+        Some(place) => Read::Fits(place, size),
+        None => Read::No,
+    }
+}
+
+fn short_at(tokens: &[Token]) -> Read<RawPlace>
+    ensures { result ≡ short_at tokens.now }
+{
+    match tokens {
+        [place, point, bit, ..] => fitting(3, short_bit(place, point, bit)),
+        _ => Read::No,
+    }
+}
+
+fn long_at(tokens: &[Token]) -> Read<RawPlace>
+    ensures { result ≡ long_at tokens.now }
+{
+    match tokens {
+        [name, byte, point, bit, ..] => fitting(4, long_bit(name, byte, point, bit)),
+        _ => Read::No,
+    }
+}
+
+/// One or more digits.
+fn are_digits(word: &[u8]) -> bool
+    ensures { result ≡ are_digits word.now }
+{
+    match word {
+        [] => false,
+        _ => all_digits(word),
+    }
+}
+
+fn all_digits(word: &[u8]) -> bool
+    ensures { result ≡ list_all (λ b. is_between 48 57 b) word.now }
+{
+    word.iter().all(|b| b.is_ascii_digit())
+}
+
+fn is_named(form: &NamedForm, tokens: &[Token]) -> bool
+    ensures { result ≡ is_named (seen form.now) tokens.now }
+{
+    match tokens {
+        [next, ..] => {
+            (is_word_kind(next) && are_digits(next.text.as_slice()))
+                || (form.is_indirect && is_sign(next, "["))
+        }
+        [] => false,
+    }
+}
+
+/// The word is this one and a number, without a blank.
+fn is_numbered(token: &Token, word: &str) -> bool
+    ensures { result ≡ is_numbered word.now token.now }
+{
+    let text = token.text.as_slice();
+    is_word_kind(token)
+        && is_same_word(front_of(text, word.len()), word)
+        && are_digits(rest_after(text, word.len()))
+}
+
+/// A form that is left out stands at the front, in one word or in two.
+fn has_form(form: &NamedForm, tokens: &[Token]) -> bool
+    ensures { result ≡ has_form tokens.now (seen form.now) }
+{
+    match tokens {
+        [first, rest @ ..] => {
+            (is_word(first, form.word) && is_named(form, rest)) || is_numbered(first, form.word)
+        }
+        [] => false,
+    }
+}
+
+fn form_found(tokens: &[Token], table: &[NamedForm]) -> Option<NamedForm>
+    ensures { result ≡ find (λ f. has_form tokens.now (seen f)) table.now }
+{
+    table.iter().copied().find(|form| has_form(form, tokens))
+}
+
+/// The first form of a table that stands at the front.
+fn first_form(tokens: &[Token], table: &[NamedForm]) -> Option<NamedForm>
+    ensures { option_map seen result ≡ find (has_form tokens.now) (map seen table.now) }
+{
+    form_found(tokens, table)
+}
+
+fn form_at(tokens: &[Token]) -> Option<NamedForm>
+    ensures { option_map seen result ≡ find (has_form tokens.now) left_out_forms }
+{
+    first_form(tokens, &LEFT_OUT_FORMS)
+}
+
+fn left_out_at(tokens: &[Token]) -> Read<RawPlace>
+    ensures { result ≡ left_out_by (find (has_form tokens.now) left_out_forms) }
+{
+    match form_at(tokens) {
+        Some(form) => Read::LeftOut(form.kind),
+        None => Read::No,
+    }
+}
+
+/// What stands where a bit may stand.
+fn bit_operand(tokens: &[Token]) -> Read<RawPlace>
+    ensures { result ≡ bit_operand tokens.now }
+{
+    match short_at(tokens) {
+        Read::No => long_or_left_out(tokens),
+        read => read,
+    }
+}
+
+fn long_or_left_out(tokens: &[Token]) -> Read<RawPlace>
+    ensures { result ≡ or_else (long_at tokens.now) (left_out_by (find (has_form tokens.now) left_out_forms)) }
+{
+    match long_at(tokens) {
+        Read::No => left_out_at(tokens),
+        read => read,
+    }
+}
+
+fn at_place(read: Read<RawPlace>) -> Read<RawOperand>
+    ensures { result ≡ at_place read }
+{
+    match read {
+        Read::Fits(place, size) => Read::Fits(RawOperand::At(place), size),
+        Read::LeftOut(kind) => Read::LeftOut(kind),
+        Read::No => Read::No,
+    }
+}
+
+/// The operand of an instruction.
+pub fn operand_of(what: Mnemonic, tokens: &[Token]) -> Read<RawOperand>
+    ensures { result ≡ operand_of what tokens.now }
+{
+    match what {
+        Mnemonic::Check(_) | Mnemonic::Assign => at_place(bit_operand(tokens)),
+        Mnemonic::Later => Read::No,
+        Mnemonic::LeftOut(kind) => Read::LeftOut(kind),
+    }
+}

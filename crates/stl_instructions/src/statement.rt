@@ -1,0 +1,117 @@
+//! Reads one statement.
+ghost use Rattle.std.specs.Prelude.{◌≡◌, IfOk, length};
+ghost use Rattle.s7_base.specs.Answers.{Answers};
+ghost use Rattle.stl_tree.specs.Statements.{answered, is_label, begins_with_label, name_of, size_with, instr_with, with_operand, with_mnemonic, statement, instruction_of};
+ghost use Rattle.stl_tree.specs.Mnemonics.{mnemonic_at};
+ghost use Rattle.stl_instructions.specs.inner.Answers.{Says};
+ghost use Rattle.stl_instructions.specs.inner.Rows.{view};
+
+use crate::operand::operand_of;
+use crate::table::{Row, mnemonic_at};
+use crate::words::{is_sign, is_word_kind};
+use s7_base::{Kind, Line, List, NoMemory, Reason, Rejection, Token, rest_after};
+use std::alloc::Global;
+use stl_tree::{RawInstr, RawOp, RawOperand, Read};
+
+/// The kind by which a form that is left out is refused: none but `NotBuilt` is built yet.
+fn answered(_kind: Kind) -> Kind
+    ensures { result ≡ answered _kind }
+{
+    Kind::NotBuilt
+}
+
+/// One to four letters, digits or `_`, the first of them no digit.
+fn is_label(word: &[u8]) -> bool
+    ensures { result ≡ is_label word.now }
+{
+    match word {
+        [first, rest @ ..] => rest.len() < 4 && !first.is_ascii_digit(),
+        [] => false,
+    }
+}
+
+/// A label and its colon stand at the front.
+pub fn begins_with_label(tokens: &[Token]) -> bool
+    ensures { result ≡ begins_with_label tokens.now }
+{
+    match tokens {
+        [first, second, ..] => is_word_kind(first)
+            && is_label(first.text.as_slice())
+            && is_sign(second, ":"),
+        _ => false,
+    }
+}
+
+/// The name of a mnemonic.
+fn name_of(alloc: Global, row: Row) -> Result<List<u8>, NoMemory>
+    ensures { IfOk result (λ name. name ≡ name_of (view row)) }
+{
+    let mut name = Vec::from_slice(alloc, row.0.as_bytes())?;
+    name.extend_from_slice(row.1.as_bytes())?;
+    Ok(List::from_vec(name))
+}
+
+/// How many tokens a mnemonic takes, by its second part.
+fn size_with(second: &str) -> usize
+    ensures { result ≡ size_with second.now }
+{
+    if second.is_empty() { 1 } else { 2 }
+}
+
+/// A mnemonic with what was read of the tokens behind it, of which the operand takes all.
+fn with_operand(row: Row, size: usize, read: Read<RawOperand>) -> Result<(Row, RawOperand), Reason>
+    ensures { Says result (with_operand (name_of (view row)) size read) }
+{
+    match read {
+        Read::Fits(operand, taken) if taken == size => Ok((row, operand)),
+        Read::LeftOut(kind) => Err(Reason::Unsupported(answered(kind))),
+        _ => Err(Reason::Unsupported(Kind::NotBuilt)),
+    }
+}
+
+/// What the tokens of a statement say.
+fn statement(tokens: &[Token]) -> Result<(Row, RawOperand), Reason>
+    ensures { Says result (statement tokens.now) }
+{
+    if begins_with_label(tokens) {
+        return Err(Reason::Unsupported(Kind::NotBuilt));
+    }
+    unlabelled(tokens)
+}
+
+fn unlabelled(tokens: &[Token]) -> Result<(Row, RawOperand), Reason>
+    ensures { Says result (with_mnemonic tokens.now (mnemonic_at tokens.now)) }
+{
+    match mnemonic_at(tokens) {
+        Some(row) => {
+            let behind = rest_after(tokens, size_with(row.1));
+            with_operand(row, behind.len(), operand_of(row.2, behind))
+        }
+        None => Err(Reason::BadStatement),
+    }
+}
+
+fn on_line(alloc: Global, line: Line, row: Row, operand: RawOperand) -> Result<RawInstr, NoMemory>
+    ensures { IfOk result (λ instr. instr ≡ instr_with line (name_of (view row)) operand) }
+{
+    let mnemonic = name_of(alloc, row)?;
+    Ok(RawInstr {
+        label: None,
+        line,
+        op: RawOp { mnemonic, operand },
+    })
+}
+
+/// The instruction that the tokens of one statement are, without its `;`.
+#[tactic(auto, unfolding(stl_tree::specs::Statements::instruction_of))]
+pub fn instruction(alloc: Global, tokens: &[Token]) -> Result<RawInstr, Rejection>
+    ensures { Answers result (instruction_of tokens.now) }
+{
+    let [first, ..] = tokens else {
+        return Err(Rejection::Refused(Line(1), Reason::BadStatement));
+    };
+    match statement(tokens) {
+        Ok((row, operand)) => Ok(on_line(alloc, first.line, row, operand)?),
+        Err(reason) => Err(Rejection::Refused(first.line, reason)),
+    }
+}

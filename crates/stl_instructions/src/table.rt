@@ -1,0 +1,262 @@
+//! The table of mnemonics.
+ghost use Rattle.std.specs.Prelude.{◌≡◌, ◌&&◌, ◌||◌, codes, map, option_map};
+ghost use Rattle.std.specs.List.{find};
+ghost use Rattle.stl_tree.specs.Mnemonics.{goes_on, stands_at, mnemonic_at, begins_with_mnemonic, has_name, rows, mnemonic_named};
+ghost use Rattle.stl_tree.specs.Words.{is_sign, is_spelled};
+ghost use Rattle.stl_instructions.specs.inner.Rows.{view};
+
+use crate::words::{is_sign, is_spelled};
+use s7_base::{Check, Kind, Token, front_of, is_same_word, rest_after};
+use stl_tree::Mnemonic;
+
+/// A row: a word or a sign, the word or sign behind it, if there is one, and what the mnemonic is.
+#[derive(Clone, Copy)]
+pub struct Row(pub &'static str, pub &'static str, pub Mnemonic);
+
+/// An instruction that is not built yet.
+const LATER: Mnemonic = Mnemonic::Later;
+
+/// The mnemonics. Of two that begin a statement the longer one stands first.
+static ROWS: [Row; 155] = [
+    Row("A", "(", LATER),
+    Row("A", "", Mnemonic::Check(Check::A)),
+    Row("AN", "(", LATER),
+    Row("AN", "", Mnemonic::Check(Check::An)),
+    Row("O", "(", LATER),
+    Row("O", "", Mnemonic::Check(Check::O)),
+    Row("ON", "(", LATER),
+    Row("ON", "", Mnemonic::Check(Check::On)),
+    Row("=", "", Mnemonic::Assign),
+    Row("X", "(", LATER),
+    Row("X", "", LATER),
+    Row("XN", "(", LATER),
+    Row("XN", "", LATER),
+    Row(")", "MCR", Mnemonic::LeftOut(Kind::MasterControl)),
+    Row(")", "", LATER),
+    Row("S", "", LATER),
+    Row("R", "", LATER),
+    Row("SET", "", LATER),
+    Row("CLR", "", LATER),
+    Row("NOT", "", LATER),
+    Row("SAVE", "", LATER),
+    Row("FP", "", LATER),
+    Row("FN", "", LATER),
+    Row("L", "", LATER),
+    Row("T", "", LATER),
+    Row("+", "I", LATER),
+    Row("+", "D", LATER),
+    Row("+", "R", Mnemonic::LeftOut(Kind::Real)),
+    Row("-", "I", LATER),
+    Row("-", "D", LATER),
+    Row("-", "R", Mnemonic::LeftOut(Kind::Real)),
+    Row("*", "I", LATER),
+    Row("*", "D", LATER),
+    Row("*", "R", Mnemonic::LeftOut(Kind::Real)),
+    Row("/", "I", LATER),
+    Row("/", "D", LATER),
+    Row("/", "R", Mnemonic::LeftOut(Kind::Real)),
+    Row("+", "AR1", LATER),
+    Row("+", "AR2", LATER),
+    Row("+", "", LATER),
+    Row("==", "I", LATER),
+    Row("==", "D", LATER),
+    Row("==", "R", Mnemonic::LeftOut(Kind::Real)),
+    Row("<>", "I", LATER),
+    Row("<>", "D", LATER),
+    Row("<>", "R", Mnemonic::LeftOut(Kind::Real)),
+    Row(">", "I", LATER),
+    Row(">", "D", LATER),
+    Row(">", "R", Mnemonic::LeftOut(Kind::Real)),
+    Row("<", "I", LATER),
+    Row("<", "D", LATER),
+    Row("<", "R", Mnemonic::LeftOut(Kind::Real)),
+    Row(">=", "I", LATER),
+    Row(">=", "D", LATER),
+    Row(">=", "R", Mnemonic::LeftOut(Kind::Real)),
+    Row("<=", "I", LATER),
+    Row("<=", "D", LATER),
+    Row("<=", "R", Mnemonic::LeftOut(Kind::Real)),
+    Row("MOD", "", LATER),
+    Row("INC", "", LATER),
+    Row("DEC", "", LATER),
+    Row("SLW", "", LATER),
+    Row("SRW", "", LATER),
+    Row("SSI", "", LATER),
+    Row("SLD", "", LATER),
+    Row("SRD", "", LATER),
+    Row("SSD", "", LATER),
+    Row("RLD", "", LATER),
+    Row("RRD", "", LATER),
+    Row("RLDA", "", LATER),
+    Row("RRDA", "", LATER),
+    Row("AW", "", LATER),
+    Row("OW", "", LATER),
+    Row("XOW", "", LATER),
+    Row("AD", "", LATER),
+    Row("OD", "", LATER),
+    Row("XOD", "", LATER),
+    Row("BTI", "", LATER),
+    Row("BTD", "", LATER),
+    Row("ITB", "", LATER),
+    Row("DTB", "", LATER),
+    Row("ITD", "", LATER),
+    Row("INVI", "", LATER),
+    Row("INVD", "", LATER),
+    Row("CAW", "", LATER),
+    Row("CAD", "", LATER),
+    Row("NEGI", "", LATER),
+    Row("NEGD", "", LATER),
+    Row("TAK", "", LATER),
+    Row("PUSH", "", LATER),
+    Row("POP", "", LATER),
+    Row("LAR1", "", LATER),
+    Row("LAR2", "", LATER),
+    Row("TAR1", "", LATER),
+    Row("TAR2", "", LATER),
+    Row("CAR", "", LATER),
+    Row("OPN", "", LATER),
+    Row("CDB", "", LATER),
+    Row("NOP", "", LATER),
+    Row("BLD", "", LATER),
+    Row("JU", "", LATER),
+    Row("JC", "", LATER),
+    Row("JCN", "", LATER),
+    Row("JCB", "", LATER),
+    Row("JNB", "", LATER),
+    Row("JBI", "", LATER),
+    Row("JNBI", "", LATER),
+    Row("JO", "", LATER),
+    Row("JOS", "", LATER),
+    Row("JZ", "", LATER),
+    Row("JN", "", LATER),
+    Row("JP", "", LATER),
+    Row("JM", "", LATER),
+    Row("JPZ", "", LATER),
+    Row("JMZ", "", LATER),
+    Row("JUO", "", LATER),
+    Row("LOOP", "", LATER),
+    Row("JL", "", LATER),
+    Row("BE", "", LATER),
+    Row("BEU", "", LATER),
+    Row("BEC", "", LATER),
+    Row("CALL", "", LATER),
+    Row("UC", "", LATER),
+    Row("CC", "", LATER),
+    Row("FR", "", LATER),
+    Row("LC", "", LATER),
+    Row("SP", "", Mnemonic::LeftOut(Kind::Timer)),
+    Row("SE", "", Mnemonic::LeftOut(Kind::Timer)),
+    Row("SD", "", Mnemonic::LeftOut(Kind::Timer)),
+    Row("SS", "", Mnemonic::LeftOut(Kind::Timer)),
+    Row("SF", "", Mnemonic::LeftOut(Kind::Timer)),
+    Row("CU", "", Mnemonic::LeftOut(Kind::Counter)),
+    Row("CD", "", Mnemonic::LeftOut(Kind::Counter)),
+    Row("RND", "+", Mnemonic::LeftOut(Kind::Real)),
+    Row("RND", "-", Mnemonic::LeftOut(Kind::Real)),
+    Row("RND", "", Mnemonic::LeftOut(Kind::Real)),
+    Row("ABS", "", Mnemonic::LeftOut(Kind::Real)),
+    Row("NEGR", "", Mnemonic::LeftOut(Kind::Real)),
+    Row("TRUNC", "", Mnemonic::LeftOut(Kind::Real)),
+    Row("DTR", "", Mnemonic::LeftOut(Kind::Real)),
+    Row("SQR", "", Mnemonic::LeftOut(Kind::Real)),
+    Row("SQRT", "", Mnemonic::LeftOut(Kind::Real)),
+    Row("EXP", "", Mnemonic::LeftOut(Kind::Real)),
+    Row("LN", "", Mnemonic::LeftOut(Kind::Real)),
+    Row("SIN", "", Mnemonic::LeftOut(Kind::Real)),
+    Row("COS", "", Mnemonic::LeftOut(Kind::Real)),
+    Row("TAN", "", Mnemonic::LeftOut(Kind::Real)),
+    Row("ASIN", "", Mnemonic::LeftOut(Kind::Real)),
+    Row("ACOS", "", Mnemonic::LeftOut(Kind::Real)),
+    Row("ATAN", "", Mnemonic::LeftOut(Kind::Real)),
+    Row("MCR", "(", Mnemonic::LeftOut(Kind::MasterControl)),
+    Row("MCRA", "", Mnemonic::LeftOut(Kind::MasterControl)),
+    Row("MCRD", "", Mnemonic::LeftOut(Kind::MasterControl)),
+    Row("ENT", "", Mnemonic::LeftOut(Kind::Accumulators)),
+    Row("LEAVE", "", Mnemonic::LeftOut(Kind::Accumulators)),
+];
+
+fn goes_on(second: &str, tokens: &[Token]) -> bool
+    ensures { result ≡ goes_on second.now tokens.now }
+{
+    if second.is_empty() {
+        return true;
+    }
+    match tokens {
+        [token, ..] => is_spelled(token, second) && (token.glued || is_sign(token, "(")),
+        [] => false,
+    }
+}
+
+fn stands_at(row: &Row, tokens: &[Token]) -> bool
+    ensures { result ≡ stands_at tokens.now (view row.now) }
+{
+    match tokens {
+        [first, rest @ ..] => is_spelled(first, row.0) && goes_on(row.1, rest),
+        [] => false,
+    }
+}
+
+/// The first row of a table whose mnemonic stands at the front.
+fn first_row(tokens: &[Token], table: &[Row]) -> Option<Row>
+    ensures { option_map view result ≡ find (stands_at tokens.now) (map view table.now) }
+{
+    row_found(tokens, table)
+}
+
+fn row_found(tokens: &[Token], table: &[Row]) -> Option<Row>
+    ensures { result ≡ find (λ row. stands_at tokens.now (view row)) table.now }
+{
+    table.iter().copied().find(|row| stands_at(row, tokens))
+}
+
+/// The mnemonic that stands at the front, with its row.
+#[tactic(auto, unfolding(stl_tree::specs::Mnemonics::mnemonic_at))]
+pub fn mnemonic_at(tokens: &[Token]) -> Option<Row>
+    ensures { option_map view result ≡ mnemonic_at tokens.now }
+{
+    first_row(tokens, &ROWS)
+}
+
+/// A mnemonic stands at the front.
+pub fn begins_with_mnemonic(tokens: &[Token]) -> bool
+    ensures { result ≡ begins_with_mnemonic tokens.now }
+{
+    mnemonic_at(tokens).is_some()
+}
+
+fn has_name(row: &Row, name: &[u8]) -> bool
+    ensures { result ≡ has_name name.now (view row.now) }
+{
+    let size = row.0.len();
+    is_same_word(front_of(name, size), row.0) && is_same_word(rest_after(name, size), row.1)
+}
+
+fn row_called(name: &[u8], table: &[Row]) -> Option<Row>
+    ensures { result ≡ find (λ row. has_name name.now (view row)) table.now }
+{
+    table.iter().copied().find(|row| has_name(row, name))
+}
+
+/// The first row of a table whose mnemonic has this name.
+fn row_named(name: &[u8], table: &[Row]) -> Option<Row>
+    ensures { option_map view result ≡ find (has_name name.now) (map view table.now) }
+{
+    row_called(name, table)
+}
+
+fn row_of(name: &[u8]) -> Option<Row>
+    ensures { option_map view result ≡ find (has_name name.now) rows }
+{
+    row_named(name, &ROWS)
+}
+
+/// What the mnemonic of a name is.
+#[tactic(auto, unfolding(stl_tree::specs::Mnemonics::mnemonic_named))]
+pub fn mnemonic_named(name: &[u8]) -> Option<Mnemonic>
+    ensures { result ≡ mnemonic_named name.now }
+{
+    match row_of(name) {
+        Some(row) => Some(row.2),
+        None => None,
+    }
+}

@@ -1,0 +1,67 @@
+-- The instructions that are built, form by form: a mnemonic of the table, and the bit behind it.
+use Rattle.std.specs.Prelude.{◌≡◌, ℕ, ◌≤◌, ◌⊎◌, Bool, true, false, List, [], ◌∷◌, take, drop, codes, Some, None, Ok}
+use Rattle.memory_areas.specs.declared.place.AreaName.{AreaName}
+use Rattle.s7_base.specs.declared.token.Token.{Token}
+use Rattle.stl_tree.specs.Mnemonics.{Row, rows, stands_at, mnemonic_at}
+use Rattle.stl_tree.specs.Numbers.{number_of}
+use Rattle.stl_tree.specs.Statements.{area_of, bit_of, is_bit_in_area, begins_with_label, name_of, size_with, instr_with, instruction_of}
+use Rattle.stl_tree.specs.Words.{is_sign, is_word_kind}
+use Rattle.stl_tree.specs.declared.mnemonic.Mnemonic.{Mnemonic}
+use Rattle.stl_tree.specs.declared.mnemonic.Mnemonic.TheVariants as is
+use Rattle.stl_tree.specs.declared.raw.RawInstr.{RawInstr}
+use Rattle.stl_tree.specs.declared.raw.RawOperand.TheVariants.{At}
+use Rattle.stl_tree.specs.declared.raw.RawPlace.{RawPlace}
+
+-- a point and a bit number from 0 to 7, with no blank before either
+pub record IsBitNumber (point bit : Token) (x : ℕ) : Type 0 where
+  pub point_is : is_sign (codes ".") point ≡ true
+  pub point_glued : point.glued ≡ true
+  pub word : is_word_kind bit.kind ≡ true
+  pub glued : bit.glued ≡ true
+  pub number : number_of 7 bit.text ≡ Some x
+
+-- a bit of its area as it is written: `I0.0` or `I 0.0`
+pub data IsBit : List Token → RawPlace → Type 0 where
+  together : (word point bit : Token) (name : AreaName) (y x : ℕ) →
+      is_word_kind word.kind ≡ true → area_of (take 1 word.text) ≡ Some name
+      → number_of 65535 (drop 1 word.text) ≡ Some y → IsBitNumber point bit x
+      → is_bit_in_area (bit_of name y x) ≡ true
+      → IsBit (word ∷ point ∷ bit ∷ []) (bit_of name y x)
+  apart : (word number point bit : Token) (name : AreaName) (y x : ℕ) →
+      is_word_kind word.kind ≡ true → area_of word.text ≡ Some name
+      → is_word_kind number.kind ≡ true → number_of 65535 number.text ≡ Some y
+      → IsBitNumber point bit x → is_bit_in_area (bit_of name y x) ≡ true
+      → IsBit (word ∷ number ∷ point ∷ bit ∷ []) (bit_of name y x)
+
+-- the operand of the mnemonic is a bit
+abbrev pub takes_bit : Mnemonic → Bool
+takes_bit (is.Check check) = true
+takes_bit is.Assign = true
+takes_bit is.Later = false
+takes_bit (is.LeftOut kind) = false
+
+-- an instruction without a label: a mnemonic whose operand is a bit, and behind it a bit
+pub data IsInstruction : List Token → RawInstr → Type 0 where
+  on_bit : (first : Token) (rest : List Token) (row : Row) (place : RawPlace) →
+      begins_with_label (first ∷ rest) ≡ false → mnemonic_at (first ∷ rest) ≡ Some row
+      → takes_bit row.what ≡ true → IsBit (drop (size_with row.second) (first ∷ rest)) place
+      → IsInstruction (first ∷ rest) (instr_with first.line (name_of row) (At place))
+
+-- tokens are an instruction exactly where they have its form
+pub record InstructionsHaveForms : Type 0 where
+  pub sound : (tokens : List Token) (instr : RawInstr) → instruction_of tokens ≡ Ok instr → IsInstruction tokens instr
+  pub complete : (tokens : List Token) (instr : RawInstr) → IsInstruction tokens instr → instruction_of tokens ≡ Ok instr
+
+-- the row is one of these
+abbrev pub IsAmong : Row → List Row → Type 0
+IsAmong row [] = ⊥
+IsAmong row (first ∷ rest) = (row ≡ first) ⊎ IsAmong row rest
+
+-- the mnemonic at the front is the longest of the table that stands there, and there is none where none does
+pub record MnemonicsAreLongest : Type 0 where
+  pub listed : (tokens : List Token) (row : Row) → mnemonic_at tokens ≡ Some row → IsAmong row rows
+  pub stands : (tokens : List Token) (row : Row) → mnemonic_at tokens ≡ Some row → stands_at tokens row ≡ true
+  pub longest : (tokens : List Token) (row other : Row) → mnemonic_at tokens ≡ Some row → IsAmong other rows
+      → stands_at tokens other ≡ true → size_with other.second ≤ size_with row.second
+  pub none : (tokens : List Token) (other : Row) → mnemonic_at tokens ≡ None → IsAmong other rows
+      → stands_at tokens other ≡ false

@@ -1,0 +1,118 @@
+-- The mnemonics of the language, as one table: how each is written, and what it is. Of two that begin a
+-- statement the longer one stands first, so that the first row that stands at the front is the one meant.
+use Rattle.std.specs.Prelude.{ℕ, Bool, true, false, ◌&&◌, ◌||◌, List, [], ◌∷◌, ◌++◌, map, length, take, drop, codes, Option, option_map}
+use Rattle.std.specs.List.{find}
+use Rattle.std.specs.Option.{is_some}
+use Rattle.s7_base.specs.Tokens.{is_same_word}
+use Rattle.s7_base.specs.declared.check.Check.TheVariants as check
+use Rattle.s7_base.specs.declared.reason.Kind.TheVariants as kind
+use Rattle.s7_base.specs.declared.token.Token.{Token}
+use Rattle.stl_tree.specs.Words.{is_sign, is_spelled}
+use Rattle.stl_tree.specs.declared.mnemonic.Mnemonic.{Mnemonic}
+use Rattle.stl_tree.specs.declared.mnemonic.Mnemonic.TheVariants as is
+
+-- a row: a word or a sign, the word or sign behind it, if there is one, and what the mnemonic is
+pub record Row : Type 0 where
+  pub first : List ℕ
+  pub second : List ℕ
+  pub what : Mnemonic
+
+-- a mnemonic of one word or sign
+abbrev pub one : Mnemonic → List ℕ → Row
+one what first = record { first = first; second = []; what = what }
+
+-- a mnemonic of two
+abbrev pub two : Mnemonic → List ℕ → List ℕ → Row
+two what first second = record { first = first; second = second; what = what }
+
+-- mnemonics of one word or sign that are the same
+abbrev pub ones : Mnemonic → List (List ℕ) → List Row
+ones what words = map (one what) words
+
+-- a word that also opens a bracket
+abbrev pub bracketed : Mnemonic → List ℕ → List Row
+bracketed what word = two is.Later word (codes "(") ∷ one what word ∷ []
+
+-- a sign before I and D, for whole numbers of 16 and 32 bits, and R, for reals
+abbrev pub typed : List ℕ → List Row
+typed sign = two is.Later sign (codes "I") ∷ two is.Later sign (codes "D") ∷ two (is.LeftOut kind.Real) sign (codes "R") ∷ []
+
+-- bit logic, setting, resetting and edges
+abbrev pub bit_rows : List Row
+bit_rows =
+    bracketed (is.Check check.A) (codes "A") ++ bracketed (is.Check check.An) (codes "AN")
+    ++ bracketed (is.Check check.O) (codes "O") ++ bracketed (is.Check check.On) (codes "ON")
+    ++ (one is.Assign (codes "=") ∷ [])
+    ++ bracketed is.Later (codes "X") ++ bracketed is.Later (codes "XN")
+    ++ (two (is.LeftOut kind.MasterControl) (codes ")") (codes "MCR") ∷ [])
+    ++ ones is.Later (codes ")" ∷ codes "S" ∷ codes "R" ∷ codes "SET" ∷ codes "CLR" ∷ codes "NOT" ∷ codes "SAVE" ∷ codes "FP" ∷ codes "FN" ∷ [])
+
+-- loading and transferring, arithmetic, shifts, word logic and conversions in the accumulators
+abbrev pub accumulator_rows : List Row
+accumulator_rows =
+    ones is.Later (codes "L" ∷ codes "T" ∷ [])
+    ++ typed (codes "+") ++ typed (codes "-") ++ typed (codes "*") ++ typed (codes "/")
+    ++ (two is.Later (codes "+") (codes "AR1") ∷ two is.Later (codes "+") (codes "AR2") ∷ one is.Later (codes "+") ∷ [])
+    ++ typed (codes "==") ++ typed (codes "<>") ++ typed (codes ">") ++ typed (codes "<") ++ typed (codes ">=") ++ typed (codes "<=")
+    ++ ones is.Later
+    (codes "MOD" ∷ codes "INC" ∷ codes "DEC" ∷ codes "SLW" ∷ codes "SRW" ∷ codes "SSI" ∷ codes "SLD" ∷ codes "SRD" ∷ codes "SSD"
+    ∷ codes "RLD" ∷ codes "RRD" ∷ codes "RLDA" ∷ codes "RRDA"
+    ∷ codes "AW" ∷ codes "OW" ∷ codes "XOW" ∷ codes "AD" ∷ codes "OD" ∷ codes "XOD"
+    ∷ codes "BTI" ∷ codes "BTD" ∷ codes "ITB" ∷ codes "DTB" ∷ codes "ITD" ∷ codes "INVI" ∷ codes "INVD"
+    ∷ codes "CAW" ∷ codes "CAD" ∷ codes "NEGI" ∷ codes "NEGD"
+    ∷ codes "TAK" ∷ codes "PUSH" ∷ codes "POP" ∷ [])
+
+-- address registers, opening data blocks, what does nothing, jumps, block ends and calls; FR and LC are of the kind of their operand
+abbrev pub control_rows : List Row
+control_rows =
+    ones is.Later
+    (codes "LAR1" ∷ codes "LAR2" ∷ codes "TAR1" ∷ codes "TAR2" ∷ codes "CAR" ∷ codes "OPN" ∷ codes "CDB"
+    ∷ codes "NOP" ∷ codes "BLD"
+    ∷ codes "JU" ∷ codes "JC" ∷ codes "JCN" ∷ codes "JCB" ∷ codes "JNB" ∷ codes "JBI" ∷ codes "JNBI"
+    ∷ codes "JO" ∷ codes "JOS" ∷ codes "JZ" ∷ codes "JN" ∷ codes "JP" ∷ codes "JM" ∷ codes "JPZ" ∷ codes "JMZ"
+    ∷ codes "JUO" ∷ codes "LOOP" ∷ codes "JL"
+    ∷ codes "BE" ∷ codes "BEU" ∷ codes "BEC" ∷ codes "CALL" ∷ codes "UC" ∷ codes "CC" ∷ codes "FR" ∷ codes "LC" ∷ [])
+
+-- the forms that the translator leaves out
+abbrev pub left_out_rows : List Row
+left_out_rows =
+    ones (is.LeftOut kind.Timer) (codes "SP" ∷ codes "SE" ∷ codes "SD" ∷ codes "SS" ∷ codes "SF" ∷ [])
+    ++ ones (is.LeftOut kind.Counter) (codes "CU" ∷ codes "CD" ∷ [])
+    ++ (two (is.LeftOut kind.Real) (codes "RND") (codes "+") ∷ two (is.LeftOut kind.Real) (codes "RND") (codes "-") ∷ [])
+    ++ ones (is.LeftOut kind.Real)
+    (codes "RND" ∷ codes "ABS" ∷ codes "NEGR" ∷ codes "TRUNC" ∷ codes "DTR" ∷ codes "SQR" ∷ codes "SQRT" ∷ codes "EXP" ∷ codes "LN"
+    ∷ codes "SIN" ∷ codes "COS" ∷ codes "TAN" ∷ codes "ASIN" ∷ codes "ACOS" ∷ codes "ATAN" ∷ [])
+    ++ (two (is.LeftOut kind.MasterControl) (codes "MCR") (codes "(") ∷ [])
+    ++ ones (is.LeftOut kind.MasterControl) (codes "MCRA" ∷ codes "MCRD" ∷ [])
+    ++ ones (is.LeftOut kind.Accumulators) (codes "ENT" ∷ codes "LEAVE" ∷ [])
+
+-- the table
+abbrev pub rows : List Row
+rows = bit_rows ++ accumulator_rows ++ control_rows ++ left_out_rows
+
+-- the second part of a mnemonic stands here, or it has none; no blank stands before it but before a bracket
+abbrev pub goes_on : List ℕ → List Token → Bool
+goes_on [] tokens = true
+goes_on (b ∷ second) [] = false
+goes_on (b ∷ second) (token ∷ rest) = is_spelled (b ∷ second) token && (token.glued || is_sign (codes "(") token)
+
+-- the mnemonic of a row stands at the front
+abbrev pub stands_at : List Token → Row → Bool
+stands_at [] row = false
+stands_at (first ∷ rest) row = is_spelled row.first first && goes_on row.second rest
+
+-- the mnemonic that stands at the front
+unfoldable pub mnemonic_at : List Token → Option Row
+mnemonic_at tokens = find (stands_at tokens) rows
+
+abbrev pub begins_with_mnemonic : List Token → Bool
+begins_with_mnemonic tokens = is_some (mnemonic_at tokens)
+
+-- the mnemonic of a row has this name
+abbrev pub has_name : List ℕ → Row → Bool
+has_name name row =
+    is_same_word (take (length row.first) name) row.first && is_same_word (drop (length row.first) name) row.second
+
+-- what the mnemonic of a name is
+unfoldable pub mnemonic_named : List ℕ → Option Mnemonic
+mnemonic_named name = option_map (λ row. row.what) (find (has_name name) rows)

@@ -1,0 +1,231 @@
+-- The tokens of one statement without its `;`: a mnemonic and its operand. An operand is a form that fits, a
+-- listed form that is left out, whatever follows it, or neither.
+use Rattle.std.specs.Prelude.{ℕ, Bool, true, false, not, ◌==◌, ◌&&◌, ◌||◌, nat_lt, nat_le, if◌then◌else◌, List, [], ◌∷◌, ◌++◌, length, take, drop, codes, Option, Some, None, option_and_then, Result, Ok, Err}
+use Rattle.std.specs.Char.{to_ascii_uppercase}
+use Rattle.std.specs.List.{find, list_all}
+use Rattle.memory_areas.specs.Access.{is_byte_in}
+use Rattle.memory_areas.specs.declared.place.AreaName.{AreaName}
+use Rattle.memory_areas.specs.declared.place.AreaName.TheVariants as area
+use Rattle.s7_base.specs.Tokens.{is_between, is_same_word}
+use Rattle.s7_base.specs.declared.reason.Kind.{Kind}
+use Rattle.s7_base.specs.declared.reason.Kind.TheVariants as kind
+use Rattle.s7_base.specs.declared.reason.Line.{Line}
+use Rattle.s7_base.specs.declared.reason.Reason.{Reason}
+use Rattle.s7_base.specs.declared.reason.Reason.TheVariants.{BadStatement, Unsupported}
+use Rattle.s7_base.specs.declared.reason.Rejection.{Rejection}
+use Rattle.s7_base.specs.declared.reason.Rejection.TheVariants.{Refused}
+use Rattle.s7_base.specs.declared.token.Token.{Token}
+use Rattle.s7_base.specs.declared.word.Width.TheVariants as width
+use Rattle.stl_tree.specs.Mnemonics.{Row, mnemonic_at}
+use Rattle.stl_tree.specs.Numbers.{number_of}
+use Rattle.stl_tree.specs.Words.{is_word, is_sign, is_word_kind}
+use Rattle.stl_tree.specs.declared.mnemonic.Mnemonic.{Mnemonic}
+use Rattle.stl_tree.specs.declared.mnemonic.Mnemonic.TheVariants as is
+use Rattle.stl_tree.specs.declared.mnemonic.Read.{Read}
+use Rattle.stl_tree.specs.declared.mnemonic.Read.TheVariants.{Fits, LeftOut, No}
+use Rattle.stl_tree.specs.declared.raw.RawInstr.{RawInstr}
+use Rattle.stl_tree.specs.declared.raw.RawOp.{RawOp}
+use Rattle.stl_tree.specs.declared.raw.RawOperand.{RawOperand}
+use Rattle.stl_tree.specs.declared.raw.RawOperand.TheVariants.{At}
+use Rattle.stl_tree.specs.declared.raw.RawPlace.{RawPlace}
+
+-- Bits
+
+-- the area of a bit operand, by its letter
+abbrev pub area_of_letter : ℕ → Option AreaName
+area_of_letter letter =
+    if letter == 73 then Some area.I
+    else if letter == 81 then Some area.Q
+    else if letter == 77 then Some area.M
+    else None
+
+-- the area of a bit operand, by a word of one letter in either case
+abbrev pub area_of : List ℕ → Option AreaName
+area_of [] = None
+area_of (letter ∷ []) = area_of_letter (to_ascii_uppercase letter)
+area_of (letter ∷ more ∷ rest) = None
+
+-- a bit of an area as it is written
+abbrev pub bit_of : AreaName → ℕ → ℕ → RawPlace
+bit_of name byte bit = record { block = None; area = name; width = width.Bit; byte = byte; bit = bit }
+
+-- the place is a bit of its area
+abbrev pub is_bit_in_area : RawPlace → Bool
+is_bit_in_area place = is_byte_in place.area width.Bit place.byte && nat_le place.bit 7
+
+-- a bit of its area; one that is not in its area is not built yet
+abbrev pub in_area : RawPlace → Option RawPlace
+in_area place = if is_bit_in_area place then Some place else None
+
+-- a bit by its area, its byte and its number
+abbrev pub bit_at : Option AreaName → List ℕ → List ℕ → Option RawPlace
+bit_at None byte bit = None
+bit_at (Some name) byte bit =
+    option_and_then (λ y. option_and_then (λ x. in_area (bit_of name y x)) (number_of 7 bit)) (number_of 65535 byte)
+
+-- a point and a number with no blank before either
+abbrev pub is_bit_number : Token → Token → Bool
+is_bit_number point bit = is_sign (codes ".") point && point.glued && is_word_kind bit.kind && bit.glued
+
+-- `I0.0`: the area and the byte in one word
+abbrev pub short_bit : Token → Token → Token → Option RawPlace
+short_bit place point bit =
+    if is_word_kind place.kind && is_bit_number point bit
+    then bit_at (area_of (take 1 place.text)) (drop 1 place.text) bit.text
+    else None
+
+-- `I 0.0`: the area and the byte in a word each
+abbrev pub long_bit : Token → Token → Token → Token → Option RawPlace
+long_bit name byte point bit =
+    if is_word_kind name.kind && is_word_kind byte.kind && is_bit_number point bit
+    then bit_at (area_of name.text) byte.text bit.text
+    else None
+
+-- Forms that are left out where a bit may stand
+
+-- a form that is left out: a word with a number, or with a bracket where it may be indirect, and its kind
+pub record NamedForm : Type 0 where
+  pub word : List ℕ
+  pub is_indirect : Bool
+  pub kind : Kind
+
+-- such a form whose operand is a number alone
+abbrev pub direct : List ℕ → Kind → NamedForm
+direct word kind = record { word = word; is_indirect = false; kind = kind }
+
+-- a word of the peripheral inputs or outputs
+abbrev pub peripheral : List ℕ → NamedForm
+peripheral word = record { word = word; is_indirect = true; kind = kind.Peripheral }
+
+-- timers, counters, and the peripheral inputs and outputs
+abbrev pub left_out_forms : List NamedForm
+left_out_forms =
+    direct (codes "T") kind.Timer ∷ direct (codes "C") kind.Counter
+    ∷ peripheral (codes "PIB") ∷ peripheral (codes "PIW") ∷ peripheral (codes "PID")
+    ∷ peripheral (codes "PQB") ∷ peripheral (codes "PQW") ∷ peripheral (codes "PQD") ∷ []
+
+-- one or more digits
+abbrev pub are_digits : List ℕ → Bool
+are_digits [] = false
+are_digits (digit ∷ rest) = list_all (λ b. is_between 48 57 b) (digit ∷ rest)
+
+-- what stands behind the word of such a form: a number, or a bracket
+abbrev pub is_named : NamedForm → List Token → Bool
+is_named form [] = false
+is_named form (next ∷ rest) = (is_word_kind next.kind && are_digits next.text) || (form.is_indirect && is_sign (codes "[") next)
+
+-- the token is this word and a number, without a blank
+abbrev pub is_numbered : List ℕ → Token → Bool
+is_numbered word token =
+    is_word_kind token.kind && is_same_word (take (length word) token.text) word && are_digits (drop (length word) token.text)
+
+-- such a form stands at the front, in one word or in two
+abbrev pub has_form : List Token → NamedForm → Bool
+has_form [] form = false
+has_form (first ∷ rest) form = (is_word form.word first && is_named form rest) || is_numbered form.word first
+
+-- Operands
+
+-- what was read takes so many tokens, or it does not stand here
+abbrev pub fitting : ℕ → Option RawPlace → Read RawPlace
+fitting size None = No
+fitting size (Some place) = Fits place size
+
+-- what was read, or else something else
+abbrev pub or_else : Read RawPlace → Read RawPlace → Read RawPlace
+or_else No other = other
+or_else (LeftOut kind) other = LeftOut kind
+or_else (Fits place size) other = Fits place size
+
+abbrev pub short_at : List Token → Read RawPlace
+short_at [] = No
+short_at (a ∷ []) = No
+short_at (a ∷ b ∷ []) = No
+short_at (place ∷ point ∷ bit ∷ rest) = fitting 3 (short_bit place point bit)
+
+abbrev pub long_at : List Token → Read RawPlace
+long_at [] = No
+long_at (a ∷ []) = No
+long_at (a ∷ b ∷ []) = No
+long_at (a ∷ b ∷ c ∷ []) = No
+long_at (name ∷ byte ∷ point ∷ bit ∷ rest) = fitting 4 (long_bit name byte point bit)
+
+abbrev pub left_out_by : Option NamedForm → Read RawPlace
+left_out_by None = No
+left_out_by (Some form) = LeftOut form.kind
+
+-- what stands where a bit may stand
+abbrev pub bit_operand : List Token → Read RawPlace
+bit_operand tokens = or_else (short_at tokens) (or_else (long_at tokens) (left_out_by (find (has_form tokens) left_out_forms)))
+
+-- a place as an operand
+abbrev pub at_place : Read RawPlace → Read RawOperand
+at_place No = No
+at_place (LeftOut kind) = LeftOut kind
+at_place (Fits place size) = Fits (At place) size
+
+-- the operand of an instruction
+abbrev pub operand_of : Mnemonic → List Token → Read RawOperand
+operand_of (is.Check check) tokens = at_place (bit_operand tokens)
+operand_of is.Assign tokens = at_place (bit_operand tokens)
+operand_of is.Later tokens = No
+operand_of (is.LeftOut kind) tokens = LeftOut kind
+
+-- Statements
+
+-- the kind by which a form that is left out is refused: none but NotBuilt is built yet
+abbrev pub answered : Kind → Kind
+answered unbuilt = kind.NotBuilt
+
+-- one to four letters, digits or `_`, the first of them no digit
+abbrev pub is_label : List ℕ → Bool
+is_label [] = false
+is_label (first ∷ rest) = nat_lt (length rest) 4 && not (is_between 48 57 first)
+
+-- a label and its colon stand at the front
+abbrev pub begins_with_label : List Token → Bool
+begins_with_label [] = false
+begins_with_label (first ∷ []) = false
+begins_with_label (first ∷ second ∷ rest) = is_word_kind first.kind && is_label first.text && is_sign (codes ":") second
+
+-- the name of a mnemonic, in capitals
+abbrev pub name_of : Row → List ℕ
+name_of row = row.first ++ row.second
+
+-- how many tokens a mnemonic takes, by its second part
+abbrev pub size_with : List ℕ → ℕ
+size_with [] = 1
+size_with (b ∷ second) = 2
+
+-- a mnemonic with what was read of the tokens behind it, of which the operand takes all
+abbrev pub with_operand : List ℕ → ℕ → Read RawOperand → Result RawOp Reason
+with_operand name size (Fits operand taken) =
+    if taken == size then Ok (record { mnemonic = name; operand = operand }) else Err (Unsupported kind.NotBuilt)
+with_operand name size (LeftOut kind) = Err (Unsupported (answered kind))
+with_operand name size No = Err (Unsupported kind.NotBuilt)
+
+-- a mnemonic and the operand behind it
+abbrev pub with_mnemonic : List Token → Option Row → Result RawOp Reason
+with_mnemonic tokens None = Err BadStatement
+with_mnemonic tokens (Some row) =
+    let behind = drop (size_with row.second) tokens in
+    with_operand (name_of row) (length behind) (operand_of row.what behind)
+
+-- what the tokens of a statement say; labels are not built yet
+abbrev pub statement : List Token → Result RawOp Reason
+statement tokens = if begins_with_label tokens then Err (Unsupported kind.NotBuilt) else with_mnemonic tokens (mnemonic_at tokens)
+
+-- an instruction on a line, by its mnemonic and its operand
+abbrev pub instr_with : Line → List ℕ → RawOperand → RawInstr
+instr_with line mnemonic operand =
+    record { label = None; line = line; op = record { mnemonic = mnemonic; operand = operand } }
+
+-- what was said on a line
+abbrev pub on_line : Line → Result RawOp Reason → Result RawInstr Rejection
+on_line line (Ok op) = Ok (instr_with line op.mnemonic op.operand)
+on_line line (Err reason) = Err (Refused line reason)
+
+-- the instruction that tokens are, on the line of the first of them
+unfoldable pub instruction_of : List Token → Result RawInstr Rejection
+instruction_of [] = Err (Refused (record { 0 = 1 }) BadStatement)
+instruction_of (first ∷ rest) = on_line first.line (statement (first ∷ rest))
