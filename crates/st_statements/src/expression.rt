@@ -1,6 +1,7 @@
 //! Expressions: their types and what they are in the tree, and the rules that are broken in them.
-ghost use Rattle.std.specs.Prelude.{◌≡◌, ◌++◌, IfOk, OnOk};
+ghost use Rattle.std.specs.Prelude.{◌≡◌, ◌++◌, IfOk, OnOk, option_map};
 ghost use Rattle.st_rules.specs.Expressions.{area_read_of, binary_of, choice_of, conversion_of, expression, literal_of, read_of, shift_of, typed_as, unary_of, variable_on};
+ghost use Rattle.st_statements.specs.inner.Operands.{typed_of};
 
 use s7_base::{Boxed, Line, List, NoMemory, Reason, Width};
 use st_rules::broken::{Break, note};
@@ -13,6 +14,25 @@ use st_tree::{
 };
 use std::alloc::Global;
 
+/// An operand: an expression of the tree in the box in which a larger one has it, and its type.
+#[derive(Drop)]
+pub struct Operand {
+    pub ty: StType,
+    pub tree: Boxed<Expr>,
+}
+
+fn boxed(alloc: Global, found: Option<Typed>) -> Result<Option<Operand>, NoMemory>
+    ensures { IfOk result (λ operand. option_map typed_of operand ≡ found) }
+{
+    match found {
+        Some(Typed { ty, tree }) => {
+            let tree = Boxed::new(alloc, tree)?;
+            Ok(Some(Operand { ty, tree }))
+        }
+        None => Ok(None),
+    }
+}
+
 fn typed_as(
     line: Line,
     ty: Option<StType>,
@@ -22,13 +42,12 @@ fn typed_as(
     ensures found { IfOk result (λ found. found ≡ (typed_as line ty tree).found) }
     ensures breaks { OnOk result (breaks.new ≡ breaks.old ++ (typed_as line ty tree).breaks) }
 {
-    match ty {
-        Some(ty) => Ok(Some(Typed { ty, tree })),
-        None => {
-            note(breaks, line, Reason::TypeMismatch)?;
-            Ok(None)
-        }
-    }
+    let Some(ty) = ty else {
+        drop(tree);
+        note(breaks, line, Reason::TypeMismatch)?;
+        return Ok(None);
+    };
+    Ok(Some(Typed { ty, tree }))
 }
 
 fn literal_of(ty: StType, value: i64) -> Typed
@@ -53,32 +72,30 @@ fn read_of(variable: Option<TypedVar>) -> Option<Typed>
 }
 
 fn unary_of(
-    alloc: Global,
     line: Line,
     op: UnaryOp,
-    operand: Option<Typed>,
+    operand: Option<Operand>,
     breaks: &mut List<Break>,
 ) -> Result<Option<Typed>, NoMemory>
-    ensures found { IfOk result (λ found. found ≡ (unary_of line op operand).found) }
-    ensures breaks { OnOk result (breaks.new ≡ breaks.old ++ (unary_of line op operand).breaks) }
+    ensures found { IfOk result (λ found. found ≡ (unary_of line op (option_map typed_of operand)).found) }
+    ensures breaks { OnOk result (breaks.new ≡ breaks.old ++ (unary_of line op (option_map typed_of operand)).breaks) }
 {
     let Some(operand) = operand else {
         return Ok(None);
     };
-    let tree = Expr::Unary(op, Boxed::new(alloc, operand.tree)?);
-    typed_as(line, type_of_unary(op, operand.ty), tree, breaks)
+    let ty = type_of_unary(op, operand.ty);
+    typed_as(line, ty, Expr::Unary(op, operand.tree), breaks)
 }
 
 fn binary_of(
-    alloc: Global,
     line: Line,
     op: BinaryOp,
-    left: Option<Typed>,
-    right: Option<Typed>,
+    left: Option<Operand>,
+    right: Option<Operand>,
     breaks: &mut List<Break>,
 ) -> Result<Option<Typed>, NoMemory>
-    ensures found { IfOk result (λ found. found ≡ (binary_of line op left right).found) }
-    ensures breaks { OnOk result (breaks.new ≡ breaks.old ++ (binary_of line op left right).breaks) }
+    ensures found { IfOk result (λ found. found ≡ (binary_of line op (option_map typed_of left) (option_map typed_of right)).found) }
+    ensures breaks { OnOk result (breaks.new ≡ breaks.old ++ (binary_of line op (option_map typed_of left) (option_map typed_of right)).breaks) }
 {
     let Some(left) = left else {
         return Ok(None);
@@ -87,42 +104,35 @@ fn binary_of(
         return Ok(None);
     };
     let ty = type_of_binary(op, left.ty, right.ty);
-    let tree = Expr::Binary(
-        op,
-        Boxed::new(alloc, left.tree)?,
-        Boxed::new(alloc, right.tree)?,
-    );
-    typed_as(line, ty, tree, breaks)
+    typed_as(line, ty, Expr::Binary(op, left.tree, right.tree), breaks)
 }
 
 fn conversion_of(
-    alloc: Global,
     line: Line,
     from: StType,
     to: StType,
-    operand: Option<Typed>,
+    operand: Option<Operand>,
     breaks: &mut List<Break>,
 ) -> Result<Option<Typed>, NoMemory>
-    ensures found { IfOk result (λ found. found ≡ (conversion_of line from to operand).found) }
-    ensures breaks { OnOk result (breaks.new ≡ breaks.old ++ (conversion_of line from to operand).breaks) }
+    ensures found { IfOk result (λ found. found ≡ (conversion_of line from to (option_map typed_of operand)).found) }
+    ensures breaks { OnOk result (breaks.new ≡ breaks.old ++ (conversion_of line from to (option_map typed_of operand)).breaks) }
 {
     let Some(operand) = operand else {
         return Ok(None);
     };
-    let tree = Expr::Convert(from, to, Boxed::new(alloc, operand.tree)?);
-    typed_as(line, type_of_conversion(from, to, operand.ty), tree, breaks)
+    let ty = type_of_conversion(from, to, operand.ty);
+    typed_as(line, ty, Expr::Convert(from, to, operand.tree), breaks)
 }
 
 fn choice_of(
-    alloc: Global,
     line: Line,
-    gate: Option<Typed>,
-    first: Option<Typed>,
-    second: Option<Typed>,
+    gate: Option<Operand>,
+    first: Option<Operand>,
+    second: Option<Operand>,
     breaks: &mut List<Break>,
 ) -> Result<Option<Typed>, NoMemory>
-    ensures found { IfOk result (λ found. found ≡ (choice_of line gate first second).found) }
-    ensures breaks { OnOk result (breaks.new ≡ breaks.old ++ (choice_of line gate first second).breaks) }
+    ensures found { IfOk result (λ found. found ≡ (choice_of line (option_map typed_of gate) (option_map typed_of first) (option_map typed_of second)).found) }
+    ensures breaks { OnOk result (breaks.new ≡ breaks.old ++ (choice_of line (option_map typed_of gate) (option_map typed_of first) (option_map typed_of second)).breaks) }
 {
     let Some(gate) = gate else {
         return Ok(None);
@@ -134,22 +144,19 @@ fn choice_of(
         return Ok(None);
     };
     let ty = type_of_choice(gate.ty, first.ty, second.ty);
-    let gate = Boxed::new(alloc, gate.tree)?;
-    let first = Boxed::new(alloc, first.tree)?;
-    let second = Boxed::new(alloc, second.tree)?;
-    typed_as(line, ty, Expr::Select(gate, first, second), breaks)
+    let tree = Expr::Select(gate.tree, first.tree, second.tree);
+    typed_as(line, ty, tree, breaks)
 }
 
 fn shift_of(
-    alloc: Global,
     line: Line,
     op: ShiftOp,
-    pattern: Option<Typed>,
-    count: Option<Typed>,
+    pattern: Option<Operand>,
+    count: Option<Operand>,
     breaks: &mut List<Break>,
 ) -> Result<Option<Typed>, NoMemory>
-    ensures found { IfOk result (λ found. found ≡ (shift_of line op pattern count).found) }
-    ensures breaks { OnOk result (breaks.new ≡ breaks.old ++ (shift_of line op pattern count).breaks) }
+    ensures found { IfOk result (λ found. found ≡ (shift_of line op (option_map typed_of pattern) (option_map typed_of count)).found) }
+    ensures breaks { OnOk result (breaks.new ≡ breaks.old ++ (shift_of line op (option_map typed_of pattern) (option_map typed_of count)).breaks) }
 {
     let Some(pattern) = pattern else {
         return Ok(None);
@@ -158,29 +165,23 @@ fn shift_of(
         return Ok(None);
     };
     let ty = type_of_shift(pattern.ty, count.ty);
-    let tree = Expr::Shift(
-        op,
-        Boxed::new(alloc, pattern.tree)?,
-        Boxed::new(alloc, count.tree)?,
-    );
-    typed_as(line, ty, tree, breaks)
+    typed_as(line, ty, Expr::Shift(op, pattern.tree, count.tree), breaks)
 }
 
 fn area_read_of(
-    alloc: Global,
     line: Line,
     width: Width,
-    pointer: Option<Typed>,
+    pointer: Option<Operand>,
     breaks: &mut List<Break>,
 ) -> Result<Option<Typed>, NoMemory>
-    ensures found { IfOk result (λ found. found ≡ (area_read_of line width pointer).found) }
-    ensures breaks { OnOk result (breaks.new ≡ breaks.old ++ (area_read_of line width pointer).breaks) }
+    ensures found { IfOk result (λ found. found ≡ (area_read_of line width (option_map typed_of pointer)).found) }
+    ensures breaks { OnOk result (breaks.new ≡ breaks.old ++ (area_read_of line width (option_map typed_of pointer)).breaks) }
 {
     let Some(pointer) = pointer else {
         return Ok(None);
     };
-    let tree = Expr::AreaRead(width, Boxed::new(alloc, pointer.tree)?);
-    typed_as(line, type_of_read(width, pointer.ty), tree, breaks)
+    let ty = type_of_read(width, pointer.ty);
+    typed_as(line, ty, Expr::AreaRead(width, pointer.tree), breaks)
 }
 
 /// A variable on a line; notes the rule that it breaks.
@@ -203,7 +204,23 @@ pub fn variable_on(
     }
 }
 
+/// An expression on a line that is the operand of another; notes the rules that are broken in it.
+#[cycle(expression)]
+pub fn operand_of(
+    alloc: Global,
+    scope: &Scope,
+    line: Line,
+    raw: &RawExpr,
+    breaks: &mut List<Break>,
+) -> Result<Option<Operand>, NoMemory>
+    ensures found { IfOk result (λ found. option_map typed_of found ≡ (expression scope.now line raw.now).found) }
+    ensures breaks { OnOk result (breaks.new ≡ breaks.old ++ (expression scope.now line raw.now).breaks) }
+{
+    boxed(alloc, expression(alloc, scope, line, raw, breaks)?)
+}
+
 /// An expression on a line; notes the rules that are broken in it.
+#[cycle(expression)]
 pub fn expression(
     alloc: Global,
     scope: &Scope,
@@ -217,33 +234,33 @@ pub fn expression(
     match raw {
         RawExpr::Literal(ty, value) => Ok(Some(literal_of(*ty, *value))),
         RawExpr::Read(raw) => Ok(read_of(variable_on(alloc, scope, line, raw, breaks)?)),
-        RawExpr::Unary(op, operand) => {
-            let operand = expression(alloc, scope, line, operand.get(), breaks)?;
-            unary_of(alloc, line, *op, operand, breaks)
+        RawExpr::Unary(op, value) => {
+            let value = operand_of(alloc, scope, line, value.get(), breaks)?;
+            unary_of(line, *op, value, breaks)
         }
         RawExpr::Binary(op, left, right) => {
-            let left = expression(alloc, scope, line, left.get(), breaks)?;
-            let right = expression(alloc, scope, line, right.get(), breaks)?;
-            binary_of(alloc, line, *op, left, right, breaks)
+            let left = operand_of(alloc, scope, line, left.get(), breaks)?;
+            let right = operand_of(alloc, scope, line, right.get(), breaks)?;
+            binary_of(line, *op, left, right, breaks)
         }
-        RawExpr::Convert(from, to, operand) => {
-            let operand = expression(alloc, scope, line, operand.get(), breaks)?;
-            conversion_of(alloc, line, *from, *to, operand, breaks)
+        RawExpr::Convert(from, to, value) => {
+            let value = operand_of(alloc, scope, line, value.get(), breaks)?;
+            conversion_of(line, *from, *to, value, breaks)
         }
         RawExpr::Select(gate, first, second) => {
-            let gate = expression(alloc, scope, line, gate.get(), breaks)?;
-            let first = expression(alloc, scope, line, first.get(), breaks)?;
-            let second = expression(alloc, scope, line, second.get(), breaks)?;
-            choice_of(alloc, line, gate, first, second, breaks)
+            let gate = operand_of(alloc, scope, line, gate.get(), breaks)?;
+            let first = operand_of(alloc, scope, line, first.get(), breaks)?;
+            let second = operand_of(alloc, scope, line, second.get(), breaks)?;
+            choice_of(line, gate, first, second, breaks)
         }
         RawExpr::Shift(op, pattern, count) => {
-            let pattern = expression(alloc, scope, line, pattern.get(), breaks)?;
-            let count = expression(alloc, scope, line, count.get(), breaks)?;
-            shift_of(alloc, line, *op, pattern, count, breaks)
+            let pattern = operand_of(alloc, scope, line, pattern.get(), breaks)?;
+            let count = operand_of(alloc, scope, line, count.get(), breaks)?;
+            shift_of(line, *op, pattern, count, breaks)
         }
         RawExpr::AreaRead(width, pointer) => {
-            let pointer = expression(alloc, scope, line, pointer.get(), breaks)?;
-            area_read_of(alloc, line, *width, pointer, breaks)
+            let pointer = operand_of(alloc, scope, line, pointer.get(), breaks)?;
+            area_read_of(line, *width, pointer, breaks)
         }
     }
 }

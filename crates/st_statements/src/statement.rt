@@ -1,11 +1,12 @@
 //! Statements: what they are in the tree, and the rules that are broken in them.
-ghost use Rattle.std.specs.Prelude.{◌≡◌, ◌++◌, map, IfOk, OnOk};
+ghost use Rattle.std.specs.Prelude.{◌≡◌, ◌++◌, map, IfOk, OnOk, option_map};
 ghost use Rattle.st_rules.specs.Broken.{breaks_in, found_in};
 ghost use Rattle.st_rules.specs.Statements.{action, area_write_of, arm, arm_of, arms_on, assignment_of, case_arm, case_arms_on, case_of, have_type, label_breaks, selector, selector_of, statement, statements, test, test_of, type_of_selector, while_of};
+ghost use Rattle.st_statements.specs.inner.Operands.{typed_of};
 
-use crate::expression::{expression, variable_on};
+use crate::expression::{Operand, expression, operand_of, variable_on};
 use crate::invocation::invocation;
-use s7_base::{Boxed, Line, List, NoMemory, Reason, Width};
+use s7_base::{Line, List, NoMemory, Reason, Width};
 use st_rules::broken::{Break, note};
 use st_rules::expression::Typed;
 use st_rules::lists::keep;
@@ -26,30 +27,30 @@ fn assignment_of(
     ensures found { IfOk result (λ found. found ≡ (assignment_of line target value).found) }
     ensures breaks { OnOk result (breaks.new ≡ breaks.old ++ (assignment_of line target value).breaks) }
 {
-    let Some(target) = target else {
-        return Ok(None);
-    };
     let Some(value) = value else {
         return Ok(None);
     };
-    if is_type(target.ty, value.ty) {
-        Ok(Some(Stmt::Assign(target.var, value.tree)))
-    } else {
+    let Some(target) = target else {
+        drop(value);
+        return Ok(None);
+    };
+    if !is_type(target.ty, value.ty) {
+        drop(value);
         note(breaks, line, Reason::TypeMismatch)?;
-        Ok(None)
+        return Ok(None);
     }
+    Ok(Some(Stmt::Assign(target.var, value.tree)))
 }
 
 fn area_write_of(
-    alloc: Global,
     line: Line,
     width: Width,
-    pointer: Option<Typed>,
-    value: Option<Typed>,
+    pointer: Option<Operand>,
+    value: Option<Operand>,
     breaks: &mut List<Break>,
 ) -> Result<Option<Stmt>, NoMemory>
-    ensures found { IfOk result (λ found. found ≡ (area_write_of line width pointer value).found) }
-    ensures breaks { OnOk result (breaks.new ≡ breaks.old ++ (area_write_of line width pointer value).breaks) }
+    ensures found { IfOk result (λ found. found ≡ (area_write_of line width (option_map typed_of pointer) (option_map typed_of value)).found) }
+    ensures breaks { OnOk result (breaks.new ≡ breaks.old ++ (area_write_of line width (option_map typed_of pointer) (option_map typed_of value)).breaks) }
 {
     let Some(pointer) = pointer else {
         return Ok(None);
@@ -58,8 +59,7 @@ fn area_write_of(
         return Ok(None);
     };
     if is_type(pointer.ty, StType::Dword) && is_type(value.ty, type_of_width(width)) {
-        let pointer = Boxed::new(alloc, pointer.tree)?;
-        Ok(Some(Stmt::AreaWrite(width, pointer, Boxed::new(alloc, value.tree)?)))
+        Ok(Some(Stmt::AreaWrite(width, pointer.tree, value.tree)))
     } else {
         note(breaks, line, Reason::TypeMismatch)?;
         Ok(None)
@@ -77,12 +77,12 @@ fn test_of(
     let Some(value) = value else {
         return Ok(None);
     };
-    if is_type(value.ty, StType::Bool) {
-        Ok(Some(value.tree))
-    } else {
+    if !is_type(value.ty, StType::Bool) {
+        drop(value);
         note(breaks, line, Reason::TypeMismatch)?;
-        Ok(None)
+        return Ok(None);
     }
+    Ok(Some(value.tree))
 }
 
 fn test(
@@ -110,12 +110,12 @@ fn selector_of(
     let Some(value) = value else {
         return Ok(None);
     };
-    if is_selector(value.ty) {
-        Ok(Some(value))
-    } else {
+    if !is_selector(value.ty) {
+        drop(value);
         note(breaks, line, Reason::TypeMismatch)?;
-        Ok(None)
+        return Ok(None);
     }
+    Ok(Some(value))
 }
 
 fn selector(
@@ -216,7 +216,10 @@ fn arm(
     ensures breaks { OnOk result (breaks.new ≡ breaks.old ++ (arm scope.now raw.now line).breaks) }
 {
     let test = test(alloc, scope, line, &raw.test, breaks)?;
-    let body = statements(alloc, scope, raw.body.as_slice(), breaks)?;
+    let Ok(body) = statements(alloc, scope, raw.body.as_slice(), breaks) else {
+        drop(test);
+        return Err(NoMemory);
+    };
     Ok(arm_of(test, body))
 }
 
@@ -330,9 +333,9 @@ fn action(
             assignment_of(line, target, value, breaks)
         }
         RawStmtKind::AreaWrite(width, pointer, value) => {
-            let pointer = expression(alloc, scope, line, pointer.get(), breaks)?;
-            let value = expression(alloc, scope, line, value.get(), breaks)?;
-            area_write_of(alloc, line, *width, pointer, value, breaks)
+            let pointer = operand_of(alloc, scope, line, pointer.get(), breaks)?;
+            let value = operand_of(alloc, scope, line, value.get(), breaks)?;
+            area_write_of(line, *width, pointer, value, breaks)
         }
         RawStmtKind::Invoke(name, actuals) => {
             invocation(alloc, scope, line, name, actuals.as_slice(), breaks)
@@ -345,13 +348,22 @@ fn action(
         RawStmtKind::Case(value, raws, other) => {
             let selector = selector(alloc, scope, line, value, breaks)?;
             let ty = type_of_selector(&selector);
-            let arms = case_arms(alloc, scope, line, ty, raws.as_slice(), breaks)?;
-            let other = statements(alloc, scope, other.as_slice(), breaks)?;
+            let Ok(arms) = case_arms(alloc, scope, line, ty, raws.as_slice(), breaks) else {
+                drop(selector);
+                return Err(NoMemory);
+            };
+            let Ok(other) = statements(alloc, scope, other.as_slice(), breaks) else {
+                drop(selector);
+                return Err(NoMemory);
+            };
             Ok(case_of(selector, arms, other))
         }
         RawStmtKind::While(value, raws) => {
             let test = test(alloc, scope, line, value, breaks)?;
-            let body = statements(alloc, scope, raws.as_slice(), breaks)?;
+            let Ok(body) = statements(alloc, scope, raws.as_slice(), breaks) else {
+                drop(test);
+                return Err(NoMemory);
+            };
             Ok(while_of(test, body))
         }
         RawStmtKind::Exit => Ok(Some(Stmt::Exit)),
