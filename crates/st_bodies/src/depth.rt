@@ -20,10 +20,10 @@ fn is_above(depth: usize, height: usize) -> bool
 /// The last token of statements made a level above the greatest.
 pub fn is_deep_at(spot: &Spot) -> bool
     ensures { result
-        ≡ nat_lt deepest (level_at code spot.now.depth (place_of spot.now.place) (stack_of spot.now.frames.items)) }
+        ≡ nat_lt deepest (level_at code spot.now.depth (place_of spot.now.place) (stack_of spot.now.frames)) }
 {
     match spot.place {
-        Place::Operand => match spot.frames.last() {
+        Place::Operand => match spot.frames.as_slice().last() {
             Some(Frame::Left(_, left)) => is_above(spot.depth, left.height),
             _ => spot.depth > DEEPEST,
         },

@@ -3,6 +3,7 @@ ghost use Rattle.std.specs.Prelude.{◌≡◌, suc, ◌+◌, IfOk};
 ghost use Rattle.st_grammar.specs.Grammar.{prefix_level, infix_level, is_value, literal_tree, label_tree, prefix_tree, apply_tree};
 ghost use Rattle.st_grammar.specs.inner.Machine.{code, of_literal, of_variable, of_prefix, of_infix, of_apply, of_shift, of_select};
 ghost use Rattle.st_grammar.specs.inner.Steps.{shallower};
+ghost use Rattle.st_bodies.specs.inner.Spots.{measured_of};
 
 use s7_base::{Boxed, Line, NoMemory};
 use st_grammar::{Literal, Measured, OneOperand, Prefix};
@@ -91,12 +92,30 @@ pub fn of_variable(var: RawVar, line: Line) -> Measured
     }
 }
 
+/// An operand that waits for what follows it, in the box in which its tree will have it.
+#[derive(Drop)]
+pub struct Held {
+    pub tree: Boxed<RawExpr>,
+    pub height: usize,
+}
+
+/// Puts an operand into its box.
+pub fn hold(alloc: Global, operand: Measured) -> Result<Held, NoMemory>
+    ensures { IfOk result (λ held. measured_of held ≡ operand) }
+{
+    Ok(Held {
+        tree: Boxed::new(alloc, operand.tree)?,
+        height: operand.height,
+    })
+}
+
 /// `-` or NOT on an operand.
 pub fn of_prefix(alloc: Global, op: Prefix, operand: Measured) -> Result<Measured, NoMemory>
     ensures { IfOk result (λ whole. whole ≡ of_prefix code op operand) }
 {
+    let operand = hold(alloc, operand)?;
     let height = one_more(operand.height)?;
-    let inner = Boxed::new(alloc, operand.tree)?;
+    let inner = operand.tree;
     let tree = match op {
         Prefix::Minus => RawExpr::Unary(UnaryOp::Minus, inner),
         Prefix::Not => RawExpr::Unary(UnaryOp::Not, inner),
@@ -108,16 +127,15 @@ pub fn of_prefix(alloc: Global, op: Prefix, operand: Measured) -> Result<Measure
 pub fn of_infix(
     alloc: Global,
     op: BinaryOp,
-    left: Measured,
+    left: Held,
     right: Measured,
 ) -> Result<Measured, NoMemory>
-    ensures { IfOk result (λ whole. whole ≡ of_infix code op left right) }
+    ensures { IfOk result (λ whole. whole ≡ of_infix code op (measured_of left) right) }
 {
+    let right = hold(alloc, right)?;
     let height = one_more(left.height.max(right.height))?;
-    let first = Boxed::new(alloc, left.tree)?;
-    let second = Boxed::new(alloc, right.tree)?;
     Ok(Measured {
-        tree: RawExpr::Binary(op, first, second),
+        tree: RawExpr::Binary(op, left.tree, right.tree),
         height,
     })
 }
@@ -126,8 +144,9 @@ pub fn of_infix(
 pub fn of_apply(alloc: Global, op: OneOperand, operand: Measured) -> Result<Measured, NoMemory>
     ensures { IfOk result (λ whole. whole ≡ of_apply code op operand) }
 {
+    let operand = hold(alloc, operand)?;
     let height = one_more(operand.height)?;
-    let inner = Boxed::new(alloc, operand.tree)?;
+    let inner = operand.tree;
     let tree = match op {
         OneOperand::Convert(from, to) => RawExpr::Convert(from, to, inner),
         OneOperand::BcdToInt => RawExpr::Unary(UnaryOp::BcdToInt, inner),
@@ -141,16 +160,15 @@ pub fn of_apply(alloc: Global, op: OneOperand, operand: Measured) -> Result<Meas
 pub fn of_shift(
     alloc: Global,
     op: ShiftOp,
-    pattern: Measured,
+    pattern: Held,
     count: Measured,
 ) -> Result<Measured, NoMemory>
-    ensures { IfOk result (λ whole. whole ≡ of_shift code op pattern count) }
+    ensures { IfOk result (λ whole. whole ≡ of_shift code op (measured_of pattern) count) }
 {
+    let count = hold(alloc, count)?;
     let height = one_more(pattern.height.max(count.height))?;
-    let first = Boxed::new(alloc, pattern.tree)?;
-    let second = Boxed::new(alloc, count.tree)?;
     Ok(Measured {
-        tree: RawExpr::Shift(op, first, second),
+        tree: RawExpr::Shift(op, pattern.tree, count.tree),
         height,
     })
 }
@@ -158,18 +176,16 @@ pub fn of_shift(
 /// SEL of a BOOL and two values.
 pub fn of_select(
     alloc: Global,
-    gate: Measured,
-    first: Measured,
+    gate: Held,
+    first: Held,
     second: Measured,
 ) -> Result<Measured, NoMemory>
-    ensures { IfOk result (λ whole. whole ≡ of_select code gate first second) }
+    ensures { IfOk result (λ whole. whole ≡ of_select code (measured_of gate) (measured_of first) second) }
 {
+    let second = hold(alloc, second)?;
     let height = one_more(gate.height.max(first.height).max(second.height))?;
-    let a = Boxed::new(alloc, gate.tree)?;
-    let b = Boxed::new(alloc, first.tree)?;
-    let c = Boxed::new(alloc, second.tree)?;
     Ok(Measured {
-        tree: RawExpr::Select(a, b, c),
+        tree: RawExpr::Select(gate.tree, first.tree, second.tree),
         height,
     })
 }

@@ -6,11 +6,13 @@
 #![tactic(auto)]
 
 pub use depth::is_deep_at;
+pub use expression::Held;
 pub use spot::{Argument, Begun, Body, Frame, Part, Place, Spot, Use};
 pub use statement::step;
 
 mod depth;
 mod expression;
+mod need;
 mod operand;
 mod spot;
 mod statement;

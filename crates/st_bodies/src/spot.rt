@@ -1,8 +1,17 @@
 //! Where the parser stands between two tokens of statements: what is open, and what may come next.
 
-use s7_base::{Line, List, Width};
+ghost use Rattle.std.specs.Prelude.{◌≡◌, ◌∷◌, suc, OnOk};
+ghost use Rattle.st_grammar.specs.Grammar.{on_line};
+ghost use Rattle.st_grammar.specs.inner.Machine.{code, closing, no_statements, opening, operand, operator, part, statement, waiting, within};
+ghost use Rattle.st_grammar.specs.inner.Steps.{no_spot, shallower, spot};
+ghost use Rattle.st_bodies.specs.inner.Spots.{begun_of, body_at, body_of, frame_of, part_of, place_of, spot_of, stack_of, use_of};
+
+use crate::expression::{Held, one_more, shallower};
+use s7_base::{Line, List, NoMemory, Width};
 use st_grammar::{Function, Measured, OneOperand, Prefix};
-use st_tree::{BinaryOp, RawArm, RawCaseArm, RawStmt, RawVar, ShiftOp, StType};
+use st_tree::{BinaryOp, RawArm, RawCaseArm, RawStmt, RawStmtKind, RawVar, ShiftOp, StType};
+use std::alloc::Global;
+use std::mem::replace;
 
 /// A statement that has begun: those before it, and its line.
 #[derive(Drop)]
@@ -21,16 +30,16 @@ pub enum Argument {
     Shifted(ShiftOp),
 
     /// The count of a shift or a rotation, after its value.
-    ShiftedBy(ShiftOp, Measured),
+    ShiftedBy(ShiftOp, Held),
 
     /// The BOOL of SEL.
     Gate,
 
     /// The value of SEL where its BOOL is FALSE.
-    First(Measured),
+    First(Held),
 
     /// The value of SEL where its BOOL is TRUE.
-    Second(Measured, Measured),
+    Second(Held, Held),
 }
 
 /// What a statement needs an expression for.
@@ -43,7 +52,7 @@ pub enum Use {
     ToArea(Width),
 
     /// The value of an area write, after its pointer.
-    AreaValue(Width, Measured),
+    AreaValue(Width, Held),
 
     /// The test of an arm of an IF, after these arms.
     Test(List<RawArm>),
@@ -59,19 +68,19 @@ pub enum Use {
 #[derive(Drop)]
 pub enum Body {
     /// An arm of an IF with this test, after these arms.
-    Choosing(List<RawArm>, Measured),
+    Choosing(List<RawArm>, Held),
 
     /// The statements after the ELSE of an IF.
     Otherwise(List<RawArm>),
 
     /// The statements of a WHILE with this test.
-    Looping(Measured),
+    Looping(Held),
 
     /// An arm of a CASE with this selector, after these arms, with these labels.
-    Selecting(Measured, List<RawCaseArm>, List<(StType, i64)>),
+    Selecting(Held, List<RawCaseArm>, List<(StType, i64)>),
 
     /// The statements after the ELSE of a CASE.
-    OtherwiseCase(Measured, List<RawCaseArm>),
+    OtherwiseCase(Held, List<RawCaseArm>),
 }
 
 /// Something that is open.
@@ -81,7 +90,7 @@ pub enum Frame {
     Unary(Prefix),
 
     /// An operator with its left operand, which waits for the right one.
-    Left(BinaryOp, Measured),
+    Left(BinaryOp, Held),
 
     /// A bracket of an expression.
     Bracket,
@@ -121,13 +130,13 @@ pub enum Part {
     Given(List<u8>, List<(List<u8>, RawVar)>),
 
     /// The first label of a CASE.
-    FirstLabel(Measured, List<RawCaseArm>),
+    FirstLabel(Held, List<RawCaseArm>),
 
     /// A further label of an arm, after a comma.
-    NextLabel(Measured, List<RawCaseArm>, List<(StType, i64)>),
+    NextLabel(Held, List<RawCaseArm>, List<(StType, i64)>),
 
     /// The comma or the `:` after a label.
-    Labelled(Measured, List<RawCaseArm>, List<(StType, i64)>),
+    Labelled(Held, List<RawCaseArm>, List<(StType, i64)>),
 }
 
 /// What may come next in statements.
@@ -152,6 +161,143 @@ pub enum Place {
 #[derive(Drop)]
 pub struct Spot {
     pub depth: usize,
-    pub frames: Vec<Frame>,
+    pub frames: List<Frame>,
     pub place: Place,
+}
+
+impl Spot {
+    /// The beginning of the statements of a unit.
+    pub fn new(alloc: Global) -> Spot
+        ensures { spot_of result ≡ no_spot code }
+    {
+        Spot {
+            depth: 0,
+            frames: List::new(alloc),
+            place: Place::Statement(List::new(alloc)),
+        }
+    }
+
+    /// The statements of a unit that can end here, where nothing is open and one may begin.
+    pub fn into_body(self) -> Option<List<RawStmt>>
+        ensures { result ≡ body_at (stack_of self.frames) (place_of self.place) }
+    {
+        let Spot {
+            mut frames,
+            place,
+            ..
+        } = self;
+        if let Some(frame) = frames.pop() {
+            drop(frame);
+            drop(place);
+            return None;
+        }
+        match place {
+            Place::Statement(body) => Some(body),
+            other => {
+                drop(other);
+                None
+            }
+        }
+    }
+
+    /// Goes on at a place. The few places that there are have calls of their own below, since each that names
+    /// the whole type costs the prover.
+    fn go(&mut self, place: Place)
+        ensures { spot_of self.new ≡ spot code self.old.depth (stack_of self.old.frames) (place_of place) }
+    {
+        drop(replace(&mut self.place, place));
+    }
+
+    /// A statement may begin, after these.
+    pub fn go_statement(&mut self, before: List<RawStmt>)
+        ensures { spot_of self.new ≡ spot code self.old.depth (stack_of self.old.frames) (statement before) }
+    {
+        self.go(Place::Statement(before));
+    }
+
+    /// A part of a statement that is no expression is next.
+    pub fn go_part(&mut self, begun: Begun, next: Part)
+        ensures { spot_of self.new
+            ≡ spot code self.old.depth (stack_of self.old.frames) (part (begun_of begun) (part_of next)) }
+    {
+        self.go(Place::Part(begun, next));
+    }
+
+    /// The `;` of a statement is next.
+    pub fn go_closing(&mut self, before: List<RawStmt>, line: Line, kind: RawStmtKind)
+        ensures { spot_of self.new
+            ≡ spot code self.old.depth (stack_of self.old.frames) (closing before (on_line line kind)) }
+    {
+        self.go(Place::Closing(before, RawStmt { line, kind }));
+    }
+
+    /// An operand was read.
+    pub fn go_operator(&mut self, whole: Measured)
+        ensures { spot_of self.new ≡ spot code self.old.depth (stack_of self.old.frames) (operator whole) }
+    {
+        self.go(Place::Operator(whole));
+    }
+
+    /// The bracket of a function is next.
+    pub fn go_opening(&mut self, function: Function)
+        ensures { spot_of self.new ≡ spot code self.old.depth (stack_of self.old.frames) (opening function) }
+    {
+        self.go(Place::Opening(function));
+    }
+
+    /// One level more.
+    pub fn deepen(&mut self) -> Result<(), NoMemory>
+        ensures { OnOk result (spot_of self.new
+            ≡ spot code (suc self.old.depth) (stack_of self.old.frames) (place_of self.old.place)) }
+    {
+        self.depth = one_more(self.depth)?;
+        Ok(())
+    }
+
+    /// One level less.
+    pub fn rise(&mut self)
+        ensures { spot_of self.new
+            ≡ spot code (shallower self.old.depth) (stack_of self.old.frames) (place_of self.old.place) }
+    {
+        self.depth = shallower(self.depth);
+    }
+
+    /// An operand is next, for which a frame waits.
+    pub fn expect(&mut self, frame: Frame) -> Result<(), NoMemory>
+        ensures { OnOk result (spot_of self.new
+            ≡ spot code self.old.depth (frame_of frame ∷ stack_of self.old.frames) operand) }
+    {
+        self.frames.push(frame)?;
+        self.go(Place::Operand);
+        Ok(())
+    }
+
+    /// An operand is next, which a statement needs.
+    pub fn wait(&mut self, begun: Begun, need: Use) -> Result<(), NoMemory>
+        ensures { OnOk result (spot_of self.new
+            ≡ spot code self.old.depth (waiting (begun_of begun) (use_of need) ∷ stack_of self.old.frames) operand) }
+    {
+        self.expect(Frame::Waiting(begun, need))
+    }
+
+    /// The statements inside of one that has begun are next.
+    pub fn enter(&mut self, alloc: Global, begun: Begun, body: Body) -> Result<(), NoMemory>
+        ensures { OnOk result (spot_of self.new
+            ≡ spot code self.old.depth (within (begun_of begun) (body_of body) ∷ stack_of self.old.frames)
+            (statement (no_statements code))) }
+    {
+        self.frames.push(Frame::Within(begun, body))?;
+        self.go_statement(List::new(alloc));
+        Ok(())
+    }
+
+    /// A statement that opened a level ends, up to its `;`.
+    pub fn close(&mut self, begun: Begun, kind: RawStmtKind)
+        ensures { spot_of self.new
+            ≡ spot code (shallower self.old.depth) (stack_of self.old.frames)
+            (closing begun.before (on_line begun.line kind)) }
+    {
+        self.rise();
+        self.go_closing(begun.before, begun.line, kind);
+    }
 }

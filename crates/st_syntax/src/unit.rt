@@ -2,14 +2,14 @@
 ghost use Rattle.std.specs.Prelude.{◌≡◌, IfOk, option_map};
 ghost use Rattle.st_grammar.specs.Grammar.{is_formal_type};
 ghost use Rattle.st_grammar.specs.inner.Machine.{code, add_unit};
-ghost use Rattle.st_grammar.specs.inner.Steps.{at_between, at_start, at_heading, may_name, may_type, section_end, at_section, at_typing, ends, leave, at_inside, at_formals_done, at_opened, next, no_spot};
+ghost use Rattle.st_grammar.specs.inner.Steps.{at_between, at_start, at_heading, may_name, may_type, section_end, at_section, at_typing, ends, leave, at_inside, at_formals_done, at_opened, next};
 ghost use Rattle.st_bodies.specs.inner.Spots.{place_of, spot_of, stack_of};
 ghost use Rattle.st_syntax.specs.inner.Views.{before_of, state_of, top_in, typing_of, which_of};
 
 use crate::row::{at_globals, at_row};
 use crate::state::{Before, State, Top, Typing, Which};
 use s7_base::{Line, List, NoMemory};
-use st_bodies::{Place, Spot, step};
+use st_bodies::{Spot, step};
 use st_grammar::{Fixed, Heading, Kind, Lead};
 use st_tree::{RawLocal, RawPou, RawStmt, RawVar, StType, is_free, may_name_local, may_name_unit};
 use std::alloc::Global;
@@ -79,23 +79,12 @@ fn may_type(which: &Which, ty: StType) -> bool
     }
 }
 
-/// The beginning of a unit's statements.
-fn no_spot(alloc: Global) -> Spot
-    ensures { spot_of result ≡ no_spot code }
-{
-    Spot {
-        depth: 0,
-        frames: Vec::new(alloc),
-        place: Place::Statement(List::new(alloc)),
-    }
-}
-
 fn section_end(alloc: Global, top: Top, which: Which, done: List<RawLocal>) -> State
     ensures { state_of result ≡ section_end code (top_in top) (which_of which) done }
 {
     match which {
         Which::Formals => State::FormalsDone(top, done),
-        Which::Temps(formals) => State::Inside(top, formals, done, no_spot(alloc)),
+        Which::Temps(formals) => State::Inside(top, formals, done, Spot::new(alloc)),
     }
 }
 
@@ -205,25 +194,15 @@ fn leave(
     spot: Spot,
 ) -> Result<Option<State>, NoMemory>
     ensures { IfOk result (λ o. option_map state_of o
-        ≡ leave code program (top_in top) formals locals (stack_of spot.frames.items) (place_of spot.place)) }
+        ≡ leave code program (top_in top) formals locals (stack_of spot.frames) (place_of spot.place)) }
 {
-    let Spot {
-        mut frames,
-        place,
-        ..
-    } = spot;
-    if let Some(_) = frames.pop() {
+    let Some(body) = spot.into_body() else {
+        return Ok(None);
+    };
+    if !ends(program, top.head.program) {
         return Ok(None);
     }
-    match place {
-        Place::Statement(body) => {
-            if !ends(program, top.head.program) {
-                return Ok(None);
-            }
-            Ok(Some(State::Between(with_unit(top, formals, locals, body)?)))
-        }
-        _ => Ok(None),
-    }
+    Ok(Some(State::Between(with_unit(top, formals, locals, body)?)))
 }
 
 fn at_inside(
@@ -231,7 +210,7 @@ fn at_inside(
     top: Top,
     formals: List<RawLocal>,
     locals: List<RawLocal>,
-    spot: Spot,
+    mut spot: Spot,
     kind: Kind,
 ) -> Result<Option<State>, NoMemory>
     ensures { IfOk result (λ o. option_map state_of o
@@ -240,10 +219,12 @@ fn at_inside(
     match kind {
         Kind::Fixed(Fixed::EndProgram) => leave(true, top, formals, locals, spot),
         Kind::Fixed(Fixed::EndFunction) => leave(false, top, formals, locals, spot),
-        other => match step(alloc, spot, other)? {
-            Some(to) => Ok(Some(State::Inside(top, formals, locals, to))),
-            None => Ok(None),
-        },
+        other => {
+            if !step(alloc, &mut spot, other)? {
+                return Ok(None);
+            }
+            Ok(Some(State::Inside(top, formals, locals, spot)))
+        }
     }
 }
 
@@ -262,7 +243,7 @@ fn at_formals_done(
             Which::Temps(formals),
             List::new(alloc),
         ))),
-        other => at_inside(alloc, top, formals, List::new(alloc), no_spot(alloc), other),
+        other => at_inside(alloc, top, formals, List::new(alloc), Spot::new(alloc), other),
     }
 }
 

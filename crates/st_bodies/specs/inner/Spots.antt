@@ -1,9 +1,12 @@
 -- The code's places in statements as those of the pass.
-use Rattle.std.specs.Prelude.{List, map, reverse}
+use Rattle.std.specs.Prelude.{ℕ, Bool, true, false, nat_le, List, [], ◌∷◌, map, reverse, Option, Some, None}
+use Rattle.st_grammar.specs.Grammar.{prefix_level, infix_level}
 use Rattle.st_grammar.specs.inner.Machine as machine
 use Rattle.st_grammar.specs.inner.Machine.{code}
-use Rattle.st_grammar.specs.inner.Steps.{spot, Reduced, reduced_to}
-use Rattle.st_bodies.specs.declared.operand.Reduced.{Reduced as Taken}
+use Rattle.st_grammar.specs.inner.Steps.{spot}
+use Rattle.st_grammar.specs.declared.measured.Measured.{Measured}
+use Rattle.st_tree.specs.declared.raw.RawStmt.{RawStmt}
+use Rattle.st_bodies.specs.declared.expression.Held.{Held}
 use Rattle.st_bodies.specs.declared.spot.Begun.{Begun}
 use Rattle.st_bodies.specs.declared.spot.Argument.{Argument}
 use Rattle.st_bodies.specs.declared.spot.Argument.TheVariants as argument
@@ -23,36 +26,40 @@ use Rattle.st_bodies.specs.declared.spot.Spot.{Spot}
 abbrev pub begun_of : Begun → machine.Begun code
 begun_of b = record { before = b.before; line = b.line }
 
+-- an operand in its box
+abbrev pub measured_of : Held → Measured
+measured_of e = record { tree = e.tree; height = e.height }
+
 -- an operand of a function, with those before it
 abbrev pub argument_of : Argument → machine.Argument code
 argument_of (argument.Only op) = machine.only op
 argument_of (argument.Shifted op) = machine.shifted op
-argument_of (argument.ShiftedBy op e) = machine.shifted_by op e
+argument_of (argument.ShiftedBy op e) = machine.shifted_by op (measured_of e)
 argument_of argument.Gate = machine.gate
-argument_of (argument.First e) = machine.first e
-argument_of (argument.Second e f) = machine.second e f
+argument_of (argument.First e) = machine.first (measured_of e)
+argument_of (argument.Second e f) = machine.second (measured_of e) (measured_of f)
 
 -- what a statement needs an expression for
 abbrev pub use_of : Use → machine.Use code
 use_of (need.ToVar v) = machine.to_var v
 use_of (need.ToArea w) = machine.to_area w
-use_of (need.AreaValue w e) = machine.area_value w e
+use_of (need.AreaValue w e) = machine.area_value w (measured_of e)
 use_of (need.Test arms) = machine.test arms
 use_of need.Selector = machine.selector
 use_of need.LoopTest = machine.loop_test
 
 -- a statement whose own statements are read
 abbrev pub body_of : Body → machine.Body code
-body_of (body.Choosing arms e) = machine.choosing arms e
+body_of (body.Choosing arms e) = machine.choosing arms (measured_of e)
 body_of (body.Otherwise arms) = machine.otherwise arms
-body_of (body.Looping e) = machine.looping e
-body_of (body.Selecting e arms labels) = machine.selecting e arms labels
-body_of (body.OtherwiseCase e arms) = machine.otherwise_case e arms
+body_of (body.Looping e) = machine.looping (measured_of e)
+body_of (body.Selecting e arms labels) = machine.selecting (measured_of e) arms labels
+body_of (body.OtherwiseCase e arms) = machine.otherwise_case (measured_of e) arms
 
 -- what is open
 abbrev pub frame_of : Frame → machine.Frame code
 frame_of (frame.Unary op) = machine.unary op
-frame_of (frame.Left op e) = machine.left op e
+frame_of (frame.Left op e) = machine.left op (measured_of e)
 frame_of frame.Bracket = machine.bracket
 frame_of (frame.Argument a) = machine.argument (argument_of a)
 frame_of (frame.Waiting b u) = machine.waiting (begun_of b) (use_of u)
@@ -62,9 +69,15 @@ frame_of (frame.Within b y) = machine.within (begun_of b) (body_of y)
 abbrev pub stack_of : List Frame → List (machine.Frame code)
 stack_of frames = reverse (map frame_of frames)
 
--- an operand that has taken operators before it
-abbrev pub reduced_of : Taken → Reduced code
-reduced_of r = reduced_to code r.depth (stack_of r.frames.items) r.operand
+-- the frame that was opened last is an operator that binds as tightly as a level, or more
+abbrev pub binds : ℕ → List (machine.Frame code) → Bool
+binds k [] = false
+binds k (machine.unary op ∷ s) = nat_le (prefix_level op) k
+binds k (machine.left op e ∷ s) = nat_le (infix_level op) k
+binds k (machine.bracket ∷ s) = false
+binds k (machine.argument a ∷ s) = false
+binds k (machine.waiting b u ∷ s) = false
+binds k (machine.within b y ∷ s) = false
 
 -- a part of a statement that is no expression
 abbrev pub part_of : Part → machine.Part code
@@ -75,9 +88,9 @@ part_of (part.NextFormal name actuals) = machine.next_formal name actuals
 part_of (part.Becoming name actuals formal) = machine.becoming name actuals formal
 part_of (part.Giving name actuals formal) = machine.giving name actuals formal
 part_of (part.Given name actuals) = machine.given name actuals
-part_of (part.FirstLabel e arms) = machine.first_label e arms
-part_of (part.NextLabel e arms labels) = machine.next_label e arms labels
-part_of (part.Labelled e arms labels) = machine.labelled e arms labels
+part_of (part.FirstLabel e arms) = machine.first_label (measured_of e) arms
+part_of (part.NextLabel e arms labels) = machine.next_label (measured_of e) arms labels
+part_of (part.Labelled e arms labels) = machine.labelled (measured_of e) arms labels
 
 -- what may come next in statements
 abbrev pub place_of : Place → machine.Place code
@@ -90,4 +103,14 @@ place_of (place.Opening f) = machine.opening f
 
 -- where the pass is in statements
 abbrev pub spot_of : Spot → machine.Spot code
-spot_of at = spot code at.depth (stack_of at.frames.items) (place_of at.place)
+spot_of at = spot code at.depth (stack_of at.frames) (place_of at.place)
+
+-- the statements that are read where a unit can end: nothing is open, and a statement may begin
+abbrev pub body_at : List (machine.Frame code) → machine.Place code → Option (List RawStmt)
+body_at [] (machine.statement body) = Some body
+body_at s p = None
+
+-- where a token leads, if it can follow
+abbrev pub went : Bool → Spot → Option (machine.Spot code)
+went true at = Some (spot_of at)
+went false at = None

@@ -2,4 +2,4 @@ use Rattle.std.proofs.Common.{length}
 use Rattle.st_bodies.proofs.operand.+reduce.Given as goal
 
 abbrev pub decreases-reduce : goal.decreases-reduce
-decreases-reduce l = length l.frames.items
+decreases-reduce l = length l.at.now.frames

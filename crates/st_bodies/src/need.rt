@@ -1,0 +1,167 @@
+//! What comes of an expression that a statement needs.
+ghost use Rattle.std.specs.Prelude.{◌≡◌, IfOk};
+ghost use Rattle.st_grammar.specs.inner.Machine.{code, area_value, loop_test, selector, test, to_area, to_var};
+ghost use Rattle.st_grammar.specs.inner.Steps.{use_closed};
+ghost use Rattle.st_grammar.specs.declared.kind.Kind.TheVariants as kind;
+ghost use Rattle.st_bodies.specs.inner.Spots.{begun_of, measured_of, stack_of, use_of, went};
+
+use crate::expression::{Held, hold};
+use crate::spot::{Begun, Body, Part, Spot, Use};
+use s7_base::{List, NoMemory, Width};
+use st_grammar::{Fixed, Measured};
+use st_tree::{RawArm, RawStmt, RawStmtKind, RawVar};
+use std::alloc::Global;
+
+/// The value of an assignment ends.
+fn assigned(
+    at: &mut Spot,
+    mut begun: Begun,
+    var: RawVar,
+    value: Measured,
+    word: Fixed,
+) -> Result<bool, NoMemory>
+    ensures { IfOk result (λ goes. went goes at.new
+        ≡ use_closed code at.old.depth (stack_of at.old.frames) (begun_of begun) (to_var var) value (kind.Fixed word)) }
+{
+    let Fixed::Semicolon = word else {
+        drop(value);
+        return Ok(false);
+    };
+    begun.before.push(RawStmt {
+        line: begun.line,
+        kind: RawStmtKind::Assign(var, value.tree),
+    })?;
+    at.go_statement(begun.before);
+    Ok(true)
+}
+
+/// The pointer of an AREA_WRITE ends, and its value begins.
+fn pointer_closed(
+    alloc: Global,
+    at: &mut Spot,
+    begun: Begun,
+    width: Width,
+    pointer: Measured,
+    word: Fixed,
+) -> Result<bool, NoMemory>
+    ensures { IfOk result (λ goes. went goes at.new
+        ≡ use_closed code at.old.depth (stack_of at.old.frames)
+        (begun_of begun) (to_area width) pointer (kind.Fixed word)) }
+{
+    let Fixed::Comma = word else {
+        drop(pointer);
+        return Ok(false);
+    };
+    let pointer = hold(alloc, pointer)?;
+    at.wait(begun, Use::AreaValue(width, pointer))?;
+    Ok(true)
+}
+
+/// The value of an AREA_WRITE ends.
+fn written(
+    alloc: Global,
+    at: &mut Spot,
+    begun: Begun,
+    width: Width,
+    pointer: Held,
+    value: Measured,
+    word: Fixed,
+) -> Result<bool, NoMemory>
+    ensures { IfOk result (λ goes. went goes at.new
+        ≡ use_closed code at.old.depth (stack_of at.old.frames)
+        (begun_of begun) (area_value width (measured_of pointer)) value (kind.Fixed word)) }
+{
+    let Fixed::Close = word else {
+        drop(value);
+        return Ok(false);
+    };
+    let value = hold(alloc, value)?;
+    at.close(
+        begun,
+        RawStmtKind::AreaWrite(width, pointer.tree, value.tree),
+    );
+    Ok(true)
+}
+
+/// The test of an arm of an IF ends.
+fn tested(
+    alloc: Global,
+    at: &mut Spot,
+    begun: Begun,
+    arms: List<RawArm>,
+    value: Measured,
+    word: Fixed,
+) -> Result<bool, NoMemory>
+    ensures { IfOk result (λ goes. went goes at.new
+        ≡ use_closed code at.old.depth (stack_of at.old.frames) (begun_of begun) (test arms) value (kind.Fixed word)) }
+{
+    let Fixed::Then = word else {
+        drop(value);
+        return Ok(false);
+    };
+    let value = hold(alloc, value)?;
+    at.enter(alloc, begun, Body::Choosing(arms, value))?;
+    Ok(true)
+}
+
+/// The selector of a CASE ends.
+fn selected(
+    alloc: Global,
+    at: &mut Spot,
+    begun: Begun,
+    value: Measured,
+    word: Fixed,
+) -> Result<bool, NoMemory>
+    ensures { IfOk result (λ goes. went goes at.new
+        ≡ use_closed code at.old.depth (stack_of at.old.frames) (begun_of begun) selector value (kind.Fixed word)) }
+{
+    let Fixed::Of = word else {
+        drop(value);
+        return Ok(false);
+    };
+    let value = hold(alloc, value)?;
+    at.go_part(begun, Part::FirstLabel(value, List::new(alloc)));
+    Ok(true)
+}
+
+/// The test of a WHILE ends.
+fn loop_tested(
+    alloc: Global,
+    at: &mut Spot,
+    begun: Begun,
+    value: Measured,
+    word: Fixed,
+) -> Result<bool, NoMemory>
+    ensures { IfOk result (λ goes. went goes at.new
+        ≡ use_closed code at.old.depth (stack_of at.old.frames) (begun_of begun) loop_test value (kind.Fixed word)) }
+{
+    let Fixed::Do = word else {
+        drop(value);
+        return Ok(false);
+    };
+    let value = hold(alloc, value)?;
+    at.enter(alloc, begun, Body::Looping(value))?;
+    Ok(true)
+}
+
+/// The expression that a statement needs ends.
+pub fn use_closed(
+    alloc: Global,
+    at: &mut Spot,
+    begun: Begun,
+    need: Use,
+    value: Measured,
+    word: Fixed,
+) -> Result<bool, NoMemory>
+    ensures { IfOk result (λ goes. went goes at.new
+        ≡ use_closed code at.old.depth (stack_of at.old.frames) (begun_of begun) (use_of need) value (kind.Fixed word)) }
+{
+    match need {
+        Use::ToVar(var) => assigned(at, begun, var, value, word),
+        Use::ToArea(width) => pointer_closed(alloc, at, begun, width, value, word),
+        Use::AreaValue(width, pointer) => written(alloc, at, begun, width, pointer, value, word),
+        Use::Test(arms) => tested(alloc, at, begun, arms, value, word),
+        Use::Selector => selected(alloc, at, begun, value, word),
+        Use::LoopTest => loop_tested(alloc, at, begun, value, word),
+    }
+}
