@@ -243,7 +243,14 @@ fn at_formals_done(
             Which::Temps(formals),
             List::new(alloc),
         ))),
-        other => at_inside(alloc, top, formals, List::new(alloc), Spot::new(alloc), other),
+        other => at_inside(
+            alloc,
+            top,
+            formals,
+            List::new(alloc),
+            Spot::new(alloc),
+            other,
+        ),
     }
 }
 
