@@ -1,6 +1,5 @@
 -- Checks of a bit, and assignments: their statements do what their rows do.
-use Rattle.std.proofs.Common.{◌≡◌, ℕ, suc, pos, Bool, true, false, not, ◌&&◌, ◌||◌, if◌then◌else◌, List, [], ◌∷◌, Result, Ok, Err, refl, sym, ap, ◌∙◌}
-use Rattle.std.specs.Prelude.{ℤ}
+use Rattle.std.proofs.Common.{◌≡◌, ℕ, pos, Bool, true, false, not, ◌&&◌, ◌||◌, if◌then◌else◌, List, [], ◌∷◌, Result, Ok, Err, refl, sym, ap, ◌∙◌}
 use Rattle.memory_areas.specs.Access.{and_then, read_bit, write_bit}
 use Rattle.memory_areas.specs.Areas.{Contents}
 use Rattle.memory_areas.specs.declared.place.AreaName.{AreaName}
@@ -8,19 +7,16 @@ use Rattle.s7_base.specs.StatusBits.{StatusBits, after_assign, after_check, orb_
 use Rattle.s7_base.specs.declared.check.Check.{Check}
 use Rattle.s7_base.specs.declared.check.Check.TheVariants as check
 use Rattle.s7_base.specs.declared.outcome.Fault.{Fault}
-use Rattle.s7_base.specs.declared.register.Reg.{Reg}
 use Rattle.s7_base.specs.declared.register.Reg.TheVariants as reg
-use Rattle.stl_tree.specs.Instructions.{effect_of}
 use Rattle.stl_tree.specs.Now.{Activation, Now, next, with_memory, with_status, with_value}
 use Rattle.stl_tree.specs.declared.program.BitArg.TheVariants as arg
-use Rattle.stl_tree.specs.declared.program.Op.{Op}
 use Rattle.stl_tree.specs.declared.program.Op.TheVariants as op
 use Rattle.stl_tree.specs.declared.program.Operand.TheVariants as operand
 use Rattle.st_tree.specs.Meaning.{Calls, body_meaning}
 use Rattle.st_tree.specs.Operators.{unary_value, binary_value}
-use Rattle.st_tree.specs.State.{State, read, with_register, write}
+use Rattle.st_tree.specs.State.{State, read, with_register}
 use Rattle.st_tree.specs.Value.{value}
-use Rattle.st_tree.specs.Values.{flag, is_set, number_of}
+use Rattle.st_tree.specs.Values.{flag, number_of}
 use Rattle.st_tree.specs.declared.expr.BinaryOp.{BinaryOp}
 use Rattle.st_tree.specs.declared.expr.BinaryOp.TheVariants as binary
 use Rattle.st_tree.specs.declared.expr.Expr.TheVariants as expr
@@ -29,9 +25,8 @@ use Rattle.st_tree.specs.declared.expr.UnaryOp.TheVariants as unary
 use Rattle.st_tree.specs.declared.expr.Var.{Var}
 use Rattle.st_tree.specs.declared.expr.Var.TheVariants as var
 use Rattle.st_tree.specs.declared.program.Located.{Located}
-use Rattle.st_tree.specs.declared.program.Stmt.TheVariants as stmt
 use Rattle.st_tree.specs.declared.state.Value.{Value}
-use Rattle.st_tree.proofs.Equations.{assign_goes_on, assign_stops_at_place, assign_stops_at_value, value_equations, value_literal, value_read}
+use Rattle.st_tree.proofs.Equations.{assign_goes_on, assign_stops_at_place, assign_stops_at_value, value_equations, value_literal}
 use Rattle.instruction_lowering.specs.inner.Templates.{bit_of, literal_of, next_rlo, read_of, set_of, statements_of}
 use Rattle.instruction_lowering.proofs.Alike.{AreAlike, IsKept, Related, keep_bits, keep_memory, place_now}
 use Rattle.instruction_lowering.proofs.Does.{Does}

@@ -1,6 +1,6 @@
 -- All that is said of steps, nodes, passes and units. In one direction the program has ended within n steps, in the
 -- other the graph has, within so many units, each of which pays for as many steps as the largest block has.
-use Rattle.std.proofs.Common.{ℕ, zero, suc, ◌+◌, ◌*◌, ◌≤◌, arith}
+use Rattle.std.proofs.Common.{ℕ, suc, ◌+◌, ◌*◌, ◌≤◌, arith}
 use Rattle.std.proofs.Math.Nat.{le-mul_of_pos_right, suc-mul}
 
 -- from a program's end to a graph's, and back

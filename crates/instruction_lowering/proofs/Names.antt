@@ -17,7 +17,6 @@ use Rattle.stl_tree.specs.declared.program.Block.{Block}
 use Rattle.stl_tree.specs.declared.program.BlockName.{BlockName}
 use Rattle.stl_tree.specs.declared.program.BlockName.TheVariants as name
 use Rattle.st_tree.specs.StRun.{called_name, is_meant, is_program, is_same_kind}
-use Rattle.st_tree.specs.declared.program.Pou.{Pou}
 use Rattle.instruction_lowering.specs.Lowered.{head_of_block}
 
 -- Numbers in names

@@ -1,10 +1,9 @@
 -- The graph program of an accepted program is plain.
-use Rattle.std.proofs.Common.{◌≡◌, ◌≢◌, ℕ, zero, suc, ◌≤◌, ◌==◌, Bool, true, false, ◌&&◌, if◌then◌else◌, List, [], ◌∷◌, ◌++◌, length, map, Option, Some, refl, sym, ap, subst, ◌∙◌, arith}
-use Rattle.std.specs.Prelude.{All, nat_le, slice_get}
+use Rattle.std.proofs.Common.{◌≡◌, ◌≢◌, ℕ, zero, suc, ◌≤◌, ◌==◌, Bool, true, false, if◌then◌else◌, List, [], ◌∷◌, ◌++◌, length, map, Some, refl, sym, ap, subst, ◌∙◌, arith}
+use Rattle.std.specs.Prelude.{All, slice_get}
 use Rattle.std.proofs.lemmas.Bool.{eqb-true, le-leb, ltb-false}
 use Rattle.std.proofs.lemmas.List.{append-nil}
-use Rattle.std.proofs.lemmas.List.Elements.{All-cons, All-head, All-map, All-nil, All-tail}
-use Rattle.memory_areas.specs.Access.{is_byte_in}
+use Rattle.std.proofs.lemmas.List.Elements.{All-cons, All-head, All-nil, All-tail}
 use Rattle.memory_areas.specs.Areas.{IsSized}
 use Rattle.memory_areas.specs.declared.sizes.TheConstants.{ACTIVATIONS}
 use Rattle.s7_base.specs.declared.check.Check.{Check}
@@ -14,21 +13,18 @@ use Rattle.s7_base.specs.declared.word.Width.TheVariants as width
 use Rattle.st_tree.proofs.FittingCalls.{at_position}
 use Rattle.st_tree.proofs.PartEquations.{calls_in_assign, expressions_in_assign, height_equations, out_assign}
 use Rattle.st_tree.proofs.TypingEquations.{good_assign, nesting_assign, nesting_equations, typed_binary, typed_equations, typed_read, typed_unary}
-use Rattle.st_tree.specs.Chains.{called_in, chain_of, chain_to, unit_chain}
+use Rattle.st_tree.specs.Chains.{chain_of, chain_to, unit_chain}
 use Rattle.st_tree.specs.Depth.{deepest, greatest}
-use Rattle.st_tree.specs.Nesting.{body_nesting, expression_nesting, nesting}
+use Rattle.st_tree.specs.Nesting.{body_nesting, expression_nesting}
 use Rattle.st_tree.specs.Parts.{calls_in, expressions_in, height}
 use Rattle.st_tree.specs.Naming.{are_apart, key_of}
 use Rattle.st_tree.specs.Plain.{AreSteps, IsGivenOn, IsOnlyEnd, IsStep, IsPlainNode, IsPlainUnit, Plain, listed, listed_text}
-use Rattle.st_tree.specs.PlaceRules.{is_place}
 use Rattle.st_tree.specs.StRun.{called_name}
 use Rattle.st_tree.specs.Proper.{IsDataBlock, IsFormal, IsGlobal, IsLocal, IsProperUnit, Proper}
-use Rattle.st_tree.specs.Values.{type_of_width}
-use Rattle.st_tree.specs.WellTyped.{Head, Sight, are_well_typed, expression_type, head_of, is_assigned, is_well_typed, sight_of, variable_type}
+use Rattle.st_tree.specs.WellTyped.{Head, Sight, are_well_typed, expression_type, head_of, sight_of, variable_type}
 use Rattle.st_tree.specs.declared.expr.BinaryOp.TheVariants as binary
 use Rattle.st_tree.specs.declared.expr.Expr.{Expr}
 use Rattle.st_tree.specs.declared.expr.Expr.TheVariants as expr
-use Rattle.st_tree.specs.declared.expr.StType.{StType}
 use Rattle.st_tree.specs.declared.expr.StType.TheVariants as type
 use Rattle.st_tree.specs.declared.expr.UnaryOp.TheVariants as unary
 use Rattle.st_tree.specs.declared.expr.Var.{Var}
@@ -42,7 +38,6 @@ use Rattle.st_tree.specs.declared.program.Stmt.{Stmt, out-Stmt}
 use Rattle.st_tree.specs.declared.program.Stmt.TheVariants as stmt
 use Rattle.instruction_lowering.proofs.Names.{numbered}
 use Rattle.instruction_lowering.proofs.ProperNames.{has_name, names_unit, units_apart}
-use Rattle.instruction_lowering.specs.Lowered.{head_of_block}
 use Rattle.instruction_lowering.specs.inner.Lowering.{ends_block, lowered, node_of, steps_of, unit_of}
 use Rattle.instruction_lowering.specs.inner.Templates.{and_of, bit_of, literal_of, next_rlo, not_of, or_of, read_of, rlo_before_and, rlo_before_or, set_of, statements_of, xor_of}
 use Rattle.stl_tree.specs.Accepted.{HasOperand, HaveOperands, IsAccepted, IsAcceptedBlock, IsEnded, IsOperand}

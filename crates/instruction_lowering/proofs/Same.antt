@@ -1,11 +1,10 @@
 -- A program and its graph program mean the same.
-use Rattle.std.proofs.Common.{◌≡◌, ℕ, zero, suc, ◌+◌, ◌*◌, ◌≤◌, Bool, true, false, if◌then◌else◌, List, [], ◌∷◌, ◌++◌, map, length, Option, Some, None, refl, sym, ap, ◌∙◌, subst, arith}
-use Rattle.std.specs.Prelude.{All, IsSome, find, flat_map, option_map, slice_get}
+use Rattle.std.proofs.Common.{◌≡◌, ℕ, zero, suc, ◌*◌, ◌≤◌, Bool, true, false, if◌then◌else◌, List, [], ◌∷◌, ◌++◌, map, length, Option, Some, None, refl, sym, ap, ◌∙◌, subst, arith}
+use Rattle.std.specs.Prelude.{All, IsSome, find, option_map}
 use Rattle.std.proofs.lemmas.Simd.{map-map}
 use Rattle.memory_areas.specs.Areas.{Areas, Contents, with_areas}
-use Rattle.memory_areas.specs.End.{End, Ended, Going}
+use Rattle.memory_areas.specs.End.{Ended, Going}
 use Rattle.s7_base.specs.declared.outcome.Fault.{Fault}
-use Rattle.s7_base.specs.declared.register.Reg.{Reg}
 use Rattle.s7_base.specs.declared.register.Reg.TheVariants as reg
 use Rattle.stl_tree.specs.Accepted.{IsAccepted, IsAcceptedBlock}
 use Rattle.stl_tree.specs.Now.{Activation, Now}
@@ -31,10 +30,10 @@ use Rattle.st_tree.specs.declared.program.Pou.{Pou}
 use Rattle.st_tree.specs.declared.program.StProgram.{StProgram}
 use Rattle.st_tree.specs.declared.program.Stmt.{Stmt}
 use Rattle.st_tree.specs.declared.program.Stmt.TheVariants as stmt
-use Rattle.instruction_lowering.specs.Lowered.{AreAssignments, AreUnitsOf, HasNoInstance, IsUnitOf, Lowered, SameGraphRuns, head_of_block}
+use Rattle.instruction_lowering.specs.Lowered.{AreAssignments, AreUnitsOf, HasNoInstance, Lowered, SameGraphRuns, head_of_block}
 use Rattle.instruction_lowering.specs.inner.Lowering.{ends_block, lowered, node_of, steps_of, unit_of}
 use Rattle.instruction_lowering.specs.inner.Templates.{statements_of}
-use Rattle.instruction_lowering.proofs.Alike.{AreAlike, HandedOn, IsKept, Related}
+use Rattle.instruction_lowering.proofs.Alike.{AreAlike, IsKept, Related}
 use Rattle.instruction_lowering.proofs.Bounds.{Begun, Side, back, begun_back, begun_forth, forth}
 use Rattle.instruction_lowering.proofs.Names.{IsAt, IsNumbered, block_at, block_of, found_each, found_numbered, found_of, found_size, meant, none_of, not_meant, position_of}
 use Rattle.instruction_lowering.proofs.Simulation.{Follows, Sees, at_node, both_end, ran, through}

@@ -1,17 +1,16 @@
 -- A program and its graph run alike: one induction over the steps for both directions, on one lemma an instruction.
-use Rattle.std.proofs.Common.{◌≡◌, ℕ, zero, suc, ◌+◌, ◌<◌, ◌≤◌, false, if◌then◌else◌, List, [], ◌∷◌, ◌++◌, length, map, Option, Some, None, refl, sym, ap, ◌∙◌, subst, ◌⊎◌, inl, inr, ⊎_elim, arith}
+use Rattle.std.proofs.Common.{◌≡◌, ℕ, zero, suc, ◌+◌, ◌<◌, ◌≤◌, false, if◌then◌else◌, List, [], ◌∷◌, ◌++◌, length, Option, Some, refl, sym, ap, ◌∙◌, subst, ◌⊎◌, inl, inr, ⊎_elim, arith}
 use Rattle.std.specs.Prelude.{option_and_then, slice_get}
 use Rattle.std.proofs.Math.Nat.{eq-or-lt_of_le}
 use Rattle.memory_areas.specs.Areas.{Areas, Contents}
 use Rattle.memory_areas.specs.End.{End, Ended, Going}
 use Rattle.s7_base.specs.StatusBits.{after_end}
 use Rattle.s7_base.specs.declared.outcome.Fault.{Fault}
-use Rattle.s7_base.specs.declared.register.Reg.{Reg}
 use Rattle.s7_base.specs.declared.register.Reg.TheVariants as reg
 use Rattle.stl_tree.specs.Accepted.{IsEnded}
 use Rattle.stl_tree.specs.Instructions.{effect_of}
 use Rattle.stl_tree.specs.Now.{Activation, Effect, Now, enter, fault, go, leave, next, with_status}
-use Rattle.stl_tree.specs.StlRun.{Standing, after_effect, end_of, going_on, instruction, over, returned, running, step_by, steps_on}
+use Rattle.stl_tree.specs.StlRun.{Standing, after_effect, end_of, going_on, instruction, returned, running, step_by, steps_on}
 use Rattle.stl_tree.specs.declared.program.Block.{Block}
 use Rattle.stl_tree.specs.declared.program.Instr.{Instr}
 use Rattle.stl_tree.specs.declared.program.Op.{Op}
@@ -19,7 +18,7 @@ use Rattle.stl_tree.specs.declared.program.Op.TheVariants as op
 use Rattle.stl_tree.specs.declared.program.Program.{Program}
 use Rattle.stl_tree.proofs.Runs.{over_stays}
 use Rattle.st_tree.specs.GraphRun.{Counting, exit_meaning, graph_calls, nodes_do}
-use Rattle.st_tree.specs.Meaning.{Calls, Continues, Exits, Faults, NoUnits, Normal, Out, Returns, Sem, body_meaning, in_order, meaning, then_do}
+use Rattle.st_tree.specs.Meaning.{Calls, Continues, Exits, Faults, NoUnits, Normal, Out, Returns, Sem, body_meaning, meaning, then_do}
 use Rattle.st_tree.specs.State.{State}
 use Rattle.st_tree.specs.declared.graph.GraphProgram.{GraphProgram}
 use Rattle.st_tree.specs.declared.graph.StExit.TheVariants as exit

@@ -4,22 +4,20 @@ use Rattle.std.proofs.Common.{◌≡◌, ℕ, zero, suc, ◌+◌, ◌-◌, ◌*�
 use Rattle.std.specs.Prelude.{find, max, slice_get}
 use Rattle.std.proofs.Math.Nat.{mul-le-mul_right, suc-mul}
 use Rattle.std.proofs.lemmas.Bool.{cases_lt}
-use Rattle.std.proofs.lemmas.Option.{slice_get_past, slice_get_within}
+use Rattle.std.proofs.lemmas.Option.{slice_get_past}
 use Rattle.memory_areas.specs.Areas.{Areas}
 use Rattle.memory_areas.specs.End.{Ended}
 use Rattle.s7_base.specs.declared.outcome.Fault.{Fault}
 use Rattle.stl_tree.specs.declared.program.Call.{Call}
 use Rattle.st_tree.specs.Calls.{called, entered, located_actuals}
 use Rattle.st_tree.specs.Depth.{greatest}
-use Rattle.st_tree.specs.GraphRun.{Counting, Way, counted, counted_if, entry_or, exit_meaning, follow, graph_calls, longest, most_nodes, node_meaning, nodes_do, out, run_of_graph, to, unit_begun, way_of}
+use Rattle.st_tree.specs.GraphRun.{Counting, Way, counted, counted_if, exit_meaning, follow, graph_calls, longest, most_nodes, node_meaning, nodes_do, out, run_of_graph, to, unit_begun, way_of}
 use Rattle.st_tree.specs.GraphRunLaws.{FreeIsForward, GraphEndStays, LengthIsFree}
-use Rattle.st_tree.specs.Meaning.{Out, Normal, NoUnits, Sem, body_meaning}
+use Rattle.st_tree.specs.Meaning.{Out, NoUnits, Sem}
 use Rattle.st_tree.specs.StRun.{end_seen, is_meant, state_at_start}
 use Rattle.st_tree.specs.State.{State}
-use Rattle.st_tree.specs.declared.expr.Var.{Var}
 use Rattle.st_tree.specs.declared.graph.GraphPou.{GraphPou}
 use Rattle.st_tree.specs.declared.graph.GraphProgram.{GraphProgram}
-use Rattle.st_tree.specs.declared.graph.StExit.{StExit}
 use Rattle.st_tree.specs.declared.graph.StNode.{StNode}
 use Rattle.st_tree.specs.declared.state.Reference.{Reference}
 use Rattle.st_tree.proofs.Ends.{end_follows, follows_same}

@@ -8,7 +8,7 @@ use Rattle.s7_base.specs.declared.outcome.Fault.{Fault}
 use Rattle.stl_tree.specs.declared.program.Call.{Call}
 use Rattle.st_tree.specs.Calls.{after_unit, called, entered, located_actuals}
 use Rattle.st_tree.specs.Depth.{greatest}
-use Rattle.st_tree.specs.Meaning.{Out, Normal, Faults, NoUnits, Sem, Calls, body_meaning, then_do}
+use Rattle.st_tree.specs.Meaning.{Normal, Faults, NoUnits, Sem, Calls, body_meaning, then_do}
 use Rattle.st_tree.specs.StRun.{FitsSt, end_seen, is_meant, state_at_start}
 use Rattle.st_tree.specs.State.{State}
 use Rattle.st_tree.specs.Value.{value}

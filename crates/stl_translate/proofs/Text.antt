@@ -4,7 +4,7 @@ use Rattle.std.specs.Prelude.{find, option_map}
 use Rattle.std.proofs.Math.Nat.{suc-mul}
 use Rattle.std.proofs.lemmas.List.{append-nil}
 use Rattle.memory_areas.specs.Areas.{Areas, IsMemoryOf}
-use Rattle.memory_areas.specs.End.{End, Ended, Going}
+use Rattle.memory_areas.specs.End.{Ended, Going}
 use Rattle.memory_areas.specs.declared.data_block.DataBlock.{DataBlock}
 use Rattle.memory_areas.specs.declared.place.Place.{Place}
 use Rattle.s7_base.specs.declared.outcome.Fault.{Fault}
@@ -16,14 +16,12 @@ use Rattle.stl_tree.specs.declared.program.BlockName.TheVariants as name
 use Rattle.stl_tree.specs.declared.program.Call.{Call}
 use Rattle.stl_tree.specs.declared.program.Program.{Program}
 use Rattle.st_tree.specs.Calls.{calls_to}
-use Rattle.st_tree.specs.GraphRun.{Counting, FitsGraph, counted, counted_run, each_node, each_pass, exit_meaning, graph_calls, heads_of, longest, most_nodes, nodes_do, run_of_graph}
+use Rattle.st_tree.specs.GraphRun.{Counting, FitsGraph, counted_run, each_node, each_pass, exit_meaning, graph_calls, heads_of, longest, most_nodes, nodes_do, run_of_graph}
 use Rattle.st_tree.specs.Meaning.{Calls, Continues, Exits, Faults, NoUnits, Normal, Out, Returns, Sem, assigned, body_meaning, changed, then_do}
-use Rattle.st_tree.specs.Plain.{Plain, listed, listed_text, test_of}
+use Rattle.st_tree.specs.Plain.{Plain, listed, test_of}
 use Rattle.st_tree.specs.Proper.{Proper}
-use Rattle.st_tree.specs.StRun.{FitFormals, FitsIfThere, FitsSt, FitsUnit, end_seen, is_meant, run_of_unit, st_run, state_at_start, unit_called}
+use Rattle.st_tree.specs.StRun.{FitFormals, FitsIfThere, FitsSt, FitsUnit, end_seen, is_meant, run_of_unit, st_run, state_at_start}
 use Rattle.st_tree.specs.State.{State}
-use Rattle.st_tree.specs.declared.expr.Expr.{Expr}
-use Rattle.st_tree.specs.declared.expr.Var.{Var}
 use Rattle.st_tree.specs.declared.graph.GraphPou.{GraphPou}
 use Rattle.st_tree.specs.declared.graph.GraphProgram.{GraphProgram}
 use Rattle.st_tree.specs.declared.graph.StExit.{StExit}
@@ -36,8 +34,8 @@ use Rattle.st_tree.specs.declared.program.StProgram.{StProgram}
 use Rattle.st_tree.specs.declared.program.Stmt.{Stmt}
 use Rattle.st_tree.specs.declared.program.Stmt.TheVariants as stmt
 use Rattle.st_tree.proofs.Equations.{meaning_assign}
-use Rattle.instruction_lowering.specs.Lowered.{AreAssignments, AreUnitsOf, IsUnitOf, Lowered}
-use Rattle.stl_translate.specs.Same.{HasNoInstance, Same, SameRuns}
+use Rattle.instruction_lowering.specs.Lowered.{AreAssignments, AreUnitsOf, Lowered}
+use Rattle.stl_translate.specs.Same.{Same}
 use Rattle.stl_translate.specs.inner.Straight.{last_steps, straight, straight_unit}
 
 -- the last one of some nodes is the one that stands behind the others
