@@ -2,7 +2,7 @@
 ghost use Rattle.std.specs.Prelude.{◌≡◌, IfOk, option_map};
 ghost use Rattle.st_grammar.specs.Grammar.{is_formal_type};
 ghost use Rattle.st_grammar.specs.inner.Machine.{code, add_unit};
-ghost use Rattle.st_grammar.specs.inner.Steps.{at_between, at_start, at_heading, may_name, may_type, section_end, at_section, at_typing, ends, leave, at_inside, at_formals_done, at_opened, next};
+ghost use Rattle.st_grammar.specs.inner.Steps.{at_between, at_start, at_heading, may_name, may_type, section_end, at_section, at_typing, ends, leave, at_inside, at_formals_done, at_opened, next, step as body_step};
 ghost use Rattle.st_bodies.specs.inner.Spots.{place_of, spot_of, stack_of};
 ghost use Rattle.st_syntax.specs.inner.Views.{before_of, state_of, top_in, typing_of, which_of};
 
@@ -205,12 +205,29 @@ fn leave(
     Ok(Some(State::Between(with_unit(top, formals, locals, body)?)))
 }
 
+/// The statements after one more token; `None` where it cannot follow.
+fn stepped(alloc: Global, mut spot: Spot, kind: Kind) -> Result<Option<Spot>, NoMemory>
+    ensures { IfOk result (λ o. option_map spot_of o ≡ body_step code (spot_of spot) kind) }
+{
+    match step(alloc, &mut spot, kind) {
+        Ok(true) => Ok(Some(spot)),
+        Ok(false) => {
+            drop(spot);
+            Ok(None)
+        }
+        Err(no_memory) => {
+            drop(spot);
+            Err(no_memory)
+        }
+    }
+}
+
 fn at_inside(
     alloc: Global,
     top: Top,
     formals: List<RawLocal>,
     locals: List<RawLocal>,
-    mut spot: Spot,
+    spot: Spot,
     kind: Kind,
 ) -> Result<Option<State>, NoMemory>
     ensures { IfOk result (λ o. option_map state_of o
@@ -219,12 +236,10 @@ fn at_inside(
     match kind {
         Kind::Fixed(Fixed::EndProgram) => leave(true, top, formals, locals, spot),
         Kind::Fixed(Fixed::EndFunction) => leave(false, top, formals, locals, spot),
-        other => {
-            if !step(alloc, &mut spot, other)? {
-                return Ok(None);
-            }
-            Ok(Some(State::Inside(top, formals, locals, spot)))
-        }
+        other => match stepped(alloc, spot, other)? {
+            Some(to) => Ok(Some(State::Inside(top, formals, locals, to))),
+            None => Ok(None),
+        },
     }
 }
 
