@@ -17,11 +17,9 @@ use Rattle.stl2st.specs.Promises.{FailedToRead}
 use Rattle.stl2st.specs.declared.command.Command.{Command}
 use Rattle.stl2st.specs.declared.limits.TheConstants.{INPUT_LIMIT}
 use Rattle.stl2st.specs.declared.reply.Task.{Task}
-use Rattle.stl2st.specs.declared.reply.TextJob.{TextJob}
-use Rattle.stl2st.specs.declared.reply.TextJob.TheVariants as text_job
 use Rattle.stl2st.specs.declared.status.Status.{Status}
 use Rattle.stl2st.specs.declared.status.Status.TheVariants.{Done, Refused, Usage, BadImage, BadCall, Faulted, Going, ReadFault, WriteFault, TooLong, NoMemory}
-use Rattle.stl2st.specs.inner.Replies.{Ends, IsWritten, ReadsImage, ReadsNoImage, ReadsWork, reply_of, row_of, row_of_task, task_of, text_work_of, stopped, long, whole}
+use Rattle.stl2st.specs.inner.Replies.{Ends, IsWritten, ReadsImage, ReadsNoImage, ReadsWork, reply_of, row_of, row_of_task, task_of, stopped, long, whole}
 
 -- Sources that want no image
 
@@ -56,10 +54,6 @@ work_reads Is (on_image To) program image source x status all within most is r =
 -- and for work on an image
 pub image_reads : {X : Type 0} (work : Work X) (To : List ℕ → X → Reply → Type 0) (image : Input) (status : Status) → work ≡ on_image To → ReadsImage image status → ReadsWork work image status
 image_reads {X = X} work To image status e r = subst (λ (w : Work X). ReadsWork w image status) (sym e) r
-
--- what is done with a text is a run, so far
-pub runs_alone : (j : TextJob) (image : Input) (status : Status) → ReadsImage image status → ReadsWork (text_work_of j) image status
-runs_alone (text_job.Run units call) image status r = r
 
 -- the command that is asked for
 pub reads_asked : (m : Option Command) (command : Command) (t : Task) (program image : Input) (status : Status) → m ≡ Some command → t ≡ task_of command
