@@ -150,17 +150,17 @@ AnswersRunSt units call image tree reply =
 
 -- Commands
 
--- what is done with what a source is read as: it is answered by itself, or on the bytes of an image
+-- what is answered to what a source is read as: to it alone, or to it and the bytes of an image
 pub data Work (X : Type 0) : Type 1 where
   alone : (X → Reply → Type 0) → Work X
   on_image : (List ℕ → X → Reply → Type 0) → Work X
 
--- a command by the language of its source, with what is done
+-- the language of a source, STL or Structured Text, and what is answered to what it is read as
 pub data Row : Type 1 where
   stl : Work Program → Row
   st : Work StProgram → Row
 
--- THE COMMANDS
+-- THE COMMANDS: what each reads, and what it answers to what it read
 abbrev pub row : Command → Row
 row Translate = stl (alone AnswersTranslate)
 row Check = stl (alone AnswersCheck)
@@ -189,12 +189,12 @@ pub record IsRead {X : Type 0} (Is : List ℕ → X → Type 0) (source : List �
   pub it : X
   pub is : Is source it
 
--- the work needs an image
+-- an image is needed
 abbrev pub IsOnImage : {X : Type 0} → Work X → Type 0
 IsOnImage (alone To) = ⊥
 IsOnImage (on_image To) = Unit {0}
 
--- a row wants the image: its work needs one, and the source is within the limit and read
+-- the image is wanted in a row: one is needed, and the source is within the limit and accepted or read
 abbrev pub WantsRow : Row → List ℕ → Type 0
 WantsRow (stl work) source = IsOnImage work × IsRead IsAcceptedAs source
 WantsRow (st work) source = IsOnImage work × IsRead IsTextOf source
