@@ -57,10 +57,11 @@ say_where() {
     printf '%s:%s: %s%s\n' "$name" "$line" "$sentence" "${text:+: $text}" >&2
 }
 
-# A refusal of the source: its line, a sentence, and where more is said.
+# A refusal of the source: its line, a sentence, and where more is said. A command over a Structured Text has a
+# name that ends with -st.
 hint_refused() {
     local form='^line ([0-9]+): ([A-Za-z]+)(\(([A-Za-z]+)\))?$' section="A source of Statement List" line name
-    [[ ${arguments[0]} != run-st ]] || section="A Structured Text"
+    [[ ${arguments[0]} != *-st ]] || section="A Structured Text"
     if [[ $(first_line) =~ $form ]]; then
         line=${BASH_REMATCH[1]}
         name=${BASH_REMATCH[4]:-${BASH_REMATCH[2]}}
@@ -105,9 +106,9 @@ hint_usage() {
 }
 
 hint_going() {
-    local bound=steps
-    [[ ${arguments[0]} != run-st ]] || bound=units
-    say "the run has not ended within $(shown "${arguments[1]-}") $bound: give it more, or look for a loop that does not end"
+    local bound
+    read -r bound _ <<< "${takes[${arguments[0]}]}"
+    say "the run has not ended within $(shown "${arguments[1]-}") ${bound,,}: give it more, or look for a loop that does not end"
 }
 
 # Which input could not be read. That a source is not there is said before the run.

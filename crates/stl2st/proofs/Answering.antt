@@ -25,18 +25,16 @@ use Rattle.stl_translate.specs.Same.{Same}
 use Rattle.stl_tree.specs.Accepted.{IsAccepted}
 use Rattle.stl_tree.specs.StlRun.{Standing, running, over, end_of}
 use Rattle.stl_tree.specs.declared.program.Program.{Program}
-use Rattle.stl2st.specs.Answer.{Reply, Answers, AnswersRun, AnswersSource, IsAcceptedAs, IsRefusedSource, Translates, accepted_line, image_reply, refusal_line, run_reply, run_status, too_long_line, usage_line, source_too_long, refused, read, image_too_long, bad_image, bad_call, ran}
+use Rattle.stl2st.specs.Answer.{Reply, Work, alone, Answers, AnswersRun, AnswersSource, AnswersWork, Translates, image_reply, refusal_line, run_reply, run_status, too_long_line, usage_line, source_too_long, refused, read, image_too_long, bad_image, bad_call, ran}
 use Rattle.stl2st.specs.Devices.{AreOf, Input}
 use Rattle.stl2st.specs.Inputs.{IsReadPast, IsReadWhole}
 use Rattle.stl2st.specs.declared.command.Command.{Command}
 use Rattle.stl2st.specs.declared.limits.TheConstants.{INPUT_LIMIT, IMAGE_LIMIT}
-use Rattle.stl2st.specs.declared.reply.Job.{Job}
-use Rattle.stl2st.specs.declared.reply.Job.TheVariants as job
 use Rattle.stl2st.specs.declared.reply.Reply.{Reply as Made}
 use Rattle.stl2st.specs.declared.reply.Stop.{Stop}
 use Rattle.stl2st.specs.declared.status.Status.{Status}
 use Rattle.stl2st.specs.declared.status.Status.TheVariants.{Done, Refused, Usage, TooLong}
-use Rattle.stl2st.specs.inner.Replies.{Answered, AnsweredCall, AnsweredTo, AnswersJob, IsWritten, command_of, reply_of}
+use Rattle.stl2st.specs.inner.Replies.{Answered, AnsweredCall, AnsweredTo, IsWritten, reply_of}
 
 -- Bytes of an input
 
@@ -115,13 +113,15 @@ pub run_stood : (s : Standing) (start : Areas) (made : Made) → reply_of made �
 run_stood (running program now) start made e = e
 run_stood (over memory f) start made e = e
 
--- Programs
+-- Work
 
--- the reply to a program that needs no image
-pub job_alone : (j : Job) (program : Program) (i : Input) (made : Made) → ((bytes : List ℕ) → AnswersJob j program bytes (reply_of made)) → IsWritten made.status → AnsweredTo (AnswersJob j program) i made
-job_alone j program i made answers w =
+-- the reply of work that needs no image
+pub done_alone : {X : Type 0} (work : Work X) (To : X → Reply → Type 0) (x : X) (i : Input) (made : Made) (text : List ℕ) → work ≡ alone To → reply_of made ≡ (Done, text) → To x (Done, text)
+    → AnsweredTo (λ bytes reply. AnswersWork work bytes x reply) i made
+done_alone {X = X} work To x i made text e reply answers =
     let any : HasBytes i.left = some_bytes i.left in
-    record { bytes = any.bytes; of_image = any.of_input; answers = answers any.bytes; written = w }
+    subst (λ (w : Work X). AnsweredTo (λ bytes r. AnswersWork w bytes x r) i made) (sym e)
+    (record { bytes = any.bytes; of_image = any.of_input; answers = subst (λ (r : Reply). To x r) (sym reply) answers; written = status_written made Done text reply tt })
 
 -- an accepted program has no data blocks, and none are ones of a memory
 pub no_blocks : (program : Program) → IsAccepted program → AreBlocks program.dbs
@@ -139,27 +139,15 @@ translates program tree text proper same spelled =
       same = same;
     }
 
--- the reply of a translation
-pub translated_reply : (j : Job) (program : Program) (tree : StProgram) (text : List ℕ) (i : Input) (made : Made) → j ≡ job.Translate → Proper tree → Same program tree
-    → text ≡ spelling tree → reply_of made ≡ (Done, text) → AnsweredTo (AnswersJob j program) i made
-translated_reply j program tree text i made e proper same spelled reply =
-    let means : Translates program text = translates program tree text proper same spelled in
-    subst (λ (k : Job). AnsweredTo (AnswersJob k program) i made) (sym e)
-    (job_alone job.Translate program i made
-    (λ bytes. (ap (λ (r : Reply). r.0) reply, subst (λ (t : List ℕ). Translates program t) (sym (ap (λ (r : Reply). r.1) reply)) means))
-    (status_written made Done text reply tt))
-
--- the reply that a program is accepted
-pub checked_reply : (j : Job) (program : Program) (i : Input) (made : Made) → j ≡ job.Check → reply_of made ≡ (Done, accepted_line) → AnsweredTo (AnswersJob j program) i made
-checked_reply j program i made e reply =
-    subst (λ (k : Job). AnsweredTo (AnswersJob k program) i made) (sym e) (job_alone job.Check program i made (λ bytes. reply) (status_written made Done accepted_line reply tt))
-
 -- Sources
 
-module _ {X : Type 0} (Is : List ℕ → X → Type 0) (Breaks : List ℕ → Line → Reason → Type 0) (To : List ℕ → X → Reply → Type 0) (command : Command)
-    (up : (source bytes : List ℕ) (reply : Reply) → AnswersSource Is Breaks (To bytes) source reply → Answers (Some command) source bytes reply) (program image : Input) where
+-- what is answered to a source and the bytes of an image
+abbrev pub OfSource : {X : Type 0} → (List ℕ → X → Type 0) → (List ℕ → Line → Reason → Type 0) → (List ℕ → X → Reply → Type 0) → List ℕ → List ℕ → Reply → Type 0
+OfSource Is Breaks To source bytes reply = AnswersSource Is Breaks (To bytes) source reply
+
+module _ {X : Type 0} (Is : List ℕ → X → Type 0) (Breaks : List ℕ → Line → Reason → Type 0) (To : List ℕ → X → Reply → Type 0) (program image : Input) where
   -- the reply to a source that is too long
-  pub source_long : (made : Made) → IsReadPast program INPUT_LIMIT → reply_of made ≡ (TooLong, too_long_line) → Answered (Some command) program image made
+  pub source_long : (made : Made) → IsReadPast program INPUT_LIMIT → reply_of made ≡ (TooLong, too_long_line) → Answered (OfSource Is Breaks To) program image made
   source_long made past e =
       let long : IsLong program.left INPUT_LIMIT = is_long program.left program.left_after INPUT_LIMIT past in
       let any : HasBytes image.left = some_bytes image.left in
@@ -168,13 +156,13 @@ module _ {X : Type 0} (Is : List ℕ → X → Type 0) (Breaks : List ℕ → Li
         of_source = long.of_input;
         bytes = any.bytes;
         of_image = any.of_input;
-        answers = subst (λ (r : Reply). Answers (Some command) long.bytes any.bytes r) (sym e) (up long.bytes any.bytes (TooLong, too_long_line) (source_too_long long.long));
+        answers = subst (λ (r : Reply). AnswersSource Is Breaks (To any.bytes) long.bytes r) (sym e) (source_too_long long.long);
         written = status_written made TooLong too_long_line e tt;
       }
 
   -- the reply to a source that is refused
   pub source_refused : (bytes : List ℕ) (line : Line) (reason : Reason) (made : Made) → IsReadWhole program bytes → length bytes ≤ INPUT_LIMIT → Breaks bytes line reason
-      → reply_of made ≡ (Refused, refusal_line line reason) → Answered (Some command) program image made
+      → reply_of made ≡ (Refused, refusal_line line reason) → Answered (OfSource Is Breaks To) program image made
   source_refused bytes line reason made all within judged e =
       let any : HasBytes image.left = some_bytes image.left in
       record {
@@ -182,36 +170,26 @@ module _ {X : Type 0} (Is : List ℕ → X → Type 0) (Breaks : List ℕ → Li
         of_source = are_of program.left program.left_after bytes all;
         bytes = any.bytes;
         of_image = any.of_input;
-        answers = subst (λ (r : Reply). Answers (Some command) bytes any.bytes r) (sym e) (up bytes any.bytes (Refused, refusal_line line reason) (refused within judged));
+        answers = subst (λ (r : Reply). AnswersSource Is Breaks (To any.bytes) bytes r) (sym e) (refused within judged);
         written = status_written made Refused (refusal_line line reason) e tt;
       }
 
   -- the reply to a source that is read
   pub source_read : (bytes : List ℕ) (x : X) (r : Result Made Stop) → IsReadWhole program bytes → length bytes ≤ INPUT_LIMIT → Is bytes x
-      → IfOk r (AnsweredTo (λ image reply. To image x reply) image) → IfOk r (Answered (Some command) program image)
+      → IfOk r (AnsweredTo (λ image reply. To image x reply) image) → IfOk r (Answered (OfSource Is Breaks To) program image)
   source_read bytes x (Ok made) all within judged a =
       record {
         source = bytes;
         of_source = are_of program.left program.left_after bytes all;
         bytes = a.bytes;
         of_image = a.of_image;
-        answers = up bytes a.bytes (reply_of made) (read within judged a.answers);
+        answers = read within judged a.answers;
         written = a.written;
       }
   source_read bytes x (Err stop) all within judged a = tt
 
--- what a job answers to the bytes of an image and a program
-abbrev pub ToJob : Job → List ℕ → Program → Reply → Type 0
-ToJob j bytes program reply = AnswersJob j program bytes reply
-
--- a job answers as its command
-pub job_up : (j : Job) (source bytes : List ℕ) (reply : Reply) → AnswersSource IsAcceptedAs IsRefusedSource (ToJob j bytes) source reply → Answers (Some (command_of j)) source bytes reply
-job_up job.Translate source bytes reply a = a
-job_up job.Check source bytes reply a = a
-job_up (job.Run steps call) source bytes reply a = a
-
 -- the reply to arguments that are no command
-usage_reply : (program image : Input) (made : Made) → reply_of made ≡ (Usage, usage_line) → Answered None program image made
+usage_reply : (program image : Input) (made : Made) → reply_of made ≡ (Usage, usage_line) → Answered (Answers None) program image made
 usage_reply program image made e =
     let any : HasBytes program.left = some_bytes program.left in
     let text : HasBytes image.left = some_bytes image.left in
@@ -224,5 +202,5 @@ usage_reply program image made e =
       written = status_written made Usage usage_line e tt;
     }
 
-pub usage_asked : (m : Option Command) (program image : Input) (made : Made) → m ≡ None → reply_of made ≡ (Usage, usage_line) → Answered m program image made
-usage_asked m program image made none e = subst (λ (k : Option Command). Answered k program image made) (sym none) (usage_reply program image made e)
+pub usage_asked : (m : Option Command) (program image : Input) (made : Made) → m ≡ None → reply_of made ≡ (Usage, usage_line) → Answered (Answers m) program image made
+usage_asked m program image made none e = subst (λ (k : Option Command). Answered (Answers k) program image made) (sym none) (usage_reply program image made e)

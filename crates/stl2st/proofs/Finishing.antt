@@ -6,11 +6,11 @@ use Rattle.s7_io.specs.Sink.{Took}
 use Rattle.stl_tree.specs.declared.program.Program.{Program}
 use Rattle.stl2st.proofs.Answering.{HasBytes, some_bytes}
 use Rattle.st_parser.specs.Texts.{IsTextOf, IsRefusedText}
-use Rattle.stl2st.specs.Answer.{Reply, Answers, AnswersRunSt, AnswersRunStl, AnswersSource, AnswersStl, AnswersTranslate, IsAcceptedAs, IsRead, IsRefusedSource, Translates, Wants, source_too_long, refused, read}
+use Rattle.stl2st.specs.Answer.{Reply, Row, row, stl, st, Work, alone, on_image, Answers, AnswersRow, AnswersSource, AnswersStl, AnswersTranslate, AnswersWork, IsAcceptedAs, IsOnImage, IsRead, IsRefusedSource, Translates, Wants, WantsRow, source_too_long, refused, read}
 use Rattle.stl2st.specs.Devices.{AreOf, Devices, Input, Output, ReadFailed}
 use Rattle.stl2st.specs.Promises.{Completes, FailedToRead, HasCause, IsAnswered, IsTranslated, Sends, Translated, Writes}
 use Rattle.stl2st.specs.declared.command.Command.{Command}
-use Rattle.stl2st.specs.declared.command.Command.TheVariants.{Translate, Check, RunStl, RunSt}
+use Rattle.stl2st.specs.declared.command.Command.TheVariants.{Translate}
 use Rattle.stl2st.specs.declared.reply.Reply.{Reply as Made}
 use Rattle.stl2st.specs.declared.status.Status.{Status}
 use Rattle.stl2st.specs.declared.status.Status.TheVariants.{Done, Refused, Usage, BadImage, BadCall, Faulted, Going, ReadFault, WriteFault, TooLong, NoMemory}
@@ -37,7 +37,7 @@ module _ (command : Option Command) (source image : List ℕ) (out : Output) (re
   sends result w (inr h) = subst (λ (s : Status). Sends command source image out s) (sym h.0) (reply, answers, h.1)
 
 -- what was written is the answer
-pub written : (command : Option Command) (devices : Devices) (made : Made) (result : Status) (bytes : List ℕ) → Answered command devices.program devices.image made
+pub written : (command : Option Command) (devices : Devices) (made : Made) (result : Status) (bytes : List ℕ) → Answered (Answers command) devices.program devices.image made
     → bytes ≡ bytes_of_text made.text → Ends devices.out.taken devices.out.taken_after made.status bytes result → Writes command result devices
 written command devices made result bytes a same ends =
     let text : Ends devices.out.taken devices.out.taken_after made.status (bytes_of_text made.text) result =
@@ -83,15 +83,19 @@ retold_source Is Breaks To source a image reply same (refused within breaks) = r
 retold_source Is Breaks To source a image reply same (read {x = x} {reply = r} within is answers) =
     read within is (subst (λ (t : List ℕ). To t x r) (same (record { within = within; it = x; is = is })) answers)
 
+retold_work : {X : Type 0} (Is : List ℕ → X → Type 0) (Breaks : List ℕ → Line → Reason → Type 0) (work : Work X) (source a image : List ℕ) (reply : Reply)
+    → (IsOnImage work × IsRead Is source → a ≡ image) → AnswersSource Is Breaks (AnswersWork work a) source reply → AnswersSource Is Breaks (AnswersWork work image) source reply
+retold_work Is Breaks (alone To) source a image reply same answers = answers
+retold_work Is Breaks (on_image To) source a image reply same answers = retold_source Is Breaks To source a image reply (λ is. same (tt, is)) answers
+
+retold_row : (r : Row) (source a image : List ℕ) (reply : Reply) → (WantsRow r source → a ≡ image) → AnswersRow r source a reply → AnswersRow r source image reply
+retold_row (stl work) source a image reply same answers = retold_work IsAcceptedAs IsRefusedSource work source a image reply same answers
+retold_row (st work) source a image reply same answers = retold_work IsTextOf IsRefusedText work source a image reply same answers
+
 retold : (command : Option Command) (left : Option (List ℕ)) (source a image : List ℕ) (reply : Reply) → AreOf left a → (Wants command source → left ≡ Some image)
     → Answers command source a reply → Answers command source image reply
 retold None left source a image reply are is answers = answers
-retold (Some Translate) left source a image reply are is answers = answers
-retold (Some Check) left source a image reply are is answers = answers
-retold (Some (RunStl steps call)) left source a image reply are is answers =
-    retold_source IsAcceptedAs IsRefusedSource (AnswersRunStl steps call) source a image reply (λ wanted. told left a image are (is wanted)) answers
-retold (Some (RunSt units call)) left source a image reply are is answers =
-    retold_source IsTextOf IsRefusedText (AnswersRunSt units call) source a image reply (λ wanted. told left a image are (is wanted)) answers
+retold (Some command) left source a image reply are is answers = retold_row (row command) source a image reply (λ wanted. told left a image are (is wanted)) answers
 
 -- the answer that was sent
 sent : (command : Option Command) (source image : List ℕ) (out : Output) (result : Status) → Sends command source image out result

@@ -5,76 +5,67 @@ use Rattle.s7_base.specs.declared.reason.Reason.{Reason}
 use Rattle.s7_base.specs.declared.reason.Rejection.TheVariants as rejection
 use Rattle.std.specs.Prelude.{Result, Ok, Err}
 use Rattle.st_parser.proofs.OneReading.{not_both}
-use Rattle.st_parser.specs.Texts.{IsTextOf, IsRefusedText}
+use Rattle.st_parser.specs.Texts.{IsRefusedText}
 use Rattle.st_tree.specs.declared.program.StProgram.{StProgram}
-use Rattle.stl_tree.specs.declared.program.Call.{Call}
 use Rattle.stl_tree.specs.declared.program.Program.{Program}
 use Rattle.stl2st.proofs.Answering.{are_of}
 use Rattle.stl2st.specs.declared.reply.Reply.{Reply as Made}
-use Rattle.stl2st.specs.Answer.{Reply, IsAcceptedAs, IsRefusedSource, Wants}
+use Rattle.stl2st.specs.Answer.{Reply, Row, row, stl, st, Work, alone, on_image, IsOnImage, IsRead, IsRefusedSource, Wants, WantsRow}
 use Rattle.stl2st.specs.Devices.{Input}
 use Rattle.stl2st.specs.Inputs.{IsReadWhole, IsReadWithin, IsUntouched, ReadsFor, ReadsInputs, SaysRead, SaysTooLong, Stopped, source_failed, source_long, source_alone, image_failed, image_long, both}
 use Rattle.stl2st.specs.Promises.{FailedToRead}
 use Rattle.stl2st.specs.declared.command.Command.{Command}
-use Rattle.stl2st.specs.declared.command.Command.TheVariants.{Translate, Check, RunStl, RunSt}
 use Rattle.stl2st.specs.declared.limits.TheConstants.{INPUT_LIMIT}
-use Rattle.stl2st.specs.declared.reply.Job.{Job}
-use Rattle.stl2st.specs.declared.reply.Job.TheVariants as job
+use Rattle.stl2st.specs.declared.reply.Task.{Task}
 use Rattle.stl2st.specs.declared.status.Status.{Status}
 use Rattle.stl2st.specs.declared.status.Status.TheVariants.{Done, Refused, Usage, BadImage, BadCall, Faulted, Going, ReadFault, WriteFault, TooLong, NoMemory}
-use Rattle.stl2st.specs.inner.Replies.{Ends, IsWritten, ReadsImage, ReadsJob, ReadsNoImage, command_of, reply_of, stopped, long, whole}
+use Rattle.stl2st.specs.inner.Replies.{Ends, IsWritten, ReadsImage, ReadsNoImage, ReadsWork, reply_of, row_of, row_of_task, task_of, stopped, long, whole}
 
 -- Sources that want no image
 
 -- a source that is refused wants none
-pub refused_wants_none : (j : Job) (source : List ℕ) (line : Line) (reason : Reason) → IsRefusedSource source line reason → ¬ Wants (Some (command_of j)) source
-refused_wants_none job.Translate source line reason refused wanted = wanted
-refused_wants_none job.Check source line reason refused wanted = wanted
-refused_wants_none (job.Run steps call) source line reason refused wanted = let clash : Ok wanted.it ≡ Err (rejection.Refused line reason) = sym wanted.is ∙ refused in absurd cc
+pub refused_wants_none : (work : Work Program) (source : List ℕ) (line : Line) (reason : Reason) → IsRefusedSource source line reason → ¬ WantsRow (stl work) source
+refused_wants_none work source line reason refused wanted = let clash : Ok wanted.1.it ≡ Err (rejection.Refused line reason) = sym wanted.1.is ∙ refused in absurd cc
 
-pub refused_text_wants_none : (units : ℕ) (call : Call) (source : List ℕ) (line : Line) (reason : Reason) → IsRefusedText source line reason → ¬ Wants (Some (RunSt units call)) source
-refused_text_wants_none units call source line reason refused wanted = not_both source wanted.it line reason wanted.is refused
+pub refused_text_wants_none : (work : Work StProgram) (source : List ℕ) (line : Line) (reason : Reason) → IsRefusedText source line reason → ¬ WantsRow (st work) source
+refused_text_wants_none work source line reason refused wanted = not_both source wanted.1.it line reason wanted.1.is refused
 
 -- Sources that are accepted or read
 
-module _ (command : Command) (program image : Input) (source : List ℕ) (all : IsReadWhole program source) (status : Status) where
+module _ (Wanted : List ℕ → Type 0) (program image : Input) (source : List ℕ) (all : IsReadWhole program source) (status : Status) where
   -- the image of a run was read as far as it is said
-  pub wanted : Wants (Some command) source → ReadsImage image status → ReadsFor command program image status
+  pub wanted : Wanted source → ReadsImage image status → ReadsFor Wanted program image status
   wanted wants (stopped s within) = image_failed source s all wants within
   wanted wants (long s past) = image_long source s all wants past
   wanted wants (whole bytes s all_of) = both source bytes s all wants all_of
 
   -- no image was read
-  pub unwanted : ¬ Wants (Some command) source → IsReadWithin program INPUT_LIMIT → ReadsNoImage image status → ReadsFor command program image status
+  pub unwanted : ¬ Wanted source → IsReadWithin program INPUT_LIMIT → ReadsNoImage image status → ReadsFor Wanted program image status
   unwanted none within (untouched, inl s) = source_alone source s all none untouched
   unwanted none within (untouched, inr e) = source_failed (subst (λ (s : Status). Stopped program s) (sym e) tt) within untouched
 
--- what is read for a job, where its source is accepted
-pub job_reads : (j : Job) (program image : Input) (source : List ℕ) (p : Program) (status : Status) → IsReadWhole program source → length source ≤ INPUT_LIMIT → IsReadWithin program INPUT_LIMIT
-    → IsAcceptedAs source p → ReadsJob j image status → ReadsFor (command_of j) program image status
-job_reads job.Translate program image source p status all within most accepted r = unwanted Translate program image source all status (λ none. none) most r
-job_reads job.Check program image source p status all within most accepted r = unwanted Check program image source all status (λ none. none) most r
-job_reads (job.Run steps call) program image source p status all within most accepted r =
-    wanted (RunStl steps call) program image source all status (record { within = within; it = p; is = accepted }) r
+-- what is read for work, where its source is read
+pub work_reads : {X : Type 0} (Is : List ℕ → X → Type 0) (work : Work X) (program image : Input) (source : List ℕ) (x : X) (status : Status) → IsReadWhole program source
+    → length source ≤ INPUT_LIMIT → IsReadWithin program INPUT_LIMIT → Is source x → ReadsWork work image status
+    → ReadsFor (λ (text : List ℕ). IsOnImage work × IsRead Is text) program image status
+work_reads Is (alone To) program image source x status all within most is r = unwanted _ program image source all status (λ wants. wants.0) most r
+work_reads Is (on_image To) program image source x status all within most is r = wanted _ program image source all status (tt, record { within = within; it = x; is = is }) r
 
--- what is read for a run of a text that is read
-pub text_reads : (units : ℕ) (call : Call) (program image : Input) (source : List ℕ) (tree : StProgram) (status : Status) → IsReadWhole program source → length source ≤ INPUT_LIMIT
-    → IsTextOf source tree → ReadsImage image status → ReadsFor (RunSt units call) program image status
-text_reads units call program image source tree status all within is r =
-    wanted (RunSt units call) program image source all status (record { within = within; it = tree; is = is }) r
-
--- and for a job that runs
-pub run_reads : (j : Job) (steps : ℕ) (call : Call) (image : Input) (status : Status) → j ≡ job.Run steps call → ReadsImage image status → ReadsJob j image status
-run_reads j steps call image status e r = subst (λ (k : Job). ReadsJob k image status) (sym e) r
+-- and for work on an image
+pub image_reads : {X : Type 0} (work : Work X) (To : List ℕ → X → Reply → Type 0) (image : Input) (status : Status) → work ≡ on_image To → ReadsImage image status → ReadsWork work image status
+image_reads {X = X} work To image status e r = subst (λ (w : Work X). ReadsWork w image status) (sym e) r
 
 -- the command that is asked for
-pub reads_asked : (m : Option Command) (command : Command) (program image : Input) (status : Status) → m ≡ Some command → ReadsFor command program image status → ReadsInputs m program image status
-reads_asked m command program image status e r = subst (λ (k : Option Command). ReadsInputs k program image status) (sym e) r
+pub reads_asked : (m : Option Command) (command : Command) (t : Task) (program image : Input) (status : Status) → m ≡ Some command → t ≡ task_of command
+    → ReadsFor (WantsRow (row_of t)) program image status → ReadsInputs m program image status
+reads_asked m command t program image status e same reads =
+    let row_is : row_of t ≡ row command = ap row_of same ∙ row_of_task command in
+    subst (λ (k : Option Command). ReadsInputs k program image status) (sym e) (subst (λ (r : Row). ReadsFor (WantsRow r) program image status) row_is reads)
 
 -- a source that is refused is read alone
-pub refused_alone : (command : Command) (program image : Input) (source : List ℕ) (made : Made) (text : List ℕ) → reply_of made ≡ (Refused, text) → IsReadWhole program source
-    → ¬ Wants (Some command) source → IsUntouched image → ReadsFor command program image made.status
-refused_alone command program image source made text e all none untouched =
+pub refused_alone : (Wanted : List ℕ → Type 0) (program image : Input) (source : List ℕ) (made : Made) (text : List ℕ) → reply_of made ≡ (Refused, text) → IsReadWhole program source
+    → ¬ Wanted source → IsUntouched image → ReadsFor Wanted program image made.status
+refused_alone Wanted program image source made text e all none untouched =
     source_alone source (subst (λ (s : Status). SaysRead s) (sym (ap (λ (r : Reply). r.0) e)) tt) all none untouched
 
 -- an input that was read whole is not too long
@@ -96,17 +87,17 @@ not_stopped i WriteFault w s = w
 not_stopped i TooLong w s = s
 not_stopped i NoMemory w s = w
 
-written_read : (program image : Input) (command : Command) (status : Status) → IsWritten status → ReadsFor command program image status → ReadsFor command program image WriteFault
-written_read program image command status w (source_failed s within untouched) = absurd (not_stopped program status w s)
-written_read program image command status w (source_long s past untouched) = source_long (inr refl) past untouched
-written_read program image command status w (source_alone source s all none untouched) = source_alone source tt all none untouched
-written_read program image command status w (image_failed source s all wants within) = absurd (not_stopped image status w s)
-written_read program image command status w (image_long source s all wants past) = image_long source (inr refl) all wants past
-written_read program image command status w (both source text s all wants all_of) = both source text tt all wants all_of
+written_read : (program image : Input) (Wanted : List ℕ → Type 0) (status : Status) → IsWritten status → ReadsFor Wanted program image status → ReadsFor Wanted program image WriteFault
+written_read program image Wanted status w (source_failed s within untouched) = absurd (not_stopped program status w s)
+written_read program image Wanted status w (source_long s past untouched) = source_long (inr refl) past untouched
+written_read program image Wanted status w (source_alone source s all none untouched) = source_alone source tt all none untouched
+written_read program image Wanted status w (image_failed source s all wants within) = absurd (not_stopped image status w s)
+written_read program image Wanted status w (image_long source s all wants past) = image_long source (inr refl) all wants past
+written_read program image Wanted status w (both source text s all wants all_of) = both source text tt all wants all_of
 
 at_write_fault : (command : Option Command) (program image : Input) (status : Status) → IsWritten status → ReadsInputs command program image status → ReadsInputs command program image WriteFault
 at_write_fault None program image status w r = (r.0, r.1, λ e. cc)
-at_write_fault (Some command) program image status w r = written_read program image command status w r
+at_write_fault (Some command) program image status w r = written_read program image (Wants (Some command)) status w r
 
 -- the inputs were read as far as the status says, whether the text was written whole or not
 pub inputs_read : (command : Option Command) (program image : Input) (before after : Option (List ℕ)) (status result : Status) (text : List ℕ) →
@@ -120,7 +111,7 @@ not_long : SaysTooLong ReadFault → ⊥
 not_long (inl e) = cc
 not_long (inr e) = cc
 
-failed_for : (command : Command) (program image : Input) → ReadsFor command program image ReadFault → FailedToRead (Some command) program image
+failed_for : (command : Command) (program image : Input) → ReadsFor (Wants (Some command)) program image ReadFault → FailedToRead (Some command) program image
 failed_for command program image (source_failed s within untouched) = inl s
 failed_for command program image (source_long s past untouched) = absurd (not_long s)
 failed_for command program image (source_alone source s all none untouched) = absurd s
@@ -131,4 +122,4 @@ failed_for command program image (both source text s all wants all_of) = absurd 
 -- where the status is ReadFault a read failed
 pub read_cause : (command : Option Command) (program image : Input) (status : Status) → ReadsInputs command program image status → status ≡ ReadFault → FailedToRead command program image
 read_cause None program image status r e = absurd (r.2 e)
-read_cause (Some command) program image status r e = failed_for command program image (subst (λ (s : Status). ReadsFor command program image s) e r)
+read_cause (Some command) program image status r e = failed_for command program image (subst (λ (s : Status). ReadsFor (Wants (Some command)) program image s) e r)

@@ -150,14 +150,38 @@ AnswersRunSt units call image tree reply =
 
 -- Commands
 
+-- what is answered to what a source is read as: to it alone, or to it and the bytes of an image
+pub data Work (X : Type 0) : Type 1 where
+  alone : (X → Reply → Type 0) → Work X
+  on_image : (List ℕ → X → Reply → Type 0) → Work X
+
+-- the language of a source, STL or Structured Text, and what is answered to what it is read as
+pub data Row : Type 1 where
+  stl : Work Program → Row
+  st : Work StProgram → Row
+
+-- THE COMMANDS: what each reads, and what it answers to what it read
+abbrev pub row : Command → Row
+row Translate = stl (alone AnswersTranslate)
+row Check = stl (alone AnswersCheck)
+row (RunStl steps call) = stl (on_image (AnswersRunStl steps call))
+row (RunSt units call) = st (on_image (AnswersRunSt units call))
+
+-- what is answered to what was read
+abbrev pub AnswersWork : {X : Type 0} → Work X → List ℕ → X → Reply → Type 0
+AnswersWork (alone To) image x reply = To x reply
+AnswersWork (on_image To) image x reply = To image x reply
+
+-- what is answered to a source, in the language of the row
+abbrev pub AnswersRow : Row → List ℕ → List ℕ → Reply → Type 0
+AnswersRow (stl work) source image reply = AnswersStl (AnswersWork work image) source reply
+AnswersRow (st work) source image reply = AnswersSt (AnswersWork work image) source reply
+
 -- the status and the text to write are an answer to a command, the bytes of the source and those of the
 -- image
 abbrev pub Answers : Option Command → List ℕ → List ℕ → Reply → Type 0
 Answers None source image reply = reply ≡ (Usage, usage_line)
-Answers (Some Translate) source image reply = AnswersStl AnswersTranslate source reply
-Answers (Some Check) source image reply = AnswersStl AnswersCheck source reply
-Answers (Some (RunStl steps call)) source image reply = AnswersStl (AnswersRunStl steps call image) source reply
-Answers (Some (RunSt units call)) source image reply = AnswersSt (AnswersRunSt units call image) source reply
+Answers (Some command) source image reply = AnswersRow (row command) source image reply
 
 -- a source of a language is within the limit and read
 pub record IsRead {X : Type 0} (Is : List ℕ → X → Type 0) (source : List ℕ) : Type 0 where
@@ -165,10 +189,17 @@ pub record IsRead {X : Type 0} (Is : List ℕ → X → Type 0) (source : List �
   pub it : X
   pub is : Is source it
 
+-- an image is needed
+abbrev pub IsOnImage : {X : Type 0} → Work X → Type 0
+IsOnImage (alone To) = ⊥
+IsOnImage (on_image To) = Unit {0}
+
+-- the image is wanted in a row: one is needed, and the source is within the limit and accepted or read
+abbrev pub WantsRow : Row → List ℕ → Type 0
+WantsRow (stl work) source = IsOnImage work × IsRead IsAcceptedAs source
+WantsRow (st work) source = IsOnImage work × IsRead IsTextOf source
+
 -- the image is wanted: the command has one, and its source is within the limit and accepted or read
 abbrev pub Wants : Option Command → List ℕ → Type 0
 Wants None source = ⊥
-Wants (Some Translate) source = ⊥
-Wants (Some Check) source = ⊥
-Wants (Some (RunStl steps call)) source = IsRead IsAcceptedAs source
-Wants (Some (RunSt units call)) source = IsRead IsTextOf source
+Wants (Some command) source = WantsRow (row command) source

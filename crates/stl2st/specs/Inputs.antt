@@ -48,25 +48,26 @@ SaysRead status = Unit {0}
 
 -- Both inputs
 
--- how far a command read them: the source first, and the image only where it is wanted
-pub data ReadsFor (command : Command) (program image : Input) (status : Status) : Type 0 where
+-- how far they were read, where `Wanted` says of which sources the image is wanted: the source first, and
+-- the image only where it is wanted
+pub data ReadsFor (Wanted : List ℕ → Type 0) (program image : Input) (status : Status) : Type 0 where
   source_failed : Stopped program status → IsReadWithin program INPUT_LIMIT → IsUntouched image
-      → ReadsFor command program image status
+      → ReadsFor Wanted program image status
   source_long : SaysTooLong status → IsReadPast program INPUT_LIMIT → IsUntouched image
-      → ReadsFor command program image status
+      → ReadsFor Wanted program image status
   source_alone : (source : List ℕ) → SaysRead status → IsReadWhole program source
-      → ¬ Wants (Some command) source → IsUntouched image → ReadsFor command program image status
+      → ¬ Wanted source → IsUntouched image → ReadsFor Wanted program image status
   image_failed : (source : List ℕ) → Stopped image status → IsReadWhole program source
-      → Wants (Some command) source → IsReadWithin image IMAGE_LIMIT → ReadsFor command program image status
+      → Wanted source → IsReadWithin image IMAGE_LIMIT → ReadsFor Wanted program image status
   image_long : (source : List ℕ) → SaysTooLong status → IsReadWhole program source
-      → Wants (Some command) source → IsReadPast image IMAGE_LIMIT → ReadsFor command program image status
+      → Wanted source → IsReadPast image IMAGE_LIMIT → ReadsFor Wanted program image status
   both : (source text : List ℕ) → SaysRead status → IsReadWhole program source
-      → Wants (Some command) source → IsReadWhole image text → ReadsFor command program image status
+      → Wanted source → IsReadWhole image text → ReadsFor Wanted program image status
 
 -- how far they were read; without a command neither is
 abbrev pub ReadsInputs : Option Command → Input → Input → Status → Type 0
 ReadsInputs None program image status = IsUntouched program × IsUntouched image × (status ≢ ReadFault)
-ReadsInputs (Some command) program image status = ReadsFor command program image status
+ReadsInputs (Some command) program image status = ReadsFor (Wants (Some command)) program image status
 
 -- how far the inputs of a call were read
 abbrev pub Reads : Option Command → Status → Devices → Type 0

@@ -8,12 +8,11 @@ ghost use Rattle.st_tree.specs.Proper.{Proper};
 ghost use Rattle.st_tree.specs.StRun.{FitsSt, st_run};
 ghost use Rattle.stl_tree.specs.Accepted.{IsAccepted};
 ghost use Rattle.stl_tree.specs.StlRun.{Fits, stl_run};
-ghost use Rattle.stl2st.specs.Answer.{AnswersRunSt, AnswersRunStl, image_line, image_reply, refusal_line, run_status};
+ghost use Rattle.stl2st.specs.Answer.{Answers, AnswersRow, AnswersRunSt, AnswersRunStl, WantsRow, stl, st, image_line, image_reply, refusal_line, run_status};
 ghost use Rattle.stl2st.specs.Command.{asked};
 ghost use Rattle.stl2st.specs.Devices.{input};
 ghost use Rattle.stl2st.specs.Inputs.{IsReadPast, IsReadWhole, IsReadWithin, ReadsFor, ReadsInputs, SaysRead, Stopped};
-ghost use Rattle.stl2st.specs.inner.Replies.{Answered, AnsweredCall, AnsweredTo, AnswersJob, IsWritten, ReadsImage, ReadsJob, bytes_of_text, command_of, ending, reply_of, stop_status};
-ghost use Rattle.stl2st.specs.declared.command.Command.TheVariants.{RunSt};
+ghost use Rattle.stl2st.specs.inner.Replies.{Answered, AnsweredCall, AnsweredTo, AnswersJob, AnswersTextJob, IsWritten, ReadsImage, ReadsWork, bytes_of_text, ending, reply_of, stop_status, task_of, text_work_of, work_of};
 
 use crate::command::{Command, WordsRefusal, read_words};
 use crate::limits::{IMAGE_LIMIT, INPUT_LIMIT};
@@ -33,7 +32,8 @@ use stl_machine::{Machine, MachineRefusal};
 use stl_translate::translate;
 use stl_tree::{Call, Program};
 
-const USAGE_LINE: &str =
+/// The line for arguments that are no command.
+pub const USAGE_LINE: &str =
     "usage: stl2st translate | check | run-stl STEPS CALL IMAGE | run-st UNITS CALL IMAGE | demo N\n";
 
 const TOO_LONG_LINE: &str = "too long\n";
@@ -103,6 +103,34 @@ pub enum Job {
 
     /// It runs for so many steps at most, from a call on.
     Run(u64, Call),
+}
+
+/// What is done with the tree of a Structured Text.
+#[derive(Debug, Drop)]
+pub enum TextJob {
+    /// It runs for so many units at most, from a call on.
+    Run(u64, Call),
+}
+
+/// What a command asks for, by the language of its source.
+#[derive(Debug, Drop)]
+pub enum Task {
+    /// With the program of an STL source.
+    Stl(Job),
+
+    /// With the tree of a Structured Text.
+    St(TextJob),
+}
+
+fn task_of(command: Command) -> Task
+    ensures { result ≡ task_of command }
+{
+    match command {
+        Command::Translate => Task::Stl(Job::Translate),
+        Command::Check => Task::Stl(Job::Check),
+        Command::RunStl(steps, call) => Task::Stl(Job::Run(steps, call)),
+        Command::RunSt(units, call) => Task::St(TextJob::Run(units, call)),
+    }
 }
 
 fn fixed(status: Status, line: &'static str) -> Reply
@@ -251,7 +279,7 @@ fn program_reply<M: Source>(
 ) -> Result<Reply, Stop>
     requires { IsAccepted program.now }
     ensures answer { IfOk result (AnsweredTo (AnswersJob job.now program.now) (input M.Source image.old image.new)) }
-    ensures reads { ReadsJob job.now (input M.Source image.old image.new) (ending result) }
+    ensures reads { ReadsWork (work_of job.now) (input M.Source image.old image.new) (ending result) }
     ensures later { M.faults image.old ≤ M.faults image.new }
 {
     match job {
@@ -271,9 +299,9 @@ fn source_reply<P: Source, M: Source>(
     program: &mut P,
     image: &mut M,
 ) -> Result<Reply, Stop>
-    ensures answer { IfOk result (Answered (Some (command_of job.now))
+    ensures answer { IfOk result (Answered (AnswersRow (stl (work_of job.now)))
         (input P.Source program.old program.new) (input M.Source image.old image.new)) }
-    ensures reads { ReadsFor (command_of job.now)
+    ensures reads { ReadsFor (WantsRow (stl (work_of job.now)))
         (input P.Source program.old program.new) (input M.Source image.old image.new) (ending result) }
     ensures program_later { P.faults program.old ≤ P.faults program.new }
     ensures image_later { M.faults image.old ≤ M.faults image.new }
@@ -343,17 +371,33 @@ fn tree_reply<M: Source>(
     }
 }
 
-/// What a run answers to a Structured Text, and to an image.
+/// What is answered to a tree that was read, by what is to be done with it.
+fn read_reply<M: Source>(
+    alloc: Global,
+    job: &TextJob,
+    tree: &StProgram,
+    image: &mut M,
+) -> Result<Reply, Stop>
+    requires { Proper tree.now }
+    ensures answer { IfOk result (AnsweredTo (AnswersTextJob job.now tree.now) (input M.Source image.old image.new)) }
+    ensures reads { ReadsWork (text_work_of job.now) (input M.Source image.old image.new) (ending result) }
+    ensures later { M.faults image.old ≤ M.faults image.new }
+{
+    match job {
+        TextJob::Run(units, call) => tree_reply(alloc, tree, call, *units, image),
+    }
+}
+
+/// What is answered to a Structured Text, and to an image where the job has one.
 fn text_reply<P: Source, M: Source>(
     alloc: Global,
-    units: u64,
-    call: &Call,
+    job: &TextJob,
     text: &mut P,
     image: &mut M,
 ) -> Result<Reply, Stop>
-    ensures answer { IfOk result (Answered (Some (RunSt units call.now))
+    ensures answer { IfOk result (Answered (AnswersRow (st (text_work_of job.now)))
         (input P.Source text.old text.new) (input M.Source image.old image.new)) }
-    ensures reads { ReadsFor (RunSt units call.now)
+    ensures reads { ReadsFor (WantsRow (st (text_work_of job.now)))
         (input P.Source text.old text.new) (input M.Source image.old image.new) (ending result) }
     ensures text_later { P.faults text.old ≤ P.faults text.new }
     ensures image_later { M.faults image.old ≤ M.faults image.new }
@@ -364,7 +408,7 @@ fn text_reply<P: Source, M: Source>(
         Err(stop) => return Err(stop),
     };
     match parse(alloc, source.as_slice()) {
-        Ok(tree) => tree_reply(alloc, &tree, call, units, image),
+        Ok(tree) => read_reply(alloc, job, &tree, image),
         Err(Rejection::Refused(line, reason)) => {
             let written = refusal_line(alloc, line, reason)?;
             Ok(made(Status::Refused, written))
@@ -380,7 +424,7 @@ pub fn reply_to<P: Source, M: Source>(
     program: &mut P,
     image: &mut M,
 ) -> Result<Reply, Stop>
-    ensures answer { IfOk result (Answered (asked words.now)
+    ensures answer { IfOk result (Answered (Answers (asked words.now))
         (input P.Source program.old program.new) (input M.Source image.old image.new)) }
     ensures reads { ReadsInputs (asked words.now)
         (input P.Source program.old program.new) (input M.Source image.old image.new) (ending result) }
@@ -388,12 +432,10 @@ pub fn reply_to<P: Source, M: Source>(
     ensures image_later { M.faults image.old ≤ M.faults image.new }
 {
     match read_words(alloc, words) {
-        Ok(Command::Translate) => source_reply(alloc, &Job::Translate, program, image),
-        Ok(Command::Check) => source_reply(alloc, &Job::Check, program, image),
-        Ok(Command::RunStl(steps, call)) => {
-            source_reply(alloc, &Job::Run(steps, call), program, image)
-        }
-        Ok(Command::RunSt(units, call)) => text_reply(alloc, units, &call, program, image),
+        Ok(command) => match task_of(command) {
+            Task::Stl(job) => source_reply(alloc, &job, program, image),
+            Task::St(job) => text_reply(alloc, &job, program, image),
+        },
         Err(WordsRefusal::Usage) => Ok(fixed(Status::Usage, USAGE_LINE)),
         Err(WordsRefusal::NoMemory) => Err(Stop::NoMemory),
     }

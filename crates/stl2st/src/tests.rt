@@ -5,6 +5,7 @@ ghost use Rattle.std.specs.Prelude.{◌≤◌};
 use crate::answer::stl2st;
 use crate::command::{Command, WordsRefusal, image_name, read_words};
 use crate::limits::INPUT_LIMIT;
+use crate::reply::USAGE_LINE;
 use crate::status::Status;
 use memory_areas::{Area, Place};
 use s7_base::{List, NoMemory, Width};
@@ -26,9 +27,6 @@ const ROW_TEXT: &[u8] = b"PROGRAM OB1
     NFC := FALSE;
 END_PROGRAM
 ";
-
-const USAGE_LINE: &[u8] =
-    b"usage: stl2st translate | check | run-stl STEPS CALL IMAGE | run-st UNITS CALL IMAGE | demo N\n";
 
 /// What `A I 0.0;` is in ST.
 const CHECK: &[&str] = &["RLO := (RLO OR NOT NFC) AND %IX0.0;", "NFC := TRUE;"];
@@ -456,7 +454,7 @@ fn words_that_are_no_command_get_the_usage_line(rt: HostRuntime) -> Result<(), F
     ] {
         // A read of either source would fail.
         let (status, out) = without_image(alloc, line, ROW, &[1])?;
-        let wanted = (Status::Usage, USAGE_LINE);
+        let wanted = (Status::Usage, USAGE_LINE.as_bytes());
         wants_answer(&rt, line.as_bytes(), (status, out.taken()), wanted);
     }
     Ok(())
@@ -484,7 +482,7 @@ pub type Run = (
 );
 
 /// Runs of bodies.
-static RUNS: [Run; 22] = [
+static RUNS: [Run; 21] = [
     ("run-stl 1 OB1 img", b"", b"", Status::Done, b"# ENDED\n"),
     ("run-stl 0 OB1 img", b"", b"", Status::Going, b"# GOING\n"),
     (
@@ -543,13 +541,6 @@ static RUNS: [Run; 22] = [
         b"",
         Status::BadCall,
         b"bad call\n",
-    ),
-    (
-        "run-stl 3 FC10() img",
-        NEGATED,
-        b"",
-        Status::Usage,
-        USAGE_LINE,
     ),
     (
         "run-stl 3 OB1 img",

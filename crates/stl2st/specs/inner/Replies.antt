@@ -1,10 +1,12 @@
 -- The parts of the program that make a reply, and what each answers.
+use Rattle.std.proofs.Common.{refl}
 use Rattle.std.specs.Prelude.{◌≡◌, ℕ, ◌⊎◌, List, Option, Result, Ok, Err}
 use Rattle.s7_io.specs.Sink.{Took, TookFewer}
 use Rattle.memory_areas.specs.Areas.{Areas}
 use Rattle.memory_areas.specs.End.{End}
+use Rattle.st_tree.specs.declared.program.StProgram.{StProgram}
 use Rattle.stl_tree.specs.declared.program.Program.{Program}
-use Rattle.stl2st.specs.Answer.{Reply, Answers, AnswersTranslate, AnswersCheck, AnswersRunStl, bad_call_line, run_reply}
+use Rattle.stl2st.specs.Answer.{Reply, Row, row, stl, st, Work, alone, on_image, AnswersTranslate, AnswersCheck, AnswersRunSt, AnswersRunStl, AnswersWork, bad_call_line, run_reply}
 use Rattle.stl2st.specs.Devices.{AreOf, Input}
 use Rattle.stl2st.specs.Inputs.{IsReadPast, IsReadWhole, IsReadWithin, IsUntouched, SaysRead, SaysTooLong, Stopped}
 use Rattle.stl2st.specs.declared.command.Command.{Command}
@@ -15,8 +17,12 @@ use Rattle.stl2st.specs.declared.reply.Job.TheVariants as job
 use Rattle.stl2st.specs.declared.reply.Reply.{Reply as Made}
 use Rattle.stl2st.specs.declared.reply.Stop.{Stop}
 use Rattle.stl2st.specs.declared.reply.Stop.TheVariants as stop
+use Rattle.stl2st.specs.declared.reply.Task.{Task}
+use Rattle.stl2st.specs.declared.reply.Task.TheVariants as task
 use Rattle.stl2st.specs.declared.reply.Text.{Text}
 use Rattle.stl2st.specs.declared.reply.Text.TheVariants as text
+use Rattle.stl2st.specs.declared.reply.TextJob.{TextJob}
+use Rattle.stl2st.specs.declared.reply.TextJob.TheVariants as text_job
 use Rattle.stl2st.specs.declared.status.Status.{Status}
 use Rattle.stl2st.specs.declared.status.Status.TheVariants.{BadCall, ReadFault, WriteFault, NoMemory}
 
@@ -57,13 +63,13 @@ pub record AnsweredTo (To : List ℕ → Reply → Type 0) (image : Input) (made
   pub answers : To bytes (reply_of made)
   pub written : IsWritten made.status
 
--- the reply is an answer to the command, the bytes of the source and those of the image
-pub record Answered (command : Option Command) (program image : Input) (made : Made) : Type 0 where
+-- the reply is an answer to the bytes of the source and those of the image
+pub record Answered (To : List ℕ → List ℕ → Reply → Type 0) (program image : Input) (made : Made) : Type 0 where
   pub source : List ℕ
   pub of_source : AreOf program.left source
   pub bytes : List ℕ
   pub of_image : AreOf image.left bytes
-  pub answers : Answers command source bytes (reply_of made)
+  pub answers : To source bytes (reply_of made)
   pub written : IsWritten made.status
 
 -- the reply is that of a call which fits or does not, and of its run from a memory
@@ -72,19 +78,44 @@ AnsweredCall Fits run memory made =
     (Fits × (reply_of made ≡ run_reply memory (run memory)))
     ⊎ (¬ Fits × (reply_of made ≡ (BadCall, bad_call_line)))
 
--- Programs
+-- Jobs
 
--- the command that does a job
-abbrev pub command_of : Job → Command
-command_of job.Translate = command.Translate
-command_of job.Check = command.Check
-command_of (job.Run steps call) = command.RunStl steps call
+-- what is done for a job with a program
+abbrev pub work_of : Job → Work Program
+work_of job.Translate = alone AnswersTranslate
+work_of job.Check = alone AnswersCheck
+work_of (job.Run steps call) = on_image (AnswersRunStl steps call)
+
+-- what is done for a job with a tree
+abbrev pub text_work_of : TextJob → Work StProgram
+text_work_of (text_job.Run units call) = on_image (AnswersRunSt units call)
+
+-- the row of a task
+abbrev pub row_of : Task → Row
+row_of (task.Stl j) = stl (work_of j)
+row_of (task.St j) = st (text_work_of j)
+
+-- the task of a command
+abbrev pub task_of : Command → Task
+task_of command.Translate = task.Stl job.Translate
+task_of command.Check = task.Stl job.Check
+task_of (command.RunStl steps call) = task.Stl (job.Run steps call)
+task_of (command.RunSt units call) = task.St (text_job.Run units call)
+
+-- a task does what the row of its command says
+pub row_of_task : (asked : Command) → row_of (task_of asked) ≡ row asked
+row_of_task command.Translate = refl
+row_of_task command.Check = refl
+row_of_task (command.RunStl steps call) = refl
+row_of_task (command.RunSt units call) = refl
 
 -- what a job answers to a program and the bytes of an image
 abbrev pub AnswersJob : Job → Program → List ℕ → Reply → Type 0
-AnswersJob job.Translate program bytes reply = AnswersTranslate program reply
-AnswersJob job.Check program bytes reply = AnswersCheck program reply
-AnswersJob (job.Run steps call) program bytes reply = AnswersRunStl steps call bytes program reply
+AnswersJob j program bytes reply = AnswersWork (work_of j) bytes program reply
+
+-- what a job answers to a tree and the bytes of an image
+abbrev pub AnswersTextJob : TextJob → StProgram → List ℕ → Reply → Type 0
+AnswersTextJob j tree bytes reply = AnswersWork (text_work_of j) bytes tree reply
 
 -- How far an input was read
 
@@ -98,11 +129,10 @@ pub data ReadsImage (image : Input) (status : Status) : Type 0 where
 abbrev pub ReadsNoImage : Input → Status → Type 0
 ReadsNoImage image status = IsUntouched image × (SaysRead status ⊎ (status ≡ NoMemory))
 
--- how far a job reads the image
-abbrev pub ReadsJob : Job → Input → Status → Type 0
-ReadsJob job.Translate image status = ReadsNoImage image status
-ReadsJob job.Check image status = ReadsNoImage image status
-ReadsJob (job.Run steps call) image status = ReadsImage image status
+-- how far work reads the image
+abbrev pub ReadsWork : {X : Type 0} → Work X → Input → Status → Type 0
+ReadsWork (alone To) image status = ReadsNoImage image status
+ReadsWork (on_image To) image status = ReadsImage image status
 
 -- What is written
 

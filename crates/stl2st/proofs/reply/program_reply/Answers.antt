@@ -1,17 +1,24 @@
-use Rattle.stl2st.proofs.Answering.{checked_reply, no_blocks, translated_reply}
-use Rattle.stl2st.proofs.InputsRead.{run_reads}
+use Rattle.std.proofs.Common.{refl, ap}
+use Rattle.stl2st.proofs.Answering.{done_alone, no_blocks, translates}
+use Rattle.stl2st.proofs.InputsRead.{image_reads}
+use Rattle.stl2st.specs.Answer.{AnswersCheck, AnswersRunStl, AnswersTranslate, accepted_line}
+use Rattle.stl2st.specs.inner.Replies.{work_of}
 use Rattle.stl2st.proofs.reply.program_reply.Goals as goal
 
 pub returns-in_ok-print-in-Translate-clause-answer : goal.returns-in_ok-print-in-Translate-clause-answer
 returns-in_ok-print-in-Translate-clause-answer g c =
-    translated_reply c.args.job.now c.args.program.now c.in_ok-tree-in-Translate.tree c.in_ok-print-in-Translate.field-0.items _ c.made.result c.in-Translate.is
-    c.in_ok-tree-in-Translate.ensures.proper c.in_ok-tree-in-Translate.ensures.same c.in_ok-print-in-Translate.ensures c.made.ensures
+    done_alone (work_of c.args.job.now) AnswersTranslate c.args.program.now _ c.made.result c.in_ok-print-in-Translate.field-0.items (ap work_of c.in-Translate.is) c.made.ensures (
+      refl,
+      translates c.args.program.now c.in_ok-tree-in-Translate.tree c.in_ok-print-in-Translate.field-0.items
+          c.in_ok-tree-in-Translate.ensures.proper c.in_ok-tree-in-Translate.ensures.same c.in_ok-print-in-Translate.ensures,
+    )
 
 pub returns-in-Check-clause-answer : goal.returns-in-Check-clause-answer
-returns-in-Check-clause-answer g c = checked_reply c.args.job.now c.args.program.now _ c.fixed.result c.in-Check.is c.fixed.ensures
+returns-in-Check-clause-answer g c = done_alone (work_of c.args.job.now) AnswersCheck c.args.program.now _ c.fixed.result accepted_line (ap work_of c.in-Check.is) c.fixed.ensures refl
 
 pub returns-in-Run-clause-reads : goal.returns-in-Run-clause-reads
-returns-in-Run-clause-reads g c = run_reads c.args.job.now c.in-Run.steps c.in-Run.call _ _ c.in-Run.is c.run_reply.ensures.reads
+returns-in-Run-clause-reads g c =
+    image_reads (work_of c.args.job.now) (AnswersRunStl c.in-Run.steps c.in-Run.call) _ _ (ap work_of c.in-Run.is) c.run_reply.ensures.reads
 
 pub run_reply-requires : goal.run_reply-requires
 run_reply-requires g c = no_blocks c.args.program.now c.requires
