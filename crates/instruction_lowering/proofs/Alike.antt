@@ -5,7 +5,7 @@ use Rattle.memory_areas.specs.Areas.{Contents}
 use Rattle.memory_areas.specs.Access.{area_named}
 use Rattle.memory_areas.specs.declared.place.AreaName.{AreaName}
 use Rattle.memory_areas.specs.declared.place.Place.{Place}
-use Rattle.s7_base.specs.StatusBits.{StatusBits}
+use Rattle.status_word.specs.StatusBits.{StatusBits}
 use Rattle.s7_base.specs.declared.register.Reg.{Reg}
 use Rattle.s7_base.specs.declared.register.Reg.TheVariants as reg
 use Rattle.stl_tree.specs.Now.{Activation, Now, depth}

@@ -3,7 +3,7 @@ use Rattle.std.proofs.Common.{◌≡◌, ℕ, pos, Bool, true, false, not, ◌&&
 use Rattle.memory_areas.specs.Access.{and_then, read_bit, write_bit}
 use Rattle.memory_areas.specs.Areas.{Contents}
 use Rattle.memory_areas.specs.declared.place.AreaName.{AreaName}
-use Rattle.s7_base.specs.StatusBits.{StatusBits, after_assign, after_check, orb_after, rlo_after}
+use Rattle.status_word.specs.StatusBits.{StatusBits, after_assign, after_check, orb_after, rlo_after}
 use Rattle.s7_base.specs.declared.check.Check.{Check}
 use Rattle.s7_base.specs.declared.check.Check.TheVariants as check
 use Rattle.s7_base.specs.declared.outcome.Fault.{Fault}

@@ -14,8 +14,8 @@ use Rattle.std.proofs.lemmas.Slice.Eq.{bytes_eq-Decides}
 use Rattle.stl_tree.specs.Accepted.{IsAcceptedBlock, IsBlockNumber}
 use Rattle.stl_tree.specs.StlRun.{block_named, greatest, is_same_name}
 use Rattle.stl_tree.specs.declared.program.Block.{Block}
-use Rattle.stl_tree.specs.declared.program.BlockName.{BlockName}
-use Rattle.stl_tree.specs.declared.program.BlockName.TheVariants as name
+use Rattle.memory_areas.specs.declared.call.BlockName.{BlockName}
+use Rattle.memory_areas.specs.declared.call.BlockName.TheVariants as name
 use Rattle.st_tree.specs.StRun.{called_name, is_meant, is_program, is_same_kind}
 use Rattle.instruction_lowering.specs.Lowered.{head_of_block}
 

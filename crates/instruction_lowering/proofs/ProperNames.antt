@@ -16,8 +16,8 @@ use Rattle.instruction_lowering.proofs.Names.{IsNumbered, block_of, numbered, po
 use Rattle.stl_tree.specs.Accepted.{AreDistinct, IsAcceptedBlock}
 use Rattle.stl_tree.specs.StlRun.{block_named, is_same_name}
 use Rattle.stl_tree.specs.declared.program.Block.{Block}
-use Rattle.stl_tree.specs.declared.program.BlockName.{BlockName}
-use Rattle.stl_tree.specs.declared.program.BlockName.TheVariants as name
+use Rattle.memory_areas.specs.declared.call.BlockName.{BlockName}
+use Rattle.memory_areas.specs.declared.call.BlockName.TheVariants as name
 
 -- Names
 

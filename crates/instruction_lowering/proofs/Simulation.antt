@@ -4,7 +4,7 @@ use Rattle.std.specs.Prelude.{option_and_then, slice_get}
 use Rattle.std.proofs.Math.Nat.{eq-or-lt_of_le}
 use Rattle.memory_areas.specs.Areas.{Areas, Contents}
 use Rattle.memory_areas.specs.End.{End, Ended, Going}
-use Rattle.s7_base.specs.StatusBits.{after_end}
+use Rattle.status_word.specs.StatusBits.{after_end}
 use Rattle.s7_base.specs.declared.outcome.Fault.{Fault}
 use Rattle.s7_base.specs.declared.register.Reg.TheVariants as reg
 use Rattle.stl_tree.specs.Accepted.{IsEnded}

@@ -6,9 +6,9 @@ use Rattle.memory_areas.specs.declared.data_block.DataBlock.{DataBlock}
 use Rattle.s7_base.specs.declared.outcome.Fault.{Fault}
 use Rattle.stl_tree.specs.StlRun.{Fits, size_of, stl_run}
 use Rattle.stl_tree.specs.declared.program.Block.{Block}
-use Rattle.stl_tree.specs.declared.program.BlockName.{BlockName}
-use Rattle.stl_tree.specs.declared.program.BlockName.TheVariants as name
-use Rattle.stl_tree.specs.declared.program.Call.{Call}
+use Rattle.memory_areas.specs.declared.call.BlockName.{BlockName}
+use Rattle.memory_areas.specs.declared.call.BlockName.TheVariants as name
+use Rattle.memory_areas.specs.declared.call.Call.{Call}
 use Rattle.stl_tree.specs.declared.program.Program.{Program}
 use Rattle.st_tree.specs.GraphRun.{FitsGraph, graph_run, pass_run}
 use Rattle.st_tree.specs.StRun.{called_name}

@@ -5,6 +5,7 @@
 //! limits of data blocks stand here once.
 #![tactic(auto)]
 
+pub use call::{BlockName, Call};
 pub use data_block::{DataBlock, are_blocks};
 pub use memory::Memory;
 pub use place::{Area, AreaName, Place, is_byte_in};
@@ -14,6 +15,7 @@ pub use sizes::{
 };
 
 pub mod area_laws;
+mod call;
 mod data_block;
 mod memory;
 mod parts;

@@ -4,13 +4,13 @@ ghost use Rattle.st_tree.specs.Proper.{Proper};
 
 use crate::wants::wants_text;
 use image_text::{image_text, read_image};
+use memory_areas::{BlockName, Call};
 use s7_base::{List, NoMemory, Rejection};
 use st_parser::parse;
 use st_runner::{Runner, RunnerRefusal};
 use st_tree::StProgram;
 use std::alloc::Global;
 use std::process::Abort;
-use stl_tree::{BlockName, Call};
 
 pub const ENDED: &[u8] = b"# ENDED\n";
 

@@ -1,10 +1,10 @@
 //! Which Structured Texts are refused: each rule, with the line that is named, and texts that keep all rules.
 use crate::answers::{BAD_CALL, ENDED, wants_answer};
+use memory_areas::BlockName;
 use s7_base::NoMemory;
 use std::alloc::Global;
 use std::process::Abort;
 use std::test::Fail;
-use stl_tree::BlockName;
 
 /// A text, and the line that it is answered.
 type Row = (&'static str, &'static str);

@@ -5,13 +5,13 @@
 use crate::answers::{ENDED, wants_answer};
 use crate::wants::wants;
 use image_text::read_image;
+use memory_areas::{BlockName, Call};
 use s7_base::{List, NoMemory, Outcome};
 use st_parser::parse;
 use st_runner::Runner;
 use std::alloc::Global;
 use std::process::Abort;
 use std::test::Fail;
-use stl_tree::{BlockName, Call};
 
 /// Counts a local from 0 to 2 in a loop.
 const COUNTING: &str = "PROGRAM OB1\n    VAR_TEMP\n        count : DINT;\n    END_VAR\n\

@@ -1,6 +1,7 @@
 pub mod Answers
+pub mod Broken
+pub mod BrokenLaws
 pub mod Reason
 pub mod RegSet
-pub mod StatusBits
 pub mod Tokens
 pub mod formers

@@ -1,11 +1,13 @@
-//! What every crate of the translator speaks of: lines and refusals, faults and outcomes, registers
-//! and sets of them, tokens, lists, and the parts of a word.
+//! What every crate of the translator speaks of: lines and refusals, broken rules and which of them
+//! is named, faults and outcomes, registers and sets of them, tokens, lists, and the parts of a word.
 //!
 //! Stands on nothing but std. `specs/` has the definitions that several crates cite: what a set of
 //! registers holds, what the name of a reason is, and what the tokens of a source text are.
 #![tactic(auto)]
 
 pub use boxed::Boxed;
+pub use break_laws::first_of_all_is_first;
+pub use broken::{Break, first_of_all, note};
 pub use check::{Check, Entry};
 pub use list::List;
 pub use memory::NoMemory;
@@ -18,6 +20,8 @@ pub use token::{Token, TokenKind};
 pub use word::{Width, high_word, low_byte, low_word, put_low_byte, put_low_word};
 
 mod boxed;
+mod break_laws;
+mod broken;
 mod check;
 mod list;
 mod memory;

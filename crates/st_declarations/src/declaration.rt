@@ -1,14 +1,13 @@
 //! Declarations: what names mean by them, and the rules that are broken in them.
 ghost use Rattle.std.specs.Prelude.{◌≡◌, ◌+◌, ◌++◌, map, not, is_some, IfOk, OnOk};
 ghost use Rattle.std.specs.List.{fold};
-ghost use Rattle.st_rules.specs.Broken.{twice};
+ghost use Rattle.st_rules.specs.Judged.{twice};
 ghost use Rattle.st_rules.specs.Declarations.{all_inside, all_outside, formals_of, is_block, keys_of, local_of, locals_of, meaning_of_global, meaning_of_unit, no_inside, no_outside, one_if, one_too_many, types_of, with_formal, with_global, with_local, with_type, with_unit};
 ghost use Rattle.st_rules.specs.Names.{look_up, with_entry};
 ghost use Rattle.st_tree.specs.Naming.{key_of};
 
 use memory_areas::MOST_BLOCKS;
-use s7_base::{Line, List, NoMemory, Reason};
-use st_rules::broken::{Break, note};
+use s7_base::{Break, Line, List, NoMemory, Reason, note};
 use st_rules::declaration::{Inside, Outside};
 use st_rules::scope::{Formals, Meaning};
 use st_rules::table::Table;

@@ -15,7 +15,7 @@ use Rattle.call_chains.specs.Chain.{Graph, IsFirstCycle, NoCycle}
 use Rattle.st_rules.specs.LongChains.{first_long_chain}
 use Rattle.st_rules.specs.Typed as of_raw
 use Rattle.st_rules.specs.Typed.{Breaks, BreaksChain, HasTree, IsChain, calls_in, chained, cycle, first_break, long, named, no_unit}
-use Rattle.st_rules.specs.declared.broken.Break.{Break}
+use Rattle.s7_base.specs.declared.broken.Break.{Break}
 
 -- a line and a reason of which something holds
 abbrev ForSome : (Line → Reason → Type 0) → Type 0

@@ -8,7 +8,7 @@ use Rattle.call_chains.specs.declared.call.Call.{Call}
 use Rattle.memory_areas.specs.declared.sizes.TheConstants.{ACTIVATIONS}
 use Rattle.st_types_laws.proofs.Bounds.{bound}
 use Rattle.st_types_laws.proofs.Lists.{there_at}
-use Rattle.st_rules.specs.Broken.{first_of_all}
+use Rattle.s7_base.specs.Broken.{first_of_all}
 use Rattle.st_rules.specs.LongChains.{chain_break, long_chains}
 use Rattle.st_rules.specs.Typed.{IsChain}
 use Rattle.st_tree.proofs.CalledMost.{called_most}

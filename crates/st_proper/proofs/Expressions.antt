@@ -22,7 +22,7 @@ use Rattle.st_proper.proofs.Scope.{Sees, sight_by}
 use Rattle.st_proper.proofs.Values.{has_value}
 use Rattle.st_proper.proofs.Variables.{of_type, written}
 use Rattle.st_canonical.proofs.SameNames.{between}
-use Rattle.st_rules.specs.Broken.{Judged, sound}
+use Rattle.st_rules.specs.Judged.{Judged, sound}
 use Rattle.st_rules.specs.Expressions.{answered, expression, read_of}
 use Rattle.st_tree.specs.TypeRules.{type_of_unary}
 use Rattle.st_rules.specs.Variables.{variable as variable_in}

@@ -7,7 +7,7 @@ use Rattle.st_grammar.specs.Grammar.{AllFit, ArmsFit, CasesFit, Fits, HasArm, Ha
 use Rattle.st_types_laws.proofs.Bounds.{bound, bound_all, bound_arms, bound_cases}
 use Rattle.st_canonical.proofs.Levels.{top_all, top_arms, top_cases, top_one}
 use Rattle.st_types_laws.proofs.Parts.{AreSound}
-use Rattle.st_rules.specs.Broken.{sound}
+use Rattle.st_rules.specs.Judged.{sound}
 use Rattle.st_rules.specs.Calls.{calls_of}
 use Rattle.st_rules.specs.Statements.{arm as arm_in, arms_on, case_arm as case_arm_in, case_arms_on, statement, statements}
 use Rattle.st_rules.specs.declared.scope.Scope.{Scope}

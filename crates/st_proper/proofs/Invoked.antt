@@ -22,7 +22,8 @@ use Rattle.st_types_laws.proofs.Called.{AreTyped, are_typed, call_is, given_with
 use Rattle.st_proper.proofs.Scope.{Callable, Sees, sight_by}
 use Rattle.st_types_laws.proofs.DeclaredTree.{formals_in}
 use Rattle.st_proper.proofs.Variables.{Written, of_type, written}
-use Rattle.st_rules.specs.Broken.{broken, listed, sound}
+use Rattle.s7_base.specs.Broken.{broken}
+use Rattle.st_rules.specs.Judged.{listed, sound}
 use Rattle.st_rules.specs.Calls.{call_on, calls_of}
 use Rattle.st_rules.specs.Expressions.{answered}
 use Rattle.st_rules.specs.Invocations.{Actual, Given, callee, formal_breaks, in_order, lacks, plain, var_given, with_actual}

@@ -31,7 +31,8 @@ use Rattle.st_proper.proofs.UnitForms.{AreUnits, DeclareAll, HasBody, HasForm, H
 use Rattle.st_proper.proofs.Values.{placed, plain_place}
 use Rattle.st_canonical.proofs.SameNames.{spelled_name}
 use Rattle.st_proper.specs.CanonicalForms.{HasCanonicalForm, ProperHasForm}
-use Rattle.st_rules.specs.Broken.{breaks_in, first_of_all, found_in}
+use Rattle.s7_base.specs.Broken.{first_of_all}
+use Rattle.st_rules.specs.Judged.{breaks_in, found_in}
 use Rattle.st_rules.specs.Calls.{all_calls}
 use Rattle.st_rules.specs.Declarations.{all_outside, formals_of, local_of, locals_of}
 use Rattle.st_rules.specs.Globals.{all_blocks, all_global_breaks, all_located}

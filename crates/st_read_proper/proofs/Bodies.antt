@@ -13,7 +13,7 @@ use Rattle.st_read_proper.proofs.Statements.{FoundAll, FoundArms, FoundCases, Fo
 use Rattle.st_read_proper.proofs.Sees.{Sees, variable_has}
 use Rattle.st_tree.specs.WellTyped.{Sight}
 use Rattle.st_tree.specs.declared.expr.StType.{StType}
-use Rattle.st_rules.specs.Broken.{Judged, breaks_in}
+use Rattle.st_rules.specs.Judged.{Judged, breaks_in}
 use Rattle.st_rules.specs.Expressions.{expression}
 use Rattle.st_rules.specs.Statements.{arm as arm_in, arms_on, case_arm as case_arm_in, case_arms_on, selector, statement, statements, type_of_selector}
 use Rattle.st_rules.specs.declared.expression.Typed.{Typed}

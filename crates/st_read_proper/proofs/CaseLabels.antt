@@ -11,7 +11,7 @@ use Rattle.st_grammar.specs.declared.kind.Literal.{Literal}
 use Rattle.st_types_laws.proofs.Lists.{map_last}
 use Rattle.st_types_laws.proofs.Labels.{of_type, same_type}
 use Rattle.st_read_proper.proofs.Values.{label_value}
-use Rattle.st_rules.specs.Broken.{broken}
+use Rattle.s7_base.specs.Broken.{broken}
 use Rattle.st_rules.specs.Statements.{have_type, label_breaks}
 use Rattle.st_tree.specs.TypeRules.{is_type}
 use Rattle.st_tree.specs.WellTyped.{is_value}

@@ -15,7 +15,7 @@ use Rattle.st_types_laws.proofs.Operands.{IsClean, area_by, area_operand, binary
 use Rattle.st_types_laws.proofs.ReadEquations.{read_literal, read_variable}
 use Rattle.st_read_proper.proofs.Sees.{Sees, variable_has}
 use Rattle.st_read_proper.proofs.Values.{label_value, tree_of_label}
-use Rattle.st_rules.specs.Broken.{Judged, sound}
+use Rattle.st_rules.specs.Judged.{Judged, sound}
 use Rattle.st_rules.specs.Expressions.{answered, expression, read_of}
 use Rattle.st_rules.specs.Variables.{variable as variable_in}
 use Rattle.st_rules.specs.declared.expression.Typed.{Typed}

@@ -26,7 +26,7 @@ use Rattle.st_tree.specs.declared.expr.StType.TheVariants as type
 use Rattle.st_tree.specs.declared.raw.RawGlobal.{RawGlobal}
 use Rattle.st_tree.specs.declared.raw.RawVar.{RawVar}
 use Rattle.st_tree.specs.declared.raw.RawVar.TheVariants as raw
-use Rattle.st_rules.specs.Broken.{listed}
+use Rattle.st_rules.specs.Judged.{listed}
 use Rattle.st_rules.specs.Globals.{all_located, area_of, located_at, located_in, located_of}
 use Rattle.st_tree.specs.TypeRules.{has_width}
 use Rattle.st_rules.specs.Variables.{is_address}

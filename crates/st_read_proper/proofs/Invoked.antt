@@ -15,7 +15,8 @@ use Rattle.st_types_laws.proofs.Apart.{same_keys}
 use Rattle.st_types_laws.proofs.Parts.{variable_there}
 use Rattle.st_read_proper.proofs.Sees.{IsCallable, Sees, variable_has}
 use Rattle.st_read_proper.proofs.Statements.{FoundOne, cost_of, of_heads}
-use Rattle.st_rules.specs.Broken.{Judged, breaks_rule, broken, listed, sound}
+use Rattle.s7_base.specs.Broken.{broken}
+use Rattle.st_rules.specs.Judged.{Judged, breaks_rule, listed, sound}
 use Rattle.st_rules.specs.Calls.{call_on, calls_of}
 use Rattle.st_rules.specs.Expressions.{answered, variable_on}
 use Rattle.st_rules.specs.Invocations.{Actual, Given, call_of, callee, formal_breaks, function_call, given_by, in_order, lacks, none_given, plain, var_given, with_actual}
@@ -24,7 +25,7 @@ use Rattle.st_tree.specs.Naming.{is_same, key_of}
 use Rattle.st_rules.specs.Scopes.{meaning_in}
 use Rattle.st_rules.specs.Statements.{statement}
 use Rattle.st_tree.specs.TypeRules.{is_type}
-use Rattle.st_rules.specs.declared.broken.Break.{Break}
+use Rattle.s7_base.specs.declared.broken.Break.{Break}
 use Rattle.st_rules.specs.declared.scope.Formals.{Formals}
 use Rattle.st_rules.specs.declared.scope.Meaning.{Meaning}
 use Rattle.st_rules.specs.declared.scope.Meaning.TheVariants as meaning

@@ -21,7 +21,7 @@ use Rattle.st_read_proper.proofs.TokensWorded.{read_worded}
 use Rattle.st_read_proper.proofs.Units.{IsHeaded, WasRead, are_headed, were_read}
 use Rattle.st_read_proper.specs.ReadProper.{ReadsAreProper}
 use Rattle.st_read_proper.proofs.Worded.{GlobalsWorded, SourceWorded}
-use Rattle.st_rules.specs.Broken.{breaks_in, found_in}
+use Rattle.st_rules.specs.Judged.{breaks_in, found_in}
 use Rattle.st_rules.specs.Calls.{all_calls}
 use Rattle.st_rules.specs.Declarations.{all_inside, formals_of}
 use Rattle.st_rules.specs.Globals.{all_blocks, all_located}

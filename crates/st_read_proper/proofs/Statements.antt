@@ -18,7 +18,7 @@ use Rattle.st_canonical.proofs.Levels.{top_all, top_arms, top_cases, top_one}
 use Rattle.st_types_laws.proofs.Bounds.{all_last, arms_last, bound, bound_all, bound_arms, bound_case, bound_cases, bound_if, bound_while, cases_last, greatest_last}
 use Rattle.st_types_laws.proofs.Parts.{AreSound, arm_is, assign_is, case_arm_is, case_is, if_is, selector_is, test_is, values, while_is, write_is, writes, arms_sound_last, cases_sound_last, statements_last}
 use Rattle.st_types_laws.proofs.Lists.{both_true}
-use Rattle.st_rules.specs.Broken.{sound}
+use Rattle.st_rules.specs.Judged.{sound}
 use Rattle.st_rules.specs.Calls.{calls_of}
 use Rattle.st_rules.specs.Statements.{arm as arm_in, arms_on, case_arm as case_arm_in, case_arms_on, label_breaks, statement, statements}
 use Rattle.st_tree.specs.TypeRules as rules

@@ -10,7 +10,8 @@ use Rattle.st_tree.specs.declared.expr.Var.TheVariants as var
 use Rattle.st_tree.specs.declared.program.Stmt.TheVariants as stmt
 use Rattle.st_tree.specs.declared.raw.RawVar.{RawVar}
 use Rattle.st_tree.specs.declared.raw.RawVar.TheVariants as raw
-use Rattle.st_rules.specs.Broken.{broken, breaks_rule, first_of_all, sound}
+use Rattle.s7_base.specs.Broken.{broken, first_of_all}
+use Rattle.st_rules.specs.Judged.{breaks_rule, sound}
 use Rattle.call_chains.specs.Chain.{Graph, chains, follow}
 use Rattle.st_rules.specs.Declarations.{one_too_many}
 use Rattle.st_rules.specs.Globals.{block_breaks, block_number, contents, fits_type, inserted}

@@ -11,10 +11,11 @@ use Rattle.st_tree.specs.declared.raw.RawGlobalType.{RawGlobalType}
 use Rattle.st_tree.specs.declared.raw.RawGlobalType.TheVariants as raw
 use Rattle.st_tree.specs.declared.raw.RawLocal.{RawLocal}
 use Rattle.st_tree.specs.declared.raw.RawPou.{RawPou}
-use Rattle.st_rules.specs.Broken.{broken, twice}
+use Rattle.s7_base.specs.Broken.{broken}
+use Rattle.st_rules.specs.Judged.{twice}
 use Rattle.st_rules.specs.Names.{Table, look_up, with_entry}
 use Rattle.st_tree.specs.Naming.{key_of}
-use Rattle.st_rules.specs.declared.broken.Break.{Break}
+use Rattle.s7_base.specs.declared.broken.Break.{Break}
 use Rattle.st_rules.specs.declared.declaration.Inside.{Inside}
 use Rattle.st_rules.specs.declared.declaration.Outside.{Outside}
 use Rattle.st_rules.specs.declared.scope.Formals.{Formals}

@@ -15,7 +15,7 @@ use Rattle.st_tree.specs.declared.expr.UnaryOp.{UnaryOp}
 use Rattle.st_tree.specs.declared.raw.RawVar.{RawVar}
 use Rattle.st_tree.specs.declared.raw.RawExpr.{RawExpr, fold-RawExpr}
 use Rattle.st_tree.specs.declared.raw.RawExpr.TheOpen as E
-use Rattle.st_rules.specs.Broken.{Judged, sound, nothing, breaks_rule, behind}
+use Rattle.st_rules.specs.Judged.{Judged, sound, nothing, breaks_rule, behind}
 use Rattle.st_tree.specs.TypeRules.{type_of_unary, type_of_binary, type_of_conversion, type_of_choice, type_of_shift, type_of_read}
 use Rattle.st_rules.specs.Variables.{variable}
 use Rattle.st_rules.specs.declared.expression.Typed.{Typed}

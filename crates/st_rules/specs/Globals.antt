@@ -17,12 +17,13 @@ use Rattle.st_tree.specs.declared.raw.RawGlobalType.{RawGlobalType}
 use Rattle.st_tree.specs.declared.raw.RawGlobalType.TheVariants as type
 use Rattle.st_tree.specs.declared.raw.RawVar.{RawVar}
 use Rattle.st_tree.specs.declared.raw.RawVar.TheVariants as raw
-use Rattle.st_rules.specs.Broken.{broken, listed}
+use Rattle.s7_base.specs.Broken.{broken}
+use Rattle.st_rules.specs.Judged.{listed}
 use Rattle.st_tree.specs.Naming.{key_of, names_block}
 use Rattle.st_tree.specs.TypeRules.{has_width}
 use Rattle.st_rules.specs.Variables.{is_address}
 use Rattle.st_tree.specs.PlaceRules.{is_block_number}
-use Rattle.st_rules.specs.declared.broken.Break.{Break}
+use Rattle.s7_base.specs.declared.broken.Break.{Break}
 
 -- a location is an address that there may be
 abbrev pub has_address : RawVar → Bool

@@ -9,13 +9,14 @@ use Rattle.st_tree.specs.declared.expr.Var.{Var}
 use Rattle.st_tree.specs.declared.program.Stmt.{Stmt}
 use Rattle.st_tree.specs.declared.program.Stmt.TheVariants as stmt
 use Rattle.st_tree.specs.declared.raw.RawVar.{RawVar}
-use Rattle.st_rules.specs.Broken.{Judged, sound, breaks_rule, behind, broken, listed, twice}
+use Rattle.s7_base.specs.Broken.{broken}
+use Rattle.st_rules.specs.Judged.{Judged, sound, breaks_rule, behind, listed, twice}
 use Rattle.st_rules.specs.Expressions.{variable_on}
 use Rattle.st_rules.specs.Names.{Table, look_up, with_entry}
 use Rattle.st_tree.specs.Naming.{key_of}
 use Rattle.st_rules.specs.Scopes.{meaning_in}
 use Rattle.st_tree.specs.TypeRules.{is_type}
-use Rattle.st_rules.specs.declared.broken.Break.{Break}
+use Rattle.s7_base.specs.declared.broken.Break.{Break}
 use Rattle.st_rules.specs.declared.scope.Formals.{Formals}
 use Rattle.st_rules.specs.declared.scope.Meaning.{Meaning}
 use Rattle.st_rules.specs.declared.scope.Meaning.TheVariants as meaning

@@ -1,9 +1,9 @@
-pub mod Broken
 pub mod Calls
 pub mod Declarations
 pub mod Expressions
 pub mod Globals
 pub mod Invocations
+pub mod Judged
 pub mod LongChains
 pub mod Names
 pub mod Scopes

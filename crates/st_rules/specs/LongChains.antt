@@ -5,8 +5,8 @@ use Rattle.memory_areas.specs.declared.sizes.TheConstants.{ACTIVATIONS}
 use Rattle.s7_base.specs.declared.reason.Line.{Line}
 use Rattle.s7_base.specs.declared.reason.Reason.TheVariants.{CallTooDeep}
 use Rattle.st_tree.specs.declared.raw.RawPou.{RawPou}
-use Rattle.st_rules.specs.Broken.{broken, first_of_all}
-use Rattle.st_rules.specs.declared.broken.Break.{Break}
+use Rattle.s7_base.specs.Broken.{broken, first_of_all}
+use Rattle.s7_base.specs.declared.broken.Break.{Break}
 
 -- the rule that is broken at a heading where a chain is too long
 abbrev pub chain_break : Bool → Line → List Break

@@ -19,11 +19,12 @@ use Rattle.st_tree.specs.declared.raw.RawCaseArm.{RawCaseArm, RawCaseArm-F, fold
 use Rattle.st_tree.specs.declared.raw.RawStmt.{RawStmt, RawStmt-F, fold-RawStmt}
 use Rattle.st_tree.specs.declared.raw.RawStmtKind.{RawStmtKind, fold-RawStmtKind}
 use Rattle.st_tree.specs.declared.raw.RawStmtKind.TheOpen as K
-use Rattle.st_rules.specs.Broken.{Judged, sound, nothing, breaks_rule, behind, broken, found_in, breaks_in}
+use Rattle.s7_base.specs.Broken.{broken}
+use Rattle.st_rules.specs.Judged.{Judged, sound, nothing, breaks_rule, behind, found_in, breaks_in}
 use Rattle.st_rules.specs.Expressions.{expression, variable_on}
 use Rattle.st_rules.specs.Invocations.{invocation}
 use Rattle.st_tree.specs.TypeRules.{is_type, is_selector}
-use Rattle.st_rules.specs.declared.broken.Break.{Break}
+use Rattle.s7_base.specs.declared.broken.Break.{Break}
 use Rattle.st_rules.specs.declared.expression.Typed.{Typed}
 use Rattle.st_rules.specs.declared.scope.Scope.{Scope}
 use Rattle.st_rules.specs.declared.variable.TypedVar.{TypedVar}

@@ -8,14 +8,14 @@ use Rattle.s7_base.specs.declared.reason.Rejection.TheVariants as rejection
 use Rattle.st_tree.specs.declared.program.StProgram.{StProgram}
 use Rattle.st_tree.specs.declared.raw.RawPou.{RawPou}
 use Rattle.st_tree.specs.declared.raw.RawSt.{RawSt}
-use Rattle.st_rules.specs.Broken.{first_of_all}
+use Rattle.s7_base.specs.Broken.{first_of_all}
 use Rattle.call_chains.specs.Chain.{Graph, NoCycle, FirstCycle}
 use Rattle.st_rules.specs.LongChains.{first_long_chain}
 use Rattle.st_rules.specs.Declarations.{all_outside, formals_of}
 use Rattle.st_rules.specs.Globals.{all_blocks, all_global_breaks, all_located}
 use Rattle.st_rules.specs.Names.{Table}
 use Rattle.st_rules.specs.Units.{all_unit_breaks, all_units, calls_of_units}
-use Rattle.st_rules.specs.declared.broken.Break.{Break}
+use Rattle.s7_base.specs.declared.broken.Break.{Break}
 use Rattle.st_rules.specs.declared.scope.Meaning.{Meaning}
 
 -- what names mean outside the units of a text

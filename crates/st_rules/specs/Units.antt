@@ -3,12 +3,12 @@ use Rattle.std.specs.Prelude.{◌++◌, List, map}
 use Rattle.std.specs.List.{flat_map}
 use Rattle.st_tree.specs.declared.program.Pou.{Pou}
 use Rattle.st_tree.specs.declared.raw.RawPou.{RawPou}
-use Rattle.st_rules.specs.Broken.{found_in, breaks_in}
+use Rattle.st_rules.specs.Judged.{found_in, breaks_in}
 use Rattle.st_rules.specs.Calls.{all_calls}
 use Rattle.st_rules.specs.Declarations.{all_inside, locals_of}
 use Rattle.st_rules.specs.Names.{Table}
 use Rattle.st_rules.specs.Statements.{statements}
-use Rattle.st_rules.specs.declared.broken.Break.{Break}
+use Rattle.s7_base.specs.declared.broken.Break.{Break}
 use Rattle.call_chains.specs.declared.call.Call.{Call}
 use Rattle.st_rules.specs.declared.scope.Formals.{Formals}
 use Rattle.st_rules.specs.declared.scope.Meaning.{Meaning}

@@ -1,8 +1,7 @@
 //! What is declared, as far as a text is gone through.
-use crate::broken::Break;
 use crate::scope::Meaning;
 use crate::table::Table;
-use s7_base::List;
+use s7_base::{Break, List};
 
 /// What is declared outside the units so far, and the rules that are broken there.
 #[derive(Drop)]

@@ -1,9 +1,8 @@
 //! What goes after the items of a list.
 ghost use Rattle.std.specs.Prelude.{◌≡◌, ◌++◌, OnOk};
-ghost use Rattle.st_rules.specs.Broken.{listed};
+ghost use Rattle.st_rules.specs.Judged.{listed};
 
-use crate::broken::Break;
-use s7_base::{List, NoMemory};
+use s7_base::{Break, List, NoMemory};
 
 /// Keeps what is there.
 pub fn keep<T: Drop>(list: &mut List<T>, found: Option<T>) -> Result<(), NoMemory>

@@ -34,9 +34,9 @@ use Rattle.st_tree.specs.declared.program.Local.{Local}
 use Rattle.st_tree.specs.declared.program.Pou.{Pou}
 use Rattle.st_tree.specs.declared.program.StProgram.{StProgram}
 use Rattle.st_tree.specs.declared.program.Stmt.{Stmt}
-use Rattle.stl_tree.specs.declared.program.BlockName.{BlockName}
-use Rattle.stl_tree.specs.declared.program.BlockName.TheVariants as name
-use Rattle.stl_tree.specs.declared.program.Call.{Call}
+use Rattle.memory_areas.specs.declared.call.BlockName.{BlockName}
+use Rattle.memory_areas.specs.declared.call.BlockName.TheVariants as name
+use Rattle.memory_areas.specs.declared.call.Call.{Call}
 
 -- a unit that is found stands somewhere
 found_at : (p : Pou → Bool) (xs : List Pou) (x : Pou) → find p xs ≡ Some x → (n : ℕ) × (slice_get xs n ≡ Some x)

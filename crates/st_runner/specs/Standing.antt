@@ -18,7 +18,7 @@ use Rattle.st_tree.specs.declared.expr.Var.{Var}
 use Rattle.st_tree.specs.declared.program.Located.{Located}
 use Rattle.st_tree.specs.declared.program.StProgram.{StProgram}
 use Rattle.st_tree.specs.declared.program.Stmt.{Stmt}
-use Rattle.stl_tree.specs.declared.program.Call.{Call}
+use Rattle.memory_areas.specs.declared.call.Call.{Call}
 
 -- what waits while statements run: the rest of their list, the test of a loop again, or the end of a unit
 pub data Pending : Type 0 where

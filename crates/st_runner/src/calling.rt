@@ -9,11 +9,10 @@ ghost use Rattle.st_runner.specs.inner.Fitting.{Decides};
 ghost use Rattle.st_runner.specs.inner.View.{AreReachable};
 ghost use Rattle.st_tree.specs.StRun.{FitFormals, FitsFormal, FitsUnit, IsOutsidePlace, called_name, formals_given, is_meant, references, unit_called};
 
-use memory_areas::{Area, Memory, Place};
+use memory_areas::{Area, BlockName, Call, Memory, Place};
 use s7_base::{NoMemory, Width};
 use st_tree::{Local, Pou, Reference, width_at};
 use std::alloc::Global;
-use stl_tree::{BlockName, Call};
 
 fn put(out: &mut Vec<u8>, text: &str) -> Result<(), NoMemory>
     ensures { OnOk result (out.new.items ≡ out.old.items ++ text.now) }

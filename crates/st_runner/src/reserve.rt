@@ -14,11 +14,10 @@ use crate::frame::Frame;
 use crate::registers::Registers;
 use crate::state::{Activation, State};
 use crate::steps::UNIT_FRAMES;
-use memory_areas::{ACTIVATIONS, Memory, Place};
+use memory_areas::{ACTIVATIONS, BlockName, Call, Memory, Place};
 use s7_base::{NoMemory, Reg, Width};
 use st_tree::{Local, Pou, Reference, Stmt};
 use std::alloc::Global;
-use stl_tree::{BlockName, Call};
 
 /// The most locals of a unit.
 pub fn most_locals(units: &[Pou]) -> usize

@@ -10,12 +10,11 @@ use crate::frame::{At, Frame};
 use crate::reserve::{frames, start};
 use crate::runs::go;
 use crate::state::State;
-use memory_areas::Memory;
+use memory_areas::{Call, Memory};
 use s7_base::{NoMemory, Outcome};
 use st_tree::StProgram;
 use std::alloc::Global;
 use std::marker::Model;
-use stl_tree::Call;
 
 /// Why there is no runner.
 #[derive(Clone, Copy, Debug, PartialEq, Eq)]

@@ -3,8 +3,7 @@ ghost use Rattle.std.specs.Prelude.{◌≡◌, ◌++◌, IfOk, OnOk, option_map}
 ghost use Rattle.st_rules.specs.Expressions.{area_read_of, binary_of, choice_of, conversion_of, expression, literal_of, read_of, shift_of, typed_as, unary_of, variable_on};
 ghost use Rattle.st_statements.specs.inner.Operands.{typed_of};
 
-use s7_base::{Boxed, Line, List, NoMemory, Reason, Width};
-use st_rules::broken::{Break, note};
+use s7_base::{Boxed, Break, Line, List, NoMemory, Reason, Width, note};
 use st_rules::expression::Typed;
 use st_rules::scope::Scope;
 use st_rules::variable::{TypedVar, variable};

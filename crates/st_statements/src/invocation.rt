@@ -3,8 +3,7 @@ ghost use Rattle.std.specs.Prelude.{◌≡◌, [], ◌++◌, Some, IfOk, OnOk};
 ghost use Rattle.st_rules.specs.Invocations.{call_with, callee, formal_breaks, function_call, given_by, given_to_none, in_order, invocation, lacks, no_call, plain, var_given, with_actual, with_name};
 
 use crate::expression::variable_on;
-use s7_base::{Line, List, NoMemory, Reason};
-use st_rules::broken::{Break, note};
+use s7_base::{Break, Line, List, NoMemory, Reason, note};
 use st_rules::lists::keep;
 use st_rules::scope::{Formals, Meaning, Scope};
 use st_rules::table::Table;

@@ -12,9 +12,9 @@ use Rattle.memory_areas.specs.declared.place.Place.{Place}
 use Rattle.memory_areas.specs.declared.sizes.TheConstants.{ACTIVATIONS}
 use Rattle.s7_base.specs.declared.register.Reg.TheVariants.{DiNo}
 use Rattle.s7_base.specs.declared.word.Width.{Width}
-use Rattle.stl_tree.specs.declared.program.BlockName.{BlockName}
-use Rattle.stl_tree.specs.declared.program.BlockName.TheVariants as name
-use Rattle.stl_tree.specs.declared.program.Call.{Call}
+use Rattle.memory_areas.specs.declared.call.BlockName.{BlockName}
+use Rattle.memory_areas.specs.declared.call.BlockName.TheVariants as name
+use Rattle.memory_areas.specs.declared.call.Call.{Call}
 use Rattle.st_tree.specs.Calls.{calls_to}
 use Rattle.st_tree.specs.Fitting.{EndsFit, Fits, HoldsBytes, Paired, RegistersFit, StandsFor}
 use Rattle.st_tree.specs.Meaning.{body_meaning}

@@ -7,7 +7,7 @@ use Rattle.memory_areas.specs.End.{End, Ended, Going}
 use Rattle.memory_areas.specs.declared.place.AreaName.TheVariants as area
 use Rattle.s7_base.specs.declared.outcome.Fault.TheVariants.{DbMissing}
 use Rattle.s7_base.specs.declared.word.Width.TheVariants as width
-use Rattle.stl_tree.specs.declared.program.BlockName.TheVariants.{Ob}
+use Rattle.memory_areas.specs.declared.call.BlockName.TheVariants.{Ob}
 use Rattle.st_tree.specs.GraphRun.{chosen_node, each_pass, graph_run, pass_run}
 use Rattle.st_tree.specs.declared.expr.Expr.{Expr}
 use Rattle.st_tree.specs.declared.expr.Expr.TheVariants as expr

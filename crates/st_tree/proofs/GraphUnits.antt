@@ -8,7 +8,7 @@ use Rattle.std.proofs.lemmas.Option.{slice_get_past}
 use Rattle.memory_areas.specs.Areas.{Areas}
 use Rattle.memory_areas.specs.End.{Ended}
 use Rattle.s7_base.specs.declared.outcome.Fault.{Fault}
-use Rattle.stl_tree.specs.declared.program.Call.{Call}
+use Rattle.memory_areas.specs.declared.call.Call.{Call}
 use Rattle.st_tree.specs.Calls.{called, entered, located_actuals}
 use Rattle.st_tree.specs.Depth.{greatest}
 use Rattle.st_tree.specs.GraphRun.{Counting, Way, counted, counted_if, exit_meaning, follow, graph_calls, longest, most_nodes, node_meaning, nodes_do, out, run_of_graph, to, unit_begun, way_of}

@@ -11,8 +11,8 @@ use Rattle.memory_areas.specs.declared.place.AreaName.TheVariants as area
 use Rattle.memory_areas.specs.declared.sizes.TheConstants.{ACTIVATIONS, INPUT_BYTES, MARKER_BYTES, OUTPUT_BYTES}
 use Rattle.s7_base.specs.declared.register.Reg.TheVariants as reg
 use Rattle.s7_base.specs.declared.word.Width.TheVariants as width
-use Rattle.stl_tree.specs.declared.program.BlockName.TheVariants.{Ob}
-use Rattle.stl_tree.specs.declared.program.Call.{Call}
+use Rattle.memory_areas.specs.declared.call.BlockName.TheVariants.{Ob}
+use Rattle.memory_areas.specs.declared.call.Call.{Call}
 use Rattle.st_tree.specs.Chains.{chain_of}
 use Rattle.st_tree.specs.Depth.{deepest}
 use Rattle.st_tree.specs.Naming.{are_apart, is_free, is_name, key_of, may_name_local, may_name_unit}

@@ -6,7 +6,7 @@ use Rattle.memory_areas.specs.Access.{bytes_there}
 use Rattle.memory_areas.specs.Areas.{Areas, Contents, IsMemoryOf}
 use Rattle.memory_areas.specs.declared.place.Area.{Area}
 use Rattle.s7_base.specs.declared.register.Reg.{Reg}
-use Rattle.stl_tree.specs.declared.program.Call.{Call}
+use Rattle.memory_areas.specs.declared.call.Call.{Call}
 use Rattle.st_tree.specs.Calls.{calls_to}
 use Rattle.st_tree.specs.Meaning.{Calls, Out, Normal, Exits, Continues, Returns, Faults, NoUnits, body_meaning}
 use Rattle.st_tree.specs.Proper.{Proper}

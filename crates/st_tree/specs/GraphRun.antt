@@ -5,7 +5,7 @@ use Rattle.memory_areas.specs.Access.{and_then}
 use Rattle.memory_areas.specs.Areas.{Areas}
 use Rattle.memory_areas.specs.End.{End, Going}
 use Rattle.s7_base.specs.declared.outcome.Fault.{Fault}
-use Rattle.stl_tree.specs.declared.program.Call.{Call}
+use Rattle.memory_areas.specs.declared.call.Call.{Call}
 use Rattle.st_tree.specs.Calls.{after_unit, called, entered, located_actuals}
 use Rattle.st_tree.specs.Depth.{greatest}
 use Rattle.st_tree.specs.Meaning.{Normal, Faults, NoUnits, Sem, Calls, body_meaning, then_do}

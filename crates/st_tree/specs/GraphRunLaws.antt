@@ -3,7 +3,7 @@ use Rattle.std.specs.Prelude.{◌≡◌, ℕ, ◌≤◌, ◌<◌, false, slice_g
 use Rattle.memory_areas.specs.Areas.{Areas}
 use Rattle.memory_areas.specs.End.{Ended}
 use Rattle.s7_base.specs.declared.outcome.Fault.{Fault}
-use Rattle.stl_tree.specs.declared.program.Call.{Call}
+use Rattle.memory_areas.specs.declared.call.Call.{Call}
 use Rattle.st_tree.specs.GraphRun.{Counting, counted_run, most_nodes, nodes_do}
 use Rattle.st_tree.specs.State.{State}
 use Rattle.st_tree.specs.declared.graph.GraphPou.{GraphPou}

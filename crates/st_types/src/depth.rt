@@ -4,8 +4,7 @@ ghost use Rattle.st_rules.specs.LongChains.{chain_break, first_long_chain, long_
 
 use call_chains::{Call, chains};
 use memory_areas::ACTIVATIONS;
-use s7_base::{Line, List, NoMemory, Reason};
-use st_rules::broken::{Break, first_of_all, note};
+use s7_base::{Break, Line, List, NoMemory, Reason, first_of_all, note};
 use st_tree::RawPou;
 use std::alloc::Global;
 

@@ -6,9 +6,8 @@ ghost use Rattle.st_rules.specs.Typed.{breaks_of, calls_in, tree_of, HasTree, Is
 use crate::depth::first_long_chain;
 use crate::unit::all_units;
 use call_chains::{Call, first_cycle};
-use s7_base::{Line, List, NoMemory, Reason, Rejection};
+use s7_base::{Break, Line, List, NoMemory, Reason, Rejection, first_of_all};
 use st_declarations::{all_globals, all_outside, formals_of};
-use st_rules::broken::{Break, first_of_all};
 use st_rules::lists::put_breaks;
 use st_tree::{RawPou, RawSt, StProgram};
 use std::alloc::Global;

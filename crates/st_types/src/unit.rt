@@ -6,9 +6,8 @@ ghost use Rattle.st_rules.specs.Units.{all_unit_breaks, all_units, breaks_of_uni
 
 use crate::call::all_calls;
 use call_chains::Call;
-use s7_base::{List, NoMemory};
+use s7_base::{Break, List, NoMemory};
 use st_declarations::{all_inside, locals_of};
-use st_rules::broken::Break;
 use st_rules::lists::put_breaks;
 use st_rules::scope::{Formals, Meaning, Scope};
 use st_rules::table::Table;

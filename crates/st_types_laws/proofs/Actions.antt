@@ -12,7 +12,7 @@ use Rattle.st_tree.specs.declared.raw.RawStmtKind.{RawStmtKind, fold-roll-RawStm
 use Rattle.st_tree.specs.declared.raw.RawStmtKind.TheOpen as K
 use Rattle.st_tree.specs.declared.raw.RawStmtKind.TheVariants as raw
 use Rattle.st_tree.specs.declared.raw.RawVar.{RawVar}
-use Rattle.st_rules.specs.Broken.{Judged}
+use Rattle.st_rules.specs.Judged.{Judged}
 use Rattle.st_rules.specs.Calls as calls
 use Rattle.st_rules.specs.Calls.{OnLine, all_calls, call_on, calls_of, calls_of_action, calls_of_arm, calls_of_case_arm, joined}
 use Rattle.st_rules.specs.Invocations.{Actual, callee}

@@ -5,7 +5,7 @@ use Rattle.std.specs.Cmp.Lexicographic.{pointwise}
 use Rattle.std.proofs.lemmas.Cmp.{nat_list_eq_equiv}
 use Rattle.std.proofs.lemmas.List.{append-nil, append_assoc}
 use Rattle.s7_base.specs.declared.reason.Line.{Line}
-use Rattle.st_rules.specs.Broken.{twice}
+use Rattle.st_rules.specs.Judged.{twice}
 use Rattle.st_rules.specs.Names.{Table, look_up, with_entry}
 use Rattle.st_tree.specs.Naming.{is_same}
 use Rattle.st_rules.specs.Scopes.{or_else}

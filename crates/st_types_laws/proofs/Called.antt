@@ -6,7 +6,7 @@ use Rattle.std.proofs.lemmas.List.{append_assoc, append-nil}
 use Rattle.std.specs.Prelude.{slice_get}
 use Rattle.s7_base.specs.declared.reason.Line.{Line}
 use Rattle.s7_base.specs.declared.reason.Reason.TheVariants.{TypeMismatch}
-use Rattle.st_rules.specs.Broken.{behind, breaks_rule, sound}
+use Rattle.st_rules.specs.Judged.{behind, breaks_rule, sound}
 use Rattle.st_rules.specs.Invocations.{Actual, Given, call_of, call_with, callee, function_call, given_by, in_order, lacks}
 use Rattle.st_rules.specs.Scopes.{meaning_in}
 use Rattle.st_rules.specs.Statements.{statement}

@@ -28,7 +28,8 @@ use Rattle.st_tree.specs.declared.raw.RawLocal.{RawLocal}
 use Rattle.st_tree.specs.declared.raw.RawPou.{RawPou}
 use Rattle.st_tree.specs.declared.raw.RawVar.{RawVar}
 use Rattle.st_tree.specs.declared.raw.RawVar.TheVariants as var
-use Rattle.st_rules.specs.Broken.{broken, listed, twice}
+use Rattle.s7_base.specs.Broken.{broken}
+use Rattle.st_rules.specs.Judged.{listed, twice}
 use Rattle.st_rules.specs.Declarations.{all_inside, meaning_of_unit, no_inside, one_if, one_too_many, with_formal, with_global, with_local, with_unit}
 use Rattle.st_rules.specs.Globals.{all_global_breaks, all_located, area_of, block_at, block_breaks, block_number, block_of, contents, fits_type, global_breaks, has_address, has_block_address, has_block_form, inserted, is_small_enough, located_at, located_in, located_of, unless, with_block}
 use Rattle.memory_areas.specs.Areas.{Ascend, numbers_of}

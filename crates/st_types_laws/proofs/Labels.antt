@@ -2,7 +2,7 @@
 use Rattle.std.proofs.Common.{◌≡◌, true, ◌&&◌, cond, ℤ, List, [], ◌∷◌, map, Some, refl, sym, ap, ◌∙◌}
 use Rattle.s7_base.specs.declared.reason.Line.{Line}
 use Rattle.s7_base.specs.declared.reason.Reason.TheVariants.{TypeMismatch}
-use Rattle.st_rules.specs.Broken.{broken}
+use Rattle.s7_base.specs.Broken.{broken}
 use Rattle.st_rules.specs.Statements.{have_type, label_breaks}
 use Rattle.st_tree.specs.TypeRules.{is_type}
 use Rattle.st_tree.proofs.TypingEquations as tree_types

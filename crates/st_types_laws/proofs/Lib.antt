@@ -8,7 +8,6 @@ pub mod Declared
 pub mod DeclaredNames
 pub mod DeclaredTree
 pub mod EntryKeys
-pub mod FirstBreak
 pub mod Keyed
 pub mod Labels
 pub mod Lists

@@ -10,7 +10,7 @@ use Rattle.st_rules.specs.Typed.{BreaksChain, IsChain, calls_in, chained, cycle,
 use Rattle.st_rules.specs.Declarations.{formals_of}
 use Rattle.st_rules.specs.Units.{calls_of_unit}
 use Rattle.st_types_laws.specs.TypedLaws.{NotBoth, OneRefusal, OneTree}
-use Rattle.st_rules.specs.declared.broken.Break.{Break}
+use Rattle.s7_base.specs.declared.broken.Break.{Break}
 
 same_line : (l m : Line) → l.0 ≡ m.0 → l ≡ m
 same_line l m e = λ i. record { 0 = e i }

@@ -12,7 +12,7 @@ use Rattle.st_tree.specs.declared.expr.UnaryOp.{UnaryOp}
 use Rattle.st_tree.specs.declared.raw.RawExpr.{RawExpr}
 use Rattle.st_tree.specs.declared.raw.RawExpr.TheVariants as raw
 use Rattle.st_types_laws.proofs.Lists.{nil_first, nil_second}
-use Rattle.st_rules.specs.Broken.{Judged, behind, sound}
+use Rattle.st_rules.specs.Judged.{Judged, behind, sound}
 use Rattle.st_rules.specs.Expressions.{area_read_of, binary_of, choice_of, conversion_of, expression, shift_of, typed_as, unary_of}
 use Rattle.st_tree.specs.TypeRules.{type_of_binary, type_of_choice, type_of_conversion, type_of_read, type_of_shift, type_of_unary}
 use Rattle.st_rules.specs.declared.expression.Typed.{Typed}

@@ -20,12 +20,12 @@ use Rattle.st_tree.specs.declared.raw.RawStmt.{RawStmt}
 use Rattle.st_tree.specs.declared.raw.RawStmtKind.TheVariants as raw
 use Rattle.st_tree.specs.declared.raw.RawVar.{RawVar}
 use Rattle.st_types_laws.proofs.Lists.{map_last, nil_first, nil_second}
-use Rattle.st_rules.specs.Broken.{Judged, behind, breaks_in, breaks_rule, found_in, sound}
+use Rattle.st_rules.specs.Judged.{Judged, behind, breaks_in, breaks_rule, found_in, sound}
 use Rattle.st_rules.specs.Expressions.{answered, expression, variable_on}
 use Rattle.st_rules.specs.Statements.{Armed, Labelled, area_write_of, arm, arm_of, arms_on, assignment_of, case_arm, case_arms_on, case_of, label_breaks, selector, selector_of, statement, statements, test, test_of, type_of_selector, while_of}
 use Rattle.st_tree.specs.TypeRules.{is_selector, is_type}
 use Rattle.st_rules.specs.Variables.{variable}
-use Rattle.st_rules.specs.declared.broken.Break.{Break}
+use Rattle.s7_base.specs.declared.broken.Break.{Break}
 use Rattle.st_rules.specs.declared.expression.Typed.{Typed}
 use Rattle.st_rules.specs.declared.scope.Scope.{Scope}
 use Rattle.st_rules.specs.declared.variable.TypedVar.{TypedVar}

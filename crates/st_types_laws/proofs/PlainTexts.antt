@@ -24,7 +24,8 @@ use Rattle.st_tree.specs.declared.raw.RawLocal.{RawLocal}
 use Rattle.st_tree.specs.declared.raw.RawPou.{RawPou}
 use Rattle.st_tree.specs.declared.raw.RawVar.{RawVar}
 use Rattle.st_tree.specs.declared.raw.RawVar.TheVariants as var
-use Rattle.st_rules.specs.Broken.{broken, listed, twice}
+use Rattle.s7_base.specs.Broken.{broken}
+use Rattle.st_rules.specs.Judged.{listed, twice}
 use Rattle.st_rules.specs.Declarations.{all_inside, all_outside, is_block, meaning_of_global, meaning_of_unit, no_inside, no_outside, one_if, one_too_many, with_formal, with_global, with_local, with_unit}
 use Rattle.st_rules.specs.Globals.{all_blocks, all_global_breaks, all_located, block_at, block_breaks, block_number, block_of, contents, fills, fits_type, global_breaks, has_address, has_block_address, has_block_form, inserted, is_small_enough, is_start_of, located_of, total, unless, with_block}
 use Rattle.st_rules.specs.Names.{Table, look_up}

@@ -10,7 +10,7 @@ use Rattle.st_tree.specs.declared.raw.RawExpr.{RawExpr, fold-roll-RawExpr}
 use Rattle.st_tree.specs.declared.raw.RawExpr.TheOpen as R
 use Rattle.st_tree.specs.declared.raw.RawExpr.TheVariants as raw
 use Rattle.st_tree.specs.declared.raw.RawVar.{RawVar}
-use Rattle.st_rules.specs.Broken.{Judged}
+use Rattle.st_rules.specs.Judged.{Judged}
 use Rattle.st_rules.specs.Expressions.{expression, expression_step}
 use Rattle.st_rules.specs.declared.expression.Typed.{Typed}
 use Rattle.st_rules.specs.declared.scope.Scope.{Scope}

@@ -5,7 +5,7 @@
 //! functions are the laws.
 #![tactic(auto)]
 
-ghost use Rattle.st_types_laws.specs.TypedLaws.{FirstOfAll, NotBoth, OneRefusal, OneTree};
+ghost use Rattle.st_types_laws.specs.TypedLaws.{NotBoth, OneRefusal, OneTree};
 
 /// A text has one tree at most.
 pub fn one_tree()
@@ -20,9 +20,4 @@ pub fn one_refusal()
 /// No text has both a tree and a refusal.
 pub fn not_both()
     ensures { NotBoth }
-{}
-
-/// The first of some broken rules is one of them before which no other comes.
-pub fn first_of_all()
-    ensures { FirstOfAll }
 {}

@@ -6,8 +6,8 @@ use Rattle.memory_areas.specs.declared.place.Area.TheVariants as area
 use Rattle.memory_areas.specs.declared.place.Place.{Place}
 use Rattle.s7_base.specs.declared.word.Width.{Width}
 use Rattle.s7_base.specs.declared.word.Width.TheVariants as width
-use Rattle.stl_tree.specs.declared.program.BlockName.TheVariants.{Ob, Fc, Fb}
-use Rattle.stl_tree.specs.declared.program.Call.{Call}
+use Rattle.memory_areas.specs.declared.call.BlockName.TheVariants.{Ob, Fc, Fb}
+use Rattle.memory_areas.specs.declared.call.Call.{Call}
 use Rattle.stl2st.specs.CallWord.{call_meant}
 use Rattle.stl2st.specs.Command.{command_meant, run_with, steps_meant, image_meant}
 use Rattle.stl2st.specs.declared.command.Command.TheVariants.{Translate, Check, RunStl, RunSt}

@@ -1,7 +1,7 @@
 -- The machine as where its run stands.
 use Rattle.std.specs.Prelude.{◌≡◌, Bool, true, [], ◌∷◌, Result, Ok, Err, is_none}
 use Rattle.memory_areas.specs.Areas.{Areas, Contents}
-use Rattle.s7_base.specs.StatusBits.{StatusBits}
+use Rattle.status_word.specs.StatusBits.{StatusBits}
 use Rattle.s7_base.specs.declared.outcome.Fault.{Fault}
 use Rattle.s7_base.specs.declared.outcome.Outcome.{Outcome}
 use Rattle.s7_base.specs.declared.outcome.Outcome.TheVariants.{Ended, Going}
@@ -17,7 +17,7 @@ use Rattle.stl_machine.specs.declared.status.Status.{Status}
 use Rattle.stl_tree.specs.Now.{Now, Effect, next, leave, fault}
 use Rattle.stl_tree.specs.Registers.{RegisterValues}
 use Rattle.stl_tree.specs.StlRun.{Fits, Standing, running, over, begun, instruction}
-use Rattle.stl_tree.specs.declared.program.Call.{Call}
+use Rattle.memory_areas.specs.declared.call.Call.{Call}
 use Rattle.stl_tree.specs.declared.program.Program.{Program}
 
 -- What callers see

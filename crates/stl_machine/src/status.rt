@@ -1,6 +1,6 @@
 //! The bits of the status word, and what instructions make of them.
 ghost use Rattle.std.specs.Prelude.{◌≡◌};
-ghost use Rattle.s7_base.specs.StatusBits.{after_assign, after_check, after_end, all_clear, orb_after, rlo_after};
+ghost use Rattle.status_word.specs.StatusBits.{after_assign, after_check, after_end, all_clear, orb_after, rlo_after};
 ghost use Rattle.stl_machine.specs.Machine.{bits};
 
 use s7_base::Check;

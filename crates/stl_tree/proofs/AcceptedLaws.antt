@@ -17,7 +17,7 @@ use Rattle.stl_tree.specs.Statements.{statement}
 use Rattle.stl_tree.specs.Verdict.{body_from, with_end, with_statement, begin_from, one_block, with_heading, program_of, judged, verdict}
 use Rattle.stl_tree.specs.Words.{is_word, is_sign, is_word_kind}
 use Rattle.stl_tree.specs.declared.program.Block.{Block}
-use Rattle.stl_tree.specs.declared.program.BlockName.{BlockName}
+use Rattle.memory_areas.specs.declared.call.BlockName.{BlockName}
 use Rattle.stl_tree.specs.declared.program.Instr.{Instr}
 use Rattle.stl_tree.specs.declared.program.Op.{Op}
 use Rattle.stl_tree.specs.declared.program.Op.TheVariants as op

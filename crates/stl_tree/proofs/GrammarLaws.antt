@@ -13,8 +13,8 @@ use Rattle.s7_base.specs.declared.reason.Kind.TheVariants.{NotBuilt}
 use Rattle.s7_base.specs.declared.reason.Reason.TheVariants.{Unsupported}
 use Rattle.std.specs.Str.{str_eq_ignore_ascii_case}
 use Rattle.stl_tree.specs.Words.{is_word, is_word_kind}
-use Rattle.stl_tree.specs.declared.program.BlockName.{BlockName}
-use Rattle.stl_tree.specs.declared.program.BlockName.TheVariants.{Ob}
+use Rattle.memory_areas.specs.declared.call.BlockName.{BlockName}
+use Rattle.memory_areas.specs.declared.call.BlockName.TheVariants.{Ob}
 use Rattle.stl_tree.specs.Items.{block_number, heading_with, heading_number, heading_name, short_heading, in_body, misfit_reason, refusal, is_complete, statement_op, statement_of, statement_size}
 use Rattle.stl_tree.specs.Statements.{statement as statement_said}
 use Rattle.stl_tree.specs.Verdict.{with_statement, with_item, with_end, body_from, begin_from, misfit_at, one_block, with_heading, program_of, program_with}

@@ -11,8 +11,8 @@ use Rattle.stl_tree.specs.Registers.{RegisterValues}
 use Rattle.stl_tree.specs.StlRun.{after_effect, over, running, stl_run, size_of}
 use Rattle.stl_tree.specs.Verdict.{program_with}
 use Rattle.stl_tree.specs.declared.program.BitArg.TheVariants.{At}
-use Rattle.stl_tree.specs.declared.program.BlockName.TheVariants.{Ob}
-use Rattle.stl_tree.specs.declared.program.Call.{Call}
+use Rattle.memory_areas.specs.declared.call.BlockName.TheVariants.{Ob}
+use Rattle.memory_areas.specs.declared.call.Call.{Call}
 use Rattle.stl_tree.specs.declared.program.Op.{Op}
 use Rattle.stl_tree.specs.declared.program.Op.TheVariants as op
 use Rattle.stl_tree.specs.declared.program.Operand.{Operand}

@@ -14,7 +14,7 @@ use Rattle.stl_tree.specs.Items.{op_of}
 use Rattle.stl_tree.specs.Mnemonics.{mnemonic_at, mnemonic_named}
 use Rattle.stl_tree.specs.Verdict.{verdict}
 use Rattle.stl_tree.specs.declared.program.BitArg.TheVariants.{At}
-use Rattle.stl_tree.specs.declared.program.BlockName.TheVariants.{Ob}
+use Rattle.memory_areas.specs.declared.call.BlockName.TheVariants.{Ob}
 use Rattle.stl_tree.specs.declared.program.Instr.{Instr}
 use Rattle.stl_tree.specs.declared.program.Op.{Op}
 use Rattle.stl_tree.specs.declared.program.Op.TheVariants as op

@@ -6,8 +6,8 @@ use Rattle.s7_base.specs.declared.token.Token.{Token}
 use Rattle.stl_tree.specs.Items.{begins_with_ob, block_number, statement_op, statement_size}
 use Rattle.stl_tree.specs.Verdict.{program_of, program_with}
 use Rattle.stl_tree.specs.Words.{is_word, is_sign, is_word_kind}
-use Rattle.stl_tree.specs.declared.program.BlockName.{BlockName}
-use Rattle.stl_tree.specs.declared.program.BlockName.TheVariants.{Ob}
+use Rattle.memory_areas.specs.declared.call.BlockName.{BlockName}
+use Rattle.memory_areas.specs.declared.call.BlockName.TheVariants.{Ob}
 use Rattle.stl_tree.specs.declared.program.Instr.{Instr}
 use Rattle.stl_tree.specs.declared.program.Op.{Op}
 use Rattle.stl_tree.specs.declared.program.Op.TheVariants.{BlockEnd}

@@ -1,6 +1,6 @@
 -- The instruction table: what each instruction does to the state that it finds.
 use Rattle.memory_areas.specs.Access.{write_bit}
-use Rattle.s7_base.specs.StatusBits.{after_assign, after_check, after_end}
+use Rattle.status_word.specs.StatusBits.{after_assign, after_check, after_end}
 use Rattle.stl_tree.specs.Now.{Now, Effect, next, leave, with_memory, with_status}
 use Rattle.stl_tree.specs.Operands.{with_checked, with_place}
 use Rattle.stl_tree.specs.declared.program.Op.{Op}

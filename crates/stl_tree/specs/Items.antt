@@ -16,8 +16,8 @@ use Rattle.stl_tree.specs.Words.{is_word, is_sign, is_word_kind, is_word_among, 
 use Rattle.stl_tree.specs.declared.mnemonic.Mnemonic.{Mnemonic}
 use Rattle.stl_tree.specs.declared.mnemonic.Mnemonic.TheVariants as is
 use Rattle.stl_tree.specs.declared.program.BitArg.TheVariants as arg
-use Rattle.stl_tree.specs.declared.program.BlockName.{BlockName}
-use Rattle.stl_tree.specs.declared.program.BlockName.TheVariants.{Ob}
+use Rattle.memory_areas.specs.declared.call.BlockName.{BlockName}
+use Rattle.memory_areas.specs.declared.call.BlockName.TheVariants.{Ob}
 use Rattle.stl_tree.specs.declared.program.Op.{Op}
 use Rattle.stl_tree.specs.declared.program.Op.TheVariants as op
 use Rattle.stl_tree.specs.declared.program.Operand.{Operand}

@@ -2,7 +2,7 @@
 use Rattle.std.specs.Prelude.{ℕ, List, [], ◌∷◌, length, Result, Ok, Err}
 use Rattle.memory_areas.specs.Areas.{Contents}
 use Rattle.memory_areas.specs.declared.place.Place.{Place}
-use Rattle.s7_base.specs.StatusBits.{StatusBits}
+use Rattle.status_word.specs.StatusBits.{StatusBits}
 use Rattle.s7_base.specs.declared.check.Entry.{Entry}
 use Rattle.s7_base.specs.declared.outcome.Fault.{Fault}
 use Rattle.stl_tree.specs.Registers.{RegisterValues}

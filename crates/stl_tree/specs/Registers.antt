@@ -1,6 +1,6 @@
 -- The registers of a controller as an STL run sees them.
 use Rattle.std.specs.Prelude.{ℕ}
-use Rattle.s7_base.specs.StatusBits.{StatusBits, all_clear}
+use Rattle.status_word.specs.StatusBits.{StatusBits, all_clear}
 
 -- the accumulators and the address registers, of 32 bits each; the numbers of the open data block and
 -- of the open instance, 0 where none is open; the bits of the status word

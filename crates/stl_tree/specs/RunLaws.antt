@@ -4,7 +4,7 @@ use Rattle.memory_areas.specs.Areas.{Areas}
 use Rattle.memory_areas.specs.End.{Ended}
 use Rattle.s7_base.specs.declared.outcome.Fault.{Fault}
 use Rattle.stl_tree.specs.StlRun.{begun, end_of, steps_on, stl_run}
-use Rattle.stl_tree.specs.declared.program.Call.{Call}
+use Rattle.memory_areas.specs.declared.call.Call.{Call}
 use Rattle.stl_tree.specs.declared.program.Program.{Program}
 
 -- more steps never change a run that has ended

@@ -10,9 +10,9 @@ use Rattle.stl_tree.specs.Now.{Activation, Now, Effect, next, go, enter, leave, 
 use Rattle.stl_tree.specs.Registers.{start}
 use Rattle.stl_tree.specs.declared.program.Block.{Block}
 use Rattle.stl_tree.specs.declared.program.BlockCall.{BlockCall}
-use Rattle.stl_tree.specs.declared.program.BlockName.{BlockName}
-use Rattle.stl_tree.specs.declared.program.BlockName.TheVariants as name
-use Rattle.stl_tree.specs.declared.program.Call.{Call}
+use Rattle.memory_areas.specs.declared.call.BlockName.{BlockName}
+use Rattle.memory_areas.specs.declared.call.BlockName.TheVariants as name
+use Rattle.memory_areas.specs.declared.call.Call.{Call}
 use Rattle.stl_tree.specs.declared.program.Instr.{Instr}
 use Rattle.stl_tree.specs.declared.program.Program.{Program}
 

@@ -10,7 +10,7 @@ use Rattle.s7_base.specs.declared.reason.Rejection.TheVariants.{Refused}
 use Rattle.s7_base.specs.declared.token.Token.{Token}
 use Rattle.stl_tree.specs.Items.{outside, statement_of, statement_size, heading_name, misfit_reason}
 use Rattle.stl_tree.specs.Words.{is_word, is_sign}
-use Rattle.stl_tree.specs.declared.program.BlockName.{BlockName}
+use Rattle.memory_areas.specs.declared.call.BlockName.{BlockName}
 use Rattle.stl_tree.specs.declared.program.Instr.{Instr}
 use Rattle.stl_tree.specs.declared.program.Op.{Op}
 use Rattle.stl_tree.specs.declared.program.Op.TheVariants.{BlockEnd}

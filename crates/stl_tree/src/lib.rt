@@ -7,11 +7,11 @@
 //! name, the instruction table and the run, whose laws `run_laws` proves.
 #![tactic(auto)]
 
+pub use memory_areas::{BlockName, Call};
 pub use mnemonic::{Mnemonic, Read};
 pub use number::number_of;
 pub use program::{
-    Actual, BitArg, Block, BlockCall, BlockName, Call, Formal, Instance, Instr, Mode, Op, Operand,
-    Program, Symbol,
+    Actual, BitArg, Block, BlockCall, Formal, Instance, Instr, Mode, Op, Operand, Program, Symbol,
 };
 pub use raw::{
     Ar, BlockKind, Constant, DeclType, Declaration, ElemType, InitialItem, PathStep, RawActual,

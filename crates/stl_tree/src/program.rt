@@ -1,15 +1,7 @@
 //! The program that a source text stands for.
 
-use memory_areas::{AreaName, DataBlock, Place};
+use memory_areas::{AreaName, BlockName, DataBlock, Place};
 use s7_base::{Check, Line, List, Width};
-
-/// A block by its kind and number: an organization block, a function or a function block.
-#[derive(Clone, Copy, Debug, PartialEq, Eq)]
-pub enum BlockName {
-    Ob(u16),
-    Fc(u16),
-    Fb(u16),
-}
 
 /// Where an instruction finds its operand.
 #[derive(Clone, Copy, Debug, PartialEq, Eq)]
@@ -115,13 +107,4 @@ pub struct Program {
     pub instances: List<Instance>,
     pub blocks: List<Block>,
     pub symbols: List<Symbol>,
-}
-
-/// A call of a block from outside: its name, the data block of its instance, which only a function
-/// block has, and its actual parameters in the order of the formals.
-#[derive(Debug, Drop, PartialEq)]
-pub struct Call {
-    pub block: BlockName,
-    pub instance: u16,
-    pub actuals: List<(Place, Width)>,
 }

@@ -1,8 +1,10 @@
 //! Broken rules, and which of them is named.
 ghost use Rattle.std.specs.Prelude.{◌≡◌, ◌++◌, OnOk};
-ghost use Rattle.st_rules.specs.Broken.{broken, comes_before, first_of_all, number_of, sooner};
+ghost use Rattle.s7_base.specs.Broken.{broken, comes_before, first_of_all, number_of, sooner};
 
-use s7_base::{Line, List, NoMemory, Reason};
+use crate::list::List;
+use crate::memory::NoMemory;
+use crate::reason::{Line, Reason};
 
 /// A broken rule, and the line on which it is broken.
 #[derive(Clone, Copy, Debug, PartialEq, Eq)]

@@ -1,7 +1,7 @@
 -- Rows on the status bits, held against worked ones by computing them.
 use Rattle.std.specs.Prelude.{◌≡◌, refl, Bool, true, false}
 use Rattle.s7_base.specs.declared.check.Check.TheVariants as check
-use Rattle.s7_base.specs.StatusBits.{StatusBits, all_clear, after_assign, after_check, after_end}
+use Rattle.status_word.specs.StatusBits.{StatusBits, all_clear, after_check, after_store, after_end}
 
 -- the bits with FC, RLO, STA and OR as given, the others as they are where none is changed
 abbrev logic : Bool → Bool → Bool → Bool → StatusBits → StatusBits
@@ -35,7 +35,7 @@ or_clears_or : (s : StatusBits) → after_check check.O false (logic true false 
 or_clears_or s = refl
 
 -- STA is the bit that was written, and the RLO stays
-assigned : (s : StatusBits) → after_assign (logic true true false true s) ≡ logic false true true false s
+assigned : (s : StatusBits) → after_store true (logic true true false true s) ≡ logic false true true false s
 assigned s = refl
 
 -- the end of a block clears OS, and leaves the RLO and the condition codes

@@ -4,9 +4,9 @@ use Rattle.std.specs.List.{fold}
 use Rattle.std.proofs.lemmas.Bool.{eqb-false, ltb-true, ltb-false}
 use Rattle.s7_base.specs.declared.reason.Reason.{Reason}
 use Rattle.s7_base.specs.declared.reason.Reason.TheVariants as reason
-use Rattle.st_rules.specs.Broken.{comes_before, first_of_all, number_of, sooner}
-use Rattle.st_types_laws.specs.TypedLaws.{FirstOfAll, IsFirst}
-use Rattle.st_rules.specs.declared.broken.Break.{Break}
+use Rattle.s7_base.specs.Broken.{comes_before, first_of_all, number_of, sooner}
+use Rattle.s7_base.specs.BrokenLaws.{FirstOfAll, IsFirst}
+use Rattle.s7_base.specs.declared.broken.Break.{Break}
 
 few : (r : Reason) → number_of r < 32
 few reason.BadToken = omega arith
