@@ -66,7 +66,7 @@ operand_in (Some place) = operand_is place
 abbrev pub IsStatement : Op → Type 0
 IsStatement (op.Check c b) = HasOperand (op.Check c b)
 IsStatement (op.Assign o) = HasOperand (op.Assign o)
-IsStatement op.BlockEnd = ⊥
+IsStatement other = ⊥
 
 abbrev MayBe : Option Op → Type 0
 MayBe o = IfSome o IsStatement

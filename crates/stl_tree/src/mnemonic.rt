@@ -19,7 +19,7 @@ pub enum Mnemonic {
 }
 
 /// What stands at the front of the tokens of an operand.
-#[derive(Debug, Drop, PartialEq)]
+#[derive(Drop)]
 pub enum Read<T> {
     /// A form that fits, with how many tokens it takes.
     Fits(T, usize),
