@@ -74,8 +74,7 @@ MayBe o = IfSome o IsStatement
 with_is : (what : Mnemonic) (bit : Operand) → IsOperand width.Bit bit → MayBe (op_with what bit)
 with_is (is.Check check) bit h = h
 with_is is.Assign bit h = h
-with_is is.Later bit h = tt
-with_is (is.LeftOut kind) bit h = tt
+with_is other bit h = tt
 
 by_is : (what : Option Mnemonic) (o : Option Operand) → IsBit o → MayBe (op_by what o)
 by_is None o h = tt
