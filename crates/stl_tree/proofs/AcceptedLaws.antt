@@ -11,6 +11,7 @@ use Rattle.s7_base.specs.declared.reason.Reason.{Reason}
 use Rattle.s7_base.specs.declared.reason.Rejection.{Rejection}
 use Rattle.s7_base.specs.declared.token.Token.{Token}
 use Rattle.stl_tree.specs.Accepted.{HasOperand, HaveOperands, IsAccepted, IsAcceptedBlock, IsBlockNumber, IsEnded, VerdictIsAccepted}
+use Rattle.stl_tree.specs.Brackets.{AreNested}
 use Rattle.stl_tree.specs.Items.{statement_op, statement_of, statement_size, is_complete, refusal, heading_name, heading_number, heading_with, block_number}
 use Rattle.stl_tree.specs.Numbers.{number_of}
 use Rattle.stl_tree.specs.Statements.{statement}
@@ -46,6 +47,7 @@ statement_said tokens =
 
 record IsBody (body : List Instr) : Type 0 where
   operands : HaveOperands body
+  brackets : AreNested body 0
   ends : IsEnded body
 
 abbrev Body : Result (List Instr) Rejection → Type 0
@@ -57,7 +59,12 @@ Holds i = HasOperand i.op
 operand_of : (o : Op) → IsStatement o → HasOperand o
 operand_of (op.Check c b) h = h
 operand_of (op.Assign o) h = h
-operand_of op.BlockEnd h = tt
+operand_of o h = absurd h
+
+nested_behind : (o : Op) (line : Line) (rest : List Instr) → IsStatement o → AreNested rest 0 → AreNested (record { line = line; op = o } ∷ rest) 0
+nested_behind (op.Check c b) line rest h k = k
+nested_behind (op.Assign o) line rest h k = k
+nested_behind o line rest h k = absurd h
 
 ends_behind : (i : Instr) (rest : List Instr) → IsEnded rest → IsEnded (i ∷ rest)
 ends_behind i [] h = absurd h
@@ -67,6 +74,7 @@ statement_before : (line : Line) (o : Op) (rest : List Instr) → IsStatement o 
 statement_before line o rest h body =
     record {
       operands = All-cons Holds (record { line = line; op = o }) rest (operand_of o h) body.operands;
+      brackets = nested_behind o line rest h body.brackets;
       ends = ends_behind (record { line = line; op = o }) rest body.ends;
     }
 
@@ -80,7 +88,7 @@ with_statement_is line (Ok op) (Err e) h k = tt
 with_statement_is line (Err reason) rest h k = tt
 
 with_end_is : (line : Line) (rest : List Token) → Body (with_end line rest)
-with_end_is line [] = record { operands = All-cons Holds (record { line = line; op = op.BlockEnd }) [] tt (All-nil Holds); ends = refl }
+with_end_is line [] = record { operands = All-cons Holds (record { line = line; op = op.BlockEnd }) [] tt (All-nil Holds); brackets = tt; ends = refl }
 with_end_is line (next ∷ rest) = tt
 
 body_is : (end : Line) (skip : ℕ) (tokens : List Token) → Body (body_from end skip tokens)
@@ -142,7 +150,7 @@ block_is name line (Ok body) n h =
     let block : Block = record { name = name; line = line; formals = []; body = body } in
     record {
       some = λ e. cc;
-      blocks = All-cons IsAcceptedBlock block [] (record { operands = h.operands; ends = h.ends; number = n; formals = refl }) (All-nil IsAcceptedBlock);
+      blocks = All-cons IsAcceptedBlock block [] (record { operands = h.operands; brackets = h.brackets; ends = h.ends; number = n; formals = refl }) (All-nil IsAcceptedBlock);
       names = (refl, tt);
       alone = record { dbs = refl; instances = refl; symbols = refl };
     }

@@ -66,7 +66,7 @@ operand_in (Some place) = operand_is place
 abbrev pub IsStatement : Op → Type 0
 IsStatement (op.Check c b) = HasOperand (op.Check c b)
 IsStatement (op.Assign o) = HasOperand (op.Assign o)
-IsStatement op.BlockEnd = ⊥
+IsStatement other = ⊥
 
 abbrev MayBe : Option Op → Type 0
 MayBe o = IfSome o IsStatement
@@ -74,8 +74,7 @@ MayBe o = IfSome o IsStatement
 with_is : (what : Mnemonic) (bit : Operand) → IsOperand width.Bit bit → MayBe (op_with what bit)
 with_is (is.Check check) bit h = h
 with_is is.Assign bit h = h
-with_is is.Later bit h = tt
-with_is (is.LeftOut kind) bit h = tt
+with_is other bit h = tt
 
 by_is : (what : Option Mnemonic) (o : Option Operand) → IsBit o → MayBe (op_by what o)
 by_is None o h = tt

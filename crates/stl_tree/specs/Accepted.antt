@@ -3,6 +3,7 @@ use Rattle.std.specs.Prelude.{◌≡◌, ◌≢◌, ℕ, ◌≤◌, true, false,
 use Rattle.memory_areas.specs.Access.{is_byte_in, is_unaligned}
 use Rattle.s7_base.specs.declared.word.Width.{Width}
 use Rattle.s7_base.specs.declared.word.Width.TheVariants as width
+use Rattle.stl_tree.specs.Brackets.{AreNested}
 use Rattle.stl_tree.specs.StlRun.{block_named}
 use Rattle.stl_tree.specs.Verdict.{verdict}
 use Rattle.stl_tree.specs.declared.program.BitArg.TheVariants as arg
@@ -25,7 +26,20 @@ IsOperand w (operand.Direct a byte x) = (is_byte_in a w byte ≡ true) × (is_un
 -- the operand of an instruction is one of the width that the instruction has
 abbrev pub HasOperand : Op → Type 0
 HasOperand (op.Check c (arg.At o)) = IsOperand width.Bit o
+HasOperand (op.Check c (arg.Flag t)) = Unit {0}
+HasOperand op.OrAlone = Unit {0}
+HasOperand (op.Bracket c) = Unit {0}
+HasOperand op.Close = Unit {0}
 HasOperand (op.Assign o) = IsOperand width.Bit o
+HasOperand (op.Set o) = IsOperand width.Bit o
+HasOperand (op.Reset o) = IsOperand width.Bit o
+HasOperand op.SetRlo = Unit {0}
+HasOperand op.ClearRlo = Unit {0}
+HasOperand op.NotRlo = Unit {0}
+HasOperand op.Save = Unit {0}
+HasOperand (op.EdgeUp o) = IsOperand width.Bit o
+HasOperand (op.EdgeDown o) = IsOperand width.Bit o
+HasOperand op.Nop = Unit {0}
 HasOperand op.BlockEnd = Unit {0}
 
 -- each instruction of a body has its operand
@@ -55,10 +69,11 @@ AreDistinct (b ∷ rest) = (block_named b.name rest ≡ None) × AreDistinct res
 
 -- The rules, a record a group
 
--- what stands in a block: its operands lie in their areas, it ends with an end word, its number is in range,
--- and it has no formals, since none are read yet
+-- what stands in a block: its operands lie in their areas, its brackets are nested, it ends with an end word,
+-- its number is in range, and it has no formals, since none are read yet
 pub record IsAcceptedBlock (block : Block) : Type 0 where
   pub operands : HaveOperands block.body
+  pub brackets : AreNested block.body 0
   pub ends : IsEnded block.body
   pub number : IsBlockNumber block.name
   pub formals : block.formals ≡ []

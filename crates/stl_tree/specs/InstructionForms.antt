@@ -37,8 +37,7 @@ pub data IsBit : List Token → RawPlace → Type 0 where
 abbrev pub takes_bit : Mnemonic → Bool
 takes_bit (is.Check check) = true
 takes_bit is.Assign = true
-takes_bit is.Later = false
-takes_bit (is.LeftOut kind) = false
+takes_bit other = false
 
 -- an instruction without a label: a mnemonic whose operand is a bit, and behind it a bit
 pub data IsInstruction : List Token → RawInstr → Type 0 where

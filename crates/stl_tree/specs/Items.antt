@@ -35,8 +35,7 @@ operand_at place = if is_bit_in_area place then Some (Direct place.area place.by
 abbrev pub op_with : Mnemonic → Operand → Option Op
 op_with (is.Check check) bit = Some (op.Check check (arg.At bit))
 op_with is.Assign bit = Some (op.Assign bit)
-op_with is.Later bit = None
-op_with (is.LeftOut kind) bit = None
+op_with other bit = None
 
 -- an instruction by what its mnemonic is and its operand, where it has both
 abbrev pub op_by : Option Mnemonic → Option Operand → Option Op

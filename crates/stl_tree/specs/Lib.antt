@@ -1,4 +1,5 @@
 pub mod Accepted
+pub mod Brackets
 pub mod Grammar
 pub mod InstructionForms
 pub mod Instructions

@@ -3,6 +3,7 @@ use Rattle.std.specs.Prelude.{Bool, Result, Ok}
 use Rattle.memory_areas.specs.Access.{area_named, read_bit}
 use Rattle.memory_areas.specs.declared.place.Place.{Place}
 use Rattle.s7_base.specs.declared.outcome.Fault.{Fault}
+use Rattle.status_word.specs.StatusBits.{answer_to}
 use Rattle.stl_tree.specs.Now.{Now, Effect, depth, with_value}
 use Rattle.stl_tree.specs.declared.program.BitArg.{BitArg}
 use Rattle.stl_tree.specs.declared.program.BitArg.TheVariants as arg
@@ -29,7 +30,8 @@ found (operand.Direct a byte x) now =
 abbrev pub with_place : Operand → Now → (Place → Now → Effect) → Effect
 with_place o now effect = with_value (found o now) (λ f. effect f.place f.after)
 
--- the effect by what a check looks at: the bit of an operand; a flag of the status word is to be a case
+-- the effect by what a check looks at: the bit of an operand, or the answer of the status word
 abbrev pub with_checked : BitArg → Now → (Bool → Now → Effect) → Effect
 with_checked (arg.At o) now effect =
     with_place o now (λ p after. with_value (read_bit p after.memory) (λ b. effect b after))
+with_checked (arg.Flag t) now effect = effect (answer_to t now.registers.status) now

@@ -168,8 +168,8 @@ at_place (Fits place size) = Fits (At place) size
 abbrev pub operand_of : Mnemonic → List Token → Read RawOperand
 operand_of (is.Check check) tokens = at_place (bit_operand tokens)
 operand_of is.Assign tokens = at_place (bit_operand tokens)
-operand_of is.Later tokens = No
 operand_of (is.LeftOut kind) tokens = LeftOut kind
+operand_of other tokens = No
 
 -- Statements
 

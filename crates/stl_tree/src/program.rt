@@ -2,6 +2,7 @@
 
 use memory_areas::{AreaName, BlockName, DataBlock, Place};
 use s7_base::{Check, Line, List, Width};
+use status_word::Test;
 
 /// Where an instruction finds its operand.
 #[derive(Clone, Copy, Debug, PartialEq, Eq)]
@@ -14,6 +15,9 @@ pub enum Operand {
 #[derive(Clone, Copy, Debug, PartialEq, Eq)]
 pub enum BitArg {
     At(Operand),
+
+    /// A question to the status word.
+    Flag(Test),
 }
 
 /// What a formal of a called block stands for.
@@ -40,11 +44,47 @@ pub struct BlockCall {
 /// What an instruction does, with its operand.
 #[derive(Debug, Drop, PartialEq)]
 pub enum Op {
-    /// `A`, `AN`, `O` and `ON` on a bit.
+    /// `A`, `AN`, `O`, `ON`, `X` and `XN` on a bit.
     Check(Check, BitArg),
+
+    /// `O` without operand.
+    OrAlone,
+
+    /// `A(`, `AN(`, `O(`, `ON(`, `X(` and `XN(`.
+    Bracket(Check),
+
+    /// `)`
+    Close,
 
     /// `=`
     Assign(Operand),
+
+    /// `S`
+    Set(Operand),
+
+    /// `R`
+    Reset(Operand),
+
+    /// `SET`
+    SetRlo,
+
+    /// `CLR`
+    ClearRlo,
+
+    /// `NOT`
+    NotRlo,
+
+    /// `SAVE`
+    Save,
+
+    /// `FP`, on the bit that keeps the last RLO.
+    EdgeUp(Operand),
+
+    /// `FN`, on the bit that keeps the last RLO.
+    EdgeDown(Operand),
+
+    /// `NOP` and `BLD`.
+    Nop,
 
     /// The end word of a block.
     BlockEnd,

@@ -4,6 +4,7 @@
 
 use memory_areas::AreaName;
 use s7_base::{Boxed, Line, List, Width};
+use status_word::Test;
 
 /// One of the two address registers.
 #[derive(Clone, Copy, Debug, PartialEq, Eq)]
@@ -35,14 +36,14 @@ pub struct Constant {
 }
 
 /// Initial values, so many times.
-#[derive(Debug, Drop, PartialEq)]
+#[derive(Drop)]
 pub struct InitialItem {
     pub count: u32,
     pub values: List<Constant>,
 }
 
 /// The type of a declaration.
-#[derive(Debug, Drop, PartialEq)]
+#[derive(Drop)]
 #[cycle(declarations)]
 pub enum DeclType {
     Elementary(ElemType),
@@ -55,7 +56,7 @@ pub enum DeclType {
 }
 
 /// A declaration, with the line of its name.
-#[derive(Debug, Drop, PartialEq)]
+#[derive(Drop)]
 #[cycle(declarations)]
 pub struct Declaration {
     pub name: List<u8>,
@@ -65,14 +66,14 @@ pub struct Declaration {
 }
 
 /// A step of a path: a component, or the indices of an element.
-#[derive(Debug, Drop, PartialEq)]
+#[derive(Drop)]
 pub enum PathStep {
     Name(List<u8>),
     Index(List<i64>),
 }
 
 /// A block as it is named: by its number, or by a name of the symbol table.
-#[derive(Debug, Drop, PartialEq)]
+#[derive(Drop)]
 pub enum RawName {
     Number(u32),
     Name(List<u8>),
@@ -106,7 +107,7 @@ pub struct RawPointer {
 }
 
 /// What a call gives a formal.
-#[derive(Debug, Drop, PartialEq)]
+#[derive(Drop)]
 #[cycle(raw_operands)]
 pub struct RawActual {
     pub formal: List<u8>,
@@ -115,7 +116,7 @@ pub struct RawActual {
 }
 
 /// A call, with the data block of its instance where one is named.
-#[derive(Debug, Drop, PartialEq)]
+#[derive(Drop)]
 #[cycle(raw_operands)]
 pub struct RawCall {
     pub kind: BlockKind,
@@ -125,7 +126,7 @@ pub struct RawCall {
 }
 
 /// An operand as it is written.
-#[derive(Debug, Drop, PartialEq)]
+#[derive(Drop)]
 #[cycle(raw_operands)]
 pub enum RawOperand {
     Missing,
@@ -148,6 +149,9 @@ pub enum RawOperand {
     ByRegister(AreaName, Width, Ar, RawPointer),
     Crossing(Width, Ar, RawPointer),
 
+    /// A question to the status word.
+    Flag(Test),
+
     /// The status word.
     Stw,
 
@@ -166,14 +170,14 @@ pub enum RawOperand {
 }
 
 /// A mnemonic, in capitals, and its operand.
-#[derive(Debug, Drop, PartialEq)]
+#[derive(Drop)]
 pub struct RawOp {
     pub mnemonic: List<u8>,
     pub operand: RawOperand,
 }
 
 /// An instruction, with its label if it has one, and the line of its first token.
-#[derive(Debug, Drop, PartialEq)]
+#[derive(Drop)]
 pub struct RawInstr {
     pub label: Option<List<u8>>,
     pub line: Line,
@@ -191,7 +195,7 @@ pub enum SymbolAddress {
 }
 
 /// A line of the symbol table.
-#[derive(Debug, Drop, PartialEq)]
+#[derive(Drop)]
 pub struct SymbolLine {
     pub name: List<u8>,
     pub line: Line,
@@ -199,7 +203,7 @@ pub struct SymbolLine {
 }
 
 /// An initial value in the `BEGIN` part of a data block.
-#[derive(Debug, Drop, PartialEq)]
+#[derive(Drop)]
 pub struct RawInitial {
     pub path: List<PathStep>,
     pub line: Line,
@@ -207,14 +211,14 @@ pub struct RawInitial {
 }
 
 /// What a data block holds: declarations of its own, or an instance of a function block.
-#[derive(Debug, Drop, PartialEq)]
+#[derive(Drop)]
 pub enum RawDataKind {
     Own(List<Declaration>),
     Instance(RawName),
 }
 
 /// A data block, with the line of its heading.
-#[derive(Debug, Drop, PartialEq)]
+#[derive(Drop)]
 pub struct RawData {
     pub name: RawName,
     pub line: Line,
@@ -223,7 +227,7 @@ pub struct RawData {
 }
 
 /// An organization block, a function or a function block, with the lines of its heading and its end word.
-#[derive(Debug, Drop, PartialEq)]
+#[derive(Drop)]
 pub struct RawBlock {
     pub kind: BlockKind,
     pub name: RawName,
@@ -242,7 +246,7 @@ pub struct RawBlock {
 }
 
 /// A text: its symbol lines, data blocks and other blocks, each in the order of the text.
-#[derive(Debug, Drop, PartialEq)]
+#[derive(Drop)]
 pub struct RawProgram {
     pub symbols: List<SymbolLine>,
     pub dbs: List<RawData>,

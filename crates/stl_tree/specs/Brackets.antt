@@ -1,0 +1,62 @@
+-- Open brackets: what opening and closing one does, and where brackets may stand in a body.
+use Rattle.std.specs.Prelude.{ℕ, zero, suc, nat_lt, if◌then◌else◌, List, [], ◌∷◌, length, Option, Some, None}
+use Rattle.s7_base.specs.declared.check.Check.{Check}
+use Rattle.s7_base.specs.declared.check.Entry.{Entry}
+use Rattle.status_word.specs.StatusBits.{after_close, after_open, entry_of}
+use Rattle.stl_tree.specs.Now.{Now, with_status}
+use Rattle.stl_tree.specs.declared.program.Instr.{Instr}
+use Rattle.stl_tree.specs.declared.program.Op.{Op}
+use Rattle.stl_tree.specs.declared.program.Op.TheVariants as op
+
+-- the most brackets that may be open
+abbrev pub most_open : ℕ
+most_open = 7
+
+-- a further open bracket, where there is room for one
+abbrev pub pushed : Entry → List Entry → List Entry
+pushed e entries = if nat_lt (length entries) most_open then e ∷ entries else entries
+
+-- the state in a bracket of a check
+abbrev pub opened : Check → Now → Now
+opened c now = with_status after_open (record now { brackets = pushed (entry_of c now.registers.status) now.brackets })
+
+-- the state behind the bracket that is closed, given those that are open
+abbrev pub closed_with : List Entry → Now → Now
+closed_with [] now = now
+closed_with (e ∷ outer) now = with_status (after_close e) (record now { brackets = outer })
+
+-- the state behind the innermost open bracket
+abbrev pub closed : Now → Now
+closed now = closed_with now.brackets now
+
+-- how many brackets are open behind an instruction before which so many are, where it may stand there: a
+-- bracket opens where there is room for one, one closes where one is open, and none is open at the end of
+-- a block
+abbrev pub open_behind : Op → ℕ → Option ℕ
+open_behind (op.Bracket c) n = if nat_lt n most_open then Some (suc n) else None
+open_behind op.Close zero = None
+open_behind op.Close (suc n) = Some n
+open_behind op.BlockEnd zero = Some 0
+open_behind op.BlockEnd (suc n) = None
+open_behind (op.Check c b) n = Some n
+open_behind op.OrAlone n = Some n
+open_behind (op.Assign o) n = Some n
+open_behind (op.Set o) n = Some n
+open_behind (op.Reset o) n = Some n
+open_behind op.SetRlo n = Some n
+open_behind op.ClearRlo n = Some n
+open_behind op.NotRlo n = Some n
+open_behind op.Save n = Some n
+open_behind (op.EdgeUp o) n = Some n
+open_behind (op.EdgeDown o) n = Some n
+open_behind op.Nop n = Some n
+
+-- what holds of a number that is there
+abbrev pub WithNumber : Option ℕ → (ℕ → Type 0) → Type 0
+WithNumber None P = ⊥
+WithNumber (Some n) P = P n
+
+-- each instruction may stand where it stands, so many brackets being open before the first
+abbrev pub AreNested : List Instr → ℕ → Type 0
+AreNested [] n = Unit {0}
+AreNested (i ∷ rest) n = WithNumber (open_behind i.op n) (AreNested rest)
