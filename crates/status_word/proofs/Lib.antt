@@ -1,1 +1,3 @@
 mod StatusRows
+mod Packing
+mod WordLaws

@@ -1,1 +1,4 @@
 pub mod StatusBits
+pub mod Results
+pub mod Flags
+pub mod StatusLaws

@@ -125,3 +125,7 @@ after_edge rising e s =
 -- the end word of a block
 abbrev pub after_end : StatusBits → StatusBits
 after_end s = record s { os = false; orb = false; sta = true; fc = false }
+
+-- JC, where it jumps and where it does not
+abbrev pub after_jump : StatusBits → StatusBits
+after_jump s = record s { orb = false; sta = true; rlo = true; fc = false }

@@ -1,7 +1,7 @@
 -- The machine as where its run stands.
 use Rattle.std.specs.Prelude.{◌≡◌, Bool, true, [], ◌∷◌, Result, Ok, Err, is_none}
 use Rattle.memory_areas.specs.Areas.{Areas, Contents}
-use Rattle.status_word.specs.StatusBits.{StatusBits}
+use Rattle.status_word.specs.Flags.{bits}
 use Rattle.s7_base.specs.declared.outcome.Fault.{Fault}
 use Rattle.s7_base.specs.declared.outcome.Outcome.{Outcome}
 use Rattle.s7_base.specs.declared.outcome.Outcome.TheVariants.{Ended, Going}
@@ -13,7 +13,6 @@ use Rattle.stl_machine.specs.declared.machine.Progress.{Progress}
 use Rattle.stl_machine.specs.declared.machine.Progress.TheVariants as progress
 use Rattle.stl_machine.specs.declared.state.Registers.{Registers}
 use Rattle.stl_machine.specs.declared.state.State.{State}
-use Rattle.stl_machine.specs.declared.status.Status.{Status}
 use Rattle.stl_tree.specs.Now.{Now, Effect, next, leave, fault}
 use Rattle.stl_tree.specs.Registers.{RegisterValues}
 use Rattle.stl_tree.specs.StlRun.{Fits, Standing, running, over, begun, instruction}
@@ -41,21 +40,6 @@ IsNew program call areas (Err NoMemory) = Unit {0}
 
 -- What the machine is made of
 
--- the status bits as the instruction table sees them
-abbrev pub bits : Status → StatusBits
-bits s =
-    record {
-      fc = s.fc;
-      rlo = s.rlo;
-      sta = s.sta;
-      orb = s.orb;
-      os = s.os;
-      ov = s.ov;
-      cc0 = s.cc0;
-      cc1 = s.cc1;
-      br = s.br;
-    }
-
 -- the registers as the instruction table sees them
 abbrev pub values : Registers → RegisterValues
 values r =
@@ -69,13 +53,12 @@ values r =
       status = bits r.status;
     }
 
--- what an instruction works on: no bracket is open and one block runs, since none that opens the one or
--- calls the other is built
+-- what an instruction works on: one block runs, since no instruction that calls another is built
 abbrev pub seen : State → Now
 seen s =
     record {
       registers = values s.registers;
-      brackets = [];
+      brackets = s.brackets;
       memory = s.memory;
       activations = record { block = s.block; at = s.position; db = 0; di = 0; formals = [] } ∷ [];
     }
@@ -90,8 +73,14 @@ abbrev pub is_still : Standing → Bool
 is_still (running program now) = is_none (instruction program now.activations)
 is_still (over memory f) = true
 
--- an instruction did what its row says, with the state after it; a fault leaves the memory as it was
+-- an instruction had the effect of its row, with the state after it; a fault leaves the memory as it was
 abbrev pub HasEffect : Effect → Result Found Fault → State → State → Type 0
 HasEffect defined (Ok Next) before after = defined ≡ next (seen after)
 HasEffect defined (Ok Leave) before after = defined ≡ leave (seen after)
 HasEffect defined (Err f) before after = (defined ≡ fault f) × (after.memory ≡ before.memory)
+
+-- an instruction did its row, in the block and at the position where it stands
+pub record Does (defined : Effect) (result : Result Found Fault) (before after : State) : Type 0 where
+  pub effect : HasEffect defined result before after
+  pub block : after.block ≡ before.block
+  pub position : after.position ≡ before.position

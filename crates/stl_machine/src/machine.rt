@@ -7,6 +7,7 @@ ghost use Rattle.memory_areas.specs.Areas.{with_areas};
 use crate::effect::{Effect, effect_of};
 use crate::state::{Registers, State};
 use memory_areas::{ACTIVATIONS, Memory};
+use nesting_stack::Nesting;
 use s7_base::{Fault, Outcome};
 use std::alloc::Global;
 use std::marker::Model;
@@ -108,6 +109,7 @@ impl<'p> Machine<'p> {
             program,
             state: State {
                 registers: Registers::start(),
+                brackets: Nesting::new(),
                 memory: cleared(memory),
                 block,
                 position: 0,

@@ -1,12 +1,17 @@
 //! What an instruction works on.
 ghost use Rattle.std.specs.Prelude.{◌≡◌, Ok};
 ghost use Rattle.memory_areas.specs.Memory.{IsActivation};
+ghost use Rattle.status_word.specs.Flags.{bits};
+ghost use Rattle.status_word.specs.StatusBits.{entry_of};
 ghost use Rattle.stl_machine.specs.Machine.{seen, values};
+ghost use Rattle.stl_tree.specs.Brackets.{closed, opened, pushed};
 ghost use Rattle.stl_tree.specs.Operands.{found};
 ghost use Rattle.stl_tree.specs.Registers.{start};
 
-use crate::status::Status;
 use memory_areas::{Memory, Place};
+use nesting_stack::Nesting;
+use s7_base::{Check, Entry};
+use status_word::{Flag, Status};
 use stl_tree::Operand;
 
 /// The accumulators and address registers, the numbers of the open data blocks, and the status word.
@@ -23,6 +28,7 @@ pub struct Registers {
 
 impl Registers {
     /// All zero.
+    #[tactic(auto, unfolding(status_word::specs::Flags::bits_of, status_word::specs::Flags::has_bit))]
     pub fn start() -> Registers
         ensures { values result ≡ start }
     {
@@ -33,16 +39,39 @@ impl Registers {
             ar2: 0,
             db: 0,
             di: 0,
-            status: Status::all_clear(),
+            status: Status(0),
         }
     }
 }
 
-/// The registers and the memory, with the position of the block that runs in its program and that of the
-/// instruction to come in its body.
+/// What a bracket keeps that is opened at this status word.
+fn entry_of(check: Check, status: Status) -> Entry
+    ensures { result ≡ entry_of check (bits status) }
+{
+    Entry {
+        check,
+        rlo: status.get(Flag::Rlo),
+        orb: status.get(Flag::Orb),
+        nfc: status.get(Flag::Nfc),
+    }
+}
+
+/// Keeps an entry where there is room for it.
+#[tactic(auto, using(crate::proofs::Pushing::is_pushed))]
+fn push(brackets: &mut Nesting, e: Entry)
+    ensures { brackets.new ≡ pushed e brackets.old }
+{
+    match brackets.push(e) {
+        Ok(()) | Err(_) => {}
+    }
+}
+
+/// The registers, the open brackets and the memory, with the position of the block that runs in its program
+/// and that of the instruction to come in its body.
 #[derive(Debug, Drop)]
 pub struct State {
     pub registers: Registers,
+    pub brackets: Nesting,
     pub memory: Memory,
     pub block: usize,
     pub position: usize,
@@ -59,6 +88,28 @@ impl State {
             area: name.area(self.registers.db, self.registers.di, 0),
             byte,
             bit,
+        }
+    }
+
+    /// Opens a bracket.
+    pub fn open(&mut self, check: Check)
+        ensures now { seen self.new ≡ opened check (seen self.old) }
+        ensures block { self.new.block ≡ self.old.block }
+        ensures position { self.new.position ≡ self.old.position }
+    {
+        let status = self.registers.status;
+        push(&mut self.brackets, entry_of(check, status));
+        self.registers.status = status.opened();
+    }
+
+    /// Closes the last bracket that is open.
+    pub fn close(&mut self)
+        ensures now { seen self.new ≡ closed (seen self.old) }
+        ensures block { self.new.block ≡ self.old.block }
+        ensures position { self.new.position ≡ self.old.position }
+    {
+        if let Some(e) = self.brackets.pop() {
+            self.registers.status = self.registers.status.closed(e);
         }
     }
 }

@@ -1,105 +1,25 @@
 //! What no clause says: that the definitions of instructions and runs give the answers that the rules of
 //! STL ask for, and that a machine is made while there is memory.
-ghost use Rattle.memory_areas.specs.Memory.{IsActivation};
-
+use crate::machines::{
+    ENDED, INPUT, NEXT_INPUT, OUTPUT, block, byte_of, call, check, copy, memory, output_4, program,
+    program_with,
+};
 use crate::wants::wants;
 use memory_areas::{
     ACTIVATIONS, Area, AreaName, INPUT_BYTES, LOCAL_BYTES, MARKER_BYTES, Memory, OUTPUT_BYTES,
-    Place,
 };
-use s7_base::{Check, Fault, Line, List, NoMemory, Outcome};
+use s7_base::{Check, Fault, List, NoMemory, Outcome};
 use std::alloc::Global;
 use std::process::Abort;
 use std::test::Fail;
 use stl_machine::{Machine, MachineRefusal};
-use stl_tree::{BitArg, Block, BlockName, Call, Instr, Op, Operand, Program};
-
-const INPUT: Operand = Operand::Direct(AreaName::I, 0, 0);
-
-const NEXT_INPUT: Operand = Operand::Direct(AreaName::I, 0, 1);
-
-const OUTPUT: Operand = Operand::Direct(AreaName::Q, 4, 0);
+use stl_tree::{BitArg, BlockName, Call, Op, Operand, Program};
 
 const NEXT_OUTPUT: Operand = Operand::Direct(AreaName::Q, 4, 1);
 
 const LOCAL: Operand = Operand::Direct(AreaName::L, 0, 0);
 
 const GOING: Outcome = Outcome::Going;
-
-const ENDED: Outcome = Outcome::Ended(None);
-
-fn check(check: Check, operand: Operand) -> Op {
-    Op::Check(check, BitArg::At(operand))
-}
-
-fn copy(op: &Op) -> Op {
-    match op {
-        Op::Check(check, argument) => Op::Check(*check, *argument),
-        Op::Assign(operand) => Op::Assign(*operand),
-        Op::BlockEnd => Op::BlockEnd,
-    }
-}
-
-/// A block of some instructions, with its end word behind them.
-fn block(alloc: Global, name: BlockName, ops: &[Op]) -> Result<Block, NoMemory> {
-    let line = Line(1);
-    let mut body = List::new(alloc);
-    for op in ops {
-        body.push(Instr { line, op: copy(op) })?;
-    }
-    let op = Op::BlockEnd;
-    body.push(Instr { line, op })?;
-    Ok(Block {
-        name,
-        line,
-        formals: List::new(alloc),
-        body,
-    })
-}
-
-/// A program of some blocks and nothing else.
-fn program_with(alloc: Global, blocks: List<Block>) -> Program {
-    Program {
-        dbs: List::new(alloc),
-        instances: List::new(alloc),
-        blocks,
-        symbols: List::new(alloc),
-    }
-}
-
-/// The program of the block OB 1 alone.
-fn program(alloc: Global, ops: &[Op]) -> Result<Program, NoMemory> {
-    let mut blocks = List::new(alloc);
-    blocks.push(block(alloc, BlockName::Ob(1), ops)?)?;
-    Ok(program_with(alloc, blocks))
-}
-
-fn call(alloc: Global, block: BlockName) -> Call {
-    Call {
-        block,
-        instance: 0,
-        actuals: List::new(alloc),
-    }
-}
-
-fn byte_of(area: Area, byte: u32) -> Place
-    requires { IsActivation area }
-    ensures { IsActivation result.area }
-{
-    Place { area, byte, bit: 0 }
-}
-
-/// A memory of zeros but for these bytes of the inputs and of the outputs.
-fn memory(alloc: Global, input_0: u8, output_4: u8) -> Result<Memory, Fail> {
-    let mut memory = Memory::new(alloc, &[])?;
-    memory.write_byte(byte_of(Area::I, 0), input_0)?;
-    memory.write_byte(byte_of(Area::Q, 4), output_4)?;
-    Ok(memory)
-}
-
-fn output_4(memory: &Memory) -> Result<u8, Fault> {
-    memory.read_byte(byte_of(Area::Q, 4))
-}
 
 /// How the block OB 1 ends, and what output byte 4 then is.
 fn run(alloc: Global, memory: Memory, ops: &[Op]) -> Result<(Outcome, u8), Fail> {

@@ -1,0 +1,101 @@
+//! Programs and memories on which the rows run the machine.
+ghost use Rattle.memory_areas.specs.Memory.{IsActivation};
+
+use memory_areas::{Area, AreaName, Memory, Place};
+use s7_base::{Check, Fault, Line, List, NoMemory, Outcome};
+use std::alloc::Global;
+use std::test::Fail;
+use stl_tree::{BitArg, Block, BlockName, Call, Instr, Op, Operand, Program};
+
+pub const INPUT: Operand = Operand::Direct(AreaName::I, 0, 0);
+
+pub const NEXT_INPUT: Operand = Operand::Direct(AreaName::I, 0, 1);
+
+pub const OUTPUT: Operand = Operand::Direct(AreaName::Q, 4, 0);
+
+pub const ENDED: Outcome = Outcome::Ended(None);
+
+pub fn check(check: Check, operand: Operand) -> Op {
+    Op::Check(check, BitArg::At(operand))
+}
+
+pub fn copy(op: &Op) -> Op {
+    match op {
+        Op::Check(check, argument) => Op::Check(*check, *argument),
+        Op::OrAlone => Op::OrAlone,
+        Op::Bracket(check) => Op::Bracket(*check),
+        Op::Close => Op::Close,
+        Op::Assign(operand) => Op::Assign(*operand),
+        Op::Set(operand) => Op::Set(*operand),
+        Op::Reset(operand) => Op::Reset(*operand),
+        Op::SetRlo => Op::SetRlo,
+        Op::ClearRlo => Op::ClearRlo,
+        Op::NotRlo => Op::NotRlo,
+        Op::Save => Op::Save,
+        Op::EdgeUp(operand) => Op::EdgeUp(*operand),
+        Op::EdgeDown(operand) => Op::EdgeDown(*operand),
+        Op::Nop => Op::Nop,
+        Op::BlockEnd => Op::BlockEnd,
+    }
+}
+
+/// A block of some instructions, with its end word behind them.
+pub fn block(alloc: Global, name: BlockName, ops: &[Op]) -> Result<Block, NoMemory> {
+    let line = Line(1);
+    let mut body = List::new(alloc);
+    for op in ops {
+        body.push(Instr { line, op: copy(op) })?;
+    }
+    let op = Op::BlockEnd;
+    body.push(Instr { line, op })?;
+    Ok(Block {
+        name,
+        line,
+        formals: List::new(alloc),
+        body,
+    })
+}
+
+/// A program of some blocks and nothing else.
+pub fn program_with(alloc: Global, blocks: List<Block>) -> Program {
+    Program {
+        dbs: List::new(alloc),
+        instances: List::new(alloc),
+        blocks,
+        symbols: List::new(alloc),
+    }
+}
+
+/// The program of the block OB 1 alone.
+pub fn program(alloc: Global, ops: &[Op]) -> Result<Program, NoMemory> {
+    let mut blocks = List::new(alloc);
+    blocks.push(block(alloc, BlockName::Ob(1), ops)?)?;
+    Ok(program_with(alloc, blocks))
+}
+
+pub fn call(alloc: Global, block: BlockName) -> Call {
+    Call {
+        block,
+        instance: 0,
+        actuals: List::new(alloc),
+    }
+}
+
+pub fn byte_of(area: Area, byte: u32) -> Place
+    requires { IsActivation area }
+    ensures { IsActivation result.area }
+{
+    Place { area, byte, bit: 0 }
+}
+
+/// A memory of zeros but for these bytes of the inputs and of the outputs.
+pub fn memory(alloc: Global, input_0: u8, output_4: u8) -> Result<Memory, Fail> {
+    let mut memory = Memory::new(alloc, &[])?;
+    memory.write_byte(byte_of(Area::I, 0), input_0)?;
+    memory.write_byte(byte_of(Area::Q, 4), output_4)?;
+    Ok(memory)
+}
+
+pub fn output_4(memory: &Memory) -> Result<u8, Fault> {
+    memory.read_byte(byte_of(Area::Q, 4))
+}
