@@ -1,14 +1,16 @@
 //! Reads the operand of an instruction.
-ghost use Rattle.std.specs.Prelude.{◌≡◌, ◌&&◌, ◌||◌, map, option_map};
+ghost use Rattle.std.specs.Prelude.{◌≡◌, ◌≤◌, ◌&&◌, ◌||◌, map, option_map, IfSome};
 ghost use Rattle.std.specs.List.{find, list_all};
 ghost use Rattle.s7_base.specs.Tokens.{is_between};
-ghost use Rattle.stl_tree.specs.Statements.{area_of, area_of_letter, bit_of, is_bit_in_area, in_area, bit_at, is_bit_number, short_bit, long_bit, are_digits, is_named, is_numbered, has_form, left_out_forms, fitting, or_else, short_at, long_at, left_out_by, bit_operand, at_place, operand_of};
+ghost use Rattle.stl_tree.specs.Statements.{area_of, area_of_letter, bit_of, is_bit_in_area, in_area, bit_at, is_bit_number, short_bit, long_bit, are_digits, is_named, is_numbered, has_form, left_out_forms, fitting, or_else, short_at, long_at, left_out_by, bit_operand, at_place, size_with, first_of, second_of, tests, is_asked, status_at, number_in, zero_behind, plain_by, byte_at, nothing_at, checked_at, operand_by, checked_shape, shape_of, operand_of};
 ghost use Rattle.stl_instructions.specs.inner.Rows.{seen};
 
-use crate::words::{is_sign, is_word, is_word_kind};
+use crate::table::goes_on;
+use crate::words::{is_sign, is_spelled, is_word, is_word_kind};
 use memory_areas::{AreaName, is_byte_in};
-use s7_base::{Kind, Token, Width, front_of, is_same_word, rest_after};
-use stl_tree::{Mnemonic, RawOperand, RawPlace, Read, number_of};
+use s7_base::{Check, Kind, Token, Width, front_of, is_same_word, rest_after};
+use status_word::Test;
+use stl_tree::{Constant, Mnemonic, RawOperand, RawPlace, Read, Shape, number_of};
 
 /// A form that is left out where a bit may stand: a word with a number, or with a bracket where it may be
 /// indirect, and its kind.
@@ -289,13 +291,217 @@ fn at_place(read: Read<RawPlace>) -> Read<RawOperand>
     }
 }
 
+/// How many tokens a mnemonic or a question to the status word takes, by its second part.
+pub fn size_with(second: &str) -> usize
+    ensures { result ≡ size_with second.now }
+{
+    if second.is_empty() { 1 } else { 2 }
+}
+
+/// The questions to the status word.
+static TESTS: [Test; 10] = [
+    Test::Eq,
+    Test::Ne,
+    Test::Gt,
+    Test::Lt,
+    Test::Ge,
+    Test::Le,
+    Test::Uo,
+    Test::Ov,
+    Test::Os,
+    Test::Br,
+];
+
+/// The word or the sign with which a question is written.
+fn first_of(test: Test) -> &'static str
+    ensures { result.now ≡ first_of test }
+{
+    match test {
+        Test::Eq => "==",
+        Test::Ne => "<>",
+        Test::Gt => ">",
+        Test::Lt => "<",
+        Test::Ge => ">=",
+        Test::Le => "<=",
+        Test::Uo => "UO",
+        Test::Ov => "OV",
+        Test::Os => "OS",
+        Test::Br => "BR",
+    }
+}
+
+/// What is written behind a sign.
+fn second_of(test: Test) -> &'static str
+    ensures { result.now ≡ second_of test }
+{
+    match test {
+        Test::Eq | Test::Ne | Test::Gt | Test::Lt | Test::Ge | Test::Le => "0",
+        Test::Uo | Test::Ov | Test::Os | Test::Br => "",
+    }
+}
+
+fn is_asked(tokens: &[Token], test: Test) -> bool
+    ensures { result ≡ is_asked tokens.now test }
+{
+    match tokens {
+        [first, rest @ ..] => is_spelled(first, first_of(test)) && goes_on(second_of(test), rest),
+        [] => false,
+    }
+}
+
+/// The first question of a table that stands at the front.
+fn first_asked(tokens: &[Token], table: &[Test]) -> Option<Test>
+    ensures { result ≡ find (is_asked tokens.now) table.now }
+{
+    table.iter().copied().find(|test| is_asked(tokens, *test))
+}
+
+fn asked(tokens: &[Token]) -> Option<Test>
+    ensures { result ≡ find (is_asked tokens.now) tests }
+{
+    first_asked(tokens, &TESTS)
+}
+
+/// What stands where a question to the status word may stand.
+fn status_at(tokens: &[Token]) -> Read<RawOperand>
+    ensures { result ≡ status_at tokens.now }
+{
+    match asked(tokens) {
+        Some(test) => Read::Fits(RawOperand::Flag(test), size_with(second_of(test))),
+        None => Read::No,
+    }
+}
+
+/// A word that is a number of at most so much.
+fn number_in(most: u64, token: &Token) -> Option<u64>
+    ensures value { result ≡ number_in most token.now }
+    ensures within { IfSome result (λ number. number ≤ most) }
+{
+    if is_word_kind(token) {
+        number_of(most, token.text.as_slice())
+    } else {
+        None
+    }
+}
+
+/// Behind a minus: 0, with no blank before it.
+fn zero_behind(tokens: &[Token]) -> Option<u64>
+    ensures value { result ≡ zero_behind tokens.now }
+    ensures within { IfSome result (λ number. number ≤ 0) }
+{
+    match tokens {
+        [token, ..] if token.glued => number_in(0, token),
+        _ => None,
+    }
+}
+
+fn plain_by(size: usize, number: Option<u64>) -> Read<RawOperand>
+    requires { IfSome number (λ value. value ≤ 255) }
+    ensures { result ≡ plain_by size number }
+{
+    match number {
+        Some(value) => {
+            let value = Constant {
+                width: Width::Word,
+                signed: true,
+                binary: false,
+                value: value as u32,
+            };
+            Read::Fits(RawOperand::Constant(value), size)
+        }
+        None => Read::No,
+    }
+}
+
+/// What stands where a number from 0 to 255 may stand.
+fn byte_at(tokens: &[Token]) -> Read<RawOperand>
+    ensures { result ≡ byte_at tokens.now }
+{
+    match tokens {
+        [sign, rest @ ..] if is_sign(sign, "-") => plain_by(2, zero_behind(rest)),
+        [first, ..] => plain_by(1, number_in(255, first)),
+        [] => Read::No,
+    }
+}
+
+fn nothing_at(tokens: &[Token]) -> Read<RawOperand>
+    ensures { result ≡ nothing_at tokens.now }
+{
+    match tokens {
+        [] => Read::Fits(RawOperand::Missing, 0),
+        _ => Read::No,
+    }
+}
+
+/// A bit, or a question to the status word.
+fn checked_at(tokens: &[Token]) -> Read<RawOperand>
+    ensures { result ≡ checked_at tokens.now }
+{
+    match status_at(tokens) {
+        Read::No => at_place(bit_operand(tokens)),
+        read => read,
+    }
+}
+
+fn checked_or_nothing(tokens: &[Token]) -> Read<RawOperand>
+    ensures { result ≡ or_else (nothing_at tokens.now) (checked_at tokens.now) }
+{
+    match nothing_at(tokens) {
+        Read::No => checked_at(tokens),
+        read => read,
+    }
+}
+
+/// What stands where an operand of the shape may stand.
+fn operand_by(shape: Shape, tokens: &[Token]) -> Read<RawOperand>
+    ensures { result ≡ operand_by shape tokens.now }
+{
+    match shape {
+        Shape::Nothing => nothing_at(tokens),
+        Shape::Bit => at_place(bit_operand(tokens)),
+        Shape::Checked => checked_at(tokens),
+        Shape::CheckedOrNothing => checked_or_nothing(tokens),
+        Shape::Byte => byte_at(tokens),
+        Shape::Later => Read::No,
+        Shape::LeftOut(kind) => Read::LeftOut(kind),
+    }
+}
+
+fn checked_shape(check: Check) -> Shape
+    ensures { result ≡ checked_shape check }
+{
+    match check {
+        Check::O => Shape::CheckedOrNothing,
+        Check::A | Check::An | Check::On | Check::X | Check::Xn => Shape::Checked,
+    }
+}
+
+/// The shape of a mnemonic's operand.
+fn shape_of(what: Mnemonic) -> Shape
+    ensures { result ≡ shape_of what }
+{
+    match what {
+        Mnemonic::Check(check) => checked_shape(check),
+        Mnemonic::Bracket(_)
+        | Mnemonic::Close
+        | Mnemonic::SetRlo
+        | Mnemonic::ClearRlo
+        | Mnemonic::NotRlo
+        | Mnemonic::Save => Shape::Nothing,
+        Mnemonic::Assign
+        | Mnemonic::Set
+        | Mnemonic::Reset
+        | Mnemonic::EdgeUp
+        | Mnemonic::EdgeDown => Shape::Bit,
+        Mnemonic::Nop => Shape::Byte,
+        Mnemonic::Later => Shape::Later,
+        Mnemonic::LeftOut(kind) => Shape::LeftOut(kind),
+    }
+}
+
 /// The operand of an instruction.
 pub fn operand_of(what: Mnemonic, tokens: &[Token]) -> Read<RawOperand>
     ensures { result ≡ operand_of what tokens.now }
 {
-    match what {
-        Mnemonic::Check(_) | Mnemonic::Assign => at_place(bit_operand(tokens)),
-        Mnemonic::Later => Read::No,
-        Mnemonic::LeftOut(kind) => Read::LeftOut(kind),
-    }
+    operand_by(shape_of(what), tokens)
 }

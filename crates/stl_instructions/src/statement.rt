@@ -1,12 +1,12 @@
 //! Reads one statement.
 ghost use Rattle.std.specs.Prelude.{◌≡◌, IfOk, length};
 ghost use Rattle.s7_base.specs.Answers.{Answers};
-ghost use Rattle.stl_tree.specs.Statements.{answered, is_label, begins_with_label, name_of, size_with, instr_with, with_operand, with_mnemonic, statement, instruction_of};
+ghost use Rattle.stl_tree.specs.Statements.{answered, is_label, begins_with_label, name_of, instr_with, with_operand, with_mnemonic, statement, instruction_of};
 ghost use Rattle.stl_tree.specs.Mnemonics.{mnemonic_at};
 ghost use Rattle.stl_instructions.specs.inner.Answers.{Says};
 ghost use Rattle.stl_instructions.specs.inner.Rows.{view};
 
-use crate::operand::operand_of;
+use crate::operand::{operand_of, size_with};
 use crate::table::{Row, mnemonic_at};
 use crate::words::{is_sign, is_word_kind};
 use s7_base::{Kind, Line, List, NoMemory, Reason, Rejection, Token, rest_after};
@@ -49,13 +49,6 @@ fn name_of(alloc: Global, row: Row) -> Result<List<u8>, NoMemory>
     let mut name = Vec::from_slice(alloc, row.0.as_bytes())?;
     name.extend_from_slice(row.1.as_bytes())?;
     Ok(List::from_vec(name))
-}
-
-/// How many tokens a mnemonic takes, by its second part.
-fn size_with(second: &str) -> usize
-    ensures { result ≡ size_with second.now }
-{
-    if second.is_empty() { 1 } else { 2 }
 }
 
 /// A mnemonic with what was read of the tokens behind it, of which the operand takes all.

@@ -18,29 +18,29 @@ const LATER: Mnemonic = Mnemonic::Later;
 
 /// The mnemonics. Of two that begin a statement the longer one stands first.
 static ROWS: [Row; 155] = [
-    Row("A", "(", LATER),
+    Row("A", "(", Mnemonic::Bracket(Check::A)),
     Row("A", "", Mnemonic::Check(Check::A)),
-    Row("AN", "(", LATER),
+    Row("AN", "(", Mnemonic::Bracket(Check::An)),
     Row("AN", "", Mnemonic::Check(Check::An)),
-    Row("O", "(", LATER),
+    Row("O", "(", Mnemonic::Bracket(Check::O)),
     Row("O", "", Mnemonic::Check(Check::O)),
-    Row("ON", "(", LATER),
+    Row("ON", "(", Mnemonic::Bracket(Check::On)),
     Row("ON", "", Mnemonic::Check(Check::On)),
-    Row("=", "", Mnemonic::Assign),
-    Row("X", "(", LATER),
-    Row("X", "", LATER),
-    Row("XN", "(", LATER),
-    Row("XN", "", LATER),
+    Row("X", "(", Mnemonic::Bracket(Check::X)),
+    Row("X", "", Mnemonic::Check(Check::X)),
+    Row("XN", "(", Mnemonic::Bracket(Check::Xn)),
+    Row("XN", "", Mnemonic::Check(Check::Xn)),
     Row(")", "MCR", Mnemonic::LeftOut(Kind::MasterControl)),
-    Row(")", "", LATER),
-    Row("S", "", LATER),
-    Row("R", "", LATER),
-    Row("SET", "", LATER),
-    Row("CLR", "", LATER),
-    Row("NOT", "", LATER),
-    Row("SAVE", "", LATER),
-    Row("FP", "", LATER),
-    Row("FN", "", LATER),
+    Row(")", "", Mnemonic::Close),
+    Row("=", "", Mnemonic::Assign),
+    Row("S", "", Mnemonic::Set),
+    Row("R", "", Mnemonic::Reset),
+    Row("SET", "", Mnemonic::SetRlo),
+    Row("CLR", "", Mnemonic::ClearRlo),
+    Row("NOT", "", Mnemonic::NotRlo),
+    Row("SAVE", "", Mnemonic::Save),
+    Row("FP", "", Mnemonic::EdgeUp),
+    Row("FN", "", Mnemonic::EdgeDown),
     Row("L", "", LATER),
     Row("T", "", LATER),
     Row("+", "I", LATER),
@@ -116,8 +116,8 @@ static ROWS: [Row; 155] = [
     Row("CAR", "", LATER),
     Row("OPN", "", LATER),
     Row("CDB", "", LATER),
-    Row("NOP", "", LATER),
-    Row("BLD", "", LATER),
+    Row("NOP", "", Mnemonic::Nop),
+    Row("BLD", "", Mnemonic::Nop),
     Row("JU", "", LATER),
     Row("JC", "", LATER),
     Row("JCN", "", LATER),
@@ -175,7 +175,8 @@ static ROWS: [Row; 155] = [
     Row("LEAVE", "", Mnemonic::LeftOut(Kind::Accumulators)),
 ];
 
-fn goes_on(second: &str, tokens: &[Token]) -> bool
+/// The second part of a mnemonic stands here, or it has none.
+pub fn goes_on(second: &str, tokens: &[Token]) -> bool
     ensures { result ≡ goes_on second.now tokens.now }
 {
     if second.is_empty() {

@@ -1,15 +1,17 @@
--- The instructions that are built, form by form: a mnemonic of the table, and the bit behind it.
-use Rattle.std.specs.Prelude.{◌≡◌, ℕ, ◌≤◌, ◌⊎◌, Bool, true, false, List, [], ◌∷◌, take, drop, codes, Some, None, Ok}
+-- The instructions that are built, form by form: a mnemonic of the table, and the operand of its shape.
+use Rattle.std.specs.Prelude.{◌≡◌, ℕ, ◌≤◌, ◌⊎◌, true, false, List, [], ◌∷◌, take, drop, codes, Some, None, Ok}
 use Rattle.memory_areas.specs.declared.place.AreaName.{AreaName}
 use Rattle.s7_base.specs.declared.token.Token.{Token}
+use Rattle.status_word.specs.declared.test.Test.{Test}
 use Rattle.stl_tree.specs.Mnemonics.{Row, rows, stands_at, mnemonic_at}
 use Rattle.stl_tree.specs.Numbers.{number_of}
-use Rattle.stl_tree.specs.Statements.{area_of, bit_of, is_bit_in_area, begins_with_label, name_of, size_with, instr_with, instruction_of}
-use Rattle.stl_tree.specs.Words.{is_sign, is_word_kind}
-use Rattle.stl_tree.specs.declared.mnemonic.Mnemonic.{Mnemonic}
-use Rattle.stl_tree.specs.declared.mnemonic.Mnemonic.TheVariants as is
+use Rattle.stl_tree.specs.Statements.{area_of, bit_of, is_bit_in_area, first_of, second_of, plain, shape_of, begins_with_label, name_of, size_with, instr_with, instruction_of}
+use Rattle.stl_tree.specs.Words.{is_sign, is_spelled, is_word_kind}
+use Rattle.stl_tree.specs.declared.mnemonic.Shape.{Shape}
+use Rattle.stl_tree.specs.declared.mnemonic.Shape.TheVariants as shape
 use Rattle.stl_tree.specs.declared.raw.RawInstr.{RawInstr}
-use Rattle.stl_tree.specs.declared.raw.RawOperand.TheVariants.{At}
+use Rattle.stl_tree.specs.declared.raw.RawOperand.{RawOperand}
+use Rattle.stl_tree.specs.declared.raw.RawOperand.TheVariants.{At, Flag, Missing}
 use Rattle.stl_tree.specs.declared.raw.RawPlace.{RawPlace}
 
 -- a point and a bit number from 0 to 7, with no blank before either
@@ -33,18 +35,39 @@ pub data IsBit : List Token → RawPlace → Type 0 where
       → IsBitNumber point bit x → is_bit_in_area (bit_of name y x) ≡ true
       → IsBit (word ∷ number ∷ point ∷ bit ∷ []) (bit_of name y x)
 
--- the operand of the mnemonic is a bit
-abbrev pub takes_bit : Mnemonic → Bool
-takes_bit (is.Check check) = true
-takes_bit is.Assign = true
-takes_bit other = false
+-- a question to the status word as it is written: `OV`, or `==0` without a blank
+pub data IsStatusOperand : List Token → Test → Type 0 where
+  flag : (word : Token) (test : Test) →
+      second_of test ≡ [] → is_spelled (first_of test) word ≡ true → IsStatusOperand (word ∷ []) test
+  compared : (sign zero : Token) (test : Test) →
+      second_of test ≡ codes "0" → is_spelled (first_of test) sign ≡ true
+      → is_spelled (codes "0") zero ≡ true → zero.glued ≡ true → IsStatusOperand (sign ∷ zero ∷ []) test
 
--- an instruction without a label: a mnemonic whose operand is a bit, and behind it a bit
+-- a number from 0 to 255 as it is written: `5`, or `-0` without a blank
+pub data IsByteNumber : List Token → ℕ → Type 0 where
+  unsigned : (word : Token) (n : ℕ) →
+      is_word_kind word.kind ≡ true → number_of 255 word.text ≡ Some n → IsByteNumber (word ∷ []) n
+  minus_zero : (sign zero : Token) (n : ℕ) →
+      is_sign (codes "-") sign ≡ true → is_word_kind zero.kind ≡ true → zero.glued ≡ true
+      → number_of 0 zero.text ≡ Some n → IsByteNumber (sign ∷ zero ∷ []) n
+
+-- an operand of a shape
+pub data IsOperand : Shape → List Token → RawOperand → Type 0 where
+  nothing : IsOperand shape.Nothing [] Missing
+  bit : (tokens : List Token) (place : RawPlace) → IsBit tokens place → IsOperand shape.Bit tokens (At place)
+  checked_bit : (tokens : List Token) (place : RawPlace) → IsBit tokens place → IsOperand shape.Checked tokens (At place)
+  status : (tokens : List Token) (test : Test) → IsStatusOperand tokens test → IsOperand shape.Checked tokens (Flag test)
+  checked : (tokens : List Token) (operand : RawOperand) →
+      IsOperand shape.Checked tokens operand → IsOperand shape.CheckedOrNothing tokens operand
+  alone : IsOperand shape.CheckedOrNothing [] Missing
+  number : (tokens : List Token) (n : ℕ) → IsByteNumber tokens n → IsOperand shape.Byte tokens (plain n)
+
+-- an instruction without a label: a mnemonic, and behind it an operand of its shape
 pub data IsInstruction : List Token → RawInstr → Type 0 where
-  on_bit : (first : Token) (rest : List Token) (row : Row) (place : RawPlace) →
+  instruction : (first : Token) (rest : List Token) (row : Row) (operand : RawOperand) →
       begins_with_label (first ∷ rest) ≡ false → mnemonic_at (first ∷ rest) ≡ Some row
-      → takes_bit row.what ≡ true → IsBit (drop (size_with row.second) (first ∷ rest)) place
-      → IsInstruction (first ∷ rest) (instr_with first.line (name_of row) (At place))
+      → IsOperand (shape_of row.what) (drop (size_with row.second) (first ∷ rest)) operand
+      → IsInstruction (first ∷ rest) (instr_with first.line (name_of row) operand)
 
 -- tokens are an instruction exactly where they have its form
 pub record InstructionsHaveForms : Type 0 where

@@ -4,6 +4,7 @@ use Rattle.std.specs.Prelude.{ℕ, Bool, true, false, ◌&&◌, ◌||◌, List, 
 use Rattle.std.specs.List.{find}
 use Rattle.std.specs.Option.{is_some}
 use Rattle.s7_base.specs.Tokens.{is_same_word}
+use Rattle.s7_base.specs.declared.check.Check.{Check}
 use Rattle.s7_base.specs.declared.check.Check.TheVariants as check
 use Rattle.s7_base.specs.declared.reason.Kind.TheVariants as kind
 use Rattle.s7_base.specs.declared.token.Token.{Token}
@@ -29,9 +30,9 @@ two what first second = record { first = first; second = second; what = what }
 abbrev pub ones : Mnemonic → List (List ℕ) → List Row
 ones what words = map (one what) words
 
--- a word that also opens a bracket
-abbrev pub bracketed : Mnemonic → List ℕ → List Row
-bracketed what word = two is.Later word (codes "(") ∷ one what word ∷ []
+-- a check, which also opens a bracket
+abbrev pub checked : Check → List ℕ → List Row
+checked check word = two (is.Bracket check) word (codes "(") ∷ one (is.Check check) word ∷ []
 
 -- a sign before I and D, for whole numbers of 16 and 32 bits, and R, for reals
 abbrev pub typed : List ℕ → List Row
@@ -40,12 +41,12 @@ typed sign = two is.Later sign (codes "I") ∷ two is.Later sign (codes "D") ∷
 -- bit logic, setting, resetting and edges
 abbrev pub bit_rows : List Row
 bit_rows =
-    bracketed (is.Check check.A) (codes "A") ++ bracketed (is.Check check.An) (codes "AN")
-    ++ bracketed (is.Check check.O) (codes "O") ++ bracketed (is.Check check.On) (codes "ON")
-    ++ (one is.Assign (codes "=") ∷ [])
-    ++ bracketed is.Later (codes "X") ++ bracketed is.Later (codes "XN")
-    ++ (two (is.LeftOut kind.MasterControl) (codes ")") (codes "MCR") ∷ [])
-    ++ ones is.Later (codes ")" ∷ codes "S" ∷ codes "R" ∷ codes "SET" ∷ codes "CLR" ∷ codes "NOT" ∷ codes "SAVE" ∷ codes "FP" ∷ codes "FN" ∷ [])
+    checked check.A (codes "A") ++ checked check.An (codes "AN") ++ checked check.O (codes "O")
+    ++ checked check.On (codes "ON") ++ checked check.X (codes "X") ++ checked check.Xn (codes "XN")
+    ++ (two (is.LeftOut kind.MasterControl) (codes ")") (codes "MCR")
+    ∷ one is.Close (codes ")") ∷ one is.Assign (codes "=") ∷ one is.Set (codes "S") ∷ one is.Reset (codes "R")
+    ∷ one is.SetRlo (codes "SET") ∷ one is.ClearRlo (codes "CLR") ∷ one is.NotRlo (codes "NOT") ∷ one is.Save (codes "SAVE")
+    ∷ one is.EdgeUp (codes "FP") ∷ one is.EdgeDown (codes "FN") ∷ [])
 
 -- loading and transferring, arithmetic, shifts, word logic and conversions in the accumulators
 abbrev pub accumulator_rows : List Row
@@ -66,9 +67,10 @@ accumulator_rows =
 abbrev pub control_rows : List Row
 control_rows =
     ones is.Later
-    (codes "LAR1" ∷ codes "LAR2" ∷ codes "TAR1" ∷ codes "TAR2" ∷ codes "CAR" ∷ codes "OPN" ∷ codes "CDB"
-    ∷ codes "NOP" ∷ codes "BLD"
-    ∷ codes "JU" ∷ codes "JC" ∷ codes "JCN" ∷ codes "JCB" ∷ codes "JNB" ∷ codes "JBI" ∷ codes "JNBI"
+    (codes "LAR1" ∷ codes "LAR2" ∷ codes "TAR1" ∷ codes "TAR2" ∷ codes "CAR" ∷ codes "OPN" ∷ codes "CDB" ∷ [])
+    ++ ones is.Nop (codes "NOP" ∷ codes "BLD" ∷ [])
+    ++ ones is.Later
+    (codes "JU" ∷ codes "JC" ∷ codes "JCN" ∷ codes "JCB" ∷ codes "JNB" ∷ codes "JBI" ∷ codes "JNBI"
     ∷ codes "JO" ∷ codes "JOS" ∷ codes "JZ" ∷ codes "JN" ∷ codes "JP" ∷ codes "JM" ∷ codes "JPZ" ∷ codes "JMZ"
     ∷ codes "JUO" ∷ codes "LOOP" ∷ codes "JL"
     ∷ codes "BE" ∷ codes "BEU" ∷ codes "BEC" ∷ codes "CALL" ∷ codes "UC" ∷ codes "CC" ∷ codes "FR" ∷ codes "LC" ∷ [])

@@ -7,6 +7,8 @@ use Rattle.memory_areas.specs.Access.{is_byte_in}
 use Rattle.memory_areas.specs.declared.place.AreaName.{AreaName}
 use Rattle.memory_areas.specs.declared.place.AreaName.TheVariants as area
 use Rattle.s7_base.specs.Tokens.{is_between, is_same_word}
+use Rattle.s7_base.specs.declared.check.Check.{Check}
+use Rattle.s7_base.specs.declared.check.Check.TheVariants as check
 use Rattle.s7_base.specs.declared.reason.Kind.{Kind}
 use Rattle.s7_base.specs.declared.reason.Kind.TheVariants as kind
 use Rattle.s7_base.specs.declared.reason.Line.{Line}
@@ -16,17 +18,21 @@ use Rattle.s7_base.specs.declared.reason.Rejection.{Rejection}
 use Rattle.s7_base.specs.declared.reason.Rejection.TheVariants.{Refused}
 use Rattle.s7_base.specs.declared.token.Token.{Token}
 use Rattle.s7_base.specs.declared.word.Width.TheVariants as width
-use Rattle.stl_tree.specs.Mnemonics.{Row, mnemonic_at}
+use Rattle.status_word.specs.declared.test.Test.{Test}
+use Rattle.status_word.specs.declared.test.Test.TheVariants as test
+use Rattle.stl_tree.specs.Mnemonics.{Row, goes_on, mnemonic_at}
 use Rattle.stl_tree.specs.Numbers.{number_of}
-use Rattle.stl_tree.specs.Words.{is_word, is_sign, is_word_kind}
+use Rattle.stl_tree.specs.Words.{is_word, is_sign, is_spelled, is_word_kind}
 use Rattle.stl_tree.specs.declared.mnemonic.Mnemonic.{Mnemonic}
 use Rattle.stl_tree.specs.declared.mnemonic.Mnemonic.TheVariants as is
 use Rattle.stl_tree.specs.declared.mnemonic.Read.{Read}
 use Rattle.stl_tree.specs.declared.mnemonic.Read.TheVariants.{Fits, LeftOut, No}
+use Rattle.stl_tree.specs.declared.mnemonic.Shape.{Shape}
+use Rattle.stl_tree.specs.declared.mnemonic.Shape.TheVariants as shape
 use Rattle.stl_tree.specs.declared.raw.RawInstr.{RawInstr}
 use Rattle.stl_tree.specs.declared.raw.RawOp.{RawOp}
 use Rattle.stl_tree.specs.declared.raw.RawOperand.{RawOperand}
-use Rattle.stl_tree.specs.declared.raw.RawOperand.TheVariants.{At}
+use Rattle.stl_tree.specs.declared.raw.RawOperand.TheVariants.{At, Constant, Flag, Missing}
 use Rattle.stl_tree.specs.declared.raw.RawPlace.{RawPlace}
 
 -- Bits
@@ -132,10 +138,10 @@ fitting size None = No
 fitting size (Some place) = Fits place size
 
 -- what was read, or else something else
-abbrev pub or_else : Read RawPlace → Read RawPlace → Read RawPlace
+abbrev pub or_else : {A : Type 0} → Read A → Read A → Read A
 or_else No other = other
 or_else (LeftOut kind) other = LeftOut kind
-or_else (Fits place size) other = Fits place size
+or_else (Fits operand size) other = Fits operand size
 
 abbrev pub short_at : List Token → Read RawPlace
 short_at [] = No
@@ -164,12 +170,126 @@ at_place No = No
 at_place (LeftOut kind) = LeftOut kind
 at_place (Fits place size) = Fits (At place) size
 
+-- how many tokens a mnemonic or a question to the status word takes, by its second part
+abbrev pub size_with : List ℕ → ℕ
+size_with [] = 1
+size_with (b ∷ second) = 2
+
+-- a question to the status word as it is written: a word, or a sign with 0 behind it
+abbrev pub first_of : Test → List ℕ
+first_of test.Eq = codes "=="
+first_of test.Ne = codes "<>"
+first_of test.Gt = codes ">"
+first_of test.Lt = codes "<"
+first_of test.Ge = codes ">="
+first_of test.Le = codes "<="
+first_of test.Uo = codes "UO"
+first_of test.Ov = codes "OV"
+first_of test.Os = codes "OS"
+first_of test.Br = codes "BR"
+
+abbrev pub second_of : Test → List ℕ
+second_of test.Eq = codes "0"
+second_of test.Ne = codes "0"
+second_of test.Gt = codes "0"
+second_of test.Lt = codes "0"
+second_of test.Ge = codes "0"
+second_of test.Le = codes "0"
+second_of test.Uo = []
+second_of test.Ov = []
+second_of test.Os = []
+second_of test.Br = []
+
+-- the questions
+abbrev pub tests : List Test
+tests =
+    test.Eq ∷ test.Ne ∷ test.Gt ∷ test.Lt ∷ test.Ge ∷ test.Le ∷ test.Uo ∷ test.Ov ∷ test.Os ∷ test.Br ∷ []
+
+-- the question stands at the front, with no blank inside
+abbrev pub is_asked : List Token → Test → Bool
+is_asked [] test = false
+is_asked (first ∷ rest) test = is_spelled (first_of test) first && goes_on (second_of test) rest
+
+abbrev pub asked_by : Option Test → Read RawOperand
+asked_by None = No
+asked_by (Some test) = Fits (Flag test) (size_with (second_of test))
+
+-- what stands where a question to the status word may stand
+abbrev pub status_at : List Token → Read RawOperand
+status_at tokens = asked_by (find (is_asked tokens) tests)
+
+-- a plain number is a constant of a word, with a sign
+abbrev pub plain : ℕ → RawOperand
+plain value = Constant (record { width = width.Word; signed = true; binary = false; value = value })
+
+-- a word that is a number of at most so much
+abbrev pub number_in : ℕ → Token → Option ℕ
+number_in most token = if is_word_kind token.kind then number_of most token.text else None
+
+-- behind a minus: 0, with no blank before it
+abbrev pub zero_behind : List Token → Option ℕ
+zero_behind [] = None
+zero_behind (token ∷ rest) = if token.glued then number_in 0 token else None
+
+abbrev pub plain_by : ℕ → Option ℕ → Read RawOperand
+plain_by size None = No
+plain_by size (Some value) = Fits (plain value) size
+
+-- what stands where a number from 0 to 255 may stand; `-0` is one
+abbrev pub byte_at : List Token → Read RawOperand
+byte_at [] = No
+byte_at (first ∷ rest) =
+    if is_sign (codes "-") first then plain_by 2 (zero_behind rest) else plain_by 1 (number_in 255 first)
+
+-- nothing stands behind the mnemonic
+abbrev pub nothing_at : List Token → Read RawOperand
+nothing_at [] = Fits Missing 0
+nothing_at (first ∷ rest) = No
+
+-- a bit, or a question to the status word
+abbrev pub checked_at : List Token → Read RawOperand
+checked_at tokens = or_else (status_at tokens) (at_place (bit_operand tokens))
+
+-- what stands where an operand of the shape may stand
+abbrev pub operand_by : Shape → List Token → Read RawOperand
+operand_by shape.Nothing tokens = nothing_at tokens
+operand_by shape.Bit tokens = at_place (bit_operand tokens)
+operand_by shape.Checked tokens = checked_at tokens
+operand_by shape.CheckedOrNothing tokens = or_else (nothing_at tokens) (checked_at tokens)
+operand_by shape.Byte tokens = byte_at tokens
+operand_by shape.Later tokens = No
+operand_by (shape.LeftOut kind) tokens = LeftOut kind
+
+-- a bit or the status word is checked; `O` may stand alone
+abbrev pub checked_shape : Check → Shape
+checked_shape check.A = shape.Checked
+checked_shape check.An = shape.Checked
+checked_shape check.O = shape.CheckedOrNothing
+checked_shape check.On = shape.Checked
+checked_shape check.X = shape.Checked
+checked_shape check.Xn = shape.Checked
+
+-- the shape of a mnemonic's operand
+abbrev pub shape_of : Mnemonic → Shape
+shape_of (is.Check check) = checked_shape check
+shape_of (is.Bracket check) = shape.Nothing
+shape_of is.Close = shape.Nothing
+shape_of is.Assign = shape.Bit
+shape_of is.Set = shape.Bit
+shape_of is.Reset = shape.Bit
+shape_of is.SetRlo = shape.Nothing
+shape_of is.ClearRlo = shape.Nothing
+shape_of is.NotRlo = shape.Nothing
+shape_of is.Save = shape.Nothing
+shape_of is.EdgeUp = shape.Bit
+shape_of is.EdgeDown = shape.Bit
+shape_of is.Nop = shape.Byte
+shape_of is.Later = shape.Later
+shape_of (is.LeftOut kind) = shape.LeftOut kind
+
 -- the operand of an instruction
 abbrev pub operand_of : Mnemonic → List Token → Read RawOperand
-operand_of (is.Check check) tokens = at_place (bit_operand tokens)
-operand_of is.Assign tokens = at_place (bit_operand tokens)
-operand_of (is.LeftOut kind) tokens = LeftOut kind
-operand_of other tokens = No
+operand_of what tokens = operand_by (shape_of what) tokens
 
 -- Statements
 
@@ -191,11 +311,6 @@ begins_with_label (first ∷ second ∷ rest) = is_word_kind first.kind && is_la
 -- the name of a mnemonic, in capitals
 abbrev pub name_of : Row → List ℕ
 name_of row = row.first ++ row.second
-
--- how many tokens a mnemonic takes, by its second part
-abbrev pub size_with : List ℕ → ℕ
-size_with [] = 1
-size_with (b ∷ second) = 2
 
 -- a mnemonic with what was read of the tokens behind it, of which the operand takes all
 abbrev pub with_operand : List ℕ → ℕ → Read RawOperand → Result RawOp Reason

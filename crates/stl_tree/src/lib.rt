@@ -8,7 +8,7 @@
 #![tactic(auto)]
 
 pub use memory_areas::{BlockName, Call};
-pub use mnemonic::{Mnemonic, Read};
+pub use mnemonic::{Mnemonic, Read, Shape};
 pub use number::number_of;
 pub use program::{
     Actual, BitArg, Block, BlockCall, Formal, Instance, Instr, Mode, Op, Operand, Program, Symbol,

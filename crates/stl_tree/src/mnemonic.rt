@@ -1,4 +1,4 @@
-//! What mnemonics are, and what is read of an operand.
+//! What mnemonics are, the shapes of their operands, and what is read of an operand.
 
 use s7_base::{Check, Kind};
 
@@ -48,6 +48,30 @@ pub enum Mnemonic {
     Later,
 
     /// A form that is left out, of this kind, whatever its operand is.
+    LeftOut(Kind),
+}
+
+/// What the operand of a mnemonic may be.
+#[derive(Clone, Copy)]
+pub enum Shape {
+    /// The mnemonic stands alone.
+    Nothing,
+
+    Bit,
+
+    /// A bit, or a question to the status word.
+    Checked,
+
+    /// The same, or the mnemonic stands alone.
+    CheckedOrNothing,
+
+    /// A number from 0 to 255.
+    Byte,
+
+    /// One that is not built yet.
+    Later,
+
+    /// Whatever it is, the form is left out, of this kind.
     LeftOut(Kind),
 }
 
