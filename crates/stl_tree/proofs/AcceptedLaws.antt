@@ -1,180 +1,187 @@
 -- The verdict gives only programs that keep the rules.
-use Rattle.std.proofs.Common.{◌≡◌, ℕ, zero, suc, ◌≤◌, ◌==◌, ◌&&◌, List, [], ◌∷◌, drop, take, Bool, true, false, if◌then◌else◌, Option, Some, None, Result, Ok, Err, refl, subst, arith}
-use Rattle.std.specs.Prelude.{IfSome, IfOk, codes, option_and_then}
-use Rattle.std.specs.Option.{ok_or}
-use Rattle.std.specs.Str.{str_eq_ignore_ascii_case}
-use Rattle.std.proofs.lemmas.Bool.{eqb-false}
-use Rattle.std.proofs.lemmas.List.Elements.{All-cons, All-nil}
+use Rattle.std.proofs.Common.{◌≡◌, ◌≢◌, ℕ, zero, suc, ◌≤◌, List, [], ◌∷◌, ◌++◌, length, Bool, true, false, if◌then◌else◌, Option, Some, None, Result, Ok, Err, refl, sym, ap, subst, ◌∙◌, arith}
+use Rattle.std.specs.Prelude.{All, IfSome, nat_lt, option_map}
+use Rattle.std.specs.List.{cons_option, filter_map, flat_map}
+use Rattle.std.proofs.lemmas.List.Concat.{flat_map-cons}
+use Rattle.std.proofs.lemmas.List.Elements.{All-append, All-cons, All-nil, All-head, All-tail}
+use Rattle.s7_base.specs.Broken.{broken}
 use Rattle.s7_base.specs.Tokens.{tokens_of, line_at_end}
 use Rattle.s7_base.specs.declared.reason.Line.{Line}
-use Rattle.s7_base.specs.declared.reason.Reason.{Reason}
+use Rattle.s7_base.specs.declared.reason.Reason.TheVariants.{TooManyBrackets}
 use Rattle.s7_base.specs.declared.reason.Rejection.{Rejection}
 use Rattle.s7_base.specs.declared.token.Token.{Token}
-use Rattle.stl_tree.specs.Accepted.{HasOperand, HaveOperands, IsAccepted, IsAcceptedBlock, IsBlockNumber, IsEnded, VerdictIsAccepted}
-use Rattle.stl_tree.specs.Brackets.{AreNested}
-use Rattle.stl_tree.specs.Items.{statement_op, statement_of, statement_size, is_complete, refusal, heading_name, heading_number, heading_with, block_number}
-use Rattle.stl_tree.specs.Numbers.{number_of}
-use Rattle.stl_tree.specs.Statements.{statement}
-use Rattle.stl_tree.specs.Verdict.{body_from, with_end, with_statement, begin_from, one_block, with_heading, program_of, judged, verdict}
-use Rattle.stl_tree.specs.Words.{is_word, is_sign, is_word_kind}
-use Rattle.stl_tree.specs.declared.program.Block.{Block}
 use Rattle.memory_areas.specs.declared.call.BlockName.{BlockName}
+use Rattle.stl_tree.specs.Accepted.{AreDistinct, HaveOperands, IsAccepted, IsAcceptedBlock, IsBlockNumber, IsEnded, VerdictIsAccepted}
+use Rattle.stl_tree.specs.Brackets.{AreNested, WithNumber, most_open, open_behind}
+use Rattle.stl_tree.specs.Grammar.{IsForm, heading, begin, empty, end_word, statement, form, AreItems, none_more, one_more, IsKept, IsText}
+use Rattle.stl_tree.specs.Programs.{block_name, block_of, block_with, body_of, instr_of, program_of}
+use Rattle.stl_tree.specs.RawPrograms.{in_last, raw_of, with_end, with_instr, with_item, with_items}
+use Rattle.stl_tree.specs.Stages.{brackets, brackets_at, brackets_from, brackets_in, no_blocks, none_among, open_then, unbuilt, unbuilt_block, unbuilt_instr, unless_there}
+use Rattle.stl_tree.specs.Verdict.{judged_tokens, verdict}
+use Rattle.stl_tree.specs.declared.item.Item.{Item}
+use Rattle.stl_tree.specs.declared.item.Where.{Where}
+use Rattle.stl_tree.specs.declared.item.Where.TheVariants.{Start}
+use Rattle.stl_tree.specs.declared.program.Block.{Block}
 use Rattle.stl_tree.specs.declared.program.Instr.{Instr}
 use Rattle.stl_tree.specs.declared.program.Op.{Op}
 use Rattle.stl_tree.specs.declared.program.Op.TheVariants as op
 use Rattle.stl_tree.specs.declared.program.Program.{Program}
-use Rattle.stl_tree.proofs.OperandLaws.{IsStatement, number_most, statement_is}
+use Rattle.stl_tree.specs.declared.raw.RawBlock.{RawBlock}
+use Rattle.stl_tree.proofs.GrammarLaws.{agree}
+use Rattle.stl_tree.proofs.ProgramLaws.{Holds, all_made, instr_is, name_is}
 
--- Statements
+-- Lists
 
-abbrev IsSaid : Result Op Reason → Type 0
-IsSaid r = IfOk r IsStatement
+no_parts : {X : Type 0} (xs ys : List X) → xs ++ ys ≡ [] → (xs ≡ []) × (ys ≡ [])
+no_parts [] ys e = (refl, e)
+no_parts (x ∷ xs) ys e = absurd cc
 
-from_option : (o : Option Op) (reason : Reason) → IfSome o IsStatement → IsSaid (ok_or o reason)
-from_option None reason h = tt
-from_option (Some op) reason h = h
+none_of_all : {X Y : Type 0} (f : X → List Y) (xs : List X) → flat_map f xs ≡ [] → All (λ x. f x ≡ []) xs
+none_of_all f [] e = All-nil (λ x. f x ≡ [])
+none_of_all f (x ∷ xs) e =
+    let parts = no_parts (f x) (flat_map f xs) (sym (flat_map-cons f x xs) ∙ e) in
+    All-cons (λ y. f y ≡ []) x xs parts.0 (none_of_all f xs parts.1)
 
-choose : (b : Bool) (x y : Result Op Reason) → IsSaid x → IsSaid y → IsSaid (if b then x else y)
-choose true x y p q = p
-choose false x y p q = q
+-- Brackets
 
-statement_said : (tokens : List Token) → IsSaid (statement_of tokens)
-statement_said tokens =
-    let front = take (statement_size tokens) tokens in
-    choose (is_complete tokens) _ _ (from_option (statement_op front) (refusal tokens (statement front)) (statement_is front)) tt
+opened : (b : Bool) (line : Line) (n : ℕ) (rest : List Instr) → (if b then [] else broken line TooManyBrackets) ≡ [] → AreNested rest (suc n) →
+    WithNumber (if b then Some (suc n) else None) (AreNested rest)
+opened true line n rest e h = h
+opened false line n rest e h = absurd cc
+
+nested_at : (line : Line) (o : Op) (n : ℕ) (rest : List Instr) → brackets_at line o n ≡ [] → AreNested rest (open_then o n) → WithNumber (open_behind o n) (AreNested rest)
+nested_at line (op.Bracket c) n rest e h = opened (nat_lt n most_open) line n rest e h
+nested_at line op.Close zero rest e h = absurd cc
+nested_at line op.Close (suc n) rest e h = h
+nested_at line op.BlockEnd zero rest e h = h
+nested_at line op.BlockEnd (suc n) rest e h = absurd cc
+nested_at line other n rest e h = h
+
+-- instructions that break no rule of brackets are nested
+pub nested : (n : ℕ) (body : List Instr) → brackets_from n body ≡ [] → AreNested body n
+nested n [] e = tt
+nested n (i ∷ rest) e =
+    let parts = no_parts (brackets_at i.line i.op n) (brackets_from (open_then i.op n) rest) e in
+    nested_at i.line i.op n rest parts.0 (nested (open_then i.op n) rest parts.1)
 
 -- Bodies
-
-record IsBody (body : List Instr) : Type 0 where
-  operands : HaveOperands body
-  brackets : AreNested body 0
-  ends : IsEnded body
-
-abbrev Body : Result (List Instr) Rejection → Type 0
-Body r = IfOk r IsBody
-
-abbrev Holds : Instr → Type 0
-Holds i = HasOperand i.op
-
-operand_of : (o : Op) → IsStatement o → HasOperand o
-operand_of (op.Check c b) h = h
-operand_of (op.Assign o) h = h
-operand_of o h = absurd h
-
-nested_behind : (o : Op) (line : Line) (rest : List Instr) → IsStatement o → AreNested rest 0 → AreNested (record { line = line; op = o } ∷ rest) 0
-nested_behind (op.Check c b) line rest h k = k
-nested_behind (op.Assign o) line rest h k = k
-nested_behind o line rest h k = absurd h
 
 ends_behind : (i : Instr) (rest : List Instr) → IsEnded rest → IsEnded (i ∷ rest)
 ends_behind i [] h = absurd h
 ends_behind i (j ∷ rest) h = h
 
-statement_before : (line : Line) (o : Op) (rest : List Instr) → IsStatement o → IsBody rest → IsBody (record { line = line; op = o } ∷ rest)
-statement_before line o rest h body =
+ended : (body : List Instr) (line : Line) → IsEnded (body ++ (record { line = line; op = op.BlockEnd } ∷ []))
+ended [] line = refl
+ended (i ∷ rest) line = ends_behind i (rest ++ (record { line = line; op = op.BlockEnd } ∷ [])) (ended rest line)
+
+operands_of : (raw : RawBlock) → HaveOperands (body_of raw)
+operands_of raw =
+    All-append Holds (filter_map instr_of raw.body) (record { line = raw.end_line; op = op.BlockEnd } ∷ [])
+    (all_made (λ x. Unit {0}) Holds instr_of (λ x h. instr_is x) raw.body (λ k d lt. tt))
+    (All-cons Holds (record { line = raw.end_line; op = op.BlockEnd }) [] tt (All-nil Holds))
+
+-- Blocks
+
+named_is : (raw : RawBlock) (o : Option BlockName) → IfSome o IsBlockNumber → brackets_in raw ≡ [] → IfSome (option_map (block_with raw) o) IsAcceptedBlock
+named_is raw None h e = tt
+named_is raw (Some name) h e =
     record {
-      operands = All-cons Holds (record { line = line; op = o }) rest (operand_of o h) body.operands;
-      brackets = nested_behind o line rest h body.brackets;
-      ends = ends_behind (record { line = line; op = o }) rest body.ends;
+      operands = operands_of raw;
+      brackets = nested 0 (body_of raw) e;
+      ends = ended (filter_map instr_of raw.body) raw.end_line;
+      number = h;
+      formals = refl;
     }
 
-choose_body : (b : Bool) (x y : Result (List Instr) Rejection) → Body x → Body y → Body (if b then x else y)
-choose_body true x y p q = p
-choose_body false x y p q = q
+block_is : (raw : RawBlock) → brackets_in raw ≡ [] → IfSome (block_of raw) IsAcceptedBlock
+block_is raw e = named_is raw (block_name raw.kind raw.name) (name_is raw.kind raw.name) e
 
-with_statement_is : (line : Line) (statement : Result Op Reason) (rest : Result (List Instr) Rejection) → IsSaid statement → Body rest → Body (with_statement line statement rest)
-with_statement_is line (Ok op) (Ok instrs) h k = statement_before line op instrs h k
-with_statement_is line (Ok op) (Err e) h k = tt
-with_statement_is line (Err reason) rest h k = tt
+some_by : (raw : RawBlock) (o : Option BlockName) (rest : List Block) → unless_there raw.line o ≡ [] → cons_option (option_map (block_with raw) o) rest ≢ []
+some_by raw None rest e = absurd cc
+some_by raw (Some name) rest e = λ n. cc
 
-with_end_is : (line : Line) (rest : List Token) → Body (with_end line rest)
-with_end_is line [] = record { operands = All-cons Holds (record { line = line; op = op.BlockEnd }) [] tt (All-nil Holds); brackets = tt; ends = refl }
-with_end_is line (next ∷ rest) = tt
+some_block : (blocks : List RawBlock) → flat_map unbuilt_block blocks ≡ [] → none_among blocks ≡ [] → filter_map block_of blocks ≢ []
+some_block [] e none = absurd cc
+some_block (raw ∷ rest) e none =
+    let parts = no_parts (unbuilt_block raw) (flat_map unbuilt_block rest) (sym (flat_map-cons unbuilt_block raw rest) ∙ e) in
+    let named = no_parts (unless_there raw.line (block_name raw.kind raw.name)) (flat_map unbuilt_instr raw.body) parts.0 in
+    some_by raw (block_name raw.kind raw.name) (filter_map block_of rest) named.0
 
-body_is : (end : Line) (skip : ℕ) (tokens : List Token) → Body (body_from end skip tokens)
-body_is end skip [] = tt
-body_is end (suc skip) (first ∷ rest) = body_is end skip rest
-body_is end zero (first ∷ rest) =
-    choose_body (is_word (codes "END_ORGANIZATION_BLOCK") first) _ _ (with_end_is first.line rest)
-    (choose_body (is_sign (codes ";") first) _ _ (body_is end (statement_size (first ∷ rest)) rest)
-    (with_statement_is first.line (statement_of (first ∷ rest)) _ (statement_said (first ∷ rest)) (body_is end (statement_size (first ∷ rest)) rest)))
+-- One block at most
 
-begin_is : (end : Line) (tokens : List Token) → Body (begin_from end tokens)
-begin_is end [] = tt
-begin_is end (first ∷ rest) = choose_body (is_word (codes "BEGIN") first) _ _ (body_is end 0 rest) tt
+in_last_length : (change : RawBlock → RawBlock) (blocks : List RawBlock) → length (in_last change blocks) ≡ length blocks
+in_last_length change [] = refl
+in_last_length change (b ∷ []) = refl
+in_last_length change (b ∷ c ∷ rest) = ap (λ (n : ℕ). suc n) (in_last_length change (c ∷ rest))
 
--- Numbers of blocks
+-- a block was opened before this place
+abbrev IsBehind : Where → Type 0
+IsBehind Start = ⊥
+IsBehind another = Unit {0}
 
-abbrev InRange : Option ℕ → Type 0
-InRange o = IfSome o (λ n. (1 ≤ n) × (n ≤ 65535))
+record Keeps (item : Item) (next : Where) : Type 0 where
+  behind : IsBehind next
+  same : (blocks : List RawBlock) → length (with_item blocks item) ≡ length blocks
 
-above_zero : (n : ℕ) (test : Bool) → (n == 0) ≡ test → n ≤ 65535 → InRange (if test then None else Some n)
-above_zero n true e h = tt
-above_zero n false e h = let not_zero = eqb-false n 0 e in (first_of (omega (arith, not_zero), grind (arith, not_zero)), h)
+keeps : {place next : Where} {tokens : List Token} {item : Item} {size : ℕ} → IsForm place tokens item size next → IsBehind place → Keeps item next
+keeps (heading first rest word named) h = absurd h
+keeps (begin kind first rest word) h = record { behind = tt; same = λ blocks. refl }
+keeps (empty kind first rest sign) h = record { behind = tt; same = λ blocks. refl }
+keeps (end_word kind first rest no_sign word) h = record { behind = tt; same = λ blocks. in_last_length (with_end first.line) blocks }
+keeps (statement kind first more sign rest instr no_end whole is ends) h = record { behind = tt; same = λ blocks. in_last_length (with_instr instr) blocks }
 
-block_number_is : (o : Option ℕ) → IfSome o (λ n. n ≤ 65535) → InRange (option_and_then (λ number. if number == 0 then None else Some number) o)
-block_number_is None h = tt
-block_number_is (Some n) h = above_zero n (n == 0) refl h
+same_number : {end : Line} {place : Where} {tokens : List Token} {items : List Item} → AreItems end place tokens items → IsBehind place → (blocks : List RawBlock) → length (with_items blocks items) ≡ length blocks
+same_number (none_more is) h blocks = refl
+same_number (one_more first rest {item = item} (form is) are) h blocks =
+    let k = keeps is h in same_number are k.behind (with_item blocks item) ∙ k.same blocks
 
-abbrev Heading : Result (BlockName × ℕ) Reason → Type 0
-Heading r = IfOk r (λ heading. IsBlockNumber heading.0)
+record Begins (item : Item) (next : Where) : Type 0 where
+  behind : IsBehind next
+  one : length (with_item [] item) ≡ 1
 
-heading_with_number : (size : ℕ) (o : Option ℕ) → InRange o → Heading (heading_with size o)
-heading_with_number size None h = tt
-heading_with_number size (Some n) h = h
+begins : {next : Where} {tokens : List Token} {item : Item} {size : ℕ} → IsForm Start tokens item size next → Begins item next
+begins (heading first rest word named) = record { behind = tt; one = refl }
 
-choose_heading : (b : Bool) (x y : Result (BlockName × ℕ) Reason) → Heading x → Heading y → Heading (if b then x else y)
-choose_heading true x y p q = p
-choose_heading false x y p q = q
+one_at_most : {end : Line} {tokens : List Token} {items : List Item} → AreItems end Start tokens items → length (with_items [] items) ≤ 1
+one_at_most (none_more is) = omega arith
+one_at_most (one_more first rest {item = item} (form is) are) =
+    let b = begins is in let same = same_number are b.behind (with_item [] item) in omega (arith, same, b.one)
 
-heading_of_digits : (size : ℕ) (digits : List ℕ) → Heading (heading_with size (block_number digits))
-heading_of_digits size digits = heading_with_number size (block_number digits) (block_number_is (number_of 65535 digits) (number_most 65535 digits))
+distinct_by : (o : Option Block) → AreDistinct (cons_option o [])
+distinct_by None = tt
+distinct_by (Some block) = (refl, tt)
 
-heading_number_is : (tokens : List Token) → Heading (heading_number tokens)
-heading_number_is [] = tt
-heading_number_is (number ∷ rest) = choose_heading (is_word_kind number.kind) _ _ (heading_of_digits 2 number.text) tt
-
-heading_name_is : (tokens : List Token) → Heading (heading_name tokens)
-heading_name_is [] = tt
-heading_name_is (name ∷ rest) =
-    choose_heading (is_word (codes "OB") name) _ _ (heading_number_is rest)
-    (choose_heading (is_word_kind name.kind && str_eq_ignore_ascii_case (take 2 name.text) (codes "OB")) _ _ (heading_of_digits 1 (drop 2 name.text)) tt)
+distinct : (blocks : List RawBlock) → length blocks ≤ 1 → AreDistinct (filter_map block_of blocks)
+distinct [] h = tt
+distinct (raw ∷ []) h = distinct_by (block_of raw)
+distinct (a ∷ b ∷ rest) h = absurd (omega arith)
 
 -- Programs
 
-abbrev pub IsProgram : Result Program Rejection → Type 0
-IsProgram r = IfOk r IsAccepted
-
-block_is : (name : BlockName) (line : Line) (body : Result (List Instr) Rejection) → IsBlockNumber name → Body body → IsProgram (one_block name line body)
-block_is name line (Ok body) n h =
-    let block : Block = record { name = name; line = line; formals = []; body = body } in
-    record {
-      some = λ e. cc;
-      blocks = All-cons IsAcceptedBlock block [] (record { operands = h.operands; brackets = h.brackets; ends = h.ends; number = n; formals = refl }) (All-nil IsAcceptedBlock);
-      names = (refl, tt);
+program_accepted : (end : Line) (tokens : List Token) (program : Program) → IsText end tokens program → IsAccepted program
+program_accepted end tokens program text =
+    let raw = raw_of text.items in
+    let later : All IsKept (brackets raw ∷ no_blocks raw ∷ []) = All-tail IsKept (unbuilt raw) (brackets raw ∷ no_blocks raw ∷ []) text.kept in
+    let built : unbuilt raw ≡ [] = All-head IsKept (unbuilt raw) (brackets raw ∷ no_blocks raw ∷ []) text.kept in
+    let closed : brackets raw ≡ [] = All-head IsKept (brackets raw) (no_blocks raw ∷ []) later in
+    let some : no_blocks raw ≡ [] = All-head IsKept (no_blocks raw) [] (All-tail IsKept (brackets raw) (no_blocks raw ∷ []) later) in
+    let made : IsAccepted (program_of raw) = record {
+      some = some_block raw.blocks built some;
+      blocks = all_made (λ b. brackets_in b ≡ []) IsAcceptedBlock block_of block_is raw.blocks (none_of_all brackets_in raw.blocks closed);
+      names = distinct raw.blocks (one_at_most text.are);
       alone = record { dbs = refl; instances = refl; symbols = refl };
-    }
-block_is name line (Err e) n h = tt
-
-heading_is : (end line : Line) (rest : List Token) (heading : Result (BlockName × ℕ) Reason) → Heading heading → IsProgram (with_heading end line rest heading)
-heading_is end line rest (Ok heading) h = block_is heading.0 line _ h (begin_is end (drop heading.1 rest))
-heading_is end line rest (Err reason) h = tt
-
-choose_program : (b : Bool) (x y : Result Program Rejection) → IsProgram x → IsProgram y → IsProgram (if b then x else y)
-choose_program true x y p q = p
-choose_program false x y p q = q
+    } in
+    subst IsAccepted text.program_is made
 
 -- the program of some tokens keeps the rules
-pub program_is : (end : Line) (tokens : List Token) → IsProgram (program_of end tokens)
-program_is end [] = tt
-program_is end (first ∷ rest) =
-    choose_program (is_word (codes "ORGANIZATION_BLOCK") first) _ _ (heading_is end first.line rest (heading_name rest) (heading_name_is rest)) tt
+pub tokens_accepted : (end : Line) (tokens : List Token) (program : Program) → judged_tokens end (Ok tokens) ≡ Ok program → IsAccepted program
+tokens_accepted end tokens program e = program_accepted end tokens program (agree.sound end tokens program e)
 
-judged_is : (end : Line) (tokens : Result (List Token) Rejection) → IsProgram (judged end tokens)
-judged_is end (Ok tokens) = program_is end tokens
-judged_is end (Err e) = tt
+by_tokens : (end : Line) (cut : Result (List Token) Rejection) (program : Program) → judged_tokens end cut ≡ Ok program → IsAccepted program
+by_tokens end (Ok tokens) program e = tokens_accepted end tokens program e
+by_tokens end (Err refused) program e = absurd cc
 
 -- and so does that of a text
 pub verdict_accepted : VerdictIsAccepted
 unfolding verdict
-verdict_accepted bytes program e = let P : Result Program Rejection → Type 0 = IsProgram in subst P e (judged_is (line_at_end bytes) (tokens_of bytes))
+verdict_accepted bytes program e = by_tokens (line_at_end bytes) (tokens_of bytes) program e

@@ -1,6 +1,7 @@
 pub mod AcceptedLaws
 pub mod GrammarLaws
-mod OperandLaws
+pub mod ItemLaws
+pub mod ProgramLaws
 mod RunRows
 pub mod Runs
 mod VerdictRows

@@ -9,7 +9,6 @@ use Rattle.memory_areas.specs.declared.place.AreaName.TheVariants as area
 use Rattle.stl_tree.specs.Now.{Activation, Now, go, enter, leave, fault}
 use Rattle.stl_tree.specs.Registers.{RegisterValues}
 use Rattle.stl_tree.specs.StlRun.{after_effect, over, running, stl_run, size_of}
-use Rattle.stl_tree.specs.Verdict.{program_with}
 use Rattle.stl_tree.specs.declared.program.BitArg.TheVariants.{At}
 use Rattle.memory_areas.specs.declared.call.BlockName.TheVariants.{Ob}
 use Rattle.memory_areas.specs.declared.call.Call.{Call}
@@ -22,7 +21,18 @@ use Rattle.stl_tree.specs.declared.program.Program.{Program}
 -- OB 1 with these instructions and its end word
 abbrev program_of : List Op → Program
 program_of ops =
-    program_with (Ob 1) (record { 0 = 1 }) (map (λ (o : Op). record { line = record { 0 = 3 }; op = o }) (ops ++ op.BlockEnd ∷ []))
+    record {
+      dbs = [];
+      instances = [];
+      blocks =
+          record {
+            name = Ob 1;
+            line = record { 0 = 1 };
+            formals = [];
+            body = map (λ (o : Op). record { line = record { 0 = 3 }; op = o }) (ops ++ op.BlockEnd ∷ []);
+          } ∷ [];
+      symbols = [];
+    }
 
 -- the call of an organization block
 abbrev call_of : ℕ → Call

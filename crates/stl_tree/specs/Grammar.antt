@@ -1,57 +1,111 @@
--- The grammar of a source text, as far as built: a relation between the tokens of a text and the
--- program that they stand for, one case for each form. The verdict accepts exactly what it relates.
-use Rattle.std.specs.Prelude.{◌≡◌, ℕ, Bool, true, false, List, [], ◌∷◌, ◌++◌, length, drop, codes, Some, Ok}
+-- The grammar of a source text: the forms of items, as a relation with a case each, and the texts that are
+-- accepted. The verdict accepts exactly these.
+use Rattle.std.specs.Prelude.{◌≡◌, ℕ, Bool, true, false, List, [], ◌∷◌, ◌++◌, length, drop, codes, All, Some, Ok, Err}
+use Rattle.s7_base.specs.declared.broken.Break.{Break}
 use Rattle.s7_base.specs.declared.reason.Line.{Line}
+use Rattle.s7_base.specs.declared.reason.Reason.{Reason}
+use Rattle.s7_base.specs.declared.reason.Reason.TheVariants.{BadStatement}
+use Rattle.s7_base.specs.declared.reason.Rejection.TheVariants.{Refused}
 use Rattle.s7_base.specs.declared.token.Token.{Token}
-use Rattle.stl_tree.specs.Items.{begins_with_ob, block_number, statement_op, statement_size}
-use Rattle.stl_tree.specs.Verdict.{program_of, program_with}
-use Rattle.stl_tree.specs.Words.{is_word, is_sign, is_word_kind}
-use Rattle.memory_areas.specs.declared.call.BlockName.{BlockName}
-use Rattle.memory_areas.specs.declared.call.BlockName.TheVariants.{Ob}
-use Rattle.stl_tree.specs.declared.program.Instr.{Instr}
-use Rattle.stl_tree.specs.declared.program.Op.{Op}
-use Rattle.stl_tree.specs.declared.program.Op.TheVariants.{BlockEnd}
+use Rattle.stl_tree.specs.Items.{begins_with_ob, block_number, is_complete, is_end, is_semicolon, item_at, misfit_reason, statement_at, statement_reason, statement_size}
+use Rattle.stl_tree.specs.Programs.{program_of}
+use Rattle.stl_tree.specs.RawPrograms.{raw_of}
+use Rattle.stl_tree.specs.Stages.{stages}
+use Rattle.stl_tree.specs.Statements.{instruction_of}
+use Rattle.stl_tree.specs.Verdict.{judged_tokens}
+use Rattle.stl_tree.specs.Words.{is_word, is_word_kind}
+use Rattle.stl_tree.specs.declared.item.Found.{Found}
+use Rattle.stl_tree.specs.declared.item.Found.TheVariants.{Fits, Misfit, Ended}
+use Rattle.stl_tree.specs.declared.item.Item.{Item}
+use Rattle.stl_tree.specs.declared.item.Item.TheVariants.{Opens, Begins, Instr, Empty, Ends}
+use Rattle.stl_tree.specs.declared.item.Where.{Where}
+use Rattle.stl_tree.specs.declared.item.Where.TheVariants.{Start, Between, Heading, Body}
 use Rattle.stl_tree.specs.declared.program.Program.{Program}
+use Rattle.stl_tree.specs.declared.raw.BlockKind.{BlockKind}
+use Rattle.stl_tree.specs.declared.raw.BlockKind.TheVariants as block
+use Rattle.stl_tree.specs.declared.raw.RawInstr.{RawInstr}
+use Rattle.stl_tree.specs.declared.raw.RawName.TheVariants.{Number}
 
--- the token is the end word of an organization block
-abbrev pub is_end : Token → Bool
-is_end token = is_word (codes "END_ORGANIZATION_BLOCK") token
+-- Items
 
--- the token is `;`
-abbrev pub is_semicolon : Token → Bool
-is_semicolon token = is_sign (codes ";") token
-
--- the name of an organization block: `OB 1` or `OB1`
-pub data IsName : List Token → BlockName → Type 0 where
+-- the number of an organization block behind the first word of its heading: `OB 1` or `OB1`
+pub data IsName : List Token → ℕ → Type 0 where
   apart : (word number : Token) {n : ℕ} →
       is_word (codes "OB") word ≡ true → is_word_kind number.kind ≡ true → block_number number.text ≡ Some n
-      → IsName (word ∷ number ∷ []) (Ob n)
+      → IsName (word ∷ number ∷ []) n
   together : (word : Token) {n : ℕ} →
       is_word (codes "OB") word ≡ false → begins_with_ob word ≡ true
-      → block_number (drop 2 word.text) ≡ Some n → IsName (word ∷ []) (Ob n)
+      → block_number (drop 2 word.text) ≡ Some n → IsName (word ∷ []) n
 
--- a body: empty statements, statements up to their `;`, and the end word
-pub data IsBody : List Token → List Instr → Type 0 where
-  end_word : (word : Token) → is_end word ≡ true → IsBody (word ∷ []) (record { line = word.line; op = BlockEnd } ∷ [])
-  empty : (sign : Token) {rest : List Token} {instrs : List Instr} →
-      is_end sign ≡ false → is_semicolon sign ≡ true → IsBody rest instrs → IsBody (sign ∷ rest) instrs
-  statement : (first : Token) (more : List Token) (sign : Token) (op : Op) {rest : List Token} {instrs : List Instr} →
-      is_end first ≡ false → statement_size (first ∷ more) ≡ length (first ∷ more)
-      → statement_op (first ∷ more) ≡ Some op
-      → is_semicolon sign ≡ true → IsBody rest instrs
-      → IsBody (first ∷ (more ++ (sign ∷ rest))) (record { line = first.line; op = op } ∷ instrs)
+-- the tokens from a place on begin with an item, which takes so many tokens behind its first; where the
+-- next item stands
+pub data IsForm : Where → List Token → Item → ℕ → Where → Type 0 where
+  heading : (first : Token) {name : List Token} (rest : List Token) {n : ℕ} →
+      is_word (codes "ORGANIZATION_BLOCK") first ≡ true → IsName name n
+      → IsForm Start (first ∷ (name ++ rest)) (Opens first.line block.Ob (Number n)) (length name) (Heading block.Ob)
+  begin : (kind : BlockKind) (first : Token) (rest : List Token) →
+      is_word (codes "BEGIN") first ≡ true → IsForm (Heading kind) (first ∷ rest) Begins 0 (Body kind)
+  empty : (kind : BlockKind) (first : Token) (rest : List Token) →
+      is_semicolon first ≡ true → IsForm (Body kind) (first ∷ rest) Empty 0 (Body kind)
+  end_word : (kind : BlockKind) (first : Token) (rest : List Token) →
+      is_semicolon first ≡ false → is_end kind first ≡ true → IsForm (Body kind) (first ∷ rest) (Ends first.line) 0 Between
+  statement : (kind : BlockKind) (first : Token) (more : List Token) (sign : Token) (rest : List Token) (instr : RawInstr) →
+      is_end kind first ≡ false → statement_size (first ∷ more) ≡ length (first ∷ more)
+      → instruction_of (first ∷ more) ≡ Ok instr → is_semicolon sign ≡ true
+      → IsForm (Body kind) (first ∷ (more ++ (sign ∷ rest))) (Instr instr) (length (first ∷ more)) (Body kind)
 
--- a text: one organization block
-pub data IsText : List Token → Program → Type 0 where
-  block : (heading : Token) (begin : Token) {names body : List Token} {name : BlockName} {instrs : List Instr} →
-      is_word (codes "ORGANIZATION_BLOCK") heading ≡ true → IsName names name
-      → is_word (codes "BEGIN") begin ≡ true → IsBody body instrs
-      → IsText (heading ∷ (names ++ (begin ∷ body)))
-      (program_with name heading.line instrs)
+-- a complete statement stands in a body
+abbrev pub has_statement : Where → List Token → Bool
+has_statement (Body kind) tokens = is_complete tokens
+has_statement elsewhere tokens = false
 
--- what the verdict accepts is what the grammar relates, on whatever line the text ends
+-- what stands at a place of a text that ends on a line: an item that has a form; a complete statement that is
+-- no instruction; nothing, where there is neither; or the end of the text, where each block must be complete
+pub data IsItem : Line → Where → List Token → Found → Type 0 where
+  form : {end : Line} {place next : Where} {tokens : List Token} {item : Item} {size : ℕ} →
+      IsForm place tokens item size next → IsItem end place tokens (Fits item size next)
+  no_instruction : {end its_line : Line} (kind : BlockKind) (first : Token) (rest : List Token) {reason : Reason} →
+      is_semicolon first ≡ false → is_end kind first ≡ false → is_complete (first ∷ rest) ≡ true
+      → instruction_of (statement_at (first ∷ rest)) ≡ Err (Refused its_line reason)
+      → IsItem end (Body kind) (first ∷ rest) (Misfit first.line (statement_reason (first ∷ rest) reason))
+  none : {end : Line} {place : Where} (first : Token) (rest : List Token) →
+      ((item : Item) (size : ℕ) (next : Where) → IsForm place (first ∷ rest) item size next → ⊥)
+      → has_statement place (first ∷ rest) ≡ false
+      → IsItem end place (first ∷ rest) (Misfit first.line (misfit_reason place (first ∷ rest)))
+  at_start : {end : Line} → IsItem end Start [] Ended
+  behind_a_block : {end : Line} → IsItem end Between [] Ended
+  behind_a_heading : {end : Line} (kind : BlockKind) → IsItem end (Heading kind) [] (Misfit end BadStatement)
+  in_a_body : {end : Line} (kind : BlockKind) → IsItem end (Body kind) [] (Misfit end BadStatement)
+
+-- what stands at a place is what the relation says
+pub record ItemsHaveForms : Type 0 where
+  pub sound : (end : Line) (place : Where) (tokens : List Token) → IsItem end place tokens (item_at end place tokens)
+  pub complete : (end : Line) (place : Where) (tokens : List Token) (found : Found) → IsItem end place tokens found
+      → item_at end place tokens ≡ found
+
+-- Texts
+
+-- the tokens from a place on are these items, up to the end of the text
+pub data AreItems : Line → Where → List Token → List Item → Type 0 where
+  none_more : {end : Line} {place : Where} → IsItem end place [] Ended → AreItems end place [] []
+  one_more : {end : Line} {place next : Where} (first : Token) (rest : List Token) {item : Item} {size : ℕ} {items : List Item} →
+      IsItem end place (first ∷ rest) (Fits item size next) → AreItems end next (drop size rest) items
+      → AreItems end place (first ∷ rest) (item ∷ items)
+
+-- a list of broken rules has none
+abbrev pub IsKept : List Break → Type 0
+IsKept breaks = breaks ≡ []
+
+-- the tokens of a text are items whose raw program keeps the rules of each stage, and this is its program
+pub record IsText (end : Line) (tokens : List Token) (program : Program) : Type 0 where
+  pub items : List Item
+  pub are : AreItems end Start tokens items
+  pub kept : All IsKept (stages (raw_of items))
+  pub program_is : program_of (raw_of items) ≡ program
+
+-- what the verdict accepts are the texts of the grammar, each as its program
 pub record AcceptsTheGrammar : Type 0 where
-  pub sound : (end : Line) (tokens : List Token) (program : Program) → program_of end tokens ≡ Ok program
-      → IsText tokens program
-  pub complete : (end : Line) (tokens : List Token) (program : Program) → IsText tokens program
-      → program_of end tokens ≡ Ok program
+  pub sound : (end : Line) (tokens : List Token) (program : Program) → judged_tokens end (Ok tokens) ≡ Ok program
+      → IsText end tokens program
+  pub complete : (end : Line) (tokens : List Token) (program : Program) → IsText end tokens program
+      → judged_tokens end (Ok tokens) ≡ Ok program

@@ -1,63 +1,44 @@
--- The items of a source text above its tokens, as far as built: what stands at the front of a list
--- of tokens, and why it is refused where it fits no form that is built.
-use Rattle.std.specs.Prelude.{ℕ, Bool, false, not, ◌==◌, ◌&&◌, ◌||◌, nat_lt, if◌then◌else◌, List, [], ◌∷◌, length, take, drop, codes, Option, Some, None, option_and_then, Result, Ok, Err}
-use Rattle.std.specs.Option.{ok_or}
+-- The items of a source text: what stands at a place of a text, and why it is refused where it fits no form
+-- that is built.
+use Rattle.std.specs.Prelude.{ℕ, zero, suc, Bool, true, false, not, ◌==◌, ◌&&◌, ◌||◌, nat_lt, if◌then◌else◌, List, [], ◌∷◌, length, take, drop, codes, Option, Some, None, option_and_then, Result, Ok, Err}
 use Rattle.std.specs.Str.{str_eq_ignore_ascii_case}
 use Rattle.std.specs.List.{prefix_len}
 use Rattle.s7_base.specs.declared.reason.Kind.TheVariants.{NotBuilt}
+use Rattle.s7_base.specs.declared.reason.Line.{Line}
 use Rattle.s7_base.specs.declared.reason.Reason.{Reason}
 use Rattle.s7_base.specs.declared.reason.Reason.TheVariants.{BadStatement, Unsupported}
+use Rattle.s7_base.specs.declared.reason.Rejection.{Rejection}
+use Rattle.s7_base.specs.declared.reason.Rejection.TheVariants.{Refused, NoMemory}
 use Rattle.s7_base.specs.declared.token.Token.{Token}
-use Rattle.stl_tree.specs.Mnemonics.{mnemonic_named, begins_with_mnemonic}
+use Rattle.stl_tree.specs.Mnemonics.{begins_with_mnemonic}
 use Rattle.stl_tree.specs.Numbers.{number_of}
-use Rattle.stl_tree.specs.Raw.{place_of}
-use Rattle.stl_tree.specs.Statements.{is_bit_in_area, begins_with_label, statement}
-use Rattle.stl_tree.specs.Words.{is_word, is_sign, is_word_kind, is_word_among, block_words}
-use Rattle.stl_tree.specs.declared.mnemonic.Mnemonic.{Mnemonic}
-use Rattle.stl_tree.specs.declared.mnemonic.Mnemonic.TheVariants as is
-use Rattle.stl_tree.specs.declared.program.BitArg.TheVariants as arg
-use Rattle.memory_areas.specs.declared.call.BlockName.{BlockName}
-use Rattle.memory_areas.specs.declared.call.BlockName.TheVariants.{Ob}
-use Rattle.stl_tree.specs.declared.program.Op.{Op}
-use Rattle.stl_tree.specs.declared.program.Op.TheVariants as op
-use Rattle.stl_tree.specs.declared.program.Operand.{Operand}
-use Rattle.stl_tree.specs.declared.program.Operand.TheVariants.{Direct}
-use Rattle.stl_tree.specs.declared.raw.RawOp.{RawOp}
-use Rattle.stl_tree.specs.declared.raw.RawPlace.{RawPlace}
+use Rattle.stl_tree.specs.Statements.{are_digits, is_numbered, begins_with_label, instruction_of}
+use Rattle.stl_tree.specs.Words.{is_word, is_sign, is_word_kind, is_quoted_kind, is_word_among, block_words}
+use Rattle.stl_tree.specs.declared.item.Found.{Found}
+use Rattle.stl_tree.specs.declared.item.Found.TheVariants.{Fits, Misfit, Ended}
+use Rattle.stl_tree.specs.declared.item.Item.{Item}
+use Rattle.stl_tree.specs.declared.item.Item.TheVariants.{Opens, Begins, Instr, Empty, Ends}
+use Rattle.stl_tree.specs.declared.item.Where.{Where}
+use Rattle.stl_tree.specs.declared.item.Where.TheVariants.{Start, Between, Heading, Body}
+use Rattle.stl_tree.specs.declared.raw.BlockKind.{BlockKind}
+use Rattle.stl_tree.specs.declared.raw.BlockKind.TheVariants as block
+use Rattle.stl_tree.specs.declared.raw.RawInstr.{RawInstr}
+use Rattle.stl_tree.specs.declared.raw.RawName.TheVariants.{Number}
 
--- From raw instructions to those of a program
+-- the token is `;`
+abbrev pub is_semicolon : Token → Bool
+is_semicolon token = is_sign (codes ";") token
 
--- the operand that a written place is
-abbrev pub operand_at : RawPlace → Option Operand
-operand_at place = if is_bit_in_area place then Some (Direct place.area place.byte place.bit) else None
+-- the end word of a kind of block
+abbrev pub end_word : BlockKind → List ℕ
+end_word block.Ob = codes "END_ORGANIZATION_BLOCK"
+end_word block.Fc = codes "END_FUNCTION"
+end_word block.Fb = codes "END_FUNCTION_BLOCK"
+end_word block.Db = codes "END_DATA_BLOCK"
 
--- an instruction by what its mnemonic is, and its bit
-abbrev pub op_with : Mnemonic → Operand → Option Op
-op_with (is.Check check) bit = Some (op.Check check (arg.At bit))
-op_with is.Assign bit = Some (op.Assign bit)
-op_with other bit = None
-
--- an instruction by what its mnemonic is and its operand, where it has both
-abbrev pub op_by : Option Mnemonic → Option Operand → Option Op
-op_by None o = None
-op_by (Some what) None = None
-op_by (Some what) (Some bit) = op_with what bit
-
--- the instruction that a raw one is
-unfoldable pub op_of : RawOp → Option Op
-op_of raw = op_by (mnemonic_named raw.mnemonic) (option_and_then operand_at (place_of raw.operand))
-
--- what the tokens of a statement before its `;` do
-abbrev pub op_said : Result RawOp Reason → Option Op
-op_said (Ok raw) = op_of raw
-op_said (Err reason) = None
-
-abbrev pub statement_op : List Token → Option Op
-statement_op tokens = op_said (statement tokens)
-
--- how many tokens stand before the next `;`, or before the end of the text
-abbrev pub statement_size : List Token → ℕ
-statement_size tokens = prefix_len (λ token. not (is_sign (codes ";") token)) tokens
+-- the token is the end word of a block of this kind
+abbrev pub is_end : BlockKind → Token → Bool
+is_end kind token = is_word (end_word kind) token
 
 -- What is refused
 
@@ -66,77 +47,196 @@ abbrev pub begins_with_block_word : List Token → Bool
 begins_with_block_word [] = false
 begins_with_block_word (first ∷ rest) = is_word_among block_words first
 
--- where an item stands: labels stand in a body alone
-pub data Context : Type 0 where
-  outside : Context
-  in_body : Context
+-- the text ends in the name of a block of this kind: before it, or behind the word of its kind
+abbrev pub ends_in_name : List ℕ → List Token → Bool
+ends_in_name kind [] = true
+ends_in_name kind (word ∷ []) = is_word kind word
+ends_in_name kind (word ∷ next ∷ rest) = false
+
+-- the text ends before the type of a function: behind its name, or behind the colon
+abbrev pub ends_before_type : List Token → Bool
+ends_before_type [] = true
+ends_before_type (colon ∷ []) = is_sign (codes ":") colon
+ends_before_type (colon ∷ next ∷ rest) = false
+
+-- a number, and the text ends before the type
+abbrev pub ends_behind_number : List Token → Bool
+ends_behind_number [] = false
+ends_behind_number (number ∷ rest) = is_word_kind number.kind && are_digits number.text && ends_before_type rest
+
+-- a block's name, `FC 1`, `FC1` or one in quotes, and the text ends before the type
+abbrev pub ends_behind_name : List ℕ → List Token → Bool
+ends_behind_name kind [] = false
+ends_behind_name kind (word ∷ rest) =
+    (is_word kind word && ends_behind_number rest)
+    || ((is_quoted_kind word.kind || is_numbered kind word) && ends_before_type rest)
+
+-- a heading with this word, and the text ends in the name of its block
+abbrev pub ends_heading : List ℕ → List ℕ → Token → List Token → Bool
+ends_heading heading kind first rest = is_word heading first && ends_in_name kind rest
+
+-- the heading of a function, and the text ends in its name or before its type
+abbrev pub ends_function : Token → List Token → Bool
+ends_function first rest =
+    is_word (codes "FUNCTION") first && (ends_in_name (codes "FC") rest || ends_behind_name (codes "FC") rest)
+
+-- the heading of another block, and the text ends in its name
+abbrev pub ends_other : Token → List Token → Bool
+ends_other first rest =
+    ends_heading (codes "ORGANIZATION_BLOCK") (codes "OB") first rest
+    || ends_heading (codes "FUNCTION_BLOCK") (codes "FB") first rest
+    || ends_heading (codes "DATA_BLOCK") (codes "DB") first rest
+
+-- the end of the text cuts off the heading at the front
+abbrev pub is_heading_cut_off : List Token → Bool
+is_heading_cut_off [] = false
+is_heading_cut_off (first ∷ rest) = ends_other first rest || ends_function first rest
+
+-- a heading that is cut off stands at the front, where headings may stand
+abbrev pub cut_off_at : Where → List Token → Bool
+cut_off_at Start tokens = is_heading_cut_off tokens
+cut_off_at Between tokens = is_heading_cut_off tokens
+cut_off_at elsewhere tokens = false
 
 -- a label and its colon stand at the front, where labels may stand
-abbrev pub label_at : Context → List Token → Bool
-label_at outside tokens = false
-label_at in_body tokens = begins_with_label tokens
+abbrev pub label_at : Where → List Token → Bool
+label_at (Body kind) tokens = begins_with_label tokens
+label_at elsewhere tokens = false
+
+-- how many tokens stand before the next `;`, or before the end of the text
+abbrev pub statement_size : List Token → ℕ
+statement_size tokens = prefix_len (λ token. not (is_semicolon token)) tokens
 
 -- the statement at the front reaches its `;`
 abbrev pub is_complete : List Token → Bool
 is_complete tokens = nat_lt (statement_size tokens) (length tokens)
 
--- the item has a form that is not built yet: a word of a heading, section or end has one by itself,
--- a mnemonic or a label where its statement is complete
-abbrev pub is_not_built : Context → List Token → Bool
-is_not_built context tokens =
-    (begins_with_block_word tokens && not (label_at context tokens))
-    || (is_complete tokens && (begins_with_mnemonic tokens || label_at context tokens))
+-- the tokens of the statement at the front, without its `;`
+abbrev pub statement_at : List Token → List Token
+statement_at tokens = take (statement_size tokens) tokens
+
+-- the item has a form that is not built yet: a word of a heading, section or end has one by itself, where
+-- the end of the text does not cut its heading off, a mnemonic or a label where its statement is complete
+unfoldable pub is_not_built : Where → List Token → Bool
+is_not_built place tokens =
+    (begins_with_block_word tokens && not (label_at place tokens) && not (cut_off_at place tokens))
+    || (is_complete tokens && (begins_with_mnemonic tokens || label_at place tokens))
 
 -- why an item that fits no form is refused
-abbrev pub misfit_reason : Context → List Token → Reason
-misfit_reason context tokens = if is_not_built context tokens then Unsupported NotBuilt else BadStatement
+abbrev pub misfit_reason : Where → List Token → Reason
+misfit_reason place tokens = if is_not_built place tokens then Unsupported NotBuilt else BadStatement
+
+-- why a complete statement is refused that is no instruction for a reason; one that begins with a word of a
+-- heading, section or end has the form of these
+abbrev pub statement_reason : List Token → Reason → Reason
+statement_reason tokens reason = if begins_with_block_word tokens then Unsupported NotBuilt else reason
 
 -- Forms that are built
-
--- why a complete statement is refused that is no instruction, for this reason; one that begins with a word
--- of a heading, section or end has the form of these
-abbrev pub no_instruction : List Token → Reason → Reason
-no_instruction tokens reason = if begins_with_block_word tokens then Unsupported NotBuilt else reason
-
-abbrev pub refusal : List Token → Result RawOp Reason → Reason
-refusal tokens (Ok raw) = Unsupported NotBuilt
-refusal tokens (Err reason) = no_instruction tokens reason
-
--- a statement before its `;`, at the front of these tokens
-abbrev pub complete_of : List Token → List Token → Result Op Reason
-complete_of tokens front = ok_or (statement_op front) (refusal tokens (statement front))
-
--- the statement at the front of a body's tokens
-abbrev pub statement_of : List Token → Result Op Reason
-statement_of tokens =
-    if is_complete tokens then complete_of tokens (take (statement_size tokens) tokens) else Err (misfit_reason in_body tokens)
 
 -- the number of an organization block, from 1
 abbrev pub block_number : List ℕ → Option ℕ
 block_number digits = option_and_then (λ number. if number == 0 then None else Some number) (number_of 65535 digits)
 
--- a heading whose number is read, with how many tokens the name of its block takes; one with no number
--- in range is not built yet
-abbrev pub heading_with : ℕ → Option ℕ → Result (BlockName × ℕ) Reason
-heading_with size None = Err (Unsupported NotBuilt)
-heading_with size (Some number) = Ok (Ob number, size)
+-- a heading of an organization block, whose name takes so many tokens and has this number, if it is one
+abbrev pub heading_with : Where → List Token → Line → ℕ → Option ℕ → Found
+heading_with place tokens line size None = Misfit line (misfit_reason place tokens)
+heading_with place tokens line size (Some number) = Fits (Opens line block.Ob (Number number)) size (Heading block.Ob)
 
--- OB and the number after it; a text that ends before the number cuts the heading off
-abbrev pub heading_number : List Token → Result (BlockName × ℕ) Reason
-heading_number [] = Err BadStatement
-heading_number (number ∷ rest) =
-    if is_word_kind number.kind then heading_with 2 (block_number number.text) else Err (Unsupported NotBuilt)
+-- the number in a word behind OB
+abbrev pub number_behind : List Token → Option ℕ
+number_behind [] = None
+number_behind (number ∷ rest) = if is_word_kind number.kind then block_number number.text else None
 
 -- a word that begins with OB, in any case
 abbrev pub begins_with_ob : Token → Bool
 begins_with_ob token = is_word_kind token.kind && str_eq_ignore_ascii_case (take 2 token.text) (codes "OB")
 
--- `OB1` in one word
-abbrev pub short_heading : Token → Result (BlockName × ℕ) Reason
-short_heading name =
-    if begins_with_ob name then heading_with 1 (block_number (drop 2 name.text)) else Err (Unsupported NotBuilt)
+-- the number in a word that begins with OB
+abbrev pub number_within : Token → Option ℕ
+number_within name = if begins_with_ob name then block_number (drop 2 name.text) else None
 
--- what stands after ORGANIZATION_BLOCK, with how many tokens it takes
-abbrev pub heading_name : List Token → Result (BlockName × ℕ) Reason
-heading_name [] = Err BadStatement
-heading_name (name ∷ rest) = if is_word (codes "OB") name then heading_number rest else short_heading name
+-- the heading of an organization block, given what stands behind its first word
+abbrev pub heading_named : Where → List Token → Line → List Token → Found
+heading_named place tokens line [] = Misfit line (misfit_reason place tokens)
+heading_named place tokens line (name ∷ rest) =
+    if is_word (codes "OB") name
+    then heading_with place tokens line 2 (number_behind rest)
+    else heading_with place tokens line 1 (number_within name)
+
+-- what stands where a heading may stand
+abbrev pub heading_at : Where → Token → List Token → Found
+heading_at place first rest =
+    if is_word (codes "ORGANIZATION_BLOCK") first
+    then heading_named place (first ∷ rest) first.line rest
+    else Misfit first.line (misfit_reason place (first ∷ rest))
+
+-- what stands behind a heading
+abbrev pub begin_at : BlockKind → Token → List Token → Found
+begin_at kind first rest =
+    if is_word (codes "BEGIN") first
+    then Fits Begins 0 (Body kind)
+    else Misfit first.line (misfit_reason (Heading kind) (first ∷ rest))
+
+-- a complete statement on a line, by what it is read as, with its `;` behind so many tokens
+abbrev pub statement_found : Where → List Token → Line → Result RawInstr Rejection → Found
+statement_found place tokens line (Ok instr) = Fits (Instr instr) (statement_size tokens) place
+statement_found place tokens line (Err (Refused its_line reason)) = Misfit line (statement_reason tokens reason)
+statement_found place tokens line (Err NoMemory) = Misfit line BadStatement
+
+-- a statement
+abbrev pub statement_from : Where → Line → List Token → Found
+statement_from place line tokens =
+    if is_complete tokens
+    then statement_found place tokens line (instruction_of (statement_at tokens))
+    else Misfit line (misfit_reason place tokens)
+
+-- what stands in a body
+abbrev pub body_at : BlockKind → Token → List Token → Found
+body_at kind first rest =
+    if is_semicolon first then Fits Empty 0 (Body kind)
+    else if is_end kind first then Fits (Ends first.line) 0 Between
+    else statement_from (Body kind) first.line (first ∷ rest)
+
+-- The items of a text
+
+-- what stands at a place where the tokens of the text have ended, on a line: a block must be complete
+abbrev pub at_end : Line → Where → Found
+at_end end Start = Ended
+at_end end Between = Ended
+at_end end (Heading kind) = Misfit end BadStatement
+at_end end (Body kind) = Misfit end BadStatement
+
+-- what stands at a place, given the token there and those behind it. A second block is not built yet.
+abbrev pub at_token : Where → Token → List Token → Found
+at_token Start first rest = heading_at Start first rest
+at_token Between first rest = Misfit first.line (misfit_reason Between (first ∷ rest))
+at_token (Heading kind) first rest = begin_at kind first rest
+at_token (Body kind) first rest = body_at kind first rest
+
+-- what stands at a place of a text that ends on a line, given the tokens from there
+unfoldable pub item_at : Line → Where → List Token → Found
+item_at end place [] = at_end end place
+item_at end place (first ∷ rest) = at_token place first rest
+
+-- an item before others
+abbrev pub prepend_item : Item → Result (List Item) Rejection → Result (List Item) Rejection
+prepend_item item (Ok items) = Ok (item ∷ items)
+prepend_item item (Err refused) = Err refused
+
+-- the items from a place on, given what stands there and the items behind what it takes; the first misfit
+-- is named
+abbrev pub with_found : Found → (ℕ → Where → Result (List Item) Rejection) → Result (List Item) Rejection
+with_found (Fits item size next) behind = prepend_item item (behind size next)
+with_found (Misfit line reason) behind = Err (Refused line reason)
+with_found Ended behind = Ok []
+
+-- the items from a place on, of a text that ends on a line; `skip` tokens still belong to the item before
+abbrev pub items_from : Line → ℕ → Where → List Token → Result (List Item) Rejection
+items_from end skip place [] = with_found (item_at end place []) (λ size next. Ok [])
+items_from end (suc skip) place (first ∷ rest) = items_from end skip place rest
+items_from end zero place (first ∷ rest) =
+    with_found (item_at end place (first ∷ rest)) (λ size next. items_from end size next rest)
+
+-- the items of a text
+abbrev pub items_of : Line → List Token → Result (List Item) Rejection
+items_of end tokens = items_from end 0 Start tokens

@@ -8,9 +8,12 @@ pub mod Mnemonics
 pub mod Now
 pub mod Numbers
 pub mod Operands
+pub mod Programs
 pub mod Raw
+pub mod RawPrograms
 pub mod Registers
 pub mod RunLaws
+pub mod Stages
 pub mod Statements
 pub mod StlRun
 pub mod Verdict

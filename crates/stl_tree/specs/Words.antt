@@ -23,6 +23,13 @@ is_word_kind Quoted = false
 is_word_kind Text = false
 is_word_kind Sign = false
 
+-- the token is a name in quotes
+abbrev pub is_quoted_kind : TokenKind → Bool
+is_quoted_kind Word = false
+is_quoted_kind Quoted = true
+is_quoted_kind Text = false
+is_quoted_kind Sign = false
+
 -- the token is a sign
 abbrev pub is_sign_kind : TokenKind → Bool
 is_sign_kind Word = false

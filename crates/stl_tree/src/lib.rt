@@ -7,6 +7,7 @@
 //! name, the instruction table and the run, whose laws `run_laws` proves.
 #![tactic(auto)]
 
+pub use item::{Found, Item, Where};
 pub use memory_areas::{BlockName, Call};
 pub use mnemonic::{Mnemonic, Read, Shape};
 pub use number::number_of;
@@ -19,8 +20,10 @@ pub use raw::{
     RawPlace, RawPointer, RawProgram, SymbolAddress, SymbolLine,
 };
 pub use run_laws::{end_stays, steps_add};
-pub use source_laws::{verdict_accepts_the_grammar, verdict_is_accepted};
+pub use source_laws::{items_have_forms, verdict_accepts_the_grammar, verdict_is_accepted};
 
+
+mod item;
 mod mnemonic;
 mod number;
 mod program;
