@@ -4,6 +4,7 @@ use Rattle.std.specs.Prelude.{All, IfSome, nat_lt, option_map}
 use Rattle.std.specs.List.{cons_option, filter_map, flat_map}
 use Rattle.std.proofs.lemmas.List.Concat.{flat_map-cons}
 use Rattle.std.proofs.lemmas.List.Elements.{All-append, All-cons, All-nil, All-head, All-tail}
+use Rattle.nesting_stack.specs.Entries.{most_open}
 use Rattle.s7_base.specs.Broken.{broken}
 use Rattle.s7_base.specs.Tokens.{tokens_of, line_at_end}
 use Rattle.s7_base.specs.declared.reason.Line.{Line}
@@ -12,7 +13,7 @@ use Rattle.s7_base.specs.declared.reason.Rejection.{Rejection}
 use Rattle.s7_base.specs.declared.token.Token.{Token}
 use Rattle.memory_areas.specs.declared.call.BlockName.{BlockName}
 use Rattle.stl_tree.specs.Accepted.{AreDistinct, HaveOperands, IsAccepted, IsAcceptedBlock, IsBlockNumber, IsEnded, VerdictIsAccepted}
-use Rattle.stl_tree.specs.Brackets.{AreNested, WithNumber, most_open, open_behind}
+use Rattle.stl_tree.specs.Brackets.{AreNested, WithNumber, open_behind}
 use Rattle.stl_tree.specs.Grammar.{IsForm, heading, begin, empty, end_word, statement, form, AreItems, none_more, one_more, IsKept, IsText}
 use Rattle.stl_tree.specs.Programs.{block_name, block_of, block_with, body_of, instr_of, program_of}
 use Rattle.stl_tree.specs.RawPrograms.{in_last, raw_of, with_end, with_instr, with_item, with_items}

@@ -2,15 +2,12 @@
 use Rattle.std.specs.Prelude.{ℕ, zero, suc, nat_lt, if◌then◌else◌, List, [], ◌∷◌, length, Option, Some, None}
 use Rattle.s7_base.specs.declared.check.Check.{Check}
 use Rattle.s7_base.specs.declared.check.Entry.{Entry}
+use Rattle.nesting_stack.specs.Entries.{most_open}
 use Rattle.status_word.specs.StatusBits.{after_close, after_open, entry_of}
 use Rattle.stl_tree.specs.Now.{Now, with_status}
 use Rattle.stl_tree.specs.declared.program.Instr.{Instr}
 use Rattle.stl_tree.specs.declared.program.Op.{Op}
 use Rattle.stl_tree.specs.declared.program.Op.TheVariants as op
-
--- the most brackets that may be open
-abbrev pub most_open : ℕ
-most_open = 7
 
 -- a further open bracket, where there is room for one
 abbrev pub pushed : Entry → List Entry → List Entry

@@ -1,12 +1,12 @@
 -- The rules of a raw program, stage by stage: each of them gives all that breaks it.
 use Rattle.std.specs.Prelude.{ℕ, zero, suc, nat_lt, if◌then◌else◌, List, [], ◌∷◌, ◌++◌, Option, Some, None}
 use Rattle.std.specs.List.{flat_map}
+use Rattle.nesting_stack.specs.Entries.{most_open}
 use Rattle.s7_base.specs.Broken.{broken, first_of_all}
 use Rattle.s7_base.specs.declared.broken.Break.{Break}
 use Rattle.s7_base.specs.declared.reason.Kind.TheVariants.{NotBuilt}
 use Rattle.s7_base.specs.declared.reason.Line.{Line}
 use Rattle.s7_base.specs.declared.reason.Reason.TheVariants.{BracketMissing, BracketOpen, NoBlocks, TooManyBrackets, Unsupported}
-use Rattle.stl_tree.specs.Brackets.{most_open}
 use Rattle.stl_tree.specs.Programs.{block_name, body_of, op_of}
 use Rattle.stl_tree.specs.declared.program.Instr.{Instr}
 use Rattle.stl_tree.specs.declared.program.Op.{Op}
