@@ -5,7 +5,7 @@ ghost use Rattle.memory_areas.specs.Areas.{AreBlocks};
 
 use crate::wants::{wants, wants_text};
 use image_text::{ImageRefusal, image_text, read_image};
-use memory_areas::DataBlock;
+use memory_areas::{DataBlock, Memory};
 use s7_base::{Fault, Line, List, NoMemory, Outcome};
 use std::alloc::Global;
 use std::process::Abort;
@@ -126,29 +126,53 @@ fn images_are_read_or_refused(rt: HostRuntime) -> Result<(), Fail> {
     Ok(want_answers(&rt, rt.alloc(), &IMAGES)?)
 }
 
+/// The fault with which a run ends, if with one, and the first line of its report.
+static OUTCOMES: [(Option<Fault>, &[u8]); 8] = [
+    (None, b"# ENDED\n"),
+    (Some(Fault::DbNotOpen), b"# FAULT DbNotOpen\n"),
+    (Some(Fault::DbMissing), b"# FAULT DbMissing\n"),
+    (Some(Fault::AreaCode), b"# FAULT AreaCode\n"),
+    (Some(Fault::Alignment), b"# FAULT Alignment\n"),
+    (Some(Fault::AreaLength), b"# FAULT AreaLength\n"),
+    (Some(Fault::BcdDigit), b"# FAULT BcdDigit\n"),
+    (Some(Fault::DivideByZero), b"# FAULT DivideByZero\n"),
+];
+
+/// The report of a memory whose output byte 2 alone is set begins with this line.
+fn wants_report(
+    rt: &impl Abort,
+    alloc: Global,
+    memory: &Memory,
+    fault: Option<Fault>,
+    head: &[u8],
+) -> Result<(), NoMemory> {
+    let mut wanted = Vec::from_slice(alloc, head)?;
+    wanted.extend_from_slice(b"Q 0: 00 00 C0 00 00 00 00 00 00 00 00 00 00 00 00 00\n")?;
+    let text = image_text(alloc, memory, Outcome::Ended(fault))?;
+    wants_text(rt, head, text.as_slice(), wanted.as_slice());
+    Ok(())
+}
+
+fn want_reports(
+    rt: &impl Abort,
+    alloc: Global,
+    memory: &Memory,
+    rows: &[(Option<Fault>, &[u8])],
+) -> Result<(), NoMemory> {
+    for (fault, head) in rows {
+        wants_report(rt, alloc, memory, *fault, head)?;
+    }
+    let going = image_text(alloc, memory, Outcome::Going)?;
+    wants_text(rt, b"going", going.as_slice(), b"# GOING\n");
+    Ok(())
+}
+
 #[test]
 fn a_report_begins_with_the_outcome(rt: HostRuntime) -> Result<(), Fail> {
-    let alloc = rt.alloc();
-    let outcomes: [(Option<Fault>, &[u8]); 8] = [
-        (None, b"# ENDED\n"),
-        (Some(Fault::DbNotOpen), b"# FAULT DbNotOpen\n"),
-        (Some(Fault::DbMissing), b"# FAULT DbMissing\n"),
-        (Some(Fault::AreaCode), b"# FAULT AreaCode\n"),
-        (Some(Fault::Alignment), b"# FAULT Alignment\n"),
-        (Some(Fault::AreaLength), b"# FAULT AreaLength\n"),
-        (Some(Fault::BcdDigit), b"# FAULT BcdDigit\n"),
-        (Some(Fault::DivideByZero), b"# FAULT DivideByZero\n"),
-    ];
-    let memory = read_image(alloc, b"Q 2: c0", &[]).map_err(|_refusal| NoMemory)?;
-    for (fault, head) in outcomes {
-        let mut wanted = Vec::from_slice(alloc, head)?;
-        wanted.extend_from_slice(b"Q 0: 00 00 C0 00 00 00 00 00 00 00 00 00 00 00 00 00\n")?;
-        let text = image_text(alloc, &memory, Outcome::Ended(fault))?;
-        wants_text(&rt, head, text.as_slice(), wanted.as_slice());
-    }
-    let going = image_text(alloc, &memory, Outcome::Going)?;
-    wants_text(&rt, b"going", going.as_slice(), b"# GOING\n");
-    Ok(())
+    let Ok(memory) = read_image(rt.alloc(), b"Q 2: c0", &[]) else {
+        return Err(NoMemory.into());
+    };
+    Ok(want_reports(&rt, rt.alloc(), &memory, &OUTCOMES)?)
 }
 
 fn block(alloc: Global, number: u16, bytes: &[u8]) -> Result<DataBlock, NoMemory>

@@ -7,10 +7,11 @@ use crate::wants::{wants, wants_text};
 use memory_areas::{Area, DataBlock, Memory, Place, are_blocks};
 use s7_base::{Fault, List, NoMemory, Width};
 use std::alloc::Global;
+use std::process::Abort;
 use std::test::Fail;
 
 /// The areas of `memory_of`, and how many bytes each has.
-const AREAS: [(Area, u32); 9] = [
+static AREAS: [(Area, u32); 9] = [
     (Area::I, 2048),
     (Area::Q, 2048),
     (Area::M, 8192),
@@ -23,7 +24,7 @@ const AREAS: [(Area, u32); 9] = [
 ];
 
 /// The widths, and how many bytes each reaches.
-const WIDTHS: [(Width, u32); 4] = [
+static WIDTHS: [(Width, u32); 4] = [
     (Width::Bit, 1),
     (Width::Byte, 1),
     (Width::Word, 2),
@@ -108,51 +109,73 @@ fn count_in(bytes: &[u8]) -> usize {
     count
 }
 
-/// How many bytes of all these areas are not zero.
-fn count_set(memory: &Memory) -> usize {
+/// How many bytes of these areas are not zero.
+fn count_set_in(memory: &Memory, areas: &[(Area, u32)]) -> usize {
     let mut count = 0_usize;
-    for (area, _) in AREAS {
-        count = count.saturating_add(count_in(bytes_of(memory, area).unwrap_or(&[])));
+    for (area, _) in areas {
+        count = count.saturating_add(count_in(bytes_of(memory, *area).unwrap_or(&[])));
     }
     count
+}
+
+/// How many bytes of all areas are not zero.
+fn count_set(memory: &Memory) -> usize {
+    count_set_in(memory, &AREAS)
+}
+
+/// The first place of an area.
+fn first_of(area: Area) -> Place {
+    Place {
+        area,
+        byte: 0,
+        bit: 0,
+    }
+}
+
+/// Has each of these areas begin with the bytes 1, 3, 5 and 7.
+fn fill(memory: &mut Memory, areas: &[(Area, u32)]) {
+    for (area, _) in areas {
+        let _ = write(memory, first_of(*area), Width::Dword, 0x0103_0507);
+    }
 }
 
 /// A memory in which each area begins with the bytes 1, 3, 5 and 7.
 fn filled(alloc: Global) -> Result<Memory, NoMemory> {
     let mut memory = memory_of(alloc)?;
-    for (area, _) in AREAS {
-        let place = Place {
-            area,
-            byte: 0,
-            bit: 0,
-        };
-        let _ = write(&mut memory, place, Width::Dword, 0x0103_0507);
-    }
+    fill(&mut memory, &AREAS);
     Ok(memory)
+}
+
+/// Accesses of a width in an area of a size: those that reach its last byte, and none behind it.
+fn wants_reached(rt: &impl Abort, memory: &Memory, area: Area, width: Width, last: u32) {
+    let behind = last.saturating_add(1);
+    let found = (
+        find(memory, area, 0, 0, width),
+        find(memory, area, last, 0, width),
+        find(memory, area, behind, 0, width),
+        find(memory, area, 0xffff_ffff, 0, width),
+    );
+    let none = Err(Fault::AreaLength);
+    wants(rt, &(area, width), &found, &(Ok(()), Ok(()), none, none));
+}
+
+fn want_reached(rt: &impl Abort, memory: &Memory, areas: &[(Area, u32)], widths: &[(Width, u32)]) {
+    for (area, size) in areas {
+        for (width, reach) in widths {
+            wants_reached(rt, memory, *area, *width, size.saturating_sub(*reach));
+        }
+    }
 }
 
 #[test]
 fn last_bytes_are_reached_and_none_behind(rt: HostRuntime) -> Result<(), Fail> {
     let memory = memory_of(rt.alloc())?;
-    for (area, size) in AREAS {
-        for (width, reach) in WIDTHS {
-            let last = size.saturating_sub(reach);
-            for (byte, answer) in [
-                (0, Ok(())),
-                (last, Ok(())),
-                (last.saturating_add(1), Err(Fault::AreaLength)),
-                (0xffff_ffff, Err(Fault::AreaLength)),
-            ] {
-                let found = find(&memory, area, byte, 0, width);
-                wants(&rt, &(area, byte, width), &found, &answer);
-            }
-        }
-    }
+    want_reached(&rt, &memory, &AREAS, &WIDTHS);
     Ok(())
 }
 
 /// Accesses, and the first fault of each.
-const ACCESSES: [(Area, u32, u8, Width, Result<(), Fault>); 13] = [
+static ACCESSES: [(Area, u32, u8, Width, Result<(), Fault>); 13] = [
     (Area::Db(0), 9, 9, Width::Bit, Err(Fault::DbNotOpen)),
     (Area::Db(0), 0, 0, Width::Byte, Err(Fault::DbNotOpen)),
     (Area::Db(4), 9, 9, Width::Bit, Err(Fault::DbMissing)),
@@ -168,73 +191,128 @@ const ACCESSES: [(Area, u32, u8, Width, Result<(), Fault>); 13] = [
     (Area::Cell(3), 0, 255, Width::Bit, Err(Fault::Alignment)),
 ];
 
-#[test]
-fn the_first_fault_is_named(rt: HostRuntime) -> Result<(), Fail> {
-    let memory = memory_of(rt.alloc())?;
-    for (area, byte, bit, width, answer) in ACCESSES {
-        let found = find(&memory, area, byte, bit, width);
-        wants(&rt, &(area, byte, bit, width), &found, &answer);
+fn want_faults(
+    rt: &impl Abort,
+    memory: &Memory,
+    rows: &[(Area, u32, u8, Width, Result<(), Fault>)],
+) {
+    for (area, byte, bit, width, answer) in rows {
+        let found = find(memory, *area, *byte, *bit, *width);
+        wants(rt, &(*area, *byte, *bit, *width), &found, answer);
     }
-    Ok(())
 }
 
 #[test]
-fn writes_are_read_back_highest_byte_first(rt: HostRuntime) -> Result<(), Fail> {
-    let alloc = rt.alloc();
-    // What is written from byte 1 on, the first four bytes then, and what is read at byte 0.
-    let writes: [(Width, u8, u32, &[u8], u32); 8] = [
-        (Width::Bit, 0, 0, &[1, 2, 5, 7], 0x0102_0507),
-        (Width::Bit, 1, 0, &[1, 1, 5, 7], 0x0101_0507),
-        (Width::Bit, 1, 1, &[1, 3, 5, 7], 0x0103_0507),
-        (Width::Bit, 7, 1, &[1, 131, 5, 7], 0x0183_0507),
-        (Width::Byte, 0, 255, &[1, 255, 5, 7], 0x01ff_0507),
-        (Width::Word, 0, 0x1234, &[1, 0x12, 0x34, 7], 0x0112_3407),
-        (Width::Word, 0, 0xff80, &[1, 255, 128, 7], 0x01ff_8007),
-        (Width::Word, 0, 0x0105, &[1, 1, 5, 7], 0x0101_0507),
-    ];
-    for (area, size) in AREAS {
-        for (width, bit, value, first, whole) in writes {
+fn the_first_fault_is_named(rt: HostRuntime) -> Result<(), Fail> {
+    let memory = memory_of(rt.alloc())?;
+    want_faults(&rt, &memory, &ACCESSES);
+    Ok(())
+}
+
+/// What is written from byte 1 on, the first four bytes then, and what is read at byte 0.
+type Written = (Width, u8, u32, &'static [u8], u32);
+
+static WRITES: [Written; 8] = [
+    (Width::Bit, 0, 0, &[1, 2, 5, 7], 0x0102_0507),
+    (Width::Bit, 1, 0, &[1, 1, 5, 7], 0x0101_0507),
+    (Width::Bit, 1, 1, &[1, 3, 5, 7], 0x0103_0507),
+    (Width::Bit, 7, 1, &[1, 131, 5, 7], 0x0183_0507),
+    (Width::Byte, 0, 255, &[1, 255, 5, 7], 0x01ff_0507),
+    (Width::Word, 0, 0x1234, &[1, 0x12, 0x34, 7], 0x0112_3407),
+    (Width::Word, 0, 0xff80, &[1, 255, 128, 7], 0x01ff_8007),
+    (Width::Word, 0, 0x0105, &[1, 1, 5, 7], 0x0101_0507),
+];
+
+/// A write into a memory in which each area begins with the bytes 1, 3, 5 and 7.
+fn wants_written(rt: &impl Abort, memory: &mut Memory, area: Area, size: u32, row: &Written) {
+    let (width, bit, value, first, whole) = *row;
+    let place = Place { area, byte: 1, bit };
+    let written = write(memory, place, width, value);
+    let read_back = read(memory, place, width);
+    let all = read(memory, first_of(area), Width::Dword);
+    let found = (written, read_back, all);
+    wants(rt, &place, &found, &(Ok(()), Ok(value), Ok(whole)));
+    let bytes = bytes_of(memory, area).unwrap_or(&[]);
+    // Four bytes in each area, as before.
+    let found = (bytes.len(), bytes.starts_with(first), count_set(memory));
+    wants(rt, &place, &found, &(size as usize, true, 36));
+}
+
+fn want_written(
+    rt: &impl Abort,
+    alloc: Global,
+    areas: &[(Area, u32)],
+    rows: &[Written],
+) -> Result<(), NoMemory> {
+    for (area, size) in areas {
+        for row in rows {
             let mut memory = filled(alloc)?;
-            let place = Place { area, byte: 1, bit };
-            let written = write(&mut memory, place, width, value);
-            wants(&rt, &place, &written, &Ok(()));
-            wants(&rt, &place, &read(&memory, place, width), &Ok(value));
-            let all = Place {
-                area,
-                byte: 0,
-                bit: 0,
-            };
-            wants(&rt, &place, &read(&memory, all, Width::Dword), &Ok(whole));
-            let bytes = bytes_of(&memory, area).unwrap_or(&[]);
-            wants(&rt, &place, &bytes.len(), &(size as usize));
-            wants(&rt, &place, &bytes.starts_with(first), &true);
-            // Four bytes in each area, as before.
-            wants(&rt, &place, &count_set(&memory), &36);
+            wants_written(rt, &mut memory, *area, *size, row);
         }
     }
     Ok(())
 }
 
 #[test]
+fn writes_are_read_back_highest_byte_first(rt: HostRuntime) -> Result<(), Fail> {
+    Ok(want_written(&rt, rt.alloc(), &AREAS, &WRITES)?)
+}
+
+/// Writes that are refused, each with its fault.
+static REFUSED: [(Area, u32, u8, Width, Fault); 8] = [
+    (Area::Db(0), 0, 0, Width::Bit, Fault::DbNotOpen),
+    (Area::Db(4), 0, 0, Width::Byte, Fault::DbMissing),
+    (Area::I, 0, 8, Width::Bit, Fault::Alignment),
+    (Area::Q, 0, 1, Width::Byte, Fault::Alignment),
+    (Area::M, 8191, 0, Width::Word, Fault::AreaLength),
+    (Area::Db(3), 1, 0, Width::Dword, Fault::AreaLength),
+    (Area::Local(0), 253, 0, Width::Dword, Fault::AreaLength),
+    (Area::Cell(7), 256, 0, Width::Bit, Fault::AreaLength),
+];
+
+fn want_refused(rt: &impl Abort, memory: &mut Memory, rows: &[(Area, u32, u8, Width, Fault)]) {
+    for (area, byte, bit, width, fault) in rows {
+        let place = Place {
+            area: *area,
+            byte: *byte,
+            bit: *bit,
+        };
+        let written = write(memory, place, *width, 0xffff_ffff);
+        let found = (written, read(memory, place, *width), count_set(memory));
+        wants(rt, &place, &found, &(Err(*fault), Err(*fault), 0));
+    }
+}
+
+#[test]
 fn a_refused_write_changes_nothing(rt: HostRuntime) -> Result<(), Fail> {
     let mut memory = memory_of(rt.alloc())?;
-    for (area, byte, bit, width, fault) in [
-        (Area::Db(0), 0, 0, Width::Bit, Fault::DbNotOpen),
-        (Area::Db(4), 0, 0, Width::Byte, Fault::DbMissing),
-        (Area::I, 0, 8, Width::Bit, Fault::Alignment),
-        (Area::Q, 0, 1, Width::Byte, Fault::Alignment),
-        (Area::M, 8191, 0, Width::Word, Fault::AreaLength),
-        (Area::Db(3), 1, 0, Width::Dword, Fault::AreaLength),
-        (Area::Local(0), 253, 0, Width::Dword, Fault::AreaLength),
-        (Area::Cell(7), 256, 0, Width::Bit, Fault::AreaLength),
-    ] {
-        let place = Place { area, byte, bit };
-        let written = write(&mut memory, place, width, 0xffff_ffff);
-        wants(&rt, &place, &written, &Err(fault));
-        wants(&rt, &place, &read(&memory, place, width), &Err(fault));
-        wants(&rt, &place, &count_set(&memory), &0);
-    }
+    want_refused(&rt, &mut memory, &REFUSED);
     Ok(())
+}
+
+/// Numbers, and whether data blocks have them.
+static NUMBERS: [(u16, bool); 6] = [
+    (0, false),
+    (1, false),
+    (3, true),
+    (5, false),
+    (7, true),
+    (8, false),
+];
+
+fn want_blocks(rt: &impl Abort, memory: &Memory, rows: &[(u16, bool)]) {
+    for (number, there) in rows {
+        let has_bytes = memory.bytes(Area::Db(*number)).is_some();
+        let found = (memory.has_block(*number), has_bytes);
+        wants(rt, number, &found, &(*there, *there));
+    }
+}
+
+fn want_sizes(rt: &impl Abort, memory: &Memory, areas: &[(Area, u32)]) {
+    for (area, size) in areas {
+        let length = bytes_of(memory, *area).map(|bytes| bytes.len());
+        wants(rt, area, &length, &Some(*size as usize));
+    }
 }
 
 #[test]
@@ -242,28 +320,24 @@ fn a_new_memory_has_zeros_and_its_blocks(rt: HostRuntime) -> Result<(), Fail> {
     let memory = memory_of(rt.alloc())?;
     let numbers: &[u16] = &[3, 7];
     wants(&rt, &"numbers", &memory.numbers(), &numbers);
-    for (number, there) in [
-        (0, false),
-        (1, false),
-        (3, true),
-        (5, false),
-        (7, true),
-        (8, false),
-    ] {
-        wants(&rt, &number, &memory.has_block(number), &there);
-        wants(
-            &rt,
-            &number,
-            &memory.bytes(Area::Db(number)).is_some(),
-            &there,
-        );
-    }
-    for (area, size) in AREAS {
-        let length = bytes_of(&memory, area).map(|bytes| bytes.len());
-        wants(&rt, &area, &length, &Some(size as usize));
-    }
+    want_blocks(&rt, &memory, &NUMBERS);
+    want_sizes(&rt, &memory, &AREAS);
     wants(&rt, &"zeros", &count_set(&memory), &0);
     Ok(())
+}
+
+/// A copy of a memory in which each area begins with the bytes 1, 3, 5 and 7 is written to.
+fn want_copied(rt: &impl Abort, memory: &Memory, copy: &mut Memory, areas: &[(Area, u32)]) {
+    for (area, _) in areas {
+        wants(rt, area, &bytes_of(copy, *area), &bytes_of(memory, *area));
+        let place = first_of(*area);
+        let found = (
+            write(copy, place, Width::Byte, 9),
+            read(copy, place, Width::Word),
+            read(memory, place, Width::Word),
+        );
+        wants(rt, area, &found, &(Ok(()), Ok(0x0903), Ok(0x0103)));
+    }
 }
 
 #[test]
@@ -271,37 +345,26 @@ fn a_copy_has_the_same_bytes_and_goes_its_own_way(rt: HostRuntime) -> Result<(),
     let alloc = rt.alloc();
     let memory = filled(alloc)?;
     let mut copy = memory.copy(alloc)?;
-    for (area, _) in AREAS {
-        wants(&rt, &area, &bytes_of(&copy, area), &bytes_of(&memory, area));
-        let place = Place {
-            area,
-            byte: 0,
-            bit: 0,
-        };
-        let written = write(&mut copy, place, Width::Byte, 9);
-        wants(&rt, &area, &written, &Ok(()));
-        wants(&rt, &area, &read(&copy, place, Width::Word), &Ok(0x0903));
-        wants(&rt, &area, &read(&memory, place, Width::Word), &Ok(0x0103));
-    }
+    want_copied(&rt, &memory, &mut copy, &AREAS);
     Ok(())
+}
+
+fn want_cleared(rt: &impl Abort, memory: &Memory, areas: &[(Area, u32)]) {
+    for (area, _) in areas {
+        let value = match area {
+            Area::Local(7) | Area::Cell(7) => 0,
+            _ => 0x0103_0507,
+        };
+        let found = read(memory, first_of(*area), Width::Dword);
+        wants(rt, area, &found, &Ok(value));
+    }
 }
 
 #[test]
 fn clear_makes_one_activation_zero(rt: HostRuntime) -> Result<(), Fail> {
     let mut memory = filled(rt.alloc())?;
     memory.clear(7);
-    for (area, _) in AREAS {
-        let place = Place {
-            area,
-            byte: 0,
-            bit: 0,
-        };
-        let value = match area {
-            Area::Local(7) | Area::Cell(7) => 0,
-            _ => 0x0103_0507,
-        };
-        wants(&rt, &area, &read(&memory, place, Width::Dword), &Ok(value));
-    }
+    want_cleared(&rt, &memory, &AREAS);
     Ok(())
 }
 
@@ -337,28 +400,35 @@ fn blocks_of(alloc: Global, parts: &[(u16, usize)]) -> Result<Vec<DataBlock>, No
     Ok(blocks)
 }
 
-#[test]
-fn blocks_ascend_and_have_their_sizes(rt: HostRuntime) -> Result<(), Fail> {
-    let alloc = rt.alloc();
-    let lists: [(&[(u16, usize)], bool); 12] = [
-        (&[], true),
-        (&[(1, 2)], true),
-        (&[(0, 2)], false),
-        (&[(1, 1)], false),
-        (&[(65535, 16384)], true),
-        (&[(65535, 16385)], false),
-        (&[(3, 4), (7, 6)], true),
-        (&[(7, 6), (3, 4)], false),
-        (&[(3, 4), (3, 4)], false),
-        (&[(3, 4), (7, 1)], false),
-        (&[(3, 4), (4, 4), (65535, 2)], true),
-        (&[(3, 4), (65535, 2), (4, 4)], false),
-    ];
-    for (parts, answer) in lists {
+/// Data blocks by their numbers and sizes, and whether a memory can have them.
+type Blocks = (&'static [(u16, usize)], bool);
+
+static LISTS: [Blocks; 12] = [
+    (&[], true),
+    (&[(1, 2)], true),
+    (&[(0, 2)], false),
+    (&[(1, 1)], false),
+    (&[(65535, 16384)], true),
+    (&[(65535, 16385)], false),
+    (&[(3, 4), (7, 6)], true),
+    (&[(7, 6), (3, 4)], false),
+    (&[(3, 4), (3, 4)], false),
+    (&[(3, 4), (7, 1)], false),
+    (&[(3, 4), (4, 4), (65535, 2)], true),
+    (&[(3, 4), (65535, 2), (4, 4)], false),
+];
+
+fn want_lists(rt: &impl Abort, alloc: Global, rows: &[Blocks]) -> Result<(), NoMemory> {
+    for (parts, answer) in rows {
         let blocks = blocks_of(alloc, parts)?;
-        wants(&rt, &parts, &are_blocks(blocks.as_slice()), &answer);
+        wants(rt, parts, &are_blocks(blocks.as_slice()), answer);
     }
     Ok(())
+}
+
+#[test]
+fn blocks_ascend_and_have_their_sizes(rt: HostRuntime) -> Result<(), Fail> {
+    Ok(want_lists(&rt, rt.alloc(), &LISTS)?)
 }
 
 #[test]

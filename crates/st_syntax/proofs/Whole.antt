@@ -8,7 +8,7 @@ use Rattle.s7_base.specs.declared.reason.Reason.{Reason}
 use Rattle.s7_base.specs.declared.reason.Rejection.{Rejection}
 use Rattle.s7_base.specs.declared.reason.Rejection.TheVariants.{Refused, NoMemory}
 use Rattle.st_grammar.specs.Syntax.{all_lined}
-use Rattle.st_grammar.specs.inner.Judge.{judge, raw_of, text_in, tree_at, verdict, verdict_on}
+use Rattle.st_grammar.specs.inner.Judge.{judge, raw_of, tree_at, verdict, verdict_on}
 use Rattle.st_grammar.specs.inner.Machine.{code, Before, State, start}
 use Rattle.st_lexer.specs.StTokens.{tokens_of}
 use Rattle.st_syntax.specs.declared.state.Before.{Before as Found}

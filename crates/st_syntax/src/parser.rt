@@ -7,18 +7,19 @@ ghost use Rattle.st_grammar.specs.Kinds.{kind_of};
 ghost use Rattle.st_grammar.specs.Levels.{deepest};
 ghost use Rattle.st_syntax.specs.declared.state.State.TheVariants as state;
 ghost use Rattle.st_grammar.specs.Syntax.{all_lined};
-ghost use Rattle.st_syntax.specs.inner.Seen.{seen, HasText, JudgedIs};
+ghost use Rattle.st_syntax.specs.inner.Seen.{seen, went, HasText, JudgedIs};
 ghost use Rattle.st_syntax.specs.inner.Views.{before_of};
 
 use crate::state::{Before, State};
 use crate::unit::next;
 use s7_base::{Line, NoMemory, Reason, Rejection};
-use st_bodies::is_deep_at;
+use st_bodies::{is_deep_at, step};
 use st_grammar::{Fixed, Kind};
 use st_lexer::{StToken, end_line, rest_after, st_tokens};
 use st_tree::RawSt;
 use st_words::kind_of;
 use std::alloc::Global;
+use std::mem::replace;
 
 /// The last token made a level above the greatest.
 #[tactic(auto, unfolding(crate::specs::inner::Seen::seen, st_grammar::specs::inner::Judge::reached))]
@@ -31,68 +32,64 @@ fn is_deep(state: &State) -> bool
     }
 }
 
-/// One token of a text; `None` where it cannot follow.
-fn turn(alloc: Global, state: State, kind: Kind) -> Result<Option<State>, NoMemory>
-    ensures { IfOk result (λ o. option_map seen o ≡ turn (seen state) kind) }
+/// One token of a text: whether it can follow, and if it can, where it leads. Inside of statements, where
+/// most of a text is, the state stays where it is.
+#[tactic(auto, unfolding(crate::specs::inner::Seen::seen, st_grammar::specs::inner::Judge::turn))]
+fn turn(alloc: Global, state: &mut State, kind: Kind) -> Result<bool, NoMemory>
+    ensures { IfOk result (λ goes. went goes state.new ≡ turn (seen state.old) kind) }
 {
-    next(alloc, state, kind)
+    let kind = match state {
+        State::Inside(_, _, _, spot) => match kind {
+            Kind::Fixed(Fixed::EndProgram) => Kind::Fixed(Fixed::EndProgram),
+            Kind::Fixed(Fixed::EndFunction) => Kind::Fixed(Fixed::EndFunction),
+            other => return step(alloc, spot, other),
+        },
+        _ => kind,
+    };
+    let Some(to) = next(alloc, replace(state, State::Start), kind)? else {
+        return Ok(false);
+    };
+    drop(replace(state, to));
+    Ok(true)
 }
 
-/// A state, and why the text is refused, if it is.
-struct Judged {
-    state: State,
-    refusal: Option<Rejection>,
-}
-
-/// The state after one more token.
-fn advance(alloc: Global, state: State, kind: Kind, line: Line) -> Judged
-    ensures { JudgedIs (seen result.state) result.refusal (judged (turn (seen state) kind) line) }
+/// Goes on by one token; why the text is refused, if it is.
+fn advance(alloc: Global, state: &mut State, kind: Kind, line: Line) -> Option<Rejection>
+    ensures { JudgedIs (seen state.new) result (judged (turn (seen state.old) kind) line) }
 {
     match turn(alloc, state, kind) {
-        Ok(Some(to)) => {
-            let refusal = if is_deep(&to) {
+        Ok(true) => {
+            if is_deep(state) {
                 Some(Rejection::Refused(line, Reason::TooDeep))
             } else {
                 None
-            };
-            Judged { state: to, refusal }
+            }
         }
-        Ok(None) => Judged {
-            state: State::Start,
-            refusal: Some(Rejection::Refused(line, Reason::BadSyntax)),
-        },
-        Err(_) => Judged {
-            state: State::Start,
-            refusal: Some(Rejection::NoMemory),
-        },
+        Ok(false) => Some(Rejection::Refused(line, Reason::BadSyntax)),
+        Err(_) => Some(Rejection::NoMemory),
     }
 }
 
-fn advance_token(alloc: Global, state: State, token: &StToken) -> Judged
-    ensures { JudgedIs (seen result.state) result.refusal
-        (judged (turn (seen state) (kind_of token.now)) token.now.line) }
+fn advance_token(alloc: Global, state: &mut State, token: &StToken) -> Option<Rejection>
+    ensures { JudgedIs (seen state.new) result
+        (judged (turn (seen state.old) (kind_of token.now)) token.now.line) }
 {
     match kind_of(alloc, token) {
         Ok(kind) => advance(alloc, state, kind, token.line),
-        Err(_) => Judged {
-            state,
-            refusal: Some(Rejection::NoMemory),
-        },
+        Err(_) => Some(Rejection::NoMemory),
     }
 }
 
-/// The state after all tokens of a text that ends on a line.
-fn judge(alloc: Global, tokens: &[StToken], end: Line) -> Judged
-    ensures { JudgedIs (seen result.state) result.refusal (judge (seen state.Start) (all_lined tokens.now end)) }
+/// The state after all tokens of a text that ends on a line, and why the text is refused, if it is.
+fn judge(alloc: Global, state: &mut State, tokens: &[StToken], end: Line) -> Option<Rejection>
+    ensures { JudgedIs (seen state.new) result (judge (seen state.old) (all_lined tokens.now end)) }
 {
-    let mut state = State::Start;
     let mut rest = tokens;
     while let [first, ..] = rest {
-        let Judged { state: to, refusal } = advance_token(alloc, state, first);
+        let refusal = advance_token(alloc, state, first);
         if refusal.is_some() {
-            return Judged { state: to, refusal };
+            return refusal;
         }
-        state = to;
         rest = rest_after(rest, 1);
     }
     advance(alloc, state, Kind::Fixed(Fixed::End), end)
@@ -132,7 +129,8 @@ fn whole(alloc: Global, tokens: &[StToken], end: Line) -> Result<Before, Rejecti
     ensures refused { IfRefused result
         (λ line reason. judge (seen state.Start) (all_lined tokens.now end) ≡ Err (Refused line reason)) }
 {
-    let Judged { state, refusal } = judge(alloc, tokens, end);
+    let mut state = State::Start;
+    let refusal = judge(alloc, &mut state, tokens, end);
     let text = finish(state);
     if let Some(refused) = refusal {
         return Err(refused);

@@ -1,7 +1,7 @@
 //! Steps of the parser in globals.
-ghost use Rattle.std.specs.Prelude.{◌≡◌, IfOk, option_map};
+ghost use Rattle.std.specs.Prelude.{◌≡◌, if◌then◌else◌, Some, None, IfOk, option_map};
 ghost use Rattle.st_grammar.specs.Grammar.{is_direct};
-ghost use Rattle.st_grammar.specs.inner.Machine.{code, at_item};
+ghost use Rattle.st_grammar.specs.inner.Machine.{code, at_comma, at_item};
 ghost use Rattle.st_grammar.specs.inner.Steps.{is_zero, is_array, row_type, row_place, row_array, row_items, row_step, row_end, at_row, at_globals};
 ghost use Rattle.st_syntax.specs.inner.Views.{row_of, state_of};
 
@@ -68,44 +68,52 @@ fn is_array(row: &Row) -> bool
     }
 }
 
+/// A place, where it can be reached.
+fn when(goes: bool, next: Row) -> Option<Row>
+    ensures { result ≡ (if goes then Some next else None) }
+{
+    if goes {
+        Some(next)
+    } else {
+        drop(next);
+        None
+    }
+}
+
 /// `[0..k] OF BYTE`.
-fn row_array(row: Row, kind: Kind) -> Option<Row>
-    ensures { option_map row_of result ≡ row_array code (row_of row) kind }
+fn row_array(row: Row, kind: &Kind) -> Option<Row>
+    ensures { option_map row_of result ≡ row_array code (row_of row) kind.now }
 {
     match row {
-        Row::AtSquare(at) => match kind {
-            Kind::Fixed(Fixed::OpenSquare) => Some(Row::AtZero(at)),
-            _ => None,
-        },
+        Row::AtSquare(at) => when(
+            matches!(kind, Kind::Fixed(Fixed::OpenSquare)),
+            Row::AtZero(at),
+        ),
         Row::AtZero(at) => match kind {
-            Kind::Literal(Literal::Decimal(number)) => if is_zero(number) {
-                Some(Row::AtDots(at))
-            } else {
-                None
-            },
+            Kind::Literal(Literal::Decimal(number)) => when(is_zero(*number), Row::AtDots(at)),
             _ => None,
         },
-        Row::AtDots(at) => match kind {
-            Kind::Fixed(Fixed::Dots) => Some(Row::AtLast(at)),
-            _ => None,
-        },
+        Row::AtDots(at) => when(matches!(kind, Kind::Fixed(Fixed::Dots)), Row::AtLast(at)),
         Row::AtLast(at) => match kind {
-            Kind::Literal(Literal::Decimal(last)) => Some(Row::AtClose(at, last)),
+            Kind::Literal(Literal::Decimal(last)) => Some(Row::AtClose(at, *last)),
             _ => None,
         },
-        Row::AtClose(at, last) => match kind {
-            Kind::Fixed(Fixed::CloseSquare) => Some(Row::AtOf(at, last)),
-            _ => None,
-        },
-        Row::AtOf(at, last) => match kind {
-            Kind::Fixed(Fixed::Of) => Some(Row::AtByte(at, last)),
-            _ => None,
-        },
-        Row::AtByte(at, last) => match kind {
-            Kind::Fixed(Fixed::Type(StType::Byte)) => Some(Row::AtBecomes(at, last)),
-            _ => None,
-        },
-        _ => None,
+        Row::AtClose(at, last) => when(
+            matches!(kind, Kind::Fixed(Fixed::CloseSquare)),
+            Row::AtOf(at, last),
+        ),
+        Row::AtOf(at, last) => when(
+            matches!(kind, Kind::Fixed(Fixed::Of)),
+            Row::AtByte(at, last),
+        ),
+        Row::AtByte(at, last) => when(
+            matches!(kind, Kind::Fixed(Fixed::Type(StType::Byte))),
+            Row::AtBecomes(at, last),
+        ),
+        other => {
+            drop(other);
+            None
+        }
     }
 }
 
@@ -114,57 +122,69 @@ fn row_item(
     at: RawVar,
     last: u32,
     mut items: List<(u32, u8)>,
-    kind: Kind,
+    kind: &Kind,
 ) -> Result<Option<Row>, NoMemory>
-    ensures { IfOk result (λ o. option_map row_of o ≡ row_items code (at_item at last items) kind) }
+    ensures { IfOk result (λ o. option_map row_of o ≡ row_items code (at_item at last items) kind.now) }
 {
     match kind {
         Kind::Literal(Literal::Byte(byte)) => {
-            items.push((1, byte))?;
+            items.push((1, *byte))?;
             Ok(Some(Row::AtComma(at, last, items)))
         }
-        Kind::Literal(Literal::Decimal(count)) => Ok(Some(Row::AtCount(at, last, items, count))),
+        Kind::Literal(Literal::Decimal(count)) => Ok(Some(Row::AtCount(at, last, items, *count))),
         _ => Ok(None),
     }
 }
 
 /// The bytes in square brackets.
-fn row_items(alloc: Global, row: Row, kind: Kind) -> Result<Option<Row>, NoMemory>
-    ensures { IfOk result (λ o. option_map row_of o ≡ row_items code (row_of row) kind) }
+fn row_items(alloc: Global, row: Row, kind: &Kind) -> Result<Option<Row>, NoMemory>
+    ensures { IfOk result (λ o. option_map row_of o ≡ row_items code (row_of row) kind.now) }
 {
     let next = match row {
-        Row::AtBecomes(at, last) => match kind {
-            Kind::Fixed(Fixed::Becomes) => Row::AtOpen(at, last),
-            _ => return Ok(None),
-        },
-        Row::AtOpen(at, last) => match kind {
-            Kind::Fixed(Fixed::OpenSquare) => Row::AtItem(at, last, List::new(alloc)),
-            _ => return Ok(None),
-        },
+        Row::AtBecomes(at, last) => when(
+            matches!(kind, Kind::Fixed(Fixed::Becomes)),
+            Row::AtOpen(at, last),
+        ),
+        Row::AtOpen(at, last) => when(
+            matches!(kind, Kind::Fixed(Fixed::OpenSquare)),
+            Row::AtItem(at, last, List::new(alloc)),
+        ),
         Row::AtItem(at, last, items) => return row_item(at, last, items, kind),
-        Row::AtCount(at, last, items, count) => match kind {
-            Kind::Fixed(Fixed::Open) => Row::AtValue(at, last, items, count),
-            _ => return Ok(None),
-        },
+        Row::AtCount(at, last, items, count) => when(
+            matches!(kind, Kind::Fixed(Fixed::Open)),
+            Row::AtValue(at, last, items, count),
+        ),
         Row::AtValue(at, last, items, count) => match kind {
-            Kind::Literal(Literal::Byte(byte)) => Row::AtValueEnd(at, last, items, count, byte),
-            _ => return Ok(None),
-        },
-        Row::AtValueEnd(at, last, mut items, count, byte) => match kind {
-            Kind::Fixed(Fixed::Close) => {
-                items.push((count, byte))?;
-                Row::AtComma(at, last, items)
+            Kind::Literal(Literal::Byte(byte)) => {
+                Some(Row::AtValueEnd(at, last, items, count, *byte))
             }
-            _ => return Ok(None),
+            _ => None,
         },
-        Row::AtComma(at, last, items) => match kind {
-            Kind::Fixed(Fixed::Comma) => Row::AtItem(at, last, items),
-            Kind::Fixed(Fixed::CloseSquare) => Row::AtEnd(at, RawGlobalType::Bytes(last, items)),
-            _ => return Ok(None),
-        },
-        _ => return Ok(None),
+        Row::AtValueEnd(at, last, mut items, count, byte) => {
+            items.push((count, byte))?;
+            when(
+                matches!(kind, Kind::Fixed(Fixed::Close)),
+                Row::AtComma(at, last, items),
+            )
+        }
+        Row::AtComma(at, last, items) => row_comma(at, last, items, kind),
+        other => {
+            drop(other);
+            None
+        }
     };
-    Ok(Some(next))
+    Ok(next)
+}
+
+/// What stands after a byte, or after so many of it.
+fn row_comma(at: RawVar, last: u32, items: List<(u32, u8)>, kind: &Kind) -> Option<Row>
+    ensures { option_map row_of result ≡ row_items code (at_comma at last items) kind.now }
+{
+    match kind {
+        Kind::Fixed(Fixed::Comma) => Some(Row::AtItem(at, last, items)),
+        Kind::Fixed(Fixed::CloseSquare) => Some(Row::AtEnd(at, RawGlobalType::Bytes(last, items))),
+        _ => None,
+    }
 }
 
 /// A token of a global after its name, but the `;`.
@@ -172,21 +192,15 @@ fn row_step(alloc: Global, name: &[u8], row: Row, kind: Kind) -> Result<Option<R
     ensures { IfOk result (λ o. option_map row_of o ≡ row_step code name.now (row_of row) kind) }
 {
     match row {
-        Row::AtWord => match kind {
-            Kind::Fixed(Fixed::At) => Ok(Some(Row::AtPlace)),
-            _ => Ok(None),
-        },
+        Row::AtWord => Ok(when(matches!(kind, Kind::Fixed(Fixed::At)), Row::AtPlace)),
         Row::AtPlace => Ok(row_place(kind)),
-        Row::AtColon(at) => match kind {
-            Kind::Fixed(Fixed::Colon) => Ok(Some(Row::AtType(at))),
-            _ => Ok(None),
-        },
+        Row::AtColon(at) => Ok(when(matches!(kind, Kind::Fixed(Fixed::Colon)), Row::AtType(at))),
         Row::AtType(at) => Ok(row_type(name, at, kind)),
         other => {
             if is_array(&other) {
-                return Ok(row_array(other, kind));
+                return Ok(row_array(other, &kind));
             }
-            row_items(alloc, other, kind)
+            row_items(alloc, other, &kind)
         }
     }
 }
@@ -201,16 +215,15 @@ fn row_end(
 ) -> Result<Option<State>, NoMemory>
     ensures { IfOk result (λ o. option_map state_of o ≡ row_end code done name line (row_of row)) }
 {
-    match row {
-        Row::AtEnd(at, ty) => done.push(RawGlobal { name, line, at, ty })?,
-        Row::AtBecomes(at, last) => done.push(RawGlobal {
-            name,
-            line,
-            at,
-            ty: RawGlobalType::Bytes(last, List::new(alloc)),
-        })?,
-        _ => return Ok(None),
-    }
+    let (at, ty) = match row {
+        Row::AtEnd(at, ty) => (at, ty),
+        Row::AtBecomes(at, last) => (at, RawGlobalType::Bytes(last, List::new(alloc))),
+        other => {
+            drop(other);
+            return Ok(None);
+        }
+    };
+    done.push(RawGlobal { name, line, at, ty })?;
     Ok(Some(State::Globals(done)))
 }
 

@@ -4,7 +4,7 @@ ghost use Rattle.st_grammar.specs.Grammar.{is_formal_type};
 ghost use Rattle.st_grammar.specs.inner.Machine.{code, add_unit};
 ghost use Rattle.st_grammar.specs.inner.Steps.{at_between, at_start, at_heading, may_name, may_type, section_end, at_section, at_typing, ends, leave, at_inside, at_formals_done, at_opened, next, step as body_step};
 ghost use Rattle.st_bodies.specs.inner.Spots.{place_of, spot_of, stack_of};
-ghost use Rattle.st_syntax.specs.inner.Views.{before_of, state_of, top_in, typing_of, which_of};
+ghost use Rattle.st_syntax.specs.inner.Views.{before_of, state_of, top_in, typing_of, typing_step, which_of};
 
 use crate::row::{at_globals, at_row};
 use crate::state::{Before, State, Top, Typing, Which};
@@ -113,6 +113,28 @@ fn at_section(
     }
 }
 
+/// A token of a formal or a local after its name, but the `;`.
+fn typing_step(which: &Which, typing: Typing, kind: &Kind) -> Option<Typing>
+    ensures { option_map typing_of result ≡ typing_step (which_of which.now) (typing_of typing) kind.now }
+{
+    match typing {
+        Typing::Colon => match kind {
+            Kind::Fixed(Fixed::Colon) => Some(Typing::Type),
+            _ => None,
+        },
+        Typing::Type => match kind {
+            Kind::Fixed(Fixed::Type(ty)) => {
+                if !may_type(which, *ty) {
+                    return None;
+                }
+                Some(Typing::End(*ty))
+            }
+            _ => None,
+        },
+        Typing::End(_) => None,
+    }
+}
+
 /// A token of a formal or a local after its name.
 fn at_typing(
     top: Top,
@@ -126,34 +148,16 @@ fn at_typing(
     ensures { IfOk result (λ o. option_map state_of o
         ≡ at_typing code (top_in top) (which_of which) done name line (typing_of typing) kind) }
 {
-    match typing {
-        Typing::Colon => match kind {
-            Kind::Fixed(Fixed::Colon) => Ok(Some(State::Typing(
-                top,
-                which,
-                done,
-                name,
-                line,
-                Typing::Type,
-            ))),
-            _ => Ok(None),
-        },
-        Typing::Type => match kind {
-            Kind::Fixed(Fixed::Type(ty)) => {
-                if !may_type(&which, ty) {
-                    return Ok(None);
-                }
-                Ok(Some(State::Typing(top, which, done, name, line, Typing::End(ty))))
-            }
-            _ => Ok(None),
-        },
-        Typing::End(ty) => match kind {
-            Kind::Fixed(Fixed::Semicolon) => {
-                done.push(RawLocal { name, line, ty })?;
-                Ok(Some(State::Section(top, which, done)))
-            }
-            _ => Ok(None),
-        },
+    if let Typing::End(ty) = typing {
+        let Kind::Fixed(Fixed::Semicolon) = kind else {
+            return Ok(None);
+        };
+        done.push(RawLocal { name, line, ty })?;
+        return Ok(Some(State::Section(top, which, done)));
+    }
+    match typing_step(&which, typing, &kind) {
+        Some(next) => Ok(Some(State::Typing(top, which, done, name, line, next))),
+        None => Ok(None),
     }
 }
 

@@ -1,5 +1,5 @@
 -- What the loop over a text's tokens keeps, beside the judgement that it gives.
-use Rattle.std.specs.Prelude.{◌≡◌, Option, Some, None, Result, Ok, Err}
+use Rattle.std.specs.Prelude.{◌≡◌, Bool, true, false, Option, Some, None, Result, Ok, Err}
 use Rattle.s7_base.specs.declared.reason.Rejection.{Rejection}
 use Rattle.s7_base.specs.declared.reason.Rejection.TheVariants.{Refused, NoMemory}
 use Rattle.st_grammar.specs.inner.Judge.{text_in}
@@ -11,6 +11,11 @@ use Rattle.st_syntax.specs.declared.state.State.{State as Found}
 -- open it
 unfoldable pub seen : Found → State code
 seen state = state_of state
+
+-- where a token leads, if it can follow
+abbrev pub went : Bool → Found → Option (State code)
+went true state = Some (seen state)
+went false state = None
 
 -- a judgement that is good comes to this text
 abbrev pub HasText : Result (State code) Rejection → Before code → Type 0

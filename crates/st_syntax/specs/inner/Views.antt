@@ -1,7 +1,12 @@
 -- The code's states as those of the pass.
+use Rattle.std.specs.Prelude.{if◌then◌else◌, Option, Some, None}
 use Rattle.st_bodies.specs.inner.Spots.{spot_of}
 use Rattle.st_grammar.specs.inner.Machine as machine
 use Rattle.st_grammar.specs.inner.Machine.{code}
+use Rattle.st_grammar.specs.inner.Steps.{may_type}
+use Rattle.st_grammar.specs.declared.kind.Fixed.TheVariants as fixed
+use Rattle.st_grammar.specs.declared.kind.Kind.{Kind}
+use Rattle.st_grammar.specs.declared.kind.Kind.TheVariants as kind
 use Rattle.st_syntax.specs.declared.state.Row.{Row}
 use Rattle.st_syntax.specs.declared.state.Row.TheVariants as row
 use Rattle.st_syntax.specs.declared.state.Typing.{Typing}
@@ -53,6 +58,13 @@ top_in top = record { text = before_of top.text; head = top.head }
 abbrev pub which_of : Which → machine.Which code
 which_of which.Formals = machine.formals
 which_of (which.Temps before) = machine.temps before
+
+-- a token of a formal or a local after its name, but the `;`
+abbrev pub typing_step : machine.Which code → machine.Typing → Kind → Option machine.Typing
+typing_step which machine.local_colon (kind.Fixed fixed.Colon) = Some machine.local_type
+typing_step which machine.local_type (kind.Fixed (fixed.Type ty)) =
+    if may_type code which ty then Some (machine.local_end ty) else None
+typing_step which x k = None
 
 -- where the pass is in a text
 abbrev pub state_of : State → machine.State code

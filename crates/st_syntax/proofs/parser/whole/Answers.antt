@@ -13,6 +13,6 @@ pub unreachable-requires : goal.unreachable-requires
 unfolding seen
 unreachable-requires c =
     let given = judge (seen state.Start) (all_lined c.args.tokens.now c.args.end) in
-    let at = seen c.judge-state.result.state in
-    let good : given ≡ Ok at = subst (λ (r : Option Rejection). JudgedIs at r given) c.in_default.is c.judge-state.ensures in
+    let at = seen c.judge-refusal.new.state in
+    let good : given ≡ Ok at = subst (λ (r : Option Rejection). JudgedIs at r given) c.in_default.is c.judge-refusal.ensures in
     not_over c.args.tokens.now c.args.end at good (sym c.finish-text.ensures ∙ ap (option_map before_of) c.in-None.is)
