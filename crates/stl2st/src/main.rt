@@ -23,6 +23,8 @@ mod limits;
 mod reply;
 mod status;
 #[cfg(test)]
+mod logic_tests;
+#[cfg(test)]
 mod tests;
 mod text;
 #[cfg(test)]

@@ -158,7 +158,7 @@ pub fn answered(
 ) -> Result<(Status, MemSink), NoMemory> {
     let mut program = MemSource::new(alloc, source, 20, &[])?;
     let mut image = MemSource::new(alloc, image, 5, &[])?;
-    let mut out = MemSink::new(alloc, 1000, 7, &[])?;
+    let mut out = MemSink::new(alloc, 10000, 7, &[])?;
     let status = call(alloc, line, &mut program, &mut image, &mut out)?;
     Ok((status, out))
 }
@@ -228,7 +228,7 @@ fn bodies_are_translated(rt: HostRuntime) -> Result<(), Fail> {
 }
 
 /// Bodies that are refused, and the line that is written.
-static REFUSED_BODIES: [(&[u8], &[u8]); 14] = [
+static REFUSED_BODIES: [(&[u8], &[u8]); 19] = [
     (b"L 5;", b"line 3: Unsupported(NotBuilt)\n"),
     (b"SP T 1;", b"line 3: Unsupported(NotBuilt)\n"),
     (b"a: A I 0.0;", b"line 3: Unsupported(NotBuilt)\n"),
@@ -244,6 +244,15 @@ static REFUSED_BODIES: [(&[u8], &[u8]); 14] = [
     // All tokens are read before the first statement.
     (b"FOO 5;\n\"open", b"line 4: BadToken\n"),
     (b"END_ORGANIZATION_BLOCK\n;", b"line 4: BadStatement\n"),
+    (b"NOP 256;", b"line 3: Unsupported(NotBuilt)\n"),
+    (b");", b"line 3: BracketMissing\n"),
+    (b"A(;", b"line 4: BracketOpen\n"),
+    (
+        b"A(;\nA(;\nA(;\nA(;\nA(;\nA(;\nA(;\nA(;\nA I 0.0;\n);\n);\n);\n);\n);\n);\n);\n= Q 4.0;",
+        b"line 10: TooManyBrackets\n",
+    ),
+    // All statements are read before brackets are judged.
+    (b");\nFOO 5;", b"line 4: BadStatement\n"),
 ];
 
 fn want_bodies_refused(
@@ -264,9 +273,12 @@ fn bodies_are_refused(rt: HostRuntime) -> Result<(), Fail> {
 }
 
 /// The same of whole sources.
-static REFUSED_SOURCES: [(&[u8], &[u8]); 6] = [
+static REFUSED_SOURCES: [(&[u8], &[u8]); 9] = [
     (b"", b"line 1: NoBlocks\n"),
     (b"ORGANIZATION_BLOCK OB", b"line 1: BadStatement\n"),
+    (b"FUNCTION", b"line 1: BadStatement\n"),
+    (b"FUNCTION FC 1 :", b"line 1: BadStatement\n"),
+    (b"DATA_BLOCK DB", b"line 1: BadStatement\n"),
     (
         b"ORGANIZATION_BLOCK OB 1\nBEGIN\n",
         b"line 3: BadStatement\n",
