@@ -42,42 +42,60 @@ fn tree(alloc: Global, unit: Pou) -> Result<StProgram, NoMemory> {
     })
 }
 
-fn number(n: i64) -> Expr {
-    Expr::Literal(StType::Dint, n)
+// Operands stand in their boxes, as a tree has them: what is alive where memory may be refused costs the
+// prover, a box the least.
+
+fn literal(alloc: Global, ty: StType, n: i64) -> Result<Boxed<Expr>, NoMemory> {
+    Boxed::new(alloc, Expr::Literal(ty, n))
 }
 
-fn read(register: Reg) -> Expr {
-    Expr::Read(Var::Register(register))
+fn number(alloc: Global, n: i64) -> Result<Boxed<Expr>, NoMemory> {
+    literal(alloc, StType::Dint, n)
 }
 
-fn unary(alloc: Global, op: UnaryOp, operand: Expr) -> Result<Expr, NoMemory> {
-    Ok(Expr::Unary(op, Boxed::new(alloc, operand)?))
+fn read(alloc: Global, var: Var) -> Result<Boxed<Expr>, NoMemory> {
+    Boxed::new(alloc, Expr::Read(var))
 }
 
-fn binary(alloc: Global, op: BinaryOp, left: Expr, right: Expr) -> Result<Expr, NoMemory> {
-    Ok(Expr::Binary(op, Boxed::new(alloc, left)?, Boxed::new(alloc, right)?))
+fn unary(alloc: Global, op: UnaryOp, operand: Boxed<Expr>) -> Result<Boxed<Expr>, NoMemory> {
+    Boxed::new(alloc, Expr::Unary(op, operand))
 }
 
-/// What stands between `RLO := ` and `;` in the text of a program with this expression alone.
-fn text_of(alloc: Global, expr: Expr) -> Result<Vec<u8>, NoMemory> {
+fn binary(
+    alloc: Global,
+    op: BinaryOp,
+    left: Boxed<Expr>,
+    right: Boxed<Expr>,
+) -> Result<Boxed<Expr>, NoMemory> {
+    Boxed::new(alloc, Expr::Binary(op, left, right))
+}
+
+/// A program that assigns this expression alone.
+fn assigning(alloc: Global, expr: Boxed<Expr>) -> Result<StProgram, NoMemory> {
     let mut body = List::new(alloc);
-    body.push(Stmt::Assign(Var::Register(Reg::Rlo), expr))?;
-    let text = print(alloc, &tree(alloc, program(alloc, body)?)?)?;
+    body.push(Stmt::Assign(Var::Register(Reg::Rlo), expr.into_inner()))?;
+    tree(alloc, program(alloc, body)?)
+}
+
+/// What stands between `RLO := ` and `;` in the text of such a program.
+fn value_in(text: &[u8]) -> &[u8] {
     let front = "PROGRAM OB1\n    RLO := ".len();
     let behind = ";\nEND_PROGRAM\n".len();
-    match text
-        .as_slice()
-        .get(front..text.len().saturating_sub(behind))
-    {
-        Some(middle) => Ok(Vec::from_slice(alloc, middle)?),
-        None => Ok(Vec::new(alloc)),
-    }
+    text.get(front..text.len().saturating_sub(behind))
+        .unwrap_or(&[])
 }
 
 /// An expression has this text.
-fn wants_expr(rt: &impl Abort, alloc: Global, expr: Expr, wanted: &str) -> Result<(), NoMemory> {
-    let text = text_of(alloc, expr)?;
-    wants_text(rt, wanted.as_bytes(), text.as_slice(), wanted.as_bytes());
+fn wants_expr(
+    rt: &impl Abort,
+    alloc: Global,
+    expr: Boxed<Expr>,
+    wanted: &str,
+) -> Result<(), NoMemory> {
+    let tree = assigning(alloc, expr)?;
+    let text = print(alloc, &tree)?;
+    let wanted = wanted.as_bytes();
+    wants_text(rt, wanted, value_in(text.as_slice()), wanted);
     Ok(())
 }
 
@@ -93,53 +111,102 @@ fn wants_unit(
     Ok(())
 }
 
+static LITERALS: [(StType, i64, &str); 11] = [
+    (StType::Bool, 0, "FALSE"),
+    (StType::Bool, 1, "TRUE"),
+    (StType::Byte, 15, "BYTE#16#0F"),
+    (StType::Word, 5, "WORD#16#0005"),
+    (StType::Dword, 4_294_967_295, "DWORD#16#FFFFFFFF"),
+    (StType::Int, -5, "INT#-5"),
+    (StType::Int, 5, "INT#5"),
+    (StType::Dint, 0, "0"),
+    (StType::Dint, 2_147_483_647, "2147483647"),
+    (StType::Dint, -5, "DINT#-5"),
+    (StType::Lint, 9, "LINT#9"),
+];
+
+fn want_literals(
+    rt: &impl Abort,
+    alloc: Global,
+    rows: &[(StType, i64, &str)],
+) -> Result<(), NoMemory> {
+    for (ty, n, text) in rows {
+        wants_expr(rt, alloc, literal(alloc, *ty, *n)?, text)?;
+    }
+    Ok(())
+}
+
 #[test]
 fn literals_have_their_type(rt: HostRuntime) -> Result<(), Fail> {
-    let alloc = rt.alloc();
-    let rows = [
-        (StType::Bool, 0, "FALSE"),
-        (StType::Bool, 1, "TRUE"),
-        (StType::Byte, 15, "BYTE#16#0F"),
-        (StType::Word, 5, "WORD#16#0005"),
-        (StType::Dword, 4_294_967_295, "DWORD#16#FFFFFFFF"),
-        (StType::Int, -5, "INT#-5"),
-        (StType::Int, 5, "INT#5"),
-        (StType::Dint, 0, "0"),
-        (StType::Dint, 2_147_483_647, "2147483647"),
-        (StType::Dint, -5, "DINT#-5"),
-        (StType::Lint, 9, "LINT#9"),
-    ];
-    for (ty, n, text) in rows {
-        wants_expr(&rt, alloc, Expr::Literal(ty, n), text)?;
+    Ok(want_literals(&rt, rt.alloc(), &LITERALS)?)
+}
+
+/// An operator, another one, and the two texts: the second one's value on the left, and on the right.
+type Binding = (BinaryOp, BinaryOp, &'static str, &'static str);
+
+static BINDINGS: [Binding; 9] = [
+    (
+        BinaryOp::And,
+        BinaryOp::Or,
+        "(1 OR 2) AND 3",
+        "1 AND (2 OR 3)",
+    ),
+    (BinaryOp::Or, BinaryOp::And, "1 AND 2 OR 3", "1 OR 2 AND 3"),
+    (BinaryOp::Or, BinaryOp::Xor, "1 XOR 2 OR 3", "1 OR 2 XOR 3"),
+    (BinaryOp::Sub, BinaryOp::Sub, "1 - 2 - 3", "1 - (2 - 3)"),
+    (BinaryOp::Mul, BinaryOp::Mod, "1 MOD 2 * 3", "1 * (2 MOD 3)"),
+    (BinaryOp::Div, BinaryOp::Add, "(1 + 2) / 3", "1 / (2 + 3)"),
+    (BinaryOp::Eq, BinaryOp::Lt, "1 < 2 = 3", "1 = 2 < 3"),
+    (BinaryOp::Ge, BinaryOp::Ne, "(1 <> 2) >= 3", "1 >= (2 <> 3)"),
+    (BinaryOp::Gt, BinaryOp::Le, "1 <= 2 > 3", "1 > (2 <= 3)"),
+];
+
+/// Two numbers under an operator.
+fn pair(alloc: Global, op: BinaryOp, left: i64, right: i64) -> Result<Boxed<Expr>, NoMemory> {
+    let left = number(alloc, left)?;
+    binary(alloc, op, left, number(alloc, right)?)
+}
+
+fn wants_binding(rt: &impl Abort, alloc: Global, row: &Binding) -> Result<(), NoMemory> {
+    let (outer, inner, left, right) = row;
+    let first = pair(alloc, *inner, 1, 2)?;
+    let whole = binary(alloc, *outer, first, number(alloc, 3)?)?;
+    wants_expr(rt, alloc, whole, left)?;
+    let second = pair(alloc, *inner, 2, 3)?;
+    let whole = binary(alloc, *outer, number(alloc, 1)?, second)?;
+    wants_expr(rt, alloc, whole, right)
+}
+
+fn want_bindings(rt: &impl Abort, alloc: Global, rows: &[Binding]) -> Result<(), NoMemory> {
+    for row in rows {
+        wants_binding(rt, alloc, row)?;
     }
     Ok(())
 }
 
 #[test]
 fn operators_have_the_brackets_that_binding_needs(rt: HostRuntime) -> Result<(), Fail> {
-    let alloc = rt.alloc();
-    // An operator, another one, and the two texts: the second one's value on the left, and on the right.
-    let rows = [
-        (
-            BinaryOp::And,
-            BinaryOp::Or,
-            "(1 OR 2) AND 3",
-            "1 AND (2 OR 3)",
-        ),
-        (BinaryOp::Or, BinaryOp::And, "1 AND 2 OR 3", "1 OR 2 AND 3"),
-        (BinaryOp::Or, BinaryOp::Xor, "1 XOR 2 OR 3", "1 OR 2 XOR 3"),
-        (BinaryOp::Sub, BinaryOp::Sub, "1 - 2 - 3", "1 - (2 - 3)"),
-        (BinaryOp::Mul, BinaryOp::Mod, "1 MOD 2 * 3", "1 * (2 MOD 3)"),
-        (BinaryOp::Div, BinaryOp::Add, "(1 + 2) / 3", "1 / (2 + 3)"),
-        (BinaryOp::Eq, BinaryOp::Lt, "1 < 2 = 3", "1 = 2 < 3"),
-        (BinaryOp::Ge, BinaryOp::Ne, "(1 <> 2) >= 3", "1 >= (2 <> 3)"),
-        (BinaryOp::Gt, BinaryOp::Le, "1 <= 2 > 3", "1 > (2 <= 3)"),
-    ];
-    for (outer, inner, left, right) in rows {
-        let first = binary(alloc, inner, number(1), number(2))?;
-        wants_expr(&rt, alloc, binary(alloc, outer, first, number(3))?, left)?;
-        let second = binary(alloc, inner, number(2), number(3))?;
-        wants_expr(&rt, alloc, binary(alloc, outer, number(1), second)?, right)?;
+    Ok(want_bindings(&rt, rt.alloc(), &BINDINGS)?)
+}
+
+/// An operator on another one's value, and its text.
+static SIGNS: [(UnaryOp, UnaryOp, &str); 6] = [
+    (UnaryOp::Minus, UnaryOp::Minus, "--2"),
+    (UnaryOp::Not, UnaryOp::Minus, "NOT -2"),
+    (UnaryOp::Minus, UnaryOp::Not, "-(NOT 2)"),
+    (UnaryOp::Not, UnaryOp::Not, "NOT NOT 2"),
+    (UnaryOp::Minus, UnaryOp::BcdToInt, "-BCD_TO_INT(2)"),
+    (UnaryOp::BcdToDint, UnaryOp::Not, "BCD_TO_DINT(NOT 2)"),
+];
+
+fn want_signs(
+    rt: &impl Abort,
+    alloc: Global,
+    rows: &[(UnaryOp, UnaryOp, &str)],
+) -> Result<(), NoMemory> {
+    for (outer, inner, text) in rows {
+        let operand = unary(alloc, *inner, number(alloc, 2)?)?;
+        wants_expr(rt, alloc, unary(alloc, *outer, operand)?, text)?;
     }
     Ok(())
 }
@@ -147,78 +214,57 @@ fn operators_have_the_brackets_that_binding_needs(rt: HostRuntime) -> Result<(),
 #[test]
 fn signs_stand_before_their_operands(rt: HostRuntime) -> Result<(), Fail> {
     let alloc = rt.alloc();
-    // An operator on another one's value, and its text.
-    let rows = [
-        (UnaryOp::Minus, UnaryOp::Minus, "--2"),
-        (UnaryOp::Not, UnaryOp::Minus, "NOT -2"),
-        (UnaryOp::Minus, UnaryOp::Not, "-(NOT 2)"),
-        (UnaryOp::Not, UnaryOp::Not, "NOT NOT 2"),
-        (UnaryOp::Minus, UnaryOp::BcdToInt, "-BCD_TO_INT(2)"),
-        (UnaryOp::BcdToDint, UnaryOp::Not, "BCD_TO_DINT(NOT 2)"),
-    ];
-    for (outer, inner, text) in rows {
-        let expr = unary(alloc, outer, unary(alloc, inner, number(2))?)?;
-        wants_expr(&rt, alloc, expr, text)?;
-    }
-    let product = binary(
-        alloc,
-        BinaryOp::Mul,
-        number(1),
-        unary(alloc, UnaryOp::Not, number(2))?,
-    )?;
+    want_signs(&rt, alloc, &SIGNS)?;
+    let right = unary(alloc, UnaryOp::Not, number(alloc, 2)?)?;
+    let product = binary(alloc, BinaryOp::Mul, number(alloc, 1)?, right)?;
     Ok(wants_expr(&rt, alloc, product, "1 * NOT 2")?)
 }
 
-fn select(alloc: Global) -> Result<Expr, NoMemory> {
-    Ok(Expr::Select(
-        Boxed::new(alloc, read(Reg::Rlo))?,
-        Boxed::new(alloc, binary(alloc, BinaryOp::Or, number(1), number(2))?)?,
-        Boxed::new(alloc, number(3))?,
-    ))
+fn select(alloc: Global) -> Result<Boxed<Expr>, NoMemory> {
+    let gate = read(alloc, Var::Register(Reg::Rlo))?;
+    let first = pair(alloc, BinaryOp::Or, 1, 2)?;
+    Boxed::new(alloc, Expr::Select(gate, first, number(alloc, 3)?))
 }
 
-fn rotated(alloc: Global) -> Result<Expr, NoMemory> {
-    Ok(Expr::Shift(
-        ShiftOp::Ror,
-        Boxed::new(alloc, read(Reg::Accu1))?,
-        Boxed::new(alloc, Expr::Literal(StType::Int, 1))?,
-    ))
+fn rotated(alloc: Global) -> Result<Boxed<Expr>, NoMemory> {
+    let pattern = read(alloc, Var::Register(Reg::Accu1))?;
+    let count = literal(alloc, StType::Int, 1)?;
+    Boxed::new(alloc, Expr::Shift(ShiftOp::Ror, pattern, count))
 }
 
 #[test]
 fn functions_have_their_operands_in_brackets(rt: HostRuntime) -> Result<(), Fail> {
     let alloc = rt.alloc();
-    let five = Boxed::new(alloc, Expr::Literal(StType::Int, 5))?;
-    let word = Expr::Convert(StType::Int, StType::Word, five);
-    let area = Expr::AreaRead(Width::Byte, Boxed::new(alloc, read(Reg::Ar1))?);
-    let rows = [
-        (word, "INT_TO_WORD(INT#5)"),
-        (area, "AREA_READ_B(AR1)"),
-        (select(alloc)?, "SEL(RLO, 1 OR 2, 3)"),
-        (rotated(alloc)?, "ROR(ACCU1, INT#1)"),
-    ];
-    for (expr, text) in rows {
-        wants_expr(&rt, alloc, expr, text)?;
+    let five = literal(alloc, StType::Int, 5)?;
+    let word = Boxed::new(alloc, Expr::Convert(StType::Int, StType::Word, five))?;
+    wants_expr(&rt, alloc, word, "INT_TO_WORD(INT#5)")?;
+    let pointer = read(alloc, Var::Register(Reg::Ar1))?;
+    let area = Boxed::new(alloc, Expr::AreaRead(Width::Byte, pointer))?;
+    wants_expr(&rt, alloc, area, "AREA_READ_B(AR1)")?;
+    wants_expr(&rt, alloc, select(alloc)?, "SEL(RLO, 1 OR 2, 3)")?;
+    Ok(wants_expr(&rt, alloc, rotated(alloc)?, "ROR(ACCU1, INT#1)")?)
+}
+
+static VARIABLES: [(Var, &str); 7] = [
+    (Var::Register(Reg::Nfc), "NFC"),
+    (Var::Direct(AreaName::I, 0, 7, Width::Bit), "%IX0.7"),
+    (Var::Direct(AreaName::Q, 4, 0, Width::Byte), "%QB4"),
+    (Var::Direct(AreaName::L, 10, 0, Width::Dword), "%LD10"),
+    (Var::Direct(AreaName::Di, 2, 1, Width::Bit), "%DIX2.1"),
+    (Var::InBlock(5, 4, 0, Width::Word), "%DB5.DBW4"),
+    (Var::InBlock(65_535, 0, 3, Width::Bit), "%DB65535.DBX0.3"),
+];
+
+fn want_variables(rt: &impl Abort, alloc: Global, rows: &[(Var, &str)]) -> Result<(), NoMemory> {
+    for (var, text) in rows {
+        wants_expr(rt, alloc, read(alloc, *var)?, text)?;
     }
     Ok(())
 }
 
 #[test]
 fn variables_have_their_names_or_places(rt: HostRuntime) -> Result<(), Fail> {
-    let alloc = rt.alloc();
-    let rows = [
-        (Var::Register(Reg::Nfc), "NFC"),
-        (Var::Direct(AreaName::I, 0, 7, Width::Bit), "%IX0.7"),
-        (Var::Direct(AreaName::Q, 4, 0, Width::Byte), "%QB4"),
-        (Var::Direct(AreaName::L, 10, 0, Width::Dword), "%LD10"),
-        (Var::Direct(AreaName::Di, 2, 1, Width::Bit), "%DIX2.1"),
-        (Var::InBlock(5, 4, 0, Width::Word), "%DB5.DBW4"),
-        (Var::InBlock(65_535, 0, 3, Width::Bit), "%DB65535.DBX0.3"),
-    ];
-    for (var, text) in rows {
-        wants_expr(&rt, alloc, Expr::Read(var), text)?;
-    }
-    Ok(())
+    Ok(want_variables(&rt, rt.alloc(), &VARIABLES)?)
 }
 
 const STATEMENTS: &[u8] = b"FUNCTION Limit
@@ -248,25 +294,44 @@ const STATEMENTS: &[u8] = b"FUNCTION Limit
 END_FUNCTION
 ";
 
-fn case(alloc: Global) -> Result<Stmt, NoMemory> {
-    let mut turn = List::new(alloc);
-    turn.push(Stmt::Exit)?;
-    turn.push(Stmt::Continue)?;
+fn turn(alloc: Global) -> Result<List<Stmt>, NoMemory> {
     let mut body = List::new(alloc);
-    body.push(Stmt::While(Expr::Read(Var::Formal(1)), turn))?;
+    body.push(Stmt::Exit)?;
+    body.push(Stmt::Continue)?;
+    Ok(body)
+}
+
+fn labels(alloc: Global) -> Result<List<i64>, NoMemory> {
     let mut labels = List::new(alloc);
     labels.push(1)?;
     labels.push(-2)?;
+    Ok(labels)
+}
+
+fn case_arms(alloc: Global) -> Result<List<CaseArm>, NoMemory> {
+    let mut body = List::new(alloc);
+    body.push(Stmt::While(Expr::Read(Var::Formal(1)), turn(alloc)?))?;
+    let labels = labels(alloc)?;
     let mut arms = List::new(alloc);
     arms.push(CaseArm { labels, body })?;
-    let mut other = List::new(alloc);
-    let pointer = Boxed::new(alloc, read(Reg::Ar1))?;
-    let value = Boxed::new(alloc, Expr::Read(Var::Formal(0)))?;
-    other.push(Stmt::AreaWrite(Width::Word, pointer, value))?;
+    Ok(arms)
+}
+
+fn area_write(alloc: Global) -> Result<List<Stmt>, NoMemory> {
+    let pointer = read(alloc, Var::Register(Reg::Ar1))?;
+    let value = read(alloc, Var::Formal(0))?;
+    let mut body = List::new(alloc);
+    body.push(Stmt::AreaWrite(Width::Word, pointer, value))?;
+    Ok(body)
+}
+
+fn case(alloc: Global) -> Result<Stmt, NoMemory> {
+    let arms = case_arms(alloc)?;
+    let other = area_write(alloc)?;
     Ok(Stmt::Case(Expr::Read(Var::Local(0)), arms, other))
 }
 
-fn choice(alloc: Global) -> Result<Stmt, NoMemory> {
+fn choice_arms(alloc: Global) -> Result<List<Arm>, NoMemory> {
     let mut body = List::new(alloc);
     body.push(Stmt::Assign(Var::Local(0), Expr::Literal(StType::Int, 1)))?;
     let mut arms = List::new(alloc);
@@ -278,34 +343,59 @@ fn choice(alloc: Global) -> Result<Stmt, NoMemory> {
         test: Expr::Literal(StType::Bool, 0),
         body: List::new(alloc),
     })?;
+    Ok(arms)
+}
+
+fn choice(alloc: Global) -> Result<Stmt, NoMemory> {
+    let arms = choice_arms(alloc)?;
     let mut other = List::new(alloc);
     other.push(Stmt::Return)?;
     Ok(Stmt::If(arms, other))
 }
 
-#[test]
-fn statements_stand_four_blanks_deeper_than_what_holds_them(rt: HostRuntime) -> Result<(), Fail> {
-    let alloc = rt.alloc();
-    let mut formals = List::new(alloc);
-    formals.push(local(alloc, "a", StType::Word)?)?;
-    formals.push(local(alloc, "b", StType::Bool)?)?;
-    let mut locals = List::new(alloc);
-    locals.push(local(alloc, "n", StType::Int)?)?;
+fn actuals(alloc: Global) -> Result<List<Var>, NoMemory> {
     let mut actuals = List::new(alloc);
     actuals.push(Var::Direct(AreaName::M, 0, 0, Width::Word))?;
     actuals.push(Var::Formal(1))?;
+    Ok(actuals)
+}
+
+fn statements(alloc: Global) -> Result<List<Stmt>, NoMemory> {
     let mut body = List::new(alloc);
     body.push(choice(alloc)?)?;
     body.push(case(alloc)?)?;
-    body.push(Stmt::Invoke(0, actuals))?;
-    let unit = Pou {
+    body.push(Stmt::Invoke(0, actuals(alloc)?))?;
+    Ok(body)
+}
+
+fn formals(alloc: Global) -> Result<List<Local>, NoMemory> {
+    let mut formals = List::new(alloc);
+    formals.push(local(alloc, "a", StType::Word)?)?;
+    formals.push(local(alloc, "b", StType::Bool)?)?;
+    Ok(formals)
+}
+
+fn locals(alloc: Global) -> Result<List<Local>, NoMemory> {
+    let mut locals = List::new(alloc);
+    locals.push(local(alloc, "n", StType::Int)?)?;
+    Ok(locals)
+}
+
+fn function(alloc: Global) -> Result<Pou, NoMemory> {
+    Ok(Pou {
         program: false,
         name: name(alloc, "Limit")?,
-        formals,
-        locals,
-        body,
-    };
-    Ok(wants_unit(&rt, alloc, &tree(alloc, unit)?, STATEMENTS)?)
+        formals: formals(alloc)?,
+        locals: locals(alloc)?,
+        body: statements(alloc)?,
+    })
+}
+
+#[test]
+fn statements_stand_four_blanks_deeper_than_what_holds_them(rt: HostRuntime) -> Result<(), Fail> {
+    let alloc = rt.alloc();
+    let tree = tree(alloc, function(alloc)?)?;
+    Ok(wants_unit(&rt, alloc, &tree, STATEMENTS)?)
 }
 
 const GLOBALS: &[u8] = b"VAR_GLOBAL
@@ -318,31 +408,41 @@ PROGRAM OB1
 END_PROGRAM
 ";
 
-#[test]
-fn globals_stand_behind_the_data_blocks(rt: HostRuntime) -> Result<(), Fail> {
-    let alloc = rt.alloc();
+fn data_block(alloc: Global) -> Result<DataBlock, NoMemory> {
+    let bytes = List::from_vec(Vec::from_slice(alloc, &[1, 0, 0, 0, 255, 255])?);
+    Ok(DataBlock { number: 5, bytes })
+}
+
+fn global(
+    alloc: Global,
+    text: &str,
+    area: Area,
+    byte: u32,
+    ty: StType,
+) -> Result<Located, NoMemory> {
+    let place = Place { area, byte, bit: 0 };
+    Ok(Located {
+        name: name(alloc, text)?,
+        place,
+        ty,
+    })
+}
+
+fn with_globals(alloc: Global) -> Result<StProgram, NoMemory> {
     let mut body = List::new(alloc);
     body.push(Stmt::Assign(Var::Global(1), Expr::Read(Var::Global(0))))?;
     let mut text = tree(alloc, program(alloc, body)?)?;
-    let bytes = List::from_vec(Vec::from_slice(alloc, &[1, 0, 0, 0, 255, 255])?);
-    text.dbs.push(DataBlock { number: 5, bytes })?;
-    text.globals.push(Located {
-        name: name(alloc, "Start")?,
-        place: Place {
-            area: Area::I,
-            byte: 0,
-            bit: 0,
-        },
-        ty: StType::Bool,
-    })?;
-    text.globals.push(Located {
-        name: name(alloc, "Speed")?,
-        place: Place {
-            area: Area::M,
-            byte: 10,
-            bit: 0,
-        },
-        ty: StType::Int,
-    })?;
-    Ok(wants_unit(&rt, alloc, &text, GLOBALS)?)
+    text.dbs.push(data_block(alloc)?)?;
+    let start = global(alloc, "Start", Area::I, 0, StType::Bool)?;
+    text.globals.push(start)?;
+    let speed = global(alloc, "Speed", Area::M, 10, StType::Int)?;
+    text.globals.push(speed)?;
+    Ok(text)
+}
+
+#[test]
+fn globals_stand_behind_the_data_blocks(rt: HostRuntime) -> Result<(), Fail> {
+    let alloc = rt.alloc();
+    let tree = with_globals(alloc)?;
+    Ok(wants_unit(&rt, alloc, &tree, GLOBALS)?)
 }

@@ -1,30 +1,30 @@
 //! What no clause says: that a copy is made while there is memory.
 use crate::wants::wants;
 use memory_areas::AreaName;
-use s7_base::{Boxed, Reg, Width};
+use s7_base::{Boxed, NoMemory, Reg, Width};
 use st_tree::{BinaryOp, Expr, StType, UnaryOp, Var};
+use std::alloc::Global;
 use std::test::Fail;
 
-fn read(register: Reg) -> Expr {
-    Expr::Read(Var::Register(register))
+fn read(alloc: Global, var: Var) -> Result<Boxed<Expr>, NoMemory> {
+    Boxed::new(alloc, Expr::Read(var))
+}
+
+/// A first check of an input, as a translation has it.
+fn first_check(alloc: Global) -> Result<Boxed<Expr>, NoMemory> {
+    let nfc = read(alloc, Var::Register(Reg::Nfc))?;
+    let not_nfc = Boxed::new(alloc, Expr::Unary(UnaryOp::Not, nfc))?;
+    let rlo = read(alloc, Var::Register(Reg::Rlo))?;
+    let left = Boxed::new(alloc, Expr::Binary(BinaryOp::Or, rlo, not_nfc))?;
+    let bit = read(alloc, Var::Direct(AreaName::I, 0, 1, Width::Bit))?;
+    Boxed::new(alloc, Expr::Binary(BinaryOp::And, left, bit))
 }
 
 #[test]
 fn copies_an_expression(rt: HostRuntime) -> Result<(), Fail> {
-    let alloc = rt.alloc();
-    let first_check = Expr::Unary(UnaryOp::Not, Boxed::new(alloc, read(Reg::Nfc))?);
-    let left = Expr::Binary(
-        BinaryOp::Or,
-        Boxed::new(alloc, read(Reg::Rlo))?,
-        Boxed::new(alloc, first_check)?,
-    );
-    let bit = Expr::Read(Var::Direct(AreaName::I, 0, 1, Width::Bit));
-    let whole = Expr::Binary(
-        BinaryOp::And,
-        Boxed::new(alloc, left)?,
-        Boxed::new(alloc, bit)?,
-    );
-    wants(&rt, &"an expression", &whole.copy(alloc)?, &whole);
+    let whole = first_check(rt.alloc())?;
+    let copy = Boxed::new(rt.alloc(), whole.get().copy(rt.alloc())?)?;
+    wants(&rt, &"an expression", copy.get(), whole.get());
     Ok(())
 }
 
