@@ -1,2 +1,3 @@
-pub mod Bodies
-pub mod Statements
+pub mod Accepting
+pub mod Lists
+pub mod Operations

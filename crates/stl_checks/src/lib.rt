@@ -1,11 +1,13 @@
 //! Judges a source text: its program, or the line and the reason of the first broken rule.
 //!
-//! Stands on `stl_lexer` for the tokens of a text and on `stl_instructions` for those of a statement.
-//! `statement` makes instructions of them and says why an item is refused, `reader` reads the block.
+//! Stands on `stl_reader` for the raw program of a text. `instruction` makes instructions of raw ones,
+//! `brackets` has the rules of brackets, `program` makes the program and notes what it breaks, and `judge`
+//! names the first of that.
 #![tactic(auto)]
 
-pub use reader::verdict;
+pub use judge::verdict;
 
-mod reader;
-mod statement;
-mod words;
+mod brackets;
+mod instruction;
+mod judge;
+mod program;

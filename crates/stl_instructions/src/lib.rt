@@ -5,7 +5,7 @@
 #![tactic(auto)]
 
 pub use laws::{instructions_have_forms, mnemonics_are_longest};
-pub use operand::is_bit_in_area;
+pub use operand::{are_digits, is_bit_in_area, is_numbered};
 pub use statement::{begins_with_label, instruction};
 pub use table::{begins_with_mnemonic, mnemonic_named};
 pub use words::{is_sign, is_word, is_word_kind};

@@ -185,7 +185,7 @@ fn long_at(tokens: &[Token]) -> Read<RawPlace>
 }
 
 /// One or more digits.
-fn are_digits(word: &[u8]) -> bool
+pub fn are_digits(word: &[u8]) -> bool
     ensures { result ≡ are_digits word.now }
 {
     match word {
@@ -212,8 +212,8 @@ fn is_named(form: &NamedForm, tokens: &[Token]) -> bool
     }
 }
 
-/// The word is this one and a number, without a blank.
-fn is_numbered(token: &Token, word: &str) -> bool
+/// The token is this word and a number, without a blank.
+pub fn is_numbered(token: &Token, word: &str) -> bool
     ensures { result ≡ is_numbered word.now token.now }
 {
     let text = token.text.as_slice();

@@ -1,6 +1,7 @@
 -- The verdict gives only programs that keep the rules.
-use Rattle.std.proofs.Common.{◌≡◌, ◌≢◌, ℕ, zero, suc, ◌≤◌, List, [], ◌∷◌, ◌++◌, length, Bool, true, false, if◌then◌else◌, Option, Some, None, Result, Ok, Err, refl, sym, ap, subst, ◌∙◌, arith}
+use Rattle.std.proofs.Common.{◌≡◌, ◌≢◌, ℕ, zero, suc, length-append, ◌≤◌, List, [], ◌∷◌, ◌++◌, length, Bool, true, false, if◌then◌else◌, Option, Some, None, Result, Ok, Err, refl, sym, subst, ◌∙◌, arith}
 use Rattle.std.specs.Prelude.{All, IfSome, nat_lt, option_map}
+use Rattle.std.specs.Option.{option_to_list}
 use Rattle.std.specs.List.{cons_option, filter_map, flat_map}
 use Rattle.std.proofs.lemmas.List.Concat.{flat_map-cons}
 use Rattle.std.proofs.lemmas.List.Elements.{All-append, All-cons, All-nil, All-head, All-tail}
@@ -16,10 +17,11 @@ use Rattle.stl_tree.specs.Accepted.{AreDistinct, HaveOperands, IsAccepted, IsAcc
 use Rattle.stl_tree.specs.Brackets.{AreNested, WithNumber, open_behind}
 use Rattle.stl_tree.specs.Grammar.{IsForm, heading, begin, empty, end_word, statement, form, AreItems, none_more, one_more, IsKept, IsText}
 use Rattle.stl_tree.specs.Programs.{block_name, block_of, block_with, body_of, instr_of, program_of}
-use Rattle.stl_tree.specs.RawPrograms.{in_last, raw_of, with_end, with_instr, with_item, with_items}
+use Rattle.stl_tree.specs.RawPrograms.{blocks_in, nothing_read, raw_of, with_end, with_instr, with_item, with_items}
 use Rattle.stl_tree.specs.Stages.{brackets, brackets_at, brackets_from, brackets_in, no_blocks, none_among, open_then, unbuilt, unbuilt_block, unbuilt_instr, unless_there}
-use Rattle.stl_tree.specs.Verdict.{judged_tokens, verdict}
+use Rattle.stl_tree.specs.Verdict.{judged_by, raw_by_tokens, raw_text, verdict}
 use Rattle.stl_tree.specs.declared.item.Item.{Item}
+use Rattle.stl_tree.specs.declared.item.Reading.{Reading}
 use Rattle.stl_tree.specs.declared.item.Where.{Where}
 use Rattle.stl_tree.specs.declared.item.Where.TheVariants.{Start}
 use Rattle.stl_tree.specs.declared.program.Block.{Block}
@@ -110,43 +112,46 @@ some_block (raw ∷ rest) e none =
 
 -- One block at most
 
-in_last_length : (change : RawBlock → RawBlock) (blocks : List RawBlock) → length (in_last change blocks) ≡ length blocks
-in_last_length change [] = refl
-in_last_length change (b ∷ []) = refl
-in_last_length change (b ∷ c ∷ rest) = ap (λ (n : ℕ). suc n) (in_last_length change (c ∷ rest))
+-- how many blocks a text has so far
+abbrev count : Reading → ℕ
+count reading = length (blocks_in reading)
+
+count_of : (done : List RawBlock) (last : Option RawBlock) (change : RawBlock → RawBlock) → length (done ++ option_to_list (option_map change last)) ≡ length (done ++ option_to_list last)
+count_of done None change = refl
+count_of done (Some raw) change = length-append done (change raw ∷ []) ∙ sym (length-append done (raw ∷ []))
 
 -- a block was opened before this place
 abbrev IsBehind : Where → Type 0
 IsBehind Start = ⊥
-IsBehind another = Unit {0}
+IsBehind elsewhere = Unit {0}
 
 record Keeps (item : Item) (next : Where) : Type 0 where
   behind : IsBehind next
-  same : (blocks : List RawBlock) → length (with_item blocks item) ≡ length blocks
+  same : (reading : Reading) → count (with_item reading item) ≡ count reading
 
 keeps : {place next : Where} {tokens : List Token} {item : Item} {size : ℕ} → IsForm place tokens item size next → IsBehind place → Keeps item next
 keeps (heading first rest word named) h = absurd h
-keeps (begin kind first rest word) h = record { behind = tt; same = λ blocks. refl }
-keeps (empty kind first rest sign) h = record { behind = tt; same = λ blocks. refl }
-keeps (end_word kind first rest no_sign word) h = record { behind = tt; same = λ blocks. in_last_length (with_end first.line) blocks }
-keeps (statement kind first more sign rest instr no_end whole is ends) h = record { behind = tt; same = λ blocks. in_last_length (with_instr instr) blocks }
+keeps (begin kind first rest word) h = record { behind = tt; same = λ reading. refl }
+keeps (empty kind first rest sign) h = record { behind = tt; same = λ reading. refl }
+keeps (end_word kind first rest no_sign word) h = record { behind = tt; same = λ reading. count_of reading.done reading.last (with_end first.line) }
+keeps (statement kind first more sign rest instr no_end whole is ends) h = record { behind = tt; same = λ reading. count_of reading.done reading.last (with_instr instr) }
 
-same_number : {end : Line} {place : Where} {tokens : List Token} {items : List Item} → AreItems end place tokens items → IsBehind place → (blocks : List RawBlock) → length (with_items blocks items) ≡ length blocks
-same_number (none_more is) h blocks = refl
-same_number (one_more first rest {item = item} (form is) are) h blocks =
-    let k = keeps is h in same_number are k.behind (with_item blocks item) ∙ k.same blocks
+same_number : {end : Line} {place : Where} {tokens : List Token} {items : List Item} → AreItems end place tokens items → IsBehind place → (reading : Reading) → count (with_items reading items) ≡ count reading
+same_number (none_more is) h reading = refl
+same_number (one_more first rest {item = item} (form is) are) h reading =
+    let k = keeps is h in same_number are k.behind (with_item reading item) ∙ k.same reading
 
 record Begins (item : Item) (next : Where) : Type 0 where
   behind : IsBehind next
-  one : length (with_item [] item) ≡ 1
+  one : count (with_item nothing_read item) ≡ 1
 
 begins : {next : Where} {tokens : List Token} {item : Item} {size : ℕ} → IsForm Start tokens item size next → Begins item next
 begins (heading first rest word named) = record { behind = tt; one = refl }
 
-one_at_most : {end : Line} {tokens : List Token} {items : List Item} → AreItems end Start tokens items → length (with_items [] items) ≤ 1
+one_at_most : {end : Line} {tokens : List Token} {items : List Item} → AreItems end Start tokens items → count (with_items nothing_read items) ≤ 1
 one_at_most (none_more is) = omega arith
 one_at_most (one_more first rest {item = item} (form is) are) =
-    let b = begins is in let same = same_number are b.behind (with_item [] item) in omega (arith, same, b.one)
+    let b = begins is in let same = same_number are b.behind (with_item nothing_read item) in omega (arith, same, b.one)
 
 distinct_by : (o : Option Block) → AreDistinct (cons_option o [])
 distinct_by None = tt
@@ -174,15 +179,12 @@ program_accepted end tokens program text =
     } in
     subst IsAccepted text.program_is made
 
--- the program of some tokens keeps the rules
-pub tokens_accepted : (end : Line) (tokens : List Token) (program : Program) → judged_tokens end (Ok tokens) ≡ Ok program → IsAccepted program
-tokens_accepted end tokens program e = program_accepted end tokens program (agree.sound end tokens program e)
-
-by_tokens : (end : Line) (cut : Result (List Token) Rejection) (program : Program) → judged_tokens end cut ≡ Ok program → IsAccepted program
-by_tokens end (Ok tokens) program e = tokens_accepted end tokens program e
+-- the program of a raw program that is read keeps the rules
+by_tokens : (end : Line) (cut : Result (List Token) Rejection) (program : Program) → judged_by (raw_by_tokens end cut) ≡ Ok program → IsAccepted program
+by_tokens end (Ok tokens) program e = program_accepted end tokens program (agree.sound end tokens program e)
 by_tokens end (Err refused) program e = absurd cc
 
 -- and so does that of a text
 pub verdict_accepted : VerdictIsAccepted
-unfolding verdict
+unfolding verdict raw_text
 verdict_accepted bytes program e = by_tokens (line_at_end bytes) (tokens_of bytes) program e

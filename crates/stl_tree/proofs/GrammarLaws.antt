@@ -13,7 +13,7 @@ use Rattle.stl_tree.specs.Items.{item_at, prepend_item, with_found, items_from, 
 use Rattle.stl_tree.specs.Programs.{program_of}
 use Rattle.stl_tree.specs.RawPrograms.{raw_of}
 use Rattle.stl_tree.specs.Stages.{stages, or_later, first_broken}
-use Rattle.stl_tree.specs.Verdict.{raw_by, raw_program, answered, judged, judged_by, judged_tokens}
+use Rattle.stl_tree.specs.Verdict.{raw_by, raw_program, answered, judged, judged_by}
 use Rattle.stl_tree.specs.declared.item.Found.{Found}
 use Rattle.stl_tree.specs.declared.item.Found.TheVariants.{Fits, Misfit, Ended}
 use Rattle.stl_tree.specs.declared.item.Item.{Item}
@@ -143,11 +143,11 @@ text_of end tokens program (Ok items) found e =
     }
 text_of end tokens program (Err refused) found e = absurd cc
 
-sound : (end : Line) (tokens : List Token) (program : Program) → judged_tokens end (Ok tokens) ≡ Ok program → IsText end tokens program
+sound : (end : Line) (tokens : List Token) (program : Program) → judged_by (raw_program end tokens) ≡ Ok program → IsText end tokens program
 unfolding raw_program
 sound end tokens program e = text_of end tokens program (items_of end tokens) refl e
 
-complete : (end : Line) (tokens : List Token) (program : Program) → IsText end tokens program → judged_tokens end (Ok tokens) ≡ Ok program
+complete : (end : Line) (tokens : List Token) (program : Program) → IsText end tokens program → judged_by (raw_program end tokens) ≡ Ok program
 unfolding raw_program judged
 complete end tokens program text =
     ap (λ (r : Result (List Item) Rejection). judged_by (raw_by r)) (complete_items text.are)

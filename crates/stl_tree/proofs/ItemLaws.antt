@@ -158,7 +158,7 @@ form_is end place next tokens item size is =
 
 -- headings
 
-start_with : (end : Line) (first : Token) (rest : List Token) → heading_at Start first rest ≡ Misfit first.line (misfit_reason Start (first ∷ rest)) → Is end Start (first ∷ rest) (item_at end Start (first ∷ rest))
+start_with : (end : Line) (first : Token) (rest : List Token) → heading_at Start (first ∷ rest) first rest ≡ Misfit first.line (misfit_reason Start (first ∷ rest)) → Is end Start (first ∷ rest) (item_at end Start (first ∷ rest))
 unfolding item_at
 start_with end first rest e = misfit_is end Start first rest refl e
 

@@ -12,7 +12,9 @@ use Rattle.s7_base.specs.declared.word.Width.TheVariants as width
 use Rattle.stl_tree.specs.Accepted.{HasOperand, IsBlockNumber, IsOperand}
 use Rattle.stl_tree.specs.Mnemonics.{mnemonic_named}
 use Rattle.stl_tree.specs.Programs.{alone, on_bit, with_number, unchecked, checked, op_with, op_by, op_of, instr_of, block_name}
-use Rattle.stl_tree.specs.Raw.{Given, nothing, bit, number, other, given_in, given}
+use Rattle.stl_tree.specs.Raw.{given_in, given}
+use Rattle.stl_tree.specs.declared.given.Given.{Given}
+use Rattle.stl_tree.specs.declared.given.Given.TheVariants as behind
 use Rattle.stl_tree.specs.Statements.{is_bit_in_area}
 use Rattle.stl_tree.specs.declared.mnemonic.Mnemonic.{Mnemonic}
 use Rattle.stl_tree.specs.declared.mnemonic.Mnemonic.TheVariants as is
@@ -36,10 +38,10 @@ use Rattle.stl_tree.specs.declared.raw.RawPlace.{RawPlace}
 -- Operands
 
 abbrev IsGiven : Given → Type 0
-IsGiven (bit o) = IsOperand width.Bit o
+IsGiven (behind.Bit o) = IsOperand width.Bit o
 IsGiven more = Unit {0}
 
-tested : (place : RawPlace) (b : Bool) → is_bit_in_area place ≡ b → IsGiven (if b then bit (Direct place.area place.byte place.bit) else other)
+tested : (place : RawPlace) (b : Bool) → is_bit_in_area place ≡ b → IsGiven (if b then behind.Bit (Direct place.area place.byte place.bit) else behind.Other)
 tested place true e = let p = and_parts (is_byte_in place.area width.Bit place.byte) (nat_le place.bit 7) e in (p.0, le-ltb 7 place.bit (leb-true place.bit 7 p.1))
 tested place false e = tt
 
@@ -57,15 +59,15 @@ abbrev MayBe : Option Op → Type 0
 MayBe o = IfSome o HasOperand
 
 alone_is : (o : Op) → HasOperand o → (g : Given) → MayBe (alone o g)
-alone_is o h nothing = h
+alone_is o h behind.Nothing = h
 alone_is o h more = tt
 
 on_bit_is : (o : Operand → Op) → ((x : Operand) → IsOperand width.Bit x → HasOperand (o x)) → (g : Given) → IsGiven g → MayBe (on_bit o g)
-on_bit_is o h (bit x) k = h x k
+on_bit_is o h (behind.Bit x) k = h x k
 on_bit_is o h more k = tt
 
 with_number_is : (o : Op) → HasOperand o → (g : Given) → MayBe (with_number o g)
-with_number_is o h number = h
+with_number_is o h behind.Number = h
 with_number_is o h more = tt
 
 unchecked_is : (c : Check) → MayBe (unchecked c)
@@ -73,8 +75,8 @@ unchecked_is check.O = tt
 unchecked_is more = tt
 
 checked_is : (c : Check) (g : Given) → IsGiven g → MayBe (checked c g)
-checked_is c nothing h = unchecked_is c
-checked_is c (bit x) h = h
+checked_is c behind.Nothing h = unchecked_is c
+checked_is c (behind.Bit x) h = h
 checked_is c more h = tt
 
 with_is : (what : Mnemonic) (g : Given) → IsGiven g → MayBe (op_with what g)

@@ -12,7 +12,7 @@ use Rattle.stl_tree.specs.Programs.{program_of}
 use Rattle.stl_tree.specs.RawPrograms.{raw_of}
 use Rattle.stl_tree.specs.Stages.{stages}
 use Rattle.stl_tree.specs.Statements.{instruction_of}
-use Rattle.stl_tree.specs.Verdict.{judged_tokens}
+use Rattle.stl_tree.specs.Verdict.{judged_by, raw_program}
 use Rattle.stl_tree.specs.Words.{is_word, is_word_kind}
 use Rattle.stl_tree.specs.declared.item.Found.{Found}
 use Rattle.stl_tree.specs.declared.item.Found.TheVariants.{Fits, Misfit, Ended}
@@ -105,7 +105,7 @@ pub record IsText (end : Line) (tokens : List Token) (program : Program) : Type 
 
 -- what the verdict accepts are the texts of the grammar, each as its program
 pub record AcceptsTheGrammar : Type 0 where
-  pub sound : (end : Line) (tokens : List Token) (program : Program) → judged_tokens end (Ok tokens) ≡ Ok program
+  pub sound : (end : Line) (tokens : List Token) (program : Program) → judged_by (raw_program end tokens) ≡ Ok program
       → IsText end tokens program
   pub complete : (end : Line) (tokens : List Token) (program : Program) → IsText end tokens program
-      → judged_tokens end (Ok tokens) ≡ Ok program
+      → judged_by (raw_program end tokens) ≡ Ok program

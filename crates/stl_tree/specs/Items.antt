@@ -163,19 +163,19 @@ heading_named place tokens line (name ∷ rest) =
     then heading_with place tokens line 2 (number_behind rest)
     else heading_with place tokens line 1 (number_within name)
 
--- what stands where a heading may stand
-abbrev pub heading_at : Where → Token → List Token → Found
-heading_at place first rest =
+-- what stands where a heading may stand, given the tokens from there, the first of them and the rest
+abbrev pub heading_at : Where → List Token → Token → List Token → Found
+heading_at place tokens first rest =
     if is_word (codes "ORGANIZATION_BLOCK") first
-    then heading_named place (first ∷ rest) first.line rest
-    else Misfit first.line (misfit_reason place (first ∷ rest))
+    then heading_named place tokens first.line rest
+    else Misfit first.line (misfit_reason place tokens)
 
 -- what stands behind a heading
-abbrev pub begin_at : BlockKind → Token → List Token → Found
-begin_at kind first rest =
+abbrev pub begin_at : BlockKind → List Token → Token → Found
+begin_at kind tokens first =
     if is_word (codes "BEGIN") first
     then Fits Begins 0 (Body kind)
-    else Misfit first.line (misfit_reason (Heading kind) (first ∷ rest))
+    else Misfit first.line (misfit_reason (Heading kind) tokens)
 
 -- a complete statement on a line, by what it is read as, with its `;` behind so many tokens
 abbrev pub statement_found : Where → List Token → Line → Result RawInstr Rejection → Found
@@ -191,11 +191,11 @@ statement_from place line tokens =
     else Misfit line (misfit_reason place tokens)
 
 -- what stands in a body
-abbrev pub body_at : BlockKind → Token → List Token → Found
-body_at kind first rest =
+abbrev pub body_at : BlockKind → List Token → Token → Found
+body_at kind tokens first =
     if is_semicolon first then Fits Empty 0 (Body kind)
     else if is_end kind first then Fits (Ends first.line) 0 Between
-    else statement_from (Body kind) first.line (first ∷ rest)
+    else statement_from (Body kind) first.line tokens
 
 -- The items of a text
 
@@ -206,17 +206,18 @@ at_end end Between = Ended
 at_end end (Heading kind) = Misfit end BadStatement
 at_end end (Body kind) = Misfit end BadStatement
 
--- what stands at a place, given the token there and those behind it. A second block is not built yet.
-abbrev pub at_token : Where → Token → List Token → Found
-at_token Start first rest = heading_at Start first rest
-at_token Between first rest = Misfit first.line (misfit_reason Between (first ∷ rest))
-at_token (Heading kind) first rest = begin_at kind first rest
-at_token (Body kind) first rest = body_at kind first rest
+-- what stands at a place, given the tokens from there, the first of them and the rest. A second block is not
+-- built yet.
+abbrev pub at_token : Where → List Token → Token → List Token → Found
+at_token Start tokens first rest = heading_at Start tokens first rest
+at_token Between tokens first rest = Misfit first.line (misfit_reason Between tokens)
+at_token (Heading kind) tokens first rest = begin_at kind tokens first
+at_token (Body kind) tokens first rest = body_at kind tokens first
 
 -- what stands at a place of a text that ends on a line, given the tokens from there
 unfoldable pub item_at : Line → Where → List Token → Found
 item_at end place [] = at_end end place
-item_at end place (first ∷ rest) = at_token place first rest
+item_at end place (first ∷ rest) = at_token place (first ∷ rest) first rest
 
 -- an item before others
 abbrev pub prepend_item : Item → Result (List Item) Rejection → Result (List Item) Rejection

@@ -7,7 +7,9 @@ use Rattle.memory_areas.specs.declared.call.BlockName.TheVariants.{Ob}
 use Rattle.s7_base.specs.declared.check.Check.{Check}
 use Rattle.s7_base.specs.declared.check.Check.TheVariants as check
 use Rattle.stl_tree.specs.Mnemonics.{mnemonic_named}
-use Rattle.stl_tree.specs.Raw.{Given, nothing, bit, flag, number, other, given}
+use Rattle.stl_tree.specs.Raw.{given}
+use Rattle.stl_tree.specs.declared.given.Given.{Given}
+use Rattle.stl_tree.specs.declared.given.Given.TheVariants as behind
 use Rattle.stl_tree.specs.declared.mnemonic.Mnemonic.{Mnemonic}
 use Rattle.stl_tree.specs.declared.mnemonic.Mnemonic.TheVariants as is
 use Rattle.stl_tree.specs.declared.program.BitArg.TheVariants as arg
@@ -30,17 +32,17 @@ use Rattle.stl_tree.specs.declared.raw.RawProgram.{RawProgram}
 
 -- an instruction that takes no operand
 abbrev pub alone : Op → Given → Option Op
-alone o nothing = Some o
+alone o behind.Nothing = Some o
 alone o more = None
 
 -- an instruction on a bit
 abbrev pub on_bit : (Operand → Op) → Given → Option Op
-on_bit o (bit operand) = Some (o operand)
+on_bit o (behind.Bit operand) = Some (o operand)
 on_bit o more = None
 
 -- an instruction with a number that says nothing
 abbrev pub with_number : Op → Given → Option Op
-with_number o number = Some o
+with_number o behind.Number = Some o
 with_number o more = None
 
 -- a check without an operand: `O` alone
@@ -50,11 +52,11 @@ unchecked another = None
 
 -- a check
 abbrev pub checked : Check → Given → Option Op
-checked c nothing = unchecked c
-checked c (bit operand) = Some (op.Check c (arg.At operand))
-checked c (flag test) = Some (op.Check c (arg.Flag test))
-checked c number = None
-checked c other = None
+checked c behind.Nothing = unchecked c
+checked c (behind.Bit operand) = Some (op.Check c (arg.At operand))
+checked c (behind.Flag test) = Some (op.Check c (arg.Flag test))
+checked c behind.Number = None
+checked c behind.Other = None
 
 -- an instruction by what its mnemonic is, and what stands behind it
 abbrev pub op_with : Mnemonic → Given → Option Op

@@ -1,8 +1,10 @@
 -- The raw program that the items of a text make.
-use Rattle.std.specs.Prelude.{List, [], ◌∷◌, ◌++◌, None}
+use Rattle.std.specs.Prelude.{List, [], ◌∷◌, ◌++◌, Some, None, option_map}
+use Rattle.std.specs.Option.{option_to_list}
 use Rattle.s7_base.specs.declared.reason.Line.{Line}
 use Rattle.stl_tree.specs.declared.item.Item.{Item}
 use Rattle.stl_tree.specs.declared.item.Item.TheVariants.{Opens, Begins, Instr, Empty, Ends}
+use Rattle.stl_tree.specs.declared.item.Reading.{Reading}
 use Rattle.stl_tree.specs.declared.raw.BlockKind.{BlockKind}
 use Rattle.stl_tree.specs.declared.raw.RawBlock.{RawBlock}
 use Rattle.stl_tree.specs.declared.raw.RawInstr.{RawInstr}
@@ -26,6 +28,10 @@ headed line kind name =
       end_line = line;
     }
 
+-- the blocks of a text as far as it is read
+abbrev pub blocks_in : Reading → List RawBlock
+blocks_in reading = reading.done ++ option_to_list reading.last
+
 -- a block with one more instruction
 abbrev pub with_instr : RawInstr → RawBlock → RawBlock
 with_instr instr block = record block { body = block.body ++ (instr ∷ []) }
@@ -34,29 +40,31 @@ with_instr instr block = record block { body = block.body ++ (instr ∷ []) }
 abbrev pub with_end : Line → RawBlock → RawBlock
 with_end line block = record block { end_line = line }
 
--- blocks whose last one is changed
-abbrev pub in_last : (RawBlock → RawBlock) → List RawBlock → List RawBlock
-in_last change [] = []
-in_last change (block ∷ []) = change block ∷ []
-in_last change (block ∷ next ∷ rest) = block ∷ in_last change (next ∷ rest)
+-- nothing is read yet
+abbrev pub nothing_read : Reading
+nothing_read = record { done = []; last = None }
 
--- the blocks of a text so far, and one item more
-abbrev pub with_item : List RawBlock → Item → List RawBlock
-with_item blocks (Opens line kind name) = blocks ++ (headed line kind name ∷ [])
-with_item blocks Begins = blocks
-with_item blocks (Instr instr) = in_last (with_instr instr) blocks
-with_item blocks Empty = blocks
-with_item blocks (Ends line) = in_last (with_end line) blocks
+-- the text so far, and one item more
+abbrev pub with_item : Reading → Item → Reading
+with_item reading (Opens line kind name) = record { done = blocks_in reading; last = Some (headed line kind name) }
+with_item reading Begins = reading
+with_item reading (Instr instr) = record reading { last = option_map (with_instr instr) reading.last }
+with_item reading Empty = reading
+with_item reading (Ends line) = record reading { last = option_map (with_end line) reading.last }
 
--- the blocks of a text so far, and some items more
-abbrev pub with_items : List RawBlock → List Item → List RawBlock
-with_items blocks [] = blocks
-with_items blocks (item ∷ items) = with_items (with_item blocks item) items
+-- the text so far, and some items more
+abbrev pub with_items : Reading → List Item → Reading
+with_items reading [] = reading
+with_items reading (item ∷ items) = with_items (with_item reading item) items
 
 -- the raw program of these blocks alone
 abbrev pub raw_with : List RawBlock → RawProgram
 raw_with blocks = record { symbols = []; dbs = []; blocks = blocks }
 
+-- the raw program of the text so far, and of the items behind it
+abbrev pub raw_behind : Reading → List Item → RawProgram
+raw_behind reading items = raw_with (blocks_in (with_items reading items))
+
 -- the raw program that items make
 abbrev pub raw_of : List Item → RawProgram
-raw_of items = raw_with (with_items [] items)
+raw_of items = raw_behind nothing_read items

@@ -24,6 +24,15 @@ raw_by (Err refused) = Err refused
 unfoldable pub raw_program : Line → List Token → Result RawProgram Rejection
 raw_program end tokens = raw_by (items_of end tokens)
 
+-- the raw program of a text whose tokens are cut; a bad token is the first broken rule, wherever it stands
+abbrev pub raw_by_tokens : Line → Result (List Token) Rejection → Result RawProgram Rejection
+raw_by_tokens end (Ok tokens) = raw_program end tokens
+raw_by_tokens end (Err refused) = Err refused
+
+-- the raw program of a text, or the first token or item that does not fit
+unfoldable pub raw_text : List ℕ → Result RawProgram Rejection
+raw_text bytes = raw_by_tokens (line_at_end bytes) (tokens_of bytes)
+
 -- what is answered where a rule is broken, and where none is
 abbrev pub answered : RawProgram → Option Break → Result Program Rejection
 answered raw None = Ok (program_of raw)
@@ -38,12 +47,6 @@ abbrev pub judged_by : Result RawProgram Rejection → Result Program Rejection
 judged_by (Ok raw) = judged raw
 judged_by (Err refused) = Err refused
 
--- the program of the tokens of a text that ends on a line; a bad token is the first broken rule, wherever
--- it stands
-abbrev pub judged_tokens : Line → Result (List Token) Rejection → Result Program Rejection
-judged_tokens end (Ok tokens) = judged_by (raw_program end tokens)
-judged_tokens end (Err refused) = Err refused
-
 -- the program of a text, or its first broken rule
 unfoldable pub verdict : List ℕ → Result Program Rejection
-verdict bytes = judged_tokens (line_at_end bytes) (tokens_of bytes)
+verdict bytes = judged_by (raw_text bytes)

@@ -1,7 +1,7 @@
 //! Items of a source text, and where they stand.
 
-use crate::raw::{BlockKind, RawInstr, RawName};
-use s7_base::{Line, Reason};
+use crate::raw::{BlockKind, RawBlock, RawInstr, RawName};
+use s7_base::{Line, List, Reason};
 
 /// Where an item stands. Sections, and the values of data blocks, are further places.
 #[derive(Clone, Copy, Debug, PartialEq, Eq)]
@@ -48,4 +48,12 @@ pub enum Found {
 
     /// The end of the text, which may end here.
     Ended,
+}
+
+/// The blocks of a text as far as it is read: those before the last one, and the last one, whose end word may
+/// still come.
+#[derive(Drop)]
+pub struct Reading {
+    pub done: List<RawBlock>,
+    pub last: Option<RawBlock>,
 }

@@ -7,7 +7,8 @@
 //! name, the instruction table and the run, whose laws `run_laws` proves.
 #![tactic(auto)]
 
-pub use item::{Found, Item, Where};
+pub use given::Given;
+pub use item::{Found, Item, Reading, Where};
 pub use memory_areas::{BlockName, Call};
 pub use mnemonic::{Mnemonic, Read, Shape};
 pub use number::number_of;
@@ -22,7 +23,7 @@ pub use raw::{
 pub use run_laws::{end_stays, steps_add};
 pub use source_laws::{items_have_forms, verdict_accepts_the_grammar, verdict_is_accepted};
 
-
+mod given;
 mod item;
 mod mnemonic;
 mod number;

@@ -1,0 +1,24 @@
+-- What is accepted keeps the rules.
+use Rattle.std.proofs.Common.{◌≡◌, ℕ, List, Result, Ok, Err, sym, subst}
+use Rattle.std.specs.Prelude.{IfOk}
+use Rattle.s7_base.specs.Answers.{Answers}
+use Rattle.s7_base.specs.declared.reason.Rejection.{Rejection}
+use Rattle.s7_base.specs.declared.reason.Rejection.TheVariants.{Refused, NoMemory}
+use Rattle.stl_tree.proofs.AcceptedLaws.{verdict_accepted}
+use Rattle.stl_tree.specs.Accepted.{IsAccepted}
+use Rattle.stl_tree.specs.Verdict.{judged, judged_by, raw_text, verdict}
+use Rattle.stl_tree.specs.declared.program.Program.{Program}
+use Rattle.stl_tree.specs.declared.raw.RawProgram.{RawProgram}
+
+answers_verdict : (bytes : List ℕ) (raw : RawProgram) (answer : Result Program Rejection) → raw_text bytes ≡ Ok raw → Answers answer (judged raw) → Answers answer (verdict bytes)
+unfolding verdict
+answers_verdict bytes raw answer e h = let P : Result RawProgram Rejection → Type 0 = λ r. Answers answer (judged_by r) in subst P (sym e) h
+
+answer_accepted : (bytes : List ℕ) (answer : Result Program Rejection) → Answers answer (verdict bytes) → IfOk answer IsAccepted
+answer_accepted bytes (Ok program) e = verdict_accepted bytes program e
+answer_accepted bytes (Err (Refused line reason)) e = tt
+answer_accepted bytes (Err NoMemory) e = tt
+
+-- the program of a text that is read
+pub accepts : (bytes : List ℕ) (raw : RawProgram) (answer : Result Program Rejection) → raw_text bytes ≡ Ok raw → Answers answer (judged raw) → IfOk answer IsAccepted
+accepts bytes raw answer e h = answer_accepted bytes answer (answers_verdict bytes raw answer e h)

@@ -1,0 +1,34 @@
+-- Operands that no instruction takes, and brackets by numbers.
+use Rattle.std.proofs.Common.{◌≡◌, ◌≢◌, ℕ, zero, suc, ◌-◌, [], None, refl}
+use native.Mathlib.Numerals.{unary_clauses}
+use Rattle.s7_base.specs.Broken.{broken}
+use Rattle.s7_base.specs.declared.reason.Line.{Line}
+use Rattle.s7_base.specs.declared.reason.Reason.TheVariants.{BracketMissing, BracketOpen}
+use Rattle.stl_tree.specs.Programs.{op_with}
+use Rattle.stl_tree.specs.Stages.{brackets_at, open_then}
+use Rattle.stl_tree.specs.declared.given.Given.TheVariants as behind
+use Rattle.stl_tree.specs.declared.mnemonic.Mnemonic.{Mnemonic}
+use Rattle.stl_tree.specs.declared.mnemonic.Mnemonic.TheVariants as is
+use Rattle.stl_tree.specs.declared.program.Op.TheVariants as op
+
+pub none_with_other : (what : Mnemonic) → op_with what behind.Other ≡ None
+none_with_other (is.Check c) = refl
+none_with_other what = refl
+
+pub close_missing : (line : Line) → brackets_at line op.Close 0 ≡ broken line BracketMissing
+close_missing line = refl
+
+pub close_there : (line : Line) (n : ℕ) → n ≢ 0 → brackets_at line op.Close n ≡ []
+close_there line zero h = absurd (h refl)
+close_there line (suc n) h = refl
+
+pub end_closed : (line : Line) → brackets_at line op.BlockEnd 0 ≡ []
+end_closed line = refl
+
+pub end_open : (line : Line) (n : ℕ) → n ≢ 0 → brackets_at line op.BlockEnd n ≡ broken line BracketOpen
+end_open line zero h = absurd (h refl)
+end_open line (suc n) h = refl
+
+pub close_then : (n : ℕ) → open_then op.Close n ≡ n - 1
+close_then zero = refl
+close_then (suc n) = simp unary_clauses refl

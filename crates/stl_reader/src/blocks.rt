@@ -1,0 +1,136 @@
+//! The blocks of a text.
+ghost use Rattle.std.specs.Prelude.{◌≡◌, ◌++◌, length, IfOk, OnOk};
+ghost use Rattle.s7_base.specs.Answers.{Answers};
+ghost use Rattle.s7_base.specs.Tokens.{line_at_end};
+ghost use Rattle.stl_tree.specs.Items.{items_from};
+ghost use Rattle.stl_tree.specs.RawPrograms.{blocks_in, headed, nothing_read, raw_with, with_item};
+ghost use Rattle.stl_tree.specs.Verdict.{raw_program, raw_text};
+ghost use Rattle.stl_tree.specs.declared.item.Item.TheVariants as item;
+
+use crate::item::item_at;
+use s7_base::{Line, List, NoMemory, Rejection, Token, rest_after};
+use std::alloc::Global;
+use std::mem::replace;
+use stl_lexer::tokens;
+use stl_tree::{BlockKind, Found, Item, RawBlock, RawInstr, RawName, RawProgram, Reading, Where};
+
+/// A block of which the heading alone is known.
+fn headed(alloc: Global, line: Line, kind: BlockKind, name: RawName) -> RawBlock
+    ensures { result ≡ headed line kind name }
+{
+    RawBlock {
+        kind,
+        name,
+        line,
+        result: None,
+        inputs: List::new(alloc),
+        outputs: List::new(alloc),
+        in_outs: List::new(alloc),
+        statics: List::new(alloc),
+        temps: List::new(alloc),
+        body: List::new(alloc),
+        end_line: line,
+    }
+}
+
+/// One more block.
+fn put_block(reading: &mut Reading, block: RawBlock) -> Result<(), NoMemory>
+    ensures done { OnOk result (reading.new.done ≡ blocks_in reading.old) }
+    ensures last { OnOk result (reading.new.last ≡ Some block) }
+{
+    if let Some(before) = replace(&mut reading.last, Some(block)) {
+        reading.done.push(before)?;
+    }
+    Ok(())
+}
+
+/// One more instruction of the last block.
+fn put_instr(reading: &mut Reading, instr: RawInstr) -> Result<(), NoMemory>
+    ensures { OnOk result (reading.new ≡ with_item reading.old (item.Instr instr)) }
+{
+    match &mut reading.last {
+        Some(block) => block.body.push(instr),
+        None => Ok(()),
+    }
+}
+
+/// The end word of the last block.
+fn put_end(reading: &mut Reading, line: Line)
+    ensures { reading.new ≡ with_item reading.old (item.Ends line) }
+{
+    if let Some(block) = &mut reading.last {
+        block.end_line = line;
+    }
+}
+
+/// The text so far, and one item more.
+fn put_item(alloc: Global, reading: &mut Reading, item: Item) -> Result<(), NoMemory>
+    ensures { OnOk result (reading.new ≡ with_item reading.old item) }
+{
+    match item {
+        Item::Opens(line, kind, name) => put_block(reading, headed(alloc, line, kind, name)),
+        Item::Instr(instr) => put_instr(reading, instr),
+        Item::Ends(line) => {
+            put_end(reading, line);
+            Ok(())
+        }
+        Item::Begins | Item::Empty => Ok(()),
+    }
+}
+
+/// The raw program of a text that is read.
+fn finish(alloc: Global, reading: Reading) -> Result<RawProgram, NoMemory>
+    ensures { IfOk result (λ raw. raw ≡ raw_with (blocks_in reading)) }
+{
+    let Reading { done, last } = reading;
+    let mut blocks = done;
+    if let Some(block) = last {
+        blocks.push(block)?;
+    }
+    Ok(RawProgram {
+        symbols: List::new(alloc),
+        dbs: List::new(alloc),
+        blocks,
+    })
+}
+
+/// The raw program of the tokens of a text that ends on a line.
+#[tactic(auto, unfolding(stl_tree::specs::Verdict::raw_program))]
+fn read_tokens(alloc: Global, tokens: &[Token], end: Line) -> Result<RawProgram, Rejection>
+    ensures { Answers result (raw_program end tokens.now) }
+{
+    let mut reading = Reading {
+        done: List::new(alloc),
+        last: None,
+    };
+    let mut place = Where::Start;
+    let mut rest = tokens;
+    loop {
+        match item_at(alloc, end, place, rest)? {
+            Found::Fits(item, size, next) => {
+                put_item(alloc, &mut reading, item)?;
+                place = next;
+                rest = rest_after(rest_after(rest, 1), size);
+            }
+            Found::Misfit(line, reason) => return Err(Rejection::Refused(line, reason)),
+            Found::Ended => return Ok(finish(alloc, reading)?),
+        }
+    }
+}
+
+/// The line at the end of a text: one more than its ends of lines.
+fn line_at_end(bytes: &[u8]) -> Line
+    ensures { result ≡ line_at_end bytes.now }
+{
+    let ends = bytes.iter().filter(|b| **b == b'\n').count();
+    Line(ends.saturating_add(1).min(u32::MAX as usize) as u32)
+}
+
+/// The raw program of a text, or the first token or item that does not fit.
+#[tactic(auto, unfolding(stl_tree::specs::Verdict::raw_text))]
+pub fn read_blocks(alloc: Global, bytes: &[u8]) -> Result<RawProgram, Rejection>
+    ensures { Answers result (raw_text bytes.now) }
+{
+    let tokens = tokens(alloc, bytes)?;
+    read_tokens(alloc, tokens.as_slice(), line_at_end(bytes))
+}
