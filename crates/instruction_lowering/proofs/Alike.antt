@@ -1,17 +1,18 @@
 -- Related states: what every register variable and the memory hold, on both sides.
-use Rattle.std.proofs.Common.{◌≡◌, ℕ, ◌+◌, ◌-◌, ◌^◌, ◌<◌, pos, false, List, [], ◌∷◌, length, refl, sym, ap, ◌∙◌, arith}
+use Rattle.std.proofs.Common.{◌≡◌, ℕ, ◌+◌, ◌-◌, ◌^◌, ◌<◌, pos, List, [], ◌∷◌, length, refl, sym, ap, ◌∙◌, arith}
 use Rattle.std.specs.Prelude.{ℤ}
 use Rattle.memory_areas.specs.Areas.{Contents}
 use Rattle.memory_areas.specs.Access.{area_named}
 use Rattle.memory_areas.specs.declared.place.AreaName.{AreaName}
 use Rattle.memory_areas.specs.declared.place.Place.{Place}
 use Rattle.status_word.specs.StatusBits.{StatusBits}
+use Rattle.s7_base.specs.declared.check.Entry.{Entry}
 use Rattle.s7_base.specs.declared.register.Reg.{Reg}
 use Rattle.s7_base.specs.declared.register.Reg.TheVariants as reg
 use Rattle.stl_tree.specs.Now.{Activation, Now, depth}
 use Rattle.stl_tree.specs.Registers.{RegisterValues}
 use Rattle.stl_tree.specs.StlRun.{going_on}
-use Rattle.st_tree.specs.State.{State, db_number, di_number, depth as depth_of_state, place_of}
+use Rattle.st_tree.specs.State.{Activation as StActivation, State, db_number, di_number, depth as depth_of_state, place_of}
 use Rattle.st_tree.specs.Values.{number_of, pattern}
 
 -- Registers
@@ -55,7 +56,7 @@ AreAlike asked r registers = (q : Reg) → asked q → registers q ≡ number_in
 
 -- a state of a program and one of its graphs, while these activations run and wait: the register variables that are
 -- asked for have their numbers, the memory is the same, as many units run, and the numbers of data blocks have 16
--- bits; no instruction sets OR yet
+-- bits
 pub record AreRelated (asked : Reg → Type 0) (acts : List Activation) (now : Now) (s : State) : Type 0 where
   pub registers : AreAlike asked now.registers s.registers
   pub memory : s.memory ≡ now.memory
@@ -63,7 +64,6 @@ pub record AreRelated (asked : Reg → Type 0) (acts : List Activation) (now : N
   pub depth : length s.activations ≡ length acts
   pub db : now.registers.db < 2 ^ 16
   pub di : now.registers.di < 2 ^ 16
-  pub orb : now.registers.status.orb ≡ false
 
 -- inside a block
 abbrev pub Related : List Activation → Now → State → Type 0
@@ -77,21 +77,31 @@ HandedOn acts now s = AreRelated IsHandedOn acts now s
 
 module _ (asked : Reg → Type 0) (acts : List Activation) (now : Now) (s : State) (related : AreRelated asked acts now s) where
   -- other status bits, and register variables that have their numbers
-  pub keep_bits : (asking : Reg → Type 0) (bits : StatusBits) (registers : Reg → ℤ) → bits.orb ≡ false
+  pub keep_bits : (asking : Reg → Type 0) (bits : StatusBits) (registers : Reg → ℤ)
       → AreAlike asking (record now.registers { status = bits }) registers
       → AreRelated asking acts (record now { registers = record now.registers { status = bits } }) (record s { registers = registers })
-  keep_bits asking bits registers clear alike =
-      record { registers = alike; memory = related.memory; activations = related.activations; depth = related.depth; db = related.db; di = related.di; orb = clear }
+  keep_bits asking bits registers alike =
+      record { registers = alike; memory = related.memory; activations = related.activations; depth = related.depth; db = related.db; di = related.di }
 
   pub keep_memory : (m : Contents) → AreRelated asked acts (record now { memory = m }) (record s { memory = m })
   keep_memory m =
-      record { registers = related.registers; memory = refl; activations = related.activations; depth = related.depth; db = related.db; di = related.di; orb = related.orb }
+      record { registers = related.registers; memory = refl; activations = related.activations; depth = related.depth; db = related.db; di = related.di }
+
+  -- other open brackets, of which the related state says nothing
+  pub keep_brackets : (entries : List Entry) → AreRelated asked acts (record now { brackets = entries }) s
+  keep_brackets entries =
+      record { registers = related.registers; memory = related.memory; activations = related.activations; depth = related.depth; db = related.db; di = related.di }
+
+  -- other locals
+  pub keep_activations : (running : List StActivation) → length running ≡ length s.activations → AreRelated asked acts now (record s { activations = running })
+  keep_activations running e =
+      record { registers = related.registers; memory = related.memory; activations = related.activations; depth = e ∙ related.depth; db = related.db; di = related.di }
 
 -- the running activation goes on behind its instruction
 pub keep_position : (asked : Reg → Type 0) (a : Activation) (waiting : List Activation) (now : Now) (s : State) → AreRelated asked (a ∷ waiting) now s
     → AreRelated asked (record a { at = a.at + 1 } ∷ waiting) (record now { activations = going_on now.activations }) s
 keep_position asked a waiting now s related =
-    record { registers = related.registers; memory = related.memory; activations = ap going_on related.activations; depth = related.depth; db = related.db; di = related.di; orb = related.orb }
+    record { registers = related.registers; memory = related.memory; activations = ap going_on related.activations; depth = related.depth; db = related.db; di = related.di }
 
 -- Places
 

@@ -1,189 +1,172 @@
--- Checks of a bit, and assignments: their statements do what their rows do.
-use Rattle.std.proofs.Common.{◌≡◌, ℕ, pos, Bool, true, false, not, ◌&&◌, ◌||◌, if◌then◌else◌, List, [], ◌∷◌, Result, Ok, Err, refl, sym, ap, ◌∙◌}
-use Rattle.memory_areas.specs.Access.{and_then, read_bit, write_bit}
+-- Checks, and what is stored in a bit: their statements do what their rows do.
+use Rattle.std.proofs.Common.{◌≡◌, ℕ, pos, Bool, true, false, not, ◌&&◌, ◌||◌, List, [], Result, Ok, Err, refl, sym, ap, ◌∙◌}
+use Rattle.std.specs.Prelude.{ℤ}
+use Rattle.memory_areas.specs.Access.{read_bit, write_bit}
 use Rattle.memory_areas.specs.Areas.{Contents}
 use Rattle.memory_areas.specs.declared.place.AreaName.{AreaName}
-use Rattle.status_word.specs.StatusBits.{StatusBits, after_assign, after_check, orb_after, rlo_after}
+use Rattle.status_word.specs.StatusBits.{StatusBits, after_check, after_store, orb_after, rlo_after}
 use Rattle.s7_base.specs.declared.check.Check.{Check}
 use Rattle.s7_base.specs.declared.check.Check.TheVariants as check
 use Rattle.s7_base.specs.declared.outcome.Fault.{Fault}
+use Rattle.s7_base.specs.declared.register.Reg.{Reg}
 use Rattle.s7_base.specs.declared.register.Reg.TheVariants as reg
-use Rattle.stl_tree.specs.Now.{Activation, Now, next, with_memory, with_status, with_value}
-use Rattle.stl_tree.specs.declared.program.BitArg.TheVariants as arg
+use Rattle.stl_tree.specs.Now.{Activation, Now, fault, next, with_memory, with_status, with_value}
 use Rattle.stl_tree.specs.declared.program.Op.TheVariants as op
 use Rattle.stl_tree.specs.declared.program.Operand.TheVariants as operand
-use Rattle.st_tree.specs.Meaning.{Calls, body_meaning}
-use Rattle.st_tree.specs.Operators.{unary_value, binary_value}
-use Rattle.st_tree.specs.State.{State, read, with_register}
+use Rattle.st_tree.specs.Meaning.{Calls, Normal, body_meaning}
+use Rattle.st_tree.specs.State.{State, with_register}
 use Rattle.st_tree.specs.Value.{value}
 use Rattle.st_tree.specs.Values.{flag, number_of}
-use Rattle.st_tree.specs.declared.expr.BinaryOp.{BinaryOp}
 use Rattle.st_tree.specs.declared.expr.BinaryOp.TheVariants as binary
+use Rattle.st_tree.specs.declared.expr.Expr.{Expr}
 use Rattle.st_tree.specs.declared.expr.Expr.TheVariants as expr
-use Rattle.st_tree.specs.declared.expr.StType.TheVariants as type
-use Rattle.st_tree.specs.declared.expr.UnaryOp.TheVariants as unary
-use Rattle.st_tree.specs.declared.expr.Var.{Var}
 use Rattle.st_tree.specs.declared.expr.Var.TheVariants as var
 use Rattle.st_tree.specs.declared.program.Located.{Located}
-use Rattle.st_tree.specs.declared.state.Value.{Value}
-use Rattle.st_tree.proofs.Equations.{assign_goes_on, assign_stops_at_place, assign_stops_at_value, value_equations, value_literal}
-use Rattle.instruction_lowering.specs.inner.Templates.{bit_of, literal_of, next_rlo, read_of, set_of, statements_of}
-use Rattle.instruction_lowering.proofs.Alike.{AreAlike, IsKept, Related, keep_bits, keep_memory, place_now}
+use Rattle.st_tree.proofs.Equations.{assign_goes_on, assign_stops_at_place, assign_stops_at_value}
+use Rattle.instruction_lowering.specs.inner.Templates.{and_of, behind_check, bit_of, check_of, cleared, literal_of, next_rlo, not_of, or_of, read_of, running_chain, statements_of, store_of}
+use Rattle.instruction_lowering.proofs.Alike.{AreAlike, IsKept, Related, keep_bits, keep_memory, place_now, same_place}
+use Rattle.instruction_lowering.specs.declared.statements.Spot.{Spot}
 use Rattle.instruction_lowering.proofs.Does.{Does}
-use Rattle.instruction_lowering.proofs.Operands.{bit_read, bit_wrote, rlo_value}
+use Rattle.instruction_lowering.proofs.Temporaries.{Keeps}
+use Rattle.instruction_lowering.proofs.Operands.{bit_read, bit_wrote, chain_runs, cleared_registers, clears, rlo_worth, sets}
+use Rattle.instruction_lowering.proofs.Truths.{and_worth, checked_stops, checked_worth, left_stops, literal_worth, not_worth, or_worth}
 
--- Truth values
-
--- two values joined by an operator, and one inverted
-abbrev joined : BinaryOp → Result Value Fault → Result Value Fault → Result Value Fault
-joined op a b = and_then a (λ v. and_then b (binary_value op v))
-
-abbrev inverted : Bool → Result Value Fault
-inverted b = unary_value unary.Not (flag b)
-
-and_row : (rlo fc b : Bool) → joined binary.And (joined binary.Or (Ok (flag rlo)) (inverted fc)) (Ok (flag b)) ≡ Ok (flag (((rlo || not fc) && b) || false))
-and_row true true true = refl
-and_row true true false = refl
-and_row true false true = refl
-and_row true false false = refl
-and_row false true true = refl
-and_row false true false = refl
-and_row false false true = refl
-and_row false false false = refl
-
-and_not_row : (rlo fc b : Bool) → joined binary.And (joined binary.Or (Ok (flag rlo)) (inverted fc)) (inverted b) ≡ Ok (flag (((rlo || not fc) && not b) || false))
-and_not_row true true true = refl
-and_not_row true true false = refl
-and_not_row true false true = refl
-and_not_row true false false = refl
-and_not_row false true true = refl
-and_not_row false true false = refl
-and_not_row false false true = refl
-and_not_row false false false = refl
-
-or_row : (rlo fc b : Bool) → joined binary.Or (joined binary.And (Ok (flag rlo)) (Ok (flag fc))) (Ok (flag b)) ≡ Ok (flag (if fc then rlo || b else b))
-or_row true true true = refl
-or_row true true false = refl
-or_row true false true = refl
-or_row true false false = refl
-or_row false true true = refl
-or_row false true false = refl
-or_row false false true = refl
-or_row false false false = refl
-
-or_not_row : (rlo fc b : Bool) → joined binary.Or (joined binary.And (Ok (flag rlo)) (Ok (flag fc))) (inverted b) ≡ Ok (flag (if fc then rlo || not b else not b))
-or_not_row true true true = refl
-or_not_row true true false = refl
-or_not_row true false true = refl
-or_not_row true false false = refl
-or_not_row false true true = refl
-or_not_row false true false = refl
-or_not_row false false true = refl
-or_not_row false false false = refl
-
-exclusive_row : (rlo fc b : Bool) → joined binary.Xor (joined binary.And (Ok (flag rlo)) (Ok (flag fc))) (Ok (flag b)) ≡ Ok (flag (if fc then (if rlo then not b else b) else b))
-exclusive_row true true true = refl
-exclusive_row true true false = refl
-exclusive_row true false true = refl
-exclusive_row true false false = refl
-exclusive_row false true true = refl
-exclusive_row false true false = refl
-exclusive_row false false true = refl
-exclusive_row false false false = refl
-
-exclusive_not_row : (rlo fc b : Bool) → joined binary.Xor (joined binary.And (Ok (flag rlo)) (Ok (flag fc))) (inverted b) ≡ Ok (flag (if fc then (if rlo then b else not b) else not b))
-exclusive_not_row true true true = refl
-exclusive_not_row true true false = refl
-exclusive_not_row true false true = refl
-exclusive_not_row true false false = refl
-exclusive_not_row false true true = refl
-exclusive_not_row false true false = refl
-exclusive_not_row false false true = refl
-exclusive_not_row false false false = refl
-
--- The registers
-
--- after a check the RLO and FC have their numbers, and OR is as clear as it was
-orb_clear : (c : Check) (s : StatusBits) → s.orb ≡ false → orb_after c s ≡ false
-orb_clear check.A s e = e
-orb_clear check.An s e = e
-orb_clear check.O s e = refl
-orb_clear check.On s e = refl
-orb_clear check.X s e = refl
-orb_clear check.Xn s e = refl
-
--- Instructions
-
-module _ (g : List Located) (calls : Calls) (units : ℕ) (acts : List Activation) (now : Now) (s : State) (related : Related acts now s) where
+module _ (g : List Located) (calls : Calls) (units : ℕ) (acts : List Activation) (now : Now) (s : State) (related : Related acts now s) (total : ℕ) (p : Spot) (keeps : Keeps total p now.brackets s.activations) where
   abbrev bits : StatusBits
   bits = now.registers.status
 
-  -- the value of what the RLO becomes at a check of a bit that can be read
-  checked_value : (c : Check) (v : Var) (b : Bool) → read g v s ≡ Ok (flag b) → value g (next_rlo c (expr.Read v)) s ≡ Ok (flag (rlo_after c b bits))
-  checked_value check.A v b e = simp (value_equations, e, related.registers reg.Rlo tt, related.registers reg.Nfc tt, related.orb) (and_row bits.rlo bits.fc b)
-  checked_value check.An v b e = simp (value_equations, e, related.registers reg.Rlo tt, related.registers reg.Nfc tt, related.orb) (and_not_row bits.rlo bits.fc b)
-  checked_value check.O v b e = simp (value_equations, e, related.registers reg.Rlo tt, related.registers reg.Nfc tt) (or_row bits.rlo bits.fc b)
-  checked_value check.On v b e = simp (value_equations, e, related.registers reg.Rlo tt, related.registers reg.Nfc tt) (or_not_row bits.rlo bits.fc b)
-  checked_value check.X v b e = simp (value_equations, e, related.registers reg.Rlo tt, related.registers reg.Nfc tt) (exclusive_row bits.rlo bits.fc b)
-  checked_value check.Xn v b e = simp (value_equations, e, related.registers reg.Rlo tt, related.registers reg.Nfc tt) (exclusive_not_row bits.rlo bits.fc b)
+  -- Checks
 
-  -- its fault where the bit can't be read
-  checked_fault : (c : Check) (v : Var) (f : Fault) → read g v s ≡ Err f → value g (next_rlo c (expr.Read v)) s ≡ Err f
-  checked_fault check.A v f e = simp (value_equations, e)
-  checked_fault check.An v f e = simp (value_equations, e)
-  checked_fault check.O v f e = simp (value_equations, e)
-  checked_fault check.On v f e = simp (value_equations, e)
-  checked_fault check.X v f e = simp (value_equations, e)
-  checked_fault check.Xn v f e = simp (value_equations, e)
+  -- the registers behind the RLO of a check
+  abbrev behind_registers : Check → (Reg → ℤ) → Reg → ℤ
+  behind_registers check.A registers = with_register reg.Nfc (pos 1) registers
+  behind_registers check.An registers = with_register reg.Nfc (pos 1) registers
+  behind_registers check.O registers = cleared_registers g calls units true registers
+  behind_registers check.On registers = cleared_registers g calls units true registers
+  behind_registers check.X registers = cleared_registers g calls units true registers
+  behind_registers check.Xn registers = cleared_registers g calls units true registers
 
-  check_alike : (c : Check) (b : Bool) → AreAlike IsKept (record now.registers { status = after_check c b bits }) (with_register reg.Nfc (pos 1) (with_register reg.Rlo (number_of (rlo_after c b bits)) s.registers))
-  check_alike c b reg.Rlo asked = refl
-  check_alike c b reg.Nfc asked = refl
-  check_alike c b reg.Orb asked = related.registers reg.Orb tt ∙ ap number_of related.orb ∙ sym (ap number_of (orb_clear c bits related.orb))
-  check_alike c b reg.Sta asked = elim asked [ ]
-  check_alike c b q asked = related.registers q asked
+  behind : (c : Check) (t : State) → body_meaning g calls (behind_check c) units t ≡ Normal units (record t { registers = behind_registers c t.registers })
+  behind check.A t = sets g calls units reg.Nfc (literal_of true) true [] t (literal_worth g t true)
+  behind check.An t = sets g calls units reg.Nfc (literal_of true) true [] t (literal_worth g t true)
+  behind check.O t = clears g calls units true t
+  behind check.On t = clears g calls units true t
+  behind check.X t = clears g calls units true t
+  behind check.Xn t = clears g calls units true t
+
+  orb_kept : (c : Check) (b : Bool) → orb_after c bits ≡ bits.orb
+      → AreAlike IsKept (record now.registers { status = after_check c b bits }) (with_register reg.Nfc (pos 1) (with_register reg.Rlo (number_of (rlo_after c b bits)) s.registers))
+  orb_kept c b e reg.Rlo asked = refl
+  orb_kept c b e reg.Nfc asked = refl
+  orb_kept c b e reg.Orb asked = related.registers reg.Orb tt ∙ ap number_of (sym e)
+  orb_kept c b e reg.Sta asked = elim asked [ ]
+  orb_kept c b e q asked = related.registers q asked
+
+  orb_clear : (c : Check) (b : Bool) → orb_after c bits ≡ false
+      → AreAlike IsKept (record now.registers { status = after_check c b bits }) (cleared_registers g calls units true (with_register reg.Rlo (number_of (rlo_after c b bits)) s.registers))
+  orb_clear c b e reg.Rlo asked = refl
+  orb_clear c b e reg.Nfc asked = refl
+  orb_clear c b e reg.Orb asked = ap number_of (sym e)
+  orb_clear c b e reg.Sta asked = elim asked [ ]
+  orb_clear c b e q asked = related.registers q asked
+
+  check_alike : (c : Check) (b : Bool) → AreAlike IsKept (record now.registers { status = after_check c b bits }) (behind_registers c (with_register reg.Rlo (number_of (rlo_after c b bits)) s.registers))
+  check_alike check.A b = orb_kept check.A b refl
+  check_alike check.An b = orb_kept check.An b refl
+  check_alike check.O b = orb_clear check.O b refl
+  check_alike check.On b = orb_clear check.On b refl
+  check_alike check.X b = orb_clear check.X b refl
+  check_alike check.Xn b = orb_clear check.Xn b refl
+
+  -- a check of what has a truth value
+  pub check_goes : (c : Check) (e : Expr) (b : Bool) → value g e s ≡ Ok (flag b)
+      → Does (body_meaning g calls (check_of c e) units s) units total p acts now.memory (next (with_status (after_check c b) now))
+  check_goes c e b h =
+      let t : State = record s { registers = with_register reg.Rlo (number_of (rlo_after c b bits)) s.registers } in
+      let u : State = record t { registers = behind_registers c t.registers } in (
+        u,
+        sets g calls units reg.Rlo (next_rlo running_chain c e) (rlo_after c b bits) (behind_check c) s
+            (checked_worth g s running_chain bits (chain_runs g acts now s related) c e b h)
+            ∙ behind c t,
+        keep_bits IsKept acts now s related IsKept (after_check c b bits) u.registers (check_alike c b),
+        keeps,
+      )
 
   -- a check of a bit, by what is read
   pub check_does : (c : Check) (a : AreaName) (byte x : ℕ) (bit : Result Bool Fault) → read_bit (place_now a byte x now) now.memory ≡ bit
-      → Does (body_meaning g calls (statements_of (op.Check c (arg.At (operand.Direct a byte x)))) units s) units acts now.memory (with_value bit (λ b. next (with_status (after_check c b) now)))
+      → Does (body_meaning g calls (check_of c (expr.Read (bit_of (operand.Direct a byte x)))) units s) units total p acts now.memory (with_value bit (λ b. next (with_status (after_check c b) now)))
   check_does c a byte x (Ok b) e =
-      let v = bit_of (operand.Direct a byte x) in
-      let t : State = record s { registers = with_register reg.Rlo (number_of (rlo_after c b bits)) s.registers } in
-      let u : State = record t { registers = with_register reg.Nfc (pos 1) t.registers } in (
-        u,
-        assign_goes_on g calls (var.Register reg.Rlo) (next_rlo c (expr.Read v)) (set_of reg.Nfc (literal_of true) ∷ []) units s t (flag (rlo_after c b bits))
-            (checked_value c v b (bit_read g acts now s related a byte x (Ok b) e)) refl
-            ∙ assign_goes_on g calls (var.Register reg.Nfc) (literal_of true) [] units t u (flag true) (value_literal g type.Bool (pos 1) t) refl,
-        keep_bits IsKept acts now s related IsKept (after_check c b bits) u.registers (orb_clear c bits related.orb) (check_alike c b),
-      )
+      check_goes c (expr.Read (bit_of (operand.Direct a byte x))) b (bit_read g acts now s related a byte x (Ok b) e)
   check_does c a byte x (Err f) e =
-      let v = bit_of (operand.Direct a byte x) in (
+      let bit = expr.Read (bit_of (operand.Direct a byte x)) in (
         s,
-        assign_stops_at_value g calls (var.Register reg.Rlo) (next_rlo c (expr.Read v)) (set_of reg.Nfc (literal_of true) ∷ []) units s f (checked_fault c v f (bit_read g acts now s related a byte x (Err f) e)),
+        assign_stops_at_value g calls (var.Register reg.Rlo) (next_rlo running_chain c bit) (behind_check c) units s f
+            (checked_stops g s running_chain bits (chain_runs g acts now s related) c bit f (bit_read g acts now s related a byte x (Err f) e)),
         related.memory,
       )
 
-  assign_alike : AreAlike IsKept (record now.registers { status = after_assign bits }) (with_register reg.Nfc (pos 0) s.registers)
-  assign_alike reg.Nfc asked = refl
-  assign_alike reg.Orb asked = related.registers reg.Orb tt ∙ ap number_of related.orb
-  assign_alike reg.Sta asked = elim asked [ ]
-  assign_alike q asked = related.registers q asked
+  -- Bits
 
-  -- an assignment to a bit, by what was written
-  pub assign_does : (a : AreaName) (byte x : ℕ) (memory : Result Contents Fault) → write_bit (place_now a byte x now) bits.rlo now.memory ≡ memory
-      → Does (body_meaning g calls (statements_of (op.Assign (operand.Direct a byte x))) units s) units acts now.memory (with_memory memory now (λ done. next (with_status after_assign done)))
-  assign_does a byte x (Ok m) e =
+  store_alike : (b : Bool) → AreAlike IsKept (record now.registers { status = after_store b bits }) (cleared_registers g calls units false s.registers)
+  store_alike b reg.Nfc asked = refl
+  store_alike b reg.Orb asked = refl
+  store_alike b reg.Sta asked = elim asked [ ]
+  store_alike b q asked = related.registers q asked
+
+  -- a bit takes a value, by what was written
+  store_goes : (a : AreaName) (byte x : ℕ) (e : Expr) (b : Bool) → value g e s ≡ Ok (flag b)
+      → (memory : Result Contents Fault) → write_bit (place_now a byte x now) b now.memory ≡ memory
+      → Does (body_meaning g calls (store_of (bit_of (operand.Direct a byte x)) e) units s) units total p acts now.memory (with_memory memory now (λ done. next (with_status (after_store b) done)))
+  store_goes a byte x e b h (Ok m) w =
       let v = bit_of (operand.Direct a byte x) in
       let t : State = record s { memory = m } in
-      let u : State = record t { registers = with_register reg.Nfc (pos 0) s.registers } in (
+      let u : State = record t { registers = cleared_registers g calls units false s.registers } in (
         u,
-        assign_goes_on g calls v (read_of reg.Rlo) (set_of reg.Nfc (literal_of false) ∷ []) units s t (flag bits.rlo) (rlo_value g acts now s related) (bit_wrote g acts now s related a byte x bits.rlo (Ok m) e)
-            ∙ assign_goes_on g calls (var.Register reg.Nfc) (literal_of false) [] units t u (flag false) (value_literal g type.Bool (pos 0) t) refl,
-        keep_bits IsKept acts (record now { memory = m }) t (keep_memory IsKept acts now s related m) IsKept (after_assign bits) u.registers refl assign_alike,
+        assign_goes_on g calls v e (cleared false) units s t (flag b) h (bit_wrote g now s a byte x (same_place acts now s related a byte x) related.memory b (Ok m) w)
+            ∙ clears g calls units false t,
+        keep_bits IsKept acts (record now { memory = m }) t (keep_memory IsKept acts now s related m) IsKept (after_store b bits) u.registers (store_alike b),
+        keeps,
       )
-  assign_does a byte x (Err f) e =
+  store_goes a byte x e b h (Err f) w =
       let v = bit_of (operand.Direct a byte x) in (
         s,
-        assign_stops_at_place g calls v (read_of reg.Rlo) (set_of reg.Nfc (literal_of false) ∷ []) units s (flag bits.rlo) f (rlo_value g acts now s related) (bit_wrote g acts now s related a byte x bits.rlo (Err f) e),
+        assign_stops_at_place g calls v e (cleared false) units s (flag b) f h (bit_wrote g now s a byte x (same_place acts now s related a byte x) related.memory b (Err f) w),
         related.memory,
       )
+
+  -- the bit itself can't be read
+  store_stops : (a : AreaName) (byte x : ℕ) (e : Expr) (f : Fault) → value g e s ≡ Err f
+      → Does (body_meaning g calls (store_of (bit_of (operand.Direct a byte x)) e) units s) units total p acts now.memory (fault f)
+  store_stops a byte x e f h = (s, assign_stops_at_value g calls (bit_of (operand.Direct a byte x)) e (cleared false) units s f h, related.memory)
+
+  pub assign_does : (a : AreaName) (byte x : ℕ) (memory : Result Contents Fault) → write_bit (place_now a byte x now) bits.rlo now.memory ≡ memory
+      → Does (body_meaning g calls (statements_of p (op.Assign (operand.Direct a byte x))) units s) units total p acts now.memory (with_memory memory now (λ done. next (with_status (after_store done.registers.status.rlo) done)))
+  assign_does a byte x (Ok m) w = store_goes a byte x (read_of reg.Rlo) bits.rlo (rlo_worth g acts now s related) (Ok m) w
+  assign_does a byte x (Err f) w = store_goes a byte x (read_of reg.Rlo) bits.rlo (rlo_worth g acts now s related) (Err f) w
+
+  pub set_does : (a : AreaName) (byte x : ℕ) (bit : Result Bool Fault) → read_bit (place_now a byte x now) now.memory ≡ bit
+      → Does (body_meaning g calls (statements_of p (op.Set (operand.Direct a byte x))) units s) units total p acts now.memory
+      (with_value bit (λ b. with_memory (write_bit (place_now a byte x now) (b || bits.rlo) now.memory) now (λ done. next (with_status (after_store (b || bits.rlo)) done))))
+  set_does a byte x (Ok b) e =
+      let bit = expr.Read (bit_of (operand.Direct a byte x)) in
+      store_goes a byte x (or_of bit (read_of reg.Rlo)) (b || bits.rlo)
+      (or_worth g s bit (read_of reg.Rlo) b bits.rlo (bit_read g acts now s related a byte x (Ok b) e) (rlo_worth g acts now s related))
+      (write_bit (place_now a byte x now) (b || bits.rlo) now.memory) refl
+  set_does a byte x (Err f) e =
+      let bit = expr.Read (bit_of (operand.Direct a byte x)) in
+      store_stops a byte x (or_of bit (read_of reg.Rlo)) f
+      (left_stops g s binary.Or bit (read_of reg.Rlo) f (bit_read g acts now s related a byte x (Err f) e))
+
+  pub reset_does : (a : AreaName) (byte x : ℕ) (bit : Result Bool Fault) → read_bit (place_now a byte x now) now.memory ≡ bit
+      → Does (body_meaning g calls (statements_of p (op.Reset (operand.Direct a byte x))) units s) units total p acts now.memory
+      (with_value bit (λ b. with_memory (write_bit (place_now a byte x now) (b && not bits.rlo) now.memory) now (λ done. next (with_status (after_store (b && not bits.rlo)) done))))
+  reset_does a byte x (Ok b) e =
+      let bit = expr.Read (bit_of (operand.Direct a byte x)) in
+      store_goes a byte x (and_of bit (not_of (read_of reg.Rlo))) (b && not bits.rlo)
+      (and_worth g s bit (not_of (read_of reg.Rlo)) b (not bits.rlo) (bit_read g acts now s related a byte x (Ok b) e)
+      (not_worth g s (read_of reg.Rlo) bits.rlo (rlo_worth g acts now s related)))
+      (write_bit (place_now a byte x now) (b && not bits.rlo) now.memory) refl
+  reset_does a byte x (Err f) e =
+      let bit = expr.Read (bit_of (operand.Direct a byte x)) in
+      store_stops a byte x (and_of bit (not_of (read_of reg.Rlo))) f
+      (left_stops g s binary.And bit (not_of (read_of reg.Rlo)) f (bit_read g acts now s related a byte x (Err f) e))

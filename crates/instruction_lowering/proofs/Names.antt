@@ -17,7 +17,7 @@ use Rattle.stl_tree.specs.declared.program.Block.{Block}
 use Rattle.memory_areas.specs.declared.call.BlockName.{BlockName}
 use Rattle.memory_areas.specs.declared.call.BlockName.TheVariants as name
 use Rattle.st_tree.specs.StRun.{called_name, is_meant, is_program, is_same_kind}
-use Rattle.instruction_lowering.specs.Lowered.{head_of_block}
+use Rattle.instruction_lowering.specs.inner.Lowering.{head_for}
 
 -- Numbers in names
 
@@ -134,12 +134,12 @@ and_false true = refl
 and_false false = refl
 
 -- a call means the head of a block's unit exactly where it has the block's name, and calls an organization block
-pub meant : (n : ℕ) → IsNumbered (name.Ob n) → (b : Block) → IsAcceptedBlock b → is_meant (name.Ob n) (head_of_block b.name) ≡ is_same_name b.name (name.Ob n)
+pub meant : (n : ℕ) → IsNumbered (name.Ob n) → (b : Block) → IsAcceptedBlock b → is_meant (name.Ob n) (head_for b) ≡ is_same_name b.name (name.Ob n)
 meant n h b accepted =
     and_true (str_eq_ignore_ascii_case (called_name b.name) (called_name (name.Ob n)))
     ∙ same_name b.name (name.Ob n) (numbered b.name accepted.number) h
 
-pub not_meant : (called : BlockName) → is_program called ≡ false → (b : Block) → is_meant called (head_of_block b.name) ≡ false
+pub not_meant : (called : BlockName) → is_program called ≡ false → (b : Block) → is_meant called (head_for b) ≡ false
 not_meant called h b =
     ap (λ (c : Bool). str_eq_ignore_ascii_case (called_name b.name) (called_name called) && is_same_kind c true) h
     ∙ and_false (str_eq_ignore_ascii_case (called_name b.name) (called_name called))

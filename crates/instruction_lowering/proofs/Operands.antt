@@ -1,43 +1,78 @@
 -- What is read and written: operands and registers by their variables.
-use Rattle.std.proofs.Common.{◌≡◌, ℕ, Bool, true, false, List, Result, Ok, refl, ap, ◌∙◌}
+use Rattle.std.proofs.Common.{◌≡◌, ℕ, pos, Bool, true, false, List, [], ◌∷◌, Result, Ok, refl, ap, ◌∙◌}
+use Rattle.std.specs.Prelude.{ℤ}
 use Rattle.memory_areas.specs.Access.{and_then, read_bit, write_bit}
 use Rattle.memory_areas.specs.Areas.{Contents}
 use Rattle.memory_areas.specs.declared.place.AreaName.{AreaName}
 use Rattle.s7_base.specs.declared.outcome.Fault.{Fault}
+use Rattle.s7_base.specs.declared.register.Reg.{Reg}
 use Rattle.s7_base.specs.declared.register.Reg.TheVariants as reg
 use Rattle.stl_tree.specs.Now.{Activation, Now}
 use Rattle.stl_tree.specs.declared.program.Operand.TheVariants as operand
-use Rattle.st_tree.specs.State.{State, read, write}
+use Rattle.st_tree.specs.Meaning.{Calls, Normal, body_meaning}
+use Rattle.st_tree.specs.State.{State, place_of, with_register, write}
 use Rattle.st_tree.specs.Value.{value}
-use Rattle.st_tree.specs.Values.{flag, is_set}
-use Rattle.st_tree.specs.declared.expr.StType.TheVariants as type
+use Rattle.st_tree.specs.Values.{flag, is_set, number_of}
+use Rattle.st_tree.specs.declared.expr.Expr.{Expr}
+use Rattle.st_tree.specs.declared.expr.Expr.TheVariants as expr
 use Rattle.st_tree.specs.declared.expr.Var.TheVariants as var
 use Rattle.st_tree.specs.declared.program.Located.{Located}
-use Rattle.st_tree.proofs.Equations.{value_read}
-use Rattle.instruction_lowering.specs.inner.Templates.{bit_of, read_of}
+use Rattle.st_tree.specs.declared.program.Stmt.{Stmt}
+use Rattle.st_tree.proofs.Equations.{assign_goes_on, value_read}
+use Rattle.instruction_lowering.specs.inner.Templates.{bit_of, cleared, literal_of, read_of, running_chain, set_of}
 use Rattle.instruction_lowering.proofs.Alike.{Related, place_now, same_place}
+use Rattle.instruction_lowering.proofs.Truths.{IsChain, literal_worth, register_worth}
+
+set_flag : (b : Bool) → is_set (flag b) ≡ b
+set_flag true = refl
+set_flag false = refl
+
+-- the bit of a written operand, written through its variable in a state that has its place and the memory
+pub bit_wrote : (g : List Located) (now : Now) (s : State) (a : AreaName) (byte x : ℕ) → place_of a byte x s ≡ place_now a byte x now → s.memory ≡ now.memory
+    → (b : Bool) (memory : Result Contents Fault) → write_bit (place_now a byte x now) b now.memory ≡ memory
+    → write g (bit_of (operand.Direct a byte x)) (flag b) s ≡ and_then memory (λ m. Ok (record s { memory = m }))
+bit_wrote g now s a byte x place same b memory e =
+    ap (λ p. and_then (write_bit p (is_set (flag b)) s.memory) (λ m. Ok (record s { memory = m }))) place
+    ∙ ap (λ v. and_then (write_bit (place_now a byte x now) v s.memory) (λ m. Ok (record s { memory = m }))) (set_flag b)
+    ∙ ap (λ m. and_then (write_bit (place_now a byte x now) b m) (λ m. Ok (record s { memory = m }))) same
+    ∙ ap (λ r. and_then r (λ m. Ok (record s { memory = m }))) e
 
 module _ (g : List Located) (acts : List Activation) (now : Now) (s : State) (related : Related acts now s) where
   -- the bit of a written operand, read through its variable
-  pub bit_read : (a : AreaName) (byte x : ℕ) (bit : Result Bool Fault) → read_bit (place_now a byte x now) now.memory ≡ bit → read g (bit_of (operand.Direct a byte x)) s ≡ and_then bit (λ b. Ok (flag b))
+  pub bit_read : (a : AreaName) (byte x : ℕ) (bit : Result Bool Fault) → read_bit (place_now a byte x now) now.memory ≡ bit
+      → value g (expr.Read (bit_of (operand.Direct a byte x))) s ≡ and_then bit (λ b. Ok (flag b))
   bit_read a byte x bit e =
-      ap (λ p. and_then (read_bit p s.memory) (λ b. Ok (flag b))) (same_place acts now s related a byte x)
+      value_read g (bit_of (operand.Direct a byte x)) s
+      ∙ ap (λ p. and_then (read_bit p s.memory) (λ b. Ok (flag b))) (same_place acts now s related a byte x)
       ∙ ap (λ m. and_then (read_bit (place_now a byte x now) m) (λ b. Ok (flag b))) related.memory
       ∙ ap (λ r. and_then r (λ b. Ok (flag b))) e
 
-  set_flag : (b : Bool) → is_set (flag b) ≡ b
-  set_flag true = refl
-  set_flag false = refl
+  -- the RLO and NFC, read
+  pub rlo_worth : value g (read_of reg.Rlo) s ≡ Ok (flag now.registers.status.rlo)
+  rlo_worth = register_worth g s reg.Rlo now.registers.status.rlo refl (related.registers reg.Rlo tt)
 
-  -- the bit of a written operand, written through its variable
-  pub bit_wrote : (a : AreaName) (byte x : ℕ) (b : Bool) (memory : Result Contents Fault) → write_bit (place_now a byte x now) b now.memory ≡ memory
-      → write g (bit_of (operand.Direct a byte x)) (flag b) s ≡ and_then memory (λ m. Ok (record s { memory = m }))
-  bit_wrote a byte x b memory e =
-      ap (λ p. and_then (write_bit p (is_set (flag b)) s.memory) (λ m. Ok (record s { memory = m }))) (same_place acts now s related a byte x)
-      ∙ ap (λ v. and_then (write_bit (place_now a byte x now) v s.memory) (λ m. Ok (record s { memory = m }))) (set_flag b)
-      ∙ ap (λ m. and_then (write_bit (place_now a byte x now) b m) (λ m. Ok (record s { memory = m }))) related.memory
-      ∙ ap (λ r. and_then r (λ m. Ok (record s { memory = m }))) e
+  pub nfc_worth : value g (read_of reg.Nfc) s ≡ Ok (flag now.registers.status.fc)
+  nfc_worth = register_worth g s reg.Nfc now.registers.status.fc refl (related.registers reg.Nfc tt)
 
-  -- the RLO, read
-  pub rlo_value : value g (read_of reg.Rlo) s ≡ Ok (flag now.registers.status.rlo)
-  rlo_value = value_read g (var.Register reg.Rlo) s ∙ ap (λ n. Ok (record { ty = type.Bool; n = n })) (related.registers reg.Rlo tt)
+  -- the registers keep the chain
+  pub chain_runs : IsChain g s running_chain now.registers.status
+  chain_runs =
+      record { rlo = rlo_worth; nfc = nfc_worth; orb = register_worth g s reg.Orb now.registers.status.orb refl (related.registers reg.Orb tt) }
+
+-- Registers, set
+
+module _ (g : List Located) (calls : Calls) (units : ℕ) where
+  pub sets : (r : Reg) (e : Expr) (b : Bool) (rest : List Stmt) (s : State) → value g e s ≡ Ok (flag b)
+      → body_meaning g calls (set_of r e ∷ rest) units s ≡ body_meaning g calls rest units (record s { registers = with_register r (number_of b) s.registers })
+  sets r e b rest s h =
+      assign_goes_on g calls (var.Register r) e rest units s (record s { registers = with_register r (number_of b) s.registers }) (flag b) h refl
+
+  -- OR and NFC after they were cleared, or NFC set
+  abbrev pub cleared_registers : Bool → (Reg → ℤ) → Reg → ℤ
+  cleared_registers nfc registers = with_register reg.Nfc (number_of nfc) (with_register reg.Orb (pos 0) registers)
+
+  pub clears : (nfc : Bool) (s : State) → body_meaning g calls (cleared nfc) units s ≡ Normal units (record s { registers = cleared_registers nfc s.registers })
+  clears nfc s =
+      let t : State = record s { registers = with_register reg.Orb (pos 0) s.registers } in
+      sets reg.Orb (literal_of false) false (set_of reg.Nfc (literal_of nfc) ∷ []) s (literal_worth g s false)
+      ∙ sets reg.Nfc (literal_of nfc) nfc [] t (literal_worth g t nfc)

@@ -22,10 +22,10 @@ use Rattle.memory_areas.specs.declared.call.BlockName.TheVariants as name
 -- Names
 
 -- a decimal is a digit and more
-record Digits (ds : List ℕ) : Type 0 where
-  digits : list_all (λ b. is_between 48 57 b) ds ≡ true
-  bytes : list_all is_word_byte ds ≡ true
-  some : 0 < length ds
+pub record Digits (ds : List ℕ) : Type 0 where
+  pub digits : list_all (λ b. is_between 48 57 b) ds ≡ true
+  pub bytes : list_all is_word_byte ds ≡ true
+  pub some : 0 < length ds
 
 is_digit : (n : ℕ) → n < 10 → is_between 48 57 (48 + n) ≡ true
 is_digit n h = grind (arith, nat_tests)
@@ -45,7 +45,7 @@ more_digits n ds h d =
       some = omega (arith, length-append ds ((48 + n % 10) ∷ []));
     }
 
-decimal_digits : (n : ℕ) → n < 2 ^ 64 → Digits (decimal n)
+pub decimal_digits : (n : ℕ) → n < 2 ^ 64 → Digits (decimal n)
 decimal_digits n h = decimal_by_steps (λ n ds. Digits ds) one_digit more_digits n h
 
 pub has_name : (b : BlockName) → IsNumbered b → is_name (called_name b) ≡ true
@@ -60,7 +60,7 @@ names_unit (name.Fb n) h = let d = decimal_digits n (omega arith) in rw (lt-ltb 
 
 -- Names of blocks that are not the same
 
-upper_digit : (n : ℕ) → n < 10 → to_ascii_uppercase (48 + n) ≡ 48 + n
+pub upper_digit : (n : ℕ) → n < 10 → to_ascii_uppercase (48 + n) ≡ 48 + n
 upper_digit n h = grind (arith, nat_tests)
 
 turned : (m n : ℕ) → (m == n) ≡ (n == m)

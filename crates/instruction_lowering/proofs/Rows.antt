@@ -1,5 +1,6 @@
 -- Each instruction that stands inside a node: its statements do what its row does.
-use Rattle.std.proofs.Common.{ℕ, List, refl}
+use Rattle.std.proofs.Common.{◌≡◌, ◌≢◌, ℕ, suc, ◌≤◌, Bool, true, false, if◌then◌else◌, List, [], ◌∷◌, length, Some, None, refl}
+use Rattle.std.specs.Prelude.{nat_lt}
 use Rattle.memory_areas.specs.Access.{read_bit, write_bit}
 use Rattle.stl_tree.specs.Instructions.{effect_of}
 use Rattle.stl_tree.specs.Now.{Activation, Now}
@@ -10,15 +11,58 @@ use Rattle.stl_tree.specs.declared.program.Operand.TheVariants as operand
 use Rattle.st_tree.specs.Meaning.{Calls, body_meaning}
 use Rattle.st_tree.specs.State.{State}
 use Rattle.st_tree.specs.declared.program.Located.{Located}
-use Rattle.instruction_lowering.specs.inner.Templates.{statements_of}
+use Rattle.instruction_lowering.specs.inner.Templates.{behind, statements_of}
 use Rattle.instruction_lowering.proofs.Alike.{Related, place_now}
-use Rattle.instruction_lowering.proofs.BitRows.{assign_does, check_does}
+use Rattle.instruction_lowering.proofs.BitRows.{assign_does, check_does, check_goes, reset_does, set_does}
+use Rattle.instruction_lowering.proofs.BracketRows.{close_does, open_does}
 use Rattle.instruction_lowering.proofs.Does.{Does, IsInside}
+use Rattle.instruction_lowering.proofs.Temporaries.{Keeps}
+use Rattle.instruction_lowering.specs.declared.statements.OpenBracket.{OpenBracket}
+use Rattle.instruction_lowering.specs.declared.statements.Spot.{Spot}
+use Rattle.stl_tree.specs.Brackets.{WithNumber, most_open, open_behind}
+use Rattle.instruction_lowering.proofs.EdgeRows.{down_does, up_does}
+use Rattle.instruction_lowering.proofs.StatusRows.{answer_worth, clear_rlo_does, nop_does, not_does, or_does, save_does, set_rlo_does}
+use Rattle.status_word.specs.StatusBits.{answer_to}
+use Rattle.instruction_lowering.specs.inner.Templates.{answer_of}
 
-pub does : (g : List Located) (calls : Calls) (units : ℕ) (acts : List Activation) (now : Now) (s : State) → Related acts now s → (o : Op) → IsInside o
-    → Does (body_meaning g calls (statements_of o) units s) units acts now.memory (effect_of o now)
-does g calls units acts now s related (op.Check c (arg.At (operand.Direct a byte x))) inside =
-    check_does g calls units acts now s related c a byte x (read_bit (place_now a byte x now) now.memory) refl
-does g calls units acts now s related (op.Assign (operand.Direct a byte x)) inside =
-    assign_does g calls units acts now s related a byte x (write_bit (place_now a byte x now) now.registers.status.rlo now.memory) refl
-does g calls units acts now s related op.BlockEnd inside = elim inside [ ]
+-- an instruction may stand at a spot
+abbrev pub CanStand : Op → Spot → Type 0
+CanStand o p = WithNumber (open_behind o (length p.brackets)) (λ n. Unit {0})
+
+free : (b : Bool) (n : ℕ) → WithNumber (if b then Some (suc n) else None) (λ n. Unit {0}) → b ≡ true
+free true n h = refl
+free false n h = elim h [ ]
+
+some_open : (brackets : List OpenBracket) → WithNumber (open_behind op.Close (length brackets)) (λ n. Unit {0}) → brackets ≢ []
+some_open [] h e = elim h [ ]
+some_open (o ∷ outer) h e = cc
+
+module _ (g : List Located) (calls : Calls) (units : ℕ) (acts : List Activation) (now : Now) (s : State) (related : Related acts now s) (total : ℕ) (p : Spot) (keeps : Keeps total p now.brackets s.activations) where
+  pub does : (o : Op) → IsInside o → CanStand o p → (behind o p).used ≤ total
+      → Does (body_meaning g calls (statements_of p o) units s) units total (behind o p) acts now.memory (effect_of o now)
+  does (op.Check c (arg.At (operand.Direct a byte x))) inside stands room =
+      check_does g calls units acts now s related total p keeps c a byte x (read_bit (place_now a byte x now) now.memory) refl
+  does (op.Check c (arg.Flag t)) inside stands room =
+      check_goes g calls units acts now s related total p keeps c (answer_of t) (answer_to t now.registers.status)
+      (answer_worth g calls units acts now s related total p keeps t)
+  does op.OrAlone inside stands room = or_does g calls units acts now s related total p keeps
+  does (op.Bracket c) inside stands room =
+      open_does g calls units acts now s related total p keeps c (free (nat_lt (length p.brackets) most_open) (length p.brackets) stands) room
+  does op.Close inside stands room =
+      close_does g calls units acts now s related total p keeps p.brackets now.brackets (some_open p.brackets stands) keeps.1
+  does (op.Assign (operand.Direct a byte x)) inside stands room =
+      assign_does g calls units acts now s related total p keeps a byte x (write_bit (place_now a byte x now) now.registers.status.rlo now.memory) refl
+  does (op.Set (operand.Direct a byte x)) inside stands room =
+      set_does g calls units acts now s related total p keeps a byte x (read_bit (place_now a byte x now) now.memory) refl
+  does (op.Reset (operand.Direct a byte x)) inside stands room =
+      reset_does g calls units acts now s related total p keeps a byte x (read_bit (place_now a byte x now) now.memory) refl
+  does op.SetRlo inside stands room = set_rlo_does g calls units acts now s related total p keeps
+  does op.ClearRlo inside stands room = clear_rlo_does g calls units acts now s related total p keeps
+  does op.NotRlo inside stands room = not_does g calls units acts now s related total p keeps
+  does op.Save inside stands room = save_does g calls units acts now s related total p keeps
+  does (op.EdgeUp (operand.Direct a byte x)) inside stands room =
+      up_does g calls units acts now s related total p keeps a byte x (read_bit (place_now a byte x now) now.memory) refl
+  does (op.EdgeDown (operand.Direct a byte x)) inside stands room =
+      down_does g calls units acts now s related total p keeps a byte x (read_bit (place_now a byte x now) now.memory) refl
+  does op.Nop inside stands room = nop_does g calls units acts now s related total p keeps
+  does op.BlockEnd inside stands room = elim inside [ ]

@@ -1,5 +1,5 @@
 -- A program and its graph program mean the same.
-use Rattle.std.proofs.Common.{◌≡◌, ℕ, zero, suc, ◌*◌, ◌≤◌, Bool, true, false, if◌then◌else◌, List, [], ◌∷◌, ◌++◌, map, length, Option, Some, None, refl, sym, ap, ◌∙◌, subst, arith}
+use Rattle.std.proofs.Common.{◌≡◌, ℕ, zero, suc, ◌*◌, ◌≤◌, false, List, [], ◌∷◌, map, length, Option, Some, None, refl, sym, ap, ◌∙◌, subst, arith}
 use Rattle.std.specs.Prelude.{All, IsSome, find, option_map}
 use Rattle.std.proofs.lemmas.Simd.{map-map}
 use Rattle.memory_areas.specs.Areas.{Areas, Contents, with_areas}
@@ -10,14 +10,10 @@ use Rattle.stl_tree.specs.Accepted.{IsAccepted, IsAcceptedBlock}
 use Rattle.stl_tree.specs.Now.{Activation, Now}
 use Rattle.stl_tree.specs.Registers.{start}
 use Rattle.stl_tree.specs.StlRun.{block_called, block_named, end_of, first_activation, running, size_of, steps_on, stl_run}
-use Rattle.stl_tree.specs.declared.program.BitArg.TheVariants as arg
 use Rattle.stl_tree.specs.declared.program.Block.{Block}
 use Rattle.memory_areas.specs.declared.call.BlockName.{BlockName}
 use Rattle.memory_areas.specs.declared.call.BlockName.TheVariants as name
 use Rattle.memory_areas.specs.declared.call.Call.{Call}
-use Rattle.stl_tree.specs.declared.program.Instr.{Instr}
-use Rattle.stl_tree.specs.declared.program.Op.{Op}
-use Rattle.stl_tree.specs.declared.program.Op.TheVariants as op
 use Rattle.stl_tree.specs.declared.program.Program.{Program}
 use Rattle.stl_tree.proofs.Runs.{over_stays}
 use Rattle.st_tree.specs.GraphRun.{Counting, FitsGraph, counted_run, each_node, each_pass, graph_run, heads_of, longest, most_nodes, nodes_do, pass_run, run_of_graph}
@@ -28,41 +24,29 @@ use Rattle.st_tree.specs.declared.graph.GraphPou.{GraphPou}
 use Rattle.st_tree.specs.declared.graph.GraphProgram.{GraphProgram}
 use Rattle.st_tree.specs.declared.program.Pou.{Pou}
 use Rattle.st_tree.specs.declared.program.StProgram.{StProgram}
-use Rattle.st_tree.specs.declared.program.Stmt.{Stmt}
-use Rattle.st_tree.specs.declared.program.Stmt.TheVariants as stmt
-use Rattle.instruction_lowering.specs.Lowered.{AreAssignments, AreUnitsOf, HasNoInstance, Lowered, SameGraphRuns, head_of_block}
-use Rattle.instruction_lowering.specs.inner.Lowering.{ends_block, lowered, node_of, steps_of, unit_of}
-use Rattle.instruction_lowering.specs.inner.Templates.{statements_of}
+use Rattle.instruction_lowering.specs.Lowered.{AreUnitsOf, HasNoInstance, IsHeadOf, Lowered, SameGraphRuns}
+use Rattle.instruction_lowering.specs.inner.Lowering.{head_for, lowered, node_of, temporaries, unit_of, used_behind}
+use Rattle.instruction_lowering.specs.inner.Templates.{first_spot}
 use Rattle.instruction_lowering.proofs.Alike.{AreAlike, IsKept, Related}
+use Rattle.instruction_lowering.proofs.Assignments.{are_assignments}
 use Rattle.instruction_lowering.proofs.Bounds.{Begun, Side, back, begun_back, begun_forth, forth}
 use Rattle.instruction_lowering.proofs.Names.{IsAt, IsNumbered, block_at, block_of, found_each, found_numbered, found_of, found_size, meant, none_of, not_meant, position_of}
+use Rattle.instruction_lowering.proofs.TemporaryNames.{are_temporaries, so_many}
+use Rattle.instruction_lowering.proofs.Temporaries.{Keeps}
+use Rattle.st_tree.specs.Calls.{zero_of}
+use Rattle.std.proofs.lemmas.List.{length-map}
 use Rattle.instruction_lowering.proofs.Simulation.{Follows, Sees, at_node, both_end, ran, through}
 
 -- Units
 
-two_parts : (xs ys : List Stmt) → AreAssignments xs → AreAssignments ys → AreAssignments (xs ++ ys)
-two_parts [] ys h k = k
-two_parts (stmt.Assign v e ∷ xs) ys h k = two_parts xs ys h k
-two_parts (x ∷ xs) ys h k = elim h [ ]
-
-of_instruction : (o : Op) → AreAssignments (statements_of o)
-of_instruction (op.Check c (arg.At o)) = tt
-of_instruction (op.Assign o) = tt
-of_instruction op.BlockEnd = tt
-
-of_body : (is : List Instr) → AreAssignments (steps_of is)
-of_body [] = tt
-of_body (i ∷ is) =
-    two_parts (statements_of i.op) (if ends_block i.op then [] else steps_of is) (of_instruction i.op) (up_to (ends_block i.op) (of_body is))
-  where
-    up_to : (b : Bool) → AreAssignments (steps_of is) → AreAssignments (if b then [] else steps_of is)
-    up_to true h = tt
-    up_to false h = h
+head_is : (b : Block) → IsHeadOf b.name (head_for b)
+head_is b =
+    record { program = refl; name = refl; formals = refl; locals = are_temporaries (used_behind first_spot b.body); body = refl }
 
 units_of : (blocks : List Block) → AreUnitsOf blocks (map unit_of blocks)
 units_of [] = tt
 units_of (b ∷ bs) =
-    (record { head = refl; node = node_of b.body; nodes = refl; exit = refl; only_end = refl; steps = of_body b.body }, units_of bs)
+    (record { head = head_is b; node = node_of b.body; nodes = refl; exit = refl; only_end = refl; steps = are_assignments b.body first_spot }, units_of bs)
 
 -- The block that is called
 
@@ -93,15 +77,15 @@ seen_through (NoUnits s) = refl
 
 -- heads are found as blocks are
 heads_found : (n : ℕ) → IsNumbered (name.Ob n) → (blocks : List Block) → All IsAcceptedBlock blocks →
-    unit_called (name.Ob n) (map (λ (u : GraphPou). u.head) (map unit_of blocks)) ≡ option_map (λ (b : Block). head_of_block b.name) (block_of (name.Ob n) blocks)
+    unit_called (name.Ob n) (map (λ (u : GraphPou). u.head) (map unit_of blocks)) ≡ option_map (λ (b : Block). head_for b) (block_of (name.Ob n) blocks)
 heads_found n h blocks formed =
     ap (unit_called (name.Ob n)) (map-map (λ (u : GraphPou). u.head) unit_of blocks)
-    ∙ found_of Pou (λ (b : Block). head_of_block b.name) (is_meant (name.Ob n)) (name.Ob n) (meant n h) blocks formed
+    ∙ found_of Pou (λ (b : Block). head_for b) (is_meant (name.Ob n)) (name.Ob n) (meant n h) blocks formed
 
 no_head : (called : BlockName) → is_program called ≡ false → (blocks : List Block) → unit_called called (map (λ (u : GraphPou). u.head) (map unit_of blocks)) ≡ None
 no_head called h blocks =
     ap (unit_called called) (map-map (λ (u : GraphPou). u.head) unit_of blocks)
-    ∙ none_of Pou (λ (b : Block). head_of_block b.name) (is_meant called) (not_meant called h) blocks
+    ∙ none_of Pou (λ (b : Block). head_for b) (is_meant called) (not_meant called h) blocks
 
 -- Runs
 
@@ -138,7 +122,7 @@ module _ (program : Program) (formed : All IsAcceptedBlock program.blocks) (call
   now memory = record { registers = start; brackets = []; memory = with_areas memory; activations = first ∷ [] }
 
   abbrev state : Areas → State
-  state memory = state_at_start (head_of_block b.name) call memory
+  state memory = state_at_start (head_for b) call memory
 
   -- both begin alike: all registers are zero
   start_alike : (called : BlockName) → (n : ℕ) → called ≡ name.Ob n → AreAlike IsKept start (registers_at_start called call.instance)
@@ -152,7 +136,11 @@ module _ (program : Program) (formed : All IsAcceptedBlock program.blocks) (call
 
   start_related : (memory : Areas) → Related (first ∷ []) (now memory) (state memory)
   start_related memory =
-      record { registers = start_alike call.block number.0 number.1; memory = refl; activations = refl; depth = refl; db = omega arith; di = omega arith; orb = refl }
+      record { registers = start_alike call.block number.0 number.1; memory = refl; activations = refl; depth = refl; db = omega arith; di = omega arith }
+
+  start_keeps : (memory : Areas) → Keeps (used_behind first_spot b.body) first_spot [] (state memory).activations
+  start_keeps memory =
+      (length-map (temporaries (used_behind first_spot b.body)) zero_of ∙ so_many (used_behind first_spot b.body), tt)
 
   -- behind the first block nothing follows
   nothing_follows : (counts : Counting) (side : Side) (n : ℕ) → Follows program graph counts side (size_of program) n first [] (λ units s. Ended s.memory.areas None) 0
@@ -175,7 +163,7 @@ module _ (program : Program) (formed : All IsAcceptedBlock program.blocks) (call
   simulated counts side memory n units most begun =
       let shape = found_each IsAcceptedBlock call.block program.blocks b at.found formed in
       let within : length b.body ≤ size_of program = found_size call.block program.blocks b at.found in
-      at_node program graph counts side (size_of program) n first [] b at.there refl shape.ends (omega arith) (now memory) (state memory) (start_related memory) units most 0 begun
+      at_node program graph counts side (size_of program) n first [] b at.there refl shape.ends shape.brackets (omega arith) (now memory) (state memory) (start_related memory) (start_keeps memory) units most 0 begun
       (λ units s. Ended s.memory.areas None) (nothing_follows counts side n)
 
   nodes_end : (memory : Areas) (n : ℕ) (after : Areas) (fault : Option Fault) → stl_run program call memory n ≡ Ended after fault → graph_run graph call memory n ≡ Ended after fault
@@ -203,10 +191,10 @@ module _ (program : Program) (formed : All IsAcceptedBlock program.blocks) (call
   fits_graph : FitsGraph graph call
   fits_graph =
       subst (λ (o : Option Pou). FitsIfThere (heads_of graph) call o)
-      (sym (ap (λ (called : BlockName). unit_called called (heads_of graph).pous) number.1 ∙ heads_found number.0 numbered program.blocks formed ∙ ap (option_map (λ (b : Block). head_of_block b.name)) found))
-      (subst (λ (called : BlockName). FitsUnit [] (head_of_block b.name) called call.instance call.actuals) (sym number.1) tt)
+      (sym (ap (λ (called : BlockName). unit_called called (heads_of graph).pous) number.1 ∙ heads_found number.0 numbered program.blocks formed ∙ ap (option_map (λ (b : Block). head_for b)) found))
+      (subst (λ (called : BlockName). FitsUnit [] (head_for b) called call.instance call.actuals) (sym number.1) tt)
 
-some_unit : (o : Option Block) (text : StProgram) (call : Call) → FitsIfThere text call (option_map (λ (b : Block). head_of_block b.name) o) → IsSome o
+some_unit : (o : Option Block) (text : StProgram) (call : Call) → FitsIfThere text call (option_map (λ (b : Block). head_for b) o) → IsSome o
 some_unit None text call h = absurd h
 some_unit (Some b) text call h = refl
 

@@ -1,6 +1,6 @@
 -- A program and its graph run alike: one induction over the steps for both directions, on one lemma an instruction.
-use Rattle.std.proofs.Common.{◌≡◌, ℕ, zero, suc, ◌+◌, ◌<◌, ◌≤◌, false, if◌then◌else◌, List, [], ◌∷◌, ◌++◌, length, Option, Some, refl, sym, ap, ◌∙◌, subst, ◌⊎◌, inl, inr, ⊎_elim, arith}
-use Rattle.std.specs.Prelude.{option_and_then, slice_get}
+use Rattle.std.proofs.Common.{◌≡◌, ℕ, zero, suc, ◌+◌, ◌<◌, ◌≤◌, Bool, true, false, if◌then◌else◌, List, [], ◌∷◌, ◌++◌, length, Option, Some, None, refl, sym, ap, ◌∙◌, subst, ◌⊎◌, inl, inr, ⊎_elim, arith}
+use Rattle.std.specs.Prelude.{nat_lt, option_and_then, slice_get}
 use Rattle.std.proofs.Math.Nat.{eq-or-lt_of_le}
 use Rattle.memory_areas.specs.Areas.{Areas, Contents}
 use Rattle.memory_areas.specs.End.{End, Ended, Going}
@@ -8,6 +8,7 @@ use Rattle.status_word.specs.StatusBits.{after_end}
 use Rattle.s7_base.specs.declared.outcome.Fault.{Fault}
 use Rattle.s7_base.specs.declared.register.Reg.TheVariants as reg
 use Rattle.stl_tree.specs.Accepted.{IsEnded}
+use Rattle.stl_tree.specs.Brackets.{AreNested, WithNumber, most_open, open_behind}
 use Rattle.stl_tree.specs.Instructions.{effect_of}
 use Rattle.stl_tree.specs.Now.{Activation, Effect, Now, enter, fault, go, leave, next, with_status}
 use Rattle.stl_tree.specs.StlRun.{Standing, after_effect, end_of, going_on, instruction, returned, running, step_by, steps_on}
@@ -25,12 +26,15 @@ use Rattle.st_tree.specs.declared.graph.StExit.TheVariants as exit
 use Rattle.st_tree.specs.declared.graph.StNode.{StNode}
 use Rattle.st_tree.specs.declared.program.Located.{Located}
 use Rattle.st_tree.specs.declared.program.Stmt.{Stmt}
-use Rattle.instruction_lowering.specs.inner.Lowering.{ends_block, node_of, steps_of}
-use Rattle.instruction_lowering.specs.inner.Templates.{statements_of}
+use Rattle.instruction_lowering.specs.inner.Lowering.{ends_block, node_of, steps_of, used_behind}
+use Rattle.instruction_lowering.specs.inner.Templates.{behind, first_spot, outer_of, statements_of}
 use Rattle.instruction_lowering.proofs.Alike.{AreAlike, HandedOn, IsHandedOn, IsKept, Related, keep_bits, keep_position}
 use Rattle.instruction_lowering.proofs.Bounds.{Begun, Behind, Side, Within, back, IsBack, IsForth, first_step, forth, last_step, next_step, no_first_step, no_node, no_step}
+use Rattle.instruction_lowering.specs.declared.statements.OpenBracket.{OpenBracket}
+use Rattle.instruction_lowering.specs.declared.statements.Spot.{Spot}
 use Rattle.instruction_lowering.proofs.Does.{Does, IsInside}
 use Rattle.instruction_lowering.proofs.Rows.{does}
+use Rattle.instruction_lowering.proofs.Temporaries.{Keeps}
 
 -- Ends
 
@@ -90,22 +94,75 @@ has_first body at i is has = let e : at ≡ at + 0 = omega arith in ap (slice_ge
 has_rest : (body : List Instr) (at : ℕ) (i : Instr) (is : List Instr) → HasFrom body at (i ∷ is) → HasFrom body (at + 1) is
 has_rest body at i is has j = let e : at + 1 + j ≡ at + suc j = omega arith in ap (slice_get body) e ∙ has (suc j)
 
--- an instruction of a body stands inside it and others follow, or it ends the block, and nothing behind it is reached
-stands : (i : Instr) (is : List Instr) → IsEnded (i ∷ is)
-    → (IsInside i.op × IsEnded is × (steps_of (i ∷ is) ≡ statements_of i.op ++ steps_of is)) ⊎ ((i.op ≡ op.BlockEnd) × (steps_of (i ∷ is) ≡ []))
-stands i is h = by i.op refl
+-- Spots
+
+-- instructions that are left from a spot on: brackets are nested, and so many temporaries are used behind them
+abbrev pub AreLeft : ℕ → Spot → List Instr → Type 0
+AreLeft total q is = AreNested is (length q.brackets) × (used_behind q is ≡ total)
+
+more_used : (o : Op) (q : Spot) → q.used ≤ (behind o q).used
+more_used (op.Bracket c) q = omega arith
+more_used op.Close q = omega arith
+more_used o q = omega arith
+
+pub used_grows : (is : List Instr) (q : Spot) → q.used ≤ used_behind q is
+used_grows [] q = omega arith
+used_grows (i ∷ is) q = by (ends_block i.op) (more_used i.op q) (used_grows is (behind i.op q))
   where
-    behind : (is : List Instr) → IsEnded (i ∷ is) → (i.op ≡ op.BlockEnd → ⊥) → IsEnded is
-    behind [] ended inside = absurd (inside ended)
-    behind (j ∷ rest) ended inside = ended
+    by : (b : Bool) → q.used ≤ (behind i.op q).used → (behind i.op q).used ≤ used_behind (behind i.op q) is
+        → q.used ≤ (if b then (behind i.op q).used else used_behind (behind i.op q) is)
+    by true h k = h
+    by false h k = omega arith
 
-    joined : (o : Op) → i.op ≡ o → ends_block o ≡ false → steps_of (i ∷ is) ≡ statements_of i.op ++ steps_of is
-    joined o e not = ap (λ b. statements_of i.op ++ (if b then [] else steps_of is)) (ap ends_block e ∙ not)
+-- what holds of the brackets behind an instruction
+pub nested_behind : (P : ℕ → Type 0) (o : Op) (q : Spot) → IsInside o → WithNumber (open_behind o (length q.brackets)) P → P (length (behind o q).brackets)
+nested_behind P op.BlockEnd q inside h = elim inside [ ]
+nested_behind P (op.Bracket c) q inside h = by (nat_lt (length q.brackets) most_open) h
+  where
+    by : (b : Bool) → WithNumber (if b then Some (suc (length q.brackets)) else None) P → P (suc (length q.brackets))
+    by true h = h
+    by false h = elim h [ ]
+nested_behind P op.Close q inside h = by q.brackets h
+  where
+    by : (brackets : List OpenBracket) → WithNumber (open_behind op.Close (length brackets)) P → P (length (outer_of brackets))
+    by [] h = elim h [ ]
+    by (o ∷ outer) h = h
+nested_behind P o q inside h = h
 
-    by : (o : Op) → i.op ≡ o → (IsInside i.op × IsEnded is × (steps_of (i ∷ is) ≡ statements_of i.op ++ steps_of is)) ⊎ ((i.op ≡ op.BlockEnd) × (steps_of (i ∷ is) ≡ []))
-    by (op.Check c b) e = inl (subst IsInside (sym e) tt, behind is h (λ end. cc), joined (op.Check c b) e refl)
-    by (op.Assign x) e = inl (subst IsInside (sym e) tt, behind is h (λ end. cc), joined (op.Assign x) e refl)
-    by op.BlockEnd e = inr (e, ap (λ (o : Op). statements_of o ++ (if ends_block o then [] else steps_of is)) e)
+can_stand : (P : ℕ → Type 0) (n : Option ℕ) → WithNumber n P → WithNumber n (λ n. Unit {0})
+can_stand P None h = h
+can_stand P (Some n) h = tt
+
+-- an instruction of a body stands inside it and others follow, or it ends the block, and nothing behind it is reached
+record StandsInside (q : Spot) (i : Instr) (is : List Instr) : Type 0 where
+  inside : IsInside i.op
+  ended : IsEnded is
+  steps : steps_of q (i ∷ is) ≡ statements_of q i.op ++ steps_of (behind i.op q) is
+  used : used_behind q (i ∷ is) ≡ used_behind (behind i.op q) is
+
+stands : (q : Spot) (i : Instr) (is : List Instr) → IsEnded (i ∷ is)
+    → StandsInside q i is ⊎ ((i.op ≡ op.BlockEnd) × (steps_of q (i ∷ is) ≡ []))
+stands q i is h = by i.op refl
+  where
+    followed : (is : List Instr) → IsEnded (i ∷ is) → (i.op ≡ op.BlockEnd → ⊥) → IsEnded is
+    followed [] ended inside = absurd (inside ended)
+    followed (j ∷ rest) ended inside = ended
+
+    goes_on : IsInside i.op → (i.op ≡ op.BlockEnd → ⊥) → ends_block i.op ≡ false → StandsInside q i is
+    goes_on inside other not =
+        record {
+          inside = inside;
+          ended = followed is h other;
+          steps = ap (λ b. statements_of q i.op ++ (if b then [] else steps_of (behind i.op q) is)) not;
+          used = ap (λ b. if b then (behind i.op q).used else used_behind (behind i.op q) is) not;
+        }
+
+    by : (o : Op) → i.op ≡ o → StandsInside q i is ⊎ ((i.op ≡ op.BlockEnd) × (steps_of q (i ∷ is) ≡ []))
+    by op.BlockEnd e = inr (e, ap (λ (o : Op). statements_of q o ++ (if ends_block o then [] else steps_of (behind o q) is)) e)
+    by o e = inl (goes_on (subst IsInside (sym e) tt) (λ end. other (sym e ∙ end)) (ap ends_block e))
+      where
+        other : o ≡ op.BlockEnd → ⊥
+        other f = cc
 
 -- The end word
 
@@ -118,7 +175,7 @@ end_alike now s acts related q asked = related.registers q tt
 
 -- it hands the registers and the memory on
 ends : (acts : List Activation) (now : Now) (s : State) → Related acts now s → HandedOn acts (with_status after_end now) s
-ends acts now s related = keep_bits IsKept acts now s related IsHandedOn (after_end now.registers.status) s.registers refl (end_alike now s acts related)
+ends acts now s related = keep_bits IsKept acts now s related IsHandedOn (after_end now.registers.status) s.registers (end_alike now s acts related)
 
 -- Runs
 
@@ -141,35 +198,35 @@ module _ (p : Program) (g : GraphProgram) (counts : Counting) (side : Side) (siz
   leaves most nodes = exit_meaning g.globals counts (nodes_do counts g most nodes) 0 exit.End
 
   -- what is left of a node, and then its exit
-  abbrev rest_of : ℕ → List StNode → List Instr → Sem
-  rest_of most nodes is units s = then_do (body_meaning g.globals (calls_within most) (steps_of is) units s) (leaves most nodes)
+  abbrev rest_of : ℕ → List StNode → Spot → List Instr → Sem
+  rest_of most nodes q is units s = then_do (body_meaning g.globals (calls_within most) (steps_of q is) units s) (leaves most nodes)
 
   -- a node begins with its block
   abbrev pub AtNode : ℕ → Type 0
   AtNode n =
-      (a : Activation) (waiting : List Activation) (b : Block) → slice_get p.blocks a.block ≡ Some b → a.at ≡ 0 → IsEnded b.body → a.at + length b.body ≤ size
-      → (now : Now) (s : State) → Related (a ∷ waiting) now s → (units most debt : ℕ) → Begun side size n units most a.at debt
+      (a : Activation) (waiting : List Activation) (b : Block) → slice_get p.blocks a.block ≡ Some b → a.at ≡ 0 → IsEnded b.body → AreNested b.body 0 → a.at + length b.body ≤ size
+      → (now : Now) (s : State) → Related (a ∷ waiting) now s → Keeps (used_behind first_spot b.body) first_spot now.brackets s.activations → (units most debt : ℕ) → Begun side size n units most a.at debt
       → (k : ℕ → State → End) → Follows n a waiting k debt
       → Sees side (ran n (running p now)) (through (nodes_do counts g most (node_of b.body ∷ []) 0 units s) k)
 
   -- it goes on at an instruction
   abbrev Inside : ℕ → Type 0
   Inside n =
-      (a : Activation) (waiting : List Activation) (b : Block) → slice_get p.blocks a.block ≡ Some b → (nodes : List StNode) (is : List Instr) → HasFrom b.body a.at is → IsEnded is → a.at + length is ≤ size
-      → (now : Now) (s : State) → Related (a ∷ waiting) now s → (units most debt : ℕ) → Within side size n units most a.at debt
+      (a : Activation) (waiting : List Activation) (b : Block) → slice_get p.blocks a.block ≡ Some b → (nodes : List StNode) (is : List Instr) → HasFrom b.body a.at is → IsEnded is → (total : ℕ) (q : Spot) → AreLeft total q is → a.at + length is ≤ size
+      → (now : Now) (s : State) → Related (a ∷ waiting) now s → Keeps total q now.brackets s.activations → (units most debt : ℕ) → Within side size n units most a.at debt
       → (k : ℕ → State → End) → Follows n a waiting k debt
-      → Sees side (ran n (running p now)) (through (rest_of most nodes is units s) k)
+      → Sees side (ran n (running p now)) (through (rest_of most nodes q is units s) k)
 
   -- One instruction
 
-  module _ (n : ℕ) (a : Activation) (waiting : List Activation) (b : Block) (there : slice_get p.blocks a.block ≡ Some b) (nodes : List StNode) (i : Instr) (is : List Instr) (has : HasFrom b.body a.at (i ∷ is)) (ending : IsEnded (i ∷ is)) (fits : a.at + suc (length is) ≤ size)
-      (now : Now) (s : State) (related : Related (a ∷ waiting) now s) (units most debt : ℕ) (within : Within side size n units most (a.at + 1) debt)
+  module _ (n : ℕ) (a : Activation) (waiting : List Activation) (b : Block) (there : slice_get p.blocks a.block ≡ Some b) (nodes : List StNode) (i : Instr) (is : List Instr) (has : HasFrom b.body a.at (i ∷ is)) (ending : IsEnded (i ∷ is)) (total : ℕ) (q : Spot) (left : AreLeft total q (i ∷ is)) (fits : a.at + suc (length is) ≤ size)
+      (now : Now) (s : State) (related : Related (a ∷ waiting) now s) (keeps : Keeps total q now.brackets s.activations) (units most debt : ℕ) (within : Within side size n units most (a.at + 1) debt)
       (k : ℕ → State → End) (follows : Follows n a waiting k debt) (inside : Inside n) where
     abbrev here : Sem
-    here u t = body_meaning g.globals (calls_within most) (statements_of i.op) u t
+    here u t = body_meaning g.globals (calls_within most) (statements_of q i.op) u t
 
-    abbrev behind : Sem
-    behind = rest_of most nodes is
+    abbrev later : Sem
+    later = rest_of most nodes (behind i.op q) is
 
     -- the instruction to come is the one that is here
     arrives : (goal : Standing → Type 0) → goal (after_effect p now (effect_of i.op now)) → goal (step_by (instruction p now.activations) p now)
@@ -178,42 +235,47 @@ module _ (p : Program) (g : GraphProgram) (counts : Counting) (side : Side) (siz
         (sym (ap (instruction p) related.activations ∙ ap (option_and_then (λ (b : Block). slice_get b.body a.at)) there ∙ has_first b.body a.at i is has)) h
 
     -- its statements are the first of those that are left
-    splits : steps_of (i ∷ is) ≡ statements_of i.op ++ steps_of is → rest_of most nodes (i ∷ is) units s ≡ then_do (here units s) behind
+    splits : steps_of q (i ∷ is) ≡ statements_of q i.op ++ steps_of (behind i.op q) is → rest_of most nodes q (i ∷ is) units s ≡ then_do (here units s) later
     splits e =
         ap (λ (xs : List Stmt). then_do (body_meaning g.globals (calls_within most) xs units s) (leaves most nodes)) e
-        ∙ ap (λ (o : Out). then_do o (leaves most nodes)) (in_parts g.globals (calls_within most) (statements_of i.op) (steps_of is) units s)
-        ∙ then_in_parts (here units s) (body_meaning g.globals (calls_within most) (steps_of is)) (leaves most nodes)
+        ∙ ap (λ (o : Out). then_do o (leaves most nodes)) (in_parts g.globals (calls_within most) (statements_of q i.op) (steps_of (behind i.op q) is) units s)
+        ∙ then_in_parts (here units s) (body_meaning g.globals (calls_within most) (steps_of (behind i.op q) is)) (leaves most nodes)
 
-    meets : (e : Effect) (o : Out) → IsEnded is → Does o units (a ∷ waiting) now.memory e → Sees side (ran n (after_effect p now e)) (through (then_do o behind) k)
-    meets (next after) o ends done =
-        subst (λ (x : Out). Sees side (ran n (after_effect p now (next after))) (through (then_do x behind) k)) (sym done.1)
-        (inside (record a { at = a.at + 1 }) waiting b there nodes is (has_rest b.body a.at i is has) ends (omega arith)
-        (record after { activations = going_on after.activations }) done.0 (keep_position IsKept a waiting after done.0 done.2) units most debt within k follows)
-    meets (fault f) o ends done =
+    meets : (e : Effect) (o : Out) → IsEnded is → AreLeft total (behind i.op q) is → Does o units total (behind i.op q) (a ∷ waiting) now.memory e
+        → Sees side (ran n (after_effect p now e)) (through (then_do o later) k)
+    meets (next after) o ends left done =
+        subst (λ (x : Out). Sees side (ran n (after_effect p now (next after))) (through (then_do x later) k)) (sym done.1)
+        (inside (record a { at = a.at + 1 }) waiting b there nodes is (has_rest b.body a.at i is has) ends total (behind i.op q) left (omega arith)
+        (record after { activations = going_on after.activations }) done.0 (keep_position IsKept a waiting after done.0 done.2) done.3 units most debt within k follows)
+    meets (fault f) o ends left done =
         both_end side _ _
-        (ap end_of (over_stays n now.memory (Some f)) ∙ sym (ap (λ (x : Out). through (then_do x behind) k) done.1 ∙ ap (λ (m : Contents). Ended m.areas (Some f)) done.2))
-    meets (go to after) o ends done = elim done [ ]
-    meets (enter call after) o ends done = elim done [ ]
-    meets (leave after) o ends done = elim done [ ]
+        (ap end_of (over_stays n now.memory (Some f)) ∙ sym (ap (λ (x : Out). through (then_do x later) k) done.1 ∙ ap (λ (m : Contents). Ended m.areas (Some f)) done.2))
+    meets (go to after) o ends left done = elim done [ ]
+    meets (enter call after) o ends left done = elim done [ ]
+    meets (leave after) o ends left done = elim done [ ]
 
-    by_inside : IsInside i.op × IsEnded is × (steps_of (i ∷ is) ≡ statements_of i.op ++ steps_of is) → Sees side (ran (suc n) (running p now)) (through (rest_of most nodes (i ∷ is) units s) k)
+    by_inside : StandsInside q i is → Sees side (ran (suc n) (running p now)) (through (rest_of most nodes q (i ∷ is) units s) k)
     by_inside h =
-        arrives (λ stand. Sees side (ran n stand) (through (rest_of most nodes (i ∷ is) units s) k))
-        (subst (λ (x : Out). Sees side (ran n (after_effect p now (effect_of i.op now))) (through x k)) (sym (splits h.2))
-        (meets (effect_of i.op now) (here units s) h.1 (does g.globals (calls_within most) units (a ∷ waiting) now s related i.op h.0)))
+        let later_used : used_behind (behind i.op q) is ≡ total = sym h.used ∙ left.1 in
+        let room : (behind i.op q).used ≤ used_behind (behind i.op q) is = used_grows is (behind i.op q) in
+        arrives (λ stand. Sees side (ran n stand) (through (rest_of most nodes q (i ∷ is) units s) k))
+        (subst (λ (x : Out). Sees side (ran n (after_effect p now (effect_of i.op now))) (through x k)) (sym (splits h.steps))
+        (meets (effect_of i.op now) (here units s) h.ended (nested_behind (AreNested is) i.op q h.inside left.0, later_used)
+        (does g.globals (calls_within most) units (a ∷ waiting) now s related total q keeps i.op h.inside
+        (can_stand (AreNested is) (open_behind i.op (length q.brackets)) left.0) (omega arith))))
 
-    by_end : (i.op ≡ op.BlockEnd) × (steps_of (i ∷ is) ≡ []) → Sees side (ran (suc n) (running p now)) (through (rest_of most nodes (i ∷ is) units s) k)
+    by_end : (i.op ≡ op.BlockEnd) × (steps_of q (i ∷ is) ≡ []) → Sees side (ran (suc n) (running p now)) (through (rest_of most nodes q (i ∷ is) units s) k)
     by_end h =
         let same : n ≤ n = omega arith in
         let small : a.at + 1 ≤ size = omega arith in
-        arrives (λ stand. Sees side (ran n stand) (through (rest_of most nodes (i ∷ is) units s) k))
-        (subst (λ (x : Op). Sees side (ran n (after_effect p now (effect_of x now))) (through (rest_of most nodes (i ∷ is) units s) k)) (sym h.0)
+        arrives (λ stand. Sees side (ran n stand) (through (rest_of most nodes q (i ∷ is) units s) k))
+        (subst (λ (x : Op). Sees side (ran n (after_effect p now (effect_of x now))) (through (rest_of most nodes q (i ∷ is) units s) k)) (sym h.0)
         (subst (λ (xs : List Stmt). Sees side (ran n (returned p now.activations (with_status after_end now))) (through (then_do (body_meaning g.globals (calls_within most) xs units s) (leaves most nodes)) k)) (sym h.1)
         (subst (λ (acts : List Activation). Sees side (ran n (returned p acts (with_status after_end now))) (k units s)) (sym related.activations)
         (follows n same units (last_step side size n units most a.at debt small within) a.at (with_status after_end now) s (ends (a ∷ waiting) now s related)))))
 
-    pub one_step : Sees side (ran (suc n) (running p now)) (through (rest_of most nodes (i ∷ is) units s) k)
-    one_step = ⊎_elim by_inside by_end (stands i is ending)
+    pub one_step : Sees side (ran (suc n) (running p now)) (through (rest_of most nodes q (i ∷ is) units s) k)
+    one_step = ⊎_elim by_inside by_end (stands q i is ending)
 
   -- All of them, from fewer steps to more
 
@@ -225,33 +287,34 @@ module _ (p : Program) (g : GraphProgram) (counts : Counting) (side : Side) (siz
   not_empty (i ∷ is) ends = omega arith
 
   node_none : AtNode 0
-  node_none a waiting b there start ends fits now s related units most debt begun k follows =
+  node_none a waiting b there start ends nested fits now s related keeps units most debt begun k follows =
       let some : 1 ≤ length b.body = not_empty b.body ends in
       none_forth side _ (no_first_step side size units most a.at debt (omega arith) begun)
 
   inside_none : Inside 0
-  inside_none a waiting b there nodes is has ends fits now s related units most debt within k follows =
+  inside_none a waiting b there nodes is has ends total q left fits now s related keeps units most debt within k follows =
       let some : 1 ≤ length is = not_empty is ends in
       none_forth side _ (no_step side size units most a.at debt (omega arith) within)
 
   -- one more step, at an instruction of which nothing is known but that one is there
-  more_step : (n : ℕ) → Inside n → (a : Activation) (waiting : List Activation) (b : Block) → slice_get p.blocks a.block ≡ Some b → (nodes : List StNode) (is : List Instr) → HasFrom b.body a.at is → IsEnded is → a.at + length is ≤ size
-      → (now : Now) (s : State) → Related (a ∷ waiting) now s → (units most debt : ℕ) → Within side size n units most (a.at + 1) debt
+  more_step : (n : ℕ) → Inside n → (a : Activation) (waiting : List Activation) (b : Block) → slice_get p.blocks a.block ≡ Some b → (nodes : List StNode) (is : List Instr) → HasFrom b.body a.at is → IsEnded is → (total : ℕ) (q : Spot) → AreLeft total q is → a.at + length is ≤ size
+      → (now : Now) (s : State) → Related (a ∷ waiting) now s → Keeps total q now.brackets s.activations → (units most debt : ℕ) → Within side size n units most (a.at + 1) debt
       → (k : ℕ → State → End) → Follows n a waiting k debt
-      → Sees side (ran (suc n) (running p now)) (through (rest_of most nodes is units s) k)
-  more_step n inside a waiting b there nodes [] has ends fits now s related units most debt within k follows = elim ends [ ]
-  more_step n inside a waiting b there nodes (i ∷ is) has ends fits now s related units most debt within k follows =
-      one_step n a waiting b there nodes i is has ends (omega arith) now s related units most debt within k follows inside
+      → Sees side (ran (suc n) (running p now)) (through (rest_of most nodes q is units s) k)
+  more_step n inside a waiting b there nodes [] has ends total q left fits now s related keeps units most debt within k follows = elim ends [ ]
+  more_step n inside a waiting b there nodes (i ∷ is) has ends total q left fits now s related keeps units most debt within k follows =
+      one_step n a waiting b there nodes i is has ends total q left (omega arith) now s related keeps units most debt within k follows inside
 
   inside_next : (n : ℕ) → Inside n → Inside (suc n)
-  inside_next n inside a waiting b there nodes is has ends fits now s related units most debt within k follows =
-      more_step n inside a waiting b there nodes is has ends fits now s related units most debt (next_step side size n units most a.at debt within) k
+  inside_next n inside a waiting b there nodes is has ends total q left fits now s related keeps units most debt within k follows =
+      more_step n inside a waiting b there nodes is has ends total q left fits now s related keeps units most debt (next_step side size n units most a.at debt within) k
       (fewer n (suc n) a waiting k debt (omega arith) follows)
 
   node_next : (n : ℕ) → Inside n → AtNode (suc n)
-  node_next n inside a waiting b there start ends fits now s related units zero debt begun k follows = none_back side _ (no_node side size n units a.at debt begun)
-  node_next n inside a waiting b there start ends fits now s related units (suc most) debt begun k follows =
-      more_step n inside a waiting b there (node_of b.body ∷ []) b.body (λ j. let e : a.at + j ≡ j = omega arith in ap (slice_get b.body) e) ends fits now s related units most debt
+  node_next n inside a waiting b there start ends nested fits now s related keeps units zero debt begun k follows = none_back side _ (no_node side size n units a.at debt begun)
+  node_next n inside a waiting b there start ends nested fits now s related keeps units (suc most) debt begun k follows =
+      more_step n inside a waiting b there (node_of b.body ∷ []) b.body (λ j. let e : a.at + j ≡ j = omega arith in ap (slice_get b.body) e) ends
+      (used_behind first_spot b.body) first_spot (nested, refl) fits now s related keeps units most debt
       (first_step side size n units most a.at debt begun) k (fewer n (suc n) a waiting k debt (omega arith) follows)
 
   abbrev pub Both : ℕ → Type 0

@@ -1,5 +1,5 @@
 -- A graph program that means the same as a program.
-use Rattle.std.specs.Prelude.{◌≡◌, ℕ, ◌*◌, ◌^◌, ◌<◌, true, ◌==◌, List, [], ◌∷◌, length, Option}
+use Rattle.std.specs.Prelude.{◌≡◌, ℕ, suc, ◌*◌, ◌^◌, ◌<◌, true, ◌==◌, codes, decimal, List, [], ◌∷◌, ◌++◌, length, Option}
 use Rattle.memory_areas.specs.Areas.{Areas, IsMemoryOf}
 use Rattle.memory_areas.specs.End.{End, Ended}
 use Rattle.memory_areas.specs.declared.data_block.DataBlock.{DataBlock}
@@ -16,15 +16,26 @@ use Rattle.st_tree.specs.declared.graph.GraphPou.{GraphPou}
 use Rattle.st_tree.specs.declared.graph.GraphProgram.{GraphProgram}
 use Rattle.st_tree.specs.declared.graph.StExit.TheVariants as exit
 use Rattle.st_tree.specs.declared.graph.StNode.{StNode}
+use Rattle.st_tree.specs.declared.expr.StType.TheVariants as type
+use Rattle.st_tree.specs.declared.program.Local.{Local}
 use Rattle.st_tree.specs.declared.program.Pou.{Pou}
 use Rattle.st_tree.specs.declared.program.Stmt.{Stmt}
 use Rattle.st_tree.specs.declared.program.Stmt.TheVariants as stmt
 
 -- Units
 
--- the head of a block's unit: a program with the name of the block
-abbrev pub head_of_block : BlockName → Pou
-head_of_block name = record { program = true; name = called_name name; formals = []; locals = []; body = [] }
+-- temporaries of a unit: they are of type BOOL, and their names are T and a number, from this one on, as T1, T2
+abbrev pub AreTemporaries : ℕ → List Local → Type 0
+AreTemporaries n [] = Unit {0}
+AreTemporaries n (local ∷ rest) = (local.name ≡ codes "T" ++ decimal n) × (local.ty ≡ type.Bool) × AreTemporaries (suc n) rest
+
+-- the head of a block's unit: a program with the name of the block, whose locals are temporaries
+pub record IsHeadOf (called : BlockName) (head : Pou) : Type 0 where
+  pub program : head.program ≡ true
+  pub name : head.name ≡ called_name called
+  pub formals : head.formals ≡ []
+  pub locals : AreTemporaries 1 head.locals
+  pub body : head.body ≡ []
 
 -- each of some statements is an assignment; there is no other, as long as no instruction calls a block
 abbrev pub AreAssignments : List Stmt → Type 0
@@ -34,7 +45,7 @@ AreAssignments (other ∷ rest) = ⊥
 
 -- a unit is that of a block: it has its head, and one node, since no instruction jumps, which ends it
 pub record IsUnitOf (block : Block) (unit : GraphPou) : Type 0 where
-  pub head : unit.head ≡ head_of_block block.name
+  pub head : IsHeadOf block.name unit.head
   pub node : StNode
   pub nodes : unit.graph.nodes ≡ node ∷ []
   pub exit : node.exit ≡ exit.End

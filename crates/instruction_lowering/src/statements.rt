@@ -1,58 +1,290 @@
 //! The statements of an instruction.
 //!
-//! Each instruction but the end word becomes two assignments.
-ghost use Rattle.std.specs.Prelude.{◌≡◌, ◌++◌, IfOk, OnOk};
-ghost use Rattle.instruction_lowering.specs.inner.Templates.{and_of, bit_of, literal_of, next_rlo, not_of, or_of, read_of, rlo_before_and, rlo_before_or, set_of, statements_of, xor_of};
+//! Each is a handful of assignments, so a body without jumps is one node. Of the status word all bits but STA have
+//! variables.
+ghost use Rattle.std.specs.Prelude.{◌≡◌, ◌<◌, ◌+◌, ◌^◌, ◌++◌, IfOk, OnOk};
+ghost use Rattle.instruction_lowering.specs.inner.Templates.{and_joined, and_of, answer_of, behind, behind_check, behind_close, bit_of, chain_at, check_of, checked_of, cleared, close_of, edge_of, first_spot, literal_of, next_rlo, not_of, open_of, or_of, read_of, rlo_before_and, rlo_before_or, rlo_set, running_chain, set_of, statements_of, store_of, xor_of};
 
 use s7_base::{Boxed, Check, List, NoMemory, Reg, Width};
 use st_tree::{BinaryOp, Expr, StType, Stmt, UnaryOp, Var};
+use status_word::Test;
 use std::alloc::Global;
+use std::collections::LinkedList;
 use stl_tree::{BitArg, Op, Operand};
 
+/// Where a chain of checks keeps its RLO, /FC and OR.
+#[derive(Clone, Copy)]
+pub struct Chain {
+    rlo: Var,
+    nfc: Var,
+    orb: Var,
+}
+
+/// A bracket that is open, and the locals that keep the chain from before it.
+#[derive(Clone, Copy)]
+pub struct OpenBracket {
+    check: Check,
+    kept: Chain,
+}
+
+/// How far the statements of a body have come.
+#[derive(Drop)]
+pub struct Spot {
+    /// How many locals the unit has so far.
+    pub used: u32,
+
+    /// The innermost one first.
+    brackets: LinkedList<OpenBracket>,
+}
+
+impl Spot {
+    /// The start of a body.
+    pub fn first(alloc: Global) -> Spot
+        ensures { result ≡ first_spot }
+    {
+        Spot {
+            used: 0,
+            brackets: LinkedList::new(alloc),
+        }
+    }
+}
+
 /// Puts the statements of an instruction at the end of some steps.
-pub fn push_statements(alloc: Global, steps: &mut List<Stmt>, op: &Op) -> Result<(), NoMemory>
-    ensures { OnOk result (steps.new ≡ steps.old ++ statements_of op.now) }
+pub fn push_statements(
+    alloc: Global,
+    steps: &mut List<Stmt>,
+    spot: &mut Spot,
+    op: &Op,
+) -> Result<(), NoMemory>
+    ensures steps { OnOk result (steps.new ≡ steps.old ++ statements_of spot.old op.now) }
+    ensures spot { OnOk result (spot.new ≡ behind op.now spot.old) }
 {
     match op {
-        Op::Check(check, BitArg::At(operand)) => {
-            let value = next_rlo(alloc, *check, Expr::Read(bit(operand)))?;
-            steps.push(set(Reg::Rlo, value))?;
-            steps.push(set(Reg::Nfc, literal(true)))
-        }
-        Op::Assign(operand) => {
-            steps.push(Stmt::Assign(bit(operand), read(Reg::Rlo)))?;
+        Op::Check(check, arg) => push_check(alloc, steps, *check, checked(alloc, arg)?),
+        Op::OrAlone => {
+            steps.push(set(Reg::Orb, and(alloc, read(Reg::Rlo), read(Reg::Nfc))?))?;
             steps.push(set(Reg::Nfc, literal(false)))
         }
-        Op::BlockEnd => Ok(()),
+        Op::Assign(operand) => push_store(steps, bit(operand), read(Reg::Rlo)),
+        Op::Set(operand) => {
+            let value = or(alloc, Expr::Read(bit(operand)), read(Reg::Rlo))?;
+            push_store(steps, bit(operand), value)
+        }
+        Op::Reset(operand) => {
+            let value = and(alloc, Expr::Read(bit(operand)), not(alloc, read(Reg::Rlo))?)?;
+            push_store(steps, bit(operand), value)
+        }
+        Op::SetRlo => push_rlo(steps, true),
+        Op::ClearRlo => push_rlo(steps, false),
+        Op::NotRlo => steps.push(set(Reg::Rlo, not(alloc, read(Reg::Rlo))?)),
+        Op::Save => steps.push(set(Reg::Br, read(Reg::Rlo))),
+        Op::EdgeUp(operand) => {
+            let value = and(alloc, read(Reg::Rlo), not(alloc, Expr::Read(bit(operand)))?)?;
+            push_edge(steps, bit(operand), value)
+        }
+        Op::EdgeDown(operand) => {
+            let value = and(alloc, not(alloc, read(Reg::Rlo))?, Expr::Read(bit(operand)))?;
+            push_edge(steps, bit(operand), value)
+        }
+        Op::Bracket(check) => push_opened(steps, spot, *check),
+        Op::Close => push_closed(alloc, steps, spot),
+        Op::Nop | Op::BlockEnd => Ok(()),
+    }
+}
+
+/// What a check looks at.
+fn checked(alloc: Global, arg: &BitArg) -> Result<Expr, NoMemory>
+    ensures { IfOk result (λ value. value ≡ checked_of arg.now) }
+{
+    match arg {
+        BitArg::At(operand) => Ok(Expr::Read(bit(operand))),
+        BitArg::Flag(test) => answer(alloc, *test),
+    }
+}
+
+/// The answer to a question to the status word.
+fn answer(alloc: Global, test: Test) -> Result<Expr, NoMemory>
+    ensures { IfOk result (λ value. value ≡ answer_of test) }
+{
+    match test {
+        Test::Eq => and(
+            alloc,
+            not(alloc, read(Reg::Cc1))?,
+            not(alloc, read(Reg::Cc0))?,
+        ),
+        Test::Ne => xor(alloc, read(Reg::Cc1), read(Reg::Cc0)),
+        Test::Gt => and(alloc, read(Reg::Cc1), not(alloc, read(Reg::Cc0))?),
+        Test::Lt => and(alloc, not(alloc, read(Reg::Cc1))?, read(Reg::Cc0)),
+        Test::Ge => not(alloc, read(Reg::Cc0)),
+        Test::Le => not(alloc, read(Reg::Cc1)),
+        Test::Uo => and(alloc, read(Reg::Cc1), read(Reg::Cc0)),
+        Test::Ov => Ok(read(Reg::Ov)),
+        Test::Os => Ok(read(Reg::Os)),
+        Test::Br => Ok(read(Reg::Br)),
+    }
+}
+
+fn push_check(
+    alloc: Global,
+    steps: &mut List<Stmt>,
+    check: Check,
+    bit: Expr,
+) -> Result<(), NoMemory>
+    ensures { OnOk result (steps.new ≡ steps.old ++ check_of check bit) }
+{
+    let value = next_rlo(alloc, running_chain(), check, bit)?;
+    steps.push(set(Reg::Rlo, value))?;
+    push_behind_check(steps, check)
+}
+
+/// An AND keeps OR, the others clear it.
+fn push_behind_check(steps: &mut List<Stmt>, check: Check) -> Result<(), NoMemory>
+    ensures { OnOk result (steps.new ≡ steps.old ++ behind_check check) }
+{
+    match check {
+        Check::A | Check::An => steps.push(set(Reg::Nfc, literal(true))),
+        Check::O | Check::On | Check::X | Check::Xn => push_cleared(steps, true),
+    }
+}
+
+/// OR is cleared, and NFC set or not.
+fn push_cleared(steps: &mut List<Stmt>, nfc: bool) -> Result<(), NoMemory>
+    ensures { OnOk result (steps.new ≡ steps.old ++ cleared nfc) }
+{
+    steps.push(set(Reg::Orb, literal(false)))?;
+    steps.push(set(Reg::Nfc, literal(nfc)))
+}
+
+/// A bit takes a value, and the chain ends.
+fn push_store(steps: &mut List<Stmt>, bit: Var, value: Expr) -> Result<(), NoMemory>
+    ensures { OnOk result (steps.new ≡ steps.old ++ store_of bit value) }
+{
+    steps.push(Stmt::Assign(bit, value))?;
+    push_cleared(steps, false)
+}
+
+fn push_rlo(steps: &mut List<Stmt>, rlo: bool) -> Result<(), NoMemory>
+    ensures { OnOk result (steps.new ≡ steps.old ++ rlo_set rlo) }
+{
+    steps.push(set(Reg::Rlo, literal(rlo)))?;
+    push_cleared(steps, false)
+}
+
+/// The edge bit takes the RLO; NFC, which is set at the end, keeps what the RLO becomes until then.
+fn push_edge(steps: &mut List<Stmt>, bit: Var, value: Expr) -> Result<(), NoMemory>
+    ensures { OnOk result (steps.new ≡ steps.old ++ edge_of bit value) }
+{
+    steps.push(set(Reg::Nfc, value))?;
+    steps.push(Stmt::Assign(bit, read(Reg::Rlo)))?;
+    steps.push(set(Reg::Rlo, read(Reg::Nfc)))?;
+    push_cleared(steps, true)
+}
+
+/// A bracket is opened: the next three locals keep RLO, OR and NFC.
+fn push_opened(steps: &mut List<Stmt>, spot: &mut Spot, check: Check) -> Result<(), NoMemory>
+    ensures steps { OnOk result (steps.new ≡ steps.old ++ open_of spot.old.used) }
+    ensures spot { OnOk result (spot.new ≡ behind (Op.Bracket check) spot.old) }
+{
+    let first = spot.used;
+    let used = first.checked_add(3).ok_or(NoMemory)?;
+    let kept = chain_at(first);
+    spot.brackets.push_front(OpenBracket { check, kept })?;
+    spot.used = used;
+    steps.push(Stmt::Assign(kept.rlo, read(Reg::Rlo)))?;
+    steps.push(Stmt::Assign(kept.orb, read(Reg::Orb)))?;
+    steps.push(Stmt::Assign(kept.nfc, read(Reg::Nfc)))?;
+    push_cleared(steps, false)
+}
+
+/// The innermost bracket is closed: its check of the RLO inside, in the chain that it kept.
+fn push_closed(alloc: Global, steps: &mut List<Stmt>, spot: &mut Spot) -> Result<(), NoMemory>
+    ensures steps { OnOk result (steps.new ≡ steps.old ++ close_of spot.old.brackets) }
+    ensures spot { OnOk result (spot.new ≡ behind Op.Close spot.old) }
+{
+    match spot.brackets.pop_front() {
+        Some(bracket) => {
+            let value = next_rlo(alloc, bracket.kept, bracket.check, read(Reg::Rlo))?;
+            steps.push(set(Reg::Rlo, value))?;
+            push_behind_close(steps, bracket.check, bracket.kept.orb)
+        }
+        None => Ok(()),
+    }
+}
+
+/// An AND puts OR back, the others clear it.
+fn push_behind_close(steps: &mut List<Stmt>, check: Check, orb: Var) -> Result<(), NoMemory>
+    ensures { OnOk result (steps.new ≡ steps.old ++ behind_close check orb) }
+{
+    match check {
+        Check::A | Check::An => {
+            steps.push(set(Reg::Orb, Expr::Read(orb)))?;
+            steps.push(set(Reg::Nfc, literal(true)))
+        }
+        Check::O | Check::On | Check::X | Check::Xn => push_cleared(steps, true),
+    }
+}
+
+/// The chain that three locals in a row keep.
+fn chain_at(first: u32) -> Chain
+    requires { first + 2 < 2 ^ 32 }
+    ensures { result ≡ chain_at first }
+{
+    Chain {
+        rlo: Var::Local(first),
+        nfc: Var::Local(first + 2),
+        orb: Var::Local(first + 1),
+    }
+}
+
+/// The chain that goes on in the registers.
+fn running_chain() -> Chain
+    ensures { result ≡ running_chain }
+{
+    Chain {
+        rlo: Var::Register(Reg::Rlo),
+        nfc: Var::Register(Reg::Nfc),
+        orb: Var::Register(Reg::Orb),
     }
 }
 
 /// What the RLO becomes at a check of a bit.
-fn next_rlo(alloc: Global, check: Check, bit: Expr) -> Result<Expr, NoMemory>
-    ensures { IfOk result (λ value. value ≡ next_rlo check bit) }
+fn next_rlo(alloc: Global, chain: Chain, check: Check, bit: Expr) -> Result<Expr, NoMemory>
+    ensures { IfOk result (λ value. value ≡ next_rlo chain check bit) }
 {
     match check {
-        Check::A => and(alloc, rlo_before_and(alloc)?, bit),
-        Check::An => and(alloc, rlo_before_and(alloc)?, not(alloc, bit)?),
-        Check::O => or(alloc, rlo_before_or(alloc)?, bit),
-        Check::On => or(alloc, rlo_before_or(alloc)?, not(alloc, bit)?),
-        Check::X => xor(alloc, rlo_before_or(alloc)?, bit),
-        Check::Xn => xor(alloc, rlo_before_or(alloc)?, not(alloc, bit)?),
+        Check::A => and_joined(alloc, chain, bit),
+        Check::An => and_joined(alloc, chain, not(alloc, bit)?),
+        Check::O => or(alloc, rlo_before_or(alloc, chain)?, bit),
+        Check::On => or(alloc, rlo_before_or(alloc, chain)?, not(alloc, bit)?),
+        Check::X => xor(alloc, rlo_before_or(alloc, chain)?, bit),
+        Check::Xn => xor(alloc, rlo_before_or(alloc, chain)?, not(alloc, bit)?),
     }
 }
 
-/// The RLO before an AND: a first check, where NFC is FALSE, takes it as TRUE.
-fn rlo_before_and(alloc: Global) -> Result<Expr, NoMemory>
-    ensures { IfOk result (λ value. value ≡ rlo_before_and) }
+/// An AND, joined to what OR keeps.
+fn and_joined(alloc: Global, chain: Chain, bit: Expr) -> Result<Expr, NoMemory>
+    ensures { IfOk result (λ value. value ≡ and_joined chain bit) }
 {
-    or(alloc, read(Reg::Rlo), not(alloc, read(Reg::Nfc))?)
+    let joined = and(alloc, rlo_before_and(alloc, chain)?, bit)?;
+    or(alloc, joined, Expr::Read(chain.orb))
+}
+
+/// The RLO before an AND: a first check, where NFC is FALSE, takes it as TRUE.
+fn rlo_before_and(alloc: Global, chain: Chain) -> Result<Expr, NoMemory>
+    ensures { IfOk result (λ value. value ≡ rlo_before_and chain) }
+{
+    or(
+        alloc,
+        Expr::Read(chain.rlo),
+        not(alloc, Expr::Read(chain.nfc))?,
+    )
 }
 
 /// The RLO before an OR or an XOR: a first check, where NFC is FALSE, takes it as FALSE.
-fn rlo_before_or(alloc: Global) -> Result<Expr, NoMemory>
-    ensures { IfOk result (λ value. value ≡ rlo_before_or) }
+fn rlo_before_or(alloc: Global, chain: Chain) -> Result<Expr, NoMemory>
+    ensures { IfOk result (λ value. value ≡ rlo_before_or chain) }
 {
-    and(alloc, read(Reg::Rlo), read(Reg::Nfc))
+    and(alloc, Expr::Read(chain.rlo), Expr::Read(chain.nfc))
 }
 
 fn bit(operand: &Operand) -> Var

@@ -1,13 +1,19 @@
--- The statements of each instruction: two assignments, and none of the end word. No instruction so far sets OR, so
--- none of them reads ORB.
-use Rattle.std.specs.Prelude.{pos, Bool, true, false, List, [], ◌∷◌, if◌then◌else◌}
+-- The statements of each instruction: an assignment for each bit of the status word that its row changes, but for
+-- STA, which nothing reads.
+use Rattle.std.specs.Prelude.{ℕ, ◌+◌, pos, Bool, true, false, List, [], ◌∷◌, if◌then◌else◌}
+use Rattle.instruction_lowering.specs.declared.statements.Chain.{Chain}
+use Rattle.instruction_lowering.specs.declared.statements.OpenBracket.{OpenBracket}
+use Rattle.instruction_lowering.specs.declared.statements.Spot.{Spot}
 use Rattle.s7_base.specs.declared.check.Check.{Check}
 use Rattle.s7_base.specs.declared.check.Check.TheVariants as check
 use Rattle.s7_base.specs.declared.register.Reg.{Reg}
 use Rattle.s7_base.specs.declared.register.Reg.TheVariants as reg
 use Rattle.s7_base.specs.declared.word.Width.TheVariants as width
+use Rattle.status_word.specs.declared.test.Test.{Test}
+use Rattle.status_word.specs.declared.test.Test.TheVariants as test
 use Rattle.stl_tree.specs.declared.program.Operand.{Operand}
 use Rattle.stl_tree.specs.declared.program.Operand.TheVariants as operand
+use Rattle.stl_tree.specs.declared.program.BitArg.{BitArg}
 use Rattle.stl_tree.specs.declared.program.BitArg.TheVariants as arg
 use Rattle.stl_tree.specs.declared.program.Op.{Op}
 use Rattle.stl_tree.specs.declared.program.Op.TheVariants as op
@@ -20,6 +26,8 @@ use Rattle.st_tree.specs.declared.expr.Expr.{Expr}
 use Rattle.st_tree.specs.declared.expr.Expr.TheVariants as expr
 use Rattle.st_tree.specs.declared.program.Stmt.{Stmt}
 use Rattle.st_tree.specs.declared.program.Stmt.TheVariants as stmt
+
+-- Expressions
 
 -- a register, read
 abbrev pub read_of : Reg → Expr
@@ -45,34 +53,154 @@ xor_of e f = expr.Binary binary.Xor e f
 abbrev pub literal_of : Bool → Expr
 literal_of b = expr.Literal type.Bool (if b then pos 1 else pos 0)
 
--- the RLO before an AND: a first check, where NFC is FALSE, takes it as TRUE
-abbrev pub rlo_before_and : Expr
-rlo_before_and = or_of (read_of reg.Rlo) (not_of (read_of reg.Nfc))
-
--- the RLO before an OR or an XOR: a first check, where NFC is FALSE, takes it as FALSE
-abbrev pub rlo_before_or : Expr
-rlo_before_or = and_of (read_of reg.Rlo) (read_of reg.Nfc)
-
--- what the RLO becomes at a check of the bit b
-abbrev pub next_rlo : Check → Expr → Expr
-next_rlo check.A b = and_of rlo_before_and b
-next_rlo check.An b = and_of rlo_before_and (not_of b)
-next_rlo check.O b = or_of rlo_before_or b
-next_rlo check.On b = or_of rlo_before_or (not_of b)
-next_rlo check.X b = xor_of rlo_before_or b
-next_rlo check.Xn b = xor_of rlo_before_or (not_of b)
-
 -- the bit of an operand, as a variable
 abbrev pub bit_of : Operand → Var
 bit_of (operand.Direct a byte bit) = var.Direct a byte bit width.Bit
+
+-- the answer to a question to the status word
+abbrev pub answer_of : Test → Expr
+answer_of test.Eq = and_of (not_of (read_of reg.Cc1)) (not_of (read_of reg.Cc0))
+answer_of test.Ne = xor_of (read_of reg.Cc1) (read_of reg.Cc0)
+answer_of test.Gt = and_of (read_of reg.Cc1) (not_of (read_of reg.Cc0))
+answer_of test.Lt = and_of (not_of (read_of reg.Cc1)) (read_of reg.Cc0)
+answer_of test.Ge = not_of (read_of reg.Cc0)
+answer_of test.Le = not_of (read_of reg.Cc1)
+answer_of test.Uo = and_of (read_of reg.Cc1) (read_of reg.Cc0)
+answer_of test.Ov = read_of reg.Ov
+answer_of test.Os = read_of reg.Os
+answer_of test.Br = read_of reg.Br
+
+-- what a check looks at
+abbrev pub checked_of : BitArg → Expr
+checked_of (arg.At o) = expr.Read (bit_of o)
+checked_of (arg.Flag t) = answer_of t
+
+-- Checks
+
+-- the chain that goes on in the registers
+abbrev pub running_chain : Chain
+running_chain = record { rlo = var.Register reg.Rlo; nfc = var.Register reg.Nfc; orb = var.Register reg.Orb }
+
+-- the RLO before an AND: a first check, where NFC is FALSE, takes it as TRUE
+abbrev pub rlo_before_and : Chain → Expr
+rlo_before_and chain = or_of (expr.Read chain.rlo) (not_of (expr.Read chain.nfc))
+
+-- the RLO before an OR or an XOR: a first check, where NFC is FALSE, takes it as FALSE
+abbrev pub rlo_before_or : Chain → Expr
+rlo_before_or chain = and_of (expr.Read chain.rlo) (expr.Read chain.nfc)
+
+-- the RLO after an AND with the bit b, which is joined to what OR keeps
+abbrev pub and_joined : Chain → Expr → Expr
+and_joined chain b = or_of (and_of (rlo_before_and chain) b) (expr.Read chain.orb)
+
+-- what the RLO becomes at a check of the bit b in a chain
+abbrev pub next_rlo : Chain → Check → Expr → Expr
+next_rlo chain check.A b = and_joined chain b
+next_rlo chain check.An b = and_joined chain (not_of b)
+next_rlo chain check.O b = or_of (rlo_before_or chain) b
+next_rlo chain check.On b = or_of (rlo_before_or chain) (not_of b)
+next_rlo chain check.X b = xor_of (rlo_before_or chain) b
+next_rlo chain check.Xn b = xor_of (rlo_before_or chain) (not_of b)
+
+-- Statements
 
 -- a register takes a value
 abbrev pub set_of : Reg → Expr → Stmt
 set_of r e = stmt.Assign (var.Register r) e
 
--- the statements of an instruction
-abbrev pub statements_of : Op → List Stmt
-statements_of (op.Check c (arg.At o)) =
-    set_of reg.Rlo (next_rlo c (expr.Read (bit_of o))) ∷ set_of reg.Nfc (literal_of true) ∷ []
-statements_of (op.Assign o) = stmt.Assign (bit_of o) (read_of reg.Rlo) ∷ set_of reg.Nfc (literal_of false) ∷ []
-statements_of op.BlockEnd = []
+-- OR is cleared, and NFC set or not
+abbrev pub cleared : Bool → List Stmt
+cleared nfc = set_of reg.Orb (literal_of false) ∷ set_of reg.Nfc (literal_of nfc) ∷ []
+
+-- what stands behind the RLO of a check: an AND keeps OR
+abbrev pub behind_check : Check → List Stmt
+behind_check check.A = set_of reg.Nfc (literal_of true) ∷ []
+behind_check check.An = set_of reg.Nfc (literal_of true) ∷ []
+behind_check check.O = cleared true
+behind_check check.On = cleared true
+behind_check check.X = cleared true
+behind_check check.Xn = cleared true
+
+-- a check of a bit
+abbrev pub check_of : Check → Expr → List Stmt
+check_of c b = set_of reg.Rlo (next_rlo running_chain c b) ∷ behind_check c
+
+-- a bit takes a value, and the chain ends
+abbrev pub store_of : Var → Expr → List Stmt
+store_of v e = stmt.Assign v e ∷ cleared false
+
+-- FP or FN of an edge bit, with what the RLO becomes: NFC keeps that until the bit has the old RLO
+abbrev pub edge_of : Var → Expr → List Stmt
+edge_of v e =
+    set_of reg.Nfc e ∷ stmt.Assign v (read_of reg.Rlo) ∷ set_of reg.Rlo (read_of reg.Nfc) ∷ cleared true
+
+-- the RLO is set or cleared, and the chain ends
+abbrev pub rlo_set : Bool → List Stmt
+rlo_set rlo = set_of reg.Rlo (literal_of rlo) ∷ cleared false
+
+-- a local takes the value of a register
+abbrev pub keep_of : ℕ → Reg → Stmt
+keep_of i r = stmt.Assign (var.Local i) (read_of r)
+
+-- Brackets
+
+-- the chain that three locals in a row keep
+abbrev pub chain_at : ℕ → Chain
+chain_at first = record { rlo = var.Local first; nfc = var.Local (first + 2); orb = var.Local (first + 1) }
+
+-- a bracket is opened: the next three locals keep RLO, OR and NFC
+abbrev pub open_of : ℕ → List Stmt
+open_of first = keep_of first reg.Rlo ∷ keep_of (first + 1) reg.Orb ∷ keep_of (first + 2) reg.Nfc ∷ cleared false
+
+-- what stands behind the RLO of a bracket that is closed: an AND puts OR back
+abbrev pub behind_close : Check → Var → List Stmt
+behind_close check.A orb = set_of reg.Orb (expr.Read orb) ∷ set_of reg.Nfc (literal_of true) ∷ []
+behind_close check.An orb = set_of reg.Orb (expr.Read orb) ∷ set_of reg.Nfc (literal_of true) ∷ []
+behind_close check.O orb = cleared true
+behind_close check.On orb = cleared true
+behind_close check.X orb = cleared true
+behind_close check.Xn orb = cleared true
+
+-- the innermost of some brackets is closed: its check of the RLO inside, in the chain that it kept
+abbrev pub close_of : List OpenBracket → List Stmt
+close_of [] = []
+close_of (o ∷ outer) =
+    set_of reg.Rlo (next_rlo o.kept o.check (read_of reg.Rlo)) ∷ behind_close o.check o.kept.orb
+
+-- Spots
+
+-- the start of a body
+abbrev pub first_spot : Spot
+first_spot = record { used = 0; brackets = [] }
+
+-- the brackets around the innermost one
+abbrev pub outer_of : List OpenBracket → List OpenBracket
+outer_of [] = []
+outer_of (o ∷ outer) = outer
+
+-- the spot behind an instruction: an opened bracket has three locals of its own
+abbrev pub behind : Op → Spot → Spot
+behind (op.Bracket c) p = record { used = p.used + 3; brackets = record { check = c; kept = chain_at p.used } ∷ p.brackets }
+behind op.Close p = record { used = p.used; brackets = outer_of p.brackets }
+behind other p = p
+
+-- Instructions
+
+-- the statements of an instruction at a spot
+abbrev pub statements_of : Spot → Op → List Stmt
+statements_of p (op.Check c b) = check_of c (checked_of b)
+statements_of p op.OrAlone =
+    set_of reg.Orb (and_of (read_of reg.Rlo) (read_of reg.Nfc)) ∷ set_of reg.Nfc (literal_of false) ∷ []
+statements_of p (op.Bracket c) = open_of p.used
+statements_of p op.Close = close_of p.brackets
+statements_of p (op.Assign o) = store_of (bit_of o) (read_of reg.Rlo)
+statements_of p (op.Set o) = store_of (bit_of o) (or_of (expr.Read (bit_of o)) (read_of reg.Rlo))
+statements_of p (op.Reset o) = store_of (bit_of o) (and_of (expr.Read (bit_of o)) (not_of (read_of reg.Rlo)))
+statements_of p op.SetRlo = rlo_set true
+statements_of p op.ClearRlo = rlo_set false
+statements_of p op.NotRlo = set_of reg.Rlo (not_of (read_of reg.Rlo)) ∷ []
+statements_of p op.Save = set_of reg.Br (read_of reg.Rlo) ∷ []
+statements_of p (op.EdgeUp o) = edge_of (bit_of o) (and_of (read_of reg.Rlo) (not_of (expr.Read (bit_of o))))
+statements_of p (op.EdgeDown o) = edge_of (bit_of o) (and_of (not_of (read_of reg.Rlo)) (expr.Read (bit_of o)))
+statements_of p op.Nop = []
+statements_of p op.BlockEnd = []

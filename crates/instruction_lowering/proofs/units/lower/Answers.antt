@@ -1,4 +1,5 @@
-use Rattle.std.proofs.Common.{rules, ◌≡◌, List, [], map, sym, subst, arith}
+use Rattle.std.proofs.Common.{rules, ◌≡◌, List, [], length, map, sym, ap, subst, arith}
+use Rattle.std.proofs.lemmas.Option.{slice_get_read}
 use Rattle.std.proofs.lemmas.Grind.{common_steps}
 use Rattle.memory_areas.specs.declared.data_block.DataBlock.{DataBlock}
 use Rattle.st_tree.specs.Plain.{Plain}
@@ -7,7 +8,7 @@ use Rattle.st_tree.specs.declared.graph.GraphProgram.{GraphProgram}
 use Rattle.st_tree.specs.declared.program.Located.{Located}
 use Rattle.instruction_lowering.specs.Lowered.{Lowered}
 use Rattle.instruction_lowering.specs.inner.Lowering.{unit_of}
-use Rattle.instruction_lowering.proofs.PlainGraph.{plain_graph}
+use Rattle.instruction_lowering.proofs.PlainGraph.{all_few, few_more, plain_graph}
 use Rattle.instruction_lowering.proofs.Same.{lowered_same}
 use Rattle.instruction_lowering.proofs.units.lower.Goals as goal
 
@@ -20,10 +21,20 @@ by_parts P dbs globals pous units e f g h =
     (subst (λ x. P (record { dbs = []; globals = x; pous = pous })) (sym f)
     (subst (λ x. P (record { dbs = []; globals = []; pous = x })) (sym g) h))
 
+pub loop-block-preserved : goal.loop-block-preserved
+loop-block-preserved c = (
+  first_of (search rules, grind (arith, common_steps)),
+  few_more c.args.program.now.blocks c.loop-block.block-index c.block-item.result c.loop-block.invariant.1
+      (slice_get_read c.args.program.now.blocks (length c.as_slice-block-items.result.now) c.loop-block.block-index c.block-item.result
+      (ap length c.as_slice-block-items.ensures) c.loop-block-test.true (first_of (search rules, grind (arith, common_steps))))
+      (first_of (search rules, grind (arith, common_steps))),
+)
+
 pub returns-clause-plain : goal.returns-clause-plain
 returns-clause-plain c =
     by_parts Plain c.new.result c.new-2.result c.loop-block.pous (map unit_of c.args.program.now.blocks) c.new.ensures c.new-2.ensures
-    (first_of (search rules, grind (arith, common_steps))) (plain_graph c.args.program.now c.requires)
+    (first_of (search rules, grind (arith, common_steps))) (plain_graph c.args.program.now c.requires (all_few c.args.program.now.blocks c.loop-block.block-index
+    (first_of (search rules, grind (arith, common_steps))) c.loop-block.invariant.1))
 
 pub returns-clause-same : goal.returns-clause-same
 returns-clause-same c =
