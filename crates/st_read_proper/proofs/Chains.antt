@@ -21,7 +21,7 @@ use Rattle.st_tree.specs.declared.program.StProgram.{StProgram}
 use Rattle.st_tree.specs.declared.raw.RawPou.{RawPou}
 use Rattle.st_tree.specs.declared.raw.RawSt.{RawSt}
 use Rattle.st_types_laws.proofs.Bounds.{bound}
-use Rattle.st_types_laws.proofs.FirstBreak.{first_of_all_is_first}
+use Rattle.s7_base.proofs.FirstBreak.{first_of_all_is_first}
 use Rattle.st_types_laws.proofs.Lists.{mapped_at, mapped_from, nil_first, nil_second}
 
 -- the calls of a unit, which cost no less than its statements

@@ -33,7 +33,7 @@ use Rattle.st_types_laws.proofs.Apart.{Lists, same_keys}
 use Rattle.st_types_laws.proofs.Lists.{nil_first, nil_second, mapped_at, nil_at}
 use Rattle.st_types_laws.proofs.Declared.{Declares, IsFunctionAt, IsGlobalAt, IsLocalAt, keys_of_locals, types_of_locals}
 use Rattle.st_types_laws.proofs.DeclaredNames.{AreNumbered, before_units, ArePlaced, Gathered, block_entries, entries, formal_entries, gather, gather_units, inner_entries, local_entries, located_entries, outer_entries, unit_entries}
-use Rattle.st_types_laws.proofs.FirstBreak.{first_of_all_is_first}
+use Rattle.s7_base.proofs.FirstBreak.{first_of_all_is_first}
 use Rattle.st_types_laws.proofs.Redeclared.{AreLocalsAt, AreUnitsAt, IsUnitAt}
 
 pub sound_units : (raw : RawSt) → first_break raw ≡ None → all_unit_breaks (names_of raw) (map formals_of raw.pous) raw.pous ≡ []
