@@ -52,20 +52,40 @@ static ROWS: [Row; 27] = [
     (b"AN M 0.0; XN M 0.0; = M 1.0;", b"", b""),
     (b"SET; X M 0.0; = M 1.0;", b"", b""),
     (b"CLR; XN M 0.0; = M 1.0;", b"", M_1_SET),
-    (b"A ==0; A >=0; A <=0; AN <>0; AN >0; AN <0; = M 1.0;", b"", M_1_SET),
+    (
+        b"A ==0; A >=0; A <=0; AN <>0; AN >0; AN <0; = M 1.0;",
+        b"",
+        M_1_SET,
+    ),
     (b"ON UO; AN OV; AN OS; AN BR; = M 1.0;", b"", M_1_SET),
     (b"SET; SAVE; CLR; A BR; = M 1.0;", b"", M_1_SET),
     (b"CLR; NOT; = M 1.0;", b"", M_1_SET),
     (b"SET; NOT; = M 1.0;", b"", b""),
     // A bracket keeps the check, the RLO, OR and /FC from before it.
-    (b"AN M 0.0; A(; A M 0.0; ON M 0.0; ); = M 1.0;", b"", M_1_SET),
+    (
+        b"AN M 0.0; A(; A M 0.0; ON M 0.0; ); = M 1.0;",
+        b"",
+        M_1_SET,
+    ),
     (b"AN M 0.0; AN(; AN M 0.0; ); = M 1.0;", b"", b""),
     (b"A M 0.0; O(; AN M 0.0; ); = M 1.0;", b"", M_1_SET),
-    (b"AN M 0.0; O; A(; AN M 0.0; ); A M 0.0; = M 1.0;", b"", M_1_SET),
-    (b"AN M 0.0; X(; AN M 0.0; ON(; A M 0.0; ); ); XN(; A M 0.0; ); = M 1.0;", b"", M_1_SET),
+    (
+        b"AN M 0.0; O; A(; AN M 0.0; ); A M 0.0; = M 1.0;",
+        b"",
+        M_1_SET,
+    ),
+    (
+        b"AN M 0.0; X(; AN M 0.0; ON(; A M 0.0; ); ); XN(; A M 0.0; ); = M 1.0;",
+        b"",
+        M_1_SET,
+    ),
     // The edges: the RLO falls, and the edge bit keeps it.
     (b"SET; = M 1.1; CLR; FN M 1.1; = M 1.0;", b"", M_1_SET),
-    (b"SET; FN M 0.0; R M 0.0; SET; FP M 0.0; = M 1.0; SET; FP M 0.0; S M 2.0; NOP 0; BLD 255;", b"", EDGE_SEEN),
+    (
+        b"SET; FN M 0.0; R M 0.0; SET; FP M 0.0; = M 1.0; SET; FP M 0.0; S M 2.0; NOP 0; BLD 255;",
+        b"",
+        EDGE_SEEN,
+    ),
     (b"SET; S M 1.0; CLR; R M 1.0; S M 0.0;", b"", M_1_SET),
 ];
 
@@ -85,16 +105,33 @@ fn wants_memory(
     let (status, out) = answered(alloc, line, text, image)?;
     let mut report = Vec::from_slice(alloc, b"# ENDED\n")?;
     report.extend_from_slice(memory)?;
-    wants_answer(rt, text, (status, out.taken()), (Status::Done, report.as_slice()));
+    wants_answer(
+        rt,
+        text,
+        (status, out.taken()),
+        (Status::Done, report.as_slice()),
+    );
     Ok(())
 }
 
 fn want_bodies(rt: &impl Abort, alloc: Global, rows: &[Row]) -> Result<(), NoMemory> {
     for (body, image, memory) in rows {
         let source = with_body(alloc, body)?;
-        wants_memory(rt, alloc, "run-stl 1000 OB1 img", source.as_slice(), (image, memory))?;
+        wants_memory(
+            rt,
+            alloc,
+            "run-stl 1000 OB1 img",
+            source.as_slice(),
+            (image, memory),
+        )?;
         let (_, text) = answered(alloc, "translate", source.as_slice(), b"")?;
-        wants_memory(rt, alloc, "run-st 1000 OB1 img", text.taken(), (image, memory))?;
+        wants_memory(
+            rt,
+            alloc,
+            "run-st 1000 OB1 img",
+            text.taken(),
+            (image, memory),
+        )?;
     }
     Ok(())
 }

@@ -20,10 +20,10 @@ mod call;
 mod command;
 mod image_file;
 mod limits;
-mod reply;
-mod status;
 #[cfg(test)]
 mod logic_tests;
+mod reply;
+mod status;
 #[cfg(test)]
 mod tests;
 mod text;

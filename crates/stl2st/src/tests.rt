@@ -19,17 +19,18 @@ const ROW: &[u8] =
     b"ORGANIZATION_BLOCK OB 1\nBEGIN\nA I 0.0; A I 0.1; = Q 4.0;\nEND_ORGANIZATION_BLOCK\n";
 
 const ROW_TEXT: &[u8] = b"PROGRAM OB1
-    RLO := (RLO OR NOT NFC) AND %IX0.0;
+    RLO := (RLO OR NOT NFC) AND %IX0.0 OR ORB;
     NFC := TRUE;
-    RLO := (RLO OR NOT NFC) AND %IX0.1;
+    RLO := (RLO OR NOT NFC) AND %IX0.1 OR ORB;
     NFC := TRUE;
     %QX4.0 := RLO;
+    ORB := FALSE;
     NFC := FALSE;
 END_PROGRAM
 ";
 
 /// What `A I 0.0;` is in ST.
-const CHECK: &[&str] = &["RLO := (RLO OR NOT NFC) AND %IX0.0;", "NFC := TRUE;"];
+const CHECK: &[&str] = &["RLO := (RLO OR NOT NFC) AND %IX0.0 OR ORB;", "NFC := TRUE;"];
 
 /// Bodies, and their statements in ST.
 static BODIES: [(&[u8], &[&str]); 14] = [
@@ -37,35 +38,50 @@ static BODIES: [(&[u8], &[&str]); 14] = [
     (b"A I 0.0;", CHECK),
     (
         b"AN I 0.0;",
-        &["RLO := (RLO OR NOT NFC) AND NOT %IX0.0;", "NFC := TRUE;"],
+        &[
+            "RLO := (RLO OR NOT NFC) AND NOT %IX0.0 OR ORB;",
+            "NFC := TRUE;",
+        ],
     ),
     (
         b"O I 0.0;",
-        &["RLO := RLO AND NFC OR %IX0.0;", "NFC := TRUE;"],
+        &[
+            "RLO := RLO AND NFC OR %IX0.0;",
+            "ORB := FALSE;",
+            "NFC := TRUE;",
+        ],
     ),
     (
         b"ON I 0.0;",
-        &["RLO := RLO AND NFC OR NOT %IX0.0;", "NFC := TRUE;"],
+        &[
+            "RLO := RLO AND NFC OR NOT %IX0.0;",
+            "ORB := FALSE;",
+            "NFC := TRUE;",
+        ],
     ),
     (
         b"A I0.0; a i 0.7; = q 2047.7;;",
         &[
-            "RLO := (RLO OR NOT NFC) AND %IX0.0;",
+            "RLO := (RLO OR NOT NFC) AND %IX0.0 OR ORB;",
             "NFC := TRUE;",
-            "RLO := (RLO OR NOT NFC) AND %IX0.7;",
+            "RLO := (RLO OR NOT NFC) AND %IX0.7 OR ORB;",
             "NFC := TRUE;",
             "%QX2047.7 := RLO;",
+            "ORB := FALSE;",
             "NFC := FALSE;",
         ],
     ),
     (b"A I\n0.0;", CHECK),
     (
         b"A M 8191.7;",
-        &["RLO := (RLO OR NOT NFC) AND %MX8191.7;", "NFC := TRUE;"],
+        &[
+            "RLO := (RLO OR NOT NFC) AND %MX8191.7 OR ORB;",
+            "NFC := TRUE;",
+        ],
     ),
     (
         b"A M 007.07;",
-        &["RLO := (RLO OR NOT NFC) AND %MX7.7;", "NFC := TRUE;"],
+        &["RLO := (RLO OR NOT NFC) AND %MX7.7 OR ORB;", "NFC := TRUE;"],
     ),
     (b"TITLE == it's\nA I 0.0;", CHECK),
     (b"A TITLE = x\nI 0.0;", CHECK),
