@@ -1,5 +1,5 @@
 //! Reads the operand of an instruction.
-ghost use Rattle.std.specs.Prelude.{◌≡◌, ◌≤◌, ◌&&◌, ◌||◌, map, option_map, IfSome};
+ghost use Rattle.std.specs.Prelude.{◌≡◌, ◌&&◌, ◌||◌, map, option_map};
 ghost use Rattle.std.specs.List.{find, list_all};
 ghost use Rattle.s7_base.specs.Tokens.{is_between};
 ghost use Rattle.stl_tree.specs.Statements.{area_of, area_of_letter, bit_of, is_bit_in_area, in_area, bit_at, is_bit_number, short_bit, long_bit, are_digits, is_named, is_numbered, has_form, left_out_forms, fitting, or_else, short_at, long_at, left_out_by, bit_operand, at_place, size_with, first_of, second_of, tests, is_asked, status_at, number_in, zero_behind, plain_by, byte_at, nothing_at, checked_at, operand_by, checked_shape, shape_of, operand_of};
@@ -373,21 +373,19 @@ fn status_at(tokens: &[Token]) -> Read<RawOperand>
 }
 
 /// A word that is a number of at most so much.
-fn number_in(most: u64, token: &Token) -> Option<u64>
-    ensures value { result ≡ number_in most token.now }
-    ensures within { IfSome result (λ number. number ≤ most) }
+fn number_in(most: u16, token: &Token) -> Option<u16>
+    ensures { result ≡ number_in most token.now }
 {
     if is_word_kind(token) {
-        number_of(most, token.text.as_slice())
+        Some(number_of(u64::from(most), token.text.as_slice())? as u16)
     } else {
         None
     }
 }
 
 /// Behind a minus: 0, with no blank before it.
-fn zero_behind(tokens: &[Token]) -> Option<u64>
-    ensures value { result ≡ zero_behind tokens.now }
-    ensures within { IfSome result (λ number. number ≤ 0) }
+fn zero_behind(tokens: &[Token]) -> Option<u16>
+    ensures { result ≡ zero_behind tokens.now }
 {
     match tokens {
         [token, ..] if token.glued => number_in(0, token),
@@ -395,8 +393,7 @@ fn zero_behind(tokens: &[Token]) -> Option<u64>
     }
 }
 
-fn plain_by(size: usize, number: Option<u64>) -> Read<RawOperand>
-    requires { IfSome number (λ value. value ≤ 255) }
+fn plain_by(size: usize, number: Option<u16>) -> Read<RawOperand>
     ensures { result ≡ plain_by size number }
 {
     match number {
@@ -405,7 +402,7 @@ fn plain_by(size: usize, number: Option<u64>) -> Read<RawOperand>
                 width: Width::Word,
                 signed: true,
                 binary: false,
-                value: value as u32,
+                value: u32::from(value),
             };
             Read::Fits(RawOperand::Constant(value), size)
         }

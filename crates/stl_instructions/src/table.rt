@@ -197,6 +197,12 @@ fn stands_at(row: &Row, tokens: &[Token]) -> bool
     }
 }
 
+fn table() -> &'static [Row]
+    ensures { map view result.now ≡ rows }
+{
+    &ROWS
+}
+
 /// The first row of a table whose mnemonic stands at the front.
 fn first_row(tokens: &[Token], table: &[Row]) -> Option<Row>
     ensures { option_map view result ≡ find (stands_at tokens.now) (map view table.now) }
@@ -215,7 +221,7 @@ fn row_found(tokens: &[Token], table: &[Row]) -> Option<Row>
 pub fn mnemonic_at(tokens: &[Token]) -> Option<Row>
     ensures { option_map view result ≡ mnemonic_at tokens.now }
 {
-    first_row(tokens, &ROWS)
+    first_row(tokens, table())
 }
 
 /// A mnemonic stands at the front.
@@ -248,7 +254,7 @@ fn row_named(name: &[u8], table: &[Row]) -> Option<Row>
 fn row_of(name: &[u8]) -> Option<Row>
     ensures { option_map view result ≡ find (has_name name.now) rows }
 {
-    row_named(name, &ROWS)
+    row_named(name, table())
 }
 
 /// What the mnemonic of a name is.

@@ -1,7 +1,11 @@
-//! The rows that show what no clause says of the machine: that the definitions of instructions and runs
+//! The rows that show what no clause says of tokens, instructions and the machine: that the definitions
 //! give the answers that the rules of STL ask for, over public calls alone.
 #![tactic(auto)]
 
+#[cfg(test)]
+mod stl_instructions_rows;
+#[cfg(test)]
+mod stl_lexer_rows;
 #[cfg(test)]
 mod stl_machine_rows;
 #[cfg(test)]

@@ -1,0 +1,350 @@
+//! What no clause says: that the table and the forms of operands give the instructions that the language
+//! asks for, and the right refusals.
+use crate::wants::{wants, wants_text};
+use memory_areas::AreaName;
+use s7_base::{Check, Kind, Line, List, Reason, Rejection, Token, Width};
+use status_word::Test;
+use std::alloc::Global;
+use std::process::Abort;
+use std::test::Fail;
+use stl_instructions::{instruction, mnemonic_named};
+use stl_lexer::tokens;
+use stl_tree::{Constant, Mnemonic, RawOperand, RawPlace};
+
+/// An operand of bit logic.
+#[derive(Clone, Copy, Debug, PartialEq)]
+enum Wanted {
+    Nothing,
+    Bit(AreaName, u32, u32),
+    Status(Test),
+    Number(u32),
+}
+
+use Wanted::{Bit, Nothing, Number, Status};
+
+/// A statement without its `;`, the name of its mnemonic, what that is, and the operand.
+type Row = (&'static [u8], &'static [u8], Mnemonic, Wanted);
+
+const AND: Mnemonic = Mnemonic::Check(Check::A);
+
+const OR: Mnemonic = Mnemonic::Check(Check::O);
+
+static MNEMONICS: [Row; 27] = [
+    (b"A I 0.0", b"A", AND, Bit(AreaName::I, 0, 0)),
+    (
+        b"AN I 0.1",
+        b"AN",
+        Mnemonic::Check(Check::An),
+        Bit(AreaName::I, 0, 1),
+    ),
+    (b"O Q 4.7", b"O", OR, Bit(AreaName::Q, 4, 7)),
+    (
+        b"ON M 8191.7",
+        b"ON",
+        Mnemonic::Check(Check::On),
+        Bit(AreaName::M, 8191, 7),
+    ),
+    (
+        b"X Q 2047.0",
+        b"X",
+        Mnemonic::Check(Check::X),
+        Bit(AreaName::Q, 2047, 0),
+    ),
+    (
+        b"XN M 7.7",
+        b"XN",
+        Mnemonic::Check(Check::Xn),
+        Bit(AreaName::M, 7, 7),
+    ),
+    (b"O", b"O", OR, Nothing),
+    (b"A(", b"A(", Mnemonic::Bracket(Check::A), Nothing),
+    (b"AN(", b"AN(", Mnemonic::Bracket(Check::An), Nothing),
+    (b"O(", b"O(", Mnemonic::Bracket(Check::O), Nothing),
+    (b"ON(", b"ON(", Mnemonic::Bracket(Check::On), Nothing),
+    (b"X(", b"X(", Mnemonic::Bracket(Check::X), Nothing),
+    (b"XN(", b"XN(", Mnemonic::Bracket(Check::Xn), Nothing),
+    (b")", b")", Mnemonic::Close, Nothing),
+    (b"= Q 4.0", b"=", Mnemonic::Assign, Bit(AreaName::Q, 4, 0)),
+    (b"S M 0.0", b"S", Mnemonic::Set, Bit(AreaName::M, 0, 0)),
+    (b"R M 0.1", b"R", Mnemonic::Reset, Bit(AreaName::M, 0, 1)),
+    (b"SET", b"SET", Mnemonic::SetRlo, Nothing),
+    (b"CLR", b"CLR", Mnemonic::ClearRlo, Nothing),
+    (b"NOT", b"NOT", Mnemonic::NotRlo, Nothing),
+    (b"SAVE", b"SAVE", Mnemonic::Save, Nothing),
+    (b"FP M 0.2", b"FP", Mnemonic::EdgeUp, Bit(AreaName::M, 0, 2)),
+    (
+        b"FN M 0.3",
+        b"FN",
+        Mnemonic::EdgeDown,
+        Bit(AreaName::M, 0, 3),
+    ),
+    (b"NOP 0", b"NOP", Mnemonic::Nop, Number(0)),
+    (b"NOP 1", b"NOP", Mnemonic::Nop, Number(1)),
+    (b"BLD 255", b"BLD", Mnemonic::Nop, Number(255)),
+    (b"BLD 7", b"BLD", Mnemonic::Nop, Number(7)),
+];
+
+/// The ways to write the same: any case, blanks, ends of lines, attributes and leading zeros.
+static SPELLINGS: [Row; 18] = [
+    (b"a i0.0", b"A", AND, Bit(AreaName::I, 0, 0)),
+    (b"A I\n0.0", b"A", AND, Bit(AreaName::I, 0, 0)),
+    (b"A{x} I 007.07", b"A", AND, Bit(AreaName::I, 7, 7)),
+    (b"o q4.0", b"O", OR, Bit(AreaName::Q, 4, 0)),
+    (b"=Q 4.0", b"=", Mnemonic::Assign, Bit(AreaName::Q, 4, 0)),
+    (b"A (", b"A(", Mnemonic::Bracket(Check::A), Nothing),
+    (b"an\t(", b"AN(", Mnemonic::Bracket(Check::An), Nothing),
+    (b"O // x\n(", b"O(", Mnemonic::Bracket(Check::O), Nothing),
+    (b"xn{x}(", b"XN(", Mnemonic::Bracket(Check::Xn), Nothing),
+    (b"NOP -0", b"NOP", Mnemonic::Nop, Number(0)),
+    (b"nop 0255", b"NOP", Mnemonic::Nop, Number(255)),
+    (b"NOP{x}0", b"NOP", Mnemonic::Nop, Number(0)),
+    (b"A==0", b"A", AND, Status(Test::Eq)),
+    (b"A ==\n0", b"A", AND, Status(Test::Eq)),
+    (b"A >{x}0", b"A", AND, Status(Test::Gt)),
+    (b"A br", b"A", AND, Status(Test::Br)),
+    (b"O ov", b"O", OR, Status(Test::Ov)),
+    (b"Set", b"SET", Mnemonic::SetRlo, Nothing),
+];
+
+/// The questions to the status word.
+static STATUS_OPERANDS: [(&[u8], Test); 10] = [
+    (b"==0", Test::Eq),
+    (b"<>0", Test::Ne),
+    (b">0", Test::Gt),
+    (b"<0", Test::Lt),
+    (b">=0", Test::Ge),
+    (b"<=0", Test::Le),
+    (b"UO", Test::Uo),
+    (b"OV", Test::Ov),
+    (b"OS", Test::Os),
+    (b"BR", Test::Br),
+];
+
+static CHECKS: [(&[u8], Check); 6] = [
+    (b"A", Check::A),
+    (b"AN", Check::An),
+    (b"O", Check::O),
+    (b"ON", Check::On),
+    (b"X", Check::X),
+    (b"XN", Check::Xn),
+];
+
+/// Statements that begin with a mnemonic or a label and have no form that is built, each on line 1.
+static NOT_BUILT: [&[u8]; 63] = [
+    b"A",
+    b"X",
+    b"AN",
+    b"S",
+    b"=",
+    b"FP",
+    b"NOP",
+    b"A I",
+    b"A I 0",
+    b"A I 0.",
+    b"A I 0.0 I",
+    b"A I 0 .0",
+    b"A I 0. 0",
+    b"A I 0.8",
+    b"A I 2048.0",
+    b"A Q 2048.0",
+    b"= M 8192.0",
+    b"A{x}N I 0.0",
+    b"A == 0",
+    b"A ==",
+    b"A ==1",
+    b"A ==00",
+    b"A ==0 0",
+    b"A = =0",
+    b"A OV 0",
+    b"= ==0",
+    b"S OV",
+    b"FP BR",
+    b"O I 0.0 I 0.1",
+    b"O (I 0.0",
+    b"A( I 0.0",
+    b") I 0.0",
+    b"SET I 0.0",
+    b"NOT 0",
+    b"NOP 256",
+    b"NOP -1",
+    b"NOP - 0",
+    b"NOP +0",
+    b"NOP 0 0",
+    b"NOP B#16#5",
+    b"BLD M 0.0",
+    b"A T 1",
+    b"A T1 foo",
+    b"S C 1",
+    b"A PIW 0",
+    b"A PIW [MW 0]",
+    b"SP T 1",
+    b"SE{x}T",
+    b"CU C 1",
+    b"MCR(",
+    b"MCR (",
+    b")MCR",
+    b"ENT",
+    b"+R",
+    b"L 5",
+    b"+I",
+    b"JU a",
+    b"CALL FC 1",
+    b"A \"name\"",
+    b"A #x",
+    b"a: SET",
+    b"A: A I 0.0",
+    b"a:= Q 4.0",
+];
+
+/// Statements that begin with no mnemonic and no label.
+static BAD: [&[u8]; 20] = [
+    b"FOO 5",
+    b"5",
+    b"\"A\" I 0.0",
+    b"'A' I 0.0",
+    b"AI 0.0",
+    b"NOP0",
+    b"SLW4",
+    b"A1",
+    b"==0",
+    b"== I",
+    b"- I",
+    b"<> 0",
+    b"(",
+    b":",
+    b"b:= Q 4.0",
+    b"L1:= M 0.0",
+    b"1a: SET",
+    b"abcde: SET",
+    b"# A",
+    b"NETWORK",
+];
+
+/// Statements whose first token stands on this line, and why they are refused.
+static LINES: [(&[u8], u32, Reason); 5] = [
+    (b"\n\nFOO\n5", 3, Reason::BadStatement),
+    (b"\nA\nT 1", 2, Reason::Unsupported(Kind::NotBuilt)),
+    (b"// A\n\nA I\n0.8", 3, Reason::Unsupported(Kind::NotBuilt)),
+    (b"\na\n: SET", 2, Reason::Unsupported(Kind::NotBuilt)),
+    (b"", 1, Reason::BadStatement),
+];
+
+/// The operand, where it is one of bit logic.
+fn operand_of(operand: &RawOperand) -> Option<Wanted> {
+    match operand {
+        RawOperand::Missing => Some(Nothing),
+        RawOperand::At(
+            RawPlace {
+                block: None,
+                area,
+                width: Width::Bit,
+                byte,
+                bit,
+            },
+        ) => Some(Bit(*area, *byte, *bit)),
+        RawOperand::Flag(test) => Some(Status(*test)),
+        RawOperand::Constant(
+            Constant {
+                width: Width::Word,
+                signed: true,
+                binary: false,
+                value,
+            },
+        ) => Some(Number(*value)),
+        _ => None,
+    }
+}
+
+/// A statement of line 1 is this instruction.
+fn wants_instruction(
+    rt: &impl Abort,
+    alloc: Global,
+    text: &[u8],
+    (name, what): (&[u8], Mnemonic),
+    operand: Wanted,
+) -> Result<(), Fail> {
+    let tokens: List<Token> = tokens(alloc, text)?;
+    let found = instruction(alloc, tokens.as_slice())?;
+    let mnemonic = found.op.mnemonic.as_slice();
+    wants(
+        rt,
+        &text,
+        &(found.label.is_none(), found.line),
+        &(true, Line(1)),
+    );
+    wants_text(rt, text, mnemonic, name);
+    wants(rt, &text, &mnemonic_named(mnemonic), &Some(what));
+    wants(rt, &text, &operand_of(&found.op.operand), &Some(operand));
+    Ok(())
+}
+
+fn want_instructions(rt: &impl Abort, alloc: Global, rows: &[Row]) -> Result<(), Fail> {
+    for (text, name, what, operand) in rows {
+        wants_instruction(rt, alloc, text, (*name, *what), *operand)?;
+    }
+    Ok(())
+}
+
+#[test]
+fn reads_bit_logic(rt: HostRuntime) -> Result<(), Fail> {
+    want_instructions(&rt, rt.alloc(), &MNEMONICS)?;
+    want_instructions(&rt, rt.alloc(), &SPELLINGS)
+}
+
+/// A check asks each question to the status word.
+fn want_questions(rt: &impl Abort, alloc: Global, name: &[u8], check: Check) -> Result<(), Fail> {
+    for (question, test) in STATUS_OPERANDS {
+        let mut text = Vec::from_slice(alloc, name)?;
+        text.push(b' ')?;
+        text.extend_from_slice(question)?;
+        let what = Mnemonic::Check(check);
+        wants_instruction(rt, alloc, text.as_slice(), (name, what), Status(test))?;
+    }
+    Ok(())
+}
+
+#[test]
+fn reads_status_operands(rt: HostRuntime) -> Result<(), Fail> {
+    for (name, check) in CHECKS {
+        want_questions(&rt, rt.alloc(), name, check)?;
+    }
+    Ok(())
+}
+
+/// A statement is refused on this line, for this reason.
+fn wants_refusal(
+    rt: &impl Abort,
+    alloc: Global,
+    text: &[u8],
+    line: u32,
+    reason: Reason,
+) -> Result<(), Fail> {
+    let tokens = tokens(alloc, text)?;
+    let refused = instruction(alloc, tokens.as_slice()).err();
+    let wanted = Some(Rejection::Refused(Line(line), reason));
+    wants(rt, &text, &refused, &wanted);
+    Ok(())
+}
+
+fn want_refusals(
+    rt: &impl Abort,
+    alloc: Global,
+    rows: &[&[u8]],
+    reason: Reason,
+) -> Result<(), Fail> {
+    for text in rows {
+        wants_refusal(rt, alloc, text, 1, reason)?;
+    }
+    Ok(())
+}
+
+#[test]
+fn refuses_what_is_no_instruction(rt: HostRuntime) -> Result<(), Fail> {
+    let alloc = rt.alloc();
+    want_refusals(&rt, alloc, &NOT_BUILT, Reason::Unsupported(Kind::NotBuilt))?;
+    want_refusals(&rt, alloc, &BAD, Reason::BadStatement)?;
+    for (text, line, reason) in LINES {
+        wants_refusal(&rt, alloc, text, line, reason)?;
+    }
+    Ok(())
+}
