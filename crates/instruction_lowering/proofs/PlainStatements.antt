@@ -263,12 +263,6 @@ module _ (sight : Sight) where
   rlo_bool : IsBool 1 (read_of reg.Rlo)
   rlo_bool = register_bool reg.Rlo refl
 
-  edge_plain : (o : Operand) (e : Expr) (rest : List Stmt) → IsOperand width.Bit o → IsBool 4 e → IsPlainBody rest → IsPlainBody (edge_of (bit_of o) e ++ rest)
-  edge_plain o e rest h k plain =
-      set_plain 4 reg.Nfc e (stmt.Assign (bit_of o) (read_of reg.Rlo) ∷ set_of reg.Rlo (read_of reg.Nfc) ∷ cleared true ++ rest) (omega arith) refl k
-      (assigned 1 (bit_of o) (read_of reg.Rlo) (set_of reg.Rlo (read_of reg.Nfc) ∷ cleared true ++ rest) (omega arith) (bit_bool o h) rlo_bool
-      (set_plain 1 reg.Rlo (read_of reg.Nfc) (cleared true ++ rest) (omega arith) refl (register_bool reg.Nfc refl) (cleared_plain true rest plain)))
-
   -- Brackets
 
   -- the chains of some open brackets
@@ -286,6 +280,13 @@ module _ (sight : Sight) where
   module _ (total : ℕ) (locals : (i : ℕ) → i < total → variable_type sight (var.Local i) ≡ Some type.Bool) where
     local_bool : (i : ℕ) → i < total → IsBool 1 (expr.Read (var.Local i))
     local_bool i h = read_bool (var.Local i) (locals i h)
+
+    edge_plain : (i : ℕ) (o : Operand) (e : Expr) (rest : List Stmt) → i < total → IsOperand width.Bit o → IsBool 4 e → IsPlainBody rest
+        → IsPlainBody (edge_of i (bit_of o) e ++ rest)
+    edge_plain i o e rest small h k plain =
+        assigned 4 (var.Local i) e (stmt.Assign (bit_of o) (read_of reg.Rlo) ∷ set_of reg.Rlo (expr.Read (var.Local i)) ∷ cleared true ++ rest) (omega arith) (locals i small) k
+        (assigned 1 (bit_of o) (read_of reg.Rlo) (set_of reg.Rlo (expr.Read (var.Local i)) ∷ cleared true ++ rest) (omega arith) (bit_bool o h) rlo_bool
+        (set_plain 1 reg.Rlo (expr.Read (var.Local i)) (cleared true ++ rest) (omega arith) refl (local_bool i small) (cleared_plain true rest plain)))
 
     keep_plain : (i : ℕ) (r : Reg) (rest : List Stmt) → i < total → type_of_register r ≡ type.Bool → IsPlainBody rest → IsPlainBody (keep_of i r ∷ rest)
     keep_plain i r rest small h plain = assigned 1 (var.Local i) (read_of r) rest (omega arith) (locals i small) (register_bool r h) plain
@@ -337,10 +338,10 @@ module _ (sight : Sight) where
     of_instruction op.NotRlo q rest h small chains plain = set_plain 3 reg.Rlo (not_of (read_of reg.Rlo)) rest (omega arith) refl (not_bool 1 (read_of reg.Rlo) rlo_bool) plain
     of_instruction op.Save q rest h small chains plain = set_plain 1 reg.Br (read_of reg.Rlo) rest (omega arith) refl rlo_bool plain
     of_instruction (op.EdgeUp o) q rest h small chains plain =
-        edge_plain o (and_of (read_of reg.Rlo) (not_of (expr.Read (bit_of o)))) rest h
+        edge_plain q.used o (and_of (read_of reg.Rlo) (not_of (expr.Read (bit_of o)))) rest (omega arith) h
         (and_bool 3 (read_of reg.Rlo) (not_of (expr.Read (bit_of o))) (more 1 3 (read_of reg.Rlo) (omega arith) rlo_bool) (not_bool 1 (expr.Read (bit_of o)) (read_bool (bit_of o) (bit_bool o h)))) plain
     of_instruction (op.EdgeDown o) q rest h small chains plain =
-        edge_plain o (and_of (not_of (read_of reg.Rlo)) (expr.Read (bit_of o))) rest h
+        edge_plain q.used o (and_of (not_of (read_of reg.Rlo)) (expr.Read (bit_of o))) rest (omega arith) h
         (and_bool 3 (not_of (read_of reg.Rlo)) (expr.Read (bit_of o)) (not_bool 1 (read_of reg.Rlo) rlo_bool) (more 1 3 (expr.Read (bit_of o)) (omega arith) (read_bool (bit_of o) (bit_bool o h)))) plain
     of_instruction op.Nop q rest h small chains plain = plain
     of_instruction op.BlockEnd q rest h small chains plain = plain

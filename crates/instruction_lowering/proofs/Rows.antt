@@ -61,8 +61,8 @@ module _ (g : List Located) (calls : Calls) (units : ℕ) (acts : List Activatio
   does op.NotRlo inside stands room = not_does g calls units acts now s related total p keeps
   does op.Save inside stands room = save_does g calls units acts now s related total p keeps
   does (op.EdgeUp (operand.Direct a byte x)) inside stands room =
-      up_does g calls units acts now s related total p keeps a byte x (read_bit (place_now a byte x now) now.memory) refl
+      up_does g calls units acts now s related total p keeps room a byte x (read_bit (place_now a byte x now) now.memory) refl
   does (op.EdgeDown (operand.Direct a byte x)) inside stands room =
-      down_does g calls units acts now s related total p keeps a byte x (read_bit (place_now a byte x now) now.memory) refl
+      down_does g calls units acts now s related total p keeps room a byte x (read_bit (place_now a byte x now) now.memory) refl
   does op.Nop inside stands room = nop_does g calls units acts now s related total p keeps
   does op.BlockEnd inside stands room = elim inside [ ]

@@ -3,7 +3,7 @@
 //! Each is a handful of assignments, so a body without jumps is one node. Of the status word all bits but STA have
 //! variables.
 ghost use Rattle.std.specs.Prelude.{◌≡◌, ◌<◌, ◌+◌, ◌^◌, ◌++◌, IfOk, OnOk};
-ghost use Rattle.instruction_lowering.specs.inner.Templates.{and_joined, and_of, answer_of, behind, behind_check, behind_close, bit_of, chain_at, check_of, checked_of, cleared, close_of, edge_of, first_spot, literal_of, next_rlo, not_of, open_of, or_of, read_of, rlo_before_and, rlo_before_or, rlo_set, running_chain, set_of, statements_of, store_of, xor_of};
+ghost use Rattle.instruction_lowering.specs.inner.Templates.{and_joined, and_of, answer_of, behind, behind_check, behind_close, bit_of, chain_at, check_of, checked_of, cleared, close_of, edge_of, first_spot, literal_of, next_rlo, not_of, one_more, open_of, or_of, read_of, rlo_before_and, rlo_before_or, rlo_set, running_chain, set_of, statements_of, store_of, xor_of};
 
 use s7_base::{Boxed, Check, List, NoMemory, Reg, Width};
 use st_tree::{BinaryOp, Expr, StType, Stmt, UnaryOp, Var};
@@ -80,11 +80,11 @@ pub fn push_statements(
         Op::Save => steps.push(set(Reg::Br, read(Reg::Rlo))),
         Op::EdgeUp(operand) => {
             let value = and(alloc, read(Reg::Rlo), not(alloc, Expr::Read(bit(operand)))?)?;
-            push_edge(steps, bit(operand), value)
+            push_edge(steps, spot, bit(operand), value)
         }
         Op::EdgeDown(operand) => {
             let value = and(alloc, not(alloc, read(Reg::Rlo))?, Expr::Read(bit(operand)))?;
-            push_edge(steps, bit(operand), value)
+            push_edge(steps, spot, bit(operand), value)
         }
         Op::Bracket(check) => push_opened(steps, spot, *check),
         Op::Close => push_closed(alloc, steps, spot),
@@ -170,13 +170,16 @@ fn push_rlo(steps: &mut List<Stmt>, rlo: bool) -> Result<(), NoMemory>
     push_cleared(steps, false)
 }
 
-/// The edge bit takes the RLO; NFC, which is set at the end, keeps what the RLO becomes until then.
-fn push_edge(steps: &mut List<Stmt>, bit: Var, value: Expr) -> Result<(), NoMemory>
-    ensures { OnOk result (steps.new ≡ steps.old ++ edge_of bit value) }
+/// The edge bit takes the RLO; a local keeps what the RLO becomes until then.
+fn push_edge(steps: &mut List<Stmt>, spot: &mut Spot, bit: Var, value: Expr) -> Result<(), NoMemory>
+    ensures steps { OnOk result (steps.new ≡ steps.old ++ edge_of spot.old.used bit value) }
+    ensures spot { OnOk result (spot.new ≡ one_more spot.old) }
 {
-    steps.push(set(Reg::Nfc, value))?;
+    let kept = Var::Local(spot.used);
+    spot.used = spot.used.checked_add(1).ok_or(NoMemory)?;
+    steps.push(Stmt::Assign(kept, value))?;
     steps.push(Stmt::Assign(bit, read(Reg::Rlo)))?;
-    steps.push(set(Reg::Rlo, read(Reg::Nfc)))?;
+    steps.push(set(Reg::Rlo, Expr::Read(kept)))?;
     push_cleared(steps, true)
 }
 

@@ -129,10 +129,10 @@ check_of c b = set_of reg.Rlo (next_rlo running_chain c b) ∷ behind_check c
 abbrev pub store_of : Var → Expr → List Stmt
 store_of v e = stmt.Assign v e ∷ cleared false
 
--- FP or FN of an edge bit, with what the RLO becomes: NFC keeps that until the bit has the old RLO
-abbrev pub edge_of : Var → Expr → List Stmt
-edge_of v e =
-    set_of reg.Nfc e ∷ stmt.Assign v (read_of reg.Rlo) ∷ set_of reg.Rlo (read_of reg.Nfc) ∷ cleared true
+-- FP or FN of an edge bit: a local keeps what the RLO becomes until the bit has the old RLO
+abbrev pub edge_of : ℕ → Var → Expr → List Stmt
+edge_of i v e =
+    stmt.Assign (var.Local i) e ∷ stmt.Assign v (read_of reg.Rlo) ∷ set_of reg.Rlo (expr.Read (var.Local i)) ∷ cleared true
 
 -- the RLO is set or cleared, and the chain ends
 abbrev pub rlo_set : Bool → List Stmt
@@ -178,10 +178,16 @@ abbrev pub outer_of : List OpenBracket → List OpenBracket
 outer_of [] = []
 outer_of (o ∷ outer) = outer
 
--- the spot behind an instruction: an opened bracket has three locals of its own
+-- the spot behind an instruction with a local of its own
+abbrev pub one_more : Spot → Spot
+one_more p = record { used = p.used + 1; brackets = p.brackets }
+
+-- the spot behind an instruction: an opened bracket has three locals of its own, and an edge one
 abbrev pub behind : Op → Spot → Spot
 behind (op.Bracket c) p = record { used = p.used + 3; brackets = record { check = c; kept = chain_at p.used } ∷ p.brackets }
 behind op.Close p = record { used = p.used; brackets = outer_of p.brackets }
+behind (op.EdgeUp o) p = one_more p
+behind (op.EdgeDown o) p = one_more p
 behind other p = p
 
 -- Instructions
@@ -200,7 +206,7 @@ statements_of p op.SetRlo = rlo_set true
 statements_of p op.ClearRlo = rlo_set false
 statements_of p op.NotRlo = set_of reg.Rlo (not_of (read_of reg.Rlo)) ∷ []
 statements_of p op.Save = set_of reg.Br (read_of reg.Rlo) ∷ []
-statements_of p (op.EdgeUp o) = edge_of (bit_of o) (and_of (read_of reg.Rlo) (not_of (expr.Read (bit_of o))))
-statements_of p (op.EdgeDown o) = edge_of (bit_of o) (and_of (not_of (read_of reg.Rlo)) (expr.Read (bit_of o)))
+statements_of p (op.EdgeUp o) = edge_of p.used (bit_of o) (and_of (read_of reg.Rlo) (not_of (expr.Read (bit_of o))))
+statements_of p (op.EdgeDown o) = edge_of p.used (bit_of o) (and_of (not_of (read_of reg.Rlo)) (expr.Read (bit_of o)))
 statements_of p op.Nop = []
 statements_of p op.BlockEnd = []
