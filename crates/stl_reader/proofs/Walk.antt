@@ -1,15 +1,13 @@
 -- How the reader's loop follows the items of a text.
-use Rattle.std.proofs.Common.{◌≡◌, ℕ, ◌<◌, ◌≤◌, List, [], ◌∷◌, length, drop, Result, Ok, Err, refl, sym, ap, ◌∙◌, arith, length-drop}
+use Rattle.std.proofs.Common.{◌≡◌, ℕ, List, [], ◌∷◌, drop, Result, Ok, Err, refl, sym, ap, ◌∙◌}
 use Rattle.s7_base.specs.declared.reason.Line.{Line}
-use Rattle.s7_base.specs.declared.reason.Reason.{Reason}
 use Rattle.s7_base.specs.declared.reason.Rejection.{Rejection}
-use Rattle.s7_base.specs.declared.reason.Rejection.TheVariants.{Refused}
 use Rattle.s7_base.specs.declared.token.Token.{Token}
 use Rattle.stl_tree.proofs.GrammarLaws.{skipped}
 use Rattle.stl_tree.specs.Items.{item_at, items_from, prepend_item, with_found}
-use Rattle.stl_tree.specs.RawPrograms.{blocks_in, raw_with, with_item}
+use Rattle.stl_tree.specs.RawPrograms.{with_item}
 use Rattle.stl_tree.specs.declared.item.Found.{Found}
-use Rattle.stl_tree.specs.declared.item.Found.TheVariants.{Fits, Misfit, Ended}
+use Rattle.stl_tree.specs.declared.item.Found.TheVariants.{Fits}
 use Rattle.stl_tree.specs.declared.item.Item.{Item}
 use Rattle.stl_tree.specs.declared.item.Reading.{Reading}
 use Rattle.stl_tree.specs.declared.item.Where.{Where}

@@ -40,18 +40,19 @@ fn begin_at(kind: BlockKind, tokens: &[Token], first: &Token) -> Found
     }
 }
 
-/// A complete statement: its tokens, and those from its place on.
+/// A complete statement of so many tokens, given those from its place on.
 fn complete_from(
     alloc: Global,
     place: Where,
     line: Line,
-    front: &[Token],
     tokens: &[Token],
+    size: usize,
 ) -> Result<Found, NoMemory>
-    ensures { IfOk result (λ found. found ≡ statement_found place tokens.now line (instruction_of front.now)) }
+    requires { size ≡ statement_size tokens.now }
+    ensures { IfOk result (λ found. found ≡ statement_found place tokens.now line (instruction_of (statement_at tokens.now))) }
 {
-    match instruction(alloc, front) {
-        Ok(instr) => Ok(Found::Fits(Item::Instr(instr), statement_size(tokens), place)),
+    match instruction(alloc, front_of(tokens, size)) {
+        Ok(instr) => Ok(Found::Fits(Item::Instr(instr), size, place)),
         Err(Rejection::Refused(_, reason)) => Ok(Found::Misfit(
             line,
             statement_reason(tokens, reason),
@@ -73,7 +74,7 @@ fn statement_from(
     if size == tokens.len() {
         return Ok(Found::Misfit(line, misfit_reason(place, tokens)));
     }
-    complete_from(alloc, place, line, front_of(tokens, size), tokens)
+    complete_from(alloc, place, line, tokens, size)
 }
 
 /// What stands in a body.

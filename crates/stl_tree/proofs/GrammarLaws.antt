@@ -63,9 +63,6 @@ ended behind_a_block = tt
 ended (behind_a_heading kind) = tt
 ended (in_a_body kind) = tt
 
-are_none : (end : Line) (place : Where) (items : List Item) → IsItem end place [] Ended → Ok [] ≡ with_found Ended (λ size next. Ok items) → AreItems end place [] []
-are_none end place items is e = none_more is
-
 at_no_token : (end : Line) (place : Where) (items : List Item) (found : Found) → IsItem end place [] found → with_found found (λ size next. Ok []) ≡ Ok items → AreItems end place [] items
 at_no_token end place items (Fits item size next) (form is) e = absurd (form_some is)
 at_no_token end place items (Misfit line reason) is e = absurd cc

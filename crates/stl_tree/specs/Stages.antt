@@ -15,7 +15,8 @@ use Rattle.stl_tree.specs.declared.raw.RawBlock.{RawBlock}
 use Rattle.stl_tree.specs.declared.raw.RawInstr.{RawInstr}
 use Rattle.stl_tree.specs.declared.raw.RawProgram.{RawProgram}
 
--- What is not built: no text that the reader takes breaks these rules, and the program has all that is left
+-- What is not built: a form that the reader takes and that has no place in a program yet. The program of a
+-- raw program leaves such forms out, so that no rule of a later stage is judged without this one.
 
 -- what must be there is not built
 abbrev pub unless_there : {X : Type 0} → Line → Option X → List Break
