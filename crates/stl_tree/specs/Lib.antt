@@ -9,6 +9,7 @@ pub mod Now
 pub mod Numbers
 pub mod Operands
 pub mod Raw
+pub mod Reads
 pub mod Registers
 pub mod RunLaws
 pub mod Statements
