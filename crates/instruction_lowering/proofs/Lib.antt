@@ -10,6 +10,7 @@ pub mod Operands
 pub mod PlainGraph
 pub mod PlainStatements
 pub mod ProperNames
+pub mod ReadRows
 pub mod Rows
 pub mod Same
 pub mod Simulation

@@ -24,11 +24,12 @@ use Rattle.st_tree.specs.declared.graph.GraphPou.{GraphPou}
 use Rattle.st_tree.specs.declared.graph.GraphProgram.{GraphProgram}
 use Rattle.st_tree.specs.declared.program.Pou.{Pou}
 use Rattle.st_tree.specs.declared.program.StProgram.{StProgram}
-use Rattle.instruction_lowering.specs.Lowered.{AreUnitsOf, HasNoInstance, IsHeadOf, Lowered, SameGraphRuns}
+use Rattle.instruction_lowering.specs.Lowered.{AreUnitsOf, HasNoInstance, IsHeadOf, IsRead, Lowered, SameGraphRuns}
 use Rattle.instruction_lowering.specs.inner.Lowering.{head_for, lowered, node_of, temporaries, unit_of, used_behind}
 use Rattle.instruction_lowering.specs.inner.Templates.{first_spot}
 use Rattle.instruction_lowering.proofs.Alike.{AreAlike, IsKept, Related}
 use Rattle.instruction_lowering.proofs.Assignments.{are_assignments}
+use Rattle.instruction_lowering.proofs.ReadRows.{of_body}
 use Rattle.instruction_lowering.proofs.Bounds.{Begun, Side, back, begun_back, begun_forth, forth}
 use Rattle.instruction_lowering.proofs.Names.{IsAt, IsNumbered, block_at, block_of, found_each, found_numbered, found_of, found_size, meant, none_of, not_meant, position_of}
 use Rattle.instruction_lowering.proofs.TemporaryNames.{are_temporaries, so_many}
@@ -46,7 +47,7 @@ head_is b =
 units_of : (blocks : List Block) → AreUnitsOf blocks (map unit_of blocks)
 units_of [] = tt
 units_of (b ∷ bs) =
-    (record { head = head_is b; node = node_of b.body; nodes = refl; exit = refl; only_end = refl; steps = are_assignments b.body first_spot }, units_of bs)
+    (record { head = head_is b; node = node_of b.body; nodes = refl; exit = refl; only_end = refl; steps = are_assignments b.body first_spot; reads = of_body (IsRead b.body) b.body first_spot (λ r read. read) tt }, units_of bs)
 
 -- The block that is called
 

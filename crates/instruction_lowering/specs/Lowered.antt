@@ -1,9 +1,15 @@
 -- A graph program that means the same as a program.
-use Rattle.std.specs.Prelude.{◌≡◌, ℕ, suc, ◌*◌, ◌^◌, ◌<◌, true, ◌==◌, codes, decimal, List, [], ◌∷◌, ◌++◌, length, Option}
+use Rattle.std.specs.Prelude.{◌≡◌, ℕ, suc, ◌*◌, ◌^◌, ◌<◌, true, ◌==◌, codes, decimal, List, [], ◌∷◌, ◌++◌, ◌⊎◌, length, Option}
 use Rattle.memory_areas.specs.Areas.{Areas, IsMemoryOf}
 use Rattle.memory_areas.specs.End.{End, Ended}
 use Rattle.memory_areas.specs.declared.data_block.DataBlock.{DataBlock}
 use Rattle.s7_base.specs.declared.outcome.Fault.{Fault}
+use Rattle.s7_base.specs.declared.register.Reg.{Reg}
+use Rattle.st_tree.specs.Parts.{reads_in}
+use Rattle.st_tree.specs.declared.expr.Var.{Var}
+use Rattle.st_tree.specs.declared.expr.Var.TheVariants as var
+use Rattle.stl_tree.specs.Reads.{reads_of}
+use Rattle.stl_tree.specs.declared.program.Instr.{Instr}
 use Rattle.stl_tree.specs.StlRun.{Fits, size_of, stl_run}
 use Rattle.stl_tree.specs.declared.program.Block.{Block}
 use Rattle.memory_areas.specs.declared.call.BlockName.{BlockName}
@@ -43,7 +49,26 @@ AreAssignments [] = Unit {0}
 AreAssignments (stmt.Assign v e ∷ rest) = AreAssignments rest
 AreAssignments (other ∷ rest) = ⊥
 
--- a unit is that of a block: it has its head, and one node, since no instruction jumps, which ends it
+-- Reads
+
+-- a register is one of some
+abbrev pub IsAmong : Reg → List Reg → Type 0
+IsAmong r [] = ⊥
+IsAmong r (q ∷ rest) = (r ≡ q) ⊎ IsAmong r rest
+
+-- some instruction reads a register
+abbrev pub IsRead : List Instr → Reg → Type 0
+IsRead [] r = ⊥
+IsRead (i ∷ rest) r = IsAmong r (reads_of i.op) ⊎ IsRead rest r
+
+-- what holds of each register among some variables
+abbrev pub EachRegister : (Reg → Type 0) → List Var → Type 0
+EachRegister P [] = Unit {0}
+EachRegister P (var.Register r ∷ rest) = P r × EachRegister P rest
+EachRegister P (other ∷ rest) = EachRegister P rest
+
+-- a unit is that of a block: it has its head, and one node, since no instruction jumps, which ends it;
+-- it reads the register variables alone that instructions of the block read
 pub record IsUnitOf (block : Block) (unit : GraphPou) : Type 0 where
   pub head : IsHeadOf block.name unit.head
   pub node : StNode
@@ -51,6 +76,7 @@ pub record IsUnitOf (block : Block) (unit : GraphPou) : Type 0 where
   pub exit : node.exit ≡ exit.End
   pub only_end : node.only_end ≡ length block.body == 1
   pub steps : AreAssignments node.steps
+  pub reads : EachRegister (IsRead block.body) (reads_in node.steps)
 
 -- there is a unit for each block, in the same order
 abbrev pub AreUnitsOf : List Block → List GraphPou → Type 0

@@ -11,6 +11,7 @@ pub mod Operands
 pub mod Programs
 pub mod Raw
 pub mod RawPrograms
+pub mod Reads
 pub mod Registers
 pub mod RunLaws
 pub mod Stages
