@@ -9,7 +9,7 @@ use Rattle.s7_base.specs.declared.register.Reg.TheVariants as reg
 use Rattle.stl_tree.specs.Accepted.{IsAccepted, IsAcceptedBlock}
 use Rattle.stl_tree.specs.Now.{Activation, Now}
 use Rattle.stl_tree.specs.Registers.{start}
-use Rattle.stl_tree.specs.StlRun.{block_called, block_named, end_of, first_activation, running, size_of, steps_on, stl_run}
+use Rattle.stl_tree.specs.StlRun.{HasNoInstance, block_called, block_named, end_of, first_activation, running, size_of, steps_on, stl_run}
 use Rattle.stl_tree.specs.declared.program.Block.{Block}
 use Rattle.memory_areas.specs.declared.call.BlockName.{BlockName}
 use Rattle.memory_areas.specs.declared.call.BlockName.TheVariants as name
@@ -24,7 +24,7 @@ use Rattle.st_tree.specs.declared.graph.GraphPou.{GraphPou}
 use Rattle.st_tree.specs.declared.graph.GraphProgram.{GraphProgram}
 use Rattle.st_tree.specs.declared.program.Pou.{Pou}
 use Rattle.st_tree.specs.declared.program.StProgram.{StProgram}
-use Rattle.instruction_lowering.specs.Lowered.{AreUnitsOf, HasNoInstance, IsHeadOf, IsRead, Lowered, SameGraphRuns}
+use Rattle.instruction_lowering.specs.Lowered.{AreUnitsOf, IsHeadOf, IsRead, Lowered, SameGraphRuns}
 use Rattle.instruction_lowering.specs.inner.Lowering.{head_for, lowered, node_of, temporaries, unit_of, used_behind}
 use Rattle.instruction_lowering.specs.inner.Templates.{first_spot}
 use Rattle.instruction_lowering.proofs.Alike.{AreAlike, IsKept, Related}

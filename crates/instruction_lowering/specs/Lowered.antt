@@ -1,5 +1,5 @@
 -- A graph program that means the same as a program.
-use Rattle.std.specs.Prelude.{◌≡◌, ℕ, suc, ◌*◌, ◌^◌, ◌<◌, true, ◌==◌, codes, decimal, List, [], ◌∷◌, ◌++◌, ◌⊎◌, length, Option}
+use Rattle.std.specs.Prelude.{◌≡◌, ℕ, suc, ◌*◌, true, ◌==◌, codes, decimal, List, [], ◌∷◌, ◌++◌, ◌⊎◌, length, Option}
 use Rattle.memory_areas.specs.Areas.{Areas, IsMemoryOf}
 use Rattle.memory_areas.specs.End.{End, Ended}
 use Rattle.memory_areas.specs.declared.data_block.DataBlock.{DataBlock}
@@ -10,10 +10,9 @@ use Rattle.st_tree.specs.declared.expr.Var.{Var}
 use Rattle.st_tree.specs.declared.expr.Var.TheVariants as var
 use Rattle.stl_tree.specs.Reads.{reads_of}
 use Rattle.stl_tree.specs.declared.program.Instr.{Instr}
-use Rattle.stl_tree.specs.StlRun.{Fits, size_of, stl_run}
+use Rattle.stl_tree.specs.StlRun.{Fits, HasNoInstance, size_of, stl_run}
 use Rattle.stl_tree.specs.declared.program.Block.{Block}
 use Rattle.memory_areas.specs.declared.call.BlockName.{BlockName}
-use Rattle.memory_areas.specs.declared.call.BlockName.TheVariants as name
 use Rattle.memory_areas.specs.declared.call.Call.{Call}
 use Rattle.stl_tree.specs.declared.program.Program.{Program}
 use Rattle.st_tree.specs.GraphRun.{FitsGraph, graph_run, pass_run}
@@ -96,13 +95,6 @@ pub record SameGraphRuns (blocks : List DataBlock) (stl nodes passes : Areas →
       → stl memory n ≡ Ended after fault → nodes memory n ≡ Ended after fault
   pub back : (memory : Areas) → IsMemoryOf blocks memory → (n : ℕ) (after : Areas) (fault : Option Fault)
       → passes memory n ≡ Ended after fault → stl memory (n * size) ≡ Ended after fault
-
--- an organization block or a function is called, by a number of 16 bits; of a function block a text can't say which
--- data blocks are its instances
-abbrev pub HasNoInstance : BlockName → Type 0
-HasNoInstance (name.Ob n) = n < 2 ^ 16
-HasNoInstance (name.Fc n) = n < 2 ^ 16
-HasNoInstance (name.Fb n) = ⊥
 
 -- a graph program has the data blocks of the program and a unit for each block; each call that fits the program
 -- fits it, and its runs are the same; a call without an instance that fits it fits the program

@@ -4,12 +4,11 @@ use Rattle.memory_areas.specs.Areas.{Areas, IsMemoryOf}
 use Rattle.memory_areas.specs.End.{End, Ended}
 use Rattle.memory_areas.specs.declared.data_block.DataBlock.{DataBlock}
 use Rattle.s7_base.specs.declared.outcome.Fault.{Fault}
-use Rattle.stl_tree.specs.StlRun.{Fits, size_of, stl_run}
+use Rattle.stl_tree.specs.StlRun.{Fits, HasNoInstance, size_of, stl_run}
 use Rattle.memory_areas.specs.declared.call.Call.{Call}
 use Rattle.stl_tree.specs.declared.program.Program.{Program}
 use Rattle.st_tree.specs.StRun.{FitsSt, st_run}
 use Rattle.st_tree.specs.declared.program.StProgram.{StProgram}
-pub use Rattle.instruction_lowering.specs.Lowered.{HasNoInstance}
 
 -- two runs from a memory of these data blocks, within a bound: where one ends, the other ends with the
 -- same memory and the same fault, within a bound that the first one's bound gives; so where one goes on

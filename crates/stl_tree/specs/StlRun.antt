@@ -1,6 +1,6 @@
 -- What a program does when one of its blocks is called: its instructions one after another, within a
 -- bound on their number.
-use Rattle.std.specs.Prelude.{ℕ, zero, suc, ◌+◌, max, Bool, false, ◌==◌, if◌then◌else◌, List, [], ◌∷◌, length, map, slice_get, IsSome, Option, Some, None, option_and_then}
+use Rattle.std.specs.Prelude.{ℕ, zero, suc, ◌+◌, ◌^◌, ◌<◌, max, Bool, false, ◌==◌, if◌then◌else◌, List, [], ◌∷◌, length, map, slice_get, IsSome, Option, Some, None, option_and_then}
 use Rattle.std.specs.List.{position}
 use Rattle.s7_base.specs.declared.outcome.Fault.{Fault}
 use Rattle.memory_areas.specs.Areas.{Areas, Contents, cleared, with_areas}
@@ -45,6 +45,13 @@ block_called (name.Fb n) blocks = None
 -- a call fits a program
 abbrev pub Fits : Program → Call → Type 0
 Fits program call = IsSome (block_called call.block program.blocks)
+
+-- an organization block or a function is called from outside, by a number of 16 bits; of a function
+-- block a Structured Text can't say which data blocks are its instances
+abbrev pub HasNoInstance : BlockName → Type 0
+HasNoInstance (name.Ob n) = n < 2 ^ 16
+HasNoInstance (name.Fc n) = n < 2 ^ 16
+HasNoInstance (name.Fb n) = ⊥
 
 -- the greatest of some numbers
 abbrev pub greatest : List ℕ → ℕ
