@@ -14,6 +14,7 @@ pub mod ReadRows
 pub mod Rows
 pub mod Same
 pub mod Simulation
+pub mod SizeRows
 pub mod StatusRows
 pub mod Temporaries
 pub mod TemporaryNames

@@ -1,5 +1,5 @@
 -- A graph program that means the same as a program.
-use Rattle.std.specs.Prelude.{◌≡◌, ℕ, suc, ◌*◌, true, ◌==◌, codes, decimal, List, [], ◌∷◌, ◌++◌, ◌⊎◌, length, Option}
+use Rattle.std.specs.Prelude.{◌≡◌, ℕ, suc, ◌*◌, ◌≤◌, true, ◌==◌, codes, decimal, List, [], ◌∷◌, ◌++◌, ◌⊎◌, length, Option}
 use Rattle.memory_areas.specs.Areas.{Areas, IsMemoryOf}
 use Rattle.memory_areas.specs.End.{End, Ended}
 use Rattle.memory_areas.specs.declared.data_block.DataBlock.{DataBlock}
@@ -67,7 +67,8 @@ EachRegister P (var.Register r ∷ rest) = P r × EachRegister P rest
 EachRegister P (other ∷ rest) = EachRegister P rest
 
 -- a unit is that of a block: it has its head, and one node, since no instruction jumps, which ends it;
--- it reads the register variables alone that instructions of the block read
+-- it reads the register variables alone that instructions of the block read, and has at most five statements for
+-- each of them
 pub record IsUnitOf (block : Block) (unit : GraphPou) : Type 0 where
   pub head : IsHeadOf block.name unit.head
   pub node : StNode
@@ -76,6 +77,7 @@ pub record IsUnitOf (block : Block) (unit : GraphPou) : Type 0 where
   pub only_end : node.only_end ≡ length block.body == 1
   pub steps : AreAssignments node.steps
   pub reads : EachRegister (IsRead block.body) (reads_in node.steps)
+  pub few : length node.steps ≤ 5 * length block.body
 
 -- there is a unit for each block, in the same order
 abbrev pub AreUnitsOf : List Block → List GraphPou → Type 0
