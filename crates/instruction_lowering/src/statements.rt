@@ -3,7 +3,7 @@
 //! Each is a handful of assignments, so a body without jumps is one node. Of the status word all bits but STA have
 //! variables.
 ghost use Rattle.std.specs.Prelude.{◌≡◌, ◌<◌, ◌+◌, ◌^◌, ◌++◌, IfOk, OnOk};
-ghost use Rattle.instruction_lowering.specs.inner.Templates.{and_joined, and_of, answer_of, behind, behind_check, behind_close, bit_of, chain_at, check_of, checked_of, cleared, close_of, edge_of, first_spot, literal_of, next_rlo, not_of, one_more, open_of, or_of, read_of, rlo_before_and, rlo_before_or, rlo_set, running_chain, set_of, statements_of, store_of, xor_of};
+ghost use Rattle.instruction_lowering.specs.inner.Templates.{and_joined, and_of, answer_of, behind, behind_check, behind_close, bit_of, chain_at, check_of, checked_of, cleared, close_of, edge_of, falling, first_spot, literal_of, next_rlo, not_of, one_more, open_of, or_of, read_of, reset_value, rising, rlo_before_and, rlo_before_or, rlo_set, running_chain, set_of, set_value, statements_of, store_of, xor_of};
 
 use s7_base::{Boxed, Check, List, NoMemory, Reg, Width};
 use st_tree::{BinaryOp, Expr, StType, Stmt, UnaryOp, Var};
@@ -66,30 +66,51 @@ pub fn push_statements(
             steps.push(set(Reg::Nfc, literal(false)))
         }
         Op::Assign(operand) => push_store(steps, bit(operand), read(Reg::Rlo)),
-        Op::Set(operand) => {
-            let value = or(alloc, Expr::Read(bit(operand)), read(Reg::Rlo))?;
-            push_store(steps, bit(operand), value)
-        }
-        Op::Reset(operand) => {
-            let value = and(alloc, Expr::Read(bit(operand)), not(alloc, read(Reg::Rlo))?)?;
-            push_store(steps, bit(operand), value)
-        }
+        Op::Set(operand) => push_store(steps, bit(operand), set_value(alloc, bit(operand))?),
+        Op::Reset(operand) => push_store(steps, bit(operand), reset_value(alloc, bit(operand))?),
         Op::SetRlo => push_rlo(steps, true),
         Op::ClearRlo => push_rlo(steps, false),
         Op::NotRlo => steps.push(set(Reg::Rlo, not(alloc, read(Reg::Rlo))?)),
         Op::Save => steps.push(set(Reg::Br, read(Reg::Rlo))),
-        Op::EdgeUp(operand) => {
-            let value = and(alloc, read(Reg::Rlo), not(alloc, Expr::Read(bit(operand)))?)?;
-            push_edge(steps, spot, bit(operand), value)
-        }
-        Op::EdgeDown(operand) => {
-            let value = and(alloc, not(alloc, read(Reg::Rlo))?, Expr::Read(bit(operand)))?;
-            push_edge(steps, spot, bit(operand), value)
-        }
+        Op::EdgeUp(operand) => push_edge(steps, spot, bit(operand), rising(alloc, bit(operand))?),
+        Op::EdgeDown(operand) => push_edge(
+            steps,
+            spot,
+            bit(operand),
+            falling(alloc, bit(operand))?,
+        ),
         Op::Bracket(check) => push_opened(steps, spot, *check),
         Op::Close => push_closed(alloc, steps, spot),
         Op::Nop | Op::BlockEnd => Ok(()),
     }
+}
+
+/// What S leaves in a bit.
+fn set_value(alloc: Global, bit: Var) -> Result<Expr, NoMemory>
+    ensures { IfOk result (λ value. value ≡ set_value bit) }
+{
+    or(alloc, Expr::Read(bit), read(Reg::Rlo))
+}
+
+/// What R leaves in a bit.
+fn reset_value(alloc: Global, bit: Var) -> Result<Expr, NoMemory>
+    ensures { IfOk result (λ value. value ≡ reset_value bit) }
+{
+    and(alloc, Expr::Read(bit), not(alloc, read(Reg::Rlo))?)
+}
+
+/// The rising edge, by an edge bit.
+fn rising(alloc: Global, bit: Var) -> Result<Expr, NoMemory>
+    ensures { IfOk result (λ value. value ≡ rising bit) }
+{
+    and(alloc, read(Reg::Rlo), not(alloc, Expr::Read(bit))?)
+}
+
+/// The falling edge, by an edge bit.
+fn falling(alloc: Global, bit: Var) -> Result<Expr, NoMemory>
+    ensures { IfOk result (λ value. value ≡ falling bit) }
+{
+    and(alloc, not(alloc, read(Reg::Rlo))?, Expr::Read(bit))
 }
 
 /// What a check looks at.

@@ -102,6 +102,22 @@ next_rlo chain check.On b = or_of (rlo_before_or chain) (not_of b)
 next_rlo chain check.X b = xor_of (rlo_before_or chain) b
 next_rlo chain check.Xn b = xor_of (rlo_before_or chain) (not_of b)
 
+-- Bits
+
+-- what S and R leave in a bit
+abbrev pub set_value : Var → Expr
+set_value v = or_of (expr.Read v) (read_of reg.Rlo)
+
+abbrev pub reset_value : Var → Expr
+reset_value v = and_of (expr.Read v) (not_of (read_of reg.Rlo))
+
+-- the rising and the falling edge, by an edge bit
+abbrev pub rising : Var → Expr
+rising v = and_of (read_of reg.Rlo) (not_of (expr.Read v))
+
+abbrev pub falling : Var → Expr
+falling v = and_of (not_of (read_of reg.Rlo)) (expr.Read v)
+
 -- Statements
 
 -- a register takes a value
@@ -200,13 +216,13 @@ statements_of p op.OrAlone =
 statements_of p (op.Bracket c) = open_of p.used
 statements_of p op.Close = close_of p.brackets
 statements_of p (op.Assign o) = store_of (bit_of o) (read_of reg.Rlo)
-statements_of p (op.Set o) = store_of (bit_of o) (or_of (expr.Read (bit_of o)) (read_of reg.Rlo))
-statements_of p (op.Reset o) = store_of (bit_of o) (and_of (expr.Read (bit_of o)) (not_of (read_of reg.Rlo)))
+statements_of p (op.Set o) = store_of (bit_of o) (set_value (bit_of o))
+statements_of p (op.Reset o) = store_of (bit_of o) (reset_value (bit_of o))
 statements_of p op.SetRlo = rlo_set true
 statements_of p op.ClearRlo = rlo_set false
 statements_of p op.NotRlo = set_of reg.Rlo (not_of (read_of reg.Rlo)) ∷ []
 statements_of p op.Save = set_of reg.Br (read_of reg.Rlo) ∷ []
-statements_of p (op.EdgeUp o) = edge_of p.used (bit_of o) (and_of (read_of reg.Rlo) (not_of (expr.Read (bit_of o))))
-statements_of p (op.EdgeDown o) = edge_of p.used (bit_of o) (and_of (not_of (read_of reg.Rlo)) (expr.Read (bit_of o)))
+statements_of p (op.EdgeUp o) = edge_of p.used (bit_of o) (rising (bit_of o))
+statements_of p (op.EdgeDown o) = edge_of p.used (bit_of o) (falling (bit_of o))
 statements_of p op.Nop = []
 statements_of p op.BlockEnd = []
