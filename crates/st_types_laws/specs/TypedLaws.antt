@@ -1,12 +1,10 @@
 -- A text has one answer: one tree, or one line and rule.
-use Rattle.std.specs.Prelude.{◌≡◌, ℕ, false, List, [], slice_get, Some, None}
+use Rattle.std.specs.Prelude.{◌≡◌}
 use Rattle.s7_base.specs.declared.reason.Line.{Line}
 use Rattle.s7_base.specs.declared.reason.Reason.{Reason}
 use Rattle.st_tree.specs.declared.program.StProgram.{StProgram}
 use Rattle.st_tree.specs.declared.raw.RawSt.{RawSt}
-use Rattle.s7_base.specs.Broken.{comes_before, first_of_all}
 use Rattle.st_rules.specs.Typed.{Breaks, HasTree}
-use Rattle.s7_base.specs.declared.broken.Break.{Break}
 
 -- two trees of a text are the same
 abbrev pub OneTree : Type 0
