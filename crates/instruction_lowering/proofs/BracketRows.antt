@@ -1,4 +1,5 @@
 -- Brackets: their statements do what their rows do.
+use Rattle.nesting_stack.specs.Entries.{most_open}
 use Rattle.std.proofs.Common.{◌≡◌, ◌≢◌, ℕ, pos, ◌+◌, ◌<◌, ◌≤◌, Bool, true, false, if◌then◌else◌, List, [], ◌∷◌, length, Some, Ok, refl, sym, ap, ◌∙◌, subst, arith}
 use Rattle.std.specs.Prelude.{ℤ, nat_lt, slice_get, slice_set}
 use Rattle.status_word.specs.StatusBits.{StatusBits, after_close, after_open, entry_of, orb_after, restored, rlo_after}
@@ -7,7 +8,7 @@ use Rattle.s7_base.specs.declared.check.Check.TheVariants as check
 use Rattle.s7_base.specs.declared.check.Entry.{Entry}
 use Rattle.s7_base.specs.declared.register.Reg.{Reg}
 use Rattle.s7_base.specs.declared.register.Reg.TheVariants as reg
-use Rattle.stl_tree.specs.Brackets.{closed_with, most_open, opened, pushed}
+use Rattle.stl_tree.specs.Brackets.{closed_with, opened, pushed}
 use Rattle.stl_tree.specs.Now.{Activation, Now, next, with_status}
 use Rattle.stl_tree.specs.declared.program.Op.TheVariants as op
 use Rattle.st_tree.specs.Meaning.{Calls, Normal, body_meaning}

@@ -6,6 +6,7 @@ pub mod BracketRows
 pub mod Does
 pub mod EdgeRows
 pub mod Names
+pub mod NodeRows
 pub mod Operands
 pub mod PlainGraph
 pub mod PlainStatements

@@ -1,4 +1,5 @@
 -- Each instruction that stands inside a node: its statements do what its row does.
+use Rattle.nesting_stack.specs.Entries.{most_open}
 use Rattle.std.proofs.Common.{◌≡◌, ◌≢◌, ℕ, suc, ◌≤◌, Bool, true, false, if◌then◌else◌, List, [], ◌∷◌, length, Some, None, refl}
 use Rattle.std.specs.Prelude.{nat_lt}
 use Rattle.memory_areas.specs.Access.{read_bit, write_bit}
@@ -19,7 +20,7 @@ use Rattle.instruction_lowering.proofs.Does.{Does, IsInside}
 use Rattle.instruction_lowering.proofs.Temporaries.{Keeps}
 use Rattle.instruction_lowering.specs.declared.statements.OpenBracket.{OpenBracket}
 use Rattle.instruction_lowering.specs.declared.statements.Spot.{Spot}
-use Rattle.stl_tree.specs.Brackets.{WithNumber, most_open, open_behind}
+use Rattle.stl_tree.specs.Brackets.{WithNumber, open_behind}
 use Rattle.instruction_lowering.proofs.EdgeRows.{down_does, up_does}
 use Rattle.instruction_lowering.proofs.StatusRows.{answer_worth, clear_rlo_does, nop_does, not_does, or_does, save_does, set_rlo_does}
 use Rattle.status_word.specs.StatusBits.{answer_to}

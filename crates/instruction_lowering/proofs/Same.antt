@@ -36,6 +36,7 @@ use Rattle.instruction_lowering.proofs.TemporaryNames.{are_temporaries, so_many}
 use Rattle.instruction_lowering.proofs.Temporaries.{Keeps}
 use Rattle.st_tree.specs.Calls.{zero_of}
 use Rattle.std.proofs.lemmas.List.{length-map}
+use Rattle.instruction_lowering.proofs.NodeRows.{few_nodes}
 use Rattle.instruction_lowering.proofs.SizeRows.{few_steps}
 use Rattle.instruction_lowering.proofs.Simulation.{Follows, Sees, at_node, both_end, ran, through}
 
@@ -48,7 +49,7 @@ head_is b =
 units_of : (blocks : List Block) → AreUnitsOf blocks (map unit_of blocks)
 units_of [] = tt
 units_of (b ∷ bs) =
-    (record { head = head_is b; node = node_of b.body; nodes = refl; exit = refl; only_end = refl; steps = are_assignments b.body first_spot; reads = of_body (IsRead b.body) b.body first_spot (λ r read. read) tt; few = few_steps b.body first_spot }, units_of bs)
+    (record { head = head_is b; node = node_of b.body; nodes = refl; exit = refl; only_end = refl; steps = are_assignments b.body first_spot; reads = of_body (IsRead b.body) b.body first_spot (λ r read. read) tt; few = few_steps b.body first_spot; small = few_nodes b.body first_spot }, units_of bs)
 
 -- The block that is called
 

@@ -1,4 +1,5 @@
 -- A program and its graph run alike: one induction over the steps for both directions, on one lemma an instruction.
+use Rattle.nesting_stack.specs.Entries.{most_open}
 use Rattle.std.proofs.Common.{◌≡◌, ℕ, zero, suc, ◌+◌, ◌<◌, ◌≤◌, Bool, true, false, if◌then◌else◌, List, [], ◌∷◌, ◌++◌, length, Option, Some, None, refl, sym, ap, ◌∙◌, subst, ◌⊎◌, inl, inr, ⊎_elim, arith}
 use Rattle.std.specs.Prelude.{nat_lt, option_and_then, slice_get}
 use Rattle.std.proofs.Math.Nat.{eq-or-lt_of_le}
@@ -8,7 +9,7 @@ use Rattle.status_word.specs.StatusBits.{after_end}
 use Rattle.s7_base.specs.declared.outcome.Fault.{Fault}
 use Rattle.s7_base.specs.declared.register.Reg.TheVariants as reg
 use Rattle.stl_tree.specs.Accepted.{IsEnded}
-use Rattle.stl_tree.specs.Brackets.{AreNested, WithNumber, most_open, open_behind}
+use Rattle.stl_tree.specs.Brackets.{AreNested, WithNumber, open_behind}
 use Rattle.stl_tree.specs.Instructions.{effect_of}
 use Rattle.stl_tree.specs.Now.{Activation, Effect, Now, enter, fault, go, leave, next, with_status}
 use Rattle.stl_tree.specs.StlRun.{Standing, after_effect, end_of, going_on, instruction, returned, running, step_by, steps_on}

@@ -1,2 +1,3 @@
 pub mod Lowered
+pub mod Nodes
 pub mod inner

@@ -26,6 +26,7 @@ use Rattle.st_tree.specs.declared.program.Local.{Local}
 use Rattle.st_tree.specs.declared.program.Pou.{Pou}
 use Rattle.st_tree.specs.declared.program.Stmt.{Stmt}
 use Rattle.st_tree.specs.declared.program.Stmt.TheVariants as stmt
+use Rattle.instruction_lowering.specs.Nodes.{nodes_in}
 
 -- Units
 
@@ -67,8 +68,8 @@ EachRegister P (var.Register r ∷ rest) = P r × EachRegister P rest
 EachRegister P (other ∷ rest) = EachRegister P rest
 
 -- a unit is that of a block: it has its head, and one node, since no instruction jumps, which ends it;
--- it reads the register variables alone that instructions of the block read, and has at most five statements for
--- each of them
+-- it reads the register variables alone that instructions of the block read, and has at most five statements and
+-- fourteen nodes of expressions for each of them
 pub record IsUnitOf (block : Block) (unit : GraphPou) : Type 0 where
   pub head : IsHeadOf block.name unit.head
   pub node : StNode
@@ -78,6 +79,7 @@ pub record IsUnitOf (block : Block) (unit : GraphPou) : Type 0 where
   pub steps : AreAssignments node.steps
   pub reads : EachRegister (IsRead block.body) (reads_in node.steps)
   pub few : length node.steps ≤ 5 * length block.body
+  pub small : nodes_in node.steps ≤ 14 * length block.body
 
 -- there is a unit for each block, in the same order
 abbrev pub AreUnitsOf : List Block → List GraphPou → Type 0

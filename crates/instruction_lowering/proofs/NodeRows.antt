@@ -1,0 +1,224 @@
+-- How many nodes the expressions have that the instructions of a body become.
+use Rattle.std.proofs.Common.{◌≡◌, ◌∙◌, ℕ, ◌+◌, ◌*◌, ◌≤◌, Bool, true, false, if◌then◌else◌, List, [], ◌∷◌, ◌++◌, length, refl, ap, arith}
+use Rattle.std.specs.List.{sum_by}
+use Rattle.std.proofs.lemmas.List.Sums.{sum_by-append, sum_by-cons}
+use Rattle.s7_base.specs.declared.check.Check.{Check}
+use Rattle.s7_base.specs.declared.check.Check.TheVariants as check
+use Rattle.s7_base.specs.declared.register.Reg.{Reg}
+use Rattle.s7_base.specs.declared.register.Reg.TheVariants as reg
+use Rattle.status_word.specs.declared.test.Test.{Test}
+use Rattle.status_word.specs.declared.test.Test.TheVariants as test
+use Rattle.st_tree.proofs.Equations.{fold_binary, fold_literal, fold_read, fold_unary}
+use Rattle.st_tree.proofs.PartEquations.{expressions_in_append, expressions_in_assign}
+use Rattle.st_tree.specs.Parts.{expressions_in}
+use Rattle.st_tree.specs.declared.expr.BinaryOp.{BinaryOp}
+use Rattle.st_tree.specs.declared.expr.BinaryOp.TheVariants as binary
+use Rattle.st_tree.specs.declared.expr.Expr.{Expr}
+use Rattle.st_tree.specs.declared.expr.Expr.TheVariants as expr
+use Rattle.st_tree.specs.declared.expr.UnaryOp.TheVariants as unary
+use Rattle.st_tree.specs.declared.expr.Var.{Var}
+use Rattle.st_tree.specs.declared.expr.Var.TheVariants as var
+use Rattle.st_tree.specs.declared.program.Stmt.{Stmt}
+use Rattle.st_tree.specs.declared.program.Stmt.TheVariants as stmt
+use Rattle.stl_tree.specs.declared.program.BitArg.{BitArg}
+use Rattle.stl_tree.specs.declared.program.BitArg.TheVariants as arg
+use Rattle.stl_tree.specs.declared.program.Instr.{Instr}
+use Rattle.stl_tree.specs.declared.program.Op.{Op}
+use Rattle.stl_tree.specs.declared.program.Op.TheVariants as op
+use Rattle.instruction_lowering.specs.Nodes.{nodes, nodes_in, nodes_step}
+use Rattle.instruction_lowering.specs.declared.statements.Chain.{Chain}
+use Rattle.instruction_lowering.specs.declared.statements.OpenBracket.{OpenBracket}
+use Rattle.instruction_lowering.specs.declared.statements.Spot.{Spot}
+use Rattle.instruction_lowering.specs.inner.Lowering.{ends_block, steps_of}
+use Rattle.instruction_lowering.specs.inner.Templates.{and_joined, and_of, answer_of, behind, behind_check, behind_close, bit_of, checked_of, cleared, close_of, edge_of, keep_of, literal_of, next_rlo, not_of, open_of, or_of, read_of, rlo_before_and, rlo_before_or, running_chain, set_of, statements_of, store_of}
+
+-- Expressions
+
+of_read : (v : Var) → nodes (expr.Read v) ≡ 1
+of_read v = fold_read ℕ nodes_step v
+
+of_literal : (b : Bool) → nodes (literal_of b) ≡ 1
+of_literal b = fold_literal ℕ nodes_step _ _
+
+of_not : (e : Expr) → nodes (not_of e) ≡ 1 + nodes e
+of_not e = fold_unary ℕ nodes_step unary.Not e
+
+of_joined : (op : BinaryOp) (e f : Expr) → nodes (expr.Binary op e f) ≡ 1 + nodes e + nodes f
+of_joined op e f = fold_binary ℕ nodes_step op e f
+
+of_register : (r : Reg) → nodes (read_of r) ≡ 1
+of_register r = of_read (var.Register r)
+
+of_not_register : (r : Reg) → nodes (not_of (read_of r)) ≡ 2
+of_not_register r = omega (arith, of_not (read_of r), of_register r)
+
+of_answer : (t : Test) → nodes (answer_of t) ≤ 5
+of_answer test.Eq = omega (arith, of_joined binary.And (not_of (read_of reg.Cc1)) (not_of (read_of reg.Cc0)), of_not_register reg.Cc1, of_not_register reg.Cc0)
+of_answer test.Ne = omega (arith, of_joined binary.Xor (read_of reg.Cc1) (read_of reg.Cc0), of_register reg.Cc1, of_register reg.Cc0)
+of_answer test.Gt = omega (arith, of_joined binary.And (read_of reg.Cc1) (not_of (read_of reg.Cc0)), of_register reg.Cc1, of_not_register reg.Cc0)
+of_answer test.Lt = omega (arith, of_joined binary.And (not_of (read_of reg.Cc1)) (read_of reg.Cc0), of_not_register reg.Cc1, of_register reg.Cc0)
+of_answer test.Ge = omega (arith, of_not_register reg.Cc0)
+of_answer test.Le = omega (arith, of_not_register reg.Cc1)
+of_answer test.Uo = omega (arith, of_joined binary.And (read_of reg.Cc1) (read_of reg.Cc0), of_register reg.Cc1, of_register reg.Cc0)
+of_answer test.Ov = omega (arith, of_register reg.Ov)
+of_answer test.Os = omega (arith, of_register reg.Os)
+of_answer test.Br = omega (arith, of_register reg.Br)
+
+of_checked : (b : BitArg) → nodes (checked_of b) ≤ 5
+of_checked (arg.At o) = omega (arith, of_read (bit_of o))
+of_checked (arg.Flag t) = of_answer t
+
+before_and : (chain : Chain) → nodes (rlo_before_and chain) ≡ 4
+before_and chain =
+    omega (arith, of_joined binary.Or (expr.Read chain.rlo) (not_of (expr.Read chain.nfc)), of_not (expr.Read chain.nfc), of_read chain.rlo, of_read chain.nfc)
+
+before_or : (chain : Chain) → nodes (rlo_before_or chain) ≡ 3
+before_or chain = omega (arith, of_joined binary.And (expr.Read chain.rlo) (expr.Read chain.nfc), of_read chain.rlo, of_read chain.nfc)
+
+of_and : (chain : Chain) (e : Expr) → nodes (and_joined chain e) ≡ nodes e + 7
+of_and chain e =
+    omega (arith, of_joined binary.Or (and_of (rlo_before_and chain) e) (expr.Read chain.orb), of_joined binary.And (rlo_before_and chain) e, before_and chain, of_read chain.orb)
+
+-- Statements
+
+of_assign : (v : Var) (e : Expr) (rest : List Stmt) → nodes_in (stmt.Assign v e ∷ rest) ≡ nodes e + nodes_in rest
+of_assign v e rest = ap (sum_by nodes) (expressions_in_assign v e rest) ∙ sum_by-cons nodes e (expressions_in rest)
+
+of_append : (xs ys : List Stmt) → nodes_in (xs ++ ys) ≡ nodes_in xs + nodes_in ys
+of_append xs ys = ap (sum_by nodes) (expressions_in_append xs ys) ∙ sum_by-append nodes (expressions_in xs) (expressions_in ys)
+
+of_nothing : nodes_in [] ≡ 0
+of_nothing = refl
+
+of_nfc : (b : Bool) → nodes_in (set_of reg.Nfc (literal_of b) ∷ []) ≡ 1
+of_nfc b = omega (arith, of_assign (var.Register reg.Nfc) (literal_of b) [], of_literal b, of_nothing)
+
+of_cleared : (b : Bool) → nodes_in (cleared b) ≡ 2
+of_cleared b = omega (arith, of_assign (var.Register reg.Orb) (literal_of false) (set_of reg.Nfc (literal_of b) ∷ []), of_literal false, of_nfc b)
+
+of_put_back : (v : Var) → nodes_in (set_of reg.Orb (expr.Read v) ∷ set_of reg.Nfc (literal_of true) ∷ []) ≡ 2
+of_put_back v = omega (arith, of_assign (var.Register reg.Orb) (expr.Read v) (set_of reg.Nfc (literal_of true) ∷ []), of_read v, of_nfc true)
+
+-- a check, with what stands behind it
+of_check : (c : Check) (e : Expr) → nodes (next_rlo running_chain c e) + nodes_in (behind_check c) ≤ nodes e + 9
+of_check check.A e = omega (arith, of_and running_chain e, of_nfc true)
+of_check check.An e = omega (arith, of_and running_chain (not_of e), of_not e, of_nfc true)
+of_check check.O e = omega (arith, of_joined binary.Or (rlo_before_or running_chain) e, before_or running_chain, of_cleared true)
+of_check check.On e = omega (arith, of_joined binary.Or (rlo_before_or running_chain) (not_of e), of_not e, before_or running_chain, of_cleared true)
+of_check check.X e = omega (arith, of_joined binary.Xor (rlo_before_or running_chain) e, before_or running_chain, of_cleared true)
+of_check check.Xn e = omega (arith, of_joined binary.Xor (rlo_before_or running_chain) (not_of e), of_not e, before_or running_chain, of_cleared true)
+
+of_closed : (c : Check) (chain : Chain) (e : Expr) → nodes (next_rlo chain c e) + nodes_in (behind_close c chain.orb) ≤ nodes e + 10
+of_closed check.A chain e = omega (arith, of_and chain e, of_put_back chain.orb)
+of_closed check.An chain e = omega (arith, of_and chain (not_of e), of_not e, of_put_back chain.orb)
+of_closed check.O chain e = omega (arith, of_joined binary.Or (rlo_before_or chain) e, before_or chain, of_cleared true)
+of_closed check.On chain e = omega (arith, of_joined binary.Or (rlo_before_or chain) (not_of e), of_not e, before_or chain, of_cleared true)
+of_closed check.X chain e = omega (arith, of_joined binary.Xor (rlo_before_or chain) e, before_or chain, of_cleared true)
+of_closed check.Xn chain e = omega (arith, of_joined binary.Xor (rlo_before_or chain) (not_of e), of_not e, before_or chain, of_cleared true)
+
+of_brackets : (brackets : List OpenBracket) → nodes_in (close_of brackets) ≤ 14
+of_brackets [] = omega (arith, of_nothing)
+of_brackets (o ∷ outer) =
+    let e : Expr = next_rlo o.kept o.check (read_of reg.Rlo) in
+    omega (arith, of_assign (var.Register reg.Rlo) e (behind_close o.check o.kept.orb), of_closed o.check o.kept (read_of reg.Rlo), of_register reg.Rlo)
+
+of_opened : (first : ℕ) → nodes_in (open_of first) ≡ 5
+of_opened first =
+    let nfc : List Stmt = keep_of (first + 2) reg.Nfc ∷ cleared false in
+    let orb : List Stmt = keep_of (first + 1) reg.Orb ∷ nfc in
+    omega (
+      arith,
+      of_assign (var.Local first) (read_of reg.Rlo) orb,
+      of_assign (var.Local (first + 1)) (read_of reg.Orb) nfc,
+      of_assign (var.Local (first + 2)) (read_of reg.Nfc) (cleared false),
+      of_register reg.Rlo,
+      of_register reg.Orb,
+      of_register reg.Nfc,
+      of_cleared false,
+    )
+
+of_store : (v : Var) (e : Expr) → nodes_in (store_of v e) ≡ nodes e + 2
+of_store v e = omega (arith, of_assign v e (cleared false), of_cleared false)
+
+of_edge : (i : ℕ) (v : Var) (e : Expr) → nodes_in (edge_of i v e) ≡ nodes e + 4
+of_edge i v e =
+    let last : List Stmt = set_of reg.Rlo (expr.Read (var.Local i)) ∷ cleared true in
+    omega (
+      arith,
+      of_assign (var.Local i) e (stmt.Assign v (read_of reg.Rlo) ∷ last),
+      of_assign v (read_of reg.Rlo) last,
+      of_assign (var.Register reg.Rlo) (expr.Read (var.Local i)) (cleared true),
+      of_register reg.Rlo,
+      of_read (var.Local i),
+      of_cleared true,
+    )
+
+of_one : (v : Var) (e : Expr) → nodes_in (stmt.Assign v e ∷ []) ≡ nodes e
+of_one v e = omega (arith, of_assign v e [], of_nothing)
+
+of_instruction : (o : Op) (q : Spot) → nodes_in (statements_of q o) ≤ 14
+of_instruction (op.Check c b) q =
+    let e : Expr = next_rlo running_chain c (checked_of b) in
+    omega (arith, of_assign (var.Register reg.Rlo) e (behind_check c), of_check c (checked_of b), of_checked b)
+of_instruction op.OrAlone q =
+    let e : Expr = and_of (read_of reg.Rlo) (read_of reg.Nfc) in
+    omega (
+      arith,
+      of_assign (var.Register reg.Orb) e (set_of reg.Nfc (literal_of false) ∷ []),
+      of_joined binary.And (read_of reg.Rlo) (read_of reg.Nfc),
+      of_register reg.Rlo,
+      of_register reg.Nfc,
+      of_nfc false,
+    )
+of_instruction (op.Bracket c) q = omega (arith, of_opened q.used)
+of_instruction op.Close q = of_brackets q.brackets
+of_instruction (op.Assign o) q = omega (arith, of_store (bit_of o) (read_of reg.Rlo), of_register reg.Rlo)
+of_instruction (op.Set o) q =
+    let bit : Expr = expr.Read (bit_of o) in
+    omega (arith, of_store (bit_of o) (or_of bit (read_of reg.Rlo)), of_joined binary.Or bit (read_of reg.Rlo), of_read (bit_of o), of_register reg.Rlo)
+of_instruction (op.Reset o) q =
+    let bit : Expr = expr.Read (bit_of o) in
+    omega (
+      arith,
+      of_store (bit_of o) (and_of bit (not_of (read_of reg.Rlo))),
+      of_joined binary.And bit (not_of (read_of reg.Rlo)),
+      of_read (bit_of o),
+      of_not_register reg.Rlo,
+    )
+of_instruction op.SetRlo q = omega (arith, of_assign (var.Register reg.Rlo) (literal_of true) (cleared false), of_literal true, of_cleared false)
+of_instruction op.ClearRlo q = omega (arith, of_assign (var.Register reg.Rlo) (literal_of false) (cleared false), of_literal false, of_cleared false)
+of_instruction op.NotRlo q = omega (arith, of_one (var.Register reg.Rlo) (not_of (read_of reg.Rlo)), of_not_register reg.Rlo)
+of_instruction op.Save q = omega (arith, of_one (var.Register reg.Br) (read_of reg.Rlo), of_register reg.Rlo)
+of_instruction (op.EdgeUp o) q =
+    let bit : Expr = expr.Read (bit_of o) in
+    omega (
+      arith,
+      of_edge q.used (bit_of o) (and_of (read_of reg.Rlo) (not_of bit)),
+      of_joined binary.And (read_of reg.Rlo) (not_of bit),
+      of_not bit,
+      of_read (bit_of o),
+      of_register reg.Rlo,
+    )
+of_instruction (op.EdgeDown o) q =
+    let bit : Expr = expr.Read (bit_of o) in
+    omega (
+      arith,
+      of_edge q.used (bit_of o) (and_of (not_of (read_of reg.Rlo)) bit),
+      of_joined binary.And (not_of (read_of reg.Rlo)) bit,
+      of_read (bit_of o),
+      of_not_register reg.Rlo,
+    )
+of_instruction op.Nop q = omega (arith, of_nothing)
+of_instruction op.BlockEnd q = omega (arith, of_nothing)
+
+-- each becomes at most fourteen
+pub few_nodes : (body : List Instr) (q : Spot) → nodes_in (steps_of q body) ≤ 14 * length body
+few_nodes [] q = omega (arith, of_nothing)
+few_nodes (i ∷ rest) q =
+    let own = of_instruction i.op q in
+    let more = by (ends_block i.op) (few_nodes rest (behind i.op q)) in
+    omega (arith, of_append (statements_of q i.op) (if ends_block i.op then [] else steps_of (behind i.op q) rest))
+  where
+    by : (b : Bool) → nodes_in (steps_of (behind i.op q) rest) ≤ 14 * length rest → nodes_in (if b then [] else steps_of (behind i.op q) rest) ≤ 14 * length rest
+    by true h = omega (arith, of_nothing)
+    by false h = h
