@@ -23,8 +23,8 @@ pub enum TokenKind {
 /// line on which it stands. It is `glued` where no blank stands directly before it.
 #[derive(Debug, Drop, PartialEq)]
 pub struct Token {
-    pub kind: TokenKind,
     pub text: List<u8>,
     pub line: Line,
+    pub kind: TokenKind,
     pub glued: bool,
 }

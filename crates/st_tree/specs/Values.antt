@@ -1,6 +1,7 @@
 -- Values: what a number leaves in a type, and the patterns and truth values that values are.
-use Rattle.std.specs.Prelude.{ℕ, ◌-◌, ◌^◌, ◌%◌, nat_lt, ℤ, pos, negsuc, Bool, true, false, not, if◌then◌else◌}
+use Rattle.std.specs.Prelude.{ℕ, ℤ, pos, Bool, true, false, not}
 use Rattle.std.specs.Ordering.{int_eq}
+pub use Rattle.s7_base.specs.SignedNumbers.{pattern, number}
 use Rattle.s7_base.specs.declared.word.Width.{Width}
 use Rattle.s7_base.specs.declared.word.Width.TheVariants as width
 use Rattle.st_tree.specs.declared.expr.StType.{StType}
@@ -33,15 +34,6 @@ width_at type.Dword = width.Dword
 width_at type.Int = width.Word
 width_at type.Dint = width.Dword
 width_at type.Lint = width.Dword
-
--- the pattern of k bits that a number leaves: the number modulo 2 ^ k
-abbrev pub pattern : ℕ → ℤ → ℕ
-pattern k (pos n) = n % 2 ^ k
-pattern k (negsuc n) = 2 ^ k - 1 - n % 2 ^ k
-
--- the number that a pattern of k bits stands for, its highest bit being the sign
-abbrev pub number : ℕ → ℕ → ℤ
-number k n = if nat_lt n (2 ^ (k - 1)) then pos n else negsuc (2 ^ k - 1 - n)
 
 -- what a number leaves in a type: a pattern in a bit type, and a number type wraps
 abbrev pub fit : StType → ℤ → ℤ
