@@ -1,5 +1,8 @@
 pub mod Accepted
+pub mod Accumulators
+pub mod Arithmetic
 pub mod Brackets
+pub mod Conversions
 pub mod Grammar
 pub mod InstructionForms
 pub mod Instructions
@@ -14,8 +17,10 @@ pub mod RawPrograms
 pub mod Reads
 pub mod Registers
 pub mod RunLaws
+pub mod Shifts
 pub mod Stages
 pub mod Statements
 pub mod StlRun
 pub mod Verdict
+pub mod WordLogic
 pub mod Words

@@ -7,6 +7,7 @@
 //! name, the instruction table and the run, whose laws `run_laws` proves.
 #![tactic(auto)]
 
+pub use accumulator::{Arith, LogicRow, ShiftRow, UnaryRow};
 pub use given::Given;
 pub use item::{Found, Item, Reading, Where};
 pub use memory_areas::{BlockName, Call};
@@ -23,6 +24,7 @@ pub use raw::{
 pub use run_laws::{end_stays, steps_add};
 pub use source_laws::{items_have_forms, verdict_accepts_the_grammar, verdict_is_accepted};
 
+mod accumulator;
 mod given;
 mod item;
 mod mnemonic;

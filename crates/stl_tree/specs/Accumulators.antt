@@ -1,0 +1,89 @@
+-- The accumulators and their parts, and the instructions that load, store and move them.
+use Rattle.std.specs.Prelude.{ℕ, ◌+◌, ◌*◌, ◌/◌, ◌%◌, ◌^◌, ◌==◌, ℤ, pos, ◌+ℤ◌, ◌-ℤ◌, Result, Ok}
+use Rattle.std.specs.Int.{from_bool}
+use Rattle.memory_areas.specs.Access.{and_then, read_bit, read_byte, read_word, read_dword, write_bit, write_byte, write_word, write_dword}
+use Rattle.memory_areas.specs.Areas.{Contents}
+use Rattle.memory_areas.specs.declared.place.Place.{Place}
+use Rattle.s7_base.specs.SignedNumbers.{number, pattern}
+use Rattle.s7_base.specs.declared.outcome.Fault.{Fault}
+use Rattle.s7_base.specs.declared.word.Width.{Width}
+use Rattle.s7_base.specs.declared.word.Width.TheVariants as width
+use Rattle.status_word.specs.Flags.{bits_of, from_word, word_of}
+use Rattle.stl_tree.specs.Registers.{RegisterValues}
+
+-- Parts
+
+-- how many bits a width has
+abbrev pub bits_wide : Width → ℕ
+bits_wide width.Bit = 1
+bits_wide width.Byte = 8
+bits_wide width.Word = 16
+bits_wide width.Dword = 32
+
+-- the lowest bits of an accumulator, so many as a width has
+abbrev pub part : Width → ℕ → ℕ
+part w a = a % 2 ^ bits_wide w
+
+-- an accumulator with other lowest bits
+abbrev pub with_part : Width → ℕ → ℕ → ℕ
+with_part w a p = a / 2 ^ bits_wide w * 2 ^ bits_wide w + p
+
+-- the number that they stand for, the highest of them being the sign
+abbrev pub signed_part : Width → ℕ → ℤ
+signed_part w a = number (bits_wide w) (part w a)
+
+-- an accumulator whose lowest bits take what is left there of a number
+abbrev pub with_number : Width → ℕ → ℤ → ℕ
+with_number w a z = with_part w a (pattern (bits_wide w) z)
+
+-- Loading and storing
+
+-- L: what is loaded goes to ACCU1, extended by zeros, and what stood there to ACCU2
+abbrev pub loaded : ℕ → RegisterValues → RegisterValues
+loaded v r = record r { accu1 = v; accu2 = r.accu1 }
+
+-- the number at a place, of a width
+abbrev pub read_number : Width → Place → Contents → Result ℕ Fault
+read_number width.Bit p m = and_then (read_bit p m) (λ b. Ok (from_bool b))
+read_number width.Byte p m = read_byte p m
+read_number width.Word p m = read_word p m
+read_number width.Dword p m = read_dword p m
+
+-- the memory after a number was written at a place, in a width
+abbrev pub write_number : Width → Place → ℕ → Contents → Result Contents Fault
+write_number width.Bit p v m = write_bit p (v == 1) m
+write_number width.Byte p v m = write_byte p v m
+write_number width.Word p v m = write_word p v m
+write_number width.Dword p v m = write_dword p v m
+
+-- L STW
+abbrev pub status_loaded : RegisterValues → RegisterValues
+status_loaded r = loaded (word_of r.status) r
+
+-- T STW: six bits of the status word from ACCU1, each from the bit at its place
+abbrev pub status_stored : RegisterValues → RegisterValues
+status_stored r = record r { status = from_word (bits_of r.accu1) r.status }
+
+-- Moving
+
+-- TAK
+abbrev pub accus_exchanged : RegisterValues → RegisterValues
+accus_exchanged r = record r { accu1 = r.accu2; accu2 = r.accu1 }
+
+-- PUSH
+abbrev pub accu_pushed : RegisterValues → RegisterValues
+accu_pushed r = record r { accu2 = r.accu1 }
+
+-- POP
+abbrev pub accu_popped : RegisterValues → RegisterValues
+accu_popped r = record r { accu1 = r.accu2 }
+
+-- Adding a constant
+
+-- + n, + L#n and INC: a part of ACCU1 takes the sum of itself and a number, wrapped; no bit of the status word shows it
+abbrev pub increased : Width → ℤ → RegisterValues → RegisterValues
+increased w n r = record r { accu1 = with_number w r.accu1 (signed_part w r.accu1 +ℤ n) }
+
+-- DEC
+abbrev pub decreased : Width → ℤ → RegisterValues → RegisterValues
+decreased w n r = record r { accu1 = with_number w r.accu1 (signed_part w r.accu1 -ℤ n) }

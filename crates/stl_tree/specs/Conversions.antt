@@ -1,0 +1,66 @@
+-- What works on ACCU1 alone: numbers in decimal digits, the sign, inverted bits, bytes in reverse order.
+use Rattle.std.specs.Prelude.{ℕ, ◌+◌, ◌-◌, ◌*◌, ◌/◌, ◌%◌, ◌^◌, ℤ, true, false, Option, Some, None, Result, Ok, Err}
+use Rattle.bcd_words.specs.Bcd.{bcd_of, bcd_value}
+use Rattle.s7_base.specs.SignedNumbers.{pattern}
+use Rattle.s7_base.specs.declared.outcome.Fault.{Fault}
+use Rattle.s7_base.specs.declared.word.Width.{Width}
+use Rattle.s7_base.specs.declared.word.Width.TheVariants as width
+use Rattle.status_word.specs.Results.{after_converted}
+use Rattle.stl_tree.specs.Accumulators.{bits_wide, part, signed_part, with_number, with_part}
+use Rattle.stl_tree.specs.Arithmetic.{negated}
+use Rattle.stl_tree.specs.Registers.{RegisterValues}
+use Rattle.stl_tree.specs.declared.accumulator.UnaryRow.{UnaryRow}
+use Rattle.stl_tree.specs.declared.accumulator.UnaryRow.TheVariants as row
+
+-- a part of ACCU1 takes other bits
+abbrev pub replaced : Width → ℕ → RegisterValues → RegisterValues
+replaced w p r = record r { accu1 = with_part w r.accu1 p }
+
+-- BTI and BTD: a part of ACCU1 takes the number that its digits say, where each is a decimal one
+abbrev pub with_value_of_digits : Width → RegisterValues → Result ℤ Fault → Result RegisterValues Fault
+with_value_of_digits w r (Ok z) = Ok (record r { accu1 = with_number w r.accu1 z })
+with_value_of_digits w r (Err f) = Err f
+
+abbrev pub from_digits : Width → ℕ → RegisterValues → Result RegisterValues Fault
+from_digits w count r = with_value_of_digits w r (bcd_value count (part w r.accu1))
+
+-- ITB and DTB: a part of ACCU1 takes the digits of its number, where it has no more than these; else ACCU1 stays
+-- and it is an overflow
+abbrev pub with_digits : Width → Option ℕ → RegisterValues → RegisterValues
+with_digits w (Some p) r = record r { accu1 = with_part w r.accu1 p; status = after_converted false r.status }
+with_digits w None r = record r { status = after_converted true r.status }
+
+abbrev pub to_digits : Width → ℕ → RegisterValues → RegisterValues
+to_digits w count r = with_digits w (bcd_of count (signed_part w r.accu1)) r
+
+-- ITD: the low word, extended by its sign
+abbrev pub extended : RegisterValues → RegisterValues
+extended r = record r { accu1 = pattern 32 (signed_part width.Word r.accu1) }
+
+-- INVI and INVD: each bit of a part inverted
+abbrev pub inverted : Width → RegisterValues → RegisterValues
+inverted w r = replaced w (2 ^ bits_wide w - 1 - part w r.accu1) r
+
+-- CAW: the two bytes of the low word, the other way round
+abbrev pub word_reversed : RegisterValues → RegisterValues
+word_reversed r = replaced width.Word (r.accu1 % 2 ^ 8 * 2 ^ 8 + r.accu1 / 2 ^ 8 % 2 ^ 8) r
+
+-- CAD: the four bytes, the other way round
+abbrev pub dword_reversed : RegisterValues → RegisterValues
+dword_reversed r =
+    replaced width.Dword
+    (r.accu1 % 2 ^ 8 * 2 ^ 24 + r.accu1 / 2 ^ 8 % 2 ^ 8 * 2 ^ 16 + r.accu1 / 2 ^ 16 % 2 ^ 8 * 2 ^ 8 + r.accu1 / 2 ^ 24 % 2 ^ 8) r
+
+-- the registers after each row, or its fault
+abbrev pub converted : UnaryRow → RegisterValues → Result RegisterValues Fault
+converted row.Bti r = from_digits width.Word 3 r
+converted row.Btd r = from_digits width.Dword 7 r
+converted row.Itb r = Ok (to_digits width.Word 3 r)
+converted row.Dtb r = Ok (to_digits width.Dword 7 r)
+converted row.Itd r = Ok (extended r)
+converted row.Invi r = Ok (inverted width.Word r)
+converted row.Invd r = Ok (inverted width.Dword r)
+converted row.Caw r = Ok (word_reversed r)
+converted row.Cad r = Ok (dword_reversed r)
+converted row.Negi r = Ok (negated width.Word r)
+converted row.Negd r = Ok (negated width.Dword r)
