@@ -1,4 +1,5 @@
 pub mod AcceptedLaws
+mod AccumulatorRows
 pub mod GrammarLaws
 pub mod ItemLaws
 pub mod ProgramLaws

@@ -1,5 +1,5 @@
 -- The accumulators and their parts, and the instructions that load, store and move them.
-use Rattle.std.specs.Prelude.{ℕ, ◌+◌, ◌*◌, ◌/◌, ◌%◌, ◌^◌, ◌==◌, ℤ, pos, ◌+ℤ◌, ◌-ℤ◌, Result, Ok}
+use Rattle.std.specs.Prelude.{ℕ, ◌+◌, ◌*◌, ◌/◌, ◌%◌, ◌^◌, ◌==◌, ℤ, ◌+ℤ◌, ◌-ℤ◌, Result, Ok}
 use Rattle.std.specs.Int.{from_bool}
 use Rattle.memory_areas.specs.Access.{and_then, read_bit, read_byte, read_word, read_dword, write_bit, write_byte, write_word, write_dword}
 use Rattle.memory_areas.specs.Areas.{Contents}

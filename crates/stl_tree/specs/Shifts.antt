@@ -4,7 +4,7 @@ use Rattle.std.specs.Int.{from_bool}
 use Rattle.s7_base.specs.declared.word.Width.{Width}
 use Rattle.s7_base.specs.declared.word.Width.TheVariants as width
 use Rattle.status_word.specs.Results.{after_shifted}
-use Rattle.stl_tree.specs.Accumulators.{bits_wide, part, with_part}
+use Rattle.stl_tree.specs.Accumulators.{part, with_part}
 use Rattle.stl_tree.specs.Registers.{RegisterValues}
 use Rattle.stl_tree.specs.declared.accumulator.ShiftRow.{ShiftRow}
 use Rattle.stl_tree.specs.declared.accumulator.ShiftRow.TheVariants as row
