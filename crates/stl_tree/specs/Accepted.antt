@@ -1,16 +1,24 @@
 -- The rules that a program keeps where the verdict gives it.
-use Rattle.std.specs.Prelude.{◌≡◌, ◌≢◌, ℕ, ◌≤◌, true, false, List, [], ◌∷◌, All, None, Ok}
+use Rattle.std.specs.Prelude.{◌≡◌, ◌≢◌, ℕ, ◌≤◌, ◌<◌, ◌^◌, true, false, Option, Some, List, [], ◌∷◌, All, None, Ok}
 use Rattle.memory_areas.specs.Access.{is_byte_in, is_unaligned}
 use Rattle.s7_base.specs.declared.word.Width.{Width}
 use Rattle.s7_base.specs.declared.word.Width.TheVariants as width
+use Rattle.status_word.specs.declared.test.Test.{Test}
+use Rattle.stl_tree.specs.Accumulators.{bits_wide}
+use Rattle.stl_tree.specs.Arithmetic.{is_comparison}
 use Rattle.stl_tree.specs.Brackets.{AreNested}
+use Rattle.stl_tree.specs.Shifts.{most_steps}
 use Rattle.stl_tree.specs.StlRun.{block_named}
 use Rattle.stl_tree.specs.Verdict.{verdict}
+use Rattle.stl_tree.specs.WordLogic.{width_of as logic_width}
+use Rattle.stl_tree.specs.declared.accumulator.ShiftRow.{ShiftRow}
 use Rattle.stl_tree.specs.declared.program.BitArg.TheVariants as arg
 use Rattle.stl_tree.specs.declared.program.Block.{Block}
 use Rattle.memory_areas.specs.declared.call.BlockName.{BlockName}
 use Rattle.memory_areas.specs.declared.call.BlockName.TheVariants as name
 use Rattle.stl_tree.specs.declared.program.Instr.{Instr}
+use Rattle.stl_tree.specs.declared.program.LoadArg.{LoadArg}
+use Rattle.stl_tree.specs.declared.program.LoadArg.TheVariants as load
 use Rattle.stl_tree.specs.declared.program.Op.{Op}
 use Rattle.stl_tree.specs.declared.program.Op.TheVariants as op
 use Rattle.stl_tree.specs.declared.program.Operand.{Operand}
@@ -22,6 +30,32 @@ use Rattle.stl_tree.specs.declared.program.Program.{Program}
 -- an operand of a width names bytes of its area, and a bit number that the width has
 abbrev pub IsOperand : Width → Operand → Type 0
 IsOperand w (operand.Direct a byte x) = (is_byte_in a w byte ≡ true) × (is_unaligned w x ≡ false)
+
+-- a byte, a word or a double word
+abbrev pub IsNumberWidth : Width → Type 0
+IsNumberWidth width.Bit = ⊥
+IsNumberWidth w = Unit {0}
+
+-- what L loads is a number, or a constant of 32 bits
+abbrev pub IsLoadable : LoadArg → Type 0
+IsLoadable (load.At o w) = IsNumberWidth w × IsOperand w o
+IsLoadable (load.Constant c) = c < 2 ^ 32
+
+-- a comparison of words or of double words, by one of the six signs
+abbrev pub IsComparison : Test → Width → Type 0
+IsComparison t width.Word = is_comparison t ≡ true
+IsComparison t width.Dword = is_comparison t ≡ true
+IsComparison t w = ⊥
+
+-- a count is one that a row may have as a constant
+abbrev pub IsCount : ShiftRow → Option ℕ → Type 0
+IsCount s None = Unit {0}
+IsCount s (Some n) = n ≤ most_steps s
+
+-- a constant has the width of its row
+abbrev pub IsOfWidth : Width → Option ℕ → Type 0
+IsOfWidth w None = Unit {0}
+IsOfWidth w (Some c) = c < 2 ^ bits_wide w
 
 -- the operand of an instruction is one of the width that the instruction has
 abbrev pub HasOperand : Op → Type 0
@@ -39,6 +73,24 @@ HasOperand op.NotRlo = Unit {0}
 HasOperand op.Save = Unit {0}
 HasOperand (op.EdgeUp o) = IsOperand width.Bit o
 HasOperand (op.EdgeDown o) = IsOperand width.Bit o
+HasOperand (op.Load a) = IsLoadable a
+HasOperand (op.Transfer o w) = IsNumberWidth w × IsOperand w o
+HasOperand op.LoadStw = Unit {0}
+HasOperand op.TransferStw = Unit {0}
+HasOperand (op.Arith a) = Unit {0}
+HasOperand (op.AddWord n) = Unit {0}
+HasOperand (op.AddDword n) = Unit {0}
+HasOperand (op.Inc n) = Unit {0}
+HasOperand (op.Dec n) = Unit {0}
+HasOperand (op.Compare t w) = IsComparison t w
+HasOperand (op.Shift s count) = IsCount s count
+HasOperand op.Rlda = Unit {0}
+HasOperand op.Rrda = Unit {0}
+HasOperand (op.Logic l c) = IsOfWidth (logic_width l) c
+HasOperand (op.Unary u) = Unit {0}
+HasOperand op.Tak = Unit {0}
+HasOperand op.Push = Unit {0}
+HasOperand op.Pop = Unit {0}
 HasOperand op.Nop = Unit {0}
 HasOperand op.BlockEnd = Unit {0}
 

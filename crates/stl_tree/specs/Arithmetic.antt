@@ -1,5 +1,5 @@
 -- Arithmetic and comparisons of whole numbers, on the low words of the accumulators or on the whole of them.
-use Rattle.std.specs.Prelude.{◌+◌, ◌*◌, ◌^◌, ℤ, pos, neg_ℤ, ◌+ℤ◌, ◌-ℤ◌, ◌*ℤ◌, int_div, int_rem, int_lt, int_le, Bool, false, not, if◌then◌else◌}
+use Rattle.std.specs.Prelude.{◌+◌, ◌*◌, ◌^◌, ℤ, pos, neg_ℤ, ◌+ℤ◌, ◌-ℤ◌, ◌*ℤ◌, int_div, int_rem, int_lt, int_le, Bool, true, false, not, if◌then◌else◌}
 use Rattle.std.specs.Ordering.{int_eq}
 use Rattle.s7_base.specs.SignedNumbers.{is_over, pattern, wrapped}
 use Rattle.s7_base.specs.declared.word.Width.{Width}
@@ -81,6 +81,19 @@ calculated a r = row_of_numbers a (signed_part (width_of a) r.accu2) (signed_par
 -- NEGI and NEGD
 abbrev pub negated : Width → RegisterValues → RegisterValues
 negated w r = result_in w (neg_ℤ (signed_part w r.accu1)) r
+
+-- one of the six signs of comparisons
+abbrev pub is_comparison : Test → Bool
+is_comparison test.Eq = true
+is_comparison test.Ne = true
+is_comparison test.Gt = true
+is_comparison test.Lt = true
+is_comparison test.Ge = true
+is_comparison test.Le = true
+is_comparison test.Uo = false
+is_comparison test.Ov = false
+is_comparison test.Os = false
+is_comparison test.Br = false
 
 -- a comparison of x in ACCU2 with y in ACCU1; the other questions to the status word are none
 abbrev pub holds : Test → ℤ → ℤ → Bool

@@ -46,6 +46,24 @@ open_behind op.NotRlo n = Some n
 open_behind op.Save n = Some n
 open_behind (op.EdgeUp o) n = Some n
 open_behind (op.EdgeDown o) n = Some n
+open_behind (op.Load a) n = Some n
+open_behind (op.Transfer o w) n = Some n
+open_behind op.LoadStw n = Some n
+open_behind op.TransferStw n = Some n
+open_behind (op.Arith a) n = Some n
+open_behind (op.AddWord k) n = Some n
+open_behind (op.AddDword k) n = Some n
+open_behind (op.Inc k) n = Some n
+open_behind (op.Dec k) n = Some n
+open_behind (op.Compare t w) n = Some n
+open_behind (op.Shift s count) n = Some n
+open_behind op.Rlda n = Some n
+open_behind op.Rrda n = Some n
+open_behind (op.Logic l c) n = Some n
+open_behind (op.Unary u) n = Some n
+open_behind op.Tak n = Some n
+open_behind op.Push n = Some n
+open_behind op.Pop n = Some n
 open_behind op.Nop n = Some n
 
 -- what holds of a number that is there

@@ -1,10 +1,21 @@
 -- The instruction table: what each instruction does to the state that it finds.
-use Rattle.std.specs.Prelude.{Bool, true, false, not, ◌&&◌, ◌||◌}
+use Rattle.std.specs.Prelude.{pos, Bool, true, false, not, ◌&&◌, ◌||◌}
 use Rattle.memory_areas.specs.Access.{read_bit, write_bit}
 use Rattle.status_word.specs.StatusBits.{StatusBits, after_check, after_clear, after_edge, after_end, after_not, after_or, after_save, after_set, after_store}
+use Rattle.s7_base.specs.declared.word.Width.{Width}
+use Rattle.s7_base.specs.declared.word.Width.TheVariants as width
+use Rattle.stl_tree.specs.Accumulators.{accu_popped, accu_pushed, accus_exchanged, decreased, increased, loaded, part, read_number, status_loaded, status_stored, write_number}
+use Rattle.stl_tree.specs.Arithmetic.{calculated, compared}
 use Rattle.stl_tree.specs.Brackets.{closed, opened}
+use Rattle.stl_tree.specs.Conversions.{converted}
 use Rattle.stl_tree.specs.Now.{Now, Effect, next, leave, with_memory, with_status, with_value}
 use Rattle.stl_tree.specs.Operands.{with_checked, with_place}
+use Rattle.stl_tree.specs.Registers.{RegisterValues}
+use Rattle.stl_tree.specs.Shifts.{after_shift, around_left_through_cc1, around_right_through_cc1}
+use Rattle.stl_tree.specs.WordLogic.{after_logic_row}
+use Rattle.stl_tree.specs.declared.accumulator.UnaryRow.{UnaryRow}
+use Rattle.stl_tree.specs.declared.program.LoadArg.{LoadArg}
+use Rattle.stl_tree.specs.declared.program.LoadArg.TheVariants as arg
 use Rattle.stl_tree.specs.declared.program.Op.{Op}
 use Rattle.stl_tree.specs.declared.program.Op.TheVariants as op
 use Rattle.stl_tree.specs.declared.program.Operand.{Operand}
@@ -25,6 +36,25 @@ at_edge rising o now =
     with_place o now (λ p after. with_value (read_bit p after.memory) (λ e.
     with_memory (write_bit p after.registers.status.rlo after.memory) after (on_status (after_edge rising e))))
 
+-- the registers become others
+abbrev pub on_registers : (RegisterValues → RegisterValues) → Now → Effect
+on_registers row now = next (record now { registers = row now.registers })
+
+-- L
+abbrev pub loaded_from : LoadArg → Now → Effect
+loaded_from (arg.At o w) now =
+    with_place o now (λ p after. with_value (read_number w p after.memory) (λ v. on_registers (loaded v) after))
+loaded_from (arg.Constant c) now = on_registers (loaded c) now
+
+-- T: the lowest bits of ACCU1, so many as the width has
+abbrev pub transferred : Operand → Width → Now → Effect
+transferred o w now =
+    with_place o now (λ p after. with_memory (write_number w p (part w after.registers.accu1) after.memory) after next)
+
+-- an instruction on ACCU1 alone, which may meet a fault
+abbrev pub on_accu1 : UnaryRow → Now → Effect
+on_accu1 u now = with_value (converted u now.registers) (λ r. next (record now { registers = r }))
+
 -- the row of each instruction
 abbrev pub effect_of : Op → Now → Effect
 effect_of (op.Check c b) now = with_checked b now (λ v. on_status (after_check c v))
@@ -42,5 +72,23 @@ effect_of op.NotRlo now = on_status after_not now
 effect_of op.Save now = on_status after_save now
 effect_of (op.EdgeUp o) now = at_edge true o now
 effect_of (op.EdgeDown o) now = at_edge false o now
+effect_of (op.Load a) now = loaded_from a now
+effect_of (op.Transfer o w) now = transferred o w now
+effect_of op.LoadStw now = on_registers status_loaded now
+effect_of op.TransferStw now = on_registers status_stored now
+effect_of (op.Arith a) now = on_registers (calculated a) now
+effect_of (op.AddWord n) now = on_registers (increased width.Word n) now
+effect_of (op.AddDword n) now = on_registers (increased width.Dword n) now
+effect_of (op.Inc n) now = on_registers (increased width.Byte (pos n)) now
+effect_of (op.Dec n) now = on_registers (decreased width.Byte (pos n)) now
+effect_of (op.Compare t w) now = on_registers (compared t w) now
+effect_of (op.Shift s count) now = on_registers (after_shift s count) now
+effect_of op.Rlda now = on_registers around_left_through_cc1 now
+effect_of op.Rrda now = on_registers around_right_through_cc1 now
+effect_of (op.Logic l c) now = on_registers (after_logic_row l c) now
+effect_of (op.Unary u) now = on_accu1 u now
+effect_of op.Tak now = on_registers accus_exchanged now
+effect_of op.Push now = on_registers accu_pushed now
+effect_of op.Pop now = on_registers accu_popped now
 effect_of op.Nop now = next now
 effect_of op.BlockEnd now = leave (with_status after_end now)

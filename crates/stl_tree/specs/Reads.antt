@@ -1,11 +1,16 @@
 -- The registers that each instruction reads by its row; what it does depends on no other.
-use Rattle.std.specs.Prelude.{List, [], ◌∷◌, ◌++◌}
+use Rattle.std.specs.Prelude.{ℕ, ◌-◌, ◌^◌, ◌==◌, ℤ, pos, Bool, false, if◌then◌else◌, List, [], ◌∷◌, ◌++◌, Option, Some, None}
+use Rattle.std.specs.Ordering.{int_eq}
 use Rattle.s7_base.specs.declared.check.Check.{Check}
 use Rattle.s7_base.specs.declared.check.Check.TheVariants as check
 use Rattle.s7_base.specs.declared.register.Reg.{Reg}
 use Rattle.s7_base.specs.declared.register.Reg.TheVariants as reg
 use Rattle.status_word.specs.declared.test.Test.{Test}
 use Rattle.status_word.specs.declared.test.Test.TheVariants as test
+use Rattle.stl_tree.specs.declared.accumulator.LogicRow.{LogicRow}
+use Rattle.stl_tree.specs.declared.accumulator.LogicRow.TheVariants as logic
+use Rattle.stl_tree.specs.declared.accumulator.UnaryRow.{UnaryRow}
+use Rattle.stl_tree.specs.declared.accumulator.UnaryRow.TheVariants as unary
 use Rattle.stl_tree.specs.declared.program.BitArg.{BitArg}
 use Rattle.stl_tree.specs.declared.program.BitArg.TheVariants as arg
 use Rattle.stl_tree.specs.declared.program.Op.{Op}
@@ -38,6 +43,37 @@ chain_read check.On = reg.Rlo ∷ reg.Nfc ∷ []
 chain_read check.X = reg.Rlo ∷ reg.Nfc ∷ []
 chain_read check.Xn = reg.Rlo ∷ reg.Nfc ∷ []
 
+-- what an arithmetic row reads; where nothing overflows OS is kept
+abbrev pub calculated_with : List Reg
+calculated_with = reg.Accu1 ∷ reg.Accu2 ∷ reg.Os ∷ []
+
+-- + n, INC and DEC read ACCU1, but a constant 0 changes nothing
+abbrev pub increased_by : ℤ → List Reg
+increased_by n = if int_eq n (pos 0) then [] else reg.Accu1 ∷ []
+
+-- a shift; one by the constant 0 changes nothing, and one by a count of 0 in ACCU2 keeps the flags
+abbrev pub shifted_by : Option ℕ → List Reg
+shifted_by None = reg.Accu1 ∷ reg.Accu2 ∷ reg.Cc1 ∷ reg.Cc0 ∷ reg.Ov ∷ []
+shifted_by (Some n) = if n == 0 then [] else reg.Accu1 ∷ []
+
+-- word logic with a constant gives the same whatever ACCU1 holds: AD with no bit, OD with all bits
+abbrev pub is_fixed : LogicRow → ℕ → Bool
+is_fixed logic.Ad c = c == 0
+is_fixed logic.Od c = c == 2 ^ 32 - 1
+is_fixed other c = false
+
+abbrev pub combined_with : LogicRow → Option ℕ → List Reg
+combined_with l None = reg.Accu1 ∷ reg.Accu2 ∷ []
+combined_with l (Some c) = if is_fixed l c then [] else reg.Accu1 ∷ []
+
+-- what works on ACCU1 alone; where nothing overflows OS is kept
+abbrev pub converted_with : UnaryRow → List Reg
+converted_with unary.Itb = reg.Accu1 ∷ reg.Os ∷ []
+converted_with unary.Dtb = reg.Accu1 ∷ reg.Os ∷ []
+converted_with unary.Negi = reg.Accu1 ∷ reg.Os ∷ []
+converted_with unary.Negd = reg.Accu1 ∷ reg.Os ∷ []
+converted_with other = reg.Accu1 ∷ []
+
 -- the registers that an instruction reads; a bracket keeps its chain, and one that is closed reads the RLO inside
 abbrev pub reads_of : Op → List Reg
 reads_of (op.Check c b) = looked_at b ++ chain_read c
@@ -53,5 +89,23 @@ reads_of op.NotRlo = reg.Rlo ∷ []
 reads_of op.Save = reg.Rlo ∷ []
 reads_of (op.EdgeUp o) = reg.Rlo ∷ []
 reads_of (op.EdgeDown o) = reg.Rlo ∷ []
+reads_of (op.Load a) = reg.Accu1 ∷ []
+reads_of (op.Transfer o w) = reg.Accu1 ∷ []
+reads_of op.LoadStw = reg.Accu1 ∷ reg.Rlo ∷ reg.Os ∷ reg.Ov ∷ reg.Cc0 ∷ reg.Cc1 ∷ reg.Br ∷ []
+reads_of op.TransferStw = reg.Accu1 ∷ []
+reads_of (op.Arith a) = calculated_with
+reads_of (op.AddWord n) = increased_by n
+reads_of (op.AddDword n) = increased_by n
+reads_of (op.Inc n) = increased_by (pos n)
+reads_of (op.Dec n) = increased_by (pos n)
+reads_of (op.Compare t w) = reg.Accu1 ∷ reg.Accu2 ∷ []
+reads_of (op.Shift s count) = shifted_by count
+reads_of op.Rlda = reg.Accu1 ∷ reg.Cc1 ∷ []
+reads_of op.Rrda = reg.Accu1 ∷ reg.Cc1 ∷ []
+reads_of (op.Logic l c) = combined_with l c
+reads_of (op.Unary u) = converted_with u
+reads_of op.Tak = reg.Accu1 ∷ reg.Accu2 ∷ []
+reads_of op.Push = reg.Accu1 ∷ []
+reads_of op.Pop = reg.Accu2 ∷ []
 reads_of op.Nop = []
 reads_of op.BlockEnd = []

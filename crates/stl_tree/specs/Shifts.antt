@@ -48,6 +48,17 @@ width_of row.Ssd = width.Dword
 width_of row.Rld = width.Dword
 width_of row.Rrd = width.Dword
 
+-- the greatest count of a row as a constant
+abbrev pub most_steps : ShiftRow → ℕ
+most_steps row.Slw = 15
+most_steps row.Srw = 15
+most_steps row.Ssi = 15
+most_steps row.Sld = 32
+most_steps row.Srd = 32
+most_steps row.Ssd = 32
+most_steps row.Rld = 32
+most_steps row.Rrd = 32
+
 -- one step of a row
 abbrev pub step : ShiftRow → ℕ → ℕ
 step row.Slw p = left 16 p

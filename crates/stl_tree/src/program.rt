@@ -1,5 +1,6 @@
 //! The program that a source text stands for.
 
+use crate::accumulator::{Arith, LogicRow, ShiftRow, UnaryRow};
 use memory_areas::{AreaName, BlockName, DataBlock, Place};
 use s7_base::{Check, Line, List, Width};
 use status_word::Test;
@@ -18,6 +19,16 @@ pub enum BitArg {
 
     /// A question to the status word.
     Flag(Test),
+}
+
+/// What `L` loads.
+#[derive(Clone, Copy, Debug, PartialEq, Eq)]
+pub enum LoadArg {
+    /// A byte, a word or a double word.
+    At(Operand, Width),
+
+    /// A constant, extended to 32 bits.
+    Constant(u32),
 }
 
 /// What a formal of a called block stands for.
@@ -82,6 +93,58 @@ pub enum Op {
 
     /// `FN`, on the bit that keeps the last RLO.
     EdgeDown(Operand),
+
+    /// `L`
+    Load(LoadArg),
+
+    /// `T`, of a byte, a word or a double word.
+    Transfer(Operand, Width),
+
+    /// `L STW`
+    LoadStw,
+
+    /// `T STW`
+    TransferStw,
+
+    Arith(Arith),
+
+    /// `+ n`
+    AddWord(i16),
+
+    /// `+ L#n`
+    AddDword(i32),
+
+    /// `INC`
+    Inc(u8),
+
+    /// `DEC`
+    Dec(u8),
+
+    /// `==I` to `<=I` with the width of a word, `==D` to `<=D` with that of a double word.
+    Compare(Test, Width),
+
+    /// A shift or rotation, by a constant or by ACCU2.
+    Shift(ShiftRow, Option<u8>),
+
+    /// `RLDA`
+    Rlda,
+
+    /// `RRDA`
+    Rrda,
+
+    /// Word logic, with a constant or with ACCU2.
+    Logic(LogicRow, Option<u32>),
+
+    Unary(UnaryRow),
+
+    /// `TAK`
+    Tak,
+
+    /// `PUSH`
+    Push,
+
+    /// `POP`
+    Pop,
 
     /// `NOP` and `BLD`.
     Nop,
