@@ -114,24 +114,22 @@ fn wants_memory(
     Ok(())
 }
 
+/// A run of a source and one of its translation end with this memory.
+pub fn want_alike(
+    rt: &impl Abort,
+    alloc: Global,
+    source: &[u8],
+    row: (&[u8], &[u8]),
+) -> Result<(), NoMemory> {
+    let (_, text) = answered(alloc, "translate", source, b"")?;
+    wants_memory(rt, alloc, "run-stl 1000 OB1 img", source, row)?;
+    wants_memory(rt, alloc, "run-st 1000 OB1 img", text.taken(), row)
+}
+
 fn want_bodies(rt: &impl Abort, alloc: Global, rows: &[Row]) -> Result<(), NoMemory> {
     for (body, image, memory) in rows {
         let source = with_body(alloc, body)?;
-        wants_memory(
-            rt,
-            alloc,
-            "run-stl 1000 OB1 img",
-            source.as_slice(),
-            (image, memory),
-        )?;
-        let (_, text) = answered(alloc, "translate", source.as_slice(), b"")?;
-        wants_memory(
-            rt,
-            alloc,
-            "run-st 1000 OB1 img",
-            text.taken(),
-            (image, memory),
-        )?;
+        want_alike(rt, alloc, source.as_slice(), (image, memory))?;
     }
     Ok(())
 }

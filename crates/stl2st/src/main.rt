@@ -15,6 +15,8 @@ use s7_io::{NoFile, StdSink, StdSource};
 use std::process::ExitCode;
 use std::{env, io};
 
+#[cfg(test)]
+mod accumulator_tests;
 mod answer;
 mod call;
 mod command;
