@@ -4,5 +4,6 @@ pub mod BrokenLaws
 pub mod Reason
 pub mod RegSet
 pub mod SignedNumbers
+pub mod SmallText
 pub mod Tokens
 pub mod formers

@@ -1,7 +1,7 @@
 //! Tokens of a source text.
 
-use crate::list::List;
 use crate::reason::Line;
+use crate::small_text::SmallText;
 
 /// The four sorts of tokens.
 #[derive(Clone, Copy, Debug, PartialEq, Eq)]
@@ -21,9 +21,9 @@ pub enum TokenKind {
 
 /// A token: its characters as they are written, without the quotes of a `Quoted` or a `Text`, and the
 /// line on which it stands. It is `glued` where no blank stands directly before it.
-#[derive(Debug, Drop, PartialEq)]
+#[derive(Debug, Drop)]
 pub struct Token {
-    pub text: List<u8>,
+    pub text: SmallText,
     pub line: Line,
     pub kind: TokenKind,
     pub glued: bool,

@@ -9,7 +9,7 @@ ghost use Rattle.stl_instructions.specs.inner.Rows.{view};
 use crate::operand::{operand_of, size_with};
 use crate::table::{Row, mnemonic_at};
 use crate::words::{is_sign, is_word_kind};
-use s7_base::{Kind, Line, List, NoMemory, Reason, Rejection, Token, rest_after};
+use s7_base::{Kind, Line, NoMemory, Reason, Rejection, SmallText, Token, rest_after};
 use std::alloc::Global;
 use stl_tree::{RawInstr, RawOp, RawOperand, Read};
 
@@ -43,12 +43,15 @@ pub fn begins_with_label(tokens: &[Token]) -> bool
 }
 
 /// The name of a mnemonic.
-fn name_of(alloc: Global, row: Row) -> Result<List<u8>, NoMemory>
+fn name_of(alloc: Global, row: Row) -> Result<SmallText, NoMemory>
     ensures { IfOk result (λ name. name ≡ name_of (view row)) }
 {
+    if row.1.is_empty() {
+        return SmallText::new(alloc, row.0.as_bytes());
+    }
     let mut name = Vec::from_slice(alloc, row.0.as_bytes())?;
     name.extend_from_slice(row.1.as_bytes())?;
-    Ok(List::from_vec(name))
+    SmallText::new(alloc, name.as_slice())
 }
 
 /// A mnemonic with what was read of the tokens behind it, of which the operand takes all.

@@ -5,7 +5,7 @@ ghost use Rattle.s7_base.specs.Answers.{Answers};
 ghost use Rattle.stl_lexer.specs.inner.Found.{view, IsWithin};
 
 use crate::piece::{Piece, is_blank, line_behind, piece_at, size_of};
-use s7_base::{Line, List, NoMemory, Reason, Rejection, Token, TokenKind, rest_after};
+use s7_base::{Line, List, NoMemory, Reason, Rejection, SmallText, Token, TokenKind, rest_after};
 use std::alloc::Global;
 
 /// The characters of a token, without the quotes.
@@ -42,7 +42,7 @@ fn keep_token(
     let Piece::Token(kind, size) = piece else {
         return Ok(());
     };
-    let text = List::from_vec(Vec::from_slice(alloc, token_text(kind, &bytes[..size]))?);
+    let text = SmallText::new(alloc, token_text(kind, &bytes[..size]))?;
     let glued = !is_blank(before);
     tokens.push(Token {
         kind,

@@ -3,7 +3,7 @@
 //! Byte, bit and block numbers above 4,294,967,295 are kept as that number.
 
 use memory_areas::AreaName;
-use s7_base::{Boxed, Line, List, Width};
+use s7_base::{Boxed, Line, List, SmallText, Width};
 use status_word::Test;
 
 /// One of the two address registers.
@@ -166,13 +166,13 @@ pub enum RawOperand {
     OpenDi(RawName),
     OpenDbBy(RawPlace),
     OpenDiBy(RawPlace),
-    Call(RawCall),
+    Call(Boxed<RawCall>),
 }
 
 /// A mnemonic, in capitals, and its operand.
 #[derive(Drop)]
 pub struct RawOp {
-    pub mnemonic: List<u8>,
+    pub mnemonic: SmallText,
     pub operand: RawOperand,
 }
 
