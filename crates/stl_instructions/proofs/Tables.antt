@@ -1,5 +1,5 @@
 -- Looking something up in a table that is seen as another.
-use Rattle.std.proofs.Common.{◌≡◌, Bool, true, false, cond, List, [], ◌∷◌, map, Some, refl}
+use Rattle.std.proofs.Common.{◌≡◌, Bool, true, false, cond, ◌&&◌, List, [], ◌∷◌, map, Some, None, refl, sym}
 use Rattle.std.specs.List.{find}
 use Rattle.std.specs.Prelude.{option_map}
 
@@ -12,3 +12,13 @@ at view test x xs false h = h
 pub find_map : {X Y : Type 0} (view : X → Y) (test : Y → Bool) (xs : List X) → option_map view (find (λ x. test (view x)) xs) ≡ find test (map view xs)
 find_map view test [] = refl
 find_map view test (x ∷ xs) = at view test x xs (test (view x)) (find_map view test xs)
+
+-- none passes a test that fails always
+pub find_none : {X : Type 0} (xs : List X) → find (λ (x : X). false) xs ≡ None
+find_none [] = refl
+find_none (x ∷ xs) = find_none xs
+
+-- nor one that asks first what is false
+pub find_refused : {X : Type 0} (b : Bool) (one two : X → Bool) (xs : List X) → b ≡ false → None ≡ find (λ x. b && one x && two x) xs
+find_refused true one two xs h = absurd cc
+find_refused false one two xs h = sym (find_none xs)

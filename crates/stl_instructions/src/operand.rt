@@ -1,12 +1,14 @@
 //! Reads the operand of an instruction.
 ghost use Rattle.std.specs.Prelude.{◌≡◌, ◌&&◌, ◌||◌, map, option_map};
 ghost use Rattle.std.specs.List.{find, list_all};
-ghost use Rattle.s7_base.specs.Tokens.{is_between};
+ghost use Rattle.s7_base.specs.Tokens.{is_between, is_same_word};
+ghost use Rattle.stl_tree.specs.Mnemonics.{goes_on};
+ghost use Rattle.stl_tree.specs.Words.{is_spelled};
 ghost use Rattle.stl_tree.specs.Statements.{area_of, area_of_letter, bit_of, is_bit_in_area, in_area, bit_at, is_bit_number, short_bit, long_bit, are_digits, is_named, is_numbered, has_form, left_out_forms, fitting, or_else, short_at, long_at, left_out_by, bit_operand, at_place, size_with, first_of, second_of, tests, is_asked, status_at, number_in, zero_behind, plain_by, byte_at, nothing_at, checked_at, operand_by, checked_shape, shape_of, operand_of};
 ghost use Rattle.stl_instructions.specs.inner.Rows.{seen};
 
 use crate::table::goes_on;
-use crate::words::{is_sign, is_spelled, is_word, is_word_kind};
+use crate::words::{is_sign, is_word, is_word_kind, is_word_or_sign};
 use memory_areas::{AreaName, is_byte_in};
 use s7_base::{Check, Kind, Token, Width, front_of, is_same_word, rest_after};
 use status_word::Test;
@@ -340,20 +342,33 @@ fn second_of(test: Test) -> &'static str
     }
 }
 
-fn is_asked(tokens: &[Token], test: Test) -> bool
-    ensures { result ≡ is_asked tokens.now test }
+/// The first question of a table that stands at the front.
+fn first_asked(tokens: &[Token], table: &[Test]) -> Option<Test>
+    ensures { result ≡ find (λ test. is_asked tokens.now test) table.now }
 {
     match tokens {
-        [first, rest @ ..] => is_spelled(first, first_of(test)) && goes_on(second_of(test), rest),
-        [] => false,
+        [first, rest @ ..] => test_at(first, rest, table),
+        [] => None,
     }
 }
 
-/// The first question of a table that stands at the front.
-fn first_asked(tokens: &[Token], table: &[Test]) -> Option<Test>
-    ensures { result ≡ find (is_asked tokens.now) table.now }
+/// The first question of a table whose first part is this token and whose second part stands behind it.
+fn test_at(first: &Token, rest: &[Token], table: &[Test]) -> Option<Test>
+    ensures { result ≡ find (λ test. is_spelled (first_of test) first.now && goes_on (second_of test) rest.now) table.now }
 {
-    table.iter().copied().find(|test| is_asked(tokens, *test))
+    if is_word_or_sign(first) {
+        test_spelled(first.text.as_slice(), rest, table)
+    } else {
+        None
+    }
+}
+
+/// The same by the text of the first token, which is taken out once for all questions.
+fn test_spelled(text: &[u8], rest: &[Token], table: &[Test]) -> Option<Test>
+    ensures { result ≡ find (λ test. is_same_word text.now (first_of test) && goes_on (second_of test) rest.now) table.now }
+{
+    table.iter().copied().find(|test| is_same_word(text, first_of(*test))
+        && goes_on(second_of(*test), rest))
 }
 
 fn asked(tokens: &[Token]) -> Option<Test>

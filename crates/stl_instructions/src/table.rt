@@ -1,11 +1,12 @@
 //! The table of mnemonics.
 ghost use Rattle.std.specs.Prelude.{◌≡◌, ◌&&◌, ◌||◌, codes, map, option_map};
 ghost use Rattle.std.specs.List.{find};
+ghost use Rattle.s7_base.specs.Tokens.{is_same_word};
 ghost use Rattle.stl_tree.specs.Mnemonics.{goes_on, stands_at, mnemonic_at, begins_with_mnemonic, has_name, rows, mnemonic_named};
 ghost use Rattle.stl_tree.specs.Words.{is_sign, is_spelled};
 ghost use Rattle.stl_instructions.specs.inner.Rows.{view};
 
-use crate::words::{is_sign, is_spelled};
+use crate::words::{is_sign, is_spelled, is_word_or_sign};
 use s7_base::{Check, Kind, Token, front_of, is_same_word, rest_after};
 use stl_tree::Mnemonic;
 
@@ -188,15 +189,6 @@ pub fn goes_on(second: &str, tokens: &[Token]) -> bool
     }
 }
 
-fn stands_at(row: &Row, tokens: &[Token]) -> bool
-    ensures { result ≡ stands_at tokens.now (view row.now) }
-{
-    match tokens {
-        [first, rest @ ..] => is_spelled(first, row.0) && goes_on(row.1, rest),
-        [] => false,
-    }
-}
-
 fn table() -> &'static [Row]
     ensures { map view result.now ≡ rows }
 {
@@ -213,7 +205,31 @@ fn first_row(tokens: &[Token], table: &[Row]) -> Option<Row>
 fn row_found(tokens: &[Token], table: &[Row]) -> Option<Row>
     ensures { result ≡ find (λ row. stands_at tokens.now (view row)) table.now }
 {
-    table.iter().copied().find(|row| stands_at(row, tokens))
+    match tokens {
+        [first, rest @ ..] => row_at(first, rest, table),
+        [] => None,
+    }
+}
+
+/// The first row of a table whose first part is this token and whose second part stands behind it.
+fn row_at(first: &Token, rest: &[Token], table: &[Row]) -> Option<Row>
+    ensures { result ≡ find (λ row. is_spelled row.0.now first.now && goes_on row.1.now rest.now) table.now }
+{
+    if is_word_or_sign(first) {
+        row_spelled(first.text.as_slice(), rest, table)
+    } else {
+        None
+    }
+}
+
+/// The same by the text of the first token, which is taken out once for all rows.
+fn row_spelled(text: &[u8], rest: &[Token], table: &[Row]) -> Option<Row>
+    ensures { result ≡ find (λ row. is_same_word text.now row.0.now && goes_on row.1.now rest.now) table.now }
+{
+    table
+        .iter()
+        .copied()
+        .find(|row| is_same_word(text, row.0) && goes_on(row.1, rest))
 }
 
 /// The mnemonic that stands at the front, with its row.

@@ -1,0 +1,15 @@
+use Rattle.std.proofs.Common.{◌∙◌, ◌||◌, sym}
+use Rattle.s7_base.specs.Tokens.{is_same_word}
+use Rattle.status_word.specs.declared.test.Test.{Test}
+use Rattle.stl_tree.specs.Mnemonics.{goes_on}
+use Rattle.stl_tree.specs.Statements.{first_of, second_of}
+use Rattle.stl_tree.specs.Words.{is_sign_kind, is_word_kind}
+use Rattle.stl_instructions.proofs.Tables.{find_refused}
+use Rattle.stl_instructions.proofs.operand.test_at.Goals as goal
+
+pub returns-else-is_word_or_sign : goal.returns-else-is_word_or_sign
+returns-else-is_word_or_sign c =
+    let kind = c.args.first.now.kind in
+    find_refused (is_word_kind kind || is_sign_kind kind)
+    (λ (test : Test). is_same_word c.args.first.now.text (first_of test)) (λ (test : Test). goes_on (second_of test) c.args.rest.now)
+    c.args.table.now (sym c.is_word_or_sign.ensures ∙ c.if-is_word_or_sign.false)
