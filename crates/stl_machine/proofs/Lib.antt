@@ -1,3 +1,4 @@
-mod Steps
 mod Clearing
 mod Pushing
+mod StatusWord
+mod Steps

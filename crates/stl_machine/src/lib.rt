@@ -8,6 +8,10 @@
 
 pub use machine::{Machine, MachineRefusal};
 
+mod accumulators;
+mod arithmetic;
+mod conversions;
 mod effect;
 mod machine;
 mod state;
+mod word_logic;
