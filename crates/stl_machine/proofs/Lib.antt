@@ -1,4 +1,5 @@
 mod Clearing
+mod Moves
 mod Pushing
 mod StatusWord
 mod Steps

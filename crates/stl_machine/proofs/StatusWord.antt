@@ -1,5 +1,5 @@
 -- The status word has its bits in a low word.
-use Rattle.std.proofs.Common.{◌≡◌, ◌==◌, ℕ, ◌%◌, ◌^◌, refl, ap, arith}
+use Rattle.std.proofs.Common.{◌≡◌, ◌==◌, ℕ, ◌%◌, ◌^◌, ap, arith}
 use Rattle.std.specs.Int.{bit_at}
 use Rattle.status_word.specs.Flags.{bits_of, has_bit, place}
 use Rattle.status_word.specs.declared.test.Flag.{Flag}

@@ -1,5 +1,5 @@
 //! Parts of the accumulators, and what loads, stores and moves them.
-ghost use Rattle.std.specs.Prelude.{◌≡◌, ◌<◌, ◌^◌, pos};
+ghost use Rattle.std.specs.Prelude.{◌≡◌, ◌<◌, ◌^◌};
 ghost use Rattle.memory_areas.specs.Memory.{IsActivation, Writes};
 ghost use Rattle.s7_base.specs.SignedNumbers.{pattern};
 ghost use Rattle.stl_machine.specs.Machine.{values};

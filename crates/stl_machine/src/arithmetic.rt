@@ -126,9 +126,7 @@ impl Registers {
         let high = pattern(Width::Word, remainder(x, y));
         Registers {
             accu1: high * 65536 + low,
-            status: self
-                .status
-                .signed(quotient, is_over(Width::Word, quotient)),
+            status: self.status.signed(quotient, is_over(Width::Word, quotient)),
             ..self
         }
     }

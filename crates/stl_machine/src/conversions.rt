@@ -3,7 +3,7 @@ ghost use Rattle.std.specs.Prelude.{◌≡◌, ◌+◌, ◌-◌, ◌*◌, ◌/�
 ghost use Rattle.s7_base.specs.declared.word.Width.TheVariants.{Dword, Word};
 ghost use Rattle.stl_machine.specs.Machine.{values};
 ghost use Rattle.stl_tree.specs.Accumulators.{bits_wide, part};
-ghost use Rattle.stl_tree.specs.Conversions.{converted, dword_reversed, extended, from_digits, inverted, replaced, to_digits, with_digits, with_value_of_digits, word_reversed};
+ghost use Rattle.stl_tree.specs.Conversions.{converted, extended, from_digits, replaced, to_digits, with_digits, with_value_of_digits};
 
 use crate::accumulators::{part, pattern, signed_part, with_number, with_part};
 use crate::state::Registers;
@@ -50,7 +50,11 @@ impl Registers {
     }
 
     /// A part of ACCU1 takes the number that digits say.
-    fn with_value_of_digits(self, width: Width, value: Result<i32, Fault>) -> Result<Registers, Fault>
+    fn with_value_of_digits(
+        self,
+        width: Width,
+        value: Result<i32, Fault>,
+    ) -> Result<Registers, Fault>
         ensures { MatchResult result
             (λ after. with_value_of_digits width (values self) value ≡ Ok (values after))
             (λ fault. with_value_of_digits width (values self) value ≡ Err fault) }

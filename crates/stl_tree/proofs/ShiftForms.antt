@@ -125,17 +125,17 @@ right_undoes x h =
     ∙ right_step (x / 2 ^ 31) (x % 2 ^ 31) (omega arith)
     ∙ sym (parts x)
 
-times_below : (n p : ℕ) → p < 2 ^ 32 → times n (around_left 32) p < 2 ^ 32
+pub around_left_times_below : (n p : ℕ) → p < 2 ^ 32 → times n (around_left 32) p < 2 ^ 32
 unfolding times
-times_below zero p h = h
-times_below (suc n) p h = left_below (times n (around_left 32) p) (times_below n p h)
+around_left_times_below zero p h = h
+around_left_times_below (suc n) p h = left_below (times n (around_left 32) p) (around_left_times_below n p h)
 
 times_undone : (n p : ℕ) → p < 2 ^ 32 → times n (around_right 32) (times n (around_left 32) p) ≡ p
 unfolding times
 times_undone zero p h = refl
 times_undone (suc n) p h =
     times_from n (around_right 32) (times (suc n) (around_left 32) p)
-    ∙ ap (times n (around_right 32)) (right_undoes (times n (around_left 32) p) (times_below n p h))
+    ∙ ap (times n (around_right 32)) (right_undoes (times n (around_left 32) p) (around_left_times_below n p h))
     ∙ times_undone n p h
 
 -- m steps move the lowest j bits up and the others to their place, where j + m bits are all
@@ -216,12 +216,12 @@ right_is_left : (m j p : ℕ) → m + j ≡ 32 → p < 2 ^ 32 → times m (aroun
 right_is_left m j p e h =
     let back : times m (around_left 32) (times j (around_left 32) p) ≡ p =
     sym (times-add m j (around_left 32) p) ∙ ap (λ k. times k (around_left 32) p) e ∙ left_around p h in
-    ap (times m (around_right 32)) (sym back) ∙ times_undone m (times j (around_left 32) p) (times_below j p h)
+    ap (times m (around_right 32)) (sym back) ∙ times_undone m (times j (around_left 32) p) (around_left_times_below j p h)
+
+pub around_right_times_left : (n p : ℕ) → p < 2 ^ 32 → times n (around_right 32) p ≡ times (32 - n % 32) (around_left 32) p
+around_right_times_left n p h =
+    less_than_around n (around_right 32) p (right_around p h) ∙ right_is_left (n % 32) (32 - n % 32) p (omega arith) h
 
 pub around_right_times : (n p : ℕ) → p < 2 ^ 32 → times n (around_right 32) p ≡ p / 2 ^ (n % 32) + p % 2 ^ (n % 32) * 2 ^ (32 - n % 32)
 around_right_times n p h =
-    let all : n % 32 + (32 - n % 32) ≡ 32 = omega arith in
-    less_than_around n (around_right 32) p (right_around p h)
-    ∙ right_is_left (n % 32) (32 - n % 32) p all h
-    ∙ times_turned (32 - n % 32) (n % 32) p all h
-    ∙ omega arith
+    around_right_times_left n p h ∙ times_turned (32 - n % 32) (n % 32) p (omega arith) h ∙ omega arith
