@@ -1,3 +1,5 @@
-mod Steps
 mod Clearing
+mod Moves
 mod Pushing
+mod StatusWord
+mod Steps
