@@ -4,7 +4,9 @@ pub mod Example
 pub mod Locals
 pub mod Numbers
 pub mod Operands
+pub mod ReadRegisters
 pub mod RegisterRows
+pub mod Sizes
 pub mod Stages
 pub mod Truths
 pub mod Typing
