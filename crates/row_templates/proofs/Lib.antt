@@ -2,6 +2,7 @@ pub mod Alike
 pub mod DoesRow
 pub mod Example
 pub mod Locals
+pub mod MemoryRows
 pub mod Numbers
 pub mod Operands
 pub mod ReadRegisters
