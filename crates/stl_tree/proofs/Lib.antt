@@ -2,6 +2,7 @@ pub mod AcceptedLaws
 mod AccumulatorRows
 pub mod GrammarLaws
 pub mod ItemLaws
+mod OperandRows
 pub mod ProgramLaws
 mod RunRows
 pub mod Runs

@@ -6,7 +6,7 @@ use Rattle.s7_base.specs.Tokens.{tokens_of}
 use Rattle.s7_base.specs.declared.check.Check.TheVariants as check
 use Rattle.memory_areas.specs.declared.place.AreaName.TheVariants as area
 use Rattle.status_word.specs.declared.test.Test.TheVariants as test
-use Rattle.s7_base.specs.declared.reason.Kind.TheVariants.{NotBuilt}
+use Rattle.s7_base.specs.declared.reason.Kind.TheVariants.{NotBuilt, Real, Timer}
 use Rattle.s7_base.specs.declared.reason.Reason.{Reason}
 use Rattle.s7_base.specs.declared.reason.Reason.TheVariants.{BadToken, BadStatement, Unsupported, BracketMissing, BracketOpen, NoBlocks, TooManyBrackets}
 use Rattle.s7_base.specs.declared.reason.Rejection.{Rejection}
@@ -27,13 +27,13 @@ use Rattle.stl_tree.specs.declared.program.Program.{Program}
 use Rattle.stl_tree.specs.declared.raw.RawOperand.{out-RawOperand}
 
 -- a source with its body on line 3
-abbrev with_body : List ℕ → List ℕ
+abbrev pub with_body : List ℕ → List ℕ
 with_body body = codes "ORGANIZATION_BLOCK OB 1\nBEGIN\n" ++ body ++ codes "\nEND_ORGANIZATION_BLOCK\n"
 
-abbrev refused : ℕ → Reason → Result Program Rejection
+abbrev pub refused : ℕ → Reason → Result Program Rejection
 refused line reason = Err (Refused (record { 0 = line }) reason)
 
-abbrev on_line_3 : Op → Instr
+abbrev pub on_line_3 : Op → Instr
 on_line_3 what = record { line = record { 0 = 3 }; op = what }
 
 three_instructions :
@@ -61,7 +61,7 @@ empty_input : verdict [] ≡ refused 1 NoBlocks
 unfolding verdict judged raw_text raw_program item_at is_not_built instruction_of tokens_of mnemonic_at
 empty_input = refl
 
-not_built : verdict (with_body (codes "L 5;")) ≡ refused 3 (Unsupported NotBuilt)
+not_built : verdict (with_body (codes "JU a;")) ≡ refused 3 (Unsupported NotBuilt)
 unfolding verdict judged raw_text raw_program item_at is_not_built instruction_of tokens_of mnemonic_at
 not_built = refl
 
@@ -69,9 +69,9 @@ no_mnemonic : verdict (with_body (codes "FOO 5;")) ≡ refused 3 BadStatement
 unfolding verdict judged raw_text raw_program item_at is_not_built instruction_of tokens_of mnemonic_at
 no_mnemonic = refl
 
-timer_is_not_built : verdict (with_body (codes "SP T 1;")) ≡ refused 3 (Unsupported NotBuilt)
+timer_is_left_out : verdict (with_body (codes "SP T 1;")) ≡ refused 3 (Unsupported Timer)
 unfolding verdict judged raw_text raw_program item_at is_not_built instruction_of tokens_of mnemonic_at
-timer_is_not_built = refl
+timer_is_left_out = refl
 
 label_is_not_built : verdict (with_body (codes "a: A I 0.0;")) ≡ refused 3 (Unsupported NotBuilt)
 unfolding verdict judged raw_text raw_program item_at is_not_built instruction_of tokens_of mnemonic_at
@@ -113,7 +113,7 @@ statement_is_cut_off : verdict (with_body (codes "A I 0.0")) ≡ refused 3 BadSt
 unfolding verdict judged raw_text raw_program item_at is_not_built instruction_of tokens_of mnemonic_at
 statement_is_cut_off = refl
 
-typed_sign_is_a_mnemonic : verdict (with_body (codes "+I;")) ≡ refused 3 (Unsupported NotBuilt)
+typed_sign_is_a_mnemonic : verdict (with_body (codes "+R;")) ≡ refused 3 (Unsupported Real)
 unfolding verdict judged raw_text raw_program item_at is_not_built instruction_of tokens_of mnemonic_at
 typed_sign_is_a_mnemonic = refl
 

@@ -1,17 +1,21 @@
 -- The instructions that are built, form by form: a mnemonic of the table, and the operand of its shape.
-use Rattle.std.specs.Prelude.{◌≡◌, ℕ, ◌≤◌, ◌⊎◌, true, false, List, [], ◌∷◌, take, drop, codes, Some, None, Ok}
+use Rattle.std.specs.Prelude.{◌≡◌, ℕ, ◌≤◌, true, false, List, [], ◌∷◌, take, drop, codes, Some, None, Ok}
 use Rattle.memory_areas.specs.declared.place.AreaName.{AreaName}
 use Rattle.s7_base.specs.declared.token.Token.{Token}
+use Rattle.s7_base.specs.declared.word.Width.{Width}
 use Rattle.status_word.specs.declared.test.Test.{Test}
+use Rattle.stl_tree.specs.ConstantForms.{IsAddend, IsAmong, IsConstant, IsUpTo}
+use Rattle.stl_tree.specs.Constants.{fits, plain}
 use Rattle.stl_tree.specs.Mnemonics.{Row, rows, stands_at, mnemonic_at}
 use Rattle.stl_tree.specs.Numbers.{number_of}
-use Rattle.stl_tree.specs.Statements.{area_of, bit_of, is_bit_in_area, first_of, second_of, plain, shape_of, begins_with_label, name_of, size_with, instr_with, instruction_of}
-use Rattle.stl_tree.specs.Words.{is_sign, is_spelled, is_word_kind}
+use Rattle.stl_tree.specs.Statements.{area_of, bit_of, is_in_area, first_of, number_of_area, second_of, shape_of, width_of, begins_with_label, name_of, size_with, instr_with, instruction_of}
+use Rattle.stl_tree.specs.Words.{is_sign, is_spelled, is_word, is_word_kind}
 use Rattle.stl_tree.specs.declared.mnemonic.Shape.{Shape}
 use Rattle.stl_tree.specs.declared.mnemonic.Shape.TheVariants as shape
+use Rattle.stl_tree.specs.declared.raw.Constant.{Constant as Literal}
 use Rattle.stl_tree.specs.declared.raw.RawInstr.{RawInstr}
 use Rattle.stl_tree.specs.declared.raw.RawOperand.{RawOperand}
-use Rattle.stl_tree.specs.declared.raw.RawOperand.TheVariants.{At, Flag, Missing}
+use Rattle.stl_tree.specs.declared.raw.RawOperand.TheVariants.{At, Constant, Flag, Missing, Stw}
 use Rattle.stl_tree.specs.declared.raw.RawPlace.{RawPlace}
 
 -- a point and a bit number from 0 to 7, with no blank before either
@@ -27,12 +31,12 @@ pub data IsBit : List Token → RawPlace → Type 0 where
   together : (word point bit : Token) (name : AreaName) (y x : ℕ) →
       is_word_kind word.kind ≡ true → area_of (take 1 word.text) ≡ Some name
       → number_of 65535 (drop 1 word.text) ≡ Some y → IsBitNumber point bit x
-      → is_bit_in_area (bit_of name y x) ≡ true
+      → is_in_area (bit_of name y x) ≡ true
       → IsBit (word ∷ point ∷ bit ∷ []) (bit_of name y x)
   apart : (word number point bit : Token) (name : AreaName) (y x : ℕ) →
       is_word_kind word.kind ≡ true → area_of word.text ≡ Some name
       → is_word_kind number.kind ≡ true → number_of 65535 number.text ≡ Some y
-      → IsBitNumber point bit x → is_bit_in_area (bit_of name y x) ≡ true
+      → IsBitNumber point bit x → is_in_area (bit_of name y x) ≡ true
       → IsBit (word ∷ number ∷ point ∷ bit ∷ []) (bit_of name y x)
 
 -- a question to the status word as it is written: `OV`, or `==0` without a blank
@@ -43,13 +47,22 @@ pub data IsStatusOperand : List Token → Test → Type 0 where
       second_of test ≡ codes "0" → is_spelled (first_of test) sign ≡ true
       → is_spelled (codes "0") zero ≡ true → zero.glued ≡ true → IsStatusOperand (sign ∷ zero ∷ []) test
 
--- a number from 0 to 255 as it is written: `5`, or `-0` without a blank
-pub data IsByteNumber : List Token → ℕ → Type 0 where
-  unsigned : (word : Token) (n : ℕ) →
-      is_word_kind word.kind ≡ true → number_of 255 word.text ≡ Some n → IsByteNumber (word ∷ []) n
-  minus_zero : (sign zero : Token) (n : ℕ) →
-      is_sign (codes "-") sign ≡ true → is_word_kind zero.kind ≡ true → zero.glued ≡ true
-      → number_of 0 zero.text ≡ Some n → IsByteNumber (sign ∷ zero ∷ []) n
+-- the letters of an area and of a width, and a byte of that area
+pub record IsNamed (letters byte : List ℕ) (name : AreaName) (w : Width) (y : ℕ) : Type 0 where
+  pub area_is : area_of (take 1 letters) ≡ Some name
+  pub width_is : width_of (drop 1 letters) ≡ Some w
+  pub byte_is : number_of 65535 byte ≡ Some y
+  pub within : is_in_area (number_of_area name w y) ≡ true
+
+-- a byte, a word or a double word of its area as it is written: `MB5` or `MB 5`
+pub data IsPlace : List Token → RawPlace → Type 0 where
+  in_one : (word : Token) (name : AreaName) (w : Width) (y : ℕ) →
+      is_word_kind word.kind ≡ true → IsNamed (take 2 word.text) (drop 2 word.text) name w y
+      → IsPlace (word ∷ []) (number_of_area name w y)
+  in_two : (letters number : Token) (name : AreaName) (w : Width) (y : ℕ) →
+      is_word_kind letters.kind ≡ true → is_word_kind number.kind ≡ true
+      → IsNamed letters.text number.text name w y
+      → IsPlace (letters ∷ number ∷ []) (number_of_area name w y)
 
 -- an operand of a shape
 pub data IsOperand : Shape → List Token → RawOperand → Type 0 where
@@ -60,7 +73,23 @@ pub data IsOperand : Shape → List Token → RawOperand → Type 0 where
   checked : (tokens : List Token) (operand : RawOperand) →
       IsOperand shape.Checked tokens operand → IsOperand shape.CheckedOrNothing tokens operand
   alone : IsOperand shape.CheckedOrNothing [] Missing
-  number : (tokens : List Token) (n : ℕ) → IsByteNumber tokens n → IsOperand shape.Byte tokens (plain n)
+  number : (most : ℕ) (tokens : List Token) (n : ℕ) →
+      IsUpTo most tokens n → IsOperand (shape.Number most) tokens (Constant (plain n))
+  count : (most : ℕ) (tokens : List Token) (n : ℕ) →
+      IsUpTo most tokens n → IsOperand (shape.NumberOrNothing most) tokens (Constant (plain n))
+  no_count : (most : ℕ) → IsOperand (shape.NumberOrNothing most) [] Missing
+  addend : (tokens : List Token) (c : Literal) → IsAddend tokens c → IsOperand shape.Addend tokens (Constant c)
+  loaded_status : (word : Token) → is_word (codes "STW") word ≡ true → IsOperand shape.Loaded (word ∷ []) Stw
+  loaded_constant : (tokens : List Token) (c : Literal) →
+      IsConstant tokens c → IsOperand shape.Loaded tokens (Constant c)
+  loaded_place : (tokens : List Token) (place : RawPlace) →
+      IsPlace tokens place → IsOperand shape.Loaded tokens (At place)
+  stored_status : (word : Token) → is_word (codes "STW") word ≡ true → IsOperand shape.Stored (word ∷ []) Stw
+  stored_place : (tokens : List Token) (place : RawPlace) →
+      IsPlace tokens place → IsOperand shape.Stored tokens (At place)
+  combined : (w : Width) (tokens : List Token) (c : Literal) →
+      IsConstant tokens c → fits w c ≡ true → IsOperand (shape.ConstantOrNothing w) tokens (Constant c)
+  no_constant : (w : Width) → IsOperand (shape.ConstantOrNothing w) [] Missing
 
 -- an instruction without a label: a mnemonic, and behind it an operand of its shape
 pub data IsInstruction : List Token → RawInstr → Type 0 where
@@ -73,11 +102,6 @@ pub data IsInstruction : List Token → RawInstr → Type 0 where
 pub record InstructionsHaveForms : Type 0 where
   pub sound : (tokens : List Token) (instr : RawInstr) → instruction_of tokens ≡ Ok instr → IsInstruction tokens instr
   pub complete : (tokens : List Token) (instr : RawInstr) → IsInstruction tokens instr → instruction_of tokens ≡ Ok instr
-
--- the row is one of these
-abbrev pub IsAmong : Row → List Row → Type 0
-IsAmong row [] = ⊥
-IsAmong row (first ∷ rest) = (row ≡ first) ⊎ IsAmong row rest
 
 -- the mnemonic at the front is the longest of the table that stands there, and there is none where none does
 pub record MnemonicsAreLongest : Type 0 where

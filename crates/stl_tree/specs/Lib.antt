@@ -2,6 +2,8 @@ pub mod Accepted
 pub mod Accumulators
 pub mod Arithmetic
 pub mod Brackets
+pub mod ConstantForms
+pub mod Constants
 pub mod Conversions
 pub mod Grammar
 pub mod InstructionForms
@@ -14,6 +16,7 @@ pub mod Operands
 pub mod Programs
 pub mod Raw
 pub mod RawPrograms
+pub mod Readers
 pub mod Reads
 pub mod Registers
 pub mod RunLaws

@@ -8,7 +8,15 @@ use Rattle.s7_base.specs.declared.check.Check.{Check}
 use Rattle.s7_base.specs.declared.check.Check.TheVariants as check
 use Rattle.s7_base.specs.declared.reason.Kind.TheVariants as kind
 use Rattle.s7_base.specs.declared.token.Token.{Token}
+use Rattle.s7_base.specs.declared.word.Width.TheVariants as width
+use Rattle.status_word.specs.declared.test.Test.{Test}
+use Rattle.status_word.specs.declared.test.Test.TheVariants as test
 use Rattle.stl_tree.specs.Words.{is_sign, is_spelled}
+use Rattle.stl_tree.specs.declared.accumulator.Arith.{Arith}
+use Rattle.stl_tree.specs.declared.accumulator.Arith.TheVariants as arith
+use Rattle.stl_tree.specs.declared.accumulator.LogicRow.TheVariants as logic
+use Rattle.stl_tree.specs.declared.accumulator.ShiftRow.TheVariants as shift
+use Rattle.stl_tree.specs.declared.accumulator.UnaryRow.TheVariants as unary
 use Rattle.stl_tree.specs.declared.mnemonic.Mnemonic.{Mnemonic}
 use Rattle.stl_tree.specs.declared.mnemonic.Mnemonic.TheVariants as is
 
@@ -35,8 +43,17 @@ abbrev pub checked : Check → List ℕ → List Row
 checked check word = two (is.Bracket check) word (codes "(") ∷ one (is.Check check) word ∷ []
 
 -- a sign before I and D, for whole numbers of 16 and 32 bits, and R, for reals
-abbrev pub typed : List ℕ → List Row
-typed sign = two is.Later sign (codes "I") ∷ two is.Later sign (codes "D") ∷ two (is.LeftOut kind.Real) sign (codes "R") ∷ []
+abbrev pub typed : Mnemonic → Mnemonic → List ℕ → List Row
+typed word dword sign =
+    two word sign (codes "I") ∷ two dword sign (codes "D") ∷ two (is.LeftOut kind.Real) sign (codes "R") ∷ []
+
+-- arithmetic
+abbrev pub calculated : Arith → Arith → List ℕ → List Row
+calculated word dword sign = typed (is.Arith word) (is.Arith dword) sign
+
+-- a comparison
+abbrev pub compared : Test → List ℕ → List Row
+compared test sign = typed (is.Compare test width.Word) (is.Compare test width.Dword) sign
 
 -- bit logic, setting, resetting and edges
 abbrev pub bit_rows : List Row
@@ -48,20 +65,32 @@ bit_rows =
     ∷ one is.SetRlo (codes "SET") ∷ one is.ClearRlo (codes "CLR") ∷ one is.NotRlo (codes "NOT") ∷ one is.Save (codes "SAVE")
     ∷ one is.EdgeUp (codes "FP") ∷ one is.EdgeDown (codes "FN") ∷ [])
 
--- loading and transferring, arithmetic, shifts, word logic and conversions in the accumulators
+-- loading and transferring, arithmetic and comparisons
+abbrev pub number_rows : List Row
+number_rows =
+    (one is.Load (codes "L") ∷ one is.Transfer (codes "T") ∷ [])
+    ++ calculated arith.AddI arith.AddD (codes "+") ++ calculated arith.SubI arith.SubD (codes "-")
+    ++ calculated arith.MulI arith.MulD (codes "*") ++ calculated arith.DivI arith.DivD (codes "/")
+    ++ (two is.Later (codes "+") (codes "AR1") ∷ two is.Later (codes "+") (codes "AR2") ∷ one is.Plus (codes "+") ∷ [])
+    ++ compared test.Eq (codes "==") ++ compared test.Ne (codes "<>") ++ compared test.Gt (codes ">")
+    ++ compared test.Lt (codes "<") ++ compared test.Ge (codes ">=") ++ compared test.Le (codes "<=")
+    ++ (one (is.Arith arith.Mod) (codes "MOD") ∷ one is.Inc (codes "INC") ∷ one is.Dec (codes "DEC") ∷ [])
+
+-- shifts, word logic, conversions and moves in the accumulators
 abbrev pub accumulator_rows : List Row
 accumulator_rows =
-    ones is.Later (codes "L" ∷ codes "T" ∷ [])
-    ++ typed (codes "+") ++ typed (codes "-") ++ typed (codes "*") ++ typed (codes "/")
-    ++ (two is.Later (codes "+") (codes "AR1") ∷ two is.Later (codes "+") (codes "AR2") ∷ one is.Later (codes "+") ∷ [])
-    ++ typed (codes "==") ++ typed (codes "<>") ++ typed (codes ">") ++ typed (codes "<") ++ typed (codes ">=") ++ typed (codes "<=")
-    ++ ones is.Later
-    (codes "MOD" ∷ codes "INC" ∷ codes "DEC" ∷ codes "SLW" ∷ codes "SRW" ∷ codes "SSI" ∷ codes "SLD" ∷ codes "SRD" ∷ codes "SSD"
-    ∷ codes "RLD" ∷ codes "RRD" ∷ codes "RLDA" ∷ codes "RRDA"
-    ∷ codes "AW" ∷ codes "OW" ∷ codes "XOW" ∷ codes "AD" ∷ codes "OD" ∷ codes "XOD"
-    ∷ codes "BTI" ∷ codes "BTD" ∷ codes "ITB" ∷ codes "DTB" ∷ codes "ITD" ∷ codes "INVI" ∷ codes "INVD"
-    ∷ codes "CAW" ∷ codes "CAD" ∷ codes "NEGI" ∷ codes "NEGD"
-    ∷ codes "TAK" ∷ codes "PUSH" ∷ codes "POP" ∷ [])
+    one (is.Shift shift.Slw) (codes "SLW") ∷ one (is.Shift shift.Srw) (codes "SRW") ∷ one (is.Shift shift.Ssi) (codes "SSI")
+    ∷ one (is.Shift shift.Sld) (codes "SLD") ∷ one (is.Shift shift.Srd) (codes "SRD") ∷ one (is.Shift shift.Ssd) (codes "SSD")
+    ∷ one (is.Shift shift.Rld) (codes "RLD") ∷ one (is.Shift shift.Rrd) (codes "RRD")
+    ∷ one is.Rlda (codes "RLDA") ∷ one is.Rrda (codes "RRDA")
+    ∷ one (is.Logic logic.Aw) (codes "AW") ∷ one (is.Logic logic.Ow) (codes "OW") ∷ one (is.Logic logic.Xow) (codes "XOW")
+    ∷ one (is.Logic logic.Ad) (codes "AD") ∷ one (is.Logic logic.Od) (codes "OD") ∷ one (is.Logic logic.Xod) (codes "XOD")
+    ∷ one (is.Unary unary.Bti) (codes "BTI") ∷ one (is.Unary unary.Btd) (codes "BTD")
+    ∷ one (is.Unary unary.Itb) (codes "ITB") ∷ one (is.Unary unary.Dtb) (codes "DTB") ∷ one (is.Unary unary.Itd) (codes "ITD")
+    ∷ one (is.Unary unary.Invi) (codes "INVI") ∷ one (is.Unary unary.Invd) (codes "INVD")
+    ∷ one (is.Unary unary.Caw) (codes "CAW") ∷ one (is.Unary unary.Cad) (codes "CAD")
+    ∷ one (is.Unary unary.Negi) (codes "NEGI") ∷ one (is.Unary unary.Negd) (codes "NEGD")
+    ∷ one is.Tak (codes "TAK") ∷ one is.Push (codes "PUSH") ∷ one is.Pop (codes "POP") ∷ []
 
 -- address registers, opening data blocks, what does nothing, jumps, block ends and calls; FR and LC are of the kind of their operand
 abbrev pub control_rows : List Row
@@ -73,7 +102,8 @@ control_rows =
     (codes "JU" ∷ codes "JC" ∷ codes "JCN" ∷ codes "JCB" ∷ codes "JNB" ∷ codes "JBI" ∷ codes "JNBI"
     ∷ codes "JO" ∷ codes "JOS" ∷ codes "JZ" ∷ codes "JN" ∷ codes "JP" ∷ codes "JM" ∷ codes "JPZ" ∷ codes "JMZ"
     ∷ codes "JUO" ∷ codes "LOOP" ∷ codes "JL"
-    ∷ codes "BE" ∷ codes "BEU" ∷ codes "BEC" ∷ codes "CALL" ∷ codes "UC" ∷ codes "CC" ∷ codes "FR" ∷ codes "LC" ∷ [])
+    ∷ codes "BE" ∷ codes "BEU" ∷ codes "BEC" ∷ codes "CALL" ∷ codes "UC" ∷ codes "CC" ∷ [])
+    ++ ones is.TimerOrCounter (codes "FR" ∷ codes "LC" ∷ [])
 
 -- the forms that the translator leaves out
 abbrev pub left_out_rows : List Row
@@ -90,7 +120,7 @@ left_out_rows =
 
 -- the table
 abbrev pub rows : List Row
-rows = bit_rows ++ accumulator_rows ++ control_rows ++ left_out_rows
+rows = bit_rows ++ number_rows ++ accumulator_rows ++ control_rows ++ left_out_rows
 
 -- the second part of a mnemonic stands here, or it has none; no blank stands before it but before a bracket
 abbrev pub goes_on : List ℕ → List Token → Bool

@@ -1,6 +1,14 @@
--- Decimal numbers.
-use Rattle.std.specs.Prelude.{ℕ, ◌+◌, ◌*◌, ◌-◌, ◌&&◌, nat_le, if◌then◌else◌, List, [], ◌∷◌, Option, Some, None}
+-- Numbers: decimal, hexadecimal and binary.
+use Rattle.std.specs.Prelude.{ℕ, ◌+◌, ◌*◌, ◌-◌, Bool, false, ◌==◌, ◌&&◌, nat_le, nat_lt, if◌then◌else◌, List, [], ◌∷◌, length, get_or, Option, Some, None, option_and_then}
+use Rattle.std.specs.List.{list_all}
 use Rattle.s7_base.specs.Tokens.{is_between}
+
+-- Decimal numbers
+
+-- one or more digits
+abbrev pub are_digits : List ℕ → Bool
+are_digits [] = false
+are_digits (digit ∷ rest) = list_all (λ b. is_between 48 57 b) (digit ∷ rest)
 
 -- the number that digits stand for after those of `value`, where it is at most `most`
 abbrev pub number_from : ℕ → ℕ → List ℕ → Option ℕ
@@ -13,3 +21,60 @@ number_from most value (digit ∷ rest) =
 abbrev pub number_of : ℕ → List ℕ → Option ℕ
 number_of most [] = None
 number_of most (digit ∷ rest) = number_from most 0 (digit ∷ rest)
+
+-- Hexadecimal numbers
+
+-- the number that a hexadecimal digit stands for, A to F in either case
+abbrev pub hex_digit : ℕ → Option ℕ
+hex_digit b =
+    if is_between 48 57 b then Some (b - 48)
+    else if is_between 65 70 b then Some (b - 55)
+    else if is_between 97 102 b then Some (b - 87)
+    else None
+
+-- a number, where it is at most `most`
+abbrev pub at_most : ℕ → ℕ → Option ℕ
+at_most most value = if nat_le value most then Some value else None
+
+-- the number that hexadecimal digits stand for after those of `value`, where it is at most `most`
+abbrev pub hex_from : ℕ → ℕ → List ℕ → Option ℕ
+hex_from most value [] = Some value
+hex_from most value (digit ∷ rest) =
+    option_and_then (λ d. option_and_then (λ more. hex_from most more rest) (at_most most (value * 16 + d))) (hex_digit digit)
+
+-- a hexadecimal number of at most `most`; leading zeros are allowed
+abbrev pub hex_number : ℕ → List ℕ → Option ℕ
+hex_number most [] = None
+hex_number most (digit ∷ rest) = hex_from most 0 (digit ∷ rest)
+
+-- Binary numbers
+
+-- how many digits, and the number that they stand for
+pub record Bits : Type 0 where
+  pub count : ℕ
+  pub value : ℕ
+
+-- 0 or 1
+abbrev pub is_bit : ℕ → Bool
+is_bit b = is_between 48 49 b
+
+-- one digit more
+abbrev pub with_bit : Bits → ℕ → Bits
+with_bit bits b = record { count = bits.count + 1; value = bits.value * 2 + (b - 48) }
+
+-- binary digits after others, at most 32 in all; `_` says nothing
+abbrev pub bits_from : Bits → List ℕ → Option Bits
+bits_from bits [] = Some bits
+bits_from bits (b ∷ rest) =
+    if b == 95 then bits_from bits rest
+    else if is_bit b && nat_lt bits.count 32 then bits_from (with_bit bits b) rest
+    else None
+
+-- a digit stands at both ends of a text
+abbrev pub has_bits_at_ends : List ℕ → Bool
+has_bits_at_ends [] = false
+has_bits_at_ends (b ∷ rest) = is_bit b && is_bit (get_or (b ∷ rest) (length rest) 0)
+
+-- at most 32 binary digits; one or more `_` may stand between two of them
+abbrev pub bits_of : List ℕ → Option Bits
+bits_of text = if has_bits_at_ends text then bits_from (record { count = 0; value = 0 }) text else None

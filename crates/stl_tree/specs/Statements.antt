@@ -1,9 +1,9 @@
 -- The tokens of one statement without its `;`: a mnemonic and its operand. An operand is a form that fits, a
 -- listed form that is left out, whatever follows it, or neither.
-use Rattle.std.specs.Prelude.{ℕ, Bool, true, false, not, ◌==◌, ◌&&◌, ◌||◌, nat_lt, nat_le, if◌then◌else◌, List, [], ◌∷◌, ◌++◌, length, take, drop, codes, Option, Some, None, option_and_then, Result, Ok, Err}
+use Rattle.std.specs.Prelude.{ℕ, Bool, true, false, not, ◌==◌, ◌&&◌, ◌||◌, nat_lt, if◌then◌else◌, List, [], ◌∷◌, ◌++◌, length, take, drop, codes, Option, Some, None, option_and_then, Result, Ok, Err}
 use Rattle.std.specs.Char.{to_ascii_uppercase}
-use Rattle.std.specs.List.{find, list_all}
-use Rattle.memory_areas.specs.Access.{is_byte_in}
+use Rattle.std.specs.List.{find}
+use Rattle.memory_areas.specs.Access.{is_byte_in, is_unaligned}
 use Rattle.memory_areas.specs.declared.place.AreaName.{AreaName}
 use Rattle.memory_areas.specs.declared.place.AreaName.TheVariants as area
 use Rattle.s7_base.specs.Tokens.{is_between, is_same_word}
@@ -17,11 +17,16 @@ use Rattle.s7_base.specs.declared.reason.Reason.TheVariants.{BadStatement, Unsup
 use Rattle.s7_base.specs.declared.reason.Rejection.{Rejection}
 use Rattle.s7_base.specs.declared.reason.Rejection.TheVariants.{Refused}
 use Rattle.s7_base.specs.declared.token.Token.{Token}
+use Rattle.s7_base.specs.declared.word.Width.{Width}
 use Rattle.s7_base.specs.declared.word.Width.TheVariants as width
 use Rattle.status_word.specs.declared.test.Test.{Test}
 use Rattle.status_word.specs.declared.test.Test.TheVariants as test
+use Rattle.stl_tree.specs.Constants.{addend_at, constant_at, fitting_at, number_at}
 use Rattle.stl_tree.specs.Mnemonics.{Row, goes_on, mnemonic_at}
-use Rattle.stl_tree.specs.Numbers.{number_of}
+use Rattle.stl_tree.specs.Numbers.{are_digits, number_of}
+use Rattle.stl_tree.specs.Readers.{fitting, or_else, read_as}
+use Rattle.stl_tree.specs.Shifts.{most_steps}
+use Rattle.stl_tree.specs.WordLogic.{width_of as logic_width}
 use Rattle.stl_tree.specs.Words.{is_word, is_sign, is_spelled, is_word_kind}
 use Rattle.stl_tree.specs.declared.mnemonic.Mnemonic.{Mnemonic}
 use Rattle.stl_tree.specs.declared.mnemonic.Mnemonic.TheVariants as is
@@ -32,7 +37,7 @@ use Rattle.stl_tree.specs.declared.mnemonic.Shape.TheVariants as shape
 use Rattle.stl_tree.specs.declared.raw.RawInstr.{RawInstr}
 use Rattle.stl_tree.specs.declared.raw.RawOp.{RawOp}
 use Rattle.stl_tree.specs.declared.raw.RawOperand.{RawOperand}
-use Rattle.stl_tree.specs.declared.raw.RawOperand.TheVariants.{At, Constant, Flag, Missing}
+use Rattle.stl_tree.specs.declared.raw.RawOperand.TheVariants.{At, Constant, Flag, Missing, Stw}
 use Rattle.stl_tree.specs.declared.raw.RawPlace.{RawPlace}
 
 -- Bits
@@ -55,13 +60,13 @@ area_of (letter ∷ more ∷ rest) = None
 abbrev pub bit_of : AreaName → ℕ → ℕ → RawPlace
 bit_of name byte bit = record { block = None; area = name; width = width.Bit; byte = byte; bit = bit }
 
--- the place is a bit of its area
-abbrev pub is_bit_in_area : RawPlace → Bool
-is_bit_in_area place = is_byte_in place.area width.Bit place.byte && nat_le place.bit 7
+-- the place lies in its area, with a bit number that its width has
+abbrev pub is_in_area : RawPlace → Bool
+is_in_area place = is_byte_in place.area place.width place.byte && not (is_unaligned place.width place.bit)
 
--- a bit of its area; one that is not in its area is not built yet
+-- a place of its area; one that is not in its area is not built yet
 abbrev pub in_area : RawPlace → Option RawPlace
-in_area place = if is_bit_in_area place then Some place else None
+in_area place = if is_in_area place then Some place else None
 
 -- a bit by its area, its byte and its number
 abbrev pub bit_at : Option AreaName → List ℕ → List ℕ → Option RawPlace
@@ -87,7 +92,45 @@ long_bit name byte point bit =
     then bit_at (area_of name.text) byte.text bit.text
     else None
 
--- Forms that are left out where a bit may stand
+-- Bytes, words and double words
+
+-- the width of an operand, by its letter
+abbrev pub width_of_letter : ℕ → Option Width
+width_of_letter letter =
+    if letter == 66 then Some width.Byte
+    else if letter == 87 then Some width.Word
+    else if letter == 68 then Some width.Dword
+    else None
+
+-- the width of an operand, by a word of one letter in either case
+abbrev pub width_of : List ℕ → Option Width
+width_of [] = None
+width_of (letter ∷ []) = width_of_letter (to_ascii_uppercase letter)
+width_of (letter ∷ more ∷ rest) = None
+
+-- a byte, a word or a double word of an area as it is written
+abbrev pub number_of_area : AreaName → Width → ℕ → RawPlace
+number_of_area name w byte = record { block = None; area = name; width = w; byte = byte; bit = 0 }
+
+-- such a place by its area and its width, and by its byte
+abbrev pub place_at : Option AreaName → Option Width → List ℕ → Option RawPlace
+place_at None w byte = None
+place_at (Some name) None byte = None
+place_at (Some name) (Some w) byte = option_and_then (λ y. in_area (number_of_area name w y)) (number_of 65535 byte)
+
+-- such a place by the letters of its area and its width, and by its byte
+abbrev pub place_named : List ℕ → List ℕ → Option RawPlace
+place_named letters byte = place_at (area_of (take 1 letters)) (width_of (drop 1 letters)) byte
+
+-- `MB5`: all in one word
+abbrev pub short_place : Token → Option RawPlace
+short_place place = if is_word_kind place.kind then place_named (take 2 place.text) (drop 2 place.text) else None
+
+-- `MB 5`: the letters and the byte in a word each
+abbrev pub long_place : Token → Token → Option RawPlace
+long_place name byte = if is_word_kind name.kind && is_word_kind byte.kind then place_named name.text byte.text else None
+
+-- Forms that are left out where a place may stand
 
 -- a form that is left out: a word with a number, or with a bracket where it may be indirect, and its kind
 pub record NamedForm : Type 0 where
@@ -103,17 +146,16 @@ direct word kind = record { word = word; is_indirect = false; kind = kind }
 abbrev pub peripheral : List ℕ → NamedForm
 peripheral word = record { word = word; is_indirect = true; kind = kind.Peripheral }
 
--- timers, counters, and the peripheral inputs and outputs
+-- timers and counters
+abbrev pub timers_and_counters : List NamedForm
+timers_and_counters = direct (codes "T") kind.Timer ∷ direct (codes "C") kind.Counter ∷ []
+
+-- these, and the peripheral inputs and outputs
 abbrev pub left_out_forms : List NamedForm
 left_out_forms =
-    direct (codes "T") kind.Timer ∷ direct (codes "C") kind.Counter
-    ∷ peripheral (codes "PIB") ∷ peripheral (codes "PIW") ∷ peripheral (codes "PID")
-    ∷ peripheral (codes "PQB") ∷ peripheral (codes "PQW") ∷ peripheral (codes "PQD") ∷ []
-
--- one or more digits
-abbrev pub are_digits : List ℕ → Bool
-are_digits [] = false
-are_digits (digit ∷ rest) = list_all (λ b. is_between 48 57 b) (digit ∷ rest)
+    timers_and_counters
+    ++ (peripheral (codes "PIB") ∷ peripheral (codes "PIW") ∷ peripheral (codes "PID")
+    ∷ peripheral (codes "PQB") ∷ peripheral (codes "PQW") ∷ peripheral (codes "PQD") ∷ [])
 
 -- what stands behind the word of such a form: a number, or a bracket
 abbrev pub is_named : NamedForm → List Token → Bool
@@ -132,17 +174,6 @@ has_form (first ∷ rest) form = (is_word form.word first && is_named form rest)
 
 -- Operands
 
--- what was read takes so many tokens, or it does not stand here
-abbrev pub fitting : ℕ → Option RawPlace → Read RawPlace
-fitting size None = No
-fitting size (Some place) = Fits place size
-
--- what was read, or else something else
-abbrev pub or_else : {A : Type 0} → Read A → Read A → Read A
-or_else No other = other
-or_else (LeftOut kind) other = LeftOut kind
-or_else (Fits operand size) other = Fits operand size
-
 abbrev pub short_at : List Token → Read RawPlace
 short_at [] = No
 short_at (a ∷ []) = No
@@ -160,15 +191,27 @@ abbrev pub left_out_by : Option NamedForm → Read RawPlace
 left_out_by None = No
 left_out_by (Some form) = LeftOut form.kind
 
+-- a form of a table that is left out
+abbrev pub left_out_at : List NamedForm → List Token → Read RawPlace
+left_out_at table tokens = left_out_by (find (has_form tokens) table)
+
 -- what stands where a bit may stand
 abbrev pub bit_operand : List Token → Read RawPlace
-bit_operand tokens = or_else (short_at tokens) (or_else (long_at tokens) (left_out_by (find (has_form tokens) left_out_forms)))
+bit_operand tokens = or_else (short_at tokens) (or_else (long_at tokens) (left_out_at left_out_forms tokens))
 
--- a place as an operand
-abbrev pub at_place : Read RawPlace → Read RawOperand
-at_place No = No
-at_place (LeftOut kind) = LeftOut kind
-at_place (Fits place size) = Fits (At place) size
+abbrev pub short_place_at : List Token → Read RawPlace
+short_place_at [] = No
+short_place_at (place ∷ rest) = fitting 1 (short_place place)
+
+abbrev pub long_place_at : List Token → Read RawPlace
+long_place_at [] = No
+long_place_at (a ∷ []) = No
+long_place_at (name ∷ byte ∷ rest) = fitting 2 (long_place name byte)
+
+-- what stands where a byte, a word or a double word may stand
+abbrev pub place_operand : List Token → Read RawPlace
+place_operand tokens =
+    or_else (short_place_at tokens) (or_else (long_place_at tokens) (left_out_at left_out_forms tokens))
 
 -- how many tokens a mnemonic or a question to the status word takes, by its second part
 abbrev pub size_with : List ℕ → ℕ
@@ -218,28 +261,15 @@ asked_by (Some test) = Fits (Flag test) (size_with (second_of test))
 abbrev pub status_at : List Token → Read RawOperand
 status_at tokens = asked_by (find (is_asked tokens) tests)
 
--- a plain number is a constant of a word, with a sign
-abbrev pub plain : ℕ → RawOperand
-plain value = Constant (record { width = width.Word; signed = true; binary = false; value = value })
+-- the status word
+abbrev pub stw_at : List Token → Read RawOperand
+stw_at [] = No
+stw_at (first ∷ rest) = if is_word (codes "STW") first then Fits Stw 1 else No
 
--- a word that is a number of at most so much
-abbrev pub number_in : ℕ → Token → Option ℕ
-number_in most token = if is_word_kind token.kind then number_of most token.text else None
-
--- behind a minus: 0, with no blank before it
-abbrev pub zero_behind : List Token → Option ℕ
-zero_behind [] = None
-zero_behind (token ∷ rest) = if token.glued then number_in 0 token else None
-
-abbrev pub plain_by : ℕ → Option ℕ → Read RawOperand
-plain_by size None = No
-plain_by size (Some value) = Fits (plain value) size
-
--- what stands where a number from 0 to 255 may stand; `-0` is one
-abbrev pub byte_at : List Token → Read RawOperand
-byte_at [] = No
-byte_at (first ∷ rest) =
-    if is_sign (codes "-") first then plain_by 2 (zero_behind rest) else plain_by 1 (number_in 255 first)
+-- the length of a data block, which is left out
+abbrev pub length_at : List Token → Read RawOperand
+length_at [] = No
+length_at (first ∷ rest) = if is_word (codes "DBLG") first || is_word (codes "DILG") first then LeftOut kind.DbLength else No
 
 -- nothing stands behind the mnemonic
 abbrev pub nothing_at : List Token → Read RawOperand
@@ -248,15 +278,35 @@ nothing_at (first ∷ rest) = No
 
 -- a bit, or a question to the status word
 abbrev pub checked_at : List Token → Read RawOperand
-checked_at tokens = or_else (status_at tokens) (at_place (bit_operand tokens))
+checked_at tokens = or_else (status_at tokens) (read_as At (bit_operand tokens))
+
+-- what `T` stores in: the status word, or a byte, a word or a double word
+abbrev pub stored_at : List Token → Read RawOperand
+stored_at tokens = or_else (stw_at tokens) (read_as At (place_operand tokens))
+
+-- what `L` loads: the status word, a constant, or a byte, a word or a double word
+abbrev pub loaded_at : List Token → Read RawOperand
+loaded_at tokens =
+    or_else (stw_at tokens)
+    (or_else (read_as Constant (constant_at tokens)) (or_else (read_as At (place_operand tokens)) (length_at tokens)))
+
+-- what was read, or nothing at all
+abbrev pub or_nothing : List Token → Read RawOperand → Read RawOperand
+or_nothing tokens read = or_else (nothing_at tokens) read
 
 -- what stands where an operand of the shape may stand
 abbrev pub operand_by : Shape → List Token → Read RawOperand
 operand_by shape.Nothing tokens = nothing_at tokens
-operand_by shape.Bit tokens = at_place (bit_operand tokens)
+operand_by shape.Bit tokens = read_as At (bit_operand tokens)
 operand_by shape.Checked tokens = checked_at tokens
-operand_by shape.CheckedOrNothing tokens = or_else (nothing_at tokens) (checked_at tokens)
-operand_by shape.Byte tokens = byte_at tokens
+operand_by shape.CheckedOrNothing tokens = or_nothing tokens (checked_at tokens)
+operand_by (shape.Number most) tokens = read_as Constant (number_at most tokens)
+operand_by (shape.NumberOrNothing most) tokens = or_nothing tokens (read_as Constant (number_at most tokens))
+operand_by shape.Addend tokens = read_as Constant (addend_at tokens)
+operand_by shape.Loaded tokens = loaded_at tokens
+operand_by shape.Stored tokens = stored_at tokens
+operand_by (shape.ConstantOrNothing w) tokens = or_nothing tokens (read_as Constant (fitting_at w tokens))
+operand_by shape.TimerOrCounter tokens = read_as At (left_out_at timers_and_counters tokens)
 operand_by shape.Later tokens = No
 operand_by (shape.LeftOut kind) tokens = LeftOut kind
 
@@ -283,7 +333,23 @@ shape_of is.NotRlo = shape.Nothing
 shape_of is.Save = shape.Nothing
 shape_of is.EdgeUp = shape.Bit
 shape_of is.EdgeDown = shape.Bit
-shape_of is.Nop = shape.Byte
+shape_of is.Load = shape.Loaded
+shape_of is.Transfer = shape.Stored
+shape_of (is.Arith row) = shape.Nothing
+shape_of (is.Compare test w) = shape.Nothing
+shape_of is.Plus = shape.Addend
+shape_of is.Inc = shape.Number 255
+shape_of is.Dec = shape.Number 255
+shape_of (is.Shift row) = shape.NumberOrNothing (most_steps row)
+shape_of is.Rlda = shape.Nothing
+shape_of is.Rrda = shape.Nothing
+shape_of (is.Logic row) = shape.ConstantOrNothing (logic_width row)
+shape_of (is.Unary row) = shape.Nothing
+shape_of is.Tak = shape.Nothing
+shape_of is.Push = shape.Nothing
+shape_of is.Pop = shape.Nothing
+shape_of is.Nop = shape.Number 255
+shape_of is.TimerOrCounter = shape.TimerOrCounter
 shape_of is.Later = shape.Later
 shape_of (is.LeftOut kind) = shape.LeftOut kind
 
@@ -293,8 +359,17 @@ operand_of what tokens = operand_by (shape_of what) tokens
 
 -- Statements
 
--- the kind by which a form that is left out is refused: none but NotBuilt is built yet
+-- the kind by which a form that is left out is refused; those of calls and declarations are not built yet
 abbrev pub answered : Kind → Kind
+answered kind.Timer = kind.Timer
+answered kind.Counter = kind.Counter
+answered kind.Real = kind.Real
+answered kind.MasterControl = kind.MasterControl
+answered kind.DateTime = kind.DateTime
+answered kind.DbLength = kind.DbLength
+answered kind.NamePointer = kind.NamePointer
+answered kind.Peripheral = kind.Peripheral
+answered kind.Accumulators = kind.Accumulators
 answered unbuilt = kind.NotBuilt
 
 -- one to four letters, digits or `_`, the first of them no digit

@@ -30,6 +30,13 @@ is_quoted_kind Quoted = true
 is_quoted_kind Text = false
 is_quoted_kind Sign = false
 
+-- the token is a text in single quotes
+abbrev pub is_text_kind : TokenKind → Bool
+is_text_kind Word = false
+is_text_kind Quoted = false
+is_text_kind Text = true
+is_text_kind Sign = false
+
 -- the token is a sign
 abbrev pub is_sign_kind : TokenKind → Bool
 is_sign_kind Word = false
@@ -52,6 +59,14 @@ is_word word token = is_word_kind token.kind && is_same_word token.text word
 -- the token is this sign
 abbrev pub is_sign : List ℕ → Token → Bool
 is_sign sign token = is_sign_kind token.kind && is_same_word token.text sign
+
+-- the token is this sign, with no blank before it
+abbrev pub is_joined : List ℕ → Token → Bool
+is_joined sign token = is_sign sign token && token.glued
+
+-- the token is a word, with no blank before it
+abbrev pub is_joined_word : Token → Bool
+is_joined_word token = is_word_kind token.kind && token.glued
 
 -- the token is a word or a sign that is spelled so, in any case
 abbrev pub is_spelled : List ℕ → Token → Bool

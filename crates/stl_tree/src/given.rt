@@ -1,6 +1,8 @@
 //! What stands behind a mnemonic.
 
 use crate::program::Operand;
+use crate::raw::Constant;
+use s7_base::Width;
 use status_word::Test;
 
 /// What stands behind a mnemonic, as far as built.
@@ -8,14 +10,16 @@ use status_word::Test;
 pub enum Given {
     Nothing,
 
-    /// A bit of its area.
-    Bit(Operand),
+    /// A place of this width in its area.
+    At(Operand, Width),
 
     /// A question to the status word.
     Flag(Test),
 
-    /// A constant.
-    Number,
+    /// The status word.
+    Stw,
+
+    Constant(Constant),
 
     /// Something that is not built.
     Other,

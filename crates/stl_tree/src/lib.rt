@@ -11,7 +11,7 @@ pub use accumulator::{Arith, LogicRow, ShiftRow, UnaryRow};
 pub use given::Given;
 pub use item::{Found, Item, Reading, Where};
 pub use memory_areas::{BlockName, Call};
-pub use mnemonic::{Mnemonic, Read, Shape};
+pub use mnemonic::{Mnemonic, Prefix, Read, Shape};
 pub use number::number_of;
 pub use program::{
     Actual, BitArg, Block, BlockCall, Formal, Instance, Instr, LoadArg, Mode, Op, Operand, Program,

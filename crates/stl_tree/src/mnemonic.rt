@@ -1,6 +1,8 @@
 //! What mnemonics are, the shapes of their operands, and what is read of an operand.
 
-use s7_base::{Check, Kind};
+use crate::accumulator::{Arith, LogicRow, ShiftRow, UnaryRow};
+use s7_base::{Check, Kind, Width};
+use status_word::Test;
 
 /// What a mnemonic is.
 #[derive(Clone, Copy, Debug, PartialEq, Eq)]
@@ -41,8 +43,56 @@ pub enum Mnemonic {
     /// `FN`
     EdgeDown,
 
+    /// `L`
+    Load,
+
+    /// `T`
+    Transfer,
+
+    /// `+I` to `MOD`
+    Arith(Arith),
+
+    /// `==I` to `<=D`, on words or on double words.
+    Compare(Test, Width),
+
+    /// `+` with a number.
+    Plus,
+
+    /// `INC`
+    Inc,
+
+    /// `DEC`
+    Dec,
+
+    /// A shift or a rotation; the count may stand behind it.
+    Shift(ShiftRow),
+
+    /// `RLDA`
+    Rlda,
+
+    /// `RRDA`
+    Rrda,
+
+    /// Word logic; a constant may stand behind it.
+    Logic(LogicRow),
+
+    /// `BTI` to `NEGD`
+    Unary(UnaryRow),
+
+    /// `TAK`
+    Tak,
+
+    /// `PUSH`
+    Push,
+
+    /// `POP`
+    Pop,
+
     /// `NOP` and `BLD`, with a number that says nothing.
     Nop,
+
+    /// `FR` and `LC`, which are left out, of the kind of their operand.
+    TimerOrCounter,
 
     /// An instruction that is not built yet.
     Later,
@@ -65,13 +115,53 @@ pub enum Shape {
     /// The same, or the mnemonic stands alone.
     CheckedOrNothing,
 
-    /// A number from 0 to 255.
-    Byte,
+    /// A number from 0 to this one.
+    Number(u8),
+
+    /// The same, or the mnemonic stands alone.
+    NumberOrNothing(u8),
+
+    /// A plain number or one with `L#`.
+    Addend,
+
+    /// A byte, a word or a double word, a constant, or the status word.
+    Loaded,
+
+    /// A byte, a word or a double word, or the status word.
+    Stored,
+
+    /// A constant that fits this width, or the mnemonic stands alone.
+    ConstantOrNothing(Width),
+
+    /// A timer or a counter, which are left out.
+    TimerOrCounter,
 
     /// One that is not built yet.
     Later,
 
     /// Whatever it is, the form is left out, of this kind.
+    LeftOut(Kind),
+}
+
+/// What stands behind the `#` of a constant.
+#[derive(Clone, Copy)]
+pub enum Prefix {
+    /// A number with its sign, of a double word.
+    Long,
+
+    /// `16#` and hexadecimal digits, of this width.
+    Hex(Width),
+
+    /// The same of a byte, or bytes in brackets.
+    Bytes,
+
+    /// Binary digits.
+    Binary,
+
+    /// A pointer, which is not built yet; with another `#` a pointer to a name, which is left out.
+    Pointer,
+
+    /// Whatever it is, the constant is left out, of this kind.
     LeftOut(Kind),
 }
 
