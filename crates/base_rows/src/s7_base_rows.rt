@@ -1,7 +1,7 @@
 //! What no clause says: that calls succeed while there is memory. And that the texts which the
 //! clauses promise are the ones that were asked for.
 use crate::wants::{wants, wants_text};
-use s7_base::{Boxed, Kind, List, Reason};
+use s7_base::{Boxed, Kind, List, Reason, SmallText};
 use std::test::Fail;
 
 #[test]
@@ -21,6 +21,16 @@ fn takes_memory(rt: HostRuntime) -> Result<(), Fail> {
     let other = Boxed::new(alloc, copy)?;
     wants(&rt, &"another box", &(boxed == other), &false);
     wants_text(&rt, b"a box", boxed.get().as_slice(), &[7, 9]);
+    Ok(())
+}
+
+/// Texts that stand in themselves, up to 14 bytes, and one that is longer.
+#[test]
+fn keeps_small_texts(rt: HostRuntime) -> Result<(), Fail> {
+    for text in ["", "A", "14 bytes of it", "15 bytes of it."] {
+        let kept = SmallText::new(rt.alloc(), text.as_bytes())?;
+        wants_text(&rt, text.as_bytes(), kept.as_slice(), text.as_bytes());
+    }
     Ok(())
 }
 
