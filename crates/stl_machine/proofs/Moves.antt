@@ -1,39 +1,23 @@
 -- What the code's shifts make is what n steps make.
 use Rattle.std.proofs.Common.{◌≡◌, ℕ, ◌+◌, ◌-◌, ◌*◌, ◌/◌, ◌%◌, ◌^◌, ◌<◌, ◌≤◌, sym, ap, ◌∙◌, arith}
-use Rattle.std.proofs.Math.Nat.{div-eq_of_lt, mod-eq_of_lt, mul-le-mul_left, pow-le-pow_right}
-use Rattle.std.proofs.lemmas.Nat.{pow-add}
-use Rattle.stl_tree.proofs.ShiftForms.{around_left_times, around_left_times_below, left_times, right_signed_times_high, right_signed_times_low, right_times}
+use Rattle.std.proofs.Math.Nat.{mod-eq_of_lt, mul-le-mul_left, pow-le-pow_right}
+use Rattle.stl_tree.proofs.ShiftForms.{around_left_times, around_left_times_below, left_times, left_times_gone, right_signed_times_high, right_signed_times_low, right_times, right_times_gone}
 use Rattle.stl_tree.specs.Shifts.{around_left, left, right, right_signed, times}
 
 pub word_left : (n p : ℕ) → p < 2 ^ 16 → times n (left 16) p ≡ p * 2 ^ n % 2 ^ 32 % 2 ^ 16
 word_left n p h = left_times 16 n p h ∙ omega arith
 
-past_word : (p q : ℕ) → p * (q * 65536) % 65536 ≡ 0
-past_word p q = omega arith
-
 pub word_gone : (n p : ℕ) → p < 2 ^ 16 → 16 ≤ n → times n (left 16) p ≡ 0
-word_gone n p h le =
-    let e : n ≡ n - 16 + 16 = omega arith in
-    left_times 16 n p h ∙ ap (λ q. p * q % 2 ^ 16) (ap (λ k. 2 ^ k) e ∙ pow-add 2 (n - 16) 16) ∙ past_word p (2 ^ (n - 16))
+word_gone n p h far = left_times_gone 16 n p h far
 
 pub dword_left : (n p : ℕ) → p < 2 ^ 32 → times n (left 32) p ≡ p * 2 ^ n % 2 ^ 32
 dword_left n p h = left_times 32 n p h
 
-past_dword : (p q : ℕ) → p * (q * 4294967296) % 4294967296 ≡ 0
-past_dword p q = omega arith
-
 pub dword_gone : (n p : ℕ) → p < 2 ^ 32 → 32 ≤ n → times n (left 32) p ≡ 0
-dword_gone n p h le =
-    let e : n ≡ n - 32 + 32 = omega arith in
-    left_times 32 n p h ∙ ap (λ q. p * q % 2 ^ 32) (ap (λ k. 2 ^ k) e ∙ pow-add 2 (n - 32) 32) ∙ past_dword p (2 ^ (n - 32))
-
-pub right_is : (n p : ℕ) → times n right p ≡ p / 2 ^ n
-right_is n p = right_times n p
+dword_gone n p h far = left_times_gone 32 n p h far
 
 pub right_gone : (n p : ℕ) → p < 2 ^ 32 → 32 ≤ n → times n right p ≡ 0
-right_gone n p h le =
-    let big : 2 ^ 32 ≤ 2 ^ n = pow-le-pow_right (omega arith) le in
-    right_times n p ∙ div-eq_of_lt (omega arith)
+right_gone n p h far = right_times_gone 32 n p h far
 
 pub word_sign_zero : (n p : ℕ) → p < 2 ^ 15 → times n (right_signed 16) p ≡ times n right p
 word_sign_zero n p h = right_signed_times_low 16 n p h ∙ sym (right_times n p)

@@ -128,6 +128,14 @@ fn close(state: &mut State) -> Result<Effect, Fault>
     Ok(Effect::Next)
 }
 
+/// The end word of a block.
+fn leave(state: &mut State) -> Result<Effect, Fault>
+    ensures { Does (effect_of op.BlockEnd (seen state.old)) result state.old state.new }
+{
+    state.registers.status = state.registers.status.ended();
+    Ok(Effect::Leave)
+}
+
 /// Does an instruction. A fault leaves the memory as it was.
 pub fn effect_of(op: &Op, state: &mut State) -> Result<Effect, Fault>
     ensures { Does (effect_of op.now (seen state.old)) result state.old state.new }
@@ -167,9 +175,6 @@ pub fn effect_of(op: &Op, state: &mut State) -> Result<Effect, Fault>
         Op::Push => next_on(registers.accu_pushed(), state),
         Op::Pop => next_on(registers.accu_popped(), state),
         Op::Nop => Ok(Effect::Next),
-        Op::BlockEnd => {
-            state.registers.status = status.ended();
-            Ok(Effect::Leave)
-        }
+        Op::BlockEnd => leave(state),
     }
 }

@@ -45,7 +45,7 @@ fn dword_left(n: u8, p: u32) -> u32
 }
 
 /// To the right.
-#[tactic(auto, using(crate::proofs::Moves::right_is, crate::proofs::Moves::right_gone))]
+#[tactic(auto, using(stl_tree::proofs::ShiftForms::right_times, crate::proofs::Moves::right_gone))]
 fn right(n: u8, p: u32) -> u32
     ensures value { result ≡ times n right p }
     ensures few { result ≤ p }

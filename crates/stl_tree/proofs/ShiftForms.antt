@@ -1,6 +1,6 @@
 -- What n steps of a shift or a rotation make, for every n, without steps.
 use Rattle.std.proofs.Common.{◌≡◌, ℕ, zero, suc, ◌+◌, ◌-◌, ◌*◌, ◌/◌, ◌%◌, ◌^◌, ◌<◌, ◌≤◌, ◌==◌, nat_le, true, false, refl, sym, ap, ◌∙◌, arith}
-use Rattle.std.proofs.Math.Nat.{div-div-eq-div-mul, div-le_self, div-lt_iff_lt-mul, mod-eq_of_lt, mod-lt, mul-div-mul_right, mul-div_left, mul-le-mul_right, mul-mod_left, pow-suc}
+use Rattle.std.proofs.Math.Nat.{div-div-eq-div-mul, div-eq_of_lt, div-le_self, div-lt_iff_lt-mul, mod-eq_of_lt, mod-lt, mul-div-mul_right, mul-div_left, mul-le-mul_right, mul-mod_left, pow-le-pow_right, pow-suc}
 use Rattle.std.proofs.lemmas.Bool.Decides.{nat_tests}
 use Rattle.std.proofs.lemmas.Nat.{mod-pow-add, mul-mod_first, pow-add, pow_pos}
 use Rattle.std.specs.Int.{from_bool}
@@ -33,6 +33,15 @@ left_times k (suc n) p h =
     ∙ mul-mod_first (p * 2 ^ n) 2 (2 ^ k)
     ∙ ap (λ x. x % 2 ^ k) twice
 
+pub left_times_gone : (k n p : ℕ) → p < 2 ^ k → k ≤ n → times n (left k) p ≡ 0
+left_times_gone k n p h far =
+    let e : n ≡ n - k + k = omega arith in
+    let moved : p * (2 ^ (n - k) * 2 ^ k) ≡ p * 2 ^ (n - k) * 2 ^ k = omega arith in
+    left_times k n p h
+    ∙ ap (λ q. p * q % 2 ^ k) (ap (λ j. 2 ^ j) e ∙ pow-add 2 (n - k) k)
+    ∙ ap (λ x. x % 2 ^ k) moved
+    ∙ mul-mod_left (p * 2 ^ (n - k)) (2 ^ k)
+
 -- To the right
 
 half : (p n : ℕ) → p / 2 ^ n / 2 ≡ p / 2 ^ suc n
@@ -42,6 +51,11 @@ pub right_times : (n p : ℕ) → times n right p ≡ p / 2 ^ n
 unfolding times
 right_times zero p = omega arith
 right_times (suc n) p = ap (λ x. x / 2) (right_times n p) ∙ half p n
+
+pub right_times_gone : (k n p : ℕ) → p < 2 ^ k → k ≤ n → times n right p ≡ 0
+right_times_gone k n p h far =
+    let wide : 2 ^ k ≤ 2 ^ n = pow-le-pow_right (omega arith) far in
+    right_times n p ∙ div-eq_of_lt (omega arith)
 
 -- To the right with the sign
 
