@@ -1,0 +1,2 @@
+pub mod ResultRows
+pub mod WideNumbers

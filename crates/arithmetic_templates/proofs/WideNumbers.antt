@@ -1,0 +1,42 @@
+-- Facts on numbers of a width, and on wider ones.
+use Rattle.std.proofs.Common.{◌≡◌, ℕ, ◌+◌, ◌*◌, ◌-◌, ◌/◌, ◌%◌, ◌^◌, ◌<◌, ◌≤◌, pos, negsuc, Bool, true, false, not, ◌||◌, refl, arith}
+use Rattle.std.specs.Prelude.{ℤ, ◌+ℤ◌, ◌-ℤ◌, ◌*ℤ◌, neg_ℤ, unsigned_abs}
+use Rattle.std.specs.Ordering.{int_eq}
+use Rattle.std.proofs.lemmas.Int.{ints}
+use Rattle.s7_base.specs.SignedNumbers.{is_over, number, pattern, wrapped}
+
+-- A number of a width is the same in the wider type, and so is each sum and difference of two, and its negative
+
+pub wide_dword : (a : ℕ) → number 64 (pattern 64 (number 32 (a % 2 ^ 32))) ≡ number 32 (a % 2 ^ 32)
+wide_dword a = grind (arith, ints)
+
+pub wide_difference : (a b : ℕ) → number 32 (pattern 32 (number 16 (a % 2 ^ 16) -ℤ number 16 (b % 2 ^ 16))) ≡ number 16 (a % 2 ^ 16) -ℤ number 16 (b % 2 ^ 16)
+wide_difference a b = grind (arith, ints)
+
+pub wide_negative : (a : ℕ) → number 32 (pattern 32 (neg_ℤ (number 16 (a % 2 ^ 16)))) ≡ neg_ℤ (number 16 (a % 2 ^ 16))
+wide_negative a = grind (arith, ints)
+
+pub wide_dword_sum : (a b : ℕ) → number 64 (pattern 64 (number 32 (a % 2 ^ 32) +ℤ number 32 (b % 2 ^ 32))) ≡ number 32 (a % 2 ^ 32) +ℤ number 32 (b % 2 ^ 32)
+wide_dword_sum a b = grind (arith, ints)
+
+pub wide_dword_difference : (a b : ℕ) → number 64 (pattern 64 (number 32 (a % 2 ^ 32) -ℤ number 32 (b % 2 ^ 32))) ≡ number 32 (a % 2 ^ 32) -ℤ number 32 (b % 2 ^ 32)
+wide_dword_difference a b = grind (arith, ints)
+
+pub wide_dword_negative : (a : ℕ) → number 64 (pattern 64 (neg_ℤ (number 32 (a % 2 ^ 32)))) ≡ neg_ℤ (number 32 (a % 2 ^ 32))
+wide_dword_negative a = grind (arith, ints)
+
+-- a number is another one once 32 bits are left of it, where it is over
+pub over_dword : (z : ℤ) → not (int_eq (number 64 (pattern 64 (number 32 (pattern 32 z)))) z) ≡ is_over 32 z
+over_dword z = grind (arith, ints)
+
+pub dword_below : (z : ℤ) → pattern 32 z < 2 ^ 32
+dword_below (pos n) = omega arith
+dword_below (negsuc n) = omega arith
+
+-- the pattern of the number of a pattern
+pub same_dword : (z : ℤ) → pattern 32 (number 32 (pattern 32 z)) ≡ pattern 32 z
+same_dword z = grind (arith, ints)
+
+-- ACCU1 with a number of 32 bits in the place of its own
+pub put_dword : (a p : ℕ) → a < 2 ^ 32 → p ≡ a / 2 ^ 32 * 2 ^ 32 + p
+put_dword a p h = omega arith
