@@ -1,2 +1,4 @@
+pub mod ComparisonRows
+pub mod ProductRows
 pub mod ResultRows
 pub mod WideNumbers
