@@ -45,7 +45,7 @@ abbrev pub zero_of : StType → ℕ → Expr
 zero_of ty i = binary_of binary.Eq (local_of i) (constant_of ty (pos 0))
 
 -- a local, but 1 where it is 0: so no division meets a fault
-abbrev pub divisor_of : StType → ℕ → Expr
+unfoldable pub divisor_of : StType → ℕ → Expr
 divisor_of ty i = select_of (zero_of ty i) (local_of i) (constant_of ty (pos 1))
 
 -- the number in ACCU2 divided by a local

@@ -73,6 +73,7 @@ fn zero(alloc: Global, ty: StType, index: u32) -> Result<Expr, NoMemory>
     binary(alloc, BinaryOp::Eq, local(index), constant(ty, 0))
 }
 
+#[tactic(auto, unfolding(crate::specs::Calculations::divisor_of))]
 fn divisor(alloc: Global, ty: StType, index: u32) -> Result<Expr, NoMemory>
     ensures { IfOk result (λ value. value ≡ divisor_of ty index) }
 {
