@@ -202,3 +202,91 @@ module _ (g : List Located) (s : State) (used : ℕ) where
         subst (λ (after : RegisterValues). IsRow g s used (divisor_kept_of used width.Dword ++ remainder_in_dword_of used) r after sta)
         (remainder_after (none_of width.Dword) (x_of width.Dword) (divisor (y_of width.Dword)) r ∙ by_divisor_same remainder_in_dword (x_of width.Dword) (y_of width.Dword) r)
         remainder_does
+
+    -- /D
+
+    abbrev dword_over : Bool
+    dword_over = none_of width.Dword || is_over 32 (quotient width.Dword)
+
+    abbrev dword_values : List Value
+    dword_values =
+        record { ty = type.Lint; n = y_of width.Dword } ∷ flag (none_of width.Dword) ∷ record { ty = type.Lint; n = quotient width.Dword } ∷ flag dword_over
+        ∷ ending_values (none_of width.Dword) dword_over (quotient width.Dword) (pattern 32 (quotient width.Dword)) r
+
+    abbrev dword_after_row : RegisterValues
+    dword_after_row = after_division (none_of width.Dword) dword_over (quotient width.Dword) (pattern 32 (quotient width.Dword)) r
+
+    dword_alike : AreAlike IsKept dword_after_row
+        (registers_after (divisor_kept_of used width.Dword ++ quotient_in_dword_of used) dword_values (known r sta))
+    unfolding divisor_kept_of quotient_in_dword_of
+    dword_alike reg.Sta asked = elim asked [ ]
+    dword_alike q asked = refl
+
+    dword_does : IsRow g s used (divisor_kept_of used width.Dword ++ quotient_in_dword_of used) r dword_after_row sta
+    unfolding divisor_kept_of quotient_in_dword_of
+    dword_does =
+        record {
+          values = dword_values;
+          have = (
+            refl,
+            simp (parts, wide_dword),
+            (refl, simp parts, (refl, dword_quotient (flag (none_of width.Dword) ∷ []), (refl, simp (parts, over_dword, or_numbers),
+            (simp (parts, or_numbers), (simp (parts, or_numbers), (simp parts, (simp (parts, or_numbers), (simp (parts, gate, chosen_number), tt)))))))),
+          );
+          alike = dword_alike;
+          range = after_range (none_of width.Dword) dword_over (quotient width.Dword) (pattern 32 (quotient width.Dword)) (dword_below (quotient width.Dword));
+        }
+
+    pub quotient_in_dword_row : IsRow g s used (divisor_kept_of used width.Dword ++ quotient_in_dword_of used) r (by_divisor quotient_in_dword (x_of width.Dword) (y_of width.Dword) r) sta
+    quotient_in_dword_row =
+        subst (λ (after : RegisterValues). IsRow g s used (divisor_kept_of used width.Dword ++ quotient_in_dword_of used) r after sta)
+        (dword_after (none_of width.Dword) (x_of width.Dword) (divisor (y_of width.Dword)) r ∙ by_divisor_same quotient_in_dword (x_of width.Dword) (y_of width.Dword) r)
+        dword_does
+
+    -- /I
+
+    abbrev words_over : Bool
+    words_over = none_of width.Word || is_over 16 (quotient width.Word)
+
+    abbrev both_words : ℕ
+    both_words = pattern 16 (remainder width.Word) * 2 ^ 16 + pattern 16 (quotient width.Word)
+
+    abbrev words_values : List Value
+    words_values =
+        record { ty = type.Dint; n = y_of width.Word } ∷ flag (none_of width.Word) ∷ record { ty = type.Dint; n = quotient width.Word }
+        ∷ record { ty = type.Dint; n = remainder width.Word } ∷ flag words_over
+        ∷ ending_values (none_of width.Word) words_over (quotient width.Word) both_words r
+
+    abbrev words_after_row : RegisterValues
+    words_after_row = after_division (none_of width.Word) words_over (quotient width.Word) both_words r
+
+    words_alike : AreAlike IsKept words_after_row
+        (registers_after (divisor_kept_of used width.Word ++ quotient_in_words_of used) words_values (known r sta))
+    unfolding divisor_kept_of quotient_in_words_of
+    words_alike reg.Sta asked = elim asked [ ]
+    words_alike q asked = refl
+
+    words_below : both_words < 2 ^ 32
+    words_below = omega (arith, pattern_below (remainder width.Word), pattern_below (quotient width.Word))
+
+    words_does : IsRow g s used (divisor_kept_of used width.Word ++ quotient_in_words_of used) r words_after_row sta
+    unfolding divisor_kept_of quotient_in_words_of
+    words_does =
+        record {
+          values = words_values;
+          have = (
+            refl,
+            simp (parts, wide_low),
+            (refl, simp parts, (refl, word_quotient (flag (none_of width.Word) ∷ []),
+            (refl, word_remainder (flag (none_of width.Word) ∷ record { ty = type.Dint; n = quotient width.Word } ∷ []), (refl, simp (parts, over_word, or_numbers),
+            (simp (parts, or_numbers), (simp (parts, or_numbers), (simp parts, (simp (parts, or_numbers), (simp (parts, gate, put_words, chosen_number), tt))))))))),
+          );
+          alike = words_alike;
+          range = after_range (none_of width.Word) words_over (quotient width.Word) both_words words_below;
+        }
+
+    pub quotient_in_words_row : IsRow g s used (divisor_kept_of used width.Word ++ quotient_in_words_of used) r (by_divisor both_in_words (x_of width.Word) (y_of width.Word) r) sta
+    quotient_in_words_row =
+        subst (λ (after : RegisterValues). IsRow g s used (divisor_kept_of used width.Word ++ quotient_in_words_of used) r after sta)
+        (words_after (none_of width.Word) (x_of width.Word) (divisor (y_of width.Word)) r ∙ by_divisor_same both_in_words (x_of width.Word) (y_of width.Word) r)
+        words_does
