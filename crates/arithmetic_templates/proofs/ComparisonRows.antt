@@ -1,0 +1,92 @@
+-- Comparisons: their statements do what the rows do.
+use Rattle.std.proofs.Common.{◌≡◌, ℕ, ◌+◌, pos, true, false, List, [], ◌∷◌, Ok, refl}
+use Rattle.std.specs.Prelude.{ℤ, int_lt}
+use Rattle.s7_base.specs.declared.register.Reg.{Reg}
+use Rattle.s7_base.specs.declared.register.Reg.TheVariants as reg
+use Rattle.s7_base.specs.declared.word.Width.{Width}
+use Rattle.s7_base.specs.declared.word.Width.TheVariants as width
+use Rattle.status_word.specs.declared.test.Test.{Test}
+use Rattle.status_word.specs.declared.test.Test.TheVariants as test
+use Rattle.stl_tree.specs.Accumulators.{signed_part}
+use Rattle.stl_tree.specs.Arithmetic.{compared, compared_numbers, holds}
+use Rattle.stl_tree.specs.Registers.{RegisterValues}
+use Rattle.st_tree.specs.State.{State}
+use Rattle.st_tree.specs.Value.{value}
+use Rattle.st_tree.specs.Values.{flag}
+use Rattle.st_tree.specs.declared.expr.Expr.{Expr}
+use Rattle.st_tree.specs.declared.expr.StType.{StType}
+use Rattle.st_tree.specs.declared.program.Located.{Located}
+use Rattle.st_tree.specs.declared.state.Value.{Value}
+use Rattle.row_templates.specs.Builders.{local_of}
+use Rattle.row_templates.proofs.Alike.{AreAlike, AreInRange, IsKept, any_status}
+use Rattle.row_templates.proofs.RegisterRows.{IsRow, registers_after}
+use Rattle.row_templates.proofs.Stages.{known, parts, stage}
+use Rattle.arithmetic_templates.specs.Comparisons.{compared_of, comparison_of}
+use Rattle.arithmetic_templates.specs.Numbers.{narrow}
+use Rattle.arithmetic_templates.proofs.ResultRows.{IsCalculated}
+
+-- the two numbers in the locals
+abbrev numbers_kept : StType → ℤ → ℤ → List Value
+numbers_kept ty x y = record { ty = ty; n = x } ∷ record { ty = ty; n = y } ∷ []
+
+-- the values of the right sides for two numbers
+abbrev compared_values : Test → StType → ℤ → ℤ → List Value
+compared_values t ty x y =
+    record { ty = ty; n = x }
+    ∷ record { ty = ty; n = y }
+    ∷ flag (holds t x y)
+    ∷ flag (int_lt y x)
+    ∷ flag (int_lt x y)
+    ∷ flag false
+    ∷ flag false
+    ∷ flag true
+    ∷ []
+
+module _ (g : List Located) (s : State) (used : ℕ) (r : RegisterValues) (sta : ℤ) (range : AreInRange r) where
+  comparison_worth : (t : Test) (ty : StType) (x y : ℤ) (registers : Reg → ℤ)
+      → value g (comparison_of t (local_of used) (local_of (used + 1))) (stage s used (numbers_kept ty x y) registers) ≡ Ok (flag (holds t x y))
+  comparison_worth test.Eq ty x y registers = simp parts
+  comparison_worth test.Ne ty x y registers = simp parts
+  comparison_worth test.Gt ty x y registers = simp parts
+  comparison_worth test.Lt ty x y registers = simp parts
+  comparison_worth test.Ge ty x y registers = simp parts
+  comparison_worth test.Le ty x y registers = simp parts
+  comparison_worth test.Uo ty x y registers = simp parts
+  comparison_worth test.Ov ty x y registers = simp parts
+  comparison_worth test.Os ty x y registers = simp parts
+  comparison_worth test.Br ty x y registers = simp parts
+
+  compared_alike : (t : Test) (w : Width) (x y : ℤ)
+      → AreAlike IsKept (compared_numbers t x y r) (registers_after (compared_of used t w) (compared_values t (narrow w) x y) (known r sta))
+  compared_alike t w x y reg.Sta asked = elim asked [ ]
+  compared_alike t w x y q asked = refl
+
+  pub compared_row : (t : Test) (w : Width) → IsCalculated w → IsRow g s used (compared_of used t w) r (compared t w r) sta
+  compared_row t width.Word calculated =
+      let x : ℤ = signed_part width.Word r.accu2 in
+      let y : ℤ = signed_part width.Word r.accu1 in
+      record {
+        values = compared_values t (narrow width.Word) x y;
+        have = (
+          refl,
+          simp parts,
+          (refl, simp parts, (comparison_worth t (narrow width.Word) x y (known r sta), (simp parts, (simp parts, (simp parts, (simp parts, (simp parts, tt))))))),
+        );
+        alike = compared_alike t width.Word x y;
+        range = any_status r (compared t width.Word r).status range;
+      }
+  compared_row t width.Dword calculated =
+      let x : ℤ = signed_part width.Dword r.accu2 in
+      let y : ℤ = signed_part width.Dword r.accu1 in
+      record {
+        values = compared_values t (narrow width.Dword) x y;
+        have = (
+          refl,
+          simp parts,
+          (refl, simp parts, (comparison_worth t (narrow width.Dword) x y (known r sta), (simp parts, (simp parts, (simp parts, (simp parts, (simp parts, tt))))))),
+        );
+        alike = compared_alike t width.Dword x y;
+        range = any_status r (compared t width.Dword r).status range;
+      }
+  compared_row t width.Bit calculated = elim calculated [ ]
+  compared_row t width.Byte calculated = elim calculated [ ]

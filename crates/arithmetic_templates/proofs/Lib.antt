@@ -1,0 +1,5 @@
+pub mod ComparisonRows
+pub mod DivisionRows
+pub mod ProductRows
+pub mod ResultRows
+pub mod WideNumbers

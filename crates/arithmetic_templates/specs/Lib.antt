@@ -1,0 +1,3 @@
+pub mod Calculations
+pub mod Comparisons
+pub mod Numbers
