@@ -5,4 +5,5 @@ pub mod ItemLaws
 pub mod ProgramLaws
 mod RunRows
 pub mod Runs
+pub mod ShiftForms
 mod VerdictRows
