@@ -61,13 +61,13 @@ pub chosen_flags : (gate a b : Bool) → chosen (flag gate) (flag a) (flag b) �
 chosen_flags true a b = refl
 chosen_flags false a b = refl
 
-one_fits : (w : Width) → IsShifted w → Fits w 1
+pub one_fits : (w : Width) → IsShifted w → Fits w 1
 one_fits width.Bit wide = elim wide [ ]
 one_fits width.Byte wide = elim wide [ ]
 one_fits width.Word wide = omega arith
 one_fits width.Dword wide = omega arith
 
-top_fits : (w : Width) → IsShifted w → Fits w (top_bit w)
+pub top_fits : (w : Width) → IsShifted w → Fits w (top_bit w)
 top_fits width.Bit wide = elim wide [ ]
 top_fits width.Byte wide = elim wide [ ]
 top_fits width.Word wide = omega arith

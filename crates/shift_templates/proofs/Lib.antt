@@ -1,2 +1,4 @@
+pub mod ConstantRows
 pub mod Expressions
+pub mod StepKinds
 pub mod Patterns

@@ -89,7 +89,7 @@ right_moves k n p h = by (nat_lt n k) refl
         mod-eq_of_lt (pow_pos k) ∙ sym (right_times n p ∙ div-eq_of_lt fits)
 
 -- what steps keep
-times_keep : (P : ℕ → Type 0) (f : ℕ → ℕ) → ((x : ℕ) → P x → P (f x)) → (n p : ℕ) → P p → P (times n f p)
+pub times_keep : (P : ℕ → Type 0) (f : ℕ → ℕ) → ((x : ℕ) → P x → P (f x)) → (n p : ℕ) → P p → P (times n f p)
 unfolding times
 times_keep P f keeps zero p h = h
 times_keep P f keeps (suc n) p h = keeps (times n f p) (times_keep P f keeps n p h)
