@@ -47,6 +47,11 @@ pub range_kept : (r : RegisterValues) (w : Width) → IsShifted w → (x : ℕ) 
 range_kept r w wide x fits out h =
     record { accu1 = with_part_fits w wide r.accu1 x h.accu1 fits; accu2 = h.accu2; ar1 = h.ar1; ar2 = h.ar2; db = h.db; di = h.di }
 
+-- the registers after so many steps of a row
+abbrev pub stepped : ShiftRow → ℕ → RegisterValues → RegisterValues
+stepped i n r =
+    after (width_of i) (times n (step i) (part (width_of i) r.accu1)) (leaving i (times (n - 1) (step i) (part (width_of i) r.accu1))) r
+
 module _ (g : List Located) (s : State) (used : ℕ) (r : RegisterValues) (sta : ℤ) (range : AreInRange r) where
   -- SLW, SRW, SLD, SRD
 
@@ -81,7 +86,7 @@ module _ (g : List Located) (s : State) (used : ℕ) (r : RegisterValues) (sta :
           have = (
             refl,
             moved_gives g _ w kind.wide op f kind.moves (operand_of w) (count_of (n - 1)) whole (n - 1) (count (n - 1)) fits (inl refl)
-              (operand_gives g _ w kind.wide r.accu1 range.accu1 (stage_register s used [] (known r sta) g reg.Accu1)) (count_gives g _ (n - 1)),
+                (operand_gives g _ w kind.wide r.accu1 range.accu1 (stage_register s used [] (known r sta) g reg.Accu1)) (count_gives g _ (n - 1)),
             (
               bit_gives g _ w kind.wide (shown_bit op w) (local_of used) before kind.bit fits_before (stage_first s used _ _ g) ∙ ap (λ b. Ok (flag b)) (kind.shows before fits_before),
               (
@@ -90,8 +95,8 @@ module _ (g : List Located) (s : State) (used : ℕ) (r : RegisterValues) (sta :
                   literal_worth g _ false,
                   (
                     accu1_gives g _ w kind.wide (shift_of op (local_of used) (count_of 1)) r.accu1 (times n f whole) range.accu1 fits_all (stage_register s used _ _ g reg.Accu1)
-                      (moved_gives g _ w kind.wide op f kind.moves (local_of used) (count_of 1) before 1 (count 1) fits_before (inl refl) (stage_first s used _ _ g) (count_gives g _ 1)
-                      ∙ ap (λ x. Ok (of_width w x)) (last_step f n whole some)),
+                        (moved_gives g _ w kind.wide op f kind.moves (local_of used) (count_of 1) before 1 (count 1) fits_before (inl refl) (stage_first s used _ _ g) (count_gives g _ 1)
+                        ∙ ap (λ x. Ok (of_width w x)) (last_step f n whole some)),
                     tt,
                   ),
                 ),
@@ -148,7 +153,7 @@ module _ (g : List Located) (s : State) (used : ℕ) (r : RegisterValues) (sta :
               (
                 refl,
                 signed_gives g _ w wide (local_of (used + 1)) (local_of used) (count_of (n - 1)) word (n - 1) (count (n - 1)) fits (inl refl)
-                  (stage_local s used _ _ g 1) (stage_first s used _ _ g) (count_gives g _ (n - 1)),
+                    (stage_local s used _ _ g 1) (stage_first s used _ _ g) (count_gives g _ (n - 1)),
                 (
                   bottom_gives g _ w wide (local_of (used + 2)) signed_before kept.0 (stage_local s used _ _ g 2),
                   (
@@ -157,10 +162,10 @@ module _ (g : List Located) (s : State) (used : ℕ) (r : RegisterValues) (sta :
                       literal_worth g _ false,
                       (
                         accu1_gives g _ w wide (signed_shift (local_of (used + 1)) (local_of (used + 2)) (count_of 1)) r.accu1 signed_after range.accu1 kept_after.0
-                          (stage_register s used _ _ g reg.Accu1)
-                          (signed_gives g _ w wide (local_of (used + 1)) (local_of (used + 2)) (count_of 1) signed_before 1 (count 1) kept.0 (inl refl)
+                            (stage_register s used _ _ g reg.Accu1)
+                            (signed_gives g _ w wide (local_of (used + 1)) (local_of (used + 2)) (count_of 1) signed_before 1 (count 1) kept.0 (inl refl)
                             (stage_local s used _ _ g 1 ∙ ap (λ b. Ok (flag b)) (sym kept.1)) (stage_local s used _ _ g 2) (count_gives g _ 1)
-                          ∙ ap (λ x. Ok (of_width w x)) (last_step (right_signed (bits_wide w)) n word some)),
+                            ∙ ap (λ x. Ok (of_width w x)) (last_step (right_signed (bits_wide w)) n word some)),
                         tt,
                       ),
                     ),
@@ -201,10 +206,10 @@ module _ (g : List Located) (s : State) (used : ℕ) (r : RegisterValues) (sta :
           have = (
             refl,
             moved_gives g _ width.Dword tt op f kind.moves (read_of reg.Accu1) (count_of n) (part width.Dword r.accu1) n (count n) fits (inl refl)
-              (operand_gives g _ width.Dword tt r.accu1 range.accu1 (stage_register s used [] (known r sta) g reg.Accu1)) (count_gives g _ n),
+                (operand_gives g _ width.Dword tt r.accu1 range.accu1 (stage_register s used [] (known r sta) g reg.Accu1)) (count_gives g _ n),
             (
               bit_gives g _ width.Dword tt (shown_bit op width.Dword) (local_of used) turned kind.bit fits_turned (stage_first s used _ _ g)
-              ∙ ap (λ b. Ok (flag b)) (kind.shows turned fits_turned),
+                  ∙ ap (λ b. Ok (flag b)) (kind.shows turned fits_turned),
               (
                 literal_worth g _ false,
                 (
@@ -224,20 +229,12 @@ module _ (g : List Located) (s : State) (used : ℕ) (r : RegisterValues) (sta :
   -- Each row
 
   module _ (n : ℕ) (some : 1 ≤ n) where
-    -- the registers after n steps
-    abbrev pub stepped : ShiftRow → RegisterValues
-    stepped i =
-        record r {
-          accu1 = with_part (width_of i) r.accu1 (times n (step i) (part (width_of i) r.accu1));
-          status = after_shifted (leaving i (times (n - 1) (step i) (part (width_of i) r.accu1))) r.status;
-        }
-
     turned_row : (op : ShiftOp) (f : ℕ → ℕ) (out : ℕ → Bool) → IsKind op width.Dword f out → (b : Bool) → out (times n f (part width.Dword r.accu1)) ≡ b
         → IsRow g s used (turn_by_constant op n used) r (after width.Dword (times n f (part width.Dword r.accu1)) b r) sta
     turned_row op f out kind b e =
         subst (λ c. IsRow g s used (turn_by_constant op n used) r (after width.Dword (times n f (part width.Dword r.accu1)) c r) sta) e (turn_row op f out kind n)
 
-    pub constant_row : (i : ShiftRow) → IsRow g s used (by_constant i n used) r (stepped i) sta
+    pub constant_row : (i : ShiftRow) → IsRow g s used (by_constant i n used) r (stepped i n r) sta
     constant_row row.Slw = shift_row shift.Shl width.Word (left 16) (top 16) (left_kind width.Word tt) n some
     constant_row row.Srw = shift_row shift.Shr width.Word right bottom (right_kind width.Word tt) n some
     constant_row row.Ssi = signed_row width.Word tt n some

@@ -80,13 +80,13 @@ module _ (g : List Located) (t : State) where
   abbrev pub Gives : Expr → Value → Type 0
   Gives e v = value g e t ≡ Ok v
 
-  joined_gives : (op : BinaryOp) (e f : Expr) (v u : Value) → Gives e v → Gives f u → value g (binary_of op e f) t ≡ binary_value op v u
+  pub joined_gives : (op : BinaryOp) (e f : Expr) (v u : Value) → Gives e v → Gives f u → value g (binary_of op e f) t ≡ binary_value op v u
   joined_gives op e f v u h k = value_binary g op e f t ∙ (rw (h, k) refl)
 
   shift_gives : (op : ShiftOp) (e f : Expr) (v u : Value) → Gives e v → Gives f u → Gives (shift_of op e f) (shift_value op v u)
   shift_gives op e f v u h k = value_shift g op e f t ∙ (rw (h, k) refl)
 
-  select_gives : (e f d : Expr) (v u x : Value) → Gives e v → Gives f u → Gives d x → Gives (select_of e f d) (chosen v u x)
+  pub select_gives : (e f d : Expr) (v u x : Value) → Gives e v → Gives f u → Gives d x → Gives (select_of e f d) (chosen v u x)
   select_gives e f d v u x h k m = value_select g e f d t ∙ (rw (h, k, m) refl)
 
   inverted_gives : (e : Expr) (v : Value) → Gives e v → value g (not_of e) t ≡ unary_value unary.Not v
