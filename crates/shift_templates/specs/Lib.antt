@@ -1,0 +1,2 @@
+pub mod ShiftParts
+pub mod ShiftTemplates

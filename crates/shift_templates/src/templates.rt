@@ -1,0 +1,337 @@
+//! The statements of each row.
+ghost use Rattle.std.specs.Prelude.{◌≡◌, ◌≢◌, ◌<◌, ◌+◌, ◌^◌, ◌++◌, OnOk};
+ghost use Rattle.shift_templates.specs.ShiftTemplates.{by_accu2, by_constant, rlda_template, rrda_template, shift_by_accu2, shift_by_constant, shift_template, signed_by_accu2, signed_by_constant, through_cc1, turn_by_accu2, turn_by_constant, types_by_accu2, types_by_constant, types_of_shift, types_through_cc1};
+
+use crate::parts::{
+    accu1_with, count, has_bit, one_less, operand, push_counted, push_flags, push_flags_where,
+    shown_bit, signed_shift, top_bit,
+};
+use row_templates::{constant, convert, local, or, read, select, set, set_local, shift};
+use s7_base::{List, NoMemory, Reg, Width};
+use st_tree::{Expr, ShiftOp, StType, Stmt};
+use std::alloc::Global;
+use stl_tree::ShiftRow;
+
+/// SLW, SRW, SLD, SRD by a constant.
+fn push_shift_by_constant(
+    alloc: Global,
+    steps: &mut List<Stmt>,
+    first: u32,
+    op: ShiftOp,
+    width: Width,
+    n: u8,
+) -> Result<(), NoMemory>
+    requires { n ≢ 0 }
+    ensures { OnOk result (steps.new ≡ steps.old ++ shift_by_constant op width n first) }
+{
+    steps.push(set_local(
+        first,
+        shift(alloc, op, operand(alloc, width)?, count(n - 1))?,
+    ))?;
+    push_flags(
+        steps,
+        has_bit(alloc, width, shown_bit(op, width), local(first))?,
+    )?;
+    let shifted = shift(alloc, op, local(first), count(1))?;
+    steps.push(set(Reg::Accu1, accu1_with(alloc, width, shifted)?))
+}
+
+/// SSI, SSD by a constant.
+fn push_signed_by_constant(
+    alloc: Global,
+    steps: &mut List<Stmt>,
+    first: u32,
+    width: Width,
+    n: u8,
+) -> Result<(), NoMemory>
+    requires count { n ≢ 0 }
+    requires locals { first + 8 < 2 ^ 32 }
+    ensures { OnOk result (steps.new ≡ steps.old ++ signed_by_constant width n first) }
+{
+    steps.push(set_local(first, operand(alloc, width)?))?;
+    steps.push(set_local(
+        first + 1,
+        has_bit(alloc, width, top_bit(width), local(first))?,
+    ))?;
+    steps.push(set_local(
+        first + 2,
+        signed_shift(alloc, first + 1, first, &count(n - 1))?,
+    ))?;
+    push_flags(steps, has_bit(alloc, width, 1, local(first + 2))?)?;
+    let shifted = signed_shift(alloc, first + 1, first + 2, &count(1))?;
+    steps.push(set(Reg::Accu1, accu1_with(alloc, width, shifted)?))
+}
+
+/// RLD, RRD by a constant.
+fn push_turn_by_constant(
+    alloc: Global,
+    steps: &mut List<Stmt>,
+    first: u32,
+    op: ShiftOp,
+    n: u8,
+) -> Result<(), NoMemory>
+    ensures { OnOk result (steps.new ≡ steps.old ++ turn_by_constant op n first) }
+{
+    steps.push(set_local(first, shift(alloc, op, read(Reg::Accu1), count(n))?))?;
+    push_flags(
+        steps,
+        has_bit(
+            alloc,
+            Width::Dword,
+            shown_bit(op, Width::Dword),
+            local(first),
+        )?,
+    )?;
+    steps.push(set(Reg::Accu1, local(first)))
+}
+
+/// SLW, SRW, SLD, SRD by ACCU2.
+fn push_shift_by_accu2(
+    alloc: Global,
+    steps: &mut List<Stmt>,
+    first: u32,
+    op: ShiftOp,
+    width: Width,
+) -> Result<(), NoMemory>
+    requires { first + 8 < 2 ^ 32 }
+    ensures { OnOk result (steps.new ≡ steps.old ++ shift_by_accu2 op width first) }
+{
+    push_counted(alloc, steps, first)?;
+    steps.push(set_local(first + 2, operand(alloc, width)?))?;
+    steps.push(set_local(
+        first + 3,
+        shift(alloc, op, local(first + 2), one_less(alloc, local(first))?)?,
+    ))?;
+    push_flags_where(
+        alloc,
+        steps,
+        first + 1,
+        has_bit(alloc, width, shown_bit(op, width), local(first + 3))?,
+    )?;
+    let shifted = shift(alloc, op, local(first + 2), local(first))?;
+    steps.push(set(Reg::Accu1, accu1_with(alloc, width, shifted)?))
+}
+
+/// SSI, SSD by ACCU2.
+fn push_signed_by_accu2(
+    alloc: Global,
+    steps: &mut List<Stmt>,
+    first: u32,
+    width: Width,
+) -> Result<(), NoMemory>
+    requires { first + 8 < 2 ^ 32 }
+    ensures { OnOk result (steps.new ≡ steps.old ++ signed_by_accu2 width first) }
+{
+    push_counted(alloc, steps, first)?;
+    steps.push(set_local(first + 2, operand(alloc, width)?))?;
+    steps.push(set_local(
+        first + 3,
+        has_bit(alloc, width, top_bit(width), local(first + 2))?,
+    ))?;
+    let before = signed_shift(alloc, first + 3, first + 2, &one_less(alloc, local(first))?)?;
+    steps.push(set_local(first + 4, before))?;
+    push_flags_where(
+        alloc,
+        steps,
+        first + 1,
+        has_bit(alloc, width, 1, local(first + 4))?,
+    )?;
+    let shifted = signed_shift(alloc, first + 3, first + 2, &local(first))?;
+    steps.push(set(Reg::Accu1, accu1_with(alloc, width, shifted)?))
+}
+
+/// RLD, RRD by ACCU2.
+fn push_turn_by_accu2(
+    alloc: Global,
+    steps: &mut List<Stmt>,
+    first: u32,
+    op: ShiftOp,
+) -> Result<(), NoMemory>
+    requires { first + 8 < 2 ^ 32 }
+    ensures { OnOk result (steps.new ≡ steps.old ++ turn_by_accu2 op first) }
+{
+    push_counted(alloc, steps, first)?;
+    steps.push(set_local(first + 2, shift(alloc, op, read(Reg::Accu1), local(first))?))?;
+    let out = has_bit(
+        alloc,
+        Width::Dword,
+        shown_bit(op, Width::Dword),
+        local(first + 2),
+    )?;
+    push_flags_where(alloc, steps, first + 1, out)?;
+    steps.push(set(Reg::Accu1, local(first + 2)))
+}
+
+/// By a constant.
+fn push_by_constant(
+    alloc: Global,
+    steps: &mut List<Stmt>,
+    first: u32,
+    row: ShiftRow,
+    n: u8,
+) -> Result<(), NoMemory>
+    requires count { n ≢ 0 }
+    requires locals { first + 8 < 2 ^ 32 }
+    ensures { OnOk result (steps.new ≡ steps.old ++ by_constant row n first) }
+{
+    match row {
+        ShiftRow::Slw => push_shift_by_constant(alloc, steps, first, ShiftOp::Shl, Width::Word, n),
+        ShiftRow::Srw => push_shift_by_constant(alloc, steps, first, ShiftOp::Shr, Width::Word, n),
+        ShiftRow::Ssi => push_signed_by_constant(alloc, steps, first, Width::Word, n),
+        ShiftRow::Sld => push_shift_by_constant(alloc, steps, first, ShiftOp::Shl, Width::Dword, n),
+        ShiftRow::Srd => push_shift_by_constant(alloc, steps, first, ShiftOp::Shr, Width::Dword, n),
+        ShiftRow::Ssd => push_signed_by_constant(alloc, steps, first, Width::Dword, n),
+        ShiftRow::Rld => push_turn_by_constant(alloc, steps, first, ShiftOp::Rol, n),
+        ShiftRow::Rrd => push_turn_by_constant(alloc, steps, first, ShiftOp::Ror, n),
+    }
+}
+
+/// By ACCU2.
+fn push_by_accu2(
+    alloc: Global,
+    steps: &mut List<Stmt>,
+    first: u32,
+    row: ShiftRow,
+) -> Result<(), NoMemory>
+    requires { first + 8 < 2 ^ 32 }
+    ensures { OnOk result (steps.new ≡ steps.old ++ by_accu2 row first) }
+{
+    match row {
+        ShiftRow::Slw => push_shift_by_accu2(alloc, steps, first, ShiftOp::Shl, Width::Word),
+        ShiftRow::Srw => push_shift_by_accu2(alloc, steps, first, ShiftOp::Shr, Width::Word),
+        ShiftRow::Ssi => push_signed_by_accu2(alloc, steps, first, Width::Word),
+        ShiftRow::Sld => push_shift_by_accu2(alloc, steps, first, ShiftOp::Shl, Width::Dword),
+        ShiftRow::Srd => push_shift_by_accu2(alloc, steps, first, ShiftOp::Shr, Width::Dword),
+        ShiftRow::Ssd => push_signed_by_accu2(alloc, steps, first, Width::Dword),
+        ShiftRow::Rld => push_turn_by_accu2(alloc, steps, first, ShiftOp::Rol),
+        ShiftRow::Rrd => push_turn_by_accu2(alloc, steps, first, ShiftOp::Ror),
+    }
+}
+
+/// A shift or a rotation, whose first local has this number.
+pub fn push_shift(
+    alloc: Global,
+    steps: &mut List<Stmt>,
+    first: u32,
+    row: ShiftRow,
+    by: Option<u8>,
+) -> Result<(), NoMemory>
+    requires { first + 8 < 2 ^ 32 }
+    ensures { OnOk result (steps.new ≡ steps.old ++ shift_template first row by) }
+{
+    match by {
+        None => push_by_accu2(alloc, steps, first, row),
+        Some(n) => {
+            if n == 0 {
+                return Ok(());
+            }
+            push_by_constant(alloc, steps, first, row, n)
+        }
+    }
+}
+
+/// RLDA and RRDA, by what enters ACCU1.
+fn push_through_cc1(
+    alloc: Global,
+    steps: &mut List<Stmt>,
+    first: u32,
+    op: ShiftOp,
+    entering: Expr,
+) -> Result<(), NoMemory>
+    ensures { OnOk result (steps.new ≡ steps.old ++ through_cc1 op entering first) }
+{
+    steps.push(set_local(first, read(Reg::Cc1)))?;
+    push_flags(
+        steps,
+        has_bit(
+            alloc,
+            Width::Dword,
+            shown_bit(op, Width::Dword),
+            read(Reg::Accu1),
+        )?,
+    )?;
+    let shifted = shift(alloc, op, read(Reg::Accu1), count(1))?;
+    steps.push(set(Reg::Accu1, or(alloc, shifted, entering)?))
+}
+
+/// `RLDA`, whose first local has this number.
+pub fn push_rlda(alloc: Global, steps: &mut List<Stmt>, first: u32) -> Result<(), NoMemory>
+    ensures { OnOk result (steps.new ≡ steps.old ++ rlda_template first) }
+{
+    let entering = convert(alloc, StType::Bool, StType::Dword, local(first))?;
+    push_through_cc1(alloc, steps, first, ShiftOp::Shl, entering)
+}
+
+/// `RRDA`, whose first local has this number.
+pub fn push_rrda(alloc: Global, steps: &mut List<Stmt>, first: u32) -> Result<(), NoMemory>
+    ensures { OnOk result (steps.new ≡ steps.old ++ rrda_template first) }
+{
+    let low = constant(StType::Dword, 0);
+    let high = constant(StType::Dword, 0x8000_0000);
+    push_through_cc1(
+        alloc,
+        steps,
+        first,
+        ShiftOp::Shr,
+        select(alloc, local(first), low, high)?,
+    )
+}
+
+/// The types of the locals that a shift by a constant takes.
+fn types_by_constant(row: ShiftRow) -> &'static [StType]
+    ensures { result.now ≡ types_by_constant row }
+{
+    match row {
+        ShiftRow::Slw | ShiftRow::Srw => &[StType::Word],
+        ShiftRow::Ssi => &[StType::Word, StType::Bool, StType::Word],
+        ShiftRow::Sld | ShiftRow::Srd | ShiftRow::Rld | ShiftRow::Rrd => &[StType::Dword],
+        ShiftRow::Ssd => &[StType::Dword, StType::Bool, StType::Dword],
+    }
+}
+
+/// The types of the locals that a shift by ACCU2 takes.
+fn types_by_accu2(row: ShiftRow) -> &'static [StType]
+    ensures { result.now ≡ types_by_accu2 row }
+{
+    match row {
+        ShiftRow::Slw | ShiftRow::Srw => &[StType::Int, StType::Bool, StType::Word, StType::Word],
+        ShiftRow::Ssi => &[
+            StType::Int,
+            StType::Bool,
+            StType::Word,
+            StType::Bool,
+            StType::Word,
+        ],
+        ShiftRow::Sld | ShiftRow::Srd => &[StType::Int, StType::Bool, StType::Dword, StType::Dword],
+        ShiftRow::Ssd => &[
+            StType::Int,
+            StType::Bool,
+            StType::Dword,
+            StType::Bool,
+            StType::Dword,
+        ],
+        ShiftRow::Rld | ShiftRow::Rrd => &[StType::Int, StType::Bool, StType::Dword],
+    }
+}
+
+/// The types of the locals that a shift or a rotation takes.
+pub fn types_of_shift(row: ShiftRow, by: Option<u8>) -> &'static [StType]
+    ensures { result.now ≡ types_of_shift row by }
+{
+    match by {
+        None => types_by_accu2(row),
+        Some(n) => {
+            if n == 0 {
+                return &[];
+            }
+            types_by_constant(row)
+        }
+    }
+}
+
+/// The types of the locals that RLDA and RRDA take.
+pub fn types_through_cc1() -> &'static [StType]
+    ensures { result.now ≡ types_through_cc1 }
+{
+    &[StType::Bool]
+}
