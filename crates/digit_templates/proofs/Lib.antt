@@ -1,0 +1,2 @@
+pub mod DigitSums
+pub mod FromDigitRows
