@@ -1,11 +1,10 @@
 -- What the digits of an amount are worth, and the amount of a number.
-use Rattle.std.proofs.Common.{◌≡◌, ℕ, suc, ◌+◌, ◌*◌, ◌/◌, ◌%◌, ◌^◌, ◌<◌, ◌≤◌, pos, negsuc, Bool, true, false, not, if◌then◌else◌, List, [], ◌∷◌, ◌++◌, Result, Ok, refl, ap, ◌∙◌, arith}
-use Rattle.std.specs.Prelude.{ℤ, ◌+ℤ◌, ◌*ℤ◌, int_div, int_rem, int_lt, nat_lt, neg_ℤ, unsigned_abs}
+use Rattle.std.proofs.Common.{◌≡◌, ℕ, ◌+◌, ◌*◌, ◌/◌, ◌%◌, ◌^◌, ◌<◌, ◌≤◌, pos, Bool, true, false, if◌then◌else◌, List, [], ◌∷◌, ◌++◌, Ok, refl, ap, ◌∙◌, arith}
+use Rattle.std.specs.Prelude.{ℤ, ◌+ℤ◌, ◌*ℤ◌, int_div, int_rem, int_lt, neg_ℤ, unsigned_abs}
 use Rattle.std.specs.Ordering.{int_eq}
 use Rattle.std.proofs.lemmas.Int.{ints}
 use Rattle.bcd_words.specs.Bcd.{digits, sign_digit, worth}
 use Rattle.memory_areas.specs.Access.{and_then}
-use Rattle.s7_base.specs.declared.outcome.Fault.{Fault}
 use Rattle.st_tree.proofs.Equations.{value_binary, value_literal, value_select, value_unary}
 use Rattle.st_tree.specs.Operators.{binary_value, divided, unary_value}
 use Rattle.st_tree.specs.State.{State}
@@ -20,7 +19,7 @@ use Rattle.st_tree.specs.declared.expr.StType.TheVariants as type
 use Rattle.st_tree.specs.declared.program.Located.{Located}
 use Rattle.st_tree.specs.declared.state.Value.{Value}
 use Rattle.row_templates.specs.Builders.{binary_of, constant_of}
-use Rattle.digit_templates.specs.ToDigits.{amount_of, by_sign_of, digits_of, signed_of, with_digit_of}
+use Rattle.digit_templates.specs.ToDigits.{amount_of, by_sign_of, digits_of, with_digit_of}
 
 -- a type has all numbers from 0 to less than this
 abbrev pub Holds : StType → ℕ → Type 0
@@ -138,8 +137,8 @@ word_pattern n z = by (int_lt z (pos 0))
 
 pub dword_pattern : (n : ℕ) (z : ℤ)
     → n % 10 + n / 10 % 10 * 16 + n / 100 % 10 * 256 + n / 1000 % 10 * 4096 + n / 10000 % 10 * 65536 + n / 100000 % 10 * 1048576 + n / 1000000 % 10 * 16777216
-      + (if int_lt z (pos 0) then 0xF0000000 else 0)
-      ≡ worth 16 (digits 10 7 n ++ sign_digit z ∷ [])
+    + (if int_lt z (pos 0) then 0xF0000000 else 0)
+    ≡ worth 16 (digits 10 7 n ++ sign_digit z ∷ [])
 dword_pattern n z = by (int_lt z (pos 0))
   where
     by : (b : Bool) → n % 10 + n / 10 % 10 * 16 + n / 100 % 10 * 256 + n / 1000 % 10 * 4096 + n / 10000 % 10 * 65536 + n / 100000 % 10 * 1048576 + n / 1000000 % 10 * 16777216

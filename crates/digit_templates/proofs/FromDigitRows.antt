@@ -6,7 +6,6 @@ use Rattle.bcd_words.specs.Bcd.{bcd_value}
 use Rattle.memory_areas.specs.Access.{and_then}
 use Rattle.s7_base.specs.SignedNumbers.{number, pattern}
 use Rattle.s7_base.specs.declared.outcome.Fault.{Fault}
-use Rattle.s7_base.specs.declared.register.Reg.{Reg}
 use Rattle.s7_base.specs.declared.register.Reg.TheVariants as reg
 use Rattle.s7_base.specs.declared.word.Width.TheVariants as width
 use Rattle.stl_tree.specs.Accumulators.{part, with_number}
@@ -22,7 +21,6 @@ use Rattle.st_tree.specs.Operators.{from_digits, unary_value}
 use Rattle.st_tree.specs.State.{State}
 use Rattle.st_tree.specs.Value.{value}
 use Rattle.st_tree.specs.Values.{typed}
-use Rattle.st_tree.specs.declared.expr.Expr.{Expr}
 use Rattle.st_tree.specs.declared.expr.StType.TheVariants as type
 use Rattle.st_tree.specs.declared.expr.UnaryOp.TheVariants as unary
 use Rattle.st_tree.specs.declared.expr.Var.TheVariants as var
@@ -34,7 +32,7 @@ use Rattle.row_templates.proofs.DoesRow.{DoesRow}
 use Rattle.row_templates.proofs.Locals.{own_of}
 use Rattle.row_templates.proofs.Numbers.{pattern_below, put_low, same_pattern}
 use Rattle.row_templates.proofs.RegisterRows.{IsRow, registers_after, row_does}
-use Rattle.row_templates.proofs.Stages.{known, parts, stage, stage_register}
+use Rattle.row_templates.proofs.Stages.{known, parts, stage}
 use Rattle.digit_templates.specs.FromDigits.{btd_of, bti_of}
 use Rattle.digit_templates.specs.LowWord.{with_low_of}
 
@@ -96,7 +94,7 @@ module _ (g : List Located) (s : State) (used : ℕ) (r : RegisterValues) (sta :
       let a : r.accu1 < 2 ^ 32 = range.accu1 in
       let w : pattern 16 z < 2 ^ 16 = pattern_below z in
       let read : value g (unary_of unary.BcdToInt (convert_of type.Dword type.Word (read_of reg.Accu1))) (stage s used [] (known r sta)) ≡ Ok (typed type.Int z) =
-          word_digits g (stage s used [] (known r sta)) r.accu1 (simp parts) ∙ ap (from_digits type.Int) e in
+      word_digits g (stage s used [] (known r sta)) r.accu1 (simp parts) ∙ ap (from_digits type.Int) e in
       record {
         values = bti_values r z;
         have = (refl, read, (simp (parts, same_pattern, put_low), tt));
@@ -113,7 +111,7 @@ module _ (g : List Located) (s : State) (used : ℕ) (r : RegisterValues) (sta :
       let a : r.accu1 < 2 ^ 32 = range.accu1 in
       let w : pattern 32 z < 2 ^ 32 = dword_below z in
       let read : value g (unary_of unary.BcdToDint (read_of reg.Accu1)) (stage s used [] (known r sta)) ≡ Ok (typed type.Dint z) =
-          dword_digits g (stage s used [] (known r sta)) r.accu1 (simp parts) ∙ ap (from_digits type.Dint) e in
+      dword_digits g (stage s used [] (known r sta)) r.accu1 (simp parts) ∙ ap (from_digits type.Dint) e in
       let taken : r.accu1 / 2 ^ 32 * 2 ^ 32 + pattern 32 z ≡ pattern 32 z = alone r.accu1 (pattern 32 z) a in
       record {
         values = btd_values r z;
@@ -130,7 +128,7 @@ module _ (g : List Located) (calls : Calls) (units : ℕ) (acts : List Activatio
 
   bti_by : (read : Result ℤ Fault) → bcd_value 3 (part width.Word now.registers.accu1) ≡ read
       → DoesRow (body_meaning g calls (bti_of used) units s) units used acts s now.memory
-        (with_value (with_value_of_digits width.Word now.registers read) (λ r. next (record now { registers = r })))
+      (with_value (with_value_of_digits width.Word now.registers read) (λ r. next (record now { registers = r })))
   bti_by (Ok z) e =
       row_does g s used calls units (bti_of used) acts now (bti_after now.registers z) related
       (bti_row g s used now.registers (s.registers reg.Sta) related.range z e) room
@@ -138,7 +136,7 @@ module _ (g : List Located) (calls : Calls) (units : ℕ) (acts : List Activatio
       record {
         at = s;
         stops = assign_stops_at_value g calls (var.Local used) _ (set_of reg.Accu1 (with_low_of (convert_of type.Int type.Word (local_of used))) ∷ []) units s f
-          (word_digits g s now.registers.accu1 holds ∙ ap (from_digits type.Int) e);
+            (word_digits g s now.registers.accu1 holds ∙ ap (from_digits type.Int) e);
         memory = related.memory;
       }
 
@@ -147,7 +145,7 @@ module _ (g : List Located) (calls : Calls) (units : ℕ) (acts : List Activatio
 
   btd_by : (read : Result ℤ Fault) → bcd_value 7 (part width.Dword now.registers.accu1) ≡ read
       → DoesRow (body_meaning g calls (btd_of used) units s) units used acts s now.memory
-        (with_value (with_value_of_digits width.Dword now.registers read) (λ r. next (record now { registers = r })))
+      (with_value (with_value_of_digits width.Dword now.registers read) (λ r. next (record now { registers = r })))
   btd_by (Ok z) e =
       row_does g s used calls units (btd_of used) acts now (btd_after now.registers z) related
       (btd_row g s used now.registers (s.registers reg.Sta) related.range z e) room
@@ -155,7 +153,7 @@ module _ (g : List Located) (calls : Calls) (units : ℕ) (acts : List Activatio
       record {
         at = s;
         stops = assign_stops_at_value g calls (var.Local used) _ (set_of reg.Accu1 (convert_of type.Dint type.Dword (local_of used)) ∷ []) units s f
-          (dword_digits g s now.registers.accu1 holds ∙ ap (from_digits type.Dint) e);
+            (dword_digits g s now.registers.accu1 holds ∙ ap (from_digits type.Dint) e);
         memory = related.memory;
       }
 

@@ -1,2 +1,3 @@
 pub mod DigitSums
 pub mod FromDigitRows
+pub mod ToDigitRows
