@@ -1,0 +1,4 @@
+pub mod DigitSums
+pub mod FromDigitRows
+pub mod PlainDigits
+pub mod ToDigitRows

@@ -1,0 +1,3 @@
+pub mod FromDigits
+pub mod LowWord
+pub mod ToDigits

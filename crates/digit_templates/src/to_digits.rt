@@ -1,0 +1,175 @@
+//! Numbers written in decimal digits.
+//!
+//! Four locals are taken, from `first` on: the number, its amount, whether it has too many digits, and the pattern of
+//! its digits.
+ghost use Rattle.std.specs.Prelude.{◌≡◌, ◌<◌, ◌+◌, ◌^◌, ◌++◌, pos, IfOk, OnOk};
+ghost use Rattle.digit_templates.specs.ToDigits.{amount_of, by_sign_of, digits_of, dtb_of, itb_of, measured_of, signed_of, types_of_dtb, types_of_itb, with_digit_of, written_of};
+ghost use Rattle.row_templates.specs.Builders.{local_of};
+
+use crate::low_word::with_low;
+use row_templates::{binary, constant, convert, local, or, read, select, set, set_local, unary};
+use s7_base::{List, NoMemory, Reg};
+use st_tree::{BinaryOp, Expr, StType, Stmt, UnaryOp};
+use std::alloc::Global;
+
+/// The statements of ITB.
+pub fn push_itb(alloc: Global, steps: &mut List<Stmt>, first: u32) -> Result<(), NoMemory>
+    requires { first + 8 < 2 ^ 32 }
+    ensures { OnOk result (steps.new ≡ steps.old ++ itb_of first) }
+{
+    let ty = StType::Dint;
+    let word = convert(alloc, StType::Dword, StType::Int, read(Reg::Accu1))?;
+    let number = convert(alloc, StType::Int, ty, word)?;
+    push_measured(alloc, steps, ty, first, number, 999)?;
+    let pattern = signed(
+        alloc,
+        ty,
+        first,
+        three_digits(alloc, ty, first + 1)?,
+        0xF000,
+    )?;
+    let written = convert(alloc, ty, StType::Word, local(first + 3))?;
+    push_written(alloc, steps, first, pattern, with_low(alloc, written)?)
+}
+
+/// The types of its locals.
+pub fn types_of_itb() -> &'static [StType]
+    ensures { result.now ≡ types_of_itb }
+{
+    &[StType::Dint, StType::Dint, StType::Bool, StType::Dint]
+}
+
+/// The statements of DTB.
+pub fn push_dtb(alloc: Global, steps: &mut List<Stmt>, first: u32) -> Result<(), NoMemory>
+    requires { first + 8 < 2 ^ 32 }
+    ensures { OnOk result (steps.new ≡ steps.old ++ dtb_of first) }
+{
+    let ty = StType::Lint;
+    let dword = convert(alloc, StType::Dword, StType::Dint, read(Reg::Accu1))?;
+    let number = convert(alloc, StType::Dint, ty, dword)?;
+    push_measured(alloc, steps, ty, first, number, 9_999_999)?;
+    let pattern = signed(
+        alloc,
+        ty,
+        first,
+        seven_digits(alloc, ty, first + 1)?,
+        0xF000_0000,
+    )?;
+    let written = convert(alloc, ty, StType::Dword, local(first + 3))?;
+    push_written(alloc, steps, first, pattern, written)
+}
+
+/// The types of its locals.
+pub fn types_of_dtb() -> &'static [StType]
+    ensures { result.now ≡ types_of_dtb }
+{
+    &[StType::Lint, StType::Lint, StType::Bool, StType::Lint]
+}
+
+/// The number, its amount, and whether that is greater than the greatest with all digits.
+fn push_measured(
+    alloc: Global,
+    steps: &mut List<Stmt>,
+    ty: StType,
+    first: u32,
+    number: Expr,
+    greatest: i64,
+) -> Result<(), NoMemory>
+    requires { first + 8 < 2 ^ 32 }
+    ensures { OnOk result (steps.new ≡ steps.old ++ measured_of ty first number greatest) }
+{
+    steps.push(set_local(first, number))?;
+    steps.push(set_local(first + 1, amount(alloc, ty, first)?))?;
+    let over = binary(
+        alloc,
+        BinaryOp::Gt,
+        local(first + 1),
+        constant(ty, greatest),
+    )?;
+    steps.push(set_local(first + 2, over))
+}
+
+/// The pattern, the overflow, and ACCU1, which takes `written` where there is none.
+fn push_written(
+    alloc: Global,
+    steps: &mut List<Stmt>,
+    first: u32,
+    pattern: Expr,
+    written: Expr,
+) -> Result<(), NoMemory>
+    requires { first + 8 < 2 ^ 32 }
+    ensures { OnOk result (steps.new ≡ steps.old ++ written_of first pattern written) }
+{
+    steps.push(set_local(first + 3, pattern))?;
+    steps.push(set(Reg::Ov, local(first + 2)))?;
+    steps.push(set(Reg::Os, or(alloc, read(Reg::Os), local(first + 2))?))?;
+    let accu1 = select(alloc, local(first + 2), written, read(Reg::Accu1))?;
+    steps.push(set(Reg::Accu1, accu1))
+}
+
+/// One of two by the sign of the number in a local: the second where it is below 0.
+fn by_sign(
+    alloc: Global,
+    ty: StType,
+    number: u32,
+    first: Expr,
+    second: Expr,
+) -> Result<Expr, NoMemory>
+    ensures { IfOk result (λ value. value ≡ by_sign_of ty (local_of number) first second) }
+{
+    let below = binary(alloc, BinaryOp::Lt, local(number), constant(ty, 0))?;
+    select(alloc, below, first, second)
+}
+
+/// The amount of the number in a local.
+fn amount(alloc: Global, ty: StType, number: u32) -> Result<Expr, NoMemory>
+    ensures { IfOk result (λ value. value ≡ amount_of ty (local_of number)) }
+{
+    let negated = unary(alloc, UnaryOp::Minus, local(number))?;
+    by_sign(alloc, ty, number, local(number), negated)
+}
+
+/// Three digits of the amount in a local.
+fn three_digits(alloc: Global, ty: StType, amount: u32) -> Result<Expr, NoMemory>
+    ensures { IfOk result (λ value. value ≡ digits_of ty (local_of amount) 2) }
+{
+    let one = binary(alloc, BinaryOp::Mod, local(amount), constant(ty, 10))?;
+    let two = with_digit(alloc, ty, amount, one, 10, 0x10)?;
+    with_digit(alloc, ty, amount, two, 100, 0x100)
+}
+
+/// Seven digits of the amount in a local.
+fn seven_digits(alloc: Global, ty: StType, amount: u32) -> Result<Expr, NoMemory>
+    ensures { IfOk result (λ value. value ≡ digits_of ty (local_of amount) 6) }
+{
+    let three = three_digits(alloc, ty, amount)?;
+    let four = with_digit(alloc, ty, amount, three, 1000, 0x1000)?;
+    let five = with_digit(alloc, ty, amount, four, 10_000, 0x1_0000)?;
+    let six = with_digit(alloc, ty, amount, five, 100_000, 0x10_0000)?;
+    with_digit(alloc, ty, amount, six, 1_000_000, 0x100_0000)
+}
+
+/// A sum, and one more digit of the amount in a local, at its place in a pattern.
+fn with_digit(
+    alloc: Global,
+    ty: StType,
+    amount: u32,
+    sum: Expr,
+    power: i64,
+    place: i64,
+) -> Result<Expr, NoMemory>
+    ensures { IfOk result (λ value. value ≡ with_digit_of ty (local_of amount) sum power place) }
+{
+    let above = binary(alloc, BinaryOp::Div, local(amount), constant(ty, power))?;
+    let digit = binary(alloc, BinaryOp::Mod, above, constant(ty, 10))?;
+    let placed = binary(alloc, BinaryOp::Mul, digit, constant(ty, place))?;
+    binary(alloc, BinaryOp::Add, sum, placed)
+}
+
+/// Digits under the sign digit of the number in a local.
+fn signed(alloc: Global, ty: StType, number: u32, digits: Expr, sign: i64) -> Result<Expr, NoMemory>
+    ensures { IfOk result (λ value. value ≡ signed_of ty (local_of number) digits sign) }
+{
+    let above = by_sign(alloc, ty, number, constant(ty, 0), constant(ty, sign))?;
+    binary(alloc, BinaryOp::Add, digits, above)
+}
