@@ -11,7 +11,7 @@ use Rattle.st_tree.specs.declared.program.Stmt.TheVariants as stmt
 use Rattle.stl_tree.specs.declared.program.Instr.{Instr}
 use Rattle.stl_tree.specs.declared.program.Op.{Op}
 use Rattle.stl_tree.specs.declared.program.Op.TheVariants as op
-use Rattle.instruction_lowering.specs.Lowered.{AreAssignments}
+use Rattle.row_templates.specs.Assignments.{AreAssignments}
 use Rattle.instruction_lowering.specs.declared.statements.OpenBracket.{OpenBracket}
 use Rattle.instruction_lowering.specs.declared.statements.Spot.{Spot}
 use Rattle.instruction_lowering.specs.inner.Lowering.{ends_block, steps_of}

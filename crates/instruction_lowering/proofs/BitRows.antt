@@ -23,13 +23,16 @@ use Rattle.st_tree.specs.declared.expr.Expr.TheVariants as expr
 use Rattle.st_tree.specs.declared.expr.Var.TheVariants as var
 use Rattle.st_tree.specs.declared.program.Located.{Located}
 use Rattle.st_tree.proofs.Equations.{assign_goes_on, assign_stops_at_place, assign_stops_at_value}
-use Rattle.instruction_lowering.specs.inner.Templates.{and_of, behind_check, bit_of, check_of, cleared, literal_of, next_rlo, not_of, or_of, read_of, running_chain, statements_of, store_of}
-use Rattle.instruction_lowering.proofs.Alike.{AreAlike, IsKept, Related, keep_bits, keep_memory, place_now, same_place}
+use Rattle.instruction_lowering.specs.inner.Templates.{behind_check, check_of, next_rlo, running_chain, statements_of, store_of}
+use Rattle.row_templates.specs.Builders.{and_of, bit_of, cleared, literal_of, not_of, or_of, read_of}
+use Rattle.row_templates.proofs.Alike.{AreAlike, IsKept, Related, keep_bits, keep_memory, place_now, same_place}
 use Rattle.instruction_lowering.specs.declared.statements.Spot.{Spot}
 use Rattle.instruction_lowering.proofs.Does.{Does}
 use Rattle.instruction_lowering.proofs.Temporaries.{Keeps}
-use Rattle.instruction_lowering.proofs.Operands.{bit_read, bit_wrote, chain_runs, cleared_registers, clears, rlo_worth, sets}
-use Rattle.instruction_lowering.proofs.Truths.{and_worth, checked_stops, checked_worth, left_stops, literal_worth, not_worth, or_worth}
+use Rattle.instruction_lowering.proofs.Chains.{chain_runs}
+use Rattle.row_templates.proofs.Operands.{bit_read, bit_wrote, cleared_registers, clears, rlo_worth, sets}
+use Rattle.instruction_lowering.proofs.Chains.{checked_stops, checked_worth}
+use Rattle.row_templates.proofs.Truths.{and_worth, left_stops, literal_worth, not_worth, or_worth}
 
 module _ (g : List Located) (calls : Calls) (units : ℕ) (acts : List Activation) (now : Now) (s : State) (related : Related acts now s) (total : ℕ) (p : Spot) (keeps : Keeps total p now.brackets s.activations) where
   abbrev bits : StatusBits

@@ -26,12 +26,15 @@ use Rattle.st_tree.proofs.Equations.{assign_goes_on}
 use Rattle.instruction_lowering.specs.declared.statements.Chain.{Chain}
 use Rattle.instruction_lowering.specs.declared.statements.OpenBracket.{OpenBracket}
 use Rattle.instruction_lowering.specs.declared.statements.Spot.{Spot}
-use Rattle.instruction_lowering.specs.inner.Templates.{behind, behind_close, chain_at, cleared, close_of, keep_of, literal_of, next_rlo, open_of, read_of, set_of}
-use Rattle.instruction_lowering.proofs.Alike.{AreAlike, IsKept, Related, keep_activations, keep_bits, keep_brackets}
+use Rattle.instruction_lowering.specs.inner.Templates.{behind, behind_close, chain_at, close_of, keep_of, next_rlo, open_of}
+use Rattle.row_templates.specs.Builders.{cleared, literal_of, read_of, set_of}
+use Rattle.row_templates.proofs.Alike.{AreAlike, IsKept, Related, keep_activations, keep_bits, keep_brackets}
 use Rattle.instruction_lowering.proofs.Does.{Does}
-use Rattle.instruction_lowering.proofs.Operands.{cleared_registers, clears, rlo_worth, sets}
-use Rattle.instruction_lowering.proofs.Temporaries.{KeepBrackets, Keeps, KeepsBracket, as_deep, as_many, kept_below, local_read, local_wrote, own_of, own_set, set_length, set_other, set_same, with_own}
-use Rattle.instruction_lowering.proofs.Truths.{IsChain, checked_worth, literal_worth, register_worth}
+use Rattle.row_templates.proofs.Operands.{cleared_registers, clears, rlo_worth, sets}
+use Rattle.instruction_lowering.proofs.Temporaries.{KeepBrackets, Keeps, KeepsBracket, as_many, kept_below}
+use Rattle.row_templates.proofs.Locals.{as_deep, local_read, local_wrote, own_of, own_set, set_length, set_other, set_same, with_own}
+use Rattle.instruction_lowering.proofs.Chains.{IsChain, checked_worth}
+use Rattle.row_templates.proofs.Truths.{literal_worth, register_worth}
 
 module _ (g : List Located) (calls : Calls) (units : ℕ) where
   -- a local of the running unit takes the value of a register

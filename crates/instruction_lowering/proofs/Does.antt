@@ -7,7 +7,7 @@ use Rattle.stl_tree.specs.declared.program.Op.TheVariants as op
 use Rattle.st_tree.specs.Meaning.{Out, Faults, Normal}
 use Rattle.st_tree.specs.State.{State}
 use Rattle.instruction_lowering.specs.declared.statements.Spot.{Spot}
-use Rattle.instruction_lowering.proofs.Alike.{Related}
+use Rattle.row_templates.proofs.Alike.{Related}
 use Rattle.instruction_lowering.proofs.Temporaries.{Keeps}
 
 -- an instruction that stands inside a node: it doesn't end its block, nor will one that jumps

@@ -24,13 +24,15 @@ use Rattle.st_tree.specs.declared.program.Located.{Located}
 use Rattle.st_tree.specs.declared.program.Stmt.{Stmt}
 use Rattle.st_tree.specs.declared.program.Stmt.TheVariants as stmt
 use Rattle.st_tree.proofs.Equations.{assign_goes_on, assign_stops_at_place, assign_stops_at_value}
-use Rattle.instruction_lowering.specs.inner.Templates.{and_of, bit_of, cleared, edge_of, not_of, one_more, read_of, set_of, statements_of}
-use Rattle.instruction_lowering.proofs.Alike.{AreAlike, IsKept, Related, keep_activations, keep_bits, keep_memory, place_now, same_place}
+use Rattle.instruction_lowering.specs.inner.Templates.{edge_of, one_more, statements_of}
+use Rattle.row_templates.specs.Builders.{and_of, bit_of, cleared, not_of, read_of, set_of}
+use Rattle.row_templates.proofs.Alike.{AreAlike, IsKept, Related, keep_activations, keep_bits, keep_memory, place_now, same_place}
 use Rattle.instruction_lowering.specs.declared.statements.Spot.{Spot}
 use Rattle.instruction_lowering.proofs.Does.{Does}
-use Rattle.instruction_lowering.proofs.Temporaries.{Keeps, as_deep, kept_below, local_read, local_wrote, own_of, own_set, set_length, set_other, set_same, with_own}
-use Rattle.instruction_lowering.proofs.Operands.{bit_read, bit_wrote, cleared_registers, clears, rlo_worth, sets}
-use Rattle.instruction_lowering.proofs.Truths.{and_worth, not_stops, not_worth, right_stops}
+use Rattle.instruction_lowering.proofs.Temporaries.{Keeps, kept_below}
+use Rattle.row_templates.proofs.Locals.{as_deep, local_read, local_wrote, own_of, own_set, set_length, set_other, set_same, with_own}
+use Rattle.row_templates.proofs.Operands.{bit_read, bit_wrote, cleared_registers, clears, rlo_worth, sets}
+use Rattle.row_templates.proofs.Truths.{and_worth, not_stops, not_worth, right_stops}
 
 module _ (g : List Located) (calls : Calls) (units : ℕ) (acts : List Activation) (now : Now) (s : State) (related : Related acts now s) (total : ℕ) (p : Spot) (keeps : Keeps total p now.brackets s.activations) (room : p.used + 1 ≤ total) where
   abbrev bits : StatusBits

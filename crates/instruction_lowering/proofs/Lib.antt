@@ -1,13 +1,12 @@
-pub mod Alike
 pub mod Assignments
 pub mod BitRows
 pub mod Bounds
 pub mod BracketRows
+pub mod Chains
 pub mod Does
 pub mod EdgeRows
 pub mod Names
 pub mod NodeRows
-pub mod Operands
 pub mod PlainGraph
 pub mod PlainStatements
 pub mod ProperNames
@@ -19,4 +18,3 @@ pub mod SizeRows
 pub mod StatusRows
 pub mod Temporaries
 pub mod TemporaryNames
-pub mod Truths

@@ -25,12 +25,13 @@ use Rattle.stl_tree.specs.declared.program.BitArg.TheVariants as arg
 use Rattle.stl_tree.specs.declared.program.Instr.{Instr}
 use Rattle.stl_tree.specs.declared.program.Op.{Op}
 use Rattle.stl_tree.specs.declared.program.Op.TheVariants as op
-use Rattle.instruction_lowering.specs.Nodes.{nodes, nodes_in, nodes_step}
+use Rattle.row_templates.specs.Nodes.{nodes, nodes_in, nodes_step}
 use Rattle.instruction_lowering.specs.declared.statements.Chain.{Chain}
 use Rattle.instruction_lowering.specs.declared.statements.OpenBracket.{OpenBracket}
 use Rattle.instruction_lowering.specs.declared.statements.Spot.{Spot}
 use Rattle.instruction_lowering.specs.inner.Lowering.{ends_block, steps_of}
-use Rattle.instruction_lowering.specs.inner.Templates.{and_joined, and_of, answer_of, behind, behind_check, behind_close, bit_of, checked_of, cleared, close_of, edge_of, keep_of, literal_of, next_rlo, not_of, open_of, or_of, read_of, rlo_before_and, rlo_before_or, running_chain, set_of, statements_of, store_of}
+use Rattle.instruction_lowering.specs.inner.Templates.{and_joined, answer_of, behind, behind_check, behind_close, checked_of, close_of, edge_of, keep_of, next_rlo, open_of, rlo_before_and, rlo_before_or, running_chain, statements_of, store_of}
+use Rattle.row_templates.specs.Builders.{and_of, bit_of, cleared, literal_of, not_of, or_of, read_of, set_of}
 
 -- Expressions
 

@@ -35,7 +35,8 @@ use Rattle.instruction_lowering.specs.declared.statements.Chain.{Chain}
 use Rattle.instruction_lowering.specs.declared.statements.OpenBracket.{OpenBracket}
 use Rattle.instruction_lowering.specs.declared.statements.Spot.{Spot}
 use Rattle.instruction_lowering.specs.inner.Lowering.{ends_block, node_of, steps_of, used_behind}
-use Rattle.instruction_lowering.specs.inner.Templates.{and_joined, and_of, answer_of, behind, behind_check, behind_close, bit_of, chain_at, checked_of, cleared, close_of, edge_of, first_spot, keep_of, literal_of, next_rlo, not_of, open_of, or_of, outer_of, read_of, rlo_before_and, rlo_before_or, running_chain, set_of, statements_of, store_of, xor_of}
+use Rattle.instruction_lowering.specs.inner.Templates.{and_joined, answer_of, behind, behind_check, behind_close, chain_at, checked_of, close_of, edge_of, first_spot, keep_of, next_rlo, open_of, outer_of, rlo_before_and, rlo_before_or, running_chain, statements_of, store_of}
+use Rattle.row_templates.specs.Builders.{and_of, bit_of, cleared, literal_of, not_of, or_of, read_of, set_of, xor_of}
 use Rattle.instruction_lowering.proofs.Simulation.{used_grows}
 use Rattle.stl_tree.specs.Accepted.{HasOperand, HaveOperands, IsOperand}
 use Rattle.stl_tree.specs.declared.program.BitArg.{BitArg}

@@ -25,12 +25,14 @@ use Rattle.stl_tree.specs.declared.program.Op.{Op}
 use Rattle.stl_tree.specs.declared.program.Op.TheVariants as op
 use Rattle.stl_tree.specs.declared.program.Operand.{Operand}
 use Rattle.stl_tree.specs.declared.program.Operand.TheVariants as operand
-use Rattle.instruction_lowering.specs.Lowered.{EachRegister, IsAmong, IsRead}
+use Rattle.instruction_lowering.specs.Lowered.{IsRead}
+use Rattle.row_templates.specs.Reading.{EachRegister, IsAmong}
 use Rattle.instruction_lowering.specs.declared.statements.Chain.{Chain}
 use Rattle.instruction_lowering.specs.declared.statements.OpenBracket.{OpenBracket}
 use Rattle.instruction_lowering.specs.declared.statements.Spot.{Spot}
 use Rattle.instruction_lowering.specs.inner.Lowering.{ends_block, steps_of}
-use Rattle.instruction_lowering.specs.inner.Templates.{and_joined, and_of, answer_of, behind, behind_check, behind_close, bit_of, chain_at, checked_of, cleared, close_of, edge_of, keep_of, literal_of, next_rlo, not_of, or_of, outer_of, read_of, rlo_before_and, rlo_before_or, running_chain, set_of, statements_of, store_of, xor_of}
+use Rattle.instruction_lowering.specs.inner.Templates.{and_joined, answer_of, behind, behind_check, behind_close, chain_at, checked_of, close_of, edge_of, keep_of, next_rlo, outer_of, rlo_before_and, rlo_before_or, running_chain, statements_of, store_of}
+use Rattle.row_templates.specs.Builders.{and_of, bit_of, cleared, literal_of, not_of, or_of, read_of, set_of, xor_of}
 
 among_left : (r : Reg) (xs ys : List Reg) → IsAmong r xs → IsAmong r (xs ++ ys)
 among_left r [] ys h = elim h [ ]

@@ -13,7 +13,7 @@ use Rattle.st_tree.specs.Meaning.{Calls, body_meaning}
 use Rattle.st_tree.specs.State.{State}
 use Rattle.st_tree.specs.declared.program.Located.{Located}
 use Rattle.instruction_lowering.specs.inner.Templates.{behind, statements_of}
-use Rattle.instruction_lowering.proofs.Alike.{Related, place_now}
+use Rattle.row_templates.proofs.Alike.{Related, place_now}
 use Rattle.instruction_lowering.proofs.BitRows.{assign_does, check_does, check_goes, reset_does, set_does}
 use Rattle.instruction_lowering.proofs.BracketRows.{close_does, open_does}
 use Rattle.instruction_lowering.proofs.Does.{Does, IsInside}

@@ -27,7 +27,7 @@ use Rattle.st_tree.specs.declared.program.StProgram.{StProgram}
 use Rattle.instruction_lowering.specs.Lowered.{AreUnitsOf, IsHeadOf, IsRead, Lowered, SameGraphRuns}
 use Rattle.instruction_lowering.specs.inner.Lowering.{head_for, lowered, node_of, temporaries, unit_of, used_behind}
 use Rattle.instruction_lowering.specs.inner.Templates.{first_spot}
-use Rattle.instruction_lowering.proofs.Alike.{AreAlike, IsKept, Related}
+use Rattle.row_templates.proofs.Alike.{AreAlike, AreInRange, IsKept, Related}
 use Rattle.instruction_lowering.proofs.Assignments.{are_assignments}
 use Rattle.instruction_lowering.proofs.ReadRows.{of_body}
 use Rattle.instruction_lowering.proofs.Bounds.{Begun, Side, back, begun_back, begun_forth, forth}
@@ -137,9 +137,13 @@ module _ (program : Program) (formed : All IsAcceptedBlock program.blocks) (call
   start_alike (name.Fc n) m e = cc
   start_alike (name.Fb n) m e = cc
 
+  start_range : AreInRange start
+  start_range =
+      record { accu1 = omega arith; accu2 = omega arith; ar1 = omega arith; ar2 = omega arith; db = omega arith; di = omega arith }
+
   start_related : (memory : Areas) → Related (first ∷ []) (now memory) (state memory)
   start_related memory =
-      record { registers = start_alike call.block number.0 number.1; memory = refl; activations = refl; depth = refl; db = omega arith; di = omega arith }
+      record { registers = start_alike call.block number.0 number.1; memory = refl; activations = refl; depth = refl; range = start_range }
 
   start_keeps : (memory : Areas) → Keeps (used_behind first_spot b.body) first_spot [] (state memory).activations
   start_keeps memory =

@@ -29,7 +29,7 @@ use Rattle.st_tree.specs.declared.program.Located.{Located}
 use Rattle.st_tree.specs.declared.program.Stmt.{Stmt}
 use Rattle.instruction_lowering.specs.inner.Lowering.{ends_block, node_of, steps_of, used_behind}
 use Rattle.instruction_lowering.specs.inner.Templates.{behind, first_spot, outer_of, statements_of}
-use Rattle.instruction_lowering.proofs.Alike.{AreAlike, HandedOn, IsHandedOn, IsKept, Related, keep_bits, keep_position}
+use Rattle.row_templates.proofs.Alike.{AreAlike, HandedOn, IsHandedOn, IsKept, Related, keep_bits, keep_position}
 use Rattle.instruction_lowering.proofs.Bounds.{Begun, Behind, Side, Within, back, IsBack, IsForth, first_step, forth, last_step, next_step, no_first_step, no_node, no_step}
 use Rattle.instruction_lowering.specs.declared.statements.OpenBracket.{OpenBracket}
 use Rattle.instruction_lowering.specs.declared.statements.Spot.{Spot}

@@ -11,13 +11,14 @@ use Rattle.st_tree.specs.State.{State, with_register}
 use Rattle.st_tree.specs.Value.{value}
 use Rattle.st_tree.specs.Values.{flag, number_of}
 use Rattle.st_tree.specs.declared.program.Located.{Located}
-use Rattle.instruction_lowering.specs.inner.Templates.{and_of, answer_of, cleared, literal_of, not_of, read_of, set_of, statements_of}
-use Rattle.instruction_lowering.proofs.Alike.{AreAlike, IsKept, Related, keep_bits}
+use Rattle.instruction_lowering.specs.inner.Templates.{answer_of, statements_of}
+use Rattle.row_templates.specs.Builders.{and_of, cleared, literal_of, not_of, read_of, set_of}
+use Rattle.row_templates.proofs.Alike.{AreAlike, IsKept, Related, keep_bits}
 use Rattle.instruction_lowering.specs.declared.statements.Spot.{Spot}
 use Rattle.instruction_lowering.proofs.Does.{Does}
 use Rattle.instruction_lowering.proofs.Temporaries.{Keeps}
-use Rattle.instruction_lowering.proofs.Operands.{cleared_registers, clears, nfc_worth, rlo_worth, sets}
-use Rattle.instruction_lowering.proofs.Truths.{and_worth, literal_worth, not_worth, register_worth, xor_worth}
+use Rattle.row_templates.proofs.Operands.{cleared_registers, clears, nfc_worth, rlo_worth, sets}
+use Rattle.row_templates.proofs.Truths.{and_worth, literal_worth, not_worth, register_worth, xor_worth}
 
 module _ (g : List Located) (calls : Calls) (units : ℕ) (acts : List Activation) (now : Now) (s : State) (related : Related acts now s) (total : ℕ) (p : Spot) (keeps : Keeps total p now.brackets s.activations) where
   abbrev bits : StatusBits

@@ -1,3 +1,2 @@
 pub mod Lowered
-pub mod Nodes
 pub mod inner

@@ -26,7 +26,9 @@ use Rattle.st_tree.specs.declared.program.Local.{Local}
 use Rattle.st_tree.specs.declared.program.Pou.{Pou}
 use Rattle.st_tree.specs.declared.program.Stmt.{Stmt}
 use Rattle.st_tree.specs.declared.program.Stmt.TheVariants as stmt
-use Rattle.instruction_lowering.specs.Nodes.{nodes_in}
+use Rattle.row_templates.specs.Assignments.{AreAssignments}
+use Rattle.row_templates.specs.Nodes.{nodes_in}
+use Rattle.row_templates.specs.Reading.{EachRegister, IsAmong}
 
 -- Units
 
@@ -43,29 +45,12 @@ pub record IsHeadOf (called : BlockName) (head : Pou) : Type 0 where
   pub locals : AreTemporaries 1 head.locals
   pub body : head.body ≡ []
 
--- each of some statements is an assignment; there is no other, as long as no instruction calls a block
-abbrev pub AreAssignments : List Stmt → Type 0
-AreAssignments [] = Unit {0}
-AreAssignments (stmt.Assign v e ∷ rest) = AreAssignments rest
-AreAssignments (other ∷ rest) = ⊥
-
 -- Reads
-
--- a register is one of some
-abbrev pub IsAmong : Reg → List Reg → Type 0
-IsAmong r [] = ⊥
-IsAmong r (q ∷ rest) = (r ≡ q) ⊎ IsAmong r rest
 
 -- some instruction reads a register
 abbrev pub IsRead : List Instr → Reg → Type 0
 IsRead [] r = ⊥
 IsRead (i ∷ rest) r = IsAmong r (reads_of i.op) ⊎ IsRead rest r
-
--- what holds of each register among some variables
-abbrev pub EachRegister : (Reg → Type 0) → List Var → Type 0
-EachRegister P [] = Unit {0}
-EachRegister P (var.Register r ∷ rest) = P r × EachRegister P rest
-EachRegister P (other ∷ rest) = EachRegister P rest
 
 -- a unit is that of a block: it has its head, and one node, since no instruction jumps, which ends it;
 -- it reads the register variables alone that instructions of the block read, and has at most five statements and

@@ -3,14 +3,16 @@
 //! Each is a handful of assignments, so a body without jumps is one node. Of the status word all bits but STA have
 //! variables.
 ghost use Rattle.std.specs.Prelude.{◌≡◌, ◌<◌, ◌+◌, ◌^◌, ◌++◌, IfOk, OnOk};
-ghost use Rattle.instruction_lowering.specs.inner.Templates.{and_joined, and_of, answer_of, behind, behind_check, behind_close, bit_of, chain_at, check_of, checked_of, cleared, close_of, edge_of, falling, first_spot, literal_of, next_rlo, not_of, one_more, open_of, or_of, read_of, reset_value, rising, rlo_before_and, rlo_before_or, rlo_set, running_chain, set_of, set_value, statements_of, store_of, xor_of};
+ghost use Rattle.instruction_lowering.specs.inner.Templates.{and_joined, answer_of, behind, behind_check, behind_close, chain_at, check_of, checked_of, close_of, edge_of, falling, first_spot, next_rlo, one_more, open_of, reset_value, rising, rlo_before_and, rlo_before_or, rlo_set, running_chain, set_value, statements_of, store_of};
+ghost use Rattle.row_templates.specs.Builders.{and_of, bit_of, cleared, literal_of, not_of, or_of, read_of, set_of, xor_of};
 
-use s7_base::{Boxed, Check, List, NoMemory, Reg, Width};
-use st_tree::{BinaryOp, Expr, StType, Stmt, UnaryOp, Var};
+use row_templates::{and, bit, literal, not, or, push_cleared, read, set, xor};
+use s7_base::{Check, List, NoMemory, Reg};
+use st_tree::{Expr, Stmt, Var};
 use status_word::Test;
 use std::alloc::Global;
 use std::collections::LinkedList;
-use stl_tree::{BitArg, Op, Operand};
+use stl_tree::{BitArg, Op};
 
 /// Where a chain of checks keeps its RLO, /FC and OR.
 #[derive(Clone, Copy)]
@@ -168,14 +170,6 @@ fn push_behind_check(steps: &mut List<Stmt>, check: Check) -> Result<(), NoMemor
     }
 }
 
-/// OR is cleared, and NFC set or not.
-fn push_cleared(steps: &mut List<Stmt>, nfc: bool) -> Result<(), NoMemory>
-    ensures { OnOk result (steps.new ≡ steps.old ++ cleared nfc) }
-{
-    steps.push(set(Reg::Orb, literal(false)))?;
-    steps.push(set(Reg::Nfc, literal(nfc)))
-}
-
 /// A bit takes a value, and the chain ends.
 fn push_store(steps: &mut List<Stmt>, bit: Var, value: Expr) -> Result<(), NoMemory>
     ensures { OnOk result (steps.new ≡ steps.old ++ store_of bit value) }
@@ -309,59 +303,4 @@ fn rlo_before_or(alloc: Global, chain: Chain) -> Result<Expr, NoMemory>
     ensures { IfOk result (λ value. value ≡ rlo_before_or chain) }
 {
     and(alloc, Expr::Read(chain.rlo), Expr::Read(chain.nfc))
-}
-
-fn bit(operand: &Operand) -> Var
-    ensures { result ≡ bit_of operand.now }
-{
-    let Operand::Direct(area, byte, bit) = *operand;
-    Var::Direct(area, byte, bit, Width::Bit)
-}
-
-fn set(register: Reg, value: Expr) -> Stmt
-    ensures { result ≡ set_of register value }
-{
-    Stmt::Assign(Var::Register(register), value)
-}
-
-fn read(register: Reg) -> Expr
-    ensures { result ≡ read_of register }
-{
-    Expr::Read(Var::Register(register))
-}
-
-fn literal(value: bool) -> Expr
-    ensures { result ≡ literal_of value }
-{
-    Expr::Literal(StType::Bool, i64::from(value))
-}
-
-fn not(alloc: Global, operand: Expr) -> Result<Expr, NoMemory>
-    ensures { IfOk result (λ value. value ≡ not_of operand) }
-{
-    Ok(Expr::Unary(UnaryOp::Not, Boxed::new(alloc, operand)?))
-}
-
-fn and(alloc: Global, left: Expr, right: Expr) -> Result<Expr, NoMemory>
-    ensures { IfOk result (λ value. value ≡ and_of left right) }
-{
-    binary(alloc, BinaryOp::And, left, right)
-}
-
-fn or(alloc: Global, left: Expr, right: Expr) -> Result<Expr, NoMemory>
-    ensures { IfOk result (λ value. value ≡ or_of left right) }
-{
-    binary(alloc, BinaryOp::Or, left, right)
-}
-
-fn xor(alloc: Global, left: Expr, right: Expr) -> Result<Expr, NoMemory>
-    ensures { IfOk result (λ value. value ≡ xor_of left right) }
-{
-    binary(alloc, BinaryOp::Xor, left, right)
-}
-
-fn binary(alloc: Global, op: BinaryOp, left: Expr, right: Expr) -> Result<Expr, NoMemory>
-    ensures { IfOk result (λ value. value ≡ Expr.Binary op left right) }
-{
-    Ok(Expr::Binary(op, Boxed::new(alloc, left)?, Boxed::new(alloc, right)?))
 }

@@ -34,7 +34,8 @@ use Rattle.st_tree.specs.declared.program.StProgram.{StProgram}
 use Rattle.st_tree.specs.declared.program.Stmt.{Stmt}
 use Rattle.st_tree.specs.declared.program.Stmt.TheVariants as stmt
 use Rattle.st_tree.proofs.Equations.{meaning_assign}
-use Rattle.instruction_lowering.specs.Lowered.{AreAssignments, AreUnitsOf, Lowered}
+use Rattle.instruction_lowering.specs.Lowered.{AreUnitsOf, Lowered}
+use Rattle.row_templates.specs.Assignments.{AreAssignments}
 use Rattle.stl_translate.specs.Same.{Same}
 use Rattle.stl_translate.specs.inner.Straight.{last_steps, straight, straight_unit}
 

@@ -8,54 +8,22 @@ use Rattle.s7_base.specs.declared.check.Check.{Check}
 use Rattle.s7_base.specs.declared.check.Check.TheVariants as check
 use Rattle.s7_base.specs.declared.register.Reg.{Reg}
 use Rattle.s7_base.specs.declared.register.Reg.TheVariants as reg
-use Rattle.s7_base.specs.declared.word.Width.TheVariants as width
 use Rattle.status_word.specs.declared.test.Test.{Test}
 use Rattle.status_word.specs.declared.test.Test.TheVariants as test
 use Rattle.stl_tree.specs.declared.program.Operand.{Operand}
-use Rattle.stl_tree.specs.declared.program.Operand.TheVariants as operand
 use Rattle.stl_tree.specs.declared.program.BitArg.{BitArg}
 use Rattle.stl_tree.specs.declared.program.BitArg.TheVariants as arg
 use Rattle.stl_tree.specs.declared.program.Op.{Op}
 use Rattle.stl_tree.specs.declared.program.Op.TheVariants as op
-use Rattle.st_tree.specs.declared.expr.StType.TheVariants as type
-use Rattle.st_tree.specs.declared.expr.UnaryOp.TheVariants as unary
-use Rattle.st_tree.specs.declared.expr.BinaryOp.TheVariants as binary
 use Rattle.st_tree.specs.declared.expr.Var.{Var}
 use Rattle.st_tree.specs.declared.expr.Var.TheVariants as var
 use Rattle.st_tree.specs.declared.expr.Expr.{Expr}
 use Rattle.st_tree.specs.declared.expr.Expr.TheVariants as expr
 use Rattle.st_tree.specs.declared.program.Stmt.{Stmt}
 use Rattle.st_tree.specs.declared.program.Stmt.TheVariants as stmt
+use Rattle.row_templates.specs.Builders.{and_of, bit_of, cleared, literal_of, not_of, or_of, read_of, set_of, xor_of}
 
 -- Expressions
-
--- a register, read
-abbrev pub read_of : Reg → Expr
-read_of r = expr.Read (var.Register r)
-
--- NOT
-abbrev pub not_of : Expr → Expr
-not_of e = expr.Unary unary.Not e
-
--- AND
-abbrev pub and_of : Expr → Expr → Expr
-and_of e f = expr.Binary binary.And e f
-
--- OR
-abbrev pub or_of : Expr → Expr → Expr
-or_of e f = expr.Binary binary.Or e f
-
--- XOR
-abbrev pub xor_of : Expr → Expr → Expr
-xor_of e f = expr.Binary binary.Xor e f
-
--- TRUE or FALSE
-abbrev pub literal_of : Bool → Expr
-literal_of b = expr.Literal type.Bool (if b then pos 1 else pos 0)
-
--- the bit of an operand, as a variable
-abbrev pub bit_of : Operand → Var
-bit_of (operand.Direct a byte bit) = var.Direct a byte bit width.Bit
 
 -- the answer to a question to the status word
 abbrev pub answer_of : Test → Expr
@@ -119,14 +87,6 @@ abbrev pub falling : Var → Expr
 falling v = and_of (not_of (read_of reg.Rlo)) (expr.Read v)
 
 -- Statements
-
--- a register takes a value
-abbrev pub set_of : Reg → Expr → Stmt
-set_of r e = stmt.Assign (var.Register r) e
-
--- OR is cleared, and NFC set or not
-abbrev pub cleared : Bool → List Stmt
-cleared nfc = set_of reg.Orb (literal_of false) ∷ set_of reg.Nfc (literal_of nfc) ∷ []
 
 -- what stands behind the RLO of a check: an AND keeps OR
 abbrev pub behind_check : Check → List Stmt

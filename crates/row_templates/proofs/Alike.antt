@@ -52,18 +52,29 @@ IsHandedOn q = Unit {0}
 abbrev pub AreAlike : (Reg → Type 0) → RegisterValues → (Reg → ℤ) → Type 0
 AreAlike asked r registers = (q : Reg) → asked q → registers q ≡ number_in r q
 
+-- the accumulators and the address registers have 32 bits, and the numbers of data blocks 16
+pub record AreInRange (r : RegisterValues) : Type 0 where
+  pub accu1 : r.accu1 < 2 ^ 32
+  pub accu2 : r.accu2 < 2 ^ 32
+  pub ar1 : r.ar1 < 2 ^ 32
+  pub ar2 : r.ar2 < 2 ^ 32
+  pub db : r.db < 2 ^ 16
+  pub di : r.di < 2 ^ 16
+
+-- they do whatever the bits of the status word are
+pub any_status : (r : RegisterValues) (bits : StatusBits) → AreInRange r → AreInRange (record r { status = bits })
+any_status r bits h = record { accu1 = h.accu1; accu2 = h.accu2; ar1 = h.ar1; ar2 = h.ar2; db = h.db; di = h.di }
+
 -- States
 
 -- a state of a program and one of its graphs, while these activations run and wait: the register variables that are
--- asked for have their numbers, the memory is the same, as many units run, and the numbers of data blocks have 16
--- bits
+-- asked for have their numbers, the memory is the same, as many units run, and each register is in its range
 pub record AreRelated (asked : Reg → Type 0) (acts : List Activation) (now : Now) (s : State) : Type 0 where
   pub registers : AreAlike asked now.registers s.registers
   pub memory : s.memory ≡ now.memory
   pub activations : now.activations ≡ acts
   pub depth : length s.activations ≡ length acts
-  pub db : now.registers.db < 2 ^ 16
-  pub di : now.registers.di < 2 ^ 16
+  pub range : AreInRange now.registers
 
 -- inside a block
 abbrev pub Related : List Activation → Now → State → Type 0
@@ -81,27 +92,33 @@ module _ (asked : Reg → Type 0) (acts : List Activation) (now : Now) (s : Stat
       → AreAlike asking (record now.registers { status = bits }) registers
       → AreRelated asking acts (record now { registers = record now.registers { status = bits } }) (record s { registers = registers })
   keep_bits asking bits registers alike =
-      record { registers = alike; memory = related.memory; activations = related.activations; depth = related.depth; db = related.db; di = related.di }
+      record { registers = alike; memory = related.memory; activations = related.activations; depth = related.depth; range = any_status now.registers bits related.range }
+
+  -- other registers, in their ranges
+  pub keep_registers : (asking : Reg → Type 0) (after : RegisterValues) (registers : Reg → ℤ) → AreAlike asking after registers → AreInRange after
+      → AreRelated asking acts (record now { registers = after }) (record s { registers = registers })
+  keep_registers asking after registers alike range =
+      record { registers = alike; memory = related.memory; activations = related.activations; depth = related.depth; range = range }
 
   pub keep_memory : (m : Contents) → AreRelated asked acts (record now { memory = m }) (record s { memory = m })
   keep_memory m =
-      record { registers = related.registers; memory = refl; activations = related.activations; depth = related.depth; db = related.db; di = related.di }
+      record { registers = related.registers; memory = refl; activations = related.activations; depth = related.depth; range = related.range }
 
   -- other open brackets, of which the related state says nothing
   pub keep_brackets : (entries : List Entry) → AreRelated asked acts (record now { brackets = entries }) s
   keep_brackets entries =
-      record { registers = related.registers; memory = related.memory; activations = related.activations; depth = related.depth; db = related.db; di = related.di }
+      record { registers = related.registers; memory = related.memory; activations = related.activations; depth = related.depth; range = related.range }
 
   -- other locals
   pub keep_activations : (running : List StActivation) → length running ≡ length s.activations → AreRelated asked acts now (record s { activations = running })
   keep_activations running e =
-      record { registers = related.registers; memory = related.memory; activations = related.activations; depth = e ∙ related.depth; db = related.db; di = related.di }
+      record { registers = related.registers; memory = related.memory; activations = related.activations; depth = e ∙ related.depth; range = related.range }
 
 -- the running activation goes on behind its instruction
 pub keep_position : (asked : Reg → Type 0) (a : Activation) (waiting : List Activation) (now : Now) (s : State) → AreRelated asked (a ∷ waiting) now s
     → AreRelated asked (record a { at = a.at + 1 } ∷ waiting) (record now { activations = going_on now.activations }) s
 keep_position asked a waiting now s related =
-    record { registers = related.registers; memory = related.memory; activations = ap going_on related.activations; depth = related.depth; db = related.db; di = related.di }
+    record { registers = related.registers; memory = related.memory; activations = ap going_on related.activations; depth = related.depth; range = related.range }
 
 -- Places
 
@@ -119,7 +136,7 @@ place_now a byte x now = record { area = area_named a now.registers.db now.regis
 -- an operand and its variable name the same place
 pub same_place : (acts : List Activation) (now : Now) (s : State) → Related acts now s → (a : AreaName) (byte x : ℕ) → place_of a byte x s ≡ place_now a byte x now
 same_place acts now s related a byte x =
-    let db : db_number s ≡ now.registers.db = ap (pattern 16) (related.registers reg.DbNo tt) ∙ number_kept now.registers.db related.db in
-    let di : di_number s ≡ now.registers.di = ap (pattern 16) (related.registers reg.DiNo tt) ∙ number_kept now.registers.di related.di in
+    let db : db_number s ≡ now.registers.db = ap (pattern 16) (related.registers reg.DbNo tt) ∙ number_kept now.registers.db related.range.db in
+    let di : di_number s ≡ now.registers.di = ap (pattern 16) (related.registers reg.DiNo tt) ∙ number_kept now.registers.di related.range.di in
     let deep : depth_of_state s ≡ depth now.activations = same_depth acts (length s.activations) related.depth ∙ sym (ap depth related.activations) in
     rw (db, di, deep) refl

@@ -19,9 +19,9 @@ use Rattle.st_tree.specs.declared.expr.Var.TheVariants as var
 use Rattle.st_tree.specs.declared.program.Located.{Located}
 use Rattle.st_tree.specs.declared.program.Stmt.{Stmt}
 use Rattle.st_tree.proofs.Equations.{assign_goes_on, value_read}
-use Rattle.instruction_lowering.specs.inner.Templates.{bit_of, cleared, literal_of, read_of, running_chain, set_of}
-use Rattle.instruction_lowering.proofs.Alike.{Related, place_now, same_place}
-use Rattle.instruction_lowering.proofs.Truths.{IsChain, literal_worth, register_worth}
+use Rattle.row_templates.specs.Builders.{bit_of, cleared, literal_of, read_of, set_of}
+use Rattle.row_templates.proofs.Alike.{Related, place_now, same_place}
+use Rattle.row_templates.proofs.Truths.{literal_worth, register_worth}
 
 set_flag : (b : Bool) → is_set (flag b) ≡ b
 set_flag true = refl
@@ -53,11 +53,6 @@ module _ (g : List Located) (acts : List Activation) (now : Now) (s : State) (re
 
   pub nfc_worth : value g (read_of reg.Nfc) s ≡ Ok (flag now.registers.status.fc)
   nfc_worth = register_worth g s reg.Nfc now.registers.status.fc refl (related.registers reg.Nfc tt)
-
-  -- the registers keep the chain
-  pub chain_runs : IsChain g s running_chain now.registers.status
-  chain_runs =
-      record { rlo = rlo_worth; nfc = nfc_worth; orb = register_worth g s reg.Orb now.registers.status.orb refl (related.registers reg.Orb tt) }
 
 -- Registers, set
 

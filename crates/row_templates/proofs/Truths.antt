@@ -1,11 +1,8 @@
 -- Truth values as expressions have them.
 use Rattle.std.proofs.Common.{◌≡◌, pos, Bool, true, false, not, ◌&&◌, ◌||◌, if◌then◌else◌, List, Ok, Err, refl, ap, ◌∙◌}
 use Rattle.memory_areas.specs.Access.{and_then}
-use Rattle.s7_base.specs.declared.check.Check.{Check}
-use Rattle.s7_base.specs.declared.check.Check.TheVariants as check
 use Rattle.s7_base.specs.declared.outcome.Fault.{Fault}
 use Rattle.s7_base.specs.declared.register.Reg.{Reg}
-use Rattle.status_word.specs.StatusBits.{StatusBits, rlo_after}
 use Rattle.st_tree.specs.Operators.{unary_value, binary_value}
 use Rattle.st_tree.specs.State.{State, type_of_register}
 use Rattle.st_tree.specs.Value.{value}
@@ -19,8 +16,7 @@ use Rattle.st_tree.specs.declared.expr.UnaryOp.TheVariants as unary
 use Rattle.st_tree.specs.declared.expr.Var.TheVariants as var
 use Rattle.st_tree.specs.declared.program.Located.{Located}
 use Rattle.st_tree.proofs.Equations.{value_binary, value_literal, value_read, value_unary}
-use Rattle.instruction_lowering.specs.declared.statements.Chain.{Chain}
-use Rattle.instruction_lowering.specs.inner.Templates.{and_joined, and_of, literal_of, next_rlo, not_of, or_of, read_of, rlo_before_and, rlo_before_or, xor_of}
+use Rattle.row_templates.specs.Builders.{and_of, literal_of, not_of, or_of, read_of, xor_of}
 
 -- Operators
 
@@ -97,72 +93,3 @@ module _ (g : List Located) (s : State) where
       value_binary g op e d s
       ∙ ap (λ r. and_then r (λ v. and_then (value g d s) (binary_value op v))) h
       ∙ ap (λ r. and_then r (binary_value op (flag a))) k
-
-  -- Checks
-
-  -- a chain keeps these bits
-  pub record IsChain (chain : Chain) (bits : StatusBits) : Type 0 where
-    pub rlo : IsWorth (expr.Read chain.rlo) bits.rlo
-    pub nfc : IsWorth (expr.Read chain.nfc) bits.fc
-    pub orb : IsWorth (expr.Read chain.orb) bits.orb
-
-  module _ (chain : Chain) (bits : StatusBits) (kept : IsChain chain bits) where
-    before_and : IsWorth (rlo_before_and chain) (bits.rlo || not bits.fc)
-    before_and = or_worth (expr.Read chain.rlo) (not_of (expr.Read chain.nfc)) bits.rlo (not bits.fc) kept.rlo (not_worth (expr.Read chain.nfc) bits.fc kept.nfc)
-
-    before_or : IsWorth (rlo_before_or chain) (bits.rlo && bits.fc)
-    before_or = and_worth (expr.Read chain.rlo) (expr.Read chain.nfc) bits.rlo bits.fc kept.rlo kept.nfc
-
-    joined : (e : Expr) (b : Bool) → IsWorth e b → IsWorth (and_joined chain e) (((bits.rlo || not bits.fc) && b) || bits.orb)
-    joined e b h =
-        or_worth (and_of (rlo_before_and chain) e) (expr.Read chain.orb) ((bits.rlo || not bits.fc) && b) bits.orb
-        (and_worth (rlo_before_and chain) e (bits.rlo || not bits.fc) b before_and h) kept.orb
-
-    or_row : (rlo fc b : Bool) → ((rlo && fc) || b) ≡ (if fc then rlo || b else b)
-    or_row true true b = refl
-    or_row true false b = refl
-    or_row false true b = refl
-    or_row false false b = refl
-
-    xor_row : (rlo fc b : Bool) → (if rlo && fc then not b else b) ≡ (if fc then (if rlo then not b else b) else b)
-    xor_row true true b = refl
-    xor_row true false b = refl
-    xor_row false true b = refl
-    xor_row false false b = refl
-
-    or_else : (e : Expr) (b : Bool) → IsWorth e b → IsWorth (or_of (rlo_before_or chain) e) (if bits.fc then bits.rlo || b else b)
-    or_else e b h =
-        or_worth (rlo_before_or chain) e (bits.rlo && bits.fc) b before_or h ∙ ap (λ x. Ok (flag x)) (or_row bits.rlo bits.fc b)
-
-    xor_else : (e : Expr) (b : Bool) → IsWorth e b → IsWorth (xor_of (rlo_before_or chain) e) (if bits.fc then (if bits.rlo then not b else b) else b)
-    xor_else e b h =
-        xor_worth (rlo_before_or chain) e (bits.rlo && bits.fc) b before_or h ∙ ap (λ x. Ok (flag x)) (xor_row bits.rlo bits.fc b)
-
-    twice : (fc rlo b : Bool) → (if fc then (if rlo then not (not b) else not b) else not b) ≡ (if fc then (if rlo then b else not b) else not b)
-    twice true true true = refl
-    twice true true false = refl
-    twice true false b = refl
-    twice false rlo b = refl
-
-    -- what the RLO becomes at a check
-    pub checked_worth : (c : Check) (e : Expr) (b : Bool) → IsWorth e b → IsWorth (next_rlo chain c e) (rlo_after c b bits)
-    checked_worth check.A e b h = joined e b h
-    checked_worth check.An e b h = joined (not_of e) (not b) (not_worth e b h)
-    checked_worth check.O e b h = or_else e b h
-    checked_worth check.On e b h = or_else (not_of e) (not b) (not_worth e b h)
-    checked_worth check.X e b h = xor_else e b h
-    checked_worth check.Xn e b h = xor_else (not_of e) (not b) (not_worth e b h) ∙ ap (λ x. Ok (flag x)) (twice bits.fc bits.rlo b)
-
-    joined_stops : (e : Expr) (f : Fault) → Stops e f → Stops (and_joined chain e) f
-    joined_stops e f h =
-        left_stops binary.Or (and_of (rlo_before_and chain) e) (expr.Read chain.orb) f
-        (right_stops binary.And (rlo_before_and chain) e (bits.rlo || not bits.fc) f before_and h)
-
-    -- it faults where what is checked does
-    pub checked_stops : (c : Check) (e : Expr) (f : Fault) → Stops e f → Stops (next_rlo chain c e) f
-    checked_stops check.A e f h = joined_stops e f h
-    checked_stops check.An e f h = joined_stops (not_of e) f (not_stops e f h)
-    checked_stops check.O e f h = right_stops binary.Or (rlo_before_or chain) e (bits.rlo && bits.fc) f before_or h
-    checked_stops check.On e f h = right_stops binary.Or (rlo_before_or chain) (not_of e) (bits.rlo && bits.fc) f before_or (not_stops e f h)
-    checked_stops check.X e f h = right_stops binary.Xor (rlo_before_or chain) e (bits.rlo && bits.fc) f before_or h
-    checked_stops check.Xn e f h = right_stops binary.Xor (rlo_before_or chain) (not_of e) (bits.rlo && bits.fc) f before_or (not_stops e f h)

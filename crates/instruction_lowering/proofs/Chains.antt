@@ -1,0 +1,103 @@
+-- Chains of checks: what the variables of a chain are worth, and the checks in it.
+use Rattle.std.proofs.Common.{◌≡◌, pos, Bool, true, false, not, ◌&&◌, ◌||◌, if◌then◌else◌, List, Ok, Err, refl, ap, ◌∙◌}
+use Rattle.memory_areas.specs.Access.{and_then}
+use Rattle.s7_base.specs.declared.check.Check.{Check}
+use Rattle.s7_base.specs.declared.check.Check.TheVariants as check
+use Rattle.s7_base.specs.declared.outcome.Fault.{Fault}
+use Rattle.s7_base.specs.declared.register.Reg.{Reg}
+use Rattle.s7_base.specs.declared.register.Reg.TheVariants as reg
+use Rattle.stl_tree.specs.Now.{Activation, Now}
+use Rattle.row_templates.proofs.Alike.{Related}
+use Rattle.row_templates.proofs.Operands.{nfc_worth, rlo_worth}
+use Rattle.row_templates.proofs.Truths.{IsWorth, Stops, and_worth, left_stops, not_stops, not_worth, or_worth, register_worth, right_stops, xor_worth}
+use Rattle.status_word.specs.StatusBits.{StatusBits, rlo_after}
+use Rattle.st_tree.specs.Operators.{unary_value, binary_value}
+use Rattle.st_tree.specs.State.{State, type_of_register}
+use Rattle.st_tree.specs.Value.{value}
+use Rattle.st_tree.specs.Values.{flag, number_of}
+use Rattle.st_tree.specs.declared.expr.BinaryOp.{BinaryOp}
+use Rattle.st_tree.specs.declared.expr.BinaryOp.TheVariants as binary
+use Rattle.st_tree.specs.declared.expr.Expr.{Expr}
+use Rattle.st_tree.specs.declared.expr.Expr.TheVariants as expr
+use Rattle.st_tree.specs.declared.expr.StType.TheVariants as type
+use Rattle.st_tree.specs.declared.expr.UnaryOp.TheVariants as unary
+use Rattle.st_tree.specs.declared.expr.Var.TheVariants as var
+use Rattle.st_tree.specs.declared.program.Located.{Located}
+use Rattle.st_tree.proofs.Equations.{value_binary, value_literal, value_read, value_unary}
+use Rattle.instruction_lowering.specs.declared.statements.Chain.{Chain}
+use Rattle.instruction_lowering.specs.inner.Templates.{and_joined, next_rlo, rlo_before_and, rlo_before_or, running_chain}
+use Rattle.row_templates.specs.Builders.{and_of, literal_of, not_of, or_of, read_of, xor_of}
+
+module _ (g : List Located) (s : State) where
+  -- a chain keeps these bits
+  pub record IsChain (chain : Chain) (bits : StatusBits) : Type 0 where
+    pub rlo : IsWorth g s (expr.Read chain.rlo) bits.rlo
+    pub nfc : IsWorth g s (expr.Read chain.nfc) bits.fc
+    pub orb : IsWorth g s (expr.Read chain.orb) bits.orb
+
+  module _ (chain : Chain) (bits : StatusBits) (kept : IsChain chain bits) where
+    before_and : IsWorth g s (rlo_before_and chain) (bits.rlo || not bits.fc)
+    before_and = or_worth g s (expr.Read chain.rlo) (not_of (expr.Read chain.nfc)) bits.rlo (not bits.fc) kept.rlo (not_worth g s (expr.Read chain.nfc) bits.fc kept.nfc)
+
+    before_or : IsWorth g s (rlo_before_or chain) (bits.rlo && bits.fc)
+    before_or = and_worth g s (expr.Read chain.rlo) (expr.Read chain.nfc) bits.rlo bits.fc kept.rlo kept.nfc
+
+    joined : (e : Expr) (b : Bool) → IsWorth g s e b → IsWorth g s (and_joined chain e) (((bits.rlo || not bits.fc) && b) || bits.orb)
+    joined e b h =
+        or_worth g s (and_of (rlo_before_and chain) e) (expr.Read chain.orb) ((bits.rlo || not bits.fc) && b) bits.orb
+        (and_worth g s (rlo_before_and chain) e (bits.rlo || not bits.fc) b before_and h) kept.orb
+
+    or_row : (rlo fc b : Bool) → ((rlo && fc) || b) ≡ (if fc then rlo || b else b)
+    or_row true true b = refl
+    or_row true false b = refl
+    or_row false true b = refl
+    or_row false false b = refl
+
+    xor_row : (rlo fc b : Bool) → (if rlo && fc then not b else b) ≡ (if fc then (if rlo then not b else b) else b)
+    xor_row true true b = refl
+    xor_row true false b = refl
+    xor_row false true b = refl
+    xor_row false false b = refl
+
+    or_else : (e : Expr) (b : Bool) → IsWorth g s e b → IsWorth g s (or_of (rlo_before_or chain) e) (if bits.fc then bits.rlo || b else b)
+    or_else e b h =
+        or_worth g s (rlo_before_or chain) e (bits.rlo && bits.fc) b before_or h ∙ ap (λ x. Ok (flag x)) (or_row bits.rlo bits.fc b)
+
+    xor_else : (e : Expr) (b : Bool) → IsWorth g s e b → IsWorth g s (xor_of (rlo_before_or chain) e) (if bits.fc then (if bits.rlo then not b else b) else b)
+    xor_else e b h =
+        xor_worth g s (rlo_before_or chain) e (bits.rlo && bits.fc) b before_or h ∙ ap (λ x. Ok (flag x)) (xor_row bits.rlo bits.fc b)
+
+    twice : (fc rlo b : Bool) → (if fc then (if rlo then not (not b) else not b) else not b) ≡ (if fc then (if rlo then b else not b) else not b)
+    twice true true true = refl
+    twice true true false = refl
+    twice true false b = refl
+    twice false rlo b = refl
+
+    -- what the RLO becomes at a check
+    pub checked_worth : (c : Check) (e : Expr) (b : Bool) → IsWorth g s e b → IsWorth g s (next_rlo chain c e) (rlo_after c b bits)
+    checked_worth check.A e b h = joined e b h
+    checked_worth check.An e b h = joined (not_of e) (not b) (not_worth g s e b h)
+    checked_worth check.O e b h = or_else e b h
+    checked_worth check.On e b h = or_else (not_of e) (not b) (not_worth g s e b h)
+    checked_worth check.X e b h = xor_else e b h
+    checked_worth check.Xn e b h = xor_else (not_of e) (not b) (not_worth g s e b h) ∙ ap (λ x. Ok (flag x)) (twice bits.fc bits.rlo b)
+
+    joined_stops : (e : Expr) (f : Fault) → Stops g s e f → Stops g s (and_joined chain e) f
+    joined_stops e f h =
+        left_stops g s binary.Or (and_of (rlo_before_and chain) e) (expr.Read chain.orb) f
+        (right_stops g s binary.And (rlo_before_and chain) e (bits.rlo || not bits.fc) f before_and h)
+
+    -- it faults where what is checked does
+    pub checked_stops : (c : Check) (e : Expr) (f : Fault) → Stops g s e f → Stops g s (next_rlo chain c e) f
+    checked_stops check.A e f h = joined_stops e f h
+    checked_stops check.An e f h = joined_stops (not_of e) f (not_stops g s e f h)
+    checked_stops check.O e f h = right_stops g s binary.Or (rlo_before_or chain) e (bits.rlo && bits.fc) f before_or h
+    checked_stops check.On e f h = right_stops g s binary.Or (rlo_before_or chain) (not_of e) (bits.rlo && bits.fc) f before_or (not_stops g s e f h)
+    checked_stops check.X e f h = right_stops g s binary.Xor (rlo_before_or chain) e (bits.rlo && bits.fc) f before_or h
+    checked_stops check.Xn e f h = right_stops g s binary.Xor (rlo_before_or chain) (not_of e) (bits.rlo && bits.fc) f before_or (not_stops g s e f h)
+
+module _ (g : List Located) (acts : List Activation) (now : Now) (s : State) (related : Related acts now s) where
+  -- the registers keep the chain
+  pub chain_runs : IsChain g s running_chain now.registers.status
+  chain_runs =
+      record { rlo = rlo_worth g acts now s related; nfc = nfc_worth g acts now s related; orb = register_worth g s reg.Orb now.registers.status.orb refl (related.registers reg.Orb tt) }

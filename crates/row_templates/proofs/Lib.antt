@@ -1,0 +1,4 @@
+pub mod Alike
+pub mod Locals
+pub mod Operands
+pub mod Truths

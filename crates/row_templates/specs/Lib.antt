@@ -1,0 +1,4 @@
+pub mod Assignments
+pub mod Builders
+pub mod Nodes
+pub mod Reading

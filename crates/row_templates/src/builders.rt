@@ -1,0 +1,136 @@
+//! Expressions and assignments.
+ghost use Rattle.std.specs.Prelude.{◌≡◌, ◌++◌, IfOk, OnOk};
+ghost use Rattle.row_templates.specs.Builders.{and_of, binary_of, bit_of, cleared, constant_of, convert_of, literal_of, local_of, not_of, or_of, read_of, select_of, set_local_of, set_of, shift_of, unary_of, variable_of, xor_of};
+
+use s7_base::{Boxed, List, NoMemory, Reg, Width};
+use st_tree::{BinaryOp, Expr, ShiftOp, StType, Stmt, UnaryOp, Var};
+use std::alloc::Global;
+use stl_tree::Operand;
+
+/// A register, read.
+pub fn read(register: Reg) -> Expr
+    ensures { result ≡ read_of register }
+{
+    Expr::Read(Var::Register(register))
+}
+
+/// A local, read.
+pub fn local(index: u32) -> Expr
+    ensures { result ≡ local_of index }
+{
+    Expr::Read(Var::Local(index))
+}
+
+/// A number of a type.
+pub fn constant(ty: StType, number: i64) -> Expr
+    ensures { result ≡ constant_of ty number }
+{
+    Expr::Literal(ty, number)
+}
+
+/// TRUE or FALSE.
+pub fn literal(value: bool) -> Expr
+    ensures { result ≡ literal_of value }
+{
+    Expr::Literal(StType::Bool, i64::from(value))
+}
+
+/// An operator or a function of one operand.
+pub fn unary(alloc: Global, op: UnaryOp, operand: Expr) -> Result<Expr, NoMemory>
+    ensures { IfOk result (λ value. value ≡ unary_of op operand) }
+{
+    Ok(Expr::Unary(op, Boxed::new(alloc, operand)?))
+}
+
+pub fn not(alloc: Global, operand: Expr) -> Result<Expr, NoMemory>
+    ensures { IfOk result (λ value. value ≡ not_of operand) }
+{
+    unary(alloc, UnaryOp::Not, operand)
+}
+
+/// An operator between two operands.
+pub fn binary(alloc: Global, op: BinaryOp, left: Expr, right: Expr) -> Result<Expr, NoMemory>
+    ensures { IfOk result (λ value. value ≡ binary_of op left right) }
+{
+    Ok(Expr::Binary(op, Boxed::new(alloc, left)?, Boxed::new(alloc, right)?))
+}
+
+pub fn and(alloc: Global, left: Expr, right: Expr) -> Result<Expr, NoMemory>
+    ensures { IfOk result (λ value. value ≡ and_of left right) }
+{
+    binary(alloc, BinaryOp::And, left, right)
+}
+
+pub fn or(alloc: Global, left: Expr, right: Expr) -> Result<Expr, NoMemory>
+    ensures { IfOk result (λ value. value ≡ or_of left right) }
+{
+    binary(alloc, BinaryOp::Or, left, right)
+}
+
+pub fn xor(alloc: Global, left: Expr, right: Expr) -> Result<Expr, NoMemory>
+    ensures { IfOk result (λ value. value ≡ xor_of left right) }
+{
+    binary(alloc, BinaryOp::Xor, left, right)
+}
+
+/// A conversion from a type to another.
+pub fn convert(alloc: Global, from: StType, to: StType, operand: Expr) -> Result<Expr, NoMemory>
+    ensures { IfOk result (λ value. value ≡ convert_of from to operand) }
+{
+    Ok(Expr::Convert(from, to, Boxed::new(alloc, operand)?))
+}
+
+/// SEL: the second of the two where the gate is TRUE.
+pub fn select(alloc: Global, gate: Expr, first: Expr, second: Expr) -> Result<Expr, NoMemory>
+    ensures { IfOk result (λ value. value ≡ select_of gate first second) }
+{
+    Ok(Expr::Select(
+        Boxed::new(alloc, gate)?,
+        Boxed::new(alloc, first)?,
+        Boxed::new(alloc, second)?,
+    ))
+}
+
+/// A shift or a rotation by a count.
+pub fn shift(alloc: Global, op: ShiftOp, operand: Expr, count: Expr) -> Result<Expr, NoMemory>
+    ensures { IfOk result (λ value. value ≡ shift_of op operand count) }
+{
+    Ok(Expr::Shift(op, Boxed::new(alloc, operand)?, Boxed::new(alloc, count)?))
+}
+
+/// An operand as a variable of a width.
+pub fn variable(operand: &Operand, width: Width) -> Var
+    ensures { result ≡ variable_of operand.now width }
+{
+    let Operand::Direct(area, byte, bit) = *operand;
+    Var::Direct(area, byte, bit, width)
+}
+
+/// The bit of an operand, as a variable.
+pub fn bit(operand: &Operand) -> Var
+    ensures { result ≡ bit_of operand.now }
+{
+    variable(operand, Width::Bit)
+}
+
+/// A register takes a value.
+pub fn set(register: Reg, value: Expr) -> Stmt
+    ensures { result ≡ set_of register value }
+{
+    Stmt::Assign(Var::Register(register), value)
+}
+
+/// A local takes a value.
+pub fn set_local(index: u32, value: Expr) -> Stmt
+    ensures { result ≡ set_local_of index value }
+{
+    Stmt::Assign(Var::Local(index), value)
+}
+
+/// OR is cleared, and NFC set or not.
+pub fn push_cleared(steps: &mut List<Stmt>, nfc: bool) -> Result<(), NoMemory>
+    ensures { OnOk result (steps.new ≡ steps.old ++ cleared nfc) }
+{
+    steps.push(set(Reg::Orb, literal(false)))?;
+    steps.push(set(Reg::Nfc, literal(nfc)))
+}

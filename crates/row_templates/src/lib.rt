@@ -1,0 +1,13 @@
+//! What the statements of instructions are made of, and what is known of their parts.
+//!
+//! Stands on `stl_tree` and `st_tree`. The code makes expressions and assignments. The proofs, which the crates cite
+//! that write the statements of instructions, say how the states of both runs are related, what expressions are worth
+//! in them, and what the statements of an instruction owe (`DoesRow`); `Example` has two rows as they are to be proved.
+#![tactic(auto)]
+
+pub use builders::{
+    and, binary, bit, constant, convert, literal, local, not, or, push_cleared, read, select, set,
+    set_local, shift, unary, variable, xor,
+};
+
+mod builders;
