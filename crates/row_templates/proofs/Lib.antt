@@ -1,4 +1,10 @@
 pub mod Alike
+pub mod DoesRow
+pub mod Example
 pub mod Locals
+pub mod Numbers
 pub mod Operands
+pub mod RegisterRows
+pub mod Stages
 pub mod Truths
+pub mod Typing

@@ -1,0 +1,132 @@
+-- Two rows as they are to be proved: TAK, and +I.
+use Rattle.std.proofs.Common.{ℕ, ◌+◌, ◌*◌, ◌/◌, ◌%◌, ◌^◌, ◌<◌, pos, ◌||◌, ◌≤◌, List, [], ◌∷◌, length, refl, arith}
+use Rattle.std.specs.Prelude.{ℤ, ◌+ℤ◌, int_lt}
+use Rattle.s7_base.specs.SignedNumbers.{is_over, number, pattern, wrapped}
+use Rattle.s7_base.specs.declared.register.Reg.{Reg}
+use Rattle.s7_base.specs.declared.register.Reg.TheVariants as reg
+use Rattle.stl_tree.specs.Now.{Activation, Now, next}
+use Rattle.stl_tree.specs.Registers.{RegisterValues}
+use Rattle.st_tree.specs.Meaning.{Calls, body_meaning}
+use Rattle.st_tree.specs.State.{State}
+use Rattle.st_tree.specs.Values.{flag}
+use Rattle.st_tree.specs.declared.state.Value.{Value}
+use Rattle.st_tree.specs.declared.expr.BinaryOp.TheVariants as binary
+use Rattle.st_tree.specs.declared.expr.Expr.{Expr}
+use Rattle.st_tree.specs.declared.expr.StType.TheVariants as type
+use Rattle.st_tree.specs.declared.program.Located.{Located}
+use Rattle.st_tree.specs.declared.program.Stmt.{Stmt}
+use Rattle.row_templates.specs.Builders.{and_of, binary_of, constant_of, convert_of, local_of, or_of, read_of, set_local_of, set_of}
+use Rattle.row_templates.proofs.Alike.{AreAlike, AreInRange, IsKept, Related}
+use Rattle.row_templates.proofs.DoesRow.{DoesRow}
+use Rattle.row_templates.proofs.Locals.{own_of}
+use Rattle.row_templates.proofs.Numbers.{or_numbers, over_word, pattern_below, put_low, same_pattern, wide_low, wide_sum}
+use Rattle.row_templates.proofs.RegisterRows.{IsRow, registers_after, row_does}
+use Rattle.row_templates.proofs.Stages.{known, parts}
+
+-- The rows, which stand in stl_tree
+
+-- TAK
+abbrev swapped : RegisterValues → RegisterValues
+swapped r = record r { accu1 = r.accu2; accu2 = r.accu1 }
+
+-- the sum of the low words
+abbrev sum : RegisterValues → ℤ
+sum r = number 16 (r.accu2 % 2 ^ 16) +ℤ number 16 (r.accu1 % 2 ^ 16)
+
+-- +I
+abbrev added : RegisterValues → RegisterValues
+added r =
+    record r {
+      accu1 = r.accu1 / 2 ^ 16 * 2 ^ 16 + pattern 16 (sum r);
+      status = record r.status {
+        cc1 = int_lt (pos 0) (wrapped 16 (sum r));
+        cc0 = int_lt (wrapped 16 (sum r)) (pos 0);
+        ov = is_over 16 (sum r);
+        os = r.status.os || is_over 16 (sum r);
+      };
+    }
+
+-- Their statements, which stand in the specs of the crate that makes them
+
+abbrev tak_of : ℕ → List Stmt
+tak_of used = set_local_of used (read_of reg.Accu1) ∷ set_of reg.Accu1 (read_of reg.Accu2) ∷ set_of reg.Accu2 (local_of used) ∷ []
+
+-- the low word of an accumulator as a number of 32 bits
+abbrev wide_of : Reg → Expr
+wide_of r = convert_of type.Int type.Dint (convert_of type.Dword type.Int (read_of r))
+
+abbrev add_of : ℕ → List Stmt
+add_of used =
+    set_local_of used (binary_of binary.Add (wide_of reg.Accu2) (wide_of reg.Accu1))
+    ∷ set_local_of (used + 1) (convert_of type.Dint type.Int (local_of used))
+    ∷ set_of reg.Cc1 (binary_of binary.Gt (local_of (used + 1)) (constant_of type.Int (pos 0)))
+    ∷ set_of reg.Cc0 (binary_of binary.Lt (local_of (used + 1)) (constant_of type.Int (pos 0)))
+    ∷ set_of reg.Ov (binary_of binary.Ne (convert_of type.Int type.Dint (local_of (used + 1))) (local_of used))
+    ∷ set_of reg.Os (or_of (read_of reg.Os) (read_of reg.Ov))
+    ∷ set_of reg.Accu1
+    (or_of (and_of (read_of reg.Accu1) (constant_of type.Dword (pos 4294901760)))
+    (convert_of type.Word type.Dword (convert_of type.Int type.Word (local_of (used + 1)))))
+    ∷ []
+
+-- What they do: the values of the right sides, in order, and that the registers are those of the row
+
+abbrev tak_values : RegisterValues → List Value
+tak_values r =
+    record { ty = type.Dword; n = pos r.accu1 } ∷ record { ty = type.Dword; n = pos r.accu2 } ∷ record { ty = type.Dword; n = pos r.accu1 } ∷ []
+
+abbrev add_values : RegisterValues → List Value
+add_values r =
+    record { ty = type.Dint; n = sum r }
+    ∷ record { ty = type.Int; n = wrapped 16 (sum r) }
+    ∷ flag (added r).status.cc1
+    ∷ flag (added r).status.cc0
+    ∷ flag (added r).status.ov
+    ∷ flag (added r).status.os
+    ∷ record { ty = type.Dword; n = pos (added r).accu1 }
+    ∷ []
+
+module _ (g : List Located) (s : State) (used : ℕ) (r : RegisterValues) (sta : ℤ) (range : AreInRange r) where
+  tak_alike : AreAlike IsKept (swapped r) (registers_after (tak_of used) (tak_values r) (known r sta))
+  tak_alike reg.Sta asked = elim asked [ ]
+  tak_alike q asked = refl
+
+  pub tak_row : IsRow g s used (tak_of used) r (swapped r) sta
+  tak_row =
+      record {
+        values = tak_values r;
+        have = (refl, simp parts, (simp parts, (simp parts, tt)));
+        alike = tak_alike;
+        range = record { accu1 = range.accu2; accu2 = range.accu1; ar1 = range.ar1; ar2 = range.ar2; db = range.db; di = range.di };
+      }
+
+  add_alike : AreAlike IsKept (added r) (registers_after (add_of used) (add_values r) (known r sta))
+  add_alike reg.Sta asked = elim asked [ ]
+  add_alike q asked = refl
+
+  pub add_row : IsRow g s used (add_of used) r (added r) sta
+  add_row =
+      let a : r.accu1 < 2 ^ 32 = range.accu1 in
+      let w : pattern 16 (sum r) < 2 ^ 16 = pattern_below (sum r) in
+      record {
+        values = add_values r;
+        have = (
+          refl,
+          simp (parts, wide_low, wide_sum),
+          (refl, simp parts, (simp parts, (simp parts, (simp (parts, over_word), (simp (parts, or_numbers), (simp (parts, same_pattern, put_low), tt)))))),
+        );
+        alike = add_alike;
+        range = record { accu1 = omega arith; accu2 = range.accu2; ar1 = range.ar1; ar2 = range.ar2; db = range.db; di = range.di };
+      }
+
+-- so they do the rows, in related states that have room for their locals
+
+module _ (g : List Located) (calls : Calls) (units : ℕ) (acts : List Activation) (now : Now) (s : State) (related : Related acts now s) (used : ℕ) where
+  pub tak_does : used + 1 ≤ length (own_of s.activations)
+      → DoesRow (body_meaning g calls (tak_of used) units s) units used acts s now.memory (next (record now { registers = swapped now.registers }))
+  tak_does room =
+      row_does g s used calls units (tak_of used) acts now (swapped now.registers) related (tak_row g s used now.registers (s.registers reg.Sta) related.range) room
+
+  pub add_does : used + 2 ≤ length (own_of s.activations)
+      → DoesRow (body_meaning g calls (add_of used) units s) units used acts s now.memory (next (record now { registers = added now.registers }))
+  add_does room =
+      row_does g s used calls units (add_of used) acts now (added now.registers) related (add_row g s used now.registers (s.registers reg.Sta) related.range) room

@@ -1,0 +1,124 @@
+-- Rows that work on registers alone: their statements set fresh locals, one after another, and then registers.
+use Rattle.std.proofs.Common.{◌≡◌, ℕ, suc, ◌+◌, ◌<◌, ◌≤◌, List, [], ◌∷◌, ◌++◌, length, Ok, refl, sym, ap, ◌∙◌, arith}
+use Rattle.std.specs.Prelude.{ℤ}
+use Rattle.s7_base.specs.declared.register.Reg.{Reg}
+use Rattle.s7_base.specs.declared.register.Reg.TheVariants as reg
+use Rattle.stl_tree.specs.Now.{Activation, Now, next}
+use Rattle.stl_tree.specs.Registers.{RegisterValues}
+use Rattle.st_tree.specs.Meaning.{Calls, Normal, body_meaning}
+use Rattle.st_tree.specs.State.{State, with_register}
+use Rattle.st_tree.specs.Value.{value}
+use Rattle.st_tree.specs.declared.state.Value.{Value}
+use Rattle.st_tree.specs.declared.expr.Expr.{Expr}
+use Rattle.st_tree.specs.declared.expr.Var.TheVariants as var
+use Rattle.st_tree.specs.declared.program.Located.{Located}
+use Rattle.st_tree.specs.declared.program.Stmt.{Stmt}
+use Rattle.st_tree.specs.declared.program.Stmt.TheVariants as stmt
+use Rattle.st_tree.proofs.Equations.{assign_goes_on}
+use Rattle.row_templates.proofs.Alike.{AreAlike, AreInRange, IsKept, Related}
+use Rattle.row_templates.proofs.DoesRow.{DoesRow, Leads}
+use Rattle.row_templates.proofs.Locals.{own_of}
+use Rattle.row_templates.proofs.Stages.{known, stage, stage_begins, stage_below, stage_depth, stage_keeps, stage_memory, stage_own_length, stage_registers, stage_sets}
+
+-- the position of the next local
+abbrev pub next_local : ℕ → List Value → ℕ
+next_local used [] = used
+next_local used (v ∷ kept) = used + suc (length kept)
+
+-- how many locals some statements set
+abbrev pub locals_set : List Stmt → ℕ
+locals_set [] = 0
+locals_set (stmt.Assign (var.Local i) e ∷ rest) = suc (locals_set rest)
+locals_set (x ∷ rest) = locals_set rest
+
+-- the registers after some statements, of whose right sides these are the values
+abbrev pub registers_after : List Stmt → List Value → (Reg → ℤ) → Reg → ℤ
+registers_after [] values registers = registers
+registers_after (x ∷ rest) [] registers = registers
+registers_after (stmt.Assign (var.Register r) e ∷ rest) (v ∷ values) registers = registers_after rest values (with_register r v.n registers)
+registers_after (x ∷ rest) (v ∷ values) registers = registers_after rest values registers
+
+module _ (g : List Located) (s : State) (used : ℕ) where
+  -- each right side has its value, where the statements before it have been done: a local is the next one
+  abbrev pub HaveValues : List Stmt → List Value → List Value → (Reg → ℤ) → Type 0
+  HaveValues [] [] kept registers = Unit {0}
+  HaveValues [] (v ∷ values) kept registers = ⊥
+  HaveValues (x ∷ rest) [] kept registers = ⊥
+  HaveValues (stmt.Assign (var.Local i) e ∷ rest) (v ∷ values) kept registers =
+      (i ≡ next_local used kept) × (value g e (stage s used kept registers) ≡ Ok v) × HaveValues rest values (kept ++ v ∷ []) registers
+  HaveValues (stmt.Assign (var.Register r) e ∷ rest) (v ∷ values) kept registers =
+      (value g e (stage s used kept registers) ≡ Ok v) × HaveValues rest values kept (with_register r v.n registers)
+  HaveValues (x ∷ rest) (v ∷ values) kept registers = ⊥
+
+  -- what a row on registers owes: values of its right sides, which make of the registers r those after it, each in
+  -- its range, whatever number STA holds
+  pub record IsRow (body : List Stmt) (r after : RegisterValues) (sta : ℤ) : Type 0 where
+    pub values : List Value
+    pub have : HaveValues body values [] (known r sta)
+    pub alike : AreAlike IsKept after (registers_after body values (known r sta))
+    pub range : AreInRange after
+
+  position : (kept : List Value) → next_local used kept ≡ used + length kept
+  position [] = omega arith
+  position (v ∷ kept) = refl
+
+  module _ (calls : Calls) (units : ℕ) where
+    abbrev own : List Value
+    own = own_of s.activations
+
+    -- where they end
+    record Ended (body : List Stmt) (kept : List Value) (registers after : Reg → ℤ) : Type 0 where
+      all : List Value
+      goes : body_meaning g calls body units (stage s used kept registers) ≡ Normal units (stage s used all after)
+      few : used + length all ≤ length own
+
+    one_more : (kept : List Value) (v : Value) → length (kept ++ v ∷ []) ≡ suc (length kept)
+    one_more [] v = refl
+    one_more (k ∷ kept) v = ap suc (one_more kept v)
+
+    ends : (body : List Stmt) (values kept : List Value) (registers : Reg → ℤ) → HaveValues body values kept registers
+        → used + length kept + locals_set body ≤ length own → Ended body kept registers (registers_after body values registers)
+    ends [] [] kept registers h room = record { all = kept; goes = refl; few = omega arith }
+    ends [] (v ∷ values) kept registers h room = elim h [ ]
+    ends (x ∷ rest) [] kept registers h room = elim h [ ]
+    ends (stmt.Assign (var.Local i) e ∷ rest) (v ∷ values) kept registers h room =
+        let at : i ≡ used + length kept = h.0 ∙ position kept in
+        let more : length (kept ++ v ∷ []) ≡ suc (length kept) = one_more kept v in
+        let others = ends rest values (kept ++ v ∷ []) registers h.2 (omega arith) in
+        record {
+          all = others.all;
+          goes = assign_goes_on g calls (var.Local i) e rest units (stage s used kept registers) (stage s used (kept ++ v ∷ []) registers) v h.1
+              (stage_keeps s used kept registers g i v at (omega arith)) ∙ others.goes;
+          few = others.few;
+        }
+    ends (stmt.Assign (var.Register r) e ∷ rest) (v ∷ values) kept registers h room =
+        let others = ends rest values kept (with_register r v.n registers) h.1 room in
+        record {
+          all = others.all;
+          goes = assign_goes_on g calls (var.Register r) e rest units (stage s used kept registers) (stage s used kept (with_register r v.n registers)) v h.0
+              (stage_sets s used kept registers g r v) ∙ others.goes;
+          few = others.few;
+        }
+    ends (x ∷ rest) (v ∷ values) kept registers h room = elim h [ ]
+
+    -- they do the row
+    pub row_does : (body : List Stmt) (acts : List Activation) (now : Now) (after : RegisterValues) → Related acts now s
+        → IsRow body now.registers after (s.registers reg.Sta) → used + locals_set body ≤ length own
+        → DoesRow (body_meaning g calls body units s) units used acts s now.memory (next (record now { registers = after }))
+    row_does body acts now after related row room =
+        let begins : s ≡ stage s used [] (known now.registers (s.registers reg.Sta)) = stage_begins s used now.registers related.registers (omega arith) in
+        let e = ends body row.values [] (known now.registers (s.registers reg.Sta)) row.have (omega arith) in
+        let f : Reg → ℤ = registers_after body row.values (known now.registers (s.registers reg.Sta)) in
+        record {
+          to = stage s used e.all f;
+          goes = ap (body_meaning g calls body units) begins ∙ e.goes;
+          related = record {
+            registers = λ q asked. ap (λ (h : Reg → ℤ). h q) (stage_registers s used e.all f) ∙ row.alike q asked;
+            memory = stage_memory s used e.all f ∙ related.memory;
+            activations = related.activations;
+            depth = stage_depth s used e.all f e.few ∙ related.depth;
+            range = row.range;
+          };
+          as_many = stage_own_length s used e.all f e.few;
+          below = λ i h. stage_below s used e.all f i h (omega arith);
+        }
