@@ -1,0 +1,4 @@
+pub mod Patterns
+pub mod Worths
+pub mod AccumulatorRows
+pub mod MoveRows
