@@ -3,6 +3,7 @@ use Rattle.std.proofs.Common.{◌≡◌, ℕ, ◌+◌, ◌-◌, ◌*◌, ◌/◌
 use Rattle.std.specs.Prelude.{ℤ, ◌+ℤ◌, ◌-ℤ◌, bit_and, bit_or}
 use Rattle.std.proofs.lemmas.Int.{ints}
 use Rattle.std.proofs.lemmas.Nat.{or_shifted}
+use Rattle.std.specs.Int.Bits.{or_shifted_r}
 use Rattle.std.proofs.lemmas.Nat.Bits.{and_high_mask}
 use Rattle.s7_base.specs.SignedNumbers.{number, pattern}
 
@@ -16,6 +17,26 @@ put_byte a w h k =
     let m : a / 2 ^ 8 * 2 ^ 8 % 2 ^ 32 % 2 ^ 32 ≡ a / 2 ^ 8 * 2 ^ 8 = omega arith in
     let n : (a / 2 ^ 8 * 2 ^ 8 + w) % 2 ^ 32 ≡ a / 2 ^ 8 * 2 ^ 8 + w = omega arith in
     rw (e, high, f, m, or_shifted (a / 2 ^ 8) 8 w k) n
+
+-- two patterns that have no bit in common
+or_fits : (n : ℕ) → n < 2 ^ 32 → n % 2 ^ 32 ≡ n
+or_fits n h = omega arith
+
+left_fits : (m w : ℕ) → m + w < 2 ^ 32 → m % 2 ^ 32 ≡ m
+left_fits m w h = omega arith
+
+right_fits : (m w : ℕ) → m + w < 2 ^ 32 → w % 2 ^ 32 ≡ w
+right_fits m w h = omega arith
+
+pub or_high : (x k w : ℕ) → w < 2 ^ k → x * 2 ^ k + w < 2 ^ 32
+    → pattern 32 (pos (bit_or (pattern 32 (pos (x * 2 ^ k))) (pattern 32 (pos w)))) ≡ x * 2 ^ k + w
+or_high x k w h small =
+    rw (left_fits (x * 2 ^ k) w small, right_fits (x * 2 ^ k) w small, or_shifted x k w h) (or_fits (x * 2 ^ k + w) small)
+
+pub or_low : (x k w : ℕ) → w < 2 ^ k → x * 2 ^ k + w < 2 ^ 32
+    → pattern 32 (pos (bit_or (pattern 32 (pos w)) (pattern 32 (pos (x * 2 ^ k))))) ≡ x * 2 ^ k + w
+or_low x k w h small =
+    rw (left_fits (x * 2 ^ k) w small, right_fits (x * 2 ^ k) w small, or_shifted_r x k w h) (or_fits (x * 2 ^ k + w) small)
 
 pub pattern_below_8 : (z : ℤ) → pattern 8 z < 2 ^ 8
 pattern_below_8 (pos n) = omega arith

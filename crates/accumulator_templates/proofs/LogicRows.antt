@@ -1,0 +1,1 @@
+-- Word logic does its rows.

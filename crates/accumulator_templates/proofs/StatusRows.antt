@@ -1,0 +1,1 @@
+-- L STW and T STW do their rows.
