@@ -69,3 +69,7 @@ nothing_added_8 a = grind (arith, ints)
 
 pub nothing_taken_8 : (a : ℕ) → a / 2 ^ 8 * 2 ^ 8 + pattern 8 (number 8 (a % 2 ^ 8) -ℤ pos 0) ≡ a
 nothing_taken_8 a = grind (arith, ints)
+
+-- all of an accumulator is replaced
+pub whole_replaced : (a p : ℕ) → a < 2 ^ 32 → a / 2 ^ 32 * 2 ^ 32 + p ≡ p
+whole_replaced a p h = omega arith

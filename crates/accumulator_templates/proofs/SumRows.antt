@@ -17,7 +17,7 @@ use Rattle.st_tree.specs.declared.program.Located.{Located}
 use Rattle.accumulator_templates.specs.Parts.{with_byte_of, with_low_of}
 use Rattle.accumulator_templates.specs.Sums.{add_dword_of, add_word_of, dec_of, inc_of, sum_of, unless_zero}
 use Rattle.accumulator_templates.proofs.AccumulatorRows.{one_set, one_stays, with_accu1}
-use Rattle.accumulator_templates.proofs.Patterns.{byte_difference, byte_sum, nothing_added_16, nothing_added_32, nothing_added_8, nothing_taken_8, pattern_below_32, pattern_below_8, same_pattern_32}
+use Rattle.accumulator_templates.proofs.Patterns.{byte_difference, byte_sum, nothing_added_16, nothing_added_32, nothing_added_8, nothing_taken_8, pattern_below_32, pattern_below_8, same_pattern_32, whole_replaced}
 use Rattle.accumulator_templates.proofs.Worths.{byte, byte_worth, dword, low_worth, word}
 use Rattle.row_templates.specs.Builders.{set_of}
 use Rattle.row_templates.proofs.Alike.{AreInRange}
@@ -27,10 +27,6 @@ use Rattle.row_templates.proofs.Stages.{known, parts, stage}
 
 is_zero : (n : ℤ) → int_eq n (pos 0) ≡ true → n ≡ pos 0
 is_zero n e = grind (arith, ints)
-
--- all of ACCU1 is replaced
-whole_replaced : (a p : ℕ) → a < 2 ^ 32 → a / 2 ^ 32 * 2 ^ 32 + p ≡ p
-whole_replaced a p h = omega arith
 
 module _ (g : List Located) (s : State) (used : ℕ) (r : RegisterValues) (sta : ℤ) (range : AreInRange r) where
   -- ACCU1 takes a value but for a constant 0, which leaves it
