@@ -1,5 +1,5 @@
 -- Two rows as they are to be proved: TAK, and +I.
-use Rattle.std.proofs.Common.{ℕ, ◌+◌, ◌*◌, ◌/◌, ◌%◌, ◌^◌, ◌<◌, pos, ◌||◌, ◌≤◌, List, [], ◌∷◌, length, refl, arith}
+use Rattle.std.proofs.Common.{ℕ, ◌+◌, ◌*◌, ◌/◌, ◌%◌, ◌^◌, ◌<◌, pos, ◌||◌, ◌≤◌, List, [], ◌∷◌, ◌++◌, ◌≡◌, length, Some, inl, inr, refl, subst, arith}
 use Rattle.std.specs.Prelude.{ℤ, ◌+ℤ◌, int_lt}
 use Rattle.s7_base.specs.SignedNumbers.{is_over, number, pattern, wrapped}
 use Rattle.s7_base.specs.declared.register.Reg.{Reg}
@@ -7,21 +7,27 @@ use Rattle.s7_base.specs.declared.register.Reg.TheVariants as reg
 use Rattle.stl_tree.specs.Now.{Activation, Now, next}
 use Rattle.stl_tree.specs.Registers.{RegisterValues}
 use Rattle.st_tree.specs.Meaning.{Calls, body_meaning}
-use Rattle.st_tree.specs.State.{State}
+use Rattle.st_tree.specs.State.{State, type_of_register}
+use Rattle.st_tree.specs.WellTyped.{Sight, variable_type}
 use Rattle.st_tree.specs.Values.{flag}
 use Rattle.st_tree.specs.declared.state.Value.{Value}
 use Rattle.st_tree.specs.declared.expr.BinaryOp.TheVariants as binary
 use Rattle.st_tree.specs.declared.expr.Expr.{Expr}
 use Rattle.st_tree.specs.declared.expr.StType.TheVariants as type
+use Rattle.st_tree.specs.declared.expr.Var.TheVariants as var
 use Rattle.st_tree.specs.declared.program.Located.{Located}
 use Rattle.st_tree.specs.declared.program.Stmt.{Stmt}
 use Rattle.row_templates.specs.Builders.{and_of, binary_of, constant_of, convert_of, local_of, or_of, read_of, set_local_of, set_of}
+use Rattle.row_templates.specs.Nodes.{nodes_in}
 use Rattle.row_templates.proofs.Alike.{AreAlike, AreInRange, IsKept, Related}
 use Rattle.row_templates.proofs.DoesRow.{DoesRow}
 use Rattle.row_templates.proofs.Locals.{own_of}
 use Rattle.row_templates.proofs.Numbers.{or_numbers, over_word, pattern_below, put_low, same_pattern, wide_low, wide_sum}
+use Rattle.row_templates.proofs.ReadRegisters.{AllRead, Has, variables_read}
 use Rattle.row_templates.proofs.RegisterRows.{IsRow, registers_after, row_does}
+use Rattle.row_templates.proofs.Sizes.{counts}
 use Rattle.row_templates.proofs.Stages.{known, parts}
+use Rattle.row_templates.proofs.Typing.{IsOf, IsPlainBody, binary_is, constant_is, convert_is, local_is, local_plain, or_is, register_is, set_plain}
 
 -- The rows, which stand in stl_tree
 
@@ -46,7 +52,8 @@ added r =
       };
     }
 
--- Their statements, which stand in the specs of the crate that makes them
+-- Their statements, which stand in the specs of the crate that makes them; they read no register that the row does
+-- not read, as OV
 
 abbrev tak_of : ℕ → List Stmt
 tak_of used = set_local_of used (read_of reg.Accu1) ∷ set_of reg.Accu1 (read_of reg.Accu2) ∷ set_of reg.Accu2 (local_of used) ∷ []
@@ -59,10 +66,11 @@ abbrev add_of : ℕ → List Stmt
 add_of used =
     set_local_of used (binary_of binary.Add (wide_of reg.Accu2) (wide_of reg.Accu1))
     ∷ set_local_of (used + 1) (convert_of type.Dint type.Int (local_of used))
+    ∷ set_local_of (used + 2) (binary_of binary.Ne (convert_of type.Int type.Dint (local_of (used + 1))) (local_of used))
     ∷ set_of reg.Cc1 (binary_of binary.Gt (local_of (used + 1)) (constant_of type.Int (pos 0)))
     ∷ set_of reg.Cc0 (binary_of binary.Lt (local_of (used + 1)) (constant_of type.Int (pos 0)))
-    ∷ set_of reg.Ov (binary_of binary.Ne (convert_of type.Int type.Dint (local_of (used + 1))) (local_of used))
-    ∷ set_of reg.Os (or_of (read_of reg.Os) (read_of reg.Ov))
+    ∷ set_of reg.Ov (local_of (used + 2))
+    ∷ set_of reg.Os (or_of (read_of reg.Os) (local_of (used + 2)))
     ∷ set_of reg.Accu1
     (or_of (and_of (read_of reg.Accu1) (constant_of type.Dword (pos 4294901760)))
     (convert_of type.Word type.Dword (convert_of type.Int type.Word (local_of (used + 1)))))
@@ -78,6 +86,7 @@ abbrev add_values : RegisterValues → List Value
 add_values r =
     record { ty = type.Dint; n = sum r }
     ∷ record { ty = type.Int; n = wrapped 16 (sum r) }
+    ∷ flag (is_over 16 (sum r))
     ∷ flag (added r).status.cc1
     ∷ flag (added r).status.cc0
     ∷ flag (added r).status.ov
@@ -112,7 +121,7 @@ module _ (g : List Located) (s : State) (used : ℕ) (r : RegisterValues) (sta :
         have = (
           refl,
           simp (parts, wide_low, wide_sum),
-          (refl, simp parts, (simp parts, (simp parts, (simp (parts, over_word), (simp (parts, or_numbers), (simp (parts, same_pattern, put_low), tt)))))),
+          (refl, simp parts, (refl, simp (parts, over_word), (simp parts, (simp parts, (simp parts, (simp (parts, or_numbers), (simp (parts, same_pattern, put_low), tt))))))),
         );
         alike = add_alike;
         range = record { accu1 = omega arith; accu2 = range.accu2; ar1 = range.ar1; ar2 = range.ar2; db = range.db; di = range.di };
@@ -126,7 +135,52 @@ module _ (g : List Located) (calls : Calls) (units : ℕ) (acts : List Activatio
   tak_does room =
       row_does g s used calls units (tak_of used) acts now (swapped now.registers) related (tak_row g s used now.registers (s.registers reg.Sta) related.range) room
 
-  pub add_does : used + 2 ≤ length (own_of s.activations)
+  pub add_does : used + 3 ≤ length (own_of s.activations)
       → DoesRow (body_meaning g calls (add_of used) units s) units used acts s now.memory (next (record now { registers = added now.registers }))
   add_does room =
       row_does g s used calls units (add_of used) acts now (added now.registers) related (add_row g s used now.registers (s.registers reg.Sta) related.range) room
+
+-- They are well typed, for locals of these types, and few: statements, nodes and registers that they read
+
+module _ (sight : Sight) (used : ℕ) (rest : List Stmt) (plain : IsPlainBody sight rest) where
+  pub tak_plain : variable_type sight (var.Local used) ≡ Some type.Dword → IsPlainBody sight (tak_of used ++ rest)
+  tak_plain first =
+      local_plain sight _ _ _ (omega arith) first (register_is sight reg.Accu1)
+      (set_plain sight _ _ _ (omega arith) (register_is sight reg.Accu2)
+      (set_plain sight _ _ _ (omega arith) (local_is sight first) plain))
+
+  wide_is : (r : Reg) → type_of_register r ≡ type.Dword → IsOf sight type.Dint 3 (wide_of r)
+  wide_is r e =
+      convert_is sight refl (convert_is sight refl (subst (λ ty. IsOf sight ty 1 (read_of r)) e (register_is sight r)))
+
+  pub add_plain : variable_type sight (var.Local used) ≡ Some type.Dint → variable_type sight (var.Local (used + 1)) ≡ Some type.Int
+      → variable_type sight (var.Local (used + 2)) ≡ Some type.Bool → IsPlainBody sight (add_of used ++ rest)
+  add_plain first second third =
+      local_plain sight _ _ _ (omega arith) first (binary_is sight binary.Add refl (wide_is reg.Accu2 refl) (wide_is reg.Accu1 refl))
+      (local_plain sight _ _ _ (omega arith) second (convert_is sight refl (local_is sight first))
+      (local_plain sight _ _ _ (omega arith) third (binary_is sight binary.Ne refl (convert_is sight refl (local_is sight second)) (local_is sight first))
+      (set_plain sight _ _ _ (omega arith) (binary_is sight binary.Gt refl (local_is sight second) (constant_is sight refl))
+      (set_plain sight _ _ _ (omega arith) (binary_is sight binary.Lt refl (local_is sight second) (constant_is sight refl))
+      (set_plain sight _ _ _ (omega arith) (local_is sight third)
+      (set_plain sight _ _ _ (omega arith) (or_is sight (register_is sight reg.Os) (local_is sight third))
+      (set_plain sight _ _ _ (omega arith)
+      (binary_is sight binary.Or refl (binary_is sight binary.And refl (register_is sight reg.Accu1) (constant_is sight refl))
+      (convert_is sight refl (convert_is sight refl (local_is sight second))))
+      plain)))))))
+
+pub tak_nodes : (used : ℕ) → nodes_in (tak_of used) ≡ 3
+tak_nodes used = simp counts
+
+pub add_nodes : (used : ℕ) → nodes_in (add_of used) ≡ 30
+add_nodes used = simp counts
+
+-- P is what holds of the registers that the instruction reads by its row
+pub tak_reads : (P : Reg → Type 0) (used : ℕ) (rest : List Stmt) → Has P (reg.Accu1 ∷ reg.Accu2 ∷ []) → AllRead P rest → AllRead P (tak_of used ++ rest)
+tak_reads P used rest h k = simp variables_read (h reg.Accu1 (inl refl), (h reg.Accu2 (inr (inl refl)), k))
+
+pub add_reads : (P : Reg → Type 0) (used : ℕ) (rest : List Stmt) → Has P (reg.Accu1 ∷ reg.Accu2 ∷ reg.Os ∷ []) → AllRead P rest
+    → AllRead P (add_of used ++ rest)
+add_reads P used rest h k =
+    let one : P reg.Accu1 = h reg.Accu1 (inl refl) in
+    let two : P reg.Accu2 = h reg.Accu2 (inr (inl refl)) in
+    simp variables_read (two, (one, (h reg.Os (inr (inr (inl refl))), (one, k))))

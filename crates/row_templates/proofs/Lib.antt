@@ -2,9 +2,12 @@ pub mod Alike
 pub mod DoesRow
 pub mod Example
 pub mod Locals
+pub mod MemoryRows
 pub mod Numbers
 pub mod Operands
+pub mod ReadRegisters
 pub mod RegisterRows
+pub mod Sizes
 pub mod Stages
 pub mod Truths
 pub mod Typing
