@@ -1,0 +1,130 @@
+-- ITD, INVI, INVD, CAW and CAD do their rows.
+use Rattle.std.proofs.Common.{◌≡◌, ℕ, ◌+◌, ◌-◌, ◌*◌, ◌/◌, ◌%◌, ◌^◌, ◌<◌, List, [], Ok, refl, sym, ap, ◌∙◌, arith}
+use Rattle.std.specs.Prelude.{ℤ}
+use Rattle.s7_base.specs.SignedNumbers.{number, pattern}
+use Rattle.s7_base.specs.declared.register.Reg.TheVariants as reg
+use Rattle.s7_base.specs.declared.word.Width.TheVariants as width
+use Rattle.stl_tree.specs.Conversions.{dword_reversed, extended, inverted, word_reversed}
+use Rattle.stl_tree.specs.Registers.{RegisterValues}
+use Rattle.st_tree.specs.State.{State}
+use Rattle.st_tree.specs.Value.{value}
+use Rattle.st_tree.specs.declared.expr.Expr.{Expr}
+use Rattle.st_tree.specs.declared.expr.ShiftOp.TheVariants as shift
+use Rattle.st_tree.specs.declared.expr.StType.TheVariants as type
+use Rattle.st_tree.specs.declared.program.Located.{Located}
+use Rattle.accumulator_templates.specs.Conversions.{byte_above_of, cad_of, caw_of, invd_of, invi_of, itd_of, low_byte_of, reversed_value, shifted_of}
+use Rattle.accumulator_templates.specs.Parts.{cut_of, with_low_of}
+use Rattle.accumulator_templates.proofs.AccumulatorRows.{one_set}
+use Rattle.accumulator_templates.proofs.Patterns.{pattern_below_32}
+use Rattle.accumulator_templates.proofs.Worths.{dword, high_first, low_worth, word}
+use Rattle.row_templates.specs.Builders.{convert_of, not_of, or_of, read_of}
+use Rattle.row_templates.proofs.Alike.{AreInRange}
+use Rattle.row_templates.proofs.RegisterRows.{IsRow}
+use Rattle.row_templates.proofs.Stages.{known, parts, stage}
+
+-- Facts
+
+inverted_word : (a : ℕ) → (65535 - a % 65536 % 65536) % 65536 ≡ 65535 - a % 65536
+inverted_word a = omega arith
+
+inverted_dword : (a : ℕ) → a < 2 ^ 32 → (4294967295 - a % 4294967296) % 4294967296 ≡ a / 4294967296 * 4294967296 + (4294967295 - a % 4294967296)
+inverted_dword a h = omega arith
+
+turned_word : (a : ℕ) → (a % 65536 % 65536 * 256 % 65536 + a % 65536 % 65536 * 256 / 65536) % 65536 ≡ a % 256 * 256 + a / 256 % 256
+turned_word a = omega arith
+
+lowest_byte : (a : ℕ) → a % 256 % 4294967296 % 4294967296 * 16777216 % 4294967296 % 4294967296 ≡ a % 256 * 16777216
+lowest_byte a = omega arith
+
+second_byte : (a : ℕ) → a < 2 ^ 32 → a % 4294967296 / 256 % 4294967296 % 256 % 4294967296 % 4294967296 * 65536 % 4294967296 % 4294967296 ≡ a / 256 % 256 * 65536
+second_byte a h = omega arith
+
+third_byte : (a : ℕ) → a < 2 ^ 32 → a % 4294967296 / 65536 % 4294967296 % 256 % 4294967296 % 4294967296 * 256 % 4294967296 % 4294967296 ≡ a / 65536 % 256 * 256
+third_byte a h = omega arith
+
+highest_byte : (a : ℕ) → a < 2 ^ 32 → a % 4294967296 / 16777216 % 4294967296 % 256 % 4294967296 ≡ a / 16777216 % 256
+highest_byte a h = omega arith
+
+module _ (g : List Located) (s : State) (used : ℕ) (r : RegisterValues) (sta : ℤ) (range : AreInRange r) where
+  -- the state before the row
+  abbrev before : State
+  before = stage s used [] (known r sta)
+
+  pub itd_row : IsRow g s used itd_of r (extended r) sta
+  itd_row =
+      one_set g s used r sta range (convert_of type.Int type.Dword (convert_of type.Dword type.Int (read_of reg.Accu1)))
+      (pattern 32 (number 16 (r.accu1 % 2 ^ 16))) (pattern_below_32 (number 16 (r.accu1 % 2 ^ 16))) (simp parts)
+
+  -- ACCU1 takes another low word
+  low_set : (e : Expr) (w : ℕ) → w < 2 ^ 16 → value g e before ≡ Ok (word w) → value g (with_low_of e) before ≡ Ok (dword (r.accu1 / 2 ^ 16 * 2 ^ 16 + w))
+  low_set e w h worth = low_worth g s used [] (known r sta) r.accu1 refl range.accu1 e w h worth
+
+  invi_worth : value g (not_of (cut_of width.Word (read_of reg.Accu1))) before ≡ Ok (word (2 ^ 16 - 1 - r.accu1 % 2 ^ 16))
+  invi_worth = simp (parts, inverted_word)
+
+  pub invi_row : IsRow g s used invi_of r (inverted width.Word r) sta
+  invi_row =
+      let a : r.accu1 < 2 ^ 32 = range.accu1 in
+      let w : 2 ^ 16 - 1 - r.accu1 % 2 ^ 16 < 2 ^ 16 = omega arith in
+      one_set g s used r sta range (with_low_of (not_of (cut_of width.Word (read_of reg.Accu1)))) (inverted width.Word r).accu1 (omega arith)
+      (low_set (not_of (cut_of width.Word (read_of reg.Accu1))) (2 ^ 16 - 1 - r.accu1 % 2 ^ 16) w invi_worth)
+
+  pub invd_row : IsRow g s used invd_of r (inverted width.Dword r) sta
+  invd_row =
+      let a : r.accu1 < 2 ^ 32 = range.accu1 in
+      one_set g s used r sta range (not_of (read_of reg.Accu1)) (inverted width.Dword r).accu1 (omega arith) (simp (parts, inverted_dword))
+
+  -- the bytes of the low word, in reverse order
+  abbrev turned : ℕ
+  turned = r.accu1 % 2 ^ 8 * 2 ^ 8 + r.accu1 / 2 ^ 8 % 2 ^ 8
+
+  caw_worth : value g (shifted_of shift.Rol (cut_of width.Word (read_of reg.Accu1)) 8) before ≡ Ok (word turned)
+  caw_worth = simp (parts, turned_word)
+
+  pub caw_row : IsRow g s used caw_of r (word_reversed r) sta
+  caw_row =
+      let a : r.accu1 < 2 ^ 32 = range.accu1 in
+      let w : turned < 2 ^ 16 = omega arith in
+      one_set g s used r sta range (with_low_of (shifted_of shift.Rol (cut_of width.Word (read_of reg.Accu1)) 8)) (word_reversed r).accu1 (omega arith)
+      (low_set (shifted_of shift.Rol (cut_of width.Word (read_of reg.Accu1)) 8) turned w caw_worth)
+
+  -- CAD, byte by byte
+
+  first : value g (shifted_of shift.Shl (low_byte_of (read_of reg.Accu1)) 24) before ≡ Ok (dword (r.accu1 % 2 ^ 8 * 2 ^ 24))
+  first = simp (parts, lowest_byte)
+
+  second : value g (shifted_of shift.Shl (byte_above_of 8) 16) before ≡ Ok (dword (r.accu1 / 2 ^ 8 % 2 ^ 8 * 2 ^ 16))
+  second = let a : r.accu1 < 2 ^ 32 = range.accu1 in simp (parts, second_byte)
+
+  third : value g (shifted_of shift.Shl (byte_above_of 16) 8) before ≡ Ok (dword (r.accu1 / 2 ^ 16 % 2 ^ 8 * 2 ^ 8))
+  third = let a : r.accu1 < 2 ^ 32 = range.accu1 in simp (parts, third_byte)
+
+  fourth : value g (byte_above_of 24) before ≡ Ok (dword (r.accu1 / 2 ^ 24 % 2 ^ 8))
+  fourth = let a : r.accu1 < 2 ^ 32 = range.accu1 in simp (parts, highest_byte)
+
+  two_bytes : value g (or_of (shifted_of shift.Shl (low_byte_of (read_of reg.Accu1)) 24) (shifted_of shift.Shl (byte_above_of 8) 16)) before
+      ≡ Ok (dword ((r.accu1 % 2 ^ 8 * 2 ^ 8 + r.accu1 / 2 ^ 8 % 2 ^ 8) * 2 ^ 16))
+  two_bytes =
+      let same : r.accu1 % 2 ^ 8 * 2 ^ 24 + r.accu1 / 2 ^ 8 % 2 ^ 8 * 2 ^ 16 ≡ (r.accu1 % 2 ^ 8 * 2 ^ 8 + r.accu1 / 2 ^ 8 % 2 ^ 8) * 2 ^ 16 = omega arith in
+      high_first g before (shifted_of shift.Shl (low_byte_of (read_of reg.Accu1)) 24) (shifted_of shift.Shl (byte_above_of 8) 16)
+      (r.accu1 % 2 ^ 8) 24 (r.accu1 / 2 ^ 8 % 2 ^ 8 * 2 ^ 16) (omega arith) (omega arith) first second
+      ∙ ap (λ (n : ℕ). Ok (dword n)) same
+
+  three_bytes : value g (or_of (or_of (shifted_of shift.Shl (low_byte_of (read_of reg.Accu1)) 24) (shifted_of shift.Shl (byte_above_of 8) 16)) (shifted_of shift.Shl (byte_above_of 16) 8)) before
+      ≡ Ok (dword (((r.accu1 % 2 ^ 8 * 2 ^ 8 + r.accu1 / 2 ^ 8 % 2 ^ 8) * 2 ^ 8 + r.accu1 / 2 ^ 16 % 2 ^ 8) * 2 ^ 8))
+  three_bytes =
+      let high : ℕ = r.accu1 % 2 ^ 8 * 2 ^ 8 + r.accu1 / 2 ^ 8 % 2 ^ 8 in
+      let same : high * 2 ^ 16 + r.accu1 / 2 ^ 16 % 2 ^ 8 * 2 ^ 8 ≡ (high * 2 ^ 8 + r.accu1 / 2 ^ 16 % 2 ^ 8) * 2 ^ 8 = omega arith in
+      high_first g before (or_of (shifted_of shift.Shl (low_byte_of (read_of reg.Accu1)) 24) (shifted_of shift.Shl (byte_above_of 8) 16)) (shifted_of shift.Shl (byte_above_of 16) 8)
+      high 16 (r.accu1 / 2 ^ 16 % 2 ^ 8 * 2 ^ 8) (omega arith) (omega arith) two_bytes third
+      ∙ ap (λ (n : ℕ). Ok (dword n)) same
+
+  pub cad_row : IsRow g s used cad_of r (dword_reversed r) sta
+  cad_row =
+      let a : r.accu1 < 2 ^ 32 = range.accu1 in
+      let high : ℕ = (r.accu1 % 2 ^ 8 * 2 ^ 8 + r.accu1 / 2 ^ 8 % 2 ^ 8) * 2 ^ 8 + r.accu1 / 2 ^ 16 % 2 ^ 8 in
+      let same : high * 2 ^ 8 + r.accu1 / 2 ^ 24 % 2 ^ 8 ≡ (dword_reversed r).accu1 = omega arith in
+      one_set g s used r sta range reversed_value (dword_reversed r).accu1 (omega arith)
+      (high_first g before (or_of (or_of (shifted_of shift.Shl (low_byte_of (read_of reg.Accu1)) 24) (shifted_of shift.Shl (byte_above_of 8) 16)) (shifted_of shift.Shl (byte_above_of 16) 8)) (byte_above_of 24)
+      high 8 (r.accu1 / 2 ^ 24 % 2 ^ 8) (omega arith) (omega arith) three_bytes fourth
+      ∙ ap (λ (n : ℕ). Ok (dword n)) same)

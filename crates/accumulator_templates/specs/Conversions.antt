@@ -1,0 +1,52 @@
+-- What works on ACCU1 alone and is no matter of digits: the sign extended, bits inverted, bytes in reverse order.
+use Rattle.std.specs.Prelude.{ℕ, pos, List, [], ◌∷◌}
+use Rattle.accumulator_templates.specs.Parts.{cut_of, extended_of, with_low_of}
+use Rattle.row_templates.specs.Builders.{constant_of, convert_of, not_of, or_of, read_of, set_of, shift_of}
+use Rattle.s7_base.specs.declared.register.Reg.TheVariants as reg
+use Rattle.s7_base.specs.declared.word.Width.TheVariants as width
+use Rattle.st_tree.specs.declared.expr.Expr.{Expr}
+use Rattle.st_tree.specs.declared.expr.ShiftOp.{ShiftOp}
+use Rattle.st_tree.specs.declared.expr.ShiftOp.TheVariants as shift
+use Rattle.st_tree.specs.declared.expr.StType.TheVariants as type
+use Rattle.st_tree.specs.declared.program.Stmt.{Stmt}
+
+-- a shift or a rotation by a constant
+abbrev pub shifted_of : ShiftOp → Expr → ℕ → Expr
+shifted_of op e n = shift_of op e (constant_of type.Int (pos n))
+
+-- ITD
+abbrev pub itd_of : List Stmt
+itd_of = set_of reg.Accu1 (convert_of type.Int type.Dword (convert_of type.Dword type.Int (read_of reg.Accu1))) ∷ []
+
+-- INVI
+abbrev pub invi_of : List Stmt
+invi_of = set_of reg.Accu1 (with_low_of (not_of (cut_of width.Word (read_of reg.Accu1)))) ∷ []
+
+-- INVD
+abbrev pub invd_of : List Stmt
+invd_of = set_of reg.Accu1 (not_of (read_of reg.Accu1)) ∷ []
+
+-- CAW
+abbrev pub caw_of : List Stmt
+caw_of = set_of reg.Accu1 (with_low_of (shifted_of shift.Rol (cut_of width.Word (read_of reg.Accu1)) 8)) ∷ []
+
+-- the lowest byte of a DWORD, as a DWORD
+abbrev pub low_byte_of : Expr → Expr
+low_byte_of e = extended_of width.Byte (cut_of width.Byte e)
+
+-- the byte of ACCU1 above so many bits, as a DWORD
+abbrev pub byte_above_of : ℕ → Expr
+byte_above_of n = low_byte_of (shifted_of shift.Shr (read_of reg.Accu1) n)
+
+-- the bytes of ACCU1 in reverse order
+abbrev pub reversed_value : Expr
+reversed_value =
+    or_of
+    (or_of
+    (or_of (shifted_of shift.Shl (low_byte_of (read_of reg.Accu1)) 24) (shifted_of shift.Shl (byte_above_of 8) 16))
+    (shifted_of shift.Shl (byte_above_of 16) 8))
+    (byte_above_of 24)
+
+-- CAD
+abbrev pub cad_of : List Stmt
+cad_of = set_of reg.Accu1 reversed_value ∷ []

@@ -1,0 +1,5 @@
+pub mod Parts
+pub mod Moves
+pub mod Sums
+pub mod Logic
+pub mod Conversions

@@ -1,0 +1,21 @@
+//! The statements of the instructions that load, store and move, add constants, combine bits and convert.
+//!
+//! Stands on `row_templates`. Each function puts the statements of one row behind some steps, as the definition of
+//! that row has them. What takes locals is told the number of the first free one, and has a function for their types.
+//! The proofs say of each row that its statements do what the row does, read only what it reads, and are small,
+//! well typed and low.
+#![tactic(auto)]
+
+pub use conversions::{push_cad, push_caw, push_invd, push_invi, push_itd};
+pub use logic::{push_logic, types_of_logic};
+pub use moves::{
+    push_exchange, push_load, push_pop, push_push, push_status_load, push_status_store,
+    push_transfer, types_of_exchange,
+};
+pub use sums::{push_add_dword, push_add_word, push_dec, push_inc};
+
+mod conversions;
+mod logic;
+mod moves;
+mod parts;
+mod sums;

@@ -1,0 +1,92 @@
+//! A constant added to a part of ACCU1, or taken from it. A constant 0 reads nothing, so that ACCU1 may be unset there.
+ghost use Rattle.std.specs.Prelude.{◌≡◌, ◌++◌, IfOk, OnOk};
+ghost use Rattle.accumulator_templates.specs.Sums.{add_dword_of, add_word_of, dec_of, inc_of, sum_of};
+
+use crate::parts::{with_byte, with_low};
+use row_templates::{binary, constant, convert, read, set};
+use s7_base::{List, NoMemory, Reg};
+use st_tree::{BinaryOp, Expr, StType, Stmt};
+use std::alloc::Global;
+
+/// ACCU1 as a number of a type, with a constant, as a pattern of another type.
+fn sum(
+    alloc: Global,
+    op: BinaryOp,
+    number: StType,
+    pattern: StType,
+    constant_number: i64,
+) -> Result<Expr, NoMemory>
+    ensures { IfOk result (λ value. value ≡ sum_of op number pattern constant_number) }
+{
+    let part = convert(alloc, StType::Dword, number, read(Reg::Accu1))?;
+    let sum = binary(alloc, op, part, constant(number, constant_number))?;
+    convert(alloc, number, pattern, sum)
+}
+
+/// `+ n`.
+pub fn push_add_word(alloc: Global, steps: &mut List<Stmt>, number: i16) -> Result<(), NoMemory>
+    ensures { OnOk result (steps.new ≡ steps.old ++ add_word_of number) }
+{
+    if number == 0 {
+        return Ok(());
+    }
+    let sum = sum(
+        alloc,
+        BinaryOp::Add,
+        StType::Int,
+        StType::Word,
+        i64::from(number),
+    )?;
+    steps.push(set(Reg::Accu1, with_low(alloc, sum)?))
+}
+
+/// `+ L#n`.
+pub fn push_add_dword(alloc: Global, steps: &mut List<Stmt>, number: i32) -> Result<(), NoMemory>
+    ensures { OnOk result (steps.new ≡ steps.old ++ add_dword_of number) }
+{
+    if number == 0 {
+        return Ok(());
+    }
+    let sum = sum(
+        alloc,
+        BinaryOp::Add,
+        StType::Dint,
+        StType::Dword,
+        i64::from(number),
+    )?;
+    steps.push(set(Reg::Accu1, sum))
+}
+
+/// `INC`.
+pub fn push_inc(alloc: Global, steps: &mut List<Stmt>, number: u8) -> Result<(), NoMemory>
+    ensures { OnOk result (steps.new ≡ steps.old ++ inc_of number) }
+{
+    if number == 0 {
+        return Ok(());
+    }
+    let sum = sum(
+        alloc,
+        BinaryOp::Add,
+        StType::Int,
+        StType::Byte,
+        i64::from(number),
+    )?;
+    steps.push(set(Reg::Accu1, with_byte(alloc, sum)?))
+}
+
+/// `DEC`.
+pub fn push_dec(alloc: Global, steps: &mut List<Stmt>, number: u8) -> Result<(), NoMemory>
+    ensures { OnOk result (steps.new ≡ steps.old ++ dec_of number) }
+{
+    if number == 0 {
+        return Ok(());
+    }
+    let sum = sum(
+        alloc,
+        BinaryOp::Sub,
+        StType::Int,
+        StType::Byte,
+        i64::from(number),
+    )?;
+    steps.push(set(Reg::Accu1, with_byte(alloc, sum)?))
+}
