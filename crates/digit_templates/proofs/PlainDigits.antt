@@ -1,5 +1,5 @@
 -- The statements of the conversions are well typed, for locals of their types, and few; and which registers they read.
-use Rattle.std.proofs.Common.{◌≡◌, ℕ, ◌+◌, ◌^◌, ◌<◌, ◌≤◌, max, pos, true, List, ◌++◌, Some, inl, inr, refl, ap, ◌∙◌, arith}
+use Rattle.std.proofs.Common.{◌≡◌, ℕ, ◌+◌, ◌^◌, ◌<◌, ◌≤◌, max, pos, true, List, ◌++◌, length, Some, inl, inr, refl, ap, ◌∙◌, arith}
 use Rattle.std.specs.Prelude.{ℤ}
 use Rattle.std.specs.Ordering.{int_eq}
 use Rattle.std.proofs.lemmas.Int.{ints}
@@ -133,6 +133,18 @@ itb_nodes used = simp counts
 
 pub dtb_nodes : (used : ℕ) → nodes_in (dtb_of used) ≡ 80
 dtb_nodes used = simp counts
+
+pub bti_statements : (used : ℕ) → length (bti_of used) ≡ 2
+bti_statements used = refl
+
+pub btd_statements : (used : ℕ) → length (btd_of used) ≡ 2
+btd_statements used = refl
+
+pub itb_statements : (used : ℕ) → length (itb_of used) ≡ 7
+itb_statements used = refl
+
+pub dtb_statements : (used : ℕ) → length (dtb_of used) ≡ 7
+dtb_statements used = refl
 
 -- Registers that are read: P is what holds of those that the instruction reads by its row
 
