@@ -3,5 +3,8 @@ pub mod CarryRows
 pub mod ConstantRows
 pub mod Expressions
 pub mod Patterns
+pub mod PlainShifts
+pub mod ReadByShifts
 pub mod ShiftRows
+pub mod ShiftSizes
 pub mod StepKinds
