@@ -6,3 +6,6 @@ pub mod SumRows
 pub mod ConversionRows
 pub mod LogicRows
 pub mod StatusRows
+pub mod ReadNumbers
+pub mod LoadRows
+pub mod TransferRows

@@ -1,10 +1,12 @@
 -- Facts on numbers and patterns that the rows need.
-use Rattle.std.proofs.Common.{◌≡◌, ℕ, ◌+◌, ◌-◌, ◌*◌, ◌/◌, ◌%◌, ◌^◌, ◌<◌, pos, negsuc, refl, arith}
+use Rattle.std.proofs.Common.{◌≡◌, ℕ, zero, suc, ◌+◌, ◌-◌, ◌*◌, ◌/◌, ◌%◌, ◌^◌, ◌<◌, ◌==◌, pos, negsuc, false, not, refl, arith}
 use Rattle.std.specs.Prelude.{ℤ, ◌+ℤ◌, ◌-ℤ◌, bit_and, bit_or}
 use Rattle.std.proofs.lemmas.Int.{ints}
-use Rattle.std.proofs.lemmas.Nat.{or_shifted}
+use Rattle.std.proofs.lemmas.Nat.{or_shifted, pow_pos}
+use Rattle.std.specs.Int.{bit_at}
 use Rattle.std.specs.Int.Bits.{or_shifted_r}
-use Rattle.std.proofs.lemmas.Nat.Bits.{and_high_mask}
+use Rattle.std.specs.Ordering.{int_eq}
+use Rattle.std.proofs.lemmas.Nat.Bits.{and_high_mask, and_pow, bit_at-lt}
 use Rattle.s7_base.specs.SignedNumbers.{number, pattern}
 
 -- a low byte put under the bytes above it
@@ -73,3 +75,19 @@ nothing_taken_8 a = grind (arith, ints)
 -- all of an accumulator is replaced
 pub whole_replaced : (a p : ℕ) → a < 2 ^ 32 → a / 2 ^ 32 * 2 ^ 32 + p ≡ p
 whole_replaced a p h = omega arith
+
+-- a bit is tested by a mask
+
+tested : (b p : ℕ) → b < 2 → 0 < p → p < 2 ^ 32 → not (int_eq (pos (b * p % 2 ^ 32)) (pos 0)) ≡ (b == 1)
+tested zero p h one small = let e : 0 * p % 2 ^ 32 ≡ 0 = omega arith in rw e refl
+tested (suc zero) p h one small =
+    let e : 1 * p % 2 ^ 32 ≡ p = omega arith in
+    let f : int_eq (pos p) (pos 0) ≡ false = grind (arith, ints) in
+    rw (e, f) refl
+tested (suc (suc n)) p h one small = absurd (omega arith)
+
+pub tested_bit : (a k : ℕ) → a < 2 ^ 32 → 2 ^ k < 2 ^ 32 → not (int_eq (pos (bit_and (a % 2 ^ 32) (2 ^ k % 2 ^ 32) % 2 ^ 32)) (pos 0)) ≡ (bit_at a k == 1)
+tested_bit a k h small =
+    let e : a % 2 ^ 32 ≡ a = omega arith in
+    let f : 2 ^ k % 2 ^ 32 ≡ 2 ^ k = omega arith in
+    rw (e, f, and_pow a k) (tested (bit_at a k) (2 ^ k) (bit_at-lt a k) (pow_pos k) small)

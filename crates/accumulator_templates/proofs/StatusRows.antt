@@ -4,8 +4,6 @@ use Rattle.std.specs.Prelude.{ℤ, bit_and}
 use Rattle.std.specs.Int.{bit_at, from_bool}
 use Rattle.std.specs.Ordering.{int_eq}
 use Rattle.std.proofs.lemmas.Int.{ints}
-use Rattle.std.proofs.lemmas.Nat.{pow_pos}
-use Rattle.std.proofs.lemmas.Nat.Bits.{and_pow, bit_at-lt}
 use Rattle.s7_base.specs.declared.register.Reg.{Reg}
 use Rattle.s7_base.specs.declared.register.Reg.TheVariants as reg
 use Rattle.status_word.specs.Flags.{bits_of, has_bit, word_of}
@@ -21,6 +19,7 @@ use Rattle.st_tree.specs.declared.program.Located.{Located}
 use Rattle.accumulator_templates.specs.Moves.{status_load_of, status_store_of, status_value, with_flag_of}
 use Rattle.accumulator_templates.specs.Parts.{any_bit_of, bits_where_of}
 use Rattle.accumulator_templates.proofs.AccumulatorRows.{pushed_registers, taken}
+use Rattle.accumulator_templates.proofs.Patterns.{tested_bit}
 use Rattle.accumulator_templates.proofs.Worths.{dword, low_first}
 use Rattle.row_templates.specs.Builders.{read_of}
 use Rattle.row_templates.proofs.Alike.{AreAlike, AreInRange, IsKept}
@@ -33,21 +32,6 @@ use Rattle.row_templates.proofs.Stages.{known, parts, stage}
 masked : (b : Bool) (m : ℕ) → (if not (int_eq (number_of b) (pos 0)) then pos m else pos 0) ≡ pos (from_bool b * m)
 masked true m = let e : m ≡ 1 * m = omega arith in ap pos e
 masked false m = let e : 0 ≡ 0 * m = omega arith in ap pos e
-
--- a bit is tested by a mask
-tested : (b p : ℕ) → b < 2 → 0 < p → p < 2 ^ 32 → not (int_eq (pos (b * p % 2 ^ 32)) (pos 0)) ≡ (b == 1)
-tested zero p h one small = let e : 0 * p % 2 ^ 32 ≡ 0 = omega arith in rw e refl
-tested (suc zero) p h one small =
-    let e : 1 * p % 2 ^ 32 ≡ p = omega arith in
-    let f : int_eq (pos p) (pos 0) ≡ false = grind (arith, ints) in
-    rw (e, f) refl
-tested (suc (suc n)) p h one small = absurd (omega arith)
-
-tested_bit : (a k : ℕ) → a < 2 ^ 32 → 2 ^ k < 2 ^ 32 → not (int_eq (pos (bit_and (a % 2 ^ 32) (2 ^ k % 2 ^ 32) % 2 ^ 32)) (pos 0)) ≡ (bit_at a k == 1)
-tested_bit a k h small =
-    let e : a % 2 ^ 32 ≡ a = omega arith in
-    let f : 2 ^ k % 2 ^ 32 ≡ 2 ^ k = omega arith in
-    rw (e, f, and_pow a k) (tested (bit_at a k) (2 ^ k) (bit_at-lt a k) (pow_pos k) small)
 
 truth : (b : Bool) → from_bool b < 2
 truth true = omega arith
