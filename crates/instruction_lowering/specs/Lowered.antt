@@ -26,23 +26,20 @@ use Rattle.st_tree.specs.declared.program.Local.{Local}
 use Rattle.st_tree.specs.declared.program.Pou.{Pou}
 use Rattle.st_tree.specs.declared.program.Stmt.{Stmt}
 use Rattle.st_tree.specs.declared.program.Stmt.TheVariants as stmt
+use Rattle.instruction_lowering.specs.Temporaries.{AreTemporaries, types_in}
 use Rattle.row_templates.specs.Assignments.{AreAssignments}
 use Rattle.row_templates.specs.Nodes.{nodes_in}
 use Rattle.row_templates.specs.Reading.{EachRegister, IsAmong}
 
 -- Units
 
--- temporaries of a unit: they are of type BOOL, and their names are T and a number, from this one on, as T1, T2
-abbrev pub AreTemporaries : ℕ → List Local → Type 0
-AreTemporaries n [] = Unit {0}
-AreTemporaries n (local ∷ rest) = (local.name ≡ codes "T" ++ decimal n) × (local.ty ≡ type.Bool) × AreTemporaries (suc n) rest
-
--- the head of a block's unit: a program with the name of the block, whose locals are temporaries
-pub record IsHeadOf (called : BlockName) (head : Pou) : Type 0 where
+-- the head of a block's unit: a program with the name of the block, whose locals are the temporaries of its
+-- instructions
+pub record IsHeadOf (block : Block) (head : Pou) : Type 0 where
   pub program : head.program ≡ true
-  pub name : head.name ≡ called_name called
+  pub name : head.name ≡ called_name block.name
   pub formals : head.formals ≡ []
-  pub locals : AreTemporaries 1 head.locals
+  pub locals : AreTemporaries 1 (types_in block.body) head.locals
   pub body : head.body ≡ []
 
 -- Reads
@@ -53,18 +50,18 @@ IsRead [] r = ⊥
 IsRead (i ∷ rest) r = IsAmong r (reads_of i.op) ⊎ IsRead rest r
 
 -- a unit is that of a block: it has its head, and one node, since no instruction jumps, which ends it;
--- it reads the register variables alone that instructions of the block read, and has at most five statements and
--- fourteen nodes of expressions for each of them
+-- it reads the register variables alone that instructions of the block read, and has at most eleven statements
+-- and 91 nodes of expressions for each of them
 pub record IsUnitOf (block : Block) (unit : GraphPou) : Type 0 where
-  pub head : IsHeadOf block.name unit.head
+  pub head : IsHeadOf block unit.head
   pub node : StNode
   pub nodes : unit.graph.nodes ≡ node ∷ []
   pub exit : node.exit ≡ exit.End
   pub only_end : node.only_end ≡ length block.body == 1
   pub steps : AreAssignments node.steps
   pub reads : EachRegister (IsRead block.body) (reads_in node.steps)
-  pub few : length node.steps ≤ 5 * length block.body
-  pub small : nodes_in node.steps ≤ 14 * length block.body
+  pub few : length node.steps ≤ 11 * length block.body
+  pub small : nodes_in node.steps ≤ 91 * length block.body
 
 -- there is a unit for each block, in the same order
 abbrev pub AreUnitsOf : List Block → List GraphPou → Type 0
