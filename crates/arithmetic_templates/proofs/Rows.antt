@@ -1,0 +1,84 @@
+-- Each row: from related states that have room for its locals, its statements do what it does.
+use Rattle.std.proofs.Common.{◌≡◌, ℕ, ◌+◌, ◌≤◌, List, length, refl, arith}
+use Rattle.s7_base.specs.declared.register.Reg.TheVariants as reg
+use Rattle.s7_base.specs.declared.word.Width.{Width}
+use Rattle.s7_base.specs.declared.word.Width.TheVariants as width
+use Rattle.status_word.specs.declared.test.Test.{Test}
+use Rattle.stl_tree.specs.Accepted.{IsComparison}
+use Rattle.stl_tree.specs.Arithmetic.{calculated, compared, negated}
+use Rattle.stl_tree.specs.Instructions.{effect_of}
+use Rattle.stl_tree.specs.Now.{Activation, Now, next}
+use Rattle.stl_tree.specs.Registers.{RegisterValues}
+use Rattle.stl_tree.specs.declared.accumulator.Arith.{Arith}
+use Rattle.stl_tree.specs.declared.accumulator.Arith.TheVariants as row
+use Rattle.stl_tree.specs.declared.program.Op.TheVariants as op
+use Rattle.st_tree.specs.Meaning.{Calls, body_meaning}
+use Rattle.st_tree.specs.State.{State}
+use Rattle.st_tree.specs.declared.program.Located.{Located}
+use Rattle.st_tree.specs.declared.program.Stmt.{Stmt}
+use Rattle.row_templates.proofs.Alike.{AreInRange, Related}
+use Rattle.row_templates.proofs.DoesRow.{DoesRow}
+use Rattle.row_templates.proofs.Locals.{own_of}
+use Rattle.row_templates.proofs.RegisterRows.{IsRow, locals_set, row_does}
+use Rattle.arithmetic_templates.specs.Calculations.{calculated_of, divisor_kept_of, negated_of, quotient_in_dword_of, quotient_in_words_of, remainder_in_dword_of, types_of_calculated, types_of_negated}
+use Rattle.arithmetic_templates.specs.Comparisons.{compared_of, types_of_compared}
+use Rattle.arithmetic_templates.proofs.ComparisonRows.{compared_row}
+use Rattle.arithmetic_templates.proofs.DivisionRows.{quotient_in_dword_row, quotient_in_words_row, remainder_row}
+use Rattle.arithmetic_templates.proofs.ProductRows.{product_row}
+use Rattle.arithmetic_templates.proofs.ResultRows.{IsCalculated, difference_row, negative_row, sum_row}
+
+calculated_locals : (a : Arith) (used : ℕ) → locals_set (calculated_of used a) ≡ length (types_of_calculated a)
+unfolding divisor_kept_of quotient_in_words_of quotient_in_dword_of remainder_in_dword_of
+calculated_locals row.AddI used = refl
+calculated_locals row.SubI used = refl
+calculated_locals row.MulI used = refl
+calculated_locals row.DivI used = refl
+calculated_locals row.AddD used = refl
+calculated_locals row.SubD used = refl
+calculated_locals row.MulD used = refl
+calculated_locals row.DivD used = refl
+calculated_locals row.Mod used = refl
+
+-- a comparison is one of numbers of 16 or 32 bits
+is_compared : (t : Test) (w : Width) → IsComparison t w → IsCalculated w
+is_compared t width.Word h = tt
+is_compared t width.Dword h = tt
+is_compared t width.Bit h = elim h [ ]
+is_compared t width.Byte h = elim h [ ]
+
+module _ (g : List Located) (calls : Calls) (units : ℕ) (acts : List Activation) (now : Now) (s : State) (related : Related acts now s) (used : ℕ) where
+  abbrev range : AreInRange now.registers
+  range = related.range
+
+  calculated_row : (a : Arith) → IsRow g s used (calculated_of used a) now.registers (calculated a now.registers) (s.registers reg.Sta)
+  calculated_row row.AddI = sum_row g s used now.registers (s.registers reg.Sta) range width.Word tt
+  calculated_row row.SubI = difference_row g s used now.registers (s.registers reg.Sta) range width.Word tt
+  calculated_row row.MulI = product_row g s used now.registers (s.registers reg.Sta) range width.Word tt
+  calculated_row row.DivI = quotient_in_words_row g s used now.registers (s.registers reg.Sta) range
+  calculated_row row.AddD = sum_row g s used now.registers (s.registers reg.Sta) range width.Dword tt
+  calculated_row row.SubD = difference_row g s used now.registers (s.registers reg.Sta) range width.Dword tt
+  calculated_row row.MulD = product_row g s used now.registers (s.registers reg.Sta) range width.Dword tt
+  calculated_row row.DivD = quotient_in_dword_row g s used now.registers (s.registers reg.Sta) range
+  calculated_row row.Mod = remainder_row g s used now.registers (s.registers reg.Sta) range
+
+  does : (body : List Stmt) (after : RegisterValues) → IsRow g s used body now.registers after (s.registers reg.Sta)
+      → used + locals_set body ≤ length (own_of s.activations)
+      → DoesRow (body_meaning g calls body units s) units used acts s now.memory (next (record now { registers = after }))
+  does body after is_row room = row_does g s used calls units body acts now after related is_row room
+
+  pub calculated_does : (a : Arith) → used + length (types_of_calculated a) ≤ length (own_of s.activations)
+      → DoesRow (body_meaning g calls (calculated_of used a) units s) units used acts s now.memory (effect_of (op.Arith a) now)
+  calculated_does a room =
+      let same : locals_set (calculated_of used a) ≡ length (types_of_calculated a) = calculated_locals a used in
+      does (calculated_of used a) (calculated a now.registers) (calculated_row a) (omega arith)
+
+  -- NEGI and NEGD
+  pub negated_does : (w : Width) → IsCalculated w → used + length (types_of_negated w) ≤ length (own_of s.activations)
+      → DoesRow (body_meaning g calls (negated_of used w) units s) units used acts s now.memory (next (record now { registers = negated w now.registers }))
+  negated_does w h room =
+      does (negated_of used w) (negated w now.registers) (negative_row g s used now.registers (s.registers reg.Sta) range w h) room
+
+  pub compared_does : (t : Test) (w : Width) → IsComparison t w → used + length (types_of_compared w) ≤ length (own_of s.activations)
+      → DoesRow (body_meaning g calls (compared_of used t w) units s) units used acts s now.memory (effect_of (op.Compare t w) now)
+  compared_does t w h room =
+      does (compared_of used t w) (compared t w now.registers) (compared_row g s used now.registers (s.registers reg.Sta) range t w (is_compared t w h)) room
