@@ -93,7 +93,7 @@ blocks_small n (b ∷ bs) (g ∷ gs) h = by (b.number == n) (blocks_small n bs g
     by true more = h.1.bytes
     by false more = more
 
-memory_holds : (blocks : List DataBlock) (areas : Areas) → IsMemoryOf blocks areas → HoldsBytes (with_areas areas)
+pub memory_holds : (blocks : List DataBlock) (areas : Areas) → IsMemoryOf blocks areas → HoldsBytes (with_areas areas)
 memory_holds blocks areas h area.I = h.inputs.bytes
 memory_holds blocks areas h area.Q = h.outputs.bytes
 memory_holds blocks areas h area.M = h.markers.bytes
