@@ -15,7 +15,6 @@ use Rattle.stl_tree.specs.Now.{Activation, Now, next}
 use Rattle.stl_tree.specs.declared.program.LoadArg.TheVariants as arg
 use Rattle.stl_tree.specs.declared.program.Operand.{Operand}
 use Rattle.stl_tree.specs.declared.program.Operand.TheVariants as operand
-use Rattle.st_tree.specs.Fitting.{HoldsBytes}
 use Rattle.st_tree.specs.Meaning.{Calls, body_meaning}
 use Rattle.st_tree.specs.Operators.{converted}
 use Rattle.st_tree.specs.State.{State, read_place, with_register}
@@ -143,9 +142,9 @@ module _ (g : List Located) (acts : List Activation) (now : Now) (s : State) (re
         }
 
   -- L of a place; each area holds bytes, so that what is read has its width
-  pub load_does : (calls : Calls) (units used : ℕ) (o : Operand) (w : Width) → HoldsBytes now.memory
+  pub load_does : (calls : Calls) (units used : ℕ) (o : Operand) (w : Width)
       → DoesRow (body_meaning g calls (load_of (arg.At o w)) units s) units used acts s now.memory (loaded_from (arg.At o w) now)
-  load_does calls units used (operand.Direct a byte x) w bytes =
+  load_does calls units used (operand.Direct a byte x) w =
       by_value (body_meaning g calls (load_of (arg.At o w)) units s) units used acts s now.memory
       (λ (v : ℕ). next (record now { registers = loaded v now.registers })) (read_number w place now.memory)
       (λ v found. loads calls units used e v (wide w v (fits v found)) (worth ∙ ap (λ (r : Result ℕ Fault). and_then r (λ n. Ok (dword n))) found))
@@ -161,7 +160,7 @@ module _ (g : List Located) (acts : List Activation) (now : Now) (s : State) (re
       e = extended_of w (expr.Read (variable_of o w))
 
       fits : IsBelow (2 ^ bits_wide w) (read_number w place now.memory)
-      fits v found = number_fits w place now.memory v bytes found
+      fits v found = number_fits w place now.memory v related.bytes found
 
       worth : value g e pushed ≡ and_then (read_number w place now.memory) (λ n. Ok (dword n))
       worth = read_worth g pushed (expr.Read (variable_of o w)) w place now.memory fits (place_read g acts pushed_now pushed pushed_related a byte x w)

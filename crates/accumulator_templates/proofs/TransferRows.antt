@@ -1,5 +1,5 @@
 -- T does its row.
-use Rattle.std.proofs.Common.{◌≡◌, ℕ, ◌%◌, ◌^◌, ◌<◌, ◌==◌, pos, Bool, true, false, List, [], ◌∷◌, Ok, refl, ap, ◌∙◌, arith}
+use Rattle.std.proofs.Common.{◌≡◌, ℕ, ◌%◌, ◌^◌, ◌<◌, ◌==◌, pos, Bool, true, false, List, [], ◌∷◌, Ok, refl, ap, subst, ◌∙◌, arith}
 use Rattle.std.specs.Int.{bit_at}
 use Rattle.std.proofs.lemmas.Nat.Bits.{bit_at_lowest}
 use Rattle.memory_areas.specs.Access.{and_then, write_bit, write_byte, write_word}
@@ -19,6 +19,7 @@ use Rattle.st_tree.specs.Value.{value}
 use Rattle.st_tree.specs.Values.{flag, is_set, type_of_width}
 use Rattle.st_tree.specs.declared.state.Value.{Value}
 use Rattle.st_tree.specs.declared.program.Located.{Located}
+use Rattle.st_tree.proofs.FittingMemory.{AfterHolds, place_holds}
 use Rattle.st_tree.proofs.Equations.{value_equations}
 use Rattle.accumulator_templates.specs.Moves.{transfer_of}
 use Rattle.accumulator_templates.specs.Parts.{cut_of}
@@ -69,5 +70,7 @@ module _ (g : List Located) (acts : List Activation) (now : Now) (s : State) (re
   transfer_does calls units used (operand.Direct a byte x) w =
       write_does g acts now s related calls units used (variable_of (operand.Direct a byte x) w) (cut_of w (read_of reg.Accu1))
       (cut_value w now.registers.accu1) (write_number w (place_now a byte x now) (part w now.registers.accu1) now.memory) (cut_worth w)
+      (subst AfterHolds (written w (place_now a byte x now) now.registers.accu1 now.memory)
+      (place_holds (type_of_width w) (place_now a byte x now) (cut_value w now.registers.accu1) now.memory related.bytes))
       (place_wrote g acts now s related a byte x w (cut_value w now.registers.accu1)
       ∙ ap (λ r. and_then r (λ (m : Contents). Ok (record s { memory = m }))) (written w (place_now a byte x now) now.registers.accu1 now.memory))

@@ -30,7 +30,7 @@ use Rattle.instruction_lowering.specs.declared.statements.Spot.{Spot}
 use Rattle.instruction_lowering.proofs.Does.{Does}
 use Rattle.instruction_lowering.proofs.Temporaries.{Keeps}
 use Rattle.instruction_lowering.proofs.Chains.{chain_runs}
-use Rattle.row_templates.proofs.Operands.{bit_read, bit_wrote, cleared_registers, clears, rlo_worth, sets}
+use Rattle.row_templates.proofs.Operands.{bit_holds, bit_read, bit_wrote, cleared_registers, clears, rlo_worth, sets}
 use Rattle.instruction_lowering.proofs.Chains.{checked_stops, checked_worth}
 use Rattle.row_templates.proofs.Truths.{and_worth, left_stops, literal_worth, not_worth, or_worth}
 
@@ -127,7 +127,7 @@ module _ (g : List Located) (calls : Calls) (units : ℕ) (acts : List Activatio
         u,
         assign_goes_on g calls v e (cleared false) units s t (flag b) h (bit_wrote g now s a byte x (same_place acts now s related a byte x) related.memory b (Ok m) w)
             ∙ clears g calls units false t,
-        keep_bits IsKept acts (record now { memory = m }) t (keep_memory IsKept acts now s related m) IsKept (after_store b bits) u.registers (store_alike b),
+        keep_bits IsKept acts (record now { memory = m }) t (keep_memory IsKept acts now s related m (bit_holds (place_now a byte x now) b now.memory (Ok m) related.bytes w)) IsKept (after_store b bits) u.registers (store_alike b),
         keeps,
       )
   store_goes a byte x e b h (Err f) w =

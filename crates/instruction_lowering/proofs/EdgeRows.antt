@@ -31,7 +31,7 @@ use Rattle.instruction_lowering.specs.declared.statements.Spot.{Spot}
 use Rattle.instruction_lowering.proofs.Does.{Does}
 use Rattle.instruction_lowering.proofs.Temporaries.{Keeps, kept_below}
 use Rattle.row_templates.proofs.Locals.{as_deep, local_read, local_wrote, own_of, own_set, set_length, set_other, set_same, with_own}
-use Rattle.row_templates.proofs.Operands.{bit_read, bit_wrote, cleared_registers, clears, rlo_worth, sets}
+use Rattle.row_templates.proofs.Operands.{bit_holds, bit_read, bit_wrote, cleared_registers, clears, rlo_worth, sets}
 use Rattle.row_templates.proofs.Truths.{and_worth, not_stops, not_worth, right_stops}
 
 module _ (g : List Located) (calls : Calls) (units : ℕ) (acts : List Activation) (now : Now) (s : State) (related : Related acts now s) (total : ℕ) (p : Spot) (keeps : Keeps total p now.brackets s.activations) (room : p.used + 1 ≤ total) where
@@ -92,7 +92,7 @@ module _ (g : List Located) (calls : Calls) (units : ℕ) (acts : List Activatio
             (bit_wrote g now t a byte x (same_place acts now t (kept_related edge) a byte x) related.memory bits.rlo (Ok m) w)
             ∙ sets g calls units reg.Rlo (expr.Read (var.Local p.used)) edge (cleared true) u (local_read g p.used (flag edge) u (kept_read edge))
             ∙ clears g calls units true k,
-        keep_bits IsKept acts (record now { memory = m }) u (keep_memory IsKept acts now t (kept_related edge) m) IsKept (after_edge rising old bits) z.registers (edge_alike rising old),
+        keep_bits IsKept acts (record now { memory = m }) u (keep_memory IsKept acts now t (kept_related edge) m (bit_holds (place_now a byte x now) bits.rlo now.memory (Ok m) related.bytes w)) IsKept (after_edge rising old bits) z.registers (edge_alike rising old),
         kept_keeps edge,
       )
   edge_goes rising old a byte x e h (Err f) w =

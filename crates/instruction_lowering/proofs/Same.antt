@@ -2,7 +2,7 @@
 use Rattle.std.proofs.Common.{◌≡◌, ℕ, zero, suc, ◌+◌, ◌*◌, ◌≤◌, false, List, [], ◌∷◌, map, length, Option, Some, None, refl, sym, ap, ◌∙◌, subst, arith}
 use Rattle.std.specs.Prelude.{All, IsSome, find, option_map}
 use Rattle.std.proofs.lemmas.Simd.{map-map}
-use Rattle.memory_areas.specs.Areas.{Areas, Contents, with_areas}
+use Rattle.memory_areas.specs.Areas.{Areas, Contents, with_areas, IsMemoryOf}
 use Rattle.memory_areas.specs.End.{Ended, Going}
 use Rattle.s7_base.specs.declared.outcome.Fault.{Fault}
 use Rattle.s7_base.specs.declared.register.Reg.TheVariants as reg
@@ -16,6 +16,7 @@ use Rattle.memory_areas.specs.declared.call.BlockName.TheVariants as name
 use Rattle.memory_areas.specs.declared.call.Call.{Call}
 use Rattle.stl_tree.specs.declared.program.Program.{Program}
 use Rattle.stl_tree.proofs.Runs.{over_stays}
+use Rattle.st_tree.proofs.FittingStart.{memory_holds}
 use Rattle.st_tree.specs.GraphRun.{Counting, FitsGraph, counted_run, each_node, each_pass, graph_run, heads_of, longest, most_nodes, nodes_do, pass_run, run_of_graph}
 use Rattle.st_tree.specs.Meaning.{Continues, Exits, Faults, NoUnits, Normal, Out, Returns}
 use Rattle.st_tree.specs.StRun.{FitsIfThere, FitsUnit, all_zero, end_seen, is_meant, is_program, registers_at_start, state_at_start, unit_called}
@@ -142,9 +143,9 @@ module _ (program : Program) (formed : All IsAcceptedBlock program.blocks) (call
   start_range =
       record { accu1 = omega arith; accu2 = omega arith; ar1 = omega arith; ar2 = omega arith; db = omega arith; di = omega arith }
 
-  start_related : (memory : Areas) → Related (first ∷ []) (now memory) (state memory)
-  start_related memory =
-      record { registers = start_alike call.block number.0 number.1; memory = refl; activations = refl; depth = refl; range = start_range }
+  start_related : (memory : Areas) → IsMemoryOf program.dbs memory → Related (first ∷ []) (now memory) (state memory)
+  start_related memory valid =
+      record { registers = start_alike call.block number.0 number.1; memory = refl; bytes = memory_holds program.dbs memory valid; activations = refl; depth = refl; range = start_range }
 
   start_keeps : (memory : Areas) → Keeps (used_behind first_spot b.body) first_spot [] (state memory).activations
   start_keeps memory =
@@ -169,35 +170,35 @@ module _ (program : Program) (formed : All IsAcceptedBlock program.blocks) (call
       ap (λ o. run_of_graph counts graph o call memory (suc units)) unit_there
       ∙ seen_through (graph_from counts memory (most_nodes graph (suc units)) units)
 
-  simulated : (counts : Counting) (side : Side) (memory : Areas) (n units most : ℕ) → Begun side (size_of program) n units most 0 0
+  simulated : (counts : Counting) (side : Side) (memory : Areas) → IsMemoryOf program.dbs memory → (n units most : ℕ) → Begun side (size_of program) n units most 0 0
       → Sees side (ran n (running program (now memory))) (through (graph_from counts memory most units) (λ units s. Ended s.memory.areas None))
-  simulated counts side memory n units most begun =
+  simulated counts side memory valid n units most begun =
       let shape = found_each IsAcceptedBlock call.block program.blocks b at.found formed in
       let within : length b.body ≤ size_of program = found_size call.block program.blocks b at.found in
-      at_node program graph counts side (size_of program) n first [] b at.there refl shape.ends shape.brackets (omega arith) (now memory) (state memory) (start_related memory) (start_keeps memory) units most 0 begun
+      at_node program graph counts side (size_of program) n first [] b at.there refl shape.ends shape.brackets (omega arith) (now memory) (state memory) (start_related memory valid) (start_keeps memory) units most 0 begun
       (λ units s. Ended s.memory.areas None) (nothing_follows counts side n)
 
-  nodes_end : (memory : Areas) (n : ℕ) (after : Areas) (fault : Option Fault) → stl_run program call memory n ≡ Ended after fault → graph_run graph call memory n ≡ Ended after fault
-  nodes_end memory zero after fault ended = absurd (going (sym (stl_is memory 0) ∙ ended))
+  nodes_end : (memory : Areas) → IsMemoryOf program.dbs memory → (n : ℕ) (after : Areas) (fault : Option Fault) → stl_run program call memory n ≡ Ended after fault → graph_run graph call memory n ≡ Ended after fault
+  nodes_end memory valid zero after fault ended = absurd (going (sym (stl_is memory 0) ∙ ended))
     where
       going : Going ≡ Ended after fault → ⊥
       going e = cc
-  nodes_end memory (suc n) after fault ended =
+  nodes_end memory valid (suc n) after fault ended =
       graph_is each_node memory n
-      ∙ simulated each_node forth memory (suc n) n (most_nodes graph (suc n)) (begun_forth (size_of program) n (longest graph)) after fault (sym (stl_is memory (suc n)) ∙ ended)
+      ∙ simulated each_node forth memory valid (suc n) n (most_nodes graph (suc n)) (begun_forth (size_of program) n (longest graph)) after fault (sym (stl_is memory (suc n)) ∙ ended)
 
-  passes_end : (memory : Areas) (n : ℕ) (after : Areas) (fault : Option Fault) → pass_run graph call memory n ≡ Ended after fault → stl_run program call memory (n * size_of program) ≡ Ended after fault
-  passes_end memory zero after fault ended = absurd (going (sym (ap (λ o. run_of_graph each_pass graph o call memory 0) unit_there) ∙ ended))
+  passes_end : (memory : Areas) → IsMemoryOf program.dbs memory → (n : ℕ) (after : Areas) (fault : Option Fault) → pass_run graph call memory n ≡ Ended after fault → stl_run program call memory (n * size_of program) ≡ Ended after fault
+  passes_end memory valid zero after fault ended = absurd (going (sym (ap (λ o. run_of_graph each_pass graph o call memory 0) unit_there) ∙ ended))
     where
       going : Going ≡ Ended after fault → ⊥
       going e = cc
-  passes_end memory (suc n) after fault ended =
+  passes_end memory valid (suc n) after fault ended =
       stl_is memory (suc n * size_of program)
-      ∙ simulated each_pass back memory (suc n * size_of program) n (most_nodes graph (suc n)) (begun_back (size_of program) n (most_nodes graph (suc n))) after fault (sym (graph_is each_pass memory n) ∙ ended)
+      ∙ simulated each_pass back memory valid (suc n * size_of program) n (most_nodes graph (suc n)) (begun_back (size_of program) n (most_nodes graph (suc n))) after fault (sym (graph_is each_pass memory n) ∙ ended)
 
   same_runs : SameGraphRuns program.dbs (stl_run program call) (graph_run graph call) (pass_run graph call) (size_of program)
   same_runs =
-      record { forth = λ memory valid n after fault ended. nodes_end memory n after fault ended; back = λ memory valid n after fault ended. passes_end memory n after fault ended }
+      record { forth = λ memory valid n after fault ended. nodes_end memory valid n after fault ended; back = λ memory valid n after fault ended. passes_end memory valid n after fault ended }
 
   fits_graph : FitsGraph graph call
   fits_graph =

@@ -12,6 +12,7 @@ use Rattle.s7_base.specs.declared.register.Reg.TheVariants as reg
 use Rattle.stl_tree.specs.Now.{Activation, Now, depth}
 use Rattle.stl_tree.specs.Registers.{RegisterValues}
 use Rattle.stl_tree.specs.StlRun.{going_on}
+use Rattle.st_tree.specs.Fitting.{HoldsBytes}
 use Rattle.st_tree.specs.State.{Activation as StActivation, State, db_number, di_number, depth as depth_of_state, place_of}
 use Rattle.st_tree.specs.Values.{number_of, pattern}
 
@@ -68,10 +69,12 @@ any_status r bits h = record { accu1 = h.accu1; accu2 = h.accu2; ar1 = h.ar1; ar
 -- States
 
 -- a state of a program and one of its graphs, while these activations run and wait: the register variables that are
--- asked for have their numbers, the memory is the same, as many units run, and each register is in its range
+-- asked for have their numbers, the memory is the same and holds bytes, as many units run, and each register is in
+-- its range
 pub record AreRelated (asked : Reg → Type 0) (acts : List Activation) (now : Now) (s : State) : Type 0 where
   pub registers : AreAlike asked now.registers s.registers
   pub memory : s.memory ≡ now.memory
+  pub bytes : HoldsBytes now.memory
   pub activations : now.activations ≡ acts
   pub depth : length s.activations ≡ length acts
   pub range : AreInRange now.registers
@@ -92,33 +95,34 @@ module _ (asked : Reg → Type 0) (acts : List Activation) (now : Now) (s : Stat
       → AreAlike asking (record now.registers { status = bits }) registers
       → AreRelated asking acts (record now { registers = record now.registers { status = bits } }) (record s { registers = registers })
   keep_bits asking bits registers alike =
-      record { registers = alike; memory = related.memory; activations = related.activations; depth = related.depth; range = any_status now.registers bits related.range }
+      record { registers = alike; memory = related.memory; bytes = related.bytes; activations = related.activations; depth = related.depth; range = any_status now.registers bits related.range }
 
   -- other registers, in their ranges
   pub keep_registers : (asking : Reg → Type 0) (after : RegisterValues) (registers : Reg → ℤ) → AreAlike asking after registers → AreInRange after
       → AreRelated asking acts (record now { registers = after }) (record s { registers = registers })
   keep_registers asking after registers alike range =
-      record { registers = alike; memory = related.memory; activations = related.activations; depth = related.depth; range = range }
+      record { registers = alike; memory = related.memory; bytes = related.bytes; activations = related.activations; depth = related.depth; range = range }
 
-  pub keep_memory : (m : Contents) → AreRelated asked acts (record now { memory = m }) (record s { memory = m })
-  keep_memory m =
-      record { registers = related.registers; memory = refl; activations = related.activations; depth = related.depth; range = related.range }
+  -- another memory, which holds bytes
+  pub keep_memory : (m : Contents) → HoldsBytes m → AreRelated asked acts (record now { memory = m }) (record s { memory = m })
+  keep_memory m holds =
+      record { registers = related.registers; memory = refl; bytes = holds; activations = related.activations; depth = related.depth; range = related.range }
 
   -- other open brackets, of which the related state says nothing
   pub keep_brackets : (entries : List Entry) → AreRelated asked acts (record now { brackets = entries }) s
   keep_brackets entries =
-      record { registers = related.registers; memory = related.memory; activations = related.activations; depth = related.depth; range = related.range }
+      record { registers = related.registers; memory = related.memory; bytes = related.bytes; activations = related.activations; depth = related.depth; range = related.range }
 
   -- other locals
   pub keep_activations : (running : List StActivation) → length running ≡ length s.activations → AreRelated asked acts now (record s { activations = running })
   keep_activations running e =
-      record { registers = related.registers; memory = related.memory; activations = related.activations; depth = e ∙ related.depth; range = related.range }
+      record { registers = related.registers; memory = related.memory; bytes = related.bytes; activations = related.activations; depth = e ∙ related.depth; range = related.range }
 
 -- the running activation goes on behind its instruction
 pub keep_position : (asked : Reg → Type 0) (a : Activation) (waiting : List Activation) (now : Now) (s : State) → AreRelated asked (a ∷ waiting) now s
     → AreRelated asked (record a { at = a.at + 1 } ∷ waiting) (record now { activations = going_on now.activations }) s
 keep_position asked a waiting now s related =
-    record { registers = related.registers; memory = related.memory; activations = ap going_on related.activations; depth = related.depth; range = related.range }
+    record { registers = related.registers; memory = related.memory; bytes = related.bytes; activations = ap going_on related.activations; depth = related.depth; range = related.range }
 
 -- Places
 

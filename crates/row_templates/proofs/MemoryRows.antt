@@ -19,6 +19,7 @@ use Rattle.st_tree.specs.declared.expr.Var.{Var}
 use Rattle.st_tree.specs.declared.program.Located.{Located}
 use Rattle.st_tree.specs.declared.program.Stmt.{Stmt}
 use Rattle.st_tree.specs.declared.program.Stmt.TheVariants as stmt
+use Rattle.st_tree.proofs.FittingMemory.{AfterHolds}
 use Rattle.st_tree.proofs.Equations.{assign_goes_on, assign_stops_at_place, assign_stops_at_value, value_read}
 use Rattle.row_templates.specs.Builders.{variable_of}
 use Rattle.row_templates.proofs.Alike.{Related, keep_memory, place_now, same_place}
@@ -63,16 +64,16 @@ module _ (g : List Located) (acts : List Activation) (now : Now) (s : State) (re
     first_stops v e rest f h = record { at = s; stops = assign_stops_at_value g calls v e rest units s f h; memory = related.memory }
 
     -- one statement that writes memory
-    pub write_does : (v : Var) (e : Expr) (w : Value) (memory : Result Contents Fault) → value g e s ≡ Ok w
+    pub write_does : (v : Var) (e : Expr) (w : Value) (memory : Result Contents Fault) → value g e s ≡ Ok w → AfterHolds memory
         → write g v w s ≡ and_then memory (λ m. Ok (record s { memory = m }))
         → DoesRow (body_meaning g calls (stmt.Assign v e ∷ []) units s) units used acts s now.memory (with_memory memory now (λ after. next after))
-    write_does v e w (Ok m) h k =
+    write_does v e w (Ok m) h holds k =
         record {
           to = record s { memory = m };
           goes = assign_goes_on g calls v e [] units s (record s { memory = m }) w h k;
-          related = keep_memory IsKept acts now s related m;
+          related = keep_memory IsKept acts now s related m holds;
           as_many = refl;
           below = λ i small. refl;
         }
-    write_does v e w (Err f) h k =
+    write_does v e w (Err f) h holds k =
         record { at = s; stops = assign_stops_at_place g calls v e [] units s w f h k; memory = related.memory }

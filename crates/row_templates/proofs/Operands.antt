@@ -1,23 +1,27 @@
 -- What is read and written: operands and registers by their variables.
-use Rattle.std.proofs.Common.{◌≡◌, ℕ, pos, Bool, true, false, List, [], ◌∷◌, Result, Ok, refl, ap, ◌∙◌}
+use Rattle.std.proofs.Common.{◌≡◌, ℕ, pos, Bool, true, false, List, [], ◌∷◌, Result, Ok, refl, ap, subst, ◌∙◌}
 use Rattle.std.specs.Prelude.{ℤ}
 use Rattle.memory_areas.specs.Access.{and_then, read_bit, write_bit}
 use Rattle.memory_areas.specs.Areas.{Contents}
 use Rattle.memory_areas.specs.declared.place.AreaName.{AreaName}
+use Rattle.memory_areas.specs.declared.place.Place.{Place}
 use Rattle.s7_base.specs.declared.outcome.Fault.{Fault}
 use Rattle.s7_base.specs.declared.register.Reg.{Reg}
 use Rattle.s7_base.specs.declared.register.Reg.TheVariants as reg
 use Rattle.stl_tree.specs.Now.{Activation, Now}
 use Rattle.stl_tree.specs.declared.program.Operand.TheVariants as operand
+use Rattle.st_tree.specs.Fitting.{HoldsBytes}
 use Rattle.st_tree.specs.Meaning.{Calls, Normal, body_meaning}
 use Rattle.st_tree.specs.State.{State, place_of, with_register, write}
 use Rattle.st_tree.specs.Value.{value}
 use Rattle.st_tree.specs.Values.{flag, is_set, number_of}
 use Rattle.st_tree.specs.declared.expr.Expr.{Expr}
 use Rattle.st_tree.specs.declared.expr.Expr.TheVariants as expr
+use Rattle.st_tree.specs.declared.expr.StType.TheVariants as type
 use Rattle.st_tree.specs.declared.expr.Var.TheVariants as var
 use Rattle.st_tree.specs.declared.program.Located.{Located}
 use Rattle.st_tree.specs.declared.program.Stmt.{Stmt}
+use Rattle.st_tree.proofs.FittingMemory.{AfterHolds, place_holds}
 use Rattle.st_tree.proofs.Equations.{assign_goes_on, value_read}
 use Rattle.row_templates.specs.Builders.{bit_of, cleared, literal_of, read_of, set_of}
 use Rattle.row_templates.proofs.Alike.{Related, place_now, same_place}
@@ -36,6 +40,11 @@ bit_wrote g now s a byte x place same b memory e =
     ∙ ap (λ v. and_then (write_bit (place_now a byte x now) v s.memory) (λ m. Ok (record s { memory = m }))) (set_flag b)
     ∙ ap (λ m. and_then (write_bit (place_now a byte x now) b m) (λ m. Ok (record s { memory = m }))) same
     ∙ ap (λ r. and_then r (λ m. Ok (record s { memory = m }))) e
+
+-- the memory after a bit was written holds bytes
+pub bit_holds : (p : Place) (b : Bool) (before : Contents) (after : Result Contents Fault) → HoldsBytes before → write_bit p b before ≡ after → AfterHolds after
+bit_holds p b before after holds e =
+    subst AfterHolds (ap (λ v. write_bit p v before) (set_flag b) ∙ e) (place_holds type.Bool p (flag b) before holds)
 
 module _ (g : List Located) (acts : List Activation) (now : Now) (s : State) (related : Related acts now s) where
   -- the bit of a written operand, read through its variable

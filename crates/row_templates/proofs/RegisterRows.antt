@@ -114,6 +114,7 @@ module _ (g : List Located) (s : State) (used : ℕ) where
           related = record {
             registers = λ q asked. ap (λ (h : Reg → ℤ). h q) (stage_registers s used e.all f) ∙ row.alike q asked;
             memory = stage_memory s used e.all f ∙ related.memory;
+            bytes = related.bytes;
             activations = related.activations;
             depth = stage_depth s used e.all f e.few ∙ related.depth;
             range = row.range;
