@@ -9,3 +9,6 @@ pub mod StatusRows
 pub mod ReadNumbers
 pub mod LoadRows
 pub mod TransferRows
+pub mod CountRows
+pub mod ReadRows
+pub mod PlainRows
