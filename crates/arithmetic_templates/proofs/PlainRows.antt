@@ -11,7 +11,6 @@ use Rattle.status_word.specs.declared.test.Test.TheVariants as test
 use Rattle.stl_tree.specs.declared.accumulator.Arith.{Arith}
 use Rattle.stl_tree.specs.declared.accumulator.Arith.TheVariants as row
 use Rattle.st_tree.specs.Naming.{is_conversion}
-use Rattle.st_tree.specs.State.{type_of_register}
 use Rattle.st_tree.specs.TypeRules.{type_of_unary, type_on_equals}
 use Rattle.st_tree.specs.WellTyped.{Sight, is_value, variable_type}
 use Rattle.st_tree.specs.declared.expr.BinaryOp.{BinaryOp}
@@ -24,10 +23,10 @@ use Rattle.st_tree.specs.declared.expr.UnaryOp.TheVariants as unary
 use Rattle.st_tree.specs.declared.expr.Var.TheVariants as var
 use Rattle.st_tree.specs.declared.program.Stmt.{Stmt}
 use Rattle.row_templates.specs.Builders.{local_of, or_of, read_of, unary_of}
-use Rattle.row_templates.proofs.Typing.{AreTyped, IsBool, IsOf, IsPlainBody, and_is, binary_is, cleared_plain, constant_is, convert_is, first_typed, literal_is, local_is, local_plain, more, or_is, register_is, select_is, set_plain, shift_is, unary_is}
+use Rattle.row_templates.proofs.Typing.{AreTyped, IsBool, IsOf, IsPlainBody, binary_is, cleared_plain, constant_is, convert_is, first_typed, literal_is, local_is, local_plain, more, or_is, register_is, select_is, set_plain, shift_is, unary_is}
 use Rattle.arithmetic_templates.specs.Calculations.{both_words_of, calculated_of, divided_of, division_ending_of, divisor_kept_of, divisor_of, negated_of, operated_of, product_of, quotient_in_dword_of, quotient_in_words_of, quotient_over_of, remainder_in_dword_of, result_of, types_of_calculated, types_of_negated, zero_of}
 use Rattle.arithmetic_templates.specs.Comparisons.{compared_of, comparison_of, types_of_compared}
-use Rattle.arithmetic_templates.specs.Numbers.{differs_of, cut_of, ending_of, narrow, negative_of, number_of, positive_of, wide, wide_number_of, with_number_of}
+use Rattle.arithmetic_templates.specs.Numbers.{differs_of, cut_of, ending_of, narrow, negative_of, positive_of, wide, wide_number_of, with_number_of}
 
 -- What operators and conversions give for the types of a width
 
