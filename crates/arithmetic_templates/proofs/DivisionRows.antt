@@ -25,7 +25,6 @@ use Rattle.row_templates.proofs.Numbers.{or_numbers, over_word, pattern_below, w
 use Rattle.row_templates.proofs.RegisterRows.{IsRow, registers_after}
 use Rattle.row_templates.proofs.Stages.{known, parts, stage}
 use Rattle.arithmetic_templates.specs.Calculations.{divided_of, divisor_kept_of, divisor_of, quotient_in_dword_of, quotient_in_words_of, remainder_in_dword_of}
-use Rattle.arithmetic_templates.specs.Numbers.{wide}
 use Rattle.arithmetic_templates.proofs.WideNumbers.{chosen_number, divisor, divisor_by, divisor_size, dword_below, dword_size, gate, no_zero, over_dword, put_words, quotient_size, remainder_size, whole_dint, whole_lint, wide_dword, word_size}
 
 -- The registers after a division whose quotient or remainder z shows its sign and whose ACCU1 is a; without a divisor
@@ -51,26 +50,26 @@ no_divisor z a r = ap (λ os. record r { status = record r.status { cc1 = true; 
 
 words_after : (none : Bool) (x d : ℤ) (r : RegisterValues)
     → after_division none (none || is_over 16 (int_div x d)) (int_div x d) (pattern 16 (int_rem x d) * 2 ^ 16 + pattern 16 (int_div x d)) r
-      ≡ (if none then record r { status = after_zero_divisor r.status } else both_in_words x d r)
+    ≡ (if none then record r { status = after_zero_divisor r.status } else both_in_words x d r)
 words_after true x d r = no_divisor (int_div x d) (pattern 16 (int_rem x d) * 2 ^ 16 + pattern 16 (int_div x d)) r
 words_after false x d r = refl
 
 dword_after : (none : Bool) (x d : ℤ) (r : RegisterValues)
     → after_division none (none || is_over 32 (int_div x d)) (int_div x d) (pattern 32 (int_div x d)) r
-      ≡ (if none then record r { status = after_zero_divisor r.status } else quotient_in_dword x d r)
+    ≡ (if none then record r { status = after_zero_divisor r.status } else quotient_in_dword x d r)
 dword_after true x d r = no_divisor (int_div x d) (pattern 32 (int_div x d)) r
 dword_after false x d r = refl
 
 remainder_after : (none : Bool) (x d : ℤ) (r : RegisterValues)
     → after_division none none (int_rem x d) (pattern 32 (int_rem x d)) r
-      ≡ (if none then record r { status = after_zero_divisor r.status } else remainder_in_dword x d r)
+    ≡ (if none then record r { status = after_zero_divisor r.status } else remainder_in_dword x d r)
 remainder_after true x d r = no_divisor (int_rem x d) (pattern 32 (int_rem x d)) r
 remainder_after false x d r = refl
 
 -- a row by the divisor y is one by what stands in its place
 same_divisor : (none : Bool) (row : RowOfNumbers) (x y : ℤ) (r : RegisterValues)
     → (if none then record r { status = after_zero_divisor r.status } else row x (divisor_by none y) r)
-      ≡ (if none then record r { status = after_zero_divisor r.status } else row x y r)
+    ≡ (if none then record r { status = after_zero_divisor r.status } else row x y r)
 same_divisor true row x y r = refl
 same_divisor false row x y r = refl
 
@@ -125,7 +124,7 @@ module _ (g : List Located) (s : State) (used : ℕ) where
 
     word_quotient : (more : List Value)
         → value g (divided_of binary.Div width.Word used) (stage s used (record { ty = type.Dint; n = y_of width.Word } ∷ more) (known r sta))
-          ≡ Ok (record { ty = type.Dint; n = quotient width.Word })
+        ≡ Ok (record { ty = type.Dint; n = quotient width.Word })
     word_quotient more =
         let x : ℤ = x_of width.Word in
         let y : ℤ = y_of width.Word in
@@ -135,7 +134,7 @@ module _ (g : List Located) (s : State) (used : ℕ) where
 
     word_remainder : (more : List Value)
         → value g (divided_of binary.Mod width.Word used) (stage s used (record { ty = type.Dint; n = y_of width.Word } ∷ more) (known r sta))
-          ≡ Ok (record { ty = type.Dint; n = remainder width.Word })
+        ≡ Ok (record { ty = type.Dint; n = remainder width.Word })
     word_remainder more =
         let x : ℤ = x_of width.Word in
         let y : ℤ = y_of width.Word in
@@ -145,7 +144,7 @@ module _ (g : List Located) (s : State) (used : ℕ) where
 
     dword_quotient : (more : List Value)
         → value g (divided_of binary.Div width.Dword used) (stage s used (record { ty = type.Lint; n = y_of width.Dword } ∷ more) (known r sta))
-          ≡ Ok (record { ty = type.Lint; n = quotient width.Dword })
+        ≡ Ok (record { ty = type.Lint; n = quotient width.Dword })
     dword_quotient more =
         let x : ℤ = x_of width.Dword in
         let y : ℤ = y_of width.Dword in
@@ -155,7 +154,7 @@ module _ (g : List Located) (s : State) (used : ℕ) where
 
     dword_remainder : (more : List Value)
         → value g (divided_of binary.Mod width.Dword used) (stage s used (record { ty = type.Lint; n = y_of width.Dword } ∷ more) (known r sta))
-          ≡ Ok (record { ty = type.Lint; n = remainder width.Dword })
+        ≡ Ok (record { ty = type.Lint; n = remainder width.Dword })
     dword_remainder more =
         let x : ℤ = x_of width.Dword in
         let y : ℤ = y_of width.Dword in
@@ -230,8 +229,19 @@ module _ (g : List Located) (s : State) (used : ℕ) where
           have = (
             refl,
             simp (parts, wide_dword),
-            (refl, simp parts, (refl, dword_quotient (flag (none_of width.Dword) ∷ []), (refl, simp (parts, over_dword, or_numbers),
-            (simp (parts, or_numbers), (simp (parts, or_numbers), (simp parts, (simp (parts, or_numbers), (simp (parts, gate, chosen_number), tt)))))))),
+            (
+              refl,
+              simp parts,
+              (
+                refl,
+                dword_quotient (flag (none_of width.Dword) ∷ []),
+                (
+                  refl,
+                  simp (parts, over_dword, or_numbers),
+                  (simp (parts, or_numbers), (simp (parts, or_numbers), (simp parts, (simp (parts, or_numbers), (simp (parts, gate, chosen_number), tt))))),
+                ),
+              ),
+            ),
           );
           alike = dword_alike;
           range = after_range (none_of width.Dword) dword_over (quotient width.Dword) (pattern 32 (quotient width.Dword)) (dword_below (quotient width.Dword));
@@ -277,9 +287,23 @@ module _ (g : List Located) (s : State) (used : ℕ) where
           have = (
             refl,
             simp (parts, wide_low),
-            (refl, simp parts, (refl, word_quotient (flag (none_of width.Word) ∷ []),
-            (refl, word_remainder (flag (none_of width.Word) ∷ record { ty = type.Dint; n = quotient width.Word } ∷ []), (refl, simp (parts, over_word, or_numbers),
-            (simp (parts, or_numbers), (simp (parts, or_numbers), (simp parts, (simp (parts, or_numbers), (simp (parts, gate, put_words, chosen_number), tt))))))))),
+            (
+              refl,
+              simp parts,
+              (
+                refl,
+                word_quotient (flag (none_of width.Word) ∷ []),
+                (
+                  refl,
+                  word_remainder (flag (none_of width.Word) ∷ record { ty = type.Dint; n = quotient width.Word } ∷ []),
+                  (
+                    refl,
+                    simp (parts, over_word, or_numbers),
+                    (simp (parts, or_numbers), (simp (parts, or_numbers), (simp parts, (simp (parts, or_numbers), (simp (parts, gate, put_words, chosen_number), tt))))),
+                  ),
+                ),
+              ),
+            ),
           );
           alike = words_alike;
           range = after_range (none_of width.Word) words_over (quotient width.Word) both_words words_below;

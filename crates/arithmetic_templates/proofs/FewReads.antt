@@ -1,14 +1,15 @@
 -- What the statements of each row read, and how many they are.
-use Rattle.std.proofs.Common.{◌≡◌, ℕ, ◌+◌, ◌≤◌, List, [], ◌∷◌, ◌++◌, length, inl, inr, refl, arith}
+use Rattle.std.proofs.Common.{ℕ, ◌≤◌, List, ◌++◌, length, inl, inr, refl, arith}
 use Rattle.s7_base.specs.declared.register.Reg.{Reg}
 use Rattle.s7_base.specs.declared.register.Reg.TheVariants as reg
 use Rattle.s7_base.specs.declared.word.Width.{Width}
 use Rattle.s7_base.specs.declared.word.Width.TheVariants as width
 use Rattle.status_word.specs.declared.test.Test.{Test}
 use Rattle.status_word.specs.declared.test.Test.TheVariants as test
-use Rattle.stl_tree.specs.Reads.{reads_of}
+use Rattle.stl_tree.specs.Reads.{calculated_with, reads_of}
 use Rattle.stl_tree.specs.declared.accumulator.Arith.{Arith}
 use Rattle.stl_tree.specs.declared.accumulator.Arith.TheVariants as row
+use Rattle.stl_tree.specs.declared.accumulator.UnaryRow.TheVariants as unary
 use Rattle.stl_tree.specs.declared.program.Op.TheVariants as op
 use Rattle.st_tree.specs.declared.program.Stmt.{Stmt}
 use Rattle.row_templates.specs.Assignments.{AreAssignments}
@@ -20,7 +21,7 @@ use Rattle.arithmetic_templates.specs.Comparisons.{compared_of}
 
 -- P is what holds of the registers that the instruction reads by its row
 module _ (P : Reg → Type 0) (used : ℕ) (rest : List Stmt) (more : AllRead P rest) where
-  module _ (h : Has P (reg.Accu1 ∷ reg.Accu2 ∷ reg.Os ∷ [])) where
+  module _ (h : Has P calculated_with) where
     one : P reg.Accu1
     one = h reg.Accu1 (inl refl)
 
@@ -30,25 +31,29 @@ module _ (P : Reg → Type 0) (used : ℕ) (rest : List Stmt) (more : AllRead P 
     os : P reg.Os
     os = h reg.Os (inr (inr (inl refl)))
 
-    pub calculated_reads : (a : Arith) → AllRead P (calculated_of used a ++ rest)
+    calculation_reads : (a : Arith) → AllRead P (calculated_of used a ++ rest)
     unfolding divisor_of divisor_kept_of quotient_in_words_of quotient_in_dword_of remainder_in_dword_of
-    calculated_reads row.AddI = simp variables_read (two, (one, (os, (one, more))))
-    calculated_reads row.SubI = simp variables_read (two, (one, (os, (one, more))))
-    calculated_reads row.MulI = simp variables_read (two, (one, (os, more)))
-    calculated_reads row.DivI = simp variables_read (one, (two, (two, (os, (one, more)))))
-    calculated_reads row.AddD = simp variables_read (two, (one, (os, more)))
-    calculated_reads row.SubD = simp variables_read (two, (one, (os, more)))
-    calculated_reads row.MulD = simp variables_read (two, (one, (os, more)))
-    calculated_reads row.DivD = simp variables_read (one, (two, (os, (one, more))))
-    calculated_reads row.Mod = simp variables_read (one, (two, (os, (one, more))))
+    calculation_reads row.AddI = simp variables_read (two, (one, (os, (one, more))))
+    calculation_reads row.SubI = simp variables_read (two, (one, (os, (one, more))))
+    calculation_reads row.MulI = simp variables_read (two, (one, (os, more)))
+    calculation_reads row.DivI = simp variables_read (one, (two, (two, (os, (one, more)))))
+    calculation_reads row.AddD = simp variables_read (two, (one, (os, more)))
+    calculation_reads row.SubD = simp variables_read (two, (one, (os, more)))
+    calculation_reads row.MulD = simp variables_read (two, (one, (os, more)))
+    calculation_reads row.DivD = simp variables_read (one, (two, (os, (one, more))))
+    calculation_reads row.Mod = simp variables_read (one, (two, (os, (one, more))))
 
-  pub negated_reads : (w : Width) → Has P (reg.Accu1 ∷ reg.Os ∷ []) → AllRead P (negated_of used w ++ rest)
+  pub calculated_reads : (a : Arith) → Has P (reads_of (op.Arith a)) → AllRead P (calculated_of used a ++ rest)
+  calculated_reads a h = calculation_reads h a
+
+  -- NEGI, and NEGD, which reads the same registers
+  pub negated_reads : (w : Width) → Has P (reads_of (op.Unary unary.Negi)) → AllRead P (negated_of used w ++ rest)
   negated_reads width.Word h = simp variables_read (h reg.Accu1 (inl refl), (h reg.Os (inr (inl refl)), (h reg.Accu1 (inl refl), more)))
   negated_reads width.Dword h = simp variables_read (h reg.Accu1 (inl refl), (h reg.Os (inr (inl refl)), more))
   negated_reads width.Bit h = simp variables_read (h reg.Accu1 (inl refl), (h reg.Os (inr (inl refl)), (h reg.Accu1 (inl refl), more)))
   negated_reads width.Byte h = simp variables_read (h reg.Accu1 (inl refl), (h reg.Os (inr (inl refl)), (h reg.Accu1 (inl refl), more)))
 
-  pub compared_reads : (t : Test) (w : Width) → Has P (reg.Accu1 ∷ reg.Accu2 ∷ []) → AllRead P (compared_of used t w ++ rest)
+  pub compared_reads : (t : Test) (w : Width) → Has P (reads_of (op.Compare t w)) → AllRead P (compared_of used t w ++ rest)
   compared_reads test.Eq w h = simp variables_read (h reg.Accu2 (inr (inl refl)), (h reg.Accu1 (inl refl), more))
   compared_reads test.Ne w h = simp variables_read (h reg.Accu2 (inr (inl refl)), (h reg.Accu1 (inl refl), more))
   compared_reads test.Gt w h = simp variables_read (h reg.Accu2 (inr (inl refl)), (h reg.Accu1 (inl refl), more))

@@ -1,5 +1,5 @@
 -- Products: their statements do what the rows do.
-use Rattle.std.proofs.Common.{◌≡◌, ℕ, ◌^◌, ◌<◌, pos, ◌||◌, List, [], ◌∷◌, Ok, refl, arith}
+use Rattle.std.proofs.Common.{ℕ, pos, ◌||◌, List, [], ◌∷◌, refl}
 use Rattle.std.specs.Prelude.{ℤ, ◌*ℤ◌, int_lt}
 use Rattle.s7_base.specs.SignedNumbers.{is_over, pattern}
 use Rattle.s7_base.specs.declared.register.Reg.TheVariants as reg

@@ -1,5 +1,5 @@
 -- Sums, differences and negatives: their statements do what the rows do.
-use Rattle.std.proofs.Common.{◌≡◌, ℕ, ◌+◌, ◌*◌, ◌/◌, ◌%◌, ◌^◌, ◌<◌, ◌≤◌, pos, Bool, ◌||◌, List, [], ◌∷◌, Result, Ok, refl, ap, ◌∙◌, arith}
+use Rattle.std.proofs.Common.{◌≡◌, ℕ, ◌^◌, ◌<◌, pos, ◌||◌, List, [], ◌∷◌, Result, Ok, refl, ap, arith}
 use Rattle.std.specs.Prelude.{ℤ, ◌+ℤ◌, ◌-ℤ◌, neg_ℤ, int_lt}
 use Rattle.s7_base.specs.SignedNumbers.{is_over, pattern, wrapped}
 use Rattle.s7_base.specs.declared.outcome.Fault.{Fault}

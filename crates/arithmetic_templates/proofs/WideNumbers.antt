@@ -1,12 +1,12 @@
 -- Facts on numbers of a width, and on wider ones.
-use Rattle.std.proofs.Common.{◌≡◌, ℕ, ◌+◌, ◌*◌, ◌-◌, ◌/◌, ◌%◌, ◌^◌, ◌<◌, ◌≤◌, pos, negsuc, Bool, true, false, not, if◌then◌else◌, suc, refl, div-le_self, arith}
+use Rattle.std.proofs.Common.{◌≡◌, ℕ, ◌+◌, ◌*◌, ◌/◌, ◌%◌, ◌^◌, ◌<◌, ◌≤◌, pos, negsuc, Bool, true, false, not, if◌then◌else◌, suc, refl, div-le_self, arith}
 use Rattle.std.specs.Prelude.{ℤ, ◌+ℤ◌, ◌-ℤ◌, ◌*ℤ◌, neg_ℤ, bit_or, int_div, int_rem, unsigned_abs}
 use Rattle.std.specs.Ordering.{int_eq}
 use Rattle.std.proofs.lemmas.Int.{ints, rem_below, unsigned_abs-mul}
 use Rattle.std.proofs.lemmas.Nat.{mul-le, or_shifted}
 use Rattle.row_templates.proofs.Numbers.{pattern_below}
 use Rattle.st_tree.specs.Values.{number_of}
-use Rattle.s7_base.specs.SignedNumbers.{is_over, number, pattern, wrapped}
+use Rattle.s7_base.specs.SignedNumbers.{is_over, number, pattern}
 
 -- A number of a width is the same in the wider type, and so is each sum and difference of two, and its negative
 
@@ -134,7 +134,7 @@ low_of_pattern (negsuc n) = omega arith
 
 pub put_words : (m q : ℤ)
     → pattern 32 (pos (bit_or (pattern 32 (pos (pattern 32 (pos (pattern 32 (pos (pattern 32 m)) * 2 ^ 16 % 2 ^ 32))))) (pattern 32 (pos (pattern 32 (pos (pattern 16 q)))))))
-      ≡ pattern 16 m * 2 ^ 16 + pattern 16 q
+    ≡ pattern 16 m * 2 ^ 16 + pattern 16 q
 put_words m q =
     let h : pattern 16 q < 2 ^ 16 = pattern_below q in
     let k : pattern 16 m < 2 ^ 16 = pattern_below m in

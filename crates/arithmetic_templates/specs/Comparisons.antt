@@ -1,5 +1,5 @@
 -- The templates of comparisons of whole numbers.
-use Rattle.std.specs.Prelude.{ℕ, ◌+◌, Bool, true, false, List, [], ◌∷◌}
+use Rattle.std.specs.Prelude.{ℕ, ◌+◌, true, false, List, [], ◌∷◌}
 use Rattle.arithmetic_templates.specs.Numbers.{narrow, number_of}
 use Rattle.row_templates.specs.Builders.{binary_of, cleared, literal_of, local_of, set_local_of, set_of}
 use Rattle.s7_base.specs.declared.register.Reg.TheVariants as reg
