@@ -1,15 +1,14 @@
 -- The statements of shifts and rotations are well typed, for locals of their types, and low.
-use Rattle.std.proofs.Common.{◌≡◌, ℕ, ◌+◌, ◌-◌, ◌^◌, ◌<◌, ◌≤◌, ◌==◌, max, pos, Bool, true, false, if◌then◌else◌, List, [], ◌∷◌, ◌++◌, Option, Some, None, refl, ap, ◌∙◌, arith}
-use Rattle.std.specs.Prelude.{ℤ, slice_get}
-use Rattle.std.proofs.lemmas.Bool.Decides.{nat_tests}
+use Rattle.std.proofs.Common.{◌≡◌, ℕ, ◌+◌, ◌-◌, ◌^◌, ◌<◌, ◌≤◌, ◌==◌, max, pos, Bool, true, false, if◌then◌else◌, List, [], ◌++◌, Option, Some, None, refl, ap, ◌∙◌, arith}
+use Rattle.std.specs.Prelude.{slice_get}
 use Rattle.std.proofs.lemmas.Int.{ints}
 use Rattle.row_templates.proofs.Typing.{IsBool, IsOf, IsPlainBody, and_is, binary_is, constant_is, convert_is, literal_is, local_is, local_plain, more, not_is, register_is, select_is, set_plain, shift_is, unary_is}
-use Rattle.row_templates.specs.Builders.{local_of, or_of, read_of, select_of, shift_of}
+use Rattle.row_templates.specs.Builders.{or_of, read_of, select_of, shift_of}
 use Rattle.s7_base.specs.declared.register.Reg.TheVariants as reg
 use Rattle.s7_base.specs.declared.word.Width.{Width}
 use Rattle.s7_base.specs.declared.word.Width.TheVariants as width
 use Rattle.shift_templates.proofs.Patterns.{IsShifted}
-use Rattle.shift_templates.specs.ShiftParts.{accu1_with, count_in_accu2, count_of, counted, flags_set, flags_set_where, has_bit, one_less, operand_of, shown_bit, signed_shift, top_bit}
+use Rattle.shift_templates.specs.ShiftParts.{accu1_with, count_of, counted, flags_set, flags_set_where, has_bit, one_less, operand_of, shown_bit, signed_shift, top_bit}
 use Rattle.shift_templates.specs.ShiftTemplates.{by_accu2, by_constant, rlda_template, rrda_template, shift_by_accu2, shift_by_constant, shift_template, signed_by_accu2, signed_by_constant, through_cc1, turn_by_accu2, turn_by_constant, types_by_accu2, types_by_constant, types_of_shift, types_through_cc1}
 use Rattle.st_tree.specs.TypeRules.{has_bits, type_of_unary, type_on_equals}
 use Rattle.st_tree.specs.Values.{type_of_width}

@@ -1,12 +1,12 @@
 -- Kinds of shifts and rotations: an operation of Structured Text, the step that it makes, and the bit that leaves.
-use Rattle.std.proofs.Common.{◌≡◌, ℕ, zero, suc, ◌+◌, ◌-◌, ◌*◌, ◌/◌, ◌%◌, ◌^◌, ◌<◌, ◌≤◌, ◌==◌, nat_le, pos, Bool, true, false, not, refl, sym, ap, ◌∙◌, arith}
+use Rattle.std.proofs.Common.{◌≡◌, ℕ, ◌+◌, ◌-◌, ◌*◌, ◌/◌, ◌%◌, ◌^◌, ◌<◌, ◌≤◌, ◌==◌, nat_le, pos, Bool, true, false, not, refl, sym, ap, ◌∙◌, arith}
 use Rattle.std.specs.Prelude.{bit_and}
 use Rattle.std.specs.Int.{from_bool}
 use Rattle.std.specs.Ordering.{int_eq}
 use Rattle.std.proofs.lemmas.Bool.Decides.{nat_tests}
 use Rattle.s7_base.specs.declared.word.Width.{Width}
 use Rattle.s7_base.specs.declared.word.Width.TheVariants as width
-use Rattle.shift_templates.proofs.Patterns.{Fits, IsShifted, Moves, around_left_keeps, around_left_moves, around_right_keeps, around_right_moves, bottom_shown, left_moves, right_moves, times_keep, top_shown}
+use Rattle.shift_templates.proofs.Patterns.{Fits, IsShifted, Moves, around_left_moves, around_right_keeps, around_right_moves, bottom_shown, left_moves, right_moves, times_keep, top_shown}
 use Rattle.shift_templates.proofs.Expressions.{one_fits, top_fits}
 use Rattle.shift_templates.specs.ShiftParts.{shown_bit}
 use Rattle.st_tree.specs.declared.expr.ShiftOp.{ShiftOp}
