@@ -14,7 +14,8 @@ use Rattle.stl_tree.specs.declared.program.Op.TheVariants as op
 use Rattle.row_templates.specs.Assignments.{AreAssignments}
 use Rattle.instruction_lowering.specs.declared.statements.OpenBracket.{OpenBracket}
 use Rattle.instruction_lowering.specs.declared.statements.Spot.{Spot}
-use Rattle.instruction_lowering.specs.inner.Lowering.{ends_block, steps_of}
+use Rattle.instruction_lowering.specs.Temporaries.{ends_block}
+use Rattle.instruction_lowering.specs.inner.Lowering.{steps_of}
 use Rattle.instruction_lowering.specs.inner.Templates.{behind, behind_check, behind_close, close_of, statements_of}
 
 two_parts : (xs ys : List Stmt) → AreAssignments xs → AreAssignments ys → AreAssignments (xs ++ ys)

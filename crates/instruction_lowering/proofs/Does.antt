@@ -1,14 +1,18 @@
 -- What the statements of an instruction owe: from related states they lead to where its effect leads.
-use Rattle.std.proofs.Common.{◌≡◌, ℕ, List}
+use Rattle.std.proofs.Common.{◌≡◌, ℕ, ◌≤◌, List, sym, subst, ◌∙◌}
 use Rattle.memory_areas.specs.Areas.{Contents}
+use Rattle.s7_base.specs.declared.check.Entry.{Entry}
 use Rattle.stl_tree.specs.Now.{Activation, Effect, enter, fault, go, leave, next}
 use Rattle.stl_tree.specs.declared.program.Op.{Op}
 use Rattle.stl_tree.specs.declared.program.Op.TheVariants as op
 use Rattle.st_tree.specs.Meaning.{Out, Faults, Normal}
 use Rattle.st_tree.specs.State.{State}
+use Rattle.row_templates.proofs.DoesRow.{DoesRow}
+use Rattle.row_templates.proofs.Locals.{own_of}
+use Rattle.instruction_lowering.specs.declared.statements.OpenBracket.{OpenBracket}
 use Rattle.instruction_lowering.specs.declared.statements.Spot.{Spot}
 use Rattle.row_templates.proofs.Alike.{Related}
-use Rattle.instruction_lowering.proofs.Temporaries.{Keeps}
+use Rattle.instruction_lowering.proofs.Temporaries.{KeepBrackets, Keeps, kept_below}
 
 -- an instruction that stands inside a node: it doesn't end its block, nor will one that jumps
 abbrev pub IsInside : Op → Type 0
@@ -25,3 +29,30 @@ Does ended units total p acts memory (fault f) = (t : State) × (ended ≡ Fault
 Does ended units total p acts memory (go to after) = ⊥
 Does ended units total p acts memory (enter call after) = ⊥
 Does ended units total p acts memory (leave after) = ⊥
+
+-- Instructions that open and close no bracket
+
+-- an effect leaves the open brackets as they were
+abbrev pub LeavesBrackets : List Entry → Effect → Type 0
+LeavesBrackets entries (next after) = after.brackets ≡ entries
+LeavesBrackets entries other = Unit {0}
+
+-- what their row does, their statements do at any spot with the same brackets before and behind
+pub does_row : (ended : Out) (units total : ℕ) (p q : Spot) (acts : List Activation) (s : State) (memory : Contents) (entries : List Entry) (effect : Effect)
+    → q.brackets ≡ p.brackets → p.used ≤ q.used → LeavesBrackets entries effect → Keeps total p entries s.activations
+    → DoesRow ended units p.used acts s memory effect → Does ended units total q acts memory effect
+does_row ended units total p q acts s memory entries (next after) same more left keeps row = (
+  row.to,
+  row.goes,
+  row.related,
+  (
+    row.as_many ∙ keeps.0,
+    subst (λ (open_now : List Entry). KeepBrackets q.used q.brackets open_now (own_of row.to.activations)) (sym left)
+        (subst (λ (brackets : List OpenBracket). KeepBrackets q.used brackets entries (own_of row.to.activations)) (sym same)
+        (kept_below p.used q.used p.brackets entries (own_of s.activations) (own_of row.to.activations) more row.below keeps.1)),
+  ),
+)
+does_row ended units total p q acts s memory entries (fault f) same more left keeps row = (row.at, row.stops, row.memory)
+does_row ended units total p q acts s memory entries (go to after) same more left keeps row = elim row [ ]
+does_row ended units total p q acts s memory entries (enter call after) same more left keeps row = elim row [ ]
+does_row ended units total p q acts s memory entries (leave after) same more left keeps row = elim row [ ]

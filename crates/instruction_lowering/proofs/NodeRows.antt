@@ -1,21 +1,13 @@
 -- How many nodes the expressions have that the instructions of a body become.
-use Rattle.std.proofs.Common.{◌≡◌, ◌∙◌, ℕ, ◌+◌, ◌*◌, ◌≤◌, Bool, true, false, if◌then◌else◌, List, [], ◌∷◌, ◌++◌, length, refl, ap, arith}
-use Rattle.std.specs.List.{sum_by}
-use Rattle.std.proofs.lemmas.List.Sums.{sum_by-append, sum_by-cons}
+use Rattle.std.proofs.Common.{◌≡◌, ℕ, ◌+◌, ◌*◌, ◌≤◌, Bool, true, false, if◌then◌else◌, List, [], ◌∷◌, length, arith}
 use Rattle.s7_base.specs.declared.check.Check.{Check}
 use Rattle.s7_base.specs.declared.check.Check.TheVariants as check
-use Rattle.s7_base.specs.declared.register.Reg.{Reg}
 use Rattle.s7_base.specs.declared.register.Reg.TheVariants as reg
 use Rattle.status_word.specs.declared.test.Test.{Test}
 use Rattle.status_word.specs.declared.test.Test.TheVariants as test
-use Rattle.st_tree.proofs.Equations.{fold_binary, fold_literal, fold_read, fold_unary}
-use Rattle.st_tree.proofs.PartEquations.{expressions_in_append, expressions_in_assign}
-use Rattle.st_tree.specs.Parts.{expressions_in}
-use Rattle.st_tree.specs.declared.expr.BinaryOp.{BinaryOp}
 use Rattle.st_tree.specs.declared.expr.BinaryOp.TheVariants as binary
 use Rattle.st_tree.specs.declared.expr.Expr.{Expr}
 use Rattle.st_tree.specs.declared.expr.Expr.TheVariants as expr
-use Rattle.st_tree.specs.declared.expr.UnaryOp.TheVariants as unary
 use Rattle.st_tree.specs.declared.expr.Var.{Var}
 use Rattle.st_tree.specs.declared.expr.Var.TheVariants as var
 use Rattle.st_tree.specs.declared.program.Stmt.{Stmt}
@@ -25,33 +17,17 @@ use Rattle.stl_tree.specs.declared.program.BitArg.TheVariants as arg
 use Rattle.stl_tree.specs.declared.program.Instr.{Instr}
 use Rattle.stl_tree.specs.declared.program.Op.{Op}
 use Rattle.stl_tree.specs.declared.program.Op.TheVariants as op
-use Rattle.row_templates.specs.Nodes.{nodes, nodes_in, nodes_step}
+use Rattle.row_templates.proofs.Sizes.{of_append, of_assign, of_cleared, of_joined, of_literal, of_nfc, of_not, of_not_register, of_nothing, of_read, of_register}
+use Rattle.row_templates.specs.Nodes.{nodes, nodes_in}
 use Rattle.instruction_lowering.specs.declared.statements.Chain.{Chain}
 use Rattle.instruction_lowering.specs.declared.statements.OpenBracket.{OpenBracket}
 use Rattle.instruction_lowering.specs.declared.statements.Spot.{Spot}
-use Rattle.instruction_lowering.specs.inner.Lowering.{ends_block, steps_of}
+use Rattle.instruction_lowering.specs.Temporaries.{ends_block}
+use Rattle.instruction_lowering.specs.inner.Lowering.{steps_of}
 use Rattle.instruction_lowering.specs.inner.Templates.{and_joined, answer_of, behind, behind_check, behind_close, checked_of, close_of, edge_of, keep_of, next_rlo, open_of, rlo_before_and, rlo_before_or, running_chain, statements_of, store_of}
 use Rattle.row_templates.specs.Builders.{and_of, bit_of, cleared, literal_of, not_of, or_of, read_of, set_of}
 
 -- Expressions
-
-of_read : (v : Var) → nodes (expr.Read v) ≡ 1
-of_read v = fold_read ℕ nodes_step v
-
-of_literal : (b : Bool) → nodes (literal_of b) ≡ 1
-of_literal b = fold_literal ℕ nodes_step _ _
-
-of_not : (e : Expr) → nodes (not_of e) ≡ 1 + nodes e
-of_not e = fold_unary ℕ nodes_step unary.Not e
-
-of_joined : (op : BinaryOp) (e f : Expr) → nodes (expr.Binary op e f) ≡ 1 + nodes e + nodes f
-of_joined op e f = fold_binary ℕ nodes_step op e f
-
-of_register : (r : Reg) → nodes (read_of r) ≡ 1
-of_register r = of_read (var.Register r)
-
-of_not_register : (r : Reg) → nodes (not_of (read_of r)) ≡ 2
-of_not_register r = omega (arith, of_not (read_of r), of_register r)
 
 of_answer : (t : Test) → nodes (answer_of t) ≤ 5
 of_answer test.Eq = omega (arith, of_joined binary.And (not_of (read_of reg.Cc1)) (not_of (read_of reg.Cc0)), of_not_register reg.Cc1, of_not_register reg.Cc0)
@@ -82,21 +58,6 @@ of_and chain e =
 
 -- Statements
 
-of_assign : (v : Var) (e : Expr) (rest : List Stmt) → nodes_in (stmt.Assign v e ∷ rest) ≡ nodes e + nodes_in rest
-of_assign v e rest = ap (sum_by nodes) (expressions_in_assign v e rest) ∙ sum_by-cons nodes e (expressions_in rest)
-
-of_append : (xs ys : List Stmt) → nodes_in (xs ++ ys) ≡ nodes_in xs + nodes_in ys
-of_append xs ys = ap (sum_by nodes) (expressions_in_append xs ys) ∙ sum_by-append nodes (expressions_in xs) (expressions_in ys)
-
-of_nothing : nodes_in [] ≡ 0
-of_nothing = refl
-
-of_nfc : (b : Bool) → nodes_in (set_of reg.Nfc (literal_of b) ∷ []) ≡ 1
-of_nfc b = omega (arith, of_assign (var.Register reg.Nfc) (literal_of b) [], of_literal b, of_nothing)
-
-of_cleared : (b : Bool) → nodes_in (cleared b) ≡ 2
-of_cleared b = omega (arith, of_assign (var.Register reg.Orb) (literal_of false) (set_of reg.Nfc (literal_of b) ∷ []), of_literal false, of_nfc b)
-
 of_put_back : (v : Var) → nodes_in (set_of reg.Orb (expr.Read v) ∷ set_of reg.Nfc (literal_of true) ∷ []) ≡ 2
 of_put_back v = omega (arith, of_assign (var.Register reg.Orb) (expr.Read v) (set_of reg.Nfc (literal_of true) ∷ []), of_read v, of_nfc true)
 
@@ -117,7 +78,7 @@ of_closed check.On chain e = omega (arith, of_joined binary.Or (rlo_before_or ch
 of_closed check.X chain e = omega (arith, of_joined binary.Xor (rlo_before_or chain) e, before_or chain, of_cleared true)
 of_closed check.Xn chain e = omega (arith, of_joined binary.Xor (rlo_before_or chain) (not_of e), of_not e, before_or chain, of_cleared true)
 
-of_brackets : (brackets : List OpenBracket) → nodes_in (close_of brackets) ≤ 14
+of_brackets : (brackets : List OpenBracket) → nodes_in (close_of brackets) ≤ 91
 of_brackets [] = omega (arith, of_nothing)
 of_brackets (o ∷ outer) =
     let e : Expr = next_rlo o.kept o.check (read_of reg.Rlo) in
@@ -157,7 +118,7 @@ of_edge i v e =
 of_one : (v : Var) (e : Expr) → nodes_in (stmt.Assign v e ∷ []) ≡ nodes e
 of_one v e = omega (arith, of_assign v e [], of_nothing)
 
-of_instruction : (o : Op) (q : Spot) → nodes_in (statements_of q o) ≤ 14
+of_instruction : (o : Op) (q : Spot) → nodes_in (statements_of q o) ≤ 91
 of_instruction (op.Check c b) q =
     let e : Expr = next_rlo running_chain c (checked_of b) in
     omega (arith, of_assign (var.Register reg.Rlo) e (behind_check c), of_check c (checked_of b), of_checked b)
@@ -212,14 +173,14 @@ of_instruction (op.EdgeDown o) q =
 of_instruction op.Nop q = omega (arith, of_nothing)
 of_instruction op.BlockEnd q = omega (arith, of_nothing)
 
--- each becomes at most fourteen
-pub few_nodes : (body : List Instr) (q : Spot) → nodes_in (steps_of q body) ≤ 14 * length body
+-- each becomes at most 91
+pub few_nodes : (body : List Instr) (q : Spot) → nodes_in (steps_of q body) ≤ 91 * length body
 few_nodes [] q = omega (arith, of_nothing)
 few_nodes (i ∷ rest) q =
     let own = of_instruction i.op q in
     let more = by (ends_block i.op) (few_nodes rest (behind i.op q)) in
     omega (arith, of_append (statements_of q i.op) (if ends_block i.op then [] else steps_of (behind i.op q) rest))
   where
-    by : (b : Bool) → nodes_in (steps_of (behind i.op q) rest) ≤ 14 * length rest → nodes_in (if b then [] else steps_of (behind i.op q) rest) ≤ 14 * length rest
+    by : (b : Bool) → nodes_in (steps_of (behind i.op q) rest) ≤ 91 * length rest → nodes_in (if b then [] else steps_of (behind i.op q) rest) ≤ 91 * length rest
     by true h = omega (arith, of_nothing)
     by false h = h

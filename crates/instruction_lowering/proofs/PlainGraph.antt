@@ -1,5 +1,5 @@
 -- The graph program of an accepted program is plain.
-use Rattle.std.proofs.Common.{◌≡◌, ◌≢◌, ℕ, zero, suc, ◌+◌, ◌^◌, ◌<◌, ◌≤◌, ◌==◌, true, if◌then◌else◌, List, [], ◌∷◌, ◌++◌, length, map, Some, refl, sym, ap, subst, ◌∙◌, arith}
+use Rattle.std.proofs.Common.{◌≡◌, ◌≢◌, ℕ, zero, suc, ◌+◌, ◌^◌, ◌≤◌, ◌==◌, true, if◌then◌else◌, List, [], ◌∷◌, ◌++◌, length, map, Some, refl, sym, ap, subst, ◌∙◌, arith}
 use Rattle.std.specs.Prelude.{All, slice_get, take}
 use Rattle.std.proofs.lemmas.Bool.{eqb-true}
 use Rattle.std.proofs.lemmas.List.Elements.{All-cons, All-head, All-nil, All-tail}
@@ -13,7 +13,8 @@ use Rattle.st_tree.specs.Naming.{are_apart, key_of}
 use Rattle.st_tree.specs.Plain.{IsGivenOn, IsOnlyEnd, IsPlainNode, IsPlainUnit, Plain, listed, listed_text}
 use Rattle.st_tree.specs.StRun.{called_name}
 use Rattle.st_tree.specs.Proper.{IsDataBlock, IsFormal, IsGlobal, IsProperUnit, Proper}
-use Rattle.st_tree.specs.WellTyped.{Head, head_of, sight_of}
+use Rattle.st_tree.specs.WellTyped.{Head, head_of, sight_of, type_inside}
+use Rattle.st_tree.specs.declared.expr.StType.{StType}
 use Rattle.st_tree.specs.declared.expr.Var.{Var}
 use Rattle.st_tree.specs.declared.graph.GraphPou.{GraphPou}
 use Rattle.st_tree.specs.declared.graph.StExit.TheVariants as exit
@@ -23,9 +24,11 @@ use Rattle.st_tree.specs.declared.program.StProgram.{StProgram}
 use Rattle.instruction_lowering.proofs.Names.{numbered}
 use Rattle.instruction_lowering.proofs.ProperNames.{has_name, names_unit, units_apart}
 use Rattle.instruction_lowering.proofs.Assignments.{are_assignments, are_steps}
-use Rattle.instruction_lowering.proofs.PlainStatements.{IsPlainBody, of_node}
-use Rattle.instruction_lowering.proofs.TemporaryNames.{are_temporaries, locals_apart, proper_locals, so_many, typed_bool}
-use Rattle.instruction_lowering.specs.inner.Lowering.{AreFew, IsFew, ends_block, lowered, node_of, steps_of, temporaries, unit_of, used_behind}
+use Rattle.instruction_lowering.proofs.PlainStatements.{of_node}
+use Rattle.row_templates.proofs.Typing.{AreTyped, IsPlainBody}
+use Rattle.instruction_lowering.proofs.TemporaryNames.{are_temporaries, locals_apart, proper_locals, so_many, typed_local}
+use Rattle.instruction_lowering.specs.Temporaries.{ends_block, types_in}
+use Rattle.instruction_lowering.specs.inner.Lowering.{AreFew, IsFew, lowered, node_of, steps_of, temporaries, unit_of}
 use Rattle.instruction_lowering.specs.inner.Templates.{first_spot, statements_of}
 use Rattle.stl_tree.specs.Accepted.{IsAccepted, IsAcceptedBlock, IsEnded}
 use Rattle.stl_tree.specs.declared.program.Block.{Block}
@@ -54,17 +57,19 @@ all_few (x ∷ rest) (suc i) h few = (few.0, all_few rest i (omega arith) few.1)
 
 -- a block uses no more temporaries than have numbers
 module _ (block : Block) (h : IsAcceptedBlock block) (few : IsFew block) where
-  abbrev many : ℕ
-  many = used_behind first_spot block.body
+  abbrev types : List StType
+  types = types_in block.body
 
-  small : 1 + length (temporaries many) ≤ 2 ^ 33
-  small = let e = so_many many in omega arith
+  small : 1 + length (temporaries 0 types) ≤ 2 ^ 33
+  small = let e = so_many 0 types in omega arith
+
+  own_typed : (heads : List Head) → AreTyped (sight_of [] heads (text_of (unit_of block))) 0 types
+  own_typed heads k ty e =
+      let at : 0 + k ≡ k = omega arith in
+      ap (λ (i : ℕ). type_inside (slice_get (temporaries 0 types) i)) at ∙ typed_local 1 types (temporaries 0 types) (are_temporaries 0 types) k ty e
 
   plain_body : (heads : List Head) → IsPlainBody (sight_of [] heads (text_of (unit_of block))) (listed (node_of block.body ∷ []))
-  plain_body heads =
-      of_node (sight_of [] heads (text_of (unit_of block))) many
-      (λ i less. typed_bool 1 (temporaries many) (are_temporaries many) i (subst (λ n. i < n) (sym (so_many many)) less))
-      block.body h.operands (omega arith)
+  plain_body heads = of_node (sight_of [] heads (text_of (unit_of block))) block.body h.operands (own_typed heads)
 
   proper_unit : (heads : List Head) → IsProperUnit [] heads (text_of (unit_of block))
   proper_unit heads =
@@ -73,8 +78,8 @@ module _ (block : Block) (h : IsAcceptedBlock block) (few : IsFew block) where
         free = names_unit block.name (numbered block.name h.number);
         program = λ e. refl;
         formals = All-nil IsFormal;
-        locals = proper_locals 1 (temporaries many) small (are_temporaries many);
-        apart = locals_apart 1 (temporaries many) small (are_temporaries many);
+        locals = proper_locals 1 types (temporaries 0 types) small (are_temporaries 0 types);
+        apart = locals_apart 1 types (temporaries 0 types) small (are_temporaries 0 types);
         typed = (plain_body heads).typed;
         nesting = (plain_body heads).low;
       }

@@ -1,5 +1,5 @@
 -- A program and its graph program mean the same.
-use Rattle.std.proofs.Common.{◌≡◌, ℕ, zero, suc, ◌*◌, ◌≤◌, false, List, [], ◌∷◌, map, length, Option, Some, None, refl, sym, ap, ◌∙◌, subst, arith}
+use Rattle.std.proofs.Common.{◌≡◌, ℕ, zero, suc, ◌+◌, ◌*◌, ◌≤◌, false, List, [], ◌∷◌, map, length, Option, Some, None, refl, sym, ap, ◌∙◌, subst, arith}
 use Rattle.std.specs.Prelude.{All, IsSome, find, option_map}
 use Rattle.std.proofs.lemmas.Simd.{map-map}
 use Rattle.memory_areas.specs.Areas.{Areas, Contents, with_areas}
@@ -25,6 +25,7 @@ use Rattle.st_tree.specs.declared.graph.GraphProgram.{GraphProgram}
 use Rattle.st_tree.specs.declared.program.Pou.{Pou}
 use Rattle.st_tree.specs.declared.program.StProgram.{StProgram}
 use Rattle.instruction_lowering.specs.Lowered.{AreUnitsOf, IsHeadOf, IsRead, Lowered, SameGraphRuns}
+use Rattle.instruction_lowering.specs.Temporaries.{types_in}
 use Rattle.instruction_lowering.specs.inner.Lowering.{head_for, lowered, node_of, temporaries, unit_of, used_behind}
 use Rattle.instruction_lowering.specs.inner.Templates.{first_spot}
 use Rattle.row_templates.proofs.Alike.{AreAlike, AreInRange, IsKept, Related}
@@ -38,13 +39,13 @@ use Rattle.st_tree.specs.Calls.{zero_of}
 use Rattle.std.proofs.lemmas.List.{length-map}
 use Rattle.instruction_lowering.proofs.NodeRows.{few_nodes}
 use Rattle.instruction_lowering.proofs.SizeRows.{few_steps}
-use Rattle.instruction_lowering.proofs.Simulation.{Follows, Sees, at_node, both_end, ran, through}
+use Rattle.instruction_lowering.proofs.Simulation.{Follows, Sees, at_node, both_end, ran, through, used_behind_all}
 
 -- Units
 
-head_is : (b : Block) → IsHeadOf b.name (head_for b)
+head_is : (b : Block) → IsHeadOf b (head_for b)
 head_is b =
-    record { program = refl; name = refl; formals = refl; locals = are_temporaries (used_behind first_spot b.body); body = refl }
+    record { program = refl; name = refl; formals = refl; locals = are_temporaries 0 (types_in b.body); body = refl }
 
 units_of : (blocks : List Block) → AreUnitsOf blocks (map unit_of blocks)
 units_of [] = tt
@@ -147,7 +148,10 @@ module _ (program : Program) (formed : All IsAcceptedBlock program.blocks) (call
 
   start_keeps : (memory : Areas) → Keeps (used_behind first_spot b.body) first_spot [] (state memory).activations
   start_keeps memory =
-      (length-map (temporaries (used_behind first_spot b.body)) zero_of ∙ so_many (used_behind first_spot b.body), tt)
+      let all : used_behind first_spot b.body ≡ 0 + length (types_in b.body) = used_behind_all b.body first_spot in
+      let many : length (temporaries 0 (types_in b.body)) ≡ length (types_in b.body) = so_many 0 (types_in b.body) in
+      let long : length (temporaries 0 (types_in b.body)) ≡ used_behind first_spot b.body = omega arith in
+      (length-map (temporaries 0 (types_in b.body)) zero_of ∙ long, tt)
 
   -- behind the first block nothing follows
   nothing_follows : (counts : Counting) (side : Side) (n : ℕ) → Follows program graph counts side (size_of program) n first [] (λ units s. Ended s.memory.areas None) 0

@@ -3,6 +3,7 @@ use Rattle.nesting_stack.specs.Entries.{most_open}
 use Rattle.std.proofs.Common.{◌≡◌, ℕ, zero, suc, ◌+◌, ◌<◌, ◌≤◌, Bool, true, false, if◌then◌else◌, List, [], ◌∷◌, ◌++◌, length, Option, Some, None, refl, sym, ap, ◌∙◌, subst, ◌⊎◌, inl, inr, ⊎_elim, arith}
 use Rattle.std.specs.Prelude.{nat_lt, option_and_then, slice_get}
 use Rattle.std.proofs.Math.Nat.{eq-or-lt_of_le}
+use Rattle.std.proofs.lemmas.List.{length-append}
 use Rattle.memory_areas.specs.Areas.{Areas, Contents}
 use Rattle.memory_areas.specs.End.{End, Ended, Going}
 use Rattle.status_word.specs.StatusBits.{after_end}
@@ -27,7 +28,8 @@ use Rattle.st_tree.specs.declared.graph.StExit.TheVariants as exit
 use Rattle.st_tree.specs.declared.graph.StNode.{StNode}
 use Rattle.st_tree.specs.declared.program.Located.{Located}
 use Rattle.st_tree.specs.declared.program.Stmt.{Stmt}
-use Rattle.instruction_lowering.specs.inner.Lowering.{ends_block, node_of, steps_of, used_behind}
+use Rattle.instruction_lowering.specs.Temporaries.{ends_block, types_in, types_of}
+use Rattle.instruction_lowering.specs.inner.Lowering.{node_of, steps_of, used_behind}
 use Rattle.instruction_lowering.specs.inner.Templates.{behind, first_spot, outer_of, statements_of}
 use Rattle.row_templates.proofs.Alike.{AreAlike, HandedOn, IsHandedOn, IsKept, Related, keep_bits, keep_position}
 use Rattle.instruction_lowering.proofs.Bounds.{Begun, Behind, Side, Within, back, IsBack, IsForth, first_step, forth, last_step, next_step, no_first_step, no_node, no_step}
@@ -105,6 +107,24 @@ more_used : (o : Op) (q : Spot) → q.used ≤ (behind o q).used
 more_used (op.Bracket c) q = omega arith
 more_used op.Close q = omega arith
 more_used o q = omega arith
+
+-- an instruction takes as many temporaries as it has types of them
+pub used_behind_one : (o : Op) (q : Spot) → (behind o q).used ≡ q.used + length (types_of o)
+used_behind_one (op.Bracket c) q = refl
+used_behind_one op.Close q = omega arith
+used_behind_one (op.EdgeUp o) q = refl
+used_behind_one (op.EdgeDown o) q = refl
+used_behind_one o q = omega arith
+
+-- and so do those of a body
+pub used_behind_all : (is : List Instr) (q : Spot) → used_behind q is ≡ q.used + length (types_in is)
+used_behind_all [] q = omega arith
+used_behind_all (i ∷ is) q = by (ends_block i.op) (used_behind_one i.op q) (used_behind_all is (behind i.op q))
+  where
+    by : (b : Bool) → (behind i.op q).used ≡ q.used + length (types_of i.op) → used_behind (behind i.op q) is ≡ (behind i.op q).used + length (types_in is)
+        → (if b then (behind i.op q).used else used_behind (behind i.op q) is) ≡ q.used + length (types_of i.op ++ (if b then [] else types_in is))
+    by true h k = omega (arith, length-append (types_of i.op) [])
+    by false h k = omega (arith, length-append (types_of i.op) (types_in is))
 
 pub used_grows : (is : List Instr) (q : Spot) → q.used ≤ used_behind q is
 used_grows [] q = omega arith

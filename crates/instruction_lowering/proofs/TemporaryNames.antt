@@ -2,45 +2,37 @@
 use Rattle.std.proofs.Common.{◌≡◌, ℕ, zero, suc, ◌+◌, ◌-◌, ◌^◌, ◌<◌, ◌≤◌, ◌==◌, Bool, true, false, ◌&&◌, List, [], ◌∷◌, ◌++◌, length, Some, refl, ap, ◌∙◌, subst, arith}
 use Rattle.std.specs.Prelude.{All, codes, decimal, slice_get}
 use Rattle.std.proofs.lemmas.Bool.Decides.{nat_tests}
-use Rattle.std.proofs.lemmas.List.{length-append}
 use Rattle.std.proofs.lemmas.List.Elements.{All-cons, All-nil}
 use Rattle.st_tree.specs.Naming.{are_apart, is_name, is_new, is_same, is_unreserved, key_of, may_name_local}
 use Rattle.st_tree.specs.Proper.{IsLocal}
 use Rattle.st_tree.specs.WellTyped.{keys_of, type_inside}
-use Rattle.st_tree.specs.declared.expr.StType.TheVariants as type
+use Rattle.st_tree.specs.declared.expr.StType.{StType}
 use Rattle.st_tree.specs.declared.program.Local.{Local}
-use Rattle.instruction_lowering.specs.Lowered.{AreTemporaries}
-use Rattle.instruction_lowering.specs.inner.Lowering.{temporaries, temporary}
+use Rattle.instruction_lowering.specs.Temporaries.{AreTemporaries}
+use Rattle.instruction_lowering.specs.inner.Lowering.{temporaries}
 use Rattle.instruction_lowering.proofs.Names.{same_number}
 use Rattle.instruction_lowering.proofs.ProperNames.{Digits, decimal_digits, upper_digit}
 use Rattle.std.specs.Char.{to_ascii_uppercase}
 use Rattle.std.specs.List.{list_all}
 use Rattle.s7_base.specs.Tokens.{is_between}
 
-both : (n : ℕ) (xs ys : List Local) → AreTemporaries n xs → AreTemporaries (n + length xs) ys → AreTemporaries n (xs ++ ys)
-both n [] ys h k = let e : n + 0 ≡ n = omega arith in subst (λ m. AreTemporaries m ys) e k
-both n (x ∷ xs) ys h k =
-    let e : n + suc (length xs) ≡ suc n + length xs = omega arith in
-    (h.0, h.1, both (suc n) xs ys h.2 (subst (λ m. AreTemporaries m ys) e k))
+-- there is one for each type
+pub so_many : (n : ℕ) (types : List StType) → length (temporaries n types) ≡ length types
+so_many n [] = refl
+so_many n (ty ∷ types) = ap suc (so_many (suc n) types)
 
--- so many are so many
-pub so_many : (n : ℕ) → length (temporaries n) ≡ n
-so_many zero = refl
-so_many (suc n) = let e = so_many n in omega (arith, length-append (temporaries n) (temporary (suc n) ∷ []))
+-- they are temporaries
+pub are_temporaries : (n : ℕ) (types : List StType) → AreTemporaries (suc n) types (temporaries n types)
+are_temporaries n [] = tt
+are_temporaries n (ty ∷ types) = (refl, refl, are_temporaries (suc n) types)
 
--- they are temporaries, from the first one on
-pub are_temporaries : (n : ℕ) → AreTemporaries 1 (temporaries n)
-are_temporaries zero = tt
-are_temporaries (suc n) =
-    let e : suc n ≡ 1 + length (temporaries n) = let many = so_many n in omega arith in
-    both 1 (temporaries n) (temporary (suc n) ∷ []) (are_temporaries n)
-    (subst (λ m. AreTemporaries m (temporary (suc n) ∷ [])) e (refl, refl, tt))
-
--- each is of type BOOL
-pub typed_bool : (n : ℕ) (locals : List Local) → AreTemporaries n locals → (i : ℕ) → i < length locals → type_inside (slice_get locals i) ≡ Some type.Bool
-typed_bool n [] h i small = absurd (omega arith)
-typed_bool n (x ∷ rest) h zero small = ap Some h.1
-typed_bool n (x ∷ rest) h (suc i) small = typed_bool (suc n) rest h.2 i (omega arith)
+-- each has its type
+pub typed_local : (n : ℕ) (types : List StType) (locals : List Local) → AreTemporaries n types locals → (i : ℕ) (ty : StType) → slice_get types i ≡ Some ty
+    → type_inside (slice_get locals i) ≡ Some ty
+typed_local n [] locals h i ty e = cc
+typed_local n (t ∷ types) [] h i ty e = elim h [ ]
+typed_local n (t ∷ types) (x ∷ rest) h zero ty e = ap Some h.1 ∙ e
+typed_local n (t ∷ types) (x ∷ rest) h (suc i) ty e = typed_local (suc n) types rest h.2 i ty e
 
 -- Names
 
@@ -84,12 +76,13 @@ named n h = let d = decimal_digits n h in rw (d.bytes, unreserved (decimal n) d)
 names_local : (n : ℕ) → may_name_local (codes "T" ++ decimal n) ≡ true
 names_local n = refl
 
-pub proper_locals : (n : ℕ) (locals : List Local) → n + length locals ≤ 2 ^ 33 → AreTemporaries n locals → All IsLocal locals
-proper_locals n [] small h = All-nil IsLocal
-proper_locals n (x ∷ rest) small h =
+pub proper_locals : (n : ℕ) (types : List StType) (locals : List Local) → n + length locals ≤ 2 ^ 33 → AreTemporaries n types locals → All IsLocal locals
+proper_locals n types [] small h = All-nil IsLocal
+proper_locals n [] (x ∷ rest) small h = elim h [ ]
+proper_locals n (ty ∷ types) (x ∷ rest) small h =
     let local : IsLocal x =
     record { name = ap is_name h.0 ∙ named n (omega arith); free = ap may_name_local h.0 ∙ names_local n } in
-    All-cons IsLocal x rest local (proper_locals (suc n) rest (omega arith) h.2)
+    All-cons IsLocal x rest local (proper_locals (suc n) types rest (omega arith) h.2)
 
 same_key : (m n : ℕ) → m < 2 ^ 64 → n < 2 ^ 64 → is_same (key_of (codes "T" ++ decimal m)) (key_of (codes "T" ++ decimal n)) ≡ m == n
 unfolding key_of
@@ -98,15 +91,17 @@ same_key m n h k = same_number to_ascii_uppercase upper_digit m n h k
 not_same : (m n : ℕ) → m < n → (m == n) ≡ false
 not_same m n h = grind (arith, nat_tests)
 
-is_new_one : (m n : ℕ) (locals : List Local) → m < n → n + length locals ≤ 2 ^ 33 → AreTemporaries n locals
+is_new_one : (m n : ℕ) (types : List StType) (locals : List Local) → m < n → n + length locals ≤ 2 ^ 33 → AreTemporaries n types locals
     → is_new (key_of (codes "T" ++ decimal m)) (keys_of locals) ≡ true
-is_new_one m n [] less small h = refl
-is_new_one m n (x ∷ rest) less small h =
-    let more = is_new_one m (suc n) rest (omega arith) (omega arith) h.2 in
+is_new_one m n types [] less small h = refl
+is_new_one m n [] (x ∷ rest) less small h = elim h [ ]
+is_new_one m n (ty ∷ types) (x ∷ rest) less small h =
+    let more = is_new_one m (suc n) types rest (omega arith) (omega arith) h.2 in
     rw (h.0, same_key m n (omega arith) (omega arith), not_same m n less) more
 
 -- no two have one name
-pub locals_apart : (n : ℕ) (locals : List Local) → n + length locals ≤ 2 ^ 33 → AreTemporaries n locals → are_apart (keys_of locals) ≡ true
-locals_apart n [] small h = refl
-locals_apart n (x ∷ rest) small h =
-    rw (h.0, is_new_one n (suc n) rest (omega arith) (omega arith) h.2) (locals_apart (suc n) rest (omega arith) h.2)
+pub locals_apart : (n : ℕ) (types : List StType) (locals : List Local) → n + length locals ≤ 2 ^ 33 → AreTemporaries n types locals → are_apart (keys_of locals) ≡ true
+locals_apart n types [] small h = refl
+locals_apart n [] (x ∷ rest) small h = elim h [ ]
+locals_apart n (ty ∷ types) (x ∷ rest) small h =
+    rw (h.0, is_new_one n (suc n) types rest (omega arith) (omega arith) h.2) (locals_apart (suc n) types rest (omega arith) h.2)

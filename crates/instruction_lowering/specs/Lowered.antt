@@ -1,18 +1,15 @@
 -- A graph program that means the same as a program.
-use Rattle.std.specs.Prelude.{◌≡◌, ℕ, suc, ◌*◌, ◌≤◌, true, ◌==◌, codes, decimal, List, [], ◌∷◌, ◌++◌, ◌⊎◌, length, Option}
+use Rattle.std.specs.Prelude.{◌≡◌, ℕ, ◌*◌, ◌≤◌, true, ◌==◌, List, [], ◌∷◌, ◌⊎◌, length, Option}
 use Rattle.memory_areas.specs.Areas.{Areas, IsMemoryOf}
 use Rattle.memory_areas.specs.End.{End, Ended}
 use Rattle.memory_areas.specs.declared.data_block.DataBlock.{DataBlock}
 use Rattle.s7_base.specs.declared.outcome.Fault.{Fault}
 use Rattle.s7_base.specs.declared.register.Reg.{Reg}
 use Rattle.st_tree.specs.Parts.{reads_in}
-use Rattle.st_tree.specs.declared.expr.Var.{Var}
-use Rattle.st_tree.specs.declared.expr.Var.TheVariants as var
 use Rattle.stl_tree.specs.Reads.{reads_of}
 use Rattle.stl_tree.specs.declared.program.Instr.{Instr}
 use Rattle.stl_tree.specs.StlRun.{Fits, HasNoInstance, size_of, stl_run}
 use Rattle.stl_tree.specs.declared.program.Block.{Block}
-use Rattle.memory_areas.specs.declared.call.BlockName.{BlockName}
 use Rattle.memory_areas.specs.declared.call.Call.{Call}
 use Rattle.stl_tree.specs.declared.program.Program.{Program}
 use Rattle.st_tree.specs.GraphRun.{FitsGraph, graph_run, pass_run}
@@ -21,28 +18,21 @@ use Rattle.st_tree.specs.declared.graph.GraphPou.{GraphPou}
 use Rattle.st_tree.specs.declared.graph.GraphProgram.{GraphProgram}
 use Rattle.st_tree.specs.declared.graph.StExit.TheVariants as exit
 use Rattle.st_tree.specs.declared.graph.StNode.{StNode}
-use Rattle.st_tree.specs.declared.expr.StType.TheVariants as type
-use Rattle.st_tree.specs.declared.program.Local.{Local}
 use Rattle.st_tree.specs.declared.program.Pou.{Pou}
-use Rattle.st_tree.specs.declared.program.Stmt.{Stmt}
-use Rattle.st_tree.specs.declared.program.Stmt.TheVariants as stmt
+use Rattle.instruction_lowering.specs.Temporaries.{AreTemporaries, types_in}
 use Rattle.row_templates.specs.Assignments.{AreAssignments}
 use Rattle.row_templates.specs.Nodes.{nodes_in}
 use Rattle.row_templates.specs.Reading.{EachRegister, IsAmong}
 
 -- Units
 
--- temporaries of a unit: they are of type BOOL, and their names are T and a number, from this one on, as T1, T2
-abbrev pub AreTemporaries : ℕ → List Local → Type 0
-AreTemporaries n [] = Unit {0}
-AreTemporaries n (local ∷ rest) = (local.name ≡ codes "T" ++ decimal n) × (local.ty ≡ type.Bool) × AreTemporaries (suc n) rest
-
--- the head of a block's unit: a program with the name of the block, whose locals are temporaries
-pub record IsHeadOf (called : BlockName) (head : Pou) : Type 0 where
+-- the head of a block's unit: a program with the name of the block, whose locals are the temporaries of its
+-- instructions
+pub record IsHeadOf (block : Block) (head : Pou) : Type 0 where
   pub program : head.program ≡ true
-  pub name : head.name ≡ called_name called
+  pub name : head.name ≡ called_name block.name
   pub formals : head.formals ≡ []
-  pub locals : AreTemporaries 1 head.locals
+  pub locals : AreTemporaries 1 (types_in block.body) head.locals
   pub body : head.body ≡ []
 
 -- Reads
@@ -53,18 +43,18 @@ IsRead [] r = ⊥
 IsRead (i ∷ rest) r = IsAmong r (reads_of i.op) ⊎ IsRead rest r
 
 -- a unit is that of a block: it has its head, and one node, since no instruction jumps, which ends it;
--- it reads the register variables alone that instructions of the block read, and has at most five statements and
--- fourteen nodes of expressions for each of them
+-- it reads the register variables alone that instructions of the block read, and has at most eleven statements
+-- and 91 nodes of expressions for each of them
 pub record IsUnitOf (block : Block) (unit : GraphPou) : Type 0 where
-  pub head : IsHeadOf block.name unit.head
+  pub head : IsHeadOf block unit.head
   pub node : StNode
   pub nodes : unit.graph.nodes ≡ node ∷ []
   pub exit : node.exit ≡ exit.End
   pub only_end : node.only_end ≡ length block.body == 1
   pub steps : AreAssignments node.steps
   pub reads : EachRegister (IsRead block.body) (reads_in node.steps)
-  pub few : length node.steps ≤ 5 * length block.body
-  pub small : nodes_in node.steps ≤ 14 * length block.body
+  pub few : length node.steps ≤ 11 * length block.body
+  pub small : nodes_in node.steps ≤ 91 * length block.body
 
 -- there is a unit for each block, in the same order
 abbrev pub AreUnitsOf : List Block → List GraphPou → Type 0

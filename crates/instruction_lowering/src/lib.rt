@@ -6,5 +6,6 @@
 
 pub use units::lower;
 
+mod locals;
 mod statements;
 mod units;

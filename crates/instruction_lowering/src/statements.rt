@@ -33,7 +33,7 @@ pub struct OpenBracket {
 #[derive(Drop)]
 pub struct Spot {
     /// How many locals the unit has so far.
-    pub used: u32,
+    used: u32,
 
     /// The innermost one first.
     brackets: LinkedList<OpenBracket>,

@@ -1,19 +1,20 @@
 //! The units of a program's blocks.
 //!
 //! No instruction of the language so far jumps, so each unit is one node, which its end word ends.
-ghost use Rattle.std.specs.Prelude.{◌≡◌, ◌<◌, ◌^◌, ◌++◌, ◌==◌, decimal, length, IfOk, OnOk};
+ghost use Rattle.std.specs.Prelude.{◌≡◌, ◌++◌, decimal, IfOk, OnOk};
 ghost use Rattle.st_tree.specs.Plain.{Plain};
 ghost use Rattle.st_tree.specs.StRun.{called_name};
 ghost use Rattle.stl_tree.specs.Accepted.{IsAccepted};
 ghost use Rattle.instruction_lowering.specs.Lowered.{Lowered};
-ghost use Rattle.instruction_lowering.specs.inner.Lowering.{IsFew, ends_block, head_of_block, lowered, steps_of, temporaries, temporary, unit_of, used_behind};
+ghost use Rattle.instruction_lowering.specs.inner.Lowering.{IsFew, head_for, lowered, node_of, unit_of};
 
+use crate::locals::{ends_block, locals_of};
 use crate::statements::{Spot, push_statements};
 use itoa::Buffer;
 use s7_base::{List, NoMemory};
-use st_tree::{GraphPou, GraphProgram, Local, Pou, StExit, StGraph, StNode, StType};
+use st_tree::{GraphPou, GraphProgram, Pou, StExit, StGraph, StNode};
 use std::alloc::Global;
-use stl_tree::{Block, BlockName, Instr, Op, Program};
+use stl_tree::{Block, BlockName, Instr, Program};
 
 /// The graph program of a program: a unit for each block, in the order of the blocks. It means the same.
 pub fn lower(alloc: Global, program: &Program) -> Result<GraphProgram, NoMemory>
@@ -36,10 +37,8 @@ fn unit(alloc: Global, block: &Block) -> Result<GraphPou, NoMemory>
     ensures unit { IfOk result (λ unit. unit ≡ unit_of block.now) }
     ensures few { OnOk result (IsFew block.now) }
 {
-    let body = block.body.as_slice();
-    let mut spot = Spot::first(alloc);
-    let node = node(alloc, &mut spot, body)?;
-    let head = head(alloc, block.name, spot.used)?;
+    let node = node(alloc, block.body.as_slice())?;
+    let head = head(alloc, block)?;
     let mut nodes = List::new(alloc);
     nodes.push(node)?;
     Ok(GraphPou {
@@ -48,42 +47,18 @@ fn unit(alloc: Global, block: &Block) -> Result<GraphPou, NoMemory>
     })
 }
 
-fn head(alloc: Global, name: BlockName, used: u32) -> Result<Pou, NoMemory>
-    ensures head { IfOk result (λ head. head ≡ head_of_block name used) }
-    ensures few { used < 2 ^ 32 }
+fn head(alloc: Global, block: &Block) -> Result<Pou, NoMemory>
+    ensures head { IfOk result (λ head. head ≡ head_for block.now) }
+    ensures few { OnOk result (IsFew block.now) }
 {
-    let name = unit_name(alloc, name)?;
-    let locals = temporaries(alloc, used)?;
+    let name = unit_name(alloc, block.name)?;
+    let locals = locals_of(alloc, block.body.as_slice())?;
     Ok(Pou {
         program: true,
         name,
         formals: List::new(alloc),
         locals,
         body: List::new(alloc),
-    })
-}
-
-/// So many locals, from `T1` on.
-fn temporaries(alloc: Global, count: u32) -> Result<List<Local>, NoMemory>
-    ensures { IfOk result (λ locals. locals ≡ temporaries count) }
-{
-    let mut locals = List::new(alloc);
-    let mut number = 0;
-    while number < count {
-        number += 1;
-        locals.push(temporary(alloc, number)?)?;
-    }
-    Ok(locals)
-}
-
-fn temporary(alloc: Global, number: u32) -> Result<Local, NoMemory>
-    ensures { IfOk result (λ local. local ≡ temporary number) }
-{
-    let mut name = Vec::from_slice(alloc, b"T")?;
-    name.extend_from_slice(Buffer::new().format(number).as_bytes())?;
-    Ok(Local {
-        name: List::from_vec(name),
-        ty: StType::Bool,
     })
 }
 
@@ -106,16 +81,14 @@ fn numbered(alloc: Global, word: &str, number: u16) -> Result<List<u8>, NoMemory
 }
 
 /// The node of a body of which no instruction jumps; nothing behind an end word is reached.
-fn node(alloc: Global, spot: &mut Spot, body: &[Instr]) -> Result<StNode, NoMemory>
-    ensures node { IfOk result (λ node. node.steps ≡ steps_of spot.old body.now) }
-    ensures exit { IfOk result (λ node. node.exit ≡ StExit.End) }
-    ensures only_end { IfOk result (λ node. node.only_end ≡ length body.now == 1) }
-    ensures used { OnOk result (spot.new.used ≡ used_behind spot.old body.now) }
+fn node(alloc: Global, body: &[Instr]) -> Result<StNode, NoMemory>
+    ensures { IfOk result (λ node. node ≡ node_of body.now) }
 {
+    let mut spot = Spot::first(alloc);
     let mut steps = List::new(alloc);
     let mut rest = body;
     while let Some((instr, behind)) = rest.split_first() {
-        push_statements(alloc, &mut steps, spot, &instr.op)?;
+        push_statements(alloc, &mut steps, &mut spot, &instr.op)?;
         if ends_block(&instr.op) {
             break;
         }
@@ -126,13 +99,4 @@ fn node(alloc: Global, spot: &mut Spot, body: &[Instr]) -> Result<StNode, NoMemo
         exit: StExit::End,
         only_end: body.len() == 1,
     })
-}
-
-fn ends_block(op: &Op) -> bool
-    ensures { result ≡ ends_block op.now }
-{
-    match op {
-        Op::BlockEnd => true,
-        _ => false,
-    }
 }

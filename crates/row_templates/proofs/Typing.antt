@@ -1,15 +1,22 @@
 -- Statements of templates are well typed and nest little, their expressions are low, and they call nothing.
-use Rattle.std.proofs.Common.{◌≡◌, ℕ, suc, ◌+◌, ◌-◌, ◌≤◌, max, Bool, true, false, if◌then◌else◌, List, [], ◌∷◌, ◌++◌, Some, refl, sym, ap, subst, ◌∙◌, arith}
-use Rattle.std.specs.Prelude.{ℤ, All, nat_lt, pos}
+use Rattle.std.proofs.Common.{◌≡◌, ℕ, zero, suc, ◌+◌, ◌-◌, ◌≤◌, ◌==◌, max, Bool, true, false, if◌then◌else◌, List, [], ◌∷◌, ◌++◌, length, Some, refl, sym, ap, subst, ◌∙◌, arith}
+use Rattle.std.specs.Prelude.{ℤ, All, nat_lt, slice_get}
 use Rattle.std.proofs.lemmas.List.Elements.{All-cons, All-nil}
 use Rattle.s7_base.specs.declared.register.Reg.{Reg}
 use Rattle.s7_base.specs.declared.register.Reg.TheVariants as reg
 use Rattle.s7_base.specs.declared.word.Width.{Width}
+use Rattle.s7_base.specs.declared.word.Width.TheVariants as width
+use Rattle.stl_tree.specs.Accepted.{IsOperand}
+use Rattle.stl_tree.specs.declared.program.Operand.{Operand}
+use Rattle.stl_tree.specs.declared.program.Operand.TheVariants as operand
+use Rattle.st_tree.specs.Values.{type_of_width}
+use Rattle.std.proofs.lemmas.Bool.Decides.{nat_tests}
+use Rattle.std.proofs.lemmas.Bool.{le-leb, ltb-false}
 use Rattle.st_tree.proofs.Equations.{canon_binary, canon_convert, canon_literal, canon_read, canon_select, canon_shift, canon_unary}
 use Rattle.st_tree.proofs.PartEquations.{calls_in_assign, expressions_in_assign, height_binary, height_convert, height_literal, height_read, height_select, height_shift, height_unary}
 use Rattle.st_tree.proofs.TypingEquations.{good_assign, nesting_assign, typed_binary, typed_convert, typed_literal, typed_read, typed_select, typed_shift, typed_unary}
 use Rattle.st_tree.specs.Depth.{deepest}
-use Rattle.st_tree.specs.Form.{Form, canon, group, infix_level, level, prefix_level, unary_form, wrap}
+use Rattle.st_tree.specs.Form.{Form, canon, group, infix_level, level, unary_form, wrap}
 use Rattle.st_tree.specs.Naming.{is_conversion}
 use Rattle.st_tree.specs.Nesting.{body_nesting, form_height, form_nesting}
 use Rattle.st_tree.specs.Parts.{calls_in, expressions_in, height}
@@ -29,7 +36,7 @@ use Rattle.st_tree.specs.declared.expr.Var.{Var}
 use Rattle.st_tree.specs.declared.expr.Var.TheVariants as var
 use Rattle.st_tree.specs.declared.program.Stmt.{Stmt}
 use Rattle.st_tree.specs.declared.program.Stmt.TheVariants as stmt
-use Rattle.row_templates.specs.Builders.{and_of, cleared, literal_of, local_of, not_of, or_of, read_of, set_local_of, set_of, xor_of}
+use Rattle.row_templates.specs.Builders.{and_of, cleared, literal_of, local_of, not_of, or_of, read_of, set_local_of, set_of, variable_of, xor_of}
 
 -- an expression is low
 abbrev pub IsLow : Expr → Type 0
@@ -67,6 +74,18 @@ unary_nesting unary.BcdToDint f = omega arith
 same_type : (ty : StType) → is_type ty ty ≡ true
 same_type type.Bool = refl
 same_type ty = refl
+
+no_bit : (x : ℕ) → nat_lt 0 x ≡ false → (x == 0) ≡ true
+no_bit x h = grind (arith, nat_tests)
+
+in_left : (xs ys : List StType) (k : ℕ) (ty : StType) → slice_get xs k ≡ Some ty → slice_get (xs ++ ys) k ≡ Some ty
+in_left [] ys k ty e = cc
+in_left (x ∷ xs) ys zero ty e = e
+in_left (x ∷ xs) ys (suc k) ty e = in_left xs ys k ty e
+
+in_right : (xs ys : List StType) (k : ℕ) → slice_get (xs ++ ys) (length xs + k) ≡ slice_get ys k
+in_right [] ys k = let e : 0 + k ≡ k = omega arith in ap (slice_get ys) e
+in_right (x ∷ xs) ys k = let e : suc (length xs) + k ≡ suc (length xs + k) = omega arith in ap (slice_get (x ∷ xs ++ ys)) e ∙ in_right xs ys k
 
 module _ (sight : Sight) where
   -- an expression is of a type, and so high and deep at most, with its brackets too
@@ -113,6 +132,13 @@ module _ (sight : Sight) where
   pub literal_is : (b : Bool) → IsBool 1 (literal_of b)
   literal_is true = constant_is refl
   literal_is false = constant_is refl
+
+  -- an operand is a place that a text may name
+  pub operand_typed : (o : Operand) (w : Width) → IsOperand w o → variable_type sight (variable_of o w) ≡ Some (type_of_width w)
+  operand_typed (operand.Direct a byte x) width.Bit h = rw (h.0, le-leb x 7 (ltb-false 7 x h.1)) refl
+  operand_typed (operand.Direct a byte x) width.Byte h = rw (h.0, no_bit x h.1) refl
+  operand_typed (operand.Direct a byte x) width.Word h = rw (h.0, no_bit x h.1) refl
+  operand_typed (operand.Direct a byte x) width.Dword h = rw (h.0, no_bit x h.1) refl
 
   -- Operators and functions
 
@@ -238,3 +264,21 @@ module _ (sight : Sight) where
   pub cleared_plain : (b : Bool) (rest : List Stmt) → IsPlainBody rest → IsPlainBody (cleared b ++ rest)
   cleared_plain b rest plain =
       set_plain reg.Orb (literal_of false) (set_of reg.Nfc (literal_of b) ∷ rest) (omega arith) (literal_is false) (nfc_plain b rest plain)
+
+  -- Locals
+
+  -- the locals from one on have these types
+  abbrev pub AreTyped : ℕ → List StType → Type 0
+  AreTyped n types = (k : ℕ) (ty : StType) → slice_get types k ≡ Some ty → variable_type sight (var.Local (n + k)) ≡ Some ty
+
+  pub first_typed : (n : ℕ) (ty : StType) (types : List StType) → AreTyped n (ty ∷ types) → variable_type sight (var.Local n) ≡ Some ty
+  first_typed n ty types h =
+      let e : n ≡ n + 0 = omega arith in ap (λ (i : ℕ). variable_type sight (var.Local i)) e ∙ h 0 ty refl
+
+  pub left_typed : (n : ℕ) (xs ys : List StType) → AreTyped n (xs ++ ys) → AreTyped n xs
+  left_typed n xs ys h k ty e = h k ty (in_left xs ys k ty e)
+
+  pub right_typed : (n m : ℕ) (xs ys : List StType) → m ≡ n + length xs → AreTyped n (xs ++ ys) → AreTyped m ys
+  right_typed n m xs ys e h k ty f =
+      let at : m + k ≡ n + (length xs + k) = omega arith in
+      ap (λ (i : ℕ). variable_type sight (var.Local i)) at ∙ h (length xs + k) ty (in_right xs ys k ∙ f)

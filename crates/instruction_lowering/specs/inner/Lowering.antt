@@ -1,27 +1,20 @@
 -- The graph program of a program: a unit for each block, of one node.
-use Rattle.std.specs.Prelude.{ℕ, zero, suc, ◌^◌, ◌<◌, ◌==◌, Bool, true, false, codes, decimal, if◌then◌else◌, List, [], ◌∷◌, ◌++◌, length, map}
+use Rattle.std.specs.Prelude.{ℕ, suc, ◌^◌, ◌<◌, ◌==◌, true, codes, decimal, if◌then◌else◌, List, [], ◌∷◌, ◌++◌, length, map}
 use Rattle.stl_tree.specs.declared.program.Block.{Block}
 use Rattle.stl_tree.specs.declared.program.Instr.{Instr}
-use Rattle.stl_tree.specs.declared.program.Op.{Op}
-use Rattle.stl_tree.specs.declared.program.Op.TheVariants as op
 use Rattle.stl_tree.specs.declared.program.Program.{Program}
 use Rattle.st_tree.specs.declared.graph.GraphPou.{GraphPou}
 use Rattle.st_tree.specs.declared.graph.GraphProgram.{GraphProgram}
 use Rattle.st_tree.specs.declared.graph.StExit.TheVariants as exit
 use Rattle.st_tree.specs.declared.graph.StNode.{StNode}
 use Rattle.st_tree.specs.declared.program.Stmt.{Stmt}
-use Rattle.memory_areas.specs.declared.call.BlockName.{BlockName}
 use Rattle.st_tree.specs.StRun.{called_name}
-use Rattle.st_tree.specs.declared.expr.StType.TheVariants as type
+use Rattle.st_tree.specs.declared.expr.StType.{StType}
 use Rattle.st_tree.specs.declared.program.Local.{Local}
 use Rattle.st_tree.specs.declared.program.Pou.{Pou}
+use Rattle.instruction_lowering.specs.Temporaries.{ends_block, types_in}
 use Rattle.instruction_lowering.specs.declared.statements.Spot.{Spot}
 use Rattle.instruction_lowering.specs.inner.Templates.{behind, first_spot, statements_of}
-
--- an instruction ends its block
-abbrev pub ends_block : Op → Bool
-ends_block op.BlockEnd = true
-ends_block other = false
 
 -- the statements of a body from a spot on, up to its first end word; nothing behind that is reached
 abbrev pub steps_of : Spot → List Instr → List Stmt
@@ -37,27 +30,23 @@ used_behind p (i ∷ rest) = if ends_block i.op then (behind i.op p).used else u
 abbrev pub node_of : List Instr → StNode
 node_of body = record { steps = steps_of first_spot body; exit = exit.End; only_end = length body == 1 }
 
--- a temporary, by its number
-abbrev pub temporary : ℕ → Local
-temporary n = record { name = codes "T" ++ decimal n; ty = type.Bool }
+-- a temporary, by its number and its type
+abbrev pub temporary : ℕ → StType → Local
+temporary n ty = record { name = codes "T" ++ decimal n; ty = ty }
 
--- so many temporaries
-abbrev pub temporaries : ℕ → List Local
-temporaries zero = []
-temporaries (suc n) = temporaries n ++ temporary (suc n) ∷ []
+-- temporaries of these types, behind so many
+abbrev pub temporaries : ℕ → List StType → List Local
+temporaries n [] = []
+temporaries n (ty ∷ types) = temporary (suc n) ty ∷ temporaries (suc n) types
 
--- the head of a block's unit, with so many temporaries
-abbrev pub head_of_block : BlockName → ℕ → Pou
-head_of_block name n =
-    record { program = true; name = called_name name; formals = []; locals = temporaries n; body = [] }
-
--- that of a block, with as many as its body uses
+-- the head of a block's unit, with the temporaries of its body
 abbrev pub head_for : Block → Pou
-head_for b = head_of_block b.name (used_behind first_spot b.body)
+head_for b =
+    record { program = true; name = called_name b.name; formals = []; locals = temporaries 0 (types_in b.body); body = [] }
 
--- a block uses no more temporaries than have numbers of 32 bits
+-- a block has no more temporaries than have numbers of 32 bits
 abbrev pub IsFew : Block → Type 0
-IsFew b = used_behind first_spot b.body < 2 ^ 32
+IsFew b = length (types_in b.body) < 2 ^ 32
 
 abbrev pub AreFew : List Block → Type 0
 AreFew [] = Unit {0}

@@ -1,0 +1,85 @@
+//! The temporaries of a unit.
+ghost use Rattle.std.specs.Prelude.{◌≡◌, ◌<◌, ◌^◌, ◌++◌, length, IfOk, OnOk};
+ghost use Rattle.instruction_lowering.specs.Temporaries.{ends_block, types_in, types_of};
+ghost use Rattle.instruction_lowering.specs.inner.Lowering.{temporaries, temporary};
+
+use itoa::Buffer;
+use s7_base::{List, NoMemory};
+use st_tree::{Local, StType};
+use std::alloc::Global;
+use stl_tree::{Instr, Op};
+
+/// The temporaries of the instructions of a body, from `T1` on.
+pub fn locals_of(alloc: Global, body: &[Instr]) -> Result<List<Local>, NoMemory>
+    ensures locals { IfOk result (λ locals. locals ≡ temporaries 0 (types_in body.now)) }
+    ensures few { OnOk result (length (types_in body.now) < 2 ^ 32) }
+{
+    let types = types(alloc, body)?;
+    temporaries(alloc, types.as_slice())
+}
+
+/// The types of the temporaries of a body; nothing behind an end word is reached.
+fn types(alloc: Global, body: &[Instr]) -> Result<List<StType>, NoMemory>
+    ensures { IfOk result (λ types. types ≡ types_in body.now) }
+{
+    let mut types = List::new(alloc);
+    let mut rest = body;
+    while let Some((instr, behind)) = rest.split_first() {
+        push_types(&mut types, &instr.op)?;
+        if ends_block(&instr.op) {
+            break;
+        }
+        rest = behind;
+    }
+    Ok(types)
+}
+
+fn push_types(types: &mut List<StType>, op: &Op) -> Result<(), NoMemory>
+    ensures { OnOk result (types.new ≡ types.old ++ types_of op.now) }
+{
+    match op {
+        Op::Bracket(_) => {
+            types.push(StType::Bool)?;
+            types.push(StType::Bool)?;
+            types.push(StType::Bool)
+        }
+        Op::EdgeUp(_) | Op::EdgeDown(_) => types.push(StType::Bool),
+        _ => Ok(()),
+    }
+}
+
+pub fn ends_block(op: &Op) -> bool
+    ensures { result ≡ ends_block op.now }
+{
+    match op {
+        Op::BlockEnd => true,
+        _ => false,
+    }
+}
+
+/// Temporaries of these types, from `T1` on.
+fn temporaries(alloc: Global, types: &[StType]) -> Result<List<Local>, NoMemory>
+    ensures locals { IfOk result (λ locals. locals ≡ temporaries 0 types.now) }
+    ensures few { OnOk result (length types.now < 2 ^ 32) }
+{
+    let mut locals = List::new(alloc);
+    let mut number: u32 = 0;
+    let mut rest = types;
+    while let Some((ty, behind)) = rest.split_first() {
+        number = number.checked_add(1).ok_or(NoMemory)?;
+        locals.push(temporary(alloc, number, *ty)?)?;
+        rest = behind;
+    }
+    Ok(locals)
+}
+
+fn temporary(alloc: Global, number: u32, ty: StType) -> Result<Local, NoMemory>
+    ensures { IfOk result (λ local. local ≡ temporary number ty) }
+{
+    let mut name = Vec::from_slice(alloc, b"T")?;
+    name.extend_from_slice(Buffer::new().format(number).as_bytes())?;
+    Ok(Local {
+        name: List::from_vec(name),
+        ty,
+    })
+}
