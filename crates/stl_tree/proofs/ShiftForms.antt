@@ -1,6 +1,6 @@
 -- What n steps of a shift or a rotation make, for every n, without steps.
 use Rattle.std.proofs.Common.{◌≡◌, ℕ, zero, suc, ◌+◌, ◌-◌, ◌*◌, ◌/◌, ◌%◌, ◌^◌, ◌<◌, ◌≤◌, ◌==◌, nat_le, true, false, refl, sym, ap, ◌∙◌, arith}
-use Rattle.std.proofs.Math.Nat.{div-div-eq-div-mul, div-le_self, div-lt_iff_lt-mul, mod-eq_of_lt, mod-lt, mul-div-mul_right, mul-div_left, mul-le-mul_right, mul-mod_left, pow-suc}
+use Rattle.std.proofs.Math.Nat.{div-div-eq-div-mul, div-eq_of_lt, div-le_self, div-lt_iff_lt-mul, mod-eq_of_lt, mod-lt, mul-div-mul_right, mul-div_left, mul-le-mul_right, mul-mod_left, pow-le-pow_right, pow-suc}
 use Rattle.std.proofs.lemmas.Bool.Decides.{nat_tests}
 use Rattle.std.proofs.lemmas.Nat.{mod-pow-add, mul-mod_first, pow-add, pow_pos}
 use Rattle.std.specs.Int.{from_bool}
@@ -33,6 +33,15 @@ left_times k (suc n) p h =
     ∙ mul-mod_first (p * 2 ^ n) 2 (2 ^ k)
     ∙ ap (λ x. x % 2 ^ k) twice
 
+pub left_times_gone : (k n p : ℕ) → p < 2 ^ k → k ≤ n → times n (left k) p ≡ 0
+left_times_gone k n p h far =
+    let e : n ≡ n - k + k = omega arith in
+    let moved : p * (2 ^ (n - k) * 2 ^ k) ≡ p * 2 ^ (n - k) * 2 ^ k = omega arith in
+    left_times k n p h
+    ∙ ap (λ q. p * q % 2 ^ k) (ap (λ j. 2 ^ j) e ∙ pow-add 2 (n - k) k)
+    ∙ ap (λ x. x % 2 ^ k) moved
+    ∙ mul-mod_left (p * 2 ^ (n - k)) (2 ^ k)
+
 -- To the right
 
 half : (p n : ℕ) → p / 2 ^ n / 2 ≡ p / 2 ^ suc n
@@ -42,6 +51,11 @@ pub right_times : (n p : ℕ) → times n right p ≡ p / 2 ^ n
 unfolding times
 right_times zero p = omega arith
 right_times (suc n) p = ap (λ x. x / 2) (right_times n p) ∙ half p n
+
+pub right_times_gone : (k n p : ℕ) → p < 2 ^ k → k ≤ n → times n right p ≡ 0
+right_times_gone k n p h far =
+    let wide : 2 ^ k ≤ 2 ^ n = pow-le-pow_right (omega arith) far in
+    right_times n p ∙ div-eq_of_lt (omega arith)
 
 -- To the right with the sign
 
@@ -125,17 +139,17 @@ right_undoes x h =
     ∙ right_step (x / 2 ^ 31) (x % 2 ^ 31) (omega arith)
     ∙ sym (parts x)
 
-times_below : (n p : ℕ) → p < 2 ^ 32 → times n (around_left 32) p < 2 ^ 32
+pub around_left_times_below : (n p : ℕ) → p < 2 ^ 32 → times n (around_left 32) p < 2 ^ 32
 unfolding times
-times_below zero p h = h
-times_below (suc n) p h = left_below (times n (around_left 32) p) (times_below n p h)
+around_left_times_below zero p h = h
+around_left_times_below (suc n) p h = left_below (times n (around_left 32) p) (around_left_times_below n p h)
 
 times_undone : (n p : ℕ) → p < 2 ^ 32 → times n (around_right 32) (times n (around_left 32) p) ≡ p
 unfolding times
 times_undone zero p h = refl
 times_undone (suc n) p h =
     times_from n (around_right 32) (times (suc n) (around_left 32) p)
-    ∙ ap (times n (around_right 32)) (right_undoes (times n (around_left 32) p) (times_below n p h))
+    ∙ ap (times n (around_right 32)) (right_undoes (times n (around_left 32) p) (around_left_times_below n p h))
     ∙ times_undone n p h
 
 -- m steps move the lowest j bits up and the others to their place, where j + m bits are all
@@ -216,12 +230,12 @@ right_is_left : (m j p : ℕ) → m + j ≡ 32 → p < 2 ^ 32 → times m (aroun
 right_is_left m j p e h =
     let back : times m (around_left 32) (times j (around_left 32) p) ≡ p =
     sym (times-add m j (around_left 32) p) ∙ ap (λ k. times k (around_left 32) p) e ∙ left_around p h in
-    ap (times m (around_right 32)) (sym back) ∙ times_undone m (times j (around_left 32) p) (times_below j p h)
+    ap (times m (around_right 32)) (sym back) ∙ times_undone m (times j (around_left 32) p) (around_left_times_below j p h)
+
+pub around_right_times_left : (n p : ℕ) → p < 2 ^ 32 → times n (around_right 32) p ≡ times (32 - n % 32) (around_left 32) p
+around_right_times_left n p h =
+    less_than_around n (around_right 32) p (right_around p h) ∙ right_is_left (n % 32) (32 - n % 32) p (omega arith) h
 
 pub around_right_times : (n p : ℕ) → p < 2 ^ 32 → times n (around_right 32) p ≡ p / 2 ^ (n % 32) + p % 2 ^ (n % 32) * 2 ^ (32 - n % 32)
 around_right_times n p h =
-    let all : n % 32 + (32 - n % 32) ≡ 32 = omega arith in
-    less_than_around n (around_right 32) p (right_around p h)
-    ∙ right_is_left (n % 32) (32 - n % 32) p all h
-    ∙ times_turned (32 - n % 32) (n % 32) p all h
-    ∙ omega arith
+    around_right_times_left n p h ∙ times_turned (32 - n % 32) (n % 32) p (omega arith) h ∙ omega arith
