@@ -1,5 +1,5 @@
 -- Shifts and rotations by the lowest byte of ACCU2: their statements do the row, for a count of 0 too.
-use Rattle.std.proofs.Common.{◌≡◌, ℕ, ◌+◌, ◌-◌, ◌*◌, ◌/◌, ◌%◌, ◌^◌, ◌<◌, ◌≤◌, ◌==◌, pos, Bool, true, false, not, ◌&&◌, if◌then◌else◌, List, [], ◌∷◌, Ok, inl, refl, sym, ap, subst, ◌∙◌, arith}
+use Rattle.std.proofs.Common.{◌≡◌, ℕ, ◌+◌, ◌-◌, ◌^◌, ◌<◌, ◌≤◌, ◌==◌, Bool, true, false, not, ◌&&◌, if◌then◌else◌, List, [], ◌∷◌, Ok, inl, refl, ap, subst, ◌∙◌, arith}
 use Rattle.std.specs.Prelude.{ℤ}
 use Rattle.std.proofs.Math.Nat.{div-add-mod', mod-lt}
 use Rattle.std.proofs.lemmas.Bool.Decides.{nat_tests}
@@ -8,7 +8,6 @@ use Rattle.row_templates.proofs.Alike.{AreAlike, AreInRange, IsKept}
 use Rattle.row_templates.proofs.RegisterRows.{IsRow, registers_after}
 use Rattle.row_templates.proofs.Stages.{known, stage_first, stage_local, stage_register}
 use Rattle.row_templates.specs.Builders.{local_of, read_of, shift_of}
-use Rattle.s7_base.specs.declared.register.Reg.{Reg}
 use Rattle.s7_base.specs.declared.register.Reg.TheVariants as reg
 use Rattle.s7_base.specs.declared.word.Width.{Width}
 use Rattle.s7_base.specs.declared.word.Width.TheVariants as width
@@ -16,7 +15,7 @@ use Rattle.shift_templates.proofs.ConstantRows.{after, part_fits, with_part_fits
 use Rattle.shift_templates.proofs.Expressions.{accu1_gives, accu2_gives, bit_gives, bottom_gives, count, gate_gives, kept_gives, less_counts, less_gives, less_one, moved_gives, operand_gives, signed_gives, step_gives, top_gives}
 use Rattle.shift_templates.proofs.Patterns.{Fits, IsShifted, moves_keep, of_width}
 use Rattle.shift_templates.proofs.StepKinds.{IsKind, IsSigned, around_left_kind, around_right_kind, left_around, left_kind, right_around, right_kind, signs_kept}
-use Rattle.shift_templates.specs.ShiftParts.{has_bit, one_less, operand_of, shown_bit, signed_shift}
+use Rattle.shift_templates.specs.ShiftParts.{has_bit, one_less, shown_bit, signed_shift}
 use Rattle.shift_templates.specs.ShiftTemplates.{by_accu2, shift_by_accu2, signed_by_accu2, turn_by_accu2}
 use Rattle.st_tree.specs.State.{State}
 use Rattle.st_tree.specs.Values.{flag}
@@ -28,7 +27,7 @@ use Rattle.status_word.specs.Results.{after_shifted}
 use Rattle.status_word.specs.StatusBits.{StatusBits}
 use Rattle.stl_tree.specs.Accumulators.{bits_wide, part, with_part}
 use Rattle.stl_tree.specs.Registers.{RegisterValues}
-use Rattle.stl_tree.specs.Shifts.{around_left, around_right, bottom, leaving, left, right, right_signed, shifted, step, times, top, width_of}
+use Rattle.stl_tree.specs.Shifts.{around_left, around_right, bottom, left, right, right_signed, shifted, times, top}
 use Rattle.stl_tree.specs.declared.accumulator.ShiftRow.{ShiftRow}
 use Rattle.stl_tree.specs.declared.accumulator.ShiftRow.TheVariants as row
 

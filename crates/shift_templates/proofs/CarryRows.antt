@@ -1,5 +1,5 @@
 -- RLDA and RRDA: their statements do the row.
-use Rattle.std.proofs.Common.{◌≡◌, ℕ, ◌+◌, ◌-◌, ◌*◌, ◌/◌, ◌%◌, ◌^◌, ◌<◌, ◌≤◌, pos, Bool, true, false, if◌then◌else◌, List, [], ◌∷◌, Ok, inl, refl, sym, ap, subst, ◌∙◌, arith}
+use Rattle.std.proofs.Common.{◌≡◌, ℕ, ◌+◌, ◌*◌, ◌/◌, ◌%◌, ◌^◌, ◌<◌, pos, Bool, true, false, List, [], ◌∷◌, Ok, inl, refl, ap, subst, ◌∙◌, arith}
 use Rattle.std.specs.Prelude.{ℤ, bit_or}
 use Rattle.std.specs.Int.{from_bool}
 use Rattle.std.proofs.Math.Nat.{mod-eq_of_lt}
@@ -8,12 +8,11 @@ use Rattle.row_templates.proofs.Alike.{AreAlike, AreInRange, IsKept}
 use Rattle.row_templates.proofs.RegisterRows.{IsRow, registers_after}
 use Rattle.row_templates.proofs.Stages.{known, stage_first, stage_register}
 use Rattle.row_templates.proofs.Truths.{literal_worth}
-use Rattle.row_templates.specs.Builders.{constant_of, convert_of, local_of, or_of, read_of, select_of, shift_of}
-use Rattle.s7_base.specs.declared.register.Reg.{Reg}
+use Rattle.row_templates.specs.Builders.{constant_of, convert_of, local_of, read_of, select_of, shift_of}
 use Rattle.s7_base.specs.declared.register.Reg.TheVariants as reg
 use Rattle.s7_base.specs.declared.word.Width.TheVariants as width
 use Rattle.shift_templates.proofs.Expressions.{Gives, bit_gives, count, count_gives, joined_gives, moved_gives, select_gives}
-use Rattle.shift_templates.proofs.Patterns.{Fits, bits_in, moves_keep, of_width}
+use Rattle.shift_templates.proofs.Patterns.{Fits, of_width}
 use Rattle.shift_templates.proofs.StepKinds.{IsKind, left_kind, right_kind}
 use Rattle.shift_templates.specs.ShiftParts.{count_of, shown_bit}
 use Rattle.shift_templates.specs.ShiftTemplates.{rlda_template, rrda_template, through_cc1}

@@ -1,5 +1,5 @@
 -- Shifts and rotations by a constant, which is not 0: their statements do the row.
-use Rattle.std.proofs.Common.{◌≡◌, ℕ, ◌+◌, ◌-◌, ◌*◌, ◌/◌, ◌%◌, ◌^◌, ◌<◌, ◌≤◌, pos, Bool, true, false, List, [], ◌∷◌, Ok, inl, refl, sym, ap, subst, ◌∙◌, arith}
+use Rattle.std.proofs.Common.{◌≡◌, ℕ, ◌+◌, ◌-◌, ◌^◌, ◌<◌, ◌≤◌, Bool, false, List, [], ◌∷◌, Ok, inl, refl, sym, ap, subst, ◌∙◌, arith}
 use Rattle.std.specs.Prelude.{ℤ}
 use Rattle.std.proofs.Math.Nat.{mod-lt}
 use Rattle.std.proofs.lemmas.Nat.{pow_pos}
@@ -8,14 +8,13 @@ use Rattle.row_templates.proofs.RegisterRows.{IsRow, registers_after}
 use Rattle.row_templates.proofs.Stages.{known, stage_first, stage_local, stage_register}
 use Rattle.row_templates.proofs.Truths.{literal_worth}
 use Rattle.row_templates.specs.Builders.{local_of, read_of, shift_of}
-use Rattle.s7_base.specs.declared.register.Reg.{Reg}
 use Rattle.s7_base.specs.declared.register.Reg.TheVariants as reg
 use Rattle.s7_base.specs.declared.word.Width.{Width}
 use Rattle.s7_base.specs.declared.word.Width.TheVariants as width
 use Rattle.shift_templates.proofs.Expressions.{accu1_gives, bit_gives, bottom_gives, count, count_gives, moved_gives, operand_gives, signed_gives, top_gives}
 use Rattle.shift_templates.proofs.StepKinds.{IsKind, IsSigned, around_left_kind, around_right_kind, last_step, left_around, left_kind, right_around, right_kind, signs_kept}
-use Rattle.shift_templates.proofs.Patterns.{Fits, IsShifted, Moves, moves_keep, of_width}
-use Rattle.shift_templates.specs.ShiftParts.{accu1_with, count_of, operand_of, shown_bit, signed_shift}
+use Rattle.shift_templates.proofs.Patterns.{Fits, IsShifted, moves_keep, of_width}
+use Rattle.shift_templates.specs.ShiftParts.{count_of, operand_of, shown_bit, signed_shift}
 use Rattle.shift_templates.specs.ShiftTemplates.{by_constant, shift_by_constant, signed_by_constant, turn_by_constant}
 use Rattle.st_tree.specs.State.{State}
 use Rattle.st_tree.specs.Values.{flag}

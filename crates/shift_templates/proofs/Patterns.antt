@@ -1,9 +1,9 @@
 -- What shifts of Structured Text make of patterns: so many steps.
-use Rattle.std.proofs.Common.{◌≡◌, ℕ, zero, suc, ◌+◌, ◌-◌, ◌*◌, ◌/◌, ◌%◌, ◌^◌, ◌<◌, ◌≤◌, ◌==◌, nat_le, pos, negsuc, Bool, true, false, not, if◌then◌else◌, ◌⊎◌, inl, inr, refl, sym, ap, subst, ◌∙◌, arith}
-use Rattle.std.specs.Prelude.{ℤ, bit_and, int_lt, nat_lt, unsigned_abs, Ok}
+use Rattle.std.proofs.Common.{◌≡◌, ℕ, zero, suc, ◌+◌, ◌-◌, ◌*◌, ◌/◌, ◌%◌, ◌^◌, ◌<◌, ◌≤◌, pos, negsuc, Bool, true, false, not, if◌then◌else◌, ◌⊎◌, inl, inr, refl, sym, ap, subst, ◌∙◌, arith}
+use Rattle.std.specs.Prelude.{bit_and, int_lt, nat_lt, unsigned_abs, Ok}
 use Rattle.std.specs.Int.{from_bool}
 use Rattle.std.specs.Ordering.{int_eq}
-use Rattle.std.proofs.Math.Nat.{div-eq_of_lt, div-le_self, mod-eq_of_lt, mod-lt, mul-mod_left, pow-suc}
+use Rattle.std.proofs.Math.Nat.{div-eq_of_lt, div-le_self, mod-eq_of_lt, mod-lt, mul-mod_left}
 use Rattle.std.proofs.Math.Pow.{pow_mono}
 use Rattle.std.proofs.lemmas.Bool.{ltb-false}
 use Rattle.std.proofs.lemmas.Bool.Decides.{nat_tests}
@@ -20,7 +20,7 @@ use Rattle.st_tree.specs.declared.expr.ShiftOp.{ShiftOp}
 use Rattle.st_tree.specs.declared.expr.ShiftOp.TheVariants as shift
 use Rattle.st_tree.specs.declared.expr.UnaryOp.TheVariants as unary
 use Rattle.st_tree.specs.declared.state.Value.{Value}
-use Rattle.stl_tree.proofs.ShiftForms.{around_left_times, around_right_times, left_times, right_signed_times_high, right_signed_times_low, right_times}
+use Rattle.stl_tree.proofs.ShiftForms.{around_left_times, around_left_times_below, around_right_times, around_right_times_left, left_times, left_times_gone, right_signed_times_high, right_signed_times_low, right_times, right_times_gone}
 use Rattle.stl_tree.specs.Accumulators.{bits_wide}
 use Rattle.stl_tree.specs.Shifts.{around_left, around_right, bottom, left, right, right_signed, times, top}
 
@@ -61,19 +61,12 @@ bits_in w p h = ap (λ k. p % 2 ^ k) (same_width w) ∙ mod-eq_of_lt h
 abbrev pub Moves : ShiftOp → ℕ → (ℕ → ℕ) → Type 0
 Moves op k f = (n p : ℕ) → p < 2 ^ k → shifted op k p n % 2 ^ k ≡ times n f p
 
-all_gone : (k n p : ℕ) → k ≤ n → p * 2 ^ n % 2 ^ k ≡ 0
-all_gone k n p h =
-    let e : n ≡ n - k + k = omega arith in
-    let f : 2 ^ n ≡ 2 ^ (n - k) * 2 ^ k = ap (λ m. 2 ^ m) e ∙ pow-add 2 (n - k) k in
-    let m : p * (2 ^ (n - k) * 2 ^ k) ≡ p * 2 ^ (n - k) * 2 ^ k = omega arith in
-    ap (λ x. p * x % 2 ^ k) f ∙ ap (λ x. x % 2 ^ k) m ∙ mul-mod_left (p * 2 ^ (n - k)) (2 ^ k)
-
 pub left_moves : (k : ℕ) → Moves shift.Shl k (left k)
 left_moves k n p h = by (nat_lt n k) refl
   where
     by : (b : Bool) → nat_lt n k ≡ b → (if b then p * 2 ^ n % 2 ^ k else 0) % 2 ^ k ≡ times n (left k) p
     by true e = mod-eq_of_lt (mod-lt (p * 2 ^ n) (pow_pos k)) ∙ sym (left_times k n p h)
-    by false e = mod-eq_of_lt (pow_pos k) ∙ sym (left_times k n p h ∙ all_gone k n p (ltb-false n k e))
+    by false e = mod-eq_of_lt (pow_pos k) ∙ sym (left_times_gone k n p h (ltb-false n k e))
 
 pub right_moves : (k : ℕ) → Moves shift.Shr k right
 right_moves k n p h = by (nat_lt n k) refl
@@ -83,10 +76,7 @@ right_moves k n p h = by (nat_lt n k) refl
 
     by : (b : Bool) → nat_lt n k ≡ b → (if b then p / 2 ^ n else 0) % 2 ^ k ≡ times n right p
     by true e = let fits : p / 2 ^ n < 2 ^ k = omega (arith, less) in mod-eq_of_lt fits ∙ sym (right_times n p)
-    by false e =
-        let far : 2 ^ k ≤ 2 ^ n = pow_mono (ltb-false n k e) in
-        let fits : p < 2 ^ n = omega arith in
-        mod-eq_of_lt (pow_pos k) ∙ sym (right_times n p ∙ div-eq_of_lt fits)
+    by false e = mod-eq_of_lt (pow_pos k) ∙ sym (right_times_gone k n p h (ltb-false n k e))
 
 -- what steps keep
 pub times_keep : (P : ℕ → Type 0) (f : ℕ → ℕ) → ((x : ℕ) → P x → P (f x)) → (n p : ℕ) → P p → P (times n f p)
@@ -94,29 +84,17 @@ unfolding times
 times_keep P f keeps zero p h = h
 times_keep P f keeps (suc n) p h = keeps (times n f p) (times_keep P f keeps n p h)
 
-one_bit : (b : Bool) → from_bool b ≤ 1
-one_bit true = omega arith
-one_bit false = omega arith
-
-around_left_fits : (x : ℕ) → x < 2 ^ 32 → around_left 32 x < 2 ^ 32
-around_left_fits x h = omega (arith, one_bit (top 32 x))
-
-around_right_fits : (x : ℕ) → x < 2 ^ 32 → around_right 32 x < 2 ^ 32
-around_right_fits x h = omega (arith, one_bit (bottom x))
-
-pub around_left_keeps : (n p : ℕ) → p < 2 ^ 32 → times n (around_left 32) p < 2 ^ 32
-around_left_keeps n p h = times_keep (λ x. x < 2 ^ 32) (around_left 32) around_left_fits n p h
-
-pub around_right_keeps : (n p : ℕ) → p < 2 ^ 32 → times n (around_right 32) p < 2 ^ 32
-around_right_keeps n p h = times_keep (λ x. x < 2 ^ 32) (around_right 32) around_right_fits n p h
+pub around_right_times_below : (n p : ℕ) → p < 2 ^ 32 → times n (around_right 32) p < 2 ^ 32
+around_right_times_below n p h =
+    subst (λ x. x < 2 ^ 32) (sym (around_right_times_left n p h)) (around_left_times_below (32 - n % 32) p h)
 
 pub around_left_moves : Moves shift.Rol 32 (around_left 32)
 around_left_moves n p h =
-    ap (λ x. x % 2 ^ 32) (sym (around_left_times n p h)) ∙ mod-eq_of_lt (around_left_keeps n p h)
+    ap (λ x. x % 2 ^ 32) (sym (around_left_times n p h)) ∙ mod-eq_of_lt (around_left_times_below n p h)
 
 pub around_right_moves : Moves shift.Ror 32 (around_right 32)
 around_right_moves n p h =
-    ap (λ x. x % 2 ^ 32) (sym (around_right_times n p h)) ∙ mod-eq_of_lt (around_right_keeps n p h)
+    ap (λ x. x % 2 ^ 32) (sym (around_right_times n p h)) ∙ mod-eq_of_lt (around_right_times_below n p h)
 
 -- the steps of a shift leave a pattern in its width
 pub moves_keep : (op : ShiftOp) (k : ℕ) (f : ℕ → ℕ) → Moves op k f → (n p : ℕ) → p < 2 ^ k → times n f p < 2 ^ k

@@ -1,15 +1,14 @@
 -- The statements of shifts and rotations are well typed, for locals of their types, and low.
-use Rattle.std.proofs.Common.{◌≡◌, ℕ, ◌+◌, ◌-◌, ◌^◌, ◌<◌, ◌≤◌, ◌==◌, max, pos, Bool, true, false, if◌then◌else◌, List, [], ◌∷◌, ◌++◌, Option, Some, None, refl, ap, ◌∙◌, arith}
-use Rattle.std.specs.Prelude.{ℤ, slice_get}
-use Rattle.std.proofs.lemmas.Bool.Decides.{nat_tests}
+use Rattle.std.proofs.Common.{◌≡◌, ℕ, ◌+◌, ◌-◌, ◌^◌, ◌<◌, ◌≤◌, ◌==◌, max, pos, Bool, true, false, if◌then◌else◌, List, [], ◌++◌, Option, Some, None, refl, ap, ◌∙◌, arith}
+use Rattle.std.specs.Prelude.{slice_get}
 use Rattle.std.proofs.lemmas.Int.{ints}
-use Rattle.row_templates.proofs.Typing.{IsBool, IsOf, IsPlainBody, and_is, binary_is, constant_is, convert_is, literal_is, local_is, local_plain, more, not_is, register_is, select_is, set_plain, shift_is, unary_is}
-use Rattle.row_templates.specs.Builders.{local_of, or_of, read_of, select_of, shift_of}
+use Rattle.row_templates.proofs.Typing.{AreTyped, IsBool, IsOf, IsPlainBody, and_is, binary_is, constant_is, convert_is, literal_is, local_is, local_plain, more, not_is, register_is, select_is, set_plain, shift_is, unary_is}
+use Rattle.row_templates.specs.Builders.{or_of, read_of, select_of, shift_of}
 use Rattle.s7_base.specs.declared.register.Reg.TheVariants as reg
 use Rattle.s7_base.specs.declared.word.Width.{Width}
 use Rattle.s7_base.specs.declared.word.Width.TheVariants as width
 use Rattle.shift_templates.proofs.Patterns.{IsShifted}
-use Rattle.shift_templates.specs.ShiftParts.{accu1_with, count_in_accu2, count_of, counted, flags_set, flags_set_where, has_bit, one_less, operand_of, shown_bit, signed_shift, top_bit}
+use Rattle.shift_templates.specs.ShiftParts.{accu1_with, count_of, counted, flags_set, flags_set_where, has_bit, one_less, operand_of, shown_bit, signed_shift, top_bit}
 use Rattle.shift_templates.specs.ShiftTemplates.{by_accu2, by_constant, rlda_template, rrda_template, shift_by_accu2, shift_by_constant, shift_template, signed_by_accu2, signed_by_constant, through_cc1, turn_by_accu2, turn_by_constant, types_by_accu2, types_by_constant, types_of_shift, types_through_cc1}
 use Rattle.st_tree.specs.TypeRules.{has_bits, type_of_unary, type_on_equals}
 use Rattle.st_tree.specs.Values.{type_of_width}
@@ -202,14 +201,10 @@ module _ (sight : Sight) where
 
     -- Each row
 
-    -- the locals from the first on have these types
-    abbrev pub AreTyped : List StType → Type 0
-    AreTyped types = (k : ℕ) (ty : StType) → slice_get types k ≡ Some ty → variable_type sight (var.Local (used + k)) ≡ Some ty
-
     at_first : {ty : StType} → variable_type sight (var.Local (used + 0)) ≡ Some ty → variable_type sight (var.Local used) ≡ Some ty
     at_first h = let e : used ≡ used + 0 = omega arith in ap (λ (i : ℕ). variable_type sight (var.Local i)) e ∙ h
 
-    constant_plain : (i : ShiftRow) (n : ℕ) → n < 2 ^ 15 → AreTyped (types_by_constant i) → IsPlainBody sight (by_constant i n used ++ rest)
+    constant_plain : (i : ShiftRow) (n : ℕ) → n < 2 ^ 15 → AreTyped sight used (types_by_constant i) → IsPlainBody sight (by_constant i n used ++ rest)
     constant_plain row.Slw n small h = shift_plain n small shift.Shl width.Word tt (at_first (h 0 type.Word refl))
     constant_plain row.Srw n small h = shift_plain n small shift.Shr width.Word tt (at_first (h 0 type.Word refl))
     constant_plain row.Ssi n small h =
@@ -221,7 +216,7 @@ module _ (sight : Sight) where
     constant_plain row.Rld n small h = turn_plain n small shift.Rol (at_first (h 0 type.Dword refl))
     constant_plain row.Rrd n small h = turn_plain n small shift.Ror (at_first (h 0 type.Dword refl))
 
-    accu2_plain : (i : ShiftRow) → AreTyped (types_by_accu2 i) → IsPlainBody sight (by_accu2 i used ++ rest)
+    accu2_plain : (i : ShiftRow) → AreTyped sight used (types_by_accu2 i) → IsPlainBody sight (by_accu2 i used ++ rest)
     accu2_plain row.Slw h = shift_where_plain (at_first (h 0 type.Int refl)) (h 1 type.Bool refl) shift.Shl width.Word tt (h 2 type.Word refl) (h 3 type.Word refl)
     accu2_plain row.Srw h = shift_where_plain (at_first (h 0 type.Int refl)) (h 1 type.Bool refl) shift.Shr width.Word tt (h 2 type.Word refl) (h 3 type.Word refl)
     accu2_plain row.Ssi h = signed_where_plain (at_first (h 0 type.Int refl)) (h 1 type.Bool refl) width.Word tt (h 2 type.Word refl) (h 3 type.Bool refl) (h 4 type.Word refl)
@@ -241,14 +236,14 @@ module _ (sight : Sight) where
     most_few row.Rld = omega arith
     most_few row.Rrd = omega arith
 
-    pub any_shift_plain : (i : ShiftRow) (by : Option ℕ) → IsCount i by → AreTyped (types_of_shift i by) → IsPlainBody sight (shift_template used i by ++ rest)
+    pub any_shift_plain : (i : ShiftRow) (by : Option ℕ) → IsCount i by → AreTyped sight used (types_of_shift i by) → IsPlainBody sight (shift_template used i by ++ rest)
     any_shift_plain i None count h = accu2_plain i h
     any_shift_plain i (Some n) count h = at (n == 0) h
       where
         small : n < 2 ^ 15
         small = omega (arith, most_few i, count)
 
-        at : (none : Bool) → AreTyped (if none then [] else types_by_constant i) → IsPlainBody sight ((if none then [] else by_constant i n used) ++ rest)
+        at : (none : Bool) → AreTyped sight used (if none then [] else types_by_constant i) → IsPlainBody sight ((if none then [] else by_constant i n used) ++ rest)
         at true h = plain
         at false h = constant_plain i n small h
 
@@ -263,12 +258,12 @@ module _ (sight : Sight) where
         (flags_plain _ _ (omega arith) (bit_is width.Dword (shown_bit op width.Dword) (shown_value op width.Dword tt) (register_is sight reg.Accu1))
         (set_plain sight reg.Accu1 _ _ (omega arith) joined plain))
 
-    pub rlda_plain : AreTyped types_through_cc1 → IsPlainBody sight (rlda_template used ++ rest)
+    pub rlda_plain : AreTyped sight used types_through_cc1 → IsPlainBody sight (rlda_template used ++ rest)
     rlda_plain h =
         let first : variable_type sight (var.Local used) ≡ Some type.Bool = at_first (h 0 type.Bool refl) in
         through_plain shift.Shl _ (omega arith) first (convert_is sight refl (local_is sight first))
 
-    pub rrda_plain : AreTyped types_through_cc1 → IsPlainBody sight (rrda_template used ++ rest)
+    pub rrda_plain : AreTyped sight used types_through_cc1 → IsPlainBody sight (rrda_template used ++ rest)
     rrda_plain h =
         let first : variable_type sight (var.Local used) ≡ Some type.Bool = at_first (h 0 type.Bool refl) in
         through_plain shift.Shr _ (omega arith) first (select_is sight (local_is sight first) (constant_is sight refl) (constant_is sight refl))

@@ -1,5 +1,5 @@
 -- Shifts and rotations, RLDA and RRDA: from related states their statements do what their rows do.
-use Rattle.std.proofs.Common.{◌≡◌, ℕ, ◌+◌, ◌≤◌, ◌==◌, Bool, true, false, if◌then◌else◌, List, [], length, Option, Some, None, refl, sym, arith}
+use Rattle.std.proofs.Common.{◌≡◌, ℕ, ◌+◌, ◌≤◌, ◌==◌, Bool, true, false, if◌then◌else◌, List, [], length, Option, Some, None, refl, arith}
 use Rattle.std.specs.Prelude.{ℤ}
 use Rattle.std.proofs.lemmas.Bool.Decides.{nat_tests}
 use Rattle.row_templates.proofs.Alike.{AreAlike, AreInRange, IsKept, Related}
@@ -7,7 +7,6 @@ use Rattle.row_templates.proofs.DoesRow.{DoesRow}
 use Rattle.row_templates.proofs.Locals.{own_of}
 use Rattle.row_templates.proofs.RegisterRows.{IsRow, locals_set, row_does}
 use Rattle.row_templates.proofs.Stages.{known}
-use Rattle.s7_base.specs.declared.register.Reg.{Reg}
 use Rattle.s7_base.specs.declared.register.Reg.TheVariants as reg
 use Rattle.shift_templates.proofs.Accu2Rows.{accu2_row}
 use Rattle.shift_templates.proofs.CarryRows.{rlda_row, rrda_row}
@@ -15,14 +14,11 @@ use Rattle.shift_templates.proofs.ConstantRows.{constant_row, stepped}
 use Rattle.shift_templates.specs.ShiftTemplates.{by_accu2, by_constant, rlda_template, rrda_template, shift_template, types_by_accu2, types_by_constant, types_of_shift, types_through_cc1}
 use Rattle.st_tree.specs.Meaning.{Calls, body_meaning}
 use Rattle.st_tree.specs.State.{State}
-use Rattle.st_tree.specs.Value.{value}
 use Rattle.st_tree.specs.declared.program.Located.{Located}
-use Rattle.st_tree.specs.declared.program.Stmt.{Stmt}
-use Rattle.st_tree.specs.declared.expr.StType.{StType}
-use Rattle.stl_tree.specs.Now.{Activation, Now, next}
+use Rattle.stl_tree.specs.Now.{Activation, Now}
 use Rattle.stl_tree.specs.Instructions.{effect_of}
 use Rattle.stl_tree.specs.Registers.{RegisterValues}
-use Rattle.stl_tree.specs.Shifts.{after_shift, around_left_through_cc1, around_right_through_cc1, shifted}
+use Rattle.stl_tree.specs.Shifts.{after_shift, around_left_through_cc1, around_right_through_cc1}
 use Rattle.stl_tree.specs.declared.accumulator.ShiftRow.{ShiftRow}
 use Rattle.stl_tree.specs.declared.accumulator.ShiftRow.TheVariants as row
 use Rattle.stl_tree.specs.declared.program.Op.TheVariants as op

@@ -1,12 +1,12 @@
 -- Kinds of shifts and rotations: an operation of Structured Text, the step that it makes, and the bit that leaves.
-use Rattle.std.proofs.Common.{◌≡◌, ℕ, zero, suc, ◌+◌, ◌-◌, ◌*◌, ◌/◌, ◌%◌, ◌^◌, ◌<◌, ◌≤◌, ◌==◌, nat_le, pos, Bool, true, false, not, refl, sym, ap, ◌∙◌, arith}
+use Rattle.std.proofs.Common.{◌≡◌, ℕ, ◌+◌, ◌-◌, ◌*◌, ◌/◌, ◌%◌, ◌^◌, ◌<◌, ◌≤◌, ◌==◌, nat_le, pos, Bool, true, false, not, refl, sym, ap, ◌∙◌, arith}
 use Rattle.std.specs.Prelude.{bit_and}
 use Rattle.std.specs.Int.{from_bool}
 use Rattle.std.specs.Ordering.{int_eq}
 use Rattle.std.proofs.lemmas.Bool.Decides.{nat_tests}
 use Rattle.s7_base.specs.declared.word.Width.{Width}
 use Rattle.s7_base.specs.declared.word.Width.TheVariants as width
-use Rattle.shift_templates.proofs.Patterns.{Fits, IsShifted, Moves, around_left_keeps, around_left_moves, around_right_keeps, around_right_moves, bottom_shown, left_moves, right_moves, times_keep, top_shown}
+use Rattle.shift_templates.proofs.Patterns.{Fits, IsShifted, Moves, around_left_moves, around_right_times_below, around_right_moves, bottom_shown, left_moves, right_moves, times_keep, top_shown}
 use Rattle.shift_templates.proofs.Expressions.{one_fits, top_fits}
 use Rattle.shift_templates.specs.ShiftParts.{shown_bit}
 use Rattle.st_tree.specs.declared.expr.ShiftOp.{ShiftOp}
@@ -72,7 +72,7 @@ left_around n p some = ap bottom (next_one (around_left 32) n p some) ∙ top_en
 pub right_around : (n p : ℕ) → 1 ≤ n → p < 2 ^ 32 → top 32 (times n (around_right 32) p) ≡ bottom (times (n - 1) (around_right 32) p)
 right_around n p some h =
     ap (top 32) (next_one (around_right 32) n p some)
-    ∙ bottom_enters (times (n - 1) (around_right 32) p) (around_right_keeps (n - 1) p h)
+    ∙ bottom_enters (times (n - 1) (around_right 32) p) (around_right_times_below (n - 1) p h)
 
 -- The sign
 
