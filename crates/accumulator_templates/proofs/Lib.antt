@@ -12,3 +12,4 @@ pub mod TransferRows
 pub mod CountRows
 pub mod ReadRows
 pub mod PlainRows
+pub mod InstructionRows
