@@ -1,164 +1,54 @@
 -- An instruction is read exactly where one of its forms stands.
 use Rattle.std.proofs.Common.{◌≡◌, ℕ, ◌⊎◌, inl, inr, Bool, true, false, cond, ◌&&◌, ◌==◌, if◌then◌else◌, List, [], ◌∷◌, length, take, drop, Option, Some, None, Result, Ok, Err, refl, sym, ap, subst, ◌∙◌, arith}
-use Rattle.std.proofs.lemmas.Bool.{and_parts, eqb-true}
+use Rattle.std.proofs.lemmas.Bool.{and_from, and_parts, eqb-true, or_left}
 use Rattle.std.proofs.lemmas.Bool.Decides.{nat_tests}
-use Rattle.std.proofs.lemmas.Slice.Eq.{bytes_eq-Decides}
 use Rattle.std.proofs.lemmas.Str.Ascii.{lowercase-uppercase}
 use Rattle.std.specs.Char.{to_ascii_lowercase, to_ascii_uppercase}
 use Rattle.std.specs.List.{find}
-use Rattle.std.specs.Prelude.{codes, option_and_then, ◌||◌}
+use Rattle.std.specs.Prelude.{codes, ◌||◌}
 use Rattle.std.specs.Str.{bytes_eq, str_to_ascii_lowercase}
 use Rattle.memory_areas.specs.declared.place.AreaName.{AreaName}
-use Rattle.memory_areas.specs.declared.place.AreaName.TheVariants as area
 use Rattle.s7_base.specs.Tokens.{is_same_word}
 use Rattle.s7_base.specs.declared.reason.Kind.TheVariants as kind
 use Rattle.s7_base.specs.declared.reason.Line.{Line}
 use Rattle.s7_base.specs.declared.reason.Reason.{Reason}
 use Rattle.s7_base.specs.declared.reason.Reason.TheVariants.{Unsupported}
 use Rattle.s7_base.specs.declared.token.Token.{Token}
-use Rattle.s7_base.specs.declared.token.TokenKind.{TokenKind}
-use Rattle.s7_base.specs.declared.token.TokenKind.TheVariants.{Word, Quoted, Text, Sign}
+use Rattle.s7_base.specs.declared.word.Width.{Width}
 use Rattle.status_word.specs.declared.test.Test.{Test}
 use Rattle.status_word.specs.declared.test.Test.TheVariants as test
-use Rattle.stl_tree.specs.InstructionForms.{IsBitNumber, IsBit, together, apart, IsStatusOperand, flag, compared, IsByteNumber, unsigned, minus_zero, IsOperand, IsInstruction, instruction, InstructionsHaveForms}
+use Rattle.stl_tree.specs.ConstantForms.{IsAddend, IsConstant, IsUpTo}
+use Rattle.stl_tree.specs.Constants.{addend_at, constant_at, fitting_at, number_at, plain}
+use Rattle.stl_tree.specs.InstructionForms.{IsBit, together, apart, IsStatusOperand, flag, compared, IsPlace, IsOperand, IsInstruction, instruction, InstructionsHaveForms}
 use Rattle.stl_tree.specs.InstructionForms as form
 use Rattle.stl_tree.specs.Mnemonics.{Row, goes_on, mnemonic_at}
-use Rattle.stl_tree.specs.Numbers.{number_of}
-use Rattle.stl_tree.specs.Statements.{area_of, area_of_letter, bit_of, is_bit_in_area, in_area, bit_at, is_bit_number, short_bit, long_bit, fitting, or_else, short_at, long_at, left_out_by, left_out_forms, NamedForm, has_form, bit_operand, at_place, first_of, second_of, tests, is_asked, asked_by, status_at, plain, number_in, zero_behind, plain_by, byte_at, nothing_at, checked_at, operand_by, shape_of, operand_of, begins_with_label, name_of, size_with, with_operand, with_mnemonic, statement, instr_with, on_line, instruction_of}
-use Rattle.stl_tree.specs.Words.{is_sign, is_sign_kind, is_spelled, is_word_kind}
+use Rattle.stl_tree.specs.Readers.{read_as}
+use Rattle.stl_tree.specs.Statements.{area_of, asked_by, begins_with_label, bit_operand, checked_at, first_of, instr_with, instruction_of, is_asked, left_out_at, length_at, loaded_at, name_of, nothing_at, on_line, operand_by, operand_of, or_nothing, place_operand, second_of, shape_of, size_with, statement, status_at, stored_at, stw_at, tests, timers_and_counters, with_mnemonic, with_operand}
+use Rattle.stl_tree.specs.Words.{is_sign, is_sign_kind, is_spelled, is_word, is_word_kind}
 use Rattle.stl_tree.specs.declared.mnemonic.Read.{Read}
 use Rattle.stl_tree.specs.declared.mnemonic.Read.TheVariants.{Fits, LeftOut, No}
 use Rattle.stl_tree.specs.declared.mnemonic.Shape.{Shape}
 use Rattle.stl_tree.specs.declared.mnemonic.Shape.TheVariants as shape
+use Rattle.stl_tree.specs.declared.raw.Constant.{Constant as Literal}
 use Rattle.stl_tree.specs.declared.raw.RawInstr.{RawInstr}
 use Rattle.stl_tree.specs.declared.raw.RawOp.{RawOp}
 use Rattle.stl_tree.specs.declared.raw.RawOperand.{RawOperand}
-use Rattle.stl_tree.specs.declared.raw.RawOperand.TheVariants.{At, Flag, Missing}
+use Rattle.stl_tree.specs.declared.raw.RawOperand.TheVariants.{At, Constant, Flag, Missing, Stw}
 use Rattle.stl_tree.specs.declared.raw.RawPlace.{RawPlace}
+use Rattle.stl_instructions.proofs.ConstantLaws.{addend_all, addend_read, constant_all, constant_no_stw, constant_read, constant_there, fitted_all, fitting_read, number_all, number_at_read, up_to_there}
+use Rattle.stl_instructions.proofs.PlaceLaws.{area_letter, bit_all, bit_read, left_out_all, place_all, place_no_constant, place_no_stw, place_read, AreaLetter}
+use Rattle.stl_instructions.proofs.Reading.{AllOf, as_all, if_false, if_true, or_all, or_no, or_this, same_letters, weaker}
 
 -- From what is read to its form
 
--- a test that passed
-taken : {A : Type 0} (b : Bool) (o : Option A) (x : A) → (if b then o else None) ≡ Some x → (b ≡ true) × (o ≡ Some x)
-taken true o x e = (refl, e)
-taken false o x e = absurd cc
-
--- a bit by its parts
-record Parts (area : Option AreaName) (byte bit : List ℕ) (place : RawPlace) : Type 0 where
-  name : AreaName
-  y : ℕ
-  x : ℕ
-  area_is : area ≡ Some name
-  byte_is : number_of 65535 byte ≡ Some y
-  bit_is : number_of 7 bit ≡ Some x
-  within : is_bit_in_area (bit_of name y x) ≡ true
-  place_is : bit_of name y x ≡ place
-
-within : (place found : RawPlace) → in_area place ≡ Some found → (is_bit_in_area place ≡ true) × (place ≡ found)
-within place found e = let p = taken (is_bit_in_area place) (Some place) found e in (p.0, some_is p.1)
-  where
-    some_is : Some place ≡ Some found → place ≡ found
-    some_is h = cc
-
-parts_at : (name : AreaName) (byte bit : List ℕ) (b x : Option ℕ) (place : RawPlace) → number_of 65535 byte ≡ b → number_of 7 bit ≡ x →
-    option_and_then (λ y. option_and_then (λ k. in_area (bit_of name y k)) x) b ≡ Some place → Parts (Some name) byte bit place
-parts_at name byte bit None x place p q e = absurd cc
-parts_at name byte bit (Some y) None place p q e = absurd cc
-parts_at name byte bit (Some y) (Some k) place p q e =
-    let w = within (bit_of name y k) place e in
-    record { name = name; y = y; x = k; area_is = refl; byte_is = p; bit_is = q; within = w.0; place_is = w.1 }
-
-parts : (area : Option AreaName) (byte bit : List ℕ) (place : RawPlace) → bit_at area byte bit ≡ Some place → Parts area byte bit place
-parts None byte bit place e = absurd cc
-parts (Some name) byte bit place e = parts_at name byte bit (number_of 65535 byte) (number_of 7 bit) place refl refl e
-
-number_is : (point bit : Token) (x : ℕ) → is_bit_number point bit ≡ true → number_of 7 bit.text ≡ Some x → IsBitNumber point bit x
-number_is point bit x h n =
-    let p = and_parts (is_sign (codes ".") point && point.glued && is_word_kind bit.kind) bit.glued h in
-    let q = and_parts (is_sign (codes ".") point && point.glued) (is_word_kind bit.kind) p.0 in
-    let r = and_parts (is_sign (codes ".") point) point.glued q.0 in
-    record { point_is = r.0; point_glued = r.1; word = q.1; glued = p.1; number = n }
-
-short_is : (word point bit : Token) (place : RawPlace) → short_bit word point bit ≡ Some place → IsBit (word ∷ point ∷ bit ∷ []) place
-short_is word point bit place e =
-    let t = taken (is_word_kind word.kind && is_bit_number point bit) (bit_at (area_of (take 1 word.text)) (drop 1 word.text) bit.text) place e in
-    let k = and_parts (is_word_kind word.kind) (is_bit_number point bit) t.0 in
-    let p = parts (area_of (take 1 word.text)) (drop 1 word.text) bit.text place t.1 in
-    let P : RawPlace → Type 0 = λ found. IsBit (word ∷ point ∷ bit ∷ []) found in
-    subst P p.place_is (together word point bit p.name p.y p.x k.0 p.area_is p.byte_is (number_is point bit p.x k.1 p.bit_is) p.within)
-
-long_is : (word number point bit : Token) (place : RawPlace) → long_bit word number point bit ≡ Some place → IsBit (word ∷ number ∷ point ∷ bit ∷ []) place
-long_is word number point bit place e =
-    let t = taken (is_word_kind word.kind && is_word_kind number.kind && is_bit_number point bit) (bit_at (area_of word.text) number.text bit.text) place e in
-    let k = and_parts (is_word_kind word.kind && is_word_kind number.kind) (is_bit_number point bit) t.0 in
-    let j = and_parts (is_word_kind word.kind) (is_word_kind number.kind) k.0 in
-    let p = parts (area_of word.text) number.text bit.text place t.1 in
-    let P : RawPlace → Type 0 = λ found. IsBit (word ∷ number ∷ point ∷ bit ∷ []) found in
-    subst P p.place_is (apart word number point bit p.name p.y p.x j.0 p.area_is j.1 p.byte_is (number_is point bit p.x k.1 p.bit_is) p.within)
-
--- what was read of all tokens is a bit
-abbrev Whole : List Token → Read RawPlace → Type 0
-Whole tokens No = Unit {0}
-Whole tokens (LeftOut kind) = Unit {0}
-Whole tokens (Fits place size) = size ≡ length tokens → IsBit tokens place
-
-short_whole : (tokens : List Token) → Whole tokens (short_at tokens)
-short_whole [] = tt
-short_whole (a ∷ []) = tt
-short_whole (a ∷ b ∷ []) = tt
-short_whole (word ∷ point ∷ bit ∷ rest) = by (short_bit word point bit) refl rest
-  where
-    by : (o : Option RawPlace) → short_bit word point bit ≡ o → (rest : List Token) → Whole (word ∷ point ∷ bit ∷ rest) (fitting 3 o)
-    by None e rest = tt
-    by (Some place) e [] = λ size. short_is word point bit place e
-    by (Some place) e (next ∷ rest) = λ size. absurd (omega arith)
-
-long_whole : (tokens : List Token) → Whole tokens (long_at tokens)
-long_whole [] = tt
-long_whole (a ∷ []) = tt
-long_whole (a ∷ b ∷ []) = tt
-long_whole (a ∷ b ∷ c ∷ []) = tt
-long_whole (word ∷ number ∷ point ∷ bit ∷ rest) = by (long_bit word number point bit) refl rest
-  where
-    by : (o : Option RawPlace) → long_bit word number point bit ≡ o → (rest : List Token) → Whole (word ∷ number ∷ point ∷ bit ∷ rest) (fitting 4 o)
-    by None e rest = tt
-    by (Some place) e [] = λ size. long_is word number point bit place e
-    by (Some place) e (next ∷ rest) = λ size. absurd (omega arith)
-
-or_whole : (tokens : List Token) (a b : Read RawPlace) → Whole tokens a → Whole tokens b → Whole tokens (or_else a b)
-or_whole tokens No b p q = q
-or_whole tokens (LeftOut kind) b p q = p
-or_whole tokens (Fits place size) b p q = p
-
-left_out_whole : (tokens : List Token) (o : Option NamedForm) → Whole tokens (left_out_by o)
-left_out_whole tokens None = tt
-left_out_whole tokens (Some form) = tt
-
-bit_whole : (tokens : List Token) → Whole tokens (bit_operand tokens)
-bit_whole tokens = or_whole tokens (short_at tokens) _ (short_whole tokens) (or_whole tokens (long_at tokens) _ (long_whole tokens) (left_out_whole tokens (find (has_form tokens) left_out_forms)))
-
--- the operand that was read of all tokens has this form
-abbrev All_of : List Token → (RawOperand → Type 0) → Read RawOperand → Type 0
-All_of tokens P No = Unit {0}
-All_of tokens P (LeftOut kind) = Unit {0}
-All_of tokens P (Fits operand size) = size ≡ length tokens → P operand
-
-or_all : (tokens : List Token) (P : RawOperand → Type 0) (a b : Read RawOperand) → All_of tokens P a → All_of tokens P b → All_of tokens P (or_else a b)
-or_all tokens P No b p q = q
-or_all tokens P (LeftOut kind) b p q = p
-or_all tokens P (Fits operand size) b p q = p
-
-placed : (tokens : List Token) (P : RawOperand → Type 0) (make : (place : RawPlace) → IsBit tokens place → P (At place)) (r : Read RawPlace) → Whole tokens r → All_of tokens P (at_place r)
-placed tokens P make No w = tt
-placed tokens P make (LeftOut kind) w = tt
-placed tokens P make (Fits place size) w = λ e. make place (w e)
-
-bit_all : (tokens : List Token) (P : RawOperand → Type 0) (make : (place : RawPlace) → IsBit tokens place → P (At place)) → All_of tokens P (at_place (bit_operand tokens))
-bit_all tokens P make = placed tokens P make (bit_operand tokens) (bit_whole tokens)
-
-nothing_all : (tokens : List Token) (P : List Token → RawOperand → Type 0) → P [] Missing → All_of tokens (P tokens) (nothing_at tokens)
+nothing_all : (tokens : List Token) (P : List Token → RawOperand → Type 0) → P [] Missing → AllOf (length tokens) (P tokens) (nothing_at tokens)
 nothing_all [] P made = λ e. made
 nothing_all (first ∷ rest) P made = tt
+
+-- nothing at all, or what was read
+or_nothing_all : (tokens : List Token) (P : List Token → RawOperand → Type 0) (r : Read RawOperand) → P [] Missing → AllOf (length tokens) (P tokens) r →
+    AllOf (length tokens) (P tokens) (or_nothing tokens r)
+or_nothing_all tokens P r made h = or_all (length tokens) (P tokens) (nothing_at tokens) r (nothing_all tokens P made) h
 
 -- a question is one word, or a sign with 0 behind it
 seconds : (test : Test) → (second_of test ≡ []) ⊎ (second_of test ≡ codes "0")
@@ -176,10 +66,8 @@ seconds test.Br = inl refl
 -- a token that is spelled so is a word or a sign, with these letters in any case
 spelled : (text : List ℕ) (token : Token) → is_spelled text token ≡ true →
     ((is_word_kind token.kind || is_sign_kind token.kind) ≡ true) × (str_to_ascii_lowercase token.text ≡ str_to_ascii_lowercase text)
-spelled text token h = let p = and_parts (is_word_kind token.kind || is_sign_kind token.kind) (is_same_word token.text text) h in (p.0, equal _ _ p.1)
-  where
-    equal : (xs ys : List ℕ) → bytes_eq xs ys ≡ true → xs ≡ ys
-    equal xs ys e = (bytes_eq-Decides xs ys).0 e
+spelled text token h =
+    let p = and_parts (is_word_kind token.kind || is_sign_kind token.kind) (is_same_word token.text text) h in (p.0, same_letters token.text text p.1)
 
 no_bracket : (zero : Token) → is_spelled (codes "0") zero ≡ true → is_sign (codes "(") zero ≡ false
 no_bracket zero h =
@@ -223,60 +111,88 @@ found_asked tokens (x ∷ xs) test e = by (is_asked tokens x) refl e (λ h. foun
     by true t e next = ap (is_asked tokens) (sym (some_is x test e)) ∙ t
     by false t e next = next e
 
-status_all : (tokens : List Token) (P : RawOperand → Type 0) (make : (test : Test) → IsStatusOperand tokens test → P (Flag test)) → All_of tokens P (status_at tokens)
+status_all : (tokens : List Token) (P : RawOperand → Type 0) → ((test : Test) → IsStatusOperand tokens test → P (Flag test)) → AllOf (length tokens) P (status_at tokens)
 status_all tokens P make = by (find (is_asked tokens) tests) refl
   where
-    by : (o : Option Test) → find (is_asked tokens) tests ≡ o → All_of tokens P (asked_by o)
+    by : (o : Option Test) → find (is_asked tokens) tests ≡ o → AllOf (length tokens) P (asked_by o)
     by None e = tt
     by (Some test) e = λ size. make test (asked_is tokens test (found_asked tokens tests test e) size)
 
-checked_all : (tokens : List Token) → All_of tokens (IsOperand shape.Checked tokens) (checked_at tokens)
+checked_all : (tokens : List Token) → AllOf (length tokens) (IsOperand shape.Checked tokens) (checked_at tokens)
 checked_all tokens =
-    or_all tokens (IsOperand shape.Checked tokens) (status_at tokens) _
+    or_all (length tokens) (IsOperand shape.Checked tokens) (status_at tokens) _
     (status_all tokens (IsOperand shape.Checked tokens) (λ test is. form.status tokens test is))
-    (bit_all tokens (IsOperand shape.Checked tokens) (λ place is. form.checked_bit tokens place is))
+    (as_all (length tokens) At (IsBit tokens) (IsOperand shape.Checked tokens) (λ place is. form.checked_bit tokens place is) (bit_operand tokens) (bit_all tokens))
 
-weaker : (tokens : List Token) (r : Read RawOperand) → All_of tokens (IsOperand shape.Checked tokens) r → All_of tokens (IsOperand shape.CheckedOrNothing tokens) r
-weaker tokens No h = tt
-weaker tokens (LeftOut kind) h = tt
-weaker tokens (Fits operand size) h = λ e. form.checked tokens operand (h e)
-
--- numbers
-
-plain_all : (tokens : List Token) (size : ℕ) (o : Option ℕ) → ((n : ℕ) → o ≡ Some n → size ≡ length tokens → IsByteNumber tokens n) → All_of tokens (IsOperand shape.Byte tokens) (plain_by size o)
-plain_all tokens size None make = tt
-plain_all tokens size (Some n) make = λ e. form.number tokens n (make n refl e)
-
-minus_is : (sign : Token) (rest : List Token) → is_sign (codes "-") sign ≡ true → (n : ℕ) → zero_behind rest ≡ Some n → 2 ≡ length (sign ∷ rest) → IsByteNumber (sign ∷ rest) n
-minus_is sign [] minus n e size = absurd cc
-minus_is sign (zero ∷ next ∷ rest) minus n e size = absurd (omega arith)
-minus_is sign (zero ∷ []) minus n e size =
-    let g = taken zero.glued (number_in 0 zero) n e in
-    let w = taken (is_word_kind zero.kind) (number_of 0 zero.text) n g.1 in
-    minus_zero sign zero n minus w.0 g.0 w.1
-
-unsigned_is : (word : Token) (rest : List Token) (n : ℕ) → number_in 255 word ≡ Some n → 1 ≡ length (word ∷ rest) → IsByteNumber (word ∷ rest) n
-unsigned_is word (next ∷ rest) n e size = absurd (omega arith)
-unsigned_is word [] n e size = let w = taken (is_word_kind word.kind) (number_of 255 word.text) n e in unsigned word n w.0 w.1
-
-byte_all : (tokens : List Token) → All_of tokens (IsOperand shape.Byte tokens) (byte_at tokens)
-byte_all [] = tt
-byte_all (first ∷ rest) = by (is_sign (codes "-") first) refl
+stw_all : (tokens : List Token) (P : List Token → RawOperand → Type 0) → ((word : Token) → is_word (codes "STW") word ≡ true → P (word ∷ []) Stw) → AllOf (length tokens) (P tokens) (stw_at tokens)
+stw_all [] P make = tt
+stw_all (first ∷ rest) P make = by (is_word (codes "STW") first) refl
   where
-    by : (b : Bool) → is_sign (codes "-") first ≡ b →
-        All_of (first ∷ rest) (IsOperand shape.Byte (first ∷ rest)) (if b then plain_by 2 (zero_behind rest) else plain_by 1 (number_in 255 first))
-    by true t = plain_all (first ∷ rest) 2 (zero_behind rest) (minus_is first rest t)
-    by false t = plain_all (first ∷ rest) 1 (number_in 255 first) (unsigned_is first rest)
+    alone : (rest : List Token) → is_word (codes "STW") first ≡ true → 1 ≡ length (first ∷ rest) → P (first ∷ rest) Stw
+    alone [] word size = make first word
+    alone (next ∷ more) word size = absurd (omega (arith, size))
+
+    by : (b : Bool) → is_word (codes "STW") first ≡ b → AllOf (length (first ∷ rest)) (P (first ∷ rest)) (if b then Fits Stw 1 else No)
+    by true word = alone rest word
+    by false word = tt
+
+length_all : (n : ℕ) (P : RawOperand → Type 0) (tokens : List Token) → AllOf n P (length_at tokens)
+length_all n P [] = tt
+length_all n P (first ∷ rest) = by (is_word (codes "DBLG") first || is_word (codes "DILG") first)
+  where
+    by : (b : Bool) → AllOf n P (if b then LeftOut kind.DbLength else No)
+    by true = tt
+    by false = tt
+
+place_as : (tokens : List Token) (P : RawOperand → Type 0) → ((place : RawPlace) → IsPlace tokens place → P (At place)) → AllOf (length tokens) P (read_as At (place_operand tokens))
+place_as tokens P make = as_all (length tokens) At (IsPlace tokens) P make (place_operand tokens) (place_all tokens)
+
+constant_as : (tokens : List Token) (P : RawOperand → Type 0) (Q : Literal → Type 0) → ((c : Literal) → Q c → P (Constant c)) → (r : Read Literal) → AllOf (length tokens) Q r →
+    AllOf (length tokens) P (read_as Constant r)
+constant_as tokens P Q make r h = as_all (length tokens) Constant Q P make r h
+
+loaded_all : (tokens : List Token) → AllOf (length tokens) (IsOperand shape.Loaded tokens) (loaded_at tokens)
+loaded_all tokens =
+    or_all (length tokens) (IsOperand shape.Loaded tokens) (stw_at tokens) _ (stw_all tokens (IsOperand shape.Loaded) (λ word is. form.loaded_status word is))
+    (or_all (length tokens) (IsOperand shape.Loaded tokens) (read_as Constant (constant_at tokens)) _
+    (constant_as tokens (IsOperand shape.Loaded tokens) (IsConstant tokens) (λ c is. form.loaded_constant tokens c is) (constant_at tokens) (constant_all tokens))
+    (or_all (length tokens) (IsOperand shape.Loaded tokens) (read_as At (place_operand tokens)) (length_at tokens)
+    (place_as tokens (IsOperand shape.Loaded tokens) (λ place is. form.loaded_place tokens place is)) (length_all (length tokens) (IsOperand shape.Loaded tokens) tokens)))
+
+stored_all : (tokens : List Token) → AllOf (length tokens) (IsOperand shape.Stored tokens) (stored_at tokens)
+stored_all tokens =
+    or_all (length tokens) (IsOperand shape.Stored tokens) (stw_at tokens) _ (stw_all tokens (IsOperand shape.Stored) (λ word is. form.stored_status word is))
+    (place_as tokens (IsOperand shape.Stored tokens) (λ place is. form.stored_place tokens place is))
+
+fitting_all : (w : Width) (tokens : List Token) → AllOf (length tokens) (IsOperand (shape.ConstantOrNothing w) tokens) (read_as Constant (fitting_at w tokens))
+fitting_all w tokens =
+    constant_as tokens (IsOperand (shape.ConstantOrNothing w) tokens) (λ c. IsOperand (shape.ConstantOrNothing w) tokens (Constant c)) (λ c is. is) (fitting_at w tokens)
+    (fitted_all w (length tokens) (IsConstant tokens) (λ c. IsOperand (shape.ConstantOrNothing w) tokens (Constant c)) (λ c is fit. form.combined w tokens c is fit) (constant_at tokens)
+    (constant_all tokens))
+
+number_as : (most : ℕ) (tokens : List Token) (P : RawOperand → Type 0) → ((n : ℕ) → IsUpTo most tokens n → P (Constant (plain n))) → AllOf (length tokens) P (read_as Constant (number_at most tokens))
+number_as most tokens P make =
+    constant_as tokens P (λ c. P (Constant c)) (λ c is. is) (number_at most tokens) (number_all most tokens (λ c. P (Constant c)) make)
 
 -- what was read of all tokens is an operand of the shape
-operand_is : (shape : Shape) (tokens : List Token) → All_of tokens (IsOperand shape tokens) (operand_by shape tokens)
+operand_is : (shape : Shape) (tokens : List Token) → AllOf (length tokens) (IsOperand shape tokens) (operand_by shape tokens)
 operand_is shape.Nothing tokens = nothing_all tokens (IsOperand shape.Nothing) form.nothing
-operand_is shape.Bit tokens = bit_all tokens (IsOperand shape.Bit tokens) (λ place is. form.bit tokens place is)
+operand_is shape.Bit tokens = as_all (length tokens) At (IsBit tokens) (IsOperand shape.Bit tokens) (λ place is. form.bit tokens place is) (bit_operand tokens) (bit_all tokens)
 operand_is shape.Checked tokens = checked_all tokens
 operand_is shape.CheckedOrNothing tokens =
-    or_all tokens (IsOperand shape.CheckedOrNothing tokens) (nothing_at tokens) _
-    (nothing_all tokens (IsOperand shape.CheckedOrNothing) form.alone) (weaker tokens (checked_at tokens) (checked_all tokens))
-operand_is shape.Byte tokens = byte_all tokens
+    or_nothing_all tokens (IsOperand shape.CheckedOrNothing) (checked_at tokens) form.alone
+    (weaker (length tokens) (IsOperand shape.Checked tokens) (IsOperand shape.CheckedOrNothing tokens) (λ operand is. form.checked tokens operand is) (checked_at tokens) (checked_all tokens))
+operand_is (shape.Number most) tokens = number_as most tokens (IsOperand (shape.Number most) tokens) (λ n is. form.number most tokens n is)
+operand_is (shape.NumberOrNothing most) tokens =
+    or_nothing_all tokens (IsOperand (shape.NumberOrNothing most)) _ (form.no_count most) (number_as most tokens (IsOperand (shape.NumberOrNothing most) tokens) (λ n is. form.count most tokens n is))
+operand_is shape.Addend tokens =
+    constant_as tokens (IsOperand shape.Addend tokens) (IsAddend tokens) (λ c is. form.addend tokens c is) (addend_at tokens) (addend_all tokens)
+operand_is shape.Loaded tokens = loaded_all tokens
+operand_is shape.Stored tokens = stored_all tokens
+operand_is (shape.ConstantOrNothing w) tokens = or_nothing_all tokens (IsOperand (shape.ConstantOrNothing w)) _ (form.no_constant w) (fitting_all w tokens)
+operand_is shape.TimerOrCounter tokens =
+    as_all (length tokens) At (λ place. ⊥) (IsOperand shape.TimerOrCounter tokens) (λ place is. absurd is) (left_out_at timers_and_counters tokens)
+    (left_out_all (length tokens) (λ place. ⊥) timers_and_counters tokens)
 operand_is shape.Later tokens = tt
 operand_is (shape.LeftOut kind) tokens = tt
 
@@ -285,7 +201,7 @@ record Said (row : Row) (tokens : List Token) (op : RawOp) : Type 0 where
   operand : IsOperand (shape_of row.what) tokens op.operand
   named : name_of row ≡ op.mnemonic
 
-said_is : (row : Row) (tokens : List Token) (r : Read RawOperand) (op : RawOp) → All_of tokens (IsOperand (shape_of row.what) tokens) r →
+said_is : (row : Row) (tokens : List Token) (r : Read RawOperand) (op : RawOp) → AllOf (length tokens) (IsOperand (shape_of row.what) tokens) r →
     with_operand (name_of row) (length tokens) r ≡ Ok op → Said row tokens op
 said_is row tokens No op h e = absurd cc
 said_is row tokens (LeftOut kind) op h e = absurd cc
@@ -338,68 +254,8 @@ sound (first ∷ rest) instr e =
 
 -- From a form to what is read of it
 
-if_true : {A : Type 0} (b : Bool) (x y : A) → b ≡ true → (if b then x else y) ≡ x
-if_true true x y h = refl
-if_true false x y h = absurd cc
-
-if_false : {A : Type 0} (b : Bool) (x y : A) → b ≡ false → (if b then x else y) ≡ y
-if_false true x y h = absurd cc
-if_false false x y h = refl
-
-both : (a b : Bool) → a ≡ true → b ≡ true → (a && b) ≡ true
-both true true p q = refl
-both true false p q = absurd cc
-both false b p q = absurd cc
-
 same_size : (n : ℕ) → (n == n) ≡ true
 same_size n = grind (arith, nat_tests)
-
-number_test : (point bit : Token) (x : ℕ) → IsBitNumber point bit x → is_bit_number point bit ≡ true
-number_test point bit x n = both _ _ (both _ _ (both _ _ n.point_is n.point_glued) n.word) n.glued
-
-bit_at_is : (area : Option AreaName) (byte bit : List ℕ) (name : AreaName) (y x : ℕ) → area ≡ Some name → number_of 65535 byte ≡ Some y → number_of 7 bit ≡ Some x →
-    is_bit_in_area (bit_of name y x) ≡ true → bit_at area byte bit ≡ Some (bit_of name y x)
-bit_at_is area byte bit name y x a b c w =
-    ap (λ (o : Option AreaName). bit_at o byte bit) a
-    ∙ ap (λ (o : Option ℕ). option_and_then (λ n. option_and_then (λ k. in_area (bit_of name n k)) (number_of 7 bit)) o) b
-    ∙ ap (λ (o : Option ℕ). option_and_then (λ k. in_area (bit_of name y k)) o) c
-    ∙ if_true (is_bit_in_area (bit_of name y x)) _ _ w
-
-no_sign : (sign : List ℕ) (token : Token) → is_word_kind token.kind ≡ true → is_sign sign token ≡ false
-no_sign sign token h = by token.kind h _
-  where
-    by : (kind : TokenKind) → is_word_kind kind ≡ true → (b : Bool) → (is_sign_kind kind && b) ≡ false
-    by Word h b = refl
-    by Quoted h b = refl
-    by Text h b = refl
-    by Sign h b = absurd cc
-
-not_both : (a b : Bool) → a ≡ false → (a && b) ≡ false
-not_both true b h = absurd cc
-not_both false b h = refl
-
-no_number : (point bit : Token) → is_sign (codes ".") point ≡ false → is_bit_number point bit ≡ false
-no_number point bit h = not_both _ _ (not_both _ _ (not_both _ _ h))
-
-and_false : (a b : Bool) → b ≡ false → (a && b) ≡ false
-and_false true b h = h
-and_false false b h = refl
-
-bit_is : (tokens : List Token) (place : RawPlace) → IsBit tokens place → bit_operand tokens ≡ Fits place (length tokens)
-bit_is tokens place (together w point bit name y x word area byte number within) =
-    let short : short_bit w point bit ≡ Some (bit_of name y x) =
-    if_true (is_word_kind w.kind && is_bit_number point bit) _ _ (both _ _ word (number_test point bit x number))
-    ∙ bit_at_is (area_of (take 1 w.text)) (drop 1 w.text) bit.text name y x area byte number.number within in
-    let tokens = w ∷ point ∷ bit ∷ [] in
-    ap (λ (o : Option RawPlace). or_else (fitting 3 o) (or_else (long_at tokens) (left_out_by (find (has_form tokens) left_out_forms)))) short
-bit_is tokens place (apart w n point bit name y x word area digits byte number within) =
-    let no_short : short_bit w n point ≡ None = if_false (is_word_kind w.kind && is_bit_number n point) _ _ (and_false _ _ (no_number n point (no_sign (codes ".") n digits))) in
-    let long : long_bit w n point bit ≡ Some (bit_of name y x) =
-    if_true (is_word_kind w.kind && is_word_kind n.kind && is_bit_number point bit) _ _ (both _ _ (both _ _ word digits) (number_test point bit x number))
-    ∙ bit_at_is (area_of w.text) n.text bit.text name y x area byte number.number within in
-    let tokens = w ∷ n ∷ point ∷ bit ∷ [] in
-    ap (λ (o : Option RawPlace). or_else (fitting 3 o) (or_else (long_at tokens) (left_out_by (find (has_form tokens) left_out_forms)))) no_short
-    ∙ ap (λ (o : Option RawPlace). or_else (fitting 4 o) (left_out_by (find (has_form tokens) left_out_forms))) long
 
 -- what stands behind the first token of a question does: 0, or nothing at all is asked for
 abbrev behind : Bool → List ℕ → Bool
@@ -440,26 +296,10 @@ status_is : (tokens : List Token) (test : Test) → IsStatusOperand tokens test 
 status_is tokens test (flag word t none s) =
     ap asked_by (asked_found word [] t s (ap (behind (goes_on (codes "0") [])) none)) ∙ ap (λ (second : List ℕ). Fits (Flag t) (size_with second)) none
 status_is tokens test (compared sign zero t zeros s z g) =
-    let follows : goes_on (codes "0") (zero ∷ []) ≡ true = both _ _ z (either zero.glued _ g) in
+    let follows : goes_on (codes "0") (zero ∷ []) ≡ true = and_from _ _ z (or_left zero.glued _ g) in
     ap asked_by (asked_found sign (zero ∷ []) t s (ap (behind (goes_on (codes "0") (zero ∷ []))) zeros ∙ follows)) ∙ ap (λ (second : List ℕ). Fits (Flag t) (size_with second)) zeros
-  where
-    either : (a b : Bool) → a ≡ true → (a || b) ≡ true
-    either true b h = refl
-    either false b h = absurd cc
 
 -- a bit is no question to the status word, since its first letter is that of an area
-
-abbrev AreaLetter : ℕ → Type 0
-AreaLetter c = (c ≡ 73) ⊎ ((c ≡ 81) ⊎ (c ≡ 77))
-
-area_letter : (c : ℕ) (name : AreaName) → area_of_letter c ≡ Some name → AreaLetter c
-area_letter c name e = by (c == 73) (c == 81) (c == 77) refl refl refl e
-  where
-    by : (i q m : Bool) → (c == 73) ≡ i → (c == 81) ≡ q → (c == 77) ≡ m → (if i then Some area.I else if q then Some area.Q else if m then Some area.M else None) ≡ Some name → AreaLetter c
-    by true q m i_is q_is m_is e = inl (eqb-true c 73 i_is)
-    by false true m i_is q_is m_is e = inr (inl (eqb-true c 81 q_is))
-    by false false true i_is q_is m_is e = inr (inr (eqb-true c 77 m_is))
-    by false false false i_is q_is m_is e = absurd cc
 
 none_in : (c : ℕ) (low : List ℕ) (zero : Bool) → AreaLetter (to_ascii_uppercase c) → found_in true (to_ascii_lowercase c ∷ low) zero ≡ None
 none_in c low zero h = ap (λ (d : ℕ). found_in true (d ∷ low) zero) (sym (lowercase-uppercase c)) ∙ by h
@@ -489,40 +329,67 @@ bit_not_asked : (tokens : List Token) (place : RawPlace) → IsBit tokens place 
 bit_not_asked tokens place (together w point bit name y x word area byte number within) = not_asked w (point ∷ bit ∷ []) name word area
 bit_not_asked tokens place (apart w n point bit name y x word area digits byte number within) = not_asked w (n ∷ point ∷ bit ∷ []) name word (one_letter w.text name area)
 
-number_read : (tokens : List Token) (n : ℕ) → IsByteNumber tokens n → byte_at tokens ≡ Fits (plain n) (length tokens)
-number_read tokens n (unsigned word k kind is) =
-    if_false (is_sign (codes "-") word) _ _ (no_sign (codes "-") word kind)
-    ∙ ap (plain_by 1) (if_true (is_word_kind word.kind) (number_of 255 word.text) None kind ∙ is)
-number_read tokens n (minus_zero sign zero k minus kind glued is) =
-    if_true (is_sign (codes "-") sign) _ _ minus
-    ∙ ap (plain_by 2) (if_true zero.glued (number_in 0 zero) None glued ∙ if_true (is_word_kind zero.kind) (number_of 0 zero.text) None kind ∙ is)
-
 checked_read : (tokens : List Token) (operand : RawOperand) → IsOperand shape.Checked tokens operand → checked_at tokens ≡ Fits operand (length tokens)
-checked_read tokens operand (form.checked_bit ts place is) =
-    ap (λ (r : Read RawOperand). or_else r (at_place (bit_operand ts))) (bit_not_asked ts place is) ∙ ap at_place (bit_is ts place is)
-checked_read tokens operand (form.status ts test is) = ap (λ (r : Read RawOperand). or_else r (at_place (bit_operand ts))) (status_is ts test is)
+checked_read tokens operand (form.checked_bit ts place is) = or_no (status_at ts) _ (bit_not_asked ts place is) ∙ ap (read_as At) (bit_read ts place is)
+checked_read tokens operand (form.status ts test is) = or_this (status_at ts) _ (Flag test) (length ts) (status_is ts test is)
 
--- behind O alone nothing stands
-something : (tokens : List Token) (operand : RawOperand) → IsOperand shape.Checked tokens operand → nothing_at tokens ≡ No
-something tokens operand (form.checked_bit ts place is) = by ts place is
+-- where something is read, something stands
+nothing_no : (tokens : List Token) → (tokens ≡ [] → ⊥) → nothing_at tokens ≡ No
+nothing_no [] there = absurd (there refl)
+nothing_no (first ∷ rest) there = refl
+
+checked_there : (tokens : List Token) (operand : RawOperand) → IsOperand shape.Checked tokens operand → tokens ≡ [] → ⊥
+checked_there tokens operand (form.checked_bit ts place is) e = by ts place is e
   where
-    by : (ts : List Token) (place : RawPlace) → IsBit ts place → nothing_at ts ≡ No
-    by ts place (together w point bit name y x word area byte number within) = refl
-    by ts place (apart w n point bit name y x word area digits byte number within) = refl
-something tokens operand (form.status ts test is) = by ts test is
+    by : (ts : List Token) (place : RawPlace) → IsBit ts place → ts ≡ [] → ⊥
+    by ts place (together w point bit name y x word area byte number within) e = absurd cc
+    by ts place (apart w n point bit name y x word area digits byte number within) e = absurd cc
+checked_there tokens operand (form.status ts test is) e = by ts test is e
   where
-    by : (ts : List Token) (test : Test) → IsStatusOperand ts test → nothing_at ts ≡ No
-    by ts test (flag word t none s) = refl
-    by ts test (compared sign zero t zeros s z g) = refl
+    by : (ts : List Token) (test : Test) → IsStatusOperand ts test → ts ≡ [] → ⊥
+    by ts test (flag word t none s) e = absurd cc
+    by ts test (compared sign zero t zeros s z g) e = absurd cc
+
+or_nothing_read : (tokens : List Token) (r : Read RawOperand) (operand : RawOperand) → (tokens ≡ [] → ⊥) → r ≡ Fits operand (length tokens) →
+    or_nothing tokens r ≡ Fits operand (length tokens)
+or_nothing_read tokens r operand there e = or_no (nothing_at tokens) r (nothing_no tokens there) ∙ e
+
+stw_read : (word : Token) → is_word (codes "STW") word ≡ true → stw_at (word ∷ []) ≡ Fits Stw 1
+stw_read word is = if_true (is_word (codes "STW") word) _ No is
+
+loaded_constant : (tokens : List Token) (c : Literal) → IsConstant tokens c → loaded_at tokens ≡ Fits (Constant c) (length tokens)
+loaded_constant tokens c is =
+    or_no (stw_at tokens) _ (constant_no_stw tokens c is)
+    ∙ or_this (read_as Constant (constant_at tokens)) _ (Constant c) (length tokens) (ap (read_as Constant) (constant_read tokens c is))
+
+loaded_place : (tokens : List Token) (place : RawPlace) → IsPlace tokens place → loaded_at tokens ≡ Fits (At place) (length tokens)
+loaded_place tokens place is =
+    or_no (stw_at tokens) _ (place_no_stw tokens place is) ∙ or_no (read_as Constant (constant_at tokens)) _ (ap (read_as Constant) (place_no_constant tokens place is))
+    ∙ or_this (read_as At (place_operand tokens)) _ (At place) (length tokens) (ap (read_as At) (place_read tokens place is))
+
+stored_place : (tokens : List Token) (place : RawPlace) → IsPlace tokens place → stored_at tokens ≡ Fits (At place) (length tokens)
+stored_place tokens place is = or_no (stw_at tokens) _ (place_no_stw tokens place is) ∙ ap (read_as At) (place_read tokens place is)
 
 operand_read : (shape : Shape) (tokens : List Token) (operand : RawOperand) → IsOperand shape tokens operand → operand_by shape tokens ≡ Fits operand (length tokens)
 operand_read shape tokens operand form.nothing = refl
-operand_read shape tokens operand (form.bit ts place is) = ap at_place (bit_is ts place is)
+operand_read shape tokens operand (form.bit ts place is) = ap (read_as At) (bit_read ts place is)
 operand_read shape tokens operand (form.checked_bit ts place is) = checked_read ts (At place) (form.checked_bit ts place is)
 operand_read shape tokens operand (form.status ts test is) = checked_read ts (Flag test) (form.status ts test is)
-operand_read shape tokens operand (form.checked ts o is) = ap (λ (r : Read RawOperand). or_else r (checked_at ts)) (something ts o is) ∙ checked_read ts o is
+operand_read shape tokens operand (form.checked ts o is) = or_nothing_read ts (checked_at ts) o (checked_there ts o is) (checked_read ts o is)
 operand_read shape tokens operand form.alone = refl
-operand_read shape tokens operand (form.number ts n is) = number_read ts n is
+operand_read shape tokens operand (form.number most ts n is) = ap (read_as Constant) (number_at_read most ts n is)
+operand_read shape tokens operand (form.count most ts n is) =
+    or_nothing_read ts _ (Constant (plain n)) (up_to_there most ts n is) (ap (read_as Constant) (number_at_read most ts n is))
+operand_read shape tokens operand (form.no_count most) = refl
+operand_read shape tokens operand (form.addend ts c is) = ap (read_as Constant) (addend_read ts c is)
+operand_read shape tokens operand (form.loaded_status word is) = or_this (stw_at (word ∷ [])) _ Stw 1 (stw_read word is)
+operand_read shape tokens operand (form.loaded_constant ts c is) = loaded_constant ts c is
+operand_read shape tokens operand (form.loaded_place ts place is) = loaded_place ts place is
+operand_read shape tokens operand (form.stored_status word is) = or_this (stw_at (word ∷ [])) _ Stw 1 (stw_read word is)
+operand_read shape tokens operand (form.stored_place ts place is) = stored_place ts place is
+operand_read shape tokens operand (form.combined w ts c is fit) =
+    or_nothing_read ts _ (Constant c) (constant_there ts c is) (ap (read_as Constant) (fitting_read w ts c is fit))
+operand_read shape tokens operand (form.no_constant w) = refl
 
 complete : (tokens : List Token) (instr : RawInstr) → IsInstruction tokens instr → instruction_of tokens ≡ Ok instr
 unfolding instruction_of

@@ -1,3 +1,6 @@
+mod ConstantLaws
 mod InstructionLaws
+mod PlaceLaws
+mod Reading
 mod TableLaws
 mod Tables

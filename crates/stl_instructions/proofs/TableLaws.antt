@@ -1,16 +1,17 @@
 -- The mnemonic at the front of tokens is the longest of the table that stands there.
-use Rattle.std.proofs.Common.{◌≡◌, ℕ, ◌≤◌, ◌⊎◌, inl, inr, Bool, true, false, not, cond, ◌&&◌, List, [], ◌∷◌, Some, None, refl, sym, ap, subst, ◌∙◌, arith}
+use Rattle.std.proofs.Common.{◌≡◌, ◌≤◌, ◌⊎◌, inl, inr, Bool, true, false, not, cond, ◌&&◌, List, [], ◌∷◌, Some, None, refl, sym, ap, subst, ◌∙◌, arith}
 use Rattle.std.proofs.lemmas.Bool.{and_parts, not-true, ltb-false}
 use Rattle.std.specs.List.{find, list_any}
-use Rattle.std.specs.Prelude.{nat_lt, ◌||◌}
-use Rattle.std.specs.Str.{bytes_eq, str_to_ascii_lowercase}
-use Rattle.std.proofs.lemmas.Slice.Eq.{bytes_eq-Decides}
+use Rattle.std.specs.Prelude.{nat_lt}
 use Rattle.s7_base.specs.Tokens.{is_same_word}
 use Rattle.s7_base.specs.declared.token.Token.{Token}
-use Rattle.stl_tree.specs.InstructionForms.{IsAmong, MnemonicsAreLongest}
+use Rattle.stl_tree.specs.ConstantForms.{IsAmong}
+use Rattle.stl_tree.specs.InstructionForms.{MnemonicsAreLongest}
 use Rattle.stl_tree.specs.Mnemonics.{Row, rows, goes_on, stands_at, mnemonic_at}
 use Rattle.stl_tree.specs.Statements.{size_with}
 use Rattle.stl_tree.specs.Words.{is_spelled}
+use Rattle.stl_instructions.proofs.Reading.{alike}
+use Rattle.stl_instructions.proofs.Tables.{any_at, found_among, found_passes, none_passes, some_is}
 
 -- a row stands before a longer one that begins in the same way
 abbrev hides : Row → Row → Bool
@@ -23,52 +24,6 @@ are_ordered (row ∷ rest) = not (list_any (hides row) rest) && are_ordered rest
 rows_ordered : are_ordered rows ≡ true
 rows_ordered = refl
 
--- what is found
-
-some_is : (a b : Row) → Some a ≡ Some b → a ≡ b
-some_is a b e = cc
-
-found_among : (test : Row → Bool) (xs : List Row) (row : Row) → find test xs ≡ Some row → IsAmong row xs
-found_among test [] row e = absurd cc
-found_among test (x ∷ xs) row e = by (test x) e (λ h. found_among test xs row h)
-  where
-    by : (b : Bool) → cond b (Some x) (find test xs) ≡ Some row → (find test xs ≡ Some row → IsAmong row xs) → IsAmong row (x ∷ xs)
-    by true e next = inl (sym (some_is x row e))
-    by false e next = inr (next e)
-
-found_passes : (test : Row → Bool) (xs : List Row) (row : Row) → find test xs ≡ Some row → test row ≡ true
-found_passes test [] row e = absurd cc
-found_passes test (x ∷ xs) row e = by (test x) refl e (λ h. found_passes test xs row h)
-  where
-    by : (b : Bool) → test x ≡ b → cond b (Some x) (find test xs) ≡ Some row → (find test xs ≡ Some row → test row ≡ true) → test row ≡ true
-    by true t e next = ap test (sym (some_is x row e)) ∙ t
-    by false t e next = next e
-
-none_passes : (test : Row → Bool) (xs : List Row) (other : Row) → find test xs ≡ None → IsAmong other xs → test other ≡ false
-none_passes test [] other e h = elim h [ ]
-none_passes test (x ∷ xs) other e h = by (test x) refl e h (λ k more. none_passes test xs other k more)
-  where
-    by : (b : Bool) → test x ≡ b → cond b (Some x) (find test xs) ≡ None → (other ≡ x) ⊎ IsAmong other xs → (find test xs ≡ None → IsAmong other xs → test other ≡ false)
-        → test other ≡ false
-    by true t e h next = absurd cc
-    by false t e (inl same) next = ap test same ∙ t
-    by false t e (inr more) next = next e more
-
--- two texts that are the same as a third, in any case, are the same
-alike : (t a b : List ℕ) → is_same_word t a ≡ true → is_same_word t b ≡ true → is_same_word b a ≡ true
-alike t a b p q =
-    let x : str_to_ascii_lowercase t ≡ str_to_ascii_lowercase a = equal (str_to_ascii_lowercase t) (str_to_ascii_lowercase a) p in
-    let y : str_to_ascii_lowercase t ≡ str_to_ascii_lowercase b = equal (str_to_ascii_lowercase t) (str_to_ascii_lowercase b) q in
-    let same : str_to_ascii_lowercase b ≡ str_to_ascii_lowercase a = sym y ∙ x in
-    let R : List ℕ → Type 0 = λ bytes. bytes_eq (str_to_ascii_lowercase b) bytes ≡ true in
-    subst R same (itself (str_to_ascii_lowercase b))
-  where
-    equal : (xs ys : List ℕ) → bytes_eq xs ys ≡ true → xs ≡ ys
-    equal xs ys h = (bytes_eq-Decides xs ys).0 h
-
-    itself : (xs : List ℕ) → bytes_eq xs xs ≡ true
-    itself xs = (bytes_eq-Decides xs xs).1 refl
-
 -- rows that stand at the front of the same tokens begin with the same word
 fronts : (tokens : List Token) (row other : Row) → stands_at tokens row ≡ true → stands_at tokens other ≡ true → is_same_word other.first row.first ≡ true
 fronts [] row other p q = absurd cc
@@ -78,15 +33,6 @@ fronts (first ∷ rest) row other p q =
     let c = and_parts _ (is_same_word first.text row.first) a.0 in
     let d = and_parts _ (is_same_word first.text other.first) b.0 in
     alike first.text row.first other.first c.1 d.1
-
-any_at : (test : Row → Bool) (xs : List Row) (x : Row) → IsAmong x xs → test x ≡ true → list_any test xs ≡ true
-any_at test [] x h t = elim h [ ]
-any_at test (y ∷ ys) x h t = by (test y) refl h (λ more. any_at test ys x more t)
-  where
-    by : (b : Bool) → test y ≡ b → (x ≡ y) ⊎ IsAmong x ys → (IsAmong x ys → list_any test ys ≡ true) → (b || list_any test ys) ≡ true
-    by true e h next = refl
-    by false e (inl same) next = let clash : true ≡ false = sym t ∙ ap test same ∙ e in absurd cc
-    by false e (inr more) next = next more
 
 no_longer : (row other : Row) (rest : List Row) → list_any (hides row) rest ≡ false → IsAmong other rest → is_same_word other.first row.first ≡ true →
     size_with other.second ≤ size_with row.second

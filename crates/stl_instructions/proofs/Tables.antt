@@ -1,7 +1,10 @@
--- Looking something up in a table that is seen as another.
-use Rattle.std.proofs.Common.{◌≡◌, Bool, true, false, cond, ◌&&◌, List, [], ◌∷◌, map, Some, None, refl, sym}
-use Rattle.std.specs.List.{find}
-use Rattle.std.specs.Prelude.{option_map}
+-- Looking something up in a table.
+use Rattle.std.proofs.Common.{◌≡◌, ◌⊎◌, inl, inr, Bool, true, false, cond, ◌&&◌, List, [], ◌∷◌, map, Some, None, refl, sym, ap, ◌∙◌}
+use Rattle.std.specs.List.{find, list_any}
+use Rattle.std.specs.Prelude.{◌||◌, option_map}
+use Rattle.stl_tree.specs.ConstantForms.{IsAmong}
+
+-- a table that is seen as another
 
 at : {X Y : Type 0} (view : X → Y) (test : Y → Bool) (x : X) (xs : List X) (b : Bool) → option_map view (find (λ y. test (view y)) xs) ≡ find test (map view xs) →
     option_map view (cond b (Some x) (find (λ y. test (view y)) xs)) ≡ cond b (Some (view x)) (find test (map view xs))
@@ -22,3 +25,60 @@ find_none (x ∷ xs) = find_none xs
 pub find_refused : {X : Type 0} (b : Bool) (one two : X → Bool) (xs : List X) → b ≡ false → None ≡ find (λ x. b && one x && two x) xs
 find_refused true one two xs h = absurd cc
 find_refused false one two xs h = sym (find_none xs)
+
+-- what is found
+
+pub some_is : {X : Type 0} (a b : X) → Some a ≡ Some b → a ≡ b
+some_is a b e = cc
+
+-- it stands in the table
+pub found_among : {X : Type 0} (test : X → Bool) (xs : List X) (y : X) → find test xs ≡ Some y → IsAmong y xs
+found_among test [] y e = absurd cc
+found_among test (x ∷ xs) y e = by (test x) e (λ h. found_among test xs y h)
+  where
+    by : (b : Bool) → cond b (Some x) (find test xs) ≡ Some y → (find test xs ≡ Some y → IsAmong y xs) → IsAmong y (x ∷ xs)
+    by true e next = inl (sym (some_is x y e))
+    by false e next = inr (next e)
+
+-- it passes
+pub found_passes : {X : Type 0} (test : X → Bool) (xs : List X) (y : X) → find test xs ≡ Some y → test y ≡ true
+found_passes test [] y e = absurd cc
+found_passes test (x ∷ xs) y e = by (test x) refl e (λ h. found_passes test xs y h)
+  where
+    by : (b : Bool) → test x ≡ b → cond b (Some x) (find test xs) ≡ Some y → (find test xs ≡ Some y → test y ≡ true) → test y ≡ true
+    by true t e next = ap test (sym (some_is x y e)) ∙ t
+    by false t e next = next e
+
+-- where nothing is found, none passes
+pub none_passes : {X : Type 0} (test : X → Bool) (xs : List X) (other : X) → find test xs ≡ None → IsAmong other xs → test other ≡ false
+none_passes test [] other e h = elim h [ ]
+none_passes test (x ∷ xs) other e h = by (test x) refl e h (λ k more. none_passes test xs other k more)
+  where
+    by : (b : Bool) → test x ≡ b → cond b (Some x) (find test xs) ≡ None → (other ≡ x) ⊎ IsAmong other xs → (find test xs ≡ None → IsAmong other xs → test other ≡ false)
+        → test other ≡ false
+    by true t e h next = absurd cc
+    by false t e (inl same) next = ap test same ∙ t
+    by false t e (inr more) next = next e more
+
+-- where none passes, nothing is found
+pub none_found : {X : Type 0} (test : X → Bool) (xs : List X) → ((x : X) → test x ≡ false) → find test xs ≡ None
+none_found test [] none = refl
+none_found test (x ∷ xs) none = ap (λ (b : Bool). cond b (Some x) (find test xs)) (none x) ∙ none_found test xs none
+
+-- one that passes is there
+pub any_at : {X : Type 0} (test : X → Bool) (xs : List X) (x : X) → IsAmong x xs → test x ≡ true → list_any test xs ≡ true
+any_at test [] x h t = elim h [ ]
+any_at test (y ∷ ys) x h t = by (test y) refl h (λ more. any_at test ys x more t)
+  where
+    by : (b : Bool) → test y ≡ b → (x ≡ y) ⊎ IsAmong x ys → (IsAmong x ys → list_any test ys ≡ true) → (b || list_any test ys) ≡ true
+    by true e h next = refl
+    by false e (inl same) next = let clash : true ≡ false = sym t ∙ ap test same ∙ e in absurd cc
+    by false e (inr more) next = next more
+
+-- where none is there, it does not pass
+pub none_at : {X : Type 0} (test : X → Bool) (xs : List X) (x : X) → IsAmong x xs → list_any test xs ≡ false → test x ≡ false
+none_at test xs x h none = by (test x) refl
+  where
+    by : (b : Bool) → test x ≡ b → b ≡ false
+    by true t = let clash : true ≡ false = sym (any_at test xs x h t) ∙ none in absurd cc
+    by false t = refl

@@ -4,13 +4,17 @@
 //! code has the table a second time, as data, and one look-up for all rows.
 #![tactic(auto)]
 
+pub use constant::fits;
 pub use laws::{instructions_have_forms, mnemonics_are_longest};
-pub use operand::{are_digits, is_bit_in_area, is_numbered};
+pub use number::are_digits;
+pub use operand::{is_in_area, is_numbered};
 pub use statement::{begins_with_label, instruction};
 pub use table::{begins_with_mnemonic, mnemonic_named};
 pub use words::{is_sign, is_word, is_word_kind};
 
+mod constant;
 mod laws;
+mod number;
 mod operand;
 mod statement;
 mod table;

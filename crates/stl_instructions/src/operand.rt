@@ -1,20 +1,30 @@
 //! Reads the operand of an instruction.
-ghost use Rattle.std.specs.Prelude.{◌≡◌, ◌&&◌, ◌||◌, map, option_map};
-ghost use Rattle.std.specs.List.{find, list_all};
-ghost use Rattle.s7_base.specs.Tokens.{is_between, is_same_word};
+ghost use Rattle.std.specs.Prelude.{◌≡◌, ℕ, ◌&&◌, ◌||◌, nat_le, not, map, option_map};
+ghost use Rattle.std.specs.List.{find};
+ghost use Rattle.s7_base.specs.Tokens.{is_same_word};
+ghost use Rattle.memory_areas.specs.Access.{is_unaligned};
+ghost use Rattle.stl_tree.specs.Constants.{addend_at, constant_at, fitting_at, number_at};
 ghost use Rattle.stl_tree.specs.Mnemonics.{goes_on};
+ghost use Rattle.stl_tree.specs.Readers.{fitting, or_else, read_as};
+ghost use Rattle.stl_tree.specs.Shifts.{most_steps};
+ghost use Rattle.stl_tree.specs.Statements.{area_of, area_of_letter, bit_at, bit_operand, bit_of, checked_at, checked_shape, first_of, has_form, in_area, is_asked, is_bit_number, is_in_area, is_named, is_numbered, left_out_at, left_out_forms, length_at, loaded_at, long_at, long_bit, long_place, long_place_at, nothing_at, operand_by, operand_of, or_nothing, place_named, place_operand, second_of, shape_of, short_at, short_bit, short_place, short_place_at, size_with, status_at, stored_at, stw_at, tests, timers_and_counters, width_of, width_of_letter};
 ghost use Rattle.stl_tree.specs.Words.{is_spelled};
-ghost use Rattle.stl_tree.specs.Statements.{area_of, area_of_letter, bit_of, is_bit_in_area, in_area, bit_at, is_bit_number, short_bit, long_bit, are_digits, is_named, is_numbered, has_form, left_out_forms, fitting, or_else, short_at, long_at, left_out_by, bit_operand, at_place, size_with, first_of, second_of, tests, is_asked, status_at, number_in, zero_behind, plain_by, byte_at, nothing_at, checked_at, operand_by, checked_shape, shape_of, operand_of};
+ghost use Rattle.stl_tree.specs.WordLogic.{width_of as logic_width};
+ghost use Rattle.stl_tree.specs.declared.raw.RawOperand.TheVariants as operand;
 ghost use Rattle.stl_instructions.specs.inner.Rows.{seen};
 
+use crate::constant::{addend_at, constant_at, fitting, fitting_at, number_at};
+use crate::number::are_digits;
 use crate::table::goes_on;
 use crate::words::{is_sign, is_word, is_word_kind, is_word_or_sign};
 use memory_areas::{AreaName, is_byte_in};
 use s7_base::{Check, Kind, Token, Width, front_of, is_same_word, rest_after};
 use status_word::Test;
-use stl_tree::{Constant, Mnemonic, RawOperand, RawPlace, Read, Shape, number_of};
+use stl_tree::{
+    Constant, LogicRow, Mnemonic, RawOperand, RawPlace, Read, Shape, ShiftRow, number_of,
+};
 
-/// A form that is left out where a bit may stand: a word with a number, or with a bracket where it may be
+/// A form that is left out where a place may stand: a word with a number, or with a bracket where it may be
 /// indirect, and its kind.
 #[derive(Clone, Copy)]
 pub struct NamedForm {
@@ -87,21 +97,27 @@ fn area_of(word: &[u8]) -> Option<AreaName>
     }
 }
 
-/// The place is a bit of its area.
-pub fn is_bit_in_area(place: RawPlace) -> bool
-    ensures { result ≡ is_bit_in_area place }
+/// The place lies in its area, with a bit number that its width has.
+pub fn is_in_area(place: RawPlace) -> bool
+    ensures { result ≡ is_in_area place }
 {
-    is_byte_in(place.area, Width::Bit, place.byte) && place.bit <= 7
+    is_byte_in(place.area, place.width, place.byte) && place.bit <= most_bit(place.width)
+}
+
+/// The greatest bit number of a width.
+fn most_bit(width: Width) -> u32
+    ensures { (bit : ℕ) → nat_le bit result ≡ not (is_unaligned width bit) }
+{
+    match width {
+        Width::Bit => 7,
+        Width::Byte | Width::Word | Width::Dword => 0,
+    }
 }
 
 fn in_area(place: RawPlace) -> Option<RawPlace>
     ensures { result ≡ in_area place }
 {
-    if is_bit_in_area(place) {
-        Some(place)
-    } else {
-        None
-    }
+    if is_in_area(place) { Some(place) } else { None }
 }
 
 /// A bit by its area, its byte and its number, the byte within the area.
@@ -159,12 +175,62 @@ fn long_bit(name: &Token, byte: &Token, point: &Token, bit: &Token) -> Option<Ra
     }
 }
 
-fn fitting(size: usize, place: Option<RawPlace>) -> Read<RawPlace>
-    ensures { result ≡ fitting size place }
+fn width_of_letter(letter: u8) -> Option<Width>
+    ensures { result ≡ width_of_letter letter }
 {
-    match place {
-        Some(place) => Read::Fits(place, size),
-        None => Read::No,
+    match letter {
+        b'B' => Some(Width::Byte),
+        b'W' => Some(Width::Word),
+        b'D' => Some(Width::Dword),
+        _ => None,
+    }
+}
+
+fn width_of(word: &[u8]) -> Option<Width>
+    ensures { result ≡ width_of word.now }
+{
+    match word {
+        [letter] => width_of_letter(letter.to_ascii_uppercase()),
+        _ => None,
+    }
+}
+
+/// A byte, a word or a double word of its area, by the letters of its area and its width and by its byte.
+fn place_named(letters: &[u8], byte: &[u8]) -> Option<RawPlace>
+    ensures { result ≡ place_named letters.now byte.now }
+{
+    let area = area_of(front_of(letters, 1))?;
+    let width = width_of(rest_after(letters, 1))?;
+    let byte = number_of(65535, byte)? as u32;
+    in_area(RawPlace {
+        block: None,
+        area,
+        width,
+        byte,
+        bit: 0,
+    })
+}
+
+/// `MB5`: all in one word.
+fn short_place(place: &Token) -> Option<RawPlace>
+    ensures { result ≡ short_place place.now }
+{
+    if is_word_kind(place) {
+        let text = place.text.as_slice();
+        place_named(front_of(text, 2), rest_after(text, 2))
+    } else {
+        None
+    }
+}
+
+/// `MB 5`: the letters and the byte in a word each.
+fn long_place(name: &Token, byte: &Token) -> Option<RawPlace>
+    ensures { result ≡ long_place name.now byte.now }
+{
+    if is_word_kind(name) && is_word_kind(byte) {
+        place_named(name.text.as_slice(), byte.text.as_slice())
+    } else {
+        None
     }
 }
 
@@ -184,22 +250,6 @@ fn long_at(tokens: &[Token]) -> Read<RawPlace>
         [name, byte, point, bit, ..] => fitting(4, long_bit(name, byte, point, bit)),
         _ => Read::No,
     }
-}
-
-/// One or more digits.
-pub fn are_digits(word: &[u8]) -> bool
-    ensures { result ≡ are_digits word.now }
-{
-    match word {
-        [] => false,
-        _ => all_digits(word),
-    }
-}
-
-fn all_digits(word: &[u8]) -> bool
-    ensures { result ≡ list_all (λ b. is_between 48 57 b) word.now }
-{
-    word.iter().all(|b| b.is_ascii_digit())
 }
 
 fn is_named(form: &NamedForm, tokens: &[Token]) -> bool
@@ -249,16 +299,23 @@ fn first_form(tokens: &[Token], table: &[NamedForm]) -> Option<NamedForm>
     form_found(tokens, table)
 }
 
-fn form_at(tokens: &[Token]) -> Option<NamedForm>
-    ensures { option_map seen result ≡ find (has_form tokens.now) left_out_forms }
+fn timers_and_counters() -> &'static [NamedForm]
+    ensures { map seen result.now ≡ timers_and_counters }
 {
-    first_form(tokens, &LEFT_OUT_FORMS)
+    front_of(&LEFT_OUT_FORMS, 2)
 }
 
-fn left_out_at(tokens: &[Token]) -> Read<RawPlace>
-    ensures { result ≡ left_out_by (find (has_form tokens.now) left_out_forms) }
+fn left_out_forms() -> &'static [NamedForm]
+    ensures { map seen result.now ≡ left_out_forms }
 {
-    match form_at(tokens) {
+    &LEFT_OUT_FORMS
+}
+
+/// A form of a table that is left out.
+fn left_out_at(table: &[NamedForm], tokens: &[Token]) -> Read<RawPlace>
+    ensures { result ≡ left_out_at (map seen table.now) tokens.now }
+{
+    match first_form(tokens, table) {
         Some(form) => Read::LeftOut(form.kind),
         None => Read::No,
     }
@@ -275,19 +332,66 @@ fn bit_operand(tokens: &[Token]) -> Read<RawPlace>
 }
 
 fn long_or_left_out(tokens: &[Token]) -> Read<RawPlace>
-    ensures { result ≡ or_else (long_at tokens.now) (left_out_by (find (has_form tokens.now) left_out_forms)) }
+    ensures { result ≡ or_else (long_at tokens.now) (left_out_at left_out_forms tokens.now) }
 {
     match long_at(tokens) {
-        Read::No => left_out_at(tokens),
+        Read::No => left_out_at(left_out_forms(), tokens),
+        read => read,
+    }
+}
+
+fn short_place_at(tokens: &[Token]) -> Read<RawPlace>
+    ensures { result ≡ short_place_at tokens.now }
+{
+    match tokens {
+        [place, ..] => fitting(1, short_place(place)),
+        [] => Read::No,
+    }
+}
+
+fn long_place_at(tokens: &[Token]) -> Read<RawPlace>
+    ensures { result ≡ long_place_at tokens.now }
+{
+    match tokens {
+        [name, byte, ..] => fitting(2, long_place(name, byte)),
+        _ => Read::No,
+    }
+}
+
+fn long_place_or_left_out(tokens: &[Token]) -> Read<RawPlace>
+    ensures { result ≡ or_else (long_place_at tokens.now) (left_out_at left_out_forms tokens.now) }
+{
+    match long_place_at(tokens) {
+        Read::No => left_out_at(left_out_forms(), tokens),
+        read => read,
+    }
+}
+
+/// What stands where a byte, a word or a double word may stand.
+fn place_operand(tokens: &[Token]) -> Read<RawPlace>
+    ensures { result ≡ place_operand tokens.now }
+{
+    match short_place_at(tokens) {
+        Read::No => long_place_or_left_out(tokens),
         read => read,
     }
 }
 
 fn at_place(read: Read<RawPlace>) -> Read<RawOperand>
-    ensures { result ≡ at_place read }
+    ensures { result ≡ read_as operand.At read }
 {
     match read {
         Read::Fits(place, size) => Read::Fits(RawOperand::At(place), size),
+        Read::LeftOut(kind) => Read::LeftOut(kind),
+        Read::No => Read::No,
+    }
+}
+
+fn at_constant(read: Read<Constant>) -> Read<RawOperand>
+    ensures { result ≡ read_as operand.Constant read }
+{
+    match read {
+        Read::Fits(constant, size) => Read::Fits(RawOperand::Constant(constant), size),
         Read::LeftOut(kind) => Read::LeftOut(kind),
         Read::No => Read::No,
     }
@@ -387,52 +491,25 @@ fn status_at(tokens: &[Token]) -> Read<RawOperand>
     }
 }
 
-/// A word that is a number of at most so much.
-fn number_in(most: u16, token: &Token) -> Option<u16>
-    ensures { result ≡ number_in most token.now }
-{
-    if is_word_kind(token) {
-        Some(number_of(u64::from(most), token.text.as_slice())? as u16)
-    } else {
-        None
-    }
-}
-
-/// Behind a minus: 0, with no blank before it.
-fn zero_behind(tokens: &[Token]) -> Option<u16>
-    ensures { result ≡ zero_behind tokens.now }
+/// The status word.
+fn stw_at(tokens: &[Token]) -> Read<RawOperand>
+    ensures { result ≡ stw_at tokens.now }
 {
     match tokens {
-        [token, ..] if token.glued => number_in(0, token),
-        _ => None,
+        [first, ..] if is_word(first, "STW") => Read::Fits(RawOperand::Stw, 1),
+        _ => Read::No,
     }
 }
 
-fn plain_by(size: usize, number: Option<u16>) -> Read<RawOperand>
-    ensures { result ≡ plain_by size number }
+/// The length of a data block, which is left out.
+fn length_at(tokens: &[Token]) -> Read<RawOperand>
+    ensures { result ≡ length_at tokens.now }
 {
-    match number {
-        Some(value) => {
-            let value = Constant {
-                width: Width::Word,
-                signed: true,
-                binary: false,
-                value: u32::from(value),
-            };
-            Read::Fits(RawOperand::Constant(value), size)
+    match tokens {
+        [first, ..] if is_word(first, "DBLG") || is_word(first, "DILG") => {
+            Read::LeftOut(Kind::DbLength)
         }
-        None => Read::No,
-    }
-}
-
-/// What stands where a number from 0 to 255 may stand.
-fn byte_at(tokens: &[Token]) -> Read<RawOperand>
-    ensures { result ≡ byte_at tokens.now }
-{
-    match tokens {
-        [sign, rest @ ..] if is_sign(sign, "-") => plain_by(2, zero_behind(rest)),
-        [first, ..] => plain_by(1, number_in(255, first)),
-        [] => Read::No,
+        _ => Read::No,
     }
 }
 
@@ -455,11 +532,69 @@ fn checked_at(tokens: &[Token]) -> Read<RawOperand>
     }
 }
 
+/// What `T` stores in.
+fn stored_at(tokens: &[Token]) -> Read<RawOperand>
+    ensures { result ≡ stored_at tokens.now }
+{
+    match stw_at(tokens) {
+        Read::No => at_place(place_operand(tokens)),
+        read => read,
+    }
+}
+
+fn place_or_length(tokens: &[Token]) -> Read<RawOperand>
+    ensures { result ≡ or_else (read_as operand.At (place_operand tokens.now)) (length_at tokens.now) }
+{
+    match place_operand(tokens) {
+        Read::No => length_at(tokens),
+        read => at_place(read),
+    }
+}
+
+fn constant_or_place(tokens: &[Token]) -> Read<RawOperand>
+    ensures { result
+        ≡ or_else (read_as operand.Constant (constant_at tokens.now))
+        (or_else (read_as operand.At (place_operand tokens.now)) (length_at tokens.now)) }
+{
+    match constant_at(tokens) {
+        Read::No => place_or_length(tokens),
+        read => at_constant(read),
+    }
+}
+
+/// What `L` loads.
+fn loaded_at(tokens: &[Token]) -> Read<RawOperand>
+    ensures { result ≡ loaded_at tokens.now }
+{
+    match stw_at(tokens) {
+        Read::No => constant_or_place(tokens),
+        read => read,
+    }
+}
+
 fn checked_or_nothing(tokens: &[Token]) -> Read<RawOperand>
-    ensures { result ≡ or_else (nothing_at tokens.now) (checked_at tokens.now) }
+    ensures { result ≡ or_nothing tokens.now (checked_at tokens.now) }
 {
     match nothing_at(tokens) {
         Read::No => checked_at(tokens),
+        read => read,
+    }
+}
+
+fn number_or_nothing(most: u8, tokens: &[Token]) -> Read<RawOperand>
+    ensures { result ≡ or_nothing tokens.now (read_as operand.Constant (number_at most tokens.now)) }
+{
+    match nothing_at(tokens) {
+        Read::No => at_constant(number_at(most, tokens)),
+        read => read,
+    }
+}
+
+fn constant_or_nothing(width: Width, tokens: &[Token]) -> Read<RawOperand>
+    ensures { result ≡ or_nothing tokens.now (read_as operand.Constant (fitting_at width tokens.now)) }
+{
+    match nothing_at(tokens) {
+        Read::No => at_constant(fitting_at(width, tokens)),
         read => read,
     }
 }
@@ -473,7 +608,13 @@ fn operand_by(shape: Shape, tokens: &[Token]) -> Read<RawOperand>
         Shape::Bit => at_place(bit_operand(tokens)),
         Shape::Checked => checked_at(tokens),
         Shape::CheckedOrNothing => checked_or_nothing(tokens),
-        Shape::Byte => byte_at(tokens),
+        Shape::Number(most) => at_constant(number_at(most, tokens)),
+        Shape::NumberOrNothing(most) => number_or_nothing(most, tokens),
+        Shape::Addend => at_constant(addend_at(tokens)),
+        Shape::Loaded => loaded_at(tokens),
+        Shape::Stored => stored_at(tokens),
+        Shape::ConstantOrNothing(width) => constant_or_nothing(width, tokens),
+        Shape::TimerOrCounter => at_place(left_out_at(timers_and_counters(), tokens)),
         Shape::Later => Read::No,
         Shape::LeftOut(kind) => Read::LeftOut(kind),
     }
@@ -488,6 +629,26 @@ fn checked_shape(check: Check) -> Shape
     }
 }
 
+/// The greatest count of a shift or rotation as a constant.
+pub fn most_steps(row: ShiftRow) -> u8
+    ensures { result ≡ most_steps row }
+{
+    match row {
+        ShiftRow::Slw | ShiftRow::Srw | ShiftRow::Ssi => 15,
+        ShiftRow::Sld | ShiftRow::Srd | ShiftRow::Ssd | ShiftRow::Rld | ShiftRow::Rrd => 32,
+    }
+}
+
+/// The width that a row of word logic works on.
+pub fn logic_width(row: LogicRow) -> Width
+    ensures { result ≡ logic_width row }
+{
+    match row {
+        LogicRow::Aw | LogicRow::Ow | LogicRow::Xow => Width::Word,
+        LogicRow::Ad | LogicRow::Od | LogicRow::Xod => Width::Dword,
+    }
+}
+
 /// The shape of a mnemonic's operand.
 fn shape_of(what: Mnemonic) -> Shape
     ensures { result ≡ shape_of what }
@@ -499,13 +660,27 @@ fn shape_of(what: Mnemonic) -> Shape
         | Mnemonic::SetRlo
         | Mnemonic::ClearRlo
         | Mnemonic::NotRlo
-        | Mnemonic::Save => Shape::Nothing,
+        | Mnemonic::Save
+        | Mnemonic::Arith(_)
+        | Mnemonic::Compare(_, _)
+        | Mnemonic::Rlda
+        | Mnemonic::Rrda
+        | Mnemonic::Unary(_)
+        | Mnemonic::Tak
+        | Mnemonic::Push
+        | Mnemonic::Pop => Shape::Nothing,
         Mnemonic::Assign
         | Mnemonic::Set
         | Mnemonic::Reset
         | Mnemonic::EdgeUp
         | Mnemonic::EdgeDown => Shape::Bit,
-        Mnemonic::Nop => Shape::Byte,
+        Mnemonic::Load => Shape::Loaded,
+        Mnemonic::Transfer => Shape::Stored,
+        Mnemonic::Plus => Shape::Addend,
+        Mnemonic::Inc | Mnemonic::Dec | Mnemonic::Nop => Shape::Number(255),
+        Mnemonic::Shift(row) => Shape::NumberOrNothing(most_steps(row)),
+        Mnemonic::Logic(row) => Shape::ConstantOrNothing(logic_width(row)),
+        Mnemonic::TimerOrCounter => Shape::TimerOrCounter,
         Mnemonic::Later => Shape::Later,
         Mnemonic::LeftOut(kind) => Shape::LeftOut(kind),
     }

@@ -13,11 +13,22 @@ use s7_base::{Kind, Line, NoMemory, Reason, Rejection, SmallText, Token, rest_af
 use std::alloc::Global;
 use stl_tree::{RawInstr, RawOp, RawOperand, Read};
 
-/// The kind by which a form that is left out is refused: none but `NotBuilt` is built yet.
-fn answered(_kind: Kind) -> Kind
-    ensures { result ≡ answered _kind }
+/// The kind by which a form that is left out is refused; those of calls and declarations are not built yet.
+fn answered(kind: Kind) -> Kind
+    ensures { result ≡ answered kind }
 {
-    Kind::NotBuilt
+    match kind {
+        Kind::Timer
+        | Kind::Counter
+        | Kind::Real
+        | Kind::MasterControl
+        | Kind::DateTime
+        | Kind::DbLength
+        | Kind::NamePointer
+        | Kind::Peripheral
+        | Kind::Accumulators => kind,
+        _ => Kind::NotBuilt,
+    }
 }
 
 /// One to four letters, digits or `_`, the first of them no digit.

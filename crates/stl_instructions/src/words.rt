@@ -1,6 +1,6 @@
 //! Tests of one token.
 ghost use Rattle.std.specs.Prelude.{◌≡◌, ◌||◌};
-ghost use Rattle.stl_tree.specs.Words.{is_word_kind, is_sign_kind, is_word, is_sign, is_spelled};
+ghost use Rattle.stl_tree.specs.Words.{is_joined, is_joined_word, is_sign, is_sign_kind, is_spelled, is_text_kind, is_word, is_word_kind};
 
 use s7_base::{Token, TokenKind, is_same_word};
 
@@ -37,4 +37,25 @@ pub fn is_spelled(token: &Token, text: &str) -> bool
     ensures { result ≡ is_spelled text.now token.now }
 {
     is_word_or_sign(token) && is_same_word(token.text.as_slice(), text)
+}
+
+/// The token is a text in single quotes.
+pub fn is_text(token: &Token) -> bool
+    ensures { result ≡ is_text_kind token.now.kind }
+{
+    matches!(token.kind, TokenKind::Text)
+}
+
+/// The token is this sign, with no blank before it.
+pub fn is_joined(token: &Token, sign: &str) -> bool
+    ensures { result ≡ is_joined sign.now token.now }
+{
+    is_sign(token, sign) && token.glued
+}
+
+/// The token is a word, with no blank before it.
+pub fn is_joined_word(token: &Token) -> bool
+    ensures { result ≡ is_joined_word token.now }
+{
+    is_word_kind(token) && token.glued
 }

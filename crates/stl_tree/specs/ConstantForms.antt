@@ -5,10 +5,11 @@ use Rattle.s7_base.specs.declared.word.Width.{Width}
 use Rattle.s7_base.specs.declared.word.Width.TheVariants as width
 use Rattle.stl_tree.specs.Accumulators.{bits_wide}
 use Rattle.stl_tree.specs.Constants.{Prefixed, addend_prefixes, binary, constant, half, negative, plain, prefixes, text_of, with_byte}
-use Rattle.stl_tree.specs.Numbers.{Bits, bits_of, hex_number, number_of}
+use Rattle.stl_tree.specs.Numbers.{bits_of, hex_number, number_of}
 use Rattle.stl_tree.specs.Words.{is_joined, is_joined_word, is_sign, is_text_kind, is_word, is_word_kind}
 use Rattle.stl_tree.specs.declared.mnemonic.Prefix.{Prefix}
 use Rattle.stl_tree.specs.declared.mnemonic.Prefix.TheVariants as prefix
+use Rattle.stl_tree.specs.declared.number.Bits.{Bits}
 use Rattle.stl_tree.specs.declared.raw.Constant.{Constant}
 
 -- the item is one of these

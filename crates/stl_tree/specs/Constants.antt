@@ -9,13 +9,14 @@ use Rattle.s7_base.specs.declared.token.Token.{Token}
 use Rattle.s7_base.specs.declared.word.Width.{Width}
 use Rattle.s7_base.specs.declared.word.Width.TheVariants as width
 use Rattle.stl_tree.specs.Accumulators.{bits_wide}
-use Rattle.stl_tree.specs.Numbers.{Bits, are_digits, bits_of, hex_number}
+use Rattle.stl_tree.specs.Numbers.{are_digits, bits_of, hex_number}
 use Rattle.stl_tree.specs.Readers.{fitting, number_in, or_else, read_as}
 use Rattle.stl_tree.specs.Words.{is_joined, is_joined_word, is_sign, is_text_kind, is_word, is_word_kind}
 use Rattle.stl_tree.specs.declared.mnemonic.Prefix.{Prefix}
 use Rattle.stl_tree.specs.declared.mnemonic.Prefix.TheVariants as prefix
 use Rattle.stl_tree.specs.declared.mnemonic.Read.{Read}
 use Rattle.stl_tree.specs.declared.mnemonic.Read.TheVariants.{Fits, LeftOut, No}
+use Rattle.stl_tree.specs.declared.number.Bits.{Bits}
 use Rattle.stl_tree.specs.declared.raw.Constant.{Constant}
 
 -- a constant of a width
@@ -108,10 +109,13 @@ room_for count = if nat_le count 8 then width.Byte else if nat_le count 16 then 
 abbrev pub binary : Bits → Constant
 binary bits = record { width = room_for bits.count; signed = false; binary = true; value = bits.value }
 
+-- binary digits, with no blank before them
+abbrev pub binary_of : Token → Option Constant
+binary_of digits = if is_joined_word digits then option_map binary (bits_of digits.text) else None
+
 abbrev pub binary_behind : List Token → Read Constant
 binary_behind [] = No
-binary_behind (digits ∷ rest) =
-    fitting 3 (if is_joined_word digits then option_map binary (bits_of digits.text) else None)
+binary_behind (digits ∷ rest) = fitting 3 (binary_of digits)
 
 -- Prefixes
 
@@ -176,12 +180,16 @@ prefixed_at table tokens = prefixed_by (find (has_prefix tokens) table) tokens
 
 -- Real constants
 
--- digits of an exponent, in the word of its E or behind a sign, with no blank before either
-abbrev pub is_exponent : List ℕ → List Token → Bool
-is_exponent [] (sign ∷ digits ∷ rest) =
+-- a sign and the digits of an exponent, with no blank before either
+abbrev pub is_signed_exponent : List Token → Bool
+is_signed_exponent (sign ∷ digits ∷ rest) =
     (is_joined (codes "+") sign || is_joined (codes "-") sign) && is_joined_word digits && are_digits digits.text
-is_exponent [] fewer = false
-is_exponent digits rest = are_digits digits
+is_signed_exponent fewer = false
+
+-- digits of an exponent, in the word of its E, or behind a sign
+abbrev pub is_exponent : List ℕ → List Token → Bool
+is_exponent [] rest = is_signed_exponent rest
+is_exponent (digit ∷ digits) rest = are_digits (digit ∷ digits)
 
 -- what may stand behind the digits after the point: nothing, or an exponent
 abbrev pub ends_real : List ℕ → List Token → Bool
@@ -224,25 +232,29 @@ text_of (a ∷ b ∷ c ∷ []) = Some (constant width.Dword (with_byte (with_byt
 text_of (a ∷ b ∷ c ∷ d ∷ []) = Some (constant width.Dword (with_byte (with_byte (with_byte a b) c) d))
 text_of other = None
 
+-- such characters as a token
+abbrev pub text_in : Token → Option Constant
+text_in token = if is_text_kind token.kind then text_of token.text else None
+
 abbrev pub text_at : List Token → Read Constant
 text_at [] = No
-text_at (first ∷ rest) = fitting 1 (if is_text_kind first.kind then text_of first.text else None)
+text_at (first ∷ rest) = fitting 1 (text_in first)
 
 -- a plain number
 abbrev pub plain_at : List Token → Read Constant
 plain_at tokens = read_as plain (signed_at 0 width.Word tokens)
 
--- a constant with a prefix of a table, or a real one, before what is read else
-abbrev pub number_with : List Prefixed → List Token → Read Constant → Read Constant
-number_with table tokens other = or_else (prefixed_at table tokens) (or_else (real_at tokens) other)
+-- a constant with a prefix of a table, or a real one
+abbrev pub marked_at : List Prefixed → List Token → Read Constant
+marked_at table tokens = or_else (prefixed_at table tokens) (real_at tokens)
 
 -- what stands where any constant may stand
 abbrev pub constant_at : List Token → Read Constant
-constant_at tokens = or_else (text_at tokens) (number_with prefixes tokens (plain_at tokens))
+constant_at tokens = or_else (text_at tokens) (or_else (marked_at prefixes tokens) (plain_at tokens))
 
 -- what stands where a number may stand that is added
 abbrev pub addend_at : List Token → Read Constant
-addend_at tokens = number_with addend_prefixes tokens (plain_at tokens)
+addend_at tokens = or_else (marked_at addend_prefixes tokens) (plain_at tokens)
 
 -- behind a minus: 0, with no blank before it
 abbrev pub zero_behind : List Token → Option ℕ
@@ -257,7 +269,7 @@ up_to most (first ∷ rest) =
 
 -- what stands where a number from 0 to so much may stand
 abbrev pub number_at : ℕ → List Token → Read Constant
-number_at most tokens = number_with left_out_prefixes tokens (read_as plain (up_to most tokens))
+number_at most tokens = or_else (marked_at left_out_prefixes tokens) (read_as plain (up_to most tokens))
 
 -- a constant of a width fits another one: a binary one each greater width, a plain number a double word
 abbrev pub fits_as : Width → Width → Constant → Bool

@@ -2,6 +2,7 @@
 use Rattle.std.specs.Prelude.{ℕ, ◌+◌, ◌*◌, ◌-◌, Bool, false, ◌==◌, ◌&&◌, nat_le, nat_lt, if◌then◌else◌, List, [], ◌∷◌, length, get_or, Option, Some, None, option_and_then}
 use Rattle.std.specs.List.{list_all}
 use Rattle.s7_base.specs.Tokens.{is_between}
+use Rattle.stl_tree.specs.declared.number.Bits.{Bits}
 
 -- Decimal numbers
 
@@ -36,11 +37,14 @@ hex_digit b =
 abbrev pub at_most : ℕ → ℕ → Option ℕ
 at_most most value = if nat_le value most then Some value else None
 
+-- a hexadecimal number with one digit more, where it is at most `most`
+abbrev pub with_hex_digit : ℕ → ℕ → ℕ → Option ℕ
+with_hex_digit most value digit = option_and_then (λ d. at_most most (value * 16 + d)) (hex_digit digit)
+
 -- the number that hexadecimal digits stand for after those of `value`, where it is at most `most`
 abbrev pub hex_from : ℕ → ℕ → List ℕ → Option ℕ
 hex_from most value [] = Some value
-hex_from most value (digit ∷ rest) =
-    option_and_then (λ d. option_and_then (λ more. hex_from most more rest) (at_most most (value * 16 + d))) (hex_digit digit)
+hex_from most value (digit ∷ rest) = option_and_then (λ more. hex_from most more rest) (with_hex_digit most value digit)
 
 -- a hexadecimal number of at most `most`; leading zeros are allowed
 abbrev pub hex_number : ℕ → List ℕ → Option ℕ
@@ -49,26 +53,21 @@ hex_number most (digit ∷ rest) = hex_from most 0 (digit ∷ rest)
 
 -- Binary numbers
 
--- how many digits, and the number that they stand for
-pub record Bits : Type 0 where
-  pub count : ℕ
-  pub value : ℕ
-
 -- 0 or 1
 abbrev pub is_bit : ℕ → Bool
 is_bit b = is_between 48 49 b
 
--- one digit more
-abbrev pub with_bit : Bits → ℕ → Bits
-with_bit bits b = record { count = bits.count + 1; value = bits.value * 2 + (b - 48) }
+-- binary digits with one more, of which there are at most 32; `_` says nothing
+abbrev pub with_next : Bits → ℕ → Option Bits
+with_next bits b =
+    if b == 95 then Some bits
+    else if is_bit b && nat_lt bits.count 32 then Some (record { count = bits.count + 1; value = bits.value * 2 + (b - 48) })
+    else None
 
--- binary digits after others, at most 32 in all; `_` says nothing
+-- binary digits with more of them behind
 abbrev pub bits_from : Bits → List ℕ → Option Bits
 bits_from bits [] = Some bits
-bits_from bits (b ∷ rest) =
-    if b == 95 then bits_from bits rest
-    else if is_bit b && nat_lt bits.count 32 then bits_from (with_bit bits b) rest
-    else None
+bits_from bits (b ∷ rest) = option_and_then (λ more. bits_from more rest) (with_next bits b)
 
 -- a digit stands at both ends of a text
 abbrev pub has_bits_at_ends : List ℕ → Bool

@@ -112,15 +112,16 @@ width_of (letter ∷ more ∷ rest) = None
 abbrev pub number_of_area : AreaName → Width → ℕ → RawPlace
 number_of_area name w byte = record { block = None; area = name; width = w; byte = byte; bit = 0 }
 
--- such a place by its area and its width, and by its byte
-abbrev pub place_at : Option AreaName → Option Width → List ℕ → Option RawPlace
-place_at None w byte = None
-place_at (Some name) None byte = None
-place_at (Some name) (Some w) byte = option_and_then (λ y. in_area (number_of_area name w y)) (number_of 65535 byte)
+-- such a place by its area, its width and its byte
+abbrev pub place_by : Option AreaName → Option Width → Option ℕ → Option RawPlace
+place_by None w byte = None
+place_by (Some name) None byte = None
+place_by (Some name) (Some w) None = None
+place_by (Some name) (Some w) (Some byte) = in_area (number_of_area name w byte)
 
 -- such a place by the letters of its area and its width, and by its byte
 abbrev pub place_named : List ℕ → List ℕ → Option RawPlace
-place_named letters byte = place_at (area_of (take 1 letters)) (width_of (drop 1 letters)) byte
+place_named letters byte = place_by (area_of (take 1 letters)) (width_of (drop 1 letters)) (number_of 65535 byte)
 
 -- `MB5`: all in one word
 abbrev pub short_place : Token → Option RawPlace

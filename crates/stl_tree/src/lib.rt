@@ -12,7 +12,7 @@ pub use given::Given;
 pub use item::{Found, Item, Reading, Where};
 pub use memory_areas::{BlockName, Call};
 pub use mnemonic::{Mnemonic, Prefix, Read, Shape};
-pub use number::number_of;
+pub use number::{Bits, number_of};
 pub use program::{
     Actual, BitArg, Block, BlockCall, Formal, Instance, Instr, LoadArg, Mode, Op, Operand, Program,
     Symbol,

@@ -1,7 +1,14 @@
-//! Decimal numbers.
+//! Decimal numbers, and what binary digits are.
 ghost use Rattle.std.specs.Prelude.{◌≡◌, ◌+◌, ◌*◌, ◌-◌, ◌≤◌, ◌&&◌, nat_le, IfSome};
 ghost use Rattle.s7_base.specs.Tokens.{is_between};
 ghost use Rattle.stl_tree.specs.Numbers.{number_of};
+
+/// Binary digits: how many, and the number that they stand for.
+#[derive(Clone, Copy)]
+pub struct Bits {
+    pub count: u32,
+    pub value: u32,
+}
 
 fn is_next_digit(most: u64, value: u64, digit: u8) -> bool
     requires { value ≤ most }

@@ -1,6 +1,8 @@
 -- The rows of the code's tables as those of the definitions.
+use Rattle.stl_instructions.specs.declared.constant.Prefixed.{Prefixed as FoundPrefix}
 use Rattle.stl_instructions.specs.declared.operand.NamedForm.{NamedForm as FoundForm}
 use Rattle.stl_instructions.specs.declared.table.Row.{Row as Found}
+use Rattle.stl_tree.specs.Constants.{Prefixed}
 use Rattle.stl_tree.specs.Mnemonics.{Row}
 use Rattle.stl_tree.specs.Statements.{NamedForm}
 
@@ -11,3 +13,7 @@ view row = record { first = row.0.now; second = row.1.now; what = row.2 }
 -- a form that is left out, as the definition has it
 abbrev pub seen : FoundForm → NamedForm
 seen form = record { word = form.word.now; is_indirect = form.is_indirect; kind = form.kind }
+
+-- a word before a `#`, as the definition has it
+abbrev pub shown : FoundPrefix → Prefixed
+shown row = record { word = row.0.now; what = row.1 }

@@ -1,0 +1,120 @@
+//! Numbers, digit by digit.
+ghost use Rattle.std.specs.Prelude.{◌≡◌, ◌≤◌, ◌<◌, IfSome};
+ghost use Rattle.std.specs.List.{list_all, prefix_len};
+ghost use Rattle.s7_base.specs.Tokens.{is_between};
+ghost use Rattle.stl_tree.specs.Numbers.{are_digits, bits_of, has_bits_at_ends, hex_digit, hex_number, is_bit, with_hex_digit, with_next};
+ghost use Rattle.stl_instructions.specs.inner.Bits.{AreBits};
+
+use stl_tree::Bits;
+
+/// One or more digits.
+pub fn are_digits(word: &[u8]) -> bool
+    ensures { result ≡ are_digits word.now }
+{
+    match word {
+        [] => false,
+        _ => all_digits(word),
+    }
+}
+
+fn all_digits(word: &[u8]) -> bool
+    ensures { result ≡ list_all (λ b. is_between 48 57 b) word.now }
+{
+    word.iter().all(|b| b.is_ascii_digit())
+}
+
+/// How many digits stand at the front.
+pub fn digits_size(text: &[u8]) -> usize
+    ensures size { result ≡ prefix_len (λ b. is_between 48 57 b) text.now }
+{
+    text.iter().take_while(|b| b.is_ascii_digit()).count()
+}
+
+/// The number that a hexadecimal digit stands for.
+fn hex_digit(b: u8) -> Option<u8>
+    ensures value { result ≡ hex_digit b }
+    ensures within { IfSome result (λ digit. digit < 16) }
+{
+    match b {
+        b'0'..=b'9' => Some(b - b'0'),
+        b'A'..=b'F' => Some(b - 55),
+        b'a'..=b'f' => Some(b - 87),
+        _ => None,
+    }
+}
+
+/// A hexadecimal number with one digit more, where it is at most `most`.
+fn with_hex_digit(most: u32, value: u32, digit: u8) -> Option<u32>
+    requires { value ≤ most }
+    ensures value { result ≡ with_hex_digit most value digit }
+    ensures within { IfSome result (λ value. value ≤ most) }
+{
+    let more = u64::from(value) * 16 + u64::from(hex_digit(digit)?);
+    if more <= u64::from(most) {
+        Some(more as u32)
+    } else {
+        None
+    }
+}
+
+/// A hexadecimal number of at most `most`, with any number of leading zeros.
+pub fn hex_number(most: u32, digits: &[u8]) -> Option<u32>
+    ensures { result ≡ hex_number most digits.now }
+{
+    if digits.is_empty() {
+        return None;
+    }
+    let mut value = 0;
+    for digit in digits {
+        value = with_hex_digit(most, value, *digit)?;
+    }
+    Some(value)
+}
+
+fn is_bit(b: u8) -> bool
+    ensures { result ≡ is_bit b }
+{
+    matches!(b, b'0' | b'1')
+}
+
+/// A digit stands at both ends of a text.
+fn has_bits_at_ends(text: &[u8]) -> bool
+    ensures { result ≡ has_bits_at_ends text.now }
+{
+    match text {
+        [first, rest @ ..] => is_bit(*first) && is_bit(text[rest.len()]),
+        [] => false,
+    }
+}
+
+/// One more binary digit, or `_`; at most 32 digits in all.
+fn with_next(bits: Bits, b: u8) -> Option<Bits>
+    requires { AreBits bits }
+    ensures value { result ≡ with_next bits b }
+    ensures within { IfSome result AreBits }
+{
+    if b == b'_' {
+        Some(bits)
+    } else if is_bit(b) && bits.count < 32 {
+        Some(Bits {
+            count: bits.count + 1,
+            value: (u64::from(bits.value) * 2 + u64::from(b - b'0')) as u32,
+        })
+    } else {
+        None
+    }
+}
+
+/// At most 32 binary digits; one or more `_` may stand between two of them.
+pub fn bits_of(text: &[u8]) -> Option<Bits>
+    ensures { result ≡ bits_of text.now }
+{
+    if !has_bits_at_ends(text) {
+        return None;
+    }
+    let mut bits = Bits { count: 0, value: 0 };
+    for b in text {
+        bits = with_next(bits, *b)?;
+    }
+    Some(bits)
+}
