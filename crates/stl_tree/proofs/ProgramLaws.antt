@@ -1,11 +1,13 @@
 -- The instructions of a program have their operands, and its blocks their numbers.
-use Rattle.std.proofs.Common.{◌≡◌, ℕ, ◌<◌, ◌^◌, ◌&&◌, List, [], ◌∷◌, Bool, true, false, not, if◌then◌else◌, Option, Some, None, refl}
+use Rattle.std.proofs.Common.{◌≡◌, ℕ, ◌<◌, ◌^◌, ◌&&◌, List, [], ◌∷◌, Bool, true, false, not, if◌then◌else◌, Option, Some, None, refl, arith}
 use Rattle.std.specs.Prelude.{All, IfSome, nat_le, nat_lt, option_map}
 use Rattle.std.specs.List.{cons_option, filter_map}
+use Rattle.std.proofs.lemmas.Int.{ints}
 use Rattle.std.proofs.lemmas.Bool.{and_parts, leb-true, ltb-true, not-true}
 use Rattle.std.proofs.lemmas.List.Elements.{All-cons, All-nil, All-head, All-tail}
 use Rattle.memory_areas.specs.Access.{is_byte_in, is_unaligned}
 use Rattle.memory_areas.specs.declared.call.BlockName.TheVariants.{Ob}
+use Rattle.s7_base.specs.SignedNumbers.{is_over}
 use Rattle.s7_base.specs.declared.check.Check.{Check}
 use Rattle.s7_base.specs.declared.check.Check.TheVariants as check
 use Rattle.s7_base.specs.declared.word.Width.{Width}
@@ -109,12 +111,19 @@ storing_is (behind.At x w) k = on_number_is op.Transfer (λ y u n i. (n, i)) x w
 storing_is behind.Stw k = tt
 storing_is more k = tt
 
+-- a part is in its range
+word_fits : (n : ℕ) → is_over 16 (signed_part width.Word n) ≡ false
+word_fits n = grind (arith, ints)
+
+dword_fits : (n : ℕ) → is_over 32 (signed_part width.Dword n) ≡ false
+dword_fits n = grind (arith, ints)
+
 adding_is : (g : Given) → MayBe (adding g)
 adding_is (behind.Constant c) = by c.signed
   where
     by : (b : Bool) → HasOperand (if b then op.AddWord (signed_part width.Word c.value) else op.AddDword (signed_part width.Dword c.value))
-    by true = tt
-    by false = tt
+    by true = word_fits c.value
+    by false = dword_fits c.value
 adding_is more = tt
 
 compared_is : (t : Test) (w : Width) → is_compared t w ≡ true → IsComparison t w
@@ -130,8 +139,8 @@ comparing_is t w g = by (is_compared t w) refl
     by true e = alone_is (op.Compare t w) (compared_is t w e) g
     by false e = tt
 
-with_number_is : (o : ℕ → Op) → ((n : ℕ) → HasOperand (o n)) → (g : Given) → MayBe (with_number o g)
-with_number_is o h (behind.Constant c) = within_is 8 c.value o (λ k. h c.value)
+with_number_is : (o : ℕ → Op) → ((n : ℕ) → n < 2 ^ 8 → HasOperand (o n)) → (g : Given) → MayBe (with_number o g)
+with_number_is o h (behind.Constant c) = within_is 8 c.value o (λ k. h c.value k)
 with_number_is o h more = tt
 
 shifting_is : (row : ShiftRow) (g : Given) → MayBe (shifting row g)
@@ -173,8 +182,8 @@ with_is is.Transfer g h = storing_is g h
 with_is (is.Arith row) g h = alone_is (op.Arith row) tt g
 with_is (is.Compare t w) g h = comparing_is t w g
 with_is is.Plus g h = adding_is g
-with_is is.Inc g h = with_number_is op.Inc (λ n. tt) g
-with_is is.Dec g h = with_number_is op.Dec (λ n. tt) g
+with_is is.Inc g h = with_number_is op.Inc (λ n k. k) g
+with_is is.Dec g h = with_number_is op.Dec (λ n k. k) g
 with_is (is.Shift row) g h = shifting_is row g
 with_is is.Rlda g h = alone_is op.Rlda tt g
 with_is is.Rrda g h = alone_is op.Rrda tt g
@@ -183,7 +192,7 @@ with_is (is.Unary row) g h = alone_is (op.Unary row) tt g
 with_is is.Tak g h = alone_is op.Tak tt g
 with_is is.Push g h = alone_is op.Push tt g
 with_is is.Pop g h = alone_is op.Pop tt g
-with_is is.Nop g h = with_number_is (λ n. op.Nop) (λ n. tt) g
+with_is is.Nop g h = with_number_is (λ n. op.Nop) (λ n k. tt) g
 with_is is.TimerOrCounter g h = tt
 with_is is.Later g h = tt
 with_is (is.LeftOut kind) g h = tt

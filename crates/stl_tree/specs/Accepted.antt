@@ -1,6 +1,7 @@
 -- The rules that a program keeps where the verdict gives it.
 use Rattle.std.specs.Prelude.{◌≡◌, ◌≢◌, ℕ, ◌≤◌, ◌<◌, ◌^◌, true, false, Option, Some, List, [], ◌∷◌, All, None, Ok}
 use Rattle.memory_areas.specs.Access.{is_byte_in, is_unaligned}
+use Rattle.s7_base.specs.SignedNumbers.{is_over}
 use Rattle.s7_base.specs.declared.word.Width.{Width}
 use Rattle.s7_base.specs.declared.word.Width.TheVariants as width
 use Rattle.status_word.specs.declared.test.Test.{Test}
@@ -78,10 +79,10 @@ HasOperand (op.Transfer o w) = IsNumberWidth w × IsOperand w o
 HasOperand op.LoadStw = Unit {0}
 HasOperand op.TransferStw = Unit {0}
 HasOperand (op.Arith a) = Unit {0}
-HasOperand (op.AddWord n) = Unit {0}
-HasOperand (op.AddDword n) = Unit {0}
-HasOperand (op.Inc n) = Unit {0}
-HasOperand (op.Dec n) = Unit {0}
+HasOperand (op.AddWord n) = is_over 16 n ≡ false
+HasOperand (op.AddDword n) = is_over 32 n ≡ false
+HasOperand (op.Inc n) = n < 2 ^ 8
+HasOperand (op.Dec n) = n < 2 ^ 8
 HasOperand (op.Compare t w) = IsComparison t w
 HasOperand (op.Shift s count) = IsCount s count
 HasOperand op.Rlda = Unit {0}
