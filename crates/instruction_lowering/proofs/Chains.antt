@@ -1,32 +1,23 @@
 -- Chains of checks: what the variables of a chain are worth, and the checks in it.
-use Rattle.std.proofs.Common.{◌≡◌, pos, Bool, true, false, not, ◌&&◌, ◌||◌, if◌then◌else◌, List, Ok, Err, refl, ap, ◌∙◌}
-use Rattle.memory_areas.specs.Access.{and_then}
+use Rattle.std.proofs.Common.{◌≡◌, Bool, true, false, not, ◌&&◌, ◌||◌, if◌then◌else◌, List, Ok, refl, ap, ◌∙◌}
 use Rattle.s7_base.specs.declared.check.Check.{Check}
 use Rattle.s7_base.specs.declared.check.Check.TheVariants as check
 use Rattle.s7_base.specs.declared.outcome.Fault.{Fault}
-use Rattle.s7_base.specs.declared.register.Reg.{Reg}
 use Rattle.s7_base.specs.declared.register.Reg.TheVariants as reg
 use Rattle.stl_tree.specs.Now.{Activation, Now}
 use Rattle.row_templates.proofs.Alike.{Related}
 use Rattle.row_templates.proofs.Operands.{nfc_worth, rlo_worth}
 use Rattle.row_templates.proofs.Truths.{IsWorth, Stops, and_worth, left_stops, not_stops, not_worth, or_worth, register_worth, right_stops, xor_worth}
 use Rattle.status_word.specs.StatusBits.{StatusBits, rlo_after}
-use Rattle.st_tree.specs.Operators.{unary_value, binary_value}
-use Rattle.st_tree.specs.State.{State, type_of_register}
-use Rattle.st_tree.specs.Value.{value}
-use Rattle.st_tree.specs.Values.{flag, number_of}
-use Rattle.st_tree.specs.declared.expr.BinaryOp.{BinaryOp}
+use Rattle.st_tree.specs.State.{State}
+use Rattle.st_tree.specs.Values.{flag}
 use Rattle.st_tree.specs.declared.expr.BinaryOp.TheVariants as binary
 use Rattle.st_tree.specs.declared.expr.Expr.{Expr}
 use Rattle.st_tree.specs.declared.expr.Expr.TheVariants as expr
-use Rattle.st_tree.specs.declared.expr.StType.TheVariants as type
-use Rattle.st_tree.specs.declared.expr.UnaryOp.TheVariants as unary
-use Rattle.st_tree.specs.declared.expr.Var.TheVariants as var
 use Rattle.st_tree.specs.declared.program.Located.{Located}
-use Rattle.st_tree.proofs.Equations.{value_binary, value_literal, value_read, value_unary}
 use Rattle.instruction_lowering.specs.declared.statements.Chain.{Chain}
 use Rattle.instruction_lowering.specs.inner.Templates.{and_joined, next_rlo, rlo_before_and, rlo_before_or, running_chain}
-use Rattle.row_templates.specs.Builders.{and_of, literal_of, not_of, or_of, read_of, xor_of}
+use Rattle.row_templates.specs.Builders.{and_of, not_of, or_of, xor_of}
 
 module _ (g : List Located) (s : State) where
   -- a chain keeps these bits

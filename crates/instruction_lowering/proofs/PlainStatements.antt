@@ -1,6 +1,5 @@
 -- The statements of a body are well typed and nest little, their expressions are low, and they call nothing.
-use Rattle.std.proofs.Common.{◌≡◌, ℕ, suc, ◌+◌, ◌≤◌, Bool, true, false, if◌then◌else◌, List, [], ◌∷◌, ◌++◌, length, Some, refl, sym, ap, subst, ◌∙◌, arith}
-use Rattle.std.specs.Prelude.{All}
+use Rattle.std.proofs.Common.{◌≡◌, ℕ, ◌+◌, Bool, true, false, if◌then◌else◌, List, [], ◌∷◌, ◌++◌, Some, refl, sym, ap, subst, ◌∙◌, arith}
 use Rattle.std.proofs.lemmas.List.{append-nil}
 use Rattle.std.proofs.lemmas.List.Elements.{All-head, All-tail}
 use Rattle.s7_base.specs.declared.check.Check.{Check}
@@ -28,7 +27,7 @@ use Rattle.stl_tree.specs.declared.program.Instr.{Instr}
 use Rattle.stl_tree.specs.declared.program.Op.{Op}
 use Rattle.stl_tree.specs.declared.program.Op.TheVariants as op
 use Rattle.stl_tree.specs.declared.program.Operand.{Operand}
-use Rattle.row_templates.specs.Builders.{and_of, bit_of, cleared, literal_of, not_of, or_of, read_of, set_of, xor_of}
+use Rattle.row_templates.specs.Builders.{and_of, bit_of, cleared, literal_of, not_of, or_of, read_of, set_of}
 use Rattle.row_templates.proofs.Typing.{AreTyped, IsBool, IsPlainBody, and_is, assigned, cleared_plain, first_typed, left_typed, literal_is, local_is, more, nfc_plain, no_statement, not_is, operand_typed, or_is, read_is, register_is, right_typed, set_plain, xor_is}
 use Rattle.instruction_lowering.specs.Temporaries.{ends_block, types_in, types_of}
 use Rattle.instruction_lowering.specs.declared.statements.Chain.{Chain}

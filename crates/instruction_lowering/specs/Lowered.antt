@@ -1,18 +1,15 @@
 -- A graph program that means the same as a program.
-use Rattle.std.specs.Prelude.{◌≡◌, ℕ, suc, ◌*◌, ◌≤◌, true, ◌==◌, codes, decimal, List, [], ◌∷◌, ◌++◌, ◌⊎◌, length, Option}
+use Rattle.std.specs.Prelude.{◌≡◌, ℕ, ◌*◌, ◌≤◌, true, ◌==◌, List, [], ◌∷◌, ◌⊎◌, length, Option}
 use Rattle.memory_areas.specs.Areas.{Areas, IsMemoryOf}
 use Rattle.memory_areas.specs.End.{End, Ended}
 use Rattle.memory_areas.specs.declared.data_block.DataBlock.{DataBlock}
 use Rattle.s7_base.specs.declared.outcome.Fault.{Fault}
 use Rattle.s7_base.specs.declared.register.Reg.{Reg}
 use Rattle.st_tree.specs.Parts.{reads_in}
-use Rattle.st_tree.specs.declared.expr.Var.{Var}
-use Rattle.st_tree.specs.declared.expr.Var.TheVariants as var
 use Rattle.stl_tree.specs.Reads.{reads_of}
 use Rattle.stl_tree.specs.declared.program.Instr.{Instr}
 use Rattle.stl_tree.specs.StlRun.{Fits, HasNoInstance, size_of, stl_run}
 use Rattle.stl_tree.specs.declared.program.Block.{Block}
-use Rattle.memory_areas.specs.declared.call.BlockName.{BlockName}
 use Rattle.memory_areas.specs.declared.call.Call.{Call}
 use Rattle.stl_tree.specs.declared.program.Program.{Program}
 use Rattle.st_tree.specs.GraphRun.{FitsGraph, graph_run, pass_run}
@@ -21,11 +18,7 @@ use Rattle.st_tree.specs.declared.graph.GraphPou.{GraphPou}
 use Rattle.st_tree.specs.declared.graph.GraphProgram.{GraphProgram}
 use Rattle.st_tree.specs.declared.graph.StExit.TheVariants as exit
 use Rattle.st_tree.specs.declared.graph.StNode.{StNode}
-use Rattle.st_tree.specs.declared.expr.StType.TheVariants as type
-use Rattle.st_tree.specs.declared.program.Local.{Local}
 use Rattle.st_tree.specs.declared.program.Pou.{Pou}
-use Rattle.st_tree.specs.declared.program.Stmt.{Stmt}
-use Rattle.st_tree.specs.declared.program.Stmt.TheVariants as stmt
 use Rattle.instruction_lowering.specs.Temporaries.{AreTemporaries, types_in}
 use Rattle.row_templates.specs.Assignments.{AreAssignments}
 use Rattle.row_templates.specs.Nodes.{nodes_in}

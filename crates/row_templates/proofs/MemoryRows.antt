@@ -23,7 +23,7 @@ use Rattle.st_tree.proofs.Equations.{assign_goes_on, assign_stops_at_place, assi
 use Rattle.row_templates.specs.Builders.{variable_of}
 use Rattle.row_templates.proofs.Alike.{Related, keep_memory, place_now, same_place}
 use Rattle.row_templates.proofs.Alike.{IsKept}
-use Rattle.row_templates.proofs.DoesRow.{DoesRow, Leads, Stops}
+use Rattle.row_templates.proofs.DoesRow.{DoesRow, Stops}
 use Rattle.row_templates.proofs.Locals.{own_of}
 use Rattle.row_templates.proofs.Stages.{known, stage, stage_begins}
 

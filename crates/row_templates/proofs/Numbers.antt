@@ -5,7 +5,7 @@ use Rattle.std.specs.Ordering.{int_eq}
 use Rattle.std.proofs.lemmas.Int.{ints}
 use Rattle.std.proofs.lemmas.Nat.{or_shifted}
 use Rattle.std.proofs.lemmas.Nat.Bits.{and_high_mask}
-use Rattle.s7_base.specs.SignedNumbers.{is_over, number, pattern, wrapped}
+use Rattle.s7_base.specs.SignedNumbers.{is_over, number, pattern}
 use Rattle.st_tree.specs.Values.{number_of}
 
 -- the number of a low word, as a number of 32 bits

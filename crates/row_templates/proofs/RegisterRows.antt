@@ -1,5 +1,5 @@
 -- Rows that work on registers alone: their statements set fresh locals, one after another, and then registers.
-use Rattle.std.proofs.Common.{◌≡◌, ℕ, suc, ◌+◌, ◌<◌, ◌≤◌, List, [], ◌∷◌, ◌++◌, length, Ok, refl, sym, ap, ◌∙◌, arith}
+use Rattle.std.proofs.Common.{◌≡◌, ℕ, suc, ◌+◌, ◌≤◌, List, [], ◌∷◌, ◌++◌, length, Ok, refl, ap, ◌∙◌, arith}
 use Rattle.std.specs.Prelude.{ℤ}
 use Rattle.s7_base.specs.declared.register.Reg.{Reg}
 use Rattle.s7_base.specs.declared.register.Reg.TheVariants as reg
@@ -9,14 +9,13 @@ use Rattle.st_tree.specs.Meaning.{Calls, Normal, body_meaning}
 use Rattle.st_tree.specs.State.{State, with_register}
 use Rattle.st_tree.specs.Value.{value}
 use Rattle.st_tree.specs.declared.state.Value.{Value}
-use Rattle.st_tree.specs.declared.expr.Expr.{Expr}
 use Rattle.st_tree.specs.declared.expr.Var.TheVariants as var
 use Rattle.st_tree.specs.declared.program.Located.{Located}
 use Rattle.st_tree.specs.declared.program.Stmt.{Stmt}
 use Rattle.st_tree.specs.declared.program.Stmt.TheVariants as stmt
 use Rattle.st_tree.proofs.Equations.{assign_goes_on}
 use Rattle.row_templates.proofs.Alike.{AreAlike, AreInRange, IsKept, Related}
-use Rattle.row_templates.proofs.DoesRow.{DoesRow, Leads}
+use Rattle.row_templates.proofs.DoesRow.{DoesRow}
 use Rattle.row_templates.proofs.Locals.{own_of}
 use Rattle.row_templates.proofs.Stages.{known, stage, stage_begins, stage_below, stage_depth, stage_keeps, stage_memory, stage_own_length, stage_registers, stage_sets}
 

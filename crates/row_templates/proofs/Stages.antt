@@ -1,6 +1,6 @@
 -- The states between the statements of a row: which numbers the registers hold, and what the first locals keep.
 -- Their registers and locals are read by computing, so `simp parts` evaluates each right side.
-use Rattle.std.proofs.Common.{◌≡◌, ℕ, zero, suc, ◌+◌, ◌-◌, ◌<◌, ◌≤◌, pos, List, [], ◌∷◌, ◌++◌, drop, length, Ok, Some, refl, sym, ap, ◌∙◌, arith}
+use Rattle.std.proofs.Common.{◌≡◌, ℕ, zero, suc, ◌+◌, ◌-◌, ◌<◌, ◌≤◌, List, [], ◌∷◌, ◌++◌, drop, length, Ok, refl, sym, ap, ◌∙◌, arith}
 use Rattle.std.specs.Prelude.{ℤ, slice_get, slice_set}
 use Rattle.std.proofs.Math.Path.{fun_ext}
 use Rattle.s7_base.specs.declared.register.Reg.{Reg}
@@ -10,13 +10,12 @@ use Rattle.st_tree.specs.State.{Activation, State, locals_of, there, type_of_reg
 use Rattle.st_tree.specs.Value.{value}
 use Rattle.st_tree.specs.Values.{flag}
 use Rattle.st_tree.specs.declared.state.Value.{Value}
-use Rattle.st_tree.specs.declared.expr.StType.TheVariants as type
 use Rattle.st_tree.specs.declared.expr.Var.TheVariants as var
 use Rattle.st_tree.specs.declared.program.Located.{Located}
 use Rattle.st_tree.proofs.Equations.{value_binary, value_convert, value_literal, value_read, value_select, value_shift, value_unary}
 use Rattle.row_templates.specs.Builders.{local_of, read_of}
 use Rattle.row_templates.proofs.Alike.{AreAlike, IsKept, number_in}
-use Rattle.row_templates.proofs.Locals.{local_wrote, own_of, with_own}
+use Rattle.row_templates.proofs.Locals.{local_wrote, own_of}
 use Rattle.std.specs.Prelude.{false}
 
 -- Registers

@@ -16,7 +16,7 @@ use Rattle.st_tree.proofs.Equations.{canon_binary, canon_convert, canon_literal,
 use Rattle.st_tree.proofs.PartEquations.{calls_in_assign, expressions_in_assign, height_binary, height_convert, height_literal, height_read, height_select, height_shift, height_unary}
 use Rattle.st_tree.proofs.TypingEquations.{good_assign, nesting_assign, typed_binary, typed_convert, typed_literal, typed_read, typed_select, typed_shift, typed_unary}
 use Rattle.st_tree.specs.Depth.{deepest}
-use Rattle.st_tree.specs.Form.{Form, canon, group, infix_level, level, prefix_level, unary_form, wrap}
+use Rattle.st_tree.specs.Form.{Form, canon, group, infix_level, level, unary_form, wrap}
 use Rattle.st_tree.specs.Naming.{is_conversion}
 use Rattle.st_tree.specs.Nesting.{body_nesting, form_height, form_nesting}
 use Rattle.st_tree.specs.Parts.{calls_in, expressions_in, height}
