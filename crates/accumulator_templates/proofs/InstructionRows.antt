@@ -16,7 +16,6 @@ use Rattle.stl_tree.specs.declared.program.LoadArg.TheVariants as arg
 use Rattle.stl_tree.specs.declared.program.Op.{Op}
 use Rattle.stl_tree.specs.declared.program.Op.TheVariants as op
 use Rattle.stl_tree.specs.declared.program.Operand.{Operand}
-use Rattle.st_tree.specs.Fitting.{HoldsBytes}
 use Rattle.st_tree.specs.Meaning.{Calls, body_meaning}
 use Rattle.st_tree.specs.State.{State}
 use Rattle.st_tree.specs.declared.expr.Expr.{Expr}
@@ -78,10 +77,9 @@ module _ (g : List Located) (calls : Calls) (units : ℕ) (acts : List Activatio
       → DoesRow (body_meaning g calls body units s) units used acts s now.memory (next (record now { registers = after }))
   does body after row h = row_does g s used calls units body acts now after related row h
 
-  -- each area holds bytes, so that what is loaded has its width
-  pub load_does : (a : LoadArg) → HasOperand (op.Load a) → HoldsBytes now.memory → used ≤ room → Do (load_of a) (op.Load a)
-  load_does (arg.At o w) h bytes few = place_loaded g acts now s related calls units used o w bytes
-  load_does (arg.Constant c) h bytes few = does (load_of (arg.Constant c)) _ (constant_row g s used r sta range c h) (omega arith)
+  pub load_does : (a : LoadArg) → HasOperand (op.Load a) → used ≤ room → Do (load_of a) (op.Load a)
+  load_does (arg.At o w) h few = place_loaded g acts now s related calls units used o w
+  load_does (arg.Constant c) h few = does (load_of (arg.Constant c)) _ (constant_row g s used r sta range c h) (omega arith)
 
   pub transfer_does : (o : Operand) (w : Width) → Do (transfer_of o w) (op.Transfer o w)
   transfer_does o w = place_written g acts now s related calls units used o w
