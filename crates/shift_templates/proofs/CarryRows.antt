@@ -1,5 +1,5 @@
 -- RLDA and RRDA: their statements do the row.
-use Rattle.std.proofs.Common.{◌≡◌, ℕ, ◌+◌, ◌*◌, ◌/◌, ◌%◌, ◌^◌, ◌<◌, pos, Bool, true, false, List, [], ◌∷◌, Ok, inl, refl, ap, subst, ◌∙◌, arith}
+use Rattle.std.proofs.Common.{◌≡◌, ℕ, ◌+◌, ◌*◌, ◌/◌, ◌%◌, ◌^◌, ◌<◌, ◌≤◌, pos, Bool, true, false, List, [], ◌∷◌, Ok, inl, refl, ap, subst, ◌∙◌, arith}
 use Rattle.std.specs.Prelude.{ℤ, bit_or}
 use Rattle.std.specs.Int.{from_bool}
 use Rattle.std.proofs.Math.Nat.{mod-eq_of_lt}
@@ -13,7 +13,7 @@ use Rattle.s7_base.specs.declared.register.Reg.TheVariants as reg
 use Rattle.s7_base.specs.declared.word.Width.TheVariants as width
 use Rattle.shift_templates.proofs.Expressions.{Gives, bit_gives, count, count_gives, joined_gives, moved_gives, select_gives}
 use Rattle.shift_templates.proofs.Patterns.{Fits, of_width}
-use Rattle.shift_templates.proofs.StepKinds.{IsKind, left_kind, right_kind}
+use Rattle.shift_templates.proofs.StepKinds.{IsKind, left_kind, one_bit, right_kind}
 use Rattle.shift_templates.specs.ShiftParts.{count_of, shown_bit}
 use Rattle.shift_templates.specs.ShiftTemplates.{rlda_template, rrda_template, through_cc1}
 use Rattle.st_tree.proofs.Equations.{value_convert, value_literal}
@@ -38,12 +38,8 @@ abbrev pub Enters : ℕ → ℕ → Type 0
 Enters x y = bit_or x y ≡ x + y
 
 on_left : (a : ℕ) (b : Bool) → Enters (left 32 a) (from_bool b)
-on_left a b = by (a * 2 % 2 ^ 32) (a * 2 % 2 ^ 32 / 2) (from_bool b) (omega arith) (small b)
+on_left a b = by (a * 2 % 2 ^ 32) (a * 2 % 2 ^ 32 / 2) (from_bool b) (omega arith) (omega (arith, one_bit b))
   where
-    small : (b : Bool) → from_bool b < 2
-    small true = omega arith
-    small false = omega arith
-
     by : (x y c : ℕ) → x ≡ y * 2 → c < 2 → bit_or x c ≡ x + c
     by x y c e h = rw e (or_shifted y 1 c h)
 
@@ -119,13 +115,9 @@ module _ (g : List Located) (s : State) (used : ℕ) (r : RegisterValues) (sta :
           range = record { accu1 = fits; accu2 = range.accu2; ar1 = range.ar1; ar2 = range.ar2; db = range.db; di = range.di };
         }
 
-  at_most : (b : Bool) → from_bool b < 2
-  at_most true = omega arith
-  at_most false = omega arith
-
   pub rlda_row : IsRow g s used (rlda_template used) r (around_left_through_cc1 r) sta
   rlda_row =
-      let bit : from_bool r.status.cc1 < 2 = at_most r.status.cc1 in
+      let bit : from_bool r.status.cc1 ≤ 1 = one_bit r.status.cc1 in
       carry_row shift.Shl (left 32) (top 32) (left_kind width.Dword tt) (convert_of type.Bool type.Dword (local_of used)) (from_bool r.status.cc1) (omega arith) (omega arith)
       (on_left r.accu1 r.status.cc1)
       (λ t h. value_convert g type.Bool type.Dword (local_of used) t ∙ (rw h refl) ∙ ap Ok (converted_flag r.status.cc1))
@@ -137,7 +129,7 @@ module _ (g : List Located) (s : State) (used : ℕ) (r : RegisterValues) (sta :
 
   pub rrda_row : IsRow g s used (rrda_template used) r (around_right_through_cc1 r) sta
   rrda_row =
-      let bit : from_bool r.status.cc1 < 2 = at_most r.status.cc1 in
+      let bit : from_bool r.status.cc1 ≤ 1 = one_bit r.status.cc1 in
       let here : r.accu1 < 2 ^ 32 = range.accu1 in
       let low : Expr = constant_of type.Dword (pos 0) in
       let high : Expr = constant_of type.Dword (pos 0x80000000) in

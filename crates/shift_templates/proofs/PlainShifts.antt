@@ -1,6 +1,5 @@
 -- The statements of shifts and rotations are well typed, for locals of their types, and low.
 use Rattle.std.proofs.Common.{◌≡◌, ℕ, ◌+◌, ◌-◌, ◌^◌, ◌<◌, ◌≤◌, ◌==◌, max, pos, Bool, true, false, if◌then◌else◌, List, [], ◌++◌, Option, Some, None, refl, ap, ◌∙◌, arith}
-use Rattle.std.specs.Prelude.{slice_get}
 use Rattle.std.proofs.lemmas.Int.{ints}
 use Rattle.row_templates.proofs.Typing.{AreTyped, IsBool, IsOf, IsPlainBody, and_is, binary_is, constant_is, convert_is, literal_is, local_is, local_plain, more, not_is, register_is, select_is, set_plain, shift_is, unary_is}
 use Rattle.row_templates.specs.Builders.{or_of, read_of, select_of, shift_of}

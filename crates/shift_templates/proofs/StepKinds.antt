@@ -52,7 +52,7 @@ is_one : (b : Bool) → (from_bool b == 1) ≡ b
 is_one true = refl
 is_one false = refl
 
-one_bit : (b : Bool) → from_bool b ≤ 1
+pub one_bit : (b : Bool) → from_bool b ≤ 1
 one_bit true = omega arith
 one_bit false = omega arith
 
