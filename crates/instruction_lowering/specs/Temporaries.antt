@@ -1,17 +1,50 @@
 -- The temporaries of a unit: which types those of an instruction have, and what they are called.
 use Rattle.std.specs.Prelude.{◌≡◌, ℕ, suc, Bool, true, false, codes, decimal, if◌then◌else◌, List, [], ◌∷◌, ◌++◌}
+use Rattle.accumulator_templates.specs.Logic.{types_of_logic}
+use Rattle.accumulator_templates.specs.Moves.{types_of_exchange}
+use Rattle.arithmetic_templates.specs.Calculations.{types_of_calculated, types_of_negated}
+use Rattle.arithmetic_templates.specs.Comparisons.{types_of_compared}
+use Rattle.digit_templates.specs.FromDigits.{types_of_bti, types_of_btd}
+use Rattle.digit_templates.specs.ToDigits.{types_of_itb, types_of_dtb}
+use Rattle.s7_base.specs.declared.word.Width.TheVariants as width
+use Rattle.shift_templates.specs.ShiftTemplates.{types_of_shift, types_through_cc1}
 use Rattle.st_tree.specs.declared.expr.StType.{StType}
 use Rattle.st_tree.specs.declared.expr.StType.TheVariants as type
 use Rattle.st_tree.specs.declared.program.Local.{Local}
+use Rattle.stl_tree.specs.declared.accumulator.UnaryRow.{UnaryRow}
+use Rattle.stl_tree.specs.declared.accumulator.UnaryRow.TheVariants as unary
 use Rattle.stl_tree.specs.declared.program.Instr.{Instr}
 use Rattle.stl_tree.specs.declared.program.Op.{Op}
 use Rattle.stl_tree.specs.declared.program.Op.TheVariants as op
 
--- the types of the temporaries of an instruction: an opened bracket keeps RLO, OR and NFC, and an edge the RLO
+-- those of an instruction on ACCU1 alone
+abbrev pub types_of_unary : UnaryRow → List StType
+types_of_unary unary.Bti = types_of_bti
+types_of_unary unary.Btd = types_of_btd
+types_of_unary unary.Itb = types_of_itb
+types_of_unary unary.Dtb = types_of_dtb
+types_of_unary unary.Negi = types_of_negated width.Word
+types_of_unary unary.Negd = types_of_negated width.Dword
+types_of_unary unary.Itd = []
+types_of_unary unary.Invi = []
+types_of_unary unary.Invd = []
+types_of_unary unary.Caw = []
+types_of_unary unary.Cad = []
+
+-- the types of the temporaries of an instruction: an opened bracket keeps RLO, OR and NFC, and an edge the RLO; what
+-- is used twice in an accumulator's row is one
 abbrev pub types_of : Op → List StType
 types_of (op.Bracket c) = type.Bool ∷ type.Bool ∷ type.Bool ∷ []
 types_of (op.EdgeUp o) = type.Bool ∷ []
 types_of (op.EdgeDown o) = type.Bool ∷ []
+types_of (op.Arith a) = types_of_calculated a
+types_of (op.Compare t w) = types_of_compared w
+types_of (op.Shift s count) = types_of_shift s count
+types_of op.Rlda = types_through_cc1
+types_of op.Rrda = types_through_cc1
+types_of (op.Logic l c) = types_of_logic l c
+types_of (op.Unary u) = types_of_unary u
+types_of op.Tak = types_of_exchange
 types_of other = []
 
 -- an instruction ends its block

@@ -1,13 +1,17 @@
 //! The temporaries of a unit.
 ghost use Rattle.std.specs.Prelude.{◌≡◌, ◌<◌, ◌^◌, ◌++◌, length, IfOk, OnOk};
-ghost use Rattle.instruction_lowering.specs.Temporaries.{ends_block, types_in, types_of};
+ghost use Rattle.instruction_lowering.specs.Temporaries.{ends_block, types_in, types_of, types_of_unary};
 ghost use Rattle.instruction_lowering.specs.inner.Lowering.{temporaries, temporary};
 
+use accumulator_templates::{types_of_exchange, types_of_logic};
+use arithmetic_templates::{types_of_calculated, types_of_compared, types_of_negated};
+use digit_templates::{types_of_btd, types_of_bti, types_of_dtb, types_of_itb};
 use itoa::Buffer;
-use s7_base::{List, NoMemory};
+use s7_base::{List, NoMemory, Width};
+use shift_templates::{types_of_shift, types_through_cc1};
 use st_tree::{Local, StType};
 use std::alloc::Global;
-use stl_tree::{Instr, Op};
+use stl_tree::{Instr, Op, UnaryRow};
 
 /// The temporaries of the instructions of a body, from `T1` on.
 pub fn locals_of(alloc: Global, body: &[Instr]) -> Result<List<Local>, NoMemory>
@@ -44,7 +48,38 @@ fn push_types(types: &mut List<StType>, op: &Op) -> Result<(), NoMemory>
             types.push(StType::Bool)
         }
         Op::EdgeUp(_) | Op::EdgeDown(_) => types.push(StType::Bool),
+        Op::Arith(row) => push_all(types, types_of_calculated(*row)),
+        Op::Compare(_, width) => push_all(types, types_of_compared(*width)),
+        Op::Shift(row, count) => push_all(types, types_of_shift(*row, *count)),
+        Op::Rlda | Op::Rrda => push_all(types, types_through_cc1()),
+        Op::Logic(row, constant) => push_all(types, types_of_logic(*row, *constant)),
+        Op::Unary(row) => push_all(types, types_of_unary(*row)),
+        Op::Tak => push_all(types, types_of_exchange()),
         _ => Ok(()),
+    }
+}
+
+fn push_all(types: &mut List<StType>, more: &[StType]) -> Result<(), NoMemory>
+    ensures { OnOk result (types.new ≡ types.old ++ more.now) }
+{
+    for ty in more {
+        types.push(*ty)?;
+    }
+    Ok(())
+}
+
+/// The types of the temporaries of an instruction on ACCU1 alone.
+pub fn types_of_unary(row: UnaryRow) -> &'static [StType]
+    ensures { result.now ≡ types_of_unary row }
+{
+    match row {
+        UnaryRow::Bti => types_of_bti(),
+        UnaryRow::Btd => types_of_btd(),
+        UnaryRow::Itb => types_of_itb(),
+        UnaryRow::Dtb => types_of_dtb(),
+        UnaryRow::Negi => types_of_negated(Width::Word),
+        UnaryRow::Negd => types_of_negated(Width::Dword),
+        UnaryRow::Itd | UnaryRow::Invi | UnaryRow::Invd | UnaryRow::Caw | UnaryRow::Cad => &[],
     }
 }
 

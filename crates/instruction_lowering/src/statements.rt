@@ -3,16 +3,27 @@
 //! Each is a handful of assignments, so a body without jumps is one node. Of the status word all bits but STA have
 //! variables.
 ghost use Rattle.std.specs.Prelude.{◌≡◌, ◌<◌, ◌+◌, ◌^◌, ◌++◌, IfOk, OnOk};
-ghost use Rattle.instruction_lowering.specs.inner.Templates.{and_joined, answer_of, behind, behind_check, behind_close, chain_at, check_of, checked_of, close_of, edge_of, falling, first_spot, next_rlo, one_more, open_of, reset_value, rising, rlo_before_and, rlo_before_or, rlo_set, running_chain, set_value, statements_of, store_of};
+ghost use Rattle.instruction_lowering.specs.inner.Templates.{and_joined, answer_of, behind, behind_check, behind_close, chain_at, check_of, checked_of, close_of, edge_of, falling, first_spot, more, next_rlo, one_more, open_of, reset_value, rising, rlo_before_and, rlo_before_or, rlo_set, running_chain, set_value, statements_of, store_of, unary_of};
 ghost use Rattle.row_templates.specs.Builders.{and_of, bit_of, cleared, literal_of, not_of, or_of, read_of, set_of, xor_of};
 
+use crate::locals::types_of_unary;
+use accumulator_templates::{
+    push_add_dword, push_add_word, push_cad, push_caw, push_dec, push_exchange, push_inc, push_invd,
+    push_invi, push_itd, push_load, push_logic, push_pop, push_push, push_status_load,
+    push_status_store, push_transfer, types_of_exchange, types_of_logic,
+};
+use arithmetic_templates::{
+    push_calculated, push_compared, push_negated, types_of_calculated, types_of_compared,
+};
+use digit_templates::{push_btd, push_bti, push_dtb, push_itb};
 use row_templates::{and, bit, literal, not, or, push_cleared, read, set, xor};
-use s7_base::{Check, List, NoMemory, Reg};
-use st_tree::{Expr, Stmt, Var};
+use s7_base::{Check, List, NoMemory, Reg, Width};
+use shift_templates::{push_rlda, push_rrda, push_shift, types_of_shift, types_through_cc1};
+use st_tree::{Expr, StType, Stmt, Var};
 use status_word::Test;
 use std::alloc::Global;
 use std::collections::LinkedList;
-use stl_tree::{BitArg, Op};
+use stl_tree::{BitArg, Op, UnaryRow};
 
 /// Where a chain of checks keeps its RLO, /FC and OR.
 #[derive(Clone, Copy)]
@@ -49,6 +60,20 @@ impl Spot {
             brackets: LinkedList::new(alloc),
         }
     }
+
+    /// The number of the first of some locals, which are the next ones.
+    fn take(&mut self, types: &[StType]) -> Result<u32, NoMemory>
+        ensures first { IfOk result (λ first. first ≡ self.old.used) }
+        ensures room { IfOk result (λ first. first + 8 < 2 ^ 32) }
+        ensures spot { OnOk result (self.new ≡ more types.now self.old) }
+    {
+        let first = self.used;
+        if first >= u32::MAX - 8 || types.len() > 8 {
+            return Err(NoMemory);
+        }
+        self.used = first + types.len() as u32;
+        Ok(first)
+    }
 }
 
 /// Puts the statements of an instruction at the end of some steps.
@@ -83,7 +108,74 @@ pub fn push_statements(
         ),
         Op::Bracket(check) => push_opened(steps, spot, *check),
         Op::Close => push_closed(alloc, steps, spot),
+        Op::Load(argument) => push_load(alloc, steps, argument),
+        Op::Transfer(operand, width) => push_transfer(alloc, steps, operand, *width),
+        Op::LoadStw => push_status_load(alloc, steps),
+        Op::TransferStw => push_status_store(alloc, steps),
+        Op::Arith(row) => {
+            let first = spot.take(types_of_calculated(*row))?;
+            push_calculated(alloc, steps, first, *row)
+        }
+        Op::AddWord(number) => push_add_word(alloc, steps, *number),
+        Op::AddDword(number) => push_add_dword(alloc, steps, *number),
+        Op::Inc(number) => push_inc(alloc, steps, *number),
+        Op::Dec(number) => push_dec(alloc, steps, *number),
+        Op::Compare(test, width) => {
+            let first = spot.take(types_of_compared(*width))?;
+            push_compared(alloc, steps, first, *test, *width)
+        }
+        Op::Shift(row, count) => {
+            let first = spot.take(types_of_shift(*row, *count))?;
+            push_shift(alloc, steps, first, *row, *count)
+        }
+        Op::Rlda => {
+            let first = spot.take(types_through_cc1())?;
+            push_rlda(alloc, steps, first)
+        }
+        Op::Rrda => {
+            let first = spot.take(types_through_cc1())?;
+            push_rrda(alloc, steps, first)
+        }
+        Op::Logic(row, constant) => {
+            let first = spot.take(types_of_logic(*row, *constant))?;
+            push_logic(alloc, steps, first, *row, *constant)
+        }
+        Op::Unary(row) => {
+            let first = spot.take(types_of_unary(*row))?;
+            push_unary(alloc, steps, first, *row)
+        }
+        Op::Tak => {
+            let first = spot.take(types_of_exchange())?;
+            push_exchange(steps, first)
+        }
+        Op::Push => push_push(steps),
+        Op::Pop => push_pop(steps),
         Op::Nop | Op::BlockEnd => Ok(()),
+    }
+}
+
+/// An instruction on ACCU1 alone.
+fn push_unary(
+    alloc: Global,
+    steps: &mut List<Stmt>,
+    first: u32,
+    row: UnaryRow,
+) -> Result<(), NoMemory>
+    requires { first + 8 < 2 ^ 32 }
+    ensures { OnOk result (steps.new ≡ steps.old ++ unary_of first row) }
+{
+    match row {
+        UnaryRow::Bti => push_bti(alloc, steps, first),
+        UnaryRow::Btd => push_btd(alloc, steps, first),
+        UnaryRow::Itb => push_itb(alloc, steps, first),
+        UnaryRow::Dtb => push_dtb(alloc, steps, first),
+        UnaryRow::Itd => push_itd(alloc, steps),
+        UnaryRow::Invi => push_invi(alloc, steps),
+        UnaryRow::Invd => push_invd(alloc, steps),
+        UnaryRow::Caw => push_caw(alloc, steps),
+        UnaryRow::Cad => push_cad(alloc, steps),
+        UnaryRow::Negi => push_negated(alloc, steps, first, Width::Word),
+        UnaryRow::Negd => push_negated(alloc, steps, first, Width::Dword),
     }
 }
 

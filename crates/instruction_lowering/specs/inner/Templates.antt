@@ -1,6 +1,16 @@
 -- The statements of each instruction: an assignment for each bit of the status word that its row changes, but for
 -- STA, which nothing reads.
-use Rattle.std.specs.Prelude.{ℕ, ◌+◌, Bool, true, false, List, [], ◌∷◌}
+use Rattle.std.specs.Prelude.{ℕ, ◌+◌, Bool, true, false, List, [], ◌∷◌, length}
+use Rattle.accumulator_templates.specs.Conversions.{cad_of, caw_of, invd_of, invi_of, itd_of}
+use Rattle.accumulator_templates.specs.Logic.{logic_of, types_of_logic}
+use Rattle.accumulator_templates.specs.Moves.{exchange_of, load_of, pop_of, push_of, status_load_of, status_store_of, transfer_of, types_of_exchange}
+use Rattle.accumulator_templates.specs.Sums.{add_dword_of, add_word_of, dec_of, inc_of}
+use Rattle.arithmetic_templates.specs.Calculations.{calculated_of, negated_of, types_of_calculated}
+use Rattle.arithmetic_templates.specs.Comparisons.{compared_of, types_of_compared}
+use Rattle.digit_templates.specs.FromDigits.{bti_of, btd_of}
+use Rattle.digit_templates.specs.ToDigits.{itb_of, dtb_of}
+use Rattle.shift_templates.specs.ShiftTemplates.{rlda_template, rrda_template, shift_template, types_of_shift, types_through_cc1}
+use Rattle.instruction_lowering.specs.Temporaries.{types_of_unary}
 use Rattle.instruction_lowering.specs.declared.statements.Chain.{Chain}
 use Rattle.instruction_lowering.specs.declared.statements.OpenBracket.{OpenBracket}
 use Rattle.instruction_lowering.specs.declared.statements.Spot.{Spot}
@@ -8,12 +18,16 @@ use Rattle.s7_base.specs.declared.check.Check.{Check}
 use Rattle.s7_base.specs.declared.check.Check.TheVariants as check
 use Rattle.s7_base.specs.declared.register.Reg.{Reg}
 use Rattle.s7_base.specs.declared.register.Reg.TheVariants as reg
+use Rattle.s7_base.specs.declared.word.Width.TheVariants as width
 use Rattle.status_word.specs.declared.test.Test.{Test}
 use Rattle.status_word.specs.declared.test.Test.TheVariants as test
+use Rattle.stl_tree.specs.declared.accumulator.UnaryRow.{UnaryRow}
+use Rattle.stl_tree.specs.declared.accumulator.UnaryRow.TheVariants as unary
 use Rattle.stl_tree.specs.declared.program.BitArg.{BitArg}
 use Rattle.stl_tree.specs.declared.program.BitArg.TheVariants as arg
 use Rattle.stl_tree.specs.declared.program.Op.{Op}
 use Rattle.stl_tree.specs.declared.program.Op.TheVariants as op
+use Rattle.st_tree.specs.declared.expr.StType.{StType}
 use Rattle.st_tree.specs.declared.expr.Var.{Var}
 use Rattle.st_tree.specs.declared.expr.Var.TheVariants as var
 use Rattle.st_tree.specs.declared.expr.Expr.{Expr}
@@ -157,15 +171,41 @@ outer_of (o ∷ outer) = outer
 abbrev pub one_more : Spot → Spot
 one_more p = record { used = p.used + 1; brackets = p.brackets }
 
+-- the spot behind an instruction with locals of these types
+abbrev pub more : List StType → Spot → Spot
+more types p = record { used = p.used + length types; brackets = p.brackets }
+
 -- the spot behind an instruction: an opened bracket has three locals of its own, and an edge one
 abbrev pub behind : Op → Spot → Spot
 behind (op.Bracket c) p = record { used = p.used + 3; brackets = record { check = c; kept = chain_at p.used } ∷ p.brackets }
 behind op.Close p = record { used = p.used; brackets = outer_of p.brackets }
 behind (op.EdgeUp o) p = one_more p
 behind (op.EdgeDown o) p = one_more p
+behind (op.Arith a) p = more (types_of_calculated a) p
+behind (op.Compare t w) p = more (types_of_compared w) p
+behind (op.Shift s count) p = more (types_of_shift s count) p
+behind op.Rlda p = more types_through_cc1 p
+behind op.Rrda p = more types_through_cc1 p
+behind (op.Logic l c) p = more (types_of_logic l c) p
+behind (op.Unary u) p = more (types_of_unary u) p
+behind op.Tak p = more types_of_exchange p
 behind other p = p
 
 -- Instructions
+
+-- the statements of an instruction on ACCU1 alone, whose first local has this number
+abbrev pub unary_of : ℕ → UnaryRow → List Stmt
+unary_of first unary.Bti = bti_of first
+unary_of first unary.Btd = btd_of first
+unary_of first unary.Itb = itb_of first
+unary_of first unary.Dtb = dtb_of first
+unary_of first unary.Itd = itd_of
+unary_of first unary.Invi = invi_of
+unary_of first unary.Invd = invd_of
+unary_of first unary.Caw = caw_of
+unary_of first unary.Cad = cad_of
+unary_of first unary.Negi = negated_of first width.Word
+unary_of first unary.Negd = negated_of first width.Dword
 
 -- the statements of an instruction at a spot
 abbrev pub statements_of : Spot → Op → List Stmt
@@ -183,5 +223,23 @@ statements_of p op.NotRlo = set_of reg.Rlo (not_of (read_of reg.Rlo)) ∷ []
 statements_of p op.Save = set_of reg.Br (read_of reg.Rlo) ∷ []
 statements_of p (op.EdgeUp o) = edge_of p.used (bit_of o) (rising (bit_of o))
 statements_of p (op.EdgeDown o) = edge_of p.used (bit_of o) (falling (bit_of o))
+statements_of p (op.Load a) = load_of a
+statements_of p (op.Transfer o w) = transfer_of o w
+statements_of p op.LoadStw = status_load_of
+statements_of p op.TransferStw = status_store_of
+statements_of p (op.Arith a) = calculated_of p.used a
+statements_of p (op.AddWord n) = add_word_of n
+statements_of p (op.AddDword n) = add_dword_of n
+statements_of p (op.Inc n) = inc_of n
+statements_of p (op.Dec n) = dec_of n
+statements_of p (op.Compare t w) = compared_of p.used t w
+statements_of p (op.Shift s count) = shift_template p.used s count
+statements_of p op.Rlda = rlda_template p.used
+statements_of p op.Rrda = rrda_template p.used
+statements_of p (op.Logic l c) = logic_of p.used l c
+statements_of p (op.Unary u) = unary_of p.used u
+statements_of p op.Tak = exchange_of p.used
+statements_of p op.Push = push_of
+statements_of p op.Pop = pop_of
 statements_of p op.Nop = []
 statements_of p op.BlockEnd = []
