@@ -1,3 +1,4 @@
+pub mod AccumulatorRows
 pub mod Assignments
 pub mod BitRows
 pub mod Bounds

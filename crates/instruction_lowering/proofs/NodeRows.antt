@@ -22,9 +22,16 @@ use Rattle.row_templates.specs.Nodes.{nodes, nodes_in}
 use Rattle.instruction_lowering.specs.declared.statements.Chain.{Chain}
 use Rattle.instruction_lowering.specs.declared.statements.OpenBracket.{OpenBracket}
 use Rattle.instruction_lowering.specs.declared.statements.Spot.{Spot}
+use Rattle.accumulator_templates.proofs.CountRows.{add_dword_few, add_word_few, cad_few, caw_few, dec_few, exchange_few, inc_few, invd_few, invi_few, itd_few, load_few, logic_few, pop_few, push_few, status_load_few, status_store_few, transfer_few}
+use Rattle.shift_templates.proofs.ShiftSizes.{rlda_few, rrda_few, shift_few}
+use Rattle.arithmetic_templates.proofs.FewReads.{calculated_nodes, compared_nodes, negated_nodes}
+use Rattle.digit_templates.proofs.PlainDigits.{btd_nodes, bti_nodes, dtb_nodes, itb_nodes}
+use Rattle.stl_tree.specs.declared.accumulator.UnaryRow.{UnaryRow}
+use Rattle.stl_tree.specs.declared.accumulator.UnaryRow.TheVariants as unary
+use Rattle.s7_base.specs.declared.word.Width.TheVariants as width
 use Rattle.instruction_lowering.specs.Temporaries.{ends_block}
 use Rattle.instruction_lowering.specs.inner.Lowering.{steps_of}
-use Rattle.instruction_lowering.specs.inner.Templates.{and_joined, answer_of, behind, behind_check, behind_close, checked_of, close_of, edge_of, keep_of, next_rlo, open_of, rlo_before_and, rlo_before_or, running_chain, statements_of, store_of}
+use Rattle.instruction_lowering.specs.inner.Templates.{and_joined, answer_of, behind, behind_check, behind_close, checked_of, close_of, edge_of, keep_of, next_rlo, open_of, rlo_before_and, rlo_before_or, running_chain, statements_of, store_of, unary_of}
 use Rattle.row_templates.specs.Builders.{and_of, bit_of, cleared, literal_of, not_of, or_of, read_of, set_of}
 
 -- Expressions
@@ -118,6 +125,19 @@ of_edge i v e =
 of_one : (v : Var) (e : Expr) → nodes_in (stmt.Assign v e ∷ []) ≡ nodes e
 of_one v e = omega (arith, of_assign v e [], of_nothing)
 
+of_unary : (u : UnaryRow) (used : ℕ) → nodes_in (unary_of used u) ≤ 91
+of_unary unary.Bti used = omega (arith, bti_nodes used)
+of_unary unary.Btd used = omega (arith, btd_nodes used)
+of_unary unary.Itb used = omega (arith, itb_nodes used)
+of_unary unary.Dtb used = omega (arith, dtb_nodes used)
+of_unary unary.Itd used = itd_few.nodes
+of_unary unary.Invi used = invi_few.nodes
+of_unary unary.Invd used = invd_few.nodes
+of_unary unary.Caw used = caw_few.nodes
+of_unary unary.Cad used = cad_few.nodes
+of_unary unary.Negi used = negated_nodes used width.Word
+of_unary unary.Negd used = negated_nodes used width.Dword
+
 of_instruction : (o : Op) (q : Spot) → nodes_in (statements_of q o) ≤ 91
 of_instruction (op.Check c b) q =
     let e : Expr = next_rlo running_chain c (checked_of b) in
@@ -170,6 +190,24 @@ of_instruction (op.EdgeDown o) q =
       of_read (bit_of o),
       of_not_register reg.Rlo,
     )
+of_instruction (op.Load a) q = (load_few a).nodes
+of_instruction (op.Transfer o w) q = (transfer_few o w).nodes
+of_instruction op.LoadStw q = status_load_few.nodes
+of_instruction op.TransferStw q = status_store_few.nodes
+of_instruction (op.Arith a) q = calculated_nodes q.used a
+of_instruction (op.AddWord n) q = (add_word_few n).nodes
+of_instruction (op.AddDword n) q = (add_dword_few n).nodes
+of_instruction (op.Inc n) q = (inc_few n).nodes
+of_instruction (op.Dec n) q = (dec_few n).nodes
+of_instruction (op.Compare t w) q = compared_nodes q.used t w
+of_instruction (op.Shift i by) q = (shift_few q.used i by).nodes
+of_instruction op.Rlda q = (rlda_few q.used).nodes
+of_instruction op.Rrda q = (rrda_few q.used).nodes
+of_instruction (op.Logic l c) q = (logic_few q.used l c).nodes
+of_instruction (op.Unary u) q = of_unary u q.used
+of_instruction op.Tak q = (exchange_few q.used).nodes
+of_instruction op.Push q = push_few.nodes
+of_instruction op.Pop q = pop_few.nodes
 of_instruction op.Nop q = omega (arith, of_nothing)
 of_instruction op.BlockEnd q = omega (arith, of_nothing)
 

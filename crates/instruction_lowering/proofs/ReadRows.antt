@@ -20,13 +20,20 @@ use Rattle.stl_tree.specs.declared.program.Instr.{Instr}
 use Rattle.stl_tree.specs.declared.program.Op.{Op}
 use Rattle.stl_tree.specs.declared.program.Op.TheVariants as op
 use Rattle.instruction_lowering.specs.Lowered.{IsRead}
+use Rattle.accumulator_templates.proofs.ReadRows.{add_dword_reads, add_word_reads, cad_reads, caw_reads, dec_reads, exchange_reads, inc_reads, invd_reads, invi_reads, itd_reads, load_reads, logic_reads, pop_reads, push_reads, status_load_reads, status_store_reads, transfer_reads}
+use Rattle.arithmetic_templates.proofs.FewReads.{calculated_reads, compared_reads, negated_reads}
+use Rattle.digit_templates.proofs.PlainDigits.{btd_reads, bti_reads, dtb_reads, itb_reads}
+use Rattle.shift_templates.proofs.ReadByShifts.{rlda_reads, rrda_reads, shift_reads}
+use Rattle.stl_tree.specs.declared.accumulator.UnaryRow.{UnaryRow}
+use Rattle.stl_tree.specs.declared.accumulator.UnaryRow.TheVariants as unary
+use Rattle.s7_base.specs.declared.word.Width.TheVariants as width
 use Rattle.row_templates.proofs.ReadRegisters.{AllRead, Has, Reads, among_left, among_right, assigned_reads, bit_reads, cleared_reads, joined_reads, literal_reads, local_reads, nfc_reads, not_reads, register_reads}
 use Rattle.instruction_lowering.specs.declared.statements.Chain.{Chain}
 use Rattle.instruction_lowering.specs.declared.statements.OpenBracket.{OpenBracket}
 use Rattle.instruction_lowering.specs.declared.statements.Spot.{Spot}
 use Rattle.instruction_lowering.specs.Temporaries.{ends_block}
 use Rattle.instruction_lowering.specs.inner.Lowering.{steps_of}
-use Rattle.instruction_lowering.specs.inner.Templates.{and_joined, answer_of, behind, behind_check, behind_close, chain_at, checked_of, close_of, edge_of, keep_of, next_rlo, outer_of, rlo_before_and, rlo_before_or, running_chain, statements_of, store_of}
+use Rattle.instruction_lowering.specs.inner.Templates.{and_joined, answer_of, behind, behind_check, behind_close, chain_at, checked_of, close_of, edge_of, keep_of, next_rlo, outer_of, rlo_before_and, rlo_before_or, running_chain, statements_of, store_of, unary_of}
 use Rattle.row_templates.specs.Builders.{and_of, bit_of, cleared, literal_of, not_of, or_of, read_of, set_of, xor_of}
 
 module _ (P : Reg → Type 0) where
@@ -134,6 +141,20 @@ module _ (P : Reg → Type 0) where
   chains_behind op.Close q h = outer_reads q.brackets h
   chains_behind o q h = h
 
+  -- an instruction on ACCU1 alone
+  unary_reads : (u : UnaryRow) (used : ℕ) (rest : List Stmt) → Has P (reads_of (op.Unary u)) → AllRead P rest → AllRead P (unary_of used u ++ rest)
+  unary_reads unary.Bti used rest h k = bti_reads P used rest h k
+  unary_reads unary.Btd used rest h k = btd_reads P used rest h k
+  unary_reads unary.Itb used rest h k = itb_reads P used rest h k
+  unary_reads unary.Dtb used rest h k = dtb_reads P used rest h k
+  unary_reads unary.Itd used rest h k = itd_reads P rest k h
+  unary_reads unary.Invi used rest h k = invi_reads P rest k h
+  unary_reads unary.Invd used rest h k = invd_reads P rest k h
+  unary_reads unary.Caw used rest h k = caw_reads P rest k h
+  unary_reads unary.Cad used rest h k = cad_reads P rest k h
+  unary_reads unary.Negi used rest h k = negated_reads P used rest k width.Word h
+  unary_reads unary.Negd used rest h k = negated_reads P used rest k width.Dword h
+
   of_instruction : (o : Op) (q : Spot) (rest : List Stmt) → Has P (reads_of o) → ReadChains q.brackets → AllRead P rest → AllRead P (statements_of q o ++ rest)
   of_instruction (op.Check c b) q rest h chains k =
       assigned_reads P (var.Register reg.Rlo) (next_rlo running_chain c (checked_of b)) (behind_check c ++ rest)
@@ -167,6 +188,24 @@ module _ (P : Reg → Type 0) where
       let rlo : P reg.Rlo = h reg.Rlo (inl refl) in
       edge_reads q.used (bit_of o) (and_of (not_of (read_of reg.Rlo)) (expr.Read (bit_of o))) rest rlo
       (joined_reads P binary.And (not_of (read_of reg.Rlo)) (expr.Read (bit_of o)) (not_reads P (read_of reg.Rlo) (register_reads P reg.Rlo rlo)) (bit_reads P o)) k
+  of_instruction (op.Load a) q rest h chains k = load_reads P rest k a h
+  of_instruction (op.Transfer o w) q rest h chains k = transfer_reads P rest k o w h
+  of_instruction op.LoadStw q rest h chains k = status_load_reads P rest k h
+  of_instruction op.TransferStw q rest h chains k = status_store_reads P rest k h
+  of_instruction (op.Arith a) q rest h chains k = calculated_reads P q.used rest k a h
+  of_instruction (op.AddWord n) q rest h chains k = add_word_reads P rest k n h
+  of_instruction (op.AddDword n) q rest h chains k = add_dword_reads P rest k n h
+  of_instruction (op.Inc n) q rest h chains k = inc_reads P rest k n h
+  of_instruction (op.Dec n) q rest h chains k = dec_reads P rest k n h
+  of_instruction (op.Compare t w) q rest h chains k = compared_reads P q.used rest k t w h
+  of_instruction (op.Shift i by) q rest h chains k = shift_reads P q.used rest i by h k
+  of_instruction op.Rlda q rest h chains k = rlda_reads P q.used rest h k
+  of_instruction op.Rrda q rest h chains k = rrda_reads P q.used rest h k
+  of_instruction (op.Logic l c) q rest h chains k = logic_reads P rest k q.used l c h
+  of_instruction (op.Unary u) q rest h chains k = unary_reads u q.used rest h k
+  of_instruction op.Tak q rest h chains k = exchange_reads P rest k q.used h
+  of_instruction op.Push q rest h chains k = push_reads P rest k h
+  of_instruction op.Pop q rest h chains k = pop_reads P rest k h
   of_instruction op.Nop q rest h chains k = k
   of_instruction op.BlockEnd q rest h chains k = k
 

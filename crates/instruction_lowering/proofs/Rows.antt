@@ -20,6 +20,8 @@ use Rattle.instruction_lowering.proofs.Does.{Does, IsInside}
 use Rattle.instruction_lowering.proofs.Temporaries.{Keeps}
 use Rattle.instruction_lowering.specs.declared.statements.OpenBracket.{OpenBracket}
 use Rattle.instruction_lowering.specs.declared.statements.Spot.{Spot}
+use Rattle.instruction_lowering.proofs.AccumulatorRows.{add_dword_does, add_word_does, calculated_does, compared_does, dec_does, exchange_does, inc_does, load_does, logic_does, pop_does, push_does, rlda_does, rrda_does, shift_does, status_load_does, status_store_does, transfer_does, unary_does}
+use Rattle.stl_tree.specs.Accepted.{HasOperand}
 use Rattle.stl_tree.specs.Brackets.{WithNumber, open_behind}
 use Rattle.instruction_lowering.proofs.EdgeRows.{down_does, up_does}
 use Rattle.instruction_lowering.proofs.StatusRows.{answer_worth, clear_rlo_does, nop_does, not_does, or_does, save_does, set_rlo_does}
@@ -39,31 +41,49 @@ some_open [] h e = elim h [ ]
 some_open (o ∷ outer) h e = cc
 
 module _ (g : List Located) (calls : Calls) (units : ℕ) (acts : List Activation) (now : Now) (s : State) (related : Related acts now s) (total : ℕ) (p : Spot) (keeps : Keeps total p now.brackets s.activations) where
-  pub does : (o : Op) → IsInside o → CanStand o p → (behind o p).used ≤ total
+  pub does : (o : Op) → IsInside o → HasOperand o → CanStand o p → (behind o p).used ≤ total
       → Does (body_meaning g calls (statements_of p o) units s) units total (behind o p) acts now.memory (effect_of o now)
-  does (op.Check c (arg.At (operand.Direct a byte x))) inside stands room =
+  does (op.Check c (arg.At (operand.Direct a byte x))) inside operand stands room =
       check_does g calls units acts now s related total p keeps c a byte x (read_bit (place_now a byte x now) now.memory) refl
-  does (op.Check c (arg.Flag t)) inside stands room =
+  does (op.Check c (arg.Flag t)) inside operand stands room =
       check_goes g calls units acts now s related total p keeps c (answer_of t) (answer_to t now.registers.status)
       (answer_worth g calls units acts now s related total p keeps t)
-  does op.OrAlone inside stands room = or_does g calls units acts now s related total p keeps
-  does (op.Bracket c) inside stands room =
+  does op.OrAlone inside operand stands room = or_does g calls units acts now s related total p keeps
+  does (op.Bracket c) inside operand stands room =
       open_does g calls units acts now s related total p keeps c (free (nat_lt (length p.brackets) most_open) (length p.brackets) stands) room
-  does op.Close inside stands room =
+  does op.Close inside operand stands room =
       close_does g calls units acts now s related total p keeps p.brackets now.brackets (some_open p.brackets stands) keeps.1
-  does (op.Assign (operand.Direct a byte x)) inside stands room =
+  does (op.Assign (operand.Direct a byte x)) inside operand stands room =
       assign_does g calls units acts now s related total p keeps a byte x (write_bit (place_now a byte x now) now.registers.status.rlo now.memory) refl
-  does (op.Set (operand.Direct a byte x)) inside stands room =
+  does (op.Set (operand.Direct a byte x)) inside operand stands room =
       set_does g calls units acts now s related total p keeps a byte x (read_bit (place_now a byte x now) now.memory) refl
-  does (op.Reset (operand.Direct a byte x)) inside stands room =
+  does (op.Reset (operand.Direct a byte x)) inside operand stands room =
       reset_does g calls units acts now s related total p keeps a byte x (read_bit (place_now a byte x now) now.memory) refl
-  does op.SetRlo inside stands room = set_rlo_does g calls units acts now s related total p keeps
-  does op.ClearRlo inside stands room = clear_rlo_does g calls units acts now s related total p keeps
-  does op.NotRlo inside stands room = not_does g calls units acts now s related total p keeps
-  does op.Save inside stands room = save_does g calls units acts now s related total p keeps
-  does (op.EdgeUp (operand.Direct a byte x)) inside stands room =
+  does op.SetRlo inside operand stands room = set_rlo_does g calls units acts now s related total p keeps
+  does op.ClearRlo inside operand stands room = clear_rlo_does g calls units acts now s related total p keeps
+  does op.NotRlo inside operand stands room = not_does g calls units acts now s related total p keeps
+  does op.Save inside operand stands room = save_does g calls units acts now s related total p keeps
+  does (op.EdgeUp (operand.Direct a byte x)) inside operand stands room =
       up_does g calls units acts now s related total p keeps room a byte x (read_bit (place_now a byte x now) now.memory) refl
-  does (op.EdgeDown (operand.Direct a byte x)) inside stands room =
+  does (op.EdgeDown (operand.Direct a byte x)) inside operand stands room =
       down_does g calls units acts now s related total p keeps room a byte x (read_bit (place_now a byte x now) now.memory) refl
-  does op.Nop inside stands room = nop_does g calls units acts now s related total p keeps
-  does op.BlockEnd inside stands room = elim inside [ ]
+  does (op.Load a) inside operand stands room = load_does g calls units acts now s related total p keeps a operand room
+  does (op.Transfer o w) inside operand stands room = transfer_does g calls units acts now s related total p keeps o w
+  does op.LoadStw inside operand stands room = status_load_does g calls units acts now s related total p keeps room
+  does op.TransferStw inside operand stands room = status_store_does g calls units acts now s related total p keeps room
+  does (op.Arith a) inside operand stands room = calculated_does g calls units acts now s related total p keeps a room
+  does (op.AddWord n) inside operand stands room = add_word_does g calls units acts now s related total p keeps n room
+  does (op.AddDword n) inside operand stands room = add_dword_does g calls units acts now s related total p keeps n room
+  does (op.Inc n) inside operand stands room = inc_does g calls units acts now s related total p keeps n room
+  does (op.Dec n) inside operand stands room = dec_does g calls units acts now s related total p keeps n room
+  does (op.Compare t w) inside operand stands room = compared_does g calls units acts now s related total p keeps t w operand room
+  does (op.Shift i by) inside operand stands room = shift_does g calls units acts now s related total p keeps i by room
+  does op.Rlda inside operand stands room = rlda_does g calls units acts now s related total p keeps room
+  does op.Rrda inside operand stands room = rrda_does g calls units acts now s related total p keeps room
+  does (op.Logic l c) inside operand stands room = logic_does g calls units acts now s related total p keeps l c room
+  does (op.Unary u) inside operand stands room = unary_does g calls units acts now s related total p keeps u room
+  does op.Tak inside operand stands room = exchange_does g calls units acts now s related total p keeps room
+  does op.Push inside operand stands room = push_does g calls units acts now s related total p keeps room
+  does op.Pop inside operand stands room = pop_does g calls units acts now s related total p keeps room
+  does op.Nop inside operand stands room = nop_does g calls units acts now s related total p keeps
+  does op.BlockEnd inside operand stands room = elim inside [ ]

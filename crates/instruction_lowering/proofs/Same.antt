@@ -175,7 +175,7 @@ module _ (program : Program) (formed : All IsAcceptedBlock program.blocks) (call
   simulated counts side memory valid n units most begun =
       let shape = found_each IsAcceptedBlock call.block program.blocks b at.found formed in
       let within : length b.body ≤ size_of program = found_size call.block program.blocks b at.found in
-      at_node program graph counts side (size_of program) n first [] b at.there refl shape.ends shape.brackets (omega arith) (now memory) (state memory) (start_related memory valid) (start_keeps memory) units most 0 begun
+      at_node program graph counts side (size_of program) n first [] b at.there refl shape.ends shape.operands shape.brackets (omega arith) (now memory) (state memory) (start_related memory valid) (start_keeps memory) units most 0 begun
       (λ units s. Ended s.memory.areas None) (nothing_follows counts side n)
 
   nodes_end : (memory : Areas) → IsMemoryOf program.dbs memory → (n : ℕ) (after : Areas) (fault : Option Fault) → stl_run program call memory n ≡ Ended after fault → graph_run graph call memory n ≡ Ended after fault

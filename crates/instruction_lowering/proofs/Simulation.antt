@@ -3,13 +3,14 @@ use Rattle.nesting_stack.specs.Entries.{most_open}
 use Rattle.std.proofs.Common.{◌≡◌, ℕ, zero, suc, ◌+◌, ◌<◌, ◌≤◌, Bool, true, false, if◌then◌else◌, List, [], ◌∷◌, ◌++◌, length, Option, Some, None, refl, sym, ap, ◌∙◌, subst, ◌⊎◌, inl, inr, ⊎_elim, arith}
 use Rattle.std.specs.Prelude.{nat_lt, option_and_then, slice_get}
 use Rattle.std.proofs.Math.Nat.{eq-or-lt_of_le}
+use Rattle.std.proofs.lemmas.List.Elements.{All-head, All-tail}
 use Rattle.std.proofs.lemmas.List.{length-append}
 use Rattle.memory_areas.specs.Areas.{Areas, Contents}
 use Rattle.memory_areas.specs.End.{End, Ended, Going}
 use Rattle.status_word.specs.StatusBits.{after_end}
 use Rattle.s7_base.specs.declared.outcome.Fault.{Fault}
 use Rattle.s7_base.specs.declared.register.Reg.TheVariants as reg
-use Rattle.stl_tree.specs.Accepted.{IsEnded}
+use Rattle.stl_tree.specs.Accepted.{HasOperand, HaveOperands, IsEnded}
 use Rattle.stl_tree.specs.Brackets.{AreNested, WithNumber, open_behind}
 use Rattle.stl_tree.specs.Instructions.{effect_of}
 use Rattle.stl_tree.specs.Now.{Activation, Effect, Now, enter, fault, go, leave, next, with_status}
@@ -99,14 +100,13 @@ has_rest body at i is has j = let e : at + 1 + j ≡ at + suc j = omega arith in
 
 -- Spots
 
--- instructions that are left from a spot on: brackets are nested, and so many temporaries are used behind them
+-- instructions that are left from a spot on: they have their operands, brackets are nested, and so many temporaries
+-- are used behind them
 abbrev pub AreLeft : ℕ → Spot → List Instr → Type 0
-AreLeft total q is = AreNested is (length q.brackets) × (used_behind q is ≡ total)
+AreLeft total q is = HaveOperands is × AreNested is (length q.brackets) × (used_behind q is ≡ total)
 
-more_used : (o : Op) (q : Spot) → q.used ≤ (behind o q).used
-more_used (op.Bracket c) q = omega arith
-more_used op.Close q = omega arith
-more_used o q = omega arith
+abbrev HasItsOperand : Instr → Type 0
+HasItsOperand i = HasOperand i.op
 
 -- an instruction takes as many temporaries as it has types of them
 pub used_behind_one : (o : Op) (q : Spot) → (behind o q).used ≡ q.used + length (types_of o)
@@ -114,7 +114,18 @@ used_behind_one (op.Bracket c) q = refl
 used_behind_one op.Close q = omega arith
 used_behind_one (op.EdgeUp o) q = refl
 used_behind_one (op.EdgeDown o) q = refl
+used_behind_one (op.Arith a) q = refl
+used_behind_one (op.Compare t w) q = refl
+used_behind_one (op.Shift i by) q = refl
+used_behind_one op.Rlda q = refl
+used_behind_one op.Rrda q = refl
+used_behind_one (op.Logic l c) q = refl
+used_behind_one (op.Unary u) q = refl
+used_behind_one op.Tak q = refl
 used_behind_one o q = omega arith
+
+pub more_used : (o : Op) (q : Spot) → q.used ≤ (behind o q).used
+more_used o q = let e : (behind o q).used ≡ q.used + length (types_of o) = used_behind_one o q in omega arith
 
 -- and so do those of a body
 pub used_behind_all : (is : List Instr) (q : Spot) → used_behind q is ≡ q.used + length (types_in is)
@@ -225,7 +236,7 @@ module _ (p : Program) (g : GraphProgram) (counts : Counting) (side : Side) (siz
   -- a node begins with its block
   abbrev pub AtNode : ℕ → Type 0
   AtNode n =
-      (a : Activation) (waiting : List Activation) (b : Block) → slice_get p.blocks a.block ≡ Some b → a.at ≡ 0 → IsEnded b.body → AreNested b.body 0 → a.at + length b.body ≤ size
+      (a : Activation) (waiting : List Activation) (b : Block) → slice_get p.blocks a.block ≡ Some b → a.at ≡ 0 → IsEnded b.body → HaveOperands b.body → AreNested b.body 0 → a.at + length b.body ≤ size
       → (now : Now) (s : State) → Related (a ∷ waiting) now s → Keeps (used_behind first_spot b.body) first_spot now.brackets s.activations → (units most debt : ℕ) → Begun side size n units most a.at debt
       → (k : ℕ → State → End) → Follows n a waiting k debt
       → Sees side (ran n (running p now)) (through (nodes_do counts g most (node_of b.body ∷ []) 0 units s) k)
@@ -277,13 +288,13 @@ module _ (p : Program) (g : GraphProgram) (counts : Counting) (side : Side) (siz
 
     by_inside : StandsInside q i is → Sees side (ran (suc n) (running p now)) (through (rest_of most nodes q (i ∷ is) units s) k)
     by_inside h =
-        let later_used : used_behind (behind i.op q) is ≡ total = sym h.used ∙ left.1 in
+        let later_used : used_behind (behind i.op q) is ≡ total = sym h.used ∙ left.2 in
         let room : (behind i.op q).used ≤ used_behind (behind i.op q) is = used_grows is (behind i.op q) in
         arrives (λ stand. Sees side (ran n stand) (through (rest_of most nodes q (i ∷ is) units s) k))
         (subst (λ (x : Out). Sees side (ran n (after_effect p now (effect_of i.op now))) (through x k)) (sym (splits h.steps))
-        (meets (effect_of i.op now) (here units s) h.ended (nested_behind (AreNested is) i.op q h.inside left.0, later_used)
+        (meets (effect_of i.op now) (here units s) h.ended (All-tail HasItsOperand i is left.0, nested_behind (AreNested is) i.op q h.inside left.1, later_used)
         (does g.globals (calls_within most) units (a ∷ waiting) now s related total q keeps i.op h.inside
-        (can_stand (AreNested is) (open_behind i.op (length q.brackets)) left.0) (omega arith))))
+        (All-head HasItsOperand i is left.0) (can_stand (AreNested is) (open_behind i.op (length q.brackets)) left.1) (omega arith))))
 
     by_end : (i.op ≡ op.BlockEnd) × (steps_of q (i ∷ is) ≡ []) → Sees side (ran (suc n) (running p now)) (through (rest_of most nodes q (i ∷ is) units s) k)
     by_end h =
@@ -308,7 +319,7 @@ module _ (p : Program) (g : GraphProgram) (counts : Counting) (side : Side) (siz
   not_empty (i ∷ is) ends = omega arith
 
   node_none : AtNode 0
-  node_none a waiting b there start ends nested fits now s related keeps units most debt begun k follows =
+  node_none a waiting b there start ends operands nested fits now s related keeps units most debt begun k follows =
       let some : 1 ≤ length b.body = not_empty b.body ends in
       none_forth side _ (no_first_step side size units most a.at debt (omega arith) begun)
 
@@ -332,10 +343,10 @@ module _ (p : Program) (g : GraphProgram) (counts : Counting) (side : Side) (siz
       (fewer n (suc n) a waiting k debt (omega arith) follows)
 
   node_next : (n : ℕ) → Inside n → AtNode (suc n)
-  node_next n inside a waiting b there start ends nested fits now s related keeps units zero debt begun k follows = none_back side _ (no_node side size n units a.at debt begun)
-  node_next n inside a waiting b there start ends nested fits now s related keeps units (suc most) debt begun k follows =
+  node_next n inside a waiting b there start ends operands nested fits now s related keeps units zero debt begun k follows = none_back side _ (no_node side size n units a.at debt begun)
+  node_next n inside a waiting b there start ends operands nested fits now s related keeps units (suc most) debt begun k follows =
       more_step n inside a waiting b there (node_of b.body ∷ []) b.body (λ j. let e : a.at + j ≡ j = omega arith in ap (slice_get b.body) e) ends
-      (used_behind first_spot b.body) first_spot (nested, refl) fits now s related keeps units most debt
+      (used_behind first_spot b.body) first_spot (operands, nested, refl) fits now s related keeps units most debt
       (first_step side size n units most a.at debt begun) k (fewer n (suc n) a waiting k debt (omega arith) follows)
 
   abbrev pub Both : ℕ → Type 0

@@ -9,9 +9,16 @@ use Rattle.stl_tree.specs.declared.program.Op.{Op}
 use Rattle.stl_tree.specs.declared.program.Op.TheVariants as op
 use Rattle.instruction_lowering.specs.declared.statements.OpenBracket.{OpenBracket}
 use Rattle.instruction_lowering.specs.declared.statements.Spot.{Spot}
+use Rattle.accumulator_templates.proofs.CountRows.{add_dword_few, add_word_few, dec_few, inc_few, load_few, logic_few, transfer_few}
+use Rattle.shift_templates.proofs.ShiftSizes.{shift_few}
+use Rattle.arithmetic_templates.proofs.FewReads.{calculated_length, compared_length, negated_length}
+use Rattle.digit_templates.proofs.PlainDigits.{btd_statements, bti_statements, dtb_statements, itb_statements}
+use Rattle.stl_tree.specs.declared.accumulator.UnaryRow.{UnaryRow}
+use Rattle.stl_tree.specs.declared.accumulator.UnaryRow.TheVariants as unary
+use Rattle.s7_base.specs.declared.word.Width.TheVariants as width
 use Rattle.instruction_lowering.specs.Temporaries.{ends_block}
 use Rattle.instruction_lowering.specs.inner.Lowering.{steps_of}
-use Rattle.instruction_lowering.specs.inner.Templates.{behind, behind_check, behind_close, close_of, statements_of}
+use Rattle.instruction_lowering.specs.inner.Templates.{behind, behind_check, behind_close, close_of, statements_of, unary_of}
 
 of_check : (c : Check) → length (behind_check c) ≤ 2
 of_check check.A = omega arith
@@ -33,9 +40,29 @@ of_brackets : (brackets : List OpenBracket) → length (close_of brackets) ≤ 1
 of_brackets [] = omega arith
 of_brackets (o ∷ outer) = let few = of_close o.check o.kept.orb in omega arith
 
+of_unary : (u : UnaryRow) (used : ℕ) → length (unary_of used u) ≤ 11
+of_unary unary.Bti used = omega (arith, bti_statements used)
+of_unary unary.Btd used = omega (arith, btd_statements used)
+of_unary unary.Itb used = omega (arith, itb_statements used)
+of_unary unary.Dtb used = omega (arith, dtb_statements used)
+of_unary unary.Negi used = negated_length used width.Word
+of_unary unary.Negd used = negated_length used width.Dword
+of_unary u used = omega arith
+
 of_instruction : (o : Op) (q : Spot) → length (statements_of q o) ≤ 11
 of_instruction (op.Check c b) q = let few = of_check c in omega arith
 of_instruction op.Close q = of_brackets q.brackets
+of_instruction (op.Load a) q = (load_few a).statements
+of_instruction (op.Transfer o w) q = (transfer_few o w).statements
+of_instruction (op.Arith a) q = calculated_length q.used a
+of_instruction (op.AddWord n) q = (add_word_few n).statements
+of_instruction (op.AddDword n) q = (add_dword_few n).statements
+of_instruction (op.Inc n) q = (inc_few n).statements
+of_instruction (op.Dec n) q = (dec_few n).statements
+of_instruction (op.Compare t w) q = compared_length q.used t w
+of_instruction (op.Shift i by) q = (shift_few q.used i by).statements
+of_instruction (op.Logic l c) q = (logic_few q.used l c).statements
+of_instruction (op.Unary u) q = of_unary u q.used
 of_instruction o q = omega arith
 
 -- each becomes at most eleven
