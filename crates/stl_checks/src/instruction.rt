@@ -1,20 +1,29 @@
 //! The instruction that a raw one is.
-ghost use Rattle.std.specs.Prelude.{◌≡◌};
-ghost use Rattle.stl_tree.specs.Programs.{op_with, op_by, op_of};
+ghost use Rattle.std.specs.Prelude.{◌≡◌, ◌≢◌, Some};
+ghost use Rattle.s7_base.specs.SignedNumbers.{pattern};
+ghost use Rattle.stl_tree.specs.Accumulators.{bits_wide, signed_part};
+ghost use Rattle.stl_tree.specs.Arithmetic.{is_comparison};
+ghost use Rattle.stl_tree.specs.Programs.{adding, combining, comparing, is_compared, loading, on_number, op_by, op_of, op_with, shifting, storing, value_in, with_number, within};
 ghost use Rattle.stl_tree.specs.Raw.{given_place, given};
 ghost use Rattle.stl_tree.specs.declared.given.Given.TheVariants as behind;
+ghost use Rattle.stl_tree.specs.declared.program.Op.TheVariants as op;
+ghost use Rattle.s7_base.specs.declared.word.Width.TheVariants as wide;
 
-use s7_base::Check;
+use s7_base::{Check, Width};
 use status_word::Test;
-use stl_instructions::{is_bit_in_area, mnemonic_named};
-use stl_tree::{BitArg, Given, Mnemonic, Op, Operand, RawOp, RawOperand, RawPlace};
+use stl_instructions::{fits, is_in_area, logic_width, mnemonic_named, most_steps};
+use stl_tree::{
+    BitArg, Constant, Given, LoadArg, LogicRow, Mnemonic, Op, Operand, RawOp, RawOperand, RawPlace,
+    ShiftRow,
+};
 
-/// A written place: a bit of its area.
+/// A written place in its area.
 fn given_place(place: RawPlace) -> Given
     ensures { result ≡ given_place place }
 {
-    if is_bit_in_area(place) {
-        Given::Bit(Operand::Direct(place.area, place.byte, place.bit as u8))
+    if is_in_area(place) {
+        let operand = Operand::Direct(place.area, place.byte, place.bit as u8);
+        Given::At(operand, place.width)
     } else {
         Given::Other
     }
@@ -29,8 +38,39 @@ fn given(operand: &RawOperand) -> Given
         RawOperand::Missing => Given::Nothing,
         RawOperand::At(place) => given_place(*place),
         RawOperand::Flag(test) => Given::Flag(*test),
-        RawOperand::Constant(_) => Given::Number,
+        RawOperand::Stw => Given::Stw,
+        RawOperand::Constant(constant) => Given::Constant(*constant),
         _ => Given::Other,
+    }
+}
+
+/// One of the six signs of comparisons.
+fn is_comparison(test: Test) -> bool
+    ensures { result ≡ is_comparison test }
+{
+    match test {
+        Test::Eq | Test::Ne | Test::Gt | Test::Lt | Test::Ge | Test::Le => true,
+        Test::Uo | Test::Ov | Test::Os | Test::Br => false,
+    }
+}
+
+/// A comparison of words or of double words.
+fn is_compared(test: Test, width: Width) -> bool
+    ensures { result ≡ is_compared test width }
+{
+    match width {
+        Width::Word | Width::Dword => is_comparison(test),
+        Width::Bit | Width::Byte => false,
+    }
+}
+
+fn comparing(test: Test, width: Width) -> Option<Op>
+    ensures { result ≡ comparing test width behind.Nothing }
+{
+    if is_compared(test, width) {
+        Some(Op::Compare(test, width))
+    } else {
+        None
     }
 }
 
@@ -46,13 +86,23 @@ fn with_nothing(what: Mnemonic) -> Option<Op>
         Mnemonic::ClearRlo => Some(Op::ClearRlo),
         Mnemonic::NotRlo => Some(Op::NotRlo),
         Mnemonic::Save => Some(Op::Save),
+        Mnemonic::Arith(row) => Some(Op::Arith(row)),
+        Mnemonic::Compare(test, width) => comparing(test, width),
+        Mnemonic::Shift(row) => Some(Op::Shift(row, None)),
+        Mnemonic::Rlda => Some(Op::Rlda),
+        Mnemonic::Rrda => Some(Op::Rrda),
+        Mnemonic::Logic(row) => Some(Op::Logic(row, None)),
+        Mnemonic::Unary(row) => Some(Op::Unary(row)),
+        Mnemonic::Tak => Some(Op::Tak),
+        Mnemonic::Push => Some(Op::Push),
+        Mnemonic::Pop => Some(Op::Pop),
         _ => None,
     }
 }
 
 /// An instruction on a bit.
 fn with_bit(what: Mnemonic, bit: Operand) -> Option<Op>
-    ensures { result ≡ op_with what (behind.Bit bit) }
+    ensures { result ≡ op_with what (behind.At bit wide.Bit) }
 {
     match what {
         Mnemonic::Check(check) => Some(Op::Check(check, BitArg::At(bit))),
@@ -61,6 +111,18 @@ fn with_bit(what: Mnemonic, bit: Operand) -> Option<Op>
         Mnemonic::Reset => Some(Op::Reset(bit)),
         Mnemonic::EdgeUp => Some(Op::EdgeUp(bit)),
         Mnemonic::EdgeDown => Some(Op::EdgeDown(bit)),
+        _ => None,
+    }
+}
+
+/// An instruction on a byte, a word or a double word.
+fn with_place(what: Mnemonic, place: Operand, width: Width) -> Option<Op>
+    requires { width ≢ wide.Bit }
+    ensures { result ≡ op_with what (behind.At place width) }
+{
+    match what {
+        Mnemonic::Load => Some(Op::Load(LoadArg::At(place, width))),
+        Mnemonic::Transfer => Some(Op::Transfer(place, width)),
         _ => None,
     }
 }
@@ -75,13 +137,151 @@ fn with_flag(what: Mnemonic, test: Test) -> Option<Op>
     }
 }
 
-/// An instruction with a number.
-fn with_number(what: Mnemonic) -> Option<Op>
-    ensures { result ≡ op_with what behind.Number }
+/// An instruction on the whole status word.
+fn with_stw(what: Mnemonic) -> Option<Op>
+    ensures { result ≡ op_with what behind.Stw }
 {
     match what {
-        Mnemonic::Nop => Some(Op::Nop),
+        Mnemonic::Load => Some(Op::LoadStw),
+        Mnemonic::Transfer => Some(Op::TransferStw),
         _ => None,
+    }
+}
+
+/// A constant as a number of 16 bits.
+fn word_number(value: u32) -> i16
+    ensures { result ≡ signed_part wide.Word value }
+{
+    ((value & 0xffff) as u16).cast_signed()
+}
+
+/// A constant as a number of 32 bits.
+fn dword_number(value: u32) -> i32
+    ensures { result ≡ signed_part wide.Dword value }
+{
+    value.cast_signed()
+}
+
+/// A plain number is added to the low word, another constant to the whole.
+fn adding(constant: Constant) -> Op
+    ensures { Some result ≡ adding (behind.Constant constant) }
+{
+    if constant.signed {
+        Op::AddWord(word_number(constant.value))
+    } else {
+        Op::AddDword(dword_number(constant.value))
+    }
+}
+
+/// A number of 8 bits.
+fn byte_of(constant: Constant) -> Option<u8>
+    ensures { result ≡ within 8 constant.value }
+{
+    if constant.value < 256 {
+        Some(constant.value as u8)
+    } else {
+        None
+    }
+}
+
+fn incrementing(constant: Constant) -> Option<Op>
+    ensures { result ≡ with_number op.Inc (behind.Constant constant) }
+{
+    Some(Op::Inc(byte_of(constant)?))
+}
+
+fn decrementing(constant: Constant) -> Option<Op>
+    ensures { result ≡ with_number op.Dec (behind.Constant constant) }
+{
+    Some(Op::Dec(byte_of(constant)?))
+}
+
+fn passing(constant: Constant) -> Option<Op>
+    ensures { result ≡ with_number (λ n. op.Nop) (behind.Constant constant) }
+{
+    match byte_of(constant) {
+        Some(_) => Some(Op::Nop),
+        None => None,
+    }
+}
+
+/// A shift or a rotation by a constant.
+fn shifting(row: ShiftRow, constant: Constant) -> Option<Op>
+    ensures { result ≡ shifting row (behind.Constant constant) }
+{
+    if constant.value <= u32::from(most_steps(row)) {
+        Some(Op::Shift(row, Some(constant.value as u8)))
+    } else {
+        None
+    }
+}
+
+/// A plain number with its sign extended to a double word.
+fn extended(value: u32) -> u32
+    ensures { result ≡ pattern 32 (signed_part wide.Word value) }
+{
+    i32::from(word_number(value)).cast_unsigned()
+}
+
+/// The value of a constant in a width.
+fn value_in(width: Width, constant: Constant) -> u32
+    ensures { result ≡ value_in width constant }
+{
+    match width {
+        Width::Dword if constant.signed => extended(constant.value),
+        _ => constant.value,
+    }
+}
+
+/// A number that has room in a width.
+fn within(width: Width, value: u32) -> Option<u32>
+    ensures { result ≡ within (bits_wide width) value }
+{
+    let has_room = match width {
+        Width::Bit => value < 2,
+        Width::Byte => value < 256,
+        Width::Word => value < 65_536,
+        Width::Dword => true,
+    };
+    if has_room { Some(value) } else { None }
+}
+
+/// Word logic with a constant.
+fn combining(row: LogicRow, constant: Constant) -> Option<Op>
+    ensures { result ≡ combining row (behind.Constant constant) }
+{
+    let width = logic_width(row);
+    if fits(width, constant) {
+        let value = within(width, value_in(width, constant))?;
+        Some(Op::Logic(row, Some(value)))
+    } else {
+        None
+    }
+}
+
+/// An instruction with a constant.
+fn with_constant(what: Mnemonic, constant: Constant) -> Option<Op>
+    ensures { result ≡ op_with what (behind.Constant constant) }
+{
+    match what {
+        Mnemonic::Load => Some(Op::Load(LoadArg::Constant(constant.value))),
+        Mnemonic::Plus => Some(adding(constant)),
+        Mnemonic::Inc => incrementing(constant),
+        Mnemonic::Dec => decrementing(constant),
+        Mnemonic::Shift(row) => shifting(row, constant),
+        Mnemonic::Logic(row) => combining(row, constant),
+        Mnemonic::Nop => passing(constant),
+        _ => None,
+    }
+}
+
+/// An instruction on a place of a width.
+fn with_operand(what: Mnemonic, operand: Operand, width: Width) -> Option<Op>
+    ensures { result ≡ op_with what (behind.At operand width) }
+{
+    match width {
+        Width::Bit => with_bit(what, operand),
+        Width::Byte | Width::Word | Width::Dword => with_place(what, operand, width),
     }
 }
 
@@ -92,9 +292,10 @@ fn op_with(what: Mnemonic, given: Given) -> Option<Op>
 {
     match given {
         Given::Nothing => with_nothing(what),
-        Given::Bit(bit) => with_bit(what, bit),
+        Given::At(operand, width) => with_operand(what, operand, width),
         Given::Flag(test) => with_flag(what, test),
-        Given::Number => with_number(what),
+        Given::Stw => with_stw(what),
+        Given::Constant(constant) => with_constant(what, constant),
         Given::Other => None,
     }
 }

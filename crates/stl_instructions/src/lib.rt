@@ -7,7 +7,7 @@
 pub use constant::fits;
 pub use laws::{instructions_have_forms, mnemonics_are_longest};
 pub use number::are_digits;
-pub use operand::{is_in_area, is_numbered};
+pub use operand::{is_in_area, is_numbered, logic_width, most_steps};
 pub use statement::{begins_with_label, instruction};
 pub use table::{begins_with_mnemonic, mnemonic_named};
 pub use words::{is_sign, is_word, is_word_kind};

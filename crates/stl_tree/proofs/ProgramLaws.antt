@@ -133,11 +133,12 @@ compared_is t width.Bit e = absurd cc
 compared_is t width.Byte e = absurd cc
 
 comparing_is : (t : Test) (w : Width) (g : Given) → MayBe (comparing t w g)
-comparing_is t w g = by (is_compared t w) refl
+comparing_is t w behind.Nothing = by (is_compared t w) refl
   where
-    by : (b : Bool) → is_compared t w ≡ b → MayBe (if b then alone (op.Compare t w) g else None)
-    by true e = alone_is (op.Compare t w) (compared_is t w e) g
+    by : (b : Bool) → is_compared t w ≡ b → MayBe (if b then Some (op.Compare t w) else None)
+    by true e = compared_is t w e
     by false e = tt
+comparing_is t w more = tt
 
 with_number_is : (o : ℕ → Op) → ((n : ℕ) → n < 2 ^ 8 → HasOperand (o n)) → (g : Given) → MayBe (with_number o g)
 with_number_is o h (behind.Constant c) = within_is 8 c.value o (λ k. h c.value k)

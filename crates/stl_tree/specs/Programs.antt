@@ -101,7 +101,8 @@ is_compared t w = false
 
 -- a comparison
 abbrev pub comparing : Test → Width → Given → Option Op
-comparing t w g = if is_compared t w then alone (op.Compare t w) g else None
+comparing t w behind.Nothing = if is_compared t w then Some (op.Compare t w) else None
+comparing t w more = None
 
 -- an instruction with a number of 8 bits
 abbrev pub with_number : (ℕ → Op) → Given → Option Op
