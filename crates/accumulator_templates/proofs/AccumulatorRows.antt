@@ -7,10 +7,8 @@ use Rattle.stl_tree.specs.Accumulators.{loaded}
 use Rattle.stl_tree.specs.Registers.{RegisterValues}
 use Rattle.st_tree.specs.State.{State, with_register}
 use Rattle.st_tree.specs.Value.{value}
-use Rattle.st_tree.specs.declared.state.Value.{Value}
 use Rattle.st_tree.specs.declared.expr.Expr.{Expr}
 use Rattle.st_tree.specs.declared.program.Located.{Located}
-use Rattle.st_tree.specs.declared.program.Stmt.{Stmt}
 use Rattle.accumulator_templates.specs.Moves.{taken_of}
 use Rattle.accumulator_templates.proofs.Worths.{dword}
 use Rattle.row_templates.specs.Builders.{set_of}

@@ -1,5 +1,5 @@
 -- ITD, INVI, INVD, CAW and CAD do their rows.
-use Rattle.std.proofs.Common.{◌≡◌, ℕ, ◌+◌, ◌-◌, ◌*◌, ◌/◌, ◌%◌, ◌^◌, ◌<◌, List, [], Ok, refl, sym, ap, ◌∙◌, arith}
+use Rattle.std.proofs.Common.{◌≡◌, ℕ, ◌+◌, ◌-◌, ◌*◌, ◌/◌, ◌%◌, ◌^◌, ◌<◌, List, [], Ok, refl, ap, ◌∙◌, arith}
 use Rattle.std.specs.Prelude.{ℤ}
 use Rattle.s7_base.specs.SignedNumbers.{number, pattern}
 use Rattle.s7_base.specs.declared.register.Reg.TheVariants as reg
@@ -12,12 +12,12 @@ use Rattle.st_tree.specs.declared.expr.Expr.{Expr}
 use Rattle.st_tree.specs.declared.expr.ShiftOp.TheVariants as shift
 use Rattle.st_tree.specs.declared.expr.StType.TheVariants as type
 use Rattle.st_tree.specs.declared.program.Located.{Located}
-use Rattle.accumulator_templates.specs.Conversions.{byte_above_of, cad_of, caw_of, invd_of, invi_of, itd_of, low_byte_of, reversed_value, shifted_of}
+use Rattle.accumulator_templates.specs.Conversions.{byte_above_of, cad_of, caw_of, invd_of, invi_of, itd_of, low_byte_of, reversed_value, shifted_of, three_reversed, two_reversed}
 use Rattle.accumulator_templates.specs.Parts.{cut_of, with_low_of}
 use Rattle.accumulator_templates.proofs.AccumulatorRows.{one_set}
 use Rattle.accumulator_templates.proofs.Patterns.{pattern_below_32}
 use Rattle.accumulator_templates.proofs.Worths.{dword, high_first, low_worth, word}
-use Rattle.row_templates.specs.Builders.{convert_of, not_of, or_of, read_of}
+use Rattle.row_templates.specs.Builders.{convert_of, not_of, read_of}
 use Rattle.row_templates.proofs.Alike.{AreInRange}
 use Rattle.row_templates.proofs.RegisterRows.{IsRow}
 use Rattle.row_templates.proofs.Stages.{known, parts, stage}
@@ -59,15 +59,22 @@ module _ (g : List Located) (s : State) (used : ℕ) (r : RegisterValues) (sta :
   low_set : (e : Expr) (w : ℕ) → w < 2 ^ 16 → value g e before ≡ Ok (word w) → value g (with_low_of e) before ≡ Ok (dword (r.accu1 / 2 ^ 16 * 2 ^ 16 + w))
   low_set e w h worth = low_worth g s used [] (known r sta) r.accu1 refl range.accu1 e w h worth
 
-  invi_worth : value g (not_of (cut_of width.Word (read_of reg.Accu1))) before ≡ Ok (word (2 ^ 16 - 1 - r.accu1 % 2 ^ 16))
+  -- the right sides that go to the low word
+  abbrev inverted_value : Expr
+  inverted_value = not_of (cut_of width.Word (read_of reg.Accu1))
+
+  abbrev turned_value : Expr
+  turned_value = shifted_of shift.Rol (cut_of width.Word (read_of reg.Accu1)) 8
+
+  invi_worth : value g inverted_value before ≡ Ok (word (2 ^ 16 - 1 - r.accu1 % 2 ^ 16))
   invi_worth = simp (parts, inverted_word)
 
   pub invi_row : IsRow g s used invi_of r (inverted width.Word r) sta
   invi_row =
       let a : r.accu1 < 2 ^ 32 = range.accu1 in
       let w : 2 ^ 16 - 1 - r.accu1 % 2 ^ 16 < 2 ^ 16 = omega arith in
-      one_set g s used r sta range (with_low_of (not_of (cut_of width.Word (read_of reg.Accu1)))) (inverted width.Word r).accu1 (omega arith)
-      (low_set (not_of (cut_of width.Word (read_of reg.Accu1))) (2 ^ 16 - 1 - r.accu1 % 2 ^ 16) w invi_worth)
+      one_set g s used r sta range (with_low_of inverted_value) (inverted width.Word r).accu1 (omega arith)
+      (low_set inverted_value (2 ^ 16 - 1 - r.accu1 % 2 ^ 16) w invi_worth)
 
   pub invd_row : IsRow g s used invd_of r (inverted width.Dword r) sta
   invd_row =
@@ -78,15 +85,15 @@ module _ (g : List Located) (s : State) (used : ℕ) (r : RegisterValues) (sta :
   abbrev turned : ℕ
   turned = r.accu1 % 2 ^ 8 * 2 ^ 8 + r.accu1 / 2 ^ 8 % 2 ^ 8
 
-  caw_worth : value g (shifted_of shift.Rol (cut_of width.Word (read_of reg.Accu1)) 8) before ≡ Ok (word turned)
+  caw_worth : value g turned_value before ≡ Ok (word turned)
   caw_worth = simp (parts, turned_word)
 
   pub caw_row : IsRow g s used caw_of r (word_reversed r) sta
   caw_row =
       let a : r.accu1 < 2 ^ 32 = range.accu1 in
       let w : turned < 2 ^ 16 = omega arith in
-      one_set g s used r sta range (with_low_of (shifted_of shift.Rol (cut_of width.Word (read_of reg.Accu1)) 8)) (word_reversed r).accu1 (omega arith)
-      (low_set (shifted_of shift.Rol (cut_of width.Word (read_of reg.Accu1)) 8) turned w caw_worth)
+      one_set g s used r sta range (with_low_of turned_value) (word_reversed r).accu1 (omega arith)
+      (low_set turned_value turned w caw_worth)
 
   -- CAD, byte by byte
 
@@ -102,7 +109,7 @@ module _ (g : List Located) (s : State) (used : ℕ) (r : RegisterValues) (sta :
   fourth : value g (byte_above_of 24) before ≡ Ok (dword (r.accu1 / 2 ^ 24 % 2 ^ 8))
   fourth = let a : r.accu1 < 2 ^ 32 = range.accu1 in simp (parts, highest_byte)
 
-  two_bytes : value g (or_of (shifted_of shift.Shl (low_byte_of (read_of reg.Accu1)) 24) (shifted_of shift.Shl (byte_above_of 8) 16)) before
+  two_bytes : value g two_reversed before
       ≡ Ok (dword ((r.accu1 % 2 ^ 8 * 2 ^ 8 + r.accu1 / 2 ^ 8 % 2 ^ 8) * 2 ^ 16))
   two_bytes =
       let same : r.accu1 % 2 ^ 8 * 2 ^ 24 + r.accu1 / 2 ^ 8 % 2 ^ 8 * 2 ^ 16 ≡ (r.accu1 % 2 ^ 8 * 2 ^ 8 + r.accu1 / 2 ^ 8 % 2 ^ 8) * 2 ^ 16 = omega arith in
@@ -110,12 +117,12 @@ module _ (g : List Located) (s : State) (used : ℕ) (r : RegisterValues) (sta :
       (r.accu1 % 2 ^ 8) 24 (r.accu1 / 2 ^ 8 % 2 ^ 8 * 2 ^ 16) (omega arith) (omega arith) first second
       ∙ ap (λ (n : ℕ). Ok (dword n)) same
 
-  three_bytes : value g (or_of (or_of (shifted_of shift.Shl (low_byte_of (read_of reg.Accu1)) 24) (shifted_of shift.Shl (byte_above_of 8) 16)) (shifted_of shift.Shl (byte_above_of 16) 8)) before
+  three_bytes : value g three_reversed before
       ≡ Ok (dword (((r.accu1 % 2 ^ 8 * 2 ^ 8 + r.accu1 / 2 ^ 8 % 2 ^ 8) * 2 ^ 8 + r.accu1 / 2 ^ 16 % 2 ^ 8) * 2 ^ 8))
   three_bytes =
       let high : ℕ = r.accu1 % 2 ^ 8 * 2 ^ 8 + r.accu1 / 2 ^ 8 % 2 ^ 8 in
       let same : high * 2 ^ 16 + r.accu1 / 2 ^ 16 % 2 ^ 8 * 2 ^ 8 ≡ (high * 2 ^ 8 + r.accu1 / 2 ^ 16 % 2 ^ 8) * 2 ^ 8 = omega arith in
-      high_first g before (or_of (shifted_of shift.Shl (low_byte_of (read_of reg.Accu1)) 24) (shifted_of shift.Shl (byte_above_of 8) 16)) (shifted_of shift.Shl (byte_above_of 16) 8)
+      high_first g before two_reversed (shifted_of shift.Shl (byte_above_of 16) 8)
       high 16 (r.accu1 / 2 ^ 16 % 2 ^ 8 * 2 ^ 8) (omega arith) (omega arith) two_bytes third
       ∙ ap (λ (n : ℕ). Ok (dword n)) same
 
@@ -125,6 +132,6 @@ module _ (g : List Located) (s : State) (used : ℕ) (r : RegisterValues) (sta :
       let high : ℕ = (r.accu1 % 2 ^ 8 * 2 ^ 8 + r.accu1 / 2 ^ 8 % 2 ^ 8) * 2 ^ 8 + r.accu1 / 2 ^ 16 % 2 ^ 8 in
       let same : high * 2 ^ 8 + r.accu1 / 2 ^ 24 % 2 ^ 8 ≡ (dword_reversed r).accu1 = omega arith in
       one_set g s used r sta range reversed_value (dword_reversed r).accu1 (omega arith)
-      (high_first g before (or_of (or_of (shifted_of shift.Shl (low_byte_of (read_of reg.Accu1)) 24) (shifted_of shift.Shl (byte_above_of 8) 16)) (shifted_of shift.Shl (byte_above_of 16) 8)) (byte_above_of 24)
+      (high_first g before three_reversed (byte_above_of 24)
       high 8 (r.accu1 / 2 ^ 24 % 2 ^ 8) (omega arith) (omega arith) three_bytes fourth
       ∙ ap (λ (n : ℕ). Ok (dword n)) same)

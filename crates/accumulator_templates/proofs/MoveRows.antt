@@ -1,5 +1,5 @@
 -- TAK, PUSH, POP and L of a constant do their rows.
-use Rattle.std.proofs.Common.{◌≡◌, ℕ, ◌^◌, ◌<◌, pos, List, [], ◌∷◌, refl}
+use Rattle.std.proofs.Common.{ℕ, ◌^◌, ◌<◌, List, [], ◌∷◌, refl}
 use Rattle.std.specs.Prelude.{ℤ}
 use Rattle.s7_base.specs.declared.register.Reg.TheVariants as reg
 use Rattle.stl_tree.specs.Accumulators.{accu_popped, accu_pushed, accus_exchanged, loaded}

@@ -1,6 +1,6 @@
 -- A number that is read at a place has the width of the place, where each area holds bytes.
-use Rattle.std.proofs.Common.{◌≡◌, ℕ, zero, suc, ◌+◌, ◌*◌, ◌^◌, ◌<◌, Bool, true, false, List, [], ◌∷◌, Option, Some, None, Result, Ok, Err, refl, sym, subst, arith}
-use Rattle.std.specs.Prelude.{All, get_or}
+use Rattle.std.proofs.Common.{◌≡◌, ℕ, zero, suc, ◌+◌, ◌^◌, ◌<◌, Bool, true, false, List, [], ◌∷◌, Option, Some, None, Result, Ok, Err, arith}
+use Rattle.std.specs.Prelude.{All}
 use Rattle.std.specs.Int.{from_bool}
 use Rattle.std.proofs.lemmas.List.Elements.{All-head, All-tail}
 use Rattle.memory_areas.specs.Access.{aimed, and_then, bytes_there, fault_of, read_bit, unless}

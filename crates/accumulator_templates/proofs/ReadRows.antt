@@ -1,13 +1,12 @@
 -- The statements of each instruction read the registers alone that its row reads.
-use Rattle.std.proofs.Common.{◌≡◌, ℕ, pos, Bool, true, false, if◌then◌else◌, List, [], ◌∷◌, ◌++◌, Option, Some, None, inl, inr, refl}
+use Rattle.std.proofs.Common.{ℕ, pos, Bool, true, false, if◌then◌else◌, List, [], ◌∷◌, ◌++◌, Option, Some, None, inl, inr, refl}
 use Rattle.std.specs.Prelude.{ℤ}
 use Rattle.std.specs.Ordering.{int_eq}
 use Rattle.s7_base.specs.declared.register.Reg.{Reg}
 use Rattle.s7_base.specs.declared.register.Reg.TheVariants as reg
 use Rattle.s7_base.specs.declared.word.Width.{Width}
 use Rattle.s7_base.specs.declared.word.Width.TheVariants as width
-use Rattle.stl_tree.specs.Reads.{combined_with, increased_by, is_fixed, reads_of}
-use Rattle.stl_tree.specs.WordLogic.{width_of}
+use Rattle.stl_tree.specs.Reads.{increased_by, is_fixed, reads_of}
 use Rattle.stl_tree.specs.declared.accumulator.LogicRow.{LogicRow}
 use Rattle.stl_tree.specs.declared.accumulator.LogicRow.TheVariants as row
 use Rattle.stl_tree.specs.declared.accumulator.UnaryRow.TheVariants as unary

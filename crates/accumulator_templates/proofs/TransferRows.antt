@@ -1,5 +1,5 @@
 -- T does its row.
-use Rattle.std.proofs.Common.{◌≡◌, ℕ, ◌%◌, ◌^◌, ◌<◌, ◌==◌, pos, Bool, true, false, List, [], ◌∷◌, Ok, refl, ap, subst, ◌∙◌, arith}
+use Rattle.std.proofs.Common.{◌≡◌, ℕ, ◌%◌, ◌^◌, ◌==◌, Bool, true, false, List, Ok, refl, ap, subst, ◌∙◌, arith}
 use Rattle.std.specs.Int.{bit_at}
 use Rattle.std.proofs.lemmas.Nat.Bits.{bit_at_lowest}
 use Rattle.memory_areas.specs.Access.{and_then, write_bit, write_byte, write_word}

@@ -1,5 +1,5 @@
 -- Word logic.
-use Rattle.std.specs.Prelude.{ℕ, ◌==◌, pos, false, not, if◌then◌else◌, List, [], ◌∷◌, ◌++◌, Option, Some, None}
+use Rattle.std.specs.Prelude.{ℕ, ◌==◌, pos, false, not, if◌then◌else◌, List, [], ◌∷◌, Option, Some, None}
 use Rattle.accumulator_templates.specs.Parts.{cut_of, dword_of, with_low_of}
 use Rattle.row_templates.specs.Builders.{binary_of, constant_of, literal_of, local_of, read_of, set_local_of, set_of}
 use Rattle.s7_base.specs.declared.register.Reg.TheVariants as reg
