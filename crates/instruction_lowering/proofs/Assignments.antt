@@ -1,5 +1,18 @@
 -- The statements of a body are assignments, which may stand in a node.
-use Rattle.std.proofs.Common.{Bool, true, false, if◌then◌else◌, List, [], ◌∷◌, ◌++◌, sym, subst}
+use Rattle.std.proofs.Common.{ℕ, pos, Option, Some, None, Bool, true, false, if◌then◌else◌, List, [], ◌∷◌, ◌++◌, sym, subst}
+use Rattle.std.specs.Ordering.{int_eq}
+use Rattle.std.specs.Prelude.{ℤ}
+use Rattle.accumulator_templates.specs.Logic.{computed_of, fixed_of, logic_of}
+use Rattle.accumulator_templates.specs.Sums.{unless_zero}
+use Rattle.arithmetic_templates.proofs.FewReads.{calculated_assigns, compared_assigns, negated_assigns}
+use Rattle.shift_templates.proofs.ShiftSizes.{shift_assigns}
+use Rattle.row_templates.specs.Builders.{set_of}
+use Rattle.s7_base.specs.declared.register.Reg.TheVariants as reg
+use Rattle.s7_base.specs.declared.word.Width.TheVariants as width
+use Rattle.stl_tree.specs.Reads.{is_fixed}
+use Rattle.stl_tree.specs.declared.accumulator.LogicRow.{LogicRow}
+use Rattle.stl_tree.specs.declared.accumulator.UnaryRow.{UnaryRow}
+use Rattle.stl_tree.specs.declared.accumulator.UnaryRow.TheVariants as unary
 use Rattle.s7_base.specs.declared.check.Check.{Check}
 use Rattle.s7_base.specs.declared.check.Check.TheVariants as check
 use Rattle.st_tree.proofs.PartEquations.{out_assign}
@@ -16,7 +29,7 @@ use Rattle.instruction_lowering.specs.declared.statements.OpenBracket.{OpenBrack
 use Rattle.instruction_lowering.specs.declared.statements.Spot.{Spot}
 use Rattle.instruction_lowering.specs.Temporaries.{ends_block}
 use Rattle.instruction_lowering.specs.inner.Lowering.{steps_of}
-use Rattle.instruction_lowering.specs.inner.Templates.{behind, behind_check, behind_close, close_of, statements_of}
+use Rattle.instruction_lowering.specs.inner.Templates.{behind, behind_check, behind_close, close_of, statements_of, unary_of}
 
 two_parts : (xs ys : List Stmt) → AreAssignments xs → AreAssignments ys → AreAssignments (xs ++ ys)
 two_parts [] ys h k = k
@@ -43,9 +56,38 @@ of_brackets : (brackets : List OpenBracket) → AreAssignments (close_of bracket
 of_brackets [] = tt
 of_brackets (o ∷ outer) = of_close o.check o.kept.orb
 
+of_unary : (u : UnaryRow) (used : ℕ) → AreAssignments (unary_of used u)
+of_unary unary.Negi used = negated_assigns used width.Word
+of_unary unary.Negd used = negated_assigns used width.Dword
+of_unary u used = tt
+
+of_sum : (n : ℤ) (e : Expr) → AreAssignments (unless_zero n e)
+of_sum n e = by (int_eq n (pos 0))
+  where
+    by : (zero : Bool) → AreAssignments (if zero then [] else set_of reg.Accu1 e ∷ [])
+    by true = tt
+    by false = tt
+
+of_logic : (used : ℕ) (l : LogicRow) (c : Option ℕ) → AreAssignments (logic_of used l c)
+of_logic used l None = tt
+of_logic used l (Some c) = by (is_fixed l c)
+  where
+    by : (fixed : Bool) → AreAssignments (if fixed then fixed_of c else computed_of used l (Some c))
+    by true = tt
+    by false = tt
+
 of_instruction : (o : Op) (q : Spot) → AreAssignments (statements_of q o)
 of_instruction (op.Check c b) q = of_check c
 of_instruction op.Close q = of_brackets q.brackets
+of_instruction (op.Arith a) q = calculated_assigns q.used a
+of_instruction (op.AddWord n) q = of_sum n _
+of_instruction (op.AddDword n) q = of_sum n _
+of_instruction (op.Inc n) q = of_sum (pos n) _
+of_instruction (op.Dec n) q = of_sum (pos n) _
+of_instruction (op.Compare t w) q = compared_assigns q.used t w
+of_instruction (op.Shift i by) q = shift_assigns q.used i by
+of_instruction (op.Logic l c) q = of_logic q.used l c
+of_instruction (op.Unary u) q = of_unary u q.used
 of_instruction o q = tt
 
 pub are_assignments : (is : List Instr) (q : Spot) → AreAssignments (steps_of q is)

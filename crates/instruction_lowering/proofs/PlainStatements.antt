@@ -29,12 +29,18 @@ use Rattle.stl_tree.specs.declared.program.Op.TheVariants as op
 use Rattle.stl_tree.specs.declared.program.Operand.{Operand}
 use Rattle.row_templates.specs.Builders.{and_of, bit_of, cleared, literal_of, not_of, or_of, read_of, set_of}
 use Rattle.row_templates.proofs.Typing.{AreTyped, IsBool, IsPlainBody, and_is, assigned, cleared_plain, first_typed, left_typed, literal_is, local_is, more, nfc_plain, no_statement, not_is, operand_typed, or_is, read_is, register_is, right_typed, set_plain, xor_is}
-use Rattle.instruction_lowering.specs.Temporaries.{ends_block, types_in, types_of}
+use Rattle.instruction_lowering.specs.Temporaries.{ends_block, types_in, types_of, types_of_unary}
 use Rattle.instruction_lowering.specs.declared.statements.Chain.{Chain}
 use Rattle.instruction_lowering.specs.declared.statements.OpenBracket.{OpenBracket}
 use Rattle.instruction_lowering.specs.declared.statements.Spot.{Spot}
+use Rattle.accumulator_templates.proofs.PlainRows.{add_dword_plain, add_word_plain, cad_plain, caw_plain, dec_plain, exchange_plain, inc_plain, invd_plain, invi_plain, itd_plain, load_plain, logic_plain, pop_plain, push_plain, status_load_plain, status_store_plain, transfer_plain}
+use Rattle.arithmetic_templates.proofs.PlainRows.{calculated_plain, compared_plain, negated_plain}
+use Rattle.digit_templates.proofs.PlainDigits.{btd_plain, bti_plain, dtb_plain, itb_plain}
+use Rattle.shift_templates.proofs.PlainShifts.{any_shift_plain, rlda_plain, rrda_plain}
+use Rattle.stl_tree.specs.declared.accumulator.UnaryRow.{UnaryRow}
+use Rattle.stl_tree.specs.declared.accumulator.UnaryRow.TheVariants as unary
 use Rattle.instruction_lowering.specs.inner.Lowering.{node_of, steps_of}
-use Rattle.instruction_lowering.specs.inner.Templates.{and_joined, answer_of, behind, behind_check, behind_close, chain_at, checked_of, close_of, edge_of, first_spot, keep_of, next_rlo, open_of, outer_of, rlo_before_and, rlo_before_or, running_chain, statements_of, store_of}
+use Rattle.instruction_lowering.specs.inner.Templates.{and_joined, answer_of, behind, behind_check, behind_close, chain_at, checked_of, close_of, edge_of, first_spot, keep_of, next_rlo, open_of, outer_of, rlo_before_and, rlo_before_or, running_chain, statements_of, store_of, unary_of}
 use Rattle.instruction_lowering.proofs.Simulation.{used_behind_one}
 
 module _ (sight : Sight) where
@@ -182,6 +188,22 @@ module _ (sight : Sight) where
 
   -- Instructions
 
+  -- an instruction on ACCU1 alone
+  unary_plain : (u : UnaryRow) (used : ℕ) (rest : List Stmt) → AreTyped sight used (types_of_unary u) → IsPlainBody sight rest → IsPlainBody sight (unary_of used u ++ rest)
+  unary_plain unary.Bti used rest own plain = bti_plain sight used rest plain (first_typed sight used type.Int [] own)
+  unary_plain unary.Btd used rest own plain = btd_plain sight used rest plain (first_typed sight used type.Dint [] own)
+  unary_plain unary.Itb used rest own plain =
+      itb_plain sight used rest plain (first_typed sight used type.Dint (type.Dint ∷ type.Bool ∷ type.Dint ∷ []) own) (own 1 type.Dint refl) (own 2 type.Bool refl) (own 3 type.Dint refl)
+  unary_plain unary.Dtb used rest own plain =
+      dtb_plain sight used rest plain (first_typed sight used type.Lint (type.Lint ∷ type.Bool ∷ type.Lint ∷ []) own) (own 1 type.Lint refl) (own 2 type.Bool refl) (own 3 type.Lint refl)
+  unary_plain unary.Itd used rest own plain = itd_plain sight rest plain
+  unary_plain unary.Invi used rest own plain = invi_plain sight rest plain
+  unary_plain unary.Invd used rest own plain = invd_plain sight rest plain
+  unary_plain unary.Caw used rest own plain = caw_plain sight rest plain
+  unary_plain unary.Cad used rest own plain = cad_plain sight rest plain
+  unary_plain unary.Negi used rest own plain = negated_plain sight rest plain used width.Word own
+  unary_plain unary.Negd used rest own plain = negated_plain sight rest plain used width.Dword own
+
   of_instruction : (o : Op) (q : Spot) (rest : List Stmt) → HasOperand o → AreTyped sight q.used (types_of o) → AreBoolChains q.brackets → IsPlainBody sight rest
       → IsPlainBody sight (statements_of q o ++ rest)
   of_instruction (op.Check c b) q rest h own chains plain =
@@ -209,6 +231,24 @@ module _ (sight : Sight) where
   of_instruction (op.EdgeDown o) q rest h own chains plain =
       edge_plain q.used o (and_of (not_of (read_of reg.Rlo)) (expr.Read (bit_of o))) rest (first_typed sight q.used type.Bool [] own) h
       (and_is sight (not_is sight rlo_bool) (bit_is o h)) plain
+  of_instruction (op.Load a) q rest h own chains plain = load_plain sight rest plain a h
+  of_instruction (op.Transfer o w) q rest h own chains plain = transfer_plain sight rest plain o w h
+  of_instruction op.LoadStw q rest h own chains plain = status_load_plain sight rest plain
+  of_instruction op.TransferStw q rest h own chains plain = status_store_plain sight rest plain
+  of_instruction (op.Arith a) q rest h own chains plain = calculated_plain sight rest plain q.used a own
+  of_instruction (op.AddWord n) q rest h own chains plain = add_word_plain sight rest plain n h
+  of_instruction (op.AddDword n) q rest h own chains plain = add_dword_plain sight rest plain n h
+  of_instruction (op.Inc n) q rest h own chains plain = inc_plain sight rest plain n h
+  of_instruction (op.Dec n) q rest h own chains plain = dec_plain sight rest plain n h
+  of_instruction (op.Compare t w) q rest h own chains plain = compared_plain sight rest plain q.used t w own
+  of_instruction (op.Shift i by) q rest h own chains plain = any_shift_plain sight q.used rest plain i by h own
+  of_instruction op.Rlda q rest h own chains plain = rlda_plain sight q.used rest plain own
+  of_instruction op.Rrda q rest h own chains plain = rrda_plain sight q.used rest plain own
+  of_instruction (op.Logic l c) q rest h own chains plain = logic_plain sight rest plain q.used l c h own
+  of_instruction (op.Unary u) q rest h own chains plain = unary_plain u q.used rest own plain
+  of_instruction op.Tak q rest h own chains plain = exchange_plain sight rest plain q.used own
+  of_instruction op.Push q rest h own chains plain = push_plain sight rest plain
+  of_instruction op.Pop q rest h own chains plain = pop_plain sight rest plain
   of_instruction op.Nop q rest h own chains plain = plain
   of_instruction op.BlockEnd q rest h own chains plain = plain
 
