@@ -245,8 +245,8 @@ fn bodies_are_translated(rt: HostRuntime) -> Result<(), Fail> {
 
 /// Bodies that are refused, and the line that is written.
 static REFUSED_BODIES: [(&[u8], &[u8]); 19] = [
-    (b"L 5;", b"line 3: Unsupported(NotBuilt)\n"),
-    (b"SP T 1;", b"line 3: Unsupported(NotBuilt)\n"),
+    (b"JU a;", b"line 3: Unsupported(NotBuilt)\n"),
+    (b"SP T 1;", b"line 3: Unsupported(Timer)\n"),
     (b"a: A I 0.0;", b"line 3: Unsupported(NotBuilt)\n"),
     (b"A I 0 .0;", b"line 3: Unsupported(NotBuilt)\n"),
     (b"A I 2048.0;", b"line 3: Unsupported(NotBuilt)\n"),
@@ -617,7 +617,7 @@ static RUNS: [Run; 21] = [
     ("check", b"", b"", Status::Done, b"accepted\n"),
     (
         "check",
-        b"L 5;",
+        b"JU a;",
         b"",
         Status::Refused,
         b"line 3: Unsupported(NotBuilt)\n",
