@@ -15,4 +15,6 @@ mod stl_lexer_rows;
 #[cfg(test)]
 mod stl_machine_rows;
 #[cfg(test)]
+mod stl_operands_rows;
+#[cfg(test)]
 mod wants;

@@ -11,19 +11,29 @@ use stl_instructions::{instruction, mnemonic_named};
 use stl_lexer::tokens;
 use stl_tree::{Constant, Mnemonic, RawOperand, RawPlace};
 
-/// An operand of bit logic.
+/// An operand.
 #[derive(Clone, Copy, Debug, PartialEq)]
-enum Wanted {
+pub enum Wanted {
     Nothing,
     Bit(AreaName, u32, u32),
+    Place(AreaName, Width, u32),
     Status(Test),
+    Stw,
+
+    /// A plain number, by its pattern.
     Number(u32),
+
+    /// Binary digits.
+    Binary(Width, u32),
+
+    /// Another constant.
+    Value(Width, u32),
 }
 
-use Wanted::{Bit, Nothing, Number, Status};
+use Wanted::{Binary, Bit, Nothing, Number, Place, Status, Stw, Value};
 
 /// A statement without its `;`, the name of its mnemonic, what that is, and the operand.
-type Row = (&'static [u8], &'static [u8], Mnemonic, Wanted);
+pub type Row = (&'static [u8], &'static [u8], Mnemonic, Wanted);
 
 const AND: Mnemonic = Mnemonic::Check(Check::A);
 
@@ -130,7 +140,7 @@ static CHECKS: [(&[u8], Check); 6] = [
 ];
 
 /// Statements that begin with a mnemonic or a label and have no form that is built, each on line 1.
-static NOT_BUILT: [&[u8]; 63] = [
+static NOT_BUILT: [&[u8]; 48] = [
     b"A",
     b"X",
     b"AN",
@@ -172,21 +182,6 @@ static NOT_BUILT: [&[u8]; 63] = [
     b"NOP 0 0",
     b"NOP B#16#5",
     b"BLD M 0.0",
-    b"A T 1",
-    b"A T1 foo",
-    b"S C 1",
-    b"A PIW 0",
-    b"A PIW [MW 0]",
-    b"SP T 1",
-    b"SE{x}T",
-    b"CU C 1",
-    b"MCR(",
-    b"MCR (",
-    b")MCR",
-    b"ENT",
-    b"+R",
-    b"L 5",
-    b"+I",
     b"JU a",
     b"CALL FC 1",
     b"A \"name\"",
@@ -223,34 +218,49 @@ static BAD: [&[u8]; 20] = [
 /// Statements whose first token stands on this line, and why they are refused.
 static LINES: [(&[u8], u32, Reason); 5] = [
     (b"\n\nFOO\n5", 3, Reason::BadStatement),
-    (b"\nA\nT 1", 2, Reason::Unsupported(Kind::NotBuilt)),
+    (b"\nA\nT 1", 2, Reason::Unsupported(Kind::Timer)),
     (b"// A\n\nA I\n0.8", 3, Reason::Unsupported(Kind::NotBuilt)),
     (b"\na\n: SET", 2, Reason::Unsupported(Kind::NotBuilt)),
     (b"", 1, Reason::BadStatement),
 ];
 
-/// The operand, where it is one of bit logic.
+fn place_of(place: &RawPlace) -> Option<Wanted> {
+    match place {
+        RawPlace {
+            block: None,
+            area,
+            width: Width::Bit,
+            byte,
+            bit,
+        } => Some(Bit(*area, *byte, *bit)),
+        RawPlace {
+            block: None,
+            area,
+            width,
+            byte,
+            bit: 0,
+        } => Some(Place(*area, *width, *byte)),
+        _ => None,
+    }
+}
+
+fn constant_of(constant: &Constant) -> Option<Wanted> {
+    match (constant.signed, constant.binary) {
+        (true, false) if constant.width == Width::Word => Some(Number(constant.value)),
+        (false, true) => Some(Binary(constant.width, constant.value)),
+        (false, false) => Some(Value(constant.width, constant.value)),
+        _ => None,
+    }
+}
+
+/// The operand, where it is one that can be wanted.
 fn operand_of(operand: &RawOperand) -> Option<Wanted> {
     match operand {
         RawOperand::Missing => Some(Nothing),
-        RawOperand::At(
-            RawPlace {
-                block: None,
-                area,
-                width: Width::Bit,
-                byte,
-                bit,
-            },
-        ) => Some(Bit(*area, *byte, *bit)),
+        RawOperand::At(place) => place_of(place),
         RawOperand::Flag(test) => Some(Status(*test)),
-        RawOperand::Constant(
-            Constant {
-                width: Width::Word,
-                signed: true,
-                binary: false,
-                value,
-            },
-        ) => Some(Number(*value)),
+        RawOperand::Stw => Some(Stw),
+        RawOperand::Constant(constant) => constant_of(constant),
         _ => None,
     }
 }
@@ -278,7 +288,7 @@ fn wants_instruction(
     Ok(())
 }
 
-fn want_instructions(rt: &impl Abort, alloc: Global, rows: &[Row]) -> Result<(), Fail> {
+pub fn want_instructions(rt: &impl Abort, alloc: Global, rows: &[Row]) -> Result<(), Fail> {
     for (text, name, what, operand) in rows {
         wants_instruction(rt, alloc, text, (*name, *what), *operand)?;
     }
@@ -312,7 +322,7 @@ fn reads_status_operands(rt: HostRuntime) -> Result<(), Fail> {
 }
 
 /// A statement is refused on this line, for this reason.
-fn wants_refusal(
+pub fn wants_refusal(
     rt: &impl Abort,
     alloc: Global,
     text: &[u8],
@@ -326,7 +336,7 @@ fn wants_refusal(
     Ok(())
 }
 
-fn want_refusals(
+pub fn want_refusals(
     rt: &impl Abort,
     alloc: Global,
     rows: &[&[u8]],
