@@ -1,5 +1,5 @@
 -- How many statements the instructions of a body become.
-use Rattle.std.proofs.Common.{◌*◌, ◌≤◌, Bool, true, false, if◌then◌else◌, List, [], ◌∷◌, length, arith}
+use Rattle.std.proofs.Common.{ℕ, ◌*◌, ◌≤◌, Bool, true, false, if◌then◌else◌, List, [], ◌∷◌, length, arith}
 use Rattle.std.proofs.lemmas.List.{length-append}
 use Rattle.s7_base.specs.declared.check.Check.{Check}
 use Rattle.s7_base.specs.declared.check.Check.TheVariants as check
@@ -60,7 +60,7 @@ of_instruction (op.AddDword n) q = (add_dword_few n).statements
 of_instruction (op.Inc n) q = (inc_few n).statements
 of_instruction (op.Dec n) q = (dec_few n).statements
 of_instruction (op.Compare t w) q = compared_length q.used t w
-of_instruction (op.Shift i by) q = (shift_few q.used i by).statements
+of_instruction (op.Shift i by) q = (shift_few q.used i by).0
 of_instruction (op.Logic l c) q = (logic_few q.used l c).statements
 of_instruction (op.Unary u) q = of_unary u q.used
 of_instruction o q = omega arith

@@ -62,8 +62,10 @@ fn push_types(types: &mut List<StType>, op: &Op) -> Result<(), NoMemory>
 fn push_all(types: &mut List<StType>, more: &[StType]) -> Result<(), NoMemory>
     ensures { OnOk result (types.new ≡ types.old ++ more.now) }
 {
-    for ty in more {
+    let mut rest = more;
+    while let Some((ty, behind)) = rest.split_first() {
         types.push(*ty)?;
+        rest = behind;
     }
     Ok(())
 }
