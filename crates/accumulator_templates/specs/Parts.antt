@@ -1,4 +1,5 @@
 -- Parts of the accumulators, as expressions.
+pub use Rattle.row_templates.specs.Builders.{with_low_of}
 use Rattle.std.specs.Prelude.{ℕ, pos}
 use Rattle.row_templates.specs.Builders.{and_of, binary_of, constant_of, convert_of, or_of, read_of, select_of}
 use Rattle.s7_base.specs.declared.register.Reg.TheVariants as reg
@@ -37,7 +38,3 @@ extended_of width.Dword e = e
 -- ACCU1 with another low byte
 abbrev pub with_byte_of : Expr → Expr
 with_byte_of e = or_of (and_of (read_of reg.Accu1) (dword_of 0xFFFFFF00)) (extended_of width.Byte e)
-
--- ACCU1 with another low word
-abbrev pub with_low_of : Expr → Expr
-with_low_of e = or_of (and_of (read_of reg.Accu1) (dword_of 0xFFFF0000)) (extended_of width.Word e)

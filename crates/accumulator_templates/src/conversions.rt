@@ -2,8 +2,8 @@
 ghost use Rattle.std.specs.Prelude.{◌≡◌, ◌++◌, IfOk, OnOk};
 ghost use Rattle.accumulator_templates.specs.Conversions.{byte_above_of, cad_of, caw_of, invd_of, invi_of, itd_of, low_byte_of, reversed_value, shifted_of};
 
-use crate::parts::{cut, extended, with_low};
-use row_templates::{constant, convert, not, or, read, set, shift};
+use crate::parts::{cut, extended};
+use row_templates::{constant, convert, not, or, read, set, shift, with_low};
 use s7_base::{List, NoMemory, Reg, Width};
 use st_tree::{Expr, ShiftOp, StType, Stmt};
 use std::alloc::Global;

@@ -4,8 +4,8 @@ ghost use Rattle.accumulator_templates.specs.Logic.{combined_of, computed_of, fi
 ghost use Rattle.stl_tree.specs.Reads.{is_fixed};
 ghost use Rattle.stl_tree.specs.WordLogic.{width_of};
 
-use crate::parts::{cut, dword, with_low};
-use row_templates::{binary, constant, literal, local, read, set, set_local};
+use crate::parts::{cut, dword};
+use row_templates::{binary, constant, literal, local, read, set, set_local, with_low};
 use s7_base::{List, NoMemory, Reg, Width};
 use st_tree::{BinaryOp, Expr, StType, Stmt};
 use std::alloc::Global;

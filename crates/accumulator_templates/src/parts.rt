@@ -1,6 +1,6 @@
 //! Parts of the accumulators, as expressions.
 ghost use Rattle.std.specs.Prelude.{◌≡◌, IfOk};
-ghost use Rattle.accumulator_templates.specs.Parts.{any_bit_of, bits_where_of, cut_of, dword_of, extended_of, with_byte_of, with_low_of};
+ghost use Rattle.accumulator_templates.specs.Parts.{any_bit_of, bits_where_of, cut_of, dword_of, extended_of, with_byte_of};
 
 use row_templates::{and, binary, constant, convert, or, read, select};
 use s7_base::{NoMemory, Reg, Width};
@@ -59,12 +59,4 @@ pub fn with_byte(alloc: Global, pattern: Expr) -> Result<Expr, NoMemory>
 {
     let kept = and(alloc, read(Reg::Accu1), dword(0xFFFF_FF00))?;
     or(alloc, kept, extended(alloc, Width::Byte, pattern)?)
-}
-
-/// ACCU1 with another low word.
-pub fn with_low(alloc: Global, pattern: Expr) -> Result<Expr, NoMemory>
-    ensures { IfOk result (λ value. value ≡ with_low_of pattern) }
-{
-    let kept = and(alloc, read(Reg::Accu1), dword(0xFFFF_0000))?;
-    or(alloc, kept, extended(alloc, Width::Word, pattern)?)
 }

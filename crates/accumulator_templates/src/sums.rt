@@ -2,8 +2,8 @@
 ghost use Rattle.std.specs.Prelude.{◌≡◌, ◌++◌, IfOk, OnOk};
 ghost use Rattle.accumulator_templates.specs.Sums.{add_dword_of, add_word_of, dec_of, inc_of, sum_of};
 
-use crate::parts::{with_byte, with_low};
-use row_templates::{binary, constant, convert, read, set};
+use crate::parts::with_byte;
+use row_templates::{binary, constant, convert, read, set, with_low};
 use s7_base::{List, NoMemory, Reg};
 use st_tree::{BinaryOp, Expr, StType, Stmt};
 use std::alloc::Global;

@@ -1,4 +1,5 @@
 -- The parts of which templates of calculations are made: numbers of a width and wider ones, and what ends a calculation.
+pub use Rattle.row_templates.specs.Builders.{with_low_of}
 use Rattle.std.specs.Prelude.{ℕ, pos, List, [], ◌∷◌}
 use Rattle.row_templates.specs.Builders.{and_of, binary_of, constant_of, convert_of, local_of, or_of, read_of, set_of}
 use Rattle.s7_base.specs.declared.register.Reg.{Reg}
@@ -46,10 +47,6 @@ positive_of ty i = binary_of binary.Gt (local_of i) (constant_of ty (pos 0))
 -- a local is below zero
 abbrev pub negative_of : StType → ℕ → Expr
 negative_of ty i = binary_of binary.Lt (local_of i) (constant_of ty (pos 0))
-
--- ACCU1 with another low word
-abbrev pub with_low_of : Expr → Expr
-with_low_of e = or_of (and_of (read_of reg.Accu1) (constant_of type.Dword (pos 4294901760))) (convert_of type.Word type.Dword e)
 
 -- ACCU1 with a number of a width
 abbrev pub with_number_of : Width → Expr → Expr

@@ -1,8 +1,8 @@
 //! Numbers of a width and wider ones, and what ends a calculation.
 ghost use Rattle.std.specs.Prelude.{◌≡◌, ◌++◌, IfOk, OnOk};
-ghost use Rattle.arithmetic_templates.specs.Numbers.{cut_of, differs_of, ending_of, narrow, negative_of, number_of, positive_of, wide, wide_number_of, with_low_of, with_number_of};
+ghost use Rattle.arithmetic_templates.specs.Numbers.{cut_of, differs_of, ending_of, narrow, negative_of, number_of, positive_of, wide, wide_number_of, with_number_of};
 
-use row_templates::{and, binary, constant, convert, local, or, read, set};
+use row_templates::{and, binary, constant, convert, local, or, read, set, with_low};
 use s7_base::{List, NoMemory, Reg, Width};
 use st_tree::{BinaryOp, Expr, StType, Stmt};
 use std::alloc::Global;
@@ -69,21 +69,6 @@ pub fn negative(alloc: Global, ty: StType, index: u32) -> Result<Expr, NoMemory>
     ensures { IfOk result (λ value. value ≡ negative_of ty index) }
 {
     binary(alloc, BinaryOp::Lt, local(index), constant(ty, 0))
-}
-
-fn with_low(alloc: Global, word: Expr) -> Result<Expr, NoMemory>
-    ensures { IfOk result (λ value. value ≡ with_low_of word) }
-{
-    let high = and(
-        alloc,
-        read(Reg::Accu1),
-        constant(StType::Dword, 0xffff_0000),
-    )?;
-    or(
-        alloc,
-        high,
-        convert(alloc, StType::Word, StType::Dword, word)?,
-    )
 }
 
 pub fn with_number(alloc: Global, width: Width, number: Expr) -> Result<Expr, NoMemory>

@@ -34,7 +34,7 @@ use Rattle.row_templates.proofs.Numbers.{pattern_below, put_low, same_pattern}
 use Rattle.row_templates.proofs.RegisterRows.{IsRow, registers_after, row_does}
 use Rattle.row_templates.proofs.Stages.{known, parts, stage}
 use Rattle.digit_templates.specs.FromDigits.{btd_of, bti_of}
-use Rattle.digit_templates.specs.LowWord.{with_low_of}
+use Rattle.row_templates.specs.Builders.{with_low_of}
 
 -- Digits, read
 

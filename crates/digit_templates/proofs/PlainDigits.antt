@@ -24,7 +24,7 @@ use Rattle.row_templates.proofs.Sizes.{counts}
 use Rattle.row_templates.proofs.Typing.{IsOf, IsPlainBody, binary_is, constant_is, convert_is, local_is, local_plain, or_is, register_is, select_is, set_plain, unary_is}
 use Rattle.digit_templates.specs.FromDigits.{btd_of, bti_of}
 use Rattle.digit_templates.proofs.DigitSums.{Holds, dint_holds, lint_holds}
-use Rattle.digit_templates.specs.LowWord.{with_low_of}
+use Rattle.row_templates.specs.Builders.{with_low_of}
 use Rattle.digit_templates.specs.ToDigits.{by_sign_of, digits_of, dtb_of, itb_of, measured_of, signed_of, with_digit_of, written_of}
 
 -- Types

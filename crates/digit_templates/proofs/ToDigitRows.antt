@@ -33,7 +33,7 @@ use Rattle.row_templates.proofs.Locals.{own_of}
 use Rattle.row_templates.proofs.Numbers.{or_numbers, put_low, wide_low}
 use Rattle.row_templates.proofs.RegisterRows.{IsRow, registers_after, row_does}
 use Rattle.row_templates.proofs.Stages.{known, parts, stage}
-use Rattle.digit_templates.specs.LowWord.{with_low_of}
+use Rattle.row_templates.specs.Builders.{with_low_of}
 use Rattle.digit_templates.specs.ToDigits.{digits_of, dtb_of, itb_of, measured_of, signed_of, written_of}
 use Rattle.digit_templates.proofs.DigitSums.{amount, by_sign, constant, dint_holds, dword_pattern, lint_holds, seven_digits, sum, three_digits, word_pattern}
 

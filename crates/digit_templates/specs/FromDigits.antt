@@ -2,7 +2,7 @@
 -- which faults where one is above 9.
 use Rattle.std.specs.Prelude.{ℕ, List, [], ◌∷◌}
 use Rattle.s7_base.specs.declared.register.Reg.TheVariants as reg
-use Rattle.digit_templates.specs.LowWord.{with_low_of}
+use Rattle.row_templates.specs.Builders.{with_low_of}
 use Rattle.row_templates.specs.Builders.{convert_of, local_of, read_of, set_local_of, set_of, unary_of}
 use Rattle.st_tree.specs.declared.expr.StType.{StType}
 use Rattle.st_tree.specs.declared.expr.StType.TheVariants as type

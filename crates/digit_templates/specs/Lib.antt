@@ -1,3 +1,2 @@
 pub mod FromDigits
-pub mod LowWord
 pub mod ToDigits

@@ -2,7 +2,7 @@
 -- has too many digits, and the pattern of its digits.
 use Rattle.std.specs.Prelude.{ℕ, zero, suc, ◌+◌, ◌^◌, ℤ, pos, List, [], ◌∷◌, ◌++◌}
 use Rattle.s7_base.specs.declared.register.Reg.TheVariants as reg
-use Rattle.digit_templates.specs.LowWord.{with_low_of}
+use Rattle.row_templates.specs.Builders.{with_low_of}
 use Rattle.row_templates.specs.Builders.{binary_of, constant_of, convert_of, local_of, or_of, read_of, select_of, set_local_of, set_of, unary_of}
 use Rattle.st_tree.specs.declared.expr.BinaryOp.TheVariants as binary
 use Rattle.st_tree.specs.declared.expr.Expr.{Expr}

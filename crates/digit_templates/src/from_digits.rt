@@ -2,8 +2,7 @@
 ghost use Rattle.std.specs.Prelude.{◌≡◌, ◌++◌, OnOk};
 ghost use Rattle.digit_templates.specs.FromDigits.{btd_of, bti_of, types_of_btd, types_of_bti};
 
-use crate::low_word::with_low;
-use row_templates::{convert, local, read, set, set_local, unary};
+use row_templates::{convert, local, read, set, set_local, unary, with_low};
 use s7_base::{List, NoMemory, Reg};
 use st_tree::{StType, Stmt, UnaryOp};
 use std::alloc::Global;

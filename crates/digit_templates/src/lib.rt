@@ -7,5 +7,4 @@ pub use from_digits::{push_btd, push_bti, types_of_btd, types_of_bti};
 pub use to_digits::{push_dtb, push_itb, types_of_dtb, types_of_itb};
 
 mod from_digits;
-mod low_word;
 mod to_digits;

@@ -6,8 +6,9 @@ ghost use Rattle.std.specs.Prelude.{◌≡◌, ◌<◌, ◌+◌, ◌^◌, ◌++�
 ghost use Rattle.digit_templates.specs.ToDigits.{amount_of, by_sign_of, digits_of, dtb_of, itb_of, measured_of, signed_of, types_of_dtb, types_of_itb, with_digit_of, written_of};
 ghost use Rattle.row_templates.specs.Builders.{local_of};
 
-use crate::low_word::with_low;
-use row_templates::{binary, constant, convert, local, or, read, select, set, set_local, unary};
+use row_templates::{
+    binary, constant, convert, local, or, read, select, set, set_local, unary, with_low,
+};
 use s7_base::{List, NoMemory, Reg};
 use st_tree::{BinaryOp, Expr, StType, Stmt, UnaryOp};
 use std::alloc::Global;

@@ -74,6 +74,10 @@ select_of gate e f = expr.Select gate e f
 abbrev pub shift_of : ShiftOp → Expr → Expr → Expr
 shift_of op e count = expr.Shift op e count
 
+-- ACCU1 with a WORD for its low word
+abbrev pub with_low_of : Expr → Expr
+with_low_of word = or_of (and_of (read_of reg.Accu1) (constant_of type.Dword (pos 0xFFFF0000))) (convert_of type.Word type.Dword word)
+
 -- an operand as a variable of a width
 abbrev pub variable_of : Operand → Width → Var
 variable_of (operand.Direct a byte bit) w = var.Direct a byte bit w

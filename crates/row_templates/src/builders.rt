@@ -1,6 +1,6 @@
 //! Expressions and assignments.
 ghost use Rattle.std.specs.Prelude.{◌≡◌, ◌++◌, IfOk, OnOk};
-ghost use Rattle.row_templates.specs.Builders.{and_of, binary_of, bit_of, cleared, constant_of, convert_of, literal_of, local_of, not_of, or_of, read_of, select_of, set_local_of, set_of, shift_of, unary_of, variable_of, xor_of};
+ghost use Rattle.row_templates.specs.Builders.{and_of, binary_of, bit_of, cleared, constant_of, convert_of, literal_of, local_of, not_of, or_of, read_of, select_of, set_local_of, set_of, shift_of, unary_of, variable_of, xor_of, with_low_of};
 
 use s7_base::{Boxed, List, NoMemory, Reg, Width};
 use st_tree::{BinaryOp, Expr, ShiftOp, StType, Stmt, UnaryOp, Var};
@@ -133,4 +133,14 @@ pub fn push_cleared(steps: &mut List<Stmt>, nfc: bool) -> Result<(), NoMemory>
 {
     steps.push(set(Reg::Orb, literal(false)))?;
     steps.push(set(Reg::Nfc, literal(nfc)))
+}
+
+/// ACCU1 with a WORD for its low word.
+pub fn with_low(alloc: Global, word: Expr) -> Result<Expr, NoMemory>
+    ensures { IfOk result (λ value. value ≡ with_low_of word) }
+{
+    let mask = constant(StType::Dword, 0xFFFF_0000);
+    let high = and(alloc, read(Reg::Accu1), mask)?;
+    let low = convert(alloc, StType::Word, StType::Dword, word)?;
+    or(alloc, high, low)
 }

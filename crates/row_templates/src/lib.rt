@@ -7,7 +7,7 @@
 
 pub use builders::{
     and, binary, bit, constant, convert, literal, local, not, or, push_cleared, read, select, set,
-    set_local, shift, unary, variable, xor,
+    set_local, shift, unary, variable, with_low, xor,
 };
 
 mod builders;
