@@ -8,8 +8,8 @@ ghost use Rattle.row_templates.specs.Builders.{and_of, bit_of, cleared, literal_
 
 use crate::locals::types_of_unary;
 use accumulator_templates::{
-    push_add_dword, push_add_word, push_cad, push_caw, push_dec, push_exchange, push_inc, push_invd,
-    push_invi, push_itd, push_load, push_logic, push_pop, push_push, push_status_load,
+    push_add_dword, push_add_word, push_cad, push_caw, push_dec, push_exchange, push_inc,
+    push_invd, push_invi, push_itd, push_load, push_logic, push_pop, push_push, push_status_load,
     push_status_store, push_transfer, types_of_exchange, types_of_logic,
 };
 use arithmetic_templates::{
