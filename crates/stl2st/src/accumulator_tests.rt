@@ -398,7 +398,55 @@ static NUMBER_ROWS: [Row; 2] = [
 ];
 
 /// Bodies by hand: a body, an image, and the report.
-static REPORTS: [(&[u8], &[u8], Status, &[u8]); 9] = [
+static REPORTS: [(&[u8], &[u8], Status, &[u8]); 17] = [
+    (
+        b"L L#-7; L L#3; MOD; T MD 0; L STW; T MW 4;",
+        b"",
+        Status::Done,
+        b"# ENDED\nM 0: FF FF FF FF 00 40 00 00 00 00 00 00 00 00 00 00\n",
+    ),
+    (
+        b"L -123; ITB; T MD 0; L STW; T MW 4;",
+        b"",
+        Status::Done,
+        b"# ENDED\nM 0: 00 00 F1 23 00 00 00 00 00 00 00 00 00 00 00 00\n",
+    ),
+    (
+        b"L 1000; ITB; T MD 0; L STW; T MW 4;",
+        b"",
+        Status::Done,
+        b"# ENDED\nM 0: 00 00 03 E8 00 30 00 00 00 00 00 00 00 00 00 00\n",
+    ),
+    (
+        b"L 200; L 200; *I; T MD 0; L STW; T MW 4;",
+        b"",
+        Status::Done,
+        b"# ENDED\nM 0: 00 00 9C 40 00 B0 00 00 00 00 00 00 00 00 00 00\n",
+    ),
+    (
+        b"L DW#16#80000001; RRD 1; T MD 0; L STW; T MW 4;",
+        b"",
+        Status::Done,
+        b"# ENDED\nM 0: C0 00 00 00 00 80 00 00 00 00 00 00 00 00 00 00\n",
+    ),
+    (
+        b"L W#16#8001; SSI 1; T MD 0; L STW; T MW 4;",
+        b"",
+        Status::Done,
+        b"# ENDED\nM 0: 00 00 C0 00 00 80 00 00 00 00 00 00 00 00 00 00\n",
+    ),
+    (
+        b"L 5; L 3; >I; T MD 0; L STW; T MW 4;",
+        b"",
+        Status::Done,
+        b"# ENDED\nM 0: 00 00 00 03 00 82 00 00 00 00 00 00 00 00 00 00\n",
+    ),
+    (
+        b"L -32768; NEGI; T MD 0; L STW; T MW 4;",
+        b"",
+        Status::Done,
+        b"# ENDED\nM 0: 00 00 80 00 00 70 00 00 00 00 00 00 00 00 00 00\n",
+    ),
     (
         b"L 32767; L 1; +I; T MW 10; L STW; T MW 12;",
         b"",
@@ -496,28 +544,24 @@ static KINDS: [(&[u8], &[u8]); 32] = [
     (b"AW DW#16#1;", b"line 3: Unsupported(NotBuilt)\n"),
 ];
 
+fn push(body: &mut Vec<u8>, text: &str) -> Result<(), NoMemory> {
+    body.extend_from_slice(text.as_bytes())
+}
+
 /// Puts what a row does with a pair of values behind a body: the six bytes behind `at` take ACCU1 and the status
 /// word.
 fn push_case(body: &mut Vec<u8>, instruction: &str, pair: Pair, at: u32) -> Result<(), NoMemory> {
-    let mut accu1 = Buffer::new();
-    let mut status = Buffer::new();
-    let pieces = [
-        "L 0; T STW; L ",
-        pair.0,
-        "; L ",
-        pair.1,
-        "; ",
-        instruction,
-        "; T MD ",
-        accu1.format(at),
-        "; L STW; T MW ",
-        status.format(at + 4),
-        "; ",
-    ];
-    for piece in pieces {
-        body.extend_from_slice(piece.as_bytes())?;
-    }
-    Ok(())
+    push(body, "L 0; T STW; L ")?;
+    push(body, pair.0)?;
+    push(body, "; L ")?;
+    push(body, pair.1)?;
+    push(body, "; ")?;
+    push(body, instruction)?;
+    push(body, "; T MD ")?;
+    push(body, Buffer::new().format(at))?;
+    push(body, "; L STW; T MW ")?;
+    push(body, Buffer::new().format(at + 4))?;
+    push(body, "; ")
 }
 
 /// An instruction behind each of some pairs.
