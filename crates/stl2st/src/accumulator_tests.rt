@@ -545,7 +545,8 @@ static KINDS: [(&[u8], &[u8]); 32] = [
 ];
 
 fn push(body: &mut Vec<u8>, text: &str) -> Result<(), NoMemory> {
-    body.extend_from_slice(text.as_bytes())
+    body.extend_from_slice(text.as_bytes())?;
+    Ok(())
 }
 
 /// Puts what a row does with a pair of values behind a body: the six bytes behind `at` take ACCU1 and the status
