@@ -561,7 +561,7 @@ fn push_case(body: &mut Vec<u8>, instruction: &str, pair: Pair, at: u32) -> Resu
     push(body, "; T MD ")?;
     push(body, Buffer::new().format(at))?;
     push(body, "; L STW; T MW ")?;
-    push(body, Buffer::new().format(at + 4))?;
+    push(body, Buffer::new().format(at.wrapping_add(4)))?;
     push(body, "; ")
 }
 
@@ -571,7 +571,7 @@ fn source_of(alloc: Global, instruction: &str, pairs: &[Pair]) -> Result<Vec<u8>
     let mut at = 0;
     for pair in pairs {
         push_case(&mut body, instruction, *pair, at)?;
-        at += 6;
+        at = at.wrapping_add(6);
     }
     with_body(alloc, body.as_slice())
 }
