@@ -1,10 +1,11 @@
 pub mod AcceptedLaws
 mod AccumulatorRows
+mod DataBlockRows
 pub mod GrammarLaws
 pub mod ItemLaws
 mod OperandRows
 pub mod ProgramLaws
-mod RunRows
+pub mod RunRows
 pub mod Runs
 pub mod ShiftForms
 mod VerdictRows

@@ -19,7 +19,7 @@ use Rattle.stl_tree.specs.declared.program.Operand.TheVariants.{Direct}
 use Rattle.stl_tree.specs.declared.program.Program.{Program}
 
 -- OB 1 with these instructions and its end word
-abbrev program_of : List Op → Program
+abbrev pub program_of : List Op → Program
 program_of ops =
     record {
       dbs = [];
@@ -35,7 +35,7 @@ program_of ops =
     }
 
 -- the call of an organization block
-abbrev call_of : ℕ → Call
+abbrev pub call_of : ℕ → Call
 call_of number = record { block = Ob number; instance = 0; actuals = [] }
 
 -- one byte of inputs, one of outputs and no bit memory

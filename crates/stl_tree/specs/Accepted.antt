@@ -1,6 +1,7 @@
 -- The rules that a program keeps where the verdict gives it.
 use Rattle.std.specs.Prelude.{◌≡◌, ◌≢◌, ℕ, ◌≤◌, ◌<◌, ◌^◌, true, false, Option, Some, List, [], ◌∷◌, All, None, Ok}
 use Rattle.memory_areas.specs.Access.{is_byte_in, is_unaligned}
+use Rattle.memory_areas.specs.Areas.{AreBlocks}
 use Rattle.s7_base.specs.SignedNumbers.{is_over}
 use Rattle.s7_base.specs.declared.word.Width.{Width}
 use Rattle.s7_base.specs.declared.word.Width.TheVariants as width
@@ -15,6 +16,9 @@ use Rattle.stl_tree.specs.WordLogic.{width_of as logic_width}
 use Rattle.stl_tree.specs.declared.accumulator.ShiftRow.{ShiftRow}
 use Rattle.stl_tree.specs.declared.program.BitArg.TheVariants as arg
 use Rattle.stl_tree.specs.declared.program.Block.{Block}
+use Rattle.memory_areas.specs.declared.place.Area.{Area}
+use Rattle.memory_areas.specs.declared.place.Area.TheVariants as area_of
+use Rattle.memory_areas.specs.declared.place.AreaName.TheVariants as area
 use Rattle.memory_areas.specs.declared.call.BlockName.{BlockName}
 use Rattle.memory_areas.specs.declared.call.BlockName.TheVariants as name
 use Rattle.stl_tree.specs.declared.program.Instr.{Instr}
@@ -22,15 +26,29 @@ use Rattle.stl_tree.specs.declared.program.LoadArg.{LoadArg}
 use Rattle.stl_tree.specs.declared.program.LoadArg.TheVariants as load
 use Rattle.stl_tree.specs.declared.program.Op.{Op}
 use Rattle.stl_tree.specs.declared.program.Op.TheVariants as op
+use Rattle.stl_tree.specs.declared.program.OpenArg.{OpenArg}
+use Rattle.stl_tree.specs.declared.program.OpenArg.TheVariants as open_arg
 use Rattle.stl_tree.specs.declared.program.Operand.{Operand}
 use Rattle.stl_tree.specs.declared.program.Operand.TheVariants as operand
 use Rattle.stl_tree.specs.declared.program.Program.{Program}
+use Rattle.stl_tree.specs.declared.program.Symbol.{Symbol}
 
 -- Operands
 
--- an operand of a width names bytes of its area, and a bit number that the width has
+-- the number of a data block
+abbrev pub IsBlockOpened : ℕ → Type 0
+IsBlockOpened n = (1 ≤ n) × (n ≤ 65535)
+
+-- an operand of a width names bytes of its area, and a bit number that the width has; the length of a data block is
+-- judged at run time
 abbrev pub IsOperand : Width → Operand → Type 0
 IsOperand w (operand.Direct a byte x) = (is_byte_in a w byte ≡ true) × (is_unaligned w x ≡ false)
+IsOperand w (operand.Opened n byte x) =
+    IsBlockOpened n × (is_byte_in area.Db w byte ≡ true) × (is_unaligned w x ≡ false)
+
+-- OPN opens a data block by its number
+abbrev pub IsOpenArg : OpenArg → Type 0
+IsOpenArg (open_arg.Number n) = IsBlockOpened n
 
 -- a byte, a word or a double word
 abbrev pub IsNumberWidth : Width → Type 0
@@ -78,6 +96,8 @@ HasOperand (op.Load a) = IsLoadable a
 HasOperand (op.Transfer o w) = IsNumberWidth w × IsOperand w o
 HasOperand op.LoadStw = Unit {0}
 HasOperand op.TransferStw = Unit {0}
+HasOperand op.LoadDbNo = Unit {0}
+HasOperand op.LoadDiNo = Unit {0}
 HasOperand (op.Arith a) = Unit {0}
 HasOperand (op.AddWord n) = is_over 16 n ≡ false
 HasOperand (op.AddDword n) = is_over 32 n ≡ false
@@ -92,6 +112,9 @@ HasOperand (op.Unary u) = Unit {0}
 HasOperand op.Tak = Unit {0}
 HasOperand op.Push = Unit {0}
 HasOperand op.Pop = Unit {0}
+HasOperand (op.OpenDb d) = IsOpenArg d
+HasOperand (op.OpenDi d) = IsOpenArg d
+HasOperand op.ExchangeDb = Unit {0}
 HasOperand op.Nop = Unit {0}
 HasOperand op.BlockEnd = Unit {0}
 
@@ -131,19 +154,25 @@ pub record IsAcceptedBlock (block : Block) : Type 0 where
   pub number : IsBlockNumber block.name
   pub formals : block.formals ≡ []
 
--- what stands beside the blocks: nothing, since no form of it is read yet
-pub record HasBlocksAlone (program : Program) : Type 0 where
-  pub dbs : program.dbs ≡ []
-  pub instances : program.instances ≡ []
-  pub symbols : program.symbols ≡ []
+-- a symbol is a place of the inputs, the outputs or the bit memory
+abbrev pub IsSymbolArea : Area → Type 0
+IsSymbolArea area_of.I = Unit {0}
+IsSymbolArea area_of.Q = Unit {0}
+IsSymbolArea area_of.M = Unit {0}
+IsSymbolArea elsewhere = ⊥
 
--- a program keeps the rules: there is a block, each of its blocks keeps them, no two have one name, and
--- nothing else stands there
+abbrev pub IsSymbol : Symbol → Type 0
+IsSymbol symbol = IsSymbolArea symbol.place.area
+
+-- a program keeps the rules: there is a block, each of its blocks keeps them, no two have one name; its data blocks
+-- are ones that a memory may have; its symbols are places. No data block is an instance, since none is read yet
 pub record IsAccepted (program : Program) : Type 0 where
   pub some : program.blocks ≢ []
   pub blocks : All IsAcceptedBlock program.blocks
   pub names : AreDistinct program.blocks
-  pub alone : HasBlocksAlone program
+  pub data : AreBlocks program.dbs
+  pub symbols : All IsSymbol program.symbols
+  pub instances : program.instances ≡ []
 
 -- the verdict gives only programs that keep the rules
 abbrev pub VerdictIsAccepted : Type 0

@@ -50,6 +50,8 @@ open_behind (op.Load a) n = Some n
 open_behind (op.Transfer o w) n = Some n
 open_behind op.LoadStw n = Some n
 open_behind op.TransferStw n = Some n
+open_behind op.LoadDbNo n = Some n
+open_behind op.LoadDiNo n = Some n
 open_behind (op.Arith a) n = Some n
 open_behind (op.AddWord k) n = Some n
 open_behind (op.AddDword k) n = Some n
@@ -64,6 +66,9 @@ open_behind (op.Unary u) n = Some n
 open_behind op.Tak n = Some n
 open_behind op.Push n = Some n
 open_behind op.Pop n = Some n
+open_behind (op.OpenDb d) n = Some n
+open_behind (op.OpenDi d) n = Some n
+open_behind op.ExchangeDb n = Some n
 open_behind op.Nop n = Some n
 
 -- what holds of a number that is there

@@ -8,7 +8,8 @@ use Rattle.stl_tree.specs.Accumulators.{accu_popped, accu_pushed, accus_exchange
 use Rattle.stl_tree.specs.Arithmetic.{calculated, compared}
 use Rattle.stl_tree.specs.Brackets.{closed, opened}
 use Rattle.stl_tree.specs.Conversions.{converted}
-use Rattle.stl_tree.specs.Now.{Now, Effect, next, leave, with_memory, with_status, with_value}
+use Rattle.stl_tree.specs.DataBlocks.{db_number_loaded, db_opened, dbs_exchanged, di_number_loaded, di_opened}
+use Rattle.stl_tree.specs.Now.{Now, Effect, next, leave, with_memory, with_registers, with_status, with_value}
 use Rattle.stl_tree.specs.Operands.{with_checked, with_place}
 use Rattle.stl_tree.specs.Registers.{RegisterValues}
 use Rattle.stl_tree.specs.Shifts.{after_shift, around_left_through_cc1, around_right_through_cc1}
@@ -18,6 +19,7 @@ use Rattle.stl_tree.specs.declared.program.LoadArg.{LoadArg}
 use Rattle.stl_tree.specs.declared.program.LoadArg.TheVariants as arg
 use Rattle.stl_tree.specs.declared.program.Op.{Op}
 use Rattle.stl_tree.specs.declared.program.Op.TheVariants as op
+use Rattle.stl_tree.specs.declared.program.OpenArg.TheVariants as open_arg
 use Rattle.stl_tree.specs.declared.program.Operand.{Operand}
 
 -- the bits of the status word become others
@@ -38,7 +40,7 @@ at_edge rising o now =
 
 -- the registers become others
 abbrev pub on_registers : (RegisterValues → RegisterValues) → Now → Effect
-on_registers row now = next (record now { registers = row now.registers })
+on_registers row now = next (with_registers row now)
 
 -- L
 abbrev pub loaded_from : LoadArg → Now → Effect
@@ -76,6 +78,8 @@ effect_of (op.Load a) now = loaded_from a now
 effect_of (op.Transfer o w) now = transferred o w now
 effect_of op.LoadStw now = on_registers status_loaded now
 effect_of op.TransferStw now = on_registers status_stored now
+effect_of op.LoadDbNo now = on_registers db_number_loaded now
+effect_of op.LoadDiNo now = on_registers di_number_loaded now
 effect_of (op.Arith a) now = on_registers (calculated a) now
 effect_of (op.AddWord n) now = on_registers (increased width.Word n) now
 effect_of (op.AddDword n) now = on_registers (increased width.Dword n) now
@@ -90,5 +94,8 @@ effect_of (op.Unary u) now = on_accu1 u now
 effect_of op.Tak now = on_registers accus_exchanged now
 effect_of op.Push now = on_registers accu_pushed now
 effect_of op.Pop now = on_registers accu_popped now
+effect_of (op.OpenDb (open_arg.Number n)) now = on_registers (db_opened n) now
+effect_of (op.OpenDi (open_arg.Number n)) now = on_registers (di_opened n) now
+effect_of op.ExchangeDb now = on_registers dbs_exchanged now
 effect_of op.Nop now = next now
 effect_of op.BlockEnd now = leave (with_status after_end now)

@@ -5,6 +5,7 @@ pub mod Brackets
 pub mod ConstantForms
 pub mod Constants
 pub mod Conversions
+pub mod DataBlocks
 pub mod Grammar
 pub mod InstructionForms
 pub mod Instructions

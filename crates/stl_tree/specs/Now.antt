@@ -36,6 +36,10 @@ depth (running ∷ waiting) = length waiting
 abbrev pub with_status : (StatusBits → StatusBits) → Now → Now
 with_status row now = record now { registers = record now.registers { status = row now.registers.status } }
 
+-- the same with other registers
+abbrev pub with_registers : (RegisterValues → RegisterValues) → Now → Now
+with_registers row now = record now { registers = row now.registers }
+
 -- what an instruction does: the next one follows, or the one at a position of its body; it calls a block;
 -- or its block ends, each with the state as it then is; or it ends the run by a fault and changes nothing
 pub data Effect : Type 0 where

@@ -1,10 +1,13 @@
 -- What an operand names.
-use Rattle.std.specs.Prelude.{Bool, Result, Ok}
+use Rattle.std.specs.Prelude.{ℕ, Bool, Result, Ok}
 use Rattle.memory_areas.specs.Access.{area_named, read_bit}
+use Rattle.memory_areas.specs.declared.place.AreaName.{AreaName}
+use Rattle.memory_areas.specs.declared.place.AreaName.TheVariants as area
 use Rattle.memory_areas.specs.declared.place.Place.{Place}
 use Rattle.s7_base.specs.declared.outcome.Fault.{Fault}
 use Rattle.status_word.specs.StatusBits.{answer_to}
-use Rattle.stl_tree.specs.Now.{Now, Effect, depth, with_value}
+use Rattle.stl_tree.specs.DataBlocks.{db_opened}
+use Rattle.stl_tree.specs.Now.{Now, Effect, depth, with_registers, with_value}
 use Rattle.stl_tree.specs.declared.program.BitArg.{BitArg}
 use Rattle.stl_tree.specs.declared.program.BitArg.TheVariants as arg
 use Rattle.stl_tree.specs.declared.program.Operand.{Operand}
@@ -15,16 +18,19 @@ pub record Found : Type 0 where
   pub place : Place
   pub after : Now
 
--- what an operand names, or the first fault on the way to its place. A written place has none. One that a
--- pointer in memory names, as `M [MD 4]`, is found by an access to the pointer first; one by an address
--- register may meet a wrong area code; one with the number of its data block, as `DB5.DBX 0.0`, is found
--- with that number in the DB register; a formal is what its activation says. Each of them is a case here.
+-- the place of an area, by the data blocks that are open and the running activation
+abbrev pub place_in : AreaName → ℕ → ℕ → Now → Place
+place_in a byte x now =
+    record { area = area_named a now.registers.db now.registers.di (depth now.activations); byte = byte; bit = x }
+
+-- what an operand names, or the first fault on the way to its place. A written place has none; one with the number
+-- of its data block, as `DB5.DBX 0.0`, is found with that number in the DB register. One that a pointer in memory
+-- names, as `M [MD 4]`, is found by an access to the pointer first; one by an address register may meet a wrong
+-- area code; a formal is what its activation says. Each of them is a case here.
 abbrev pub found : Operand → Now → Result Found Fault
-found (operand.Direct a byte x) now =
-    Ok (record {
-      place = record { area = area_named a now.registers.db now.registers.di (depth now.activations); byte = byte; bit = x };
-      after = now;
-    })
+found (operand.Direct a byte x) now = Ok (record { place = place_in a byte x now; after = now })
+found (operand.Opened n byte x) now =
+    let after = with_registers (db_opened n) now in Ok (record { place = place_in area.Db byte x after; after = after })
 
 -- the effect by the place of an operand, in the state after it was found
 abbrev pub with_place : Operand → Now → (Place → Now → Effect) → Effect

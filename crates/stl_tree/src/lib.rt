@@ -14,8 +14,8 @@ pub use memory_areas::{BlockName, Call};
 pub use mnemonic::{Mnemonic, Prefix, Read, Shape};
 pub use number::{Bits, number_of};
 pub use program::{
-    Actual, BitArg, Block, BlockCall, Formal, Instance, Instr, LoadArg, Mode, Op, Operand, Program,
-    Symbol,
+    Actual, BitArg, Block, BlockCall, Formal, Instance, Instr, LoadArg, Mode, Op, OpenArg, Operand,
+    Program, Symbol,
 };
 pub use raw::{
     Ar, BlockKind, Constant, DeclType, Declaration, ElemType, InitialItem, PathStep, RawActual,

@@ -10,6 +10,9 @@ use status_word::Test;
 pub enum Operand {
     /// An area, a byte in it and a bit from 0 to 7.
     Direct(AreaName, u32, u8),
+
+    /// A data block that is opened first, a byte in it and a bit from 0 to 7.
+    Opened(u16, u32, u8),
 }
 
 /// What a bit check looks at.
@@ -29,6 +32,12 @@ pub enum LoadArg {
 
     /// A constant, extended to 32 bits.
     Constant(u32),
+}
+
+/// Which data block `OPN` opens.
+#[derive(Clone, Copy, Debug, PartialEq, Eq)]
+pub enum OpenArg {
+    Number(u16),
 }
 
 /// What a formal of a called block stands for.
@@ -106,6 +115,12 @@ pub enum Op {
     /// `T STW`
     TransferStw,
 
+    /// `L DBNO`
+    LoadDbNo,
+
+    /// `L DINO`
+    LoadDiNo,
+
     Arith(Arith),
 
     /// `+ n`
@@ -145,6 +160,15 @@ pub enum Op {
 
     /// `POP`
     Pop,
+
+    /// `OPN` of a data block.
+    OpenDb(OpenArg),
+
+    /// `OPN` of an instance.
+    OpenDi(OpenArg),
+
+    /// `CDB`
+    ExchangeDb,
 
     /// `NOP` and `BLD`.
     Nop,
