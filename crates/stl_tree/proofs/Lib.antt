@@ -1,10 +1,4 @@
-pub mod AcceptedLaws
 mod AccumulatorRows
-pub mod GrammarLaws
-pub mod ItemLaws
-mod OperandRows
-pub mod ProgramLaws
 mod RunRows
 pub mod Runs
 pub mod ShiftForms
-mod VerdictRows
