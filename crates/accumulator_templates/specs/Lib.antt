@@ -1,5 +1,6 @@
 pub mod Parts
 pub mod Moves
+pub mod DataBlocks
 pub mod Sums
 pub mod Logic
 pub mod Conversions

@@ -1,13 +1,13 @@
 -- Loading, storing and moving: from memory and constants, to memory, between the accumulators, from and to the status
 -- word.
-use Rattle.std.specs.Prelude.{ℕ, List, [], ◌∷◌}
+use Rattle.std.specs.Prelude.{ℕ, List, [], ◌∷◌, ◌++◌}
 use Rattle.accumulator_templates.specs.Parts.{any_bit_of, bits_where_of, cut_of, dword_of, extended_of}
 use Rattle.row_templates.specs.Builders.{local_of, or_of, read_of, set_local_of, set_of, variable_of}
+use Rattle.row_templates.specs.Fetching.{fetch_of, fetched_of, opened_of, types_fetched}
 use Rattle.s7_base.specs.declared.register.Reg.{Reg}
 use Rattle.s7_base.specs.declared.register.Reg.TheVariants as reg
 use Rattle.s7_base.specs.declared.word.Width.{Width}
 use Rattle.st_tree.specs.declared.expr.Expr.{Expr}
-use Rattle.st_tree.specs.declared.expr.Expr.TheVariants as expr
 use Rattle.st_tree.specs.declared.expr.StType.{StType}
 use Rattle.st_tree.specs.declared.expr.StType.TheVariants as type
 use Rattle.st_tree.specs.declared.program.Stmt.{Stmt}
@@ -21,17 +21,27 @@ abbrev pub taken_of : Expr → List Stmt
 taken_of e = set_of reg.Accu2 (read_of reg.Accu1) ∷ set_of reg.Accu1 e ∷ []
 
 -- what L loads
-abbrev pub loaded_value : LoadArg → Expr
-loaded_value (arg.At o w) = extended_of w (expr.Read (variable_of o w))
-loaded_value (arg.Constant c) = dword_of c
+abbrev pub loaded_value : ℕ → LoadArg → Expr
+loaded_value first (arg.At o w) = extended_of w (fetched_of first o w)
+loaded_value first (arg.Constant c) = dword_of c
 
--- L
-abbrev pub load_of : LoadArg → List Stmt
-load_of a = taken_of (loaded_value a)
+-- what stands before it
+abbrev pub before_load : ℕ → LoadArg → List Stmt
+before_load first (arg.At o w) = fetch_of first o w
+before_load first (arg.Constant c) = []
+
+-- L, whose first local has this number
+abbrev pub load_of : ℕ → LoadArg → List Stmt
+load_of first a = before_load first a ++ taken_of (loaded_value first a)
+
+-- the locals of L
+abbrev pub types_of_load : LoadArg → List StType
+types_of_load (arg.At o w) = types_fetched o w
+types_of_load (arg.Constant c) = []
 
 -- T
 abbrev pub transfer_of : Operand → Width → List Stmt
-transfer_of o w = stmt.Assign (variable_of o w) (cut_of w (read_of reg.Accu1)) ∷ []
+transfer_of o w = opened_of o ++ (stmt.Assign (variable_of o w) (cut_of w (read_of reg.Accu1)) ∷ [])
 
 -- a DWORD with the bits of a mask, where a flag is set
 abbrev pub with_flag_of : Expr → Reg → ℕ → Expr

@@ -1,11 +1,13 @@
 -- The temporaries of a unit: which types those of an instruction have, and what they are called.
 use Rattle.std.specs.Prelude.{◌≡◌, ℕ, suc, Bool, true, false, codes, decimal, if◌then◌else◌, List, [], ◌∷◌, ◌++◌}
 use Rattle.accumulator_templates.specs.Logic.{types_of_logic}
-use Rattle.accumulator_templates.specs.Moves.{types_of_exchange}
+use Rattle.accumulator_templates.specs.DataBlocks.{types_of_block_exchange}
+use Rattle.accumulator_templates.specs.Moves.{types_of_exchange, types_of_load}
 use Rattle.arithmetic_templates.specs.Calculations.{types_of_calculated, types_of_negated}
 use Rattle.arithmetic_templates.specs.Comparisons.{types_of_compared}
 use Rattle.digit_templates.specs.FromDigits.{types_of_bti, types_of_btd}
 use Rattle.digit_templates.specs.ToDigits.{types_of_itb, types_of_dtb}
+use Rattle.row_templates.specs.Fetching.{types_fetched}
 use Rattle.s7_base.specs.declared.word.Width.TheVariants as width
 use Rattle.shift_templates.specs.ShiftTemplates.{types_of_shift, types_through_cc1}
 use Rattle.st_tree.specs.declared.expr.StType.{StType}
@@ -13,9 +15,12 @@ use Rattle.st_tree.specs.declared.expr.StType.TheVariants as type
 use Rattle.st_tree.specs.declared.program.Local.{Local}
 use Rattle.stl_tree.specs.declared.accumulator.UnaryRow.{UnaryRow}
 use Rattle.stl_tree.specs.declared.accumulator.UnaryRow.TheVariants as unary
+use Rattle.stl_tree.specs.declared.program.BitArg.{BitArg}
+use Rattle.stl_tree.specs.declared.program.BitArg.TheVariants as arg
 use Rattle.stl_tree.specs.declared.program.Instr.{Instr}
 use Rattle.stl_tree.specs.declared.program.Op.{Op}
 use Rattle.stl_tree.specs.declared.program.Op.TheVariants as op
+use Rattle.stl_tree.specs.declared.program.Operand.{Operand}
 
 -- those of an instruction on ACCU1 alone
 abbrev pub types_of_unary : UnaryRow → List StType
@@ -31,12 +36,26 @@ types_of_unary unary.Invd = []
 types_of_unary unary.Caw = []
 types_of_unary unary.Cad = []
 
+-- those of a check: what it looks at, where that may fault
+abbrev pub types_checked : BitArg → List StType
+types_checked (arg.At o) = types_fetched o width.Bit
+types_checked (arg.Flag t) = []
+
+-- those of an edge: its bit, where that may fault, and the RLO
+abbrev pub types_of_edge : Operand → List StType
+types_of_edge o = types_fetched o width.Bit ++ type.Bool ∷ []
+
 -- the types of the temporaries of an instruction: an opened bracket keeps RLO, OR and NFC, and an edge the RLO; what
--- is used twice in an accumulator's row is one
+-- may fault, and what is used twice in an accumulator's row, is one
 abbrev pub types_of : Op → List StType
+types_of (op.Check c b) = types_checked b
+types_of (op.Set o) = types_fetched o width.Bit
+types_of (op.Reset o) = types_fetched o width.Bit
+types_of (op.Load a) = types_of_load a
+types_of op.ExchangeDb = types_of_block_exchange
 types_of (op.Bracket c) = type.Bool ∷ type.Bool ∷ type.Bool ∷ []
-types_of (op.EdgeUp o) = type.Bool ∷ []
-types_of (op.EdgeDown o) = type.Bool ∷ []
+types_of (op.EdgeUp o) = types_of_edge o
+types_of (op.EdgeDown o) = types_of_edge o
 types_of (op.Arith a) = types_of_calculated a
 types_of (op.Compare t w) = types_of_compared w
 types_of (op.Shift s count) = types_of_shift s count

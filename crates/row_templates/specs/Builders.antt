@@ -1,5 +1,6 @@
 -- The parts of which the statements of instructions are made: expressions, and assignments to registers and locals.
 use Rattle.std.specs.Prelude.{ℕ, ℤ, pos, Bool, false, List, [], ◌∷◌, if◌then◌else◌}
+use Rattle.memory_areas.specs.declared.place.AreaName.TheVariants as area
 use Rattle.s7_base.specs.declared.register.Reg.{Reg}
 use Rattle.s7_base.specs.declared.register.Reg.TheVariants as reg
 use Rattle.s7_base.specs.declared.word.Width.{Width}
@@ -81,6 +82,7 @@ with_low_of word = or_of (and_of (read_of reg.Accu1) (constant_of type.Dword (po
 -- an operand as a variable of a width
 abbrev pub variable_of : Operand → Width → Var
 variable_of (operand.Direct a byte bit) w = var.Direct a byte bit w
+variable_of (operand.Opened n byte bit) w = var.Direct area.Db byte bit w
 
 -- the bit of an operand, as a variable
 abbrev pub bit_of : Operand → Var

@@ -1,4 +1,5 @@
 pub mod Assignments
 pub mod Builders
+pub mod Fetching
 pub mod Nodes
 pub mod Reading

@@ -14,7 +14,7 @@ use Rattle.s7_base.specs.declared.reason.Line.{Line}
 use Rattle.s7_base.specs.declared.reason.Reason.{Reason}
 use Rattle.s7_base.specs.declared.reason.Rejection.TheVariants as rejection
 use Rattle.stl_tree.specs.StlRun.{Fits, stl_run}
-use Rattle.stl_tree.specs.Verdict.{verdict}
+use Rattle.stl_rules.specs.Verdict.{verdict}
 use Rattle.memory_areas.specs.declared.call.Call.{Call}
 use Rattle.stl_tree.specs.declared.program.Program.{Program}
 use Rattle.st_parser.specs.Texts.{IsTextOf, IsRefusedText}

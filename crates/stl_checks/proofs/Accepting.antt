@@ -4,9 +4,10 @@ use Rattle.std.specs.Prelude.{IfOk}
 use Rattle.s7_base.specs.Answers.{Answers}
 use Rattle.s7_base.specs.declared.reason.Rejection.{Rejection}
 use Rattle.s7_base.specs.declared.reason.Rejection.TheVariants.{Refused, NoMemory}
-use Rattle.stl_tree.proofs.AcceptedLaws.{verdict_accepted}
+use Rattle.stl_rules.proofs.AcceptedLaws.{verdict_accepted}
 use Rattle.stl_tree.specs.Accepted.{IsAccepted}
-use Rattle.stl_tree.specs.Verdict.{judged, judged_by, raw_text, verdict}
+use Rattle.stl_grammar.specs.RawPrograms.{raw_text}
+use Rattle.stl_rules.specs.Verdict.{judged, judged_by, verdict}
 use Rattle.stl_tree.specs.declared.program.Program.{Program}
 use Rattle.stl_tree.specs.declared.raw.RawProgram.{RawProgram}
 

@@ -4,7 +4,7 @@ use Rattle.std.proofs.lemmas.List.Concat.{flat_map-cons}
 use Rattle.std.specs.List.{cons_option, filter_map, flat_map}
 use Rattle.std.specs.Option.{option_to_list}
 use Rattle.s7_base.specs.declared.broken.Break.{Break}
-use Rattle.stl_tree.specs.Stages.{brackets_at, brackets_from, open_then}
+use Rattle.stl_rules.specs.Stages.{brackets_at, brackets_from, open_then}
 use Rattle.stl_tree.specs.declared.program.Instr.{Instr}
 
 put : {Y : Type 0} (o : Option Y) (rest : List Y) → option_to_list o ++ rest ≡ cons_option o rest

@@ -4,11 +4,11 @@ use native.Mathlib.Numerals.{unary_clauses}
 use Rattle.s7_base.specs.Broken.{broken}
 use Rattle.s7_base.specs.declared.reason.Line.{Line}
 use Rattle.s7_base.specs.declared.reason.Reason.TheVariants.{BracketMissing, BracketOpen}
-use Rattle.stl_tree.specs.Programs.{op_with}
-use Rattle.stl_tree.specs.Stages.{brackets_at, open_then}
-use Rattle.stl_tree.specs.declared.given.Given.TheVariants as behind
-use Rattle.stl_tree.specs.declared.mnemonic.Mnemonic.{Mnemonic}
-use Rattle.stl_tree.specs.declared.mnemonic.Mnemonic.TheVariants as is
+use Rattle.stl_rules.specs.Programs.{op_with}
+use Rattle.stl_rules.specs.Stages.{brackets_at, open_then}
+use Rattle.stl_rules.specs.declared.given.Given.TheVariants as behind
+use Rattle.stl_grammar.specs.declared.mnemonic.Mnemonic.{Mnemonic}
+use Rattle.stl_grammar.specs.declared.mnemonic.Mnemonic.TheVariants as is
 use Rattle.stl_tree.specs.declared.program.Op.TheVariants as op
 
 pub none_with_other : (what : Mnemonic) → op_with what behind.Other ≡ None

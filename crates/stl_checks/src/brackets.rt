@@ -1,6 +1,6 @@
 //! The rules of brackets.
 ghost use Rattle.std.specs.Prelude.{◌≡◌, ◌++◌, length, IfOk, OnOk};
-ghost use Rattle.stl_tree.specs.Stages.{brackets_at, brackets_from, open_then};
+ghost use Rattle.stl_rules.specs.Stages.{brackets_at, brackets_from, open_then};
 
 use s7_base::{Break, Line, List, NoMemory, Reason, note, rest_after};
 use stl_tree::{Instr, Op};

@@ -3,18 +3,19 @@ ghost use Rattle.std.specs.Prelude.{◌≡◌, ◌≢◌, Some};
 ghost use Rattle.s7_base.specs.SignedNumbers.{pattern};
 ghost use Rattle.stl_tree.specs.Accumulators.{bits_wide, signed_part};
 ghost use Rattle.stl_tree.specs.Arithmetic.{is_comparison};
-ghost use Rattle.stl_tree.specs.Programs.{adding, combining, comparing, is_compared, loading, on_number, op_by, op_of, op_with, shifting, storing, value_in, with_number, within};
-ghost use Rattle.stl_tree.specs.Raw.{given_place, given};
-ghost use Rattle.stl_tree.specs.declared.given.Given.TheVariants as behind;
+ghost use Rattle.stl_rules.specs.Programs.{adding, combining, comparing, is_compared, loading, on_number, op_by, op_of, op_with, shifting, storing, value_in, with_number, within};
+ghost use Rattle.stl_rules.specs.Raw.{given_place, given};
+ghost use Rattle.stl_rules.specs.declared.given.Given.TheVariants as behind;
 ghost use Rattle.stl_tree.specs.declared.program.Op.TheVariants as op;
 ghost use Rattle.s7_base.specs.declared.word.Width.TheVariants as wide;
 
 use s7_base::{Check, Width};
 use status_word::Test;
+use stl_grammar::Mnemonic;
 use stl_instructions::{fits, is_in_area, logic_width, mnemonic_named, most_steps};
+use stl_rules::Given;
 use stl_tree::{
-    BitArg, Constant, Given, LoadArg, LogicRow, Mnemonic, Op, Operand, RawOp, RawOperand, RawPlace,
-    ShiftRow,
+    BitArg, Constant, LoadArg, LogicRow, Op, Operand, RawOp, RawOperand, RawPlace, ShiftRow,
 };
 
 /// A written place in its area.
@@ -30,7 +31,7 @@ fn given_place(place: RawPlace) -> Given
 }
 
 /// What stands behind the mnemonic of a raw operand.
-#[tactic(auto, unfolding(stl_tree::specs::Raw::given))]
+#[tactic(auto, unfolding(stl_rules::specs::Raw::given))]
 fn given(operand: &RawOperand) -> Given
     ensures { result ≡ given operand.now }
 {
@@ -301,7 +302,7 @@ fn op_with(what: Mnemonic, given: Given) -> Option<Op>
 }
 
 /// The instruction that a raw one is, if it is built.
-#[tactic(auto, unfolding(stl_tree::specs::Programs::op_of))]
+#[tactic(auto, unfolding(stl_rules::specs::Programs::op_of))]
 pub fn op_of(raw: &RawOp) -> Option<Op>
     ensures { result ≡ op_of raw.now }
 {

@@ -3,9 +3,9 @@ ghost use Rattle.std.specs.Prelude.{◌≡◌, [], IfOk, OnOk};
 ghost use Rattle.s7_base.specs.Answers.{Answers};
 ghost use Rattle.s7_base.specs.Broken.{broken, first_of_all};
 ghost use Rattle.stl_tree.specs.Accepted.{IsAccepted};
-ghost use Rattle.stl_tree.specs.Programs.{program_of};
-ghost use Rattle.stl_tree.specs.Stages.{brackets, first_broken, no_blocks, none_among, or_later, stages, unbuilt};
-ghost use Rattle.stl_tree.specs.Verdict.{judged, verdict};
+ghost use Rattle.stl_rules.specs.Programs.{program_of};
+ghost use Rattle.stl_rules.specs.Stages.{brackets, first_broken, no_blocks, none_among, or_later, stages, unbuilt};
+ghost use Rattle.stl_rules.specs.Verdict.{judged, verdict};
 
 use crate::program::{Broken, program_of};
 use s7_base::{Break, Line, List, NoMemory, Reason, Rejection, first_of_all};
@@ -42,7 +42,7 @@ fn first_broken(broken: &Broken, raw: &RawProgram) -> Option<Break>
 }
 
 /// The program of a raw program, or its first broken rule.
-#[tactic(auto, unfolding(stl_tree::specs::Verdict::judged))]
+#[tactic(auto, unfolding(stl_rules::specs::Verdict::judged))]
 fn judged(alloc: Global, raw: &RawProgram) -> Result<Program, Rejection>
     ensures { Answers result (judged raw.now) }
 {
@@ -58,7 +58,7 @@ fn judged(alloc: Global, raw: &RawProgram) -> Result<Program, Rejection>
 }
 
 /// The program of a text, or its first broken rule.
-#[tactic(auto, unfolding(stl_tree::specs::Verdict::verdict))]
+#[tactic(auto, unfolding(stl_rules::specs::Verdict::verdict))]
 pub fn verdict(alloc: Global, bytes: &[u8]) -> Result<Program, Rejection>
     ensures verdict { Answers result (verdict bytes.now) }
     ensures accepted { IfOk result (λ program. IsAccepted program) }

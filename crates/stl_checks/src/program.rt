@@ -2,8 +2,8 @@
 ghost use Rattle.std.specs.Prelude.{◌≡◌, ◌++◌, ◌&&◌, nat_le, IfOk, OnOk};
 ghost use Rattle.std.specs.List.{filter_map, flat_map};
 ghost use Rattle.std.specs.Option.{option_to_list};
-ghost use Rattle.stl_tree.specs.Programs.{block_name, block_of, body_of, instr_of, ob_name, program_of};
-ghost use Rattle.stl_tree.specs.Stages.{brackets, brackets_in, unbuilt, unbuilt_block, unbuilt_instr, unless_there};
+ghost use Rattle.stl_rules.specs.Programs.{block_name, block_of, body_of, instr_of, ob_name, program_of};
+ghost use Rattle.stl_rules.specs.Stages.{brackets, brackets_in, unbuilt, unbuilt_block, unbuilt_instr, unless_there};
 
 use crate::brackets::note_brackets;
 use crate::instruction::op_of;

@@ -3,14 +3,14 @@ use Rattle.std.proofs.Common.{◌≡◌, ℕ, List, [], ◌∷◌, drop, Result,
 use Rattle.s7_base.specs.declared.reason.Line.{Line}
 use Rattle.s7_base.specs.declared.reason.Rejection.{Rejection}
 use Rattle.s7_base.specs.declared.token.Token.{Token}
-use Rattle.stl_tree.proofs.GrammarLaws.{skipped}
-use Rattle.stl_tree.specs.Items.{item_at, items_from, prepend_item, with_found}
-use Rattle.stl_tree.specs.RawPrograms.{with_item}
-use Rattle.stl_tree.specs.declared.item.Found.{Found}
-use Rattle.stl_tree.specs.declared.item.Found.TheVariants.{Fits}
-use Rattle.stl_tree.specs.declared.item.Item.{Item}
-use Rattle.stl_tree.specs.declared.item.Reading.{Reading}
-use Rattle.stl_tree.specs.declared.item.Where.{Where}
+use Rattle.stl_grammar.proofs.GrammarLaws.{skipped}
+use Rattle.stl_grammar.specs.Items.{item_at, items_from, prepend_item, with_found}
+use Rattle.stl_grammar.specs.RawPrograms.{with_item}
+use Rattle.stl_grammar.specs.declared.item.Found.{Found}
+use Rattle.stl_grammar.specs.declared.item.Found.TheVariants.{Fits}
+use Rattle.stl_grammar.specs.declared.item.Item.{Item}
+use Rattle.stl_grammar.specs.declared.item.Reading.{Reading}
+use Rattle.stl_grammar.specs.declared.item.Where.{Where}
 use Rattle.stl_tree.specs.declared.raw.RawProgram.{RawProgram}
 use Rattle.stl_reader.specs.inner.Finding.{HasFirst, read_behind}
 

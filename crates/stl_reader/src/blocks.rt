@@ -2,17 +2,17 @@
 ghost use Rattle.std.specs.Prelude.{◌≡◌, ◌++◌, length, IfOk, OnOk};
 ghost use Rattle.s7_base.specs.Answers.{Answers};
 ghost use Rattle.s7_base.specs.Tokens.{line_at_end};
-ghost use Rattle.stl_tree.specs.Items.{items_from};
-ghost use Rattle.stl_tree.specs.RawPrograms.{blocks_in, headed, nothing_read, raw_with, with_item};
-ghost use Rattle.stl_tree.specs.Verdict.{raw_program, raw_text};
-ghost use Rattle.stl_tree.specs.declared.item.Item.TheVariants as item;
+ghost use Rattle.stl_grammar.specs.Items.{items_from};
+ghost use Rattle.stl_grammar.specs.RawPrograms.{blocks_in, headed, nothing_read, raw_with, with_item, raw_program, raw_text};
+ghost use Rattle.stl_grammar.specs.declared.item.Item.TheVariants as item;
 
 use crate::item::item_at;
 use s7_base::{Line, List, NoMemory, Rejection, Token, rest_after};
 use std::alloc::Global;
 use std::mem::replace;
+use stl_grammar::{Found, Item, Reading, Where};
 use stl_lexer::tokens;
-use stl_tree::{BlockKind, Found, Item, RawBlock, RawInstr, RawName, RawProgram, Reading, Where};
+use stl_tree::{BlockKind, RawBlock, RawInstr, RawName, RawProgram};
 
 /// A block of which the heading alone is known.
 fn headed(alloc: Global, line: Line, kind: BlockKind, name: RawName) -> RawBlock
@@ -95,7 +95,7 @@ fn finish(alloc: Global, reading: Reading) -> Result<RawProgram, NoMemory>
 }
 
 /// The raw program of the tokens of a text that ends on a line.
-#[tactic(auto, unfolding(stl_tree::specs::Verdict::raw_program))]
+#[tactic(auto, unfolding(stl_grammar::specs::RawPrograms::raw_program))]
 fn read_tokens(alloc: Global, tokens: &[Token], end: Line) -> Result<RawProgram, Rejection>
     ensures { Answers result (raw_program end tokens.now) }
 {
@@ -127,7 +127,7 @@ fn line_at_end(bytes: &[u8]) -> Line
 }
 
 /// The raw program of a text, or the first token or item that does not fit.
-#[tactic(auto, unfolding(stl_tree::specs::Verdict::raw_text))]
+#[tactic(auto, unfolding(stl_grammar::specs::RawPrograms::raw_text))]
 pub fn read_blocks(alloc: Global, bytes: &[u8]) -> Result<RawProgram, Rejection>
     ensures { Answers result (raw_text bytes.now) }
 {

@@ -1,11 +1,12 @@
 //! Headings of blocks.
 ghost use Rattle.std.specs.Prelude.{◌≡◌};
-ghost use Rattle.stl_tree.specs.Items.{begins_with_ob, block_number, heading_with, number_behind, number_within, heading_named, heading_at};
+ghost use Rattle.stl_grammar.specs.Items.{begins_with_ob, block_number, heading_with, number_behind, number_within, heading_named, heading_at};
 
 use crate::misfit::misfit_reason;
 use s7_base::{Line, Token, front_of, is_same_word, rest_after};
+use stl_grammar::{Found, Item, Where, number_of};
 use stl_instructions::{is_word, is_word_kind};
-use stl_tree::{BlockKind, Found, Item, RawName, Where, number_of};
+use stl_tree::{BlockKind, RawName};
 
 /// The number of an organization block, from 1.
 fn block_number(digits: &[u8]) -> Option<u32>

@@ -1,15 +1,16 @@
 //! The item at a place of a text.
 ghost use Rattle.std.specs.Prelude.{◌≡◌, [], take, IfOk};
-ghost use Rattle.stl_tree.specs.Items.{end_word, is_end, is_complete, statement_at, statement_size, begin_at, statement_found, statement_from, body_at, at_end, at_token, item_at};
-ghost use Rattle.stl_tree.specs.Statements.{instruction_of};
+ghost use Rattle.stl_grammar.specs.Items.{end_word, is_end, is_complete, statement_at, statement_size, begin_at, statement_found, statement_from, body_at, at_end, at_token, item_at};
+ghost use Rattle.stl_grammar.specs.Statements.{instruction_of};
 ghost use Rattle.stl_reader.specs.inner.Finding.{HasFirst};
 
 use crate::heading::heading_at;
 use crate::misfit::{is_semicolon, misfit_reason, statement_reason, statement_size};
 use s7_base::{Line, NoMemory, Reason, Rejection, Token, front_of};
 use std::alloc::Global;
+use stl_grammar::{Found, Item, Where};
 use stl_instructions::{instruction, is_word};
-use stl_tree::{BlockKind, Found, Item, Where};
+use stl_tree::BlockKind;
 
 /// The end word of a kind of block.
 fn end_word(kind: BlockKind) -> &'static str
@@ -125,7 +126,7 @@ fn at_end(end: Line, place: Where) -> Found
 }
 
 /// What stands at a place of a text that ends on a line, given the tokens from there.
-#[tactic(auto, unfolding(stl_tree::specs::Items::item_at))]
+#[tactic(auto, unfolding(stl_grammar::specs::Items::item_at))]
 pub fn item_at(alloc: Global, end: Line, place: Where, tokens: &[Token]) -> Result<Found, NoMemory>
     ensures found { IfOk result (λ found. found ≡ item_at end place tokens.now) }
     ensures some { IfOk result (HasFirst tokens.now) }

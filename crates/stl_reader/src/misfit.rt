@@ -1,12 +1,12 @@
 //! Why an item that fits no form is refused.
 ghost use Rattle.std.specs.Prelude.{◌≡◌, ◌≤◌, take, not, length};
-ghost use Rattle.stl_tree.specs.Items.{is_semicolon, statement_size, begins_with_block_word, is_not_built, label_at, cut_off_at, is_complete, misfit_reason, statement_reason};
+ghost use Rattle.stl_grammar.specs.Items.{is_semicolon, statement_size, begins_with_block_word, is_not_built, label_at, cut_off_at, is_complete, misfit_reason, statement_reason};
 
 use crate::cut_off::is_heading_cut_off;
 use crate::words::is_block_word;
 use s7_base::{Kind, Reason, Token};
+use stl_grammar::Where;
 use stl_instructions::{begins_with_label, begins_with_mnemonic, is_sign};
-use stl_tree::Where;
 
 pub fn is_semicolon(token: &Token) -> bool
     ensures { result ≡ is_semicolon token.now }
@@ -59,7 +59,7 @@ fn begins_with_block_word(tokens: &[Token]) -> bool
 }
 
 /// Whether the item has a form of the language that is not built yet.
-#[tactic(auto, unfolding(stl_tree::specs::Items::is_not_built))]
+#[tactic(auto, unfolding(stl_grammar::specs::Items::is_not_built))]
 fn is_not_built(place: Where, tokens: &[Token]) -> bool
     ensures { result ≡ is_not_built place tokens.now }
 {

@@ -7,9 +7,10 @@ use status_word::Test;
 use std::alloc::Global;
 use std::process::Abort;
 use std::test::Fail;
+use stl_grammar::Mnemonic;
 use stl_instructions::{instruction, mnemonic_named};
 use stl_lexer::tokens;
-use stl_tree::{Constant, Mnemonic, RawOperand, RawPlace};
+use stl_tree::{Constant, RawOperand, RawPlace};
 
 /// An operand.
 #[derive(Clone, Copy, Debug, PartialEq)]

@@ -6,7 +6,8 @@ use memory_areas::AreaName;
 use s7_base::{Kind, Reason, Width};
 use status_word::Test;
 use std::test::Fail;
-use stl_tree::{Arith, LogicRow, Mnemonic, ShiftRow, UnaryRow};
+use stl_grammar::Mnemonic;
+use stl_tree::{Arith, LogicRow, ShiftRow, UnaryRow};
 
 /// Mnemonics that stand alone.
 static ALONE: [Row; 53] = [

@@ -1,5 +1,5 @@
 -- The rules that a program keeps where the verdict gives it.
-use Rattle.std.specs.Prelude.{◌≡◌, ◌≢◌, ℕ, ◌≤◌, ◌<◌, ◌^◌, true, false, Option, Some, List, [], ◌∷◌, All, None, Ok}
+use Rattle.std.specs.Prelude.{◌≡◌, ◌≢◌, ℕ, ◌≤◌, ◌<◌, ◌^◌, true, false, Option, Some, List, [], ◌∷◌, All, None}
 use Rattle.memory_areas.specs.Access.{is_byte_in, is_unaligned}
 use Rattle.memory_areas.specs.Areas.{AreBlocks}
 use Rattle.s7_base.specs.SignedNumbers.{is_over}
@@ -11,7 +11,6 @@ use Rattle.stl_tree.specs.Arithmetic.{is_comparison}
 use Rattle.stl_tree.specs.Brackets.{AreNested}
 use Rattle.stl_tree.specs.Shifts.{most_steps}
 use Rattle.stl_tree.specs.StlRun.{block_named}
-use Rattle.stl_tree.specs.Verdict.{verdict}
 use Rattle.stl_tree.specs.WordLogic.{width_of as logic_width}
 use Rattle.stl_tree.specs.declared.accumulator.ShiftRow.{ShiftRow}
 use Rattle.stl_tree.specs.declared.program.BitArg.TheVariants as arg
@@ -170,10 +169,6 @@ pub record IsAccepted (program : Program) : Type 0 where
   pub some : program.blocks ≢ []
   pub blocks : All IsAcceptedBlock program.blocks
   pub names : AreDistinct program.blocks
-  pub data : AreBlocks program.dbs
+  pub dbs : AreBlocks program.dbs
   pub symbols : All IsSymbol program.symbols
   pub instances : program.instances ≡ []
-
--- the verdict gives only programs that keep the rules
-abbrev pub VerdictIsAccepted : Type 0
-VerdictIsAccepted = (bytes : List ℕ) (program : Program) → verdict bytes ≡ Ok program → IsAccepted program

@@ -1,18 +1,13 @@
-//! STL programs, and what a source text means as one.
+//! STL programs, raw and made, and what they do.
 //!
 //! Stands on `s7_base` and `memory_areas`. A form that is built later adds a variant, or fills a field that
-//! is empty so far. `specs/` has the source grammar above its tokens: the items of a text, its blocks, and
-//! the verdict, which is a program or the first broken rule and its line; and the rules that each such
-//! program keeps. It has what a program does, too: the state that an instruction works on, what operands
-//! name, the instruction table and the run, whose laws `run_laws` proves.
+//! is empty so far. `specs/` has the rules that each accepted program keeps, and what a program does: the
+//! state that an instruction works on, what operands name, the instruction table and the run, whose laws
+//! `run_laws` proves. How a source text becomes a program stands in `stl_grammar` and `stl_rules`.
 #![tactic(auto)]
 
 pub use accumulator::{Arith, LogicRow, ShiftRow, UnaryRow};
-pub use given::Given;
-pub use item::{Found, Item, Reading, Where};
 pub use memory_areas::{BlockName, Call};
-pub use mnemonic::{Mnemonic, Prefix, Read, Shape};
-pub use number::{Bits, number_of};
 pub use program::{
     Actual, BitArg, Block, BlockCall, Formal, Instance, Instr, LoadArg, Mode, Op, OpenArg, Operand,
     Program, Symbol,
@@ -23,14 +18,8 @@ pub use raw::{
     RawPlace, RawPointer, RawProgram, SymbolAddress, SymbolLine,
 };
 pub use run_laws::{end_stays, steps_add};
-pub use source_laws::{items_have_forms, verdict_accepts_the_grammar, verdict_is_accepted};
 
 mod accumulator;
-mod given;
-mod item;
-mod mnemonic;
-mod number;
 mod program;
 mod raw;
 mod run_laws;
-mod source_laws;

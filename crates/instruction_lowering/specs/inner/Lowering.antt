@@ -58,4 +58,4 @@ unit_of b = record { head = head_for b; graph = record { nodes = node_of b.body 
 
 -- the graph program of a program
 abbrev pub lowered : Program → GraphProgram
-lowered p = record { dbs = []; globals = []; pous = map unit_of p.blocks }
+lowered p = record { dbs = p.dbs; globals = []; pous = map unit_of p.blocks }

@@ -1,16 +1,17 @@
 -- The statements of each instruction: an assignment for each bit of the status word that its row changes, but for
 -- STA, which nothing reads.
-use Rattle.std.specs.Prelude.{ℕ, ◌+◌, Bool, true, false, List, [], ◌∷◌, length}
+use Rattle.std.specs.Prelude.{ℕ, ◌+◌, Bool, true, false, List, [], ◌∷◌, ◌++◌, length}
 use Rattle.accumulator_templates.specs.Conversions.{cad_of, caw_of, invd_of, invi_of, itd_of}
 use Rattle.accumulator_templates.specs.Logic.{logic_of, types_of_logic}
-use Rattle.accumulator_templates.specs.Moves.{exchange_of, load_of, pop_of, push_of, status_load_of, status_store_of, transfer_of, types_of_exchange}
+use Rattle.accumulator_templates.specs.DataBlocks.{block_exchange_of, block_open_of, number_load_of, types_of_block_exchange}
+use Rattle.accumulator_templates.specs.Moves.{exchange_of, load_of, pop_of, push_of, status_load_of, status_store_of, transfer_of, types_of_exchange, types_of_load}
 use Rattle.accumulator_templates.specs.Sums.{add_dword_of, add_word_of, dec_of, inc_of}
 use Rattle.arithmetic_templates.specs.Calculations.{calculated_of, negated_of, types_of_calculated}
 use Rattle.arithmetic_templates.specs.Comparisons.{compared_of, types_of_compared}
 use Rattle.digit_templates.specs.FromDigits.{bti_of, btd_of}
 use Rattle.digit_templates.specs.ToDigits.{itb_of, dtb_of}
 use Rattle.shift_templates.specs.ShiftTemplates.{rlda_template, rrda_template, shift_template, types_of_shift, types_through_cc1}
-use Rattle.instruction_lowering.specs.Temporaries.{types_of_unary}
+use Rattle.instruction_lowering.specs.Temporaries.{types_checked, types_of_edge, types_of_unary}
 use Rattle.instruction_lowering.specs.declared.statements.Chain.{Chain}
 use Rattle.instruction_lowering.specs.declared.statements.OpenBracket.{OpenBracket}
 use Rattle.instruction_lowering.specs.declared.statements.Spot.{Spot}
@@ -27,6 +28,7 @@ use Rattle.stl_tree.specs.declared.program.BitArg.{BitArg}
 use Rattle.stl_tree.specs.declared.program.BitArg.TheVariants as arg
 use Rattle.stl_tree.specs.declared.program.Op.{Op}
 use Rattle.stl_tree.specs.declared.program.Op.TheVariants as op
+use Rattle.stl_tree.specs.declared.program.Operand.{Operand}
 use Rattle.st_tree.specs.declared.expr.StType.{StType}
 use Rattle.st_tree.specs.declared.expr.Var.{Var}
 use Rattle.st_tree.specs.declared.expr.Var.TheVariants as var
@@ -34,6 +36,7 @@ use Rattle.st_tree.specs.declared.expr.Expr.{Expr}
 use Rattle.st_tree.specs.declared.expr.Expr.TheVariants as expr
 use Rattle.st_tree.specs.declared.program.Stmt.{Stmt}
 use Rattle.st_tree.specs.declared.program.Stmt.TheVariants as stmt
+use Rattle.row_templates.specs.Fetching.{fetch_of, fetched_of, opened_of, types_fetched}
 use Rattle.row_templates.specs.Builders.{and_of, bit_of, cleared, literal_of, not_of, or_of, read_of, set_of, xor_of}
 
 -- Expressions
@@ -52,9 +55,14 @@ answer_of test.Os = read_of reg.Os
 answer_of test.Br = read_of reg.Br
 
 -- what a check looks at
-abbrev pub checked_of : BitArg → Expr
-checked_of (arg.At o) = expr.Read (bit_of o)
-checked_of (arg.Flag t) = answer_of t
+abbrev pub checked_of : ℕ → BitArg → Expr
+checked_of first (arg.At o) = fetched_of first o width.Bit
+checked_of first (arg.Flag t) = answer_of t
+
+-- what stands before it
+abbrev pub before_check : ℕ → BitArg → List Stmt
+before_check first (arg.At o) = fetch_of first o width.Bit
+before_check first (arg.Flag t) = []
 
 -- Checks
 
@@ -86,18 +94,18 @@ next_rlo chain check.Xn b = xor_of (rlo_before_or chain) (not_of b)
 -- Bits
 
 -- what S and R leave in a bit
-abbrev pub set_value : Var → Expr
-set_value v = or_of (expr.Read v) (read_of reg.Rlo)
+abbrev pub set_value : Expr → Expr
+set_value b = or_of b (read_of reg.Rlo)
 
-abbrev pub reset_value : Var → Expr
-reset_value v = and_of (expr.Read v) (not_of (read_of reg.Rlo))
+abbrev pub reset_value : Expr → Expr
+reset_value b = and_of b (not_of (read_of reg.Rlo))
 
 -- the rising and the falling edge, by an edge bit
-abbrev pub rising : Var → Expr
-rising v = and_of (read_of reg.Rlo) (not_of (expr.Read v))
+abbrev pub rising : Expr → Expr
+rising b = and_of (read_of reg.Rlo) (not_of b)
 
-abbrev pub falling : Var → Expr
-falling v = and_of (not_of (read_of reg.Rlo)) (expr.Read v)
+abbrev pub falling : Expr → Expr
+falling b = and_of (not_of (read_of reg.Rlo)) b
 
 -- Statements
 
@@ -118,10 +126,21 @@ check_of c b = set_of reg.Rlo (next_rlo running_chain c b) ∷ behind_check c
 abbrev pub store_of : Var → Expr → List Stmt
 store_of v e = stmt.Assign v e ∷ cleared false
 
+-- S or R of a bit, which is read before it takes what the value makes of it
+abbrev pub stored_of : ℕ → Operand → (Expr → Expr) → List Stmt
+stored_of first o value =
+    fetch_of first o width.Bit ++ store_of (bit_of o) (value (fetched_of first o width.Bit))
+
 -- FP or FN of an edge bit: a local keeps what the RLO becomes until the bit has the old RLO
 abbrev pub edge_of : ℕ → Var → Expr → List Stmt
 edge_of i v e =
     stmt.Assign (var.Local i) e ∷ stmt.Assign v (read_of reg.Rlo) ∷ set_of reg.Rlo (expr.Read (var.Local i)) ∷ cleared true
+
+-- FP or FN of an edge bit, which is read before
+abbrev pub edge_at : ℕ → Operand → (Expr → Expr) → List Stmt
+edge_at first o value =
+    fetch_of first o width.Bit
+    ++ edge_of (first + length (types_fetched o width.Bit)) (bit_of o) (value (fetched_of first o width.Bit))
 
 -- the RLO is set or cleared, and the chain ends
 abbrev pub rlo_set : Bool → List Stmt
@@ -167,20 +186,21 @@ abbrev pub outer_of : List OpenBracket → List OpenBracket
 outer_of [] = []
 outer_of (o ∷ outer) = outer
 
--- the spot behind an instruction with a local of its own
-abbrev pub one_more : Spot → Spot
-one_more p = record { used = p.used + 1; brackets = p.brackets }
-
 -- the spot behind an instruction with locals of these types
 abbrev pub more : List StType → Spot → Spot
 more types p = record { used = p.used + length types; brackets = p.brackets }
 
--- the spot behind an instruction: an opened bracket has three locals of its own, and an edge one
+-- the spot behind an instruction: an opened bracket has three locals of its own
 abbrev pub behind : Op → Spot → Spot
 behind (op.Bracket c) p = record { used = p.used + 3; brackets = record { check = c; kept = chain_at p.used } ∷ p.brackets }
 behind op.Close p = record { used = p.used; brackets = outer_of p.brackets }
-behind (op.EdgeUp o) p = one_more p
-behind (op.EdgeDown o) p = one_more p
+behind (op.Check c b) p = more (types_checked b) p
+behind (op.Set o) p = more (types_fetched o width.Bit) p
+behind (op.Reset o) p = more (types_fetched o width.Bit) p
+behind (op.EdgeUp o) p = more (types_of_edge o) p
+behind (op.EdgeDown o) p = more (types_of_edge o) p
+behind (op.Load a) p = more (types_of_load a) p
+behind op.ExchangeDb p = more types_of_block_exchange p
 behind (op.Arith a) p = more (types_of_calculated a) p
 behind (op.Compare t w) p = more (types_of_compared w) p
 behind (op.Shift s count) p = more (types_of_shift s count) p
@@ -209,24 +229,26 @@ unary_of first unary.Negd = negated_of first width.Dword
 
 -- the statements of an instruction at a spot
 abbrev pub statements_of : Spot → Op → List Stmt
-statements_of p (op.Check c b) = check_of c (checked_of b)
+statements_of p (op.Check c b) = before_check p.used b ++ check_of c (checked_of p.used b)
 statements_of p op.OrAlone =
     set_of reg.Orb (and_of (read_of reg.Rlo) (read_of reg.Nfc)) ∷ set_of reg.Nfc (literal_of false) ∷ []
 statements_of p (op.Bracket c) = open_of p.used
 statements_of p op.Close = close_of p.brackets
-statements_of p (op.Assign o) = store_of (bit_of o) (read_of reg.Rlo)
-statements_of p (op.Set o) = store_of (bit_of o) (set_value (bit_of o))
-statements_of p (op.Reset o) = store_of (bit_of o) (reset_value (bit_of o))
+statements_of p (op.Assign o) = opened_of o ++ store_of (bit_of o) (read_of reg.Rlo)
+statements_of p (op.Set o) = stored_of p.used o set_value
+statements_of p (op.Reset o) = stored_of p.used o reset_value
 statements_of p op.SetRlo = rlo_set true
 statements_of p op.ClearRlo = rlo_set false
 statements_of p op.NotRlo = set_of reg.Rlo (not_of (read_of reg.Rlo)) ∷ []
 statements_of p op.Save = set_of reg.Br (read_of reg.Rlo) ∷ []
-statements_of p (op.EdgeUp o) = edge_of p.used (bit_of o) (rising (bit_of o))
-statements_of p (op.EdgeDown o) = edge_of p.used (bit_of o) (falling (bit_of o))
-statements_of p (op.Load a) = load_of a
+statements_of p (op.EdgeUp o) = edge_at p.used o rising
+statements_of p (op.EdgeDown o) = edge_at p.used o falling
+statements_of p (op.Load a) = load_of p.used a
 statements_of p (op.Transfer o w) = transfer_of o w
 statements_of p op.LoadStw = status_load_of
 statements_of p op.TransferStw = status_store_of
+statements_of p op.LoadDbNo = number_load_of reg.DbNo
+statements_of p op.LoadDiNo = number_load_of reg.DiNo
 statements_of p (op.Arith a) = calculated_of p.used a
 statements_of p (op.AddWord n) = add_word_of n
 statements_of p (op.AddDword n) = add_dword_of n
@@ -241,5 +263,8 @@ statements_of p (op.Unary u) = unary_of p.used u
 statements_of p op.Tak = exchange_of p.used
 statements_of p op.Push = push_of
 statements_of p op.Pop = pop_of
+statements_of p (op.OpenDb d) = block_open_of reg.DbNo d
+statements_of p (op.OpenDi d) = block_open_of reg.DiNo d
+statements_of p op.ExchangeDb = block_exchange_of p.used
 statements_of p op.Nop = []
 statements_of p op.BlockEnd = []

@@ -2,11 +2,11 @@
 use Rattle.std.specs.Prelude.{List, [], ◌∷◌, Result, Ok, Err}
 use Rattle.s7_base.specs.declared.reason.Rejection.{Rejection}
 use Rattle.s7_base.specs.declared.token.Token.{Token}
-use Rattle.stl_tree.specs.RawPrograms.{raw_behind}
-use Rattle.stl_tree.specs.declared.item.Found.{Found}
-use Rattle.stl_tree.specs.declared.item.Found.TheVariants.{Fits, Misfit, Ended}
-use Rattle.stl_tree.specs.declared.item.Item.{Item}
-use Rattle.stl_tree.specs.declared.item.Reading.{Reading}
+use Rattle.stl_grammar.specs.RawPrograms.{raw_behind}
+use Rattle.stl_grammar.specs.declared.item.Found.{Found}
+use Rattle.stl_grammar.specs.declared.item.Found.TheVariants.{Fits, Misfit, Ended}
+use Rattle.stl_grammar.specs.declared.item.Item.{Item}
+use Rattle.stl_grammar.specs.declared.item.Reading.{Reading}
 use Rattle.stl_tree.specs.declared.raw.RawProgram.{RawProgram}
 
 -- an item has a first token

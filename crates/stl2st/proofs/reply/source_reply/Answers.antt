@@ -1,6 +1,6 @@
 use Rattle.std.proofs.Common.{◌≡◌, ◌∙◌, List, ℕ, Err, refl, sym, ap}
 use Rattle.s7_base.specs.declared.reason.Rejection.TheVariants as rejection
-use Rattle.stl_tree.specs.Verdict.{verdict}
+use Rattle.stl_rules.specs.Verdict.{verdict}
 use Rattle.stl2st.proofs.Answering.{source_long, source_read, source_refused}
 use Rattle.stl2st.proofs.InputsRead.{not_none, refused_alone, refused_wants_none, work_reads}
 use Rattle.stl2st.specs.Answer.{AnswersWork, IsAcceptedAs, IsRefusedSource, WantsRow, stl}

@@ -1,5 +1,5 @@
 use Rattle.std.proofs.Common.{rules, ◌≤◌, length}
-use Rattle.stl_tree.specs.Programs.{block_of}
+use Rattle.stl_rules.specs.Programs.{block_of}
 use Rattle.stl_checks.proofs.Lists.{all_made}
 use Rattle.stl_checks.proofs.program.put_blocks.Goals as goal
 

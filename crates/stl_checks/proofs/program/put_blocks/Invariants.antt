@@ -1,8 +1,8 @@
 use Rattle.std.proofs.Common.{◌≡◌, ◌++◌, take}
 use Rattle.std.specs.List.{flat_map}
 use Rattle.std.specs.Option.{option_to_list}
-use Rattle.stl_tree.specs.Programs.{block_of}
-use Rattle.stl_tree.specs.Stages.{brackets_in, unbuilt_block}
+use Rattle.stl_rules.specs.Programs.{block_of}
+use Rattle.stl_rules.specs.Stages.{brackets_in, unbuilt_block}
 use Rattle.stl_checks.proofs.program.put_blocks.Given as goal
 
 abbrev pub invariant-loop-raw : goal.invariant-loop-raw

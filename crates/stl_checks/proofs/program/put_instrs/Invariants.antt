@@ -1,8 +1,8 @@
 use Rattle.std.proofs.Common.{◌≡◌, ◌++◌, take}
 use Rattle.std.specs.List.{flat_map}
 use Rattle.std.specs.Option.{option_to_list}
-use Rattle.stl_tree.specs.Programs.{instr_of}
-use Rattle.stl_tree.specs.Stages.{unbuilt_instr}
+use Rattle.stl_rules.specs.Programs.{instr_of}
+use Rattle.stl_rules.specs.Stages.{unbuilt_instr}
 use Rattle.stl_checks.proofs.program.put_instrs.Given as goal
 
 abbrev pub invariant-loop-raw : goal.invariant-loop-raw

@@ -1,5 +1,5 @@
 use Rattle.std.proofs.Common.{◌∙◌, sym, subst}
-use Rattle.stl_tree.specs.declared.item.Found.{Found}
+use Rattle.stl_grammar.specs.declared.item.Found.{Found}
 use Rattle.stl_reader.specs.inner.Finding.{HasFirst}
 use Rattle.stl_reader.proofs.Walk.{item_taken}
 use Rattle.stl_reader.proofs.blocks.read_tokens.Goals as goal

@@ -1,6 +1,6 @@
 use Rattle.std.proofs.Common.{◌≡◌, length}
-use Rattle.stl_tree.specs.Items.{items_from, items_of}
-use Rattle.stl_tree.specs.RawPrograms.{nothing_read}
+use Rattle.stl_grammar.specs.Items.{items_from, items_of}
+use Rattle.stl_grammar.specs.RawPrograms.{nothing_read}
 use Rattle.stl_reader.specs.inner.Finding.{read_behind}
 use Rattle.stl_reader.proofs.blocks.read_tokens.Given as goal
 

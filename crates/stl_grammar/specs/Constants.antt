@@ -1,0 +1,295 @@
+-- The constants of the language as they are written, with their widths and values, and those that are left out.
+use Rattle.std.specs.Prelude.{ℕ, ◌+◌, ◌-◌, ◌*◌, ◌^◌, pos, neg_ℤ, Bool, true, false, ◌==◌, ◌&&◌, ◌||◌, nat_lt, nat_le, if◌then◌else◌, List, [], ◌∷◌, map, drop, codes, Option, Some, None, option_and_then, option_map}
+use Rattle.std.specs.Char.{to_ascii_uppercase}
+use Rattle.std.specs.List.{find, prefix_len}
+use Rattle.s7_base.specs.SignedNumbers.{pattern}
+use Rattle.s7_base.specs.Tokens.{is_between}
+use Rattle.s7_base.specs.declared.reason.Kind.TheVariants as kind
+use Rattle.s7_base.specs.declared.token.Token.{Token}
+use Rattle.s7_base.specs.declared.word.Width.{Width}
+use Rattle.s7_base.specs.declared.word.Width.TheVariants as width
+use Rattle.stl_tree.specs.Accumulators.{bits_wide}
+use Rattle.stl_grammar.specs.Numbers.{are_digits, bits_of, hex_number}
+use Rattle.stl_grammar.specs.Readers.{fitting, number_in, or_else, read_as}
+use Rattle.stl_grammar.specs.Words.{is_joined, is_joined_word, is_sign, is_text_kind, is_word, is_word_kind}
+use Rattle.stl_grammar.specs.declared.mnemonic.Prefix.{Prefix}
+use Rattle.stl_grammar.specs.declared.mnemonic.Prefix.TheVariants as prefix
+use Rattle.stl_grammar.specs.declared.mnemonic.Read.{Read}
+use Rattle.stl_grammar.specs.declared.mnemonic.Read.TheVariants.{Fits, LeftOut, No}
+use Rattle.stl_grammar.specs.declared.number.Bits.{Bits}
+use Rattle.stl_tree.specs.declared.raw.Constant.{Constant}
+
+-- a constant of a width
+abbrev pub constant : Width → ℕ → Constant
+constant w value = record { width = w; signed = false; binary = false; value = value }
+
+-- a plain number, by its pattern
+abbrev pub plain : ℕ → Constant
+plain value = record { width = width.Word; signed = true; binary = false; value = value }
+
+-- Numbers with a sign
+
+-- half of the patterns of a width: numbers with a sign go from -half to half - 1
+abbrev pub half : Width → ℕ
+half w = 2 ^ (bits_wide w - 1)
+
+-- the pattern of a negative number
+abbrev pub negative : Width → ℕ → ℕ
+negative w n = pattern (bits_wide w) (neg_ℤ (pos n))
+
+-- behind a minus: the pattern of a negative number, with no blank before its digits
+abbrev pub negative_behind : Width → List Token → Option ℕ
+negative_behind w [] = None
+negative_behind w (token ∷ rest) = if token.glued then option_map (negative w) (number_in (half w) token) else None
+
+-- the pattern of a number with its sign, behind so many tokens
+abbrev pub signed_at : ℕ → Width → List Token → Read ℕ
+signed_at before w [] = No
+signed_at before w (first ∷ rest) =
+    if is_sign (codes "-") first
+    then fitting (before + 2) (negative_behind w rest)
+    else fitting (before + 1) (number_in (half w - 1) first)
+
+-- Hexadecimal numbers and bytes in brackets
+
+-- `16#` and digits, with no blank inside: a number that fits the width
+abbrev pub hex_of : Width → Token → Token → Token → Option Constant
+hex_of w base hash digits =
+    if is_word (codes "16") base && base.glued && is_joined (codes "#") hash && is_joined_word digits
+    then option_map (constant w) (hex_number (2 ^ bits_wide w - 1) digits.text)
+    else None
+
+abbrev pub hex_behind : Width → List Token → Read Constant
+hex_behind w [] = No
+hex_behind w (a ∷ []) = No
+hex_behind w (a ∷ b ∷ []) = No
+hex_behind w (base ∷ hash ∷ digits ∷ rest) = fitting 5 (hex_of w base hash digits)
+
+-- a number to the base 256 with one digit more
+abbrev pub with_byte : ℕ → ℕ → ℕ
+with_byte value b = value * 256 + b
+
+-- two numbers from 0 to 255 with a comma between them, to the base 256
+abbrev pub pair_of : Token → Token → Token → Option ℕ
+pair_of high comma low =
+    if is_sign (codes ",") comma
+    then option_and_then (λ a. option_map (λ b. with_byte a b) (number_in 255 low)) (number_in 255 high)
+    else None
+
+-- `(a,b)`
+abbrev pub two_bytes : Token → Token → Token → Token → Token → Option Constant
+two_bytes before a comma b behind =
+    if is_joined (codes "(") before && is_sign (codes ")") behind
+    then option_map (constant width.Word) (pair_of a comma b)
+    else None
+
+abbrev pub two_behind : List Token → Read Constant
+two_behind (before ∷ a ∷ comma ∷ b ∷ behind ∷ rest) = fitting 7 (two_bytes before a comma b behind)
+two_behind fewer = No
+
+-- `(a,b,c,d)`, by its two halves
+abbrev pub four_bytes : Token → Option ℕ → Token → Option ℕ → Token → Option Constant
+four_bytes before high comma low behind =
+    if is_joined (codes "(") before && is_sign (codes ",") comma && is_sign (codes ")") behind
+    then option_and_then (λ h. option_map (λ l. constant width.Dword (h * 2 ^ 16 + l)) low) high
+    else None
+
+abbrev pub four_behind : List Token → Read Constant
+four_behind (before ∷ a ∷ comma ∷ b ∷ second ∷ c ∷ third ∷ d ∷ behind ∷ rest) =
+    fitting 11 (four_bytes before (pair_of a comma b) second (pair_of c third d) behind)
+four_behind fewer = No
+
+-- Binary numbers
+
+-- the least width that has room for so many digits
+abbrev pub room_for : ℕ → Width
+room_for count = if nat_le count 8 then width.Byte else if nat_le count 16 then width.Word else width.Dword
+
+-- a binary constant, by its digits
+abbrev pub binary : Bits → Constant
+binary bits = record { width = room_for bits.count; signed = false; binary = true; value = bits.value }
+
+-- binary digits, with no blank before them
+abbrev pub binary_of : Token → Option Constant
+binary_of digits = if is_joined_word digits then option_map binary (bits_of digits.text) else None
+
+abbrev pub binary_behind : List Token → Read Constant
+binary_behind [] = No
+binary_behind (digits ∷ rest) = fitting 3 (binary_of digits)
+
+-- Prefixes
+
+-- behind `L#`
+abbrev pub long_behind : List Token → Read Constant
+long_behind [] = No
+long_behind (first ∷ rest) =
+    if first.glued then read_as (constant width.Dword) (signed_at 2 width.Dword (first ∷ rest)) else No
+
+-- behind `P#`: another `#` before a name
+abbrev pub name_behind : List Token → Read Constant
+name_behind [] = No
+name_behind (hash ∷ rest) = if is_joined (codes "#") hash then LeftOut kind.NamePointer else No
+
+-- what stands behind a prefix
+abbrev pub behind_prefix : Prefix → List Token → Read Constant
+behind_prefix prefix.Long rest = long_behind rest
+behind_prefix (prefix.Hex w) rest = hex_behind w rest
+behind_prefix prefix.Bytes rest = or_else (hex_behind width.Byte rest) (or_else (two_behind rest) (four_behind rest))
+behind_prefix prefix.Binary rest = binary_behind rest
+behind_prefix prefix.Pointer rest = name_behind rest
+behind_prefix (prefix.LeftOut kind) rest = LeftOut kind
+
+-- a word before a `#`, and what stands behind it
+pub record Prefixed : Type 0 where
+  pub word : List ℕ
+  pub what : Prefix
+
+abbrev pub prefixed : Prefix → List ℕ → Prefixed
+prefixed what word = record { word = word; what = what }
+
+-- the constants that are left out: counts, names, times and dates; pointers are not built yet
+abbrev pub left_out_prefixes : List Prefixed
+left_out_prefixes =
+    prefixed (prefix.LeftOut kind.Counter) (codes "C") ∷ prefixed prefix.Pointer (codes "P")
+    ∷ map (prefixed (prefix.LeftOut kind.DateTime))
+    (codes "T" ∷ codes "TIME" ∷ codes "S5T" ∷ codes "S5TIME" ∷ codes "D" ∷ codes "DATE" ∷ codes "TOD" ∷ codes "DT" ∷ [])
+
+-- those that can be added: a double word
+abbrev pub addend_prefixes : List Prefixed
+addend_prefixes = prefixed prefix.Long (codes "L") ∷ left_out_prefixes
+
+-- all
+abbrev pub prefixes : List Prefixed
+prefixes =
+    prefixed prefix.Bytes (codes "B") ∷ prefixed (prefix.Hex width.Word) (codes "W")
+    ∷ prefixed (prefix.Hex width.Dword) (codes "DW") ∷ prefixed prefix.Binary (codes "2") ∷ addend_prefixes
+
+-- the prefix stands at the front, with no blank before its `#`
+abbrev pub has_prefix : List Token → Prefixed → Bool
+has_prefix [] row = false
+has_prefix (first ∷ []) row = false
+has_prefix (first ∷ hash ∷ rest) row = is_word row.word first && is_joined (codes "#") hash
+
+abbrev pub prefixed_by : Option Prefixed → List Token → Read Constant
+prefixed_by None tokens = No
+prefixed_by (Some row) tokens = behind_prefix row.what (drop 2 tokens)
+
+-- a constant with a prefix of a table
+abbrev pub prefixed_at : List Prefixed → List Token → Read Constant
+prefixed_at table tokens = prefixed_by (find (has_prefix tokens) table) tokens
+
+-- Real constants
+
+-- a sign and the digits of an exponent, with no blank before either
+abbrev pub is_signed_exponent : List Token → Bool
+is_signed_exponent (sign ∷ digits ∷ rest) =
+    (is_joined (codes "+") sign || is_joined (codes "-") sign) && is_joined_word digits && are_digits digits.text
+is_signed_exponent fewer = false
+
+-- digits of an exponent, in the word of its E, or behind a sign
+abbrev pub is_exponent : List ℕ → List Token → Bool
+is_exponent [] rest = is_signed_exponent rest
+is_exponent (digit ∷ digits) rest = are_digits (digit ∷ digits)
+
+-- what may stand behind the digits after the point: nothing, or an exponent
+abbrev pub ends_real : List ℕ → List Token → Bool
+ends_real [] rest = true
+ends_real (letter ∷ more) rest = to_ascii_uppercase letter == 69 && is_exponent more rest
+
+-- digits after a point, and an exponent where one stands
+abbrev pub is_fraction : List ℕ → List Token → Bool
+is_fraction text rest =
+    let size = prefix_len (λ b. is_between 48 57 b) text in nat_lt 0 size && ends_real (drop size text) rest
+
+-- digits, a point and digits, with no blank inside
+abbrev pub is_real : List Token → Bool
+is_real (whole ∷ point ∷ part ∷ rest) =
+    is_word_kind whole.kind && are_digits whole.text && is_joined (codes ".") point && is_joined_word part
+    && is_fraction part.text rest
+is_real fewer = false
+
+-- a token stands at the front, with no blank before it
+abbrev pub begins_glued : List Token → Bool
+begins_glued [] = false
+begins_glued (first ∷ rest) = first.glued
+
+-- a real constant stands at the front; a minus may stand before it
+abbrev pub begins_real : List Token → Bool
+begins_real [] = false
+begins_real (first ∷ rest) =
+    if is_sign (codes "-") first then begins_glued rest && is_real rest else is_real (first ∷ rest)
+
+abbrev pub real_at : List Token → Read Constant
+real_at tokens = if begins_real tokens then LeftOut kind.Real else No
+
+-- Constants
+
+-- characters in quotes, as a number to the base 256
+abbrev pub text_of : List ℕ → Option Constant
+text_of (a ∷ []) = Some (constant width.Byte a)
+text_of (a ∷ b ∷ []) = Some (constant width.Word (with_byte a b))
+text_of (a ∷ b ∷ c ∷ []) = Some (constant width.Dword (with_byte (with_byte a b) c))
+text_of (a ∷ b ∷ c ∷ d ∷ []) = Some (constant width.Dword (with_byte (with_byte (with_byte a b) c) d))
+text_of other = None
+
+-- such characters as a token
+abbrev pub text_in : Token → Option Constant
+text_in token = if is_text_kind token.kind then text_of token.text else None
+
+abbrev pub text_at : List Token → Read Constant
+text_at [] = No
+text_at (first ∷ rest) = fitting 1 (text_in first)
+
+-- a plain number
+abbrev pub plain_at : List Token → Read Constant
+plain_at tokens = read_as plain (signed_at 0 width.Word tokens)
+
+-- a constant with a prefix of a table, or a real one
+abbrev pub marked_at : List Prefixed → List Token → Read Constant
+marked_at table tokens = or_else (prefixed_at table tokens) (real_at tokens)
+
+-- what stands where any constant may stand
+abbrev pub constant_at : List Token → Read Constant
+constant_at tokens = or_else (text_at tokens) (or_else (marked_at prefixes tokens) (plain_at tokens))
+
+-- what stands where a number may stand that is added
+abbrev pub addend_at : List Token → Read Constant
+addend_at tokens = or_else (marked_at addend_prefixes tokens) (plain_at tokens)
+
+-- behind a minus: 0, with no blank before it
+abbrev pub zero_behind : List Token → Option ℕ
+zero_behind [] = None
+zero_behind (token ∷ rest) = if token.glued then number_in 0 token else None
+
+-- a number from 0 to so much; `-0` is one
+abbrev pub up_to : ℕ → List Token → Read ℕ
+up_to most [] = No
+up_to most (first ∷ rest) =
+    if is_sign (codes "-") first then fitting 2 (zero_behind rest) else fitting 1 (number_in most first)
+
+-- what stands where a number from 0 to so much may stand
+abbrev pub number_at : ℕ → List Token → Read Constant
+number_at most tokens = or_else (marked_at left_out_prefixes tokens) (read_as plain (up_to most tokens))
+
+-- a constant of a width fits another one: a binary one each greater width, a plain number a double word
+abbrev pub fits_as : Width → Width → Constant → Bool
+fits_as width.Byte width.Byte c = true
+fits_as width.Word width.Word c = true
+fits_as width.Dword width.Dword c = true
+fits_as width.Word width.Byte c = c.binary
+fits_as width.Dword width.Byte c = c.binary
+fits_as width.Dword width.Word c = c.binary || c.signed
+fits_as other its c = false
+
+-- a constant fits a width
+abbrev pub fits : Width → Constant → Bool
+fits w c = fits_as w c.width c
+
+abbrev pub fitted : Width → Read Constant → Read Constant
+fitted w No = No
+fitted w (LeftOut kind) = LeftOut kind
+fitted w (Fits c size) = if fits w c then Fits c size else No
+
+-- what stands where a constant may stand that fits a width
+abbrev pub fitting_at : Width → List Token → Read Constant
+fitting_at w tokens = fitted w (constant_at tokens)

@@ -1,0 +1,79 @@
+-- Numbers: decimal, hexadecimal and binary.
+use Rattle.std.specs.Prelude.{ℕ, ◌+◌, ◌*◌, ◌-◌, Bool, false, ◌==◌, ◌&&◌, nat_le, nat_lt, if◌then◌else◌, List, [], ◌∷◌, length, get_or, Option, Some, None, option_and_then}
+use Rattle.std.specs.List.{list_all}
+use Rattle.s7_base.specs.Tokens.{is_between}
+use Rattle.stl_grammar.specs.declared.number.Bits.{Bits}
+
+-- Decimal numbers
+
+-- one or more digits
+abbrev pub are_digits : List ℕ → Bool
+are_digits [] = false
+are_digits (digit ∷ rest) = list_all (λ b. is_between 48 57 b) (digit ∷ rest)
+
+-- the number that digits stand for after those of `value`, where it is at most `most`
+abbrev pub number_from : ℕ → ℕ → List ℕ → Option ℕ
+number_from most value [] = Some value
+number_from most value (digit ∷ rest) =
+    let more = value * 10 + (digit - 48) in
+    if is_between 48 57 digit && nat_le more most then number_from most more rest else None
+
+-- a decimal number of at most `most`; leading zeros are allowed
+abbrev pub number_of : ℕ → List ℕ → Option ℕ
+number_of most [] = None
+number_of most (digit ∷ rest) = number_from most 0 (digit ∷ rest)
+
+-- Hexadecimal numbers
+
+-- the number that a hexadecimal digit stands for, A to F in either case
+abbrev pub hex_digit : ℕ → Option ℕ
+hex_digit b =
+    if is_between 48 57 b then Some (b - 48)
+    else if is_between 65 70 b then Some (b - 55)
+    else if is_between 97 102 b then Some (b - 87)
+    else None
+
+-- a number, where it is at most `most`
+abbrev pub at_most : ℕ → ℕ → Option ℕ
+at_most most value = if nat_le value most then Some value else None
+
+-- a hexadecimal number with one digit more, where it is at most `most`
+abbrev pub with_hex_digit : ℕ → ℕ → ℕ → Option ℕ
+with_hex_digit most value digit = option_and_then (λ d. at_most most (value * 16 + d)) (hex_digit digit)
+
+-- the number that hexadecimal digits stand for after those of `value`, where it is at most `most`
+abbrev pub hex_from : ℕ → ℕ → List ℕ → Option ℕ
+hex_from most value [] = Some value
+hex_from most value (digit ∷ rest) = option_and_then (λ more. hex_from most more rest) (with_hex_digit most value digit)
+
+-- a hexadecimal number of at most `most`; leading zeros are allowed
+abbrev pub hex_number : ℕ → List ℕ → Option ℕ
+hex_number most [] = None
+hex_number most (digit ∷ rest) = hex_from most 0 (digit ∷ rest)
+
+-- Binary numbers
+
+-- 0 or 1
+abbrev pub is_bit : ℕ → Bool
+is_bit b = is_between 48 49 b
+
+-- binary digits with one more, of which there are at most 32; `_` says nothing
+abbrev pub with_next : Bits → ℕ → Option Bits
+with_next bits b =
+    if b == 95 then Some bits
+    else if is_bit b && nat_lt bits.count 32 then Some (record { count = bits.count + 1; value = bits.value * 2 + (b - 48) })
+    else None
+
+-- binary digits with more of them behind
+abbrev pub bits_from : Bits → List ℕ → Option Bits
+bits_from bits [] = Some bits
+bits_from bits (b ∷ rest) = option_and_then (λ more. bits_from more rest) (with_next bits b)
+
+-- a digit stands at both ends of a text
+abbrev pub has_bits_at_ends : List ℕ → Bool
+has_bits_at_ends [] = false
+has_bits_at_ends (b ∷ rest) = is_bit b && is_bit (get_or (b ∷ rest) (length rest) 0)
+
+-- at most 32 binary digits; one or more `_` may stand between two of them
+abbrev pub bits_of : List ℕ → Option Bits
+bits_of text = if has_bits_at_ends text then bits_from (record { count = 0; value = 0 }) text else None

@@ -1,0 +1,28 @@
+-- What is read at the front of tokens, put together of what is read of its parts.
+use Rattle.std.specs.Prelude.{ℕ, if◌then◌else◌, Option, Some, None}
+use Rattle.s7_base.specs.declared.token.Token.{Token}
+use Rattle.stl_grammar.specs.Numbers.{number_of}
+use Rattle.stl_grammar.specs.Words.{is_word_kind}
+use Rattle.stl_grammar.specs.declared.mnemonic.Read.{Read}
+use Rattle.stl_grammar.specs.declared.mnemonic.Read.TheVariants.{Fits, LeftOut, No}
+
+-- what was read takes so many tokens, or it does not stand here
+abbrev pub fitting : {A : Type 0} → ℕ → Option A → Read A
+fitting size None = No
+fitting size (Some a) = Fits a size
+
+-- what was read, or else something else
+abbrev pub or_else : {A : Type 0} → Read A → Read A → Read A
+or_else No other = other
+or_else (LeftOut kind) other = LeftOut kind
+or_else (Fits a size) other = Fits a size
+
+-- what was read, made into something else
+abbrev pub read_as : {A B : Type 0} → (A → B) → Read A → Read B
+read_as make No = No
+read_as make (LeftOut kind) = LeftOut kind
+read_as make (Fits a size) = Fits (make a) size
+
+-- a word that is a number of at most so much
+abbrev pub number_in : ℕ → Token → Option ℕ
+number_in most token = if is_word_kind token.kind then number_of most token.text else None

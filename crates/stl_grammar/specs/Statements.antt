@@ -1,0 +1,422 @@
+-- The tokens of one statement without its `;`: a mnemonic and its operand. An operand is a form that fits, a
+-- listed form that is left out, whatever follows it, or neither.
+use Rattle.std.specs.Prelude.{ℕ, Bool, true, false, not, ◌==◌, ◌&&◌, ◌||◌, nat_lt, if◌then◌else◌, List, [], ◌∷◌, ◌++◌, length, take, drop, codes, Option, Some, None, option_and_then, Result, Ok, Err}
+use Rattle.std.specs.Char.{to_ascii_uppercase}
+use Rattle.std.specs.List.{find}
+use Rattle.memory_areas.specs.Access.{is_byte_in, is_unaligned}
+use Rattle.memory_areas.specs.declared.place.AreaName.{AreaName}
+use Rattle.memory_areas.specs.declared.place.AreaName.TheVariants as area
+use Rattle.s7_base.specs.Tokens.{is_between, is_same_word}
+use Rattle.s7_base.specs.declared.check.Check.{Check}
+use Rattle.s7_base.specs.declared.check.Check.TheVariants as check
+use Rattle.s7_base.specs.declared.reason.Kind.{Kind}
+use Rattle.s7_base.specs.declared.reason.Kind.TheVariants as kind
+use Rattle.s7_base.specs.declared.reason.Line.{Line}
+use Rattle.s7_base.specs.declared.reason.Reason.{Reason}
+use Rattle.s7_base.specs.declared.reason.Reason.TheVariants.{BadStatement, Unsupported}
+use Rattle.s7_base.specs.declared.reason.Rejection.{Rejection}
+use Rattle.s7_base.specs.declared.reason.Rejection.TheVariants.{Refused}
+use Rattle.s7_base.specs.declared.token.Token.{Token}
+use Rattle.s7_base.specs.declared.word.Width.{Width}
+use Rattle.s7_base.specs.declared.word.Width.TheVariants as width
+use Rattle.status_word.specs.declared.test.Test.{Test}
+use Rattle.status_word.specs.declared.test.Test.TheVariants as test
+use Rattle.stl_grammar.specs.Constants.{addend_at, constant_at, fitting_at, number_at}
+use Rattle.stl_grammar.specs.Mnemonics.{Row, goes_on, mnemonic_at}
+use Rattle.stl_grammar.specs.Numbers.{are_digits, number_of}
+use Rattle.stl_grammar.specs.Readers.{fitting, or_else, read_as}
+use Rattle.stl_tree.specs.Shifts.{most_steps}
+use Rattle.stl_tree.specs.WordLogic.{width_of as logic_width}
+use Rattle.stl_grammar.specs.Words.{is_word, is_sign, is_spelled, is_word_kind}
+use Rattle.stl_grammar.specs.declared.mnemonic.Mnemonic.{Mnemonic}
+use Rattle.stl_grammar.specs.declared.mnemonic.Mnemonic.TheVariants as is
+use Rattle.stl_grammar.specs.declared.mnemonic.Read.{Read}
+use Rattle.stl_grammar.specs.declared.mnemonic.Read.TheVariants.{Fits, LeftOut, No}
+use Rattle.stl_grammar.specs.declared.mnemonic.Shape.{Shape}
+use Rattle.stl_grammar.specs.declared.mnemonic.Shape.TheVariants as shape
+use Rattle.stl_tree.specs.declared.raw.RawInstr.{RawInstr}
+use Rattle.stl_tree.specs.declared.raw.RawOp.{RawOp}
+use Rattle.stl_tree.specs.declared.raw.RawOperand.{RawOperand}
+use Rattle.stl_tree.specs.declared.raw.RawOperand.TheVariants.{At, Constant, Flag, Missing, Stw}
+use Rattle.stl_tree.specs.declared.raw.RawPlace.{RawPlace}
+
+-- Bits
+
+-- the area of a bit operand, by its letter
+abbrev pub area_of_letter : ℕ → Option AreaName
+area_of_letter letter =
+    if letter == 73 then Some area.I
+    else if letter == 81 then Some area.Q
+    else if letter == 77 then Some area.M
+    else None
+
+-- the area of a bit operand, by a word of one letter in either case
+abbrev pub area_of : List ℕ → Option AreaName
+area_of [] = None
+area_of (letter ∷ []) = area_of_letter (to_ascii_uppercase letter)
+area_of (letter ∷ more ∷ rest) = None
+
+-- a bit of an area as it is written
+abbrev pub bit_of : AreaName → ℕ → ℕ → RawPlace
+bit_of name byte bit = record { block = None; area = name; width = width.Bit; byte = byte; bit = bit }
+
+-- the place lies in its area, with a bit number that its width has
+abbrev pub is_in_area : RawPlace → Bool
+is_in_area place = is_byte_in place.area place.width place.byte && not (is_unaligned place.width place.bit)
+
+-- a place of its area; one that is not in its area is not built yet
+abbrev pub in_area : RawPlace → Option RawPlace
+in_area place = if is_in_area place then Some place else None
+
+-- a bit by its area, its byte and its number
+abbrev pub bit_at : Option AreaName → List ℕ → List ℕ → Option RawPlace
+bit_at None byte bit = None
+bit_at (Some name) byte bit =
+    option_and_then (λ y. option_and_then (λ x. in_area (bit_of name y x)) (number_of 7 bit)) (number_of 65535 byte)
+
+-- a point and a number with no blank before either
+abbrev pub is_bit_number : Token → Token → Bool
+is_bit_number point bit = is_sign (codes ".") point && point.glued && is_word_kind bit.kind && bit.glued
+
+-- `I0.0`: the area and the byte in one word
+abbrev pub short_bit : Token → Token → Token → Option RawPlace
+short_bit place point bit =
+    if is_word_kind place.kind && is_bit_number point bit
+    then bit_at (area_of (take 1 place.text)) (drop 1 place.text) bit.text
+    else None
+
+-- `I 0.0`: the area and the byte in a word each
+abbrev pub long_bit : Token → Token → Token → Token → Option RawPlace
+long_bit name byte point bit =
+    if is_word_kind name.kind && is_word_kind byte.kind && is_bit_number point bit
+    then bit_at (area_of name.text) byte.text bit.text
+    else None
+
+-- Bytes, words and double words
+
+-- the width of an operand, by its letter
+abbrev pub width_of_letter : ℕ → Option Width
+width_of_letter letter =
+    if letter == 66 then Some width.Byte
+    else if letter == 87 then Some width.Word
+    else if letter == 68 then Some width.Dword
+    else None
+
+-- the width of an operand, by a word of one letter in either case
+abbrev pub width_of : List ℕ → Option Width
+width_of [] = None
+width_of (letter ∷ []) = width_of_letter (to_ascii_uppercase letter)
+width_of (letter ∷ more ∷ rest) = None
+
+-- a byte, a word or a double word of an area as it is written
+abbrev pub number_of_area : AreaName → Width → ℕ → RawPlace
+number_of_area name w byte = record { block = None; area = name; width = w; byte = byte; bit = 0 }
+
+-- such a place by its area, its width and its byte
+abbrev pub place_by : Option AreaName → Option Width → Option ℕ → Option RawPlace
+place_by None w byte = None
+place_by (Some name) None byte = None
+place_by (Some name) (Some w) None = None
+place_by (Some name) (Some w) (Some byte) = in_area (number_of_area name w byte)
+
+-- such a place by the letters of its area and its width, and by its byte
+abbrev pub place_named : List ℕ → List ℕ → Option RawPlace
+place_named letters byte = place_by (area_of (take 1 letters)) (width_of (drop 1 letters)) (number_of 65535 byte)
+
+-- `MB5`: all in one word
+abbrev pub short_place : Token → Option RawPlace
+short_place place = if is_word_kind place.kind then place_named (take 2 place.text) (drop 2 place.text) else None
+
+-- `MB 5`: the letters and the byte in a word each
+abbrev pub long_place : Token → Token → Option RawPlace
+long_place name byte = if is_word_kind name.kind && is_word_kind byte.kind then place_named name.text byte.text else None
+
+-- Forms that are left out where a place may stand
+
+-- a form that is left out: a word with a number, or with a bracket where it may be indirect, and its kind
+pub record NamedForm : Type 0 where
+  pub word : List ℕ
+  pub is_indirect : Bool
+  pub kind : Kind
+
+-- such a form whose operand is a number alone
+abbrev pub direct : List ℕ → Kind → NamedForm
+direct word kind = record { word = word; is_indirect = false; kind = kind }
+
+-- a word of the peripheral inputs or outputs
+abbrev pub peripheral : List ℕ → NamedForm
+peripheral word = record { word = word; is_indirect = true; kind = kind.Peripheral }
+
+-- timers and counters
+abbrev pub timers_and_counters : List NamedForm
+timers_and_counters = direct (codes "T") kind.Timer ∷ direct (codes "C") kind.Counter ∷ []
+
+-- these, and the peripheral inputs and outputs
+abbrev pub left_out_forms : List NamedForm
+left_out_forms =
+    timers_and_counters
+    ++ (peripheral (codes "PIB") ∷ peripheral (codes "PIW") ∷ peripheral (codes "PID")
+    ∷ peripheral (codes "PQB") ∷ peripheral (codes "PQW") ∷ peripheral (codes "PQD") ∷ [])
+
+-- what stands behind the word of such a form: a number, or a bracket
+abbrev pub is_named : NamedForm → List Token → Bool
+is_named form [] = false
+is_named form (next ∷ rest) = (is_word_kind next.kind && are_digits next.text) || (form.is_indirect && is_sign (codes "[") next)
+
+-- the token is this word and a number, without a blank
+abbrev pub is_numbered : List ℕ → Token → Bool
+is_numbered word token =
+    is_word_kind token.kind && is_same_word (take (length word) token.text) word && are_digits (drop (length word) token.text)
+
+-- such a form stands at the front, in one word or in two
+abbrev pub has_form : List Token → NamedForm → Bool
+has_form [] form = false
+has_form (first ∷ rest) form = (is_word form.word first && is_named form rest) || is_numbered form.word first
+
+-- Operands
+
+abbrev pub short_at : List Token → Read RawPlace
+short_at [] = No
+short_at (a ∷ []) = No
+short_at (a ∷ b ∷ []) = No
+short_at (place ∷ point ∷ bit ∷ rest) = fitting 3 (short_bit place point bit)
+
+abbrev pub long_at : List Token → Read RawPlace
+long_at [] = No
+long_at (a ∷ []) = No
+long_at (a ∷ b ∷ []) = No
+long_at (a ∷ b ∷ c ∷ []) = No
+long_at (name ∷ byte ∷ point ∷ bit ∷ rest) = fitting 4 (long_bit name byte point bit)
+
+abbrev pub left_out_by : Option NamedForm → Read RawPlace
+left_out_by None = No
+left_out_by (Some form) = LeftOut form.kind
+
+-- a form of a table that is left out
+abbrev pub left_out_at : List NamedForm → List Token → Read RawPlace
+left_out_at table tokens = left_out_by (find (has_form tokens) table)
+
+-- what stands where a bit may stand
+abbrev pub bit_operand : List Token → Read RawPlace
+bit_operand tokens = or_else (short_at tokens) (or_else (long_at tokens) (left_out_at left_out_forms tokens))
+
+abbrev pub short_place_at : List Token → Read RawPlace
+short_place_at [] = No
+short_place_at (place ∷ rest) = fitting 1 (short_place place)
+
+abbrev pub long_place_at : List Token → Read RawPlace
+long_place_at [] = No
+long_place_at (a ∷ []) = No
+long_place_at (name ∷ byte ∷ rest) = fitting 2 (long_place name byte)
+
+-- what stands where a byte, a word or a double word may stand
+abbrev pub place_operand : List Token → Read RawPlace
+place_operand tokens =
+    or_else (short_place_at tokens) (or_else (long_place_at tokens) (left_out_at left_out_forms tokens))
+
+-- how many tokens a mnemonic or a question to the status word takes, by its second part
+abbrev pub size_with : List ℕ → ℕ
+size_with [] = 1
+size_with (b ∷ second) = 2
+
+-- a question to the status word as it is written: a word, or a sign with 0 behind it
+abbrev pub first_of : Test → List ℕ
+first_of test.Eq = codes "=="
+first_of test.Ne = codes "<>"
+first_of test.Gt = codes ">"
+first_of test.Lt = codes "<"
+first_of test.Ge = codes ">="
+first_of test.Le = codes "<="
+first_of test.Uo = codes "UO"
+first_of test.Ov = codes "OV"
+first_of test.Os = codes "OS"
+first_of test.Br = codes "BR"
+
+abbrev pub second_of : Test → List ℕ
+second_of test.Eq = codes "0"
+second_of test.Ne = codes "0"
+second_of test.Gt = codes "0"
+second_of test.Lt = codes "0"
+second_of test.Ge = codes "0"
+second_of test.Le = codes "0"
+second_of test.Uo = []
+second_of test.Ov = []
+second_of test.Os = []
+second_of test.Br = []
+
+-- the questions
+abbrev pub tests : List Test
+tests =
+    test.Eq ∷ test.Ne ∷ test.Gt ∷ test.Lt ∷ test.Ge ∷ test.Le ∷ test.Uo ∷ test.Ov ∷ test.Os ∷ test.Br ∷ []
+
+-- the question stands at the front, with no blank inside
+abbrev pub is_asked : List Token → Test → Bool
+is_asked [] test = false
+is_asked (first ∷ rest) test = is_spelled (first_of test) first && goes_on (second_of test) rest
+
+abbrev pub asked_by : Option Test → Read RawOperand
+asked_by None = No
+asked_by (Some test) = Fits (Flag test) (size_with (second_of test))
+
+-- what stands where a question to the status word may stand
+abbrev pub status_at : List Token → Read RawOperand
+status_at tokens = asked_by (find (is_asked tokens) tests)
+
+-- the status word
+abbrev pub stw_at : List Token → Read RawOperand
+stw_at [] = No
+stw_at (first ∷ rest) = if is_word (codes "STW") first then Fits Stw 1 else No
+
+-- the length of a data block, which is left out
+abbrev pub length_at : List Token → Read RawOperand
+length_at [] = No
+length_at (first ∷ rest) = if is_word (codes "DBLG") first || is_word (codes "DILG") first then LeftOut kind.DbLength else No
+
+-- nothing stands behind the mnemonic
+abbrev pub nothing_at : List Token → Read RawOperand
+nothing_at [] = Fits Missing 0
+nothing_at (first ∷ rest) = No
+
+-- a bit, or a question to the status word
+abbrev pub checked_at : List Token → Read RawOperand
+checked_at tokens = or_else (status_at tokens) (read_as At (bit_operand tokens))
+
+-- what `T` stores in: the status word, or a byte, a word or a double word
+abbrev pub stored_at : List Token → Read RawOperand
+stored_at tokens = or_else (stw_at tokens) (read_as At (place_operand tokens))
+
+-- what `L` loads: the status word, a constant, or a byte, a word or a double word
+abbrev pub loaded_at : List Token → Read RawOperand
+loaded_at tokens =
+    or_else (stw_at tokens)
+    (or_else (read_as Constant (constant_at tokens)) (or_else (read_as At (place_operand tokens)) (length_at tokens)))
+
+-- what was read, or nothing at all
+abbrev pub or_nothing : List Token → Read RawOperand → Read RawOperand
+or_nothing tokens read = or_else (nothing_at tokens) read
+
+-- what stands where an operand of the shape may stand
+abbrev pub operand_by : Shape → List Token → Read RawOperand
+operand_by shape.Nothing tokens = nothing_at tokens
+operand_by shape.Bit tokens = read_as At (bit_operand tokens)
+operand_by shape.Checked tokens = checked_at tokens
+operand_by shape.CheckedOrNothing tokens = or_nothing tokens (checked_at tokens)
+operand_by (shape.Number most) tokens = read_as Constant (number_at most tokens)
+operand_by (shape.NumberOrNothing most) tokens = or_nothing tokens (read_as Constant (number_at most tokens))
+operand_by shape.Addend tokens = read_as Constant (addend_at tokens)
+operand_by shape.Loaded tokens = loaded_at tokens
+operand_by shape.Stored tokens = stored_at tokens
+operand_by (shape.ConstantOrNothing w) tokens = or_nothing tokens (read_as Constant (fitting_at w tokens))
+operand_by shape.TimerOrCounter tokens = read_as At (left_out_at timers_and_counters tokens)
+operand_by shape.Later tokens = No
+operand_by (shape.LeftOut kind) tokens = LeftOut kind
+
+-- a bit or the status word is checked; `O` may stand alone
+abbrev pub checked_shape : Check → Shape
+checked_shape check.A = shape.Checked
+checked_shape check.An = shape.Checked
+checked_shape check.O = shape.CheckedOrNothing
+checked_shape check.On = shape.Checked
+checked_shape check.X = shape.Checked
+checked_shape check.Xn = shape.Checked
+
+-- the shape of a mnemonic's operand
+abbrev pub shape_of : Mnemonic → Shape
+shape_of (is.Check check) = checked_shape check
+shape_of (is.Bracket check) = shape.Nothing
+shape_of is.Close = shape.Nothing
+shape_of is.Assign = shape.Bit
+shape_of is.Set = shape.Bit
+shape_of is.Reset = shape.Bit
+shape_of is.SetRlo = shape.Nothing
+shape_of is.ClearRlo = shape.Nothing
+shape_of is.NotRlo = shape.Nothing
+shape_of is.Save = shape.Nothing
+shape_of is.EdgeUp = shape.Bit
+shape_of is.EdgeDown = shape.Bit
+shape_of is.Load = shape.Loaded
+shape_of is.Transfer = shape.Stored
+shape_of (is.Arith row) = shape.Nothing
+shape_of (is.Compare test w) = shape.Nothing
+shape_of is.Plus = shape.Addend
+shape_of is.Inc = shape.Number 255
+shape_of is.Dec = shape.Number 255
+shape_of (is.Shift row) = shape.NumberOrNothing (most_steps row)
+shape_of is.Rlda = shape.Nothing
+shape_of is.Rrda = shape.Nothing
+shape_of (is.Logic row) = shape.ConstantOrNothing (logic_width row)
+shape_of (is.Unary row) = shape.Nothing
+shape_of is.Tak = shape.Nothing
+shape_of is.Push = shape.Nothing
+shape_of is.Pop = shape.Nothing
+shape_of is.Nop = shape.Number 255
+shape_of is.TimerOrCounter = shape.TimerOrCounter
+shape_of is.Later = shape.Later
+shape_of (is.LeftOut kind) = shape.LeftOut kind
+
+-- the operand of an instruction
+abbrev pub operand_of : Mnemonic → List Token → Read RawOperand
+operand_of what tokens = operand_by (shape_of what) tokens
+
+-- Statements
+
+-- the kind by which a form that is left out is refused; those of calls and declarations are not built yet
+abbrev pub answered : Kind → Kind
+answered kind.Timer = kind.Timer
+answered kind.Counter = kind.Counter
+answered kind.Real = kind.Real
+answered kind.MasterControl = kind.MasterControl
+answered kind.DateTime = kind.DateTime
+answered kind.DbLength = kind.DbLength
+answered kind.NamePointer = kind.NamePointer
+answered kind.Peripheral = kind.Peripheral
+answered kind.Accumulators = kind.Accumulators
+answered unbuilt = kind.NotBuilt
+
+-- one to four letters, digits or `_`, the first of them no digit
+abbrev pub is_label : List ℕ → Bool
+is_label [] = false
+is_label (first ∷ rest) = nat_lt (length rest) 4 && not (is_between 48 57 first)
+
+-- a label and its colon stand at the front
+abbrev pub begins_with_label : List Token → Bool
+begins_with_label [] = false
+begins_with_label (first ∷ []) = false
+begins_with_label (first ∷ second ∷ rest) = is_word_kind first.kind && is_label first.text && is_sign (codes ":") second
+
+-- the name of a mnemonic, in capitals
+abbrev pub name_of : Row → List ℕ
+name_of row = row.first ++ row.second
+
+-- a mnemonic with what was read of the tokens behind it, of which the operand takes all
+abbrev pub with_operand : List ℕ → ℕ → Read RawOperand → Result RawOp Reason
+with_operand name size (Fits operand taken) =
+    if taken == size then Ok (record { mnemonic = name; operand = operand }) else Err (Unsupported kind.NotBuilt)
+with_operand name size (LeftOut kind) = Err (Unsupported (answered kind))
+with_operand name size No = Err (Unsupported kind.NotBuilt)
+
+-- a mnemonic and the operand behind it
+abbrev pub with_mnemonic : List Token → Option Row → Result RawOp Reason
+with_mnemonic tokens None = Err BadStatement
+with_mnemonic tokens (Some row) =
+    let behind = drop (size_with row.second) tokens in
+    with_operand (name_of row) (length behind) (operand_of row.what behind)
+
+-- what the tokens of a statement say; labels are not built yet
+abbrev pub statement : List Token → Result RawOp Reason
+statement tokens = if begins_with_label tokens then Err (Unsupported kind.NotBuilt) else with_mnemonic tokens (mnemonic_at tokens)
+
+-- an instruction on a line, by its mnemonic and its operand
+abbrev pub instr_with : Line → List ℕ → RawOperand → RawInstr
+instr_with line mnemonic operand =
+    record { label = None; line = line; op = record { mnemonic = mnemonic; operand = operand } }
+
+-- what was said on a line
+abbrev pub on_line : Line → Result RawOp Reason → Result RawInstr Rejection
+on_line line (Ok op) = Ok (instr_with line op.mnemonic op.operand)
+on_line line (Err reason) = Err (Refused line reason)
+
+-- the instruction that tokens are, on the line of the first of them
+unfoldable pub instruction_of : List Token → Result RawInstr Rejection
+instruction_of [] = Err (Refused (record { 0 = 1 }) BadStatement)
+instruction_of (first ∷ rest) = on_line first.line (statement (first ∷ rest))

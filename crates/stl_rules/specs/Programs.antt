@@ -1,0 +1,204 @@
+-- The program of a raw program: its instructions by what their mnemonics are and their operands, and the
+-- names of its blocks.
+use Rattle.std.specs.Prelude.{ℕ, ◌^◌, Bool, false, ◌&&◌, nat_le, nat_lt, if◌then◌else◌, List, [], ◌∷◌, ◌++◌, Option, Some, None, option_map}
+use Rattle.std.specs.List.{filter_map}
+use Rattle.memory_areas.specs.declared.call.BlockName.{BlockName}
+use Rattle.memory_areas.specs.declared.call.BlockName.TheVariants.{Ob}
+use Rattle.s7_base.specs.declared.check.Check.{Check}
+use Rattle.s7_base.specs.declared.check.Check.TheVariants as check
+use Rattle.s7_base.specs.SignedNumbers.{pattern}
+use Rattle.s7_base.specs.declared.word.Width.{Width}
+use Rattle.s7_base.specs.declared.word.Width.TheVariants as width
+use Rattle.status_word.specs.declared.test.Test.{Test}
+use Rattle.stl_tree.specs.Accumulators.{bits_wide, signed_part}
+use Rattle.stl_tree.specs.Arithmetic.{is_comparison}
+use Rattle.stl_grammar.specs.Constants.{fits}
+use Rattle.stl_grammar.specs.Mnemonics.{mnemonic_named}
+use Rattle.stl_rules.specs.Raw.{given}
+use Rattle.stl_tree.specs.Shifts.{most_steps}
+use Rattle.stl_tree.specs.WordLogic.{width_of as logic_width}
+use Rattle.stl_tree.specs.declared.accumulator.LogicRow.{LogicRow}
+use Rattle.stl_tree.specs.declared.accumulator.ShiftRow.{ShiftRow}
+use Rattle.stl_rules.specs.declared.given.Given.{Given}
+use Rattle.stl_rules.specs.declared.given.Given.TheVariants as behind
+use Rattle.stl_grammar.specs.declared.mnemonic.Mnemonic.{Mnemonic}
+use Rattle.stl_grammar.specs.declared.mnemonic.Mnemonic.TheVariants as is
+use Rattle.stl_tree.specs.declared.program.BitArg.TheVariants as arg
+use Rattle.stl_tree.specs.declared.program.Block.{Block}
+use Rattle.stl_tree.specs.declared.program.Instr.{Instr}
+use Rattle.stl_tree.specs.declared.program.LoadArg.TheVariants as load
+use Rattle.stl_tree.specs.declared.program.Op.{Op}
+use Rattle.stl_tree.specs.declared.program.Op.TheVariants as op
+use Rattle.stl_tree.specs.declared.program.Operand.{Operand}
+use Rattle.stl_tree.specs.declared.program.Program.{Program}
+use Rattle.stl_tree.specs.declared.raw.Constant.{Constant}
+use Rattle.stl_tree.specs.declared.raw.BlockKind.{BlockKind}
+use Rattle.stl_tree.specs.declared.raw.BlockKind.TheVariants as block
+use Rattle.stl_tree.specs.declared.raw.RawBlock.{RawBlock}
+use Rattle.stl_tree.specs.declared.raw.RawInstr.{RawInstr}
+use Rattle.stl_tree.specs.declared.raw.RawName.{RawName}
+use Rattle.stl_tree.specs.declared.raw.RawName.TheVariants.{Number}
+use Rattle.stl_tree.specs.declared.raw.RawOp.{RawOp}
+use Rattle.stl_tree.specs.declared.raw.RawProgram.{RawProgram}
+
+-- Instructions
+
+-- an instruction that takes no operand
+abbrev pub alone : Op → Given → Option Op
+alone o behind.Nothing = Some o
+alone o more = None
+
+-- an instruction on a bit
+abbrev pub on_bit : (Operand → Op) → Given → Option Op
+on_bit o (behind.At operand width.Bit) = Some (o operand)
+on_bit o more = None
+
+-- a check without an operand: `O` alone
+abbrev pub unchecked : Check → Option Op
+unchecked check.O = Some op.OrAlone
+unchecked another = None
+
+-- a check
+abbrev pub checked : Check → Given → Option Op
+checked c behind.Nothing = unchecked c
+checked c (behind.At operand width.Bit) = Some (op.Check c (arg.At operand))
+checked c (behind.Flag test) = Some (op.Check c (arg.Flag test))
+checked c more = None
+
+-- an instruction on a byte, a word or a double word
+abbrev pub on_number : (Operand → Width → Op) → Operand → Width → Option Op
+on_number o operand width.Bit = None
+on_number o operand w = Some (o operand w)
+
+-- a constant of so many bits
+abbrev pub within : ℕ → ℕ → Option ℕ
+within bits value = if nat_lt value (2 ^ bits) then Some value else None
+
+-- `L`
+abbrev pub loading : Given → Option Op
+loading (behind.At operand w) = on_number (λ o u. op.Load (load.At o u)) operand w
+loading behind.Stw = Some op.LoadStw
+loading (behind.Constant c) = option_map (λ value. op.Load (load.Constant value)) (within 32 c.value)
+loading more = None
+
+-- `T`
+abbrev pub storing : Given → Option Op
+storing (behind.At operand w) = on_number op.Transfer operand w
+storing behind.Stw = Some op.TransferStw
+storing more = None
+
+-- `+`: a plain number is added to the low word, another constant to the whole
+abbrev pub adding : Given → Option Op
+adding (behind.Constant c) =
+    Some (if c.signed then op.AddWord (signed_part width.Word c.value) else op.AddDword (signed_part width.Dword c.value))
+adding more = None
+
+-- a comparison has one of the six signs, and works on words or on double words
+abbrev pub is_compared : Test → Width → Bool
+is_compared t width.Word = is_comparison t
+is_compared t width.Dword = is_comparison t
+is_compared t w = false
+
+-- a comparison
+abbrev pub comparing : Test → Width → Given → Option Op
+comparing t w behind.Nothing = if is_compared t w then Some (op.Compare t w) else None
+comparing t w more = None
+
+-- an instruction with a number of 8 bits
+abbrev pub with_number : (ℕ → Op) → Given → Option Op
+with_number o (behind.Constant c) = option_map o (within 8 c.value)
+with_number o more = None
+
+-- a shift or a rotation
+abbrev pub shifting : ShiftRow → Given → Option Op
+shifting row behind.Nothing = Some (op.Shift row None)
+shifting row (behind.Constant c) = if nat_le c.value (most_steps row) then Some (op.Shift row (Some c.value)) else None
+shifting row more = None
+
+-- the value of a constant in a width: a plain number in a double word has its sign extended
+abbrev pub value_in : Width → Constant → ℕ
+value_in width.Dword c = if c.signed then pattern 32 (signed_part width.Word c.value) else c.value
+value_in w c = c.value
+
+-- word logic
+abbrev pub combining : LogicRow → Given → Option Op
+combining row behind.Nothing = Some (op.Logic row None)
+combining row (behind.Constant c) =
+    if fits (logic_width row) c
+    then option_map (λ value. op.Logic row (Some value)) (within (bits_wide (logic_width row)) (value_in (logic_width row) c))
+    else None
+combining row more = None
+
+-- an instruction by what its mnemonic is, and what stands behind it
+abbrev pub op_with : Mnemonic → Given → Option Op
+op_with (is.Check c) g = checked c g
+op_with (is.Bracket c) g = alone (op.Bracket c) g
+op_with is.Close g = alone op.Close g
+op_with is.Assign g = on_bit op.Assign g
+op_with is.Set g = on_bit op.Set g
+op_with is.Reset g = on_bit op.Reset g
+op_with is.SetRlo g = alone op.SetRlo g
+op_with is.ClearRlo g = alone op.ClearRlo g
+op_with is.NotRlo g = alone op.NotRlo g
+op_with is.Save g = alone op.Save g
+op_with is.EdgeUp g = on_bit op.EdgeUp g
+op_with is.EdgeDown g = on_bit op.EdgeDown g
+op_with is.Load g = loading g
+op_with is.Transfer g = storing g
+op_with (is.Arith row) g = alone (op.Arith row) g
+op_with (is.Compare test w) g = comparing test w g
+op_with is.Plus g = adding g
+op_with is.Inc g = with_number op.Inc g
+op_with is.Dec g = with_number op.Dec g
+op_with (is.Shift row) g = shifting row g
+op_with is.Rlda g = alone op.Rlda g
+op_with is.Rrda g = alone op.Rrda g
+op_with (is.Logic row) g = combining row g
+op_with (is.Unary row) g = alone (op.Unary row) g
+op_with is.Tak g = alone op.Tak g
+op_with is.Push g = alone op.Push g
+op_with is.Pop g = alone op.Pop g
+op_with is.Nop g = with_number (λ n. op.Nop) g
+op_with is.TimerOrCounter g = None
+op_with is.Later g = None
+op_with (is.LeftOut left_out) g = None
+
+-- an instruction by what its mnemonic is, if it is one
+abbrev pub op_by : Option Mnemonic → Given → Option Op
+op_by None g = None
+op_by (Some what) g = op_with what g
+
+-- the instruction that a raw one is, if it is built
+unfoldable pub op_of : RawOp → Option Op
+op_of raw = op_by (mnemonic_named raw.mnemonic) (given raw.operand)
+
+-- an instruction on its line
+abbrev pub instr_of : RawInstr → Option Instr
+instr_of raw = option_map (λ what. record { line = raw.line; op = what }) (op_of raw.op)
+
+-- Blocks
+
+-- the name of an organization block
+abbrev pub ob_name : ℕ → Option BlockName
+ob_name n = if nat_le 1 n && nat_le n 65535 then Some (Ob n) else None
+
+-- the name of a block by its kind and what stands in its heading, if it is built
+abbrev pub block_name : BlockKind → RawName → Option BlockName
+block_name block.Ob (Number n) = ob_name n
+block_name unbuilt name = None
+
+-- the instructions of a raw block, the last of them that of its end word
+abbrev pub body_of : RawBlock → List Instr
+body_of raw = filter_map instr_of raw.body ++ (record { line = raw.end_line; op = op.BlockEnd } ∷ [])
+
+-- a block by its name
+abbrev pub block_with : RawBlock → BlockName → Block
+block_with raw name = record { name = name; line = raw.line; formals = []; body = body_of raw }
+
+-- the block that a raw one is
+abbrev pub block_of : RawBlock → Option Block
+block_of raw = option_map (block_with raw) (block_name raw.kind raw.name)
+
+-- the program of a raw program in which all is built
+abbrev pub program_of : RawProgram → Program
+program_of raw = record { dbs = []; instances = []; blocks = filter_map block_of raw.blocks; symbols = [] }

@@ -1,0 +1,29 @@
+-- The verdict on a source text: its program, or the line and the reason of the first broken rule. First all
+-- tokens, then all items, then the rules of the raw program, stage by stage.
+use Rattle.std.specs.Prelude.{ℕ, List, Option, Some, None, Result, Ok, Err}
+use Rattle.s7_base.specs.declared.broken.Break.{Break}
+use Rattle.s7_base.specs.declared.reason.Rejection.{Rejection}
+use Rattle.s7_base.specs.declared.reason.Rejection.TheVariants.{Refused}
+use Rattle.stl_rules.specs.Programs.{program_of}
+use Rattle.stl_grammar.specs.RawPrograms.{raw_text}
+use Rattle.stl_rules.specs.Stages.{first_broken, stages}
+use Rattle.stl_tree.specs.declared.program.Program.{Program}
+use Rattle.stl_tree.specs.declared.raw.RawProgram.{RawProgram}
+
+-- what is answered where a rule is broken, and where none is
+abbrev pub answered : RawProgram → Option Break → Result Program Rejection
+answered raw None = Ok (program_of raw)
+answered raw (Some first) = Err (Refused first.line first.rule)
+
+-- the program of a raw program, or its first broken rule
+unfoldable pub judged : RawProgram → Result Program Rejection
+judged raw = answered raw (first_broken (stages raw))
+
+-- the program of a raw program that is read
+abbrev pub judged_by : Result RawProgram Rejection → Result Program Rejection
+judged_by (Ok raw) = judged raw
+judged_by (Err refused) = Err refused
+
+-- the program of a text, or its first broken rule
+unfoldable pub verdict : List ℕ → Result Program Rejection
+verdict bytes = judged_by (raw_text bytes)
