@@ -11,7 +11,7 @@ use Rattle.memory_areas.specs.declared.place.Place.{Place}
 use Rattle.s7_base.specs.Tokens.{is_between, is_word_byte}
 use Rattle.s7_base.specs.declared.word.Width.{Width}
 use Rattle.s7_base.specs.declared.word.Width.TheVariants as width
-use Rattle.stl_grammar.specs.Numbers.{number_of}
+use Rattle.stl_statements.specs.Numbers.{number_of}
 use Rattle.memory_areas.specs.declared.call.BlockName.{BlockName}
 use Rattle.memory_areas.specs.declared.call.BlockName.TheVariants.{Ob, Fc, Fb}
 use Rattle.memory_areas.specs.declared.call.Call.{Call}

@@ -7,8 +7,8 @@ use Rattle.s7_base.specs.declared.reason.Reason.TheVariants.{BracketMissing, Bra
 use Rattle.stl_rules.specs.Programs.{op_with}
 use Rattle.stl_rules.specs.Stages.{brackets_at, open_then}
 use Rattle.stl_rules.specs.declared.given.Given.TheVariants as behind
-use Rattle.stl_grammar.specs.declared.mnemonic.Mnemonic.{Mnemonic}
-use Rattle.stl_grammar.specs.declared.mnemonic.Mnemonic.TheVariants as is
+use Rattle.stl_statements.specs.declared.mnemonic.Mnemonic.{Mnemonic}
+use Rattle.stl_statements.specs.declared.mnemonic.Mnemonic.TheVariants as is
 use Rattle.stl_tree.specs.declared.program.Op.TheVariants as op
 
 pub none_with_other : (what : Mnemonic) → op_with what behind.Other ≡ None

@@ -11,7 +11,7 @@ ghost use Rattle.s7_base.specs.declared.word.Width.TheVariants as wide;
 
 use s7_base::{Check, Width};
 use status_word::Test;
-use stl_grammar::Mnemonic;
+use stl_statements::Mnemonic;
 use stl_instructions::{fits, is_in_area, logic_width, mnemonic_named, most_steps};
 use stl_rules::Given;
 use stl_tree::{

@@ -10,8 +10,8 @@ use Rattle.s7_base.specs.declared.reason.Rejection.TheVariants.{Refused, NoMemor
 use Rattle.s7_base.specs.declared.token.Token.{Token}
 use Rattle.stl_grammar.specs.Grammar.{IsName, apart, together, IsForm, heading, begin, empty, end_word, statement, has_statement, IsItem, form, no_instruction, none, at_start, behind_a_block, behind_a_heading, in_a_body, ItemsHaveForms}
 use Rattle.stl_grammar.specs.Items.{is_semicolon, is_end, begins_with_ob, block_number, statement_size, statement_at, is_complete, misfit_reason, heading_with, heading_named, heading_at, statement_found, statement_from, item_at}
-use Rattle.stl_grammar.specs.Statements.{on_line, statement as statement_said, instruction_of}
-use Rattle.stl_grammar.specs.Words.{is_word, is_word_kind}
+use Rattle.stl_statements.specs.Statements.{on_line, statement as statement_said, instruction_of}
+use Rattle.stl_statements.specs.Words.{is_word, is_word_kind}
 use Rattle.stl_grammar.specs.declared.item.Found.{Found}
 use Rattle.stl_grammar.specs.declared.item.Found.TheVariants.{Fits, Misfit}
 use Rattle.stl_grammar.specs.declared.item.Item.{Item}

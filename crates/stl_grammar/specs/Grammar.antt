@@ -7,8 +7,8 @@ use Rattle.s7_base.specs.declared.reason.Reason.TheVariants.{BadStatement}
 use Rattle.s7_base.specs.declared.reason.Rejection.TheVariants.{Refused}
 use Rattle.s7_base.specs.declared.token.Token.{Token}
 use Rattle.stl_grammar.specs.Items.{begins_with_ob, block_number, is_complete, is_end, is_semicolon, item_at, misfit_reason, statement_at, statement_reason, statement_size}
-use Rattle.stl_grammar.specs.Statements.{instruction_of}
-use Rattle.stl_grammar.specs.Words.{is_word, is_word_kind}
+use Rattle.stl_statements.specs.Statements.{instruction_of}
+use Rattle.stl_statements.specs.Words.{is_word, is_word_kind}
 use Rattle.stl_grammar.specs.declared.item.Found.{Found}
 use Rattle.stl_grammar.specs.declared.item.Found.TheVariants.{Fits, Misfit, Ended}
 use Rattle.stl_grammar.specs.declared.item.Item.{Item}

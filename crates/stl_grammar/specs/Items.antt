@@ -10,10 +10,10 @@ use Rattle.s7_base.specs.declared.reason.Reason.TheVariants.{BadStatement, Unsup
 use Rattle.s7_base.specs.declared.reason.Rejection.{Rejection}
 use Rattle.s7_base.specs.declared.reason.Rejection.TheVariants.{Refused, NoMemory}
 use Rattle.s7_base.specs.declared.token.Token.{Token}
-use Rattle.stl_grammar.specs.Mnemonics.{begins_with_mnemonic}
-use Rattle.stl_grammar.specs.Numbers.{are_digits, number_of}
-use Rattle.stl_grammar.specs.Statements.{is_numbered, begins_with_label, instruction_of}
-use Rattle.stl_grammar.specs.Words.{is_word, is_sign, is_word_kind, is_quoted_kind, is_word_among, block_words}
+use Rattle.stl_statements.specs.Mnemonics.{begins_with_mnemonic}
+use Rattle.stl_statements.specs.Numbers.{are_digits, number_of}
+use Rattle.stl_statements.specs.Statements.{is_numbered, begins_with_label, instruction_of}
+use Rattle.stl_statements.specs.Words.{is_word, is_sign, is_word_kind, is_quoted_kind, is_word_among, block_words}
 use Rattle.stl_grammar.specs.declared.item.Found.{Found}
 use Rattle.stl_grammar.specs.declared.item.Found.TheVariants.{Fits, Misfit, Ended}
 use Rattle.stl_grammar.specs.declared.item.Item.{Item}

@@ -1,11 +1,3 @@
-pub mod ConstantForms
-pub mod Constants
 pub mod Grammar
-pub mod InstructionForms
 pub mod Items
-pub mod Mnemonics
-pub mod Numbers
 pub mod RawPrograms
-pub mod Readers
-pub mod Statements
-pub mod Words

@@ -4,7 +4,7 @@ use Rattle.std.proofs.lemmas.Bool.{and_from, and_left, and_parts, and_right, eqb
 use Rattle.std.proofs.lemmas.Str.Ascii.{lowercase_is}
 use Rattle.std.specs.Char.{to_ascii_lowercase}
 use Rattle.std.specs.Str.{bytes_eq, str_to_ascii_lowercase}
-use Rattle.stl_grammar.specs.Statements.{stw_at}
+use Rattle.stl_statements.specs.Statements.{stw_at}
 use Rattle.std.specs.List.{find, list_any}
 use Rattle.std.specs.Prelude.{codes, nat_le, option_and_then, option_map}
 use Rattle.s7_base.specs.declared.reason.Kind.TheVariants as kind
@@ -13,16 +13,16 @@ use Rattle.s7_base.specs.declared.token.Token.{Token}
 use Rattle.s7_base.specs.declared.word.Width.{Width}
 use Rattle.s7_base.specs.declared.word.Width.TheVariants as width
 use Rattle.stl_tree.specs.Accumulators.{bits_wide}
-use Rattle.stl_grammar.specs.ConstantForms.{IsAddend, IsAmong, IsBehind, IsConstant, IsHex, IsNumberIn, IsPair, IsPrefixed, IsSigned, IsUpTo}
-use Rattle.stl_grammar.specs.ConstantForms as form
-use Rattle.stl_grammar.specs.Constants.{Prefixed, addend_at, addend_prefixes, begins_real, behind_prefix, binary, binary_behind, binary_of, constant, constant_at, fits, fitted, fitting_at, four_behind, four_bytes, half, has_prefix, hex_behind, hex_of, left_out_prefixes, long_behind, marked_at, name_behind, negative, negative_behind, number_at, pair_of, plain, plain_at, prefixed_at, prefixed_by, prefixes, real_at, signed_at, text_at, text_in, text_of, two_behind, two_bytes, up_to, with_byte, zero_behind}
-use Rattle.stl_grammar.specs.Numbers.{bits_of, hex_number, number_of}
-use Rattle.stl_grammar.specs.Readers.{fitting, number_in, read_as}
-use Rattle.stl_grammar.specs.Words.{is_joined, is_joined_word, is_sign, is_text_kind, is_word, is_word_kind}
-use Rattle.stl_grammar.specs.declared.mnemonic.Prefix.{Prefix}
-use Rattle.stl_grammar.specs.declared.mnemonic.Prefix.TheVariants as prefix
-use Rattle.stl_grammar.specs.declared.mnemonic.Read.{Read}
-use Rattle.stl_grammar.specs.declared.mnemonic.Read.TheVariants.{Fits, LeftOut, No}
+use Rattle.stl_statements.specs.ConstantForms.{IsAddend, IsAmong, IsBehind, IsConstant, IsHex, IsNumberIn, IsPair, IsPrefixed, IsSigned, IsUpTo}
+use Rattle.stl_statements.specs.ConstantForms as form
+use Rattle.stl_statements.specs.Constants.{Prefixed, addend_at, addend_prefixes, begins_real, behind_prefix, binary, binary_behind, binary_of, constant, constant_at, fits, fitted, fitting_at, four_behind, four_bytes, half, has_prefix, hex_behind, hex_of, left_out_prefixes, long_behind, marked_at, name_behind, negative, negative_behind, number_at, pair_of, plain, plain_at, prefixed_at, prefixed_by, prefixes, real_at, signed_at, text_at, text_in, text_of, two_behind, two_bytes, up_to, with_byte, zero_behind}
+use Rattle.stl_statements.specs.Numbers.{bits_of, hex_number, number_of}
+use Rattle.stl_statements.specs.Readers.{fitting, number_in, read_as}
+use Rattle.stl_statements.specs.Words.{is_joined, is_joined_word, is_sign, is_text_kind, is_word, is_word_kind}
+use Rattle.stl_statements.specs.declared.mnemonic.Prefix.{Prefix}
+use Rattle.stl_statements.specs.declared.mnemonic.Prefix.TheVariants as prefix
+use Rattle.stl_statements.specs.declared.mnemonic.Read.{Read}
+use Rattle.stl_statements.specs.declared.mnemonic.Read.TheVariants.{Fits, LeftOut, No}
 use Rattle.stl_tree.specs.declared.raw.Constant.{Constant}
 use Rattle.stl_instructions.proofs.Reading.{AllOf, alike, as_all, chained, fitting_all, if_false, if_true, joined_sign, mapped, no_sign, no_word, or_all, or_no, or_this, other_sign, other_word, sign_no_text, taken, text_no_word, weaker, word_no_text}
 use Rattle.stl_instructions.proofs.Tables.{found_among, found_passes, none_at, none_found}

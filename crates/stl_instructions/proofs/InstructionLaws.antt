@@ -17,18 +17,18 @@ use Rattle.s7_base.specs.declared.token.Token.{Token}
 use Rattle.s7_base.specs.declared.word.Width.{Width}
 use Rattle.status_word.specs.declared.test.Test.{Test}
 use Rattle.status_word.specs.declared.test.Test.TheVariants as test
-use Rattle.stl_grammar.specs.ConstantForms.{IsAddend, IsConstant, IsUpTo}
-use Rattle.stl_grammar.specs.Constants.{addend_at, constant_at, fitting_at, number_at, plain}
-use Rattle.stl_grammar.specs.InstructionForms.{IsBit, together, apart, IsStatusOperand, flag, compared, IsPlace, IsOperand, IsInstruction, instruction, InstructionsHaveForms}
-use Rattle.stl_grammar.specs.InstructionForms as form
-use Rattle.stl_grammar.specs.Mnemonics.{Row, goes_on, mnemonic_at}
-use Rattle.stl_grammar.specs.Readers.{read_as}
-use Rattle.stl_grammar.specs.Statements.{area_of, asked_by, begins_with_label, bit_operand, checked_at, first_of, instr_with, instruction_of, is_asked, left_out_at, length_at, loaded_at, name_of, nothing_at, on_line, operand_by, operand_of, or_nothing, place_operand, second_of, shape_of, size_with, statement, status_at, stored_at, stw_at, tests, timers_and_counters, with_mnemonic, with_operand}
-use Rattle.stl_grammar.specs.Words.{is_sign, is_sign_kind, is_spelled, is_word, is_word_kind}
-use Rattle.stl_grammar.specs.declared.mnemonic.Read.{Read}
-use Rattle.stl_grammar.specs.declared.mnemonic.Read.TheVariants.{Fits, LeftOut, No}
-use Rattle.stl_grammar.specs.declared.mnemonic.Shape.{Shape}
-use Rattle.stl_grammar.specs.declared.mnemonic.Shape.TheVariants as shape
+use Rattle.stl_statements.specs.ConstantForms.{IsAddend, IsConstant, IsUpTo}
+use Rattle.stl_statements.specs.Constants.{addend_at, constant_at, fitting_at, number_at, plain}
+use Rattle.stl_statements.specs.InstructionForms.{IsBit, together, apart, IsStatusOperand, flag, compared, IsPlace, IsOperand, IsInstruction, instruction, InstructionsHaveForms}
+use Rattle.stl_statements.specs.InstructionForms as form
+use Rattle.stl_statements.specs.Mnemonics.{Row, goes_on, mnemonic_at}
+use Rattle.stl_statements.specs.Readers.{read_as}
+use Rattle.stl_statements.specs.Statements.{area_of, asked_by, begins_with_label, bit_operand, checked_at, first_of, instr_with, instruction_of, is_asked, left_out_at, length_at, loaded_at, name_of, nothing_at, on_line, operand_by, operand_of, or_nothing, place_operand, second_of, shape_of, size_with, statement, status_at, stored_at, stw_at, tests, timers_and_counters, with_mnemonic, with_operand}
+use Rattle.stl_statements.specs.Words.{is_sign, is_sign_kind, is_spelled, is_word, is_word_kind}
+use Rattle.stl_statements.specs.declared.mnemonic.Read.{Read}
+use Rattle.stl_statements.specs.declared.mnemonic.Read.TheVariants.{Fits, LeftOut, No}
+use Rattle.stl_statements.specs.declared.mnemonic.Shape.{Shape}
+use Rattle.stl_statements.specs.declared.mnemonic.Shape.TheVariants as shape
 use Rattle.stl_tree.specs.declared.raw.Constant.{Constant as Literal}
 use Rattle.stl_tree.specs.declared.raw.RawInstr.{RawInstr}
 use Rattle.stl_tree.specs.declared.raw.RawOp.{RawOp}

@@ -10,13 +10,13 @@ use Rattle.memory_areas.specs.declared.place.AreaName.TheVariants as area
 use Rattle.s7_base.specs.Tokens.{is_between, is_same_word}
 use Rattle.s7_base.specs.declared.token.Token.{Token}
 use Rattle.s7_base.specs.declared.word.Width.{Width}
-use Rattle.stl_grammar.specs.Constants.{constant_at, plain, plain_at, prefixes, marked_at, text_at}
-use Rattle.stl_grammar.specs.InstructionForms.{IsBitNumber, IsBit, together, apart, IsNamed, IsPlace, in_one, in_two}
-use Rattle.stl_grammar.specs.Numbers.{number_of}
-use Rattle.stl_grammar.specs.Readers.{fitting, read_as}
-use Rattle.stl_grammar.specs.Statements.{NamedForm, has_form, area_of, area_of_letter, bit_at, bit_of, bit_operand, in_area, is_bit_number, is_in_area, left_out_at, left_out_by, left_out_forms, long_at, long_bit, long_place, long_place_at, number_of_area, place_by, place_named, place_operand, short_at, short_bit, short_place, short_place_at, stw_at, width_of}
-use Rattle.stl_grammar.specs.Words.{is_sign, is_word, is_word_kind}
-use Rattle.stl_grammar.specs.declared.mnemonic.Read.TheVariants.{Fits, No}
+use Rattle.stl_statements.specs.Constants.{constant_at, plain, plain_at, prefixes, marked_at, text_at}
+use Rattle.stl_statements.specs.InstructionForms.{IsBitNumber, IsBit, together, apart, IsNamed, IsPlace, in_one, in_two}
+use Rattle.stl_statements.specs.Numbers.{number_of}
+use Rattle.stl_statements.specs.Readers.{fitting, read_as}
+use Rattle.stl_statements.specs.Statements.{NamedForm, has_form, area_of, area_of_letter, bit_at, bit_of, bit_operand, in_area, is_bit_number, is_in_area, left_out_at, left_out_by, left_out_forms, long_at, long_bit, long_place, long_place_at, number_of_area, place_by, place_named, place_operand, short_at, short_bit, short_place, short_place_at, stw_at, width_of}
+use Rattle.stl_statements.specs.Words.{is_sign, is_word, is_word_kind}
+use Rattle.stl_statements.specs.declared.mnemonic.Read.TheVariants.{Fits, No}
 use Rattle.stl_tree.specs.declared.raw.RawPlace.{RawPlace}
 use Rattle.std.specs.List.{find}
 use Rattle.stl_instructions.proofs.ConstantLaws.{AreUnmarked, no_mark, unmarked_no_text}

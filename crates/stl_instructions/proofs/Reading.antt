@@ -8,10 +8,10 @@ use Rattle.s7_base.specs.Tokens.{is_same_word}
 use Rattle.s7_base.specs.declared.token.Token.{Token}
 use Rattle.s7_base.specs.declared.token.TokenKind.{TokenKind}
 use Rattle.s7_base.specs.declared.token.TokenKind.TheVariants.{Word, Quoted, Text, Sign}
-use Rattle.stl_grammar.specs.Readers.{fitting, or_else, read_as}
-use Rattle.stl_grammar.specs.Words.{is_joined, is_sign, is_sign_kind, is_text_kind, is_word, is_word_kind}
-use Rattle.stl_grammar.specs.declared.mnemonic.Read.{Read}
-use Rattle.stl_grammar.specs.declared.mnemonic.Read.TheVariants.{Fits, LeftOut, No}
+use Rattle.stl_statements.specs.Readers.{fitting, or_else, read_as}
+use Rattle.stl_statements.specs.Words.{is_joined, is_sign, is_sign_kind, is_text_kind, is_word, is_word_kind}
+use Rattle.stl_statements.specs.declared.mnemonic.Read.{Read}
+use Rattle.stl_statements.specs.declared.mnemonic.Read.TheVariants.{Fits, LeftOut, No}
 
 -- Tests
 

@@ -5,11 +5,11 @@ use Rattle.std.specs.List.{find, list_any}
 use Rattle.std.specs.Prelude.{nat_lt}
 use Rattle.s7_base.specs.Tokens.{is_same_word}
 use Rattle.s7_base.specs.declared.token.Token.{Token}
-use Rattle.stl_grammar.specs.ConstantForms.{IsAmong}
-use Rattle.stl_grammar.specs.InstructionForms.{MnemonicsAreLongest}
-use Rattle.stl_grammar.specs.Mnemonics.{Row, rows, goes_on, stands_at, mnemonic_at}
-use Rattle.stl_grammar.specs.Statements.{size_with}
-use Rattle.stl_grammar.specs.Words.{is_spelled}
+use Rattle.stl_statements.specs.ConstantForms.{IsAmong}
+use Rattle.stl_statements.specs.InstructionForms.{MnemonicsAreLongest}
+use Rattle.stl_statements.specs.Mnemonics.{Row, rows, goes_on, stands_at, mnemonic_at}
+use Rattle.stl_statements.specs.Statements.{size_with}
+use Rattle.stl_statements.specs.Words.{is_spelled}
 use Rattle.stl_instructions.proofs.Reading.{alike}
 use Rattle.stl_instructions.proofs.Tables.{any_at, found_among, found_passes, none_passes, some_is}
 

@@ -2,7 +2,7 @@
 use Rattle.std.proofs.Common.{◌≡◌, ◌⊎◌, inl, inr, Bool, true, false, cond, ◌&&◌, List, [], ◌∷◌, map, Some, None, refl, sym, ap, ◌∙◌}
 use Rattle.std.specs.List.{find, list_any}
 use Rattle.std.specs.Prelude.{◌||◌, option_map}
-use Rattle.stl_grammar.specs.ConstantForms.{IsAmong}
+use Rattle.stl_statements.specs.ConstantForms.{IsAmong}
 
 -- a table that is seen as another
 

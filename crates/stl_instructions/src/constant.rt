@@ -2,16 +2,16 @@
 ghost use Rattle.std.specs.Prelude.{◌≡◌, ◌≤◌, ◌<◌, ◌^◌, ◌-◌, IfSome, map, option_map};
 ghost use Rattle.std.specs.List.{find};
 ghost use Rattle.stl_tree.specs.Accumulators.{bits_wide};
-ghost use Rattle.stl_grammar.specs.Constants.{addend_at, addend_prefixes, begins_glued, begins_real, behind_prefix, binary, binary_behind, binary_of, constant, constant_at, ends_real, fits, fitting_at, four_behind, four_bytes, half, has_prefix, hex_behind, hex_of, is_exponent, is_fraction, is_real, is_signed_exponent, left_out_prefixes, long_behind, marked_at, name_behind, negative, negative_behind, number_at, pair_of, plain, plain_at, prefixed_at, prefixes, real_at, room_for, signed_at, text_at, text_in, text_of, two_behind, two_bytes, up_to, zero_behind};
-ghost use Rattle.stl_grammar.specs.Readers.{fitting, number_in, or_else, read_as};
-ghost use Rattle.stl_grammar.specs.declared.mnemonic.Prefix.TheVariants as prefix;
+ghost use Rattle.stl_statements.specs.Constants.{addend_at, addend_prefixes, begins_glued, begins_real, behind_prefix, binary, binary_behind, binary_of, constant, constant_at, ends_real, fits, fitting_at, four_behind, four_bytes, half, has_prefix, hex_behind, hex_of, is_exponent, is_fraction, is_real, is_signed_exponent, left_out_prefixes, long_behind, marked_at, name_behind, negative, negative_behind, number_at, pair_of, plain, plain_at, prefixed_at, prefixes, real_at, room_for, signed_at, text_at, text_in, text_of, two_behind, two_bytes, up_to, zero_behind};
+ghost use Rattle.stl_statements.specs.Readers.{fitting, number_in, or_else, read_as};
+ghost use Rattle.stl_statements.specs.declared.mnemonic.Prefix.TheVariants as prefix;
 ghost use Rattle.s7_base.specs.declared.word.Width.TheVariants as width;
 ghost use Rattle.stl_instructions.specs.inner.Rows.{shown};
 
 use crate::number::{are_digits, bits_of, digits_size, hex_number};
 use crate::words::{is_joined, is_joined_word, is_sign, is_text, is_word, is_word_kind};
 use s7_base::{Kind, Token, Width, rest_after};
-use stl_grammar::{Bits, Prefix, Read, number_of};
+use stl_statements::{Bits, Prefix, Read, number_of};
 use stl_tree::Constant;
 
 /// A word before a `#`, and what stands behind it.

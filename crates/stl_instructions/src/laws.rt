@@ -1,5 +1,5 @@
 //! Laws of instructions. They compute nothing: their contracts are the laws.
-ghost use Rattle.stl_grammar.specs.InstructionForms.{InstructionsHaveForms, MnemonicsAreLongest};
+ghost use Rattle.stl_statements.specs.InstructionForms.{InstructionsHaveForms, MnemonicsAreLongest};
 
 /// Tokens are an instruction exactly where they have its form.
 pub fn instructions_have_forms()

@@ -1,6 +1,6 @@
 //! Reads the tokens of one statement of STL, without its `;`: its mnemonic and its operand.
 //!
-//! Stands on `stl_grammar`, which has the table of mnemonics and the forms of operands as definitions. The
+//! Stands on `stl_statements`, which has the table of mnemonics and the forms of operands as definitions. The
 //! code has the table a second time, as data, and one look-up for all rows.
 #![tactic(auto)]
 

@@ -2,10 +2,10 @@
 ghost use Rattle.std.specs.Prelude.{◌≡◌, ◌≤◌, ◌<◌, IfSome};
 ghost use Rattle.std.specs.List.{list_all, prefix_len};
 ghost use Rattle.s7_base.specs.Tokens.{is_between};
-ghost use Rattle.stl_grammar.specs.Numbers.{are_digits, bits_of, has_bits_at_ends, hex_digit, hex_number, is_bit, with_hex_digit, with_next};
+ghost use Rattle.stl_statements.specs.Numbers.{are_digits, bits_of, has_bits_at_ends, hex_digit, hex_number, is_bit, with_hex_digit, with_next};
 ghost use Rattle.stl_instructions.specs.inner.Bits.{AreBits};
 
-use stl_grammar::Bits;
+use stl_statements::Bits;
 
 /// One or more digits.
 pub fn are_digits(word: &[u8]) -> bool

@@ -3,12 +3,12 @@ ghost use Rattle.std.specs.Prelude.{◌≡◌, ℕ, ◌&&◌, ◌||◌, nat_le, 
 ghost use Rattle.std.specs.List.{find};
 ghost use Rattle.s7_base.specs.Tokens.{is_same_word};
 ghost use Rattle.memory_areas.specs.Access.{is_unaligned};
-ghost use Rattle.stl_grammar.specs.Constants.{addend_at, constant_at, fitting_at, number_at};
-ghost use Rattle.stl_grammar.specs.Mnemonics.{goes_on};
-ghost use Rattle.stl_grammar.specs.Readers.{fitting, or_else, read_as};
+ghost use Rattle.stl_statements.specs.Constants.{addend_at, constant_at, fitting_at, number_at};
+ghost use Rattle.stl_statements.specs.Mnemonics.{goes_on};
+ghost use Rattle.stl_statements.specs.Readers.{fitting, or_else, read_as};
 ghost use Rattle.stl_tree.specs.Shifts.{most_steps};
-ghost use Rattle.stl_grammar.specs.Statements.{area_of, area_of_letter, bit_at, bit_operand, bit_of, checked_at, checked_shape, first_of, has_form, in_area, is_asked, is_bit_number, is_in_area, is_named, is_numbered, left_out_at, left_out_forms, length_at, loaded_at, long_at, long_bit, long_place, long_place_at, nothing_at, operand_by, operand_of, or_nothing, place_named, place_operand, second_of, shape_of, short_at, short_bit, short_place, short_place_at, size_with, status_at, stored_at, stw_at, tests, timers_and_counters, width_of, width_of_letter};
-ghost use Rattle.stl_grammar.specs.Words.{is_spelled};
+ghost use Rattle.stl_statements.specs.Statements.{area_of, area_of_letter, bit_at, bit_operand, bit_of, checked_at, checked_shape, first_of, has_form, in_area, is_asked, is_bit_number, is_in_area, is_named, is_numbered, left_out_at, left_out_forms, length_at, loaded_at, long_at, long_bit, long_place, long_place_at, nothing_at, operand_by, operand_of, or_nothing, place_named, place_operand, second_of, shape_of, short_at, short_bit, short_place, short_place_at, size_with, status_at, stored_at, stw_at, tests, timers_and_counters, width_of, width_of_letter};
+ghost use Rattle.stl_statements.specs.Words.{is_spelled};
 ghost use Rattle.stl_tree.specs.WordLogic.{width_of as logic_width};
 ghost use Rattle.stl_tree.specs.declared.raw.RawOperand.TheVariants as operand;
 ghost use Rattle.stl_instructions.specs.inner.Rows.{seen};
@@ -20,7 +20,7 @@ use crate::words::{is_sign, is_word, is_word_kind, is_word_or_sign};
 use memory_areas::{AreaName, is_byte_in};
 use s7_base::{Check, Kind, Token, Width, front_of, is_same_word, rest_after};
 use status_word::Test;
-use stl_grammar::{Mnemonic, Read, Shape, number_of};
+use stl_statements::{Mnemonic, Read, Shape, number_of};
 use stl_tree::{Constant, LogicRow, RawOperand, RawPlace, ShiftRow};
 
 /// A form that is left out where a place may stand: a word with a number, or with a bracket where it may be

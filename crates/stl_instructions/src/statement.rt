@@ -1,8 +1,8 @@
 //! Reads one statement.
 ghost use Rattle.std.specs.Prelude.{◌≡◌, IfOk, length};
 ghost use Rattle.s7_base.specs.Answers.{Answers};
-ghost use Rattle.stl_grammar.specs.Statements.{answered, is_label, begins_with_label, name_of, instr_with, with_operand, with_mnemonic, statement, instruction_of};
-ghost use Rattle.stl_grammar.specs.Mnemonics.{mnemonic_at};
+ghost use Rattle.stl_statements.specs.Statements.{answered, is_label, begins_with_label, name_of, instr_with, with_operand, with_mnemonic, statement, instruction_of};
+ghost use Rattle.stl_statements.specs.Mnemonics.{mnemonic_at};
 ghost use Rattle.stl_instructions.specs.inner.Answers.{Says};
 ghost use Rattle.stl_instructions.specs.inner.Rows.{view};
 
@@ -11,7 +11,7 @@ use crate::table::{Row, mnemonic_at};
 use crate::words::{is_sign, is_word_kind};
 use s7_base::{Kind, Line, NoMemory, Reason, Rejection, SmallText, Token, rest_after};
 use std::alloc::Global;
-use stl_grammar::Read;
+use stl_statements::Read;
 use stl_tree::{RawInstr, RawOp, RawOperand};
 
 /// The kind by which a form that is left out is refused; those of calls and declarations are not built yet.
@@ -111,7 +111,7 @@ fn on_line(alloc: Global, line: Line, row: Row, operand: RawOperand) -> Result<R
 }
 
 /// The instruction that the tokens of one statement are, without its `;`.
-#[tactic(auto, unfolding(stl_grammar::specs::Statements::instruction_of))]
+#[tactic(auto, unfolding(stl_statements::specs::Statements::instruction_of))]
 pub fn instruction(alloc: Global, tokens: &[Token]) -> Result<RawInstr, Rejection>
     ensures { Answers result (instruction_of tokens.now) }
 {

@@ -2,14 +2,14 @@
 ghost use Rattle.std.specs.Prelude.{◌≡◌, ◌&&◌, ◌||◌, codes, map, option_map};
 ghost use Rattle.std.specs.List.{find};
 ghost use Rattle.s7_base.specs.Tokens.{is_same_word};
-ghost use Rattle.stl_grammar.specs.Mnemonics.{goes_on, stands_at, mnemonic_at, begins_with_mnemonic, has_name, rows, mnemonic_named};
-ghost use Rattle.stl_grammar.specs.Words.{is_sign, is_spelled};
+ghost use Rattle.stl_statements.specs.Mnemonics.{goes_on, stands_at, mnemonic_at, begins_with_mnemonic, has_name, rows, mnemonic_named};
+ghost use Rattle.stl_statements.specs.Words.{is_sign, is_spelled};
 ghost use Rattle.stl_instructions.specs.inner.Rows.{view};
 
 use crate::words::{is_sign, is_spelled, is_word_or_sign};
 use s7_base::{Check, Kind, Token, Width, front_of, is_same_word, rest_after};
 use status_word::Test;
-use stl_grammar::Mnemonic;
+use stl_statements::Mnemonic;
 use stl_tree::{Arith, LogicRow, ShiftRow, UnaryRow};
 
 /// A row: a word or a sign, the word or sign behind it, if there is one, and what the mnemonic is.
@@ -235,7 +235,7 @@ fn row_spelled(text: &[u8], rest: &[Token], table: &[Row]) -> Option<Row>
 }
 
 /// The mnemonic that stands at the front, with its row.
-#[tactic(auto, unfolding(stl_grammar::specs::Mnemonics::mnemonic_at))]
+#[tactic(auto, unfolding(stl_statements::specs::Mnemonics::mnemonic_at))]
 pub fn mnemonic_at(tokens: &[Token]) -> Option<Row>
     ensures { option_map view result ≡ mnemonic_at tokens.now }
 {
@@ -276,7 +276,7 @@ fn row_of(name: &[u8]) -> Option<Row>
 }
 
 /// What the mnemonic of a name is.
-#[tactic(auto, unfolding(stl_grammar::specs::Mnemonics::mnemonic_named))]
+#[tactic(auto, unfolding(stl_statements::specs::Mnemonics::mnemonic_named))]
 pub fn mnemonic_named(name: &[u8]) -> Option<Mnemonic>
     ensures { result ≡ mnemonic_named name.now }
 {

@@ -1,6 +1,6 @@
 //! Tests of one token.
 ghost use Rattle.std.specs.Prelude.{◌≡◌, ◌||◌};
-ghost use Rattle.stl_grammar.specs.Words.{is_joined, is_joined_word, is_sign, is_sign_kind, is_spelled, is_text_kind, is_word, is_word_kind};
+ghost use Rattle.stl_statements.specs.Words.{is_joined, is_joined_word, is_sign, is_sign_kind, is_spelled, is_text_kind, is_word, is_word_kind};
 
 use s7_base::{Token, TokenKind, is_same_word};
 

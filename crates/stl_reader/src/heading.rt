@@ -4,7 +4,8 @@ ghost use Rattle.stl_grammar.specs.Items.{begins_with_ob, block_number, heading_
 
 use crate::misfit::misfit_reason;
 use s7_base::{Line, Token, front_of, is_same_word, rest_after};
-use stl_grammar::{Found, Item, Where, number_of};
+use stl_grammar::{Found, Item, Where};
+use stl_statements::number_of;
 use stl_instructions::{is_word, is_word_kind};
 use stl_tree::{BlockKind, RawName};
 

@@ -1,7 +1,7 @@
 //! The item at a place of a text.
 ghost use Rattle.std.specs.Prelude.{◌≡◌, [], take, IfOk};
 ghost use Rattle.stl_grammar.specs.Items.{end_word, is_end, is_complete, statement_at, statement_size, begin_at, statement_found, statement_from, body_at, at_end, at_token, item_at};
-ghost use Rattle.stl_grammar.specs.Statements.{instruction_of};
+ghost use Rattle.stl_statements.specs.Statements.{instruction_of};
 ghost use Rattle.stl_reader.specs.inner.Finding.{HasFirst};
 
 use crate::heading::heading_at;

@@ -2,7 +2,7 @@
 ghost use Rattle.std.specs.Prelude.{◌≡◌};
 ghost use Rattle.std.specs.List.{list_any};
 ghost use Rattle.std.specs.Str.{str_eq_ignore_ascii_case};
-ghost use Rattle.stl_grammar.specs.Words.{block_words, is_word_among};
+ghost use Rattle.stl_statements.specs.Words.{block_words, is_word_among};
 
 use s7_base::{Token, is_same_word};
 use stl_instructions::is_word_kind;

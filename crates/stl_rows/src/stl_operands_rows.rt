@@ -6,7 +6,7 @@ use memory_areas::AreaName;
 use s7_base::{Kind, Reason, Width};
 use status_word::Test;
 use std::test::Fail;
-use stl_grammar::Mnemonic;
+use stl_statements::Mnemonic;
 use stl_tree::{Arith, LogicRow, ShiftRow, UnaryRow};
 
 /// Mnemonics that stand alone.

@@ -15,19 +15,19 @@ use Rattle.s7_base.specs.declared.word.Width.TheVariants as width
 use Rattle.status_word.specs.declared.test.Test.{Test}
 use Rattle.stl_tree.specs.Accepted.{HasOperand, IsBlockNumber, IsComparison, IsNumberWidth, IsOperand}
 use Rattle.stl_tree.specs.Accumulators.{bits_wide, signed_part}
-use Rattle.stl_grammar.specs.Constants.{fits}
-use Rattle.stl_grammar.specs.Mnemonics.{mnemonic_named}
+use Rattle.stl_statements.specs.Constants.{fits}
+use Rattle.stl_statements.specs.Mnemonics.{mnemonic_named}
 use Rattle.stl_rules.specs.Programs.{adding, alone, block_name, checked, combining, comparing, instr_of, is_compared, loading, on_bit, on_number, op_by, op_of, op_with, shifting, storing, unchecked, value_in, with_number, within}
 use Rattle.stl_rules.specs.Raw.{given_in, given}
 use Rattle.stl_rules.specs.declared.given.Given.{Given}
 use Rattle.stl_rules.specs.declared.given.Given.TheVariants as behind
 use Rattle.stl_tree.specs.Shifts.{most_steps}
-use Rattle.stl_grammar.specs.Statements.{is_in_area}
+use Rattle.stl_statements.specs.Statements.{is_in_area}
 use Rattle.stl_tree.specs.WordLogic.{width_of as logic_width}
 use Rattle.stl_tree.specs.declared.accumulator.LogicRow.{LogicRow}
 use Rattle.stl_tree.specs.declared.accumulator.ShiftRow.{ShiftRow}
-use Rattle.stl_grammar.specs.declared.mnemonic.Mnemonic.{Mnemonic}
-use Rattle.stl_grammar.specs.declared.mnemonic.Mnemonic.TheVariants as is
+use Rattle.stl_statements.specs.declared.mnemonic.Mnemonic.{Mnemonic}
+use Rattle.stl_statements.specs.declared.mnemonic.Mnemonic.TheVariants as is
 use Rattle.stl_tree.specs.declared.program.Instr.{Instr}
 use Rattle.stl_tree.specs.declared.program.LoadArg.TheVariants as load
 use Rattle.stl_tree.specs.declared.program.Op.{Op}

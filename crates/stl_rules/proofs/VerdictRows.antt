@@ -14,8 +14,8 @@ use Rattle.s7_base.specs.declared.reason.Rejection.TheVariants.{Refused}
 use Rattle.stl_grammar.specs.Items.{is_not_built, item_at}
 use Rattle.stl_rules.specs.Programs.{op_of}
 use Rattle.stl_rules.specs.Raw.{given}
-use Rattle.stl_grammar.specs.Statements.{instruction_of}
-use Rattle.stl_grammar.specs.Mnemonics.{mnemonic_at, mnemonic_named}
+use Rattle.stl_statements.specs.Statements.{instruction_of}
+use Rattle.stl_statements.specs.Mnemonics.{mnemonic_at, mnemonic_named}
 use Rattle.stl_grammar.specs.RawPrograms.{raw_program, raw_text}
 use Rattle.stl_rules.specs.Verdict.{judged, verdict}
 use Rattle.stl_tree.specs.declared.program.BitArg.TheVariants.{At, Flag}

@@ -12,8 +12,8 @@ use Rattle.s7_base.specs.declared.word.Width.TheVariants as width
 use Rattle.status_word.specs.declared.test.Test.{Test}
 use Rattle.stl_tree.specs.Accumulators.{bits_wide, signed_part}
 use Rattle.stl_tree.specs.Arithmetic.{is_comparison}
-use Rattle.stl_grammar.specs.Constants.{fits}
-use Rattle.stl_grammar.specs.Mnemonics.{mnemonic_named}
+use Rattle.stl_statements.specs.Constants.{fits}
+use Rattle.stl_statements.specs.Mnemonics.{mnemonic_named}
 use Rattle.stl_rules.specs.Raw.{given}
 use Rattle.stl_tree.specs.Shifts.{most_steps}
 use Rattle.stl_tree.specs.WordLogic.{width_of as logic_width}
@@ -21,8 +21,8 @@ use Rattle.stl_tree.specs.declared.accumulator.LogicRow.{LogicRow}
 use Rattle.stl_tree.specs.declared.accumulator.ShiftRow.{ShiftRow}
 use Rattle.stl_rules.specs.declared.given.Given.{Given}
 use Rattle.stl_rules.specs.declared.given.Given.TheVariants as behind
-use Rattle.stl_grammar.specs.declared.mnemonic.Mnemonic.{Mnemonic}
-use Rattle.stl_grammar.specs.declared.mnemonic.Mnemonic.TheVariants as is
+use Rattle.stl_statements.specs.declared.mnemonic.Mnemonic.{Mnemonic}
+use Rattle.stl_statements.specs.declared.mnemonic.Mnemonic.TheVariants as is
 use Rattle.stl_tree.specs.declared.program.BitArg.TheVariants as arg
 use Rattle.stl_tree.specs.declared.program.Block.{Block}
 use Rattle.stl_tree.specs.declared.program.Instr.{Instr}

@@ -1,6 +1,6 @@
 -- What stands in a raw operand.
 use Rattle.std.specs.Prelude.{if◌then◌else◌}
-use Rattle.stl_grammar.specs.Statements.{is_in_area}
+use Rattle.stl_statements.specs.Statements.{is_in_area}
 use Rattle.stl_rules.specs.declared.given.Given.{Given}
 use Rattle.stl_rules.specs.declared.given.Given.TheVariants as behind
 use Rattle.stl_tree.specs.declared.program.Operand.TheVariants.{Direct}

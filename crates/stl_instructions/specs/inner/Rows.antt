@@ -2,9 +2,9 @@
 use Rattle.stl_instructions.specs.declared.constant.Prefixed.{Prefixed as FoundPrefix}
 use Rattle.stl_instructions.specs.declared.operand.NamedForm.{NamedForm as FoundForm}
 use Rattle.stl_instructions.specs.declared.table.Row.{Row as Found}
-use Rattle.stl_grammar.specs.Constants.{Prefixed}
-use Rattle.stl_grammar.specs.Mnemonics.{Row}
-use Rattle.stl_grammar.specs.Statements.{NamedForm}
+use Rattle.stl_statements.specs.Constants.{Prefixed}
+use Rattle.stl_statements.specs.Mnemonics.{Row}
+use Rattle.stl_statements.specs.Statements.{NamedForm}
 
 -- a row of the table, as the definition has it
 abbrev pub view : Found → Row

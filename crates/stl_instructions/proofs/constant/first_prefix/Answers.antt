@@ -1,6 +1,6 @@
 use Rattle.std.proofs.Common.{◌∙◌, ap, Option}
 use Rattle.std.specs.Prelude.{option_map}
-use Rattle.stl_grammar.specs.Constants.{has_prefix}
+use Rattle.stl_statements.specs.Constants.{has_prefix}
 use Rattle.stl_instructions.specs.declared.constant.Prefixed.{Prefixed}
 use Rattle.stl_instructions.specs.inner.Rows.{shown}
 use Rattle.stl_instructions.proofs.Tables.{find_map}

@@ -1,6 +1,6 @@
 use Rattle.std.proofs.Common.{◌∙◌, ap, Option}
 use Rattle.std.specs.Prelude.{option_map}
-use Rattle.stl_grammar.specs.Statements.{has_form}
+use Rattle.stl_statements.specs.Statements.{has_form}
 use Rattle.stl_instructions.specs.declared.operand.NamedForm.{NamedForm}
 use Rattle.stl_instructions.specs.inner.Rows.{seen}
 use Rattle.stl_instructions.proofs.Tables.{find_map}

@@ -1,6 +1,6 @@
 use Rattle.std.proofs.Common.{◌∙◌, ap, Option}
 use Rattle.std.specs.Prelude.{option_map}
-use Rattle.stl_grammar.specs.Mnemonics.{has_name}
+use Rattle.stl_statements.specs.Mnemonics.{has_name}
 use Rattle.stl_instructions.specs.declared.table.Row.{Row}
 use Rattle.stl_instructions.specs.inner.Rows.{view}
 use Rattle.stl_instructions.proofs.Tables.{find_map}

@@ -2,7 +2,7 @@
 use Rattle.std.specs.Prelude.{ℕ, ◌+◌, ◌*◌, ◌-◌, Bool, false, ◌==◌, ◌&&◌, nat_le, nat_lt, if◌then◌else◌, List, [], ◌∷◌, length, get_or, Option, Some, None, option_and_then}
 use Rattle.std.specs.List.{list_all}
 use Rattle.s7_base.specs.Tokens.{is_between}
-use Rattle.stl_grammar.specs.declared.number.Bits.{Bits}
+use Rattle.stl_statements.specs.declared.number.Bits.{Bits}
 
 -- Decimal numbers
 

@@ -4,12 +4,12 @@ use Rattle.s7_base.specs.declared.token.Token.{Token}
 use Rattle.s7_base.specs.declared.word.Width.{Width}
 use Rattle.s7_base.specs.declared.word.Width.TheVariants as width
 use Rattle.stl_tree.specs.Accumulators.{bits_wide}
-use Rattle.stl_grammar.specs.Constants.{Prefixed, addend_prefixes, binary, constant, half, negative, plain, prefixes, text_of, with_byte}
-use Rattle.stl_grammar.specs.Numbers.{bits_of, hex_number, number_of}
-use Rattle.stl_grammar.specs.Words.{is_joined, is_joined_word, is_sign, is_text_kind, is_word, is_word_kind}
-use Rattle.stl_grammar.specs.declared.mnemonic.Prefix.{Prefix}
-use Rattle.stl_grammar.specs.declared.mnemonic.Prefix.TheVariants as prefix
-use Rattle.stl_grammar.specs.declared.number.Bits.{Bits}
+use Rattle.stl_statements.specs.Constants.{Prefixed, addend_prefixes, binary, constant, half, negative, plain, prefixes, text_of, with_byte}
+use Rattle.stl_statements.specs.Numbers.{bits_of, hex_number, number_of}
+use Rattle.stl_statements.specs.Words.{is_joined, is_joined_word, is_sign, is_text_kind, is_word, is_word_kind}
+use Rattle.stl_statements.specs.declared.mnemonic.Prefix.{Prefix}
+use Rattle.stl_statements.specs.declared.mnemonic.Prefix.TheVariants as prefix
+use Rattle.stl_statements.specs.declared.number.Bits.{Bits}
 use Rattle.stl_tree.specs.declared.raw.Constant.{Constant}
 
 -- the item is one of these

@@ -11,14 +11,14 @@ use Rattle.s7_base.specs.declared.token.Token.{Token}
 use Rattle.s7_base.specs.declared.word.Width.TheVariants as width
 use Rattle.status_word.specs.declared.test.Test.{Test}
 use Rattle.status_word.specs.declared.test.Test.TheVariants as test
-use Rattle.stl_grammar.specs.Words.{is_sign, is_spelled}
+use Rattle.stl_statements.specs.Words.{is_sign, is_spelled}
 use Rattle.stl_tree.specs.declared.accumulator.Arith.{Arith}
 use Rattle.stl_tree.specs.declared.accumulator.Arith.TheVariants as arith
 use Rattle.stl_tree.specs.declared.accumulator.LogicRow.TheVariants as logic
 use Rattle.stl_tree.specs.declared.accumulator.ShiftRow.TheVariants as shift
 use Rattle.stl_tree.specs.declared.accumulator.UnaryRow.TheVariants as unary
-use Rattle.stl_grammar.specs.declared.mnemonic.Mnemonic.{Mnemonic}
-use Rattle.stl_grammar.specs.declared.mnemonic.Mnemonic.TheVariants as is
+use Rattle.stl_statements.specs.declared.mnemonic.Mnemonic.{Mnemonic}
+use Rattle.stl_statements.specs.declared.mnemonic.Mnemonic.TheVariants as is
 
 -- a row: a word or a sign, the word or sign behind it, if there is one, and what the mnemonic is
 pub record Row : Type 0 where

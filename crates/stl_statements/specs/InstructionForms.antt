@@ -4,14 +4,14 @@ use Rattle.memory_areas.specs.declared.place.AreaName.{AreaName}
 use Rattle.s7_base.specs.declared.token.Token.{Token}
 use Rattle.s7_base.specs.declared.word.Width.{Width}
 use Rattle.status_word.specs.declared.test.Test.{Test}
-use Rattle.stl_grammar.specs.ConstantForms.{IsAddend, IsAmong, IsConstant, IsUpTo}
-use Rattle.stl_grammar.specs.Constants.{fits, plain}
-use Rattle.stl_grammar.specs.Mnemonics.{Row, rows, stands_at, mnemonic_at}
-use Rattle.stl_grammar.specs.Numbers.{number_of}
-use Rattle.stl_grammar.specs.Statements.{area_of, bit_of, is_in_area, first_of, number_of_area, second_of, shape_of, width_of, begins_with_label, name_of, size_with, instr_with, instruction_of}
-use Rattle.stl_grammar.specs.Words.{is_sign, is_spelled, is_word, is_word_kind}
-use Rattle.stl_grammar.specs.declared.mnemonic.Shape.{Shape}
-use Rattle.stl_grammar.specs.declared.mnemonic.Shape.TheVariants as shape
+use Rattle.stl_statements.specs.ConstantForms.{IsAddend, IsAmong, IsConstant, IsUpTo}
+use Rattle.stl_statements.specs.Constants.{fits, plain}
+use Rattle.stl_statements.specs.Mnemonics.{Row, rows, stands_at, mnemonic_at}
+use Rattle.stl_statements.specs.Numbers.{number_of}
+use Rattle.stl_statements.specs.Statements.{area_of, bit_of, is_in_area, first_of, number_of_area, second_of, shape_of, width_of, begins_with_label, name_of, size_with, instr_with, instruction_of}
+use Rattle.stl_statements.specs.Words.{is_sign, is_spelled, is_word, is_word_kind}
+use Rattle.stl_statements.specs.declared.mnemonic.Shape.{Shape}
+use Rattle.stl_statements.specs.declared.mnemonic.Shape.TheVariants as shape
 use Rattle.stl_tree.specs.declared.raw.Constant.{Constant as Literal}
 use Rattle.stl_tree.specs.declared.raw.RawInstr.{RawInstr}
 use Rattle.stl_tree.specs.declared.raw.RawOperand.{RawOperand}

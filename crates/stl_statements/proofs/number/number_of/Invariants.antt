@@ -1,5 +1,5 @@
 use Rattle.std.proofs.Common.{◌≡◌, ◌≤◌, drop}
-use Rattle.stl_grammar.specs.Numbers.{number_from}
+use Rattle.stl_statements.specs.Numbers.{number_from}
 use Rattle.stl_grammar.proofs.number.number_of.Given as goal
 
 -- the digits that are left, after the value so far, give the number of all

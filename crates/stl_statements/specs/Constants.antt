@@ -9,14 +9,14 @@ use Rattle.s7_base.specs.declared.token.Token.{Token}
 use Rattle.s7_base.specs.declared.word.Width.{Width}
 use Rattle.s7_base.specs.declared.word.Width.TheVariants as width
 use Rattle.stl_tree.specs.Accumulators.{bits_wide}
-use Rattle.stl_grammar.specs.Numbers.{are_digits, bits_of, hex_number}
-use Rattle.stl_grammar.specs.Readers.{fitting, number_in, or_else, read_as}
-use Rattle.stl_grammar.specs.Words.{is_joined, is_joined_word, is_sign, is_text_kind, is_word, is_word_kind}
-use Rattle.stl_grammar.specs.declared.mnemonic.Prefix.{Prefix}
-use Rattle.stl_grammar.specs.declared.mnemonic.Prefix.TheVariants as prefix
-use Rattle.stl_grammar.specs.declared.mnemonic.Read.{Read}
-use Rattle.stl_grammar.specs.declared.mnemonic.Read.TheVariants.{Fits, LeftOut, No}
-use Rattle.stl_grammar.specs.declared.number.Bits.{Bits}
+use Rattle.stl_statements.specs.Numbers.{are_digits, bits_of, hex_number}
+use Rattle.stl_statements.specs.Readers.{fitting, number_in, or_else, read_as}
+use Rattle.stl_statements.specs.Words.{is_joined, is_joined_word, is_sign, is_text_kind, is_word, is_word_kind}
+use Rattle.stl_statements.specs.declared.mnemonic.Prefix.{Prefix}
+use Rattle.stl_statements.specs.declared.mnemonic.Prefix.TheVariants as prefix
+use Rattle.stl_statements.specs.declared.mnemonic.Read.{Read}
+use Rattle.stl_statements.specs.declared.mnemonic.Read.TheVariants.{Fits, LeftOut, No}
+use Rattle.stl_statements.specs.declared.number.Bits.{Bits}
 use Rattle.stl_tree.specs.declared.raw.Constant.{Constant}
 
 -- a constant of a width

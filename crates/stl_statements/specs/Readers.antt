@@ -1,10 +1,10 @@
 -- What is read at the front of tokens, put together of what is read of its parts.
 use Rattle.std.specs.Prelude.{ℕ, if◌then◌else◌, Option, Some, None}
 use Rattle.s7_base.specs.declared.token.Token.{Token}
-use Rattle.stl_grammar.specs.Numbers.{number_of}
-use Rattle.stl_grammar.specs.Words.{is_word_kind}
-use Rattle.stl_grammar.specs.declared.mnemonic.Read.{Read}
-use Rattle.stl_grammar.specs.declared.mnemonic.Read.TheVariants.{Fits, LeftOut, No}
+use Rattle.stl_statements.specs.Numbers.{number_of}
+use Rattle.stl_statements.specs.Words.{is_word_kind}
+use Rattle.stl_statements.specs.declared.mnemonic.Read.{Read}
+use Rattle.stl_statements.specs.declared.mnemonic.Read.TheVariants.{Fits, LeftOut, No}
 
 -- what was read takes so many tokens, or it does not stand here
 abbrev pub fitting : {A : Type 0} → ℕ → Option A → Read A

@@ -21,19 +21,19 @@ use Rattle.s7_base.specs.declared.word.Width.{Width}
 use Rattle.s7_base.specs.declared.word.Width.TheVariants as width
 use Rattle.status_word.specs.declared.test.Test.{Test}
 use Rattle.status_word.specs.declared.test.Test.TheVariants as test
-use Rattle.stl_grammar.specs.Constants.{addend_at, constant_at, fitting_at, number_at}
-use Rattle.stl_grammar.specs.Mnemonics.{Row, goes_on, mnemonic_at}
-use Rattle.stl_grammar.specs.Numbers.{are_digits, number_of}
-use Rattle.stl_grammar.specs.Readers.{fitting, or_else, read_as}
+use Rattle.stl_statements.specs.Constants.{addend_at, constant_at, fitting_at, number_at}
+use Rattle.stl_statements.specs.Mnemonics.{Row, goes_on, mnemonic_at}
+use Rattle.stl_statements.specs.Numbers.{are_digits, number_of}
+use Rattle.stl_statements.specs.Readers.{fitting, or_else, read_as}
 use Rattle.stl_tree.specs.Shifts.{most_steps}
 use Rattle.stl_tree.specs.WordLogic.{width_of as logic_width}
-use Rattle.stl_grammar.specs.Words.{is_word, is_sign, is_spelled, is_word_kind}
-use Rattle.stl_grammar.specs.declared.mnemonic.Mnemonic.{Mnemonic}
-use Rattle.stl_grammar.specs.declared.mnemonic.Mnemonic.TheVariants as is
-use Rattle.stl_grammar.specs.declared.mnemonic.Read.{Read}
-use Rattle.stl_grammar.specs.declared.mnemonic.Read.TheVariants.{Fits, LeftOut, No}
-use Rattle.stl_grammar.specs.declared.mnemonic.Shape.{Shape}
-use Rattle.stl_grammar.specs.declared.mnemonic.Shape.TheVariants as shape
+use Rattle.stl_statements.specs.Words.{is_word, is_sign, is_spelled, is_word_kind}
+use Rattle.stl_statements.specs.declared.mnemonic.Mnemonic.{Mnemonic}
+use Rattle.stl_statements.specs.declared.mnemonic.Mnemonic.TheVariants as is
+use Rattle.stl_statements.specs.declared.mnemonic.Read.{Read}
+use Rattle.stl_statements.specs.declared.mnemonic.Read.TheVariants.{Fits, LeftOut, No}
+use Rattle.stl_statements.specs.declared.mnemonic.Shape.{Shape}
+use Rattle.stl_statements.specs.declared.mnemonic.Shape.TheVariants as shape
 use Rattle.stl_tree.specs.declared.raw.RawInstr.{RawInstr}
 use Rattle.stl_tree.specs.declared.raw.RawOp.{RawOp}
 use Rattle.stl_tree.specs.declared.raw.RawOperand.{RawOperand}

@@ -1,7 +1,7 @@
 //! Decimal numbers, and what binary digits are.
 ghost use Rattle.std.specs.Prelude.{◌≡◌, ◌+◌, ◌*◌, ◌-◌, ◌≤◌, ◌&&◌, nat_le, IfSome};
 ghost use Rattle.s7_base.specs.Tokens.{is_between};
-ghost use Rattle.stl_grammar.specs.Numbers.{number_of};
+ghost use Rattle.stl_statements.specs.Numbers.{number_of};
 
 /// Binary digits: how many, and the number that they stand for.
 #[derive(Clone, Copy)]
