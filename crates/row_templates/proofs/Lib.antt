@@ -1,6 +1,7 @@
 pub mod Alike
 pub mod DoesRow
 pub mod Example
+pub mod FetchBounds
 pub mod Fetching
 pub mod Locals
 pub mod MemoryRows
