@@ -9,7 +9,7 @@ use crate::accumulators::{read_number, write_part};
 use crate::state::{Registers, State};
 use s7_base::{Check, Fault, Width};
 use status_word::{Flag, Status};
-use stl_tree::{BitArg, LoadArg, Op, Operand, UnaryRow};
+use stl_tree::{BitArg, LoadArg, Op, OpenArg, Operand, UnaryRow};
 
 /// How a run goes on after an instruction.
 #[derive(Clone, Copy, Debug)]
@@ -41,21 +41,23 @@ fn next_on(registers: Registers, state: &mut State) -> Result<Effect, Fault>
 fn check(check: Check, argument: &BitArg, state: &mut State) -> Result<Effect, Fault>
     ensures { Does (effect_of (op.Check check argument.now) (seen state.old)) result state.old state.new }
 {
-    let status = state.registers.status;
     let bit = match argument {
-        BitArg::At(operand) => state.memory.read_bit(state.place_of(operand))?,
-        BitArg::Flag(test) => status.test(*test),
+        BitArg::At(operand) => {
+            let place = state.place_of(operand);
+            state.memory.read_bit(place)?
+        }
+        BitArg::Flag(test) => state.registers.status.test(*test),
     };
-    next_with(status.checked(check, bit), state)
+    next_with(state.registers.status.checked(check, bit), state)
 }
 
 /// `=`
 fn assign(operand: &Operand, state: &mut State) -> Result<Effect, Fault>
     ensures { Does (effect_of (op.Assign operand.now) (seen state.old)) result state.old state.new }
 {
+    let place = state.place_of(operand);
     let status = state.registers.status;
     let rlo = status.get(Flag::Rlo);
-    let place = state.place_of(operand);
     state.memory.write_bit(place, rlo)?;
     next_with(status.stored(rlo), state)
 }
@@ -64,8 +66,8 @@ fn assign(operand: &Operand, state: &mut State) -> Result<Effect, Fault>
 fn set_to(value: bool, operand: &Operand, state: &mut State) -> Result<Effect, Fault>
     ensures { Does (stored (λ b rlo. if rlo then value else b) operand.now (seen state.old)) result state.old state.new }
 {
-    let status = state.registers.status;
     let place = state.place_of(operand);
+    let status = state.registers.status;
     let bit = state.memory.read_bit(place)?;
     let stands = if status.get(Flag::Rlo) { value } else { bit };
     state.memory.write_bit(place, stands)?;
@@ -76,8 +78,8 @@ fn set_to(value: bool, operand: &Operand, state: &mut State) -> Result<Effect, F
 fn edge(rising: bool, operand: &Operand, state: &mut State) -> Result<Effect, Fault>
     ensures { Does (at_edge rising operand.now (seen state.old)) result state.old state.new }
 {
-    let status = state.registers.status;
     let place = state.place_of(operand);
+    let status = state.registers.status;
     let old = state.memory.read_bit(place)?;
     state.memory.write_bit(place, status.get(Flag::Rlo))?;
     next_with(status.edge(rising, old), state)
@@ -89,7 +91,8 @@ fn load(argument: &LoadArg, state: &mut State) -> Result<Effect, Fault>
 {
     let value = match argument {
         LoadArg::At(operand, width) => {
-            read_number(&state.memory, state.place_of(operand), *width)?
+            let place = state.place_of(operand);
+            read_number(&state.memory, place, *width)?
         }
         LoadArg::Constant(value) => *value,
     };
@@ -110,6 +113,22 @@ fn on_accu1(of: UnaryRow, state: &mut State) -> Result<Effect, Fault>
     ensures { Does (on_accu1 of (seen state.old)) result state.old state.new }
 {
     next_on(state.registers.converted(of)?, state)
+}
+
+/// `OPN` of a data block.
+fn open_db(argument: OpenArg, state: &mut State) -> Result<Effect, Fault>
+    ensures { Does (effect_of (op.OpenDb argument) (seen state.old)) result state.old state.new }
+{
+    let OpenArg::Number(number) = argument;
+    next_on(state.registers.db_opened(number), state)
+}
+
+/// `OPN` of an instance.
+fn open_di(argument: OpenArg, state: &mut State) -> Result<Effect, Fault>
+    ensures { Does (effect_of (op.OpenDi argument) (seen state.old)) result state.old state.new }
+{
+    let OpenArg::Number(number) = argument;
+    next_on(state.registers.di_opened(number), state)
 }
 
 /// An opening bracket.
@@ -160,6 +179,8 @@ pub fn effect_of(op: &Op, state: &mut State) -> Result<Effect, Fault>
         Op::Transfer(operand, width) => transfer(operand, *width, state),
         Op::LoadStw => next_on(registers.status_loaded(), state),
         Op::TransferStw => next_on(registers.status_stored(), state),
+        Op::LoadDbNo => next_on(registers.db_number_loaded(), state),
+        Op::LoadDiNo => next_on(registers.di_number_loaded(), state),
         Op::Arith(of) => next_on(registers.calculated(*of), state),
         Op::AddWord(n) => next_on(registers.increased(Width::Word, i32::from(*n)), state),
         Op::AddDword(n) => next_on(registers.increased(Width::Dword, *n), state),
@@ -174,6 +195,9 @@ pub fn effect_of(op: &Op, state: &mut State) -> Result<Effect, Fault>
         Op::Tak => next_on(registers.accus_exchanged(), state),
         Op::Push => next_on(registers.accu_pushed(), state),
         Op::Pop => next_on(registers.accu_popped(), state),
+        Op::OpenDb(argument) => open_db(*argument, state),
+        Op::OpenDi(argument) => open_di(*argument, state),
+        Op::ExchangeDb => next_on(registers.dbs_exchanged(), state),
         Op::Nop => Ok(Effect::Next),
         Op::BlockEnd => leave(state),
     }
