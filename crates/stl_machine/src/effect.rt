@@ -2,6 +2,7 @@
 ghost use Rattle.std.specs.Prelude.{if◌then◌else◌};
 ghost use Rattle.status_word.specs.Flags.{bits};
 ghost use Rattle.stl_machine.specs.Machine.{seen, values, Does};
+ghost use Rattle.stl_machine.specs.inner.Rows.{IsOnRegisters};
 ghost use Rattle.stl_tree.specs.Instructions.{at_edge, effect_of, on_accu1, on_registers, on_status, stored};
 ghost use Rattle.stl_tree.specs.declared.program.Op.TheVariants as op;
 
@@ -115,22 +116,6 @@ fn on_accu1(of: UnaryRow, state: &mut State) -> Result<Effect, Fault>
     next_on(state.registers.converted(of)?, state)
 }
 
-/// `OPN` of a data block.
-fn open_db(argument: OpenArg, state: &mut State) -> Result<Effect, Fault>
-    ensures { Does (effect_of (op.OpenDb argument) (seen state.old)) result state.old state.new }
-{
-    let OpenArg::Number(number) = argument;
-    next_on(state.registers.db_opened(number), state)
-}
-
-/// `OPN` of an instance.
-fn open_di(argument: OpenArg, state: &mut State) -> Result<Effect, Fault>
-    ensures { Does (effect_of (op.OpenDi argument) (seen state.old)) result state.old state.new }
-{
-    let OpenArg::Number(number) = argument;
-    next_on(state.registers.di_opened(number), state)
-}
-
 /// An opening bracket.
 fn open(of: Check, state: &mut State) -> Result<Effect, Fault>
     ensures { Does (effect_of (op.Bracket of) (seen state.old)) result state.old state.new }
@@ -155,12 +140,43 @@ fn leave(state: &mut State) -> Result<Effect, Fault>
     Ok(Effect::Leave)
 }
 
+/// An instruction on the registers alone.
+fn on_registers(op: &Op, state: &mut State) -> Result<Effect, Fault>
+    requires { IsOnRegisters op.now }
+    ensures { Does (effect_of op.now (seen state.old)) result state.old state.new }
+{
+    let before = state.registers;
+    let registers = match op {
+        Op::LoadStw => before.status_loaded(),
+        Op::TransferStw => before.status_stored(),
+        Op::LoadDbNo => before.db_number_loaded(),
+        Op::LoadDiNo => before.di_number_loaded(),
+        Op::Arith(of) => before.calculated(*of),
+        Op::AddWord(n) => before.increased(Width::Word, i32::from(*n)),
+        Op::AddDword(n) => before.increased(Width::Dword, *n),
+        Op::Inc(n) => before.increased(Width::Byte, i32::from(*n)),
+        Op::Dec(n) => before.decreased(Width::Byte, i32::from(*n)),
+        Op::Compare(test, width) => before.compared(*test, *width),
+        Op::Shift(of, count) => before.after_shift(*of, *count),
+        Op::Rlda => before.around_left_through_cc1(),
+        Op::Rrda => before.around_right_through_cc1(),
+        Op::Logic(of, constant) => before.after_logic_row(*of, *constant),
+        Op::Tak => before.accus_exchanged(),
+        Op::Push => before.accu_pushed(),
+        Op::Pop => before.accu_popped(),
+        Op::OpenDb(OpenArg::Number(n)) => before.db_opened(*n),
+        Op::OpenDi(OpenArg::Number(n)) => before.di_opened(*n),
+        Op::ExchangeDb => before.dbs_exchanged(),
+        _ => unreachable!(),
+    };
+    next_on(registers, state)
+}
+
 /// Does an instruction. A fault leaves the memory as it was.
 pub fn effect_of(op: &Op, state: &mut State) -> Result<Effect, Fault>
     ensures { Does (effect_of op.now (seen state.old)) result state.old state.new }
 {
-    let registers = state.registers;
-    let status = registers.status;
+    let status = state.registers.status;
     match op {
         Op::Check(of, argument) => check(*of, argument, state),
         Op::OrAlone => next_with(status.and_before_or(), state),
@@ -177,28 +193,9 @@ pub fn effect_of(op: &Op, state: &mut State) -> Result<Effect, Fault>
         Op::EdgeDown(operand) => edge(false, operand, state),
         Op::Load(argument) => load(argument, state),
         Op::Transfer(operand, width) => transfer(operand, *width, state),
-        Op::LoadStw => next_on(registers.status_loaded(), state),
-        Op::TransferStw => next_on(registers.status_stored(), state),
-        Op::LoadDbNo => next_on(registers.db_number_loaded(), state),
-        Op::LoadDiNo => next_on(registers.di_number_loaded(), state),
-        Op::Arith(of) => next_on(registers.calculated(*of), state),
-        Op::AddWord(n) => next_on(registers.increased(Width::Word, i32::from(*n)), state),
-        Op::AddDword(n) => next_on(registers.increased(Width::Dword, *n), state),
-        Op::Inc(n) => next_on(registers.increased(Width::Byte, i32::from(*n)), state),
-        Op::Dec(n) => next_on(registers.decreased(Width::Byte, i32::from(*n)), state),
-        Op::Compare(test, width) => next_on(registers.compared(*test, *width), state),
-        Op::Shift(of, count) => next_on(registers.after_shift(*of, *count), state),
-        Op::Rlda => next_on(registers.around_left_through_cc1(), state),
-        Op::Rrda => next_on(registers.around_right_through_cc1(), state),
-        Op::Logic(of, constant) => next_on(registers.after_logic_row(*of, *constant), state),
         Op::Unary(of) => on_accu1(*of, state),
-        Op::Tak => next_on(registers.accus_exchanged(), state),
-        Op::Push => next_on(registers.accu_pushed(), state),
-        Op::Pop => next_on(registers.accu_popped(), state),
-        Op::OpenDb(argument) => open_db(*argument, state),
-        Op::OpenDi(argument) => open_di(*argument, state),
-        Op::ExchangeDb => next_on(registers.dbs_exchanged(), state),
         Op::Nop => Ok(Effect::Next),
         Op::BlockEnd => leave(state),
+        _ => on_registers(op, state),
     }
 }
