@@ -2,6 +2,7 @@
 ghost use Rattle.std.specs.Prelude.{if◌then◌else◌};
 ghost use Rattle.status_word.specs.Flags.{bits};
 ghost use Rattle.stl_machine.specs.Machine.{seen, values, Does};
+ghost use Rattle.stl_machine.specs.inner.Rows.{IsOnRegisters};
 ghost use Rattle.stl_tree.specs.Instructions.{at_edge, effect_of, on_accu1, on_registers, on_status, stored};
 ghost use Rattle.stl_tree.specs.declared.program.Op.TheVariants as op;
 
@@ -9,7 +10,7 @@ use crate::accumulators::{read_number, write_part};
 use crate::state::{Registers, State};
 use s7_base::{Check, Fault, Width};
 use status_word::{Flag, Status};
-use stl_tree::{BitArg, LoadArg, Op, Operand, UnaryRow};
+use stl_tree::{BitArg, LoadArg, Op, OpenArg, Operand, UnaryRow};
 
 /// How a run goes on after an instruction.
 #[derive(Clone, Copy, Debug)]
@@ -41,21 +42,23 @@ fn next_on(registers: Registers, state: &mut State) -> Result<Effect, Fault>
 fn check(check: Check, argument: &BitArg, state: &mut State) -> Result<Effect, Fault>
     ensures { Does (effect_of (op.Check check argument.now) (seen state.old)) result state.old state.new }
 {
-    let status = state.registers.status;
     let bit = match argument {
-        BitArg::At(operand) => state.memory.read_bit(state.place_of(operand))?,
-        BitArg::Flag(test) => status.test(*test),
+        BitArg::At(operand) => {
+            let place = state.place_of(operand);
+            state.memory.read_bit(place)?
+        }
+        BitArg::Flag(test) => state.registers.status.test(*test),
     };
-    next_with(status.checked(check, bit), state)
+    next_with(state.registers.status.checked(check, bit), state)
 }
 
 /// `=`
 fn assign(operand: &Operand, state: &mut State) -> Result<Effect, Fault>
     ensures { Does (effect_of (op.Assign operand.now) (seen state.old)) result state.old state.new }
 {
+    let place = state.place_of(operand);
     let status = state.registers.status;
     let rlo = status.get(Flag::Rlo);
-    let place = state.place_of(operand);
     state.memory.write_bit(place, rlo)?;
     next_with(status.stored(rlo), state)
 }
@@ -64,8 +67,8 @@ fn assign(operand: &Operand, state: &mut State) -> Result<Effect, Fault>
 fn set_to(value: bool, operand: &Operand, state: &mut State) -> Result<Effect, Fault>
     ensures { Does (stored (λ b rlo. if rlo then value else b) operand.now (seen state.old)) result state.old state.new }
 {
-    let status = state.registers.status;
     let place = state.place_of(operand);
+    let status = state.registers.status;
     let bit = state.memory.read_bit(place)?;
     let stands = if status.get(Flag::Rlo) { value } else { bit };
     state.memory.write_bit(place, stands)?;
@@ -76,8 +79,8 @@ fn set_to(value: bool, operand: &Operand, state: &mut State) -> Result<Effect, F
 fn edge(rising: bool, operand: &Operand, state: &mut State) -> Result<Effect, Fault>
     ensures { Does (at_edge rising operand.now (seen state.old)) result state.old state.new }
 {
-    let status = state.registers.status;
     let place = state.place_of(operand);
+    let status = state.registers.status;
     let old = state.memory.read_bit(place)?;
     state.memory.write_bit(place, status.get(Flag::Rlo))?;
     next_with(status.edge(rising, old), state)
@@ -89,7 +92,8 @@ fn load(argument: &LoadArg, state: &mut State) -> Result<Effect, Fault>
 {
     let value = match argument {
         LoadArg::At(operand, width) => {
-            read_number(&state.memory, state.place_of(operand), *width)?
+            let place = state.place_of(operand);
+            read_number(&state.memory, place, *width)?
         }
         LoadArg::Constant(value) => *value,
     };
@@ -136,12 +140,43 @@ fn leave(state: &mut State) -> Result<Effect, Fault>
     Ok(Effect::Leave)
 }
 
+/// An instruction on the registers alone.
+fn on_registers(op: &Op, state: &mut State) -> Result<Effect, Fault>
+    requires { IsOnRegisters op.now }
+    ensures { Does (effect_of op.now (seen state.old)) result state.old state.new }
+{
+    let before = state.registers;
+    let registers = match op {
+        Op::LoadStw => before.status_loaded(),
+        Op::TransferStw => before.status_stored(),
+        Op::LoadDbNo => before.db_number_loaded(),
+        Op::LoadDiNo => before.di_number_loaded(),
+        Op::Arith(of) => before.calculated(*of),
+        Op::AddWord(n) => before.increased(Width::Word, i32::from(*n)),
+        Op::AddDword(n) => before.increased(Width::Dword, *n),
+        Op::Inc(n) => before.increased(Width::Byte, i32::from(*n)),
+        Op::Dec(n) => before.decreased(Width::Byte, i32::from(*n)),
+        Op::Compare(test, width) => before.compared(*test, *width),
+        Op::Shift(of, count) => before.after_shift(*of, *count),
+        Op::Rlda => before.around_left_through_cc1(),
+        Op::Rrda => before.around_right_through_cc1(),
+        Op::Logic(of, constant) => before.after_logic_row(*of, *constant),
+        Op::Tak => before.accus_exchanged(),
+        Op::Push => before.accu_pushed(),
+        Op::Pop => before.accu_popped(),
+        Op::OpenDb(OpenArg::Number(n)) => before.db_opened(*n),
+        Op::OpenDi(OpenArg::Number(n)) => before.di_opened(*n),
+        Op::ExchangeDb => before.dbs_exchanged(),
+        _ => unreachable!(),
+    };
+    next_on(registers, state)
+}
+
 /// Does an instruction. A fault leaves the memory as it was.
 pub fn effect_of(op: &Op, state: &mut State) -> Result<Effect, Fault>
     ensures { Does (effect_of op.now (seen state.old)) result state.old state.new }
 {
-    let registers = state.registers;
-    let status = registers.status;
+    let status = state.registers.status;
     match op {
         Op::Check(of, argument) => check(*of, argument, state),
         Op::OrAlone => next_with(status.and_before_or(), state),
@@ -158,23 +193,9 @@ pub fn effect_of(op: &Op, state: &mut State) -> Result<Effect, Fault>
         Op::EdgeDown(operand) => edge(false, operand, state),
         Op::Load(argument) => load(argument, state),
         Op::Transfer(operand, width) => transfer(operand, *width, state),
-        Op::LoadStw => next_on(registers.status_loaded(), state),
-        Op::TransferStw => next_on(registers.status_stored(), state),
-        Op::Arith(of) => next_on(registers.calculated(*of), state),
-        Op::AddWord(n) => next_on(registers.increased(Width::Word, i32::from(*n)), state),
-        Op::AddDword(n) => next_on(registers.increased(Width::Dword, *n), state),
-        Op::Inc(n) => next_on(registers.increased(Width::Byte, i32::from(*n)), state),
-        Op::Dec(n) => next_on(registers.decreased(Width::Byte, i32::from(*n)), state),
-        Op::Compare(test, width) => next_on(registers.compared(*test, *width), state),
-        Op::Shift(of, count) => next_on(registers.after_shift(*of, *count), state),
-        Op::Rlda => next_on(registers.around_left_through_cc1(), state),
-        Op::Rrda => next_on(registers.around_right_through_cc1(), state),
-        Op::Logic(of, constant) => next_on(registers.after_logic_row(*of, *constant), state),
         Op::Unary(of) => on_accu1(*of, state),
-        Op::Tak => next_on(registers.accus_exchanged(), state),
-        Op::Push => next_on(registers.accu_pushed(), state),
-        Op::Pop => next_on(registers.accu_popped(), state),
         Op::Nop => Ok(Effect::Next),
         Op::BlockEnd => leave(state),
+        _ => on_registers(op, state),
     }
 }

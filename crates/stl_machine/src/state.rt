@@ -5,10 +5,11 @@ ghost use Rattle.status_word.specs.Flags.{bits};
 ghost use Rattle.status_word.specs.StatusBits.{entry_of};
 ghost use Rattle.stl_machine.specs.Machine.{seen, values};
 ghost use Rattle.stl_tree.specs.Brackets.{closed, opened, pushed};
+ghost use Rattle.stl_tree.specs.DataBlocks.{db_number_loaded, db_opened, dbs_exchanged, di_number_loaded, di_opened};
 ghost use Rattle.stl_tree.specs.Operands.{found};
 ghost use Rattle.stl_tree.specs.Registers.{start};
 
-use memory_areas::{Memory, Place};
+use memory_areas::{AreaName, Memory, Place};
 use nesting_stack::Nesting;
 use s7_base::{Check, Entry};
 use status_word::{Flag, Status};
@@ -41,6 +42,45 @@ impl Registers {
             di: 0,
             status: Status(0),
         }
+    }
+
+    /// `OPN` of a data block, which need not be there.
+    pub fn db_opened(self, number: u16) -> Registers
+        ensures { values result ≡ db_opened number (values self) }
+    {
+        Registers { db: number, ..self }
+    }
+
+    /// `OPN` of an instance.
+    pub fn di_opened(self, number: u16) -> Registers
+        ensures { values result ≡ di_opened number (values self) }
+    {
+        Registers { di: number, ..self }
+    }
+
+    /// `CDB`
+    pub fn dbs_exchanged(self) -> Registers
+        ensures { values result ≡ dbs_exchanged (values self) }
+    {
+        Registers {
+            db: self.di,
+            di: self.db,
+            ..self
+        }
+    }
+
+    /// `L DBNO`
+    pub fn db_number_loaded(self) -> Registers
+        ensures { values result ≡ db_number_loaded (values self) }
+    {
+        self.loaded(u32::from(self.db))
+    }
+
+    /// `L DINO`
+    pub fn di_number_loaded(self) -> Registers
+        ensures { values result ≡ di_number_loaded (values self) }
+    {
+        self.loaded(u32::from(self.di))
     }
 }
 
@@ -78,12 +118,21 @@ pub struct State {
 }
 
 impl State {
-    /// The place that an operand names.
-    pub fn place_of(&self, operand: &Operand) -> Place
-        ensures place { found operand.now (seen self.now) ≡ Ok (record { place = result; after = seen self.now }) }
+    /// The place that an operand names. One with the number of its data block opens that block first.
+    pub fn place_of(&mut self, operand: &Operand) -> Place
+        ensures place { found operand.now (seen self.old) ≡ Ok (record { place = result; after = seen self.new }) }
         ensures activation { IsActivation result.area }
+        ensures memory { self.new.memory ≡ self.old.memory }
+        ensures block { self.new.block ≡ self.old.block }
+        ensures position { self.new.position ≡ self.old.position }
     {
-        let Operand::Direct(name, byte, bit) = *operand;
+        let (name, byte, bit) = match *operand {
+            Operand::Direct(name, byte, bit) => (name, byte, bit),
+            Operand::Opened(number, byte, bit) => {
+                self.registers = self.registers.db_opened(number);
+                (AreaName::Db, byte, bit)
+            }
+        };
         Place {
             area: name.area(self.registers.db, self.registers.di, 0),
             byte,

@@ -5,6 +5,8 @@
 #[cfg(test)]
 mod bit_logic_rows;
 #[cfg(test)]
+mod data_block_rows;
+#[cfg(test)]
 mod machines;
 #[cfg(test)]
 mod status_word_rows;

@@ -38,6 +38,8 @@ pub fn copy(op: &Op) -> Op {
         Op::Transfer(operand, width) => Op::Transfer(*operand, *width),
         Op::LoadStw => Op::LoadStw,
         Op::TransferStw => Op::TransferStw,
+        Op::LoadDbNo => Op::LoadDbNo,
+        Op::LoadDiNo => Op::LoadDiNo,
         Op::Arith(row) => Op::Arith(*row),
         Op::AddWord(number) => Op::AddWord(*number),
         Op::AddDword(number) => Op::AddDword(*number),
@@ -52,6 +54,9 @@ pub fn copy(op: &Op) -> Op {
         Op::Tak => Op::Tak,
         Op::Push => Op::Push,
         Op::Pop => Op::Pop,
+        Op::OpenDb(argument) => Op::OpenDb(*argument),
+        Op::OpenDi(argument) => Op::OpenDi(*argument),
+        Op::ExchangeDb => Op::ExchangeDb,
         Op::Nop => Op::Nop,
         Op::BlockEnd => Op::BlockEnd,
     }
