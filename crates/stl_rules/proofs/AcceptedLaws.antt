@@ -6,6 +6,7 @@ use Rattle.std.specs.List.{cons_option, filter_map, flat_map}
 use Rattle.std.proofs.lemmas.List.Concat.{flat_map-cons}
 use Rattle.std.proofs.lemmas.List.Elements.{All-append, All-cons, All-nil, All-head, All-tail}
 use Rattle.nesting_stack.specs.Entries.{most_open}
+use Rattle.memory_areas.specs.Areas.{IsSized}
 use Rattle.s7_base.specs.Broken.{broken}
 use Rattle.s7_base.specs.Tokens.{tokens_of, line_at_end}
 use Rattle.s7_base.specs.declared.reason.Line.{Line}
@@ -14,7 +15,7 @@ use Rattle.s7_base.specs.declared.reason.Rejection.{Rejection}
 use Rattle.s7_base.specs.declared.token.Token.{Token}
 use Rattle.memory_areas.specs.declared.call.BlockName.{BlockName}
 use Rattle.stl_rules.specs.VerdictLaws.{VerdictIsAccepted}
-use Rattle.stl_tree.specs.Accepted.{AreDistinct, HaveOperands, IsAccepted, IsAcceptedBlock, IsBlockNumber, IsEnded}
+use Rattle.stl_tree.specs.Accepted.{IsSymbol, AreDistinct, HaveOperands, IsAccepted, IsAcceptedBlock, IsBlockNumber, IsEnded}
 use Rattle.stl_tree.specs.Brackets.{AreNested, WithNumber, open_behind}
 use Rattle.stl_grammar.specs.Grammar.{IsForm, heading, begin, empty, end_word, statement, form, AreItems, none_more, one_more}
 use Rattle.stl_rules.specs.Accepting.{IsKept, IsText}
@@ -177,7 +178,9 @@ program_accepted end tokens program text =
       some = some_block raw.blocks built some;
       blocks = all_made (λ b. brackets_in b ≡ []) IsAcceptedBlock block_of block_is raw.blocks (none_of_all brackets_in raw.blocks closed);
       names = distinct raw.blocks (one_at_most text.are);
-      alone = record { dbs = refl; instances = refl; symbols = refl };
+      dbs = record { ascend = tt; few = omega arith; sized = All-nil IsSized };
+      symbols = All-nil IsSymbol;
+      instances = refl;
     } in
     subst IsAccepted text.program_is made
 

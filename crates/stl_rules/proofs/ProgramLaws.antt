@@ -7,18 +7,19 @@ use Rattle.std.proofs.lemmas.Bool.{and_parts, leb-true, ltb-true, not-true}
 use Rattle.std.proofs.lemmas.List.Elements.{All-cons, All-nil, All-head, All-tail}
 use Rattle.memory_areas.specs.Access.{is_byte_in, is_unaligned}
 use Rattle.memory_areas.specs.declared.call.BlockName.TheVariants.{Ob}
+use Rattle.memory_areas.specs.declared.place.AreaName.TheVariants as area
 use Rattle.s7_base.specs.SignedNumbers.{is_over}
 use Rattle.s7_base.specs.declared.check.Check.{Check}
 use Rattle.s7_base.specs.declared.check.Check.TheVariants as check
 use Rattle.s7_base.specs.declared.word.Width.{Width}
 use Rattle.s7_base.specs.declared.word.Width.TheVariants as width
 use Rattle.status_word.specs.declared.test.Test.{Test}
-use Rattle.stl_tree.specs.Accepted.{HasOperand, IsBlockNumber, IsComparison, IsNumberWidth, IsOperand}
+use Rattle.stl_tree.specs.Accepted.{HasOperand, IsBlockNumber, IsBlockOpened, IsComparison, IsNumberWidth, IsOperand}
 use Rattle.stl_tree.specs.Accumulators.{bits_wide, signed_part}
 use Rattle.stl_statements.specs.Constants.{fits}
 use Rattle.stl_statements.specs.Mnemonics.{mnemonic_named}
-use Rattle.stl_rules.specs.Programs.{adding, alone, block_name, checked, combining, comparing, instr_of, is_compared, loading, on_bit, on_number, op_by, op_of, op_with, shifting, storing, unchecked, value_in, with_number, within}
-use Rattle.stl_rules.specs.Raw.{given_in, given}
+use Rattle.stl_rules.specs.Programs.{adding, alone, block_name, checked, combining, comparing, instr_of, is_compared, loading, on_bit, on_number, op_by, op_of, op_with, opening, shifting, storing, unchecked, value_in, with_number, within}
+use Rattle.stl_rules.specs.Raw.{given, given_in, given_number, is_block_number, is_placed, operand_at}
 use Rattle.stl_rules.specs.declared.given.Given.{Given}
 use Rattle.stl_rules.specs.declared.given.Given.TheVariants as behind
 use Rattle.stl_tree.specs.Shifts.{most_steps}
@@ -40,7 +41,7 @@ use Rattle.stl_tree.specs.declared.raw.RawActual.{RawActual}
 use Rattle.stl_tree.specs.declared.raw.RawCall.{RawCall}
 use Rattle.stl_tree.specs.declared.raw.RawInstr.{RawInstr}
 use Rattle.stl_tree.specs.declared.raw.RawName.{RawName}
-use Rattle.stl_tree.specs.declared.raw.RawName.TheVariants.{Number}
+use Rattle.stl_tree.specs.declared.raw.RawName.TheVariants.{Name, Number}
 use Rattle.stl_tree.specs.declared.raw.RawOp.{RawOp}
 use Rattle.stl_tree.specs.declared.raw.RawOperand.{RawOperand, RawOperand-F, out-RawOperand}
 use Rattle.stl_tree.specs.declared.raw.RawOperand.TheOpen as layer
@@ -50,14 +51,40 @@ use Rattle.stl_tree.specs.declared.raw.RawPlace.{RawPlace}
 
 abbrev IsGiven : Given → Type 0
 IsGiven (behind.At o w) = IsOperand w o
+IsGiven (behind.Db n) = IsBlockOpened n
+IsGiven (behind.Di n) = IsBlockOpened n
 IsGiven more = Unit {0}
 
-tested : (place : RawPlace) (b : Bool) → is_in_area place ≡ b → IsGiven (if b then behind.At (Direct place.area place.byte place.bit) place.width else behind.Other)
-tested place true e = let p = and_parts (is_byte_in place.area place.width place.byte) (not (is_unaligned place.width place.bit)) e in (p.0, not-true (is_unaligned place.width place.bit) p.1)
-tested place false e = tt
+-- a number that is one of a data block
+numbered : (n : ℕ) → is_block_number n ≡ true → IsBlockOpened n
+numbered n e = let p = and_parts (nat_le 1 n) (nat_le n 65535) e in (leb-true 1 n p.0, leb-true n 65535 p.1)
+
+in_area : (place : RawPlace) → is_in_area place ≡ true → (is_byte_in place.area place.width place.byte ≡ true) × (is_unaligned place.width place.bit ≡ false)
+in_area place e =
+    let p = and_parts (is_byte_in place.area place.width place.byte) (not (is_unaligned place.width place.bit)) e in
+    (p.0, not-true (is_unaligned place.width place.bit) p.1)
+
+tested : (place : RawPlace) (block : Option ℕ) → (b : Bool) → is_placed place block ≡ b → IsGiven (if b then operand_at place block else behind.Other)
+tested place None true e = in_area place e
+tested place (Some n) true e =
+    let there : RawPlace = record place { area = area.Db } in
+    let p = and_parts (is_block_number n) (is_in_area there) e in
+    let q = in_area there p.1 in
+    (numbered n p.0, q.0, q.1)
+tested place block false e = tt
+
+number_is : (make : ℕ → Given) → ((n : ℕ) → IsBlockOpened n → IsGiven (make n)) → (name : RawName) → IsGiven (given_number make name)
+number_is make h (Number n) = by (is_block_number n) refl
+  where
+    by : (b : Bool) → is_block_number n ≡ b → IsGiven (if b then make n else behind.Other)
+    by true e = h n (numbered n e)
+    by false e = tt
+number_is make h (Name name) = tt
 
 layer_is : (o : RawOperand-F RawOperand RawActual RawCall) → IsGiven (given_in o)
-layer_is (layer.At place) = tested place (is_in_area place) refl
+layer_is (layer.At place) = tested place place.block (is_placed place place.block) refl
+layer_is (layer.OpenDb name) = number_is (λ n. behind.Db n) (λ n h. h) name
+layer_is (layer.OpenDi name) = number_is (λ n. behind.Di n) (λ n h. h) name
 layer_is more = tt
 
 given_is : (o : RawOperand) → IsGiven (given o)
@@ -105,6 +132,11 @@ loading_is (behind.At x w) k = on_number_is (λ y u. op.Load (load.At y u)) (λ 
 loading_is behind.Stw k = tt
 loading_is (behind.Constant c) k = within_is 32 c.value (λ value. op.Load (load.Constant value)) (λ h. h)
 loading_is more k = tt
+
+opening_is : (g : Given) → IsGiven g → MayBe (opening g)
+opening_is (behind.Db n) h = h
+opening_is (behind.Di n) h = h
+opening_is more h = tt
 
 storing_is : (g : Given) → IsGiven g → MayBe (storing g)
 storing_is (behind.At x w) k = on_number_is op.Transfer (λ y u n i. (n, i)) x w k
@@ -193,6 +225,8 @@ with_is (is.Unary row) g h = alone_is (op.Unary row) tt g
 with_is is.Tak g h = alone_is op.Tak tt g
 with_is is.Push g h = alone_is op.Push tt g
 with_is is.Pop g h = alone_is op.Pop tt g
+with_is is.Open g h = opening_is g h
+with_is is.ExchangeDb g h = alone_is op.ExchangeDb tt g
 with_is is.Nop g h = with_number_is (λ n. op.Nop) (λ n k. tt) g
 with_is is.TimerOrCounter g h = tt
 with_is is.Later g h = tt

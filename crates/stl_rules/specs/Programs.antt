@@ -29,6 +29,7 @@ use Rattle.stl_tree.specs.declared.program.Instr.{Instr}
 use Rattle.stl_tree.specs.declared.program.LoadArg.TheVariants as load
 use Rattle.stl_tree.specs.declared.program.Op.{Op}
 use Rattle.stl_tree.specs.declared.program.Op.TheVariants as op
+use Rattle.stl_tree.specs.declared.program.OpenArg.TheVariants as open_arg
 use Rattle.stl_tree.specs.declared.program.Operand.{Operand}
 use Rattle.stl_tree.specs.declared.program.Program.{Program}
 use Rattle.stl_tree.specs.declared.raw.Constant.{Constant}
@@ -78,6 +79,8 @@ within bits value = if nat_lt value (2 ^ bits) then Some value else None
 abbrev pub loading : Given → Option Op
 loading (behind.At operand w) = on_number (λ o u. op.Load (load.At o u)) operand w
 loading behind.Stw = Some op.LoadStw
+loading behind.DbNo = Some op.LoadDbNo
+loading behind.DiNo = Some op.LoadDiNo
 loading (behind.Constant c) = option_map (λ value. op.Load (load.Constant value)) (within 32 c.value)
 loading more = None
 
@@ -114,6 +117,12 @@ abbrev pub shifting : ShiftRow → Given → Option Op
 shifting row behind.Nothing = Some (op.Shift row None)
 shifting row (behind.Constant c) = if nat_le c.value (most_steps row) then Some (op.Shift row (Some c.value)) else None
 shifting row more = None
+
+-- `OPN`
+abbrev pub opening : Given → Option Op
+opening (behind.Db n) = Some (op.OpenDb (open_arg.Number n))
+opening (behind.Di n) = Some (op.OpenDi (open_arg.Number n))
+opening more = None
 
 -- the value of a constant in a width: a plain number in a double word has its sign extended
 abbrev pub value_in : Width → Constant → ℕ
@@ -158,6 +167,8 @@ op_with (is.Unary row) g = alone (op.Unary row) g
 op_with is.Tak g = alone op.Tak g
 op_with is.Push g = alone op.Push g
 op_with is.Pop g = alone op.Pop g
+op_with is.Open g = opening g
+op_with is.ExchangeDb g = alone op.ExchangeDb g
 op_with is.Nop g = with_number (λ n. op.Nop) g
 op_with is.TimerOrCounter g = None
 op_with is.Later g = None

@@ -18,7 +18,19 @@ pub enum Given {
     /// The status word.
     Stw,
 
+    /// The number in the DB register.
+    DbNo,
+
+    /// The number in the DI register.
+    DiNo,
+
     Constant(Constant),
+
+    /// The number of a data block that is opened.
+    Db(u16),
+
+    /// The number of an instance that is opened.
+    Di(u16),
 
     /// Something that is not built.
     Other,

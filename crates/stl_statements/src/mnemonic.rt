@@ -88,6 +88,12 @@ pub enum Mnemonic {
     /// `POP`
     Pop,
 
+    /// `OPN`
+    Open,
+
+    /// `CDB`
+    ExchangeDb,
+
     /// `NOP` and `BLD`, with a number that says nothing.
     Nop,
 
