@@ -1,32 +1,97 @@
 //! The instruction that a raw one is.
-ghost use Rattle.std.specs.Prelude.{◌≡◌, ◌≢◌, Some};
+ghost use Rattle.std.specs.Prelude.{◌≡◌, ◌≢◌, Some, None, if◌then◌else◌};
 ghost use Rattle.s7_base.specs.SignedNumbers.{pattern};
 ghost use Rattle.stl_tree.specs.Accumulators.{bits_wide, signed_part};
 ghost use Rattle.stl_tree.specs.Arithmetic.{is_comparison};
 ghost use Rattle.stl_rules.specs.Programs.{adding, combining, comparing, is_compared, loading, on_number, op_by, op_of, op_with, shifting, storing, value_in, with_number, within};
-ghost use Rattle.stl_rules.specs.Raw.{given_place, given};
+ghost use Rattle.stl_rules.specs.Raw.{given, given_number, given_place, is_block_number, is_placed, operand_at};
 ghost use Rattle.stl_rules.specs.declared.given.Given.TheVariants as behind;
 ghost use Rattle.stl_tree.specs.declared.program.Op.TheVariants as op;
 ghost use Rattle.s7_base.specs.declared.word.Width.TheVariants as wide;
 
+use memory_areas::AreaName;
 use s7_base::{Check, Width};
 use status_word::Test;
 use stl_statements::Mnemonic;
 use stl_instructions::{fits, is_in_area, logic_width, mnemonic_named, most_steps};
 use stl_rules::Given;
 use stl_tree::{
-    BitArg, Constant, LoadArg, LogicRow, Op, Operand, RawOp, RawOperand, RawPlace, ShiftRow,
+    BitArg, Constant, LoadArg, LogicRow, Op, OpenArg, Operand, RawName, RawOp, RawOperand, RawPlace,
+    ShiftRow,
 };
 
-/// A written place in its area.
-fn given_place(place: RawPlace) -> Given
-    ensures { result ≡ given_place place }
+/// The number of a data block.
+fn block_number(number: u32) -> Option<u16>
+    ensures { result ≡ (if is_block_number number then Some number else None) }
+{
+    if 1 <= number && number <= 65535 {
+        Some(number as u16)
+    } else {
+        None
+    }
+}
+
+/// A place in its area.
+fn given_direct(place: RawPlace) -> Given
+    ensures { result ≡ (if is_placed place None then operand_at place None else behind.Other) }
 {
     if is_in_area(place) {
         let operand = Operand::Direct(place.area, place.byte, place.bit as u8);
         Given::At(operand, place.width)
     } else {
         Given::Other
+    }
+}
+
+/// A place behind the number of a data block.
+fn given_opened(place: RawPlace, number: u32) -> Given
+    ensures { result ≡ (if is_placed place (Some number) then operand_at place (Some number) else behind.Other) }
+{
+    let there = RawPlace {
+        area: AreaName::Db,
+        ..place
+    };
+    match block_number(number) {
+        Some(block) if is_in_area(there) => {
+            let operand = Operand::Opened(block, place.byte, place.bit as u8);
+            Given::At(operand, place.width)
+        }
+        _ => Given::Other,
+    }
+}
+
+/// A written place in its area.
+fn given_place(place: RawPlace) -> Given
+    ensures { result ≡ given_place place }
+{
+    match place.block {
+        Some(number) => given_opened(place, number),
+        None => given_direct(place),
+    }
+}
+
+/// What OPN opens, by its number.
+fn given_db(name: &RawName) -> Given
+    ensures { result ≡ given_number (λ n. behind.Db n) name.now }
+{
+    match name {
+        RawName::Number(number) => match block_number(*number) {
+            Some(block) => Given::Db(block),
+            None => Given::Other,
+        },
+        RawName::Name(_) => Given::Other,
+    }
+}
+
+fn given_di(name: &RawName) -> Given
+    ensures { result ≡ given_number (λ n. behind.Di n) name.now }
+{
+    match name {
+        RawName::Number(number) => match block_number(*number) {
+            Some(block) => Given::Di(block),
+            None => Given::Other,
+        },
+        RawName::Name(_) => Given::Other,
     }
 }
 
@@ -40,7 +105,11 @@ fn given(operand: &RawOperand) -> Given
         RawOperand::At(place) => given_place(*place),
         RawOperand::Flag(test) => Given::Flag(*test),
         RawOperand::Stw => Given::Stw,
+        RawOperand::DbNo => Given::DbNo,
+        RawOperand::DiNo => Given::DiNo,
         RawOperand::Constant(constant) => Given::Constant(*constant),
+        RawOperand::OpenDb(name) => given_db(name),
+        RawOperand::OpenDi(name) => given_di(name),
         _ => Given::Other,
     }
 }
@@ -97,6 +166,7 @@ fn with_nothing(what: Mnemonic) -> Option<Op>
         Mnemonic::Tak => Some(Op::Tak),
         Mnemonic::Push => Some(Op::Push),
         Mnemonic::Pop => Some(Op::Pop),
+        Mnemonic::ExchangeDb => Some(Op::ExchangeDb),
         _ => None,
     }
 }
@@ -145,6 +215,46 @@ fn with_stw(what: Mnemonic) -> Option<Op>
     match what {
         Mnemonic::Load => Some(Op::LoadStw),
         Mnemonic::Transfer => Some(Op::TransferStw),
+        _ => None,
+    }
+}
+
+/// The number in the DB register.
+fn with_db_number(what: Mnemonic) -> Option<Op>
+    ensures { result ≡ op_with what behind.DbNo }
+{
+    match what {
+        Mnemonic::Load => Some(Op::LoadDbNo),
+        _ => None,
+    }
+}
+
+/// The number in the DI register.
+fn with_di_number(what: Mnemonic) -> Option<Op>
+    ensures { result ≡ op_with what behind.DiNo }
+{
+    match what {
+        Mnemonic::Load => Some(Op::LoadDiNo),
+        _ => None,
+    }
+}
+
+/// The number of a data block that is opened.
+fn with_db(what: Mnemonic, number: u16) -> Option<Op>
+    ensures { result ≡ op_with what (behind.Db number) }
+{
+    match what {
+        Mnemonic::Open => Some(Op::OpenDb(OpenArg::Number(number))),
+        _ => None,
+    }
+}
+
+/// The number of an instance that is opened.
+fn with_di(what: Mnemonic, number: u16) -> Option<Op>
+    ensures { result ≡ op_with what (behind.Di number) }
+{
+    match what {
+        Mnemonic::Open => Some(Op::OpenDi(OpenArg::Number(number))),
         _ => None,
     }
 }
@@ -296,6 +406,10 @@ fn op_with(what: Mnemonic, given: Given) -> Option<Op>
         Given::At(operand, width) => with_operand(what, operand, width),
         Given::Flag(test) => with_flag(what, test),
         Given::Stw => with_stw(what),
+        Given::DbNo => with_db_number(what),
+        Given::DiNo => with_di_number(what),
+        Given::Db(number) => with_db(what, number),
+        Given::Di(number) => with_di(what, number),
         Given::Constant(constant) => with_constant(what, constant),
         Given::Other => None,
     }
