@@ -123,10 +123,9 @@ done_alone {X = X} work To x i made text e reply answers =
     subst (λ (w : Work X). AnsweredTo (λ bytes r. AnswersWork w bytes x r) i made) (sym e)
     (record { bytes = any.bytes; of_image = any.of_input; answers = subst (λ (r : Reply). To x r) (sym reply) answers; written = status_written made Done text reply tt })
 
--- an accepted program has no data blocks, and none are ones of a memory
-pub no_blocks : (program : Program) → IsAccepted program → AreBlocks program.dbs
-no_blocks program accepted =
-    subst (λ (blocks : List DataBlock). AreBlocks blocks) (sym accepted.alone.dbs) (record { ascend = tt; few = omega arith; sized = λ k b h. absurd (omega arith) })
+-- the data blocks of an accepted program are ones of a memory
+pub its_blocks : (program : Program) → IsAccepted program → AreBlocks program.dbs
+its_blocks program accepted = accepted.dbs
 
 -- the spelling of a proper tree that means the same as a program is a text that means what the program means
 pub translates : (program : Program) (tree : StProgram) (text : List ℕ) → Proper tree → Same program tree → text ≡ spelling tree → Translates program text

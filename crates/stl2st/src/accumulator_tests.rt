@@ -584,7 +584,7 @@ fn want_rows(rt: &impl Abort, alloc: Global, pairs: &[Pair], rows: &[Row]) -> Re
     Ok(())
 }
 
-fn want_reports(
+pub fn want_reports(
     rt: &impl Abort,
     alloc: Global,
     rows: &[(&[u8], &[u8], Status, &[u8])],
@@ -600,7 +600,7 @@ fn want_reports(
     Ok(())
 }
 
-fn want_kinds(rt: &impl Abort, alloc: Global, rows: &[(&[u8], &[u8])]) -> Result<(), NoMemory> {
+pub fn want_kinds(rt: &impl Abort, alloc: Global, rows: &[(&[u8], &[u8])]) -> Result<(), NoMemory> {
     for (body, line) in rows {
         let source = with_body(alloc, body)?;
         let (status, out) = answered(alloc, "check", source.as_slice(), b"")?;

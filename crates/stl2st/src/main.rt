@@ -20,6 +20,8 @@ mod accumulator_tests;
 mod answer;
 mod call;
 mod command;
+#[cfg(test)]
+mod data_block_tests;
 mod image_file;
 mod limits;
 #[cfg(test)]

@@ -1,5 +1,5 @@
 use Rattle.std.proofs.Common.{refl, ap}
-use Rattle.stl2st.proofs.Answering.{done_alone, no_blocks, translates}
+use Rattle.stl2st.proofs.Answering.{done_alone, its_blocks, translates}
 use Rattle.stl2st.proofs.InputsRead.{image_reads}
 use Rattle.stl2st.specs.Answer.{AnswersCheck, AnswersRunStl, AnswersTranslate, accepted_line}
 use Rattle.stl2st.specs.inner.Replies.{work_of}
@@ -21,4 +21,4 @@ returns-in-Run-clause-reads g c =
     image_reads (work_of c.args.job.now) (AnswersRunStl c.in-Run.steps c.in-Run.call) _ _ (ap work_of c.in-Run.is) c.run_reply.ensures.reads
 
 pub run_reply-requires : goal.run_reply-requires
-run_reply-requires g c = no_blocks c.args.program.now c.requires
+run_reply-requires g c = its_blocks c.args.program.now c.requires
