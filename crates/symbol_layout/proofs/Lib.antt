@@ -1,0 +1,10 @@
+pub mod BitLists
+pub mod Capped
+pub mod Equations
+pub mod Judging
+pub mod Kept
+pub mod Limits
+pub mod NameTables
+pub mod Places
+pub mod Turns
+mod LayoutRows

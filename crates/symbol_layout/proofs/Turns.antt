@@ -1,0 +1,102 @@
+-- One turn of the loops over declarations, indices and paths.
+use Rattle.std.specs.Prelude.{◌≡◌, ℕ, ◌+◌, ◌*◌, ◌^◌, ◌<◌, ◌≤◌, ℤ, ◌-ℤ◌, unsigned_abs, Bool, true, false, cond, List, [], ◌∷◌, length, get_or, drop, Option, Some, None, option_and_then, option_map, if◌then◌else◌}
+use Rattle.std.proofs.Common.{refl, sym, ap, ◌∙◌}
+use Rattle.std.proofs.Math.Nat.{min-eq_left}
+use Rattle.std.proofs.lemmas.List.{at_drop_more}
+use Rattle.s7_base.specs.Tokens.{is_same_word}
+use Rattle.stl_tree.specs.declared.raw.Declaration.{Declaration}
+use Rattle.stl_tree.specs.declared.raw.DeclType.{DeclType}
+use Rattle.stl_tree.specs.declared.raw.PathStep.{PathStep}
+use Rattle.symbol_layout.proofs.Kept.{kept_elements, kept_named, kept_walked, rows_kept}
+use Rattle.symbol_layout.specs.Extents.{end_behind, end_of, extent_of, indices_in, place_behind}
+use Rattle.symbol_layout.specs.Paths.{Placed, elements_before, is_index, named_behind, stepped, walked}
+use Rattle.symbol_layout.specs.inner.Capped.{capped, capped_placed}
+
+-- Names
+
+module _ (start end i : ℕ) (decls : List Declaration) (name : List ℕ) (d : Declaration) (before : i < length decls)
+    (item : d ≡ get_or decls i d)
+    (so_far : capped_placed (named_behind end (drop i decls) name) ≡ capped_placed (named_behind start decls name)) where
+  abbrev choice : Bool → Option Placed
+  choice b = cond b (Some (place_behind end (extent_of d.ty), d.ty)) (named_behind (end_of end d) (drop (i + 1) decls) name)
+
+  turn : capped_placed (named_behind start decls name) ≡ capped_placed (choice (is_same_word d.name name))
+  turn =
+      sym so_far ∙ at_drop_more (λ (ds : List Declaration). capped_placed (named_behind end ds name)) decls i d before
+      ∙ ap (λ x. capped_placed (named_behind end (x ∷ drop (i + 1) decls) name)) (sym item)
+
+  pub found_here : (place : ℕ) → place ≡ place_behind end (extent_of d.ty) → place ≤ 2 ^ 60 → is_same_word d.name name ≡ true
+      → Some (place, d.ty) ≡ capped_placed (named_behind start decls name)
+  found_here place is low same =
+      ap (λ k. Some (k, d.ty)) (sym (min-eq_left low) ∙ ap capped is)
+      ∙ sym (turn ∙ ap (λ b. capped_placed (choice b)) same)
+
+  pub goes_past : (next : ℕ) → next ≡ capped (end_behind end (extent_of d.ty)) → is_same_word d.name name ≡ false
+      → capped_placed (named_behind next (drop (i + 1) decls) name) ≡ capped_placed (named_behind start decls name)
+  goes_past next is other =
+      ap (λ k. capped_placed (named_behind k (drop (i + 1) decls) name)) is
+      ∙ kept_named (drop (i + 1) decls) name (end_of end d)
+      ∙ sym (turn ∙ ap (λ b. capped_placed (choice b)) other)
+
+pub not_found : (start end i : ℕ) (decls : List Declaration) (name : List ℕ) → drop i decls ≡ []
+    → capped_placed (named_behind end (drop i decls) name) ≡ capped_placed (named_behind start decls name)
+    → None ≡ capped_placed (named_behind start decls name)
+not_found start end i decls name none so_far =
+    sym (ap (λ (ds : List Declaration). capped_placed (named_behind end ds name)) none) ∙ so_far
+
+-- Indices
+
+module _ (rows i : ℕ) (bounds : List (ℤ × ℤ)) (indices : List ℤ) (b : ℤ × ℤ) (before : i < length bounds)
+    (item : b ≡ get_or bounds i b) (all : Option ℕ) where
+  pub no_index : option_map capped (elements_before rows (drop i bounds) []) ≡ all → None ≡ all
+  no_index so_far =
+      sym (at_drop_more (λ (bs : List (ℤ × ℤ)). option_map capped (elements_before rows bs [])) bounds i b before) ∙ so_far
+
+  module _ (index : ℤ) (more : List ℤ) (so_far : option_map capped (elements_before rows (drop i bounds) (index ∷ more)) ≡ all) where
+    abbrev inner : ℕ
+    inner = unsigned_abs (index -ℤ b.0)
+
+    abbrev further : Bool → Option ℕ
+    further t = if t then elements_before (rows * indices_in b + inner) (drop (i + 1) bounds) more else None
+
+    opened : all ≡ option_map capped (further (is_index b index))
+    opened =
+        sym so_far
+        ∙ at_drop_more (λ (bs : List (ℤ × ℤ)). option_map capped (elements_before rows bs (index ∷ more))) bounds i b before
+        ∙ ap (λ (x : ℤ × ℤ). option_map capped (elements_before rows (x ∷ drop (i + 1) bounds) (index ∷ more))) (sym item)
+
+    pub outside : is_index b index ≡ false → None ≡ all
+    outside other = sym (opened ∙ ap (λ t. option_map capped (further t)) other)
+
+    pub next_row : (next : ℕ) → next ≡ capped (capped (rows * capped (indices_in b)) + inner) → is_index b index ≡ true
+        → option_map capped (elements_before next (drop (i + 1) bounds) more) ≡ all
+    next_row next is inside =
+        ap (λ k. option_map capped (elements_before k (drop (i + 1) bounds) more)) (is ∙ rows_kept rows (indices_in b) inner)
+        ∙ kept_elements (drop (i + 1) bounds) more (rows * indices_in b + inner)
+        ∙ sym (opened ∙ ap (λ t. option_map capped (further t)) inside)
+
+-- Paths
+
+pub walks_on : (path : List PathStep) (found : Option Placed) (at : Placed) → Some at ≡ capped_placed found
+    → capped_placed (walked path at) ≡ capped_placed (option_and_then (walked path) found)
+walks_on path None at e = cc
+walks_on path (Some b) at e =
+    ap (λ (o : Option Placed). capped_placed (option_and_then (walked path) o)) e ∙ kept_walked path b.0 b.1
+
+pub walk_ends : (path : List PathStep) (found : Option Placed) → None ≡ capped_placed found
+    → None ≡ capped_placed (option_and_then (walked path) found)
+walk_ends path None e = refl
+walk_ends path (Some b) e = cc
+
+module _ (path : List PathStep) (i : ℕ) (s : PathStep) (at : Placed) (before : i < length path) (item : s ≡ get_or path i s)
+    (all : Option Placed) (so_far : capped_placed (walked (drop i path) at) ≡ all) where
+  step_opened : all ≡ capped_placed (option_and_then (walked (drop (i + 1) path)) (stepped at.0 at.1 s))
+  step_opened =
+      sym so_far ∙ at_drop_more (λ (p : List PathStep). capped_placed (walked p at)) path i s before
+      ∙ ap (λ x. capped_placed (walked (x ∷ drop (i + 1) path) at)) (sym item)
+
+  pub one_step : (next : Placed) → Some next ≡ capped_placed (stepped at.0 at.1 s) → capped_placed (walked (drop (i + 1) path) next) ≡ all
+  one_step next e = walks_on (drop (i + 1) path) (stepped at.0 at.1 s) next e ∙ sym step_opened
+
+  pub no_step : None ≡ capped_placed (stepped at.0 at.1 s) → None ≡ all
+  no_step e = walk_ends (drop (i + 1) path) (stepped at.0 at.1 s) e ∙ sym step_opened
