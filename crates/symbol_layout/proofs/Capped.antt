@@ -70,6 +70,13 @@ capped_end end extent is =
         = capped_place end extent.alignment is in
     ap (λ n. capped (n + capped extent.bits)) (sym kept) ∙ capped_sum (place_behind end extent) extent.bits
 
+-- a length that is kept ends at the same kept place
+pub end_of_kept : (end : ℕ) (extent : Extent) → capped (end_behind end (capped_extent extent)) ≡ capped (end_behind end extent)
+end_of_kept end extent = sum_kept (place_behind end extent) extent.bits
+  where
+    sum_kept : (place bits : ℕ) → capped (place + capped bits) ≡ capped (place + bits)
+    sum_kept place bits = omega arith
+
 -- a place within the most bits has its place within them
 pub place_low : (end alignment : ℕ) → end ≤ 2 ^ 60 → IsAlignment alignment → next_multiple_of end alignment ≤ 2 ^ 60
 place_low end alignment low is =

@@ -11,7 +11,7 @@ use Rattle.stl_tree.specs.declared.raw.DeclType.TheOpen as T
 use Rattle.stl_tree.specs.declared.raw.DeclType.TheVariants as type
 use Rattle.stl_tree.specs.declared.raw.ElemType.{ElemType}
 use Rattle.stl_tree.specs.declared.raw.PathStep.{PathStep}
-use Rattle.symbol_layout.specs.Contents.{bits_behind, bits_step, declaration_bits, declared_step, filled_to, times, type_bits, value_bits, values_of, zeros}
+use Rattle.symbol_layout.specs.Contents.{bits_behind, bits_step, declaration_bits, declared_step, filled_to, laid_behind, times, type_bits, value_bits, values_of, zeros}
 use Rattle.symbol_layout.specs.Extents.{elements_in, end_behind, end_of, end_of_all, extent_of, extent_of_width, extent_step, filled, width_of}
 use Rattle.symbol_layout.specs.Rules.{array_breaks, declaration_breaks, declaration_step, elementary, elementary_step, is_named, key_of, repeated, scope_breaks, takes, takes_step, type_breaks, type_step, value_breaks, with_name}
 use Rattle.symbol_layout.specs.Paths.{stepped, stepped_in}

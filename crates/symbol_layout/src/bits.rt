@@ -1,5 +1,5 @@
 //! Lists of bits, the lowest bit of a byte first.
-ghost use Rattle.std.specs.Prelude.{◌≡◌, ◌++◌, OnOk, IfOk};
+ghost use Rattle.std.specs.Prelude.{◌≡◌, ◌++◌, ◌≤◌, OnOk, IfOk};
 ghost use Rattle.symbol_layout.specs.Contents.{bit_of, byte_of, bytes_of, filled_to, first_bytes, low_bits, number_bits, times, value_bits, word_bits, zeros};
 ghost use Rattle.symbol_layout.specs.inner.Capped.{IsAlignment};
 ghost use Rattle.stl_tree.specs.Programs.{value_in};

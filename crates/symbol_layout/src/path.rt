@@ -83,7 +83,7 @@ fn element_at<'d>(
 /// One step further from a type at a place.
 #[tactic(auto, using(crate::proofs::Equations::step_equations))]
 fn stepped<'d>(at: Placed<'d>, step: &PathStep) -> Option<Placed<'d>>
-    requires { at.entry.place ≤ 2 ^ 60 }
+    requires { at.place ≤ 2 ^ 60 }
     ensures { option_map seen result ≡ capped_placed (stepped at.entry.place at.entry.ty.now step.now) }
 {
     match at.ty {
@@ -108,7 +108,7 @@ fn stepped<'d>(at: Placed<'d>, step: &PathStep) -> Option<Placed<'d>>
 /// Further by a path.
 #[tactic(auto, using(crate::proofs::Kept::kept_walked))]
 fn walked<'d>(start: Placed<'d>, path: &[PathStep]) -> Option<Placed<'d>>
-    requires { start.entry.place ≤ 2 ^ 60 }
+    requires { start.place ≤ 2 ^ 60 }
     ensures { option_map seen result ≡ capped_placed (walked path.now (seen start.entry)) }
 {
     let mut at = start;
