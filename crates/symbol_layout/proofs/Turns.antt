@@ -1,6 +1,6 @@
 -- One turn of the loops over declarations, indices and paths.
 use Rattle.std.specs.Prelude.{◌≡◌, ℕ, ◌+◌, ◌*◌, ◌^◌, ◌<◌, ◌≤◌, ℤ, ◌-ℤ◌, unsigned_abs, Bool, true, false, cond, List, [], ◌∷◌, length, get_or, drop, Option, Some, None, option_and_then, option_map, if◌then◌else◌}
-use Rattle.std.proofs.Common.{refl, sym, ap, ◌∙◌}
+use Rattle.std.proofs.Common.{refl, sym, ap, ◌∙◌, arith}
 use Rattle.std.proofs.Math.Nat.{min-eq_left}
 use Rattle.std.proofs.lemmas.List.{at_drop_more}
 use Rattle.s7_base.specs.Tokens.{is_same_word}
@@ -10,7 +10,7 @@ use Rattle.stl_tree.specs.declared.raw.PathStep.{PathStep}
 use Rattle.symbol_layout.proofs.Kept.{kept_elements, kept_named, kept_walked, rows_kept}
 use Rattle.symbol_layout.specs.Extents.{end_behind, end_of, extent_of, indices_in, place_behind}
 use Rattle.symbol_layout.specs.Paths.{Placed, elements_before, is_index, named_behind, stepped, walked}
-use Rattle.symbol_layout.specs.inner.Capped.{capped, capped_placed}
+use Rattle.symbol_layout.specs.inner.Capped.{capped, capped_placed, next_row}
 
 -- Names
 
@@ -46,34 +46,54 @@ not_found start end i decls name none so_far =
 
 -- Indices
 
-module _ (rows i : ℕ) (bounds : List (ℤ × ℤ)) (indices : List ℤ) (b : ℤ × ℤ) (before : i < length bounds)
-    (item : b ≡ get_or bounds i b) (all : Option ℕ) where
-  pub no_index : option_map capped (elements_before rows (drop i bounds) []) ≡ all → None ≡ all
-  no_index so_far =
-      sym (at_drop_more (λ (bs : List (ℤ × ℤ)). option_map capped (elements_before rows bs [])) bounds i b before) ∙ so_far
+module _ (more : List (ℤ × ℤ)) (is : List ℤ) where
+  abbrev behind : ℕ → Option ℕ
+  behind k = elements_before k more is
 
-  module _ (index : ℤ) (more : List ℤ) (so_far : option_map capped (elements_before rows (drop i bounds) (index ∷ more)) ≡ all) where
-    abbrev inner : ℕ
-    inner = unsigned_abs (index -ℤ b.0)
+  pub row_found : (row : Option ℕ) (n : ℕ) → Some n ≡ option_map capped row
+      → (n ≤ 2 ^ 60) × (option_map capped (behind n) ≡ option_map capped (option_and_then behind row))
+  row_found None n e = cc
+  row_found (Some k) n e =
+      let same : n ≡ capped k = cc in
+      (omega (arith, same), ap (λ m. option_map capped (behind m)) same ∙ kept_elements more is k)
 
-    abbrev further : Bool → Option ℕ
-    further t = if t then elements_before (rows * indices_in b + inner) (drop (i + 1) bounds) more else None
+  pub row_missed : (row : Option ℕ) → None ≡ option_map capped row → None ≡ option_map capped (option_and_then behind row)
+  row_missed None e = refl
+  row_missed (Some k) e = cc
 
-    opened : all ≡ option_map capped (further (is_index b index))
-    opened =
-        sym so_far
-        ∙ at_drop_more (λ (bs : List (ℤ × ℤ)). option_map capped (elements_before rows bs (index ∷ more))) bounds i b before
-        ∙ ap (λ (x : ℤ × ℤ). option_map capped (elements_before rows (x ∷ drop (i + 1) bounds) (index ∷ more))) (sym item)
+row_opened : (rows : ℕ) (b : ℤ × ℤ) (more : List (ℤ × ℤ)) (rest : List ℤ)
+    → elements_before rows (b ∷ more) rest ≡ option_and_then (behind more (drop 1 rest)) (next_row rows b rest)
+row_opened rows b more [] = refl
+row_opened rows b more (i ∷ is) = either (is_index b i)
+  where
+    either : (t : Bool) → (if t then elements_before (rows * indices_in b + unsigned_abs (i -ℤ b.0)) more is else None)
+        ≡ option_and_then (behind more is) (if t then Some (rows * indices_in b + unsigned_abs (i -ℤ b.0)) else None)
+    either true = refl
+    either false = refl
 
-    pub outside : is_index b index ≡ false → None ≡ all
-    outside other = sym (opened ∙ ap (λ t. option_map capped (further t)) other)
+module _ (rows i : ℕ) (bounds : List (ℤ × ℤ)) (d : ℤ × ℤ) (rest : List ℤ) (before : i < length bounds) (all : Option ℕ)
+    (so_far : option_map capped (elements_before rows (drop i bounds) rest) ≡ all) where
+  opened : all ≡ option_map capped (option_and_then (behind (drop (i + 1) bounds) (drop 1 rest)) (next_row rows (get_or bounds i d) rest))
+  opened =
+      sym so_far ∙ at_drop_more (λ (bs : List (ℤ × ℤ)). option_map capped (elements_before rows bs rest)) bounds i d before
+      ∙ ap (option_map capped) (row_opened rows (get_or bounds i d) (drop (i + 1) bounds) rest)
 
-    pub next_row : (next : ℕ) → next ≡ capped (capped (rows * capped (indices_in b)) + inner) → is_index b index ≡ true
-        → option_map capped (elements_before next (drop (i + 1) bounds) more) ≡ all
-    next_row next is inside =
-        ap (λ k. option_map capped (elements_before k (drop (i + 1) bounds) more)) (is ∙ rows_kept rows (indices_in b) inner)
-        ∙ kept_elements (drop (i + 1) bounds) more (rows * indices_in b + inner)
-        ∙ sym (opened ∙ ap (λ t. option_map capped (further t)) inside)
+  pub further : (n : ℕ) → Some n ≡ option_map capped (next_row rows (get_or bounds i d) rest)
+      → (n ≤ 2 ^ 60) × (option_map capped (elements_before n (drop (i + 1) bounds) (drop 1 rest)) ≡ all)
+  further n e =
+      let found = row_found (drop (i + 1) bounds) (drop 1 rest) (next_row rows (get_or bounds i d) rest) n e in
+      (found.0, found.1 ∙ sym opened)
+
+  pub no_further : None ≡ option_map capped (next_row rows (get_or bounds i d) rest) → None ≡ all
+  no_further e = row_missed (drop (i + 1) bounds) (drop 1 rest) (next_row rows (get_or bounds i d) rest) e ∙ sym opened
+
+pub all_counted : (rows : ℕ) (bounds : List (ℤ × ℤ)) (rest : List ℤ) (all : Option ℕ) → bounds ≡ [] → rest ≡ [] → rows ≤ 2 ^ 60
+    → option_map capped (elements_before rows bounds rest) ≡ all → Some rows ≡ all
+all_counted rows bounds rest all no_bounds no_rest low so_far =
+    sym (ap Some (min-eq_left low))
+    ∙ sym (ap (λ (bs : List (ℤ × ℤ)). option_map capped (elements_before rows bs [])) no_bounds)
+    ∙ sym (ap (λ (is : List ℤ). option_map capped (elements_before rows bounds is)) no_rest)
+    ∙ so_far
 
 -- Paths
 

@@ -3,7 +3,7 @@ ghost use Rattle.std.specs.Prelude.{◌≡◌, [], ◌∷◌, ◌≤◌, ◌^◌
 ghost use Rattle.std.specs.Option.{option_map};
 ghost use Rattle.s7_base.specs.Tokens.{is_same_word};
 ghost use Rattle.symbol_layout.specs.Paths.{component_at, component_in, element_at, elements_before, is_index, named_behind, stepped, walked};
-ghost use Rattle.symbol_layout.specs.inner.Capped.{capped, capped_placed, seen};
+ghost use Rattle.symbol_layout.specs.inner.Capped.{capped, capped_placed, next_row, row_behind, seen};
 
 use crate::extent::{end_behind, extent_of, indices_in, place_behind, product, sum};
 use crate::initial::elementary;
@@ -20,22 +20,37 @@ fn is_index(bounds: (i64, i64), index: i64) -> bool
     bounds.0 <= index && index <= bounds.1
 }
 
+/// How many elements stand before one, where so many rows stand before it: a dimension further.
+#[tactic(auto, using(crate::proofs::Kept::rows_kept))]
+fn row_behind(rows: u64, bounds: (i64, i64), index: i64) -> Option<u64>
+    ensures { result ≡ option_map capped (row_behind rows bounds index) }
+{
+    if is_index(bounds, index) {
+        let inner = index.abs_diff(bounds.0);
+        Some(sum(product(rows, indices_in(bounds)), inner))
+    } else {
+        None
+    }
+}
+
+/// The same with the first of some indices; `None` where there is none.
+fn next_row(rows: u64, bounds: (i64, i64), indices: &[i64]) -> Option<u64>
+    ensures { result ≡ option_map capped (next_row rows bounds indices.now) }
+{
+    match indices {
+        [] => None,
+        [index, ..] => row_behind(rows, bounds, *index),
+    }
+}
+
 /// How many elements stand before one in an array.
-#[tactic(auto, using(crate::proofs::Kept::kept_elements))]
 fn elements_before(bounds: &[(i64, i64)], indices: &[i64]) -> Option<u64>
     ensures { result ≡ option_map capped (elements_before 0 bounds.now indices.now) }
 {
     let mut rows = 0;
     let mut rest = indices;
     for dimension in bounds {
-        let [index, ..] = rest else {
-            return None;
-        };
-        if !is_index(*dimension, *index) {
-            return None;
-        }
-        let inner = index.abs_diff(dimension.0);
-        rows = sum(product(rows, indices_in(*dimension)), inner);
+        rows = next_row(rows, *dimension, rest)?;
         rest = rest_after(rest, 1);
     }
     if rest.is_empty() { Some(rows) } else { None }

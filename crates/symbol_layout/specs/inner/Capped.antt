@@ -1,10 +1,10 @@
 -- Lengths in code: what is more bits than any limit has is kept as so many.
-use Rattle.std.specs.Prelude.{◌≡◌, ℕ, ◌^◌, ◌%◌, ◌≤◌, min, if◌then◌else◌, Option, Some, None, option_map}
+use Rattle.std.specs.Prelude.{◌≡◌, ℕ, ◌+◌, ◌*◌, ◌^◌, ◌%◌, ◌≤◌, min, ℤ, ◌-ℤ◌, unsigned_abs, if◌then◌else◌, List, [], ◌∷◌, Option, Some, None, option_map}
 use Rattle.stl_tree.specs.declared.raw.Declaration.{Declaration}
 use Rattle.stl_tree.specs.declared.raw.ElemType.{ElemType}
-use Rattle.symbol_layout.specs.Extents.{end_of}
+use Rattle.symbol_layout.specs.Extents.{end_of, indices_in}
 use Rattle.stl_tree.specs.declared.raw.DeclType.{DeclType}
-use Rattle.symbol_layout.specs.Paths.{Placed}
+use Rattle.symbol_layout.specs.Paths.{Placed, is_index}
 use Rattle.symbol_layout.specs.TooLarge.{passes}
 use Rattle.symbol_layout.specs.declared.place.Placed.{Placed as CodePlaced}
 use Rattle.symbol_layout.specs.declared.extent.Extent.{Extent}
@@ -27,6 +27,15 @@ end_within limit end d = if passes limit (end_of end d) then None else Some (end
 -- of which type values may be, and how many are counted
 abbrev pub capped_takes : Option (ElemType × ℕ) → Option (ElemType × ℕ)
 capped_takes most = option_map (λ (pair : ElemType × ℕ). (pair.0, capped pair.1)) most
+
+-- how many elements stand before one, where so many rows stand before it: a dimension further
+abbrev pub row_behind : ℕ → ℤ × ℤ → ℤ → Option ℕ
+row_behind rows bounds i = if is_index bounds i then Some (rows * indices_in bounds + unsigned_abs (i -ℤ bounds.0)) else None
+
+-- the same with the first of some indices
+abbrev pub next_row : ℕ → ℤ × ℤ → List ℤ → Option ℕ
+next_row rows bounds [] = None
+next_row rows bounds (i ∷ is) = row_behind rows bounds i
 
 -- a type at its place as it is kept
 abbrev pub capped_placed : Option Placed → Option Placed

@@ -6,4 +6,5 @@ use Rattle.symbol_layout.proofs.path.elements_before.Given as goal
 
 abbrev pub invariant-loop-dimension : goal.invariant-loop-dimension
 invariant-loop-dimension l =
-    option_map capped (elements_before l.rows (drop l.dimension-index l.bounds) l.rest) ≡ option_map capped (elements_before 0 l.bounds l.indices)
+    (l.rows ≤ 2 ^ 60)
+    × (option_map capped (elements_before l.rows (drop l.dimension-index l.bounds) l.rest) ≡ option_map capped (elements_before 0 l.bounds l.indices))
