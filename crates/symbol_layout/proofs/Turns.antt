@@ -120,3 +120,13 @@ module _ (path : List PathStep) (i : ℕ) (s : PathStep) (at : Placed) (before :
 
   pub no_step : None ≡ capped_placed (stepped at.0 at.1 s) → None ≡ all
   no_step e = walk_ends (drop (i + 1) path) (stepped at.0 at.1 s) e ∙ sym step_opened
+
+pub kept_low : (found : Option Placed) (at : Placed) → Some at ≡ capped_placed found → at.0 ≤ 2 ^ 60
+kept_low None at e = cc
+kept_low (Some b) at e = 
+    let same : at.0 ≡ capped b.0 = ap (λ (o : Option Placed). place_of o) e in
+    omega (arith, same)
+  where
+    place_of : Option Placed → ℕ
+    place_of None = 0
+    place_of (Some x) = x.0
