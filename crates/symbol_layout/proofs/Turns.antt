@@ -1,5 +1,6 @@
 -- One turn of the loops over declarations, indices and paths.
-use Rattle.std.specs.Prelude.{◌≡◌, ℕ, ◌+◌, ◌*◌, ◌^◌, ◌<◌, ◌≤◌, ℤ, ◌-ℤ◌, unsigned_abs, Bool, true, false, cond, List, [], ◌∷◌, length, get_or, drop, Option, Some, None, option_and_then, option_map, if◌then◌else◌}
+use Rattle.std.specs.Prelude.{◌≡◌, ℕ, ◌+◌, ◌*◌, ◌/◌, ◌%◌, ◌^◌, ◌<◌, ◌≤◌, min, ◌-◌, ℤ, ◌-ℤ◌, unsigned_abs, Bool, true, false, cond, List, [], ◌∷◌, length, get_or, drop, Option, Some, None, option_and_then, option_map, if◌then◌else◌}
+use Rattle.std.specs.Option.{option_or}
 use Rattle.std.proofs.Common.{refl, sym, ap, ◌∙◌, arith}
 use Rattle.std.proofs.Math.Nat.{min-eq_left}
 use Rattle.std.proofs.lemmas.List.{at_drop_more}
@@ -7,9 +8,12 @@ use Rattle.s7_base.specs.Tokens.{is_same_word}
 use Rattle.stl_tree.specs.declared.raw.Declaration.{Declaration}
 use Rattle.stl_tree.specs.declared.raw.DeclType.{DeclType}
 use Rattle.stl_tree.specs.declared.raw.PathStep.{PathStep}
+use Rattle.stl_tree.specs.declared.raw.PathStep.TheVariants as step
 use Rattle.symbol_layout.proofs.Kept.{kept_elements, kept_named, kept_walked, rows_kept}
 use Rattle.symbol_layout.specs.Extents.{end_behind, end_of, extent_of, indices_in, place_behind}
-use Rattle.symbol_layout.specs.Paths.{Placed, elements_before, is_index, named_behind, stepped, walked}
+use Rattle.symbol_layout.specs.Paths.{Placed, component_at, component_in, elements_before, found, is_index, named_behind, stepped, walked}
+use Rattle.symbol_layout.specs.Rules.{elementary}
+use Rattle.symbol_layout.specs.declared.place.Component.{Component}
 use Rattle.symbol_layout.specs.inner.Capped.{capped, capped_placed, next_row}
 
 -- Names
@@ -130,3 +134,33 @@ kept_low (Some b) at e =
     place_of : Option Placed → ℕ
     place_of None = 0
     place_of (Some x) = x.0
+
+-- Components
+
+abbrev made : ℕ → DeclType → Component
+made place ty = record { byte = place / 8; bit = place % 8; kind = elementary ty }
+
+component_kept : (a b : Option Placed) → a ≡ capped_placed b → option_map component_at a ≡ option_map component_at b
+component_kept a None e = ap (option_map component_at) e
+component_kept a (Some b) e =
+    let same : min (capped b.0) (2 ^ 35 - 1) ≡ min b.0 (2 ^ 35 - 1) = omega arith in
+    ap (option_map component_at) e ∙ ap (λ place. Some (made place b.1)) same
+
+path_opened : (path : List PathStep) (s : PathStep) → 1 ≤ length path → s ≡ get_or path 0 s → path ≡ s ∷ drop 1 path
+path_opened [] s some item = absurd (omega (arith, some))
+path_opened (x ∷ path) s some item = ap (λ y. y ∷ path) (sym item)
+
+pub component_found : (decls : List Declaration) (path : List PathStep) (s : PathStep) (name : List ℕ) → 1 ≤ length path
+    → s ≡ get_or path 0 s → s ≡ step.Name name → (start : Placed) → Some start ≡ capped_placed (named_behind 0 decls name)
+    → (at : Option Placed) → at ≡ capped_placed (walked (drop 1 path) start)
+    → option_map component_at at ≡ component_in (decls ∷ []) path
+component_found decls path s name some item is start named at walks =
+    component_kept at (option_and_then (walked (drop 1 path)) (named_behind 0 decls name))
+    (walks ∙ walks_on (drop 1 path) (named_behind 0 decls name) start named)
+    ∙ ap (λ (o : Option Placed). option_map component_at (option_and_then (walked (drop 1 path)) o))
+    (sym (or_none (named_behind 0 decls name)))
+    ∙ ap (component_in (decls ∷ [])) (sym (path_opened path s some item ∙ ap (λ x. x ∷ drop 1 path) is))
+  where
+    or_none : (o : Option Placed) → option_or o None ≡ o
+    or_none None = refl
+    or_none (Some x) = refl
