@@ -8,20 +8,20 @@ use Rattle.symbol_layout.specs.Contents.{byte_of, filled_to, first_bytes, low_bi
 -- One step
 
 pub times_step : {X : Type 0} (n : ℕ) (xs : List X) → 0 < n → times n xs ≡ xs ++ times (n - 1) xs
-times_step zero xs h = omega (arith, h)
+times_step zero xs h = absurd (omega (arith, h))
 times_step (suc n) xs h = let less : suc n - 1 ≡ n = omega arith in ap (λ k. xs ++ times k xs) (sym less)
 
 pub low_step : (n number : ℕ) → 0 < n → low_bits n number ≡ (number % 2 == 1) ∷ low_bits (n - 1) (number / 2)
-low_step zero number h = omega (arith, h)
+low_step zero number h = absurd (omega (arith, h))
 low_step (suc n) number h =
     let less : suc n - 1 ≡ n = omega arith in ap (λ k. (number % 2 == 1) ∷ low_bits k (number / 2)) (sym less)
 
 pub zero_step : (n : ℕ) → 0 < n → zeros n ≡ false ∷ zeros (n - 1)
-zero_step zero h = omega (arith, h)
+zero_step zero h = absurd (omega (arith, h))
 zero_step (suc n) h = let less : suc n - 1 ≡ n = omega arith in ap (λ k. false ∷ zeros k) (sym less)
 
 pub byte_step : (n : ℕ) (bits : List Bool) → 0 < n → first_bytes n bits ≡ byte_of bits ∷ first_bytes (n - 1) (drop 8 bits)
-byte_step zero bits h = omega (arith, h)
+byte_step zero bits h = absurd (omega (arith, h))
 byte_step (suc n) bits h =
     let less : suc n - 1 ≡ n = omega arith in ap (λ k. byte_of bits ∷ first_bytes k (drop 8 bits)) (sym less)
 
