@@ -1,8 +1,9 @@
 -- Lists made item by item from the front.
-use Rattle.std.specs.Prelude.{◌≡◌, ℕ, zero, suc, ◌+◌, ◌-◌, ◌*◌, ◌/◌, ◌%◌, ◌<◌, ◌≤◌, Bool, false, ◌==◌, List, [], ◌∷◌, ◌++◌, length, drop, replicate}
+use Rattle.std.specs.Prelude.{◌≡◌, ℕ, zero, suc, ◌+◌, ◌-◌, ◌*◌, ◌/◌, ◌%◌, ◌<◌, ◌≤◌, Bool, true, false, ◌==◌, List, [], ◌∷◌, ◌++◌, length, drop, replicate}
 use Rattle.std.specs.Int.{next_multiple_of}
 use Rattle.std.proofs.Common.{refl, sym, ap, ◌∙◌, arith, append_assoc, length-append}
-use Rattle.std.proofs.lemmas.List.{append-nil, length-replicate}
+use Rattle.std.proofs.lemmas.Bool.{eqb-true}
+use Rattle.std.proofs.lemmas.List.{append-nil, length-replicate, nil_from_length}
 use Rattle.symbol_layout.specs.Contents.{byte_of, filled_to, first_bytes, low_bits, times, zeros}
 
 -- One step
@@ -30,6 +31,11 @@ byte_step (suc n) bits h =
 pub times_none : {X : Type 0} (n : ℕ) → times {X = X} n [] ≡ []
 times_none zero = refl
 times_none (suc n) = times_none n
+
+pub times_empty : {X : Type 0} (before more : List X) (n : ℕ) → (length more == 0) ≡ true → before ≡ before ++ times n more
+times_empty before more n none =
+    sym (ap (λ xs. before ++ times n xs) (nil_from_length more (eqb-true (length more) 0 none)) ∙ ap (λ xs. before ++ xs) (times_none n)
+    ∙ append-nil before)
 
 -- What is filled up has its length
 

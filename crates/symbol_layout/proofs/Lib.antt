@@ -3,6 +3,7 @@ pub mod Capped
 pub mod Equations
 pub mod Judging
 pub mod Kept
+pub mod Laying
 pub mod Limits
 pub mod NameTables
 pub mod Places
