@@ -42,12 +42,15 @@ times_empty before more n none =
 pub length_filled : (bits : List Bool) → length (filled_to 16 bits) ≡ next_multiple_of (length bits) 16
 length_filled bits =
     let both : length (filled_to 16 bits) ≡ length bits + length (zeros (next_multiple_of (length bits) 16 - length bits))
-        = length-append bits (zeros (next_multiple_of (length bits) 16 - length bits)) in
+    = length-append bits (zeros (next_multiple_of (length bits) 16 - length bits)) in
     let more : length (zeros (next_multiple_of (length bits) 16 - length bits)) ≡ next_multiple_of (length bits) 16 - length bits
-        = length-replicate (next_multiple_of (length bits) 16 - length bits) false in
+    = length-replicate (next_multiple_of (length bits) 16 - length bits) false in
     omega (arith, both, more)
 
 pub ruleset times_lemmas = (times_step, times_none)
+
 pub ruleset low_lemmas = (low_step, append_assoc)
+
 pub ruleset zero_lemmas = (zero_step, append_assoc)
+
 pub ruleset byte_lemmas = (byte_step, append_assoc)

@@ -67,7 +67,7 @@ pub capped_end : (end : ℕ) (extent : Extent) → IsAlignment extent.alignment
     → capped (end_behind (capped end) (capped_extent extent)) ≡ capped (end_behind end extent)
 capped_end end extent is =
     let kept : capped (next_multiple_of end extent.alignment) ≡ next_multiple_of (capped end) extent.alignment
-        = capped_place end extent.alignment is in
+    = capped_place end extent.alignment is in
     ap (λ n. capped (n + capped extent.bits)) (sym kept) ∙ capped_sum (place_behind end extent) extent.bits
 
 -- a length that is kept ends at the same kept place
@@ -81,9 +81,9 @@ end_of_kept end extent = sum_kept (place_behind end extent) extent.bits
 pub place_low : (end alignment : ℕ) → end ≤ 2 ^ 60 → IsAlignment alignment → next_multiple_of end alignment ≤ 2 ^ 60
 place_low end alignment low is =
     let kept : capped (next_multiple_of end alignment) ≡ next_multiple_of (capped end) alignment
-        = capped_place end alignment is in
+    = capped_place end alignment is in
     let here : next_multiple_of (capped end) alignment ≡ next_multiple_of end alignment
-        = ap (λ n. next_multiple_of n alignment) (min-eq_left low) in
+    = ap (λ n. next_multiple_of n alignment) (min-eq_left low) in
     omega (arith, kept, here)
 
 -- what is filled up, of what is kept

@@ -49,8 +49,8 @@ noted_next all before named after names next decls i d h item n m a so_far =
     let rest : List Break = scope_breaks (with_name (key_of d.name) names) (drop (i + 1) decls) in
     let twice : List Break = repeated d.line (is_named (key_of d.name) names) in
     let opened : scope_breaks names (drop i decls) ≡ twice ++ declaration_breaks d ++ rest
-        = at_drop_more (scope_breaks names) decls i d h ∙ ap (λ x. scope_breaks names (x ∷ drop (i + 1) decls)) (sym item)
-        ∙ scope_cons names d (drop (i + 1) decls) in
+    = at_drop_more (scope_breaks names) decls i d h ∙ ap (λ x. scope_breaks names (x ∷ drop (i + 1) decls)) (sym item)
+    ∙ scope_cons names d (drop (i + 1) decls) in
     ap (λ ns. after ++ scope_breaks ns (drop (i + 1) decls)) n
     ∙ ap (λ bs. bs ++ rest) (a ∙ ap (λ bs. bs ++ declaration_breaks d) m)
     ∙ ap (λ bs. bs ++ rest) (append_assoc before twice (declaration_breaks d))

@@ -75,13 +75,13 @@ kept_named (d ∷ decls) name n =
 pub rows_kept : (rows count inner : ℕ) → capped (capped (rows * capped count) + inner) ≡ capped (rows * count + inner)
 rows_kept rows count inner =
     let twice : capped (rows * capped count) ≡ capped (rows * count)
-        = sym (capped_product rows (capped count)) ∙ ap (λ k. capped (capped rows * k)) (capped_twice count) ∙ capped_product rows count in
+    = sym (capped_product rows (capped count)) ∙ ap (λ k. capped (capped rows * k)) (capped_twice count) ∙ capped_product rows count in
     omega (arith, twice)
 
 one_row : (rows count inner : ℕ) → capped (capped rows * count + inner) ≡ capped (rows * count + inner)
 one_row rows count inner =
     let twice : capped (capped rows * count) ≡ capped (rows * count)
-        = sym (capped_product (capped rows) count) ∙ ap (λ k. capped (k * capped count)) (capped_twice rows) ∙ capped_product rows count in
+    = sym (capped_product (capped rows) count) ∙ ap (λ k. capped (k * capped count)) (capped_twice rows) ∙ capped_product rows count in
     omega (arith, twice)
 
 pub kept_elements : (bounds : List (ℤ × ℤ)) (indices : List ℤ) (rows : ℕ)

@@ -17,8 +17,8 @@ pub laid_next : (all bits filled own next : List Bool) (decls : List Declaration
 laid_next all bits filled own next decls i d before item f o n so_far =
     let rest : List Declaration = drop (i + 1) decls in
     let opened : bits_behind bits (drop i decls) ≡ bits_behind (filled_to (extent_of d.ty).alignment bits ++ type_bits d.ty (values_of d.initial)) rest
-        = at_drop_more (bits_behind bits) decls i d before ∙ ap (λ (x : Declaration). bits_behind bits (x ∷ rest)) (sym item)
-        ∙ laid_cons bits d rest in
+    = at_drop_more (bits_behind bits) decls i d before ∙ ap (λ (x : Declaration). bits_behind bits (x ∷ rest)) (sym item)
+    ∙ laid_cons bits d rest in
     ap (λ bs. bits_behind bs rest) (n ∙ ap (λ bs. bs ++ own) f ∙ ap (λ bs. filled_to (extent_of d.ty).alignment bits ++ bs) o)
     ∙ sym opened ∙ so_far
 

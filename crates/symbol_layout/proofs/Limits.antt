@@ -39,7 +39,7 @@ pub within : (limit end : ℕ) (d : Declaration) → limit < 2 ^ 32 → end ≤ 
     ≡ end_within limit end d
 within limit end d small low is =
     let kept : capped (end_behind end (capped_extent (extent_of d.ty))) ≡ capped (end_of end d)
-        = ap (λ n. capped (end_behind n (capped_extent (extent_of d.ty)))) (sym (min-eq_left low)) ∙ capped_end end (extent_of d.ty) is in
+    = ap (λ n. capped (end_behind n (capped_extent (extent_of d.ty)))) (sym (min-eq_left low)) ∙ capped_end end (extent_of d.ty) is in
     ap (λ n. if passes limit n then None else Some n) kept ∙ judged limit (end_of end d) small (cases_lt (end_of end d) (2 ^ 60))
 
 pub first_cons : (limit end : ℕ) (d : Declaration) (decls : List Declaration)

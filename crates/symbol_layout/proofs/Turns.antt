@@ -127,7 +127,7 @@ module _ (path : List PathStep) (i : ℕ) (s : PathStep) (at : Placed) (before :
 
 pub kept_low : (found : Option Placed) (at : Placed) → Some at ≡ capped_placed found → at.0 ≤ 2 ^ 60
 kept_low None at e = cc
-kept_low (Some b) at e = 
+kept_low (Some b) at e =
     let same : at.0 ≡ capped b.0 = ap (λ (o : Option Placed). place_of o) e in
     omega (arith, same)
   where

@@ -16,11 +16,7 @@ use stl_tree::Declaration;
 
 /// The first rule that declarations break.
 #[tactic(auto, using(crate::proofs::Limits::first_of_one))]
-fn first_break(
-    alloc: Global,
-    decls: &[Declaration],
-    limit: u32,
-) -> Result<Option<Break>, NoMemory>
+fn first_break(alloc: Global, decls: &[Declaration], limit: u32) -> Result<Option<Break>, NoMemory>
     ensures { IfOk result (λ first. first ≡ first_of_all (breaks_in limit (decls.now ∷ []))) }
 {
     let mut breaks = List::new(alloc);

@@ -36,11 +36,7 @@ fn is_array(bounds: &[(i64, i64)]) -> bool
     are_all_bounds(bounds) && bounds.len() <= MOST_DIMENSIONS
 }
 
-fn judge_array(
-    line: Line,
-    bounds: &[(i64, i64)],
-    breaks: &mut List<Break>,
-) -> Result<(), NoMemory>
+fn judge_array(line: Line, bounds: &[(i64, i64)], breaks: &mut List<Break>) -> Result<(), NoMemory>
     ensures { OnOk result (breaks.new ≡ breaks.old ++ array_breaks line bounds.now) }
 {
     if is_array(bounds) {

@@ -32,7 +32,11 @@ fn end_within(limit: u32, end: u64, d: &Declaration) -> Option<u64>
     ensures few { IfSome result (λ next. next ≤ 2 ^ 60) }
 {
     let next = end_behind(end, extent_of(&d.ty));
-    if passes(limit, next) { None } else { Some(next) }
+    if passes(limit, next) {
+        None
+    } else {
+        Some(next)
+    }
 }
 
 /// The first declaration inside a type, placed here.

@@ -11,7 +11,8 @@ loop-step-preserved c =
     let at : Placed = seen c.loop-step.at in
     let next : Placed = seen c.in_ok-at.at in
     let found : Option Placed = stepped at.0 at.1 c.step-item.result in
-    let e : Some next ≡ capped_placed found = ap (option_map seen) (sym c.in_ok-at.was) ∙ c.stepped.ensures in
-    (kept_low found next e,
-    one_step c.args.path.now c.loop-step.step-index c.step-item.result at c.loop-step-test.true c.step-item.is
-    (capped_placed (walked c.args.path.now (seen c.args.start))) c.loop-step.invariant.1 next e)
+    let e : Some next ≡ capped_placed found = ap (option_map seen) (sym c.in_ok-at.was) ∙ c.stepped.ensures in (
+      kept_low found next e,
+      one_step c.args.path.now c.loop-step.step-index c.step-item.result at c.loop-step-test.true c.step-item.is
+          (capped_placed (walked c.args.path.now (seen c.args.start))) c.loop-step.invariant.1 next e,
+    )
