@@ -1,5 +1,5 @@
 -- Places that are kept within the most bits, along declarations, indices and paths.
-use Rattle.std.specs.Prelude.{◌≡◌, ℕ, zero, suc, ◌+◌, ◌*◌, ◌^◌, ◌%◌, ◌≤◌, min, ℤ, ◌-ℤ◌, unsigned_abs, Bool, true, false, cond, List, [], ◌∷◌, Option, Some, None, option_and_then, option_map, if◌then◌else◌}
+use Rattle.std.specs.Prelude.{◌≡◌, ℕ, ◌+◌, ◌*◌, ℤ, ◌-ℤ◌, unsigned_abs, Bool, true, false, cond, List, [], ◌∷◌, Option, Some, None, option_and_then, option_map}
 use Rattle.std.proofs.Common.{refl, sym, ap, ◌∙◌, subst, arith}
 use Rattle.s7_base.specs.Tokens.{is_same_word}
 use Rattle.s7_base.specs.declared.word.Width.{Width}
@@ -9,10 +9,10 @@ use Rattle.stl_tree.specs.declared.raw.DeclType.{DeclType, fold-roll-DeclType, m
 use Rattle.stl_tree.specs.declared.raw.DeclType.TheOpen as T
 use Rattle.stl_tree.specs.declared.raw.PathStep.{PathStep}
 use Rattle.stl_tree.specs.declared.raw.PathStep.TheVariants as step
-use Rattle.symbol_layout.proofs.Capped.{capped_end, capped_place, capped_product, capped_sum}
+use Rattle.symbol_layout.proofs.Capped.{capped_end, capped_place, capped_product}
 use Rattle.symbol_layout.proofs.Equations.{own_type}
 use Rattle.symbol_layout.specs.Extents.{end_behind, end_of, extent_of, extent_of_width, extent_step, indices_in, place_behind, width_of}
-use Rattle.symbol_layout.specs.Paths.{Placed, element_at, elements_before, is_index, named_behind, stepped, stepped_in, walked}
+use Rattle.symbol_layout.specs.Paths.{Placed, elements_before, is_index, named_behind, stepped, stepped_in, walked}
 use Rattle.symbol_layout.specs.declared.extent.Extent.{Extent}
 use Rattle.symbol_layout.specs.inner.Capped.{IsAlignment, capped, capped_extent, capped_placed}
 

@@ -1,5 +1,5 @@
 -- Lengths that are kept, held against a limit.
-use Rattle.std.specs.Prelude.{◌≡◌, ℕ, ◌+◌, ◌*◌, ◌/◌, ◌%◌, ◌^◌, ◌≤◌, ◌<◌, min, nat_lt, Bool, true, false, cond, if◌then◌else◌, List, [], ◌∷◌, ◌++◌, length, get_or, drop, Option, Some, None, ◌⊎◌}
+use Rattle.std.specs.Prelude.{◌≡◌, ℕ, ◌+◌, ◌/◌, ◌^◌, ◌≤◌, ◌<◌, Bool, true, false, cond, if◌then◌else◌, List, [], ◌∷◌, ◌++◌, length, get_or, drop, Option, Some, None, ◌⊎◌}
 use Rattle.std.specs.Int.{next_multiple_of}
 use Rattle.std.specs.Option.{option_or}
 use Rattle.std.proofs.Common.{refl, sym, ap, ◌∙◌, arith, subst}
@@ -16,7 +16,6 @@ use Rattle.symbol_layout.specs.Extents.{IsLeast, end_behind, end_of, end_of_all,
 use Rattle.symbol_layout.specs.Layouts.{breaks_in, length_of, too_large}
 use Rattle.symbol_layout.specs.Rules.{scope_breaks}
 use Rattle.symbol_layout.specs.TooLarge.{first_large, first_large_in, inside, length_to, passes}
-use Rattle.symbol_layout.specs.declared.extent.Extent.{Extent}
 use Rattle.symbol_layout.specs.inner.Capped.{IsAlignment, capped, capped_extent, end_within}
 
 -- what passes every limit

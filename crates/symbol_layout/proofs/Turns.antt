@@ -9,9 +9,9 @@ use Rattle.stl_tree.specs.declared.raw.Declaration.{Declaration}
 use Rattle.stl_tree.specs.declared.raw.DeclType.{DeclType}
 use Rattle.stl_tree.specs.declared.raw.PathStep.{PathStep}
 use Rattle.stl_tree.specs.declared.raw.PathStep.TheVariants as step
-use Rattle.symbol_layout.proofs.Kept.{kept_elements, kept_named, kept_walked, rows_kept}
+use Rattle.symbol_layout.proofs.Kept.{kept_elements, kept_named, kept_walked}
 use Rattle.symbol_layout.specs.Extents.{end_behind, end_of, extent_of, indices_in, place_behind}
-use Rattle.symbol_layout.specs.Paths.{Placed, component_at, component_in, elements_before, found, is_index, named_behind, stepped, walked}
+use Rattle.symbol_layout.specs.Paths.{Placed, component_at, component_in, elements_before, is_index, named_behind, stepped, walked}
 use Rattle.symbol_layout.specs.Rules.{elementary}
 use Rattle.symbol_layout.specs.declared.place.Component.{Component}
 use Rattle.symbol_layout.specs.inner.Capped.{capped, capped_placed, next_row}

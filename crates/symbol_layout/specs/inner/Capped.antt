@@ -3,7 +3,6 @@ use Rattle.std.specs.Prelude.{◌≡◌, ℕ, ◌+◌, ◌*◌, ◌^◌, ◌%◌
 use Rattle.stl_tree.specs.declared.raw.Declaration.{Declaration}
 use Rattle.stl_tree.specs.declared.raw.ElemType.{ElemType}
 use Rattle.symbol_layout.specs.Extents.{end_of, indices_in}
-use Rattle.stl_tree.specs.declared.raw.DeclType.{DeclType}
 use Rattle.symbol_layout.specs.Paths.{Placed, is_index}
 use Rattle.symbol_layout.specs.TooLarge.{passes}
 use Rattle.symbol_layout.specs.declared.place.Placed.{Placed as CodePlaced}

@@ -1,4 +1,4 @@
-use Rattle.std.proofs.Common.{◌≡◌, ◌++◌, ◌∷◌, [], ◌≤◌, ◌^◌, take, drop}
+use Rattle.std.proofs.Common.{◌≡◌, ◌++◌}
 use Rattle.symbol_layout.specs.Contents.{first_bytes}
 use Rattle.symbol_layout.proofs.bits.first_bytes.Given as goal
 

@@ -1,4 +1,4 @@
-use Rattle.std.proofs.Common.{◌≡◌, ◌++◌, ◌∷◌, [], ◌≤◌, ◌^◌, take, drop}
+use Rattle.std.proofs.Common.{◌≡◌, ◌++◌}
 use Rattle.symbol_layout.specs.Contents.{zeros}
 use Rattle.symbol_layout.proofs.bits.put_zeros.Given as goal
 

@@ -1,10 +1,10 @@
-use Rattle.std.proofs.Common.{◌≡◌, [], ◌++◌, ◌-◌, List, ℤ, Bool, length, ap, sym, ◌∙◌}
+use Rattle.std.proofs.Common.{[], ◌++◌, ◌-◌, List, ℤ, Bool, length, ap, ◌∙◌}
 use Rattle.stl_tree.specs.declared.raw.Constant.{Constant}
 use Rattle.stl_tree.specs.declared.raw.DeclType.{DeclType}
 use Rattle.stl_tree.specs.declared.raw.InitialItem.{InitialItem}
 use Rattle.symbol_layout.proofs.Laying.{array_laid, laid_all, laid_next}
 use Rattle.symbol_layout.specs.Contents.{bits_behind, filled_to, times, type_bits, values_of}
-use Rattle.symbol_layout.specs.Extents.{elements_in, extent_of}
+use Rattle.symbol_layout.specs.Extents.{elements_in}
 use Rattle.symbol_layout.specs.declared.extent.Extent.{Extent}
 use Rattle.symbol_layout.proofs.contents.«+contents».Goals as goal
 

@@ -1,4 +1,4 @@
-use Rattle.std.proofs.Common.{◌≡◌, ◌++◌, ◌∷◌, [], ◌≤◌, ◌^◌, take, drop}
+use Rattle.std.proofs.Common.{◌≡◌, ◌∷◌, [], take, drop}
 use Rattle.std.specs.List.{flat_map}
 use Rattle.stl_tree.specs.declared.raw.Constant.{Constant}
 use Rattle.symbol_layout.specs.Contents.{bits_behind, type_bits}

@@ -1,4 +1,4 @@
-use Rattle.std.proofs.Common.{◌≡◌, ◌++◌, ◌∷◌, [], ◌≤◌, ◌^◌, take, drop}
+use Rattle.std.proofs.Common.{◌≡◌, take}
 use Rattle.symbol_layout.specs.Contents.{values_of}
 use Rattle.symbol_layout.proofs.contents.values_of.Given as goal
 

@@ -1,4 +1,4 @@
-use Rattle.std.proofs.Common.{◌≡◌, ◌*◌, take}
+use Rattle.std.proofs.Common.{◌≡◌, take}
 use Rattle.symbol_layout.specs.Extents.{end_of_all}
 use Rattle.symbol_layout.specs.inner.Capped.{capped}
 use Rattle.symbol_layout.proofs.extent.«+extent».Given as goal

@@ -1,6 +1,5 @@
-use Rattle.std.proofs.Common.{◌≡◌, ◌*◌, take}
-use Rattle.std.specs.List.{fold}
-use Rattle.symbol_layout.specs.Extents.{elements_in, indices_in}
+use Rattle.std.proofs.Common.{◌≡◌, take}
+use Rattle.symbol_layout.specs.Extents.{elements_in}
 use Rattle.symbol_layout.specs.inner.Capped.{capped}
 use Rattle.symbol_layout.proofs.extent.elements_in.Given as goal
 

@@ -1,9 +1,9 @@
-use Rattle.std.proofs.Common.{◌≡◌, [], ◌∷◌, List, ℕ, ap, sym, ◌∙◌, drop}
+use Rattle.std.proofs.Common.{◌≡◌, List, ℕ, ap, sym, ◌∙◌, drop}
 use Rattle.std.specs.Option.{option_map}
-use Rattle.std.specs.Prelude.{Option, None, Some}
+use Rattle.std.specs.Prelude.{None, Some}
 use Rattle.stl_tree.specs.declared.raw.PathStep.{PathStep}
 use Rattle.symbol_layout.proofs.Turns.{component_found}
-use Rattle.symbol_layout.specs.Paths.{Placed, component_at, component_in, named_behind, walked}
+use Rattle.symbol_layout.specs.Paths.{Placed, named_behind, walked}
 use Rattle.symbol_layout.specs.inner.Capped.{capped_placed, seen}
 use Rattle.symbol_layout.proofs.path.component.Goals as goal
 

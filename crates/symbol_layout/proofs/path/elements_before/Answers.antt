@@ -1,4 +1,4 @@
-use Rattle.std.proofs.Common.{◌≡◌, ◌+◌, ℤ, pos, List, ap, sym, ◌∙◌, drop}
+use Rattle.std.proofs.Common.{◌+◌, ℤ, pos, List, ap, sym, ◌∙◌, drop}
 use Rattle.std.specs.Option.{option_map}
 use Rattle.symbol_layout.proofs.Turns.{further}
 use Rattle.symbol_layout.specs.Paths.{elements_before}

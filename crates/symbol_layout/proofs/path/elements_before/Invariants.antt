@@ -1,4 +1,4 @@
-use Rattle.std.proofs.Common.{◌≡◌, ◌++◌, ◌∷◌, [], ◌≤◌, ◌^◌, take, drop}
+use Rattle.std.proofs.Common.{◌≡◌, ◌≤◌, ◌^◌, drop}
 use Rattle.std.specs.Option.{option_map}
 use Rattle.symbol_layout.specs.Paths.{elements_before}
 use Rattle.symbol_layout.specs.inner.Capped.{capped}

@@ -1,4 +1,4 @@
-use Rattle.std.proofs.Common.{◌≡◌, ap, sym, ◌∙◌, arith}
+use Rattle.std.proofs.Common.{ap, sym, ◌∙◌, arith}
 use Rattle.s7_base.specs.Tokens.{is_same_word}
 use Rattle.symbol_layout.proofs.Capped.{end_of_kept}
 use Rattle.symbol_layout.proofs.Turns.{goes_past}

@@ -1,4 +1,4 @@
-use Rattle.std.proofs.Common.{◌≡◌, ◌++◌, ◌∷◌, [], ◌≤◌, ◌^◌, take, drop}
+use Rattle.std.proofs.Common.{◌≡◌, ◌≤◌, ◌^◌, drop}
 use Rattle.symbol_layout.specs.Paths.{named_behind}
 use Rattle.symbol_layout.specs.inner.Capped.{capped_placed}
 use Rattle.symbol_layout.proofs.path.named_behind.Given as goal

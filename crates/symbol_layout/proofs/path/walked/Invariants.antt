@@ -1,4 +1,4 @@
-use Rattle.std.proofs.Common.{◌≡◌, ◌++◌, ◌∷◌, [], ◌≤◌, ◌^◌, take, drop}
+use Rattle.std.proofs.Common.{◌≡◌, ◌≤◌, ◌^◌, drop}
 use Rattle.symbol_layout.specs.Paths.{walked}
 use Rattle.symbol_layout.specs.inner.Capped.{capped_placed, seen}
 use Rattle.symbol_layout.proofs.path.walked.Given as goal

@@ -1,4 +1,4 @@
-use Rattle.std.proofs.Common.{◌≡◌, ◌++◌, [], ap, sym, ◌∙◌, arith, drop}
+use Rattle.std.proofs.Common.{◌++◌, [], ap, sym, ◌∙◌, arith, drop}
 use Rattle.std.proofs.Math.ListN.{drop_of_length-le}
 use Rattle.stl_tree.specs.declared.raw.DeclType.TheVariants as type
 use Rattle.symbol_layout.proofs.Equations.{breaks_date, breaks_elementary}

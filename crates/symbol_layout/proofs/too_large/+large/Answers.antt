@@ -1,6 +1,5 @@
-use Rattle.std.proofs.Common.{◌≡◌, ap, sym, ◌∙◌, arith, rules}
+use Rattle.std.proofs.Common.{ap, sym, ◌∙◌, arith, rules}
 use Rattle.std.proofs.Math.ListN.{drop_of_length-le}
-use Rattle.symbol_layout.specs.Extents.{extent_of, place_behind}
 use Rattle.symbol_layout.specs.TooLarge.{inside}
 use Rattle.symbol_layout.proofs.Limits.{goes_on, large_here, large_inside, none_left}
 use Rattle.symbol_layout.proofs.too_large.«+large».Goals as goal
