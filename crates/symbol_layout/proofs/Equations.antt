@@ -204,10 +204,6 @@ pub scope_cons : (names : List (List ℕ)) (d : Declaration) (decls : List Decla
 unfolding scope_breaks
 scope_cons names d decls = refl
 
-pub ruleset scope_equations = (scope_nil, scope_cons)
-
-pub ruleset judge_equations = (breaks_elementary, breaks_date, breaks_array, breaks_struct)
-
 pub ruleset rule_equations = (
   out_elementary,
   out_date,

@@ -1,8 +1,7 @@
--- One turn of the loops over declarations, indices and paths.
+-- One turn of the loops over declarations, indices and paths, and the component that is found.
 use Rattle.std.specs.Prelude.{◌≡◌, ℕ, ◌+◌, ◌*◌, ◌/◌, ◌%◌, ◌^◌, ◌<◌, ◌≤◌, min, ◌-◌, ℤ, ◌-ℤ◌, unsigned_abs, Bool, true, false, cond, List, [], ◌∷◌, length, get_or, drop, Option, Some, None, option_and_then, option_map, if◌then◌else◌}
 use Rattle.std.specs.Option.{option_or}
 use Rattle.std.proofs.Common.{refl, sym, ap, ◌∙◌, arith}
-use Rattle.std.proofs.Math.Nat.{min-eq_left}
 use Rattle.std.proofs.lemmas.List.{at_drop_more}
 use Rattle.s7_base.specs.Tokens.{is_same_word}
 use Rattle.stl_tree.specs.declared.raw.Declaration.{Declaration}
@@ -29,24 +28,12 @@ module _ (start end i : ℕ) (decls : List Declaration) (name : List ℕ) (d : D
       sym so_far ∙ at_drop_more (λ (ds : List Declaration). capped_placed (named_behind end ds name)) decls i d before
       ∙ ap (λ x. capped_placed (named_behind end (x ∷ drop (i + 1) decls) name)) (sym item)
 
-  pub found_here : (place : ℕ) → place ≡ place_behind end (extent_of d.ty) → place ≤ 2 ^ 60 → is_same_word d.name name ≡ true
-      → Some (place, d.ty) ≡ capped_placed (named_behind start decls name)
-  found_here place is low same =
-      ap (λ k. Some (k, d.ty)) (sym (min-eq_left low) ∙ ap capped is)
-      ∙ sym (turn ∙ ap (λ b. capped_placed (choice b)) same)
-
   pub goes_past : (next : ℕ) → next ≡ capped (end_behind end (extent_of d.ty)) → is_same_word d.name name ≡ false
       → capped_placed (named_behind next (drop (i + 1) decls) name) ≡ capped_placed (named_behind start decls name)
   goes_past next is other =
       ap (λ k. capped_placed (named_behind k (drop (i + 1) decls) name)) is
       ∙ kept_named (drop (i + 1) decls) name (end_of end d)
       ∙ sym (turn ∙ ap (λ b. capped_placed (choice b)) other)
-
-pub not_found : (start end i : ℕ) (decls : List Declaration) (name : List ℕ) → drop i decls ≡ []
-    → capped_placed (named_behind end (drop i decls) name) ≡ capped_placed (named_behind start decls name)
-    → None ≡ capped_placed (named_behind start decls name)
-not_found start end i decls name none so_far =
-    sym (ap (λ (ds : List Declaration). capped_placed (named_behind end ds name)) none) ∙ so_far
 
 -- Indices
 
@@ -60,10 +47,6 @@ module _ (more : List (ℤ × ℤ)) (is : List ℤ) where
   row_found (Some k) n e =
       let same : n ≡ capped k = cc in
       (omega (arith, same), ap (λ m. option_map capped (behind m)) same ∙ kept_elements more is k)
-
-  pub row_missed : (row : Option ℕ) → None ≡ option_map capped row → None ≡ option_map capped (option_and_then behind row)
-  row_missed None e = refl
-  row_missed (Some k) e = cc
 
 row_opened : (rows : ℕ) (b : ℤ × ℤ) (more : List (ℤ × ℤ)) (rest : List ℤ)
     → elements_before rows (b ∷ more) rest ≡ option_and_then (behind more (drop 1 rest)) (next_row rows b rest)
@@ -88,17 +71,6 @@ module _ (rows i : ℕ) (bounds : List (ℤ × ℤ)) (d : ℤ × ℤ) (rest : Li
       let found = row_found (drop (i + 1) bounds) (drop 1 rest) (next_row rows (get_or bounds i d) rest) n e in
       (found.0, found.1 ∙ sym opened)
 
-  pub no_further : None ≡ option_map capped (next_row rows (get_or bounds i d) rest) → None ≡ all
-  no_further e = row_missed (drop (i + 1) bounds) (drop 1 rest) (next_row rows (get_or bounds i d) rest) e ∙ sym opened
-
-pub all_counted : (rows : ℕ) (bounds : List (ℤ × ℤ)) (rest : List ℤ) (all : Option ℕ) → bounds ≡ [] → rest ≡ [] → rows ≤ 2 ^ 60
-    → option_map capped (elements_before rows bounds rest) ≡ all → Some rows ≡ all
-all_counted rows bounds rest all no_bounds no_rest low so_far =
-    sym (ap Some (min-eq_left low))
-    ∙ sym (ap (λ (bs : List (ℤ × ℤ)). option_map capped (elements_before rows bs [])) no_bounds)
-    ∙ sym (ap (λ (is : List ℤ). option_map capped (elements_before rows bounds is)) no_rest)
-    ∙ so_far
-
 -- Paths
 
 pub walks_on : (path : List PathStep) (found : Option Placed) (at : Placed) → Some at ≡ capped_placed found
@@ -106,11 +78,6 @@ pub walks_on : (path : List PathStep) (found : Option Placed) (at : Placed) → 
 walks_on path None at e = cc
 walks_on path (Some b) at e =
     ap (λ (o : Option Placed). capped_placed (option_and_then (walked path) o)) e ∙ kept_walked path b.0 b.1
-
-pub walk_ends : (path : List PathStep) (found : Option Placed) → None ≡ capped_placed found
-    → None ≡ capped_placed (option_and_then (walked path) found)
-walk_ends path None e = refl
-walk_ends path (Some b) e = cc
 
 module _ (path : List PathStep) (i : ℕ) (s : PathStep) (at : Placed) (before : i < length path) (item : s ≡ get_or path i s)
     (all : Option Placed) (so_far : capped_placed (walked (drop i path) at) ≡ all) where
@@ -121,9 +88,6 @@ module _ (path : List PathStep) (i : ℕ) (s : PathStep) (at : Placed) (before :
 
   pub one_step : (next : Placed) → Some next ≡ capped_placed (stepped at.0 at.1 s) → capped_placed (walked (drop (i + 1) path) next) ≡ all
   one_step next e = walks_on (drop (i + 1) path) (stepped at.0 at.1 s) next e ∙ sym step_opened
-
-  pub no_step : None ≡ capped_placed (stepped at.0 at.1 s) → None ≡ all
-  no_step e = walk_ends (drop (i + 1) path) (stepped at.0 at.1 s) e ∙ sym step_opened
 
 pub kept_low : (found : Option Placed) (at : Placed) → Some at ≡ capped_placed found → at.0 ≤ 2 ^ 60
 kept_low None at e = cc
