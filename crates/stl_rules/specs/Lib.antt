@@ -1,6 +1,12 @@
 pub mod Accepting
+pub mod Contents
+pub mod DeclarationRules
+pub mod Extents
+pub mod Layouts
+pub mod Paths
 pub mod Programs
 pub mod Raw
 pub mod Stages
+pub mod TooLarge
 pub mod Verdict
 pub mod VerdictLaws

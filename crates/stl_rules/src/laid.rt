@@ -1,0 +1,26 @@
+//! Declarations that are laid out.
+
+use s7_base::List;
+use stl_tree::ElemType;
+
+/// How long declarations are, in bytes, and their initial bytes.
+#[derive(Debug, Drop, PartialEq)]
+pub struct Layout {
+    pub length: u32,
+    pub initial: List<u8>,
+}
+
+/// Where a component lies, and its type where that is elementary.
+#[derive(Clone, Copy, Debug, PartialEq, Eq)]
+pub struct Component {
+    pub byte: u32,
+    pub bit: u8,
+    pub kind: Option<ElemType>,
+}
+
+/// The alignment and the length of a type, in bits.
+#[derive(Clone, Copy, Debug, PartialEq, Eq)]
+pub struct Extent {
+    pub alignment: u64,
+    pub bits: u64,
+}

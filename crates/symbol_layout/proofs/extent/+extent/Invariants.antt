@@ -1,0 +1,7 @@
+use Rattle.std.proofs.Common.{◌≡◌, take}
+use Rattle.stl_rules.specs.Extents.{end_of_all}
+use Rattle.symbol_layout.specs.inner.Capped.{capped}
+use Rattle.symbol_layout.proofs.extent.«+extent».Given as goal
+
+abbrev pub invariant-end_of_all-loop-d : goal.invariant-end_of_all-loop-d
+invariant-end_of_all-loop-d l = l.end ≡ capped (end_of_all 0 (take l.d-index l.decls))

@@ -1,0 +1,45 @@
+-- Lengths in code: what is more bits than any limit has is kept as so many.
+use Rattle.std.specs.Prelude.{◌≡◌, ℕ, ◌+◌, ◌*◌, ◌^◌, ◌%◌, ◌≤◌, min, ℤ, ◌-ℤ◌, unsigned_abs, if◌then◌else◌, List, [], ◌∷◌, Option, Some, None, option_map}
+use Rattle.stl_tree.specs.declared.raw.Declaration.{Declaration}
+use Rattle.stl_tree.specs.declared.raw.ElemType.{ElemType}
+use Rattle.stl_rules.specs.Extents.{end_of, indices_in}
+use Rattle.stl_rules.specs.Paths.{Placed, is_index}
+use Rattle.stl_rules.specs.TooLarge.{passes}
+use Rattle.symbol_layout.specs.declared.place.Placed.{Placed as CodePlaced}
+use Rattle.stl_rules.specs.declared.laid.Extent.{Extent}
+
+-- a number of bits as it is kept
+abbrev pub capped : ℕ → ℕ
+capped bits = min bits (2 ^ 60)
+
+abbrev pub capped_extent : Extent → Extent
+capped_extent extent = record { alignment = extent.alignment; bits = capped extent.bits }
+
+-- the most bits are a multiple of an alignment
+abbrev pub IsAlignment : ℕ → Type 0
+IsAlignment alignment = (1 ≤ alignment) × (alignment ≤ 16) × (2 ^ 60 % alignment ≡ 0)
+
+-- where a declaration ends behind what ends here, if the length does not pass the limit there
+abbrev pub end_within : ℕ → ℕ → Declaration → Option ℕ
+end_within limit end d = if passes limit (end_of end d) then None else Some (end_of end d)
+
+-- of which type values may be, and how many are counted
+abbrev pub capped_takes : Option (ElemType × ℕ) → Option (ElemType × ℕ)
+capped_takes most = option_map (λ (pair : ElemType × ℕ). (pair.0, capped pair.1)) most
+
+-- how many elements stand before one, where so many rows stand before it: a dimension further
+abbrev pub row_behind : ℕ → ℤ × ℤ → ℤ → Option ℕ
+row_behind rows bounds i = if is_index bounds i then Some (rows * indices_in bounds + unsigned_abs (i -ℤ bounds.0)) else None
+
+-- the same with the first of some indices
+abbrev pub next_row : ℕ → ℤ × ℤ → List ℤ → Option ℕ
+next_row rows bounds [] = None
+next_row rows bounds (i ∷ is) = row_behind rows bounds i
+
+-- a type at its place as it is kept
+abbrev pub capped_placed : Option Placed → Option Placed
+capped_placed found = option_map (λ (at : Placed). (capped at.0, at.1)) found
+
+-- a type at its place, as code has it
+abbrev pub seen : CodePlaced → Placed
+seen at = (at.place, at.ty.now)

@@ -1,0 +1,152 @@
+//! What types take, in bits.
+ghost use Rattle.std.specs.Prelude.{◌≡◌, ◌+◌, ◌*◌, ◌≤◌, ◌^◌};
+ghost use Rattle.stl_rules.specs.Extents.{elements_in, end_behind, end_of_all, extent_of, extent_of_width, filled, indices_in, place_behind, width_of};
+ghost use Rattle.symbol_layout.specs.inner.Capped.{IsAlignment, capped, capped_extent};
+
+use s7_base::Width;
+use stl_rules::Extent;
+use stl_tree::{DeclType, Declaration, ElemType};
+
+/// More bits than any limit has. More than these are kept as so many.
+pub const MOST_BITS: u64 = 1 << 60;
+
+/// The width of an elementary type.
+pub fn width_of(kind: ElemType) -> Width
+    ensures { result ≡ width_of kind }
+{
+    match kind {
+        ElemType::Bool => Width::Bit,
+        ElemType::Byte | ElemType::Char => Width::Byte,
+        ElemType::Word | ElemType::Int => Width::Word,
+        ElemType::Dword | ElemType::Dint => Width::Dword,
+    }
+}
+
+/// What a number of a width takes.
+pub fn extent_of_width(width: Width) -> Extent
+    ensures same { result ≡ extent_of_width width }
+    ensures alignment { IsAlignment result.alignment }
+    ensures few { result.bits ≤ 32 }
+{
+    match width {
+        Width::Bit => Extent {
+            alignment: 1,
+            bits: 1,
+        },
+        Width::Byte => Extent {
+            alignment: 8,
+            bits: 8,
+        },
+        Width::Word => Extent {
+            alignment: 16,
+            bits: 16,
+        },
+        Width::Dword => Extent {
+            alignment: 16,
+            bits: 32,
+        },
+    }
+}
+
+fn filled(bits: u64) -> Extent
+    requires { bits ≤ 2 ^ 60 }
+    ensures same { result ≡ filled bits }
+    ensures alignment { IsAlignment result.alignment }
+    ensures few { result.bits ≤ 2 ^ 60 }
+{
+    Extent {
+        alignment: 16,
+        bits: bits.next_multiple_of(16),
+    }
+}
+
+/// A product of lengths.
+pub fn product(a: u64, b: u64) -> u64
+    ensures { result ≡ capped (a * b) }
+{
+    a.saturating_mul(b).min(MOST_BITS)
+}
+
+/// A sum of lengths.
+pub fn sum(a: u64, b: u64) -> u64
+    ensures { result ≡ capped (a + b) }
+{
+    a.saturating_add(b).min(MOST_BITS)
+}
+
+/// How many indices a dimension has.
+pub fn indices_in(bounds: (i64, i64)) -> u64
+    ensures { result ≡ capped (indices_in bounds) }
+{
+    if bounds.1 < bounds.0 {
+        0
+    } else {
+        sum(bounds.1.abs_diff(bounds.0), 1)
+    }
+}
+
+/// How many elements an array has.
+#[tactic(auto, using(crate::proofs::Capped::capped_lemmas))]
+pub fn elements_in(bounds: &[(i64, i64)]) -> u64
+    ensures { result ≡ capped (elements_in bounds.now) }
+{
+    let mut count = 1;
+    for dimension in bounds {
+        count = product(count, indices_in(*dimension));
+    }
+    count
+}
+
+/// Where a component stands behind what ends here.
+#[tactic(auto, using(crate::proofs::Capped::place_low))]
+pub fn place_behind(end: u64, extent: Extent) -> u64
+    requires end { end ≤ 2 ^ 60 }
+    requires alignment { IsAlignment extent.alignment }
+    ensures same { result ≡ place_behind end extent }
+    ensures few { result ≤ 2 ^ 60 }
+{
+    end.next_multiple_of(extent.alignment)
+}
+
+/// Where a component ends behind what ends here.
+pub fn end_behind(end: u64, extent: Extent) -> u64
+    requires end { end ≤ 2 ^ 60 }
+    requires alignment { IsAlignment extent.alignment }
+    ensures { result ≡ capped (end_behind end extent) }
+{
+    sum(place_behind(end, extent), extent.bits)
+}
+
+/// What a type takes.
+#[cycle(extent)]
+#[tactic(auto, using(crate::proofs::Capped::extent_lemmas))]
+pub fn extent_of(ty: &DeclType) -> Extent
+    ensures same { result ≡ capped_extent (extent_of ty.now) }
+    ensures alignment { IsAlignment result.alignment }
+{
+    match ty {
+        DeclType::Elementary(kind) => extent_of_width(width_of(*kind)),
+        DeclType::DateAndTime => Extent {
+            alignment: 16,
+            bits: 64,
+        },
+        DeclType::Array(bounds, element) => {
+            let count = elements_in(bounds.as_slice());
+            filled(product(count, extent_of(element.get()).bits))
+        }
+        DeclType::Struct(parts) => filled(end_of_all(parts.as_slice())),
+    }
+}
+
+/// Where declarations end, one after another.
+#[cycle(extent)]
+#[tactic(auto, using(crate::proofs::Capped::capped_end))]
+pub fn end_of_all(decls: &[Declaration]) -> u64
+    ensures { result ≡ capped (end_of_all 0 decls.now) }
+{
+    let mut end = 0;
+    for d in decls {
+        end = end_behind(end, extent_of(&d.ty));
+    }
+    end
+}

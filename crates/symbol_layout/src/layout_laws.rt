@@ -1,0 +1,8 @@
+//! Laws of layouts.
+ghost use Rattle.stl_rules.specs.Extents.{StandsAtLeast};
+
+/// A component stands at the least place that its alignment allows at or after the end of what stands
+/// before it.
+pub fn components_stand_at_the_least()
+    ensures { StandsAtLeast }
+{}

@@ -1,0 +1,22 @@
+//! The layout of declarations: which rules they break, how long they are, their initial bytes, and where the
+//! component that a path names lies.
+//!
+//! Stands on `stl_tree` for the declarations and on `stl_rules` for what layouts are. All definitions count in bits.
+#![tactic(auto)]
+
+mod bits;
+mod contents;
+mod extent;
+mod initial;
+mod laying_out;
+mod layout_laws;
+mod names;
+mod path;
+mod place;
+mod rules;
+mod too_large;
+
+pub use laying_out::layout;
+pub use layout_laws::components_stand_at_the_least;
+pub use path::component;
+pub use stl_rules::{Component, Layout};

@@ -1,0 +1,165 @@
+//! Where the component that a path names lies.
+ghost use Rattle.std.specs.Prelude.{◌≡◌, [], ◌∷◌, ◌≤◌, ◌^◌};
+ghost use Rattle.std.specs.Option.{option_map};
+ghost use Rattle.s7_base.specs.Tokens.{is_same_word};
+ghost use Rattle.stl_rules.specs.Paths.{component_at, component_in, element_at, elements_before, is_index, named_behind, stepped, walked};
+ghost use Rattle.symbol_layout.specs.inner.Capped.{capped, capped_placed, next_row, row_behind, seen};
+
+use crate::extent::{end_behind, extent_of, indices_in, place_behind, product, sum};
+use crate::initial::elementary;
+use crate::place::Placed;
+use stl_rules::Component;
+use s7_base::rest_after;
+use stl_tree::{DeclType, Declaration, PathStep};
+
+/// The last bit of the byte 4,294,967,295.
+const LAST_BIT: u64 = (1 << 35) - 1;
+
+fn is_index(bounds: (i64, i64), index: i64) -> bool
+    ensures { result ≡ is_index bounds index }
+{
+    bounds.0 <= index && index <= bounds.1
+}
+
+/// How many elements stand before one, where so many rows stand before it: a dimension further.
+#[tactic(auto, using(crate::proofs::Kept::rows_kept))]
+fn row_behind(rows: u64, bounds: (i64, i64), index: i64) -> Option<u64>
+    ensures { result ≡ option_map capped (row_behind rows bounds index) }
+{
+    if is_index(bounds, index) {
+        let inner = index.abs_diff(bounds.0);
+        Some(sum(product(rows, indices_in(bounds)), inner))
+    } else {
+        None
+    }
+}
+
+/// The same with the first of some indices; `None` where there is none.
+fn next_row(rows: u64, bounds: (i64, i64), indices: &[i64]) -> Option<u64>
+    ensures { result ≡ option_map capped (next_row rows bounds indices.now) }
+{
+    match indices {
+        [] => None,
+        [index, ..] => row_behind(rows, bounds, *index),
+    }
+}
+
+/// How many elements stand before one in an array.
+fn elements_before(bounds: &[(i64, i64)], indices: &[i64]) -> Option<u64>
+    ensures { result ≡ option_map capped (elements_before 0 bounds.now indices.now) }
+{
+    let mut rows = 0;
+    let mut rest = indices;
+    for dimension in bounds {
+        rows = next_row(rows, *dimension, rest)?;
+        rest = rest_after(rest, 1);
+    }
+    if rest.is_empty() { Some(rows) } else { None }
+}
+
+fn is_same_name(a: &[u8], b: &[u8]) -> bool
+    ensures { result ≡ is_same_word a.now b.now }
+{
+    a.eq_ignore_ascii_case(b)
+}
+
+/// The first declaration of a name behind what ends here.
+#[tactic(auto, using(crate::proofs::Kept::kept_named))]
+fn named_behind<'d>(decls: &'d [Declaration], name: &[u8], start: u64) -> Option<Placed<'d>>
+    requires { start ≤ 2 ^ 60 }
+    ensures { option_map seen result ≡ capped_placed (named_behind start decls.now name.now) }
+{
+    let mut end = start;
+    for d in decls {
+        let extent = extent_of(&d.ty);
+        if is_same_name(d.name.as_slice(), name) {
+            let place = place_behind(end, extent);
+            return Some(Placed { place, ty: &d.ty });
+        }
+        end = end_behind(end, extent);
+    }
+    None
+}
+
+/// One element of an array that begins here.
+#[tactic(auto, using(crate::proofs::Kept::kept_element))]
+fn element_at<'d>(
+    place: u64,
+    bounds: &[(i64, i64)],
+    ty: &'d DeclType,
+    indices: &[i64],
+) -> Option<Placed<'d>>
+    ensures { option_map seen result ≡ capped_placed (element_at place bounds.now ty.now indices.now) }
+{
+    let before = elements_before(bounds, indices)?;
+    let place = sum(place, product(before, extent_of(ty).bits));
+    Some(Placed { place, ty })
+}
+
+/// One step further from a type at a place.
+#[tactic(auto, using(crate::proofs::Equations::step_equations))]
+fn stepped<'d>(at: Placed<'d>, step: &PathStep) -> Option<Placed<'d>>
+    requires { at.place ≤ 2 ^ 60 }
+    ensures { option_map seen result ≡ capped_placed (stepped at.entry.place at.entry.ty.now step.now) }
+{
+    match at.ty {
+        DeclType::Elementary(_) => None,
+        DeclType::DateAndTime => None,
+        DeclType::Array(bounds, element) => match step {
+            PathStep::Name(_) => None,
+            PathStep::Index(indices) => element_at(
+                at.place,
+                bounds.as_slice(),
+                element.get(),
+                indices.as_slice(),
+            ),
+        },
+        DeclType::Struct(parts) => match step {
+            PathStep::Name(name) => named_behind(parts.as_slice(), name.as_slice(), at.place),
+            PathStep::Index(_) => None,
+        },
+    }
+}
+
+/// Further by a path.
+#[tactic(auto, using(crate::proofs::Kept::kept_walked))]
+fn walked<'d>(start: Placed<'d>, path: &[PathStep]) -> Option<Placed<'d>>
+    requires { start.place ≤ 2 ^ 60 }
+    ensures { option_map seen result ≡ capped_placed (walked path.now (seen start.entry)) }
+{
+    let mut at = start;
+    for step in path {
+        at = stepped(at, step)?;
+    }
+    Some(at)
+}
+
+fn component_at(at: Placed<'_>) -> Component
+    ensures { result ≡ component_at (seen at.entry) }
+{
+    let place = at.place.min(LAST_BIT);
+    Component {
+        byte: (place / 8) as u32,
+        bit: (place % 8) as u8,
+        kind: elementary(at.ty),
+    }
+}
+
+/// The component that a path names; `None` exactly where it names nothing that is declared. Takes no memory.
+/// A place past the byte 4,294,967,295 is kept as the last bit of that, which no declarations within a limit
+/// have.
+pub fn component(decls: &[Declaration], path: &[PathStep]) -> Option<Component>
+    ensures { result ≡ component_in (decls.now ∷ []) path.now }
+{
+    let [first, ..] = path else {
+        return None;
+    };
+    match first {
+        PathStep::Index(_) => None,
+        PathStep::Name(name) => {
+            let start = named_behind(decls, name.as_slice(), 0)?;
+            let at = walked(start, rest_after(path, 1))?;
+            Some(component_at(at))
+        }
+    }
+}

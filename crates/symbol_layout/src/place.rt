@@ -1,0 +1,9 @@
+//! Types at their places.
+use stl_tree::DeclType;
+
+/// A type at its place, in bits.
+#[derive(Clone, Copy)]
+pub struct Placed<'d> {
+    pub place: u64,
+    pub ty: &'d DeclType,
+}
