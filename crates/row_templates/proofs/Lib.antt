@@ -1,6 +1,8 @@
 pub mod Alike
 pub mod DoesRow
 pub mod Example
+pub mod FetchBounds
+pub mod Fetching
 pub mod Locals
 pub mod MemoryRows
 pub mod Numbers
@@ -10,4 +12,5 @@ pub mod RegisterRows
 pub mod Sizes
 pub mod Stages
 pub mod Truths
+pub mod TwoParts
 pub mod Typing

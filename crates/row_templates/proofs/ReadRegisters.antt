@@ -50,6 +50,7 @@ module _ (P : Reg → Type 0) where
 
   pub operand_reads : (o : Operand) (w : Width) → Reads (expr.Read (variable_of o w))
   operand_reads (operand.Direct a byte x) w = subst (EachRegister P) (sym (reads_of_read (variable_of (operand.Direct a byte x) w))) tt
+  operand_reads (operand.Opened n byte x) w = subst (EachRegister P) (sym (reads_of_read (variable_of (operand.Opened n byte x) w))) tt
 
   pub bit_reads : (o : Operand) → Reads (expr.Read (bit_of o))
   bit_reads o = operand_reads o width.Bit

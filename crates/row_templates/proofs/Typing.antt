@@ -139,6 +139,10 @@ module _ (sight : Sight) where
   operand_typed (operand.Direct a byte x) width.Byte h = rw (h.0, no_bit x h.1) refl
   operand_typed (operand.Direct a byte x) width.Word h = rw (h.0, no_bit x h.1) refl
   operand_typed (operand.Direct a byte x) width.Dword h = rw (h.0, no_bit x h.1) refl
+  operand_typed (operand.Opened n byte x) width.Bit h = rw (h.1, le-leb x 7 (ltb-false 7 x h.2)) refl
+  operand_typed (operand.Opened n byte x) width.Byte h = rw (h.1, no_bit x h.2) refl
+  operand_typed (operand.Opened n byte x) width.Word h = rw (h.1, no_bit x h.2) refl
+  operand_typed (operand.Opened n byte x) width.Dword h = rw (h.1, no_bit x h.2) refl
 
   -- Operators and functions
 

@@ -2,6 +2,7 @@
 ghost use Rattle.std.specs.Prelude.{◌≡◌, ◌++◌, IfOk, OnOk};
 ghost use Rattle.row_templates.specs.Builders.{and_of, binary_of, bit_of, cleared, constant_of, convert_of, literal_of, local_of, not_of, or_of, read_of, select_of, set_local_of, set_of, shift_of, unary_of, variable_of, xor_of, with_low_of};
 
+use memory_areas::AreaName;
 use s7_base::{Boxed, List, NoMemory, Reg, Width};
 use st_tree::{BinaryOp, Expr, ShiftOp, StType, Stmt, UnaryOp, Var};
 use std::alloc::Global;
@@ -102,8 +103,10 @@ pub fn shift(alloc: Global, op: ShiftOp, operand: Expr, count: Expr) -> Result<E
 pub fn variable(operand: &Operand, width: Width) -> Var
     ensures { result ≡ variable_of operand.now width }
 {
-    let Operand::Direct(area, byte, bit) = *operand;
-    Var::Direct(area, byte, bit, width)
+    match *operand {
+        Operand::Direct(area, byte, bit) => Var::Direct(area, byte, bit, width),
+        Operand::Opened(_, byte, bit) => Var::Direct(AreaName::Db, byte, bit, width),
+    }
 }
 
 /// The bit of an operand, as a variable.

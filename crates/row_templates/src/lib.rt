@@ -9,5 +9,7 @@ pub use builders::{
     and, binary, bit, constant, convert, literal, local, not, or, push_cleared, read, select, set,
     set_local, shift, unary, variable, with_low, xor,
 };
+pub use fetch::{fetched, may_fault, push_fetch, push_opened, types_fetched};
 
 mod builders;
+mod fetch;
