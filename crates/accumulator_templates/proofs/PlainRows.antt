@@ -43,7 +43,7 @@ use Rattle.accumulator_templates.specs.Sums.{add_dword_of, add_word_of, dec_of, 
 use Rattle.row_templates.specs.Builders.{constant_of, convert_of, read_of, set_of, variable_of}
 use Rattle.row_templates.specs.Fetching.{fetched_of}
 use Rattle.row_templates.proofs.FetchBounds.{fetch_plain, fetched_is, opened_plain}
-use Rattle.row_templates.proofs.Typing.{AreTyped, IsOf, IsPlainBody, assigned, binary_is, constant_is, convert_is, first_typed, literal_is, local_is, local_plain, more, operand_typed, read_is, register_is, select_is, set_plain, shift_is, unary_is}
+use Rattle.row_templates.proofs.Typing.{AreTyped, IsOf, IsPlainBody, assigned, binary_is, constant_is, convert_is, first_typed, literal_is, local_is, local_plain, more, operand_typed, register_is, select_is, set_plain, shift_is, unary_is}
 
 -- constants of their types
 

@@ -10,11 +10,7 @@ use std::alloc::Global;
 use stl_tree::OpenArg;
 
 /// `OPN`, of the number in this register.
-pub fn push_block_open(
-    steps: &mut List<Stmt>,
-    register: Reg,
-    arg: OpenArg,
-) -> Result<(), NoMemory>
+pub fn push_block_open(steps: &mut List<Stmt>, register: Reg, arg: OpenArg) -> Result<(), NoMemory>
     ensures { OnOk result (steps.new ≡ steps.old ++ block_open_of register arg) }
 {
     let OpenArg::Number(number) = arg;

@@ -3,7 +3,9 @@ ghost use Rattle.std.specs.Prelude.{◌≡◌, ◌++◌, IfOk, OnOk};
 ghost use Rattle.accumulator_templates.specs.Moves.{before_load, exchange_of, flag_from_of, load_of, loaded_value, pop_of, push_of, status_load_of, status_store_of, status_value, taken_of, transfer_of, types_of_exchange, types_of_load, with_flag_of};
 
 use crate::parts::{any_bit, bits_where, cut, dword, extended};
-use row_templates::{fetched, local, or, push_fetch, push_opened, read, set, set_local, types_fetched, variable};
+use row_templates::{
+    fetched, local, or, push_fetch, push_opened, read, set, set_local, types_fetched, variable,
+};
 use s7_base::{List, NoMemory, Reg, Width};
 use st_tree::{Expr, StType, Stmt};
 use std::alloc::Global;
