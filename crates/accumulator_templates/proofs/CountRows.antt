@@ -1,7 +1,9 @@
 -- The statements of each instruction are assignments, and few, and so are the nodes of their expressions.
-use Rattle.std.proofs.Common.{◌≡◌, ℕ, ◌≤◌, pos, Bool, true, false, if◌then◌else◌, List, [], ◌∷◌, length, Option, Some, None, refl, arith}
+use Rattle.std.proofs.Common.{◌≡◌, ℕ, ◌≤◌, pos, Bool, true, false, if◌then◌else◌, List, [], ◌∷◌, ◌++◌, length, Option, Some, None, refl, arith}
 use Rattle.std.specs.Prelude.{ℤ}
 use Rattle.std.specs.Ordering.{int_eq}
+use Rattle.std.proofs.lemmas.List.{length-append}
+use Rattle.s7_base.specs.declared.register.Reg.{Reg}
 use Rattle.s7_base.specs.declared.register.Reg.TheVariants as reg
 use Rattle.s7_base.specs.declared.word.Width.{Width}
 use Rattle.s7_base.specs.declared.word.Width.TheVariants as width
@@ -10,17 +12,23 @@ use Rattle.stl_tree.specs.declared.accumulator.LogicRow.{LogicRow}
 use Rattle.stl_tree.specs.declared.accumulator.LogicRow.TheVariants as row
 use Rattle.stl_tree.specs.declared.program.LoadArg.{LoadArg}
 use Rattle.stl_tree.specs.declared.program.LoadArg.TheVariants as arg
+use Rattle.stl_tree.specs.declared.program.OpenArg.{OpenArg}
+use Rattle.stl_tree.specs.declared.program.OpenArg.TheVariants as open_arg
 use Rattle.stl_tree.specs.declared.program.Operand.{Operand}
 use Rattle.st_tree.specs.declared.expr.Expr.{Expr}
 use Rattle.st_tree.specs.declared.program.Stmt.{Stmt}
 use Rattle.accumulator_templates.specs.Conversions.{cad_of, caw_of, invd_of, invi_of, itd_of}
+use Rattle.accumulator_templates.specs.DataBlocks.{block_exchange_of, block_open_of, number_load_of}
 use Rattle.accumulator_templates.specs.Logic.{computed_of, fixed_of, logic_of}
-use Rattle.accumulator_templates.specs.Moves.{exchange_of, load_of, pop_of, push_of, status_load_of, status_store_of, transfer_of}
+use Rattle.accumulator_templates.specs.Moves.{exchange_of, load_of, pop_of, push_of, status_load_of, status_store_of, taken_of, transfer_of}
+use Rattle.accumulator_templates.specs.Parts.{extended_of}
 use Rattle.accumulator_templates.specs.Sums.{add_dword_of, add_word_of, dec_of, inc_of, unless_zero}
 use Rattle.row_templates.specs.Assignments.{AreAssignments}
 use Rattle.row_templates.specs.Builders.{set_of}
-use Rattle.row_templates.specs.Nodes.{nodes_in}
-use Rattle.row_templates.proofs.Sizes.{counts, of_nothing}
+use Rattle.row_templates.specs.Fetching.{fetch_of, fetched_of, opened_of}
+use Rattle.row_templates.specs.Nodes.{nodes, nodes_in}
+use Rattle.row_templates.proofs.FetchBounds.{assigns_in_parts, fetch_assigns, fetch_length, fetch_nodes, fetched_nodes, opened_assigns, opened_length, opened_nodes}
+use Rattle.row_templates.proofs.Sizes.{counts, of_append, of_nothing}
 
 -- at most eleven statements with at most 91 nodes, each an assignment
 pub record AreFew (body : List Stmt) : Type 0 where
@@ -33,18 +41,45 @@ counted body statements nodes a e f h k = record { assignments = a; statements =
 
 -- Loading, storing and moving
 
-pub load_few : (a : LoadArg) → AreFew (load_of a)
-load_few (arg.At o width.Bit) = counted (load_of (arg.At o width.Bit)) 2 5 tt refl (simp counts) (omega arith) (omega arith)
-load_few (arg.At o width.Byte) = counted (load_of (arg.At o width.Byte)) 2 3 tt refl (simp counts) (omega arith) (omega arith)
-load_few (arg.At o width.Word) = counted (load_of (arg.At o width.Word)) 2 3 tt refl (simp counts) (omega arith) (omega arith)
-load_few (arg.At o width.Dword) = counted (load_of (arg.At o width.Dword)) 2 2 tt refl (simp counts) (omega arith) (omega arith)
-load_few (arg.Constant c) = counted (load_of (arg.Constant c)) 2 2 tt refl (simp counts) (omega arith) (omega arith)
+-- statements behind those that open or fetch an operand
+behind_few : (before body : List Stmt) (statements nodes : ℕ) → AreAssignments before → length before ≤ 2 → nodes_in before ≤ 2
+    → AreAssignments body → length body ≡ statements → nodes_in body ≡ nodes → statements ≤ 9 → nodes ≤ 89 → AreFew (before ++ body)
+behind_few before body statements nodes a short low b e f h k =
+    record {
+      assignments = assigns_in_parts before body a b;
+      statements = omega (arith, length-append before body);
+      nodes = omega (arith, of_append before body);
+    }
+
+-- L of an operand, by the expression as which it is read
+fetched_few : (first : ℕ) (o : Operand) (w : Width) (e : Expr) → nodes e ≡ 1 → AreFew (fetch_of first o w ++ taken_of (extended_of w e))
+fetched_few first o width.Bit e one =
+    behind_few (fetch_of first o width.Bit) (taken_of (extended_of width.Bit e)) 2 5 (fetch_assigns first o width.Bit) (fetch_length first o width.Bit)
+    (fetch_nodes first o width.Bit) tt refl (simp (counts, one)) (omega arith) (omega arith)
+fetched_few first o width.Byte e one =
+    behind_few (fetch_of first o width.Byte) (taken_of (extended_of width.Byte e)) 2 3 (fetch_assigns first o width.Byte) (fetch_length first o width.Byte)
+    (fetch_nodes first o width.Byte) tt refl (simp (counts, one)) (omega arith) (omega arith)
+fetched_few first o width.Word e one =
+    behind_few (fetch_of first o width.Word) (taken_of (extended_of width.Word e)) 2 3 (fetch_assigns first o width.Word) (fetch_length first o width.Word)
+    (fetch_nodes first o width.Word) tt refl (simp (counts, one)) (omega arith) (omega arith)
+fetched_few first o width.Dword e one =
+    behind_few (fetch_of first o width.Dword) (taken_of (extended_of width.Dword e)) 2 2 (fetch_assigns first o width.Dword) (fetch_length first o width.Dword)
+    (fetch_nodes first o width.Dword) tt refl (simp (counts, one)) (omega arith) (omega arith)
+
+pub load_few : (first : ℕ) (a : LoadArg) → AreFew (load_of first a)
+load_few first (arg.At o w) = fetched_few first o w (fetched_of first o w) (fetched_nodes first o w)
+load_few first (arg.Constant c) = counted (load_of first (arg.Constant c)) 2 2 tt refl (simp counts) (omega arith) (omega arith)
+
+-- T of an operand, by its last statement
+opened_few : (o : Operand) (x : Stmt) (n : ℕ) → AreAssignments (x ∷ []) → nodes_in (x ∷ []) ≡ n → n ≤ 89 → AreFew (opened_of o ++ (x ∷ []))
+opened_few o x n a e h =
+    behind_few (opened_of o) (x ∷ []) 1 n (opened_assigns o) (omega (arith, opened_length o)) (omega (arith, opened_nodes o)) a refl e (omega arith) h
 
 pub transfer_few : (o : Operand) (w : Width) → AreFew (transfer_of o w)
-transfer_few o width.Bit = counted (transfer_of o width.Bit) 1 5 tt refl (simp counts) (omega arith) (omega arith)
-transfer_few o width.Byte = counted (transfer_of o width.Byte) 1 2 tt refl (simp counts) (omega arith) (omega arith)
-transfer_few o width.Word = counted (transfer_of o width.Word) 1 2 tt refl (simp counts) (omega arith) (omega arith)
-transfer_few o width.Dword = counted (transfer_of o width.Dword) 1 1 tt refl (simp counts) (omega arith) (omega arith)
+transfer_few o width.Bit = opened_few o _ 5 tt (simp counts) (omega arith)
+transfer_few o width.Byte = opened_few o _ 2 tt (simp counts) (omega arith)
+transfer_few o width.Word = opened_few o _ 2 tt (simp counts) (omega arith)
+transfer_few o width.Dword = opened_few o _ 1 tt (simp counts) (omega arith)
 
 pub status_load_few : AreFew status_load_of
 status_load_few = counted status_load_of 2 30 tt refl (simp counts) (omega arith) (omega arith)
@@ -60,6 +95,17 @@ push_few = counted push_of 1 1 tt refl (simp counts) (omega arith) (omega arith)
 
 pub pop_few : AreFew pop_of
 pop_few = counted pop_of 1 1 tt refl (simp counts) (omega arith) (omega arith)
+
+-- Numbers of data blocks
+
+pub block_open_few : (r : Reg) (d : OpenArg) → AreFew (block_open_of r d)
+block_open_few r (open_arg.Number n) = counted (block_open_of r (open_arg.Number n)) 1 1 tt refl (simp counts) (omega arith) (omega arith)
+
+pub block_exchange_few : (first : ℕ) → AreFew (block_exchange_of first)
+block_exchange_few first = counted (block_exchange_of first) 3 3 tt refl (simp counts) (omega arith) (omega arith)
+
+pub number_load_few : (r : Reg) → AreFew (number_load_of r)
+number_load_few r = counted (number_load_of r) 2 3 tt refl (simp counts) (omega arith) (omega arith)
 
 -- Constants
 

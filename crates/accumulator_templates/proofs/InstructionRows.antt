@@ -4,7 +4,7 @@ use Rattle.std.specs.Prelude.{ℤ, pos}
 use Rattle.std.specs.Ordering.{int_eq}
 use Rattle.s7_base.specs.declared.register.Reg.TheVariants as reg
 use Rattle.s7_base.specs.declared.word.Width.{Width}
-use Rattle.stl_tree.specs.Accepted.{HasOperand}
+use Rattle.stl_tree.specs.Accepted.{HasOperand, IsOpenArg}
 use Rattle.stl_tree.specs.Instructions.{effect_of}
 use Rattle.stl_tree.specs.Now.{Activation, Now, next}
 use Rattle.stl_tree.specs.Reads.{is_fixed}
@@ -15,6 +15,8 @@ use Rattle.stl_tree.specs.declared.program.LoadArg.{LoadArg}
 use Rattle.stl_tree.specs.declared.program.LoadArg.TheVariants as arg
 use Rattle.stl_tree.specs.declared.program.Op.{Op}
 use Rattle.stl_tree.specs.declared.program.Op.TheVariants as op
+use Rattle.stl_tree.specs.declared.program.OpenArg.{OpenArg}
+use Rattle.stl_tree.specs.declared.program.OpenArg.TheVariants as open_arg
 use Rattle.stl_tree.specs.declared.program.Operand.{Operand}
 use Rattle.st_tree.specs.Meaning.{Calls, body_meaning}
 use Rattle.st_tree.specs.State.{State}
@@ -22,10 +24,12 @@ use Rattle.st_tree.specs.declared.expr.Expr.{Expr}
 use Rattle.st_tree.specs.declared.program.Located.{Located}
 use Rattle.st_tree.specs.declared.program.Stmt.{Stmt}
 use Rattle.accumulator_templates.specs.Conversions.{cad_of, caw_of, invd_of, invi_of, itd_of}
+use Rattle.accumulator_templates.specs.DataBlocks.{block_exchange_of, block_open_of, number_load_of, types_of_block_exchange}
 use Rattle.accumulator_templates.specs.Logic.{computed_of, fixed_of, logic_of, type_of_row, types_of_logic}
-use Rattle.accumulator_templates.specs.Moves.{exchange_of, load_of, pop_of, push_of, status_load_of, status_store_of, transfer_of, types_of_exchange}
+use Rattle.accumulator_templates.specs.Moves.{exchange_of, load_of, pop_of, push_of, status_load_of, status_store_of, transfer_of, types_of_exchange, types_of_load}
 use Rattle.accumulator_templates.specs.Sums.{add_dword_of, add_word_of, dec_of, inc_of, unless_zero}
 use Rattle.accumulator_templates.proofs.ConversionRows.{cad_row, caw_row, invd_row, invi_row, itd_row}
+use Rattle.accumulator_templates.proofs.DataBlockRows.{block_exchange_row, db_number_row, di_number_row, open_db_row, open_di_row}
 use Rattle.accumulator_templates.proofs.LoadRows.{load_does as place_loaded}
 use Rattle.accumulator_templates.proofs.LogicRows.{logic_row}
 use Rattle.accumulator_templates.proofs.MoveRows.{constant_row, exchange_row, pop_row, push_row}
@@ -77,12 +81,29 @@ module _ (g : List Located) (calls : Calls) (units : ℕ) (acts : List Activatio
       → DoesRow (body_meaning g calls body units s) units used acts s now.memory (next (record now { registers = after }))
   does body after row h = row_does g s used calls units body acts now after related row h
 
-  pub load_does : (a : LoadArg) → HasOperand (op.Load a) → used ≤ room → Do (load_of a) (op.Load a)
-  load_does (arg.At o w) h few = place_loaded g acts now s related calls units used o w
-  load_does (arg.Constant c) h few = does (load_of (arg.Constant c)) _ (constant_row g s used r sta range c h) (omega arith)
+  pub load_does : (a : LoadArg) → HasOperand (op.Load a) → used + length (types_of_load a) ≤ room → Do (load_of used a) (op.Load a)
+  load_does (arg.At o w) h few = place_loaded g acts now s related calls units used o w h.1 few
+  load_does (arg.Constant c) h few = does (load_of used (arg.Constant c)) _ (constant_row g s used r sta range c h) (omega arith)
 
-  pub transfer_does : (o : Operand) (w : Width) → Do (transfer_of o w) (op.Transfer o w)
-  transfer_does o w = place_written g acts now s related calls units used o w
+  pub transfer_does : (o : Operand) (w : Width) → HasOperand (op.Transfer o w) → Do (transfer_of o w) (op.Transfer o w)
+  transfer_does o w h = place_written g acts now s related calls units used o w h.1
+
+  pub open_db_does : (d : OpenArg) → IsOpenArg d → used ≤ room → Do (block_open_of reg.DbNo d) (op.OpenDb d)
+  open_db_does (open_arg.Number n) h few =
+      let most : n ≤ 65535 = h.1 in does (block_open_of reg.DbNo (open_arg.Number n)) _ (open_db_row g s used r sta range n (omega arith)) (omega arith)
+
+  pub open_di_does : (d : OpenArg) → IsOpenArg d → used ≤ room → Do (block_open_of reg.DiNo d) (op.OpenDi d)
+  open_di_does (open_arg.Number n) h few =
+      let most : n ≤ 65535 = h.1 in does (block_open_of reg.DiNo (open_arg.Number n)) _ (open_di_row g s used r sta range n (omega arith)) (omega arith)
+
+  pub block_exchange_does : used + length types_of_block_exchange ≤ room → Do (block_exchange_of used) op.ExchangeDb
+  block_exchange_does few = does (block_exchange_of used) _ (block_exchange_row g s used r sta range) (omega arith)
+
+  pub db_number_load_does : used ≤ room → Do (number_load_of reg.DbNo) op.LoadDbNo
+  db_number_load_does few = does (number_load_of reg.DbNo) _ (db_number_row g s used r sta range) (omega arith)
+
+  pub di_number_load_does : used ≤ room → Do (number_load_of reg.DiNo) op.LoadDiNo
+  di_number_load_does few = does (number_load_of reg.DiNo) _ (di_number_row g s used r sta range) (omega arith)
 
   pub status_load_does : used ≤ room → Do status_load_of op.LoadStw
   status_load_does few = does status_load_of _ (status_load_row g s used r sta range) (omega arith)

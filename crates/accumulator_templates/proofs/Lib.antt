@@ -3,6 +3,7 @@ pub mod Worths
 pub mod AccumulatorRows
 pub mod MoveRows
 pub mod SumRows
+pub mod DataBlockRows
 pub mod ConversionRows
 pub mod LogicRows
 pub mod StatusRows

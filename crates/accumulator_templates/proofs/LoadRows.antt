@@ -1,5 +1,5 @@
--- L of a place does its row.
-use Rattle.std.proofs.Common.{◌≡◌, ℕ, ◌%◌, ◌^◌, ◌<◌, pos, Bool, true, false, List, [], ◌∷◌, Result, Ok, Err, refl, ap, ◌∙◌, arith}
+-- L of an operand does its row.
+use Rattle.std.proofs.Common.{◌≡◌, ℕ, ◌+◌, ◌%◌, ◌^◌, ◌<◌, ◌≤◌, pos, Bool, true, false, List, [], ◌∷◌, length, Result, Ok, Err, refl, ap, ◌∙◌, arith}
 use Rattle.std.specs.Prelude.{ℤ}
 use Rattle.std.specs.Int.{from_bool}
 use Rattle.memory_areas.specs.Access.{and_then, read_bit, read_byte, read_dword, read_word}
@@ -9,19 +9,18 @@ use Rattle.s7_base.specs.declared.outcome.Fault.{Fault}
 use Rattle.s7_base.specs.declared.register.Reg.TheVariants as reg
 use Rattle.s7_base.specs.declared.word.Width.{Width}
 use Rattle.s7_base.specs.declared.word.Width.TheVariants as width
+use Rattle.stl_tree.specs.Accepted.{IsOperand}
 use Rattle.stl_tree.specs.Accumulators.{accu_pushed, bits_wide, loaded, read_number}
-use Rattle.stl_tree.specs.Instructions.{loaded_from}
-use Rattle.stl_tree.specs.Now.{Activation, Now, next}
+use Rattle.stl_tree.specs.Instructions.{loaded_from, on_registers}
+use Rattle.stl_tree.specs.Now.{Activation, Now, with_value}
 use Rattle.stl_tree.specs.declared.program.LoadArg.TheVariants as arg
 use Rattle.stl_tree.specs.declared.program.Operand.{Operand}
-use Rattle.stl_tree.specs.declared.program.Operand.TheVariants as operand
 use Rattle.st_tree.specs.Meaning.{Calls, body_meaning}
 use Rattle.st_tree.specs.Operators.{converted}
 use Rattle.st_tree.specs.State.{State, read_place, with_register}
 use Rattle.st_tree.specs.Value.{value}
 use Rattle.st_tree.specs.Values.{flag, type_of_width, typed}
 use Rattle.st_tree.specs.declared.expr.Expr.{Expr}
-use Rattle.st_tree.specs.declared.expr.Expr.TheVariants as expr
 use Rattle.st_tree.specs.declared.expr.StType.{StType}
 use Rattle.st_tree.specs.declared.expr.StType.TheVariants as type
 use Rattle.st_tree.specs.declared.expr.Var.TheVariants as var
@@ -32,10 +31,13 @@ use Rattle.accumulator_templates.specs.Moves.{load_of, taken_of}
 use Rattle.accumulator_templates.specs.Parts.{bits_where_of, extended_of}
 use Rattle.accumulator_templates.proofs.ReadNumbers.{number_fits}
 use Rattle.accumulator_templates.proofs.Worths.{dword}
-use Rattle.row_templates.specs.Builders.{convert_of, read_of, set_of, variable_of}
-use Rattle.row_templates.proofs.Alike.{AreAlike, AreInRange, IsKept, Related, keep_registers, place_now}
+use Rattle.row_templates.specs.Builders.{convert_of, read_of, set_of}
+use Rattle.row_templates.specs.Fetching.{fetched_of, types_fetched}
+use Rattle.row_templates.proofs.Alike.{AreAlike, AreInRange, IsKept, Related, keep_registers}
 use Rattle.row_templates.proofs.DoesRow.{DoesRow, Leads, Stops}
-use Rattle.row_templates.proofs.MemoryRows.{by_value, place_read}
+use Rattle.row_templates.proofs.Fetching.{fetched_row, number_shown, number_value}
+use Rattle.row_templates.proofs.Locals.{own_of}
+use Rattle.row_templates.proofs.MemoryRows.{by_value}
 
 -- What is read, extended to a DWORD
 
@@ -141,32 +143,34 @@ module _ (g : List Located) (acts : List Activation) (now : Now) (s : State) (re
           memory = related.memory;
         }
 
-  -- L of a place; each area holds bytes, so that what is read has its width
-  pub load_does : (calls : Calls) (units used : ℕ) (o : Operand) (w : Width)
-      → DoesRow (body_meaning g calls (load_of (arg.At o w)) units s) units used acts s now.memory (loaded_from (arg.At o w) now)
-  load_does calls units used (operand.Direct a byte x) w =
-      by_value (body_meaning g calls (load_of (arg.At o w)) units s) units used acts s now.memory
-      (λ (v : ℕ). next (record now { registers = loaded v now.registers })) (read_number w place now.memory)
-      (λ v found. loads calls units used e v (wide w v (fits v found)) (worth ∙ ap (λ (r : Result ℕ Fault). and_then r (λ n. Ok (dword n))) found))
-      (λ f found. load_stops calls units used e f (worth ∙ ap (λ (r : Result ℕ Fault). and_then r (λ n. Ok (dword n))) found))
+  -- an expression that is worth what is read at a place; each area holds bytes, so that what is read has its width
+  taken_does : (calls : Calls) (units used : ℕ) (w : Width) (p : Place) (e : Expr) → value g e pushed ≡ read_place (type_of_width w) p now.memory
+      → DoesRow (body_meaning g calls (taken_of (extended_of w e)) units s) units used acts s now.memory
+      (with_value (read_number w p now.memory) (λ (v : ℕ). on_registers (loaded v) now))
+  taken_does calls units used w p e read =
+      by_value (body_meaning g calls (taken_of (extended_of w e)) units s) units used acts s now.memory (λ (v : ℕ). on_registers (loaded v) now) (read_number w p now.memory)
+      (λ v found. loads calls units used (extended_of w e) v (wide w v (fits v found)) (worth ∙ ap (λ (r : Result ℕ Fault). and_then r (λ n. Ok (dword n))) found))
+      (λ f found. load_stops calls units used (extended_of w e) f (worth ∙ ap (λ (r : Result ℕ Fault). and_then r (λ n. Ok (dword n))) found))
     where
-      o : Operand
-      o = operand.Direct a byte x
+      fits : IsBelow (2 ^ bits_wide w) (read_number w p now.memory)
+      fits v found = number_fits w p now.memory v related.bytes found
 
-      place : Place
-      place = place_now a byte x now
-
-      e : Expr
-      e = extended_of w (expr.Read (variable_of o w))
-
-      fits : IsBelow (2 ^ bits_wide w) (read_number w place now.memory)
-      fits v found = number_fits w place now.memory v related.bytes found
-
-      worth : value g e pushed ≡ and_then (read_number w place now.memory) (λ n. Ok (dword n))
-      worth = read_worth g pushed (expr.Read (variable_of o w)) w place now.memory fits (place_read g acts pushed_now pushed pushed_related a byte x w)
+      worth : value g (extended_of w e) pushed ≡ and_then (read_number w p now.memory) (λ n. Ok (dword n))
+      worth = read_worth g pushed e w p now.memory fits read
 
       wide : (u : Width) (v : ℕ) → v < 2 ^ bits_wide u → v < 2 ^ 32
       wide width.Bit v h = omega arith
       wide width.Byte v h = omega arith
       wide width.Word v h = omega arith
       wide width.Dword v h = omega arith
+
+-- L of an operand, which is fetched before ACCU1 moves to ACCU2
+pub load_does : (g : List Located) (acts : List Activation) (now : Now) (s : State) → Related acts now s → (calls : Calls) (units used : ℕ) (o : Operand) (w : Width) → IsOperand w o
+    → used + length (types_fetched o w) ≤ length (own_of s.activations)
+    → DoesRow (body_meaning g calls (load_of used (arg.At o w)) units s) units used acts s now.memory (loaded_from (arg.At o w) now)
+load_does g acts now s related calls units used o w lies room =
+    fetched_row g calls units acts now s related used o w lies (read_number w) (number_value w) (number_shown w)
+    (λ (p : Place) (after : Now) (v : ℕ). on_registers (loaded v) after) (taken_of (extended_of w (fetched_of used o w))) room
+    (λ f is t done.
+    taken_does g acts f.after t done.related calls units (used + length (types_fetched o w)) w f.place (fetched_of used o w)
+    (done.worth (pushed g acts f.after t done.related) refl refl refl refl))

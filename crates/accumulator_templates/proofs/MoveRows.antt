@@ -41,5 +41,5 @@ module _ (g : List Located) (s : State) (used : ℕ) (r : RegisterValues) (sta :
   pop_row = one_set g s used r sta range (read_of reg.Accu2) r.accu2 range.accu2 (simp parts)
 
   -- L of a constant
-  pub constant_row : (c : ℕ) → c < 2 ^ 32 → IsRow g s used (load_of (arg.Constant c)) r (loaded c r) sta
+  pub constant_row : (c : ℕ) → c < 2 ^ 32 → IsRow g s used (load_of used (arg.Constant c)) r (loaded c r) sta
   constant_row c h = taken g s used r sta range (dword_of c) c h (simp parts)

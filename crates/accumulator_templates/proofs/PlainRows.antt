@@ -10,7 +10,7 @@ use Rattle.s7_base.specs.declared.register.Reg.TheVariants as reg
 use Rattle.s7_base.specs.declared.word.Width.{Width}
 use Rattle.s7_base.specs.declared.word.Width.TheVariants as width
 use Rattle.stl_tree.specs.Accumulators.{bits_wide}
-use Rattle.stl_tree.specs.Accepted.{HasOperand, IsOfWidth}
+use Rattle.stl_tree.specs.Accepted.{HasOperand, IsOfWidth, IsOpenArg}
 use Rattle.stl_tree.specs.Reads.{is_fixed}
 use Rattle.stl_tree.specs.WordLogic.{width_of}
 use Rattle.stl_tree.specs.declared.accumulator.LogicRow.{LogicRow}
@@ -18,6 +18,8 @@ use Rattle.stl_tree.specs.declared.accumulator.LogicRow.TheVariants as row
 use Rattle.stl_tree.specs.declared.program.LoadArg.{LoadArg}
 use Rattle.stl_tree.specs.declared.program.LoadArg.TheVariants as arg
 use Rattle.stl_tree.specs.declared.program.Op.TheVariants as op
+use Rattle.stl_tree.specs.declared.program.OpenArg.{OpenArg}
+use Rattle.stl_tree.specs.declared.program.OpenArg.TheVariants as open_arg
 use Rattle.stl_tree.specs.declared.program.Operand.{Operand}
 use Rattle.st_tree.specs.State.{type_of_register}
 use Rattle.st_tree.specs.Values.{type_of_width}
@@ -31,13 +33,17 @@ use Rattle.st_tree.specs.declared.expr.StType.TheVariants as type
 use Rattle.st_tree.specs.declared.expr.UnaryOp.TheVariants as unary
 use Rattle.st_tree.specs.declared.expr.Var.TheVariants as var
 use Rattle.st_tree.specs.declared.program.Stmt.{Stmt}
+use Rattle.st_tree.specs.declared.program.Stmt.TheVariants as stmt
 use Rattle.accumulator_templates.specs.Conversions.{byte_above_of, cad_of, caw_of, invd_of, invi_of, itd_of, low_byte_of, reversed_value}
+use Rattle.accumulator_templates.specs.DataBlocks.{block_exchange_of, block_open_of, number_load_of, types_of_block_exchange}
 use Rattle.accumulator_templates.specs.Logic.{combined_of, computed_of, fixed_of, logic_of, other_of, result_of, type_of_row, types_of_logic, with_pattern_of}
-use Rattle.accumulator_templates.specs.Moves.{exchange_of, load_of, pop_of, push_of, status_load_of, status_store_of, status_value, taken_of, transfer_of, types_of_exchange, with_flag_of}
+use Rattle.accumulator_templates.specs.Moves.{exchange_of, load_of, pop_of, push_of, status_load_of, status_store_of, status_value, taken_of, transfer_of, types_of_exchange, types_of_load, with_flag_of}
 use Rattle.accumulator_templates.specs.Parts.{any_bit_of, bits_where_of, cut_of, dword_of, extended_of, with_byte_of, with_low_of}
 use Rattle.accumulator_templates.specs.Sums.{add_dword_of, add_word_of, dec_of, inc_of, unless_zero}
-use Rattle.row_templates.specs.Builders.{read_of, set_of, variable_of}
-use Rattle.row_templates.proofs.Typing.{AreTyped, IsOf, IsPlainBody, assigned, binary_is, constant_is, convert_is, first_typed, literal_is, local_is, local_plain, more, operand_typed, read_is, register_is, select_is, set_plain, shift_is, unary_is}
+use Rattle.row_templates.specs.Builders.{constant_of, convert_of, read_of, set_of, variable_of}
+use Rattle.row_templates.specs.Fetching.{fetched_of}
+use Rattle.row_templates.proofs.FetchBounds.{fetch_plain, fetched_is, opened_plain}
+use Rattle.row_templates.proofs.Typing.{AreTyped, IsOf, IsPlainBody, assigned, binary_is, constant_is, convert_is, first_typed, literal_is, local_is, local_plain, more, operand_typed, register_is, select_is, set_plain, shift_is, unary_is}
 
 -- constants of their types
 
@@ -157,14 +163,18 @@ module _ (sight : Sight) where
     taken_plain : {n : ℕ} (e : Expr) → n ≤ 32 → IsOf sight type.Dword n e → IsPlainBody sight (taken_of e ++ rest)
     taken_plain e small h = set_plain sight reg.Accu2 (read_of reg.Accu1) (set_of reg.Accu1 e ∷ rest) (omega arith) one_is (one_plain e small h)
 
-    pub load_plain : (a : LoadArg) → HasOperand (op.Load a) → IsPlainBody sight (load_of a ++ rest)
-    load_plain (arg.At o w) h =
-        taken_plain (extended_of w (expr.Read (variable_of o w))) (omega arith) (extended_is w (read_is sight (variable_of o w) (operand_typed sight o w h.1)))
-    load_plain (arg.Constant c) h = taken_plain (dword_of c) (omega arith) (constant_is sight (dword_value c h))
+    pub load_plain : (first : ℕ) (a : LoadArg) → HasOperand (op.Load a) → AreTyped sight first (types_of_load a) → IsPlainBody sight (load_of first a ++ rest)
+    load_plain first (arg.At o w) h own =
+        let e : Expr = fetched_of first o w in
+        fetch_plain sight first o w (taken_of (extended_of w e)) rest h.1 own
+        (taken_plain (extended_of w e) (omega arith) (extended_is w (fetched_is sight first o w h.1 own)))
+    load_plain first (arg.Constant c) h own = taken_plain (dword_of c) (omega arith) (constant_is sight (dword_value c h))
 
     pub transfer_plain : (o : Operand) (w : Width) → HasOperand (op.Transfer o w) → IsPlainBody sight (transfer_of o w ++ rest)
     transfer_plain o w h =
-        assigned sight (variable_of o w) (cut_of w (read_of reg.Accu1)) rest (omega arith) (operand_typed sight o w h.1) (cut_is w one_is) plain
+        let e : Expr = cut_of w (read_of reg.Accu1) in
+        opened_plain sight o w (stmt.Assign (variable_of o w) e ∷ []) rest h.1
+        (assigned sight (variable_of o w) e rest (omega arith) (operand_typed sight o w h.1) (cut_is w one_is) plain)
 
     pub status_load_plain : IsPlainBody sight (status_load_of ++ rest)
     status_load_plain =
@@ -193,6 +203,30 @@ module _ (sight : Sight) where
 
     pub pop_plain : IsPlainBody sight (pop_of ++ rest)
     pop_plain = one_plain (read_of reg.Accu2) (omega arith) two_is
+
+    -- Numbers of data blocks
+
+    pub open_db_plain : (d : OpenArg) → IsOpenArg d → IsPlainBody sight (block_open_of reg.DbNo d ++ rest)
+    open_db_plain (open_arg.Number n) h =
+        let most : n ≤ 65535 = h.1 in
+        set_plain sight reg.DbNo (constant_of type.Word (pos n)) rest (omega arith) (constant_is sight (word_value n (omega arith))) plain
+
+    pub open_di_plain : (d : OpenArg) → IsOpenArg d → IsPlainBody sight (block_open_of reg.DiNo d ++ rest)
+    open_di_plain (open_arg.Number n) h =
+        let most : n ≤ 65535 = h.1 in
+        set_plain sight reg.DiNo (constant_of type.Word (pos n)) rest (omega arith) (constant_is sight (word_value n (omega arith))) plain
+
+    pub block_exchange_plain : (first : ℕ) → AreTyped sight first types_of_block_exchange → IsPlainBody sight (block_exchange_of first ++ rest)
+    block_exchange_plain first own =
+        let local : variable_type sight (var.Local first) ≡ Some type.Word = first_typed sight first type.Word [] own in
+        local_plain sight _ _ _ (omega arith) local (register_is sight reg.DbNo)
+        (set_plain sight reg.DbNo _ _ (omega arith) (register_is sight reg.DiNo) (set_plain sight reg.DiNo _ _ (omega arith) (local_is sight local) plain))
+
+    pub db_number_load_plain : IsPlainBody sight (number_load_of reg.DbNo ++ rest)
+    db_number_load_plain = taken_plain (convert_of type.Word type.Dword (read_of reg.DbNo)) (omega arith) (convert_is sight refl (register_is sight reg.DbNo))
+
+    pub di_number_load_plain : IsPlainBody sight (number_load_of reg.DiNo ++ rest)
+    di_number_load_plain = taken_plain (convert_of type.Word type.Dword (read_of reg.DiNo)) (omega arith) (convert_is sight refl (register_is sight reg.DiNo))
 
     -- Constants; they are ones of the widths that the instructions give them
 

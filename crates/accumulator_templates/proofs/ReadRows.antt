@@ -13,33 +13,57 @@ use Rattle.stl_tree.specs.declared.accumulator.UnaryRow.TheVariants as unary
 use Rattle.stl_tree.specs.declared.program.LoadArg.{LoadArg}
 use Rattle.stl_tree.specs.declared.program.LoadArg.TheVariants as arg
 use Rattle.stl_tree.specs.declared.program.Op.TheVariants as op
+use Rattle.stl_tree.specs.declared.program.OpenArg.{OpenArg}
+use Rattle.stl_tree.specs.declared.program.OpenArg.TheVariants as open_arg
 use Rattle.stl_tree.specs.declared.program.Operand.{Operand}
-use Rattle.stl_tree.specs.declared.program.Operand.TheVariants as operand
 use Rattle.st_tree.specs.declared.expr.Expr.{Expr}
+use Rattle.st_tree.specs.declared.expr.StType.TheVariants as type
+use Rattle.st_tree.specs.declared.expr.Var.{Var}
+use Rattle.st_tree.specs.declared.expr.Var.TheVariants as var
 use Rattle.st_tree.specs.declared.program.Stmt.{Stmt}
+use Rattle.st_tree.specs.declared.program.Stmt.TheVariants as stmt
 use Rattle.accumulator_templates.specs.Conversions.{cad_of, caw_of, invd_of, invi_of, itd_of}
+use Rattle.accumulator_templates.specs.DataBlocks.{block_exchange_of, block_open_of, number_load_of}
 use Rattle.accumulator_templates.specs.Logic.{computed_of, fixed_of, logic_of}
-use Rattle.accumulator_templates.specs.Moves.{exchange_of, load_of, pop_of, push_of, status_load_of, status_store_of, transfer_of}
+use Rattle.accumulator_templates.specs.Moves.{exchange_of, load_of, pop_of, push_of, status_load_of, status_store_of, taken_of, transfer_of}
+use Rattle.accumulator_templates.specs.Parts.{cut_of, dword_of, extended_of}
 use Rattle.accumulator_templates.specs.Sums.{add_dword_of, add_word_of, dec_of, inc_of, unless_zero}
-use Rattle.row_templates.specs.Builders.{set_of}
-use Rattle.row_templates.proofs.ReadRegisters.{AllRead, Has, variables_read}
+use Rattle.row_templates.specs.Builders.{constant_of, convert_of, read_of, set_of, variable_of}
+use Rattle.row_templates.specs.Fetching.{fetched_of}
+use Rattle.row_templates.proofs.FetchBounds.{fetch_reads, fetched_reads, opened_reads}
+use Rattle.row_templates.proofs.ReadRegisters.{AllRead, Has, Reads, assigned_reads, constant_reads, convert_reads, register_reads, select_reads, variables_read}
 
 -- what holds of each register that an instruction reads holds of each that its statements read, before others
 module _ (P : Reg → Type 0) (rest : List Stmt) (k : AllRead P rest) where
   -- Loading, storing and moving
 
-  pub load_reads : (a : LoadArg) → Has P (reads_of (op.Load a)) → AllRead P (load_of a ++ rest)
-  load_reads (arg.At (operand.Direct a byte x) width.Bit) h = simp variables_read (h reg.Accu1 (inl refl), k)
-  load_reads (arg.At (operand.Direct a byte x) width.Byte) h = simp variables_read (h reg.Accu1 (inl refl), k)
-  load_reads (arg.At (operand.Direct a byte x) width.Word) h = simp variables_read (h reg.Accu1 (inl refl), k)
-  load_reads (arg.At (operand.Direct a byte x) width.Dword) h = simp variables_read (h reg.Accu1 (inl refl), k)
-  load_reads (arg.Constant c) h = simp variables_read (h reg.Accu1 (inl refl), k)
+  extended_reads : (w : Width) (e : Expr) → Reads P e → Reads P (extended_of w e)
+  extended_reads width.Bit e h = select_reads P e (dword_of 0) (dword_of 1) h (constant_reads P _ _) (constant_reads P _ _)
+  extended_reads width.Byte e h = convert_reads P type.Byte type.Dword e h
+  extended_reads width.Word e h = convert_reads P type.Word type.Dword e h
+  extended_reads width.Dword e h = h
+
+  taken_reads : (e : Expr) → P reg.Accu1 → Reads P e → AllRead P (taken_of e ++ rest)
+  taken_reads e one h =
+      assigned_reads P (var.Register reg.Accu2) (read_of reg.Accu1) (set_of reg.Accu1 e ∷ rest) (register_reads P reg.Accu1 one)
+      (assigned_reads P (var.Register reg.Accu1) e rest h k)
+
+  pub load_reads : (first : ℕ) (a : LoadArg) → Has P (reads_of (op.Load a)) → AllRead P (load_of first a ++ rest)
+  load_reads first (arg.At o w) h =
+      let e : Expr = fetched_of first o w in
+      fetch_reads P first o w (taken_of (extended_of w e)) rest
+      (taken_reads (extended_of w e) (h reg.Accu1 (inl refl)) (extended_reads w e (fetched_reads P first o w)))
+  load_reads first (arg.Constant c) h = taken_reads (dword_of c) (h reg.Accu1 (inl refl)) (constant_reads P _ _)
+
+  cut_reads : (v : Var) (w : Width) → P reg.Accu1 → AllRead P (stmt.Assign v (cut_of w (read_of reg.Accu1)) ∷ rest)
+  cut_reads v width.Bit one = simp variables_read (one, k)
+  cut_reads v width.Byte one = simp variables_read (one, k)
+  cut_reads v width.Word one = simp variables_read (one, k)
+  cut_reads v width.Dword one = simp variables_read (one, k)
 
   pub transfer_reads : (o : Operand) (w : Width) → Has P (reads_of (op.Transfer o w)) → AllRead P (transfer_of o w ++ rest)
-  transfer_reads o width.Bit h = simp variables_read (h reg.Accu1 (inl refl), k)
-  transfer_reads o width.Byte h = simp variables_read (h reg.Accu1 (inl refl), k)
-  transfer_reads o width.Word h = simp variables_read (h reg.Accu1 (inl refl), k)
-  transfer_reads o width.Dword h = simp variables_read (h reg.Accu1 (inl refl), k)
+  transfer_reads o w h =
+      opened_reads P o (stmt.Assign (variable_of o w) (cut_of w (read_of reg.Accu1)) ∷ []) rest (cut_reads (variable_of o w) w (h reg.Accu1 (inl refl)))
 
   pub status_load_reads : Has P (reads_of op.LoadStw) → AllRead P (status_load_of ++ rest)
   status_load_reads h =
@@ -65,6 +89,20 @@ module _ (P : Reg → Type 0) (rest : List Stmt) (k : AllRead P rest) where
 
   pub pop_reads : Has P (reads_of op.Pop) → AllRead P (pop_of ++ rest)
   pop_reads h = simp variables_read (h reg.Accu2 (inl refl), k)
+
+  -- Numbers of data blocks
+
+  pub block_open_reads : (r : Reg) (d : OpenArg) → AllRead P (block_open_of r d ++ rest)
+  block_open_reads r (open_arg.Number n) = assigned_reads P (var.Register r) (constant_of type.Word (pos n)) rest (constant_reads P type.Word (pos n)) k
+
+  pub block_exchange_reads : (first : ℕ) → Has P (reads_of op.ExchangeDb) → AllRead P (block_exchange_of first ++ rest)
+  block_exchange_reads first h = simp variables_read (h reg.DbNo (inl refl), (h reg.DiNo (inr (inl refl)), k))
+
+  -- L DBNO and L DINO, by the register that holds the number
+  pub number_load_reads : (r : Reg) → Has P (reg.Accu1 ∷ r ∷ []) → AllRead P (number_load_of r ++ rest)
+  number_load_reads r h =
+      taken_reads (convert_of type.Word type.Dword (read_of r)) (h reg.Accu1 (inl refl))
+      (convert_reads P type.Word type.Dword (read_of r) (register_reads P r (h r (inr (inl refl)))))
 
   -- Constants
 

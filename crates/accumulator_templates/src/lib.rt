@@ -1,4 +1,5 @@
-//! The statements of the instructions that load, store and move, add constants, combine bits and convert.
+//! The statements of the instructions that load, store and move, open data blocks, add constants, combine bits
+//! and convert.
 //!
 //! Stands on `row_templates`. Each function puts the statements of one row behind some steps, as the definition of
 //! that row has them. What takes locals is told the number of the first free one, and has a function for their types.
@@ -7,14 +8,18 @@
 #![tactic(auto)]
 
 pub use conversions::{push_cad, push_caw, push_invd, push_invi, push_itd};
+pub use data_blocks::{
+    push_block_exchange, push_block_open, push_number_load, types_of_block_exchange,
+};
 pub use logic::{push_logic, types_of_logic};
 pub use moves::{
     push_exchange, push_load, push_pop, push_push, push_status_load, push_status_store,
-    push_transfer, types_of_exchange,
+    push_transfer, types_of_exchange, types_of_load,
 };
 pub use sums::{push_add_dword, push_add_word, push_dec, push_inc};
 
 mod conversions;
+mod data_blocks;
 mod logic;
 mod moves;
 mod parts;

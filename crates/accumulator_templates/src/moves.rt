@@ -1,34 +1,60 @@
 //! Loading, storing and moving.
 ghost use Rattle.std.specs.Prelude.{◌≡◌, ◌++◌, IfOk, OnOk};
-ghost use Rattle.accumulator_templates.specs.Moves.{exchange_of, flag_from_of, load_of, loaded_value, pop_of, push_of, status_load_of, status_store_of, status_value, taken_of, transfer_of, types_of_exchange, with_flag_of};
+ghost use Rattle.accumulator_templates.specs.Moves.{before_load, exchange_of, flag_from_of, load_of, loaded_value, pop_of, push_of, status_load_of, status_store_of, status_value, taken_of, transfer_of, types_of_exchange, types_of_load, with_flag_of};
 
 use crate::parts::{any_bit, bits_where, cut, dword, extended};
-use row_templates::{local, or, read, set, set_local, variable};
+use row_templates::{
+    fetched, local, or, push_fetch, push_opened, read, set, set_local, types_fetched, variable,
+};
 use s7_base::{List, NoMemory, Reg, Width};
 use st_tree::{Expr, StType, Stmt};
 use std::alloc::Global;
 use stl_tree::{LoadArg, Operand};
 
-/// `L`.
-pub fn push_load(alloc: Global, steps: &mut List<Stmt>, arg: &LoadArg) -> Result<(), NoMemory>
-    ensures { OnOk result (steps.new ≡ steps.old ++ load_of arg.now) }
+/// `L`, whose first local has this number.
+pub fn push_load(
+    alloc: Global,
+    steps: &mut List<Stmt>,
+    first: u32,
+    arg: &LoadArg,
+) -> Result<(), NoMemory>
+    ensures { OnOk result (steps.new ≡ steps.old ++ load_of first arg.now) }
 {
-    push_taken(steps, loaded_value(alloc, arg)?)
+    push_before_load(steps, first, arg)?;
+    push_taken(steps, loaded_value(alloc, first, arg)?)
 }
 
-fn loaded_value(alloc: Global, arg: &LoadArg) -> Result<Expr, NoMemory>
-    ensures { IfOk result (λ value. value ≡ loaded_value arg.now) }
+/// What may fault is read before ACCU1 moves to ACCU2.
+fn push_before_load(steps: &mut List<Stmt>, first: u32, arg: &LoadArg) -> Result<(), NoMemory>
+    ensures { OnOk result (steps.new ≡ steps.old ++ before_load first arg.now) }
 {
     match arg {
-        LoadArg::At(operand, width) => {
-            extended(alloc, *width, Expr::Read(variable(operand, *width)))
-        }
+        LoadArg::At(operand, width) => push_fetch(steps, first, operand, *width),
+        LoadArg::Constant(_) => Ok(()),
+    }
+}
+
+fn loaded_value(alloc: Global, first: u32, arg: &LoadArg) -> Result<Expr, NoMemory>
+    ensures { IfOk result (λ value. value ≡ loaded_value first arg.now) }
+{
+    match arg {
+        LoadArg::At(operand, width) => extended(alloc, *width, fetched(first, operand, *width)),
         LoadArg::Constant(number) => Ok(dword(*number)),
     }
 }
 
+/// The types of the locals of `L`.
+pub fn types_of_load(arg: &LoadArg) -> &'static [StType]
+    ensures { result.now ≡ types_of_load arg.now }
+{
+    match arg {
+        LoadArg::At(operand, width) => types_fetched(operand, *width),
+        LoadArg::Constant(_) => &[],
+    }
+}
+
 /// ACCU1 takes a value, and ACCU2 what stood there.
-fn push_taken(steps: &mut List<Stmt>, value: Expr) -> Result<(), NoMemory>
+pub fn push_taken(steps: &mut List<Stmt>, value: Expr) -> Result<(), NoMemory>
     ensures { OnOk result (steps.new ≡ steps.old ++ taken_of value) }
 {
     steps.push(set(Reg::Accu2, read(Reg::Accu1)))?;
@@ -44,6 +70,7 @@ pub fn push_transfer(
 ) -> Result<(), NoMemory>
     ensures { OnOk result (steps.new ≡ steps.old ++ transfer_of operand.now width) }
 {
+    push_opened(steps, operand)?;
     let pattern = cut(alloc, width, read(Reg::Accu1))?;
     steps.push(Stmt::Assign(variable(operand, width), pattern))
 }
