@@ -15,7 +15,7 @@ use Rattle.stl_statements.specs.Words.{is_joined, is_joined_word, is_sign, is_te
 use Rattle.stl_statements.specs.declared.mnemonic.Prefix.{Prefix}
 use Rattle.stl_statements.specs.declared.mnemonic.Prefix.TheVariants as prefix
 use Rattle.stl_statements.specs.declared.mnemonic.Read.{Read}
-use Rattle.stl_statements.specs.declared.mnemonic.Read.TheVariants.{Fits, LeftOut, No}
+use Rattle.stl_statements.specs.declared.mnemonic.Read.TheVariants.{LeftOut, No}
 use Rattle.stl_statements.specs.declared.number.Bits.{Bits}
 use Rattle.stl_tree.specs.declared.raw.Constant.{Constant}
 
@@ -284,12 +284,3 @@ fits_as other its c = false
 -- a constant fits a width
 abbrev pub fits : Width → Constant → Bool
 fits w c = fits_as w c.width c
-
-abbrev pub fitted : Width → Read Constant → Read Constant
-fitted w No = No
-fitted w (LeftOut kind) = LeftOut kind
-fitted w (Fits c size) = if fits w c then Fits c size else No
-
--- what stands where a constant may stand that fits a width
-abbrev pub fitting_at : Width → List Token → Read Constant
-fitting_at w tokens = fitted w (constant_at tokens)

@@ -1,6 +1,6 @@
 use Rattle.std.proofs.Common.{◌≡◌, ◌≤◌, drop}
 use Rattle.stl_statements.specs.Numbers.{number_from}
-use Rattle.stl_grammar.proofs.number.number_of.Given as goal
+use Rattle.stl_statements.proofs.number.number_of.Given as goal
 
 -- the digits that are left, after the value so far, give the number of all
 abbrev pub invariant-loop-digit : goal.invariant-loop-digit
