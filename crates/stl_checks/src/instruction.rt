@@ -4,7 +4,7 @@ ghost use Rattle.s7_base.specs.SignedNumbers.{pattern};
 ghost use Rattle.stl_tree.specs.Accumulators.{bits_wide, signed_part};
 ghost use Rattle.stl_tree.specs.Arithmetic.{is_comparison};
 ghost use Rattle.stl_rules.specs.Programs.{adding, combining, comparing, is_compared, loading, on_number, op_by, op_of, op_with, shifting, storing, with_number, within};
-ghost use Rattle.stl_statements.specs.Constants.{value_in};
+ghost use Rattle.stl_rules.specs.Programs.{value_in};
 ghost use Rattle.stl_rules.specs.Raw.{given, given_number, given_place, is_block_number, is_placed, operand_at};
 ghost use Rattle.stl_rules.specs.declared.given.Given.TheVariants as behind;
 ghost use Rattle.stl_tree.specs.declared.program.Op.TheVariants as op;

@@ -1,10 +1,9 @@
 -- A constant is read exactly where one of its forms stands.
-use Rattle.std.proofs.Common.{◌≡◌, ℕ, ◌≤◌, ◌==◌, ◌+◌, ◌-◌, ◌*◌, ◌^◌, ◌⊎◌, inl, inr, Bool, true, false, not, cond, ◌&&◌, if◌then◌else◌, List, [], ◌∷◌, length, drop, Option, Some, None, refl, sym, ap, subst, ◌∙◌, arith}
-use Rattle.std.proofs.lemmas.Bool.{and_from, and_left, and_parts, and_right, eqb-true, leb-true, not-true}
+use Rattle.std.proofs.Common.{◌≡◌, ℕ, ◌≤◌, ◌+◌, ◌-◌, ◌*◌, ◌^◌, ◌⊎◌, inl, inr, Bool, true, false, not, cond, ◌&&◌, if◌then◌else◌, List, [], ◌∷◌, length, drop, Option, Some, None, refl, sym, ap, subst, ◌∙◌, arith}
+use Rattle.std.proofs.lemmas.Bool.{and_from, and_left, and_parts, and_right, leb-true, not-true}
 use Rattle.std.proofs.lemmas.Str.Ascii.{lowercase_is}
 use Rattle.std.specs.Char.{to_ascii_lowercase}
-use Rattle.std.specs.Str.{bytes_eq, str_to_ascii_lowercase}
-use Rattle.stl_statements.specs.Statements.{stw_at}
+use Rattle.std.specs.Str.{str_to_ascii_lowercase}
 use Rattle.std.specs.List.{find, list_any}
 use Rattle.std.specs.Prelude.{codes, nat_le, option_and_then, option_map}
 use Rattle.s7_base.specs.declared.reason.Kind.TheVariants as kind
@@ -15,16 +14,15 @@ use Rattle.s7_base.specs.declared.word.Width.TheVariants as width
 use Rattle.stl_tree.specs.Accumulators.{bits_wide}
 use Rattle.stl_statements.specs.ConstantForms.{IsAddend, IsAmong, IsBehind, IsConstant, IsHex, IsNumberIn, IsPair, IsPrefixed, IsSigned, IsUpTo}
 use Rattle.stl_statements.specs.ConstantForms as form
-use Rattle.stl_statements.specs.Constants.{Prefixed, addend_at, addend_prefixes, begins_real, behind_prefix, binary, binary_behind, binary_of, constant, constant_at, fits, fitted, fitting_at, four_behind, four_bytes, half, has_prefix, hex_behind, hex_of, left_out_prefixes, long_behind, marked_at, name_behind, negative, negative_behind, number_at, pair_of, plain, plain_at, prefixed_at, prefixed_by, prefixes, real_at, signed_at, text_at, text_in, text_of, two_behind, two_bytes, up_to, with_byte, zero_behind}
-use Rattle.stl_statements.specs.Numbers.{bits_of, hex_number, number_of}
+use Rattle.stl_statements.specs.Constants.{Prefixed, addend_at, addend_prefixes, begins_real, is_real, behind_prefix, binary, binary_behind, binary_of, constant, constant_at, four_behind, four_bytes, half, has_prefix, hex_behind, hex_of, left_out_prefixes, long_behind, marked_at, name_behind, negative, negative_behind, number_at, pair_of, plain, plain_at, prefixed_at, prefixed_by, prefixes, real_at, signed_at, text_at, text_in, text_of, two_behind, two_bytes, up_to, with_byte, zero_behind}
+use Rattle.stl_statements.specs.Numbers.{are_digits, bits_of, hex_number, number_of}
 use Rattle.stl_statements.specs.Readers.{fitting, number_in, read_as}
 use Rattle.stl_statements.specs.Words.{is_joined, is_joined_word, is_sign, is_text_kind, is_word, is_word_kind}
 use Rattle.stl_statements.specs.declared.mnemonic.Prefix.{Prefix}
 use Rattle.stl_statements.specs.declared.mnemonic.Prefix.TheVariants as prefix
-use Rattle.stl_statements.specs.declared.mnemonic.Read.{Read}
 use Rattle.stl_statements.specs.declared.mnemonic.Read.TheVariants.{Fits, LeftOut, No}
 use Rattle.stl_tree.specs.declared.raw.Constant.{Constant}
-use Rattle.stl_instructions.proofs.Reading.{AllOf, alike, as_all, chained, fitting_all, if_false, if_true, joined_sign, mapped, no_sign, no_word, or_all, or_no, or_this, other_sign, other_word, sign_no_text, taken, text_no_word, weaker, word_no_text}
+use Rattle.stl_instructions.proofs.Reading.{AllOf, alike, as_all, chained, fitting_all, if_false, if_true, joined_sign, mapped, no_sign, no_word, or_all, or_no, or_this, other_sign, other_word, same_letters, sign_no_text, taken, text_no_word, weaker, word_no_text}
 use Rattle.stl_instructions.proofs.Tables.{found_among, found_passes, none_at, none_found}
 
 -- From what is read to its form
@@ -222,15 +220,6 @@ addend_all tokens =
     (weaker (length tokens) (IsPrefixed addend_prefixes tokens) (IsAddend tokens) (λ c is. form.dword tokens c is) (marked_at addend_prefixes tokens) (marked_all addend_prefixes tokens))
     (plain_all tokens (IsAddend tokens) (λ v is. form.word tokens v is))
 
-pub fitted_all : (w : Width) (n : ℕ) (P Q : Constant → Type 0) → ((c : Constant) → P c → fits w c ≡ true → Q c) → (r : Read Constant) → AllOf n P r → AllOf n Q (fitted w r)
-fitted_all w n P Q make No p = tt
-fitted_all w n P Q make (LeftOut kind) p = tt
-fitted_all w n P Q make (Fits c size) p = by (fits w c) refl
-  where
-    by : (b : Bool) → fits w c ≡ b → AllOf n Q (if b then Fits c size else No)
-    by true e = λ all. make c (p all) e
-    by false e = tt
-
 -- a constant with a prefix of those that are left out has no form
 abbrev is_empty : Prefix → Bool
 is_empty prefix.Pointer = true
@@ -378,21 +367,33 @@ prefixed_read table tokens c apart (form.behind t row first hash rest k among wo
 marked_read : (table : List Prefixed) (tokens : List Token) (c : Constant) → are_apart table ≡ true → IsPrefixed table tokens c → marked_at table tokens ≡ Fits c (length tokens)
 marked_read table tokens c apart is = or_this (prefixed_at table tokens) (real_at tokens) c (length tokens) (prefixed_read table tokens c apart is)
 
--- one word, or a sign and a word, or two words: tokens of a number, or of a place, on which no mark is
+-- tokens of a number or of a place, on which no mark is: one word, a sign and a word, two words, or a word that is
+-- no number before a point
 pub data AreUnmarked : List Token → Type 0 where
   one : (word : Token) → is_word_kind word.kind ≡ true → AreUnmarked (word ∷ [])
   signed : (sign word : Token) → is_sign (codes "-") sign ≡ true → is_word_kind word.kind ≡ true → AreUnmarked (sign ∷ word ∷ [])
-  two : (first word : Token) → is_word_kind first.kind ≡ true → is_word_kind word.kind ≡ true → AreUnmarked (first ∷ word ∷ [])
+  two : (first word : Token) (rest : List Token) → is_word_kind first.kind ≡ true → is_word_kind word.kind ≡ true → AreUnmarked (first ∷ word ∷ rest)
+  pointed : (first point : Token) (rest : List Token) → is_word_kind first.kind ≡ true → are_digits first.text ≡ false → is_sign (codes ".") point ≡ true →
+      AreUnmarked (first ∷ point ∷ rest)
 
 no_prefix : (tokens : List Token) → AreUnmarked tokens → (row : Prefixed) → has_prefix tokens row ≡ false
 no_prefix tokens (one word w) row = refl
 no_prefix tokens (signed sign word minus w) row = and_right _ _ (and_left _ _ (no_sign (codes "#") word w))
-no_prefix tokens (two first word f w) row = and_right _ _ (and_left _ _ (no_sign (codes "#") word w))
+no_prefix tokens (two first word rest f w) row = and_right _ _ (and_left _ _ (no_sign (codes "#") word w))
+no_prefix tokens (pointed first point rest f d at) row = and_right _ _ (and_left _ _ (other_sign (codes ".") (codes "#") point at refl))
+
+-- two words are no number before a point, nor is a word that is no number
+no_whole : (first point : Token) (rest : List Token) → (is_word_kind first.kind && are_digits first.text && is_joined (codes ".") point) ≡ false → is_real (first ∷ point ∷ rest) ≡ false
+no_whole first point [] h = refl
+no_whole first point (part ∷ rest) h = and_left _ _ (and_left _ _ h)
 
 no_real : (tokens : List Token) → AreUnmarked tokens → begins_real tokens ≡ false
 no_real tokens (one word w) = if_false (is_sign (codes "-") word) _ _ (no_sign (codes "-") word w)
 no_real tokens (signed sign word minus w) = if_true (is_sign (codes "-") sign) _ _ minus ∙ and_right _ _ refl
-no_real tokens (two first word f w) = if_false (is_sign (codes "-") first) _ _ (no_sign (codes "-") first f)
+no_real tokens (two first word rest f w) =
+    if_false (is_sign (codes "-") first) _ _ (no_sign (codes "-") first f) ∙ no_whole first word rest (and_right _ _ (and_left _ _ (no_sign (codes ".") word w)))
+no_real tokens (pointed first point rest f d at) =
+    if_false (is_sign (codes "-") first) _ _ (no_sign (codes "-") first f) ∙ no_whole first point rest (and_left _ _ (and_right _ _ d))
 
 pub no_mark : (table : List Prefixed) (tokens : List Token) → AreUnmarked tokens → marked_at table tokens ≡ No
 no_mark table tokens are =
@@ -405,7 +406,8 @@ no_text first rest h = ap (fitting 1) (if_false (is_text_kind first.kind) _ None
 pub unmarked_no_text : (tokens : List Token) → AreUnmarked tokens → text_at tokens ≡ No
 unmarked_no_text tokens (one word w) = no_text word [] (word_no_text word w)
 unmarked_no_text tokens (signed sign word minus w) = no_text sign (word ∷ []) (sign_no_text (codes "-") sign minus)
-unmarked_no_text tokens (two first word f w) = no_text first (word ∷ []) (word_no_text first f)
+unmarked_no_text tokens (two first word rest f w) = no_text first (word ∷ rest) (word_no_text first f)
+unmarked_no_text tokens (pointed first point rest f d at) = no_text first (point ∷ rest) (word_no_text first f)
 
 signed_unmarked : (w : Width) (tokens : List Token) (v : ℕ) → IsSigned w tokens v → AreUnmarked tokens
 signed_unmarked w tokens v (form.positive u word n is) = one word is.kind
@@ -447,44 +449,52 @@ pub number_at_read : (most : ℕ) (tokens : List Token) (n : ℕ) → IsUpTo mos
 number_at_read most tokens n is =
     or_no (marked_at left_out_prefixes tokens) _ (no_mark left_out_prefixes tokens (up_to_unmarked most tokens n is)) ∙ ap (read_as plain) (up_to_read most tokens n is)
 
-pub fitting_read : (w : Width) (tokens : List Token) (c : Constant) → IsConstant tokens c → fits w c ≡ true → fitting_at w tokens ≡ Fits c (length tokens)
-fitting_read w tokens c is fit = ap (fitted w) (constant_read tokens c is) ∙ if_true (fits w c) _ No fit
+-- no constant begins with a word of another operand
 
--- no constant is the status word
+-- the first token is this word
+abbrev pub word_is : List ℕ → List Token → Bool
+word_is word [] = false
+word_is word (first ∷ rest) = is_word word first
 
--- a number begins with a digit, which is no letter
-digit_no_stw : (most : ℕ) (text : List ℕ) (n : ℕ) → number_of most text ≡ Some n → is_same_word text (codes "STW") ≡ false
-digit_no_stw most [] n e = absurd cc
-digit_no_stw most (c ∷ cs) n e =
-    let t = taken (is_between 48 57 c && nat_le (0 * 10 + (c - 48)) most) _ n e in
-    let p = and_parts (is_between 48 57 c) _ t.0 in
-    let q = and_parts (nat_le 48 c) (nat_le c 57) p.0 in
-    let low : c ≤ 57 = leb-true c 57 q.1 in
-    let same : to_ascii_lowercase c ≡ c = (lowercase_is c).1 (omega (arith, low)) in
-    ap (λ (d : ℕ). bytes_eq (d ∷ str_to_ascii_lowercase cs) (codes "stw")) same ∙ other c low
+-- the first byte comes behind the digits
+abbrev pub starts_late : List ℕ → Bool
+starts_late [] = false
+starts_late (c ∷ cs) = nat_le 58 c
+
+-- a word that begins with a letter, and is no prefix
+pub record IsNoConstant (word : List ℕ) : Type 0 where
+  pub letter : starts_late (str_to_ascii_lowercase word) ≡ true
+  pub other : list_any (λ (r : Prefixed). is_same_word word r.word) prefixes ≡ false
+
+-- a number begins with a digit
+digit_no_word : (most : ℕ) (text : List ℕ) (n : ℕ) (word : List ℕ) → number_of most text ≡ Some n → starts_late (str_to_ascii_lowercase word) ≡ true → is_same_word text word ≡ false
+digit_no_word most [] n word e letter = absurd cc
+digit_no_word most (c ∷ cs) n word e letter = by (is_same_word (c ∷ cs) word) refl
   where
-    other : (c : ℕ) → c ≤ 57 → bytes_eq (c ∷ str_to_ascii_lowercase cs) (codes "stw") ≡ false
-    other c low = and_left _ _ (by (c == 115) refl)
-      where
-        by : (b : Bool) → (c == 115) ≡ b → b ≡ false
-        by true e = let same : c ≡ 115 = eqb-true c 115 e in absurd (omega (arith, low, same))
-        by false e = refl
+    by : (b : Bool) → is_same_word (c ∷ cs) word ≡ b → b ≡ false
+    by true s =
+        let t = taken (is_between 48 57 c && nat_le (0 * 10 + (c - 48)) most) _ n e in
+        let p = and_parts (is_between 48 57 c) _ t.0 in
+        let q = and_parts (nat_le 48 c) (nat_le c 57) p.0 in
+        let low : c ≤ 57 = leb-true c 57 q.1 in
+        let same : to_ascii_lowercase c ≡ c = (lowercase_is c).1 (omega (arith, low)) in
+        let late : nat_le 58 (to_ascii_lowercase c) ≡ true = ap starts_late (same_letters (c ∷ cs) word s) ∙ letter in
+        let high : 58 ≤ c = leb-true 58 c (ap (λ (d : ℕ). nat_le 58 d) (sym same) ∙ late) in
+        absurd (omega (arith, low, high))
+    by false s = refl
 
-is_no_stw : (first : Token) (rest : List Token) → is_word (codes "STW") first ≡ false → stw_at (first ∷ rest) ≡ No
-is_no_stw first rest h = if_false (is_word (codes "STW") first) _ No h
+signed_no_word : (w : Width) (tokens : List Token) (v : ℕ) (word : List ℕ) → IsSigned w tokens v → starts_late (str_to_ascii_lowercase word) ≡ true → word_is word tokens ≡ false
+signed_no_word w tokens v word (form.positive u first n is) letter = and_right _ _ (digit_no_word (half u - 1) first.text n word is.number letter)
+signed_no_word w tokens v word (form.minus u sign first n minus glued is) letter = and_left _ _ (no_word (codes "-") sign minus)
 
-signed_no_stw : (w : Width) (tokens : List Token) (v : ℕ) → IsSigned w tokens v → stw_at tokens ≡ No
-signed_no_stw w tokens v (form.positive u word n is) = is_no_stw word [] (and_right _ _ (digit_no_stw (half u - 1) word.text n is.number))
-signed_no_stw w tokens v (form.minus u sign word n minus glued is) = is_no_stw sign (word ∷ []) (and_left _ _ (no_word (codes "-") sign minus))
-
-pub constant_no_stw : (tokens : List Token) (c : Constant) → IsConstant tokens c → stw_at tokens ≡ No
-constant_no_stw tokens c (form.number ts v is) = signed_no_stw width.Word ts v is
-constant_no_stw tokens c (form.prefixed ts k is) = by ts k is
+pub constant_no_word : (tokens : List Token) (c : Constant) (word : List ℕ) → IsConstant tokens c → IsNoConstant word → word_is word tokens ≡ false
+constant_no_word tokens c word (form.number ts v is) none = signed_no_word width.Word ts v word is none.letter
+constant_no_word tokens c word (form.prefixed ts k is) none = by ts k is none.other
   where
-    by : (ts : List Token) (k : Constant) → IsPrefixed prefixes ts k → stw_at ts ≡ No
-    by ts k (form.behind t row first hash rest m among word joined is) =
-        is_no_stw first (hash ∷ rest) (other_word row.word (codes "STW") first word (none_at (λ (r : Prefixed). is_same_word (codes "STW") r.word) t row among refl))
-constant_no_stw tokens c (form.text token k kind is) = is_no_stw token [] (and_left _ _ (text_no_word token kind))
+    by : (ts : List Token) (k : Constant) → IsPrefixed prefixes ts k → list_any (λ (r : Prefixed). is_same_word word r.word) prefixes ≡ false → word_is word ts ≡ false
+    by ts k (form.behind t row first hash rest m among there joined is) other =
+        other_word row.word word first there (none_at (λ (r : Prefixed). is_same_word word r.word) t row among other)
+constant_no_word tokens c word (form.text token k kind is) none = and_left _ _ (text_no_word token kind)
 
 -- a form is made of some tokens
 

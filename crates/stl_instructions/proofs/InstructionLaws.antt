@@ -1,11 +1,10 @@
 -- An instruction is read exactly where one of its forms stands.
-use Rattle.std.proofs.Common.{◌≡◌, ℕ, ◌⊎◌, inl, inr, Bool, true, false, cond, ◌&&◌, ◌==◌, if◌then◌else◌, List, [], ◌∷◌, length, take, drop, Option, Some, None, Result, Ok, Err, refl, sym, ap, subst, ◌∙◌, arith}
-use Rattle.std.proofs.lemmas.Bool.{and_from, and_parts, eqb-true, or_left}
+use Rattle.std.proofs.Common.{◌≡◌, ℕ, ◌⊎◌, inl, inr, Bool, true, false, cond, ◌&&◌, ◌==◌, if◌then◌else◌, List, [], ◌∷◌, ◌++◌, length, drop, Option, Some, None, Result, Ok, Err, refl, sym, ap, subst, ◌∙◌, arith}
+use Rattle.std.proofs.lemmas.Bool.{and_from, and_left, and_parts, and_right, eqb-true, or_left}
 use Rattle.std.proofs.lemmas.Bool.Decides.{nat_tests}
-use Rattle.std.proofs.lemmas.Str.Ascii.{lowercase-uppercase}
-use Rattle.std.specs.Char.{to_ascii_lowercase, to_ascii_uppercase}
+use Rattle.std.proofs.lemmas.List.{append-nil}
 use Rattle.std.specs.List.{find}
-use Rattle.std.specs.Prelude.{codes, ◌||◌}
+use Rattle.std.specs.Prelude.{codes, ◌||◌, option_map}
 use Rattle.std.specs.Str.{bytes_eq, str_to_ascii_lowercase}
 use Rattle.memory_areas.specs.declared.place.AreaName.{AreaName}
 use Rattle.s7_base.specs.Tokens.{is_same_word}
@@ -14,16 +13,17 @@ use Rattle.s7_base.specs.declared.reason.Line.{Line}
 use Rattle.s7_base.specs.declared.reason.Reason.{Reason}
 use Rattle.s7_base.specs.declared.reason.Reason.TheVariants.{Unsupported}
 use Rattle.s7_base.specs.declared.token.Token.{Token}
-use Rattle.s7_base.specs.declared.word.Width.{Width}
 use Rattle.status_word.specs.declared.test.Test.{Test}
 use Rattle.status_word.specs.declared.test.Test.TheVariants as test
 use Rattle.stl_statements.specs.ConstantForms.{IsAddend, IsConstant, IsUpTo}
-use Rattle.stl_statements.specs.Constants.{addend_at, constant_at, fitting_at, number_at, plain}
-use Rattle.stl_statements.specs.InstructionForms.{IsBit, together, apart, IsStatusOperand, flag, compared, IsPlace, IsOperand, IsInstruction, instruction, InstructionsHaveForms}
+use Rattle.stl_statements.specs.Constants.{addend_at, constant_at, number_at, plain}
+use Rattle.stl_statements.specs.InstructionForms.{IsStatusOperand, flag, compared, IsOperand, IsInstruction, instruction, InstructionsHaveForms}
 use Rattle.stl_statements.specs.InstructionForms as form
 use Rattle.stl_statements.specs.Mnemonics.{Row, goes_on, mnemonic_at}
-use Rattle.stl_statements.specs.Readers.{read_as}
-use Rattle.stl_statements.specs.Statements.{area_of, asked_by, begins_with_label, bit_operand, checked_at, first_of, instr_with, instruction_of, is_asked, left_out_at, length_at, loaded_at, name_of, nothing_at, on_line, operand_by, operand_of, or_nothing, place_operand, second_of, shape_of, size_with, statement, status_at, stored_at, stw_at, tests, timers_and_counters, with_mnemonic, with_operand}
+use Rattle.stl_statements.specs.PlaceForms.{IsNumbered, IsPlace}
+use Rattle.stl_statements.specs.Places.{Numbered, numbered_at, opened_area}
+use Rattle.stl_statements.specs.Readers.{fitting, read_as}
+use Rattle.stl_statements.specs.Statements.{asked_by, begins_with_label, block_number_at, checked_at, first_of, instr_with, instruction_of, is_asked, left_out_at, length_at, loaded_at, name_of, nothing_at, on_line, opened_at, opening, operand_by, operand_of, or_nothing, place_operand, second_of, shape_of, size_with, statement, status_at, stored_at, stw_at, tests, timers_and_counters, with_mnemonic, with_operand}
 use Rattle.stl_statements.specs.Words.{is_sign, is_sign_kind, is_spelled, is_word, is_word_kind}
 use Rattle.stl_statements.specs.declared.mnemonic.Read.{Read}
 use Rattle.stl_statements.specs.declared.mnemonic.Read.TheVariants.{Fits, LeftOut, No}
@@ -31,13 +31,17 @@ use Rattle.stl_statements.specs.declared.mnemonic.Shape.{Shape}
 use Rattle.stl_statements.specs.declared.mnemonic.Shape.TheVariants as shape
 use Rattle.stl_tree.specs.declared.raw.Constant.{Constant as Literal}
 use Rattle.stl_tree.specs.declared.raw.RawInstr.{RawInstr}
+use Rattle.stl_tree.specs.declared.raw.RawName.TheVariants.{Number}
 use Rattle.stl_tree.specs.declared.raw.RawOp.{RawOp}
 use Rattle.stl_tree.specs.declared.raw.RawOperand.{RawOperand}
-use Rattle.stl_tree.specs.declared.raw.RawOperand.TheVariants.{At, Constant, Flag, Missing, Stw}
+use Rattle.stl_tree.specs.declared.raw.RawOperand.TheVariants.{At, Constant, DbNo, DiNo, Flag, Missing, Stw}
 use Rattle.stl_tree.specs.declared.raw.RawPlace.{RawPlace}
-use Rattle.stl_instructions.proofs.ConstantLaws.{addend_all, addend_read, constant_all, constant_no_stw, constant_read, constant_there, fitted_all, fitting_read, number_all, number_at_read, up_to_there}
-use Rattle.stl_instructions.proofs.PlaceLaws.{area_letter, bit_all, bit_read, left_out_all, place_all, place_no_constant, place_no_stw, place_read, AreaLetter}
-use Rattle.stl_instructions.proofs.Reading.{AllOf, as_all, if_false, if_true, or_all, or_no, or_this, same_letters, weaker}
+use Rattle.stl_instructions.proofs.ConstantLaws.{addend_all, addend_read, constant_all, constant_no_word, constant_read, constant_there, number_all, number_at_read, up_to_there, word_is}
+use Rattle.stl_instructions.proofs.Fronts.{FrontOf, and_then_front, and_then_read, front_all, further_read}
+use Rattle.stl_instructions.proofs.PlaceLaws.{IsNumberOf, left_out_all, numbered_front, numbered_read, place_all, place_read}
+use Rattle.stl_instructions.proofs.PlaceTokens.{IsNoPlace, place_no_constant, place_no_text, place_no_word, place_there, text_is}
+use Rattle.stl_instructions.proofs.Reading.{AllOf, as_all, if_false, if_true, or_all, or_no, or_this, other_word, same_letters, weaker}
+use Rattle.stl_instructions.proofs.Tables.{none_found}
 
 -- From what is read to its form
 
@@ -118,12 +122,6 @@ status_all tokens P make = by (find (is_asked tokens) tests) refl
     by None e = tt
     by (Some test) e = λ size. make test (asked_is tokens test (found_asked tokens tests test e) size)
 
-checked_all : (tokens : List Token) → AllOf (length tokens) (IsOperand shape.Checked tokens) (checked_at tokens)
-checked_all tokens =
-    or_all (length tokens) (IsOperand shape.Checked tokens) (status_at tokens) _
-    (status_all tokens (IsOperand shape.Checked tokens) (λ test is. form.status tokens test is))
-    (as_all (length tokens) At (IsBit tokens) (IsOperand shape.Checked tokens) (λ place is. form.checked_bit tokens place is) (bit_operand tokens) (bit_all tokens))
-
 stw_all : (tokens : List Token) (P : List Token → RawOperand → Type 0) → ((word : Token) → is_word (codes "STW") word ≡ true → P (word ∷ []) Stw) → AllOf (length tokens) (P tokens) (stw_at tokens)
 stw_all [] P make = tt
 stw_all (first ∷ rest) P make = by (is_word (codes "STW") first) refl
@@ -147,6 +145,24 @@ length_all n P (first ∷ rest) = by (is_word (codes "DBLG") first || is_word (c
 place_as : (tokens : List Token) (P : RawOperand → Type 0) → ((place : RawPlace) → IsPlace tokens place → P (At place)) → AllOf (length tokens) P (read_as At (place_operand tokens))
 place_as tokens P make = as_all (length tokens) At (IsPlace tokens) P make (place_operand tokens) (place_all tokens)
 
+checked_all : (tokens : List Token) → AllOf (length tokens) (IsOperand shape.Checked tokens) (checked_at tokens)
+checked_all tokens =
+    or_all (length tokens) (IsOperand shape.Checked tokens) (status_at tokens) _
+    (status_all tokens (IsOperand shape.Checked tokens) (λ test is. form.status tokens test is))
+    (place_as tokens (IsOperand shape.Checked tokens) (λ place is. form.checked_place tokens place is))
+
+block_number_all : (tokens : List Token) → AllOf (length tokens) (IsOperand shape.Loaded tokens) (block_number_at tokens)
+block_number_all [] = tt
+block_number_all (first ∷ rest) = by rest (is_word (codes "DBNO") first) (is_word (codes "DINO") first) refl refl
+  where
+    by : (rest : List Token) (db di : Bool) → is_word (codes "DBNO") first ≡ db → is_word (codes "DINO") first ≡ di →
+        AllOf (length (first ∷ rest)) (IsOperand shape.Loaded (first ∷ rest)) (if db then Fits DbNo 1 else if di then Fits DiNo 1 else No)
+    by [] true di db_is di_is = λ size. form.loaded_db first db_is
+    by (next ∷ rest) true di db_is di_is = λ size. absurd (omega (arith, size))
+    by [] false true db_is di_is = λ size. form.loaded_di first di_is
+    by (next ∷ rest) false true db_is di_is = λ size. absurd (omega (arith, size))
+    by rest false false db_is di_is = tt
+
 constant_as : (tokens : List Token) (P : RawOperand → Type 0) (Q : Literal → Type 0) → ((c : Literal) → Q c → P (Constant c)) → (r : Read Literal) → AllOf (length tokens) Q r →
     AllOf (length tokens) P (read_as Constant r)
 constant_as tokens P Q make r h = as_all (length tokens) Constant Q P make r h
@@ -154,21 +170,37 @@ constant_as tokens P Q make r h = as_all (length tokens) Constant Q P make r h
 loaded_all : (tokens : List Token) → AllOf (length tokens) (IsOperand shape.Loaded tokens) (loaded_at tokens)
 loaded_all tokens =
     or_all (length tokens) (IsOperand shape.Loaded tokens) (stw_at tokens) _ (stw_all tokens (IsOperand shape.Loaded) (λ word is. form.loaded_status word is))
+    (or_all (length tokens) (IsOperand shape.Loaded tokens) (block_number_at tokens) _ (block_number_all tokens)
     (or_all (length tokens) (IsOperand shape.Loaded tokens) (read_as Constant (constant_at tokens)) _
     (constant_as tokens (IsOperand shape.Loaded tokens) (IsConstant tokens) (λ c is. form.loaded_constant tokens c is) (constant_at tokens) (constant_all tokens))
     (or_all (length tokens) (IsOperand shape.Loaded tokens) (read_as At (place_operand tokens)) (length_at tokens)
-    (place_as tokens (IsOperand shape.Loaded tokens) (λ place is. form.loaded_place tokens place is)) (length_all (length tokens) (IsOperand shape.Loaded tokens) tokens)))
+    (place_as tokens (IsOperand shape.Loaded tokens) (λ place is. form.loaded_place tokens place is)) (length_all (length tokens) (IsOperand shape.Loaded tokens) tokens))))
 
 stored_all : (tokens : List Token) → AllOf (length tokens) (IsOperand shape.Stored tokens) (stored_at tokens)
 stored_all tokens =
     or_all (length tokens) (IsOperand shape.Stored tokens) (stw_at tokens) _ (stw_all tokens (IsOperand shape.Stored) (λ word is. form.stored_status word is))
     (place_as tokens (IsOperand shape.Stored tokens) (λ place is. form.stored_place tokens place is))
 
-fitting_all : (w : Width) (tokens : List Token) → AllOf (length tokens) (IsOperand (shape.ConstantOrNothing w) tokens) (read_as Constant (fitting_at w tokens))
-fitting_all w tokens =
-    constant_as tokens (IsOperand (shape.ConstantOrNothing w) tokens) (λ c. IsOperand (shape.ConstantOrNothing w) tokens (Constant c)) (λ c is. is) (fitting_at w tokens)
-    (fitted_all w (length tokens) (IsConstant tokens) (λ c. IsOperand (shape.ConstantOrNothing w) tokens (Constant c)) (λ c is fit. form.combined w tokens c is fit) (constant_at tokens)
-    (constant_all tokens))
+opened_all : (tokens : List Token) → AllOf (length tokens) (IsOperand shape.Opened tokens) (opened_at tokens)
+opened_all tokens =
+    front_all tokens (IsOperand shape.Opened) (opened_at tokens)
+    (and_then_front tokens IsNumberOf (IsOperand shape.Opened) (numbered_at tokens)
+    (λ found rest. fitting 0 (option_map (λ name. opening name (Number found.number)) (opened_area found.letters)))
+    (numbered_front tokens) (λ front rest found is. by front rest found is (opened_area found.letters) refl))
+  where
+    by : (front rest : List Token) (found : Numbered) → IsNumberOf front found → (o : Option AreaName) → opened_area found.letters ≡ o →
+        FrontOf rest (λ more operand. IsOperand shape.Opened (front ++ more) operand) (fitting 0 (option_map (λ name. opening name (Number found.number)) o))
+    by front rest found is None e = tt
+    by front rest found is (Some name) e =
+        record {
+          front = [];
+          rest = rest;
+          is = refl;
+          size_is = refl;
+          holds =
+              subst (λ (ts : List Token). IsOperand shape.Opened ts (opening name (Number found.number))) (sym (append-nil front))
+              (form.opened front found.letters found.number name is e);
+        }
 
 number_as : (most : ℕ) (tokens : List Token) (P : RawOperand → Type 0) → ((n : ℕ) → IsUpTo most tokens n → P (Constant (plain n))) → AllOf (length tokens) P (read_as Constant (number_at most tokens))
 number_as most tokens P make =
@@ -177,7 +209,7 @@ number_as most tokens P make =
 -- what was read of all tokens is an operand of the shape
 operand_is : (shape : Shape) (tokens : List Token) → AllOf (length tokens) (IsOperand shape tokens) (operand_by shape tokens)
 operand_is shape.Nothing tokens = nothing_all tokens (IsOperand shape.Nothing) form.nothing
-operand_is shape.Bit tokens = as_all (length tokens) At (IsBit tokens) (IsOperand shape.Bit tokens) (λ place is. form.bit tokens place is) (bit_operand tokens) (bit_all tokens)
+operand_is shape.Bit tokens = place_as tokens (IsOperand shape.Bit tokens) (λ place is. form.bit tokens place is)
 operand_is shape.Checked tokens = checked_all tokens
 operand_is shape.CheckedOrNothing tokens =
     or_nothing_all tokens (IsOperand shape.CheckedOrNothing) (checked_at tokens) form.alone
@@ -189,7 +221,10 @@ operand_is shape.Addend tokens =
     constant_as tokens (IsOperand shape.Addend tokens) (IsAddend tokens) (λ c is. form.addend tokens c is) (addend_at tokens) (addend_all tokens)
 operand_is shape.Loaded tokens = loaded_all tokens
 operand_is shape.Stored tokens = stored_all tokens
-operand_is (shape.ConstantOrNothing w) tokens = or_nothing_all tokens (IsOperand (shape.ConstantOrNothing w)) _ (form.no_constant w) (fitting_all w tokens)
+operand_is shape.ConstantOrNothing tokens =
+    or_nothing_all tokens (IsOperand shape.ConstantOrNothing) (read_as Constant (constant_at tokens)) form.no_constant
+    (constant_as tokens (IsOperand shape.ConstantOrNothing tokens) (IsConstant tokens) (λ c is. form.combined tokens c is) (constant_at tokens) (constant_all tokens))
+operand_is shape.Opened tokens = opened_all tokens
 operand_is shape.TimerOrCounter tokens =
     as_all (length tokens) At (λ place. ⊥) (IsOperand shape.TimerOrCounter tokens) (λ place is. absurd is) (left_out_at timers_and_counters tokens)
     (left_out_all (length tokens) (λ place. ⊥) timers_and_counters tokens)
@@ -299,38 +334,30 @@ status_is tokens test (compared sign zero t zeros s z g) =
     let follows : goes_on (codes "0") (zero ∷ []) ≡ true = and_from _ _ z (or_left zero.glued _ g) in
     ap asked_by (asked_found sign (zero ∷ []) t s (ap (behind (goes_on (codes "0") (zero ∷ []))) zeros ∙ follows)) ∙ ap (λ (second : List ℕ). Fits (Flag t) (size_with second)) zeros
 
--- a bit is no question to the status word, since its first letter is that of an area
+-- a place is no question to the status word
 
-none_in : (c : ℕ) (low : List ℕ) (zero : Bool) → AreaLetter (to_ascii_uppercase c) → found_in true (to_ascii_lowercase c ∷ low) zero ≡ None
-none_in c low zero h = ap (λ (d : ℕ). found_in true (d ∷ low) zero) (sym (lowercase-uppercase c)) ∙ by h
-  where
-    at : (u : ℕ) → found_in true (to_ascii_lowercase u ∷ low) zero ≡ None → to_ascii_uppercase c ≡ u → found_in true (to_ascii_lowercase (to_ascii_uppercase c) ∷ low) zero ≡ None
-    at u e same = ap (λ (d : ℕ). found_in true (to_ascii_lowercase d ∷ low) zero) same ∙ e
+asked_apart : (test : Test) → IsNoPlace (first_of test)
+asked_apart test.Eq = record { other = refl; digits = refl }
+asked_apart test.Ne = record { other = refl; digits = refl }
+asked_apart test.Gt = record { other = refl; digits = refl }
+asked_apart test.Lt = record { other = refl; digits = refl }
+asked_apart test.Ge = record { other = refl; digits = refl }
+asked_apart test.Le = record { other = refl; digits = refl }
+asked_apart test.Uo = record { other = refl; digits = refl }
+asked_apart test.Ov = record { other = refl; digits = refl }
+asked_apart test.Os = record { other = refl; digits = refl }
+asked_apart test.Br = record { other = refl; digits = refl }
 
-    by : AreaLetter (to_ascii_uppercase c) → found_in true (to_ascii_lowercase (to_ascii_uppercase c) ∷ low) zero ≡ None
-    by (inl same) = at 73 refl same
-    by (inr (inl same)) = at 81 refl same
-    by (inr (inr same)) = at 77 refl same
+not_asked : (tokens : List Token) (test : Test) → text_is (first_of test) tokens ≡ false → is_asked tokens test ≡ false
+not_asked [] test h = refl
+not_asked (first ∷ rest) test h = and_left _ _ (and_right _ _ h)
 
-not_asked : (first : Token) (rest : List Token) (name : AreaName) → is_word_kind first.kind ≡ true → area_of (take 1 first.text) ≡ Some name → status_at (first ∷ rest) ≡ No
-not_asked first rest name word area =
-    ap asked_by (as_found first rest ∙ ap (λ (b : Bool). found_in (b || is_sign_kind first.kind) (str_to_ascii_lowercase first.text) (goes_on (codes "0") rest)) word ∙ by first.text area)
-  where
-    by : (text : List ℕ) → area_of (take 1 text) ≡ Some name → found_in true (str_to_ascii_lowercase text) (goes_on (codes "0") rest) ≡ None
-    by [] e = absurd cc
-    by (c ∷ cs) e = none_in c (str_to_ascii_lowercase cs) (goes_on (codes "0") rest) (area_letter (to_ascii_uppercase c) name e)
-
-one_letter : (text : List ℕ) (name : AreaName) → area_of text ≡ Some name → area_of (take 1 text) ≡ Some name
-one_letter [] name e = e
-one_letter (c ∷ []) name e = e
-one_letter (c ∷ d ∷ rest) name e = absurd cc
-
-bit_not_asked : (tokens : List Token) (place : RawPlace) → IsBit tokens place → status_at tokens ≡ No
-bit_not_asked tokens place (together w point bit name y x word area byte number within) = not_asked w (point ∷ bit ∷ []) name word area
-bit_not_asked tokens place (apart w n point bit name y x word area digits byte number within) = not_asked w (n ∷ point ∷ bit ∷ []) name word (one_letter w.text name area)
+place_not_asked : (tokens : List Token) (place : RawPlace) → IsPlace tokens place → status_at tokens ≡ No
+place_not_asked tokens place is =
+    ap asked_by (none_found (is_asked tokens) tests (λ test. not_asked tokens test (place_no_text tokens place (first_of test) is (asked_apart test))))
 
 checked_read : (tokens : List Token) (operand : RawOperand) → IsOperand shape.Checked tokens operand → checked_at tokens ≡ Fits operand (length tokens)
-checked_read tokens operand (form.checked_bit ts place is) = or_no (status_at ts) _ (bit_not_asked ts place is) ∙ ap (read_as At) (bit_read ts place is)
+checked_read tokens operand (form.checked_place ts place is) = or_no (status_at ts) _ (place_not_asked ts place is) ∙ ap (read_as At) (place_read ts place is)
 checked_read tokens operand (form.status ts test is) = or_this (status_at ts) _ (Flag test) (length ts) (status_is ts test is)
 
 -- where something is read, something stands
@@ -339,11 +366,7 @@ nothing_no [] there = absurd (there refl)
 nothing_no (first ∷ rest) there = refl
 
 checked_there : (tokens : List Token) (operand : RawOperand) → IsOperand shape.Checked tokens operand → tokens ≡ [] → ⊥
-checked_there tokens operand (form.checked_bit ts place is) e = by ts place is e
-  where
-    by : (ts : List Token) (place : RawPlace) → IsBit ts place → ts ≡ [] → ⊥
-    by ts place (together w point bit name y x word area byte number within) e = absurd cc
-    by ts place (apart w n point bit name y x word area digits byte number within) e = absurd cc
+checked_there tokens operand (form.checked_place ts place is) e = place_there ts place is e
 checked_there tokens operand (form.status ts test is) e = by ts test is e
   where
     by : (ts : List Token) (test : Test) → IsStatusOperand ts test → ts ≡ [] → ⊥
@@ -357,23 +380,72 @@ or_nothing_read tokens r operand there e = or_no (nothing_at tokens) r (nothing_
 stw_read : (word : Token) → is_word (codes "STW") word ≡ true → stw_at (word ∷ []) ≡ Fits Stw 1
 stw_read word is = if_true (is_word (codes "STW") word) _ No is
 
+-- tokens that begin with none of these words are neither the status word nor the number of a data block
+
+no_stw : (tokens : List Token) → word_is (codes "STW") tokens ≡ false → stw_at tokens ≡ No
+no_stw [] h = refl
+no_stw (first ∷ rest) h = if_false (is_word (codes "STW") first) _ No h
+
+no_block_number : (tokens : List Token) → word_is (codes "DBNO") tokens ≡ false → word_is (codes "DINO") tokens ≡ false → block_number_at tokens ≡ No
+no_block_number [] db di = refl
+no_block_number (first ∷ rest) db di = if_false (is_word (codes "DBNO") first) _ _ db ∙ if_false (is_word (codes "DINO") first) _ No di
+
+constant_no_stw : (tokens : List Token) (c : Literal) → IsConstant tokens c → stw_at tokens ≡ No
+constant_no_stw tokens c is = no_stw tokens (constant_no_word tokens c (codes "STW") is (record { letter = refl; other = refl }))
+
+constant_no_number : (tokens : List Token) (c : Literal) → IsConstant tokens c → block_number_at tokens ≡ No
+constant_no_number tokens c is =
+    no_block_number tokens (constant_no_word tokens c (codes "DBNO") is (record { letter = refl; other = refl }))
+    (constant_no_word tokens c (codes "DINO") is (record { letter = refl; other = refl }))
+
+place_no_stw : (tokens : List Token) (place : RawPlace) → IsPlace tokens place → stw_at tokens ≡ No
+place_no_stw tokens place is = no_stw tokens (place_no_word tokens place (codes "STW") is (record { other = refl; digits = refl }))
+
+place_no_number : (tokens : List Token) (place : RawPlace) → IsPlace tokens place → block_number_at tokens ≡ No
+place_no_number tokens place is =
+    no_block_number tokens (place_no_word tokens place (codes "DBNO") is (record { other = refl; digits = refl }))
+    (place_no_word tokens place (codes "DINO") is (record { other = refl; digits = refl }))
+
+db_read : (word : Token) → is_word (codes "DBNO") word ≡ true → loaded_at (word ∷ []) ≡ Fits DbNo 1
+db_read word is =
+    or_no (stw_at (word ∷ [])) _ (no_stw (word ∷ []) (other_word (codes "DBNO") (codes "STW") word is refl))
+    ∙ or_this (block_number_at (word ∷ [])) _ DbNo 1 (if_true (is_word (codes "DBNO") word) _ _ is)
+
+di_read : (word : Token) → is_word (codes "DINO") word ≡ true → loaded_at (word ∷ []) ≡ Fits DiNo 1
+di_read word is =
+    or_no (stw_at (word ∷ [])) _ (no_stw (word ∷ []) (other_word (codes "DINO") (codes "STW") word is refl))
+    ∙ or_this (block_number_at (word ∷ [])) _ DiNo 1
+    (if_false (is_word (codes "DBNO") word) _ _ (other_word (codes "DINO") (codes "DBNO") word is refl) ∙ if_true (is_word (codes "DINO") word) _ No is)
+
 loaded_constant : (tokens : List Token) (c : Literal) → IsConstant tokens c → loaded_at tokens ≡ Fits (Constant c) (length tokens)
 loaded_constant tokens c is =
-    or_no (stw_at tokens) _ (constant_no_stw tokens c is)
+    or_no (stw_at tokens) _ (constant_no_stw tokens c is) ∙ or_no (block_number_at tokens) _ (constant_no_number tokens c is)
     ∙ or_this (read_as Constant (constant_at tokens)) _ (Constant c) (length tokens) (ap (read_as Constant) (constant_read tokens c is))
 
 loaded_place : (tokens : List Token) (place : RawPlace) → IsPlace tokens place → loaded_at tokens ≡ Fits (At place) (length tokens)
 loaded_place tokens place is =
-    or_no (stw_at tokens) _ (place_no_stw tokens place is) ∙ or_no (read_as Constant (constant_at tokens)) _ (ap (read_as Constant) (place_no_constant tokens place is))
+    or_no (stw_at tokens) _ (place_no_stw tokens place is) ∙ or_no (block_number_at tokens) _ (place_no_number tokens place is)
+    ∙ or_no (read_as Constant (constant_at tokens)) _ (ap (read_as Constant) (place_no_constant tokens place is))
     ∙ or_this (read_as At (place_operand tokens)) _ (At place) (length tokens) (ap (read_as At) (place_read tokens place is))
 
 stored_place : (tokens : List Token) (place : RawPlace) → IsPlace tokens place → stored_at tokens ≡ Fits (At place) (length tokens)
 stored_place tokens place is = or_no (stw_at tokens) _ (place_no_stw tokens place is) ∙ ap (read_as At) (place_read tokens place is)
 
+opened_read : (tokens : List Token) (letters : List ℕ) (n : ℕ) (name : AreaName) → IsNumbered tokens letters n → opened_area letters ≡ Some name →
+    opened_at tokens ≡ Fits (opening name (Number n)) (length tokens)
+opened_read tokens letters n name is area =
+    let operand = opening name (Number n) in
+    let all : opened_at (tokens ++ []) ≡ Fits operand (length (tokens ++ [])) =
+    and_then_read tokens [] (numbered_at (tokens ++ [])) (record { letters = letters; number = n })
+    (λ found rest. fitting 0 (option_map (λ name. opening name (Number found.number)) (opened_area found.letters))) (numbered_read tokens letters n is [])
+    ∙ further_read tokens [] (fitting 0 (option_map (λ name. opening name (Number n)) (opened_area letters))) operand
+    (ap (λ (o : Option AreaName). fitting 0 (option_map (λ name. opening name (Number n)) o)) area) in
+    subst (λ (ts : List Token). opened_at ts ≡ Fits operand (length ts)) (append-nil tokens) all
+
 operand_read : (shape : Shape) (tokens : List Token) (operand : RawOperand) → IsOperand shape tokens operand → operand_by shape tokens ≡ Fits operand (length tokens)
 operand_read shape tokens operand form.nothing = refl
-operand_read shape tokens operand (form.bit ts place is) = ap (read_as At) (bit_read ts place is)
-operand_read shape tokens operand (form.checked_bit ts place is) = checked_read ts (At place) (form.checked_bit ts place is)
+operand_read shape tokens operand (form.bit ts place is) = ap (read_as At) (place_read ts place is)
+operand_read shape tokens operand (form.checked_place ts place is) = checked_read ts (At place) (form.checked_place ts place is)
 operand_read shape tokens operand (form.status ts test is) = checked_read ts (Flag test) (form.status ts test is)
 operand_read shape tokens operand (form.checked ts o is) = or_nothing_read ts (checked_at ts) o (checked_there ts o is) (checked_read ts o is)
 operand_read shape tokens operand form.alone = refl
@@ -383,13 +455,16 @@ operand_read shape tokens operand (form.count most ts n is) =
 operand_read shape tokens operand (form.no_count most) = refl
 operand_read shape tokens operand (form.addend ts c is) = ap (read_as Constant) (addend_read ts c is)
 operand_read shape tokens operand (form.loaded_status word is) = or_this (stw_at (word ∷ [])) _ Stw 1 (stw_read word is)
+operand_read shape tokens operand (form.loaded_db word is) = db_read word is
+operand_read shape tokens operand (form.loaded_di word is) = di_read word is
 operand_read shape tokens operand (form.loaded_constant ts c is) = loaded_constant ts c is
 operand_read shape tokens operand (form.loaded_place ts place is) = loaded_place ts place is
 operand_read shape tokens operand (form.stored_status word is) = or_this (stw_at (word ∷ [])) _ Stw 1 (stw_read word is)
 operand_read shape tokens operand (form.stored_place ts place is) = stored_place ts place is
-operand_read shape tokens operand (form.combined w ts c is fit) =
-    or_nothing_read ts _ (Constant c) (constant_there ts c is) (ap (read_as Constant) (fitting_read w ts c is fit))
-operand_read shape tokens operand (form.no_constant w) = refl
+operand_read shape tokens operand (form.combined ts c is) =
+    or_nothing_read ts (read_as Constant (constant_at ts)) (Constant c) (constant_there ts c is) (ap (read_as Constant) (constant_read ts c is))
+operand_read shape tokens operand form.no_constant = refl
+operand_read shape tokens operand (form.opened ts letters n name is area) = opened_read ts letters n name is area
 
 complete : (tokens : List Token) (instr : RawInstr) → IsInstruction tokens instr → instruction_of tokens ≡ Ok instr
 unfolding instruction_of

@@ -1,6 +1,9 @@
 mod ConstantLaws
+mod Fronts
 mod InstructionLaws
+mod Kept
 mod PlaceLaws
+mod PlaceTokens
 mod Reading
 mod TableLaws
 mod Tables

@@ -1,5 +1,6 @@
 -- Looking something up in a table.
-use Rattle.std.proofs.Common.{◌≡◌, ◌⊎◌, inl, inr, Bool, true, false, cond, ◌&&◌, List, [], ◌∷◌, map, Some, None, refl, sym, ap, ◌∙◌}
+use Rattle.std.proofs.Common.{◌≡◌, ◌⊎◌, inl, inr, Bool, true, false, not, cond, ◌&&◌, List, [], ◌∷◌, map, Some, None, refl, sym, ap, ◌∙◌}
+use Rattle.std.proofs.lemmas.Bool.{and_parts, not-true}
 use Rattle.std.specs.List.{find, list_any}
 use Rattle.std.specs.Prelude.{◌||◌, option_map}
 use Rattle.stl_statements.specs.ConstantForms.{IsAmong}
@@ -82,3 +83,23 @@ none_at test xs x h none = by (test x) refl
     by : (b : Bool) → test x ≡ b → b ≡ false
     by true t = let clash : true ≡ false = sym (any_at test xs x h t) ∙ none in absurd cc
     by false t = refl
+
+-- of items that are apart, the one that passes is found
+
+-- no item of a table clashes with a later one
+abbrev pub are_apart : {X : Type 0} → (X → X → Bool) → List X → Bool
+are_apart clash [] = true
+are_apart clash (x ∷ xs) = not (list_any (clash x) xs) && are_apart clash xs
+
+pub found_apart : {X : Type 0} (test : X → Bool) (clash : X → X → Bool) (table : List X) (x : X) → are_apart clash table ≡ true →
+    ((a b : X) → test a ≡ true → test b ≡ true → clash a b ≡ true) → IsAmong x table → test x ≡ true → find test table ≡ Some x
+found_apart test clash [] x apart both among passes = elim among [ ]
+found_apart test clash (y ∷ ys) x apart both among passes =
+    let p = and_parts (not (list_any (clash y) ys)) (are_apart clash ys) apart in
+    by (test y) refl among (not-true (list_any (clash y) ys) p.0) (λ more. found_apart test clash ys x p.1 both more passes)
+  where
+    by : (b : Bool) → test y ≡ b → (x ≡ y) ⊎ IsAmong x ys → list_any (clash y) ys ≡ false → (IsAmong x ys → find test ys ≡ Some x) → cond b (Some y) (find test ys) ≡ Some x
+    by true t (inl same) none next = ap Some (sym same)
+    by true t (inr more) none next = let clashes : true ≡ false = sym (both y x t passes) ∙ none_at (clash y) ys x more none in absurd cc
+    by false t (inl same) none next = let clashes : true ≡ false = sym passes ∙ ap test same ∙ t in absurd cc
+    by false t (inr more) none next = next more

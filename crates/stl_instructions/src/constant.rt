@@ -2,7 +2,7 @@
 ghost use Rattle.std.specs.Prelude.{◌≡◌, ◌≤◌, ◌<◌, ◌^◌, ◌-◌, IfSome, map, option_map};
 ghost use Rattle.std.specs.List.{find};
 ghost use Rattle.stl_tree.specs.Accumulators.{bits_wide};
-ghost use Rattle.stl_statements.specs.Constants.{addend_at, addend_prefixes, begins_glued, begins_real, behind_prefix, binary, binary_behind, binary_of, constant, constant_at, ends_real, fits, fitting_at, four_behind, four_bytes, half, has_prefix, hex_behind, hex_of, is_exponent, is_fraction, is_real, is_signed_exponent, left_out_prefixes, long_behind, marked_at, name_behind, negative, negative_behind, number_at, pair_of, plain, plain_at, prefixed_at, prefixes, real_at, room_for, signed_at, text_at, text_in, text_of, two_behind, two_bytes, up_to, zero_behind};
+ghost use Rattle.stl_statements.specs.Constants.{addend_at, addend_prefixes, begins_glued, begins_real, behind_prefix, binary, binary_behind, binary_of, constant, constant_at, ends_real, fits, four_behind, four_bytes, half, has_prefix, hex_behind, hex_of, is_exponent, is_fraction, is_real, is_signed_exponent, left_out_prefixes, long_behind, marked_at, name_behind, negative, negative_behind, number_at, pair_of, plain, plain_at, prefixed_at, prefixes, real_at, room_for, signed_at, text_at, text_in, text_of, two_behind, two_bytes, up_to, zero_behind};
 ghost use Rattle.stl_statements.specs.Readers.{fitting, number_in, or_else, read_as};
 ghost use Rattle.stl_statements.specs.declared.mnemonic.Prefix.TheVariants as prefix;
 ghost use Rattle.s7_base.specs.declared.word.Width.TheVariants as width;
@@ -454,7 +454,7 @@ fn is_real(tokens: &[Token]) -> bool
     }
 }
 
-fn begins_glued(tokens: &[Token]) -> bool
+pub fn begins_glued(tokens: &[Token]) -> bool
     ensures { result ≡ begins_glued tokens.now }
 {
     match tokens {
@@ -609,16 +609,5 @@ pub fn fits(width: Width, constant: Constant) -> bool
         (Width::Word | Width::Dword, Width::Byte) => constant.binary,
         (Width::Dword, Width::Word) => constant.binary || constant.signed,
         _ => false,
-    }
-}
-
-/// What stands where a constant may stand that fits a width.
-pub fn fitting_at(width: Width, tokens: &[Token]) -> Read<Constant>
-    ensures { result ≡ fitting_at width tokens.now }
-{
-    match constant_at(tokens) {
-        Read::Fits(constant, size) if fits(width, constant) => Read::Fits(constant, size),
-        Read::LeftOut(kind) => Read::LeftOut(kind),
-        _ => Read::No,
     }
 }

@@ -6,8 +6,9 @@
 
 pub use constant::fits;
 pub use laws::{instructions_have_forms, mnemonics_are_longest};
-pub use number::are_digits;
+pub use number::{are_digits, kept_number};
 pub use operand::{is_in_area, is_numbered, logic_width, most_steps};
+pub use place::place_at;
 pub use statement::{begins_with_label, instruction};
 pub use table::{begins_with_mnemonic, mnemonic_named};
 pub use words::{is_sign, is_word, is_word_kind};
@@ -16,6 +17,7 @@ mod constant;
 mod laws;
 mod number;
 mod operand;
+mod place;
 mod statement;
 mod table;
 mod words;

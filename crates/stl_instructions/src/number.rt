@@ -1,8 +1,8 @@
 //! Numbers, digit by digit.
-ghost use Rattle.std.specs.Prelude.{◌≡◌, ◌≤◌, ◌<◌, IfSome};
+ghost use Rattle.std.specs.Prelude.{◌≡◌, ◌+◌, ◌*◌, ◌-◌, ◌≤◌, ◌<◌, IfSome};
 ghost use Rattle.std.specs.List.{list_all, prefix_len};
 ghost use Rattle.s7_base.specs.Tokens.{is_between};
-ghost use Rattle.stl_statements.specs.Numbers.{are_digits, bits_of, has_bits_at_ends, hex_digit, hex_number, is_bit, with_hex_digit, with_next};
+ghost use Rattle.stl_statements.specs.Numbers.{are_digits, bits_of, has_bits_at_ends, hex_digit, hex_number, is_bit, kept, kept_number, with_hex_digit, with_next, written_from};
 ghost use Rattle.stl_instructions.specs.inner.Bits.{AreBits};
 
 use stl_statements::Bits;
@@ -21,6 +21,36 @@ fn all_digits(word: &[u8]) -> bool
     ensures { result ≡ list_all (λ b. is_between 48 57 b) word.now }
 {
     word.iter().all(|b| b.is_ascii_digit())
+}
+
+/// A number that is kept in 32 bits, with one digit more.
+fn with_digit(before: u32, digit: u8) -> u32
+    ensures { result ≡ kept (before * 10 + (digit - 48)) }
+{
+    before
+        .saturating_mul(10)
+        .saturating_add(u32::from(digit.saturating_sub(b'0')))
+}
+
+fn number_value(digits: &[u8]) -> u32
+    ensures { result ≡ kept (written_from 0 digits.now) }
+{
+    let mut value = 0;
+    for digit in digits {
+        value = with_digit(value, *digit);
+    }
+    value
+}
+
+/// A decimal number of any size; one past the greatest is kept as that one.
+pub fn kept_number(digits: &[u8]) -> Option<u32>
+    ensures { result ≡ kept_number digits.now }
+{
+    if are_digits(digits) {
+        Some(number_value(digits))
+    } else {
+        None
+    }
 }
 
 /// How many digits stand at the front.

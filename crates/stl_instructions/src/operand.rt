@@ -3,25 +3,26 @@ ghost use Rattle.std.specs.Prelude.{◌≡◌, ℕ, ◌&&◌, ◌||◌, nat_le, 
 ghost use Rattle.std.specs.List.{find};
 ghost use Rattle.s7_base.specs.Tokens.{is_same_word};
 ghost use Rattle.memory_areas.specs.Access.{is_unaligned};
-ghost use Rattle.stl_statements.specs.Constants.{addend_at, constant_at, fitting_at, number_at};
+ghost use Rattle.stl_statements.specs.Constants.{addend_at, constant_at, number_at};
 ghost use Rattle.stl_statements.specs.Mnemonics.{goes_on};
-ghost use Rattle.stl_statements.specs.Readers.{fitting, or_else, read_as};
+ghost use Rattle.stl_statements.specs.Readers.{or_else, read_as};
 ghost use Rattle.stl_tree.specs.Shifts.{most_steps};
-ghost use Rattle.stl_statements.specs.Statements.{area_of, area_of_letter, bit_at, bit_operand, bit_of, checked_at, checked_shape, first_of, has_form, in_area, is_asked, is_bit_number, is_in_area, is_named, is_numbered, left_out_at, left_out_forms, length_at, loaded_at, long_at, long_bit, long_place, long_place_at, nothing_at, operand_by, operand_of, or_nothing, place_named, place_operand, second_of, shape_of, short_at, short_bit, short_place, short_place_at, size_with, status_at, stored_at, stw_at, tests, timers_and_counters, width_of, width_of_letter};
+ghost use Rattle.stl_statements.specs.Statements.{block_number_at, checked_at, checked_shape, first_of, has_form, is_asked, is_in_area, is_named, is_numbered, left_out_at, left_out_forms, length_at, loaded_at, nothing_at, opened_at, opening, operand_by, operand_of, or_nothing, place_operand, second_of, shape_of, size_with, status_at, stored_at, stw_at, tests, timers_and_counters};
 ghost use Rattle.stl_statements.specs.Words.{is_spelled};
 ghost use Rattle.stl_tree.specs.WordLogic.{width_of as logic_width};
 ghost use Rattle.stl_tree.specs.declared.raw.RawOperand.TheVariants as operand;
 ghost use Rattle.stl_instructions.specs.inner.Rows.{seen};
 
-use crate::constant::{addend_at, constant_at, fitting, fitting_at, number_at};
+use crate::constant::{addend_at, constant_at, number_at};
 use crate::number::are_digits;
+use crate::place::{numbered_at, opened_area, place_at};
 use crate::table::goes_on;
 use crate::words::{is_sign, is_word, is_word_kind, is_word_or_sign};
 use memory_areas::{AreaName, is_byte_in};
 use s7_base::{Check, Kind, Token, Width, front_of, is_same_word, rest_after};
 use status_word::Test;
-use stl_statements::{Mnemonic, Read, Shape, number_of};
-use stl_tree::{Constant, LogicRow, RawOperand, RawPlace, ShiftRow};
+use stl_statements::{Mnemonic, Read, Shape};
+use stl_tree::{Constant, LogicRow, RawName, RawOperand, RawPlace, ShiftRow};
 
 /// A form that is left out where a place may stand: a word with a number, or with a bracket where it may be
 /// indirect, and its kind.
@@ -76,26 +77,6 @@ static LEFT_OUT_FORMS: [NamedForm; 8] = [
     },
 ];
 
-fn area_of_letter(letter: u8) -> Option<AreaName>
-    ensures { result ≡ area_of_letter letter }
-{
-    match letter {
-        b'I' => Some(AreaName::I),
-        b'Q' => Some(AreaName::Q),
-        b'M' => Some(AreaName::M),
-        _ => None,
-    }
-}
-
-fn area_of(word: &[u8]) -> Option<AreaName>
-    ensures { result ≡ area_of word.now }
-{
-    match word {
-        [letter] => area_of_letter(letter.to_ascii_uppercase()),
-        _ => None,
-    }
-}
-
 /// The place lies in its area, with a bit number that its width has.
 pub fn is_in_area(place: RawPlace) -> bool
     ensures { result ≡ is_in_area place }
@@ -110,144 +91,6 @@ fn most_bit(width: Width) -> u32
     match width {
         Width::Bit => 7,
         Width::Byte | Width::Word | Width::Dword => 0,
-    }
-}
-
-fn in_area(place: RawPlace) -> Option<RawPlace>
-    ensures { result ≡ in_area place }
-{
-    if is_in_area(place) { Some(place) } else { None }
-}
-
-/// A bit by its area, its byte and its number, the byte within the area.
-fn bit_at(area: Option<AreaName>, byte: &[u8], bit: &[u8]) -> Option<RawPlace>
-    ensures { result ≡ bit_at area byte.now bit.now }
-{
-    let area = area?;
-    let byte = number_of(65535, byte)? as u32;
-    let bit = number_of(7, bit)? as u32;
-    in_area(RawPlace {
-        block: None,
-        area,
-        width: Width::Bit,
-        byte,
-        bit,
-    })
-}
-
-/// A point and a number with no blank before either.
-fn is_bit_number(point: &Token, bit: &Token) -> bool
-    ensures { result ≡ is_bit_number point.now bit.now }
-{
-    is_sign(point, ".") && point.glued && is_word_kind(bit) && bit.glued
-}
-
-/// `I0.0`: the area and the byte in one word.
-fn short_bit(place: &Token, point: &Token, bit: &Token) -> Option<RawPlace>
-    ensures { result ≡ short_bit place.now point.now bit.now }
-{
-    if !(is_word_kind(place) && is_bit_number(point, bit)) {
-        return None;
-    }
-    match place.text.as_slice() {
-        [letter, byte @ ..] => bit_at(
-            area_of_letter(letter.to_ascii_uppercase()),
-            byte,
-            bit.text.as_slice(),
-        ),
-        [] => None,
-    }
-}
-
-/// `I 0.0`: the area and the byte in a word each.
-fn long_bit(name: &Token, byte: &Token, point: &Token, bit: &Token) -> Option<RawPlace>
-    ensures { result ≡ long_bit name.now byte.now point.now bit.now }
-{
-    if is_word_kind(name) && is_word_kind(byte) && is_bit_number(point, bit) {
-        bit_at(
-            area_of(name.text.as_slice()),
-            byte.text.as_slice(),
-            bit.text.as_slice(),
-        )
-    } else {
-        None
-    }
-}
-
-fn width_of_letter(letter: u8) -> Option<Width>
-    ensures { result ≡ width_of_letter letter }
-{
-    match letter {
-        b'B' => Some(Width::Byte),
-        b'W' => Some(Width::Word),
-        b'D' => Some(Width::Dword),
-        _ => None,
-    }
-}
-
-fn width_of(word: &[u8]) -> Option<Width>
-    ensures { result ≡ width_of word.now }
-{
-    match word {
-        [letter] => width_of_letter(letter.to_ascii_uppercase()),
-        _ => None,
-    }
-}
-
-/// A byte, a word or a double word of its area, by the letters of its area and its width and by its byte.
-fn place_named(letters: &[u8], byte: &[u8]) -> Option<RawPlace>
-    ensures { result ≡ place_named letters.now byte.now }
-{
-    let area = area_of(front_of(letters, 1))?;
-    let width = width_of(rest_after(letters, 1))?;
-    let byte = number_of(65535, byte)? as u32;
-    in_area(RawPlace {
-        block: None,
-        area,
-        width,
-        byte,
-        bit: 0,
-    })
-}
-
-/// `MB5`: all in one word.
-fn short_place(place: &Token) -> Option<RawPlace>
-    ensures { result ≡ short_place place.now }
-{
-    if is_word_kind(place) {
-        let text = place.text.as_slice();
-        place_named(front_of(text, 2), rest_after(text, 2))
-    } else {
-        None
-    }
-}
-
-/// `MB 5`: the letters and the byte in a word each.
-fn long_place(name: &Token, byte: &Token) -> Option<RawPlace>
-    ensures { result ≡ long_place name.now byte.now }
-{
-    if is_word_kind(name) && is_word_kind(byte) {
-        place_named(name.text.as_slice(), byte.text.as_slice())
-    } else {
-        None
-    }
-}
-
-fn short_at(tokens: &[Token]) -> Read<RawPlace>
-    ensures { result ≡ short_at tokens.now }
-{
-    match tokens {
-        [place, point, bit, ..] => fitting(3, short_bit(place, point, bit)),
-        _ => Read::No,
-    }
-}
-
-fn long_at(tokens: &[Token]) -> Read<RawPlace>
-    ensures { result ≡ long_at tokens.now }
-{
-    match tokens {
-        [name, byte, point, bit, ..] => fitting(4, long_bit(name, byte, point, bit)),
-        _ => Read::No,
     }
 }
 
@@ -320,58 +163,12 @@ fn left_out_at(table: &[NamedForm], tokens: &[Token]) -> Read<RawPlace>
     }
 }
 
-/// What stands where a bit may stand.
-fn bit_operand(tokens: &[Token]) -> Read<RawPlace>
-    ensures { result ≡ bit_operand tokens.now }
-{
-    match short_at(tokens) {
-        Read::No => long_or_left_out(tokens),
-        read => read,
-    }
-}
-
-fn long_or_left_out(tokens: &[Token]) -> Read<RawPlace>
-    ensures { result ≡ or_else (long_at tokens.now) (left_out_at left_out_forms tokens.now) }
-{
-    match long_at(tokens) {
-        Read::No => left_out_at(left_out_forms(), tokens),
-        read => read,
-    }
-}
-
-fn short_place_at(tokens: &[Token]) -> Read<RawPlace>
-    ensures { result ≡ short_place_at tokens.now }
-{
-    match tokens {
-        [place, ..] => fitting(1, short_place(place)),
-        [] => Read::No,
-    }
-}
-
-fn long_place_at(tokens: &[Token]) -> Read<RawPlace>
-    ensures { result ≡ long_place_at tokens.now }
-{
-    match tokens {
-        [name, byte, ..] => fitting(2, long_place(name, byte)),
-        _ => Read::No,
-    }
-}
-
-fn long_place_or_left_out(tokens: &[Token]) -> Read<RawPlace>
-    ensures { result ≡ or_else (long_place_at tokens.now) (left_out_at left_out_forms tokens.now) }
-{
-    match long_place_at(tokens) {
-        Read::No => left_out_at(left_out_forms(), tokens),
-        read => read,
-    }
-}
-
-/// What stands where a byte, a word or a double word may stand.
+/// What stands where a written place may stand.
 fn place_operand(tokens: &[Token]) -> Read<RawPlace>
     ensures { result ≡ place_operand tokens.now }
 {
-    match short_place_at(tokens) {
-        Read::No => long_place_or_left_out(tokens),
+    match place_at(tokens) {
+        Read::No => left_out_at(left_out_forms(), tokens),
         read => read,
     }
 }
@@ -500,6 +297,17 @@ fn stw_at(tokens: &[Token]) -> Read<RawOperand>
     }
 }
 
+/// The number of the data block that is open, or of that of the instance.
+fn block_number_at(tokens: &[Token]) -> Read<RawOperand>
+    ensures { result ≡ block_number_at tokens.now }
+{
+    match tokens {
+        [first, ..] if is_word(first, "DBNO") => Read::Fits(RawOperand::DbNo, 1),
+        [first, ..] if is_word(first, "DINO") => Read::Fits(RawOperand::DiNo, 1),
+        _ => Read::No,
+    }
+}
+
 /// The length of a data block, which is left out.
 fn length_at(tokens: &[Token]) -> Read<RawOperand>
     ensures { result ≡ length_at tokens.now }
@@ -521,12 +329,12 @@ fn nothing_at(tokens: &[Token]) -> Read<RawOperand>
     }
 }
 
-/// A bit, or a question to the status word.
+/// A place, or a question to the status word.
 fn checked_at(tokens: &[Token]) -> Read<RawOperand>
     ensures { result ≡ checked_at tokens.now }
 {
     match status_at(tokens) {
-        Read::No => at_place(bit_operand(tokens)),
+        Read::No => at_place(place_operand(tokens)),
         read => read,
     }
 }
@@ -561,13 +369,49 @@ fn constant_or_place(tokens: &[Token]) -> Read<RawOperand>
     }
 }
 
+fn number_or_other(tokens: &[Token]) -> Read<RawOperand>
+    ensures { result
+        ≡ or_else (block_number_at tokens.now) (or_else (read_as operand.Constant (constant_at tokens.now))
+        (or_else (read_as operand.At (place_operand tokens.now)) (length_at tokens.now))) }
+{
+    match block_number_at(tokens) {
+        Read::No => constant_or_place(tokens),
+        read => read,
+    }
+}
+
 /// What `L` loads.
 fn loaded_at(tokens: &[Token]) -> Read<RawOperand>
     ensures { result ≡ loaded_at tokens.now }
 {
     match stw_at(tokens) {
-        Read::No => constant_or_place(tokens),
+        Read::No => number_or_other(tokens),
         read => read,
+    }
+}
+
+fn opening(area: AreaName, name: RawName) -> RawOperand
+    ensures { result ≡ opening area name }
+{
+    match area {
+        AreaName::Di => RawOperand::OpenDi(name),
+        AreaName::I | AreaName::Q | AreaName::M | AreaName::L | AreaName::Db => {
+            RawOperand::OpenDb(name)
+        }
+    }
+}
+
+/// What `OPN` opens: a data block by its number.
+fn opened_at(tokens: &[Token]) -> Read<RawOperand>
+    ensures { result ≡ opened_at tokens.now }
+{
+    match numbered_at(tokens) {
+        Read::Fits(found, size) => match opened_area(found.letters) {
+            Some(area) => Read::Fits(opening(area, RawName::Number(found.number)), size),
+            None => Read::No,
+        },
+        Read::LeftOut(kind) => Read::LeftOut(kind),
+        Read::No => Read::No,
     }
 }
 
@@ -589,11 +433,11 @@ fn number_or_nothing(most: u8, tokens: &[Token]) -> Read<RawOperand>
     }
 }
 
-fn constant_or_nothing(width: Width, tokens: &[Token]) -> Read<RawOperand>
-    ensures { result ≡ or_nothing tokens.now (read_as operand.Constant (fitting_at width tokens.now)) }
+fn constant_or_nothing(tokens: &[Token]) -> Read<RawOperand>
+    ensures { result ≡ or_nothing tokens.now (read_as operand.Constant (constant_at tokens.now)) }
 {
     match nothing_at(tokens) {
-        Read::No => at_constant(fitting_at(width, tokens)),
+        Read::No => at_constant(constant_at(tokens)),
         read => read,
     }
 }
@@ -604,7 +448,7 @@ fn operand_by(shape: Shape, tokens: &[Token]) -> Read<RawOperand>
 {
     match shape {
         Shape::Nothing => nothing_at(tokens),
-        Shape::Bit => at_place(bit_operand(tokens)),
+        Shape::Bit => at_place(place_operand(tokens)),
         Shape::Checked => checked_at(tokens),
         Shape::CheckedOrNothing => checked_or_nothing(tokens),
         Shape::Number(most) => at_constant(number_at(most, tokens)),
@@ -612,7 +456,8 @@ fn operand_by(shape: Shape, tokens: &[Token]) -> Read<RawOperand>
         Shape::Addend => at_constant(addend_at(tokens)),
         Shape::Loaded => loaded_at(tokens),
         Shape::Stored => stored_at(tokens),
-        Shape::ConstantOrNothing(width) => constant_or_nothing(width, tokens),
+        Shape::ConstantOrNothing => constant_or_nothing(tokens),
+        Shape::Opened => opened_at(tokens),
         Shape::TimerOrCounter => at_place(left_out_at(timers_and_counters(), tokens)),
         Shape::Later => Read::No,
         Shape::LeftOut(kind) => Read::LeftOut(kind),
@@ -666,6 +511,7 @@ fn shape_of(what: Mnemonic) -> Shape
         | Mnemonic::Rrda
         | Mnemonic::Unary(_)
         | Mnemonic::Tak
+        | Mnemonic::ExchangeDb
         | Mnemonic::Push
         | Mnemonic::Pop => Shape::Nothing,
         Mnemonic::Assign
@@ -678,7 +524,8 @@ fn shape_of(what: Mnemonic) -> Shape
         Mnemonic::Plus => Shape::Addend,
         Mnemonic::Inc | Mnemonic::Dec | Mnemonic::Nop => Shape::Number(255),
         Mnemonic::Shift(row) => Shape::NumberOrNothing(most_steps(row)),
-        Mnemonic::Logic(row) => Shape::ConstantOrNothing(logic_width(row)),
+        Mnemonic::Logic(_) => Shape::ConstantOrNothing,
+        Mnemonic::Open => Shape::Opened,
         Mnemonic::TimerOrCounter => Shape::TimerOrCounter,
         Mnemonic::Later => Shape::Later,
         Mnemonic::LeftOut(kind) => Shape::LeftOut(kind),

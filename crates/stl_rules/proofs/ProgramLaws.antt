@@ -16,9 +16,9 @@ use Rattle.s7_base.specs.declared.word.Width.TheVariants as width
 use Rattle.status_word.specs.declared.test.Test.{Test}
 use Rattle.stl_tree.specs.Accepted.{HasOperand, IsBlockNumber, IsBlockOpened, IsComparison, IsNumberWidth, IsOperand}
 use Rattle.stl_tree.specs.Accumulators.{bits_wide, signed_part}
-use Rattle.stl_statements.specs.Constants.{fits, value_in}
+use Rattle.stl_statements.specs.Constants.{fits}
 use Rattle.stl_statements.specs.Mnemonics.{mnemonic_named}
-use Rattle.stl_rules.specs.Programs.{adding, alone, block_name, checked, combining, comparing, instr_of, is_compared, loading, on_bit, on_number, op_by, op_of, op_with, opening, shifting, storing, unchecked, with_number, within}
+use Rattle.stl_rules.specs.Programs.{adding, alone, block_name, checked, combining, comparing, instr_of, is_compared, loading, on_bit, on_number, op_by, op_of, op_with, opening, shifting, storing, unchecked, value_in, with_number, within}
 use Rattle.stl_rules.specs.Raw.{given, given_in, given_number, is_block_number, is_placed, operand_at}
 use Rattle.stl_rules.specs.declared.given.Given.{Given}
 use Rattle.stl_rules.specs.declared.given.Given.TheVariants as behind

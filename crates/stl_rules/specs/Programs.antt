@@ -6,12 +6,13 @@ use Rattle.memory_areas.specs.declared.call.BlockName.{BlockName}
 use Rattle.memory_areas.specs.declared.call.BlockName.TheVariants.{Ob}
 use Rattle.s7_base.specs.declared.check.Check.{Check}
 use Rattle.s7_base.specs.declared.check.Check.TheVariants as check
+use Rattle.s7_base.specs.SignedNumbers.{pattern}
 use Rattle.s7_base.specs.declared.word.Width.{Width}
 use Rattle.s7_base.specs.declared.word.Width.TheVariants as width
 use Rattle.status_word.specs.declared.test.Test.{Test}
 use Rattle.stl_tree.specs.Accumulators.{bits_wide, signed_part}
 use Rattle.stl_tree.specs.Arithmetic.{is_comparison}
-use Rattle.stl_statements.specs.Constants.{fits, value_in}
+use Rattle.stl_statements.specs.Constants.{fits}
 use Rattle.stl_statements.specs.Mnemonics.{mnemonic_named}
 use Rattle.stl_rules.specs.Raw.{given}
 use Rattle.stl_tree.specs.Shifts.{most_steps}
@@ -122,6 +123,11 @@ abbrev pub opening : Given → Option Op
 opening (behind.Db n) = Some (op.OpenDb (open_arg.Number n))
 opening (behind.Di n) = Some (op.OpenDi (open_arg.Number n))
 opening more = None
+
+-- the value of a constant in a width: a plain number in a double word has its sign extended
+abbrev pub value_in : Width → Constant → ℕ
+value_in width.Dword c = if c.signed then pattern 32 (signed_part width.Word c.value) else c.value
+value_in w c = c.value
 
 -- word logic
 abbrev pub combining : LogicRow → Given → Option Op

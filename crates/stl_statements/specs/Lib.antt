@@ -3,6 +3,8 @@ pub mod Constants
 pub mod InstructionForms
 pub mod Mnemonics
 pub mod Numbers
+pub mod PlaceForms
+pub mod Places
 pub mod Readers
 pub mod Statements
 pub mod Words

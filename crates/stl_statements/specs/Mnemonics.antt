@@ -95,8 +95,8 @@ accumulator_rows =
 -- address registers, opening data blocks, what does nothing, jumps, block ends and calls; FR and LC are of the kind of their operand
 abbrev pub control_rows : List Row
 control_rows =
-    ones is.Later
-    (codes "LAR1" ∷ codes "LAR2" ∷ codes "TAR1" ∷ codes "TAR2" ∷ codes "CAR" ∷ codes "OPN" ∷ codes "CDB" ∷ [])
+    ones is.Later (codes "LAR1" ∷ codes "LAR2" ∷ codes "TAR1" ∷ codes "TAR2" ∷ codes "CAR" ∷ [])
+    ++ (one is.Open (codes "OPN") ∷ one is.ExchangeDb (codes "CDB") ∷ [])
     ++ ones is.Nop (codes "NOP" ∷ codes "BLD" ∷ [])
     ++ ones is.Later
     (codes "JU" ∷ codes "JC" ∷ codes "JCN" ∷ codes "JCB" ∷ codes "JNB" ∷ codes "JBI" ∷ codes "JNBI"

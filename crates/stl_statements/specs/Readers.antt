@@ -1,5 +1,5 @@
 -- What is read at the front of tokens, put together of what is read of its parts.
-use Rattle.std.specs.Prelude.{ℕ, if◌then◌else◌, Option, Some, None}
+use Rattle.std.specs.Prelude.{ℕ, ◌+◌, ◌≤◌, if◌then◌else◌, List, drop, Option, Some, None}
 use Rattle.s7_base.specs.declared.token.Token.{Token}
 use Rattle.stl_statements.specs.Numbers.{number_of}
 use Rattle.stl_statements.specs.Words.{is_word_kind}
@@ -22,6 +22,24 @@ abbrev pub read_as : {A B : Type 0} → (A → B) → Read A → Read B
 read_as make No = No
 read_as make (LeftOut kind) = LeftOut kind
 read_as make (Fits a size) = Fits (make a) size
+
+-- what was read behind so many tokens, with these
+abbrev pub further : {A : Type 0} → ℕ → Read A → Read A
+further before No = No
+further before (LeftOut kind) = LeftOut kind
+further before (Fits a size) = Fits a (before + size)
+
+-- what was read, and behind it something that depends on it
+abbrev pub and_then : {A B : Type 0} → List Token → Read A → (A → List Token → Read B) → Read B
+and_then tokens No next = No
+and_then tokens (LeftOut kind) next = LeftOut kind
+and_then tokens (Fits a size) next = further size (next a (drop size tokens))
+
+-- what was read takes so many tokens at most
+abbrev pub IsWithin : {A : Type 0} → ℕ → Read A → Type 0
+IsWithin most No = Unit {0}
+IsWithin most (LeftOut kind) = Unit {0}
+IsWithin most (Fits a size) = size ≤ most
 
 -- a word that is a number of at most so much
 abbrev pub number_in : ℕ → Token → Option ℕ

@@ -1,7 +1,6 @@
 -- The tokens of one statement without its `;`: a mnemonic and its operand. An operand is a form that fits, a
 -- listed form that is left out, whatever follows it, or neither.
-use Rattle.std.specs.Prelude.{ℕ, Bool, true, false, not, ◌==◌, ◌&&◌, ◌||◌, nat_lt, if◌then◌else◌, List, [], ◌∷◌, ◌++◌, length, take, drop, codes, Option, Some, None, option_and_then, Result, Ok, Err}
-use Rattle.std.specs.Char.{to_ascii_uppercase}
+use Rattle.std.specs.Prelude.{ℕ, Bool, true, false, not, ◌==◌, ◌&&◌, ◌||◌, nat_lt, if◌then◌else◌, List, [], ◌∷◌, ◌++◌, length, take, drop, codes, Option, Some, None, option_map, Result, Ok, Err}
 use Rattle.std.specs.List.{find}
 use Rattle.memory_areas.specs.Access.{is_byte_in, is_unaligned}
 use Rattle.memory_areas.specs.declared.place.AreaName.{AreaName}
@@ -17,16 +16,14 @@ use Rattle.s7_base.specs.declared.reason.Reason.TheVariants.{BadStatement, Unsup
 use Rattle.s7_base.specs.declared.reason.Rejection.{Rejection}
 use Rattle.s7_base.specs.declared.reason.Rejection.TheVariants.{Refused}
 use Rattle.s7_base.specs.declared.token.Token.{Token}
-use Rattle.s7_base.specs.declared.word.Width.{Width}
-use Rattle.s7_base.specs.declared.word.Width.TheVariants as width
 use Rattle.status_word.specs.declared.test.Test.{Test}
 use Rattle.status_word.specs.declared.test.Test.TheVariants as test
-use Rattle.stl_statements.specs.Constants.{addend_at, constant_at, fitting_at, number_at}
+use Rattle.stl_statements.specs.Constants.{addend_at, constant_at, number_at}
 use Rattle.stl_statements.specs.Mnemonics.{Row, goes_on, mnemonic_at}
-use Rattle.stl_statements.specs.Numbers.{are_digits, number_of}
-use Rattle.stl_statements.specs.Readers.{fitting, or_else, read_as}
+use Rattle.stl_statements.specs.Numbers.{are_digits}
+use Rattle.stl_statements.specs.Places.{numbered_at, opened_area, place_at}
+use Rattle.stl_statements.specs.Readers.{and_then, fitting, or_else, read_as}
 use Rattle.stl_tree.specs.Shifts.{most_steps}
-use Rattle.stl_tree.specs.WordLogic.{width_of as logic_width}
 use Rattle.stl_statements.specs.Words.{is_word, is_sign, is_spelled, is_word_kind}
 use Rattle.stl_statements.specs.declared.mnemonic.Mnemonic.{Mnemonic}
 use Rattle.stl_statements.specs.declared.mnemonic.Mnemonic.TheVariants as is
@@ -35,101 +32,16 @@ use Rattle.stl_statements.specs.declared.mnemonic.Read.TheVariants.{Fits, LeftOu
 use Rattle.stl_statements.specs.declared.mnemonic.Shape.{Shape}
 use Rattle.stl_statements.specs.declared.mnemonic.Shape.TheVariants as shape
 use Rattle.stl_tree.specs.declared.raw.RawInstr.{RawInstr}
+use Rattle.stl_tree.specs.declared.raw.RawName.{RawName}
+use Rattle.stl_tree.specs.declared.raw.RawName.TheVariants.{Number}
 use Rattle.stl_tree.specs.declared.raw.RawOp.{RawOp}
 use Rattle.stl_tree.specs.declared.raw.RawOperand.{RawOperand}
-use Rattle.stl_tree.specs.declared.raw.RawOperand.TheVariants.{At, Constant, Flag, Missing, Stw}
+use Rattle.stl_tree.specs.declared.raw.RawOperand.TheVariants.{At, Constant, DbNo, DiNo, Flag, Missing, OpenDb, OpenDi, Stw}
 use Rattle.stl_tree.specs.declared.raw.RawPlace.{RawPlace}
-
--- Bits
-
--- the area of a bit operand, by its letter
-abbrev pub area_of_letter : ℕ → Option AreaName
-area_of_letter letter =
-    if letter == 73 then Some area.I
-    else if letter == 81 then Some area.Q
-    else if letter == 77 then Some area.M
-    else None
-
--- the area of a bit operand, by a word of one letter in either case
-abbrev pub area_of : List ℕ → Option AreaName
-area_of [] = None
-area_of (letter ∷ []) = area_of_letter (to_ascii_uppercase letter)
-area_of (letter ∷ more ∷ rest) = None
-
--- a bit of an area as it is written
-abbrev pub bit_of : AreaName → ℕ → ℕ → RawPlace
-bit_of name byte bit = record { block = None; area = name; width = width.Bit; byte = byte; bit = bit }
 
 -- the place lies in its area, with a bit number that its width has
 abbrev pub is_in_area : RawPlace → Bool
 is_in_area place = is_byte_in place.area place.width place.byte && not (is_unaligned place.width place.bit)
-
--- a place of its area; one that is not in its area is not built yet
-abbrev pub in_area : RawPlace → Option RawPlace
-in_area place = if is_in_area place then Some place else None
-
--- a bit by its area, its byte and its number
-abbrev pub bit_at : Option AreaName → List ℕ → List ℕ → Option RawPlace
-bit_at None byte bit = None
-bit_at (Some name) byte bit =
-    option_and_then (λ y. option_and_then (λ x. in_area (bit_of name y x)) (number_of 7 bit)) (number_of 65535 byte)
-
--- a point and a number with no blank before either
-abbrev pub is_bit_number : Token → Token → Bool
-is_bit_number point bit = is_sign (codes ".") point && point.glued && is_word_kind bit.kind && bit.glued
-
--- `I0.0`: the area and the byte in one word
-abbrev pub short_bit : Token → Token → Token → Option RawPlace
-short_bit place point bit =
-    if is_word_kind place.kind && is_bit_number point bit
-    then bit_at (area_of (take 1 place.text)) (drop 1 place.text) bit.text
-    else None
-
--- `I 0.0`: the area and the byte in a word each
-abbrev pub long_bit : Token → Token → Token → Token → Option RawPlace
-long_bit name byte point bit =
-    if is_word_kind name.kind && is_word_kind byte.kind && is_bit_number point bit
-    then bit_at (area_of name.text) byte.text bit.text
-    else None
-
--- Bytes, words and double words
-
--- the width of an operand, by its letter
-abbrev pub width_of_letter : ℕ → Option Width
-width_of_letter letter =
-    if letter == 66 then Some width.Byte
-    else if letter == 87 then Some width.Word
-    else if letter == 68 then Some width.Dword
-    else None
-
--- the width of an operand, by a word of one letter in either case
-abbrev pub width_of : List ℕ → Option Width
-width_of [] = None
-width_of (letter ∷ []) = width_of_letter (to_ascii_uppercase letter)
-width_of (letter ∷ more ∷ rest) = None
-
--- a byte, a word or a double word of an area as it is written
-abbrev pub number_of_area : AreaName → Width → ℕ → RawPlace
-number_of_area name w byte = record { block = None; area = name; width = w; byte = byte; bit = 0 }
-
--- such a place by its area, its width and its byte
-abbrev pub place_by : Option AreaName → Option Width → Option ℕ → Option RawPlace
-place_by None w byte = None
-place_by (Some name) None byte = None
-place_by (Some name) (Some w) None = None
-place_by (Some name) (Some w) (Some byte) = in_area (number_of_area name w byte)
-
--- such a place by the letters of its area and its width, and by its byte
-abbrev pub place_named : List ℕ → List ℕ → Option RawPlace
-place_named letters byte = place_by (area_of (take 1 letters)) (width_of (drop 1 letters)) (number_of 65535 byte)
-
--- `MB5`: all in one word
-abbrev pub short_place : Token → Option RawPlace
-short_place place = if is_word_kind place.kind then place_named (take 2 place.text) (drop 2 place.text) else None
-
--- `MB 5`: the letters and the byte in a word each
-abbrev pub long_place : Token → Token → Option RawPlace
-long_place name byte = if is_word_kind name.kind && is_word_kind byte.kind then place_named name.text byte.text else None
 
 -- Forms that are left out where a place may stand
 
@@ -175,19 +87,6 @@ has_form (first ∷ rest) form = (is_word form.word first && is_named form rest)
 
 -- Operands
 
-abbrev pub short_at : List Token → Read RawPlace
-short_at [] = No
-short_at (a ∷ []) = No
-short_at (a ∷ b ∷ []) = No
-short_at (place ∷ point ∷ bit ∷ rest) = fitting 3 (short_bit place point bit)
-
-abbrev pub long_at : List Token → Read RawPlace
-long_at [] = No
-long_at (a ∷ []) = No
-long_at (a ∷ b ∷ []) = No
-long_at (a ∷ b ∷ c ∷ []) = No
-long_at (name ∷ byte ∷ point ∷ bit ∷ rest) = fitting 4 (long_bit name byte point bit)
-
 abbrev pub left_out_by : Option NamedForm → Read RawPlace
 left_out_by None = No
 left_out_by (Some form) = LeftOut form.kind
@@ -196,23 +95,9 @@ left_out_by (Some form) = LeftOut form.kind
 abbrev pub left_out_at : List NamedForm → List Token → Read RawPlace
 left_out_at table tokens = left_out_by (find (has_form tokens) table)
 
--- what stands where a bit may stand
-abbrev pub bit_operand : List Token → Read RawPlace
-bit_operand tokens = or_else (short_at tokens) (or_else (long_at tokens) (left_out_at left_out_forms tokens))
-
-abbrev pub short_place_at : List Token → Read RawPlace
-short_place_at [] = No
-short_place_at (place ∷ rest) = fitting 1 (short_place place)
-
-abbrev pub long_place_at : List Token → Read RawPlace
-long_place_at [] = No
-long_place_at (a ∷ []) = No
-long_place_at (name ∷ byte ∷ rest) = fitting 2 (long_place name byte)
-
--- what stands where a byte, a word or a double word may stand
+-- what stands where a written place may stand
 abbrev pub place_operand : List Token → Read RawPlace
-place_operand tokens =
-    or_else (short_place_at tokens) (or_else (long_place_at tokens) (left_out_at left_out_forms tokens))
+place_operand tokens = or_else (place_at tokens) (left_out_at left_out_forms tokens)
 
 -- how many tokens a mnemonic or a question to the status word takes, by its second part
 abbrev pub size_with : List ℕ → ℕ
@@ -267,6 +152,12 @@ abbrev pub stw_at : List Token → Read RawOperand
 stw_at [] = No
 stw_at (first ∷ rest) = if is_word (codes "STW") first then Fits Stw 1 else No
 
+-- the number of the data block that is open, or of that of the instance
+abbrev pub block_number_at : List Token → Read RawOperand
+block_number_at [] = No
+block_number_at (first ∷ rest) =
+    if is_word (codes "DBNO") first then Fits DbNo 1 else if is_word (codes "DINO") first then Fits DiNo 1 else No
+
 -- the length of a data block, which is left out
 abbrev pub length_at : List Token → Read RawOperand
 length_at [] = No
@@ -277,19 +168,30 @@ abbrev pub nothing_at : List Token → Read RawOperand
 nothing_at [] = Fits Missing 0
 nothing_at (first ∷ rest) = No
 
--- a bit, or a question to the status word
+-- a place, or a question to the status word
 abbrev pub checked_at : List Token → Read RawOperand
-checked_at tokens = or_else (status_at tokens) (read_as At (bit_operand tokens))
+checked_at tokens = or_else (status_at tokens) (read_as At (place_operand tokens))
 
--- what `T` stores in: the status word, or a byte, a word or a double word
+-- what `T` stores in: the status word or a place
 abbrev pub stored_at : List Token → Read RawOperand
 stored_at tokens = or_else (stw_at tokens) (read_as At (place_operand tokens))
 
--- what `L` loads: the status word, a constant, or a byte, a word or a double word
+-- what `L` loads: the status word, the number of an open data block, a constant or a place
 abbrev pub loaded_at : List Token → Read RawOperand
 loaded_at tokens =
-    or_else (stw_at tokens)
-    (or_else (read_as Constant (constant_at tokens)) (or_else (read_as At (place_operand tokens)) (length_at tokens)))
+    or_else (stw_at tokens) (or_else (block_number_at tokens)
+    (or_else (read_as Constant (constant_at tokens)) (or_else (read_as At (place_operand tokens)) (length_at tokens))))
+
+-- what opens a data block of this name
+abbrev pub opening : AreaName → RawName → RawOperand
+opening area.Di name = OpenDi name
+opening other name = OpenDb name
+
+-- what `OPN` opens: a data block by its number
+abbrev pub opened_at : List Token → Read RawOperand
+opened_at tokens =
+    and_then tokens (numbered_at tokens)
+    (λ found rest. fitting 0 (option_map (λ name. opening name (Number found.number)) (opened_area found.letters)))
 
 -- what was read, or nothing at all
 abbrev pub or_nothing : List Token → Read RawOperand → Read RawOperand
@@ -298,7 +200,7 @@ or_nothing tokens read = or_else (nothing_at tokens) read
 -- what stands where an operand of the shape may stand
 abbrev pub operand_by : Shape → List Token → Read RawOperand
 operand_by shape.Nothing tokens = nothing_at tokens
-operand_by shape.Bit tokens = read_as At (bit_operand tokens)
+operand_by shape.Bit tokens = read_as At (place_operand tokens)
 operand_by shape.Checked tokens = checked_at tokens
 operand_by shape.CheckedOrNothing tokens = or_nothing tokens (checked_at tokens)
 operand_by (shape.Number most) tokens = read_as Constant (number_at most tokens)
@@ -306,12 +208,13 @@ operand_by (shape.NumberOrNothing most) tokens = or_nothing tokens (read_as Cons
 operand_by shape.Addend tokens = read_as Constant (addend_at tokens)
 operand_by shape.Loaded tokens = loaded_at tokens
 operand_by shape.Stored tokens = stored_at tokens
-operand_by (shape.ConstantOrNothing w) tokens = or_nothing tokens (read_as Constant (fitting_at w tokens))
+operand_by shape.ConstantOrNothing tokens = or_nothing tokens (read_as Constant (constant_at tokens))
+operand_by shape.Opened tokens = opened_at tokens
 operand_by shape.TimerOrCounter tokens = read_as At (left_out_at timers_and_counters tokens)
 operand_by shape.Later tokens = No
 operand_by (shape.LeftOut kind) tokens = LeftOut kind
 
--- a bit or the status word is checked; `O` may stand alone
+-- a place or the status word is checked; `O` may stand alone
 abbrev pub checked_shape : Check → Shape
 checked_shape check.A = shape.Checked
 checked_shape check.An = shape.Checked
@@ -344,12 +247,12 @@ shape_of is.Dec = shape.Number 255
 shape_of (is.Shift row) = shape.NumberOrNothing (most_steps row)
 shape_of is.Rlda = shape.Nothing
 shape_of is.Rrda = shape.Nothing
-shape_of (is.Logic row) = shape.ConstantOrNothing (logic_width row)
+shape_of (is.Logic row) = shape.ConstantOrNothing
 shape_of (is.Unary row) = shape.Nothing
 shape_of is.Tak = shape.Nothing
 shape_of is.Push = shape.Nothing
 shape_of is.Pop = shape.Nothing
-shape_of is.Open = shape.Later
+shape_of is.Open = shape.Opened
 shape_of is.ExchangeDb = shape.Nothing
 shape_of is.Nop = shape.Number 255
 shape_of is.TimerOrCounter = shape.TimerOrCounter

@@ -113,9 +113,10 @@ pub enum Shape {
     /// The mnemonic stands alone.
     Nothing,
 
+    /// A bit, which may be written as a place of any width.
     Bit,
 
-    /// A bit, or a question to the status word.
+    /// The same, or a question to the status word.
     Checked,
 
     /// The same, or the mnemonic stands alone.
@@ -130,14 +131,17 @@ pub enum Shape {
     /// A plain number or one with `L#`.
     Addend,
 
-    /// A byte, a word or a double word, a constant, or the status word.
+    /// A place, a constant, the status word, or the number of the open data block.
     Loaded,
 
-    /// A byte, a word or a double word, or the status word.
+    /// A place or the status word.
     Stored,
 
-    /// A constant that fits this width, or the mnemonic stands alone.
-    ConstantOrNothing(Width),
+    /// A constant, or the mnemonic stands alone.
+    ConstantOrNothing,
+
+    /// A data block that is opened.
+    Opened,
 
     /// A timer or a counter, which are left out.
     TimerOrCounter,

@@ -1,9 +1,12 @@
 -- The rows of the code's tables as those of the definitions.
 use Rattle.stl_instructions.specs.declared.constant.Prefixed.{Prefixed as FoundPrefix}
 use Rattle.stl_instructions.specs.declared.operand.NamedForm.{NamedForm as FoundForm}
+use Rattle.stl_instructions.specs.declared.place.Numbered.{Numbered as FoundNumber}
+use Rattle.stl_instructions.specs.declared.place.PlaceWord.{PlaceWord as FoundWord}
 use Rattle.stl_instructions.specs.declared.table.Row.{Row as Found}
 use Rattle.stl_statements.specs.Constants.{Prefixed}
 use Rattle.stl_statements.specs.Mnemonics.{Row}
+use Rattle.stl_statements.specs.Places.{Numbered, PlaceWord}
 use Rattle.stl_statements.specs.Statements.{NamedForm}
 
 -- a row of the table, as the definition has it
@@ -17,3 +20,11 @@ seen form = record { word = form.word.now; is_indirect = form.is_indirect; kind 
 -- a word before a `#`, as the definition has it
 abbrev pub shown : FoundPrefix → Prefixed
 shown row = record { word = row.0.now; what = row.1 }
+
+-- the word of a place, as the definition has it
+abbrev pub named : FoundWord → PlaceWord
+named row = record { word = row.word.now; area = row.area; width = row.width }
+
+-- letters with a number behind them, as the definition has them
+abbrev pub lettered : FoundNumber → Numbered
+lettered found = record { letters = found.letters.now; number = found.number }

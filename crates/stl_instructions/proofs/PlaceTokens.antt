@@ -1,0 +1,165 @@
+-- With what a place begins: no constant does, nor any other operand.
+use Rattle.std.proofs.Common.{◌≡◌, ℕ, ◌+◌, ◌*◌, ◌-◌, ◌≤◌, Bool, true, false, not, cond, ◌&&◌, ◌||◌, List, [], ◌∷◌, ◌++◌, length, take, None, refl, sym, ap, subst, ◌∙◌, arith}
+use Rattle.std.proofs.Math.Seq.{take-length}
+use Rattle.std.proofs.lemmas.Bool.{and_left, and_parts, and_right, leb-true, or_left}
+use Rattle.std.proofs.lemmas.Slice.Eq.{bytes_eq-Decides}
+use Rattle.std.proofs.lemmas.Str.Ascii.{lowercase_is}
+use Rattle.std.specs.Char.{to_ascii_lowercase}
+use Rattle.std.specs.List.{list_all, list_any, prefix_len}
+use Rattle.std.specs.Prelude.{codes, nat_le}
+use Rattle.std.specs.Str.{bytes_eq, str_to_ascii_lowercase}
+use Rattle.s7_base.specs.Tokens.{is_between, is_same_word}
+use Rattle.s7_base.specs.declared.token.Token.{Token}
+use Rattle.s7_base.specs.declared.word.Width.{Width}
+use Rattle.stl_statements.specs.ConstantForms.{IsAmong}
+use Rattle.stl_statements.specs.Constants.{constant_at, plain, plain_at, prefixes, marked_at, text_at}
+use Rattle.stl_statements.specs.Numbers.{are_digits, number_of}
+use Rattle.stl_statements.specs.PlaceForms.{IsBitBehind, IsNumbered, IsPlace, IsPlaceIn, alone, in_block, in_one, in_two, placed}
+use Rattle.stl_statements.specs.PlaceForms as form
+use Rattle.stl_statements.specs.Places.{PlaceWord, is_no_digit, letters_of, place_words}
+use Rattle.stl_statements.specs.Readers.{fitting, read_as}
+use Rattle.stl_statements.specs.Words.{is_sign, is_word_kind}
+use Rattle.stl_statements.specs.declared.mnemonic.Read.TheVariants.{No}
+use Rattle.stl_tree.specs.declared.raw.RawPlace.{RawPlace}
+use Rattle.stl_instructions.proofs.ConstantLaws.{AreUnmarked, no_mark, unmarked_no_text, word_is}
+use Rattle.stl_instructions.proofs.ConstantLaws as are
+use Rattle.stl_instructions.proofs.Reading.{if_false, if_true, joined_sign, no_sign, or_no, same_letters}
+use Rattle.stl_instructions.proofs.Tables.{any_at}
+
+-- letters, in lower case, with which a place begins
+abbrev is_begin : List ℕ → Bool
+is_begin low = list_any (λ (row : PlaceWord). bytes_eq low (str_to_ascii_lowercase row.word)) place_words || bytes_eq low (codes "db")
+
+abbrev begins_place : List ℕ → Bool
+begins_place letters = is_begin (str_to_ascii_lowercase letters)
+
+-- a word without a digit with which no place begins
+pub record IsNoPlace (word : List ℕ) : Type 0 where
+  pub other : begins_place word ≡ false
+  pub digits : list_all is_no_digit (str_to_ascii_lowercase word) ≡ true
+
+-- the first token, and what all of them are not
+record Begun (tokens : List Token) : Type 0 where
+  first : Token
+  rest : List Token
+  is : first ∷ rest ≡ tokens
+  kind : is_word_kind first.kind ≡ true
+  known : begins_place (letters_of first.text) ≡ true
+  unmarked : AreUnmarked (first ∷ rest)
+
+-- nothing, or a point
+abbrev points : List Token → Bool
+points [] = true
+points (first ∷ rest) = is_sign (codes ".") first
+
+-- letters of a place make no number
+record Lettered (text : List ℕ) : Type 0 where
+  no_digits : are_digits text ≡ false
+  no_number : number_of 32767 text ≡ None
+
+lettered : (text : List ℕ) → begins_place (letters_of text) ≡ true → Lettered text
+lettered [] e = absurd cc
+lettered (c ∷ cs) e = by (is_between 48 57 c) refl
+  where
+    by : (b : Bool) → is_between 48 57 c ≡ b → Lettered (c ∷ cs)
+    by true t =
+        let none : prefix_len is_no_digit (c ∷ cs) ≡ 0 = ap (λ (b : Bool). cond (not b) (1 + prefix_len is_no_digit cs) 0) t in
+        let clash : begins_place [] ≡ true = sym (ap (λ (n : ℕ). begins_place (take n (c ∷ cs))) none) ∙ e in
+        absurd cc
+    by false t = record { no_digits = and_left _ _ t; no_number = if_false (is_between 48 57 c && nat_le (0 * 10 + (c - 48)) 32767) _ None (and_left _ _ t) }
+
+begun : (front rest : List Token) (letters : List ℕ) (n : ℕ) → IsNumbered front letters n → begins_place letters ≡ true → points rest ≡ true → Begun (front ++ rest)
+begun front rest letters n (in_one word k kind number) known at =
+    record { first = word; rest = rest; is = refl; kind = kind; known = known; unmarked = by rest at }
+  where
+    by : (rest : List Token) → points rest ≡ true → AreUnmarked (word ∷ rest)
+    by [] at = are.one word kind
+    by (point ∷ more) at = are.pointed word point more kind (lettered word.text known).no_digits at
+begun front rest letters n (in_two word next k kind none digits number) known at =
+    record { first = word; rest = next ∷ rest; is = refl; kind = kind; known = known; unmarked = are.two word next rest kind digits }
+
+bit_points : (w : Width) (rest : List Token) (x : ℕ) → IsBitBehind w rest x → points rest ≡ true
+bit_points w rest x (form.bit point number k at word is) = joined_sign (codes ".") point at
+bit_points w rest x form.byte = refl
+bit_points w rest x form.word = refl
+bit_points w rest x form.dword = refl
+
+itself : (xs : List ℕ) → bytes_eq xs xs ≡ true
+itself xs = (bytes_eq-Decides xs xs).1 refl
+
+word_known : (word : PlaceWord) → IsAmong word place_words → begins_place word.word ≡ true
+word_known word among =
+    or_left (list_any (λ (row : PlaceWord). bytes_eq (str_to_ascii_lowercase word.word) (str_to_ascii_lowercase row.word)) place_words) _
+    (any_at (λ (row : PlaceWord). bytes_eq (str_to_ascii_lowercase word.word) (str_to_ascii_lowercase row.word)) place_words word among (itself (str_to_ascii_lowercase word.word)))
+
+placed_begun : (tokens : List Token) (place : RawPlace) → IsPlaceIn place_words None tokens place → Begun tokens
+placed_begun tokens place (placed table b front rest letters word byte x is among same is_bit) =
+    begun front rest letters byte is (ap is_begin (same_letters letters word.word same) ∙ word_known word among) (bit_points word.width rest x is_bit)
+
+place_begun : (tokens : List Token) (place : RawPlace) → IsPlace tokens place → Begun tokens
+place_begun tokens place (alone ts p is) = placed_begun ts p is
+place_begun tokens place (in_block front letters n point rest p is db at glued in_db) =
+    begun front (point ∷ rest) letters n is (ap is_begin (same_letters letters (codes "DB") db)) (joined_sign (codes ".") point at)
+
+-- where no digit stands in lower case, none stands
+all_letters : (text : List ℕ) → list_all is_no_digit (str_to_ascii_lowercase text) ≡ true → prefix_len is_no_digit text ≡ length text
+all_letters [] h = refl
+all_letters (c ∷ cs) h =
+    let p = and_parts (is_no_digit (to_ascii_lowercase c)) (list_all is_no_digit (str_to_ascii_lowercase cs)) h in
+    let more : 1 + prefix_len is_no_digit cs ≡ length (c ∷ cs) = omega (arith, all_letters cs p.1) in
+    ap (λ (b : Bool). cond b (1 + prefix_len is_no_digit cs) 0) (by (is_between 48 57 c) refl p.0) ∙ more
+  where
+    by : (b : Bool) → is_between 48 57 c ≡ b → is_no_digit (to_ascii_lowercase c) ≡ true → not (is_between 48 57 c) ≡ true
+    by true t q =
+        let r = and_parts (nat_le 48 c) (nat_le c 57) t in
+        let low : c ≤ 57 = leb-true c 57 r.1 in
+        let same : to_ascii_lowercase c ≡ c = (lowercase_is c).1 (omega (arith, low)) in
+        sym (ap is_no_digit same) ∙ q
+    by false t q = ap not t
+
+-- the text of a place's first word is not that word
+other_text : (text word : List ℕ) → begins_place (letters_of text) ≡ true → IsNoPlace word → is_same_word text word ≡ false
+other_text text word known none = by (is_same_word text word) refl
+  where
+    by : (b : Bool) → is_same_word text word ≡ b → b ≡ false
+    by true s =
+        let same : str_to_ascii_lowercase text ≡ str_to_ascii_lowercase word = same_letters text word s in
+        let size : prefix_len is_no_digit text ≡ length text = all_letters text (ap (λ (low : List ℕ). list_all is_no_digit low) same ∙ none.digits) in
+        let whole : letters_of text ≡ text = ap (λ (n : ℕ). take n text) size ∙ take-length text in
+        let clash : true ≡ false = sym known ∙ ap begins_place whole ∙ ap is_begin same ∙ none.other in
+        absurd cc
+    by false s = refl
+
+-- the first token has this text, in any case
+abbrev pub text_is : List ℕ → List Token → Bool
+text_is word [] = false
+text_is word (first ∷ rest) = is_same_word first.text word
+
+pub place_no_text : (tokens : List Token) (place : RawPlace) (word : List ℕ) → IsPlace tokens place → IsNoPlace word → text_is word tokens ≡ false
+place_no_text tokens place word is none =
+    let b = place_begun tokens place is in
+    subst (λ (ts : List Token). text_is word ts ≡ false) b.is (other_text b.first.text word b.known none)
+
+pub place_no_word : (tokens : List Token) (place : RawPlace) (word : List ℕ) → IsPlace tokens place → IsNoPlace word → word_is word tokens ≡ false
+place_no_word tokens place word is none =
+    let b = place_begun tokens place is in
+    subst (λ (ts : List Token). word_is word ts ≡ false) b.is (and_right _ _ (other_text b.first.text word b.known none))
+
+pub place_no_constant : (tokens : List Token) (place : RawPlace) → IsPlace tokens place → constant_at tokens ≡ No
+place_no_constant tokens place is =
+    let b = place_begun tokens place is in
+    subst (λ (ts : List Token). constant_at ts ≡ No) b.is (by b.first b.rest b.kind (lettered b.first.text b.known).no_number b.unmarked)
+  where
+    by : (first : Token) (rest : List Token) → is_word_kind first.kind ≡ true → number_of 32767 first.text ≡ None → AreUnmarked (first ∷ rest) → constant_at (first ∷ rest) ≡ No
+    by first rest kind none unmarked =
+        let plain_is : plain_at (first ∷ rest) ≡ No =
+        ap (read_as plain)
+        (if_false (is_sign (codes "-") first) _ _ (no_sign (codes "-") first kind) ∙ ap (fitting 1) (if_true (is_word_kind first.kind) _ None kind ∙ none)) in
+        or_no (text_at (first ∷ rest)) _ (unmarked_no_text (first ∷ rest) unmarked) ∙ or_no (marked_at prefixes (first ∷ rest)) _ (no_mark prefixes (first ∷ rest) unmarked) ∙ plain_is
+
+-- a place is made of some tokens
+pub place_there : (tokens : List Token) (place : RawPlace) → IsPlace tokens place → tokens ≡ [] → ⊥
+place_there tokens place is e =
+    let b = place_begun tokens place is in
+    let clash : b.first ∷ b.rest ≡ [] = b.is ∙ e in
+    absurd cc
