@@ -1,2 +1,4 @@
 pub mod GrammarLaws
 pub mod ItemLaws
+pub mod ItemRows
+pub mod StatementSizes

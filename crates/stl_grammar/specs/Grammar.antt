@@ -6,45 +6,62 @@ use Rattle.s7_base.specs.declared.reason.Reason.{Reason}
 use Rattle.s7_base.specs.declared.reason.Reason.TheVariants.{BadStatement}
 use Rattle.s7_base.specs.declared.reason.Rejection.TheVariants.{Refused}
 use Rattle.s7_base.specs.declared.token.Token.{Token}
-use Rattle.stl_grammar.specs.Items.{begins_with_ob, block_number, is_complete, is_end, is_semicolon, item_at, misfit_reason, statement_at, statement_reason, statement_size}
-use Rattle.stl_statements.specs.Statements.{instruction_of}
+use Rattle.stl_grammar.specs.Items.{is_complete, is_end, is_semicolon, is_skipped_alone, item_at, misfit_reason, statement_at, statement_reason, statement_size}
+use Rattle.stl_grammar.specs.Headings.{heading_kind, is_skipped, kept_from, kept_number, kind_word, size_on}
+use Rattle.stl_statements.specs.Statements.{instruction_of, is_numbered}
 use Rattle.stl_statements.specs.Words.{is_word, is_word_kind}
 use Rattle.stl_grammar.specs.declared.item.Found.{Found}
 use Rattle.stl_grammar.specs.declared.item.Found.TheVariants.{Fits, Misfit, Ended}
 use Rattle.stl_grammar.specs.declared.item.Item.{Item}
-use Rattle.stl_grammar.specs.declared.item.Item.TheVariants.{Opens, Begins, Instr, Empty, Ends}
+use Rattle.stl_grammar.specs.declared.item.Item.TheVariants.{Opens, Mark, Instr, Ends}
 use Rattle.stl_grammar.specs.declared.item.Where.{Where}
 use Rattle.stl_grammar.specs.declared.item.Where.TheVariants.{Start, Between, Heading, Body}
 use Rattle.stl_tree.specs.declared.raw.BlockKind.{BlockKind}
-use Rattle.stl_tree.specs.declared.raw.BlockKind.TheVariants as block
 use Rattle.stl_tree.specs.declared.raw.RawInstr.{RawInstr}
+use Rattle.stl_tree.specs.declared.raw.RawName.{RawName}
 use Rattle.stl_tree.specs.declared.raw.RawName.TheVariants.{Number}
 
 -- Items
 
--- the number of an organization block behind the first word of its heading: `OB 1` or `OB1`
-pub data IsName : List Token → ℕ → Type 0 where
-  apart : (word number : Token) {n : ℕ} →
-      is_word (codes "OB") word ≡ true → is_word_kind number.kind ≡ true → block_number number.text ≡ Some n
-      → IsName (word ∷ number ∷ []) n
-  together : (word : Token) {n : ℕ} →
-      is_word (codes "OB") word ≡ false → begins_with_ob word ≡ true
-      → block_number (drop 2 word.text) ≡ Some n → IsName (word ∷ []) n
+-- a block may open here
+abbrev pub MayOpen : Where → Type 0
+MayOpen Start = Unit {0}
+MayOpen Between = Unit {0}
+MayOpen elsewhere = ⊥
+
+-- the line of the last token, or else this one
+abbrev pub last_line : Line → List Token → Line
+last_line line [] = line
+last_line line (first ∷ rest) = last_line first.line rest
+
+-- the name of a block of this kind: `OB 1` or `OB1`
+pub data IsName : List ℕ → List Token → RawName → Type 0 where
+  apart : (kind : List ℕ) (word number : Token) (n : ℕ) →
+      is_word kind word ≡ true → is_word_kind number.kind ≡ true → kept_number number.text ≡ Some n
+      → IsName kind (word ∷ number ∷ []) (Number n)
+  together : (kind : List ℕ) (word : Token) →
+      is_word kind word ≡ false → is_numbered kind word ≡ true
+      → IsName kind (word ∷ []) (Number (kept_from 0 (drop (length kind) word.text)))
 
 -- the tokens from a place on begin with an item, which takes so many tokens behind its first; where the
 -- next item stands
 pub data IsForm : Where → List Token → Item → ℕ → Where → Type 0 where
-  heading : (first : Token) {name : List Token} (rest : List Token) {n : ℕ} →
-      is_word (codes "ORGANIZATION_BLOCK") first ≡ true → IsName name n
-      → IsForm Start (first ∷ (name ++ rest)) (Opens first.line block.Ob (Number n)) (length name) (Heading block.Ob)
-  begin : (kind : BlockKind) (first : Token) (rest : List Token) →
-      is_word (codes "BEGIN") first ≡ true → IsForm (Heading kind) (first ∷ rest) Begins 0 (Body kind)
-  empty : (kind : BlockKind) (first : Token) (rest : List Token) →
-      is_semicolon first ≡ true → IsForm (Body kind) (first ∷ rest) Empty 0 (Body kind)
+  heading : (place : Where) (kind : BlockKind) (first : Token) {names : List Token} (rest : List Token) {name : RawName} →
+      MayOpen place → heading_kind first ≡ Some kind → IsName (kind_word kind) names name
+      → IsForm place (first ∷ (names ++ rest)) (Opens first.line kind name) (length names)
+      (Heading kind (last_line first.line names))
+  skipped_line : (kind : BlockKind) (line : Line) (first : Token) (rest : List Token) →
+      is_skipped line first rest ≡ true
+      → IsForm (Heading kind line) (first ∷ rest) Mark (size_on first.line rest) (Heading kind first.line)
+  begin : (kind : BlockKind) (line : Line) (first : Token) (rest : List Token) →
+      is_skipped line first rest ≡ false → is_word (codes "BEGIN") first ≡ true
+      → IsForm (Heading kind line) (first ∷ rest) Mark 0 (Body kind)
+  skipped_word : (kind : BlockKind) (first : Token) (rest : List Token) →
+      is_skipped_alone first ≡ true → IsForm (Body kind) (first ∷ rest) Mark 0 (Body kind)
   end_word : (kind : BlockKind) (first : Token) (rest : List Token) →
-      is_semicolon first ≡ false → is_end kind first ≡ true → IsForm (Body kind) (first ∷ rest) (Ends first.line) 0 Between
+      is_skipped_alone first ≡ false → is_end kind first ≡ true → IsForm (Body kind) (first ∷ rest) (Ends first.line) 0 Between
   statement : (kind : BlockKind) (first : Token) (more : List Token) (sign : Token) (rest : List Token) (instr : RawInstr) →
-      is_end kind first ≡ false → statement_size (first ∷ more) ≡ length (first ∷ more)
+      is_skipped_alone first ≡ false → is_end kind first ≡ false → statement_size (first ∷ more) ≡ length (first ∷ more)
       → instruction_of (first ∷ more) ≡ Ok instr → is_semicolon sign ≡ true
       → IsForm (Body kind) (first ∷ (more ++ (sign ∷ rest))) (Instr instr) (length (first ∷ more)) (Body kind)
 
@@ -59,7 +76,7 @@ pub data IsItem : Line → Where → List Token → Found → Type 0 where
   form : {end : Line} {place next : Where} {tokens : List Token} {item : Item} {size : ℕ} →
       IsForm place tokens item size next → IsItem end place tokens (Fits item size next)
   no_instruction : {end its_line : Line} (kind : BlockKind) (first : Token) (rest : List Token) {reason : Reason} →
-      is_semicolon first ≡ false → is_end kind first ≡ false → is_complete (first ∷ rest) ≡ true
+      is_skipped_alone first ≡ false → is_end kind first ≡ false → is_complete (first ∷ rest) ≡ true
       → instruction_of (statement_at (first ∷ rest)) ≡ Err (Refused its_line reason)
       → IsItem end (Body kind) (first ∷ rest) (Misfit first.line (statement_reason (first ∷ rest) reason))
   none : {end : Line} {place : Where} (first : Token) (rest : List Token) →
@@ -68,7 +85,7 @@ pub data IsItem : Line → Where → List Token → Found → Type 0 where
       → IsItem end place (first ∷ rest) (Misfit first.line (misfit_reason place (first ∷ rest)))
   at_start : {end : Line} → IsItem end Start [] Ended
   behind_a_block : {end : Line} → IsItem end Between [] Ended
-  behind_a_heading : {end : Line} (kind : BlockKind) → IsItem end (Heading kind) [] (Misfit end BadStatement)
+  behind_a_heading : {end : Line} (kind : BlockKind) (line : Line) → IsItem end (Heading kind line) [] (Misfit end BadStatement)
   in_a_body : {end : Line} (kind : BlockKind) → IsItem end (Body kind) [] (Misfit end BadStatement)
 
 -- what stands at a place is what the relation says

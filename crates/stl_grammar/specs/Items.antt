@@ -1,7 +1,6 @@
 -- The items of a source text: what stands at a place of a text, and why it is refused where it fits no form
 -- that is built.
-use Rattle.std.specs.Prelude.{ℕ, zero, suc, Bool, true, false, not, ◌==◌, ◌&&◌, ◌||◌, nat_lt, if◌then◌else◌, List, [], ◌∷◌, length, take, drop, codes, Option, Some, None, option_and_then, Result, Ok, Err}
-use Rattle.std.specs.Str.{str_eq_ignore_ascii_case}
+use Rattle.std.specs.Prelude.{ℕ, zero, suc, Bool, true, false, not, ◌&&◌, ◌||◌, nat_lt, if◌then◌else◌, List, [], ◌∷◌, length, take, codes, Result, Ok, Err}
 use Rattle.std.specs.List.{prefix_len}
 use Rattle.s7_base.specs.declared.reason.Kind.TheVariants.{NotBuilt}
 use Rattle.s7_base.specs.declared.reason.Line.{Line}
@@ -11,19 +10,18 @@ use Rattle.s7_base.specs.declared.reason.Rejection.{Rejection}
 use Rattle.s7_base.specs.declared.reason.Rejection.TheVariants.{Refused, NoMemory}
 use Rattle.s7_base.specs.declared.token.Token.{Token}
 use Rattle.stl_statements.specs.Mnemonics.{begins_with_mnemonic}
-use Rattle.stl_statements.specs.Numbers.{are_digits, number_of}
-use Rattle.stl_statements.specs.Statements.{is_numbered, begins_with_label, instruction_of}
-use Rattle.stl_statements.specs.Words.{is_word, is_sign, is_word_kind, is_quoted_kind, is_word_among, block_words}
+use Rattle.stl_statements.specs.Statements.{begins_with_label, instruction_of}
+use Rattle.stl_statements.specs.Words.{is_word, is_sign, is_word_among, block_words}
+use Rattle.stl_grammar.specs.Headings.{heading_kind, is_heading_cut_off, is_skipped, opened_by, size_on}
 use Rattle.stl_grammar.specs.declared.item.Found.{Found}
 use Rattle.stl_grammar.specs.declared.item.Found.TheVariants.{Fits, Misfit, Ended}
 use Rattle.stl_grammar.specs.declared.item.Item.{Item}
-use Rattle.stl_grammar.specs.declared.item.Item.TheVariants.{Opens, Begins, Instr, Empty, Ends}
+use Rattle.stl_grammar.specs.declared.item.Item.TheVariants.{Opens, Mark, Instr, Ends}
 use Rattle.stl_grammar.specs.declared.item.Where.{Where}
 use Rattle.stl_grammar.specs.declared.item.Where.TheVariants.{Start, Between, Heading, Body}
 use Rattle.stl_tree.specs.declared.raw.BlockKind.{BlockKind}
 use Rattle.stl_tree.specs.declared.raw.BlockKind.TheVariants as block
 use Rattle.stl_tree.specs.declared.raw.RawInstr.{RawInstr}
-use Rattle.stl_tree.specs.declared.raw.RawName.TheVariants.{Number}
 
 -- the token is `;`
 abbrev pub is_semicolon : Token → Bool
@@ -46,51 +44,6 @@ is_end kind token = is_word (end_word kind) token
 abbrev pub begins_with_block_word : List Token → Bool
 begins_with_block_word [] = false
 begins_with_block_word (first ∷ rest) = is_word_among block_words first
-
--- the text ends in the name of a block of this kind: before it, or behind the word of its kind
-abbrev pub ends_in_name : List ℕ → List Token → Bool
-ends_in_name kind [] = true
-ends_in_name kind (word ∷ []) = is_word kind word
-ends_in_name kind (word ∷ next ∷ rest) = false
-
--- the text ends before the type of a function: behind its name, or behind the colon
-abbrev pub ends_before_type : List Token → Bool
-ends_before_type [] = true
-ends_before_type (colon ∷ []) = is_sign (codes ":") colon
-ends_before_type (colon ∷ next ∷ rest) = false
-
--- a number, and the text ends before the type
-abbrev pub ends_behind_number : List Token → Bool
-ends_behind_number [] = false
-ends_behind_number (number ∷ rest) = is_word_kind number.kind && are_digits number.text && ends_before_type rest
-
--- a block's name, `FC 1`, `FC1` or one in quotes, and the text ends before the type
-abbrev pub ends_behind_name : List ℕ → List Token → Bool
-ends_behind_name kind [] = false
-ends_behind_name kind (word ∷ rest) =
-    (is_word kind word && ends_behind_number rest)
-    || ((is_quoted_kind word.kind || is_numbered kind word) && ends_before_type rest)
-
--- a heading with this word, and the text ends in the name of its block
-abbrev pub ends_heading : List ℕ → List ℕ → Token → List Token → Bool
-ends_heading heading kind first rest = is_word heading first && ends_in_name kind rest
-
--- the heading of a function, and the text ends in its name or before its type
-abbrev pub ends_function : Token → List Token → Bool
-ends_function first rest =
-    is_word (codes "FUNCTION") first && (ends_in_name (codes "FC") rest || ends_behind_name (codes "FC") rest)
-
--- the heading of another block, and the text ends in its name
-abbrev pub ends_other : Token → List Token → Bool
-ends_other first rest =
-    ends_heading (codes "ORGANIZATION_BLOCK") (codes "OB") first rest
-    || ends_heading (codes "FUNCTION_BLOCK") (codes "FB") first rest
-    || ends_heading (codes "DATA_BLOCK") (codes "DB") first rest
-
--- the end of the text cuts off the heading at the front
-abbrev pub is_heading_cut_off : List Token → Bool
-is_heading_cut_off [] = false
-is_heading_cut_off (first ∷ rest) = ends_other first rest || ends_function first rest
 
 -- a heading that is cut off stands at the front, where headings may stand
 abbrev pub cut_off_at : Where → List Token → Bool
@@ -133,49 +86,16 @@ statement_reason tokens reason = if begins_with_block_word tokens then Unsupport
 
 -- Forms that are built
 
--- the number of an organization block, from 1
-abbrev pub block_number : List ℕ → Option ℕ
-block_number digits = option_and_then (λ number. if number == 0 then None else Some number) (number_of 65535 digits)
-
--- a heading of an organization block, whose name takes so many tokens and has this number, if it is one
-abbrev pub heading_with : Where → List Token → Line → ℕ → Option ℕ → Found
-heading_with place tokens line size None = Misfit line (misfit_reason place tokens)
-heading_with place tokens line size (Some number) = Fits (Opens line block.Ob (Number number)) size (Heading block.Ob)
-
--- the number in a word behind OB
-abbrev pub number_behind : List Token → Option ℕ
-number_behind [] = None
-number_behind (number ∷ rest) = if is_word_kind number.kind then block_number number.text else None
-
--- a word that begins with OB, in any case
-abbrev pub begins_with_ob : Token → Bool
-begins_with_ob token = is_word_kind token.kind && str_eq_ignore_ascii_case (take 2 token.text) (codes "OB")
-
--- the number in a word that begins with OB
-abbrev pub number_within : Token → Option ℕ
-number_within name = if begins_with_ob name then block_number (drop 2 name.text) else None
-
--- the heading of an organization block, given what stands behind its first word
-abbrev pub heading_named : Where → List Token → Line → List Token → Found
-heading_named place tokens line [] = Misfit line (misfit_reason place tokens)
-heading_named place tokens line (name ∷ rest) =
-    if is_word (codes "OB") name
-    then heading_with place tokens line 2 (number_behind rest)
-    else heading_with place tokens line 1 (number_within name)
-
 -- what stands where a heading may stand, given the tokens from there, the first of them and the rest
 abbrev pub heading_at : Where → List Token → Token → List Token → Found
-heading_at place tokens first rest =
-    if is_word (codes "ORGANIZATION_BLOCK") first
-    then heading_named place tokens first.line rest
-    else Misfit first.line (misfit_reason place tokens)
+heading_at place tokens first rest = opened_by (misfit_reason place tokens) (heading_kind first) first rest
 
--- what stands behind a heading
-abbrev pub begin_at : BlockKind → List Token → Token → Found
-begin_at kind tokens first =
-    if is_word (codes "BEGIN") first
-    then Fits Begins 0 (Body kind)
-    else Misfit first.line (misfit_reason (Heading kind) tokens)
+-- what stands behind a heading whose last line this is
+abbrev pub behind_heading : BlockKind → Line → List Token → Token → List Token → Found
+behind_heading kind line tokens first rest =
+    if is_skipped line first rest then Fits Mark (size_on first.line rest) (Heading kind first.line)
+    else if is_word (codes "BEGIN") first then Fits Mark 0 (Body kind)
+    else Misfit first.line (misfit_reason (Heading kind line) tokens)
 
 -- a complete statement on a line, by what it is read as, with its `;` behind so many tokens
 abbrev pub statement_found : Where → List Token → Line → Result RawInstr Rejection → Found
@@ -190,10 +110,14 @@ statement_from place line tokens =
     then statement_found place tokens line (instruction_of (statement_at tokens))
     else Misfit line (misfit_reason place tokens)
 
+-- what is skipped in a body: an empty statement and `NETWORK`
+abbrev pub is_skipped_alone : Token → Bool
+is_skipped_alone token = is_semicolon token || is_word (codes "NETWORK") token
+
 -- what stands in a body
 abbrev pub body_at : BlockKind → List Token → Token → Found
 body_at kind tokens first =
-    if is_semicolon first then Fits Empty 0 (Body kind)
+    if is_skipped_alone first then Fits Mark 0 (Body kind)
     else if is_end kind first then Fits (Ends first.line) 0 Between
     else statement_from (Body kind) first.line tokens
 
@@ -203,15 +127,14 @@ body_at kind tokens first =
 abbrev pub at_end : Line → Where → Found
 at_end end Start = Ended
 at_end end Between = Ended
-at_end end (Heading kind) = Misfit end BadStatement
+at_end end (Heading kind line) = Misfit end BadStatement
 at_end end (Body kind) = Misfit end BadStatement
 
--- what stands at a place, given the tokens from there, the first of them and the rest. A second block is not
--- built yet.
+-- what stands at a place, given the tokens from there, the first of them and the rest
 abbrev pub at_token : Where → List Token → Token → List Token → Found
 at_token Start tokens first rest = heading_at Start tokens first rest
-at_token Between tokens first rest = Misfit first.line (misfit_reason Between tokens)
-at_token (Heading kind) tokens first rest = begin_at kind tokens first
+at_token Between tokens first rest = heading_at Between tokens first rest
+at_token (Heading kind line) tokens first rest = behind_heading kind line tokens first rest
 at_token (Body kind) tokens first rest = body_at kind tokens first
 
 -- what stands at a place of a text that ends on a line, given the tokens from there

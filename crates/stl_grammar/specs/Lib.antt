@@ -1,3 +1,4 @@
 pub mod Grammar
+pub mod Headings
 pub mod Items
 pub mod RawPrograms

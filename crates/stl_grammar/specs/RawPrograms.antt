@@ -7,7 +7,7 @@ use Rattle.s7_base.specs.declared.reason.Rejection.{Rejection}
 use Rattle.s7_base.specs.declared.token.Token.{Token}
 use Rattle.stl_grammar.specs.Items.{items_of}
 use Rattle.stl_grammar.specs.declared.item.Item.{Item}
-use Rattle.stl_grammar.specs.declared.item.Item.TheVariants.{Opens, Begins, Instr, Empty, Ends}
+use Rattle.stl_grammar.specs.declared.item.Item.TheVariants.{Opens, Mark, Instr, Ends}
 use Rattle.stl_grammar.specs.declared.item.Reading.{Reading}
 use Rattle.stl_tree.specs.declared.raw.BlockKind.{BlockKind}
 use Rattle.stl_tree.specs.declared.raw.RawBlock.{RawBlock}
@@ -51,9 +51,8 @@ nothing_read = record { done = []; last = None }
 -- the text so far, and one item more
 abbrev pub with_item : Reading → Item → Reading
 with_item reading (Opens line kind name) = record { done = blocks_in reading; last = Some (headed line kind name) }
-with_item reading Begins = reading
+with_item reading Mark = reading
 with_item reading (Instr instr) = record reading { last = option_map (with_instr instr) reading.last }
-with_item reading Empty = reading
 with_item reading (Ends line) = record reading { last = option_map (with_end line) reading.last }
 
 -- the text so far, and some items more

@@ -3,7 +3,7 @@
 use s7_base::{Line, List, Reason};
 use stl_tree::{BlockKind, RawBlock, RawInstr, RawName};
 
-/// Where an item stands. Sections, and the values of data blocks, are further places.
+/// Where an item stands.
 #[derive(Clone, Copy, Debug, PartialEq, Eq)]
 pub enum Where {
     /// Before the first block of the text.
@@ -12,8 +12,8 @@ pub enum Where {
     /// Behind a block.
     Between,
 
-    /// Behind the heading of a block.
-    Heading(BlockKind),
+    /// Behind the heading of a block, and the line of the last token before.
+    Heading(BlockKind, Line),
 
     /// In the body of a block.
     Body(BlockKind),
@@ -25,13 +25,10 @@ pub enum Item {
     /// The heading of a block, with its line.
     Opens(Line, BlockKind, RawName),
 
-    /// `BEGIN`
-    Begins,
+    /// What only parts the text: `BEGIN`, `;` alone, a word or a line that is skipped.
+    Mark,
 
     Instr(RawInstr),
-
-    /// `;` alone.
-    Empty,
 
     /// The end word of a block, with its line.
     Ends(Line),

@@ -74,7 +74,7 @@ fn put_item(alloc: Global, reading: &mut Reading, item: Item) -> Result<(), NoMe
             put_end(reading, line);
             Ok(())
         }
-        Item::Begins | Item::Empty => Ok(()),
+        Item::Mark => Ok(()),
     }
 }
 

@@ -1,6 +1,6 @@
 //! Headings that the end of the text cuts off.
 ghost use Rattle.std.specs.Prelude.{◌≡◌};
-ghost use Rattle.stl_grammar.specs.Items.{ends_in_name, ends_before_type, ends_behind_number, ends_behind_name, ends_heading, ends_function, ends_other, is_heading_cut_off};
+ghost use Rattle.stl_grammar.specs.Headings.{ends_in_name, ends_before_type, ends_behind_number, ends_behind_name, ends_heading, ends_function, ends_other, is_heading_cut_off};
 ghost use Rattle.stl_statements.specs.Words.{is_quoted_kind};
 
 use s7_base::{Token, TokenKind};

@@ -1,92 +1,171 @@
-//! Headings of blocks.
-ghost use Rattle.std.specs.Prelude.{◌≡◌};
-ghost use Rattle.stl_grammar.specs.Items.{begins_with_ob, block_number, heading_with, number_behind, number_within, heading_named, heading_at};
+//! Headings of blocks, and the lines behind them that are skipped.
+ghost use Rattle.std.specs.Prelude.{◌≡◌, ◌+◌, ◌*◌, ◌-◌, ◌^◌, ◌≤◌, length, min};
+ghost use Rattle.stl_grammar.specs.Headings.{kept_from, kept_number, number_behind, number_within, name_at, line_of, heading_kind, kind_word, opened, opened_by, is_on, size_on, has_colon, is_skipped};
 
-use crate::misfit::misfit_reason;
-use s7_base::{Line, Token, front_of, is_same_word, rest_after};
+use crate::words::{is_attribute, is_title};
+use s7_base::{Line, Reason, Token, rest_after};
 use stl_grammar::{Found, Item, Where};
-use stl_statements::number_of;
-use stl_instructions::{is_word, is_word_kind};
+use stl_instructions::{are_digits, fitting, is_numbered, is_sign, is_word, is_word_kind};
+use stl_statements::Read;
 use stl_tree::{BlockKind, RawName};
 
-/// The number of an organization block, from 1.
-fn block_number(digits: &[u8]) -> Option<u32>
-    ensures { result ≡ block_number digits.now }
+/// A number with one digit more; one past the greatest of 32 bits is kept as that one.
+fn kept_next(value: u32, digit: u8) -> u32
+    ensures { result ≡ min (value * 10 + (digit - 48)) (2 ^ 32 - 1) }
 {
-    match number_of(65535, digits) {
-        Some(0) | None => None,
-        Some(number) => Some(number as u32),
+    let more = u64::from(value) * 10 + u64::from(digit.saturating_sub(48));
+    more.min(u64::from(u32::MAX)) as u32
+}
+
+fn kept_from(digits: &[u8]) -> u32
+    ensures { result ≡ kept_from 0 digits.now }
+{
+    let mut value = 0;
+    for digit in digits {
+        value = kept_next(value, *digit);
     }
+    value
 }
 
-/// A heading whose name takes so many tokens and has this number, if it is one.
-fn heading_with(
-    place: Where,
-    tokens: &[Token],
-    line: Line,
-    size: usize,
-    number: Option<u32>,
-) -> Found
-    ensures { result ≡ heading_with place tokens.now line size number }
+/// A number of any size, so kept.
+fn kept_number(digits: &[u8]) -> Option<u32>
+    ensures { result ≡ kept_number digits.now }
 {
-    match number {
-        Some(number) => Found::Fits(
-            Item::Opens(line, BlockKind::Ob, RawName::Number(number)),
-            size,
-            Where::Heading(BlockKind::Ob),
-        ),
-        None => Found::Misfit(line, misfit_reason(place, tokens)),
-    }
-}
-
-/// The number in a word behind `OB`.
-fn number_behind(tokens: &[Token]) -> Option<u32>
-    ensures { result ≡ number_behind tokens.now }
-{
-    match tokens {
-        [number, ..] if is_word_kind(number) => block_number(number.text.as_slice()),
-        _ => None,
-    }
-}
-
-fn begins_with_ob(token: &Token) -> bool
-    ensures { result ≡ begins_with_ob token.now }
-{
-    is_word_kind(token) && is_same_word(front_of(token.text.as_slice(), 2), "OB")
-}
-
-/// The number in a word that begins with `OB`.
-fn number_within(name: &Token) -> Option<u32>
-    ensures { result ≡ number_within name.now }
-{
-    if begins_with_ob(name) {
-        block_number(rest_after(name.text.as_slice(), 2))
+    if are_digits(digits) {
+        Some(kept_from(digits))
     } else {
         None
     }
 }
 
-/// A heading, given what stands behind its first word.
-fn heading_named(place: Where, tokens: &[Token], line: Line, rest: &[Token]) -> Found
-    ensures { result ≡ heading_named place tokens.now line rest.now }
+/// The number in a word behind the word of a kind.
+fn number_behind(tokens: &[Token]) -> Option<u32>
+    ensures { result ≡ number_behind tokens.now }
 {
-    let [name, behind @ ..] = rest else {
-        return Found::Misfit(line, misfit_reason(place, tokens));
-    };
-    if is_word(name, "OB") {
-        heading_with(place, tokens, line, 2, number_behind(behind))
-    } else {
-        heading_with(place, tokens, line, 1, number_within(name))
+    match tokens {
+        [number, ..] if is_word_kind(number) => kept_number(number.text.as_slice()),
+        _ => None,
     }
 }
 
-/// What stands where a heading may stand.
-pub fn heading_at(place: Where, tokens: &[Token], first: &Token, rest: &[Token]) -> Found
-    ensures { result ≡ heading_at place tokens.now first.now rest.now }
+/// The number in a word that begins with the word of a kind.
+fn number_within(kind: &str, word: &Token) -> Option<u32>
+    ensures { result ≡ number_within kind.now word.now }
+{
+    if is_numbered(word, kind) {
+        Some(kept_from(rest_after(word.text.as_slice(), kind.len())))
+    } else {
+        None
+    }
+}
+
+/// What stands where a block of this kind may be named.
+fn name_at(kind: &str, tokens: &[Token]) -> Read<RawName>
+    ensures { result ≡ name_at kind.now tokens.now }
+{
+    match tokens {
+        [first, rest @ ..] if is_word(first, kind) => fitting(
+            2,
+            number_behind(rest).map(RawName::Number),
+        ),
+        [first, ..] => fitting(1, number_within(kind, first).map(RawName::Number)),
+        [] => Read::No,
+    }
+}
+
+/// The kind of a block, by the first word of its heading.
+fn heading_kind(first: &Token) -> Option<BlockKind>
+    ensures { result ≡ heading_kind first.now }
 {
     if is_word(first, "ORGANIZATION_BLOCK") {
-        heading_named(place, tokens, first.line, rest)
+        Some(BlockKind::Ob)
     } else {
-        Found::Misfit(first.line, misfit_reason(place, tokens))
+        None
     }
+}
+
+/// The word before the number of a block.
+fn kind_word(kind: BlockKind) -> &'static str
+    ensures { result.now ≡ kind_word kind }
+{
+    match kind {
+        BlockKind::Ob => "OB",
+        BlockKind::Fc => "FC",
+        BlockKind::Fb => "FB",
+        BlockKind::Db => "DB",
+    }
+}
+
+/// The line of the token at the front, or else this one.
+fn line_of(line: Line, tokens: &[Token]) -> Line
+    ensures { result ≡ line_of line tokens.now }
+{
+    match tokens {
+        [first, ..] => first.line,
+        [] => line,
+    }
+}
+
+/// The heading of a block by its name, or why none stands there.
+fn opened(
+    reason: Reason,
+    kind: BlockKind,
+    first: &Token,
+    rest: &[Token],
+    name: Read<RawName>,
+) -> Found
+    ensures { result ≡ opened reason kind first.now rest.now name }
+{
+    match name {
+        Read::Fits(name, size) => {
+            let line = line_of(first.line, rest_after(rest, size.saturating_sub(1)));
+            Found::Fits(
+                Item::Opens(first.line, kind, name),
+                size,
+                Where::Heading(kind, line),
+            )
+        }
+        Read::LeftOut(_) | Read::No => Found::Misfit(first.line, reason),
+    }
+}
+
+/// What stands where a heading may stand, and why it is refused where none does.
+pub fn heading_at(reason: Reason, first: &Token, rest: &[Token]) -> Found
+    ensures { result ≡ opened_by reason (heading_kind first.now) first.now rest.now }
+{
+    match heading_kind(first) {
+        Some(kind) => opened(reason, kind, first, rest, name_at(kind_word(kind), rest)),
+        None => Found::Misfit(first.line, reason),
+    }
+}
+
+fn is_on(line: Line, token: &Token) -> bool
+    ensures { result ≡ is_on line token.now }
+{
+    token.line.0 == line.0
+}
+
+/// How many tokens at the front stand on the line.
+pub fn size_on(line: Line, tokens: &[Token]) -> usize
+    ensures size { result ≡ size_on line tokens.now }
+    ensures within { result ≤ length tokens.now }
+{
+    tokens.iter().take_while(|token| is_on(line, token)).count()
+}
+
+fn has_colon(line: Line, tokens: &[Token]) -> bool
+    ensures { result ≡ has_colon line tokens.now }
+{
+    match tokens {
+        [colon, ..] => is_sign(colon, ":") && is_on(line, colon),
+        [] => false,
+    }
+}
+
+/// A line that is skipped begins here, behind another line.
+pub fn is_skipped(line: Line, first: &Token, rest: &[Token]) -> bool
+    ensures { result ≡ is_skipped line first.now rest.now }
+{
+    line.0 < first.line.0
+        && ((is_title(first) && has_colon(first.line, rest)) || is_attribute(first))
 }

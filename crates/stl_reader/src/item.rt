@@ -1,10 +1,10 @@
 //! The item at a place of a text.
 ghost use Rattle.std.specs.Prelude.{◌≡◌, [], take, IfOk};
-ghost use Rattle.stl_grammar.specs.Items.{end_word, is_end, is_complete, statement_at, statement_size, begin_at, statement_found, statement_from, body_at, at_end, at_token, item_at};
+ghost use Rattle.stl_grammar.specs.Items.{end_word, is_end, is_complete, statement_at, statement_size, behind_heading, is_skipped_alone, statement_found, statement_from, body_at, at_end, at_token, item_at};
 ghost use Rattle.stl_statements.specs.Statements.{instruction_of};
 ghost use Rattle.stl_reader.specs.inner.Finding.{HasFirst};
 
-use crate::heading::heading_at;
+use crate::heading::{heading_at, is_skipped, size_on};
 use crate::misfit::{is_semicolon, misfit_reason, statement_reason, statement_size};
 use s7_base::{Line, NoMemory, Reason, Rejection, Token, front_of};
 use std::alloc::Global;
@@ -30,14 +30,29 @@ fn is_end(kind: BlockKind, token: &Token) -> bool
     is_word(token, end_word(kind))
 }
 
-/// What stands behind a heading.
-fn begin_at(kind: BlockKind, tokens: &[Token], first: &Token) -> Found
-    ensures { result ≡ begin_at kind tokens.now first.now }
+/// What stands behind a heading whose last line this is.
+fn behind_heading(
+    kind: BlockKind,
+    line: Line,
+    tokens: &[Token],
+    first: &Token,
+    rest: &[Token],
+) -> Found
+    ensures { result ≡ behind_heading kind line tokens.now first.now rest.now }
 {
-    if is_word(first, "BEGIN") {
-        Found::Fits(Item::Begins, 0, Where::Body(kind))
+    if is_skipped(line, first, rest) {
+        Found::Fits(
+            Item::Mark,
+            size_on(first.line, rest),
+            Where::Heading(kind, first.line),
+        )
+    } else if is_word(first, "BEGIN") {
+        Found::Fits(Item::Mark, 0, Where::Body(kind))
     } else {
-        Found::Misfit(first.line, misfit_reason(Where::Heading(kind), tokens))
+        Found::Misfit(
+            first.line,
+            misfit_reason(Where::Heading(kind, line), tokens),
+        )
     }
 }
 
@@ -78,6 +93,13 @@ fn statement_from(
     complete_from(alloc, place, line, tokens, size)
 }
 
+/// What is skipped in a body: an empty statement and `NETWORK`.
+fn is_skipped_alone(token: &Token) -> bool
+    ensures { result ≡ is_skipped_alone token.now }
+{
+    is_semicolon(token) || is_word(token, "NETWORK")
+}
+
 /// What stands in a body.
 fn body_at(
     alloc: Global,
@@ -87,8 +109,8 @@ fn body_at(
 ) -> Result<Found, NoMemory>
     ensures { IfOk result (λ found. found ≡ body_at kind tokens.now first.now) }
 {
-    if is_semicolon(first) {
-        Ok(Found::Fits(Item::Empty, 0, Where::Body(kind)))
+    if is_skipped_alone(first) {
+        Ok(Found::Fits(Item::Mark, 0, Where::Body(kind)))
     } else if is_end(kind, first) {
         Ok(Found::Fits(Item::Ends(first.line), 0, Where::Between))
     } else {
@@ -107,9 +129,9 @@ fn at_token(
     ensures { IfOk result (λ found. found ≡ at_token place tokens.now first.now rest.now) }
 {
     match place {
-        Where::Start => Ok(heading_at(Where::Start, tokens, first, rest)),
-        Where::Between => Ok(Found::Misfit(first.line, misfit_reason(Where::Between, tokens))),
-        Where::Heading(kind) => Ok(begin_at(kind, tokens, first)),
+        Where::Start => Ok(heading_at(misfit_reason(Where::Start, tokens), first, rest)),
+        Where::Between => Ok(heading_at(misfit_reason(Where::Between, tokens), first, rest)),
+        Where::Heading(kind, line) => Ok(behind_heading(kind, line, tokens, first, rest)),
         Where::Body(kind) => body_at(alloc, kind, tokens, first),
     }
 }
@@ -121,7 +143,7 @@ fn at_end(end: Line, place: Where) -> Found
 {
     match place {
         Where::Start | Where::Between => Found::Ended,
-        Where::Heading(_) | Where::Body(_) => Found::Misfit(end, Reason::BadStatement),
+        Where::Heading(_, _) | Where::Body(_) => Found::Misfit(end, Reason::BadStatement),
     }
 }
 

@@ -1,7 +1,8 @@
-//! The words with which headings, sections and ends of blocks begin.
+//! The words with which headings, lines that are skipped, sections and ends of blocks begin.
 ghost use Rattle.std.specs.Prelude.{◌≡◌};
 ghost use Rattle.std.specs.List.{list_any};
 ghost use Rattle.std.specs.Str.{str_eq_ignore_ascii_case};
+ghost use Rattle.stl_grammar.specs.Headings.{attributes, titles};
 ghost use Rattle.stl_statements.specs.Words.{block_words, is_word_among};
 
 use s7_base::{Token, is_same_word};
@@ -39,6 +40,12 @@ const BLOCK_WORDS: [&str; 28] = [
     "END_DATA_BLOCK",
 ];
 
+/// The words of a line that is skipped, those that stand before a colon.
+const TITLES: [&str; 4] = ["AUTHOR", "FAMILY", "NAME", "VERSION"];
+
+/// And those that stand alone.
+const ATTRIBUTES: [&str; 3] = ["KNOW_HOW_PROTECT", "CODE_VERSION1", "NON_RETAIN"];
+
 fn is_listed(word: &[u8], table: &[&str]) -> bool
     ensures { result ≡ list_any (λ entry. str_eq_ignore_ascii_case word.now entry.now) table.now }
 {
@@ -50,4 +57,18 @@ pub fn is_block_word(token: &Token) -> bool
     ensures { result ≡ is_word_among block_words token.now }
 {
     is_word_kind(token) && is_listed(token.text.as_slice(), &BLOCK_WORDS)
+}
+
+/// The token begins a line that is skipped, before a colon.
+pub fn is_title(token: &Token) -> bool
+    ensures { result ≡ is_word_among titles token.now }
+{
+    is_word_kind(token) && is_listed(token.text.as_slice(), &TITLES)
+}
+
+/// The token begins a line that is skipped.
+pub fn is_attribute(token: &Token) -> bool
+    ensures { result ≡ is_word_among attributes token.now }
+{
+    is_word_kind(token) && is_listed(token.text.as_slice(), &ATTRIBUTES)
 }

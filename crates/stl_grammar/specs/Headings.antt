@@ -1,0 +1,158 @@
+-- Headings: the name of a block, the lines behind it that are skipped, and headings that the end of the text
+-- cuts off.
+use Rattle.std.specs.Prelude.{ℕ, ◌+◌, ◌*◌, ◌-◌, ◌^◌, min, Bool, true, false, ◌==◌, ◌&&◌, ◌||◌, nat_lt, if◌then◌else◌, List, [], ◌∷◌, length, take, drop, codes, Option, Some, None, option_map}
+use Rattle.std.specs.List.{prefix_len}
+use Rattle.s7_base.specs.Tokens.{is_same_word}
+use Rattle.s7_base.specs.declared.reason.Line.{Line}
+use Rattle.s7_base.specs.declared.reason.Reason.{Reason}
+use Rattle.s7_base.specs.declared.token.Token.{Token}
+use Rattle.stl_statements.specs.Numbers.{are_digits}
+use Rattle.stl_statements.specs.Readers.{fitting}
+use Rattle.stl_statements.specs.Statements.{is_numbered}
+use Rattle.stl_statements.specs.Words.{is_word, is_sign, is_word_kind, is_quoted_kind, is_word_among}
+use Rattle.stl_statements.specs.declared.mnemonic.Read.{Read}
+use Rattle.stl_statements.specs.declared.mnemonic.Read.TheVariants as read
+use Rattle.stl_grammar.specs.declared.item.Found.{Found}
+use Rattle.stl_grammar.specs.declared.item.Found.TheVariants.{Fits, Misfit}
+use Rattle.stl_grammar.specs.declared.item.Item.TheVariants.{Opens}
+use Rattle.stl_grammar.specs.declared.item.Where.TheVariants.{Heading}
+use Rattle.stl_tree.specs.declared.raw.BlockKind.{BlockKind}
+use Rattle.stl_tree.specs.declared.raw.BlockKind.TheVariants as block
+use Rattle.stl_tree.specs.declared.raw.RawName.{RawName}
+use Rattle.stl_tree.specs.declared.raw.RawName.TheVariants.{Number}
+
+-- Numbers
+
+-- the number that digits stand for behind those of `value`; one past the greatest of 32 bits is kept as that one
+abbrev pub kept_from : ℕ → List ℕ → ℕ
+kept_from value [] = value
+kept_from value (digit ∷ rest) = kept_from (min (value * 10 + (digit - 48)) (2 ^ 32 - 1)) rest
+
+-- a number of any size, so kept
+abbrev pub kept_number : List ℕ → Option ℕ
+kept_number digits = if are_digits digits then Some (kept_from 0 digits) else None
+
+-- Names of blocks
+
+-- the number in a word behind the word of a kind
+abbrev pub number_behind : List Token → Option ℕ
+number_behind [] = None
+number_behind (number ∷ rest) = if is_word_kind number.kind then kept_number number.text else None
+
+-- the number in a word that begins with the word of a kind
+abbrev pub number_within : List ℕ → Token → Option ℕ
+number_within kind word = if is_numbered kind word then Some (kept_from 0 (drop (length kind) word.text)) else None
+
+-- what stands where a block of this kind may be named: `OB 1` or `OB1`
+abbrev pub name_at : List ℕ → List Token → Read RawName
+name_at kind [] = read.No
+name_at kind (first ∷ rest) =
+    if is_word kind first
+    then fitting 2 (option_map Number (number_behind rest))
+    else fitting 1 (option_map Number (number_within kind first))
+
+-- Headings
+
+-- the line of the token at the front, or else this one
+abbrev pub line_of : Line → List Token → Line
+line_of line [] = line
+line_of line (first ∷ rest) = first.line
+
+-- the kind of a block, by the first word of its heading
+abbrev pub heading_kind : Token → Option BlockKind
+heading_kind first = if is_word (codes "ORGANIZATION_BLOCK") first then Some block.Ob else None
+
+-- the word before the number of a block
+abbrev pub kind_word : BlockKind → List ℕ
+kind_word block.Ob = codes "OB"
+kind_word block.Fc = codes "FC"
+kind_word block.Fb = codes "FB"
+kind_word block.Db = codes "DB"
+
+-- the heading of a block by its name, or why none stands there
+abbrev pub opened : Reason → BlockKind → Token → List Token → Read RawName → Found
+opened reason kind first rest read.No = Misfit first.line reason
+opened reason kind first rest (read.LeftOut left) = Misfit first.line reason
+opened reason kind first rest (read.Fits name size) =
+    Fits (Opens first.line kind name) size (Heading kind (line_of first.line (drop (size - 1) rest)))
+
+-- the same by its kind
+abbrev pub opened_by : Reason → Option BlockKind → Token → List Token → Found
+opened_by reason None first rest = Misfit first.line reason
+opened_by reason (Some kind) first rest = opened reason kind first rest (name_at (kind_word kind) rest)
+
+-- Lines that are skipped
+
+-- the token stands on the line
+abbrev pub is_on : Line → Token → Bool
+is_on line token = token.line.0 == line.0
+
+-- how many tokens at the front stand on the line
+abbrev pub size_on : Line → List Token → ℕ
+size_on line tokens = prefix_len (is_on line) tokens
+
+-- a colon on the line stands at the front
+abbrev pub has_colon : Line → List Token → Bool
+has_colon line [] = false
+has_colon line (colon ∷ rest) = is_sign (codes ":") colon && is_on line colon
+
+-- the words of a line that is skipped, those that stand before a colon
+abbrev pub titles : List (List ℕ)
+titles = codes "AUTHOR" ∷ codes "FAMILY" ∷ codes "NAME" ∷ codes "VERSION" ∷ []
+
+-- and those that stand alone
+abbrev pub attributes : List (List ℕ)
+attributes = codes "KNOW_HOW_PROTECT" ∷ codes "CODE_VERSION1" ∷ codes "NON_RETAIN" ∷ []
+
+-- a line that is skipped begins here, behind another line
+abbrev pub is_skipped : Line → Token → List Token → Bool
+is_skipped line first rest =
+    nat_lt line.0 first.line.0
+    && ((is_word_among titles first && has_colon first.line rest) || is_word_among attributes first)
+
+-- Headings that are cut off
+
+-- the text ends in the name of a block of this kind: before it, or behind the word of its kind
+abbrev pub ends_in_name : List ℕ → List Token → Bool
+ends_in_name kind [] = true
+ends_in_name kind (word ∷ []) = is_word kind word
+ends_in_name kind (word ∷ next ∷ rest) = false
+
+-- the text ends before the type of a function: behind its name, or behind the colon
+abbrev pub ends_before_type : List Token → Bool
+ends_before_type [] = true
+ends_before_type (colon ∷ []) = is_sign (codes ":") colon
+ends_before_type (colon ∷ next ∷ rest) = false
+
+-- a number, and the text ends before the type
+abbrev pub ends_behind_number : List Token → Bool
+ends_behind_number [] = false
+ends_behind_number (number ∷ rest) = is_word_kind number.kind && are_digits number.text && ends_before_type rest
+
+-- a block's name, `FC 1`, `FC1` or one in quotes, and the text ends before the type
+abbrev pub ends_behind_name : List ℕ → List Token → Bool
+ends_behind_name kind [] = false
+ends_behind_name kind (word ∷ rest) =
+    (is_word kind word && ends_behind_number rest)
+    || ((is_quoted_kind word.kind || is_numbered kind word) && ends_before_type rest)
+
+-- a heading with this word, and the text ends in the name of its block
+abbrev pub ends_heading : List ℕ → List ℕ → Token → List Token → Bool
+ends_heading heading kind first rest = is_word heading first && ends_in_name kind rest
+
+-- the heading of a function, and the text ends in its name or before its type
+abbrev pub ends_function : Token → List Token → Bool
+ends_function first rest =
+    is_word (codes "FUNCTION") first && (ends_in_name (codes "FC") rest || ends_behind_name (codes "FC") rest)
+
+-- the heading of another block, and the text ends in its name
+abbrev pub ends_other : Token → List Token → Bool
+ends_other first rest =
+    ends_heading (codes "ORGANIZATION_BLOCK") (codes "OB") first rest
+    || ends_heading (codes "FUNCTION_BLOCK") (codes "FB") first rest
+    || ends_heading (codes "DATA_BLOCK") (codes "DB") first rest
+
+-- the end of the text cuts off the heading at the front
+abbrev pub is_heading_cut_off : List Token → Bool
+is_heading_cut_off [] = false
+is_heading_cut_off (first ∷ rest) = ends_other first rest || ends_function first rest
