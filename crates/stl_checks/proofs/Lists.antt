@@ -4,8 +4,10 @@ use Rattle.std.proofs.lemmas.List.Concat.{flat_map-cons}
 use Rattle.std.specs.List.{cons_option, filter_map, flat_map}
 use Rattle.std.specs.Option.{option_to_list}
 use Rattle.s7_base.specs.declared.broken.Break.{Break}
-use Rattle.stl_rules.specs.Stages.{brackets_at, brackets_from, open_then}
+use Rattle.stl_rules.specs.Programs.{ob_number}
+use Rattle.stl_rules.specs.Stages.{brackets_at, brackets_from, doubled_at, doubled_behind, open_then, with_number}
 use Rattle.stl_tree.specs.declared.program.Instr.{Instr}
+use Rattle.stl_tree.specs.declared.raw.RawBlock.{RawBlock}
 
 put : {Y : Type 0} (o : Option Y) (rest : List Y) → option_to_list o ++ rest ≡ cons_option o rest
 put None rest = refl
@@ -25,6 +27,16 @@ brackets_more breaks n instr [] whole some is e = absurd (omega arith)
 brackets_more breaks n instr (first ∷ rest) whole some is e =
     let P : Instr → Type 0 = λ i. (breaks ++ brackets_at i.line i.op n) ++ brackets_from (open_then i.op n) rest ≡ whole in
     subst P (sym is) (append_assoc breaks (brackets_at first.line first.op n) (brackets_from (open_then first.op n) rest) ∙ e)
+
+-- one block more of those whose numbers are judged
+pub doubled_more : (breaks : List Break) (before : List ℕ) (raw : RawBlock) (rest : List RawBlock) (whole : List Break) → 1 ≤ length rest → raw ≡ get_or rest 0 raw →
+    breaks ++ doubled_behind before rest ≡ whole
+    → (breaks ++ doubled_at raw.line before (ob_number raw.kind raw.name)) ++ doubled_behind (with_number before (ob_number raw.kind raw.name)) (drop 1 rest) ≡ whole
+doubled_more breaks before raw [] whole some is e = absurd (omega arith)
+doubled_more breaks before raw (first ∷ rest) whole some is e =
+    let P : RawBlock → Type 0 = λ r. (breaks ++ doubled_at r.line before (ob_number r.kind r.name)) ++ doubled_behind (with_number before (ob_number r.kind r.name)) rest ≡ whole in
+    subst P (sym is)
+    (append_assoc breaks (doubled_at first.line before (ob_number first.kind first.name)) (doubled_behind (with_number before (ob_number first.kind first.name)) rest) ∙ e)
 
 -- a list, taken to its end
 taken_all : {X : Type 0} (n : ℕ) (xs : List X) → length xs ≤ n → take n xs ≡ xs

@@ -4,7 +4,7 @@ ghost use Rattle.s7_base.specs.Answers.{Answers};
 ghost use Rattle.s7_base.specs.Broken.{broken, first_of_all};
 ghost use Rattle.stl_tree.specs.Accepted.{IsAccepted};
 ghost use Rattle.stl_rules.specs.Programs.{program_of};
-ghost use Rattle.stl_rules.specs.Stages.{brackets, first_broken, no_blocks, none_among, or_later, stages, unbuilt};
+ghost use Rattle.stl_rules.specs.Stages.{brackets, doubled, first_broken, no_blocks, none_among, or_later, stages, unbuilt};
 ghost use Rattle.stl_rules.specs.Verdict.{judged, verdict};
 
 use crate::program::{Broken, program_of};
@@ -29,10 +29,14 @@ fn no_blocks(raw: &RawProgram) -> Option<Break>
 /// The first of what is broken: of the first stage that has a broken rule.
 fn first_broken(broken: &Broken, raw: &RawProgram) -> Option<Break>
     requires unbuilt { broken.now.unbuilt ≡ unbuilt raw.now }
+    requires doubled { broken.now.doubled ≡ doubled raw.now }
     requires brackets { broken.now.brackets ≡ brackets raw.now }
     ensures { result ≡ first_broken (stages raw.now) }
 {
     if let Some(first) = first_of_all(broken.unbuilt.as_slice()) {
+        return Some(first);
+    }
+    if let Some(first) = first_of_all(broken.doubled.as_slice()) {
         return Some(first);
     }
     if let Some(first) = first_of_all(broken.brackets.as_slice()) {
@@ -48,6 +52,7 @@ fn judged(alloc: Global, raw: &RawProgram) -> Result<Program, Rejection>
 {
     let mut broken = Broken {
         unbuilt: List::new(alloc),
+        doubled: List::new(alloc),
         brackets: List::new(alloc),
     };
     let program = program_of(alloc, &mut broken, raw)?;

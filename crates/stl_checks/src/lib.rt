@@ -10,4 +10,5 @@ pub use judge::verdict;
 mod brackets;
 mod instruction;
 mod judge;
+mod numbers;
 mod program;

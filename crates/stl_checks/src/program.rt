@@ -1,22 +1,24 @@
 //! The program of a raw program, and what it breaks.
-ghost use Rattle.std.specs.Prelude.{◌≡◌, ◌++◌, ◌&&◌, nat_le, IfOk, OnOk};
+ghost use Rattle.std.specs.Prelude.{◌≡◌, ◌++◌, IfOk, OnOk};
 ghost use Rattle.std.specs.List.{filter_map, flat_map};
 ghost use Rattle.std.specs.Option.{option_to_list};
-ghost use Rattle.stl_rules.specs.Programs.{block_name, block_of, body_of, instr_of, ob_name, program_of};
-ghost use Rattle.stl_rules.specs.Stages.{brackets, brackets_in, unbuilt, unbuilt_block, unbuilt_instr, unless_there};
+ghost use Rattle.stl_rules.specs.Programs.{block_name, block_of, body_of, instr_of, program_of};
+ghost use Rattle.stl_rules.specs.Stages.{brackets, brackets_in, doubled, unbuilt, unbuilt_block, unbuilt_instr, unless_there};
 
 use crate::brackets::note_brackets;
 use crate::instruction::op_of;
+use crate::numbers::{note_doubled, ob_number};
 use s7_base::{Break, Kind, Line, List, NoMemory, Reason, note};
 use std::alloc::Global;
 use stl_tree::{
     Block, BlockKind, BlockName, Instr, Op, Program, RawBlock, RawInstr, RawName, RawProgram,
 };
 
-/// The broken rules of two stages.
+/// The broken rules of three stages.
 #[derive(Drop)]
 pub struct Broken {
     pub unbuilt: List<Break>,
+    pub doubled: List<Break>,
     pub brackets: List<Break>,
 }
 
@@ -68,28 +70,12 @@ fn body_of(
     Ok(body)
 }
 
-/// The name of an organization block.
-fn ob_name(number: u32) -> Option<BlockName>
-    ensures { result ≡ ob_name number }
-{
-    if 1 <= number && number <= 65535 {
-        Some(BlockName::Ob(number as u16))
-    } else {
-        None
-    }
-}
-
 /// The name of a block, if it is built.
 fn block_name(kind: BlockKind, name: &RawName) -> Option<BlockName>
     ensures { result ≡ block_name kind name.now }
 {
-    match kind {
-        BlockKind::Ob => match name {
-            RawName::Number(number) => ob_name(*number),
-            RawName::Name(_) => None,
-        },
-        _ => None,
-    }
+    let number = ob_number(kind, name)?;
+    Some(BlockName::Ob(number as u16))
 }
 
 /// A name that is not there is not built.
@@ -135,6 +121,7 @@ fn put_block(
     ensures blocks { OnOk result (blocks.new ≡ blocks.old ++ option_to_list (block_of raw.now)) }
     ensures unbuilt { OnOk result (broken.new.unbuilt ≡ broken.old.unbuilt ++ unbuilt_block raw.now) }
     ensures brackets { OnOk result (broken.new.brackets ≡ broken.old.brackets ++ brackets_in raw.now) }
+    ensures doubled { OnOk result (broken.new.doubled ≡ broken.old.doubled) }
 {
     let name = block_name(raw.kind, &raw.name);
     note_name(&mut broken.unbuilt, raw.line, name)?;
@@ -153,6 +140,7 @@ fn put_blocks(
     ensures blocks { OnOk result (blocks.new ≡ blocks.old ++ filter_map block_of raws.now) }
     ensures unbuilt { OnOk result (broken.new.unbuilt ≡ broken.old.unbuilt ++ flat_map unbuilt_block raws.now) }
     ensures brackets { OnOk result (broken.new.brackets ≡ broken.old.brackets ++ flat_map brackets_in raws.now) }
+    ensures doubled { OnOk result (broken.new.doubled ≡ broken.old.doubled) }
 {
     for raw in raws {
         put_block(alloc, blocks, broken, raw)?;
@@ -164,8 +152,10 @@ fn put_blocks(
 pub fn program_of(alloc: Global, broken: &mut Broken, raw: &RawProgram) -> Result<Program, NoMemory>
     ensures program { IfOk result (λ program. program ≡ program_of raw.now) }
     ensures unbuilt { OnOk result (broken.new.unbuilt ≡ broken.old.unbuilt ++ unbuilt raw.now) }
+    ensures doubled { OnOk result (broken.new.doubled ≡ broken.old.doubled ++ doubled raw.now) }
     ensures brackets { OnOk result (broken.new.brackets ≡ broken.old.brackets ++ brackets raw.now) }
 {
+    note_doubled(alloc, &mut broken.doubled, raw.blocks.as_slice())?;
     let mut blocks = List::new(alloc);
     put_blocks(alloc, &mut blocks, broken, raw.blocks.as_slice())?;
     Ok(Program {

@@ -1,32 +1,31 @@
 -- The verdict gives only programs that keep the rules.
-use Rattle.std.proofs.Common.{◌≡◌, ◌≢◌, ℕ, zero, suc, length-append, ◌≤◌, List, [], ◌∷◌, ◌++◌, length, Bool, true, false, if◌then◌else◌, Option, Some, None, Result, Ok, Err, refl, sym, subst, ◌∙◌, arith}
-use Rattle.std.specs.Prelude.{All, IfSome, nat_lt, option_map}
-use Rattle.std.specs.Option.{option_to_list}
-use Rattle.std.specs.List.{cons_option, filter_map, flat_map}
+use Rattle.std.proofs.Common.{◌≡◌, ◌≢◌, ℕ, zero, suc, ◌+◌, ◌||◌, List, [], ◌∷◌, ◌++◌, length, Bool, true, false, not, if◌then◌else◌, Option, Some, None, Result, Ok, Err, refl, sym, ap, subst, ◌∙◌, arith}
+use Rattle.std.specs.Prelude.{All, IfSome, nat_eq, nat_lt, option_map}
+use Rattle.std.specs.List.{cons_option, filter_map, flat_map, position_or_len}
+use Rattle.std.proofs.lemmas.Bool.{both_ways, eq-eqb, le-ltb, ne_eqb}
+use Rattle.std.proofs.lemmas.List.Folds.{list_any-append}
 use Rattle.std.proofs.lemmas.List.Concat.{flat_map-cons}
 use Rattle.std.proofs.lemmas.List.Elements.{All-append, All-cons, All-nil, All-head, All-tail}
 use Rattle.nesting_stack.specs.Entries.{most_open}
 use Rattle.memory_areas.specs.Areas.{IsSized}
 use Rattle.s7_base.specs.Broken.{broken}
 use Rattle.s7_base.specs.Tokens.{tokens_of, line_at_end}
+use Rattle.s7_base.specs.declared.broken.Break.{Break}
 use Rattle.s7_base.specs.declared.reason.Line.{Line}
-use Rattle.s7_base.specs.declared.reason.Reason.TheVariants.{TooManyBrackets}
+use Rattle.s7_base.specs.declared.reason.Reason.TheVariants.{DuplicateBlock, TooManyBrackets}
 use Rattle.s7_base.specs.declared.reason.Rejection.{Rejection}
 use Rattle.s7_base.specs.declared.token.Token.{Token}
 use Rattle.memory_areas.specs.declared.call.BlockName.{BlockName}
+use Rattle.memory_areas.specs.declared.call.BlockName.TheVariants.{Ob}
 use Rattle.stl_rules.specs.VerdictLaws.{VerdictIsAccepted}
-use Rattle.stl_tree.specs.Accepted.{IsSymbol, AreDistinct, HaveOperands, IsAccepted, IsAcceptedBlock, IsBlockNumber, IsEnded}
+use Rattle.stl_tree.specs.Accepted.{AreDistinct, HaveOperands, IsAccepted, IsAcceptedBlock, IsBlockNumber, IsBlockOpened, IsEnded, IsSymbol}
 use Rattle.stl_tree.specs.Brackets.{AreNested, WithNumber, open_behind}
-use Rattle.stl_grammar.specs.Grammar.{IsForm, heading, begin, empty, end_word, statement, form, AreItems, none_more, one_more}
+use Rattle.stl_tree.specs.StlRun.{block_named, is_same_name}
 use Rattle.stl_rules.specs.Accepting.{IsKept, IsText}
-use Rattle.stl_rules.specs.Programs.{block_name, block_of, block_with, body_of, instr_of, program_of}
-use Rattle.stl_grammar.specs.RawPrograms.{blocks_in, nothing_read, raw_of, with_end, with_instr, with_item, with_items, raw_by_tokens, raw_text}
-use Rattle.stl_rules.specs.Stages.{brackets, brackets_at, brackets_from, brackets_in, no_blocks, none_among, open_then, unbuilt, unbuilt_block, unbuilt_instr, unless_there}
+use Rattle.stl_rules.specs.Programs.{block_name, block_of, block_with, body_of, instr_of, ob_number, program_of}
+use Rattle.stl_grammar.specs.RawPrograms.{raw_of, raw_by_tokens, raw_text}
+use Rattle.stl_rules.specs.Stages.{brackets, brackets_at, brackets_from, brackets_in, doubled, doubled_at, doubled_behind, is_among, no_blocks, none_among, open_then, unbuilt, unbuilt_block, unbuilt_instr, unless_there, with_number}
 use Rattle.stl_rules.specs.Verdict.{judged_by, verdict}
-use Rattle.stl_grammar.specs.declared.item.Item.{Item}
-use Rattle.stl_grammar.specs.declared.item.Reading.{Reading}
-use Rattle.stl_grammar.specs.declared.item.Where.{Where}
-use Rattle.stl_grammar.specs.declared.item.Where.TheVariants.{Start}
 use Rattle.stl_tree.specs.declared.program.Block.{Block}
 use Rattle.stl_tree.specs.declared.program.Instr.{Instr}
 use Rattle.stl_tree.specs.declared.program.Op.{Op}
@@ -34,7 +33,7 @@ use Rattle.stl_tree.specs.declared.program.Op.TheVariants as op
 use Rattle.stl_tree.specs.declared.program.Program.{Program}
 use Rattle.stl_tree.specs.declared.raw.RawBlock.{RawBlock}
 use Rattle.stl_rules.proofs.AcceptingLaws.{agree}
-use Rattle.stl_rules.proofs.ProgramLaws.{Holds, all_made, instr_is, name_is}
+use Rattle.stl_rules.proofs.ProgramLaws.{Holds, all_made, instr_is, number_of_ob}
 
 -- Lists
 
@@ -88,19 +87,105 @@ operands_of raw =
 
 -- Blocks
 
-named_is : (raw : RawBlock) (o : Option BlockName) → IfSome o IsBlockNumber → brackets_in raw ≡ [] → IfSome (option_map (block_with raw) o) IsAcceptedBlock
-named_is raw None h e = tt
-named_is raw (Some name) h e =
-    record {
-      operands = operands_of raw;
-      brackets = nested 0 (body_of raw) e;
-      ends = ended (filter_map instr_of raw.body) raw.end_line;
-      number = h;
-      formals = refl;
-    }
+-- no block of some is the organization block of a number
+abbrev NoOb : ℕ → List Block → Type 0
+NoOb n blocks = All (λ (b : Block). is_same_name b.name (Ob n) ≡ false) blocks
 
-block_is : (raw : RawBlock) → brackets_in raw ≡ [] → IfSome (block_of raw) IsAcceptedBlock
-block_is raw e = named_is raw (block_name raw.kind raw.name) (name_is raw.kind raw.name) e
+first_fails : (blocks : List Block) (called : BlockName) → All (λ (b : Block). is_same_name b.name called ≡ false) blocks
+    → position_or_len (λ (b : Block). is_same_name b.name called) blocks ≡ length blocks
+first_fails [] called h = refl
+first_fails (b ∷ rest) called h =
+    by (is_same_name b.name called) (All-head (λ (x : Block). is_same_name x.name called ≡ false) b rest h)
+    (first_fails rest called (All-tail (λ (x : Block). is_same_name x.name called ≡ false) b rest h))
+  where
+    by : (t : Bool) → t ≡ false → position_or_len (λ (x : Block). is_same_name x.name called) rest ≡ length rest
+        → (if not t then 1 + position_or_len (λ (x : Block). is_same_name x.name called) rest else 0) ≡ suc (length rest)
+    by true e m = absurd cc
+    by false e m = omega (arith, m)
+
+none_named : (blocks : List Block) (called : BlockName) → All (λ (b : Block). is_same_name b.name called ≡ false) blocks → block_named called blocks ≡ None
+none_named blocks called h =
+    ap (λ n. if nat_lt n (length blocks) then Some n else None) (first_fails blocks called h) ∙ past (length blocks)
+  where
+    past : (n : ℕ) → (if nat_lt n n then Some n else None) ≡ None
+    past n = ap (λ t. if t then Some n else None) (le-ltb n n (omega arith))
+
+-- a number is among those with one more, and stays there
+
+with_last : (m n : ℕ) (before : List ℕ) → is_among m (before ++ n ∷ []) ≡ is_among m before || (nat_eq m n || false)
+with_last m n before = list_any-append (nat_eq m) before (n ∷ [])
+
+comes_among : (n : ℕ) (before : List ℕ) → is_among n (with_number before (Some n)) ≡ true
+comes_among n before = by (is_among n before) refl
+  where
+    last : (a b : Bool) → b ≡ true → (a || (b || false)) ≡ true
+    last true b h = refl
+    last false true h = refl
+    last false false h = absurd cc
+
+    by : (b : Bool) → is_among n before ≡ b → is_among n (if b then before else before ++ n ∷ []) ≡ true
+    by true e = e
+    by false e = with_last n n before ∙ last (is_among n before) (nat_eq n n) (eq-eqb n n refl)
+
+stays_among : (m : ℕ) (before : List ℕ) (number : Option ℕ) → is_among m before ≡ true → is_among m (with_number before number) ≡ true
+stays_among m before None h = h
+stays_among m before (Some n) h = by (is_among n before)
+  where
+    by : (b : Bool) → is_among m (if b then before else before ++ n ∷ []) ≡ true
+    by true = h
+    by false = with_last m n before ∙ ap (λ b. b || (nat_eq m n || false)) h
+
+-- what a block keeps beside the rules of brackets
+abbrev IsSound : Block → Type 0
+IsSound b = HaveOperands b.body × IsEnded b.body × IsBlockNumber b.name × (b.formals ≡ [])
+
+-- what blocks become that stand behind others with these numbers
+record AreKept (before : List ℕ) (blocks : List Block) : Type 0 where
+  sound : All IsSound blocks
+  apart : AreDistinct blocks
+  others : (n : ℕ) → is_among n before ≡ true → NoOb n blocks
+
+other_number : (n m : ℕ) (before : List ℕ) → is_among n before ≡ false → is_among m before ≡ true → n ≡ m → ⊥
+other_number n m before new h e = both_ways (is_among n before) new (subst (λ i. is_among i before ≡ true) (sym e) h)
+
+headed : (raw : RawBlock) (before : List ℕ) (number : Option ℕ) (rest : List Block) → IfSome number IsBlockOpened
+    → doubled_at raw.line before number ≡ [] → AreKept (with_number before number) rest
+    → AreKept before (cons_option (option_map (block_with raw) (option_map (λ n. Ob n) number)) rest)
+headed raw before None rest h e k = k
+headed raw before (Some n) rest h e k = by (is_among n before) refl e
+  where
+    by : (b : Bool) → is_among n before ≡ b → (if b then broken raw.line DuplicateBlock else []) ≡ [] → AreKept before (block_with raw (Ob n) ∷ rest)
+    by true new f = absurd cc
+    by false new f =
+        record {
+          sound = All-cons IsSound (block_with raw (Ob n)) rest (operands_of raw, ended (filter_map instr_of raw.body) raw.end_line, h, refl) k.sound;
+          apart = (none_named rest (Ob n) (k.others n (comes_among n before)), k.apart);
+          others = λ m g.
+              All-cons (λ (x : Block). is_same_name x.name (Ob m) ≡ false) (block_with raw (Ob n)) rest
+              (ne_eqb n m (other_number n m before new g))
+              (k.others m (stays_among m before (Some n) g));
+        }
+
+kept : (before : List ℕ) (raws : List RawBlock) → doubled_behind before raws ≡ [] → AreKept before (filter_map block_of raws)
+kept before [] e = record { sound = All-nil IsSound; apart = tt; others = λ n h. All-nil (λ (b : Block). is_same_name b.name (Ob n) ≡ false) }
+kept before (raw ∷ raws) e =
+    let number = ob_number raw.kind raw.name in
+    let parts = no_parts (doubled_at raw.line before number) (doubled_behind (with_number before number) raws) e in
+    headed raw before number (filter_map block_of raws) (number_of_ob raw.kind raw.name) parts.0 (kept (with_number before number) raws parts.1)
+
+-- brackets of each block
+brackets_with : (raw : RawBlock) (o : Option BlockName) → brackets_in raw ≡ [] → IfSome (option_map (block_with raw) o) (λ b. AreNested b.body 0)
+brackets_with raw None e = tt
+brackets_with raw (Some name) e = nested 0 (body_of raw) e
+
+both : (b : Block) → IsSound b → AreNested b.body 0 → IsAcceptedBlock b
+both b sound e = record { operands = sound.0; brackets = e; ends = sound.1; number = sound.2; formals = sound.3 }
+
+all_both : (blocks : List Block) → All IsSound blocks → All (λ (b : Block). AreNested b.body 0) blocks → All IsAcceptedBlock blocks
+all_both [] p q = All-nil IsAcceptedBlock
+all_both (b ∷ rest) p q =
+    All-cons IsAcceptedBlock b rest (both b (All-head IsSound b rest p) (All-head (λ (x : Block). AreNested x.body 0) b rest q))
+    (all_both rest (All-tail IsSound b rest p) (All-tail (λ (x : Block). AreNested x.body 0) b rest q))
 
 some_by : (raw : RawBlock) (o : Option BlockName) (rest : List Block) → unless_there raw.line o ≡ [] → cons_option (option_map (block_with raw) o) rest ≢ []
 some_by raw None rest e = absurd cc
@@ -113,71 +198,24 @@ some_block (raw ∷ rest) e none =
     let named = no_parts (unless_there raw.line (block_name raw.kind raw.name)) (flat_map unbuilt_instr raw.body) parts.0 in
     some_by raw (block_name raw.kind raw.name) (filter_map block_of rest) named.0
 
--- One block at most
-
--- how many blocks a text has so far
-abbrev count : Reading → ℕ
-count reading = length (blocks_in reading)
-
-count_of : (done : List RawBlock) (last : Option RawBlock) (change : RawBlock → RawBlock) → length (done ++ option_to_list (option_map change last)) ≡ length (done ++ option_to_list last)
-count_of done None change = refl
-count_of done (Some raw) change = length-append done (change raw ∷ []) ∙ sym (length-append done (raw ∷ []))
-
--- a block was opened before this place
-abbrev IsBehind : Where → Type 0
-IsBehind Start = ⊥
-IsBehind elsewhere = Unit {0}
-
-record Keeps (item : Item) (next : Where) : Type 0 where
-  behind : IsBehind next
-  same : (reading : Reading) → count (with_item reading item) ≡ count reading
-
-keeps : {place next : Where} {tokens : List Token} {item : Item} {size : ℕ} → IsForm place tokens item size next → IsBehind place → Keeps item next
-keeps (heading first rest word named) h = absurd h
-keeps (begin kind first rest word) h = record { behind = tt; same = λ reading. refl }
-keeps (empty kind first rest sign) h = record { behind = tt; same = λ reading. refl }
-keeps (end_word kind first rest no_sign word) h = record { behind = tt; same = λ reading. count_of reading.done reading.last (with_end first.line) }
-keeps (statement kind first more sign rest instr no_end whole is ends) h = record { behind = tt; same = λ reading. count_of reading.done reading.last (with_instr instr) }
-
-same_number : {end : Line} {place : Where} {tokens : List Token} {items : List Item} → AreItems end place tokens items → IsBehind place → (reading : Reading) → count (with_items reading items) ≡ count reading
-same_number (none_more is) h reading = refl
-same_number (one_more first rest {item = item} (form is) are) h reading =
-    let k = keeps is h in same_number are k.behind (with_item reading item) ∙ k.same reading
-
-record Begins (item : Item) (next : Where) : Type 0 where
-  behind : IsBehind next
-  one : count (with_item nothing_read item) ≡ 1
-
-begins : {next : Where} {tokens : List Token} {item : Item} {size : ℕ} → IsForm Start tokens item size next → Begins item next
-begins (heading first rest word named) = record { behind = tt; one = refl }
-
-one_at_most : {end : Line} {tokens : List Token} {items : List Item} → AreItems end Start tokens items → count (with_items nothing_read items) ≤ 1
-one_at_most (none_more is) = omega arith
-one_at_most (one_more first rest {item = item} (form is) are) =
-    let b = begins is in let same = same_number are b.behind (with_item nothing_read item) in omega (arith, same, b.one)
-
-distinct_by : (o : Option Block) → AreDistinct (cons_option o [])
-distinct_by None = tt
-distinct_by (Some block) = (refl, tt)
-
-distinct : (blocks : List RawBlock) → length blocks ≤ 1 → AreDistinct (filter_map block_of blocks)
-distinct [] h = tt
-distinct (raw ∷ []) h = distinct_by (block_of raw)
-distinct (a ∷ b ∷ rest) h = absurd (omega arith)
-
 -- Programs
 
 program_accepted : (end : Line) (tokens : List Token) (program : Program) → IsText end tokens program → IsAccepted program
 program_accepted end tokens program text =
     let raw = raw_of text.items in
-    let later : All IsKept (brackets raw ∷ no_blocks raw ∷ []) = All-tail IsKept (unbuilt raw) (brackets raw ∷ no_blocks raw ∷ []) text.kept in
-    let built : unbuilt raw ≡ [] = All-head IsKept (unbuilt raw) (brackets raw ∷ no_blocks raw ∷ []) text.kept in
-    let closed : brackets raw ≡ [] = All-head IsKept (brackets raw) (no_blocks raw ∷ []) later in
-    let some : no_blocks raw ≡ [] = All-head IsKept (no_blocks raw) [] (All-tail IsKept (brackets raw) (no_blocks raw ∷ []) later) in
+    let behind : List (List Break) = doubled raw ∷ brackets raw ∷ no_blocks raw ∷ [] in
+    let later : All IsKept behind = All-tail IsKept (unbuilt raw) behind text.kept in
+    let built : unbuilt raw ≡ [] = All-head IsKept (unbuilt raw) behind text.kept in
+    let once : doubled raw ≡ [] = All-head IsKept (doubled raw) (brackets raw ∷ no_blocks raw ∷ []) later in
+    let last : All IsKept (brackets raw ∷ no_blocks raw ∷ []) = All-tail IsKept (doubled raw) (brackets raw ∷ no_blocks raw ∷ []) later in
+    let closed : brackets raw ≡ [] = All-head IsKept (brackets raw) (no_blocks raw ∷ []) last in
+    let some : no_blocks raw ≡ [] = All-head IsKept (no_blocks raw) [] (All-tail IsKept (brackets raw) (no_blocks raw ∷ []) last) in
+    let all : AreKept [] (filter_map block_of raw.blocks) = kept [] raw.blocks once in
+    let nested_all = all_made (λ b. brackets_in b ≡ []) (λ (b : Block). AreNested b.body 0) block_of (λ b e. brackets_with b (block_name b.kind b.name) e) raw.blocks (none_of_all brackets_in raw.blocks closed) in
     let made : IsAccepted (program_of raw) = record {
       some = some_block raw.blocks built some;
-      blocks = all_made (λ b. brackets_in b ≡ []) IsAcceptedBlock block_of block_is raw.blocks (none_of_all brackets_in raw.blocks closed);
-      names = distinct raw.blocks (one_at_most text.are);
+      blocks = all_both (filter_map block_of raw.blocks) all.sound nested_all;
+      names = all.apart;
       dbs = record { ascend = tt; few = omega arith; sized = All-nil IsSized };
       symbols = All-nil IsSymbol;
       instances = refl;

@@ -100,101 +100,101 @@ alone = refl
 -- what is left out, by its kind, and what is refused
 
 timer_of_fr : verdict (with_body (codes "FR T 1;")) ≡ refused 3 (Unsupported kind.Timer)
-unfolding verdict judged raw_text raw_program item_at is_not_built instruction_of tokens_of mnemonic_at
+unfolding verdict judged raw_text raw_program item_at is_not_built instruction_of tokens_of mnemonic_at mnemonic_named op_of given out-RawOperand Carrier.out
 timer_of_fr = refl
 
 counter_of_lc : verdict (with_body (codes "LC C1;")) ≡ refused 3 (Unsupported kind.Counter)
-unfolding verdict judged raw_text raw_program item_at is_not_built instruction_of tokens_of mnemonic_at
+unfolding verdict judged raw_text raw_program item_at is_not_built instruction_of tokens_of mnemonic_at mnemonic_named op_of given out-RawOperand Carrier.out
 counter_of_lc = refl
 
 timer_loaded : verdict (with_body (codes "L T 1;")) ≡ refused 3 (Unsupported kind.Timer)
-unfolding verdict judged raw_text raw_program item_at is_not_built instruction_of tokens_of mnemonic_at
+unfolding verdict judged raw_text raw_program item_at is_not_built instruction_of tokens_of mnemonic_at mnemonic_named op_of given out-RawOperand Carrier.out
 timer_loaded = refl
 
 peripheral_stored : verdict (with_body (codes "T PQW [MW 0];")) ≡ refused 3 (Unsupported kind.Peripheral)
-unfolding verdict judged raw_text raw_program item_at is_not_built instruction_of tokens_of mnemonic_at
+unfolding verdict judged raw_text raw_program item_at is_not_built instruction_of tokens_of mnemonic_at mnemonic_named op_of given out-RawOperand Carrier.out
 peripheral_stored = refl
 
 counter_constant : verdict (with_body (codes "SLW C#5;")) ≡ refused 3 (Unsupported kind.Counter)
-unfolding verdict judged raw_text raw_program item_at is_not_built instruction_of tokens_of mnemonic_at
+unfolding verdict judged raw_text raw_program item_at is_not_built instruction_of tokens_of mnemonic_at mnemonic_named op_of given out-RawOperand Carrier.out
 counter_constant = refl
 
 name_pointer : verdict (with_body (codes "AD P##x;")) ≡ refused 3 (Unsupported kind.NamePointer)
-unfolding verdict judged raw_text raw_program item_at is_not_built instruction_of tokens_of mnemonic_at
+unfolding verdict judged raw_text raw_program item_at is_not_built instruction_of tokens_of mnemonic_at mnemonic_named op_of given out-RawOperand Carrier.out
 name_pointer = refl
 
 time : verdict (with_body (codes "+ S5T#1s;")) ≡ refused 3 (Unsupported kind.DateTime)
-unfolding verdict judged raw_text raw_program item_at is_not_built instruction_of tokens_of mnemonic_at
+unfolding verdict judged raw_text raw_program item_at is_not_built instruction_of tokens_of mnemonic_at mnemonic_named op_of given out-RawOperand Carrier.out
 time = refl
 
 real : verdict (with_body (codes "L -1.5E+3 foo;")) ≡ refused 3 (Unsupported kind.Real)
-unfolding verdict judged raw_text raw_program item_at is_not_built instruction_of tokens_of mnemonic_at
+unfolding verdict judged raw_text raw_program item_at is_not_built instruction_of tokens_of mnemonic_at mnemonic_named op_of given out-RawOperand Carrier.out
 real = refl
 
 no_real : verdict (with_body (codes "L 1e5;")) ≡ refused 3 (Unsupported kind.NotBuilt)
-unfolding verdict judged raw_text raw_program item_at is_not_built instruction_of tokens_of mnemonic_at
+unfolding verdict judged raw_text raw_program item_at is_not_built instruction_of tokens_of mnemonic_at mnemonic_named op_of given out-RawOperand Carrier.out
 no_real = refl
 
 length : verdict (with_body (codes "L DBLG;")) ≡ refused 3 (Unsupported kind.DbLength)
-unfolding verdict judged raw_text raw_program item_at is_not_built instruction_of tokens_of mnemonic_at
+unfolding verdict judged raw_text raw_program item_at is_not_built instruction_of tokens_of mnemonic_at mnemonic_named op_of given out-RawOperand Carrier.out
 length = refl
 
 length_stored : verdict (with_body (codes "T DBLG;")) ≡ refused 3 (Unsupported kind.NotBuilt)
-unfolding verdict judged raw_text raw_program item_at is_not_built instruction_of tokens_of mnemonic_at
+unfolding verdict judged raw_text raw_program item_at is_not_built instruction_of tokens_of mnemonic_at mnemonic_named op_of given out-RawOperand Carrier.out
 length_stored = refl
 
 accumulators : verdict (with_body (codes "ENT;")) ≡ refused 3 (Unsupported kind.Accumulators)
-unfolding verdict judged raw_text raw_program item_at is_not_built instruction_of tokens_of mnemonic_at
+unfolding verdict judged raw_text raw_program item_at is_not_built instruction_of tokens_of mnemonic_at mnemonic_named op_of given out-RawOperand Carrier.out
 accumulators = refl
 
 past_a_word : verdict (with_body (codes "L 32768;")) ≡ refused 3 (Unsupported kind.NotBuilt)
-unfolding verdict judged raw_text raw_program item_at is_not_built instruction_of tokens_of mnemonic_at
+unfolding verdict judged raw_text raw_program item_at is_not_built instruction_of tokens_of mnemonic_at mnemonic_named op_of given out-RawOperand Carrier.out
 past_a_word = refl
 
 blank_behind_the_minus : verdict (with_body (codes "L - 5;")) ≡ refused 3 (Unsupported kind.NotBuilt)
-unfolding verdict judged raw_text raw_program item_at is_not_built instruction_of tokens_of mnemonic_at
+unfolding verdict judged raw_text raw_program item_at is_not_built instruction_of tokens_of mnemonic_at mnemonic_named op_of given out-RawOperand Carrier.out
 blank_behind_the_minus = refl
 
 plus_sign : verdict (with_body (codes "L +5;")) ≡ refused 3 (Unsupported kind.NotBuilt)
-unfolding verdict judged raw_text raw_program item_at is_not_built instruction_of tokens_of mnemonic_at
+unfolding verdict judged raw_text raw_program item_at is_not_built instruction_of tokens_of mnemonic_at mnemonic_named op_of given out-RawOperand Carrier.out
 plus_sign = refl
 
 bar_in_hexadecimal : verdict (with_body (codes "L W#16#1_0;")) ≡ refused 3 (Unsupported kind.NotBuilt)
-unfolding verdict judged raw_text raw_program item_at is_not_built instruction_of tokens_of mnemonic_at
+unfolding verdict judged raw_text raw_program item_at is_not_built instruction_of tokens_of mnemonic_at mnemonic_named op_of given out-RawOperand Carrier.out
 bar_in_hexadecimal = refl
 
 no_character : verdict (with_body (codes "L '';")) ≡ refused 3 (Unsupported kind.NotBuilt)
-unfolding verdict judged raw_text raw_program item_at is_not_built instruction_of tokens_of mnemonic_at
+unfolding verdict judged raw_text raw_program item_at is_not_built instruction_of tokens_of mnemonic_at mnemonic_named op_of given out-RawOperand Carrier.out
 no_character = refl
 
 sixteen_steps : verdict (with_body (codes "SLW 16;")) ≡ refused 3 (Unsupported kind.NotBuilt)
-unfolding verdict judged raw_text raw_program item_at is_not_built instruction_of tokens_of mnemonic_at
+unfolding verdict judged raw_text raw_program item_at is_not_built instruction_of tokens_of mnemonic_at mnemonic_named op_of given out-RawOperand Carrier.out
 sixteen_steps = refl
 
 hexadecimal_added : verdict (with_body (codes "+ W#16#5;")) ≡ refused 3 (Unsupported kind.NotBuilt)
-unfolding verdict judged raw_text raw_program item_at is_not_built instruction_of tokens_of mnemonic_at
+unfolding verdict judged raw_text raw_program item_at is_not_built instruction_of tokens_of mnemonic_at mnemonic_named op_of given out-RawOperand Carrier.out
 hexadecimal_added = refl
 
 byte_in_a_word : verdict (with_body (codes "AW B#16#5;")) ≡ refused 3 (Unsupported kind.NotBuilt)
-unfolding verdict judged raw_text raw_program item_at is_not_built instruction_of tokens_of mnemonic_at
+unfolding verdict judged raw_text raw_program item_at is_not_built instruction_of tokens_of mnemonic_at mnemonic_named op_of given out-RawOperand Carrier.out
 byte_in_a_word = refl
 
 word_past_the_area : verdict (with_body (codes "L MW 8191;")) ≡ refused 3 (Unsupported kind.NotBuilt)
-unfolding verdict judged raw_text raw_program item_at is_not_built instruction_of tokens_of mnemonic_at
+unfolding verdict judged raw_text raw_program item_at is_not_built instruction_of tokens_of mnemonic_at mnemonic_named op_of given out-RawOperand Carrier.out
 word_past_the_area = refl
 
 bit_loaded : verdict (with_body (codes "L M 0.0;")) ≡ refused 3 (Unsupported kind.NotBuilt)
-unfolding verdict judged raw_text raw_program item_at is_not_built instruction_of tokens_of mnemonic_at
+unfolding verdict judged raw_text raw_program item_at is_not_built instruction_of tokens_of mnemonic_at mnemonic_named op_of given out-RawOperand Carrier.out
 bit_loaded = refl
 
 constant_stored : verdict (with_body (codes "T 5;")) ≡ refused 3 (Unsupported kind.NotBuilt)
-unfolding verdict judged raw_text raw_program item_at is_not_built instruction_of tokens_of mnemonic_at
+unfolding verdict judged raw_text raw_program item_at is_not_built instruction_of tokens_of mnemonic_at mnemonic_named op_of given out-RawOperand Carrier.out
 constant_stored = refl
 
 timer_added : verdict (with_body (codes "+ T 1;")) ≡ refused 3 (Unsupported kind.NotBuilt)
-unfolding verdict judged raw_text raw_program item_at is_not_built instruction_of tokens_of mnemonic_at
+unfolding verdict judged raw_text raw_program item_at is_not_built instruction_of tokens_of mnemonic_at mnemonic_named op_of given out-RawOperand Carrier.out
 timer_added = refl
 
 pointer : verdict (with_body (codes "L P#0.0;")) ≡ refused 3 (Unsupported kind.NotBuilt)
-unfolding verdict judged raw_text raw_program item_at is_not_built instruction_of tokens_of mnemonic_at
+unfolding verdict judged raw_text raw_program item_at is_not_built instruction_of tokens_of mnemonic_at mnemonic_named op_of given out-RawOperand Carrier.out
 pointer = refl

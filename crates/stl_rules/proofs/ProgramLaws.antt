@@ -6,7 +6,6 @@ use Rattle.std.proofs.lemmas.Int.{ints}
 use Rattle.std.proofs.lemmas.Bool.{and_parts, leb-true, ltb-true, not-true}
 use Rattle.std.proofs.lemmas.List.Elements.{All-cons, All-nil, All-head, All-tail}
 use Rattle.memory_areas.specs.Access.{is_byte_in, is_unaligned}
-use Rattle.memory_areas.specs.declared.call.BlockName.TheVariants.{Ob}
 use Rattle.memory_areas.specs.declared.place.AreaName.TheVariants as area
 use Rattle.s7_base.specs.SignedNumbers.{is_over}
 use Rattle.s7_base.specs.declared.check.Check.{Check}
@@ -14,11 +13,11 @@ use Rattle.s7_base.specs.declared.check.Check.TheVariants as check
 use Rattle.s7_base.specs.declared.word.Width.{Width}
 use Rattle.s7_base.specs.declared.word.Width.TheVariants as width
 use Rattle.status_word.specs.declared.test.Test.{Test}
-use Rattle.stl_tree.specs.Accepted.{HasOperand, IsBlockNumber, IsBlockOpened, IsComparison, IsNumberWidth, IsOperand}
+use Rattle.stl_tree.specs.Accepted.{HasOperand, IsBlockOpened, IsComparison, IsNumberWidth, IsOperand}
 use Rattle.stl_tree.specs.Accumulators.{bits_wide, signed_part}
 use Rattle.stl_statements.specs.Constants.{fits}
 use Rattle.stl_statements.specs.Mnemonics.{mnemonic_named}
-use Rattle.stl_rules.specs.Programs.{adding, alone, block_name, checked, combining, comparing, instr_of, is_compared, loading, on_bit, on_number, op_by, op_of, op_with, opening, shifting, storing, unchecked, value_in, with_number, within}
+use Rattle.stl_rules.specs.Programs.{adding, alone, ob_number, checked, combining, comparing, instr_of, is_compared, loading, on_bit, on_number, op_by, op_of, op_with, opening, shifting, storing, unchecked, value_in, with_number, within}
 use Rattle.stl_rules.specs.Raw.{given, given_in, given_number, is_block_number, is_placed, operand_at}
 use Rattle.stl_rules.specs.declared.given.Given.{Given}
 use Rattle.stl_rules.specs.declared.given.Given.TheVariants as behind
@@ -253,15 +252,14 @@ instr_is raw = on_line_is raw (op_of raw.op) (op_is raw.op)
 
 -- Blocks
 
-in_range : (a b : Bool) (n : ℕ) → nat_le 1 n ≡ a → nat_le n 65535 ≡ b → IfSome (if a && b then Some (Ob n) else None) IsBlockNumber
-in_range true true n low high = (leb-true 1 n low, leb-true n 65535 high)
-in_range true false n low high = tt
-in_range false b n low high = tt
-
--- the name of a block has a number of its kind
-pub name_is : (kind : BlockKind) (name : RawName) → IfSome (block_name kind name) IsBlockNumber
-name_is block.Ob (Number n) = in_range (nat_le 1 n) (nat_le n 65535) n refl refl
-name_is kind name = tt
+-- an organization block has a number that one may have
+pub number_of_ob : (kind : BlockKind) (name : RawName) → IfSome (ob_number kind name) IsBlockOpened
+number_of_ob block.Ob (Number n) = by (nat_le 1 n && nat_le n 65535) refl
+  where
+    by : (b : Bool) → nat_le 1 n && nat_le n 65535 ≡ b → IfSome (if b then Some n else None) IsBlockOpened
+    by true e = let p = and_parts (nat_le 1 n) (nat_le n 65535) e in (leb-true 1 n p.0, leb-true n 65535 p.1)
+    by false e = tt
+number_of_ob kind name = tt
 
 -- Lists
 

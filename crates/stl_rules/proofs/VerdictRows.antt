@@ -8,7 +8,7 @@ use Rattle.memory_areas.specs.declared.place.AreaName.TheVariants as area
 use Rattle.status_word.specs.declared.test.Test.TheVariants as test
 use Rattle.s7_base.specs.declared.reason.Kind.TheVariants.{NotBuilt, Real, Timer}
 use Rattle.s7_base.specs.declared.reason.Reason.{Reason}
-use Rattle.s7_base.specs.declared.reason.Reason.TheVariants.{BadToken, BadStatement, Unsupported, BracketMissing, BracketOpen, NoBlocks, TooManyBrackets}
+use Rattle.s7_base.specs.declared.reason.Reason.TheVariants.{BadToken, BadStatement, DuplicateBlock, Unsupported, BracketMissing, BracketOpen, NoBlocks, TooManyBrackets}
 use Rattle.s7_base.specs.declared.reason.Rejection.{Rejection}
 use Rattle.s7_base.specs.declared.reason.Rejection.TheVariants.{Refused}
 use Rattle.stl_grammar.specs.Items.{is_not_built, item_at}
@@ -59,127 +59,133 @@ unfolding verdict judged raw_text raw_program item_at is_not_built instruction_o
 three_instructions = refl
 
 empty_input : verdict [] ≡ refused 1 NoBlocks
-unfolding verdict judged raw_text raw_program item_at is_not_built instruction_of tokens_of mnemonic_at
+unfolding verdict judged raw_text raw_program item_at is_not_built instruction_of tokens_of mnemonic_at mnemonic_named op_of given out-RawOperand Carrier.out
 empty_input = refl
 
 not_built : verdict (with_body (codes "JU a;")) ≡ refused 3 (Unsupported NotBuilt)
-unfolding verdict judged raw_text raw_program item_at is_not_built instruction_of tokens_of mnemonic_at
+unfolding verdict judged raw_text raw_program item_at is_not_built instruction_of tokens_of mnemonic_at mnemonic_named op_of given out-RawOperand Carrier.out
 not_built = refl
 
 no_mnemonic : verdict (with_body (codes "FOO 5;")) ≡ refused 3 BadStatement
-unfolding verdict judged raw_text raw_program item_at is_not_built instruction_of tokens_of mnemonic_at
+unfolding verdict judged raw_text raw_program item_at is_not_built instruction_of tokens_of mnemonic_at mnemonic_named op_of given out-RawOperand Carrier.out
 no_mnemonic = refl
 
 timer_is_left_out : verdict (with_body (codes "SP T 1;")) ≡ refused 3 (Unsupported Timer)
-unfolding verdict judged raw_text raw_program item_at is_not_built instruction_of tokens_of mnemonic_at
+unfolding verdict judged raw_text raw_program item_at is_not_built instruction_of tokens_of mnemonic_at mnemonic_named op_of given out-RawOperand Carrier.out
 timer_is_left_out = refl
 
 label_is_not_built : verdict (with_body (codes "a: A I 0.0;")) ≡ refused 3 (Unsupported NotBuilt)
-unfolding verdict judged raw_text raw_program item_at is_not_built instruction_of tokens_of mnemonic_at
+unfolding verdict judged raw_text raw_program item_at is_not_built instruction_of tokens_of mnemonic_at mnemonic_named op_of given out-RawOperand Carrier.out
 label_is_not_built = refl
 
 label_before_mnemonic : verdict (with_body (codes "A: A I 0.0;")) ≡ refused 3 (Unsupported NotBuilt)
-unfolding verdict judged raw_text raw_program item_at is_not_built instruction_of tokens_of mnemonic_at
+unfolding verdict judged raw_text raw_program item_at is_not_built instruction_of tokens_of mnemonic_at mnemonic_named op_of given out-RawOperand Carrier.out
 label_before_mnemonic = refl
 
 colon_equals_is_no_label : verdict (with_body (codes "L1:= M 0.0;")) ≡ refused 3 BadStatement
-unfolding verdict judged raw_text raw_program item_at is_not_built instruction_of tokens_of mnemonic_at
+unfolding verdict judged raw_text raw_program item_at is_not_built instruction_of tokens_of mnemonic_at mnemonic_named op_of given out-RawOperand Carrier.out
 colon_equals_is_no_label = refl
 
 title_needs_its_line : verdict (with_body (codes "TITLE\n= Q 4.0;")) ≡ refused 3 BadStatement
-unfolding verdict judged raw_text raw_program item_at is_not_built instruction_of tokens_of mnemonic_at
+unfolding verdict judged raw_text raw_program item_at is_not_built instruction_of tokens_of mnemonic_at mnemonic_named op_of given out-RawOperand Carrier.out
 title_needs_its_line = refl
 
 blank_before_the_point : verdict (with_body (codes "A I 0 .0;")) ≡ refused 3 (Unsupported NotBuilt)
-unfolding verdict judged raw_text raw_program item_at is_not_built instruction_of tokens_of mnemonic_at
+unfolding verdict judged raw_text raw_program item_at is_not_built instruction_of tokens_of mnemonic_at mnemonic_named op_of given out-RawOperand Carrier.out
 blank_before_the_point = refl
 
 byte_past_the_inputs : verdict (with_body (codes "A I 2048.0;")) ≡ refused 3 (Unsupported NotBuilt)
-unfolding verdict judged raw_text raw_program item_at is_not_built instruction_of tokens_of mnemonic_at
+unfolding verdict judged raw_text raw_program item_at is_not_built instruction_of tokens_of mnemonic_at mnemonic_named op_of given out-RawOperand Carrier.out
 byte_past_the_inputs = refl
 
 bit_eight : verdict (with_body (codes "A I 0.8;")) ≡ refused 3 (Unsupported NotBuilt)
-unfolding verdict judged raw_text raw_program item_at is_not_built instruction_of tokens_of mnemonic_at
+unfolding verdict judged raw_text raw_program item_at is_not_built instruction_of tokens_of mnemonic_at mnemonic_named op_of given out-RawOperand Carrier.out
 bit_eight = refl
 
-network_is_not_built : verdict (with_body (codes "NETWORK\nA I 0.0;")) ≡ refused 3 (Unsupported NotBuilt)
-unfolding verdict judged raw_text raw_program item_at is_not_built instruction_of tokens_of mnemonic_at
-network_is_not_built = refl
+network_is_skipped : verdict (with_body (codes "NETWORK\n);")) ≡ refused 4 BracketMissing
+unfolding verdict judged raw_text raw_program item_at is_not_built instruction_of tokens_of mnemonic_at mnemonic_named op_of given out-RawOperand Carrier.out
+network_is_skipped = refl
 
 section_is_not_built : verdict (with_body (codes "VAR_TEMP")) ≡ refused 3 (Unsupported NotBuilt)
-unfolding verdict judged raw_text raw_program item_at is_not_built instruction_of tokens_of mnemonic_at
+unfolding verdict judged raw_text raw_program item_at is_not_built instruction_of tokens_of mnemonic_at mnemonic_named op_of given out-RawOperand Carrier.out
 section_is_not_built = refl
 
 statement_is_cut_off : verdict (with_body (codes "A I 0.0")) ≡ refused 3 BadStatement
-unfolding verdict judged raw_text raw_program item_at is_not_built instruction_of tokens_of mnemonic_at
+unfolding verdict judged raw_text raw_program item_at is_not_built instruction_of tokens_of mnemonic_at mnemonic_named op_of given out-RawOperand Carrier.out
 statement_is_cut_off = refl
 
 typed_sign_is_a_mnemonic : verdict (with_body (codes "+R;")) ≡ refused 3 (Unsupported Real)
-unfolding verdict judged raw_text raw_program item_at is_not_built instruction_of tokens_of mnemonic_at
+unfolding verdict judged raw_text raw_program item_at is_not_built instruction_of tokens_of mnemonic_at mnemonic_named op_of given out-RawOperand Carrier.out
 typed_sign_is_a_mnemonic = refl
 
 typed_sign_with_a_blank : verdict (with_body (codes "-{x} I;")) ≡ refused 3 BadStatement
-unfolding verdict judged raw_text raw_program item_at is_not_built instruction_of tokens_of mnemonic_at
+unfolding verdict judged raw_text raw_program item_at is_not_built instruction_of tokens_of mnemonic_at mnemonic_named op_of given out-RawOperand Carrier.out
 typed_sign_with_a_blank = refl
 
 bad_token_comes_first : verdict (with_body (codes "FOO 5;\n\"open")) ≡ refused 4 BadToken
-unfolding verdict judged raw_text raw_program item_at is_not_built instruction_of tokens_of mnemonic_at
+unfolding verdict judged raw_text raw_program item_at is_not_built instruction_of tokens_of mnemonic_at mnemonic_named op_of given out-RawOperand Carrier.out
 bad_token_comes_first = refl
 
 body_is_missing : verdict (codes "ORGANIZATION_BLOCK OB 1\n") ≡ refused 2 BadStatement
-unfolding verdict judged raw_text raw_program item_at is_not_built instruction_of tokens_of mnemonic_at
+unfolding verdict judged raw_text raw_program item_at is_not_built instruction_of tokens_of mnemonic_at mnemonic_named op_of given out-RawOperand Carrier.out
 body_is_missing = refl
 
 text_ends_in_the_body : verdict (codes "ORGANIZATION_BLOCK OB 1\nBEGIN\n") ≡ refused 3 BadStatement
-unfolding verdict judged raw_text raw_program item_at is_not_built instruction_of tokens_of mnemonic_at
+unfolding verdict judged raw_text raw_program item_at is_not_built instruction_of tokens_of mnemonic_at mnemonic_named op_of given out-RawOperand Carrier.out
 text_ends_in_the_body = refl
 
 heading_is_cut_off : verdict (codes "ORGANIZATION_BLOCK\nOB") ≡ refused 1 BadStatement
-unfolding verdict judged raw_text raw_program item_at is_not_built instruction_of tokens_of mnemonic_at
+unfolding verdict judged raw_text raw_program item_at is_not_built instruction_of tokens_of mnemonic_at mnemonic_named op_of given out-RawOperand Carrier.out
 heading_is_cut_off = refl
 
-block_zero : verdict (codes "ORGANIZATION_BLOCK OB 0") ≡ refused 1 (Unsupported NotBuilt)
-unfolding verdict judged raw_text raw_program item_at is_not_built instruction_of tokens_of mnemonic_at
+block_zero : verdict (codes "ORGANIZATION_BLOCK OB 0 BEGIN END_ORGANIZATION_BLOCK") ≡ refused 1 (Unsupported NotBuilt)
+unfolding verdict judged raw_text raw_program item_at is_not_built instruction_of tokens_of mnemonic_at mnemonic_named op_of given out-RawOperand Carrier.out
 block_zero = refl
 
+second_block_of_a_number :
+    verdict (codes "ORGANIZATION_BLOCK OB 1 BEGIN END_ORGANIZATION_BLOCK\nORGANIZATION_BLOCK OB1\nBEGIN ); END_ORGANIZATION_BLOCK")
+    ≡ refused 2 DuplicateBlock
+unfolding verdict judged raw_text raw_program item_at is_not_built instruction_of tokens_of mnemonic_at mnemonic_named op_of given out-RawOperand Carrier.out
+second_block_of_a_number = refl
+
 function_is_not_built : verdict (codes "FUNCTION FC 1 : VOID") ≡ refused 1 (Unsupported NotBuilt)
-unfolding verdict judged raw_text raw_program item_at is_not_built instruction_of tokens_of mnemonic_at
+unfolding verdict judged raw_text raw_program item_at is_not_built instruction_of tokens_of mnemonic_at mnemonic_named op_of given out-RawOperand Carrier.out
 function_is_not_built = refl
 
 function_word_alone : verdict (codes "FUNCTION") ≡ refused 1 BadStatement
-unfolding verdict judged raw_text raw_program item_at is_not_built instruction_of tokens_of mnemonic_at
+unfolding verdict judged raw_text raw_program item_at is_not_built instruction_of tokens_of mnemonic_at mnemonic_named op_of given out-RawOperand Carrier.out
 function_word_alone = refl
 
 function_without_its_type : verdict (codes "FUNCTION FC 1 :") ≡ refused 1 BadStatement
-unfolding verdict judged raw_text raw_program item_at is_not_built instruction_of tokens_of mnemonic_at
+unfolding verdict judged raw_text raw_program item_at is_not_built instruction_of tokens_of mnemonic_at mnemonic_named op_of given out-RawOperand Carrier.out
 function_without_its_type = refl
 
 function_named_in_quotes : verdict (codes "FUNCTION \"x\"") ≡ refused 1 BadStatement
-unfolding verdict judged raw_text raw_program item_at is_not_built instruction_of tokens_of mnemonic_at
+unfolding verdict judged raw_text raw_program item_at is_not_built instruction_of tokens_of mnemonic_at mnemonic_named op_of given out-RawOperand Carrier.out
 function_named_in_quotes = refl
 
 data_block_without_its_number : verdict (codes "DATA_BLOCK DB") ≡ refused 1 BadStatement
-unfolding verdict judged raw_text raw_program item_at is_not_built instruction_of tokens_of mnemonic_at
+unfolding verdict judged raw_text raw_program item_at is_not_built instruction_of tokens_of mnemonic_at mnemonic_named op_of given out-RawOperand Carrier.out
 data_block_without_its_number = refl
 
 function_block_with_its_number : verdict (codes "FUNCTION_BLOCK FB1") ≡ refused 1 (Unsupported NotBuilt)
-unfolding verdict judged raw_text raw_program item_at is_not_built instruction_of tokens_of mnemonic_at
+unfolding verdict judged raw_text raw_program item_at is_not_built instruction_of tokens_of mnemonic_at mnemonic_named op_of given out-RawOperand Carrier.out
 function_block_with_its_number = refl
 
 second_block_is_cut_off : verdict (codes "ORGANIZATION_BLOCK OB 1\nBEGIN\nEND_ORGANIZATION_BLOCK\nORGANIZATION_BLOCK") ≡ refused 4 BadStatement
-unfolding verdict judged raw_text raw_program item_at is_not_built instruction_of tokens_of mnemonic_at
+unfolding verdict judged raw_text raw_program item_at is_not_built instruction_of tokens_of mnemonic_at mnemonic_named op_of given out-RawOperand Carrier.out
 second_block_is_cut_off = refl
 
 second_block : verdict (codes "ORGANIZATION_BLOCK OB 1\nBEGIN\nEND_ORGANIZATION_BLOCK\nDATA_BLOCK DB 1") ≡ refused 4 (Unsupported NotBuilt)
-unfolding verdict judged raw_text raw_program item_at is_not_built instruction_of tokens_of mnemonic_at
+unfolding verdict judged raw_text raw_program item_at is_not_built instruction_of tokens_of mnemonic_at mnemonic_named op_of given out-RawOperand Carrier.out
 second_block = refl
 
 semicolon_behind_the_end : verdict (codes "ORGANIZATION_BLOCK OB 1\nBEGIN\nEND_ORGANIZATION_BLOCK;") ≡ refused 3 BadStatement
-unfolding verdict judged raw_text raw_program item_at is_not_built instruction_of tokens_of mnemonic_at
+unfolding verdict judged raw_text raw_program item_at is_not_built instruction_of tokens_of mnemonic_at mnemonic_named op_of given out-RawOperand Carrier.out
 semicolon_behind_the_end = refl
 
 comment_alone : verdict (codes "// nothing here\n") ≡ refused 1 NoBlocks
-unfolding verdict judged raw_text raw_program item_at is_not_built instruction_of tokens_of mnemonic_at
+unfolding verdict judged raw_text raw_program item_at is_not_built instruction_of tokens_of mnemonic_at mnemonic_named op_of given out-RawOperand Carrier.out
 comment_alone = refl
 
 -- words in any case, numbers with leading zeros, titles, attributes and empty statements

@@ -189,14 +189,14 @@ instr_of raw = option_map (λ what. record { line = raw.line; op = what }) (op_o
 
 -- Blocks
 
--- the name of an organization block
-abbrev pub ob_name : ℕ → Option BlockName
-ob_name n = if nat_le 1 n && nat_le n 65535 then Some (Ob n) else None
+-- the number of an organization block, from 1 to 65535
+abbrev pub ob_number : BlockKind → RawName → Option ℕ
+ob_number block.Ob (Number n) = if nat_le 1 n && nat_le n 65535 then Some n else None
+ob_number unbuilt name = None
 
 -- the name of a block by its kind and what stands in its heading, if it is built
 abbrev pub block_name : BlockKind → RawName → Option BlockName
-block_name block.Ob (Number n) = ob_name n
-block_name unbuilt name = None
+block_name kind name = option_map (λ n. Ob n) (ob_number kind name)
 
 -- the instructions of a raw block, the last of them that of its end word
 abbrev pub body_of : RawBlock → List Instr

@@ -1,13 +1,13 @@
 -- The rules of a raw program, stage by stage: each of them gives all that breaks it.
-use Rattle.std.specs.Prelude.{ℕ, zero, suc, nat_lt, if◌then◌else◌, List, [], ◌∷◌, ◌++◌, Option, Some, None}
-use Rattle.std.specs.List.{flat_map}
+use Rattle.std.specs.Prelude.{ℕ, zero, suc, Bool, nat_eq, nat_lt, if◌then◌else◌, List, [], ◌∷◌, ◌++◌, Option, Some, None}
+use Rattle.std.specs.List.{flat_map, list_any}
 use Rattle.nesting_stack.specs.Entries.{most_open}
 use Rattle.s7_base.specs.Broken.{broken, first_of_all}
 use Rattle.s7_base.specs.declared.broken.Break.{Break}
 use Rattle.s7_base.specs.declared.reason.Kind.TheVariants.{NotBuilt}
 use Rattle.s7_base.specs.declared.reason.Line.{Line}
-use Rattle.s7_base.specs.declared.reason.Reason.TheVariants.{BracketMissing, BracketOpen, NoBlocks, TooManyBrackets, Unsupported}
-use Rattle.stl_rules.specs.Programs.{block_name, body_of, op_of}
+use Rattle.s7_base.specs.declared.reason.Reason.TheVariants.{BracketMissing, BracketOpen, DuplicateBlock, NoBlocks, TooManyBrackets, Unsupported}
+use Rattle.stl_rules.specs.Programs.{block_name, body_of, ob_number, op_of}
 use Rattle.stl_tree.specs.declared.program.Instr.{Instr}
 use Rattle.stl_tree.specs.declared.program.Op.{Op}
 use Rattle.stl_tree.specs.declared.program.Op.TheVariants as op
@@ -33,6 +33,32 @@ unbuilt_block raw = unless_there raw.line (block_name raw.kind raw.name) ++ flat
 
 abbrev pub unbuilt : RawProgram → List Break
 unbuilt raw = flat_map unbuilt_block raw.blocks
+
+-- Numbers of blocks
+
+-- a number is one of some
+abbrev pub is_among : ℕ → List ℕ → Bool
+is_among n numbers = list_any (nat_eq n) numbers
+
+-- a block with the number of one before it
+abbrev pub doubled_at : Line → List ℕ → Option ℕ → List Break
+doubled_at line before None = []
+doubled_at line before (Some n) = if is_among n before then broken line DuplicateBlock else []
+
+-- the numbers before, with one more
+abbrev pub with_number : List ℕ → Option ℕ → List ℕ
+with_number before None = before
+with_number before (Some n) = if is_among n before then before else before ++ n ∷ []
+
+-- blocks behind others with these numbers
+abbrev pub doubled_behind : List ℕ → List RawBlock → List Break
+doubled_behind before [] = []
+doubled_behind before (raw ∷ raws) =
+    let number = ob_number raw.kind raw.name in
+    doubled_at raw.line before number ++ doubled_behind (with_number before number) raws
+
+abbrev pub doubled : RawProgram → List Break
+doubled raw = doubled_behind [] raw.blocks
 
 -- Brackets
 
@@ -76,7 +102,7 @@ no_blocks raw = none_among raw.blocks
 
 -- all that a raw program breaks, a list a stage
 abbrev pub stages : RawProgram → List (List Break)
-stages raw = unbuilt raw ∷ brackets raw ∷ no_blocks raw ∷ []
+stages raw = unbuilt raw ∷ doubled raw ∷ brackets raw ∷ no_blocks raw ∷ []
 
 -- the first of some broken rules, or else one of another stage
 abbrev pub or_later : Option Break → Option Break → Option Break

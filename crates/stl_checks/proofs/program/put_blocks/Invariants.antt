@@ -10,3 +10,4 @@ invariant-loop-raw l =
     (l.blocks ≡ l.initial.blocks ++ flat_map (λ raw. option_to_list (block_of raw)) (take l.raw-index l.raws))
     × (l.broken.unbuilt ≡ l.initial.broken.unbuilt ++ flat_map unbuilt_block (take l.raw-index l.raws))
     × (l.broken.brackets ≡ l.initial.broken.brackets ++ flat_map brackets_in (take l.raw-index l.raws))
+    × (l.broken.doubled ≡ l.initial.broken.doubled)
