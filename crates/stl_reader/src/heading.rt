@@ -1,11 +1,14 @@
 //! Headings of blocks, and the lines behind them that are skipped.
 ghost use Rattle.std.specs.Prelude.{◌≡◌, ◌+◌, ◌*◌, ◌-◌, ◌^◌, ◌≤◌, length, min};
+ghost use Rattle.std.specs.Prelude.{option_map};
+ghost use Rattle.stl_statements.specs.Readers.{fitting};
+ghost use Rattle.stl_tree.specs.declared.raw.RawName.TheVariants as raw_name;
 ghost use Rattle.stl_grammar.specs.Headings.{kept_from, kept_number, number_behind, number_within, name_at, line_of, heading_kind, kind_word, opened, opened_by, is_on, size_on, has_colon, is_skipped};
 
 use crate::words::{is_attribute, is_title};
 use s7_base::{Line, Reason, Token, rest_after};
 use stl_grammar::{Found, Item, Where};
-use stl_instructions::{are_digits, fitting, is_numbered, is_sign, is_word, is_word_kind};
+use stl_instructions::{are_digits, is_numbered, is_sign, is_word, is_word_kind};
 use stl_statements::Read;
 use stl_tree::{BlockKind, RawName};
 
@@ -59,16 +62,23 @@ fn number_within(kind: &str, word: &Token) -> Option<u32>
     }
 }
 
+/// A name by its number, which takes so many tokens.
+fn numbered_name(size: usize, number: Option<u32>) -> Read<RawName>
+    ensures { result ≡ fitting size (option_map (λ n. raw_name.Number n) number) }
+{
+    match number {
+        Some(number) => Read::Fits(RawName::Number(number), size),
+        None => Read::No,
+    }
+}
+
 /// What stands where a block of this kind may be named.
 fn name_at(kind: &str, tokens: &[Token]) -> Read<RawName>
     ensures { result ≡ name_at kind.now tokens.now }
 {
     match tokens {
-        [first, rest @ ..] if is_word(first, kind) => fitting(
-            2,
-            number_behind(rest).map(RawName::Number),
-        ),
-        [first, ..] => fitting(1, number_within(kind, first).map(RawName::Number)),
+        [first, rest @ ..] if is_word(first, kind) => numbered_name(2, number_behind(rest)),
+        [first, ..] => numbered_name(1, number_within(kind, first)),
         [] => Read::No,
     }
 }
