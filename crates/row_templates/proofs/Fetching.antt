@@ -1,9 +1,11 @@
 -- What stands before a row that works on an operand: its data block is opened, and what may fault is read into a local.
 --
--- A row that reads its operand and does no more than DoesRow says cites `fetched_row`: it is left to show what the
--- statements behind do from a state t in which the operand is worth what is read at its place. Any other cites
--- `by_place`, for the place and the state in which it was found, and then `opens` where the operand is written alone,
--- or `by_fetched`, which asks for both ways out.
+-- A row that reads its operand and does no more than DoesRow says cites `fetched_row`, with `bit_shown` or
+-- `number_shown w` for its reading: it is left to show what the statements behind do from a state t in which the
+-- operand is worth what is read at its place. One that writes alone cites `opened_row`. Any other cites `by_place`, for
+-- the place and the state in which the operand was found, and then `opens`, or `by_fetched`, which asks for both ways
+-- out. In a later state that is related to the one after, `found_read` and `found_wrote` say how the operand is read
+-- and written, as behind a local of the row's own.
 use Rattle.std.proofs.Common.{◌≡◌, ℕ, ◌+◌, ◌^◌, ◌<◌, ◌≤◌, pos, Bool, true, false, if◌then◌else◌, List, [], ◌∷◌, ◌++◌, length, Result, Ok, Err, refl, sym, ap, subst, ◌∙◌, arith}
 use Rattle.std.specs.Prelude.{slice_get, slice_set, Some}
 use Rattle.std.specs.Int.{from_bool}

@@ -2,7 +2,8 @@
 //!
 //! Stands on `stl_tree` and `st_tree`. The code makes expressions and assignments. The proofs, which the crates cite
 //! that write the statements of instructions, say how the states of both runs are related, what expressions are worth
-//! in them, and what the statements of an instruction owe (`DoesRow`); `Example` has two rows as they are to be proved.
+//! in them, what the statements of an instruction owe (`DoesRow`), and what those before it do that fetch an operand
+//! (`Fetching`); `Example` has two rows as they are to be proved.
 #![tactic(auto)]
 
 pub use builders::{
