@@ -308,10 +308,28 @@ static REFUSED_SOURCES: [(&[u8], &[u8]); 9] = [
         b"line 1: Unsupported(NotBuilt)\n",
     ),
     (
-        b"ORGANIZATION_BLOCK OB 1\nBEGIN\nEND_ORGANIZATION_BLOCK\nORGANIZATION_BLOCK OB 2\nBEGIN\nEND_ORGANIZATION_BLOCK\n",
-        b"line 4: Unsupported(NotBuilt)\n",
+        b"ORGANIZATION_BLOCK OB 1\nBEGIN\nEND_ORGANIZATION_BLOCK\nORGANIZATION_BLOCK OB1\nBEGIN\nEND_ORGANIZATION_BLOCK\n",
+        b"line 4: DuplicateBlock\n",
     ),
 ];
+
+/// Several blocks, with lines and words that are skipped.
+const BLOCKS: &[u8] = b"ORGANIZATION_BLOCK OB 35
+TITLE =Cyclic interrupt
+AUTHOR : PLANT
+VERSION : 0.1
+BEGIN
+NETWORK
+TITLE =
+END_ORGANIZATION_BLOCK
+ORGANIZATION_BLOCK OB1 BEGIN NETWORK END_ORGANIZATION_BLOCK
+";
+
+#[test]
+fn several_blocks_are_taken(rt: HostRuntime) -> Result<(), Fail> {
+    let text = b"PROGRAM OB35\nEND_PROGRAM\nPROGRAM OB1\nEND_PROGRAM\n";
+    Ok(wants_translation(&rt, rt.alloc(), BLOCKS, (Status::Done, text))?)
+}
 
 fn want_refused(rt: &impl Abort, alloc: Global, rows: &[(&[u8], &[u8])]) -> Result<(), NoMemory> {
     for (source, text) in rows {

@@ -10,7 +10,7 @@ use std::test::Fail;
 use stl_statements::Mnemonic;
 use stl_instructions::{instruction, mnemonic_named};
 use stl_lexer::tokens;
-use stl_tree::{Constant, RawOperand, RawPlace};
+use stl_tree::{Constant, RawName, RawOperand, RawPlace};
 
 /// An operand.
 #[derive(Clone, Copy, Debug, PartialEq)]
@@ -18,6 +18,13 @@ pub enum Wanted {
     Nothing,
     Bit(AreaName, u32, u32),
     Place(AreaName, Width, u32),
+
+    /// A data block, a width, a byte and a bit of it.
+    InBlock(u32, Width, u32, u32),
+    OpenDb(u32),
+    OpenDi(u32),
+    DbNo,
+    DiNo,
     Status(Test),
     Stw,
 
@@ -31,7 +38,9 @@ pub enum Wanted {
     Value(Width, u32),
 }
 
-use Wanted::{Binary, Bit, Nothing, Number, Place, Status, Stw, Value};
+use Wanted::{
+    Binary, Bit, DbNo, DiNo, InBlock, Nothing, Number, OpenDb, OpenDi, Place, Status, Stw, Value,
+};
 
 /// A statement without its `;`, the name of its mnemonic, what that is, and the operand.
 pub type Row = (&'static [u8], &'static [u8], Mnemonic, Wanted);
@@ -141,7 +150,7 @@ static CHECKS: [(&[u8], Check); 6] = [
 ];
 
 /// Statements that begin with a mnemonic or a label and have no form that is built, each on line 1.
-static NOT_BUILT: [&[u8]; 48] = [
+static NOT_BUILT: [&[u8]; 44] = [
     b"A",
     b"X",
     b"AN",
@@ -155,10 +164,6 @@ static NOT_BUILT: [&[u8]; 48] = [
     b"A I 0.0 I",
     b"A I 0 .0",
     b"A I 0. 0",
-    b"A I 0.8",
-    b"A I 2048.0",
-    b"A Q 2048.0",
-    b"= M 8192.0",
     b"A{x}N I 0.0",
     b"A == 0",
     b"A ==",
@@ -220,7 +225,7 @@ static BAD: [&[u8]; 20] = [
 static LINES: [(&[u8], u32, Reason); 5] = [
     (b"\n\nFOO\n5", 3, Reason::BadStatement),
     (b"\nA\nT 1", 2, Reason::Unsupported(Kind::Timer)),
-    (b"// A\n\nA I\n0.8", 3, Reason::Unsupported(Kind::NotBuilt)),
+    (b"// A\n\nA I\n0. 8", 3, Reason::Unsupported(Kind::NotBuilt)),
     (b"\na\n: SET", 2, Reason::Unsupported(Kind::NotBuilt)),
     (b"", 1, Reason::BadStatement),
 ];
@@ -241,6 +246,13 @@ fn place_of(place: &RawPlace) -> Option<Wanted> {
             byte,
             bit: 0,
         } => Some(Place(*area, *width, *byte)),
+        RawPlace {
+            block: Some(number),
+            area: AreaName::Db,
+            width,
+            byte,
+            bit,
+        } => Some(InBlock(*number, *width, *byte, *bit)),
         _ => None,
     }
 }
@@ -261,6 +273,10 @@ fn operand_of(operand: &RawOperand) -> Option<Wanted> {
         RawOperand::At(place) => place_of(place),
         RawOperand::Flag(test) => Some(Status(*test)),
         RawOperand::Stw => Some(Stw),
+        RawOperand::DbNo => Some(DbNo),
+        RawOperand::DiNo => Some(DiNo),
+        RawOperand::OpenDb(RawName::Number(number)) => Some(OpenDb(*number)),
+        RawOperand::OpenDi(RawName::Number(number)) => Some(OpenDi(*number)),
         RawOperand::Constant(constant) => constant_of(constant),
         _ => None,
     }

@@ -1,9 +1,11 @@
 //! What no clause says: that the instructions in the accumulators have the operands and constants that the
 //! language asks for, and what is left out and refused among them.
-use crate::stl_instructions_rows::Wanted::{Binary, Nothing, Number, Place, Stw, Value};
+use crate::stl_instructions_rows::Wanted::{
+    Binary, Bit, DbNo, DiNo, InBlock, Nothing, Number, OpenDb, OpenDi, Place, Stw, Value,
+};
 use crate::stl_instructions_rows::{Row, want_instructions, want_refusals};
 use memory_areas::AreaName;
-use s7_base::{Kind, Reason, Width};
+use s7_base::{Check, Kind, Reason, Width};
 use status_word::Test;
 use std::test::Fail;
 use stl_statements::Mnemonic;
@@ -127,7 +129,133 @@ static ALONE: [Row; 53] = [
 ];
 
 /// Bytes, words and double words, and the status word.
-static PLACES: [Row; 13] = [
+static PLACES: [Row; 34] = [
+    (
+        b"L M 0.0",
+        b"L",
+        Mnemonic::Load,
+        Bit(AreaName::M, 0, 0),
+    ),
+    (
+        b"A MW 0",
+        b"A",
+        Mnemonic::Check(Check::A),
+        Place(AreaName::M, Width::Word, 0),
+    ),
+    (
+        b"A I 0.8",
+        b"A",
+        Mnemonic::Check(Check::A),
+        Bit(AreaName::I, 0, 8),
+    ),
+    (
+        b"L IW 2047",
+        b"L",
+        Mnemonic::Load,
+        Place(AreaName::I, Width::Word, 2047),
+    ),
+    (
+        b"= L0.7",
+        b"=",
+        Mnemonic::Assign,
+        Bit(AreaName::L, 0, 7),
+    ),
+    (
+        b"T LD 252",
+        b"T",
+        Mnemonic::Transfer,
+        Place(AreaName::L, Width::Dword, 252),
+    ),
+    (
+        b"L LB 256",
+        b"L",
+        Mnemonic::Load,
+        Place(AreaName::L, Width::Byte, 256),
+    ),
+    (
+        b"S dbx 1.2",
+        b"S",
+        Mnemonic::Set,
+        Bit(AreaName::Db, 1, 2),
+    ),
+    (
+        b"R DIX1.2",
+        b"R",
+        Mnemonic::Reset,
+        Bit(AreaName::Di, 1, 2),
+    ),
+    (
+        b"L DBW 65535",
+        b"L",
+        Mnemonic::Load,
+        Place(AreaName::Db, Width::Word, 65535),
+    ),
+    (
+        b"T DID4294967296",
+        b"T",
+        Mnemonic::Transfer,
+        Place(AreaName::Di, Width::Dword, 4294967295),
+    ),
+    (
+        b"A DB5.DBX 0.1",
+        b"A",
+        Mnemonic::Check(Check::A),
+        InBlock(5, Width::Bit, 0, 1),
+    ),
+    (
+        b"A DB 5.DBX0.1",
+        b"A",
+        Mnemonic::Check(Check::A),
+        InBlock(5, Width::Bit, 0, 1),
+    ),
+    (
+        b"L DB0.DBD 8",
+        b"L",
+        Mnemonic::Load,
+        InBlock(0, Width::Dword, 8, 0),
+    ),
+    (
+        b"OPN DB 5",
+        b"OPN",
+        Mnemonic::Open,
+        OpenDb(5),
+    ),
+    (
+        b"opn di65536",
+        b"OPN",
+        Mnemonic::Open,
+        OpenDi(65536),
+    ),
+    (
+        b"CDB",
+        b"CDB",
+        Mnemonic::ExchangeDb,
+        Nothing,
+    ),
+    (
+        b"L DBNO",
+        b"L",
+        Mnemonic::Load,
+        DbNo,
+    ),
+    (
+        b"L DINO",
+        b"L",
+        Mnemonic::Load,
+        DiNo,
+    ),
+    (
+        b"AW L#5",
+        b"AW",
+        Mnemonic::Logic(LogicRow::Aw),
+        Value(Width::Dword, 5),
+    ),
+    (
+        b"OD 'AB'",
+        b"OD",
+        Mnemonic::Logic(LogicRow::Od),
+        Value(Width::Word, 16706),
+    ),
     (
         b"L MB 5",
         b"L",
@@ -521,7 +649,29 @@ static LEFT_OUT: [(Kind, &[&[u8]]); 9] = [
 ];
 
 /// Statements that begin with a mnemonic and have no form that is built.
-static NOT_BUILT: [&[u8]; 119] = [
+static NOT_BUILT: [&[u8]; 128] = [
+    b"OPN",
+    b"OPN 5",
+    b"OPN DB",
+    b"OPN DB x",
+    b"OPN DB [MW 0]",
+    b"OPN [MW 0]",
+    b"OPN DB5.DBW 0",
+    b"OPN MW 0",
+    b"CDB 1",
+    b"L DB5 .DBW 0",
+    b"L DB5. DBW 0",
+    b"L DB5.DIW 0",
+    b"L DB5.MW 0",
+    b"L DB5.DBW",
+    b"L DBX 0",
+    b"L DBW 0.0",
+    b"L DBNO 0",
+    b"T DBNO",
+    b"T DINO",
+    b"A DI5.DIX 0.0",
+    b"L LX 0.0",
+    b"L DIW -1",
     b"L",
     b"T",
     b"+",
@@ -578,10 +728,6 @@ static NOT_BUILT: [&[u8]; 119] = [
     b"L T",
     b"L P#",
     b"L P# #x",
-    b"L M 0.0",
-    b"L IW 2047",
-    b"L MD 8189",
-    b"L QB 2048",
     b"L MX 0",
     b"L MBB 5",
     b"L MB -5",
@@ -597,9 +743,7 @@ static NOT_BUILT: [&[u8]; 119] = [
     b"T DBLG",
     b"T C#1",
     b"A 1.5",
-    b"A MW 0",
     b"= STW",
-    b"S MB 0",
     b"+ W#16#5",
     b"+ B#(1,2)",
     b"+ T 1",
@@ -619,13 +763,6 @@ static NOT_BUILT: [&[u8]; 119] = [
     b"SLW W#16#1",
     b"RLDA 1",
     b"RRDA 1",
-    b"AW L#5",
-    b"AW B#16#5",
-    b"AW 2#11111111111111111",
-    b"OW 'A'",
-    b"AD W#16#5",
-    b"AD B#16#5",
-    b"OD 'AB'",
     b"XOW MW 0",
     b"+I 5",
     b"==D 0",
