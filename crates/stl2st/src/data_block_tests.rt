@@ -28,12 +28,37 @@ static REPORTS: [(&[u8], &[u8], Status, &[u8]); 13] = [
         Status::Faulted,
         b"# FAULT DbMissing\n",
     ),
-    (b"OPN DB 5; L DIB 0;", b"", Status::Faulted, b"# FAULT DbNotOpen\n"),
-    (b"OPN DI 5; T DID 0;", b"", Status::Faulted, b"# FAULT DbMissing\n"),
+    (
+        b"OPN DB 5; L DIB 0;",
+        b"",
+        Status::Faulted,
+        b"# FAULT DbNotOpen\n",
+    ),
+    (
+        b"OPN DI 5; T DID 0;",
+        b"",
+        Status::Faulted,
+        b"# FAULT DbMissing\n",
+    ),
     // S and R read their bit in every case.
-    (b"CLR; S DBX 0.0;", b"", Status::Faulted, b"# FAULT DbNotOpen\n"),
-    (b"FP DB 6.DBX 0.0;", b"", Status::Faulted, b"# FAULT DbMissing\n"),
-    (b"A DB6.DBX0.7; = M 0.0;", b"", Status::Faulted, b"# FAULT DbMissing\n"),
+    (
+        b"CLR; S DBX 0.0;",
+        b"",
+        Status::Faulted,
+        b"# FAULT DbNotOpen\n",
+    ),
+    (
+        b"FP DB 6.DBX 0.0;",
+        b"",
+        Status::Faulted,
+        b"# FAULT DbMissing\n",
+    ),
+    (
+        b"A DB6.DBX0.7; = M 0.0;",
+        b"",
+        Status::Faulted,
+        b"# FAULT DbMissing\n",
+    ),
     // Local data are zero at the start, and the last byte is number 255.
     (
         b"L -1; T LD 252; L LW 254; T MW 0; L LB 251; T MB 2;",

@@ -13,12 +13,12 @@ ghost use Rattle.s7_base.specs.declared.word.Width.TheVariants as wide;
 use memory_areas::AreaName;
 use s7_base::{Check, Width};
 use status_word::Test;
-use stl_statements::Mnemonic;
 use stl_instructions::{fits, is_in_area, logic_width, mnemonic_named, most_steps};
 use stl_rules::Given;
+use stl_statements::Mnemonic;
 use stl_tree::{
-    BitArg, Constant, LoadArg, LogicRow, Op, OpenArg, Operand, RawName, RawOp, RawOperand, RawPlace,
-    ShiftRow,
+    BitArg, Constant, LoadArg, LogicRow, Op, OpenArg, Operand, RawName, RawOp, RawOperand,
+    RawPlace, ShiftRow,
 };
 
 /// The number of a data block.

@@ -7,9 +7,9 @@ use status_word::Test;
 use std::alloc::Global;
 use std::process::Abort;
 use std::test::Fail;
-use stl_statements::Mnemonic;
 use stl_instructions::{instruction, mnemonic_named};
 use stl_lexer::tokens;
+use stl_statements::Mnemonic;
 use stl_tree::{Constant, RawName, RawOperand, RawPlace};
 
 /// An operand.

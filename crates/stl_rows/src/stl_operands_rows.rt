@@ -130,12 +130,7 @@ static ALONE: [Row; 53] = [
 
 /// Bytes, words and double words, and the status word.
 static PLACES: [Row; 34] = [
-    (
-        b"L M 0.0",
-        b"L",
-        Mnemonic::Load,
-        Bit(AreaName::M, 0, 0),
-    ),
+    (b"L M 0.0", b"L", Mnemonic::Load, Bit(AreaName::M, 0, 0)),
     (
         b"A MW 0",
         b"A",
@@ -154,12 +149,7 @@ static PLACES: [Row; 34] = [
         Mnemonic::Load,
         Place(AreaName::I, Width::Word, 2047),
     ),
-    (
-        b"= L0.7",
-        b"=",
-        Mnemonic::Assign,
-        Bit(AreaName::L, 0, 7),
-    ),
+    (b"= L0.7", b"=", Mnemonic::Assign, Bit(AreaName::L, 0, 7)),
     (
         b"T LD 252",
         b"T",
@@ -172,18 +162,8 @@ static PLACES: [Row; 34] = [
         Mnemonic::Load,
         Place(AreaName::L, Width::Byte, 256),
     ),
-    (
-        b"S dbx 1.2",
-        b"S",
-        Mnemonic::Set,
-        Bit(AreaName::Db, 1, 2),
-    ),
-    (
-        b"R DIX1.2",
-        b"R",
-        Mnemonic::Reset,
-        Bit(AreaName::Di, 1, 2),
-    ),
+    (b"S dbx 1.2", b"S", Mnemonic::Set, Bit(AreaName::Db, 1, 2)),
+    (b"R DIX1.2", b"R", Mnemonic::Reset, Bit(AreaName::Di, 1, 2)),
     (
         b"L DBW 65535",
         b"L",
@@ -214,36 +194,11 @@ static PLACES: [Row; 34] = [
         Mnemonic::Load,
         InBlock(0, Width::Dword, 8, 0),
     ),
-    (
-        b"OPN DB 5",
-        b"OPN",
-        Mnemonic::Open,
-        OpenDb(5),
-    ),
-    (
-        b"opn di65536",
-        b"OPN",
-        Mnemonic::Open,
-        OpenDi(65536),
-    ),
-    (
-        b"CDB",
-        b"CDB",
-        Mnemonic::ExchangeDb,
-        Nothing,
-    ),
-    (
-        b"L DBNO",
-        b"L",
-        Mnemonic::Load,
-        DbNo,
-    ),
-    (
-        b"L DINO",
-        b"L",
-        Mnemonic::Load,
-        DiNo,
-    ),
+    (b"OPN DB 5", b"OPN", Mnemonic::Open, OpenDb(5)),
+    (b"opn di65536", b"OPN", Mnemonic::Open, OpenDi(65536)),
+    (b"CDB", b"CDB", Mnemonic::ExchangeDb, Nothing),
+    (b"L DBNO", b"L", Mnemonic::Load, DbNo),
+    (b"L DINO", b"L", Mnemonic::Load, DiNo),
     (
         b"AW L#5",
         b"AW",
