@@ -1,12 +1,15 @@
 -- The statements of a body are assignments, which may stand in a node.
-use Rattle.std.proofs.Common.{ℕ, pos, Option, Some, None, Bool, true, false, if◌then◌else◌, List, [], ◌∷◌, ◌++◌, sym, subst}
+use Rattle.std.proofs.Common.{ℕ, pos, Option, Some, None, Bool, true, false, if◌then◌else◌, List, [], ◌∷◌, ◌+◌, length, sym, subst}
 use Rattle.std.specs.Ordering.{int_eq}
 use Rattle.std.specs.Prelude.{ℤ}
 use Rattle.accumulator_templates.specs.Logic.{computed_of, fixed_of, logic_of}
 use Rattle.accumulator_templates.specs.Sums.{unless_zero}
 use Rattle.arithmetic_templates.proofs.FewReads.{calculated_assigns, compared_assigns, negated_assigns}
 use Rattle.shift_templates.proofs.ShiftSizes.{shift_assigns}
-use Rattle.row_templates.specs.Builders.{set_of}
+use Rattle.row_templates.specs.Builders.{bit_of, read_of, set_of}
+use Rattle.row_templates.specs.Fetching.{fetch_of, fetched_of, opened_of, types_fetched}
+use Rattle.row_templates.proofs.FetchBounds.{assigns_in_parts, fetch_assigns, opened_assigns}
+use Rattle.accumulator_templates.proofs.CountRows.{block_open_few, load_few, transfer_few}
 use Rattle.s7_base.specs.declared.register.Reg.TheVariants as reg
 use Rattle.s7_base.specs.declared.word.Width.TheVariants as width
 use Rattle.stl_tree.specs.Reads.{is_fixed}
@@ -21,20 +24,18 @@ use Rattle.st_tree.specs.declared.expr.Expr.{Expr}
 use Rattle.st_tree.specs.declared.expr.Var.{Var}
 use Rattle.st_tree.specs.declared.program.Stmt.{Stmt, out-Stmt}
 use Rattle.st_tree.specs.declared.program.Stmt.TheVariants as stmt
+use Rattle.stl_tree.specs.declared.program.BitArg.{BitArg}
+use Rattle.stl_tree.specs.declared.program.BitArg.TheVariants as arg
 use Rattle.stl_tree.specs.declared.program.Instr.{Instr}
 use Rattle.stl_tree.specs.declared.program.Op.{Op}
 use Rattle.stl_tree.specs.declared.program.Op.TheVariants as op
+use Rattle.stl_tree.specs.declared.program.Operand.{Operand}
 use Rattle.row_templates.specs.Assignments.{AreAssignments}
 use Rattle.instruction_lowering.specs.declared.statements.OpenBracket.{OpenBracket}
 use Rattle.instruction_lowering.specs.declared.statements.Spot.{Spot}
 use Rattle.instruction_lowering.specs.Temporaries.{ends_block}
 use Rattle.instruction_lowering.specs.inner.Lowering.{steps_of}
-use Rattle.instruction_lowering.specs.inner.Templates.{behind, behind_check, behind_close, close_of, statements_of, unary_of}
-
-two_parts : (xs ys : List Stmt) → AreAssignments xs → AreAssignments ys → AreAssignments (xs ++ ys)
-two_parts [] ys h k = k
-two_parts (stmt.Assign v e ∷ xs) ys h k = two_parts xs ys h k
-two_parts (x ∷ xs) ys h k = elim h [ ]
+use Rattle.instruction_lowering.specs.inner.Templates.{before_check, behind, behind_check, behind_close, check_of, checked_of, close_of, edge_at, edge_of, falling, reset_value, rising, set_value, statements_of, store_of, stored_of, unary_of}
 
 of_check : (c : Check) → AreAssignments (behind_check c)
 of_check check.A = tt
@@ -76,9 +77,31 @@ of_logic used l (Some c) = by (is_fixed l c)
     by true = tt
     by false = tt
 
+of_before : (used : ℕ) (b : BitArg) → AreAssignments (before_check used b)
+of_before used (arg.At o) = fetch_assigns used o width.Bit
+of_before used (arg.Flag t) = tt
+
+of_stored : (used : ℕ) (o : Operand) (value : Expr → Expr) → AreAssignments (stored_of used o value)
+of_stored used o value =
+    assigns_in_parts (fetch_of used o width.Bit) (store_of (bit_of o) (value (fetched_of used o width.Bit))) (fetch_assigns used o width.Bit) tt
+
+of_edge : (used : ℕ) (o : Operand) (value : Expr → Expr) → AreAssignments (edge_at used o value)
+of_edge used o value =
+    let later : ℕ = used + length (types_fetched o width.Bit) in
+    assigns_in_parts (fetch_of used o width.Bit) (edge_of later (bit_of o) (value (fetched_of used o width.Bit))) (fetch_assigns used o width.Bit) tt
+
 of_instruction : (o : Op) (q : Spot) → AreAssignments (statements_of q o)
-of_instruction (op.Check c b) q = of_check c
+of_instruction (op.Check c b) q = assigns_in_parts (before_check q.used b) (check_of c (checked_of q.used b)) (of_before q.used b) (of_check c)
 of_instruction op.Close q = of_brackets q.brackets
+of_instruction (op.Assign o) q = assigns_in_parts (opened_of o) (store_of (bit_of o) (read_of reg.Rlo)) (opened_assigns o) tt
+of_instruction (op.Set o) q = of_stored q.used o set_value
+of_instruction (op.Reset o) q = of_stored q.used o reset_value
+of_instruction (op.EdgeUp o) q = of_edge q.used o rising
+of_instruction (op.EdgeDown o) q = of_edge q.used o falling
+of_instruction (op.Load a) q = (load_few q.used a).assignments
+of_instruction (op.Transfer o w) q = (transfer_few o w).assignments
+of_instruction (op.OpenDb d) q = (block_open_few reg.DbNo d).assignments
+of_instruction (op.OpenDi d) q = (block_open_few reg.DiNo d).assignments
 of_instruction (op.Arith a) q = calculated_assigns q.used a
 of_instruction (op.AddWord n) q = of_sum n _
 of_instruction (op.AddDword n) q = of_sum n _
@@ -93,7 +116,7 @@ of_instruction o q = tt
 pub are_assignments : (is : List Instr) (q : Spot) → AreAssignments (steps_of q is)
 are_assignments [] q = tt
 are_assignments (i ∷ is) q =
-    two_parts (statements_of q i.op) (if ends_block i.op then [] else steps_of (behind i.op q) is) (of_instruction i.op q) (up_to (ends_block i.op) (are_assignments is (behind i.op q)))
+    assigns_in_parts (statements_of q i.op) (if ends_block i.op then [] else steps_of (behind i.op q) is) (of_instruction i.op q) (up_to (ends_block i.op) (are_assignments is (behind i.op q)))
   where
     up_to : (b : Bool) → AreAssignments (steps_of (behind i.op q) is) → AreAssignments (if b then [] else steps_of (behind i.op q) is)
     up_to true h = tt

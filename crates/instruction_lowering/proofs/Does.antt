@@ -1,8 +1,15 @@
 -- What the statements of an instruction owe: from related states they lead to where its effect leads.
-use Rattle.std.proofs.Common.{◌≡◌, ℕ, ◌≤◌, List, sym, subst, ◌∙◌}
+use Rattle.std.proofs.Common.{◌≡◌, ℕ, ◌≤◌, List, Result, Ok, Err, sym, subst, ◌∙◌}
 use Rattle.memory_areas.specs.Areas.{Contents}
+use Rattle.memory_areas.specs.declared.place.AreaName.TheVariants as area
+use Rattle.memory_areas.specs.declared.place.Place.{Place}
 use Rattle.s7_base.specs.declared.check.Entry.{Entry}
-use Rattle.stl_tree.specs.Now.{Activation, Effect, enter, fault, go, leave, next}
+use Rattle.s7_base.specs.declared.outcome.Fault.{Fault}
+use Rattle.stl_tree.specs.DataBlocks.{db_opened}
+use Rattle.stl_tree.specs.Now.{Activation, Effect, Now, enter, fault, go, leave, next, with_registers, with_value}
+use Rattle.stl_tree.specs.Operands.{place_in, with_place}
+use Rattle.stl_tree.specs.declared.program.Operand.{Operand}
+use Rattle.stl_tree.specs.declared.program.Operand.TheVariants as operand
 use Rattle.stl_tree.specs.declared.program.Op.{Op}
 use Rattle.stl_tree.specs.declared.program.Op.TheVariants as op
 use Rattle.st_tree.specs.Meaning.{Out, Faults, Normal}
@@ -56,3 +63,17 @@ does_row ended units total p q acts s memory entries (fault f) same more left ke
 does_row ended units total p q acts s memory entries (go to after) same more left keeps row = elim row [ ]
 does_row ended units total p q acts s memory entries (enter call after) same more left keeps row = elim row [ ]
 does_row ended units total p q acts s memory entries (leave after) same more left keeps row = elim row [ ]
+
+-- What leaves the brackets
+
+-- an effect by a value does where each one does
+pub left_by_value : {A : Type 0} (entries : List Entry) (effect : A → Effect) (r : Result A Fault) → ((x : A) → LeavesBrackets entries (effect x)) → LeavesBrackets entries (with_value r effect)
+left_by_value entries effect (Ok x) h = h x
+left_by_value entries effect (Err f) h = tt
+
+-- and one by the place of an operand, since finding it does
+pub left_at_place : (entries : List Entry) (o : Operand) (now : Now) (effect : Place → Now → Effect) → now.brackets ≡ entries
+    → ((p : Place) (after : Now) → after.brackets ≡ entries → LeavesBrackets entries (effect p after)) → LeavesBrackets entries (with_place o now effect)
+left_at_place entries (operand.Direct a byte x) now effect e h = h (place_in a byte x now) now e
+left_at_place entries (operand.Opened n byte x) now effect e h =
+    let after : Now = with_registers (db_opened n) now in h (place_in area.Db byte x after) after e

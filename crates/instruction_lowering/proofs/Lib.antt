@@ -1,11 +1,12 @@
-pub mod AccumulatorRows
 pub mod Assignments
 pub mod BitRows
+pub mod BlockBytes
 pub mod Bounds
 pub mod BracketRows
 pub mod Chains
 pub mod Does
 pub mod EdgeRows
+pub mod LiftedRows
 pub mod Names
 pub mod NodeRows
 pub mod PlainGraph

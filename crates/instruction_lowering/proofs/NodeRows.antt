@@ -17,12 +17,15 @@ use Rattle.stl_tree.specs.declared.program.BitArg.TheVariants as arg
 use Rattle.stl_tree.specs.declared.program.Instr.{Instr}
 use Rattle.stl_tree.specs.declared.program.Op.{Op}
 use Rattle.stl_tree.specs.declared.program.Op.TheVariants as op
+use Rattle.stl_tree.specs.declared.program.Operand.{Operand}
 use Rattle.row_templates.proofs.Sizes.{of_append, of_assign, of_cleared, of_joined, of_literal, of_nfc, of_not, of_not_register, of_nothing, of_read, of_register}
 use Rattle.row_templates.specs.Nodes.{nodes, nodes_in}
+use Rattle.row_templates.specs.Fetching.{fetch_of, fetched_of, opened_of, types_fetched}
+use Rattle.row_templates.proofs.FetchBounds.{fetch_nodes, fetched_nodes, opened_nodes}
 use Rattle.instruction_lowering.specs.declared.statements.Chain.{Chain}
 use Rattle.instruction_lowering.specs.declared.statements.OpenBracket.{OpenBracket}
 use Rattle.instruction_lowering.specs.declared.statements.Spot.{Spot}
-use Rattle.accumulator_templates.proofs.CountRows.{add_dword_few, add_word_few, cad_few, caw_few, dec_few, exchange_few, inc_few, invd_few, invi_few, itd_few, load_few, logic_few, pop_few, push_few, status_load_few, status_store_few, transfer_few}
+use Rattle.accumulator_templates.proofs.CountRows.{add_dword_few, add_word_few, block_exchange_few, block_open_few, cad_few, caw_few, dec_few, exchange_few, inc_few, invd_few, invi_few, itd_few, load_few, logic_few, number_load_few, pop_few, push_few, status_load_few, status_store_few, transfer_few}
 use Rattle.shift_templates.proofs.ShiftSizes.{rlda_few, rrda_few, shift_few}
 use Rattle.arithmetic_templates.proofs.FewReads.{calculated_nodes, compared_nodes, negated_nodes}
 use Rattle.digit_templates.proofs.PlainDigits.{btd_nodes, bti_nodes, dtb_nodes, itb_nodes}
@@ -31,8 +34,8 @@ use Rattle.stl_tree.specs.declared.accumulator.UnaryRow.TheVariants as unary
 use Rattle.s7_base.specs.declared.word.Width.TheVariants as width
 use Rattle.instruction_lowering.specs.Temporaries.{ends_block}
 use Rattle.instruction_lowering.specs.inner.Lowering.{steps_of}
-use Rattle.instruction_lowering.specs.inner.Templates.{and_joined, answer_of, behind, behind_check, behind_close, checked_of, close_of, edge_of, keep_of, next_rlo, open_of, rlo_before_and, rlo_before_or, running_chain, statements_of, store_of, unary_of}
-use Rattle.row_templates.specs.Builders.{and_of, bit_of, cleared, literal_of, not_of, or_of, read_of, set_of}
+use Rattle.instruction_lowering.specs.inner.Templates.{and_joined, answer_of, before_check, behind, behind_check, behind_close, check_of, checked_of, close_of, edge_at, edge_of, falling, keep_of, next_rlo, open_of, reset_value, rising, rlo_before_and, rlo_before_or, running_chain, set_value, statements_of, store_of, stored_of, unary_of}
+use Rattle.row_templates.specs.Builders.{and_of, bit_of, cleared, literal_of, not_of, read_of, set_of}
 
 -- Expressions
 
@@ -48,9 +51,9 @@ of_answer test.Ov = omega (arith, of_register reg.Ov)
 of_answer test.Os = omega (arith, of_register reg.Os)
 of_answer test.Br = omega (arith, of_register reg.Br)
 
-of_checked : (b : BitArg) → nodes (checked_of b) ≤ 5
-of_checked (arg.At o) = omega (arith, of_read (bit_of o))
-of_checked (arg.Flag t) = of_answer t
+of_checked : (used : ℕ) (b : BitArg) → nodes (checked_of used b) ≤ 5
+of_checked used (arg.At o) = omega (arith, fetched_nodes used o width.Bit)
+of_checked used (arg.Flag t) = of_answer t
 
 before_and : (chain : Chain) → nodes (rlo_before_and chain) ≡ 4
 before_and chain =
@@ -138,10 +141,35 @@ of_unary unary.Cad used = cad_few.nodes
 of_unary unary.Negi used = negated_nodes used width.Word
 of_unary unary.Negd used = negated_nodes used width.Dword
 
+of_before : (used : ℕ) (b : BitArg) → nodes_in (before_check used b) ≤ 2
+of_before used (arg.At o) = fetch_nodes used o width.Bit
+of_before used (arg.Flag t) = omega (arith, of_nothing)
+
+of_stored : (used : ℕ) (o : Operand) (value : Expr → Expr) → nodes (value (fetched_of used o width.Bit)) ≤ 5 → nodes_in (stored_of used o value) ≤ 91
+of_stored used o value few =
+    let e : Expr = value (fetched_of used o width.Bit) in
+    let before = fetch_nodes used o width.Bit in
+    omega (arith, of_append (fetch_of used o width.Bit) (store_of (bit_of o) e), of_store (bit_of o) e)
+
+of_edge_at : (used : ℕ) (o : Operand) (value : Expr → Expr) → nodes (value (fetched_of used o width.Bit)) ≤ 5 → nodes_in (edge_at used o value) ≤ 91
+of_edge_at used o value few =
+    let e : Expr = value (fetched_of used o width.Bit) in
+    let later : ℕ = used + length (types_fetched o width.Bit) in
+    let before = fetch_nodes used o width.Bit in
+    omega (arith, of_append (fetch_of used o width.Bit) (edge_of later (bit_of o) e), of_edge later (bit_of o) e)
+
 of_instruction : (o : Op) (q : Spot) → nodes_in (statements_of q o) ≤ 91
 of_instruction (op.Check c b) q =
-    let e : Expr = next_rlo running_chain c (checked_of b) in
-    omega (arith, of_assign (var.Register reg.Rlo) e (behind_check c), of_check c (checked_of b), of_checked b)
+    let bit : Expr = checked_of q.used b in
+    let e : Expr = next_rlo running_chain c bit in
+    let before = of_before q.used b in
+    omega (
+      arith,
+      of_append (before_check q.used b) (check_of c bit),
+      of_assign (var.Register reg.Rlo) e (behind_check c),
+      of_check c bit,
+      of_checked q.used b,
+    )
 of_instruction op.OrAlone q =
     let e : Expr = and_of (read_of reg.Rlo) (read_of reg.Nfc) in
     omega (
@@ -154,46 +182,34 @@ of_instruction op.OrAlone q =
     )
 of_instruction (op.Bracket c) q = omega (arith, of_opened q.used)
 of_instruction op.Close q = of_brackets q.brackets
-of_instruction (op.Assign o) q = omega (arith, of_store (bit_of o) (read_of reg.Rlo), of_register reg.Rlo)
+of_instruction (op.Assign o) q =
+    let before = opened_nodes o in
+    omega (arith, of_append (opened_of o) (store_of (bit_of o) (read_of reg.Rlo)), of_store (bit_of o) (read_of reg.Rlo), of_register reg.Rlo)
 of_instruction (op.Set o) q =
-    let bit : Expr = expr.Read (bit_of o) in
-    omega (arith, of_store (bit_of o) (or_of bit (read_of reg.Rlo)), of_joined binary.Or bit (read_of reg.Rlo), of_read (bit_of o), of_register reg.Rlo)
+    let bit : Expr = fetched_of q.used o width.Bit in
+    of_stored q.used o set_value (omega (arith, of_joined binary.Or bit (read_of reg.Rlo), fetched_nodes q.used o width.Bit, of_register reg.Rlo))
 of_instruction (op.Reset o) q =
-    let bit : Expr = expr.Read (bit_of o) in
-    omega (
-      arith,
-      of_store (bit_of o) (and_of bit (not_of (read_of reg.Rlo))),
-      of_joined binary.And bit (not_of (read_of reg.Rlo)),
-      of_read (bit_of o),
-      of_not_register reg.Rlo,
-    )
+    let bit : Expr = fetched_of q.used o width.Bit in
+    of_stored q.used o reset_value
+    (omega (arith, of_joined binary.And bit (not_of (read_of reg.Rlo)), fetched_nodes q.used o width.Bit, of_not_register reg.Rlo))
 of_instruction op.SetRlo q = omega (arith, of_assign (var.Register reg.Rlo) (literal_of true) (cleared false), of_literal true, of_cleared false)
 of_instruction op.ClearRlo q = omega (arith, of_assign (var.Register reg.Rlo) (literal_of false) (cleared false), of_literal false, of_cleared false)
 of_instruction op.NotRlo q = omega (arith, of_one (var.Register reg.Rlo) (not_of (read_of reg.Rlo)), of_not_register reg.Rlo)
 of_instruction op.Save q = omega (arith, of_one (var.Register reg.Br) (read_of reg.Rlo), of_register reg.Rlo)
 of_instruction (op.EdgeUp o) q =
-    let bit : Expr = expr.Read (bit_of o) in
-    omega (
-      arith,
-      of_edge q.used (bit_of o) (and_of (read_of reg.Rlo) (not_of bit)),
-      of_joined binary.And (read_of reg.Rlo) (not_of bit),
-      of_not bit,
-      of_read (bit_of o),
-      of_register reg.Rlo,
-    )
+    let bit : Expr = fetched_of q.used o width.Bit in
+    of_edge_at q.used o rising
+    (omega (arith, of_joined binary.And (read_of reg.Rlo) (not_of bit), of_not bit, fetched_nodes q.used o width.Bit, of_register reg.Rlo))
 of_instruction (op.EdgeDown o) q =
-    let bit : Expr = expr.Read (bit_of o) in
-    omega (
-      arith,
-      of_edge q.used (bit_of o) (and_of (not_of (read_of reg.Rlo)) bit),
-      of_joined binary.And (not_of (read_of reg.Rlo)) bit,
-      of_read (bit_of o),
-      of_not_register reg.Rlo,
-    )
-of_instruction (op.Load a) q = (load_few a).nodes
+    let bit : Expr = fetched_of q.used o width.Bit in
+    of_edge_at q.used o falling
+    (omega (arith, of_joined binary.And (not_of (read_of reg.Rlo)) bit, fetched_nodes q.used o width.Bit, of_not_register reg.Rlo))
+of_instruction (op.Load a) q = (load_few q.used a).nodes
 of_instruction (op.Transfer o w) q = (transfer_few o w).nodes
 of_instruction op.LoadStw q = status_load_few.nodes
 of_instruction op.TransferStw q = status_store_few.nodes
+of_instruction op.LoadDbNo q = (number_load_few reg.DbNo).nodes
+of_instruction op.LoadDiNo q = (number_load_few reg.DiNo).nodes
 of_instruction (op.Arith a) q = calculated_nodes q.used a
 of_instruction (op.AddWord n) q = (add_word_few n).nodes
 of_instruction (op.AddDword n) q = (add_dword_few n).nodes
@@ -208,6 +224,9 @@ of_instruction (op.Unary u) q = of_unary u q.used
 of_instruction op.Tak q = (exchange_few q.used).nodes
 of_instruction op.Push q = push_few.nodes
 of_instruction op.Pop q = pop_few.nodes
+of_instruction (op.OpenDb d) q = (block_open_few reg.DbNo d).nodes
+of_instruction (op.OpenDi d) q = (block_open_few reg.DiNo d).nodes
+of_instruction op.ExchangeDb q = (block_exchange_few q.used).nodes
 of_instruction op.Nop q = omega (arith, of_nothing)
 of_instruction op.BlockEnd q = omega (arith, of_nothing)
 

@@ -3,7 +3,6 @@ use Rattle.std.proofs.Common.{◌≡◌, ◌≢◌, ℕ, zero, suc, ◌+◌, ◌
 use Rattle.std.specs.Prelude.{All, slice_get, take}
 use Rattle.std.proofs.lemmas.Bool.{eqb-true}
 use Rattle.std.proofs.lemmas.List.Elements.{All-cons, All-head, All-nil, All-tail}
-use Rattle.memory_areas.specs.Areas.{IsSized}
 use Rattle.memory_areas.specs.declared.sizes.TheConstants.{ACTIVATIONS}
 use Rattle.st_tree.proofs.FittingCalls.{at_position}
 use Rattle.st_tree.specs.Chains.{chain_of, chain_to, unit_chain}
@@ -139,7 +138,7 @@ keys_are : (blocks : List Block) → map (λ (u : Pou). key_of u.name) (map text
 keys_are [] = refl
 keys_are (b ∷ rest) = ap (λ ks. key_of (called_name b.name) ∷ ks) (keys_are rest)
 
-module _ (program : Program) (accepted : IsAccepted program) (few : AreFew program.blocks) where
+module _ (program : Program) (accepted : IsAccepted program) (bytes : All IsDataBlock program.dbs) (few : AreFew program.blocks) where
   abbrev tree : StProgram
   tree = listed_text (lowered program)
 
@@ -158,8 +157,8 @@ module _ (program : Program) (accepted : IsAccepted program) (few : AreFew progr
   proper_text : Proper tree
   proper_text =
       record {
-        blocks = record { ascend = tt; few = omega arith; sized = All-nil IsSized };
-        bytes = All-nil IsDataBlock;
+        blocks = accepted.dbs;
+        bytes = bytes;
         globals = All-nil IsGlobal;
         apart = ap are_apart (keys_are program.blocks) ∙ units_apart program.blocks accepted.blocks accepted.names;
         some = some_unit program.blocks accepted.some;

@@ -1,5 +1,5 @@
 -- The statements of a body are well typed and nest little, their expressions are low, and they call nothing.
-use Rattle.std.proofs.Common.{◌≡◌, ℕ, ◌+◌, Bool, true, false, if◌then◌else◌, List, [], ◌∷◌, ◌++◌, Some, refl, sym, ap, subst, ◌∙◌, arith}
+use Rattle.std.proofs.Common.{◌≡◌, ℕ, ◌+◌, Bool, true, false, if◌then◌else◌, List, [], ◌∷◌, ◌++◌, length, Some, refl, sym, ap, subst, ◌∙◌, arith}
 use Rattle.std.proofs.lemmas.List.{append-nil}
 use Rattle.std.proofs.lemmas.List.Elements.{All-head, All-tail}
 use Rattle.s7_base.specs.declared.check.Check.{Check}
@@ -21,26 +21,27 @@ use Rattle.st_tree.specs.declared.expr.Var.TheVariants as var
 use Rattle.st_tree.specs.declared.program.Stmt.{Stmt}
 use Rattle.st_tree.specs.declared.program.Stmt.TheVariants as stmt
 use Rattle.stl_tree.specs.Accepted.{HasOperand, HaveOperands, IsOperand}
-use Rattle.stl_tree.specs.declared.program.BitArg.{BitArg}
 use Rattle.stl_tree.specs.declared.program.BitArg.TheVariants as arg
 use Rattle.stl_tree.specs.declared.program.Instr.{Instr}
 use Rattle.stl_tree.specs.declared.program.Op.{Op}
 use Rattle.stl_tree.specs.declared.program.Op.TheVariants as op
 use Rattle.stl_tree.specs.declared.program.Operand.{Operand}
-use Rattle.row_templates.specs.Builders.{and_of, bit_of, cleared, literal_of, not_of, or_of, read_of, set_of}
+use Rattle.row_templates.specs.Builders.{and_of, bit_of, cleared, literal_of, not_of, read_of, set_of}
+use Rattle.row_templates.specs.Fetching.{fetched_of, types_fetched}
+use Rattle.row_templates.proofs.FetchBounds.{fetch_plain, fetched_is, opened_plain}
 use Rattle.row_templates.proofs.Typing.{AreTyped, IsBool, IsPlainBody, and_is, assigned, cleared_plain, first_typed, left_typed, literal_is, local_is, more, nfc_plain, no_statement, not_is, operand_typed, or_is, read_is, register_is, right_typed, set_plain, xor_is}
-use Rattle.instruction_lowering.specs.Temporaries.{ends_block, types_in, types_of, types_of_unary}
+use Rattle.instruction_lowering.specs.Temporaries.{ends_block, types_in, types_of, types_of_edge, types_of_unary}
 use Rattle.instruction_lowering.specs.declared.statements.Chain.{Chain}
 use Rattle.instruction_lowering.specs.declared.statements.OpenBracket.{OpenBracket}
 use Rattle.instruction_lowering.specs.declared.statements.Spot.{Spot}
-use Rattle.accumulator_templates.proofs.PlainRows.{add_dword_plain, add_word_plain, cad_plain, caw_plain, dec_plain, exchange_plain, inc_plain, invd_plain, invi_plain, itd_plain, load_plain, logic_plain, pop_plain, push_plain, status_load_plain, status_store_plain, transfer_plain}
+use Rattle.accumulator_templates.proofs.PlainRows.{add_dword_plain, add_word_plain, block_exchange_plain, cad_plain, caw_plain, db_number_load_plain, dec_plain, di_number_load_plain, exchange_plain, inc_plain, invd_plain, invi_plain, itd_plain, load_plain, logic_plain, open_db_plain, open_di_plain, pop_plain, push_plain, status_load_plain, status_store_plain, transfer_plain}
 use Rattle.arithmetic_templates.proofs.PlainRows.{calculated_plain, compared_plain, negated_plain}
 use Rattle.digit_templates.proofs.PlainDigits.{btd_plain, bti_plain, dtb_plain, itb_plain}
 use Rattle.shift_templates.proofs.PlainShifts.{any_shift_plain, rlda_plain, rrda_plain}
 use Rattle.stl_tree.specs.declared.accumulator.UnaryRow.{UnaryRow}
 use Rattle.stl_tree.specs.declared.accumulator.UnaryRow.TheVariants as unary
 use Rattle.instruction_lowering.specs.inner.Lowering.{node_of, steps_of}
-use Rattle.instruction_lowering.specs.inner.Templates.{and_joined, answer_of, behind, behind_check, behind_close, chain_at, checked_of, close_of, edge_of, first_spot, keep_of, next_rlo, open_of, outer_of, rlo_before_and, rlo_before_or, running_chain, statements_of, store_of, unary_of}
+use Rattle.instruction_lowering.specs.inner.Templates.{and_joined, answer_of, behind, behind_check, behind_close, chain_at, check_of, close_of, edge_at, edge_of, falling, first_spot, keep_of, next_rlo, open_of, outer_of, reset_value, rising, rlo_before_and, rlo_before_or, running_chain, set_value, statements_of, store_of, unary_of}
 use Rattle.instruction_lowering.proofs.Simulation.{used_behind_one}
 
 module _ (sight : Sight) where
@@ -70,12 +71,12 @@ module _ (sight : Sight) where
   bit_bool : (o : Operand) → IsOperand width.Bit o → variable_type sight (bit_of o) ≡ Some type.Bool
   bit_bool o h = operand_typed sight o width.Bit h
 
-  bit_is : (o : Operand) → IsOperand width.Bit o → IsBool sight 1 (expr.Read (bit_of o))
-  bit_is o h = read_is sight (bit_of o) (bit_bool o h)
+  -- the locals of what is checked, or stored, have their types
+  abbrev HasLocal : ℕ → Operand → Type 0
+  HasLocal used o = AreTyped sight used (types_fetched o width.Bit)
 
-  checked_bool : (c : Check) (b : BitArg) → HasOperand (op.Check c b) → IsBool sight 4 (checked_of b)
-  checked_bool c (arg.At o) h = more sight (omega arith) (bit_is o h)
-  checked_bool c (arg.Flag t) h = answer_bool t
+  bit_is : (used : ℕ) (o : Operand) → IsOperand width.Bit o → HasLocal used o → IsBool sight 1 (fetched_of used o width.Bit)
+  bit_is used o h own = fetched_is sight used o width.Bit h own
 
   -- Chains
 
@@ -116,6 +117,10 @@ module _ (sight : Sight) where
   check_plain check.X rest plain = cleared_plain sight true rest plain
   check_plain check.Xn rest plain = cleared_plain sight true rest plain
 
+  checked_plain : (c : Check) (e : Expr) (rest : List Stmt) → IsBool sight 4 e → IsPlainBody sight rest → IsPlainBody sight (check_of c e ++ rest)
+  checked_plain c e rest h plain =
+      set_plain sight reg.Rlo (next_rlo running_chain c e) (behind_check c ++ rest) (omega arith) (next_bool running_chain chain_bool c e h) (check_plain c rest plain)
+
   put_back : (v : Var) (rest : List Stmt) → IsBool sight 1 (expr.Read v) → IsPlainBody sight rest
       → IsPlainBody sight (set_of reg.Orb (expr.Read v) ∷ set_of reg.Nfc (literal_of true) ∷ rest)
   put_back v rest h plain = set_plain sight reg.Orb (expr.Read v) (set_of reg.Nfc (literal_of true) ∷ rest) (omega arith) h (nfc_plain sight true rest plain)
@@ -155,6 +160,19 @@ module _ (sight : Sight) where
       assigned sight (var.Local i) e (stmt.Assign (bit_of o) (read_of reg.Rlo) ∷ set_of reg.Rlo (expr.Read (var.Local i)) ∷ cleared true ++ rest) (omega arith) own k
       (assigned sight (bit_of o) (read_of reg.Rlo) (set_of reg.Rlo (expr.Read (var.Local i)) ∷ cleared true ++ rest) (omega arith) (bit_bool o h) rlo_bool
       (set_plain sight reg.Rlo (expr.Read (var.Local i)) (cleared true ++ rest) (omega arith) (local_is sight own) (cleared_plain sight true rest plain)))
+
+  -- FP and FN, by the value that they make of the edge bit
+  edge_at_plain : (used : ℕ) (o : Operand) (value : Expr → Expr) (rest : List Stmt) → IsOperand width.Bit o → AreTyped sight used (types_of_edge o)
+      → (IsBool sight 1 (fetched_of used o width.Bit) → IsBool sight 4 (value (fetched_of used o width.Bit))) → IsPlainBody sight rest
+      → IsPlainBody sight (edge_at used o value ++ rest)
+  edge_at_plain used o value rest h own worth plain =
+      let types : List StType = types_fetched o width.Bit in
+      let later : ℕ = used + length types in
+      let e : Expr = value (fetched_of used o width.Bit) in
+      let fetched : HasLocal used o = left_typed sight used types (type.Bool ∷ []) own in
+      let kept : AreTyped sight later (type.Bool ∷ []) = right_typed sight used later types (type.Bool ∷ []) refl own in
+      fetch_plain sight used o width.Bit (edge_of later (bit_of o) e) rest h fetched
+      (edge_plain later o e rest (first_typed sight later type.Bool [] kept) h (worth (bit_is used o h fetched)) plain)
 
   keep_plain : (i : ℕ) (r : Reg) (rest : List Stmt) → variable_type sight (var.Local i) ≡ Some type.Bool → type_of_register r ≡ type.Bool → IsPlainBody sight rest
       → IsPlainBody sight (keep_of i r ∷ rest)
@@ -206,19 +224,26 @@ module _ (sight : Sight) where
 
   of_instruction : (o : Op) (q : Spot) (rest : List Stmt) → HasOperand o → AreTyped sight q.used (types_of o) → AreBoolChains q.brackets → IsPlainBody sight rest
       → IsPlainBody sight (statements_of q o ++ rest)
-  of_instruction (op.Check c b) q rest h own chains plain =
-      set_plain sight reg.Rlo (next_rlo running_chain c (checked_of b)) (behind_check c ++ rest) (omega arith)
-      (next_bool running_chain chain_bool c (checked_of b) (checked_bool c b h)) (check_plain c rest plain)
+  of_instruction (op.Check c (arg.At o)) q rest h own chains plain =
+      let bit : Expr = fetched_of q.used o width.Bit in
+      fetch_plain sight q.used o width.Bit (check_of c bit) rest h own (checked_plain c bit rest (more sight (omega arith) (bit_is q.used o h own)) plain)
+  of_instruction (op.Check c (arg.Flag t)) q rest h own chains plain = checked_plain c (answer_of t) rest (answer_bool t) plain
   of_instruction op.OrAlone q rest h own chains plain =
       set_plain sight reg.Orb (and_of (read_of reg.Rlo) (read_of reg.Nfc)) (set_of reg.Nfc (literal_of false) ∷ rest) (omega arith)
       (and_is sight rlo_bool (register_is sight reg.Nfc)) (nfc_plain sight false rest plain)
   of_instruction (op.Bracket c) q rest h own chains plain = open_plain q.used rest own plain
   of_instruction op.Close q rest h own chains plain = brackets_plain q.brackets rest chains plain
-  of_instruction (op.Assign o) q rest h own chains plain = store_plain o (read_of reg.Rlo) rest h (more sight (omega arith) rlo_bool) plain
+  of_instruction (op.Assign o) q rest h own chains plain =
+      let row : List Stmt = store_of (bit_of o) (read_of reg.Rlo) in
+      opened_plain sight o width.Bit row rest h (store_plain o (read_of reg.Rlo) rest h (more sight (omega arith) rlo_bool) plain)
   of_instruction (op.Set o) q rest h own chains plain =
-      store_plain o (or_of (expr.Read (bit_of o)) (read_of reg.Rlo)) rest h (more sight (omega arith) (or_is sight (bit_is o h) rlo_bool)) plain
+      let e : Expr = set_value (fetched_of q.used o width.Bit) in
+      fetch_plain sight q.used o width.Bit (store_of (bit_of o) e) rest h own
+      (store_plain o e rest h (more sight (omega arith) (or_is sight (bit_is q.used o h own) rlo_bool)) plain)
   of_instruction (op.Reset o) q rest h own chains plain =
-      store_plain o (and_of (expr.Read (bit_of o)) (not_of (read_of reg.Rlo))) rest h (and_is sight (bit_is o h) (not_is sight rlo_bool)) plain
+      let e : Expr = reset_value (fetched_of q.used o width.Bit) in
+      fetch_plain sight q.used o width.Bit (store_of (bit_of o) e) rest h own
+      (store_plain o e rest h (and_is sight (bit_is q.used o h own) (not_is sight rlo_bool)) plain)
   of_instruction op.SetRlo q rest h own chains plain =
       set_plain sight reg.Rlo (literal_of true) (cleared false ++ rest) (omega arith) (literal_is sight true) (cleared_plain sight false rest plain)
   of_instruction op.ClearRlo q rest h own chains plain =
@@ -226,15 +251,15 @@ module _ (sight : Sight) where
   of_instruction op.NotRlo q rest h own chains plain = set_plain sight reg.Rlo (not_of (read_of reg.Rlo)) rest (omega arith) (not_is sight rlo_bool) plain
   of_instruction op.Save q rest h own chains plain = set_plain sight reg.Br (read_of reg.Rlo) rest (omega arith) rlo_bool plain
   of_instruction (op.EdgeUp o) q rest h own chains plain =
-      edge_plain q.used o (and_of (read_of reg.Rlo) (not_of (expr.Read (bit_of o)))) rest (first_typed sight q.used type.Bool [] own) h
-      (and_is sight rlo_bool (not_is sight (bit_is o h))) plain
+      edge_at_plain q.used o rising rest h own (λ bit. and_is sight rlo_bool (not_is sight bit)) plain
   of_instruction (op.EdgeDown o) q rest h own chains plain =
-      edge_plain q.used o (and_of (not_of (read_of reg.Rlo)) (expr.Read (bit_of o))) rest (first_typed sight q.used type.Bool [] own) h
-      (and_is sight (not_is sight rlo_bool) (bit_is o h)) plain
-  of_instruction (op.Load a) q rest h own chains plain = load_plain sight rest plain a h
+      edge_at_plain q.used o falling rest h own (λ bit. and_is sight (not_is sight rlo_bool) bit) plain
+  of_instruction (op.Load a) q rest h own chains plain = load_plain sight rest plain q.used a h own
   of_instruction (op.Transfer o w) q rest h own chains plain = transfer_plain sight rest plain o w h
   of_instruction op.LoadStw q rest h own chains plain = status_load_plain sight rest plain
   of_instruction op.TransferStw q rest h own chains plain = status_store_plain sight rest plain
+  of_instruction op.LoadDbNo q rest h own chains plain = db_number_load_plain sight rest plain
+  of_instruction op.LoadDiNo q rest h own chains plain = di_number_load_plain sight rest plain
   of_instruction (op.Arith a) q rest h own chains plain = calculated_plain sight rest plain q.used a own
   of_instruction (op.AddWord n) q rest h own chains plain = add_word_plain sight rest plain n h
   of_instruction (op.AddDword n) q rest h own chains plain = add_dword_plain sight rest plain n h
@@ -249,6 +274,9 @@ module _ (sight : Sight) where
   of_instruction op.Tak q rest h own chains plain = exchange_plain sight rest plain q.used own
   of_instruction op.Push q rest h own chains plain = push_plain sight rest plain
   of_instruction op.Pop q rest h own chains plain = pop_plain sight rest plain
+  of_instruction (op.OpenDb d) q rest h own chains plain = open_db_plain sight rest plain d h
+  of_instruction (op.OpenDi d) q rest h own chains plain = open_di_plain sight rest plain d h
+  of_instruction op.ExchangeDb q rest h own chains plain = block_exchange_plain sight rest plain q.used own
   of_instruction op.Nop q rest h own chains plain = plain
   of_instruction op.BlockEnd q rest h own chains plain = plain
 

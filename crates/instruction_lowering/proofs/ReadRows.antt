@@ -1,5 +1,5 @@
 -- The statements of an instruction read no register variable that it doesn't read by its row.
-use Rattle.std.proofs.Common.{ℕ, ◌+◌, Bool, true, false, if◌then◌else◌, List, [], ◌∷◌, ◌++◌, inl, inr, refl}
+use Rattle.std.proofs.Common.{ℕ, ◌+◌, Bool, true, false, if◌then◌else◌, List, [], ◌∷◌, ◌++◌, length, inl, inr, refl}
 use Rattle.s7_base.specs.declared.check.Check.{Check}
 use Rattle.s7_base.specs.declared.check.Check.TheVariants as check
 use Rattle.s7_base.specs.declared.register.Reg.{Reg}
@@ -13,27 +13,28 @@ use Rattle.st_tree.specs.declared.expr.Var.{Var}
 use Rattle.st_tree.specs.declared.expr.Var.TheVariants as var
 use Rattle.st_tree.specs.declared.program.Stmt.{Stmt}
 use Rattle.st_tree.specs.declared.program.Stmt.TheVariants as stmt
-use Rattle.stl_tree.specs.Reads.{asked_by, chain_read, looked_at, reads_of}
-use Rattle.stl_tree.specs.declared.program.BitArg.{BitArg}
+use Rattle.stl_tree.specs.Reads.{asked_by, chain_read, reads_of}
 use Rattle.stl_tree.specs.declared.program.BitArg.TheVariants as arg
 use Rattle.stl_tree.specs.declared.program.Instr.{Instr}
 use Rattle.stl_tree.specs.declared.program.Op.{Op}
 use Rattle.stl_tree.specs.declared.program.Op.TheVariants as op
 use Rattle.instruction_lowering.specs.Lowered.{IsRead}
-use Rattle.accumulator_templates.proofs.ReadRows.{add_dword_reads, add_word_reads, cad_reads, caw_reads, dec_reads, exchange_reads, inc_reads, invd_reads, invi_reads, itd_reads, load_reads, logic_reads, pop_reads, push_reads, status_load_reads, status_store_reads, transfer_reads}
+use Rattle.accumulator_templates.proofs.ReadRows.{add_dword_reads, add_word_reads, block_exchange_reads, block_open_reads, cad_reads, caw_reads, dec_reads, exchange_reads, inc_reads, invd_reads, invi_reads, itd_reads, load_reads, logic_reads, number_load_reads, pop_reads, push_reads, status_load_reads, status_store_reads, transfer_reads}
 use Rattle.arithmetic_templates.proofs.FewReads.{calculated_reads, compared_reads, negated_reads}
 use Rattle.digit_templates.proofs.PlainDigits.{btd_reads, bti_reads, dtb_reads, itb_reads}
 use Rattle.shift_templates.proofs.ReadByShifts.{rlda_reads, rrda_reads, shift_reads}
 use Rattle.stl_tree.specs.declared.accumulator.UnaryRow.{UnaryRow}
 use Rattle.stl_tree.specs.declared.accumulator.UnaryRow.TheVariants as unary
 use Rattle.s7_base.specs.declared.word.Width.TheVariants as width
-use Rattle.row_templates.proofs.ReadRegisters.{AllRead, Has, Reads, among_left, among_right, assigned_reads, bit_reads, cleared_reads, joined_reads, literal_reads, local_reads, nfc_reads, not_reads, register_reads}
+use Rattle.row_templates.specs.Fetching.{fetched_of, types_fetched}
+use Rattle.row_templates.proofs.FetchBounds.{fetch_reads, fetched_reads, opened_reads}
+use Rattle.row_templates.proofs.ReadRegisters.{AllRead, Has, Reads, among_left, among_right, assigned_reads, cleared_reads, joined_reads, literal_reads, local_reads, nfc_reads, not_reads, register_reads}
 use Rattle.instruction_lowering.specs.declared.statements.Chain.{Chain}
 use Rattle.instruction_lowering.specs.declared.statements.OpenBracket.{OpenBracket}
 use Rattle.instruction_lowering.specs.declared.statements.Spot.{Spot}
 use Rattle.instruction_lowering.specs.Temporaries.{ends_block}
 use Rattle.instruction_lowering.specs.inner.Lowering.{steps_of}
-use Rattle.instruction_lowering.specs.inner.Templates.{and_joined, answer_of, behind, behind_check, behind_close, chain_at, checked_of, close_of, edge_of, keep_of, next_rlo, outer_of, rlo_before_and, rlo_before_or, running_chain, statements_of, store_of, unary_of}
+use Rattle.instruction_lowering.specs.inner.Templates.{and_joined, answer_of, behind, behind_check, behind_close, chain_at, check_of, close_of, edge_of, falling, keep_of, next_rlo, outer_of, reset_value, rising, rlo_before_and, rlo_before_or, running_chain, set_value, statements_of, store_of, unary_of}
 use Rattle.row_templates.specs.Builders.{and_of, bit_of, cleared, literal_of, not_of, or_of, read_of, set_of, xor_of}
 
 module _ (P : Reg → Type 0) where
@@ -48,10 +49,6 @@ module _ (P : Reg → Type 0) where
   answer_reads test.Ov h = register_reads P reg.Ov (h reg.Ov (inl refl))
   answer_reads test.Os h = register_reads P reg.Os (h reg.Os (inl refl))
   answer_reads test.Br h = register_reads P reg.Br (h reg.Br (inl refl))
-
-  checked_reads : (b : BitArg) → Has P (looked_at b) → Reads P (checked_of b)
-  checked_reads (arg.At o) h = bit_reads P o
-  checked_reads (arg.Flag t) h = answer_reads t h
 
   -- Chains
 
@@ -106,6 +103,10 @@ module _ (P : Reg → Type 0) where
   behind_reads check.X rest k = cleared_reads P true rest k
   behind_reads check.Xn rest k = cleared_reads P true rest k
 
+  checked_reads : (c : Check) (e : Expr) (rest : List Stmt) → Has P (chain_read c) → Reads P e → AllRead P rest → AllRead P (check_of c e ++ rest)
+  checked_reads c e rest h read k =
+      assigned_reads P (var.Register reg.Rlo) (next_rlo running_chain c e) (behind_check c ++ rest) (check_reads c e h read) (behind_reads c rest k)
+
   closed_reads : (c : Check) (v : Var) (rest : List Stmt) → Reads P (expr.Read v) → AllRead P rest → AllRead P (behind_close c v ++ rest)
   closed_reads check.A v rest h k = assigned_reads P (var.Register reg.Orb) (expr.Read v) (set_of reg.Nfc (literal_of true) ∷ rest) h (nfc_reads P true rest k)
   closed_reads check.An v rest h k = assigned_reads P (var.Register reg.Orb) (expr.Read v) (set_of reg.Nfc (literal_of true) ∷ rest) h (nfc_reads P true rest k)
@@ -156,10 +157,11 @@ module _ (P : Reg → Type 0) where
   unary_reads unary.Negd used rest h k = negated_reads P used rest k width.Dword h
 
   of_instruction : (o : Op) (q : Spot) (rest : List Stmt) → Has P (reads_of o) → ReadChains q.brackets → AllRead P rest → AllRead P (statements_of q o ++ rest)
-  of_instruction (op.Check c b) q rest h chains k =
-      assigned_reads P (var.Register reg.Rlo) (next_rlo running_chain c (checked_of b)) (behind_check c ++ rest)
-      (check_reads c (checked_of b) (λ r a. h r (among_right r (looked_at b) (chain_read c) a)) (checked_reads b (λ r a. h r (among_left r (looked_at b) (chain_read c) a))))
-      (behind_reads c rest k)
+  of_instruction (op.Check c (arg.At o)) q rest h chains k =
+      let bit : Expr = fetched_of q.used o width.Bit in
+      fetch_reads P q.used o width.Bit (check_of c bit) rest (checked_reads c bit rest h (fetched_reads P q.used o width.Bit) k)
+  of_instruction (op.Check c (arg.Flag t)) q rest h chains k =
+      checked_reads c (answer_of t) rest (λ r a. h r (among_right r (asked_by t) (chain_read c) a)) (answer_reads t (λ r a. h r (among_left r (asked_by t) (chain_read c) a))) k
   of_instruction op.OrAlone q rest h chains k =
       assigned_reads P (var.Register reg.Orb) (and_of (read_of reg.Rlo) (read_of reg.Nfc)) (set_of reg.Nfc (literal_of false) ∷ rest)
       (joined_reads P binary.And (read_of reg.Rlo) (read_of reg.Nfc) (register_reads P reg.Rlo (h reg.Rlo (inl refl))) (register_reads P reg.Nfc (h reg.Nfc (inr (inl refl)))))
@@ -169,29 +171,41 @@ module _ (P : Reg → Type 0) where
       (assigned_reads P (var.Local (q.used + 1)) (read_of reg.Orb) (keep_of (q.used + 2) reg.Nfc ∷ cleared false ++ rest) (register_reads P reg.Orb (h reg.Orb (inr (inr (inl refl)))))
       (assigned_reads P (var.Local (q.used + 2)) (read_of reg.Nfc) (cleared false ++ rest) (register_reads P reg.Nfc (h reg.Nfc (inr (inl refl)))) (cleared_reads P false rest k)))
   of_instruction op.Close q rest h chains k = brackets_read q.brackets rest (h reg.Rlo (inl refl)) chains k
-  of_instruction (op.Assign o) q rest h chains k = store_reads (bit_of o) (read_of reg.Rlo) rest (register_reads P reg.Rlo (h reg.Rlo (inl refl))) k
+  of_instruction (op.Assign o) q rest h chains k =
+      let row : List Stmt = store_of (bit_of o) (read_of reg.Rlo) in
+      opened_reads P o row rest (store_reads (bit_of o) (read_of reg.Rlo) rest (register_reads P reg.Rlo (h reg.Rlo (inl refl))) k)
   of_instruction (op.Set o) q rest h chains k =
-      store_reads (bit_of o) (or_of (expr.Read (bit_of o)) (read_of reg.Rlo)) rest
-      (joined_reads P binary.Or (expr.Read (bit_of o)) (read_of reg.Rlo) (bit_reads P o) (register_reads P reg.Rlo (h reg.Rlo (inl refl)))) k
+      let bit : Expr = fetched_of q.used o width.Bit in
+      fetch_reads P q.used o width.Bit (store_of (bit_of o) (set_value bit)) rest
+      (store_reads (bit_of o) (set_value bit) rest
+      (joined_reads P binary.Or bit (read_of reg.Rlo) (fetched_reads P q.used o width.Bit) (register_reads P reg.Rlo (h reg.Rlo (inl refl)))) k)
   of_instruction (op.Reset o) q rest h chains k =
-      store_reads (bit_of o) (and_of (expr.Read (bit_of o)) (not_of (read_of reg.Rlo))) rest
-      (joined_reads P binary.And (expr.Read (bit_of o)) (not_of (read_of reg.Rlo)) (bit_reads P o) (not_reads P (read_of reg.Rlo) (register_reads P reg.Rlo (h reg.Rlo (inl refl))))) k
+      let bit : Expr = fetched_of q.used o width.Bit in
+      fetch_reads P q.used o width.Bit (store_of (bit_of o) (reset_value bit)) rest
+      (store_reads (bit_of o) (reset_value bit) rest
+      (joined_reads P binary.And bit (not_of (read_of reg.Rlo)) (fetched_reads P q.used o width.Bit) (not_reads P (read_of reg.Rlo) (register_reads P reg.Rlo (h reg.Rlo (inl refl))))) k)
   of_instruction op.SetRlo q rest h chains k = assigned_reads P (var.Register reg.Rlo) (literal_of true) (cleared false ++ rest) (literal_reads P true) (cleared_reads P false rest k)
   of_instruction op.ClearRlo q rest h chains k = assigned_reads P (var.Register reg.Rlo) (literal_of false) (cleared false ++ rest) (literal_reads P false) (cleared_reads P false rest k)
   of_instruction op.NotRlo q rest h chains k = assigned_reads P (var.Register reg.Rlo) (not_of (read_of reg.Rlo)) rest (not_reads P (read_of reg.Rlo) (register_reads P reg.Rlo (h reg.Rlo (inl refl)))) k
   of_instruction op.Save q rest h chains k = assigned_reads P (var.Register reg.Br) (read_of reg.Rlo) rest (register_reads P reg.Rlo (h reg.Rlo (inl refl))) k
   of_instruction (op.EdgeUp o) q rest h chains k =
+      let bit : Expr = fetched_of q.used o width.Bit in
       let rlo : P reg.Rlo = h reg.Rlo (inl refl) in
-      edge_reads q.used (bit_of o) (and_of (read_of reg.Rlo) (not_of (expr.Read (bit_of o)))) rest rlo
-      (joined_reads P binary.And (read_of reg.Rlo) (not_of (expr.Read (bit_of o))) (register_reads P reg.Rlo rlo) (not_reads P (expr.Read (bit_of o)) (bit_reads P o))) k
+      fetch_reads P q.used o width.Bit (edge_of (q.used + length (types_fetched o width.Bit)) (bit_of o) (rising bit)) rest
+      (edge_reads (q.used + length (types_fetched o width.Bit)) (bit_of o) (rising bit) rest rlo
+      (joined_reads P binary.And (read_of reg.Rlo) (not_of bit) (register_reads P reg.Rlo rlo) (not_reads P bit (fetched_reads P q.used o width.Bit))) k)
   of_instruction (op.EdgeDown o) q rest h chains k =
+      let bit : Expr = fetched_of q.used o width.Bit in
       let rlo : P reg.Rlo = h reg.Rlo (inl refl) in
-      edge_reads q.used (bit_of o) (and_of (not_of (read_of reg.Rlo)) (expr.Read (bit_of o))) rest rlo
-      (joined_reads P binary.And (not_of (read_of reg.Rlo)) (expr.Read (bit_of o)) (not_reads P (read_of reg.Rlo) (register_reads P reg.Rlo rlo)) (bit_reads P o)) k
-  of_instruction (op.Load a) q rest h chains k = load_reads P rest k a h
+      fetch_reads P q.used o width.Bit (edge_of (q.used + length (types_fetched o width.Bit)) (bit_of o) (falling bit)) rest
+      (edge_reads (q.used + length (types_fetched o width.Bit)) (bit_of o) (falling bit) rest rlo
+      (joined_reads P binary.And (not_of (read_of reg.Rlo)) bit (not_reads P (read_of reg.Rlo) (register_reads P reg.Rlo rlo)) (fetched_reads P q.used o width.Bit)) k)
+  of_instruction (op.Load a) q rest h chains k = load_reads P rest k q.used a h
   of_instruction (op.Transfer o w) q rest h chains k = transfer_reads P rest k o w h
   of_instruction op.LoadStw q rest h chains k = status_load_reads P rest k h
   of_instruction op.TransferStw q rest h chains k = status_store_reads P rest k h
+  of_instruction op.LoadDbNo q rest h chains k = number_load_reads P rest k reg.DbNo h
+  of_instruction op.LoadDiNo q rest h chains k = number_load_reads P rest k reg.DiNo h
   of_instruction (op.Arith a) q rest h chains k = calculated_reads P q.used rest k a h
   of_instruction (op.AddWord n) q rest h chains k = add_word_reads P rest k n h
   of_instruction (op.AddDword n) q rest h chains k = add_dword_reads P rest k n h
@@ -206,6 +220,9 @@ module _ (P : Reg → Type 0) where
   of_instruction op.Tak q rest h chains k = exchange_reads P rest k q.used h
   of_instruction op.Push q rest h chains k = push_reads P rest k h
   of_instruction op.Pop q rest h chains k = pop_reads P rest k h
+  of_instruction (op.OpenDb d) q rest h chains k = block_open_reads P rest k reg.DbNo d
+  of_instruction (op.OpenDi d) q rest h chains k = block_open_reads P rest k reg.DiNo d
+  of_instruction op.ExchangeDb q rest h chains k = block_exchange_reads P rest k q.used h
   of_instruction op.Nop q rest h chains k = k
   of_instruction op.BlockEnd q rest h chains k = k
 

@@ -204,7 +204,7 @@ module _ (program : Program) (formed : All IsAcceptedBlock program.blocks) (call
   fits_graph =
       subst (λ (o : Option Pou). FitsIfThere (heads_of graph) call o)
       (sym (ap (λ (called : BlockName). unit_called called (heads_of graph).pous) number.1 ∙ heads_found number.0 numbered program.blocks formed ∙ ap (option_map (λ (b : Block). head_for b)) found))
-      (subst (λ (called : BlockName). FitsUnit [] (head_for b) called call.instance call.actuals) (sym number.1) tt)
+      (subst (λ (called : BlockName). FitsUnit program.dbs (head_for b) called call.instance call.actuals) (sym number.1) tt)
 
 some_unit : (o : Option Block) (text : StProgram) (call : Call) → FitsIfThere text call (option_map (λ (b : Block). head_for b) o) → IsSome o
 some_unit None text call h = absurd h
@@ -225,7 +225,7 @@ pub lowered_same : (program : Program) → IsAccepted program → Lowered progra
 lowered_same program accepted =
     let formed = accepted.blocks in
     record {
-      blocks = sym accepted.alone.dbs;
+      blocks = refl;
       globals = refl;
       units = units_of program.blocks;
       fits = λ call fits. let i = some_of (block_called call.block program.blocks) fits in fits_graph program formed call i.0 i.1;

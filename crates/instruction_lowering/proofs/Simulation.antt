@@ -22,16 +22,16 @@ use Rattle.stl_tree.specs.declared.program.Op.TheVariants as op
 use Rattle.stl_tree.specs.declared.program.Program.{Program}
 use Rattle.stl_tree.proofs.Runs.{over_stays}
 use Rattle.st_tree.specs.GraphRun.{Counting, exit_meaning, graph_calls, nodes_do}
-use Rattle.st_tree.specs.Meaning.{Calls, Continues, Exits, Faults, NoUnits, Normal, Out, Returns, Sem, body_meaning, meaning, then_do}
+use Rattle.st_tree.specs.Meaning.{Calls, Continues, Exits, Faults, NoUnits, Normal, Out, Returns, Sem, body_meaning, then_do}
 use Rattle.st_tree.specs.State.{State}
 use Rattle.st_tree.specs.declared.graph.GraphProgram.{GraphProgram}
 use Rattle.st_tree.specs.declared.graph.StExit.TheVariants as exit
 use Rattle.st_tree.specs.declared.graph.StNode.{StNode}
-use Rattle.st_tree.specs.declared.program.Located.{Located}
 use Rattle.st_tree.specs.declared.program.Stmt.{Stmt}
 use Rattle.instruction_lowering.specs.Temporaries.{ends_block, types_in, types_of}
 use Rattle.instruction_lowering.specs.inner.Lowering.{node_of, steps_of, used_behind}
 use Rattle.instruction_lowering.specs.inner.Templates.{behind, first_spot, outer_of, statements_of}
+use Rattle.row_templates.proofs.TwoParts.{in_parts, then_in_parts}
 use Rattle.row_templates.proofs.Alike.{AreAlike, HandedOn, IsHandedOn, IsKept, Related, keep_bits, keep_position}
 use Rattle.instruction_lowering.proofs.Bounds.{Begun, Behind, Side, Within, back, IsBack, IsForth, first_step, forth, last_step, next_step, no_first_step, no_node, no_step}
 use Rattle.instruction_lowering.specs.declared.statements.OpenBracket.{OpenBracket}
@@ -69,23 +69,6 @@ through (Returns units s) k = k units s
 through (Faults f s) k = Ended s.memory.areas (Some f)
 through (NoUnits s) k = Going
 
--- Statements in two parts
-
-then_in_parts : (o : Out) (f h : Sem) → then_do (then_do o f) h ≡ then_do o (λ units s. then_do (f units s) h)
-then_in_parts (Normal units s) f h = refl
-then_in_parts (Exits units s) f h = refl
-then_in_parts (Continues units s) f h = refl
-then_in_parts (Returns units s) f h = refl
-then_in_parts (Faults x s) f h = refl
-then_in_parts (NoUnits s) f h = refl
-
-in_parts : (g : List Located) (calls : Calls) (xs ys : List Stmt) (units : ℕ) (s : State)
-    → body_meaning g calls (xs ++ ys) units s ≡ then_do (body_meaning g calls xs units s) (body_meaning g calls ys)
-in_parts g calls [] ys units s = refl
-in_parts g calls (x ∷ xs) ys units s =
-    ap (λ (rest : Sem). then_do (meaning g calls x units s) rest) (λ i u t. in_parts g calls xs ys u t i)
-    ∙ sym (then_in_parts (meaning g calls x units s) (body_meaning g calls xs) (body_meaning g calls ys))
-
 -- Bodies
 
 -- these instructions are what a body has from a position on
@@ -112,6 +95,11 @@ HasItsOperand i = HasOperand i.op
 pub used_behind_one : (o : Op) (q : Spot) → (behind o q).used ≡ q.used + length (types_of o)
 used_behind_one (op.Bracket c) q = refl
 used_behind_one op.Close q = omega arith
+used_behind_one (op.Check c b) q = refl
+used_behind_one (op.Set o) q = refl
+used_behind_one (op.Reset o) q = refl
+used_behind_one (op.Load a) q = refl
+used_behind_one op.ExchangeDb q = refl
 used_behind_one (op.EdgeUp o) q = refl
 used_behind_one (op.EdgeDown o) q = refl
 used_behind_one (op.Arith a) q = refl

@@ -6,6 +6,7 @@
 
 pub use units::lower;
 
+mod data_blocks;
 mod locals;
 mod statements;
 mod units;

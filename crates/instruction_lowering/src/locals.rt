@@ -1,17 +1,20 @@
 //! The temporaries of a unit.
 ghost use Rattle.std.specs.Prelude.{◌≡◌, ◌<◌, ◌^◌, ◌++◌, length, IfOk, OnOk};
-ghost use Rattle.instruction_lowering.specs.Temporaries.{ends_block, types_in, types_of, types_of_unary};
+ghost use Rattle.instruction_lowering.specs.Temporaries.{ends_block, types_checked, types_in, types_of, types_of_edge, types_of_unary};
 ghost use Rattle.instruction_lowering.specs.inner.Lowering.{temporaries, temporary};
 
-use accumulator_templates::{types_of_exchange, types_of_logic};
+use accumulator_templates::{
+    types_of_block_exchange, types_of_exchange, types_of_load, types_of_logic,
+};
 use arithmetic_templates::{types_of_calculated, types_of_compared, types_of_negated};
 use digit_templates::{types_of_btd, types_of_bti, types_of_dtb, types_of_itb};
 use itoa::Buffer;
+use row_templates::{may_fault, types_fetched};
 use s7_base::{List, NoMemory, Width};
 use shift_templates::{types_of_shift, types_through_cc1};
 use st_tree::{Local, StType};
 use std::alloc::Global;
-use stl_tree::{Instr, Op, UnaryRow};
+use stl_tree::{BitArg, Instr, Op, Operand, UnaryRow};
 
 /// The temporaries of the instructions of a body, from `T1` on.
 pub fn locals_of(alloc: Global, body: &[Instr]) -> Result<List<Local>, NoMemory>
@@ -29,34 +32,13 @@ fn types(alloc: Global, body: &[Instr]) -> Result<List<StType>, NoMemory>
     let mut types = List::new(alloc);
     let mut rest = body;
     while let Some((instr, behind)) = rest.split_first() {
-        push_types(&mut types, &instr.op)?;
+        push_all(&mut types, types_of(&instr.op))?;
         if ends_block(&instr.op) {
             break;
         }
         rest = behind;
     }
     Ok(types)
-}
-
-fn push_types(types: &mut List<StType>, op: &Op) -> Result<(), NoMemory>
-    ensures { OnOk result (types.new ≡ types.old ++ types_of op.now) }
-{
-    match op {
-        Op::Bracket(_) => {
-            types.push(StType::Bool)?;
-            types.push(StType::Bool)?;
-            types.push(StType::Bool)
-        }
-        Op::EdgeUp(_) | Op::EdgeDown(_) => types.push(StType::Bool),
-        Op::Arith(row) => push_all(types, types_of_calculated(*row)),
-        Op::Compare(_, width) => push_all(types, types_of_compared(*width)),
-        Op::Shift(row, count) => push_all(types, types_of_shift(*row, *count)),
-        Op::Rlda | Op::Rrda => push_all(types, types_through_cc1()),
-        Op::Logic(row, constant) => push_all(types, types_of_logic(*row, *constant)),
-        Op::Unary(row) => push_all(types, types_of_unary(*row)),
-        Op::Tak => push_all(types, types_of_exchange()),
-        _ => Ok(()),
-    }
 }
 
 fn push_all(types: &mut List<StType>, more: &[StType]) -> Result<(), NoMemory>
@@ -70,8 +52,51 @@ fn push_all(types: &mut List<StType>, more: &[StType]) -> Result<(), NoMemory>
     Ok(())
 }
 
-/// The types of the temporaries of an instruction on ACCU1 alone.
-pub fn types_of_unary(row: UnaryRow) -> &'static [StType]
+/// The types of the temporaries of an instruction.
+pub fn types_of(op: &Op) -> &'static [StType]
+    ensures { result.now ≡ types_of op.now }
+{
+    match op {
+        Op::Check(_, arg) => types_checked(arg),
+        Op::Set(operand) | Op::Reset(operand) => types_fetched(operand, Width::Bit),
+        Op::Load(argument) => types_of_load(argument),
+        Op::ExchangeDb => types_of_block_exchange(),
+        Op::Bracket(_) => &[StType::Bool, StType::Bool, StType::Bool],
+        Op::EdgeUp(operand) | Op::EdgeDown(operand) => types_of_edge(operand),
+        Op::Arith(row) => types_of_calculated(*row),
+        Op::Compare(_, width) => types_of_compared(*width),
+        Op::Shift(row, count) => types_of_shift(*row, *count),
+        Op::Rlda | Op::Rrda => types_through_cc1(),
+        Op::Logic(row, constant) => types_of_logic(*row, *constant),
+        Op::Unary(row) => types_of_unary(*row),
+        Op::Tak => types_of_exchange(),
+        _ => &[],
+    }
+}
+
+/// Those of a check.
+fn types_checked(arg: &BitArg) -> &'static [StType]
+    ensures { result.now ≡ types_checked arg.now }
+{
+    match arg {
+        BitArg::At(operand) => types_fetched(operand, Width::Bit),
+        BitArg::Flag(_) => &[],
+    }
+}
+
+/// Those of an edge: its bit, where that may fault, and the RLO.
+fn types_of_edge(operand: &Operand) -> &'static [StType]
+    ensures { result.now ≡ types_of_edge operand.now }
+{
+    if may_fault(operand) {
+        &[StType::Bool, StType::Bool]
+    } else {
+        &[StType::Bool]
+    }
+}
+
+/// Those of an instruction on ACCU1 alone.
+fn types_of_unary(row: UnaryRow) -> &'static [StType]
     ensures { result.now ≡ types_of_unary row }
 {
     match row {

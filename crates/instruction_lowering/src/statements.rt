@@ -2,28 +2,30 @@
 //!
 //! Each is a handful of assignments, so a body without jumps is one node. Of the status word all bits but STA have
 //! variables.
-ghost use Rattle.std.specs.Prelude.{◌≡◌, ◌<◌, ◌+◌, ◌^◌, ◌++◌, IfOk, OnOk};
-ghost use Rattle.instruction_lowering.specs.inner.Templates.{and_joined, answer_of, behind, behind_check, behind_close, chain_at, check_of, checked_of, close_of, edge_of, falling, first_spot, more, next_rlo, one_more, open_of, reset_value, rising, rlo_before_and, rlo_before_or, rlo_set, running_chain, set_value, statements_of, store_of, unary_of};
+ghost use Rattle.std.specs.Prelude.{◌≡◌, ◌<◌, ◌+◌, ◌^◌, ◌++◌, length, IfOk, OnOk};
+ghost use Rattle.instruction_lowering.specs.inner.Templates.{IsOnAccumulators, and_joined, answer_of, before_check, behind, behind_check, behind_close, chain_at, check_of, checked_of, close_of, edge_at, edge_of, falling, first_spot, more, next_rlo, open_of, reset_value, rising, rlo_before_and, rlo_before_or, rlo_set, running_chain, set_value, spot_at, statements_of, store_of, stored_of, unary_of, with_bracket};
 ghost use Rattle.row_templates.specs.Builders.{and_of, bit_of, cleared, literal_of, not_of, or_of, read_of, set_of, xor_of};
+ghost use Rattle.row_templates.specs.Fetching.{opened_of, types_fetched};
 
-use crate::locals::types_of_unary;
+use crate::locals::types_of;
 use accumulator_templates::{
-    push_add_dword, push_add_word, push_cad, push_caw, push_dec, push_exchange, push_inc,
-    push_invd, push_invi, push_itd, push_load, push_logic, push_pop, push_push, push_status_load,
-    push_status_store, push_transfer, types_of_exchange, types_of_logic,
+    push_add_dword, push_add_word, push_block_exchange, push_block_open, push_cad, push_caw,
+    push_dec, push_exchange, push_inc, push_invd, push_invi, push_itd, push_load, push_logic,
+    push_number_load, push_pop, push_push, push_status_load, push_status_store, push_transfer,
 };
-use arithmetic_templates::{
-    push_calculated, push_compared, push_negated, types_of_calculated, types_of_compared,
-};
+use arithmetic_templates::{push_calculated, push_compared, push_negated};
 use digit_templates::{push_btd, push_bti, push_dtb, push_itb};
-use row_templates::{and, bit, literal, not, or, push_cleared, read, set, xor};
+use row_templates::{
+    and, bit, fetched, literal, local, may_fault, not, or, push_cleared, push_fetch, push_opened,
+    read, set, set_local, xor,
+};
 use s7_base::{Check, List, NoMemory, Reg, Width};
-use shift_templates::{push_rlda, push_rrda, push_shift, types_of_shift, types_through_cc1};
+use shift_templates::{push_rlda, push_rrda, push_shift};
 use st_tree::{Expr, StType, Stmt, Var};
 use status_word::Test;
 use std::alloc::Global;
 use std::collections::LinkedList;
-use stl_tree::{BitArg, Op, UnaryRow};
+use stl_tree::{BitArg, Op, Operand, UnaryRow};
 
 /// Where a chain of checks keeps its RLO, /FC and OR.
 #[derive(Clone, Copy)]
@@ -74,6 +76,16 @@ impl Spot {
         self.used = first + types.len() as u32;
         Ok(first)
     }
+
+    /// A bracket is opened, whose chain the locals from one on keep.
+    fn open(&mut self, first: u32, check: Check) -> Result<(), NoMemory>
+        requires { first + 8 < 2 ^ 32 }
+        ensures { OnOk result (self.new ≡ with_bracket first check self.old) }
+    {
+        let kept = chain_at(first);
+        self.brackets.push_front(OpenBracket { check, kept })?;
+        Ok(())
+    }
 }
 
 /// Puts the statements of an instruction at the end of some steps.
@@ -86,71 +98,65 @@ pub fn push_statements(
     ensures steps { OnOk result (steps.new ≡ steps.old ++ statements_of spot.old op.now) }
     ensures spot { OnOk result (spot.new ≡ behind op.now spot.old) }
 {
+    let first = spot.take(types_of(op))?;
     match op {
-        Op::Check(check, arg) => push_check(alloc, steps, *check, checked(alloc, arg)?),
-        Op::OrAlone => {
-            steps.push(set(Reg::Orb, and(alloc, read(Reg::Rlo), read(Reg::Nfc))?))?;
-            steps.push(set(Reg::Nfc, literal(false)))
+        Op::Bracket(check) => {
+            spot.open(first, *check)?;
+            push_kept(steps, first)
         }
-        Op::Assign(operand) => push_store(steps, bit(operand), read(Reg::Rlo)),
-        Op::Set(operand) => push_store(steps, bit(operand), set_value(alloc, bit(operand))?),
-        Op::Reset(operand) => push_store(steps, bit(operand), reset_value(alloc, bit(operand))?),
+        Op::Close => push_closed(alloc, steps, spot),
+        Op::Check(check, arg) => push_checked(alloc, steps, first, *check, arg),
+        Op::OrAlone => push_or(alloc, steps),
+        Op::Assign(operand) => push_assigned(steps, operand),
+        Op::Set(operand) => push_set(alloc, steps, first, operand),
+        Op::Reset(operand) => push_reset(alloc, steps, first, operand),
         Op::SetRlo => push_rlo(steps, true),
         Op::ClearRlo => push_rlo(steps, false),
         Op::NotRlo => steps.push(set(Reg::Rlo, not(alloc, read(Reg::Rlo))?)),
         Op::Save => steps.push(set(Reg::Br, read(Reg::Rlo))),
-        Op::EdgeUp(operand) => push_edge(steps, spot, bit(operand), rising(alloc, bit(operand))?),
-        Op::EdgeDown(operand) => push_edge(
-            steps,
-            spot,
-            bit(operand),
-            falling(alloc, bit(operand))?,
-        ),
-        Op::Bracket(check) => push_opened(steps, spot, *check),
-        Op::Close => push_closed(alloc, steps, spot),
-        Op::Load(argument) => push_load(alloc, steps, argument),
+        Op::EdgeUp(operand) => push_rising(alloc, steps, first, operand),
+        Op::EdgeDown(operand) => push_falling(alloc, steps, first, operand),
+        Op::Nop | Op::BlockEnd => Ok(()),
+        _ => push_on_accumulators(alloc, steps, first, op),
+    }
+}
+
+/// An instruction on the accumulators or on the numbers of data blocks.
+fn push_on_accumulators(
+    alloc: Global,
+    steps: &mut List<Stmt>,
+    first: u32,
+    op: &Op,
+) -> Result<(), NoMemory>
+    requires op { IsOnAccumulators op.now }
+    requires room { first + 8 < 2 ^ 32 }
+    ensures { OnOk result (steps.new ≡ steps.old ++ statements_of (spot_at first) op.now) }
+{
+    match op {
+        Op::Load(argument) => push_load(alloc, steps, first, argument),
         Op::Transfer(operand, width) => push_transfer(alloc, steps, operand, *width),
         Op::LoadStw => push_status_load(alloc, steps),
         Op::TransferStw => push_status_store(alloc, steps),
-        Op::Arith(row) => {
-            let first = spot.take(types_of_calculated(*row))?;
-            push_calculated(alloc, steps, first, *row)
-        }
+        Op::LoadDbNo => push_number_load(alloc, steps, Reg::DbNo),
+        Op::LoadDiNo => push_number_load(alloc, steps, Reg::DiNo),
+        Op::Arith(row) => push_calculated(alloc, steps, first, *row),
         Op::AddWord(number) => push_add_word(alloc, steps, *number),
         Op::AddDword(number) => push_add_dword(alloc, steps, *number),
         Op::Inc(number) => push_inc(alloc, steps, *number),
         Op::Dec(number) => push_dec(alloc, steps, *number),
-        Op::Compare(test, width) => {
-            let first = spot.take(types_of_compared(*width))?;
-            push_compared(alloc, steps, first, *test, *width)
-        }
-        Op::Shift(row, count) => {
-            let first = spot.take(types_of_shift(*row, *count))?;
-            push_shift(alloc, steps, first, *row, *count)
-        }
-        Op::Rlda => {
-            let first = spot.take(types_through_cc1())?;
-            push_rlda(alloc, steps, first)
-        }
-        Op::Rrda => {
-            let first = spot.take(types_through_cc1())?;
-            push_rrda(alloc, steps, first)
-        }
-        Op::Logic(row, constant) => {
-            let first = spot.take(types_of_logic(*row, *constant))?;
-            push_logic(alloc, steps, first, *row, *constant)
-        }
-        Op::Unary(row) => {
-            let first = spot.take(types_of_unary(*row))?;
-            push_unary(alloc, steps, first, *row)
-        }
-        Op::Tak => {
-            let first = spot.take(types_of_exchange())?;
-            push_exchange(steps, first)
-        }
+        Op::Compare(test, width) => push_compared(alloc, steps, first, *test, *width),
+        Op::Shift(row, count) => push_shift(alloc, steps, first, *row, *count),
+        Op::Rlda => push_rlda(alloc, steps, first),
+        Op::Rrda => push_rrda(alloc, steps, first),
+        Op::Logic(row, constant) => push_logic(alloc, steps, first, *row, *constant),
+        Op::Unary(row) => push_unary(alloc, steps, first, *row),
+        Op::Tak => push_exchange(steps, first),
         Op::Push => push_push(steps),
         Op::Pop => push_pop(steps),
-        Op::Nop | Op::BlockEnd => Ok(()),
+        Op::OpenDb(block) => push_block_open(steps, Reg::DbNo, *block),
+        Op::OpenDi(block) => push_block_open(steps, Reg::DiNo, *block),
+        Op::ExchangeDb => push_block_exchange(steps, first),
+        _ => unreachable!(),
     }
 }
 
@@ -179,40 +185,12 @@ fn push_unary(
     }
 }
 
-/// What S leaves in a bit.
-fn set_value(alloc: Global, bit: Var) -> Result<Expr, NoMemory>
-    ensures { IfOk result (λ value. value ≡ set_value bit) }
-{
-    or(alloc, Expr::Read(bit), read(Reg::Rlo))
-}
-
-/// What R leaves in a bit.
-fn reset_value(alloc: Global, bit: Var) -> Result<Expr, NoMemory>
-    ensures { IfOk result (λ value. value ≡ reset_value bit) }
-{
-    and(alloc, Expr::Read(bit), not(alloc, read(Reg::Rlo))?)
-}
-
-/// The rising edge, by an edge bit.
-fn rising(alloc: Global, bit: Var) -> Result<Expr, NoMemory>
-    ensures { IfOk result (λ value. value ≡ rising bit) }
-{
-    and(alloc, read(Reg::Rlo), not(alloc, Expr::Read(bit))?)
-}
-
-/// The falling edge, by an edge bit.
-fn falling(alloc: Global, bit: Var) -> Result<Expr, NoMemory>
-    ensures { IfOk result (λ value. value ≡ falling bit) }
-{
-    and(alloc, not(alloc, read(Reg::Rlo))?, Expr::Read(bit))
-}
-
 /// What a check looks at.
-fn checked(alloc: Global, arg: &BitArg) -> Result<Expr, NoMemory>
-    ensures { IfOk result (λ value. value ≡ checked_of arg.now) }
+fn checked(alloc: Global, first: u32, arg: &BitArg) -> Result<Expr, NoMemory>
+    ensures { IfOk result (λ value. value ≡ checked_of first arg.now) }
 {
     match arg {
-        BitArg::At(operand) => Ok(Expr::Read(bit(operand))),
+        BitArg::At(operand) => Ok(fetched(first, operand, Width::Bit)),
         BitArg::Flag(test) => answer(alloc, *test),
     }
 }
@@ -239,15 +217,20 @@ fn answer(alloc: Global, test: Test) -> Result<Expr, NoMemory>
     }
 }
 
-fn push_check(
+/// A check, behind what it fetches.
+fn push_checked(
     alloc: Global,
     steps: &mut List<Stmt>,
+    first: u32,
     check: Check,
-    bit: Expr,
+    arg: &BitArg,
 ) -> Result<(), NoMemory>
-    ensures { OnOk result (steps.new ≡ steps.old ++ check_of check bit) }
+    ensures { OnOk result (steps.new ≡ steps.old ++ (before_check first arg.now ++ check_of check (checked_of first arg.now))) }
 {
-    let value = next_rlo(alloc, running_chain(), check, bit)?;
+    if let BitArg::At(operand) = arg {
+        push_fetch(steps, first, operand, Width::Bit)?;
+    }
+    let value = next_rlo(alloc, running_chain(), check, checked(alloc, first, arg)?)?;
     steps.push(set(Reg::Rlo, value))?;
     push_behind_check(steps, check)
 }
@@ -262,12 +245,57 @@ fn push_behind_check(steps: &mut List<Stmt>, check: Check) -> Result<(), NoMemor
     }
 }
 
+/// OR keeps the RLO of the chain, and the next check is a first one.
+fn push_or(alloc: Global, steps: &mut List<Stmt>) -> Result<(), NoMemory>
+    ensures { OnOk result (steps.new ≡ steps.old ++ statements_of first_spot Op.OrAlone) }
+{
+    steps.push(set(Reg::Orb, and(alloc, read(Reg::Rlo), read(Reg::Nfc))?))?;
+    steps.push(set(Reg::Nfc, literal(false)))
+}
+
 /// A bit takes a value, and the chain ends.
 fn push_store(steps: &mut List<Stmt>, bit: Var, value: Expr) -> Result<(), NoMemory>
     ensures { OnOk result (steps.new ≡ steps.old ++ store_of bit value) }
 {
     steps.push(Stmt::Assign(bit, value))?;
     push_cleared(steps, false)
+}
+
+/// `=` of a bit.
+fn push_assigned(steps: &mut List<Stmt>, operand: &Operand) -> Result<(), NoMemory>
+    ensures { OnOk result (steps.new ≡ steps.old ++ (opened_of operand.now ++ store_of (bit_of operand.now) (read_of Reg.Rlo))) }
+{
+    push_opened(steps, operand)?;
+    push_store(steps, bit(operand), read(Reg::Rlo))
+}
+
+/// S of a bit.
+fn push_set(
+    alloc: Global,
+    steps: &mut List<Stmt>,
+    first: u32,
+    operand: &Operand,
+) -> Result<(), NoMemory>
+    ensures { OnOk result (steps.new ≡ steps.old ++ stored_of first operand.now set_value) }
+{
+    push_fetch(steps, first, operand, Width::Bit)?;
+    let value = or(alloc, fetched(first, operand, Width::Bit), read(Reg::Rlo))?;
+    push_store(steps, bit(operand), value)
+}
+
+/// R of a bit.
+fn push_reset(
+    alloc: Global,
+    steps: &mut List<Stmt>,
+    first: u32,
+    operand: &Operand,
+) -> Result<(), NoMemory>
+    ensures { OnOk result (steps.new ≡ steps.old ++ stored_of first operand.now reset_value) }
+{
+    push_fetch(steps, first, operand, Width::Bit)?;
+    let low = not(alloc, read(Reg::Rlo))?;
+    let value = and(alloc, fetched(first, operand, Width::Bit), low)?;
+    push_store(steps, bit(operand), value)
 }
 
 fn push_rlo(steps: &mut List<Stmt>, rlo: bool) -> Result<(), NoMemory>
@@ -277,32 +305,64 @@ fn push_rlo(steps: &mut List<Stmt>, rlo: bool) -> Result<(), NoMemory>
     push_cleared(steps, false)
 }
 
-/// The edge bit takes the RLO; a local keeps what the RLO becomes until then.
-fn push_edge(steps: &mut List<Stmt>, spot: &mut Spot, bit: Var, value: Expr) -> Result<(), NoMemory>
-    ensures steps { OnOk result (steps.new ≡ steps.old ++ edge_of spot.old.used bit value) }
-    ensures spot { OnOk result (spot.new ≡ one_more spot.old) }
+/// FP of an edge bit.
+fn push_rising(
+    alloc: Global,
+    steps: &mut List<Stmt>,
+    first: u32,
+    operand: &Operand,
+) -> Result<(), NoMemory>
+    requires { first + 8 < 2 ^ 32 }
+    ensures { OnOk result (steps.new ≡ steps.old ++ edge_at first operand.now rising) }
 {
-    let kept = Var::Local(spot.used);
-    spot.used = spot.used.checked_add(1).ok_or(NoMemory)?;
-    steps.push(Stmt::Assign(kept, value))?;
+    push_fetch(steps, first, operand, Width::Bit)?;
+    let old = not(alloc, fetched(first, operand, Width::Bit))?;
+    let value = and(alloc, read(Reg::Rlo), old)?;
+    push_edge(steps, behind_fetched(first, operand), bit(operand), value)
+}
+
+/// FN of an edge bit.
+fn push_falling(
+    alloc: Global,
+    steps: &mut List<Stmt>,
+    first: u32,
+    operand: &Operand,
+) -> Result<(), NoMemory>
+    requires { first + 8 < 2 ^ 32 }
+    ensures { OnOk result (steps.new ≡ steps.old ++ edge_at first operand.now falling) }
+{
+    push_fetch(steps, first, operand, Width::Bit)?;
+    let low = not(alloc, read(Reg::Rlo))?;
+    let value = and(alloc, low, fetched(first, operand, Width::Bit))?;
+    push_edge(steps, behind_fetched(first, operand), bit(operand), value)
+}
+
+/// The local behind that of a bit that is fetched.
+fn behind_fetched(first: u32, operand: &Operand) -> u32
+    requires { first + 8 < 2 ^ 32 }
+    ensures { result ≡ first + length (types_fetched operand.now Width.Bit) }
+{
+    if may_fault(operand) { first + 1 } else { first }
+}
+
+/// The edge bit takes the RLO; a local keeps what the RLO becomes until then.
+fn push_edge(steps: &mut List<Stmt>, index: u32, bit: Var, value: Expr) -> Result<(), NoMemory>
+    ensures { OnOk result (steps.new ≡ steps.old ++ edge_of index bit value) }
+{
+    steps.push(set_local(index, value))?;
     steps.push(Stmt::Assign(bit, read(Reg::Rlo)))?;
-    steps.push(set(Reg::Rlo, Expr::Read(kept)))?;
+    steps.push(set(Reg::Rlo, local(index)))?;
     push_cleared(steps, true)
 }
 
-/// A bracket is opened: the next three locals keep RLO, OR and NFC.
-fn push_opened(steps: &mut List<Stmt>, spot: &mut Spot, check: Check) -> Result<(), NoMemory>
-    ensures steps { OnOk result (steps.new ≡ steps.old ++ open_of spot.old.used) }
-    ensures spot { OnOk result (spot.new ≡ behind (Op.Bracket check) spot.old) }
+/// A bracket is opened: three locals keep RLO, OR and NFC.
+fn push_kept(steps: &mut List<Stmt>, first: u32) -> Result<(), NoMemory>
+    requires { first + 8 < 2 ^ 32 }
+    ensures { OnOk result (steps.new ≡ steps.old ++ open_of first) }
 {
-    let first = spot.used;
-    let used = first.checked_add(3).ok_or(NoMemory)?;
-    let kept = chain_at(first);
-    spot.brackets.push_front(OpenBracket { check, kept })?;
-    spot.used = used;
-    steps.push(Stmt::Assign(kept.rlo, read(Reg::Rlo)))?;
-    steps.push(Stmt::Assign(kept.orb, read(Reg::Orb)))?;
-    steps.push(Stmt::Assign(kept.nfc, read(Reg::Nfc)))?;
+    steps.push(set_local(first, read(Reg::Rlo)))?;
+    steps.push(set_local(first + 1, read(Reg::Orb)))?;
+    steps.push(set_local(first + 2, read(Reg::Nfc)))?;
     push_cleared(steps, false)
 }
 

@@ -8,6 +8,7 @@ ghost use Rattle.stl_tree.specs.Accepted.{IsAccepted};
 ghost use Rattle.instruction_lowering.specs.Lowered.{Lowered};
 ghost use Rattle.instruction_lowering.specs.inner.Lowering.{IsFew, head_for, lowered, node_of, unit_of};
 
+use crate::data_blocks::copied;
 use crate::locals::{ends_block, locals_of};
 use crate::statements::{Spot, push_statements};
 use itoa::Buffer;
@@ -22,12 +23,13 @@ pub fn lower(alloc: Global, program: &Program) -> Result<GraphProgram, NoMemory>
     ensures plain { IfOk result Plain }
     ensures same { IfOk result (λ graph. Lowered program.now graph) }
 {
+    let dbs = copied(alloc, program.dbs.as_slice())?;
     let mut pous = List::new(alloc);
     for block in program.blocks.as_slice() {
         pous.push(unit(alloc, block)?)?;
     }
     Ok(GraphProgram {
-        dbs: List::new(alloc),
+        dbs,
         globals: List::new(alloc),
         pous,
     })

@@ -181,6 +181,14 @@ close_of (o ∷ outer) =
 abbrev pub first_spot : Spot
 first_spot = record { used = 0; brackets = [] }
 
+-- one with no bracket open and so many locals
+abbrev pub spot_at : ℕ → Spot
+spot_at used = record { used = used; brackets = [] }
+
+-- a bracket is opened, whose chain the locals from one on keep
+abbrev pub with_bracket : ℕ → Check → Spot → Spot
+with_bracket first c p = record { used = p.used; brackets = record { check = c; kept = chain_at first } ∷ p.brackets }
+
 -- the brackets around the innermost one
 abbrev pub outer_of : List OpenBracket → List OpenBracket
 outer_of [] = []
@@ -268,3 +276,22 @@ statements_of p (op.OpenDi d) = block_open_of reg.DiNo d
 statements_of p op.ExchangeDb = block_exchange_of p.used
 statements_of p op.Nop = []
 statements_of p op.BlockEnd = []
+
+-- an instruction on the accumulators or on the numbers of data blocks
+abbrev pub IsOnAccumulators : Op → Type 0
+IsOnAccumulators (op.Check c b) = ⊥
+IsOnAccumulators op.OrAlone = ⊥
+IsOnAccumulators (op.Bracket c) = ⊥
+IsOnAccumulators op.Close = ⊥
+IsOnAccumulators (op.Assign o) = ⊥
+IsOnAccumulators (op.Set o) = ⊥
+IsOnAccumulators (op.Reset o) = ⊥
+IsOnAccumulators op.SetRlo = ⊥
+IsOnAccumulators op.ClearRlo = ⊥
+IsOnAccumulators op.NotRlo = ⊥
+IsOnAccumulators op.Save = ⊥
+IsOnAccumulators (op.EdgeUp o) = ⊥
+IsOnAccumulators (op.EdgeDown o) = ⊥
+IsOnAccumulators op.Nop = ⊥
+IsOnAccumulators op.BlockEnd = ⊥
+IsOnAccumulators other = Unit {0}

@@ -1,8 +1,10 @@
-use Rattle.std.proofs.Common.{rules, ◌≡◌, List, [], length, map, sym, ap, subst, arith}
+use Rattle.std.proofs.Common.{rules, ◌≡◌, List, [], length, map, sym, ap, subst, ◌∙◌, arith}
 use Rattle.std.proofs.lemmas.Option.{slice_get_read}
 use Rattle.std.proofs.lemmas.Grind.{common_steps}
 use Rattle.memory_areas.specs.declared.data_block.DataBlock.{DataBlock}
+use Rattle.std.specs.Prelude.{All}
 use Rattle.st_tree.specs.Plain.{Plain}
+use Rattle.st_tree.specs.Proper.{IsDataBlock}
 use Rattle.st_tree.specs.declared.graph.GraphPou.{GraphPou}
 use Rattle.st_tree.specs.declared.graph.GraphProgram.{GraphProgram}
 use Rattle.st_tree.specs.declared.program.Located.{Located}
@@ -13,13 +15,13 @@ use Rattle.instruction_lowering.proofs.Same.{lowered_same}
 use Rattle.instruction_lowering.proofs.units.lower.Goals as goal
 
 -- what holds of the lowered program holds of a graph program with its parts
-by_parts : (P : GraphProgram → Type 0) (dbs : List DataBlock) (globals : List Located) (pous units : List GraphPou)
-    → dbs ≡ [] → globals ≡ [] → pous ≡ units → P (record { dbs = []; globals = []; pous = units })
+by_parts : (P : GraphProgram → Type 0) (dbs blocks : List DataBlock) (globals : List Located) (pous units : List GraphPou)
+    → dbs ≡ blocks → globals ≡ [] → pous ≡ units → P (record { dbs = blocks; globals = []; pous = units })
     → P (record { dbs = dbs; globals = globals; pous = pous })
-by_parts P dbs globals pous units e f g h =
+by_parts P dbs blocks globals pous units e f g h =
     subst (λ x. P (record { dbs = x; globals = globals; pous = pous })) (sym e)
-    (subst (λ x. P (record { dbs = []; globals = x; pous = pous })) (sym f)
-    (subst (λ x. P (record { dbs = []; globals = []; pous = x })) (sym g) h))
+    (subst (λ x. P (record { dbs = blocks; globals = x; pous = pous })) (sym f)
+    (subst (λ x. P (record { dbs = blocks; globals = []; pous = x })) (sym g) h))
 
 pub loop-block-preserved : goal.loop-block-preserved
 loop-block-preserved c = (
@@ -32,11 +34,13 @@ loop-block-preserved c = (
 
 pub returns-clause-plain : goal.returns-clause-plain
 returns-clause-plain c =
-    by_parts Plain c.new.result c.new-2.result c.loop-block.pous (map unit_of c.args.program.now.blocks) c.new.ensures c.new-2.ensures
-    (first_of (search rules, grind (arith, common_steps))) (plain_graph c.args.program.now c.requires (all_few c.args.program.now.blocks c.loop-block.block-index
-    (first_of (search rules, grind (arith, common_steps))) c.loop-block.invariant.1))
+    by_parts Plain c.in_ok-dbs.dbs c.args.program.now.dbs c.new.result c.loop-block.pous (map unit_of c.args.program.now.blocks)
+    (c.in_ok-dbs.ensures.copies ∙ c.as_slice.ensures) c.new.ensures (first_of (search rules, grind (arith, common_steps)))
+    (plain_graph c.args.program.now c.requires (subst (All IsDataBlock) c.as_slice.ensures c.in_ok-dbs.ensures.bytes)
+    (all_few c.args.program.now.blocks c.loop-block.block-index (first_of (search rules, grind (arith, common_steps))) c.loop-block.invariant.1))
 
 pub returns-clause-same : goal.returns-clause-same
 returns-clause-same c =
-    by_parts (Lowered c.args.program.now) c.new.result c.new-2.result c.loop-block.pous (map unit_of c.args.program.now.blocks) c.new.ensures c.new-2.ensures
-    (first_of (search rules, grind (arith, common_steps))) (lowered_same c.args.program.now c.requires)
+    by_parts (Lowered c.args.program.now) c.in_ok-dbs.dbs c.args.program.now.dbs c.new.result c.loop-block.pous (map unit_of c.args.program.now.blocks)
+    (c.in_ok-dbs.ensures.copies ∙ c.as_slice.ensures) c.new.ensures (first_of (search rules, grind (arith, common_steps)))
+    (lowered_same c.args.program.now c.requires)

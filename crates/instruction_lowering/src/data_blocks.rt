@@ -1,0 +1,34 @@
+//! The data blocks of a program, for its graph.
+ghost use Rattle.std.specs.Prelude.{◌≡◌, ◌<◌, All, IfOk, OnOk};
+ghost use Rattle.st_tree.specs.Proper.{IsDataBlock};
+
+use memory_areas::DataBlock;
+use s7_base::{List, NoMemory};
+use std::alloc::Global;
+
+/// Data blocks of the same numbers and bytes, which are those that a graph may have.
+#[tactic(auto, using(crate::proofs::BlockBytes::one_more))]
+pub fn copied(alloc: Global, blocks: &[DataBlock]) -> Result<List<DataBlock>, NoMemory>
+    ensures copies { IfOk result (λ copies. copies ≡ blocks.now) }
+    ensures bytes { OnOk result (All IsDataBlock blocks.now) }
+{
+    let mut copies = List::new(alloc);
+    for block in blocks {
+        copies.push(copied_block(alloc, block)?)?;
+    }
+    Ok(copies)
+}
+
+fn copied_block(alloc: Global, block: &DataBlock) -> Result<DataBlock, NoMemory>
+    ensures copy { IfOk result (λ copy. copy ≡ block.now) }
+    ensures bytes { OnOk result (IsDataBlock block.now) }
+{
+    let _number = block.number;
+    have_8_bits(block.bytes.as_slice());
+    block.copy(alloc)
+}
+
+/// What the type of the bytes says, for the proof alone.
+fn have_8_bits(_bytes: &[u8])
+    ensures { All (λ b. b < 256) _bytes.now }
+{}
