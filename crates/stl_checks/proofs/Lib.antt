@@ -1,3 +1,4 @@
 pub mod Accepting
+pub mod Judging
 pub mod Lists
 pub mod Operations

@@ -1,19 +1,11 @@
--- Operands that no instruction takes, and brackets by numbers.
-use Rattle.std.proofs.Common.{◌≡◌, ◌≢◌, ℕ, zero, suc, ◌-◌, [], None, refl}
+-- Brackets by numbers.
+use Rattle.std.proofs.Common.{◌≡◌, ◌≢◌, ℕ, zero, suc, ◌-◌, [], refl}
 use native.Mathlib.Numerals.{unary_clauses}
 use Rattle.s7_base.specs.Broken.{broken}
 use Rattle.s7_base.specs.declared.reason.Line.{Line}
 use Rattle.s7_base.specs.declared.reason.Reason.TheVariants.{BracketMissing, BracketOpen}
-use Rattle.stl_rules.specs.Programs.{op_with}
 use Rattle.stl_rules.specs.Stages.{brackets_at, open_then}
-use Rattle.stl_rules.specs.declared.given.Given.TheVariants as behind
-use Rattle.stl_statements.specs.declared.mnemonic.Mnemonic.{Mnemonic}
-use Rattle.stl_statements.specs.declared.mnemonic.Mnemonic.TheVariants as is
 use Rattle.stl_tree.specs.declared.program.Op.TheVariants as op
-
-pub none_with_other : (what : Mnemonic) → op_with what behind.Other ≡ None
-none_with_other (is.Check c) = refl
-none_with_other what = refl
 
 pub close_missing : (line : Line) → brackets_at line op.Close 0 ≡ broken line BracketMissing
 close_missing line = refl

@@ -1,9 +1,12 @@
 //! The rules of brackets.
 ghost use Rattle.std.specs.Prelude.{◌≡◌, ◌++◌, length, IfOk, OnOk};
-ghost use Rattle.stl_rules.specs.Stages.{brackets_at, brackets_from, open_then};
+ghost use Rattle.std.specs.List.{flat_map};
+ghost use Rattle.s7_base.specs.Broken.{first_of_all};
+ghost use Rattle.stl_rules.specs.Stages.{brackets_at, brackets_from, brackets_in, open_then};
 
-use s7_base::{Break, Line, List, NoMemory, Reason, note, rest_after};
-use stl_tree::{Instr, Op};
+use s7_base::{Break, Line, List, NoMemory, Reason, first_of_all, note, rest_after};
+use std::alloc::Global;
+use stl_tree::{Block, Instr, Op};
 
 /// The most brackets that may be open.
 const MOST_OPEN: usize = 7;
@@ -53,7 +56,7 @@ fn open_then(op: &Op, count: usize) -> Result<usize, NoMemory>
 
 /// What the brackets of a body break.
 #[tactic(auto, using(crate::proofs::Lists::brackets_more))]
-pub fn note_brackets(breaks: &mut List<Break>, body: &[Instr]) -> Result<(), NoMemory>
+fn note_brackets(breaks: &mut List<Break>, body: &[Instr]) -> Result<(), NoMemory>
     ensures { OnOk result (breaks.new ≡ breaks.old ++ brackets_from 0 body.now) }
 {
     let mut count = 0;
@@ -64,4 +67,23 @@ pub fn note_brackets(breaks: &mut List<Break>, body: &[Instr]) -> Result<(), NoM
         rest = rest_after(rest, 1);
     }
     Ok(())
+}
+
+/// What the brackets of blocks break.
+fn note_blocks(breaks: &mut List<Break>, blocks: &[Block]) -> Result<(), NoMemory>
+    ensures { OnOk result (breaks.new ≡ breaks.old ++ flat_map brackets_in blocks.now) }
+{
+    for block in blocks {
+        note_brackets(breaks, block.body.as_slice())?;
+    }
+    Ok(())
+}
+
+/// The first rule that the brackets of blocks break.
+pub fn first_bracket(alloc: Global, blocks: &[Block]) -> Result<Option<Break>, NoMemory>
+    ensures { IfOk result (λ first. first ≡ first_of_all (flat_map brackets_in blocks.now)) }
+{
+    let mut breaks = List::new(alloc);
+    note_blocks(&mut breaks, blocks)?;
+    Ok(first_of_all(breaks.as_slice()))
 }

@@ -3,7 +3,7 @@ use Rattle.std.proofs.Common.{◌≡◌, ℕ, zero, suc, ◌≤◌, List, [], �
 use Rattle.s7_base.specs.declared.reason.Line.{Line}
 use Rattle.s7_base.specs.declared.reason.Rejection.{Rejection}
 use Rattle.s7_base.specs.declared.token.Token.{Token}
-use Rattle.stl_grammar.specs.Grammar.{IsForm, heading, skipped_line, begin, skipped_word, end_word, statement, IsItem, form, no_instruction, none, at_start, behind_a_block, behind_a_heading, in_a_body, AreItems, none_more, one_more}
+use Rattle.stl_grammar.specs.Grammar.{IsForm, heading, table, symbol, table_end, skipped_line, begin, section, section_end, struct_end, declaration, begin_behind, skipped_word, end_word, statement, IsItem, form, no_instruction, none, at_start, in_a_table, behind_a_block, behind_a_heading, in_a_section, in_a_struct, behind_a_section, in_a_body, AreItems, none_more, one_more}
 use Rattle.stl_grammar.specs.Items.{item_at, prepend_item, with_found, items_from}
 use Rattle.stl_grammar.specs.declared.item.Found.{Found}
 use Rattle.stl_grammar.specs.declared.item.Found.TheVariants.{Fits, Misfit, Ended}
@@ -24,8 +24,16 @@ IsSome (first ∷ rest) = Unit {0}
 -- an item has a first token
 form_some : {place next : Where} {tokens : List Token} {item : Item} {size : ℕ} → IsForm place tokens item size next → IsSome tokens
 form_some (heading place kind first rest may is named) = tt
+form_some (table first rest no_heading word) = tt
+form_some (symbol line name a its b type c comment rest no_end behind quoted_name one two three) = tt
+form_some (table_end line first rest ends) = tt
 form_some (skipped_line kind line first rest is) = tt
 form_some (begin kind line first rest no_line word) = tt
+form_some (section kind line first rest no_line no_begin temps word) = tt
+form_some (section_end kind first rest word) = tt
+form_some (struct_end kind level levels first sign rest word ends) = tt
+form_some (declaration kind levels name rest type size no_end is) = tt
+form_some (begin_behind kind first rest word) = tt
 form_some (skipped_word kind first rest is) = tt
 form_some (end_word kind first rest no_skip word) = tt
 form_some (statement kind first more sign rest instr no_skip no_end whole is ends) = tt
@@ -46,8 +54,12 @@ ended {tokens = tokens} (form {next = next} {item = item} {size = size} is) = fi
 ended (no_instruction kind first rest no_sign no_end whole is) = tt
 ended (none first rest no_form no_statement) = tt
 ended at_start = tt
+ended (in_a_table line) = tt
 ended behind_a_block = tt
 ended (behind_a_heading kind line) = tt
+ended (in_a_section kind) = tt
+ended (in_a_struct kind level levels) = tt
+ended (behind_a_section kind) = tt
 ended (in_a_body kind) = tt
 
 at_no_token : (end : Line) (place : Where) (items : List Item) (found : Found) → IsItem end place [] found → with_found found (λ size next. Ok []) ≡ Ok items → AreItems end place [] items

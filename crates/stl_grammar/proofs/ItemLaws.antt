@@ -1,5 +1,5 @@
 -- What stands at a place of a text is what the forms of items say.
-use Rattle.std.proofs.Common.{◌≡◌, ℕ, ◌+◌, ◌-◌, ◌<◌, Bool, true, false, ◌||◌, if◌then◌else◌, List, [], ◌∷◌, ◌++◌, length, take, drop, Option, Some, None, option_map, Result, Ok, Err, refl, sym, ap, subst, ◌∙◌, arith, length-append}
+use Rattle.std.proofs.Common.{◌≡◌, ℕ, ◌+◌, ◌-◌, ◌<◌, Bool, true, false, ◌&&◌, ◌||◌, if◌then◌else◌, List, [], ◌∷◌, ◌++◌, length, take, drop, Option, Some, None, option_map, Result, Ok, Err, refl, sym, ap, subst, ◌∙◌, arith, length-append}
 use Rattle.std.proofs.lemmas.Bool.{ltb-true, lt-ltb}
 use Rattle.std.specs.Prelude.{codes}
 use Rattle.s7_base.specs.declared.reason.Line.{Line}
@@ -8,25 +8,31 @@ use Rattle.s7_base.specs.declared.reason.Rejection.{Rejection}
 use Rattle.s7_base.specs.declared.reason.Rejection.TheVariants.{Refused, NoMemory}
 use Rattle.s7_base.specs.declared.token.Token.{Token}
 use Rattle.stl_grammar.proofs.StatementSizes.{Split, size_open, size_append, split_of, taken}
-use Rattle.stl_grammar.specs.Grammar.{IsName, apart, together, MayOpen, last_line, IsForm, heading, skipped_line, begin, skipped_word, end_word, statement, has_statement, IsItem, form, no_instruction, none, at_start, behind_a_block, behind_a_heading, in_a_body, ItemsHaveForms}
-use Rattle.stl_grammar.specs.Headings.{heading_kind, is_skipped, kept_from, kept_number, kind_word, line_of, name_at, number_behind, opened, opened_by, size_on}
-use Rattle.stl_grammar.specs.Items.{is_semicolon, is_skipped_alone, is_end, statement_size, statement_at, is_complete, misfit_reason, statement_reason, behind_heading, statement_found, statement_from, body_at, at_token, item_at}
+use Rattle.stl_grammar.specs.Grammar.{IsName, quoted, apart, together, MayOpen, last_line, IsForm, heading, table, symbol, table_end, skipped_line, begin, section, section_end, struct_end, declaration, begin_behind, skipped_word, end_word, statement, has_statement, IsItem, form, no_instruction, none, at_start, in_a_table, behind_a_block, behind_a_heading, in_a_section, in_a_struct, behind_a_section, in_a_body, ItemsHaveForms}
+use Rattle.stl_grammar.specs.Declarations.{declaration_at, ends_level, left_of}
+use Rattle.stl_grammar.specs.declared.declaration.Level.{Level}
+use Rattle.stl_grammar.specs.declared.declaration.Written.{Written}
+use Rattle.s7_base.specs.declared.reason.Reason.TheVariants.{BadStatement}
+use Rattle.stl_grammar.specs.Headings.{heading_kind, is_behind, is_skipped, kept_from, kept_number, kind_word, line_of, name_at, number_behind, opened, opened_by, size_on}
+use Rattle.stl_grammar.specs.Items.{behind_at, closing_at, declaration_found, declaration_reason, has_temps, inside_at, level_line, misfit_line, is_semicolon, is_skipped_alone, is_end, statement_size, statement_at, is_complete, misfit_reason, statement_reason, table_at, symbol_found, in_table, behind_heading, statement_found, statement_from, body_at, at_token, item_at}
+use Rattle.stl_grammar.specs.Symbols.{ends_table, is_next, symbol_at}
 use Rattle.stl_statements.specs.Readers.{fitting}
 use Rattle.stl_statements.specs.Statements.{is_numbered, on_line, statement as statement_said, instruction_of}
-use Rattle.stl_statements.specs.Words.{is_word, is_word_kind}
+use Rattle.stl_statements.specs.Words.{is_word, is_quoted_kind, is_word_kind}
 use Rattle.stl_statements.specs.declared.mnemonic.Read.{Read}
 use Rattle.stl_statements.specs.declared.mnemonic.Read.TheVariants as read
 use Rattle.stl_grammar.specs.declared.item.Found.{Found}
 use Rattle.stl_grammar.specs.declared.item.Found.TheVariants.{Fits, Misfit}
 use Rattle.stl_grammar.specs.declared.item.Item.{Item}
-use Rattle.stl_grammar.specs.declared.item.Item.TheVariants.{Opens, Mark, Instr, Ends}
+use Rattle.stl_grammar.specs.declared.item.Item.TheVariants.{Opens, Mark, Symbol, Declares, Closes, Instr, Ends}
 use Rattle.stl_grammar.specs.declared.item.Where.{Where}
-use Rattle.stl_grammar.specs.declared.item.Where.TheVariants.{Start, Between, Heading, Body}
+use Rattle.stl_grammar.specs.declared.item.Where.TheVariants.{Start, Table, Between, Heading, Inside, Behind, Body}
 use Rattle.stl_tree.specs.declared.raw.BlockKind.{BlockKind}
 use Rattle.stl_tree.specs.declared.raw.RawInstr.{RawInstr}
 use Rattle.stl_tree.specs.declared.raw.RawOp.{RawOp}
 use Rattle.stl_tree.specs.declared.raw.RawName.{RawName}
 use Rattle.stl_tree.specs.declared.raw.RawName.TheVariants.{Number}
+use Rattle.stl_tree.specs.declared.raw.SymbolLine.{SymbolLine}
 
 if_true : {A : Type 0} (b : Bool) (x y : A) → b ≡ true → (if b then x else y) ≡ x
 if_true true x y h = refl
@@ -40,35 +46,52 @@ first_false : (a b : Bool) → (a || b) ≡ false → a ≡ false
 first_false true b h = absurd cc
 first_false false b h = refl
 
+both : (a b : Bool) → a ≡ true → b ≡ true → (a && b) ≡ true
+both true b h k = k
+both false b h k = absurd cc
+
+left_true : (a b : Bool) → (a && b) ≡ true → a ≡ true
+left_true true b h = refl
+left_true false b h = absurd cc
+
+right_true : (a b : Bool) → (a && b) ≡ true → b ≡ true
+right_true true b h = h
+right_true false b h = absurd cc
+
 -- From a form to what is found
 
 name_found : {kind : List ℕ} {names : List Token} {name : RawName} (rest : List Token) → IsName kind names name → name_at kind (names ++ rest) ≡ read.Fits name (length names)
-name_found rest (apart kind word number n is digits found) =
-    if_true (is_word kind word) _ _ is
+name_found rest (quoted kind word is) = if_true (is_quoted_kind word.kind) _ _ is
+name_found rest (apart kind word number n no_quotes is digits found) =
+    if_false (is_quoted_kind word.kind) _ _ no_quotes ∙ if_true (is_word kind word) _ _ is
     ∙ ap (λ (o : Option ℕ). fitting 2 (option_map Number o)) (if_true (is_word_kind number.kind) _ _ digits ∙ found)
-name_found rest (together kind word no_word numbered) =
-    if_false (is_word kind word) _ _ no_word
+name_found rest (together kind word no_quotes no_word numbered) =
+    if_false (is_quoted_kind word.kind) _ _ no_quotes ∙ if_false (is_word kind word) _ _ no_word
     ∙ ap (λ (o : Option ℕ). fitting 1 (option_map Number o)) (if_true (is_numbered kind word) _ _ numbered)
 
 -- the line of the last token of a name
 name_line : {kind : List ℕ} {names : List Token} {name : RawName} (line : Line) (rest : List Token) → IsName kind names name →
     line_of line (drop (length names - 1) (names ++ rest)) ≡ last_line line names
-name_line line rest (apart kind word number n is digits found) = refl
-name_line line rest (together kind word no_word numbered) = refl
+name_line line rest (quoted kind word is) = refl
+name_line line rest (apart kind word number n no_quotes is digits found) = refl
+name_line line rest (together kind word no_quotes no_word numbered) = refl
 
-opened_found : (reason : Reason) (kind : BlockKind) (first : Token) {names : List Token} {name : RawName} (rest : List Token) → heading_kind first ≡ Some kind → IsName (kind_word kind) names name →
-    opened_by reason (heading_kind first) first (names ++ rest) ≡ Fits (Opens first.line kind name) (length names) (Heading kind (last_line first.line names))
-opened_found reason kind first {names = names} {name = name} rest is named =
-    ap (λ (o : Option BlockKind). opened_by reason o first (names ++ rest)) is
+opened_found : (reason : Reason) (kind : BlockKind) (other : Found) (first : Token) {names : List Token} {name : RawName} (rest : List Token) → heading_kind first ≡ Some kind → IsName (kind_word kind) names name →
+    opened_by reason (heading_kind first) other first (names ++ rest) ≡ Fits (Opens first.line kind name) (length names) (Heading kind (last_line first.line names))
+opened_found reason kind other first {names = names} {name = name} rest is named =
+    ap (λ (o : Option BlockKind). opened_by reason o other first (names ++ rest)) is
     ∙ ap (λ (r : Read RawName). opened reason kind first (names ++ rest) r) (name_found rest named)
     ∙ ap (λ (line : Line). Fits (Opens first.line kind name) (length names) (Heading kind line)) (name_line first.line rest named)
 
 heading_found : (end : Line) (place : Where) (kind : BlockKind) (first : Token) {names : List Token} {name : RawName} (rest : List Token) → MayOpen place → heading_kind first ≡ Some kind → IsName (kind_word kind) names name →
     item_at end place (first ∷ (names ++ rest)) ≡ Fits (Opens first.line kind name) (length names) (Heading kind (last_line first.line names))
 unfolding item_at
-heading_found end Start kind first rest may is named = opened_found _ kind first rest is named
-heading_found end Between kind first rest may is named = opened_found _ kind first rest is named
+heading_found end Start kind first rest may is named = opened_found _ kind _ first rest is named
+heading_found end (Table line) kind first rest may is named = absurd may
+heading_found end Between kind first rest may is named = opened_found _ kind _ first rest is named
 heading_found end (Heading other line) kind first rest may is named = absurd may
+heading_found end (Inside other levels) kind first rest may is named = absurd may
+heading_found end (Behind other) kind first rest may is named = absurd may
 heading_found end (Body other) kind first rest may is named = absurd may
 
 statement_read : (place : Where) (first : Token) (more : List Token) (sign : Token) (rest : List Token) (instr : RawInstr) →
@@ -88,9 +111,29 @@ form_found : (end : Line) (place next : Where) (tokens : List Token) (item : Ite
     item_at end place tokens ≡ Fits item size next
 unfolding item_at
 form_found end place next tokens item size (heading its_place kind first rest may is named) = heading_found end its_place kind first rest may is named
+form_found end place next tokens item size (table first rest no_heading word) =
+    ap (λ (o : Option BlockKind). opened_by (misfit_reason Start (first ∷ rest)) o (table_at (first ∷ rest) first) first rest) no_heading
+    ∙ if_true (is_word (codes "SYMBOL_TABLE") first) _ _ word
+form_found end place next tokens item size (symbol line name a its b type c comment rest no_end behind quoted_name one two three) =
+    let behind_name = a ∷ its ∷ b ∷ type ∷ c ∷ comment ∷ rest in
+    if_false (ends_table line name behind_name) _ _ no_end
+    ∙ ap (λ (o : Option SymbolLine). symbol_found line (name ∷ behind_name) name o)
+    (if_true (is_behind line name) _ _ behind
+    ∙ if_true _ _ _ (both _ _ (both _ _ (both (is_quoted_kind name.kind) (is_next name.line a its) quoted_name one) two) three))
+form_found end place next tokens item size (table_end line first rest ends) = if_true (ends_table line first rest) _ _ ends
 form_found end place next tokens item size (skipped_line kind line first rest is) = if_true (is_skipped line first rest) _ _ is
 form_found end place next tokens item size (begin kind line first rest no_line word) =
     if_false (is_skipped line first rest) _ _ no_line ∙ if_true (is_word (codes "BEGIN") first) _ _ word
+form_found end place next tokens item size (section kind line first rest no_line no_begin temps word) =
+    if_false (is_skipped line first rest) _ _ no_line ∙ if_false (is_word (codes "BEGIN") first) _ _ no_begin
+    ∙ if_true _ _ _ (both (has_temps kind) (is_word (codes "VAR_TEMP") first) temps word)
+form_found end place next tokens item size (section_end kind first rest word) = if_true (is_word (codes "END_VAR") first) _ _ word
+form_found end place next tokens item size (struct_end kind level levels first sign rest word ends) =
+    if_true (is_word (codes "END_STRUCT") first) _ _ word ∙ if_true (is_semicolon sign) _ _ ends
+form_found end place next tokens item size (declaration kind levels name rest type its_size no_end is) =
+    if_false (ends_level levels name) _ _ no_end
+    ∙ ap (λ (found : Read Written). declaration_found kind levels (name ∷ rest) name found) is
+form_found end place next tokens item size (begin_behind kind first rest word) = if_true (is_word (codes "BEGIN") first) _ _ word
 form_found end place next tokens item size (skipped_word kind first rest is) = if_true (is_skipped_alone first) _ _ is
 form_found end place next tokens item size (end_word kind first rest no_skip word) =
     if_false (is_skipped_alone first) _ _ no_skip ∙ if_true (is_end kind first) _ _ word
@@ -105,7 +148,7 @@ data Reads : Where → Token → List Token → Found → Type 0 where
   fits : {place next : Where} {first : Token} {rest : List Token} {item : Item} {size : ℕ} →
       IsForm place (first ∷ rest) item size next → Reads place first rest (Fits item size next)
   misses : (place : Where) (first : Token) (rest : List Token) →
-      has_statement place (first ∷ rest) ≡ false → Reads place first rest (Misfit first.line (misfit_reason place (first ∷ rest)))
+      has_statement place (first ∷ rest) ≡ false → Reads place first rest (Misfit (misfit_line place first) (misfit_reason place (first ∷ rest)))
   refuses : (kind : BlockKind) (first : Token) (rest : List Token) (its_line : Line) (reason : Reason) →
       is_skipped_alone first ≡ false → is_end kind first ≡ false → is_complete (first ∷ rest) ≡ true
       → instruction_of (statement_at (first ∷ rest)) ≡ Err (Refused its_line reason)
@@ -122,39 +165,76 @@ data ReadsName : List ℕ → List Token → Read RawName → Type 0 where
   named : {kind : List ℕ} {names : List Token} {name : RawName} (rest : List Token) →
       IsName kind names name → ReadsName kind (names ++ rest) (read.Fits name (length names))
 
-number_reads : (kind : List ℕ) (word number : Token) (rest : List Token) (b : Bool) (o : Option ℕ) → is_word kind word ≡ true → is_word_kind number.kind ≡ b → kept_number number.text ≡ o →
+number_reads : (kind : List ℕ) (word number : Token) (rest : List Token) (b : Bool) (o : Option ℕ) → is_quoted_kind word.kind ≡ false → is_word kind word ≡ true → is_word_kind number.kind ≡ b → kept_number number.text ≡ o →
     ReadsName kind (word ∷ number ∷ rest) (fitting 2 (option_map Number (if b then o else None)))
-number_reads kind word number rest true (Some n) is digits found = named rest (apart kind word number n is digits found)
-number_reads kind word number rest true None is digits found = unnamed
-number_reads kind word number rest false o is digits found = unnamed
+number_reads kind word number rest true (Some n) no_quotes is digits found = named rest (apart kind word number n no_quotes is digits found)
+number_reads kind word number rest true None no_quotes is digits found = unnamed
+number_reads kind word number rest false o no_quotes is digits found = unnamed
 
-behind_reads : (kind : List ℕ) (word : Token) (rest : List Token) → is_word kind word ≡ true → ReadsName kind (word ∷ rest) (fitting 2 (option_map Number (number_behind rest)))
-behind_reads kind word [] is = unnamed
-behind_reads kind word (number ∷ rest) is = number_reads kind word number rest (is_word_kind number.kind) (kept_number number.text) is refl refl
+behind_reads : (kind : List ℕ) (word : Token) (rest : List Token) → is_quoted_kind word.kind ≡ false → is_word kind word ≡ true → ReadsName kind (word ∷ rest) (fitting 2 (option_map Number (number_behind rest)))
+behind_reads kind word [] no_quotes is = unnamed
+behind_reads kind word (number ∷ rest) no_quotes is = number_reads kind word number rest (is_word_kind number.kind) (kept_number number.text) no_quotes is refl refl
 
-within_reads : (kind : List ℕ) (word : Token) (rest : List Token) (b : Bool) → is_word kind word ≡ false → is_numbered kind word ≡ b →
+within_reads : (kind : List ℕ) (word : Token) (rest : List Token) (b : Bool) → is_quoted_kind word.kind ≡ false → is_word kind word ≡ false → is_numbered kind word ≡ b →
     ReadsName kind (word ∷ rest) (fitting 1 (option_map Number (if b then Some (kept_from 0 (drop (length kind) word.text)) else None)))
-within_reads kind word rest true no_word numbered = named rest (together kind word no_word numbered)
-within_reads kind word rest false no_word numbered = unnamed
+within_reads kind word rest true no_quotes no_word numbered = named rest (together kind word no_quotes no_word numbered)
+within_reads kind word rest false no_quotes no_word numbered = unnamed
 
 name_reads : (kind : List ℕ) (tokens : List Token) → ReadsName kind tokens (name_at kind tokens)
 name_reads kind [] = unnamed
 name_reads kind (first ∷ rest) =
     let R : Read RawName → Type 0 = λ found. ReadsName kind (first ∷ rest) found in
-    choose R (is_word kind first) _ _ (λ is. behind_reads kind first rest is) (λ no_word. within_reads kind first rest (is_numbered kind first) no_word refl)
+    choose R (is_quoted_kind first.kind) _ _ (λ is. named rest (quoted kind first is))
+    (λ no_quotes. choose R (is_word kind first) _ _ (λ is. behind_reads kind first rest no_quotes is)
+    (λ no_word. within_reads kind first rest (is_numbered kind first) no_quotes no_word refl))
 
-opened_reads : (place : Where) (kind : BlockKind) (first : Token) (tokens : List Token) (found : Read RawName) → MayOpen place → has_statement place (first ∷ tokens) ≡ false → heading_kind first ≡ Some kind →
+opened_reads : (place : Where) (kind : BlockKind) (first : Token) (tokens : List Token) (found : Read RawName) → MayOpen place → Reads place first tokens (Misfit first.line (misfit_reason place (first ∷ tokens))) → heading_kind first ≡ Some kind →
     ReadsName (kind_word kind) tokens found → Reads place first tokens (opened (misfit_reason place (first ∷ tokens)) kind first tokens found)
-opened_reads place kind first tokens found may no_statement is unnamed = misses place first tokens no_statement
-opened_reads place kind first tokens found may no_statement is (named {names = names} {name = name} rest of_name) =
+opened_reads place kind first tokens found may missed is unnamed = missed
+opened_reads place kind first tokens found may missed is (named {names = names} {name = name} rest of_name) =
     let R : Line → Type 0 = λ line. Reads place first (names ++ rest) (Fits (Opens first.line kind name) (length names) (Heading kind line)) in
     subst R (sym (name_line first.line rest of_name)) (fits (heading place kind first rest may is of_name))
 
-kind_reads : (place : Where) (first : Token) (rest : List Token) (o : Option BlockKind) → MayOpen place → has_statement place (first ∷ rest) ≡ false → heading_kind first ≡ o →
-    Reads place first rest (opened_by (misfit_reason place (first ∷ rest)) o first rest)
-kind_reads place first rest None may no_statement is = misses place first rest no_statement
-kind_reads place first rest (Some kind) may no_statement is =
-    opened_reads place kind first rest (name_at (kind_word kind) rest) may no_statement is (name_reads (kind_word kind) rest)
+kind_reads : (place : Where) (other : Found) (first : Token) (rest : List Token) (o : Option BlockKind) → MayOpen place → Reads place first rest (Misfit first.line (misfit_reason place (first ∷ rest))) → heading_kind first ≡ o →
+    (heading_kind first ≡ None → Reads place first rest other) → Reads place first rest (opened_by (misfit_reason place (first ∷ rest)) o other first rest)
+kind_reads place other first rest None may missed is reads = reads is
+kind_reads place other first rest (Some kind) may missed is reads =
+    opened_reads place kind first rest (name_at (kind_word kind) rest) may missed is (name_reads (kind_word kind) rest)
+
+-- the symbol table
+
+table_reads : (first : Token) (rest : List Token) → heading_kind first ≡ None → Reads Start first rest (table_at (first ∷ rest) first)
+table_reads first rest no_heading =
+    let R : Found → Type 0 = λ found. Reads Start first rest found in
+    choose R (is_word (codes "SYMBOL_TABLE") first) _ _ (λ word. fits (table first rest no_heading word)) (λ no_word. misses Start first rest refl)
+
+symbol_reads : (line : Line) (name : Token) (rest : List Token) → ends_table line name rest ≡ false → is_behind line name ≡ true →
+    Reads (Table line) name rest (symbol_found line (name ∷ rest) name (symbol_at name rest))
+symbol_reads line name [] no_end behind = misses (Table line) name [] refl
+symbol_reads line name (a ∷ []) no_end behind = misses (Table line) name (a ∷ []) refl
+symbol_reads line name (a ∷ its ∷ []) no_end behind = misses (Table line) name (a ∷ its ∷ []) refl
+symbol_reads line name (a ∷ its ∷ b ∷ []) no_end behind = misses (Table line) name (a ∷ its ∷ b ∷ []) refl
+symbol_reads line name (a ∷ its ∷ b ∷ type ∷ []) no_end behind = misses (Table line) name (a ∷ its ∷ b ∷ type ∷ []) refl
+symbol_reads line name (a ∷ its ∷ b ∷ type ∷ c ∷ []) no_end behind = misses (Table line) name (a ∷ its ∷ b ∷ type ∷ c ∷ []) refl
+symbol_reads line name (a ∷ its ∷ b ∷ type ∷ c ∷ comment ∷ rest) no_end behind =
+    let R : Option SymbolLine → Type 0 = λ found. Reads (Table line) name (a ∷ its ∷ b ∷ type ∷ c ∷ comment ∷ rest)
+    (symbol_found line (name ∷ a ∷ its ∷ b ∷ type ∷ c ∷ comment ∷ rest) name found) in
+    choose R (is_quoted_kind name.kind && is_next name.line a its && is_next name.line b type && is_next name.line c comment) _ _
+    (λ all. let three = left_true (is_quoted_kind name.kind && is_next name.line a its && is_next name.line b type) (is_next name.line c comment) all in
+    let two = left_true (is_quoted_kind name.kind && is_next name.line a its) (is_next name.line b type) three in
+    fits (symbol line name a its b type c comment rest no_end behind
+    (left_true (is_quoted_kind name.kind) (is_next name.line a its) two) (right_true (is_quoted_kind name.kind) (is_next name.line a its) two)
+    (right_true (is_quoted_kind name.kind && is_next name.line a its) (is_next name.line b type) three)
+    (right_true (is_quoted_kind name.kind && is_next name.line a its && is_next name.line b type) (is_next name.line c comment) all)))
+    (λ other. misses (Table line) name (a ∷ its ∷ b ∷ type ∷ c ∷ comment ∷ rest) refl)
+
+in_table_reads : (line : Line) (first : Token) (rest : List Token) → Reads (Table line) first rest (in_table line (first ∷ rest) first rest)
+in_table_reads line first rest =
+    let R : Found → Type 0 = λ found. Reads (Table line) first rest found in
+    let S : Option SymbolLine → Type 0 = λ found. Reads (Table line) first rest (symbol_found line (first ∷ rest) first found) in
+    choose R (ends_table line first rest) _ _ (λ ends. fits (table_end line first rest ends))
+    (λ no_end. choose S (is_behind line first) _ _ (λ behind. symbol_reads line first rest no_end behind)
+    (λ same_line. misses (Table line) first rest refl))
 
 -- behind a heading
 
@@ -163,7 +243,63 @@ behind_heading_reads kind line first rest =
     let R : Found → Type 0 = λ found. Reads (Heading kind line) first rest found in
     choose R (is_skipped line first rest) _ _ (λ is. fits (skipped_line kind line first rest is))
     (λ no_line. choose R (is_word (codes "BEGIN") first) _ _ (λ word. fits (begin kind line first rest no_line word))
-    (λ no_word. misses (Heading kind line) first rest refl))
+    (λ no_begin. choose R (has_temps kind && is_word (codes "VAR_TEMP") first) _ _
+    (λ all. fits (section kind line first rest no_line no_begin (left_true (has_temps kind) (is_word (codes "VAR_TEMP") first) all)
+    (right_true (has_temps kind) (is_word (codes "VAR_TEMP") first) all)))
+    (λ no_section. misses (Heading kind line) first rest refl)))
+
+-- among declarations
+
+-- the end of a STRUCT that does not fit has its line
+unclosed : (kind : BlockKind) (level : Level) (levels : List Level) (first : Token) (rest : List Token) → is_word (codes "END_STRUCT") first ≡ true →
+    Reads (Inside kind (level ∷ levels)) first rest (Misfit level.line BadStatement)
+unclosed kind level levels first rest word =
+    let R : Line → Reason → Type 0 = λ line reason. Reads (Inside kind (level ∷ levels)) first rest (Misfit line reason) in
+    let place = Inside kind (level ∷ levels) in
+    let line : misfit_line place first ≡ level.line = if_true (is_word (codes "END_STRUCT") first) _ _ word in
+    let reason : misfit_reason place (first ∷ rest) ≡ BadStatement = if_true (is_word (codes "END_STRUCT") first) _ _ word in
+    subst (λ (l : Line). R l BadStatement) line (subst (λ (r : Reason). R (misfit_line place first) r) reason (misses place first rest refl))
+
+closing_reads : (kind : BlockKind) (levels : List Level) (first : Token) (rest : List Token) → ends_level levels first ≡ true →
+    Reads (Inside kind levels) first rest (closing_at kind levels rest)
+closing_reads kind [] first rest word = fits (section_end kind first rest word)
+closing_reads kind (level ∷ levels) first [] word = unclosed kind level levels first [] word
+closing_reads kind (level ∷ levels) first (sign ∷ rest) word =
+    let R : Found → Type 0 = λ found. Reads (Inside kind (level ∷ levels)) first (sign ∷ rest) found in
+    choose R (is_semicolon sign) _ _ (λ ends. fits (struct_end kind level levels first sign rest word ends))
+    (λ no_end. unclosed kind level levels first (sign ∷ rest) word)
+
+-- a declaration that does not fit has the line of its name
+inside_line : (levels : List Level) (first : Token) → ends_level levels first ≡ false → level_line levels first ≡ first.line
+inside_line [] first no_end = refl
+inside_line (level ∷ levels) first no_end = if_false (is_word (codes "END_STRUCT") first) _ _ no_end
+
+undeclared : (kind : BlockKind) (levels : List Level) (first : Token) (rest : List Token) (found : Read Written) → ends_level levels first ≡ false → declaration_at (left_of levels) first rest ≡ found →
+    Reads (Inside kind levels) first rest (Misfit first.line (declaration_reason (first ∷ rest) found))
+undeclared kind levels first rest found no_end is =
+    let R : Line → Reason → Type 0 = λ line reason. Reads (Inside kind levels) first rest (Misfit line reason) in
+    let place = Inside kind levels in
+    let reason : misfit_reason place (first ∷ rest) ≡ declaration_reason (first ∷ rest) found =
+    if_false (ends_level levels first) _ _ no_end ∙ ap (λ (r : Read Written). declaration_reason (first ∷ rest) r) is in
+    subst (λ (l : Line). R l (declaration_reason (first ∷ rest) found)) (inside_line levels first no_end)
+    (subst (λ (r : Reason). R (misfit_line place first) r) reason (misses place first rest refl))
+
+declaration_reads : (kind : BlockKind) (levels : List Level) (first : Token) (rest : List Token) (found : Read Written) → ends_level levels first ≡ false → declaration_at (left_of levels) first rest ≡ found →
+    Reads (Inside kind levels) first rest (declaration_found kind levels (first ∷ rest) first found)
+declaration_reads kind levels first rest (read.Fits type size) no_end is = fits (declaration kind levels first rest type size no_end is)
+declaration_reads kind levels first rest (read.LeftOut left) no_end is = undeclared kind levels first rest (read.LeftOut left) no_end is
+declaration_reads kind levels first rest read.No no_end is = undeclared kind levels first rest read.No no_end is
+
+inside_reads : (kind : BlockKind) (levels : List Level) (first : Token) (rest : List Token) → Reads (Inside kind levels) first rest (inside_at kind levels (first ∷ rest) first rest)
+inside_reads kind levels first rest =
+    let R : Found → Type 0 = λ found. Reads (Inside kind levels) first rest found in
+    choose R (ends_level levels first) _ _ (λ word. closing_reads kind levels first rest word)
+    (λ no_end. declaration_reads kind levels first rest (declaration_at (left_of levels) first rest) no_end refl)
+
+behind_reads_begin : (kind : BlockKind) (first : Token) (rest : List Token) → Reads (Behind kind) first rest (behind_at kind (first ∷ rest) first)
+behind_reads_begin kind first rest =
+    let R : Found → Type 0 = λ found. Reads (Behind kind) first rest found in
+    choose R (is_word (codes "BEGIN") first) _ _ (λ word. fits (begin_behind kind first rest word)) (λ no_word. misses (Behind kind) first rest refl)
 
 -- in a body
 
@@ -205,9 +341,12 @@ body_reads kind first rest =
     (λ cut. misses (Body kind) first rest cut)))
 
 token_reads : (place : Where) (first : Token) (rest : List Token) → Reads place first rest (at_token place (first ∷ rest) first rest)
-token_reads Start first rest = kind_reads Start first rest (heading_kind first) tt refl refl
-token_reads Between first rest = kind_reads Between first rest (heading_kind first) tt refl refl
+token_reads Start first rest = kind_reads Start _ first rest (heading_kind first) tt (misses Start first rest refl) refl (λ no_heading. table_reads first rest no_heading)
+token_reads (Table line) first rest = in_table_reads line first rest
+token_reads Between first rest = kind_reads Between _ first rest (heading_kind first) tt (misses Between first rest refl) refl (λ no_heading. misses Between first rest refl)
 token_reads (Heading kind line) first rest = behind_heading_reads kind line first rest
+token_reads (Inside kind levels) first rest = inside_reads kind levels first rest
+token_reads (Behind kind) first rest = behind_reads_begin kind first rest
 token_reads (Body kind) first rest = body_reads kind first rest
 
 -- no form stands where a misfit was found
@@ -226,8 +365,12 @@ settled end place first rest found (refuses kind its_first its_rest its_line rea
 end_is : (end : Line) (place : Where) → IsItem end place [] (item_at end place [])
 unfolding item_at
 end_is end Start = at_start
+end_is end (Table line) = in_a_table line
 end_is end Between = behind_a_block
 end_is end (Heading kind line) = behind_a_heading kind line
+end_is end (Inside kind []) = in_a_section kind
+end_is end (Inside kind (level ∷ levels)) = in_a_struct kind level levels
+end_is end (Behind kind) = behind_a_section kind
 end_is end (Body kind) = in_a_body kind
 
 token_is : (end : Line) (place : Where) (first : Token) (rest : List Token) → IsItem end place (first ∷ rest) (item_at end place (first ∷ rest))
@@ -243,7 +386,7 @@ sound end place (first ∷ rest) = token_is end place first rest
 -- two answers of the relation to one place are one
 one : (end : Line) (place : Where) (first : Token) (rest : List Token) (found : Found) → IsItem end place (first ∷ rest) found →
     ((item : Item) (size : ℕ) (next : Where) → IsForm place (first ∷ rest) item size next → ⊥) → has_statement place (first ∷ rest) ≡ false
-    → found ≡ Misfit first.line (misfit_reason place (first ∷ rest))
+    → found ≡ Misfit (misfit_line place first) (misfit_reason place (first ∷ rest))
 one end place first rest found (form is) no_form no_statement = absurd (no_form _ _ _ is)
 one end place first rest found (no_instruction kind its_first its_rest no_skip no_end complete is) no_form no_statement = absurd cc
 one end place first rest found (none its_first its_rest no_other no_more) no_form no_statement = refl
@@ -257,8 +400,12 @@ complete end place tokens found (no_instruction kind first rest no_skip no_end w
     ∙ ap (λ (r : Result RawInstr Rejection). statement_found (Body kind) (first ∷ rest) first.line r) is
 complete end place tokens found (none first rest no_form no_statement) = one end place first rest (item_at end place (first ∷ rest)) (sound end place (first ∷ rest)) no_form no_statement
 complete end place tokens found at_start = refl
+complete end place tokens found (in_a_table line) = refl
 complete end place tokens found behind_a_block = refl
 complete end place tokens found (behind_a_heading kind line) = refl
+complete end place tokens found (in_a_section kind) = refl
+complete end place tokens found (in_a_struct kind level levels) = refl
+complete end place tokens found (behind_a_section kind) = refl
 complete end place tokens found (in_a_body kind) = refl
 
 pub have_forms : ItemsHaveForms

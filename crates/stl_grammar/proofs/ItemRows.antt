@@ -1,21 +1,33 @@
 -- The items of texts, held against worked rows by computing them.
 use Rattle.std.proofs.Common.{◌≡◌, refl, List, [], ◌∷◌, ◌++◌, ℕ, Ok, Err, Result}
-use Rattle.std.specs.Prelude.{codes}
+use Rattle.std.specs.Prelude.{codes, map, replicate, None, pos, neg_ℤ}
+use Rattle.memory_areas.specs.declared.place.AreaName.{AreaName}
+use Rattle.memory_areas.specs.declared.place.AreaName.TheVariants as area
 use Rattle.s7_base.specs.Tokens.{tokens_of}
-use Rattle.s7_base.specs.declared.reason.Kind.TheVariants.{NotBuilt}
+use Rattle.s7_base.specs.declared.reason.Kind.TheVariants.{DateTime, NotBuilt, PointerType, Real, StringType, UserType}
 use Rattle.s7_base.specs.declared.reason.Reason.{Reason}
 use Rattle.s7_base.specs.declared.reason.Reason.TheVariants.{BadStatement, Unsupported}
 use Rattle.s7_base.specs.declared.reason.Rejection.{Rejection}
 use Rattle.s7_base.specs.declared.reason.Rejection.TheVariants.{Refused}
+use Rattle.s7_base.specs.declared.word.Width.{Width}
+use Rattle.s7_base.specs.declared.word.Width.TheVariants as width
 use Rattle.stl_grammar.specs.Items.{is_not_built, item_at}
 use Rattle.stl_grammar.specs.RawPrograms.{headed, raw_program, raw_text, raw_with, with_end}
+use Rattle.stl_grammar.specs.Symbols.{address_of}
 use Rattle.stl_statements.specs.Mnemonics.{mnemonic_at}
 use Rattle.stl_statements.specs.Statements.{instruction_of}
 use Rattle.stl_tree.specs.declared.raw.BlockKind.TheVariants as block
+use Rattle.stl_tree.specs.declared.raw.Declaration.{Declaration}
+use Rattle.stl_tree.specs.declared.raw.DeclType.{DeclType}
+use Rattle.stl_tree.specs.declared.raw.DeclType.TheVariants as of
+use Rattle.stl_tree.specs.declared.raw.ElemType.TheVariants as elem
 use Rattle.stl_tree.specs.declared.raw.RawBlock.{RawBlock}
 use Rattle.stl_tree.specs.declared.raw.RawName.{RawName}
-use Rattle.stl_tree.specs.declared.raw.RawName.TheVariants.{Number}
+use Rattle.stl_tree.specs.declared.raw.RawName.TheVariants.{Number, Name}
 use Rattle.stl_tree.specs.declared.raw.RawProgram.{RawProgram}
+use Rattle.stl_tree.specs.declared.raw.SymbolAddress.{SymbolAddress}
+use Rattle.stl_tree.specs.declared.raw.SymbolAddress.TheVariants as address
+use Rattle.stl_tree.specs.declared.raw.SymbolLine.{SymbolLine}
 
 abbrev pub refused : ℕ → Reason → Result RawProgram Rejection
 refused line reason = Err (Refused (record { 0 = line }) reason)
@@ -26,19 +38,19 @@ empty_block name first last = with_end (record { 0 = last }) (headed (record { 0
 
 pub two_blocks :
     raw_text (codes "ORGANIZATION_BLOCK OB 1\nBEGIN\nEND_ORGANIZATION_BLOCK\nORGANIZATION_BLOCK OB2 BEGIN\nEND_ORGANIZATION_BLOCK")
-    ≡ Ok (raw_with (empty_block (Number 1) 1 3 ∷ empty_block (Number 2) 4 5 ∷ []))
+    ≡ Ok (raw_with [] (empty_block (Number 1) 1 3 ∷ empty_block (Number 2) 4 5 ∷ []))
 unfolding raw_text raw_program item_at is_not_built instruction_of tokens_of mnemonic_at
 two_blocks = refl
 
 great_number :
     raw_text (codes "ORGANIZATION_BLOCK OB 4294967296\nBEGIN\nEND_ORGANIZATION_BLOCK\n")
-    ≡ Ok (raw_with (empty_block (Number 4294967295) 1 3 ∷ []))
+    ≡ Ok (raw_with [] (empty_block (Number 4294967295) 1 3 ∷ []))
 unfolding raw_text raw_program item_at is_not_built instruction_of tokens_of mnemonic_at
 great_number = refl
 
 skipped_lines :
     raw_text (codes "ORGANIZATION_BLOCK OB 0\nAUTHOR : Me\nVERSION : 1 BEGIN\nKNOW_HOW_PROTECT FOO\nBEGIN\nNETWORK ; NETWORK\nEND_ORGANIZATION_BLOCK\n")
-    ≡ Ok (raw_with (empty_block (Number 0) 1 7 ∷ []))
+    ≡ Ok (raw_with [] (empty_block (Number 0) 1 7 ∷ []))
 unfolding raw_text raw_program item_at is_not_built instruction_of tokens_of mnemonic_at
 skipped_lines = refl
 
@@ -65,3 +77,178 @@ no_heading_between_blocks :
     raw_text (codes "ORGANIZATION_BLOCK OB 1\nBEGIN\nEND_ORGANIZATION_BLOCK\nFOO\n") ≡ refused 4 BadStatement
 unfolding raw_text raw_program item_at is_not_built instruction_of tokens_of mnemonic_at
 no_heading_between_blocks = refl
+
+-- The symbol table
+
+abbrev pub symbol : List ℕ → ℕ → SymbolAddress → SymbolLine
+symbol name line its = record { name = name; line = record { 0 = line }; address = its }
+
+abbrev pub place : AreaName → Width → ℕ → ℕ → SymbolAddress
+place name w byte bit = address.At (record { block = None; area = name; width = w; byte = byte; bit = bit })
+
+symbols :
+    raw_text (codes "SYMBOL_TABLE\n\" a \",\"I 0.9\",\"BOOL\",\"\"\n\"b\" , \" mw007\" ,\"\",\"x\"\n\" \",\"DB 7\",\"\",\"\"\n\"d\",\"T 5\",\"\",\"\"\nEND_SYMBOL_TABLE\n")
+    ≡ Ok (raw_with
+    (symbol (codes "a") 2 (place area.I width.Bit 0 9) ∷ symbol (codes "b") 3 (place area.M width.Word 7 0)
+    ∷ symbol [] 4 (address.Block block.Db 7) ∷ symbol (codes "d") 5 address.Other ∷ []) [])
+unfolding raw_text raw_program item_at is_not_built instruction_of tokens_of mnemonic_at
+symbols = refl
+
+named_block :
+    raw_text (codes "SYMBOL_TABLE\nEND_SYMBOL_TABLE\nORGANIZATION_BLOCK \"Main \"\nBEGIN\nEND_ORGANIZATION_BLOCK")
+    ≡ Ok (raw_with [] (empty_block (Name (codes "Main ")) 3 5 ∷ []))
+unfolding raw_text raw_program item_at is_not_built instruction_of tokens_of mnemonic_at
+named_block = refl
+
+other_addresses : map address_of (codes "I 0 .0" ∷ codes "IB0.0" ∷ codes "I 0" ∷ codes "OB" ∷ codes "DB 1.0" ∷ codes "PIW 4" ∷ codes "" ∷ [])
+    ≡ replicate 7 address.Other
+other_addresses = refl
+
+symbol_behind_the_word : raw_text (codes "SYMBOL_TABLE \"a\",\"I 0.0\",\"\",\"\"\nEND_SYMBOL_TABLE\n") ≡ refused 1 BadStatement
+unfolding raw_text raw_program item_at is_not_built instruction_of tokens_of mnemonic_at
+symbol_behind_the_word = refl
+
+symbol_over_two_lines : raw_text (codes "SYMBOL_TABLE\n\"a\",\"I 0.0\",\n\"\",\"\"\nEND_SYMBOL_TABLE\n") ≡ refused 2 BadStatement
+unfolding raw_text raw_program item_at is_not_built instruction_of tokens_of mnemonic_at
+symbol_over_two_lines = refl
+
+two_symbols_on_a_line :
+    raw_text (codes "SYMBOL_TABLE\n\"a\",\"I 0.0\",\"\",\"\" \"b\",\"I 0.1\",\"\",\"\"\nEND_SYMBOL_TABLE\n") ≡ refused 2 BadStatement
+unfolding raw_text raw_program item_at is_not_built instruction_of tokens_of mnemonic_at
+two_symbols_on_a_line = refl
+
+ends_in_the_table : raw_text (codes "SYMBOL_TABLE\n\"a\",\"I 0.0\",\"\",\"\"\n") ≡ refused 3 BadStatement
+unfolding raw_text raw_program item_at is_not_built instruction_of tokens_of mnemonic_at
+ends_in_the_table = refl
+
+symbol_is_cut_off : raw_text (codes "SYMBOL_TABLE\n\"a\",\n") ≡ refused 2 BadStatement
+unfolding raw_text raw_program item_at is_not_built instruction_of tokens_of mnemonic_at
+symbol_is_cut_off = refl
+
+-- Temporary variables
+
+-- a block with these declarations, which begin on line 3
+abbrev pub with_temps : List ℕ → List ℕ
+with_temps temps = codes "ORGANIZATION_BLOCK OB 1\nVAR_TEMP\n" ++ temps ++ codes "\nEND_VAR\nBEGIN\nEND_ORGANIZATION_BLOCK"
+
+-- the program of such a block, whose end word stands on a line
+abbrev pub temps_of : ℕ → List Declaration → RawProgram
+temps_of last temps = raw_with [] (record (empty_block (Number 1) 1 last) { temps = temps } ∷ [])
+
+abbrev pub temp : List ℕ → ℕ → DeclType → Declaration
+temp name line type = record { name = name; line = record { 0 = line }; ty = type; initial = [] }
+
+elementary_types : raw_text (with_temps (codes "a : BOOL;\n1b: dint ; INT : Int;\nd : DATE_AND_TIME ;"))
+    ≡ Ok (temps_of 8 (temp (codes "a") 3 (of.Elementary elem.Bool) ∷ temp (codes "1b") 4 (of.Elementary elem.Dint)
+    ∷ temp (codes "INT") 4 (of.Elementary elem.Int) ∷ temp (codes "d") 5 of.DateAndTime ∷ []))
+unfolding raw_text raw_program item_at is_not_built instruction_of tokens_of mnemonic_at
+elementary_types = refl
+
+arrays : raw_text (with_temps (codes "a : ARRAY [1..5 , -3 .. 99999999999] OF ARRAY[2..1]OF WORD;"))
+    ≡ Ok (temps_of 6 (temp (codes "a") 3
+    (of.Array ((pos 1, pos 5) ∷ (neg_ℤ (pos 3), pos 4294967295) ∷ []) (of.Array ((pos 2, pos 1) ∷ []) (of.Elementary elem.Word))) ∷ []))
+unfolding raw_text raw_program item_at is_not_built instruction_of tokens_of mnemonic_at
+arrays = refl
+
+structs : raw_text (with_temps (codes "a : ARRAY [1..2] OF STRUCT\nb : STRUCT END_STRUCT;\nEND_VAR : CHAR;\nEND_STRUCT ;\nc : BYTE;"))
+    ≡ Ok (temps_of 10
+    (temp (codes "a") 3 (of.Array ((pos 1, pos 2) ∷ []) (of.Struct (temp (codes "b") 4 (of.Struct []) ∷ temp (codes "END_VAR") 5 (of.Elementary elem.Char) ∷ [])))
+    ∷ temp (codes "c") 7 (of.Elementary elem.Byte) ∷ []))
+unfolding raw_text raw_program item_at is_not_built instruction_of tokens_of mnemonic_at
+structs = refl
+
+no_temps : raw_text (with_temps []) ≡ Ok (temps_of 6 [])
+unfolding raw_text raw_program item_at is_not_built instruction_of tokens_of mnemonic_at
+no_temps = refl
+
+statement_in_a_section : raw_text (with_temps (codes "A I 0.0;")) ≡ refused 3 (Unsupported NotBuilt)
+unfolding raw_text raw_program item_at is_not_built instruction_of tokens_of mnemonic_at
+statement_in_a_section = refl
+
+unknown_type : raw_text (with_temps (codes "a : STRUCT\nb : FOO;\nEND_STRUCT;")) ≡ refused 4 BadStatement
+unfolding raw_text raw_program item_at is_not_built instruction_of tokens_of mnemonic_at
+unknown_type = refl
+
+short_date : raw_text (with_temps (codes "a : DT;")) ≡ refused 3 BadStatement
+unfolding raw_text raw_program item_at is_not_built instruction_of tokens_of mnemonic_at
+short_date = refl
+
+real : raw_text (with_temps (codes "a : INT;\nb : ARRAY [1..2] OF REAL foo;")) ≡ refused 4 (Unsupported Real)
+unfolding raw_text raw_program item_at is_not_built instruction_of tokens_of mnemonic_at
+real = refl
+
+pointer : raw_text (with_temps (codes "a : any;")) ≡ refused 3 (Unsupported PointerType)
+unfolding raw_text raw_program item_at is_not_built instruction_of tokens_of mnemonic_at
+pointer = refl
+
+string : raw_text (with_temps (codes "a : STRING [20] ;")) ≡ refused 3 (Unsupported StringType)
+unfolding raw_text raw_program item_at is_not_built instruction_of tokens_of mnemonic_at
+string = refl
+
+time_of_day : raw_text (with_temps (codes "a : TIME_OF_DAY ;")) ≡ refused 3 (Unsupported DateTime)
+unfolding raw_text raw_program item_at is_not_built instruction_of tokens_of mnemonic_at
+time_of_day = refl
+
+user_type : raw_text (with_temps (codes "a : UDT5;")) ≡ refused 3 (Unsupported UserType)
+unfolding raw_text raw_program item_at is_not_built instruction_of tokens_of mnemonic_at
+user_type = refl
+
+named_user_type : raw_text (with_temps (codes "a : \"MyType\";")) ≡ refused 3 BadStatement
+unfolding raw_text raw_program item_at is_not_built instruction_of tokens_of mnemonic_at
+named_user_type = refl
+
+initial_value_of_a_temporary : raw_text (with_temps (codes "a : INT := 5;")) ≡ refused 3 BadStatement
+unfolding raw_text raw_program item_at is_not_built instruction_of tokens_of mnemonic_at
+initial_value_of_a_temporary = refl
+
+blank_behind_a_minus : raw_text (with_temps (codes "a : ARRAY [- 1 .. 5] OF INT;")) ≡ refused 3 BadStatement
+unfolding raw_text raw_program item_at is_not_built instruction_of tokens_of mnemonic_at
+blank_behind_a_minus = refl
+
+open_array : raw_text (with_temps (codes "a : ARRAY [1 .. ] OF INT;")) ≡ refused 3 BadStatement
+unfolding raw_text raw_program item_at is_not_built instruction_of tokens_of mnemonic_at
+open_array = refl
+
+struct_is_not_closed : raw_text (with_temps (codes "a : STRUCT\nb : INT;\nEND_STRUCT c : INT;")) ≡ refused 3 BadStatement
+unfolding raw_text raw_program item_at is_not_built instruction_of tokens_of mnemonic_at
+struct_is_not_closed = refl
+
+eighth_level : raw_text (with_temps (codes "a : ARRAY [1..2] OF ARRAY [1..2] OF ARRAY [1..2] OF STRUCT\nb : ARRAY [1..2] OF STRUCT\nc : STRUCT\nd : ARRAY [1..2] OF REAL; END_STRUCT; END_STRUCT; END_STRUCT;")) ≡ refused 6 (Unsupported Real)
+unfolding raw_text raw_program item_at is_not_built instruction_of tokens_of mnemonic_at
+eighth_level = refl
+
+ninth_level : raw_text (with_temps (codes "a : ARRAY [1..2] OF ARRAY [1..2] OF ARRAY [1..2] OF STRUCT\nb : ARRAY [1..2] OF STRUCT\nc : STRUCT\nd : ARRAY [1..2] OF ARRAY [1..2] OF INT; END_STRUCT; END_STRUCT; END_STRUCT;")) ≡ refused 6 BadStatement
+unfolding raw_text raw_program item_at is_not_built instruction_of tokens_of mnemonic_at
+ninth_level = refl
+
+ninth_struct : raw_text (with_temps (codes "a : ARRAY [1..2] OF ARRAY [1..2] OF ARRAY [1..2] OF STRUCT\nb : ARRAY [1..2] OF STRUCT\nc : STRUCT\nd : ARRAY [1..2] OF STRUCT END_STRUCT; END_STRUCT; END_STRUCT; END_STRUCT;")) ≡ refused 6 BadStatement
+unfolding raw_text raw_program item_at is_not_built instruction_of tokens_of mnemonic_at
+ninth_struct = refl
+
+ends_in_a_section : raw_text (codes "ORGANIZATION_BLOCK OB 1\nVAR_TEMP\na : INT;\n") ≡ refused 4 BadStatement
+unfolding raw_text raw_program item_at is_not_built instruction_of tokens_of mnemonic_at
+ends_in_a_section = refl
+
+ends_in_a_struct : raw_text (codes "ORGANIZATION_BLOCK OB 1\nVAR_TEMP\na : STRUCT\nb : STRUCT\nc : INT;\n") ≡ refused 4 BadStatement
+unfolding raw_text raw_program item_at is_not_built instruction_of tokens_of mnemonic_at
+ends_in_a_struct = refl
+
+ends_behind_a_nested_struct : raw_text (codes "ORGANIZATION_BLOCK OB 1\nVAR_TEMP\na : STRUCT\nb : STRUCT\nEND_STRUCT;\n\n") ≡ refused 3 BadStatement
+unfolding raw_text raw_program item_at is_not_built instruction_of tokens_of mnemonic_at
+ends_behind_a_nested_struct = refl
+
+ends_in_a_declaration : raw_text (codes "ORGANIZATION_BLOCK OB 1\nVAR_TEMP\na :\nREAL\n") ≡ refused 3 BadStatement
+unfolding raw_text raw_program item_at is_not_built instruction_of tokens_of mnemonic_at
+ends_in_a_declaration = refl
+
+ends_behind_a_section : raw_text (codes "ORGANIZATION_BLOCK OB 1\nVAR_TEMP\nEND_VAR\n") ≡ refused 4 BadStatement
+unfolding raw_text raw_program item_at is_not_built instruction_of tokens_of mnemonic_at
+ends_behind_a_section = refl
+
+type_of_the_users : raw_text (codes "TYPE") ≡ refused 1 (Unsupported UserType)
+unfolding raw_text raw_program item_at is_not_built instruction_of tokens_of mnemonic_at
+type_of_the_users = refl
+
+statement_behind_a_section : raw_text (codes "ORGANIZATION_BLOCK OB 1\nVAR_TEMP\nEND_VAR\nA I 0.0;\nEND_ORGANIZATION_BLOCK") ≡ refused 4 (Unsupported NotBuilt)
+unfolding raw_text raw_program item_at is_not_built instruction_of tokens_of mnemonic_at
+statement_behind_a_section = refl

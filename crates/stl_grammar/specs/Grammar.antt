@@ -1,25 +1,30 @@
 -- The grammar of a source text: the forms of items, as a relation with a case each, and the texts that are
 -- items up to their end.
-use Rattle.std.specs.Prelude.{◌≡◌, ℕ, Bool, true, false, List, [], ◌∷◌, ◌++◌, length, drop, codes, Some, Ok, Err}
+use Rattle.std.specs.Prelude.{◌≡◌, ℕ, Bool, true, false, List, [], ◌∷◌, ◌++◌, length, drop, codes, Some, None, Ok, Err}
 use Rattle.s7_base.specs.declared.reason.Line.{Line}
 use Rattle.s7_base.specs.declared.reason.Reason.{Reason}
 use Rattle.s7_base.specs.declared.reason.Reason.TheVariants.{BadStatement}
 use Rattle.s7_base.specs.declared.reason.Rejection.TheVariants.{Refused}
 use Rattle.s7_base.specs.declared.token.Token.{Token}
-use Rattle.stl_grammar.specs.Items.{is_complete, is_end, is_semicolon, is_skipped_alone, item_at, misfit_reason, statement_at, statement_reason, statement_size}
-use Rattle.stl_grammar.specs.Headings.{heading_kind, is_skipped, kept_from, kept_number, kind_word, size_on}
+use Rattle.stl_grammar.specs.Items.{has_temps, is_complete, is_end, is_semicolon, is_skipped_alone, item_at, misfit_line, misfit_reason, statement_at, statement_reason, statement_size}
+use Rattle.stl_grammar.specs.Declarations.{declaration_at, ends_level, left_of, levels_behind}
+use Rattle.stl_grammar.specs.declared.declaration.Level.{Level}
+use Rattle.stl_grammar.specs.declared.declaration.Written.{Written}
+use Rattle.stl_statements.specs.declared.mnemonic.Read.TheVariants as read
+use Rattle.stl_grammar.specs.Headings.{heading_kind, is_behind, is_skipped, kept_from, kept_number, kind_word, size_on}
+use Rattle.stl_grammar.specs.Symbols.{ends_table, is_next, symbol_line}
 use Rattle.stl_statements.specs.Statements.{instruction_of, is_numbered}
-use Rattle.stl_statements.specs.Words.{is_word, is_word_kind}
+use Rattle.stl_statements.specs.Words.{is_word, is_quoted_kind, is_word_kind}
 use Rattle.stl_grammar.specs.declared.item.Found.{Found}
 use Rattle.stl_grammar.specs.declared.item.Found.TheVariants.{Fits, Misfit, Ended}
 use Rattle.stl_grammar.specs.declared.item.Item.{Item}
-use Rattle.stl_grammar.specs.declared.item.Item.TheVariants.{Opens, Mark, Instr, Ends}
+use Rattle.stl_grammar.specs.declared.item.Item.TheVariants.{Opens, Mark, Symbol, Declares, Closes, Instr, Ends}
 use Rattle.stl_grammar.specs.declared.item.Where.{Where}
-use Rattle.stl_grammar.specs.declared.item.Where.TheVariants.{Start, Between, Heading, Body}
+use Rattle.stl_grammar.specs.declared.item.Where.TheVariants.{Start, Table, Between, Heading, Inside, Behind, Body}
 use Rattle.stl_tree.specs.declared.raw.BlockKind.{BlockKind}
 use Rattle.stl_tree.specs.declared.raw.RawInstr.{RawInstr}
 use Rattle.stl_tree.specs.declared.raw.RawName.{RawName}
-use Rattle.stl_tree.specs.declared.raw.RawName.TheVariants.{Number}
+use Rattle.stl_tree.specs.declared.raw.RawName.TheVariants.{Number, Name}
 
 -- Items
 
@@ -34,13 +39,14 @@ abbrev pub last_line : Line → List Token → Line
 last_line line [] = line
 last_line line (first ∷ rest) = last_line first.line rest
 
--- the name of a block of this kind: `OB 1` or `OB1`
+-- the name of a block of this kind: a name in quotes, `OB 1` or `OB1`
 pub data IsName : List ℕ → List Token → RawName → Type 0 where
+  quoted : (kind : List ℕ) (word : Token) → is_quoted_kind word.kind ≡ true → IsName kind (word ∷ []) (Name word.text)
   apart : (kind : List ℕ) (word number : Token) (n : ℕ) →
-      is_word kind word ≡ true → is_word_kind number.kind ≡ true → kept_number number.text ≡ Some n
+      is_quoted_kind word.kind ≡ false → is_word kind word ≡ true → is_word_kind number.kind ≡ true → kept_number number.text ≡ Some n
       → IsName kind (word ∷ number ∷ []) (Number n)
   together : (kind : List ℕ) (word : Token) →
-      is_word kind word ≡ false → is_numbered kind word ≡ true
+      is_quoted_kind word.kind ≡ false → is_word kind word ≡ false → is_numbered kind word ≡ true
       → IsName kind (word ∷ []) (Number (kept_from 0 (drop (length kind) word.text)))
 
 -- the tokens from a place on begin with an item, which takes so many tokens behind its first; where the
@@ -50,12 +56,35 @@ pub data IsForm : Where → List Token → Item → ℕ → Where → Type 0 whe
       MayOpen place → heading_kind first ≡ Some kind → IsName (kind_word kind) names name
       → IsForm place (first ∷ (names ++ rest)) (Opens first.line kind name) (length names)
       (Heading kind (last_line first.line names))
+  table : (first : Token) (rest : List Token) →
+      heading_kind first ≡ None → is_word (codes "SYMBOL_TABLE") first ≡ true → IsForm Start (first ∷ rest) Mark 0 (Table first.line)
+  symbol : (line : Line) (name a its b type c comment : Token) (rest : List Token) →
+      ends_table line name (a ∷ its ∷ b ∷ type ∷ c ∷ comment ∷ rest) ≡ false → is_behind line name ≡ true
+      → is_quoted_kind name.kind ≡ true → is_next name.line a its ≡ true → is_next name.line b type ≡ true
+      → is_next name.line c comment ≡ true
+      → IsForm (Table line) (name ∷ a ∷ its ∷ b ∷ type ∷ c ∷ comment ∷ rest) (Symbol (symbol_line name its)) 6 (Table name.line)
+  table_end : (line : Line) (first : Token) (rest : List Token) →
+      ends_table line first rest ≡ true → IsForm (Table line) (first ∷ rest) Mark 0 Between
   skipped_line : (kind : BlockKind) (line : Line) (first : Token) (rest : List Token) →
       is_skipped line first rest ≡ true
       → IsForm (Heading kind line) (first ∷ rest) Mark (size_on first.line rest) (Heading kind first.line)
   begin : (kind : BlockKind) (line : Line) (first : Token) (rest : List Token) →
       is_skipped line first rest ≡ false → is_word (codes "BEGIN") first ≡ true
       → IsForm (Heading kind line) (first ∷ rest) Mark 0 (Body kind)
+  section : (kind : BlockKind) (line : Line) (first : Token) (rest : List Token) →
+      is_skipped line first rest ≡ false → is_word (codes "BEGIN") first ≡ false → has_temps kind ≡ true
+      → is_word (codes "VAR_TEMP") first ≡ true → IsForm (Heading kind line) (first ∷ rest) Mark 0 (Inside kind [])
+  section_end : (kind : BlockKind) (first : Token) (rest : List Token) →
+      is_word (codes "END_VAR") first ≡ true → IsForm (Inside kind []) (first ∷ rest) Mark 0 (Behind kind)
+  struct_end : (kind : BlockKind) (level : Level) (levels : List Level) (first sign : Token) (rest : List Token) →
+      is_word (codes "END_STRUCT") first ≡ true → is_semicolon sign ≡ true
+      → IsForm (Inside kind (level ∷ levels)) (first ∷ sign ∷ rest) Closes 1 (Inside kind levels)
+  declaration : (kind : BlockKind) (levels : List Level) (name : Token) (rest : List Token) (type : Written) (size : ℕ) →
+      ends_level levels name ≡ false → declaration_at (left_of levels) name rest ≡ read.Fits type size
+      → IsForm (Inside kind levels) (name ∷ rest) (Declares name.text name.line type) size
+      (Inside kind (levels_behind levels name.line type.innermost (length type.arrays)))
+  begin_behind : (kind : BlockKind) (first : Token) (rest : List Token) →
+      is_word (codes "BEGIN") first ≡ true → IsForm (Behind kind) (first ∷ rest) Mark 0 (Body kind)
   skipped_word : (kind : BlockKind) (first : Token) (rest : List Token) →
       is_skipped_alone first ≡ true → IsForm (Body kind) (first ∷ rest) Mark 0 (Body kind)
   end_word : (kind : BlockKind) (first : Token) (rest : List Token) →
@@ -82,10 +111,15 @@ pub data IsItem : Line → Where → List Token → Found → Type 0 where
   none : {end : Line} {place : Where} (first : Token) (rest : List Token) →
       ((item : Item) (size : ℕ) (next : Where) → IsForm place (first ∷ rest) item size next → ⊥)
       → has_statement place (first ∷ rest) ≡ false
-      → IsItem end place (first ∷ rest) (Misfit first.line (misfit_reason place (first ∷ rest)))
+      → IsItem end place (first ∷ rest) (Misfit (misfit_line place first) (misfit_reason place (first ∷ rest)))
   at_start : {end : Line} → IsItem end Start [] Ended
+  in_a_table : {end : Line} (line : Line) → IsItem end (Table line) [] (Misfit end BadStatement)
   behind_a_block : {end : Line} → IsItem end Between [] Ended
   behind_a_heading : {end : Line} (kind : BlockKind) (line : Line) → IsItem end (Heading kind line) [] (Misfit end BadStatement)
+  in_a_section : {end : Line} (kind : BlockKind) → IsItem end (Inside kind []) [] (Misfit end BadStatement)
+  in_a_struct : {end : Line} (kind : BlockKind) (level : Level) (levels : List Level) →
+      IsItem end (Inside kind (level ∷ levels)) [] (Misfit level.line BadStatement)
+  behind_a_section : {end : Line} (kind : BlockKind) → IsItem end (Behind kind) [] (Misfit end BadStatement)
   in_a_body : {end : Line} (kind : BlockKind) → IsItem end (Body kind) [] (Misfit end BadStatement)
 
 -- what stands at a place is what the relation says

@@ -19,7 +19,7 @@ use Rattle.stl_grammar.specs.declared.item.Where.TheVariants.{Heading}
 use Rattle.stl_tree.specs.declared.raw.BlockKind.{BlockKind}
 use Rattle.stl_tree.specs.declared.raw.BlockKind.TheVariants as block
 use Rattle.stl_tree.specs.declared.raw.RawName.{RawName}
-use Rattle.stl_tree.specs.declared.raw.RawName.TheVariants.{Number}
+use Rattle.stl_tree.specs.declared.raw.RawName.TheVariants.{Number, Name}
 
 -- Numbers
 
@@ -43,13 +43,18 @@ number_behind (number ∷ rest) = if is_word_kind number.kind then kept_number n
 abbrev pub number_within : List ℕ → Token → Option ℕ
 number_within kind word = if is_numbered kind word then Some (kept_from 0 (drop (length kind) word.text)) else None
 
--- what stands where a block of this kind may be named: `OB 1` or `OB1`
-abbrev pub name_at : List ℕ → List Token → Read RawName
-name_at kind [] = read.No
-name_at kind (first ∷ rest) =
+-- a block by its number: `OB 1` or `OB1`
+abbrev pub number_named : List ℕ → Token → List Token → Read RawName
+number_named kind first rest =
     if is_word kind first
     then fitting 2 (option_map Number (number_behind rest))
     else fitting 1 (option_map Number (number_within kind first))
+
+-- what stands where a block of this kind may be named: its number, or a name in quotes
+abbrev pub name_at : List ℕ → List Token → Read RawName
+name_at kind [] = read.No
+name_at kind (first ∷ rest) =
+    if is_quoted_kind first.kind then read.Fits (Name first.text) 1 else number_named kind first rest
 
 -- Headings
 
@@ -76,12 +81,16 @@ opened reason kind first rest (read.LeftOut left) = Misfit first.line reason
 opened reason kind first rest (read.Fits name size) =
     Fits (Opens first.line kind name) size (Heading kind (line_of first.line (drop (size - 1) rest)))
 
--- the same by its kind
-abbrev pub opened_by : Reason → Option BlockKind → Token → List Token → Found
-opened_by reason None first rest = Misfit first.line reason
-opened_by reason (Some kind) first rest = opened reason kind first rest (name_at (kind_word kind) rest)
+-- the same by its kind, or else something else
+abbrev pub opened_by : Reason → Option BlockKind → Found → Token → List Token → Found
+opened_by reason None other first rest = other
+opened_by reason (Some kind) other first rest = opened reason kind first rest (name_at (kind_word kind) rest)
 
 -- Lines that are skipped
+
+-- the token stands behind the line
+abbrev pub is_behind : Line → Token → Bool
+is_behind line token = nat_lt line.0 token.line.0
 
 -- the token stands on the line
 abbrev pub is_on : Line → Token → Bool
@@ -107,7 +116,7 @@ attributes = codes "KNOW_HOW_PROTECT" ∷ codes "CODE_VERSION1" ∷ codes "NON_R
 -- a line that is skipped begins here, behind another line
 abbrev pub is_skipped : Line → Token → List Token → Bool
 is_skipped line first rest =
-    nat_lt line.0 first.line.0
+    is_behind line first
     && ((is_word_among titles first && has_colon first.line rest) || is_word_among attributes first)
 
 -- Headings that are cut off

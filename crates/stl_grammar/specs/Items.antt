@@ -1,8 +1,8 @@
 -- The items of a source text: what stands at a place of a text, and why it is refused where it fits no form
 -- that is built.
-use Rattle.std.specs.Prelude.{ℕ, zero, suc, Bool, true, false, not, ◌&&◌, ◌||◌, nat_lt, if◌then◌else◌, List, [], ◌∷◌, length, take, codes, Result, Ok, Err}
+use Rattle.std.specs.Prelude.{ℕ, zero, suc, Bool, true, false, not, ◌&&◌, ◌||◌, nat_lt, if◌then◌else◌, List, [], ◌∷◌, length, take, codes, Option, Some, None, Result, Ok, Err}
 use Rattle.std.specs.List.{prefix_len}
-use Rattle.s7_base.specs.declared.reason.Kind.TheVariants.{NotBuilt}
+use Rattle.s7_base.specs.declared.reason.Kind.TheVariants.{NotBuilt, UserType}
 use Rattle.s7_base.specs.declared.reason.Line.{Line}
 use Rattle.s7_base.specs.declared.reason.Reason.{Reason}
 use Rattle.s7_base.specs.declared.reason.Reason.TheVariants.{BadStatement, Unsupported}
@@ -11,17 +11,24 @@ use Rattle.s7_base.specs.declared.reason.Rejection.TheVariants.{Refused, NoMemor
 use Rattle.s7_base.specs.declared.token.Token.{Token}
 use Rattle.stl_statements.specs.Mnemonics.{begins_with_mnemonic}
 use Rattle.stl_statements.specs.Statements.{begins_with_label, instruction_of}
-use Rattle.stl_statements.specs.Words.{is_word, is_sign, is_word_among, block_words}
+use Rattle.stl_statements.specs.Words.{is_word, is_sign, is_word_kind, is_word_among, block_words}
+use Rattle.stl_statements.specs.declared.mnemonic.Read.{Read}
+use Rattle.stl_statements.specs.declared.mnemonic.Read.TheVariants as read
+use Rattle.stl_grammar.specs.Declarations.{begins_with_sign, begins_with_word, declaration_at, ends_level, left_of, levels_behind}
+use Rattle.stl_grammar.specs.declared.declaration.Level.{Level}
+use Rattle.stl_grammar.specs.declared.declaration.Written.{Written}
 use Rattle.stl_grammar.specs.Headings.{heading_kind, is_heading_cut_off, is_skipped, opened_by, size_on}
+use Rattle.stl_grammar.specs.Symbols.{ends_table, symbol_behind}
 use Rattle.stl_grammar.specs.declared.item.Found.{Found}
 use Rattle.stl_grammar.specs.declared.item.Found.TheVariants.{Fits, Misfit, Ended}
 use Rattle.stl_grammar.specs.declared.item.Item.{Item}
-use Rattle.stl_grammar.specs.declared.item.Item.TheVariants.{Opens, Mark, Instr, Ends}
+use Rattle.stl_grammar.specs.declared.item.Item.TheVariants.{Opens, Mark, Symbol, Declares, Closes, Instr, Ends}
 use Rattle.stl_grammar.specs.declared.item.Where.{Where}
-use Rattle.stl_grammar.specs.declared.item.Where.TheVariants.{Start, Between, Heading, Body}
+use Rattle.stl_grammar.specs.declared.item.Where.TheVariants.{Start, Table, Between, Heading, Inside, Behind, Body}
 use Rattle.stl_tree.specs.declared.raw.BlockKind.{BlockKind}
 use Rattle.stl_tree.specs.declared.raw.BlockKind.TheVariants as block
 use Rattle.stl_tree.specs.declared.raw.RawInstr.{RawInstr}
+use Rattle.stl_tree.specs.declared.raw.SymbolLine.{SymbolLine}
 
 -- the token is `;`
 abbrev pub is_semicolon : Token → Bool
@@ -45,17 +52,6 @@ abbrev pub begins_with_block_word : List Token → Bool
 begins_with_block_word [] = false
 begins_with_block_word (first ∷ rest) = is_word_among block_words first
 
--- a heading that is cut off stands at the front, where headings may stand
-abbrev pub cut_off_at : Where → List Token → Bool
-cut_off_at Start tokens = is_heading_cut_off tokens
-cut_off_at Between tokens = is_heading_cut_off tokens
-cut_off_at elsewhere tokens = false
-
--- a label and its colon stand at the front, where labels may stand
-abbrev pub label_at : Where → List Token → Bool
-label_at (Body kind) tokens = begins_with_label tokens
-label_at elsewhere tokens = false
-
 -- how many tokens stand before the next `;`, or before the end of the text
 abbrev pub statement_size : List Token → ℕ
 statement_size tokens = prefix_len (λ token. not (is_semicolon token)) tokens
@@ -68,16 +64,61 @@ is_complete tokens = nat_lt (statement_size tokens) (length tokens)
 abbrev pub statement_at : List Token → List Token
 statement_at tokens = take (statement_size tokens) tokens
 
--- the item has a form that is not built yet: a word of a heading, section or end has one by itself, where
--- the end of the text does not cut its heading off, a mnemonic or a label where its statement is complete
-unfoldable pub is_not_built : Where → List Token → Bool
-is_not_built place tokens =
-    (begins_with_block_word tokens && not (label_at place tokens) && not (cut_off_at place tokens))
-    || (is_complete tokens && (begins_with_mnemonic tokens || label_at place tokens))
+-- the item has a form that is not built yet, given whether it begins with a label and whether the end of the
+-- text cuts its heading off: a word of a heading, section or end has one by itself, a mnemonic or a label
+-- where its statement is complete
+unfoldable pub is_not_built : Bool → Bool → List Token → Bool
+is_not_built label cut tokens =
+    (begins_with_block_word tokens && not label && not cut)
+    || (is_complete tokens && (begins_with_mnemonic tokens || label))
 
 -- why an item that fits no form is refused
+abbrev pub reason_with : Bool → Bool → List Token → Reason
+reason_with label cut tokens = if is_not_built label cut tokens then Unsupported NotBuilt else BadStatement
+
+-- the same where a heading may stand: a type of the user's own is left out
+abbrev pub heading_reason : List Token → Reason
+heading_reason tokens =
+    if begins_with_word (codes "TYPE") tokens
+    then Unsupported UserType
+    else reason_with false (is_heading_cut_off tokens) tokens
+
+-- a name and a colon stand at the front: a declaration, whatever word its name is
+abbrev pub begins_with_name : List Token → Bool
+begins_with_name [] = false
+begins_with_name (name ∷ []) = false
+begins_with_name (name ∷ colon ∷ rest) = is_word_kind name.kind && is_sign (codes ":") colon
+
+-- the same where a declaration may stand, by what was read there
+abbrev pub declaration_reason : List Token → Read Written → Reason
+declaration_reason tokens (read.LeftOut kind) = if is_complete tokens then Unsupported kind else BadStatement
+declaration_reason tokens other = if begins_with_name tokens then BadStatement else reason_with false false tokens
+
+-- the same among declarations
+abbrev pub inside_reason : List Level → List Token → Reason
+inside_reason levels [] = BadStatement
+inside_reason levels (first ∷ rest) =
+    if ends_level levels first
+    then BadStatement
+    else declaration_reason (first ∷ rest) (declaration_at (left_of levels) first rest)
+
+-- the same at a place
 abbrev pub misfit_reason : Where → List Token → Reason
-misfit_reason place tokens = if is_not_built place tokens then Unsupported NotBuilt else BadStatement
+misfit_reason Start tokens = heading_reason tokens
+misfit_reason Between tokens = heading_reason tokens
+misfit_reason (Inside kind levels) tokens = inside_reason levels tokens
+misfit_reason (Body kind) tokens = reason_with (begins_with_label tokens) false tokens
+misfit_reason elsewhere tokens = reason_with false false tokens
+
+-- the line of a STRUCT whose end does not fit, or that of the token
+abbrev pub level_line : List Level → Token → Line
+level_line [] first = first.line
+level_line (level ∷ levels) first = if is_word (codes "END_STRUCT") first then level.line else first.line
+
+-- the line of an item that fits no form
+abbrev pub misfit_line : Where → Token → Line
+misfit_line (Inside kind levels) first = level_line levels first
+misfit_line elsewhere first = first.line
 
 -- why a complete statement is refused that is no instruction for a reason; one that begins with a word of a
 -- heading, section or end has the form of these
@@ -86,16 +127,71 @@ statement_reason tokens reason = if begins_with_block_word tokens then Unsupport
 
 -- Forms that are built
 
--- what stands where a heading may stand, given the tokens from there, the first of them and the rest
-abbrev pub heading_at : Where → List Token → Token → List Token → Found
-heading_at place tokens first rest = opened_by (misfit_reason place tokens) (heading_kind first) first rest
+-- what stands where a heading or else something else may stand, given the tokens from there, the first of
+-- them and the rest
+abbrev pub heading_at : Where → Found → List Token → Token → List Token → Found
+heading_at place other tokens first rest = opened_by (misfit_reason place tokens) (heading_kind first) other first rest
+
+-- the symbol table may open before the first block
+abbrev pub table_at : List Token → Token → Found
+table_at tokens first =
+    if is_word (codes "SYMBOL_TABLE") first then Fits Mark 0 (Table first.line) else Misfit first.line (misfit_reason Start tokens)
+
+-- a line of the symbol table, where one stands
+abbrev pub symbol_found : Line → List Token → Token → Option SymbolLine → Found
+symbol_found line tokens first None = Misfit first.line (misfit_reason (Table line) tokens)
+symbol_found line tokens first (Some its) = Fits (Symbol its) 6 (Table first.line)
+
+-- what stands in the symbol table behind a line
+abbrev pub in_table : Line → List Token → Token → List Token → Found
+in_table line tokens first rest =
+    if ends_table line first rest
+    then Fits Mark 0 Between
+    else symbol_found line tokens first (symbol_behind line first rest)
+
+-- a block of this kind has temporary variables
+abbrev pub has_temps : BlockKind → Bool
+has_temps block.Db = false
+has_temps other = true
 
 -- what stands behind a heading whose last line this is
 abbrev pub behind_heading : BlockKind → Line → List Token → Token → List Token → Found
 behind_heading kind line tokens first rest =
     if is_skipped line first rest then Fits Mark (size_on first.line rest) (Heading kind first.line)
     else if is_word (codes "BEGIN") first then Fits Mark 0 (Body kind)
+    else if has_temps kind && is_word (codes "VAR_TEMP") first then Fits Mark 0 (Inside kind [])
     else Misfit first.line (misfit_reason (Heading kind line) tokens)
+
+-- what stands where the word may stand that ends the innermost STRUCT or the section
+abbrev pub closing_at : BlockKind → List Level → List Token → Found
+closing_at kind [] rest = Fits Mark 0 (Behind kind)
+closing_at kind (level ∷ levels) rest =
+    if begins_with_sign (codes ";") rest then Fits Closes 1 (Inside kind levels) else Misfit level.line BadStatement
+
+-- a declaration of so many tokens behind its name
+abbrev pub declared : BlockKind → List Level → Token → Written → ℕ → Found
+declared kind levels first type size =
+    Fits (Declares first.text first.line type) size
+    (Inside kind (levels_behind levels first.line type.innermost (length type.arrays)))
+
+-- the same, by what was read
+abbrev pub declaration_found : BlockKind → List Level → List Token → Token → Read Written → Found
+declaration_found kind levels tokens first (read.Fits type size) = declared kind levels first type size
+declaration_found kind levels tokens first other = Misfit first.line (declaration_reason tokens other)
+
+-- what stands among declarations
+abbrev pub inside_at : BlockKind → List Level → List Token → Token → List Token → Found
+inside_at kind levels tokens first rest =
+    if ends_level levels first
+    then closing_at kind levels rest
+    else declaration_found kind levels tokens first (declaration_at (left_of levels) first rest)
+
+-- what stands behind declarations
+abbrev pub behind_at : BlockKind → List Token → Token → Found
+behind_at kind tokens first =
+    if is_word (codes "BEGIN") first
+    then Fits Mark 0 (Body kind)
+    else Misfit first.line (misfit_reason (Behind kind) tokens)
 
 -- a complete statement on a line, by what it is read as, with its `;` behind so many tokens
 abbrev pub statement_found : Where → List Token → Line → Result RawInstr Rejection → Found
@@ -123,18 +219,31 @@ body_at kind tokens first =
 
 -- The items of a text
 
--- what stands at a place where the tokens of the text have ended, on a line: a block must be complete
+-- the line where a text ends among declarations: that of the innermost STRUCT, which is cut off
+abbrev pub cut_line : Line → List Level → Line
+cut_line end [] = end
+cut_line end (level ∷ levels) = level.line
+
+-- what stands at a place where the tokens of the text have ended, on a line: a block must be complete, and
+-- so must a STRUCT
 abbrev pub at_end : Line → Where → Found
 at_end end Start = Ended
+at_end end (Table line) = Misfit end BadStatement
 at_end end Between = Ended
 at_end end (Heading kind line) = Misfit end BadStatement
+at_end end (Inside kind levels) = Misfit (cut_line end levels) BadStatement
+at_end end (Behind kind) = Misfit end BadStatement
 at_end end (Body kind) = Misfit end BadStatement
 
 -- what stands at a place, given the tokens from there, the first of them and the rest
 abbrev pub at_token : Where → List Token → Token → List Token → Found
-at_token Start tokens first rest = heading_at Start tokens first rest
-at_token Between tokens first rest = heading_at Between tokens first rest
+at_token Start tokens first rest = heading_at Start (table_at tokens first) tokens first rest
+at_token (Table line) tokens first rest = in_table line tokens first rest
+at_token Between tokens first rest =
+    heading_at Between (Misfit first.line (misfit_reason Between tokens)) tokens first rest
 at_token (Heading kind line) tokens first rest = behind_heading kind line tokens first rest
+at_token (Inside kind levels) tokens first rest = inside_at kind levels tokens first rest
+at_token (Behind kind) tokens first rest = behind_at kind tokens first
 at_token (Body kind) tokens first rest = body_at kind tokens first
 
 -- what stands at a place of a text that ends on a line, given the tokens from there

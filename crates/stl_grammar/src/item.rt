@@ -1,19 +1,30 @@
 //! Items of a source text, and where they stand.
 
+use crate::declaration::{Level, OpenStruct, Written};
 use s7_base::{Line, List, Reason};
-use stl_tree::{BlockKind, RawBlock, RawInstr, RawName};
+use std::collections::LinkedList;
+use stl_tree::{BlockKind, RawBlock, RawInstr, RawName, SymbolLine};
 
 /// Where an item stands.
-#[derive(Clone, Copy, Debug, PartialEq, Eq)]
+#[derive(Drop)]
 pub enum Where {
     /// Before the first block of the text.
     Start,
+
+    /// In the symbol table, and the line of the last token before.
+    Table(Line),
 
     /// Behind a block.
     Between,
 
     /// Behind the heading of a block, and the line of the last token before.
     Heading(BlockKind, Line),
+
+    /// Among the declarations of a section, and the STRUCTs that are open, the innermost first.
+    Inside(BlockKind, LinkedList<Level>),
+
+    /// Behind the declarations.
+    Behind(BlockKind),
 
     /// In the body of a block.
     Body(BlockKind),
@@ -25,8 +36,18 @@ pub enum Item {
     /// The heading of a block, with its line.
     Opens(Line, BlockKind, RawName),
 
-    /// What only parts the text: `BEGIN`, `;` alone, a word or a line that is skipped.
+    /// What only parts the text: `BEGIN`, `;` alone, a word or a line that is skipped, the words around the
+    /// symbol table and a section.
     Mark,
+
+    /// A line of the symbol table.
+    Symbol(SymbolLine),
+
+    /// A declaration with its name, its line and its type; it opens a STRUCT where its members follow.
+    Declares(List<u8>, Line, Written),
+
+    /// The end of the innermost STRUCT.
+    Closes,
 
     Instr(RawInstr),
 
@@ -47,10 +68,14 @@ pub enum Found {
     Ended,
 }
 
-/// The blocks of a text as far as it is read: those before the last one, and the last one, whose end word may
-/// still come.
+/// A text as far as it is read: its symbol lines, the blocks before the last one, and the last one, whose end
+/// word may still come, with what is open of its declarations.
 #[derive(Drop)]
 pub struct Reading {
+    pub symbols: List<SymbolLine>,
     pub done: List<RawBlock>,
     pub last: Option<RawBlock>,
+
+    /// The STRUCTs that are open, the innermost first.
+    pub structs: LinkedList<OpenStruct>,
 }

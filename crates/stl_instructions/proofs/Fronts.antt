@@ -61,17 +61,22 @@ further_front before tokens P (Fits a size) f =
       holds = f.holds;
     }
 
-pub and_then_front : {A B : Type 0} (tokens : List Token) (P : List Token → A → Type 0) (Q : List Token → B → Type 0) (r : Read A) (next : A → List Token → Read B) → FrontOf tokens P r →
-    ((front rest : List Token) (a : A) → P front a → FrontOf rest (λ more b. Q (front ++ more) b) (next a rest)) → FrontOf tokens Q (and_then tokens r next)
-and_then_front tokens P Q No next f h = tt
-and_then_front tokens P Q (LeftOut kind) next f h = tt
-and_then_front {B = B} tokens P Q (Fits a size) next f h =
-    let behind : FrontOf (f.front ++ f.rest) Q (further (length f.front) (next a f.rest)) = further_front f.front f.rest Q (next a f.rest) (h f.front f.rest a f.holds) in
+-- behind what was read something else
+pub and_then_at : {A B : Type 0} (tokens : List Token) (P : List Token → A → Type 0) (Q : List Token → B → Type 0) (r : Read A) (next : A → List Token → Read B) → FrontOf tokens P r →
+    ((front rest : List Token) (a : A) → front ++ rest ≡ tokens → P front a → FrontOf rest (λ more b. Q (front ++ more) b) (next a rest)) → FrontOf tokens Q (and_then tokens r next)
+and_then_at tokens P Q No next f h = tt
+and_then_at tokens P Q (LeftOut kind) next f h = tt
+and_then_at tokens P Q (Fits a size) next f h =
+    let behind : FrontOf (f.front ++ f.rest) Q (further (length f.front) (next a f.rest)) = further_front f.front f.rest Q (next a f.rest) (h f.front f.rest a f.is f.holds) in
     let dropped : FrontOf (f.front ++ f.rest) Q (further (length f.front) (next a (drop (length f.front) (f.front ++ f.rest)))) =
     subst (λ (ts : List Token). FrontOf (f.front ++ f.rest) Q (further (length f.front) (next a ts))) (sym (drop-append_seam f.front f.rest)) behind in
     let sized : FrontOf (f.front ++ f.rest) Q (further size (next a (drop size (f.front ++ f.rest)))) =
     subst (λ (n : ℕ). FrontOf (f.front ++ f.rest) Q (further n (next a (drop n (f.front ++ f.rest))))) f.size_is dropped in
     subst (λ (ts : List Token). FrontOf ts Q (further size (next a (drop size ts)))) f.is sized
+
+pub and_then_front : {A B : Type 0} (tokens : List Token) (P : List Token → A → Type 0) (Q : List Token → B → Type 0) (r : Read A) (next : A → List Token → Read B) → FrontOf tokens P r →
+    ((front rest : List Token) (a : A) → P front a → FrontOf rest (λ more b. Q (front ++ more) b) (next a rest)) → FrontOf tokens Q (and_then tokens r next)
+and_then_front tokens P Q r next f h = and_then_at tokens P Q r next f (λ front rest a is holds. h front rest a holds)
 
 -- what was read of all tokens
 pub front_all : {A : Type 0} (tokens : List Token) (P : List Token → A → Type 0) (r : Read A) → FrontOf tokens P r → AllOf (length tokens) (P tokens) r
@@ -95,3 +100,7 @@ and_then_read front rest r a next e =
 -- behind so many tokens as were read all others were
 pub further_read : {A : Type 0} (front rest : List Token) (r : Read A) (a : A) → r ≡ Fits a (length rest) → further (length front) r ≡ Fits a (length (front ++ rest))
 further_read front rest r a e = ap (further (length front)) e ∙ ap (Fits a) (sym (length-append front rest))
+
+-- where nothing was read nothing is behind it
+pub and_then_none : {A B : Type 0} (tokens : List Token) (r : Read A) (next : A → List Token → Read B) → r ≡ No → and_then tokens r next ≡ No
+and_then_none tokens r next e = ap (λ (x : Read _). and_then tokens x next) e

@@ -1,12 +1,10 @@
 -- An instruction is read exactly where one of its forms stands.
-use Rattle.std.proofs.Common.{◌≡◌, ℕ, ◌⊎◌, inl, inr, Bool, true, false, cond, ◌&&◌, ◌==◌, if◌then◌else◌, List, [], ◌∷◌, ◌++◌, length, drop, Option, Some, None, Result, Ok, Err, refl, sym, ap, subst, ◌∙◌, arith}
+use Rattle.std.proofs.Common.{◌≡◌, ℕ, ◌⊎◌, inl, inr, Bool, true, false, cond, ◌&&◌, ◌==◌, if◌then◌else◌, List, [], ◌∷◌, length, drop, Option, Some, None, Result, Ok, Err, refl, sym, ap, subst, ◌∙◌, arith}
 use Rattle.std.proofs.lemmas.Bool.{and_from, and_left, and_parts, and_right, eqb-true, or_left}
 use Rattle.std.proofs.lemmas.Bool.Decides.{nat_tests}
-use Rattle.std.proofs.lemmas.List.{append-nil}
 use Rattle.std.specs.List.{find}
-use Rattle.std.specs.Prelude.{codes, ◌||◌, option_map}
+use Rattle.std.specs.Prelude.{codes, ◌||◌}
 use Rattle.std.specs.Str.{bytes_eq, str_to_ascii_lowercase}
-use Rattle.memory_areas.specs.declared.place.AreaName.{AreaName}
 use Rattle.s7_base.specs.Tokens.{is_same_word}
 use Rattle.s7_base.specs.declared.reason.Kind.TheVariants as kind
 use Rattle.s7_base.specs.declared.reason.Line.{Line}
@@ -17,13 +15,12 @@ use Rattle.status_word.specs.declared.test.Test.{Test}
 use Rattle.status_word.specs.declared.test.Test.TheVariants as test
 use Rattle.stl_statements.specs.ConstantForms.{IsAddend, IsConstant, IsUpTo}
 use Rattle.stl_statements.specs.Constants.{addend_at, constant_at, number_at, plain}
-use Rattle.stl_statements.specs.InstructionForms.{IsStatusOperand, flag, compared, IsOperand, IsInstruction, instruction, InstructionsHaveForms}
+use Rattle.stl_statements.specs.InstructionForms.{IsLocated, IsOpened, IsStatusOperand, flag, compared, IsOperand, IsInstruction, instruction, InstructionsHaveForms}
 use Rattle.stl_statements.specs.InstructionForms as form
 use Rattle.stl_statements.specs.Mnemonics.{Row, goes_on, mnemonic_at}
-use Rattle.stl_statements.specs.PlaceForms.{IsNumbered, IsPlace}
-use Rattle.stl_statements.specs.Places.{Numbered, numbered_at, opened_area}
-use Rattle.stl_statements.specs.Readers.{fitting, read_as}
-use Rattle.stl_statements.specs.Statements.{asked_by, begins_with_label, block_number_at, checked_at, first_of, instr_with, instruction_of, is_asked, left_out_at, length_at, loaded_at, name_of, nothing_at, on_line, opened_at, opening, operand_by, operand_of, or_nothing, place_operand, second_of, shape_of, size_with, statement, status_at, stored_at, stw_at, tests, timers_and_counters, with_mnemonic, with_operand}
+use Rattle.stl_statements.specs.PlaceForms.{IsPlace}
+use Rattle.stl_statements.specs.Readers.{read_as}
+use Rattle.stl_statements.specs.Statements.{asked_by, begins_with_label, block_number_at, checked_at, first_of, instr_with, instruction_of, is_asked, left_out_at, length_at, loaded_at, located_at, name_of, nothing_at, on_line, opened_at, operand_by, operand_of, or_nothing, second_of, shape_of, size_with, statement, status_at, stored_at, stw_at, tests, timers_and_counters, with_mnemonic, with_operand}
 use Rattle.stl_statements.specs.Words.{is_sign, is_sign_kind, is_spelled, is_word, is_word_kind}
 use Rattle.stl_statements.specs.declared.mnemonic.Read.{Read}
 use Rattle.stl_statements.specs.declared.mnemonic.Read.TheVariants.{Fits, LeftOut, No}
@@ -31,14 +28,13 @@ use Rattle.stl_statements.specs.declared.mnemonic.Shape.{Shape}
 use Rattle.stl_statements.specs.declared.mnemonic.Shape.TheVariants as shape
 use Rattle.stl_tree.specs.declared.raw.Constant.{Constant as Literal}
 use Rattle.stl_tree.specs.declared.raw.RawInstr.{RawInstr}
-use Rattle.stl_tree.specs.declared.raw.RawName.TheVariants.{Number}
 use Rattle.stl_tree.specs.declared.raw.RawOp.{RawOp}
 use Rattle.stl_tree.specs.declared.raw.RawOperand.{RawOperand}
 use Rattle.stl_tree.specs.declared.raw.RawOperand.TheVariants.{At, Constant, DbNo, DiNo, Flag, Missing, Stw}
 use Rattle.stl_tree.specs.declared.raw.RawPlace.{RawPlace}
 use Rattle.stl_instructions.proofs.ConstantLaws.{addend_all, addend_read, constant_all, constant_no_word, constant_read, constant_there, number_all, number_at_read, up_to_there, word_is}
-use Rattle.stl_instructions.proofs.Fronts.{FrontOf, and_then_front, and_then_read, front_all, further_read}
-use Rattle.stl_instructions.proofs.PlaceLaws.{IsNumberOf, left_out_all, numbered_front, numbered_read, place_all, place_read}
+use Rattle.stl_instructions.proofs.NameLaws.{located_all, located_read, named_no_constant, named_no_word, named_not_asked, named_there, opened_all, opened_read}
+use Rattle.stl_instructions.proofs.PlaceLaws.{left_out_all}
 use Rattle.stl_instructions.proofs.PlaceTokens.{IsNoPlace, place_no_constant, place_no_text, place_no_word, place_there, text_is}
 use Rattle.stl_instructions.proofs.Reading.{AllOf, as_all, if_false, if_true, or_all, or_no, or_this, other_word, same_letters, weaker}
 use Rattle.stl_instructions.proofs.Tables.{none_found}
@@ -142,14 +138,14 @@ length_all n P (first ∷ rest) = by (is_word (codes "DBLG") first || is_word (c
     by true = tt
     by false = tt
 
-place_as : (tokens : List Token) (P : RawOperand → Type 0) → ((place : RawPlace) → IsPlace tokens place → P (At place)) → AllOf (length tokens) P (read_as At (place_operand tokens))
-place_as tokens P make = as_all (length tokens) At (IsPlace tokens) P make (place_operand tokens) (place_all tokens)
+located_as : (tokens : List Token) (P : RawOperand → Type 0) → ((operand : RawOperand) → IsLocated tokens operand → P operand) → AllOf (length tokens) P (located_at tokens)
+located_as tokens P make = weaker (length tokens) (IsLocated tokens) P make (located_at tokens) (located_all tokens)
 
 checked_all : (tokens : List Token) → AllOf (length tokens) (IsOperand shape.Checked tokens) (checked_at tokens)
 checked_all tokens =
     or_all (length tokens) (IsOperand shape.Checked tokens) (status_at tokens) _
     (status_all tokens (IsOperand shape.Checked tokens) (λ test is. form.status tokens test is))
-    (place_as tokens (IsOperand shape.Checked tokens) (λ place is. form.checked_place tokens place is))
+    (located_as tokens (IsOperand shape.Checked tokens) (λ operand is. form.checked_located tokens operand is))
 
 block_number_all : (tokens : List Token) → AllOf (length tokens) (IsOperand shape.Loaded tokens) (block_number_at tokens)
 block_number_all [] = tt
@@ -173,34 +169,13 @@ loaded_all tokens =
     (or_all (length tokens) (IsOperand shape.Loaded tokens) (block_number_at tokens) _ (block_number_all tokens)
     (or_all (length tokens) (IsOperand shape.Loaded tokens) (read_as Constant (constant_at tokens)) _
     (constant_as tokens (IsOperand shape.Loaded tokens) (IsConstant tokens) (λ c is. form.loaded_constant tokens c is) (constant_at tokens) (constant_all tokens))
-    (or_all (length tokens) (IsOperand shape.Loaded tokens) (read_as At (place_operand tokens)) (length_at tokens)
-    (place_as tokens (IsOperand shape.Loaded tokens) (λ place is. form.loaded_place tokens place is)) (length_all (length tokens) (IsOperand shape.Loaded tokens) tokens))))
+    (or_all (length tokens) (IsOperand shape.Loaded tokens) (located_at tokens) (length_at tokens)
+    (located_as tokens (IsOperand shape.Loaded tokens) (λ operand is. form.loaded_located tokens operand is)) (length_all (length tokens) (IsOperand shape.Loaded tokens) tokens))))
 
 stored_all : (tokens : List Token) → AllOf (length tokens) (IsOperand shape.Stored tokens) (stored_at tokens)
 stored_all tokens =
     or_all (length tokens) (IsOperand shape.Stored tokens) (stw_at tokens) _ (stw_all tokens (IsOperand shape.Stored) (λ word is. form.stored_status word is))
-    (place_as tokens (IsOperand shape.Stored tokens) (λ place is. form.stored_place tokens place is))
-
-opened_all : (tokens : List Token) → AllOf (length tokens) (IsOperand shape.Opened tokens) (opened_at tokens)
-opened_all tokens =
-    front_all tokens (IsOperand shape.Opened) (opened_at tokens)
-    (and_then_front tokens IsNumberOf (IsOperand shape.Opened) (numbered_at tokens)
-    (λ found rest. fitting 0 (option_map (λ name. opening name (Number found.number)) (opened_area found.letters)))
-    (numbered_front tokens) (λ front rest found is. by front rest found is (opened_area found.letters) refl))
-  where
-    by : (front rest : List Token) (found : Numbered) → IsNumberOf front found → (o : Option AreaName) → opened_area found.letters ≡ o →
-        FrontOf rest (λ more operand. IsOperand shape.Opened (front ++ more) operand) (fitting 0 (option_map (λ name. opening name (Number found.number)) o))
-    by front rest found is None e = tt
-    by front rest found is (Some name) e =
-        record {
-          front = [];
-          rest = rest;
-          is = refl;
-          size_is = refl;
-          holds =
-              subst (λ (ts : List Token). IsOperand shape.Opened ts (opening name (Number found.number))) (sym (append-nil front))
-              (form.opened front found.letters found.number name is e);
-        }
+    (located_as tokens (IsOperand shape.Stored tokens) (λ operand is. form.stored_located tokens operand is))
 
 number_as : (most : ℕ) (tokens : List Token) (P : RawOperand → Type 0) → ((n : ℕ) → IsUpTo most tokens n → P (Constant (plain n))) → AllOf (length tokens) P (read_as Constant (number_at most tokens))
 number_as most tokens P make =
@@ -209,7 +184,7 @@ number_as most tokens P make =
 -- what was read of all tokens is an operand of the shape
 operand_is : (shape : Shape) (tokens : List Token) → AllOf (length tokens) (IsOperand shape tokens) (operand_by shape tokens)
 operand_is shape.Nothing tokens = nothing_all tokens (IsOperand shape.Nothing) form.nothing
-operand_is shape.Bit tokens = place_as tokens (IsOperand shape.Bit tokens) (λ place is. form.bit tokens place is)
+operand_is shape.Bit tokens = located_as tokens (IsOperand shape.Bit tokens) (λ operand is. form.bit tokens operand is)
 operand_is shape.Checked tokens = checked_all tokens
 operand_is shape.CheckedOrNothing tokens =
     or_nothing_all tokens (IsOperand shape.CheckedOrNothing) (checked_at tokens) form.alone
@@ -224,7 +199,8 @@ operand_is shape.Stored tokens = stored_all tokens
 operand_is shape.ConstantOrNothing tokens =
     or_nothing_all tokens (IsOperand shape.ConstantOrNothing) (read_as Constant (constant_at tokens)) form.no_constant
     (constant_as tokens (IsOperand shape.ConstantOrNothing tokens) (IsConstant tokens) (λ c is. form.combined tokens c is) (constant_at tokens) (constant_all tokens))
-operand_is shape.Opened tokens = opened_all tokens
+operand_is shape.Opened tokens =
+    weaker (length tokens) (IsOpened tokens) (IsOperand shape.Opened tokens) (λ operand is. form.opened tokens operand is) (opened_at tokens) (opened_all tokens)
 operand_is shape.TimerOrCounter tokens =
     as_all (length tokens) At (λ place. ⊥) (IsOperand shape.TimerOrCounter tokens) (λ place is. absurd is) (left_out_at timers_and_counters tokens)
     (left_out_all (length tokens) (λ place. ⊥) timers_and_counters tokens)
@@ -356,8 +332,12 @@ place_not_asked : (tokens : List Token) (place : RawPlace) → IsPlace tokens pl
 place_not_asked tokens place is =
     ap asked_by (none_found (is_asked tokens) tests (λ test. not_asked tokens test (place_no_text tokens place (first_of test) is (asked_apart test))))
 
+located_not_asked : (tokens : List Token) (operand : RawOperand) → IsLocated tokens operand → status_at tokens ≡ No
+located_not_asked tokens operand (form.at ts place is) = place_not_asked ts place is
+located_not_asked tokens operand (form.named ts o is) = named_not_asked ts o is
+
 checked_read : (tokens : List Token) (operand : RawOperand) → IsOperand shape.Checked tokens operand → checked_at tokens ≡ Fits operand (length tokens)
-checked_read tokens operand (form.checked_place ts place is) = or_no (status_at ts) _ (place_not_asked ts place is) ∙ ap (read_as At) (place_read ts place is)
+checked_read tokens operand (form.checked_located ts o is) = or_no (status_at ts) (located_at ts) (located_not_asked ts o is) ∙ located_read ts o is
 checked_read tokens operand (form.status ts test is) = or_this (status_at ts) _ (Flag test) (length ts) (status_is ts test is)
 
 -- where something is read, something stands
@@ -366,7 +346,11 @@ nothing_no [] there = absurd (there refl)
 nothing_no (first ∷ rest) there = refl
 
 checked_there : (tokens : List Token) (operand : RawOperand) → IsOperand shape.Checked tokens operand → tokens ≡ [] → ⊥
-checked_there tokens operand (form.checked_place ts place is) e = place_there ts place is e
+checked_there tokens operand (form.checked_located ts o is) e = by ts o is e
+  where
+    by : (ts : List Token) (o : RawOperand) → IsLocated ts o → ts ≡ [] → ⊥
+    by ts o (form.at us place is) e = place_there us place is e
+    by ts o (form.named us p is) e = named_there us p is e
 checked_there tokens operand (form.status ts test is) e = by ts test is e
   where
     by : (ts : List Token) (test : Test) → IsStatusOperand ts test → ts ≡ [] → ⊥
@@ -398,13 +382,22 @@ constant_no_number tokens c is =
     no_block_number tokens (constant_no_word tokens c (codes "DBNO") is (record { letter = refl; other = refl }))
     (constant_no_word tokens c (codes "DINO") is (record { letter = refl; other = refl }))
 
-place_no_stw : (tokens : List Token) (place : RawPlace) → IsPlace tokens place → stw_at tokens ≡ No
-place_no_stw tokens place is = no_stw tokens (place_no_word tokens place (codes "STW") is (record { other = refl; digits = refl }))
+-- a place or a name does not begin with this word
+located_no_word : (tokens : List Token) (operand : RawOperand) (word : List ℕ) → IsLocated tokens operand → IsNoPlace word → word_is word tokens ≡ false
+located_no_word tokens operand word (form.at ts place is) none = place_no_word ts place word is none
+located_no_word tokens operand word (form.named ts o is) none = named_no_word ts o word is
 
-place_no_number : (tokens : List Token) (place : RawPlace) → IsPlace tokens place → block_number_at tokens ≡ No
-place_no_number tokens place is =
-    no_block_number tokens (place_no_word tokens place (codes "DBNO") is (record { other = refl; digits = refl }))
-    (place_no_word tokens place (codes "DINO") is (record { other = refl; digits = refl }))
+located_no_stw : (tokens : List Token) (operand : RawOperand) → IsLocated tokens operand → stw_at tokens ≡ No
+located_no_stw tokens operand is = no_stw tokens (located_no_word tokens operand (codes "STW") is (record { other = refl; digits = refl }))
+
+located_no_number : (tokens : List Token) (operand : RawOperand) → IsLocated tokens operand → block_number_at tokens ≡ No
+located_no_number tokens operand is =
+    no_block_number tokens (located_no_word tokens operand (codes "DBNO") is (record { other = refl; digits = refl }))
+    (located_no_word tokens operand (codes "DINO") is (record { other = refl; digits = refl }))
+
+located_no_constant : (tokens : List Token) (operand : RawOperand) → IsLocated tokens operand → constant_at tokens ≡ No
+located_no_constant tokens operand (form.at ts place is) = place_no_constant ts place is
+located_no_constant tokens operand (form.named ts o is) = named_no_constant ts o is
 
 db_read : (word : Token) → is_word (codes "DBNO") word ≡ true → loaded_at (word ∷ []) ≡ Fits DbNo 1
 db_read word is =
@@ -422,30 +415,19 @@ loaded_constant tokens c is =
     or_no (stw_at tokens) _ (constant_no_stw tokens c is) ∙ or_no (block_number_at tokens) _ (constant_no_number tokens c is)
     ∙ or_this (read_as Constant (constant_at tokens)) _ (Constant c) (length tokens) (ap (read_as Constant) (constant_read tokens c is))
 
-loaded_place : (tokens : List Token) (place : RawPlace) → IsPlace tokens place → loaded_at tokens ≡ Fits (At place) (length tokens)
-loaded_place tokens place is =
-    or_no (stw_at tokens) _ (place_no_stw tokens place is) ∙ or_no (block_number_at tokens) _ (place_no_number tokens place is)
-    ∙ or_no (read_as Constant (constant_at tokens)) _ (ap (read_as Constant) (place_no_constant tokens place is))
-    ∙ or_this (read_as At (place_operand tokens)) _ (At place) (length tokens) (ap (read_as At) (place_read tokens place is))
+loaded_located : (tokens : List Token) (operand : RawOperand) → IsLocated tokens operand → loaded_at tokens ≡ Fits operand (length tokens)
+loaded_located tokens operand is =
+    or_no (stw_at tokens) _ (located_no_stw tokens operand is) ∙ or_no (block_number_at tokens) _ (located_no_number tokens operand is)
+    ∙ or_no (read_as Constant (constant_at tokens)) _ (ap (read_as Constant) (located_no_constant tokens operand is))
+    ∙ or_this (located_at tokens) (length_at tokens) operand (length tokens) (located_read tokens operand is)
 
-stored_place : (tokens : List Token) (place : RawPlace) → IsPlace tokens place → stored_at tokens ≡ Fits (At place) (length tokens)
-stored_place tokens place is = or_no (stw_at tokens) _ (place_no_stw tokens place is) ∙ ap (read_as At) (place_read tokens place is)
-
-opened_read : (tokens : List Token) (letters : List ℕ) (n : ℕ) (name : AreaName) → IsNumbered tokens letters n → opened_area letters ≡ Some name →
-    opened_at tokens ≡ Fits (opening name (Number n)) (length tokens)
-opened_read tokens letters n name is area =
-    let operand = opening name (Number n) in
-    let all : opened_at (tokens ++ []) ≡ Fits operand (length (tokens ++ [])) =
-    and_then_read tokens [] (numbered_at (tokens ++ [])) (record { letters = letters; number = n })
-    (λ found rest. fitting 0 (option_map (λ name. opening name (Number found.number)) (opened_area found.letters))) (numbered_read tokens letters n is [])
-    ∙ further_read tokens [] (fitting 0 (option_map (λ name. opening name (Number n)) (opened_area letters))) operand
-    (ap (λ (o : Option AreaName). fitting 0 (option_map (λ name. opening name (Number n)) o)) area) in
-    subst (λ (ts : List Token). opened_at ts ≡ Fits operand (length ts)) (append-nil tokens) all
+stored_located : (tokens : List Token) (operand : RawOperand) → IsLocated tokens operand → stored_at tokens ≡ Fits operand (length tokens)
+stored_located tokens operand is = or_no (stw_at tokens) (located_at tokens) (located_no_stw tokens operand is) ∙ located_read tokens operand is
 
 operand_read : (shape : Shape) (tokens : List Token) (operand : RawOperand) → IsOperand shape tokens operand → operand_by shape tokens ≡ Fits operand (length tokens)
 operand_read shape tokens operand form.nothing = refl
-operand_read shape tokens operand (form.bit ts place is) = ap (read_as At) (place_read ts place is)
-operand_read shape tokens operand (form.checked_place ts place is) = checked_read ts (At place) (form.checked_place ts place is)
+operand_read shape tokens operand (form.bit ts o is) = located_read ts o is
+operand_read shape tokens operand (form.checked_located ts o is) = checked_read ts o (form.checked_located ts o is)
 operand_read shape tokens operand (form.status ts test is) = checked_read ts (Flag test) (form.status ts test is)
 operand_read shape tokens operand (form.checked ts o is) = or_nothing_read ts (checked_at ts) o (checked_there ts o is) (checked_read ts o is)
 operand_read shape tokens operand form.alone = refl
@@ -458,13 +440,13 @@ operand_read shape tokens operand (form.loaded_status word is) = or_this (stw_at
 operand_read shape tokens operand (form.loaded_db word is) = db_read word is
 operand_read shape tokens operand (form.loaded_di word is) = di_read word is
 operand_read shape tokens operand (form.loaded_constant ts c is) = loaded_constant ts c is
-operand_read shape tokens operand (form.loaded_place ts place is) = loaded_place ts place is
+operand_read shape tokens operand (form.loaded_located ts o is) = loaded_located ts o is
 operand_read shape tokens operand (form.stored_status word is) = or_this (stw_at (word ∷ [])) _ Stw 1 (stw_read word is)
-operand_read shape tokens operand (form.stored_place ts place is) = stored_place ts place is
+operand_read shape tokens operand (form.stored_located ts o is) = stored_located ts o is
 operand_read shape tokens operand (form.combined ts c is) =
     or_nothing_read ts (read_as Constant (constant_at ts)) (Constant c) (constant_there ts c is) (ap (read_as Constant) (constant_read ts c is))
 operand_read shape tokens operand form.no_constant = refl
-operand_read shape tokens operand (form.opened ts letters n name is area) = opened_read ts letters n name is area
+operand_read shape tokens operand (form.opened ts o is) = opened_read ts o is
 
 complete : (tokens : List Token) (instr : RawInstr) → IsInstruction tokens instr → instruction_of tokens ≡ Ok instr
 unfolding instruction_of

@@ -2,8 +2,11 @@ mod ConstantLaws
 mod Fronts
 mod InstructionLaws
 mod Kept
+mod NameLaws
+mod PathLaws
 mod PlaceLaws
 mod PlaceTokens
 mod Reading
+mod Repeated
 mod TableLaws
 mod Tables

@@ -18,7 +18,7 @@ use Rattle.stl_statements.specs.Statements.{NamedForm, has_form, left_out_at, le
 use Rattle.stl_statements.specs.Words.{is_joined, is_joined_word, is_word_kind}
 use Rattle.stl_statements.specs.declared.mnemonic.Read.TheVariants.{Fits, No}
 use Rattle.stl_tree.specs.declared.raw.RawPlace.{RawPlace}
-use Rattle.stl_instructions.proofs.Fronts.{Front, FrontOf, and_then_front, and_then_read, as_front, fitting_front, front_all, further_front, further_read, or_front, refined}
+use Rattle.stl_instructions.proofs.Fronts.{Front, FrontOf, and_then_front, and_then_none, and_then_read, as_front, fitting_front, front_all, further_front, further_read, or_front, refined}
 use Rattle.stl_instructions.proofs.Reading.{AllOf, alike, if_true, mapped, or_all, or_no, or_this, same_letters, taken}
 use Rattle.stl_instructions.proofs.Tables.{are_apart, found_among, found_apart, found_passes}
 
@@ -220,3 +220,10 @@ place_at_read tokens place (in_block front letters n point rest p is db at glued
 
 pub place_read : (tokens : List Token) (place : RawPlace) → IsPlace tokens place → place_operand tokens ≡ Fits place (length tokens)
 place_read tokens place is = or_this (place_at tokens) (left_out_at left_out_forms tokens) place (length tokens) (place_at_read tokens place is)
+
+-- where no letters with a number stand no place does
+pub no_place_at : (tokens : List Token) → numbered_at tokens ≡ No → place_at tokens ≡ No
+no_place_at tokens none =
+    or_no (place_in place_words None tokens) (block_place_at tokens)
+    (and_then_none tokens (numbered_at tokens) (λ found rest. place_by None (find (has_letters found.letters) place_words) found.number rest) none)
+    ∙ and_then_none tokens (numbered_at tokens) (λ found rest. if is_same_word found.letters (codes "DB") then place_behind found.number rest else No) none

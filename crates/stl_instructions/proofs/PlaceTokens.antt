@@ -102,7 +102,7 @@ place_begun tokens place (in_block front letters n point rest p is db at glued i
     begun front (point ∷ rest) letters n is (ap is_begin (same_letters letters (codes "DB") db)) (joined_sign (codes ".") point at)
 
 -- where no digit stands in lower case, none stands
-all_letters : (text : List ℕ) → list_all is_no_digit (str_to_ascii_lowercase text) ≡ true → prefix_len is_no_digit text ≡ length text
+pub all_letters : (text : List ℕ) → list_all is_no_digit (str_to_ascii_lowercase text) ≡ true → prefix_len is_no_digit text ≡ length text
 all_letters [] h = refl
 all_letters (c ∷ cs) h =
     let p = and_parts (is_no_digit (to_ascii_lowercase c)) (list_all is_no_digit (str_to_ascii_lowercase cs)) h in

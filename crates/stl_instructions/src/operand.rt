@@ -1,5 +1,5 @@
 //! Reads the operand of an instruction.
-ghost use Rattle.std.specs.Prelude.{◌≡◌, ℕ, ◌&&◌, ◌||◌, nat_le, not, map, option_map};
+ghost use Rattle.std.specs.Prelude.{◌≡◌, IfOk, ℕ, ◌&&◌, ◌||◌, nat_le, not, map, option_map};
 ghost use Rattle.std.specs.List.{find};
 ghost use Rattle.s7_base.specs.Tokens.{is_same_word};
 ghost use Rattle.memory_areas.specs.Access.{is_unaligned};
@@ -7,20 +7,23 @@ ghost use Rattle.stl_statements.specs.Constants.{addend_at, constant_at, number_
 ghost use Rattle.stl_statements.specs.Mnemonics.{goes_on};
 ghost use Rattle.stl_statements.specs.Readers.{or_else, read_as};
 ghost use Rattle.stl_tree.specs.Shifts.{most_steps};
-ghost use Rattle.stl_statements.specs.Statements.{block_number_at, checked_at, checked_shape, first_of, has_form, is_asked, is_in_area, is_named, is_numbered, left_out_at, left_out_forms, length_at, loaded_at, nothing_at, opened_at, opening, operand_by, operand_of, or_nothing, place_operand, second_of, shape_of, size_with, status_at, stored_at, stw_at, tests, timers_and_counters};
+ghost use Rattle.stl_statements.specs.Statements.{block_number_at, checked_at, checked_shape, first_of, has_form, is_asked, is_in_area, is_named, is_numbered, left_out_at, left_out_forms, length_at, loaded_at, located_at, nothing_at, opened_at, opened_behind, opened_name_at, opened_number_at, opened_word, opening, operand_by, operand_of, or_nothing, place_operand, second_of, shape_of, size_with, status_at, stored_at, stw_at, tests, timers_and_counters};
 ghost use Rattle.stl_statements.specs.Words.{is_spelled};
 ghost use Rattle.stl_tree.specs.WordLogic.{width_of as logic_width};
 ghost use Rattle.stl_tree.specs.declared.raw.RawOperand.TheVariants as operand;
 ghost use Rattle.stl_instructions.specs.inner.Rows.{seen};
+ghost use Rattle.stl_instructions.specs.inner.Shapes.{IsPlainShape};
 
 use crate::constant::{addend_at, constant_at, number_at};
 use crate::number::are_digits;
+use crate::path::{name_of, named_at};
 use crate::place::{numbered_at, opened_area, place_at};
 use crate::table::goes_on;
-use crate::words::{is_sign, is_word, is_word_kind, is_word_or_sign};
+use crate::words::{is_quoted, is_sign, is_word, is_word_kind, is_word_or_sign};
 use memory_areas::{AreaName, is_byte_in};
-use s7_base::{Check, Kind, Token, Width, front_of, is_same_word, rest_after};
+use s7_base::{Check, Kind, NoMemory, Token, Width, front_of, is_same_word, rest_after};
 use status_word::Test;
+use std::alloc::Global;
 use stl_statements::{Mnemonic, Read, Shape};
 use stl_tree::{Constant, LogicRow, RawName, RawOperand, RawPlace, ShiftRow};
 
@@ -170,6 +173,16 @@ fn place_operand(tokens: &[Token]) -> Read<RawPlace>
     match place_at(tokens) {
         Read::No => left_out_at(left_out_forms(), tokens),
         read => read,
+    }
+}
+
+/// What stands where a written place may stand, or a name.
+fn located_at(alloc: Global, tokens: &[Token]) -> Result<Read<RawOperand>, NoMemory>
+    ensures { IfOk result (λ read. read ≡ located_at tokens.now) }
+{
+    match place_operand(tokens) {
+        Read::No => named_at(alloc, tokens),
+        read => Ok(at_place(read)),
     }
 }
 
@@ -329,64 +342,63 @@ fn nothing_at(tokens: &[Token]) -> Read<RawOperand>
     }
 }
 
-/// A place, or a question to the status word.
-fn checked_at(tokens: &[Token]) -> Read<RawOperand>
-    ensures { result ≡ checked_at tokens.now }
+/// A place or a name, or a question to the status word.
+fn checked_at(alloc: Global, tokens: &[Token]) -> Result<Read<RawOperand>, NoMemory>
+    ensures { IfOk result (λ read. read ≡ checked_at tokens.now) }
 {
     match status_at(tokens) {
-        Read::No => at_place(place_operand(tokens)),
-        read => read,
+        Read::No => located_at(alloc, tokens),
+        read => Ok(read),
     }
 }
 
 /// What `T` stores in.
-fn stored_at(tokens: &[Token]) -> Read<RawOperand>
-    ensures { result ≡ stored_at tokens.now }
+fn stored_at(alloc: Global, tokens: &[Token]) -> Result<Read<RawOperand>, NoMemory>
+    ensures { IfOk result (λ read. read ≡ stored_at tokens.now) }
 {
     match stw_at(tokens) {
-        Read::No => at_place(place_operand(tokens)),
+        Read::No => located_at(alloc, tokens),
+        read => Ok(read),
+    }
+}
+
+fn located_or_length(alloc: Global, tokens: &[Token]) -> Result<Read<RawOperand>, NoMemory>
+    ensures { IfOk result (λ read. read ≡ or_else (located_at tokens.now) (length_at tokens.now)) }
+{
+    match located_at(alloc, tokens)? {
+        Read::No => Ok(length_at(tokens)),
+        read => Ok(read),
+    }
+}
+
+/// What `L` loads by a word of its own: the status word, or the number of an open data block.
+fn register_at(tokens: &[Token]) -> Read<RawOperand>
+    ensures { result ≡ or_else (stw_at tokens.now) (block_number_at tokens.now) }
+{
+    match stw_at(tokens) {
+        Read::No => block_number_at(tokens),
         read => read,
     }
 }
 
-fn place_or_length(tokens: &[Token]) -> Read<RawOperand>
-    ensures { result ≡ or_else (read_as operand.At (place_operand tokens.now)) (length_at tokens.now) }
-{
-    match place_operand(tokens) {
-        Read::No => length_at(tokens),
-        read => at_place(read),
-    }
-}
-
-fn constant_or_place(tokens: &[Token]) -> Read<RawOperand>
-    ensures { result
+fn constant_or_located(alloc: Global, tokens: &[Token]) -> Result<Read<RawOperand>, NoMemory>
+    ensures { IfOk result (λ read. read
         ≡ or_else (read_as operand.Constant (constant_at tokens.now))
-        (or_else (read_as operand.At (place_operand tokens.now)) (length_at tokens.now)) }
+        (or_else (located_at tokens.now) (length_at tokens.now))) }
 {
     match constant_at(tokens) {
-        Read::No => place_or_length(tokens),
-        read => at_constant(read),
-    }
-}
-
-fn number_or_other(tokens: &[Token]) -> Read<RawOperand>
-    ensures { result
-        ≡ or_else (block_number_at tokens.now) (or_else (read_as operand.Constant (constant_at tokens.now))
-        (or_else (read_as operand.At (place_operand tokens.now)) (length_at tokens.now))) }
-{
-    match block_number_at(tokens) {
-        Read::No => constant_or_place(tokens),
-        read => read,
+        Read::No => located_or_length(alloc, tokens),
+        read => Ok(at_constant(read)),
     }
 }
 
 /// What `L` loads.
-fn loaded_at(tokens: &[Token]) -> Read<RawOperand>
-    ensures { result ≡ loaded_at tokens.now }
+fn loaded_at(alloc: Global, tokens: &[Token]) -> Result<Read<RawOperand>, NoMemory>
+    ensures { IfOk result (λ read. read ≡ loaded_at tokens.now) }
 {
-    match stw_at(tokens) {
-        Read::No => number_or_other(tokens),
-        read => read,
+    match register_at(tokens) {
+        Read::No => constant_or_located(alloc, tokens),
+        read => Ok(read),
     }
 }
 
@@ -401,9 +413,9 @@ fn opening(area: AreaName, name: RawName) -> RawOperand
     }
 }
 
-/// What `OPN` opens: a data block by its number.
-fn opened_at(tokens: &[Token]) -> Read<RawOperand>
-    ensures { result ≡ opened_at tokens.now }
+/// A data block by its number.
+fn opened_number_at(tokens: &[Token]) -> Read<RawOperand>
+    ensures { result ≡ opened_number_at tokens.now }
 {
     match numbered_at(tokens) {
         Read::Fits(found, size) => match opened_area(found.letters) {
@@ -415,12 +427,60 @@ fn opened_at(tokens: &[Token]) -> Read<RawOperand>
     }
 }
 
-fn checked_or_nothing(tokens: &[Token]) -> Read<RawOperand>
-    ensures { result ≡ or_nothing tokens.now (checked_at tokens.now) }
+/// The area that is opened, by its word.
+fn opened_word(word: &Token) -> Option<AreaName>
+    ensures { result ≡ opened_word word.now }
+{
+    if is_word_kind(word) {
+        opened_area(word.text.as_slice())
+    } else {
+        None
+    }
+}
+
+/// A data block by its name, behind its word.
+fn opened_behind(alloc: Global, word: &Token, rest: &[Token]) -> Result<Read<RawOperand>, NoMemory>
+    ensures { IfOk result (λ read. read ≡ opened_behind (opened_word word.now) rest.now) }
+{
+    match (opened_word(word), rest) {
+        (Some(area), [name, ..]) if is_quoted(name) => {
+            let name = RawName::Name(name_of(alloc, name)?);
+            Ok(Read::Fits(opening(area, name), 2))
+        }
+        _ => Ok(Read::No),
+    }
+}
+
+/// A data block by its name, behind its word or alone.
+fn opened_name_at(alloc: Global, tokens: &[Token]) -> Result<Read<RawOperand>, NoMemory>
+    ensures { IfOk result (λ read. read ≡ opened_name_at tokens.now) }
+{
+    match tokens {
+        [first, ..] if is_quoted(first) => {
+            let name = RawName::Name(name_of(alloc, first)?);
+            Ok(Read::Fits(RawOperand::OpenDb(name), 1))
+        }
+        [first, rest @ ..] => opened_behind(alloc, first, rest),
+        [] => Ok(Read::No),
+    }
+}
+
+/// What `OPN` opens.
+fn opened_at(alloc: Global, tokens: &[Token]) -> Result<Read<RawOperand>, NoMemory>
+    ensures { IfOk result (λ read. read ≡ opened_at tokens.now) }
+{
+    match opened_number_at(tokens) {
+        Read::No => opened_name_at(alloc, tokens),
+        read => Ok(read),
+    }
+}
+
+fn checked_or_nothing(alloc: Global, tokens: &[Token]) -> Result<Read<RawOperand>, NoMemory>
+    ensures { IfOk result (λ read. read ≡ or_nothing tokens.now (checked_at tokens.now)) }
 {
     match nothing_at(tokens) {
-        Read::No => checked_at(tokens),
-        read => read,
+        Read::No => checked_at(alloc, tokens),
+        read => Ok(read),
     }
 }
 
@@ -442,25 +502,42 @@ fn constant_or_nothing(tokens: &[Token]) -> Read<RawOperand>
     }
 }
 
-/// What stands where an operand of the shape may stand.
-fn operand_by(shape: Shape, tokens: &[Token]) -> Read<RawOperand>
+/// What stands where an operand may stand that is neither a place nor a name.
+fn plain_operand(shape: Shape, tokens: &[Token]) -> Read<RawOperand>
+    requires { IsPlainShape shape }
     ensures { result ≡ operand_by shape tokens.now }
 {
     match shape {
         Shape::Nothing => nothing_at(tokens),
-        Shape::Bit => at_place(place_operand(tokens)),
-        Shape::Checked => checked_at(tokens),
-        Shape::CheckedOrNothing => checked_or_nothing(tokens),
         Shape::Number(most) => at_constant(number_at(most, tokens)),
         Shape::NumberOrNothing(most) => number_or_nothing(most, tokens),
         Shape::Addend => at_constant(addend_at(tokens)),
-        Shape::Loaded => loaded_at(tokens),
-        Shape::Stored => stored_at(tokens),
         Shape::ConstantOrNothing => constant_or_nothing(tokens),
-        Shape::Opened => opened_at(tokens),
         Shape::TimerOrCounter => at_place(left_out_at(timers_and_counters(), tokens)),
-        Shape::Later => Read::No,
         Shape::LeftOut(kind) => Read::LeftOut(kind),
+        _ => Read::No,
+    }
+}
+
+/// What stands where an operand of the shape may stand.
+fn operand_by(alloc: Global, shape: Shape, tokens: &[Token]) -> Result<Read<RawOperand>, NoMemory>
+    ensures { IfOk result (λ read. read ≡ operand_by shape tokens.now) }
+{
+    match shape {
+        Shape::Bit => located_at(alloc, tokens),
+        Shape::Checked => checked_at(alloc, tokens),
+        Shape::CheckedOrNothing => checked_or_nothing(alloc, tokens),
+        Shape::Loaded => loaded_at(alloc, tokens),
+        Shape::Stored => stored_at(alloc, tokens),
+        Shape::Opened => opened_at(alloc, tokens),
+        Shape::Nothing
+        | Shape::Number(_)
+        | Shape::NumberOrNothing(_)
+        | Shape::Addend
+        | Shape::ConstantOrNothing
+        | Shape::TimerOrCounter
+        | Shape::Later
+        | Shape::LeftOut(_) => Ok(plain_operand(shape, tokens)),
     }
 }
 
@@ -533,8 +610,12 @@ fn shape_of(what: Mnemonic) -> Shape
 }
 
 /// The operand of an instruction.
-pub fn operand_of(what: Mnemonic, tokens: &[Token]) -> Read<RawOperand>
-    ensures { result ≡ operand_of what tokens.now }
+pub fn operand_of(
+    alloc: Global,
+    what: Mnemonic,
+    tokens: &[Token],
+) -> Result<Read<RawOperand>, NoMemory>
+    ensures { IfOk result (λ read. read ≡ operand_of what tokens.now) }
 {
-    operand_by(shape_of(what), tokens)
+    operand_by(alloc, shape_of(what), tokens)
 }

@@ -78,24 +78,28 @@ fn with_operand(row: Row, size: usize, read: Read<RawOperand>) -> Result<(Row, R
 }
 
 /// What the tokens of a statement say.
-fn statement(tokens: &[Token]) -> Result<(Row, RawOperand), Reason>
-    ensures { Says result (statement tokens.now) }
+fn statement(alloc: Global, tokens: &[Token]) -> Result<Result<(Row, RawOperand), Reason>, NoMemory>
+    ensures { IfOk result (λ said. Says said (statement tokens.now)) }
 {
     if begins_with_label(tokens) {
-        return Err(Reason::Unsupported(Kind::NotBuilt));
+        return Ok(Err(Reason::Unsupported(Kind::NotBuilt)));
     }
-    unlabelled(tokens)
+    unlabelled(alloc, tokens)
 }
 
-fn unlabelled(tokens: &[Token]) -> Result<(Row, RawOperand), Reason>
-    ensures { Says result (with_mnemonic tokens.now (mnemonic_at tokens.now)) }
+fn unlabelled(
+    alloc: Global,
+    tokens: &[Token],
+) -> Result<Result<(Row, RawOperand), Reason>, NoMemory>
+    ensures { IfOk result (λ said. Says said (with_mnemonic tokens.now (mnemonic_at tokens.now))) }
 {
     match mnemonic_at(tokens) {
         Some(row) => {
             let behind = rest_after(tokens, size_with(row.1));
-            with_operand(row, behind.len(), operand_of(row.2, behind))
+            let read = operand_of(alloc, row.2, behind)?;
+            Ok(with_operand(row, behind.len(), read))
         }
-        None => Err(Reason::BadStatement),
+        None => Ok(Err(Reason::BadStatement)),
     }
 }
 
@@ -118,7 +122,7 @@ pub fn instruction(alloc: Global, tokens: &[Token]) -> Result<RawInstr, Rejectio
     let [first, ..] = tokens else {
         return Err(Rejection::Refused(Line(1), Reason::BadStatement));
     };
-    match statement(tokens) {
+    match statement(alloc, tokens)? {
         Ok((row, operand)) => Ok(on_line(alloc, first.line, row, operand)?),
         Err(reason) => Err(Rejection::Refused(first.line, reason)),
     }

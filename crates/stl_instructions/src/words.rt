@@ -1,6 +1,6 @@
 //! Tests of one token.
 ghost use Rattle.std.specs.Prelude.{◌≡◌, ◌||◌};
-ghost use Rattle.stl_statements.specs.Words.{is_joined, is_joined_word, is_sign, is_sign_kind, is_spelled, is_text_kind, is_word, is_word_kind};
+ghost use Rattle.stl_statements.specs.Words.{is_joined, is_joined_word, is_quoted_kind, is_sign, is_sign_kind, is_spelled, is_text_kind, is_word, is_word_kind};
 
 use s7_base::{Token, TokenKind, is_same_word};
 
@@ -37,6 +37,13 @@ pub fn is_spelled(token: &Token, text: &str) -> bool
     ensures { result ≡ is_spelled text.now token.now }
 {
     is_word_or_sign(token) && is_same_word(token.text.as_slice(), text)
+}
+
+/// The token is a name in quotes.
+pub fn is_quoted(token: &Token) -> bool
+    ensures { result ≡ is_quoted_kind token.now.kind }
+{
+    matches!(token.kind, TokenKind::Quoted)
 }
 
 /// The token is a text in single quotes.

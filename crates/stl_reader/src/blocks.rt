@@ -3,16 +3,18 @@ ghost use Rattle.std.specs.Prelude.{◌≡◌, ◌++◌, length, IfOk, OnOk};
 ghost use Rattle.s7_base.specs.Answers.{Answers};
 ghost use Rattle.s7_base.specs.Tokens.{line_at_end};
 ghost use Rattle.stl_grammar.specs.Items.{items_from};
-ghost use Rattle.stl_grammar.specs.RawPrograms.{blocks_in, headed, nothing_read, raw_with, with_item, raw_program, raw_text};
+ghost use Rattle.stl_grammar.specs.RawPrograms.{blocks_in, headed, nothing_read, raw_read, with_item, raw_program, raw_text};
 ghost use Rattle.stl_grammar.specs.declared.item.Item.TheVariants as item;
 
+use crate::declared::{put_closed, put_type};
 use crate::item::item_at;
 use s7_base::{Line, List, NoMemory, Rejection, Token, rest_after};
 use std::alloc::Global;
+use std::collections::LinkedList;
 use std::mem::replace;
 use stl_grammar::{Found, Item, Reading, Where};
 use stl_lexer::tokens;
-use stl_tree::{BlockKind, RawBlock, RawInstr, RawName, RawProgram};
+use stl_tree::{BlockKind, RawBlock, RawInstr, RawName, RawProgram, SymbolLine};
 
 /// A block of which the heading alone is known.
 fn headed(alloc: Global, line: Line, kind: BlockKind, name: RawName) -> RawBlock
@@ -37,11 +39,20 @@ fn headed(alloc: Global, line: Line, kind: BlockKind, name: RawName) -> RawBlock
 fn put_block(reading: &mut Reading, block: RawBlock) -> Result<(), NoMemory>
     ensures done { OnOk result (reading.new.done ≡ blocks_in reading.old) }
     ensures last { OnOk result (reading.new.last ≡ Some block) }
+    ensures symbols { reading.new.symbols ≡ reading.old.symbols }
+    ensures structs { reading.new.structs ≡ reading.old.structs }
 {
     if let Some(before) = replace(&mut reading.last, Some(block)) {
         reading.done.push(before)?;
     }
     Ok(())
+}
+
+/// One more line of the symbol table.
+fn put_symbol(reading: &mut Reading, line: SymbolLine) -> Result<(), NoMemory>
+    ensures { OnOk result (reading.new ≡ with_item reading.old (item.Symbol line)) }
+{
+    reading.symbols.push(line)
 }
 
 /// One more instruction of the last block.
@@ -69,6 +80,9 @@ fn put_item(alloc: Global, reading: &mut Reading, item: Item) -> Result<(), NoMe
 {
     match item {
         Item::Opens(line, kind, name) => put_block(reading, headed(alloc, line, kind, name)),
+        Item::Symbol(line) => put_symbol(reading, line),
+        Item::Declares(name, line, written) => put_type(alloc, reading, name, line, written),
+        Item::Closes => put_closed(alloc, reading),
         Item::Instr(instr) => put_instr(reading, instr),
         Item::Ends(line) => {
             put_end(reading, line);
@@ -80,15 +94,20 @@ fn put_item(alloc: Global, reading: &mut Reading, item: Item) -> Result<(), NoMe
 
 /// The raw program of a text that is read.
 fn finish(alloc: Global, reading: Reading) -> Result<RawProgram, NoMemory>
-    ensures { IfOk result (λ raw. raw ≡ raw_with (blocks_in reading)) }
+    ensures { IfOk result (λ raw. raw ≡ raw_read reading) }
 {
-    let Reading { done, last } = reading;
+    let Reading {
+        symbols,
+        done,
+        last,
+        ..
+    } = reading;
     let mut blocks = done;
     if let Some(block) = last {
         blocks.push(block)?;
     }
     Ok(RawProgram {
-        symbols: List::new(alloc),
+        symbols,
         dbs: List::new(alloc),
         blocks,
     })
@@ -100,8 +119,10 @@ fn read_tokens(alloc: Global, tokens: &[Token], end: Line) -> Result<RawProgram,
     ensures { Answers result (raw_program end tokens.now) }
 {
     let mut reading = Reading {
+        symbols: List::new(alloc),
         done: List::new(alloc),
         last: None,
+        structs: LinkedList::new(alloc),
     };
     let mut place = Where::Start;
     let mut rest = tokens;

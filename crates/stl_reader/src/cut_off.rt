@@ -39,7 +39,7 @@ fn ends_behind_number(tokens: &[Token]) -> bool
     }
 }
 
-fn is_quoted(token: &Token) -> bool
+pub fn is_quoted(token: &Token) -> bool
     ensures { result ≡ is_quoted_kind token.now.kind }
 {
     matches!(token.kind, TokenKind::Quoted)

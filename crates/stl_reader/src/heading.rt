@@ -1,16 +1,26 @@
 //! Headings of blocks, and the lines behind them that are skipped.
-ghost use Rattle.std.specs.Prelude.{◌≡◌, ◌+◌, ◌*◌, ◌-◌, ◌^◌, ◌≤◌, length, min};
-ghost use Rattle.std.specs.Prelude.{option_map};
+ghost use Rattle.std.specs.Prelude.{◌≡◌, ◌+◌, ◌*◌, ◌-◌, ◌^◌, ◌≤◌, length, min, IfOk};
 ghost use Rattle.stl_statements.specs.Readers.{fitting};
-ghost use Rattle.stl_tree.specs.declared.raw.RawName.TheVariants as raw_name;
-ghost use Rattle.stl_grammar.specs.Headings.{kept_from, kept_number, number_behind, number_within, name_at, line_of, heading_kind, kind_word, opened, opened_by, is_on, size_on, has_colon, is_skipped};
+ghost use Rattle.stl_grammar.specs.Headings.{kept_from, kept_number, number_behind, number_within, number_named, name_at, line_of, heading_kind, kind_word, opened, opened_by, is_behind, is_on, size_on, has_colon, is_skipped};
 
+use crate::cut_off::is_quoted;
 use crate::words::{is_attribute, is_title};
-use s7_base::{Line, Reason, Token, rest_after};
+use s7_base::{Line, List, NoMemory, Reason, Token, rest_after};
+use std::alloc::Global;
 use stl_grammar::{Found, Item, Where};
 use stl_instructions::{are_digits, is_numbered, is_sign, is_word, is_word_kind};
 use stl_statements::Read;
 use stl_tree::{BlockKind, RawName};
+
+/// What was read takes so many tokens.
+pub fn fitting<T>(size: usize, found: Option<T>) -> Read<T>
+    ensures { result ≡ fitting size found }
+{
+    match found {
+        Some(found) => Read::Fits(found, size),
+        None => Read::No,
+    }
+}
 
 /// A number with one digit more; one past the greatest of 32 bits is kept as that one.
 fn kept_next(value: u32, digit: u8) -> u32
@@ -31,7 +41,7 @@ fn kept_from(digits: &[u8]) -> u32
 }
 
 /// A number of any size, so kept.
-fn kept_number(digits: &[u8]) -> Option<u32>
+pub fn kept_number(digits: &[u8]) -> Option<u32>
     ensures { result ≡ kept_number digits.now }
 {
     if are_digits(digits) {
@@ -62,25 +72,36 @@ fn number_within(kind: &str, word: &Token) -> Option<u32>
     }
 }
 
-/// A name by its number, which takes so many tokens.
-fn numbered_name(size: usize, number: Option<u32>) -> Read<RawName>
-    ensures { result ≡ fitting size (option_map (λ n. raw_name.Number n) number) }
+/// A block by its number.
+fn number_named(kind: &str, first: &Token, rest: &[Token]) -> Read<RawName>
+    ensures { result ≡ number_named kind.now first.now rest.now }
 {
-    match number {
-        Some(number) => Read::Fits(RawName::Number(number), size),
-        None => Read::No,
+    if is_word(first, kind) {
+        fitting(2, number_behind(rest).map(RawName::Number))
+    } else {
+        fitting(1, number_within(kind, first).map(RawName::Number))
     }
 }
 
-/// What stands where a block of this kind may be named.
-fn name_at(kind: &str, tokens: &[Token]) -> Read<RawName>
-    ensures { result ≡ name_at kind.now tokens.now }
+/// A list of the same bytes.
+pub fn copied(alloc: Global, bytes: &[u8]) -> Result<List<u8>, NoMemory>
+    ensures { IfOk result (λ list. list ≡ bytes.now) }
 {
-    match tokens {
-        [first, rest @ ..] if is_word(first, kind) => numbered_name(2, number_behind(rest)),
-        [first, ..] => numbered_name(1, number_within(kind, first)),
-        [] => Read::No,
+    Ok(List::from_vec(Vec::from_slice(alloc, bytes)?))
+}
+
+/// What stands where a block of this kind may be named.
+fn name_at(alloc: Global, kind: &str, tokens: &[Token]) -> Result<Read<RawName>, NoMemory>
+    ensures { IfOk result (λ found. found ≡ name_at kind.now tokens.now) }
+{
+    let [first, rest @ ..] = tokens else {
+        return Ok(Read::No);
+    };
+    if is_quoted(first) {
+        let name = copied(alloc, first.text.as_slice())?;
+        return Ok(Read::Fits(RawName::Name(name), 1));
     }
+    Ok(number_named(kind, first, rest))
 }
 
 /// The kind of a block, by the first word of its heading.
@@ -95,7 +116,7 @@ fn heading_kind(first: &Token) -> Option<BlockKind>
 }
 
 /// The word before the number of a block.
-fn kind_word(kind: BlockKind) -> &'static str
+pub fn kind_word(kind: BlockKind) -> &'static str
     ensures { result.now ≡ kind_word kind }
 {
     match kind {
@@ -139,17 +160,32 @@ fn opened(
     }
 }
 
-/// What stands where a heading may stand, and why it is refused where none does.
-pub fn heading_at(reason: Reason, first: &Token, rest: &[Token]) -> Found
-    ensures { result ≡ opened_by reason (heading_kind first.now) first.now rest.now }
+/// What stands where a heading or else something else may stand, and why a heading is refused.
+pub fn heading_at(
+    alloc: Global,
+    reason: Reason,
+    other: Found,
+    first: &Token,
+    rest: &[Token],
+) -> Result<Found, NoMemory>
+    ensures { IfOk result (λ found. found ≡ opened_by reason (heading_kind first.now) other first.now rest.now) }
 {
     match heading_kind(first) {
-        Some(kind) => opened(reason, kind, first, rest, name_at(kind_word(kind), rest)),
-        None => Found::Misfit(first.line, reason),
+        Some(kind) => {
+            let name = name_at(alloc, kind_word(kind), rest)?;
+            Ok(opened(reason, kind, first, rest, name))
+        }
+        None => Ok(other),
     }
 }
 
-fn is_on(line: Line, token: &Token) -> bool
+pub fn is_behind(line: Line, token: &Token) -> bool
+    ensures { result ≡ is_behind line token.now }
+{
+    line.0 < token.line.0
+}
+
+pub fn is_on(line: Line, token: &Token) -> bool
     ensures { result ≡ is_on line token.now }
 {
     token.line.0 == line.0
@@ -176,6 +212,6 @@ fn has_colon(line: Line, tokens: &[Token]) -> bool
 pub fn is_skipped(line: Line, first: &Token, rest: &[Token]) -> bool
     ensures { result ≡ is_skipped line first.now rest.now }
 {
-    line.0 < first.line.0
+    is_behind(line, first)
         && ((is_title(first) && has_colon(first.line, rest)) || is_attribute(first))
 }

@@ -1,14 +1,20 @@
 //! The item at a place of a text.
 ghost use Rattle.std.specs.Prelude.{◌≡◌, [], take, IfOk};
-ghost use Rattle.stl_grammar.specs.Items.{end_word, is_end, is_complete, statement_at, statement_size, behind_heading, is_skipped_alone, statement_found, statement_from, body_at, at_end, at_token, item_at};
+ghost use Rattle.stl_grammar.specs.Items.{end_word, is_end, is_complete, statement_at, statement_size, behind_at, behind_heading, cut_line, has_temps, is_skipped_alone, statement_found, statement_from, body_at, at_end, at_token, item_at};
 ghost use Rattle.stl_statements.specs.Statements.{instruction_of};
+ghost use Rattle.stl_grammar.specs.declared.item.Where.TheVariants.{Body};
 ghost use Rattle.stl_reader.specs.inner.Finding.{HasFirst};
 
 use crate::heading::{heading_at, is_skipped, size_on};
-use crate::misfit::{is_semicolon, misfit_reason, statement_reason, statement_size};
+use crate::inside::inside_at;
+use crate::misfit::{
+    body_reason, heading_reason, is_semicolon, reason_with, statement_reason, statement_size,
+};
+use crate::symbol::{in_table, table_at};
 use s7_base::{Line, NoMemory, Reason, Rejection, Token, front_of};
 use std::alloc::Global;
-use stl_grammar::{Found, Item, Where};
+use std::collections::LinkedList;
+use stl_grammar::{Found, Item, Level, Where};
 use stl_instructions::{instruction, is_word};
 use stl_tree::BlockKind;
 
@@ -30,8 +36,16 @@ fn is_end(kind: BlockKind, token: &Token) -> bool
     is_word(token, end_word(kind))
 }
 
+/// A block of this kind has temporary variables.
+fn has_temps(kind: BlockKind) -> bool
+    ensures { result ≡ has_temps kind }
+{
+    !matches!(kind, BlockKind::Db)
+}
+
 /// What stands behind a heading whose last line this is.
 fn behind_heading(
+    alloc: Global,
     kind: BlockKind,
     line: Line,
     tokens: &[Token],
@@ -48,27 +62,37 @@ fn behind_heading(
         )
     } else if is_word(first, "BEGIN") {
         Found::Fits(Item::Mark, 0, Where::Body(kind))
+    } else if has_temps(kind) && is_word(first, "VAR_TEMP") {
+        Found::Fits(Item::Mark, 0, Where::Inside(kind, LinkedList::new(alloc)))
     } else {
-        Found::Misfit(
-            first.line,
-            misfit_reason(Where::Heading(kind, line), tokens),
-        )
+        Found::Misfit(first.line, reason_with(false, false, tokens))
+    }
+}
+
+/// What stands behind declarations.
+fn behind_at(kind: BlockKind, tokens: &[Token], first: &Token) -> Found
+    ensures { result ≡ behind_at kind tokens.now first.now }
+{
+    if is_word(first, "BEGIN") {
+        Found::Fits(Item::Mark, 0, Where::Body(kind))
+    } else {
+        Found::Misfit(first.line, reason_with(false, false, tokens))
     }
 }
 
 /// A complete statement of so many tokens, given those from its place on.
 fn complete_from(
     alloc: Global,
-    place: Where,
+    kind: BlockKind,
     line: Line,
     tokens: &[Token],
     size: usize,
 ) -> Result<Found, NoMemory>
     requires { size ≡ statement_size tokens.now }
-    ensures { IfOk result (λ found. found ≡ statement_found place tokens.now line (instruction_of (statement_at tokens.now))) }
+    ensures { IfOk result (λ found. found ≡ statement_found (Body kind) tokens.now line (instruction_of (statement_at tokens.now))) }
 {
     match instruction(alloc, front_of(tokens, size)) {
-        Ok(instr) => Ok(Found::Fits(Item::Instr(instr), size, place)),
+        Ok(instr) => Ok(Found::Fits(Item::Instr(instr), size, Where::Body(kind))),
         Err(Rejection::Refused(_, reason)) => Ok(Found::Misfit(
             line,
             statement_reason(tokens, reason),
@@ -80,17 +104,17 @@ fn complete_from(
 /// A statement.
 fn statement_from(
     alloc: Global,
-    place: Where,
+    kind: BlockKind,
     line: Line,
     tokens: &[Token],
 ) -> Result<Found, NoMemory>
-    ensures { IfOk result (λ found. found ≡ statement_from place line tokens.now) }
+    ensures { IfOk result (λ found. found ≡ statement_from (Body kind) line tokens.now) }
 {
     let size = statement_size(tokens);
     if size == tokens.len() {
-        return Ok(Found::Misfit(line, misfit_reason(place, tokens)));
+        return Ok(Found::Misfit(line, body_reason(tokens)));
     }
-    complete_from(alloc, place, line, tokens, size)
+    complete_from(alloc, kind, line, tokens, size)
 }
 
 /// What is skipped in a body: an empty statement and `NETWORK`.
@@ -114,7 +138,7 @@ fn body_at(
     } else if is_end(kind, first) {
         Ok(Found::Fits(Item::Ends(first.line), 0, Where::Between))
     } else {
-        statement_from(alloc, Where::Body(kind), first.line, tokens)
+        statement_from(alloc, kind, first.line, tokens)
     }
 }
 
@@ -129,10 +153,35 @@ fn at_token(
     ensures { IfOk result (λ found. found ≡ at_token place tokens.now first.now rest.now) }
 {
     match place {
-        Where::Start => Ok(heading_at(misfit_reason(Where::Start, tokens), first, rest)),
-        Where::Between => Ok(heading_at(misfit_reason(Where::Between, tokens), first, rest)),
-        Where::Heading(kind, line) => Ok(behind_heading(kind, line, tokens, first, rest)),
+        Where::Start => {
+            let reason = heading_reason(tokens);
+            heading_at(alloc, reason, table_at(tokens, first), first, rest)
+        }
+        Where::Table(line) => in_table(alloc, line, tokens, first, rest),
+        Where::Between => {
+            let reason = heading_reason(tokens);
+            heading_at(
+                alloc,
+                reason,
+                Found::Misfit(first.line, reason),
+                first,
+                rest,
+            )
+        }
+        Where::Heading(kind, line) => Ok(behind_heading(alloc, kind, line, tokens, first, rest)),
+        Where::Inside(kind, levels) => inside_at(alloc, kind, levels, tokens, first, rest),
+        Where::Behind(kind) => Ok(behind_at(kind, tokens, first)),
         Where::Body(kind) => body_at(alloc, kind, tokens, first),
+    }
+}
+
+/// The line where a text ends among declarations: that of the innermost STRUCT, which is cut off.
+fn cut_line(end: Line, levels: &LinkedList<Level>) -> Line
+    ensures { result ≡ cut_line end levels.now }
+{
+    match levels.front() {
+        Some(level) => level.line,
+        None => end,
     }
 }
 
@@ -143,7 +192,10 @@ fn at_end(end: Line, place: Where) -> Found
 {
     match place {
         Where::Start | Where::Between => Found::Ended,
-        Where::Heading(_, _) | Where::Body(_) => Found::Misfit(end, Reason::BadStatement),
+        Where::Inside(_, levels) => Found::Misfit(cut_line(end, &levels), Reason::BadStatement),
+        Where::Table(_) | Where::Heading(_, _) | Where::Behind(_) | Where::Body(_) => {
+            Found::Misfit(end, Reason::BadStatement)
+        }
     }
 }
 

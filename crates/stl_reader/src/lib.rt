@@ -1,7 +1,8 @@
 //! Reads a source text: its raw program, or the first token or item that does not fit.
 //!
 //! Stands on `stl_lexer` for the tokens of a text and on `stl_instructions` for those of a statement.
-//! `item` reads the item at a place of the text, `heading` those of blocks, `misfit` says why an item is
+//! `item` reads the item at a place of the text, `heading` those of blocks, `symbol` those of the symbol table, `declaration` and
+//! `inside` declarations, `misfit` says why an item is
 //! refused that fits no form, and `blocks` makes the raw program of the items.
 #![tactic(auto)]
 
@@ -9,7 +10,11 @@ pub use blocks::read_blocks;
 
 mod blocks;
 mod cut_off;
+mod declaration;
+mod declared;
 mod heading;
+mod inside;
 mod item;
 mod misfit;
+mod symbol;
 mod words;

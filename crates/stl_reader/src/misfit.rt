@@ -1,12 +1,14 @@
 //! Why an item that fits no form is refused.
-ghost use Rattle.std.specs.Prelude.{◌≡◌, ◌≤◌, take, not, length};
-ghost use Rattle.stl_grammar.specs.Items.{is_semicolon, statement_size, begins_with_block_word, is_not_built, label_at, cut_off_at, is_complete, misfit_reason, statement_reason};
+ghost use Rattle.std.specs.Prelude.{◌≡◌, ◌≤◌, false, length};
+ghost use Rattle.stl_grammar.specs.Items.{is_semicolon, statement_size, begins_with_block_word, begins_with_name, is_not_built, is_complete, reason_with, heading_reason, declaration_reason, statement_reason};
+ghost use Rattle.stl_statements.specs.Statements.{begins_with_label};
+ghost use Rattle.stl_statements.specs.declared.mnemonic.Read.TheVariants as read;
 
 use crate::cut_off::is_heading_cut_off;
+use crate::declaration::begins_with_word;
 use crate::words::is_block_word;
 use s7_base::{Kind, Reason, Token};
-use stl_grammar::Where;
-use stl_instructions::{begins_with_label, begins_with_mnemonic, is_sign};
+use stl_instructions::{begins_with_label, begins_with_mnemonic, is_sign, is_word_kind};
 
 pub fn is_semicolon(token: &Token) -> bool
     ensures { result ≡ is_semicolon token.now }
@@ -31,24 +33,6 @@ fn is_complete(tokens: &[Token]) -> bool
     statement_size(tokens) < tokens.len()
 }
 
-fn label_at(place: Where, tokens: &[Token]) -> bool
-    ensures { result ≡ label_at place tokens.now }
-{
-    match place {
-        Where::Body(_) => begins_with_label(tokens),
-        _ => false,
-    }
-}
-
-fn cut_off_at(place: Where, tokens: &[Token]) -> bool
-    ensures { result ≡ cut_off_at place tokens.now }
-{
-    match place {
-        Where::Start | Where::Between => is_heading_cut_off(tokens),
-        _ => false,
-    }
-}
-
 fn begins_with_block_word(tokens: &[Token]) -> bool
     ensures { result ≡ begins_with_block_word tokens.now }
 {
@@ -60,22 +44,71 @@ fn begins_with_block_word(tokens: &[Token]) -> bool
 
 /// Whether the item has a form of the language that is not built yet.
 #[tactic(auto, unfolding(stl_grammar::specs::Items::is_not_built))]
-fn is_not_built(place: Where, tokens: &[Token]) -> bool
-    ensures { result ≡ is_not_built place tokens.now }
+fn is_not_built(label: bool, cut: bool, tokens: &[Token]) -> bool
+    ensures { result ≡ is_not_built label cut tokens.now }
 {
-    let label = label_at(place, tokens);
-    (begins_with_block_word(tokens) && !label && !cut_off_at(place, tokens))
+    (begins_with_block_word(tokens) && !label && !cut)
         || (is_complete(tokens) && (begins_with_mnemonic(tokens) || label))
 }
 
-/// Why an item that fits no form is refused.
-pub fn misfit_reason(place: Where, tokens: &[Token]) -> Reason
-    ensures { result ≡ misfit_reason place tokens.now }
+/// Why an item that fits no form is refused, given whether it begins with a label and is a heading cut off.
+pub fn reason_with(label: bool, cut: bool, tokens: &[Token]) -> Reason
+    ensures { result ≡ reason_with label cut tokens.now }
 {
-    if is_not_built(place, tokens) {
+    if is_not_built(label, cut, tokens) {
         Reason::Unsupported(Kind::NotBuilt)
     } else {
         Reason::BadStatement
+    }
+}
+
+/// The same where a heading may stand.
+pub fn heading_reason(tokens: &[Token]) -> Reason
+    ensures { result ≡ heading_reason tokens.now }
+{
+    if begins_with_word("TYPE", tokens) {
+        Reason::Unsupported(Kind::UserType)
+    } else {
+        reason_with(false, is_heading_cut_off(tokens), tokens)
+    }
+}
+
+/// The same in a body.
+pub fn body_reason(tokens: &[Token]) -> Reason
+    ensures { result ≡ reason_with (begins_with_label tokens.now) false tokens.now }
+{
+    reason_with(begins_with_label(tokens), false, tokens)
+}
+
+/// The same of a declaration whose type or initial value is left out.
+pub fn left_out_reason(tokens: &[Token], kind: Kind) -> Reason
+    ensures { result ≡ declaration_reason tokens.now (read.LeftOut kind) }
+{
+    if is_complete(tokens) {
+        Reason::Unsupported(kind)
+    } else {
+        Reason::BadStatement
+    }
+}
+
+/// A name and a colon stand at the front.
+fn begins_with_name(tokens: &[Token]) -> bool
+    ensures { result ≡ begins_with_name tokens.now }
+{
+    match tokens {
+        [name, colon, ..] => is_word_kind(name) && is_sign(colon, ":"),
+        _ => false,
+    }
+}
+
+/// The same of what is no declaration.
+pub fn undeclared_reason(tokens: &[Token]) -> Reason
+    ensures { result ≡ declaration_reason tokens.now read.No }
+{
+    if begins_with_name(tokens) {
+        Reason::BadStatement
+    } else {
+        reason_with(false, false, tokens)
     }
 }
 

@@ -1,61 +1,62 @@
 -- The verdict gives only programs that keep the rules.
-use Rattle.std.proofs.Common.{◌≡◌, ◌≢◌, ℕ, zero, suc, ◌+◌, ◌||◌, List, [], ◌∷◌, ◌++◌, length, Bool, true, false, not, if◌then◌else◌, Option, Some, None, Result, Ok, Err, refl, sym, ap, subst, ◌∙◌, arith}
-use Rattle.std.specs.Prelude.{All, IfSome, nat_eq, nat_lt, option_map}
+use Rattle.std.proofs.Common.{◌≡◌, ◌≢◌, ℕ, zero, suc, ◌+◌, List, [], ◌∷◌, ◌++◌, length, Bool, true, false, not, if◌then◌else◌, Option, Some, None, Result, Ok, Err, refl, sym, ap, subst, ◌∙◌, arith}
+use Rattle.std.specs.Prelude.{All, IfSome, nat_lt, option_map, slice_get}
 use Rattle.std.specs.List.{cons_option, filter_map, flat_map, position_or_len}
-use Rattle.std.proofs.lemmas.Bool.{both_ways, eq-eqb, le-ltb, ne_eqb}
-use Rattle.std.proofs.lemmas.List.Folds.{list_any-append}
+use Rattle.std.proofs.lemmas.Bool.{both_ways, le-ltb, ne_eqb}
 use Rattle.std.proofs.lemmas.List.Concat.{flat_map-cons}
 use Rattle.std.proofs.lemmas.List.Elements.{All-append, All-cons, All-nil, All-head, All-tail}
+use Rattle.memory_areas.specs.declared.call.BlockName.{BlockName}
+use Rattle.memory_areas.specs.declared.call.BlockName.TheVariants.{Ob}
+use Rattle.memory_areas.specs.declared.place.AreaName.{AreaName}
+use Rattle.memory_areas.specs.declared.place.AreaName.TheVariants as area_name
+use Rattle.memory_areas.specs.declared.sizes.TheConstants.{MOST_BLOCKS}
 use Rattle.nesting_stack.specs.Entries.{most_open}
-use Rattle.memory_areas.specs.Areas.{IsSized}
 use Rattle.s7_base.specs.Broken.{broken}
 use Rattle.s7_base.specs.Tokens.{tokens_of, line_at_end}
 use Rattle.s7_base.specs.declared.broken.Break.{Break}
+use Rattle.s7_base.specs.declared.reason.Kind.TheVariants.{NotBuilt}
 use Rattle.s7_base.specs.declared.reason.Line.{Line}
-use Rattle.s7_base.specs.declared.reason.Reason.TheVariants.{DuplicateBlock, TooManyBrackets}
+use Rattle.s7_base.specs.declared.reason.Reason.{Reason}
+use Rattle.s7_base.specs.declared.reason.Reason.TheVariants.{TooManyBrackets, Unsupported}
 use Rattle.s7_base.specs.declared.reason.Rejection.{Rejection}
 use Rattle.s7_base.specs.declared.token.Token.{Token}
-use Rattle.memory_areas.specs.declared.call.BlockName.{BlockName}
-use Rattle.memory_areas.specs.declared.call.BlockName.TheVariants.{Ob}
-use Rattle.stl_rules.specs.VerdictLaws.{VerdictIsAccepted}
-use Rattle.stl_tree.specs.Accepted.{AreDistinct, HaveOperands, IsAccepted, IsAcceptedBlock, IsBlockNumber, IsBlockOpened, IsEnded, IsSymbol}
+use Rattle.stl_tree.specs.Accepted.{AreDistinct, HaveOperands, IsAccepted, IsAcceptedBlock, IsBlockNumber, IsEnded, IsSymbol}
 use Rattle.stl_tree.specs.Brackets.{AreNested, WithNumber, open_behind}
 use Rattle.stl_tree.specs.StlRun.{block_named, is_same_name}
-use Rattle.stl_rules.specs.Accepting.{IsKept, IsText}
-use Rattle.stl_rules.specs.Programs.{block_name, block_of, block_with, body_of, instr_of, ob_number, program_of}
 use Rattle.stl_grammar.specs.RawPrograms.{raw_of, raw_by_tokens, raw_text}
-use Rattle.stl_rules.specs.Stages.{brackets, brackets_at, brackets_from, brackets_in, doubled, doubled_at, doubled_behind, is_among, no_blocks, none_among, open_then, unbuilt, unbuilt_block, unbuilt_instr, unless_there, with_number}
+use Rattle.stl_rules.specs.Accepting.{IsKept, IsText}
+use Rattle.stl_rules.specs.Layouts.{breaks_in}
+use Rattle.stl_rules.specs.Names.{may_have, number_of}
+use Rattle.stl_rules.specs.Programs.{block_of, block_with, body_of, instr_of, name_numbered, program_of, sight_of, symbol_area, symbol_at, symbol_in, symbol_of}
+use Rattle.stl_rules.specs.Raw.{Sight, most_local}
+use Rattle.stl_rules.specs.Stages.{blocks_behind, brackets, brackets_at, brackets_from, brackets_in, dbs_behind, heading_breaks, instr_breaks, is_among, is_built_kind, names, no_blocks, none_among, one_too_many, open_then, symbols_behind, unbuilt, unbuilt_block, unbuilt_data, unbuilt_instr, with_block_number}
 use Rattle.stl_rules.specs.Verdict.{judged_by, verdict}
+use Rattle.stl_rules.specs.VerdictLaws.{VerdictIsAccepted}
 use Rattle.stl_tree.specs.declared.program.Block.{Block}
 use Rattle.stl_tree.specs.declared.program.Instr.{Instr}
 use Rattle.stl_tree.specs.declared.program.Op.{Op}
 use Rattle.stl_tree.specs.declared.program.Op.TheVariants as op
 use Rattle.stl_tree.specs.declared.program.Program.{Program}
+use Rattle.stl_tree.specs.declared.raw.BlockKind.{BlockKind}
+use Rattle.stl_tree.specs.declared.raw.BlockKind.TheVariants as block
 use Rattle.stl_tree.specs.declared.raw.RawBlock.{RawBlock}
+use Rattle.stl_tree.specs.declared.raw.RawProgram.{RawProgram}
+use Rattle.stl_tree.specs.declared.raw.SymbolAddress.{SymbolAddress}
+use Rattle.stl_tree.specs.declared.raw.SymbolAddress.TheVariants as address
 use Rattle.stl_rules.proofs.AcceptingLaws.{agree}
-use Rattle.stl_rules.proofs.ProgramLaws.{Holds, all_made, instr_is, number_of_ob}
-
--- Lists
-
-no_parts : {X : Type 0} (xs ys : List X) → xs ++ ys ≡ [] → (xs ≡ []) × (ys ≡ [])
-no_parts [] ys e = (refl, e)
-no_parts (x ∷ xs) ys e = absurd cc
-
-none_of_all : {X Y : Type 0} (f : X → List Y) (xs : List X) → flat_map f xs ≡ [] → All (λ x. f x ≡ []) xs
-none_of_all f [] e = All-nil (λ x. f x ≡ [])
-none_of_all f (x ∷ xs) e =
-    let parts = no_parts (f x) (flat_map f xs) (sym (flat_map-cons f x xs) ∙ e) in
-    All-cons (λ y. f y ≡ []) x xs parts.0 (none_of_all f xs parts.1)
+use Rattle.stl_rules.proofs.DataBlockLaws.{are_blocks, comes_among, numbers, stays_among}
+use Rattle.stl_rules.proofs.Lists.{all_both, all_made, no_more, no_parts, none_of_all}
+use Rattle.stl_rules.proofs.ProgramLaws.{Holds, instr_is, opened}
 
 -- Brackets
 
-opened : (b : Bool) (line : Line) (n : ℕ) (rest : List Instr) → (if b then [] else broken line TooManyBrackets) ≡ [] → AreNested rest (suc n) →
+bracket_opened : (b : Bool) (line : Line) (n : ℕ) (rest : List Instr) → (if b then [] else broken line TooManyBrackets) ≡ [] → AreNested rest (suc n) →
     WithNumber (if b then Some (suc n) else None) (AreNested rest)
-opened true line n rest e h = h
-opened false line n rest e h = absurd cc
+bracket_opened true line n rest e h = h
+bracket_opened false line n rest e h = absurd cc
 
 nested_at : (line : Line) (o : Op) (n : ℕ) (rest : List Instr) → brackets_at line o n ≡ [] → AreNested rest (open_then o n) → WithNumber (open_behind o n) (AreNested rest)
-nested_at line (op.Bracket c) n rest e h = opened (nat_lt n most_open) line n rest e h
+nested_at line (op.Bracket c) n rest e h = bracket_opened (nat_lt n most_open) line n rest e h
 nested_at line op.Close zero rest e h = absurd cc
 nested_at line op.Close (suc n) rest e h = h
 nested_at line op.BlockEnd zero rest e h = h
@@ -79,13 +80,30 @@ ended : (body : List Instr) (line : Line) → IsEnded (body ++ (record { line = 
 ended [] line = refl
 ended (i ∷ rest) line = ends_behind i (rest ++ (record { line = line; op = op.BlockEnd } ∷ [])) (ended rest line)
 
-operands_of : (raw : RawBlock) → HaveOperands (body_of raw)
-operands_of raw =
-    All-append Holds (filter_map instr_of raw.body) (record { line = raw.end_line; op = op.BlockEnd } ∷ [])
-    (all_made (λ x. Unit {0}) Holds instr_of (λ x h. instr_is x) raw.body (λ k d lt. tt))
+operands_of : (sight : Sight) (raw : RawBlock) → HaveOperands (body_of sight raw)
+operands_of sight raw =
+    All-append Holds (filter_map (instr_of sight) raw.body) (record { line = raw.end_line; op = op.BlockEnd } ∷ [])
+    (all_made (λ x. Unit {0}) Holds (instr_of sight) (λ x h. instr_is sight x) raw.body (no_more raw.body))
     (All-cons Holds (record { line = raw.end_line; op = op.BlockEnd }) [] tt (All-nil Holds))
 
 -- Blocks
+
+-- a block that keeps the rules but for its brackets
+record IsSound (b : Block) : Type 0 where
+  operands : HaveOperands b.body
+  ends : IsEnded b.body
+  number : IsBlockNumber b.name
+  formals : b.formals ≡ []
+
+accepted : (b : Block) → IsSound b → brackets_in b ≡ [] → IsAcceptedBlock b
+accepted b sound e =
+    record {
+      operands = sound.operands;
+      brackets = nested 0 b.body e;
+      ends = sound.ends;
+      number = sound.number;
+      formals = sound.formals;
+    }
 
 -- no block of some is the organization block of a number
 abbrev NoOb : ℕ → List Block → Type 0
@@ -110,117 +128,136 @@ none_named blocks called h =
     past : (n : ℕ) → (if nat_lt n n then Some n else None) ≡ None
     past n = ap (λ t. if t then Some n else None) (le-ltb n n (omega arith))
 
--- a number is among those with one more, and stays there
-
-with_last : (m n : ℕ) (before : List ℕ) → is_among m (before ++ n ∷ []) ≡ is_among m before || (nat_eq m n || false)
-with_last m n before = list_any-append (nat_eq m) before (n ∷ [])
-
-comes_among : (n : ℕ) (before : List ℕ) → is_among n (with_number before (Some n)) ≡ true
-comes_among n before = by (is_among n before) refl
-  where
-    last : (a b : Bool) → b ≡ true → (a || (b || false)) ≡ true
-    last true b h = refl
-    last false true h = refl
-    last false false h = absurd cc
-
-    by : (b : Bool) → is_among n before ≡ b → is_among n (if b then before else before ++ n ∷ []) ≡ true
-    by true e = e
-    by false e = with_last n n before ∙ last (is_among n before) (nat_eq n n) (eq-eqb n n refl)
-
-stays_among : (m : ℕ) (before : List ℕ) (number : Option ℕ) → is_among m before ≡ true → is_among m (with_number before number) ≡ true
-stays_among m before None h = h
-stays_among m before (Some n) h = by (is_among n before)
-  where
-    by : (b : Bool) → is_among m (if b then before else before ++ n ∷ []) ≡ true
-    by true = h
-    by false = with_last m n before ∙ ap (λ b. b || (nat_eq m n || false)) h
-
--- what a block keeps beside the rules of brackets
-abbrev IsSound : Block → Type 0
-IsSound b = HaveOperands b.body × IsEnded b.body × IsBlockNumber b.name × (b.formals ≡ [])
-
 -- what blocks become that stand behind others with these numbers
 record AreKept (before : List ℕ) (blocks : List Block) : Type 0 where
   sound : All IsSound blocks
   apart : AreDistinct blocks
   others : (n : ℕ) → is_among n before ≡ true → NoOb n blocks
 
-other_number : (n m : ℕ) (before : List ℕ) → is_among n before ≡ false → is_among m before ≡ true → n ≡ m → ⊥
-other_number n m before new h e = both_ways (is_among n before) new (subst (λ i. is_among i before ≡ true) (sym e) h)
+-- an organization block with the number of its heading
+abbrev IsOb : ℕ → Block → Type 0
+IsOb n b = (b.name ≡ Ob n) × IsSound b
 
-headed : (raw : RawBlock) (before : List ℕ) (number : Option ℕ) (rest : List Block) → IfSome number IsBlockOpened
-    → doubled_at raw.line before number ≡ [] → AreKept (with_number before number) rest
-    → AreKept before (cons_option (option_map (block_with raw) (option_map (λ n. Ob n) number)) rest)
-headed raw before None rest h e k = k
-headed raw before (Some n) rest h e k = by (is_among n before) refl e
+numbered : (text : RawProgram) (raw : RawBlock) (kind : BlockKind) (n : ℕ) → may_have kind n ≡ true
+    → IfSome (option_map (block_with (sight_of text raw) raw) (name_numbered kind (Ok n))) (IsOb n)
+numbered text raw block.Ob n e = (
+  refl,
+  record {
+    operands = operands_of (sight_of text raw) raw;
+    ends = ended (filter_map (instr_of (sight_of text raw)) raw.body) raw.end_line;
+    number = opened n e;
+    formals = refl;
+  },
+)
+numbered text raw other n e = tt
+
+with_one : (n : ℕ) (before : List ℕ) (o : Option Block) (rest : List Block) → is_among n before ≡ false → IfSome o (IsOb n)
+    → AreKept (with_block_number before (Ok n)) rest → AreKept before (cons_option o rest)
+with_one n before None rest new is k = record { sound = k.sound; apart = k.apart; others = λ m h. k.others m (stays_among m before (Ok n) h) }
+with_one n before (Some b) rest new is k =
+    record {
+      sound = All-cons IsSound b rest is.1 k.sound;
+      apart = (subst (λ name. block_named name rest ≡ None) (sym is.0) (none_named rest (Ob n) (k.others n (comes_among n before))), k.apart);
+      others = λ m h.
+          All-cons (λ (x : Block). is_same_name x.name (Ob m) ≡ false) b rest
+          (subst (λ name. is_same_name name (Ob m) ≡ false) (sym is.0) (ne_eqb n m (other m h)))
+          (k.others m (stays_among m before (Ok n) h));
+    }
   where
-    by : (b : Bool) → is_among n before ≡ b → (if b then broken raw.line DuplicateBlock else []) ≡ [] → AreKept before (block_with raw (Ob n) ∷ rest)
-    by true new f = absurd cc
-    by false new f =
-        record {
-          sound = All-cons IsSound (block_with raw (Ob n)) rest (operands_of raw, ended (filter_map instr_of raw.body) raw.end_line, h, refl) k.sound;
-          apart = (none_named rest (Ob n) (k.others n (comes_among n before)), k.apart);
-          others = λ m g.
-              All-cons (λ (x : Block). is_same_name x.name (Ob m) ≡ false) (block_with raw (Ob n)) rest
-              (ne_eqb n m (other_number n m before new g))
-              (k.others m (stays_among m before (Some n) g));
-        }
+    other : (m : ℕ) → is_among m before ≡ true → n ≡ m → ⊥
+    other m h e = both_ways (is_among n before) new (subst (λ i. is_among i before ≡ true) (sym e) h)
 
-kept : (before : List ℕ) (raws : List RawBlock) → doubled_behind before raws ≡ [] → AreKept before (filter_map block_of raws)
-kept before [] e = record { sound = All-nil IsSound; apart = tt; others = λ n h. All-nil (λ (b : Block). is_same_name b.name (Ob n) ≡ false) }
-kept before (raw ∷ raws) e =
-    let number = ob_number raw.kind raw.name in
-    let parts = no_parts (doubled_at raw.line before number) (doubled_behind (with_number before number) raws) e in
-    headed raw before number (filter_map block_of raws) (number_of_ob raw.kind raw.name) parts.0 (kept (with_number before number) raws parts.1)
+headed : (text : RawProgram) (raw : RawBlock) (before : List ℕ) (r : Result ℕ Reason) (rest : List Block) → heading_breaks raw.kind raw.line before r ≡ []
+    → AreKept (with_block_number before r) rest
+    → AreKept before (cons_option (option_map (block_with (sight_of text raw) raw) (name_numbered raw.kind r)) rest)
+headed text raw before (Err reason) rest e k = absurd cc
+headed text raw before (Ok n) rest e k =
+    let h = numbers raw.kind raw.line before n e in
+    with_one n before (option_map (block_with (sight_of text raw) raw) (name_numbered raw.kind (Ok n))) rest h.1 (numbered text raw raw.kind n h.0) k
 
--- brackets of each block
-brackets_with : (raw : RawBlock) (o : Option BlockName) → brackets_in raw ≡ [] → IfSome (option_map (block_with raw) o) (λ b. AreNested b.body 0)
-brackets_with raw None e = tt
-brackets_with raw (Some name) e = nested 0 (body_of raw) e
+kept : (text : RawProgram) (before : List ℕ) (raws : List RawBlock) → blocks_behind text before raws ≡ [] → AreKept before (filter_map (block_of text) raws)
+kept text before [] e =
+    record { sound = All-nil IsSound; apart = tt; others = λ n h. All-nil (λ (b : Block). is_same_name b.name (Ob n) ≡ false) }
+kept text before (raw ∷ raws) e =
+    let number = number_of text.symbols raw.kind raw.name in
+    let all = no_parts (heading_breaks raw.kind raw.line before number ++ breaks_in most_local (raw.temps ∷ []) ++ flat_map (instr_breaks (sight_of text raw)) raw.body)
+    (blocks_behind text (with_block_number before number) raws) e in
+    let own = no_parts (heading_breaks raw.kind raw.line before number ++ breaks_in most_local (raw.temps ∷ []))
+    (flat_map (instr_breaks (sight_of text raw)) raw.body) all.0 in
+    let head = no_parts (heading_breaks raw.kind raw.line before number) (breaks_in most_local (raw.temps ∷ [])) own.0 in
+    headed text raw before number (filter_map (block_of text) raws) head.0 (kept text (with_block_number before number) raws all.1)
 
-both : (b : Block) → IsSound b → AreNested b.body 0 → IsAcceptedBlock b
-both b sound e = record { operands = sound.0; brackets = e; ends = sound.1; number = sound.2; formals = sound.3 }
+-- There is a block
 
-all_both : (blocks : List Block) → All IsSound blocks → All (λ (b : Block). AreNested b.body 0) blocks → All IsAcceptedBlock blocks
-all_both [] p q = All-nil IsAcceptedBlock
-all_both (b ∷ rest) p q =
-    All-cons IsAcceptedBlock b rest (both b (All-head IsSound b rest p) (All-head (λ (x : Block). AreNested x.body 0) b rest q))
-    (all_both rest (All-tail IsSound b rest p) (All-tail (λ (x : Block). AreNested x.body 0) b rest q))
+some_by : (text : RawProgram) (raw : RawBlock) (kind : BlockKind) (r : Result ℕ Reason) (rest : List Block)
+    → (if is_built_kind kind then [] else broken raw.line (Unsupported NotBuilt)) ≡ [] → heading_breaks kind raw.line [] r ≡ []
+    → cons_option (option_map (block_with (sight_of text raw) raw) (name_numbered kind r)) rest ≢ []
+some_by text raw block.Ob (Ok n) rest e f = λ g. cc
+some_by text raw block.Ob (Err reason) rest e f = absurd cc
+some_by text raw block.Fc r rest e f = absurd cc
+some_by text raw block.Fb r rest e f = absurd cc
+some_by text raw block.Db r rest e f = absurd cc
 
-some_by : (raw : RawBlock) (o : Option BlockName) (rest : List Block) → unless_there raw.line o ≡ [] → cons_option (option_map (block_with raw) o) rest ≢ []
-some_by raw None rest e = absurd cc
-some_by raw (Some name) rest e = λ n. cc
+some_block : (text : RawProgram) (raws : List RawBlock) → flat_map (unbuilt_block text) raws ≡ [] → blocks_behind text [] raws ≡ [] → none_among raws ≡ []
+    → filter_map (block_of text) raws ≢ []
+some_block text [] e f none = absurd cc
+some_block text (raw ∷ rest) e f none =
+    let number = number_of text.symbols raw.kind raw.name in
+    let all = no_parts (unbuilt_block text raw) (flat_map (unbuilt_block text) rest) (sym (flat_map-cons (unbuilt_block text) raw rest) ∙ e) in
+    let built = no_parts (if is_built_kind raw.kind then [] else broken raw.line (Unsupported NotBuilt)) (flat_map (unbuilt_instr (sight_of text raw)) raw.body) all.0 in
+    let behind = no_parts (heading_breaks raw.kind raw.line [] number ++ breaks_in most_local (raw.temps ∷ []) ++ flat_map (instr_breaks (sight_of text raw)) raw.body)
+    (blocks_behind text (with_block_number [] number) rest) f in
+    let own = no_parts (heading_breaks raw.kind raw.line [] number ++ breaks_in most_local (raw.temps ∷ []))
+    (flat_map (instr_breaks (sight_of text raw)) raw.body) behind.0 in
+    let head = no_parts (heading_breaks raw.kind raw.line [] number) (breaks_in most_local (raw.temps ∷ [])) own.0 in
+    some_by text raw raw.kind number (filter_map (block_of text) rest) built.0 head.0
 
-some_block : (blocks : List RawBlock) → flat_map unbuilt_block blocks ≡ [] → none_among blocks ≡ [] → filter_map block_of blocks ≢ []
-some_block [] e none = absurd cc
-some_block (raw ∷ rest) e none =
-    let parts = no_parts (unbuilt_block raw) (flat_map unbuilt_block rest) (sym (flat_map-cons unbuilt_block raw rest) ∙ e) in
-    let named = no_parts (unless_there raw.line (block_name raw.kind raw.name)) (flat_map unbuilt_instr raw.body) parts.0 in
-    some_by raw (block_name raw.kind raw.name) (filter_map block_of rest) named.0
+-- Symbols
+
+symbol_is : (name : List ℕ) (a : SymbolAddress) → IfSome (symbol_at name a) IsSymbol
+symbol_is name (address.At place) = of_area place.area
+  where
+    of_area : (area : AreaName) → IfSome (symbol_in name place (symbol_area area)) IsSymbol
+    of_area area_name.I = tt
+    of_area area_name.Q = tt
+    of_area area_name.M = tt
+    of_area other = tt
+symbol_is name elsewhere = tt
 
 -- Programs
+
+-- a raw program that breaks no rule has an accepted program
+pub raw_accepted : (raw : RawProgram) → unbuilt raw ≡ [] → names raw ≡ [] → brackets (program_of raw) ≡ [] → no_blocks raw ≡ [] → IsAccepted (program_of raw)
+raw_accepted raw built named closed some =
+    let blocks : List Block = filter_map (block_of raw) raw.blocks in
+    let unbuilt_parts = no_parts (flat_map unbuilt_data raw.dbs) (flat_map (unbuilt_block raw) raw.blocks) built in
+    let all = no_parts (symbols_behind [] raw.symbols ++ dbs_behind raw.symbols [] raw.dbs ++ one_too_many (slice_get raw.dbs MOST_BLOCKS)) (blocks_behind raw [] raw.blocks) named in
+    let few = no_parts (symbols_behind [] raw.symbols ++ dbs_behind raw.symbols [] raw.dbs) (one_too_many (slice_get raw.dbs MOST_BLOCKS)) all.0 in
+    let dbs = no_parts (symbols_behind [] raw.symbols) (dbs_behind raw.symbols [] raw.dbs) few.0 in
+    let k = kept raw [] raw.blocks all.1 in
+    record {
+      some = some_block raw raw.blocks unbuilt_parts.1 all.1 some;
+      blocks = all_both IsSound (λ (b : Block). brackets_in b ≡ []) IsAcceptedBlock accepted blocks k.sound (none_of_all brackets_in blocks closed);
+      names = k.apart;
+      dbs = are_blocks raw.symbols raw.dbs dbs.1 few.1;
+      symbols = all_made (λ x. Unit {0}) IsSymbol symbol_of (λ line h. symbol_is line.name line.address) raw.symbols (no_more raw.symbols);
+      instances = refl;
+    }
 
 program_accepted : (end : Line) (tokens : List Token) (program : Program) → IsText end tokens program → IsAccepted program
 program_accepted end tokens program text =
     let raw = raw_of text.items in
-    let behind : List (List Break) = doubled raw ∷ brackets raw ∷ no_blocks raw ∷ [] in
-    let later : All IsKept behind = All-tail IsKept (unbuilt raw) behind text.kept in
-    let built : unbuilt raw ≡ [] = All-head IsKept (unbuilt raw) behind text.kept in
-    let once : doubled raw ≡ [] = All-head IsKept (doubled raw) (brackets raw ∷ no_blocks raw ∷ []) later in
-    let last : All IsKept (brackets raw ∷ no_blocks raw ∷ []) = All-tail IsKept (doubled raw) (brackets raw ∷ no_blocks raw ∷ []) later in
-    let closed : brackets raw ≡ [] = All-head IsKept (brackets raw) (no_blocks raw ∷ []) last in
-    let some : no_blocks raw ≡ [] = All-head IsKept (no_blocks raw) [] (All-tail IsKept (brackets raw) (no_blocks raw ∷ []) last) in
-    let all : AreKept [] (filter_map block_of raw.blocks) = kept [] raw.blocks once in
-    let nested_all = all_made (λ b. brackets_in b ≡ []) (λ (b : Block). AreNested b.body 0) block_of (λ b e. brackets_with b (block_name b.kind b.name) e) raw.blocks (none_of_all brackets_in raw.blocks closed) in
-    let made : IsAccepted (program_of raw) = record {
-      some = some_block raw.blocks built some;
-      blocks = all_both (filter_map block_of raw.blocks) all.sound nested_all;
-      names = all.apart;
-      dbs = record { ascend = tt; few = omega arith; sized = All-nil IsSized };
-      symbols = All-nil IsSymbol;
-      instances = refl;
-    } in
-    subst IsAccepted text.program_is made
+    let on_names : List (List Break) = names raw ∷ brackets (program_of raw) ∷ no_blocks raw ∷ [] in
+    let on_brackets : List (List Break) = brackets (program_of raw) ∷ no_blocks raw ∷ [] in
+    let on_all : List (List Break) = no_blocks raw ∷ [] in
+    let after : All IsKept on_names = All-tail IsKept (unbuilt raw) on_names text.kept in
+    let later : All IsKept on_brackets = All-tail IsKept (names raw) on_brackets after in
+    let last : All IsKept on_all = All-tail IsKept (brackets (program_of raw)) on_all later in
+    let built : unbuilt raw ≡ [] = All-head IsKept (unbuilt raw) on_names text.kept in
+    let named : names raw ≡ [] = All-head IsKept (names raw) on_brackets after in
+    let closed : brackets (program_of raw) ≡ [] = All-head IsKept (brackets (program_of raw)) on_all later in
+    let some : no_blocks raw ≡ [] = All-head IsKept (no_blocks raw) [] last in
+    subst IsAccepted text.program_is (raw_accepted raw built named closed some)
 
 -- the program of a raw program that is read keeps the rules
 by_tokens : (end : Line) (cut : Result (List Token) Rejection) (program : Program) → judged_by (raw_by_tokens end cut) ≡ Ok program → IsAccepted program

@@ -14,6 +14,8 @@ use Rattle.stl_grammar.specs.Items.{is_not_built, item_at}
 use Rattle.stl_statements.specs.Mnemonics.{mnemonic_at, mnemonic_named}
 use Rattle.stl_rules.specs.Programs.{op_of}
 use Rattle.stl_rules.specs.Raw.{given}
+use Rattle.stl_rules.specs.DeclarationRules.{scope_breaks}
+use Rattle.stl_rules.specs.TooLarge.{first_large}
 use Rattle.stl_statements.specs.Statements.{instruction_of}
 use Rattle.stl_grammar.specs.RawPrograms.{raw_program, raw_text}
 use Rattle.stl_rules.specs.Verdict.{judged, verdict}
@@ -53,7 +55,7 @@ numbers :
     ≡ accepted
     (constant 5 ∷ constant 32767 ∷ constant 32768 ∷ constant 65535 ∷ constant 0 ∷ constant 4294967295 ∷ constant 2147483647
     ∷ constant 2147483648 ∷ [])
-unfolding verdict judged raw_text raw_program item_at is_not_built instruction_of tokens_of mnemonic_at mnemonic_named op_of given out-RawOperand Carrier.out
+unfolding verdict judged raw_text raw_program item_at is_not_built instruction_of tokens_of mnemonic_at mnemonic_named op_of given out-RawOperand Carrier.out scope_breaks first_large
 numbers = refl
 
 patterns :
@@ -61,7 +63,7 @@ patterns :
     ≡ accepted
     (constant 255 ∷ constant 32769 ∷ constant 2147483649 ∷ constant 2 ∷ constant 258 ∷ constant 4278190852 ∷ constant 65 ∷ constant 16706
     ∷ constant 4275011 ∷ constant 1094861636 ∷ [])
-unfolding verdict judged raw_text raw_program item_at is_not_built instruction_of tokens_of mnemonic_at mnemonic_named op_of given out-RawOperand Carrier.out
+unfolding verdict judged raw_text raw_program item_at is_not_built instruction_of tokens_of mnemonic_at mnemonic_named op_of given out-RawOperand Carrier.out scope_breaks first_large
 patterns = refl
 
 places :
@@ -70,7 +72,7 @@ places :
     (op.Load (load.At (Direct area.M 5 0) width.Byte) ∷ op.Load (load.At (Direct area.M 8190 0) width.Word)
     ∷ op.Load (load.At (Direct area.I 2044 0) width.Dword) ∷ op.Transfer (Direct area.Q 2047 0) width.Byte
     ∷ op.Transfer (Direct area.M 1 0) width.Dword ∷ op.LoadStw ∷ op.TransferStw ∷ [])
-unfolding verdict judged raw_text raw_program item_at is_not_built instruction_of tokens_of mnemonic_at mnemonic_named op_of given out-RawOperand Carrier.out
+unfolding verdict judged raw_text raw_program item_at is_not_built instruction_of tokens_of mnemonic_at mnemonic_named op_of given out-RawOperand Carrier.out scope_breaks first_large
 places = refl
 
 with_numbers :
@@ -78,7 +80,7 @@ with_numbers :
     ≡ accepted
     (op.AddWord (pos 5) ∷ op.AddWord (negsuc 4) ∷ op.AddDword (negsuc 4) ∷ op.Inc 255 ∷ op.Dec 0 ∷ op.Shift shift.Slw (Some 15)
     ∷ op.Shift shift.Sld (Some 32) ∷ op.Shift shift.Rrd None ∷ op.Nop ∷ [])
-unfolding verdict judged raw_text raw_program item_at is_not_built instruction_of tokens_of mnemonic_at mnemonic_named op_of given out-RawOperand Carrier.out
+unfolding verdict judged raw_text raw_program item_at is_not_built instruction_of tokens_of mnemonic_at mnemonic_named op_of given out-RawOperand Carrier.out scope_breaks first_large
 with_numbers = refl
 
 word_logic :
@@ -86,7 +88,7 @@ word_logic :
     ≡ accepted
     (op.Logic logic.Aw (Some 15) ∷ op.Logic logic.Ow (Some 65535) ∷ op.Logic logic.Xow (Some 1) ∷ op.Logic logic.Ad (Some 15)
     ∷ op.Logic logic.Od (Some 4294967295) ∷ op.Logic logic.Xod (Some 1) ∷ op.Logic logic.Aw None ∷ op.Logic logic.Ad (Some 4294967295) ∷ [])
-unfolding verdict judged raw_text raw_program item_at is_not_built instruction_of tokens_of mnemonic_at mnemonic_named op_of given out-RawOperand Carrier.out
+unfolding verdict judged raw_text raw_program item_at is_not_built instruction_of tokens_of mnemonic_at mnemonic_named op_of given out-RawOperand Carrier.out scope_breaks first_large
 word_logic = refl
 
 alone :
@@ -94,107 +96,107 @@ alone :
     ≡ accepted
     (op.Arith arith.AddI ∷ op.Arith arith.DivD ∷ op.Arith arith.Mod ∷ op.Compare test.Eq width.Word ∷ op.Compare test.Le width.Dword
     ∷ op.Unary unary.Bti ∷ op.Unary unary.Negd ∷ op.Rlda ∷ op.Rrda ∷ op.Tak ∷ op.Push ∷ op.Pop ∷ [])
-unfolding verdict judged raw_text raw_program item_at is_not_built instruction_of tokens_of mnemonic_at mnemonic_named op_of given out-RawOperand Carrier.out
+unfolding verdict judged raw_text raw_program item_at is_not_built instruction_of tokens_of mnemonic_at mnemonic_named op_of given out-RawOperand Carrier.out scope_breaks first_large
 alone = refl
 
 -- what is left out, by its kind, and what is refused
 
 timer_of_fr : verdict (with_body (codes "FR T 1;")) ≡ refused 3 (Unsupported kind.Timer)
-unfolding verdict judged raw_text raw_program item_at is_not_built instruction_of tokens_of mnemonic_at mnemonic_named op_of given out-RawOperand Carrier.out
+unfolding verdict judged raw_text raw_program item_at is_not_built instruction_of tokens_of mnemonic_at
 timer_of_fr = refl
 
 counter_of_lc : verdict (with_body (codes "LC C1;")) ≡ refused 3 (Unsupported kind.Counter)
-unfolding verdict judged raw_text raw_program item_at is_not_built instruction_of tokens_of mnemonic_at mnemonic_named op_of given out-RawOperand Carrier.out
+unfolding verdict judged raw_text raw_program item_at is_not_built instruction_of tokens_of mnemonic_at
 counter_of_lc = refl
 
 timer_loaded : verdict (with_body (codes "L T 1;")) ≡ refused 3 (Unsupported kind.Timer)
-unfolding verdict judged raw_text raw_program item_at is_not_built instruction_of tokens_of mnemonic_at mnemonic_named op_of given out-RawOperand Carrier.out
+unfolding verdict judged raw_text raw_program item_at is_not_built instruction_of tokens_of mnemonic_at
 timer_loaded = refl
 
 peripheral_stored : verdict (with_body (codes "T PQW [MW 0];")) ≡ refused 3 (Unsupported kind.Peripheral)
-unfolding verdict judged raw_text raw_program item_at is_not_built instruction_of tokens_of mnemonic_at mnemonic_named op_of given out-RawOperand Carrier.out
+unfolding verdict judged raw_text raw_program item_at is_not_built instruction_of tokens_of mnemonic_at
 peripheral_stored = refl
 
 counter_constant : verdict (with_body (codes "SLW C#5;")) ≡ refused 3 (Unsupported kind.Counter)
-unfolding verdict judged raw_text raw_program item_at is_not_built instruction_of tokens_of mnemonic_at mnemonic_named op_of given out-RawOperand Carrier.out
+unfolding verdict judged raw_text raw_program item_at is_not_built instruction_of tokens_of mnemonic_at
 counter_constant = refl
 
 name_pointer : verdict (with_body (codes "AD P##x;")) ≡ refused 3 (Unsupported kind.NamePointer)
-unfolding verdict judged raw_text raw_program item_at is_not_built instruction_of tokens_of mnemonic_at mnemonic_named op_of given out-RawOperand Carrier.out
+unfolding verdict judged raw_text raw_program item_at is_not_built instruction_of tokens_of mnemonic_at
 name_pointer = refl
 
 time : verdict (with_body (codes "+ S5T#1s;")) ≡ refused 3 (Unsupported kind.DateTime)
-unfolding verdict judged raw_text raw_program item_at is_not_built instruction_of tokens_of mnemonic_at mnemonic_named op_of given out-RawOperand Carrier.out
+unfolding verdict judged raw_text raw_program item_at is_not_built instruction_of tokens_of mnemonic_at
 time = refl
 
 real : verdict (with_body (codes "L -1.5E+3 foo;")) ≡ refused 3 (Unsupported kind.Real)
-unfolding verdict judged raw_text raw_program item_at is_not_built instruction_of tokens_of mnemonic_at mnemonic_named op_of given out-RawOperand Carrier.out
+unfolding verdict judged raw_text raw_program item_at is_not_built instruction_of tokens_of mnemonic_at
 real = refl
 
 no_real : verdict (with_body (codes "L 1e5;")) ≡ refused 3 (Unsupported kind.NotBuilt)
-unfolding verdict judged raw_text raw_program item_at is_not_built instruction_of tokens_of mnemonic_at mnemonic_named op_of given out-RawOperand Carrier.out
+unfolding verdict judged raw_text raw_program item_at is_not_built instruction_of tokens_of mnemonic_at
 no_real = refl
 
 length : verdict (with_body (codes "L DBLG;")) ≡ refused 3 (Unsupported kind.DbLength)
-unfolding verdict judged raw_text raw_program item_at is_not_built instruction_of tokens_of mnemonic_at mnemonic_named op_of given out-RawOperand Carrier.out
+unfolding verdict judged raw_text raw_program item_at is_not_built instruction_of tokens_of mnemonic_at
 length = refl
 
 length_stored : verdict (with_body (codes "T DBLG;")) ≡ refused 3 (Unsupported kind.NotBuilt)
-unfolding verdict judged raw_text raw_program item_at is_not_built instruction_of tokens_of mnemonic_at mnemonic_named op_of given out-RawOperand Carrier.out
+unfolding verdict judged raw_text raw_program item_at is_not_built instruction_of tokens_of mnemonic_at
 length_stored = refl
 
 accumulators : verdict (with_body (codes "ENT;")) ≡ refused 3 (Unsupported kind.Accumulators)
-unfolding verdict judged raw_text raw_program item_at is_not_built instruction_of tokens_of mnemonic_at mnemonic_named op_of given out-RawOperand Carrier.out
+unfolding verdict judged raw_text raw_program item_at is_not_built instruction_of tokens_of mnemonic_at
 accumulators = refl
 
 past_a_word : verdict (with_body (codes "L 32768;")) ≡ refused 3 (Unsupported kind.NotBuilt)
-unfolding verdict judged raw_text raw_program item_at is_not_built instruction_of tokens_of mnemonic_at mnemonic_named op_of given out-RawOperand Carrier.out
+unfolding verdict judged raw_text raw_program item_at is_not_built instruction_of tokens_of mnemonic_at
 past_a_word = refl
 
 blank_behind_the_minus : verdict (with_body (codes "L - 5;")) ≡ refused 3 (Unsupported kind.NotBuilt)
-unfolding verdict judged raw_text raw_program item_at is_not_built instruction_of tokens_of mnemonic_at mnemonic_named op_of given out-RawOperand Carrier.out
+unfolding verdict judged raw_text raw_program item_at is_not_built instruction_of tokens_of mnemonic_at
 blank_behind_the_minus = refl
 
 plus_sign : verdict (with_body (codes "L +5;")) ≡ refused 3 (Unsupported kind.NotBuilt)
-unfolding verdict judged raw_text raw_program item_at is_not_built instruction_of tokens_of mnemonic_at mnemonic_named op_of given out-RawOperand Carrier.out
+unfolding verdict judged raw_text raw_program item_at is_not_built instruction_of tokens_of mnemonic_at
 plus_sign = refl
 
 bar_in_hexadecimal : verdict (with_body (codes "L W#16#1_0;")) ≡ refused 3 (Unsupported kind.NotBuilt)
-unfolding verdict judged raw_text raw_program item_at is_not_built instruction_of tokens_of mnemonic_at mnemonic_named op_of given out-RawOperand Carrier.out
+unfolding verdict judged raw_text raw_program item_at is_not_built instruction_of tokens_of mnemonic_at
 bar_in_hexadecimal = refl
 
 no_character : verdict (with_body (codes "L '';")) ≡ refused 3 (Unsupported kind.NotBuilt)
-unfolding verdict judged raw_text raw_program item_at is_not_built instruction_of tokens_of mnemonic_at mnemonic_named op_of given out-RawOperand Carrier.out
+unfolding verdict judged raw_text raw_program item_at is_not_built instruction_of tokens_of mnemonic_at
 no_character = refl
 
 sixteen_steps : verdict (with_body (codes "SLW 16;")) ≡ refused 3 (Unsupported kind.NotBuilt)
-unfolding verdict judged raw_text raw_program item_at is_not_built instruction_of tokens_of mnemonic_at mnemonic_named op_of given out-RawOperand Carrier.out
+unfolding verdict judged raw_text raw_program item_at is_not_built instruction_of tokens_of mnemonic_at
 sixteen_steps = refl
 
 hexadecimal_added : verdict (with_body (codes "+ W#16#5;")) ≡ refused 3 (Unsupported kind.NotBuilt)
-unfolding verdict judged raw_text raw_program item_at is_not_built instruction_of tokens_of mnemonic_at mnemonic_named op_of given out-RawOperand Carrier.out
+unfolding verdict judged raw_text raw_program item_at is_not_built instruction_of tokens_of mnemonic_at
 hexadecimal_added = refl
 
 byte_in_a_word : verdict (with_body (codes "AW B#16#5;")) ≡ refused 3 (Unsupported kind.NotBuilt)
-unfolding verdict judged raw_text raw_program item_at is_not_built instruction_of tokens_of mnemonic_at mnemonic_named op_of given out-RawOperand Carrier.out
+unfolding verdict judged raw_text raw_program item_at is_not_built instruction_of tokens_of mnemonic_at
 byte_in_a_word = refl
 
 word_past_the_area : verdict (with_body (codes "L MW 8191;")) ≡ refused 3 (Unsupported kind.NotBuilt)
-unfolding verdict judged raw_text raw_program item_at is_not_built instruction_of tokens_of mnemonic_at mnemonic_named op_of given out-RawOperand Carrier.out
+unfolding verdict judged raw_text raw_program item_at is_not_built instruction_of tokens_of mnemonic_at
 word_past_the_area = refl
 
 bit_loaded : verdict (with_body (codes "L M 0.0;")) ≡ refused 3 (Unsupported kind.NotBuilt)
-unfolding verdict judged raw_text raw_program item_at is_not_built instruction_of tokens_of mnemonic_at mnemonic_named op_of given out-RawOperand Carrier.out
+unfolding verdict judged raw_text raw_program item_at is_not_built instruction_of tokens_of mnemonic_at
 bit_loaded = refl
 
 constant_stored : verdict (with_body (codes "T 5;")) ≡ refused 3 (Unsupported kind.NotBuilt)
-unfolding verdict judged raw_text raw_program item_at is_not_built instruction_of tokens_of mnemonic_at mnemonic_named op_of given out-RawOperand Carrier.out
+unfolding verdict judged raw_text raw_program item_at is_not_built instruction_of tokens_of mnemonic_at
 constant_stored = refl
 
 timer_added : verdict (with_body (codes "+ T 1;")) ≡ refused 3 (Unsupported kind.NotBuilt)
-unfolding verdict judged raw_text raw_program item_at is_not_built instruction_of tokens_of mnemonic_at mnemonic_named op_of given out-RawOperand Carrier.out
+unfolding verdict judged raw_text raw_program item_at is_not_built instruction_of tokens_of mnemonic_at
 timer_added = refl
 
 pointer : verdict (with_body (codes "L P#0.0;")) ≡ refused 3 (Unsupported kind.NotBuilt)
-unfolding verdict judged raw_text raw_program item_at is_not_built instruction_of tokens_of mnemonic_at mnemonic_named op_of given out-RawOperand Carrier.out
+unfolding verdict judged raw_text raw_program item_at is_not_built instruction_of tokens_of mnemonic_at
 pointer = refl

@@ -1,12 +1,14 @@
 -- The instructions of a program have their operands, and its blocks their numbers.
-use Rattle.std.proofs.Common.{◌≡◌, ℕ, ◌<◌, ◌^◌, ◌&&◌, List, [], ◌∷◌, Bool, true, false, not, if◌then◌else◌, Option, Some, None, refl, arith}
-use Rattle.std.specs.Prelude.{All, IfSome, nat_le, nat_lt, option_map}
-use Rattle.std.specs.List.{cons_option, filter_map}
+use Rattle.std.proofs.Common.{◌≡◌, ℕ, ◌<◌, ◌+◌, ◌^◌, List, [], ◌∷◌, Bool, true, false, not, if◌then◌else◌, Option, Some, None, Result, Ok, Err, refl, arith}
+use Rattle.std.specs.Prelude.{IfSome, nat_le, nat_lt, option_map}
 use Rattle.std.proofs.lemmas.Int.{ints}
-use Rattle.std.proofs.lemmas.Bool.{and_parts, leb-true, ltb-true, not-true}
-use Rattle.std.proofs.lemmas.List.Elements.{All-cons, All-nil, All-head, All-tail}
-use Rattle.memory_areas.specs.Access.{is_byte_in, is_unaligned}
+use Rattle.std.proofs.lemmas.Bool.{and_parts, le-leb, leb-true, ltb-true, not-true}
+use Rattle.memory_areas.specs.Access.{bytes_wide, is_byte_in, is_unaligned}
+use Rattle.memory_areas.specs.declared.place.AreaName.{AreaName}
 use Rattle.memory_areas.specs.declared.place.AreaName.TheVariants as area
+use Rattle.memory_areas.specs.declared.sizes.TheConstants.{INPUT_BYTES, LOCAL_BYTES, MARKER_BYTES, OUTPUT_BYTES}
+use Rattle.s7_base.specs.declared.reason.Reason.{Reason}
+use Rattle.s7_base.specs.declared.reason.Reason.TheVariants.{UnknownName}
 use Rattle.s7_base.specs.SignedNumbers.{is_over}
 use Rattle.s7_base.specs.declared.check.Check.{Check}
 use Rattle.s7_base.specs.declared.check.Check.TheVariants as check
@@ -15,10 +17,13 @@ use Rattle.s7_base.specs.declared.word.Width.TheVariants as width
 use Rattle.status_word.specs.declared.test.Test.{Test}
 use Rattle.stl_tree.specs.Accepted.{HasOperand, IsBlockOpened, IsComparison, IsNumberWidth, IsOperand}
 use Rattle.stl_tree.specs.Accumulators.{bits_wide, signed_part}
-use Rattle.stl_statements.specs.Constants.{fits}
+use Rattle.stl_statements.specs.Constants.{fits, value_in}
 use Rattle.stl_statements.specs.Mnemonics.{mnemonic_named}
-use Rattle.stl_rules.specs.Programs.{adding, alone, ob_number, checked, combining, comparing, instr_of, is_compared, loading, on_bit, on_number, op_by, op_of, op_with, opening, shifting, storing, unchecked, value_in, with_number, within}
-use Rattle.stl_rules.specs.Raw.{given, given_in, given_number, is_block_number, is_placed, operand_at}
+use Rattle.stl_rules.specs.Programs.{adding, alone, checked, combining, comparing, instr_of, is_compared, loading, on_bit, on_number, op_by, op_of, op_with, opening, shifting, storing, unchecked, with_number, within}
+use Rattle.stl_rules.specs.Extents.{width_of}
+use Rattle.stl_rules.specs.Names.{db_numbered, may_have, number_of, symbol_named}
+use Rattle.stl_rules.specs.Paths.{component_in}
+use Rattle.stl_rules.specs.Raw.{Sight, are_refused, given, given_component, given_in, given_in_data, given_in_kind, given_number, given_open, given_path, given_place, given_symbol, is_placed, most_in_block, most_local, operand_at, place_of_kind}
 use Rattle.stl_rules.specs.declared.given.Given.{Given}
 use Rattle.stl_rules.specs.declared.given.Given.TheVariants as behind
 use Rattle.stl_tree.specs.Shifts.{most_steps}
@@ -34,17 +39,24 @@ use Rattle.stl_tree.specs.declared.program.Op.{Op}
 use Rattle.stl_tree.specs.declared.program.Op.TheVariants as op
 use Rattle.stl_tree.specs.declared.program.Operand.{Operand}
 use Rattle.stl_tree.specs.declared.program.Operand.TheVariants.{Direct}
-use Rattle.stl_tree.specs.declared.raw.BlockKind.{BlockKind}
+use Rattle.stl_rules.specs.declared.laid.Component.{Component}
 use Rattle.stl_tree.specs.declared.raw.BlockKind.TheVariants as block
+use Rattle.stl_tree.specs.declared.raw.Declaration.{Declaration}
+use Rattle.stl_tree.specs.declared.raw.ElemType.{ElemType}
+use Rattle.stl_tree.specs.declared.raw.PathStep.{PathStep}
 use Rattle.stl_tree.specs.declared.raw.RawActual.{RawActual}
 use Rattle.stl_tree.specs.declared.raw.RawCall.{RawCall}
+use Rattle.stl_tree.specs.declared.raw.RawData.{RawData}
+use Rattle.stl_tree.specs.declared.raw.RawDataKind.{RawDataKind}
+use Rattle.stl_tree.specs.declared.raw.RawDataKind.TheVariants as data_kind
 use Rattle.stl_tree.specs.declared.raw.RawInstr.{RawInstr}
-use Rattle.stl_tree.specs.declared.raw.RawName.{RawName}
-use Rattle.stl_tree.specs.declared.raw.RawName.TheVariants.{Name, Number}
+use Rattle.stl_tree.specs.declared.raw.RawName.TheVariants as raw_name
 use Rattle.stl_tree.specs.declared.raw.RawOp.{RawOp}
 use Rattle.stl_tree.specs.declared.raw.RawOperand.{RawOperand, RawOperand-F, out-RawOperand}
 use Rattle.stl_tree.specs.declared.raw.RawOperand.TheOpen as layer
 use Rattle.stl_tree.specs.declared.raw.RawPlace.{RawPlace}
+use Rattle.stl_tree.specs.declared.raw.SymbolAddress.{SymbolAddress}
+use Rattle.stl_tree.specs.declared.raw.SymbolAddress.TheVariants as address
 
 -- Operands
 
@@ -54,41 +66,95 @@ IsGiven (behind.Db n) = IsBlockOpened n
 IsGiven (behind.Di n) = IsBlockOpened n
 IsGiven more = Unit {0}
 
--- a number that is one of a data block
-numbered : (n : ℕ) → is_block_number n ≡ true → IsBlockOpened n
-numbered n e = let p = and_parts (nat_le 1 n) (nat_le n 65535) e in (leb-true 1 n p.0, leb-true n 65535 p.1)
+-- a number that a data block may have
+pub opened : (n : ℕ) → may_have block.Db n ≡ true → IsBlockOpened n
+opened n e = let p = and_parts (nat_le 1 n) (nat_le n 65535) e in (leb-true 1 n p.0, leb-true n 65535 p.1)
 
-in_area : (place : RawPlace) → is_in_area place ≡ true → (is_byte_in place.area place.width place.byte ≡ true) × (is_unaligned place.width place.bit ≡ false)
-in_area place e =
+-- a byte of any area is one that a data block may have
+in_block : (a : AreaName) (w : Width) (byte : ℕ) → is_byte_in a w byte ≡ true → is_byte_in area.Db w byte ≡ true
+in_block area.I w byte e = le-leb byte 65535 (omega (arith, leb-true (byte + bytes_wide w) INPUT_BYTES e))
+in_block area.Q w byte e = le-leb byte 65535 (omega (arith, leb-true (byte + bytes_wide w) OUTPUT_BYTES e))
+in_block area.M w byte e = le-leb byte 65535 (omega (arith, leb-true (byte + bytes_wide w) MARKER_BYTES e))
+in_block area.L w byte e = le-leb byte 65535 (omega (arith, leb-true (byte + bytes_wide w) LOCAL_BYTES e))
+in_block area.Db w byte e = e
+in_block area.Di w byte e = e
+
+lies_in : (place : RawPlace) → is_in_area place ≡ true → IsOperand place.width (Direct place.area place.byte place.bit)
+lies_in place e =
     let p = and_parts (is_byte_in place.area place.width place.byte) (not (is_unaligned place.width place.bit)) e in
     (p.0, not-true (is_unaligned place.width place.bit) p.1)
 
-tested : (place : RawPlace) (block : Option ℕ) → (b : Bool) → is_placed place block ≡ b → IsGiven (if b then operand_at place block else behind.Other)
-tested place None true e = in_area place e
-tested place (Some n) true e =
-    let there : RawPlace = record place { area = area.Db } in
-    let p = and_parts (is_block_number n) (is_in_area there) e in
-    let q = in_area there p.1 in
-    (numbered n p.0, q.0, q.1)
-tested place block false e = tt
+placed_is : (place : RawPlace) (number : Option ℕ) → is_placed place number ≡ true → IsGiven (operand_at place number)
+placed_is place None e = lies_in place e
+placed_is place (Some n) e =
+    let p = and_parts (is_in_area place) (may_have block.Db n) e in
+    let there = lies_in place p.0 in
+    (opened n p.1, in_block place.area place.width place.byte there.0, there.1)
 
-number_is : (make : ℕ → Given) → ((n : ℕ) → IsBlockOpened n → IsGiven (make n)) → (name : RawName) → IsGiven (given_number make name)
-number_is make h (Number n) = by (is_block_number n) refl
+place_is : (place : RawPlace) → IsGiven (given_place place)
+place_is place = by (is_placed place place.block) refl
   where
-    by : (b : Bool) → is_block_number n ≡ b → IsGiven (if b then make n else behind.Other)
-    by true e = h n (numbered n e)
+    by : (b : Bool) → is_placed place place.block ≡ b → IsGiven (if b then operand_at place place.block else behind.Outside place.width)
+    by true e = placed_is place place.block e
     by false e = tt
-number_is make h (Name name) = tt
 
-layer_is : (o : RawOperand-F RawOperand RawActual RawCall) → IsGiven (given_in o)
-layer_is (layer.At place) = tested place place.block (is_placed place place.block) refl
-layer_is (layer.OpenDb name) = number_is (λ n. behind.Db n) (λ n h. h) name
-layer_is (layer.OpenDi name) = number_is (λ n. behind.Di n) (λ n h. h) name
-layer_is more = tt
+symbol_is : (o : Option SymbolAddress) → IsGiven (given_symbol o)
+symbol_is (Some (address.At place)) = place_is place
+symbol_is other = tt
 
-given_is : (o : RawOperand) → IsGiven (given o)
+kind_is : (number : Option ℕ) (name : AreaName) (at : Component) (o : Option ElemType) → IsGiven (place_of_kind number name at o)
+kind_is number name at None = tt
+kind_is number name at (Some e) =
+    place_is (record { block = number; area = name; width = width_of e; byte = at.byte; bit = at.bit })
+
+component_is : (number : Option ℕ) (name : AreaName) (o : Option Component) → IsGiven (given_component number name o)
+component_is number name None = tt
+component_is number name (Some at) = kind_is number name at at.kind
+
+path_is : (limit : ℕ) (number : Option ℕ) (name : AreaName) (decls : List Declaration) (path : List PathStep)
+    → IsGiven (given_path limit number name decls path)
+path_is limit number name decls path = by (are_refused limit decls)
+  where
+    by : (b : Bool) → IsGiven (if b then behind.Unjudged else given_component number name (component_in (decls ∷ []) path))
+    by true = tt
+    by false = component_is number name (component_in (decls ∷ []) path)
+
+in_kind_is : (n : ℕ) (path : List PathStep) (kind : RawDataKind) → IsGiven (given_in_kind n path kind)
+in_kind_is n path (data_kind.Own decls) = path_is most_in_block (Some n) area.Db decls path
+in_kind_is n path (data_kind.Instance name) = tt
+
+in_data_is : (n : ℕ) (path : List PathStep) (o : Option RawData) → IsGiven (given_in_data n path o)
+in_data_is n path None = tt
+in_data_is n path (Some d) = in_kind_is n path d.kind
+
+number_is : (make : ℕ → Given) → ((n : ℕ) → IsGiven (make n)) → (r : Result ℕ Reason) → IsGiven (given_number make r)
+number_is make h (Ok n) = h n
+number_is make h (Err UnknownName) = tt
+number_is make h (Err reason) = tt
+
+open_is : (make : ℕ → Given) → ((n : ℕ) → IsBlockOpened n → IsGiven (make n)) → (n : ℕ) → IsGiven (given_open make n)
+open_is make h n = by (may_have block.Db n) refl
+  where
+    by : (b : Bool) → may_have block.Db n ≡ b → IsGiven (if b then make n else behind.NoNumber)
+    by true e = h n (opened n e)
+    by false e = tt
+
+layer_is : (sight : Sight) (o : RawOperand-F RawOperand RawActual RawCall) → IsGiven (given_in sight o)
+layer_is sight (layer.At place) = place_is place
+layer_is sight (layer.Named name) = symbol_is (symbol_named sight.symbols name)
+layer_is sight (layer.InBlock name path) =
+    number_is (λ n. given_in_data n path (db_numbered sight.symbols sight.dbs n))
+    (λ n. in_data_is n path (db_numbered sight.symbols sight.dbs n)) (number_of sight.symbols block.Db (raw_name.Name name))
+layer_is sight (layer.Local path) = path_is most_local None area.L sight.temps path
+layer_is sight (layer.OpenDb name) =
+    number_is (given_open (λ n. behind.Db n)) (open_is (λ n. behind.Db n) (λ n h. h)) (number_of sight.symbols block.Db name)
+layer_is sight (layer.OpenDi name) =
+    number_is (given_open (λ n. behind.Di n)) (open_is (λ n. behind.Di n) (λ n h. h)) (number_of sight.symbols block.Db name)
+layer_is sight more = tt
+
+given_is : (sight : Sight) (o : RawOperand) → IsGiven (given sight o)
 unfolding given
-given_is o = layer_is (out-RawOperand o)
+given_is sight o = layer_is sight (out-RawOperand o)
 
 -- Instructions
 
@@ -131,11 +197,6 @@ loading_is (behind.At x w) k = on_number_is (λ y u. op.Load (load.At y u)) (λ 
 loading_is behind.Stw k = tt
 loading_is (behind.Constant c) k = within_is 32 c.value (λ value. op.Load (load.Constant value)) (λ h. h)
 loading_is more k = tt
-
-opening_is : (g : Given) → IsGiven g → MayBe (opening g)
-opening_is (behind.Db n) h = h
-opening_is (behind.Di n) h = h
-opening_is more h = tt
 
 storing_is : (g : Given) → IsGiven g → MayBe (storing g)
 storing_is (behind.At x w) k = on_number_is op.Transfer (λ y u n i. (n, i)) x w k
@@ -183,6 +244,11 @@ shifting_is row (behind.Constant c) = by (nat_le c.value (most_steps row)) refl
     by true e = leb-true c.value (most_steps row) e
     by false e = tt
 shifting_is row more = tt
+
+opening_is : (g : Given) → IsGiven g → MayBe (opening g)
+opening_is (behind.Db n) h = h
+opening_is (behind.Di n) h = h
+opening_is more h = tt
 
 combining_is : (row : LogicRow) (g : Given) → MayBe (combining row g)
 combining_is row behind.Nothing = tt
@@ -235,9 +301,9 @@ by_is : (what : Option Mnemonic) (g : Given) → IsGiven g → MayBe (op_by what
 by_is None g h = tt
 by_is (Some what) g h = with_is what g h
 
-op_is : (raw : RawOp) → MayBe (op_of raw)
+op_is : (sight : Sight) (raw : RawOp) → MayBe (op_of sight raw)
 unfolding op_of
-op_is raw = by_is (mnemonic_named raw.mnemonic) (given raw.operand) (given_is raw.operand)
+op_is sight raw = by_is (mnemonic_named raw.mnemonic) (given sight raw.operand) (given_is sight raw.operand)
 
 abbrev pub Holds : Instr → Type 0
 Holds i = HasOperand i.op
@@ -247,27 +313,5 @@ on_line_is raw None h = tt
 on_line_is raw (Some o) h = h
 
 -- an instruction of a program has its operand
-pub instr_is : (raw : RawInstr) → IfSome (instr_of raw) Holds
-instr_is raw = on_line_is raw (op_of raw.op) (op_is raw.op)
-
--- Blocks
-
--- an organization block has a number that one may have
-pub number_of_ob : (kind : BlockKind) (name : RawName) → IfSome (ob_number kind name) IsBlockOpened
-number_of_ob block.Ob (Number n) = by (nat_le 1 n && nat_le n 65535) refl
-  where
-    by : (b : Bool) → nat_le 1 n && nat_le n 65535 ≡ b → IfSome (if b then Some n else None) IsBlockOpened
-    by true e = let p = and_parts (nat_le 1 n) (nat_le n 65535) e in (leb-true 1 n p.0, leb-true n 65535 p.1)
-    by false e = tt
-number_of_ob kind name = tt
-
--- Lists
-
-put : {Y : Type 0} (P : Y → Type 0) (o : Option Y) (rest : List Y) → IfSome o P → All P rest → All P (cons_option o rest)
-put P None rest h more = more
-put P (Some y) rest h more = All-cons P y rest h more
-
--- what holds of all that is made of the items of a list
-pub all_made : {X Y : Type 0} (Q : X → Type 0) (P : Y → Type 0) (make : X → Option Y) → ((x : X) → Q x → IfSome (make x) P) → (xs : List X) → All Q xs → All P (filter_map make xs)
-all_made Q P make made [] h = All-nil P
-all_made Q P make made (x ∷ xs) h = put P (make x) (filter_map make xs) (made x (All-head Q x xs h)) (all_made Q P make made xs (All-tail Q x xs h))
+pub instr_is : (sight : Sight) (raw : RawInstr) → IfSome (instr_of sight raw) Holds
+instr_is sight raw = on_line_is raw (op_of sight raw.op) (op_is sight raw.op)

@@ -4,7 +4,7 @@ use Rattle.std.specs.Int.{next_multiple_of}
 use Rattle.std.specs.List.{flat_map, fold}
 use Rattle.s7_base.specs.declared.word.Width.{Width}
 use Rattle.s7_base.specs.declared.word.Width.TheVariants as width
-use Rattle.stl_rules.specs.Programs.{value_in}
+use Rattle.stl_statements.specs.Constants.{value_in}
 use Rattle.stl_tree.specs.declared.raw.Constant.{Constant}
 use Rattle.stl_tree.specs.declared.raw.Declaration.{Declaration, Declaration-F, para-Declaration}
 use Rattle.stl_tree.specs.declared.raw.DeclType.{DeclType, para-DeclType}

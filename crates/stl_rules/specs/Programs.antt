@@ -1,20 +1,26 @@
 -- The program of a raw program: its instructions by what their mnemonics are and their operands, and the
 -- names of its blocks.
-use Rattle.std.specs.Prelude.{ℕ, ◌^◌, Bool, false, ◌&&◌, nat_le, nat_lt, if◌then◌else◌, List, [], ◌∷◌, ◌++◌, Option, Some, None, option_map}
+use Rattle.std.specs.Prelude.{ℕ, ◌^◌, Bool, false, nat_le, nat_lt, if◌then◌else◌, List, [], ◌∷◌, ◌++◌, Option, Some, None, option_map, Result, Ok}
 use Rattle.std.specs.List.{filter_map}
 use Rattle.memory_areas.specs.declared.call.BlockName.{BlockName}
 use Rattle.memory_areas.specs.declared.call.BlockName.TheVariants.{Ob}
+use Rattle.memory_areas.specs.declared.place.Area.{Area}
+use Rattle.memory_areas.specs.declared.place.Area.TheVariants as area
+use Rattle.memory_areas.specs.declared.place.AreaName.{AreaName}
+use Rattle.memory_areas.specs.declared.place.AreaName.TheVariants as name
 use Rattle.s7_base.specs.declared.check.Check.{Check}
 use Rattle.s7_base.specs.declared.check.Check.TheVariants as check
-use Rattle.s7_base.specs.SignedNumbers.{pattern}
+use Rattle.s7_base.specs.declared.reason.Reason.{Reason}
 use Rattle.s7_base.specs.declared.word.Width.{Width}
 use Rattle.s7_base.specs.declared.word.Width.TheVariants as width
 use Rattle.status_word.specs.declared.test.Test.{Test}
 use Rattle.stl_tree.specs.Accumulators.{bits_wide, signed_part}
 use Rattle.stl_tree.specs.Arithmetic.{is_comparison}
-use Rattle.stl_statements.specs.Constants.{fits}
+use Rattle.stl_statements.specs.Constants.{fits, value_in}
 use Rattle.stl_statements.specs.Mnemonics.{mnemonic_named}
-use Rattle.stl_rules.specs.Raw.{given}
+use Rattle.stl_rules.specs.DataBlocks.{data_of, in_order}
+use Rattle.stl_rules.specs.Names.{number_of}
+use Rattle.stl_rules.specs.Raw.{Sight, given}
 use Rattle.stl_tree.specs.Shifts.{most_steps}
 use Rattle.stl_tree.specs.WordLogic.{width_of as logic_width}
 use Rattle.stl_tree.specs.declared.accumulator.LogicRow.{LogicRow}
@@ -32,15 +38,17 @@ use Rattle.stl_tree.specs.declared.program.Op.TheVariants as op
 use Rattle.stl_tree.specs.declared.program.OpenArg.TheVariants as open_arg
 use Rattle.stl_tree.specs.declared.program.Operand.{Operand}
 use Rattle.stl_tree.specs.declared.program.Program.{Program}
-use Rattle.stl_tree.specs.declared.raw.Constant.{Constant}
+use Rattle.stl_tree.specs.declared.program.Symbol.{Symbol}
 use Rattle.stl_tree.specs.declared.raw.BlockKind.{BlockKind}
 use Rattle.stl_tree.specs.declared.raw.BlockKind.TheVariants as block
 use Rattle.stl_tree.specs.declared.raw.RawBlock.{RawBlock}
 use Rattle.stl_tree.specs.declared.raw.RawInstr.{RawInstr}
-use Rattle.stl_tree.specs.declared.raw.RawName.{RawName}
-use Rattle.stl_tree.specs.declared.raw.RawName.TheVariants.{Number}
 use Rattle.stl_tree.specs.declared.raw.RawOp.{RawOp}
+use Rattle.stl_tree.specs.declared.raw.RawPlace.{RawPlace}
 use Rattle.stl_tree.specs.declared.raw.RawProgram.{RawProgram}
+use Rattle.stl_tree.specs.declared.raw.SymbolAddress.{SymbolAddress}
+use Rattle.stl_tree.specs.declared.raw.SymbolAddress.TheVariants as address
+use Rattle.stl_tree.specs.declared.raw.SymbolLine.{SymbolLine}
 
 -- Instructions
 
@@ -124,11 +132,6 @@ opening (behind.Db n) = Some (op.OpenDb (open_arg.Number n))
 opening (behind.Di n) = Some (op.OpenDi (open_arg.Number n))
 opening more = None
 
--- the value of a constant in a width: a plain number in a double word has its sign extended
-abbrev pub value_in : Width → Constant → ℕ
-value_in width.Dword c = if c.signed then pattern 32 (signed_part width.Word c.value) else c.value
-value_in w c = c.value
-
 -- word logic
 abbrev pub combining : LogicRow → Given → Option Op
 combining row behind.Nothing = Some (op.Logic row None)
@@ -179,37 +182,70 @@ abbrev pub op_by : Option Mnemonic → Given → Option Op
 op_by None g = None
 op_by (Some what) g = op_with what g
 
--- the instruction that a raw one is, if it is built
-unfoldable pub op_of : RawOp → Option Op
-op_of raw = op_by (mnemonic_named raw.mnemonic) (given raw.operand)
+-- the instruction that a raw one is, if it is one
+unfoldable pub op_of : Sight → RawOp → Option Op
+op_of sight raw = op_by (mnemonic_named raw.mnemonic) (given sight raw.operand)
 
 -- an instruction on its line
-abbrev pub instr_of : RawInstr → Option Instr
-instr_of raw = option_map (λ what. record { line = raw.line; op = what }) (op_of raw.op)
+abbrev pub instr_of : Sight → RawInstr → Option Instr
+instr_of sight raw = option_map (λ what. record { line = raw.line; op = what }) (op_of sight raw.op)
 
 -- Blocks
 
--- the number of an organization block, from 1 to 65535
-abbrev pub ob_number : BlockKind → RawName → Option ℕ
-ob_number block.Ob (Number n) = if nat_le 1 n && nat_le n 65535 then Some n else None
-ob_number unbuilt name = None
+-- what names mean in a block of a text
+abbrev pub sight_of : RawProgram → RawBlock → Sight
+sight_of text raw = record { symbols = text.symbols; dbs = text.dbs; temps = raw.temps }
 
--- the name of a block by its kind and what stands in its heading, if it is built
-abbrev pub block_name : BlockKind → RawName → Option BlockName
-block_name kind name = option_map (λ n. Ob n) (ob_number kind name)
+-- the name of a block by its kind and its number, if it is built
+abbrev pub name_numbered : BlockKind → Result ℕ Reason → Option BlockName
+name_numbered block.Ob (Ok n) = Some (Ob n)
+name_numbered unbuilt number = None
+
+abbrev pub block_name : List SymbolLine → RawBlock → Option BlockName
+block_name symbols raw = name_numbered raw.kind (number_of symbols raw.kind raw.name)
 
 -- the instructions of a raw block, the last of them that of its end word
-abbrev pub body_of : RawBlock → List Instr
-body_of raw = filter_map instr_of raw.body ++ (record { line = raw.end_line; op = op.BlockEnd } ∷ [])
+abbrev pub body_of : Sight → RawBlock → List Instr
+body_of sight raw = filter_map (instr_of sight) raw.body ++ (record { line = raw.end_line; op = op.BlockEnd } ∷ [])
 
 -- a block by its name
-abbrev pub block_with : RawBlock → BlockName → Block
-block_with raw name = record { name = name; line = raw.line; formals = []; body = body_of raw }
+abbrev pub block_with : Sight → RawBlock → BlockName → Block
+block_with sight raw name = record { name = name; line = raw.line; formals = []; body = body_of sight raw }
 
 -- the block that a raw one is
-abbrev pub block_of : RawBlock → Option Block
-block_of raw = option_map (block_with raw) (block_name raw.kind raw.name)
+abbrev pub block_of : RawProgram → RawBlock → Option Block
+block_of text raw = option_map (block_with (sight_of text raw) raw) (block_name text.symbols raw)
 
--- the program of a raw program in which all is built
+-- Symbols
+
+abbrev pub symbol_in : List ℕ → RawPlace → Option Area → Option Symbol
+symbol_in name place None = None
+symbol_in name place (Some a) =
+    Some (record { name = name; place = record { area = a; byte = place.byte; bit = place.bit }; width = place.width })
+
+-- the area of a symbol's place
+abbrev pub symbol_area : AreaName → Option Area
+symbol_area name.I = Some area.I
+symbol_area name.Q = Some area.Q
+symbol_area name.M = Some area.M
+symbol_area other = None
+
+-- the symbol of a line, where its address is a place
+abbrev pub symbol_at : List ℕ → SymbolAddress → Option Symbol
+symbol_at name (address.At place) = symbol_in name place (symbol_area place.area)
+symbol_at name elsewhere = None
+
+abbrev pub symbol_of : SymbolLine → Option Symbol
+symbol_of line = symbol_at line.name line.address
+
+-- The program
+
+-- the program of a raw program that breaks no rule
 abbrev pub program_of : RawProgram → Program
-program_of raw = record { dbs = []; instances = []; blocks = filter_map block_of raw.blocks; symbols = [] }
+program_of raw =
+    record {
+      dbs = in_order (filter_map (data_of raw.symbols) raw.dbs);
+      instances = [];
+      blocks = filter_map (block_of raw) raw.blocks;
+      symbols = filter_map symbol_of raw.symbols;
+    }

@@ -1,52 +1,131 @@
--- What stands in a raw operand.
-use Rattle.std.specs.Prelude.{ℕ, Bool, ◌&&◌, nat_le, if◌then◌else◌, Option, Some, None}
+-- What stands in a raw operand, given what names mean.
+use Rattle.std.specs.Prelude.{ℕ, Bool, ◌&&◌, if◌then◌else◌, List, [], ◌∷◌, Option, Some, None, Result, Ok, Err}
+use Rattle.std.specs.Option.{is_some}
+use Rattle.memory_areas.specs.declared.place.AreaName.{AreaName}
 use Rattle.memory_areas.specs.declared.place.AreaName.TheVariants as area
-use Rattle.stl_statements.specs.Statements.{is_in_area}
+use Rattle.s7_base.specs.Broken.{first_of_all}
+use Rattle.s7_base.specs.declared.reason.Reason.{Reason}
+use Rattle.s7_base.specs.declared.reason.Reason.TheVariants.{UnknownName}
+use Rattle.stl_rules.specs.Names.{db_numbered, may_have, number_of, symbol_named}
 use Rattle.stl_rules.specs.declared.given.Given.{Given}
 use Rattle.stl_rules.specs.declared.given.Given.TheVariants as behind
+use Rattle.stl_statements.specs.Statements.{is_in_area}
 use Rattle.stl_tree.specs.declared.program.Operand.TheVariants.{Direct, Opened}
+use Rattle.stl_tree.specs.declared.raw.BlockKind.TheVariants as block
+use Rattle.stl_tree.specs.declared.raw.Declaration.{Declaration}
+use Rattle.stl_tree.specs.declared.raw.ElemType.{ElemType}
+use Rattle.stl_tree.specs.declared.raw.PathStep.{PathStep}
 use Rattle.stl_tree.specs.declared.raw.RawActual.{RawActual}
 use Rattle.stl_tree.specs.declared.raw.RawCall.{RawCall}
-use Rattle.stl_tree.specs.declared.raw.RawName.{RawName}
-use Rattle.stl_tree.specs.declared.raw.RawName.TheVariants.{Name, Number}
+use Rattle.stl_tree.specs.declared.raw.RawData.{RawData}
+use Rattle.stl_tree.specs.declared.raw.RawDataKind.{RawDataKind}
+use Rattle.stl_tree.specs.declared.raw.RawDataKind.TheVariants as data_kind
+use Rattle.stl_tree.specs.declared.raw.RawName.TheVariants as raw_name
 use Rattle.stl_tree.specs.declared.raw.RawOperand.{RawOperand, RawOperand-F, out-RawOperand}
 use Rattle.stl_tree.specs.declared.raw.RawOperand.TheOpen as layer
 use Rattle.stl_tree.specs.declared.raw.RawPlace.{RawPlace}
+use Rattle.stl_tree.specs.declared.raw.SymbolAddress.{SymbolAddress}
+use Rattle.stl_tree.specs.declared.raw.SymbolAddress.TheVariants as address
+use Rattle.stl_tree.specs.declared.raw.SymbolLine.{SymbolLine}
+use Rattle.stl_rules.specs.Extents.{width_of}
+use Rattle.stl_rules.specs.Layouts.{breaks_in}
+use Rattle.stl_rules.specs.Paths.{component_in}
+use Rattle.stl_rules.specs.declared.laid.Component.{Component}
 
--- the number of a data block
-abbrev pub is_block_number : ℕ → Bool
-is_block_number n = nat_le 1 n && nat_le n 65535
+-- what names mean in a block: the symbol table, the data blocks, and the temporaries of the block
+pub record Sight : Type 0 where
+  pub symbols : List SymbolLine
+  pub dbs : List RawData
+  pub temps : List Declaration
 
--- a place lies in its area; behind the number of a data block, that is the block
+-- Written places
+
+-- the number of a data block stands before the place, or none does
 abbrev pub is_placed : RawPlace → Option ℕ → Bool
 is_placed place None = is_in_area place
-is_placed place (Some n) = is_block_number n && is_in_area (record place { area = area.Db })
+is_placed place (Some n) = is_in_area place && may_have block.Db n
 
 abbrev pub operand_at : RawPlace → Option ℕ → Given
 operand_at place None = behind.At (Direct place.area place.byte place.bit) place.width
 operand_at place (Some n) = behind.At (Opened n place.byte place.bit) place.width
 
--- a written place in its area
+-- a written place, in its area or outside it
 abbrev pub given_place : RawPlace → Given
-given_place place = if is_placed place place.block then operand_at place place.block else behind.Other
+given_place place =
+    if is_placed place place.block then operand_at place place.block else behind.Outside place.width
 
--- what is opened by its number
-abbrev pub given_number : (ℕ → Given) → RawName → Given
-given_number make (Number n) = if is_block_number n then make n else behind.Other
-given_number make (Name name) = behind.Other
+-- Names
 
-abbrev pub given_in : RawOperand-F RawOperand RawActual RawCall → Given
-given_in layer.Missing = behind.Nothing
-given_in (layer.At place) = given_place place
-given_in (layer.Flag test) = behind.Flag test
-given_in layer.Stw = behind.Stw
-given_in layer.DbNo = behind.DbNo
-given_in layer.DiNo = behind.DiNo
-given_in (layer.Constant constant) = behind.Constant constant
-given_in (layer.OpenDb name) = given_number (λ n. behind.Db n) name
-given_in (layer.OpenDi name) = given_number (λ n. behind.Di n) name
-given_in unbuilt = behind.Other
+-- a symbol as an operand
+abbrev pub given_symbol : Option SymbolAddress → Given
+given_symbol None = behind.Unknown
+given_symbol (Some (address.At place)) = given_place place
+given_symbol (Some elsewhere) = behind.Unfit
+
+-- a component as the place that it lies at, in an area or in the data block of a number; a whole ARRAY or STRUCT is
+-- no operand
+abbrev pub place_of_kind : Option ℕ → AreaName → Component → Option ElemType → Given
+place_of_kind number name at None = behind.Unfit
+place_of_kind number name at (Some e) =
+    given_place (record { block = number; area = name; width = width_of e; byte = at.byte; bit = at.bit })
+
+abbrev pub given_component : Option ℕ → AreaName → Option Component → Given
+given_component number name None = behind.Unknown
+given_component number name (Some at) = place_of_kind number name at at.kind
+
+-- declarations that break a rule within a limit; a path into them is not judged
+abbrev pub are_refused : ℕ → List Declaration → Bool
+are_refused limit decls = is_some (first_of_all (breaks_in limit (decls ∷ [])))
+
+-- what a path names in declarations
+abbrev pub given_path : ℕ → Option ℕ → AreaName → List Declaration → List PathStep → Given
+given_path limit number name decls path =
+    if are_refused limit decls then behind.Unjudged else given_component number name (component_in (decls ∷ []) path)
+
+-- the most bytes of a data block, and of local data
+abbrev pub most_in_block : ℕ
+most_in_block = 16384
+
+abbrev pub most_local : ℕ
+most_local = 256
+
+abbrev pub given_in_kind : ℕ → List PathStep → RawDataKind → Given
+given_in_kind n path (data_kind.Own decls) = given_path most_in_block (Some n) area.Db decls path
+given_in_kind n path (data_kind.Instance name) = behind.Other
+
+abbrev pub given_in_data : ℕ → List PathStep → Option RawData → Given
+given_in_data n path None = behind.Unknown
+given_in_data n path (Some d) = given_in_kind n path d.kind
+
+-- by the number of a block; where there is none, a name that is not declared, or one of another kind
+abbrev pub given_number : (ℕ → Given) → Result ℕ Reason → Given
+given_number make (Ok n) = make n
+given_number make (Err UnknownName) = behind.Unknown
+given_number make (Err reason) = behind.Unfit
+
+-- OPN: a number that a data block may have
+abbrev pub given_open : (ℕ → Given) → ℕ → Given
+given_open make n = if may_have block.Db n then make n else behind.NoNumber
+
+-- Operands
+
+abbrev pub given_in : Sight → RawOperand-F RawOperand RawActual RawCall → Given
+given_in sight layer.Missing = behind.Nothing
+given_in sight (layer.At place) = given_place place
+given_in sight (layer.Named name) = given_symbol (symbol_named sight.symbols name)
+given_in sight (layer.InBlock name path) =
+    given_number (λ n. given_in_data n path (db_numbered sight.symbols sight.dbs n))
+    (number_of sight.symbols block.Db (raw_name.Name name))
+given_in sight (layer.Local path) = given_path most_local None area.L sight.temps path
+given_in sight (layer.Flag test) = behind.Flag test
+given_in sight layer.Stw = behind.Stw
+given_in sight layer.DbNo = behind.DbNo
+given_in sight layer.DiNo = behind.DiNo
+given_in sight (layer.Constant constant) = behind.Constant constant
+given_in sight (layer.OpenDb name) = given_number (given_open (λ n. behind.Db n)) (number_of sight.symbols block.Db name)
+given_in sight (layer.OpenDi name) = given_number (given_open (λ n. behind.Di n)) (number_of sight.symbols block.Db name)
+given_in sight unbuilt = behind.Other
 
 -- what stands behind the mnemonic of a raw operand
-unfoldable pub given : RawOperand → Given
-given operand = given_in (out-RawOperand operand)
+unfoldable pub given : Sight → RawOperand → Given
+given sight operand = given_in sight (out-RawOperand operand)

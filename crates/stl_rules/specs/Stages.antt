@@ -1,64 +1,202 @@
 -- The rules of a raw program, stage by stage: each of them gives all that breaks it.
-use Rattle.std.specs.Prelude.{ℕ, zero, suc, Bool, nat_eq, nat_lt, if◌then◌else◌, List, [], ◌∷◌, ◌++◌, Option, Some, None}
+use Rattle.std.specs.Prelude.{ℕ, zero, suc, Bool, true, false, not, ◌==◌, ◌&&◌, nat_lt, if◌then◌else◌, List, [], ◌∷◌, ◌++◌, map, slice_get, Option, Some, None, Result, Ok, Err}
 use Rattle.std.specs.List.{flat_map, list_any}
+use Rattle.memory_areas.specs.declared.place.AreaName.TheVariants as area
+use Rattle.memory_areas.specs.declared.sizes.TheConstants.{MOST_BLOCKS}
 use Rattle.nesting_stack.specs.Entries.{most_open}
 use Rattle.s7_base.specs.Broken.{broken, first_of_all}
 use Rattle.s7_base.specs.declared.broken.Break.{Break}
 use Rattle.s7_base.specs.declared.reason.Kind.TheVariants.{NotBuilt}
 use Rattle.s7_base.specs.declared.reason.Line.{Line}
-use Rattle.s7_base.specs.declared.reason.Reason.TheVariants.{BracketMissing, BracketOpen, DuplicateBlock, NoBlocks, TooManyBrackets, Unsupported}
-use Rattle.stl_rules.specs.Programs.{block_name, body_of, ob_number, op_of}
+use Rattle.s7_base.specs.declared.reason.Reason.{Reason}
+use Rattle.s7_base.specs.declared.reason.Reason.TheVariants.{BadAddress, BadOperand, BracketMissing, BracketOpen, DuplicateBlock, DuplicateName, NoBlocks, TooLarge, TooManyBrackets, UnknownName, Unsupported}
+use Rattle.stl_rules.specs.Names.{may_have, number_of}
+use Rattle.stl_rules.specs.Programs.{op_by, program_of, sight_of}
+use Rattle.stl_rules.specs.Raw.{Sight, are_refused, given, most_in_block, most_local}
+use Rattle.stl_rules.specs.declared.given.Given.{Given}
+use Rattle.stl_rules.specs.declared.given.Given.TheVariants as behind
+use Rattle.stl_statements.specs.Mnemonics.{mnemonic_named}
+use Rattle.stl_statements.specs.Statements.{is_in_area}
+use Rattle.stl_statements.specs.declared.mnemonic.Mnemonic.{Mnemonic}
+use Rattle.stl_statements.specs.declared.mnemonic.Mnemonic.TheVariants as is
+use Rattle.stl_tree.specs.declared.program.Block.{Block}
 use Rattle.stl_tree.specs.declared.program.Instr.{Instr}
 use Rattle.stl_tree.specs.declared.program.Op.{Op}
 use Rattle.stl_tree.specs.declared.program.Op.TheVariants as op
+use Rattle.stl_tree.specs.declared.program.Operand.{Operand}
+use Rattle.stl_tree.specs.declared.program.Operand.TheVariants.{Direct}
+use Rattle.stl_tree.specs.declared.program.Program.{Program}
+use Rattle.stl_tree.specs.declared.raw.BlockKind.{BlockKind}
+use Rattle.stl_tree.specs.declared.raw.BlockKind.TheVariants as block
+use Rattle.stl_tree.specs.declared.raw.Constant.{Constant}
+use Rattle.stl_tree.specs.declared.raw.Declaration.{Declaration}
+use Rattle.stl_tree.specs.declared.raw.ElemType.{ElemType}
 use Rattle.stl_tree.specs.declared.raw.RawBlock.{RawBlock}
+use Rattle.stl_tree.specs.declared.raw.RawData.{RawData}
+use Rattle.stl_tree.specs.declared.raw.RawDataKind.{RawDataKind}
+use Rattle.stl_tree.specs.declared.raw.RawDataKind.TheVariants as data_kind
+use Rattle.stl_tree.specs.declared.raw.RawInitial.{RawInitial}
 use Rattle.stl_tree.specs.declared.raw.RawInstr.{RawInstr}
 use Rattle.stl_tree.specs.declared.raw.RawProgram.{RawProgram}
+use Rattle.stl_tree.specs.declared.raw.SymbolAddress.{SymbolAddress}
+use Rattle.stl_tree.specs.declared.raw.SymbolAddress.TheVariants as address
+use Rattle.stl_tree.specs.declared.raw.SymbolLine.{SymbolLine}
+use Rattle.stl_rules.specs.Extents.{width_of}
+use Rattle.stl_rules.specs.Layouts.{breaks_in}
+use Rattle.stl_rules.specs.Paths.{component_in}
+use Rattle.stl_rules.specs.DeclarationRules.{fits_width, is_named, key_of, with_name}
+use Rattle.stl_rules.specs.declared.laid.Component.{Component}
 
 -- What is not built: a form that the reader takes and that has no place in a program yet. The program of a
 -- raw program leaves such forms out, so that no rule of a later stage is judged without this one.
 
--- what must be there is not built
-abbrev pub unless_there : {X : Type 0} → Line → Option X → List Break
-unless_there line None = broken line (Unsupported NotBuilt)
-unless_there line (Some x) = []
+-- a mnemonic is one of an instruction
+abbrev pub is_instruction : Option Mnemonic → Bool
+is_instruction None = false
+is_instruction (Some is.TimerOrCounter) = false
+is_instruction (Some is.Later) = false
+is_instruction (Some (is.LeftOut kind)) = false
+is_instruction (Some what) = true
+
+-- what stands behind it is built
+abbrev pub is_built_operand : Given → Bool
+is_built_operand behind.Other = false
+is_built_operand g = true
 
 -- a raw instruction that is none of a program
-abbrev pub unbuilt_instr : RawInstr → List Break
-unbuilt_instr raw = unless_there raw.line (op_of raw.op)
+abbrev pub unbuilt_instr : Sight → RawInstr → List Break
+unbuilt_instr sight raw =
+    if is_instruction (mnemonic_named raw.op.mnemonic) && is_built_operand (given sight raw.op.operand)
+    then []
+    else broken raw.line (Unsupported NotBuilt)
+
+-- organization blocks alone are built
+abbrev pub is_built_kind : BlockKind → Bool
+is_built_kind block.Ob = true
+is_built_kind kind = false
 
 -- a raw block that is none of a program, or has an instruction that is none
-abbrev pub unbuilt_block : RawBlock → List Break
-unbuilt_block raw = unless_there raw.line (block_name raw.kind raw.name) ++ flat_map unbuilt_instr raw.body
+abbrev pub unbuilt_block : RawProgram → RawBlock → List Break
+unbuilt_block text raw =
+    (if is_built_kind raw.kind then [] else broken raw.line (Unsupported NotBuilt))
+    ++ flat_map (unbuilt_instr (sight_of text raw)) raw.body
+
+-- a data block has declarations of its own
+abbrev pub is_own : RawDataKind → Bool
+is_own (data_kind.Own decls) = true
+is_own (data_kind.Instance name) = false
+
+-- an instance is not built
+abbrev pub unbuilt_data : RawData → List Break
+unbuilt_data d = if is_own d.kind then [] else broken d.line (Unsupported NotBuilt)
 
 abbrev pub unbuilt : RawProgram → List Break
-unbuilt raw = flat_map unbuilt_block raw.blocks
+unbuilt raw = flat_map unbuilt_data raw.dbs ++ flat_map (unbuilt_block raw) raw.blocks
 
--- Numbers of blocks
+-- Names, blocks and layout
+
+-- a rule that is broken on a line, where something holds
+abbrev pub broken_if : Bool → Line → Reason → List Break
+broken_if true line rule = broken line rule
+broken_if false line rule = []
+
+-- the symbol table: a name stands once, and an address is one of its area or a number of its kind
+abbrev pub is_address : SymbolAddress → Bool
+is_address (address.At place) = is_in_area place
+is_address (address.Block kind n) = may_have kind n
+is_address elsewhere = true
+
+abbrev pub symbols_behind : List (List ℕ) → List SymbolLine → List Break
+symbols_behind before [] = []
+symbols_behind before (line ∷ lines) =
+    broken_if (is_named (key_of line.name) before) line.line DuplicateName
+    ++ broken_if (not (is_address line.address)) line.line BadAddress
+    ++ symbols_behind (with_name (key_of line.name) before) lines
 
 -- a number is one of some
 abbrev pub is_among : ℕ → List ℕ → Bool
-is_among n numbers = list_any (nat_eq n) numbers
+is_among n numbers = list_any (λ m. m == n) numbers
 
--- a block with the number of one before it
-abbrev pub doubled_at : Line → List ℕ → Option ℕ → List Break
-doubled_at line before None = []
-doubled_at line before (Some n) = if is_among n before then broken line DuplicateBlock else []
+-- a heading: its name is declared for a block of its kind, its number is one of its kind, and no block of its kind
+-- has it before
+abbrev pub heading_breaks : BlockKind → Line → List ℕ → Result ℕ Reason → List Break
+heading_breaks kind line before (Err reason) = broken line reason
+heading_breaks kind line before (Ok n) =
+    broken_if (not (may_have kind n)) line BadAddress ++ broken_if (is_among n before) line DuplicateBlock
 
 -- the numbers before, with one more
-abbrev pub with_number : List ℕ → Option ℕ → List ℕ
-with_number before None = before
-with_number before (Some n) = if is_among n before then before else before ++ n ∷ []
+abbrev pub with_block_number : List ℕ → Result ℕ Reason → List ℕ
+with_block_number before (Ok n) = before ++ n ∷ []
+with_block_number before (Err reason) = before
 
--- blocks behind others with these numbers
-abbrev pub doubled_behind : List ℕ → List RawBlock → List Break
-doubled_behind before [] = []
-doubled_behind before (raw ∷ raws) =
-    let number = ob_number raw.kind raw.name in
-    doubled_at raw.line before number ++ doubled_behind (with_number before number) raws
+-- a constant is a value of a component, if that has an elementary type
+abbrev pub fits_kind : Constant → Option ElemType → Bool
+fits_kind c None = false
+fits_kind c (Some e) = fits_width (width_of e) c
 
-abbrev pub doubled : RawProgram → List Break
-doubled raw = doubled_behind [] raw.blocks
+-- an initial value: its path names a component of the declarations, which has the width of the constant
+abbrev pub value_breaks : Constant → Option Component → List Reason
+value_breaks c None = UnknownName ∷ []
+value_breaks c (Some at) = if fits_kind c at.kind then [] else BadOperand ∷ []
+
+abbrev pub initial_breaks : List Declaration → RawInitial → List Break
+initial_breaks decls v = map (λ reason. record { line = v.line; rule = reason }) (value_breaks v.value (component_in (decls ∷ []) v.path))
+
+-- the declarations and the initial values of a data block; a path into declarations that break a rule breaks none
+abbrev pub content_breaks : List RawInitial → RawDataKind → List Break
+content_breaks values (data_kind.Own decls) =
+    breaks_in most_in_block (decls ∷ [])
+    ++ (if are_refused most_in_block decls then [] else flat_map (initial_breaks decls) values)
+content_breaks values (data_kind.Instance name) = []
+
+-- data blocks, where others have these numbers before
+abbrev pub dbs_behind : List SymbolLine → List ℕ → List RawData → List Break
+dbs_behind symbols before [] = []
+dbs_behind symbols before (d ∷ dbs) =
+    let number = number_of symbols block.Db d.name in
+    heading_breaks block.Db d.line before number ++ content_breaks d.initial d.kind
+    ++ dbs_behind symbols (with_block_number before number) dbs
+
+-- a data block too many, whatever their numbers are
+abbrev pub one_too_many : Option RawData → List Break
+one_too_many None = []
+one_too_many (Some d) = broken d.line TooLarge
+
+-- what an instruction breaks: its operand is of a width or kind that its mnemonic has
+abbrev pub kind_breaks : Option Op → List Reason
+kind_breaks None = BadOperand ∷ []
+kind_breaks (Some o) = []
+
+-- any place, for the question which width a mnemonic has
+abbrev pub some_place : Operand
+some_place = Direct area.M 0 0
+
+abbrev pub operand_breaks : Option Mnemonic → Given → List Reason
+operand_breaks what behind.Unknown = UnknownName ∷ []
+operand_breaks what behind.Unfit = BadOperand ∷ []
+operand_breaks what behind.Unjudged = []
+operand_breaks what behind.NoNumber = BadAddress ∷ []
+operand_breaks what behind.Other = []
+operand_breaks what (behind.Outside w) = kind_breaks (op_by what (behind.At some_place w)) ++ BadAddress ∷ []
+operand_breaks what g = kind_breaks (op_by what g)
+
+abbrev pub instr_breaks : Sight → RawInstr → List Break
+instr_breaks sight raw =
+    map (λ reason. record { line = raw.line; rule = reason }) (operand_breaks (mnemonic_named raw.op.mnemonic) (given sight raw.op.operand))
+
+-- blocks, where others have these numbers before: headings, temporaries and instructions
+abbrev pub blocks_behind : RawProgram → List ℕ → List RawBlock → List Break
+blocks_behind text before [] = []
+blocks_behind text before (raw ∷ raws) =
+    let number = number_of text.symbols raw.kind raw.name in
+    heading_breaks raw.kind raw.line before number ++ breaks_in most_local (raw.temps ∷ [])
+    ++ flat_map (instr_breaks (sight_of text raw)) raw.body
+    ++ blocks_behind text (with_block_number before number) raws
+
+abbrev pub names : RawProgram → List Break
+names raw =
+    symbols_behind [] raw.symbols ++ dbs_behind raw.symbols [] raw.dbs ++ one_too_many (slice_get raw.dbs MOST_BLOCKS)
+    ++ blocks_behind raw [] raw.blocks
 
 -- Brackets
 
@@ -82,11 +220,11 @@ abbrev pub brackets_from : ℕ → List Instr → List Break
 brackets_from n [] = []
 brackets_from n (instr ∷ rest) = brackets_at instr.line instr.op n ++ brackets_from (open_then instr.op n) rest
 
-abbrev pub brackets_in : RawBlock → List Break
-brackets_in raw = brackets_from 0 (body_of raw)
+abbrev pub brackets_in : Block → List Break
+brackets_in block = brackets_from 0 block.body
 
-abbrev pub brackets : RawProgram → List Break
-brackets raw = flat_map brackets_in raw.blocks
+abbrev pub brackets : Program → List Break
+brackets program = flat_map brackets_in program.blocks
 
 -- The text as a whole
 
@@ -102,7 +240,7 @@ no_blocks raw = none_among raw.blocks
 
 -- all that a raw program breaks, a list a stage
 abbrev pub stages : RawProgram → List (List Break)
-stages raw = unbuilt raw ∷ doubled raw ∷ brackets raw ∷ no_blocks raw ∷ []
+stages raw = unbuilt raw ∷ names raw ∷ brackets (program_of raw) ∷ no_blocks raw ∷ []
 
 -- the first of some broken rules, or else one of another stage
 abbrev pub or_later : Option Break → Option Break → Option Break

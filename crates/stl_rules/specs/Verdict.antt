@@ -1,12 +1,13 @@
 -- The verdict on a source text: its program, or the line and the reason of the first broken rule. First all
 -- tokens, then all items, then the rules of the raw program, stage by stage.
 use Rattle.std.specs.Prelude.{ℕ, List, Option, Some, None, Result, Ok, Err}
+use Rattle.s7_base.specs.Broken.{first_of_all}
 use Rattle.s7_base.specs.declared.broken.Break.{Break}
 use Rattle.s7_base.specs.declared.reason.Rejection.{Rejection}
 use Rattle.s7_base.specs.declared.reason.Rejection.TheVariants.{Refused}
 use Rattle.stl_rules.specs.Programs.{program_of}
 use Rattle.stl_grammar.specs.RawPrograms.{raw_text}
-use Rattle.stl_rules.specs.Stages.{first_broken, stages}
+use Rattle.stl_rules.specs.Stages.{first_broken, names, stages}
 use Rattle.stl_tree.specs.declared.program.Program.{Program}
 use Rattle.stl_tree.specs.declared.raw.RawProgram.{RawProgram}
 
@@ -14,6 +15,10 @@ use Rattle.stl_tree.specs.declared.raw.RawProgram.{RawProgram}
 abbrev pub answered : RawProgram → Option Break → Result Program Rejection
 answered raw None = Ok (program_of raw)
 answered raw (Some first) = Err (Refused first.line first.rule)
+
+-- the program of a raw program whose names, blocks and layout break no rule, or the first of these that is broken
+abbrev pub resolved : RawProgram → Result Program Rejection
+resolved raw = answered raw (first_of_all (names raw))
 
 -- the program of a raw program, or its first broken rule
 unfoldable pub judged : RawProgram → Result Program Rejection

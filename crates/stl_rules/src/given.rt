@@ -12,6 +12,9 @@ pub enum Given {
     /// A place of this width in its area.
     At(Operand, Width),
 
+    /// A place of this width that does not lie in its area.
+    Outside(Width),
+
     /// A question to the status word.
     Flag(Test),
 
@@ -31,6 +34,18 @@ pub enum Given {
 
     /// The number of an instance that is opened.
     Di(u16),
+
+    /// A number that no data block may have.
+    NoNumber,
+
+    /// A name that is not declared.
+    Unknown,
+
+    /// A name for something that is no operand.
+    Unfit,
+
+    /// A path into declarations that break a rule, which is named there.
+    Unjudged,
 
     /// Something that is not built.
     Other,

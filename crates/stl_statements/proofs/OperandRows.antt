@@ -1,5 +1,5 @@
 -- Operands of one statement, held against worked rows by computing the definitions.
-use Rattle.std.proofs.Common.{◌≡◌, refl, false, List, [], ◌∷◌, ℕ, Option, Some, None, Ok, Err, Result}
+use Rattle.std.proofs.Common.{◌≡◌, refl, false, List, [], ◌∷◌, ℕ, Option, Some, None, Ok, Err, Result, pos, negsuc}
 use Rattle.std.specs.Prelude.{codes}
 use Rattle.memory_areas.specs.declared.place.AreaName.{AreaName}
 use Rattle.memory_areas.specs.declared.place.AreaName.TheVariants as area
@@ -13,10 +13,11 @@ use Rattle.s7_base.specs.declared.word.Width.{Width}
 use Rattle.s7_base.specs.declared.word.Width.TheVariants as width
 use Rattle.stl_statements.specs.Mnemonics.{mnemonic_at}
 use Rattle.stl_statements.specs.Statements.{statement}
-use Rattle.stl_tree.specs.declared.raw.RawName.TheVariants.{Number}
+use Rattle.stl_tree.specs.declared.raw.PathStep.TheVariants as step
+use Rattle.stl_tree.specs.declared.raw.RawName.TheVariants.{Name, Number}
 use Rattle.stl_tree.specs.declared.raw.RawOp.{RawOp}
 use Rattle.stl_tree.specs.declared.raw.RawOperand.{RawOperand}
-use Rattle.stl_tree.specs.declared.raw.RawOperand.TheVariants.{At, Constant, DbNo, DiNo, Missing, OpenDb, OpenDi}
+use Rattle.stl_tree.specs.declared.raw.RawOperand.TheVariants.{At, Constant, DbNo, DiNo, InBlock, Local, Missing, Named, OpenDb, OpenDi}
 
 -- what a text says that is one statement without its `;`
 abbrev said_of : Result (List Token) Rejection → Result RawOp Reason
@@ -100,3 +101,35 @@ combined :
     ∷ is (codes "XOW") Missing ∷ unbuilt ∷ []
 unfolding tokens_of mnemonic_at
 combined = refl
+
+names :
+    all_said (codes "A \"a b\"" ∷ codes "L \"\"" ∷ codes "= \"d\".x" ∷ codes "T \"d\".a.1b[1]" ∷ codes "A #x" ∷ codes "L #a[1,2].b[0]" ∷ [])
+    ≡ is (codes "A") (Named (codes "a b")) ∷ is (codes "L") (Named []) ∷ is (codes "=") (InBlock (codes "d") (step.Name (codes "x") ∷ []))
+    ∷ is (codes "T") (InBlock (codes "d") (step.Name (codes "a") ∷ step.Name (codes "1b") ∷ step.Index (pos 1 ∷ []) ∷ []))
+    ∷ is (codes "A") (Local (step.Name (codes "x") ∷ []))
+    ∷ is (codes "L") (Local (step.Name (codes "a") ∷ step.Index (pos 1 ∷ pos 2 ∷ []) ∷ step.Name (codes "b") ∷ step.Index (pos 0 ∷ []) ∷ [])) ∷ []
+unfolding tokens_of mnemonic_at
+names = refl
+
+-- blanks are free inside the brackets of an index and before them; numbers are of any size
+indices :
+    all_said (codes "L #INT [ -1 , 2 ,-3 ] [007]" ∷ codes "T \"d\".a [ 99999999999, -99999999999 ] .b" ∷ codes "T \"d\".a [ 99999999999, -99999999999 ].b" ∷ [])
+    ≡ is (codes "L") (Local (step.Name (codes "INT") ∷ step.Index (negsuc 0 ∷ pos 2 ∷ negsuc 2 ∷ []) ∷ step.Index (pos 7 ∷ []) ∷ []))
+    ∷ unbuilt
+    ∷ is (codes "T") (InBlock (codes "d") (step.Name (codes "a") ∷ step.Index (pos 4294967295 ∷ negsuc 4294967294 ∷ []) ∷ step.Name (codes "b") ∷ [])) ∷ []
+unfolding tokens_of mnemonic_at
+indices = refl
+
+-- what is no name, nor a path
+no_names :
+    all_said (codes "L # x" ∷ codes "L #a . b" ∷ codes "L #a. b" ∷ codes "L \"d\" .x" ∷ codes "L \"d\". x" ∷ codes "L #a[- 1]" ∷ codes "L #a[1,]" ∷ codes "L #a[]" ∷ codes "L #a[1" ∷ codes "L #" ∷ codes "L #\"a\"" ∷ codes "L \"d\".\"x\"" ∷ codes "AW \"a\"" ∷ codes "L #a[+1]" ∷ [])
+    ≡ unbuilt ∷ unbuilt ∷ unbuilt ∷ unbuilt ∷ unbuilt ∷ unbuilt ∷ unbuilt ∷ unbuilt ∷ unbuilt ∷ unbuilt ∷ unbuilt ∷ unbuilt ∷ unbuilt ∷ unbuilt ∷ []
+unfolding tokens_of mnemonic_at
+no_names = refl
+
+open_names :
+    all_said (codes "OPN \"d\"" ∷ codes "OPN DB \"d\"" ∷ codes "OPN di\"d\"" ∷ codes "OPN DB5 \"d\"" ∷ codes "OPN FB \"d\"" ∷ codes "OPN \"d\".x" ∷ codes "OPN #d" ∷ [])
+    ≡ is (codes "OPN") (OpenDb (Name (codes "d"))) ∷ is (codes "OPN") (OpenDb (Name (codes "d"))) ∷ is (codes "OPN") (OpenDi (Name (codes "d")))
+    ∷ unbuilt ∷ unbuilt ∷ unbuilt ∷ unbuilt ∷ []
+unfolding tokens_of mnemonic_at
+open_names = refl

@@ -8,7 +8,7 @@ use Rattle.s7_base.specs.declared.reason.Kind.TheVariants as kind
 use Rattle.s7_base.specs.declared.token.Token.{Token}
 use Rattle.s7_base.specs.declared.word.Width.{Width}
 use Rattle.s7_base.specs.declared.word.Width.TheVariants as width
-use Rattle.stl_tree.specs.Accumulators.{bits_wide}
+use Rattle.stl_tree.specs.Accumulators.{bits_wide, signed_part}
 use Rattle.stl_statements.specs.Numbers.{are_digits, bits_of, hex_number}
 use Rattle.stl_statements.specs.Readers.{fitting, number_in, or_else, read_as}
 use Rattle.stl_statements.specs.Words.{is_joined, is_joined_word, is_sign, is_text_kind, is_word, is_word_kind}
@@ -284,3 +284,8 @@ fits_as other its c = false
 -- a constant fits a width
 abbrev pub fits : Width → Constant → Bool
 fits w c = fits_as w c.width c
+
+-- the value of a constant in a width: a plain number in a double word has its sign extended
+abbrev pub value_in : Width → Constant → ℕ
+value_in width.Dword c = if c.signed then pattern 32 (signed_part width.Word c.value) else c.value
+value_in w c = c.value

@@ -6,17 +6,18 @@ use Rattle.status_word.specs.declared.test.Test.{Test}
 use Rattle.stl_statements.specs.ConstantForms.{IsAddend, IsAmong, IsConstant, IsUpTo}
 use Rattle.stl_statements.specs.Constants.{plain}
 use Rattle.stl_statements.specs.Mnemonics.{Row, rows, stands_at, mnemonic_at}
+use Rattle.stl_statements.specs.PathForms.{IsNamed}
 use Rattle.stl_statements.specs.PlaceForms.{IsNumbered, IsPlace}
 use Rattle.stl_statements.specs.Places.{opened_area}
-use Rattle.stl_statements.specs.Statements.{first_of, opening, second_of, shape_of, begins_with_label, name_of, size_with, instr_with, instruction_of}
-use Rattle.stl_statements.specs.Words.{is_spelled, is_word}
+use Rattle.stl_statements.specs.Statements.{first_of, opened_word, opening, second_of, shape_of, begins_with_label, name_of, size_with, instr_with, instruction_of}
+use Rattle.stl_statements.specs.Words.{is_quoted_kind, is_spelled, is_word}
 use Rattle.stl_statements.specs.declared.mnemonic.Shape.{Shape}
 use Rattle.stl_statements.specs.declared.mnemonic.Shape.TheVariants as shape
 use Rattle.stl_tree.specs.declared.raw.Constant.{Constant as Literal}
 use Rattle.stl_tree.specs.declared.raw.RawInstr.{RawInstr}
-use Rattle.stl_tree.specs.declared.raw.RawName.TheVariants.{Number}
+use Rattle.stl_tree.specs.declared.raw.RawName.TheVariants.{Name, Number}
 use Rattle.stl_tree.specs.declared.raw.RawOperand.{RawOperand}
-use Rattle.stl_tree.specs.declared.raw.RawOperand.TheVariants.{At, Constant, DbNo, DiNo, Flag, Missing, Stw}
+use Rattle.stl_tree.specs.declared.raw.RawOperand.TheVariants.{At, Constant, DbNo, DiNo, Flag, Missing, OpenDb, Stw}
 use Rattle.stl_tree.specs.declared.raw.RawPlace.{RawPlace}
 
 -- a question to the status word as it is written: `OV`, or `==0` without a blank
@@ -27,12 +28,26 @@ pub data IsStatusOperand : List Token → Test → Type 0 where
       second_of test ≡ codes "0" → is_spelled (first_of test) sign ≡ true
       → is_spelled (codes "0") zero ≡ true → zero.glued ≡ true → IsStatusOperand (sign ∷ zero ∷ []) test
 
+-- a written place, or what is named
+pub data IsLocated : List Token → RawOperand → Type 0 where
+  at : (tokens : List Token) (place : RawPlace) → IsPlace tokens place → IsLocated tokens (At place)
+  named : (tokens : List Token) (operand : RawOperand) → IsNamed tokens operand → IsLocated tokens operand
+
+-- a data block that is opened: `DB 5`, `DI 5`, `"d"`, `DB "d"` or `DI "d"`
+pub data IsOpened : List Token → RawOperand → Type 0 where
+  by_number : (tokens : List Token) (letters : List ℕ) (n : ℕ) (name : AreaName) →
+      IsNumbered tokens letters n → opened_area letters ≡ Some name → IsOpened tokens (opening name (Number n))
+  by_name : (quoted : Token) → is_quoted_kind quoted.kind ≡ true → IsOpened (quoted ∷ []) (OpenDb (Name quoted.text))
+  by_word : (word quoted : Token) (name : AreaName) →
+      opened_word word ≡ Some name → is_quoted_kind quoted.kind ≡ true
+      → IsOpened (word ∷ quoted ∷ []) (opening name (Name quoted.text))
+
 -- an operand of a shape
 pub data IsOperand : Shape → List Token → RawOperand → Type 0 where
   nothing : IsOperand shape.Nothing [] Missing
-  bit : (tokens : List Token) (place : RawPlace) → IsPlace tokens place → IsOperand shape.Bit tokens (At place)
-  checked_place : (tokens : List Token) (place : RawPlace) →
-      IsPlace tokens place → IsOperand shape.Checked tokens (At place)
+  bit : (tokens : List Token) (operand : RawOperand) → IsLocated tokens operand → IsOperand shape.Bit tokens operand
+  checked_located : (tokens : List Token) (operand : RawOperand) →
+      IsLocated tokens operand → IsOperand shape.Checked tokens operand
   status : (tokens : List Token) (test : Test) → IsStatusOperand tokens test → IsOperand shape.Checked tokens (Flag test)
   checked : (tokens : List Token) (operand : RawOperand) →
       IsOperand shape.Checked tokens operand → IsOperand shape.CheckedOrNothing tokens operand
@@ -48,17 +63,16 @@ pub data IsOperand : Shape → List Token → RawOperand → Type 0 where
   loaded_di : (word : Token) → is_word (codes "DINO") word ≡ true → IsOperand shape.Loaded (word ∷ []) DiNo
   loaded_constant : (tokens : List Token) (c : Literal) →
       IsConstant tokens c → IsOperand shape.Loaded tokens (Constant c)
-  loaded_place : (tokens : List Token) (place : RawPlace) →
-      IsPlace tokens place → IsOperand shape.Loaded tokens (At place)
+  loaded_located : (tokens : List Token) (operand : RawOperand) →
+      IsLocated tokens operand → IsOperand shape.Loaded tokens operand
   stored_status : (word : Token) → is_word (codes "STW") word ≡ true → IsOperand shape.Stored (word ∷ []) Stw
-  stored_place : (tokens : List Token) (place : RawPlace) →
-      IsPlace tokens place → IsOperand shape.Stored tokens (At place)
+  stored_located : (tokens : List Token) (operand : RawOperand) →
+      IsLocated tokens operand → IsOperand shape.Stored tokens operand
   combined : (tokens : List Token) (c : Literal) →
       IsConstant tokens c → IsOperand shape.ConstantOrNothing tokens (Constant c)
   no_constant : IsOperand shape.ConstantOrNothing [] Missing
-  opened : (tokens : List Token) (letters : List ℕ) (n : ℕ) (name : AreaName) →
-      IsNumbered tokens letters n → opened_area letters ≡ Some name
-      → IsOperand shape.Opened tokens (opening name (Number n))
+  opened : (tokens : List Token) (operand : RawOperand) →
+      IsOpened tokens operand → IsOperand shape.Opened tokens operand
 
 -- an instruction without a label: a mnemonic, and behind it an operand of its shape
 pub data IsInstruction : List Token → RawInstr → Type 0 where

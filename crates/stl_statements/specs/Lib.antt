@@ -3,6 +3,8 @@ pub mod Constants
 pub mod InstructionForms
 pub mod Mnemonics
 pub mod Numbers
+pub mod PathForms
+pub mod Paths
 pub mod PlaceForms
 pub mod Places
 pub mod Readers

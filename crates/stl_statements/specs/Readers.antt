@@ -1,5 +1,5 @@
 -- What is read at the front of tokens, put together of what is read of its parts.
-use Rattle.std.specs.Prelude.{ℕ, ◌+◌, ◌≤◌, if◌then◌else◌, List, drop, Option, Some, None}
+use Rattle.std.specs.Prelude.{ℕ, zero, suc, ◌+◌, ◌-◌, ◌≤◌, if◌then◌else◌, List, [], ◌∷◌, drop, Option, Some, None}
 use Rattle.s7_base.specs.declared.token.Token.{Token}
 use Rattle.stl_statements.specs.Numbers.{number_of}
 use Rattle.stl_statements.specs.Words.{is_word_kind}
@@ -35,6 +35,17 @@ and_then tokens No next = No
 and_then tokens (LeftOut kind) next = LeftOut kind
 and_then tokens (Fits a size) next = further size (next a (drop size tokens))
 
+-- one item more, with what is read behind it, where so many tokens still belong to the item
+abbrev pub with_item : {A : Type 0} → Read A → (ℕ → Read (List A)) → Read (List A)
+with_item (Fits a size) more = further 1 (read_as (λ items. a ∷ items) (more (size - 1)))
+with_item other more = Fits [] 0
+
+-- all items that stand one behind the other, behind so many tokens that still belong to the one before
+abbrev pub repeated : {A : Type 0} → (List Token → Read A) → ℕ → List Token → Read (List A)
+repeated read left [] = Fits [] 0
+repeated read (suc left) (token ∷ rest) = further 1 (repeated read left rest)
+repeated read zero (token ∷ rest) = with_item (read (token ∷ rest)) (λ left. repeated read left rest)
+
 -- what was read takes so many tokens at most
 abbrev pub IsWithin : {A : Type 0} → ℕ → Read A → Type 0
 IsWithin most No = Unit {0}
@@ -44,3 +55,9 @@ IsWithin most (Fits a size) = size ≤ most
 -- a word that is a number of at most so much
 abbrev pub number_in : ℕ → Token → Option ℕ
 number_in most token = if is_word_kind token.kind then number_of most token.text else None
+
+-- what was read takes a token at least and so many at most
+abbrev pub TakesSome : {A : Type 0} → ℕ → Read A → Type 0
+TakesSome most No = Unit {0}
+TakesSome most (LeftOut kind) = Unit {0}
+TakesSome most (Fits a size) = (1 ≤ size) × (size ≤ most)

@@ -21,10 +21,11 @@ use Rattle.status_word.specs.declared.test.Test.TheVariants as test
 use Rattle.stl_statements.specs.Constants.{addend_at, constant_at, number_at}
 use Rattle.stl_statements.specs.Mnemonics.{Row, goes_on, mnemonic_at}
 use Rattle.stl_statements.specs.Numbers.{are_digits}
+use Rattle.stl_statements.specs.Paths.{named_at}
 use Rattle.stl_statements.specs.Places.{numbered_at, opened_area, place_at}
 use Rattle.stl_statements.specs.Readers.{and_then, fitting, or_else, read_as}
 use Rattle.stl_tree.specs.Shifts.{most_steps}
-use Rattle.stl_statements.specs.Words.{is_word, is_sign, is_spelled, is_word_kind}
+use Rattle.stl_statements.specs.Words.{is_quoted_kind, is_word, is_sign, is_spelled, is_word_kind}
 use Rattle.stl_statements.specs.declared.mnemonic.Mnemonic.{Mnemonic}
 use Rattle.stl_statements.specs.declared.mnemonic.Mnemonic.TheVariants as is
 use Rattle.stl_statements.specs.declared.mnemonic.Read.{Read}
@@ -33,7 +34,7 @@ use Rattle.stl_statements.specs.declared.mnemonic.Shape.{Shape}
 use Rattle.stl_statements.specs.declared.mnemonic.Shape.TheVariants as shape
 use Rattle.stl_tree.specs.declared.raw.RawInstr.{RawInstr}
 use Rattle.stl_tree.specs.declared.raw.RawName.{RawName}
-use Rattle.stl_tree.specs.declared.raw.RawName.TheVariants.{Number}
+use Rattle.stl_tree.specs.declared.raw.RawName.TheVariants.{Name, Number}
 use Rattle.stl_tree.specs.declared.raw.RawOp.{RawOp}
 use Rattle.stl_tree.specs.declared.raw.RawOperand.{RawOperand}
 use Rattle.stl_tree.specs.declared.raw.RawOperand.TheVariants.{At, Constant, DbNo, DiNo, Flag, Missing, OpenDb, OpenDi, Stw}
@@ -98,6 +99,10 @@ left_out_at table tokens = left_out_by (find (has_form tokens) table)
 -- what stands where a written place may stand
 abbrev pub place_operand : List Token → Read RawPlace
 place_operand tokens = or_else (place_at tokens) (left_out_at left_out_forms tokens)
+
+-- what stands where a written place may stand, or a name
+abbrev pub located_at : List Token → Read RawOperand
+located_at tokens = or_else (read_as At (place_operand tokens)) (named_at tokens)
 
 -- how many tokens a mnemonic or a question to the status word takes, by its second part
 abbrev pub size_with : List ℕ → ℕ
@@ -168,30 +173,51 @@ abbrev pub nothing_at : List Token → Read RawOperand
 nothing_at [] = Fits Missing 0
 nothing_at (first ∷ rest) = No
 
--- a place, or a question to the status word
+-- a place or a name, or a question to the status word
 abbrev pub checked_at : List Token → Read RawOperand
-checked_at tokens = or_else (status_at tokens) (read_as At (place_operand tokens))
+checked_at tokens = or_else (status_at tokens) (located_at tokens)
 
--- what `T` stores in: the status word or a place
+-- what `T` stores in: the status word, a place or a name
 abbrev pub stored_at : List Token → Read RawOperand
-stored_at tokens = or_else (stw_at tokens) (read_as At (place_operand tokens))
+stored_at tokens = or_else (stw_at tokens) (located_at tokens)
 
--- what `L` loads: the status word, the number of an open data block, a constant or a place
+-- what `L` loads: the status word, the number of an open data block, a constant, a place or a name
 abbrev pub loaded_at : List Token → Read RawOperand
 loaded_at tokens =
     or_else (stw_at tokens) (or_else (block_number_at tokens)
-    (or_else (read_as Constant (constant_at tokens)) (or_else (read_as At (place_operand tokens)) (length_at tokens))))
+    (or_else (read_as Constant (constant_at tokens)) (or_else (located_at tokens) (length_at tokens))))
 
 -- what opens a data block of this name
 abbrev pub opening : AreaName → RawName → RawOperand
 opening area.Di name = OpenDi name
 opening other name = OpenDb name
 
--- what `OPN` opens: a data block by its number
-abbrev pub opened_at : List Token → Read RawOperand
-opened_at tokens =
+-- a data block by its number
+abbrev pub opened_number_at : List Token → Read RawOperand
+opened_number_at tokens =
     and_then tokens (numbered_at tokens)
     (λ found rest. fitting 0 (option_map (λ name. opening name (Number found.number)) (opened_area found.letters)))
+
+-- behind the word of a data block: its name
+abbrev pub opened_behind : Option AreaName → List Token → Read RawOperand
+opened_behind None rest = No
+opened_behind (Some name) [] = No
+opened_behind (Some name) (first ∷ rest) =
+    if is_quoted_kind first.kind then Fits (opening name (Name first.text)) 2 else No
+
+-- the area that is opened, by its word
+abbrev pub opened_word : Token → Option AreaName
+opened_word word = if is_word_kind word.kind then opened_area word.text else None
+
+-- a data block by its name, behind its word or alone
+abbrev pub opened_name_at : List Token → Read RawOperand
+opened_name_at [] = No
+opened_name_at (first ∷ rest) =
+    if is_quoted_kind first.kind then Fits (OpenDb (Name first.text)) 1 else opened_behind (opened_word first) rest
+
+-- what `OPN` opens
+abbrev pub opened_at : List Token → Read RawOperand
+opened_at tokens = or_else (opened_number_at tokens) (opened_name_at tokens)
 
 -- what was read, or nothing at all
 abbrev pub or_nothing : List Token → Read RawOperand → Read RawOperand
@@ -200,7 +226,7 @@ or_nothing tokens read = or_else (nothing_at tokens) read
 -- what stands where an operand of the shape may stand
 abbrev pub operand_by : Shape → List Token → Read RawOperand
 operand_by shape.Nothing tokens = nothing_at tokens
-operand_by shape.Bit tokens = read_as At (place_operand tokens)
+operand_by shape.Bit tokens = located_at tokens
 operand_by shape.Checked tokens = checked_at tokens
 operand_by shape.CheckedOrNothing tokens = or_nothing tokens (checked_at tokens)
 operand_by (shape.Number most) tokens = read_as Constant (number_at most tokens)
@@ -214,7 +240,7 @@ operand_by shape.TimerOrCounter tokens = read_as At (left_out_at timers_and_coun
 operand_by shape.Later tokens = No
 operand_by (shape.LeftOut kind) tokens = LeftOut kind
 
--- a place or the status word is checked; `O` may stand alone
+-- a place, a name or the status word is checked; `O` may stand alone
 abbrev pub checked_shape : Check → Shape
 checked_shape check.A = shape.Checked
 checked_shape check.An = shape.Checked

@@ -2,7 +2,7 @@
 ghost use Rattle.std.specs.Prelude.{◌≡◌, ◌++◌, ◌≤◌, OnOk, IfOk};
 ghost use Rattle.stl_rules.specs.Contents.{bit_of, byte_of, bytes_of, filled_to, first_bytes, low_bits, number_bits, times, value_bits, word_bits, zeros};
 ghost use Rattle.symbol_layout.specs.inner.Capped.{IsAlignment};
-ghost use Rattle.stl_rules.specs.Programs.{value_in};
+ghost use Rattle.stl_statements.specs.Constants.{value_in};
 ghost use Rattle.stl_tree.specs.Accumulators.{signed_part};
 ghost use Rattle.s7_base.specs.SignedNumbers.{pattern};
 ghost use Rattle.s7_base.specs.declared.word.Width.TheVariants as wide;
@@ -106,7 +106,8 @@ fn extended(value: u32) -> u32
     i32::from(word_number(value)).cast_unsigned()
 }
 
-fn value_in(width: Width, constant: Constant) -> u32
+/// The value of a constant in a width.
+pub fn value_in(width: Width, constant: Constant) -> u32
     ensures { result ≡ value_in width constant }
 {
     match width {

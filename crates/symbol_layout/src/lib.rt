@@ -16,7 +16,10 @@ mod place;
 mod rules;
 mod too_large;
 
-pub use laying_out::layout;
+pub use bits::value_in;
+pub use extent::width_of;
+pub use initial::fits_width;
+pub use laying_out::{first_break, layout};
 pub use layout_laws::components_stand_at_the_least;
 pub use path::component;
 pub use stl_rules::{Component, Layout};

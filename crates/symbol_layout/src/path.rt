@@ -8,8 +8,8 @@ ghost use Rattle.symbol_layout.specs.inner.Capped.{capped, capped_placed, next_r
 use crate::extent::{end_behind, extent_of, indices_in, place_behind, product, sum};
 use crate::initial::elementary;
 use crate::place::Placed;
-use s7_base::rest_after;
 use stl_rules::Component;
+use s7_base::rest_after;
 use stl_tree::{DeclType, Declaration, PathStep};
 
 /// The last bit of the byte 4,294,967,295.

@@ -1,0 +1,4 @@
+pub mod Bits
+pub mod Filling
+pub mod Insides
+pub mod Ordering

@@ -1,0 +1,84 @@
+//! What a data block holds.
+ghost use Rattle.std.specs.Prelude.{◌≡◌, [], ◌∷◌, IfOk};
+ghost use Rattle.data_contents.specs.Contents.{Holds};
+ghost use Rattle.data_contents.specs.Inside.{AreKept};
+ghost use Rattle.stl_rules.specs.DataBlocks.{or_two};
+ghost use Rattle.stl_rules.specs.Layouts.{initial_of};
+ghost use Rattle.stl_rules.specs.Raw.{are_refused};
+
+use crate::values::put_values;
+use s7_base::{Break, List, NoMemory, Rejection, first_of_all};
+use std::alloc::Global;
+use stl_tree::{Declaration, RawInitial};
+use symbol_layout::{first_break, layout};
+
+/// The most bytes of a data block.
+const MOST_IN_BLOCK: u32 = 16_384;
+
+/// What declarations and initial values of a data block come to.
+#[derive(Debug, Drop)]
+pub enum Content {
+    /// Its bytes: no rule is broken.
+    Bytes(List<u8>),
+
+    /// The first broken rule where the declarations break one; no path into them is judged then.
+    BadDeclarations(Break),
+
+    /// The first broken rule where the initial values alone break some.
+    BadValues(Break),
+}
+
+/// Declarations break a rule within a limit, in bytes.
+pub fn are_refused(alloc: Global, decls: &[Declaration], limit: u32) -> Result<bool, NoMemory>
+    ensures { IfOk result (λ refused. refused ≡ are_refused limit decls.now) }
+{
+    Ok(first_break(alloc, decls, limit)?.is_some())
+}
+
+/// A data block has two bytes at least.
+fn or_two(bytes: Vec<u8>) -> Result<List<u8>, NoMemory>
+    ensures { IfOk result (λ all. all ≡ or_two bytes.items) }
+{
+    let mut all = bytes;
+    if all.is_empty() {
+        all.extend_from_slice(&[0, 0])?;
+    }
+    Ok(List::from_vec(all))
+}
+
+/// What a data block holds whose declarations keep the rules, from their initial bytes.
+fn filled(
+    alloc: Global,
+    decls: &[Declaration],
+    values: &[RawInitial],
+    initial: List<u8>,
+) -> Result<Content, NoMemory>
+    requires kept { AreKept decls.now }
+    requires initial { initial ≡ initial_of (decls.now ∷ []) }
+    ensures { IfOk result (Holds decls.now values.now) }
+{
+    let mut bytes = initial.into_vec();
+    let mut breaks = List::new(alloc);
+    put_values(decls, values, bytes.as_mut_slice(), &mut breaks)?;
+    match first_of_all(breaks.as_slice()) {
+        Some(first) => Ok(Content::BadValues(first)),
+        None => Ok(Content::Bytes(or_two(bytes)?)),
+    }
+}
+
+/// The bytes of a data block by its declarations and its initial values, or the first rule that they break: one of
+/// the layout of its declarations, `UnknownName` at the line of an initial value whose path names nothing, or
+/// `BadOperand` at one that is no value of its component.
+pub fn content_of(
+    alloc: Global,
+    decls: &[Declaration],
+    values: &[RawInitial],
+) -> Result<Content, NoMemory>
+    ensures { IfOk result (Holds decls.now values.now) }
+{
+    match layout(alloc, decls, MOST_IN_BLOCK) {
+        Ok(layout) => filled(alloc, decls, values, layout.initial),
+        Err(Rejection::Refused(line, rule)) => Ok(Content::BadDeclarations(Break { line, rule })),
+        Err(Rejection::NoMemory) => Err(NoMemory),
+    }
+}

@@ -1,0 +1,99 @@
+//! Initial values: the rules that they break, and their writes.
+ghost use Rattle.std.specs.Prelude.{◌≡◌, ◌++◌, length, IfSome, OnOk};
+ghost use Rattle.std.specs.List.{flat_map, fold};
+ghost use Rattle.data_contents.specs.Contents.{breaks_at};
+ghost use Rattle.data_contents.specs.Inside.{AreInside, IsInside};
+ghost use Rattle.stl_rules.specs.DataBlocks.{with_constant, with_value, with_value_at};
+ghost use Rattle.stl_rules.specs.Stages.{fits_kind, initial_breaks};
+
+use crate::writes::put_number;
+use s7_base::{Break, List, NoMemory, Reason, note};
+use stl_rules::Component;
+use stl_tree::{Constant, Declaration, ElemType, RawInitial};
+use symbol_layout::{component, fits_width, value_in, width_of};
+
+/// A constant is a value of a component of this type.
+fn fits_kind(value: Constant, kind: Option<ElemType>) -> bool
+    ensures { result ≡ fits_kind value kind }
+{
+    match kind {
+        None => false,
+        Some(kind) => fits_width(width_of(kind), value),
+    }
+}
+
+/// Notes the rule that an initial value breaks at the component that its path names.
+fn judge(
+    v: &RawInitial,
+    at: Option<Component>,
+    breaks: &mut List<Break>,
+) -> Result<(), NoMemory>
+    ensures { OnOk result (breaks.new ≡ breaks.old ++ breaks_at v.now at) }
+{
+    match at {
+        None => note(breaks, v.line, Reason::UnknownName),
+        Some(at) => {
+            if fits_kind(v.value, at.kind) {
+                Ok(())
+            } else {
+                note(breaks, v.line, Reason::BadOperand)
+            }
+        }
+    }
+}
+
+/// Puts a value into its component, cut to the width of that.
+fn put_constant(bytes: &mut [u8], at: Component, value: Constant)
+    requires { IsInside (length bytes.old) at }
+    ensures { bytes.new ≡ with_constant bytes.old at value at.kind }
+{
+    if let Some(kind) = at.kind {
+        let width = width_of(kind);
+        put_number(bytes, at, width, value_in(width, value));
+    }
+}
+
+/// The same where a path names a component.
+fn put_at(bytes: &mut [u8], at: Option<Component>, value: Constant)
+    requires { IfSome at (IsInside (length bytes.old)) }
+    ensures { bytes.new ≡ with_value_at bytes.old value at }
+{
+    if let Some(at) = at {
+        put_constant(bytes, at, value);
+    }
+}
+
+/// Puts an initial value, and notes the rule that it breaks. A value that breaks one is put all the same, so that
+/// the bytes are the defined ones whatever is noted.
+fn put_value(
+    decls: &[Declaration],
+    v: &RawInitial,
+    bytes: &mut [u8],
+    breaks: &mut List<Break>,
+) -> Result<(), NoMemory>
+    requires { AreInside (length bytes.old) decls.now }
+    ensures bytes { OnOk result (bytes.new ≡ with_value decls.now bytes.old v.now) }
+    ensures breaks { OnOk result (breaks.new ≡ breaks.old ++ initial_breaks decls.now v.now) }
+{
+    let at = component(decls, v.path.as_slice());
+    judge(v, at, breaks)?;
+    put_at(bytes, at, v.value);
+    Ok(())
+}
+
+/// Puts initial values one after another, and notes the rules that they break.
+pub fn put_values(
+    decls: &[Declaration],
+    values: &[RawInitial],
+    bytes: &mut [u8],
+    breaks: &mut List<Break>,
+) -> Result<(), NoMemory>
+    requires { AreInside (length bytes.old) decls.now }
+    ensures bytes { OnOk result (bytes.new ≡ fold (with_value decls.now) bytes.old values.now) }
+    ensures breaks { OnOk result (breaks.new ≡ breaks.old ++ flat_map (initial_breaks decls.now) values.now) }
+{
+    for v in values {
+        put_value(decls, v, bytes, breaks)?;
+    }
+    Ok(())
+}

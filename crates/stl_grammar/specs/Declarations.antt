@@ -1,0 +1,246 @@
+-- Declarations: a name, a type, and what ends them.
+use Rattle.std.specs.Prelude.{ℕ, zero, suc, ◌+◌, ◌-◌, ℤ, pos, neg_ℤ, Bool, true, false, ◌&&◌, ◌||◌, if◌then◌else◌, List, [], ◌∷◌, drop, codes, Option, Some, None, option_map}
+use Rattle.s7_base.specs.declared.reason.Kind.{Kind}
+use Rattle.s7_base.specs.declared.reason.Kind.TheVariants as kind
+use Rattle.s7_base.specs.declared.reason.Line.{Line}
+use Rattle.s7_base.specs.declared.token.Token.{Token}
+use Rattle.stl_grammar.specs.Headings.{kept_number}
+use Rattle.stl_grammar.specs.declared.declaration.Innermost.{Innermost}
+use Rattle.stl_grammar.specs.declared.declaration.Innermost.TheVariants as inner
+use Rattle.stl_grammar.specs.declared.declaration.Level.{Level}
+use Rattle.stl_grammar.specs.declared.declaration.Written.{Written}
+use Rattle.stl_statements.specs.Numbers.{are_digits}
+use Rattle.stl_statements.specs.Readers.{fitting, read_as}
+use Rattle.stl_statements.specs.Statements.{is_numbered}
+use Rattle.stl_statements.specs.Words.{is_word, is_sign, is_word_kind, is_word_among}
+use Rattle.stl_statements.specs.declared.mnemonic.Read.{Read}
+use Rattle.stl_statements.specs.declared.mnemonic.Read.TheVariants.{Fits, LeftOut, No}
+use Rattle.stl_tree.specs.declared.raw.ElemType.{ElemType}
+use Rattle.stl_tree.specs.declared.raw.ElemType.TheVariants as elem
+
+-- what was read behind so many tokens, with these
+abbrev pub further : {A : Type 0} → ℕ → Read A → Read A
+further before No = No
+further before (LeftOut kind) = LeftOut kind
+further before (Fits a size) = Fits a (before + size)
+
+-- Bounds
+
+-- a number of any size
+abbrev pub kept_in : Token → Option ℕ
+kept_in token = if is_word_kind token.kind then kept_number token.text else None
+
+-- a number behind a minus, with no blank before it
+abbrev pub minus_at : List Token → Read ℤ
+minus_at [] = No
+minus_at (number ∷ rest) =
+    fitting 2 (if number.glued then option_map (λ n. neg_ℤ (pos n)) (kept_in number) else None)
+
+-- a whole number
+abbrev pub whole_at : List Token → Read ℤ
+whole_at [] = No
+whole_at (first ∷ rest) = if is_sign (codes "-") first then minus_at rest else fitting 1 (option_map pos (kept_in first))
+
+-- the upper bound behind the lower one, which takes so many tokens
+abbrev pub upper_at : ℤ → ℕ → List Token → Read (ℤ × ℤ)
+upper_at low size [] = No
+upper_at low size (dots ∷ rest) =
+    if is_sign (codes "..") dots then further (size + 1) (read_as (λ high. (low, high)) (whole_at rest)) else No
+
+-- the upper bound behind what was read as the lower one
+abbrev pub upper_behind : List Token → Read ℤ → Read (ℤ × ℤ)
+upper_behind tokens (Fits low size) = upper_at low size (drop size tokens)
+upper_behind tokens other = No
+
+-- the bounds of a dimension: `1 .. 5`
+abbrev pub bounds_at : List Token → Read (ℤ × ℤ)
+bounds_at tokens = upper_behind tokens (whole_at tokens)
+
+-- Lists
+
+-- an element before others
+abbrev pub prepended : {A : Type 0} → A → List A → List A
+prepended a more = a ∷ more
+
+-- an element of so many tokens and what stands behind it: the end of the list, or more of them
+abbrev pub elements_behind : {A : Type 0} → List ℕ → A → ℕ → List Token → (ℕ → Read (List A)) → Read (List A)
+elements_behind close a size [] more = No
+elements_behind close a size (sign ∷ rest) more =
+    if is_sign close sign then Fits (a ∷ []) (size + 1)
+    else if is_sign (codes ",") sign then further (size + 1) (read_as (prepended a) (more size))
+    else No
+
+-- the same, by what was read as the element
+abbrev pub elements_with : {A : Type 0} → List ℕ → List Token → Read A → (ℕ → Read (List A)) → Read (List A)
+elements_with close tokens No more = No
+elements_with close tokens (LeftOut kind) more = LeftOut kind
+elements_with close tokens (Fits a size) more = elements_behind close a size (drop size tokens) more
+
+-- elements with commas between them and the sign behind the last; `skip` tokens still belong to what stands before
+abbrev pub elements_from : {A : Type 0} → (List Token → Read A) → List ℕ → ℕ → List Token → Read (List A)
+elements_from element close skip [] = No
+elements_from element close (suc skip) (first ∷ rest) = elements_from element close skip rest
+elements_from element close zero (first ∷ rest) =
+    elements_with close (first ∷ rest) (element (first ∷ rest)) (λ size. elements_from element close size rest)
+
+-- the dimensions of an array, and their bracket
+abbrev pub dims_at : List Token → Read (List (ℤ × ℤ))
+dims_at tokens = elements_from bounds_at (codes "]") 0 tokens
+
+-- a word stands at the front
+abbrev pub begins_with_word : List ℕ → List Token → Bool
+begins_with_word word [] = false
+begins_with_word word (first ∷ rest) = is_word word first
+
+-- `OF` stands behind the dimensions
+abbrev pub before_of : List Token → Read (List (ℤ × ℤ)) → Read (List (ℤ × ℤ))
+before_of tokens (Fits dims size) = if begins_with_word (codes "OF") (drop size tokens) then Fits dims (size + 1) else No
+before_of tokens other = No
+
+-- the dimensions of an array and `OF`
+abbrev pub array_at : List Token → Read (List (ℤ × ℤ))
+array_at [] = No
+array_at (first ∷ rest) =
+    if is_sign (codes "[") first then further 1 (before_of rest (dims_at rest)) else No
+
+-- Types
+
+-- an elementary type of one byte at most
+abbrev pub small_type : Token → Option ElemType
+small_type word =
+    if is_word (codes "BOOL") word then Some elem.Bool
+    else if is_word (codes "BYTE") word then Some elem.Byte
+    else if is_word (codes "CHAR") word then Some elem.Char
+    else None
+
+-- a wider one
+abbrev pub wide_type : Token → Option ElemType
+wide_type word =
+    if is_word (codes "WORD") word then Some elem.Word
+    else if is_word (codes "INT") word then Some elem.Int
+    else if is_word (codes "DWORD") word then Some elem.Dword
+    else if is_word (codes "DINT") word then Some elem.Dint
+    else None
+
+-- the types of pointers, which are left out
+abbrev pub pointer_types : List (List ℕ)
+pointer_types =
+    codes "ANY" ∷ codes "POINTER" ∷ codes "BLOCK_FB" ∷ codes "BLOCK_FC" ∷ codes "BLOCK_DB" ∷ codes "BLOCK_SDB"
+    ∷ codes "TIMER" ∷ codes "COUNTER" ∷ []
+
+-- and those of times and dates
+abbrev pub time_types : List (List ℕ)
+time_types = codes "TIME" ∷ codes "S5TIME" ∷ codes "DATE" ∷ codes "TIME_OF_DAY" ∷ []
+
+-- a number stands at the front
+abbrev pub begins_with_number : List Token → Bool
+begins_with_number [] = false
+begins_with_number (first ∷ rest) = is_word_kind first.kind && are_digits first.text
+
+-- a type of the user's own, by its number
+abbrev pub is_user_type : Token → List Token → Bool
+is_user_type first rest =
+    (is_word (codes "UDT") first && begins_with_number rest) || is_numbered (codes "UDT") first
+
+-- the kind of a type that is left out
+abbrev pub type_kind : Token → List Token → Option Kind
+type_kind first rest =
+    if is_word (codes "REAL") first then Some kind.Real
+    else if is_word_among pointer_types first then Some kind.PointerType
+    else if is_word (codes "STRING") first then Some kind.StringType
+    else if is_word_among time_types first then Some kind.DateTime
+    else if is_user_type first rest then Some kind.UserType
+    else None
+
+-- a type without arrays
+abbrev pub alone : Innermost → Written
+alone what = record { arrays = []; innermost = what }
+
+abbrev pub left_out_type : Option Kind → Read Written
+left_out_type None = No
+left_out_type (Some kind) = LeftOut kind
+
+abbrev pub wide_or_left_out : Option ElemType → Option Kind → Read Written
+wide_or_left_out (Some type) kind = Fits (alone (inner.Elementary type)) 1
+wide_or_left_out None kind = left_out_type kind
+
+abbrev pub small_or_other : Option ElemType → Read Written → Read Written
+small_or_other (Some type) other = Fits (alone (inner.Elementary type)) 1
+small_or_other None other = other
+
+-- what stands where a type of one word may stand, by its first token
+abbrev pub one_word : Token → List Token → Read Written
+one_word first rest =
+    if is_word (codes "DATE_AND_TIME") first then Fits (alone inner.DateAndTime) 1
+    else small_or_other (small_type first) (wide_or_left_out (wide_type first) (type_kind first rest))
+
+abbrev pub one_word_at : List Token → Read Written
+one_word_at [] = No
+one_word_at (first ∷ rest) = one_word first rest
+
+-- an array of these dimensions, whose elements are of this type
+abbrev pub with_array : List (ℤ × ℤ) → Written → Written
+with_array dims type = record type { arrays = dims ∷ type.arrays }
+
+-- an array by its dimensions and the type behind them
+abbrev pub array_with : List Token → Read (List (ℤ × ℤ)) → (List Token → Read Written) → Read Written
+array_with tokens (Fits dims size) more = further (size + 1) (read_as (with_array dims) (more (drop size tokens)))
+array_with tokens other more = No
+
+-- what stands where a type may stand that opens a level, given what stands where one may stand inside it
+abbrev pub opening_type : (List Token → Read Written) → List Token → Read Written
+opening_type more tokens =
+    if begins_with_word (codes "STRUCT") tokens then Fits (alone inner.Struct) 1
+    else if begins_with_word (codes "ARRAY") tokens then array_with (drop 1 tokens) (array_at (drop 1 tokens)) more
+    else one_word_at tokens
+
+-- what stands where a type may stand that opens so many levels at most
+abbrev pub type_at : ℕ → List Token → Read Written
+type_at zero tokens = one_word_at tokens
+type_at (suc left) tokens = opening_type (λ behind. type_at left behind) tokens
+
+-- Declarations
+
+-- a sign stands at the front
+abbrev pub begins_with_sign : List ℕ → List Token → Bool
+begins_with_sign sign [] = false
+begins_with_sign sign (first ∷ rest) = is_sign sign first
+
+-- a declaration by its type: `;` ends it, where no members follow
+abbrev pub closed_by : Innermost → Written → ℕ → List Token → Read Written
+closed_by inner.Struct type size behind = Fits type size
+closed_by other type size behind = if begins_with_sign (codes ";") behind then Fits type (size + 1) else No
+
+abbrev pub closed_behind : List Token → Read Written → Read Written
+closed_behind tokens No = No
+closed_behind tokens (LeftOut kind) = LeftOut kind
+closed_behind tokens (Fits type size) = closed_by type.innermost type size (drop size tokens)
+
+-- what stands where a declaration may stand that opens so many levels at most, behind its name
+abbrev pub declaration_at : ℕ → Token → List Token → Read Written
+declaration_at left name [] = No
+declaration_at left name (colon ∷ rest) =
+    if is_word_kind name.kind && is_sign (codes ":") colon
+    then further 1 (closed_behind rest (type_at left rest))
+    else No
+
+-- Levels
+
+-- how many levels are open
+abbrev pub depth_of : List Level → ℕ
+depth_of [] = 0
+depth_of (level ∷ levels) = level.depth
+
+-- how many more may be opened, of eight
+abbrev pub left_of : List Level → ℕ
+left_of levels = 8 - depth_of levels
+
+-- the levels that are open behind a declaration on a line
+abbrev pub levels_behind : List Level → Line → Innermost → ℕ → List Level
+levels_behind levels line inner.Struct arrays = record { line = line; depth = depth_of levels + arrays + 1 } ∷ levels
+levels_behind levels line other arrays = levels
+
+-- the word that ends the innermost STRUCT, or the section
+abbrev pub ends_level : List Level → Token → Bool
+ends_level [] first = is_word (codes "END_VAR") first
+ends_level (level ∷ levels) first = is_word (codes "END_STRUCT") first

@@ -1,0 +1,109 @@
+-- The first of some broken rules and of some more.
+use Rattle.std.proofs.Common.{◌≡◌, ◌<◌, ◌≤◌, ◌+◌, ◌*◌, ℕ, Bool, true, false, cond, ◌&&◌, ◌||◌, ◌==◌, nat_lt, List, [], ◌∷◌, ◌++◌, Option, Some, None, refl, sym, ap, ◌∙◌, arith, eqb-true}
+use Rattle.std.specs.List.{fold}
+use Rattle.std.proofs.lemmas.Bool.{eqb-false, ltb-true, ltb-false}
+use Rattle.std.proofs.lemmas.List.Sums.{fold-append}
+use Rattle.s7_base.specs.Broken.{comes_before, first_of_all, number_of, sooner}
+use Rattle.s7_base.specs.declared.broken.Break.{Break}
+use Rattle.s7_base.specs.declared.reason.Reason.{Reason}
+use Rattle.s7_base.specs.declared.reason.Reason.TheVariants as reason
+use Rattle.symbol_names.specs.inner.Firsts.{joined, with_breaks}
+
+few : (r : Reason) → number_of r < 32
+few reason.BadToken = omega arith
+few other = omega arith
+
+-- a number by which broken rules are ordered
+abbrev rank : Break → ℕ
+rank b = b.line.0 * 32 + number_of b.rule
+
+-- what comes before has a lesser rank, and nothing else
+ranked : (a b : Break) (t : Bool) → comes_before a b ≡ t → cond t (rank a < rank b) (rank b ≤ rank a)
+ranked a b t e =
+    by_tests (nat_lt a.line.0 b.line.0) (a.line.0 == b.line.0) (nat_lt (number_of a.rule) (number_of b.rule)) refl refl refl t e
+  where
+    by_tests : (x y z : Bool) → nat_lt a.line.0 b.line.0 ≡ x → (a.line.0 == b.line.0) ≡ y → nat_lt (number_of a.rule) (number_of b.rule) ≡ z → (t : Bool)
+        → (x || (y && z)) ≡ t → cond t (rank a < rank b) (rank b ≤ rank a)
+    by_tests true y z f g h true q = omega (arith, ltb-true a.line.0 b.line.0 f, few a.rule, few b.rule)
+    by_tests true y z f g h false q = absurd cc
+    by_tests false true true f g h true q = omega (arith, eqb-true a.line.0 b.line.0 g, ltb-true (number_of a.rule) (number_of b.rule) h)
+    by_tests false true true f g h false q = absurd cc
+    by_tests false true false f g h true q = absurd cc
+    by_tests false true false f g h false q = omega (arith, eqb-true a.line.0 b.line.0 g, ltb-false (number_of a.rule) (number_of b.rule) h)
+    by_tests false false z f g h true q = absurd cc
+    by_tests false false z f g h false q =
+        let apart : a.line.0 ≡ b.line.0 → ⊥ = eqb-false a.line.0 b.line.0 g in
+        omega (arith, ltb-false a.line.0 b.line.0 f, apart, few a.rule, few b.rule)
+
+-- the sooner of three, from either end
+three : (a x y : Break) → sooner (sooner (Some a) x) y ≡ joined (Some a) (sooner (Some x) y)
+three a x y = by_tests (comes_before x a) (comes_before y x) (comes_before y a) refl refl refl
+  where
+    by_tests : (p q r : Bool) → comes_before x a ≡ p → comes_before y x ≡ q → comes_before y a ≡ r
+        → sooner (cond p (Some x) (Some a)) y ≡ joined (Some a) (cond q (Some y) (Some x))
+    by_tests true true true f g h = ap (λ b. cond b (Some y) (Some x)) g ∙ sym (ap (λ b. cond b (Some y) (Some a)) h)
+    by_tests true true false f g h =
+        let i = ranked x a true f in
+        let j = ranked y x true g in
+        let k = ranked y a false h in
+        absurd (omega (arith, i, j, k))
+    by_tests true false r f g h = ap (λ b. cond b (Some y) (Some x)) g ∙ sym (ap (λ b. cond b (Some x) (Some a)) f)
+    by_tests false true r f g h = refl
+    by_tests false false true f g h =
+        let i = ranked x a false f in
+        let j = ranked y x false g in
+        let k = ranked y a true h in
+        absurd (omega (arith, i, j, k))
+    by_tests false false false f g h = ap (λ b. cond b (Some y) (Some a)) h ∙ sym (ap (λ b. cond b (Some x) (Some a)) f)
+
+-- one broken rule stays one
+stays : (bs : List Break) (a : Break) (o : Option Break) → fold sooner (Some a) bs ≡ o → o ≡ None → ⊥
+stays [] a o h n = absurd cc
+stays (x ∷ bs) a o h n = by_test (comes_before x a) (λ d. stays bs d o) h
+  where
+    by_test : (t : Bool) → ((d : Break) → fold sooner (Some d) bs ≡ o → o ≡ None → ⊥) → fold sooner (cond t (Some x) (Some a)) bs ≡ o → ⊥
+    by_test true more q = more x q n
+    by_test false more q = more a q n
+
+joined_sooner : (a : Option Break) (x : Break) (o : Option Break) → joined (sooner a x) o ≡ joined a (joined (Some x) o)
+joined_sooner None x None = refl
+joined_sooner None x (Some y) = by_test (comes_before y x)
+  where
+    by_test : (t : Bool) → cond t (Some y) (Some x) ≡ joined None (cond t (Some y) (Some x))
+    by_test true = refl
+    by_test false = refl
+joined_sooner (Some a) x None = refl
+joined_sooner (Some a) x (Some y) = three a x y
+
+-- one so far is the first of it and of the first of the others
+folded : (a : Option Break) (xs : List Break) → fold sooner a xs ≡ joined a (first_of_all xs)
+folded None [] = refl
+folded (Some a) [] = refl
+folded a (x ∷ xs) =
+    folded (sooner a x) xs ∙ joined_sooner a x (first_of_all xs) ∙ ap (joined a) (sym (folded (Some x) xs))
+
+pub joins : (a : Option Break) (xs : List Break) → joined a (first_of_all xs) ≡ with_breaks a xs
+unfolding with_breaks
+joins a xs = sym (folded a xs)
+
+pub none_more : (a : Option Break) → with_breaks a [] ≡ a
+unfolding with_breaks
+none_more a = refl
+
+pub behind : (a : Option Break) (xs ys : List Break) → with_breaks a (xs ++ ys) ≡ with_breaks (with_breaks a xs) ys
+unfolding with_breaks
+behind a xs ys = fold-append sooner a xs ys
+
+pub one_more : (a : Option Break) (x : Break) → with_breaks a (x ∷ []) ≡ sooner a x
+unfolding with_breaks
+one_more a x = refl
+
+pub from_none : (xs : List Break) → with_breaks None xs ≡ first_of_all xs
+unfolding with_breaks
+from_none xs = refl
+
+-- where nothing is broken in the end, nothing was before
+pub none_before : (a : Option Break) (xs : List Break) → with_breaks a xs ≡ None → a ≡ None
+unfolding with_breaks
+none_before None xs h = refl
+none_before (Some a) xs h = absurd (stays xs a (fold sooner (Some a) xs) refl h)

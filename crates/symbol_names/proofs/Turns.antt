@@ -1,0 +1,110 @@
+-- One turn of a loop that judges items one after another.
+use Rattle.std.proofs.Common.{◌≡◌, ◌<◌, ◌≤◌, ℕ, ◌+◌, List, [], ◌∷◌, ◌++◌, length, take, drop, get_or, map, Option, Result, refl, sym, ap, ◌∙◌, arith}
+use Rattle.std.proofs.lemmas.List.{at_drop_more, drop_all, get_or-map, length-map}
+use Rattle.std.proofs.lemmas.List.Sums.{fold_more}
+use Rattle.s7_base.specs.declared.broken.Break.{Break}
+use Rattle.s7_base.specs.declared.reason.Reason.{Reason}
+use Rattle.stl_rules.specs.DeclarationRules.{key_of, with_name}
+use Rattle.stl_rules.specs.Names.{number_of}
+use Rattle.stl_rules.specs.Stages.{blocks_behind, dbs_behind, symbols_behind, with_block_number}
+use Rattle.stl_tree.specs.declared.raw.BlockKind.TheVariants as block
+use Rattle.stl_tree.specs.declared.raw.RawBlock.{RawBlock}
+use Rattle.stl_tree.specs.declared.raw.RawData.{RawData}
+use Rattle.stl_tree.specs.declared.raw.RawProgram.{RawProgram}
+use Rattle.stl_tree.specs.declared.raw.SymbolLine.{SymbolLine}
+use Rattle.symbol_names.specs.inner.Firsts.{with_breaks}
+use Rattle.symbol_names.specs.inner.Kept.{block_breaks, db_breaks}
+use Rattle.symbol_names.specs.inner.Places.{block_numbers, db_numbers, line_breaks, names_before, numbers_before}
+use Rattle.symbol_names.proofs.Firsts.{behind, none_more}
+
+-- a stage that judges items, each in a state
+module _ {S X : Type 0} (all : S → List X → List Break) (item : S → X → List Break) (next : S → X → S)
+    (none : (s : S) → all s [] ≡ []) (cons : (s : S) (x : X) (xs : List X) → all s (x ∷ xs) ≡ item s x ++ all (next s x) xs) where
+  pub turn : (first later whole : Option Break) (s after : S) (xs : List X) (i : ℕ) (x : X) → i < length xs → x ≡ get_or xs i x
+      → after ≡ next s x → later ≡ with_breaks first (item s x) → with_breaks first (all s (drop i xs)) ≡ whole
+      → with_breaks later (all after (drop (i + 1) xs)) ≡ whole
+  turn first later whole s after xs i x before is moved e so_far =
+      ap (λ t. with_breaks later (all t (drop (i + 1) xs))) moved
+      ∙ ap (λ f. with_breaks f (all (next s x) (drop (i + 1) xs))) e
+      ∙ sym (behind first (item s x) (all (next s x) (drop (i + 1) xs)))
+      ∙ ap (with_breaks first) (sym (cons s x (drop (i + 1) xs)))
+      ∙ ap (λ y. with_breaks first (all s (y ∷ drop (i + 1) xs))) is
+      ∙ sym (at_drop_more (λ ys. with_breaks first (all s ys)) xs i x before)
+      ∙ so_far
+
+  pub ended : (first whole : Option Break) (s : S) (xs : List X) (i : ℕ) → length xs ≤ i → with_breaks first (all s (drop i xs)) ≡ whole → first ≡ whole
+  ended first whole s xs i past so_far =
+      sym (none_more first) ∙ ap (with_breaks first) (sym (ap (all s) (drop_all i xs past) ∙ none s)) ∙ so_far
+
+-- Symbols
+
+abbrev next_name : List (List ℕ) → SymbolLine → List (List ℕ)
+next_name names line = with_name (key_of line.name) names
+
+pub symbol_turn : (first later whole : Option Break) (lines : List SymbolLine) (i : ℕ) (line : SymbolLine) → i < length lines → line ≡ get_or lines i line
+    → later ≡ with_breaks first (line_breaks (names_before (take i lines)) line)
+    → with_breaks first (symbols_behind (names_before (take i lines)) (drop i lines)) ≡ whole
+    → with_breaks later (symbols_behind (names_before (take (i + 1) lines)) (drop (i + 1) lines)) ≡ whole
+symbol_turn first later whole lines i line before is e so_far =
+    turn symbols_behind line_breaks next_name (λ s. refl) (λ s x xs. refl) first later whole (names_before (take i lines)) (names_before (take (i + 1) lines)) lines i line before is
+    (fold_more next_name [] lines i line before ∙ ap (next_name (names_before (take i lines))) (sym is)) e so_far
+
+pub symbols_ended : (first whole : Option Break) (lines : List SymbolLine) (i : ℕ) → length lines ≤ i
+    → with_breaks first (symbols_behind (names_before (take i lines)) (drop i lines)) ≡ whole → first ≡ whole
+symbols_ended first whole lines i past so_far =
+    ended symbols_behind line_breaks next_name (λ s. refl) (λ s x xs. refl) first whole (names_before (take i lines)) lines i past so_far
+
+-- Blocks
+
+-- the numbers of the blocks before, with that of one more
+numbers_more : {X : Type 0} (number : X → Result ℕ Reason) (xs : List X) (i : ℕ) (x : X) → i < length xs → x ≡ get_or xs i x
+    → numbers_before (take (i + 1) (map number xs)) ≡ with_block_number (numbers_before (take i (map number xs))) (number x)
+numbers_more number xs i x before is =
+    let long : i < length (map number xs) = omega (arith, before, length-map xs number) in
+    fold_more with_block_number [] (map number xs) i (number x) long
+    ∙ ap (with_block_number (numbers_before (take i (map number xs)))) (get_or-map number xs i x (number x) before ∙ ap number (sym is))
+
+module _ (symbols : List SymbolLine) where
+  abbrev number_of_db : RawData → Result ℕ Reason
+  number_of_db d = number_of symbols block.Db d.name
+
+  abbrev db_item : List ℕ → RawData → List Break
+  db_item before d = db_breaks before d (number_of_db d)
+
+  abbrev next_db : List ℕ → RawData → List ℕ
+  next_db before d = with_block_number before (number_of_db d)
+
+  pub db_turn : (first later whole : Option Break) (dbs : List RawData) (i : ℕ) (d : RawData) → i < length dbs → d ≡ get_or dbs i d
+      → later ≡ with_breaks first (db_breaks (numbers_before (take i (db_numbers symbols dbs))) d (number_of symbols block.Db d.name))
+      → with_breaks first (dbs_behind symbols (numbers_before (take i (db_numbers symbols dbs))) (drop i dbs)) ≡ whole
+      → with_breaks later (dbs_behind symbols (numbers_before (take (i + 1) (db_numbers symbols dbs))) (drop (i + 1) dbs)) ≡ whole
+  db_turn first later whole dbs i d before is e so_far =
+      turn (dbs_behind symbols) db_item next_db (λ s. refl) (λ s x xs. refl) first later whole
+      (numbers_before (take i (map number_of_db dbs))) (numbers_before (take (i + 1) (map number_of_db dbs))) dbs i d before is
+      (numbers_more number_of_db dbs i d before is) e so_far
+
+  pub dbs_ended : (first whole : Option Break) (dbs : List RawData) (i : ℕ) → length dbs ≤ i
+      → with_breaks first (dbs_behind symbols (numbers_before (take i (db_numbers symbols dbs))) (drop i dbs)) ≡ whole → first ≡ whole
+  dbs_ended first whole dbs i past so_far =
+      ended (dbs_behind symbols) db_item next_db (λ s. refl) (λ s x xs. refl) first whole (numbers_before (take i (map number_of_db dbs))) dbs i past so_far
+
+module _ (text : RawProgram) where
+  abbrev number_of_block : RawBlock → Result ℕ Reason
+  number_of_block raw = number_of text.symbols raw.kind raw.name
+
+  abbrev next_block : List ℕ → RawBlock → List ℕ
+  next_block before raw = with_block_number before (number_of_block raw)
+
+  pub block_turn : (first later whole : Option Break) (raws : List RawBlock) (i : ℕ) (raw : RawBlock) → i < length raws → raw ≡ get_or raws i raw
+      → later ≡ with_breaks first (block_breaks text (numbers_before (take i (block_numbers text.symbols raws))) raw)
+      → with_breaks first (blocks_behind text (numbers_before (take i (block_numbers text.symbols raws))) (drop i raws)) ≡ whole
+      → with_breaks later (blocks_behind text (numbers_before (take (i + 1) (block_numbers text.symbols raws))) (drop (i + 1) raws)) ≡ whole
+  block_turn first later whole raws i raw before is e so_far =
+      turn (blocks_behind text) (block_breaks text) next_block (λ s. refl) (λ s x xs. refl) first later whole
+      (numbers_before (take i (map number_of_block raws))) (numbers_before (take (i + 1) (map number_of_block raws))) raws i raw before is
+      (numbers_more number_of_block raws i raw before is) e so_far
+
+  pub blocks_ended : (first whole : Option Break) (raws : List RawBlock) (i : ℕ) → length raws ≤ i
+      → with_breaks first (blocks_behind text (numbers_before (take i (block_numbers text.symbols raws))) (drop i raws)) ≡ whole → first ≡ whole
+  blocks_ended first whole raws i past so_far =
+      ended (blocks_behind text) (block_breaks text) next_block (λ s. refl) (λ s x xs. refl) first whole (numbers_before (take i (map number_of_block raws))) raws i past so_far

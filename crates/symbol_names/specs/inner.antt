@@ -1,0 +1,4 @@
+pub mod Firsts
+pub mod Kept
+pub mod Places
+pub mod Refused

@@ -1,0 +1,82 @@
+-- The parts of a program as far as they can be made: those that break no rule of names, blocks and layouts.
+use Rattle.std.specs.Prelude.{ℕ, Bool, true, false, if◌then◌else◌, List, ◌++◌, ◌∷◌, [], Option, Some, None, is_none, option_map, Result, Ok, Err}
+use Rattle.std.specs.List.{flat_map}
+use Rattle.memory_areas.specs.declared.call.BlockName.{BlockName}
+use Rattle.memory_areas.specs.declared.call.BlockName.TheVariants.{Ob}
+use Rattle.memory_areas.specs.declared.data_block.DataBlock.{DataBlock}
+use Rattle.s7_base.specs.Broken.{first_of_all}
+use Rattle.s7_base.specs.declared.broken.Break.{Break}
+use Rattle.s7_base.specs.declared.reason.Line.{Line}
+use Rattle.s7_base.specs.declared.reason.Reason.{Reason}
+use Rattle.stl_rules.specs.DataBlocks.{bytes_with}
+use Rattle.stl_rules.specs.Layouts.{breaks_in}
+use Rattle.stl_rules.specs.Names.{may_have, number_of}
+use Rattle.stl_rules.specs.Programs.{block_with, sight_of, symbol_of}
+use Rattle.stl_rules.specs.Raw.{most_local}
+use Rattle.stl_rules.specs.Stages.{content_breaks, heading_breaks, instr_breaks, is_address}
+use Rattle.stl_tree.specs.declared.program.Block.{Block}
+use Rattle.stl_tree.specs.declared.program.Instr.{Instr}
+use Rattle.stl_tree.specs.declared.program.Op.{Op}
+use Rattle.stl_tree.specs.declared.program.Symbol.{Symbol}
+use Rattle.stl_tree.specs.declared.raw.BlockKind.{BlockKind}
+use Rattle.stl_tree.specs.declared.raw.BlockKind.TheVariants as block
+use Rattle.stl_tree.specs.declared.raw.RawBlock.{RawBlock}
+use Rattle.stl_tree.specs.declared.raw.RawData.{RawData}
+use Rattle.stl_tree.specs.declared.raw.RawDataKind.{RawDataKind}
+use Rattle.stl_tree.specs.declared.raw.RawDataKind.TheVariants as data_kind
+use Rattle.stl_tree.specs.declared.raw.RawInitial.{RawInitial}
+use Rattle.stl_tree.specs.declared.raw.RawProgram.{RawProgram}
+use Rattle.stl_tree.specs.declared.raw.SymbolLine.{SymbolLine}
+
+-- Data blocks
+
+-- what a heading and what stands behind it break
+abbrev pub db_breaks : List ℕ → RawData → Result ℕ Reason → List Break
+db_breaks before d number = heading_breaks block.Db d.line before number ++ content_breaks d.initial d.kind
+
+-- the bytes of declarations where nothing is broken
+abbrev pub bytes_unless : Option Break → List ℕ → Option (List ℕ)
+bytes_unless None bytes = Some bytes
+bytes_unless (Some first) bytes = None
+
+abbrev pub bytes_kept : List RawInitial → RawDataKind → Option (List ℕ)
+bytes_kept values (data_kind.Own decls) = bytes_unless (first_of_all (content_breaks values (data_kind.Own decls))) (bytes_with decls values)
+bytes_kept values (data_kind.Instance name) = None
+
+-- a data block by its number and its bytes
+abbrev pub data_by : Result ℕ Reason → Option (List ℕ) → Option DataBlock
+data_by (Ok n) (Some bytes) = if may_have block.Db n then Some (record { number = n; bytes = bytes }) else None
+data_by number bytes = None
+
+-- nothing is kept where there are too many
+abbrev pub kept_if : Bool → Option DataBlock → Option DataBlock
+kept_if true made = made
+kept_if false made = None
+
+abbrev pub data_kept : Bool → List SymbolLine → RawData → Option DataBlock
+data_kept keep symbols d = kept_if keep (data_by (number_of symbols block.Db d.name) (bytes_kept d.initial d.kind))
+
+-- Blocks
+
+-- what a heading, the temporaries and the instructions break
+abbrev pub block_breaks : RawProgram → List ℕ → RawBlock → List Break
+block_breaks text before raw =
+    heading_breaks raw.kind raw.line before (number_of text.symbols raw.kind raw.name) ++ breaks_in most_local (raw.temps ∷ [])
+    ++ flat_map (instr_breaks (sight_of text raw)) raw.body
+
+-- an instruction on its line, if it is one
+abbrev pub instr_with : Line → Option Op → Option Instr
+instr_with line what = option_map (λ o. record { line = line; op = o }) what
+
+-- the name of a block, where its number is one of its kind
+abbrev pub name_kept : BlockKind → Result ℕ Reason → Option BlockName
+name_kept block.Ob (Ok n) = if may_have block.Ob n then Some (Ob n) else None
+name_kept unbuilt number = None
+
+abbrev pub block_kept : RawProgram → RawBlock → Option Block
+block_kept text raw = option_map (block_with (sight_of text raw) raw) (name_kept raw.kind (number_of text.symbols raw.kind raw.name))
+
+-- Symbols
+
+abbrev pub symbol_kept : SymbolLine → Option Symbol
+symbol_kept line = if is_address line.address then symbol_of line else None

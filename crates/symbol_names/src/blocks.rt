@@ -1,0 +1,223 @@
+//! The organization blocks of a text.
+ghost use Rattle.std.specs.Prelude.{◌≡◌, ◌∷◌, ◌++◌, [], IfOk, OnOk, Ok, map, option_map, take};
+ghost use Rattle.std.specs.List.{filter_map, flat_map};
+ghost use Rattle.std.specs.Option.{option_to_list};
+ghost use Rattle.stl_rules.specs.Programs.{body_of, instr_of, op_by};
+ghost use Rattle.stl_rules.specs.Stages.{blocks_behind, instr_breaks, kind_breaks, operand_breaks};
+ghost use Rattle.stl_tree.specs.declared.raw.RawData.{RawData};
+ghost use Rattle.symbol_names.specs.inner.Firsts.{reasons_at, with_breaks};
+ghost use Rattle.symbol_names.specs.inner.Kept.{block_breaks, block_kept, instr_with, name_kept};
+ghost use Rattle.symbol_names.specs.inner.Places.{block_numbers, numbers_before};
+ghost use Rattle.symbol_names.specs.inner.Refused.{is_refused};
+
+use crate::first::{join, note};
+use crate::headings::note_heading;
+use crate::instruction::op_by;
+use crate::names::{Names, numbers_of_blocks};
+use crate::numbers::Numbers;
+use crate::sight::Sight;
+use crate::symbols::may_have;
+use memory_areas::AreaName;
+use s7_base::{Break, Line, List, NoMemory, Reason};
+use std::alloc::Global;
+use stl_instructions::mnemonic_named;
+use stl_rules::Given;
+use stl_statements::Mnemonic;
+use stl_tree::{Block, BlockKind, BlockName, Instr, Op, Operand, RawBlock, RawInstr};
+use symbol_layout::first_break;
+
+/// The most bytes of local data.
+const MOST_LOCAL: u32 = 256;
+
+/// What is found of blocks.
+#[derive(Drop)]
+pub struct Blocks {
+    /// Those with a number of their kind.
+    pub made: List<Block>,
+
+    pub first: Option<Break>,
+}
+
+/// An operand that its mnemonic has not.
+#[tactic(auto, using(crate::proofs::Firsts::none_more, crate::proofs::Operands::kind_lemmas))]
+fn note_kind(first: &mut Option<Break>, line: Line, what: Option<Mnemonic>, given: Given)
+    ensures { first.new ≡ with_breaks first.old (reasons_at line (kind_breaks (op_by what given))) }
+{
+    if op_by(what, given).is_none() {
+        note(first, line, Reason::BadOperand);
+    }
+}
+
+/// What an instruction breaks, by its mnemonic and what stands behind it.
+#[tactic(auto, using(crate::proofs::Firsts::none_more, crate::proofs::Firsts::behind, crate::proofs::Operands::outside_breaks))]
+fn note_operand(first: &mut Option<Break>, line: Line, what: Option<Mnemonic>, given: Given)
+    ensures { first.new ≡ with_breaks first.old (reasons_at line (operand_breaks what given)) }
+{
+    match given {
+        Given::Unknown => note(first, line, Reason::UnknownName),
+        Given::Unfit => note(first, line, Reason::BadOperand),
+        Given::Unjudged | Given::Other => {}
+        Given::NoNumber => note(first, line, Reason::BadAddress),
+        Given::Outside(width) => {
+            let some_place = Operand::Direct(AreaName::M, 0, 0);
+            note_kind(first, line, what, Given::At(some_place, width));
+            note(first, line, Reason::BadAddress);
+        }
+        _ => note_kind(first, line, what, given),
+    }
+}
+
+/// One more instruction of a body.
+fn put_op(body: &mut List<Instr>, line: Line, op: Option<Op>) -> Result<(), NoMemory>
+    ensures { OnOk result (body.new ≡ body.old ++ option_to_list (instr_with line op)) }
+{
+    match op {
+        Some(op) => body.push(Instr { line, op }),
+        None => Ok(()),
+    }
+}
+
+/// One more instruction of a body, if it is one.
+#[tactic(auto, unfolding(stl_rules::specs::Programs::op_of))]
+fn put_instr(
+    alloc: Global,
+    sight: &Sight<'_, '_>,
+    raw: &RawInstr,
+    body: &mut List<Instr>,
+    first: &mut Option<Break>,
+) -> Result<(), NoMemory>
+    ensures body { OnOk result (body.new ≡ body.old ++ option_to_list (instr_of sight.now raw.now)) }
+    ensures first { OnOk result (first.new ≡ with_breaks first.old (instr_breaks sight.now raw.now)) }
+{
+    let what = mnemonic_named(raw.op.mnemonic.as_slice());
+    let given = sight.given(alloc, &raw.op.operand)?;
+    note_operand(first, raw.line, what, given);
+    put_op(body, raw.line, op_by(what, given))
+}
+
+/// The instructions of a body but for its end word.
+#[tactic(auto, using(crate::proofs::Firsts::behind, crate::proofs::Firsts::none_more))]
+fn put_instrs(
+    alloc: Global,
+    sight: &Sight<'_, '_>,
+    raws: &[RawInstr],
+    body: &mut List<Instr>,
+    first: &mut Option<Break>,
+) -> Result<(), NoMemory>
+    ensures body { OnOk result (body.new ≡ body.old ++ filter_map (instr_of sight.now) raws.now) }
+    ensures first { OnOk result (first.new ≡ with_breaks first.old (flat_map (instr_breaks sight.now) raws.now)) }
+{
+    for raw in raws {
+        put_instr(alloc, sight, raw, body, first)?;
+    }
+    Ok(())
+}
+
+/// The instructions of a block.
+fn body_of(
+    alloc: Global,
+    sight: &Sight<'_, '_>,
+    raw: &RawBlock,
+    first: &mut Option<Break>,
+) -> Result<List<Instr>, NoMemory>
+    ensures body { IfOk result (λ body. body ≡ body_of sight.now raw.now) }
+    ensures first { OnOk result (first.new ≡ with_breaks first.old (flat_map (instr_breaks sight.now) raw.now.body)) }
+{
+    let mut body = List::new(alloc);
+    put_instrs(alloc, sight, raw.body.as_slice(), &mut body, first)?;
+    body.push(Instr {
+        line: raw.end_line,
+        op: Op::BlockEnd,
+    })?;
+    Ok(body)
+}
+
+/// The name of a block of a number, where that is one of its kind.
+fn name_numbered(kind: BlockKind, number: u32) -> Option<BlockName>
+    ensures { result ≡ name_kept kind (Ok number) }
+{
+    match kind {
+        BlockKind::Ob if may_have(BlockKind::Ob, number) => Some(BlockName::Ob(number as u16)),
+        _ => None,
+    }
+}
+
+/// The name of a block, where it has a number of its kind.
+fn name_of(kind: BlockKind, number: Result<u32, Reason>) -> Option<BlockName>
+    ensures { result ≡ name_kept kind number }
+{
+    match number {
+        Ok(number) => name_numbered(kind, number),
+        Err(_) => None,
+    }
+}
+
+/// Puts a block to the others, where it has a name.
+fn put_named(
+    alloc: Global,
+    made: &mut List<Block>,
+    line: Line,
+    name: Option<BlockName>,
+    body: List<Instr>,
+) -> Result<(), NoMemory>
+    ensures { OnOk result (made.new ≡ made.old ++ option_to_list (option_map (λ n. record { name = n; line = line; formals = []; body = body }) name)) }
+{
+    match name {
+        Some(name) => made.push(Block {
+            name,
+            line,
+            formals: List::new(alloc),
+            body,
+        }),
+        None => Ok(()),
+    }
+}
+
+/// One more block.
+#[tactic(auto, using(crate::proofs::Firsts::behind, crate::proofs::Firsts::joins))]
+fn put_block(
+    alloc: Global,
+    names: &Names<'_>,
+    refused: &[bool],
+    numbers: &Numbers,
+    place: usize,
+    raw: &RawBlock,
+    blocks: &mut Blocks,
+) -> Result<(), NoMemory>
+    requires { refused.now ≡ map (λ (d : RawData). is_refused d.kind) names.now.dbs }
+    ensures made { OnOk result (blocks.new.made ≡ blocks.old.made ++ option_to_list (block_kept names.now raw.now)) }
+    ensures first { OnOk result (blocks.new.first ≡ with_breaks blocks.old.first (block_breaks names.now (numbers_before (take place numbers.now)) raw.now)) }
+{
+    let number = names.symbols().number_of(alloc, raw.kind, &raw.name)?;
+    note_heading(raw.kind, raw.line, numbers, place, number, &mut blocks.first);
+    let temps = raw.temps.as_slice();
+    let temps_first = first_break(alloc, temps, MOST_LOCAL)?;
+    join(&mut blocks.first, temps_first);
+    let sight = Sight::new(names, refused, temps, temps_first.is_some());
+    let body = body_of(alloc, &sight, raw, &mut blocks.first)?;
+    put_named(alloc, &mut blocks.made, raw.line, name_of(raw.kind, number), body)
+}
+
+/// The blocks of a text.
+pub fn put_blocks(
+    alloc: Global,
+    names: &Names<'_>,
+    refused: &[bool],
+    raws: &[RawBlock],
+    first: Option<Break>,
+) -> Result<Blocks, NoMemory>
+    requires { refused.now ≡ map (λ (d : RawData). is_refused d.kind) names.now.dbs }
+    ensures made { IfOk result (λ b. b.made ≡ filter_map (block_kept names.now) raws.now) }
+    ensures first { IfOk result (λ b. b.first ≡ with_breaks first (blocks_behind names.now [] raws.now)) }
+{
+    let numbers = Numbers::new(alloc, numbers_of_blocks(alloc, names.symbols(), raws)?)?;
+    let mut blocks = Blocks {
+        made: List::new(alloc),
+        first,
+    };
+    for place in 0..raws.len() {
+        let raw = &raws[place];
+        put_block(alloc, names, refused, &numbers, place, raw, &mut blocks)?;
+    }
+    Ok(blocks)
+}

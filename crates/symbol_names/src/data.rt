@@ -1,0 +1,192 @@
+//! The data blocks of a text.
+ghost use Rattle.std.specs.Prelude.{◌≡◌, ◌∷◌, ◌++◌, [], IfOk, OnOk, Ok, Some, is_none, map, slice_get, take};
+ghost use Rattle.std.specs.List.{filter_map};
+ghost use Rattle.std.specs.Option.{option_to_list};
+ghost use Rattle.memory_areas.specs.declared.sizes.TheConstants.{MOST_BLOCKS};
+ghost use Rattle.s7_base.specs.Broken.{first_of_all};
+ghost use Rattle.stl_rules.specs.Names.{number_of};
+ghost use Rattle.stl_rules.specs.Stages.{content_breaks, dbs_behind, one_too_many};
+ghost use Rattle.stl_tree.specs.declared.raw.BlockKind.TheVariants as block;
+ghost use Rattle.stl_tree.specs.declared.raw.RawData.{RawData};
+ghost use Rattle.stl_tree.specs.declared.raw.RawDataKind.TheVariants as data_kind;
+ghost use Rattle.symbol_names.specs.inner.Firsts.{with_breaks};
+ghost use Rattle.symbol_names.specs.inner.Kept.{bytes_kept, data_by, data_kept, db_breaks, kept_if};
+ghost use Rattle.symbol_names.specs.inner.Places.{db_numbers, numbers_before};
+ghost use Rattle.symbol_names.specs.inner.Refused.{is_refused};
+
+use crate::first::{join, note};
+use crate::headings::note_heading;
+use crate::names::Names;
+use crate::symbols::may_have;
+use data_contents::{Content, content};
+use memory_areas::{DataBlock, MOST_BLOCKS};
+use s7_base::{Break, List, NoMemory, Reason};
+use std::alloc::Global;
+use stl_tree::{BlockKind, Declaration, RawData, RawDataKind, RawInitial};
+
+/// What a data block holds.
+#[derive(Drop)]
+struct Filled {
+    /// Its declarations break a rule.
+    refused: bool,
+
+    first: Option<Break>,
+
+    /// Its bytes, where it has declarations of its own and breaks no rule.
+    bytes: Option<List<u8>>,
+}
+
+/// What is found of data blocks.
+#[derive(Drop)]
+pub struct Found {
+    /// Which have declarations that break a rule.
+    pub refused: Vec<bool>,
+
+    /// Those that break no rule of their own.
+    pub made: List<DataBlock>,
+
+    pub first: Option<Break>,
+}
+
+/// What declarations and initial values come to.
+#[tactic(auto, using(crate::proofs::Contents::content_lemmas))]
+fn filled_own(
+    alloc: Global,
+    decls: &[Declaration],
+    values: &[RawInitial],
+) -> Result<Filled, NoMemory>
+    ensures refused { IfOk result (λ f. f.refused ≡ is_refused (data_kind.Own decls.now)) }
+    ensures first { IfOk result (λ f. f.first ≡ first_of_all (content_breaks values.now (data_kind.Own decls.now))) }
+    ensures bytes { IfOk result (λ f. f.bytes ≡ bytes_kept values.now (data_kind.Own decls.now)) }
+{
+    match content(alloc, decls, values)? {
+        Content::Bytes(bytes) => Ok(Filled {
+            refused: false,
+            first: None,
+            bytes: Some(bytes),
+        }),
+        Content::BadDeclarations(first) => Ok(Filled {
+            refused: true,
+            first: Some(first),
+            bytes: None,
+        }),
+        Content::BadValues(first) => Ok(Filled {
+            refused: false,
+            first: Some(first),
+            bytes: None,
+        }),
+    }
+}
+
+/// What a data block comes to.
+fn filled(alloc: Global, d: &RawData) -> Result<Filled, NoMemory>
+    ensures refused { IfOk result (λ f. f.refused ≡ is_refused d.now.kind) }
+    ensures first { IfOk result (λ f. f.first ≡ first_of_all (content_breaks d.now.initial d.now.kind)) }
+    ensures bytes { IfOk result (λ f. f.bytes ≡ bytes_kept d.now.initial d.now.kind) }
+{
+    match &d.kind {
+        RawDataKind::Own(decls) => filled_own(alloc, decls.as_slice(), d.initial.as_slice()),
+        RawDataKind::Instance(_) => Ok(Filled {
+            refused: false,
+            first: None,
+            bytes: None,
+        }),
+    }
+}
+
+/// The data block of a number with these bytes.
+fn data_of(number: u32, bytes: List<u8>) -> Option<DataBlock>
+    ensures { result ≡ data_by (Ok number) (Some bytes) }
+{
+    if may_have(BlockKind::Db, number) {
+        Some(DataBlock {
+            number: number as u16,
+            bytes,
+        })
+    } else {
+        None
+    }
+}
+
+/// A data block, where it has a number and bytes.
+fn data_by(number: Result<u32, Reason>, bytes: Option<List<u8>>) -> Option<DataBlock>
+    ensures { result ≡ data_by number bytes }
+{
+    match number {
+        Ok(number) => data_of(number, bytes?),
+        Err(_) => None,
+    }
+}
+
+/// Puts a data block to the others, where there are not too many.
+fn put_made(made: &mut List<DataBlock>, keep: bool, block: Option<DataBlock>) -> Result<(), NoMemory>
+    ensures { OnOk result (made.new ≡ made.old ++ option_to_list (kept_if keep block)) }
+{
+    match block {
+        Some(block) if keep => made.push(block),
+        _ => Ok(()),
+    }
+}
+
+/// One more data block.
+#[tactic(auto, using(crate::proofs::Firsts::behind, crate::proofs::Firsts::joins))]
+fn put_data(
+    alloc: Global,
+    names: &Names<'_>,
+    keep: bool,
+    place: usize,
+    d: &RawData,
+    found: &mut Found,
+) -> Result<(), NoMemory>
+    ensures refused { OnOk result (found.new.refused.items ≡ found.old.refused.items ++ is_refused d.now.kind ∷ []) }
+    ensures made { OnOk result (found.new.made ≡ found.old.made ++ option_to_list (data_kept keep names.now.symbols d.now)) }
+    ensures first { OnOk result (found.new.first ≡ with_breaks found.old.first (db_breaks
+        (numbers_before (take place (db_numbers names.now.symbols names.now.dbs))) d.now (number_of names.now.symbols block.Db d.now.name))) }
+{
+    let number = names.symbols().number_of(alloc, BlockKind::Db, &d.name)?;
+    note_heading(
+        BlockKind::Db,
+        d.line,
+        names.dbs(),
+        place,
+        number,
+        &mut found.first,
+    );
+    let Filled {
+        refused,
+        first,
+        bytes,
+    } = filled(alloc, d)?;
+    join(&mut found.first, first);
+    found.refused.push(refused)?;
+    put_made(&mut found.made, keep, data_by(number, bytes))
+}
+
+/// What the data blocks break whose place is past the last that a program may have.
+fn note_too_many(dbs: &[RawData], first: &mut Option<Break>)
+    ensures { first.new ≡ with_breaks first.old (one_too_many (slice_get dbs.now MOST_BLOCKS)) }
+{
+    if let Some(d) = dbs.get(MOST_BLOCKS) {
+        note(first, d.line, Reason::TooLarge);
+    }
+}
+
+/// The data blocks of a text.
+pub fn put_dbs(alloc: Global, names: &Names<'_>, dbs: &[RawData], first: Option<Break>) -> Result<Found, NoMemory>
+    requires { dbs.now ≡ names.now.dbs }
+    ensures refused { IfOk result (λ f. f.refused.items ≡ map (λ (d : RawData). is_refused d.kind) dbs.now) }
+    ensures made { IfOk result (λ f. f.made ≡ filter_map (data_kept (is_none (slice_get dbs.now MOST_BLOCKS)) names.now.symbols) dbs.now) }
+    ensures first { IfOk result (λ f. f.first ≡ with_breaks first (dbs_behind names.now.symbols [] dbs.now)) }
+{
+    let keep = dbs.get(MOST_BLOCKS).is_none();
+    let mut found = Found {
+        refused: Vec::new(alloc),
+        made: List::new(alloc),
+        first,
+    };
+    for place in 0..dbs.len() {
+        let d = &dbs[place];
+        put_data(alloc, names, keep, place, d, &mut found)?;
+    }
+    Ok(found)
+}

@@ -1,0 +1,44 @@
+//! The first of the broken rules so far.
+ghost use Rattle.std.specs.Prelude.{◌≡◌};
+ghost use Rattle.s7_base.specs.Broken.{broken, sooner};
+ghost use Rattle.stl_rules.specs.Stages.{broken_if};
+ghost use Rattle.symbol_names.specs.inner.Firsts.{joined, with_breaks};
+
+use s7_base::{Break, Line, Reason, first_of_all};
+
+/// The first of what is broken so far, and of one more.
+fn sooner(first: Option<Break>, other: Break) -> Option<Break>
+    ensures { result ≡ sooner first other }
+{
+    match first {
+        Some(first) => first_of_all(&[first, other]),
+        None => Some(other),
+    }
+}
+
+/// One more broken rule.
+#[tactic(auto, using(crate::proofs::Firsts::one_more))]
+pub fn note(first: &mut Option<Break>, line: Line, rule: Reason)
+    ensures { first.new ≡ with_breaks first.old (broken line rule) }
+{
+    *first = sooner(*first, Break { line, rule });
+}
+
+/// One more broken rule, where something holds.
+#[tactic(auto, using(crate::proofs::Firsts::none_more))]
+pub fn note_if(first: &mut Option<Break>, holds: bool, line: Line, rule: Reason)
+    ensures { first.new ≡ with_breaks first.old (broken_if holds line rule) }
+{
+    if holds {
+        note(first, line, rule);
+    }
+}
+
+/// The first of some more broken rules.
+pub fn join(first: &mut Option<Break>, other: Option<Break>)
+    ensures { first.new ≡ joined first.old other }
+{
+    if let Some(other) = other {
+        *first = sooner(*first, other);
+    }
+}

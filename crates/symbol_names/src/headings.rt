@@ -1,0 +1,81 @@
+//! The rules of the symbol table, and of headings of blocks.
+ghost use Rattle.std.specs.Prelude.{◌≡◌, [], OnOk, take};
+ghost use Rattle.stl_rules.specs.DeclarationRules.{is_named, key_of};
+ghost use Rattle.stl_rules.specs.Stages.{broken_if, heading_breaks, is_address, symbols_behind};
+ghost use Rattle.symbol_names.specs.inner.Firsts.{with_breaks};
+ghost use Rattle.symbol_names.specs.inner.Places.{line_breaks, names_before, numbers_before};
+
+use crate::first::{note, note_if};
+use crate::numbers::Numbers;
+use crate::symbols::{Symbols, may_have};
+use s7_base::{Break, Line, NoMemory, Reason};
+use std::alloc::Global;
+use stl_instructions::is_in_area;
+use stl_tree::{BlockKind, SymbolAddress, SymbolLine};
+
+/// An address is one of its area, or a number of its kind.
+pub fn is_address(address: SymbolAddress) -> bool
+    ensures { result ≡ is_address address }
+{
+    match address {
+        SymbolAddress::At(place) => is_in_area(place),
+        SymbolAddress::Block(kind, number) => may_have(kind, number),
+        SymbolAddress::Other => true,
+    }
+}
+
+/// What a line of the symbol table breaks.
+#[tactic(auto, using(crate::proofs::Firsts::behind))]
+fn note_line(
+    alloc: Global,
+    symbols: &Symbols<'_>,
+    place: usize,
+    line: &SymbolLine,
+    first: &mut Option<Break>,
+) -> Result<(), NoMemory>
+    ensures { OnOk result (first.new ≡ with_breaks first.old (line_breaks (names_before (take place symbols.now)) line.now)) }
+{
+    let repeated = symbols.is_repeated(alloc, place, line.name.as_slice())?;
+    note_if(first, repeated, line.line, Reason::DuplicateName);
+    note_if(first, !is_address(line.address), line.line, Reason::BadAddress);
+    Ok(())
+}
+
+/// What the symbol table breaks.
+pub fn note_symbols(
+    alloc: Global,
+    symbols: &Symbols<'_>,
+    lines: &[SymbolLine],
+    first: &mut Option<Break>,
+) -> Result<(), NoMemory>
+    requires { symbols.now ≡ lines.now }
+    ensures { OnOk result (first.new ≡ with_breaks first.old (symbols_behind [] lines.now)) }
+{
+    for place in 0..lines.len() {
+        let line = &lines[place];
+        note_line(alloc, symbols, place, line, first)?;
+    }
+    Ok(())
+}
+
+/// What the heading of a block breaks.
+#[tactic(auto, using(crate::proofs::Firsts::behind))]
+pub fn note_heading(
+    kind: BlockKind,
+    line: Line,
+    numbers: &Numbers,
+    place: usize,
+    number: Result<u32, Reason>,
+    first: &mut Option<Break>,
+)
+    ensures { first.new ≡ with_breaks first.old (heading_breaks kind line (numbers_before (take place numbers.now)) number) }
+{
+    match number {
+        Ok(number) => {
+            note_if(first, !may_have(kind, number), line, Reason::BadAddress);
+            let repeated = numbers.is_repeated(number, place);
+            note_if(first, repeated, line, Reason::DuplicateBlock);
+        }
+        Err(reason) => note(first, line, reason),
+    }
+}

@@ -1,0 +1,329 @@
+//! The instruction that a raw one is, by its mnemonic and what stands behind it.
+ghost use Rattle.std.specs.Prelude.{◌≡◌, ◌≢◌, Some};
+ghost use Rattle.s7_base.specs.SignedNumbers.{pattern};
+ghost use Rattle.s7_base.specs.declared.word.Width.TheVariants as wide;
+ghost use Rattle.stl_rules.specs.Programs.{adding, combining, comparing, is_compared, op_by, op_with, shifting, with_number, within};
+ghost use Rattle.stl_rules.specs.declared.given.Given.TheVariants as behind;
+ghost use Rattle.stl_statements.specs.Constants.{value_in};
+ghost use Rattle.stl_tree.specs.Accumulators.{bits_wide, signed_part};
+ghost use Rattle.stl_tree.specs.Arithmetic.{is_comparison};
+ghost use Rattle.stl_tree.specs.declared.program.Op.TheVariants as op;
+
+use s7_base::{Check, Width};
+use status_word::Test;
+use stl_instructions::{fits, logic_width, most_steps};
+use stl_rules::Given;
+use stl_statements::Mnemonic;
+use stl_tree::{BitArg, Constant, LoadArg, LogicRow, Op, OpenArg, Operand, ShiftRow};
+
+/// One of the six signs of comparisons.
+fn is_comparison(test: Test) -> bool
+    ensures { result ≡ is_comparison test }
+{
+    match test {
+        Test::Eq | Test::Ne | Test::Gt | Test::Lt | Test::Ge | Test::Le => true,
+        Test::Uo | Test::Ov | Test::Os | Test::Br => false,
+    }
+}
+
+/// A comparison of words or of double words.
+fn is_compared(test: Test, width: Width) -> bool
+    ensures { result ≡ is_compared test width }
+{
+    match width {
+        Width::Word | Width::Dword => is_comparison(test),
+        Width::Bit | Width::Byte => false,
+    }
+}
+
+fn comparing(test: Test, width: Width) -> Option<Op>
+    ensures { result ≡ comparing test width behind.Nothing }
+{
+    if is_compared(test, width) {
+        Some(Op::Compare(test, width))
+    } else {
+        None
+    }
+}
+
+/// An instruction that takes no operand.
+fn with_nothing(what: Mnemonic) -> Option<Op>
+    ensures { result ≡ op_with what behind.Nothing }
+{
+    match what {
+        Mnemonic::Check(Check::O) => Some(Op::OrAlone),
+        Mnemonic::Bracket(check) => Some(Op::Bracket(check)),
+        Mnemonic::Close => Some(Op::Close),
+        Mnemonic::SetRlo => Some(Op::SetRlo),
+        Mnemonic::ClearRlo => Some(Op::ClearRlo),
+        Mnemonic::NotRlo => Some(Op::NotRlo),
+        Mnemonic::Save => Some(Op::Save),
+        Mnemonic::Arith(row) => Some(Op::Arith(row)),
+        Mnemonic::Compare(test, width) => comparing(test, width),
+        Mnemonic::Shift(row) => Some(Op::Shift(row, None)),
+        Mnemonic::Rlda => Some(Op::Rlda),
+        Mnemonic::Rrda => Some(Op::Rrda),
+        Mnemonic::Logic(row) => Some(Op::Logic(row, None)),
+        Mnemonic::Unary(row) => Some(Op::Unary(row)),
+        Mnemonic::Tak => Some(Op::Tak),
+        Mnemonic::Push => Some(Op::Push),
+        Mnemonic::Pop => Some(Op::Pop),
+        Mnemonic::ExchangeDb => Some(Op::ExchangeDb),
+        _ => None,
+    }
+}
+
+/// An instruction on a bit.
+fn with_bit(what: Mnemonic, bit: Operand) -> Option<Op>
+    ensures { result ≡ op_with what (behind.At bit wide.Bit) }
+{
+    match what {
+        Mnemonic::Check(check) => Some(Op::Check(check, BitArg::At(bit))),
+        Mnemonic::Assign => Some(Op::Assign(bit)),
+        Mnemonic::Set => Some(Op::Set(bit)),
+        Mnemonic::Reset => Some(Op::Reset(bit)),
+        Mnemonic::EdgeUp => Some(Op::EdgeUp(bit)),
+        Mnemonic::EdgeDown => Some(Op::EdgeDown(bit)),
+        _ => None,
+    }
+}
+
+/// An instruction on a byte, a word or a double word.
+fn with_place(what: Mnemonic, place: Operand, width: Width) -> Option<Op>
+    requires { width ≢ wide.Bit }
+    ensures { result ≡ op_with what (behind.At place width) }
+{
+    match what {
+        Mnemonic::Load => Some(Op::Load(LoadArg::At(place, width))),
+        Mnemonic::Transfer => Some(Op::Transfer(place, width)),
+        _ => None,
+    }
+}
+
+/// A check of the status word.
+fn with_flag(what: Mnemonic, test: Test) -> Option<Op>
+    ensures { result ≡ op_with what (behind.Flag test) }
+{
+    match what {
+        Mnemonic::Check(check) => Some(Op::Check(check, BitArg::Flag(test))),
+        _ => None,
+    }
+}
+
+/// An instruction on the whole status word.
+fn with_stw(what: Mnemonic) -> Option<Op>
+    ensures { result ≡ op_with what behind.Stw }
+{
+    match what {
+        Mnemonic::Load => Some(Op::LoadStw),
+        Mnemonic::Transfer => Some(Op::TransferStw),
+        _ => None,
+    }
+}
+
+/// The number in the DB register.
+fn with_db_number(what: Mnemonic) -> Option<Op>
+    ensures { result ≡ op_with what behind.DbNo }
+{
+    match what {
+        Mnemonic::Load => Some(Op::LoadDbNo),
+        _ => None,
+    }
+}
+
+/// The number in the DI register.
+fn with_di_number(what: Mnemonic) -> Option<Op>
+    ensures { result ≡ op_with what behind.DiNo }
+{
+    match what {
+        Mnemonic::Load => Some(Op::LoadDiNo),
+        _ => None,
+    }
+}
+
+/// The number of a data block that is opened.
+fn with_db(what: Mnemonic, number: u16) -> Option<Op>
+    ensures { result ≡ op_with what (behind.Db number) }
+{
+    match what {
+        Mnemonic::Open => Some(Op::OpenDb(OpenArg::Number(number))),
+        _ => None,
+    }
+}
+
+/// The number of an instance that is opened.
+fn with_di(what: Mnemonic, number: u16) -> Option<Op>
+    ensures { result ≡ op_with what (behind.Di number) }
+{
+    match what {
+        Mnemonic::Open => Some(Op::OpenDi(OpenArg::Number(number))),
+        _ => None,
+    }
+}
+
+/// A constant as a number of 16 bits.
+fn word_number(value: u32) -> i16
+    ensures { result ≡ signed_part wide.Word value }
+{
+    ((value & 0xffff) as u16).cast_signed()
+}
+
+/// A constant as a number of 32 bits.
+fn dword_number(value: u32) -> i32
+    ensures { result ≡ signed_part wide.Dword value }
+{
+    value.cast_signed()
+}
+
+/// A plain number is added to the low word, another constant to the whole.
+fn adding(constant: Constant) -> Op
+    ensures { Some result ≡ adding (behind.Constant constant) }
+{
+    if constant.signed {
+        Op::AddWord(word_number(constant.value))
+    } else {
+        Op::AddDword(dword_number(constant.value))
+    }
+}
+
+/// A number of 8 bits.
+fn byte_of(constant: Constant) -> Option<u8>
+    ensures { result ≡ within 8 constant.value }
+{
+    if constant.value < 256 {
+        Some(constant.value as u8)
+    } else {
+        None
+    }
+}
+
+fn incrementing(constant: Constant) -> Option<Op>
+    ensures { result ≡ with_number op.Inc (behind.Constant constant) }
+{
+    Some(Op::Inc(byte_of(constant)?))
+}
+
+fn decrementing(constant: Constant) -> Option<Op>
+    ensures { result ≡ with_number op.Dec (behind.Constant constant) }
+{
+    Some(Op::Dec(byte_of(constant)?))
+}
+
+fn passing(constant: Constant) -> Option<Op>
+    ensures { result ≡ with_number (λ n. op.Nop) (behind.Constant constant) }
+{
+    match byte_of(constant) {
+        Some(_) => Some(Op::Nop),
+        None => None,
+    }
+}
+
+/// A shift or a rotation by a constant.
+fn shifting(row: ShiftRow, constant: Constant) -> Option<Op>
+    ensures { result ≡ shifting row (behind.Constant constant) }
+{
+    if constant.value <= u32::from(most_steps(row)) {
+        Some(Op::Shift(row, Some(constant.value as u8)))
+    } else {
+        None
+    }
+}
+
+/// A plain number with its sign extended to a double word.
+fn extended(value: u32) -> u32
+    ensures { result ≡ pattern 32 (signed_part wide.Word value) }
+{
+    i32::from(word_number(value)).cast_unsigned()
+}
+
+/// The value of a constant in a width.
+fn value_in(width: Width, constant: Constant) -> u32
+    ensures { result ≡ value_in width constant }
+{
+    match width {
+        Width::Dword if constant.signed => extended(constant.value),
+        _ => constant.value,
+    }
+}
+
+/// A number that has room in a width.
+fn within(width: Width, value: u32) -> Option<u32>
+    ensures { result ≡ within (bits_wide width) value }
+{
+    let has_room = match width {
+        Width::Bit => value < 2,
+        Width::Byte => value < 256,
+        Width::Word => value < 65_536,
+        Width::Dword => true,
+    };
+    if has_room { Some(value) } else { None }
+}
+
+/// Word logic with a constant.
+fn combining(row: LogicRow, constant: Constant) -> Option<Op>
+    ensures { result ≡ combining row (behind.Constant constant) }
+{
+    let width = logic_width(row);
+    if fits(width, constant) {
+        let value = within(width, value_in(width, constant))?;
+        Some(Op::Logic(row, Some(value)))
+    } else {
+        None
+    }
+}
+
+/// An instruction with a constant.
+fn with_constant(what: Mnemonic, constant: Constant) -> Option<Op>
+    ensures { result ≡ op_with what (behind.Constant constant) }
+{
+    match what {
+        Mnemonic::Load => Some(Op::Load(LoadArg::Constant(constant.value))),
+        Mnemonic::Plus => Some(adding(constant)),
+        Mnemonic::Inc => incrementing(constant),
+        Mnemonic::Dec => decrementing(constant),
+        Mnemonic::Shift(row) => shifting(row, constant),
+        Mnemonic::Logic(row) => combining(row, constant),
+        Mnemonic::Nop => passing(constant),
+        _ => None,
+    }
+}
+
+/// An instruction on a place of a width.
+fn with_operand(what: Mnemonic, operand: Operand, width: Width) -> Option<Op>
+    ensures { result ≡ op_with what (behind.At operand width) }
+{
+    match width {
+        Width::Bit => with_bit(what, operand),
+        Width::Byte | Width::Word | Width::Dword => with_place(what, operand, width),
+    }
+}
+
+/// An instruction by what its mnemonic is, and what stands behind it.
+#[tactic(auto, using(crate::proofs::Operands::none_fit))]
+fn op_with(what: Mnemonic, given: Given) -> Option<Op>
+    ensures { result ≡ op_with what given }
+{
+    match given {
+        Given::Nothing => with_nothing(what),
+        Given::At(operand, width) => with_operand(what, operand, width),
+        Given::Flag(test) => with_flag(what, test),
+        Given::Stw => with_stw(what),
+        Given::DbNo => with_db_number(what),
+        Given::DiNo => with_di_number(what),
+        Given::Constant(constant) => with_constant(what, constant),
+        Given::Db(number) => with_db(what, number),
+        Given::Di(number) => with_di(what, number),
+        Given::Outside(_) | Given::NoNumber | Given::Unknown => None,
+        Given::Unfit | Given::Unjudged | Given::Other => None,
+    }
+}
+
+/// An instruction by what its mnemonic is, if it is one.
+pub fn op_by(what: Option<Mnemonic>, given: Given) -> Option<Op>
+    ensures { result ≡ op_by what given }
+{
+    match what {
+        Some(what) => op_with(what, given),
+        None => None,
+    }
+}

@@ -1,0 +1,23 @@
+//! What the names of a source mean: its program, or the first rule of names, blocks and layouts that it breaks.
+//!
+//! Stands on `stl_rules`, which has all of this as definitions, on `symbol_layout` for paths into declarations
+//! and on `data_contents` for the bytes of data blocks. `names` finds symbols and data blocks by maps, `sight`
+//! says what stands behind a mnemonic, and `instruction` what comes of both. Of the broken rules the first alone
+//! is kept.
+#![tactic(auto)]
+
+pub use resolve::resolve;
+pub use unbuilt::unbuilt;
+
+mod blocks;
+mod data;
+mod first;
+mod headings;
+mod instruction;
+mod names;
+mod numbers;
+mod place;
+mod resolve;
+mod sight;
+mod symbols;
+mod unbuilt;

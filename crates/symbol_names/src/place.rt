@@ -1,0 +1,100 @@
+//! Written places, and components as places.
+ghost use Rattle.std.specs.Prelude.{◌≡◌, None, Some, if◌then◌else◌};
+ghost use Rattle.stl_rules.specs.Extents.{width_of};
+ghost use Rattle.stl_rules.specs.Raw.{given_component, given_place, given_symbol, is_placed, operand_at, place_of_kind};
+ghost use Rattle.stl_rules.specs.declared.given.Given.TheVariants as behind;
+
+use crate::symbols::may_have;
+use memory_areas::AreaName;
+use s7_base::Width;
+use stl_instructions::is_in_area;
+use stl_rules::{Component, Given};
+use stl_tree::{BlockKind, ElemType, Operand, RawPlace, SymbolAddress};
+
+/// A place with no number of a data block before it.
+fn given_direct(place: RawPlace) -> Given
+    ensures { result ≡ (if is_placed place None then operand_at place None else behind.Outside place.width) }
+{
+    if is_in_area(place) {
+        let operand = Operand::Direct(place.area, place.byte, place.bit as u8);
+        Given::At(operand, place.width)
+    } else {
+        Given::Outside(place.width)
+    }
+}
+
+/// A place behind the number of a data block.
+fn given_opened(place: RawPlace, number: u32) -> Given
+    ensures { result ≡ (if is_placed place (Some number) then operand_at place (Some number) else behind.Outside place.width) }
+{
+    if is_in_area(place) && may_have(BlockKind::Db, number) {
+        let operand = Operand::Opened(number as u16, place.byte, place.bit as u8);
+        Given::At(operand, place.width)
+    } else {
+        Given::Outside(place.width)
+    }
+}
+
+/// A written place, in its area or outside it.
+pub fn given_place(place: RawPlace) -> Given
+    ensures { result ≡ given_place place }
+{
+    match place.block {
+        Some(number) => given_opened(place, number),
+        None => given_direct(place),
+    }
+}
+
+/// A symbol as an operand.
+pub fn given_symbol(address: Option<SymbolAddress>) -> Given
+    ensures { result ≡ given_symbol address }
+{
+    match address {
+        None => Given::Unknown,
+        Some(SymbolAddress::At(place)) => given_place(place),
+        Some(_) => Given::Unfit,
+    }
+}
+
+/// The width of an elementary type.
+fn width_of(kind: ElemType) -> Width
+    ensures { result ≡ width_of kind }
+{
+    match kind {
+        ElemType::Bool => Width::Bit,
+        ElemType::Byte | ElemType::Char => Width::Byte,
+        ElemType::Word | ElemType::Int => Width::Word,
+        ElemType::Dword | ElemType::Dint => Width::Dword,
+    }
+}
+
+/// A component as the place that it lies at.
+fn place_of_kind(
+    number: Option<u32>,
+    area: AreaName,
+    at: Component,
+    kind: Option<ElemType>,
+) -> Given
+    ensures { result ≡ place_of_kind number area at kind }
+{
+    match kind {
+        None => Given::Unfit,
+        Some(kind) => given_place(RawPlace {
+            block: number,
+            area,
+            width: width_of(kind),
+            byte: at.byte,
+            bit: u32::from(at.bit),
+        }),
+    }
+}
+
+/// What a path names, by the component that it names.
+pub fn given_component(number: Option<u32>, area: AreaName, at: Option<Component>) -> Given
+    ensures { result ≡ given_component number area at }
+{
+    match at {
+        None => Given::Unknown,
+        Some(at) => place_of_kind(number, area, at, at.kind),
+    }
+}

@@ -1,0 +1,224 @@
+//! What stands behind a mnemonic, by what names mean in a block.
+ghost use Rattle.std.specs.Prelude.{◌≡◌, IfOk, map, if◌then◌else◌, Some, None, ◌∷◌, []};
+ghost use Rattle.memory_areas.specs.declared.place.AreaName.TheVariants as area;
+ghost use Rattle.stl_rules.specs.Names.{db_numbered, number_at, number_of, symbol_named};
+ghost use Rattle.stl_rules.specs.Paths.{component_in};
+ghost use Rattle.stl_rules.specs.Raw.{are_refused, given, given_component, given_in_data, given_in_kind, given_number, given_open, given_path, most_in_block, most_local};
+ghost use Rattle.stl_rules.specs.declared.given.Given.TheVariants as behind;
+ghost use Rattle.stl_tree.specs.declared.raw.BlockKind.TheVariants as block;
+ghost use Rattle.stl_tree.specs.declared.raw.RawData.{RawData};
+ghost use Rattle.symbol_names.specs.inner.Refused.{is_refused};
+
+use crate::names::Names;
+use crate::place::{given_component, given_place, given_symbol};
+use crate::symbols::may_have;
+use memory_areas::AreaName;
+use s7_base::{NoMemory, Reason};
+use std::alloc::Global;
+use std::marker::Model;
+use stl_rules::Given;
+use stl_tree::{BlockKind, Declaration, PathStep, RawDataKind, RawName, RawOperand};
+use symbol_layout::component;
+
+/// What names mean in a block. Contracts see the symbol table, the data blocks and the temporaries.
+#[derive(Drop)]
+pub struct Sight<'s, 't> {
+    names: &'s Names<'t>,
+
+    /// Which data blocks have declarations that break a rule.
+    refused: &'s [bool],
+
+    temps: &'s [Declaration],
+
+    /// The temporaries break a rule.
+    temps_refused: bool,
+}
+
+impl<'s, 't> Model for Sight<'s, 't> {
+    ghost use Rattle.std.specs.Prelude.{◌≡◌, map};
+    ghost use Rattle.stl_rules.specs.Raw.{Sight, are_refused, most_local};
+    ghost use Rattle.stl_tree.specs.declared.raw.RawData.{RawData};
+    ghost use Rattle.symbol_names.specs.inner.Refused.{is_refused};
+
+    ghost use Rattle.std.specs.Coded.{codes};
+    ghost use Rattle.stl_tree.specs.contracts.raw.DeclType as declared;
+    ghost use Rattle.stl_tree.specs.contracts.raw.Declaration as declaration;
+
+    ghost Value = { Sight };
+
+    ghost coded = { Prim.hlevel (codes, declared.the_row.coded, declaration.the_row.coded) };
+
+    ghost view = { λ s. record { symbols = s.names.now.symbols; dbs = s.names.now.dbs; temps = s.temps.now } };
+
+    ghost invariant = { λ s. (s.refused.now ≡ map (λ (d : RawData). is_refused d.kind) s.names.now.dbs)
+        × (s.temps_refused ≡ are_refused most_local s.temps.now) };
+}
+
+/// What a path names in declarations that keep the rules.
+fn given_path(
+    refused: bool,
+    number: Option<u32>,
+    area: AreaName,
+    decls: &[Declaration],
+    path: &[PathStep],
+) -> Given
+    ensures { result ≡ (if refused then behind.Unjudged else given_component number area (component_in (decls.now ∷ []) path.now)) }
+{
+    if refused {
+        Given::Unjudged
+    } else {
+        given_component(number, area, component(decls, path))
+    }
+}
+
+/// What a path names in a data block of a number.
+fn given_in_kind(refused: bool, number: u32, path: &[PathStep], kind: &RawDataKind) -> Given
+    requires { refused ≡ is_refused kind.now }
+    ensures { result ≡ given_in_kind number path.now kind.now }
+{
+    match kind {
+        RawDataKind::Own(decls) => given_path(
+            refused,
+            Some(number),
+            AreaName::Db,
+            decls.as_slice(),
+            path,
+        ),
+        RawDataKind::Instance(_) => Given::Other,
+    }
+}
+
+/// OPN of a data block.
+fn given_db(number: u32) -> Given
+    ensures { result ≡ given_open (λ n. behind.Db n) number }
+{
+    if may_have(BlockKind::Db, number) {
+        Given::Db(number as u16)
+    } else {
+        Given::NoNumber
+    }
+}
+
+/// OPN of an instance.
+fn given_di(number: u32) -> Given
+    ensures { result ≡ given_open (λ n. behind.Di n) number }
+{
+    if may_have(BlockKind::Db, number) {
+        Given::Di(number as u16)
+    } else {
+        Given::NoNumber
+    }
+}
+
+impl<'s, 't> Sight<'s, 't> {
+    /// What names mean in a block with these temporaries.
+    pub fn new(
+        names: &'s Names<'t>,
+        refused: &'s [bool],
+        temps: &'s [Declaration],
+        temps_refused: bool,
+    ) -> Sight<'s, 't>
+        requires data { refused.now ≡ map (λ (d : RawData). is_refused d.kind) names.now.dbs }
+        requires temps { temps_refused ≡ are_refused most_local temps.now }
+        ensures { result ≡ record { symbols = names.now.symbols; dbs = names.now.dbs; temps = temps.now } }
+    {
+        Sight {
+            names,
+            refused,
+            temps,
+            temps_refused,
+        }
+    }
+
+    /// The address of a name, as an operand.
+    fn given_name(&self, alloc: Global, name: &[u8]) -> Result<Given, NoMemory>
+        ensures { IfOk result (λ g. g ≡ given_symbol (symbol_named self.now.symbols name.now)) }
+    {
+        let names = self.names;
+        Ok(given_symbol(names.symbols().named(alloc, name)?))
+    }
+
+    /// What a path names in the data block of a number.
+    #[tactic(auto, using(crate::proofs::Places::mapped_at))]
+    fn given_in_data(&self, number: u32, path: &[PathStep]) -> Given
+        ensures { result ≡ given_in_data number path.now (db_numbered self.now.symbols self.now.dbs number) }
+    {
+        let names = self.names;
+        let Some(place) = names.place_of_db(number) else {
+            return Given::Unknown;
+        };
+        match (names.text().dbs.as_slice().get(place), self.refused.get(place)) {
+            (Some(d), Some(refused)) => given_in_kind(*refused, number, path, &d.kind),
+            _ => Given::Unknown,
+        }
+    }
+
+    /// What a path names in the data block of a name.
+    fn given_in_block(&self, alloc: Global, name: &[u8], path: &[PathStep]) -> Result<Given, NoMemory>
+        ensures { IfOk result (λ g. g
+            ≡ given_number (λ n. given_in_data n path.now (db_numbered self.now.symbols self.now.dbs n))
+            (number_at block.Db (symbol_named self.now.symbols name.now))) }
+    {
+        let names = self.names;
+        match names.symbols().number_named(alloc, BlockKind::Db, name)? {
+            Ok(number) => Ok(self.given_in_data(number, path)),
+            Err(Reason::UnknownName) => Ok(Given::Unknown),
+            Err(_) => Ok(Given::Unfit),
+        }
+    }
+
+    /// OPN of a data block by its name.
+    fn given_open_db(&self, alloc: Global, name: &RawName) -> Result<Given, NoMemory>
+        ensures { IfOk result (λ g. g ≡ given_number (given_open (λ n. behind.Db n)) (number_of self.now.symbols block.Db name.now)) }
+    {
+        let names = self.names;
+        match names.symbols().number_of(alloc, BlockKind::Db, name)? {
+            Ok(number) => Ok(given_db(number)),
+            Err(Reason::UnknownName) => Ok(Given::Unknown),
+            Err(_) => Ok(Given::Unfit),
+        }
+    }
+
+    /// OPN of an instance by its name.
+    fn given_open_di(&self, alloc: Global, name: &RawName) -> Result<Given, NoMemory>
+        ensures { IfOk result (λ g. g ≡ given_number (given_open (λ n. behind.Di n)) (number_of self.now.symbols block.Db name.now)) }
+    {
+        let names = self.names;
+        match names.symbols().number_of(alloc, BlockKind::Db, name)? {
+            Ok(number) => Ok(given_di(number)),
+            Err(Reason::UnknownName) => Ok(Given::Unknown),
+            Err(_) => Ok(Given::Unfit),
+        }
+    }
+
+    /// What a path names in the temporaries.
+    fn given_local(&self, path: &[PathStep]) -> Given
+        ensures { result ≡ given_path most_local None area.L self.now.temps path.now }
+    {
+        given_path(self.temps_refused, None, AreaName::L, self.temps, path)
+    }
+
+    /// What stands behind the mnemonic of a raw operand.
+    #[tactic(auto, unfolding(stl_rules::specs::Raw::given))]
+    pub fn given(&self, alloc: Global, operand: &RawOperand) -> Result<Given, NoMemory>
+        ensures { IfOk result (λ g. g ≡ given self.now operand.now) }
+    {
+        match operand {
+            RawOperand::Missing => Ok(Given::Nothing),
+            RawOperand::At(place) => Ok(given_place(*place)),
+            RawOperand::Named(name) => self.given_name(alloc, name.as_slice()),
+            RawOperand::InBlock(name, path) => {
+                self.given_in_block(alloc, name.as_slice(), path.as_slice())
+            }
+            RawOperand::Local(path) => Ok(self.given_local(path.as_slice())),
+            RawOperand::Flag(test) => Ok(Given::Flag(*test)),
+            RawOperand::Stw => Ok(Given::Stw),
+            RawOperand::DbNo => Ok(Given::DbNo),
+            RawOperand::DiNo => Ok(Given::DiNo),
+            RawOperand::Constant(constant) => Ok(Given::Constant(*constant)),
+            RawOperand::OpenDb(name) => self.given_open_db(alloc, name),
+            RawOperand::OpenDi(name) => self.given_open_di(alloc, name),
+            _ => Ok(Given::Other),
+        }
+    }
+}
