@@ -6,7 +6,7 @@ use Rattle.memory_areas.specs.declared.call.BlockName.TheVariants.{Ob}
 use Rattle.memory_areas.specs.declared.place.AreaName.TheVariants as area
 use Rattle.s7_base.specs.Tokens.{tokens_of}
 use Rattle.s7_base.specs.declared.reason.Kind.TheVariants as kind
-use Rattle.s7_base.specs.declared.reason.Reason.TheVariants.{Unsupported}
+use Rattle.s7_base.specs.declared.reason.Reason.TheVariants.{BadAddress, BadOperand, Unsupported}
 use Rattle.s7_base.specs.declared.reason.Rejection.{Rejection}
 use Rattle.s7_base.specs.declared.word.Width.TheVariants as width
 use Rattle.status_word.specs.declared.test.Test.TheVariants as test
@@ -177,16 +177,16 @@ hexadecimal_added : verdict (with_body (codes "+ W#16#5;")) ≡ refused 3 (Unsup
 unfolding verdict judged raw_text raw_program item_at is_not_built instruction_of tokens_of mnemonic_at
 hexadecimal_added = refl
 
-byte_in_a_word : verdict (with_body (codes "AW B#16#5;")) ≡ refused 3 (Unsupported kind.NotBuilt)
-unfolding verdict judged raw_text raw_program item_at is_not_built instruction_of tokens_of mnemonic_at
+byte_in_a_word : verdict (with_body (codes "AW B#16#5;")) ≡ refused 3 BadOperand
+unfolding verdict judged raw_text raw_program item_at is_not_built instruction_of tokens_of mnemonic_at mnemonic_named op_of given out-RawOperand Carrier.out scope_breaks first_large
 byte_in_a_word = refl
 
-word_past_the_area : verdict (with_body (codes "L MW 8191;")) ≡ refused 3 (Unsupported kind.NotBuilt)
-unfolding verdict judged raw_text raw_program item_at is_not_built instruction_of tokens_of mnemonic_at
+word_past_the_area : verdict (with_body (codes "L MW 8191;")) ≡ refused 3 BadAddress
+unfolding verdict judged raw_text raw_program item_at is_not_built instruction_of tokens_of mnemonic_at mnemonic_named op_of given out-RawOperand Carrier.out scope_breaks first_large
 word_past_the_area = refl
 
-bit_loaded : verdict (with_body (codes "L M 0.0;")) ≡ refused 3 (Unsupported kind.NotBuilt)
-unfolding verdict judged raw_text raw_program item_at is_not_built instruction_of tokens_of mnemonic_at
+bit_loaded : verdict (with_body (codes "L M 0.0;")) ≡ refused 3 BadOperand
+unfolding verdict judged raw_text raw_program item_at is_not_built instruction_of tokens_of mnemonic_at mnemonic_named op_of given out-RawOperand Carrier.out scope_breaks first_large
 bit_loaded = refl
 
 constant_stored : verdict (with_body (codes "T 5;")) ≡ refused 3 (Unsupported kind.NotBuilt)

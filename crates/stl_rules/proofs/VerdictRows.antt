@@ -8,7 +8,7 @@ use Rattle.memory_areas.specs.declared.place.AreaName.TheVariants as area
 use Rattle.status_word.specs.declared.test.Test.TheVariants as test
 use Rattle.s7_base.specs.declared.reason.Kind.TheVariants.{NotBuilt, Real, Timer}
 use Rattle.s7_base.specs.declared.reason.Reason.{Reason}
-use Rattle.s7_base.specs.declared.reason.Reason.TheVariants.{BadToken, BadStatement, Unsupported, BracketMissing, BracketOpen, NoBlocks, TooManyBrackets}
+use Rattle.s7_base.specs.declared.reason.Reason.TheVariants.{BadAddress, BadToken, BadStatement, DuplicateBlock, Unsupported, BracketMissing, BracketOpen, NoBlocks, TooManyBrackets}
 use Rattle.s7_base.specs.declared.reason.Rejection.{Rejection}
 use Rattle.s7_base.specs.declared.reason.Rejection.TheVariants.{Refused}
 use Rattle.stl_grammar.specs.Items.{is_not_built, item_at}
@@ -96,17 +96,17 @@ blank_before_the_point : verdict (with_body (codes "A I 0 .0;")) ≡ refused 3 (
 unfolding verdict judged raw_text raw_program item_at is_not_built instruction_of tokens_of mnemonic_at
 blank_before_the_point = refl
 
-byte_past_the_inputs : verdict (with_body (codes "A I 2048.0;")) ≡ refused 3 (Unsupported NotBuilt)
-unfolding verdict judged raw_text raw_program item_at is_not_built instruction_of tokens_of mnemonic_at
+byte_past_the_inputs : verdict (with_body (codes "A I 2048.0;")) ≡ refused 3 BadAddress
+unfolding verdict judged raw_text raw_program item_at is_not_built instruction_of tokens_of mnemonic_at mnemonic_named op_of given out-RawOperand Carrier.out scope_breaks first_large
 byte_past_the_inputs = refl
 
-bit_eight : verdict (with_body (codes "A I 0.8;")) ≡ refused 3 (Unsupported NotBuilt)
-unfolding verdict judged raw_text raw_program item_at is_not_built instruction_of tokens_of mnemonic_at
+bit_eight : verdict (with_body (codes "A I 0.8;")) ≡ refused 3 BadAddress
+unfolding verdict judged raw_text raw_program item_at is_not_built instruction_of tokens_of mnemonic_at mnemonic_named op_of given out-RawOperand Carrier.out scope_breaks first_large
 bit_eight = refl
 
-network_is_not_built : verdict (with_body (codes "NETWORK\nA I 0.0;")) ≡ refused 3 (Unsupported NotBuilt)
-unfolding verdict judged raw_text raw_program item_at is_not_built instruction_of tokens_of mnemonic_at
-network_is_not_built = refl
+network_is_skipped : verdict (with_body (codes "NETWORK\n);")) ≡ refused 4 BracketMissing
+unfolding verdict judged raw_text raw_program item_at is_not_built instruction_of tokens_of mnemonic_at mnemonic_named op_of given out-RawOperand Carrier.out scope_breaks first_large
+network_is_skipped = refl
 
 section_is_not_built : verdict (with_body (codes "VAR_TEMP")) ≡ refused 3 (Unsupported NotBuilt)
 unfolding verdict judged raw_text raw_program item_at is_not_built instruction_of tokens_of mnemonic_at
@@ -140,9 +140,15 @@ heading_is_cut_off : verdict (codes "ORGANIZATION_BLOCK\nOB") ≡ refused 1 BadS
 unfolding verdict judged raw_text raw_program item_at is_not_built instruction_of tokens_of mnemonic_at
 heading_is_cut_off = refl
 
-block_zero : verdict (codes "ORGANIZATION_BLOCK OB 0") ≡ refused 1 (Unsupported NotBuilt)
-unfolding verdict judged raw_text raw_program item_at is_not_built instruction_of tokens_of mnemonic_at
+block_zero : verdict (codes "ORGANIZATION_BLOCK OB 0 BEGIN END_ORGANIZATION_BLOCK") ≡ refused 1 BadAddress
+unfolding verdict judged raw_text raw_program item_at is_not_built instruction_of tokens_of mnemonic_at mnemonic_named op_of given out-RawOperand Carrier.out scope_breaks first_large
 block_zero = refl
+
+second_block_of_a_number :
+    verdict (codes "ORGANIZATION_BLOCK OB 1 BEGIN END_ORGANIZATION_BLOCK\nORGANIZATION_BLOCK OB 01 BEGIN\nEND_ORGANIZATION_BLOCK")
+    ≡ refused 2 DuplicateBlock
+unfolding verdict judged raw_text raw_program item_at is_not_built instruction_of tokens_of mnemonic_at mnemonic_named op_of given out-RawOperand Carrier.out scope_breaks first_large
+second_block_of_a_number = refl
 
 function_is_not_built : verdict (codes "FUNCTION FC 1 : VOID") ≡ refused 1 (Unsupported NotBuilt)
 unfolding verdict judged raw_text raw_program item_at is_not_built instruction_of tokens_of mnemonic_at
