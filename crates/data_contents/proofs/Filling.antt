@@ -1,5 +1,5 @@
 -- Which rules a data block breaks, where its declarations break none and where they break some.
-use Rattle.std.proofs.Common.{◌≡◌, List, [], ◌∷◌, ◌++◌, Bool, true, false, if◌then◌else◌, Option, Some, None, Result, Ok, Err, refl, sym, ap, ◌∙◌}
+use Rattle.std.proofs.Common.{◌≡◌, List, [], ◌∷◌, ◌++◌, Bool, true, false, if◌then◌else◌, Option, Some, None, Ok, Err, refl, sym, ap, ◌∙◌}
 use Rattle.std.specs.List.{flat_map}
 use Rattle.std.specs.Option.{is_some}
 use Rattle.std.proofs.lemmas.List.{append-nil}
@@ -10,11 +10,10 @@ use Rattle.s7_base.specs.declared.reason.Line.{Line}
 use Rattle.s7_base.specs.declared.reason.Reason.{Reason}
 use Rattle.s7_base.specs.declared.reason.Rejection.TheVariants.{Refused}
 use Rattle.stl_tree.specs.declared.raw.Declaration.{Declaration}
-use Rattle.stl_tree.specs.declared.raw.RawDataKind.TheVariants as data_kind
 use Rattle.stl_tree.specs.declared.raw.RawInitial.{RawInitial}
 use Rattle.stl_rules.specs.Layouts.{answered, breaks_in, layout_of, length_of, initial_of}
 use Rattle.stl_rules.specs.Raw.{are_refused, most_in_block}
-use Rattle.stl_rules.specs.Stages.{content_breaks, initial_breaks}
+use Rattle.stl_rules.specs.Stages.{initial_breaks}
 use Rattle.stl_rules.specs.declared.laid.Layout.{Layout}
 use Rattle.data_contents.specs.Contents.{Breaks}
 use Rattle.data_contents.specs.Inside.{AreKept}
