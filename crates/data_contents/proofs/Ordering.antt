@@ -1,11 +1,11 @@
 -- A stable sort by numbers puts data blocks in order.
-use Rattle.std.proofs.Common.{◌≡◌, ⊎_elim, ℕ, suc, ◌+◌, ◌<◌, ◌≤◌, List, [], ◌∷◌, length, get_or, Bool, true, false, cond, not, if◌then◌else◌, refl, sym, ap, subst, ◌∙◌, arith}
+use Rattle.std.proofs.Common.{◌≡◌, ⊎_elim, ℕ, suc, ◌<◌, ◌≤◌, List, [], ◌∷◌, length, get_or, Bool, true, false, cond, not, if◌then◌else◌, refl, sym, ap, subst, ◌∙◌, arith}
 use Rattle.std.specs.Prelude.{◌==◌, nat_lt, ◌&&◌}
 use Rattle.std.specs.List.{filter}
 use Rattle.std.specs.List.Sorted.{IsNonDecreasingBy, ties}
 use Rattle.std.specs.Ordering.{is_lt, nat_cmp}
 use Rattle.std.specs.declared.cmp.Ordering.TheVariants.{Less, Equal, Greater}
-use Rattle.std.proofs.lemmas.Bool.{and_parts, cases_order, ltb-false, ltb-true}
+use Rattle.std.proofs.lemmas.Bool.{cases_order, ltb-false, ltb-true}
 use Rattle.memory_areas.specs.declared.data_block.DataBlock.{DataBlock}
 use Rattle.stl_rules.specs.DataBlocks.{in_order, inserted}
 
@@ -61,10 +61,11 @@ Rises least (b ∷ rest) = (least ≤ b.number) × Rises b.number rest
 rises : (least : ℕ) (ys : List DataBlock) → ((d : DataBlock) → 0 < length ys → least ≤ (get_or ys 0 d).number)
     → IsNonDecreasingBy (λ (b : DataBlock). b.number) ys → Rises least ys
 rises least [] h up = tt
-rises least (y ∷ ys) h up =
-    (h y (omega arith),
-      rises y.number ys (λ d some. up 0 1 d (omega arith) (omega (arith, some)))
-      (λ i j d l m. up (suc i) (suc j) d (omega (arith, l)) (omega (arith, m))))
+rises least (y ∷ ys) h up = (
+  h y (omega arith),
+  rises y.number ys (λ d some. up 0 1 d (omega arith) (omega (arith, some)))
+      (λ i j d l m. up (suc i) (suc j) d (omega (arith, l)) (omega (arith, m))),
+)
 
 all_rise : (ys : List DataBlock) → IsNonDecreasingBy (λ (b : DataBlock). b.number) ys → Rises 0 ys
 all_rise ys up = rises 0 ys (λ d some. omega arith) up
@@ -87,7 +88,7 @@ in_order_rises (b ∷ rest) = inserted_rise b (in_order rest) 0 (omega arith) (i
 -- a block is put past those alone that are not tied with it
 inserted_like : (a b : DataBlock) (rest : List DataBlock) → like a (inserted b rest) ≡ like a (b ∷ rest)
 inserted_like a b [] = refl
-inserted_like a b (c ∷ rest) = by (nat_lt c.number b.number) refl
+inserted_like a b (c ∷ rest) = by (nat_lt c.number b.number) refl (inserted_like a b rest)
   where
     both : (t u : Bool) → tied a b ≡ t → tied a c ≡ u → c.number < b.number
         → cond u (c ∷ cond t (b ∷ like a rest) (like a rest)) (cond t (b ∷ like a rest) (like a rest))
@@ -97,11 +98,12 @@ inserted_like a b (c ∷ rest) = by (nat_lt c.number b.number) refl
     both false true f g l = refl
     both false false f g l = refl
 
-    by : (t : Bool) → nat_lt c.number b.number ≡ t → like a (if t then c ∷ inserted b rest else b ∷ c ∷ rest) ≡ like a (b ∷ c ∷ rest)
-    by true e =
-        ap (λ l. cond (tied a c) (c ∷ l) l) (inserted_like a b rest)
+    by : (t : Bool) → nat_lt c.number b.number ≡ t → like a (inserted b rest) ≡ like a (b ∷ rest)
+        → like a (if t then c ∷ inserted b rest else b ∷ c ∷ rest) ≡ like a (b ∷ c ∷ rest)
+    by true e more =
+        ap (λ l. cond (tied a c) (c ∷ l) l) more
         ∙ both (tied a b) (tied a c) refl refl (ltb-true c.number b.number e)
-    by false e = refl
+    by false e more = refl
 
 in_order_like : (a : DataBlock) (blocks : List DataBlock) → like a (in_order blocks) ≡ like a blocks
 in_order_like a [] = refl
@@ -129,7 +131,7 @@ only_one least [] [] r s h = refl
 only_one least [] (y ∷ ys) r s h = absurd (lacks y ys [] refl (sym (h y)))
 only_one least (x ∷ xs) [] r s h = absurd (lacks x xs [] refl (h x))
 only_one least (x ∷ xs) (y ∷ ys) r s h =
-    ⊎_elim same
+    ⊎_elim (same (only_one y.number xs ys))
     (⊎_elim (λ l. absurd (lacks x xs (y ∷ ys) (none_like x y.number (y ∷ ys) l (omega arith, s.1)) (h x)))
     (λ l. absurd (lacks y ys (x ∷ xs) (none_like y x.number (x ∷ xs) l (omega arith, r.1)) (sym (h y)))))
     (cases_order x.number y.number)
@@ -138,20 +140,20 @@ only_one least (x ∷ xs) (y ∷ ys) r s h =
     tail z e a true g = cc
     tail z e a false g = g
 
-    heads : x ≡ y → x ∷ xs ≡ y ∷ ys
-    heads e =
+    heads : (Rises y.number xs → Rises y.number ys → ((a : DataBlock) → like a xs ≡ like a ys) → xs ≡ ys) → x ≡ y → x ∷ xs ≡ y ∷ ys
+    heads more e =
         ap (λ z. z ∷ xs) e
         ∙ ap (λ l. y ∷ l)
-        (only_one y.number xs ys (subst (λ (z : DataBlock). Rises z.number xs) e r.1) s.1
+        (more (subst (λ (z : DataBlock). Rises z.number xs) e r.1) s.1
         (λ a. tail y refl a (tied a y) (subst (λ z. cond (tied a z) (z ∷ like a xs) (like a xs) ≡ like a (y ∷ ys)) e (h a))))
 
-    same : x.number ≡ y.number → x ∷ xs ≡ y ∷ ys
-    same n = by (tied x y) refl
+    same : (Rises y.number xs → Rises y.number ys → ((a : DataBlock) → like a xs ≡ like a ys) → xs ≡ ys) → x.number ≡ y.number → x ∷ xs ≡ y ∷ ys
+    same more n = by (tied x y) refl
       where
         by : (t : Bool) → tied x y ≡ t → x ∷ xs ≡ y ∷ ys
         by true e =
             let g : x ∷ like x xs ≡ y ∷ like x ys = sym (itself_first x xs) ∙ h x ∙ ap (λ t. cond t (y ∷ like x ys) (like x ys)) e in
-            heads cc
+            heads more cc
         by false e = absurd (other n e)
           where
             other : x.number ≡ y.number → tied x y ≡ false → ⊥

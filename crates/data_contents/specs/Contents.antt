@@ -1,5 +1,5 @@
 -- What a data block of a source holds.
-use Rattle.std.specs.Prelude.{◌≡◌, ℕ, Bool, true, false, List, map, Option, Some, None}
+use Rattle.std.specs.Prelude.{◌≡◌, Bool, true, false, List, map, Option, Some, None}
 use Rattle.data_contents.specs.declared.content.Content.{Content}
 use Rattle.data_contents.specs.declared.content.Content.TheVariants as holds
 use Rattle.s7_base.specs.Broken.{first_of_all}

@@ -23,11 +23,7 @@ fn fits_kind(value: Constant, kind: Option<ElemType>) -> bool
 }
 
 /// Notes the rule that an initial value breaks at the component that its path names.
-fn judge(
-    v: &RawInitial,
-    at: Option<Component>,
-    breaks: &mut List<Break>,
-) -> Result<(), NoMemory>
+fn judge(v: &RawInitial, at: Option<Component>, breaks: &mut List<Break>) -> Result<(), NoMemory>
     ensures { OnOk result (breaks.new ≡ breaks.old ++ breaks_at v.now at) }
 {
     match at {

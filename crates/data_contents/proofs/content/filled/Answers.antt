@@ -1,0 +1,10 @@
+use Rattle.std.proofs.Common.{length, sym, subst, ◌∙◌}
+use Rattle.data_contents.specs.Inside.{AreInside}
+use Rattle.data_contents.proofs.Insides.{all_inside}
+use Rattle.data_contents.proofs.content.filled.Goals as goal
+
+pub put_values-requires : goal.put_values-requires
+put_values-requires c =
+    subst (λ bytes. AreInside (length bytes) c.args.decls.now)
+    (sym (c.as_mut_slice.ensures.value ∙ c.into_vec-bytes.ensures ∙ c.requires.initial))
+    (all_inside c.args.decls.now c.requires.kept)
