@@ -68,17 +68,6 @@ any_taken test (suc i) (x ∷ xs) = by_test (test x) (any_taken test i xs)
     by_test true e = grind arith
     by_test false e = e ∙ one_up i (first_place test xs)
 
-or_false : (b : Bool) → (b || false) ≡ b
-        or_false true = refl
-        or_false false = refl
-    among n before (Err reason ∷ xs) = among n before xs
-    among n before (Ok m ∷ xs) = among n (before ++ m ∷ []) xs ∙ ap (λ b. b || list_any (is_number n) xs) (put n m before)
-        ∙ or_assoc (is_among n before) (m == n) (list_any (is_number n) xs)
-      where
-        or_assoc : (a b c : Bool) → ((a || b) || c) ≡ (a || (b || c))
-        or_assoc true b c = refl
-        or_assoc false b c = refl
-
 -- Names
 
 -- letters are the same in small and in large
@@ -219,7 +208,13 @@ pub number_repeated : (n i : ℕ) (numbers : List (Result ℕ Reason))
     → is_among n (numbers_before (take i numbers)) ≡ is_before i (first_place (is_number n) numbers)
 number_repeated n i numbers = among_all n [] (take i numbers) ∙ any_taken (is_number n) i numbers
 
-ntwise nat_eq key x || b) (put names) ∙ sym (or_assoc (pointwise nat_eq key x) (is_named key names) (pointwise nat_eq key more))
+-- a name among some and one more
+named_with : (key more : List ℕ) (names : List (List ℕ)) → is_named key (with_name more names) ≡ (is_named key names || pointwise nat_eq key more)
+named_with key more names = by_tests (is_named more names) refl (pointwise nat_eq key more) refl
+  where
+    put : (names : List (List ℕ)) → is_named key (names ++ more ∷ []) ≡ (is_named key names || pointwise nat_eq key more)
+    put [] = sym (or_false (pointwise nat_eq key more))
+    put (x ∷ names) = ap (λ b. pointwise nat_eq key x || b) (put names) ∙ sym (or_assoc (pointwise nat_eq key x) (is_named key names) (pointwise nat_eq key more))
 
     or_true : (b : Bool) → b ≡ true → b ≡ (b || true)
     or_true true h = refl

@@ -18,7 +18,7 @@ use crate::first::{join, note};
 use crate::headings::note_heading;
 use crate::names::Names;
 use crate::symbols::may_have;
-use data_contents::{Content, content};
+use data_contents::{Content, content_of};
 use memory_areas::{DataBlock, MOST_BLOCKS};
 use s7_base::{Break, List, NoMemory, Reason};
 use std::alloc::Global;
@@ -50,7 +50,7 @@ pub struct Found {
 
 /// What declarations and initial values come to.
 #[tactic(auto, using(crate::proofs::Contents::content_lemmas))]
-fn filled_own(
+fn fill_own(
     alloc: Global,
     decls: &[Declaration],
     values: &[RawInitial],
@@ -59,7 +59,7 @@ fn filled_own(
     ensures first { IfOk result (λ f. f.first ≡ first_of_all (content_breaks values.now (data_kind.Own decls.now))) }
     ensures bytes { IfOk result (λ f. f.bytes ≡ bytes_kept values.now (data_kind.Own decls.now)) }
 {
-    match content(alloc, decls, values)? {
+    match content_of(alloc, decls, values)? {
         Content::Bytes(bytes) => Ok(Filled {
             refused: false,
             first: None,
@@ -79,13 +79,13 @@ fn filled_own(
 }
 
 /// What a data block comes to.
-fn filled(alloc: Global, d: &RawData) -> Result<Filled, NoMemory>
+fn fill(alloc: Global, d: &RawData) -> Result<Filled, NoMemory>
     ensures refused { IfOk result (λ f. f.refused ≡ is_refused d.now.kind) }
     ensures first { IfOk result (λ f. f.first ≡ first_of_all (content_breaks d.now.initial d.now.kind)) }
     ensures bytes { IfOk result (λ f. f.bytes ≡ bytes_kept d.now.initial d.now.kind) }
 {
     match &d.kind {
-        RawDataKind::Own(decls) => filled_own(alloc, decls.as_slice(), d.initial.as_slice()),
+        RawDataKind::Own(decls) => fill_own(alloc, decls.as_slice(), d.initial.as_slice()),
         RawDataKind::Instance(_) => Ok(Filled {
             refused: false,
             first: None,
@@ -156,14 +156,14 @@ fn put_data(
         refused,
         first,
         bytes,
-    } = filled(alloc, d)?;
+    } = fill(alloc, d)?;
     join(&mut found.first, first);
     found.refused.push(refused)?;
     put_made(&mut found.made, keep, data_by(number, bytes))
 }
 
 /// What the data blocks break whose place is past the last that a program may have.
-fn note_too_many(dbs: &[RawData], first: &mut Option<Break>)
+pub fn note_too_many(dbs: &[RawData], first: &mut Option<Break>)
     ensures { first.new ≡ with_breaks first.old (one_too_many (slice_get dbs.now MOST_BLOCKS)) }
 {
     if let Some(d) = dbs.get(MOST_BLOCKS) {

@@ -1,10 +1,8 @@
 //! The instruction that a raw one is, by its mnemonic and what stands behind it.
 ghost use Rattle.std.specs.Prelude.{◌≡◌, ◌≢◌, Some};
-ghost use Rattle.s7_base.specs.SignedNumbers.{pattern};
 ghost use Rattle.s7_base.specs.declared.word.Width.TheVariants as wide;
 ghost use Rattle.stl_rules.specs.Programs.{adding, combining, comparing, is_compared, op_by, op_with, shifting, with_number, within};
 ghost use Rattle.stl_rules.specs.declared.given.Given.TheVariants as behind;
-ghost use Rattle.stl_statements.specs.Constants.{value_in};
 ghost use Rattle.stl_tree.specs.Accumulators.{bits_wide, signed_part};
 ghost use Rattle.stl_tree.specs.Arithmetic.{is_comparison};
 ghost use Rattle.stl_tree.specs.declared.program.Op.TheVariants as op;
@@ -15,6 +13,7 @@ use stl_instructions::{fits, logic_width, most_steps};
 use stl_rules::Given;
 use stl_statements::Mnemonic;
 use stl_tree::{BitArg, Constant, LoadArg, LogicRow, Op, OpenArg, Operand, ShiftRow};
+use symbol_layout::value_in;
 
 /// One of the six signs of comparisons.
 fn is_comparison(test: Test) -> bool
@@ -226,23 +225,6 @@ fn shifting(row: ShiftRow, constant: Constant) -> Option<Op>
         Some(Op::Shift(row, Some(constant.value as u8)))
     } else {
         None
-    }
-}
-
-/// A plain number with its sign extended to a double word.
-fn extended(value: u32) -> u32
-    ensures { result ≡ pattern 32 (signed_part wide.Word value) }
-{
-    i32::from(word_number(value)).cast_unsigned()
-}
-
-/// The value of a constant in a width.
-fn value_in(width: Width, constant: Constant) -> u32
-    ensures { result ≡ value_in width constant }
-{
-    match width {
-        Width::Dword if constant.signed => extended(constant.value),
-        _ => constant.value,
     }
 }
 

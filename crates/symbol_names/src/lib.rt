@@ -6,8 +6,8 @@
 //! is kept.
 #![tactic(auto)]
 
-pub use resolve::resolve;
-pub use unbuilt::unbuilt;
+pub use resolution::resolve;
+pub use not_built::unbuilt;
 
 mod blocks;
 mod data;
@@ -17,7 +17,7 @@ mod instruction;
 mod names;
 mod numbers;
 mod place;
-mod resolve;
+mod resolution;
 mod sight;
 mod symbols;
-mod unbuilt;
+mod not_built;

@@ -1,15 +1,14 @@
 //! Written places, and components as places.
 ghost use Rattle.std.specs.Prelude.{◌≡◌, None, Some, if◌then◌else◌};
-ghost use Rattle.stl_rules.specs.Extents.{width_of};
 ghost use Rattle.stl_rules.specs.Raw.{given_component, given_place, given_symbol, is_placed, operand_at, place_of_kind};
 ghost use Rattle.stl_rules.specs.declared.given.Given.TheVariants as behind;
 
 use crate::symbols::may_have;
 use memory_areas::AreaName;
-use s7_base::Width;
 use stl_instructions::is_in_area;
 use stl_rules::{Component, Given};
 use stl_tree::{BlockKind, ElemType, Operand, RawPlace, SymbolAddress};
+use symbol_layout::width_of;
 
 /// A place with no number of a data block before it.
 fn given_direct(place: RawPlace) -> Given
@@ -53,18 +52,6 @@ pub fn given_symbol(address: Option<SymbolAddress>) -> Given
         None => Given::Unknown,
         Some(SymbolAddress::At(place)) => given_place(place),
         Some(_) => Given::Unfit,
-    }
-}
-
-/// The width of an elementary type.
-fn width_of(kind: ElemType) -> Width
-    ensures { result ≡ width_of kind }
-{
-    match kind {
-        ElemType::Bool => Width::Bit,
-        ElemType::Byte | ElemType::Char => Width::Byte,
-        ElemType::Word | ElemType::Int => Width::Word,
-        ElemType::Dword | ElemType::Dint => Width::Dword,
     }
 }
 
