@@ -3,7 +3,7 @@ use Rattle.std.proofs.Common.{◌≡◌, ℕ, zero, suc, ◌≤◌, List, [], �
 use Rattle.s7_base.specs.declared.reason.Line.{Line}
 use Rattle.s7_base.specs.declared.reason.Rejection.{Rejection}
 use Rattle.s7_base.specs.declared.token.Token.{Token}
-use Rattle.stl_grammar.specs.Grammar.{IsForm, heading, table, symbol, table_end, skipped_line, begin, section, section_end, struct_end, declaration, begin_behind, skipped_word, end_word, statement, IsItem, form, no_instruction, none, at_start, in_a_table, behind_a_block, behind_a_heading, in_a_section, in_a_struct, behind_a_section, in_a_body, AreItems, none_more, one_more}
+use Rattle.stl_grammar.specs.Grammar.{IsForm, heading, table, symbol, table_end, skipped_line, begin, section, section_end, data_end, struct_end, declaration, begin_behind, value, values_end, skipped_word, end_word, statement, IsItem, form, no_instruction, none, at_start, in_a_table, behind_a_block, behind_a_heading, in_a_section, in_a_struct, behind_a_section, in_a_body, among_values, AreItems, none_more, one_more}
 use Rattle.stl_grammar.specs.Items.{item_at, prepend_item, with_found, items_from}
 use Rattle.stl_grammar.specs.declared.item.Found.{Found}
 use Rattle.stl_grammar.specs.declared.item.Found.TheVariants.{Fits, Misfit, Ended}
@@ -28,12 +28,15 @@ form_some (table first rest no_heading word) = tt
 form_some (symbol line name a its b type c comment rest no_end behind quoted_name one two three) = tt
 form_some (table_end line first rest ends) = tt
 form_some (skipped_line kind line first rest is) = tt
-form_some (begin kind line first rest no_line word) = tt
-form_some (section kind line first rest no_line no_begin temps word) = tt
-form_some (section_end kind first rest word) = tt
-form_some (struct_end kind level levels first sign rest word ends) = tt
+form_some (begin kind line first rest no_line no_data word) = tt
+form_some (section kind line first rest no_line no_begin word) = tt
+form_some (section_end kind first rest no_data word) = tt
+form_some (data_end first sign rest word ends) = tt
+form_some (struct_end kind level levels first rest items size word is) = tt
 form_some (declaration kind levels name rest type size no_end is) = tt
 form_some (begin_behind kind first rest word) = tt
+form_some (value first rest its size no_end is) = tt
+form_some (values_end first rest word) = tt
 form_some (skipped_word kind first rest is) = tt
 form_some (end_word kind first rest no_skip word) = tt
 form_some (statement kind first more sign rest instr no_skip no_end whole is ends) = tt
@@ -61,6 +64,7 @@ ended (in_a_section kind) = tt
 ended (in_a_struct kind level levels) = tt
 ended (behind_a_section kind) = tt
 ended (in_a_body kind) = tt
+ended among_values = tt
 
 at_no_token : (end : Line) (place : Where) (items : List Item) (found : Found) → IsItem end place [] found → with_found found (λ size next. Ok []) ≡ Ok items → AreItems end place [] items
 at_no_token end place items (Fits item size next) (form is) e = absurd (form_some is)

@@ -1,5 +1,5 @@
 -- What stands at a place of a text is what the forms of items say.
-use Rattle.std.proofs.Common.{◌≡◌, ℕ, ◌+◌, ◌-◌, ◌<◌, Bool, true, false, ◌&&◌, ◌||◌, if◌then◌else◌, List, [], ◌∷◌, ◌++◌, length, take, drop, Option, Some, None, option_map, Result, Ok, Err, refl, sym, ap, subst, ◌∙◌, arith, length-append}
+use Rattle.std.proofs.Common.{◌≡◌, ℕ, ◌+◌, ◌-◌, ◌<◌, Bool, true, false, not, ◌&&◌, ◌||◌, if◌then◌else◌, List, [], ◌∷◌, ◌++◌, length, take, drop, Option, Some, None, option_map, Result, Ok, Err, refl, sym, ap, subst, ◌∙◌, arith, length-append}
 use Rattle.std.proofs.lemmas.Bool.{ltb-true, lt-ltb}
 use Rattle.std.specs.Prelude.{codes}
 use Rattle.s7_base.specs.declared.reason.Line.{Line}
@@ -8,13 +8,14 @@ use Rattle.s7_base.specs.declared.reason.Rejection.{Rejection}
 use Rattle.s7_base.specs.declared.reason.Rejection.TheVariants.{Refused, NoMemory}
 use Rattle.s7_base.specs.declared.token.Token.{Token}
 use Rattle.stl_grammar.proofs.StatementSizes.{Split, size_open, size_append, split_of, taken}
-use Rattle.stl_grammar.specs.Grammar.{IsName, quoted, apart, together, MayOpen, last_line, IsForm, heading, table, symbol, table_end, skipped_line, begin, section, section_end, struct_end, declaration, begin_behind, skipped_word, end_word, statement, has_statement, IsItem, form, no_instruction, none, at_start, in_a_table, behind_a_block, behind_a_heading, in_a_section, in_a_struct, behind_a_section, in_a_body, ItemsHaveForms}
+use Rattle.stl_grammar.specs.Grammar.{IsName, quoted, apart, together, MayOpen, last_line, IsForm, heading, table, symbol, table_end, skipped_line, begin, section, section_end, data_end, struct_end, declaration, begin_behind, value, values_end, skipped_word, end_word, statement, has_statement, IsItem, form, no_instruction, none, at_start, in_a_table, behind_a_block, behind_a_heading, in_a_section, in_a_struct, behind_a_section, in_a_body, among_values, ItemsHaveForms}
 use Rattle.stl_grammar.specs.Declarations.{declaration_at, ends_level, left_of}
+use Rattle.stl_grammar.specs.Initials.{ending_at, path_value_at}
 use Rattle.stl_grammar.specs.declared.declaration.Level.{Level}
 use Rattle.stl_grammar.specs.declared.declaration.Written.{Written}
 use Rattle.s7_base.specs.declared.reason.Reason.TheVariants.{BadStatement}
 use Rattle.stl_grammar.specs.Headings.{heading_kind, is_behind, is_skipped, kept_from, kept_number, kind_word, line_of, name_at, number_behind, opened, opened_by, size_on}
-use Rattle.stl_grammar.specs.Items.{behind_at, closing_at, declaration_found, declaration_reason, has_temps, inside_at, level_line, misfit_line, is_semicolon, is_skipped_alone, is_end, statement_size, statement_at, is_complete, misfit_reason, statement_reason, table_at, symbol_found, in_table, behind_heading, statement_found, statement_from, body_at, at_token, item_at}
+use Rattle.stl_grammar.specs.Items.{begins_body, behind_at, closing_at, declaration_found, declaration_reason, declarations_end, is_data, read_reason, section_word, struct_found, value_found, values_at, inside_at, level_line, misfit_line, is_semicolon, is_skipped_alone, is_end, statement_size, statement_at, is_complete, misfit_reason, statement_reason, table_at, symbol_found, in_table, behind_heading, statement_found, statement_from, body_at, at_token, item_at}
 use Rattle.stl_grammar.specs.Symbols.{ends_table, is_next, symbol_at}
 use Rattle.stl_statements.specs.Readers.{fitting}
 use Rattle.stl_statements.specs.Statements.{is_numbered, on_line, statement as statement_said, instruction_of}
@@ -24,10 +25,13 @@ use Rattle.stl_statements.specs.declared.mnemonic.Read.TheVariants as read
 use Rattle.stl_grammar.specs.declared.item.Found.{Found}
 use Rattle.stl_grammar.specs.declared.item.Found.TheVariants.{Fits, Misfit}
 use Rattle.stl_grammar.specs.declared.item.Item.{Item}
-use Rattle.stl_grammar.specs.declared.item.Item.TheVariants.{Opens, Mark, Symbol, Declares, Closes, Instr, Ends}
+use Rattle.stl_grammar.specs.declared.item.Item.TheVariants.{Opens, Mark, Symbol, Declares, Closes, Instr, Initial, Ends}
 use Rattle.stl_grammar.specs.declared.item.Where.{Where}
-use Rattle.stl_grammar.specs.declared.item.Where.TheVariants.{Start, Table, Between, Heading, Inside, Behind, Body}
+use Rattle.stl_grammar.specs.declared.item.Where.TheVariants.{Start, Table, Between, Heading, Inside, Behind, Body, Values}
 use Rattle.stl_tree.specs.declared.raw.BlockKind.{BlockKind}
+use Rattle.stl_tree.specs.declared.raw.BlockKind.TheVariants as block
+use Rattle.stl_tree.specs.declared.raw.InitialItem.{InitialItem}
+use Rattle.stl_tree.specs.declared.raw.RawInitial.{RawInitial}
 use Rattle.stl_tree.specs.declared.raw.RawInstr.{RawInstr}
 use Rattle.stl_tree.specs.declared.raw.RawOp.{RawOp}
 use Rattle.stl_tree.specs.declared.raw.RawName.{RawName}
@@ -57,6 +61,10 @@ left_true false b h = absurd cc
 right_true : (a b : Bool) → (a && b) ≡ true → b ≡ true
 right_true true b h = h
 right_true false b h = absurd cc
+
+not_true : (b : Bool) → not b ≡ true → b ≡ false
+not_true true h = absurd cc
+not_true false h = refl
 
 -- From a form to what is found
 
@@ -93,6 +101,12 @@ heading_found end (Heading other line) kind first rest may is named = absurd may
 heading_found end (Inside other levels) kind first rest may is named = absurd may
 heading_found end (Behind other) kind first rest may is named = absurd may
 heading_found end (Body other) kind first rest may is named = absurd may
+heading_found end Values kind first rest may is named = absurd may
+
+section_ends : (kind : BlockKind) (first : Token) (rest : List Token) → is_data kind ≡ false → is_word (codes "END_VAR") first ≡ true →
+    inside_at kind [] (first ∷ rest) first rest ≡ Fits Mark 0 (Behind kind)
+section_ends block.Db first rest no_data word = absurd cc
+section_ends kind first rest no_data word = if_true (is_word (codes "END_VAR") first) _ _ word
 
 statement_read : (place : Where) (first : Token) (more : List Token) (sign : Token) (rest : List Token) (instr : RawInstr) →
     statement_size (first ∷ more) ≡ length (first ∷ more) → instruction_of (first ∷ more) ≡ Ok instr → is_semicolon sign ≡ true
@@ -122,18 +136,25 @@ form_found end place next tokens item size (symbol line name a its b type c comm
     ∙ if_true _ _ _ (both _ _ (both _ _ (both (is_quoted_kind name.kind) (is_next name.line a its) quoted_name one) two) three))
 form_found end place next tokens item size (table_end line first rest ends) = if_true (ends_table line first rest) _ _ ends
 form_found end place next tokens item size (skipped_line kind line first rest is) = if_true (is_skipped line first rest) _ _ is
-form_found end place next tokens item size (begin kind line first rest no_line word) =
-    if_false (is_skipped line first rest) _ _ no_line ∙ if_true (is_word (codes "BEGIN") first) _ _ word
-form_found end place next tokens item size (section kind line first rest no_line no_begin temps word) =
-    if_false (is_skipped line first rest) _ _ no_line ∙ if_false (is_word (codes "BEGIN") first) _ _ no_begin
-    ∙ if_true _ _ _ (both (has_temps kind) (is_word (codes "VAR_TEMP") first) temps word)
-form_found end place next tokens item size (section_end kind first rest word) = if_true (is_word (codes "END_VAR") first) _ _ word
-form_found end place next tokens item size (struct_end kind level levels first sign rest word ends) =
+form_found end place next tokens item size (begin kind line first rest no_line no_data word) =
+    if_false (is_skipped line first rest) _ _ no_line
+    ∙ if_true (begins_body kind first) _ _ (both (not (is_data kind)) (is_word (codes "BEGIN") first) (ap not no_data) word)
+form_found end place next tokens item size (section kind line first rest no_line no_begin word) =
+    if_false (is_skipped line first rest) _ _ no_line ∙ if_false (begins_body kind first) _ _ no_begin
+    ∙ if_true (is_word (section_word kind) first) _ _ word
+form_found end place next tokens item size (section_end kind first rest no_data word) = section_ends kind first rest no_data word
+form_found end place next tokens item size (data_end first sign rest word ends) =
     if_true (is_word (codes "END_STRUCT") first) _ _ word ∙ if_true (is_semicolon sign) _ _ ends
+form_found end place next tokens item size (struct_end kind level levels first rest items its_size word is) =
+    if_true (is_word (codes "END_STRUCT") first) _ _ word
+    ∙ ap (λ (found : Read (List InitialItem)). struct_found kind level.line levels (first ∷ rest) found) is
 form_found end place next tokens item size (declaration kind levels name rest type its_size no_end is) =
-    if_false (ends_level levels name) _ _ no_end
+    if_false (ends_level kind levels name) _ _ no_end
     ∙ ap (λ (found : Read Written). declaration_found kind levels (name ∷ rest) name found) is
 form_found end place next tokens item size (begin_behind kind first rest word) = if_true (is_word (codes "BEGIN") first) _ _ word
+form_found end place next tokens item size (value first rest its its_size no_end is) =
+    if_false (is_end block.Db first) _ _ no_end ∙ ap (λ (found : Read RawInitial). value_found (first ∷ rest) first found) is
+form_found end place next tokens item size (values_end first rest word) = if_true (is_end block.Db first) _ _ word
 form_found end place next tokens item size (skipped_word kind first rest is) = if_true (is_skipped_alone first) _ _ is
 form_found end place next tokens item size (end_word kind first rest no_skip word) =
     if_false (is_skipped_alone first) _ _ no_skip ∙ if_true (is_end kind first) _ _ word
@@ -242,49 +263,70 @@ behind_heading_reads : (kind : BlockKind) (line : Line) (first : Token) (rest : 
 behind_heading_reads kind line first rest =
     let R : Found → Type 0 = λ found. Reads (Heading kind line) first rest found in
     choose R (is_skipped line first rest) _ _ (λ is. fits (skipped_line kind line first rest is))
-    (λ no_line. choose R (is_word (codes "BEGIN") first) _ _ (λ word. fits (begin kind line first rest no_line word))
-    (λ no_begin. choose R (has_temps kind && is_word (codes "VAR_TEMP") first) _ _
-    (λ all. fits (section kind line first rest no_line no_begin (left_true (has_temps kind) (is_word (codes "VAR_TEMP") first) all)
-    (right_true (has_temps kind) (is_word (codes "VAR_TEMP") first) all)))
+    (λ no_line. choose R (begins_body kind first) _ _
+    (λ all. fits (begin kind line first rest no_line (not_true (is_data kind) (left_true (not (is_data kind)) (is_word (codes "BEGIN") first) all))
+    (right_true (not (is_data kind)) (is_word (codes "BEGIN") first) all)))
+    (λ no_begin. choose R (is_word (section_word kind) first) _ _
+    (λ word. fits (section kind line first rest no_line no_begin word))
     (λ no_section. misses (Heading kind line) first rest refl)))
 
 -- among declarations
 
--- the end of a STRUCT that does not fit has its line
-unclosed : (kind : BlockKind) (level : Level) (levels : List Level) (first : Token) (rest : List Token) → is_word (codes "END_STRUCT") first ≡ true →
-    Reads (Inside kind (level ∷ levels)) first rest (Misfit level.line BadStatement)
-unclosed kind level levels first rest word =
+-- the end of a STRUCT that does not fit has the line of its declaration
+unclosed : (kind : BlockKind) (level : Level) (levels : List Level) (first : Token) (rest : List Token) (found : Read (List InitialItem)) → is_word (codes "END_STRUCT") first ≡ true →
+    ending_at (is_data kind) level.in_array rest ≡ found → Reads (Inside kind (level ∷ levels)) first rest (Misfit level.line (read_reason (first ∷ rest) found))
+unclosed kind level levels first rest found word is =
     let R : Line → Reason → Type 0 = λ line reason. Reads (Inside kind (level ∷ levels)) first rest (Misfit line reason) in
     let place = Inside kind (level ∷ levels) in
+    let said = read_reason (first ∷ rest) found in
     let line : misfit_line place first ≡ level.line = if_true (is_word (codes "END_STRUCT") first) _ _ word in
-    let reason : misfit_reason place (first ∷ rest) ≡ BadStatement = if_true (is_word (codes "END_STRUCT") first) _ _ word in
-    subst (λ (l : Line). R l BadStatement) line (subst (λ (r : Reason). R (misfit_line place first) r) reason (misses place first rest refl))
+    let reason : misfit_reason place (first ∷ rest) ≡ said =
+    if_true (is_word (codes "END_STRUCT") first) _ _ word ∙ ap (λ (r : Read (List InitialItem)). read_reason (first ∷ rest) r) is in
+    subst (λ (l : Line). R l said) line (subst (λ (r : Reason). R (misfit_line place first) r) reason (misses place first rest refl))
 
-closing_reads : (kind : BlockKind) (levels : List Level) (first : Token) (rest : List Token) → ends_level levels first ≡ true →
-    Reads (Inside kind levels) first rest (closing_at kind levels rest)
-closing_reads kind [] first rest word = fits (section_end kind first rest word)
-closing_reads kind (level ∷ levels) first [] word = unclosed kind level levels first [] word
-closing_reads kind (level ∷ levels) first (sign ∷ rest) word =
-    let R : Found → Type 0 = λ found. Reads (Inside kind (level ∷ levels)) first (sign ∷ rest) found in
-    choose R (is_semicolon sign) _ _ (λ ends. fits (struct_end kind level levels first sign rest word ends))
-    (λ no_end. unclosed kind level levels first (sign ∷ rest) word)
+struct_reads : (kind : BlockKind) (level : Level) (levels : List Level) (first : Token) (rest : List Token) (found : Read (List InitialItem)) → is_word (codes "END_STRUCT") first ≡ true →
+    ending_at (is_data kind) level.in_array rest ≡ found → Reads (Inside kind (level ∷ levels)) first rest (struct_found kind level.line levels (first ∷ rest) found)
+struct_reads kind level levels first rest (read.Fits items size) word is = fits (struct_end kind level levels first rest items size word is)
+struct_reads kind level levels first rest (read.LeftOut left) word is = unclosed kind level levels first rest (read.LeftOut left) word is
+struct_reads kind level levels first rest read.No word is = unclosed kind level levels first rest read.No word is
+
+-- the end of a data block's declarations that does not fit has its own
+unended : (first : Token) (rest : List Token) → is_word (codes "END_STRUCT") first ≡ true → Reads (Inside block.Db []) first rest (Misfit first.line BadStatement)
+unended first rest word =
+    let R : Reason → Type 0 = λ reason. Reads (Inside block.Db []) first rest (Misfit first.line reason) in
+    let reason : misfit_reason (Inside block.Db []) (first ∷ rest) ≡ BadStatement = if_true (is_word (codes "END_STRUCT") first) _ _ word in
+    subst R reason (misses (Inside block.Db []) first rest refl)
+
+end_reads : (kind : BlockKind) (first : Token) (rest : List Token) → ends_level kind [] first ≡ true → Reads (Inside kind []) first rest (declarations_end kind first rest)
+end_reads block.Db first [] word = unended first [] word
+end_reads block.Db first (sign ∷ rest) word =
+    let R : Found → Type 0 = λ found. Reads (Inside block.Db []) first (sign ∷ rest) found in
+    choose R (is_semicolon sign) _ _ (λ ends. fits (data_end first sign rest word ends)) (λ no_end. unended first (sign ∷ rest) word)
+end_reads block.Ob first rest word = fits (section_end block.Ob first rest refl word)
+end_reads block.Fc first rest word = fits (section_end block.Fc first rest refl word)
+end_reads block.Fb first rest word = fits (section_end block.Fb first rest refl word)
+
+closing_reads : (kind : BlockKind) (levels : List Level) (first : Token) (rest : List Token) → ends_level kind levels first ≡ true →
+    Reads (Inside kind levels) first rest (closing_at kind levels (first ∷ rest) first rest)
+closing_reads kind [] first rest word = end_reads kind first rest word
+closing_reads kind (level ∷ levels) first rest word = struct_reads kind level levels first rest (ending_at (is_data kind) level.in_array rest) word refl
 
 -- a declaration that does not fit has the line of its name
-inside_line : (levels : List Level) (first : Token) → ends_level levels first ≡ false → level_line levels first ≡ first.line
-inside_line [] first no_end = refl
-inside_line (level ∷ levels) first no_end = if_false (is_word (codes "END_STRUCT") first) _ _ no_end
+inside_line : (kind : BlockKind) (levels : List Level) (first : Token) → ends_level kind levels first ≡ false → level_line levels first ≡ first.line
+inside_line kind [] first no_end = refl
+inside_line kind (level ∷ levels) first no_end = if_false (is_word (codes "END_STRUCT") first) _ _ no_end
 
-undeclared : (kind : BlockKind) (levels : List Level) (first : Token) (rest : List Token) (found : Read Written) → ends_level levels first ≡ false → declaration_at (left_of levels) first rest ≡ found →
-    Reads (Inside kind levels) first rest (Misfit first.line (declaration_reason (first ∷ rest) found))
+undeclared : (kind : BlockKind) (levels : List Level) (first : Token) (rest : List Token) (found : Read Written) → ends_level kind levels first ≡ false → declaration_at (is_data kind) (left_of levels) first rest ≡ found →
+    Reads (Inside kind levels) first rest (Misfit first.line (declaration_reason kind (first ∷ rest) found))
 undeclared kind levels first rest found no_end is =
     let R : Line → Reason → Type 0 = λ line reason. Reads (Inside kind levels) first rest (Misfit line reason) in
     let place = Inside kind levels in
-    let reason : misfit_reason place (first ∷ rest) ≡ declaration_reason (first ∷ rest) found =
-    if_false (ends_level levels first) _ _ no_end ∙ ap (λ (r : Read Written). declaration_reason (first ∷ rest) r) is in
-    subst (λ (l : Line). R l (declaration_reason (first ∷ rest) found)) (inside_line levels first no_end)
+    let reason : misfit_reason place (first ∷ rest) ≡ declaration_reason kind (first ∷ rest) found =
+    if_false (ends_level kind levels first) _ _ no_end ∙ ap (λ (r : Read Written). declaration_reason kind (first ∷ rest) r) is in
+    subst (λ (l : Line). R l (declaration_reason kind (first ∷ rest) found)) (inside_line kind levels first no_end)
     (subst (λ (r : Reason). R (misfit_line place first) r) reason (misses place first rest refl))
 
-declaration_reads : (kind : BlockKind) (levels : List Level) (first : Token) (rest : List Token) (found : Read Written) → ends_level levels first ≡ false → declaration_at (left_of levels) first rest ≡ found →
+declaration_reads : (kind : BlockKind) (levels : List Level) (first : Token) (rest : List Token) (found : Read Written) → ends_level kind levels first ≡ false → declaration_at (is_data kind) (left_of levels) first rest ≡ found →
     Reads (Inside kind levels) first rest (declaration_found kind levels (first ∷ rest) first found)
 declaration_reads kind levels first rest (read.Fits type size) no_end is = fits (declaration kind levels first rest type size no_end is)
 declaration_reads kind levels first rest (read.LeftOut left) no_end is = undeclared kind levels first rest (read.LeftOut left) no_end is
@@ -293,8 +335,28 @@ declaration_reads kind levels first rest read.No no_end is = undeclared kind lev
 inside_reads : (kind : BlockKind) (levels : List Level) (first : Token) (rest : List Token) → Reads (Inside kind levels) first rest (inside_at kind levels (first ∷ rest) first rest)
 inside_reads kind levels first rest =
     let R : Found → Type 0 = λ found. Reads (Inside kind levels) first rest found in
-    choose R (ends_level levels first) _ _ (λ word. closing_reads kind levels first rest word)
-    (λ no_end. declaration_reads kind levels first rest (declaration_at (left_of levels) first rest) no_end refl)
+    choose R (ends_level kind levels first) _ _ (λ word. closing_reads kind levels first rest word)
+    (λ no_end. declaration_reads kind levels first rest (declaration_at (is_data kind) (left_of levels) first rest) no_end refl)
+
+-- among the initial values of a data block
+
+unvalued : (first : Token) (rest : List Token) (found : Read RawInitial) → path_value_at first.line (first ∷ rest) ≡ found →
+    Reads Values first rest (Misfit first.line (read_reason (first ∷ rest) found))
+unvalued first rest found is =
+    let R : Reason → Type 0 = λ reason. Reads Values first rest (Misfit first.line reason) in
+    subst R (ap (λ (r : Read RawInitial). read_reason (first ∷ rest) r) is) (misses Values first rest refl)
+
+value_reads : (first : Token) (rest : List Token) (found : Read RawInitial) → is_end block.Db first ≡ false → path_value_at first.line (first ∷ rest) ≡ found →
+    Reads Values first rest (value_found (first ∷ rest) first found)
+value_reads first rest (read.Fits its size) no_end is = fits (value first rest its size no_end is)
+value_reads first rest (read.LeftOut left) no_end is = unvalued first rest (read.LeftOut left) is
+value_reads first rest read.No no_end is = unvalued first rest read.No is
+
+values_reads : (first : Token) (rest : List Token) → Reads Values first rest (values_at (first ∷ rest) first)
+values_reads first rest =
+    let R : Found → Type 0 = λ found. Reads Values first rest found in
+    choose R (is_end block.Db first) _ _ (λ word. fits (values_end first rest word))
+    (λ no_end. value_reads first rest (path_value_at first.line (first ∷ rest)) no_end refl)
 
 behind_reads_begin : (kind : BlockKind) (first : Token) (rest : List Token) → Reads (Behind kind) first rest (behind_at kind (first ∷ rest) first)
 behind_reads_begin kind first rest =
@@ -348,6 +410,7 @@ token_reads (Heading kind line) first rest = behind_heading_reads kind line firs
 token_reads (Inside kind levels) first rest = inside_reads kind levels first rest
 token_reads (Behind kind) first rest = behind_reads_begin kind first rest
 token_reads (Body kind) first rest = body_reads kind first rest
+token_reads Values first rest = values_reads first rest
 
 -- no form stands where a misfit was found
 formless : (end : Line) (place : Where) (tokens : List Token) (line : Line) (reason : Reason) → item_at end place tokens ≡ Misfit line reason →
@@ -372,6 +435,7 @@ end_is end (Inside kind []) = in_a_section kind
 end_is end (Inside kind (level ∷ levels)) = in_a_struct kind level levels
 end_is end (Behind kind) = behind_a_section kind
 end_is end (Body kind) = in_a_body kind
+end_is end Values = among_values
 
 token_is : (end : Line) (place : Where) (first : Token) (rest : List Token) → IsItem end place (first ∷ rest) (item_at end place (first ∷ rest))
 unfolding item_at
@@ -407,6 +471,7 @@ complete end place tokens found (in_a_section kind) = refl
 complete end place tokens found (in_a_struct kind level levels) = refl
 complete end place tokens found (behind_a_section kind) = refl
 complete end place tokens found (in_a_body kind) = refl
+complete end place tokens found among_values = refl
 
 pub have_forms : ItemsHaveForms
 have_forms = record { sound = sound; complete = complete }

@@ -4,24 +4,32 @@ use Rattle.std.specs.Prelude.{codes, map, replicate, None, pos, neg_ℤ}
 use Rattle.memory_areas.specs.declared.place.AreaName.{AreaName}
 use Rattle.memory_areas.specs.declared.place.AreaName.TheVariants as area
 use Rattle.s7_base.specs.Tokens.{tokens_of}
-use Rattle.s7_base.specs.declared.reason.Kind.TheVariants.{DateTime, NotBuilt, PointerType, Real, StringType, UserType}
+use Rattle.s7_base.specs.declared.reason.Kind.TheVariants.{DateTime, NotBuilt, PointerType, Real, StringType, SystemCall, UserType}
 use Rattle.s7_base.specs.declared.reason.Reason.{Reason}
 use Rattle.s7_base.specs.declared.reason.Reason.TheVariants.{BadStatement, Unsupported}
 use Rattle.s7_base.specs.declared.reason.Rejection.{Rejection}
 use Rattle.s7_base.specs.declared.reason.Rejection.TheVariants.{Refused}
 use Rattle.s7_base.specs.declared.word.Width.{Width}
 use Rattle.s7_base.specs.declared.word.Width.TheVariants as width
+use Rattle.stl_grammar.specs.Initials.{once, times}
 use Rattle.stl_grammar.specs.Items.{is_not_built, item_at}
-use Rattle.stl_grammar.specs.RawPrograms.{headed, raw_program, raw_text, raw_with, with_end}
+use Rattle.stl_grammar.specs.RawPrograms.{headed, raw_program, raw_text, with_end}
 use Rattle.stl_grammar.specs.Symbols.{address_of}
+use Rattle.stl_statements.specs.Constants.{constant, plain}
 use Rattle.stl_statements.specs.Mnemonics.{mnemonic_at}
 use Rattle.stl_statements.specs.Statements.{instruction_of}
 use Rattle.stl_tree.specs.declared.raw.BlockKind.TheVariants as block
+use Rattle.stl_tree.specs.declared.raw.Constant.{Constant}
 use Rattle.stl_tree.specs.declared.raw.Declaration.{Declaration}
 use Rattle.stl_tree.specs.declared.raw.DeclType.{DeclType}
 use Rattle.stl_tree.specs.declared.raw.DeclType.TheVariants as of
 use Rattle.stl_tree.specs.declared.raw.ElemType.TheVariants as elem
+use Rattle.stl_tree.specs.declared.raw.InitialItem.{InitialItem}
+use Rattle.stl_tree.specs.declared.raw.PathStep.{PathStep}
+use Rattle.stl_tree.specs.declared.raw.PathStep.TheVariants as step
 use Rattle.stl_tree.specs.declared.raw.RawBlock.{RawBlock}
+use Rattle.stl_tree.specs.declared.raw.RawDataKind.TheVariants.{Own}
+use Rattle.stl_tree.specs.declared.raw.RawInitial.{RawInitial}
 use Rattle.stl_tree.specs.declared.raw.RawName.{RawName}
 use Rattle.stl_tree.specs.declared.raw.RawName.TheVariants.{Number, Name}
 use Rattle.stl_tree.specs.declared.raw.RawProgram.{RawProgram}
@@ -31,6 +39,10 @@ use Rattle.stl_tree.specs.declared.raw.SymbolLine.{SymbolLine}
 
 abbrev pub refused : ℕ → Reason → Result RawProgram Rejection
 refused line reason = Err (Refused (record { 0 = line }) reason)
+
+-- the program of symbol lines and blocks without data blocks
+abbrev pub raw_with : List SymbolLine → List RawBlock → RawProgram
+raw_with symbols blocks = record { symbols = symbols; dbs = []; blocks = blocks }
 
 -- an organization block without instructions, from a line to a line
 abbrev pub empty_block : RawName → ℕ → ℕ → RawBlock
@@ -252,3 +264,177 @@ type_of_the_users = refl
 statement_behind_a_section : raw_text (codes "ORGANIZATION_BLOCK OB 1\nVAR_TEMP\nEND_VAR\nA I 0.0;\nEND_ORGANIZATION_BLOCK") ≡ refused 4 (Unsupported NotBuilt)
 unfolding raw_text raw_program item_at is_not_built instruction_of tokens_of mnemonic_at
 statement_behind_a_section = refl
+
+-- Data blocks
+
+-- a data block with these declarations from line 3 on, and these initial values
+abbrev pub with_data : List ℕ → List ℕ → List ℕ
+with_data decls values =
+    codes "DATA_BLOCK DB 5\nSTRUCT\n" ++ decls ++ codes "\nEND_STRUCT;\nBEGIN\n" ++ values ++ codes "\nEND_DATA_BLOCK"
+
+-- the program of such a block
+abbrev pub data_of : List Declaration → List RawInitial → RawProgram
+data_of decls values =
+    record {
+      symbols = [];
+      dbs = record { name = Number 5; line = record { 0 = 1 }; kind = Own decls; initial = values } ∷ [];
+      blocks = [];
+    }
+
+-- a declaration with initial values
+abbrev pub given : List ℕ → ℕ → DeclType → List InitialItem → Declaration
+given name line type items = record { name = name; line = record { 0 = line }; ty = type; initial = items }
+
+abbrev pub initially : List PathStep → ℕ → Constant → RawInitial
+initially path line value = record { path = path; line = record { 0 = line }; value = value }
+
+data_block : raw_text (with_data (codes "a : ARRAY [0 .. 3] OF INT := 1, 2 (7), 5;") (codes "a[1] := 3;")) ≡ Ok (data_of
+    (given (codes "a") 3 (of.Array ((pos 0, pos 3) ∷ []) (of.Elementary elem.Int))
+    (once (plain 1) ∷ times 2 (plain 7 ∷ []) ∷ once (plain 5) ∷ []) ∷ [])
+    (initially (step.Name (codes "a") ∷ step.Index (pos 1 ∷ []) ∷ []) 6 (plain 3) ∷ []))
+unfolding raw_text raw_program item_at is_not_built instruction_of tokens_of mnemonic_at
+data_block = refl
+
+data_struct : raw_text (with_data (codes "a : STRUCT\nb : BOOL := TRUE;\nEND_STRUCT := 5;\nc : ARRAY [1..2] OF STRUCT END_STRUCT := 2(FALSE, B#16#1);") (codes "a.b := P#M 3.1; c := P#65535.7;")) ≡ Ok (data_of
+    (given (codes "a") 3 (of.Struct (given (codes "b") 4 (of.Elementary elem.Bool) (once (constant width.Bit 1) ∷ []) ∷ [])) (once (plain 5) ∷ [])
+    ∷ given (codes "c") 6 (of.Array ((pos 1, pos 2) ∷ []) (of.Struct []))
+    (times 2 (constant width.Bit 0 ∷ constant width.Byte 1 ∷ []) ∷ []) ∷ [])
+    (initially (step.Name (codes "a") ∷ step.Name (codes "b") ∷ []) 9 (constant width.Dword 0x83000019)
+    ∷ initially (step.Name (codes "c") ∷ []) 9 (constant width.Dword 0x7FFFF) ∷ []))
+unfolding raw_text raw_program item_at is_not_built instruction_of tokens_of mnemonic_at
+data_struct = refl
+
+two_kinds :
+    raw_text (codes "DATA_BLOCK \"d\"\nNON_RETAIN\nSTRUCT END_STRUCT;\nBEGIN END_DATA_BLOCK\nORGANIZATION_BLOCK OB 1\nBEGIN\nEND_ORGANIZATION_BLOCK DATA_BLOCK DB3 STRUCT END_STRUCT ; BEGIN END_DATA_BLOCK")
+    ≡ Ok (record {
+      symbols = [];
+      dbs = record { name = Name (codes "d"); line = record { 0 = 1 }; kind = Own []; initial = [] }
+          ∷ record { name = Number 3; line = record { 0 = 7 }; kind = Own []; initial = [] } ∷ [];
+      blocks = empty_block (Number 1) 5 7 ∷ [];
+    })
+unfolding raw_text raw_program item_at is_not_built instruction_of tokens_of mnemonic_at
+two_kinds = refl
+
+data_block_of_no_number : raw_text (codes "DATA_BLOCK FB 5") ≡ refused 1 BadStatement
+unfolding raw_text raw_program item_at is_not_built instruction_of tokens_of mnemonic_at
+data_block_of_no_number = refl
+
+begin_without_a_struct : raw_text (codes "DATA_BLOCK DB 5\nBEGIN") ≡ refused 2 BadStatement
+unfolding raw_text raw_program item_at is_not_built instruction_of tokens_of mnemonic_at
+begin_without_a_struct = refl
+
+section_of_a_data_block : raw_text (codes "DATA_BLOCK DB 5\nVAR_TEMP") ≡ refused 2 BadStatement
+unfolding raw_text raw_program item_at is_not_built instruction_of tokens_of mnemonic_at
+section_of_a_data_block = refl
+
+instance : raw_text (codes "DATA_BLOCK DB 5\nFB 4\nBEGIN") ≡ refused 2 (Unsupported NotBuilt)
+unfolding raw_text raw_program item_at is_not_built instruction_of tokens_of mnemonic_at
+instance = refl
+
+instance_in_a_word : raw_text (codes "DATA_BLOCK DB 5\nFB4") ≡ refused 2 (Unsupported NotBuilt)
+unfolding raw_text raw_program item_at is_not_built instruction_of tokens_of mnemonic_at
+instance_in_a_word = refl
+
+named_instance : raw_text (codes "DATA_BLOCK DB 5\n\"f\"") ≡ refused 2 (Unsupported NotBuilt)
+unfolding raw_text raw_program item_at is_not_built instruction_of tokens_of mnemonic_at
+named_instance = refl
+
+instance_without_its_number : raw_text (codes "DATA_BLOCK DB 5\nFB") ≡ refused 2 BadStatement
+unfolding raw_text raw_program item_at is_not_built instruction_of tokens_of mnemonic_at
+instance_without_its_number = refl
+
+data_of_a_user_type : raw_text (codes "DATA_BLOCK DB 5\nUDT 4") ≡ refused 2 (Unsupported UserType)
+unfolding raw_text raw_program item_at is_not_built instruction_of tokens_of mnemonic_at
+data_of_a_user_type = refl
+
+data_of_a_system_block : raw_text (codes "DATA_BLOCK DB 5\nSFB4") ≡ refused 2 (Unsupported SystemCall)
+unfolding raw_text raw_program item_at is_not_built instruction_of tokens_of mnemonic_at
+data_of_a_system_block = refl
+
+data_without_a_semicolon : raw_text (codes "DATA_BLOCK DB 5\nSTRUCT\nEND_STRUCT\nBEGIN") ≡ refused 3 BadStatement
+unfolding raw_text raw_program item_at is_not_built instruction_of tokens_of mnemonic_at
+data_without_a_semicolon = refl
+
+data_without_a_body : raw_text (codes "DATA_BLOCK DB 5\nSTRUCT\nEND_STRUCT;\nNETWORK") ≡ refused 4 BadStatement
+unfolding raw_text raw_program item_at is_not_built instruction_of tokens_of mnemonic_at
+data_without_a_body = refl
+
+date_in_a_data_block : raw_text (with_data (codes "d : DATE_AND_TIME foo;") []) ≡ refused 3 (Unsupported DateTime)
+unfolding raw_text raw_program item_at is_not_built instruction_of tokens_of mnemonic_at
+date_in_a_data_block = refl
+
+list_without_an_array : raw_text (with_data (codes "a : INT := 2 (3);") []) ≡ refused 3 BadStatement
+unfolding raw_text raw_program item_at is_not_built instruction_of tokens_of mnemonic_at
+list_without_an_array = refl
+
+two_values_without_an_array : raw_text (with_data (codes "a : INT := 2, 3;") []) ≡ refused 3 BadStatement
+unfolding raw_text raw_program item_at is_not_built instruction_of tokens_of mnemonic_at
+two_values_without_an_array = refl
+
+list_of_a_struct : raw_text (with_data (codes "a : STRUCT\nb : INT;\nEND_STRUCT := 2, 3;") []) ≡ refused 3 BadStatement
+unfolding raw_text raw_program item_at is_not_built instruction_of tokens_of mnemonic_at
+list_of_a_struct = refl
+
+no_times : raw_text (with_data (codes "a : ARRAY [1..2] OF INT := 0 (1);") []) ≡ refused 3 BadStatement
+unfolding raw_text raw_program item_at is_not_built instruction_of tokens_of mnemonic_at
+no_times = refl
+
+too_many_times : raw_text (with_data (codes "a : ARRAY [1..2] OF INT := 65536 (1);") []) ≡ refused 3 BadStatement
+unfolding raw_text raw_program item_at is_not_built instruction_of tokens_of mnemonic_at
+too_many_times = refl
+
+empty_brackets : raw_text (with_data (codes "a : ARRAY [1..2] OF INT := 2 ();") []) ≡ refused 3 BadStatement
+unfolding raw_text raw_program item_at is_not_built instruction_of tokens_of mnemonic_at
+empty_brackets = refl
+
+real_value : raw_text (with_data (codes "a : ARRAY [1..2] OF INT := 1, 2 (3, 4.5 ;") []) ≡ refused 3 (Unsupported Real)
+unfolding raw_text raw_program item_at is_not_built instruction_of tokens_of mnemonic_at
+real_value = refl
+
+real_value_of_a_struct : raw_text (with_data (codes "a : STRUCT\nEND_STRUCT := 4.5;") []) ≡ refused 3 (Unsupported Real)
+unfolding raw_text raw_program item_at is_not_built instruction_of tokens_of mnemonic_at
+real_value_of_a_struct = refl
+
+statement_in_a_data_block : raw_text (with_data (codes "A I 0.0;") []) ≡ refused 3 BadStatement
+unfolding raw_text raw_program item_at is_not_built instruction_of tokens_of mnemonic_at
+statement_in_a_data_block = refl
+
+pointer_past_its_byte : raw_text (with_data [] (codes "a := P#65536.0;")) ≡ refused 6 BadStatement
+unfolding raw_text raw_program item_at is_not_built instruction_of tokens_of mnemonic_at
+pointer_past_its_byte = refl
+
+pointer_past_its_bit : raw_text (with_data [] (codes "a := P#I 0.8;")) ≡ refused 6 BadStatement
+unfolding raw_text raw_program item_at is_not_built instruction_of tokens_of mnemonic_at
+pointer_past_its_bit = refl
+
+pointer_in_a_block : raw_text (with_data [] (codes "a := P#DB5.DBX 0.0;")) ≡ refused 6 BadStatement
+unfolding raw_text raw_program item_at is_not_built instruction_of tokens_of mnemonic_at
+pointer_in_a_block = refl
+
+empty_value : raw_text (with_data [] (codes ";")) ≡ refused 6 BadStatement
+unfolding raw_text raw_program item_at is_not_built instruction_of tokens_of mnemonic_at
+empty_value = refl
+
+network_among_values : raw_text (with_data [] (codes "NETWORK")) ≡ refused 6 BadStatement
+unfolding raw_text raw_program item_at is_not_built instruction_of tokens_of mnemonic_at
+network_among_values = refl
+
+time_value : raw_text (with_data [] (codes "a.b[1] := T#5s foo;")) ≡ refused 6 (Unsupported DateTime)
+unfolding raw_text raw_program item_at is_not_built instruction_of tokens_of mnemonic_at
+time_value = refl
+
+value_is_cut_off : raw_text (codes "DATA_BLOCK DB 5\nSTRUCT\nEND_STRUCT;\nBEGIN\na := T#5s") ≡ refused 5 BadStatement
+unfolding raw_text raw_program item_at is_not_built instruction_of tokens_of mnemonic_at
+value_is_cut_off = refl
+
+ends_among_values : raw_text (codes "DATA_BLOCK DB 5\nSTRUCT\nEND_STRUCT;\nBEGIN\na := 5;\n") ≡ refused 6 BadStatement
+unfolding raw_text raw_program item_at is_not_built instruction_of tokens_of mnemonic_at
+ends_among_values = refl
+
+ends_in_a_nested_struct : raw_text (codes "DATA_BLOCK DB 5\nSTRUCT\na : STRUCT\nb : INT;\n") ≡ refused 3 BadStatement
+unfolding raw_text raw_program item_at is_not_built instruction_of tokens_of mnemonic_at
+ends_in_a_nested_struct = refl
+
+ends_in_declarations : raw_text (codes "DATA_BLOCK DB 5\nSTRUCT\na : INT;\n") ≡ refused 4 BadStatement
+unfolding raw_text raw_program item_at is_not_built instruction_of tokens_of mnemonic_at
+ends_in_declarations = refl

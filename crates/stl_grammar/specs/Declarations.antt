@@ -1,28 +1,27 @@
 -- Declarations: a name, a type, and what ends them.
-use Rattle.std.specs.Prelude.{ℕ, zero, suc, ◌+◌, ◌-◌, ℤ, pos, neg_ℤ, Bool, true, false, ◌&&◌, ◌||◌, if◌then◌else◌, List, [], ◌∷◌, drop, codes, Option, Some, None, option_map}
+use Rattle.std.specs.Prelude.{ℕ, zero, suc, ◌+◌, ◌-◌, ℤ, pos, neg_ℤ, Bool, true, false, ◌&&◌, ◌||◌, nat_lt, if◌then◌else◌, List, [], ◌∷◌, length, drop, codes, Option, Some, None, option_map}
 use Rattle.s7_base.specs.declared.reason.Kind.{Kind}
 use Rattle.s7_base.specs.declared.reason.Kind.TheVariants as kind
 use Rattle.s7_base.specs.declared.reason.Line.{Line}
 use Rattle.s7_base.specs.declared.token.Token.{Token}
+use Rattle.stl_grammar.specs.Elements.{begins_with_word, elements_from}
 use Rattle.stl_grammar.specs.Headings.{kept_number}
+use Rattle.stl_grammar.specs.Initials.{ending_at}
 use Rattle.stl_grammar.specs.declared.declaration.Innermost.{Innermost}
 use Rattle.stl_grammar.specs.declared.declaration.Innermost.TheVariants as inner
 use Rattle.stl_grammar.specs.declared.declaration.Level.{Level}
 use Rattle.stl_grammar.specs.declared.declaration.Written.{Written}
 use Rattle.stl_statements.specs.Numbers.{are_digits}
-use Rattle.stl_statements.specs.Readers.{fitting, read_as}
+use Rattle.stl_statements.specs.Readers.{fitting, further, read_as}
 use Rattle.stl_statements.specs.Statements.{is_numbered}
 use Rattle.stl_statements.specs.Words.{is_word, is_sign, is_word_kind, is_word_among}
 use Rattle.stl_statements.specs.declared.mnemonic.Read.{Read}
 use Rattle.stl_statements.specs.declared.mnemonic.Read.TheVariants.{Fits, LeftOut, No}
+use Rattle.stl_tree.specs.declared.raw.BlockKind.{BlockKind}
+use Rattle.stl_tree.specs.declared.raw.BlockKind.TheVariants as block
 use Rattle.stl_tree.specs.declared.raw.ElemType.{ElemType}
 use Rattle.stl_tree.specs.declared.raw.ElemType.TheVariants as elem
-
--- what was read behind so many tokens, with these
-abbrev pub further : {A : Type 0} → ℕ → Read A → Read A
-further before No = No
-further before (LeftOut kind) = LeftOut kind
-further before (Fits a size) = Fits a (before + size)
+use Rattle.stl_tree.specs.declared.raw.InitialItem.{InitialItem}
 
 -- Bounds
 
@@ -56,41 +55,9 @@ upper_behind tokens other = No
 abbrev pub bounds_at : List Token → Read (ℤ × ℤ)
 bounds_at tokens = upper_behind tokens (whole_at tokens)
 
--- Lists
-
--- an element before others
-abbrev pub prepended : {A : Type 0} → A → List A → List A
-prepended a more = a ∷ more
-
--- an element of so many tokens and what stands behind it: the end of the list, or more of them
-abbrev pub elements_behind : {A : Type 0} → List ℕ → A → ℕ → List Token → (ℕ → Read (List A)) → Read (List A)
-elements_behind close a size [] more = No
-elements_behind close a size (sign ∷ rest) more =
-    if is_sign close sign then Fits (a ∷ []) (size + 1)
-    else if is_sign (codes ",") sign then further (size + 1) (read_as (prepended a) (more size))
-    else No
-
--- the same, by what was read as the element
-abbrev pub elements_with : {A : Type 0} → List ℕ → List Token → Read A → (ℕ → Read (List A)) → Read (List A)
-elements_with close tokens No more = No
-elements_with close tokens (LeftOut kind) more = LeftOut kind
-elements_with close tokens (Fits a size) more = elements_behind close a size (drop size tokens) more
-
--- elements with commas between them and the sign behind the last; `skip` tokens still belong to what stands before
-abbrev pub elements_from : {A : Type 0} → (List Token → Read A) → List ℕ → ℕ → List Token → Read (List A)
-elements_from element close skip [] = No
-elements_from element close (suc skip) (first ∷ rest) = elements_from element close skip rest
-elements_from element close zero (first ∷ rest) =
-    elements_with close (first ∷ rest) (element (first ∷ rest)) (λ size. elements_from element close size rest)
-
 -- the dimensions of an array, and their bracket
 abbrev pub dims_at : List Token → Read (List (ℤ × ℤ))
 dims_at tokens = elements_from bounds_at (codes "]") 0 tokens
-
--- a word stands at the front
-abbrev pub begins_with_word : List ℕ → List Token → Bool
-begins_with_word word [] = false
-begins_with_word word (first ∷ rest) = is_word word first
 
 -- `OF` stands behind the dimensions
 abbrev pub before_of : List Token → Read (List (ℤ × ℤ)) → Read (List (ℤ × ℤ))
@@ -137,10 +104,13 @@ abbrev pub begins_with_number : List Token → Bool
 begins_with_number [] = false
 begins_with_number (first ∷ rest) = is_word_kind first.kind && are_digits first.text
 
+-- a word with a number, `UDT 5` or `UDT5`
+abbrev pub has_number : List ℕ → Token → List Token → Bool
+has_number word first rest = (is_word word first && begins_with_number rest) || is_numbered word first
+
 -- a type of the user's own, by its number
 abbrev pub is_user_type : Token → List Token → Bool
-is_user_type first rest =
-    (is_word (codes "UDT") first && begins_with_number rest) || is_numbered (codes "UDT") first
+is_user_type first rest = has_number (codes "UDT") first rest
 
 -- the kind of a type that is left out
 abbrev pub type_kind : Token → List Token → Option Kind
@@ -154,7 +124,7 @@ type_kind first rest =
 
 -- a type without arrays
 abbrev pub alone : Innermost → Written
-alone what = record { arrays = []; innermost = what }
+alone what = record { arrays = []; innermost = what; initial = [] }
 
 abbrev pub left_out_type : Option Kind → Read Written
 left_out_type None = No
@@ -201,27 +171,34 @@ type_at (suc left) tokens = opening_type (λ behind. type_at left behind) tokens
 
 -- Declarations
 
--- a sign stands at the front
-abbrev pub begins_with_sign : List ℕ → List Token → Bool
-begins_with_sign sign [] = false
-begins_with_sign sign (first ∷ rest) = is_sign sign first
+-- a declaration with its initial values
+abbrev pub with_initial : Written → List InitialItem → Written
+with_initial type items = record type { initial = items }
 
--- a declaration by its type: `;` ends it, where no members follow
-abbrev pub closed_by : Innermost → Written → ℕ → List Token → Read Written
-closed_by inner.Struct type size behind = Fits type size
-closed_by other type size behind = if begins_with_sign (codes ";") behind then Fits type (size + 1) else No
+-- so many arrays are some
+abbrev pub in_array : ℕ → Bool
+in_array arrays = nat_lt 0 arrays
 
-abbrev pub closed_behind : List Token → Read Written → Read Written
-closed_behind tokens No = No
-closed_behind tokens (LeftOut kind) = LeftOut kind
-closed_behind tokens (Fits type size) = closed_by type.innermost type size (drop size tokens)
+-- a declaration by its type, and whether it may have an initial value: a declaration of a STRUCT ends behind its
+-- members, and DATE_AND_TIME is left out where there are initial values
+abbrev pub closed_by : Bool → Innermost → Written → ℕ → List Token → Read Written
+closed_by valued inner.Struct type size behind = Fits type size
+closed_by valued inner.DateAndTime type size behind =
+    if valued then LeftOut kind.DateTime else further size (read_as (with_initial type) (ending_at valued (in_array (length type.arrays)) behind))
+closed_by valued (inner.Elementary its) type size behind =
+    further size (read_as (with_initial type) (ending_at valued (in_array (length type.arrays)) behind))
+
+abbrev pub closed_behind : Bool → List Token → Read Written → Read Written
+closed_behind valued tokens No = No
+closed_behind valued tokens (LeftOut kind) = LeftOut kind
+closed_behind valued tokens (Fits type size) = closed_by valued type.innermost type size (drop size tokens)
 
 -- what stands where a declaration may stand that opens so many levels at most, behind its name
-abbrev pub declaration_at : ℕ → Token → List Token → Read Written
-declaration_at left name [] = No
-declaration_at left name (colon ∷ rest) =
+abbrev pub declaration_at : Bool → ℕ → Token → List Token → Read Written
+declaration_at valued left name [] = No
+declaration_at valued left name (colon ∷ rest) =
     if is_word_kind name.kind && is_sign (codes ":") colon
-    then further 1 (closed_behind rest (type_at left rest))
+    then further 1 (closed_behind valued rest (type_at left rest))
     else No
 
 -- Levels
@@ -235,12 +212,18 @@ depth_of (level ∷ levels) = level.depth
 abbrev pub left_of : List Level → ℕ
 left_of levels = 8 - depth_of levels
 
--- the levels that are open behind a declaration on a line
+-- the levels that are open behind a declaration on a line with so many arrays
 abbrev pub levels_behind : List Level → Line → Innermost → ℕ → List Level
-levels_behind levels line inner.Struct arrays = record { line = line; depth = depth_of levels + arrays + 1 } ∷ levels
+levels_behind levels line inner.Struct arrays =
+    record { line = line; depth = depth_of levels + arrays + 1; in_array = in_array arrays } ∷ levels
 levels_behind levels line other arrays = levels
 
--- the word that ends the innermost STRUCT, or the section
-abbrev pub ends_level : List Level → Token → Bool
-ends_level [] first = is_word (codes "END_VAR") first
-ends_level (level ∷ levels) first = is_word (codes "END_STRUCT") first
+-- the word that ends the declarations of a block: those of a data block stand in a STRUCT of its own
+abbrev pub end_of_declarations : BlockKind → List ℕ
+end_of_declarations block.Db = codes "END_STRUCT"
+end_of_declarations other = codes "END_VAR"
+
+-- the word that ends the innermost STRUCT, or the declarations
+abbrev pub ends_level : BlockKind → List Level → Token → Bool
+ends_level kind [] first = is_word (end_of_declarations kind) first
+ends_level kind (level ∷ levels) first = is_word (codes "END_STRUCT") first

@@ -1,13 +1,14 @@
 -- The grammar of a source text: the forms of items, as a relation with a case each, and the texts that are
 -- items up to their end.
-use Rattle.std.specs.Prelude.{◌≡◌, ℕ, Bool, true, false, List, [], ◌∷◌, ◌++◌, length, drop, codes, Some, None, Ok, Err}
+use Rattle.std.specs.Prelude.{◌≡◌, ℕ, ◌-◌, Bool, true, false, List, [], ◌∷◌, ◌++◌, length, drop, codes, Some, None, Ok, Err}
 use Rattle.s7_base.specs.declared.reason.Line.{Line}
 use Rattle.s7_base.specs.declared.reason.Reason.{Reason}
 use Rattle.s7_base.specs.declared.reason.Reason.TheVariants.{BadStatement}
 use Rattle.s7_base.specs.declared.reason.Rejection.TheVariants.{Refused}
 use Rattle.s7_base.specs.declared.token.Token.{Token}
-use Rattle.stl_grammar.specs.Items.{has_temps, is_complete, is_end, is_semicolon, is_skipped_alone, item_at, misfit_line, misfit_reason, statement_at, statement_reason, statement_size}
+use Rattle.stl_grammar.specs.Items.{begins_body, body_of, is_complete, is_data, is_end, is_semicolon, is_skipped_alone, item_at, misfit_line, misfit_reason, section_word, statement_at, statement_reason, statement_size}
 use Rattle.stl_grammar.specs.Declarations.{declaration_at, ends_level, left_of, levels_behind}
+use Rattle.stl_grammar.specs.Initials.{ending_at, path_value_at}
 use Rattle.stl_grammar.specs.declared.declaration.Level.{Level}
 use Rattle.stl_grammar.specs.declared.declaration.Written.{Written}
 use Rattle.stl_statements.specs.declared.mnemonic.Read.TheVariants as read
@@ -18,10 +19,13 @@ use Rattle.stl_statements.specs.Words.{is_word, is_quoted_kind, is_word_kind}
 use Rattle.stl_grammar.specs.declared.item.Found.{Found}
 use Rattle.stl_grammar.specs.declared.item.Found.TheVariants.{Fits, Misfit, Ended}
 use Rattle.stl_grammar.specs.declared.item.Item.{Item}
-use Rattle.stl_grammar.specs.declared.item.Item.TheVariants.{Opens, Mark, Symbol, Declares, Closes, Instr, Ends}
+use Rattle.stl_grammar.specs.declared.item.Item.TheVariants.{Opens, Mark, Symbol, Declares, Closes, Instr, Initial, Ends}
 use Rattle.stl_grammar.specs.declared.item.Where.{Where}
-use Rattle.stl_grammar.specs.declared.item.Where.TheVariants.{Start, Table, Between, Heading, Inside, Behind, Body}
+use Rattle.stl_grammar.specs.declared.item.Where.TheVariants.{Start, Table, Between, Heading, Inside, Behind, Body, Values}
 use Rattle.stl_tree.specs.declared.raw.BlockKind.{BlockKind}
+use Rattle.stl_tree.specs.declared.raw.BlockKind.TheVariants as block
+use Rattle.stl_tree.specs.declared.raw.InitialItem.{InitialItem}
+use Rattle.stl_tree.specs.declared.raw.RawInitial.{RawInitial}
 use Rattle.stl_tree.specs.declared.raw.RawInstr.{RawInstr}
 use Rattle.stl_tree.specs.declared.raw.RawName.{RawName}
 use Rattle.stl_tree.specs.declared.raw.RawName.TheVariants.{Number, Name}
@@ -69,22 +73,32 @@ pub data IsForm : Where → List Token → Item → ℕ → Where → Type 0 whe
       is_skipped line first rest ≡ true
       → IsForm (Heading kind line) (first ∷ rest) Mark (size_on first.line rest) (Heading kind first.line)
   begin : (kind : BlockKind) (line : Line) (first : Token) (rest : List Token) →
-      is_skipped line first rest ≡ false → is_word (codes "BEGIN") first ≡ true
+      is_skipped line first rest ≡ false → is_data kind ≡ false → is_word (codes "BEGIN") first ≡ true
       → IsForm (Heading kind line) (first ∷ rest) Mark 0 (Body kind)
   section : (kind : BlockKind) (line : Line) (first : Token) (rest : List Token) →
-      is_skipped line first rest ≡ false → is_word (codes "BEGIN") first ≡ false → has_temps kind ≡ true
-      → is_word (codes "VAR_TEMP") first ≡ true → IsForm (Heading kind line) (first ∷ rest) Mark 0 (Inside kind [])
+      is_skipped line first rest ≡ false → begins_body kind first ≡ false → is_word (section_word kind) first ≡ true
+      → IsForm (Heading kind line) (first ∷ rest) Mark 0 (Inside kind [])
   section_end : (kind : BlockKind) (first : Token) (rest : List Token) →
-      is_word (codes "END_VAR") first ≡ true → IsForm (Inside kind []) (first ∷ rest) Mark 0 (Behind kind)
-  struct_end : (kind : BlockKind) (level : Level) (levels : List Level) (first sign : Token) (rest : List Token) →
+      is_data kind ≡ false → is_word (codes "END_VAR") first ≡ true
+      → IsForm (Inside kind []) (first ∷ rest) Mark 0 (Behind kind)
+  data_end : (first sign : Token) (rest : List Token) →
       is_word (codes "END_STRUCT") first ≡ true → is_semicolon sign ≡ true
-      → IsForm (Inside kind (level ∷ levels)) (first ∷ sign ∷ rest) Closes 1 (Inside kind levels)
+      → IsForm (Inside block.Db []) (first ∷ sign ∷ rest) Mark 1 (Behind block.Db)
+  struct_end : (kind : BlockKind) (level : Level) (levels : List Level) (first : Token) (rest : List Token)
+      (items : List InitialItem) (size : ℕ) →
+      is_word (codes "END_STRUCT") first ≡ true → ending_at (is_data kind) level.in_array rest ≡ read.Fits items size
+      → IsForm (Inside kind (level ∷ levels)) (first ∷ rest) (Closes items) size (Inside kind levels)
   declaration : (kind : BlockKind) (levels : List Level) (name : Token) (rest : List Token) (type : Written) (size : ℕ) →
-      ends_level levels name ≡ false → declaration_at (left_of levels) name rest ≡ read.Fits type size
+      ends_level kind levels name ≡ false → declaration_at (is_data kind) (left_of levels) name rest ≡ read.Fits type size
       → IsForm (Inside kind levels) (name ∷ rest) (Declares name.text name.line type) size
       (Inside kind (levels_behind levels name.line type.innermost (length type.arrays)))
   begin_behind : (kind : BlockKind) (first : Token) (rest : List Token) →
-      is_word (codes "BEGIN") first ≡ true → IsForm (Behind kind) (first ∷ rest) Mark 0 (Body kind)
+      is_word (codes "BEGIN") first ≡ true → IsForm (Behind kind) (first ∷ rest) Mark 0 (body_of kind)
+  value : (first : Token) (rest : List Token) (its : RawInitial) (size : ℕ) →
+      is_end block.Db first ≡ false → path_value_at first.line (first ∷ rest) ≡ read.Fits its size
+      → IsForm Values (first ∷ rest) (Initial its) (size - 1) Values
+  values_end : (first : Token) (rest : List Token) →
+      is_end block.Db first ≡ true → IsForm Values (first ∷ rest) (Ends first.line) 0 Between
   skipped_word : (kind : BlockKind) (first : Token) (rest : List Token) →
       is_skipped_alone first ≡ true → IsForm (Body kind) (first ∷ rest) Mark 0 (Body kind)
   end_word : (kind : BlockKind) (first : Token) (rest : List Token) →
@@ -121,6 +135,7 @@ pub data IsItem : Line → Where → List Token → Found → Type 0 where
       IsItem end (Inside kind (level ∷ levels)) [] (Misfit level.line BadStatement)
   behind_a_section : {end : Line} (kind : BlockKind) → IsItem end (Behind kind) [] (Misfit end BadStatement)
   in_a_body : {end : Line} (kind : BlockKind) → IsItem end (Body kind) [] (Misfit end BadStatement)
+  among_values : {end : Line} → IsItem end Values [] (Misfit end BadStatement)
 
 -- what stands at a place is what the relation says
 pub record ItemsHaveForms : Type 0 where

@@ -65,7 +65,10 @@ line_of line (first ∷ rest) = first.line
 
 -- the kind of a block, by the first word of its heading
 abbrev pub heading_kind : Token → Option BlockKind
-heading_kind first = if is_word (codes "ORGANIZATION_BLOCK") first then Some block.Ob else None
+heading_kind first =
+    if is_word (codes "ORGANIZATION_BLOCK") first then Some block.Ob
+    else if is_word (codes "DATA_BLOCK") first then Some block.Db
+    else None
 
 -- the word before the number of a block
 abbrev pub kind_word : BlockKind → List ℕ

@@ -1,8 +1,9 @@
 -- The items of a source text: what stands at a place of a text, and why it is refused where it fits no form
 -- that is built.
-use Rattle.std.specs.Prelude.{ℕ, zero, suc, Bool, true, false, not, ◌&&◌, ◌||◌, nat_lt, if◌then◌else◌, List, [], ◌∷◌, length, take, codes, Option, Some, None, Result, Ok, Err}
+use Rattle.std.specs.Prelude.{ℕ, zero, suc, Bool, true, false, not, ◌-◌, ◌&&◌, ◌||◌, nat_lt, if◌then◌else◌, List, [], ◌∷◌, length, take, codes, Option, Some, None, Result, Ok, Err}
 use Rattle.std.specs.List.{prefix_len}
-use Rattle.s7_base.specs.declared.reason.Kind.TheVariants.{NotBuilt, UserType}
+use Rattle.s7_base.specs.declared.reason.Kind.{Kind}
+use Rattle.s7_base.specs.declared.reason.Kind.TheVariants.{NotBuilt, SystemCall, UserType}
 use Rattle.s7_base.specs.declared.reason.Line.{Line}
 use Rattle.s7_base.specs.declared.reason.Reason.{Reason}
 use Rattle.s7_base.specs.declared.reason.Reason.TheVariants.{BadStatement, Unsupported}
@@ -11,10 +12,12 @@ use Rattle.s7_base.specs.declared.reason.Rejection.TheVariants.{Refused, NoMemor
 use Rattle.s7_base.specs.declared.token.Token.{Token}
 use Rattle.stl_statements.specs.Mnemonics.{begins_with_mnemonic}
 use Rattle.stl_statements.specs.Statements.{begins_with_label, instruction_of}
-use Rattle.stl_statements.specs.Words.{is_word, is_sign, is_word_kind, is_word_among, block_words}
+use Rattle.stl_statements.specs.Words.{is_word, is_sign, is_quoted_kind, is_word_kind, is_word_among, block_words}
 use Rattle.stl_statements.specs.declared.mnemonic.Read.{Read}
 use Rattle.stl_statements.specs.declared.mnemonic.Read.TheVariants as read
-use Rattle.stl_grammar.specs.Declarations.{begins_with_sign, begins_with_word, declaration_at, ends_level, left_of, levels_behind}
+use Rattle.stl_grammar.specs.Declarations.{declaration_at, ends_level, has_number, is_user_type, left_of, levels_behind}
+use Rattle.stl_grammar.specs.Elements.{begins_with_sign, begins_with_word}
+use Rattle.stl_grammar.specs.Initials.{ending_at, path_value_at}
 use Rattle.stl_grammar.specs.declared.declaration.Level.{Level}
 use Rattle.stl_grammar.specs.declared.declaration.Written.{Written}
 use Rattle.stl_grammar.specs.Headings.{heading_kind, is_heading_cut_off, is_skipped, opened_by, size_on}
@@ -22,11 +25,13 @@ use Rattle.stl_grammar.specs.Symbols.{ends_table, symbol_behind}
 use Rattle.stl_grammar.specs.declared.item.Found.{Found}
 use Rattle.stl_grammar.specs.declared.item.Found.TheVariants.{Fits, Misfit, Ended}
 use Rattle.stl_grammar.specs.declared.item.Item.{Item}
-use Rattle.stl_grammar.specs.declared.item.Item.TheVariants.{Opens, Mark, Symbol, Declares, Closes, Instr, Ends}
+use Rattle.stl_grammar.specs.declared.item.Item.TheVariants.{Opens, Mark, Symbol, Declares, Closes, Instr, Initial, Ends}
 use Rattle.stl_grammar.specs.declared.item.Where.{Where}
-use Rattle.stl_grammar.specs.declared.item.Where.TheVariants.{Start, Table, Between, Heading, Inside, Behind, Body}
+use Rattle.stl_grammar.specs.declared.item.Where.TheVariants.{Start, Table, Between, Heading, Inside, Behind, Body, Values}
 use Rattle.stl_tree.specs.declared.raw.BlockKind.{BlockKind}
 use Rattle.stl_tree.specs.declared.raw.BlockKind.TheVariants as block
+use Rattle.stl_tree.specs.declared.raw.InitialItem.{InitialItem}
+use Rattle.stl_tree.specs.declared.raw.RawInitial.{RawInitial}
 use Rattle.stl_tree.specs.declared.raw.RawInstr.{RawInstr}
 use Rattle.stl_tree.specs.declared.raw.SymbolLine.{SymbolLine}
 
@@ -40,6 +45,11 @@ end_word block.Ob = codes "END_ORGANIZATION_BLOCK"
 end_word block.Fc = codes "END_FUNCTION"
 end_word block.Fb = codes "END_FUNCTION_BLOCK"
 end_word block.Db = codes "END_DATA_BLOCK"
+
+-- a block of this kind is a data block
+abbrev pub is_data : BlockKind → Bool
+is_data block.Db = true
+is_data other = false
 
 -- the token is the end word of a block of this kind
 abbrev pub is_end : BlockKind → Token → Bool
@@ -76,12 +86,39 @@ is_not_built label cut tokens =
 abbrev pub reason_with : Bool → Bool → List Token → Reason
 reason_with label cut tokens = if is_not_built label cut tokens then Unsupported NotBuilt else BadStatement
 
+-- a kind of block that is built
+abbrev pub is_built : Option BlockKind → Bool
+is_built None = false
+is_built (Some kind) = true
+
+-- a heading of a kind that is built stands at the front, by its first word
+abbrev pub begins_heading : List Token → Bool
+begins_heading [] = false
+begins_heading (first ∷ rest) = is_built (heading_kind first)
+
 -- the same where a heading may stand: a type of the user's own is left out
 abbrev pub heading_reason : List Token → Reason
 heading_reason tokens =
-    if begins_with_word (codes "TYPE") tokens
-    then Unsupported UserType
+    if begins_with_word (codes "TYPE") tokens then Unsupported UserType
+    else if begins_heading tokens then BadStatement
     else reason_with false (is_heading_cut_off tokens) tokens
+
+-- a function block is named at the front, whose instance a data block would be
+abbrev pub is_instance : Token → List Token → Bool
+is_instance first rest = is_quoted_kind first.kind || has_number (codes "FB") first rest
+
+-- the same where the STRUCT of a data block may stand
+abbrev pub data_reason : List Token → Reason
+data_reason [] = BadStatement
+data_reason (first ∷ rest) =
+    if is_instance first rest then Unsupported NotBuilt
+    else if is_user_type first rest then Unsupported UserType
+    else if has_number (codes "SFB") first rest then Unsupported SystemCall
+    else BadStatement
+
+-- the same behind a heading or behind declarations, by what is refused in a data block
+abbrev pub reason_in : BlockKind → Reason → List Token → Reason
+reason_in kind in_data tokens = if is_data kind then in_data else reason_with false false tokens
 
 -- a name and a colon stand at the front: a declaration, whatever word its name is
 abbrev pub begins_with_name : List Token → Bool
@@ -89,24 +126,47 @@ begins_with_name [] = false
 begins_with_name (name ∷ []) = false
 begins_with_name (name ∷ colon ∷ rest) = is_word_kind name.kind && is_sign (codes ":") colon
 
--- the same where a declaration may stand, by what was read there
-abbrev pub declaration_reason : List Token → Read Written → Reason
-declaration_reason tokens (read.LeftOut kind) = if is_complete tokens then Unsupported kind else BadStatement
-declaration_reason tokens other = if begins_with_name tokens then BadStatement else reason_with false false tokens
+-- why something is refused in which a part is left out
+abbrev pub left_out_reason : List Token → Kind → Reason
+left_out_reason tokens kind = if is_complete tokens then Unsupported kind else BadStatement
+
+-- the same by what was read
+abbrev pub read_reason : {A : Type 0} → List Token → Read A → Reason
+read_reason tokens (read.LeftOut kind) = left_out_reason tokens kind
+read_reason tokens other = BadStatement
+
+-- the same where a declaration may stand
+abbrev pub declaration_reason : BlockKind → List Token → Read Written → Reason
+declaration_reason kind tokens (read.LeftOut left) = left_out_reason tokens left
+declaration_reason kind tokens other =
+    if is_data kind || begins_with_name tokens then BadStatement else reason_with false false tokens
+
+-- the same where the word stands that ends the innermost STRUCT or the declarations
+abbrev pub closing_reason : BlockKind → List Level → List Token → List Token → Reason
+closing_reason kind [] tokens rest = BadStatement
+closing_reason kind (level ∷ levels) tokens rest = read_reason tokens (ending_at (is_data kind) level.in_array rest)
 
 -- the same among declarations
-abbrev pub inside_reason : List Level → List Token → Reason
-inside_reason levels [] = BadStatement
-inside_reason levels (first ∷ rest) =
-    if ends_level levels first
-    then BadStatement
-    else declaration_reason (first ∷ rest) (declaration_at (left_of levels) first rest)
+abbrev pub inside_reason : BlockKind → List Level → List Token → Reason
+inside_reason kind levels [] = BadStatement
+inside_reason kind levels (first ∷ rest) =
+    if ends_level kind levels first
+    then closing_reason kind levels (first ∷ rest) rest
+    else declaration_reason kind (first ∷ rest) (declaration_at (is_data kind) (left_of levels) first rest)
+
+-- the same among the initial values of a data block
+abbrev pub value_reason : List Token → Reason
+value_reason [] = BadStatement
+value_reason (first ∷ rest) = read_reason (first ∷ rest) (path_value_at first.line (first ∷ rest))
 
 -- the same at a place
 abbrev pub misfit_reason : Where → List Token → Reason
 misfit_reason Start tokens = heading_reason tokens
 misfit_reason Between tokens = heading_reason tokens
-misfit_reason (Inside kind levels) tokens = inside_reason levels tokens
+misfit_reason (Heading kind line) tokens = reason_in kind (data_reason tokens) tokens
+misfit_reason (Inside kind levels) tokens = inside_reason kind levels tokens
+misfit_reason (Behind kind) tokens = reason_in kind BadStatement tokens
+misfit_reason Values tokens = value_reason tokens
 misfit_reason (Body kind) tokens = reason_with (begins_with_label tokens) false tokens
 misfit_reason elsewhere tokens = reason_with false false tokens
 
@@ -149,24 +209,38 @@ in_table line tokens first rest =
     then Fits Mark 0 Between
     else symbol_found line tokens first (symbol_behind line first rest)
 
--- a block of this kind has temporary variables
-abbrev pub has_temps : BlockKind → Bool
-has_temps block.Db = false
-has_temps other = true
+-- what leads from a heading to the body or to declarations: the latter alone do so in a data block
+abbrev pub begins_body : BlockKind → Token → Bool
+begins_body kind first = not (is_data kind) && is_word (codes "BEGIN") first
+
+abbrev pub section_word : BlockKind → List ℕ
+section_word block.Db = codes "STRUCT"
+section_word other = codes "VAR_TEMP"
 
 -- what stands behind a heading whose last line this is
 abbrev pub behind_heading : BlockKind → Line → List Token → Token → List Token → Found
 behind_heading kind line tokens first rest =
     if is_skipped line first rest then Fits Mark (size_on first.line rest) (Heading kind first.line)
-    else if is_word (codes "BEGIN") first then Fits Mark 0 (Body kind)
-    else if has_temps kind && is_word (codes "VAR_TEMP") first then Fits Mark 0 (Inside kind [])
+    else if begins_body kind first then Fits Mark 0 (Body kind)
+    else if is_word (section_word kind) first then Fits Mark 0 (Inside kind [])
     else Misfit first.line (misfit_reason (Heading kind line) tokens)
 
--- what stands where the word may stand that ends the innermost STRUCT or the section
-abbrev pub closing_at : BlockKind → List Level → List Token → Found
-closing_at kind [] rest = Fits Mark 0 (Behind kind)
-closing_at kind (level ∷ levels) rest =
-    if begins_with_sign (codes ";") rest then Fits Closes 1 (Inside kind levels) else Misfit level.line BadStatement
+-- the end of the innermost STRUCT, which stands on a line, by what was read behind its word
+abbrev pub struct_found : BlockKind → Line → List Level → List Token → Read (List InitialItem) → Found
+struct_found kind line levels tokens (read.Fits items size) = Fits (Closes items) size (Inside kind levels)
+struct_found kind line levels tokens other = Misfit line (read_reason tokens other)
+
+-- the end of the declarations of a block, given its word and what stands behind it
+abbrev pub declarations_end : BlockKind → Token → List Token → Found
+declarations_end block.Db first rest =
+    if begins_with_sign (codes ";") rest then Fits Mark 1 (Behind block.Db) else Misfit first.line BadStatement
+declarations_end kind first rest = Fits Mark 0 (Behind kind)
+
+-- what stands where the word stands that ends the innermost STRUCT or the declarations
+abbrev pub closing_at : BlockKind → List Level → List Token → Token → List Token → Found
+closing_at kind [] tokens first rest = declarations_end kind first rest
+closing_at kind (level ∷ levels) tokens first rest =
+    struct_found kind level.line levels tokens (ending_at (is_data kind) level.in_array rest)
 
 -- a declaration of so many tokens behind its name
 abbrev pub declared : BlockKind → List Level → Token → Written → ℕ → Found
@@ -177,21 +251,38 @@ declared kind levels first type size =
 -- the same, by what was read
 abbrev pub declaration_found : BlockKind → List Level → List Token → Token → Read Written → Found
 declaration_found kind levels tokens first (read.Fits type size) = declared kind levels first type size
-declaration_found kind levels tokens first other = Misfit first.line (declaration_reason tokens other)
+declaration_found kind levels tokens first other = Misfit first.line (declaration_reason kind tokens other)
 
 -- what stands among declarations
 abbrev pub inside_at : BlockKind → List Level → List Token → Token → List Token → Found
 inside_at kind levels tokens first rest =
-    if ends_level levels first
-    then closing_at kind levels rest
-    else declaration_found kind levels tokens first (declaration_at (left_of levels) first rest)
+    if ends_level kind levels first
+    then closing_at kind levels tokens first rest
+    else declaration_found kind levels tokens first (declaration_at (is_data kind) (left_of levels) first rest)
+
+-- where the body of a block stands
+abbrev pub body_of : BlockKind → Where
+body_of block.Db = Values
+body_of kind = Body kind
 
 -- what stands behind declarations
 abbrev pub behind_at : BlockKind → List Token → Token → Found
 behind_at kind tokens first =
     if is_word (codes "BEGIN") first
-    then Fits Mark 0 (Body kind)
+    then Fits Mark 0 (body_of kind)
     else Misfit first.line (misfit_reason (Behind kind) tokens)
+
+-- an initial value of a data block, by what was read
+abbrev pub value_found : List Token → Token → Read RawInitial → Found
+value_found tokens first (read.Fits value size) = Fits (Initial value) (size - 1) Values
+value_found tokens first other = Misfit first.line (read_reason tokens other)
+
+-- what stands among the initial values of a data block
+abbrev pub values_at : List Token → Token → Found
+values_at tokens first =
+    if is_end block.Db first
+    then Fits (Ends first.line) 0 Between
+    else value_found tokens first (path_value_at first.line tokens)
 
 -- a complete statement on a line, by what it is read as, with its `;` behind so many tokens
 abbrev pub statement_found : Where → List Token → Line → Result RawInstr Rejection → Found
@@ -234,6 +325,7 @@ at_end end (Heading kind line) = Misfit end BadStatement
 at_end end (Inside kind levels) = Misfit (cut_line end levels) BadStatement
 at_end end (Behind kind) = Misfit end BadStatement
 at_end end (Body kind) = Misfit end BadStatement
+at_end end Values = Misfit end BadStatement
 
 -- what stands at a place, given the tokens from there, the first of them and the rest
 abbrev pub at_token : Where → List Token → Token → List Token → Found
@@ -245,6 +337,7 @@ at_token (Heading kind line) tokens first rest = behind_heading kind line tokens
 at_token (Inside kind levels) tokens first rest = inside_at kind levels tokens first rest
 at_token (Behind kind) tokens first rest = behind_at kind tokens first
 at_token (Body kind) tokens first rest = body_at kind tokens first
+at_token Values tokens first rest = values_at tokens first
 
 -- what stands at a place of a text that ends on a line, given the tokens from there
 unfoldable pub item_at : Line → Where → List Token → Found

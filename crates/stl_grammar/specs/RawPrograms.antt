@@ -1,5 +1,5 @@
 -- The raw program that the items of a text make.
-use Rattle.std.specs.Prelude.{List, [], ◌∷◌, ◌++◌, Some, None, option_map, ℕ, ℤ, Result, Ok, Err}
+use Rattle.std.specs.Prelude.{List, [], ◌∷◌, ◌++◌, Option, Some, None, option_map, ℕ, ℤ, Result, Ok, Err}
 use Rattle.std.specs.Option.{option_to_list}
 use Rattle.s7_base.specs.Tokens.{tokens_of, line_at_end}
 use Rattle.s7_base.specs.declared.reason.Line.{Line}
@@ -9,14 +9,21 @@ use Rattle.stl_grammar.specs.Items.{items_of}
 use Rattle.stl_grammar.specs.declared.declaration.Innermost.{Innermost}
 use Rattle.stl_grammar.specs.declared.declaration.Innermost.TheVariants as inner
 use Rattle.stl_grammar.specs.declared.declaration.OpenStruct.{OpenStruct}
+use Rattle.stl_grammar.specs.declared.declaration.Written.{Written}
 use Rattle.stl_grammar.specs.declared.item.Item.{Item}
-use Rattle.stl_grammar.specs.declared.item.Item.TheVariants.{Opens, Mark, Symbol, Declares, Closes, Instr, Ends}
+use Rattle.stl_grammar.specs.declared.item.Item.TheVariants.{Opens, Mark, Symbol, Declares, Closes, Instr, Initial, Ends}
 use Rattle.stl_grammar.specs.declared.item.Reading.{Reading}
 use Rattle.stl_tree.specs.declared.raw.BlockKind.{BlockKind}
+use Rattle.stl_tree.specs.declared.raw.BlockKind.TheVariants as block
 use Rattle.stl_tree.specs.declared.raw.Declaration.{Declaration}
 use Rattle.stl_tree.specs.declared.raw.DeclType.{DeclType}
 use Rattle.stl_tree.specs.declared.raw.DeclType.TheVariants as of
+use Rattle.stl_tree.specs.declared.raw.InitialItem.{InitialItem}
 use Rattle.stl_tree.specs.declared.raw.RawBlock.{RawBlock}
+use Rattle.stl_tree.specs.declared.raw.RawData.{RawData}
+use Rattle.stl_tree.specs.declared.raw.RawDataKind.{RawDataKind}
+use Rattle.stl_tree.specs.declared.raw.RawDataKind.TheVariants.{Own, Instance}
+use Rattle.stl_tree.specs.declared.raw.RawInitial.{RawInitial}
 use Rattle.stl_tree.specs.declared.raw.RawInstr.{RawInstr}
 use Rattle.stl_tree.specs.declared.raw.RawName.{RawName}
 use Rattle.stl_tree.specs.declared.raw.RawProgram.{RawProgram}
@@ -39,9 +46,17 @@ headed line kind name =
       end_line = line;
     }
 
+-- a data block of which the heading alone is known
+abbrev pub data_headed : Line → RawName → RawData
+data_headed line name = record { name = name; line = line; kind = Own []; initial = [] }
+
 -- the blocks of a text as far as it is read
 abbrev pub blocks_in : Reading → List RawBlock
 blocks_in reading = reading.done ++ option_to_list reading.last
+
+-- its data blocks
+abbrev pub dbs_in : Reading → List RawData
+dbs_in reading = reading.dbs ++ option_to_list reading.last_db
 
 -- a block with one more instruction
 abbrev pub with_instr : RawInstr → RawBlock → RawBlock
@@ -51,53 +66,90 @@ with_instr instr block = record block { body = block.body ++ (instr ∷ []) }
 abbrev pub with_end : Line → RawBlock → RawBlock
 with_end line block = record block { end_line = line }
 
+-- a data block with one more initial value
+abbrev pub with_value : RawInitial → RawData → RawData
+with_value value db = record db { initial = db.initial ++ (value ∷ []) }
+
 -- nothing is read yet
 abbrev pub nothing_read : Reading
-nothing_read = record { symbols = []; done = []; last = None; structs = [] }
+nothing_read = record { symbols = []; dbs = []; last_db = None; done = []; last = None; structs = [] }
 
 -- a type with arrays round it, the outermost first
 abbrev pub array_of : List (List (ℤ × ℤ)) → DeclType → DeclType
 array_of [] type = type
 array_of (bounds ∷ arrays) type = of.Array bounds (array_of arrays type)
 
--- a declaration without initial values
-abbrev pub declaration : List ℕ → Line → List (List (ℤ × ℤ)) → DeclType → Declaration
-declaration name line arrays type = record { name = name; line = line; ty = array_of arrays type; initial = [] }
+-- a declaration by its arrays, what they hold, and its initial values
+abbrev pub declaration : List ℕ → Line → List (List (ℤ × ℤ)) → DeclType → List InitialItem → Declaration
+declaration name line arrays type items =
+    record { name = name; line = line; ty = array_of arrays type; initial = items }
 
 -- a block with one more temporary variable
 abbrev pub with_temp : Declaration → RawBlock → RawBlock
 with_temp one block = record block { temps = block.temps ++ (one ∷ []) }
 
+-- a data block with one more declaration
+abbrev pub kind_with : Declaration → RawDataKind → RawDataKind
+kind_with one (Own decls) = Own (decls ++ (one ∷ []))
+kind_with one (Instance name) = Instance name
+
+abbrev pub with_own : Declaration → RawData → RawData
+with_own one db = record db { kind = kind_with one db.kind }
+
 -- the text so far, with one more declaration of the innermost STRUCT that is open, or of the last block
 abbrev pub with_declared : Declaration → List OpenStruct → Reading → Reading
-with_declared one [] reading = record reading { last = option_map (with_temp one) reading.last; structs = [] }
+with_declared one [] reading =
+    record reading {
+      last_db = option_map (with_own one) reading.last_db;
+      last = option_map (with_temp one) reading.last;
+      structs = [];
+    }
 with_declared one (struct ∷ outer) reading =
     record reading { structs = record struct { members = struct.members ++ (one ∷ []) } ∷ outer }
 
 -- the text so far, and a declaration by what it holds
-abbrev pub with_type : List ℕ → Line → List (List (ℤ × ℤ)) → Innermost → Reading → Reading
-with_type name line arrays (inner.Elementary type) reading =
-    with_declared (declaration name line arrays (of.Elementary type)) reading.structs reading
-with_type name line arrays inner.DateAndTime reading =
-    with_declared (declaration name line arrays of.DateAndTime) reading.structs reading
-with_type name line arrays inner.Struct reading =
-    record reading { structs = record { name = name; line = line; arrays = arrays; members = [] } ∷ reading.structs }
+abbrev pub with_type : List ℕ → Line → Written → Innermost → Reading → Reading
+with_type name line type (inner.Elementary its) reading =
+    with_declared (declaration name line type.arrays (of.Elementary its) type.initial) reading.structs reading
+with_type name line type inner.DateAndTime reading =
+    with_declared (declaration name line type.arrays of.DateAndTime type.initial) reading.structs reading
+with_type name line type inner.Struct reading =
+    record reading {
+      structs = record { name = name; line = line; arrays = type.arrays; members = [] } ∷ reading.structs;
+    }
 
 -- the text so far, with its innermost STRUCT at its end
-abbrev pub closed : List OpenStruct → Reading → Reading
-closed [] reading = reading
-closed (struct ∷ outer) reading =
-    with_declared (declaration struct.name struct.line struct.arrays (of.Struct struct.members)) outer reading
+abbrev pub closed : List InitialItem → List OpenStruct → Reading → Reading
+closed items [] reading = reading
+closed items (struct ∷ outer) reading =
+    with_declared (declaration struct.name struct.line struct.arrays (of.Struct struct.members) items) outer reading
+
+-- the text so far, and the heading of a block: it is the last one of its kind, and no block of the other is open
+abbrev pub opened : Line → BlockKind → RawName → Reading → Reading
+opened line block.Db name reading =
+    record reading {
+      dbs = dbs_in reading;
+      last_db = Some (data_headed line name);
+      done = blocks_in reading;
+      last = None;
+    }
+opened line kind name reading =
+    record reading {
+      dbs = dbs_in reading;
+      last_db = None;
+      done = blocks_in reading;
+      last = Some (headed line kind name);
+    }
 
 -- the text so far, and one item more
 abbrev pub with_item : Reading → Item → Reading
-with_item reading (Opens line kind name) =
-    record reading { done = blocks_in reading; last = Some (headed line kind name) }
+with_item reading (Opens line kind name) = opened line kind name reading
 with_item reading (Symbol line) = record reading { symbols = reading.symbols ++ (line ∷ []) }
 with_item reading Mark = reading
-with_item reading (Declares name line type) = with_type name line type.arrays type.innermost reading
-with_item reading Closes = closed reading.structs reading
+with_item reading (Declares name line type) = with_type name line type type.innermost reading
+with_item reading (Closes items) = closed items reading.structs reading
 with_item reading (Instr instr) = record reading { last = option_map (with_instr instr) reading.last }
+with_item reading (Initial value) = record reading { last_db = option_map (with_value value) reading.last_db }
 with_item reading (Ends line) = record reading { last = option_map (with_end line) reading.last }
 
 -- the text so far, and some items more
@@ -105,13 +157,9 @@ abbrev pub with_items : Reading → List Item → Reading
 with_items reading [] = reading
 with_items reading (item ∷ items) = with_items (with_item reading item) items
 
--- the raw program of these symbol lines and blocks
-abbrev pub raw_with : List SymbolLine → List RawBlock → RawProgram
-raw_with symbols blocks = record { symbols = symbols; dbs = []; blocks = blocks }
-
 -- the raw program of a text that is read
 abbrev pub raw_read : Reading → RawProgram
-raw_read reading = raw_with reading.symbols (blocks_in reading)
+raw_read reading = record { symbols = reading.symbols; dbs = dbs_in reading; blocks = blocks_in reading }
 
 -- the raw program of the text so far, and of the items behind it
 abbrev pub raw_behind : Reading → List Item → RawProgram

@@ -2,7 +2,7 @@
 
 use s7_base::{Line, List};
 use std::collections::LinkedList;
-use stl_tree::{Declaration, ElemType};
+use stl_tree::{Declaration, ElemType, InitialItem};
 
 /// What a declaration holds inside all its arrays.
 #[derive(Clone, Copy)]
@@ -14,19 +14,22 @@ pub enum Innermost {
     Struct,
 }
 
-/// The type of a declaration as it is written: the bounds of its arrays, the outermost first, and what they hold.
+/// What a declaration is behind its name: the bounds of its arrays, the outermost first, what they hold, and its
+/// initial values; those of a STRUCT stand behind its members.
 #[derive(Drop)]
 pub struct Written {
     pub arrays: LinkedList<List<(i64, i64)>>,
     pub innermost: Innermost,
+    pub initial: List<InitialItem>,
 }
 
-/// A STRUCT that is open: the line of its declaration, and how many levels are open with it, each STRUCT and
-/// each ARRAY being one.
+/// A STRUCT that is open: the line of its declaration, how many levels are open with it, each STRUCT and each
+/// ARRAY being one, and whether its declaration has an array round it.
 #[derive(Clone, Copy)]
 pub struct Level {
     pub line: Line,
     pub depth: usize,
+    pub in_array: bool,
 }
 
 /// A STRUCT that is open, with its members so far.

@@ -3,7 +3,9 @@
 use crate::declaration::{Level, OpenStruct, Written};
 use s7_base::{Line, List, Reason};
 use std::collections::LinkedList;
-use stl_tree::{BlockKind, RawBlock, RawInstr, RawName, SymbolLine};
+use stl_tree::{
+    BlockKind, InitialItem, RawBlock, RawData, RawInitial, RawInstr, RawName, SymbolLine,
+};
 
 /// Where an item stands.
 #[derive(Drop)]
@@ -28,6 +30,9 @@ pub enum Where {
 
     /// In the body of a block.
     Body(BlockKind),
+
+    /// Among the initial values of a data block.
+    Values,
 }
 
 /// An item of a text.
@@ -46,10 +51,13 @@ pub enum Item {
     /// A declaration with its name, its line and its type; it opens a STRUCT where its members follow.
     Declares(List<u8>, Line, Written),
 
-    /// The end of the innermost STRUCT.
-    Closes,
+    /// The end of the innermost STRUCT, with its initial values.
+    Closes(List<InitialItem>),
 
     Instr(RawInstr),
+
+    /// An initial value of a data block.
+    Initial(RawInitial),
 
     /// The end word of a block, with its line.
     Ends(Line),
@@ -68,11 +76,13 @@ pub enum Found {
     Ended,
 }
 
-/// A text as far as it is read: its symbol lines, the blocks before the last one, and the last one, whose end
-/// word may still come, with what is open of its declarations.
+/// A text as far as it is read: its symbol lines, the data blocks and other blocks before the last one, and the
+/// last one of either kind, whose end word may still come, with what is open of its declarations.
 #[derive(Drop)]
 pub struct Reading {
     pub symbols: List<SymbolLine>,
+    pub dbs: List<RawData>,
+    pub last_db: Option<RawData>,
     pub done: List<RawBlock>,
     pub last: Option<RawBlock>,
 

@@ -1,0 +1,156 @@
+-- Initial values: constants, lists of them, what ends a declaration, and the values of the body of a data block.
+use Rattle.std.specs.Prelude.{ℕ, ◌+◌, ◌*◌, ◌^◌, Bool, ◌&&◌, nat_lt, nat_le, if◌then◌else◌, List, [], ◌∷◌, drop, codes, Option, Some, None, option_and_then}
+use Rattle.memory_areas.specs.declared.place.AreaName.{AreaName}
+use Rattle.memory_areas.specs.declared.place.AreaName.TheVariants as area
+use Rattle.s7_base.specs.declared.reason.Line.{Line}
+use Rattle.s7_base.specs.declared.token.Token.{Token}
+use Rattle.s7_base.specs.declared.word.Width.{Width}
+use Rattle.s7_base.specs.declared.word.Width.TheVariants as width
+use Rattle.stl_grammar.specs.Elements.{begins_with_sign, elements_from}
+use Rattle.stl_statements.specs.Constants.{begins_glued, constant, constant_at}
+use Rattle.stl_statements.specs.Paths.{number_word, path_at}
+use Rattle.stl_statements.specs.Places.{bit_at, place_at}
+use Rattle.stl_statements.specs.Readers.{and_then, fitting, further, number_in, or_else, read_as}
+use Rattle.stl_statements.specs.Words.{is_joined, is_sign, is_word}
+use Rattle.stl_statements.specs.declared.mnemonic.Read.{Read}
+use Rattle.stl_statements.specs.declared.mnemonic.Read.TheVariants.{Fits, No}
+use Rattle.stl_tree.specs.declared.raw.Constant.{Constant}
+use Rattle.stl_tree.specs.declared.raw.InitialItem.{InitialItem}
+use Rattle.stl_tree.specs.declared.raw.PathStep.{PathStep}
+use Rattle.stl_tree.specs.declared.raw.RawInitial.{RawInitial}
+use Rattle.stl_tree.specs.declared.raw.RawPlace.{RawPlace}
+
+-- Pointers
+
+-- the code of an area in a pointer
+abbrev pub code_of : AreaName → ℕ
+code_of area.I = 129
+code_of area.Q = 130
+code_of area.M = 131
+code_of area.Db = 132
+code_of area.Di = 133
+code_of area.L = 134
+
+-- a pointer by the code of its area, its byte and its bit, where they are small enough
+abbrev pub pointer : ℕ → ℕ → ℕ → Option Constant
+pointer code byte bit =
+    if nat_le byte 65535 && nat_le bit 7
+    then Some (constant width.Dword (code * 2 ^ 24 + byte * 2 ^ 3 + bit))
+    else None
+
+-- a pointer to a bit, which has no data block named before it
+abbrev pub pointer_by : Option ℕ → Width → AreaName → ℕ → ℕ → Option Constant
+pointer_by None width.Bit name byte bit = pointer (code_of name) byte bit
+pointer_by block w name byte bit = None
+
+abbrev pub pointer_to : RawPlace → Option Constant
+pointer_to place = pointer_by place.block place.width place.area place.byte place.bit
+
+-- a pointer to what was read as a place
+abbrev pub pointer_with : Read RawPlace → Read Constant
+pointer_with (Fits place size) = fitting size (pointer_to place)
+pointer_with other = No
+
+-- the bit of a pointer without an area, behind its byte
+abbrev pub offset_by : Option ℕ → Read ℕ → Read Constant
+offset_by (Some byte) (Fits bit size) = fitting (size + 1) (pointer 0 byte bit)
+offset_by byte bit = No
+
+abbrev pub offset_at : List Token → Read Constant
+offset_at [] = No
+offset_at (byte ∷ rest) = offset_by (number_word byte) (bit_at rest)
+
+-- `P#` and a place or a place without its area: `P#M 1.0`, `P#1.0`
+abbrev pub pointer_at : List Token → Read Constant
+pointer_at (word ∷ hash ∷ rest) =
+    if is_word (codes "P") word && is_joined (codes "#") hash && begins_glued rest
+    then further 2 (or_else (pointer_with (place_at rest)) (offset_at rest))
+    else No
+pointer_at fewer = No
+
+-- Constants
+
+abbrev pub truth : Token → Option Constant
+truth word =
+    if is_word (codes "TRUE") word then Some (constant width.Bit 1)
+    else if is_word (codes "FALSE") word then Some (constant width.Bit 0)
+    else None
+
+-- `TRUE` or `FALSE`
+abbrev pub truth_at : List Token → Read Constant
+truth_at [] = No
+truth_at (first ∷ rest) = fitting 1 (truth first)
+
+-- what stands where an initial value may stand
+abbrev pub value_at : List Token → Read Constant
+value_at tokens = or_else (truth_at tokens) (or_else (constant_at tokens) (pointer_at tokens))
+
+-- Lists
+
+-- values, so many times
+abbrev pub times : ℕ → List Constant → InitialItem
+times count values = record { count = count; values = values }
+
+-- a value alone
+abbrev pub once : Constant → InitialItem
+once value = times 1 (value ∷ [])
+
+-- how many times the values in brackets stand: from 1 to 65,535
+abbrev pub count_of : Token → Option ℕ
+count_of word = option_and_then (λ n. if nat_lt 0 n then Some n else None) (number_in 65535 word)
+
+-- values behind their number and their bracket
+abbrev pub group_behind : Option ℕ → List Token → Read InitialItem
+group_behind None tokens = No
+group_behind (Some count) tokens = read_as (times count) (elements_from value_at (codes ")") 0 tokens)
+
+-- a value, or values in brackets: `2 (7, 8)`
+abbrev pub item_of_list : List Token → Read InitialItem
+item_of_list [] = No
+item_of_list (first ∷ rest) =
+    if begins_with_sign (codes "(") rest
+    then further 2 (group_behind (count_of first) (drop 1 rest))
+    else read_as once (value_at (first ∷ rest))
+
+-- Ends of declarations
+
+-- the sign behind a value ends it
+abbrev pub closed_value : Constant → List Token → Read Constant
+closed_value value tokens = if begins_with_sign (codes ";") tokens then Fits value 1 else No
+
+-- a value and `;`
+abbrev pub last_value : List Token → Read Constant
+last_value tokens = and_then tokens (value_at tokens) closed_value
+
+-- one item
+abbrev pub alone : Constant → List InitialItem
+alone value = once value ∷ []
+
+-- the initial value of a declaration and `;`: a list where it has an array round it
+abbrev pub initial_at : Bool → List Token → Read (List InitialItem)
+initial_at in_array tokens =
+    if in_array then elements_from item_of_list (codes ";") 0 tokens else read_as alone (last_value tokens)
+
+-- what ends a declaration: `;`, and where it may have an initial value, `:=` and that before it
+abbrev pub ending_at : Bool → Bool → List Token → Read (List InitialItem)
+ending_at valued in_array [] = No
+ending_at valued in_array (sign ∷ rest) =
+    if is_sign (codes ";") sign then Fits [] 1
+    else if valued && is_sign (codes ":=") sign then further 1 (initial_at in_array rest)
+    else No
+
+-- Initial values of a data block
+
+-- the initial value at a path
+abbrev pub initial : Line → List PathStep → Constant → RawInitial
+initial line path value = record { path = path; line = line; value = value }
+
+-- what stands behind a path
+abbrev pub initial_behind : Line → List PathStep → List Token → Read RawInitial
+initial_behind line path [] = No
+initial_behind line path (sign ∷ rest) =
+    if is_sign (codes ":=") sign then further 1 (read_as (initial line path) (last_value rest)) else No
+
+-- `path := value ;`
+abbrev pub path_value_at : Line → List Token → Read RawInitial
+path_value_at line tokens = and_then tokens (path_at tokens) (initial_behind line)
