@@ -178,7 +178,7 @@ second_block_is_cut_off : verdict (codes "ORGANIZATION_BLOCK OB 1\nBEGIN\nEND_OR
 unfolding verdict judged raw_text raw_program item_at is_not_built instruction_of tokens_of mnemonic_at
 second_block_is_cut_off = refl
 
-second_block : verdict (codes "ORGANIZATION_BLOCK OB 1\nBEGIN\nEND_ORGANIZATION_BLOCK\nDATA_BLOCK DB 1") ≡ refused 4 (Unsupported NotBuilt)
+second_block : verdict (codes "ORGANIZATION_BLOCK OB 1\nBEGIN\nEND_ORGANIZATION_BLOCK\nDATA_BLOCK DB 1") ≡ refused 4 BadStatement
 unfolding verdict judged raw_text raw_program item_at is_not_built instruction_of tokens_of mnemonic_at
 second_block = refl
 
