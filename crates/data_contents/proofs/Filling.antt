@@ -7,7 +7,7 @@ use Rattle.stl_tree.specs.declared.raw.Declaration.{Declaration}
 use Rattle.stl_rules.specs.Layouts.{answered, breaks_in, layout_of, length_of, initial_of}
 use Rattle.stl_rules.specs.Raw.{most_in_block}
 use Rattle.stl_rules.specs.declared.laid.Layout.{Layout}
-use Rattle.data_contents.specs.Inside.{AreKept}
+use Rattle.data_contents.specs.inner.Inside.{AreKept}
 
 laid : (o : Option Break) (l m : Layout) → answered o l ≡ Ok m → o ≡ None
 laid None l m e = refl

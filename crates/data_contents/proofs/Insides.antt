@@ -11,7 +11,7 @@ use Rattle.stl_rules.specs.Raw.{most_in_block}
 use Rattle.stl_rules.proofs.Components.{LiesIn, found_inside}
 use Rattle.stl_rules.proofs.Ends.{of_elementary}
 use Rattle.stl_rules.proofs.Lengths.{Sized, sized}
-use Rattle.data_contents.specs.Inside.{AreInside, AreKept, IsInside, KindLies}
+use Rattle.data_contents.specs.inner.Inside.{AreInside, AreKept, IsInside, KindLies}
 
 small : most_in_block < 2 ^ 32
 small = omega arith

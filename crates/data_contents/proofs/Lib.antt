@@ -1,4 +1,5 @@
 pub mod Bits
+mod ContentRows
 pub mod Filling
 pub mod Insides
 pub mod Ordering

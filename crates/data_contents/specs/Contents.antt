@@ -1,13 +1,12 @@
 -- What a data block of a source holds.
-use Rattle.std.specs.Prelude.{◌≡◌, Bool, true, false, List, map, Option, Some, None}
+use Rattle.std.specs.Prelude.{◌≡◌, Bool, true, false, List, Option, Some, None}
 use Rattle.data_contents.specs.declared.content.Content.{Content}
 use Rattle.data_contents.specs.declared.content.Content.TheVariants as holds
 use Rattle.s7_base.specs.Broken.{first_of_all}
 use Rattle.s7_base.specs.declared.broken.Break.{Break}
 use Rattle.stl_rules.specs.DataBlocks.{bytes_with}
 use Rattle.stl_rules.specs.Raw.{are_refused, most_in_block}
-use Rattle.stl_rules.specs.Stages.{content_breaks, value_breaks}
-use Rattle.stl_rules.specs.declared.laid.Component.{Component}
+use Rattle.stl_rules.specs.Stages.{content_breaks}
 use Rattle.stl_tree.specs.declared.raw.Declaration.{Declaration}
 use Rattle.stl_tree.specs.declared.raw.RawDataKind.TheVariants as data_kind
 use Rattle.stl_tree.specs.declared.raw.RawInitial.{RawInitial}
@@ -26,7 +25,3 @@ abbrev pub Holds : List Declaration → List RawInitial → Content → Type 0
 Holds decls values (holds.Bytes bytes) = Breaks decls values false None × (bytes ≡ bytes_with decls values)
 Holds decls values (holds.BadDeclarations first) = Breaks decls values true (Some first)
 Holds decls values (holds.BadValues first) = Breaks decls values false (Some first)
-
--- what an initial value breaks at the component that its path names
-abbrev pub breaks_at : RawInitial → Option Component → List Break
-breaks_at v at = map (λ reason. record { line = v.line; rule = reason }) (value_breaks v.value at)

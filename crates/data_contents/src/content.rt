@@ -1,7 +1,7 @@
 //! What a data block holds.
 ghost use Rattle.std.specs.Prelude.{◌≡◌, [], ◌∷◌, IfOk};
 ghost use Rattle.data_contents.specs.Contents.{Holds};
-ghost use Rattle.data_contents.specs.Inside.{AreKept};
+ghost use Rattle.data_contents.specs.inner.Inside.{AreKept};
 ghost use Rattle.stl_rules.specs.DataBlocks.{or_two};
 ghost use Rattle.stl_rules.specs.Layouts.{initial_of};
 ghost use Rattle.stl_rules.specs.Raw.{are_refused};

@@ -1,8 +1,8 @@
 //! Initial values: the rules that they break, and their writes.
 ghost use Rattle.std.specs.Prelude.{◌≡◌, ◌++◌, length, IfSome, OnOk};
 ghost use Rattle.std.specs.List.{flat_map, fold};
-ghost use Rattle.data_contents.specs.Contents.{breaks_at};
-ghost use Rattle.data_contents.specs.Inside.{AreInside, IsInside};
+ghost use Rattle.data_contents.specs.inner.Judged.{breaks_at};
+ghost use Rattle.data_contents.specs.inner.Inside.{AreInside, IsInside};
 ghost use Rattle.stl_rules.specs.DataBlocks.{with_constant, with_value, with_value_at};
 ghost use Rattle.stl_rules.specs.Stages.{fits_kind, initial_breaks};
 

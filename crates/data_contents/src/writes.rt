@@ -1,6 +1,6 @@
 //! Numbers written into bytes, the highest byte first.
 ghost use Rattle.std.specs.Prelude.{◌≡◌, ◌+◌, ◌*◌, ◌/◌, ◌^◌, ◌<◌, ◌≤◌, if◌then◌else◌, length};
-ghost use Rattle.data_contents.specs.Inside.{Lies};
+ghost use Rattle.data_contents.specs.inner.Inside.{Lies};
 ghost use Rattle.memory_areas.specs.Areas.{byte_with, bytes_of_dword, bytes_of_word, replaced};
 ghost use Rattle.stl_rules.specs.DataBlocks.{with_number};
 ghost use Rattle.stl_tree.specs.Accumulators.{part};

@@ -1,5 +1,5 @@
 use Rattle.std.proofs.Common.{length, sym, subst, ◌∙◌}
-use Rattle.data_contents.specs.Inside.{AreInside}
+use Rattle.data_contents.specs.inner.Inside.{AreInside}
 use Rattle.data_contents.proofs.Insides.{all_inside}
 use Rattle.data_contents.proofs.content.filled.Goals as goal
 
