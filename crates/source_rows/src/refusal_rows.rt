@@ -227,7 +227,7 @@ static BLOCKS: [(&[u8], u32, Reason); 5] = [
 ];
 
 /// Declarations of temporaries.
-static DECLARATIONS: [(&[u8], u32, Reason); 28] = [
+static DECLARATIONS: [(&[u8], u32, Reason); 27] = [
     (
         b"ORGANIZATION_BLOCK OB 1\nVAR_TEMP\nx : INT;\nx : INT;\nEND_VAR\nBEGIN\n\nEND_ORGANIZATION_BLOCK",
         4,
@@ -329,11 +329,6 @@ static DECLARATIONS: [(&[u8], u32, Reason); 28] = [
         Reason::BadStatement,
     ),
     (
-        b"ORGANIZATION_BLOCK OB 1\nVAR_TEMP\nx : STRUCT\ny : INT;\nEND_VAR\nBEGIN\n\nEND_ORGANIZATION_BLOCK",
-        5,
-        Reason::BadStatement,
-    ),
-    (
         b"ORGANIZATION_BLOCK OB 1\nVAR_TEMP\nx : STRUCT\ny : INT;\n",
         3,
         Reason::BadStatement,
@@ -379,7 +374,7 @@ static DATA_BLOCKS: [(&[u8], u32, Reason); 43] = [
     ),
     (
         b"SYMBOL_TABLE\n\"d\",\"DB 5\",\"\",\"\"\nEND_SYMBOL_TABLE\nORGANIZATION_BLOCK OB 1\nBEGIN\nL \"d\".b;\nEND_ORGANIZATION_BLOCK\nDATA_BLOCK \"D\"\nSTRUCT\na : ARRAY [1 .. 8193] OF INT;\nEND_STRUCT;\nBEGIN\nEND_DATA_BLOCK",
-        9,
+        10,
         Reason::TooLarge,
     ),
     (
