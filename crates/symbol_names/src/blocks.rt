@@ -39,12 +39,13 @@ pub struct Blocks {
 }
 
 /// An operand that its mnemonic has not.
-#[tactic(auto, using(crate::proofs::Firsts::none_more, crate::proofs::Operands::kind_lemmas))]
+#[tactic(auto, using(crate::proofs::Firsts::none_more))]
 fn note_kind(first: &mut Option<Break>, line: Line, what: Option<Mnemonic>, given: Given)
     ensures { first.new ≡ with_breaks first.old (reasons_at line (kind_breaks (op_by what given))) }
 {
-    if op_by(what, given).is_none() {
-        note(first, line, Reason::BadOperand);
+    match op_by(what, given) {
+        Some(_) => {}
+        None => note(first, line, Reason::BadOperand),
     }
 }
 

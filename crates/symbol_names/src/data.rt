@@ -163,6 +163,7 @@ fn put_data(
 }
 
 /// What the data blocks break whose place is past the last that a program may have.
+#[tactic(auto, using(crate::proofs::Firsts::none_more))]
 pub fn note_too_many(dbs: &[RawData], first: &mut Option<Break>)
     ensures { first.new ≡ with_breaks first.old (one_too_many (slice_get dbs.now MOST_BLOCKS)) }
 {

@@ -3,7 +3,7 @@ ghost use Rattle.std.specs.Prelude.{◌≡◌, IfOk, map, if◌then◌else◌, S
 ghost use Rattle.memory_areas.specs.declared.place.AreaName.TheVariants as area;
 ghost use Rattle.stl_rules.specs.Names.{db_numbered, number_at, number_of, symbol_named};
 ghost use Rattle.stl_rules.specs.Paths.{component_in};
-ghost use Rattle.stl_rules.specs.Raw.{are_refused, given, given_component, given_in_data, given_in_kind, given_number, given_open, given_path, most_in_block, most_local};
+ghost use Rattle.stl_rules.specs.Raw.{are_refused, given, given_component, given_in_data, given_in_kind, given_number, given_open, given_path, given_symbol, most_local};
 ghost use Rattle.stl_rules.specs.declared.given.Given.TheVariants as behind;
 ghost use Rattle.stl_tree.specs.declared.raw.BlockKind.TheVariants as block;
 ghost use Rattle.stl_tree.specs.declared.raw.RawData.{RawData};
