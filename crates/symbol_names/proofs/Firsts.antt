@@ -102,6 +102,17 @@ pub from_none : (xs : List Break) → with_breaks None xs ≡ first_of_all xs
 unfolding with_breaks
 from_none xs = refl
 
+-- the first of two lists, and of four
+pub of_two : (a b : Option Break) (xs ys : List Break) → a ≡ with_breaks None xs → b ≡ with_breaks a ys → b ≡ first_of_all (xs ++ ys)
+of_two a b xs ys e f = f ∙ ap (λ o. with_breaks o ys) e ∙ sym (behind None xs ys) ∙ from_none (xs ++ ys)
+
+pub of_four : (a b c d : Option Break) (ws xs ys zs : List Break) → a ≡ with_breaks None ws → b ≡ with_breaks a xs → c ≡ with_breaks b ys
+    → d ≡ with_breaks c zs → d ≡ first_of_all (((ws ++ xs) ++ ys) ++ zs)
+of_four a b c d ws xs ys zs e f g h =
+    let two : b ≡ with_breaks None (ws ++ xs) = f ∙ ap (λ o. with_breaks o xs) e ∙ sym (behind None ws xs) in
+    let three : c ≡ with_breaks None ((ws ++ xs) ++ ys) = g ∙ ap (λ o. with_breaks o ys) two ∙ sym (behind None (ws ++ xs) ys) in
+    of_two c d ((ws ++ xs) ++ ys) zs three h
+
 -- where nothing is broken in the end, nothing was before
 pub none_before : (a : Option Break) (xs : List Break) → with_breaks a xs ≡ None → a ≡ None
 unfolding with_breaks

@@ -199,6 +199,14 @@ fn put_block(
     put_named(alloc, &mut blocks.made, raw.line, name_of(raw.kind, number), body)
 }
 
+/// The numbers of blocks.
+fn numbers_of(alloc: Global, names: &Names<'_>, raws: &[RawBlock]) -> Result<Numbers, NoMemory>
+    ensures { IfOk result (λ numbers. numbers ≡ block_numbers names.now.symbols raws.now) }
+{
+    let numbers = numbers_of_blocks(alloc, names.symbols(), raws)?;
+    Numbers::new(alloc, numbers)
+}
+
 /// The blocks of a text.
 pub fn put_blocks(
     alloc: Global,
@@ -211,7 +219,7 @@ pub fn put_blocks(
     ensures made { IfOk result (λ b. b.made ≡ filter_map (block_kept names.now) raws.now) }
     ensures first { IfOk result (λ b. b.first ≡ with_breaks first (blocks_behind names.now [] raws.now)) }
 {
-    let numbers = Numbers::new(alloc, numbers_of_blocks(alloc, names.symbols(), raws)?)?;
+    let numbers = numbers_of(alloc, names, raws)?;
     let mut blocks = Blocks {
         made: List::new(alloc),
         first,

@@ -167,8 +167,9 @@ fn put_data(
 pub fn note_too_many(dbs: &[RawData], first: &mut Option<Break>)
     ensures { first.new ≡ with_breaks first.old (one_too_many (slice_get dbs.now MOST_BLOCKS)) }
 {
-    if let Some(d) = dbs.get(MOST_BLOCKS) {
-        note(first, d.line, Reason::TooLarge);
+    match dbs.get(MOST_BLOCKS) {
+        Some(d) => note(first, d.line, Reason::TooLarge),
+        None => {}
     }
 }
 
