@@ -21,11 +21,13 @@ alone : {Y : Type 0} (o : Option Y) → cons_option o [] ≡ option_to_list o
 alone None = refl
 alone (Some y) = refl
 
+pub kept_one : {X Y : Type 0} (h : X → Option Y) (xs : List X) (x : X) → filter_map h (xs ++ x ∷ []) ≡ filter_map h xs ++ option_to_list (h x)
+kept_one h xs x = filter_map-append h xs (x ∷ []) ∙ ap (λ ys. filter_map h xs ++ ys) (alone (h x))
+
 pub kept_more : {X Y : Type 0} (h : X → Option Y) (xs : List X) (i : ℕ) (x : X) → i < length xs → x ≡ get_or xs i x
     → filter_map h (take (i + 1) xs) ≡ filter_map h (take i xs) ++ option_to_list (h x)
 kept_more h xs i x before is =
-    ap (filter_map h) (one_more xs i x before is) ∙ filter_map-append h (take i xs) (x ∷ [])
-    ∙ ap (λ ys. filter_map h (take i xs) ++ ys) (alone (h x))
+    ap (filter_map h) (one_more xs i x before is) ∙ kept_one h (take i xs) x
 
 -- one turn of a loop that puts what is made of an item to a list
 pub put_turn : {X Y : Type 0} (h : X → Option Y) (start made later : List Y) (xs : List X) (i : ℕ) (x : X) → i < length xs → x ≡ get_or xs i x
@@ -33,13 +35,3 @@ pub put_turn : {X Y : Type 0} (h : X → Option Y) (start made later : List Y) (
 put_turn h start made later xs i x before is so_far e =
     e ∙ ap (λ l. l ++ option_to_list (h x)) so_far ∙ append_assoc start (filter_map h (take i xs)) (option_to_list (h x))
     ∙ ap (λ l. start ++ l) (sym (kept_more h xs i x before is))
-
-each : {Y : Type 0} (o : Option Y) (ys zs : List Y) → ys ≡ zs → option_to_list o ++ ys ≡ cons_option o zs
-each None ys zs e = e
-each (Some y) ys zs e = ap (λ l. y ∷ l) e
-
--- all that is made, a list an item
-pub kept_all : {X Y : Type 0} (h : X → Option Y) (xs : List X) → flat_map (λ x. option_to_list (h x)) xs ≡ filter_map h xs
-kept_all h [] = refl
-kept_all h (x ∷ xs) =
-    flat_map-cons (λ y. option_to_list (h y)) x xs ∙ each (h x) (flat_map (λ y. option_to_list (h y)) xs) (filter_map h xs) (kept_all h xs)

@@ -173,6 +173,16 @@ pub fn note_too_many(dbs: &[RawData], first: &mut Option<Break>)
     }
 }
 
+/// There are no more data blocks than a program may have.
+fn are_few(dbs: &[RawData]) -> bool
+    ensures { result ≡ is_none (slice_get dbs.now MOST_BLOCKS) }
+{
+    match dbs.get(MOST_BLOCKS) {
+        Some(_) => false,
+        None => true,
+    }
+}
+
 /// The data blocks of a text.
 pub fn put_dbs(alloc: Global, names: &Names<'_>, dbs: &[RawData], first: Option<Break>) -> Result<Found, NoMemory>
     requires { dbs.now ≡ names.now.dbs }
@@ -180,7 +190,7 @@ pub fn put_dbs(alloc: Global, names: &Names<'_>, dbs: &[RawData], first: Option<
     ensures made { IfOk result (λ f. f.made ≡ filter_map (data_kept (is_none (slice_get dbs.now MOST_BLOCKS)) names.now.symbols) dbs.now) }
     ensures first { IfOk result (λ f. f.first ≡ with_breaks first (dbs_behind names.now.symbols [] dbs.now)) }
 {
-    let keep = dbs.get(MOST_BLOCKS).is_none();
+    let keep = are_few(dbs);
     let mut found = Found {
         refused: Vec::new(alloc),
         made: List::new(alloc),

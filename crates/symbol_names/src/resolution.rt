@@ -98,6 +98,7 @@ fn symbol_of(line: SymbolLine) -> Option<Symbol>
 }
 
 /// The symbols of a program.
+#[tactic(auto, using(crate::proofs::Filtered::kept_one))]
 fn symbols_of(alloc: Global, lines: List<SymbolLine>) -> Result<List<Symbol>, NoMemory>
     ensures { IfOk result (λ symbols. symbols ≡ filter_map symbol_kept lines) }
 {

@@ -1,8 +1,7 @@
-use Rattle.std.proofs.Common.{◌≡◌, [], rules, is_none, slice_get, ap, sym, take, ◌∙◌, arith}
+use Rattle.std.proofs.Common.{◌≡◌, [], ap, sym, take, ◌∙◌, arith}
 use Rattle.std.specs.List.{filter_map}
 use Rattle.std.proofs.lemmas.Grind.{common_steps}
 use Rattle.std.proofs.lemmas.List.{take_all}
-use Rattle.memory_areas.specs.declared.sizes.TheConstants.{MOST_BLOCKS}
 use Rattle.stl_rules.specs.Names.{number_of}
 use Rattle.stl_tree.specs.declared.raw.BlockKind.TheVariants as block
 use Rattle.symbol_names.specs.inner.Firsts.{with_breaks}
@@ -22,7 +21,7 @@ loop-place-preserved c =
     = c.in_ok-put_data.ensures.first
     ∙ ap (λ all. with_breaks first (db_breaks (numbers_before (take place (db_numbers symbols all))) d (number_of symbols block.Db d.name))) (sym c.requires) in
     (grind (arith, common_steps),
-    put_turn (data_kept c.is_none-keep.result symbols) [] c.loop-place.found.made c.put_data.new.found.made c.args.dbs.now place d c.loop-place-test.true c.index-dbs-place.is
+    put_turn (data_kept c.are_few-keep.result symbols) [] c.loop-place.found.made c.put_data.new.found.made c.args.dbs.now place d c.loop-place-test.true c.index-dbs-place.is
     c.loop-place.invariant.1 c.in_ok-put_data.ensures.made,
     db_turn symbols first c.put_data.new.found.first _ c.args.dbs.now place d c.loop-place-test.true c.index-dbs-place.is noted c.loop-place.invariant.2)
 
@@ -30,9 +29,8 @@ pub returns-clause-made : goal.returns-clause-made
 returns-clause-made c =
     let symbols = c.args.names.now.symbols in
     let dbs = c.args.dbs.now in
-    let keep : c.is_none-keep.result ≡ is_none (slice_get dbs MOST_BLOCKS) = search rules in
-    c.loop-place.invariant.1 ∙ ap (filter_map (data_kept c.is_none-keep.result symbols)) (take_all c.loop-place.place dbs c.loop-place-test.false)
-    ∙ ap (λ b. filter_map (data_kept b symbols) dbs) keep
+    c.loop-place.invariant.1 ∙ ap (filter_map (data_kept c.are_few-keep.result symbols)) (take_all c.loop-place.place dbs c.loop-place-test.false)
+    ∙ ap (λ b. filter_map (data_kept b symbols) dbs) c.are_few-keep.ensures
 
 pub returns-clause-first : goal.returns-clause-first
 returns-clause-first c =
