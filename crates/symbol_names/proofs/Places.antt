@@ -1,5 +1,5 @@
 -- Where names and numbers stand first.
-use Rattle.std.proofs.Common.{◌≡◌, ◌<◌, ℕ, zero, suc, ◌+◌, Bool, true, false, cond, ◌&&◌, ◌||◌, ◌==◌, nat_eq, nat_lt, List, [], ◌∷◌, ◌++◌, length, take, get_or, map, slice_get, Option, Some, None, is_some, option_map, option_and_then, Result, Ok, Err, refl, sym, ap, subst, ◌∙◌, arith, eqb-true}
+use Rattle.std.proofs.Common.{◌≡◌, ◌<◌, ℕ, zero, suc, ◌+◌, Bool, true, false, cond, ◌&&◌, ◌||◌, ◌==◌, nat_eq, List, [], ◌∷◌, ◌++◌, length, take, get_or, map, slice_get, Option, Some, None, is_some, option_map, option_and_then, Result, Ok, Err, refl, sym, ap, subst, ◌∙◌, arith, eqb-true}
 use Rattle.std.specs.Char.{to_ascii_lowercase, to_ascii_uppercase}
 use Rattle.std.specs.Cmp.Lexicographic.{pointwise}
 use Rattle.std.specs.List.{find, fold, list_any}

@@ -190,13 +190,26 @@ fn put_block(
     ensures first { OnOk result (blocks.new.first ≡ with_breaks blocks.old.first (block_breaks names.now (numbers_before (take place numbers.now)) raw.now)) }
 {
     let number = names.symbols().number_of(alloc, raw.kind, &raw.name)?;
-    note_heading(raw.kind, raw.line, numbers, place, number, &mut blocks.first);
+    note_heading(
+        raw.kind,
+        raw.line,
+        numbers,
+        place,
+        number,
+        &mut blocks.first,
+    );
     let temps = raw.temps.as_slice();
     let temps_first = first_break(alloc, temps, MOST_LOCAL)?;
     join(&mut blocks.first, temps_first);
     let sight = Sight::new(names, refused, temps, temps_first.is_some());
     let body = body_of(alloc, &sight, raw, &mut blocks.first)?;
-    put_named(alloc, &mut blocks.made, raw.line, name_of(raw.kind, number), body)
+    put_named(
+        alloc,
+        &mut blocks.made,
+        raw.line,
+        name_of(raw.kind, number),
+        body,
+    )
 }
 
 /// The numbers of blocks.

@@ -15,10 +15,11 @@ loop-place-preserved c =
     let text = c.args.names.now in
     let first = c.loop-place.blocks.first in
     let noted : c.put_block.new.blocks.first ≡ with_breaks first (block_breaks text (numbers_before (take place (block_numbers text.symbols c.args.raws.now))) raw)
-    = c.in_ok-put_block.ensures.first ∙ ap (λ all. with_breaks first (block_breaks text (numbers_before (take place all)) raw)) c.in_ok-numbers.ensures in
-    (put_turn (block_kept text) [] c.loop-place.blocks.made c.put_block.new.blocks.made c.args.raws.now place raw c.loop-place-test.true c.index-raws-place.is
-    c.loop-place.invariant.0 c.in_ok-put_block.ensures.made,
-    block_turn text first c.put_block.new.blocks.first _ c.args.raws.now place raw c.loop-place-test.true c.index-raws-place.is noted c.loop-place.invariant.1)
+    = c.in_ok-put_block.ensures.first ∙ ap (λ all. with_breaks first (block_breaks text (numbers_before (take place all)) raw)) c.in_ok-numbers.ensures in (
+      put_turn (block_kept text) [] c.loop-place.blocks.made c.put_block.new.blocks.made c.args.raws.now place raw c.loop-place-test.true c.index-raws-place.is
+          c.loop-place.invariant.0 c.in_ok-put_block.ensures.made,
+      block_turn text first c.put_block.new.blocks.first _ c.args.raws.now place raw c.loop-place-test.true c.index-raws-place.is noted c.loop-place.invariant.1,
+    )
 
 pub returns-clause-made : goal.returns-clause-made
 returns-clause-made c =

@@ -1,4 +1,4 @@
-use Rattle.std.proofs.Common.{◌≡◌, ◌++◌, sym, ap, ◌∙◌}
+use Rattle.std.proofs.Common.{◌++◌, sym, ap, ◌∙◌}
 use Rattle.std.specs.List.{filter_map}
 use Rattle.std.proofs.lemmas.List.{append-nil, take_all}
 use Rattle.stl_rules.specs.Programs.{instr_of}
@@ -12,11 +12,12 @@ pub loop-raw-init : goal.loop-raw-init
 loop-raw-init c = (sym (append-nil c.args.body.now), sym (none_more c.args.first.now))
 
 pub loop-raw-preserved : goal.loop-raw-preserved
-loop-raw-preserved c =
-    (put_turn (instr_of c.args.sight.now) c.args.body.now c.loop-raw.body c.put_instr.new.body c.args.raws.now c.loop-raw.raw-index c.raw-item.result
-    c.loop-raw-test.true c.raw-item.is c.loop-raw.invariant.0 c.in_ok-put_instr.ensures.body,
-    item_turn (instr_breaks c.args.sight.now) c.args.first.now c.loop-raw.first c.put_instr.new.first c.args.raws.now c.loop-raw.raw-index c.raw-item.result
-    c.loop-raw-test.true c.raw-item.is c.loop-raw.invariant.1 c.in_ok-put_instr.ensures.first)
+loop-raw-preserved c = (
+  put_turn (instr_of c.args.sight.now) c.args.body.now c.loop-raw.body c.put_instr.new.body c.args.raws.now c.loop-raw.raw-index c.raw-item.result
+      c.loop-raw-test.true c.raw-item.is c.loop-raw.invariant.0 c.in_ok-put_instr.ensures.body,
+  item_turn (instr_breaks c.args.sight.now) c.args.first.now c.loop-raw.first c.put_instr.new.first c.args.raws.now c.loop-raw.raw-index c.raw-item.result
+      c.loop-raw-test.true c.raw-item.is c.loop-raw.invariant.1 c.in_ok-put_instr.ensures.first,
+)
 
 pub returns-clause-body : goal.returns-clause-body
 returns-clause-body c =

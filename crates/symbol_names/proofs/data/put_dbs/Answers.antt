@@ -19,11 +19,12 @@ loop-place-preserved c =
     let first = c.loop-place.found.first in
     let noted : c.put_data.new.found.first ≡ with_breaks first (db_breaks (numbers_before (take place (db_numbers symbols c.args.dbs.now))) d (number_of symbols block.Db d.name))
     = c.in_ok-put_data.ensures.first
-    ∙ ap (λ all. with_breaks first (db_breaks (numbers_before (take place (db_numbers symbols all))) d (number_of symbols block.Db d.name))) (sym c.requires) in
-    (grind (arith, common_steps),
-    put_turn (data_kept c.are_few-keep.result symbols) [] c.loop-place.found.made c.put_data.new.found.made c.args.dbs.now place d c.loop-place-test.true c.index-dbs-place.is
-    c.loop-place.invariant.1 c.in_ok-put_data.ensures.made,
-    db_turn symbols first c.put_data.new.found.first _ c.args.dbs.now place d c.loop-place-test.true c.index-dbs-place.is noted c.loop-place.invariant.2)
+    ∙ ap (λ all. with_breaks first (db_breaks (numbers_before (take place (db_numbers symbols all))) d (number_of symbols block.Db d.name))) (sym c.requires) in (
+      grind (arith, common_steps),
+      put_turn (data_kept c.are_few-keep.result symbols) [] c.loop-place.found.made c.put_data.new.found.made c.args.dbs.now place d c.loop-place-test.true c.index-dbs-place.is
+          c.loop-place.invariant.1 c.in_ok-put_data.ensures.made,
+      db_turn symbols first c.put_data.new.found.first _ c.args.dbs.now place d c.loop-place-test.true c.index-dbs-place.is noted c.loop-place.invariant.2,
+    )
 
 pub returns-clause-made : goal.returns-clause-made
 returns-clause-made c =
