@@ -6,6 +6,7 @@ use Rattle.std.specs.List.{find, fold, list_any}
 use Rattle.std.specs.Map.{lookup}
 use Rattle.std.specs.Option.{option_or}
 use Rattle.std.proofs.lemmas.Bool.Decides.{nat_tests}
+use Rattle.std.proofs.lemmas.Option.{slice_get-map}
 use Rattle.std.proofs.lemmas.Slice.Eq.{bytes_eq-Decides}
 use Rattle.std.proofs.lemmas.List.{length-take-le, take_more}
 use Rattle.s7_base.specs.Tokens.{is_same_word}
@@ -250,7 +251,4 @@ db_at symbols dbs n =
     ∙ sym (find_first (λ (d : RawData). is_number n (number_of symbols block.Db d.name)) dbs)
 
 -- what is made of the item at a place
-pub mapped_at : {X Y : Type 0} (f : X → Y) (xs : List X) (i : ℕ) → slice_get (map f xs) i ≡ option_map f (slice_get xs i)
-mapped_at f [] i = refl
-mapped_at f (x ∷ xs) zero = refl
-mapped_at f (x ∷ xs) (suc i) = mapped_at f xs i
+pub ruleset at_places = (slice_get-map)

@@ -138,7 +138,7 @@ impl<'s, 't> Sight<'s, 't> {
     }
 
     /// What a path names in the data block of a number.
-    #[tactic(auto, using(crate::proofs::Places::mapped_at))]
+    #[tactic(auto, using(crate::proofs::Places::at_places))]
     fn given_in_data(&self, number: u32, path: &[PathStep]) -> Given
         ensures { result ≡ given_in_data number path.now (db_numbered self.now.symbols self.now.dbs number) }
     {
