@@ -1,6 +1,7 @@
 //! Headings of blocks, and the lines behind them that are skipped.
 ghost use Rattle.std.specs.Prelude.{◌≡◌, ◌+◌, ◌*◌, ◌-◌, ◌^◌, ◌≤◌, length, min, IfOk};
 ghost use Rattle.stl_statements.specs.Readers.{fitting};
+ghost use Rattle.stl_grammar.specs.Items.{is_data};
 ghost use Rattle.stl_grammar.specs.Headings.{kept_from, kept_number, number_behind, number_within, number_named, name_at, line_of, heading_kind, kind_word, opened, opened_by, is_behind, is_on, size_on, has_colon, is_skipped};
 
 use crate::cut_off::is_quoted;
@@ -104,12 +105,21 @@ fn name_at(alloc: Global, kind: &str, tokens: &[Token]) -> Result<Read<RawName>,
     Ok(number_named(kind, first, rest))
 }
 
+/// A block of this kind is a data block.
+pub fn is_data(kind: BlockKind) -> bool
+    ensures { result ≡ is_data kind }
+{
+    matches!(kind, BlockKind::Db)
+}
+
 /// The kind of a block, by the first word of its heading.
-fn heading_kind(first: &Token) -> Option<BlockKind>
+pub fn heading_kind(first: &Token) -> Option<BlockKind>
     ensures { result ≡ heading_kind first.now }
 {
     if is_word(first, "ORGANIZATION_BLOCK") {
         Some(BlockKind::Ob)
+    } else if is_word(first, "DATA_BLOCK") {
+        Some(BlockKind::Db)
     } else {
         None
     }
