@@ -150,7 +150,10 @@ fn finish(reading: Reading) -> Result<RawProgram, NoMemory>
     let mut reading = reading;
     finish_last(&mut reading)?;
     let Reading {
-        symbols, dbs, done, ..
+        symbols,
+        dbs,
+        done,
+        ..
     } = reading;
     Ok(RawProgram {
         symbols,

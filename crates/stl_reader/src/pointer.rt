@@ -90,8 +90,7 @@ pub fn pointer_at(tokens: &[Token]) -> Result<Read<Constant>, NoMemory>
 {
     match tokens {
         [word, hash, rest @ ..]
-            if is_word(word, "P") && is_joined(hash, "#") && begins_glued(rest) =>
-        {
+            if is_word(word, "P") && is_joined(hash, "#") && begins_glued(rest) => {
             further(2, either_at(rest))
         }
         _ => Ok(Read::No),
