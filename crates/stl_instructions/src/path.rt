@@ -42,7 +42,7 @@ fn plain_number(token: &Token) -> Option<i64>
 }
 
 /// A whole number.
-fn whole_at(tokens: &[Token]) -> Read<i64>
+pub fn whole_at(tokens: &[Token]) -> Read<i64>
     ensures value { result ≡ whole_at tokens.now }
     ensures within { TakesSome (length tokens.now) result }
 {

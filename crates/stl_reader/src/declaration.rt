@@ -1,51 +1,19 @@
 //! Declarations.
-ghost use Rattle.std.specs.Prelude.{◌≡◌, ◌+◌, ◌++◌, length, option_map, pos, IfOk, OnOk};
-ghost use Rattle.stl_grammar.specs.Declarations.{alone, array_at, array_with, before_of, begins_with_number, bounds_at, closed_behind, closed_by, declaration_at, depth_of, dims_at, end_of_declarations, ends_level, has_number, in_array, is_user_type, kept_in, left_of, left_out_type, levels_behind, minus_at, one_word, one_word_at, opening_type, pointer_types, small_or_other, small_type, time_types, type_at, type_kind, upper_at, whole_at, wide_or_left_out, wide_type, with_array, with_initial};
+ghost use Rattle.std.specs.Prelude.{◌≡◌, ◌+◌, ◌++◌, length, IfOk, OnOk};
+ghost use Rattle.stl_grammar.specs.Declarations.{alone, array_at, array_with, before_of, begins_with_number, bounds_at, closed_behind, closed_by, declaration_at, depth_of, dims_at, end_of_declarations, ends_level, has_number, in_array, is_user_type, left_of, left_out_type, levels_behind, one_word, one_word_at, opening_type, pointer_types, small_or_other, small_type, time_types, type_at, type_kind, upper_at, wide_or_left_out, wide_type, with_array, with_initial};
 ghost use Rattle.stl_grammar.specs.Initials.{ending_at};
 ghost use Rattle.stl_statements.specs.Readers.{further, read_as};
 
 use crate::elements::{Next, begins_with_word, further, next_of, one_more};
-use crate::heading::{fitting, kept_number};
 use crate::initial::ending_at;
 use crate::words::{is_pointer_type, is_time_type};
 use s7_base::{Kind, Line, List, NoMemory, Token, rest_after};
 use std::alloc::Global;
 use std::collections::LinkedList;
 use stl_grammar::{Innermost, Level, Written};
-use stl_instructions::{are_digits, is_numbered, is_sign, is_word, is_word_kind};
+use stl_instructions::{are_digits, is_numbered, is_sign, is_word, is_word_kind, whole_at};
 use stl_statements::Read;
 use stl_tree::{BlockKind, ElemType, InitialItem};
-
-fn kept_in(token: &Token) -> Option<u32>
-    ensures { result ≡ kept_in token.now }
-{
-    if is_word_kind(token) {
-        kept_number(token.text.as_slice())
-    } else {
-        None
-    }
-}
-
-/// A number behind a minus, with no blank before it.
-fn minus_at(tokens: &[Token]) -> Read<i64>
-    ensures { result ≡ minus_at tokens.now }
-{
-    match tokens {
-        [number, ..] if number.glued => fitting(2, kept_in(number).map(|n| -i64::from(n))),
-        _ => Read::No,
-    }
-}
-
-/// A whole number.
-fn whole_at(tokens: &[Token]) -> Read<i64>
-    ensures { result ≡ whole_at tokens.now }
-{
-    match tokens {
-        [sign, rest @ ..] if is_sign(sign, "-") => minus_at(rest),
-        [first, ..] => fitting(1, kept_in(first).map(|n| i64::from(n))),
-        [] => Read::No,
-    }
-}
 
 fn with_lower(low: i64, high: Read<i64>) -> Read<(i64, i64)>
     ensures { result ≡ read_as (λ high. (low, high)) high }

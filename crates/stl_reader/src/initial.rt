@@ -6,11 +6,10 @@ ghost use Rattle.stl_statements.specs.Constants.{constant, constant_at};
 ghost use Rattle.stl_statements.specs.Readers.{further, or_else, read_as};
 
 use crate::elements::{Next, begins_with_sign, further, next_of, one_more};
-use crate::heading::fitting;
 use crate::pointer::pointer_at;
 use s7_base::{Line, List, NoMemory, Token, Width, rest_after};
 use std::alloc::Global;
-use stl_instructions::{constant_at, is_sign, is_word, is_word_kind, path_at};
+use stl_instructions::{constant_at, fitting, is_sign, is_word, is_word_kind, path_at};
 use stl_statements::{Read, number_of};
 use stl_tree::{Constant, InitialItem, PathStep, RawInitial};
 

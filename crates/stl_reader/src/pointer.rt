@@ -5,10 +5,9 @@ ghost use Rattle.stl_statements.specs.Places.{place_at};
 ghost use Rattle.stl_statements.specs.Readers.{or_else};
 
 use crate::elements::further;
-use crate::heading::fitting;
 use memory_areas::AreaName;
 use s7_base::{NoMemory, Token, Width};
-use stl_instructions::{begins_glued, bit_at, is_joined, is_word, number_word, place_at};
+use stl_instructions::{begins_glued, bit_at, fitting, is_joined, is_word, number_word, place_at};
 use stl_statements::Read;
 use stl_tree::{Constant, RawPlace};
 
