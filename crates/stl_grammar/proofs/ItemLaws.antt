@@ -319,13 +319,13 @@ inside_line kind [] first no_end = refl
 inside_line kind (level ∷ levels) first no_end = if_false (is_word (codes "END_STRUCT") first) _ _ no_end
 
 undeclared : (kind : BlockKind) (levels : List Level) (first : Token) (rest : List Token) (found : Read Written) → ends_level kind levels first ≡ false → declaration_at (is_data kind) (left_of levels) first rest ≡ found →
-    Reads (Inside kind levels) first rest (Misfit first.line (declaration_reason kind (first ∷ rest) found))
+    Reads (Inside kind levels) first rest (Misfit first.line (declaration_reason (first ∷ rest) found))
 undeclared kind levels first rest found no_end is =
     let R : Line → Reason → Type 0 = λ line reason. Reads (Inside kind levels) first rest (Misfit line reason) in
     let place = Inside kind levels in
-    let reason : misfit_reason place (first ∷ rest) ≡ declaration_reason kind (first ∷ rest) found =
-    if_false (ends_level kind levels first) _ _ no_end ∙ ap (λ (r : Read Written). declaration_reason kind (first ∷ rest) r) is in
-    subst (λ (l : Line). R l (declaration_reason kind (first ∷ rest) found)) (inside_line kind levels first no_end)
+    let reason : misfit_reason place (first ∷ rest) ≡ declaration_reason (first ∷ rest) found =
+    if_false (ends_level kind levels first) _ _ no_end ∙ ap (λ (r : Read Written). declaration_reason (first ∷ rest) r) is in
+    subst (λ (l : Line). R l (declaration_reason (first ∷ rest) found)) (inside_line kind levels first no_end)
     (subst (λ (r : Reason). R (misfit_line place first) r) reason (misses place first rest refl))
 
 declaration_reads : (kind : BlockKind) (levels : List Level) (first : Token) (rest : List Token) (found : Read Written) → ends_level kind levels first ≡ false → declaration_at (is_data kind) (left_of levels) first rest ≡ found →
