@@ -1,5 +1,5 @@
 -- What stands at a place of a text is what the forms of items say.
-use Rattle.std.proofs.Common.{◌≡◌, ℕ, ◌+◌, ◌-◌, ◌<◌, Bool, true, false, not, ◌&&◌, ◌||◌, if◌then◌else◌, List, [], ◌∷◌, ◌++◌, length, take, drop, Option, Some, None, option_map, Result, Ok, Err, refl, sym, ap, subst, ◌∙◌, arith, length-append}
+use Rattle.std.proofs.Common.{◌≡◌, ℕ, ◌+◌, ◌-◌, ◌<◌, Bool, true, false, not, ◌&&◌, ◌||◌, if◌then◌else◌, List, [], ◌∷◌, ◌++◌, length, drop, Option, Some, None, option_map, Result, Ok, Err, refl, sym, ap, subst, ◌∙◌, arith, length-append}
 use Rattle.std.proofs.lemmas.Bool.{ltb-true, lt-ltb}
 use Rattle.std.specs.Prelude.{codes}
 use Rattle.s7_base.specs.declared.reason.Line.{Line}
@@ -14,20 +14,20 @@ use Rattle.stl_grammar.specs.Initials.{ending_at, path_value_at}
 use Rattle.stl_grammar.specs.declared.declaration.Level.{Level}
 use Rattle.stl_grammar.specs.declared.declaration.Written.{Written}
 use Rattle.s7_base.specs.declared.reason.Reason.TheVariants.{BadStatement}
-use Rattle.stl_grammar.specs.Headings.{heading_kind, is_behind, is_skipped, kind_word, line_of, name_at, number_behind, opened, opened_by, size_on}
+use Rattle.stl_grammar.specs.Headings.{heading_kind, is_behind, is_skipped, kind_word, line_of, name_at, number_behind, opened, opened_by}
 use Rattle.stl_grammar.specs.Items.{begins_body, behind_at, closing_at, declaration_found, declaration_reason, declarations_end, is_data, read_reason, section_word, struct_found, value_found, values_at, inside_at, level_line, misfit_line, is_semicolon, is_skipped_alone, is_end, statement_size, statement_at, is_complete, misfit_reason, statement_reason, table_at, symbol_found, in_table, behind_heading, statement_found, statement_from, body_at, at_token, item_at}
 use Rattle.stl_statements.specs.Numbers.{kept_number}
 use Rattle.stl_statements.specs.Paths.{number_word}
 use Rattle.stl_grammar.specs.Symbols.{ends_table, is_next, symbol_at}
 use Rattle.stl_statements.specs.Readers.{fitting}
 use Rattle.stl_statements.specs.Statements.{is_numbered, on_line, statement as statement_said, instruction_of}
-use Rattle.stl_statements.specs.Words.{is_word, is_quoted_kind, is_word_kind}
+use Rattle.stl_statements.specs.Words.{is_word, is_quoted_kind}
 use Rattle.stl_statements.specs.declared.mnemonic.Read.{Read}
 use Rattle.stl_statements.specs.declared.mnemonic.Read.TheVariants as read
 use Rattle.stl_grammar.specs.declared.item.Found.{Found}
 use Rattle.stl_grammar.specs.declared.item.Found.TheVariants.{Fits, Misfit}
 use Rattle.stl_grammar.specs.declared.item.Item.{Item}
-use Rattle.stl_grammar.specs.declared.item.Item.TheVariants.{Opens, Mark, Symbol, Declares, Closes, Instr, Initial, Ends}
+use Rattle.stl_grammar.specs.declared.item.Item.TheVariants.{Opens, Mark, Instr}
 use Rattle.stl_grammar.specs.declared.item.Where.{Where}
 use Rattle.stl_grammar.specs.declared.item.Where.TheVariants.{Start, Table, Between, Heading, Inside, Behind, Body, Values}
 use Rattle.stl_tree.specs.declared.raw.BlockKind.{BlockKind}
@@ -319,13 +319,13 @@ inside_line kind [] first no_end = refl
 inside_line kind (level ∷ levels) first no_end = if_false (is_word (codes "END_STRUCT") first) _ _ no_end
 
 undeclared : (kind : BlockKind) (levels : List Level) (first : Token) (rest : List Token) (found : Read Written) → ends_level kind levels first ≡ false → declaration_at (is_data kind) (left_of levels) first rest ≡ found →
-    Reads (Inside kind levels) first rest (Misfit first.line (declaration_reason kind (first ∷ rest) found))
+    Reads (Inside kind levels) first rest (Misfit first.line (declaration_reason (first ∷ rest) found))
 undeclared kind levels first rest found no_end is =
     let R : Line → Reason → Type 0 = λ line reason. Reads (Inside kind levels) first rest (Misfit line reason) in
     let place = Inside kind levels in
-    let reason : misfit_reason place (first ∷ rest) ≡ declaration_reason kind (first ∷ rest) found =
-    if_false (ends_level kind levels first) _ _ no_end ∙ ap (λ (r : Read Written). declaration_reason kind (first ∷ rest) r) is in
-    subst (λ (l : Line). R l (declaration_reason kind (first ∷ rest) found)) (inside_line kind levels first no_end)
+    let reason : misfit_reason place (first ∷ rest) ≡ declaration_reason (first ∷ rest) found =
+    if_false (ends_level kind levels first) _ _ no_end ∙ ap (λ (r : Read Written). declaration_reason (first ∷ rest) r) is in
+    subst (λ (l : Line). R l (declaration_reason (first ∷ rest) found)) (inside_line kind levels first no_end)
     (subst (λ (r : Reason). R (misfit_line place first) r) reason (misses place first rest refl))
 
 declaration_reads : (kind : BlockKind) (levels : List Level) (first : Token) (rest : List Token) (found : Read Written) → ends_level kind levels first ≡ false → declaration_at (is_data kind) (left_of levels) first rest ≡ found →

@@ -17,7 +17,7 @@ use Rattle.stl_statements.specs.Numbers.{kept_number}
 use Rattle.stl_statements.specs.Paths.{number_word}
 use Rattle.stl_grammar.specs.Symbols.{ends_table, is_next, symbol_line}
 use Rattle.stl_statements.specs.Statements.{instruction_of, is_numbered}
-use Rattle.stl_statements.specs.Words.{is_word, is_quoted_kind, is_word_kind}
+use Rattle.stl_statements.specs.Words.{is_word, is_quoted_kind}
 use Rattle.stl_grammar.specs.declared.item.Found.{Found}
 use Rattle.stl_grammar.specs.declared.item.Found.TheVariants.{Fits, Misfit, Ended}
 use Rattle.stl_grammar.specs.declared.item.Item.{Item}

@@ -1,8 +1,7 @@
 -- Headings: the name of a block, the lines behind it that are skipped, and headings that the end of the text
 -- cuts off.
-use Rattle.std.specs.Prelude.{ℕ, ◌-◌, Bool, true, false, ◌==◌, ◌&&◌, ◌||◌, nat_lt, if◌then◌else◌, List, [], ◌∷◌, length, take, drop, codes, Option, Some, None, option_map}
+use Rattle.std.specs.Prelude.{ℕ, ◌-◌, Bool, true, false, ◌==◌, ◌&&◌, ◌||◌, nat_lt, if◌then◌else◌, List, [], ◌∷◌, length, drop, codes, Option, Some, None, option_map}
 use Rattle.std.specs.List.{prefix_len}
-use Rattle.s7_base.specs.Tokens.{is_same_word}
 use Rattle.s7_base.specs.declared.reason.Line.{Line}
 use Rattle.s7_base.specs.declared.reason.Reason.{Reason}
 use Rattle.s7_base.specs.declared.token.Token.{Token}
@@ -112,7 +111,7 @@ is_skipped line first rest =
     is_behind line first
     && ((is_word_among titles first && has_colon first.line rest) || is_word_among attributes first)
 
--- Headings of kinds that are not built, where they are cut off
+-- Headings that are cut off
 
 -- the text ends in the name of a block of this kind: before it, or behind the word of its kind
 abbrev pub ends_in_name : List ℕ → List Token → Bool
@@ -147,8 +146,14 @@ abbrev pub ends_function : Token → List Token → Bool
 ends_function first rest =
     is_word (codes "FUNCTION") first && (ends_in_name (codes "FC") rest || ends_behind_name (codes "FC") rest)
 
+-- the heading of another block, and the text ends in its name
+abbrev pub ends_other : Token → List Token → Bool
+ends_other first rest =
+    ends_heading (codes "ORGANIZATION_BLOCK") (codes "OB") first rest
+    || ends_heading (codes "FUNCTION_BLOCK") (codes "FB") first rest
+    || ends_heading (codes "DATA_BLOCK") (codes "DB") first rest
+
 -- the end of the text cuts off the heading at the front
 abbrev pub is_heading_cut_off : List Token → Bool
 is_heading_cut_off [] = false
-is_heading_cut_off (first ∷ rest) =
-    ends_heading (codes "FUNCTION_BLOCK") (codes "FB") first rest || ends_function first rest
+is_heading_cut_off (first ∷ rest) = ends_other first rest || ends_function first rest

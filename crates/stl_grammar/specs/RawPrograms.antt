@@ -27,7 +27,6 @@ use Rattle.stl_tree.specs.declared.raw.RawInitial.{RawInitial}
 use Rattle.stl_tree.specs.declared.raw.RawInstr.{RawInstr}
 use Rattle.stl_tree.specs.declared.raw.RawName.{RawName}
 use Rattle.stl_tree.specs.declared.raw.RawProgram.{RawProgram}
-use Rattle.stl_tree.specs.declared.raw.SymbolLine.{SymbolLine}
 
 -- a block of which the heading alone is known
 abbrev pub headed : Line → BlockKind → RawName → RawBlock

@@ -1,6 +1,6 @@
-//! Headings of kinds that are not built, where the end of the text cuts them off.
+//! Headings that the end of the text cuts off.
 ghost use Rattle.std.specs.Prelude.{◌≡◌};
-ghost use Rattle.stl_grammar.specs.Headings.{ends_in_name, ends_before_type, ends_behind_number, ends_behind_name, ends_heading, ends_function, is_heading_cut_off};
+ghost use Rattle.stl_grammar.specs.Headings.{ends_in_name, ends_before_type, ends_behind_number, ends_behind_name, ends_heading, ends_function, ends_other, is_heading_cut_off};
 
 use s7_base::Token;
 use stl_instructions::{are_digits, is_numbered, is_quoted, is_sign, is_word, is_word_kind};
@@ -65,13 +65,21 @@ fn ends_function(first: &Token, rest: &[Token]) -> bool
     is_word(first, "FUNCTION") && (ends_in_name("FC", rest) || ends_behind_name("FC", rest))
 }
 
+/// The heading of another block, and the text ends in its name.
+fn ends_other(first: &Token, rest: &[Token]) -> bool
+    ensures { result ≡ ends_other first.now rest.now }
+{
+    ends_heading("ORGANIZATION_BLOCK", "OB", first, rest)
+        || ends_heading("FUNCTION_BLOCK", "FB", first, rest)
+        || ends_heading("DATA_BLOCK", "DB", first, rest)
+}
+
 /// The end of the text cuts off the heading at the front.
 pub fn is_heading_cut_off(tokens: &[Token]) -> bool
     ensures { result ≡ is_heading_cut_off tokens.now }
 {
     match tokens {
-        [first, rest @ ..] => ends_heading("FUNCTION_BLOCK", "FB", first, rest)
-            || ends_function(first, rest),
+        [first, rest @ ..] => ends_other(first, rest) || ends_function(first, rest),
         [] => false,
     }
 }

@@ -74,7 +74,7 @@ pub fn is_data(kind: BlockKind) -> bool
 }
 
 /// The kind of a block, by the first word of its heading.
-pub fn heading_kind(first: &Token) -> Option<BlockKind>
+fn heading_kind(first: &Token) -> Option<BlockKind>
     ensures { result ≡ heading_kind first.now }
 {
     if is_word(first, "ORGANIZATION_BLOCK") {

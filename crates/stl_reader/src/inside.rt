@@ -109,7 +109,7 @@ fn declaration_found(
     match read {
         Read::Fits(written, size) => declared(alloc, kind, levels, first, written, size),
         Read::LeftOut(left) => Ok(Found::Misfit(first.line, left_out_reason(tokens, left))),
-        Read::No => Ok(Found::Misfit(first.line, undeclared_reason(kind, tokens))),
+        Read::No => Ok(Found::Misfit(first.line, undeclared_reason(tokens))),
     }
 }
 

@@ -1,13 +1,13 @@
 //! Why an item that fits no form is refused.
 ghost use Rattle.std.specs.Prelude.{◌≡◌, ◌≤◌, false, length};
-ghost use Rattle.stl_grammar.specs.Items.{is_semicolon, statement_size, begins_heading, begins_with_block_word, begins_with_name, data_reason, is_instance, is_not_built, is_complete, left_out_reason, reason_in, reason_with, heading_reason, declaration_reason, statement_reason};
+ghost use Rattle.stl_grammar.specs.Items.{is_semicolon, statement_size, begins_with_block_word, begins_with_name, data_reason, is_instance, is_not_built, is_complete, left_out_reason, reason_in, reason_with, heading_reason, declaration_reason, statement_reason};
 ghost use Rattle.stl_statements.specs.Statements.{begins_with_label};
 ghost use Rattle.stl_statements.specs.declared.mnemonic.Read.TheVariants as read;
 
 use crate::cut_off::is_heading_cut_off;
 use crate::declaration::{has_number, is_user_type};
 use crate::elements::begins_with_word;
-use crate::heading::{heading_kind, is_data};
+use crate::heading::is_data;
 use crate::words::is_block_word;
 use s7_base::{Kind, Reason, Token};
 use stl_instructions::{begins_with_label, begins_with_mnemonic, is_quoted, is_sign, is_word_kind};
@@ -65,24 +65,12 @@ pub fn reason_with(label: bool, cut: bool, tokens: &[Token]) -> Reason
     }
 }
 
-/// A heading of a kind that is built stands at the front, by its first word.
-fn begins_heading(tokens: &[Token]) -> bool
-    ensures { result ≡ begins_heading tokens.now }
-{
-    match tokens {
-        [first, ..] => heading_kind(first).is_some(),
-        [] => false,
-    }
-}
-
 /// The same where a heading may stand.
 pub fn heading_reason(tokens: &[Token]) -> Reason
     ensures { result ≡ heading_reason tokens.now }
 {
     if begins_with_word("TYPE", tokens) {
         Reason::Unsupported(Kind::UserType)
-    } else if begins_heading(tokens) {
-        Reason::BadStatement
     } else {
         reason_with(false, is_heading_cut_off(tokens), tokens)
     }
@@ -153,10 +141,10 @@ fn begins_with_name(tokens: &[Token]) -> bool
 }
 
 /// The same of what is no declaration.
-pub fn undeclared_reason(kind: BlockKind, tokens: &[Token]) -> Reason
-    ensures { result ≡ declaration_reason kind tokens.now read.No }
+pub fn undeclared_reason(tokens: &[Token]) -> Reason
+    ensures { result ≡ declaration_reason tokens.now read.No }
 {
-    if is_data(kind) || begins_with_name(tokens) {
+    if begins_with_name(tokens) {
         Reason::BadStatement
     } else {
         reason_with(false, false, tokens)

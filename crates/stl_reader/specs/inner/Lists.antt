@@ -1,5 +1,5 @@
 -- How far a list is read.
-use Rattle.std.specs.Prelude.{ℕ, ◌+◌, if◌then◌else◌, List, [], ◌∷◌, ◌++◌, codes}
+use Rattle.std.specs.Prelude.{ℕ, if◌then◌else◌, List, [], ◌∷◌, ◌++◌, codes}
 use Rattle.s7_base.specs.declared.token.Token.{Token}
 use Rattle.stl_reader.specs.declared.elements.Next.{Next}
 use Rattle.stl_reader.specs.declared.elements.Next.TheVariants.{End, More, Other}

@@ -1,4 +1,4 @@
-use Rattle.std.proofs.Common.{◌≡◌, ◌+◌, ◌-◌, ℕ, List, drop, IfOk, sym, ap, subst, ◌∙◌, arith}
+use Rattle.std.proofs.Common.{◌≡◌, ◌+◌, ◌-◌, List, drop, IfOk, sym, ap, subst, ◌∙◌, arith}
 use Rattle.s7_base.specs.declared.token.Token.{Token}
 use Rattle.stl_grammar.specs.Declarations.{array_at, array_with, type_at, with_array}
 use Rattle.stl_grammar.specs.declared.declaration.Written.{Written}
