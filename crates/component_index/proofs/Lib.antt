@@ -1,3 +1,3 @@
 pub mod Firsts
+pub mod Inners
 pub mod Tables
-pub mod Types

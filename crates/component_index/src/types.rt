@@ -9,10 +9,9 @@ use stl_tree::DeclType;
 use symbol_layout::{elements_in, extent_of_width, filled, product, width_of};
 
 /// What a type takes, where the STRUCT inside takes so many bits.
-#[tactic(auto, using(crate::proofs::Types::extent_lemmas))]
+#[tactic(auto, using(crate::proofs::Inners::extent_lemmas, crate::proofs::Inners::array_bits))]
 pub fn extent_by(ty: &DeclType, bits: u64) -> Extent
-    requires { AreBits bits (struct_in ty.now) }
-    ensures same { result ≡ capped_extent (extent_of ty.now) }
+    ensures same { AreBits bits (struct_in ty.now) → result ≡ capped_extent (extent_of ty.now) }
     ensures alignment { IsAlignment result.alignment }
 {
     match ty {

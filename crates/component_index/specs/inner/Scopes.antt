@@ -23,7 +23,7 @@ struct_step (T.Struct parts) = Some (map (λ part. part.0) parts)
 abbrev pub no_result : Declaration-F (DeclType × Option (List Declaration)) (Declaration × Unit {0}) → Unit {0}
 no_result d = tt
 
-pub struct_in : DeclType → Option (List Declaration)
+unfoldable pub struct_in : DeclType → Option (List Declaration)
 struct_in = para-DeclType (Option (List Declaration)) (Unit {0}) struct_step no_result
 
 -- how many bits a STRUCT takes, as it is kept

@@ -9,7 +9,7 @@ use Rattle.stl_rules.proofs.Equations.{at_array, at_date, at_elementary, at_stru
 use Rattle.symbol_layout.proofs.Capped.{capped_filled, capped_product}
 use Rattle.symbol_layout.proofs.Equations.{extent_equations, extent_struct}
 use Rattle.symbol_layout.specs.Kept.{capped, capped_extent}
-use Rattle.component_index.specs.inner.Scopes.{no_result, struct_bits, struct_in, struct_step}
+use Rattle.component_index.specs.inner.Scopes.{AreBits, no_result, struct_bits, struct_in, struct_step}
 
 abbrev Found : Type 0
 Found = Option (List Declaration)
@@ -37,5 +37,12 @@ inner_struct parts =
     ∙ ap Some (parts_alone (para-Declaration Found (Unit {0}) struct_step no_result) parts)
 
 pub ruleset inner_equations = (inner_elementary, inner_date, inner_array, inner_struct)
+
+-- Steps into a type
+
+pub array_bits : (bits : ℕ) (ty : DeclType) (bounds : List (ℤ × ℤ)) (e inside : DeclType) → ty ≡ type.Array bounds e → inside ≡ e
+    → AreBits bits (struct_in ty) → AreBits bits (struct_in inside)
+array_bits bits ty bounds e inside is same h =
+    subst (AreBits bits) (ap struct_in is ∙ inner_array bounds e ∙ ap struct_in (sym same)) h
 
 pub ruleset extent_lemmas = (capped_product, capped_filled, extent_equations, inner_equations)
