@@ -1,3 +1,4 @@
 pub mod Firsts
+pub mod Growing
 pub mod Inners
 pub mod Tables

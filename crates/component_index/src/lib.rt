@@ -4,6 +4,7 @@
 //! Stands on `stl_rules`, which says what a path names, and on `symbol_layout` for lengths.
 #![tactic(auto)]
 
+mod building;
 mod places;
 mod scope;
 mod types;
