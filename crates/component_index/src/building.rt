@@ -57,3 +57,45 @@ fn put_scope<'d>(
         bits: filled(end).bits,
     })
 }
+
+/// Puts the scopes inside a type behind the others, and says which is that of the STRUCT inside.
+#[cycle(building)]
+fn put_inner<'d>(
+    alloc: Global,
+    scopes: &mut Vec<Scope<'d>>,
+    ty: &'d DeclType,
+) -> Result<Inner, NoMemory>
+    requires { AreScopes scopes.old.items }
+    ensures scopes { OnOk result (AreScopes scopes.new.items) }
+    ensures grown { OnOk result (Grows scopes.old.items scopes.new.items) }
+    ensures inner { IfOk result (λ inner. IsInner (held scopes.new.items) inner ty.now) }
+{
+    match ty {
+        DeclType::Elementary(_) => Ok(Inner { scope: 0, bits: 0 }),
+        DeclType::DateAndTime => Ok(Inner { scope: 0, bits: 0 }),
+        DeclType::Array(_, element) => put_inner(alloc, scopes, element.get()),
+        DeclType::Struct(parts) => put_scopes(alloc, scopes, parts.as_slice()),
+    }
+}
+
+/// Puts the scope of declarations behind the others, with those inside before it.
+#[cycle(building)]
+pub fn put_scopes<'d>(
+    alloc: Global,
+    scopes: &mut Vec<Scope<'d>>,
+    decls: &'d [Declaration],
+) -> Result<Inner, NoMemory>
+    requires { AreScopes scopes.old.items }
+    ensures scopes { OnOk result (AreScopes scopes.new.items) }
+    ensures grown { OnOk result (Grows scopes.old.items scopes.new.items) }
+    ensures own { IfOk result (λ inner. IsOf (held scopes.new.items) inner decls.now) }
+{
+    let mut entries = Vec::with_capacity(alloc, decls.len())?;
+    let mut end = 0;
+    for d in decls {
+        let inner = put_inner(alloc, scopes, &d.ty)?;
+        entries.push(entry_behind(end, &d.ty, inner))?;
+        end = end_of(end, &d.ty, inner);
+    }
+    put_scope(alloc, scopes, decls, entries, end)
+}
