@@ -8,3 +8,4 @@ mod building;
 mod places;
 mod scope;
 mod types;
+mod walking;

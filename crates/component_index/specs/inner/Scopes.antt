@@ -1,5 +1,5 @@
 -- Scopes that stand in a list, each with the entries of its declarations.
-use Rattle.std.specs.Prelude.{◌≡◌, ℕ, ◌+◌, ◌%◌, ◌^◌, ◌≤◌, nat_eq, List, [], ◌∷◌, map, slice_get, Option, Some, None, option_and_then, option_map}
+use Rattle.std.specs.Prelude.{◌≡◌, ℕ, ◌+◌, ◌%◌, ◌^◌, ◌≤◌, IfSome, nat_eq, List, [], ◌∷◌, map, slice_get, Option, Some, None, option_and_then, option_map}
 use Rattle.std.specs.Cmp.Lexicographic.{pointwise}
 use Rattle.std.specs.Map.{lookup}
 use Rattle.stl_rules.specs.Extents.{end_of, end_of_all, extent_of, filled, place_behind}
@@ -7,7 +7,7 @@ use Rattle.stl_rules.specs.Paths.{Placed}
 use Rattle.stl_tree.specs.declared.raw.Declaration.{Declaration, Declaration-F}
 use Rattle.stl_tree.specs.declared.raw.DeclType.{DeclType, para-DeclType}
 use Rattle.stl_tree.specs.declared.raw.DeclType.TheOpen as T
-use Rattle.symbol_layout.specs.Kept.{capped}
+use Rattle.symbol_layout.specs.Kept.{capped, capped_placed}
 use Rattle.component_index.specs.declared.scope.Entry.{Entry}
 use Rattle.component_index.specs.declared.scope.Inner.{Inner}
 use Rattle.component_index.specs.declared.scope.Scope.{Scope}
@@ -93,3 +93,11 @@ placed e = (e.place, e.ty.now)
 -- a type at a place where one may go on by a path
 abbrev pub IsAt : Held → Entry → Type 0
 IsAt all e = (e.place ≤ 2 ^ 60) × (e.place % (extent_of e.ty.now).alignment ≡ 0) × IsInner all e.inner e.ty.now
+
+-- the same entry where its scope begins here
+abbrev pub moved : ℕ → Entry → Entry
+moved start e = record { place = capped (start + e.place); ty = e.ty; inner = e.inner }
+
+-- what is found is the same type at the place as it is kept, and one may go on there
+abbrev pub LeadsTo : Held → Option Placed → Option Entry → Type 0
+LeadsTo all real found = (option_map placed found ≡ capped_placed real) × IfSome found (IsAt all)
