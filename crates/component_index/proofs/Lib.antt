@@ -1,4 +1,6 @@
+pub mod Aligned
 pub mod Firsts
 pub mod Growing
 pub mod Inners
+pub mod Stepping
 pub mod Tables

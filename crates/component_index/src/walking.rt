@@ -73,3 +73,37 @@ fn element_at<'d>(
     let place = sum(place, product(before, extent_by(ty, inner.bits).bits));
     Some(Entry { place, ty, inner })
 }
+
+/// One step further from a type at a place.
+#[tactic(auto, using(crate::proofs::Stepping::named_in_scope))]
+fn stepped<'d>(
+    alloc: Global,
+    scopes: &[Scope<'d>],
+    at: Entry<'d>,
+    step: &PathStep,
+) -> Result<Option<Entry<'d>>, NoMemory>
+    requires scopes { AreScopes scopes.now }
+    requires at { IsAt (held scopes.now) at }
+    ensures { IfOk result (LeadsTo (held scopes.now) (stepped at.entry.place at.entry.ty.now step.now)) }
+{
+    match at.ty {
+        DeclType::Elementary(_) => Ok(None),
+        DeclType::DateAndTime => Ok(None),
+        DeclType::Array(bounds, element) => match step {
+            PathStep::Name(_) => Ok(None),
+            PathStep::Index(indices) => Ok(element_at(
+                at.place,
+                at.inner,
+                bounds.as_slice(),
+                element.get(),
+                indices.as_slice(),
+            )),
+        },
+        DeclType::Struct(_) => match step {
+            PathStep::Name(name) => {
+                named(alloc, scopes, at.inner.scope, at.place, name.as_slice())
+            }
+            PathStep::Index(_) => Ok(None),
+        },
+    }
+}
