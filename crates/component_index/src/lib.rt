@@ -5,7 +5,10 @@
 #![tactic(auto)]
 
 mod building;
+mod index;
 mod places;
 mod scope;
 mod types;
 mod walking;
+
+pub use index::Components;

@@ -107,3 +107,24 @@ fn stepped<'d>(
         },
     }
 }
+
+/// Further by a path.
+pub fn walked<'d>(
+    alloc: Global,
+    scopes: &[Scope<'d>],
+    start: Entry<'d>,
+    path: &[PathStep],
+) -> Result<Option<Entry<'d>>, NoMemory>
+    requires scopes { AreScopes scopes.now }
+    requires start { IsAt (held scopes.now) start }
+    ensures { IfOk result (λ found. option_map placed found ≡ capped_placed (walked path.now (placed start.entry))) }
+{
+    let mut at = start;
+    for step in path {
+        match stepped(alloc, scopes, at, step)? {
+            Some(next) => at = next,
+            None => return Ok(None),
+        }
+    }
+    Ok(Some(at))
+}

@@ -3,10 +3,13 @@ use Rattle.std.specs.Prelude.{◌≡◌, ℕ, ◌+◌, ◌%◌, ◌^◌, ◌≤�
 use Rattle.std.specs.Cmp.Lexicographic.{pointwise}
 use Rattle.std.specs.Map.{lookup}
 use Rattle.stl_rules.specs.Extents.{end_of, end_of_all, extent_of, filled, place_behind}
-use Rattle.stl_rules.specs.Paths.{Placed}
+use Rattle.stl_rules.specs.Paths.{Placed, component_in}
+use Rattle.stl_rules.specs.declared.laid.Component.{Component}
 use Rattle.stl_tree.specs.declared.raw.Declaration.{Declaration, Declaration-F}
 use Rattle.stl_tree.specs.declared.raw.DeclType.{DeclType, para-DeclType}
 use Rattle.stl_tree.specs.declared.raw.DeclType.TheOpen as T
+use Rattle.stl_tree.specs.declared.raw.PathStep.{PathStep}
+use Rattle.stl_tree.specs.declared.raw.PathStep.TheVariants as step
 use Rattle.symbol_layout.specs.Kept.{capped, capped_placed}
 use Rattle.component_index.specs.declared.scope.Entry.{Entry}
 use Rattle.component_index.specs.declared.scope.Inner.{Inner}
@@ -101,3 +104,7 @@ moved start e = record { place = capped (start + e.place); ty = e.ty; inner = e.
 -- what is found is the same type at the place as it is kept, and one may go on there
 abbrev pub LeadsTo : Held → Option Placed → Option Entry → Type 0
 LeadsTo all real found = (option_map placed found ≡ capped_placed real) × IfSome found (IsAt all)
+
+-- the component that a name and a path behind it name
+abbrev pub component_behind : List Declaration → List ℕ → List PathStep → Option Component
+component_behind decls name path = component_in (decls ∷ []) (step.Name name ∷ path)
