@@ -10,7 +10,7 @@ use Rattle.symbol_layout.proofs.Equations.{extent_equations}
 use Rattle.symbol_layout.proofs.Places.{at_least}
 use Rattle.stl_rules.specs.Extents.{IsLeast, end_behind, filled, place_behind}
 use Rattle.stl_rules.specs.declared.laid.Extent.{Extent}
-use Rattle.symbol_layout.specs.inner.Capped.{IsAlignment, capped, capped_extent}
+use Rattle.symbol_layout.specs.Kept.{IsAlignment, capped, capped_extent}
 
 -- Products and sums
 

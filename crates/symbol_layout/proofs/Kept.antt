@@ -14,7 +14,7 @@ use Rattle.symbol_layout.proofs.Equations.{own_type}
 use Rattle.stl_rules.specs.Extents.{end_behind, end_of, extent_of, extent_of_width, extent_step, indices_in, place_behind, width_of}
 use Rattle.stl_rules.specs.Paths.{Placed, elements_before, is_index, named_behind, stepped, stepped_in, walked}
 use Rattle.stl_rules.specs.declared.laid.Extent.{Extent}
-use Rattle.symbol_layout.specs.inner.Capped.{IsAlignment, capped, capped_extent, capped_placed}
+use Rattle.symbol_layout.specs.Kept.{IsAlignment, capped, capped_extent, capped_placed}
 
 -- Each type has an alignment
 

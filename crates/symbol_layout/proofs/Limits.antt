@@ -16,7 +16,8 @@ use Rattle.stl_rules.specs.Extents.{IsLeast, end_behind, end_of, end_of_all, ext
 use Rattle.stl_rules.specs.Layouts.{breaks_in, length_of, too_large}
 use Rattle.stl_rules.specs.DeclarationRules.{scope_breaks}
 use Rattle.stl_rules.specs.TooLarge.{first_large, first_large_in, inside, length_to, passes}
-use Rattle.symbol_layout.specs.inner.Capped.{IsAlignment, capped, capped_extent, end_within}
+use Rattle.symbol_layout.specs.Kept.{IsAlignment, capped, capped_extent}
+use Rattle.symbol_layout.specs.inner.Capped.{end_within}
 
 -- what passes every limit
 far : (limit n : ℕ) → limit < 2 ^ 32 → 2 ^ 60 ≤ n → passes limit n ≡ true

@@ -13,7 +13,8 @@ use Rattle.stl_rules.specs.Extents.{end_behind, end_of, extent_of, indices_in, p
 use Rattle.stl_rules.specs.Paths.{Placed, component_at, component_in, elements_before, is_index, named_behind, stepped, walked}
 use Rattle.stl_rules.specs.DeclarationRules.{elementary}
 use Rattle.stl_rules.specs.declared.laid.Component.{Component}
-use Rattle.symbol_layout.specs.inner.Capped.{capped, capped_placed, next_row}
+use Rattle.symbol_layout.specs.Kept.{capped, capped_placed}
+use Rattle.symbol_layout.specs.inner.Capped.{next_row}
 
 -- Names
 

@@ -1,7 +1,7 @@
 //! Lists of bits, the lowest bit of a byte first.
 ghost use Rattle.std.specs.Prelude.{◌≡◌, ◌++◌, ◌≤◌, OnOk, IfOk};
 ghost use Rattle.stl_rules.specs.Contents.{bit_of, byte_of, bytes_of, filled_to, first_bytes, low_bits, number_bits, times, value_bits, word_bits, zeros};
-ghost use Rattle.symbol_layout.specs.inner.Capped.{IsAlignment};
+ghost use Rattle.symbol_layout.specs.Kept.{IsAlignment};
 ghost use Rattle.stl_statements.specs.Constants.{value_in};
 ghost use Rattle.stl_tree.specs.Accumulators.{signed_part};
 ghost use Rattle.s7_base.specs.SignedNumbers.{pattern};

@@ -1,7 +1,7 @@
 //! What types take, in bits.
 ghost use Rattle.std.specs.Prelude.{◌≡◌, ◌+◌, ◌*◌, ◌≤◌, ◌^◌};
 ghost use Rattle.stl_rules.specs.Extents.{elements_in, end_behind, end_of_all, extent_of, extent_of_width, filled, indices_in, place_behind, width_of};
-ghost use Rattle.symbol_layout.specs.inner.Capped.{IsAlignment, capped, capped_extent};
+ghost use Rattle.symbol_layout.specs.Kept.{IsAlignment, capped, capped_extent};
 
 use s7_base::Width;
 use stl_rules::Extent;
@@ -48,7 +48,8 @@ pub fn extent_of_width(width: Width) -> Extent
     }
 }
 
-fn filled(bits: u64) -> Extent
+/// What so many bits take from an even byte on, filled up to an even length.
+pub fn filled(bits: u64) -> Extent
     requires { bits ≤ 2 ^ 60 }
     ensures same { result ≡ filled bits }
     ensures alignment { IsAlignment result.alignment }

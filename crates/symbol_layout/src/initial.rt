@@ -3,7 +3,8 @@ ghost use Rattle.std.specs.Prelude.{◌≡◌};
 ghost use Rattle.std.specs.List.{list_all};
 ghost use Rattle.stl_statements.specs.Constants.{fits};
 ghost use Rattle.stl_rules.specs.DeclarationRules.{all_fit, are_values, elementary, fits_width, is_bit, is_plain_byte, takes, values_in};
-ghost use Rattle.symbol_layout.specs.inner.Capped.{capped, capped_takes};
+ghost use Rattle.symbol_layout.specs.Kept.{capped};
+ghost use Rattle.symbol_layout.specs.inner.Capped.{capped_takes};
 
 use crate::extent::{elements_in, product, sum, width_of};
 use s7_base::Width;

@@ -7,16 +7,20 @@ ghost use Rattle.stl_rules.specs.Layouts.{breaks_in, layout_of, length_of};
 use crate::bits::bytes_of;
 use crate::contents::bits_of;
 use crate::extent::end_of_all;
-use stl_rules::Layout;
 use crate::rules::judge_scope;
 use crate::too_large::first_large;
 use s7_base::{Break, List, NoMemory, Reason, Rejection, first_of_all, note};
 use std::alloc::Global;
+use stl_rules::Layout;
 use stl_tree::Declaration;
 
 /// The first rule that declarations break within a limit, in bytes.
 #[tactic(auto, using(crate::proofs::Limits::first_of_one))]
-pub fn first_break(alloc: Global, decls: &[Declaration], limit: u32) -> Result<Option<Break>, NoMemory>
+pub fn first_break(
+    alloc: Global,
+    decls: &[Declaration],
+    limit: u32,
+) -> Result<Option<Break>, NoMemory>
     ensures { IfOk result (λ first. first ≡ first_of_all (breaks_in limit (decls.now ∷ []))) }
 {
     let mut breaks = List::new(alloc);

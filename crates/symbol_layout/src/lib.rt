@@ -17,9 +17,12 @@ mod rules;
 mod too_large;
 
 pub use bits::value_in;
-pub use extent::width_of;
+pub use extent::{
+    elements_in, end_behind, extent_of_width, filled, place_behind, product, sum, width_of,
+};
 pub use initial::fits_width;
 pub use laying_out::{first_break, layout};
 pub use layout_laws::components_stand_at_the_least;
-pub use path::component;
+pub use path::{component, component_at, elements_before};
+pub use place::Placed;
 pub use stl_rules::{Component, Layout};

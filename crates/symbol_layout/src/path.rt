@@ -3,13 +3,14 @@ ghost use Rattle.std.specs.Prelude.{◌≡◌, [], ◌∷◌, ◌≤◌, ◌^◌
 ghost use Rattle.std.specs.Option.{option_map};
 ghost use Rattle.s7_base.specs.Tokens.{is_same_word};
 ghost use Rattle.stl_rules.specs.Paths.{component_at, component_in, element_at, elements_before, is_index, named_behind, stepped, walked};
-ghost use Rattle.symbol_layout.specs.inner.Capped.{capped, capped_placed, next_row, row_behind, seen};
+ghost use Rattle.symbol_layout.specs.Kept.{capped, capped_placed, seen};
+ghost use Rattle.symbol_layout.specs.inner.Capped.{next_row, row_behind};
 
 use crate::extent::{end_behind, extent_of, indices_in, place_behind, product, sum};
 use crate::initial::elementary;
 use crate::place::Placed;
-use stl_rules::Component;
 use s7_base::rest_after;
+use stl_rules::Component;
 use stl_tree::{DeclType, Declaration, PathStep};
 
 /// The last bit of the byte 4,294,967,295.
@@ -45,7 +46,7 @@ fn next_row(rows: u64, bounds: (i64, i64), indices: &[i64]) -> Option<u64>
 }
 
 /// How many elements stand before one in an array.
-fn elements_before(bounds: &[(i64, i64)], indices: &[i64]) -> Option<u64>
+pub fn elements_before(bounds: &[(i64, i64)], indices: &[i64]) -> Option<u64>
     ensures { result ≡ option_map capped (elements_before 0 bounds.now indices.now) }
 {
     let mut rows = 0;
@@ -134,7 +135,8 @@ fn walked<'d>(start: Placed<'d>, path: &[PathStep]) -> Option<Placed<'d>>
     Some(at)
 }
 
-fn component_at(at: Placed<'_>) -> Component
+/// What a path names that leads to a type at a place.
+pub fn component_at(at: Placed<'_>) -> Component
     ensures { result ≡ component_at (seen at.entry) }
 {
     let place = at.place.min(LAST_BIT);

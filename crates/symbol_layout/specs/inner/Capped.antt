@@ -1,23 +1,11 @@
--- Lengths in code: what is more bits than any limit has is kept as so many.
-use Rattle.std.specs.Prelude.{◌≡◌, ℕ, ◌+◌, ◌*◌, ◌^◌, ◌%◌, ◌≤◌, min, ℤ, ◌-ℤ◌, unsigned_abs, if◌then◌else◌, List, [], ◌∷◌, Option, Some, None, option_map}
+-- What loops over declarations and indices do at a turn.
+use Rattle.std.specs.Prelude.{ℕ, ◌+◌, ◌*◌, ℤ, ◌-ℤ◌, unsigned_abs, if◌then◌else◌, List, [], ◌∷◌, Option, Some, None, option_map}
 use Rattle.stl_tree.specs.declared.raw.Declaration.{Declaration}
 use Rattle.stl_tree.specs.declared.raw.ElemType.{ElemType}
 use Rattle.stl_rules.specs.Extents.{end_of, indices_in}
-use Rattle.stl_rules.specs.Paths.{Placed, is_index}
+use Rattle.stl_rules.specs.Paths.{is_index}
 use Rattle.stl_rules.specs.TooLarge.{passes}
-use Rattle.symbol_layout.specs.declared.place.Placed.{Placed as CodePlaced}
-use Rattle.stl_rules.specs.declared.laid.Extent.{Extent}
-
--- a number of bits as it is kept
-abbrev pub capped : ℕ → ℕ
-capped bits = min bits (2 ^ 60)
-
-abbrev pub capped_extent : Extent → Extent
-capped_extent extent = record { alignment = extent.alignment; bits = capped extent.bits }
-
--- the most bits are a multiple of an alignment
-abbrev pub IsAlignment : ℕ → Type 0
-IsAlignment alignment = (1 ≤ alignment) × (alignment ≤ 16) × (2 ^ 60 % alignment ≡ 0)
+use Rattle.symbol_layout.specs.Kept.{capped}
 
 -- where a declaration ends behind what ends here, if the length does not pass the limit there
 abbrev pub end_within : ℕ → ℕ → Declaration → Option ℕ
@@ -35,11 +23,3 @@ row_behind rows bounds i = if is_index bounds i then Some (rows * indices_in bou
 abbrev pub next_row : ℕ → ℤ × ℤ → List ℤ → Option ℕ
 next_row rows bounds [] = None
 next_row rows bounds (i ∷ is) = row_behind rows bounds i
-
--- a type at its place as it is kept
-abbrev pub capped_placed : Option Placed → Option Placed
-capped_placed found = option_map (λ (at : Placed). (capped at.0, at.1)) found
-
--- a type at its place, as code has it
-abbrev pub seen : CodePlaced → Placed
-seen at = (at.place, at.ty.now)

@@ -1,6 +1,6 @@
 use Rattle.std.proofs.Common.{◌≡◌, take}
 use Rattle.stl_rules.specs.Extents.{end_of_all}
-use Rattle.symbol_layout.specs.inner.Capped.{capped}
+use Rattle.symbol_layout.specs.Kept.{capped}
 use Rattle.symbol_layout.proofs.extent.«+extent».Given as goal
 
 abbrev pub invariant-end_of_all-loop-d : goal.invariant-end_of_all-loop-d

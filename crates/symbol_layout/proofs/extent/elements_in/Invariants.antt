@@ -1,6 +1,6 @@
 use Rattle.std.proofs.Common.{◌≡◌, take}
 use Rattle.stl_rules.specs.Extents.{elements_in}
-use Rattle.symbol_layout.specs.inner.Capped.{capped}
+use Rattle.symbol_layout.specs.Kept.{capped}
 use Rattle.symbol_layout.proofs.extent.elements_in.Given as goal
 
 abbrev pub invariant-loop-dimension : goal.invariant-loop-dimension

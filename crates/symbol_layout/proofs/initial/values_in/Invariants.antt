@@ -1,6 +1,6 @@
 use Rattle.std.proofs.Common.{◌≡◌, ◌+◌, ◌≤◌, ◌^◌, drop}
 use Rattle.stl_rules.specs.DeclarationRules.{values_in}
-use Rattle.symbol_layout.specs.inner.Capped.{capped}
+use Rattle.symbol_layout.specs.Kept.{capped}
 use Rattle.symbol_layout.proofs.initial.values_in.Given as goal
 
 abbrev pub invariant-loop-item : goal.invariant-loop-item

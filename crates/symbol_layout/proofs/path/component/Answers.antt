@@ -4,7 +4,7 @@ use Rattle.std.specs.Prelude.{None, Some}
 use Rattle.stl_tree.specs.declared.raw.PathStep.{PathStep}
 use Rattle.symbol_layout.proofs.Turns.{component_found}
 use Rattle.stl_rules.specs.Paths.{Placed, named_behind, walked}
-use Rattle.symbol_layout.specs.inner.Capped.{capped_placed, seen}
+use Rattle.symbol_layout.specs.Kept.{capped_placed, seen}
 use Rattle.symbol_layout.proofs.path.component.Goals as goal
 
 pub returns-in_ok-at-in-Name : goal.returns-in_ok-at-in-Name

@@ -2,7 +2,7 @@ use Rattle.std.proofs.Common.{◌+◌, ℤ, pos, List, ap, sym, ◌∙◌, drop}
 use Rattle.std.specs.Option.{option_map}
 use Rattle.symbol_layout.proofs.Turns.{further}
 use Rattle.stl_rules.specs.Paths.{elements_before}
-use Rattle.symbol_layout.specs.inner.Capped.{capped}
+use Rattle.symbol_layout.specs.Kept.{capped}
 use Rattle.symbol_layout.proofs.path.elements_before.Goals as goal
 
 pub loop-dimension-preserved : goal.loop-dimension-preserved

@@ -1,7 +1,7 @@
 use Rattle.std.proofs.Common.{◌≡◌, ◌≤◌, ◌^◌, drop}
 use Rattle.std.specs.Option.{option_map}
 use Rattle.stl_rules.specs.Paths.{elements_before}
-use Rattle.symbol_layout.specs.inner.Capped.{capped}
+use Rattle.symbol_layout.specs.Kept.{capped}
 use Rattle.symbol_layout.proofs.path.elements_before.Given as goal
 
 abbrev pub invariant-loop-dimension : goal.invariant-loop-dimension

@@ -4,7 +4,7 @@ use Rattle.symbol_layout.proofs.Capped.{end_of_kept}
 use Rattle.symbol_layout.proofs.Turns.{goes_past}
 use Rattle.stl_rules.specs.Extents.{end_behind, extent_of}
 use Rattle.stl_rules.specs.declared.laid.Extent.{Extent}
-use Rattle.symbol_layout.specs.inner.Capped.{capped}
+use Rattle.symbol_layout.specs.Kept.{capped}
 use Rattle.symbol_layout.proofs.path.named_behind.Goals as goal
 
 pub loop-d-preserved : goal.loop-d-preserved

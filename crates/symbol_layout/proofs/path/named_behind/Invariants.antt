@@ -1,6 +1,6 @@
 use Rattle.std.proofs.Common.{◌≡◌, ◌≤◌, ◌^◌, drop}
 use Rattle.stl_rules.specs.Paths.{named_behind}
-use Rattle.symbol_layout.specs.inner.Capped.{capped_placed}
+use Rattle.symbol_layout.specs.Kept.{capped_placed}
 use Rattle.symbol_layout.proofs.path.named_behind.Given as goal
 
 abbrev pub invariant-loop-d : goal.invariant-loop-d

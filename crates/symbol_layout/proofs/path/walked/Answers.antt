@@ -3,7 +3,7 @@ use Rattle.std.specs.Option.{option_map}
 use Rattle.std.specs.Prelude.{Option, Some}
 use Rattle.symbol_layout.proofs.Turns.{kept_low, one_step}
 use Rattle.stl_rules.specs.Paths.{Placed, stepped, walked}
-use Rattle.symbol_layout.specs.inner.Capped.{capped_placed, seen}
+use Rattle.symbol_layout.specs.Kept.{capped_placed, seen}
 use Rattle.symbol_layout.proofs.path.walked.Goals as goal
 
 pub loop-step-preserved : goal.loop-step-preserved

@@ -1,6 +1,6 @@
 use Rattle.std.proofs.Common.{◌≡◌, ◌≤◌, ◌^◌, drop}
 use Rattle.stl_rules.specs.Paths.{walked}
-use Rattle.symbol_layout.specs.inner.Capped.{capped_placed, seen}
+use Rattle.symbol_layout.specs.Kept.{capped_placed, seen}
 use Rattle.symbol_layout.proofs.path.walked.Given as goal
 
 abbrev pub invariant-loop-step : goal.invariant-loop-step

@@ -1,0 +1,136 @@
+-- Scopes that stand in a list stay what they are when more are put behind them.
+use Rattle.std.proofs.Common.{◌≡◌, ◌<◌, ◌≤◌, ◌^◌, ◌+◌, ℕ, zero, suc, List, [], ◌∷◌, ◌++◌, length, take, get_or, slice_get, Option, Some, None, option_map, Result, Ok, Err, refl, sym, ap, subst, ◌∙◌, arith}
+use Rattle.std.proofs.Math.Logic.{◌⊎◌, inl, inr}
+use Rattle.std.proofs.lemmas.List.{take_more}
+use Rattle.std.specs.Prelude.{IfOk, OnOk}
+use Rattle.stl_rules.specs.Extents.{end_behind, end_of, end_of_all, extent_of, place_behind}
+use Rattle.stl_tree.specs.declared.raw.Declaration.{Declaration}
+use Rattle.stl_tree.specs.declared.raw.DeclType.{DeclType}
+use Rattle.symbol_layout.proofs.Capped.{capped_end, capped_place, end_of_kept}
+use Rattle.symbol_layout.proofs.Kept.{is_aligned}
+use Rattle.symbol_layout.specs.Kept.{capped}
+use Rattle.component_index.specs.declared.scope.Entry.{Entry}
+use Rattle.component_index.specs.declared.scope.Inner.{Inner}
+use Rattle.component_index.specs.declared.scope.Scope.{Scope}
+use Rattle.component_index.specs.inner.Scopes.{AreBits, AreEntries, AreScopes, Grows, Held, IsEntry, IsInner, IsOf, IsScope, IsStruct, held, struct_in}
+
+-- Lists
+
+was_there : {X : Type 0} (xs : List X) (y x : X) (n : ℕ) → slice_get xs n ≡ Some x → slice_get (xs ++ y ∷ []) n ≡ Some x
+was_there [] y x n h = absurd cc
+was_there (z ∷ xs) y x zero h = h
+was_there (z ∷ xs) y x (suc n) h = was_there xs y x n h
+
+is_last : {X : Type 0} (xs : List X) (y : X) → slice_get (xs ++ y ∷ []) (length xs) ≡ Some y
+is_last [] y = refl
+is_last (z ∷ xs) y = is_last xs y
+
+either_there : {X : Type 0} (xs : List X) (y x : X) (n : ℕ) → slice_get (xs ++ y ∷ []) n ≡ Some x → (slice_get xs n ≡ Some x) ⊎ (y ≡ x)
+either_there [] y x zero h = inr cc
+either_there [] y x (suc n) h = absurd cc
+either_there (z ∷ xs) y x zero h = inl h
+either_there (z ∷ xs) y x (suc n) h = either_there xs y x n h
+
+-- What stands at a number stays
+
+-- all that stands at numbers of the first stands there in the second
+abbrev pub Stays : Held → Held → Type 0
+Stays a b = (n : ℕ) (decls : List Declaration) → a n ≡ Some decls → b n ≡ Some decls
+
+struct_stays : (a b : Held) → Stays a b → (n : ℕ) (o : Option (List Declaration)) → IsStruct a n o → IsStruct b n o
+struct_stays a b s n None h = tt
+struct_stays a b s n (Some parts) h = s n parts h
+
+pub inner_stays : (a b : Held) → Stays a b → (inner : Inner) (ty : DeclType) → IsInner a inner ty → IsInner b inner ty
+inner_stays a b s inner ty h = (struct_stays a b s inner.scope (struct_in ty) h.0, h.1)
+
+pub entries_stay : (a b : Held) → Stays a b → (end : ℕ) (decls : List Declaration) (es : List Entry) → AreEntries a end decls es → AreEntries b end decls es
+entries_stay a b s end [] [] h = tt
+entries_stay a b s end [] (e ∷ es) h = h
+entries_stay a b s end (d ∷ decls) [] h = h
+entries_stay a b s end (d ∷ decls) (e ∷ es) h =
+    ((h.0.0, h.0.1, inner_stays a b s e.inner d.ty h.0.2), entries_stay a b s (end_of end d) decls es h.1)
+
+-- One scope more
+
+pub pushed_grows : (scopes : List Scope) (s : Scope) → Grows scopes (scopes ++ s ∷ [])
+pushed_grows scopes s n decls h = by_scope (slice_get scopes n) refl h
+  where
+    by_scope : (o : Option Scope) → slice_get scopes n ≡ o → option_map (λ (x : Scope). x.decls.now) o ≡ Some decls
+        → option_map (λ (x : Scope). x.decls.now) (slice_get (scopes ++ s ∷ []) n) ≡ Some decls
+    by_scope None e f = absurd cc
+    by_scope (Some x) e f = ap (option_map (λ (x : Scope). x.decls.now)) (was_there scopes s x n e) ∙ f
+
+pub pushed_held : (scopes : List Scope) (s : Scope) → held (scopes ++ s ∷ []) (length scopes) ≡ Some s.decls.now
+pushed_held scopes s = ap (option_map (λ (x : Scope). x.decls.now)) (is_last scopes s)
+
+scope_stays : (a b : Held) → Stays a b → (s : Scope) → IsScope a s → IsScope b s
+scope_stays a b t s h = (h.0, entries_stay a b t 0 s.decls.now s.entries.items h.1)
+
+pub pushed_scopes : (scopes : List Scope) (s : Scope) → AreScopes scopes → IsScope (held scopes) s → AreScopes (scopes ++ s ∷ [])
+pushed_scopes scopes s all one n x h = by_place (either_there scopes s x n h)
+  where
+    more : (y : Scope) → IsScope (held scopes) y → IsScope (held (scopes ++ s ∷ [])) y
+    more y is = scope_stays (held scopes) (held (scopes ++ s ∷ [])) (pushed_grows scopes s) y is
+
+    by_place : (slice_get scopes n ≡ Some x) ⊎ (s ≡ x) → IsScope (held (scopes ++ s ∷ [])) x
+    by_place (inl e) = more x (all n x e)
+    by_place (inr e) = subst (IsScope (held (scopes ++ s ∷ []))) e (more s one)
+
+-- What stands inside a type
+
+pub no_inner : (a : Held) (inner : Inner) (ty : DeclType) → struct_in ty ≡ None → IsInner a inner ty
+no_inner a inner ty e = (subst (IsStruct a inner.scope) (sym e) tt, subst (AreBits inner.bits) (sym e) tt)
+
+pub same_inner : (a : Held) (inner : Inner) (e ty : DeclType) → struct_in ty ≡ struct_in e → IsInner a inner e → IsInner a inner ty
+same_inner a inner e ty same h = (subst (IsStruct a inner.scope) (sym same) h.0, subst (AreBits inner.bits) (sym same) h.1)
+
+pub own_inner : (a : Held) (inner : Inner) (parts : List Declaration) (ty : DeclType) → struct_in ty ≡ Some parts → IsOf a inner parts → IsInner a inner ty
+own_inner a inner parts ty same h = (subst (IsStruct a inner.scope) (sym same) h.0, subst (AreBits inner.bits) (sym same) h.1)
+
+-- Results
+
+pub if_ok : {X E : Type 0} (P Q : X → Type 0) (r : Result X E) → ((x : X) → P x → Q x) → IfOk r P → IfOk r Q
+if_ok P Q (Ok x) f h = f x h
+if_ok P Q (Err e) f h = tt
+
+pub on_ok : {X E : Type 0} (P Q : Type 0) (r : Result X E) → (P → Q) → OnOk r P → OnOk r Q
+on_ok P Q (Ok x) f h = f h
+on_ok P Q (Err e) f h = tt
+
+-- One declaration more
+
+entries_more : (a : Held) (end : ℕ) (decls : List Declaration) (es : List Entry) (d : Declaration) (e : Entry)
+    → AreEntries a end decls es → IsEntry a (end_of_all end decls) d e → AreEntries a end (decls ++ d ∷ []) (es ++ e ∷ [])
+entries_more a end [] [] d e h one = (one, tt)
+entries_more a end [] (x ∷ es) d e h one = absurd h
+entries_more a end (y ∷ decls) [] d e h one = absurd h
+entries_more a end (y ∷ decls) (x ∷ es) d e h one = (h.0, entries_more a (end_of end y) decls es d e h.1 one)
+
+end_more : (end : ℕ) (decls : List Declaration) (d : Declaration) → end_of_all end (decls ++ d ∷ []) ≡ end_of (end_of_all end decls) d
+end_more end [] d = refl
+end_more end (y ∷ decls) d = end_more (end_of end y) decls d
+
+module _ (decls : List Declaration) (i : ℕ) (d : Declaration) (before : i < length decls) (item : d ≡ get_or decls i d) (end : ℕ)
+    (is : end ≡ capped (end_of_all 0 (take i decls))) where
+  more : take i decls ++ d ∷ [] ≡ take (i + 1) decls
+  more = ap (λ (y : Declaration). take i decls ++ y ∷ []) item ∙ sym (take_more decls i d before)
+
+  pub end_turn : (next : ℕ) → next ≡ capped (end_behind end (extent_of d.ty)) → next ≡ capped (end_of_all 0 (take (i + 1) decls))
+  end_turn next e =
+      let real : ℕ = end_of_all 0 (take i decls) in
+      e ∙ ap (λ n. capped (end_behind n (extent_of d.ty))) is
+      ∙ sym (end_of_kept (capped real) (extent_of d.ty))
+      ∙ capped_end real (extent_of d.ty) (is_aligned d.ty)
+      ∙ ap capped (sym (end_more 0 (take i decls) d))
+      ∙ ap (λ ds. capped (end_of_all 0 ds)) more
+
+  pub entry_turn : (a b : Held) → Stays a b → (es : List Entry) (e : Entry) → AreEntries a 0 (take i decls) es
+      → e.place ≡ place_behind end (extent_of d.ty) → e.ty.now ≡ d.ty → IsInner b e.inner d.ty
+      → AreEntries b 0 (take (i + 1) decls) (es ++ e ∷ [])
+  entry_turn a b stays es e h place ty inner =
+      let real : ℕ = end_of_all 0 (take i decls) in
+      let kept : e.place ≡ capped (place_behind real (extent_of d.ty))
+      = place ∙ ap (λ n. place_behind n (extent_of d.ty)) is ∙ sym (capped_place real (extent_of d.ty).alignment (is_aligned d.ty)) in
+      subst (λ ds. AreEntries b 0 ds (es ++ e ∷ [])) more
+      (entries_more b 0 (take i decls) es d e (entries_stay a b stays 0 (take i decls) es h) (kept, ty, inner))

@@ -1,0 +1,149 @@
+-- What a name finds in a scope, and what a step leads to.
+use Rattle.std.proofs.Common.{◌≡◌, ℕ, ℤ, zero, suc, ◌+◌, ◌*◌, ◌%◌, ◌^◌, ◌≤◌, List, [], ◌∷◌, Bool, true, false, cond, nat_eq, slice_get, Option, Some, None, refl, sym, ap, ◌∙◌, subst, arith}
+use Rattle.std.specs.Prelude.{IfSome, option_and_then, option_map}
+use Rattle.std.specs.Cmp.Lexicographic.{pointwise}
+use Rattle.std.specs.Map.{lookup}
+use Rattle.s7_base.specs.Tokens.{is_same_word}
+use Rattle.stl_tree.specs.declared.raw.Declaration.{Declaration}
+use Rattle.stl_tree.specs.declared.raw.DeclType.{DeclType}
+use Rattle.stl_tree.specs.declared.raw.DeclType.TheOpen as T
+use Rattle.stl_tree.specs.declared.raw.DeclType.TheVariants as type
+use Rattle.stl_tree.specs.declared.raw.PathStep.{PathStep}
+use Rattle.stl_tree.specs.declared.raw.PathStep.TheVariants as step
+use Rattle.stl_rules.specs.DeclarationRules.{key_of}
+use Rattle.stl_rules.specs.Extents.{elements_in, end_of, end_of_all, extent_of, filled, place_behind}
+use Rattle.stl_rules.specs.declared.laid.Extent.{Extent}
+use Rattle.stl_rules.specs.Paths.{Placed, element_at, named_behind, stepped, stepped_in}
+use Rattle.stl_rules.proofs.Ends.{whole}
+use Rattle.symbol_layout.proofs.Equations.{extent_array, extent_struct, step_array, step_struct}
+use Rattle.symbol_layout.specs.Kept.{capped, capped_placed}
+use Rattle.component_index.specs.declared.scope.Entry.{Entry}
+use Rattle.component_index.specs.declared.scope.Scope.{Scope}
+use Rattle.component_index.specs.inner.Places.{first_place, has_key}
+use Rattle.component_index.specs.inner.Scopes.{AreEntries, AreScopes, Held, IsAt, IsInner, IsScope, IsStruct, LeadsTo, entry_at, entry_in, held, moved, placed, struct_in}
+use Rattle.component_index.proofs.Aligned.{IsWhole, at_multiple, both_multiples, element_whole, kept_whole, named_moved}
+use Rattle.component_index.proofs.Firsts.{same_words}
+use Rattle.component_index.proofs.Growing.{same_inner}
+use Rattle.component_index.proofs.Inners.{inner_array, inner_struct}
+
+-- what is found in a scope from place 0 on
+abbrev pub Named : Held → Option Placed → Option Entry → Type 0
+Named all None None = Unit {0}
+Named all None (Some e) = ⊥
+Named all (Some x) None = ⊥
+Named all (Some x) (Some e) = (e.place ≡ capped x.0) × (e.ty.now ≡ x.1) × IsInner all e.inner x.1 × IsWhole x.0 x.1
+
+pub named_found : (all : Held) (decls : List Declaration) (es : List Entry) (end : ℕ) (name : List ℕ) → AreEntries all end decls es
+    → Named all (named_behind end decls name) (option_and_then (λ i. slice_get es i) (first_place (has_key (key_of name)) decls))
+named_found all [] [] end name h = tt
+named_found all [] (e ∷ es) end name h = absurd h
+named_found all (d ∷ decls) [] end name h = absurd h
+named_found all (d ∷ decls) (e ∷ es) end name h =
+    subst (λ b. Named all (cond (is_same_word d.name name) here (named_behind (end_of end d) decls name))
+        (option_and_then (λ i. slice_get (e ∷ es) i) (cond b (Some 0) (option_map (λ n. suc n) rest)))) (same_words d.name name)
+    (either (is_same_word d.name name) rest (named_found all decls es (end_of end d) name h.1))
+  where
+    here : Option Placed
+    here = Some (place_behind end (extent_of d.ty), d.ty)
+
+    rest : Option ℕ
+    rest = first_place (has_key (key_of name)) decls
+
+    either : (b : Bool) (o : Option ℕ) → Named all (named_behind (end_of end d) decls name) (option_and_then (λ i. slice_get es i) o)
+        → Named all (cond b here (named_behind (end_of end d) decls name))
+        (option_and_then (λ i. slice_get (e ∷ es) i) (cond b (Some 0) (option_map (λ n. suc n) o)))
+    either true o more =
+        (h.0.0, h.0.1, h.0.2, at_multiple end (extent_of d.ty).alignment (extent_of d.ty).bits (whole d.ty))
+    either false None more = more
+    either false (Some i) more = more
+
+-- From place 0 to where a scope begins
+
+kept_sum : (start a b : ℕ) → b ≡ capped a → capped (start + b) ≡ capped (start + a)
+kept_sum start a b e = omega (arith, e)
+
+pub is_at : (all : Held) (e : Entry) (place : ℕ) (ty : DeclType) → e.place ≡ capped place → e.ty.now ≡ ty → IsWhole place ty → IsInner all e.inner ty → IsAt all e
+is_at all e place ty at same is inner =
+    let low : capped place ≤ 2 ^ 60 = omega arith in
+    (omega (arith, at, low), subst (λ t. IsWhole e.place t) (sym same) (subst (λ n. IsWhole n ty) (sym at) (kept_whole place ty is)),
+    subst (λ t. IsInner all e.inner t) (sym same) inner)
+
+leads : (all : Held) (start : ℕ) → start % 16 ≡ 0 → (real : Option Placed) (found : Option Entry) → Named all real found
+    → LeadsTo all (option_map (λ (x : Placed). (start + x.0, x.1)) real) (option_map (moved start) found)
+leads all start h None None n = (refl, tt)
+leads all start h None (Some e) n = absurd n
+leads all start h (Some x) None n = absurd n
+leads all start h (Some x) (Some e) n =
+    let place : capped (start + e.place) ≡ capped (start + x.0) = kept_sum start x.0 e.place n.0 in
+    let is : IsWhole (start + x.0) x.1
+    = both_multiples start x.0 (extent_of x.1).alignment (extent_of x.1).bits (whole x.1) h n.3 in
+    (ap (λ p. Some (p, e.ty.now)) place ∙ ap (λ t. Some (capped (start + x.0), t)) n.1,
+    is_at all (moved start e) (start + x.0) x.1 place n.1 is n.2)
+
+in_scope : (all : Held) (s : Scope) (start : ℕ) (name : List ℕ) → start % 16 ≡ 0 → IsScope all s
+    → LeadsTo all (named_behind start s.decls.now name) (option_map (moved start) (entry_in (key_of name) s))
+in_scope all s start name h is =
+    let none : start + 0 ≡ start = omega arith in
+    let places : option_and_then (λ i. slice_get s.entries.items i) (first_place (has_key (key_of name)) s.decls.now) ≡ entry_in (key_of name) s
+    = ap (option_and_then (λ i. slice_get s.entries.items i)) (sym (is.0 (key_of name))) in
+    let real : option_map (λ (x : Placed). (start + x.0, x.1)) (named_behind 0 s.decls.now name) ≡ named_behind start s.decls.now name
+    = sym (named_moved start h s.decls.now 0 name) ∙ ap (λ n. named_behind n s.decls.now name) none in
+    subst (λ (r : Option Placed). LeadsTo all r (option_map (moved start) (entry_in (key_of name) s))) real
+    (subst (λ (f : Option Entry). LeadsTo all (option_map (λ (x : Placed). (start + x.0, x.1)) (named_behind 0 s.decls.now name)) (option_map (moved start) f)) places
+    (leads all start h (named_behind 0 s.decls.now name) (option_and_then (λ i. slice_get s.entries.items i) (first_place (has_key (key_of name)) s.decls.now))
+    (named_found all s.decls.now s.entries.items 0 name is.1)))
+
+-- the first declaration of a name in the scope of a number
+pub named_in_scope : (scopes : List Scope) (n : ℕ) (parts : List Declaration) (start : ℕ) (name : List ℕ) → AreScopes scopes → held scopes n ≡ Some parts
+    → start % 16 ≡ 0 → LeadsTo (held scopes) (named_behind start parts name) (option_map (moved start) (entry_at scopes n (key_of name)))
+named_in_scope scopes n parts start name are there h = by_scope (slice_get scopes n) refl there
+  where
+    by_scope : (o : Option Scope) → slice_get scopes n ≡ o → option_map (λ (s : Scope). s.decls.now) o ≡ Some parts
+        → LeadsTo (held scopes) (named_behind start parts name) (option_map (moved start) (entry_at scopes n (key_of name)))
+    by_scope None e f = absurd cc
+    by_scope (Some s) e f =
+        let same : s.decls.now ≡ parts = cc in
+        subst (λ (r : Option Placed). LeadsTo (held scopes) r (option_map (moved start) (entry_at scopes n (key_of name))))
+        (ap (λ ds. named_behind start ds name) same)
+        (subst (λ (o : Option Scope). LeadsTo (held scopes) (named_behind start s.decls.now name) (option_map (moved start) (option_and_then (entry_in (key_of name)) o)))
+        (sym e) (in_scope (held scopes) s start name h (are n s e)))
+
+-- Steps
+
+whole_in : (place : ℕ) (ty : DeclType) (x : Extent) → IsWhole place ty → extent_of ty ≡ x → place % x.alignment ≡ 0
+whole_in place ty x h e = subst (λ (y : Extent). place % y.alignment ≡ 0) e h
+
+-- one element of an array
+module _ (all : Held) (at : Entry) (bounds : List (ℤ × ℤ)) (e : DeclType) (is : at.ty.now ≡ type.Array bounds e) (h : IsAt all at) where
+  found_at : (real : Option Placed) (found : Option Entry) → IfSome real (λ x. IsWhole x.0 x.1) → option_map placed found ≡ capped_placed real
+      → IfSome found (λ x. x.inner ≡ at.inner) → IfSome found (λ x. x.ty.now ≡ e) → IfSome found (IsAt all)
+  found_at real None w same inner ty = tt
+  found_at None (Some x) w same inner ty = absurd cc
+  found_at (Some y) (Some x) w same inner ty =
+      let both : (x.place, x.ty.now) ≡ (capped y.0, y.1) = cc in
+      let its : e ≡ y.1 = sym ty ∙ ap (λ (p : Placed). p.1) both in
+      let own : IsInner all at.inner e = same_inner all at.inner at.ty.now e (sym (ap struct_in is ∙ inner_array bounds e)) h.2 in
+      is_at all x y.0 y.1 (ap (λ (p : Placed). p.0) both) (ap (λ (p : Placed). p.1) both) w
+      (subst (λ t. IsInner all x.inner t) its (subst (λ i. IsInner all i e) (sym inner) own))
+
+  pub element_leads : (indices : List ℤ) (s : PathStep) → s ≡ step.Index indices → (found : Option Entry)
+      → option_map placed found ≡ capped_placed (element_at at.place bounds e indices)
+      → IfSome found (λ x. x.inner ≡ at.inner) → IfSome found (λ x. x.ty.now ≡ e) → LeadsTo all (stepped at.place at.ty.now s) found
+  element_leads indices s which found same inner ty =
+      let real : stepped at.place at.ty.now s ≡ element_at at.place bounds e indices
+      = ap (λ t. stepped at.place t s) is ∙ step_array at.place bounds e s ∙ ap (stepped_in at.place (T.Array bounds e)) which in
+      let even : at.place % 16 ≡ 0 = whole_in at.place at.ty.now (filled (elements_in bounds * (extent_of e).bits)) h.1 (ap extent_of is ∙ extent_array bounds e) in
+      subst (λ (r : Option Placed). LeadsTo all r found) (sym real)
+      (same, found_at (element_at at.place bounds e indices) found (element_whole at.place bounds e indices even) same inner ty)
+
+-- a component of a STRUCT
+pub struct_leads : (scopes : List Scope) (at : Entry) (parts : List Declaration) (name : List ℕ) (s : PathStep) → at.ty.now ≡ type.Struct parts → s ≡ step.Name name
+    → AreScopes scopes → IsAt (held scopes) at
+    → LeadsTo (held scopes) (stepped at.place at.ty.now s) (option_map (moved at.place) (entry_at scopes at.inner.scope (key_of name)))
+struct_leads scopes at parts name s is which are h =
+    let real : stepped at.place at.ty.now s ≡ named_behind at.place parts name
+    = ap (λ t. stepped at.place t s) is ∙ step_struct at.place parts s ∙ ap (stepped_in at.place (T.Struct parts)) which in
+    let even : at.place % 16 ≡ 0 = whole_in at.place at.ty.now (filled (end_of_all 0 parts)) h.1 (ap extent_of is ∙ extent_struct parts) in
+    let there : held scopes at.inner.scope ≡ Some parts = subst (IsStruct (held scopes) at.inner.scope) (ap struct_in is ∙ inner_struct parts) h.2.0 in
+    subst (λ (r : Option Placed). LeadsTo (held scopes) r (option_map (moved at.place) (entry_at scopes at.inner.scope (key_of name)))) (sym real)
+    (named_in_scope scopes at.inner.scope parts at.place name are there even)

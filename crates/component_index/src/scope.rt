@@ -1,0 +1,29 @@
+//! Scopes of declarations.
+use indexmap::IndexMap;
+use stl_tree::{DeclType, Declaration};
+
+/// The scope of the STRUCT inside a type, by its number, and the bits of that STRUCT. Where no STRUCT is
+/// inside, both are any.
+#[derive(Clone, Copy)]
+pub struct Inner {
+    pub scope: usize,
+    pub bits: u64,
+}
+
+/// A type at its place in bits, with the scope inside.
+#[derive(Clone, Copy)]
+pub struct Entry<'d> {
+    pub place: u64,
+    pub ty: &'d DeclType,
+    pub inner: Inner,
+}
+
+/// Declarations that stand one behind another from place 0 on.
+#[derive(Drop)]
+pub struct Scope<'d> {
+    pub decls: &'d [Declaration],
+    pub entries: Vec<Entry<'d>>,
+
+    /// The first declaration of each name, in capitals.
+    pub names: IndexMap<Vec<u8>, usize>,
+}

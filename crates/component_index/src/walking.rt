@@ -1,0 +1,130 @@
+//! Steps of a path from scope to scope.
+ghost use Rattle.std.specs.Prelude.{◌≡◌, IfOk, IfSome, option_map};
+ghost use Rattle.stl_rules.specs.DeclarationRules.{key_of};
+ghost use Rattle.stl_rules.specs.Paths.{element_at, stepped, walked};
+ghost use Rattle.component_index.specs.inner.Scopes.{AreBits, AreScopes, IsAt, LeadsTo, entry_at, entry_in, held, moved, placed, struct_in};
+ghost use Rattle.symbol_layout.specs.Kept.{capped_placed};
+
+use crate::places::look_up;
+use crate::scope::{Entry, Inner, Scope};
+use crate::types::extent_by;
+use s7_base::NoMemory;
+use std::alloc::Global;
+use stl_tree::{DeclType, PathStep};
+use symbol_layout::{elements_before, product, sum};
+
+/// The entry of the first declaration of a key in a scope.
+fn entry_in<'d>(scope: &Scope<'d>, key: &[u8]) -> Option<Entry<'d>>
+    ensures { result ≡ entry_in key.now scope.now }
+{
+    let place = look_up(&scope.names, key)?;
+    scope.entries.get(place).copied()
+}
+
+/// The same in the scope of a number.
+fn entry_at<'d>(scopes: &[Scope<'d>], number: usize, key: &[u8]) -> Option<Entry<'d>>
+    ensures { result ≡ entry_at scopes.now number key.now }
+{
+    let scope = scopes.get(number)?;
+    entry_in(scope, key)
+}
+
+/// An entry whose scope begins here.
+fn moved<'d>(start: u64, found: Option<Entry<'d>>) -> Option<Entry<'d>>
+    ensures { result ≡ option_map (moved start) found.entry }
+{
+    let entry = found?;
+    Some(Entry {
+        place: sum(start, entry.place),
+        ty: entry.ty,
+        inner: entry.inner,
+    })
+}
+
+/// The first declaration of a name in a scope that begins here.
+pub fn named<'d>(
+    alloc: Global,
+    scopes: &[Scope<'d>],
+    number: usize,
+    start: u64,
+    name: &[u8],
+) -> Result<Option<Entry<'d>>, NoMemory>
+    ensures { IfOk result (λ found. found ≡ option_map (moved start) (entry_at scopes.now number (key_of name.now))) }
+{
+    let key = name.to_ascii_uppercase(alloc)?;
+    Ok(moved(start, entry_at(scopes, number, key.as_slice())))
+}
+
+/// One element of an array that begins here.
+#[tactic(auto, using(symbol_layout::proofs::Kept::kept_element))]
+fn element_at<'d>(
+    place: u64,
+    inner: Inner,
+    bounds: &[(i64, i64)],
+    ty: &'d DeclType,
+    indices: &[i64],
+) -> Option<Entry<'d>>
+    requires { AreBits inner.bits (struct_in ty.now) }
+    ensures same { option_map placed result ≡ capped_placed (element_at place bounds.now ty.now indices.now) }
+    ensures inner { IfSome result (λ entry. entry.inner ≡ inner) }
+    ensures its_type { IfSome result (λ entry. entry.ty.now ≡ ty.now) }
+{
+    let before = elements_before(bounds, indices)?;
+    let place = sum(place, product(before, extent_by(ty, inner.bits).bits));
+    Some(Entry { place, ty, inner })
+}
+
+/// One step further from a type at a place.
+#[tactic(auto, using(crate::proofs::Stepping::named_in_scope))]
+fn stepped<'d>(
+    alloc: Global,
+    scopes: &[Scope<'d>],
+    at: Entry<'d>,
+    step: &PathStep,
+) -> Result<Option<Entry<'d>>, NoMemory>
+    requires scopes { AreScopes scopes.now }
+    requires at { IsAt (held scopes.now) at }
+    ensures { IfOk result (LeadsTo (held scopes.now) (stepped at.entry.place at.entry.ty.now step.now)) }
+{
+    match at.ty {
+        DeclType::Elementary(_) => Ok(None),
+        DeclType::DateAndTime => Ok(None),
+        DeclType::Array(bounds, element) => match step {
+            PathStep::Name(_) => Ok(None),
+            PathStep::Index(indices) => Ok(element_at(
+                at.place,
+                at.inner,
+                bounds.as_slice(),
+                element.get(),
+                indices.as_slice(),
+            )),
+        },
+        DeclType::Struct(_) => match step {
+            PathStep::Name(name) => {
+                named(alloc, scopes, at.inner.scope, at.place, name.as_slice())
+            }
+            PathStep::Index(_) => Ok(None),
+        },
+    }
+}
+
+/// Further by a path.
+pub fn walked<'d>(
+    alloc: Global,
+    scopes: &[Scope<'d>],
+    start: Entry<'d>,
+    path: &[PathStep],
+) -> Result<Option<Entry<'d>>, NoMemory>
+    requires scopes { AreScopes scopes.now }
+    requires start { IsAt (held scopes.now) start }
+    ensures { IfOk result (λ found. option_map placed found ≡ capped_placed (walked path.now (placed start.entry))) }
+{
+    let mut at = start;
+    for step in path {
+        match stepped(alloc, scopes, at, step)? {
+            Some(next) => at = next,
+            None => return Ok(None),
+        }
+    }
+    Ok(Some(at))
+}
