@@ -4,13 +4,12 @@ ghost use Rattle.data_contents.specs.Contents.{Holds};
 ghost use Rattle.data_contents.specs.inner.Inside.{AreKept};
 ghost use Rattle.stl_rules.specs.DataBlocks.{or_two};
 ghost use Rattle.stl_rules.specs.Layouts.{initial_of};
-ghost use Rattle.stl_rules.specs.Raw.{are_refused};
 
 use crate::values::put_values;
 use s7_base::{Break, List, NoMemory, Rejection, first_of_all};
 use std::alloc::Global;
 use stl_tree::{Declaration, RawInitial};
-use symbol_layout::{first_break, layout};
+use symbol_layout::layout;
 
 /// The most bytes of a data block.
 const MOST_IN_BLOCK: u32 = 16_384;
@@ -26,13 +25,6 @@ pub enum Content {
 
     /// The first broken rule where the initial values alone break some.
     BadValues(Break),
-}
-
-/// Declarations break a rule within a limit, in bytes.
-pub fn are_refused(alloc: Global, decls: &[Declaration], limit: u32) -> Result<bool, NoMemory>
-    ensures { IfOk result (λ refused. refused ≡ are_refused limit decls.now) }
-{
-    Ok(first_break(alloc, decls, limit)?.is_some())
 }
 
 /// A data block has two bytes at least.
@@ -59,7 +51,7 @@ fn filled(
 {
     let mut bytes = initial.into_vec();
     let mut breaks = List::new(alloc);
-    put_values(decls, values, bytes.as_mut_slice(), &mut breaks)?;
+    put_values(alloc, decls, values, bytes.as_mut_slice(), &mut breaks)?;
     match first_of_all(breaks.as_slice()) {
         Some(first) => Ok(Content::BadValues(first)),
         None => Ok(Content::Bytes(or_two(bytes)?)),

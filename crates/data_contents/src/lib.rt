@@ -1,7 +1,8 @@
 //! What a data block of a source holds: its bytes, or the first rule that it breaks, and data blocks in the order of
 //! their numbers.
 //!
-//! Stands on `symbol_layout` for the layout of the declarations, and on `stl_rules` for what data blocks are.
+//! Stands on `symbol_layout` for the layout of the declarations, on `component_index` for the components that initial
+//! values name, and on `stl_rules` for what data blocks are.
 #![tactic(auto)]
 
 mod content;
@@ -9,5 +10,5 @@ mod order;
 mod values;
 mod writes;
 
-pub use content::{Content, are_refused, content_of};
+pub use content::{Content, content_of};
 pub use order::in_order;

@@ -7,10 +7,12 @@ ghost use Rattle.stl_rules.specs.DataBlocks.{with_constant, with_value, with_val
 ghost use Rattle.stl_rules.specs.Stages.{fits_kind, initial_breaks};
 
 use crate::writes::put_number;
+use component_index::Components;
 use s7_base::{Break, List, NoMemory, Reason, note};
+use std::alloc::Global;
 use stl_rules::Component;
 use stl_tree::{Constant, Declaration, ElemType, RawInitial};
-use symbol_layout::{component, fits_width, value_in, width_of};
+use symbol_layout::{fits_width, value_in, width_of};
 
 /// A constant is a value of a component of this type.
 fn fits_kind(value: Constant, kind: Option<ElemType>) -> bool
@@ -62,7 +64,8 @@ fn put_at(bytes: &mut [u8], at: Option<Component>, value: Constant)
 /// Puts an initial value, and notes the rule that it breaks. A value that breaks one is put all the same, so that
 /// the bytes are the defined ones whatever is noted.
 fn put_value(
-    decls: &[Declaration],
+    alloc: Global,
+    decls: &Components<'_>,
     v: &RawInitial,
     bytes: &mut [u8],
     breaks: &mut List<Break>,
@@ -71,15 +74,16 @@ fn put_value(
     ensures bytes { OnOk result (bytes.new ≡ with_value decls.now bytes.old v.now) }
     ensures breaks { OnOk result (breaks.new ≡ breaks.old ++ initial_breaks decls.now v.now) }
 {
-    let at = component(decls, v.path.as_slice());
+    let at = decls.component(alloc, v.path.as_slice())?;
     judge(v, at, breaks)?;
     put_at(bytes, at, v.value);
     Ok(())
 }
 
 /// Puts initial values one after another, and notes the rules that they break.
-pub fn put_values(
-    decls: &[Declaration],
+fn put_each(
+    alloc: Global,
+    decls: &Components<'_>,
     values: &[RawInitial],
     bytes: &mut [u8],
     breaks: &mut List<Break>,
@@ -89,7 +93,23 @@ pub fn put_values(
     ensures breaks { OnOk result (breaks.new ≡ breaks.old ++ flat_map (initial_breaks decls.now) values.now) }
 {
     for v in values {
-        put_value(decls, v, bytes, breaks)?;
+        put_value(alloc, decls, v, bytes, breaks)?;
     }
     Ok(())
+}
+
+/// The same of declarations, by an index of their components.
+pub fn put_values(
+    alloc: Global,
+    decls: &[Declaration],
+    values: &[RawInitial],
+    bytes: &mut [u8],
+    breaks: &mut List<Break>,
+) -> Result<(), NoMemory>
+    requires { AreInside (length bytes.old) decls.now }
+    ensures bytes { OnOk result (bytes.new ≡ fold (with_value decls.now) bytes.old values.now) }
+    ensures breaks { OnOk result (breaks.new ≡ breaks.old ++ flat_map (initial_breaks decls.now) values.now) }
+{
+    let components = Components::new(alloc, decls)?;
+    put_each(alloc, &components, values, bytes, breaks)
 }
