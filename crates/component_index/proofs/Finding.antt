@@ -1,12 +1,12 @@
 -- What a path finds that begins with a name.
-use Rattle.std.proofs.Common.{◌≡◌, ℕ, ◌≤◌, List, [], ◌∷◌, length, drop, get_or, Option, Some, None, refl, sym, ap, ◌∙◌, subst, arith}
+use Rattle.std.proofs.Common.{◌≡◌, ℕ, List, ◌∷◌, Option, Some, None, refl, sym, ◌∙◌, subst, arith}
 use Rattle.std.specs.Prelude.{option_and_then, option_map}
 use Rattle.std.specs.Option.{option_or}
 use Rattle.stl_tree.specs.declared.raw.Declaration.{Declaration}
 use Rattle.stl_tree.specs.declared.raw.PathStep.{PathStep}
 use Rattle.stl_tree.specs.declared.raw.PathStep.TheVariants as step
 use Rattle.stl_rules.specs.DeclarationRules.{key_of}
-use Rattle.stl_rules.specs.Paths.{Placed, component_at, component_in, named_behind, walked}
+use Rattle.stl_rules.specs.Paths.{Placed, component_at, named_behind, walked}
 use Rattle.symbol_layout.proofs.Turns.{component_found}
 use Rattle.symbol_layout.specs.Kept.{capped_placed}
 use Rattle.component_index.specs.declared.scope.Entry.{Entry}
@@ -15,11 +15,15 @@ use Rattle.component_index.specs.declared.scope.Scope.{Scope}
 use Rattle.component_index.specs.inner.Scopes.{AreScopes, IsOf, LeadsTo, component_behind, entry_at, held, moved}
 use Rattle.component_index.proofs.Stepping.{named_in_scope}
 
-pub begins : (scopes : List Scope) (own : Inner) (decls : List Declaration) (name : List ℕ) → AreScopes scopes → IsOf (held scopes) own decls
-    → (found : Option Entry) → found ≡ option_map (moved 0) (entry_at scopes own.scope (key_of name))
-    → LeadsTo (held scopes) (named_behind 0 decls name) found
-begins scopes own decls name are is found e =
-    subst (LeadsTo (held scopes) (named_behind 0 decls name)) (sym e) (named_in_scope scopes own.scope decls 0 name are is.0 refl)
+-- the declarations stand in the scope that is kept as their own
+pub begins : (scopes inside : List Scope) → scopes ≡ inside → (own : Inner) (decls : List Declaration) (name : List ℕ)
+    → AreScopes inside × IsOf (held inside) own decls → (found start : Option Entry)
+    → found ≡ option_map (moved 0) (entry_at scopes own.scope (key_of name)) → found ≡ start → LeadsTo (held scopes) (named_behind 0 decls name) start
+begins scopes inside same own decls name is found start e f =
+    let here : AreScopes scopes × IsOf (held scopes) own decls
+    = subst (λ (s : List Scope). AreScopes s × IsOf (held s) own decls) (sym same) is in
+    subst (LeadsTo (held scopes) (named_behind 0 decls name)) (sym e ∙ f)
+    (named_in_scope scopes own.scope decls 0 name here.0 here.1.0 refl)
 
 pub nothing_behind : (decls : List Declaration) (name : List ℕ) (path : List PathStep) → None ≡ capped_placed (named_behind 0 decls name)
     → None ≡ component_behind decls name path
@@ -33,9 +37,3 @@ pub found_behind : (decls : List Declaration) (name : List ℕ) (path : List Pat
     → (at : Option Placed) → at ≡ capped_placed (walked path start) → option_map component_at at ≡ component_behind decls name path
 found_behind decls name path start named at walks =
     component_found decls (step.Name name ∷ path) (step.Name name) name (omega arith) refl refl start named at walks
-
--- the same by the path that is given
-pub path_begins : (decls : List Declaration) (path : List PathStep) (s : PathStep) (name : List ℕ) → 1 ≤ length path → s ≡ get_or path 0 s → s ≡ step.Name name
-    → component_behind decls name (drop 1 path) ≡ component_in (decls ∷ []) path
-path_begins decls [] s name some item is = absurd (omega (arith, some))
-path_begins decls (x ∷ path) s name some item is = ap (λ y. component_in (decls ∷ []) (y ∷ path)) (sym is ∙ item)

@@ -1,6 +1,5 @@
 -- The STRUCT inside a type, and what types take by what it takes.
 use Rattle.std.proofs.Common.{◌≡◌, ℕ, ℤ, List, [], ◌∷◌, map, Option, Some, None, refl, sym, ap, ◌∙◌, subst}
-use Rattle.stl_rules.specs.Extents.{end_of_all, extent_of, filled}
 use Rattle.stl_tree.specs.declared.raw.Declaration.{Declaration, para-Declaration}
 use Rattle.stl_tree.specs.declared.raw.DeclType.{DeclType}
 use Rattle.stl_tree.specs.declared.raw.DeclType.TheVariants as type
@@ -8,8 +7,7 @@ use Rattle.stl_tree.specs.declared.raw.ElemType.{ElemType}
 use Rattle.stl_rules.proofs.Equations.{at_array, at_date, at_elementary, at_struct}
 use Rattle.symbol_layout.proofs.Capped.{capped_filled, capped_product}
 use Rattle.symbol_layout.proofs.Equations.{extent_equations, extent_struct}
-use Rattle.symbol_layout.specs.Kept.{capped, capped_extent}
-use Rattle.component_index.specs.inner.Scopes.{AreBits, no_result, struct_bits, struct_in, struct_step}
+use Rattle.component_index.specs.inner.Scopes.{AreBits, no_result, struct_in, struct_step}
 
 abbrev Found : Type 0
 Found = Option (List Declaration)

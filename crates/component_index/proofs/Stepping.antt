@@ -1,8 +1,6 @@
 -- What a name finds in a scope, and what a step leads to.
-use Rattle.std.proofs.Common.{◌≡◌, ℕ, ℤ, zero, suc, ◌+◌, ◌*◌, ◌%◌, ◌^◌, ◌≤◌, List, [], ◌∷◌, Bool, true, false, cond, nat_eq, slice_get, Option, Some, None, refl, sym, ap, ◌∙◌, subst, arith}
+use Rattle.std.proofs.Common.{◌≡◌, ℕ, ℤ, suc, ◌+◌, ◌*◌, ◌%◌, ◌^◌, ◌≤◌, List, [], ◌∷◌, Bool, true, false, cond, slice_get, Option, Some, None, refl, sym, ap, ◌∙◌, subst, arith}
 use Rattle.std.specs.Prelude.{IfSome, option_and_then, option_map}
-use Rattle.std.specs.Cmp.Lexicographic.{pointwise}
-use Rattle.std.specs.Map.{lookup}
 use Rattle.s7_base.specs.Tokens.{is_same_word}
 use Rattle.stl_tree.specs.declared.raw.Declaration.{Declaration}
 use Rattle.stl_tree.specs.declared.raw.DeclType.{DeclType}
@@ -40,7 +38,7 @@ named_found all [] (e ∷ es) end name h = absurd h
 named_found all (d ∷ decls) [] end name h = absurd h
 named_found all (d ∷ decls) (e ∷ es) end name h =
     subst (λ b. Named all (cond (is_same_word d.name name) here (named_behind (end_of end d) decls name))
-        (option_and_then (λ i. slice_get (e ∷ es) i) (cond b (Some 0) (option_map (λ n. suc n) rest)))) (same_words d.name name)
+    (option_and_then (λ i. slice_get (e ∷ es) i) (cond b (Some 0) (option_map (λ n. suc n) rest)))) (same_words d.name name)
     (either (is_same_word d.name name) rest (named_found all decls es (end_of end d) name h.1))
   where
     here : Option Placed
@@ -64,9 +62,11 @@ kept_sum start a b e = omega (arith, e)
 
 pub is_at : (all : Held) (e : Entry) (place : ℕ) (ty : DeclType) → e.place ≡ capped place → e.ty.now ≡ ty → IsWhole place ty → IsInner all e.inner ty → IsAt all e
 is_at all e place ty at same is inner =
-    let low : capped place ≤ 2 ^ 60 = omega arith in
-    (omega (arith, at, low), subst (λ t. IsWhole e.place t) (sym same) (subst (λ n. IsWhole n ty) (sym at) (kept_whole place ty is)),
-    subst (λ t. IsInner all e.inner t) (sym same) inner)
+    let low : capped place ≤ 2 ^ 60 = omega arith in (
+      omega (arith, at, low),
+      subst (λ t. IsWhole e.place t) (sym same) (subst (λ n. IsWhole n ty) (sym at) (kept_whole place ty is)),
+      subst (λ t. IsInner all e.inner t) (sym same) inner,
+    )
 
 leads : (all : Held) (start : ℕ) → start % 16 ≡ 0 → (real : Option Placed) (found : Option Entry) → Named all real found
     → LeadsTo all (option_map (λ (x : Placed). (start + x.0, x.1)) real) (option_map (moved start) found)
@@ -76,9 +76,10 @@ leads all start h (Some x) None n = absurd n
 leads all start h (Some x) (Some e) n =
     let place : capped (start + e.place) ≡ capped (start + x.0) = kept_sum start x.0 e.place n.0 in
     let is : IsWhole (start + x.0) x.1
-    = both_multiples start x.0 (extent_of x.1).alignment (extent_of x.1).bits (whole x.1) h n.3 in
-    (ap (λ p. Some (p, e.ty.now)) place ∙ ap (λ t. Some (capped (start + x.0), t)) n.1,
-    is_at all (moved start e) (start + x.0) x.1 place n.1 is n.2)
+    = both_multiples start x.0 (extent_of x.1).alignment (extent_of x.1).bits (whole x.1) h n.3 in (
+      ap (λ p. Some (p, e.ty.now)) place ∙ ap (λ t. Some (capped (start + x.0), t)) n.1,
+      is_at all (moved start e) (start + x.0) x.1 place n.1 is n.2,
+    )
 
 in_scope : (all : Held) (s : Scope) (start : ℕ) (name : List ℕ) → start % 16 ≡ 0 → IsScope all s
     → LeadsTo all (named_behind start s.decls.now name) (option_map (moved start) (entry_in (key_of name) s))

@@ -51,7 +51,11 @@ fn put_scope<'d>(
 {
     let names = places_of(alloc, decls)?;
     let scope = scopes.len();
-    scopes.push(Scope { decls, entries, names })?;
+    scopes.push(Scope {
+        decls,
+        entries,
+        names,
+    })?;
     Ok(Inner {
         scope,
         bits: filled(end).bits,

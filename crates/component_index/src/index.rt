@@ -88,7 +88,11 @@ impl<'d> Components<'d> {
         };
         match first {
             PathStep::Index(_) => Ok(None),
-            PathStep::Name(name) => self.component_behind(alloc, name.as_slice(), rest_after(path, 1)),
+            PathStep::Name(name) => self.component_behind(
+                alloc,
+                name.as_slice(),
+                rest_after(path, 1),
+            ),
         }
     }
 }

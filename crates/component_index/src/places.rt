@@ -33,10 +33,7 @@ fn put_place(
 }
 
 /// The places of the first declarations of all names.
-pub fn places_of(
-    alloc: Global,
-    decls: &[Declaration],
-) -> Result<IndexMap<Vec<u8>, usize>, NoMemory>
+pub fn places_of(alloc: Global, decls: &[Declaration]) -> Result<IndexMap<Vec<u8>, usize>, NoMemory>
     ensures { IfOk result (λ places. AreNamePlaces decls.now (map (λ e. (e.0.items, e.1)) places.entries)) }
 {
     let mut places = IndexMap::with_capacity(alloc, decls.len())?;

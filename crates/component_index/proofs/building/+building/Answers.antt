@@ -1,6 +1,5 @@
-use Rattle.std.proofs.Common.{◌≡◌, Some, take, ap, subst, sym, ◌∙◌}
-use Rattle.stl_tree.specs.declared.raw.DeclType.TheVariants as type
-use Rattle.component_index.specs.inner.Scopes.{AreEntries, AreScopes, Grows, IsInner, IsOf, held, struct_in}
+use Rattle.std.proofs.Common.{Some, take, ap, subst, sym, ◌∙◌}
+use Rattle.component_index.specs.inner.Scopes.{AreEntries, Grows, IsInner, IsOf, held, struct_in}
 use Rattle.component_index.proofs.Growing.{end_turn, entry_turn, if_ok, no_inner, on_ok, own_inner, same_inner}
 use Rattle.component_index.proofs.Inners.{inner_array, inner_date, inner_elementary, inner_struct}
 use Rattle.component_index.proofs.building.«+building».Goals as goal
@@ -19,7 +18,7 @@ put_inner-returns-in-Array-clause-inner t c =
     let all = held c.put_inner.new.scopes.items in
     if_ok (λ inner. IsInner all inner c.get.result.now) (λ inner. IsInner all inner c.args.ty.now) c.put_inner.result
     (λ inner h. same_inner all inner c.get.result.now c.args.ty.now
-        (ap struct_in c.in-Array.is ∙ inner_array c.in-Array.field-0 c.in-Array.element ∙ ap struct_in (sym c.get.ensures)) h)
+    (ap struct_in c.in-Array.is ∙ inner_array c.in-Array.field-0 c.in-Array.element ∙ ap struct_in (sym c.get.ensures)) h)
     c.put_inner.ensures.inner
 
 pub put_inner-returns-in-Struct-clause-inner : goal.put_inner-returns-in-Struct-clause-inner
@@ -27,7 +26,7 @@ put_inner-returns-in-Struct-clause-inner t c =
     let all = held c.put_scopes.new.scopes.items in
     if_ok (λ inner. IsOf all inner c.as_slice.result.now) (λ inner. IsInner all inner c.args.ty.now) c.put_scopes.result
     (λ inner h. own_inner all inner c.as_slice.result.now c.args.ty.now
-        (ap struct_in c.in-Struct.is ∙ inner_struct c.in-Struct.parts ∙ ap Some (sym c.as_slice.ensures)) h)
+    (ap struct_in c.in-Struct.is ∙ inner_struct c.in-Struct.parts ∙ ap Some (sym c.as_slice.ensures)) h)
     c.put_scopes.ensures.own
 
 pub put_scopes-loop-d-preserved : goal.put_scopes-loop-d-preserved

@@ -1,5 +1,5 @@
-use Rattle.std.proofs.Common.{◌≡◌, List, ℕ, ap, sym, ◌∙◌, subst}
-use Rattle.std.specs.Prelude.{IfSome, Option, option_map}
+use Rattle.std.proofs.Common.{◌≡◌, ap, sym, ◌∙◌, subst}
+use Rattle.std.specs.Prelude.{option_map}
 use Rattle.stl_rules.specs.DeclarationRules.{key_of}
 use Rattle.stl_rules.specs.Paths.{stepped}
 use Rattle.stl_tree.specs.declared.raw.DeclType.TheVariants as type
@@ -29,6 +29,6 @@ returns-in-Name-step c =
     if_ok (λ found. found ≡ option_map (moved c.args.at.place) (entry_at c.args.scopes.now c.args.at.inner.scope (key_of name)))
     (LeadsTo all (stepped c.args.at.place c.args.at.ty.now c.args.step.now)) c.named.result
     (λ found h. subst (LeadsTo all (stepped c.args.at.place c.args.at.ty.now c.args.step.now)) (sym h)
-        (struct_leads c.args.scopes.now c.args.at c.in-Struct.field-0 name c.args.step.now c.in-Struct.is
-        (c.in-Name-step.is ∙ ap step.Name (sym c.as_slice-in-Name-step.ensures)) c.requires.scopes c.requires.at))
+    (struct_leads c.args.scopes.now c.args.at c.in-Struct.field-0 name c.args.step.now c.in-Struct.is
+    (c.in-Name-step.is ∙ ap step.Name (sym c.as_slice-in-Name-step.ensures)) c.requires.scopes c.requires.at))
     c.named.ensures
