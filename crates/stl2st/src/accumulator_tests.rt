@@ -539,9 +539,9 @@ static KINDS: [(&[u8], &[u8]); 32] = [
     // Forms that are built later, and numbers outside their form.
     (b"SLW 16;", b"line 3: Unsupported(NotBuilt)\n"),
     (b"L 40000;", b"line 3: Unsupported(NotBuilt)\n"),
-    (b"L M 0.0;", b"line 3: Unsupported(NotBuilt)\n"),
-    (b"A MW 0;", b"line 3: Unsupported(NotBuilt)\n"),
-    (b"AW DW#16#1;", b"line 3: Unsupported(NotBuilt)\n"),
+    (b"L M 0.0;", b"line 3: BadOperand\n"),
+    (b"A MW 0;", b"line 3: BadOperand\n"),
+    (b"AW DW#16#1;", b"line 3: BadOperand\n"),
 ];
 
 fn push(body: &mut Vec<u8>, text: &str) -> Result<(), NoMemory> {
@@ -584,6 +584,22 @@ fn want_rows(rt: &impl Abort, alloc: Global, pairs: &[Pair], rows: &[Row]) -> Re
     Ok(())
 }
 
+/// A source and its translation report this of a run.
+pub fn wants_report(
+    rt: &impl Abort,
+    alloc: Global,
+    source: &[u8],
+    image: &[u8],
+    wanted: (Status, &[u8]),
+) -> Result<(), NoMemory> {
+    let text = answered(alloc, "translate", source, b"")?.1;
+    let run = answered(alloc, "run-stl 1000 OB1 img", source, image)?;
+    wants_answer(rt, source, (run.0, run.1.taken()), wanted);
+    let run = answered(alloc, "run-st 1000 OB1 img", text.taken(), image)?;
+    wants_answer(rt, source, (run.0, run.1.taken()), wanted);
+    Ok(())
+}
+
 pub fn want_reports(
     rt: &impl Abort,
     alloc: Global,
@@ -591,16 +607,12 @@ pub fn want_reports(
 ) -> Result<(), NoMemory> {
     for (body, image, status, report) in rows {
         let source = with_body(alloc, body)?;
-        let text = answered(alloc, "translate", source.as_slice(), b"")?.1;
-        let run = answered(alloc, "run-stl 1000 OB1 img", source.as_slice(), image)?;
-        wants_answer(rt, body, (run.0, run.1.taken()), (*status, report));
-        let run = answered(alloc, "run-st 1000 OB1 img", text.taken(), image)?;
-        wants_answer(rt, body, (run.0, run.1.taken()), (*status, report));
+        wants_report(rt, alloc, source.as_slice(), image, (*status, report))?;
     }
     Ok(())
 }
 
-pub fn want_kinds(rt: &impl Abort, alloc: Global, rows: &[(&[u8], &[u8])]) -> Result<(), NoMemory> {
+fn want_kinds(rt: &impl Abort, alloc: Global, rows: &[(&[u8], &[u8])]) -> Result<(), NoMemory> {
     for (body, line) in rows {
         let source = with_body(alloc, body)?;
         let (status, out) = answered(alloc, "check", source.as_slice(), b"")?;

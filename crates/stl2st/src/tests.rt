@@ -249,8 +249,8 @@ static REFUSED_BODIES: [(&[u8], &[u8]); 19] = [
     (b"SP T 1;", b"line 3: Unsupported(Timer)\n"),
     (b"a: A I 0.0;", b"line 3: Unsupported(NotBuilt)\n"),
     (b"A I 0 .0;", b"line 3: Unsupported(NotBuilt)\n"),
-    (b"A I 2048.0;", b"line 3: Unsupported(NotBuilt)\n"),
-    (b"A I 0.8;", b"line 3: Unsupported(NotBuilt)\n"),
+    (b"A I 2048.0;", b"line 3: BadAddress\n"),
+    (b"A I 0.8;", b"line 3: BadAddress\n"),
     (b"FOO 5;", b"line 3: BadStatement\n"),
     (b"TITLE\n= Q 4.0;", b"line 3: BadStatement\n"),
     (b"A I 0.0", b"line 3: BadStatement\n"),
@@ -301,7 +301,7 @@ static REFUSED_SOURCES: [(&[u8], &[u8]); 9] = [
     ),
     (
         b"ORGANIZATION_BLOCK OB 0\nBEGIN\nEND_ORGANIZATION_BLOCK\n",
-        b"line 1: Unsupported(NotBuilt)\n",
+        b"line 1: BadAddress\n",
     ),
     (
         b"FUNCTION FC 1 : VOID\nBEGIN\nEND_FUNCTION\n",

@@ -1,5 +1,5 @@
 -- What stands at a place of a text is what the forms of items say.
-use Rattle.std.proofs.Common.{◌≡◌, ℕ, ◌+◌, ◌-◌, ◌<◌, Bool, true, false, not, ◌&&◌, ◌||◌, if◌then◌else◌, List, [], ◌∷◌, ◌++◌, length, take, drop, Option, Some, None, option_map, Result, Ok, Err, refl, sym, ap, subst, ◌∙◌, arith, length-append}
+use Rattle.std.proofs.Common.{◌≡◌, ℕ, ◌+◌, ◌-◌, ◌<◌, Bool, true, false, not, ◌&&◌, ◌||◌, if◌then◌else◌, List, [], ◌∷◌, ◌++◌, length, drop, Option, Some, None, option_map, Result, Ok, Err, refl, sym, ap, subst, ◌∙◌, arith, length-append}
 use Rattle.std.proofs.lemmas.Bool.{ltb-true, lt-ltb}
 use Rattle.std.specs.Prelude.{codes}
 use Rattle.s7_base.specs.declared.reason.Line.{Line}
@@ -14,18 +14,20 @@ use Rattle.stl_grammar.specs.Initials.{ending_at, path_value_at}
 use Rattle.stl_grammar.specs.declared.declaration.Level.{Level}
 use Rattle.stl_grammar.specs.declared.declaration.Written.{Written}
 use Rattle.s7_base.specs.declared.reason.Reason.TheVariants.{BadStatement}
-use Rattle.stl_grammar.specs.Headings.{heading_kind, is_behind, is_skipped, kept_from, kept_number, kind_word, line_of, name_at, number_behind, opened, opened_by, size_on}
+use Rattle.stl_grammar.specs.Headings.{heading_kind, is_behind, is_skipped, kind_word, line_of, name_at, number_behind, opened, opened_by}
 use Rattle.stl_grammar.specs.Items.{begins_body, behind_at, closing_at, declaration_found, declaration_reason, declarations_end, is_data, read_reason, section_word, struct_found, value_found, values_at, inside_at, level_line, misfit_line, is_semicolon, is_skipped_alone, is_end, statement_size, statement_at, is_complete, misfit_reason, statement_reason, table_at, symbol_found, in_table, behind_heading, statement_found, statement_from, body_at, at_token, item_at}
+use Rattle.stl_statements.specs.Numbers.{kept_number}
+use Rattle.stl_statements.specs.Paths.{number_word}
 use Rattle.stl_grammar.specs.Symbols.{ends_table, is_next, symbol_at}
 use Rattle.stl_statements.specs.Readers.{fitting}
 use Rattle.stl_statements.specs.Statements.{is_numbered, on_line, statement as statement_said, instruction_of}
-use Rattle.stl_statements.specs.Words.{is_word, is_quoted_kind, is_word_kind}
+use Rattle.stl_statements.specs.Words.{is_word, is_quoted_kind}
 use Rattle.stl_statements.specs.declared.mnemonic.Read.{Read}
 use Rattle.stl_statements.specs.declared.mnemonic.Read.TheVariants as read
 use Rattle.stl_grammar.specs.declared.item.Found.{Found}
 use Rattle.stl_grammar.specs.declared.item.Found.TheVariants.{Fits, Misfit}
 use Rattle.stl_grammar.specs.declared.item.Item.{Item}
-use Rattle.stl_grammar.specs.declared.item.Item.TheVariants.{Opens, Mark, Symbol, Declares, Closes, Instr, Initial, Ends}
+use Rattle.stl_grammar.specs.declared.item.Item.TheVariants.{Opens, Mark, Instr}
 use Rattle.stl_grammar.specs.declared.item.Where.{Where}
 use Rattle.stl_grammar.specs.declared.item.Where.TheVariants.{Start, Table, Between, Heading, Inside, Behind, Body, Values}
 use Rattle.stl_tree.specs.declared.raw.BlockKind.{BlockKind}
@@ -70,19 +72,19 @@ not_true false h = refl
 
 name_found : {kind : List ℕ} {names : List Token} {name : RawName} (rest : List Token) → IsName kind names name → name_at kind (names ++ rest) ≡ read.Fits name (length names)
 name_found rest (quoted kind word is) = if_true (is_quoted_kind word.kind) _ _ is
-name_found rest (apart kind word number n no_quotes is digits found) =
+name_found rest (apart kind word number n no_quotes is found) =
     if_false (is_quoted_kind word.kind) _ _ no_quotes ∙ if_true (is_word kind word) _ _ is
-    ∙ ap (λ (o : Option ℕ). fitting 2 (option_map Number o)) (if_true (is_word_kind number.kind) _ _ digits ∙ found)
-name_found rest (together kind word no_quotes no_word numbered) =
+    ∙ ap (λ (o : Option ℕ). fitting 2 (option_map Number o)) found
+name_found rest (together kind word n no_quotes no_word numbered found) =
     if_false (is_quoted_kind word.kind) _ _ no_quotes ∙ if_false (is_word kind word) _ _ no_word
-    ∙ ap (λ (o : Option ℕ). fitting 1 (option_map Number o)) (if_true (is_numbered kind word) _ _ numbered)
+    ∙ ap (λ (o : Option ℕ). fitting 1 (option_map Number o)) (if_true (is_numbered kind word) _ _ numbered ∙ found)
 
 -- the line of the last token of a name
 name_line : {kind : List ℕ} {names : List Token} {name : RawName} (line : Line) (rest : List Token) → IsName kind names name →
     line_of line (drop (length names - 1) (names ++ rest)) ≡ last_line line names
 name_line line rest (quoted kind word is) = refl
-name_line line rest (apart kind word number n no_quotes is digits found) = refl
-name_line line rest (together kind word no_quotes no_word numbered) = refl
+name_line line rest (apart kind word number n no_quotes is found) = refl
+name_line line rest (together kind word n no_quotes no_word numbered found) = refl
 
 opened_found : (reason : Reason) (kind : BlockKind) (other : Found) (first : Token) {names : List Token} {name : RawName} (rest : List Token) → heading_kind first ≡ Some kind → IsName (kind_word kind) names name →
     opened_by reason (heading_kind first) other first (names ++ rest) ≡ Fits (Opens first.line kind name) (length names) (Heading kind (last_line first.line names))
@@ -186,20 +188,20 @@ data ReadsName : List ℕ → List Token → Read RawName → Type 0 where
   named : {kind : List ℕ} {names : List Token} {name : RawName} (rest : List Token) →
       IsName kind names name → ReadsName kind (names ++ rest) (read.Fits name (length names))
 
-number_reads : (kind : List ℕ) (word number : Token) (rest : List Token) (b : Bool) (o : Option ℕ) → is_quoted_kind word.kind ≡ false → is_word kind word ≡ true → is_word_kind number.kind ≡ b → kept_number number.text ≡ o →
-    ReadsName kind (word ∷ number ∷ rest) (fitting 2 (option_map Number (if b then o else None)))
-number_reads kind word number rest true (Some n) no_quotes is digits found = named rest (apart kind word number n no_quotes is digits found)
-number_reads kind word number rest true None no_quotes is digits found = unnamed
-number_reads kind word number rest false o no_quotes is digits found = unnamed
+number_reads : (kind : List ℕ) (word number : Token) (rest : List Token) (o : Option ℕ) → is_quoted_kind word.kind ≡ false → is_word kind word ≡ true → number_word number ≡ o →
+    ReadsName kind (word ∷ number ∷ rest) (fitting 2 (option_map Number o))
+number_reads kind word number rest (Some n) no_quotes is found = named rest (apart kind word number n no_quotes is found)
+number_reads kind word number rest None no_quotes is found = unnamed
 
 behind_reads : (kind : List ℕ) (word : Token) (rest : List Token) → is_quoted_kind word.kind ≡ false → is_word kind word ≡ true → ReadsName kind (word ∷ rest) (fitting 2 (option_map Number (number_behind rest)))
 behind_reads kind word [] no_quotes is = unnamed
-behind_reads kind word (number ∷ rest) no_quotes is = number_reads kind word number rest (is_word_kind number.kind) (kept_number number.text) no_quotes is refl refl
+behind_reads kind word (number ∷ rest) no_quotes is = number_reads kind word number rest (number_word number) no_quotes is refl
 
-within_reads : (kind : List ℕ) (word : Token) (rest : List Token) (b : Bool) → is_quoted_kind word.kind ≡ false → is_word kind word ≡ false → is_numbered kind word ≡ b →
-    ReadsName kind (word ∷ rest) (fitting 1 (option_map Number (if b then Some (kept_from 0 (drop (length kind) word.text)) else None)))
-within_reads kind word rest true no_quotes no_word numbered = named rest (together kind word no_quotes no_word numbered)
-within_reads kind word rest false no_quotes no_word numbered = unnamed
+within_reads : (kind : List ℕ) (word : Token) (rest : List Token) (b : Bool) (o : Option ℕ) → is_quoted_kind word.kind ≡ false → is_word kind word ≡ false → is_numbered kind word ≡ b →
+    kept_number (drop (length kind) word.text) ≡ o → ReadsName kind (word ∷ rest) (fitting 1 (option_map Number (if b then o else None)))
+within_reads kind word rest true (Some n) no_quotes no_word numbered found = named rest (together kind word n no_quotes no_word numbered found)
+within_reads kind word rest true None no_quotes no_word numbered found = unnamed
+within_reads kind word rest false o no_quotes no_word numbered found = unnamed
 
 name_reads : (kind : List ℕ) (tokens : List Token) → ReadsName kind tokens (name_at kind tokens)
 name_reads kind [] = unnamed
@@ -207,7 +209,7 @@ name_reads kind (first ∷ rest) =
     let R : Read RawName → Type 0 = λ found. ReadsName kind (first ∷ rest) found in
     choose R (is_quoted_kind first.kind) _ _ (λ is. named rest (quoted kind first is))
     (λ no_quotes. choose R (is_word kind first) _ _ (λ is. behind_reads kind first rest no_quotes is)
-    (λ no_word. within_reads kind first rest (is_numbered kind first) no_quotes no_word refl))
+    (λ no_word. within_reads kind first rest (is_numbered kind first) (kept_number (drop (length kind) first.text)) no_quotes no_word refl refl))
 
 opened_reads : (place : Where) (kind : BlockKind) (first : Token) (tokens : List Token) (found : Read RawName) → MayOpen place → Reads place first tokens (Misfit first.line (misfit_reason place (first ∷ tokens))) → heading_kind first ≡ Some kind →
     ReadsName (kind_word kind) tokens found → Reads place first tokens (opened (misfit_reason place (first ∷ tokens)) kind first tokens found)
@@ -317,13 +319,13 @@ inside_line kind [] first no_end = refl
 inside_line kind (level ∷ levels) first no_end = if_false (is_word (codes "END_STRUCT") first) _ _ no_end
 
 undeclared : (kind : BlockKind) (levels : List Level) (first : Token) (rest : List Token) (found : Read Written) → ends_level kind levels first ≡ false → declaration_at (is_data kind) (left_of levels) first rest ≡ found →
-    Reads (Inside kind levels) first rest (Misfit first.line (declaration_reason kind (first ∷ rest) found))
+    Reads (Inside kind levels) first rest (Misfit first.line (declaration_reason (first ∷ rest) found))
 undeclared kind levels first rest found no_end is =
     let R : Line → Reason → Type 0 = λ line reason. Reads (Inside kind levels) first rest (Misfit line reason) in
     let place = Inside kind levels in
-    let reason : misfit_reason place (first ∷ rest) ≡ declaration_reason kind (first ∷ rest) found =
-    if_false (ends_level kind levels first) _ _ no_end ∙ ap (λ (r : Read Written). declaration_reason kind (first ∷ rest) r) is in
-    subst (λ (l : Line). R l (declaration_reason kind (first ∷ rest) found)) (inside_line kind levels first no_end)
+    let reason : misfit_reason place (first ∷ rest) ≡ declaration_reason (first ∷ rest) found =
+    if_false (ends_level kind levels first) _ _ no_end ∙ ap (λ (r : Read Written). declaration_reason (first ∷ rest) r) is in
+    subst (λ (l : Line). R l (declaration_reason (first ∷ rest) found)) (inside_line kind levels first no_end)
     (subst (λ (r : Reason). R (misfit_line place first) r) reason (misses place first rest refl))
 
 declaration_reads : (kind : BlockKind) (levels : List Level) (first : Token) (rest : List Token) (found : Read Written) → ends_level kind levels first ≡ false → declaration_at (is_data kind) (left_of levels) first rest ≡ found →

@@ -315,9 +315,13 @@ two_kinds :
 unfolding raw_text raw_program item_at is_not_built instruction_of tokens_of mnemonic_at
 two_kinds = refl
 
-data_block_of_no_number : raw_text (codes "DATA_BLOCK FB 5") ≡ refused 1 BadStatement
+data_block_of_no_number : raw_text (codes "DATA_BLOCK FB 5") ≡ refused 1 (Unsupported NotBuilt)
 unfolding raw_text raw_program item_at is_not_built instruction_of tokens_of mnemonic_at
 data_block_of_no_number = refl
+
+data_block_is_cut_off : raw_text (codes "DATA_BLOCK\nDB") ≡ refused 1 BadStatement
+unfolding raw_text raw_program item_at is_not_built instruction_of tokens_of mnemonic_at
+data_block_is_cut_off = refl
 
 begin_without_a_struct : raw_text (codes "DATA_BLOCK DB 5\nBEGIN") ≡ refused 2 BadStatement
 unfolding raw_text raw_program item_at is_not_built instruction_of tokens_of mnemonic_at
@@ -395,7 +399,7 @@ real_value_of_a_struct : raw_text (with_data (codes "a : STRUCT\nEND_STRUCT := 4
 unfolding raw_text raw_program item_at is_not_built instruction_of tokens_of mnemonic_at
 real_value_of_a_struct = refl
 
-statement_in_a_data_block : raw_text (with_data (codes "A I 0.0;") []) ≡ refused 3 BadStatement
+statement_in_a_data_block : raw_text (with_data (codes "A I 0.0;") []) ≡ refused 3 (Unsupported NotBuilt)
 unfolding raw_text raw_program item_at is_not_built instruction_of tokens_of mnemonic_at
 statement_in_a_data_block = refl
 

@@ -1,18 +1,18 @@
 -- Declarations: a name, a type, and what ends them.
-use Rattle.std.specs.Prelude.{ℕ, zero, suc, ◌+◌, ◌-◌, ℤ, pos, neg_ℤ, Bool, true, false, ◌&&◌, ◌||◌, nat_lt, if◌then◌else◌, List, [], ◌∷◌, length, drop, codes, Option, Some, None, option_map}
+use Rattle.std.specs.Prelude.{ℕ, zero, suc, ◌+◌, ◌-◌, ℤ, Bool, false, ◌&&◌, ◌||◌, nat_lt, if◌then◌else◌, List, [], ◌∷◌, length, drop, codes, Option, Some, None}
 use Rattle.s7_base.specs.declared.reason.Kind.{Kind}
 use Rattle.s7_base.specs.declared.reason.Kind.TheVariants as kind
 use Rattle.s7_base.specs.declared.reason.Line.{Line}
 use Rattle.s7_base.specs.declared.token.Token.{Token}
 use Rattle.stl_grammar.specs.Elements.{begins_with_word, elements_from}
-use Rattle.stl_grammar.specs.Headings.{kept_number}
 use Rattle.stl_grammar.specs.Initials.{ending_at}
 use Rattle.stl_grammar.specs.declared.declaration.Innermost.{Innermost}
 use Rattle.stl_grammar.specs.declared.declaration.Innermost.TheVariants as inner
 use Rattle.stl_grammar.specs.declared.declaration.Level.{Level}
 use Rattle.stl_grammar.specs.declared.declaration.Written.{Written}
 use Rattle.stl_statements.specs.Numbers.{are_digits}
-use Rattle.stl_statements.specs.Readers.{fitting, further, read_as}
+use Rattle.stl_statements.specs.Paths.{whole_at}
+use Rattle.stl_statements.specs.Readers.{further, read_as}
 use Rattle.stl_statements.specs.Statements.{is_numbered}
 use Rattle.stl_statements.specs.Words.{is_word, is_sign, is_word_kind, is_word_among}
 use Rattle.stl_statements.specs.declared.mnemonic.Read.{Read}
@@ -24,21 +24,6 @@ use Rattle.stl_tree.specs.declared.raw.ElemType.TheVariants as elem
 use Rattle.stl_tree.specs.declared.raw.InitialItem.{InitialItem}
 
 -- Bounds
-
--- a number of any size
-abbrev pub kept_in : Token → Option ℕ
-kept_in token = if is_word_kind token.kind then kept_number token.text else None
-
--- a number behind a minus, with no blank before it
-abbrev pub minus_at : List Token → Read ℤ
-minus_at [] = No
-minus_at (number ∷ rest) =
-    fitting 2 (if number.glued then option_map (λ n. neg_ℤ (pos n)) (kept_in number) else None)
-
--- a whole number
-abbrev pub whole_at : List Token → Read ℤ
-whole_at [] = No
-whole_at (first ∷ rest) = if is_sign (codes "-") first then minus_at rest else fitting 1 (option_map pos (kept_in first))
 
 -- the upper bound behind the lower one, which takes so many tokens
 abbrev pub upper_at : ℤ → ℕ → List Token → Read (ℤ × ℤ)

@@ -12,10 +12,12 @@ use Rattle.stl_grammar.specs.Initials.{ending_at, path_value_at}
 use Rattle.stl_grammar.specs.declared.declaration.Level.{Level}
 use Rattle.stl_grammar.specs.declared.declaration.Written.{Written}
 use Rattle.stl_statements.specs.declared.mnemonic.Read.TheVariants as read
-use Rattle.stl_grammar.specs.Headings.{heading_kind, is_behind, is_skipped, kept_from, kept_number, kind_word, size_on}
+use Rattle.stl_grammar.specs.Headings.{heading_kind, is_behind, is_skipped, kind_word, size_on}
+use Rattle.stl_statements.specs.Numbers.{kept_number}
+use Rattle.stl_statements.specs.Paths.{number_word}
 use Rattle.stl_grammar.specs.Symbols.{ends_table, is_next, symbol_line}
 use Rattle.stl_statements.specs.Statements.{instruction_of, is_numbered}
-use Rattle.stl_statements.specs.Words.{is_word, is_quoted_kind, is_word_kind}
+use Rattle.stl_statements.specs.Words.{is_word, is_quoted_kind}
 use Rattle.stl_grammar.specs.declared.item.Found.{Found}
 use Rattle.stl_grammar.specs.declared.item.Found.TheVariants.{Fits, Misfit, Ended}
 use Rattle.stl_grammar.specs.declared.item.Item.{Item}
@@ -47,11 +49,11 @@ last_line line (first ∷ rest) = last_line first.line rest
 pub data IsName : List ℕ → List Token → RawName → Type 0 where
   quoted : (kind : List ℕ) (word : Token) → is_quoted_kind word.kind ≡ true → IsName kind (word ∷ []) (Name word.text)
   apart : (kind : List ℕ) (word number : Token) (n : ℕ) →
-      is_quoted_kind word.kind ≡ false → is_word kind word ≡ true → is_word_kind number.kind ≡ true → kept_number number.text ≡ Some n
+      is_quoted_kind word.kind ≡ false → is_word kind word ≡ true → number_word number ≡ Some n
       → IsName kind (word ∷ number ∷ []) (Number n)
-  together : (kind : List ℕ) (word : Token) →
+  together : (kind : List ℕ) (word : Token) (n : ℕ) →
       is_quoted_kind word.kind ≡ false → is_word kind word ≡ false → is_numbered kind word ≡ true
-      → IsName kind (word ∷ []) (Number (kept_from 0 (drop (length kind) word.text)))
+      → kept_number (drop (length kind) word.text) ≡ Some n → IsName kind (word ∷ []) (Number n)
 
 -- the tokens from a place on begin with an item, which takes so many tokens behind its first; where the
 -- next item stands

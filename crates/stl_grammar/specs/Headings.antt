@@ -1,12 +1,12 @@
 -- Headings: the name of a block, the lines behind it that are skipped, and headings that the end of the text
 -- cuts off.
-use Rattle.std.specs.Prelude.{ℕ, ◌+◌, ◌*◌, ◌-◌, ◌^◌, min, Bool, true, false, ◌==◌, ◌&&◌, ◌||◌, nat_lt, if◌then◌else◌, List, [], ◌∷◌, length, take, drop, codes, Option, Some, None, option_map}
+use Rattle.std.specs.Prelude.{ℕ, ◌-◌, Bool, true, false, ◌==◌, ◌&&◌, ◌||◌, nat_lt, if◌then◌else◌, List, [], ◌∷◌, length, drop, codes, Option, Some, None, option_map}
 use Rattle.std.specs.List.{prefix_len}
-use Rattle.s7_base.specs.Tokens.{is_same_word}
 use Rattle.s7_base.specs.declared.reason.Line.{Line}
 use Rattle.s7_base.specs.declared.reason.Reason.{Reason}
 use Rattle.s7_base.specs.declared.token.Token.{Token}
-use Rattle.stl_statements.specs.Numbers.{are_digits}
+use Rattle.stl_statements.specs.Numbers.{are_digits, kept_number}
+use Rattle.stl_statements.specs.Paths.{number_word}
 use Rattle.stl_statements.specs.Readers.{fitting}
 use Rattle.stl_statements.specs.Statements.{is_numbered}
 use Rattle.stl_statements.specs.Words.{is_word, is_sign, is_word_kind, is_quoted_kind, is_word_among}
@@ -21,27 +21,16 @@ use Rattle.stl_tree.specs.declared.raw.BlockKind.TheVariants as block
 use Rattle.stl_tree.specs.declared.raw.RawName.{RawName}
 use Rattle.stl_tree.specs.declared.raw.RawName.TheVariants.{Number, Name}
 
--- Numbers
-
--- the number that digits stand for behind those of `value`; one past the greatest of 32 bits is kept as that one
-abbrev pub kept_from : ℕ → List ℕ → ℕ
-kept_from value [] = value
-kept_from value (digit ∷ rest) = kept_from (min (value * 10 + (digit - 48)) (2 ^ 32 - 1)) rest
-
--- a number of any size, so kept
-abbrev pub kept_number : List ℕ → Option ℕ
-kept_number digits = if are_digits digits then Some (kept_from 0 digits) else None
-
 -- Names of blocks
 
--- the number in a word behind the word of a kind
+-- the number behind the word of a kind
 abbrev pub number_behind : List Token → Option ℕ
 number_behind [] = None
-number_behind (number ∷ rest) = if is_word_kind number.kind then kept_number number.text else None
+number_behind (number ∷ rest) = number_word number
 
 -- the number in a word that begins with the word of a kind
 abbrev pub number_within : List ℕ → Token → Option ℕ
-number_within kind word = if is_numbered kind word then Some (kept_from 0 (drop (length kind) word.text)) else None
+number_within kind word = if is_numbered kind word then kept_number (drop (length kind) word.text) else None
 
 -- a block by its number: `OB 1` or `OB1`
 abbrev pub number_named : List ℕ → Token → List Token → Read RawName

@@ -99,10 +99,14 @@ once value = times 1 (value ∷ [])
 abbrev pub count_of : Token → Option ℕ
 count_of word = option_and_then (λ n. if nat_lt 0 n then Some n else None) (number_in 65535 word)
 
+-- values and the bracket behind them
+abbrev pub values_at : List Token → Read (List Constant)
+values_at tokens = elements_from value_at (codes ")") 0 tokens
+
 -- values behind their number and their bracket
 abbrev pub group_behind : Option ℕ → List Token → Read InitialItem
 group_behind None tokens = No
-group_behind (Some count) tokens = read_as (times count) (elements_from value_at (codes ")") 0 tokens)
+group_behind (Some count) tokens = read_as (times count) (values_at tokens)
 
 -- a value, or values in brackets: `2 (7, 8)`
 abbrev pub item_of_list : List Token → Read InitialItem
@@ -111,6 +115,10 @@ item_of_list (first ∷ rest) =
     if begins_with_sign (codes "(") rest
     then further 2 (group_behind (count_of first) (drop 1 rest))
     else read_as once (value_at (first ∷ rest))
+
+-- a list and `;`
+abbrev pub list_at : List Token → Read (List InitialItem)
+list_at tokens = elements_from item_of_list (codes ";") 0 tokens
 
 -- Ends of declarations
 
@@ -129,7 +137,7 @@ alone value = once value ∷ []
 -- the initial value of a declaration and `;`: a list where it has an array round it
 abbrev pub initial_at : Bool → List Token → Read (List InitialItem)
 initial_at in_array tokens =
-    if in_array then elements_from item_of_list (codes ";") 0 tokens else read_as alone (last_value tokens)
+    if in_array then list_at tokens else read_as alone (last_value tokens)
 
 -- what ends a declaration: `;`, and where it may have an initial value, `:=` and that before it
 abbrev pub ending_at : Bool → Bool → List Token → Read (List InitialItem)

@@ -25,7 +25,7 @@ use Rattle.stl_grammar.specs.Symbols.{ends_table, symbol_behind}
 use Rattle.stl_grammar.specs.declared.item.Found.{Found}
 use Rattle.stl_grammar.specs.declared.item.Found.TheVariants.{Fits, Misfit, Ended}
 use Rattle.stl_grammar.specs.declared.item.Item.{Item}
-use Rattle.stl_grammar.specs.declared.item.Item.TheVariants.{Opens, Mark, Symbol, Declares, Closes, Instr, Initial, Ends}
+use Rattle.stl_grammar.specs.declared.item.Item.TheVariants.{Mark, Symbol, Declares, Closes, Instr, Initial, Ends}
 use Rattle.stl_grammar.specs.declared.item.Where.{Where}
 use Rattle.stl_grammar.specs.declared.item.Where.TheVariants.{Start, Table, Between, Heading, Inside, Behind, Body, Values}
 use Rattle.stl_tree.specs.declared.raw.BlockKind.{BlockKind}
@@ -86,21 +86,11 @@ is_not_built label cut tokens =
 abbrev pub reason_with : Bool → Bool → List Token → Reason
 reason_with label cut tokens = if is_not_built label cut tokens then Unsupported NotBuilt else BadStatement
 
--- a kind of block that is built
-abbrev pub is_built : Option BlockKind → Bool
-is_built None = false
-is_built (Some kind) = true
-
--- a heading of a kind that is built stands at the front, by its first word
-abbrev pub begins_heading : List Token → Bool
-begins_heading [] = false
-begins_heading (first ∷ rest) = is_built (heading_kind first)
-
 -- the same where a heading may stand: a type of the user's own is left out
 abbrev pub heading_reason : List Token → Reason
 heading_reason tokens =
-    if begins_with_word (codes "TYPE") tokens then Unsupported UserType
-    else if begins_heading tokens then BadStatement
+    if begins_with_word (codes "TYPE") tokens
+    then Unsupported UserType
     else reason_with false (is_heading_cut_off tokens) tokens
 
 -- a function block is named at the front, whose instance a data block would be
@@ -136,10 +126,9 @@ read_reason tokens (read.LeftOut kind) = left_out_reason tokens kind
 read_reason tokens other = BadStatement
 
 -- the same where a declaration may stand
-abbrev pub declaration_reason : BlockKind → List Token → Read Written → Reason
-declaration_reason kind tokens (read.LeftOut left) = left_out_reason tokens left
-declaration_reason kind tokens other =
-    if is_data kind || begins_with_name tokens then BadStatement else reason_with false false tokens
+abbrev pub declaration_reason : List Token → Read Written → Reason
+declaration_reason tokens (read.LeftOut left) = left_out_reason tokens left
+declaration_reason tokens other = if begins_with_name tokens then BadStatement else reason_with false false tokens
 
 -- the same where the word stands that ends the innermost STRUCT or the declarations
 abbrev pub closing_reason : BlockKind → List Level → List Token → List Token → Reason
@@ -152,7 +141,7 @@ inside_reason kind levels [] = BadStatement
 inside_reason kind levels (first ∷ rest) =
     if ends_level kind levels first
     then closing_reason kind levels (first ∷ rest) rest
-    else declaration_reason kind (first ∷ rest) (declaration_at (is_data kind) (left_of levels) first rest)
+    else declaration_reason (first ∷ rest) (declaration_at (is_data kind) (left_of levels) first rest)
 
 -- the same among the initial values of a data block
 abbrev pub value_reason : List Token → Reason
@@ -251,7 +240,7 @@ declared kind levels first type size =
 -- the same, by what was read
 abbrev pub declaration_found : BlockKind → List Level → List Token → Token → Read Written → Found
 declaration_found kind levels tokens first (read.Fits type size) = declared kind levels first type size
-declaration_found kind levels tokens first other = Misfit first.line (declaration_reason kind tokens other)
+declaration_found kind levels tokens first other = Misfit first.line (declaration_reason tokens other)
 
 -- what stands among declarations
 abbrev pub inside_at : BlockKind → List Level → List Token → Token → List Token → Found

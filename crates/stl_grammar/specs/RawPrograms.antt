@@ -27,7 +27,6 @@ use Rattle.stl_tree.specs.declared.raw.RawInitial.{RawInitial}
 use Rattle.stl_tree.specs.declared.raw.RawInstr.{RawInstr}
 use Rattle.stl_tree.specs.declared.raw.RawName.{RawName}
 use Rattle.stl_tree.specs.declared.raw.RawProgram.{RawProgram}
-use Rattle.stl_tree.specs.declared.raw.SymbolLine.{SymbolLine}
 
 -- a block of which the heading alone is known
 abbrev pub headed : Line → BlockKind → RawName → RawBlock
@@ -96,14 +95,15 @@ kind_with one (Instance name) = Instance name
 abbrev pub with_own : Declaration → RawData → RawData
 with_own one db = record db { kind = kind_with one db.kind }
 
+-- the text so far, where no STRUCT is open, with one more declaration of the data block that is open, or else of
+-- the last block
+abbrev pub with_last : Declaration → Option RawData → Reading → Reading
+with_last one (Some db) reading = record reading { last_db = Some (with_own one db); structs = [] }
+with_last one None reading = record reading { last = option_map (with_temp one) reading.last; structs = [] }
+
 -- the text so far, with one more declaration of the innermost STRUCT that is open, or of the last block
 abbrev pub with_declared : Declaration → List OpenStruct → Reading → Reading
-with_declared one [] reading =
-    record reading {
-      last_db = option_map (with_own one) reading.last_db;
-      last = option_map (with_temp one) reading.last;
-      structs = [];
-    }
+with_declared one [] reading = with_last one reading.last_db reading
 with_declared one (struct ∷ outer) reading =
     record reading { structs = record struct { members = struct.members ++ (one ∷ []) } ∷ outer }
 

@@ -1,5 +1,5 @@
 -- The symbol table: its lines, and the addresses that they give.
-use Rattle.std.specs.Prelude.{ℕ, ◌-◌, Bool, true, false, ◌==◌, ◌&&◌, ◌||◌, if◌then◌else◌, List, [], ◌∷◌, length, take, drop, reverse, codes, Option, Some, None, option_map}
+use Rattle.std.specs.Prelude.{ℕ, ◌-◌, Bool, true, ◌==◌, ◌&&◌, ◌||◌, if◌then◌else◌, List, [], ◌∷◌, length, take, drop, reverse, codes, Option, Some, None, option_map}
 use Rattle.std.specs.Char.{to_ascii_uppercase}
 use Rattle.std.specs.List.{prefix_len}
 use Rattle.memory_areas.specs.declared.place.AreaName.{AreaName}
@@ -9,11 +9,11 @@ use Rattle.s7_base.specs.declared.reason.Line.{Line}
 use Rattle.s7_base.specs.declared.token.Token.{Token}
 use Rattle.s7_base.specs.declared.word.Width.{Width}
 use Rattle.s7_base.specs.declared.word.Width.TheVariants as width
-use Rattle.stl_grammar.specs.Headings.{is_behind, is_on, kept_number, kind_word}
+use Rattle.stl_grammar.specs.Headings.{is_behind, is_on, kind_word}
+use Rattle.stl_statements.specs.Numbers.{kept_number}
 use Rattle.stl_statements.specs.Words.{is_sign, is_word, is_quoted_kind}
 use Rattle.stl_tree.specs.declared.raw.BlockKind.{BlockKind}
 use Rattle.stl_tree.specs.declared.raw.BlockKind.TheVariants as block
-use Rattle.stl_tree.specs.declared.raw.RawPlace.{RawPlace}
 use Rattle.stl_tree.specs.declared.raw.SymbolAddress.{SymbolAddress}
 use Rattle.stl_tree.specs.declared.raw.SymbolAddress.TheVariants as address
 use Rattle.stl_tree.specs.declared.raw.SymbolLine.{SymbolLine}

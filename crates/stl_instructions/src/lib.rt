@@ -4,15 +4,15 @@
 //! code has the table a second time, as data, and one look-up for all rows.
 #![tactic(auto)]
 
-pub use constant::fits;
+pub use constant::{begins_glued, constant_at, fits, fitting};
 pub use laws::{instructions_have_forms, mnemonics_are_longest};
 pub use number::{are_digits, kept_number};
 pub use operand::{is_in_area, is_numbered, logic_width, most_steps};
-pub use path::path_at;
-pub use place::place_at;
+pub use path::{number_word, path_at, whole_at};
+pub use place::{bit_at, place_at};
 pub use statement::{begins_with_label, instruction};
 pub use table::{begins_with_mnemonic, mnemonic_named};
-pub use words::{is_sign, is_word, is_word_kind};
+pub use words::{is_joined, is_quoted, is_sign, is_word, is_word_kind};
 
 mod constant;
 mod laws;

@@ -14,7 +14,7 @@ use stl_statements::Read;
 use stl_tree::{PathStep, RawOperand};
 
 /// A word that is a number of any size.
-fn number_word(token: &Token) -> Option<u32>
+pub fn number_word(token: &Token) -> Option<u32>
     ensures { result ≡ number_word token.now }
 {
     if is_word_kind(token) {
@@ -42,7 +42,7 @@ fn plain_number(token: &Token) -> Option<i64>
 }
 
 /// A whole number.
-fn whole_at(tokens: &[Token]) -> Read<i64>
+pub fn whole_at(tokens: &[Token]) -> Read<i64>
     ensures value { result ≡ whole_at tokens.now }
     ensures within { TakesSome (length tokens.now) result }
 {

@@ -269,7 +269,8 @@ fn bit_number(point: &Token, bit: &Token) -> Option<u32>
     }
 }
 
-fn bit_at(tokens: &[Token]) -> Read<u32>
+/// The same as what stands at the front.
+pub fn bit_at(tokens: &[Token]) -> Read<u32>
     ensures value { result ≡ bit_at tokens.now }
     ensures within { IsWithin 2 result }
 {

@@ -1,13 +1,12 @@
 -- How a loop over the elements of a list follows what they are read as.
-use Rattle.std.proofs.Common.{◌≡◌, ℕ, zero, suc, ◌+◌, Bool, true, false, if◌then◌else◌, List, [], ◌∷◌, ◌++◌, drop, refl, sym, ap, ◌∙◌, arith, append_assoc, append-nil}
+use Rattle.std.proofs.Common.{◌≡◌, ℕ, zero, suc, ◌+◌, Bool, true, false, if◌then◌else◌, List, [], ◌∷◌, ◌++◌, drop, refl, sym, ap, ◌∙◌, arith, append_assoc}
 use Rattle.std.specs.Prelude.{codes}
 use Rattle.s7_base.specs.declared.reason.Kind.{Kind}
 use Rattle.s7_base.specs.declared.token.Token.{Token}
-use Rattle.stl_grammar.specs.Declarations.{elements_behind, elements_from, elements_with, further, prepended}
+use Rattle.stl_grammar.specs.Elements.{elements_behind, elements_from, elements_with, prepended}
 use Rattle.stl_reader.specs.inner.Lists.{next_of, read_further}
-use Rattle.stl_reader.specs.declared.declaration.Next.{Next}
-use Rattle.stl_reader.specs.declared.declaration.Next.TheVariants.{End, More, Other}
-use Rattle.stl_statements.specs.Readers.{read_as}
+use Rattle.stl_reader.specs.declared.elements.Next.TheVariants.{End, More, Other}
+use Rattle.stl_statements.specs.Readers.{further, read_as}
 use Rattle.stl_statements.specs.Words.{is_sign}
 use Rattle.stl_statements.specs.declared.mnemonic.Read.{Read}
 use Rattle.stl_statements.specs.declared.mnemonic.Read.TheVariants.{Fits, LeftOut, No}

@@ -2,10 +2,9 @@
 use Rattle.std.proofs.Common.{◌≡◌, ℕ, zero, suc, ◌-◌, ◌<◌, Bool, true, false, if◌then◌else◌, List, drop, refl, ap, ◌∙◌, arith}
 use Rattle.std.specs.Prelude.{codes}
 use Rattle.s7_base.specs.declared.token.Token.{Token}
-use Rattle.stl_grammar.specs.Declarations.{alone, array_at, array_with, begins_with_word, one_word_at, opening_type, type_at}
+use Rattle.stl_grammar.specs.Declarations.{alone, array_at, array_with, one_word_at, opening_type, type_at}
+use Rattle.stl_grammar.specs.Elements.{begins_with_word}
 use Rattle.stl_grammar.specs.declared.declaration.Innermost.TheVariants as inner
-use Rattle.stl_grammar.specs.declared.declaration.Written.{Written}
-use Rattle.stl_statements.specs.declared.mnemonic.Read.{Read}
 use Rattle.stl_statements.specs.declared.mnemonic.Read.TheVariants.{Fits}
 
 if_true : {A : Type 0} (b : Bool) (x y : A) → true ≡ b → x ≡ (if b then x else y)

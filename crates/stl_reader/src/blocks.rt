@@ -1,9 +1,9 @@
 //! The blocks of a text.
-ghost use Rattle.std.specs.Prelude.{◌≡◌, ◌++◌, length, IfOk, OnOk};
+ghost use Rattle.std.specs.Prelude.{◌≡◌, ◌++◌, length, None, IfOk, OnOk};
 ghost use Rattle.s7_base.specs.Answers.{Answers};
 ghost use Rattle.s7_base.specs.Tokens.{line_at_end};
 ghost use Rattle.stl_grammar.specs.Items.{items_from};
-ghost use Rattle.stl_grammar.specs.RawPrograms.{blocks_in, headed, nothing_read, raw_read, with_item, raw_program, raw_text};
+ghost use Rattle.stl_grammar.specs.RawPrograms.{blocks_in, data_headed, dbs_in, headed, nothing_read, opened, raw_read, with_item, raw_program, raw_text};
 ghost use Rattle.stl_grammar.specs.declared.item.Item.TheVariants as item;
 
 use crate::declared::{put_closed, put_type};
@@ -14,7 +14,10 @@ use std::collections::LinkedList;
 use std::mem::replace;
 use stl_grammar::{Found, Item, Reading, Where};
 use stl_lexer::tokens;
-use stl_tree::{BlockKind, RawBlock, RawInstr, RawName, RawProgram, SymbolLine};
+use stl_tree::{
+    BlockKind, RawBlock, RawData, RawDataKind, RawInitial, RawInstr, RawName, RawProgram,
+    SymbolLine,
+};
 
 /// A block of which the heading alone is known.
 fn headed(alloc: Global, line: Line, kind: BlockKind, name: RawName) -> RawBlock
@@ -35,15 +38,52 @@ fn headed(alloc: Global, line: Line, kind: BlockKind, name: RawName) -> RawBlock
     }
 }
 
-/// One more block.
-fn put_block(reading: &mut Reading, block: RawBlock) -> Result<(), NoMemory>
+/// A data block of which the heading alone is known.
+fn data_headed(alloc: Global, line: Line, name: RawName) -> RawData
+    ensures { result ≡ data_headed line name }
+{
+    RawData {
+        name,
+        line,
+        kind: RawDataKind::Own(List::new(alloc)),
+        initial: List::new(alloc),
+    }
+}
+
+/// The last block of either kind is done.
+fn finish_last(reading: &mut Reading) -> Result<(), NoMemory>
     ensures done { OnOk result (reading.new.done ≡ blocks_in reading.old) }
-    ensures last { OnOk result (reading.new.last ≡ Some block) }
+    ensures dbs { OnOk result (reading.new.dbs ≡ dbs_in reading.old) }
+    ensures last { OnOk result (reading.new.last ≡ None) }
+    ensures last_db { OnOk result (reading.new.last_db ≡ None) }
     ensures symbols { reading.new.symbols ≡ reading.old.symbols }
     ensures structs { reading.new.structs ≡ reading.old.structs }
 {
-    if let Some(before) = replace(&mut reading.last, Some(block)) {
-        reading.done.push(before)?;
+    if let Some(block) = replace(&mut reading.last, None) {
+        reading.done.push(block)?;
+    }
+    if let Some(db) = replace(&mut reading.last_db, None) {
+        reading.dbs.push(db)?;
+    }
+    Ok(())
+}
+
+/// The heading of one more block.
+fn put_opened(
+    alloc: Global,
+    reading: &mut Reading,
+    line: Line,
+    kind: BlockKind,
+    name: RawName,
+) -> Result<(), NoMemory>
+    ensures { OnOk result (reading.new ≡ opened line kind name reading.old) }
+{
+    finish_last(reading)?;
+    match kind {
+        BlockKind::Db => reading.last_db = Some(data_headed(alloc, line, name)),
+        BlockKind::Ob | BlockKind::Fc | BlockKind::Fb => {
+            reading.last = Some(headed(alloc, line, kind, name));
+        }
     }
     Ok(())
 }
@@ -65,6 +105,16 @@ fn put_instr(reading: &mut Reading, instr: RawInstr) -> Result<(), NoMemory>
     }
 }
 
+/// One more initial value of the last data block.
+fn put_initial(reading: &mut Reading, value: RawInitial) -> Result<(), NoMemory>
+    ensures { OnOk result (reading.new ≡ with_item reading.old (item.Initial value)) }
+{
+    match &mut reading.last_db {
+        Some(db) => db.initial.push(value),
+        None => Ok(()),
+    }
+}
+
 /// The end word of the last block.
 fn put_end(reading: &mut Reading, line: Line)
     ensures { reading.new ≡ with_item reading.old (item.Ends line) }
@@ -79,11 +129,12 @@ fn put_item(alloc: Global, reading: &mut Reading, item: Item) -> Result<(), NoMe
     ensures { OnOk result (reading.new ≡ with_item reading.old item) }
 {
     match item {
-        Item::Opens(line, kind, name) => put_block(reading, headed(alloc, line, kind, name)),
+        Item::Opens(line, kind, name) => put_opened(alloc, reading, line, kind, name),
         Item::Symbol(line) => put_symbol(reading, line),
         Item::Declares(name, line, written) => put_type(alloc, reading, name, line, written),
-        Item::Closes => put_closed(alloc, reading),
+        Item::Closes(items) => put_closed(alloc, reading, items),
         Item::Instr(instr) => put_instr(reading, instr),
+        Item::Initial(value) => put_initial(reading, value),
         Item::Ends(line) => {
             put_end(reading, line);
             Ok(())
@@ -93,23 +144,21 @@ fn put_item(alloc: Global, reading: &mut Reading, item: Item) -> Result<(), NoMe
 }
 
 /// The raw program of a text that is read.
-fn finish(alloc: Global, reading: Reading) -> Result<RawProgram, NoMemory>
+fn finish(reading: Reading) -> Result<RawProgram, NoMemory>
     ensures { IfOk result (λ raw. raw ≡ raw_read reading) }
 {
+    let mut reading = reading;
+    finish_last(&mut reading)?;
     let Reading {
         symbols,
+        dbs,
         done,
-        last,
         ..
     } = reading;
-    let mut blocks = done;
-    if let Some(block) = last {
-        blocks.push(block)?;
-    }
     Ok(RawProgram {
         symbols,
-        dbs: List::new(alloc),
-        blocks,
+        dbs,
+        blocks: done,
     })
 }
 
@@ -120,6 +169,8 @@ fn read_tokens(alloc: Global, tokens: &[Token], end: Line) -> Result<RawProgram,
 {
     let mut reading = Reading {
         symbols: List::new(alloc),
+        dbs: List::new(alloc),
+        last_db: None,
         done: List::new(alloc),
         last: None,
         structs: LinkedList::new(alloc),
@@ -134,7 +185,7 @@ fn read_tokens(alloc: Global, tokens: &[Token], end: Line) -> Result<RawProgram,
                 rest = rest_after(rest_after(rest, 1), size);
             }
             Found::Misfit(line, reason) => return Err(Rejection::Refused(line, reason)),
-            Found::Ended => return Ok(finish(alloc, reading)?),
+            Found::Ended => return Ok(finish(reading)?),
         }
     }
 }

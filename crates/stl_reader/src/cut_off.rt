@@ -1,10 +1,9 @@
 //! Headings that the end of the text cuts off.
 ghost use Rattle.std.specs.Prelude.{◌≡◌};
 ghost use Rattle.stl_grammar.specs.Headings.{ends_in_name, ends_before_type, ends_behind_number, ends_behind_name, ends_heading, ends_function, ends_other, is_heading_cut_off};
-ghost use Rattle.stl_statements.specs.Words.{is_quoted_kind};
 
-use s7_base::{Token, TokenKind};
-use stl_instructions::{are_digits, is_numbered, is_sign, is_word, is_word_kind};
+use s7_base::Token;
+use stl_instructions::{are_digits, is_numbered, is_quoted, is_sign, is_word, is_word_kind};
 
 /// The text ends before the name of a block of this kind, or behind the word of its kind.
 fn ends_in_name(kind: &str, tokens: &[Token]) -> bool
@@ -37,12 +36,6 @@ fn ends_behind_number(tokens: &[Token]) -> bool
         }
         [] => false,
     }
-}
-
-pub fn is_quoted(token: &Token) -> bool
-    ensures { result ≡ is_quoted_kind token.now.kind }
-{
-    matches!(token.kind, TokenKind::Quoted)
 }
 
 /// A block's name stands here, and the text ends before the type.

@@ -1,71 +1,19 @@
 //! Declarations.
-ghost use Rattle.std.specs.Prelude.{◌≡◌, ◌+◌, ◌++◌, option_map, pos, IfOk, OnOk};
-ghost use Rattle.stl_grammar.specs.Declarations.{alone, array_at, array_with, before_of, begins_with_number, begins_with_sign, begins_with_word, bounds_at, closed_behind, closed_by, declaration_at, depth_of, dims_at, ends_level, further, is_user_type, kept_in, left_of, left_out_type, levels_behind, minus_at, one_word, one_word_at, opening_type, pointer_types, small_or_other, small_type, time_types, type_at, type_kind, upper_at, whole_at, wide_or_left_out, wide_type, with_array};
-ghost use Rattle.stl_statements.specs.Readers.{read_as};
-ghost use Rattle.stl_reader.specs.inner.Lists.{next_of};
+ghost use Rattle.std.specs.Prelude.{◌≡◌, ◌+◌, ◌++◌, length, IfOk, OnOk};
+ghost use Rattle.stl_grammar.specs.Declarations.{alone, array_at, array_with, before_of, begins_with_number, bounds_at, closed_behind, closed_by, declaration_at, depth_of, dims_at, end_of_declarations, ends_level, has_number, in_array, is_user_type, left_of, left_out_type, levels_behind, one_word, one_word_at, opening_type, pointer_types, small_or_other, small_type, time_types, type_at, type_kind, upper_at, wide_or_left_out, wide_type, with_array, with_initial};
+ghost use Rattle.stl_grammar.specs.Initials.{ending_at};
+ghost use Rattle.stl_statements.specs.Readers.{further, read_as};
 
-use crate::heading::{fitting, kept_number};
+use crate::elements::{Next, begins_with_word, further, next_of, one_more};
+use crate::initial::ending_at;
 use crate::words::{is_pointer_type, is_time_type};
 use s7_base::{Kind, Line, List, NoMemory, Token, rest_after};
 use std::alloc::Global;
 use std::collections::LinkedList;
 use stl_grammar::{Innermost, Level, Written};
-use stl_instructions::{are_digits, is_numbered, is_sign, is_word, is_word_kind};
+use stl_instructions::{are_digits, is_numbered, is_sign, is_word, is_word_kind, whole_at};
 use stl_statements::Read;
-use stl_tree::ElemType;
-
-/// One more than so many behind so many.
-fn one_more(before: usize, size: usize) -> Result<usize, NoMemory>
-    ensures { IfOk result (λ sum. sum ≡ before + (size + 1)) }
-{
-    let more = size.checked_add(1).ok_or(NoMemory)?;
-    before.checked_add(more).ok_or(NoMemory)
-}
-
-/// What was read behind so many tokens, with these.
-fn further<T: Drop>(before: usize, read: Read<T>) -> Result<Read<T>, NoMemory>
-    ensures { IfOk result (λ found. found ≡ further before read) }
-{
-    match read {
-        Read::Fits(found, size) => {
-            let size = before.checked_add(size).ok_or(NoMemory)?;
-            Ok(Read::Fits(found, size))
-        }
-        Read::LeftOut(kind) => Ok(Read::LeftOut(kind)),
-        Read::No => Ok(Read::No),
-    }
-}
-
-fn kept_in(token: &Token) -> Option<u32>
-    ensures { result ≡ kept_in token.now }
-{
-    if is_word_kind(token) {
-        kept_number(token.text.as_slice())
-    } else {
-        None
-    }
-}
-
-/// A number behind a minus, with no blank before it.
-fn minus_at(tokens: &[Token]) -> Read<i64>
-    ensures { result ≡ minus_at tokens.now }
-{
-    match tokens {
-        [number, ..] if number.glued => fitting(2, kept_in(number).map(|n| -i64::from(n))),
-        _ => Read::No,
-    }
-}
-
-/// A whole number.
-fn whole_at(tokens: &[Token]) -> Read<i64>
-    ensures { result ≡ whole_at tokens.now }
-{
-    match tokens {
-        [sign, rest @ ..] if is_sign(sign, "-") => minus_at(rest),
-        [first, ..] => fitting(1, kept_in(first).map(|n| i64::from(n))),
-        [] => Read::No,
-    }
-}
+use stl_tree::{BlockKind, ElemType, InitialItem};
 
 fn with_lower(low: i64, high: Read<i64>) -> Read<(i64, i64)>
     ensures { result ≡ read_as (λ high. (low, high)) high }
@@ -100,28 +48,6 @@ fn bounds_at(tokens: &[Token]) -> Result<Read<(i64, i64)>, NoMemory>
     }
 }
 
-/// What stands behind an element of a list.
-#[derive(Clone, Copy)]
-enum Next {
-    /// The end of the list.
-    End,
-
-    /// A comma, and another element.
-    More,
-
-    Other,
-}
-
-fn next_of(close: &str, tokens: &[Token]) -> Next
-    ensures { result ≡ next_of close.now tokens.now }
-{
-    match tokens {
-        [sign, ..] if is_sign(sign, close) => Next::End,
-        [sign, ..] if is_sign(sign, ",") => Next::More,
-        _ => Next::Other,
-    }
-}
-
 /// The dimensions of an array, and their bracket.
 fn dims_at(alloc: Global, tokens: &[Token]) -> Result<Read<List<(i64, i64)>>, NoMemory>
     ensures { IfOk result (λ found. found ≡ dims_at tokens.now) }
@@ -145,15 +71,6 @@ fn dims_at(alloc: Global, tokens: &[Token]) -> Result<Read<List<(i64, i64)>>, No
         }
     }
     Ok(Read::No)
-}
-
-pub fn begins_with_word(word: &str, tokens: &[Token]) -> bool
-    ensures { result ≡ begins_with_word word.now tokens.now }
-{
-    match tokens {
-        [first, ..] => is_word(first, word),
-        [] => false,
-    }
 }
 
 /// The dimensions of an array and `OF`.
@@ -229,11 +146,18 @@ fn begins_with_number(tokens: &[Token]) -> bool
     }
 }
 
+/// A word with a number, `UDT 5` or `UDT5`.
+pub fn has_number(word: &str, first: &Token, rest: &[Token]) -> bool
+    ensures { result ≡ has_number word.now first.now rest.now }
+{
+    (is_word(first, word) && begins_with_number(rest)) || is_numbered(first, word)
+}
+
 /// A type of the user's own, by its number.
-fn is_user_type(first: &Token, rest: &[Token]) -> bool
+pub fn is_user_type(first: &Token, rest: &[Token]) -> bool
     ensures { result ≡ is_user_type first.now rest.now }
 {
-    (is_word(first, "UDT") && begins_with_number(rest)) || is_numbered(first, "UDT")
+    has_number("UDT", first, rest)
 }
 
 /// The kind of a type that is left out.
@@ -262,6 +186,7 @@ fn alone(alloc: Global, innermost: Innermost) -> Written
     Written {
         arrays: LinkedList::new(alloc),
         innermost,
+        initial: List::new(alloc),
     }
 }
 
@@ -303,12 +228,9 @@ fn with_array(dims: List<(i64, i64)>, read: Read<Written>) -> Result<Read<Writte
 {
     match read {
         Read::Fits(written, size) => {
-            let Written {
-                mut arrays,
-                innermost,
-            } = written;
-            arrays.push_front(dims)?;
-            Ok(Read::Fits(Written { arrays, innermost }, size))
+            let mut written = written;
+            written.arrays.push_front(dims)?;
+            Ok(Read::Fits(written, size))
         }
         Read::LeftOut(kind) => Ok(Read::LeftOut(kind)),
         Read::No => Ok(Read::No),
@@ -350,53 +272,87 @@ fn type_at(alloc: Global, left: usize, tokens: &[Token]) -> Result<Read<Written>
     }
 }
 
-pub fn begins_with_sign(sign: &str, tokens: &[Token]) -> bool
-    ensures { result ≡ begins_with_sign sign.now tokens.now }
+/// A declaration with the initial values that were read.
+fn with_initial(written: Written, read: Read<List<InitialItem>>) -> Read<Written>
+    ensures { result ≡ read_as (with_initial written) read }
 {
-    match tokens {
-        [first, ..] => is_sign(first, sign),
-        [] => false,
+    match read {
+        Read::Fits(items, size) => {
+            let mut written = written;
+            written.initial = items;
+            Read::Fits(written, size)
+        }
+        Read::LeftOut(kind) => Read::LeftOut(kind),
+        Read::No => Read::No,
     }
 }
 
-/// A declaration by its type: `;` ends it, where no members follow.
-fn closed_behind(tokens: &[Token], read: Read<Written>) -> Result<Read<Written>, NoMemory>
-    ensures { IfOk result (λ found. found ≡ closed_behind tokens.now read) }
+/// A declaration by its type, and what ends it.
+fn ended(
+    alloc: Global,
+    valued: bool,
+    written: Written,
+    size: usize,
+    behind: &[Token],
+) -> Result<Read<Written>, NoMemory>
+    ensures { IfOk result (λ found. found ≡ further size (read_as (with_initial written) (ending_at valued (in_array (length written.arrays)) behind.now))) }
+{
+    let in_array = written.arrays.len() > 0;
+    let items = ending_at(alloc, valued, in_array, behind)?;
+    further(size, with_initial(written, items))
+}
+
+/// A declaration by its type: one of a STRUCT ends behind its members.
+fn closed_by(
+    alloc: Global,
+    valued: bool,
+    written: Written,
+    size: usize,
+    behind: &[Token],
+) -> Result<Read<Written>, NoMemory>
+    ensures { IfOk result (λ found. found ≡ closed_by valued written.innermost written size behind.now) }
+{
+    match written.innermost {
+        Innermost::Struct => Ok(Read::Fits(written, size)),
+        Innermost::DateAndTime if valued => Ok(Read::LeftOut(Kind::DateTime)),
+        Innermost::Elementary(_) | Innermost::DateAndTime => {
+            ended(alloc, valued, written, size, behind)
+        }
+    }
+}
+
+fn closed_behind(
+    alloc: Global,
+    valued: bool,
+    tokens: &[Token],
+    read: Read<Written>,
+) -> Result<Read<Written>, NoMemory>
+    ensures { IfOk result (λ found. found ≡ closed_behind valued tokens.now read) }
 {
     match read {
-        Read::Fits(written, size) => closed_by(written, size, rest_after(tokens, size)),
+        Read::Fits(written, size) => {
+            closed_by(alloc, valued, written, size, rest_after(tokens, size))
+        }
         Read::LeftOut(kind) => Ok(Read::LeftOut(kind)),
         Read::No => Ok(Read::No),
     }
 }
 
-fn closed_by(written: Written, size: usize, behind: &[Token]) -> Result<Read<Written>, NoMemory>
-    ensures { IfOk result (λ found. found ≡ closed_by written.innermost written size behind.now) }
-{
-    match written.innermost {
-        Innermost::Struct => Ok(Read::Fits(written, size)),
-        Innermost::Elementary(_) | Innermost::DateAndTime => {
-            if !begins_with_sign(";", behind) {
-                return Ok(Read::No);
-            }
-            let size = size.checked_add(1).ok_or(NoMemory)?;
-            Ok(Read::Fits(written, size))
-        }
-    }
-}
-
-/// What stands where a declaration may stand that opens so many levels at most, behind its name.
+/// What stands where a declaration may stand that opens so many levels at most, behind its name; it may have
+/// an initial value where it is `valued`.
 pub fn declaration_at(
     alloc: Global,
+    valued: bool,
     left: usize,
     name: &Token,
     tokens: &[Token],
 ) -> Result<Read<Written>, NoMemory>
-    ensures { IfOk result (λ found. found ≡ declaration_at left name.now tokens.now) }
+    ensures { IfOk result (λ found. found ≡ declaration_at valued left name.now tokens.now) }
 {
     match tokens {
         [colon, rest @ ..] if is_word_kind(name) && is_sign(colon, ":") => {
-            further(1, closed_behind(rest, type_at(alloc, left, rest)?)?)
+            let read = type_at(alloc, left, rest)?;
+            further(1, closed_behind(alloc, valued, rest, read)?)
         }
         _ => Ok(Read::No),
     }
@@ -432,19 +388,34 @@ pub fn open_level(
         Innermost::Struct => {
             let before = depth_of(levels).checked_add(arrays).ok_or(NoMemory)?;
             let depth = before.checked_add(1).ok_or(NoMemory)?;
-            levels.push_front(Level { line, depth })?;
+            let in_array = arrays > 0;
+            levels.push_front(Level {
+                line,
+                depth,
+                in_array,
+            })?;
             Ok(())
         }
         Innermost::Elementary(_) | Innermost::DateAndTime => Ok(()),
     }
 }
 
-/// The word that ends the innermost STRUCT, or the section.
-pub fn ends_level(levels: &LinkedList<Level>, first: &Token) -> bool
-    ensures { result ≡ ends_level levels.now first.now }
+/// The word that ends the declarations of a block.
+fn end_of_declarations(kind: BlockKind) -> &'static str
+    ensures { result.now ≡ end_of_declarations kind }
+{
+    match kind {
+        BlockKind::Db => "END_STRUCT",
+        BlockKind::Ob | BlockKind::Fc | BlockKind::Fb => "END_VAR",
+    }
+}
+
+/// The word that ends the innermost STRUCT, or the declarations.
+pub fn ends_level(kind: BlockKind, levels: &LinkedList<Level>, first: &Token) -> bool
+    ensures { result ≡ ends_level kind levels.now first.now }
 {
     match levels.front() {
         Some(_) => is_word(first, "END_STRUCT"),
-        None => is_word(first, "END_VAR"),
+        None => is_word(first, end_of_declarations(kind)),
     }
 }

@@ -1,12 +1,12 @@
 //! What declarations make of the program.
-ghost use Rattle.std.specs.Prelude.{◌≡◌, ◌∷◌, Some, option_map, IfOk, OnOk};
-ghost use Rattle.stl_grammar.specs.RawPrograms.{array_of, closed, declaration, with_declared, with_temp, with_type};
+ghost use Rattle.std.specs.Prelude.{◌≡◌, [], ◌∷◌, Some, option_map, IfOk, OnOk};
+ghost use Rattle.stl_grammar.specs.RawPrograms.{array_of, closed, declaration, with_declared, with_last, with_own, with_temp, with_type};
 
 use s7_base::{Boxed, Line, List, NoMemory};
 use std::alloc::Global;
 use std::collections::LinkedList;
 use stl_grammar::{Innermost, OpenStruct, Reading, Written};
-use stl_tree::{DeclType, Declaration};
+use stl_tree::{DeclType, Declaration, InitialItem, RawBlock, RawData, RawDataKind};
 
 /// A type with arrays round it, the outermost first; there are eight at most.
 fn array_of(
@@ -26,35 +26,54 @@ fn array_of(
     }
 }
 
-/// A declaration without initial values.
+/// A declaration by its arrays, what they hold, and its initial values.
 fn declaration(
     alloc: Global,
     name: List<u8>,
     line: Line,
     arrays: LinkedList<List<(i64, i64)>>,
     ty: DeclType,
+    initial: List<InitialItem>,
 ) -> Result<Declaration, NoMemory>
-    ensures { IfOk result (λ one. one ≡ declaration name line arrays ty) }
+    ensures { IfOk result (λ one. one ≡ declaration name line arrays ty initial) }
 {
     let ty = array_of(alloc, arrays, ty)?;
     Ok(Declaration {
         name,
         line,
         ty,
-        initial: List::new(alloc),
+        initial,
     })
 }
 
-/// One more temporary variable of the last block.
-fn put_temp(reading: &mut Reading, one: Declaration) -> Result<(), NoMemory>
-    ensures last { OnOk result (reading.new.last ≡ option_map (with_temp one) reading.old.last) }
-    ensures done { reading.new.done ≡ reading.old.done }
-    ensures symbols { reading.new.symbols ≡ reading.old.symbols }
-    ensures structs { reading.new.structs ≡ reading.old.structs }
+/// One more declaration of a data block.
+fn put_own(db: &mut RawData, one: Declaration) -> Result<(), NoMemory>
+    ensures { OnOk result (db.new ≡ with_own one db.old) }
 {
-    match &mut reading.last {
+    match &mut db.kind {
+        RawDataKind::Own(decls) => decls.push(one),
+        RawDataKind::Instance(_) => Ok(()),
+    }
+}
+
+/// One more temporary variable of the last block.
+fn put_temp(last: &mut Option<RawBlock>, one: Declaration) -> Result<(), NoMemory>
+    ensures { OnOk result (last.new ≡ option_map (with_temp one) last.old) }
+{
+    match last {
         Some(block) => block.temps.push(one),
         None => Ok(()),
+    }
+}
+
+/// One more declaration of the data block that is open, or of the last block.
+fn put_last(reading: &mut Reading, one: Declaration) -> Result<(), NoMemory>
+    requires { reading.now.structs ≡ [] }
+    ensures { OnOk result (reading.new ≡ with_last one reading.old.last_db reading.old) }
+{
+    match &mut reading.last_db {
+        Some(db) => put_own(db, one),
+        None => put_temp(&mut reading.last, one),
     }
 }
 
@@ -68,7 +87,7 @@ fn put_declared(reading: &mut Reading, one: Declaration) -> Result<(), NoMemory>
             reading.structs.push_front(inner)?;
             Ok(())
         }
-        None => put_temp(reading, one),
+        None => put_last(reading, one),
     }
 }
 
@@ -80,9 +99,13 @@ pub fn put_type(
     line: Line,
     written: Written,
 ) -> Result<(), NoMemory>
-    ensures { OnOk result (reading.new ≡ with_type name line written.arrays written.innermost reading.old) }
+    ensures { OnOk result (reading.new ≡ with_type name line written written.innermost reading.old) }
 {
-    let Written { arrays, innermost } = written;
+    let Written {
+        arrays,
+        innermost,
+        initial,
+    } = written;
     let ty = match innermost {
         Innermost::Struct => {
             let members = List::new(alloc);
@@ -97,18 +120,22 @@ pub fn put_type(
         Innermost::Elementary(ty) => DeclType::Elementary(ty),
         Innermost::DateAndTime => DeclType::DateAndTime,
     };
-    let one = declaration(alloc, name, line, arrays, ty)?;
+    let one = declaration(alloc, name, line, arrays, ty, initial)?;
     put_declared(reading, one)
 }
 
-/// The innermost STRUCT is at its end.
-pub fn put_closed(alloc: Global, reading: &mut Reading) -> Result<(), NoMemory>
-    ensures { OnOk result (reading.new ≡ closed reading.old.structs reading.old) }
+/// The innermost STRUCT is at its end, with its initial values.
+pub fn put_closed(
+    alloc: Global,
+    reading: &mut Reading,
+    items: List<InitialItem>,
+) -> Result<(), NoMemory>
+    ensures { OnOk result (reading.new ≡ closed items reading.old.structs reading.old) }
 {
     match reading.structs.pop_front() {
         Some(inner) => {
             let ty = DeclType::Struct(inner.members);
-            let one = declaration(alloc, inner.name, inner.line, inner.arrays, ty)?;
+            let one = declaration(alloc, inner.name, inner.line, inner.arrays, ty, items)?;
             put_declared(reading, one)
         }
         None => Ok(()),

@@ -1,63 +1,25 @@
 //! Headings of blocks, and the lines behind them that are skipped.
-ghost use Rattle.std.specs.Prelude.{◌≡◌, ◌+◌, ◌*◌, ◌-◌, ◌^◌, ◌≤◌, length, min, IfOk};
-ghost use Rattle.stl_statements.specs.Readers.{fitting};
-ghost use Rattle.stl_grammar.specs.Headings.{kept_from, kept_number, number_behind, number_within, number_named, name_at, line_of, heading_kind, kind_word, opened, opened_by, is_behind, is_on, size_on, has_colon, is_skipped};
+ghost use Rattle.std.specs.Prelude.{◌≡◌, ◌-◌, ◌≤◌, length, IfOk};
+ghost use Rattle.stl_grammar.specs.Items.{is_data};
+ghost use Rattle.stl_grammar.specs.Headings.{number_behind, number_within, number_named, name_at, line_of, heading_kind, kind_word, opened, opened_by, is_behind, is_on, size_on, has_colon, is_skipped};
 
-use crate::cut_off::is_quoted;
 use crate::words::{is_attribute, is_title};
 use s7_base::{Line, List, NoMemory, Reason, Token, rest_after};
 use std::alloc::Global;
 use stl_grammar::{Found, Item, Where};
-use stl_instructions::{are_digits, is_numbered, is_sign, is_word, is_word_kind};
+use stl_instructions::{
+    fitting, is_numbered, is_quoted, is_sign, is_word, kept_number, number_word,
+};
 use stl_statements::Read;
 use stl_tree::{BlockKind, RawName};
-
-/// What was read takes so many tokens.
-pub fn fitting<T>(size: usize, found: Option<T>) -> Read<T>
-    ensures { result ≡ fitting size found }
-{
-    match found {
-        Some(found) => Read::Fits(found, size),
-        None => Read::No,
-    }
-}
-
-/// A number with one digit more; one past the greatest of 32 bits is kept as that one.
-fn kept_next(value: u32, digit: u8) -> u32
-    ensures { result ≡ min (value * 10 + (digit - 48)) (2 ^ 32 - 1) }
-{
-    let more = u64::from(value) * 10 + u64::from(digit.saturating_sub(48));
-    more.min(u64::from(u32::MAX)) as u32
-}
-
-fn kept_from(digits: &[u8]) -> u32
-    ensures { result ≡ kept_from 0 digits.now }
-{
-    let mut value = 0;
-    for digit in digits {
-        value = kept_next(value, *digit);
-    }
-    value
-}
-
-/// A number of any size, so kept.
-pub fn kept_number(digits: &[u8]) -> Option<u32>
-    ensures { result ≡ kept_number digits.now }
-{
-    if are_digits(digits) {
-        Some(kept_from(digits))
-    } else {
-        None
-    }
-}
 
 /// The number in a word behind the word of a kind.
 fn number_behind(tokens: &[Token]) -> Option<u32>
     ensures { result ≡ number_behind tokens.now }
 {
     match tokens {
-        [number, ..] if is_word_kind(number) => kept_number(number.text.as_slice()),
-        _ => None,
+        [number, ..] => number_word(number),
+        [] => None,
     }
 }
 
@@ -66,7 +28,7 @@ fn number_within(kind: &str, word: &Token) -> Option<u32>
     ensures { result ≡ number_within kind.now word.now }
 {
     if is_numbered(word, kind) {
-        Some(kept_from(rest_after(word.text.as_slice(), kind.len())))
+        kept_number(rest_after(word.text.as_slice(), kind.len()))
     } else {
         None
     }
@@ -104,12 +66,21 @@ fn name_at(alloc: Global, kind: &str, tokens: &[Token]) -> Result<Read<RawName>,
     Ok(number_named(kind, first, rest))
 }
 
+/// A block of this kind is a data block.
+pub fn is_data(kind: BlockKind) -> bool
+    ensures { result ≡ is_data kind }
+{
+    matches!(kind, BlockKind::Db)
+}
+
 /// The kind of a block, by the first word of its heading.
 fn heading_kind(first: &Token) -> Option<BlockKind>
     ensures { result ≡ heading_kind first.now }
 {
     if is_word(first, "ORGANIZATION_BLOCK") {
         Some(BlockKind::Ob)
+    } else if is_word(first, "DATA_BLOCK") {
+        Some(BlockKind::Db)
     } else {
         None
     }

@@ -1,16 +1,18 @@
 //! The item at a place of a text.
 ghost use Rattle.std.specs.Prelude.{◌≡◌, [], take, IfOk};
-ghost use Rattle.stl_grammar.specs.Items.{end_word, is_end, is_complete, statement_at, statement_size, behind_at, behind_heading, cut_line, has_temps, is_skipped_alone, statement_found, statement_from, body_at, at_end, at_token, item_at};
+ghost use Rattle.stl_grammar.specs.Items.{is_complete, statement_at, statement_size, begins_body, behind_at, behind_heading, body_of, cut_line, section_word, is_skipped_alone, statement_found, statement_from, body_at, at_end, at_token, item_at};
 ghost use Rattle.stl_statements.specs.Statements.{instruction_of};
 ghost use Rattle.stl_grammar.specs.declared.item.Where.TheVariants.{Body};
 ghost use Rattle.stl_reader.specs.inner.Finding.{HasFirst};
 
-use crate::heading::{heading_at, is_skipped, size_on};
+use crate::heading::{heading_at, is_data, is_skipped, size_on};
 use crate::inside::inside_at;
 use crate::misfit::{
-    body_reason, heading_reason, is_semicolon, reason_with, statement_reason, statement_size,
+    body_reason, data_reason, heading_reason, is_semicolon, reason_in, statement_reason,
+    statement_size,
 };
 use crate::symbol::{in_table, table_at};
+use crate::values::{is_end, values_at};
 use s7_base::{Line, NoMemory, Reason, Rejection, Token, front_of};
 use std::alloc::Global;
 use std::collections::LinkedList;
@@ -18,29 +20,21 @@ use stl_grammar::{Found, Item, Level, Where};
 use stl_instructions::{instruction, is_word};
 use stl_tree::BlockKind;
 
-/// The end word of a kind of block.
-fn end_word(kind: BlockKind) -> &'static str
-    ensures { result.now ≡ end_word kind }
+/// The body of a block begins behind its heading.
+fn begins_body(kind: BlockKind, first: &Token) -> bool
+    ensures { result ≡ begins_body kind first.now }
+{
+    !is_data(kind) && is_word(first, "BEGIN")
+}
+
+/// The word that leads from a heading to declarations.
+fn section_word(kind: BlockKind) -> &'static str
+    ensures { result.now ≡ section_word kind }
 {
     match kind {
-        BlockKind::Ob => "END_ORGANIZATION_BLOCK",
-        BlockKind::Fc => "END_FUNCTION",
-        BlockKind::Fb => "END_FUNCTION_BLOCK",
-        BlockKind::Db => "END_DATA_BLOCK",
+        BlockKind::Db => "STRUCT",
+        BlockKind::Ob | BlockKind::Fc | BlockKind::Fb => "VAR_TEMP",
     }
-}
-
-fn is_end(kind: BlockKind, token: &Token) -> bool
-    ensures { result ≡ is_end kind token.now }
-{
-    is_word(token, end_word(kind))
-}
-
-/// A block of this kind has temporary variables.
-fn has_temps(kind: BlockKind) -> bool
-    ensures { result ≡ has_temps kind }
-{
-    !matches!(kind, BlockKind::Db)
 }
 
 /// What stands behind a heading whose last line this is.
@@ -60,12 +54,22 @@ fn behind_heading(
             size_on(first.line, rest),
             Where::Heading(kind, first.line),
         )
-    } else if is_word(first, "BEGIN") {
+    } else if begins_body(kind, first) {
         Found::Fits(Item::Mark, 0, Where::Body(kind))
-    } else if has_temps(kind) && is_word(first, "VAR_TEMP") {
+    } else if is_word(first, section_word(kind)) {
         Found::Fits(Item::Mark, 0, Where::Inside(kind, LinkedList::new(alloc)))
     } else {
-        Found::Misfit(first.line, reason_with(false, false, tokens))
+        Found::Misfit(first.line, reason_in(kind, data_reason(tokens), tokens))
+    }
+}
+
+/// Where the body of a block stands.
+fn body_of(kind: BlockKind) -> Where
+    ensures { result ≡ body_of kind }
+{
+    match kind {
+        BlockKind::Db => Where::Values,
+        BlockKind::Ob | BlockKind::Fc | BlockKind::Fb => Where::Body(kind),
     }
 }
 
@@ -74,9 +78,9 @@ fn behind_at(kind: BlockKind, tokens: &[Token], first: &Token) -> Found
     ensures { result ≡ behind_at kind tokens.now first.now }
 {
     if is_word(first, "BEGIN") {
-        Found::Fits(Item::Mark, 0, Where::Body(kind))
+        Found::Fits(Item::Mark, 0, body_of(kind))
     } else {
-        Found::Misfit(first.line, reason_with(false, false, tokens))
+        Found::Misfit(first.line, reason_in(kind, Reason::BadStatement, tokens))
     }
 }
 
@@ -172,6 +176,7 @@ fn at_token(
         Where::Inside(kind, levels) => inside_at(alloc, kind, levels, tokens, first, rest),
         Where::Behind(kind) => Ok(behind_at(kind, tokens, first)),
         Where::Body(kind) => body_at(alloc, kind, tokens, first),
+        Where::Values => values_at(alloc, tokens, first),
     }
 }
 
@@ -196,6 +201,7 @@ fn at_end(end: Line, place: Where) -> Found
         Where::Table(_) | Where::Heading(_, _) | Where::Behind(_) | Where::Body(_) => {
             Found::Misfit(end, Reason::BadStatement)
         }
+        Where::Values => Found::Misfit(end, Reason::BadStatement),
     }
 }
 

@@ -1,14 +1,17 @@
 //! Why an item that fits no form is refused.
 ghost use Rattle.std.specs.Prelude.{◌≡◌, ◌≤◌, false, length};
-ghost use Rattle.stl_grammar.specs.Items.{is_semicolon, statement_size, begins_with_block_word, begins_with_name, is_not_built, is_complete, reason_with, heading_reason, declaration_reason, statement_reason};
+ghost use Rattle.stl_grammar.specs.Items.{is_semicolon, statement_size, begins_with_block_word, begins_with_name, data_reason, is_instance, is_not_built, is_complete, left_out_reason, reason_in, reason_with, heading_reason, declaration_reason, statement_reason};
 ghost use Rattle.stl_statements.specs.Statements.{begins_with_label};
 ghost use Rattle.stl_statements.specs.declared.mnemonic.Read.TheVariants as read;
 
 use crate::cut_off::is_heading_cut_off;
-use crate::declaration::begins_with_word;
+use crate::declaration::{has_number, is_user_type};
+use crate::elements::begins_with_word;
+use crate::heading::is_data;
 use crate::words::is_block_word;
 use s7_base::{Kind, Reason, Token};
-use stl_instructions::{begins_with_label, begins_with_mnemonic, is_sign, is_word_kind};
+use stl_instructions::{begins_with_label, begins_with_mnemonic, is_quoted, is_sign, is_word_kind};
+use stl_tree::BlockKind;
 
 pub fn is_semicolon(token: &Token) -> bool
     ensures { result ≡ is_semicolon token.now }
@@ -73,6 +76,42 @@ pub fn heading_reason(tokens: &[Token]) -> Reason
     }
 }
 
+/// A function block is named at the front, whose instance a data block would be.
+fn is_instance(first: &Token, rest: &[Token]) -> bool
+    ensures { result ≡ is_instance first.now rest.now }
+{
+    is_quoted(first) || has_number("FB", first, rest)
+}
+
+/// The same where the STRUCT of a data block may stand.
+pub fn data_reason(tokens: &[Token]) -> Reason
+    ensures { result ≡ data_reason tokens.now }
+{
+    let [first, rest @ ..] = tokens else {
+        return Reason::BadStatement;
+    };
+    if is_instance(first, rest) {
+        Reason::Unsupported(Kind::NotBuilt)
+    } else if is_user_type(first, rest) {
+        Reason::Unsupported(Kind::UserType)
+    } else if has_number("SFB", first, rest) {
+        Reason::Unsupported(Kind::SystemCall)
+    } else {
+        Reason::BadStatement
+    }
+}
+
+/// The same behind a heading or behind declarations, by what is refused in a data block.
+pub fn reason_in(kind: BlockKind, in_data: Reason, tokens: &[Token]) -> Reason
+    ensures { result ≡ reason_in kind in_data tokens.now }
+{
+    if is_data(kind) {
+        in_data
+    } else {
+        reason_with(false, false, tokens)
+    }
+}
+
 /// The same in a body.
 pub fn body_reason(tokens: &[Token]) -> Reason
     ensures { result ≡ reason_with (begins_with_label tokens.now) false tokens.now }
@@ -80,9 +119,9 @@ pub fn body_reason(tokens: &[Token]) -> Reason
     reason_with(begins_with_label(tokens), false, tokens)
 }
 
-/// The same of a declaration whose type or initial value is left out.
+/// Why something is refused in which a part is left out.
 pub fn left_out_reason(tokens: &[Token], kind: Kind) -> Reason
-    ensures { result ≡ declaration_reason tokens.now (read.LeftOut kind) }
+    ensures { result ≡ left_out_reason tokens.now kind }
 {
     if is_complete(tokens) {
         Reason::Unsupported(kind)

@@ -5,14 +5,13 @@ ghost use Rattle.s7_base.specs.Tokens.{is_blank};
 ghost use Rattle.stl_grammar.specs.Items.{in_table, symbol_found, table_at};
 ghost use Rattle.stl_grammar.specs.Symbols.{address_by, address_of, area_by, bit_address, bit_behind, bit_with, digits_at, ends_line, ends_table, is_letter, is_next, kind_of, named_address, place_address, place_of, symbol_at, symbol_behind, symbol_line, trimmed, width_by};
 
-use crate::cut_off::is_quoted;
-use crate::heading::{copied, is_behind, is_on, kept_number, kind_word};
+use crate::heading::{copied, is_behind, is_on, kind_word};
 use crate::misfit::{heading_reason, reason_with};
 use memory_areas::AreaName;
 use s7_base::{Line, NoMemory, Token, Width, front_of, is_same_word, rest_after};
 use std::alloc::Global;
 use stl_grammar::{Found, Item, Where};
-use stl_instructions::{is_sign, is_word};
+use stl_instructions::{is_quoted, is_sign, is_word, kept_number};
 use stl_tree::{BlockKind, RawPlace, SymbolAddress, SymbolLine};
 
 fn is_blank(b: u8) -> bool

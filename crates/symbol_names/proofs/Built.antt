@@ -4,6 +4,7 @@ use Rattle.memory_areas.specs.declared.place.AreaName.{AreaName}
 use Rattle.memory_areas.specs.declared.place.AreaName.TheVariants as area
 use Rattle.s7_base.specs.declared.reason.Reason.{Reason}
 use Rattle.s7_base.specs.declared.reason.Reason.TheVariants.{UnknownName}
+use Rattle.stl_rules.specs.Extents.{width_of}
 use Rattle.stl_rules.specs.Names.{may_have}
 use Rattle.stl_rules.specs.Paths.{component_in}
 use Rattle.stl_rules.specs.Raw.{are_refused, given_component, given_in_data, given_in_kind, given_number, given_open, given_path, given_place, given_symbol, is_placed, most_in_block, operand_at, place_of_kind}
@@ -22,7 +23,7 @@ use Rattle.stl_tree.specs.declared.raw.RawPlace.{RawPlace}
 use Rattle.stl_tree.specs.declared.raw.SymbolAddress.{SymbolAddress}
 use Rattle.stl_tree.specs.declared.raw.SymbolAddress.TheVariants as address
 
-at_place : (place : RawPlace) → is_built_operand (given_place place) ≡ true
+pub at_place : (place : RawPlace) → is_built_operand (given_place place) ≡ true
 at_place place = by_cases (is_placed place place.block) place.block
   where
     by_cases : (b : Bool) (n : Option ℕ) → is_built_operand (cond b (operand_at place n) (behind.Outside place.width)) ≡ true
@@ -30,20 +31,22 @@ at_place place = by_cases (is_placed place place.block) place.block
     by_cases true (Some n) = refl
     by_cases false n = refl
 
-at_symbol : (a : Option SymbolAddress) → is_built_operand (given_symbol a) ≡ true
+pub at_symbol : (a : Option SymbolAddress) → is_built_operand (given_symbol a) ≡ true
 at_symbol None = refl
 at_symbol (Some (address.At place)) = at_place place
 at_symbol (Some elsewhere) = refl
 
 of_kind : (number : Option ℕ) (name : AreaName) (at : Component) (kind : Option ElemType) → is_built_operand (place_of_kind number name at kind) ≡ true
 of_kind number name at None = refl
-of_kind number name at (Some e) = at_place _
+of_kind number name at (Some e) =
+    let place : RawPlace = record { block = number; area = name; width = width_of e; byte = at.byte; bit = at.bit } in
+    at_place place
 
 of_component : (number : Option ℕ) (name : AreaName) (at : Option Component) → is_built_operand (given_component number name at) ≡ true
 of_component number name None = refl
 of_component number name (Some at) = of_kind number name at at.kind
 
-of_path : (limit : ℕ) (number : Option ℕ) (name : AreaName) (decls : List Declaration) (path : List PathStep)
+pub of_path : (limit : ℕ) (number : Option ℕ) (name : AreaName) (decls : List Declaration) (path : List PathStep)
     → is_built_operand (given_path limit number name decls path) ≡ true
 of_path limit number name decls path = by_cases (are_refused limit decls) (component_in (decls ∷ []) path)
   where
@@ -56,14 +59,14 @@ of_number make h (Ok n) = h n
 of_number make h (Err UnknownName) = refl
 of_number make h (Err reason) = refl
 
-open_db : (r : Result ℕ Reason) → is_built_operand (given_number (given_open (λ n. behind.Db n)) r) ≡ true
+pub open_db : (r : Result ℕ Reason) → is_built_operand (given_number (given_open (λ n. behind.Db n)) r) ≡ true
 open_db r = of_number (given_open (λ n. behind.Db n)) (λ n. by_cases n (may_have block.Db n)) r
   where
     by_cases : (n : ℕ) (b : Bool) → is_built_operand (cond b (behind.Db n) behind.NoNumber) ≡ true
     by_cases n true = refl
     by_cases n false = refl
 
-open_di : (r : Result ℕ Reason) → is_built_operand (given_number (given_open (λ n. behind.Di n)) r) ≡ true
+pub open_di : (r : Result ℕ Reason) → is_built_operand (given_number (given_open (λ n. behind.Di n)) r) ≡ true
 open_di r = of_number (given_open (λ n. behind.Di n)) (λ n. by_cases n (may_have block.Db n)) r
   where
     by_cases : (n : ℕ) (b : Bool) → is_built_operand (cond b (behind.Di n) behind.NoNumber) ≡ true

@@ -1,9 +1,8 @@
 -- What a data block holds, by its content.
-use Rattle.std.proofs.Common.{◌≡◌, ℕ, Bool, true, false, List, Option, Some, None, refl, sym, ap, ◌∙◌}
-use Rattle.data_contents.specs.Contents.{Breaks, first_in}
+use Rattle.std.proofs.Common.{◌≡◌, ℕ, Bool, false, List, Some, None, sym, ap, ◌∙◌}
+use Rattle.data_contents.specs.Contents.{Breaks}
 use Rattle.s7_base.specs.declared.broken.Break.{Break}
 use Rattle.stl_rules.specs.DataBlocks.{bytes_with}
-use Rattle.stl_rules.specs.Raw.{are_refused, most_in_block}
 use Rattle.stl_tree.specs.declared.raw.Declaration.{Declaration}
 use Rattle.stl_tree.specs.declared.raw.RawDataKind.TheVariants as data_kind
 use Rattle.stl_tree.specs.declared.raw.RawInitial.{RawInitial}

@@ -56,15 +56,6 @@ three a x y = by_tests (comes_before x a) (comes_before y x) (comes_before y a) 
         absurd (omega (arith, i, j, k))
     by_tests false false false f g h = ap (λ b. cond b (Some y) (Some a)) h ∙ sym (ap (λ b. cond b (Some x) (Some a)) f)
 
--- one broken rule stays one
-stays : (bs : List Break) (a : Break) (o : Option Break) → fold sooner (Some a) bs ≡ o → o ≡ None → ⊥
-stays [] a o h n = absurd cc
-stays (x ∷ bs) a o h n = by_test (comes_before x a) (λ d. stays bs d o) h
-  where
-    by_test : (t : Bool) → ((d : Break) → fold sooner (Some d) bs ≡ o → o ≡ None → ⊥) → fold sooner (cond t (Some x) (Some a)) bs ≡ o → ⊥
-    by_test true more q = more x q n
-    by_test false more q = more a q n
-
 joined_sooner : (a : Option Break) (x : Break) (o : Option Break) → joined (sooner a x) o ≡ joined a (joined (Some x) o)
 joined_sooner None x None = refl
 joined_sooner None x (Some y) = by_test (comes_before y x)
@@ -102,8 +93,13 @@ pub from_none : (xs : List Break) → with_breaks None xs ≡ first_of_all xs
 unfolding with_breaks
 from_none xs = refl
 
--- where nothing is broken in the end, nothing was before
-pub none_before : (a : Option Break) (xs : List Break) → with_breaks a xs ≡ None → a ≡ None
-unfolding with_breaks
-none_before None xs h = refl
-none_before (Some a) xs h = absurd (stays xs a (fold sooner (Some a) xs) refl h)
+-- the first of two lists, and of four
+pub of_two : (a b : Option Break) (xs ys : List Break) → a ≡ with_breaks None xs → b ≡ with_breaks a ys → b ≡ first_of_all (xs ++ ys)
+of_two a b xs ys e f = f ∙ ap (λ o. with_breaks o ys) e ∙ sym (behind None xs ys) ∙ from_none (xs ++ ys)
+
+pub of_four : (a b c d : Option Break) (ws xs ys zs : List Break) → a ≡ with_breaks None ws → b ≡ with_breaks a xs → c ≡ with_breaks b ys
+    → d ≡ with_breaks c zs → d ≡ first_of_all (((ws ++ xs) ++ ys) ++ zs)
+of_four a b c d ws xs ys zs e f g h =
+    let two : b ≡ with_breaks None (ws ++ xs) = f ∙ ap (λ o. with_breaks o xs) e ∙ sym (behind None ws xs) in
+    let three : c ≡ with_breaks None ((ws ++ xs) ++ ys) = g ∙ ap (λ o. with_breaks o ys) two ∙ sym (behind None (ws ++ xs) ys) in
+    of_two c d ((ws ++ xs) ++ ys) zs three h

@@ -5,18 +5,17 @@ use Rattle.memory_areas.specs.declared.call.BlockName.TheVariants.{Ob}
 use Rattle.memory_areas.specs.declared.data_block.DataBlock.{DataBlock}
 use Rattle.memory_areas.specs.declared.sizes.TheConstants.{MOST_BLOCKS}
 use Rattle.s7_base.proofs.FirstBreak.{first_of_all_is_first}
-use Rattle.s7_base.specs.Broken.{broken, first_of_all}
+use Rattle.s7_base.specs.Broken.{first_of_all}
 use Rattle.s7_base.specs.declared.broken.Break.{Break}
 use Rattle.s7_base.specs.declared.reason.Line.{Line}
 use Rattle.s7_base.specs.declared.reason.Reason.{Reason}
-use Rattle.s7_base.specs.declared.reason.Reason.TheVariants.{BadAddress, DuplicateBlock, DuplicateName, TooLarge}
-use Rattle.s7_base.specs.declared.reason.Rejection.{Rejection}
+use Rattle.s7_base.specs.declared.reason.Reason.TheVariants.{BadAddress, DuplicateBlock, DuplicateName}
 use Rattle.s7_base.specs.declared.reason.Rejection.TheVariants.{Refused}
 use Rattle.stl_rules.specs.DataBlocks.{bytes_with, data_numbered, data_of, in_order}
 use Rattle.stl_rules.specs.DeclarationRules.{is_named, key_of, with_name}
 use Rattle.stl_rules.specs.Layouts.{breaks_in}
 use Rattle.stl_rules.specs.Names.{may_have, number_of}
-use Rattle.stl_rules.specs.Programs.{block_name, block_of, block_with, name_numbered, program_of, sight_of, symbol_of}
+use Rattle.stl_rules.specs.Programs.{block_of, block_with, name_numbered, sight_of, symbol_of}
 use Rattle.stl_rules.specs.Raw.{most_local}
 use Rattle.stl_rules.specs.Stages.{blocks_behind, broken_if, content_breaks, dbs_behind, heading_breaks, instr_breaks, is_address, is_among, names, one_too_many, symbols_behind, with_block_number}
 use Rattle.stl_rules.specs.Verdict.{answered, resolved}

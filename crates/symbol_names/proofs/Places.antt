@@ -1,11 +1,12 @@
 -- Where names and numbers stand first.
-use Rattle.std.proofs.Common.{◌≡◌, ◌<◌, ℕ, zero, suc, ◌+◌, Bool, true, false, cond, ◌&&◌, ◌||◌, ◌==◌, nat_eq, nat_lt, List, [], ◌∷◌, ◌++◌, length, take, get_or, map, slice_get, Option, Some, None, is_some, option_map, option_and_then, Result, Ok, Err, refl, sym, ap, subst, ◌∙◌, arith, eqb-true}
+use Rattle.std.proofs.Common.{◌≡◌, ◌<◌, ℕ, zero, suc, ◌+◌, Bool, true, false, cond, ◌&&◌, ◌||◌, ◌==◌, nat_eq, List, [], ◌∷◌, ◌++◌, length, take, get_or, map, slice_get, Option, Some, None, is_some, option_map, option_and_then, Result, Ok, Err, refl, sym, ap, subst, ◌∙◌, arith, eqb-true}
 use Rattle.std.specs.Char.{to_ascii_lowercase, to_ascii_uppercase}
 use Rattle.std.specs.Cmp.Lexicographic.{pointwise}
 use Rattle.std.specs.List.{find, fold, list_any}
 use Rattle.std.specs.Map.{lookup}
 use Rattle.std.specs.Option.{option_or}
 use Rattle.std.proofs.lemmas.Bool.Decides.{nat_tests}
+use Rattle.std.proofs.lemmas.Option.{slice_get-map}
 use Rattle.std.proofs.lemmas.Slice.Eq.{bytes_eq-Decides}
 use Rattle.std.proofs.lemmas.List.{length-take-le, take_more}
 use Rattle.s7_base.specs.Tokens.{is_same_word}
@@ -68,45 +69,6 @@ any_taken test (suc i) (x ∷ xs) = by_test (test x) (any_taken test i xs)
     by_test true e = grind arith
     by_test false e = e ∙ one_up i (first_place test xs)
 
--- Names
-
--- letters are the same in small and in large
-same_letters : (a b : ℕ) → nat_eq (to_ascii_lowercase a) (to_ascii_lowercase b) ≡ nat_eq (to_ascii_uppercase b) (to_ascii_uppercase a)
-same_letters a b = grind (arith, nat_tests)
-
-same_words : (a b : List ℕ) → pointwise nat_eq (map to_ascii_lowercase a) (map to_ascii_lowercase b) ≡ pointwise nat_eq (map to_ascii_uppercase b) (map to_ascii_uppercase a)
-same_words [] [] = refl
-same_words [] (y ∷ ys) = refl
-same_words (x ∷ xs) [] = refl
-same_words (x ∷ xs) (y ∷ ys) =
-    ap (λ b. b && pointwise nat_eq (map to_ascii_lowercase xs) (map to_ascii_lowercase ys)) (same_letters x y)
-    ∙ ap (λ b. nat_eq (to_ascii_uppercase y) (to_ascii_uppercase x) && b) (same_words xs ys)
-
--- the symbol of a name is that of the first line with its key
-pub named_at : (lines : List SymbolLine) (name : List ℕ)
-    → symbol_named lines name
-    ≡ option_map (λ (line : SymbolLine). line.address) (option_and_then (λ n. slice_get lines n) (first_place (has_key (key_of name)) lines))
-named_at lines name =
-    ap (option_map (λ (line : SymbolLine). line.address))
-    (find_first (λ (line : SymbolLine). is_same_word line.name name) lines
-    ∙ ap (option_and_then (λ n. slice_get lines n))
-    (first_same (λ (line : SymbolLine). is_same_word line.name name) (has_key (key_of name)) (λ line. same_words line.name name) lines))
-
-pub name_sound : (k q : List ℕ) → pointwise nat_eq k q ≡ true → k ≡ q
-name_sound k q h = (bytes_eq-Decides k q).0 h
-
--- one line more of a loop
-pub name_turn : (lines : List SymbolLine) (i : ℕ) (line : SymbolLine) (table : List (List ℕ × ℕ)) → i < length lines → line ≡ get_or lines i line
-    → AreNamePlaces (take i lines) table
-    → AreNamePlaces (take (i + 1) lines) (with_place (pointwise nat_eq) (key_of line.name) i table)
-name_turn lines i line table before is h =
-    let step = with_key (pointwise nat_eq) name_sound has_key table (take i lines) line (key_of line.name) (λ k. refl) h in
-    let taken : length (take i lines) ≡ i = length-take-le i lines (omega (arith, before)) in
-    let more : take i lines ++ line ∷ [] ≡ take (i + 1) lines
-    = ap (λ y. take i lines ++ y ∷ []) is ∙ sym (take_more lines i line before) in
-    subst (λ l. AreNamePlaces l (with_place (pointwise nat_eq) (key_of line.name) i table)) more
-    (subst (λ n. AreNamePlaces (take i lines ++ line ∷ []) (with_place (pointwise nat_eq) (key_of line.name) n table)) taken step)
-
 or_false : (b : Bool) → b ≡ (b || false)
 or_false true = refl
 or_false false = refl
@@ -166,6 +128,45 @@ module _ {X A : Type 0} (eq : X → X → Bool) (sound : (k q : X) → eq k q �
           some_or (lookup (eq k) table) p (Some (length xs)) (ap (λ q. lookup (eq q) table) (sound k key f) ∙ e)
       by_place (Some p) e false f = or_none (lookup (eq k) table)
 
+-- Names
+
+-- letters are the same in small and in large
+same_letters : (a b : ℕ) → nat_eq (to_ascii_lowercase a) (to_ascii_lowercase b) ≡ nat_eq (to_ascii_uppercase b) (to_ascii_uppercase a)
+same_letters a b = grind (arith, nat_tests)
+
+same_words : (a b : List ℕ) → pointwise nat_eq (map to_ascii_lowercase a) (map to_ascii_lowercase b) ≡ pointwise nat_eq (map to_ascii_uppercase b) (map to_ascii_uppercase a)
+same_words [] [] = refl
+same_words [] (y ∷ ys) = refl
+same_words (x ∷ xs) [] = refl
+same_words (x ∷ xs) (y ∷ ys) =
+    ap (λ b. b && pointwise nat_eq (map to_ascii_lowercase xs) (map to_ascii_lowercase ys)) (same_letters x y)
+    ∙ ap (λ b. nat_eq (to_ascii_uppercase y) (to_ascii_uppercase x) && b) (same_words xs ys)
+
+-- the symbol of a name is that of the first line with its key
+pub named_at : (lines : List SymbolLine) (name : List ℕ)
+    → symbol_named lines name
+    ≡ option_map (λ (line : SymbolLine). line.address) (option_and_then (λ n. slice_get lines n) (first_place (has_key (key_of name)) lines))
+named_at lines name =
+    ap (option_map (λ (line : SymbolLine). line.address))
+    (find_first (λ (line : SymbolLine). is_same_word line.name name) lines
+    ∙ ap (option_and_then (λ n. slice_get lines n))
+    (first_same (λ (line : SymbolLine). is_same_word line.name name) (has_key (key_of name)) (λ line. same_words line.name name) lines))
+
+pub name_sound : (k q : List ℕ) → pointwise nat_eq k q ≡ true → k ≡ q
+name_sound k q h = (bytes_eq-Decides k q).0 h
+
+-- one line more of a loop
+pub name_turn : (lines : List SymbolLine) (i : ℕ) (line : SymbolLine) (table : List (List ℕ × ℕ)) → i < length lines → line ≡ get_or lines i line
+    → AreNamePlaces (take i lines) table
+    → AreNamePlaces (take (i + 1) lines) (with_place (pointwise nat_eq) (key_of line.name) i table)
+name_turn lines i line table before is h =
+    let step = with_key (pointwise nat_eq) name_sound has_key table (take i lines) line (key_of line.name) (λ k. refl) h in
+    let taken : length (take i lines) ≡ i = length-take-le i lines (omega (arith, before)) in
+    let more : take i lines ++ line ∷ [] ≡ take (i + 1) lines
+    = ap (λ y. take i lines ++ y ∷ []) is ∙ sym (take_more lines i line before) in
+    subst (λ l. AreNamePlaces l (with_place (pointwise nat_eq) (key_of line.name) i table)) more
+    (subst (λ n. AreNamePlaces (take i lines ++ line ∷ []) (with_place (pointwise nat_eq) (key_of line.name) n table)) taken step)
+
 -- Numbers
 
 pub is_number_sound : (k q : ℕ) → nat_eq k q ≡ true → k ≡ q
@@ -180,15 +181,13 @@ number_step table xs (Ok m) h = with_key nat_eq is_number_sound is_number table 
 number_step table xs (Err reason) h = no_key nat_eq is_number_sound is_number table xs (Err reason) (λ n. refl) h
 
 -- one number more of a loop
-pub number_turn : (numbers : List (Result ℕ Reason)) (i : ℕ) (x : Result ℕ Reason) (table : List (ℕ × ℕ)) → i < length numbers → x ≡ get_or numbers i x
-    → AreNumberPlaces (take i numbers) table → AreNumberPlaces (take (i + 1) numbers) (with_number_place x i table)
-number_turn numbers i x table before is h =
-    let step = number_step table (take i numbers) x h in
+pub number_turn : (numbers : List (Result ℕ Reason)) (i : ℕ) (d : Result ℕ Reason) (table : List (ℕ × ℕ)) → i < length numbers
+    → AreNumberPlaces (take i numbers) table → AreNumberPlaces (take (i + 1) numbers) (with_number_place (get_or numbers i d) i table)
+number_turn numbers i d table before h =
+    let step = number_step table (take i numbers) (get_or numbers i d) h in
     let taken : length (take i numbers) ≡ i = length-take-le i numbers (omega (arith, before)) in
-    let more : take i numbers ++ x ∷ [] ≡ take (i + 1) numbers
-    = ap (λ y. take i numbers ++ y ∷ []) is ∙ sym (take_more numbers i x before) in
-    subst (λ l. AreNumberPlaces l (with_number_place x i table)) more
-    (subst (λ n. AreNumberPlaces (take i numbers ++ x ∷ []) (with_number_place x n table)) taken step)
+    subst (λ l. AreNumberPlaces l (with_number_place (get_or numbers i d) i table)) (sym (take_more numbers i d before))
+    (subst (λ n. AreNumberPlaces (take i numbers ++ get_or numbers i d ∷ []) (with_number_place (get_or numbers i d) n table)) taken step)
 
 -- a number among some and one more
 among_more : (n m : ℕ) (before : List ℕ) → is_among n (before ++ m ∷ []) ≡ (is_among n before || (m == n))
@@ -252,7 +251,4 @@ db_at symbols dbs n =
     ∙ sym (find_first (λ (d : RawData). is_number n (number_of symbols block.Db d.name)) dbs)
 
 -- what is made of the item at a place
-pub mapped_at : {X Y : Type 0} (f : X → Y) (xs : List X) (i : ℕ) → slice_get (map f xs) i ≡ option_map f (slice_get xs i)
-mapped_at f [] i = refl
-mapped_at f (x ∷ xs) zero = refl
-mapped_at f (x ∷ xs) (suc i) = mapped_at f xs i
+pub ruleset at_places = (slice_get-map)

@@ -15,6 +15,8 @@ use Rattle.stl_tree.specs.declared.raw.SymbolLine.{SymbolLine}
 use Rattle.symbol_names.specs.inner.Firsts.{with_breaks}
 use Rattle.symbol_names.specs.inner.Kept.{block_breaks, db_breaks}
 use Rattle.symbol_names.specs.inner.Places.{block_numbers, db_numbers, line_breaks, names_before, numbers_before}
+use Rattle.std.specs.List.{flat_map}
+use Rattle.symbol_names.proofs.Filtered.{flat_more}
 use Rattle.symbol_names.proofs.Firsts.{behind, none_more}
 
 -- a stage that judges items, each in a state
@@ -35,6 +37,13 @@ module _ {S X : Type 0} (all : S → List X → List Break) (item : S → X → 
   pub ended : (first whole : Option Break) (s : S) (xs : List X) (i : ℕ) → length xs ≤ i → with_breaks first (all s (drop i xs)) ≡ whole → first ≡ whole
   ended first whole s xs i past so_far =
       sym (none_more first) ∙ ap (with_breaks first) (sym (ap (all s) (drop_all i xs past) ∙ none s)) ∙ so_far
+
+-- a stage that judges each item alone
+pub item_turn : {X : Type 0} (f : X → List Break) (start first later : Option Break) (xs : List X) (i : ℕ) (x : X) → i < length xs → x ≡ get_or xs i x
+    → first ≡ with_breaks start (flat_map f (take i xs)) → later ≡ with_breaks first (f x) → later ≡ with_breaks start (flat_map f (take (i + 1) xs))
+item_turn f start first later xs i x before is so_far e =
+    e ∙ ap (λ a. with_breaks a (f x)) so_far ∙ sym (behind start (flat_map f (take i xs)) (f x))
+    ∙ ap (with_breaks start) (sym (flat_more f xs i x before is))
 
 -- Symbols
 

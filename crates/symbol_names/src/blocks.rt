@@ -39,12 +39,13 @@ pub struct Blocks {
 }
 
 /// An operand that its mnemonic has not.
-#[tactic(auto, using(crate::proofs::Firsts::none_more, crate::proofs::Operands::kind_lemmas))]
+#[tactic(auto, using(crate::proofs::Firsts::none_more))]
 fn note_kind(first: &mut Option<Break>, line: Line, what: Option<Mnemonic>, given: Given)
     ensures { first.new ≡ with_breaks first.old (reasons_at line (kind_breaks (op_by what given))) }
 {
-    if op_by(what, given).is_none() {
-        note(first, line, Reason::BadOperand);
+    match op_by(what, given) {
+        Some(_) => {}
+        None => note(first, line, Reason::BadOperand),
     }
 }
 
@@ -189,13 +190,34 @@ fn put_block(
     ensures first { OnOk result (blocks.new.first ≡ with_breaks blocks.old.first (block_breaks names.now (numbers_before (take place numbers.now)) raw.now)) }
 {
     let number = names.symbols().number_of(alloc, raw.kind, &raw.name)?;
-    note_heading(raw.kind, raw.line, numbers, place, number, &mut blocks.first);
+    note_heading(
+        raw.kind,
+        raw.line,
+        numbers,
+        place,
+        number,
+        &mut blocks.first,
+    );
     let temps = raw.temps.as_slice();
     let temps_first = first_break(alloc, temps, MOST_LOCAL)?;
     join(&mut blocks.first, temps_first);
     let sight = Sight::new(names, refused, temps, temps_first.is_some());
     let body = body_of(alloc, &sight, raw, &mut blocks.first)?;
-    put_named(alloc, &mut blocks.made, raw.line, name_of(raw.kind, number), body)
+    put_named(
+        alloc,
+        &mut blocks.made,
+        raw.line,
+        name_of(raw.kind, number),
+        body,
+    )
+}
+
+/// The numbers of blocks.
+fn numbers_of(alloc: Global, names: &Names<'_>, raws: &[RawBlock]) -> Result<Numbers, NoMemory>
+    ensures { IfOk result (λ numbers. numbers ≡ block_numbers names.now.symbols raws.now) }
+{
+    let numbers = numbers_of_blocks(alloc, names.symbols(), raws)?;
+    Numbers::new(alloc, numbers)
 }
 
 /// The blocks of a text.
@@ -210,7 +232,7 @@ pub fn put_blocks(
     ensures made { IfOk result (λ b. b.made ≡ filter_map (block_kept names.now) raws.now) }
     ensures first { IfOk result (λ b. b.first ≡ with_breaks first (blocks_behind names.now [] raws.now)) }
 {
-    let numbers = Numbers::new(alloc, numbers_of_blocks(alloc, names.symbols(), raws)?)?;
+    let numbers = numbers_of(alloc, names, raws)?;
     let mut blocks = Blocks {
         made: List::new(alloc),
         first,

@@ -50,11 +50,7 @@ pub struct Found {
 
 /// What declarations and initial values come to.
 #[tactic(auto, using(crate::proofs::Contents::content_lemmas))]
-fn fill_own(
-    alloc: Global,
-    decls: &[Declaration],
-    values: &[RawInitial],
-) -> Result<Filled, NoMemory>
+fn fill_own(alloc: Global, decls: &[Declaration], values: &[RawInitial]) -> Result<Filled, NoMemory>
     ensures refused { IfOk result (λ f. f.refused ≡ is_refused (data_kind.Own decls.now)) }
     ensures first { IfOk result (λ f. f.first ≡ first_of_all (content_breaks values.now (data_kind.Own decls.now))) }
     ensures bytes { IfOk result (λ f. f.bytes ≡ bytes_kept values.now (data_kind.Own decls.now)) }
@@ -119,7 +115,11 @@ fn data_by(number: Result<u32, Reason>, bytes: Option<List<u8>>) -> Option<DataB
 }
 
 /// Puts a data block to the others, where there are not too many.
-fn put_made(made: &mut List<DataBlock>, keep: bool, block: Option<DataBlock>) -> Result<(), NoMemory>
+fn put_made(
+    made: &mut List<DataBlock>,
+    keep: bool,
+    block: Option<DataBlock>,
+) -> Result<(), NoMemory>
     ensures { OnOk result (made.new ≡ made.old ++ option_to_list (kept_if keep block)) }
 {
     match block {
@@ -163,22 +163,39 @@ fn put_data(
 }
 
 /// What the data blocks break whose place is past the last that a program may have.
+#[tactic(auto, using(crate::proofs::Firsts::none_more))]
 pub fn note_too_many(dbs: &[RawData], first: &mut Option<Break>)
     ensures { first.new ≡ with_breaks first.old (one_too_many (slice_get dbs.now MOST_BLOCKS)) }
 {
-    if let Some(d) = dbs.get(MOST_BLOCKS) {
-        note(first, d.line, Reason::TooLarge);
+    match dbs.get(MOST_BLOCKS) {
+        Some(d) => note(first, d.line, Reason::TooLarge),
+        None => {}
+    }
+}
+
+/// There are no more data blocks than a program may have.
+fn are_few(dbs: &[RawData]) -> bool
+    ensures { result ≡ is_none (slice_get dbs.now MOST_BLOCKS) }
+{
+    match dbs.get(MOST_BLOCKS) {
+        Some(_) => false,
+        None => true,
     }
 }
 
 /// The data blocks of a text.
-pub fn put_dbs(alloc: Global, names: &Names<'_>, dbs: &[RawData], first: Option<Break>) -> Result<Found, NoMemory>
+pub fn put_dbs(
+    alloc: Global,
+    names: &Names<'_>,
+    dbs: &[RawData],
+    first: Option<Break>,
+) -> Result<Found, NoMemory>
     requires { dbs.now ≡ names.now.dbs }
     ensures refused { IfOk result (λ f. f.refused.items ≡ map (λ (d : RawData). is_refused d.kind) dbs.now) }
     ensures made { IfOk result (λ f. f.made ≡ filter_map (data_kept (is_none (slice_get dbs.now MOST_BLOCKS)) names.now.symbols) dbs.now) }
     ensures first { IfOk result (λ f. f.first ≡ with_breaks first (dbs_behind names.now.symbols [] dbs.now)) }
 {
-    let keep = dbs.get(MOST_BLOCKS).is_none();
+    let keep = are_few(dbs);
     let mut found = Found {
         refused: Vec::new(alloc),
         made: List::new(alloc),

@@ -37,7 +37,12 @@ fn note_line(
 {
     let repeated = symbols.is_repeated(alloc, place, line.name.as_slice())?;
     note_if(first, repeated, line.line, Reason::DuplicateName);
-    note_if(first, !is_address(line.address), line.line, Reason::BadAddress);
+    note_if(
+        first,
+        !is_address(line.address),
+        line.line,
+        Reason::BadAddress,
+    );
     Ok(())
 }
 

@@ -6,8 +6,8 @@
 //! is kept.
 #![tactic(auto)]
 
-pub use resolution::resolve;
 pub use not_built::unbuilt;
+pub use resolution::resolve;
 
 mod blocks;
 mod data;
@@ -15,9 +15,9 @@ mod first;
 mod headings;
 mod instruction;
 mod names;
+mod not_built;
 mod numbers;
 mod place;
 mod resolution;
 mod sight;
 mod symbols;
-mod not_built;

@@ -22,7 +22,6 @@ impl<'t> Model for Names<'t> {
     ghost use Rattle.std.specs.Prelude.{◌≡◌};
     ghost use Rattle.stl_tree.specs.declared.raw.RawProgram.{RawProgram};
     ghost use Rattle.symbol_names.specs.inner.Places.{db_numbers};
-
     ghost use Rattle.std.specs.Coded.{codes};
     ghost use Rattle.stl_tree.specs.contracts.raw.DeclType as declared;
     ghost use Rattle.stl_tree.specs.contracts.raw.Declaration as declaration;

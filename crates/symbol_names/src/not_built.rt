@@ -17,7 +17,9 @@ use s7_base::{Break, Kind, Line, NoMemory, Reason};
 use std::alloc::Global;
 use stl_instructions::mnemonic_named;
 use stl_statements::Mnemonic;
-use stl_tree::{BlockKind, PathStep, RawBlock, RawData, RawDataKind, RawInstr, RawOperand, RawProgram};
+use stl_tree::{
+    BlockKind, PathStep, RawBlock, RawData, RawDataKind, RawInstr, RawOperand, RawProgram,
+};
 
 /// Something is not built, unless it is.
 #[tactic(auto, using(crate::proofs::Firsts::none_more))]

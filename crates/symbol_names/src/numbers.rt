@@ -40,11 +40,7 @@ fn look_up(places: &IndexMap<u32, usize>, number: u32) -> Option<usize>
 
 /// Keeps the place of a number that has none.
 #[tactic(auto, using(crate::proofs::Tables::kept_number, crate::proofs::Tables::put_number))]
-fn put_number(
-    places: &mut IndexMap<u32, usize>,
-    number: u32,
-    place: usize,
-) -> Result<(), NoMemory>
+fn put_number(places: &mut IndexMap<u32, usize>, number: u32, place: usize) -> Result<(), NoMemory>
     ensures { OnOk result (places.new.entries ≡ with_place nat_eq number place places.old.entries) }
 {
     if look_up(places, number).is_some() {

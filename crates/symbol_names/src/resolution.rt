@@ -45,7 +45,13 @@ fn parts_of(alloc: Global, raw: &RawProgram) -> Result<Parts, NoMemory>
     } = put_dbs(alloc, &names, raw.dbs.as_slice(), first)?;
     let mut later = first;
     note_too_many(raw.dbs.as_slice(), &mut later);
-    let blocks = put_blocks(alloc, &names, refused.as_slice(), raw.blocks.as_slice(), later)?;
+    let blocks = put_blocks(
+        alloc,
+        &names,
+        refused.as_slice(),
+        raw.blocks.as_slice(),
+        later,
+    )?;
     let Blocks {
         made: blocks,
         first,
@@ -98,6 +104,7 @@ fn symbol_of(line: SymbolLine) -> Option<Symbol>
 }
 
 /// The symbols of a program.
+#[tactic(auto, using(crate::proofs::Filtered::kept_one))]
 fn symbols_of(alloc: Global, lines: List<SymbolLine>) -> Result<List<Symbol>, NoMemory>
     ensures { IfOk result (λ symbols. symbols ≡ filter_map symbol_kept lines) }
 {

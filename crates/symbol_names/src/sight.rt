@@ -3,7 +3,7 @@ ghost use Rattle.std.specs.Prelude.{◌≡◌, IfOk, map, if◌then◌else◌, S
 ghost use Rattle.memory_areas.specs.declared.place.AreaName.TheVariants as area;
 ghost use Rattle.stl_rules.specs.Names.{db_numbered, number_at, number_of, symbol_named};
 ghost use Rattle.stl_rules.specs.Paths.{component_in};
-ghost use Rattle.stl_rules.specs.Raw.{are_refused, given, given_component, given_in_data, given_in_kind, given_number, given_open, given_path, most_in_block, most_local};
+ghost use Rattle.stl_rules.specs.Raw.{are_refused, given, given_component, given_in_data, given_in_kind, given_number, given_open, given_path, given_symbol, most_local};
 ghost use Rattle.stl_rules.specs.declared.given.Given.TheVariants as behind;
 ghost use Rattle.stl_tree.specs.declared.raw.BlockKind.TheVariants as block;
 ghost use Rattle.stl_tree.specs.declared.raw.RawData.{RawData};
@@ -39,7 +39,6 @@ impl<'s, 't> Model for Sight<'s, 't> {
     ghost use Rattle.stl_rules.specs.Raw.{Sight, are_refused, most_local};
     ghost use Rattle.stl_tree.specs.declared.raw.RawData.{RawData};
     ghost use Rattle.symbol_names.specs.inner.Refused.{is_refused};
-
     ghost use Rattle.std.specs.Coded.{codes};
     ghost use Rattle.stl_tree.specs.contracts.raw.DeclType as declared;
     ghost use Rattle.stl_tree.specs.contracts.raw.Declaration as declaration;
@@ -139,7 +138,7 @@ impl<'s, 't> Sight<'s, 't> {
     }
 
     /// What a path names in the data block of a number.
-    #[tactic(auto, using(crate::proofs::Places::mapped_at))]
+    #[tactic(auto, using(crate::proofs::Places::at_places))]
     fn given_in_data(&self, number: u32, path: &[PathStep]) -> Given
         ensures { result ≡ given_in_data number path.now (db_numbered self.now.symbols self.now.dbs number) }
     {
@@ -147,14 +146,22 @@ impl<'s, 't> Sight<'s, 't> {
         let Some(place) = names.place_of_db(number) else {
             return Given::Unknown;
         };
-        match (names.text().dbs.as_slice().get(place), self.refused.get(place)) {
+        match (
+            names.text().dbs.as_slice().get(place),
+            self.refused.get(place),
+        ) {
             (Some(d), Some(refused)) => given_in_kind(*refused, number, path, &d.kind),
             _ => Given::Unknown,
         }
     }
 
     /// What a path names in the data block of a name.
-    fn given_in_block(&self, alloc: Global, name: &[u8], path: &[PathStep]) -> Result<Given, NoMemory>
+    fn given_in_block(
+        &self,
+        alloc: Global,
+        name: &[u8],
+        path: &[PathStep],
+    ) -> Result<Given, NoMemory>
         ensures { IfOk result (λ g. g
             ≡ given_number (λ n. given_in_data n path.now (db_numbered self.now.symbols self.now.dbs n))
             (number_at block.Db (symbol_named self.now.symbols name.now))) }

@@ -58,10 +58,7 @@ fn put_place(
 }
 
 /// The places of the first lines of all names.
-fn places_of(
-    alloc: Global,
-    lines: &[SymbolLine],
-) -> Result<IndexMap<Vec<u8>, usize>, NoMemory>
+fn places_of(alloc: Global, lines: &[SymbolLine]) -> Result<IndexMap<Vec<u8>, usize>, NoMemory>
     ensures { IfOk result (λ places. AreNamePlaces lines.now (map (λ e. (e.0.items, e.1)) places.entries)) }
 {
     let mut places = IndexMap::new(alloc);

@@ -1,6 +1,5 @@
 use Rattle.std.proofs.Common.{◌≡◌, [], take, drop}
-use Rattle.std.specs.List.{flat_map}
-use Rattle.std.specs.Option.{option_to_list}
+use Rattle.std.specs.List.{filter_map}
 use Rattle.stl_rules.specs.Stages.{blocks_behind}
 use Rattle.symbol_names.specs.inner.Firsts.{with_breaks}
 use Rattle.symbol_names.specs.inner.Kept.{block_kept}
@@ -10,6 +9,6 @@ use Rattle.symbol_names.proofs.blocks.put_blocks.Given as goal
 -- what is found and what the rest breaks are what all blocks break
 abbrev pub invariant-loop-place : goal.invariant-loop-place
 invariant-loop-place l =
-    (l.blocks.made ≡ flat_map (λ raw. option_to_list (block_kept l.names raw)) (take l.place l.raws))
+    (l.blocks.made ≡ filter_map (block_kept l.names) (take l.place l.raws))
     × (with_breaks l.blocks.first (blocks_behind l.names (numbers_before (take l.place (block_numbers l.names.symbols l.raws))) (drop l.place l.raws))
     ≡ with_breaks l.initial.blocks.first (blocks_behind l.names [] l.raws))

@@ -1,6 +1,5 @@
 use Rattle.std.proofs.Common.{◌≡◌, [], map, take, drop}
-use Rattle.std.specs.List.{flat_map}
-use Rattle.std.specs.Option.{option_to_list}
+use Rattle.std.specs.List.{filter_map}
 use Rattle.stl_rules.specs.Stages.{dbs_behind}
 use Rattle.stl_tree.specs.declared.raw.RawData.{RawData}
 use Rattle.symbol_names.specs.inner.Firsts.{with_breaks}
@@ -13,6 +12,6 @@ use Rattle.symbol_names.proofs.data.put_dbs.Given as goal
 abbrev pub invariant-loop-place : goal.invariant-loop-place
 invariant-loop-place l =
     (l.found.refused.items ≡ map (λ (d : RawData). is_refused d.kind) (take l.place l.dbs))
-    × (l.found.made ≡ flat_map (λ d. option_to_list (data_kept l.keep l.names.symbols d)) (take l.place l.dbs))
+    × (l.found.made ≡ filter_map (data_kept l.keep l.names.symbols) (take l.place l.dbs))
     × (with_breaks l.found.first (dbs_behind l.names.symbols (numbers_before (take l.place (db_numbers l.names.symbols l.dbs))) (drop l.place l.dbs))
     ≡ with_breaks l.initial.found.first (dbs_behind l.names.symbols [] l.dbs))

@@ -1,0 +1,301 @@
+//! Initial values.
+ghost use Rattle.std.specs.Prelude.{◌≡◌, ◌++◌, IfOk};
+ghost use Rattle.stl_grammar.specs.Initials.{alone, closed_value, count_of, ending_at, group_behind, initial, initial_at, initial_behind, item_of_list, last_value, list_at, once, path_value_at, pointer_at, times, truth, truth_at, value_at, values_at};
+ghost use Rattle.s7_base.specs.declared.word.Width.TheVariants as width;
+ghost use Rattle.stl_statements.specs.Constants.{constant, constant_at};
+ghost use Rattle.stl_statements.specs.Readers.{further, or_else, read_as};
+
+use crate::elements::{Next, begins_with_sign, further, next_of, one_more};
+use crate::pointer::pointer_at;
+use s7_base::{Line, List, NoMemory, Token, Width, rest_after};
+use std::alloc::Global;
+use stl_instructions::{constant_at, fitting, is_sign, is_word, is_word_kind, path_at};
+use stl_statements::{Read, number_of};
+use stl_tree::{Constant, InitialItem, PathStep, RawInitial};
+
+fn bit(value: u32) -> Constant
+    ensures { result ≡ constant width.Bit value }
+{
+    Constant {
+        width: Width::Bit,
+        signed: false,
+        binary: false,
+        value,
+    }
+}
+
+fn truth(word: &Token) -> Option<Constant>
+    ensures { result ≡ truth word.now }
+{
+    if is_word(word, "TRUE") {
+        Some(bit(1))
+    } else if is_word(word, "FALSE") {
+        Some(bit(0))
+    } else {
+        None
+    }
+}
+
+/// `TRUE` or `FALSE`.
+fn truth_at(tokens: &[Token]) -> Read<Constant>
+    ensures { result ≡ truth_at tokens.now }
+{
+    match tokens {
+        [first, ..] => fitting(1, truth(first)),
+        [] => Read::No,
+    }
+}
+
+fn constant_or_pointer_at(tokens: &[Token]) -> Result<Read<Constant>, NoMemory>
+    ensures { IfOk result (λ read. read ≡ or_else (constant_at tokens.now) (pointer_at tokens.now)) }
+{
+    match constant_at(tokens) {
+        Read::No => pointer_at(tokens),
+        read => Ok(read),
+    }
+}
+
+/// What stands where an initial value may stand.
+fn value_at(tokens: &[Token]) -> Result<Read<Constant>, NoMemory>
+    ensures { IfOk result (λ read. read ≡ value_at tokens.now) }
+{
+    match truth_at(tokens) {
+        Read::No => constant_or_pointer_at(tokens),
+        read => Ok(read),
+    }
+}
+
+/// Values and the bracket behind them.
+fn values_at(alloc: Global, tokens: &[Token]) -> Result<Read<List<Constant>>, NoMemory>
+    ensures { IfOk result (λ read. read ≡ values_at tokens.now) }
+{
+    let mut values = List::new(alloc);
+    let mut size = 0;
+    let mut rest = tokens;
+    while let [_, ..] = rest {
+        match value_at(rest)? {
+            Read::Fits(value, taken) => {
+                values.push(value)?;
+                size = one_more(size, taken)?;
+                match next_of(")", rest_after(rest, taken)) {
+                    Next::End => return Ok(Read::Fits(values, size)),
+                    Next::More => rest = rest_after(rest_after(rest, 1), taken),
+                    Next::Other => return Ok(Read::No),
+                }
+            }
+            Read::LeftOut(kind) => return Ok(Read::LeftOut(kind)),
+            Read::No => return Ok(Read::No),
+        }
+    }
+    Ok(Read::No)
+}
+
+/// How many times the values in brackets stand.
+fn count_of(word: &Token) -> Option<u32>
+    ensures { result ≡ count_of word.now }
+{
+    if !is_word_kind(word) {
+        return None;
+    }
+    match number_of(65_535, word.text.as_slice()) {
+        Some(count) if count > 0 => Some(count as u32),
+        _ => None,
+    }
+}
+
+fn repeated(count: u32, read: Read<List<Constant>>) -> Read<InitialItem>
+    ensures { result ≡ read_as (times count) read }
+{
+    match read {
+        Read::Fits(values, size) => Read::Fits(InitialItem { count, values }, size),
+        Read::LeftOut(kind) => Read::LeftOut(kind),
+        Read::No => Read::No,
+    }
+}
+
+/// Values behind their number and their bracket.
+fn group_behind(
+    alloc: Global,
+    count: Option<u32>,
+    tokens: &[Token],
+) -> Result<Read<InitialItem>, NoMemory>
+    ensures { IfOk result (λ read. read ≡ group_behind count tokens.now) }
+{
+    match count {
+        Some(count) => Ok(repeated(count, values_at(alloc, tokens)?)),
+        None => Ok(Read::No),
+    }
+}
+
+/// A value alone.
+fn once(alloc: Global, value: Constant) -> Result<InitialItem, NoMemory>
+    ensures { IfOk result (λ item. item ≡ once value) }
+{
+    let mut values = List::new(alloc);
+    values.push(value)?;
+    Ok(InitialItem { count: 1, values })
+}
+
+fn single_at(alloc: Global, tokens: &[Token]) -> Result<Read<InitialItem>, NoMemory>
+    ensures { IfOk result (λ read. read ≡ read_as once (value_at tokens.now)) }
+{
+    match value_at(tokens)? {
+        Read::Fits(value, size) => Ok(Read::Fits(once(alloc, value)?, size)),
+        Read::LeftOut(kind) => Ok(Read::LeftOut(kind)),
+        Read::No => Ok(Read::No),
+    }
+}
+
+/// A value, or values in brackets.
+fn item_of_list(alloc: Global, tokens: &[Token]) -> Result<Read<InitialItem>, NoMemory>
+    ensures { IfOk result (λ read. read ≡ item_of_list tokens.now) }
+{
+    match tokens {
+        [first, rest @ ..] if begins_with_sign("(", rest) => {
+            let group = group_behind(alloc, count_of(first), rest_after(rest, 1))?;
+            further(2, group)
+        }
+        [_, ..] => single_at(alloc, tokens),
+        [] => Ok(Read::No),
+    }
+}
+
+/// A list and `;`.
+fn list_at(alloc: Global, tokens: &[Token]) -> Result<Read<List<InitialItem>>, NoMemory>
+    ensures { IfOk result (λ read. read ≡ list_at tokens.now) }
+{
+    let mut items = List::new(alloc);
+    let mut size = 0;
+    let mut rest = tokens;
+    while let [_, ..] = rest {
+        match item_of_list(alloc, rest)? {
+            Read::Fits(item, taken) => {
+                items.push(item)?;
+                size = one_more(size, taken)?;
+                match next_of(";", rest_after(rest, taken)) {
+                    Next::End => return Ok(Read::Fits(items, size)),
+                    Next::More => rest = rest_after(rest_after(rest, 1), taken),
+                    Next::Other => return Ok(Read::No),
+                }
+            }
+            Read::LeftOut(kind) => return Ok(Read::LeftOut(kind)),
+            Read::No => return Ok(Read::No),
+        }
+    }
+    Ok(Read::No)
+}
+
+fn closed_value(value: Constant, tokens: &[Token]) -> Read<Constant>
+    ensures { result ≡ closed_value value tokens.now }
+{
+    if begins_with_sign(";", tokens) {
+        Read::Fits(value, 1)
+    } else {
+        Read::No
+    }
+}
+
+/// A value and `;`.
+fn last_value(tokens: &[Token]) -> Result<Read<Constant>, NoMemory>
+    ensures { IfOk result (λ read. read ≡ last_value tokens.now) }
+{
+    match value_at(tokens)? {
+        Read::Fits(value, size) => further(size, closed_value(value, rest_after(tokens, size))),
+        Read::LeftOut(kind) => Ok(Read::LeftOut(kind)),
+        Read::No => Ok(Read::No),
+    }
+}
+
+fn alone(alloc: Global, value: Constant) -> Result<List<InitialItem>, NoMemory>
+    ensures { IfOk result (λ items. items ≡ alone value) }
+{
+    let mut items = List::new(alloc);
+    items.push(once(alloc, value)?)?;
+    Ok(items)
+}
+
+fn alone_at(alloc: Global, tokens: &[Token]) -> Result<Read<List<InitialItem>>, NoMemory>
+    ensures { IfOk result (λ read. read ≡ read_as alone (last_value tokens.now)) }
+{
+    match last_value(tokens)? {
+        Read::Fits(value, size) => Ok(Read::Fits(alone(alloc, value)?, size)),
+        Read::LeftOut(kind) => Ok(Read::LeftOut(kind)),
+        Read::No => Ok(Read::No),
+    }
+}
+
+/// The initial value of a declaration and `;`: a list where it has an array round it.
+fn initial_at(
+    alloc: Global,
+    in_array: bool,
+    tokens: &[Token],
+) -> Result<Read<List<InitialItem>>, NoMemory>
+    ensures { IfOk result (λ read. read ≡ initial_at in_array tokens.now) }
+{
+    if in_array {
+        list_at(alloc, tokens)
+    } else {
+        alone_at(alloc, tokens)
+    }
+}
+
+/// What ends a declaration: `;`, and where it is `valued`, `:=` and an initial value before it.
+pub fn ending_at(
+    alloc: Global,
+    valued: bool,
+    in_array: bool,
+    tokens: &[Token],
+) -> Result<Read<List<InitialItem>>, NoMemory>
+    ensures { IfOk result (λ read. read ≡ ending_at valued in_array tokens.now) }
+{
+    match tokens {
+        [sign, ..] if is_sign(sign, ";") => Ok(Read::Fits(List::new(alloc), 1)),
+        [sign, rest @ ..] if valued && is_sign(sign, ":=") => {
+            further(1, initial_at(alloc, in_array, rest)?)
+        }
+        _ => Ok(Read::No),
+    }
+}
+
+fn at_path(line: Line, path: List<PathStep>, read: Read<Constant>) -> Read<RawInitial>
+    ensures { result ≡ read_as (initial line path) read }
+{
+    match read {
+        Read::Fits(value, size) => Read::Fits(RawInitial { path, line, value }, size),
+        Read::LeftOut(kind) => Read::LeftOut(kind),
+        Read::No => Read::No,
+    }
+}
+
+/// What stands behind a path.
+fn initial_behind(
+    line: Line,
+    path: List<PathStep>,
+    tokens: &[Token],
+) -> Result<Read<RawInitial>, NoMemory>
+    ensures { IfOk result (λ read. read ≡ initial_behind line path tokens.now) }
+{
+    match tokens {
+        [sign, rest @ ..] if is_sign(sign, ":=") => {
+            further(1, at_path(line, path, last_value(rest)?))
+        }
+        _ => Ok(Read::No),
+    }
+}
+
+/// An initial value of a data block, by its path.
+pub fn path_value_at(
+    alloc: Global,
+    line: Line,
+    tokens: &[Token],
+) -> Result<Read<RawInitial>, NoMemory>
+    ensures { IfOk result (λ read. read ≡ path_value_at line tokens.now) }
+{
+    match path_at(alloc, tokens)? {
+        Read::Fits(path, size) => {
+            further(size, initial_behind(line, path, rest_after(tokens, size))?)
+        }
+        Read::LeftOut(kind) => Ok(Read::LeftOut(kind)),
+        Read::No => Ok(Read::No),
+    }
+}
