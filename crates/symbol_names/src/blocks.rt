@@ -8,11 +8,12 @@ ghost use Rattle.stl_tree.specs.declared.raw.RawData.{RawData};
 ghost use Rattle.symbol_names.specs.inner.Firsts.{reasons_at, with_breaks};
 ghost use Rattle.symbol_names.specs.inner.Kept.{block_breaks, block_kept, instr_with, name_kept};
 ghost use Rattle.symbol_names.specs.inner.Places.{block_numbers, numbers_before};
-ghost use Rattle.symbol_names.specs.inner.Refused.{is_refused};
+ghost use Rattle.symbol_names.specs.inner.Refused.{own_of};
 
 use crate::first::{join, note};
 use crate::headings::note_heading;
 use crate::instruction::op_by;
+use crate::laid::Laid;
 use crate::names::{Names, numbers_of_blocks};
 use crate::numbers::Numbers;
 use crate::sight::Sight;
@@ -179,13 +180,13 @@ fn put_named(
 fn put_block(
     alloc: Global,
     names: &Names<'_>,
-    refused: &[bool],
+    laid: &[Laid<'_>],
     numbers: &Numbers,
     place: usize,
     raw: &RawBlock,
     blocks: &mut Blocks,
 ) -> Result<(), NoMemory>
-    requires { refused.now ≡ map (λ (d : RawData). is_refused d.kind) names.now.dbs }
+    requires { laid.now ≡ map own_of names.now.dbs }
     ensures made { OnOk result (blocks.new.made ≡ blocks.old.made ++ option_to_list (block_kept names.now raw.now)) }
     ensures first { OnOk result (blocks.new.first ≡ with_breaks blocks.old.first (block_breaks names.now (numbers_before (take place numbers.now)) raw.now)) }
 {
@@ -201,7 +202,8 @@ fn put_block(
     let temps = raw.temps.as_slice();
     let temps_first = first_break(alloc, temps, MOST_LOCAL)?;
     join(&mut blocks.first, temps_first);
-    let sight = Sight::new(names, refused, temps, temps_first.is_some());
+    let temps = Laid::new(alloc, temps, MOST_LOCAL, temps_first.is_some())?;
+    let sight = Sight::new(names, laid, &temps);
     let body = body_of(alloc, &sight, raw, &mut blocks.first)?;
     put_named(
         alloc,
@@ -224,11 +226,11 @@ fn numbers_of(alloc: Global, names: &Names<'_>, raws: &[RawBlock]) -> Result<Num
 pub fn put_blocks(
     alloc: Global,
     names: &Names<'_>,
-    refused: &[bool],
+    laid: &[Laid<'_>],
     raws: &[RawBlock],
     first: Option<Break>,
 ) -> Result<Blocks, NoMemory>
-    requires { refused.now ≡ map (λ (d : RawData). is_refused d.kind) names.now.dbs }
+    requires { laid.now ≡ map own_of names.now.dbs }
     ensures made { IfOk result (λ b. b.made ≡ filter_map (block_kept names.now) raws.now) }
     ensures first { IfOk result (λ b. b.first ≡ with_breaks first (blocks_behind names.now [] raws.now)) }
 {
@@ -239,7 +241,7 @@ pub fn put_blocks(
     };
     for place in 0..raws.len() {
         let raw = &raws[place];
-        put_block(alloc, names, refused, &numbers, place, raw, &mut blocks)?;
+        put_block(alloc, names, laid, &numbers, place, raw, &mut blocks)?;
     }
     Ok(blocks)
 }

@@ -5,17 +5,18 @@ ghost use Rattle.std.specs.Option.{option_to_list};
 ghost use Rattle.memory_areas.specs.declared.sizes.TheConstants.{MOST_BLOCKS};
 ghost use Rattle.s7_base.specs.Broken.{first_of_all};
 ghost use Rattle.stl_rules.specs.Names.{number_of};
+ghost use Rattle.stl_rules.specs.Raw.{most_in_block};
 ghost use Rattle.stl_rules.specs.Stages.{content_breaks, dbs_behind, one_too_many};
 ghost use Rattle.stl_tree.specs.declared.raw.BlockKind.TheVariants as block;
-ghost use Rattle.stl_tree.specs.declared.raw.RawData.{RawData};
 ghost use Rattle.stl_tree.specs.declared.raw.RawDataKind.TheVariants as data_kind;
 ghost use Rattle.symbol_names.specs.inner.Firsts.{with_breaks};
 ghost use Rattle.symbol_names.specs.inner.Kept.{bytes_kept, data_by, data_kept, db_breaks, kept_if};
 ghost use Rattle.symbol_names.specs.inner.Places.{db_numbers, numbers_before};
-ghost use Rattle.symbol_names.specs.inner.Refused.{is_refused};
+ghost use Rattle.symbol_names.specs.inner.Refused.{decls_of, is_refused, own_of};
 
 use crate::first::{join, note};
 use crate::headings::note_heading;
+use crate::laid::Laid;
 use crate::names::Names;
 use crate::symbols::may_have;
 use data_contents::{Content, content_of};
@@ -23,6 +24,10 @@ use memory_areas::{DataBlock, MOST_BLOCKS};
 use s7_base::{Break, List, NoMemory, Reason};
 use std::alloc::Global;
 use stl_tree::{BlockKind, Declaration, RawData, RawDataKind, RawInitial};
+use symbol_layout::first_break;
+
+/// The most bytes of a data block.
+const MOST_IN_BLOCK: u32 = 16_384;
 
 /// What a data block holds.
 #[derive(Drop)]
@@ -38,9 +43,9 @@ struct Filled {
 
 /// What is found of data blocks.
 #[derive(Drop)]
-pub struct Found {
-    /// Which have declarations that break a rule.
-    pub refused: Vec<bool>,
+pub struct Found<'t> {
+    /// Their declarations.
+    pub laid: Vec<Laid<'t>>,
 
     /// Those that break no rule of their own.
     pub made: List<DataBlock>,
@@ -128,17 +133,31 @@ fn put_made(
     }
 }
 
+/// The declarations of a data block, given whether they break a rule.
+fn laid_of(alloc: Global, kind: &RawDataKind, refused: bool) -> Result<Laid<'_>, NoMemory>
+    requires { refused ≡ is_refused kind.now }
+    ensures { IfOk result (λ laid. laid ≡ (most_in_block, decls_of kind.now)) }
+{
+    match kind {
+        RawDataKind::Own(decls) => Laid::new(alloc, decls.as_slice(), MOST_IN_BLOCK, refused),
+        RawDataKind::Instance(_) => {
+            let none = first_break(alloc, &[], MOST_IN_BLOCK)?;
+            Laid::new(alloc, &[], MOST_IN_BLOCK, none.is_some())
+        }
+    }
+}
+
 /// One more data block.
 #[tactic(auto, using(crate::proofs::Firsts::behind, crate::proofs::Firsts::joins))]
-fn put_data(
+fn put_data<'t>(
     alloc: Global,
     names: &Names<'_>,
     keep: bool,
     place: usize,
-    d: &RawData,
-    found: &mut Found,
+    d: &'t RawData,
+    found: &mut Found<'t>,
 ) -> Result<(), NoMemory>
-    ensures refused { OnOk result (found.new.refused.items ≡ found.old.refused.items ++ is_refused d.now.kind ∷ []) }
+    ensures laid { OnOk result (found.new.laid.items ≡ found.old.laid.items ++ own_of d.now ∷ []) }
     ensures made { OnOk result (found.new.made ≡ found.old.made ++ option_to_list (data_kept keep names.now.symbols d.now)) }
     ensures first { OnOk result (found.new.first ≡ with_breaks found.old.first (db_breaks
         (numbers_before (take place (db_numbers names.now.symbols names.now.dbs))) d.now (number_of names.now.symbols block.Db d.now.name))) }
@@ -158,7 +177,7 @@ fn put_data(
         bytes,
     } = fill(alloc, d)?;
     join(&mut found.first, first);
-    found.refused.push(refused)?;
+    found.laid.push(laid_of(alloc, &d.kind, refused)?)?;
     put_made(&mut found.made, keep, data_by(number, bytes))
 }
 
@@ -184,20 +203,20 @@ fn are_few(dbs: &[RawData]) -> bool
 }
 
 /// The data blocks of a text.
-pub fn put_dbs(
+pub fn put_dbs<'t>(
     alloc: Global,
     names: &Names<'_>,
-    dbs: &[RawData],
+    dbs: &'t [RawData],
     first: Option<Break>,
-) -> Result<Found, NoMemory>
+) -> Result<Found<'t>, NoMemory>
     requires { dbs.now ≡ names.now.dbs }
-    ensures refused { IfOk result (λ f. f.refused.items ≡ map (λ (d : RawData). is_refused d.kind) dbs.now) }
+    ensures laid { IfOk result (λ f. f.laid.items ≡ map own_of dbs.now) }
     ensures made { IfOk result (λ f. f.made ≡ filter_map (data_kept (is_none (slice_get dbs.now MOST_BLOCKS)) names.now.symbols) dbs.now) }
     ensures first { IfOk result (λ f. f.first ≡ with_breaks first (dbs_behind names.now.symbols [] dbs.now)) }
 {
     let keep = are_few(dbs);
     let mut found = Found {
-        refused: Vec::new(alloc),
+        laid: Vec::new(alloc),
         made: List::new(alloc),
         first,
     };

@@ -1,6 +1,6 @@
 //! What the names of a source mean: its program, or the first rule of names, blocks and layouts that it breaks.
 //!
-//! Stands on `stl_rules`, which has all of this as definitions, on `symbol_layout` for paths into declarations
+//! Stands on `stl_rules`, which has all of this as definitions, on `component_index` for paths into declarations
 //! and on `data_contents` for the bytes of data blocks. `names` finds symbols and data blocks by maps, `sight`
 //! says what stands behind a mnemonic, and `instruction` what comes of both. Of the broken rules the first alone
 //! is kept.
@@ -14,6 +14,7 @@ mod data;
 mod first;
 mod headings;
 mod instruction;
+mod laid;
 mod names;
 mod not_built;
 mod numbers;

@@ -38,20 +38,10 @@ fn parts_of(alloc: Global, raw: &RawProgram) -> Result<Parts, NoMemory>
     let names = Names::new(alloc, raw)?;
     let mut first = None;
     note_symbols(alloc, names.symbols(), raw.symbols.as_slice(), &mut first)?;
-    let Found {
-        refused,
-        made,
-        first,
-    } = put_dbs(alloc, &names, raw.dbs.as_slice(), first)?;
+    let Found { laid, made, first } = put_dbs(alloc, &names, raw.dbs.as_slice(), first)?;
     let mut later = first;
     note_too_many(raw.dbs.as_slice(), &mut later);
-    let blocks = put_blocks(
-        alloc,
-        &names,
-        refused.as_slice(),
-        raw.blocks.as_slice(),
-        later,
-    )?;
+    let blocks = put_blocks(alloc, &names, laid.as_slice(), raw.blocks.as_slice(), later)?;
     let Blocks {
         made: blocks,
         first,

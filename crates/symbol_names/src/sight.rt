@@ -2,43 +2,37 @@
 ghost use Rattle.std.specs.Prelude.{◌≡◌, IfOk, map, if◌then◌else◌, Some, None, ◌∷◌, []};
 ghost use Rattle.memory_areas.specs.declared.place.AreaName.TheVariants as area;
 ghost use Rattle.stl_rules.specs.Names.{db_numbered, number_at, number_of, symbol_named};
-ghost use Rattle.stl_rules.specs.Paths.{component_in};
-ghost use Rattle.stl_rules.specs.Raw.{are_refused, given, given_component, given_in_data, given_in_kind, given_number, given_open, given_path, given_symbol, most_local};
+ghost use Rattle.stl_rules.specs.Raw.{are_refused, given, given_component, given_in_data, given_in_kind, given_number, given_open, given_path, given_symbol, most_in_block, most_local};
 ghost use Rattle.stl_rules.specs.declared.given.Given.TheVariants as behind;
 ghost use Rattle.stl_tree.specs.declared.raw.BlockKind.TheVariants as block;
-ghost use Rattle.stl_tree.specs.declared.raw.RawData.{RawData};
-ghost use Rattle.symbol_names.specs.inner.Refused.{is_refused};
+ghost use Rattle.symbol_names.specs.inner.Refused.{decls_of, own_of};
 
+use crate::laid::Laid;
 use crate::names::Names;
-use crate::place::{given_component, given_place, given_symbol};
+use crate::place::{given_place, given_symbol};
 use crate::symbols::may_have;
 use memory_areas::AreaName;
 use s7_base::{NoMemory, Reason};
 use std::alloc::Global;
 use std::marker::Model;
 use stl_rules::Given;
-use stl_tree::{BlockKind, Declaration, PathStep, RawDataKind, RawName, RawOperand};
-use symbol_layout::component;
+use stl_tree::{BlockKind, PathStep, RawDataKind, RawName, RawOperand};
 
 /// What names mean in a block. Contracts see the symbol table, the data blocks and the temporaries.
 #[derive(Drop)]
 pub struct Sight<'s, 't> {
     names: &'s Names<'t>,
 
-    /// Which data blocks have declarations that break a rule.
-    refused: &'s [bool],
+    /// The declarations of the data blocks.
+    laid: &'s [Laid<'t>],
 
-    temps: &'s [Declaration],
-
-    /// The temporaries break a rule.
-    temps_refused: bool,
+    temps: &'s Laid<'t>,
 }
 
 impl<'s, 't> Model for Sight<'s, 't> {
     ghost use Rattle.std.specs.Prelude.{◌≡◌, map};
-    ghost use Rattle.stl_rules.specs.Raw.{Sight, are_refused, most_local};
-    ghost use Rattle.stl_tree.specs.declared.raw.RawData.{RawData};
-    ghost use Rattle.symbol_names.specs.inner.Refused.{is_refused};
+    ghost use Rattle.stl_rules.specs.Raw.{Sight, most_local};
+    ghost use Rattle.symbol_names.specs.inner.Refused.{own_of};
     ghost use Rattle.std.specs.Coded.{codes};
     ghost use Rattle.stl_tree.specs.contracts.raw.DeclType as declared;
     ghost use Rattle.stl_tree.specs.contracts.raw.Declaration as declaration;
@@ -47,43 +41,25 @@ impl<'s, 't> Model for Sight<'s, 't> {
 
     ghost coded = { Prim.hlevel (codes, declared.the_row.coded, declaration.the_row.coded) };
 
-    ghost view = { λ s. record { symbols = s.names.now.symbols; dbs = s.names.now.dbs; temps = s.temps.now } };
+    ghost view = { λ s. record { symbols = s.names.now.symbols; dbs = s.names.now.dbs; temps = s.temps.now.1 } };
 
-    ghost invariant = { λ s. (s.refused.now ≡ map (λ (d : RawData). is_refused d.kind) s.names.now.dbs)
-        × (s.temps_refused ≡ are_refused most_local s.temps.now) };
-}
-
-/// What a path names in declarations that keep the rules.
-fn given_path(
-    refused: bool,
-    number: Option<u32>,
-    area: AreaName,
-    decls: &[Declaration],
-    path: &[PathStep],
-) -> Given
-    ensures { result ≡ (if refused then behind.Unjudged else given_component number area (component_in (decls.now ∷ []) path.now)) }
-{
-    if refused {
-        Given::Unjudged
-    } else {
-        given_component(number, area, component(decls, path))
-    }
+    ghost invariant = { λ s. (s.laid.now ≡ map own_of s.names.now.dbs) × (s.temps.now.0 ≡ most_local) };
 }
 
 /// What a path names in a data block of a number.
-fn given_in_kind(refused: bool, number: u32, path: &[PathStep], kind: &RawDataKind) -> Given
-    requires { refused ≡ is_refused kind.now }
-    ensures { result ≡ given_in_kind number path.now kind.now }
+fn given_in_kind(
+    alloc: Global,
+    laid: &Laid<'_>,
+    number: u32,
+    path: &[PathStep],
+    kind: &RawDataKind,
+) -> Result<Given, NoMemory>
+    requires { laid.now ≡ (most_in_block, decls_of kind.now) }
+    ensures { IfOk result (λ g. g ≡ given_in_kind number path.now kind.now) }
 {
     match kind {
-        RawDataKind::Own(decls) => given_path(
-            refused,
-            Some(number),
-            AreaName::Db,
-            decls.as_slice(),
-            path,
-        ),
-        RawDataKind::Instance(_) => Given::Other,
+        RawDataKind::Own(_) => laid.given(alloc, Some(number), AreaName::Db, path),
+        RawDataKind::Instance(_) => Ok(Given::Other),
     }
 }
 
@@ -111,22 +87,12 @@ fn given_di(number: u32) -> Given
 
 impl<'s, 't> Sight<'s, 't> {
     /// What names mean in a block with these temporaries.
-    pub fn new(
-        names: &'s Names<'t>,
-        refused: &'s [bool],
-        temps: &'s [Declaration],
-        temps_refused: bool,
-    ) -> Sight<'s, 't>
-        requires data { refused.now ≡ map (λ (d : RawData). is_refused d.kind) names.now.dbs }
-        requires temps { temps_refused ≡ are_refused most_local temps.now }
-        ensures { result ≡ record { symbols = names.now.symbols; dbs = names.now.dbs; temps = temps.now } }
+    pub fn new(names: &'s Names<'t>, laid: &'s [Laid<'t>], temps: &'s Laid<'t>) -> Sight<'s, 't>
+        requires data { laid.now ≡ map own_of names.now.dbs }
+        requires temps { temps.now.0 ≡ most_local }
+        ensures { result ≡ record { symbols = names.now.symbols; dbs = names.now.dbs; temps = temps.now.1 } }
     {
-        Sight {
-            names,
-            refused,
-            temps,
-            temps_refused,
-        }
+        Sight { names, laid, temps }
     }
 
     /// The address of a name, as an operand.
@@ -139,19 +105,21 @@ impl<'s, 't> Sight<'s, 't> {
 
     /// What a path names in the data block of a number.
     #[tactic(auto, using(crate::proofs::Places::at_places))]
-    fn given_in_data(&self, number: u32, path: &[PathStep]) -> Given
-        ensures { result ≡ given_in_data number path.now (db_numbered self.now.symbols self.now.dbs number) }
+    fn given_in_data(
+        &self,
+        alloc: Global,
+        number: u32,
+        path: &[PathStep],
+    ) -> Result<Given, NoMemory>
+        ensures { IfOk result (λ g. g ≡ given_in_data number path.now (db_numbered self.now.symbols self.now.dbs number)) }
     {
         let names = self.names;
         let Some(place) = names.place_of_db(number) else {
-            return Given::Unknown;
+            return Ok(Given::Unknown);
         };
-        match (
-            names.text().dbs.as_slice().get(place),
-            self.refused.get(place),
-        ) {
-            (Some(d), Some(refused)) => given_in_kind(*refused, number, path, &d.kind),
-            _ => Given::Unknown,
+        match (names.text().dbs.as_slice().get(place), self.laid.get(place)) {
+            (Some(d), Some(laid)) => given_in_kind(alloc, laid, number, path, &d.kind),
+            _ => Ok(Given::Unknown),
         }
     }
 
@@ -168,7 +136,7 @@ impl<'s, 't> Sight<'s, 't> {
     {
         let names = self.names;
         match names.symbols().number_named(alloc, BlockKind::Db, name)? {
-            Ok(number) => Ok(self.given_in_data(number, path)),
+            Ok(number) => self.given_in_data(alloc, number, path),
             Err(Reason::UnknownName) => Ok(Given::Unknown),
             Err(_) => Ok(Given::Unfit),
         }
@@ -199,10 +167,10 @@ impl<'s, 't> Sight<'s, 't> {
     }
 
     /// What a path names in the temporaries.
-    fn given_local(&self, path: &[PathStep]) -> Given
-        ensures { result ≡ given_path most_local None area.L self.now.temps path.now }
+    fn given_local(&self, alloc: Global, path: &[PathStep]) -> Result<Given, NoMemory>
+        ensures { IfOk result (λ g. g ≡ given_path most_local None area.L self.now.temps path.now) }
     {
-        given_path(self.temps_refused, None, AreaName::L, self.temps, path)
+        self.temps.given(alloc, None, AreaName::L, path)
     }
 
     /// What stands behind the mnemonic of a raw operand.
@@ -217,7 +185,7 @@ impl<'s, 't> Sight<'s, 't> {
             RawOperand::InBlock(name, path) => {
                 self.given_in_block(alloc, name.as_slice(), path.as_slice())
             }
-            RawOperand::Local(path) => Ok(self.given_local(path.as_slice())),
+            RawOperand::Local(path) => self.given_local(alloc, path.as_slice()),
             RawOperand::Flag(test) => Ok(Given::Flag(*test)),
             RawOperand::Stw => Ok(Given::Stw),
             RawOperand::DbNo => Ok(Given::DbNo),

@@ -5,13 +5,13 @@ use Rattle.stl_tree.specs.declared.raw.RawData.{RawData}
 use Rattle.symbol_names.specs.inner.Firsts.{with_breaks}
 use Rattle.symbol_names.specs.inner.Kept.{data_kept}
 use Rattle.symbol_names.specs.inner.Places.{db_numbers, numbers_before}
-use Rattle.symbol_names.specs.inner.Refused.{is_refused}
+use Rattle.symbol_names.specs.inner.Refused.{own_of}
 use Rattle.symbol_names.proofs.data.put_dbs.Given as goal
 
 -- what is found and what the rest breaks are what all data blocks break
 abbrev pub invariant-loop-place : goal.invariant-loop-place
 invariant-loop-place l =
-    (l.found.refused.items ≡ map (λ (d : RawData). is_refused d.kind) (take l.place l.dbs))
+    (l.found.laid.items ≡ map own_of (take l.place l.dbs))
     × (l.found.made ≡ filter_map (data_kept l.keep l.names.symbols) (take l.place l.dbs))
     × (with_breaks l.found.first (dbs_behind l.names.symbols (numbers_before (take l.place (db_numbers l.names.symbols l.dbs))) (drop l.place l.dbs))
     ≡ with_breaks l.initial.found.first (dbs_behind l.names.symbols [] l.dbs))

@@ -1,0 +1,77 @@
+//! Declarations whose rules are judged and whose components are found by maps.
+ghost use Rattle.std.specs.Prelude.{◌≡◌, ◌++◌, ◌∷◌, [], IfOk, OnOk};
+ghost use Rattle.stl_rules.specs.Raw.{are_refused, given_path};
+
+use crate::place::given_component;
+use component_index::Components;
+use memory_areas::AreaName;
+use s7_base::NoMemory;
+use std::alloc::Global;
+use std::marker::Model;
+use stl_rules::Given;
+use stl_tree::{Declaration, PathStep};
+
+/// The declarations of a block. Contracts see them behind the most bytes that they may take.
+#[derive(Drop)]
+pub struct Laid<'d> {
+    limit: u32,
+
+    /// They break a rule.
+    refused: bool,
+
+    components: Components<'d>,
+}
+
+impl<'d> Model for Laid<'d> {
+    ghost use Rattle.std.specs.Prelude.{◌≡◌, ℕ, List};
+    ghost use Rattle.std.specs.Coded.{codes};
+    ghost use Rattle.stl_rules.specs.Raw.{are_refused};
+    ghost use Rattle.stl_tree.specs.declared.raw.Declaration.{Declaration};
+    ghost use Rattle.stl_tree.specs.contracts.raw.DeclType as declared;
+    ghost use Rattle.stl_tree.specs.contracts.raw.Declaration as declaration;
+
+    ghost Value = { ℕ × List Declaration };
+
+    ghost coded = { Prim.hlevel (codes, declared.the_row.coded, declaration.the_row.coded) };
+
+    ghost view = { λ l. (l.limit, l.components) };
+
+    ghost invariant = { λ l. l.refused ≡ are_refused l.limit l.components };
+}
+
+impl<'d> Laid<'d> {
+    /// Declarations that break a rule within a limit, or none.
+    pub fn new(
+        alloc: Global,
+        decls: &'d [Declaration],
+        limit: u32,
+        refused: bool,
+    ) -> Result<Laid<'d>, NoMemory>
+        requires { refused ≡ are_refused limit decls.now }
+        ensures { IfOk result (λ laid. laid ≡ (limit, decls.now)) }
+    {
+        let components = Components::new(alloc, decls)?;
+        Ok(Laid {
+            limit,
+            refused,
+            components,
+        })
+    }
+
+    /// What a path names, in an area or in the data block of a number.
+    pub fn given(
+        &self,
+        alloc: Global,
+        number: Option<u32>,
+        area: AreaName,
+        path: &[PathStep],
+    ) -> Result<Given, NoMemory>
+        ensures { IfOk result (λ g. g ≡ given_path self.now.0 number area self.now.1 path.now) }
+    {
+        if self.refused {
+            return Ok(Given::Unjudged);
+        }
+        let at = self.components.component(alloc, path)?;
+        Ok(given_component(number, area, at))
+    }
+}
