@@ -150,7 +150,7 @@ static CHECKS: [(&[u8], Check); 6] = [
 ];
 
 /// Statements that begin with a mnemonic or a label and have no form that is built, each on line 1.
-static NOT_BUILT: [&[u8]; 44] = [
+static NOT_BUILT: [&[u8]; 42] = [
     b"A",
     b"X",
     b"AN",
@@ -190,8 +190,6 @@ static NOT_BUILT: [&[u8]; 44] = [
     b"BLD M 0.0",
     b"JU a",
     b"CALL FC 1",
-    b"A \"name\"",
-    b"A #x",
     b"a: SET",
     b"A: A I 0.0",
     b"a:= Q 4.0",

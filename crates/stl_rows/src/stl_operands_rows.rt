@@ -604,7 +604,7 @@ static LEFT_OUT: [(Kind, &[&[u8]]); 9] = [
 ];
 
 /// Statements that begin with a mnemonic and have no form that is built.
-static NOT_BUILT: [&[u8]; 128] = [
+static NOT_BUILT: [&[u8]; 126] = [
     b"OPN",
     b"OPN 5",
     b"OPN DB",
@@ -690,8 +690,6 @@ static NOT_BUILT: [&[u8]; 128] = [
     b"L STW 0",
     b"L PI 0.0",
     b"L PIX 0",
-    b"L \"x\"",
-    b"L #x",
     b"T 5",
     b"T 1.5",
     b"T T#5",
