@@ -2,9 +2,9 @@
 use Rattle.std.proofs.Common.{◌≡◌, refl, Ok, Err, pos}
 use Rattle.std.specs.Prelude.{neg_ℤ}
 use Rattle.s7_base.specs.declared.outcome.Fault.TheVariants.{AreaCode}
-use Rattle.memory_areas.specs.Access.{code_of_pointer, byte_of_pointer, bit_of_pointer}
+use Rattle.memory_areas.specs.Pointers.{bit_of_pointer, byte_of_pointer, code_of_pointer, moved, with_offset}
 use Rattle.memory_areas.specs.declared.place.Area.TheVariants as area
-use Rattle.address_registers.specs.Pointers.{with_offset, moved, resolved}
+use Rattle.address_registers.specs.Pointers.{resolved}
 
 -- P#M 10.3
 

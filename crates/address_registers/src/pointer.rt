@@ -1,8 +1,7 @@
 //! Pointers, their parts and what is added to them.
 ghost use Rattle.std.specs.Prelude.{◌≡◌, ◌%◌, ◌^◌, pos, unsigned_abs};
 ghost use Rattle.std.specs.Int.{int_rem_euclid};
-ghost use Rattle.memory_areas.specs.Access.{code_of_pointer, byte_of_pointer, bit_of_pointer};
-ghost use Rattle.address_registers.specs.Pointers.{with_offset, moved};
+ghost use Rattle.memory_areas.specs.Pointers.{bit_of_pointer, byte_of_pointer, code_of_pointer, moved, with_offset};
 
 /// One more than the greatest byte and bit number of a pointer.
 const PLACES: u32 = 1 << 19;

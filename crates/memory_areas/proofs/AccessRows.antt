@@ -2,8 +2,9 @@
 use Rattle.std.proofs.Common.{◌≡◌, refl, ℕ, ◌+◌, ◌*◌, ◌^◌, true, false, List, [], ◌∷◌, Some, None, Ok, Err}
 use Rattle.s7_base.specs.declared.outcome.Fault.TheVariants.{DbNotOpen, DbMissing, AreaCode, Alignment, AreaLength}
 use Rattle.s7_base.specs.declared.word.Width.TheVariants as width
-use Rattle.memory_areas.specs.Access.{aimed, area_named, bit_of_pointer, byte_of_pointer, code_of_pointer, fault_of, is_byte_in, located, name_of_code, pointed, read_bit, read_byte, read_dword, read_word, written, write_bit, write_byte, write_dword, write_word}
+use Rattle.memory_areas.specs.Access.{aimed, area_named, fault_of, is_byte_in, located, name_of_code, pointed, pointed_in, read_bit, read_byte, read_dword, read_word, written, write_bit, write_byte, write_dword, write_word}
 use Rattle.memory_areas.specs.Areas.{Contents}
+use Rattle.memory_areas.specs.Pointers.{bit_of_pointer, byte_of_pointer, code_of_pointer}
 use Rattle.memory_areas.specs.declared.data_block.DataBlock.{DataBlock}
 use Rattle.memory_areas.specs.declared.place.Area.{Area}
 use Rattle.memory_areas.specs.declared.place.Area.TheVariants as area
@@ -182,6 +183,16 @@ pointer_to_local_data = refl
 
 pointer_is_refused : located (pointed (129 * 2 ^ 24 + 32) 10 3 1) width.Byte memory ≡ Err AreaLength
 pointer_is_refused = refl
+
+-- a named area takes byte and bit of a pointer, whatever area that names
+area_of_the_pointer_is_ignored : pointed_in name.I (132 * 2 ^ 24 + 2 * 8 + 5) 0 0 1 ≡ written name.I 2 5 0 0 1
+area_of_the_pointer_is_ignored = refl
+
+code_of_the_pointer_is_ignored : located (pointed_in name.Db 13 10 3 1) width.Bit memory ≡ Ok (place (area.Db 10) 1 5)
+code_of_the_pointer_is_ignored = refl
+
+bit_of_the_pointer_counts : located (pointed_in name.M (8 + 1) 10 3 1) width.Byte memory ≡ Err Alignment
+bit_of_the_pointer_counts = refl
 
 operand_is_located : located (written name.M 2 6 3 10 1) width.Bit memory ≡ Ok (place area.M 2 6)
 operand_is_located = refl

@@ -1,10 +1,11 @@
 -- The access to a place in memory: which place it reaches, or which fault it meets.
-use Rattle.std.specs.Prelude.{ℕ, ◌+◌, ◌/◌, ◌%◌, ◌^◌, Bool, false, ◌==◌, nat_lt, nat_le, if◌then◌else◌, List, [], ◌∷◌, length, Option, Some, None, is_none, Result, Ok, Err}
+use Rattle.std.specs.Prelude.{ℕ, ◌+◌, Bool, false, ◌==◌, nat_lt, nat_le, if◌then◌else◌, List, [], ◌∷◌, length, Option, Some, None, is_none, Result, Ok, Err}
 use Rattle.s7_base.specs.declared.outcome.Fault.{Fault}
 use Rattle.s7_base.specs.declared.outcome.Fault.TheVariants.{DbNotOpen, DbMissing, AreaCode, Alignment, AreaLength}
 use Rattle.s7_base.specs.declared.word.Width.{Width}
 use Rattle.s7_base.specs.declared.word.Width.TheVariants as width
 use Rattle.memory_areas.specs.Areas.{Contents, block_of, bytes_of, with_bytes, byte_at, word_at, dword_at, bit_of_byte, byte_with, bytes_of_word, bytes_of_dword, replaced}
+use Rattle.memory_areas.specs.Pointers.{bit_of_pointer, byte_of_pointer, code_of_pointer}
 use Rattle.memory_areas.specs.declared.sizes.TheConstants.{INPUT_BYTES, OUTPUT_BYTES, MARKER_BYTES, LOCAL_BYTES}
 use Rattle.memory_areas.specs.declared.place.Area.{Area}
 use Rattle.memory_areas.specs.declared.place.Area.TheVariants as area
@@ -52,18 +53,6 @@ name_of_code code =
     else if code == 134 then Some name.L
     else None
 
--- the bit number of a pointer, 0 to 7: its bits 0 to 2
-abbrev pub bit_of_pointer : ℕ → ℕ
-bit_of_pointer p = p % 8
-
--- the byte number of a pointer, 0 to 65,535: its bits 3 to 18; bits 19 to 23 say nothing
-abbrev pub byte_of_pointer : ℕ → ℕ
-byte_of_pointer p = p / 8 % 2 ^ 16
-
--- the area code of a pointer of 32 bits: its bits 24 to 31
-abbrev pub code_of_pointer : ℕ → ℕ
-code_of_pointer p = p / 2 ^ 24
-
 -- what an access is aimed at: an area, if there is one of that code, a byte and a bit
 pub record Aim : Type 0 where
   pub area : Option Area
@@ -79,7 +68,12 @@ abbrev pub area_if_named : Option AreaName → ℕ → ℕ → ℕ → Option Ar
 area_if_named None db di activation = None
 area_if_named (Some a) db di activation = Some (area_named a db di activation)
 
--- an operand through a pointer that names its area by a code
+-- an operand that names its area, with the byte and the bit of a pointer, `M [MD 4]` or `M [AR1,P#2.0]`; the area
+-- code of the pointer says nothing
+abbrev pub pointed_in : AreaName → ℕ → ℕ → ℕ → ℕ → Aim
+pointed_in a p db di activation = written a (byte_of_pointer p) (bit_of_pointer p) db di activation
+
+-- an operand through a pointer that names its area by a code, `[AR1,P#2.0]`
 abbrev pub pointed : ℕ → ℕ → ℕ → ℕ → Aim
 pointed p db di activation =
     record {

@@ -3,3 +3,4 @@ pub mod AreaLaws
 pub mod Areas
 pub mod End
 pub mod Memory
+pub mod Pointers

@@ -8,16 +8,16 @@ use Rattle.s7_base.specs.Broken.{comes_before, first_of_all, number_of, sooner}
 use Rattle.s7_base.specs.BrokenLaws.{FirstOfAll, IsFirst}
 use Rattle.s7_base.specs.declared.broken.Break.{Break}
 
-few : (r : Reason) → number_of r < 32
+pub few : (r : Reason) → number_of r < 32
 few reason.BadToken = omega arith
 few other = omega arith
 
 -- a number by which broken rules are ordered
-abbrev rank : Break → ℕ
+abbrev pub rank : Break → ℕ
 rank b = b.line.0 * 32 + number_of b.rule
 
 -- what comes before has a lesser rank, and nothing else
-ranked : (a b : Break) (t : Bool) → comes_before a b ≡ t → cond t (rank a < rank b) (rank b ≤ rank a)
+pub ranked : (a b : Break) (t : Bool) → comes_before a b ≡ t → cond t (rank a < rank b) (rank b ≤ rank a)
 ranked a b t e =
     by_tests (nat_lt a.line.0 b.line.0) (a.line.0 == b.line.0) (nat_lt (number_of a.rule) (number_of b.rule)) refl refl refl t e
   where
