@@ -4,7 +4,6 @@ use Rattle.memory_areas.specs.Areas.{Areas}
 use Rattle.memory_areas.specs.End.{End, Ended}
 use Rattle.memory_areas.specs.declared.place.AreaName.TheVariants as area
 use Rattle.s7_base.specs.declared.check.Check.TheVariants as check
-use Rattle.s7_base.specs.declared.outcome.Fault.{Fault}
 use Rattle.s7_base.specs.declared.outcome.Fault.TheVariants.{AreaLength, DbMissing, DbNotOpen}
 use Rattle.s7_base.specs.declared.word.Width.TheVariants as width
 use Rattle.stl_tree.specs.StlRun.{stl_run}

@@ -1,4 +1,5 @@
 mod AccumulatorRows
+mod AddressRows
 mod DataBlockRows
 pub mod RunRows
 pub mod Runs

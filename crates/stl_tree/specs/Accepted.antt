@@ -1,5 +1,5 @@
 -- The rules that a program keeps where the verdict gives it.
-use Rattle.std.specs.Prelude.{◌≡◌, ◌≢◌, ℕ, ◌≤◌, ◌<◌, ◌^◌, true, false, Option, Some, List, [], ◌∷◌, All, None}
+use Rattle.std.specs.Prelude.{◌≡◌, ◌≢◌, ℕ, ◌≤◌, ◌<◌, ◌^◌, Bool, true, false, Option, Some, List, [], ◌∷◌, All, None}
 use Rattle.memory_areas.specs.Access.{is_byte_in, is_unaligned}
 use Rattle.memory_areas.specs.Areas.{AreBlocks}
 use Rattle.s7_base.specs.SignedNumbers.{is_over}
@@ -13,10 +13,17 @@ use Rattle.stl_tree.specs.Shifts.{most_steps}
 use Rattle.stl_tree.specs.StlRun.{block_named}
 use Rattle.stl_tree.specs.WordLogic.{width_of as logic_width}
 use Rattle.stl_tree.specs.declared.accumulator.ShiftRow.{ShiftRow}
+use Rattle.stl_tree.specs.declared.program.Ar.{Ar}
+use Rattle.stl_tree.specs.declared.program.Ar.TheVariants as ar
+use Rattle.stl_tree.specs.declared.program.ArLoad.{ArLoad}
+use Rattle.stl_tree.specs.declared.program.ArLoad.TheVariants as ar_load
+use Rattle.stl_tree.specs.declared.program.ArStore.{ArStore}
+use Rattle.stl_tree.specs.declared.program.ArStore.TheVariants as ar_store
 use Rattle.stl_tree.specs.declared.program.BitArg.TheVariants as arg
 use Rattle.stl_tree.specs.declared.program.Block.{Block}
 use Rattle.memory_areas.specs.declared.place.Area.{Area}
 use Rattle.memory_areas.specs.declared.place.Area.TheVariants as area_of
+use Rattle.memory_areas.specs.declared.place.AreaName.{AreaName}
 use Rattle.memory_areas.specs.declared.place.AreaName.TheVariants as area
 use Rattle.memory_areas.specs.declared.call.BlockName.{BlockName}
 use Rattle.memory_areas.specs.declared.call.BlockName.TheVariants as name
@@ -38,16 +45,63 @@ use Rattle.stl_tree.specs.declared.program.Symbol.{Symbol}
 abbrev pub IsBlockOpened : ℕ → Type 0
 IsBlockOpened n = (1 ≤ n) × (n ≤ 65535)
 
+-- a byte from 0 to 65,535 and a bit from 0 to 7
+abbrev pub IsOffset : ℕ → Type 0
+IsOffset offset = offset < 2 ^ 19
+
+-- the areas that a pointer may stand in, and the operands that lie in one of them
+abbrev pub may_hold_pointers : AreaName → Bool
+may_hold_pointers area.I = false
+may_hold_pointers area.Q = false
+may_hold_pointers area.M = true
+may_hold_pointers area.L = true
+may_hold_pointers area.Db = true
+may_hold_pointers area.Di = true
+
+abbrev pub is_of_pointers : Operand → Bool
+is_of_pointers (operand.Direct a byte x) = may_hold_pointers a
+is_of_pointers (operand.Opened n byte x) = true
+is_of_pointers (operand.ByMemory a pointer_area byte) = may_hold_pointers a
+is_of_pointers (operand.ByRegister a r offset) = may_hold_pointers a
+is_of_pointers (operand.Crossing r offset) = false
+
 -- an operand of a width names bytes of its area, and a bit number that the width has; the length of a data block is
--- judged at run time
+-- judged at run time, and so is all that a pointer says
 abbrev pub IsOperand : Width → Operand → Type 0
 IsOperand w (operand.Direct a byte x) = (is_byte_in a w byte ≡ true) × (is_unaligned w x ≡ false)
 IsOperand w (operand.Opened n byte x) =
     IsBlockOpened n × (is_byte_in area.Db w byte ≡ true) × (is_unaligned w x ≡ false)
+IsOperand w (operand.ByMemory a pointer_area byte) =
+    (may_hold_pointers pointer_area ≡ true) × (is_byte_in pointer_area width.Dword byte ≡ true)
+IsOperand w (operand.ByRegister a r offset) = IsOffset offset
+IsOperand w (operand.Crossing r offset) = IsOffset offset
 
--- OPN opens a data block by its number
+-- an operand that may hold a pointer, or the number of a data block
+abbrev pub MayHoldPointer : Width → Operand → Type 0
+MayHoldPointer w o = (is_of_pointers o ≡ true) × IsOperand w o
+
+-- OPN opens a data block by its number, or by that in a word
 abbrev pub IsOpenArg : OpenArg → Type 0
 IsOpenArg (open_arg.Number n) = IsBlockOpened n
+IsOpenArg (open_arg.At o) = MayHoldPointer width.Word o
+
+-- an address register is loaded with a pointer of 32 bits, wherever it stands; from the other one AR1 alone
+abbrev pub IsPointerLoad : Ar → ArLoad → Type 0
+IsPointerLoad a ar_load.Accu1 = Unit {0}
+IsPointerLoad a (ar_load.Constant p) = p < 2 ^ 32
+IsPointerLoad a (ar_load.At o) = MayHoldPointer width.Dword o
+IsPointerLoad a ar_load.OtherAr = a ≡ ar.One
+
+-- an address register is stored likewise
+abbrev pub IsPointerStore : Ar → ArStore → Type 0
+IsPointerStore a ar_store.Accu1 = Unit {0}
+IsPointerStore a (ar_store.At o) = MayHoldPointer width.Dword o
+IsPointerStore a ar_store.OtherAr = a ≡ ar.One
+
+-- what is added to an address register is an offset, or stands in ACCU1
+abbrev pub IsAmount : Option ℕ → Type 0
+IsAmount None = Unit {0}
+IsAmount (Some offset) = IsOffset offset
 
 -- a byte, a word or a double word
 abbrev pub IsNumberWidth : Width → Type 0
@@ -111,6 +165,10 @@ HasOperand (op.Unary u) = Unit {0}
 HasOperand op.Tak = Unit {0}
 HasOperand op.Push = Unit {0}
 HasOperand op.Pop = Unit {0}
+HasOperand (op.LoadAr a from) = IsPointerLoad a from
+HasOperand (op.StoreAr a to) = IsPointerStore a to
+HasOperand op.ExchangeAr = Unit {0}
+HasOperand (op.AddAr a amount) = IsAmount amount
 HasOperand (op.OpenDb d) = IsOpenArg d
 HasOperand (op.OpenDi d) = IsOpenArg d
 HasOperand op.ExchangeDb = Unit {0}

@@ -1,10 +1,11 @@
 -- The instruction table: what each instruction does to the state that it finds.
-use Rattle.std.specs.Prelude.{pos, Bool, true, false, not, ◌&&◌, ◌||◌}
+use Rattle.std.specs.Prelude.{ℕ, pos, Bool, true, false, not, ◌&&◌, ◌||◌}
 use Rattle.memory_areas.specs.Access.{read_bit, write_bit}
 use Rattle.status_word.specs.StatusBits.{StatusBits, after_check, after_clear, after_edge, after_end, after_not, after_or, after_save, after_set, after_store}
 use Rattle.s7_base.specs.declared.word.Width.{Width}
 use Rattle.s7_base.specs.declared.word.Width.TheVariants as width
 use Rattle.stl_tree.specs.Accumulators.{accu_popped, accu_pushed, accus_exchanged, decreased, increased, loaded, part, read_number, status_loaded, status_stored, write_number}
+use Rattle.stl_tree.specs.AddressRegisters.{accu1_pointed, other_loaded, other_stored, pointer_in, pointer_loaded, pointer_moved, pointers_exchanged, with_pointer}
 use Rattle.stl_tree.specs.Arithmetic.{calculated, compared}
 use Rattle.stl_tree.specs.Brackets.{closed, opened}
 use Rattle.stl_tree.specs.Conversions.{converted}
@@ -15,10 +16,16 @@ use Rattle.stl_tree.specs.Registers.{RegisterValues}
 use Rattle.stl_tree.specs.Shifts.{after_shift, around_left_through_cc1, around_right_through_cc1}
 use Rattle.stl_tree.specs.WordLogic.{after_logic_row}
 use Rattle.stl_tree.specs.declared.accumulator.UnaryRow.{UnaryRow}
+use Rattle.stl_tree.specs.declared.program.Ar.{Ar}
+use Rattle.stl_tree.specs.declared.program.ArLoad.{ArLoad}
+use Rattle.stl_tree.specs.declared.program.ArLoad.TheVariants as ar_load
+use Rattle.stl_tree.specs.declared.program.ArStore.{ArStore}
+use Rattle.stl_tree.specs.declared.program.ArStore.TheVariants as ar_store
 use Rattle.stl_tree.specs.declared.program.LoadArg.{LoadArg}
 use Rattle.stl_tree.specs.declared.program.LoadArg.TheVariants as arg
 use Rattle.stl_tree.specs.declared.program.Op.{Op}
 use Rattle.stl_tree.specs.declared.program.Op.TheVariants as op
+use Rattle.stl_tree.specs.declared.program.OpenArg.{OpenArg}
 use Rattle.stl_tree.specs.declared.program.OpenArg.TheVariants as open_arg
 use Rattle.stl_tree.specs.declared.program.Operand.{Operand}
 
@@ -42,16 +49,42 @@ at_edge rising o now =
 abbrev pub on_registers : (RegisterValues → RegisterValues) → Now → Effect
 on_registers row now = next (with_registers row now)
 
+-- the registers take a number at an operand
+abbrev pub taken : Width → (ℕ → RegisterValues → RegisterValues) → Operand → Now → Effect
+taken w row o now =
+    with_place o now (λ p after. with_value (read_number w p after.memory) (λ v. on_registers (row v) after))
+
+-- a number is written at an operand
+abbrev pub put : Width → (RegisterValues → ℕ) → Operand → Now → Effect
+put w value o now =
+    with_place o now (λ p after. with_memory (write_number w p (value after.registers) after.memory) after next)
+
 -- L
 abbrev pub loaded_from : LoadArg → Now → Effect
-loaded_from (arg.At o w) now =
-    with_place o now (λ p after. with_value (read_number w p after.memory) (λ v. on_registers (loaded v) after))
+loaded_from (arg.At o w) now = taken w loaded o now
 loaded_from (arg.Constant c) now = on_registers (loaded c) now
 
 -- T: the lowest bits of ACCU1, so many as the width has
 abbrev pub transferred : Operand → Width → Now → Effect
-transferred o w now =
-    with_place o now (λ p after. with_memory (write_number w p (part w after.registers.accu1) after.memory) after next)
+transferred o w now = put w (λ r. part w r.accu1) o now
+
+-- LAR1 and LAR2
+abbrev pub pointed_from : Ar → ArLoad → Now → Effect
+pointed_from a ar_load.Accu1 now = on_registers (accu1_pointed a) now
+pointed_from a (ar_load.Constant p) now = on_registers (with_pointer a p) now
+pointed_from a (ar_load.At o) now = taken width.Dword (with_pointer a) o now
+pointed_from a ar_load.OtherAr now = on_registers (other_loaded a) now
+
+-- TAR1 and TAR2
+abbrev pub pointer_stored : Ar → ArStore → Now → Effect
+pointer_stored a ar_store.Accu1 now = on_registers (pointer_loaded a) now
+pointer_stored a (ar_store.At o) now = put width.Dword (pointer_in a) o now
+pointer_stored a ar_store.OtherAr now = on_registers (other_stored a) now
+
+-- OPN: a register of data blocks takes a number, or the word at an operand; nothing is tested
+abbrev pub block_opened : (ℕ → RegisterValues → RegisterValues) → OpenArg → Now → Effect
+block_opened row (open_arg.Number n) now = on_registers (row n) now
+block_opened row (open_arg.At o) now = taken width.Word row o now
 
 -- an instruction on ACCU1 alone, which may meet a fault
 abbrev pub on_accu1 : UnaryRow → Now → Effect
@@ -94,8 +127,12 @@ effect_of (op.Unary u) now = on_accu1 u now
 effect_of op.Tak now = on_registers accus_exchanged now
 effect_of op.Push now = on_registers accu_pushed now
 effect_of op.Pop now = on_registers accu_popped now
-effect_of (op.OpenDb (open_arg.Number n)) now = on_registers (db_opened n) now
-effect_of (op.OpenDi (open_arg.Number n)) now = on_registers (di_opened n) now
+effect_of (op.LoadAr a from) now = pointed_from a from now
+effect_of (op.StoreAr a to) now = pointer_stored a to now
+effect_of op.ExchangeAr now = on_registers pointers_exchanged now
+effect_of (op.AddAr a amount) now = on_registers (pointer_moved a amount) now
+effect_of (op.OpenDb d) now = block_opened db_opened d now
+effect_of (op.OpenDi d) now = block_opened di_opened d now
 effect_of op.ExchangeDb now = on_registers dbs_exchanged now
 effect_of op.Nop now = next now
 effect_of op.BlockEnd now = leave (with_status after_end now)

@@ -1,5 +1,6 @@
 pub mod Accepted
 pub mod Accumulators
+pub mod AddressRegisters
 pub mod Arithmetic
 pub mod Brackets
 pub mod Conversions

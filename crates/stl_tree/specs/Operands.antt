@@ -1,11 +1,13 @@
 -- What an operand names.
 use Rattle.std.specs.Prelude.{ℕ, Bool, Result, Ok}
-use Rattle.memory_areas.specs.Access.{area_named, read_bit}
+use Rattle.memory_areas.specs.Access.{Aim, and_then, area_named, place_aimed, pointed, pointed_in, read_bit, read_dword}
+use Rattle.memory_areas.specs.Pointers.{with_offset}
 use Rattle.memory_areas.specs.declared.place.AreaName.{AreaName}
 use Rattle.memory_areas.specs.declared.place.AreaName.TheVariants as area
 use Rattle.memory_areas.specs.declared.place.Place.{Place}
 use Rattle.s7_base.specs.declared.outcome.Fault.{Fault}
 use Rattle.status_word.specs.StatusBits.{answer_to}
+use Rattle.stl_tree.specs.AddressRegisters.{pointer_in}
 use Rattle.stl_tree.specs.DataBlocks.{db_opened}
 use Rattle.stl_tree.specs.Now.{Now, Effect, depth, with_registers, with_value}
 use Rattle.stl_tree.specs.declared.program.BitArg.{BitArg}
@@ -23,14 +25,29 @@ abbrev pub place_in : AreaName → ℕ → ℕ → Now → Place
 place_in a byte x now =
     record { area = area_named a now.registers.db now.registers.di (depth now.activations); byte = byte; bit = x }
 
+-- the place in a named area that a pointer is aimed at, and the one that a pointer with its area is aimed at
+abbrev pub aimed_in : AreaName → ℕ → Now → Aim
+aimed_in a p now = pointed_in a p now.registers.db now.registers.di (depth now.activations)
+
+abbrev pub aimed_by : ℕ → Now → Aim
+aimed_by p now = pointed p now.registers.db now.registers.di (depth now.activations)
+
+-- the place that an access is aimed at, if its code has an area
+abbrev pub found_at : Aim → Now → Result Found Fault
+found_at aim now = and_then (place_aimed aim.area aim.byte aim.bit) (λ p. Ok (record { place = p; after = now }))
+
 -- what an operand names, or the first fault on the way to its place. A written place has none; one with the number
--- of its data block, as `DB5.DBX 0.0`, is found with that number in the DB register. One that a pointer in memory
--- names, as `M [MD 4]`, is found by an access to the pointer first; one by an address register may meet a wrong
--- area code; a formal is what its activation says. Each of them is a case here.
+-- of its data block, as `DB5.DBX 0.0`, is found with that number in the DB register. `M [MD 4]` is found by an access
+-- to the pointer first. `M [AR1,P#2.0]` takes byte and bit of an address register, and `[AR1,P#2.0]` its area too, whose
+-- code may name none. A formal will be what its activation says. Each of them is a case here.
 abbrev pub found : Operand → Now → Result Found Fault
 found (operand.Direct a byte x) now = Ok (record { place = place_in a byte x now; after = now })
 found (operand.Opened n byte x) now =
     let after = with_registers (db_opened n) now in Ok (record { place = place_in area.Db byte x after; after = after })
+found (operand.ByMemory a pointer_area byte) now =
+    and_then (read_dword (place_in pointer_area byte 0 now) now.memory) (λ p. found_at (aimed_in a p now) now)
+found (operand.ByRegister a r offset) now = found_at (aimed_in a (with_offset (pointer_in r now.registers) offset) now) now
+found (operand.Crossing r offset) now = found_at (aimed_by (with_offset (pointer_in r now.registers) offset) now) now
 
 -- the effect by the place of an operand, in the state after it was found
 abbrev pub with_place : Operand → Now → (Place → Now → Effect) → Effect

@@ -11,6 +11,19 @@ use Rattle.stl_tree.specs.declared.accumulator.LogicRow.{LogicRow}
 use Rattle.stl_tree.specs.declared.accumulator.LogicRow.TheVariants as logic
 use Rattle.stl_tree.specs.declared.accumulator.UnaryRow.{UnaryRow}
 use Rattle.stl_tree.specs.declared.accumulator.UnaryRow.TheVariants as unary
+use Rattle.stl_tree.specs.AddressRegisters.{other_of}
+use Rattle.stl_tree.specs.declared.program.Ar.{Ar}
+use Rattle.stl_tree.specs.declared.program.Ar.TheVariants as ar
+use Rattle.stl_tree.specs.declared.program.ArLoad.{ArLoad}
+use Rattle.stl_tree.specs.declared.program.ArLoad.TheVariants as ar_load
+use Rattle.stl_tree.specs.declared.program.ArStore.{ArStore}
+use Rattle.stl_tree.specs.declared.program.ArStore.TheVariants as ar_store
+use Rattle.stl_tree.specs.declared.program.LoadArg.{LoadArg}
+use Rattle.stl_tree.specs.declared.program.LoadArg.TheVariants as load
+use Rattle.stl_tree.specs.declared.program.OpenArg.{OpenArg}
+use Rattle.stl_tree.specs.declared.program.OpenArg.TheVariants as open_arg
+use Rattle.stl_tree.specs.declared.program.Operand.{Operand}
+use Rattle.stl_tree.specs.declared.program.Operand.TheVariants as operand
 use Rattle.stl_tree.specs.declared.program.BitArg.{BitArg}
 use Rattle.stl_tree.specs.declared.program.BitArg.TheVariants as arg
 use Rattle.stl_tree.specs.declared.program.Op.{Op}
@@ -29,9 +42,23 @@ asked_by test.Ov = reg.Ov ∷ []
 asked_by test.Os = reg.Os ∷ []
 asked_by test.Br = reg.Br ∷ []
 
--- what a check looks at; the number of an open data block is a register of the access, not of the row
+-- the register variable of an address register
+abbrev pub register_of : Ar → Reg
+register_of ar.One = reg.Ar1
+register_of ar.Two = reg.Ar2
+
+-- what an operand is found by: an address register, and where that has the area too, the numbers of both data blocks;
+-- the number of the data block that a written area means is a register of the access, not of the row
+abbrev pub found_by : Operand → List Reg
+found_by (operand.Direct a byte x) = []
+found_by (operand.Opened n byte x) = []
+found_by (operand.ByMemory a pointer_area byte) = []
+found_by (operand.ByRegister a r offset) = register_of r ∷ []
+found_by (operand.Crossing r offset) = register_of r ∷ reg.DbNo ∷ reg.DiNo ∷ []
+
+-- what a check looks at
 abbrev pub looked_at : BitArg → List Reg
-looked_at (arg.At o) = []
+looked_at (arg.At o) = found_by o
 looked_at (arg.Flag t) = asked_by t
 
 -- the chain that a check goes on with: an AND reads OR too
@@ -74,23 +101,51 @@ converted_with unary.Negi = reg.Accu1 ∷ reg.Os ∷ []
 converted_with unary.Negd = reg.Accu1 ∷ reg.Os ∷ []
 converted_with other = reg.Accu1 ∷ []
 
+-- what L loads
+abbrev pub loaded_by : LoadArg → List Reg
+loaded_by (load.At o w) = found_by o
+loaded_by (load.Constant c) = []
+
+-- LAR1 and LAR2
+abbrev pub pointed_by : Ar → ArLoad → List Reg
+pointed_by a ar_load.Accu1 = reg.Accu1 ∷ []
+pointed_by a (ar_load.Constant p) = []
+pointed_by a (ar_load.At o) = found_by o
+pointed_by a ar_load.OtherAr = register_of (other_of a) ∷ []
+
+-- TAR1 and TAR2
+abbrev pub stored_by : Ar → ArStore → List Reg
+stored_by a ar_store.Accu1 = register_of a ∷ reg.Accu1 ∷ []
+stored_by a (ar_store.At o) = register_of a ∷ found_by o
+stored_by a ar_store.OtherAr = register_of a ∷ []
+
+-- +AR1 and +AR2; an offset of 0 changes nothing
+abbrev pub moved_by : Ar → Option ℕ → List Reg
+moved_by a None = register_of a ∷ reg.Accu1 ∷ []
+moved_by a (Some offset) = if offset == 0 then [] else register_of a ∷ []
+
+-- OPN
+abbrev pub opened_by : OpenArg → List Reg
+opened_by (open_arg.Number n) = []
+opened_by (open_arg.At o) = found_by o
+
 -- the registers that an instruction reads; a bracket keeps its chain, and one that is closed reads the RLO inside
 abbrev pub reads_of : Op → List Reg
 reads_of (op.Check c b) = looked_at b ++ chain_read c
 reads_of op.OrAlone = reg.Rlo ∷ reg.Nfc ∷ []
 reads_of (op.Bracket c) = reg.Rlo ∷ reg.Nfc ∷ reg.Orb ∷ []
 reads_of op.Close = reg.Rlo ∷ []
-reads_of (op.Assign o) = reg.Rlo ∷ []
-reads_of (op.Set o) = reg.Rlo ∷ []
-reads_of (op.Reset o) = reg.Rlo ∷ []
+reads_of (op.Assign o) = found_by o ++ reg.Rlo ∷ []
+reads_of (op.Set o) = found_by o ++ reg.Rlo ∷ []
+reads_of (op.Reset o) = found_by o ++ reg.Rlo ∷ []
 reads_of op.SetRlo = []
 reads_of op.ClearRlo = []
 reads_of op.NotRlo = reg.Rlo ∷ []
 reads_of op.Save = reg.Rlo ∷ []
-reads_of (op.EdgeUp o) = reg.Rlo ∷ []
-reads_of (op.EdgeDown o) = reg.Rlo ∷ []
-reads_of (op.Load a) = reg.Accu1 ∷ []
-reads_of (op.Transfer o w) = reg.Accu1 ∷ []
+reads_of (op.EdgeUp o) = found_by o ++ reg.Rlo ∷ []
+reads_of (op.EdgeDown o) = found_by o ++ reg.Rlo ∷ []
+reads_of (op.Load a) = loaded_by a ++ reg.Accu1 ∷ []
+reads_of (op.Transfer o w) = found_by o ++ reg.Accu1 ∷ []
 reads_of op.LoadStw = reg.Accu1 ∷ reg.Rlo ∷ reg.Os ∷ reg.Ov ∷ reg.Cc0 ∷ reg.Cc1 ∷ reg.Br ∷ []
 reads_of op.TransferStw = reg.Accu1 ∷ []
 reads_of op.LoadDbNo = reg.Accu1 ∷ reg.DbNo ∷ []
@@ -109,8 +164,12 @@ reads_of (op.Unary u) = converted_with u
 reads_of op.Tak = reg.Accu1 ∷ reg.Accu2 ∷ []
 reads_of op.Push = reg.Accu1 ∷ []
 reads_of op.Pop = reg.Accu2 ∷ []
-reads_of (op.OpenDb n) = []
-reads_of (op.OpenDi n) = []
+reads_of (op.LoadAr a from) = pointed_by a from
+reads_of (op.StoreAr a to) = stored_by a to
+reads_of op.ExchangeAr = reg.Ar1 ∷ reg.Ar2 ∷ []
+reads_of (op.AddAr a amount) = moved_by a amount
+reads_of (op.OpenDb d) = opened_by d
+reads_of (op.OpenDi d) = opened_by d
 reads_of op.ExchangeDb = reg.DbNo ∷ reg.DiNo ∷ []
 reads_of op.Nop = []
 reads_of op.BlockEnd = []

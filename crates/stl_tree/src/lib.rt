@@ -9,11 +9,11 @@
 pub use accumulator::{Arith, LogicRow, ShiftRow, UnaryRow};
 pub use memory_areas::{BlockName, Call};
 pub use program::{
-    Actual, BitArg, Block, BlockCall, Formal, Instance, Instr, LoadArg, Mode, Op, OpenArg, Operand,
-    Program, Symbol,
+    Actual, Ar, ArLoad, ArStore, BitArg, Block, BlockCall, Formal, Instance, Instr, LoadArg, Mode, Op,
+    OpenArg, Operand, Program, Symbol,
 };
 pub use raw::{
-    Ar, BlockKind, Constant, DeclType, Declaration, ElemType, InitialItem, PathStep, RawActual,
+    BlockKind, Constant, DeclType, Declaration, ElemType, InitialItem, PathStep, RawActual,
     RawBlock, RawCall, RawData, RawDataKind, RawInitial, RawInstr, RawName, RawOp, RawOperand,
     RawPlace, RawPointer, RawProgram, SymbolAddress, SymbolLine,
 };

@@ -5,7 +5,14 @@ use memory_areas::{AreaName, BlockName, DataBlock, Place};
 use s7_base::{Check, Line, List, Width};
 use status_word::Test;
 
-/// Where an instruction finds its operand.
+/// One of the two address registers.
+#[derive(Clone, Copy, Debug, PartialEq, Eq)]
+pub enum Ar {
+    One,
+    Two,
+}
+
+/// Where an instruction finds its operand. Offsets have the bit in their lowest three bits, and the byte above.
 #[derive(Clone, Copy, Debug, PartialEq, Eq)]
 pub enum Operand {
     /// An area, a byte in it and a bit from 0 to 7.
@@ -13,6 +20,15 @@ pub enum Operand {
 
     /// A data block that is opened first, a byte in it and a bit from 0 to 7.
     Opened(u16, u32, u8),
+
+    /// An area, and byte and bit of a pointer in memory, which is a double word of an area from a byte on.
+    ByMemory(AreaName, AreaName, u32),
+
+    /// An area, and byte and bit of an address register and an offset.
+    ByRegister(AreaName, Ar, u32),
+
+    /// Area, byte and bit of an address register, with an offset.
+    Crossing(Ar, u32),
 }
 
 /// What a bit check looks at.
@@ -34,10 +50,41 @@ pub enum LoadArg {
     Constant(u32),
 }
 
+/// What an address register is loaded with.
+#[derive(Clone, Copy, Debug, PartialEq, Eq)]
+pub enum ArLoad {
+    Accu1,
+
+    /// A pointer.
+    Constant(u32),
+
+    /// A double word.
+    At(Operand),
+
+    /// The other address register.
+    OtherAr,
+}
+
+/// Where an address register is stored.
+#[derive(Clone, Copy, Debug, PartialEq, Eq)]
+pub enum ArStore {
+    /// In ACCU1, whose old value goes to ACCU2.
+    Accu1,
+
+    /// In a double word.
+    At(Operand),
+
+    /// In the other address register.
+    OtherAr,
+}
+
 /// Which data block `OPN` opens.
 #[derive(Clone, Copy, Debug, PartialEq, Eq)]
 pub enum OpenArg {
     Number(u16),
+
+    /// The one whose number stands in a word.
+    At(Operand),
 }
 
 /// What a formal of a called block stands for.
@@ -160,6 +207,18 @@ pub enum Op {
 
     /// `POP`
     Pop,
+
+    /// `LAR1` and `LAR2`.
+    LoadAr(Ar, ArLoad),
+
+    /// `TAR1` and `TAR2`.
+    StoreAr(Ar, ArStore),
+
+    /// `CAR`
+    ExchangeAr,
+
+    /// `+AR1` and `+AR2`, of an offset, or of the low word of ACCU1 with its sign.
+    AddAr(Ar, Option<u32>),
 
     /// `OPN` of a data block.
     OpenDb(OpenArg),

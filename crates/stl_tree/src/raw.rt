@@ -2,16 +2,10 @@
 //!
 //! Byte, bit and block numbers above 4,294,967,295 are kept as that number.
 
+use crate::program::Ar;
 use memory_areas::AreaName;
 use s7_base::{Boxed, Line, List, SmallText, Width};
 use status_word::Test;
-
-/// One of the two address registers.
-#[derive(Clone, Copy, Debug, PartialEq, Eq)]
-pub enum Ar {
-    One,
-    Two,
-}
 
 /// An elementary type.
 #[derive(Clone, Copy, Debug, PartialEq, Eq)]
