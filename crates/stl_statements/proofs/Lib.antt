@@ -1,1 +1,2 @@
 mod OperandRows
+mod PointerRows

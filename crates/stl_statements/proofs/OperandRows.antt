@@ -20,25 +20,25 @@ use Rattle.stl_tree.specs.declared.raw.RawOperand.{RawOperand}
 use Rattle.stl_tree.specs.declared.raw.RawOperand.TheVariants.{At, Constant, DbNo, DiNo, InBlock, Local, Missing, Named, OpenDb, OpenDi}
 
 -- what a text says that is one statement without its `;`
-abbrev said_of : Result (List Token) Rejection → Result RawOp Reason
+abbrev pub said_of : Result (List Token) Rejection → Result RawOp Reason
 said_of (Ok tokens) = statement tokens
 said_of (Err rejection) = Err BadStatement
 
-abbrev said : List ℕ → Result RawOp Reason
+abbrev pub said : List ℕ → Result RawOp Reason
 said text = said_of (tokens_of text)
 
 -- what each of some texts says
-abbrev all_said : List (List ℕ) → List (Result RawOp Reason)
+abbrev pub all_said : List (List ℕ) → List (Result RawOp Reason)
 all_said [] = []
 all_said (text ∷ rest) = said text ∷ all_said rest
 
-abbrev is : List ℕ → RawOperand → Result RawOp Reason
+abbrev pub is : List ℕ → RawOperand → Result RawOp Reason
 is mnemonic operand = Ok (record { mnemonic = mnemonic; operand = operand })
 
 abbrev at : Option ℕ → AreaName → Width → ℕ → ℕ → RawOperand
 at block name w byte bit = At (record { block = block; area = name; width = w; byte = byte; bit = bit })
 
-abbrev unbuilt : Result RawOp Reason
+abbrev pub unbuilt : Result RawOp Reason
 unbuilt = Err (Unsupported kind.NotBuilt)
 
 bits :
@@ -87,7 +87,7 @@ open_blocks = refl
 
 -- what is not built, has no form, or is left out
 other_blocks :
-    all_said (codes "OPN DB [MW 0]" ∷ codes "OPN [MW 0]" ∷ codes "OPN" ∷ codes "OPN FB 5" ∷ codes "OPN DB 5 6" ∷ codes "CDB 5" ∷ codes "T DBNO" ∷ codes "L DBNO 1" ∷ codes "L DBLG" ∷ codes "A T 1" ∷ codes "L PIW [MD 0]" ∷ [])
+    all_said (codes "OPN DB [MD 0]" ∷ codes "OPN [MW 0]" ∷ codes "OPN" ∷ codes "OPN FB 5" ∷ codes "OPN DB 5 6" ∷ codes "CDB 5" ∷ codes "T DBNO" ∷ codes "L DBNO 1" ∷ codes "L DBLG" ∷ codes "A T 1" ∷ codes "L PIW [MD 0]" ∷ [])
     ≡ unbuilt ∷ unbuilt ∷ unbuilt ∷ unbuilt ∷ unbuilt ∷ unbuilt ∷ unbuilt ∷ unbuilt
     ∷ Err (Unsupported kind.DbLength) ∷ Err (Unsupported kind.Timer) ∷ Err (Unsupported kind.Peripheral) ∷ []
 unfolding tokens_of mnemonic_at

@@ -147,7 +147,7 @@ pub record Prefixed : Type 0 where
 abbrev pub prefixed : Prefix → List ℕ → Prefixed
 prefixed what word = record { word = word; what = what }
 
--- the constants that are left out: counts, names, times and dates; pointers are not built yet
+-- the constants that are left out: counts, pointers to names, times and dates; other pointers are read apart
 abbrev pub left_out_prefixes : List Prefixed
 left_out_prefixes =
     prefixed (prefix.LeftOut kind.Counter) (codes "C") ∷ prefixed prefix.Pointer (codes "P")

@@ -9,16 +9,21 @@ use Rattle.stl_statements.specs.Mnemonics.{Row, rows, stands_at, mnemonic_at}
 use Rattle.stl_statements.specs.PathForms.{IsNamed}
 use Rattle.stl_statements.specs.PlaceForms.{IsNumbered, IsPlace}
 use Rattle.stl_statements.specs.Places.{opened_area}
-use Rattle.stl_statements.specs.Statements.{first_of, opened_word, opening, second_of, shape_of, begins_with_label, name_of, size_with, instr_with, instruction_of}
-use Rattle.stl_statements.specs.Words.{is_quoted_kind, is_spelled, is_word}
+use Rattle.stl_statements.specs.PointerForms.{IsCrossing, IsIndirect, IsMemory, IsOffsetConstant, IsPointerConstant}
+use Rattle.stl_statements.specs.Statements.{first_of, opened_word, opening, opening_by, second_of, shape_of, begins_with_label, name_of, size_with, instr_with, instruction_of}
+use Rattle.stl_statements.specs.Words.{is_quoted_kind, is_sign, is_spelled, is_word}
 use Rattle.stl_statements.specs.declared.mnemonic.Shape.{Shape}
 use Rattle.stl_statements.specs.declared.mnemonic.Shape.TheVariants as shape
+use Rattle.s7_base.specs.declared.word.Width.TheVariants as width
+use Rattle.stl_tree.specs.declared.program.Ar.{Ar}
+use Rattle.stl_tree.specs.declared.program.Ar.TheVariants as ar
 use Rattle.stl_tree.specs.declared.raw.Constant.{Constant as Literal}
 use Rattle.stl_tree.specs.declared.raw.RawInstr.{RawInstr}
 use Rattle.stl_tree.specs.declared.raw.RawName.TheVariants.{Name, Number}
 use Rattle.stl_tree.specs.declared.raw.RawOperand.{RawOperand}
-use Rattle.stl_tree.specs.declared.raw.RawOperand.TheVariants.{At, Constant, DbNo, DiNo, Flag, Missing, OpenDb, Stw}
+use Rattle.stl_tree.specs.declared.raw.RawOperand.TheVariants.{At, Constant, DbNo, DiNo, Flag, Missing, OpenDb, OtherAr, Pointer, Stw}
 use Rattle.stl_tree.specs.declared.raw.RawPlace.{RawPlace}
+use Rattle.stl_tree.specs.declared.raw.RawPointer.{RawPointer}
 
 -- a question to the status word as it is written: `OV`, or `==0` without a blank
 pub data IsStatusOperand : List Token → Test → Type 0 where
@@ -28,12 +33,18 @@ pub data IsStatusOperand : List Token → Test → Type 0 where
       second_of test ≡ codes "0" → is_spelled (first_of test) sign ≡ true
       → is_spelled (codes "0") zero ≡ true → zero.glued ≡ true → IsStatusOperand (sign ∷ zero ∷ []) test
 
--- a written place, or what is named
-pub data IsLocated : List Token → RawOperand → Type 0 where
-  at : (tokens : List Token) (place : RawPlace) → IsPlace tokens place → IsLocated tokens (At place)
-  named : (tokens : List Token) (operand : RawOperand) → IsNamed tokens operand → IsLocated tokens operand
+-- a written place, what is named, or an area and a pointer
+pub data IsPlaced : List Token → RawOperand → Type 0 where
+  at : (tokens : List Token) (place : RawPlace) → IsPlace tokens place → IsPlaced tokens (At place)
+  named : (tokens : List Token) (operand : RawOperand) → IsNamed tokens operand → IsPlaced tokens operand
+  indirect : (tokens : List Token) (operand : RawOperand) → IsIndirect tokens operand → IsPlaced tokens operand
 
--- a data block that is opened: `DB 5`, `DI 5`, `"d"`, `DB "d"` or `DI "d"`
+-- one of these, or a pointer that has its area
+pub data IsLocated : List Token → RawOperand → Type 0 where
+  placed : (tokens : List Token) (operand : RawOperand) → IsPlaced tokens operand → IsLocated tokens operand
+  crossing : (tokens : List Token) (operand : RawOperand) → IsCrossing tokens operand → IsLocated tokens operand
+
+-- a data block that is opened: `DB 5`, `DI 5`, `"d"`, `DB "d"`, `DI "d"` or `DB [MW 4]`
 pub data IsOpened : List Token → RawOperand → Type 0 where
   by_number : (tokens : List Token) (letters : List ℕ) (n : ℕ) (name : AreaName) →
       IsNumbered tokens letters n → opened_area letters ≡ Some name → IsOpened tokens (opening name (Number n))
@@ -41,6 +52,9 @@ pub data IsOpened : List Token → RawOperand → Type 0 where
   by_word : (word quoted : Token) (name : AreaName) →
       opened_word word ≡ Some name → is_quoted_kind quoted.kind ≡ true
       → IsOpened (word ∷ quoted ∷ []) (opening name (Name quoted.text))
+  by_memory : (word before : Token) (rest : List Token) (name : AreaName) (operand : RawOperand) →
+      opened_word word ≡ Some name → is_sign (codes "[") before ≡ true → IsMemory (opening_by name) width.Word rest operand
+      → IsOpened (word ∷ before ∷ rest) operand
 
 -- an operand of a shape
 pub data IsOperand : Shape → List Token → RawOperand → Type 0 where
@@ -63,6 +77,8 @@ pub data IsOperand : Shape → List Token → RawOperand → Type 0 where
   loaded_di : (word : Token) → is_word (codes "DINO") word ≡ true → IsOperand shape.Loaded (word ∷ []) DiNo
   loaded_constant : (tokens : List Token) (c : Literal) →
       IsConstant tokens c → IsOperand shape.Loaded tokens (Constant c)
+  loaded_pointer : (tokens : List Token) (p : RawPointer) →
+      IsPointerConstant tokens p → IsOperand shape.Loaded tokens (Pointer p)
   loaded_located : (tokens : List Token) (operand : RawOperand) →
       IsLocated tokens operand → IsOperand shape.Loaded tokens operand
   stored_status : (word : Token) → is_word (codes "STW") word ≡ true → IsOperand shape.Stored (word ∷ []) Stw
@@ -70,7 +86,24 @@ pub data IsOperand : Shape → List Token → RawOperand → Type 0 where
       IsLocated tokens operand → IsOperand shape.Stored tokens operand
   combined : (tokens : List Token) (c : Literal) →
       IsConstant tokens c → IsOperand shape.ConstantOrNothing tokens (Constant c)
+  combined_pointer : (tokens : List Token) (p : RawPointer) →
+      IsPointerConstant tokens p → IsOperand shape.ConstantOrNothing tokens (Pointer p)
   no_constant : IsOperand shape.ConstantOrNothing [] Missing
+  other_pointer_loaded : (word : Token) →
+      is_word (codes "AR2") word ≡ true → IsOperand (shape.PointerLoaded ar.One) (word ∷ []) OtherAr
+  pointer_loaded : (r : Ar) (tokens : List Token) (p : RawPointer) →
+      IsPointerConstant tokens p → IsOperand (shape.PointerLoaded r) tokens (Pointer p)
+  pointer_loaded_from : (r : Ar) (tokens : List Token) (operand : RawOperand) →
+      IsPlaced tokens operand → IsOperand (shape.PointerLoaded r) tokens operand
+  pointer_loaded_alone : (r : Ar) → IsOperand (shape.PointerLoaded r) [] Missing
+  other_pointer_stored : (word : Token) →
+      is_word (codes "AR2") word ≡ true → IsOperand (shape.PointerStored ar.One) (word ∷ []) OtherAr
+  pointer_stored_in : (r : Ar) (tokens : List Token) (operand : RawOperand) →
+      IsPlaced tokens operand → IsOperand (shape.PointerStored r) tokens operand
+  pointer_stored_alone : (r : Ar) → IsOperand (shape.PointerStored r) [] Missing
+  offset : (tokens : List Token) (p : RawPointer) →
+      IsOffsetConstant tokens p → IsOperand shape.OffsetOrNothing tokens (Pointer p)
+  no_offset : IsOperand shape.OffsetOrNothing [] Missing
   opened : (tokens : List Token) (operand : RawOperand) →
       IsOpened tokens operand → IsOperand shape.Opened tokens operand
 

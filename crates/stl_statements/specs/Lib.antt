@@ -7,6 +7,8 @@ pub mod PathForms
 pub mod Paths
 pub mod PlaceForms
 pub mod Places
+pub mod PointerForms
+pub mod Pointers
 pub mod Readers
 pub mod Statements
 pub mod Words

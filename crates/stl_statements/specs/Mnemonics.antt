@@ -17,6 +17,7 @@ use Rattle.stl_tree.specs.declared.accumulator.Arith.TheVariants as arith
 use Rattle.stl_tree.specs.declared.accumulator.LogicRow.TheVariants as logic
 use Rattle.stl_tree.specs.declared.accumulator.ShiftRow.TheVariants as shift
 use Rattle.stl_tree.specs.declared.accumulator.UnaryRow.TheVariants as unary
+use Rattle.stl_tree.specs.declared.program.Ar.TheVariants as ar
 use Rattle.stl_statements.specs.declared.mnemonic.Mnemonic.{Mnemonic}
 use Rattle.stl_statements.specs.declared.mnemonic.Mnemonic.TheVariants as is
 
@@ -71,7 +72,7 @@ number_rows =
     (one is.Load (codes "L") ∷ one is.Transfer (codes "T") ∷ [])
     ++ calculated arith.AddI arith.AddD (codes "+") ++ calculated arith.SubI arith.SubD (codes "-")
     ++ calculated arith.MulI arith.MulD (codes "*") ++ calculated arith.DivI arith.DivD (codes "/")
-    ++ (two is.Later (codes "+") (codes "AR1") ∷ two is.Later (codes "+") (codes "AR2") ∷ one is.Plus (codes "+") ∷ [])
+    ++ (two (is.AddAr ar.One) (codes "+") (codes "AR1") ∷ two (is.AddAr ar.Two) (codes "+") (codes "AR2") ∷ one is.Plus (codes "+") ∷ [])
     ++ compared test.Eq (codes "==") ++ compared test.Ne (codes "<>") ++ compared test.Gt (codes ">")
     ++ compared test.Lt (codes "<") ++ compared test.Ge (codes ">=") ++ compared test.Le (codes "<=")
     ++ (one (is.Arith arith.Mod) (codes "MOD") ∷ one is.Inc (codes "INC") ∷ one is.Dec (codes "DEC") ∷ [])
@@ -95,7 +96,8 @@ accumulator_rows =
 -- address registers, opening data blocks, what does nothing, jumps, block ends and calls; FR and LC are of the kind of their operand
 abbrev pub control_rows : List Row
 control_rows =
-    ones is.Later (codes "LAR1" ∷ codes "LAR2" ∷ codes "TAR1" ∷ codes "TAR2" ∷ codes "CAR" ∷ [])
+    (one (is.LoadAr ar.One) (codes "LAR1") ∷ one (is.LoadAr ar.Two) (codes "LAR2")
+    ∷ one (is.StoreAr ar.One) (codes "TAR1") ∷ one (is.StoreAr ar.Two) (codes "TAR2") ∷ one is.ExchangeAr (codes "CAR") ∷ [])
     ++ (one is.Open (codes "OPN") ∷ one is.ExchangeDb (codes "CDB") ∷ [])
     ++ ones is.Nop (codes "NOP" ∷ codes "BLD" ∷ [])
     ++ ones is.Later

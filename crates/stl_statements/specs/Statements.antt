@@ -18,12 +18,13 @@ use Rattle.s7_base.specs.declared.reason.Rejection.TheVariants.{Refused}
 use Rattle.s7_base.specs.declared.token.Token.{Token}
 use Rattle.status_word.specs.declared.test.Test.{Test}
 use Rattle.status_word.specs.declared.test.Test.TheVariants as test
-use Rattle.stl_statements.specs.Constants.{addend_at, constant_at, number_at}
+use Rattle.stl_statements.specs.Constants.{addend_at, constant_at, left_out_prefixes, marked_at, number_at}
 use Rattle.stl_statements.specs.Mnemonics.{Row, goes_on, mnemonic_at}
 use Rattle.stl_statements.specs.Numbers.{are_digits}
 use Rattle.stl_statements.specs.Paths.{named_at}
 use Rattle.stl_statements.specs.Places.{numbered_at, opened_area, place_at}
-use Rattle.stl_statements.specs.Readers.{and_then, fitting, or_else, read_as}
+use Rattle.stl_statements.specs.Pointers.{crossing_at, indirect_at, memory_at, offset_at, pointer_at}
+use Rattle.stl_statements.specs.Readers.{and_then, fitting, further, or_else, read_as}
 use Rattle.stl_tree.specs.Shifts.{most_steps}
 use Rattle.stl_statements.specs.Words.{is_quoted_kind, is_word, is_sign, is_spelled, is_word_kind}
 use Rattle.stl_statements.specs.declared.mnemonic.Mnemonic.{Mnemonic}
@@ -32,13 +33,17 @@ use Rattle.stl_statements.specs.declared.mnemonic.Read.{Read}
 use Rattle.stl_statements.specs.declared.mnemonic.Read.TheVariants.{Fits, LeftOut, No}
 use Rattle.stl_statements.specs.declared.mnemonic.Shape.{Shape}
 use Rattle.stl_statements.specs.declared.mnemonic.Shape.TheVariants as shape
+use Rattle.s7_base.specs.declared.word.Width.TheVariants as width
+use Rattle.stl_tree.specs.declared.program.Ar.{Ar}
+use Rattle.stl_tree.specs.declared.program.Ar.TheVariants as ar
 use Rattle.stl_tree.specs.declared.raw.RawInstr.{RawInstr}
 use Rattle.stl_tree.specs.declared.raw.RawName.{RawName}
 use Rattle.stl_tree.specs.declared.raw.RawName.TheVariants.{Name, Number}
 use Rattle.stl_tree.specs.declared.raw.RawOp.{RawOp}
 use Rattle.stl_tree.specs.declared.raw.RawOperand.{RawOperand}
-use Rattle.stl_tree.specs.declared.raw.RawOperand.TheVariants.{At, Constant, DbNo, DiNo, Flag, Missing, OpenDb, OpenDi, Stw}
+use Rattle.stl_tree.specs.declared.raw.RawOperand.TheVariants.{At, Constant, DbNo, DiNo, Flag, Missing, OpenDb, OpenDbBy, OpenDi, OpenDiBy, OtherAr, Pointer, Stw}
 use Rattle.stl_tree.specs.declared.raw.RawPlace.{RawPlace}
+use Rattle.stl_tree.specs.declared.raw.RawPointer.{RawPointer}
 
 -- the place lies in its area, with a bit number that its width has
 abbrev pub is_in_area : RawPlace → Bool
@@ -100,9 +105,13 @@ left_out_at table tokens = left_out_by (find (has_form tokens) table)
 abbrev pub place_operand : List Token → Read RawPlace
 place_operand tokens = or_else (place_at tokens) (left_out_at left_out_forms tokens)
 
--- what stands where a written place may stand, or a name
+-- what stands where a written place may stand, or a name, or an area and a pointer
+abbrev pub placed_at : List Token → Read RawOperand
+placed_at tokens = or_else (read_as At (place_operand tokens)) (or_else (named_at tokens) (indirect_at tokens))
+
+-- the same, or a pointer that has its area
 abbrev pub located_at : List Token → Read RawOperand
-located_at tokens = or_else (read_as At (place_operand tokens)) (named_at tokens)
+located_at tokens = or_else (placed_at tokens) (crossing_at tokens)
 
 -- how many tokens a mnemonic or a question to the status word takes, by its second part
 abbrev pub size_with : List ℕ → ℕ
@@ -181,11 +190,33 @@ checked_at tokens = or_else (status_at tokens) (located_at tokens)
 abbrev pub stored_at : List Token → Read RawOperand
 stored_at tokens = or_else (stw_at tokens) (located_at tokens)
 
+-- a constant, that of a pointer among them
+abbrev pub any_constant_at : List Token → Read RawOperand
+any_constant_at tokens = or_else (read_as Constant (constant_at tokens)) (read_as Pointer (pointer_at tokens))
+
 -- what `L` loads: the status word, the number of an open data block, a constant, a place or a name
 abbrev pub loaded_at : List Token → Read RawOperand
 loaded_at tokens =
     or_else (stw_at tokens) (or_else (block_number_at tokens)
-    (or_else (read_as Constant (constant_at tokens)) (or_else (located_at tokens) (length_at tokens))))
+    (or_else (any_constant_at tokens) (or_else (located_at tokens) (length_at tokens))))
+
+-- a pointer where no other constant may stand; constants that are left out are named all the same
+abbrev pub pointer_alone_at : (List Token → Read RawPointer) → List Token → Read RawOperand
+pointer_alone_at read tokens =
+    or_else (read_as Constant (marked_at left_out_prefixes tokens)) (read_as Pointer (read tokens))
+
+-- the other address register, which stands behind `LAR1` and `TAR1` alone
+abbrev pub other_at : Ar → List Token → Read RawOperand
+other_at ar.One (first ∷ rest) = if is_word (codes "AR2") first then Fits OtherAr 1 else No
+other_at r tokens = No
+
+-- what `LAR1` and `LAR2` load: the other register, a pointer, or a place that names its area
+abbrev pub pointer_loaded_at : Ar → List Token → Read RawOperand
+pointer_loaded_at r tokens = or_else (other_at r tokens) (or_else (pointer_alone_at pointer_at tokens) (placed_at tokens))
+
+-- where `TAR1` and `TAR2` store: the other register, or a place that names its area
+abbrev pub pointer_stored_at : Ar → List Token → Read RawOperand
+pointer_stored_at r tokens = or_else (other_at r tokens) (placed_at tokens)
 
 -- what opens a data block of this name
 abbrev pub opening : AreaName → RawName → RawOperand
@@ -215,9 +246,25 @@ opened_name_at [] = No
 opened_name_at (first ∷ rest) =
     if is_quoted_kind first.kind then Fits (OpenDb (Name first.text)) 1 else opened_behind (opened_word first) rest
 
+-- what opens the data block whose number stands in a word
+abbrev pub opening_by : AreaName → RawPlace → RawOperand
+opening_by area.Di place = OpenDiBy place
+opening_by other place = OpenDbBy place
+
+abbrev pub opened_in : Option AreaName → Token → List Token → Read RawOperand
+opened_in None before rest = No
+opened_in (Some name) before rest =
+    if is_sign (codes "[") before then further 2 (memory_at (opening_by name) width.Word rest) else No
+
+-- a data block by its number in memory: `DB [MW 4]`
+abbrev pub opened_by_memory_at : List Token → Read RawOperand
+opened_by_memory_at [] = No
+opened_by_memory_at (a ∷ []) = No
+opened_by_memory_at (word ∷ before ∷ rest) = opened_in (opened_word word) before rest
+
 -- what `OPN` opens
 abbrev pub opened_at : List Token → Read RawOperand
-opened_at tokens = or_else (opened_number_at tokens) (opened_name_at tokens)
+opened_at tokens = or_else (opened_number_at tokens) (or_else (opened_name_at tokens) (opened_by_memory_at tokens))
 
 -- what was read, or nothing at all
 abbrev pub or_nothing : List Token → Read RawOperand → Read RawOperand
@@ -234,7 +281,10 @@ operand_by (shape.NumberOrNothing most) tokens = or_nothing tokens (read_as Cons
 operand_by shape.Addend tokens = read_as Constant (addend_at tokens)
 operand_by shape.Loaded tokens = loaded_at tokens
 operand_by shape.Stored tokens = stored_at tokens
-operand_by shape.ConstantOrNothing tokens = or_nothing tokens (read_as Constant (constant_at tokens))
+operand_by shape.ConstantOrNothing tokens = or_nothing tokens (any_constant_at tokens)
+operand_by (shape.PointerLoaded r) tokens = or_nothing tokens (pointer_loaded_at r tokens)
+operand_by (shape.PointerStored r) tokens = or_nothing tokens (pointer_stored_at r tokens)
+operand_by shape.OffsetOrNothing tokens = or_nothing tokens (pointer_alone_at offset_at tokens)
 operand_by shape.Opened tokens = opened_at tokens
 operand_by shape.TimerOrCounter tokens = read_as At (left_out_at timers_and_counters tokens)
 operand_by shape.Later tokens = No
@@ -278,6 +328,10 @@ shape_of (is.Unary row) = shape.Nothing
 shape_of is.Tak = shape.Nothing
 shape_of is.Push = shape.Nothing
 shape_of is.Pop = shape.Nothing
+shape_of (is.LoadAr r) = shape.PointerLoaded r
+shape_of (is.StoreAr r) = shape.PointerStored r
+shape_of is.ExchangeAr = shape.Nothing
+shape_of (is.AddAr r) = shape.OffsetOrNothing
 shape_of is.Open = shape.Opened
 shape_of is.ExchangeDb = shape.Nothing
 shape_of is.Nop = shape.Number 255

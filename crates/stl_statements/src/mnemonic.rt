@@ -2,7 +2,7 @@
 
 use s7_base::{Check, Kind, Width};
 use status_word::Test;
-use stl_tree::{Arith, LogicRow, ShiftRow, UnaryRow};
+use stl_tree::{Ar, Arith, LogicRow, ShiftRow, UnaryRow};
 
 /// What a mnemonic is.
 #[derive(Clone, Copy, Debug, PartialEq, Eq)]
@@ -88,6 +88,18 @@ pub enum Mnemonic {
     /// `POP`
     Pop,
 
+    /// `LAR1` and `LAR2`
+    LoadAr(Ar),
+
+    /// `TAR1` and `TAR2`
+    StoreAr(Ar),
+
+    /// `CAR`
+    ExchangeAr,
+
+    /// `+AR1` and `+AR2`
+    AddAr(Ar),
+
     /// `OPN`
     Open,
 
@@ -140,6 +152,15 @@ pub enum Shape {
     /// A constant, or the mnemonic stands alone.
     ConstantOrNothing,
 
+    /// What this address register is loaded with, or the mnemonic stands alone.
+    PointerLoaded(Ar),
+
+    /// Where this address register is stored, or the mnemonic stands alone.
+    PointerStored(Ar),
+
+    /// An offset, or the mnemonic stands alone.
+    OffsetOrNothing,
+
     /// A data block that is opened.
     Opened,
 
@@ -168,7 +189,7 @@ pub enum Prefix {
     /// Binary digits.
     Binary,
 
-    /// A pointer, which is not built yet; with another `#` a pointer to a name, which is left out.
+    /// With another `#` a pointer to a name, which is left out; other pointers are no such constants.
     Pointer,
 
     /// Whatever it is, the constant is left out, of this kind.
