@@ -1,74 +1,31 @@
 -- Initial values: constants, lists of them, what ends a declaration, and the values of the body of a data block.
-use Rattle.std.specs.Prelude.{ℕ, ◌+◌, ◌*◌, ◌^◌, Bool, ◌&&◌, nat_lt, nat_le, if◌then◌else◌, List, [], ◌∷◌, drop, codes, Option, Some, None, option_and_then}
-use Rattle.memory_areas.specs.declared.place.AreaName.{AreaName}
-use Rattle.memory_areas.specs.declared.place.AreaName.TheVariants as area
+use Rattle.std.specs.Prelude.{ℕ, Bool, ◌&&◌, nat_lt, if◌then◌else◌, List, [], ◌∷◌, drop, codes, Option, Some, None, option_and_then}
 use Rattle.s7_base.specs.declared.reason.Line.{Line}
 use Rattle.s7_base.specs.declared.token.Token.{Token}
-use Rattle.s7_base.specs.declared.word.Width.{Width}
 use Rattle.s7_base.specs.declared.word.Width.TheVariants as width
 use Rattle.stl_grammar.specs.Elements.{begins_with_sign, elements_from}
-use Rattle.stl_statements.specs.Constants.{begins_glued, constant, constant_at}
-use Rattle.stl_statements.specs.Paths.{number_word, path_at}
-use Rattle.stl_statements.specs.Places.{bit_at, place_at}
+use Rattle.stl_statements.specs.Constants.{constant, constant_at}
+use Rattle.stl_statements.specs.Paths.{path_at}
+use Rattle.stl_statements.specs.Pointers.{is_in_reach, pointer_at, value_of}
 use Rattle.stl_statements.specs.Readers.{and_then, fitting, further, number_in, or_else, read_as}
-use Rattle.stl_statements.specs.Words.{is_joined, is_sign, is_word}
+use Rattle.stl_statements.specs.Words.{is_sign, is_word}
 use Rattle.stl_statements.specs.declared.mnemonic.Read.{Read}
 use Rattle.stl_statements.specs.declared.mnemonic.Read.TheVariants.{Fits, No}
 use Rattle.stl_tree.specs.declared.raw.Constant.{Constant}
 use Rattle.stl_tree.specs.declared.raw.InitialItem.{InitialItem}
 use Rattle.stl_tree.specs.declared.raw.PathStep.{PathStep}
 use Rattle.stl_tree.specs.declared.raw.RawInitial.{RawInitial}
-use Rattle.stl_tree.specs.declared.raw.RawPlace.{RawPlace}
-
--- Pointers
-
--- the code of an area in a pointer
-abbrev pub code_of : AreaName → ℕ
-code_of area.I = 129
-code_of area.Q = 130
-code_of area.M = 131
-code_of area.Db = 132
-code_of area.Di = 133
-code_of area.L = 134
-
--- a pointer by the code of its area, its byte and its bit, where they are small enough
-abbrev pub pointer : ℕ → ℕ → ℕ → Option Constant
-pointer code byte bit =
-    if nat_le byte 65535 && nat_le bit 7
-    then Some (constant width.Dword (code * 2 ^ 24 + byte * 2 ^ 3 + bit))
-    else None
-
--- a pointer to a bit, which has no data block named before it
-abbrev pub pointer_by : Option ℕ → Width → AreaName → ℕ → ℕ → Option Constant
-pointer_by None width.Bit name byte bit = pointer (code_of name) byte bit
-pointer_by block w name byte bit = None
-
-abbrev pub pointer_to : RawPlace → Option Constant
-pointer_to place = pointer_by place.block place.width place.area place.byte place.bit
-
--- a pointer to what was read as a place
-abbrev pub pointer_with : Read RawPlace → Read Constant
-pointer_with (Fits place size) = fitting size (pointer_to place)
-pointer_with other = No
-
--- the bit of a pointer without an area, behind its byte
-abbrev pub offset_by : Option ℕ → Read ℕ → Read Constant
-offset_by (Some byte) (Fits bit size) = fitting (size + 1) (pointer 0 byte bit)
-offset_by byte bit = No
-
-abbrev pub offset_at : List Token → Read Constant
-offset_at [] = No
-offset_at (byte ∷ rest) = offset_by (number_word byte) (bit_at rest)
-
--- `P#` and a place or a place without its area: `P#M 1.0`, `P#1.0`
-abbrev pub pointer_at : List Token → Read Constant
-pointer_at (word ∷ hash ∷ rest) =
-    if is_word (codes "P") word && is_joined (codes "#") hash && begins_glued rest
-    then further 2 (or_else (pointer_with (place_at rest)) (offset_at rest))
-    else No
-pointer_at fewer = No
+use Rattle.stl_tree.specs.declared.raw.RawPointer.{RawPointer}
 
 -- Constants
+
+-- a pointer, which has a byte and a bit that pointers have
+abbrev pub pointer_value : RawPointer → Option Constant
+pointer_value p = if is_in_reach p then Some (constant width.Dword (value_of p)) else None
+
+abbrev pub pointer_of : Read RawPointer → Read Constant
+pointer_of (Fits p size) = fitting size (pointer_value p)
+pointer_of other = No
 
 abbrev pub truth : Token → Option Constant
 truth word =
@@ -83,7 +40,7 @@ truth_at (first ∷ rest) = fitting 1 (truth first)
 
 -- what stands where an initial value may stand
 abbrev pub value_at : List Token → Read Constant
-value_at tokens = or_else (truth_at tokens) (or_else (constant_at tokens) (pointer_at tokens))
+value_at tokens = or_else (truth_at tokens) (or_else (constant_at tokens) (pointer_of (pointer_at tokens)))
 
 -- Lists
 

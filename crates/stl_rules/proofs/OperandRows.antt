@@ -5,6 +5,7 @@ use Rattle.std.specs.Prelude.{codes, map}
 use Rattle.memory_areas.specs.declared.call.BlockName.TheVariants.{Ob}
 use Rattle.memory_areas.specs.declared.place.AreaName.TheVariants as area
 use Rattle.s7_base.specs.Tokens.{tokens_of}
+use Rattle.s7_base.specs.declared.check.Check.TheVariants as check
 use Rattle.s7_base.specs.declared.reason.Kind.TheVariants as kind
 use Rattle.s7_base.specs.declared.reason.Reason.TheVariants.{BadAddress, BadOperand, Unsupported}
 use Rattle.s7_base.specs.declared.reason.Rejection.{Rejection}
@@ -23,10 +24,15 @@ use Rattle.stl_tree.specs.declared.accumulator.Arith.TheVariants as arith
 use Rattle.stl_tree.specs.declared.accumulator.LogicRow.TheVariants as logic
 use Rattle.stl_tree.specs.declared.accumulator.ShiftRow.TheVariants as shift
 use Rattle.stl_tree.specs.declared.accumulator.UnaryRow.TheVariants as unary
+use Rattle.stl_tree.specs.declared.program.Ar.TheVariants.{One, Two}
+use Rattle.stl_tree.specs.declared.program.ArLoad.TheVariants as ar_load
+use Rattle.stl_tree.specs.declared.program.ArStore.TheVariants as ar_store
+use Rattle.stl_tree.specs.declared.program.BitArg.TheVariants as bit
 use Rattle.stl_tree.specs.declared.program.LoadArg.TheVariants as load
 use Rattle.stl_tree.specs.declared.program.Op.{Op}
 use Rattle.stl_tree.specs.declared.program.Op.TheVariants as op
-use Rattle.stl_tree.specs.declared.program.Operand.TheVariants.{Direct}
+use Rattle.stl_tree.specs.declared.program.OpenArg.TheVariants as open_arg
+use Rattle.stl_tree.specs.declared.program.Operand.TheVariants.{ByMemory, ByRegister, Crossing, Direct, Opened}
 use Rattle.stl_tree.specs.declared.program.Program.{Program}
 use Rattle.stl_tree.specs.declared.raw.RawOperand.{out-RawOperand}
 use Rattle.stl_rules.proofs.VerdictRows.{on_line_3, refused, with_body}
@@ -197,6 +203,42 @@ timer_added : verdict (with_body (codes "+ T 1;")) ≡ refused 3 (Unsupported ki
 unfolding verdict judged raw_text raw_program item_at is_not_built instruction_of tokens_of mnemonic_at
 timer_added = refl
 
-pointer : verdict (with_body (codes "L P#0.0;")) ≡ refused 3 (Unsupported kind.NotBuilt)
-unfolding verdict judged raw_text raw_program item_at is_not_built instruction_of tokens_of mnemonic_at
-pointer = refl
+-- pointers, address registers and what they name
+
+pointers :
+    verdict (with_body (codes "L P#M 10.3; AD P#0.7; LAR1 P#DBX 2.0; LAR2; LAR1 AR2; TAR1; TAR1 AR2; TAR2 LD 4; LAR1 DB5.DBD 0; CAR; +AR1 P#0.6; +AR2;"))
+    ≡ accepted
+    (constant 0x83000053 ∷ op.Logic logic.Ad (Some 7) ∷ op.LoadAr One (ar_load.Constant 0x84000010) ∷ op.LoadAr Two ar_load.Accu1
+    ∷ op.LoadAr One ar_load.OtherAr ∷ op.StoreAr One ar_store.Accu1 ∷ op.StoreAr One ar_store.OtherAr
+    ∷ op.StoreAr Two (ar_store.At (Direct area.L 4 0)) ∷ op.LoadAr One (ar_load.At (Opened 5 0 0)) ∷ op.ExchangeAr
+    ∷ op.AddAr One (Some 6) ∷ op.AddAr Two None ∷ [])
+unfolding verdict judged raw_text raw_program item_at is_not_built instruction_of tokens_of mnemonic_at mnemonic_named op_of given out-RawOperand Carrier.out scope_breaks first_large
+pointers = refl
+
+indirect :
+    verdict (with_body (codes "L MW [MD 0]; A DBX [DID 2]; T W [AR1,P#2.0]; S [AR2,P#0.7]; FP L [AR1,P#65535.7]; LAR1 MD [MD 0]; OPN DB [MW 2]; OPN DI [DBW 65535];"))
+    ≡ accepted
+    (op.Load (load.At (ByMemory area.M area.M 0) width.Word) ∷ op.Check check.A (bit.At (ByMemory area.Db area.Di 2))
+    ∷ op.Transfer (Crossing One 16) width.Word ∷ op.Set (Crossing Two 7) ∷ op.EdgeUp (ByRegister area.L One 524287)
+    ∷ op.LoadAr One (ar_load.At (ByMemory area.M area.M 0)) ∷ op.OpenDb (open_arg.At (Direct area.M 2 0))
+    ∷ op.OpenDi (open_arg.At (Direct area.Db 65535 0)) ∷ [])
+unfolding verdict judged raw_text raw_program item_at is_not_built instruction_of tokens_of mnemonic_at mnemonic_named op_of given out-RawOperand Carrier.out scope_breaks first_large
+indirect = refl
+
+-- the verdicts of bodies of one line
+abbrev all : List (List ℕ) → List (Result Program Rejection)
+all bodies = map (λ body. verdict (with_body body)) bodies
+
+bad_operands :
+    all (codes "AW P#0.0;" ∷ codes "LAR1 ID 0;" ∷ codes "TAR1 MW 0;" ∷ codes "LAR1 ID 9000;" ∷ codes "LAR1 QD [MD 0];" ∷ codes "A MW [AR1,P#0.9];" ∷ codes "AW P#0.9;" ∷ codes "A MW [MD 0];" ∷ codes "L [AR1,P#0.0];" ∷ [])
+    ≡ refused 3 BadOperand ∷ refused 3 BadOperand ∷ refused 3 BadOperand ∷ refused 3 BadOperand ∷ refused 3 BadOperand
+    ∷ refused 3 BadOperand ∷ refused 3 BadOperand ∷ refused 3 BadOperand ∷ refused 3 BadOperand ∷ []
+unfolding verdict judged raw_text raw_program item_at is_not_built instruction_of tokens_of mnemonic_at mnemonic_named op_of given out-RawOperand Carrier.out scope_breaks first_large
+bad_operands = refl
+
+bad_addresses :
+    all (codes "L P#70000.0;" ∷ codes "L P#0.8;" ∷ codes "+AR1 P#0.9;" ∷ codes "L MW [AR1,P#70000.0];" ∷ codes "L MW [MD 8189];" ∷ codes "OPN DB [MW 8191];" ∷ codes "LAR1 MD 8189;" ∷ [])
+    ≡ refused 3 BadAddress ∷ refused 3 BadAddress ∷ refused 3 BadAddress ∷ refused 3 BadAddress ∷ refused 3 BadAddress
+    ∷ refused 3 BadAddress ∷ refused 3 BadAddress ∷ []
+unfolding verdict judged raw_text raw_program item_at is_not_built instruction_of tokens_of mnemonic_at mnemonic_named op_of given out-RawOperand Carrier.out scope_breaks first_large
+bad_addresses = refl

@@ -15,15 +15,16 @@ use Rattle.s7_base.specs.declared.check.Check.TheVariants as check
 use Rattle.s7_base.specs.declared.word.Width.{Width}
 use Rattle.s7_base.specs.declared.word.Width.TheVariants as width
 use Rattle.status_word.specs.declared.test.Test.{Test}
-use Rattle.stl_tree.specs.Accepted.{HasOperand, IsBlockOpened, IsComparison, IsNumberWidth, IsOperand}
+use Rattle.stl_tree.specs.Accepted.{HasOperand, IsBlockOpened, IsComparison, IsNumberWidth, IsOffset, IsOperand, MayHoldPointer, is_of_pointers, may_hold_pointers}
 use Rattle.stl_tree.specs.Accumulators.{bits_wide, signed_part}
-use Rattle.stl_statements.specs.Constants.{fits, value_in}
+use Rattle.stl_statements.specs.Constants.{constant, fits, value_in}
+use Rattle.stl_statements.specs.Pointers.{is_in_reach, offset_of, value_of}
 use Rattle.stl_statements.specs.Mnemonics.{mnemonic_named}
-use Rattle.stl_rules.specs.Programs.{adding, alone, checked, combining, comparing, instr_of, is_compared, loading, on_bit, on_number, op_by, op_of, op_with, opening, shifting, storing, unchecked, with_number, within}
+use Rattle.stl_rules.specs.Programs.{adding, alone, checked, combining, comparing, instr_of, is_compared, loading, loading_pointer, moving_pointer, on_bit, on_number, op_by, op_of, op_with, opening, other_by, pointed, shifting, storing, storing_pointer, unchecked, with_number, within}
 use Rattle.stl_rules.specs.Extents.{width_of}
 use Rattle.stl_rules.specs.Names.{db_numbered, may_have, number_of, symbol_named}
 use Rattle.stl_rules.specs.Paths.{component_in}
-use Rattle.stl_rules.specs.Raw.{Sight, are_refused, given, given_component, given_in, given_in_data, given_in_kind, given_number, given_open, given_path, given_place, given_symbol, is_placed, most_in_block, most_local, operand_at, place_of_kind}
+use Rattle.stl_rules.specs.Raw.{Sight, are_refused, given, given_component, given_held, given_if, given_in, given_in_data, given_in_kind, given_number, given_open, given_path, given_place, given_pointer, given_symbol, is_placed, may_stand, most_in_block, most_local, operand_at, place_of_kind}
 use Rattle.stl_rules.specs.declared.given.Given.{Given}
 use Rattle.stl_rules.specs.declared.given.Given.TheVariants as behind
 use Rattle.stl_tree.specs.Shifts.{most_steps}
@@ -33,12 +34,17 @@ use Rattle.stl_tree.specs.declared.accumulator.LogicRow.{LogicRow}
 use Rattle.stl_tree.specs.declared.accumulator.ShiftRow.{ShiftRow}
 use Rattle.stl_statements.specs.declared.mnemonic.Mnemonic.{Mnemonic}
 use Rattle.stl_statements.specs.declared.mnemonic.Mnemonic.TheVariants as is
+use Rattle.stl_tree.specs.declared.program.Ar.{Ar}
+use Rattle.stl_tree.specs.declared.program.Ar.TheVariants as ar
+use Rattle.stl_tree.specs.declared.program.ArLoad.TheVariants as ar_load
+use Rattle.stl_tree.specs.declared.program.ArStore.TheVariants as ar_store
+use Rattle.stl_tree.specs.declared.raw.RawPointer.{RawPointer}
 use Rattle.stl_tree.specs.declared.program.Instr.{Instr}
 use Rattle.stl_tree.specs.declared.program.LoadArg.TheVariants as load
 use Rattle.stl_tree.specs.declared.program.Op.{Op}
 use Rattle.stl_tree.specs.declared.program.Op.TheVariants as op
 use Rattle.stl_tree.specs.declared.program.Operand.{Operand}
-use Rattle.stl_tree.specs.declared.program.Operand.TheVariants.{Direct}
+use Rattle.stl_tree.specs.declared.program.Operand.TheVariants.{ByMemory, ByRegister, Crossing, Direct}
 use Rattle.stl_rules.specs.declared.laid.Component.{Component}
 use Rattle.stl_tree.specs.declared.raw.BlockKind.TheVariants as block
 use Rattle.stl_tree.specs.declared.raw.Declaration.{Declaration}
@@ -64,6 +70,8 @@ abbrev IsGiven : Given → Type 0
 IsGiven (behind.At o w) = IsOperand w o
 IsGiven (behind.Db n) = IsBlockOpened n
 IsGiven (behind.Di n) = IsBlockOpened n
+IsGiven (behind.DbBy o) = MayHoldPointer width.Word o
+IsGiven (behind.DiBy o) = MayHoldPointer width.Word o
 IsGiven more = Unit {0}
 
 -- a number that a data block may have
@@ -94,8 +102,36 @@ placed_is place (Some n) e =
 place_is : (place : RawPlace) → IsGiven (given_place place)
 place_is place = by (is_placed place place.block) refl
   where
-    by : (b : Bool) → is_placed place place.block ≡ b → IsGiven (if b then operand_at place place.block else behind.Outside place.width)
+    by : (b : Bool) → is_placed place place.block ≡ b → IsGiven (if b then operand_at place place.block else behind.Outside place.area place.width)
     by true e = placed_is place place.block e
+    by false e = tt
+
+-- pointers
+
+in_reach : (p : RawPointer) → is_in_reach p ≡ true → IsOffset (offset_of p)
+in_reach p e =
+    let parts = and_parts (nat_le p.byte 65535) (nat_le p.bit 7) e in
+    omega (arith, leb-true p.byte 65535 parts.0, leb-true p.bit 7 parts.1)
+
+if_is : (b : Bool) (name : AreaName) (w : Width) (o : Operand) → (b ≡ true → IsOperand w o) → IsGiven (given_if b name w o)
+if_is true name w o h = h refl
+if_is false name w o h = tt
+
+stands : (w : Width) (place : RawPlace) → may_stand w place ≡ true → (may_hold_pointers place.area ≡ true) × (is_byte_in place.area w place.byte ≡ true)
+stands w place e = and_parts (may_hold_pointers place.area) (is_byte_in place.area w place.byte) e
+
+pointer_is : (p : RawPointer) → IsGiven (given_pointer p)
+pointer_is p = by (is_in_reach p)
+  where
+    by : (b : Bool) → IsGiven (if b then behind.Constant (constant width.Dword (value_of p)) else behind.NoPointer)
+    by true = tt
+    by false = tt
+
+held_is : (make : Operand → Given) → ((o : Operand) → MayHoldPointer width.Word o → IsGiven (make o)) → (place : RawPlace) → IsGiven (given_held make place)
+held_is make h place = by (may_stand width.Word place) refl
+  where
+    by : (b : Bool) → may_stand width.Word place ≡ b → IsGiven (if b then make (Direct place.area place.byte 0) else behind.NoNumber)
+    by true e = let there = stands width.Word place e in h (Direct place.area place.byte 0) (there.0, (there.1, refl))
     by false e = tt
 
 symbol_is : (o : Option SymbolAddress) → IsGiven (given_symbol o)
@@ -150,6 +186,14 @@ layer_is sight (layer.OpenDb name) =
     number_is (given_open (λ n. behind.Db n)) (open_is (λ n. behind.Db n) (λ n h. h)) (number_of sight.symbols block.Db name)
 layer_is sight (layer.OpenDi name) =
     number_is (given_open (λ n. behind.Di n)) (open_is (λ n. behind.Di n) (λ n h. h)) (number_of sight.symbols block.Db name)
+layer_is sight (layer.Pointer p) = pointer_is p
+layer_is sight (layer.ByMemory name w place) =
+    if_is (may_stand width.Dword place) name w (ByMemory name place.area place.byte) (λ e. stands width.Dword place e)
+layer_is sight (layer.ByRegister name w r p) =
+    if_is (is_in_reach p) name w (ByRegister name r (offset_of p)) (λ e. in_reach p e)
+layer_is sight (layer.Crossing w r p) = if_is (is_in_reach p) area.M w (Crossing r (offset_of p)) (λ e. in_reach p e)
+layer_is sight (layer.OpenDbBy place) = held_is (λ o. behind.DbBy o) (λ o h. h) place
+layer_is sight (layer.OpenDiBy place) = held_is (λ o. behind.DiBy o) (λ o h. h) place
 layer_is sight more = tt
 
 given_is : (sight : Sight) (o : RawOperand) → IsGiven (given sight o)
@@ -245,9 +289,43 @@ shifting_is row (behind.Constant c) = by (nat_le c.value (most_steps row)) refl
     by false e = tt
 shifting_is row more = tt
 
+pointed_is : (o : Operand → Op) → ((x : Operand) → MayHoldPointer width.Dword x → HasOperand (o x)) → (x : Operand) (w : Width) → IsOperand w x → MayBe (pointed o x w)
+pointed_is o h x width.Dword k = by (is_of_pointers x) refl
+  where
+    by : (b : Bool) → is_of_pointers x ≡ b → MayBe (if b then Some (o x) else None)
+    by true e = h x (e, k)
+    by false e = tt
+pointed_is o h x width.Bit k = tt
+pointed_is o h x width.Byte k = tt
+pointed_is o h x width.Word k = tt
+
+other_is : (o : Ar → Op) → HasOperand (o ar.One) → (r : Ar) → MayBe (other_by o r)
+other_is o h ar.One = h
+other_is o h ar.Two = tt
+
+loading_pointer_is : (r : Ar) (g : Given) → IsGiven g → MayBe (loading_pointer r g)
+loading_pointer_is r behind.Nothing k = tt
+loading_pointer_is r (behind.Constant c) k = within_is 32 c.value (λ p. op.LoadAr r (ar_load.Constant p)) (λ h. h)
+loading_pointer_is r (behind.At x w) k = pointed_is (λ y. op.LoadAr r (ar_load.At y)) (λ y h. h) x w k
+loading_pointer_is r behind.OtherAr k = other_is (λ a. op.LoadAr a ar_load.OtherAr) refl r
+loading_pointer_is r more k = tt
+
+storing_pointer_is : (r : Ar) (g : Given) → IsGiven g → MayBe (storing_pointer r g)
+storing_pointer_is r behind.Nothing k = tt
+storing_pointer_is r (behind.At x w) k = pointed_is (λ y. op.StoreAr r (ar_store.At y)) (λ y h. h) x w k
+storing_pointer_is r behind.OtherAr k = other_is (λ a. op.StoreAr a ar_store.OtherAr) refl r
+storing_pointer_is r more k = tt
+
+moving_pointer_is : (r : Ar) (g : Given) → MayBe (moving_pointer r g)
+moving_pointer_is r behind.Nothing = tt
+moving_pointer_is r (behind.Constant c) = within_is 19 c.value (λ offset. op.AddAr r (Some offset)) (λ h. h)
+moving_pointer_is r more = tt
+
 opening_is : (g : Given) → IsGiven g → MayBe (opening g)
 opening_is (behind.Db n) h = h
 opening_is (behind.Di n) h = h
+opening_is (behind.DbBy o) h = h
+opening_is (behind.DiBy o) h = h
 opening_is more h = tt
 
 combining_is : (row : LogicRow) (g : Given) → MayBe (combining row g)
@@ -290,6 +368,10 @@ with_is (is.Unary row) g h = alone_is (op.Unary row) tt g
 with_is is.Tak g h = alone_is op.Tak tt g
 with_is is.Push g h = alone_is op.Push tt g
 with_is is.Pop g h = alone_is op.Pop tt g
+with_is (is.LoadAr r) g h = loading_pointer_is r g h
+with_is (is.StoreAr r) g h = storing_pointer_is r g h
+with_is is.ExchangeAr g h = alone_is op.ExchangeAr tt g
+with_is (is.AddAr r) g h = moving_pointer_is r g
 with_is is.Open g h = opening_is g h
 with_is is.ExchangeDb g h = alone_is op.ExchangeDb tt g
 with_is is.Nop g h = with_number_is (λ n. op.Nop) (λ n k. tt) g

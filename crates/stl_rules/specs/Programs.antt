@@ -21,6 +21,7 @@ use Rattle.stl_statements.specs.Mnemonics.{mnemonic_named}
 use Rattle.stl_rules.specs.DataBlocks.{data_of, in_order}
 use Rattle.stl_rules.specs.Names.{number_of}
 use Rattle.stl_rules.specs.Raw.{Sight, given}
+use Rattle.stl_tree.specs.Accepted.{is_of_pointers}
 use Rattle.stl_tree.specs.Shifts.{most_steps}
 use Rattle.stl_tree.specs.WordLogic.{width_of as logic_width}
 use Rattle.stl_tree.specs.declared.accumulator.LogicRow.{LogicRow}
@@ -29,6 +30,10 @@ use Rattle.stl_rules.specs.declared.given.Given.{Given}
 use Rattle.stl_rules.specs.declared.given.Given.TheVariants as behind
 use Rattle.stl_statements.specs.declared.mnemonic.Mnemonic.{Mnemonic}
 use Rattle.stl_statements.specs.declared.mnemonic.Mnemonic.TheVariants as is
+use Rattle.stl_tree.specs.declared.program.Ar.{Ar}
+use Rattle.stl_tree.specs.declared.program.Ar.TheVariants as ar
+use Rattle.stl_tree.specs.declared.program.ArLoad.TheVariants as ar_load
+use Rattle.stl_tree.specs.declared.program.ArStore.TheVariants as ar_store
 use Rattle.stl_tree.specs.declared.program.BitArg.TheVariants as arg
 use Rattle.stl_tree.specs.declared.program.Block.{Block}
 use Rattle.stl_tree.specs.declared.program.Instr.{Instr}
@@ -126,10 +131,43 @@ shifting row behind.Nothing = Some (op.Shift row None)
 shifting row (behind.Constant c) = if nat_le c.value (most_steps row) then Some (op.Shift row (Some c.value)) else None
 shifting row more = None
 
+-- an instruction on a double word where pointers may stand
+abbrev pub pointed : (Operand → Op) → Operand → Width → Option Op
+pointed o operand width.Dword = if is_of_pointers operand then Some (o operand) else None
+pointed o operand w = None
+
+-- from or to the other address register: with AR1 alone
+abbrev pub other_by : (Ar → Op) → Ar → Option Op
+other_by o ar.One = Some (o ar.One)
+other_by o ar.Two = None
+
+-- `LAR1` and `LAR2`
+abbrev pub loading_pointer : Ar → Given → Option Op
+loading_pointer r behind.Nothing = Some (op.LoadAr r ar_load.Accu1)
+loading_pointer r (behind.Constant c) = option_map (λ p. op.LoadAr r (ar_load.Constant p)) (within 32 c.value)
+loading_pointer r (behind.At operand w) = pointed (λ x. op.LoadAr r (ar_load.At x)) operand w
+loading_pointer r behind.OtherAr = other_by (λ a. op.LoadAr a ar_load.OtherAr) r
+loading_pointer r more = None
+
+-- `TAR1` and `TAR2`
+abbrev pub storing_pointer : Ar → Given → Option Op
+storing_pointer r behind.Nothing = Some (op.StoreAr r ar_store.Accu1)
+storing_pointer r (behind.At operand w) = pointed (λ x. op.StoreAr r (ar_store.At x)) operand w
+storing_pointer r behind.OtherAr = other_by (λ a. op.StoreAr a ar_store.OtherAr) r
+storing_pointer r more = None
+
+-- `+AR1` and `+AR2`
+abbrev pub moving_pointer : Ar → Given → Option Op
+moving_pointer r behind.Nothing = Some (op.AddAr r None)
+moving_pointer r (behind.Constant c) = option_map (λ offset. op.AddAr r (Some offset)) (within 19 c.value)
+moving_pointer r more = None
+
 -- `OPN`
 abbrev pub opening : Given → Option Op
 opening (behind.Db n) = Some (op.OpenDb (open_arg.Number n))
 opening (behind.Di n) = Some (op.OpenDi (open_arg.Number n))
+opening (behind.DbBy operand) = Some (op.OpenDb (open_arg.At operand))
+opening (behind.DiBy operand) = Some (op.OpenDi (open_arg.At operand))
 opening more = None
 
 -- word logic
@@ -170,6 +208,10 @@ op_with (is.Unary row) g = alone (op.Unary row) g
 op_with is.Tak g = alone op.Tak g
 op_with is.Push g = alone op.Push g
 op_with is.Pop g = alone op.Pop g
+op_with (is.LoadAr r) g = loading_pointer r g
+op_with (is.StoreAr r) g = storing_pointer r g
+op_with is.ExchangeAr g = alone op.ExchangeAr g
+op_with (is.AddAr r) g = moving_pointer r g
 op_with is.Open g = opening g
 op_with is.ExchangeDb g = alone op.ExchangeDb g
 op_with is.Nop g = with_number (λ n. op.Nop) g

@@ -1,5 +1,5 @@
 -- What stands in a raw operand, given what names mean.
-use Rattle.std.specs.Prelude.{ℕ, Bool, ◌&&◌, if◌then◌else◌, List, [], ◌∷◌, Option, Some, None, Result, Ok, Err}
+use Rattle.std.specs.Prelude.{ℕ, Bool, true, false, ◌&&◌, if◌then◌else◌, List, [], ◌∷◌, Option, Some, None, Result, Ok, Err}
 use Rattle.std.specs.Option.{is_some}
 use Rattle.memory_areas.specs.declared.place.AreaName.{AreaName}
 use Rattle.memory_areas.specs.declared.place.AreaName.TheVariants as area
@@ -9,8 +9,16 @@ use Rattle.s7_base.specs.declared.reason.Reason.TheVariants.{UnknownName}
 use Rattle.stl_rules.specs.Names.{db_numbered, may_have, number_of, symbol_named}
 use Rattle.stl_rules.specs.declared.given.Given.{Given}
 use Rattle.stl_rules.specs.declared.given.Given.TheVariants as behind
+use Rattle.stl_statements.specs.Constants.{constant}
+use Rattle.stl_statements.specs.Pointers.{is_in_reach, offset_of, value_of}
 use Rattle.stl_statements.specs.Statements.{is_in_area}
-use Rattle.stl_tree.specs.declared.program.Operand.TheVariants.{Direct, Opened}
+use Rattle.s7_base.specs.declared.word.Width.{Width}
+use Rattle.s7_base.specs.declared.word.Width.TheVariants as width
+use Rattle.memory_areas.specs.Access.{is_byte_in}
+use Rattle.stl_tree.specs.Accepted.{may_hold_pointers}
+use Rattle.stl_tree.specs.declared.program.Operand.{Operand}
+use Rattle.stl_tree.specs.declared.raw.RawPointer.{RawPointer}
+use Rattle.stl_tree.specs.declared.program.Operand.TheVariants.{ByMemory, ByRegister, Crossing, Direct, Opened}
 use Rattle.stl_tree.specs.declared.raw.BlockKind.TheVariants as block
 use Rattle.stl_tree.specs.declared.raw.Declaration.{Declaration}
 use Rattle.stl_tree.specs.declared.raw.ElemType.{ElemType}
@@ -52,7 +60,26 @@ operand_at place (Some n) = behind.At (Opened n place.byte place.bit) place.widt
 -- a written place, in its area or outside it
 abbrev pub given_place : RawPlace → Given
 given_place place =
-    if is_placed place place.block then operand_at place place.block else behind.Outside place.width
+    if is_placed place place.block then operand_at place place.block else behind.Outside place.area place.width
+
+-- Pointers
+
+-- a place of a width that is named by a pointer, where its numbers are in their ranges
+abbrev pub given_if : Bool → AreaName → Width → Operand → Given
+given_if true name w o = behind.At o w
+given_if false name w o = behind.Outside name w
+
+-- a constant of a double word, where its numbers are ones that pointers have
+abbrev pub given_pointer : RawPointer → Given
+given_pointer p = if is_in_reach p then behind.Constant (constant width.Dword (value_of p)) else behind.NoPointer
+
+-- a pointer, or the number of a data block, of this width may stand at a written place, which lies in its area
+abbrev pub may_stand : Width → RawPlace → Bool
+may_stand w place = may_hold_pointers place.area && is_byte_in place.area w place.byte
+
+-- OPN by the number in a word
+abbrev pub given_held : (Operand → Given) → RawPlace → Given
+given_held make place = if may_stand width.Word place then make (Direct place.area place.byte 0) else behind.NoNumber
 
 -- Names
 
@@ -122,8 +149,15 @@ given_in sight layer.Stw = behind.Stw
 given_in sight layer.DbNo = behind.DbNo
 given_in sight layer.DiNo = behind.DiNo
 given_in sight (layer.Constant constant) = behind.Constant constant
+given_in sight (layer.Pointer p) = given_pointer p
+given_in sight (layer.ByMemory name w place) = given_if (may_stand width.Dword place) name w (ByMemory name place.area place.byte)
+given_in sight (layer.ByRegister name w r p) = given_if (is_in_reach p) name w (ByRegister name r (offset_of p))
+given_in sight (layer.Crossing w r p) = given_if (is_in_reach p) area.M w (Crossing r (offset_of p))
+given_in sight layer.OtherAr = behind.OtherAr
 given_in sight (layer.OpenDb name) = given_number (given_open (λ n. behind.Db n)) (number_of sight.symbols block.Db name)
 given_in sight (layer.OpenDi name) = given_number (given_open (λ n. behind.Di n)) (number_of sight.symbols block.Db name)
+given_in sight (layer.OpenDbBy place) = given_held (λ o. behind.DbBy o) place
+given_in sight (layer.OpenDiBy place) = given_held (λ o. behind.DiBy o) place
 given_in sight unbuilt = behind.Other
 
 -- what stands behind the mnemonic of a raw operand

@@ -1,7 +1,9 @@
 -- The rules of a raw program, stage by stage: each of them gives all that breaks it.
 use Rattle.std.specs.Prelude.{ℕ, zero, suc, Bool, true, false, not, ◌==◌, ◌&&◌, nat_lt, if◌then◌else◌, List, [], ◌∷◌, ◌++◌, map, slice_get, Option, Some, None, Result, Ok, Err}
 use Rattle.std.specs.List.{flat_map, list_any}
-use Rattle.memory_areas.specs.declared.place.AreaName.TheVariants as area
+use Rattle.memory_areas.specs.declared.place.AreaName.{AreaName}
+use Rattle.s7_base.specs.declared.word.Width.TheVariants as width
+use Rattle.stl_statements.specs.Constants.{constant}
 use Rattle.memory_areas.specs.declared.sizes.TheConstants.{MOST_BLOCKS}
 use Rattle.nesting_stack.specs.Entries.{most_open}
 use Rattle.s7_base.specs.Broken.{broken, first_of_all}
@@ -167,9 +169,13 @@ abbrev pub kind_breaks : Option Op → List Reason
 kind_breaks None = BadOperand ∷ []
 kind_breaks (Some o) = []
 
--- any place, for the question which width a mnemonic has
-abbrev pub some_place : Operand
-some_place = Direct area.M 0 0
+-- any place of an area, for the question which area and width a mnemonic has
+abbrev pub some_place : AreaName → Operand
+some_place name = Direct name 0 0
+
+-- any pointer, for the question whether a mnemonic has one
+abbrev pub some_pointer : Constant
+some_pointer = constant width.Dword 0
 
 abbrev pub operand_breaks : Option Mnemonic → Given → List Reason
 operand_breaks what behind.Unknown = UnknownName ∷ []
@@ -177,7 +183,8 @@ operand_breaks what behind.Unfit = BadOperand ∷ []
 operand_breaks what behind.Unjudged = []
 operand_breaks what behind.NoNumber = BadAddress ∷ []
 operand_breaks what behind.Other = []
-operand_breaks what (behind.Outside w) = kind_breaks (op_by what (behind.At some_place w)) ++ BadAddress ∷ []
+operand_breaks what (behind.Outside name w) = kind_breaks (op_by what (behind.At (some_place name) w)) ++ BadAddress ∷ []
+operand_breaks what behind.NoPointer = kind_breaks (op_by what (behind.Constant some_pointer)) ++ BadAddress ∷ []
 operand_breaks what g = kind_breaks (op_by what g)
 
 abbrev pub instr_breaks : Sight → RawInstr → List Break

@@ -1,5 +1,6 @@
 //! What stands behind a mnemonic.
 
+use memory_areas::AreaName;
 use s7_base::Width;
 use status_word::Test;
 use stl_tree::{Constant, Operand};
@@ -9,11 +10,11 @@ use stl_tree::{Constant, Operand};
 pub enum Given {
     Nothing,
 
-    /// A place of this width in its area.
+    /// A place of this width in its area, or one that a pointer names.
     At(Operand, Width),
 
-    /// A place of this width that does not lie in its area.
-    Outside(Width),
+    /// A place of this area and width that has a number outside its range, or is named by a pointer that has one.
+    Outside(AreaName, Width),
 
     /// A question to the status word.
     Flag(Test),
@@ -27,7 +28,14 @@ pub enum Given {
     /// The number in the DI register.
     DiNo,
 
+    /// A constant; a pointer is one of a double word.
     Constant(Constant),
+
+    /// A pointer whose byte or bit is outside its range.
+    NoPointer,
+
+    /// The other address register.
+    OtherAr,
 
     /// The number of a data block that is opened.
     Db(u16),
@@ -35,7 +43,13 @@ pub enum Given {
     /// The number of an instance that is opened.
     Di(u16),
 
-    /// A number that no data block may have.
+    /// A word with the number of a data block that is opened.
+    DbBy(Operand),
+
+    /// A word with the number of an instance that is opened.
+    DiBy(Operand),
+
+    /// A number that no data block may have, or the place of one outside its area.
     NoNumber,
 
     /// A name that is not declared.
