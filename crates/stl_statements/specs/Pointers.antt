@@ -4,7 +4,6 @@ use Rattle.std.specs.Prelude.{ℕ, ◌+◌, ◌*◌, ◌^◌, Bool, ◌==◌, �
 use Rattle.std.specs.List.{find}
 use Rattle.memory_areas.specs.Access.{bytes_wide}
 use Rattle.memory_areas.specs.declared.place.AreaName.{AreaName}
-use Rattle.memory_areas.specs.declared.place.AreaName.TheVariants as area
 use Rattle.s7_base.specs.declared.token.Token.{Token}
 use Rattle.s7_base.specs.declared.word.Width.{Width}
 use Rattle.s7_base.specs.declared.word.Width.TheVariants as width
@@ -16,6 +15,7 @@ use Rattle.stl_statements.specs.Words.{is_joined, is_sign, is_word}
 use Rattle.stl_statements.specs.declared.mnemonic.Read.{Read}
 use Rattle.stl_statements.specs.declared.mnemonic.Read.TheVariants.{Fits, No}
 use Rattle.stl_tree.specs.Accepted.{may_hold_pointers}
+use Rattle.stl_tree.specs.AddressRegisters.{code_of}
 use Rattle.stl_tree.specs.declared.program.Ar.{Ar}
 use Rattle.stl_tree.specs.declared.program.Ar.TheVariants as ar
 use Rattle.stl_tree.specs.declared.raw.RawOperand.{RawOperand}
@@ -24,15 +24,6 @@ use Rattle.stl_tree.specs.declared.raw.RawPlace.{RawPlace}
 use Rattle.stl_tree.specs.declared.raw.RawPointer.{RawPointer}
 
 -- Constants
-
--- the code of an area in a pointer
-abbrev pub code_of : AreaName → ℕ
-code_of area.I = 129
-code_of area.Q = 130
-code_of area.M = 131
-code_of area.Db = 132
-code_of area.Di = 133
-code_of area.L = 134
 
 abbrev pub pointer : ℕ → ℕ → ℕ → RawPointer
 pointer code byte bit = record { code = code; byte = byte; bit = bit }

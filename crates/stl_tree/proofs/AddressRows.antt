@@ -1,12 +1,15 @@
 -- Worked rows of address registers and indirect operands.
 use Rattle.std.proofs.Common.{◌≡◌, refl, ℕ, List, [], ◌∷◌, ◌++◌, Some, None}
 use Rattle.std.specs.Prelude.{replicate}
+use Rattle.memory_areas.specs.Access.{name_of_code}
 use Rattle.memory_areas.specs.Areas.{Areas}
 use Rattle.memory_areas.specs.End.{End, Ended}
+use Rattle.memory_areas.specs.declared.place.AreaName.{AreaName}
 use Rattle.memory_areas.specs.declared.place.AreaName.TheVariants as area
 use Rattle.s7_base.specs.declared.check.Check.TheVariants as check
 use Rattle.s7_base.specs.declared.outcome.Fault.TheVariants.{Alignment, AreaCode, AreaLength, DbMissing, DbNotOpen}
 use Rattle.s7_base.specs.declared.word.Width.TheVariants as width
+use Rattle.stl_tree.specs.AddressRegisters.{code_of}
 use Rattle.stl_tree.specs.StlRun.{stl_run}
 use Rattle.stl_tree.specs.declared.program.Ar.TheVariants.{One, Two}
 use Rattle.stl_tree.specs.declared.program.ArLoad.TheVariants as ar_load
@@ -123,3 +126,12 @@ by_number = refl
 
 by_no_number : run_of (op.OpenDb (open_arg.At (Direct area.M 0 0)) ∷ byte_at (Direct area.Db 1 0) ∷ []) (0 ∷ 6 ∷ []) (3 ∷ 4 ∷ []) ≡ Ended (memory_with (0 ∷ 6 ∷ []) (3 ∷ 4 ∷ [])) (Some DbMissing)
 by_no_number = refl
+
+-- an area has the code that memory_areas reads as it
+pub coded : (a : AreaName) → name_of_code (code_of a) ≡ Some a
+coded area.I = refl
+coded area.Q = refl
+coded area.M = refl
+coded area.L = refl
+coded area.Db = refl
+coded area.Di = refl

@@ -1,5 +1,5 @@
 mod AccumulatorRows
-mod AddressRows
+pub mod AddressRows
 mod DataBlockRows
 pub mod RunRows
 pub mod Runs
