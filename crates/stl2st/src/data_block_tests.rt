@@ -177,7 +177,8 @@ BEGIN
 END_ORGANIZATION_BLOCK
 ";
 
-fn want_blocks(
+/// Bodies behind data block 5 report this.
+pub fn want_blocks(
     rt: &impl Abort,
     alloc: Global,
     rows: &[(&[u8], &[u8], Status, &[u8])],

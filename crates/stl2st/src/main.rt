@@ -26,6 +26,8 @@ mod image_file;
 mod limits;
 #[cfg(test)]
 mod logic_tests;
+#[cfg(test)]
+mod pointer_tests;
 mod reply;
 mod status;
 #[cfg(test)]

@@ -9,6 +9,8 @@ mod data_block_rows;
 #[cfg(test)]
 mod machines;
 #[cfg(test)]
+mod pointer_rows;
+#[cfg(test)]
 mod status_word_rows;
 #[cfg(test)]
 mod stl_instructions_rows;

@@ -10,7 +10,7 @@ use std::test::Fail;
 use stl_instructions::{instruction, mnemonic_named};
 use stl_lexer::tokens;
 use stl_statements::Mnemonic;
-use stl_tree::{Constant, RawName, RawOperand, RawPlace};
+use stl_tree::{Ar, Constant, RawName, RawOperand, RawPlace};
 
 /// An operand.
 #[derive(Clone, Copy, Debug, PartialEq)]
@@ -36,10 +36,28 @@ pub enum Wanted {
 
     /// Another constant.
     Value(Width, u32),
+
+    /// A pointer: the code of its area, or 0, a byte and a bit.
+    Pointer(u8, u32, u32),
+
+    /// The other address register.
+    OtherAr,
+
+    /// An area and a width, and the area and the byte of a pointer.
+    ByMemory(AreaName, Width, AreaName, u32),
+
+    /// An area and a width, and the byte and the bit of an offset.
+    ByRegister(AreaName, Width, Ar, u32, u32),
+    Crossing(Width, Ar, u32, u32),
+
+    /// The area and the byte of a word.
+    OpenDbBy(AreaName, u32),
+    OpenDiBy(AreaName, u32),
 }
 
 use Wanted::{
-    Binary, Bit, DbNo, DiNo, InBlock, Nothing, Number, OpenDb, OpenDi, Place, Status, Stw, Value,
+    Binary, Bit, ByMemory, ByRegister, Crossing, DbNo, DiNo, InBlock, Nothing, Number, OpenDb,
+    OpenDbBy, OpenDi, OpenDiBy, OtherAr, Place, Pointer, Status, Stw, Value,
 };
 
 /// A statement without its `;`, the name of its mnemonic, what that is, and the operand.
@@ -276,6 +294,17 @@ fn operand_of(operand: &RawOperand) -> Option<Wanted> {
         RawOperand::OpenDb(RawName::Number(number)) => Some(OpenDb(*number)),
         RawOperand::OpenDi(RawName::Number(number)) => Some(OpenDi(*number)),
         RawOperand::Constant(constant) => constant_of(constant),
+        RawOperand::Pointer(pointer) => Some(Pointer(pointer.code, pointer.byte, pointer.bit)),
+        RawOperand::OtherAr => Some(OtherAr),
+        RawOperand::ByMemory(area, width, at) => Some(ByMemory(*area, *width, at.area, at.byte)),
+        RawOperand::ByRegister(area, width, register, offset) => {
+            Some(ByRegister(*area, *width, *register, offset.byte, offset.bit))
+        }
+        RawOperand::Crossing(width, register, offset) => {
+            Some(Crossing(*width, *register, offset.byte, offset.bit))
+        }
+        RawOperand::OpenDbBy(at) => Some(OpenDbBy(at.area, at.byte)),
+        RawOperand::OpenDiBy(at) => Some(OpenDiBy(at.area, at.byte)),
         _ => None,
     }
 }
