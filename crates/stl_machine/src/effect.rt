@@ -1,16 +1,18 @@
 //! What one instruction does.
-ghost use Rattle.std.specs.Prelude.{if◌then◌else◌};
+ghost use Rattle.std.specs.Prelude.{◌≡◌, if◌then◌else◌};
 ghost use Rattle.status_word.specs.Flags.{bits};
 ghost use Rattle.stl_machine.specs.Machine.{seen, values, Does};
+ghost use Rattle.stl_machine.specs.inner.Operands.{IsTaken};
 ghost use Rattle.stl_machine.specs.inner.Rows.{IsOnRegisters};
-ghost use Rattle.stl_tree.specs.Instructions.{at_edge, effect_of, on_accu1, on_registers, on_status, stored};
+ghost use Rattle.stl_tree.specs.Instructions.{at_edge, block_opened, effect_of, on_accu1, on_registers, on_status};
 ghost use Rattle.stl_tree.specs.declared.program.Op.TheVariants as op;
 
 use crate::accumulators::{read_number, write_part};
 use crate::state::{Registers, State};
+use address_registers::Pointer;
 use s7_base::{Check, Fault, Width};
 use status_word::{Flag, Status};
-use stl_tree::{BitArg, LoadArg, Op, OpenArg, Operand, UnaryRow};
+use stl_tree::{Ar, ArLoad, ArStore, BitArg, LoadArg, Op, OpenArg, Operand, UnaryRow};
 
 /// How a run goes on after an instruction.
 #[derive(Clone, Copy, Debug)]
@@ -44,7 +46,7 @@ fn check(check: Check, argument: &BitArg, state: &mut State) -> Result<Effect, F
 {
     let bit = match argument {
         BitArg::At(operand) => {
-            let place = state.place_of(operand);
+            let place = state.place_of(operand)?;
             state.memory.read_bit(place)?
         }
         BitArg::Flag(test) => state.registers.status.test(*test),
@@ -56,7 +58,7 @@ fn check(check: Check, argument: &BitArg, state: &mut State) -> Result<Effect, F
 fn assign(operand: &Operand, state: &mut State) -> Result<Effect, Fault>
     ensures { Does (effect_of (op.Assign operand.now) (seen state.old)) result state.old state.new }
 {
-    let place = state.place_of(operand);
+    let place = state.place_of(operand)?;
     let status = state.registers.status;
     let rlo = status.get(Flag::Rlo);
     state.memory.write_bit(place, rlo)?;
@@ -65,9 +67,9 @@ fn assign(operand: &Operand, state: &mut State) -> Result<Effect, Fault>
 
 /// `S` and `R`: where the RLO is 1, the bit becomes this value.
 fn set_to(value: bool, operand: &Operand, state: &mut State) -> Result<Effect, Fault>
-    ensures { Does (stored (λ b rlo. if rlo then value else b) operand.now (seen state.old)) result state.old state.new }
+    ensures { Does (effect_of (if value then op.Set operand.now else op.Reset operand.now) (seen state.old)) result state.old state.new }
 {
-    let place = state.place_of(operand);
+    let place = state.place_of(operand)?;
     let status = state.registers.status;
     let bit = state.memory.read_bit(place)?;
     let stands = if status.get(Flag::Rlo) { value } else { bit };
@@ -79,7 +81,7 @@ fn set_to(value: bool, operand: &Operand, state: &mut State) -> Result<Effect, F
 fn edge(rising: bool, operand: &Operand, state: &mut State) -> Result<Effect, Fault>
     ensures { Does (at_edge rising operand.now (seen state.old)) result state.old state.new }
 {
-    let place = state.place_of(operand);
+    let place = state.place_of(operand)?;
     let status = state.registers.status;
     let old = state.memory.read_bit(place)?;
     state.memory.write_bit(place, status.get(Flag::Rlo))?;
@@ -92,7 +94,7 @@ fn load(argument: &LoadArg, state: &mut State) -> Result<Effect, Fault>
 {
     let value = match argument {
         LoadArg::At(operand, width) => {
-            let place = state.place_of(operand);
+            let place = state.place_of(operand)?;
             read_number(&state.memory, place, *width)?
         }
         LoadArg::Constant(value) => *value,
@@ -104,9 +106,74 @@ fn load(argument: &LoadArg, state: &mut State) -> Result<Effect, Fault>
 fn transfer(operand: &Operand, width: Width, state: &mut State) -> Result<Effect, Fault>
     ensures { Does (effect_of (op.Transfer operand.now width) (seen state.old)) result state.old state.new }
 {
-    let place = state.place_of(operand);
+    let place = state.place_of(operand)?;
     write_part(&mut state.memory, place, width, state.registers.accu1)?;
     Ok(Effect::Next)
+}
+
+/// `LAR1` and `LAR2`
+fn load_pointer(register: Ar, from: &ArLoad, state: &mut State) -> Result<Effect, Fault>
+    ensures { Does (effect_of (op.LoadAr register from.now) (seen state.old)) result state.old state.new }
+{
+    let registers = match from {
+        ArLoad::Accu1 => state.registers.accu1_pointed(register),
+        ArLoad::Constant(p) => state.registers.with_pointer(register, Pointer(*p)),
+        ArLoad::At(operand) => {
+            let place = state.place_of(operand)?;
+            let p = state.memory.read_dword(place)?;
+            state.registers.with_pointer(register, Pointer(p))
+        }
+        ArLoad::OtherAr => state.registers.other_loaded(register),
+    };
+    next_on(registers, state)
+}
+
+/// `TAR1` and `TAR2`
+fn store_pointer(register: Ar, to: &ArStore, state: &mut State) -> Result<Effect, Fault>
+    ensures { Does (effect_of (op.StoreAr register to.now) (seen state.old)) result state.old state.new }
+{
+    match to {
+        ArStore::Accu1 => next_on(state.registers.pointer_loaded(register), state),
+        ArStore::At(operand) => {
+            let place = state.place_of(operand)?;
+            let p = state.registers.pointer(register);
+            state.memory.write_dword(place, p.0)?;
+            Ok(Effect::Next)
+        }
+        ArStore::OtherAr => next_on(state.registers.other_stored(register), state),
+    }
+}
+
+/// The number of the data block that `OPN` opens.
+fn opened_number(argument: &OpenArg, state: &mut State) -> Result<u16, Fault>
+    ensures number { IsTaken (λ row. block_opened row argument.now (seen state.old)) result state.new }
+    ensures memory { state.new.memory ≡ state.old.memory }
+    ensures block { state.new.block ≡ state.old.block }
+    ensures position { state.new.position ≡ state.old.position }
+{
+    match argument {
+        OpenArg::Number(number) => Ok(*number),
+        OpenArg::At(operand) => {
+            let place = state.place_of(operand)?;
+            state.memory.read_word(place)
+        }
+    }
+}
+
+/// `OPN` of a data block.
+fn open_db(argument: &OpenArg, state: &mut State) -> Result<Effect, Fault>
+    ensures { Does (effect_of (op.OpenDb argument.now) (seen state.old)) result state.old state.new }
+{
+    let number = opened_number(argument, state)?;
+    next_on(state.registers.db_opened(number), state)
+}
+
+/// `OPN` of an instance.
+fn open_di(argument: &OpenArg, state: &mut State) -> Result<Effect, Fault>
+    ensures { Does (effect_of (op.OpenDi argument.now) (seen state.old)) result state.old state.new }
+{
+    let number = opened_number(argument, state)?;
+    next_on(state.registers.di_opened(number), state)
 }
 
 /// An instruction on ACCU1 alone.
@@ -164,8 +231,8 @@ fn on_registers(op: &Op, state: &mut State) -> Result<Effect, Fault>
         Op::Tak => before.accus_exchanged(),
         Op::Push => before.accu_pushed(),
         Op::Pop => before.accu_popped(),
-        Op::OpenDb(OpenArg::Number(n)) => before.db_opened(*n),
-        Op::OpenDi(OpenArg::Number(n)) => before.di_opened(*n),
+        Op::ExchangeAr => before.pointers_exchanged(),
+        Op::AddAr(register, amount) => before.pointer_moved(*register, *amount),
         Op::ExchangeDb => before.dbs_exchanged(),
         _ => unreachable!(),
     };
@@ -194,6 +261,10 @@ pub fn effect_of(op: &Op, state: &mut State) -> Result<Effect, Fault>
         Op::Load(argument) => load(argument, state),
         Op::Transfer(operand, width) => transfer(operand, *width, state),
         Op::Unary(of) => on_accu1(*of, state),
+        Op::LoadAr(register, from) => load_pointer(*register, from, state),
+        Op::StoreAr(register, to) => store_pointer(*register, to, state),
+        Op::OpenDb(argument) => open_db(argument, state),
+        Op::OpenDi(argument) => open_di(argument, state),
         Op::Nop => Ok(Effect::Next),
         Op::BlockEnd => leave(state),
         _ => on_registers(op, state),

@@ -4,14 +4,16 @@ ghost use Rattle.memory_areas.specs.Memory.{IsActivation};
 ghost use Rattle.status_word.specs.Flags.{bits};
 ghost use Rattle.status_word.specs.StatusBits.{entry_of};
 ghost use Rattle.stl_machine.specs.Machine.{seen, values};
+ghost use Rattle.stl_machine.specs.inner.Operands.{IsFound};
 ghost use Rattle.stl_tree.specs.Brackets.{closed, opened, pushed};
 ghost use Rattle.stl_tree.specs.DataBlocks.{db_number_loaded, db_opened, dbs_exchanged, di_number_loaded, di_opened};
-ghost use Rattle.stl_tree.specs.Operands.{found};
+ghost use Rattle.stl_tree.specs.Operands.{aimed_by, aimed_in, found, found_at, place_in};
 ghost use Rattle.stl_tree.specs.Registers.{start};
 
+use address_registers::{Pointer, resolve};
 use memory_areas::{AreaName, Memory, Place};
 use nesting_stack::Nesting;
-use s7_base::{Check, Entry};
+use s7_base::{Check, Entry, Fault};
 use status_word::{Flag, Status};
 use stl_tree::Operand;
 
@@ -106,6 +108,9 @@ fn push(brackets: &mut Nesting, e: Entry)
     }
 }
 
+/// The number of the running activation. There is no other, since no instruction that calls a block is built.
+const RUNNING: u8 = 0;
+
 /// The registers, the open brackets and the memory, with the position of the block that runs in its program
 /// and that of the instruction to come in its body.
 #[derive(Debug, Drop)]
@@ -118,25 +123,61 @@ pub struct State {
 }
 
 impl State {
-    /// The place that an operand names. One with the number of its data block opens that block first.
-    pub fn place_of(&mut self, operand: &Operand) -> Place
-        ensures place { found operand.now (seen self.old) ≡ Ok (record { place = result; after = seen self.new }) }
+    /// A byte and a bit in a named area, by the data blocks that are open.
+    fn place_in(&self, name: AreaName, byte: u32, bit: u8) -> Place
+        ensures place { result ≡ place_in name byte bit (seen self.now) }
         ensures activation { IsActivation result.area }
+    {
+        Place {
+            area: name.area(self.registers.db, self.registers.di, RUNNING),
+            byte,
+            bit,
+        }
+    }
+
+    /// The byte and the bit of a pointer in a named area.
+    fn aimed_in(&self, name: AreaName, p: Pointer) -> Place
+        ensures place { found_at (aimed_in name p.0 (seen self.now)) (seen self.now)
+            ≡ Ok (record { place = result; after = seen self.now }) }
+        ensures activation { IsActivation result.area }
+    {
+        self.place_in(name, p.byte(), p.bit())
+    }
+
+    /// The byte and the bit of a pointer in the area that its code names, if it names one.
+    fn aimed_by(&self, p: Pointer) -> Result<Place, Fault>
+        ensures { IsFound (found_at (aimed_by p.0 (seen self.now)) (seen self.now)) result self.now }
+    {
+        resolve(p, self.registers.db, self.registers.di, RUNNING)
+    }
+
+    /// The place that an operand names, or the first fault on the way to it. An operand with the number of
+    /// its data block opens that block first.
+    pub fn place_of(&mut self, operand: &Operand) -> Result<Place, Fault>
+        ensures place { IsFound (found operand.now (seen self.old)) result self.new }
         ensures memory { self.new.memory ≡ self.old.memory }
         ensures block { self.new.block ≡ self.old.block }
         ensures position { self.new.position ≡ self.old.position }
     {
-        let (name, byte, bit) = match *operand {
-            Operand::Direct(name, byte, bit) => (name, byte, bit),
+        match *operand {
+            Operand::Direct(name, byte, bit) => Ok(self.place_in(name, byte, bit)),
             Operand::Opened(number, byte, bit) => {
                 self.registers = self.registers.db_opened(number);
-                (AreaName::Db, byte, bit)
+                Ok(self.place_in(AreaName::Db, byte, bit))
             }
-        };
-        Place {
-            area: name.area(self.registers.db, self.registers.di, 0),
-            byte,
-            bit,
+            Operand::ByMemory(name, pointer_area, byte) => {
+                let place = self.place_in(pointer_area, byte, 0);
+                let p = self.memory.read_dword(place)?;
+                Ok(self.aimed_in(name, Pointer(p)))
+            }
+            Operand::ByRegister(name, register, offset) => {
+                let p = self.registers.pointer_with_offset(register, offset);
+                Ok(self.aimed_in(name, p))
+            }
+            Operand::Crossing(register, offset) => {
+                let p = self.registers.pointer_with_offset(register, offset);
+                self.aimed_by(p)
+            }
         }
     }
 
