@@ -23,7 +23,7 @@ use Rattle.accumulator_templates.specs.Logic.{computed_of, fixed_of, logic_of}
 use Rattle.accumulator_templates.specs.Moves.{exchange_of, load_of, pop_of, push_of, status_load_of, status_store_of, taken_of, transfer_of}
 use Rattle.accumulator_templates.specs.Parts.{extended_of}
 use Rattle.accumulator_templates.specs.Sums.{add_dword_of, add_word_of, dec_of, inc_of, unless_zero}
-use Rattle.row_templates.specs.Assignments.{AreAssignments}
+use Rattle.row_templates.specs.Writes.{AreWrites}
 use Rattle.row_templates.specs.Builders.{set_of}
 use Rattle.row_templates.specs.Fetching.{fetch_of, fetched_of, opened_of}
 use Rattle.row_templates.specs.Nodes.{nodes, nodes_in}
@@ -32,18 +32,18 @@ use Rattle.row_templates.proofs.Sizes.{counts, of_append, of_nothing}
 
 -- at most eleven statements with at most 91 nodes, each an assignment
 pub record AreFew (body : List Stmt) : Type 0 where
-  pub assignments : AreAssignments body
+  pub assignments : AreWrites body
   pub statements : length body ≤ 11
   pub nodes : nodes_in body ≤ 91
 
-counted : (body : List Stmt) (statements nodes : ℕ) → AreAssignments body → length body ≡ statements → nodes_in body ≡ nodes → statements ≤ 11 → nodes ≤ 91 → AreFew body
+counted : (body : List Stmt) (statements nodes : ℕ) → AreWrites body → length body ≡ statements → nodes_in body ≡ nodes → statements ≤ 11 → nodes ≤ 91 → AreFew body
 counted body statements nodes a e f h k = record { assignments = a; statements = omega arith; nodes = omega arith }
 
 -- Loading, storing and moving
 
 -- statements behind those that open or fetch an operand
-behind_few : (before body : List Stmt) (statements nodes : ℕ) → AreAssignments before → length before ≤ 2 → nodes_in before ≤ 2
-    → AreAssignments body → length body ≡ statements → nodes_in body ≡ nodes → statements ≤ 9 → nodes ≤ 89 → AreFew (before ++ body)
+behind_few : (before body : List Stmt) (statements nodes : ℕ) → AreWrites before → length before ≤ 2 → nodes_in before ≤ 2
+    → AreWrites body → length body ≡ statements → nodes_in body ≡ nodes → statements ≤ 9 → nodes ≤ 89 → AreFew (before ++ body)
 behind_few before body statements nodes a short low b e f h k =
     record {
       assignments = assigns_in_parts before body a b;
@@ -71,7 +71,7 @@ load_few first (arg.At o w) = fetched_few first o w (fetched_of first o w) (fetc
 load_few first (arg.Constant c) = counted (load_of first (arg.Constant c)) 2 2 tt refl (simp counts) (omega arith) (omega arith)
 
 -- T of an operand, by its last statement
-opened_few : (o : Operand) (x : Stmt) (n : ℕ) → AreAssignments (x ∷ []) → nodes_in (x ∷ []) ≡ n → n ≤ 89 → AreFew (opened_of o ++ (x ∷ []))
+opened_few : (o : Operand) (x : Stmt) (n : ℕ) → AreWrites (x ∷ []) → nodes_in (x ∷ []) ≡ n → n ≤ 89 → AreFew (opened_of o ++ (x ∷ []))
 opened_few o x n a e h =
     behind_few (opened_of o) (x ∷ []) 1 n (opened_assigns o) (omega (arith, opened_length o)) (omega (arith, opened_nodes o)) a refl e (omega arith) h
 

@@ -12,7 +12,7 @@ use Rattle.stl_tree.specs.declared.accumulator.Arith.TheVariants as row
 use Rattle.stl_tree.specs.declared.accumulator.UnaryRow.TheVariants as unary
 use Rattle.stl_tree.specs.declared.program.Op.TheVariants as op
 use Rattle.st_tree.specs.declared.program.Stmt.{Stmt}
-use Rattle.row_templates.specs.Assignments.{AreAssignments}
+use Rattle.row_templates.specs.Writes.{AreWrites}
 use Rattle.row_templates.specs.Nodes.{nodes_in}
 use Rattle.row_templates.proofs.ReadRegisters.{AllRead, Has, variables_read}
 use Rattle.row_templates.proofs.Sizes.{counts}
@@ -111,7 +111,7 @@ negated_length used w = omega arith
 pub compared_length : (used : ℕ) (t : Test) (w : Width) → length (compared_of used t w) ≤ 11
 compared_length used t w = omega arith
 
-pub calculated_assigns : (used : ℕ) (a : Arith) → AreAssignments (calculated_of used a)
+pub calculated_assigns : (used : ℕ) (a : Arith) → AreWrites (calculated_of used a)
 unfolding divisor_kept_of quotient_in_words_of quotient_in_dword_of remainder_in_dword_of
 calculated_assigns used row.AddI = tt
 calculated_assigns used row.SubI = tt
@@ -123,8 +123,8 @@ calculated_assigns used row.MulD = tt
 calculated_assigns used row.DivD = tt
 calculated_assigns used row.Mod = tt
 
-pub negated_assigns : (used : ℕ) (w : Width) → AreAssignments (negated_of used w)
+pub negated_assigns : (used : ℕ) (w : Width) → AreWrites (negated_of used w)
 negated_assigns used w = tt
 
-pub compared_assigns : (used : ℕ) (t : Test) (w : Width) → AreAssignments (compared_of used t w)
+pub compared_assigns : (used : ℕ) (t : Test) (w : Width) → AreWrites (compared_of used t w)
 compared_assigns used t w = tt

@@ -26,7 +26,7 @@ use Rattle.st_tree.specs.declared.expr.StType.TheVariants as type
 use Rattle.st_tree.specs.declared.expr.Var.TheVariants as var
 use Rattle.st_tree.specs.declared.program.Stmt.{Stmt}
 use Rattle.st_tree.specs.declared.program.Stmt.TheVariants as stmt
-use Rattle.row_templates.specs.Assignments.{AreWrites}
+use Rattle.row_templates.specs.Writes.{AreWrites}
 use Rattle.row_templates.specs.Builders.{and_of, binary_of, constant_of, convert_of, local_of, read_of, set_local_of}
 use Rattle.row_templates.specs.Fetching.{fetch_of, fetched_of, may_fault, reach_of, reading_of, types_fetched, types_reached, writing_of}
 use Rattle.row_templates.specs.Nodes.{nodes, nodes_in}

@@ -1,6 +1,6 @@
-pub mod Assignments
 pub mod Builders
 pub mod Fetching
 pub mod Nodes
 pub mod Pointing
 pub mod Reading
+pub mod Writes

@@ -1,7 +1,7 @@
 -- The statements of shifts and rotations are assignments, and they and their nodes are few.
 use Rattle.std.proofs.Common.{◌≡◌, ℕ, ◌≤◌, ◌==◌, Bool, true, false, if◌then◌else◌, List, [], length, Option, Some, None, refl, arith}
 use Rattle.row_templates.proofs.Sizes.{counts}
-use Rattle.row_templates.specs.Assignments.{AreAssignments}
+use Rattle.row_templates.specs.Writes.{AreWrites}
 use Rattle.row_templates.specs.Nodes.{nodes_in}
 use Rattle.shift_templates.specs.ShiftTemplates.{by_accu2, by_constant, rlda_template, rrda_template, shift_template}
 use Rattle.st_tree.specs.declared.program.Stmt.{Stmt}
@@ -50,7 +50,7 @@ module _ (used : ℕ) where
   pub rrda_few : AreFew (rrda_template used)
   rrda_few = few (rrda_template used) 5 16 refl (simp counts) (omega arith) (omega arith)
 
-  constant_assigns : (i : ShiftRow) (n : ℕ) → AreAssignments (by_constant i n used)
+  constant_assigns : (i : ShiftRow) (n : ℕ) → AreWrites (by_constant i n used)
   constant_assigns row.Slw n = tt
   constant_assigns row.Srw n = tt
   constant_assigns row.Ssi n = tt
@@ -60,7 +60,7 @@ module _ (used : ℕ) where
   constant_assigns row.Rld n = tt
   constant_assigns row.Rrd n = tt
 
-  accu2_assigns : (i : ShiftRow) → AreAssignments (by_accu2 i used)
+  accu2_assigns : (i : ShiftRow) → AreWrites (by_accu2 i used)
   accu2_assigns row.Slw = tt
   accu2_assigns row.Srw = tt
   accu2_assigns row.Ssi = tt
@@ -70,16 +70,16 @@ module _ (used : ℕ) where
   accu2_assigns row.Rld = tt
   accu2_assigns row.Rrd = tt
 
-  pub shift_assigns : (i : ShiftRow) (by : Option ℕ) → AreAssignments (shift_template used i by)
+  pub shift_assigns : (i : ShiftRow) (by : Option ℕ) → AreWrites (shift_template used i by)
   shift_assigns i None = accu2_assigns i
   shift_assigns i (Some n) = at (n == 0)
     where
-      at : (none : Bool) → AreAssignments (if none then [] else by_constant i n used)
+      at : (none : Bool) → AreWrites (if none then [] else by_constant i n used)
       at true = tt
       at false = constant_assigns i n
 
-  pub rlda_assigns : AreAssignments (rlda_template used)
+  pub rlda_assigns : AreWrites (rlda_template used)
   rlda_assigns = tt
 
-  pub rrda_assigns : AreAssignments (rrda_template used)
+  pub rrda_assigns : AreWrites (rrda_template used)
   rrda_assigns = tt

@@ -17,7 +17,7 @@ use Rattle.memory_areas.specs.declared.call.Call.{Call}
 use Rattle.stl_tree.specs.declared.program.Program.{Program}
 use Rattle.st_tree.specs.Calls.{calls_to}
 use Rattle.st_tree.specs.GraphRun.{Counting, FitsGraph, counted_run, each_node, each_pass, exit_meaning, graph_calls, heads_of, longest, most_nodes, nodes_do, run_of_graph}
-use Rattle.st_tree.specs.Meaning.{Calls, Continues, Exits, Faults, NoUnits, Normal, Out, Returns, Sem, assigned, body_meaning, changed, then_do}
+use Rattle.st_tree.specs.Meaning.{Calls, Continues, Exits, Faults, NoUnits, Normal, Out, Returns, Sem, area_assigned, assigned, body_meaning, changed, then_do}
 use Rattle.st_tree.specs.Plain.{Plain, listed, test_of}
 use Rattle.st_tree.specs.Proper.{Proper}
 use Rattle.st_tree.specs.StRun.{FitFormals, FitsIfThere, FitsSt, FitsUnit, end_seen, is_meant, run_of_unit, st_run, state_at_start}
@@ -33,9 +33,9 @@ use Rattle.st_tree.specs.declared.program.Pou.{Pou}
 use Rattle.st_tree.specs.declared.program.StProgram.{StProgram}
 use Rattle.st_tree.specs.declared.program.Stmt.{Stmt}
 use Rattle.st_tree.specs.declared.program.Stmt.TheVariants as stmt
-use Rattle.st_tree.proofs.Equations.{meaning_assign}
+use Rattle.st_tree.proofs.Equations.{meaning_area_write, meaning_assign}
 use Rattle.instruction_lowering.specs.Lowered.{AreUnitsOf, Lowered}
-use Rattle.row_templates.specs.Assignments.{AreAssignments}
+use Rattle.row_templates.specs.Writes.{AreWrites}
 use Rattle.stl_translate.specs.Same.{Same}
 use Rattle.stl_translate.specs.inner.Straight.{last_steps, straight, straight_unit}
 
@@ -47,12 +47,12 @@ last_behind (first ∷ next ∷ rest) node = last_behind (next ∷ rest) node
 
 -- Units of one node
 
--- a unit is one node, which ends it, of assignments alone
+-- a unit is one node, which ends it, of assignments and area writes alone
 record IsStraight (unit : GraphPou) : Type 0 where
   node : StNode
   nodes : unit.graph.nodes ≡ node ∷ []
   exit : node.exit ≡ exit.End
-  steps : AreAssignments node.steps
+  steps : AreWrites node.steps
 
 abbrev Each : List GraphPou → Type 0
 Each [] = Unit {0}
@@ -98,14 +98,18 @@ changed_alike : (r : Result State Fault) (units others : ℕ) (s : State) (f h :
 changed_alike (Ok t) units others s f h more = more t
 changed_alike (Err x) units others s f h more = refl
 
--- assignments end alike, whatever the calls are and however many units are left
-assigned_alike : (g : List Located) (c d : Calls) (xs : List Stmt) → AreAssignments xs → (units others : ℕ) (s : State) → end_seen (body_meaning g c xs units s) ≡ end_seen (body_meaning g d xs others s)
-assigned_alike g c d [] h units others s = refl
-assigned_alike g c d (stmt.Assign v e ∷ xs) h units others s =
+-- assignments and area writes end alike, whatever the calls are and however many units are left
+written_alike : (g : List Located) (c d : Calls) (xs : List Stmt) → AreWrites xs → (units others : ℕ) (s : State) → end_seen (body_meaning g c xs units s) ≡ end_seen (body_meaning g d xs others s)
+written_alike g c d [] h units others s = refl
+written_alike g c d (stmt.Assign v e ∷ xs) h units others s =
     ap (λ (o : Out). end_seen (then_do o (body_meaning g c xs))) (meaning_assign g c units s v e)
-    ∙ changed_alike (assigned g v e s) units others s (body_meaning g c xs) (body_meaning g d xs) (assigned_alike g c d xs h units others)
+    ∙ changed_alike (assigned g v e s) units others s (body_meaning g c xs) (body_meaning g d xs) (written_alike g c d xs h units others)
     ∙ sym (ap (λ (o : Out). end_seen (then_do o (body_meaning g d xs))) (meaning_assign g d others s v e))
-assigned_alike g c d (x ∷ xs) h units others s = elim h [ ]
+written_alike g c d (stmt.AreaWrite w p e ∷ xs) h units others s =
+    ap (λ (o : Out). end_seen (then_do o (body_meaning g c xs))) (meaning_area_write g c units s w p e)
+    ∙ changed_alike (area_assigned g w p e s) units others s (body_meaning g c xs) (body_meaning g d xs) (written_alike g c d xs h units others)
+    ∙ sym (ap (λ (o : Out). end_seen (then_do o (body_meaning g d xs))) (meaning_area_write g d others s w p e))
+written_alike g c d (x ∷ xs) h units others s = elim h [ ]
 
 -- an exit that ends the unit changes nothing of what is seen
 ended : (o : Out) → end_seen (then_do o (λ units s. Normal units s)) ≡ end_seen o
@@ -130,7 +134,7 @@ module _ (graph : GraphProgram) (call : Call) (memory : Areas) where
       let node : StNode = shape.node in
       let calls = graph_calls (λ begun. nodes_do counts graph most begun 0) graph in
       ap (λ (nodes : List StNode). end_seen (body_meaning graph.globals (calls_to units tree) (last_steps nodes) units s)) shape.nodes
-      ∙ assigned_alike graph.globals (calls_to units tree) calls node.steps shape.steps units others s
+      ∙ written_alike graph.globals (calls_to units tree) calls node.steps shape.steps units others s
       ∙ sym (ended (body_meaning graph.globals calls node.steps others s))
       ∙ sym (ap (λ (e : StExit). end_seen (then_do (body_meaning graph.globals calls node.steps others s) (exit_meaning graph.globals counts (nodes_do counts graph most (node ∷ [])) 0 e))) shape.exit)
       ∙ sym (ap (λ (m : ℕ). end_seen (nodes_do counts graph m (node ∷ []) 0 others s)) some)

@@ -9,7 +9,3 @@ AreWrites [] = Unit {0}
 AreWrites (stmt.Assign v e ∷ rest) = AreWrites rest
 AreWrites (stmt.AreaWrite w p e ∷ rest) = AreWrites rest
 AreWrites (other ∷ rest) = ⊥
-
--- the same of statements that are assignments alone
-abbrev pub AreAssignments : List Stmt → Type 0
-AreAssignments = AreWrites
