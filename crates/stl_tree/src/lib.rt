@@ -9,8 +9,8 @@
 pub use accumulator::{Arith, LogicRow, ShiftRow, UnaryRow};
 pub use memory_areas::{BlockName, Call};
 pub use program::{
-    Actual, Ar, ArLoad, ArStore, BitArg, Block, BlockCall, Formal, Instance, Instr, LoadArg, Mode, Op,
-    OpenArg, Operand, Program, Symbol,
+    Actual, Ar, ArLoad, ArStore, BitArg, Block, BlockCall, Formal, Instance, Instr, LoadArg, Mode,
+    Op, OpenArg, Operand, Program, Symbol,
 };
 pub use raw::{
     BlockKind, Constant, DeclType, Declaration, ElemType, InitialItem, PathStep, RawActual,
