@@ -137,10 +137,17 @@ same_depth (a ∷ waiting) n e = omega arith
 abbrev pub place_now : AreaName → ℕ → ℕ → Now → Place
 place_now a byte x now = record { area = area_named a now.registers.db now.registers.di (depth now.activations); byte = byte; bit = x }
 
--- an operand and its variable name the same place
-pub same_place : (acts : List Activation) (now : Now) (s : State) → Related acts now s → (a : AreaName) (byte x : ℕ) → place_of a byte x s ≡ place_now a byte x now
-same_place acts now s related a byte x =
-    let db : db_number s ≡ now.registers.db = ap (pattern 16) (related.registers reg.DbNo tt) ∙ number_kept now.registers.db related.range.db in
-    let di : di_number s ≡ now.registers.di = ap (pattern 16) (related.registers reg.DiNo tt) ∙ number_kept now.registers.di related.range.di in
-    let deep : depth_of_state s ≡ depth now.activations = same_depth acts (length s.activations) related.depth ∙ sym (ap depth related.activations) in
-    rw (db, di, deep) refl
+module _ (acts : List Activation) (now : Now) (s : State) (related : Related acts now s) where
+  -- the numbers by which places are found
+  pub same_db : db_number s ≡ now.registers.db
+  same_db = ap (pattern 16) (related.registers reg.DbNo tt) ∙ number_kept now.registers.db related.range.db
+
+  pub same_di : di_number s ≡ now.registers.di
+  same_di = ap (pattern 16) (related.registers reg.DiNo tt) ∙ number_kept now.registers.di related.range.di
+
+  pub as_deep_as : depth_of_state s ≡ depth now.activations
+  as_deep_as = same_depth acts (length s.activations) related.depth ∙ sym (ap depth related.activations)
+
+  -- an operand and its variable name the same place
+  pub same_place : (a : AreaName) (byte x : ℕ) → place_of a byte x s ≡ place_now a byte x now
+  same_place a byte x = rw (same_db, same_di, as_deep_as) refl

@@ -1,18 +1,18 @@
--- What stands before a row that works on an operand: its data block is opened, and what may fault is read into a local.
+-- Rows that read an operand, or write one. What stands before the row leads to the operand, and what may fault is read
+-- into a local.
 --
 -- A row that reads its operand and does no more than DoesRow says cites `fetched_row`, with `bit_shown` or
 -- `number_shown w` for its reading: it is left to show what the statements behind do from a state t in which the
--- operand is worth what is read at its place. One that writes alone cites `opened_row`. Any other cites `by_place`, for
--- the place and the state in which the operand was found, and then `opens`, or `by_fetched`, which asks for both ways
--- out. In a later state that is related to the one after, `found_read` and `found_wrote` say how the operand is read
--- and written, as behind a local of the row's own.
-use Rattle.std.proofs.Common.{◌≡◌, ℕ, ◌+◌, ◌^◌, ◌<◌, ◌≤◌, pos, Bool, true, false, if◌then◌else◌, List, [], ◌∷◌, ◌++◌, length, Result, Ok, Err, refl, sym, ap, subst, ◌∙◌, arith}
-use Rattle.std.specs.Prelude.{slice_get, slice_set, Some}
+-- operand is worth what is read at its place. Where it writes the operand too, `writes` of `IsFetched` says what that
+-- does, from t on as long as the way is kept, and `write_goes_on` and its like say how the statements go on. One that
+-- writes alone cites `reached_row`, with the value that it writes and the row's own write; what stands behind comes to
+-- its end. Any other cites `reaches` of `Reaching`, for both ways out.
+use Rattle.std.proofs.Common.{◌≡◌, ℕ, ◌+◌, ◌<◌, ◌≤◌, pos, Bool, true, false, if◌then◌else◌, List, [], ◌∷◌, ◌++◌, length, Result, Ok, Err, ◌⊎◌, inl, inr, refl, sym, ap, subst, ◌∙◌, arith}
+use Rattle.std.specs.Prelude.{slice_get, Some}
 use Rattle.std.specs.Int.{from_bool}
+use Rattle.std.proofs.lemmas.List.{append_assoc, length-append}
 use Rattle.memory_areas.specs.Access.{and_then, read_bit}
 use Rattle.memory_areas.specs.Areas.{Contents}
-use Rattle.memory_areas.specs.declared.place.AreaName.{AreaName}
-use Rattle.memory_areas.specs.declared.place.AreaName.TheVariants as area
 use Rattle.memory_areas.specs.declared.place.Place.{Place}
 use Rattle.s7_base.specs.declared.outcome.Fault.{Fault}
 use Rattle.s7_base.specs.declared.register.Reg.TheVariants as reg
@@ -20,152 +20,50 @@ use Rattle.s7_base.specs.declared.word.Width.{Width}
 use Rattle.s7_base.specs.declared.word.Width.TheVariants as width
 use Rattle.stl_tree.specs.Accepted.{IsOperand}
 use Rattle.stl_tree.specs.Accumulators.{read_number}
-use Rattle.stl_tree.specs.DataBlocks.{db_opened}
-use Rattle.stl_tree.specs.Now.{Activation, Effect, Now, enter, fault, go, leave, next, with_registers, with_value}
+use Rattle.stl_tree.specs.Now.{Activation, Effect, Now, enter, fault, go, leave, next, with_memory, with_value}
 use Rattle.stl_tree.specs.Operands.{Found, found, with_place}
 use Rattle.stl_tree.specs.declared.program.Operand.{Operand}
-use Rattle.stl_tree.specs.declared.program.Operand.TheVariants as operand
+use Rattle.st_tree.specs.Fitting.{HoldsBytes}
 use Rattle.st_tree.specs.Meaning.{Calls, Out, body_meaning}
-use Rattle.st_tree.specs.State.{Activation as StActivation, State, depth, place_of, read_place, with_register, write, write_place}
+use Rattle.st_tree.specs.State.{Activation as StActivation, State, depth, read_place, write_place}
 use Rattle.st_tree.specs.Value.{value}
 use Rattle.st_tree.specs.Values.{flag, type_of_width, typed}
-use Rattle.st_tree.specs.declared.state.Value.{Value}
 use Rattle.st_tree.specs.declared.expr.Expr.{Expr}
-use Rattle.st_tree.specs.declared.expr.Expr.TheVariants as expr
 use Rattle.st_tree.specs.declared.expr.StType.{StType}
-use Rattle.st_tree.specs.declared.expr.StType.TheVariants as type
 use Rattle.st_tree.specs.declared.expr.Var.TheVariants as var
 use Rattle.st_tree.specs.declared.program.Located.{Located}
 use Rattle.st_tree.specs.declared.program.Stmt.{Stmt}
-use Rattle.st_tree.proofs.Equations.{assign_goes_on, assign_stops_at_value, value_literal, value_read}
-use Rattle.row_templates.specs.Builders.{constant_of, local_of, set_local_of, variable_of}
-use Rattle.row_templates.specs.Fetching.{fetch_of, fetched_of, may_fault, opened_of, types_fetched}
-use Rattle.row_templates.proofs.Alike.{AreAlike, AreInRange, IsKept, Related, keep_activations, keep_registers, place_now}
-use Rattle.row_templates.proofs.DoesRow.{DoesRow, Stops}
-use Rattle.row_templates.proofs.Locals.{as_deep, local_read, local_wrote, own_of, own_set, set_length, set_other, set_same, with_own}
-use Rattle.row_templates.proofs.MemoryRows.{place_read, place_wrote}
-use Rattle.row_templates.proofs.TwoParts.{goes_on_behind, stops_before}
+use Rattle.st_tree.specs.declared.state.Value.{Value}
+use Rattle.st_tree.proofs.Equations.{assign_goes_on, assign_stops_at_value}
+use Rattle.row_templates.specs.Builders.{local_of, set_local_of}
+use Rattle.row_templates.specs.Fetching.{fetch_of, fetched_of, may_fault, reach_of, reading_of, types_fetched, types_reached, writing_of}
+use Rattle.row_templates.proofs.Alike.{IsKept, Related, keep_activations, keep_memory}
+use Rattle.row_templates.proofs.DoesRow.{DoesRow, Leads, Stops}
+use Rattle.row_templates.proofs.Locals.{as_deep, local_read, local_wrote, own_length, own_of, own_other, own_same, with_own}
+use Rattle.row_templates.proofs.MemoryRows.{KeepsWay, Writes, keeps_itself, write_goes_on, write_misses, write_stops_at_place, written_holds}
+use Rattle.row_templates.proofs.Reaching.{LeadsTo, Misses, Reaches, StopsBefore, found_with, reaches}
 
--- Where an operand lies
+-- By what an operand names
 
-abbrev is_found : Found → Result Found Fault
-is_found f = Ok f
-
-same_found : (a b : Found) → is_found a ≡ Ok b → a ≡ b
-same_found a b e = cc
-
--- the effect by the place of an operand, by what holds where it was found; none of the operands that there are meets a
--- fault on the way to its place
+-- the effect by the place of an operand, by what holds where it was found and where a fault was met on the way
 pub by_place : (o : Operand) (now : Now) (effect : Place → Now → Effect) (goal : Effect → Type 0)
-    → ((f : Found) → found o now ≡ Ok f → goal (effect f.place f.after)) → goal (with_place o now effect)
-by_place (operand.Direct a byte x) now effect goal h = h (record { place = place_now a byte x now; after = now }) refl
-by_place (operand.Opened n byte x) now effect goal h =
-    let after : Now = with_registers (db_opened n) now in h (record { place = place_now area.Db byte x after; after = after }) refl
+    → ((f : Found) → found o now ≡ Ok f → goal (effect f.place f.after)) → ((x : Fault) → found o now ≡ Err x → goal (fault x)) → goal (with_place o now effect)
+by_place o now effect goal goes stops = by (found o now) refl
+  where
+    by : (r : Result Found Fault) → found o now ≡ r → goal (with_value r (λ f. effect f.place f.after))
+    by (Ok f) e = goes f e
+    by (Err x) e = stops x e
 
--- finding it leaves the memory as it was
-pub found_memory : (o : Operand) (now : Now) (f : Found) → found o now ≡ Ok f → f.after.memory ≡ now.memory
-found_memory (operand.Direct a byte x) now f e =
-    sym (ap (λ (h : Found). h.after.memory) (same_found (record { place = place_now a byte x now; after = now }) f e))
-found_memory (operand.Opened n byte x) now f e =
-    let after : Now = with_registers (db_opened n) now in
-    sym (ap (λ (h : Found). h.after.memory) (same_found (record { place = place_now area.Db byte x after; after = after }) f e))
-
-module _ (g : List Located) (acts : List Activation) where
-  -- its variable, read in a state that is related to the one in which it was found
-  pub found_read : (o : Operand) (w : Width) (now : Now) (f : Found) → found o now ≡ Ok f → (u : State) → Related acts f.after u
-      → value g (expr.Read (variable_of o w)) u ≡ read_place (type_of_width w) f.place f.after.memory
-  found_read (operand.Direct a byte x) w now f e =
-      subst (λ (h : Found). (u : State) → Related acts h.after u → value g (expr.Read (variable_of (operand.Direct a byte x) w)) u ≡ read_place (type_of_width w) h.place h.after.memory)
-      (same_found (record { place = place_now a byte x now; after = now }) f e) (λ u related. place_read g acts now u related a byte x w)
-  found_read (operand.Opened n byte x) w now f e =
-      let after : Now = with_registers (db_opened n) now in
-      subst (λ (h : Found). (u : State) → Related acts h.after u → value g (expr.Read (variable_of (operand.Opened n byte x) w)) u ≡ read_place (type_of_width w) h.place h.after.memory)
-      (same_found (record { place = place_now area.Db byte x after; after = after }) f e) (λ u related. place_read g acts after u related area.Db byte x w)
-
-  -- and written
-  pub found_wrote : (o : Operand) (w : Width) (v : Value) (now : Now) (f : Found) → found o now ≡ Ok f → (u : State) → Related acts f.after u
-      → write g (variable_of o w) v u ≡ and_then (write_place (type_of_width w) f.place v f.after.memory) (λ m. Ok (record u { memory = m }))
-  found_wrote (operand.Direct a byte x) w v now f e =
-      subst (λ (h : Found). (u : State) → Related acts h.after u → write g (variable_of (operand.Direct a byte x) w) v u ≡ and_then (write_place (type_of_width w) h.place v h.after.memory) (λ m. Ok (record u { memory = m })))
-      (same_found (record { place = place_now a byte x now; after = now }) f e) (λ u related. place_wrote g acts now u related a byte x w v)
-  found_wrote (operand.Opened n byte x) w v now f e =
-      let after : Now = with_registers (db_opened n) now in
-      subst (λ (h : Found). (u : State) → Related acts h.after u → write g (variable_of (operand.Opened n byte x) w) v u ≡ and_then (write_place (type_of_width w) h.place v h.after.memory) (λ m. Ok (record u { memory = m })))
-      (same_found (record { place = place_now area.Db byte x after; after = after }) f e) (λ u related. place_wrote g acts after u related area.Db byte x w v)
-
-  same_direct : (a : AreaName) (byte x : ℕ) (w : Width) (t u : State) → u.memory ≡ t.memory → u.activations ≡ t.activations → u.registers reg.DbNo ≡ t.registers reg.DbNo → u.registers reg.DiNo ≡ t.registers reg.DiNo
-      → value g (expr.Read (var.Direct a byte x w)) u ≡ value g (expr.Read (var.Direct a byte x w)) t
-  same_direct a byte x w t u memory activations db di =
-      let place : place_of a byte x u ≡ place_of a byte x t = rw (activations, db, di) refl in
-      value_read g (var.Direct a byte x w) u
-      ∙ ap (λ (p : Place). read_place (type_of_width w) p u.memory) place
-      ∙ ap (read_place (type_of_width w) (place_of a byte x t)) memory
-      ∙ sym (value_read g (var.Direct a byte x w) t)
-
-  -- it is worth the same where the memory, the open data blocks and the activations are the same
-  same_read : (o : Operand) (w : Width) (t u : State) → u.memory ≡ t.memory → u.activations ≡ t.activations → u.registers reg.DbNo ≡ t.registers reg.DbNo → u.registers reg.DiNo ≡ t.registers reg.DiNo
-      → value g (expr.Read (variable_of o w)) u ≡ value g (expr.Read (variable_of o w)) t
-  same_read (operand.Direct a byte x) w t u memory activations db di = same_direct a byte x w t u memory activations db di
-  same_read (operand.Opened n byte x) w t u memory activations db di = same_direct area.Db byte x w t u memory activations db di
-
--- Opening
-
--- from the state s the statements before others lead to a state in which an operand's data block is open
-pub record Opens (g : List Located) (calls : Calls) (units : ℕ) (acts : List Activation) (s : State) (o : Operand) (f : Found) : Type 0 where
-  pub to : State
-  pub goes : (rest : List Stmt) → body_meaning g calls (opened_of o ++ rest) units s ≡ body_meaning g calls rest units to
-  pub related : Related acts f.after to
-  pub activations : to.activations ≡ s.activations
-  pub own : own_of to.activations ≡ own_of s.activations
-  pub read : (w : Width) → value g (expr.Read (variable_of o w)) to ≡ read_place (type_of_width w) f.place f.after.memory
-  pub written : (w : Width) (v : Value) → write g (variable_of o w) v to ≡ and_then (write_place (type_of_width w) f.place v f.after.memory) (λ m. Ok (record to { memory = m }))
-
-module _ (g : List Located) (calls : Calls) (units : ℕ) (acts : List Activation) (now : Now) (s : State) (related : Related acts now s) where
-  -- the state once a data block is open
-  abbrev open_state : ℕ → State
-  open_state n = record s { registers = with_register reg.DbNo (pos n) s.registers }
-
-  open_alike : (n : ℕ) → AreAlike IsKept (db_opened n now.registers) (open_state n).registers
-  open_alike n reg.DbNo asked = refl
-  open_alike n q asked = related.registers q asked
-
-  open_related : (n : ℕ) → n < 2 ^ 16 → Related acts (with_registers (db_opened n) now) (open_state n)
-  open_related n small =
-      let range : AreInRange now.registers = related.range in
-      keep_registers IsKept acts now s related IsKept (db_opened n now.registers) (open_state n).registers (open_alike n)
-      (record { accu1 = range.accu1; accu2 = range.accu2; ar1 = range.ar1; ar2 = range.ar2; db = small; di = range.di })
-
-  -- where a state is related to the one after, all else follows
-  open_in : (o : Operand) (f : Found) → found o now ≡ Ok f → (t : State) → Related acts f.after t → t.activations ≡ s.activations
-      → ((rest : List Stmt) → body_meaning g calls (opened_of o ++ rest) units s ≡ body_meaning g calls rest units t) → Opens g calls units acts s o f
-  open_in o f e t relates same goes =
-      record {
-        to = t;
-        goes = goes;
-        related = relates;
-        activations = same;
-        own = ap own_of same;
-        read = λ w. found_read g acts o w now f e t relates;
-        written = λ w v. found_wrote g acts o w v now f e t relates;
-      }
-
-  pub opens : (o : Operand) (w : Width) → IsOperand w o → (f : Found) → found o now ≡ Ok f → Opens g calls units acts s o f
-  opens (operand.Direct a byte x) w h f e =
-      open_in (operand.Direct a byte x) f e s
-      (subst (λ (after : Found). Related acts after.after s) (same_found (record { place = place_now a byte x now; after = now }) f e) related) refl (λ rest. refl)
-  opens (operand.Opened n byte x) w h f e =
-      let after : Now = with_registers (db_opened n) now in
-      let most : n ≤ 65535 = h.0.1 in
-      open_in (operand.Opened n byte x) f e (open_state n)
-      (subst (λ (h : Found). Related acts h.after (open_state n)) (same_found (record { place = place_now area.Db byte x after; after = after }) f e) (open_related n (omega arith)))
-      refl
-      (λ rest. assign_goes_on g calls (var.Register reg.DbNo) (constant_of type.Word (pos n)) rest units s (open_state n) (record { ty = type.Word; n = pos n })
-      (value_literal g type.Word (pos n) s) refl)
+-- the same where the operand's place is known, or its fault
+placed : (o : Operand) (now : Now) (effect : Place → Now → Effect) (goal : Effect → Type 0) (r : Result Found Fault) → found o now ≡ r
+    → goal (with_value r (λ f. effect f.place f.after)) → goal (with_place o now effect)
+placed o now effect goal r e h = subst (λ (q : Result Found Fault). goal (with_value q (λ f. effect f.place f.after))) (sym e) h
 
 -- Fetching
 
 -- in a state t before a row an operand was found, and is worth what is read at its place, also where the row has
--- changed other registers; locals below the first one are as they were. It is read as the expression e
+-- changed other registers; locals below the first one are as they were. It is read as the expression e, and written at
+-- its place as long as the way is kept
 pub record IsFetched (g : List Located) (acts : List Activation) (s : State) (o : Operand) (w : Width) (f : Found) (first : ℕ) (e : Expr) (t : State) : Type 0 where
   pub related : Related acts f.after t
   pub as_many : length (own_of t.activations) ≡ length (own_of s.activations)
@@ -173,109 +71,175 @@ pub record IsFetched (g : List Located) (acts : List Activation) (s : State) (o 
   pub worth : (u : State) → u.memory ≡ t.memory → u.activations ≡ t.activations → u.registers reg.DbNo ≡ t.registers reg.DbNo → u.registers reg.DiNo ≡ t.registers reg.DiNo
       → value g e u ≡ read_place (type_of_width w) f.place f.after.memory
   pub here : value g e t ≡ read_place (type_of_width w) f.place f.after.memory
-  pub written : (v : Value) → write g (variable_of o w) v t ≡ and_then (write_place (type_of_width w) f.place v f.after.memory) (λ m. Ok (record t { memory = m }))
+  pub writes : (u : State) → KeepsWay (first + length (types_fetched o w)) t u → Writes g (type_of_width w) (Ok f.place) u (writing_of first o w)
 
-module _ (g : List Located) (calls : Calls) (units : ℕ) (acts : List Activation) (now : Now) (s : State) (related : Related acts now s) (first : ℕ) (o : Operand) (w : Width) (lies : IsOperand w o) where
-  -- statements lead to a state, whatever stands behind them
-  abbrev pub LeadsTo : List Stmt → State → Type 0
-  LeadsTo xs t = (rest : List Stmt) → body_meaning g calls (xs ++ rest) units s ≡ body_meaning g calls rest units t
+-- a way that is kept with more locals is kept
+fewer : (many few : ℕ) (t u : State) → few ≤ many → KeepsWay many t u → KeepsWay few t u
+fewer many few t u h keeps = record { db = keeps.db; di = keeps.di; deep = keeps.deep; locals = λ i small. keeps.locals i (omega arith) }
 
-  -- they end by a fault, with the memory as it was
-  abbrev pub StopsBefore : List Stmt → Fault → Type 0
-  StopsBefore xs x = (rest : List Stmt) → Stops (body_meaning g calls (xs ++ rest) units s) now.memory x
+-- and so from a state before
+kept_on : (many : ℕ) (t u x : State) → KeepsWay many t u → KeepsWay many u x → KeepsWay many t x
+kept_on many t u x h k =
+    record { db = k.db ∙ h.db; di = k.di ∙ h.di; deep = k.deep ∙ h.deep; locals = λ i small. k.locals i small ∙ h.locals i small }
 
-  module _ (f : Found) (is : found o now ≡ Ok f) where
-    opened : Opens g calls units acts s o f
-    opened = opens g calls units acts now s related o w lies f is
+-- registers and memory may change
+registers_kept : (many : ℕ) (t u : State) → u.activations ≡ t.activations → u.registers reg.DbNo ≡ t.registers reg.DbNo → u.registers reg.DiNo ≡ t.registers reg.DiNo → KeepsWay many t u
+registers_kept many t u activations db di =
+    record {
+      db = db;
+      di = di;
+      deep = ap length activations;
+      locals = λ i small. ap (λ (acts : List StActivation). slice_get (own_of acts) i) activations;
+    }
 
-    -- what is read at the place
-    abbrev pub is_there : Result Value Fault
-    is_there = read_place (type_of_width w) f.place f.after.memory
+-- and so may a local behind those of the way
+pub local_kept : (many i : ℕ) (v : Value) (t : State) → many ≤ i → KeepsWay many t (with_own i v t)
+local_kept many i v t h =
+    record {
+      db = refl;
+      di = refl;
+      deep = as_deep t.activations (depth t) i v;
+      locals = λ j small. own_other i v t j (λ same. absurd (omega arith));
+    }
 
-    -- the statements, the expression and the locals of an operand that is fetched, or is not
-    abbrev fetching : Bool → List Stmt
-    fetching b = opened_of o ++ (if b then set_local_of first (expr.Read (variable_of o w)) ∷ [] else [])
+module _ (g : List Located) (calls : Calls) (units : ℕ) (acts : List Activation) (now : Now) (s : State) (first : ℕ) (o : Operand) (w : Width) (way : Reaches g calls units acts now s first o) where
+  -- the local that takes what may fault
+  abbrev later : ℕ
+  later = first + length (types_reached o)
 
-    abbrev fetched : Bool → Expr
-    fetched b = if b then local_of first else expr.Read (variable_of o w)
+  -- the statements, the expression and the locals of an operand that is fetched, or is not
+  abbrev fetching : Bool → List Stmt
+  fetching b = reach_of first o ++ (if b then set_local_of later (reading_of first o w) ∷ [] else [])
 
-    abbrev locals : Bool → List StType
-    locals b = if b then type_of_width w ∷ [] else []
+  abbrev fetched : Bool → Expr
+  fetched b = if b then local_of later else reading_of first o w
 
-    abbrev Fetched : Expr → State → Type 0
-    Fetched e t = IsFetched g acts s o w f first e t
+  abbrev locals : Bool → List StType
+  locals b = types_reached o ++ (if b then type_of_width w ∷ [] else [])
 
-    -- it is not
-    opened_alone : Fetched (fetched false) opened.to
-    opened_alone =
+  -- they begin with those of the way
+  begins : (b : Bool) (rest : List Stmt) → body_meaning g calls (fetching b ++ rest) units s ≡ body_meaning g calls ((if b then set_local_of later (reading_of first o w) ∷ [] else []) ++ rest) units way.to
+  begins b rest =
+      let own : List Stmt = if b then set_local_of later (reading_of first o w) ∷ [] else [] in
+      ap (λ (body : List Stmt). body_meaning g calls body units s) (append_assoc (reach_of first o) own rest) ∙ way.goes (own ++ rest)
+
+  -- a target without a place: what is read meets its fault
+  module _ (x : Fault) (none : way.target ≡ Err x) where
+    missed : found o now ≡ Err x
+    missed = way.is ∙ ap (λ (r : Result Place Fault). found_with r way.after) none
+
+    reading_missed : value g (reading_of first o w) way.to ≡ Err x
+    reading_missed =
+        way.reached.reads w way.to (keeps_itself later way.to)
+        ∙ ap (λ (r : Result Place Fault). and_then r (λ p. read_place (type_of_width w) p way.to.memory)) none
+
+    stops_missed : StopsBefore g calls units s (fetching true) now.memory x
+    stops_missed rest =
         record {
-          related = opened.related;
-          as_many = ap length opened.own;
-          below = λ i h. ap (λ (xs : List Value). slice_get xs i) opened.own;
-          worth = λ u memory activations db di. same_read g acts o w opened.to u memory activations db di ∙ opened.read w;
-          here = opened.read w;
-          written = opened.written w;
+          at = way.to;
+          stops = begins true rest ∙ assign_stops_at_value g calls (var.Local later) (reading_of first o w) rest units way.to x reading_missed;
+          memory = way.reached.related.memory ∙ way.memory;
         }
 
-    -- it is, and the local takes a value
+    fetch_stops_missed : StopsBefore g calls units s (fetch_of first o w) now.memory x
+    fetch_stops_missed = subst (λ (b : Bool). StopsBefore g calls units s (fetching b) now.memory x) (sym (way.sure x none)) stops_missed
+
+  -- one with a place
+  module _ (p : Place) (some : way.target ≡ Ok p) where
+    abbrev place_found : Found
+    place_found = record { place = p; after = way.after }
+
+    is_found : found o now ≡ Ok place_found
+    is_found = way.is ∙ ap (λ (r : Result Place Fault). found_with r way.after) some
+
+    -- what is read there
+    abbrev is_there : Result Value Fault
+    is_there = read_place (type_of_width w) p way.after.memory
+
+    reads : (u : State) → u.memory ≡ way.to.memory → KeepsWay later way.to u → value g (reading_of first o w) u ≡ is_there
+    reads u memory keeps =
+        way.reached.reads w u keeps
+        ∙ ap (λ (r : Result Place Fault). and_then r (λ q. read_place (type_of_width w) q u.memory)) some
+        ∙ ap (read_place (type_of_width w) p) (memory ∙ way.reached.related.memory)
+
+    writes : (u : State) → KeepsWay later way.to u → Writes g (type_of_width w) (Ok p) u (writing_of first o w)
+    writes u keeps = subst (λ (r : Result Place Fault). Writes g (type_of_width w) r u (writing_of first o w)) some (way.reached.writes w u keeps)
+
+    abbrev Fetched : Bool → State → Type 0
+    Fetched b t = IsFetched g acts s o w place_found first (fetched b) t
+
+    -- where no fault may be met
+    reached_alone : length (types_reached o) ≤ length (types_fetched o w) → Fetched false way.to
+    reached_alone more =
+        record {
+          related = way.reached.related;
+          as_many = way.reached.as_many;
+          below = way.reached.below;
+          worth = λ u memory activations db di. reads u memory (registers_kept later way.to u activations db di);
+          here = reads way.to refl (keeps_itself later way.to);
+          writes = λ u keeps. writes u (fewer (first + length (types_fetched o w)) later way.to u (omega arith) keeps);
+        }
+
+    -- and where one may be, and the local takes a value
     abbrev holding : Value → State
-    holding v = with_own first v opened.to
+    holding v = with_own later v way.to
 
-    held : (v : Value) → first < length (own_of s.activations) → is_there ≡ Ok v → Fetched (fetched true) (holding v)
-    held v room e =
-        let own : own_of (holding v).activations ≡ slice_set (own_of s.activations) first v = own_set first v opened.to ∙ ap (λ (xs : List Value). slice_set xs first v) opened.own in
-        let there : slice_get (own_of (holding v).activations) first ≡ Some v = ap (λ (xs : List Value). slice_get xs first) own ∙ set_same (own_of s.activations) first v room in
-        let relates : Related acts f.after (holding v) = keep_activations IsKept acts f.after opened.to opened.related (holding v).activations (as_deep opened.to.activations (depth opened.to) first v) in
+    held : (v : Value) → later < length (own_of s.activations) → length (types_reached o) ≤ length (types_fetched o w) → is_there ≡ Ok v → Fetched true (holding v)
+    held v room more e =
+        let many : length (own_of way.to.activations) ≡ length (own_of s.activations) = way.reached.as_many in
+        let there : slice_get (own_of (holding v).activations) later ≡ Some v = own_same later v way.to (omega arith) in
         record {
-          related = relates;
-          as_many = ap length own ∙ set_length (own_of s.activations) first v;
-          below = λ i h. ap (λ (xs : List Value). slice_get xs i) own ∙ set_other (own_of s.activations) first i v (λ same. absurd (omega arith));
+          related = keep_activations IsKept acts way.after way.to way.reached.related (holding v).activations (as_deep way.to.activations (depth way.to) later v);
+          as_many = own_length later v way.to ∙ many;
+          below = λ i h. own_other later v way.to i (λ same. absurd (omega arith)) ∙ way.reached.below i h;
           worth = λ u memory activations db di.
-              local_read g first v u (ap (λ (acts : List StActivation). slice_get (own_of acts) first) activations ∙ there) ∙ sym e;
-          here = local_read g first v (holding v) there ∙ sym e;
-          written = λ x. found_wrote g acts o w x now f is (holding v) relates;
+              local_read g later v u (ap (λ (acts : List StActivation). slice_get (own_of acts) later) activations ∙ there) ∙ sym e;
+          here = local_read g later v (holding v) there ∙ sym e;
+          writes = λ u keeps.
+              writes u (kept_on later way.to (holding v) u (local_kept later later v way.to (omega arith)) (fewer (first + length (types_fetched o w)) later (holding v) u (omega arith) keeps));
         }
 
-    abbrev into_local : Stmt
-    into_local = set_local_of first (expr.Read (variable_of o w))
-
-    -- to the end of the statements, and by the fault that is met
-    held_goes : (v : Value) → first < length (own_of s.activations) → is_there ≡ Ok v → LeadsTo (fetching true) (holding v)
+    held_goes : (v : Value) → later < length (own_of s.activations) → is_there ≡ Ok v → LeadsTo g calls units s (fetching true) (holding v)
     held_goes v room e rest =
-        let own : length (own_of opened.to.activations) ≡ length (own_of s.activations) = ap length opened.own in
-        goes_on_behind g calls (fetching true) units s rest units (holding v)
-        (opened.goes (into_local ∷ [])
-        ∙ assign_goes_on g calls (var.Local first) (expr.Read (variable_of o w)) [] units opened.to (holding v) v (opened.read w ∙ e) (local_wrote g first v opened.to (omega arith)))
+        let many : length (own_of way.to.activations) ≡ length (own_of s.activations) = way.reached.as_many in
+        begins true rest
+        ∙ assign_goes_on g calls (var.Local later) (reading_of first o w) rest units way.to (holding v) v (reads way.to refl (keeps_itself later way.to) ∙ e) (local_wrote g later v way.to (omega arith))
 
-    held_stops : (x : Fault) → is_there ≡ Err x → StopsBefore (fetching true) x
+    held_stops : (x : Fault) → is_there ≡ Err x → StopsBefore g calls units s (fetching true) now.memory x
     held_stops x e rest =
         record {
-          at = opened.to;
-          stops = stops_before g calls (fetching true) units s rest x opened.to
-              (opened.goes (into_local ∷ [])
-              ∙ assign_stops_at_value g calls (var.Local first) (expr.Read (variable_of o w)) [] units opened.to x (opened.read w ∙ e));
-          memory = opened.related.memory ∙ found_memory o now f is;
+          at = way.to;
+          stops = begins true rest
+              ∙ assign_stops_at_value g calls (var.Local later) (reading_of first o w) rest units way.to x (reads way.to refl (keeps_itself later way.to) ∙ e);
+          memory = way.reached.related.memory ∙ way.memory;
         }
 
     -- both ways out: what holds where the statements lead to a state in which the operand is fetched, and where they
     -- meet the fault that is read at its place, holds
-    either : (goal : Type 0) (b : Bool) → first + length (locals b) ≤ length (own_of s.activations)
-        → ((t : State) → Fetched (fetched b) t → LeadsTo (fetching b) t → goal)
-        → ((x : Fault) → is_there ≡ Err x → StopsBefore (fetching b) x → goal) → goal
-    either goal false room goes stops =
-        goes opened.to opened_alone (λ rest. goes_on_behind g calls (fetching false) units s rest units opened.to (opened.goes []))
-    either goal true room goes stops = by is_there refl
+    either : (goal : Type 0) (b : Bool) → length (types_reached o) ≤ length (types_fetched o w) → first + length (locals b) ≤ length (own_of s.activations)
+        → ((t : State) → Fetched b t → LeadsTo g calls units s (fetching b) t → goal)
+        → ((x : Fault) → is_there ≡ Err x → StopsBefore g calls units s (fetching b) now.memory x → goal) → goal
+    either goal false more room goes stops = goes way.to (reached_alone more) (λ rest. begins false rest)
+    either goal true more room goes stops = by is_there refl
       where
+        one_more : length (types_reached o ++ type_of_width w ∷ []) ≡ length (types_reached o) + 1
+        one_more = length-append (types_reached o) (type_of_width w ∷ [])
+
         by : (r : Result Value Fault) → is_there ≡ r → goal
-        by (Ok v) e = goes (holding v) (held v (omega arith) e) (held_goes v (omega arith) e)
+        by (Ok v) e =
+            let fits : later < length (own_of s.activations) = omega (arith, one_more) in
+            goes (holding v) (held v fits more e) (held_goes v fits e)
         by (Err x) e = stops x e (held_stops x e)
 
-    pub by_fetched : (goal : Type 0) → first + length (types_fetched o w) ≤ length (own_of s.activations)
-        → ((t : State) → IsFetched g acts s o w f first (fetched_of first o w) t → LeadsTo (fetch_of first o w) t → goal)
-        → ((x : Fault) → is_there ≡ Err x → StopsBefore (fetch_of first o w) x → goal) → goal
-    by_fetched goal room goes stops = either goal (may_fault o) room goes stops
+    more_fetched : length (types_reached o) ≤ length (types_fetched o w)
+    more_fetched = omega (arith, length-append (types_reached o) (if may_fault o then type_of_width w ∷ [] else []))
 
--- A row behind its fetched operand
+    by_fetched : (goal : Type 0) → first + length (types_fetched o w) ≤ length (own_of s.activations)
+        → ((t : State) → IsFetched g acts s o w place_found first (fetched_of first o w) t → LeadsTo g calls units s (fetch_of first o w) t → goal)
+        → ((x : Fault) → is_there ≡ Err x → StopsBefore g calls units s (fetch_of first o w) now.memory x → goal) → goal
+    by_fetched goal room goes stops = either goal (may_fault o) more_fetched room goes stops
+
+-- A row behind its operand
 
 -- what a row does from one state, with its locals from a later number on, it does from another in which the locals
 -- before are the same
@@ -324,35 +288,111 @@ same_fault shown (Ok v) x e = absurd cc
 same_fault shown (Err y) x e = cc
 
 module _ (g : List Located) (calls : Calls) (units : ℕ) (acts : List Activation) (now : Now) (s : State) (related : Related acts now s) (first : ℕ) (o : Operand) (w : Width) (lies : IsOperand w o) where
-  -- the effect of a row is one by what is read at the operand's place; what its statements do behind a fetched operand,
-  -- they do with the fetching before them
-  pub fetched_row : {A : Type 0} (read : Place → Contents → Result A Fault) (shown : A → Value) → IsReadAs w read shown
-      → (effect : Place → Now → A → Effect) (rest : List Stmt) → first + length (types_fetched o w) ≤ length (own_of s.activations)
-      → ((f : Found) → found o now ≡ Ok f → (t : State) → IsFetched g acts s o w f first (fetched_of first o w) t
-      → DoesRow (body_meaning g calls rest units t) units (first + length (types_fetched o w)) acts t f.after.memory (with_value (read f.place f.after.memory) (effect f.place f.after)))
-      → DoesRow (body_meaning g calls (fetch_of first o w ++ rest) units s) units first acts s now.memory (with_place o now (λ p after. with_value (read p after.memory) (effect p after)))
-  fetched_row {A} read shown as_read effect rest room does =
-      by_place o now (λ p after. with_value (read p after.memory) (effect p after)) (DoesRow (body_meaning g calls (fetch_of first o w ++ rest) units s) units first acts s now.memory)
-      (λ f is.
-      let Goal : Effect → Type 0 = DoesRow (body_meaning g calls (fetch_of first o w ++ rest) units s) units first acts s now.memory in
-      by_fetched g calls units acts now s related first o w lies f is (Goal (with_value (read f.place f.after.memory) (effect f.place f.after))) room
-      (λ t done goes.
-      carried (body_meaning g calls (fetch_of first o w ++ rest) units s) units first (first + length (types_fetched o w)) acts s t now.memory f.after.memory (with_value (read f.place f.after.memory) (effect f.place f.after))
-      done.as_many done.below (omega arith) (found_memory o now f is)
-      (subst (λ (ended : Out). DoesRow ended units (first + length (types_fetched o w)) acts t f.after.memory (with_value (read f.place f.after.memory) (effect f.place f.after))) (sym (goes rest)) (does f is t done)))
-      (λ x e stops.
-      subst (λ (r : Result A Fault). Goal (with_value r (effect f.place f.after)))
-      (sym (same_fault shown (read f.place f.after.memory) x (sym (as_read f.place f.after.memory) ∙ e))) (stops rest)))
+  -- a row that reads its operand: its effect is one by what is read at the place
+  module _ {A : Type 0} (read : Place → Contents → Result A Fault) (shown : A → Value) (as_read : IsReadAs w read shown)
+      (effect : Place → Now → A → Effect) (rest : List Stmt) (room : first + length (types_fetched o w) ≤ length (own_of s.activations))
+      (does : (f : Found) → found o now ≡ Ok f → (t : State) → IsFetched g acts s o w f first (fetched_of first o w) t
+      → DoesRow (body_meaning g calls rest units t) units (first + length (types_fetched o w)) acts t f.after.memory (with_value (read f.place f.after.memory) (effect f.place f.after))) where
+    abbrev read_row : Place → Now → Effect
+    read_row p after = with_value (read p after.memory) (effect p after)
 
-  -- a row that writes its operand and does not read it: the same behind its opening
-  pub opened_row : (effect : Place → Now → Effect) (rest : List Stmt)
-      → ((f : Found) → found o now ≡ Ok f → (h : Opens g calls units acts s o f)
-      → DoesRow (body_meaning g calls rest units h.to) units first acts h.to f.after.memory (effect f.place f.after))
-      → DoesRow (body_meaning g calls (opened_of o ++ rest) units s) units first acts s now.memory (with_place o now effect)
-  opened_row effect rest does =
-      by_place o now effect (DoesRow (body_meaning g calls (opened_of o ++ rest) units s) units first acts s now.memory)
-      (λ f is.
-      let h : Opens g calls units acts s o f = opens g calls units acts now s related o w lies f is in
-      carried (body_meaning g calls (opened_of o ++ rest) units s) units first first acts s h.to now.memory f.after.memory (effect f.place f.after)
-      (ap length h.own) (λ i small. ap (λ (xs : List Value). slice_get xs i) h.own) (omega arith) (found_memory o now f is)
-      (subst (λ (ended : Out). DoesRow ended units first acts h.to f.after.memory (effect f.place f.after)) (sym (h.goes rest)) (does f is h)))
+    abbrev ReadGoal : Effect → Type 0
+    ReadGoal = DoesRow (body_meaning g calls (fetch_of first o w ++ rest) units s) units first acts s now.memory
+
+    read_target : (way : Reaches g calls units acts now s first o) (target : Result Place Fault) → way.target ≡ target → ReadGoal (with_place o now read_row)
+    read_target way (Err x) none =
+        placed o now read_row ReadGoal (Err x) (missed g calls units acts now s first o w way x none) (fetch_stops_missed g calls units acts now s first o w way x none rest)
+    read_target way (Ok p) some =
+        let f : Found = record { place = p; after = way.after } in
+        let is : found o now ≡ Ok f = is_found g calls units acts now s first o w way p some in
+        placed o now read_row ReadGoal (Ok f) is
+        (by_fetched g calls units acts now s first o w way p some (ReadGoal (read_row p way.after)) room
+        (λ t done goes.
+        carried (body_meaning g calls (fetch_of first o w ++ rest) units s) units first (first + length (types_fetched o w)) acts s t now.memory way.after.memory (read_row p way.after)
+        done.as_many done.below (omega arith) way.memory
+        (subst (λ (ended : Out). DoesRow ended units (first + length (types_fetched o w)) acts t way.after.memory (read_row p way.after)) (sym (goes rest)) (does f is t done)))
+        (λ x e stops.
+        subst (λ (r : Result A Fault). ReadGoal (with_value r (effect p way.after)))
+        (sym (same_fault shown (read p way.after.memory) x (sym (as_read p way.after.memory) ∙ e))) (stops rest)))
+
+    read_way : Reaches g calls units acts now s first o ⊎ Misses g calls units now s first o → ReadGoal (with_place o now read_row)
+    read_way (inl way) = read_target way way.target refl
+    read_way (inr met) =
+        let own : List Stmt = if may_fault o then set_local_of (first + length (types_reached o)) (reading_of first o w) ∷ [] else [] in
+        placed o now read_row ReadGoal (Err met.met) met.is
+        (subst (λ (body : List Stmt). Stops (body_meaning g calls body units s) now.memory met.met) (sym (append_assoc (reach_of first o) own rest)) (met.stops (own ++ rest)))
+
+    -- what its statements do behind the fetched operand, they do with the fetching before them
+    pub fetched_row : DoesRow (body_meaning g calls (fetch_of first o w ++ rest) units s) units first acts s now.memory (with_place o now (λ p after. with_value (read p after.memory) (effect p after)))
+    fetched_row =
+        read_way (reaches g calls units acts now s related first o w lies (omega (arith, length-append (types_reached o) (if may_fault o then type_of_width w ∷ [] else []))))
+
+  -- a row that writes its operand and does not read it: an expression with a value in each related state is written
+  -- as the row writes, and what stands behind comes to its end
+  module _ (e : Expr) (v : Now → Value) (worth : (after : Now) (t : State) → Related acts after t → value g e t ≡ Ok (v after))
+      (put : Place → Now → Result Contents Fault) (puts : (p : Place) (after : Now) → write_place (type_of_width w) p (v after) after.memory ≡ put p after)
+      (row : Now → Now) (rest : List Stmt) (room : first + length (types_reached o) ≤ length (own_of s.activations))
+      (does : (after : Now) (t : State) → Related acts after t → Leads (body_meaning g calls rest units t) units (first + length (types_reached o)) acts t (row after)) where
+    abbrev written_row : Place → Now → Effect
+    written_row p after = with_memory (put p after) after (λ done. next (row done))
+
+    abbrev WriteGoal : Effect → Type 0
+    WriteGoal = DoesRow (body_meaning g calls (reach_of first o ++ writing_of first o w e ∷ rest) units s) units first acts s now.memory
+
+    module _ (way : Reaches g calls units acts now s first o) where
+      -- where the way leads, the expression has its value
+      has_value : value g e way.to ≡ Ok (v way.after)
+      has_value = worth way.after way.to way.reached.related
+
+      write_done : (p : Place) → way.target ≡ Ok p → (memory : Result Contents Fault) → put p way.after ≡ memory → write_place (type_of_width w) p (v way.after) way.to.memory ≡ memory
+      write_done p some memory wrote =
+          ap (write_place (type_of_width w) p (v way.after)) way.reached.related.memory ∙ puts p way.after ∙ wrote
+
+      by_written : (p : Place) → way.target ≡ Ok p → (memory : Result Contents Fault) → put p way.after ≡ memory → WriteGoal (with_memory memory way.after (λ done. next (row done)))
+      by_written p some (Ok m) wrote =
+          let t : State = way.to in
+          let u : State = record t { memory = m } in
+          let holds : HoldsBytes m = written_holds (type_of_width w) p (v way.after) way.after.memory m way.reached.related.bytes (puts p way.after ∙ wrote) in
+          let ended : Leads (body_meaning g calls rest units u) units (first + length (types_reached o)) acts u (row (record way.after { memory = m })) =
+          does (record way.after { memory = m }) u (keep_memory IsKept acts way.after t way.reached.related m holds) in
+          let many : length (own_of u.activations) ≡ length (own_of s.activations) = way.reached.as_many in
+          record {
+            to = ended.to;
+            goes = way.goes (writing_of first o w e ∷ rest)
+                ∙ write_goes_on g (type_of_width w) p t (writing_of first o w) (writes g calls units acts now s first o w way p some t (keeps_itself (first + length (types_reached o)) t))
+                calls units e rest (v way.after) m has_value (write_done p some (Ok m) wrote)
+                ∙ ended.goes;
+            related = ended.related;
+            as_many = ended.as_many ∙ many;
+            below = λ i h. ended.below i (omega arith) ∙ way.reached.below i h;
+          }
+      by_written p some (Err x) wrote =
+          let t : State = way.to in
+          record {
+            at = t;
+            stops = way.goes (writing_of first o w e ∷ rest)
+                ∙ write_stops_at_place g (type_of_width w) p t (writing_of first o w) (writes g calls units acts now s first o w way p some t (keeps_itself (first + length (types_reached o)) t))
+                calls units e rest (v way.after) x has_value (write_done p some (Err x) wrote);
+            memory = way.reached.related.memory ∙ way.memory;
+          }
+
+      write_target : (target : Result Place Fault) → way.target ≡ target → WriteGoal (with_place o now written_row)
+      write_target (Ok p) some =
+          placed o now written_row WriteGoal (Ok (record { place = p; after = way.after })) (is_found g calls units acts now s first o w way p some) (by_written p some (put p way.after) refl)
+      write_target (Err x) none =
+          placed o now written_row WriteGoal (Err x) (missed g calls units acts now s first o w way x none)
+          (record {
+            at = way.to;
+            stops = way.goes (writing_of first o w e ∷ rest)
+                ∙ write_misses g (type_of_width w) way.target way.to (writing_of first o w) (way.reached.writes w way.to (keeps_itself (first + length (types_reached o)) way.to))
+                calls units e rest (v way.after) x has_value none;
+            memory = way.reached.related.memory ∙ way.memory;
+          })
+
+    write_way : Reaches g calls units acts now s first o ⊎ Misses g calls units now s first o → WriteGoal (with_place o now written_row)
+    write_way (inl way) = write_target way way.target refl
+    write_way (inr met) = placed o now written_row WriteGoal (Err met.met) met.is (met.stops (writing_of first o w e ∷ rest))
+
+    pub reached_row : DoesRow (body_meaning g calls (reach_of first o ++ writing_of first o w e ∷ rest) units s) units first acts s now.memory
+        (with_place o now (λ p after. with_memory (put p after) after (λ done. next (row done))))
+    reached_row = write_way (reaches g calls units acts now s related first o w lies room)

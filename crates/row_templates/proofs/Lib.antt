@@ -7,6 +7,8 @@ pub mod Locals
 pub mod MemoryRows
 pub mod Numbers
 pub mod Operands
+pub mod Pointers
+pub mod Reaching
 pub mod ReadRegisters
 pub mod RegisterRows
 pub mod Sizes

@@ -55,6 +55,16 @@ own_set i v s =
     ap (λ n. locals_of (slice_get (with_local (depth s) i v s.activations) (n - 1))) (as_deep s.activations (depth s) i v)
     ∙ one_set s.activations (depth s) i v
 
+module _ (i : ℕ) (v : Value) (s : State) where
+  pub own_length : length (own_of (with_own i v s).activations) ≡ length (own_of s.activations)
+  own_length = ap length (own_set i v s) ∙ set_length (own_of s.activations) i v
+
+  pub own_same : i < length (own_of s.activations) → slice_get (own_of (with_own i v s).activations) i ≡ Some v
+  own_same h = ap (λ (xs : List Value). slice_get xs i) (own_set i v s) ∙ set_same (own_of s.activations) i v h
+
+  pub own_other : (j : ℕ) → j ≢ i → slice_get (own_of (with_own i v s).activations) j ≡ slice_get (own_of s.activations) j
+  own_other j h = ap (λ (xs : List Value). slice_get xs j) (own_set i v s) ∙ set_other (own_of s.activations) i j v h
+
 -- a local that there is can be written
 pub local_wrote : (g : List Located) (i : ℕ) (v : Value) (s : State) → i < length (own_of s.activations) → write g (var.Local i) v s ≡ Ok (with_own i v s)
 local_wrote g i v s h =

@@ -1,32 +1,36 @@
--- Rows that read or write a place of memory: what a statement makes of it, and where its fault ends a row.
-use Rattle.std.proofs.Common.{◌≡◌, ℕ, ◌≤◌, List, [], ◌∷◌, length, Result, Ok, Err, refl, sym, ap, ◌∙◌}
+-- Rows that read or write a place of memory: what an access does there, by a direct variable or by a pointer in a local.
+use Rattle.std.proofs.Common.{◌≡◌, ℕ, ◌^◌, ◌<◌, pos, List, ◌∷◌, length, Result, Ok, Err, Some, refl, ap, subst, ◌∙◌, arith}
+use Rattle.std.specs.Prelude.{slice_get}
 use Rattle.memory_areas.specs.Access.{and_then}
 use Rattle.memory_areas.specs.Areas.{Contents}
 use Rattle.memory_areas.specs.declared.place.AreaName.{AreaName}
+use Rattle.memory_areas.specs.declared.place.Place.{Place}
+use Rattle.address_registers.specs.Pointers.{resolved}
 use Rattle.s7_base.specs.declared.outcome.Fault.{Fault}
 use Rattle.s7_base.specs.declared.register.Reg.TheVariants as reg
 use Rattle.s7_base.specs.declared.word.Width.{Width}
-use Rattle.stl_tree.specs.Now.{Activation, Effect, Now, next, with_memory, with_value}
-use Rattle.stl_tree.specs.declared.program.Operand.TheVariants as operand
-use Rattle.st_tree.specs.Meaning.{Calls, Out, body_meaning}
-use Rattle.st_tree.specs.State.{State, read_place, write, write_place}
+use Rattle.stl_tree.specs.Now.{Activation, Effect, Now, depth, with_value}
+use Rattle.st_tree.specs.Fitting.{HoldsBytes}
+use Rattle.st_tree.specs.Meaning.{Calls, Faults, Out, body_meaning, changed, then_do}
+use Rattle.st_tree.specs.State.{State, area_read, area_write, place_of, pointed_at, read_place, write_at, write_place}
 use Rattle.st_tree.specs.Value.{value}
-use Rattle.st_tree.specs.Values.{type_of_width}
-use Rattle.st_tree.specs.declared.state.Value.{Value}
+use Rattle.st_tree.specs.Values.{pattern, type_of_width}
 use Rattle.st_tree.specs.declared.expr.Expr.{Expr}
 use Rattle.st_tree.specs.declared.expr.Expr.TheVariants as expr
-use Rattle.st_tree.specs.declared.expr.Var.{Var}
+use Rattle.st_tree.specs.declared.expr.StType.{StType}
+use Rattle.st_tree.specs.declared.expr.Var.TheVariants as var
 use Rattle.st_tree.specs.declared.program.Located.{Located}
 use Rattle.st_tree.specs.declared.program.Stmt.{Stmt}
 use Rattle.st_tree.specs.declared.program.Stmt.TheVariants as stmt
-use Rattle.st_tree.proofs.FittingMemory.{AfterHolds}
-use Rattle.st_tree.proofs.Equations.{assign_goes_on, assign_stops_at_place, assign_stops_at_value, value_read}
-use Rattle.row_templates.specs.Builders.{variable_of}
-use Rattle.row_templates.proofs.Alike.{Related, keep_memory, place_now, same_place}
-use Rattle.row_templates.proofs.Alike.{IsKept}
+use Rattle.st_tree.specs.declared.state.Reference.TheVariants as reference
+use Rattle.st_tree.specs.declared.state.Value.{Value}
+use Rattle.st_tree.proofs.FittingMemory.{AfterHolds, place_holds}
+use Rattle.st_tree.proofs.Equations.{meaning_area_write, meaning_assign, value_area_read, value_read}
+use Rattle.row_templates.specs.Builders.{local_of}
+use Rattle.row_templates.proofs.Alike.{Related, as_deep_as, place_now, same_db, same_di, same_place}
 use Rattle.row_templates.proofs.DoesRow.{DoesRow, Stops}
-use Rattle.row_templates.proofs.Locals.{own_of}
-use Rattle.row_templates.proofs.Stages.{known, stage, stage_begins}
+use Rattle.row_templates.proofs.Locals.{local_read, own_of}
+use Rattle.row_templates.proofs.Pointers.{dword}
 
 -- a row by a value that a fault may stand in the place of
 pub by_value : {A : Type 0} (ended : Out) (units used : ℕ) (acts : List Activation) (s : State) (memory : Contents) (effect : A → Effect) (r : Result A Fault)
@@ -35,45 +39,111 @@ pub by_value : {A : Type 0} (ended : Out) (units used : ℕ) (acts : List Activa
 by_value ended units used acts s memory effect (Ok x) goes stops = goes x refl
 by_value ended units used acts s memory effect (Err f) goes stops = stops f refl
 
-module _ (g : List Located) (acts : List Activation) (now : Now) (s : State) (related : Related acts now s) where
-  -- what an operand of a width is worth, read through its variable
-  pub place_read : (a : AreaName) (byte x : ℕ) (w : Width)
-      → value g (expr.Read (variable_of (operand.Direct a byte x) w)) s ≡ read_place (type_of_width w) (place_now a byte x now) now.memory
-  place_read a byte x w =
-      value_read g (variable_of (operand.Direct a byte x) w) s
-      ∙ ap (λ p. read_place (type_of_width w) p s.memory) (same_place acts now s related a byte x)
-      ∙ ap (λ m. read_place (type_of_width w) (place_now a byte x now) m) related.memory
+-- States in which an access reaches the same place
 
-  -- and written
-  pub place_wrote : (a : AreaName) (byte x : ℕ) (w : Width) (v : Value)
-      → write g (variable_of (operand.Direct a byte x) w) v s
-      ≡ and_then (write_place (type_of_width w) (place_now a byte x now) v now.memory) (λ m. Ok (record s { memory = m }))
-  place_wrote a byte x w v =
-      ap (λ p. and_then (write_place (type_of_width w) p v s.memory) (λ m. Ok (record s { memory = m }))) (same_place acts now s related a byte x)
-      ∙ ap (λ m. and_then (write_place (type_of_width w) (place_now a byte x now) v m) (λ n. Ok (record s { memory = n }))) related.memory
+-- as many units run in a state u as in t, and the open data blocks and the first locals are the same
+pub record KeepsWay (many : ℕ) (t u : State) : Type 0 where
+  pub db : u.registers reg.DbNo ≡ t.registers reg.DbNo
+  pub di : u.registers reg.DiNo ≡ t.registers reg.DiNo
+  pub deep : length u.activations ≡ length t.activations
+  pub locals : (i : ℕ) → i < many → slice_get (own_of u.activations) i ≡ slice_get (own_of t.activations) i
 
-  -- an expression is worth the same at the first stage of a row
-  pub worth_at_first : (used : ℕ) (e : Expr) (r : Result Value Fault) → used ≤ length (own_of s.activations) → value g e s ≡ r
-      → value g e (stage s used [] (known now.registers (s.registers reg.Sta))) ≡ r
-  worth_at_first used e r room h = ap (value g e) (sym (stage_begins s used now.registers related.registers room)) ∙ h
+pub keeps_itself : (many : ℕ) (t : State) → KeepsWay many t t
+keeps_itself many t = record { db = refl; di = refl; deep = refl; locals = λ i h. refl }
 
-  module _ (calls : Calls) (units used : ℕ) where
-    -- the first right side of some statements faults
-    pub first_stops : (v : Var) (e : Expr) (rest : List Stmt) (f : Fault) → value g e s ≡ Err f
-        → Stops (body_meaning g calls (stmt.Assign v e ∷ rest) units s) now.memory f
-    first_stops v e rest f h = record { at = s; stops = assign_stops_at_value g calls v e rest units s f h; memory = related.memory }
+-- What an access does
 
-    -- one statement that writes memory
-    pub write_does : (v : Var) (e : Expr) (w : Value) (memory : Result Contents Fault) → value g e s ≡ Ok w → AfterHolds memory
-        → write g v w s ≡ and_then memory (λ m. Ok (record s { memory = m }))
-        → DoesRow (body_meaning g calls (stmt.Assign v e ∷ []) units s) units used acts s now.memory (with_memory memory now (λ after. next after))
-    write_does v e w (Ok m) h holds k =
-        record {
-          to = record s { memory = m };
-          goes = assign_goes_on g calls v e [] units s (record s { memory = m }) w h k;
-          related = keep_memory IsKept acts now s related m holds;
-          as_many = refl;
-          below = λ i small. refl;
-        }
-    write_does v e w (Err f) h holds k =
-        record { at = s; stops = assign_stops_at_place g calls v e [] units s w f h k; memory = related.memory }
+module _ (g : List Located) (ty : StType) (target : Result Place Fault) (u : State) where
+  -- an expression is worth what is read at a place, or meets the fault that stands in its place
+  abbrev pub IsReadAt : Expr → Type 0
+  IsReadAt e = value g e u ≡ and_then target (λ p. read_place ty p u.memory)
+
+  -- the state once a value was written there
+  abbrev pub put_at : Value → Result State Fault
+  put_at v = and_then target (λ p. and_then (write_place ty p v u.memory) (λ m. Ok (record u { memory = m })))
+
+  -- a statement with an expression writes what that is worth there
+  abbrev pub Writes : (Expr → Stmt) → Type 0
+  Writes with_expression =
+      (calls : Calls) (units : ℕ) (e : Expr) (rest : List Stmt)
+      → body_meaning g calls (with_expression e ∷ rest) units u ≡ then_do (changed (and_then (value g e u) put_at) units u) (body_meaning g calls rest)
+
+-- how a statement that writes goes on, or stops, once its expression has a value
+module _ (g : List Located) (ty : StType) (p : Place) (u : State) (with_expression : Expr → Stmt) (writes : Writes g ty (Ok p) u with_expression)
+    (calls : Calls) (units : ℕ) (e : Expr) (rest : List Stmt) where
+  abbrev after : Result State Fault → Out
+  after r = then_do (changed r units u) (body_meaning g calls rest)
+
+  pub write_goes_on : (v : Value) (m : Contents) → value g e u ≡ Ok v → write_place ty p v u.memory ≡ Ok m
+      → body_meaning g calls (with_expression e ∷ rest) units u ≡ body_meaning g calls rest units (record u { memory = m })
+  write_goes_on v m h k =
+      writes calls units e rest
+      ∙ ap (λ r. after (and_then r (put_at g ty (Ok p) u))) h
+      ∙ ap (λ r. after (and_then r (λ m. Ok (record u { memory = m })))) k
+
+  pub write_stops_at_place : (v : Value) (f : Fault) → value g e u ≡ Ok v → write_place ty p v u.memory ≡ Err f
+      → body_meaning g calls (with_expression e ∷ rest) units u ≡ Faults f u
+  write_stops_at_place v f h k =
+      writes calls units e rest
+      ∙ ap (λ r. after (and_then r (put_at g ty (Ok p) u))) h
+      ∙ ap (λ r. after (and_then r (λ m. Ok (record u { memory = m })))) k
+
+  pub write_stops_at_value : (f : Fault) → value g e u ≡ Err f → body_meaning g calls (with_expression e ∷ rest) units u ≡ Faults f u
+  write_stops_at_value f h = writes calls units e rest ∙ ap (λ r. after (and_then r (put_at g ty (Ok p) u))) h
+
+-- or meets a fault in the place of its place
+pub write_misses : (g : List Located) (ty : StType) (target : Result Place Fault) (u : State) (with_expression : Expr → Stmt) → Writes g ty target u with_expression
+    → (calls : Calls) (units : ℕ) (e : Expr) (rest : List Stmt) (v : Value) (f : Fault) → value g e u ≡ Ok v → target ≡ Err f
+    → body_meaning g calls (with_expression e ∷ rest) units u ≡ Faults f u
+write_misses g ty target u with_expression writes calls units e rest v f h none =
+    writes calls units e rest
+    ∙ ap (λ r. then_do (changed (and_then r (put_at g ty target u)) units u) (body_meaning g calls rest)) h
+    ∙ ap (λ r. then_do (changed (put_at g ty r u v) units u) (body_meaning g calls rest)) none
+
+-- what is written at a place leaves bytes
+pub written_holds : (ty : StType) (p : Place) (v : Value) (before after : Contents) → HoldsBytes before → write_place ty p v before ≡ Ok after → HoldsBytes after
+written_holds ty p v before after holds e = subst AfterHolds e (place_holds ty p v before holds)
+
+-- Both kinds of access
+
+module _ (g : List Located) (acts : List Activation) (now : Now) (t : State) (related : Related acts now t) (many : ℕ) (u : State) (keeps : KeepsWay many t u) where
+  same_direct : (a : AreaName) (byte x : ℕ) → place_of a byte x u ≡ place_now a byte x now
+  same_direct a byte x =
+      let here : place_of a byte x u ≡ place_of a byte x t = rw (keeps.db, keeps.di, keeps.deep) refl in
+      here ∙ same_place acts now t related a byte x
+
+  -- by a direct variable
+  pub direct_reads : (a : AreaName) (byte x : ℕ) (w : Width) → IsReadAt g (type_of_width w) (Ok (place_now a byte x now)) u (expr.Read (var.Direct a byte x w))
+  direct_reads a byte x w =
+      value_read g (var.Direct a byte x w) u ∙ ap (λ (p : Place). read_place (type_of_width w) p u.memory) (same_direct a byte x)
+
+  pub direct_writes : (a : AreaName) (byte x : ℕ) (w : Width) → Writes g (type_of_width w) (Ok (place_now a byte x now)) u (stmt.Assign (var.Direct a byte x w))
+  direct_writes a byte x w calls units e rest =
+      ap (λ (out : Out). then_do out (body_meaning g calls rest)) (meaning_assign g calls units u (var.Direct a byte x w) e)
+      ∙ ap (λ (p : Place). then_do (changed (and_then (value g e u) (put_at g (type_of_width w) (Ok p) u)) units u) (body_meaning g calls rest)) (same_direct a byte x)
+
+  -- by a pointer in one of the locals
+  module _ (q i : ℕ) (small : q < 2 ^ 32) (kept : i < many) (there : slice_get (own_of t.activations) i ≡ Some (dword q))
+      (target : Result Place Fault) (means : resolved q now.registers.db now.registers.di (depth now.activations) ≡ target) where
+    pointer_read : value g (local_of i) u ≡ Ok (dword q)
+    pointer_read = local_read g i (dword q) u (keeps.locals i kept ∙ there)
+
+    same_pointed : pointed_at (dword q) u ≡ target
+    same_pointed =
+        let whole : pattern 32 (pos q) ≡ q = omega arith in
+        let here : pointed_at (dword q) u ≡ pointed_at (dword q) t = rw (keeps.db, keeps.di, keeps.deep) refl in
+        let same : pointed_at (dword q) t ≡ resolved q now.registers.db now.registers.di (depth now.activations) =
+        rw (whole, same_db acts now t related, same_di acts now t related, as_deep_as acts now t related) refl in
+        here ∙ same ∙ means
+
+    pub pointer_reads : (w : Width) → IsReadAt g (type_of_width w) target u (expr.AreaRead w (local_of i))
+    pointer_reads w =
+        value_area_read g w (local_of i) u
+        ∙ ap (λ r. and_then r (λ v. area_read w v u)) pointer_read
+        ∙ ap (λ r. and_then r (λ (p : Place). read_place (type_of_width w) p u.memory)) same_pointed
+
+    pub pointer_writes : (w : Width) → Writes g (type_of_width w) target u (stmt.AreaWrite w (local_of i))
+    pointer_writes w calls units e rest =
+        ap (λ (out : Out). then_do out (body_meaning g calls rest)) (meaning_area_write g calls units u w (local_of i) e)
+        ∙ ap (λ r. then_do (changed (and_then r (λ at. and_then (value g e u) (λ v. area_write w at v u))) units u) (body_meaning g calls rest)) pointer_read
+        ∙ ap (λ r. then_do (changed (and_then (value g e u) (λ v. and_then r (λ (p : Place). write_at (reference.Place p (type_of_width w)) v u))) units u) (body_meaning g calls rest)) same_pointed

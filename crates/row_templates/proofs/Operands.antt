@@ -1,45 +1,32 @@
--- What is read and written: operands and registers by their variables.
+-- What is read and written: bits and registers.
 use Rattle.std.proofs.Common.{◌≡◌, ℕ, pos, Bool, true, false, List, [], ◌∷◌, Result, Ok, refl, ap, subst, ◌∙◌}
 use Rattle.std.specs.Prelude.{ℤ}
-use Rattle.memory_areas.specs.Access.{and_then, read_bit, write_bit}
+use Rattle.memory_areas.specs.Access.{write_bit}
 use Rattle.memory_areas.specs.Areas.{Contents}
-use Rattle.memory_areas.specs.declared.place.AreaName.{AreaName}
 use Rattle.memory_areas.specs.declared.place.Place.{Place}
 use Rattle.s7_base.specs.declared.outcome.Fault.{Fault}
 use Rattle.s7_base.specs.declared.register.Reg.{Reg}
 use Rattle.s7_base.specs.declared.register.Reg.TheVariants as reg
 use Rattle.stl_tree.specs.Now.{Activation, Now}
-use Rattle.stl_tree.specs.declared.program.Operand.TheVariants as operand
 use Rattle.st_tree.specs.Fitting.{HoldsBytes}
 use Rattle.st_tree.specs.Meaning.{Calls, Normal, body_meaning}
-use Rattle.st_tree.specs.State.{State, place_of, with_register, write}
+use Rattle.st_tree.specs.State.{State, with_register}
 use Rattle.st_tree.specs.Value.{value}
 use Rattle.st_tree.specs.Values.{flag, is_set, number_of}
 use Rattle.st_tree.specs.declared.expr.Expr.{Expr}
-use Rattle.st_tree.specs.declared.expr.Expr.TheVariants as expr
 use Rattle.st_tree.specs.declared.expr.StType.TheVariants as type
 use Rattle.st_tree.specs.declared.expr.Var.TheVariants as var
 use Rattle.st_tree.specs.declared.program.Located.{Located}
 use Rattle.st_tree.specs.declared.program.Stmt.{Stmt}
 use Rattle.st_tree.proofs.FittingMemory.{AfterHolds, place_holds}
-use Rattle.st_tree.proofs.Equations.{assign_goes_on, value_read}
-use Rattle.row_templates.specs.Builders.{bit_of, cleared, literal_of, read_of, set_of}
-use Rattle.row_templates.proofs.Alike.{Related, place_now, same_place}
+use Rattle.st_tree.proofs.Equations.{assign_goes_on}
+use Rattle.row_templates.specs.Builders.{cleared, literal_of, read_of, set_of}
+use Rattle.row_templates.proofs.Alike.{Related}
 use Rattle.row_templates.proofs.Truths.{literal_worth, register_worth}
 
 set_flag : (b : Bool) → is_set (flag b) ≡ b
 set_flag true = refl
 set_flag false = refl
-
--- the bit of a written operand, written through its variable in a state that has its place and the memory
-pub bit_wrote : (g : List Located) (now : Now) (s : State) (a : AreaName) (byte x : ℕ) → place_of a byte x s ≡ place_now a byte x now → s.memory ≡ now.memory
-    → (b : Bool) (memory : Result Contents Fault) → write_bit (place_now a byte x now) b now.memory ≡ memory
-    → write g (bit_of (operand.Direct a byte x)) (flag b) s ≡ and_then memory (λ m. Ok (record s { memory = m }))
-bit_wrote g now s a byte x place same b memory e =
-    ap (λ p. and_then (write_bit p (is_set (flag b)) s.memory) (λ m. Ok (record s { memory = m }))) place
-    ∙ ap (λ v. and_then (write_bit (place_now a byte x now) v s.memory) (λ m. Ok (record s { memory = m }))) (set_flag b)
-    ∙ ap (λ m. and_then (write_bit (place_now a byte x now) b m) (λ m. Ok (record s { memory = m }))) same
-    ∙ ap (λ r. and_then r (λ m. Ok (record s { memory = m }))) e
 
 -- the memory after a bit was written holds bytes
 pub bit_holds : (p : Place) (b : Bool) (before : Contents) (after : Result Contents Fault) → HoldsBytes before → write_bit p b before ≡ after → AfterHolds after
@@ -47,15 +34,6 @@ bit_holds p b before after holds e =
     subst AfterHolds (ap (λ v. write_bit p v before) (set_flag b) ∙ e) (place_holds type.Bool p (flag b) before holds)
 
 module _ (g : List Located) (acts : List Activation) (now : Now) (s : State) (related : Related acts now s) where
-  -- the bit of a written operand, read through its variable
-  pub bit_read : (a : AreaName) (byte x : ℕ) (bit : Result Bool Fault) → read_bit (place_now a byte x now) now.memory ≡ bit
-      → value g (expr.Read (bit_of (operand.Direct a byte x))) s ≡ and_then bit (λ b. Ok (flag b))
-  bit_read a byte x bit e =
-      value_read g (bit_of (operand.Direct a byte x)) s
-      ∙ ap (λ p. and_then (read_bit p s.memory) (λ b. Ok (flag b))) (same_place acts now s related a byte x)
-      ∙ ap (λ m. and_then (read_bit (place_now a byte x now) m) (λ b. Ok (flag b))) related.memory
-      ∙ ap (λ r. and_then r (λ b. Ok (flag b))) e
-
   -- the RLO and NFC, read
   pub rlo_worth : value g (read_of reg.Rlo) s ≡ Ok (flag now.registers.status.rlo)
   rlo_worth = register_worth g s reg.Rlo now.registers.status.rlo refl (related.registers reg.Rlo tt)

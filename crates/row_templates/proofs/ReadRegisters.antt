@@ -1,11 +1,11 @@
 -- Which registers statements read.
 use Rattle.std.proofs.Common.{ℕ, Bool, List, [], ◌∷◌, ◌++◌, inl, inr, sym, subst}
 use Rattle.std.specs.Prelude.{ℤ, false}
+use Rattle.memory_areas.specs.declared.place.AreaName.{AreaName}
 use Rattle.s7_base.specs.declared.register.Reg.{Reg}
 use Rattle.s7_base.specs.declared.register.Reg.TheVariants as reg
 use Rattle.s7_base.specs.declared.word.Width.{Width}
-use Rattle.s7_base.specs.declared.word.Width.TheVariants as width
-use Rattle.st_tree.proofs.PartEquations.{reads_in_assign, reads_of_binary, reads_of_convert, reads_of_literal, reads_of_read, reads_of_select, reads_of_shift, reads_of_unary}
+use Rattle.st_tree.proofs.PartEquations.{reads_in_area_write, reads_in_assign, reads_of_area_read, reads_of_binary, reads_of_convert, reads_of_literal, reads_of_read, reads_of_select, reads_of_shift, reads_of_unary}
 use Rattle.st_tree.specs.Parts.{reads_in, reads_of as variables_of}
 use Rattle.st_tree.specs.declared.expr.BinaryOp.{BinaryOp}
 use Rattle.st_tree.specs.declared.expr.Expr.{Expr}
@@ -18,9 +18,7 @@ use Rattle.st_tree.specs.declared.expr.Var.{Var}
 use Rattle.st_tree.specs.declared.expr.Var.TheVariants as var
 use Rattle.st_tree.specs.declared.program.Stmt.{Stmt}
 use Rattle.st_tree.specs.declared.program.Stmt.TheVariants as stmt
-use Rattle.stl_tree.specs.declared.program.Operand.{Operand}
-use Rattle.stl_tree.specs.declared.program.Operand.TheVariants as operand
-use Rattle.row_templates.specs.Builders.{bit_of, cleared, literal_of, local_of, not_of, read_of, set_of, variable_of}
+use Rattle.row_templates.specs.Builders.{cleared, literal_of, local_of, not_of, read_of, set_of}
 use Rattle.row_templates.specs.Reading.{EachRegister, IsAmong}
 
 pub among_left : (r : Reg) (xs ys : List Reg) → IsAmong r xs → IsAmong r (xs ++ ys)
@@ -48,12 +46,8 @@ module _ (P : Reg → Type 0) where
   pub local_reads : (i : ℕ) → Reads (local_of i)
   local_reads i = subst (EachRegister P) (sym (reads_of_read (var.Local i))) tt
 
-  pub operand_reads : (o : Operand) (w : Width) → Reads (expr.Read (variable_of o w))
-  operand_reads (operand.Direct a byte x) w = subst (EachRegister P) (sym (reads_of_read (variable_of (operand.Direct a byte x) w))) tt
-  operand_reads (operand.Opened n byte x) w = subst (EachRegister P) (sym (reads_of_read (variable_of (operand.Opened n byte x) w))) tt
-
-  pub bit_reads : (o : Operand) → Reads (expr.Read (bit_of o))
-  bit_reads o = operand_reads o width.Bit
+  pub direct_reads : (a : AreaName) (byte x : ℕ) (w : Width) → Reads (expr.Read (var.Direct a byte x w))
+  direct_reads a byte x w = subst (EachRegister P) (sym (reads_of_read (var.Direct a byte x w))) tt
 
   pub constant_reads : (ty : StType) (n : ℤ) → Reads (expr.Literal ty n)
   constant_reads ty n = subst (EachRegister P) (sym (reads_of_literal ty n)) tt
@@ -78,12 +72,21 @@ module _ (P : Reg → Type 0) where
       subst (EachRegister P) (sym (reads_of_select gate e f))
       (both_read (variables_of gate ++ variables_of e) (variables_of f) (both_read (variables_of gate) (variables_of e) g h) k)
 
+  pub area_read_reads : (w : Width) (e : Expr) → Reads e → Reads (expr.AreaRead w e)
+  area_read_reads w e h = subst (EachRegister P) (sym (reads_of_area_read w e)) h
+
   pub shift_reads : (op : ShiftOp) (e count : Expr) → Reads e → Reads count → Reads (expr.Shift op e count)
   shift_reads op e count h k = subst (EachRegister P) (sym (reads_of_shift op e count)) (both_read (variables_of e) (variables_of count) h k)
 
   -- all registers of a list are such
   abbrev pub Has : List Reg → Type 0
   Has registers = (r : Reg) → IsAmong r registers → P r
+
+  pub has_left : (xs ys : List Reg) → Has (xs ++ ys) → Has xs
+  has_left xs ys h r among = h r (among_left r xs ys among)
+
+  pub has_right : (xs ys : List Reg) → Has (xs ++ ys) → Has ys
+  has_right xs ys h r among = h r (among_right r xs ys among)
 
   -- Statements
 
@@ -92,6 +95,10 @@ module _ (P : Reg → Type 0) where
 
   pub assigned_reads : (v : Var) (e : Expr) (rest : List Stmt) → Reads e → AllRead rest → AllRead (stmt.Assign v e ∷ rest)
   assigned_reads v e rest h k = subst (EachRegister P) (sym (reads_in_assign v e rest)) (both_read (variables_of e) (reads_in rest) h k)
+
+  pub area_write_reads : (w : Width) (p e : Expr) (rest : List Stmt) → Reads p → Reads e → AllRead rest → AllRead (stmt.AreaWrite w p e ∷ rest)
+  area_write_reads w p e rest l h k =
+      subst (EachRegister P) (sym (reads_in_area_write w p e rest)) (both_read (variables_of p) (variables_of e ++ reads_in rest) l (both_read (variables_of e) (reads_in rest) h k))
 
   pub nfc_reads : (b : Bool) (rest : List Stmt) → AllRead rest → AllRead (set_of reg.Nfc (literal_of b) ∷ rest)
   nfc_reads b rest k = assigned_reads (var.Register reg.Nfc) (literal_of b) rest (literal_reads b) k
@@ -102,4 +109,4 @@ module _ (P : Reg → Type 0) where
 
 -- the variables that given statements read, as a list
 pub ruleset variables_read =
-    (reads_in_assign, reads_of_literal, reads_of_read, reads_of_unary, reads_of_binary, reads_of_convert, reads_of_select, reads_of_shift)
+    (reads_in_assign, reads_in_area_write, reads_of_literal, reads_of_read, reads_of_unary, reads_of_binary, reads_of_convert, reads_of_select, reads_of_shift, reads_of_area_read)

@@ -5,8 +5,9 @@ use Rattle.std.specs.List.{sum_by}
 use Rattle.std.proofs.lemmas.List.Sums.{sum_by-append, sum_by-cons}
 use Rattle.s7_base.specs.declared.register.Reg.{Reg}
 use Rattle.s7_base.specs.declared.register.Reg.TheVariants as reg
-use Rattle.st_tree.proofs.Equations.{fold_binary, fold_convert, fold_literal, fold_read, fold_select, fold_shift, fold_unary}
-use Rattle.st_tree.proofs.PartEquations.{expressions_in_append, expressions_in_assign}
+use Rattle.s7_base.specs.declared.word.Width.{Width}
+use Rattle.st_tree.proofs.Equations.{fold_area_read, fold_binary, fold_convert, fold_literal, fold_read, fold_select, fold_shift, fold_unary}
+use Rattle.st_tree.proofs.PartEquations.{expressions_in_append, expressions_in_area_write, expressions_in_assign}
 use Rattle.st_tree.specs.Parts.{expressions_in}
 use Rattle.st_tree.specs.declared.expr.BinaryOp.{BinaryOp}
 use Rattle.st_tree.specs.declared.expr.Expr.{Expr}
@@ -45,6 +46,9 @@ of_select gate e f = fold_select ℕ nodes_step gate e f
 pub of_shift : (op : ShiftOp) (e count : Expr) → nodes (expr.Shift op e count) ≡ 1 + nodes e + nodes count
 of_shift op e count = fold_shift ℕ nodes_step op e count
 
+pub of_area_read : (w : Width) (e : Expr) → nodes (expr.AreaRead w e) ≡ 1 + nodes e
+of_area_read w e = fold_area_read ℕ nodes_step w e
+
 pub of_literal : (b : Bool) → nodes (literal_of b) ≡ 1
 of_literal b = of_constant _ _
 
@@ -62,6 +66,12 @@ of_not_register r = omega (arith, of_not (read_of r), of_register r)
 pub of_assign : (v : Var) (e : Expr) (rest : List Stmt) → nodes_in (stmt.Assign v e ∷ rest) ≡ nodes e + nodes_in rest
 of_assign v e rest = ap (sum_by nodes) (expressions_in_assign v e rest) ∙ sum_by-cons nodes e (expressions_in rest)
 
+pub of_area_write : (w : Width) (p e : Expr) (rest : List Stmt) → nodes_in (stmt.AreaWrite w p e ∷ rest) ≡ nodes p + (nodes e + nodes_in rest)
+of_area_write w p e rest =
+    ap (sum_by nodes) (expressions_in_area_write w p e rest)
+    ∙ sum_by-cons nodes p (e ∷ expressions_in rest)
+    ∙ ap (λ (n : ℕ). nodes p + n) (sum_by-cons nodes e (expressions_in rest))
+
 pub of_append : (xs ys : List Stmt) → nodes_in (xs ++ ys) ≡ nodes_in xs + nodes_in ys
 of_append xs ys = ap (sum_by nodes) (expressions_in_append xs ys) ∙ sum_by-append nodes (expressions_in xs) (expressions_in ys)
 
@@ -75,4 +85,4 @@ pub of_cleared : (b : Bool) → nodes_in (cleared b) ≡ 2
 of_cleared b = omega (arith, of_assign (var.Register reg.Orb) (literal_of false) (set_of reg.Nfc (literal_of b) ∷ []), of_literal false, of_nfc b)
 
 -- those of given statements, as a number
-pub ruleset counts = (of_assign, of_read, of_constant, of_unary, of_joined, of_convert, of_select, of_shift)
+pub ruleset counts = (of_assign, of_area_write, of_read, of_constant, of_unary, of_joined, of_convert, of_select, of_shift, of_area_read)

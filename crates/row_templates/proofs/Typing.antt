@@ -2,19 +2,18 @@
 use Rattle.std.proofs.Common.{◌≡◌, ℕ, zero, suc, ◌+◌, ◌-◌, ◌≤◌, ◌==◌, max, Bool, true, false, if◌then◌else◌, List, [], ◌∷◌, ◌++◌, length, Some, refl, sym, ap, subst, ◌∙◌, arith}
 use Rattle.std.specs.Prelude.{ℤ, All, nat_lt, slice_get}
 use Rattle.std.proofs.lemmas.List.Elements.{All-cons, All-nil}
+use Rattle.memory_areas.specs.Access.{is_byte_in, is_unaligned}
+use Rattle.memory_areas.specs.declared.place.AreaName.{AreaName}
 use Rattle.s7_base.specs.declared.register.Reg.{Reg}
 use Rattle.s7_base.specs.declared.register.Reg.TheVariants as reg
 use Rattle.s7_base.specs.declared.word.Width.{Width}
 use Rattle.s7_base.specs.declared.word.Width.TheVariants as width
-use Rattle.stl_tree.specs.Accepted.{IsOperand}
-use Rattle.stl_tree.specs.declared.program.Operand.{Operand}
-use Rattle.stl_tree.specs.declared.program.Operand.TheVariants as operand
 use Rattle.st_tree.specs.Values.{type_of_width}
 use Rattle.std.proofs.lemmas.Bool.Decides.{nat_tests}
 use Rattle.std.proofs.lemmas.Bool.{le-leb, ltb-false}
-use Rattle.st_tree.proofs.Equations.{canon_binary, canon_convert, canon_literal, canon_read, canon_select, canon_shift, canon_unary}
-use Rattle.st_tree.proofs.PartEquations.{calls_in_assign, expressions_in_assign, height_binary, height_convert, height_literal, height_read, height_select, height_shift, height_unary}
-use Rattle.st_tree.proofs.TypingEquations.{good_assign, nesting_assign, typed_binary, typed_convert, typed_literal, typed_read, typed_select, typed_shift, typed_unary}
+use Rattle.st_tree.proofs.Equations.{canon_area_read, canon_binary, canon_convert, canon_literal, canon_read, canon_select, canon_shift, canon_unary}
+use Rattle.st_tree.proofs.PartEquations.{calls_in_area_write, calls_in_assign, expressions_in_area_write, expressions_in_assign, height_area_read, height_binary, height_convert, height_literal, height_read, height_select, height_shift, height_unary}
+use Rattle.st_tree.proofs.TypingEquations.{good_area_write, good_assign, nesting_area_write, nesting_assign, typed_area_read, typed_binary, typed_convert, typed_literal, typed_read, typed_select, typed_shift, typed_unary}
 use Rattle.st_tree.specs.Depth.{deepest}
 use Rattle.st_tree.specs.Form.{Form, canon, group, infix_level, level, unary_form, wrap}
 use Rattle.st_tree.specs.Naming.{is_conversion}
@@ -36,7 +35,7 @@ use Rattle.st_tree.specs.declared.expr.Var.{Var}
 use Rattle.st_tree.specs.declared.expr.Var.TheVariants as var
 use Rattle.st_tree.specs.declared.program.Stmt.{Stmt}
 use Rattle.st_tree.specs.declared.program.Stmt.TheVariants as stmt
-use Rattle.row_templates.specs.Builders.{and_of, cleared, literal_of, local_of, not_of, or_of, read_of, set_local_of, set_of, variable_of, xor_of}
+use Rattle.row_templates.specs.Builders.{and_of, cleared, literal_of, local_of, not_of, or_of, read_of, set_local_of, set_of, xor_of}
 
 -- an expression is low
 abbrev pub IsLow : Expr → Type 0
@@ -133,16 +132,13 @@ module _ (sight : Sight) where
   literal_is true = constant_is refl
   literal_is false = constant_is refl
 
-  -- an operand is a place that a text may name
-  pub operand_typed : (o : Operand) (w : Width) → IsOperand w o → variable_type sight (variable_of o w) ≡ Some (type_of_width w)
-  operand_typed (operand.Direct a byte x) width.Bit h = rw (h.0, le-leb x 7 (ltb-false 7 x h.1)) refl
-  operand_typed (operand.Direct a byte x) width.Byte h = rw (h.0, no_bit x h.1) refl
-  operand_typed (operand.Direct a byte x) width.Word h = rw (h.0, no_bit x h.1) refl
-  operand_typed (operand.Direct a byte x) width.Dword h = rw (h.0, no_bit x h.1) refl
-  operand_typed (operand.Opened n byte x) width.Bit h = rw (h.1, le-leb x 7 (ltb-false 7 x h.2)) refl
-  operand_typed (operand.Opened n byte x) width.Byte h = rw (h.1, no_bit x h.2) refl
-  operand_typed (operand.Opened n byte x) width.Word h = rw (h.1, no_bit x h.2) refl
-  operand_typed (operand.Opened n byte x) width.Dword h = rw (h.1, no_bit x h.2) refl
+  -- a place that a text may name
+  pub direct_typed : (a : AreaName) (byte x : ℕ) (w : Width) → is_byte_in a w byte ≡ true → is_unaligned w x ≡ false
+      → variable_type sight (var.Direct a byte x w) ≡ Some (type_of_width w)
+  direct_typed a byte x width.Bit h k = rw (h, le-leb x 7 (ltb-false 7 x k)) refl
+  direct_typed a byte x width.Byte h k = rw (h, no_bit x k) refl
+  direct_typed a byte x width.Word h k = rw (h, no_bit x k) refl
+  direct_typed a byte x width.Dword h k = rw (h, no_bit x k) refl
 
   -- Operators and functions
 
@@ -229,6 +225,16 @@ module _ (sight : Sight) where
       let deep : form_nesting (canon (expr.Shift op e count)) ≡ suc (max (form_nesting (canon e)) (form_nesting (canon count))) = ap form_nesting (canon_shift op e count) in
       record { typed = typed_shift sight op e count ∙ (rw (h.typed, k.typed, t) refl); high = omega arith; tall = omega arith; deep = omega arith }
 
+  pub area_read_is : {n : ℕ} {e : Expr} (w : Width) → IsOf type.Dword n e → IsOf (type_of_width w) (1 + n) (expr.AreaRead w e)
+  area_read_is {n} {e} w h =
+      let e_high : height e ≤ n = h.high in
+      let e_tall : form_height (canon e) ≤ n = h.tall in
+      let e_deep : form_nesting (canon e) ≤ n = h.deep in
+      let high : height (expr.AreaRead w e) ≡ 1 + height e = height_area_read w e in
+      let tall : form_height (canon (expr.AreaRead w e)) ≡ suc (form_height (canon e)) = ap form_height (canon_area_read w e) in
+      let deep : form_nesting (canon (expr.AreaRead w e)) ≡ suc (form_nesting (canon e)) = ap form_nesting (canon_area_read w e) in
+      record { typed = typed_area_read sight w e ∙ (rw h.typed refl); high = omega arith; tall = omega arith; deep = omega arith }
+
   -- Statements
 
   -- a body that is well typed, nests no deeper than it may, has low expressions and calls nothing
@@ -252,6 +258,23 @@ module _ (sight : Sight) where
         low = omega (arith, nesting_assign v e, low, plain.low);
         high = subst (λ (es : List Expr). All IsLow es) (sym (expressions_in_assign v e rest)) (All-cons IsLow e (expressions_in rest) is_low plain.high);
         calls = calls_in_assign v e rest ∙ plain.calls;
+      }
+
+  pub area_written : {m n : ℕ} (w : Width) (p e : Expr) (rest : List Stmt) → m ≤ 32 → n ≤ 32 → IsOf type.Dword m p → IsOf (type_of_width w) n e
+      → IsPlainBody rest → IsPlainBody (stmt.AreaWrite w p e ∷ rest)
+  area_written {m} {n} w p e rest few small l k plain =
+      let p_high : height p ≤ m = l.high in
+      let p_low : form_nesting (canon p) ≤ m = l.deep in
+      let e_high : height e ≤ n = k.high in
+      let e_low : form_nesting (canon e) ≤ n = k.deep in
+      let p_is_low : IsLow p = omega arith in
+      let e_is_low : IsLow e = omega arith in
+      record {
+        typed = rw (good_area_write sight false w p e, l.typed, k.typed, same_type (type_of_width w)) plain.typed;
+        low = omega (arith, nesting_area_write w p e, p_low, e_low, plain.low);
+        high = subst (λ (es : List Expr). All IsLow es) (sym (expressions_in_area_write w p e rest))
+            (All-cons IsLow p (e ∷ expressions_in rest) p_is_low (All-cons IsLow e (expressions_in rest) e_is_low plain.high));
+        calls = calls_in_area_write w p e rest ∙ plain.calls;
       }
 
   pub set_plain : {n : ℕ} (r : Reg) (e : Expr) (rest : List Stmt) → n ≤ 32 → IsOf (type_of_register r) n e → IsPlainBody rest

@@ -1,12 +1,7 @@
 -- The parts of which the statements of instructions are made: expressions, and assignments to registers and locals.
 use Rattle.std.specs.Prelude.{ℕ, ℤ, pos, Bool, false, List, [], ◌∷◌, if◌then◌else◌}
-use Rattle.memory_areas.specs.declared.place.AreaName.TheVariants as area
 use Rattle.s7_base.specs.declared.register.Reg.{Reg}
 use Rattle.s7_base.specs.declared.register.Reg.TheVariants as reg
-use Rattle.s7_base.specs.declared.word.Width.{Width}
-use Rattle.s7_base.specs.declared.word.Width.TheVariants as width
-use Rattle.stl_tree.specs.declared.program.Operand.{Operand}
-use Rattle.stl_tree.specs.declared.program.Operand.TheVariants as operand
 use Rattle.st_tree.specs.declared.expr.StType.{StType}
 use Rattle.st_tree.specs.declared.expr.StType.TheVariants as type
 use Rattle.st_tree.specs.declared.expr.UnaryOp.{UnaryOp}
@@ -14,7 +9,6 @@ use Rattle.st_tree.specs.declared.expr.UnaryOp.TheVariants as unary
 use Rattle.st_tree.specs.declared.expr.BinaryOp.{BinaryOp}
 use Rattle.st_tree.specs.declared.expr.BinaryOp.TheVariants as binary
 use Rattle.st_tree.specs.declared.expr.ShiftOp.{ShiftOp}
-use Rattle.st_tree.specs.declared.expr.Var.{Var}
 use Rattle.st_tree.specs.declared.expr.Var.TheVariants as var
 use Rattle.st_tree.specs.declared.expr.Expr.{Expr}
 use Rattle.st_tree.specs.declared.expr.Expr.TheVariants as expr
@@ -78,15 +72,6 @@ shift_of op e count = expr.Shift op e count
 -- ACCU1 with a WORD for its low word
 abbrev pub with_low_of : Expr → Expr
 with_low_of word = or_of (and_of (read_of reg.Accu1) (constant_of type.Dword (pos 0xFFFF0000))) (convert_of type.Word type.Dword word)
-
--- an operand as a variable of a width
-abbrev pub variable_of : Operand → Width → Var
-variable_of (operand.Direct a byte bit) w = var.Direct a byte bit w
-variable_of (operand.Opened n byte bit) w = var.Direct area.Db byte bit w
-
--- the bit of an operand, as a variable
-abbrev pub bit_of : Operand → Var
-bit_of o = variable_of o width.Bit
 
 -- Statements
 

@@ -1,9 +1,10 @@
--- What may fault stands alone: an operand in a data block is read into a local of its own before the row that works
--- on it, and one that has the number of its data block opens that first.
-use Rattle.std.specs.Prelude.{ℕ, pos, Bool, true, false, if◌then◌else◌, List, [], ◌∷◌, ◌++◌}
+-- The way to an operand. What stands before an access to it opens its data block, or puts into a local the pointer that
+-- it is found by. What may fault is then read into a local of its own, before the row that works on it.
+use Rattle.std.specs.Prelude.{ℕ, ◌+◌, pos, Bool, true, false, if◌then◌else◌, List, [], ◌∷◌, ◌++◌, length}
 use Rattle.memory_areas.specs.declared.place.AreaName.TheVariants as area
 use Rattle.s7_base.specs.declared.register.Reg.TheVariants as reg
 use Rattle.s7_base.specs.declared.word.Width.{Width}
+use Rattle.s7_base.specs.declared.word.Width.TheVariants as width
 use Rattle.stl_tree.specs.declared.program.Operand.{Operand}
 use Rattle.stl_tree.specs.declared.program.Operand.TheVariants as operand
 use Rattle.st_tree.specs.Values.{type_of_width}
@@ -11,30 +12,68 @@ use Rattle.st_tree.specs.declared.expr.Expr.{Expr}
 use Rattle.st_tree.specs.declared.expr.Expr.TheVariants as expr
 use Rattle.st_tree.specs.declared.expr.StType.{StType}
 use Rattle.st_tree.specs.declared.expr.StType.TheVariants as type
+use Rattle.st_tree.specs.declared.expr.Var.TheVariants as var
 use Rattle.st_tree.specs.declared.program.Stmt.{Stmt}
-use Rattle.row_templates.specs.Builders.{constant_of, local_of, set_local_of, set_of, variable_of}
+use Rattle.st_tree.specs.declared.program.Stmt.TheVariants as stmt
+use Rattle.row_templates.specs.Builders.{constant_of, local_of, set_local_of, set_of}
+use Rattle.row_templates.specs.Pointing.{crossing_of, in_area_of, sum_of}
 
--- an access to an operand may fault: it lies in a data block
+-- Access
+
+-- what stands before an access to an operand, whose first local has this number
+abbrev pub reach_of : ℕ → Operand → List Stmt
+reach_of first (operand.Direct a byte bit) = []
+reach_of first (operand.Opened n byte bit) = set_of reg.DbNo (constant_of type.Word (pos n)) ∷ []
+reach_of first (operand.ByMemory a pointer_area byte) =
+    set_local_of first (expr.Read (var.Direct pointer_area byte 0 width.Dword))
+    ∷ set_local_of (first + 1) (in_area_of a (local_of first)) ∷ []
+reach_of first (operand.ByRegister a r offset) = set_local_of first (in_area_of a (sum_of r offset)) ∷ []
+reach_of first (operand.Crossing r offset) = set_local_of first (crossing_of r offset) ∷ []
+
+-- its locals
+abbrev pub types_reached : Operand → List StType
+types_reached (operand.Direct a byte bit) = []
+types_reached (operand.Opened n byte bit) = []
+types_reached (operand.ByMemory a pointer_area byte) = type.Dword ∷ type.Dword ∷ []
+types_reached (operand.ByRegister a r offset) = type.Dword ∷ []
+types_reached (operand.Crossing r offset) = type.Dword ∷ []
+
+-- the local with the pointer: the last one, where there are any
+abbrev pub pointer_local : ℕ → Operand → ℕ
+pointer_local first (operand.ByMemory a pointer_area byte) = first + 1
+pointer_local first o = first
+
+-- the operand, read
+abbrev pub reading_of : ℕ → Operand → Width → Expr
+reading_of first (operand.Direct a byte bit) w = expr.Read (var.Direct a byte bit w)
+reading_of first (operand.Opened n byte bit) w = expr.Read (var.Direct area.Db byte bit w)
+reading_of first o w = expr.AreaRead w (local_of (pointer_local first o))
+
+-- and written
+abbrev pub writing_of : ℕ → Operand → Width → Expr → Stmt
+writing_of first (operand.Direct a byte bit) w e = stmt.Assign (var.Direct a byte bit w) e
+writing_of first (operand.Opened n byte bit) w e = stmt.Assign (var.Direct area.Db byte bit w) e
+writing_of first o w e = stmt.AreaWrite w (local_of (pointer_local first o)) e
+
+-- Fetching
+
+-- an access to an operand may fault: it lies in a data block, or is found by a pointer
 abbrev pub may_fault : Operand → Bool
 may_fault (operand.Direct area.Db byte bit) = true
 may_fault (operand.Direct area.Di byte bit) = true
 may_fault (operand.Direct a byte bit) = false
-may_fault (operand.Opened n byte bit) = true
+may_fault other = true
 
--- an operand with the number of its data block opens it
-abbrev pub opened_of : Operand → List Stmt
-opened_of (operand.Direct a byte bit) = []
-opened_of (operand.Opened n byte bit) = set_of reg.DbNo (constant_of type.Word (pos n)) ∷ []
-
--- what stands before a row that reads an operand; the local of this number takes what may fault
+-- what stands before a row that reads an operand: the way to it, and what may fault is read into a local behind
 abbrev pub fetch_of : ℕ → Operand → Width → List Stmt
 fetch_of first o w =
-    opened_of o ++ (if may_fault o then set_local_of first (expr.Read (variable_of o w)) ∷ [] else [])
+    reach_of first o
+    ++ (if may_fault o then set_local_of (first + length (types_reached o)) (reading_of first o w) ∷ [] else [])
 
 -- the operand as the row reads it
 abbrev pub fetched_of : ℕ → Operand → Width → Expr
-fetched_of first o w = if may_fault o then local_of first else expr.Read (variable_of o w)
+fetched_of first o w = if may_fault o then local_of (first + length (types_reached o)) else reading_of first o w
 
 -- its locals
 abbrev pub types_fetched : Operand → Width → List StType
-types_fetched o w = if may_fault o then type_of_width w ∷ [] else []
+types_fetched o w = types_reached o ++ (if may_fault o then type_of_width w ∷ [] else [])

@@ -1,12 +1,10 @@
 //! Expressions and assignments.
 ghost use Rattle.std.specs.Prelude.{◌≡◌, ◌++◌, IfOk, OnOk};
-ghost use Rattle.row_templates.specs.Builders.{and_of, binary_of, bit_of, cleared, constant_of, convert_of, literal_of, local_of, not_of, or_of, read_of, select_of, set_local_of, set_of, shift_of, unary_of, variable_of, xor_of, with_low_of};
+ghost use Rattle.row_templates.specs.Builders.{and_of, binary_of, cleared, constant_of, convert_of, literal_of, local_of, not_of, or_of, read_of, select_of, set_local_of, set_of, shift_of, unary_of, xor_of, with_low_of};
 
-use memory_areas::AreaName;
-use s7_base::{Boxed, List, NoMemory, Reg, Width};
+use s7_base::{Boxed, List, NoMemory, Reg};
 use st_tree::{BinaryOp, Expr, ShiftOp, StType, Stmt, UnaryOp, Var};
 use std::alloc::Global;
-use stl_tree::Operand;
 
 /// A register, read.
 pub fn read(register: Reg) -> Expr
@@ -97,23 +95,6 @@ pub fn shift(alloc: Global, op: ShiftOp, operand: Expr, count: Expr) -> Result<E
     ensures { IfOk result (λ value. value ≡ shift_of op operand count) }
 {
     Ok(Expr::Shift(op, Boxed::new(alloc, operand)?, Boxed::new(alloc, count)?))
-}
-
-/// An operand as a variable of a width.
-pub fn variable(operand: &Operand, width: Width) -> Var
-    ensures { result ≡ variable_of operand.now width }
-{
-    match *operand {
-        Operand::Direct(area, byte, bit) => Var::Direct(area, byte, bit, width),
-        Operand::Opened(_, byte, bit) => Var::Direct(AreaName::Db, byte, bit, width),
-    }
-}
-
-/// The bit of an operand, as a variable.
-pub fn bit(operand: &Operand) -> Var
-    ensures { result ≡ bit_of operand.now }
-{
-    variable(operand, Width::Bit)
 }
 
 /// A register takes a value.

@@ -1,60 +1,163 @@
-//! Reading what may fault before a row: an operand in a data block is read into a local of its own.
-ghost use Rattle.std.specs.Prelude.{◌≡◌, [], ◌∷◌, ◌++◌, OnOk};
+//! The way to an operand. What may fault is read before a row, into a local of its own.
+ghost use Rattle.std.specs.Prelude.{◌≡◌, ℕ, ◌+◌, ◌^◌, ◌<◌, [], ◌∷◌, ◌++◌, IfOk, OnOk, length};
 ghost use Rattle.st_tree.specs.Values.{type_of_width};
-ghost use Rattle.row_templates.specs.Fetching.{fetch_of, fetched_of, may_fault, opened_of, types_fetched};
+ghost use Rattle.row_templates.specs.Fetching.{fetch_of, fetched_of, may_fault, pointer_local, reach_of, reading_of, types_fetched, types_reached, writing_of};
 
-use crate::builders::{constant, local, set, set_local, variable};
+use crate::builders::{constant, local, set, set_local};
+use crate::pointing::{crossing, in_area, sum};
 use memory_areas::AreaName;
-use s7_base::{List, NoMemory, Reg, Width};
-use st_tree::{Expr, StType, Stmt};
+use s7_base::{Boxed, List, NoMemory, Reg, Width};
+use st_tree::{Expr, StType, Stmt, Var};
+use std::alloc::Global;
 use stl_tree::Operand;
 
-/// An access to an operand may fault: it lies in a data block.
+/// An access to an operand may fault: it lies in a data block, or is found by a pointer.
 pub fn may_fault(operand: &Operand) -> bool
     ensures { result ≡ may_fault operand.now }
 {
     match *operand {
         Operand::Direct(area, _, _) => matches!(area, AreaName::Db | AreaName::Di),
-        Operand::Opened(_, _, _) => true,
+        _ => true,
     }
 }
 
-/// An operand with the number of its data block opens it.
-pub fn push_opened(steps: &mut List<Stmt>, operand: &Operand) -> Result<(), NoMemory>
-    ensures { OnOk result (steps.new ≡ steps.old ++ opened_of operand.now) }
+/// What stands before an access to an operand: its data block is opened, or a local takes its pointer.
+pub fn push_reach(
+    alloc: Global,
+    steps: &mut List<Stmt>,
+    first: u32,
+    operand: &Operand,
+) -> Result<(), NoMemory>
+    requires { first + 8 < 2 ^ 32 }
+    ensures { OnOk result (steps.new ≡ steps.old ++ reach_of first operand.now) }
 {
     match *operand {
         Operand::Direct(_, _, _) => Ok(()),
         Operand::Opened(number, _, _) => {
             steps.push(set(Reg::DbNo, constant(StType::Word, i64::from(number))))
         }
+        Operand::ByMemory(area, pointer_area, byte) => {
+            let pointer = Var::Direct(pointer_area, byte, 0, Width::Dword);
+            steps.push(set_local(first, Expr::Read(pointer)))?;
+            steps.push(set_local(first + 1, in_area(alloc, area, local(first))?))
+        }
+        Operand::ByRegister(area, ar, offset) => {
+            let total = sum(alloc, ar, offset)?;
+            steps.push(set_local(first, in_area(alloc, area, total)?))
+        }
+        Operand::Crossing(ar, offset) => steps.push(set_local(first, crossing(alloc, ar, offset)?)),
     }
 }
 
-/// What stands before a row that reads an operand; the local of this number takes what may fault.
+/// What stands before a row that reads an operand: what may fault is read into a local.
 pub fn push_fetch(
+    alloc: Global,
     steps: &mut List<Stmt>,
     first: u32,
     operand: &Operand,
     width: Width,
 ) -> Result<(), NoMemory>
+    requires { first + 8 < 2 ^ 32 }
     ensures { OnOk result (steps.new ≡ steps.old ++ fetch_of first operand.now width) }
 {
-    push_opened(steps, operand)?;
+    push_reach(alloc, steps, first, operand)?;
     if may_fault(operand) {
-        steps.push(set_local(first, Expr::Read(variable(operand, width))))?;
+        let value = reading(alloc, first, operand, width)?;
+        steps.push(set_local(behind_reached(first, operand), value))?;
     }
     Ok(())
 }
 
 /// The operand as the row reads it.
 pub fn fetched(first: u32, operand: &Operand, width: Width) -> Expr
+    requires { first + 8 < 2 ^ 32 }
     ensures { result ≡ fetched_of first operand.now width }
 {
-    if may_fault(operand) {
-        local(first)
-    } else {
-        Expr::Read(variable(operand, width))
+    match *operand {
+        Operand::Direct(area, byte, bit) if !may_fault(operand) => {
+            Expr::Read(Var::Direct(area, byte, bit, width))
+        }
+        _ => local(behind_reached(first, operand)),
+    }
+}
+
+/// An operand that was reached, read.
+pub fn reading(alloc: Global, first: u32, operand: &Operand, width: Width) -> Result<Expr, NoMemory>
+    requires { first + 8 < 2 ^ 32 }
+    ensures { IfOk result (λ value. value ≡ reading_of first operand.now width) }
+{
+    match *operand {
+        Operand::Direct(area, byte, bit) => Ok(Expr::Read(Var::Direct(area, byte, bit, width))),
+        Operand::Opened(_, byte, bit) => {
+            Ok(Expr::Read(Var::Direct(AreaName::Db, byte, bit, width)))
+        }
+        _ => {
+            let pointer = local(pointer_local(first, operand));
+            Ok(Expr::AreaRead(width, Boxed::new(alloc, pointer)?))
+        }
+    }
+}
+
+/// An operand that was reached takes a value.
+pub fn writing(
+    alloc: Global,
+    first: u32,
+    operand: &Operand,
+    width: Width,
+    value: Expr,
+) -> Result<Stmt, NoMemory>
+    requires { first + 8 < 2 ^ 32 }
+    ensures { IfOk result (λ step. step ≡ writing_of first operand.now width value) }
+{
+    match *operand {
+        Operand::Direct(area, byte, bit) => {
+            Ok(Stmt::Assign(Var::Direct(area, byte, bit, width), value))
+        }
+        Operand::Opened(_, byte, bit) => {
+            Ok(Stmt::Assign(Var::Direct(AreaName::Db, byte, bit, width), value))
+        }
+        _ => {
+            let pointer = local(pointer_local(first, operand));
+            Ok(Stmt::AreaWrite(
+                width,
+                Boxed::new(alloc, pointer)?,
+                Boxed::new(alloc, value)?,
+            ))
+        }
+    }
+}
+
+/// The local with the pointer: the last one, where there are any.
+fn pointer_local(first: u32, operand: &Operand) -> u32
+    requires { first + 8 < 2 ^ 32 }
+    ensures { result ≡ pointer_local first operand.now }
+{
+    match *operand {
+        Operand::ByMemory(_, _, _) => first + 1,
+        _ => first,
+    }
+}
+
+/// The local behind those of the way to an operand.
+fn behind_reached(first: u32, operand: &Operand) -> u32
+    requires { first + 8 < 2 ^ 32 }
+    ensures { result ≡ first + length (types_reached operand.now) }
+{
+    match *operand {
+        Operand::Direct(_, _, _) | Operand::Opened(_, _, _) => first,
+        Operand::ByMemory(_, _, _) => first + 2,
+        Operand::ByRegister(_, _, _) | Operand::Crossing(_, _) => first + 1,
+    }
+}
+
+/// The locals of the way to an operand.
+pub fn types_reached(operand: &Operand) -> &'static [StType]
+    ensures { result.now ≡ types_reached operand.now }
+{
+    match *operand {
+        Operand::Direct(_, _, _) | Operand::Opened(_, _, _) => &[],
+        Operand::ByMemory(_, _, _) => &[StType::Dword, StType::Dword],
+        Operand::ByRegister(_, _, _) | Operand::Crossing(_, _) => &[StType::Dword],
     }
 }
 
@@ -62,15 +165,18 @@ pub fn fetched(first: u32, operand: &Operand, width: Width) -> Expr
 pub fn types_fetched(operand: &Operand, width: Width) -> &'static [StType]
     ensures { result.now ≡ types_fetched operand.now width }
 {
-    if may_fault(operand) {
-        local_of_width(width)
-    } else {
-        &[]
+    if !may_fault(operand) {
+        return &[];
+    }
+    match *operand {
+        Operand::Direct(_, _, _) | Operand::Opened(_, _, _) => one_of_width(width),
+        Operand::ByMemory(_, _, _) => third_of_width(width),
+        Operand::ByRegister(_, _, _) | Operand::Crossing(_, _) => second_of_width(width),
     }
 }
 
 /// One local of a width.
-fn local_of_width(width: Width) -> &'static [StType]
+fn one_of_width(width: Width) -> &'static [StType]
     ensures { result.now ≡ type_of_width width ∷ [] }
 {
     match width {
@@ -78,5 +184,29 @@ fn local_of_width(width: Width) -> &'static [StType]
         Width::Byte => &[StType::Byte],
         Width::Word => &[StType::Word],
         Width::Dword => &[StType::Dword],
+    }
+}
+
+/// One behind a pointer.
+fn second_of_width(width: Width) -> &'static [StType]
+    ensures { result.now ≡ StType.Dword ∷ type_of_width width ∷ [] }
+{
+    match width {
+        Width::Bit => &[StType::Dword, StType::Bool],
+        Width::Byte => &[StType::Dword, StType::Byte],
+        Width::Word => &[StType::Dword, StType::Word],
+        Width::Dword => &[StType::Dword, StType::Dword],
+    }
+}
+
+/// One behind two pointers.
+fn third_of_width(width: Width) -> &'static [StType]
+    ensures { result.now ≡ StType.Dword ∷ StType.Dword ∷ type_of_width width ∷ [] }
+{
+    match width {
+        Width::Bit => &[StType::Dword, StType::Dword, StType::Bool],
+        Width::Byte => &[StType::Dword, StType::Dword, StType::Byte],
+        Width::Word => &[StType::Dword, StType::Dword, StType::Word],
+        Width::Dword => &[StType::Dword, StType::Dword, StType::Dword],
     }
 }

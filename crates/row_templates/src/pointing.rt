@@ -1,0 +1,73 @@
+//! Pointers as a row takes them: with the code of its operand's area put in, or with that of an address register.
+ghost use Rattle.std.specs.Prelude.{◌≡◌, ◌<◌, IfOk};
+ghost use Rattle.stl_tree.specs.AddressRegisters.{code_of};
+ghost use Rattle.stl_tree.specs.Reads.{register_of};
+ghost use Rattle.row_templates.specs.Pointing.{crossing_of, in_area_of, place_in_of, sum_of};
+
+use crate::builders::{and, binary, constant, convert, or, read};
+use memory_areas::AreaName;
+use s7_base::{NoMemory, Reg};
+use st_tree::{BinaryOp, Expr, StType};
+use std::alloc::Global;
+use stl_tree::Ar;
+
+/// The register variable of an address register.
+pub fn register_of(ar: Ar) -> Reg
+    ensures { result ≡ register_of ar }
+{
+    match ar {
+        Ar::One => Reg::Ar1,
+        Ar::Two => Reg::Ar2,
+    }
+}
+
+/// A pointer with the code of an area in the place of its own.
+pub fn in_area(alloc: Global, area: AreaName, pointer: Expr) -> Result<Expr, NoMemory>
+    ensures { IfOk result (λ value. value ≡ in_area_of area pointer) }
+{
+    let place = place_in(alloc, pointer)?;
+    let code = i64::from(code_of(area) * 0x0100_0000);
+    or(alloc, place, constant(StType::Dword, code))
+}
+
+/// An address register and an offset, added.
+pub fn sum(alloc: Global, ar: Ar, offset: u32) -> Result<Expr, NoMemory>
+    ensures { IfOk result (λ value. value ≡ sum_of ar offset) }
+{
+    let number = convert(alloc, StType::Dword, StType::Dint, read(register_of(ar)))?;
+    let added = constant(StType::Dint, i64::from(offset));
+    let total = binary(alloc, BinaryOp::Add, number, added)?;
+    convert(alloc, StType::Dint, StType::Dword, total)
+}
+
+/// An address register with an offset added to its byte and bit number alone.
+pub fn crossing(alloc: Global, ar: Ar, offset: u32) -> Result<Expr, NoMemory>
+    ensures { IfOk result (λ value. value ≡ crossing_of ar offset) }
+{
+    let mask = constant(StType::Dword, 0xFFF8_0000);
+    let above = and(alloc, read(register_of(ar)), mask)?;
+    let total = sum(alloc, ar, offset)?;
+    or(alloc, above, place_in(alloc, total)?)
+}
+
+/// The byte and bit number of a pointer.
+fn place_in(alloc: Global, pointer: Expr) -> Result<Expr, NoMemory>
+    ensures { IfOk result (λ value. value ≡ place_in_of pointer) }
+{
+    and(alloc, pointer, constant(StType::Dword, 0x0007_FFFF))
+}
+
+/// The code of an area in a pointer.
+fn code_of(area: AreaName) -> u32
+    ensures code { result ≡ code_of area }
+    ensures small { result < 256 }
+{
+    match area {
+        AreaName::I => 0x81,
+        AreaName::Q => 0x82,
+        AreaName::M => 0x83,
+        AreaName::Db => 0x84,
+        AreaName::Di => 0x85,
+        AreaName::L => 0x86,
+    }
+}
