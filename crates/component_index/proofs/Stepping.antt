@@ -13,7 +13,7 @@ use Rattle.stl_rules.specs.Extents.{elements_in, end_of, end_of_all, extent_of, 
 use Rattle.stl_rules.specs.declared.laid.Extent.{Extent}
 use Rattle.stl_rules.specs.Paths.{Placed, element_at, named_behind, stepped, stepped_in}
 use Rattle.stl_rules.proofs.Ends.{whole}
-use Rattle.symbol_layout.proofs.Equations.{extent_array, extent_struct, step_array, step_struct}
+use Rattle.stl_rules.proofs.Equations.{extent_array, extent_struct, step_array, step_struct}
 use Rattle.symbol_layout.specs.Kept.{capped, capped_placed}
 use Rattle.component_index.specs.declared.scope.Entry.{Entry}
 use Rattle.component_index.specs.declared.scope.Scope.{Scope}
