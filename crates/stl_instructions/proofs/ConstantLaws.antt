@@ -14,7 +14,7 @@ use Rattle.s7_base.specs.declared.word.Width.TheVariants as width
 use Rattle.stl_tree.specs.Accumulators.{bits_wide}
 use Rattle.stl_statements.specs.ConstantForms.{IsAddend, IsAmong, IsBehind, IsConstant, IsHex, IsNumberIn, IsPair, IsPrefixed, IsSigned, IsUpTo}
 use Rattle.stl_statements.specs.ConstantForms as form
-use Rattle.stl_statements.specs.Constants.{Prefixed, addend_at, addend_prefixes, begins_real, is_real, behind_prefix, binary, binary_behind, binary_of, constant, constant_at, four_behind, four_bytes, half, has_prefix, hex_behind, hex_of, left_out_prefixes, long_behind, marked_at, name_behind, negative, negative_behind, number_at, pair_of, plain, plain_at, prefixed_at, prefixed_by, prefixes, real_at, signed_at, text_at, text_in, text_of, two_behind, two_bytes, up_to, with_byte, zero_behind}
+use Rattle.stl_statements.specs.Constants.{Prefixed, addend_at, addend_prefixes, begins_real, is_real, behind_prefix, binary, binary_behind, binary_of, constant, constant_at, four_behind, four_bytes, half, has_prefix, hex_behind, hex_of, left_out_prefixes, long_behind, marked_at, name_behind, negative, negative_behind, number_at, pair_of, plain, plain_at, prefixed, prefixed_at, prefixed_by, prefixes, real_at, signed_at, text_at, text_in, text_of, two_behind, two_bytes, up_to, with_byte, zero_behind}
 use Rattle.stl_statements.specs.Numbers.{are_digits, bits_of, hex_number, number_of}
 use Rattle.stl_statements.specs.Readers.{fitting, number_in, read_as}
 use Rattle.stl_statements.specs.Words.{is_joined, is_joined_word, is_sign, is_text_kind, is_word, is_word_kind}
@@ -240,6 +240,11 @@ none_prefixed tokens c (form.behind table row first hash rest k among word joine
     let clash : true ≡ false = sym (no_form row.what rest k is) ∙ none in
     absurd cc
 
+-- a constant that is left out has no form
+pub left_out_marked_all : (tokens : List Token) (P : Constant → Type 0) → AllOf (length tokens) P (marked_at left_out_prefixes tokens)
+left_out_marked_all tokens P =
+    weaker (length tokens) (IsPrefixed left_out_prefixes tokens) P (λ c is. absurd (none_prefixed tokens c is)) (marked_at left_out_prefixes tokens) (marked_all left_out_prefixes tokens)
+
 up_to_is : (most : ℕ) (sign : Token) (rest : List Token) → is_sign (codes "-") sign ≡ true → (n : ℕ) → zero_behind rest ≡ Some n → 2 ≡ length (sign ∷ rest) → IsUpTo most (sign ∷ rest) n
 up_to_is most sign [] minus n e size = absurd cc
 up_to_is most sign (zero ∷ next ∷ rest) minus n e size = absurd (omega (arith, size))
@@ -262,7 +267,7 @@ up_to_all most (first ∷ rest) = by (is_sign (codes "-") first) refl
 pub number_all : (most : ℕ) (tokens : List Token) (P : Constant → Type 0) → ((n : ℕ) → IsUpTo most tokens n → P (plain n)) → AllOf (length tokens) P (number_at most tokens)
 number_all most tokens P make =
     or_all (length tokens) P (marked_at left_out_prefixes tokens) _
-    (weaker (length tokens) (IsPrefixed left_out_prefixes tokens) P (λ c is. absurd (none_prefixed tokens c is)) (marked_at left_out_prefixes tokens) (marked_all left_out_prefixes tokens))
+    (left_out_marked_all tokens P)
     (as_all (length tokens) plain (IsUpTo most tokens) P make (up_to most tokens) (up_to_all most tokens))
 
 -- From a form to what is read of it
@@ -367,20 +372,25 @@ prefixed_read table tokens c apart (form.behind t row first hash rest k among wo
 marked_read : (table : List Prefixed) (tokens : List Token) (c : Constant) → are_apart table ≡ true → IsPrefixed table tokens c → marked_at table tokens ≡ Fits c (length tokens)
 marked_read table tokens c apart is = or_this (prefixed_at table tokens) (real_at tokens) c (length tokens) (prefixed_read table tokens c apart is)
 
--- tokens of a number or of a place, on which no mark is: one word, a sign and a word, two words, or a word that is
--- no number before a point
+-- tokens of a number, of a place or of an operand with a bracket, on which no mark is: one word, a sign and a word, two
+-- words, a word that is no number before a point, a bracket, or a word before one
 pub data AreUnmarked : List Token → Type 0 where
   one : (word : Token) → is_word_kind word.kind ≡ true → AreUnmarked (word ∷ [])
   signed : (sign word : Token) → is_sign (codes "-") sign ≡ true → is_word_kind word.kind ≡ true → AreUnmarked (sign ∷ word ∷ [])
   two : (first word : Token) (rest : List Token) → is_word_kind first.kind ≡ true → is_word_kind word.kind ≡ true → AreUnmarked (first ∷ word ∷ rest)
   pointed : (first point : Token) (rest : List Token) → is_word_kind first.kind ≡ true → are_digits first.text ≡ false → is_sign (codes ".") point ≡ true →
       AreUnmarked (first ∷ point ∷ rest)
+  bracket : (first : Token) (rest : List Token) → is_sign (codes "[") first ≡ true → AreUnmarked (first ∷ rest)
+  before_bracket : (first before : Token) (rest : List Token) → is_word_kind first.kind ≡ true → is_sign (codes "[") before ≡ true → AreUnmarked (first ∷ before ∷ rest)
 
 no_prefix : (tokens : List Token) → AreUnmarked tokens → (row : Prefixed) → has_prefix tokens row ≡ false
 no_prefix tokens (one word w) row = refl
 no_prefix tokens (signed sign word minus w) row = and_right _ _ (and_left _ _ (no_sign (codes "#") word w))
 no_prefix tokens (two first word rest f w) row = and_right _ _ (and_left _ _ (no_sign (codes "#") word w))
 no_prefix tokens (pointed first point rest f d at) row = and_right _ _ (and_left _ _ (other_sign (codes ".") (codes "#") point at refl))
+no_prefix tokens (bracket first [] sign) row = refl
+no_prefix tokens (bracket first (hash ∷ rest) sign) row = and_left _ _ (and_left _ _ (no_word (codes "[") first sign))
+no_prefix tokens (before_bracket first before rest w sign) row = and_right _ _ (and_left _ _ (other_sign (codes "[") (codes "#") before sign refl))
 
 -- two words are no number before a point, nor is a word that is no number
 no_whole : (first point : Token) (rest : List Token) → (is_word_kind first.kind && are_digits first.text && is_joined (codes ".") point) ≡ false → is_real (first ∷ point ∷ rest) ≡ false
@@ -394,6 +404,13 @@ no_real tokens (two first word rest f w) =
     if_false (is_sign (codes "-") first) _ _ (no_sign (codes "-") first f) ∙ no_whole first word rest (and_right _ _ (and_left _ _ (no_sign (codes ".") word w)))
 no_real tokens (pointed first point rest f d at) =
     if_false (is_sign (codes "-") first) _ _ (no_sign (codes "-") first f) ∙ no_whole first point rest (and_left _ _ (and_right _ _ d))
+no_real tokens (bracket first [] sign) = if_false (is_sign (codes "-") first) _ _ (other_sign (codes "[") (codes "-") first sign refl)
+no_real tokens (bracket first (point ∷ rest) sign) =
+    if_false (is_sign (codes "-") first) _ _ (other_sign (codes "[") (codes "-") first sign refl)
+    ∙ no_whole first point rest (and_left _ _ (and_left _ _ (no_word (codes "[") first sign)))
+no_real tokens (before_bracket first before rest w sign) =
+    if_false (is_sign (codes "-") first) _ _ (no_sign (codes "-") first w)
+    ∙ no_whole first before rest (and_right _ _ (and_left _ _ (other_sign (codes "[") (codes ".") before sign refl)))
 
 pub no_mark : (table : List Prefixed) (tokens : List Token) → AreUnmarked tokens → marked_at table tokens ≡ No
 no_mark table tokens are =
@@ -408,6 +425,8 @@ unmarked_no_text tokens (one word w) = no_text word [] (word_no_text word w)
 unmarked_no_text tokens (signed sign word minus w) = no_text sign (word ∷ []) (sign_no_text (codes "-") sign minus)
 unmarked_no_text tokens (two first word rest f w) = no_text first (word ∷ rest) (word_no_text first f)
 unmarked_no_text tokens (pointed first point rest f d at) = no_text first (point ∷ rest) (word_no_text first f)
+unmarked_no_text tokens (bracket first rest sign) = no_text first rest (sign_no_text (codes "[") first sign)
+unmarked_no_text tokens (before_bracket first before rest w sign) = no_text first (before ∷ rest) (word_no_text first w)
 
 signed_unmarked : (w : Width) (tokens : List Token) (v : ℕ) → IsSigned w tokens v → AreUnmarked tokens
 signed_unmarked w tokens v (form.positive u word n is) = one word is.kind
@@ -467,20 +486,31 @@ pub record IsNoConstant (word : List ℕ) : Type 0 where
   pub other : list_any (λ (r : Prefixed). is_same_word word r.word) prefixes ≡ false
 
 -- a number begins with a digit
-digit_no_word : (most : ℕ) (text : List ℕ) (n : ℕ) (word : List ℕ) → number_of most text ≡ Some n → starts_late (str_to_ascii_lowercase word) ≡ true → is_same_word text word ≡ false
-digit_no_word most [] n word e letter = absurd cc
-digit_no_word most (c ∷ cs) n word e letter = by (is_same_word (c ∷ cs) word) refl
+
+late_no_digit : (c : ℕ) → nat_le 58 (to_ascii_lowercase c) ≡ true → is_between 48 57 c ≡ false
+late_no_digit c late = by (is_between 48 57 c) refl
   where
-    by : (b : Bool) → is_same_word (c ∷ cs) word ≡ b → b ≡ false
-    by true s =
-        let t = taken (is_between 48 57 c && nat_le (0 * 10 + (c - 48)) most) _ n e in
-        let p = and_parts (is_between 48 57 c) _ t.0 in
-        let q = and_parts (nat_le 48 c) (nat_le c 57) p.0 in
-        let low : c ≤ 57 = leb-true c 57 q.1 in
+    by : (b : Bool) → is_between 48 57 c ≡ b → b ≡ false
+    by true t =
+        let p = and_parts (nat_le 48 c) (nat_le c 57) t in
+        let low : c ≤ 57 = leb-true c 57 p.1 in
         let same : to_ascii_lowercase c ≡ c = (lowercase_is c).1 (omega (arith, low)) in
-        let late : nat_le 58 (to_ascii_lowercase c) ≡ true = ap starts_late (same_letters (c ∷ cs) word s) ∙ letter in
         let high : 58 ≤ c = leb-true 58 c (ap (λ (d : ℕ). nat_le 58 d) (sym same) ∙ late) in
         absurd (omega (arith, low, high))
+    by false t = refl
+
+pub late_no_number : (most : ℕ) (text : List ℕ) → starts_late (str_to_ascii_lowercase text) ≡ true → number_of most text ≡ None
+late_no_number most [] late = absurd cc
+late_no_number most (c ∷ cs) late = if_false (is_between 48 57 c && nat_le (0 * 10 + (c - 48)) most) _ None (and_left _ _ (late_no_digit c late))
+
+digit_no_word : (most : ℕ) (text : List ℕ) (n : ℕ) (word : List ℕ) → number_of most text ≡ Some n → starts_late (str_to_ascii_lowercase word) ≡ true → is_same_word text word ≡ false
+digit_no_word most text n word e letter = by (is_same_word text word) refl
+  where
+    by : (b : Bool) → is_same_word text word ≡ b → b ≡ false
+    by true s =
+        let none : number_of most text ≡ None = late_no_number most text (ap starts_late (same_letters text word s) ∙ letter) in
+        let clash : Some n ≡ None = sym e ∙ none in
+        absurd cc
     by false s = refl
 
 signed_no_word : (w : Width) (tokens : List Token) (v : ℕ) (word : List ℕ) → IsSigned w tokens v → starts_late (str_to_ascii_lowercase word) ≡ true → word_is word tokens ≡ false
@@ -508,3 +538,39 @@ constant_there tokens c is e = by tokens e (constant_read tokens c is)
 pub up_to_there : (most : ℕ) (tokens : List Token) (n : ℕ) → IsUpTo most tokens n → tokens ≡ [] → ⊥
 up_to_there most tokens n (form.unsigned m word k is) e = absurd cc
 up_to_there most tokens n (form.minus_zero m sign zero k minus glued is) e = absurd cc
+
+-- a pointer constant is no other constant
+
+-- a word that begins with a letter is no plain number
+pub plain_none : (first : Token) (rest : List Token) → is_sign (codes "-") first ≡ false → (is_word_kind first.kind ≡ true → starts_late (str_to_ascii_lowercase first.text) ≡ true) →
+    plain_at (first ∷ rest) ≡ No
+plain_none first rest no_minus letter = ap (read_as plain) (if_false (is_sign (codes "-") first) _ _ no_minus ∙ ap (fitting 1) (by (is_word_kind first.kind) refl))
+  where
+    by : (b : Bool) → is_word_kind first.kind ≡ b → (if b then number_of 32767 first.text else None) ≡ None
+    by true kind = late_no_number 32767 first.text (letter kind)
+    by false kind = refl
+
+-- behind `P#` only another `#` is left out
+pub pointer_no_mark : (table : List Prefixed) (word hash : Token) (rest : List Token) → are_apart table ≡ true → IsAmong (prefixed prefix.Pointer (codes "P")) table →
+    is_word (codes "P") word ≡ true → is_joined (codes "#") hash ≡ true → name_behind rest ≡ No → marked_at table (word ∷ hash ∷ rest) ≡ No
+pointer_no_mark table word hash rest apart among is joined none =
+    let kind = (and_parts (is_word_kind word.kind) (is_same_word word.text (codes "P")) is).0 in
+    let no_point : is_joined (codes ".") hash ≡ false = and_left _ _ (other_sign (codes "#") (codes ".") hash (joined_sign (codes "#") hash joined) refl) in
+    or_no (prefixed_at table (word ∷ hash ∷ rest)) (real_at (word ∷ hash ∷ rest))
+    (ap (λ (o : Option Prefixed). prefixed_by o (word ∷ hash ∷ rest))
+    (row_found table (prefixed prefix.Pointer (codes "P")) (word ∷ hash ∷ rest) apart among (and_from _ _ is joined))
+    ∙ none)
+    ∙ if_false (begins_real (word ∷ hash ∷ rest)) _ No
+    (if_false (is_sign (codes "-") word) _ _ (no_sign (codes "-") word kind) ∙ no_whole word hash rest (and_right _ _ no_point))
+
+pub pointer_no_constant : (word hash : Token) (rest : List Token) → is_word (codes "P") word ≡ true → is_joined (codes "#") hash ≡ true → name_behind rest ≡ No →
+    constant_at (word ∷ hash ∷ rest) ≡ No
+pointer_no_constant word hash rest is joined none =
+    let p = and_parts (is_word_kind word.kind) (is_same_word word.text (codes "P")) is in
+    or_no (text_at (word ∷ hash ∷ rest)) _ (no_text word (hash ∷ rest) (word_no_text word p.0))
+    ∙ or_no (marked_at prefixes (word ∷ hash ∷ rest)) _ (pointer_no_mark prefixes word hash rest refl (inr (inr (inr (inr (inr (inr (inl refl))))))) is joined none)
+    ∙ plain_none word (hash ∷ rest) (no_sign (codes "-") word p.0) (λ kind. ap starts_late (same_letters word.text (codes "P") p.1))
+
+pub pointer_no_left_out : (word hash : Token) (rest : List Token) → is_word (codes "P") word ≡ true → is_joined (codes "#") hash ≡ true → name_behind rest ≡ No →
+    marked_at left_out_prefixes (word ∷ hash ∷ rest) ≡ No
+pointer_no_left_out word hash rest is joined none = pointer_no_mark left_out_prefixes word hash rest refl (inr (inl refl)) is joined none

@@ -14,28 +14,36 @@ use Rattle.s7_base.specs.declared.token.Token.{Token}
 use Rattle.status_word.specs.declared.test.Test.{Test}
 use Rattle.status_word.specs.declared.test.Test.TheVariants as test
 use Rattle.stl_statements.specs.ConstantForms.{IsAddend, IsConstant, IsUpTo}
-use Rattle.stl_statements.specs.Constants.{addend_at, constant_at, number_at, plain}
-use Rattle.stl_statements.specs.InstructionForms.{IsLocated, IsOpened, IsStatusOperand, flag, compared, IsOperand, IsInstruction, instruction, InstructionsHaveForms}
+use Rattle.stl_statements.specs.Constants.{Prefixed, addend_at, begins_glued, constant_at, left_out_prefixes, marked_at, number_at, plain}
+use Rattle.stl_statements.specs.InstructionForms.{IsLocated, IsOpened, IsPlaced, IsStatusOperand, flag, compared, IsOperand, IsInstruction, instruction, InstructionsHaveForms}
 use Rattle.stl_statements.specs.InstructionForms as form
 use Rattle.stl_statements.specs.Mnemonics.{Row, goes_on, mnemonic_at}
+use Rattle.stl_statements.specs.PathForms.{IsNamed}
 use Rattle.stl_statements.specs.PlaceForms.{IsPlace}
+use Rattle.stl_statements.specs.PointerForms.{IsOffsetConstant, IsPointerConstant}
+use Rattle.stl_statements.specs.Pointers.{behind_hash, offset_at, pointer_at, pointer_behind}
 use Rattle.stl_statements.specs.Readers.{read_as}
-use Rattle.stl_statements.specs.Statements.{asked_by, begins_with_label, block_number_at, checked_at, first_of, instr_with, instruction_of, is_asked, left_out_at, length_at, loaded_at, located_at, name_of, nothing_at, on_line, opened_at, operand_by, operand_of, or_nothing, second_of, shape_of, size_with, statement, status_at, stored_at, stw_at, tests, timers_and_counters, with_mnemonic, with_operand}
-use Rattle.stl_statements.specs.Words.{is_sign, is_sign_kind, is_spelled, is_word, is_word_kind}
+use Rattle.stl_statements.specs.Statements.{any_constant_at, asked_by, begins_with_label, block_number_at, checked_at, first_of, instr_with, instruction_of, is_asked, left_out_at, length_at, loaded_at, located_at, name_of, nothing_at, on_line, opened_at, operand_by, operand_of, or_nothing, other_at, placed_at, pointer_alone_at, pointer_loaded_at, pointer_stored_at, second_of, shape_of, size_with, statement, status_at, stored_at, stw_at, tests, timers_and_counters, with_mnemonic, with_operand}
+use Rattle.stl_statements.specs.Words.{is_joined, is_sign, is_sign_kind, is_spelled, is_word, is_word_kind}
 use Rattle.stl_statements.specs.declared.mnemonic.Read.{Read}
 use Rattle.stl_statements.specs.declared.mnemonic.Read.TheVariants.{Fits, LeftOut, No}
 use Rattle.stl_statements.specs.declared.mnemonic.Shape.{Shape}
 use Rattle.stl_statements.specs.declared.mnemonic.Shape.TheVariants as shape
+use Rattle.stl_tree.specs.declared.program.Ar.{Ar}
+use Rattle.stl_tree.specs.declared.program.Ar.TheVariants as ar
 use Rattle.stl_tree.specs.declared.raw.Constant.{Constant as Literal}
 use Rattle.stl_tree.specs.declared.raw.RawInstr.{RawInstr}
 use Rattle.stl_tree.specs.declared.raw.RawOp.{RawOp}
 use Rattle.stl_tree.specs.declared.raw.RawOperand.{RawOperand}
-use Rattle.stl_tree.specs.declared.raw.RawOperand.TheVariants.{At, Constant, DbNo, DiNo, Flag, Missing, Stw}
+use Rattle.stl_tree.specs.declared.raw.RawOperand.TheVariants.{At, Constant, DbNo, DiNo, Flag, Missing, OtherAr, Pointer, Stw}
 use Rattle.stl_tree.specs.declared.raw.RawPlace.{RawPlace}
-use Rattle.stl_instructions.proofs.ConstantLaws.{addend_all, addend_read, constant_all, constant_no_word, constant_read, constant_there, number_all, number_at_read, up_to_there, word_is}
-use Rattle.stl_instructions.proofs.NameLaws.{located_all, located_read, named_no_constant, named_no_word, named_not_asked, named_there, opened_all, opened_read}
+use Rattle.stl_tree.specs.declared.raw.RawPointer.{RawPointer}
+use Rattle.stl_instructions.proofs.BracketTokens.{IsBracketed, bracketed_no_constant, bracketed_no_text, bracketed_no_word, bracketed_there, bracketed_unmarked, crossing_bracketed, indirect_bracketed, is_opening}
+use Rattle.stl_instructions.proofs.ConstantLaws.{addend_all, addend_read, constant_all, constant_no_word, constant_read, constant_there, left_out_marked_all, no_mark, number_all, number_at_read, pointer_no_constant, pointer_no_left_out, up_to_there, word_is}
+use Rattle.stl_instructions.proofs.NameLaws.{located_all, located_read, named_no_constant, named_no_mark, named_no_word, named_not_asked, named_there, opened_all, opened_read, placed_as, placed_read}
 use Rattle.stl_instructions.proofs.PlaceLaws.{left_out_all}
-use Rattle.stl_instructions.proofs.PlaceTokens.{IsNoPlace, place_no_constant, place_no_text, place_no_word, place_there, text_is}
+use Rattle.stl_instructions.proofs.PlaceTokens.{IsNoPlace, place_no_constant, place_no_register, place_no_text, place_no_word, place_there, place_unmarked, text_is}
+use Rattle.stl_instructions.proofs.PointerLaws.{Hashed, offset_all, offset_at_read, offset_hashed, pointer_all, pointer_at_read, pointer_hashed}
 use Rattle.stl_instructions.proofs.Reading.{AllOf, as_all, if_false, if_true, or_all, or_no, or_this, other_word, same_letters, weaker}
 use Rattle.stl_instructions.proofs.Tables.{none_found}
 
@@ -163,12 +171,54 @@ constant_as : (tokens : List Token) (P : RawOperand → Type 0) (Q : Literal →
     AllOf (length tokens) P (read_as Constant r)
 constant_as tokens P Q make r h = as_all (length tokens) Constant Q P make r h
 
+-- a constant, or a pointer
+any_constant_all : (tokens : List Token) (P : RawOperand → Type 0) → ((c : Literal) → IsConstant tokens c → P (Constant c)) →
+    ((p : RawPointer) → IsPointerConstant tokens p → P (Pointer p)) → AllOf (length tokens) P (any_constant_at tokens)
+any_constant_all tokens P made pointed =
+    or_all (length tokens) P (read_as Constant (constant_at tokens)) (read_as Pointer (pointer_at tokens))
+    (constant_as tokens P (IsConstant tokens) made (constant_at tokens) (constant_all tokens))
+    (as_all (length tokens) Pointer (IsPointerConstant tokens) P pointed (pointer_at tokens) (pointer_all tokens))
+
+-- a pointer where no other constant may stand
+pointer_alone_all : (tokens : List Token) (P : RawOperand → Type 0) (Is : RawPointer → Type 0) (read : List Token → Read RawPointer) → ((p : RawPointer) → Is p → P (Pointer p)) →
+    AllOf (length tokens) Is (read tokens) → AllOf (length tokens) P (pointer_alone_at read tokens)
+pointer_alone_all tokens P Is read made h =
+    or_all (length tokens) P (read_as Constant (marked_at left_out_prefixes tokens)) (read_as Pointer (read tokens))
+    (constant_as tokens P (λ c. P (Constant c)) (λ c is. is) (marked_at left_out_prefixes tokens) (left_out_marked_all tokens (λ c. P (Constant c))))
+    (as_all (length tokens) Pointer Is P made (read tokens) h)
+
+other_all : (r : Ar) (tokens : List Token) (P : Ar → List Token → RawOperand → Type 0) →
+    ((word : Token) → is_word (codes "AR2") word ≡ true → P ar.One (word ∷ []) OtherAr) → AllOf (length tokens) (P r tokens) (other_at r tokens)
+other_all ar.One [] P made = tt
+other_all ar.One (first ∷ rest) P made = by (is_word (codes "AR2") first) refl rest
+  where
+    by : (b : Bool) → is_word (codes "AR2") first ≡ b → (rest : List Token) → AllOf (length (first ∷ rest)) (P ar.One (first ∷ rest)) (if b then Fits OtherAr 1 else No)
+    by true word [] = λ size. made first word
+    by true word (next ∷ more) = λ size. absurd (omega (arith, size))
+    by false word rest = tt
+other_all ar.Two [] P made = tt
+other_all ar.Two (first ∷ rest) P made = tt
+
+pointer_loaded_all : (r : Ar) (tokens : List Token) → AllOf (length tokens) (IsOperand (shape.PointerLoaded r) tokens) (pointer_loaded_at r tokens)
+pointer_loaded_all r tokens =
+    let P : RawOperand → Type 0 = IsOperand (shape.PointerLoaded r) tokens in
+    or_all (length tokens) P (other_at r tokens) _ (other_all r tokens (λ a. IsOperand (shape.PointerLoaded a)) (λ word is. form.other_pointer_loaded word is))
+    (or_all (length tokens) P (pointer_alone_at pointer_at tokens) (placed_at tokens)
+    (pointer_alone_all tokens P (IsPointerConstant tokens) pointer_at (λ p is. form.pointer_loaded r tokens p is) (pointer_all tokens))
+    (placed_as tokens P (λ operand is. form.pointer_loaded_from r tokens operand is)))
+
+pointer_stored_all : (r : Ar) (tokens : List Token) → AllOf (length tokens) (IsOperand (shape.PointerStored r) tokens) (pointer_stored_at r tokens)
+pointer_stored_all r tokens =
+    or_all (length tokens) (IsOperand (shape.PointerStored r) tokens) (other_at r tokens) (placed_at tokens)
+    (other_all r tokens (λ a. IsOperand (shape.PointerStored a)) (λ word is. form.other_pointer_stored word is))
+    (placed_as tokens (IsOperand (shape.PointerStored r) tokens) (λ operand is. form.pointer_stored_in r tokens operand is))
+
 loaded_all : (tokens : List Token) → AllOf (length tokens) (IsOperand shape.Loaded tokens) (loaded_at tokens)
 loaded_all tokens =
     or_all (length tokens) (IsOperand shape.Loaded tokens) (stw_at tokens) _ (stw_all tokens (IsOperand shape.Loaded) (λ word is. form.loaded_status word is))
     (or_all (length tokens) (IsOperand shape.Loaded tokens) (block_number_at tokens) _ (block_number_all tokens)
-    (or_all (length tokens) (IsOperand shape.Loaded tokens) (read_as Constant (constant_at tokens)) _
-    (constant_as tokens (IsOperand shape.Loaded tokens) (IsConstant tokens) (λ c is. form.loaded_constant tokens c is) (constant_at tokens) (constant_all tokens))
+    (or_all (length tokens) (IsOperand shape.Loaded tokens) (any_constant_at tokens) _
+    (any_constant_all tokens (IsOperand shape.Loaded tokens) (λ c is. form.loaded_constant tokens c is) (λ p is. form.loaded_pointer tokens p is))
     (or_all (length tokens) (IsOperand shape.Loaded tokens) (located_at tokens) (length_at tokens)
     (located_as tokens (IsOperand shape.Loaded tokens) (λ operand is. form.loaded_located tokens operand is)) (length_all (length tokens) (IsOperand shape.Loaded tokens) tokens))))
 
@@ -197,8 +247,15 @@ operand_is shape.Addend tokens =
 operand_is shape.Loaded tokens = loaded_all tokens
 operand_is shape.Stored tokens = stored_all tokens
 operand_is shape.ConstantOrNothing tokens =
-    or_nothing_all tokens (IsOperand shape.ConstantOrNothing) (read_as Constant (constant_at tokens)) form.no_constant
-    (constant_as tokens (IsOperand shape.ConstantOrNothing tokens) (IsConstant tokens) (λ c is. form.combined tokens c is) (constant_at tokens) (constant_all tokens))
+    or_nothing_all tokens (IsOperand shape.ConstantOrNothing) (any_constant_at tokens) form.no_constant
+    (any_constant_all tokens (IsOperand shape.ConstantOrNothing tokens) (λ c is. form.combined tokens c is) (λ p is. form.combined_pointer tokens p is))
+operand_is (shape.PointerLoaded r) tokens =
+    or_nothing_all tokens (IsOperand (shape.PointerLoaded r)) (pointer_loaded_at r tokens) (form.pointer_loaded_alone r) (pointer_loaded_all r tokens)
+operand_is (shape.PointerStored r) tokens =
+    or_nothing_all tokens (IsOperand (shape.PointerStored r)) (pointer_stored_at r tokens) (form.pointer_stored_alone r) (pointer_stored_all r tokens)
+operand_is shape.OffsetOrNothing tokens =
+    or_nothing_all tokens (IsOperand shape.OffsetOrNothing) (pointer_alone_at offset_at tokens) form.no_offset
+    (pointer_alone_all tokens (IsOperand shape.OffsetOrNothing tokens) (IsOffsetConstant tokens) offset_at (λ p is. form.offset tokens p is) (offset_all tokens))
 operand_is shape.Opened tokens =
     weaker (length tokens) (IsOpened tokens) (IsOperand shape.Opened tokens) (λ operand is. form.opened tokens operand is) (opened_at tokens) (opened_all tokens)
 operand_is shape.TimerOrCounter tokens =
@@ -332,12 +389,51 @@ place_not_asked : (tokens : List Token) (place : RawPlace) → IsPlace tokens pl
 place_not_asked tokens place is =
     ap asked_by (none_found (is_asked tokens) tests (λ test. not_asked tokens test (place_no_text tokens place (first_of test) is (asked_apart test))))
 
-located_not_asked : (tokens : List Token) (operand : RawOperand) → IsLocated tokens operand → status_at tokens ≡ No
-located_not_asked tokens operand (form.at ts place is) = place_not_asked ts place is
-located_not_asked tokens operand (form.named ts o is) = named_not_asked ts o is
+-- nor is an operand in a bracket
+
+asked_unopened : (test : Test) → is_opening (str_to_ascii_lowercase (first_of test)) ≡ false
+asked_unopened test.Eq = refl
+asked_unopened test.Ne = refl
+asked_unopened test.Gt = refl
+asked_unopened test.Lt = refl
+asked_unopened test.Ge = refl
+asked_unopened test.Le = refl
+asked_unopened test.Uo = refl
+asked_unopened test.Ov = refl
+asked_unopened test.Os = refl
+asked_unopened test.Br = refl
+
+bracketed_not_asked : (tokens : List Token) → IsBracketed tokens → status_at tokens ≡ No
+bracketed_not_asked tokens is =
+    ap asked_by (none_found (is_asked tokens) tests (λ test. not_asked tokens test (bracketed_no_text tokens (first_of test) is (asked_unopened test))))
+
+-- a place, a name or an operand in a bracket
+data IsSomewhere (tokens : List Token) : Type 0 where
+  by_place : (place : RawPlace) → IsPlace tokens place → IsSomewhere tokens
+  by_name : (operand : RawOperand) → IsNamed tokens operand → IsSomewhere tokens
+  in_bracket : IsBracketed tokens → IsSomewhere tokens
+
+placed_somewhere : (tokens : List Token) (operand : RawOperand) → IsPlaced tokens operand → IsSomewhere tokens
+placed_somewhere tokens operand (form.at ts place is) = by_place place is
+placed_somewhere tokens operand (form.named ts o is) = by_name o is
+placed_somewhere tokens operand (form.indirect ts o is) = in_bracket (indirect_bracketed ts o is)
+
+somewhere : (tokens : List Token) (operand : RawOperand) → IsLocated tokens operand → IsSomewhere tokens
+somewhere tokens operand (form.placed ts o is) = placed_somewhere ts o is
+somewhere tokens operand (form.crossing ts o is) = in_bracket (crossing_bracketed ts o is)
+
+located_not_asked : (tokens : List Token) → IsSomewhere tokens → status_at tokens ≡ No
+located_not_asked tokens (by_place place is) = place_not_asked tokens place is
+located_not_asked tokens (by_name o is) = named_not_asked tokens o is
+located_not_asked tokens (in_bracket is) = bracketed_not_asked tokens is
+
+located_there : (tokens : List Token) → IsSomewhere tokens → tokens ≡ [] → ⊥
+located_there tokens (by_place place is) e = place_there tokens place is e
+located_there tokens (by_name o is) e = named_there tokens o is e
+located_there tokens (in_bracket is) e = bracketed_there tokens is e
 
 checked_read : (tokens : List Token) (operand : RawOperand) → IsOperand shape.Checked tokens operand → checked_at tokens ≡ Fits operand (length tokens)
-checked_read tokens operand (form.checked_located ts o is) = or_no (status_at ts) (located_at ts) (located_not_asked ts o is) ∙ located_read ts o is
+checked_read tokens operand (form.checked_located ts o is) = or_no (status_at ts) (located_at ts) (located_not_asked ts (somewhere ts o is)) ∙ located_read ts o is
 checked_read tokens operand (form.status ts test is) = or_this (status_at ts) _ (Flag test) (length ts) (status_is ts test is)
 
 -- where something is read, something stands
@@ -346,11 +442,7 @@ nothing_no [] there = absurd (there refl)
 nothing_no (first ∷ rest) there = refl
 
 checked_there : (tokens : List Token) (operand : RawOperand) → IsOperand shape.Checked tokens operand → tokens ≡ [] → ⊥
-checked_there tokens operand (form.checked_located ts o is) e = by ts o is e
-  where
-    by : (ts : List Token) (o : RawOperand) → IsLocated ts o → ts ≡ [] → ⊥
-    by ts o (form.at us place is) e = place_there us place is e
-    by ts o (form.named us p is) e = named_there us p is e
+checked_there tokens operand (form.checked_located ts o is) e = located_there ts (somewhere ts o is) e
 checked_there tokens operand (form.status ts test is) e = by ts test is e
   where
     by : (ts : List Token) (test : Test) → IsStatusOperand ts test → ts ≡ [] → ⊥
@@ -382,22 +474,111 @@ constant_no_number tokens c is =
     no_block_number tokens (constant_no_word tokens c (codes "DBNO") is (record { letter = refl; other = refl }))
     (constant_no_word tokens c (codes "DINO") is (record { letter = refl; other = refl }))
 
--- a place or a name does not begin with this word
-located_no_word : (tokens : List Token) (operand : RawOperand) (word : List ℕ) → IsLocated tokens operand → IsNoPlace word → word_is word tokens ≡ false
-located_no_word tokens operand word (form.at ts place is) none = place_no_word ts place word is none
-located_no_word tokens operand word (form.named ts o is) none = named_no_word ts o word is
+-- a word with which no place and no operand in a bracket begins
+record IsElsewhere (word : List ℕ) : Type 0 where
+  no_place : IsNoPlace word
+  unopened : is_opening (str_to_ascii_lowercase word) ≡ false
 
-located_no_stw : (tokens : List Token) (operand : RawOperand) → IsLocated tokens operand → stw_at tokens ≡ No
-located_no_stw tokens operand is = no_stw tokens (located_no_word tokens operand (codes "STW") is (record { other = refl; digits = refl }))
+located_no_word : (tokens : List Token) (word : List ℕ) → IsSomewhere tokens → IsElsewhere word → word_is word tokens ≡ false
+located_no_word tokens word (by_place place is) none = place_no_word tokens place word is none.no_place
+located_no_word tokens word (by_name o is) none = named_no_word tokens o word is
+located_no_word tokens word (in_bracket is) none = bracketed_no_word tokens word is none.unopened
 
-located_no_number : (tokens : List Token) (operand : RawOperand) → IsLocated tokens operand → block_number_at tokens ≡ No
-located_no_number tokens operand is =
-    no_block_number tokens (located_no_word tokens operand (codes "DBNO") is (record { other = refl; digits = refl }))
-    (located_no_word tokens operand (codes "DINO") is (record { other = refl; digits = refl }))
+located_no_stw : (tokens : List Token) → IsSomewhere tokens → stw_at tokens ≡ No
+located_no_stw tokens is = no_stw tokens (located_no_word tokens (codes "STW") is (record { no_place = record { other = refl; digits = refl }; unopened = refl }))
 
-located_no_constant : (tokens : List Token) (operand : RawOperand) → IsLocated tokens operand → constant_at tokens ≡ No
-located_no_constant tokens operand (form.at ts place is) = place_no_constant ts place is
-located_no_constant tokens operand (form.named ts o is) = named_no_constant ts o is
+located_no_number : (tokens : List Token) → IsSomewhere tokens → block_number_at tokens ≡ No
+located_no_number tokens is =
+    no_block_number tokens (located_no_word tokens (codes "DBNO") is (record { no_place = record { other = refl; digits = refl }; unopened = refl }))
+    (located_no_word tokens (codes "DINO") is (record { no_place = record { other = refl; digits = refl }; unopened = refl }))
+
+located_no_constant : (tokens : List Token) → IsSomewhere tokens → constant_at tokens ≡ No
+located_no_constant tokens (by_place place is) = place_no_constant tokens place is
+located_no_constant tokens (by_name o is) = named_no_constant tokens o is
+located_no_constant tokens (in_bracket is) = bracketed_no_constant tokens is
+
+located_no_mark : (table : List Prefixed) (tokens : List Token) → IsSomewhere tokens → marked_at table tokens ≡ No
+located_no_mark table tokens (by_place place is) = no_mark table tokens (place_unmarked tokens place is)
+located_no_mark table tokens (by_name o is) = named_no_mark table tokens o is
+located_no_mark table tokens (in_bracket is) = no_mark table tokens (bracketed_unmarked tokens is)
+
+-- a pointer begins with P
+no_hash : (read : List Token → Read RawPointer) (tokens : List Token) → word_is (codes "P") tokens ≡ false → behind_hash read tokens ≡ No
+no_hash read [] h = refl
+no_hash read (word ∷ []) h = refl
+no_hash read (word ∷ hash ∷ rest) h = if_false (is_word (codes "P") word && is_joined (codes "#") hash && begins_glued rest) _ No (and_left _ _ (and_left _ _ h))
+
+located_no_pointer : (tokens : List Token) → IsSomewhere tokens → pointer_at tokens ≡ No
+located_no_pointer tokens is =
+    no_hash pointer_behind tokens (located_no_word tokens (codes "P") is (record { no_place = record { other = refl; digits = refl }; unopened = refl }))
+
+located_no_any_constant : (tokens : List Token) → IsSomewhere tokens → any_constant_at tokens ≡ No
+located_no_any_constant tokens is =
+    or_no (read_as Constant (constant_at tokens)) _ (ap (read_as Constant) (located_no_constant tokens is)) ∙ ap (read_as Pointer) (located_no_pointer tokens is)
+
+-- Pointers
+
+hashed_no_word : (tokens : List Token) (word : List ℕ) → Hashed tokens → is_same_word word (codes "P") ≡ false → word_is word tokens ≡ false
+hashed_no_word tokens word h differ = subst (λ (ts : List Token). word_is word ts ≡ false) h.all (other_word (codes "P") word h.word h.word_is differ)
+
+hashed_no_constant : (tokens : List Token) → Hashed tokens → constant_at tokens ≡ No
+hashed_no_constant tokens h = subst (λ (ts : List Token). constant_at ts ≡ No) h.all (pointer_no_constant h.word h.hash h.rest h.word_is h.hash_is h.no_name)
+
+hashed_no_left_out : (tokens : List Token) → Hashed tokens → marked_at left_out_prefixes tokens ≡ No
+hashed_no_left_out tokens h = subst (λ (ts : List Token). marked_at left_out_prefixes ts ≡ No) h.all (pointer_no_left_out h.word h.hash h.rest h.word_is h.hash_is h.no_name)
+
+hashed_there : (tokens : List Token) → Hashed tokens → tokens ≡ [] → ⊥
+hashed_there tokens h e = let clash : h.word ∷ h.hash ∷ h.rest ≡ [] = h.all ∙ e in absurd cc
+
+pointer_any_constant : (tokens : List Token) (p : RawPointer) → IsPointerConstant tokens p → any_constant_at tokens ≡ Fits (Pointer p) (length tokens)
+pointer_any_constant tokens p is =
+    or_no (read_as Constant (constant_at tokens)) _ (ap (read_as Constant) (hashed_no_constant tokens (pointer_hashed tokens p is))) ∙ ap (read_as Pointer) (pointer_at_read tokens p is)
+
+constant_any_constant : (tokens : List Token) (c : Literal) → IsConstant tokens c → any_constant_at tokens ≡ Fits (Constant c) (length tokens)
+constant_any_constant tokens c is = or_this (read_as Constant (constant_at tokens)) _ (Constant c) (length tokens) (ap (read_as Constant) (constant_read tokens c is))
+
+pointer_alone_read : (read : List Token → Read RawPointer) (tokens : List Token) (p : RawPointer) → Hashed tokens → read tokens ≡ Fits p (length tokens) →
+    pointer_alone_at read tokens ≡ Fits (Pointer p) (length tokens)
+pointer_alone_read read tokens p h e =
+    or_no (read_as Constant (marked_at left_out_prefixes tokens)) _ (ap (read_as Constant) (hashed_no_left_out tokens h)) ∙ ap (read_as Pointer) e
+
+no_other : (r : Ar) (tokens : List Token) → word_is (codes "AR2") tokens ≡ false → other_at r tokens ≡ No
+no_other ar.One [] h = refl
+no_other ar.One (first ∷ rest) h = if_false (is_word (codes "AR2") first) _ No h
+no_other ar.Two [] h = refl
+no_other ar.Two (first ∷ rest) h = refl
+
+located_no_other : (r : Ar) (tokens : List Token) → IsSomewhere tokens → other_at r tokens ≡ No
+located_no_other r tokens is = no_other r tokens (by is)
+  where
+    by : IsSomewhere tokens → word_is (codes "AR2") tokens ≡ false
+    by (by_place place is) = place_no_register tokens place (codes "AR2") is refl
+    by (by_name o is) = named_no_word tokens o (codes "AR2") is
+    by (in_bracket is) = bracketed_no_word tokens (codes "AR2") is refl
+
+other_read : (word : Token) → is_word (codes "AR2") word ≡ true → other_at ar.One (word ∷ []) ≡ Fits OtherAr 1
+other_read word is = if_true (is_word (codes "AR2") word) _ No is
+
+pointer_loaded_read : (r : Ar) (tokens : List Token) (p : RawPointer) → IsPointerConstant tokens p → pointer_loaded_at r tokens ≡ Fits (Pointer p) (length tokens)
+pointer_loaded_read r tokens p is =
+    let h = pointer_hashed tokens p is in
+    or_no (other_at r tokens) _ (no_other r tokens (hashed_no_word tokens (codes "AR2") h refl))
+    ∙ or_this (pointer_alone_at pointer_at tokens) _ (Pointer p) (length tokens) (pointer_alone_read pointer_at tokens p h (pointer_at_read tokens p is))
+
+pointer_loaded_placed : (r : Ar) (tokens : List Token) (operand : RawOperand) → IsPlaced tokens operand → pointer_loaded_at r tokens ≡ Fits operand (length tokens)
+pointer_loaded_placed r tokens operand is =
+    let s = placed_somewhere tokens operand is in
+    or_no (other_at r tokens) _ (located_no_other r tokens s)
+    ∙ or_no (pointer_alone_at pointer_at tokens) (placed_at tokens)
+    (or_no (read_as Constant (marked_at left_out_prefixes tokens)) _ (ap (read_as Constant) (located_no_mark left_out_prefixes tokens s))
+    ∙ ap (read_as Pointer) (located_no_pointer tokens s))
+    ∙ placed_read tokens operand is
+
+pointer_stored_placed : (r : Ar) (tokens : List Token) (operand : RawOperand) → IsPlaced tokens operand → pointer_stored_at r tokens ≡ Fits operand (length tokens)
+pointer_stored_placed r tokens operand is =
+    or_no (other_at r tokens) (placed_at tokens) (located_no_other r tokens (placed_somewhere tokens operand is)) ∙ placed_read tokens operand is
+
+-- What is loaded and stored
 
 db_read : (word : Token) → is_word (codes "DBNO") word ≡ true → loaded_at (word ∷ []) ≡ Fits DbNo 1
 db_read word is =
@@ -413,16 +594,24 @@ di_read word is =
 loaded_constant : (tokens : List Token) (c : Literal) → IsConstant tokens c → loaded_at tokens ≡ Fits (Constant c) (length tokens)
 loaded_constant tokens c is =
     or_no (stw_at tokens) _ (constant_no_stw tokens c is) ∙ or_no (block_number_at tokens) _ (constant_no_number tokens c is)
-    ∙ or_this (read_as Constant (constant_at tokens)) _ (Constant c) (length tokens) (ap (read_as Constant) (constant_read tokens c is))
+    ∙ or_this (any_constant_at tokens) _ (Constant c) (length tokens) (constant_any_constant tokens c is)
+
+loaded_pointer : (tokens : List Token) (p : RawPointer) → IsPointerConstant tokens p → loaded_at tokens ≡ Fits (Pointer p) (length tokens)
+loaded_pointer tokens p is =
+    let h = pointer_hashed tokens p is in
+    or_no (stw_at tokens) _ (no_stw tokens (hashed_no_word tokens (codes "STW") h refl))
+    ∙ or_no (block_number_at tokens) _ (no_block_number tokens (hashed_no_word tokens (codes "DBNO") h refl) (hashed_no_word tokens (codes "DINO") h refl))
+    ∙ or_this (any_constant_at tokens) _ (Pointer p) (length tokens) (pointer_any_constant tokens p is)
 
 loaded_located : (tokens : List Token) (operand : RawOperand) → IsLocated tokens operand → loaded_at tokens ≡ Fits operand (length tokens)
 loaded_located tokens operand is =
-    or_no (stw_at tokens) _ (located_no_stw tokens operand is) ∙ or_no (block_number_at tokens) _ (located_no_number tokens operand is)
-    ∙ or_no (read_as Constant (constant_at tokens)) _ (ap (read_as Constant) (located_no_constant tokens operand is))
+    let s = somewhere tokens operand is in
+    or_no (stw_at tokens) _ (located_no_stw tokens s) ∙ or_no (block_number_at tokens) _ (located_no_number tokens s)
+    ∙ or_no (any_constant_at tokens) _ (located_no_any_constant tokens s)
     ∙ or_this (located_at tokens) (length_at tokens) operand (length tokens) (located_read tokens operand is)
 
 stored_located : (tokens : List Token) (operand : RawOperand) → IsLocated tokens operand → stored_at tokens ≡ Fits operand (length tokens)
-stored_located tokens operand is = or_no (stw_at tokens) (located_at tokens) (located_no_stw tokens operand is) ∙ located_read tokens operand is
+stored_located tokens operand is = or_no (stw_at tokens) (located_at tokens) (located_no_stw tokens (somewhere tokens operand is)) ∙ located_read tokens operand is
 
 operand_read : (shape : Shape) (tokens : List Token) (operand : RawOperand) → IsOperand shape tokens operand → operand_by shape tokens ≡ Fits operand (length tokens)
 operand_read shape tokens operand form.nothing = refl
@@ -440,12 +629,28 @@ operand_read shape tokens operand (form.loaded_status word is) = or_this (stw_at
 operand_read shape tokens operand (form.loaded_db word is) = db_read word is
 operand_read shape tokens operand (form.loaded_di word is) = di_read word is
 operand_read shape tokens operand (form.loaded_constant ts c is) = loaded_constant ts c is
+operand_read shape tokens operand (form.loaded_pointer ts p is) = loaded_pointer ts p is
 operand_read shape tokens operand (form.loaded_located ts o is) = loaded_located ts o is
 operand_read shape tokens operand (form.stored_status word is) = or_this (stw_at (word ∷ [])) _ Stw 1 (stw_read word is)
 operand_read shape tokens operand (form.stored_located ts o is) = stored_located ts o is
-operand_read shape tokens operand (form.combined ts c is) =
-    or_nothing_read ts (read_as Constant (constant_at ts)) (Constant c) (constant_there ts c is) (ap (read_as Constant) (constant_read ts c is))
+operand_read shape tokens operand (form.combined ts c is) = or_nothing_read ts (any_constant_at ts) (Constant c) (constant_there ts c is) (constant_any_constant ts c is)
+operand_read shape tokens operand (form.combined_pointer ts p is) =
+    or_nothing_read ts (any_constant_at ts) (Pointer p) (hashed_there ts (pointer_hashed ts p is)) (pointer_any_constant ts p is)
 operand_read shape tokens operand form.no_constant = refl
+operand_read shape tokens operand (form.other_pointer_loaded word is) = or_this (other_at ar.One (word ∷ [])) _ OtherAr 1 (other_read word is)
+operand_read shape tokens operand (form.pointer_loaded r ts p is) =
+    or_nothing_read ts (pointer_loaded_at r ts) (Pointer p) (hashed_there ts (pointer_hashed ts p is)) (pointer_loaded_read r ts p is)
+operand_read shape tokens operand (form.pointer_loaded_from r ts o is) =
+    or_nothing_read ts (pointer_loaded_at r ts) o (located_there ts (placed_somewhere ts o is)) (pointer_loaded_placed r ts o is)
+operand_read shape tokens operand (form.pointer_loaded_alone r) = refl
+operand_read shape tokens operand (form.other_pointer_stored word is) = or_this (other_at ar.One (word ∷ [])) _ OtherAr 1 (other_read word is)
+operand_read shape tokens operand (form.pointer_stored_in r ts o is) =
+    or_nothing_read ts (pointer_stored_at r ts) o (located_there ts (placed_somewhere ts o is)) (pointer_stored_placed r ts o is)
+operand_read shape tokens operand (form.pointer_stored_alone r) = refl
+operand_read shape tokens operand (form.offset ts p is) =
+    let h = offset_hashed ts p is in
+    or_nothing_read ts (pointer_alone_at offset_at ts) (Pointer p) (hashed_there ts h) (pointer_alone_read offset_at ts p h (offset_at_read ts p is))
+operand_read shape tokens operand form.no_offset = refl
 operand_read shape tokens operand (form.opened ts o is) = opened_read ts o is
 
 complete : (tokens : List Token) (instr : RawInstr) → IsInstruction tokens instr → instruction_of tokens ≡ Ok instr

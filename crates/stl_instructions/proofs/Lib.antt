@@ -1,11 +1,14 @@
+mod BracketTokens
 mod ConstantLaws
 mod Fronts
 mod InstructionLaws
 mod Kept
 mod NameLaws
+mod NoPlaces
 mod PathLaws
 mod PlaceLaws
 mod PlaceTokens
+mod PointerLaws
 mod Reading
 mod Repeated
 mod TableLaws

@@ -1,6 +1,5 @@
 -- A name, and what is opened, is read exactly where one of its forms stands.
-use Rattle.std.proofs.Common.{◌≡◌, ℕ, Bool, true, false, ◌&&◌, ◌||◌, if◌then◌else◌, List, [], ◌∷◌, ◌++◌, length, drop, Option, Some, None, refl, sym, ap, subst, ◌∙◌}
-use Rattle.std.proofs.Math.Seq.{drop-length}
+use Rattle.std.proofs.Common.{◌≡◌, ℕ, Bool, true, false, ◌&&◌, ◌||◌, if◌then◌else◌, List, [], ◌∷◌, ◌++◌, length, Option, Some, None, refl, sym, ap, subst, ◌∙◌}
 use Rattle.std.proofs.lemmas.Bool.{and_from, and_left, and_parts}
 use Rattle.std.proofs.lemmas.List.{append-nil}
 use Rattle.std.specs.List.{list_all}
@@ -11,30 +10,36 @@ use Rattle.memory_areas.specs.declared.place.AreaName.TheVariants as area
 use Rattle.s7_base.specs.Tokens.{is_same_word}
 use Rattle.s7_base.specs.declared.token.Token.{Token}
 use Rattle.s7_base.specs.declared.token.TokenKind.{TokenKind}
+use Rattle.s7_base.specs.declared.word.Width.TheVariants as width
 use Rattle.s7_base.specs.declared.token.TokenKind.TheVariants.{Word, Quoted, Text, Sign}
 use Rattle.status_word.specs.declared.test.Test.{Test}
 use Rattle.status_word.specs.declared.test.Test.TheVariants as test
-use Rattle.stl_statements.specs.Constants.{Prefixed, begins_glued, constant_at, has_prefix, is_real, marked_at, plain, prefixed_at, prefixed_by, prefixes, real_at, text_at, begins_real}
-use Rattle.stl_statements.specs.InstructionForms.{IsLocated, IsOpened, by_name, by_number, by_word}
+use Rattle.stl_statements.specs.Constants.{Prefixed, begins_glued, constant_at, has_prefix, is_real, marked_at, prefixed_at, prefixed_by, prefixes, real_at, text_at, begins_real}
+use Rattle.stl_statements.specs.InstructionForms.{IsLocated, IsOpened, IsPlaced, by_memory, by_name, by_number, by_word}
 use Rattle.stl_statements.specs.InstructionForms as form
 use Rattle.stl_statements.specs.PathForms.{IsNamed, IsPath}
 use Rattle.stl_statements.specs.PathForms as named
 use Rattle.stl_statements.specs.Paths.{in_block_behind, local_behind, named_at, named_behind, path_at}
 use Rattle.stl_statements.specs.PlaceForms.{IsPlace}
-use Rattle.stl_statements.specs.Places.{Numbered, digits_of, is_no_digit, letters_of, number_behind, numbered_at, opened_area, place_at}
+use Rattle.stl_statements.specs.Places.{Numbered, digits_of, is_no_digit, numbered_at, opened_area}
+use Rattle.stl_statements.specs.PointerForms.{IsCrossing, IsIndirect, IsMemory}
+use Rattle.stl_statements.specs.Pointers.{crossing_at, indirect_at, memory_at}
 use Rattle.stl_statements.specs.Readers.{fitting, further, read_as}
-use Rattle.stl_statements.specs.Statements.{NamedForm, asked_by, first_of, has_form, is_asked, left_out_at, left_out_by, left_out_forms, located_at, opened_at, opened_behind, opened_name_at, opened_number_at, opened_word, opening, place_operand, status_at, tests}
+use Rattle.stl_statements.specs.Statements.{asked_by, first_of, is_asked, located_at, opened_at, opened_behind, opened_by_memory_at, opened_in, opened_name_at, opened_number_at, opened_word, opening, opening_by, place_operand, placed_at, status_at, tests}
 use Rattle.stl_statements.specs.Words.{is_joined, is_quoted_kind, is_sign, is_sign_kind, is_text_kind, is_word_kind}
 use Rattle.stl_statements.specs.declared.mnemonic.Read.TheVariants.{Fits, No}
 use Rattle.stl_tree.specs.declared.raw.RawName.TheVariants.{Name, Number}
 use Rattle.stl_tree.specs.declared.raw.RawOperand.{RawOperand}
 use Rattle.stl_tree.specs.declared.raw.RawOperand.TheVariants.{At, InBlock, Local, Named, OpenDb}
-use Rattle.stl_instructions.proofs.ConstantLaws.{word_is}
-use Rattle.stl_instructions.proofs.Fronts.{FrontOf, and_then_front, and_then_none, and_then_read, as_front, front_all, further_front, further_read, or_front}
+use Rattle.stl_instructions.proofs.BracketTokens.{bracketed_no_named, bracketed_no_place, crossing_bracketed, crossing_no_indirect, indirect_bracketed, no_number_before}
+use Rattle.stl_instructions.proofs.ConstantLaws.{plain_none, word_is}
+use Rattle.stl_instructions.proofs.Fronts.{FrontOf, and_then_front, and_then_none, and_then_read, as_front, front_all, further_front, further_read, or_front, refined}
 use Rattle.stl_instructions.proofs.PathLaws.{path_front, path_glued, path_read}
-use Rattle.stl_instructions.proofs.PlaceLaws.{IsNumberOf, no_place_at, numbered_front, numbered_read, place_all, place_read}
-use Rattle.stl_instructions.proofs.PlaceTokens.{all_letters}
-use Rattle.stl_instructions.proofs.Reading.{AllOf, as_all, if_false, if_true, no_word, or_all, or_no, or_this, other_sign, same_letters, sign_no_text, taken, weaker}
+use Rattle.stl_instructions.proofs.NoPlaces.{no_numbered, no_place}
+use Rattle.stl_instructions.proofs.PlaceLaws.{IsNumberOf, numbered_front, numbered_read, place_all, place_read}
+use Rattle.stl_instructions.proofs.PlaceTokens.{no_digits}
+use Rattle.stl_instructions.proofs.PointerLaws.{crossing_all, crossing_read, indirect_all, indirect_read, memory_front, memory_read}
+use Rattle.stl_instructions.proofs.Reading.{AllOf, as_all, if_false, if_true, no_word, or_all, or_no, or_this, other_sign, same_letters, sign_no_quoted, sign_no_text, taken, weaker, word_no_quoted}
 use Rattle.stl_instructions.proofs.Tables.{none_found}
 
 -- From what is read to its form
@@ -71,12 +76,22 @@ named_front (first ∷ rest) = by (is_quoted_kind first.kind) refl (is_sign (cod
     by false kind true at = local at (begins_glued rest) refl
     by false kind false at = tt
 
+placed_all : (tokens : List Token) → AllOf (length tokens) (IsPlaced tokens) (placed_at tokens)
+placed_all tokens =
+    or_all (length tokens) (IsPlaced tokens) (read_as At (place_operand tokens)) _
+    (as_all (length tokens) At (IsPlace tokens) (IsPlaced tokens) (λ place is. form.at tokens place is) (place_operand tokens) (place_all tokens))
+    (or_all (length tokens) (IsPlaced tokens) (named_at tokens) (indirect_at tokens)
+    (weaker (length tokens) (IsNamed tokens) (IsPlaced tokens) (λ operand is. form.named tokens operand is) (named_at tokens)
+    (front_all tokens IsNamed (named_at tokens) (named_front tokens)))
+    (weaker (length tokens) (IsIndirect tokens) (IsPlaced tokens) (λ operand is. form.indirect tokens operand is) (indirect_at tokens) (indirect_all tokens)))
+
+pub placed_as : (tokens : List Token) (P : RawOperand → Type 0) → ((operand : RawOperand) → IsPlaced tokens operand → P operand) → AllOf (length tokens) P (placed_at tokens)
+placed_as tokens P make = weaker (length tokens) (IsPlaced tokens) P make (placed_at tokens) (placed_all tokens)
+
 pub located_all : (tokens : List Token) → AllOf (length tokens) (IsLocated tokens) (located_at tokens)
 located_all tokens =
-    or_all (length tokens) (IsLocated tokens) (read_as At (place_operand tokens)) (named_at tokens)
-    (as_all (length tokens) At (IsPlace tokens) (IsLocated tokens) (λ place is. form.at tokens place is) (place_operand tokens) (place_all tokens))
-    (weaker (length tokens) (IsNamed tokens) (IsLocated tokens) (λ operand is. form.named tokens operand is) (named_at tokens)
-    (front_all tokens IsNamed (named_at tokens) (named_front tokens)))
+    or_all (length tokens) (IsLocated tokens) (placed_at tokens) (crossing_at tokens) (placed_as tokens (IsLocated tokens) (λ operand is. form.placed tokens operand is))
+    (weaker (length tokens) (IsCrossing tokens) (IsLocated tokens) (λ operand is. form.crossing tokens operand is) (crossing_at tokens) (crossing_all tokens))
 
 opened_number_front : (tokens : List Token) → FrontOf tokens IsOpened (opened_number_at tokens)
 opened_number_front tokens =
@@ -116,31 +131,30 @@ opened_name_front (first ∷ rest) = by (is_quoted_kind first.kind) refl
     by true kind = record { front = first ∷ []; rest = rest; is = refl; size_is = refl; holds = by_name first kind }
     by false kind = opened_behind_front first (opened_word first) rest refl
 
+opened_by_memory_front : (tokens : List Token) → FrontOf tokens IsOpened (opened_by_memory_at tokens)
+opened_by_memory_front [] = tt
+opened_by_memory_front (a ∷ []) = tt
+opened_by_memory_front (word ∷ before ∷ rest) = by (opened_word word) refl
+  where
+    at : (name : AreaName) → opened_word word ≡ Some name → (b : Bool) → is_sign (codes "[") before ≡ b →
+        FrontOf (word ∷ before ∷ rest) IsOpened (if b then further 2 (memory_at (opening_by name) width.Word rest) else No)
+    at name e false sign = tt
+    at name e true sign =
+        further_front (word ∷ before ∷ []) rest IsOpened (memory_at (opening_by name) width.Word rest)
+        (refined rest (IsMemory (opening_by name) width.Word) (λ more o. IsOpened (word ∷ before ∷ more) o)
+        (λ front behind o split is. by_memory word before front name o e sign is) (memory_at (opening_by name) width.Word rest) (memory_front (opening_by name) width.Word rest))
+
+    by : (o : Option AreaName) → opened_word word ≡ o → FrontOf (word ∷ before ∷ rest) IsOpened (opened_in o before rest)
+    by None e = tt
+    by (Some name) e = at name e (is_sign (codes "[") before) refl
+
 pub opened_all : (tokens : List Token) → AllOf (length tokens) (IsOpened tokens) (opened_at tokens)
 opened_all tokens =
     front_all tokens IsOpened (opened_at tokens)
-    (or_front tokens IsOpened (opened_number_at tokens) (opened_name_at tokens) (opened_number_front tokens) (opened_name_front tokens))
+    (or_front tokens IsOpened (opened_number_at tokens) _ (opened_number_front tokens)
+    (or_front tokens IsOpened (opened_name_at tokens) (opened_by_memory_at tokens) (opened_name_front tokens) (opened_by_memory_front tokens)))
 
 -- From a form to what is read of it
-
--- a sign is no name in quotes, nor is a word
-sign_no_quoted : (sign : List ℕ) (token : Token) → is_sign sign token ≡ true → is_quoted_kind token.kind ≡ false
-sign_no_quoted sign token h = by token.kind _ h
-  where
-    by : (kind : TokenKind) (b : Bool) → (is_sign_kind kind && b) ≡ true → is_quoted_kind kind ≡ false
-    by Word b h = refl
-    by Quoted b h = absurd cc
-    by Text b h = refl
-    by Sign b h = refl
-
-word_no_quoted : (token : Token) → is_word_kind token.kind ≡ true → is_quoted_kind token.kind ≡ false
-word_no_quoted token h = by token.kind h
-  where
-    by : (kind : TokenKind) → is_word_kind kind ≡ true → is_quoted_kind kind ≡ false
-    by Word h = refl
-    by Quoted h = absurd cc
-    by Text h = refl
-    by Sign h = refl
 
 named_read : (tokens : List Token) (operand : RawOperand) → IsNamed tokens operand → named_at tokens ≡ Fits operand (length tokens)
 named_read tokens operand (named.name quoted kind) = if_true (is_quoted_kind quoted.kind) _ _ kind
@@ -198,31 +212,11 @@ marked tokens operand (named.name quoted kind) = record { first = quoted; rest =
 marked tokens operand (named.in_block quoted point rest steps kind at glued is) = record { first = quoted; rest = point ∷ rest; is = refl; mark = quoted_mark quoted kind }
 marked tokens operand (named.local hash rest steps sign glued is) = record { first = hash; rest = rest; is = refl; mark = sign_mark hash sign }
 
--- no number stands where no word does
-no_numbered : (first : Token) (rest : List Token) → is_word_kind first.kind ≡ false → numbered_at (first ∷ rest) ≡ No
-no_numbered first rest h = if_false (is_word_kind first.kind) _ No h
-
-no_place : (first : Token) (rest : List Token) → is_word_kind first.kind ≡ false → place_operand (first ∷ rest) ≡ No
-no_place first rest h =
-    or_no (place_at (first ∷ rest)) (left_out_at left_out_forms (first ∷ rest)) (no_place_at (first ∷ rest) (no_numbered first rest h))
-    ∙ ap left_out_by (none_found (has_form (first ∷ rest)) left_out_forms no_form)
-  where
-    or_false : (a b : Bool) → a ≡ false → b ≡ false → (a || b) ≡ false
-    or_false true b p q = absurd cc
-    or_false false b p q = q
-
-    no_form : (form : NamedForm) → has_form (first ∷ rest) form ≡ false
-    no_form form = or_false _ _ (and_left _ _ (and_left _ _ h)) (and_left _ _ (and_left _ _ h))
-
-no_constant : (first : Token) (rest : List Token) → IsMark first → constant_at (first ∷ rest) ≡ No
-no_constant first rest m =
-    let no_minus : is_sign (codes "-") first ≡ false = m.other (codes "-") refl in
-    or_no (text_at (first ∷ rest)) _ (ap (fitting 1) (if_false (is_text_kind first.kind) _ None m.no_text))
-    ∙ or_no (marked_at prefixes (first ∷ rest)) _
-    (or_no (prefixed_at prefixes (first ∷ rest)) (real_at (first ∷ rest))
-    (ap (λ (o : Option Prefixed). prefixed_by o (first ∷ rest)) (none_found (has_prefix (first ∷ rest)) prefixes (no_prefix rest)))
-    ∙ if_false (begins_real (first ∷ rest)) _ No (if_false (is_sign (codes "-") first) _ _ no_minus ∙ no_real rest))
-    ∙ ap (read_as plain) (if_false (is_sign (codes "-") first) _ _ no_minus ∙ ap (fitting 1) (if_false (is_word_kind first.kind) _ None m.no_word))
+no_marked : (table : List Prefixed) (first : Token) (rest : List Token) → IsMark first → marked_at table (first ∷ rest) ≡ No
+no_marked table first rest m =
+    or_no (prefixed_at table (first ∷ rest)) (real_at (first ∷ rest))
+    (ap (λ (o : Option Prefixed). prefixed_by o (first ∷ rest)) (none_found (has_prefix (first ∷ rest)) table (no_prefix rest)))
+    ∙ if_false (begins_real (first ∷ rest)) _ No (if_false (is_sign (codes "-") first) _ _ (m.other (codes "-") refl) ∙ no_real rest)
   where
     no_prefix : (rest : List Token) (row : Prefixed) → has_prefix (first ∷ rest) row ≡ false
     no_prefix [] row = refl
@@ -232,6 +226,12 @@ no_constant first rest m =
     no_real [] = refl
     no_real (point ∷ []) = refl
     no_real (point ∷ part ∷ rest) = and_left _ _ (and_left _ _ (and_left _ _ (and_left _ _ m.no_word)))
+
+no_constant : (first : Token) (rest : List Token) → IsMark first → constant_at (first ∷ rest) ≡ No
+no_constant first rest m =
+    or_no (text_at (first ∷ rest)) _ (ap (fitting 1) (if_false (is_text_kind first.kind) _ None m.no_text))
+    ∙ or_no (marked_at prefixes (first ∷ rest)) _ (no_marked prefixes first rest m)
+    ∙ plain_none first rest (m.other (codes "-") refl) (λ kind. let clash : true ≡ false = sym kind ∙ m.no_word in absurd cc)
 
 sharp_apart : (test : Test) → is_same_word (first_of test) (codes "#") ≡ false
 sharp_apart test.Eq = refl
@@ -261,6 +261,9 @@ named_not_asked tokens operand is = let m = marked tokens operand is in subst (�
 pub named_no_constant : (tokens : List Token) (operand : RawOperand) → IsNamed tokens operand → constant_at tokens ≡ No
 named_no_constant tokens operand is = let m = marked tokens operand is in subst (λ (ts : List Token). constant_at ts ≡ No) m.is (no_constant m.first m.rest m.mark)
 
+pub named_no_mark : (table : List Prefixed) (tokens : List Token) (operand : RawOperand) → IsNamed tokens operand → marked_at table tokens ≡ No
+named_no_mark table tokens operand is = let m = marked tokens operand is in subst (λ (ts : List Token). marked_at table ts ≡ No) m.is (no_marked table m.first m.rest m.mark)
+
 pub named_no_word : (tokens : List Token) (operand : RawOperand) (word : List ℕ) → IsNamed tokens operand → word_is word tokens ≡ false
 named_no_word tokens operand word is = let m = marked tokens operand is in subst (λ (ts : List Token). word_is word ts ≡ false) m.is (and_left _ _ m.mark.no_word)
 
@@ -273,9 +276,23 @@ named_there tokens operand is e =
 named_no_place : (tokens : List Token) (operand : RawOperand) → IsNamed tokens operand → place_operand tokens ≡ No
 named_no_place tokens operand is = let m = marked tokens operand is in subst (λ (ts : List Token). place_operand ts ≡ No) m.is (no_place m.first m.rest m.mark.no_word)
 
+pub placed_read : (tokens : List Token) (operand : RawOperand) → IsPlaced tokens operand → placed_at tokens ≡ Fits operand (length tokens)
+placed_read tokens operand (form.at ts place is) = or_this (read_as At (place_operand ts)) _ (At place) (length ts) (ap (read_as At) (place_read ts place is))
+placed_read tokens operand (form.named ts o is) =
+    or_no (read_as At (place_operand ts)) _ (ap (read_as At) (named_no_place ts o is)) ∙ or_this (named_at ts) (indirect_at ts) o (length ts) (named_read ts o is)
+placed_read tokens operand (form.indirect ts o is) =
+    let bracketed = indirect_bracketed ts o is in
+    or_no (read_as At (place_operand ts)) _ (ap (read_as At) (bracketed_no_place ts bracketed)) ∙ or_no (named_at ts) (indirect_at ts) (bracketed_no_named ts bracketed) ∙ indirect_read ts o is
+
+crossing_no_placed : (tokens : List Token) (operand : RawOperand) → IsCrossing tokens operand → placed_at tokens ≡ No
+crossing_no_placed tokens operand is =
+    let bracketed = crossing_bracketed tokens operand is in
+    or_no (read_as At (place_operand tokens)) _ (ap (read_as At) (bracketed_no_place tokens bracketed))
+    ∙ or_no (named_at tokens) (indirect_at tokens) (bracketed_no_named tokens bracketed) ∙ crossing_no_indirect tokens operand is
+
 pub located_read : (tokens : List Token) (operand : RawOperand) → IsLocated tokens operand → located_at tokens ≡ Fits operand (length tokens)
-located_read tokens operand (form.at ts place is) = or_this (read_as At (place_operand ts)) (named_at ts) (At place) (length ts) (ap (read_as At) (place_read ts place is))
-located_read tokens operand (form.named ts o is) = or_no (read_as At (place_operand ts)) (named_at ts) (ap (read_as At) (named_no_place ts o is)) ∙ named_read ts o is
+located_read tokens operand (form.placed ts o is) = or_this (placed_at ts) (crossing_at ts) o (length ts) (placed_read ts o is)
+located_read tokens operand (form.crossing ts o is) = or_no (placed_at ts) (crossing_at ts) (crossing_no_placed ts o is) ∙ crossing_read ts o is
 
 -- What is opened
 
@@ -285,8 +302,7 @@ area_letters text name e = by (is_same_word text (codes "DB")) refl (is_same_wor
   where
     of_word : (word : List ℕ) → is_same_word text word ≡ true → list_all is_no_digit (str_to_ascii_lowercase word) ≡ true → digits_of text ≡ []
     of_word word s none =
-        let size = all_letters text (ap (λ (low : List ℕ). list_all is_no_digit low) (same_letters text word s) ∙ none) in
-        ap (λ (n : ℕ). drop n text) size ∙ drop-length text
+        no_digits text (ap (λ (low : List ℕ). list_all is_no_digit low) (same_letters text word s) ∙ none)
 
     by : (db : Bool) → is_same_word text (codes "DB") ≡ db → (di : Bool) → is_same_word text (codes "DI") ≡ di → (if db then Some area.Db else if di then Some area.Di else None) ≡ Some name →
         digits_of text ≡ []
@@ -301,15 +317,14 @@ no_opened_number tokens e =
 word_kind_of : (word : Token) (name : AreaName) → opened_word word ≡ Some name → (is_word_kind word.kind ≡ true) × (opened_area word.text ≡ Some name)
 word_kind_of word name e = taken (is_word_kind word.kind) (opened_area word.text) name e
 
-quoted_no_number : (word quoted : Token) (name : AreaName) → opened_word word ≡ Some name → is_quoted_kind quoted.kind ≡ true → numbered_at (word ∷ quoted ∷ []) ≡ No
-quoted_no_number word quoted name e kind =
-    let w = word_kind_of word name e in
-    if_true (is_word_kind word.kind) _ No w.0
-    ∙ ap (λ (digits : List ℕ). number_behind (letters_of word.text) digits (quoted ∷ [])) (area_letters word.text name w.1)
-    ∙ ap (fitting 2) (if_false (is_word_kind quoted.kind) _ None (quoted_mark quoted kind).no_word)
+-- nor does a number stand behind them where no word does
+opened_no_number : (word next : Token) (rest : List Token) (name : AreaName) → opened_word word ≡ Some name → is_word_kind next.kind ≡ false →
+    opened_number_at (word ∷ next ∷ rest) ≡ No
+opened_no_number word next rest name e none =
+    let w = word_kind_of word name e in no_opened_number (word ∷ next ∷ rest) (no_number_before word next rest w.0 (area_letters word.text name w.1) none)
 
 pub opened_read : (tokens : List Token) (operand : RawOperand) → IsOpened tokens operand → opened_at tokens ≡ Fits operand (length tokens)
-opened_read tokens operand (by_number ts letters n name is area) = or_this (opened_number_at ts) (opened_name_at ts) opened (length ts) number
+opened_read tokens operand (by_number ts letters n name is area) = or_this (opened_number_at ts) _ opened (length ts) number
   where
     opened : RawOperand
     opened = opening name (Number n)
@@ -323,9 +338,19 @@ opened_read tokens operand (by_number ts letters n name is area) = or_this (open
         (ap (λ (o : Option AreaName). fitting 0 (option_map (λ name. opening name (Number n)) o)) area))
 opened_read tokens operand (by_name quoted kind) =
     or_no (opened_number_at (quoted ∷ [])) _ (no_opened_number (quoted ∷ []) (no_numbered quoted [] (quoted_mark quoted kind).no_word))
-    ∙ if_true (is_quoted_kind quoted.kind) _ _ kind
+    ∙ or_this (opened_name_at (quoted ∷ [])) _ (OpenDb (Name quoted.text)) 1 (if_true (is_quoted_kind quoted.kind) _ _ kind)
 opened_read tokens operand (by_word word quoted name e kind) =
-    or_no (opened_number_at (word ∷ quoted ∷ [])) _ (no_opened_number (word ∷ quoted ∷ []) (quoted_no_number word quoted name e kind))
-    ∙ if_false (is_quoted_kind word.kind) _ _ (word_no_quoted word (word_kind_of word name e).0)
+    or_no (opened_number_at (word ∷ quoted ∷ [])) _ (opened_no_number word quoted [] name e (quoted_mark quoted kind).no_word)
+    ∙ or_this (opened_name_at (word ∷ quoted ∷ [])) _ (opening name (Name quoted.text)) 2
+    (if_false (is_quoted_kind word.kind) _ _ (word_no_quoted word (word_kind_of word name e).0)
     ∙ ap (λ (o : Option AreaName). opened_behind o (quoted ∷ [])) e
-    ∙ if_true (is_quoted_kind quoted.kind) _ No kind
+    ∙ if_true (is_quoted_kind quoted.kind) _ No kind)
+opened_read tokens operand (by_memory word before rest name o e sign is) =
+    or_no (opened_number_at (word ∷ before ∷ rest)) _ (opened_no_number word before rest name e (no_word (codes "[") before sign))
+    ∙ or_no (opened_name_at (word ∷ before ∷ rest)) _
+    (if_false (is_quoted_kind word.kind) _ _ (word_no_quoted word (word_kind_of word name e).0)
+    ∙ ap (λ (opened : Option AreaName). opened_behind opened (before ∷ rest)) e
+    ∙ if_false (is_quoted_kind before.kind) _ No (sign_no_quoted (codes "[") before sign))
+    ∙ ap (λ (opened : Option AreaName). opened_in opened before rest) e
+    ∙ if_true (is_sign (codes "[") before) _ No sign
+    ∙ further_read (word ∷ before ∷ []) rest (memory_at (opening_by name) width.Word rest) o (memory_read (opening_by name) width.Word rest o is)

@@ -1,6 +1,7 @@
 -- A place is read exactly where one of its forms stands.
 use Rattle.std.proofs.Common.{◌≡◌, ℕ, Bool, true, false, ◌&&◌, if◌then◌else◌, List, [], ◌∷◌, ◌++◌, length, Option, Some, None, refl, ap, subst, ◌∙◌}
 use Rattle.std.proofs.lemmas.Bool.{and_from, and_parts}
+use Rattle.std.proofs.lemmas.List.{append-nil, append_assoc}
 use Rattle.std.specs.List.{find}
 use Rattle.std.specs.Prelude.{codes, option_map}
 use Rattle.std.specs.Str.{bytes_eq, str_to_ascii_lowercase}
@@ -65,7 +66,7 @@ numbered_front (first ∷ rest) = by (is_word_kind first.kind) refl
     by true kind = behind_front first rest (digits_of first.text) refl kind
     by false kind = tt
 
-bit_at_front : (tokens : List Token) → FrontOf tokens (IsBitBehind width.Bit) (bit_at tokens)
+pub bit_at_front : (tokens : List Token) → FrontOf tokens (IsBitBehind width.Bit) (bit_at tokens)
 bit_at_front [] = tt
 bit_at_front (a ∷ []) = tt
 bit_at_front (point ∷ number ∷ rest) = fitting_front (point ∷ number ∷ rest) 2 (IsBitBehind width.Bit) (bit_number point number) bit_is
@@ -170,28 +171,29 @@ numbered_read front letters n (in_two word next k kind none digits number) rest 
     ∙ ap (λ (ds : List ℕ). number_behind (letters_of word.text) ds (next ∷ rest)) none
     ∙ ap (fitting 2) (if_true (is_word_kind next.kind) _ None digits ∙ ap (option_map (λ (n : ℕ). record { letters = letters_of word.text; number = n })) number)
 
-bit_read : (w : Width) (tokens : List Token) (x : ℕ) → IsBitBehind w tokens x → bit_behind w tokens ≡ Fits x (length tokens)
-bit_read w tokens x (form.bit point number k at word is) =
+pub bit_read : (w : Width) (tokens : List Token) (x : ℕ) → IsBitBehind w tokens x → (behind : List Token) → bit_behind w (tokens ++ behind) ≡ Fits x (length tokens)
+bit_read w tokens x (form.bit point number k at word is) behind =
     ap (fitting 2) (if_true (is_joined (codes ".") point && is_joined_word number) _ None (and_from _ _ at word) ∙ is)
-bit_read w tokens x form.byte = refl
-bit_read w tokens x form.word = refl
-bit_read w tokens x form.dword = refl
+bit_read w tokens x form.byte behind = refl
+bit_read w tokens x form.word behind = refl
+bit_read w tokens x form.dword behind = refl
 
 -- words of a table that are the same word
-abbrev same_words : PlaceWord → PlaceWord → Bool
+abbrev pub same_words : PlaceWord → PlaceWord → Bool
 same_words a b = is_same_word b.word a.word
 
 both_named : (letters : List ℕ) (a b : PlaceWord) → has_letters letters a ≡ true → has_letters letters b ≡ true → same_words a b ≡ true
 both_named letters a b p q = alike letters a.word b.word p q
 
 place_in_read : (table : List PlaceWord) (block : Option ℕ) (tokens : List Token) (place : RawPlace) → are_apart same_words table ≡ true → IsPlaceIn table block tokens place →
-    place_in table block tokens ≡ Fits place (length tokens)
-place_in_read table block tokens place apart (placed t b front rest letters word byte x is among same is_bit) =
-    and_then_read front rest (numbered_at (front ++ rest)) (record { letters = letters; number = byte })
-    (λ found more. place_by b (find (has_letters found.letters) t) found.number more) (numbered_read front letters byte is rest)
-    ∙ further_read front rest (place_by b (find (has_letters letters) t) byte rest) (place_of b word byte x)
-    (ap (λ (o : Option PlaceWord). place_by b o byte rest) (found_apart (has_letters letters) same_words t word apart (both_named letters) among same)
-    ∙ ap (read_as (place_of b word byte)) (bit_read word.width rest x is_bit))
+    (behind : List Token) → place_in table block (tokens ++ behind) ≡ Fits place (length tokens)
+place_in_read table block tokens place apart (placed t b front rest letters word byte x is among same is_bit) behind =
+    ap (place_in t b) (append_assoc front rest behind)
+    ∙ and_then_read front (rest ++ behind) (numbered_at (front ++ (rest ++ behind))) (record { letters = letters; number = byte })
+    (λ found more. place_by b (find (has_letters found.letters) t) found.number more) (numbered_read front letters byte is (rest ++ behind))
+    ∙ further_read front rest (place_by b (find (has_letters letters) t) byte (rest ++ behind)) (place_of b word byte x)
+    (ap (λ (o : Option PlaceWord). place_by b o byte (rest ++ behind)) (found_apart (has_letters letters) same_words t word apart (both_named letters) among same)
+    ∙ ap (read_as (place_of b word byte)) (bit_read word.width rest x is_bit behind))
 
 -- DB is no word of a place
 abbrev letters_in : List ℕ → Option PlaceWord
@@ -207,19 +209,30 @@ block_no_place front rest letters n is db =
     (λ found more. place_by None (find (has_letters found.letters) place_words) found.number more) (numbered_read front letters n is rest)
     ∙ ap (λ (o : Option PlaceWord). further (length front) (place_by None o n rest)) (no_db letters db)
 
-place_at_read : (tokens : List Token) (place : RawPlace) → IsPlace tokens place → place_at tokens ≡ Fits place (length tokens)
-place_at_read tokens place (alone ts p is) = or_this (place_in place_words None ts) (block_place_at ts) p (length ts) (place_in_read place_words None ts p refl is)
-place_at_read tokens place (in_block front letters n point rest p is db at glued in_db) =
-    or_no (place_in place_words None (front ++ (point ∷ rest))) (block_place_at (front ++ (point ∷ rest))) (block_no_place front (point ∷ rest) letters n is db)
-    ∙ and_then_read front (point ∷ rest) (numbered_at (front ++ (point ∷ rest))) (record { letters = letters; number = n })
-    (λ found more. if is_same_word found.letters (codes "DB") then place_behind found.number more else No) (numbered_read front letters n is (point ∷ rest))
-    ∙ further_read front (point ∷ rest) (if is_same_word letters (codes "DB") then place_behind n (point ∷ rest) else No) p
+-- with others behind them tokens begin as they did
+pub glued_before : (tokens behind : List Token) → begins_glued tokens ≡ true → begins_glued (tokens ++ behind) ≡ true
+glued_before [] behind h = absurd cc
+glued_before (first ∷ rest) behind h = h
+
+pub place_at_read : (tokens : List Token) (place : RawPlace) → IsPlace tokens place → (behind : List Token) → place_at (tokens ++ behind) ≡ Fits place (length tokens)
+place_at_read tokens place (alone ts p is) behind =
+    or_this (place_in place_words None (ts ++ behind)) (block_place_at (ts ++ behind)) p (length ts) (place_in_read place_words None ts p refl is behind)
+place_at_read tokens place (in_block front letters n point rest p is db at glued in_db) behind =
+    let more = point ∷ (rest ++ behind) in
+    ap place_at (append_assoc front (point ∷ rest) behind)
+    ∙ or_no (place_in place_words None (front ++ more)) (block_place_at (front ++ more)) (block_no_place front more letters n is db)
+    ∙ and_then_read front more (numbered_at (front ++ more)) (record { letters = letters; number = n })
+    (λ found others. if is_same_word found.letters (codes "DB") then place_behind found.number others else No) (numbered_read front letters n is more)
+    ∙ further_read front (point ∷ rest) (if is_same_word letters (codes "DB") then place_behind n more else No) p
     (if_true (is_same_word letters (codes "DB")) _ No db
-    ∙ if_true (is_joined (codes ".") point && begins_glued rest) _ No (and_from _ _ at glued)
-    ∙ further_read (point ∷ []) rest (place_in db_words (Some n) rest) p (place_in_read db_words (Some n) rest p refl in_db))
+    ∙ if_true (is_joined (codes ".") point && begins_glued (rest ++ behind)) _ No (and_from _ _ at (glued_before rest behind glued))
+    ∙ further_read (point ∷ []) rest (place_in db_words (Some n) (rest ++ behind)) p (place_in_read db_words (Some n) rest p refl in_db behind))
+
+place_alone_read : (tokens : List Token) (place : RawPlace) → IsPlace tokens place → place_at tokens ≡ Fits place (length tokens)
+place_alone_read tokens place is = subst (λ (ts : List Token). place_at ts ≡ Fits place (length tokens)) (append-nil tokens) (place_at_read tokens place is [])
 
 pub place_read : (tokens : List Token) (place : RawPlace) → IsPlace tokens place → place_operand tokens ≡ Fits place (length tokens)
-place_read tokens place is = or_this (place_at tokens) (left_out_at left_out_forms tokens) place (length tokens) (place_at_read tokens place is)
+place_read tokens place is = or_this (place_at tokens) (left_out_at left_out_forms tokens) place (length tokens) (place_alone_read tokens place is)
 
 -- where no letters with a number stand no place does
 pub no_place_at : (tokens : List Token) → numbered_at tokens ≡ No → place_at tokens ≡ No

@@ -1,7 +1,9 @@
 -- With what a place begins: no constant does, nor any other operand.
-use Rattle.std.proofs.Common.{◌≡◌, ℕ, ◌+◌, ◌*◌, ◌-◌, ◌≤◌, Bool, true, false, not, cond, ◌&&◌, ◌||◌, List, [], ◌∷◌, ◌++◌, length, take, None, refl, sym, ap, subst, ◌∙◌, arith}
-use Rattle.std.proofs.Math.Seq.{take-length}
+use Rattle.std.proofs.Common.{◌≡◌, ℕ, ◌+◌, ◌*◌, ◌-◌, ◌≤◌, Bool, true, false, not, cond, ◌&&◌, ◌||◌, List, [], ◌∷◌, ◌++◌, length, drop, take, None, refl, sym, ap, subst, ◌∙◌, arith}
+use Rattle.std.proofs.Math.Seq.{drop-length, take-length}
 use Rattle.std.proofs.lemmas.Bool.{and_left, and_parts, and_right, leb-true, or_left}
+use Rattle.std.proofs.lemmas.Bool.Decides.{nat_tests}
+use Rattle.std.proofs.lemmas.List.{take-map}
 use Rattle.std.proofs.lemmas.Slice.Eq.{bytes_eq-Decides}
 use Rattle.std.proofs.lemmas.Str.Ascii.{lowercase_is}
 use Rattle.std.specs.Char.{to_ascii_lowercase}
@@ -16,9 +18,9 @@ use Rattle.stl_statements.specs.Constants.{constant_at, plain, plain_at, prefixe
 use Rattle.stl_statements.specs.Numbers.{are_digits, number_of}
 use Rattle.stl_statements.specs.PlaceForms.{IsBitBehind, IsNumbered, IsPlace, IsPlaceIn, alone, in_block, in_one, in_two, placed}
 use Rattle.stl_statements.specs.PlaceForms as form
-use Rattle.stl_statements.specs.Places.{PlaceWord, is_no_digit, letters_of, place_words}
+use Rattle.stl_statements.specs.Places.{PlaceWord, digits_of, is_no_digit, letters_of, place_words}
 use Rattle.stl_statements.specs.Readers.{fitting, read_as}
-use Rattle.stl_statements.specs.Words.{is_sign, is_word_kind}
+use Rattle.stl_statements.specs.Words.{is_sign, is_word, is_word_kind}
 use Rattle.stl_statements.specs.declared.mnemonic.Read.TheVariants.{No}
 use Rattle.stl_tree.specs.declared.raw.RawPlace.{RawPlace}
 use Rattle.stl_instructions.proofs.ConstantLaws.{AreUnmarked, no_mark, unmarked_no_text, word_is}
@@ -26,11 +28,27 @@ use Rattle.stl_instructions.proofs.ConstantLaws as are
 use Rattle.stl_instructions.proofs.Reading.{if_false, if_true, joined_sign, no_sign, or_no, same_letters}
 use Rattle.stl_instructions.proofs.Tables.{any_at}
 
+-- Letters
+
+-- a byte is a digit in lower case where it is one
+pub digit_low : (c : ℕ) → is_no_digit (to_ascii_lowercase c) ≡ is_no_digit c
+digit_low c = grind (arith, nat_tests)
+
+-- what stands before the first digit of a word, in lower case
+letters_low : (text : List ℕ) → str_to_ascii_lowercase (letters_of text) ≡ letters_of (str_to_ascii_lowercase text)
+letters_low text =
+    sym (take-map to_ascii_lowercase (prefix_len is_no_digit text) text) ∙ ap (λ (n : ℕ). take n (str_to_ascii_lowercase text)) (sym (size text))
+  where
+    size : (text : List ℕ) → prefix_len is_no_digit (str_to_ascii_lowercase text) ≡ prefix_len is_no_digit text
+    size [] = refl
+    size (c ∷ cs) =
+        ap (λ (b : Bool). cond b (1 + prefix_len is_no_digit (str_to_ascii_lowercase cs)) 0) (digit_low c) ∙ ap (λ (n : ℕ). cond (is_no_digit c) (1 + n) 0) (size cs)
+
 -- letters, in lower case, with which a place begins
-abbrev is_begin : List ℕ → Bool
+abbrev pub is_begin : List ℕ → Bool
 is_begin low = list_any (λ (row : PlaceWord). bytes_eq low (str_to_ascii_lowercase row.word)) place_words || bytes_eq low (codes "db")
 
-abbrev begins_place : List ℕ → Bool
+abbrev pub begins_place : List ℕ → Bool
 begins_place letters = is_begin (str_to_ascii_lowercase letters)
 
 -- a word without a digit with which no place begins
@@ -51,6 +69,17 @@ record Begun (tokens : List Token) : Type 0 where
 abbrev points : List Token → Bool
 points [] = true
 points (first ∷ rest) = is_sign (codes ".") first
+
+-- the letters of a word are those of its text in lower case
+pub register_letters : (first : Token) (word : List ℕ) → is_word word first ≡ true → is_begin (letters_of (str_to_ascii_lowercase word)) ≡ false → begins_place (letters_of first.text) ≡ false
+register_letters first word is none =
+    let p = and_parts (is_word_kind first.kind) (is_same_word first.text word) is in
+    ap is_begin (letters_low first.text ∙ ap (λ (low : List ℕ). letters_of low) (same_letters first.text word p.1)) ∙ none
+
+-- a word stands at the front
+abbrev pub begins_with_word : List Token → Bool
+begins_with_word [] = false
+begins_with_word (first ∷ rest) = is_word_kind first.kind
 
 -- letters of a place make no number
 record Lettered (text : List ℕ) : Type 0 where
@@ -84,7 +113,7 @@ bit_points w rest x form.byte = refl
 bit_points w rest x form.word = refl
 bit_points w rest x form.dword = refl
 
-itself : (xs : List ℕ) → bytes_eq xs xs ≡ true
+pub itself : (xs : List ℕ) → bytes_eq xs xs ≡ true
 itself xs = (bytes_eq-Decides xs xs).1 refl
 
 word_known : (word : PlaceWord) → IsAmong word place_words → begins_place word.word ≡ true
@@ -117,6 +146,10 @@ all_letters (c ∷ cs) h =
         sym (ap is_no_digit same) ∙ q
     by false t q = ap not t
 
+-- nor any rest of digits
+pub no_digits : (text : List ℕ) → list_all is_no_digit (str_to_ascii_lowercase text) ≡ true → digits_of text ≡ []
+no_digits text h = ap (λ (n : ℕ). drop n text) (all_letters text h) ∙ drop-length text
+
 -- the text of a place's first word is not that word
 other_text : (text word : List ℕ) → begins_place (letters_of text) ≡ true → IsNoPlace word → is_same_word text word ≡ false
 other_text text word known none = by (is_same_word text word) refl
@@ -144,6 +177,21 @@ pub place_no_word : (tokens : List Token) (place : RawPlace) (word : List ℕ) �
 place_no_word tokens place word is none =
     let b = place_begun tokens place is in
     subst (λ (ts : List Token). word_is word ts ≡ false) b.is (and_right _ _ (other_text b.first.text word b.known none))
+
+-- nor one whose letters are none of a place
+pub place_no_register : (tokens : List Token) (place : RawPlace) (word : List ℕ) → IsPlace tokens place → is_begin (letters_of (str_to_ascii_lowercase word)) ≡ false → word_is word tokens ≡ false
+place_no_register tokens place word is none = let b = place_begun tokens place is in subst (λ (ts : List Token). word_is word ts ≡ false) b.is (by b.first b.known (is_word word b.first) refl)
+  where
+    by : (first : Token) → begins_place (letters_of first.text) ≡ true → (b : Bool) → is_word word first ≡ b → b ≡ false
+    by first known true e = let clash : true ≡ false = sym known ∙ register_letters first word e none in absurd cc
+    by first known false e = refl
+
+pub place_unmarked : (tokens : List Token) (place : RawPlace) → IsPlace tokens place → AreUnmarked tokens
+place_unmarked tokens place is = let b = place_begun tokens place is in subst (λ (ts : List Token). AreUnmarked ts) b.is b.unmarked
+
+-- a place begins with a word
+pub place_kind : (tokens : List Token) (place : RawPlace) → IsPlace tokens place → begins_with_word tokens ≡ true
+place_kind tokens place is = let b = place_begun tokens place is in subst (λ (ts : List Token). begins_with_word ts ≡ true) b.is b.kind
 
 pub place_no_constant : (tokens : List Token) (place : RawPlace) → IsPlace tokens place → constant_at tokens ≡ No
 place_no_constant tokens place is =

@@ -9,7 +9,7 @@ use Rattle.s7_base.specs.declared.token.Token.{Token}
 use Rattle.s7_base.specs.declared.token.TokenKind.{TokenKind}
 use Rattle.s7_base.specs.declared.token.TokenKind.TheVariants.{Word, Quoted, Text, Sign}
 use Rattle.stl_statements.specs.Readers.{fitting, or_else, read_as}
-use Rattle.stl_statements.specs.Words.{is_joined, is_sign, is_sign_kind, is_text_kind, is_word, is_word_kind}
+use Rattle.stl_statements.specs.Words.{is_joined, is_quoted_kind, is_sign, is_sign_kind, is_text_kind, is_word, is_word_kind}
 use Rattle.stl_statements.specs.declared.mnemonic.Read.{Read}
 use Rattle.stl_statements.specs.declared.mnemonic.Read.TheVariants.{Fits, LeftOut, No}
 
@@ -99,6 +99,25 @@ text_no_word token h = by token.kind h
     by Quoted h = absurd cc
     by Text h = refl
     by Sign h = absurd cc
+
+-- a sign is no name in quotes, nor is a word
+pub sign_no_quoted : (sign : List ℕ) (token : Token) → is_sign sign token ≡ true → is_quoted_kind token.kind ≡ false
+sign_no_quoted sign token h = by token.kind _ h
+  where
+    by : (kind : TokenKind) (b : Bool) → (is_sign_kind kind && b) ≡ true → is_quoted_kind kind ≡ false
+    by Word b h = refl
+    by Quoted b h = absurd cc
+    by Text b h = refl
+    by Sign b h = refl
+
+pub word_no_quoted : (token : Token) → is_word_kind token.kind ≡ true → is_quoted_kind token.kind ≡ false
+word_no_quoted token h = by token.kind h
+  where
+    by : (kind : TokenKind) → is_word_kind kind ≡ true → is_quoted_kind kind ≡ false
+    by Word h = refl
+    by Quoted h = absurd cc
+    by Text h = refl
+    by Sign h = refl
 
 -- texts that are the same, in any case
 pub same_letters : (a b : List ℕ) → is_same_word a b ≡ true → str_to_ascii_lowercase a ≡ str_to_ascii_lowercase b

@@ -1,6 +1,6 @@
 -- Looking something up in a table.
 use Rattle.std.proofs.Common.{◌≡◌, ◌⊎◌, inl, inr, Bool, true, false, not, cond, ◌&&◌, List, [], ◌∷◌, map, Some, None, refl, sym, ap, ◌∙◌}
-use Rattle.std.proofs.lemmas.Bool.{and_parts, not-true}
+use Rattle.std.proofs.lemmas.Bool.{and_parts, not-true, or_parts}
 use Rattle.std.specs.List.{find, list_any}
 use Rattle.std.specs.Prelude.{◌||◌, option_map}
 use Rattle.stl_statements.specs.ConstantForms.{IsAmong}
@@ -65,6 +65,16 @@ none_passes test (x ∷ xs) other e h = by (test x) refl e h (λ k more. none_pa
 pub none_found : {X : Type 0} (test : X → Bool) (xs : List X) → ((x : X) → test x ≡ false) → find test xs ≡ None
 none_found test [] none = refl
 none_found test (x ∷ xs) none = ap (λ (b : Bool). cond b (Some x) (find test xs)) (none x) ∙ none_found test xs none
+
+pub none_among : {X : Type 0} (test : X → Bool) (xs : List X) → ((x : X) → IsAmong x xs → test x ≡ false) → find test xs ≡ None
+none_among test [] none = refl
+none_among test (x ∷ xs) none = ap (λ (b : Bool). cond b (Some x) (find test xs)) (none x (inl refl)) ∙ none_among test xs (λ y among. none y (inr among))
+
+-- where none is there, nothing is found
+pub find_unlisted : {X : Type 0} (test : X → Bool) (xs : List X) → list_any test xs ≡ false → find test xs ≡ None
+find_unlisted test [] h = refl
+find_unlisted test (x ∷ xs) h =
+    let p = or_parts (test x) (list_any test xs) h in ap (λ (b : Bool). cond b (Some x) (find test xs)) p.0 ∙ find_unlisted test xs p.1
 
 -- one that passes is there
 pub any_at : {X : Type 0} (test : X → Bool) (xs : List X) (x : X) → IsAmong x xs → test x ≡ true → list_any test xs ≡ true

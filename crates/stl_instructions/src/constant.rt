@@ -393,7 +393,8 @@ fn addend_prefixes() -> &'static [Prefixed]
     rest_after(&PREFIXES, 4)
 }
 
-fn left_out_prefixes() -> &'static [Prefixed]
+/// The prefixes of constants that are left out.
+pub fn left_out_prefixes() -> &'static [Prefixed]
     ensures { map shown result.now ≡ left_out_prefixes }
 {
     rest_after(&PREFIXES, 5)
@@ -529,7 +530,7 @@ fn plain_at(tokens: &[Token]) -> Read<Constant>
 }
 
 /// A constant with a prefix of a table, or a real one.
-fn marked_at(table: &[Prefixed], tokens: &[Token]) -> Read<Constant>
+pub fn marked_at(table: &[Prefixed], tokens: &[Token]) -> Read<Constant>
     ensures { result ≡ marked_at (map shown table.now) tokens.now }
 {
     match prefixed_at(table, tokens) {

@@ -3,29 +3,33 @@ ghost use Rattle.std.specs.Prelude.{◌≡◌, IfOk, ℕ, ◌&&◌, ◌||◌, na
 ghost use Rattle.std.specs.List.{find};
 ghost use Rattle.s7_base.specs.Tokens.{is_same_word};
 ghost use Rattle.memory_areas.specs.Access.{is_unaligned};
-ghost use Rattle.stl_statements.specs.Constants.{addend_at, constant_at, number_at};
+ghost use Rattle.stl_statements.specs.Constants.{addend_at, number_at};
 ghost use Rattle.stl_statements.specs.Mnemonics.{goes_on};
+ghost use Rattle.stl_statements.specs.Paths.{named_at};
+ghost use Rattle.stl_statements.specs.Pointers.{indirect_at, offset_at, pointer_at};
 ghost use Rattle.stl_statements.specs.Readers.{or_else, read_as};
 ghost use Rattle.stl_tree.specs.Shifts.{most_steps};
-ghost use Rattle.stl_statements.specs.Statements.{block_number_at, checked_at, checked_shape, first_of, has_form, is_asked, is_in_area, is_named, is_numbered, left_out_at, left_out_forms, length_at, loaded_at, located_at, nothing_at, opened_at, opened_behind, opened_name_at, opened_number_at, opened_word, opening, operand_by, operand_of, or_nothing, place_operand, second_of, shape_of, size_with, status_at, stored_at, stw_at, tests, timers_and_counters};
+ghost use Rattle.stl_statements.specs.Statements.{any_constant_at, block_number_at, checked_at, checked_shape, first_of, has_form, is_asked, is_in_area, is_named, is_numbered, left_out_at, left_out_forms, length_at, loaded_at, located_at, nothing_at, operand_by, operand_of, or_nothing, other_at, place_operand, placed_at, pointer_alone_at, pointer_loaded_at, pointer_stored_at, second_of, shape_of, size_with, status_at, stored_at, stw_at, tests, timers_and_counters};
 ghost use Rattle.stl_statements.specs.Words.{is_spelled};
 ghost use Rattle.stl_tree.specs.WordLogic.{width_of as logic_width};
 ghost use Rattle.stl_tree.specs.declared.raw.RawOperand.TheVariants as operand;
 ghost use Rattle.stl_instructions.specs.inner.Rows.{seen};
 ghost use Rattle.stl_instructions.specs.inner.Shapes.{IsPlainShape};
 
-use crate::constant::{addend_at, constant_at, number_at};
+use crate::constant::{addend_at, constant_at, left_out_prefixes, marked_at, number_at};
 use crate::number::are_digits;
-use crate::path::{name_of, named_at};
-use crate::place::{numbered_at, opened_area, place_at};
+use crate::opened::opened_at;
+use crate::path::named_at;
+use crate::place::place_at;
+use crate::pointer::{crossing_at, indirect_at, offset_at, pointer_at};
 use crate::table::goes_on;
-use crate::words::{is_quoted, is_sign, is_word, is_word_kind, is_word_or_sign};
-use memory_areas::{AreaName, is_byte_in};
+use crate::words::{is_sign, is_word, is_word_kind, is_word_or_sign};
+use memory_areas::is_byte_in;
 use s7_base::{Check, Kind, NoMemory, Token, Width, front_of, is_same_word, rest_after};
 use status_word::Test;
 use std::alloc::Global;
 use stl_statements::{Mnemonic, Read, Shape};
-use stl_tree::{Constant, LogicRow, RawName, RawOperand, RawPlace, ShiftRow};
+use stl_tree::{Ar, Constant, LogicRow, RawOperand, RawPlace, RawPointer, ShiftRow};
 
 /// A form that is left out where a place may stand: a word with a number, or with a bracket where it may be
 /// indirect, and its kind.
@@ -176,13 +180,32 @@ fn place_operand(tokens: &[Token]) -> Read<RawPlace>
     }
 }
 
-/// What stands where a written place may stand, or a name.
+fn named_or_indirect(alloc: Global, tokens: &[Token]) -> Result<Read<RawOperand>, NoMemory>
+    ensures { IfOk result (λ read. read ≡ or_else (named_at tokens.now) (indirect_at tokens.now)) }
+{
+    match named_at(alloc, tokens)? {
+        Read::No => Ok(indirect_at(tokens)),
+        read => Ok(read),
+    }
+}
+
+/// What stands where a written place may stand, or a name, or an area and a pointer.
+fn placed_at(alloc: Global, tokens: &[Token]) -> Result<Read<RawOperand>, NoMemory>
+    ensures { IfOk result (λ read. read ≡ placed_at tokens.now) }
+{
+    match place_operand(tokens) {
+        Read::No => named_or_indirect(alloc, tokens),
+        read => Ok(at_place(read)),
+    }
+}
+
+/// The same, or a pointer that has its area.
 fn located_at(alloc: Global, tokens: &[Token]) -> Result<Read<RawOperand>, NoMemory>
     ensures { IfOk result (λ read. read ≡ located_at tokens.now) }
 {
-    match place_operand(tokens) {
-        Read::No => named_at(alloc, tokens),
-        read => Ok(at_place(read)),
+    match placed_at(alloc, tokens)? {
+        Read::No => Ok(crossing_at(tokens)),
+        read => Ok(read),
     }
 }
 
@@ -201,6 +224,16 @@ fn at_constant(read: Read<Constant>) -> Read<RawOperand>
 {
     match read {
         Read::Fits(constant, size) => Read::Fits(RawOperand::Constant(constant), size),
+        Read::LeftOut(kind) => Read::LeftOut(kind),
+        Read::No => Read::No,
+    }
+}
+
+fn at_pointer(read: Read<RawPointer>) -> Read<RawOperand>
+    ensures { result ≡ read_as operand.Pointer read }
+{
+    match read {
+        Read::Fits(pointer, size) => Read::Fits(RawOperand::Pointer(pointer), size),
         Read::LeftOut(kind) => Read::LeftOut(kind),
         Read::No => Read::No,
     }
@@ -381,14 +414,23 @@ fn register_at(tokens: &[Token]) -> Read<RawOperand>
     }
 }
 
-fn constant_or_located(alloc: Global, tokens: &[Token]) -> Result<Read<RawOperand>, NoMemory>
-    ensures { IfOk result (λ read. read
-        ≡ or_else (read_as operand.Constant (constant_at tokens.now))
-        (or_else (located_at tokens.now) (length_at tokens.now))) }
+/// A constant, that of a pointer among them.
+fn any_constant_at(tokens: &[Token]) -> Read<RawOperand>
+    ensures { result ≡ any_constant_at tokens.now }
 {
     match constant_at(tokens) {
+        Read::No => at_pointer(pointer_at(tokens)),
+        read => at_constant(read),
+    }
+}
+
+fn constant_or_located(alloc: Global, tokens: &[Token]) -> Result<Read<RawOperand>, NoMemory>
+    ensures { IfOk result (λ read. read
+        ≡ or_else (any_constant_at tokens.now) (or_else (located_at tokens.now) (length_at tokens.now))) }
+{
+    match any_constant_at(tokens) {
         Read::No => located_or_length(alloc, tokens),
-        read => Ok(at_constant(read)),
+        read => Ok(read),
     }
 }
 
@@ -402,75 +444,69 @@ fn loaded_at(alloc: Global, tokens: &[Token]) -> Result<Read<RawOperand>, NoMemo
     }
 }
 
-fn opening(area: AreaName, name: RawName) -> RawOperand
-    ensures { result ≡ opening area name }
+/// A pointer where no other constant may stand; those that are left out are named all the same.
+fn pointer_alone_at(tokens: &[Token]) -> Read<RawOperand>
+    ensures { result ≡ pointer_alone_at pointer_at tokens.now }
 {
-    match area {
-        AreaName::Di => RawOperand::OpenDi(name),
-        AreaName::I | AreaName::Q | AreaName::M | AreaName::L | AreaName::Db => {
-            RawOperand::OpenDb(name)
-        }
+    match marked_at(left_out_prefixes(), tokens) {
+        Read::No => at_pointer(pointer_at(tokens)),
+        read => at_constant(read),
     }
 }
 
-/// A data block by its number.
-fn opened_number_at(tokens: &[Token]) -> Read<RawOperand>
-    ensures { result ≡ opened_number_at tokens.now }
+/// The same of an offset.
+fn offset_alone_at(tokens: &[Token]) -> Read<RawOperand>
+    ensures { result ≡ pointer_alone_at offset_at tokens.now }
 {
-    match numbered_at(tokens) {
-        Read::Fits(found, size) => match opened_area(found.letters) {
-            Some(area) => Read::Fits(opening(area, RawName::Number(found.number)), size),
-            None => Read::No,
-        },
-        Read::LeftOut(kind) => Read::LeftOut(kind),
-        Read::No => Read::No,
+    match marked_at(left_out_prefixes(), tokens) {
+        Read::No => at_pointer(offset_at(tokens)),
+        read => at_constant(read),
     }
 }
 
-/// The area that is opened, by its word.
-fn opened_word(word: &Token) -> Option<AreaName>
-    ensures { result ≡ opened_word word.now }
+/// The other address register, which stands behind `LAR1` and `TAR1` alone.
+fn other_at(register: Ar, tokens: &[Token]) -> Read<RawOperand>
+    ensures { result ≡ other_at register tokens.now }
 {
-    if is_word_kind(word) {
-        opened_area(word.text.as_slice())
-    } else {
-        None
+    match (register, tokens) {
+        (Ar::One, [first, ..]) if is_word(first, "AR2") => Read::Fits(RawOperand::OtherAr, 1),
+        _ => Read::No,
     }
 }
 
-/// A data block by its name, behind its word.
-fn opened_behind(alloc: Global, word: &Token, rest: &[Token]) -> Result<Read<RawOperand>, NoMemory>
-    ensures { IfOk result (λ read. read ≡ opened_behind (opened_word word.now) rest.now) }
+fn pointer_or_placed(alloc: Global, tokens: &[Token]) -> Result<Read<RawOperand>, NoMemory>
+    ensures { IfOk result (λ read. read ≡ or_else (pointer_alone_at pointer_at tokens.now) (placed_at tokens.now)) }
 {
-    match (opened_word(word), rest) {
-        (Some(area), [name, ..]) if is_quoted(name) => {
-            let name = RawName::Name(name_of(alloc, name)?);
-            Ok(Read::Fits(opening(area, name), 2))
-        }
-        _ => Ok(Read::No),
+    match pointer_alone_at(tokens) {
+        Read::No => placed_at(alloc, tokens),
+        read => Ok(read),
     }
 }
 
-/// A data block by its name, behind its word or alone.
-fn opened_name_at(alloc: Global, tokens: &[Token]) -> Result<Read<RawOperand>, NoMemory>
-    ensures { IfOk result (λ read. read ≡ opened_name_at tokens.now) }
+/// What `LAR1` and `LAR2` load.
+fn pointer_loaded_at(
+    alloc: Global,
+    register: Ar,
+    tokens: &[Token],
+) -> Result<Read<RawOperand>, NoMemory>
+    ensures { IfOk result (λ read. read ≡ pointer_loaded_at register tokens.now) }
 {
-    match tokens {
-        [first, ..] if is_quoted(first) => {
-            let name = RawName::Name(name_of(alloc, first)?);
-            Ok(Read::Fits(RawOperand::OpenDb(name), 1))
-        }
-        [first, rest @ ..] => opened_behind(alloc, first, rest),
-        [] => Ok(Read::No),
+    match other_at(register, tokens) {
+        Read::No => pointer_or_placed(alloc, tokens),
+        read => Ok(read),
     }
 }
 
-/// What `OPN` opens.
-fn opened_at(alloc: Global, tokens: &[Token]) -> Result<Read<RawOperand>, NoMemory>
-    ensures { IfOk result (λ read. read ≡ opened_at tokens.now) }
+/// Where `TAR1` and `TAR2` store.
+fn pointer_stored_at(
+    alloc: Global,
+    register: Ar,
+    tokens: &[Token],
+) -> Result<Read<RawOperand>, NoMemory>
+    ensures { IfOk result (λ read. read ≡ pointer_stored_at register tokens.now) }
 {
-    match opened_number_at(tokens) {
-        Read::No => opened_name_at(alloc, tokens),
+    match other_at(register, tokens) {
+        Read::No => placed_at(alloc, tokens),
         read => Ok(read),
     }
 }
@@ -494,11 +530,46 @@ fn number_or_nothing(most: u8, tokens: &[Token]) -> Read<RawOperand>
 }
 
 fn constant_or_nothing(tokens: &[Token]) -> Read<RawOperand>
-    ensures { result ≡ or_nothing tokens.now (read_as operand.Constant (constant_at tokens.now)) }
+    ensures { result ≡ or_nothing tokens.now (any_constant_at tokens.now) }
 {
     match nothing_at(tokens) {
-        Read::No => at_constant(constant_at(tokens)),
+        Read::No => any_constant_at(tokens),
         read => read,
+    }
+}
+
+fn offset_or_nothing(tokens: &[Token]) -> Read<RawOperand>
+    ensures { result ≡ or_nothing tokens.now (pointer_alone_at offset_at tokens.now) }
+{
+    match nothing_at(tokens) {
+        Read::No => offset_alone_at(tokens),
+        read => read,
+    }
+}
+
+fn pointer_loaded_or_nothing(
+    alloc: Global,
+    register: Ar,
+    tokens: &[Token],
+) -> Result<Read<RawOperand>, NoMemory>
+    ensures { IfOk result (λ read. read ≡ or_nothing tokens.now (pointer_loaded_at register tokens.now)) }
+{
+    match nothing_at(tokens) {
+        Read::No => pointer_loaded_at(alloc, register, tokens),
+        read => Ok(read),
+    }
+}
+
+fn pointer_stored_or_nothing(
+    alloc: Global,
+    register: Ar,
+    tokens: &[Token],
+) -> Result<Read<RawOperand>, NoMemory>
+    ensures { IfOk result (λ read. read ≡ or_nothing tokens.now (pointer_stored_at register tokens.now)) }
+{
+    match nothing_at(tokens) {
+        Read::No => pointer_stored_at(alloc, register, tokens),
+        read => Ok(read),
     }
 }
 
@@ -513,6 +584,7 @@ fn plain_operand(shape: Shape, tokens: &[Token]) -> Read<RawOperand>
         Shape::NumberOrNothing(most) => number_or_nothing(most, tokens),
         Shape::Addend => at_constant(addend_at(tokens)),
         Shape::ConstantOrNothing => constant_or_nothing(tokens),
+        Shape::OffsetOrNothing => offset_or_nothing(tokens),
         Shape::TimerOrCounter => at_place(left_out_at(timers_and_counters(), tokens)),
         Shape::LeftOut(kind) => Read::LeftOut(kind),
         _ => Read::No,
@@ -529,12 +601,15 @@ fn operand_by(alloc: Global, shape: Shape, tokens: &[Token]) -> Result<Read<RawO
         Shape::CheckedOrNothing => checked_or_nothing(alloc, tokens),
         Shape::Loaded => loaded_at(alloc, tokens),
         Shape::Stored => stored_at(alloc, tokens),
+        Shape::PointerLoaded(register) => pointer_loaded_or_nothing(alloc, register, tokens),
+        Shape::PointerStored(register) => pointer_stored_or_nothing(alloc, register, tokens),
         Shape::Opened => opened_at(alloc, tokens),
         Shape::Nothing
         | Shape::Number(_)
         | Shape::NumberOrNothing(_)
         | Shape::Addend
         | Shape::ConstantOrNothing
+        | Shape::OffsetOrNothing
         | Shape::TimerOrCounter
         | Shape::Later
         | Shape::LeftOut(_) => Ok(plain_operand(shape, tokens)),
@@ -590,7 +665,8 @@ fn shape_of(what: Mnemonic) -> Shape
         | Mnemonic::Tak
         | Mnemonic::ExchangeDb
         | Mnemonic::Push
-        | Mnemonic::Pop => Shape::Nothing,
+        | Mnemonic::Pop
+        | Mnemonic::ExchangeAr => Shape::Nothing,
         Mnemonic::Assign
         | Mnemonic::Set
         | Mnemonic::Reset
@@ -602,6 +678,9 @@ fn shape_of(what: Mnemonic) -> Shape
         Mnemonic::Inc | Mnemonic::Dec | Mnemonic::Nop => Shape::Number(255),
         Mnemonic::Shift(row) => Shape::NumberOrNothing(most_steps(row)),
         Mnemonic::Logic(_) => Shape::ConstantOrNothing,
+        Mnemonic::LoadAr(register) => Shape::PointerLoaded(register),
+        Mnemonic::StoreAr(register) => Shape::PointerStored(register),
+        Mnemonic::AddAr(_) => Shape::OffsetOrNothing,
         Mnemonic::Open => Shape::Opened,
         Mnemonic::TimerOrCounter => Shape::TimerOrCounter,
         Mnemonic::Later => Shape::Later,

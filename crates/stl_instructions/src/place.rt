@@ -2,6 +2,7 @@
 ghost use Rattle.std.specs.Prelude.{◌≡◌, ◌≤◌, ◌^◌, Some, map, option_map};
 ghost use Rattle.std.specs.List.{find, prefix_len};
 ghost use Rattle.stl_statements.specs.Places.{bit_at, bit_behind, bit_number, block_place_at, db_words, digits_of, has_letters, is_no_digit, letters_of, number_behind, numbered_at, opened_area, place_at, place_behind, place_by, place_in, place_words, with_number, with_word};
+ghost use Rattle.stl_statements.specs.Pointers.{has_word};
 ghost use Rattle.stl_statements.specs.Readers.{IsWithin, further, read_as};
 ghost use Rattle.stl_instructions.specs.inner.Rows.{lettered, named};
 
@@ -24,8 +25,8 @@ pub struct Numbered<'a> {
 #[derive(Clone, Copy)]
 pub struct PlaceWord {
     word: &'static str,
-    area: AreaName,
-    width: Width,
+    pub area: AreaName,
+    pub width: Width,
 }
 
 /// The words of areas and widths, those of DB first.
@@ -251,6 +252,17 @@ fn place_words() -> &'static [PlaceWord]
     &PLACE_WORDS
 }
 
+/// The word of an area and a width that a token is.
+pub fn word_in(token: &Token) -> Option<PlaceWord>
+    ensures { option_map named result ≡ find (has_word token.now) place_words }
+{
+    if is_word_kind(token) {
+        first_word(token.text.as_slice(), place_words())
+    } else {
+        None
+    }
+}
+
 /// The words of DB.
 fn db_words() -> &'static [PlaceWord]
     ensures { map named result.now ≡ db_words }
@@ -371,7 +383,8 @@ pub fn opened_area(letters: &[u8]) -> Option<AreaName>
 
 /// A place in a data block, by the number before it: `DB5.DBW 4`.
 fn block_place_at(tokens: &[Token]) -> Read<RawPlace>
-    ensures { result ≡ block_place_at tokens.now }
+    ensures value { result ≡ block_place_at tokens.now }
+    ensures within { IsWithin 7 result }
 {
     match numbered_at(tokens) {
         Read::Fits(found, size) => {
@@ -388,7 +401,8 @@ fn block_place_at(tokens: &[Token]) -> Read<RawPlace>
 
 /// A written place.
 pub fn place_at(tokens: &[Token]) -> Read<RawPlace>
-    ensures { result ≡ place_at tokens.now }
+    ensures value { result ≡ place_at tokens.now }
+    ensures within { IsWithin 7 result }
 {
     match place_in(place_words(), None, tokens) {
         Read::No => block_place_at(tokens),

@@ -10,7 +10,7 @@ use crate::words::{is_sign, is_spelled, is_word_or_sign};
 use s7_base::{Check, Kind, Token, Width, front_of, is_same_word, rest_after};
 use status_word::Test;
 use stl_statements::Mnemonic;
-use stl_tree::{Arith, LogicRow, ShiftRow, UnaryRow};
+use stl_tree::{Ar, Arith, LogicRow, ShiftRow, UnaryRow};
 
 /// A row: a word or a sign, the word or sign behind it, if there is one, and what the mnemonic is.
 #[derive(Clone, Copy)]
@@ -58,8 +58,8 @@ static ROWS: [Row; 155] = [
     Row("/", "I", Mnemonic::Arith(Arith::DivI)),
     Row("/", "D", Mnemonic::Arith(Arith::DivD)),
     Row("/", "R", Mnemonic::LeftOut(Kind::Real)),
-    Row("+", "AR1", LATER),
-    Row("+", "AR2", LATER),
+    Row("+", "AR1", Mnemonic::AddAr(Ar::One)),
+    Row("+", "AR2", Mnemonic::AddAr(Ar::Two)),
     Row("+", "", Mnemonic::Plus),
     Row("==", "I", Mnemonic::Compare(Test::Eq, Width::Word)),
     Row("==", "D", Mnemonic::Compare(Test::Eq, Width::Dword)),
@@ -112,11 +112,11 @@ static ROWS: [Row; 155] = [
     Row("TAK", "", Mnemonic::Tak),
     Row("PUSH", "", Mnemonic::Push),
     Row("POP", "", Mnemonic::Pop),
-    Row("LAR1", "", LATER),
-    Row("LAR2", "", LATER),
-    Row("TAR1", "", LATER),
-    Row("TAR2", "", LATER),
-    Row("CAR", "", LATER),
+    Row("LAR1", "", Mnemonic::LoadAr(Ar::One)),
+    Row("LAR2", "", Mnemonic::LoadAr(Ar::Two)),
+    Row("TAR1", "", Mnemonic::StoreAr(Ar::One)),
+    Row("TAR2", "", Mnemonic::StoreAr(Ar::Two)),
+    Row("CAR", "", Mnemonic::ExchangeAr),
     Row("OPN", "", Mnemonic::Open),
     Row("CDB", "", Mnemonic::ExchangeDb),
     Row("NOP", "", Mnemonic::Nop),

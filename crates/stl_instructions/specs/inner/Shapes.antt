@@ -9,5 +9,7 @@ IsPlainShape shape.Checked = ⊥
 IsPlainShape shape.CheckedOrNothing = ⊥
 IsPlainShape shape.Loaded = ⊥
 IsPlainShape shape.Stored = ⊥
+IsPlainShape (shape.PointerLoaded r) = ⊥
+IsPlainShape (shape.PointerStored r) = ⊥
 IsPlainShape shape.Opened = ⊥
 IsPlainShape other = Unit {0}

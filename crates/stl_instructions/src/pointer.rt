@@ -1,0 +1,334 @@
+//! Reads pointer constants, and operands that are found by a pointer.
+ghost use Rattle.std.specs.Prelude.{◌≡◌, ◌&&◌, ◌==◌, if◌then◌else◌, Some, None, codes};
+ghost use Rattle.std.specs.List.{find};
+ghost use Rattle.memory_areas.specs.Access.{bytes_wide};
+ghost use Rattle.stl_statements.specs.Constants.{begins_glued};
+ghost use Rattle.stl_statements.specs.Places.{place_at, place_words};
+ghost use Rattle.stl_statements.specs.Pointers.{closed, crossing_at, crossing_by, has_word, indirect_at, indirect_by, is_held, is_in_reach, memory_at, offset_at, offset_behind, offset_of, pointer_at, pointer_behind, pointer_to, pointer_with, register_at, register_named, value_of, width_named};
+ghost use Rattle.stl_statements.specs.Readers.{IsWithin, further, read_as};
+ghost use Rattle.stl_statements.specs.Words.{is_joined, is_word};
+ghost use Rattle.stl_tree.specs.Accepted.{may_hold_pointers};
+ghost use Rattle.stl_tree.specs.AddressRegisters.{code_of};
+ghost use Rattle.stl_tree.specs.declared.program.Ar.{Ar};
+ghost use Rattle.stl_tree.specs.declared.raw.RawOperand.{RawOperand};
+ghost use Rattle.stl_tree.specs.declared.raw.RawOperand.TheVariants as operand;
+ghost use Rattle.stl_tree.specs.declared.raw.RawPlace.{RawPlace};
+ghost use Rattle.stl_tree.specs.declared.raw.RawPointer.{RawPointer};
+ghost use Rattle.stl_instructions.specs.inner.Rows.{named};
+
+use crate::constant::begins_glued;
+use crate::path::number_word;
+use crate::place::{PlaceWord, bit_at, further, place_at, word_in};
+use crate::words::{is_joined, is_sign, is_word};
+use memory_areas::AreaName;
+use s7_base::{Token, Width, rest_after};
+use stl_statements::Read;
+use stl_tree::{Ar, RawOperand, RawPlace, RawPointer};
+
+/// The code of an area in a pointer.
+pub fn code_of(area: AreaName) -> u8
+    ensures { result ≡ code_of area }
+{
+    match area {
+        AreaName::I => 0x81,
+        AreaName::Q => 0x82,
+        AreaName::M => 0x83,
+        AreaName::Db => 0x84,
+        AreaName::Di => 0x85,
+        AreaName::L => 0x86,
+    }
+}
+
+/// Byte and bit are ones that a pointer has.
+pub fn is_in_reach(pointer: RawPointer) -> bool
+    ensures { result ≡ is_in_reach pointer }
+{
+    pointer.byte <= 65_535 && pointer.bit <= 7
+}
+
+/// Byte and bit in their places, where a pointer has them.
+pub fn offset_value(pointer: RawPointer) -> Option<u32>
+    ensures { result ≡ (if is_in_reach pointer then Some (offset_of pointer) else None) }
+{
+    if is_in_reach(pointer) {
+        Some(pointer.byte * 8 + pointer.bit)
+    } else {
+        None
+    }
+}
+
+/// The same with the area code.
+pub fn pointer_value(pointer: RawPointer) -> Option<u32>
+    ensures { result ≡ (if is_in_reach pointer then Some (value_of pointer) else None) }
+{
+    if is_in_reach(pointer) {
+        Some(u32::from(pointer.code) * 16_777_216 + (pointer.byte * 8 + pointer.bit))
+    } else {
+        None
+    }
+}
+
+/// A byte, a point and a bit: an offset has no area.
+fn offset_behind(tokens: &[Token]) -> Read<RawPointer>
+    ensures value { result ≡ offset_behind tokens.now }
+    ensures within { IsWithin 3 result }
+{
+    match tokens {
+        [byte, rest @ ..] => match (number_word(byte), bit_at(rest)) {
+            (Some(byte), Read::Fits(bit, size)) => {
+                Read::Fits(RawPointer { code: 0, byte, bit }, size + 1)
+            }
+            _ => Read::No,
+        },
+        [] => Read::No,
+    }
+}
+
+/// The pointer to a bit, which has no data block named before it.
+fn pointer_to(place: RawPlace) -> Option<RawPointer>
+    ensures { result ≡ pointer_to place }
+{
+    match (place.block, place.width) {
+        (None, Width::Bit) => Some(RawPointer {
+            code: code_of(place.area),
+            byte: place.byte,
+            bit: place.bit,
+        }),
+        _ => None,
+    }
+}
+
+fn area_pointer_at(tokens: &[Token]) -> Read<RawPointer>
+    ensures value { result ≡ pointer_with (place_at tokens.now) }
+    ensures within { IsWithin 7 result }
+{
+    match place_at(tokens) {
+        Read::Fits(place, size) => match pointer_to(place) {
+            Some(pointer) => Read::Fits(pointer, size),
+            None => Read::No,
+        },
+        Read::LeftOut(_) | Read::No => Read::No,
+    }
+}
+
+/// A bit of an area, or an offset.
+fn pointer_behind(tokens: &[Token]) -> Read<RawPointer>
+    ensures value { result ≡ pointer_behind tokens.now }
+    ensures within { IsWithin 7 result }
+{
+    match area_pointer_at(tokens) {
+        Read::No => offset_behind(tokens),
+        read => read,
+    }
+}
+
+/// `P#`, and behind it something with no blank before it.
+fn is_behind_hash(word: &Token, hash: &Token, rest: &[Token]) -> bool
+    ensures { result ≡ (is_word (codes "P") word.now && is_joined (codes "#") hash.now && begins_glued rest.now) }
+{
+    is_word(word, "P") && is_joined(hash, "#") && begins_glued(rest)
+}
+
+/// A pointer constant: `P#M 10.3` or `P#10.3`.
+pub fn pointer_at(tokens: &[Token]) -> Read<RawPointer>
+    ensures { result ≡ pointer_at tokens.now }
+{
+    match tokens {
+        [word, hash, rest @ ..] if is_behind_hash(word, hash, rest) => {
+            further(2, pointer_behind(rest))
+        }
+        _ => Read::No,
+    }
+}
+
+/// An offset: `P#10.3`.
+pub fn offset_at(tokens: &[Token]) -> Read<RawPointer>
+    ensures value { result ≡ offset_at tokens.now }
+    ensures within { IsWithin 5 result }
+{
+    match tokens {
+        [word, hash, rest @ ..] if is_behind_hash(word, hash, rest) => {
+            further(2, offset_behind(rest))
+        }
+        _ => Read::No,
+    }
+}
+
+/// The areas in which a pointer may stand.
+fn may_hold_pointers(area: AreaName) -> bool
+    ensures { result ≡ may_hold_pointers area }
+{
+    match area {
+        AreaName::I | AreaName::Q => false,
+        AreaName::M | AreaName::L | AreaName::Db | AreaName::Di => true,
+    }
+}
+
+fn is_as_wide(width: Width, other: Width) -> bool
+    ensures { result ≡ (bytes_wide width == bytes_wide other) }
+{
+    match (width, other) {
+        (Width::Bit | Width::Byte, Width::Bit | Width::Byte)
+        | (Width::Word, Width::Word)
+        | (Width::Dword, Width::Dword) => true,
+        _ => false,
+    }
+}
+
+/// A pointer, or the number of a data block, of this width may stand at the place.
+fn is_held(width: Width, place: RawPlace) -> bool
+    ensures { result ≡ is_held width place }
+{
+    place.block.is_none() && may_hold_pointers(place.area) && is_as_wide(place.width, width)
+}
+
+/// Such a place and the end of its bracket: `MD 4]`.
+pub fn memory_at(width: Width, tokens: &[Token]) -> Read<RawPlace>
+    ensures value { (make : RawPlace → RawOperand) → read_as make result ≡ memory_at make width tokens.now }
+    ensures within { IsWithin 8 result }
+{
+    match place_at(tokens) {
+        Read::Fits(place, size) if is_held(width, place) => match rest_after(tokens, size) {
+            [close, ..] if is_sign(close, "]") => Read::Fits(place, size + 1),
+            _ => Read::No,
+        },
+        _ => Read::No,
+    }
+}
+
+fn register_named(word: &Token) -> Option<Ar>
+    ensures { result ≡ register_named word.now }
+{
+    if is_word(word, "AR1") {
+        Some(Ar::One)
+    } else if is_word(word, "AR2") {
+        Some(Ar::Two)
+    } else {
+        None
+    }
+}
+
+/// An offset and the end of its bracket.
+fn closed_offset_at(tokens: &[Token]) -> Read<RawPointer>
+    ensures value { (make : RawPointer → RawOperand) → read_as make result ≡ closed tokens.now (read_as make (offset_at tokens.now)) }
+    ensures within { IsWithin 6 result }
+{
+    match offset_at(tokens) {
+        Read::Fits(pointer, size) => match rest_after(tokens, size) {
+            [close, ..] if is_sign(close, "]") => Read::Fits(pointer, size + 1),
+            _ => Read::No,
+        },
+        Read::LeftOut(kind) => Read::LeftOut(kind),
+        Read::No => Read::No,
+    }
+}
+
+/// A register, an offset and the end of their bracket: `AR1,P#0.6]`.
+fn register_at(tokens: &[Token]) -> Read<(Ar, RawPointer)>
+    ensures value { (make : Ar → RawPointer → RawOperand) → read_as (λ found. make found.0 found.1) result ≡ register_at make tokens.now }
+    ensures within { IsWithin 8 result }
+{
+    match tokens {
+        [word, comma, rest @ ..] if is_sign(comma, ",") => match register_named(word) {
+            Some(register) => match closed_offset_at(rest) {
+                Read::Fits(offset, size) => Read::Fits((register, offset), size + 2),
+                Read::LeftOut(kind) => Read::LeftOut(kind),
+                Read::No => Read::No,
+            },
+            None => Read::No,
+        },
+        _ => Read::No,
+    }
+}
+
+/// In a bracket: the place of a pointer, or a register and an offset.
+fn indirect_by(word: PlaceWord, tokens: &[Token]) -> Read<RawOperand>
+    ensures value { result ≡ indirect_by (Some (named word)) tokens.now }
+    ensures within { IsWithin 8 result }
+{
+    match memory_at(Width::Dword, tokens) {
+        Read::Fits(place, size) => {
+            Read::Fits(RawOperand::ByMemory(word.area, word.width, place), size)
+        }
+        Read::LeftOut(kind) => Read::LeftOut(kind),
+        Read::No => by_register(word, tokens),
+    }
+}
+
+fn by_register(word: PlaceWord, tokens: &[Token]) -> Read<RawOperand>
+    ensures value { result ≡ register_at (operand.ByRegister word.area word.width) tokens.now }
+    ensures within { IsWithin 8 result }
+{
+    match register_at(tokens) {
+        Read::Fits((register, offset), size) => Read::Fits(
+            RawOperand::ByRegister(word.area, word.width, register, offset),
+            size,
+        ),
+        Read::LeftOut(kind) => Read::LeftOut(kind),
+        Read::No => Read::No,
+    }
+}
+
+/// An operand that names its area: `MW [MD 4]` or `MW [AR1,P#2.0]`.
+pub fn indirect_at(tokens: &[Token]) -> Read<RawOperand>
+    ensures { result ≡ indirect_at tokens.now }
+{
+    match tokens {
+        [word, before, rest @ ..] if is_sign(before, "[") => match word_in(word) {
+            Some(word) => further(2, indirect_by(word, rest)),
+            None => Read::No,
+        },
+        _ => Read::No,
+    }
+}
+
+/// The word of a width before a pointer that has its area.
+fn width_named(word: &Token) -> Option<Width>
+    ensures { result ≡ width_named word.now }
+{
+    if is_word(word, "B") {
+        Some(Width::Byte)
+    } else if is_word(word, "W") {
+        Some(Width::Word)
+    } else if is_word(word, "D") {
+        Some(Width::Dword)
+    } else {
+        None
+    }
+}
+
+fn crossing(width: Width, tokens: &[Token]) -> Read<RawOperand>
+    ensures value { result ≡ register_at (operand.Crossing width) tokens.now }
+    ensures within { IsWithin 8 result }
+{
+    match register_at(tokens) {
+        Read::Fits((register, offset), size) => {
+            Read::Fits(RawOperand::Crossing(width, register, offset), size)
+        }
+        Read::LeftOut(kind) => Read::LeftOut(kind),
+        Read::No => Read::No,
+    }
+}
+
+/// Behind the word of a width: a bracket with a register and an offset.
+fn wide_crossing(width: Option<Width>, tokens: &[Token]) -> Read<RawOperand>
+    ensures { result ≡ crossing_by width tokens.now }
+{
+    match (width, tokens) {
+        (Some(width), [before, rest @ ..]) if is_sign(before, "[") => {
+            further(2, crossing(width, rest))
+        }
+        _ => Read::No,
+    }
+}
+
+/// An operand that a pointer has the area of: a bit, or with its width before the bracket.
+pub fn crossing_at(tokens: &[Token]) -> Read<RawOperand>
+    ensures { result ≡ crossing_at tokens.now }
+{
+    match tokens {
+        [first, rest @ ..] if is_sign(first, "[") => further(1, crossing(Width::Bit, rest)),
+        [first, rest @ ..] => wide_crossing(width_named(first), rest),
+        [] => Read::No,
+    }
+}
