@@ -4,9 +4,8 @@ use Rattle.stl_tree.specs.declared.raw.Declaration.{Declaration, para-Declaratio
 use Rattle.stl_tree.specs.declared.raw.DeclType.{DeclType}
 use Rattle.stl_tree.specs.declared.raw.DeclType.TheVariants as type
 use Rattle.stl_tree.specs.declared.raw.ElemType.{ElemType}
-use Rattle.stl_rules.proofs.Equations.{at_array, at_date, at_elementary, at_struct}
+use Rattle.stl_rules.proofs.Equations.{at_array, at_date, at_elementary, at_struct, extent_equations, extent_struct}
 use Rattle.symbol_layout.proofs.Capped.{capped_filled, capped_product}
-use Rattle.symbol_layout.proofs.Equations.{extent_equations, extent_struct}
 use Rattle.component_index.specs.inner.Scopes.{AreBits, no_result, struct_in, struct_step}
 
 abbrev Found : Type 0

@@ -13,14 +13,15 @@ use Rattle.stl_rules.specs.Extents.{elements_in, end_of, end_of_all, extent_of, 
 use Rattle.stl_rules.specs.declared.laid.Extent.{Extent}
 use Rattle.stl_rules.specs.Paths.{Placed, element_at, named_behind, stepped, stepped_in}
 use Rattle.stl_rules.proofs.Ends.{whole}
-use Rattle.symbol_layout.proofs.Equations.{extent_array, extent_struct, step_array, step_struct}
+use Rattle.stl_rules.proofs.Equations.{extent_array, extent_struct, step_array, step_struct}
 use Rattle.symbol_layout.specs.Kept.{capped, capped_placed}
 use Rattle.component_index.specs.declared.scope.Entry.{Entry}
 use Rattle.component_index.specs.declared.scope.Scope.{Scope}
-use Rattle.component_index.specs.inner.Places.{first_place, has_key}
+use Rattle.first_places.specs.Places.{first_place}
+use Rattle.first_places.proofs.Firsts.{same_words}
+use Rattle.component_index.specs.inner.Places.{has_key}
 use Rattle.component_index.specs.inner.Scopes.{AreEntries, AreScopes, Held, IsAt, IsInner, IsScope, IsStruct, LeadsTo, entry_at, entry_in, held, moved, placed, struct_in}
 use Rattle.component_index.proofs.Aligned.{IsWhole, at_multiple, both_multiples, element_whole, kept_whole, named_moved}
-use Rattle.component_index.proofs.Firsts.{same_words}
 use Rattle.component_index.proofs.Growing.{same_inner}
 use Rattle.component_index.proofs.Inners.{inner_array, inner_struct}
 

@@ -5,9 +5,9 @@ ghost use Rattle.stl_rules.specs.Paths.{element_at, stepped, walked};
 ghost use Rattle.component_index.specs.inner.Scopes.{AreBits, AreScopes, IsAt, LeadsTo, entry_at, entry_in, held, moved, placed, struct_in};
 ghost use Rattle.symbol_layout.specs.Kept.{capped_placed};
 
-use crate::places::look_up;
 use crate::scope::{Entry, Inner, Scope};
 use crate::types::extent_by;
+use first_places::{key_of, look_up};
 use s7_base::NoMemory;
 use std::alloc::Global;
 use stl_tree::{DeclType, PathStep};
@@ -51,7 +51,7 @@ pub fn named<'d>(
 ) -> Result<Option<Entry<'d>>, NoMemory>
     ensures { IfOk result (λ found. found ≡ option_map (moved start) (entry_at scopes.now number (key_of name.now))) }
 {
-    let key = name.to_ascii_uppercase(alloc)?;
+    let key = key_of(alloc, name)?;
     Ok(moved(start, entry_at(scopes, number, key.as_slice())))
 }
 

@@ -6,7 +6,7 @@ use Rattle.std.proofs.Math.Logic.{inl, inr}
 use Rattle.std.proofs.Math.Nat.{eq-zero-or-pos, le-mul_of_pos_right, le_of_lt, min-eq_left, min-eq_right, mul-le-mul_right, mul_comm}
 use Rattle.std.proofs.lemmas.Bool.{cases_lt}
 use Rattle.std.proofs.lemmas.Nat.{div-add-mod'}
-use Rattle.symbol_layout.proofs.Equations.{extent_equations}
+use Rattle.stl_rules.proofs.Equations.{extent_equations}
 use Rattle.symbol_layout.proofs.Places.{at_least}
 use Rattle.stl_rules.specs.Extents.{IsLeast, end_behind, filled, place_behind}
 use Rattle.stl_rules.specs.declared.laid.Extent.{Extent}

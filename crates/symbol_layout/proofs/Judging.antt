@@ -7,7 +7,7 @@ use Rattle.s7_base.specs.declared.reason.Line.{Line}
 use Rattle.stl_tree.specs.declared.raw.Declaration.{Declaration}
 use Rattle.stl_tree.specs.declared.raw.DeclType.{DeclType}
 use Rattle.stl_tree.specs.declared.raw.DeclType.TheVariants as type
-use Rattle.symbol_layout.proofs.Equations.{breaks_array, breaks_declaration, breaks_struct, scope_cons, scope_nil}
+use Rattle.stl_rules.proofs.Equations.{breaks_array, breaks_declaration, breaks_struct, scope_cons, scope_nil}
 use Rattle.stl_rules.specs.DeclarationRules.{array_breaks, declaration_breaks, is_named, key_of, repeated, scope_breaks, takes, type_breaks, value_breaks, with_name}
 
 -- what holds where a call answers Ok

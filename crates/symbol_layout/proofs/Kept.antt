@@ -10,7 +10,7 @@ use Rattle.stl_tree.specs.declared.raw.DeclType.TheOpen as T
 use Rattle.stl_tree.specs.declared.raw.PathStep.{PathStep}
 use Rattle.stl_tree.specs.declared.raw.PathStep.TheVariants as step
 use Rattle.symbol_layout.proofs.Capped.{capped_end, capped_place, capped_product}
-use Rattle.symbol_layout.proofs.Equations.{own_type}
+use Rattle.stl_rules.proofs.Equations.{own_type}
 use Rattle.stl_rules.specs.Extents.{end_behind, end_of, extent_of, extent_of_width, extent_step, indices_in, place_behind, width_of}
 use Rattle.stl_rules.specs.Paths.{Placed, elements_before, is_index, named_behind, stepped, stepped_in, walked}
 use Rattle.stl_rules.specs.declared.laid.Extent.{Extent}

@@ -7,7 +7,7 @@ use Rattle.stl_tree.specs.declared.raw.Constant.{Constant}
 use Rattle.stl_tree.specs.declared.raw.Declaration.{Declaration}
 use Rattle.stl_tree.specs.declared.raw.DeclType.{DeclType}
 use Rattle.stl_tree.specs.declared.raw.DeclType.TheVariants as type
-use Rattle.symbol_layout.proofs.Equations.{bits_array, laid_cons, laid_nil}
+use Rattle.stl_rules.proofs.Equations.{bits_array, laid_cons, laid_nil}
 use Rattle.stl_rules.specs.Contents.{bits_behind, filled_to, times, type_bits, values_of}
 use Rattle.stl_rules.specs.Extents.{elements_in, extent_of}
 

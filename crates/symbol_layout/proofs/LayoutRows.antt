@@ -14,7 +14,7 @@ use Rattle.stl_tree.specs.declared.raw.ElemType.TheVariants as elem
 use Rattle.stl_tree.specs.declared.raw.InitialItem.{InitialItem}
 use Rattle.stl_tree.specs.declared.raw.PathStep.{PathStep}
 use Rattle.stl_tree.specs.declared.raw.PathStep.TheVariants as step
-use Rattle.symbol_layout.proofs.Equations.{extent_equations, inside_equations, rule_equations, bits_equations}
+use Rattle.stl_rules.proofs.Equations.{extent_equations, inside_equations, rule_equations, bits_equations}
 use Rattle.stl_rules.specs.Layouts.{breaks_in, initial_of, length_of}
 use Rattle.stl_rules.specs.Paths.{component_in}
 use Rattle.stl_rules.specs.TooLarge.{first_large}

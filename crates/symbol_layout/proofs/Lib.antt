@@ -1,6 +1,5 @@
 pub mod BitLists
 pub mod Capped
-pub mod Equations
 pub mod Judging
 pub mod Kept
 pub mod Laying

@@ -10,7 +10,7 @@ use Rattle.std.proofs.lemmas.List.{append-nil, at_drop_more}
 use Rattle.s7_base.specs.declared.reason.Line.{Line}
 use Rattle.stl_tree.specs.declared.raw.Declaration.{Declaration}
 use Rattle.symbol_layout.proofs.Capped.{capped_end}
-use Rattle.symbol_layout.proofs.Equations.{inside_its_type}
+use Rattle.stl_rules.proofs.Equations.{inside_its_type}
 use Rattle.symbol_layout.proofs.Places.{at_least}
 use Rattle.stl_rules.specs.Extents.{IsLeast, end_behind, end_of, end_of_all, extent_of, place_behind}
 use Rattle.stl_rules.specs.Layouts.{breaks_in, length_of, too_large}

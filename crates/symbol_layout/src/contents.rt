@@ -44,7 +44,7 @@ fn put_blank(
 
 /// The contents of a type with some values.
 #[cycle(contents)]
-#[tactic(auto, using(crate::proofs::Equations::bits_equations))]
+#[tactic(auto, using(stl_rules::proofs::Equations::bits_equations))]
 fn type_bits(alloc: Global, ty: &DeclType, values: &[Constant]) -> Result<Vec<bool>, NoMemory>
     ensures { IfOk result (λ bits. bits.items ≡ type_bits ty.now values.now) }
 {
@@ -72,7 +72,7 @@ fn type_bits(alloc: Global, ty: &DeclType, values: &[Constant]) -> Result<Vec<bo
 
 /// The contents of declarations one after another.
 #[cycle(contents)]
-#[tactic(auto, using(crate::proofs::Equations::laid_equations))]
+#[tactic(auto, using(stl_rules::proofs::Equations::laid_equations))]
 pub fn bits_of(alloc: Global, decls: &[Declaration]) -> Result<Vec<bool>, NoMemory>
     ensures { IfOk result (λ bits. bits.items ≡ bits_behind [] decls.now) }
 {

@@ -49,7 +49,7 @@ pub fn fits_width(width: Width, constant: Constant) -> bool
 }
 
 /// What elementary type a type is, if it is one.
-#[tactic(auto, using(crate::proofs::Equations::elementary_equations))]
+#[tactic(auto, using(stl_rules::proofs::Equations::elementary_equations))]
 pub fn elementary(ty: &DeclType) -> Option<ElemType>
     ensures { result ≡ elementary ty.now }
 {
@@ -62,7 +62,7 @@ pub fn elementary(ty: &DeclType) -> Option<ElemType>
 }
 
 /// Of which type the initial values of a type are, and how many there may be.
-#[tactic(auto, using(crate::proofs::Equations::takes_equations))]
+#[tactic(auto, using(stl_rules::proofs::Equations::takes_equations))]
 fn takes(ty: &DeclType) -> Option<(ElemType, u64)>
     ensures { result ≡ capped_takes (takes ty.now) }
 {

@@ -98,7 +98,7 @@ fn element_at<'d>(
 }
 
 /// One step further from a type at a place.
-#[tactic(auto, using(crate::proofs::Equations::step_equations))]
+#[tactic(auto, using(stl_rules::proofs::Equations::step_equations))]
 fn stepped<'d>(at: Placed<'d>, step: &PathStep) -> Option<Placed<'d>>
     requires { at.place ≤ 2 ^ 60 }
     ensures { option_map seen result ≡ capped_placed (stepped at.entry.place at.entry.ty.now step.now) }

@@ -41,7 +41,7 @@ fn end_within(limit: u32, end: u64, d: &Declaration) -> Option<u64>
 
 /// The first declaration inside a type, placed here.
 #[cycle(large)]
-#[tactic(auto, using(crate::proofs::Equations::inside_equations))]
+#[tactic(auto, using(stl_rules::proofs::Equations::inside_equations))]
 fn first_inside(limit: u32, ty: &DeclType, place: u64) -> Option<Line>
     requires { place ≤ 2 ^ 60 }
     ensures { result ≡ inside limit ty.now place }

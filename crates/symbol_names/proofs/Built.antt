@@ -4,14 +4,20 @@ use Rattle.memory_areas.specs.declared.place.AreaName.{AreaName}
 use Rattle.memory_areas.specs.declared.place.AreaName.TheVariants as area
 use Rattle.s7_base.specs.declared.reason.Reason.{Reason}
 use Rattle.s7_base.specs.declared.reason.Reason.TheVariants.{UnknownName}
+use Rattle.s7_base.specs.declared.word.Width.{Width}
+use Rattle.s7_base.specs.declared.word.Width.TheVariants as wide
 use Rattle.stl_rules.specs.Extents.{width_of}
 use Rattle.stl_rules.specs.Names.{may_have}
 use Rattle.stl_rules.specs.Paths.{component_in}
-use Rattle.stl_rules.specs.Raw.{are_refused, given_component, given_in_data, given_in_kind, given_number, given_open, given_path, given_place, given_symbol, is_placed, most_in_block, operand_at, place_of_kind}
+use Rattle.stl_rules.specs.Raw.{are_refused, given_component, given_held, given_if, given_in_data, given_in_kind, given_number, given_open, given_path, given_place, given_pointer, given_symbol, is_placed, may_stand, most_in_block, operand_at, place_of_kind}
 use Rattle.stl_rules.specs.Stages.{is_built_operand, is_own}
 use Rattle.stl_rules.specs.declared.given.Given.{Given}
 use Rattle.stl_rules.specs.declared.given.Given.TheVariants as behind
 use Rattle.stl_rules.specs.declared.laid.Component.{Component}
+use Rattle.stl_statements.specs.Constants.{constant}
+use Rattle.stl_statements.specs.Pointers.{is_in_reach, value_of}
+use Rattle.stl_tree.specs.declared.program.Operand.{Operand}
+use Rattle.stl_tree.specs.declared.program.Operand.TheVariants.{Direct}
 use Rattle.stl_tree.specs.declared.raw.BlockKind.TheVariants as block
 use Rattle.stl_tree.specs.declared.raw.Declaration.{Declaration}
 use Rattle.stl_tree.specs.declared.raw.ElemType.{ElemType}
@@ -20,13 +26,14 @@ use Rattle.stl_tree.specs.declared.raw.RawData.{RawData}
 use Rattle.stl_tree.specs.declared.raw.RawDataKind.{RawDataKind}
 use Rattle.stl_tree.specs.declared.raw.RawDataKind.TheVariants as data_kind
 use Rattle.stl_tree.specs.declared.raw.RawPlace.{RawPlace}
+use Rattle.stl_tree.specs.declared.raw.RawPointer.{RawPointer}
 use Rattle.stl_tree.specs.declared.raw.SymbolAddress.{SymbolAddress}
 use Rattle.stl_tree.specs.declared.raw.SymbolAddress.TheVariants as address
 
 pub at_place : (place : RawPlace) → is_built_operand (given_place place) ≡ true
 at_place place = by_cases (is_placed place place.block) place.block
   where
-    by_cases : (b : Bool) (n : Option ℕ) → is_built_operand (cond b (operand_at place n) (behind.Outside place.width)) ≡ true
+    by_cases : (b : Bool) (n : Option ℕ) → is_built_operand (cond b (operand_at place n) (behind.Outside place.area place.width)) ≡ true
     by_cases true None = refl
     by_cases true (Some n) = refl
     by_cases false n = refl
@@ -73,7 +80,34 @@ open_di r = of_number (given_open (λ n. behind.Di n)) (λ n. by_cases n (may_ha
     by_cases n true = refl
     by_cases n false = refl
 
-pub ruleset built_lemmas = (at_place, at_symbol, of_path, open_db, open_di)
+-- Pointers
+
+pub at_pointer : (p : RawPointer) → is_built_operand (given_pointer p) ≡ true
+at_pointer p = by_cases (is_in_reach p)
+  where
+    by_cases : (b : Bool) → is_built_operand (cond b (behind.Constant (constant wide.Dword (value_of p))) behind.NoPointer) ≡ true
+    by_cases true = refl
+    by_cases false = refl
+
+pub by_pointer : (b : Bool) (name : AreaName) (w : Width) (o : Operand) → is_built_operand (given_if b name w o) ≡ true
+by_pointer true name w o = refl
+by_pointer false name w o = refl
+
+pub db_by : (place : RawPlace) → is_built_operand (given_held (λ o. behind.DbBy o) place) ≡ true
+db_by place = by_cases (may_stand wide.Word place)
+  where
+    by_cases : (b : Bool) → is_built_operand (cond b (behind.DbBy (Direct place.area place.byte 0)) behind.NoNumber) ≡ true
+    by_cases true = refl
+    by_cases false = refl
+
+pub di_by : (place : RawPlace) → is_built_operand (given_held (λ o. behind.DiBy o) place) ≡ true
+di_by place = by_cases (may_stand wide.Word place)
+  where
+    by_cases : (b : Bool) → is_built_operand (cond b (behind.DiBy (Direct place.area place.byte 0)) behind.NoNumber) ≡ true
+    by_cases true = refl
+    by_cases false = refl
+
+pub ruleset built_lemmas = (at_place, at_symbol, of_path, open_db, open_di, at_pointer, by_pointer, db_by, di_by)
 
 in_kind : (n : ℕ) (path : List PathStep) (kind : RawDataKind) → is_built_operand (given_in_kind n path kind) ≡ is_own kind
 in_kind n path (data_kind.Own decls) = of_path most_in_block (Some n) area.Db decls path

@@ -1,39 +1,11 @@
 -- The first of some broken rules and of some more.
-use Rattle.std.proofs.Common.{◌≡◌, ◌<◌, ◌≤◌, ◌+◌, ◌*◌, ℕ, Bool, true, false, cond, ◌&&◌, ◌||◌, ◌==◌, nat_lt, List, [], ◌∷◌, ◌++◌, Option, Some, None, refl, sym, ap, ◌∙◌, arith, eqb-true}
+use Rattle.std.proofs.Common.{◌≡◌, Bool, true, false, cond, List, [], ◌∷◌, ◌++◌, Option, Some, None, refl, sym, ap, ◌∙◌, arith}
 use Rattle.std.specs.List.{fold}
-use Rattle.std.proofs.lemmas.Bool.{eqb-false, ltb-true, ltb-false}
 use Rattle.std.proofs.lemmas.List.Sums.{fold-append}
-use Rattle.s7_base.specs.Broken.{comes_before, first_of_all, number_of, sooner}
+use Rattle.s7_base.proofs.FirstBreak.{ranked}
+use Rattle.s7_base.specs.Broken.{comes_before, first_of_all, sooner}
 use Rattle.s7_base.specs.declared.broken.Break.{Break}
-use Rattle.s7_base.specs.declared.reason.Reason.{Reason}
-use Rattle.s7_base.specs.declared.reason.Reason.TheVariants as reason
 use Rattle.symbol_names.specs.inner.Firsts.{joined, with_breaks}
-
-few : (r : Reason) → number_of r < 32
-few reason.BadToken = omega arith
-few other = omega arith
-
--- a number by which broken rules are ordered
-abbrev rank : Break → ℕ
-rank b = b.line.0 * 32 + number_of b.rule
-
--- what comes before has a lesser rank, and nothing else
-ranked : (a b : Break) (t : Bool) → comes_before a b ≡ t → cond t (rank a < rank b) (rank b ≤ rank a)
-ranked a b t e =
-    by_tests (nat_lt a.line.0 b.line.0) (a.line.0 == b.line.0) (nat_lt (number_of a.rule) (number_of b.rule)) refl refl refl t e
-  where
-    by_tests : (x y z : Bool) → nat_lt a.line.0 b.line.0 ≡ x → (a.line.0 == b.line.0) ≡ y → nat_lt (number_of a.rule) (number_of b.rule) ≡ z → (t : Bool)
-        → (x || (y && z)) ≡ t → cond t (rank a < rank b) (rank b ≤ rank a)
-    by_tests true y z f g h true q = omega (arith, ltb-true a.line.0 b.line.0 f, few a.rule, few b.rule)
-    by_tests true y z f g h false q = absurd cc
-    by_tests false true true f g h true q = omega (arith, eqb-true a.line.0 b.line.0 g, ltb-true (number_of a.rule) (number_of b.rule) h)
-    by_tests false true true f g h false q = absurd cc
-    by_tests false true false f g h true q = absurd cc
-    by_tests false true false f g h false q = omega (arith, eqb-true a.line.0 b.line.0 g, ltb-false (number_of a.rule) (number_of b.rule) h)
-    by_tests false false z f g h true q = absurd cc
-    by_tests false false z f g h false q =
-        let apart : a.line.0 ≡ b.line.0 → ⊥ = eqb-false a.line.0 b.line.0 g in
-        omega (arith, ltb-false a.line.0 b.line.0 f, apart, few a.rule, few b.rule)
 
 -- the sooner of three, from either end
 three : (a x y : Break) → sooner (sooner (Some a) x) y ≡ joined (Some a) (sooner (Some x) y)

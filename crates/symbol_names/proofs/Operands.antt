@@ -1,6 +1,7 @@
 -- Operands that no instruction takes.
 use denote.Hole.Carrier
 use Rattle.std.proofs.Common.{◌≡◌, ℕ, List, [], ◌∷◌, ◌++◌, Option, Some, None, refl, sym, ap}
+use Rattle.memory_areas.specs.declared.place.AreaName.{AreaName}
 use Rattle.s7_base.specs.Broken.{broken}
 use Rattle.s7_base.specs.declared.reason.Line.{Line}
 use Rattle.s7_base.specs.declared.reason.Reason.TheVariants.{BadAddress}
@@ -8,7 +9,7 @@ use Rattle.s7_base.specs.declared.word.Width.{Width}
 use Rattle.stl_rules.specs.Names.{db_numbered, number_at, symbol_named}
 use Rattle.stl_rules.specs.Programs.{op_by, op_with}
 use Rattle.stl_rules.specs.Raw.{Sight, given, given_in_data, given_number}
-use Rattle.stl_rules.specs.Stages.{kind_breaks, operand_breaks, some_place}
+use Rattle.stl_rules.specs.Stages.{kind_breaks, operand_breaks, some_place, some_pointer}
 use Rattle.stl_rules.specs.declared.given.Given.TheVariants as behind
 use Rattle.stl_statements.specs.declared.mnemonic.Mnemonic.{Mnemonic}
 use Rattle.stl_statements.specs.declared.mnemonic.Mnemonic.TheVariants as is
@@ -19,9 +20,13 @@ use Rattle.stl_tree.specs.declared.raw.RawOperand.{RawOperand, out-RawOperand}
 use Rattle.stl_tree.specs.declared.raw.RawOperand.TheVariants as operand
 use Rattle.symbol_names.specs.inner.Firsts.{reasons_at}
 
-pub outside : (what : Mnemonic) (w : Width) → op_with what (behind.Outside w) ≡ None
-outside (is.Check c) w = refl
-outside what w = refl
+pub outside : (what : Mnemonic) (name : AreaName) (w : Width) → op_with what (behind.Outside name w) ≡ None
+outside (is.Check c) name w = refl
+outside what name w = refl
+
+pub no_pointer : (what : Mnemonic) → op_with what behind.NoPointer ≡ None
+no_pointer (is.Check c) = refl
+no_pointer what = refl
 
 pub no_number : (what : Mnemonic) → op_with what behind.NoNumber ≡ None
 no_number (is.Check c) = refl
@@ -43,18 +48,26 @@ pub other : (what : Mnemonic) → op_with what behind.Other ≡ None
 other (is.Check c) = refl
 other what = refl
 
-pub ruleset none_fit = (outside, no_number, unknown, unfit, unjudged, other)
+pub ruleset none_fit = (outside, no_pointer, no_number, unknown, unfit, unjudged, other)
 
 -- What is noted of an operand
 
--- a place outside its area: its width, and its address
-pub outside_breaks : (line : Line) (what : Option Mnemonic) (w : Width)
-    → reasons_at line (operand_breaks what (behind.Outside w)) ≡ reasons_at line (kind_breaks (op_by what (behind.At some_place w))) ++ broken line BadAddress
-outside_breaks line what w = by_cases (op_by what (behind.At some_place w))
-  where
-    by_cases : (o : Option Op) → reasons_at line (kind_breaks o ++ BadAddress ∷ []) ≡ reasons_at line (kind_breaks o) ++ broken line BadAddress
-    by_cases None = refl
-    by_cases (Some o) = refl
+-- an operand that its mnemonic may not have, and a bad address
+address_breaks : (line : Line) (o : Option Op) → reasons_at line (kind_breaks o ++ BadAddress ∷ []) ≡ reasons_at line (kind_breaks o) ++ broken line BadAddress
+address_breaks line None = refl
+address_breaks line (Some o) = refl
+
+-- a place outside its area: its area and width, and its address
+pub outside_breaks : (line : Line) (what : Option Mnemonic) (name : AreaName) (w : Width)
+    → reasons_at line (operand_breaks what (behind.Outside name w))
+    ≡ reasons_at line (kind_breaks (op_by what (behind.At (some_place name) w))) ++ broken line BadAddress
+outside_breaks line what name w = address_breaks line (op_by what (behind.At (some_place name) w))
+
+-- a pointer outside its range likewise
+pub no_pointer_breaks : (line : Line) (what : Option Mnemonic)
+    → reasons_at line (operand_breaks what behind.NoPointer)
+    ≡ reasons_at line (kind_breaks (op_by what (behind.Constant some_pointer))) ++ broken line BadAddress
+no_pointer_breaks line what = address_breaks line (op_by what (behind.Constant some_pointer))
 
 -- What stands behind a mnemonic
 

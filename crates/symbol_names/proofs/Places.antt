@@ -1,14 +1,11 @@
 -- Where names and numbers stand first.
-use Rattle.std.proofs.Common.{◌≡◌, ◌<◌, ℕ, zero, suc, ◌+◌, Bool, true, false, cond, ◌&&◌, ◌||◌, ◌==◌, nat_eq, List, [], ◌∷◌, ◌++◌, length, take, get_or, map, slice_get, Option, Some, None, is_some, option_map, option_and_then, Result, Ok, Err, refl, sym, ap, subst, ◌∙◌, arith, eqb-true}
-use Rattle.std.specs.Char.{to_ascii_lowercase, to_ascii_uppercase}
+use Rattle.std.proofs.Common.{◌≡◌, ◌<◌, ℕ, zero, suc, ◌+◌, Bool, true, false, cond, ◌||◌, ◌==◌, nat_eq, List, [], ◌∷◌, ◌++◌, length, take, get_or, map, slice_get, Option, Some, None, option_map, option_and_then, Result, Ok, Err, refl, sym, ap, subst, ◌∙◌, arith, eqb-true}
 use Rattle.std.specs.Cmp.Lexicographic.{pointwise}
 use Rattle.std.specs.List.{find, fold, list_any}
-use Rattle.std.specs.Map.{lookup}
-use Rattle.std.specs.Option.{option_or}
-use Rattle.std.proofs.lemmas.Bool.Decides.{nat_tests}
 use Rattle.std.proofs.lemmas.Option.{slice_get-map}
-use Rattle.std.proofs.lemmas.Slice.Eq.{bytes_eq-Decides}
 use Rattle.std.proofs.lemmas.List.{length-take-le, take_more}
+use Rattle.first_places.specs.Places.{first_place}
+use Rattle.first_places.proofs.Firsts.{name_sound, no_key, same_words, with_key}
 use Rattle.s7_base.specs.Tokens.{is_same_word}
 use Rattle.s7_base.specs.declared.reason.Reason.{Reason}
 use Rattle.stl_rules.specs.DeclarationRules.{is_named, key_of, with_name}
@@ -17,22 +14,9 @@ use Rattle.stl_rules.specs.Stages.{is_among, with_block_number}
 use Rattle.stl_tree.specs.declared.raw.BlockKind.TheVariants as block
 use Rattle.stl_tree.specs.declared.raw.RawData.{RawData}
 use Rattle.stl_tree.specs.declared.raw.SymbolLine.{SymbolLine}
-use Rattle.symbol_names.specs.inner.Places.{AreNamePlaces, AreNumberPlaces, db_numbers, first_place, has_key, is_before, names_before, numbers_before, with_number_place, with_place}
+use Rattle.symbol_names.specs.inner.Places.{AreNumberPlaces, db_numbers, has_key, is_before, names_before, numbers_before, with_number_place}
 
 -- First places
-
-first_append : {X : Type 0} (test : X → Bool) (xs : List X) (x : X)
-    → first_place test (xs ++ x ∷ []) ≡ option_or (first_place test xs) (cond (test x) (Some (length xs)) None)
-first_append test [] x = refl
-first_append test (y ∷ ys) x = by_test (test y) (test x) (first_place test ys) (first_append test ys x)
-  where
-    by_test : (b c : Bool) (o : Option ℕ) → first_place test (ys ++ x ∷ []) ≡ option_or o (cond c (Some (length ys)) None)
-        → cond b (Some 0) (option_map (λ n. suc n) (first_place test (ys ++ x ∷ [])))
-        ≡ option_or (cond b (Some 0) (option_map (λ n. suc n) o)) (cond c (Some (length (y ∷ ys))) None)
-    by_test true c o e = refl
-    by_test false c (Some n) e = ap (option_map (λ n. suc n)) e
-    by_test false true None e = ap (option_map (λ n. suc n)) e
-    by_test false false None e = ap (option_map (λ n. suc n)) e
 
 pub find_first : {X : Type 0} (test : X → Bool) (xs : List X) → find test xs ≡ option_and_then (λ n. slice_get xs n) (first_place test xs)
 find_first test [] = refl
@@ -77,70 +61,7 @@ or_assoc : (a b c : Bool) → ((a || b) || c) ≡ (a || (b || c))
 or_assoc true b c = refl
 or_assoc false b c = refl
 
--- Tables
-
-lookup_append : {X : Type 0} (test : X → Bool) (table : List (X × ℕ)) (key : X) (place : ℕ)
-    → lookup test (table ++ (key, place) ∷ []) ≡ option_or (lookup test table) (cond (test key) (Some place) None)
-lookup_append test [] key place = refl
-lookup_append test (e ∷ es) key place = by_test (test e.0) (lookup_append test es key place)
-  where
-    by_test : (b : Bool) → lookup test (es ++ (key, place) ∷ []) ≡ option_or (lookup test es) (cond (test key) (Some place) None)
-        → cond b (Some e.1) (lookup test (es ++ (key, place) ∷ []))
-        ≡ option_or (cond b (Some e.1) (lookup test es)) (cond (test key) (Some place) None)
-    by_test true h = refl
-    by_test false h = h
-
--- a test of keys that says which are equal
-module _ {X A : Type 0} (eq : X → X → Bool) (sound : (k q : X) → eq k q ≡ true → k ≡ q) (is_at : X → A → Bool) where
-  -- one item more, that has no key
-  no_key : (table : List (X × ℕ)) (xs : List A) (x : A) → ((k : X) → is_at k x ≡ false)
-      → ((k : X) → lookup (eq k) table ≡ first_place (is_at k) xs) → (k : X) → lookup (eq k) table ≡ first_place (is_at k) (xs ++ x ∷ [])
-  no_key table xs x none h k =
-      h k ∙ sym (or_none (first_place (is_at k) xs)) ∙ ap (λ b. option_or (first_place (is_at k) xs) (cond b (Some (length xs)) None)) (sym (none k))
-      ∙ sym (first_append (is_at k) xs x)
-    where
-      or_none : (o : Option ℕ) → option_or o None ≡ o
-      or_none None = refl
-      or_none (Some n) = refl
-
-  -- one item more, with its key
-  with_key : (table : List (X × ℕ)) (xs : List A) (x : A) (key : X) → ((k : X) → is_at k x ≡ eq k key)
-      → ((k : X) → lookup (eq k) table ≡ first_place (is_at k) xs) → (k : X)
-      → lookup (eq k) (with_place eq key (length xs) table) ≡ first_place (is_at k) (xs ++ x ∷ [])
-  with_key table xs x key is h k =
-      by_place (lookup (eq key) table) refl (eq k key) refl
-      ∙ ap (λ o. option_or o (cond (eq k key) (Some (length xs)) None)) (h k)
-      ∙ ap (λ b. option_or (first_place (is_at k) xs) (cond b (Some (length xs)) None)) (sym (is k))
-      ∙ sym (first_append (is_at k) xs x)
-    where
-      some_or : (o : Option ℕ) (p : ℕ) (q : Option ℕ) → o ≡ Some p → o ≡ option_or o q
-      some_or None p q e = absurd cc
-      some_or (Some n) p q e = refl
-
-      or_none : (o : Option ℕ) → o ≡ option_or o None
-      or_none None = refl
-      or_none (Some n) = refl
-
-      by_place : (o : Option ℕ) → lookup (eq key) table ≡ o → (b : Bool) → eq k key ≡ b
-          → lookup (eq k) (cond (is_some o) table (table ++ (key, length xs) ∷ [])) ≡ option_or (lookup (eq k) table) (cond b (Some (length xs)) None)
-      by_place None e b f = lookup_append (eq k) table key (length xs) ∙ ap (λ t. option_or (lookup (eq k) table) (cond t (Some (length xs)) None)) f
-      by_place (Some p) e true f =
-          some_or (lookup (eq k) table) p (Some (length xs)) (ap (λ q. lookup (eq q) table) (sound k key f) ∙ e)
-      by_place (Some p) e false f = or_none (lookup (eq k) table)
-
 -- Names
-
--- letters are the same in small and in large
-same_letters : (a b : ℕ) → nat_eq (to_ascii_lowercase a) (to_ascii_lowercase b) ≡ nat_eq (to_ascii_uppercase b) (to_ascii_uppercase a)
-same_letters a b = grind (arith, nat_tests)
-
-same_words : (a b : List ℕ) → pointwise nat_eq (map to_ascii_lowercase a) (map to_ascii_lowercase b) ≡ pointwise nat_eq (map to_ascii_uppercase b) (map to_ascii_uppercase a)
-same_words [] [] = refl
-same_words [] (y ∷ ys) = refl
-same_words (x ∷ xs) [] = refl
-same_words (x ∷ xs) (y ∷ ys) =
-    ap (λ b. b && pointwise nat_eq (map to_ascii_lowercase xs) (map to_ascii_lowercase ys)) (same_letters x y)
-    ∙ ap (λ b. nat_eq (to_ascii_uppercase y) (to_ascii_uppercase x) && b) (same_words xs ys)
 
 -- the symbol of a name is that of the first line with its key
 pub named_at : (lines : List SymbolLine) (name : List ℕ)
@@ -151,21 +72,6 @@ named_at lines name =
     (find_first (λ (line : SymbolLine). is_same_word line.name name) lines
     ∙ ap (option_and_then (λ n. slice_get lines n))
     (first_same (λ (line : SymbolLine). is_same_word line.name name) (has_key (key_of name)) (λ line. same_words line.name name) lines))
-
-pub name_sound : (k q : List ℕ) → pointwise nat_eq k q ≡ true → k ≡ q
-name_sound k q h = (bytes_eq-Decides k q).0 h
-
--- one line more of a loop
-pub name_turn : (lines : List SymbolLine) (i : ℕ) (line : SymbolLine) (table : List (List ℕ × ℕ)) → i < length lines → line ≡ get_or lines i line
-    → AreNamePlaces (take i lines) table
-    → AreNamePlaces (take (i + 1) lines) (with_place (pointwise nat_eq) (key_of line.name) i table)
-name_turn lines i line table before is h =
-    let step = with_key (pointwise nat_eq) name_sound has_key table (take i lines) line (key_of line.name) (λ k. refl) h in
-    let taken : length (take i lines) ≡ i = length-take-le i lines (omega (arith, before)) in
-    let more : take i lines ++ line ∷ [] ≡ take (i + 1) lines
-    = ap (λ y. take i lines ++ y ∷ []) is ∙ sym (take_more lines i line before) in
-    subst (λ l. AreNamePlaces l (with_place (pointwise nat_eq) (key_of line.name) i table)) more
-    (subst (λ n. AreNamePlaces (take i lines ++ line ∷ []) (with_place (pointwise nat_eq) (key_of line.name) n table)) taken step)
 
 -- Numbers
 

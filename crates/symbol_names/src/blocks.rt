@@ -16,9 +16,9 @@ use crate::instruction::op_by;
 use crate::laid::Laid;
 use crate::names::{Names, numbers_of_blocks};
 use crate::numbers::Numbers;
+use crate::pointer::pointer_constant;
 use crate::sight::Sight;
 use crate::symbols::may_have;
-use memory_areas::AreaName;
 use s7_base::{Break, Line, List, NoMemory, Reason};
 use std::alloc::Global;
 use stl_instructions::mnemonic_named;
@@ -51,7 +51,7 @@ fn note_kind(first: &mut Option<Break>, line: Line, what: Option<Mnemonic>, give
 }
 
 /// What an instruction breaks, by its mnemonic and what stands behind it.
-#[tactic(auto, using(crate::proofs::Firsts::none_more, crate::proofs::Firsts::behind, crate::proofs::Operands::outside_breaks))]
+#[tactic(auto, using(crate::proofs::Firsts::none_more, crate::proofs::Firsts::behind, crate::proofs::Operands::outside_breaks, crate::proofs::Operands::no_pointer_breaks))]
 fn note_operand(first: &mut Option<Break>, line: Line, what: Option<Mnemonic>, given: Given)
     ensures { first.new ≡ with_breaks first.old (reasons_at line (operand_breaks what given)) }
 {
@@ -60,9 +60,13 @@ fn note_operand(first: &mut Option<Break>, line: Line, what: Option<Mnemonic>, g
         Given::Unfit => note(first, line, Reason::BadOperand),
         Given::Unjudged | Given::Other => {}
         Given::NoNumber => note(first, line, Reason::BadAddress),
-        Given::Outside(width) => {
-            let some_place = Operand::Direct(AreaName::M, 0, 0);
+        Given::Outside(area, width) => {
+            let some_place = Operand::Direct(area, 0, 0);
             note_kind(first, line, what, Given::At(some_place, width));
+            note(first, line, Reason::BadAddress);
+        }
+        Given::NoPointer => {
+            note_kind(first, line, what, Given::Constant(pointer_constant(0)));
             note(first, line, Reason::BadAddress);
         }
         _ => note_kind(first, line, what, given),

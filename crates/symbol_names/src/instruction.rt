@@ -1,18 +1,24 @@
 //! The instruction that a raw one is, by its mnemonic and what stands behind it.
-ghost use Rattle.std.specs.Prelude.{◌≡◌, ◌≢◌, Some};
+ghost use Rattle.std.specs.Prelude.{◌≡◌, ◌≢◌, Some, None, if◌then◌else◌};
 ghost use Rattle.s7_base.specs.declared.word.Width.TheVariants as wide;
-ghost use Rattle.stl_rules.specs.Programs.{adding, combining, comparing, is_compared, op_by, op_with, shifting, with_number, within};
+ghost use Rattle.stl_rules.specs.Programs.{adding, combining, comparing, is_compared, loading_pointer, moving_pointer, op_by, op_with, pointed, shifting, storing_pointer, with_number, within};
 ghost use Rattle.stl_rules.specs.declared.given.Given.TheVariants as behind;
+ghost use Rattle.stl_tree.specs.Accepted.{is_of_pointers};
 ghost use Rattle.stl_tree.specs.Accumulators.{bits_wide, signed_part};
 ghost use Rattle.stl_tree.specs.Arithmetic.{is_comparison};
+ghost use Rattle.stl_tree.specs.declared.program.Op.{Op};
 ghost use Rattle.stl_tree.specs.declared.program.Op.TheVariants as op;
+ghost use Rattle.stl_tree.specs.declared.program.Operand.{Operand};
 
+use crate::pointer::may_hold_pointers;
 use s7_base::{Check, Width};
 use status_word::Test;
 use stl_instructions::{fits, logic_width, most_steps};
 use stl_rules::Given;
 use stl_statements::Mnemonic;
-use stl_tree::{BitArg, Constant, LoadArg, LogicRow, Op, OpenArg, Operand, ShiftRow};
+use stl_tree::{
+    Ar, ArLoad, ArStore, BitArg, Constant, LoadArg, LogicRow, Op, OpenArg, Operand, ShiftRow,
+};
 use symbol_layout::value_in;
 
 /// One of the six signs of comparisons.
@@ -67,6 +73,10 @@ fn with_nothing(what: Mnemonic) -> Option<Op>
         Mnemonic::Tak => Some(Op::Tak),
         Mnemonic::Push => Some(Op::Push),
         Mnemonic::Pop => Some(Op::Pop),
+        Mnemonic::LoadAr(ar) => Some(Op::LoadAr(ar, ArLoad::Accu1)),
+        Mnemonic::StoreAr(ar) => Some(Op::StoreAr(ar, ArStore::Accu1)),
+        Mnemonic::ExchangeAr => Some(Op::ExchangeAr),
+        Mnemonic::AddAr(ar) => Some(Op::AddAr(ar, None)),
         Mnemonic::ExchangeDb => Some(Op::ExchangeDb),
         _ => None,
     }
@@ -87,6 +97,51 @@ fn with_bit(what: Mnemonic, bit: Operand) -> Option<Op>
     }
 }
 
+/// The areas that an operand may lie in are ones of pointers.
+fn is_of_pointers(place: Operand) -> bool
+    ensures { result ≡ is_of_pointers place }
+{
+    match place {
+        Operand::Direct(area, _, _)
+        | Operand::ByMemory(area, _, _)
+        | Operand::ByRegister(area, _, _) => may_hold_pointers(area),
+        Operand::Opened(_, _, _) => true,
+        Operand::Crossing(_, _) => false,
+    }
+}
+
+/// An operand is a double word where pointers may stand.
+fn is_pointed(place: Operand, width: Width) -> bool
+    ensures { (o : Operand → Op) → (if result then Some (o place) else None) ≡ pointed o place width }
+{
+    match width {
+        Width::Dword => is_of_pointers(place),
+        Width::Bit | Width::Byte | Width::Word => false,
+    }
+}
+
+/// An address register is loaded with a pointer in memory.
+fn loading_pointer(ar: Ar, place: Operand, width: Width) -> Option<Op>
+    ensures { result ≡ loading_pointer ar (behind.At place width) }
+{
+    if is_pointed(place, width) {
+        Some(Op::LoadAr(ar, ArLoad::At(place)))
+    } else {
+        None
+    }
+}
+
+/// An address register is stored in memory.
+fn storing_pointer(ar: Ar, place: Operand, width: Width) -> Option<Op>
+    ensures { result ≡ storing_pointer ar (behind.At place width) }
+{
+    if is_pointed(place, width) {
+        Some(Op::StoreAr(ar, ArStore::At(place)))
+    } else {
+        None
+    }
+}
+
 /// An instruction on a byte, a word or a double word.
 fn with_place(what: Mnemonic, place: Operand, width: Width) -> Option<Op>
     requires { width ≢ wide.Bit }
@@ -95,6 +150,8 @@ fn with_place(what: Mnemonic, place: Operand, width: Width) -> Option<Op>
     match what {
         Mnemonic::Load => Some(Op::Load(LoadArg::At(place, width))),
         Mnemonic::Transfer => Some(Op::Transfer(place, width)),
+        Mnemonic::LoadAr(ar) => loading_pointer(ar, place, width),
+        Mnemonic::StoreAr(ar) => storing_pointer(ar, place, width),
         _ => None,
     }
 }
@@ -140,6 +197,17 @@ fn with_di_number(what: Mnemonic) -> Option<Op>
     }
 }
 
+/// From or to the other address register, with AR1 alone.
+fn with_other_ar(what: Mnemonic) -> Option<Op>
+    ensures { result ≡ op_with what behind.OtherAr }
+{
+    match what {
+        Mnemonic::LoadAr(Ar::One) => Some(Op::LoadAr(Ar::One, ArLoad::OtherAr)),
+        Mnemonic::StoreAr(Ar::One) => Some(Op::StoreAr(Ar::One, ArStore::OtherAr)),
+        _ => None,
+    }
+}
+
 /// The number of a data block that is opened.
 fn with_db(what: Mnemonic, number: u16) -> Option<Op>
     ensures { result ≡ op_with what (behind.Db number) }
@@ -156,6 +224,26 @@ fn with_di(what: Mnemonic, number: u16) -> Option<Op>
 {
     match what {
         Mnemonic::Open => Some(Op::OpenDi(OpenArg::Number(number))),
+        _ => None,
+    }
+}
+
+/// A word with the number of a data block that is opened.
+fn with_db_by(what: Mnemonic, number: Operand) -> Option<Op>
+    ensures { result ≡ op_with what (behind.DbBy number) }
+{
+    match what {
+        Mnemonic::Open => Some(Op::OpenDb(OpenArg::At(number))),
+        _ => None,
+    }
+}
+
+/// A word with the number of an instance that is opened.
+fn with_di_by(what: Mnemonic, number: Operand) -> Option<Op>
+    ensures { result ≡ op_with what (behind.DiBy number) }
+{
+    match what {
+        Mnemonic::Open => Some(Op::OpenDi(OpenArg::At(number))),
         _ => None,
     }
 }
@@ -217,6 +305,17 @@ fn passing(constant: Constant) -> Option<Op>
     }
 }
 
+/// An offset is added to an address register.
+fn moving_pointer(ar: Ar, constant: Constant) -> Option<Op>
+    ensures { result ≡ moving_pointer ar (behind.Constant constant) }
+{
+    if constant.value < 524_288 {
+        Some(Op::AddAr(ar, Some(constant.value)))
+    } else {
+        None
+    }
+}
+
 /// A shift or a rotation by a constant.
 fn shifting(row: ShiftRow, constant: Constant) -> Option<Op>
     ensures { result ≡ shifting row (behind.Constant constant) }
@@ -265,6 +364,8 @@ fn with_constant(what: Mnemonic, constant: Constant) -> Option<Op>
         Mnemonic::Dec => decrementing(constant),
         Mnemonic::Shift(row) => shifting(row, constant),
         Mnemonic::Logic(row) => combining(row, constant),
+        Mnemonic::LoadAr(ar) => Some(Op::LoadAr(ar, ArLoad::Constant(constant.value))),
+        Mnemonic::AddAr(ar) => moving_pointer(ar, constant),
         Mnemonic::Nop => passing(constant),
         _ => None,
     }
@@ -295,7 +396,10 @@ fn op_with(what: Mnemonic, given: Given) -> Option<Op>
         Given::Constant(constant) => with_constant(what, constant),
         Given::Db(number) => with_db(what, number),
         Given::Di(number) => with_di(what, number),
-        Given::Outside(_) | Given::NoNumber | Given::Unknown => None,
+        Given::OtherAr => with_other_ar(what),
+        Given::DbBy(number) => with_db_by(what, number),
+        Given::DiBy(number) => with_di_by(what, number),
+        Given::Outside(_, _) | Given::NoPointer | Given::NoNumber | Given::Unknown => None,
         Given::Unfit | Given::Unjudged | Given::Other => None,
     }
 }

@@ -19,6 +19,7 @@ mod names;
 mod not_built;
 mod numbers;
 mod place;
+mod pointer;
 mod resolution;
 mod sight;
 mod symbols;

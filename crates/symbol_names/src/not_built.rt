@@ -116,9 +116,16 @@ fn is_built_operand(
         RawOperand::DbNo => Ok(true),
         RawOperand::DiNo => Ok(true),
         RawOperand::Constant(_) => Ok(true),
+        RawOperand::Pointer(_) => Ok(true),
+        RawOperand::ByMemory(_, _, _) => Ok(true),
+        RawOperand::ByRegister(_, _, _, _) => Ok(true),
+        RawOperand::Crossing(_, _, _) => Ok(true),
+        RawOperand::OtherAr => Ok(true),
         RawOperand::OpenDb(_) => Ok(true),
         RawOperand::OpenDi(_) => Ok(true),
-        _ => Ok(false),
+        RawOperand::OpenDbBy(_) => Ok(true),
+        RawOperand::OpenDiBy(_) => Ok(true),
+        RawOperand::Label(_) | RawOperand::Call(_) => Ok(false),
     }
 }
 

@@ -1,9 +1,10 @@
 //! The numbers of the blocks of a text.
 ghost use Rattle.std.specs.Prelude.{◌≡◌, IfOk, OnOk, nat_eq, take};
 ghost use Rattle.std.specs.Map.{lookup};
+ghost use Rattle.first_places.specs.Places.{first_place, with_place};
 ghost use Rattle.stl_rules.specs.Names.{is_number};
 ghost use Rattle.stl_rules.specs.Stages.{is_among};
-ghost use Rattle.symbol_names.specs.inner.Places.{AreNumberPlaces, first_place, numbers_before, with_number_place, with_place};
+ghost use Rattle.symbol_names.specs.inner.Places.{AreNumberPlaces, numbers_before, with_number_place};
 
 use indexmap::IndexMap;
 use s7_base::{NoMemory, Reason};

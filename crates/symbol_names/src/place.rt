@@ -12,25 +12,25 @@ use symbol_layout::width_of;
 
 /// A place with no number of a data block before it.
 fn given_direct(place: RawPlace) -> Given
-    ensures { result ≡ (if is_placed place None then operand_at place None else behind.Outside place.width) }
+    ensures { result ≡ (if is_placed place None then operand_at place None else behind.Outside place.area place.width) }
 {
     if is_in_area(place) {
         let operand = Operand::Direct(place.area, place.byte, place.bit as u8);
         Given::At(operand, place.width)
     } else {
-        Given::Outside(place.width)
+        Given::Outside(place.area, place.width)
     }
 }
 
 /// A place behind the number of a data block.
 fn given_opened(place: RawPlace, number: u32) -> Given
-    ensures { result ≡ (if is_placed place (Some number) then operand_at place (Some number) else behind.Outside place.width) }
+    ensures { result ≡ (if is_placed place (Some number) then operand_at place (Some number) else behind.Outside place.area place.width) }
 {
     if is_in_area(place) && may_have(BlockKind::Db, number) {
         let operand = Operand::Opened(number as u16, place.byte, place.bit as u8);
         Given::At(operand, place.width)
     } else {
-        Given::Outside(place.width)
+        Given::Outside(place.area, place.width)
     }
 }
 

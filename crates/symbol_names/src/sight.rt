@@ -10,6 +10,9 @@ ghost use Rattle.symbol_names.specs.inner.Refused.{decls_of, own_of};
 use crate::laid::Laid;
 use crate::names::Names;
 use crate::place::{given_place, given_symbol};
+use crate::pointer::{
+    given_by_memory, given_by_register, given_crossing, given_db_by, given_di_by, given_pointer,
+};
 use crate::symbols::may_have;
 use memory_areas::AreaName;
 use s7_base::{NoMemory, Reason};
@@ -191,9 +194,18 @@ impl<'s, 't> Sight<'s, 't> {
             RawOperand::DbNo => Ok(Given::DbNo),
             RawOperand::DiNo => Ok(Given::DiNo),
             RawOperand::Constant(constant) => Ok(Given::Constant(*constant)),
+            RawOperand::Pointer(pointer) => Ok(given_pointer(*pointer)),
+            RawOperand::ByMemory(area, width, place) => Ok(given_by_memory(*area, *width, *place)),
+            RawOperand::ByRegister(area, width, ar, offset) => {
+                Ok(given_by_register(*area, *width, *ar, *offset))
+            }
+            RawOperand::Crossing(width, ar, offset) => Ok(given_crossing(*width, *ar, *offset)),
+            RawOperand::OtherAr => Ok(Given::OtherAr),
             RawOperand::OpenDb(name) => self.given_open_db(alloc, name),
             RawOperand::OpenDi(name) => self.given_open_di(alloc, name),
-            _ => Ok(Given::Other),
+            RawOperand::OpenDbBy(place) => Ok(given_db_by(*place)),
+            RawOperand::OpenDiBy(place) => Ok(given_di_by(*place)),
+            RawOperand::Label(_) | RawOperand::Call(_) => Ok(Given::Other),
         }
     }
 }

@@ -1,12 +1,12 @@
 //! The symbol table of a text, by names.
-ghost use Rattle.std.specs.Prelude.{◌≡◌, IfOk, OnOk, map, nat_eq, option_and_then, option_map, slice_get, take};
-ghost use Rattle.std.specs.Cmp.Lexicographic.{pointwise};
-ghost use Rattle.std.specs.Map.{lookup};
+ghost use Rattle.std.specs.Prelude.{◌≡◌, IfOk, map, option_and_then, option_map, slice_get, take};
+ghost use Rattle.first_places.specs.Places.{first_place};
 ghost use Rattle.stl_rules.specs.DeclarationRules.{is_named, key_of};
 ghost use Rattle.stl_rules.specs.Names.{is_same_kind, may_have, number_at, number_of, symbol_named};
-ghost use Rattle.symbol_names.specs.inner.Places.{AreNamePlaces, first_place, has_key, names_before, with_place};
+ghost use Rattle.symbol_names.specs.inner.Places.{AreNamePlaces, has_key, names_before};
 ghost use Rattle.stl_tree.specs.declared.raw.SymbolLine.{SymbolLine};
 
+use first_places::{key_of, look_up, put_place};
 use indexmap::IndexMap;
 use s7_base::{NoMemory, Reason};
 use std::alloc::Global;
@@ -34,29 +34,6 @@ impl<'t> Model for Symbols<'t> {
     ghost invariant = { λ s. AreNamePlaces s.lines.now (map (λ e. (e.0.items, e.1)) s.places.entries) };
 }
 
-/// The place that is kept for a key.
-fn look_up(places: &IndexMap<Vec<u8>, usize>, key: &[u8]) -> Option<usize>
-    ensures { result ≡ lookup (pointwise nat_eq key.now) (map (λ e. (e.0.items, e.1)) places.now.entries) }
-{
-    places.get(key).copied()
-}
-
-/// Keeps the place of a key that has none.
-fn put_place(
-    places: &mut IndexMap<Vec<u8>, usize>,
-    key: Vec<u8>,
-    place: usize,
-) -> Result<(), NoMemory>
-    ensures { OnOk result (map (λ e. (e.0.items, e.1)) places.new.entries
-        ≡ with_place (pointwise nat_eq) key.items place (map (λ e. (e.0.items, e.1)) places.old.entries)) }
-{
-    if look_up(places, key.as_slice()).is_some() {
-        return Ok(());
-    }
-    places.insert(key, place)?;
-    Ok(())
-}
-
 /// The places of the first lines of all names.
 fn places_of(alloc: Global, lines: &[SymbolLine]) -> Result<IndexMap<Vec<u8>, usize>, NoMemory>
     ensures { IfOk result (λ places. AreNamePlaces lines.now (map (λ e. (e.0.items, e.1)) places.entries)) }
@@ -64,7 +41,7 @@ fn places_of(alloc: Global, lines: &[SymbolLine]) -> Result<IndexMap<Vec<u8>, us
     let mut places = IndexMap::new(alloc);
     for place in 0..lines.len() {
         let line = &lines[place];
-        let key = line.name.as_slice().to_ascii_uppercase(alloc)?;
+        let key = key_of(alloc, line.name.as_slice())?;
         put_place(&mut places, key, place)?;
     }
     Ok(places)
@@ -131,7 +108,7 @@ impl<'t> Symbols<'t> {
     fn place_of(&self, alloc: Global, name: &[u8]) -> Result<Option<usize>, NoMemory>
         ensures { IfOk result (λ place. place ≡ first_place (has_key (key_of name.now)) self.now) }
     {
-        let key = name.to_ascii_uppercase(alloc)?;
+        let key = key_of(alloc, name)?;
         Ok(look_up(&self.places, key.as_slice()))
     }
 

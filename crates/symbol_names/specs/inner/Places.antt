@@ -1,8 +1,8 @@
 -- Where names and numbers stand first.
-use Rattle.std.specs.Prelude.{◌≡◌, ℕ, suc, Bool, false, not, if◌then◌else◌, nat_eq, nat_lt, List, [], ◌∷◌, ◌++◌, map, Option, Some, None, option_map, is_some, Result, Ok, Err}
+use Rattle.std.specs.Prelude.{ℕ, Bool, false, not, nat_eq, nat_lt, List, [], ◌++◌, map, Option, Some, None, Result, Ok, Err}
 use Rattle.std.specs.Cmp.Lexicographic.{pointwise}
 use Rattle.std.specs.List.{fold}
-use Rattle.std.specs.Map.{lookup}
+use Rattle.first_places.specs.Places.{AreFirstPlaces, with_place}
 use Rattle.s7_base.specs.declared.broken.Break.{Break}
 use Rattle.s7_base.specs.declared.reason.Reason.{Reason}
 use Rattle.s7_base.specs.declared.reason.Reason.TheVariants.{BadAddress, DuplicateName}
@@ -14,25 +14,16 @@ use Rattle.stl_tree.specs.declared.raw.RawBlock.{RawBlock}
 use Rattle.stl_tree.specs.declared.raw.RawData.{RawData}
 use Rattle.stl_tree.specs.declared.raw.SymbolLine.{SymbolLine}
 
--- the first place in a list of what passes a test
-abbrev pub first_place : {X : Type 0} → (X → Bool) → List X → Option ℕ
-first_place test [] = None
-first_place test (x ∷ xs) = if test x then Some 0 else option_map (λ n. suc n) (first_place test xs)
-
 -- a first place is one before this one
 abbrev pub is_before : ℕ → Option ℕ → Bool
 is_before place None = false
 is_before place (Some first) = nat_lt first place
 
--- keys with their first places, and one more key at a place
-abbrev pub with_place : {X : Type 0} → (X → X → Bool) → X → ℕ → List (X × ℕ) → List (X × ℕ)
-with_place eq key place table = if is_some (lookup (eq key) table) then table else table ++ (key, place) ∷ []
-
 -- Numbers of blocks
 
 -- each number is kept with its first place
 abbrev pub AreNumberPlaces : List (Result ℕ Reason) → List (ℕ × ℕ) → Type 0
-AreNumberPlaces numbers table = (n : ℕ) → lookup (nat_eq n) table ≡ first_place (is_number n) numbers
+AreNumberPlaces numbers table = AreFirstPlaces nat_eq is_number numbers table
 
 abbrev pub with_number_place : Result ℕ Reason → ℕ → List (ℕ × ℕ) → List (ℕ × ℕ)
 with_number_place (Ok n) place table = with_place nat_eq n place table
@@ -57,7 +48,7 @@ has_key key line = pointwise nat_eq key (key_of line.name)
 
 -- each key is kept with the place of its first line
 abbrev pub AreNamePlaces : List SymbolLine → List (List ℕ × ℕ) → Type 0
-AreNamePlaces lines table = (key : List ℕ) → lookup (pointwise nat_eq key) table ≡ first_place (has_key key) lines
+AreNamePlaces lines table = AreFirstPlaces (pointwise nat_eq) has_key lines table
 
 -- the keys of lines
 abbrev pub names_before : List SymbolLine → List (List ℕ)

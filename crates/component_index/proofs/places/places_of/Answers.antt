@@ -1,9 +1,10 @@
-use Rattle.std.proofs.Common.{◌≡◌, ◌+◌, map, nat_eq, rules, subst, sym, ap, take, ◌∙◌}
+use Rattle.std.proofs.Common.{◌≡◌, ◌+◌, map, nat_eq, refl, rules, subst, sym, ap, take, ◌∙◌}
 use Rattle.std.proofs.lemmas.List.{take_all}
 use Rattle.std.specs.Cmp.Lexicographic.{pointwise}
 use Rattle.stl_rules.specs.DeclarationRules.{key_of}
-use Rattle.component_index.specs.inner.Places.{AreNamePlaces, first_place, has_key, with_place}
-use Rattle.component_index.proofs.Firsts.{name_turn}
+use Rattle.first_places.specs.Places.{first_place, with_place}
+use Rattle.first_places.proofs.Firsts.{key_turn, name_sound}
+use Rattle.component_index.specs.inner.Places.{AreNamePlaces, has_key}
 use Rattle.component_index.proofs.places.places_of.Goals as goal
 
 pub loop-place-preserved : goal.loop-place-preserved
@@ -16,7 +17,7 @@ loop-place-preserved c =
     let put : map (λ e. (e.0.items, e.1)) c.put_place.new.places.entries ≡ with_place (pointwise nat_eq) c.in_ok-key.key.items place table
     = c.in_ok-put_place.ensures in
     subst (AreNamePlaces (take (place + 1) decls)) (sym (put ∙ ap (λ k. with_place (pointwise nat_eq) k place table) key))
-    (name_turn decls place d table c.loop-place-test.true c.index-decls-place.is c.loop-place.invariant)
+    (key_turn (pointwise nat_eq) name_sound has_key decls place d (key_of d.name) table c.loop-place-test.true c.index-decls-place.is (λ k. refl) c.loop-place.invariant)
 
 pub returns : goal.returns
 returns c = λ key. c.loop-place.invariant key ∙ ap (first_place (has_key key)) (take_all c.loop-place.place c.args.decls.now c.loop-place-test.false)

@@ -1,7 +1,7 @@
 use Rattle.std.proofs.Common.{◌++◌, [], ap, sym, ◌∙◌, arith, drop}
 use Rattle.std.proofs.Math.ListN.{drop_of_length-le}
 use Rattle.stl_tree.specs.declared.raw.DeclType.TheVariants as type
-use Rattle.symbol_layout.proofs.Equations.{breaks_date, breaks_elementary}
+use Rattle.stl_rules.proofs.Equations.{breaks_date, breaks_elementary}
 use Rattle.symbol_layout.proofs.Judging.{noted_all, noted_array, noted_declaration, noted_next, noted_none, noted_struct, on_ok}
 use Rattle.stl_rules.specs.DeclarationRules.{scope_breaks}
 use Rattle.symbol_layout.proofs.rules.«+judge».Goals as goal

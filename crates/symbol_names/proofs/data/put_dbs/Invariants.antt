@@ -1,7 +1,6 @@
 use Rattle.std.proofs.Common.{◌≡◌, [], map, take, drop}
 use Rattle.std.specs.List.{filter_map}
 use Rattle.stl_rules.specs.Stages.{dbs_behind}
-use Rattle.stl_tree.specs.declared.raw.RawData.{RawData}
 use Rattle.symbol_names.specs.inner.Firsts.{with_breaks}
 use Rattle.symbol_names.specs.inner.Kept.{data_kept}
 use Rattle.symbol_names.specs.inner.Places.{db_numbers, numbers_before}

@@ -1,11 +1,12 @@
 -- Tables as the entries of maps.
 use Rattle.std.proofs.Common.{◌≡◌, ℕ, Bool, true, false, cond, List, [], ◌∷◌, ◌++◌, map, Option, Some, None, is_some, refl, sym, ap, ◌∙◌}
 use Rattle.std.specs.Map.{lookup}
+use Rattle.std.proofs.lemmas.List.{map-append}
 use Rattle.indexmap.specs.IndexMap.{insert_entry}
-use Rattle.component_index.specs.inner.Places.{with_place}
+use Rattle.first_places.specs.Places.{with_place}
 
 -- a key that is not there goes last
-appended : {K T : Type 0} (eq : K → K → Bool) (k : K) (v : T) (es : List (K × T)) → lookup (eq k) es ≡ None → insert_entry eq es k v ≡ es ++ (k, v) ∷ []
+pub appended : {K T : Type 0} (eq : K → K → Bool) (k : K) (v : T) (es : List (K × T)) → lookup (eq k) es ≡ None → insert_entry eq es k v ≡ es ++ (k, v) ∷ []
 appended eq k v [] h = refl
 appended eq k v (e ∷ es) h = step (eq k e.0) (λ q. appended eq k v es q) h
   where
@@ -14,15 +15,11 @@ appended eq k v (e ∷ es) h = step (eq k e.0) (λ q. appended eq k v es q) h
     step true more q = cc
     step false more q = ap (λ l. e ∷ l) (more q)
 
-map_append : {X Y : Type 0} (f : X → Y) (xs ys : List X) → map f (xs ++ ys) ≡ map f xs ++ map f ys
-map_append f [] ys = refl
-map_append f (x ∷ xs) ys = ap (λ l. f x ∷ l) (map_append f xs ys)
-
--- Keys in vectors
-
-none : {T : Type 0} (x : Option T) → is_some x ≡ false → x ≡ None
+pub none : {T : Type 0} (x : Option T) → is_some x ≡ false → x ≡ None
 none None h = refl
 none (Some x) h = absurd cc
+
+-- Keys in vectors
 
 module _ {K X : Type 0} (eq : X → X → Bool) (items : K → X) where
   -- the first key that is the same is found in either form
@@ -43,5 +40,5 @@ module _ {K X : Type 0} (eq : X → X → Bool) (items : K → X) where
       let table = map (λ (e : K × ℕ). (items e.0, e.1)) es in
       let absent : lookup (λ x. eq (items k) (items x)) es ≡ None = looks (items k) es ∙ none (lookup (eq (items k)) table) h in
       ap (map (λ (e : K × ℕ). (items e.0, e.1))) (e ∙ appended (λ x y. eq (items x) (items y)) k place es absent)
-      ∙ map_append (λ (e : K × ℕ). (items e.0, e.1)) es ((k, place) ∷ [])
+      ∙ map-append (λ (e : K × ℕ). (items e.0, e.1)) es ((k, place) ∷ [])
       ∙ sym (ap (λ b. cond b table (table ++ (items k, place) ∷ [])) h)

@@ -1,8 +1,8 @@
 use Rattle.std.proofs.Common.{◌≡◌, rules, true, false, is_some, map, nat_eq}
 use Rattle.std.specs.Cmp.Lexicographic.{pointwise}
 use Rattle.std.specs.Map.{lookup}
-use Rattle.component_index.proofs.Tables.{kept, put}
-use Rattle.component_index.proofs.places.put_place.Goals as goal
+use Rattle.first_places.proofs.Tables.{kept, put}
+use Rattle.first_places.proofs.places.put_place.Goals as goal
 
 pub returns-then-is_some : goal.returns-then-is_some
 returns-then-is_some c =

@@ -1,4 +1,4 @@
--- Where names stand first.
+-- Where keys stand first, with one item more.
 use Rattle.std.proofs.Common.{◌≡◌, ◌<◌, ℕ, suc, ◌+◌, Bool, true, false, cond, ◌&&◌, nat_eq, List, [], ◌∷◌, ◌++◌, length, take, get_or, map, Option, Some, None, is_some, option_map, refl, sym, ap, subst, ◌∙◌, arith}
 use Rattle.std.specs.Char.{to_ascii_lowercase, to_ascii_uppercase}
 use Rattle.std.specs.Cmp.Lexicographic.{pointwise}
@@ -7,9 +7,7 @@ use Rattle.std.specs.Option.{option_or}
 use Rattle.std.proofs.lemmas.Bool.Decides.{nat_tests}
 use Rattle.std.proofs.lemmas.Slice.Eq.{bytes_eq-Decides}
 use Rattle.std.proofs.lemmas.List.{length-take-le, take_more}
-use Rattle.stl_rules.specs.DeclarationRules.{key_of}
-use Rattle.stl_tree.specs.declared.raw.Declaration.{Declaration}
-use Rattle.component_index.specs.inner.Places.{AreNamePlaces, first_place, has_key, with_place}
+use Rattle.first_places.specs.Places.{AreFirstPlaces, first_place, with_place}
 
 first_append : {X : Type 0} (test : X → Bool) (xs : List X) (x : X)
     → first_place test (xs ++ x ∷ []) ≡ option_or (first_place test xs) (cond (test x) (Some (length xs)) None)
@@ -24,8 +22,6 @@ first_append test (y ∷ ys) x = by_test (test y) (test x) (first_place test ys)
     by_test false true None e = ap (option_map (λ n. suc n)) e
     by_test false false None e = ap (option_map (λ n. suc n)) e
 
--- Tables
-
 lookup_append : {X : Type 0} (test : X → Bool) (table : List (X × ℕ)) (key : X) (place : ℕ)
     → lookup test (table ++ (key, place) ∷ []) ≡ option_or (lookup test table) (cond (test key) (Some place) None)
 lookup_append test [] key place = refl
@@ -39,10 +35,20 @@ lookup_append test (e ∷ es) key place = by_test (test e.0) (lookup_append test
 
 -- a test of keys that says which are equal
 module _ {X A : Type 0} (eq : X → X → Bool) (sound : (k q : X) → eq k q ≡ true → k ≡ q) (is_at : X → A → Bool) where
+  -- one item more, that has no key
+  pub no_key : (table : List (X × ℕ)) (xs : List A) (x : A) → ((k : X) → is_at k x ≡ false)
+      → AreFirstPlaces eq is_at xs table → AreFirstPlaces eq is_at (xs ++ x ∷ []) table
+  no_key table xs x none h k =
+      h k ∙ sym (or_none (first_place (is_at k) xs)) ∙ ap (λ b. option_or (first_place (is_at k) xs) (cond b (Some (length xs)) None)) (sym (none k))
+      ∙ sym (first_append (is_at k) xs x)
+    where
+      or_none : (o : Option ℕ) → option_or o None ≡ o
+      or_none None = refl
+      or_none (Some n) = refl
+
   -- one item more, with its key
-  with_key : (table : List (X × ℕ)) (xs : List A) (x : A) (key : X) → ((k : X) → is_at k x ≡ eq k key)
-      → ((k : X) → lookup (eq k) table ≡ first_place (is_at k) xs) → (k : X)
-      → lookup (eq k) (with_place eq key (length xs) table) ≡ first_place (is_at k) (xs ++ x ∷ [])
+  pub with_key : (table : List (X × ℕ)) (xs : List A) (x : A) (key : X) → ((k : X) → is_at k x ≡ eq k key)
+      → AreFirstPlaces eq is_at xs table → AreFirstPlaces eq is_at (xs ++ x ∷ []) (with_place eq key (length xs) table)
   with_key table xs x key is h k =
       by_place (lookup (eq key) table) refl (eq k key) refl
       ∙ ap (λ o. option_or o (cond (eq k key) (Some (length xs)) None)) (h k)
@@ -64,6 +70,15 @@ module _ {X A : Type 0} (eq : X → X → Bool) (sound : (k q : X) → eq k q �
           some_or (lookup (eq k) table) p (Some (length xs)) (ap (λ q. lookup (eq q) table) (sound k key f) ∙ e)
       by_place (Some p) e false f = or_none (lookup (eq k) table)
 
+  -- one turn of a loop that keeps the places of the keys of items
+  pub key_turn : (xs : List A) (i : ℕ) (x : A) (key : X) (table : List (X × ℕ)) → i < length xs → x ≡ get_or xs i x → ((k : X) → is_at k x ≡ eq k key)
+      → AreFirstPlaces eq is_at (take i xs) table → AreFirstPlaces eq is_at (take (i + 1) xs) (with_place eq key i table)
+  key_turn xs i x key table before is at h =
+      let taken : length (take i xs) ≡ i = length-take-le i xs (omega (arith, before)) in
+      let more : take i xs ++ x ∷ [] ≡ take (i + 1) xs = ap (λ y. take i xs ++ y ∷ []) is ∙ sym (take_more xs i x before) in
+      subst (λ l. AreFirstPlaces eq is_at l (with_place eq key i table)) more
+      (subst (λ n. AreFirstPlaces eq is_at (take i xs ++ x ∷ []) (with_place eq key n table)) taken (with_key table (take i xs) x key at h))
+
 -- Names
 
 -- letters are the same in small and in large
@@ -80,15 +95,3 @@ same_words (x ∷ xs) (y ∷ ys) =
 
 pub name_sound : (k q : List ℕ) → pointwise nat_eq k q ≡ true → k ≡ q
 name_sound k q h = (bytes_eq-Decides k q).0 h
-
--- one declaration more of a loop
-pub name_turn : (decls : List Declaration) (i : ℕ) (d : Declaration) (table : List (List ℕ × ℕ)) → i < length decls → d ≡ get_or decls i d
-    → AreNamePlaces (take i decls) table
-    → AreNamePlaces (take (i + 1) decls) (with_place (pointwise nat_eq) (key_of d.name) i table)
-name_turn decls i d table before is h =
-    let step = with_key (pointwise nat_eq) name_sound has_key table (take i decls) d (key_of d.name) (λ k. refl) h in
-    let taken : length (take i decls) ≡ i = length-take-le i decls (omega (arith, before)) in
-    let more : take i decls ++ d ∷ [] ≡ take (i + 1) decls
-    = ap (λ y. take i decls ++ y ∷ []) is ∙ sym (take_more decls i d before) in
-    subst (λ l. AreNamePlaces l (with_place (pointwise nat_eq) (key_of d.name) i table)) more
-    (subst (λ n. AreNamePlaces (take i decls ++ d ∷ []) (with_place (pointwise nat_eq) (key_of d.name) n table)) taken step)
