@@ -20,7 +20,7 @@ use Rattle.st_tree.specs.declared.graph.StExit.TheVariants as exit
 use Rattle.st_tree.specs.declared.graph.StNode.{StNode}
 use Rattle.st_tree.specs.declared.program.Pou.{Pou}
 use Rattle.instruction_lowering.specs.Temporaries.{AreTemporaries, types_in}
-use Rattle.row_templates.specs.Assignments.{AreAssignments}
+use Rattle.row_templates.specs.Assignments.{AreWrites}
 use Rattle.row_templates.specs.Nodes.{nodes_in}
 use Rattle.row_templates.specs.Reading.{EachRegister, IsAmong}
 
@@ -51,7 +51,7 @@ pub record IsUnitOf (block : Block) (unit : GraphPou) : Type 0 where
   pub nodes : unit.graph.nodes ≡ node ∷ []
   pub exit : node.exit ≡ exit.End
   pub only_end : node.only_end ≡ length block.body == 1
-  pub steps : AreAssignments node.steps
+  pub steps : AreWrites node.steps
   pub reads : EachRegister (IsRead block.body) (reads_in node.steps)
   pub few : length node.steps ≤ 11 * length block.body
   pub small : nodes_in node.steps ≤ 91 * length block.body
