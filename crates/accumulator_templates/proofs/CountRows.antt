@@ -1,4 +1,4 @@
--- The statements of each instruction are assignments, and few, and so are the nodes of their expressions.
+-- The statements of each instruction write one thing each, and are few, and so are the nodes of their expressions.
 use Rattle.std.proofs.Common.{◌≡◌, ℕ, ◌≤◌, pos, Bool, true, false, if◌then◌else◌, List, [], ◌∷◌, ◌++◌, length, Option, Some, None, refl, arith}
 use Rattle.std.specs.Prelude.{ℤ}
 use Rattle.std.specs.Ordering.{int_eq}
@@ -16,37 +16,38 @@ use Rattle.stl_tree.specs.declared.program.OpenArg.{OpenArg}
 use Rattle.stl_tree.specs.declared.program.OpenArg.TheVariants as open_arg
 use Rattle.stl_tree.specs.declared.program.Operand.{Operand}
 use Rattle.st_tree.specs.declared.expr.Expr.{Expr}
+use Rattle.st_tree.specs.declared.expr.Var.TheVariants as var
 use Rattle.st_tree.specs.declared.program.Stmt.{Stmt}
 use Rattle.accumulator_templates.specs.Conversions.{cad_of, caw_of, invd_of, invi_of, itd_of}
 use Rattle.accumulator_templates.specs.DataBlocks.{block_exchange_of, block_open_of, number_load_of}
 use Rattle.accumulator_templates.specs.Logic.{computed_of, fixed_of, logic_of}
 use Rattle.accumulator_templates.specs.Moves.{exchange_of, load_of, pop_of, push_of, status_load_of, status_store_of, taken_of, transfer_of}
-use Rattle.accumulator_templates.specs.Parts.{extended_of}
+use Rattle.accumulator_templates.specs.Parts.{cut_of, extended_of}
 use Rattle.accumulator_templates.specs.Sums.{add_dword_of, add_word_of, dec_of, inc_of, unless_zero}
-use Rattle.row_templates.specs.Assignments.{AreAssignments}
-use Rattle.row_templates.specs.Builders.{set_of}
-use Rattle.row_templates.specs.Fetching.{fetch_of, fetched_of, opened_of}
+use Rattle.row_templates.specs.Assignments.{AreWrites}
+use Rattle.row_templates.specs.Builders.{read_of, set_of}
+use Rattle.row_templates.specs.Fetching.{fetch_of, fetched_of, reach_of, writing_of}
 use Rattle.row_templates.specs.Nodes.{nodes, nodes_in}
-use Rattle.row_templates.proofs.FetchBounds.{assigns_in_parts, fetch_assigns, fetch_length, fetch_nodes, fetched_nodes, opened_assigns, opened_length, opened_nodes}
-use Rattle.row_templates.proofs.Sizes.{counts, of_append, of_nothing}
+use Rattle.row_templates.proofs.FetchBounds.{fetch_length, fetch_nodes, fetch_writes, fetched_nodes, reach_length, reach_nodes, reach_writes, writes_in_parts, writing_nodes, writing_writes}
+use Rattle.row_templates.proofs.Sizes.{counts, of_append, of_assign, of_nothing}
 
--- at most eleven statements with at most 91 nodes, each an assignment
+-- at most eleven statements with at most 91 nodes, each an assignment or an area write
 pub record AreFew (body : List Stmt) : Type 0 where
-  pub assignments : AreAssignments body
+  pub writes : AreWrites body
   pub statements : length body ≤ 11
   pub nodes : nodes_in body ≤ 91
 
-counted : (body : List Stmt) (statements nodes : ℕ) → AreAssignments body → length body ≡ statements → nodes_in body ≡ nodes → statements ≤ 11 → nodes ≤ 91 → AreFew body
-counted body statements nodes a e f h k = record { assignments = a; statements = omega arith; nodes = omega arith }
+counted : (body : List Stmt) (statements nodes : ℕ) → AreWrites body → length body ≡ statements → nodes_in body ≡ nodes → statements ≤ 11 → nodes ≤ 91 → AreFew body
+counted body statements nodes a e f h k = record { writes = a; statements = omega arith; nodes = omega arith }
 
 -- Loading, storing and moving
 
--- statements behind those that open or fetch an operand
-behind_few : (before body : List Stmt) (statements nodes : ℕ) → AreAssignments before → length before ≤ 2 → nodes_in before ≤ 2
-    → AreAssignments body → length body ≡ statements → nodes_in body ≡ nodes → statements ≤ 9 → nodes ≤ 89 → AreFew (before ++ body)
+-- statements behind those that fetch an operand
+behind_few : (before body : List Stmt) (statements nodes : ℕ) → AreWrites before → length before ≤ 3 → nodes_in before ≤ 13
+    → AreWrites body → length body ≡ statements → nodes_in body ≡ nodes → statements ≤ 8 → nodes ≤ 78 → AreFew (before ++ body)
 behind_few before body statements nodes a short low b e f h k =
     record {
-      assignments = assigns_in_parts before body a b;
+      writes = writes_in_parts before body a b;
       statements = omega (arith, length-append before body);
       nodes = omega (arith, of_append before body);
     }
@@ -54,32 +55,37 @@ behind_few before body statements nodes a short low b e f h k =
 -- L of an operand, by the expression as which it is read
 fetched_few : (first : ℕ) (o : Operand) (w : Width) (e : Expr) → nodes e ≡ 1 → AreFew (fetch_of first o w ++ taken_of (extended_of w e))
 fetched_few first o width.Bit e one =
-    behind_few (fetch_of first o width.Bit) (taken_of (extended_of width.Bit e)) 2 5 (fetch_assigns first o width.Bit) (fetch_length first o width.Bit)
+    behind_few (fetch_of first o width.Bit) (taken_of (extended_of width.Bit e)) 2 5 (fetch_writes first o width.Bit) (fetch_length first o width.Bit)
     (fetch_nodes first o width.Bit) tt refl (simp (counts, one)) (omega arith) (omega arith)
 fetched_few first o width.Byte e one =
-    behind_few (fetch_of first o width.Byte) (taken_of (extended_of width.Byte e)) 2 3 (fetch_assigns first o width.Byte) (fetch_length first o width.Byte)
+    behind_few (fetch_of first o width.Byte) (taken_of (extended_of width.Byte e)) 2 3 (fetch_writes first o width.Byte) (fetch_length first o width.Byte)
     (fetch_nodes first o width.Byte) tt refl (simp (counts, one)) (omega arith) (omega arith)
 fetched_few first o width.Word e one =
-    behind_few (fetch_of first o width.Word) (taken_of (extended_of width.Word e)) 2 3 (fetch_assigns first o width.Word) (fetch_length first o width.Word)
+    behind_few (fetch_of first o width.Word) (taken_of (extended_of width.Word e)) 2 3 (fetch_writes first o width.Word) (fetch_length first o width.Word)
     (fetch_nodes first o width.Word) tt refl (simp (counts, one)) (omega arith) (omega arith)
 fetched_few first o width.Dword e one =
-    behind_few (fetch_of first o width.Dword) (taken_of (extended_of width.Dword e)) 2 2 (fetch_assigns first o width.Dword) (fetch_length first o width.Dword)
+    behind_few (fetch_of first o width.Dword) (taken_of (extended_of width.Dword e)) 2 2 (fetch_writes first o width.Dword) (fetch_length first o width.Dword)
     (fetch_nodes first o width.Dword) tt refl (simp (counts, one)) (omega arith) (omega arith)
 
 pub load_few : (first : ℕ) (a : LoadArg) → AreFew (load_of first a)
 load_few first (arg.At o w) = fetched_few first o w (fetched_of first o w) (fetched_nodes first o w)
 load_few first (arg.Constant c) = counted (load_of first (arg.Constant c)) 2 2 tt refl (simp counts) (omega arith) (omega arith)
 
--- T of an operand, by its last statement
-opened_few : (o : Operand) (x : Stmt) (n : ℕ) → AreAssignments (x ∷ []) → nodes_in (x ∷ []) ≡ n → n ≤ 89 → AreFew (opened_of o ++ (x ∷ []))
-opened_few o x n a e h =
-    behind_few (opened_of o) (x ∷ []) 1 n (opened_assigns o) (omega (arith, opened_length o)) (omega (arith, opened_nodes o)) a refl e (omega arith) h
+-- T of an operand, by the expression that it writes
+reached_few : (first : ℕ) (o : Operand) (w : Width) (e : Expr) (n : ℕ) → nodes e ≡ n → n ≤ 5 → AreFew (reach_of first o ++ (writing_of first o w e ∷ []))
+reached_few first o w e n same few =
+    let own : List Stmt = writing_of first o w e ∷ [] in
+    record {
+      writes = writes_in_parts (reach_of first o) own (reach_writes first o) (writing_writes first o w e [] tt);
+      statements = omega (arith, length-append (reach_of first o) own, reach_length first o);
+      nodes = omega (arith, of_append (reach_of first o) own, reach_nodes first o, writing_nodes first o w e [], of_nothing);
+    }
 
-pub transfer_few : (o : Operand) (w : Width) → AreFew (transfer_of o w)
-transfer_few o width.Bit = opened_few o _ 5 tt (simp counts) (omega arith)
-transfer_few o width.Byte = opened_few o _ 2 tt (simp counts) (omega arith)
-transfer_few o width.Word = opened_few o _ 2 tt (simp counts) (omega arith)
-transfer_few o width.Dword = opened_few o _ 1 tt (simp counts) (omega arith)
+pub transfer_few : (first : ℕ) (o : Operand) (w : Width) → AreFew (transfer_of first o w)
+transfer_few first o width.Bit = reached_few first o width.Bit (cut_of width.Bit (read_of reg.Accu1)) 5 (simp counts) (omega arith)
+transfer_few first o width.Byte = reached_few first o width.Byte (cut_of width.Byte (read_of reg.Accu1)) 2 (simp counts) (omega arith)
+transfer_few first o width.Word = reached_few first o width.Word (cut_of width.Word (read_of reg.Accu1)) 2 (simp counts) (omega arith)
+transfer_few first o width.Dword = reached_few first o width.Dword (cut_of width.Dword (read_of reg.Accu1)) 1 (simp counts) (omega arith)
 
 pub status_load_few : AreFew status_load_of
 status_load_few = counted status_load_of 2 30 tt refl (simp counts) (omega arith) (omega arith)
@@ -98,8 +104,11 @@ pop_few = counted pop_of 1 1 tt refl (simp counts) (omega arith) (omega arith)
 
 -- Numbers of data blocks
 
-pub block_open_few : (r : Reg) (d : OpenArg) → AreFew (block_open_of r d)
-block_open_few r (open_arg.Number n) = counted (block_open_of r (open_arg.Number n)) 1 1 tt refl (simp counts) (omega arith) (omega arith)
+pub block_open_few : (first : ℕ) (r : Reg) (d : OpenArg) → AreFew (block_open_of first r d)
+block_open_few first r (open_arg.Number n) = counted (block_open_of first r (open_arg.Number n)) 1 1 tt refl (simp counts) (omega arith) (omega arith)
+block_open_few first r (open_arg.At o) =
+    behind_few (fetch_of first o width.Word) (set_of r (fetched_of first o width.Word) ∷ []) 1 1 (fetch_writes first o width.Word) (fetch_length first o width.Word)
+    (fetch_nodes first o width.Word) tt refl (omega (arith, of_assign (var.Register r) (fetched_of first o width.Word) [], fetched_nodes first o width.Word, of_nothing)) (omega arith) (omega arith)
 
 pub block_exchange_few : (first : ℕ) → AreFew (block_exchange_of first)
 block_exchange_few first = counted (block_exchange_of first) 3 3 tt refl (simp counts) (omega arith) (omega arith)

@@ -1,5 +1,5 @@
 -- OPN, CDB, L DBNO and L DINO do their rows.
-use Rattle.std.proofs.Common.{◌≡◌, ℕ, ◌%◌, ◌^◌, ◌<◌, List, [], ◌∷◌, refl, arith}
+use Rattle.std.proofs.Common.{◌≡◌, ℕ, ◌%◌, ◌^◌, ◌<◌, pos, List, [], ◌∷◌, Ok, refl, arith}
 use Rattle.std.specs.Prelude.{ℤ}
 use Rattle.s7_base.specs.declared.register.Reg.{Reg}
 use Rattle.s7_base.specs.declared.register.Reg.TheVariants as reg
@@ -7,6 +7,7 @@ use Rattle.stl_tree.specs.DataBlocks.{db_number_loaded, db_opened, dbs_exchanged
 use Rattle.stl_tree.specs.Registers.{RegisterValues}
 use Rattle.stl_tree.specs.declared.program.OpenArg.TheVariants as arg
 use Rattle.st_tree.specs.State.{State}
+use Rattle.st_tree.specs.Value.{value}
 use Rattle.st_tree.specs.declared.expr.Expr.{Expr}
 use Rattle.st_tree.specs.declared.expr.StType.TheVariants as type
 use Rattle.st_tree.specs.declared.program.Located.{Located}
@@ -14,10 +15,10 @@ use Rattle.st_tree.specs.declared.state.Value.{Value}
 use Rattle.accumulator_templates.specs.DataBlocks.{block_exchange_of, block_open_of, number_load_of}
 use Rattle.accumulator_templates.proofs.AccumulatorRows.{taken}
 use Rattle.accumulator_templates.proofs.Worths.{word}
-use Rattle.row_templates.specs.Builders.{convert_of, read_of}
+use Rattle.row_templates.specs.Builders.{constant_of, convert_of, read_of, set_of}
 use Rattle.row_templates.proofs.Alike.{AreAlike, AreInRange, IsKept}
 use Rattle.row_templates.proofs.RegisterRows.{IsRow, registers_after}
-use Rattle.row_templates.proofs.Stages.{known, parts}
+use Rattle.row_templates.proofs.Stages.{known, parts, stage}
 
 same_number : (n : ℕ) → n < 2 ^ 16 → n % 4294967296 ≡ n
 same_number n h = omega arith
@@ -27,33 +28,41 @@ wide_number : (n : ℕ) → n < 2 ^ 16 → n < 2 ^ 32
 wide_number n h = omega arith
 
 module _ (g : List Located) (s : State) (used : ℕ) (r : RegisterValues) (sta : ℤ) (range : AreInRange r) where
-  -- OPN
+  -- a register takes the number of a data block
 
-  db_alike : (n : ℕ) → AreAlike IsKept (db_opened n r) (registers_after (block_open_of reg.DbNo (arg.Number n)) (word n ∷ []) (known r sta))
-  db_alike n reg.Sta asked = elim asked [ ]
-  db_alike n q asked = refl
+  db_alike : (e : Expr) (n : ℕ) → AreAlike IsKept (db_opened n r) (registers_after (set_of reg.DbNo e ∷ []) (word n ∷ []) (known r sta))
+  db_alike e n reg.Sta asked = elim asked [ ]
+  db_alike e n q asked = refl
 
-  pub open_db_row : (n : ℕ) → n < 2 ^ 16 → IsRow g s used (block_open_of reg.DbNo (arg.Number n)) r (db_opened n r) sta
-  open_db_row n h =
+  pub db_row : (e : Expr) (n : ℕ) → n < 2 ^ 16 → value g e (stage s used [] (known r sta)) ≡ Ok (word n) → IsRow g s used (set_of reg.DbNo e ∷ []) r (db_opened n r) sta
+  db_row e n h worth =
       record {
         values = word n ∷ [];
-        have = (simp parts, tt);
-        alike = db_alike n;
+        have = (worth, tt);
+        alike = db_alike e n;
         range = record { accu1 = range.accu1; accu2 = range.accu2; ar1 = range.ar1; ar2 = range.ar2; db = h; di = range.di };
       }
 
-  di_alike : (n : ℕ) → AreAlike IsKept (di_opened n r) (registers_after (block_open_of reg.DiNo (arg.Number n)) (word n ∷ []) (known r sta))
-  di_alike n reg.Sta asked = elim asked [ ]
-  di_alike n q asked = refl
+  di_alike : (e : Expr) (n : ℕ) → AreAlike IsKept (di_opened n r) (registers_after (set_of reg.DiNo e ∷ []) (word n ∷ []) (known r sta))
+  di_alike e n reg.Sta asked = elim asked [ ]
+  di_alike e n q asked = refl
 
-  pub open_di_row : (n : ℕ) → n < 2 ^ 16 → IsRow g s used (block_open_of reg.DiNo (arg.Number n)) r (di_opened n r) sta
-  open_di_row n h =
+  pub di_row : (e : Expr) (n : ℕ) → n < 2 ^ 16 → value g e (stage s used [] (known r sta)) ≡ Ok (word n) → IsRow g s used (set_of reg.DiNo e ∷ []) r (di_opened n r) sta
+  di_row e n h worth =
       record {
         values = word n ∷ [];
-        have = (simp parts, tt);
-        alike = di_alike n;
+        have = (worth, tt);
+        alike = di_alike e n;
         range = record { accu1 = range.accu1; accu2 = range.accu2; ar1 = range.ar1; ar2 = range.ar2; db = range.db; di = h };
       }
+
+  -- OPN of a number
+
+  pub open_db_row : (n : ℕ) → n < 2 ^ 16 → IsRow g s used (block_open_of used reg.DbNo (arg.Number n)) r (db_opened n r) sta
+  open_db_row n h = db_row (constant_of type.Word (pos n)) n h (simp parts)
+
+  pub open_di_row : (n : ℕ) → n < 2 ^ 16 → IsRow g s used (block_open_of used reg.DiNo (arg.Number n)) r (di_opened n r) sta
+  open_di_row n h = di_row (constant_of type.Word (pos n)) n h (simp parts)
 
   -- CDB
 

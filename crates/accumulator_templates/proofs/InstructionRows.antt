@@ -5,6 +5,7 @@ use Rattle.std.specs.Ordering.{int_eq}
 use Rattle.s7_base.specs.declared.register.Reg.TheVariants as reg
 use Rattle.s7_base.specs.declared.word.Width.{Width}
 use Rattle.stl_tree.specs.Accepted.{HasOperand, IsOpenArg}
+use Rattle.stl_tree.specs.DataBlocks.{db_opened, di_opened}
 use Rattle.stl_tree.specs.Instructions.{effect_of}
 use Rattle.stl_tree.specs.Now.{Activation, Now, next}
 use Rattle.stl_tree.specs.Reads.{is_fixed}
@@ -24,19 +25,21 @@ use Rattle.st_tree.specs.declared.expr.Expr.{Expr}
 use Rattle.st_tree.specs.declared.program.Located.{Located}
 use Rattle.st_tree.specs.declared.program.Stmt.{Stmt}
 use Rattle.accumulator_templates.specs.Conversions.{cad_of, caw_of, invd_of, invi_of, itd_of}
-use Rattle.accumulator_templates.specs.DataBlocks.{block_exchange_of, block_open_of, number_load_of, types_of_block_exchange}
+use Rattle.accumulator_templates.specs.DataBlocks.{block_exchange_of, block_open_of, number_load_of, types_of_block_exchange, types_of_block_open}
 use Rattle.accumulator_templates.specs.Logic.{computed_of, fixed_of, logic_of, type_of_row, types_of_logic}
 use Rattle.accumulator_templates.specs.Moves.{exchange_of, load_of, pop_of, push_of, status_load_of, status_store_of, transfer_of, types_of_exchange, types_of_load}
 use Rattle.accumulator_templates.specs.Sums.{add_dword_of, add_word_of, dec_of, inc_of, unless_zero}
 use Rattle.accumulator_templates.proofs.ConversionRows.{cad_row, caw_row, invd_row, invi_row, itd_row}
-use Rattle.accumulator_templates.proofs.DataBlockRows.{block_exchange_row, db_number_row, di_number_row, open_db_row, open_di_row}
+use Rattle.accumulator_templates.proofs.DataBlockRows.{block_exchange_row, db_number_row, db_row, di_number_row, di_row, open_db_row, open_di_row}
 use Rattle.accumulator_templates.proofs.LoadRows.{load_does as place_loaded}
 use Rattle.accumulator_templates.proofs.LogicRows.{logic_row}
 use Rattle.accumulator_templates.proofs.MoveRows.{constant_row, exchange_row, pop_row, push_row}
+use Rattle.accumulator_templates.proofs.OpenRows.{word_does}
 use Rattle.accumulator_templates.proofs.StatusRows.{status_load_row, status_store_row}
 use Rattle.accumulator_templates.proofs.SumRows.{add_dword_row, add_word_row, dec_row, inc_row}
 use Rattle.accumulator_templates.proofs.TransferRows.{transfer_does as place_written}
 use Rattle.row_templates.specs.Builders.{set_of}
+use Rattle.row_templates.specs.Fetching.{types_reached}
 use Rattle.row_templates.proofs.Alike.{AreInRange, Related}
 use Rattle.row_templates.proofs.DoesRow.{DoesRow}
 use Rattle.row_templates.proofs.Locals.{own_of}
@@ -85,16 +88,18 @@ module _ (g : List Located) (calls : Calls) (units : ℕ) (acts : List Activatio
   load_does (arg.At o w) h few = place_loaded g acts now s related calls units used o w h.1 few
   load_does (arg.Constant c) h few = does (load_of used (arg.Constant c)) _ (constant_row g s used r sta range c h) (omega arith)
 
-  pub transfer_does : (o : Operand) (w : Width) → HasOperand (op.Transfer o w) → Do (transfer_of o w) (op.Transfer o w)
-  transfer_does o w h = place_written g acts now s related calls units used o w h.1
+  pub transfer_does : (o : Operand) (w : Width) → HasOperand (op.Transfer o w) → used + length (types_reached o) ≤ room → Do (transfer_of used o w) (op.Transfer o w)
+  transfer_does o w h few = place_written g acts now s related calls units used o w h.1 few
 
-  pub open_db_does : (d : OpenArg) → IsOpenArg d → used ≤ room → Do (block_open_of reg.DbNo d) (op.OpenDb d)
+  pub open_db_does : (d : OpenArg) → IsOpenArg d → used + length (types_of_block_open d) ≤ room → Do (block_open_of used reg.DbNo d) (op.OpenDb d)
   open_db_does (open_arg.Number n) h few =
-      let most : n ≤ 65535 = h.1 in does (block_open_of reg.DbNo (open_arg.Number n)) _ (open_db_row g s used r sta range n (omega arith)) (omega arith)
+      let most : n ≤ 65535 = h.1 in does (block_open_of used reg.DbNo (open_arg.Number n)) _ (open_db_row g s used r sta range n (omega arith)) (omega arith)
+  open_db_does (open_arg.At o) h few = word_does g acts calls units reg.DbNo db_opened db_row now s related used o h.1 few
 
-  pub open_di_does : (d : OpenArg) → IsOpenArg d → used ≤ room → Do (block_open_of reg.DiNo d) (op.OpenDi d)
+  pub open_di_does : (d : OpenArg) → IsOpenArg d → used + length (types_of_block_open d) ≤ room → Do (block_open_of used reg.DiNo d) (op.OpenDi d)
   open_di_does (open_arg.Number n) h few =
-      let most : n ≤ 65535 = h.1 in does (block_open_of reg.DiNo (open_arg.Number n)) _ (open_di_row g s used r sta range n (omega arith)) (omega arith)
+      let most : n ≤ 65535 = h.1 in does (block_open_of used reg.DiNo (open_arg.Number n)) _ (open_di_row g s used r sta range n (omega arith)) (omega arith)
+  open_di_does (open_arg.At o) h few = word_does g acts calls units reg.DiNo di_opened di_row now s related used o h.1 few
 
   pub block_exchange_does : used + length types_of_block_exchange ≤ room → Do (block_exchange_of used) op.ExchangeDb
   block_exchange_does few = does (block_exchange_of used) _ (block_exchange_row g s used r sta range) (omega arith)

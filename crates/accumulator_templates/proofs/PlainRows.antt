@@ -1,6 +1,6 @@
 -- The statements of each instruction are well typed, for locals of its types, and nest little, and their expressions
 -- are low.
-use Rattle.std.proofs.Common.{◌≡◌, ℕ, ◌+◌, ◌≤◌, ◌<◌, ◌^◌, pos, Bool, true, false, if◌then◌else◌, List, [], ◌∷◌, ◌++◌, Option, Some, None, refl, subst, arith}
+use Rattle.std.proofs.Common.{◌≡◌, ℕ, ◌+◌, ◌≤◌, ◌<◌, ◌^◌, pos, Bool, true, false, if◌then◌else◌, List, [], ◌∷◌, ◌++◌, Option, Some, None, refl, sym, subst, arith}
 use Rattle.std.specs.Prelude.{ℤ, ◌==◌, not}
 use Rattle.std.specs.Ordering.{int_eq}
 use Rattle.std.proofs.lemmas.Int.{ints}
@@ -33,17 +33,16 @@ use Rattle.st_tree.specs.declared.expr.StType.TheVariants as type
 use Rattle.st_tree.specs.declared.expr.UnaryOp.TheVariants as unary
 use Rattle.st_tree.specs.declared.expr.Var.TheVariants as var
 use Rattle.st_tree.specs.declared.program.Stmt.{Stmt}
-use Rattle.st_tree.specs.declared.program.Stmt.TheVariants as stmt
 use Rattle.accumulator_templates.specs.Conversions.{byte_above_of, cad_of, caw_of, invd_of, invi_of, itd_of, low_byte_of, reversed_value}
-use Rattle.accumulator_templates.specs.DataBlocks.{block_exchange_of, block_open_of, number_load_of, types_of_block_exchange}
+use Rattle.accumulator_templates.specs.DataBlocks.{block_exchange_of, block_open_of, number_load_of, types_of_block_exchange, types_of_block_open}
 use Rattle.accumulator_templates.specs.Logic.{combined_of, computed_of, fixed_of, logic_of, other_of, result_of, type_of_row, types_of_logic, with_pattern_of}
 use Rattle.accumulator_templates.specs.Moves.{exchange_of, load_of, pop_of, push_of, status_load_of, status_store_of, status_value, taken_of, transfer_of, types_of_exchange, types_of_load, with_flag_of}
 use Rattle.accumulator_templates.specs.Parts.{any_bit_of, bits_where_of, cut_of, dword_of, extended_of, with_byte_of, with_low_of}
 use Rattle.accumulator_templates.specs.Sums.{add_dword_of, add_word_of, dec_of, inc_of, unless_zero}
-use Rattle.row_templates.specs.Builders.{constant_of, convert_of, read_of, set_of, variable_of}
-use Rattle.row_templates.specs.Fetching.{fetched_of}
-use Rattle.row_templates.proofs.FetchBounds.{fetch_plain, fetched_is, opened_plain}
-use Rattle.row_templates.proofs.Typing.{AreTyped, IsOf, IsPlainBody, assigned, binary_is, constant_is, convert_is, first_typed, literal_is, local_is, local_plain, more, operand_typed, register_is, select_is, set_plain, shift_is, unary_is}
+use Rattle.row_templates.specs.Builders.{constant_of, convert_of, read_of, set_of}
+use Rattle.row_templates.specs.Fetching.{fetched_of, types_reached, writing_of}
+use Rattle.row_templates.proofs.FetchBounds.{fetch_plain, fetched_is, reach_plain, writing_plain}
+use Rattle.row_templates.proofs.Typing.{AreTyped, IsOf, IsPlainBody, binary_is, constant_is, convert_is, first_typed, literal_is, local_is, local_plain, more, register_is, select_is, set_plain, shift_is, unary_is}
 
 -- constants of their types
 
@@ -170,11 +169,11 @@ module _ (sight : Sight) where
         (taken_plain (extended_of w e) (omega arith) (extended_is w (fetched_is sight first o w h.1 own)))
     load_plain first (arg.Constant c) h own = taken_plain (dword_of c) (omega arith) (constant_is sight (dword_value c h))
 
-    pub transfer_plain : (o : Operand) (w : Width) → HasOperand (op.Transfer o w) → IsPlainBody sight (transfer_of o w ++ rest)
-    transfer_plain o w h =
+    pub transfer_plain : (first : ℕ) (o : Operand) (w : Width) → HasOperand (op.Transfer o w) → AreTyped sight first (types_reached o)
+        → IsPlainBody sight (transfer_of first o w ++ rest)
+    transfer_plain first o w h own =
         let e : Expr = cut_of w (read_of reg.Accu1) in
-        opened_plain sight o w (stmt.Assign (variable_of o w) e ∷ []) rest h.1
-        (assigned sight (variable_of o w) e rest (omega arith) (operand_typed sight o w h.1) (cut_is w one_is) plain)
+        reach_plain sight first o w (writing_of first o w e ∷ []) rest h.1 own (writing_plain sight first o w e rest (omega arith) h.1 own (cut_is w one_is) plain)
 
     pub status_load_plain : IsPlainBody sight (status_load_of ++ rest)
     status_load_plain =
@@ -206,15 +205,26 @@ module _ (sight : Sight) where
 
     -- Numbers of data blocks
 
-    pub open_db_plain : (d : OpenArg) → IsOpenArg d → IsPlainBody sight (block_open_of reg.DbNo d ++ rest)
-    open_db_plain (open_arg.Number n) h =
-        let most : n ≤ 65535 = h.1 in
-        set_plain sight reg.DbNo (constant_of type.Word (pos n)) rest (omega arith) (constant_is sight (word_value n (omega arith))) plain
+    -- OPN, of a register that is a WORD
+    block_open_plain : (r : Reg) → type_of_register r ≡ type.Word → (first : ℕ) (d : OpenArg) → IsOpenArg d → AreTyped sight first (types_of_block_open d)
+        → IsPlainBody sight (block_open_of first r d ++ rest)
+    block_open_plain r t first d h own = by d h own
+      where
+        takes : (e : Expr) → IsOf sight type.Word 1 e → IsPlainBody sight (set_of r e ∷ rest)
+        takes e k = set_plain sight r e rest (omega arith) (subst (λ (ty : StType). IsOf sight ty 1 e) (sym t) k) plain
 
-    pub open_di_plain : (d : OpenArg) → IsOpenArg d → IsPlainBody sight (block_open_of reg.DiNo d ++ rest)
-    open_di_plain (open_arg.Number n) h =
-        let most : n ≤ 65535 = h.1 in
-        set_plain sight reg.DiNo (constant_of type.Word (pos n)) rest (omega arith) (constant_is sight (word_value n (omega arith))) plain
+        by : (d : OpenArg) → IsOpenArg d → AreTyped sight first (types_of_block_open d) → IsPlainBody sight (block_open_of first r d ++ rest)
+        by (open_arg.Number n) h own =
+            let most : n ≤ 65535 = h.1 in takes (constant_of type.Word (pos n)) (constant_is sight (word_value n (omega arith)))
+        by (open_arg.At o) h own =
+            fetch_plain sight first o width.Word (set_of r (fetched_of first o width.Word) ∷ []) rest h.1 own
+            (takes (fetched_of first o width.Word) (fetched_is sight first o width.Word h.1 own))
+
+    pub open_db_plain : (first : ℕ) (d : OpenArg) → IsOpenArg d → AreTyped sight first (types_of_block_open d) → IsPlainBody sight (block_open_of first reg.DbNo d ++ rest)
+    open_db_plain first d h own = block_open_plain reg.DbNo refl first d h own
+
+    pub open_di_plain : (first : ℕ) (d : OpenArg) → IsOpenArg d → AreTyped sight first (types_of_block_open d) → IsPlainBody sight (block_open_of first reg.DiNo d ++ rest)
+    open_di_plain first d h own = block_open_plain reg.DiNo refl first d h own
 
     pub block_exchange_plain : (first : ℕ) → AreTyped sight first types_of_block_exchange → IsPlainBody sight (block_exchange_of first ++ rest)
     block_exchange_plain first own =

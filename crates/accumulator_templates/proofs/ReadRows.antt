@@ -6,7 +6,7 @@ use Rattle.s7_base.specs.declared.register.Reg.{Reg}
 use Rattle.s7_base.specs.declared.register.Reg.TheVariants as reg
 use Rattle.s7_base.specs.declared.word.Width.{Width}
 use Rattle.s7_base.specs.declared.word.Width.TheVariants as width
-use Rattle.stl_tree.specs.Reads.{increased_by, is_fixed, reads_of}
+use Rattle.stl_tree.specs.Reads.{found_by, increased_by, is_fixed, opened_by, reads_of}
 use Rattle.stl_tree.specs.declared.accumulator.LogicRow.{LogicRow}
 use Rattle.stl_tree.specs.declared.accumulator.LogicRow.TheVariants as row
 use Rattle.stl_tree.specs.declared.accumulator.UnaryRow.TheVariants as unary
@@ -18,20 +18,18 @@ use Rattle.stl_tree.specs.declared.program.OpenArg.TheVariants as open_arg
 use Rattle.stl_tree.specs.declared.program.Operand.{Operand}
 use Rattle.st_tree.specs.declared.expr.Expr.{Expr}
 use Rattle.st_tree.specs.declared.expr.StType.TheVariants as type
-use Rattle.st_tree.specs.declared.expr.Var.{Var}
 use Rattle.st_tree.specs.declared.expr.Var.TheVariants as var
 use Rattle.st_tree.specs.declared.program.Stmt.{Stmt}
-use Rattle.st_tree.specs.declared.program.Stmt.TheVariants as stmt
 use Rattle.accumulator_templates.specs.Conversions.{cad_of, caw_of, invd_of, invi_of, itd_of}
 use Rattle.accumulator_templates.specs.DataBlocks.{block_exchange_of, block_open_of, number_load_of}
 use Rattle.accumulator_templates.specs.Logic.{computed_of, fixed_of, logic_of}
 use Rattle.accumulator_templates.specs.Moves.{exchange_of, load_of, pop_of, push_of, status_load_of, status_store_of, taken_of, transfer_of}
 use Rattle.accumulator_templates.specs.Parts.{cut_of, dword_of, extended_of}
 use Rattle.accumulator_templates.specs.Sums.{add_dword_of, add_word_of, dec_of, inc_of, unless_zero}
-use Rattle.row_templates.specs.Builders.{constant_of, convert_of, read_of, set_of, variable_of}
-use Rattle.row_templates.specs.Fetching.{fetched_of}
-use Rattle.row_templates.proofs.FetchBounds.{fetch_reads, fetched_reads, opened_reads}
-use Rattle.row_templates.proofs.ReadRegisters.{AllRead, Has, Reads, assigned_reads, constant_reads, convert_reads, register_reads, select_reads, variables_read}
+use Rattle.row_templates.specs.Builders.{constant_of, convert_of, read_of, set_of}
+use Rattle.row_templates.specs.Fetching.{fetched_of, writing_of}
+use Rattle.row_templates.proofs.FetchBounds.{fetch_reads, fetched_reads, reach_reads, writing_reads}
+use Rattle.row_templates.proofs.ReadRegisters.{AllRead, Has, Reads, among_left, among_right, assigned_reads, constant_reads, convert_reads, register_reads, select_reads, variables_read}
 
 -- what holds of each register that an instruction reads holds of each that its statements read, before others
 module _ (P : Reg → Type 0) (rest : List Stmt) (k : AllRead P rest) where
@@ -51,19 +49,21 @@ module _ (P : Reg → Type 0) (rest : List Stmt) (k : AllRead P rest) where
   pub load_reads : (first : ℕ) (a : LoadArg) → Has P (reads_of (op.Load a)) → AllRead P (load_of first a ++ rest)
   load_reads first (arg.At o w) h =
       let e : Expr = fetched_of first o w in
-      fetch_reads P first o w (taken_of (extended_of w e)) rest
-      (taken_reads (extended_of w e) (h reg.Accu1 (inl refl)) (extended_reads w e (fetched_reads P first o w)))
+      fetch_reads P first o w (taken_of (extended_of w e)) rest (λ r found. h r (among_left r (found_by o) (reg.Accu1 ∷ []) found))
+      (taken_reads (extended_of w e) (h reg.Accu1 (among_right reg.Accu1 (found_by o) (reg.Accu1 ∷ []) (inl refl))) (extended_reads w e (fetched_reads P first o w)))
   load_reads first (arg.Constant c) h = taken_reads (dword_of c) (h reg.Accu1 (inl refl)) (constant_reads P _ _)
 
-  cut_reads : (v : Var) (w : Width) → P reg.Accu1 → AllRead P (stmt.Assign v (cut_of w (read_of reg.Accu1)) ∷ rest)
-  cut_reads v width.Bit one = simp variables_read (one, k)
-  cut_reads v width.Byte one = simp variables_read (one, k)
-  cut_reads v width.Word one = simp variables_read (one, k)
-  cut_reads v width.Dword one = simp variables_read (one, k)
+  cut_reads : (w : Width) → P reg.Accu1 → Reads P (cut_of w (read_of reg.Accu1))
+  cut_reads width.Bit one = simp variables_read (one, tt)
+  cut_reads width.Byte one = simp variables_read (one, tt)
+  cut_reads width.Word one = simp variables_read (one, tt)
+  cut_reads width.Dword one = simp variables_read (one, tt)
 
-  pub transfer_reads : (o : Operand) (w : Width) → Has P (reads_of (op.Transfer o w)) → AllRead P (transfer_of o w ++ rest)
-  transfer_reads o w h =
-      opened_reads P o (stmt.Assign (variable_of o w) (cut_of w (read_of reg.Accu1)) ∷ []) rest (cut_reads (variable_of o w) w (h reg.Accu1 (inl refl)))
+  pub transfer_reads : (first : ℕ) (o : Operand) (w : Width) → Has P (reads_of (op.Transfer o w)) → AllRead P (transfer_of first o w ++ rest)
+  transfer_reads first o w h =
+      let e : Expr = cut_of w (read_of reg.Accu1) in
+      reach_reads P first o (writing_of first o w e ∷ []) rest (λ r found. h r (among_left r (found_by o) (reg.Accu1 ∷ []) found))
+      (writing_reads P first o w e rest (cut_reads w (h reg.Accu1 (among_right reg.Accu1 (found_by o) (reg.Accu1 ∷ []) (inl refl)))) k)
 
   pub status_load_reads : Has P (reads_of op.LoadStw) → AllRead P (status_load_of ++ rest)
   status_load_reads h =
@@ -92,8 +92,11 @@ module _ (P : Reg → Type 0) (rest : List Stmt) (k : AllRead P rest) where
 
   -- Numbers of data blocks
 
-  pub block_open_reads : (r : Reg) (d : OpenArg) → AllRead P (block_open_of r d ++ rest)
-  block_open_reads r (open_arg.Number n) = assigned_reads P (var.Register r) (constant_of type.Word (pos n)) rest (constant_reads P type.Word (pos n)) k
+  pub block_open_reads : (first : ℕ) (r : Reg) (d : OpenArg) → Has P (opened_by d) → AllRead P (block_open_of first r d ++ rest)
+  block_open_reads first r (open_arg.Number n) h = assigned_reads P (var.Register r) (constant_of type.Word (pos n)) rest (constant_reads P type.Word (pos n)) k
+  block_open_reads first r (open_arg.At o) h =
+      let e : Expr = fetched_of first o width.Word in
+      fetch_reads P first o width.Word (set_of r e ∷ []) rest h (assigned_reads P (var.Register r) e rest (fetched_reads P first o width.Word) k)
 
   pub block_exchange_reads : (first : ℕ) → Has P (reads_of op.ExchangeDb) → AllRead P (block_exchange_of first ++ rest)
   block_exchange_reads first h = simp variables_read (h reg.DbNo (inl refl), (h reg.DiNo (inr (inl refl)), k))

@@ -1,8 +1,8 @@
 -- T does its row.
-use Rattle.std.proofs.Common.{◌≡◌, ℕ, ◌%◌, ◌^◌, ◌==◌, Bool, true, false, List, [], ◌∷◌, Ok, refl, ap, subst, ◌∙◌, arith}
+use Rattle.std.proofs.Common.{◌≡◌, ℕ, ◌+◌, ◌%◌, ◌^◌, ◌≤◌, ◌==◌, Bool, true, false, List, [], length, Ok, refl, ap, ◌∙◌, arith}
 use Rattle.std.specs.Int.{bit_at}
 use Rattle.std.proofs.lemmas.Nat.Bits.{bit_at_lowest}
-use Rattle.memory_areas.specs.Access.{and_then, write_bit, write_byte, write_word}
+use Rattle.memory_areas.specs.Access.{write_bit, write_byte, write_word}
 use Rattle.memory_areas.specs.Areas.{Contents}
 use Rattle.memory_areas.specs.declared.place.Place.{Place}
 use Rattle.s7_base.specs.declared.register.Reg.TheVariants as reg
@@ -11,27 +11,25 @@ use Rattle.s7_base.specs.declared.word.Width.TheVariants as width
 use Rattle.stl_tree.specs.Accepted.{IsOperand}
 use Rattle.stl_tree.specs.Accumulators.{part, write_number}
 use Rattle.stl_tree.specs.Instructions.{transferred}
-use Rattle.stl_tree.specs.Now.{Activation, Now, next, with_memory}
+use Rattle.stl_tree.specs.Now.{Activation, Now}
 use Rattle.stl_tree.specs.declared.program.Operand.{Operand}
 use Rattle.st_tree.specs.Meaning.{Calls, body_meaning}
-use Rattle.st_tree.specs.State.{State, write, write_place}
+use Rattle.st_tree.specs.State.{State, write_place}
 use Rattle.st_tree.specs.Value.{value}
 use Rattle.st_tree.specs.Values.{flag, is_set, type_of_width}
 use Rattle.st_tree.specs.declared.state.Value.{Value}
-use Rattle.st_tree.specs.declared.expr.Var.{Var}
 use Rattle.st_tree.specs.declared.program.Located.{Located}
-use Rattle.st_tree.specs.declared.program.Stmt.TheVariants as stmt
-use Rattle.st_tree.proofs.FittingMemory.{AfterHolds, place_holds}
 use Rattle.st_tree.proofs.Equations.{value_equations}
 use Rattle.accumulator_templates.specs.Moves.{transfer_of}
 use Rattle.accumulator_templates.specs.Parts.{cut_of}
 use Rattle.accumulator_templates.proofs.Patterns.{tested_bit}
 use Rattle.accumulator_templates.proofs.Worths.{byte, dword, word}
-use Rattle.row_templates.specs.Builders.{read_of, variable_of}
+use Rattle.row_templates.specs.Builders.{read_of}
+use Rattle.row_templates.specs.Fetching.{types_reached}
 use Rattle.row_templates.proofs.Alike.{Related}
 use Rattle.row_templates.proofs.DoesRow.{DoesRow}
-use Rattle.row_templates.proofs.Fetching.{opened_row}
-use Rattle.row_templates.proofs.MemoryRows.{write_does}
+use Rattle.row_templates.proofs.Locals.{own_of}
+use Rattle.row_templates.proofs.Fetching.{reached_row}
 
 -- the lowest bits of an accumulator as a value of a width
 abbrev cut_value : Width → ℕ → Value
@@ -68,23 +66,14 @@ module _ (g : List Located) (acts : List Activation) (now : Now) (s : State) (re
   cut_worth width.Word = let e = related.registers reg.Accu1 tt in simp (value_equations, e)
   cut_worth width.Dword = let e = related.registers reg.Accu1 tt in simp (value_equations, e)
 
-  -- the lowest bits of ACCU1, written to a variable of a place
-  cut_does : (calls : Calls) (units used : ℕ) (v : Var) (w : Width) (p : Place)
-      → ((x : Value) → write g v x s ≡ and_then (write_place (type_of_width w) p x now.memory) (λ (m : Contents). Ok (record s { memory = m })))
-      → DoesRow (body_meaning g calls (stmt.Assign v (cut_of w (read_of reg.Accu1)) ∷ []) units s) units used acts s now.memory
-      (with_memory (write_number w p (part w now.registers.accu1) now.memory) now next)
-  cut_does calls units used v w p wrote =
-      write_does g acts now s related calls units used v (cut_of w (read_of reg.Accu1)) (cut_value w now.registers.accu1)
-      (write_number w p (part w now.registers.accu1) now.memory) (cut_worth w)
-      (subst AfterHolds (written w p now.registers.accu1 now.memory) (place_holds (type_of_width w) p (cut_value w now.registers.accu1) now.memory related.bytes))
-      (wrote (cut_value w now.registers.accu1)
-      ∙ ap (λ r. and_then r (λ (m : Contents). Ok (record s { memory = m }))) (written w p now.registers.accu1 now.memory))
-
--- T of an operand, whose data block is opened first
+-- T of an operand, whose lowest bits of ACCU1 are written once it was reached
 pub transfer_does : (g : List Located) (acts : List Activation) (now : Now) (s : State) → Related acts now s → (calls : Calls) (units used : ℕ) (o : Operand) (w : Width) → IsOperand w o
-    → DoesRow (body_meaning g calls (transfer_of o w) units s) units used acts s now.memory (transferred o w now)
-transfer_does g acts now s related calls units used o w lies =
-    opened_row g calls units acts now s related used o w lies
-    (λ (p : Place) (after : Now). with_memory (write_number w p (part w after.registers.accu1) after.memory) after next)
-    (stmt.Assign (variable_of o w) (cut_of w (read_of reg.Accu1)) ∷ [])
-    (λ f is h. cut_does g acts f.after h.to h.related calls units used (variable_of o w) w f.place (h.written w))
+    → used + length (types_reached o) ≤ length (own_of s.activations)
+    → DoesRow (body_meaning g calls (transfer_of used o w) units s) units used acts s now.memory (transferred o w now)
+transfer_does g acts now s related calls units used o w lies room =
+    reached_row g calls units acts now s related used o w lies (cut_of w (read_of reg.Accu1)) (λ (after : Now). cut_value w after.registers.accu1)
+    (λ after t relates. cut_worth g acts after t relates w)
+    (λ (p : Place) (after : Now). write_number w p (part w after.registers.accu1) after.memory)
+    (λ p after. written w p after.registers.accu1 after.memory)
+    (λ (done : Now). done) [] room
+    (λ after t relates. record { to = t; goes = refl; related = relates; as_many = refl; below = λ i h. refl })

@@ -2,8 +2,8 @@
 -- word.
 use Rattle.std.specs.Prelude.{ℕ, List, [], ◌∷◌, ◌++◌}
 use Rattle.accumulator_templates.specs.Parts.{any_bit_of, bits_where_of, cut_of, dword_of, extended_of}
-use Rattle.row_templates.specs.Builders.{local_of, or_of, read_of, set_local_of, set_of, variable_of}
-use Rattle.row_templates.specs.Fetching.{fetch_of, fetched_of, opened_of, types_fetched}
+use Rattle.row_templates.specs.Builders.{local_of, or_of, read_of, set_local_of, set_of}
+use Rattle.row_templates.specs.Fetching.{fetch_of, fetched_of, reach_of, types_fetched, writing_of}
 use Rattle.s7_base.specs.declared.register.Reg.{Reg}
 use Rattle.s7_base.specs.declared.register.Reg.TheVariants as reg
 use Rattle.s7_base.specs.declared.word.Width.{Width}
@@ -11,7 +11,6 @@ use Rattle.st_tree.specs.declared.expr.Expr.{Expr}
 use Rattle.st_tree.specs.declared.expr.StType.{StType}
 use Rattle.st_tree.specs.declared.expr.StType.TheVariants as type
 use Rattle.st_tree.specs.declared.program.Stmt.{Stmt}
-use Rattle.st_tree.specs.declared.program.Stmt.TheVariants as stmt
 use Rattle.stl_tree.specs.declared.program.LoadArg.{LoadArg}
 use Rattle.stl_tree.specs.declared.program.LoadArg.TheVariants as arg
 use Rattle.stl_tree.specs.declared.program.Operand.{Operand}
@@ -39,9 +38,9 @@ abbrev pub types_of_load : LoadArg → List StType
 types_of_load (arg.At o w) = types_fetched o w
 types_of_load (arg.Constant c) = []
 
--- T
-abbrev pub transfer_of : Operand → Width → List Stmt
-transfer_of o w = opened_of o ++ (stmt.Assign (variable_of o w) (cut_of w (read_of reg.Accu1)) ∷ [])
+-- T, whose locals are those of the way to its operand, the first one of this number
+abbrev pub transfer_of : ℕ → Operand → Width → List Stmt
+transfer_of first o w = reach_of first o ++ (writing_of first o w (cut_of w (read_of reg.Accu1)) ∷ [])
 
 -- a DWORD with the bits of a mask, where a flag is set
 abbrev pub with_flag_of : Expr → Reg → ℕ → Expr

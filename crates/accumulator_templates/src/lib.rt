@@ -10,6 +10,7 @@
 pub use conversions::{push_cad, push_caw, push_invd, push_invi, push_itd};
 pub use data_blocks::{
     push_block_exchange, push_block_open, push_number_load, types_of_block_exchange,
+    types_of_block_open,
 };
 pub use logic::{push_logic, types_of_logic};
 pub use moves::{

@@ -1,10 +1,10 @@
 //! Loading, storing and moving.
-ghost use Rattle.std.specs.Prelude.{◌≡◌, ◌++◌, IfOk, OnOk};
+ghost use Rattle.std.specs.Prelude.{◌≡◌, ◌+◌, ◌++◌, ◌<◌, ◌^◌, IfOk, OnOk};
 ghost use Rattle.accumulator_templates.specs.Moves.{before_load, exchange_of, flag_from_of, load_of, loaded_value, pop_of, push_of, status_load_of, status_store_of, status_value, taken_of, transfer_of, types_of_exchange, types_of_load, with_flag_of};
 
 use crate::parts::{any_bit, bits_where, cut, dword, extended};
 use row_templates::{
-    fetched, local, or, push_fetch, push_opened, read, set, set_local, types_fetched, variable,
+    fetched, local, or, push_fetch, push_reach, read, set, set_local, types_fetched, writing,
 };
 use s7_base::{List, NoMemory, Reg, Width};
 use st_tree::{Expr, StType, Stmt};
@@ -18,23 +18,31 @@ pub fn push_load(
     first: u32,
     arg: &LoadArg,
 ) -> Result<(), NoMemory>
+    requires { first + 8 < 2 ^ 32 }
     ensures { OnOk result (steps.new ≡ steps.old ++ load_of first arg.now) }
 {
-    push_before_load(steps, first, arg)?;
+    push_before_load(alloc, steps, first, arg)?;
     push_taken(steps, loaded_value(alloc, first, arg)?)
 }
 
 /// What may fault is read before ACCU1 moves to ACCU2.
-fn push_before_load(steps: &mut List<Stmt>, first: u32, arg: &LoadArg) -> Result<(), NoMemory>
+fn push_before_load(
+    alloc: Global,
+    steps: &mut List<Stmt>,
+    first: u32,
+    arg: &LoadArg,
+) -> Result<(), NoMemory>
+    requires { first + 8 < 2 ^ 32 }
     ensures { OnOk result (steps.new ≡ steps.old ++ before_load first arg.now) }
 {
     match arg {
-        LoadArg::At(operand, width) => push_fetch(steps, first, operand, *width),
+        LoadArg::At(operand, width) => push_fetch(alloc, steps, first, operand, *width),
         LoadArg::Constant(_) => Ok(()),
     }
 }
 
 fn loaded_value(alloc: Global, first: u32, arg: &LoadArg) -> Result<Expr, NoMemory>
+    requires { first + 8 < 2 ^ 32 }
     ensures { IfOk result (λ value. value ≡ loaded_value first arg.now) }
 {
     match arg {
@@ -61,18 +69,20 @@ pub fn push_taken(steps: &mut List<Stmt>, value: Expr) -> Result<(), NoMemory>
     steps.push(set(Reg::Accu1, value))
 }
 
-/// `T`, of a byte, a word or a double word.
+/// `T`, of a byte, a word or a double word; the first local of its operand has this number.
 pub fn push_transfer(
     alloc: Global,
     steps: &mut List<Stmt>,
+    first: u32,
     operand: &Operand,
     width: Width,
 ) -> Result<(), NoMemory>
-    ensures { OnOk result (steps.new ≡ steps.old ++ transfer_of operand.now width) }
+    requires { first + 8 < 2 ^ 32 }
+    ensures { OnOk result (steps.new ≡ steps.old ++ transfer_of first operand.now width) }
 {
-    push_opened(steps, operand)?;
+    push_reach(alloc, steps, first, operand)?;
     let pattern = cut(alloc, width, read(Reg::Accu1))?;
-    steps.push(Stmt::Assign(variable(operand, width), pattern))
+    steps.push(writing(alloc, first, operand, width, pattern)?)
 }
 
 /// `L STW`.

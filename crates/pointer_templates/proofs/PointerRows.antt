@@ -1,0 +1,140 @@
+-- The rows on registers alone.
+use Rattle.std.proofs.Common.{◌≡◌, ℕ, ◌^◌, ◌<◌, ◌==◌, pos, Bool, true, false, if◌then◌else◌, List, [], ◌∷◌, Option, Some, None, Ok, refl, sym, ap, subst, ◌∙◌, arith}
+use Rattle.std.specs.Prelude.{ℤ}
+use Rattle.std.proofs.lemmas.Bool.Decides.{nat_tests}
+use Rattle.memory_areas.specs.Pointers.{moved}
+use Rattle.pointer_templates.proofs.Amounts.{dint, dword, moved_below, moved_worth, unmoved}
+use Rattle.pointer_templates.specs.Pointers.{low_number, moved_of, pointed_of, pointer_exchange_of, pointer_move_of, pointer_taken_of}
+use Rattle.row_templates.specs.Builders.{constant_of, read_of}
+use Rattle.row_templates.proofs.Alike.{AreAlike, AreInRange, IsKept}
+use Rattle.row_templates.proofs.Numbers.{wide_low}
+use Rattle.row_templates.proofs.RegisterRows.{IsRow, registers_after}
+use Rattle.row_templates.proofs.Stages.{known, parts, stage}
+use Rattle.s7_base.specs.declared.register.Reg.TheVariants as reg
+use Rattle.st_tree.specs.State.{State, with_register}
+use Rattle.st_tree.specs.Value.{value}
+use Rattle.st_tree.specs.declared.expr.Expr.{Expr}
+use Rattle.st_tree.specs.declared.expr.StType.TheVariants as type
+use Rattle.st_tree.specs.declared.program.Located.{Located}
+use Rattle.st_tree.specs.declared.program.Stmt.{Stmt}
+use Rattle.st_tree.specs.declared.state.Value.{Value}
+use Rattle.stl_tree.specs.AddressRegisters.{accu1_pointed, added, other_loaded, other_of, other_stored, pointer_in, pointer_loaded, pointer_moved, pointers_exchanged, with_pointer}
+use Rattle.stl_tree.specs.Reads.{register_of}
+use Rattle.stl_tree.specs.Registers.{RegisterValues}
+use Rattle.stl_tree.specs.declared.program.Ar.{Ar}
+use Rattle.stl_tree.specs.declared.program.Ar.TheVariants as ar
+
+no_offset : (n : ℕ) → (n == 0) ≡ true → n ≡ 0
+no_offset n e = grind (arith, nat_tests)
+
+module _ (g : List Located) (s : State) (used : ℕ) (r : RegisterValues) (sta : ℤ) (range : AreInRange r) where
+  -- An address register takes a pointer
+
+  pub held_below : (a : Ar) → pointer_in a r < 2 ^ 32
+  held_below ar.One = range.ar1
+  held_below ar.Two = range.ar2
+
+  pub pointed_range : (a : Ar) (p : ℕ) → p < 2 ^ 32 → AreInRange (with_pointer a p r)
+  pointed_range ar.One p h = record { accu1 = range.accu1; accu2 = range.accu2; ar1 = h; ar2 = range.ar2; db = range.db; di = range.di }
+  pointed_range ar.Two p h = record { accu1 = range.accu1; accu2 = range.accu2; ar1 = range.ar1; ar2 = h; db = range.db; di = range.di }
+
+  pointed_alike : (a : Ar) (e : Expr) (p : ℕ) → AreAlike IsKept (with_pointer a p r) (registers_after (pointed_of a e) (dword p ∷ []) (known r sta))
+  pointed_alike ar.One e p reg.Sta asked = elim asked [ ]
+  pointed_alike ar.One e p q asked = refl
+  pointed_alike ar.Two e p reg.Sta asked = elim asked [ ]
+  pointed_alike ar.Two e p q asked = refl
+
+  pub pointed_row : (a : Ar) (e : Expr) (p : ℕ) → p < 2 ^ 32 → value g e (stage s used [] (known r sta)) ≡ Ok (dword p)
+      → IsRow g s used (pointed_of a e) r (with_pointer a p r) sta
+  pointed_row a e p h worth =
+      record { values = dword p ∷ []; have = (worth, tt); alike = pointed_alike a e p; range = pointed_range a p h }
+
+  -- nothing is done, and it stays
+  stays : (a : Ar) (p : ℕ) → pointer_in a r ≡ p → IsRow g s used [] r (with_pointer a p r) sta
+  stays a p same =
+      record { values = []; have = tt; alike = alike a same; range = pointed_range a p (subst (λ (n : ℕ). n < 2 ^ 32) same (held_below a)) }
+    where
+      alike : (a : Ar) → pointer_in a r ≡ p → AreAlike IsKept (with_pointer a p r) (registers_after [] [] (known r sta))
+      alike ar.One e reg.Ar1 asked = ap pos e
+      alike ar.One e reg.Sta asked = elim asked [ ]
+      alike ar.One e q asked = refl
+      alike ar.Two e reg.Ar2 asked = ap pos e
+      alike ar.Two e reg.Sta asked = elim asked [ ]
+      alike ar.Two e q asked = refl
+
+  -- what it holds
+  held : (a : Ar) → value g (read_of (register_of a)) (stage s used [] (known r sta)) ≡ Ok (dword (pointer_in a r))
+  held ar.One = simp parts
+  held ar.Two = simp parts
+
+  -- LAR1 and LAR2 alone, of a constant and of the other one
+
+  pub accu1_row : (a : Ar) → IsRow g s used (pointed_of a (read_of reg.Accu1)) r (accu1_pointed a r) sta
+  accu1_row a = pointed_row a (read_of reg.Accu1) r.accu1 range.accu1 (simp parts)
+
+  pub constant_row : (a : Ar) (p : ℕ) → p < 2 ^ 32 → IsRow g s used (pointed_of a (constant_of type.Dword (pos p))) r (with_pointer a p r) sta
+  constant_row a p h = pointed_row a (constant_of type.Dword (pos p)) p h (simp parts)
+
+  pub other_loaded_row : (a : Ar) → IsRow g s used (pointed_of a (read_of (register_of (other_of a)))) r (other_loaded a r) sta
+  other_loaded_row a = pointed_row a (read_of (register_of (other_of a))) (pointer_in (other_of a) r) (held_below (other_of a)) (held (other_of a))
+
+  -- TAR1 and TAR2 alone, and into the other one
+
+  taken_alike : (a : Ar) → AreAlike IsKept (pointer_loaded a r) (registers_after (pointer_taken_of a) (dword r.accu1 ∷ dword (pointer_in a r) ∷ []) (known r sta))
+  taken_alike a reg.Sta asked = elim asked [ ]
+  taken_alike a q asked = refl
+
+  taken_value : (a : Ar) → value g (read_of (register_of a)) (stage s used [] (with_register reg.Accu2 (pos r.accu1) (known r sta))) ≡ Ok (dword (pointer_in a r))
+  taken_value ar.One = simp parts
+  taken_value ar.Two = simp parts
+
+  pub taken_row : (a : Ar) → IsRow g s used (pointer_taken_of a) r (pointer_loaded a r) sta
+  taken_row a =
+      record {
+        values = dword r.accu1 ∷ dword (pointer_in a r) ∷ [];
+        have = (simp parts, (taken_value a, tt));
+        alike = taken_alike a;
+        range = record { accu1 = held_below a; accu2 = range.accu1; ar1 = range.ar1; ar2 = range.ar2; db = range.db; di = range.di };
+      }
+
+  pub other_stored_row : (a : Ar) → IsRow g s used (pointed_of (other_of a) (read_of (register_of a))) r (other_stored a r) sta
+  other_stored_row a = pointed_row (other_of a) (read_of (register_of a)) (pointer_in a r) (held_below a) (held a)
+
+  -- CAR
+
+  abbrev exchanged_values : List Value
+  exchanged_values = dword r.ar1 ∷ dword r.ar2 ∷ dword r.ar1 ∷ []
+
+  exchanged_alike : AreAlike IsKept (pointers_exchanged r) (registers_after (pointer_exchange_of used) exchanged_values (known r sta))
+  exchanged_alike reg.Sta asked = elim asked [ ]
+  exchanged_alike q asked = refl
+
+  pub pointer_exchange_row : IsRow g s used (pointer_exchange_of used) r (pointers_exchanged r) sta
+  pointer_exchange_row =
+      record {
+        values = exchanged_values;
+        have = (refl, simp parts, (simp parts, (simp parts, tt)));
+        alike = exchanged_alike;
+        range = record { accu1 = range.accu1; accu2 = range.accu2; ar1 = range.ar2; ar2 = range.ar1; db = range.db; di = range.di };
+      }
+
+  -- +AR1 and +AR2
+
+  moved_row : (a : Ar) (e : Expr) (z : ℤ) → value g e (stage s used [] (known r sta)) ≡ Ok (dint z)
+      → IsRow g s used (pointed_of a (moved_of a e)) r (with_pointer a (moved (pointer_in a r) z) r) sta
+  moved_row a e z worth =
+      pointed_row a (moved_of a e) (moved (pointer_in a r) z) (moved_below (pointer_in a r) z (held_below a))
+      (moved_worth g (stage s used [] (known r sta)) a e (pointer_in a r) z (held_below a) (held a) worth)
+
+  pub pointer_move_row : (a : Ar) (amount : Option ℕ) → IsRow g s used (pointer_move_of a amount) r (pointer_moved a amount r) sta
+  pointer_move_row a None = moved_row a low_number (added None r) (simp (parts, wide_low))
+  pointer_move_row a (Some offset) = by (offset == 0) refl
+    where
+      body : Bool → List Stmt
+      body b = if b then [] else pointed_of a (moved_of a (constant_of type.Dint (pos offset)))
+
+      by : (b : Bool) → (offset == 0) ≡ b → IsRow g s used (body b) r (pointer_moved a (Some offset) r) sta
+      by true zero =
+          stays a (moved (pointer_in a r) (pos offset))
+          (sym (ap (λ (n : ℕ). moved (pointer_in a r) (pos n)) (no_offset offset zero) ∙ unmoved (pointer_in a r)))
+      by false some = moved_row a (constant_of type.Dint (pos offset)) (pos offset) (simp parts)
