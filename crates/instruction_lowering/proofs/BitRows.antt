@@ -1,6 +1,6 @@
 -- Checks, and what is stored in a bit: their statements do what their rows do. What they do once an operand was found
 -- is said of any bit at a place, in the state in which it was found.
-use Rattle.std.proofs.Common.{◌≡◌, ℕ, ◌+◌, ◌≤◌, pos, Bool, true, false, not, ◌&&◌, ◌||◌, List, [], length, Result, Ok, Err, refl, sym, ap, ◌∙◌}
+use Rattle.std.proofs.Common.{◌≡◌, ℕ, ◌+◌, ◌≤◌, pos, Bool, true, false, not, ◌&&◌, ◌||◌, List, [], ◌∷◌, length, Result, Ok, Err, refl, sym, ap, ◌∙◌}
 use Rattle.std.specs.Prelude.{ℤ}
 use Rattle.memory_areas.specs.Access.{and_then, read_bit, write_bit}
 use Rattle.memory_areas.specs.Areas.{Contents}
@@ -15,27 +15,28 @@ use Rattle.s7_base.specs.declared.word.Width.TheVariants as width
 use Rattle.stl_tree.specs.Accepted.{IsOperand}
 use Rattle.stl_tree.specs.Instructions.{effect_of}
 use Rattle.stl_tree.specs.Now.{Activation, Now, fault, next, with_memory, with_status, with_value}
-use Rattle.stl_tree.specs.Operands.{Found, found}
 use Rattle.stl_tree.specs.declared.program.BitArg.TheVariants as arg
 use Rattle.stl_tree.specs.declared.program.Op.TheVariants as op
 use Rattle.stl_tree.specs.declared.program.Operand.{Operand}
 use Rattle.st_tree.specs.Meaning.{Calls, Normal, body_meaning}
-use Rattle.st_tree.specs.State.{State, with_register, write}
+use Rattle.st_tree.specs.State.{State, with_register, write_place}
 use Rattle.st_tree.specs.Value.{value}
 use Rattle.st_tree.specs.Values.{flag, is_set, number_of}
 use Rattle.st_tree.specs.declared.expr.BinaryOp.TheVariants as binary
 use Rattle.st_tree.specs.declared.expr.Expr.{Expr}
-use Rattle.st_tree.specs.declared.expr.Var.{Var}
+use Rattle.st_tree.specs.declared.expr.StType.TheVariants as type
 use Rattle.st_tree.specs.declared.expr.Var.TheVariants as var
 use Rattle.st_tree.specs.declared.program.Located.{Located}
-use Rattle.st_tree.proofs.Equations.{assign_goes_on, assign_stops_at_place, assign_stops_at_value}
+use Rattle.st_tree.specs.declared.program.Stmt.{Stmt}
+use Rattle.st_tree.proofs.Equations.{assign_stops_at_value}
 use Rattle.instruction_lowering.specs.inner.Templates.{behind_check, check_of, next_rlo, reset_value, running_chain, set_value, spot_at, statements_of, store_of}
-use Rattle.row_templates.specs.Builders.{bit_of, cleared, literal_of, not_of, read_of}
-use Rattle.row_templates.specs.Fetching.{fetched_of, types_fetched}
+use Rattle.row_templates.specs.Builders.{cleared, literal_of, not_of, read_of}
+use Rattle.row_templates.specs.Fetching.{fetched_of, types_fetched, types_reached, writing_of}
 use Rattle.row_templates.proofs.Alike.{AreAlike, IsKept, Related, keep_bits, keep_memory}
-use Rattle.row_templates.proofs.DoesRow.{DoesRow}
-use Rattle.row_templates.proofs.Fetching.{bit_shown, fetched_row, found_wrote, opened_row}
+use Rattle.row_templates.proofs.DoesRow.{DoesRow, Leads}
+use Rattle.row_templates.proofs.Fetching.{bit_shown, fetched_row, reached_row}
 use Rattle.row_templates.proofs.Locals.{own_of}
+use Rattle.row_templates.proofs.MemoryRows.{Writes, keeps_itself, write_goes_on, write_stops_at_place, write_stops_at_value}
 use Rattle.row_templates.proofs.Operands.{bit_holds, cleared_registers, clears, rlo_worth, sets}
 use Rattle.row_templates.proofs.Truths.{and_worth, left_stops, literal_worth, not_worth, or_worth}
 use Rattle.instruction_lowering.proofs.Chains.{chain_runs, checked_stops, checked_worth}
@@ -44,16 +45,9 @@ set_flag : (b : Bool) → is_set (flag b) ≡ b
 set_flag true = refl
 set_flag false = refl
 
--- a variable is written as the bit at a place, in each state that is related to one of a program
-abbrev pub IsBitAt : List Located → List Activation → Now → Var → Place → Type 0
-IsBitAt g acts now v p =
-    (u : State) → Related acts now u → (b : Bool) → write g v (flag b) u ≡ and_then (write_bit p b now.memory) (λ m. Ok (record u { memory = m }))
-
--- the variable of an operand is, where it was found
-pub bit_found : (g : List Located) (acts : List Activation) (o : Operand) (now : Now) (f : Found) → found o now ≡ Ok f → IsBitAt g acts f.after (bit_of o) f.place
-bit_found g acts o now f is u related b =
-    found_wrote g acts o width.Bit (flag b) now f is u related
-    ∙ ap (λ (x : Bool). and_then (write_bit f.place x f.after.memory) (λ m. Ok (record u { memory = m }))) (set_flag b)
+-- a bit is written at a place as a row writes it
+pub bit_written : (p : Place) (b : Bool) (m : Contents) → write_place type.Bool p (flag b) m ≡ write_bit p b m
+bit_written p b m = ap (λ (x : Bool). write_bit p x m) (set_flag b)
 
 -- Where the operand was found
 
@@ -140,53 +134,68 @@ module _ (g : List Located) (calls : Calls) (units : ℕ) (acts : List Activatio
   store_alike b reg.Sta asked = elim asked [ ]
   store_alike b q asked = related.registers q asked
 
-  -- a bit at a place takes a value
-  module _ (v : Var) (p : Place) (bit_at : IsBitAt g acts now v p) where
-    wrote : (b : Bool) (memory : Result Contents Fault) → write_bit p b now.memory ≡ memory → write g v (flag b) s ≡ and_then memory (λ m. Ok (record s { memory = m }))
-    wrote b memory w = bit_at s related b ∙ ap (λ (r : Result Contents Fault). and_then r (λ m. Ok (record s { memory = m }))) w
+  -- once a bit took a value, the chain ends
+  ends_chain : (b : Bool) → Leads (body_meaning g calls (cleared false) units s) units used acts s (with_status (after_store b) now)
+  ends_chain b =
+      let u : State = record s { registers = cleared_registers g calls units false s.registers } in
+      record {
+        to = u;
+        goes = clears g calls units false s;
+        related = keep_bits IsKept acts now s related IsKept (after_store b bits) u.registers (store_alike b);
+        as_many = refl;
+        below = λ i small. refl;
+      }
 
-    -- by what was written
-    store_goes : (e : Expr) (b : Bool) → value g e s ≡ Ok (flag b) → (memory : Result Contents Fault) → write_bit p b now.memory ≡ memory
-        → DoesRow (body_meaning g calls (store_of v e) units s) units used acts s now.memory (with_memory memory now (λ done. next (with_status (after_store b) done)))
-    store_goes e b h (Ok m) w =
-        let t : State = record s { memory = m } in
-        let u : State = record t { registers = cleared_registers g calls units false s.registers } in
-        record {
-          to = u;
-          goes = assign_goes_on g calls v e (cleared false) units s t (flag b) h (wrote b (Ok m) w) ∙ clears g calls units false t;
-          related = keep_bits IsKept acts (record now { memory = m }) t (keep_memory IsKept acts now s related m (bit_holds p b now.memory (Ok m) related.bytes w)) IsKept (after_store b bits) u.registers (store_alike b);
-          as_many = refl;
-          below = λ i small. refl;
-        }
-    store_goes e b h (Err f) w =
-        record { at = s; stops = assign_stops_at_place g calls v e (cleared false) units s (flag b) f h (wrote b (Err f) w); memory = related.memory }
+-- A bit at a place takes a value, by statements that write it there
 
-    -- the value faults
-    store_stops : (e : Expr) (f : Fault) → value g e s ≡ Err f
-        → DoesRow (body_meaning g calls (store_of v e) units s) units used acts s now.memory (fault f)
-    store_stops e f h = record { at = s; stops = assign_stops_at_value g calls v e (cleared false) units s f h; memory = related.memory }
+module _ (g : List Located) (calls : Calls) (units : ℕ) (acts : List Activation) (now : Now) (s : State) (related : Related acts now s) (used : ℕ)
+    (with_expression : Expr → Stmt) (p : Place) (writes : Writes g type.Bool (Ok p) s with_expression) where
+  abbrev rlo : Bool
+  rlo = now.registers.status.rlo
 
-    assign_does : (memory : Result Contents Fault) → write_bit p bits.rlo now.memory ≡ memory
-        → DoesRow (body_meaning g calls (store_of v (read_of reg.Rlo)) units s) units used acts s now.memory (with_memory memory now (λ done. next (with_status (after_store done.registers.status.rlo) done)))
-    assign_does (Ok m) w = store_goes (read_of reg.Rlo) bits.rlo (rlo_worth g acts now s related) (Ok m) w
-    assign_does (Err f) w = store_goes (read_of reg.Rlo) bits.rlo (rlo_worth g acts now s related) (Err f) w
+  abbrev storing : Expr → List Stmt
+  storing e = with_expression e ∷ cleared false
 
-    set_does : (e : Expr) (bit : Result Bool Fault) → value g e s ≡ and_then bit (λ b. Ok (flag b))
-        → DoesRow (body_meaning g calls (store_of v (set_value e)) units s) units used acts s now.memory
-        (with_value bit (λ b. with_memory (write_bit p (b || bits.rlo) now.memory) now (λ done. next (with_status (after_store (b || bits.rlo)) done))))
-    set_does e (Ok b) h =
-        store_goes (set_value e) (b || bits.rlo) (or_worth g s e (read_of reg.Rlo) b bits.rlo h (rlo_worth g acts now s related))
-        (write_bit p (b || bits.rlo) now.memory) refl
-    set_does e (Err f) h = store_stops (set_value e) f (left_stops g s binary.Or e (read_of reg.Rlo) f h)
+  wrote : (b : Bool) (memory : Result Contents Fault) → write_bit p b now.memory ≡ memory → write_place type.Bool p (flag b) s.memory ≡ memory
+  wrote b memory w = ap (write_place type.Bool p (flag b)) related.memory ∙ bit_written p b now.memory ∙ w
 
-    reset_does : (e : Expr) (bit : Result Bool Fault) → value g e s ≡ and_then bit (λ b. Ok (flag b))
-        → DoesRow (body_meaning g calls (store_of v (reset_value e)) units s) units used acts s now.memory
-        (with_value bit (λ b. with_memory (write_bit p (b && not bits.rlo) now.memory) now (λ done. next (with_status (after_store (b && not bits.rlo)) done))))
-    reset_does e (Ok b) h =
-        store_goes (reset_value e) (b && not bits.rlo)
-        (and_worth g s e (not_of (read_of reg.Rlo)) b (not bits.rlo) h (not_worth g s (read_of reg.Rlo) bits.rlo (rlo_worth g acts now s related)))
-        (write_bit p (b && not bits.rlo) now.memory) refl
-    reset_does e (Err f) h = store_stops (reset_value e) f (left_stops g s binary.And e (not_of (read_of reg.Rlo)) f h)
+  -- by what was written
+  store_goes : (e : Expr) (b : Bool) → value g e s ≡ Ok (flag b) → (memory : Result Contents Fault) → write_bit p b now.memory ≡ memory
+      → DoesRow (body_meaning g calls (storing e) units s) units used acts s now.memory (with_memory memory now (λ done. next (with_status (after_store b) done)))
+  store_goes e b h (Ok m) w =
+      let t : State = record s { memory = m } in
+      let relates : Related acts (record now { memory = m }) t = keep_memory IsKept acts now s related m (bit_holds p b now.memory (Ok m) related.bytes w) in
+      let ended : Leads (body_meaning g calls (cleared false) units t) units used acts t (with_status (after_store b) (record now { memory = m })) =
+          ends_chain g calls units acts (record now { memory = m }) t relates used b in
+      record {
+        to = ended.to;
+        goes = write_goes_on g type.Bool p s with_expression writes calls units e (cleared false) (flag b) m h (wrote b (Ok m) w) ∙ ended.goes;
+        related = ended.related;
+        as_many = ended.as_many;
+        below = ended.below;
+      }
+  store_goes e b h (Err f) w =
+      record { at = s; stops = write_stops_at_place g type.Bool p s with_expression writes calls units e (cleared false) (flag b) f h (wrote b (Err f) w); memory = related.memory }
+
+  -- the value faults
+  store_stops : (e : Expr) (f : Fault) → value g e s ≡ Err f → DoesRow (body_meaning g calls (storing e) units s) units used acts s now.memory (fault f)
+  store_stops e f h = record { at = s; stops = write_stops_at_value g type.Bool p s with_expression writes calls units e (cleared false) f h; memory = related.memory }
+
+  set_does : (e : Expr) (bit : Result Bool Fault) → value g e s ≡ and_then bit (λ b. Ok (flag b))
+      → DoesRow (body_meaning g calls (storing (set_value e)) units s) units used acts s now.memory
+      (with_value bit (λ b. with_memory (write_bit p (b || rlo) now.memory) now (λ done. next (with_status (after_store (b || rlo)) done))))
+  set_does e (Ok b) h =
+      store_goes (set_value e) (b || rlo) (or_worth g s e (read_of reg.Rlo) b rlo h (rlo_worth g acts now s related)) (write_bit p (b || rlo) now.memory) refl
+  set_does e (Err f) h = store_stops (set_value e) f (left_stops g s binary.Or e (read_of reg.Rlo) f h)
+
+  reset_does : (e : Expr) (bit : Result Bool Fault) → value g e s ≡ and_then bit (λ b. Ok (flag b))
+      → DoesRow (body_meaning g calls (storing (reset_value e)) units s) units used acts s now.memory
+      (with_value bit (λ b. with_memory (write_bit p (b && not rlo) now.memory) now (λ done. next (with_status (after_store (b && not rlo)) done))))
+  reset_does e (Ok b) h =
+      store_goes (reset_value e) (b && not rlo)
+      (and_worth g s e (not_of (read_of reg.Rlo)) b (not rlo) h (not_worth g s (read_of reg.Rlo) rlo (rlo_worth g acts now s related)))
+      (write_bit p (b && not rlo) now.memory) refl
+  reset_does e (Err f) h = store_stops (reset_value e) f (left_stops g s binary.And e (not_of (read_of reg.Rlo)) f h)
 
 -- Rows
 
@@ -209,23 +218,26 @@ module _ (g : List Located) (calls : Calls) (units : ℕ) (acts : List Activatio
       (λ p after b. next (with_status (after_check c b) after)) (check_of c bit) room
       (λ f is t done. check_does g calls units acts f.after t done.related later c bit (read_bit f.place f.after.memory) done.here)
 
-  pub assign_row : DoesRow (body_meaning g calls (statements_of (spot_at first) (op.Assign o)) units s) units first acts s now.memory (effect_of (op.Assign o) now)
-  assign_row =
-      opened_row g calls units acts now s related first o width.Bit lies
-      (λ p after. with_memory (write_bit p after.registers.status.rlo after.memory) after (λ done. next (with_status (after_store done.registers.status.rlo) done)))
-      (store_of (bit_of o) (read_of reg.Rlo))
-      (λ f is h. assign_does g calls units acts f.after h.to h.related first (bit_of o) f.place (bit_found g acts o now f is) (write_bit f.place f.after.registers.status.rlo f.after.memory) refl)
+  pub assign_row : first + length (types_reached o) ≤ length (own_of s.activations)
+      → DoesRow (body_meaning g calls (statements_of (spot_at first) (op.Assign o)) units s) units first acts s now.memory (effect_of (op.Assign o) now)
+  assign_row room =
+      reached_row g calls units acts now s related first o width.Bit lies (read_of reg.Rlo) (λ after. flag after.registers.status.rlo) (λ after t relates. rlo_worth g acts after t relates)
+      (λ p after. write_bit p after.registers.status.rlo after.memory) (λ p after. bit_written p after.registers.status.rlo after.memory)
+      (λ done. with_status (after_store done.registers.status.rlo) done) (cleared false) room
+      (λ after t relates. ends_chain g calls units acts after t relates (first + length (types_reached o)) after.registers.status.rlo)
 
   pub set_row : HasRoom → DoesRow (body_meaning g calls (statements_of (spot_at first) (op.Set o)) units s) units first acts s now.memory (effect_of (op.Set o) now)
   set_row room =
       fetched_row g calls units acts now s related first o width.Bit lies {A = Bool} read_bit flag bit_shown
       (λ p after b. with_memory (write_bit p (b || after.registers.status.rlo) after.memory) after (λ done. next (with_status (after_store (b || after.registers.status.rlo)) done)))
-      (store_of (bit_of o) (set_value bit)) room
-      (λ f is t done. set_does g calls units acts f.after t done.related later (bit_of o) f.place (bit_found g acts o now f is) bit (read_bit f.place f.after.memory) done.here)
+      (store_of first o (set_value bit)) room
+      (λ f is t done.
+      set_does g calls units acts f.after t done.related later (writing_of first o width.Bit) f.place (done.writes t (keeps_itself later t)) bit (read_bit f.place f.after.memory) done.here)
 
   pub reset_row : HasRoom → DoesRow (body_meaning g calls (statements_of (spot_at first) (op.Reset o)) units s) units first acts s now.memory (effect_of (op.Reset o) now)
   reset_row room =
       fetched_row g calls units acts now s related first o width.Bit lies {A = Bool} read_bit flag bit_shown
       (λ p after b. with_memory (write_bit p (b && not after.registers.status.rlo) after.memory) after (λ done. next (with_status (after_store (b && not after.registers.status.rlo)) done)))
-      (store_of (bit_of o) (reset_value bit)) room
-      (λ f is t done. reset_does g calls units acts f.after t done.related later (bit_of o) f.place (bit_found g acts o now f is) bit (read_bit f.place f.after.memory) done.here)
+      (store_of first o (reset_value bit)) room
+      (λ f is t done.
+      reset_does g calls units acts f.after t done.related later (writing_of first o width.Bit) f.place (done.writes t (keeps_itself later t)) bit (read_bit f.place f.after.memory) done.here)

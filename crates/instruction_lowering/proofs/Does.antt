@@ -1,13 +1,17 @@
 -- What the statements of an instruction owe: from related states they lead to where its effect leads.
 use Rattle.std.proofs.Common.{◌≡◌, ℕ, ◌≤◌, List, Result, Ok, Err, sym, subst, ◌∙◌}
+use Rattle.memory_areas.specs.Access.{Aim, and_then, place_aimed, read_dword}
 use Rattle.memory_areas.specs.Areas.{Contents}
+use Rattle.memory_areas.specs.Pointers.{with_offset}
+use Rattle.memory_areas.specs.declared.place.AreaName.{AreaName}
 use Rattle.memory_areas.specs.declared.place.AreaName.TheVariants as area
 use Rattle.memory_areas.specs.declared.place.Place.{Place}
 use Rattle.s7_base.specs.declared.check.Entry.{Entry}
 use Rattle.s7_base.specs.declared.outcome.Fault.{Fault}
+use Rattle.stl_tree.specs.AddressRegisters.{pointer_in}
 use Rattle.stl_tree.specs.DataBlocks.{db_opened}
-use Rattle.stl_tree.specs.Now.{Activation, Effect, Now, enter, fault, go, leave, next, with_registers, with_value}
-use Rattle.stl_tree.specs.Operands.{place_in, with_place}
+use Rattle.stl_tree.specs.Now.{Activation, Effect, Now, depth, enter, fault, go, leave, next, with_registers, with_value}
+use Rattle.stl_tree.specs.Operands.{Found, aimed_by, aimed_in, found_at, place_in, with_place}
 use Rattle.stl_tree.specs.declared.program.Operand.{Operand}
 use Rattle.stl_tree.specs.declared.program.Operand.TheVariants as operand
 use Rattle.stl_tree.specs.declared.program.Op.{Op}
@@ -19,6 +23,7 @@ use Rattle.row_templates.proofs.Locals.{own_of}
 use Rattle.instruction_lowering.specs.declared.statements.OpenBracket.{OpenBracket}
 use Rattle.instruction_lowering.specs.declared.statements.Spot.{Spot}
 use Rattle.row_templates.proofs.Alike.{Related}
+use Rattle.row_templates.proofs.Pointers.{place_pointed}
 use Rattle.instruction_lowering.proofs.Temporaries.{KeepBrackets, Keeps, kept_below}
 
 -- an instruction that stands inside a node: it doesn't end its block, nor will one that jumps
@@ -71,9 +76,28 @@ pub left_by_value : {A : Type 0} (entries : List Entry) (effect : A → Effect) 
 left_by_value entries effect (Ok x) h = h x
 left_by_value entries effect (Err f) h = tt
 
+-- the place in a named area that a pointer is aimed at
+abbrev aimed_place : AreaName → ℕ → Now → Place
+aimed_place a p now = place_pointed a p now.registers.db now.registers.di (depth now.activations)
+
+abbrev is_found : Place → Now → Result Found Fault
+is_found p now = Ok (record { place = p; after = now })
+
 -- and one by the place of an operand, since finding it does
 pub left_at_place : (entries : List Entry) (o : Operand) (now : Now) (effect : Place → Now → Effect) → now.brackets ≡ entries
     → ((p : Place) (after : Now) → after.brackets ≡ entries → LeavesBrackets entries (effect p after)) → LeavesBrackets entries (with_place o now effect)
 left_at_place entries (operand.Direct a byte x) now effect e h = h (place_in a byte x now) now e
 left_at_place entries (operand.Opened n byte x) now effect e h =
     let after : Now = with_registers (db_opened n) now in h (place_in area.Db byte x after) after e
+left_at_place entries (operand.ByMemory a pointer_area byte) now effect e h = by (read_dword (place_in pointer_area byte 0 now) now.memory)
+  where
+    by : (r : Result ℕ Fault) → LeavesBrackets entries (with_value (and_then r (λ p. found_at (aimed_in a p now) now)) (λ f. effect f.place f.after))
+    by (Ok p) = h (aimed_place a p now) now e
+    by (Err x) = tt
+left_at_place entries (operand.ByRegister a r offset) now effect e h = h (aimed_place a (with_offset (pointer_in r now.registers) offset) now) now e
+left_at_place entries (operand.Crossing r offset) now effect e h =
+    let aim : Aim = aimed_by (with_offset (pointer_in r now.registers) offset) now in by (place_aimed aim.area aim.byte aim.bit)
+  where
+    by : (r : Result Place Fault) → LeavesBrackets entries (with_value (and_then r (λ p. is_found p now)) (λ f. effect f.place f.after))
+    by (Ok p) = h p now e
+    by (Err x) = tt

@@ -1,7 +1,7 @@
 -- FP and FN: their statements do what their rows do. What they do once the edge bit was found is said of any bit at a
 -- place, in the state in which it was found.
 use Rattle.std.proofs.Common.{◌≡◌, ℕ, ◌+◌, ◌<◌, ◌≤◌, Bool, true, false, not, List, ◌∷◌, length, Some, Result, Ok, Err, refl, ap, ◌∙◌, arith}
-use Rattle.std.specs.Prelude.{slice_get, slice_set}
+use Rattle.std.specs.Prelude.{slice_get}
 use Rattle.st_tree.specs.declared.state.Value.{Value}
 use Rattle.memory_areas.specs.Access.{and_then, read_bit, write_bit}
 use Rattle.memory_areas.specs.Areas.{Contents}
@@ -16,30 +16,32 @@ use Rattle.stl_tree.specs.Now.{Activation, Now, next, with_memory, with_status, 
 use Rattle.stl_tree.specs.declared.program.Op.TheVariants as op
 use Rattle.stl_tree.specs.declared.program.Operand.{Operand}
 use Rattle.st_tree.specs.Meaning.{Calls, body_meaning}
-use Rattle.st_tree.specs.State.{State, with_register}
+use Rattle.st_tree.specs.State.{State, with_register, write_place}
 use Rattle.st_tree.specs.Value.{value}
 use Rattle.st_tree.specs.Values.{flag, number_of}
 use Rattle.st_tree.specs.declared.expr.BinaryOp.TheVariants as binary
 use Rattle.st_tree.specs.declared.expr.Expr.{Expr}
 use Rattle.st_tree.specs.declared.expr.Expr.TheVariants as expr
-use Rattle.st_tree.specs.declared.expr.Var.{Var}
+use Rattle.st_tree.specs.declared.expr.StType.TheVariants as type
 use Rattle.st_tree.specs.declared.expr.Var.TheVariants as var
 use Rattle.st_tree.specs.declared.program.Located.{Located}
 use Rattle.st_tree.specs.declared.program.Stmt.{Stmt}
 use Rattle.st_tree.specs.declared.program.Stmt.TheVariants as stmt
-use Rattle.st_tree.proofs.Equations.{assign_goes_on, assign_stops_at_place, assign_stops_at_value}
+use Rattle.st_tree.proofs.Equations.{assign_goes_on, assign_stops_at_value}
 use Rattle.instruction_lowering.specs.inner.Templates.{edge_of, falling, rising, spot_at, statements_of}
-use Rattle.row_templates.specs.Builders.{bit_of, cleared, not_of, read_of, set_of}
-use Rattle.row_templates.specs.Fetching.{fetched_of, types_fetched}
+use Rattle.row_templates.specs.Builders.{cleared, not_of, read_of, set_of}
+use Rattle.row_templates.specs.Fetching.{fetched_of, types_fetched, writing_of}
 use Rattle.row_templates.proofs.Alike.{AreAlike, IsKept, Related, keep_activations, keep_bits, keep_memory}
 use Rattle.row_templates.proofs.DoesRow.{DoesRow, Stops}
-use Rattle.row_templates.proofs.Fetching.{bit_shown, fetched_row}
-use Rattle.row_templates.proofs.Locals.{as_deep, local_read, local_wrote, own_of, own_set, set_length, set_other, set_same, with_own}
+use Rattle.row_templates.proofs.Fetching.{bit_shown, fetched_row, local_kept}
+use Rattle.row_templates.proofs.Locals.{as_deep, local_read, local_wrote, own_length, own_of, own_other, own_same, with_own}
+use Rattle.row_templates.proofs.MemoryRows.{KeepsWay, Writes, write_goes_on, write_stops_at_place}
 use Rattle.row_templates.proofs.Operands.{bit_holds, cleared_registers, clears, rlo_worth, sets}
 use Rattle.row_templates.proofs.Truths.{and_worth, not_stops, not_worth, right_stops}
-use Rattle.instruction_lowering.proofs.BitRows.{IsBitAt, bit_found}
+use Rattle.instruction_lowering.proofs.BitRows.{bit_written}
 
-module _ (g : List Located) (calls : Calls) (units : ℕ) (acts : List Activation) (now : Now) (s : State) (related : Related acts now s) (used : ℕ) (room : used + 1 ≤ length (own_of s.activations)) (v : Var) (p : Place) (bit_at : IsBitAt g acts now v p) where
+module _ (g : List Located) (calls : Calls) (units : ℕ) (acts : List Activation) (now : Now) (s : State) (related : Related acts now s) (used : ℕ) (room : used + 1 ≤ length (own_of s.activations))
+    (with_expression : Expr → Stmt) (p : Place) (writes : (u : State) → KeepsWay used s u → Writes g type.Bool (Ok p) u with_expression) where
   abbrev bits : StatusBits
   bits = now.registers.status
 
@@ -56,7 +58,11 @@ module _ (g : List Located) (calls : Calls) (units : ℕ) (acts : List Activatio
 
   -- what stands behind the first statement
   abbrev taken : List Stmt
-  taken = stmt.Assign v (read_of reg.Rlo) ∷ set_of reg.Rlo (expr.Read (var.Local used)) ∷ cleared true
+  taken = with_expression (read_of reg.Rlo) ∷ set_of reg.Rlo (expr.Read (var.Local used)) ∷ cleared true
+
+  -- the statements of an edge
+  abbrev keeping : Expr → List Stmt
+  keeping e = stmt.Assign (var.Local used) e ∷ taken
 
   -- the state once the local keeps a value
   abbrev kept : Bool → State
@@ -65,22 +71,22 @@ module _ (g : List Located) (calls : Calls) (units : ℕ) (acts : List Activatio
   kept_related : (edge : Bool) → Related acts now (kept edge)
   kept_related edge = keep_activations IsKept acts now s related (kept edge).activations (as_deep s.activations _ used (flag edge))
 
-  kept_own : (edge : Bool) → own_of (kept edge).activations ≡ slice_set own used (flag edge)
-  kept_own edge = own_set used (flag edge) s
-
-  kept_below : (edge : Bool) (i : ℕ) → i < used → slice_get (own_of (kept edge).activations) i ≡ slice_get own i
-  kept_below edge i small = ap (λ (xs : List Value). slice_get xs i) (kept_own edge) ∙ set_other own used i (flag edge) (λ e. absurd (omega arith))
-
   less : used < length own
   less = omega arith
 
-  kept_read : (edge : Bool) → slice_get (own_of (kept edge).activations) used ≡ Some (flag edge)
-  kept_read edge = ap (λ (xs : List Value). slice_get xs used) (kept_own edge) ∙ set_same own used (flag edge) less
+  kept_below : (edge : Bool) (i : ℕ) → i < used → slice_get (own_of (kept edge).activations) i ≡ slice_get own i
+  kept_below edge i small = own_other used (flag edge) s i (λ e. absurd (omega arith))
+
+  kept_writes : (edge : Bool) → Writes g type.Bool (Ok p) (kept edge) with_expression
+  kept_writes edge = writes (kept edge) (local_kept used used (flag edge) s (omega arith))
+
+  wrote : (memory : Result Contents Fault) → write_bit p bits.rlo now.memory ≡ memory → write_place type.Bool p (flag bits.rlo) s.memory ≡ memory
+  wrote memory w = ap (write_place type.Bool p (flag bits.rlo)) related.memory ∙ bit_written p bits.rlo now.memory ∙ w
 
   -- the edge bit takes the RLO, by what was written
   edge_goes : (rising old : Bool) (e : Expr) → value g e s ≡ Ok (flag (rlo_at_edge rising old bits))
       → (memory : Result Contents Fault) → write_bit p bits.rlo now.memory ≡ memory
-      → DoesRow (body_meaning g calls (edge_of used v e) units s) units used acts s now.memory (with_memory memory now (λ done. next (with_status (after_edge rising old) done)))
+      → DoesRow (body_meaning g calls (keeping e) units s) units used acts s now.memory (with_memory memory now (λ done. next (with_status (after_edge rising old) done)))
   edge_goes rising old e h (Ok m) w =
       let edge : Bool = rlo_at_edge rising old bits in
       let t : State = kept edge in
@@ -90,13 +96,12 @@ module _ (g : List Located) (calls : Calls) (units : ℕ) (acts : List Activatio
       record {
         to = z;
         goes = assign_goes_on g calls (var.Local used) e taken units s t (flag edge) h (local_wrote g used (flag edge) s less)
-            ∙ assign_goes_on g calls v (read_of reg.Rlo) (set_of reg.Rlo (expr.Read (var.Local used)) ∷ cleared true) units t u (flag bits.rlo)
-            (rlo_worth g acts now t (kept_related edge))
-            (bit_at t (kept_related edge) bits.rlo ∙ ap (λ (r : Result Contents Fault). and_then r (λ m. Ok (record t { memory = m }))) w)
-            ∙ sets g calls units reg.Rlo (expr.Read (var.Local used)) edge (cleared true) u (local_read g used (flag edge) u (kept_read edge))
+            ∙ write_goes_on g type.Bool p t with_expression (kept_writes edge) calls units (read_of reg.Rlo) (set_of reg.Rlo (expr.Read (var.Local used)) ∷ cleared true) (flag bits.rlo) m
+            (rlo_worth g acts now t (kept_related edge)) (wrote (Ok m) w)
+            ∙ sets g calls units reg.Rlo (expr.Read (var.Local used)) edge (cleared true) u (local_read g used (flag edge) u (own_same used (flag edge) s less))
             ∙ clears g calls units true k;
         related = keep_bits IsKept acts (record now { memory = m }) u (keep_memory IsKept acts now t (kept_related edge) m (bit_holds p bits.rlo now.memory (Ok m) related.bytes w)) IsKept (after_edge rising old bits) z.registers (edge_alike rising old);
-        as_many = ap length (kept_own edge) ∙ set_length own used (flag edge);
+        as_many = own_length used (flag edge) s;
         below = kept_below edge;
       }
   edge_goes rising old e h (Err f) w =
@@ -105,17 +110,16 @@ module _ (g : List Located) (calls : Calls) (units : ℕ) (acts : List Activatio
       record {
         at = t;
         stops = assign_goes_on g calls (var.Local used) e taken units s t (flag edge) h (local_wrote g used (flag edge) s less)
-            ∙ assign_stops_at_place g calls v (read_of reg.Rlo) (set_of reg.Rlo (expr.Read (var.Local used)) ∷ cleared true) units t (flag bits.rlo) f
-            (rlo_worth g acts now t (kept_related edge))
-            (bit_at t (kept_related edge) bits.rlo ∙ ap (λ (r : Result Contents Fault). and_then r (λ m. Ok (record t { memory = m }))) w);
+            ∙ write_stops_at_place g type.Bool p t with_expression (kept_writes edge) calls units (read_of reg.Rlo) (set_of reg.Rlo (expr.Read (var.Local used)) ∷ cleared true) (flag bits.rlo) f
+            (rlo_worth g acts now t (kept_related edge)) (wrote (Err f) w);
         memory = related.memory;
       }
 
-  edge_stops : (e : Expr) (f : Fault) → value g e s ≡ Err f → Stops (body_meaning g calls (edge_of used v e) units s) now.memory f
+  edge_stops : (e : Expr) (f : Fault) → value g e s ≡ Err f → Stops (body_meaning g calls (keeping e) units s) now.memory f
   edge_stops e f h = record { at = s; stops = assign_stops_at_value g calls (var.Local used) e taken units s f h; memory = related.memory }
 
   up_does : (e : Expr) (bit : Result Bool Fault) → value g e s ≡ and_then bit (λ b. Ok (flag b))
-      → DoesRow (body_meaning g calls (edge_of used v (rising e)) units s) units used acts s now.memory
+      → DoesRow (body_meaning g calls (keeping (rising e)) units s) units used acts s now.memory
       (with_value bit (λ b. with_memory (write_bit p bits.rlo now.memory) now (λ done. next (with_status (after_edge true b) done))))
   up_does e (Ok b) h =
       edge_goes true b (rising e)
@@ -125,7 +129,7 @@ module _ (g : List Located) (calls : Calls) (units : ℕ) (acts : List Activatio
       edge_stops (rising e) f (right_stops g s binary.And (read_of reg.Rlo) (not_of e) bits.rlo f (rlo_worth g acts now s related) (not_stops g s e f h))
 
   down_does : (e : Expr) (bit : Result Bool Fault) → value g e s ≡ and_then bit (λ b. Ok (flag b))
-      → DoesRow (body_meaning g calls (edge_of used v (falling e)) units s) units used acts s now.memory
+      → DoesRow (body_meaning g calls (keeping (falling e)) units s) units used acts s now.memory
       (with_value bit (λ b. with_memory (write_bit p bits.rlo now.memory) now (λ done. next (with_status (after_edge false b) done))))
   down_does e (Ok b) h =
       edge_goes false b (falling e)
@@ -150,17 +154,17 @@ module _ (g : List Located) (calls : Calls) (units : ℕ) (acts : List Activatio
   up_row room =
       fetched_row g calls units acts now s related first o width.Bit lies {A = Bool} read_bit flag bit_shown
       (λ p after b. with_memory (write_bit p after.registers.status.rlo after.memory) after (λ done. next (with_status (after_edge true b) done)))
-      (edge_of later (bit_of o) (rising bit)) (omega arith)
+      (edge_of first o later (rising bit)) (omega arith)
       (λ f is t done.
       let many : length (own_of t.activations) ≡ length (own_of s.activations) = done.as_many in
-      up_does g calls units acts f.after t done.related later (omega arith) (bit_of o) f.place (bit_found g acts o now f is) bit (read_bit f.place f.after.memory) done.here)
+      up_does g calls units acts f.after t done.related later (omega arith) (writing_of first o width.Bit) f.place done.writes bit (read_bit f.place f.after.memory) done.here)
 
   pub down_row : later + 1 ≤ length (own_of s.activations)
       → DoesRow (body_meaning g calls (statements_of (spot_at first) (op.EdgeDown o)) units s) units first acts s now.memory (effect_of (op.EdgeDown o) now)
   down_row room =
       fetched_row g calls units acts now s related first o width.Bit lies {A = Bool} read_bit flag bit_shown
       (λ p after b. with_memory (write_bit p after.registers.status.rlo after.memory) after (λ done. next (with_status (after_edge false b) done)))
-      (edge_of later (bit_of o) (falling bit)) (omega arith)
+      (edge_of first o later (falling bit)) (omega arith)
       (λ f is t done.
       let many : length (own_of t.activations) ≡ length (own_of s.activations) = done.as_many in
-      down_does g calls units acts f.after t done.related later (omega arith) (bit_of o) f.place (bit_found g acts o now f is) bit (read_bit f.place f.after.memory) done.here)
+      down_does g calls units acts f.after t done.related later (omega arith) (writing_of first o width.Bit) f.place done.writes bit (read_bit f.place f.after.memory) done.here)

@@ -14,7 +14,9 @@ use Rattle.status_word.specs.declared.test.Test.{Test}
 use Rattle.stl_tree.specs.Accepted.{HasOperand, IsComparison, IsOpenArg, IsOperand}
 use Rattle.stl_tree.specs.Accumulators.{loaded, part, read_number, write_number}
 use Rattle.stl_tree.specs.Conversions.{converted}
-use Rattle.stl_tree.specs.Instructions.{at_edge, effect_of, on_registers, on_status, stored}
+use Rattle.stl_tree.specs.AddressRegisters.{pointer_in, with_pointer}
+use Rattle.stl_tree.specs.DataBlocks.{db_opened, di_opened}
+use Rattle.stl_tree.specs.Instructions.{at_edge, block_opened, effect_of, on_registers, on_status, pointed_from, pointer_stored, put, stored, taken}
 use Rattle.stl_tree.specs.Now.{Activation, Now, next, with_memory, with_status, with_value}
 use Rattle.stl_tree.specs.Registers.{RegisterValues}
 use Rattle.stl_tree.specs.declared.accumulator.Arith.{Arith}
@@ -22,6 +24,11 @@ use Rattle.stl_tree.specs.declared.accumulator.LogicRow.{LogicRow}
 use Rattle.stl_tree.specs.declared.accumulator.ShiftRow.{ShiftRow}
 use Rattle.stl_tree.specs.declared.accumulator.UnaryRow.{UnaryRow}
 use Rattle.stl_tree.specs.declared.accumulator.UnaryRow.TheVariants as unary
+use Rattle.stl_tree.specs.declared.program.Ar.{Ar}
+use Rattle.stl_tree.specs.declared.program.ArLoad.{ArLoad}
+use Rattle.stl_tree.specs.declared.program.ArLoad.TheVariants as ar_load
+use Rattle.stl_tree.specs.declared.program.ArStore.{ArStore}
+use Rattle.stl_tree.specs.declared.program.ArStore.TheVariants as ar_store
 use Rattle.stl_tree.specs.declared.program.BitArg.TheVariants as arg
 use Rattle.stl_tree.specs.declared.program.LoadArg.{LoadArg}
 use Rattle.stl_tree.specs.declared.program.LoadArg.TheVariants as load
@@ -40,6 +47,7 @@ use Rattle.accumulator_templates.proofs.InstructionRows as accumulator
 use Rattle.arithmetic_templates.proofs.Rows as arithmetic
 use Rattle.digit_templates.proofs.FromDigitRows.{btd_does, bti_does}
 use Rattle.digit_templates.proofs.ToDigitRows.{dtb_does, itb_does}
+use Rattle.pointer_templates.proofs.InstructionRows as pointer
 use Rattle.shift_templates.proofs.ShiftRows as shift
 use Rattle.row_templates.specs.Fetching.{types_fetched}
 use Rattle.row_templates.proofs.Alike.{Related}
@@ -95,12 +103,12 @@ module _ (g : List Located) (calls : Calls) (units : ℕ) (acts : List Activatio
   left_by_write after written row same =
       left_by_value {A = Contents} now.brackets (λ (m : Contents). next (with_status (row after.registers.status.rlo) (record after { memory = m }))) written (λ m. same)
 
-  pub assign_does : (o : Operand) → IsOperand width.Bit o → DoesHere (op.Assign o)
-  assign_does o lies =
+  pub assign_does : (o : Operand) → IsOperand width.Bit o → (behind (op.Assign o) p).used ≤ total → DoesHere (op.Assign o)
+  assign_does o lies room =
       lifted (op.Assign o) refl (omega arith)
       (left_at_place now.brackets o now (λ q after. with_memory (write_bit q after.registers.status.rlo after.memory) after (λ (done : Now). next (with_status (after_store done.registers.status.rlo) done))) refl
       (λ q after same. left_by_write after (write_bit q after.registers.status.rlo after.memory) after_store same))
-      (assign_row g calls units acts now s related p.used o lies)
+      (assign_row g calls units acts now s related p.used o lies (in_unit (length (types_of (op.Assign o))) room))
 
   left_by_store : (o : Operand) (stands : Bool → Bool → Bool) → LeavesBrackets now.brackets (stored stands o now)
   left_by_store o stands =
@@ -139,21 +147,59 @@ module _ (g : List Located) (calls : Calls) (units : ℕ) (acts : List Activatio
 
   -- Memory
 
+  -- a number that is read or written leaves the brackets
+  left_by_taking : (w : Width) (row : ℕ → RegisterValues → RegisterValues) (o : Operand) → LeavesBrackets now.brackets (taken w row o now)
+  left_by_taking w row o =
+      left_at_place now.brackets o now (λ q after. with_value (read_number w q after.memory) (λ v. on_registers (row v) after)) refl
+      (λ q after same. left_by_value {A = ℕ} now.brackets (λ (v : ℕ). on_registers (row v) after) (read_number w q after.memory) (λ v. same))
+
+  left_by_putting : (w : Width) (value : RegisterValues → ℕ) (o : Operand) → LeavesBrackets now.brackets (put w value o now)
+  left_by_putting w value o =
+      left_at_place now.brackets o now (λ q after. with_memory (write_number w q (value after.registers) after.memory) after next) refl
+      (λ q after same. left_by_value {A = Contents} now.brackets (λ (m : Contents). next (record after { memory = m })) (write_number w q (value after.registers) after.memory) (λ m. same))
+
   pub load_does : (a : LoadArg) → HasOperand (op.Load a) → (behind (op.Load a) p).used ≤ total → DoesHere (op.Load a)
   load_does (load.Constant c) h room =
       lifted (op.Load (load.Constant c)) refl (omega arith) refl (accumulator.load_does g calls units acts now s related p.used (load.Constant c) h (in_unit 0 room))
   load_does (load.At o w) h room =
-      lifted (op.Load (load.At o w)) refl (omega arith)
-      (left_at_place now.brackets o now (λ q after. with_value (read_number w q after.memory) (λ v. on_registers (loaded v) after)) refl
-      (λ q after same. left_by_value {A = ℕ} now.brackets (λ (v : ℕ). on_registers (loaded v) after) (read_number w q after.memory) (λ v. same)))
+      lifted (op.Load (load.At o w)) refl (omega arith) (left_by_taking w loaded o)
       (accumulator.load_does g calls units acts now s related p.used (load.At o w) h (in_unit (length (types_of (op.Load (load.At o w)))) room))
 
-  pub transfer_does : (o : Operand) (w : Width) → HasOperand (op.Transfer o w) → DoesHere (op.Transfer o w)
-  transfer_does o w h =
-      lifted (op.Transfer o w) refl (omega arith)
-      (left_at_place now.brackets o now (λ q after. with_memory (write_number w q (part w after.registers.accu1) after.memory) after next) refl
-      (λ q after same. left_by_value {A = Contents} now.brackets (λ (m : Contents). next (record after { memory = m })) (write_number w q (part w after.registers.accu1) after.memory) (λ m. same)))
-      (accumulator.transfer_does g calls units acts now s related p.used o w h)
+  pub transfer_does : (o : Operand) (w : Width) → HasOperand (op.Transfer o w) → (behind (op.Transfer o w) p).used ≤ total → DoesHere (op.Transfer o w)
+  transfer_does o w h room =
+      lifted (op.Transfer o w) refl (omega arith) (left_by_putting w (λ r. part w r.accu1) o)
+      (accumulator.transfer_does g calls units acts now s related p.used o w h (in_unit (length (types_of (op.Transfer o w))) room))
+
+  -- Address registers
+
+  left_by_pointing : (a : Ar) (from : ArLoad) → LeavesBrackets now.brackets (pointed_from a from now)
+  left_by_pointing a ar_load.Accu1 = refl
+  left_by_pointing a (ar_load.Constant c) = refl
+  left_by_pointing a (ar_load.At o) = left_by_taking width.Dword (with_pointer a) o
+  left_by_pointing a ar_load.OtherAr = refl
+
+  left_by_storing : (a : Ar) (to : ArStore) → LeavesBrackets now.brackets (pointer_stored a to now)
+  left_by_storing a ar_store.Accu1 = refl
+  left_by_storing a (ar_store.At o) = left_by_putting width.Dword (pointer_in a) o
+  left_by_storing a ar_store.OtherAr = refl
+
+  pub pointer_load_does : (a : Ar) (from : ArLoad) → HasOperand (op.LoadAr a from) → (behind (op.LoadAr a from) p).used ≤ total → DoesHere (op.LoadAr a from)
+  pointer_load_does a from h room =
+      lifted (op.LoadAr a from) refl (omega arith) (left_by_pointing a from)
+      (pointer.pointer_load_does g calls units acts now s related p.used a from h (in_unit (length (types_of (op.LoadAr a from))) room))
+
+  pub pointer_store_does : (a : Ar) (to : ArStore) → HasOperand (op.StoreAr a to) → (behind (op.StoreAr a to) p).used ≤ total → DoesHere (op.StoreAr a to)
+  pointer_store_does a to h room =
+      lifted (op.StoreAr a to) refl (omega arith) (left_by_storing a to)
+      (pointer.pointer_store_does g calls units acts now s related p.used a to h (in_unit (length (types_of (op.StoreAr a to))) room))
+
+  pub pointer_exchange_does : (behind op.ExchangeAr p).used ≤ total → DoesHere op.ExchangeAr
+  pointer_exchange_does room =
+      lifted op.ExchangeAr refl (omega arith) refl (pointer.pointer_exchange_does g calls units acts now s related p.used (in_unit (length (types_of op.ExchangeAr)) room))
+
+  pub pointer_move_does : (a : Ar) (amount : Option ℕ) → p.used ≤ total → DoesHere (op.AddAr a amount)
+  pointer_move_does a amount room =
+      lifted (op.AddAr a amount) refl (omega arith) refl (pointer.pointer_move_does g calls units acts now s related p.used a amount (used_in_unit room))
 
   -- Data blocks
 
@@ -163,13 +209,20 @@ module _ (g : List Located) (calls : Calls) (units : ℕ) (acts : List Activatio
   pub di_number_load_does : p.used ≤ total → DoesHere op.LoadDiNo
   di_number_load_does room = lifted op.LoadDiNo refl (omega arith) refl (accumulator.di_number_load_does g calls units acts now s related p.used (used_in_unit room))
 
-  pub open_db_does : (d : OpenArg) → IsOpenArg d → p.used ≤ total → DoesHere (op.OpenDb d)
-  open_db_does (open_arg.Number n) h room =
-      lifted (op.OpenDb (open_arg.Number n)) refl (omega arith) refl (accumulator.open_db_does g calls units acts now s related p.used (open_arg.Number n) h (used_in_unit room))
+  -- a number that is read leaves the brackets
+  left_by_opening : (row : ℕ → RegisterValues → RegisterValues) (d : OpenArg) → LeavesBrackets now.brackets (block_opened row d now)
+  left_by_opening row (open_arg.Number n) = refl
+  left_by_opening row (open_arg.At o) = left_by_taking width.Word row o
 
-  pub open_di_does : (d : OpenArg) → IsOpenArg d → p.used ≤ total → DoesHere (op.OpenDi d)
-  open_di_does (open_arg.Number n) h room =
-      lifted (op.OpenDi (open_arg.Number n)) refl (omega arith) refl (accumulator.open_di_does g calls units acts now s related p.used (open_arg.Number n) h (used_in_unit room))
+  pub open_db_does : (d : OpenArg) → IsOpenArg d → (behind (op.OpenDb d) p).used ≤ total → DoesHere (op.OpenDb d)
+  open_db_does d h room =
+      lifted (op.OpenDb d) refl (omega arith) (left_by_opening db_opened d)
+      (accumulator.open_db_does g calls units acts now s related p.used d h (in_unit (length (types_of (op.OpenDb d))) room))
+
+  pub open_di_does : (d : OpenArg) → IsOpenArg d → (behind (op.OpenDi d) p).used ≤ total → DoesHere (op.OpenDi d)
+  open_di_does d h room =
+      lifted (op.OpenDi d) refl (omega arith) (left_by_opening di_opened d)
+      (accumulator.open_di_does g calls units acts now s related p.used d h (in_unit (length (types_of (op.OpenDi d))) room))
 
   pub block_exchange_does : (behind op.ExchangeDb p).used ≤ total → DoesHere op.ExchangeDb
   block_exchange_does room = lifted op.ExchangeDb refl (omega arith) refl (accumulator.block_exchange_does g calls units acts now s related p.used (in_unit (length (types_of op.ExchangeDb)) room))

@@ -20,12 +20,13 @@ use Rattle.stl_tree.specs.declared.program.Op.TheVariants as op
 use Rattle.stl_tree.specs.declared.program.Operand.{Operand}
 use Rattle.row_templates.proofs.Sizes.{of_append, of_assign, of_cleared, of_joined, of_literal, of_nfc, of_not, of_not_register, of_nothing, of_read, of_register}
 use Rattle.row_templates.specs.Nodes.{nodes, nodes_in}
-use Rattle.row_templates.specs.Fetching.{fetch_of, fetched_of, opened_of, types_fetched}
-use Rattle.row_templates.proofs.FetchBounds.{fetch_nodes, fetched_nodes, opened_nodes}
+use Rattle.row_templates.specs.Fetching.{fetch_of, fetched_of, reach_of, types_fetched, writing_of}
+use Rattle.row_templates.proofs.FetchBounds.{fetch_nodes, fetched_nodes, reach_nodes, writing_nodes}
 use Rattle.instruction_lowering.specs.declared.statements.Chain.{Chain}
 use Rattle.instruction_lowering.specs.declared.statements.OpenBracket.{OpenBracket}
 use Rattle.instruction_lowering.specs.declared.statements.Spot.{Spot}
 use Rattle.accumulator_templates.proofs.CountRows.{add_dword_few, add_word_few, block_exchange_few, block_open_few, cad_few, caw_few, dec_few, exchange_few, inc_few, invd_few, invi_few, itd_few, load_few, logic_few, number_load_few, pop_few, push_few, status_load_few, status_store_few, transfer_few}
+use Rattle.pointer_templates.proofs.CountRows.{pointer_exchange_few, pointer_load_few, pointer_move_few, pointer_store_few}
 use Rattle.shift_templates.proofs.ShiftSizes.{rlda_few, rrda_few, shift_few}
 use Rattle.arithmetic_templates.proofs.FewReads.{calculated_nodes, compared_nodes, negated_nodes}
 use Rattle.digit_templates.proofs.PlainDigits.{btd_nodes, bti_nodes, dtb_nodes, itb_nodes}
@@ -35,7 +36,7 @@ use Rattle.s7_base.specs.declared.word.Width.TheVariants as width
 use Rattle.instruction_lowering.specs.Temporaries.{ends_block}
 use Rattle.instruction_lowering.specs.inner.Lowering.{steps_of}
 use Rattle.instruction_lowering.specs.inner.Templates.{and_joined, answer_of, before_check, behind, behind_check, behind_close, check_of, checked_of, close_of, edge_at, edge_of, falling, keep_of, next_rlo, open_of, reset_value, rising, rlo_before_and, rlo_before_or, running_chain, set_value, statements_of, store_of, stored_of, unary_of}
-use Rattle.row_templates.specs.Builders.{and_of, bit_of, cleared, literal_of, not_of, read_of, set_of}
+use Rattle.row_templates.specs.Builders.{and_of, cleared, literal_of, not_of, read_of, set_of}
 
 -- Expressions
 
@@ -109,16 +110,16 @@ of_opened first =
       of_cleared false,
     )
 
-of_store : (v : Var) (e : Expr) → nodes_in (store_of v e) ≡ nodes e + 2
-of_store v e = omega (arith, of_assign v e (cleared false), of_cleared false)
+of_store : (used : ℕ) (o : Operand) (e : Expr) → nodes_in (store_of used o e) ≤ nodes e + 3
+of_store used o e = omega (arith, writing_nodes used o width.Bit e (cleared false), of_cleared false)
 
-of_edge : (i : ℕ) (v : Var) (e : Expr) → nodes_in (edge_of i v e) ≡ nodes e + 4
-of_edge i v e =
+of_edge : (used : ℕ) (o : Operand) (i : ℕ) (e : Expr) → nodes_in (edge_of used o i e) ≤ nodes e + 5
+of_edge used o i e =
     let last : List Stmt = set_of reg.Rlo (expr.Read (var.Local i)) ∷ cleared true in
     omega (
       arith,
-      of_assign (var.Local i) e (stmt.Assign v (read_of reg.Rlo) ∷ last),
-      of_assign v (read_of reg.Rlo) last,
+      of_assign (var.Local i) e (writing_of used o width.Bit (read_of reg.Rlo) ∷ last),
+      writing_nodes used o width.Bit (read_of reg.Rlo) last,
       of_assign (var.Register reg.Rlo) (expr.Read (var.Local i)) (cleared true),
       of_register reg.Rlo,
       of_read (var.Local i),
@@ -141,7 +142,7 @@ of_unary unary.Cad used = cad_few.nodes
 of_unary unary.Negi used = negated_nodes used width.Word
 of_unary unary.Negd used = negated_nodes used width.Dword
 
-of_before : (used : ℕ) (b : BitArg) → nodes_in (before_check used b) ≤ 2
+of_before : (used : ℕ) (b : BitArg) → nodes_in (before_check used b) ≤ 13
 of_before used (arg.At o) = fetch_nodes used o width.Bit
 of_before used (arg.Flag t) = omega (arith, of_nothing)
 
@@ -149,14 +150,14 @@ of_stored : (used : ℕ) (o : Operand) (value : Expr → Expr) → nodes (value 
 of_stored used o value few =
     let e : Expr = value (fetched_of used o width.Bit) in
     let before = fetch_nodes used o width.Bit in
-    omega (arith, of_append (fetch_of used o width.Bit) (store_of (bit_of o) e), of_store (bit_of o) e)
+    omega (arith, of_append (fetch_of used o width.Bit) (store_of used o e), of_store used o e)
 
 of_edge_at : (used : ℕ) (o : Operand) (value : Expr → Expr) → nodes (value (fetched_of used o width.Bit)) ≤ 5 → nodes_in (edge_at used o value) ≤ 91
 of_edge_at used o value few =
     let e : Expr = value (fetched_of used o width.Bit) in
     let later : ℕ = used + length (types_fetched o width.Bit) in
     let before = fetch_nodes used o width.Bit in
-    omega (arith, of_append (fetch_of used o width.Bit) (edge_of later (bit_of o) e), of_edge later (bit_of o) e)
+    omega (arith, of_append (fetch_of used o width.Bit) (edge_of used o later e), of_edge used o later e)
 
 of_instruction : (o : Op) (q : Spot) → nodes_in (statements_of q o) ≤ 91
 of_instruction (op.Check c b) q =
@@ -183,8 +184,8 @@ of_instruction op.OrAlone q =
 of_instruction (op.Bracket c) q = omega (arith, of_opened q.used)
 of_instruction op.Close q = of_brackets q.brackets
 of_instruction (op.Assign o) q =
-    let before = opened_nodes o in
-    omega (arith, of_append (opened_of o) (store_of (bit_of o) (read_of reg.Rlo)), of_store (bit_of o) (read_of reg.Rlo), of_register reg.Rlo)
+    let before = reach_nodes q.used o in
+    omega (arith, of_append (reach_of q.used o) (store_of q.used o (read_of reg.Rlo)), of_store q.used o (read_of reg.Rlo), of_register reg.Rlo)
 of_instruction (op.Set o) q =
     let bit : Expr = fetched_of q.used o width.Bit in
     of_stored q.used o set_value (omega (arith, of_joined binary.Or bit (read_of reg.Rlo), fetched_nodes q.used o width.Bit, of_register reg.Rlo))
@@ -205,7 +206,7 @@ of_instruction (op.EdgeDown o) q =
     of_edge_at q.used o falling
     (omega (arith, of_joined binary.And (not_of (read_of reg.Rlo)) bit, fetched_nodes q.used o width.Bit, of_not_register reg.Rlo))
 of_instruction (op.Load a) q = (load_few q.used a).nodes
-of_instruction (op.Transfer o w) q = (transfer_few o w).nodes
+of_instruction (op.Transfer o w) q = (transfer_few q.used o w).nodes
 of_instruction op.LoadStw q = status_load_few.nodes
 of_instruction op.TransferStw q = status_store_few.nodes
 of_instruction op.LoadDbNo q = (number_load_few reg.DbNo).nodes
@@ -224,8 +225,12 @@ of_instruction (op.Unary u) q = of_unary u q.used
 of_instruction op.Tak q = (exchange_few q.used).nodes
 of_instruction op.Push q = push_few.nodes
 of_instruction op.Pop q = pop_few.nodes
-of_instruction (op.OpenDb d) q = (block_open_few reg.DbNo d).nodes
-of_instruction (op.OpenDi d) q = (block_open_few reg.DiNo d).nodes
+of_instruction (op.LoadAr a from) q = (pointer_load_few q.used a from).nodes
+of_instruction (op.StoreAr a to) q = (pointer_store_few q.used a to).nodes
+of_instruction op.ExchangeAr q = (pointer_exchange_few q.used).nodes
+of_instruction (op.AddAr a amount) q = (pointer_move_few a amount).nodes
+of_instruction (op.OpenDb d) q = (block_open_few q.used reg.DbNo d).nodes
+of_instruction (op.OpenDi d) q = (block_open_few q.used reg.DiNo d).nodes
 of_instruction op.ExchangeDb q = (block_exchange_few q.used).nodes
 of_instruction op.Nop q = omega (arith, of_nothing)
 of_instruction op.BlockEnd q = omega (arith, of_nothing)

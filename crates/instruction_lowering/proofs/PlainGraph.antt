@@ -22,7 +22,7 @@ use Rattle.st_tree.specs.declared.program.Pou.{Pou}
 use Rattle.st_tree.specs.declared.program.StProgram.{StProgram}
 use Rattle.instruction_lowering.proofs.Names.{numbered}
 use Rattle.instruction_lowering.proofs.ProperNames.{has_name, names_unit, units_apart}
-use Rattle.instruction_lowering.proofs.Assignments.{are_assignments, are_steps}
+use Rattle.instruction_lowering.proofs.Assignments.{are_writes, are_steps}
 use Rattle.instruction_lowering.proofs.PlainStatements.{of_node}
 use Rattle.row_templates.proofs.Typing.{AreTyped, IsPlainBody}
 use Rattle.instruction_lowering.proofs.TemporaryNames.{are_temporaries, locals_apart, proper_locals, so_many, typed_local}
@@ -124,7 +124,7 @@ plain_unit block h few_used =
     nodes : (at : ℕ) (node : StNode) → slice_get (node_of block.body ∷ []) at ≡ Some node → IsPlainNode 1 at node
     nodes zero node e =
         let there : node_of block.body ≡ node = cc in
-        subst (IsPlainNode 1 0) there (record { steps = are_steps (steps_of first_spot block.body) (are_assignments block.body first_spot); exit = tt; test = tt; only_end = only_end_of block.body h.ends })
+        subst (IsPlainNode 1 0) there (record { steps = are_steps (steps_of first_spot block.body) (are_writes block.body first_spot); exit = tt; test = tt; only_end = only_end_of block.body h.ends })
     nodes (suc at) node e = cc
 
 plain_units : (blocks : List Block) → All IsAcceptedBlock blocks → AreFew blocks → All IsPlainUnit (map unit_of blocks)

@@ -26,10 +26,10 @@ use Rattle.stl_tree.specs.declared.program.Instr.{Instr}
 use Rattle.stl_tree.specs.declared.program.Op.{Op}
 use Rattle.stl_tree.specs.declared.program.Op.TheVariants as op
 use Rattle.stl_tree.specs.declared.program.Operand.{Operand}
-use Rattle.row_templates.specs.Builders.{and_of, bit_of, cleared, literal_of, not_of, read_of, set_of}
-use Rattle.row_templates.specs.Fetching.{fetched_of, types_fetched}
-use Rattle.row_templates.proofs.FetchBounds.{fetch_plain, fetched_is, opened_plain}
-use Rattle.row_templates.proofs.Typing.{AreTyped, IsBool, IsPlainBody, and_is, assigned, cleared_plain, first_typed, left_typed, literal_is, local_is, more, nfc_plain, no_statement, not_is, operand_typed, or_is, read_is, register_is, right_typed, set_plain, xor_is}
+use Rattle.row_templates.specs.Builders.{and_of, cleared, literal_of, not_of, read_of, set_of}
+use Rattle.row_templates.specs.Fetching.{fetched_of, types_fetched, types_reached, writing_of}
+use Rattle.row_templates.proofs.FetchBounds.{fetch_plain, fetched_is, reach_plain, way_typed, writing_plain}
+use Rattle.row_templates.proofs.Typing.{AreTyped, IsBool, IsPlainBody, and_is, assigned, cleared_plain, first_typed, left_typed, literal_is, local_is, more, nfc_plain, no_statement, not_is, or_is, read_is, register_is, right_typed, set_plain, xor_is}
 use Rattle.instruction_lowering.specs.Temporaries.{ends_block, types_in, types_of, types_of_edge, types_of_unary}
 use Rattle.instruction_lowering.specs.declared.statements.Chain.{Chain}
 use Rattle.instruction_lowering.specs.declared.statements.OpenBracket.{OpenBracket}
@@ -37,6 +37,7 @@ use Rattle.instruction_lowering.specs.declared.statements.Spot.{Spot}
 use Rattle.accumulator_templates.proofs.PlainRows.{add_dword_plain, add_word_plain, block_exchange_plain, cad_plain, caw_plain, db_number_load_plain, dec_plain, di_number_load_plain, exchange_plain, inc_plain, invd_plain, invi_plain, itd_plain, load_plain, logic_plain, open_db_plain, open_di_plain, pop_plain, push_plain, status_load_plain, status_store_plain, transfer_plain}
 use Rattle.arithmetic_templates.proofs.PlainRows.{calculated_plain, compared_plain, negated_plain}
 use Rattle.digit_templates.proofs.PlainDigits.{btd_plain, bti_plain, dtb_plain, itb_plain}
+use Rattle.pointer_templates.proofs.PlainRows.{pointer_exchange_plain, pointer_load_plain, pointer_move_plain, pointer_store_plain}
 use Rattle.shift_templates.proofs.PlainShifts.{any_shift_plain, rlda_plain, rrda_plain}
 use Rattle.stl_tree.specs.declared.accumulator.UnaryRow.{UnaryRow}
 use Rattle.stl_tree.specs.declared.accumulator.UnaryRow.TheVariants as unary
@@ -68,10 +69,10 @@ module _ (sight : Sight) where
   answer_bool test.Os = more sight (omega arith) (register_is sight reg.Os)
   answer_bool test.Br = more sight (omega arith) (register_is sight reg.Br)
 
-  bit_bool : (o : Operand) → IsOperand width.Bit o → variable_type sight (bit_of o) ≡ Some type.Bool
-  bit_bool o h = operand_typed sight o width.Bit h
+  -- the locals of the way to a bit have their types, and those of one that is checked or stored
+  abbrev HasWay : ℕ → Operand → Type 0
+  HasWay used o = AreTyped sight used (types_reached o)
 
-  -- the locals of what is checked, or stored, have their types
   abbrev HasLocal : ℕ → Operand → Type 0
   HasLocal used o = AreTyped sight used (types_fetched o width.Bit)
 
@@ -134,8 +135,10 @@ module _ (sight : Sight) where
   close_plain check.Xn v rest h plain = cleared_plain sight true rest plain
 
   -- a bit takes a value
-  store_plain : (o : Operand) (e : Expr) (rest : List Stmt) → IsOperand width.Bit o → IsBool sight 4 e → IsPlainBody sight rest → IsPlainBody sight (store_of (bit_of o) e ++ rest)
-  store_plain o e rest h k plain = assigned sight (bit_of o) e (cleared false ++ rest) (omega arith) (bit_bool o h) k (cleared_plain sight false rest plain)
+  store_plain : (used : ℕ) (o : Operand) (e : Expr) (rest : List Stmt) → IsOperand width.Bit o → HasWay used o → IsBool sight 4 e → IsPlainBody sight rest
+      → IsPlainBody sight (store_of used o e ++ rest)
+  store_plain used o e rest h way k plain =
+      writing_plain sight used o width.Bit e (cleared false ++ rest) (omega arith) h way k (cleared_plain sight false rest plain)
 
   rlo_bool : IsBool sight 1 (read_of reg.Rlo)
   rlo_bool = register_is sight reg.Rlo
@@ -154,11 +157,11 @@ module _ (sight : Sight) where
       (next_bool o.kept h.0 o.check (read_of reg.Rlo) (more sight (omega arith) rlo_bool))
       (close_plain o.check o.kept.orb rest h.0.orb plain)
 
-  edge_plain : (i : ℕ) (o : Operand) (e : Expr) (rest : List Stmt) → variable_type sight (var.Local i) ≡ Some type.Bool → IsOperand width.Bit o → IsBool sight 4 e
-      → IsPlainBody sight rest → IsPlainBody sight (edge_of i (bit_of o) e ++ rest)
-  edge_plain i o e rest own h k plain =
-      assigned sight (var.Local i) e (stmt.Assign (bit_of o) (read_of reg.Rlo) ∷ set_of reg.Rlo (expr.Read (var.Local i)) ∷ cleared true ++ rest) (omega arith) own k
-      (assigned sight (bit_of o) (read_of reg.Rlo) (set_of reg.Rlo (expr.Read (var.Local i)) ∷ cleared true ++ rest) (omega arith) (bit_bool o h) rlo_bool
+  edge_plain : (used : ℕ) (o : Operand) (i : ℕ) (e : Expr) (rest : List Stmt) → variable_type sight (var.Local i) ≡ Some type.Bool → IsOperand width.Bit o → HasWay used o → IsBool sight 4 e
+      → IsPlainBody sight rest → IsPlainBody sight (edge_of used o i e ++ rest)
+  edge_plain used o i e rest own h way k plain =
+      assigned sight (var.Local i) e (writing_of used o width.Bit (read_of reg.Rlo) ∷ set_of reg.Rlo (expr.Read (var.Local i)) ∷ cleared true ++ rest) (omega arith) own k
+      (writing_plain sight used o width.Bit (read_of reg.Rlo) (set_of reg.Rlo (expr.Read (var.Local i)) ∷ cleared true ++ rest) (omega arith) h way rlo_bool
       (set_plain sight reg.Rlo (expr.Read (var.Local i)) (cleared true ++ rest) (omega arith) (local_is sight own) (cleared_plain sight true rest plain)))
 
   -- FP and FN, by the value that they make of the edge bit
@@ -171,8 +174,8 @@ module _ (sight : Sight) where
       let e : Expr = value (fetched_of used o width.Bit) in
       let fetched : HasLocal used o = left_typed sight used types (type.Bool ∷ []) own in
       let kept : AreTyped sight later (type.Bool ∷ []) = right_typed sight used later types (type.Bool ∷ []) refl own in
-      fetch_plain sight used o width.Bit (edge_of later (bit_of o) e) rest h fetched
-      (edge_plain later o e rest (first_typed sight later type.Bool [] kept) h (worth (bit_is used o h fetched)) plain)
+      fetch_plain sight used o width.Bit (edge_of used o later e) rest h fetched
+      (edge_plain used o later e rest (first_typed sight later type.Bool [] kept) h (way_typed sight used o width.Bit fetched) (worth (bit_is used o h fetched)) plain)
 
   keep_plain : (i : ℕ) (r : Reg) (rest : List Stmt) → variable_type sight (var.Local i) ≡ Some type.Bool → type_of_register r ≡ type.Bool → IsPlainBody sight rest
       → IsPlainBody sight (keep_of i r ∷ rest)
@@ -234,16 +237,16 @@ module _ (sight : Sight) where
   of_instruction (op.Bracket c) q rest h own chains plain = open_plain q.used rest own plain
   of_instruction op.Close q rest h own chains plain = brackets_plain q.brackets rest chains plain
   of_instruction (op.Assign o) q rest h own chains plain =
-      let row : List Stmt = store_of (bit_of o) (read_of reg.Rlo) in
-      opened_plain sight o width.Bit row rest h (store_plain o (read_of reg.Rlo) rest h (more sight (omega arith) rlo_bool) plain)
+      let row : List Stmt = store_of q.used o (read_of reg.Rlo) in
+      reach_plain sight q.used o width.Bit row rest h own (store_plain q.used o (read_of reg.Rlo) rest h own (more sight (omega arith) rlo_bool) plain)
   of_instruction (op.Set o) q rest h own chains plain =
       let e : Expr = set_value (fetched_of q.used o width.Bit) in
-      fetch_plain sight q.used o width.Bit (store_of (bit_of o) e) rest h own
-      (store_plain o e rest h (more sight (omega arith) (or_is sight (bit_is q.used o h own) rlo_bool)) plain)
+      fetch_plain sight q.used o width.Bit (store_of q.used o e) rest h own
+      (store_plain q.used o e rest h (way_typed sight q.used o width.Bit own) (more sight (omega arith) (or_is sight (bit_is q.used o h own) rlo_bool)) plain)
   of_instruction (op.Reset o) q rest h own chains plain =
       let e : Expr = reset_value (fetched_of q.used o width.Bit) in
-      fetch_plain sight q.used o width.Bit (store_of (bit_of o) e) rest h own
-      (store_plain o e rest h (and_is sight (bit_is q.used o h own) (not_is sight rlo_bool)) plain)
+      fetch_plain sight q.used o width.Bit (store_of q.used o e) rest h own
+      (store_plain q.used o e rest h (way_typed sight q.used o width.Bit own) (and_is sight (bit_is q.used o h own) (not_is sight rlo_bool)) plain)
   of_instruction op.SetRlo q rest h own chains plain =
       set_plain sight reg.Rlo (literal_of true) (cleared false ++ rest) (omega arith) (literal_is sight true) (cleared_plain sight false rest plain)
   of_instruction op.ClearRlo q rest h own chains plain =
@@ -255,7 +258,7 @@ module _ (sight : Sight) where
   of_instruction (op.EdgeDown o) q rest h own chains plain =
       edge_at_plain q.used o falling rest h own (λ bit. and_is sight (not_is sight rlo_bool) bit) plain
   of_instruction (op.Load a) q rest h own chains plain = load_plain sight rest plain q.used a h own
-  of_instruction (op.Transfer o w) q rest h own chains plain = transfer_plain sight rest plain o w h
+  of_instruction (op.Transfer o w) q rest h own chains plain = transfer_plain sight rest plain q.used o w h own
   of_instruction op.LoadStw q rest h own chains plain = status_load_plain sight rest plain
   of_instruction op.TransferStw q rest h own chains plain = status_store_plain sight rest plain
   of_instruction op.LoadDbNo q rest h own chains plain = db_number_load_plain sight rest plain
@@ -274,8 +277,12 @@ module _ (sight : Sight) where
   of_instruction op.Tak q rest h own chains plain = exchange_plain sight rest plain q.used own
   of_instruction op.Push q rest h own chains plain = push_plain sight rest plain
   of_instruction op.Pop q rest h own chains plain = pop_plain sight rest plain
-  of_instruction (op.OpenDb d) q rest h own chains plain = open_db_plain sight rest plain d h
-  of_instruction (op.OpenDi d) q rest h own chains plain = open_di_plain sight rest plain d h
+  of_instruction (op.LoadAr a from) q rest h own chains plain = pointer_load_plain sight rest plain q.used a from h own
+  of_instruction (op.StoreAr a to) q rest h own chains plain = pointer_store_plain sight rest plain q.used a to h own
+  of_instruction op.ExchangeAr q rest h own chains plain = pointer_exchange_plain sight rest plain q.used own
+  of_instruction (op.AddAr a amount) q rest h own chains plain = pointer_move_plain sight rest plain a amount h
+  of_instruction (op.OpenDb d) q rest h own chains plain = open_db_plain sight rest plain q.used d h own
+  of_instruction (op.OpenDi d) q rest h own chains plain = open_di_plain sight rest plain q.used d h own
   of_instruction op.ExchangeDb q rest h own chains plain = block_exchange_plain sight rest plain q.used own
   of_instruction op.Nop q rest h own chains plain = plain
   of_instruction op.BlockEnd q rest h own chains plain = plain

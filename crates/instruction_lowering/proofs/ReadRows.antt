@@ -13,29 +13,31 @@ use Rattle.st_tree.specs.declared.expr.Var.{Var}
 use Rattle.st_tree.specs.declared.expr.Var.TheVariants as var
 use Rattle.st_tree.specs.declared.program.Stmt.{Stmt}
 use Rattle.st_tree.specs.declared.program.Stmt.TheVariants as stmt
-use Rattle.stl_tree.specs.Reads.{asked_by, chain_read, reads_of}
+use Rattle.stl_tree.specs.Reads.{asked_by, chain_read, found_by, opened_by, reads_of}
 use Rattle.stl_tree.specs.declared.program.BitArg.TheVariants as arg
 use Rattle.stl_tree.specs.declared.program.Instr.{Instr}
 use Rattle.stl_tree.specs.declared.program.Op.{Op}
 use Rattle.stl_tree.specs.declared.program.Op.TheVariants as op
+use Rattle.stl_tree.specs.declared.program.Operand.{Operand}
 use Rattle.instruction_lowering.specs.Lowered.{IsRead}
 use Rattle.accumulator_templates.proofs.ReadRows.{add_dword_reads, add_word_reads, block_exchange_reads, block_open_reads, cad_reads, caw_reads, dec_reads, exchange_reads, inc_reads, invd_reads, invi_reads, itd_reads, load_reads, logic_reads, number_load_reads, pop_reads, push_reads, status_load_reads, status_store_reads, transfer_reads}
 use Rattle.arithmetic_templates.proofs.FewReads.{calculated_reads, compared_reads, negated_reads}
 use Rattle.digit_templates.proofs.PlainDigits.{btd_reads, bti_reads, dtb_reads, itb_reads}
+use Rattle.pointer_templates.proofs.ReadRows.{pointer_exchange_reads, pointer_load_reads, pointer_move_reads, pointer_store_reads}
 use Rattle.shift_templates.proofs.ReadByShifts.{rlda_reads, rrda_reads, shift_reads}
 use Rattle.stl_tree.specs.declared.accumulator.UnaryRow.{UnaryRow}
 use Rattle.stl_tree.specs.declared.accumulator.UnaryRow.TheVariants as unary
 use Rattle.s7_base.specs.declared.word.Width.TheVariants as width
-use Rattle.row_templates.specs.Fetching.{fetched_of, types_fetched}
-use Rattle.row_templates.proofs.FetchBounds.{fetch_reads, fetched_reads, opened_reads}
-use Rattle.row_templates.proofs.ReadRegisters.{AllRead, Has, Reads, among_left, among_right, assigned_reads, cleared_reads, joined_reads, literal_reads, local_reads, nfc_reads, not_reads, register_reads}
+use Rattle.row_templates.specs.Fetching.{fetched_of, types_fetched, writing_of}
+use Rattle.row_templates.proofs.FetchBounds.{fetch_reads, fetched_reads, reach_reads, writing_reads}
+use Rattle.row_templates.proofs.ReadRegisters.{AllRead, Has, Reads, assigned_reads, cleared_reads, has_left, has_right, joined_reads, literal_reads, local_reads, nfc_reads, not_reads, register_reads}
 use Rattle.instruction_lowering.specs.declared.statements.Chain.{Chain}
 use Rattle.instruction_lowering.specs.declared.statements.OpenBracket.{OpenBracket}
 use Rattle.instruction_lowering.specs.declared.statements.Spot.{Spot}
 use Rattle.instruction_lowering.specs.Temporaries.{ends_block}
 use Rattle.instruction_lowering.specs.inner.Lowering.{steps_of}
 use Rattle.instruction_lowering.specs.inner.Templates.{and_joined, answer_of, behind, behind_check, behind_close, chain_at, check_of, close_of, edge_of, falling, keep_of, next_rlo, outer_of, reset_value, rising, rlo_before_and, rlo_before_or, running_chain, set_value, statements_of, store_of, unary_of}
-use Rattle.row_templates.specs.Builders.{and_of, bit_of, cleared, literal_of, not_of, or_of, read_of, set_of, xor_of}
+use Rattle.row_templates.specs.Builders.{and_of, cleared, literal_of, not_of, or_of, read_of, set_of, xor_of}
 
 module _ (P : Reg → Type 0) where
   answer_reads : (t : Test) → Has P (asked_by t) → Reads P (answer_of t)
@@ -115,14 +117,21 @@ module _ (P : Reg → Type 0) where
   closed_reads check.X v rest h k = cleared_reads P true rest k
   closed_reads check.Xn v rest h k = cleared_reads P true rest k
 
-  edge_reads : (i : ℕ) (v : Var) (e : Expr) (rest : List Stmt) → P reg.Rlo → Reads P e → AllRead P rest → AllRead P (edge_of i v e ++ rest)
-  edge_reads i v e rest rlo h k =
-      assigned_reads P (var.Local i) e (stmt.Assign v (read_of reg.Rlo) ∷ set_of reg.Rlo (expr.Read (var.Local i)) ∷ cleared true ++ rest) h
-      (assigned_reads P v (read_of reg.Rlo) (set_of reg.Rlo (expr.Read (var.Local i)) ∷ cleared true ++ rest) (register_reads P reg.Rlo rlo)
+  edge_reads : (used : ℕ) (o : Operand) (i : ℕ) (e : Expr) (rest : List Stmt) → P reg.Rlo → Reads P e → AllRead P rest → AllRead P (edge_of used o i e ++ rest)
+  edge_reads used o i e rest rlo h k =
+      assigned_reads P (var.Local i) e (writing_of used o width.Bit (read_of reg.Rlo) ∷ set_of reg.Rlo (expr.Read (var.Local i)) ∷ cleared true ++ rest) h
+      (writing_reads P used o width.Bit (read_of reg.Rlo) (set_of reg.Rlo (expr.Read (var.Local i)) ∷ cleared true ++ rest) (register_reads P reg.Rlo rlo)
       (assigned_reads P (var.Register reg.Rlo) (expr.Read (var.Local i)) (cleared true ++ rest) (local_reads P i) (cleared_reads P true rest k)))
 
-  store_reads : (v : Var) (e : Expr) (rest : List Stmt) → Reads P e → AllRead P rest → AllRead P (store_of v e ++ rest)
-  store_reads v e rest h k = assigned_reads P v e (cleared false ++ rest) h (cleared_reads P false rest k)
+  store_reads : (used : ℕ) (o : Operand) (e : Expr) (rest : List Stmt) → Reads P e → AllRead P rest → AllRead P (store_of used o e ++ rest)
+  store_reads used o e rest h k = writing_reads P used o width.Bit e (cleared false ++ rest) h (cleared_reads P false rest k)
+
+  -- what a row on a bit reads: what the bit is found by, and the RLO
+  finds : (o : Operand) → Has P (found_by o ++ reg.Rlo ∷ []) → Has P (found_by o)
+  finds o h = has_left P (found_by o) (reg.Rlo ∷ []) h
+
+  reads_rlo : (o : Operand) → Has P (found_by o ++ reg.Rlo ∷ []) → P reg.Rlo
+  reads_rlo o h = has_right P (found_by o) (reg.Rlo ∷ []) h reg.Rlo (inl refl)
 
   brackets_read : (brackets : List OpenBracket) (rest : List Stmt) → P reg.Rlo → ReadChains brackets → AllRead P rest → AllRead P (close_of brackets ++ rest)
   brackets_read [] rest rlo h k = k
@@ -159,9 +168,10 @@ module _ (P : Reg → Type 0) where
   of_instruction : (o : Op) (q : Spot) (rest : List Stmt) → Has P (reads_of o) → ReadChains q.brackets → AllRead P rest → AllRead P (statements_of q o ++ rest)
   of_instruction (op.Check c (arg.At o)) q rest h chains k =
       let bit : Expr = fetched_of q.used o width.Bit in
-      fetch_reads P q.used o width.Bit (check_of c bit) rest (checked_reads c bit rest h (fetched_reads P q.used o width.Bit) k)
+      fetch_reads P q.used o width.Bit (check_of c bit) rest (has_left P (found_by o) (chain_read c) h)
+      (checked_reads c bit rest (has_right P (found_by o) (chain_read c) h) (fetched_reads P q.used o width.Bit) k)
   of_instruction (op.Check c (arg.Flag t)) q rest h chains k =
-      checked_reads c (answer_of t) rest (λ r a. h r (among_right r (asked_by t) (chain_read c) a)) (answer_reads t (λ r a. h r (among_left r (asked_by t) (chain_read c) a))) k
+      checked_reads c (answer_of t) rest (has_right P (asked_by t) (chain_read c) h) (answer_reads t (has_left P (asked_by t) (chain_read c) h)) k
   of_instruction op.OrAlone q rest h chains k =
       assigned_reads P (var.Register reg.Orb) (and_of (read_of reg.Rlo) (read_of reg.Nfc)) (set_of reg.Nfc (literal_of false) ∷ rest)
       (joined_reads P binary.And (read_of reg.Rlo) (read_of reg.Nfc) (register_reads P reg.Rlo (h reg.Rlo (inl refl))) (register_reads P reg.Nfc (h reg.Nfc (inr (inl refl)))))
@@ -172,36 +182,36 @@ module _ (P : Reg → Type 0) where
       (assigned_reads P (var.Local (q.used + 2)) (read_of reg.Nfc) (cleared false ++ rest) (register_reads P reg.Nfc (h reg.Nfc (inr (inl refl)))) (cleared_reads P false rest k)))
   of_instruction op.Close q rest h chains k = brackets_read q.brackets rest (h reg.Rlo (inl refl)) chains k
   of_instruction (op.Assign o) q rest h chains k =
-      let row : List Stmt = store_of (bit_of o) (read_of reg.Rlo) in
-      opened_reads P o row rest (store_reads (bit_of o) (read_of reg.Rlo) rest (register_reads P reg.Rlo (h reg.Rlo (inl refl))) k)
+      let row : List Stmt = store_of q.used o (read_of reg.Rlo) in
+      reach_reads P q.used o row rest (finds o h) (store_reads q.used o (read_of reg.Rlo) rest (register_reads P reg.Rlo (reads_rlo o h)) k)
   of_instruction (op.Set o) q rest h chains k =
       let bit : Expr = fetched_of q.used o width.Bit in
-      fetch_reads P q.used o width.Bit (store_of (bit_of o) (set_value bit)) rest
-      (store_reads (bit_of o) (set_value bit) rest
-      (joined_reads P binary.Or bit (read_of reg.Rlo) (fetched_reads P q.used o width.Bit) (register_reads P reg.Rlo (h reg.Rlo (inl refl)))) k)
+      fetch_reads P q.used o width.Bit (store_of q.used o (set_value bit)) rest (finds o h)
+      (store_reads q.used o (set_value bit) rest
+      (joined_reads P binary.Or bit (read_of reg.Rlo) (fetched_reads P q.used o width.Bit) (register_reads P reg.Rlo (reads_rlo o h))) k)
   of_instruction (op.Reset o) q rest h chains k =
       let bit : Expr = fetched_of q.used o width.Bit in
-      fetch_reads P q.used o width.Bit (store_of (bit_of o) (reset_value bit)) rest
-      (store_reads (bit_of o) (reset_value bit) rest
-      (joined_reads P binary.And bit (not_of (read_of reg.Rlo)) (fetched_reads P q.used o width.Bit) (not_reads P (read_of reg.Rlo) (register_reads P reg.Rlo (h reg.Rlo (inl refl))))) k)
+      fetch_reads P q.used o width.Bit (store_of q.used o (reset_value bit)) rest (finds o h)
+      (store_reads q.used o (reset_value bit) rest
+      (joined_reads P binary.And bit (not_of (read_of reg.Rlo)) (fetched_reads P q.used o width.Bit) (not_reads P (read_of reg.Rlo) (register_reads P reg.Rlo (reads_rlo o h)))) k)
   of_instruction op.SetRlo q rest h chains k = assigned_reads P (var.Register reg.Rlo) (literal_of true) (cleared false ++ rest) (literal_reads P true) (cleared_reads P false rest k)
   of_instruction op.ClearRlo q rest h chains k = assigned_reads P (var.Register reg.Rlo) (literal_of false) (cleared false ++ rest) (literal_reads P false) (cleared_reads P false rest k)
   of_instruction op.NotRlo q rest h chains k = assigned_reads P (var.Register reg.Rlo) (not_of (read_of reg.Rlo)) rest (not_reads P (read_of reg.Rlo) (register_reads P reg.Rlo (h reg.Rlo (inl refl)))) k
   of_instruction op.Save q rest h chains k = assigned_reads P (var.Register reg.Br) (read_of reg.Rlo) rest (register_reads P reg.Rlo (h reg.Rlo (inl refl))) k
   of_instruction (op.EdgeUp o) q rest h chains k =
       let bit : Expr = fetched_of q.used o width.Bit in
-      let rlo : P reg.Rlo = h reg.Rlo (inl refl) in
-      fetch_reads P q.used o width.Bit (edge_of (q.used + length (types_fetched o width.Bit)) (bit_of o) (rising bit)) rest
-      (edge_reads (q.used + length (types_fetched o width.Bit)) (bit_of o) (rising bit) rest rlo
+      let rlo : P reg.Rlo = reads_rlo o h in
+      fetch_reads P q.used o width.Bit (edge_of q.used o (q.used + length (types_fetched o width.Bit)) (rising bit)) rest (finds o h)
+      (edge_reads q.used o (q.used + length (types_fetched o width.Bit)) (rising bit) rest rlo
       (joined_reads P binary.And (read_of reg.Rlo) (not_of bit) (register_reads P reg.Rlo rlo) (not_reads P bit (fetched_reads P q.used o width.Bit))) k)
   of_instruction (op.EdgeDown o) q rest h chains k =
       let bit : Expr = fetched_of q.used o width.Bit in
-      let rlo : P reg.Rlo = h reg.Rlo (inl refl) in
-      fetch_reads P q.used o width.Bit (edge_of (q.used + length (types_fetched o width.Bit)) (bit_of o) (falling bit)) rest
-      (edge_reads (q.used + length (types_fetched o width.Bit)) (bit_of o) (falling bit) rest rlo
+      let rlo : P reg.Rlo = reads_rlo o h in
+      fetch_reads P q.used o width.Bit (edge_of q.used o (q.used + length (types_fetched o width.Bit)) (falling bit)) rest (finds o h)
+      (edge_reads q.used o (q.used + length (types_fetched o width.Bit)) (falling bit) rest rlo
       (joined_reads P binary.And (not_of (read_of reg.Rlo)) bit (not_reads P (read_of reg.Rlo) (register_reads P reg.Rlo rlo)) (fetched_reads P q.used o width.Bit)) k)
   of_instruction (op.Load a) q rest h chains k = load_reads P rest k q.used a h
-  of_instruction (op.Transfer o w) q rest h chains k = transfer_reads P rest k o w h
+  of_instruction (op.Transfer o w) q rest h chains k = transfer_reads P rest k q.used o w h
   of_instruction op.LoadStw q rest h chains k = status_load_reads P rest k h
   of_instruction op.TransferStw q rest h chains k = status_store_reads P rest k h
   of_instruction op.LoadDbNo q rest h chains k = number_load_reads P rest k reg.DbNo h
@@ -220,8 +230,12 @@ module _ (P : Reg → Type 0) where
   of_instruction op.Tak q rest h chains k = exchange_reads P rest k q.used h
   of_instruction op.Push q rest h chains k = push_reads P rest k h
   of_instruction op.Pop q rest h chains k = pop_reads P rest k h
-  of_instruction (op.OpenDb d) q rest h chains k = block_open_reads P rest k reg.DbNo d
-  of_instruction (op.OpenDi d) q rest h chains k = block_open_reads P rest k reg.DiNo d
+  of_instruction (op.LoadAr a from) q rest h chains k = pointer_load_reads P rest k q.used a from h
+  of_instruction (op.StoreAr a to) q rest h chains k = pointer_store_reads P rest k q.used a to h
+  of_instruction op.ExchangeAr q rest h chains k = pointer_exchange_reads P rest k q.used h
+  of_instruction (op.AddAr a amount) q rest h chains k = pointer_move_reads P rest k a amount h
+  of_instruction (op.OpenDb d) q rest h chains k = block_open_reads P rest k q.used reg.DbNo d h
+  of_instruction (op.OpenDi d) q rest h chains k = block_open_reads P rest k q.used reg.DiNo d h
   of_instruction op.ExchangeDb q rest h chains k = block_exchange_reads P rest k q.used h
   of_instruction op.Nop q rest h chains k = k
   of_instruction op.BlockEnd q rest h chains k = k

@@ -18,7 +18,7 @@ use Rattle.instruction_lowering.specs.inner.Templates.{behind, statements_of}
 use Rattle.row_templates.proofs.Alike.{Related}
 use Rattle.instruction_lowering.proofs.BracketRows.{close_does, open_does}
 use Rattle.instruction_lowering.proofs.Does.{Does, IsInside}
-use Rattle.instruction_lowering.proofs.LiftedRows.{add_dword_does, add_word_does, assign_does, block_exchange_does, calculated_does, check_does, compared_does, db_number_load_does, dec_does, di_number_load_does, down_does, exchange_does, flag_does, inc_does, load_does, logic_does, open_db_does, open_di_does, pop_does, push_does, reset_does, rlda_does, rrda_does, set_does, shift_does, status_load_does, status_store_does, transfer_does, unary_does, up_does}
+use Rattle.instruction_lowering.proofs.LiftedRows.{add_dword_does, add_word_does, assign_does, block_exchange_does, calculated_does, check_does, compared_does, db_number_load_does, dec_does, di_number_load_does, down_does, exchange_does, flag_does, inc_does, load_does, logic_does, open_db_does, open_di_does, pointer_exchange_does, pointer_load_does, pointer_move_does, pointer_store_does, pop_does, push_does, reset_does, rlda_does, rrda_does, set_does, shift_does, status_load_does, status_store_does, transfer_does, unary_does, up_does}
 use Rattle.instruction_lowering.proofs.StatusRows.{answer_worth, clear_rlo_does, nop_does, not_does, or_does, save_does, set_rlo_does}
 use Rattle.instruction_lowering.proofs.Temporaries.{Keeps}
 
@@ -45,7 +45,7 @@ module _ (g : List Located) (calls : Calls) (units : ℕ) (acts : List Activatio
       open_does g calls units acts now s related total p keeps c (free (nat_lt (length p.brackets) most_open) (length p.brackets) stands) room
   does op.Close inside operand stands room =
       close_does g calls units acts now s related total p keeps p.brackets now.brackets (some_open p.brackets stands) keeps.1
-  does (op.Assign o) inside operand stands room = assign_does g calls units acts now s related total p keeps o operand
+  does (op.Assign o) inside operand stands room = assign_does g calls units acts now s related total p keeps o operand room
   does (op.Set o) inside operand stands room = set_does g calls units acts now s related total p keeps o operand room
   does (op.Reset o) inside operand stands room = reset_does g calls units acts now s related total p keeps o operand room
   does op.SetRlo inside operand stands room = set_rlo_does g calls units acts now s related total p keeps
@@ -55,7 +55,7 @@ module _ (g : List Located) (calls : Calls) (units : ℕ) (acts : List Activatio
   does (op.EdgeUp o) inside operand stands room = up_does g calls units acts now s related total p keeps o operand room
   does (op.EdgeDown o) inside operand stands room = down_does g calls units acts now s related total p keeps o operand room
   does (op.Load a) inside operand stands room = load_does g calls units acts now s related total p keeps a operand room
-  does (op.Transfer o w) inside operand stands room = transfer_does g calls units acts now s related total p keeps o w operand
+  does (op.Transfer o w) inside operand stands room = transfer_does g calls units acts now s related total p keeps o w operand room
   does op.LoadStw inside operand stands room = status_load_does g calls units acts now s related total p keeps room
   does op.TransferStw inside operand stands room = status_store_does g calls units acts now s related total p keeps room
   does op.LoadDbNo inside operand stands room = db_number_load_does g calls units acts now s related total p keeps room
@@ -74,6 +74,10 @@ module _ (g : List Located) (calls : Calls) (units : ℕ) (acts : List Activatio
   does op.Tak inside operand stands room = exchange_does g calls units acts now s related total p keeps room
   does op.Push inside operand stands room = push_does g calls units acts now s related total p keeps room
   does op.Pop inside operand stands room = pop_does g calls units acts now s related total p keeps room
+  does (op.LoadAr a from) inside operand stands room = pointer_load_does g calls units acts now s related total p keeps a from operand room
+  does (op.StoreAr a to) inside operand stands room = pointer_store_does g calls units acts now s related total p keeps a to operand room
+  does op.ExchangeAr inside operand stands room = pointer_exchange_does g calls units acts now s related total p keeps room
+  does (op.AddAr a amount) inside operand stands room = pointer_move_does g calls units acts now s related total p keeps a amount room
   does (op.OpenDb d) inside operand stands room = open_db_does g calls units acts now s related total p keeps d operand room
   does (op.OpenDi d) inside operand stands room = open_di_does g calls units acts now s related total p keeps d operand room
   does op.ExchangeDb inside operand stands room = block_exchange_does g calls units acts now s related total p keeps room

@@ -30,7 +30,7 @@ use Rattle.instruction_lowering.specs.Temporaries.{types_in}
 use Rattle.instruction_lowering.specs.inner.Lowering.{head_for, lowered, node_of, temporaries, unit_of, used_behind}
 use Rattle.instruction_lowering.specs.inner.Templates.{first_spot}
 use Rattle.row_templates.proofs.Alike.{AreAlike, AreInRange, IsKept, Related}
-use Rattle.instruction_lowering.proofs.Assignments.{are_assignments}
+use Rattle.instruction_lowering.proofs.Assignments.{are_writes}
 use Rattle.instruction_lowering.proofs.ReadRows.{of_body}
 use Rattle.instruction_lowering.proofs.Bounds.{Begun, Side, back, begun_back, begun_forth, forth}
 use Rattle.instruction_lowering.proofs.Names.{IsAt, IsNumbered, block_at, block_of, found_each, found_numbered, found_of, found_size, meant, none_of, not_meant, position_of}
@@ -51,7 +51,7 @@ head_is b =
 units_of : (blocks : List Block) → AreUnitsOf blocks (map unit_of blocks)
 units_of [] = tt
 units_of (b ∷ bs) =
-    (record { head = head_is b; node = node_of b.body; nodes = refl; exit = refl; only_end = refl; steps = are_assignments b.body first_spot; reads = of_body (IsRead b.body) b.body first_spot (λ r read. read) tt; few = few_steps b.body first_spot; small = few_nodes b.body first_spot }, units_of bs)
+    (record { head = head_is b; node = node_of b.body; nodes = refl; exit = refl; only_end = refl; steps = are_writes b.body first_spot; reads = of_body (IsRead b.body) b.body first_spot (λ r read. read) tt; few = few_steps b.body first_spot; small = few_nodes b.body first_spot }, units_of bs)
 
 -- The block that is called
 

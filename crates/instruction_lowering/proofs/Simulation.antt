@@ -96,9 +96,16 @@ pub used_behind_one : (o : Op) (q : Spot) → (behind o q).used ≡ q.used + len
 used_behind_one (op.Bracket c) q = refl
 used_behind_one op.Close q = omega arith
 used_behind_one (op.Check c b) q = refl
+used_behind_one (op.Assign o) q = refl
 used_behind_one (op.Set o) q = refl
 used_behind_one (op.Reset o) q = refl
 used_behind_one (op.Load a) q = refl
+used_behind_one (op.Transfer o w) q = refl
+used_behind_one (op.LoadAr a from) q = refl
+used_behind_one (op.StoreAr a to) q = refl
+used_behind_one op.ExchangeAr q = refl
+used_behind_one (op.OpenDb d) q = refl
+used_behind_one (op.OpenDi d) q = refl
 used_behind_one op.ExchangeDb q = refl
 used_behind_one (op.EdgeUp o) q = refl
 used_behind_one (op.EdgeDown o) q = refl

@@ -12,12 +12,13 @@ use Rattle.stl_tree.specs.declared.program.Instr.{Instr}
 use Rattle.stl_tree.specs.declared.program.Op.{Op}
 use Rattle.stl_tree.specs.declared.program.Op.TheVariants as op
 use Rattle.stl_tree.specs.declared.program.Operand.{Operand}
-use Rattle.row_templates.specs.Builders.{bit_of, read_of}
-use Rattle.row_templates.specs.Fetching.{fetch_of, fetched_of, opened_of, types_fetched}
-use Rattle.row_templates.proofs.FetchBounds.{fetch_length, opened_length}
+use Rattle.row_templates.specs.Builders.{read_of}
+use Rattle.row_templates.specs.Fetching.{fetch_of, fetched_of, reach_of, types_fetched}
+use Rattle.row_templates.proofs.FetchBounds.{fetch_length, reach_length}
 use Rattle.instruction_lowering.specs.declared.statements.OpenBracket.{OpenBracket}
 use Rattle.instruction_lowering.specs.declared.statements.Spot.{Spot}
 use Rattle.accumulator_templates.proofs.CountRows.{add_dword_few, add_word_few, block_open_few, dec_few, inc_few, load_few, logic_few, transfer_few}
+use Rattle.pointer_templates.proofs.CountRows.{pointer_load_few, pointer_move_few, pointer_store_few}
 use Rattle.shift_templates.proofs.ShiftSizes.{shift_few}
 use Rattle.arithmetic_templates.proofs.FewReads.{calculated_length, compared_length, negated_length}
 use Rattle.digit_templates.proofs.PlainDigits.{btd_statements, bti_statements, dtb_statements, itb_statements}
@@ -57,20 +58,20 @@ of_unary unary.Negi used = negated_length used width.Word
 of_unary unary.Negd used = negated_length used width.Dword
 of_unary u used = omega arith
 
-of_before : (used : ℕ) (b : BitArg) → length (before_check used b) ≤ 2
+of_before : (used : ℕ) (b : BitArg) → length (before_check used b) ≤ 3
 of_before used (arg.At o) = fetch_length used o width.Bit
 of_before used (arg.Flag t) = omega arith
 
 of_stored : (used : ℕ) (o : Operand) (value : Expr → Expr) → length (stored_of used o value) ≤ 11
 of_stored used o value =
     let few = fetch_length used o width.Bit in
-    omega (arith, length-append (fetch_of used o width.Bit) (store_of (bit_of o) (value (fetched_of used o width.Bit))))
+    omega (arith, length-append (fetch_of used o width.Bit) (store_of used o (value (fetched_of used o width.Bit))))
 
 of_edge : (used : ℕ) (o : Operand) (value : Expr → Expr) → length (edge_at used o value) ≤ 11
 of_edge used o value =
     let few = fetch_length used o width.Bit in
     let later : ℕ = used + length (types_fetched o width.Bit) in
-    omega (arith, length-append (fetch_of used o width.Bit) (edge_of later (bit_of o) (value (fetched_of used o width.Bit))))
+    omega (arith, length-append (fetch_of used o width.Bit) (edge_of used o later (value (fetched_of used o width.Bit))))
 
 of_instruction : (o : Op) (q : Spot) → length (statements_of q o) ≤ 11
 of_instruction (op.Check c b) q =
@@ -79,14 +80,14 @@ of_instruction (op.Check c b) q =
     omega (arith, length-append (before_check q.used b) (check_of c (checked_of q.used b)))
 of_instruction op.Close q = of_brackets q.brackets
 of_instruction (op.Assign o) q =
-    let few = opened_length o in
-    omega (arith, length-append (opened_of o) (store_of (bit_of o) (read_of reg.Rlo)))
+    let few = reach_length q.used o in
+    omega (arith, length-append (reach_of q.used o) (store_of q.used o (read_of reg.Rlo)))
 of_instruction (op.Set o) q = of_stored q.used o set_value
 of_instruction (op.Reset o) q = of_stored q.used o reset_value
 of_instruction (op.EdgeUp o) q = of_edge q.used o rising
 of_instruction (op.EdgeDown o) q = of_edge q.used o falling
 of_instruction (op.Load a) q = (load_few q.used a).statements
-of_instruction (op.Transfer o w) q = (transfer_few o w).statements
+of_instruction (op.Transfer o w) q = (transfer_few q.used o w).statements
 of_instruction (op.Arith a) q = calculated_length q.used a
 of_instruction (op.AddWord n) q = (add_word_few n).statements
 of_instruction (op.AddDword n) q = (add_dword_few n).statements
@@ -96,8 +97,11 @@ of_instruction (op.Compare t w) q = compared_length q.used t w
 of_instruction (op.Shift i by) q = (shift_few q.used i by).0
 of_instruction (op.Logic l c) q = (logic_few q.used l c).statements
 of_instruction (op.Unary u) q = of_unary u q.used
-of_instruction (op.OpenDb d) q = (block_open_few reg.DbNo d).statements
-of_instruction (op.OpenDi d) q = (block_open_few reg.DiNo d).statements
+of_instruction (op.LoadAr a from) q = (pointer_load_few q.used a from).statements
+of_instruction (op.StoreAr a to) q = (pointer_store_few q.used a to).statements
+of_instruction (op.AddAr a amount) q = (pointer_move_few a amount).statements
+of_instruction (op.OpenDb d) q = (block_open_few q.used reg.DbNo d).statements
+of_instruction (op.OpenDi d) q = (block_open_few q.used reg.DiNo d).statements
 of_instruction o q = omega arith
 
 -- each becomes at most eleven

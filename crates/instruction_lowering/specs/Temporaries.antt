@@ -1,13 +1,14 @@
 -- The temporaries of a unit: which types those of an instruction have, and what they are called.
 use Rattle.std.specs.Prelude.{◌≡◌, ℕ, suc, Bool, true, false, codes, decimal, if◌then◌else◌, List, [], ◌∷◌, ◌++◌}
 use Rattle.accumulator_templates.specs.Logic.{types_of_logic}
-use Rattle.accumulator_templates.specs.DataBlocks.{types_of_block_exchange}
+use Rattle.accumulator_templates.specs.DataBlocks.{types_of_block_exchange, types_of_block_open}
 use Rattle.accumulator_templates.specs.Moves.{types_of_exchange, types_of_load}
 use Rattle.arithmetic_templates.specs.Calculations.{types_of_calculated, types_of_negated}
 use Rattle.arithmetic_templates.specs.Comparisons.{types_of_compared}
 use Rattle.digit_templates.specs.FromDigits.{types_of_bti, types_of_btd}
 use Rattle.digit_templates.specs.ToDigits.{types_of_itb, types_of_dtb}
-use Rattle.row_templates.specs.Fetching.{types_fetched}
+use Rattle.pointer_templates.specs.Pointers.{types_of_pointer_exchange, types_of_pointer_load, types_of_pointer_store}
+use Rattle.row_templates.specs.Fetching.{types_fetched, types_reached}
 use Rattle.s7_base.specs.declared.word.Width.TheVariants as width
 use Rattle.shift_templates.specs.ShiftTemplates.{types_of_shift, types_through_cc1}
 use Rattle.st_tree.specs.declared.expr.StType.{StType}
@@ -45,13 +46,20 @@ types_checked (arg.Flag t) = []
 abbrev pub types_of_edge : Operand → List StType
 types_of_edge o = types_fetched o width.Bit ++ type.Bool ∷ []
 
--- the types of the temporaries of an instruction: an opened bracket keeps RLO, OR and NFC, and an edge the RLO; what
--- may fault, and what is used twice in an accumulator's row, is one
+-- the types of the temporaries of an instruction: an opened bracket keeps RLO, OR and NFC, and an edge the RLO; a
+-- pointer, what may fault, and what is used twice in an accumulator's row, is one
 abbrev pub types_of : Op → List StType
 types_of (op.Check c b) = types_checked b
+types_of (op.Assign o) = types_reached o
 types_of (op.Set o) = types_fetched o width.Bit
 types_of (op.Reset o) = types_fetched o width.Bit
 types_of (op.Load a) = types_of_load a
+types_of (op.Transfer o w) = types_reached o
+types_of (op.LoadAr a from) = types_of_pointer_load from
+types_of (op.StoreAr a to) = types_of_pointer_store to
+types_of op.ExchangeAr = types_of_pointer_exchange
+types_of (op.OpenDb d) = types_of_block_open d
+types_of (op.OpenDi d) = types_of_block_open d
 types_of op.ExchangeDb = types_of_block_exchange
 types_of (op.Bracket c) = type.Bool ∷ type.Bool ∷ type.Bool ∷ []
 types_of (op.EdgeUp o) = types_of_edge o

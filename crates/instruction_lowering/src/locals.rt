@@ -4,12 +4,13 @@ ghost use Rattle.instruction_lowering.specs.Temporaries.{ends_block, types_check
 ghost use Rattle.instruction_lowering.specs.inner.Lowering.{temporaries, temporary};
 
 use accumulator_templates::{
-    types_of_block_exchange, types_of_exchange, types_of_load, types_of_logic,
+    types_of_block_exchange, types_of_block_open, types_of_exchange, types_of_load, types_of_logic,
 };
 use arithmetic_templates::{types_of_calculated, types_of_compared, types_of_negated};
 use digit_templates::{types_of_btd, types_of_bti, types_of_dtb, types_of_itb};
 use itoa::Buffer;
-use row_templates::{may_fault, types_fetched};
+use pointer_templates::{types_of_pointer_exchange, types_of_pointer_load, types_of_pointer_store};
+use row_templates::{may_fault, types_fetched, types_reached};
 use s7_base::{List, NoMemory, Width};
 use shift_templates::{types_of_shift, types_through_cc1};
 use st_tree::{Local, StType};
@@ -58,8 +59,13 @@ pub fn types_of(op: &Op) -> &'static [StType]
 {
     match op {
         Op::Check(_, arg) => types_checked(arg),
+        Op::Assign(operand) | Op::Transfer(operand, _) => types_reached(operand),
         Op::Set(operand) | Op::Reset(operand) => types_fetched(operand, Width::Bit),
         Op::Load(argument) => types_of_load(argument),
+        Op::LoadAr(_, from) => types_of_pointer_load(*from),
+        Op::StoreAr(_, to) => types_of_pointer_store(*to),
+        Op::ExchangeAr => types_of_pointer_exchange(),
+        Op::OpenDb(block) | Op::OpenDi(block) => types_of_block_open(*block),
         Op::ExchangeDb => types_of_block_exchange(),
         Op::Bracket(_) => &[StType::Bool, StType::Bool, StType::Bool],
         Op::EdgeUp(operand) | Op::EdgeDown(operand) => types_of_edge(operand),
@@ -88,10 +94,18 @@ fn types_checked(arg: &BitArg) -> &'static [StType]
 fn types_of_edge(operand: &Operand) -> &'static [StType]
     ensures { result.now ≡ types_of_edge operand.now }
 {
-    if may_fault(operand) {
-        &[StType::Bool, StType::Bool]
-    } else {
-        &[StType::Bool]
+    match *operand {
+        Operand::ByMemory(_, _, _) => &[StType::Dword, StType::Dword, StType::Bool, StType::Bool],
+        Operand::ByRegister(_, _, _) | Operand::Crossing(_, _) => {
+            &[StType::Dword, StType::Bool, StType::Bool]
+        }
+        _ => {
+            if may_fault(operand) {
+                &[StType::Bool, StType::Bool]
+            } else {
+                &[StType::Bool]
+            }
+        }
     }
 }
 

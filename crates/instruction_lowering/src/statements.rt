@@ -1,11 +1,11 @@
 //! The statements of an instruction.
 //!
-//! Each is a handful of assignments, so a body without jumps is one node. Of the status word all bits but STA have
+//! Each is a handful of assignments and area writes, so a body without jumps is one node. Of the status word all bits but STA have
 //! variables.
 ghost use Rattle.std.specs.Prelude.{◌≡◌, ◌<◌, ◌+◌, ◌^◌, ◌++◌, length, IfOk, OnOk};
-ghost use Rattle.instruction_lowering.specs.inner.Templates.{IsOnAccumulators, and_joined, answer_of, before_check, behind, behind_check, behind_close, chain_at, check_of, checked_of, close_of, edge_at, edge_of, falling, first_spot, more, next_rlo, open_of, reset_value, rising, rlo_before_and, rlo_before_or, rlo_set, running_chain, set_value, spot_at, statements_of, store_of, stored_of, unary_of, with_bracket};
-ghost use Rattle.row_templates.specs.Builders.{and_of, bit_of, cleared, literal_of, not_of, or_of, read_of, set_of, xor_of};
-ghost use Rattle.row_templates.specs.Fetching.{opened_of, types_fetched};
+ghost use Rattle.instruction_lowering.specs.inner.Templates.{IsOnAccumulators, and_joined, answer_of, assigned_of, before_check, behind, behind_check, behind_close, chain_at, check_of, checked_of, close_of, edge_at, edge_of, falling, first_spot, more, next_rlo, open_of, reset_value, rising, rlo_before_and, rlo_before_or, rlo_set, running_chain, set_value, spot_at, statements_of, store_of, stored_of, unary_of, with_bracket};
+ghost use Rattle.row_templates.specs.Builders.{and_of, cleared, literal_of, not_of, or_of, read_of, set_of, xor_of};
+ghost use Rattle.row_templates.specs.Fetching.{types_fetched};
 
 use crate::locals::types_of;
 use accumulator_templates::{
@@ -15,9 +15,12 @@ use accumulator_templates::{
 };
 use arithmetic_templates::{push_calculated, push_compared, push_negated};
 use digit_templates::{push_btd, push_bti, push_dtb, push_itb};
+use pointer_templates::{
+    push_pointer_exchange, push_pointer_load, push_pointer_move, push_pointer_store,
+};
 use row_templates::{
-    and, bit, fetched, literal, local, may_fault, not, or, push_cleared, push_fetch, push_opened,
-    read, set, set_local, xor,
+    and, fetched, literal, local, may_fault, not, or, push_cleared, push_fetch, push_reach, read,
+    set, set_local, writing, xor,
 };
 use s7_base::{Check, List, NoMemory, Reg, Width};
 use shift_templates::{push_rlda, push_rrda, push_shift};
@@ -107,7 +110,7 @@ pub fn push_statements(
         Op::Close => push_closed(alloc, steps, spot),
         Op::Check(check, arg) => push_checked(alloc, steps, first, *check, arg),
         Op::OrAlone => push_or(alloc, steps),
-        Op::Assign(operand) => push_assigned(steps, operand),
+        Op::Assign(operand) => push_assigned(alloc, steps, first, operand),
         Op::Set(operand) => push_set(alloc, steps, first, operand),
         Op::Reset(operand) => push_reset(alloc, steps, first, operand),
         Op::SetRlo => push_rlo(steps, true),
@@ -121,7 +124,7 @@ pub fn push_statements(
     }
 }
 
-/// An instruction on the accumulators or on the numbers of data blocks.
+/// An instruction on the accumulators, the address registers or the numbers of data blocks.
 fn push_on_accumulators(
     alloc: Global,
     steps: &mut List<Stmt>,
@@ -134,7 +137,7 @@ fn push_on_accumulators(
 {
     match op {
         Op::Load(argument) => push_load(alloc, steps, first, argument),
-        Op::Transfer(operand, width) => push_transfer(alloc, steps, operand, *width),
+        Op::Transfer(operand, width) => push_transfer(alloc, steps, first, operand, *width),
         Op::LoadStw => push_status_load(alloc, steps),
         Op::TransferStw => push_status_store(alloc, steps),
         Op::LoadDbNo => push_number_load(alloc, steps, Reg::DbNo),
@@ -153,8 +156,12 @@ fn push_on_accumulators(
         Op::Tak => push_exchange(steps, first),
         Op::Push => push_push(steps),
         Op::Pop => push_pop(steps),
-        Op::OpenDb(block) => push_block_open(steps, Reg::DbNo, *block),
-        Op::OpenDi(block) => push_block_open(steps, Reg::DiNo, *block),
+        Op::LoadAr(register, from) => push_pointer_load(alloc, steps, first, *register, *from),
+        Op::StoreAr(register, to) => push_pointer_store(alloc, steps, first, *register, *to),
+        Op::ExchangeAr => push_pointer_exchange(steps, first),
+        Op::AddAr(register, amount) => push_pointer_move(alloc, steps, *register, *amount),
+        Op::OpenDb(block) => push_block_open(alloc, steps, first, Reg::DbNo, *block),
+        Op::OpenDi(block) => push_block_open(alloc, steps, first, Reg::DiNo, *block),
         Op::ExchangeDb => push_block_exchange(steps, first),
         _ => unreachable!(),
     }
@@ -187,6 +194,7 @@ fn push_unary(
 
 /// What a check looks at.
 fn checked(alloc: Global, first: u32, arg: &BitArg) -> Result<Expr, NoMemory>
+    requires { first + 8 < 2 ^ 32 }
     ensures { IfOk result (λ value. value ≡ checked_of first arg.now) }
 {
     match arg {
@@ -225,10 +233,11 @@ fn push_checked(
     check: Check,
     arg: &BitArg,
 ) -> Result<(), NoMemory>
+    requires { first + 8 < 2 ^ 32 }
     ensures { OnOk result (steps.new ≡ steps.old ++ (before_check first arg.now ++ check_of check (checked_of first arg.now))) }
 {
     if let BitArg::At(operand) = arg {
-        push_fetch(steps, first, operand, Width::Bit)?;
+        push_fetch(alloc, steps, first, operand, Width::Bit)?;
     }
     let value = next_rlo(alloc, running_chain(), check, checked(alloc, first, arg)?)?;
     steps.push(set(Reg::Rlo, value))?;
@@ -253,20 +262,33 @@ fn push_or(alloc: Global, steps: &mut List<Stmt>) -> Result<(), NoMemory>
     steps.push(set(Reg::Nfc, literal(false)))
 }
 
-/// A bit takes a value, and the chain ends.
-fn push_store(steps: &mut List<Stmt>, bit: Var, value: Expr) -> Result<(), NoMemory>
-    ensures { OnOk result (steps.new ≡ steps.old ++ store_of bit value) }
+/// A bit that was reached takes a value, and the chain ends.
+fn push_store(
+    alloc: Global,
+    steps: &mut List<Stmt>,
+    first: u32,
+    operand: &Operand,
+    value: Expr,
+) -> Result<(), NoMemory>
+    requires { first + 8 < 2 ^ 32 }
+    ensures { OnOk result (steps.new ≡ steps.old ++ store_of first operand.now value) }
 {
-    steps.push(Stmt::Assign(bit, value))?;
+    steps.push(writing(alloc, first, operand, Width::Bit, value)?)?;
     push_cleared(steps, false)
 }
 
 /// `=` of a bit.
-fn push_assigned(steps: &mut List<Stmt>, operand: &Operand) -> Result<(), NoMemory>
-    ensures { OnOk result (steps.new ≡ steps.old ++ (opened_of operand.now ++ store_of (bit_of operand.now) (read_of Reg.Rlo))) }
+fn push_assigned(
+    alloc: Global,
+    steps: &mut List<Stmt>,
+    first: u32,
+    operand: &Operand,
+) -> Result<(), NoMemory>
+    requires { first + 8 < 2 ^ 32 }
+    ensures { OnOk result (steps.new ≡ steps.old ++ assigned_of first operand.now) }
 {
-    push_opened(steps, operand)?;
-    push_store(steps, bit(operand), read(Reg::Rlo))
+    push_reach(alloc, steps, first, operand)?;
+    push_store(alloc, steps, first, operand, read(Reg::Rlo))
 }
 
 /// S of a bit.
@@ -276,11 +298,12 @@ fn push_set(
     first: u32,
     operand: &Operand,
 ) -> Result<(), NoMemory>
+    requires { first + 8 < 2 ^ 32 }
     ensures { OnOk result (steps.new ≡ steps.old ++ stored_of first operand.now set_value) }
 {
-    push_fetch(steps, first, operand, Width::Bit)?;
+    push_fetch(alloc, steps, first, operand, Width::Bit)?;
     let value = or(alloc, fetched(first, operand, Width::Bit), read(Reg::Rlo))?;
-    push_store(steps, bit(operand), value)
+    push_store(alloc, steps, first, operand, value)
 }
 
 /// R of a bit.
@@ -290,12 +313,13 @@ fn push_reset(
     first: u32,
     operand: &Operand,
 ) -> Result<(), NoMemory>
+    requires { first + 8 < 2 ^ 32 }
     ensures { OnOk result (steps.new ≡ steps.old ++ stored_of first operand.now reset_value) }
 {
-    push_fetch(steps, first, operand, Width::Bit)?;
+    push_fetch(alloc, steps, first, operand, Width::Bit)?;
     let low = not(alloc, read(Reg::Rlo))?;
     let value = and(alloc, fetched(first, operand, Width::Bit), low)?;
-    push_store(steps, bit(operand), value)
+    push_store(alloc, steps, first, operand, value)
 }
 
 fn push_rlo(steps: &mut List<Stmt>, rlo: bool) -> Result<(), NoMemory>
@@ -315,10 +339,10 @@ fn push_rising(
     requires { first + 8 < 2 ^ 32 }
     ensures { OnOk result (steps.new ≡ steps.old ++ edge_at first operand.now rising) }
 {
-    push_fetch(steps, first, operand, Width::Bit)?;
+    push_fetch(alloc, steps, first, operand, Width::Bit)?;
     let old = not(alloc, fetched(first, operand, Width::Bit))?;
     let value = and(alloc, read(Reg::Rlo), old)?;
-    push_edge(steps, behind_fetched(first, operand), bit(operand), value)
+    push_edge(alloc, steps, first, operand, value)
 }
 
 /// FN of an edge bit.
@@ -331,26 +355,44 @@ fn push_falling(
     requires { first + 8 < 2 ^ 32 }
     ensures { OnOk result (steps.new ≡ steps.old ++ edge_at first operand.now falling) }
 {
-    push_fetch(steps, first, operand, Width::Bit)?;
+    push_fetch(alloc, steps, first, operand, Width::Bit)?;
     let low = not(alloc, read(Reg::Rlo))?;
     let value = and(alloc, low, fetched(first, operand, Width::Bit))?;
-    push_edge(steps, behind_fetched(first, operand), bit(operand), value)
+    push_edge(alloc, steps, first, operand, value)
 }
 
-/// The local behind that of a bit that is fetched.
+/// The local behind those of a bit that is fetched.
 fn behind_fetched(first: u32, operand: &Operand) -> u32
     requires { first + 8 < 2 ^ 32 }
     ensures { result ≡ first + length (types_fetched operand.now Width.Bit) }
 {
-    if may_fault(operand) { first + 1 } else { first }
+    match *operand {
+        Operand::ByMemory(_, _, _) => first + 3,
+        Operand::ByRegister(_, _, _) | Operand::Crossing(_, _) => first + 2,
+        _ => {
+            if may_fault(operand) {
+                first + 1
+            } else {
+                first
+            }
+        }
+    }
 }
 
 /// The edge bit takes the RLO; a local keeps what the RLO becomes until then.
-fn push_edge(steps: &mut List<Stmt>, index: u32, bit: Var, value: Expr) -> Result<(), NoMemory>
-    ensures { OnOk result (steps.new ≡ steps.old ++ edge_of index bit value) }
+fn push_edge(
+    alloc: Global,
+    steps: &mut List<Stmt>,
+    first: u32,
+    operand: &Operand,
+    value: Expr,
+) -> Result<(), NoMemory>
+    requires { first + 8 < 2 ^ 32 }
+    ensures { OnOk result (steps.new ≡ steps.old ++ edge_of first operand.now (first + length (types_fetched operand.now Width.Bit)) value) }
 {
+    let index = behind_fetched(first, operand);
     steps.push(set_local(index, value))?;
-    steps.push(Stmt::Assign(bit, read(Reg::Rlo)))?;
+    steps.push(writing(alloc, first, operand, Width::Bit, read(Reg::Rlo))?)?;
     steps.push(set(Reg::Rlo, local(index)))?;
     push_cleared(steps, true)
 }

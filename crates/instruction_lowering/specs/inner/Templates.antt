@@ -3,13 +3,14 @@
 use Rattle.std.specs.Prelude.{ℕ, ◌+◌, Bool, true, false, List, [], ◌∷◌, ◌++◌, length}
 use Rattle.accumulator_templates.specs.Conversions.{cad_of, caw_of, invd_of, invi_of, itd_of}
 use Rattle.accumulator_templates.specs.Logic.{logic_of, types_of_logic}
-use Rattle.accumulator_templates.specs.DataBlocks.{block_exchange_of, block_open_of, number_load_of, types_of_block_exchange}
+use Rattle.accumulator_templates.specs.DataBlocks.{block_exchange_of, block_open_of, number_load_of, types_of_block_exchange, types_of_block_open}
 use Rattle.accumulator_templates.specs.Moves.{exchange_of, load_of, pop_of, push_of, status_load_of, status_store_of, transfer_of, types_of_exchange, types_of_load}
 use Rattle.accumulator_templates.specs.Sums.{add_dword_of, add_word_of, dec_of, inc_of}
 use Rattle.arithmetic_templates.specs.Calculations.{calculated_of, negated_of, types_of_calculated}
 use Rattle.arithmetic_templates.specs.Comparisons.{compared_of, types_of_compared}
 use Rattle.digit_templates.specs.FromDigits.{bti_of, btd_of}
 use Rattle.digit_templates.specs.ToDigits.{itb_of, dtb_of}
+use Rattle.pointer_templates.specs.Pointers.{pointer_exchange_of, pointer_load_of, pointer_move_of, pointer_store_of, types_of_pointer_exchange, types_of_pointer_load, types_of_pointer_store}
 use Rattle.shift_templates.specs.ShiftTemplates.{rlda_template, rrda_template, shift_template, types_of_shift, types_through_cc1}
 use Rattle.instruction_lowering.specs.Temporaries.{types_checked, types_of_edge, types_of_unary}
 use Rattle.instruction_lowering.specs.declared.statements.Chain.{Chain}
@@ -36,8 +37,8 @@ use Rattle.st_tree.specs.declared.expr.Expr.{Expr}
 use Rattle.st_tree.specs.declared.expr.Expr.TheVariants as expr
 use Rattle.st_tree.specs.declared.program.Stmt.{Stmt}
 use Rattle.st_tree.specs.declared.program.Stmt.TheVariants as stmt
-use Rattle.row_templates.specs.Fetching.{fetch_of, fetched_of, opened_of, types_fetched}
-use Rattle.row_templates.specs.Builders.{and_of, bit_of, cleared, literal_of, not_of, or_of, read_of, set_of, xor_of}
+use Rattle.row_templates.specs.Fetching.{fetch_of, fetched_of, reach_of, types_fetched, types_reached, writing_of}
+use Rattle.row_templates.specs.Builders.{and_of, cleared, literal_of, not_of, or_of, read_of, set_of, xor_of}
 
 -- Expressions
 
@@ -122,25 +123,29 @@ behind_check check.Xn = cleared true
 abbrev pub check_of : Check → Expr → List Stmt
 check_of c b = set_of reg.Rlo (next_rlo running_chain c b) ∷ behind_check c
 
--- a bit takes a value, and the chain ends
-abbrev pub store_of : Var → Expr → List Stmt
-store_of v e = stmt.Assign v e ∷ cleared false
+-- a bit that was reached takes a value, and the chain ends
+abbrev pub store_of : ℕ → Operand → Expr → List Stmt
+store_of first o e = writing_of first o width.Bit e ∷ cleared false
+
+-- = of a bit
+abbrev pub assigned_of : ℕ → Operand → List Stmt
+assigned_of first o = reach_of first o ++ store_of first o (read_of reg.Rlo)
 
 -- S or R of a bit, which is read before it takes what the value makes of it
 abbrev pub stored_of : ℕ → Operand → (Expr → Expr) → List Stmt
 stored_of first o value =
-    fetch_of first o width.Bit ++ store_of (bit_of o) (value (fetched_of first o width.Bit))
+    fetch_of first o width.Bit ++ store_of first o (value (fetched_of first o width.Bit))
 
 -- FP or FN of an edge bit: a local keeps what the RLO becomes until the bit has the old RLO
-abbrev pub edge_of : ℕ → Var → Expr → List Stmt
-edge_of i v e =
-    stmt.Assign (var.Local i) e ∷ stmt.Assign v (read_of reg.Rlo) ∷ set_of reg.Rlo (expr.Read (var.Local i)) ∷ cleared true
+abbrev pub edge_of : ℕ → Operand → ℕ → Expr → List Stmt
+edge_of first o i e =
+    stmt.Assign (var.Local i) e ∷ writing_of first o width.Bit (read_of reg.Rlo) ∷ set_of reg.Rlo (expr.Read (var.Local i)) ∷ cleared true
 
 -- FP or FN of an edge bit, which is read before
 abbrev pub edge_at : ℕ → Operand → (Expr → Expr) → List Stmt
 edge_at first o value =
     fetch_of first o width.Bit
-    ++ edge_of (first + length (types_fetched o width.Bit)) (bit_of o) (value (fetched_of first o width.Bit))
+    ++ edge_of first o (first + length (types_fetched o width.Bit)) (value (fetched_of first o width.Bit))
 
 -- the RLO is set or cleared, and the chain ends
 abbrev pub rlo_set : Bool → List Stmt
@@ -203,11 +208,18 @@ abbrev pub behind : Op → Spot → Spot
 behind (op.Bracket c) p = record { used = p.used + 3; brackets = record { check = c; kept = chain_at p.used } ∷ p.brackets }
 behind op.Close p = record { used = p.used; brackets = outer_of p.brackets }
 behind (op.Check c b) p = more (types_checked b) p
+behind (op.Assign o) p = more (types_reached o) p
 behind (op.Set o) p = more (types_fetched o width.Bit) p
 behind (op.Reset o) p = more (types_fetched o width.Bit) p
 behind (op.EdgeUp o) p = more (types_of_edge o) p
 behind (op.EdgeDown o) p = more (types_of_edge o) p
 behind (op.Load a) p = more (types_of_load a) p
+behind (op.Transfer o w) p = more (types_reached o) p
+behind (op.LoadAr a from) p = more (types_of_pointer_load from) p
+behind (op.StoreAr a to) p = more (types_of_pointer_store to) p
+behind op.ExchangeAr p = more types_of_pointer_exchange p
+behind (op.OpenDb d) p = more (types_of_block_open d) p
+behind (op.OpenDi d) p = more (types_of_block_open d) p
 behind op.ExchangeDb p = more types_of_block_exchange p
 behind (op.Arith a) p = more (types_of_calculated a) p
 behind (op.Compare t w) p = more (types_of_compared w) p
@@ -242,7 +254,7 @@ statements_of p op.OrAlone =
     set_of reg.Orb (and_of (read_of reg.Rlo) (read_of reg.Nfc)) ∷ set_of reg.Nfc (literal_of false) ∷ []
 statements_of p (op.Bracket c) = open_of p.used
 statements_of p op.Close = close_of p.brackets
-statements_of p (op.Assign o) = opened_of o ++ store_of (bit_of o) (read_of reg.Rlo)
+statements_of p (op.Assign o) = assigned_of p.used o
 statements_of p (op.Set o) = stored_of p.used o set_value
 statements_of p (op.Reset o) = stored_of p.used o reset_value
 statements_of p op.SetRlo = rlo_set true
@@ -252,7 +264,7 @@ statements_of p op.Save = set_of reg.Br (read_of reg.Rlo) ∷ []
 statements_of p (op.EdgeUp o) = edge_at p.used o rising
 statements_of p (op.EdgeDown o) = edge_at p.used o falling
 statements_of p (op.Load a) = load_of p.used a
-statements_of p (op.Transfer o w) = transfer_of o w
+statements_of p (op.Transfer o w) = transfer_of p.used o w
 statements_of p op.LoadStw = status_load_of
 statements_of p op.TransferStw = status_store_of
 statements_of p op.LoadDbNo = number_load_of reg.DbNo
@@ -271,13 +283,17 @@ statements_of p (op.Unary u) = unary_of p.used u
 statements_of p op.Tak = exchange_of p.used
 statements_of p op.Push = push_of
 statements_of p op.Pop = pop_of
-statements_of p (op.OpenDb d) = block_open_of reg.DbNo d
-statements_of p (op.OpenDi d) = block_open_of reg.DiNo d
+statements_of p (op.LoadAr a from) = pointer_load_of p.used a from
+statements_of p (op.StoreAr a to) = pointer_store_of p.used a to
+statements_of p op.ExchangeAr = pointer_exchange_of p.used
+statements_of p (op.AddAr a amount) = pointer_move_of a amount
+statements_of p (op.OpenDb d) = block_open_of p.used reg.DbNo d
+statements_of p (op.OpenDi d) = block_open_of p.used reg.DiNo d
 statements_of p op.ExchangeDb = block_exchange_of p.used
 statements_of p op.Nop = []
 statements_of p op.BlockEnd = []
 
--- an instruction on the accumulators or on the numbers of data blocks
+-- an instruction on the accumulators, the address registers or the numbers of data blocks
 abbrev pub IsOnAccumulators : Op → Type 0
 IsOnAccumulators (op.Check c b) = ⊥
 IsOnAccumulators op.OrAlone = ⊥
