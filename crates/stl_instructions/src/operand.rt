@@ -3,7 +3,7 @@ ghost use Rattle.std.specs.Prelude.{◌≡◌, IfOk, ℕ, ◌&&◌, ◌||◌, na
 ghost use Rattle.std.specs.List.{find};
 ghost use Rattle.s7_base.specs.Tokens.{is_same_word};
 ghost use Rattle.memory_areas.specs.Access.{is_unaligned};
-ghost use Rattle.stl_statements.specs.Constants.{addend_at, number_at};
+ghost use Rattle.stl_statements.specs.Constants.{number_at};
 ghost use Rattle.stl_statements.specs.Mnemonics.{goes_on};
 ghost use Rattle.stl_statements.specs.Paths.{named_at};
 ghost use Rattle.stl_statements.specs.Pointers.{indirect_at, offset_at, pointer_at};

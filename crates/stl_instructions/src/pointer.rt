@@ -1,11 +1,10 @@
 //! Reads pointer constants, and operands that are found by a pointer.
 ghost use Rattle.std.specs.Prelude.{◌≡◌, ◌&&◌, ◌==◌, if◌then◌else◌, Some, None, codes};
-ghost use Rattle.std.specs.List.{find};
 ghost use Rattle.memory_areas.specs.Access.{bytes_wide};
 ghost use Rattle.stl_statements.specs.Constants.{begins_glued};
-ghost use Rattle.stl_statements.specs.Places.{place_at, place_words};
-ghost use Rattle.stl_statements.specs.Pointers.{closed, crossing_at, crossing_by, has_word, indirect_at, indirect_by, is_held, is_in_reach, memory_at, offset_at, offset_behind, offset_of, pointer_at, pointer_behind, pointer_to, pointer_with, register_at, register_named, value_of, width_named};
-ghost use Rattle.stl_statements.specs.Readers.{IsWithin, further, read_as};
+ghost use Rattle.stl_statements.specs.Places.{place_at};
+ghost use Rattle.stl_statements.specs.Pointers.{closed, crossing_at, crossing_by, indirect_at, indirect_by, is_held, is_in_reach, memory_at, offset_at, offset_behind, offset_of, pointer_at, pointer_behind, pointer_to, pointer_with, register_at, register_named, value_of, width_named};
+ghost use Rattle.stl_statements.specs.Readers.{IsWithin, read_as};
 ghost use Rattle.stl_statements.specs.Words.{is_joined, is_word};
 ghost use Rattle.stl_tree.specs.Accepted.{may_hold_pointers};
 ghost use Rattle.stl_tree.specs.AddressRegisters.{code_of};

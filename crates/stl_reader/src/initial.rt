@@ -1,17 +1,19 @@
 //! Initial values.
 ghost use Rattle.std.specs.Prelude.{◌≡◌, ◌++◌, IfOk};
-ghost use Rattle.stl_grammar.specs.Initials.{alone, closed_value, count_of, ending_at, group_behind, initial, initial_at, initial_behind, item_of_list, last_value, list_at, once, path_value_at, pointer_at, times, truth, truth_at, value_at, values_at};
+ghost use Rattle.stl_grammar.specs.Initials.{alone, closed_value, count_of, ending_at, group_behind, initial, initial_at, initial_behind, item_of_list, last_value, list_at, once, path_value_at, pointer_of, pointer_value, times, truth, truth_at, value_at, values_at};
 ghost use Rattle.s7_base.specs.declared.word.Width.TheVariants as width;
 ghost use Rattle.stl_statements.specs.Constants.{constant, constant_at};
+ghost use Rattle.stl_statements.specs.Pointers.{pointer_at};
 ghost use Rattle.stl_statements.specs.Readers.{further, or_else, read_as};
 
 use crate::elements::{Next, begins_with_sign, further, next_of, one_more};
-use crate::pointer::pointer_at;
 use s7_base::{Line, List, NoMemory, Token, Width, rest_after};
 use std::alloc::Global;
-use stl_instructions::{constant_at, fitting, is_sign, is_word, is_word_kind, path_at};
+use stl_instructions::{
+    constant_at, fitting, is_sign, is_word, is_word_kind, path_at, pointer_at, pointer_value,
+};
 use stl_statements::{Read, number_of};
-use stl_tree::{Constant, InitialItem, PathStep, RawInitial};
+use stl_tree::{Constant, InitialItem, PathStep, RawInitial, RawPointer};
 
 fn bit(value: u32) -> Constant
     ensures { result ≡ constant width.Bit value }
@@ -46,22 +48,43 @@ fn truth_at(tokens: &[Token]) -> Read<Constant>
     }
 }
 
-fn constant_or_pointer_at(tokens: &[Token]) -> Result<Read<Constant>, NoMemory>
-    ensures { IfOk result (λ read. read ≡ or_else (constant_at tokens.now) (pointer_at tokens.now)) }
+/// A pointer, where its byte and its bit are ones that pointers have.
+fn pointer(written: RawPointer) -> Option<Constant>
+    ensures { result ≡ pointer_value written }
+{
+    Some(Constant {
+        width: Width::Dword,
+        signed: false,
+        binary: false,
+        value: pointer_value(written)?,
+    })
+}
+
+fn pointer_constant_at(tokens: &[Token]) -> Read<Constant>
+    ensures { result ≡ pointer_of (pointer_at tokens.now) }
+{
+    match pointer_at(tokens) {
+        Read::Fits(written, size) => fitting(size, pointer(written)),
+        Read::LeftOut(_) | Read::No => Read::No,
+    }
+}
+
+fn constant_or_pointer_at(tokens: &[Token]) -> Read<Constant>
+    ensures { result ≡ or_else (constant_at tokens.now) (pointer_of (pointer_at tokens.now)) }
 {
     match constant_at(tokens) {
-        Read::No => pointer_at(tokens),
-        read => Ok(read),
+        Read::No => pointer_constant_at(tokens),
+        read => read,
     }
 }
 
 /// What stands where an initial value may stand.
-fn value_at(tokens: &[Token]) -> Result<Read<Constant>, NoMemory>
-    ensures { IfOk result (λ read. read ≡ value_at tokens.now) }
+fn value_at(tokens: &[Token]) -> Read<Constant>
+    ensures { result ≡ value_at tokens.now }
 {
     match truth_at(tokens) {
         Read::No => constant_or_pointer_at(tokens),
-        read => Ok(read),
+        read => read,
     }
 }
 
@@ -73,7 +96,7 @@ fn values_at(alloc: Global, tokens: &[Token]) -> Result<Read<List<Constant>>, No
     let mut size = 0;
     let mut rest = tokens;
     while let [_, ..] = rest {
-        match value_at(rest)? {
+        match value_at(rest) {
             Read::Fits(value, taken) => {
                 values.push(value)?;
                 size = one_more(size, taken)?;
@@ -139,7 +162,7 @@ fn once(alloc: Global, value: Constant) -> Result<InitialItem, NoMemory>
 fn single_at(alloc: Global, tokens: &[Token]) -> Result<Read<InitialItem>, NoMemory>
     ensures { IfOk result (λ read. read ≡ read_as once (value_at tokens.now)) }
 {
-    match value_at(tokens)? {
+    match value_at(tokens) {
         Read::Fits(value, size) => Ok(Read::Fits(once(alloc, value)?, size)),
         Read::LeftOut(kind) => Ok(Read::LeftOut(kind)),
         Read::No => Ok(Read::No),
@@ -199,7 +222,7 @@ fn closed_value(value: Constant, tokens: &[Token]) -> Read<Constant>
 fn last_value(tokens: &[Token]) -> Result<Read<Constant>, NoMemory>
     ensures { IfOk result (λ read. read ≡ last_value tokens.now) }
 {
-    match value_at(tokens)? {
+    match value_at(tokens) {
         Read::Fits(value, size) => further(size, closed_value(value, rest_after(tokens, size))),
         Read::LeftOut(kind) => Ok(Read::LeftOut(kind)),
         Read::No => Ok(Read::No),
