@@ -8,6 +8,7 @@ use Rattle.std.proofs.lemmas.Nat.Bits.{and_high_mask}
 use Rattle.memory_areas.specs.Pointers.{moved}
 use Rattle.pointer_templates.specs.Pointers.{moved_of}
 use Rattle.row_templates.specs.Builders.{read_of}
+use Rattle.row_templates.proofs.Pointers.{dword}
 use Rattle.s7_base.specs.SignedNumbers.{number, pattern}
 use Rattle.st_tree.proofs.Equations.{value_binary, value_convert, value_literal}
 use Rattle.st_tree.specs.State.{State}
@@ -19,11 +20,7 @@ use Rattle.st_tree.specs.declared.state.Value.{Value}
 use Rattle.stl_tree.specs.Reads.{register_of}
 use Rattle.stl_tree.specs.declared.program.Ar.{Ar}
 
--- a pattern as a value
-abbrev pub dword : ℕ → Value
-dword n = record { ty = type.Dword; n = pos n }
-
--- a number as one
+-- a number as a DINT
 abbrev pub dint : ℤ → Value
 dint z = record { ty = type.Dint; n = z }
 

@@ -3,11 +3,12 @@ use Rattle.std.proofs.Common.{◌≡◌, ℕ, ◌^◌, ◌<◌, ◌==◌, pos, B
 use Rattle.std.specs.Prelude.{ℤ}
 use Rattle.std.proofs.lemmas.Bool.Decides.{nat_tests}
 use Rattle.memory_areas.specs.Pointers.{moved}
-use Rattle.pointer_templates.proofs.Amounts.{dint, dword, moved_below, moved_worth, unmoved}
+use Rattle.pointer_templates.proofs.Amounts.{dint, moved_below, moved_worth, unmoved}
 use Rattle.pointer_templates.specs.Pointers.{low_number, moved_of, pointed_of, pointer_exchange_of, pointer_move_of, pointer_taken_of}
 use Rattle.row_templates.specs.Builders.{constant_of, read_of}
 use Rattle.row_templates.proofs.Alike.{AreAlike, AreInRange, IsKept}
 use Rattle.row_templates.proofs.Numbers.{wide_low}
+use Rattle.row_templates.proofs.Pointers.{dword}
 use Rattle.row_templates.proofs.RegisterRows.{IsRow, registers_after}
 use Rattle.row_templates.proofs.Stages.{known, parts, stage}
 use Rattle.s7_base.specs.declared.register.Reg.TheVariants as reg
@@ -30,11 +31,11 @@ no_offset n e = grind (arith, nat_tests)
 module _ (g : List Located) (s : State) (used : ℕ) (r : RegisterValues) (sta : ℤ) (range : AreInRange r) where
   -- An address register takes a pointer
 
-  pub held_below : (a : Ar) → pointer_in a r < 2 ^ 32
+  held_below : (a : Ar) → pointer_in a r < 2 ^ 32
   held_below ar.One = range.ar1
   held_below ar.Two = range.ar2
 
-  pub pointed_range : (a : Ar) (p : ℕ) → p < 2 ^ 32 → AreInRange (with_pointer a p r)
+  pointed_range : (a : Ar) (p : ℕ) → p < 2 ^ 32 → AreInRange (with_pointer a p r)
   pointed_range ar.One p h = record { accu1 = range.accu1; accu2 = range.accu2; ar1 = h; ar2 = range.ar2; db = range.db; di = range.di }
   pointed_range ar.Two p h = record { accu1 = range.accu1; accu2 = range.accu2; ar1 = range.ar1; ar2 = h; db = range.db; di = range.di }
 

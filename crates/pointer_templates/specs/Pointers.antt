@@ -1,22 +1,52 @@
 -- The address registers: what they take, where they go, and what is added to them.
-use Rattle.std.specs.Prelude.{ℕ, ◌==◌, pos, if◌then◌else◌, List, [], ◌∷◌, Option, Some, None}
+use Rattle.std.specs.Prelude.{ℕ, ◌==◌, pos, if◌then◌else◌, List, [], ◌∷◌, ◌++◌, Option, Some, None}
 use Rattle.row_templates.specs.Builders.{and_of, binary_of, constant_of, convert_of, local_of, or_of, read_of, set_local_of, set_of}
+use Rattle.row_templates.specs.Fetching.{fetch_of, fetched_of, reach_of, types_fetched, types_reached, writing_of}
 use Rattle.s7_base.specs.declared.register.Reg.TheVariants as reg
+use Rattle.s7_base.specs.declared.word.Width.TheVariants as width
 use Rattle.st_tree.specs.declared.expr.BinaryOp.TheVariants as binary
 use Rattle.st_tree.specs.declared.expr.Expr.{Expr}
 use Rattle.st_tree.specs.declared.expr.StType.{StType}
 use Rattle.st_tree.specs.declared.expr.StType.TheVariants as type
 use Rattle.st_tree.specs.declared.program.Stmt.{Stmt}
+use Rattle.stl_tree.specs.AddressRegisters.{other_of}
 use Rattle.stl_tree.specs.Reads.{register_of}
 use Rattle.stl_tree.specs.declared.program.Ar.{Ar}
+use Rattle.stl_tree.specs.declared.program.ArLoad.{ArLoad}
+use Rattle.stl_tree.specs.declared.program.ArLoad.TheVariants as load
+use Rattle.stl_tree.specs.declared.program.ArStore.{ArStore}
+use Rattle.stl_tree.specs.declared.program.ArStore.TheVariants as store
 
 -- an address register takes a pointer
 abbrev pub pointed_of : Ar → Expr → List Stmt
 pointed_of a e = set_of (register_of a) e ∷ []
 
+-- LAR1 and LAR2: what stands in memory is fetched, from the local of this number on
+abbrev pub pointer_load_of : ℕ → Ar → ArLoad → List Stmt
+pointer_load_of first a load.Accu1 = pointed_of a (read_of reg.Accu1)
+pointer_load_of first a (load.Constant p) = pointed_of a (constant_of type.Dword (pos p))
+pointer_load_of first a (load.At o) = fetch_of first o width.Dword ++ pointed_of a (fetched_of first o width.Dword)
+pointer_load_of first a load.OtherAr = pointed_of a (read_of (register_of (other_of a)))
+
+-- their locals
+abbrev pub types_of_pointer_load : ArLoad → List StType
+types_of_pointer_load (load.At o) = types_fetched o width.Dword
+types_of_pointer_load other = []
+
 -- ACCU1 takes what an address register holds, and ACCU2 what stood there
 abbrev pub pointer_taken_of : Ar → List Stmt
 pointer_taken_of a = set_of reg.Accu2 (read_of reg.Accu1) ∷ set_of reg.Accu1 (read_of (register_of a)) ∷ []
+
+-- TAR1 and TAR2: the way to an operand has the locals, the first one of this number
+abbrev pub pointer_store_of : ℕ → Ar → ArStore → List Stmt
+pointer_store_of first a store.Accu1 = pointer_taken_of a
+pointer_store_of first a (store.At o) = reach_of first o ++ (writing_of first o width.Dword (read_of (register_of a)) ∷ [])
+pointer_store_of first a store.OtherAr = pointed_of (other_of a) (read_of (register_of a))
+
+-- their locals
+abbrev pub types_of_pointer_store : ArStore → List StType
+types_of_pointer_store (store.At o) = types_reached o
+types_of_pointer_store other = []
 
 -- CAR
 abbrev pub pointer_exchange_of : ℕ → List Stmt

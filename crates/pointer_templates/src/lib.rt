@@ -6,6 +6,9 @@
 //! well typed and low.
 #![tactic(auto)]
 
-pub use pointers::{push_pointer_exchange, push_pointer_move, types_of_pointer_exchange};
+pub use pointers::{
+    push_pointer_exchange, push_pointer_load, push_pointer_move, push_pointer_store,
+    types_of_pointer_exchange, types_of_pointer_load, types_of_pointer_store,
+};
 
 mod pointers;
