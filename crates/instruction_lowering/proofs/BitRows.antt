@@ -166,7 +166,7 @@ module _ (g : List Located) (calls : Calls) (units : ℕ) (acts : List Activatio
       let t : State = record s { memory = m } in
       let relates : Related acts (record now { memory = m }) t = keep_memory IsKept acts now s related m (bit_holds p b now.memory (Ok m) related.bytes w) in
       let ended : Leads (body_meaning g calls (cleared false) units t) units used acts t (with_status (after_store b) (record now { memory = m })) =
-          ends_chain g calls units acts (record now { memory = m }) t relates used b in
+      ends_chain g calls units acts (record now { memory = m }) t relates used b in
       record {
         to = ended.to;
         goes = write_goes_on g type.Bool p s with_expression writes calls units e (cleared false) (flag b) m h (wrote b (Ok m) w) ∙ ended.goes;

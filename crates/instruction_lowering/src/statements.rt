@@ -369,13 +369,7 @@ fn behind_fetched(first: u32, operand: &Operand) -> u32
     match *operand {
         Operand::ByMemory(_, _, _) => first + 3,
         Operand::ByRegister(_, _, _) | Operand::Crossing(_, _) => first + 2,
-        _ => {
-            if may_fault(operand) {
-                first + 1
-            } else {
-                first
-            }
-        }
+        _ => { if may_fault(operand) { first + 1 } else { first } }
     }
 }
 
