@@ -1,6 +1,6 @@
 -- FP and FN: their statements do what their rows do. What they do once the edge bit was found is said of any bit at a
 -- place, in the state in which it was found.
-use Rattle.std.proofs.Common.{◌≡◌, ℕ, ◌+◌, ◌<◌, ◌≤◌, Bool, true, false, not, List, ◌∷◌, length, Some, Result, Ok, Err, refl, ap, ◌∙◌, arith}
+use Rattle.std.proofs.Common.{◌≡◌, ℕ, ◌+◌, ◌<◌, ◌≤◌, Bool, true, false, not, List, ◌∷◌, length, Result, Ok, Err, refl, ap, ◌∙◌, arith}
 use Rattle.std.specs.Prelude.{slice_get}
 use Rattle.st_tree.specs.declared.state.Value.{Value}
 use Rattle.memory_areas.specs.Access.{and_then, read_bit, write_bit}

@@ -1,5 +1,5 @@
--- Instructions on bits, in the accumulators and on the numbers of data blocks, which open and close no bracket: their
--- statements do what their rows do.
+-- Instructions on bits, in the accumulators and the address registers and on the numbers of data blocks, which open and
+-- close no bracket: their statements do what their rows do.
 use Rattle.std.proofs.Common.{◌≡◌, ℕ, ◌+◌, ◌≤◌, Bool, true, false, not, ◌&&◌, ◌||◌, List, [], ◌∷◌, length, Option, Result, Ok, refl, arith}
 use Rattle.std.specs.Prelude.{ℤ}
 use Rattle.std.proofs.lemmas.List.{length-append}

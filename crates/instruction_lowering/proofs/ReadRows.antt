@@ -12,8 +12,7 @@ use Rattle.st_tree.specs.declared.expr.Expr.TheVariants as expr
 use Rattle.st_tree.specs.declared.expr.Var.{Var}
 use Rattle.st_tree.specs.declared.expr.Var.TheVariants as var
 use Rattle.st_tree.specs.declared.program.Stmt.{Stmt}
-use Rattle.st_tree.specs.declared.program.Stmt.TheVariants as stmt
-use Rattle.stl_tree.specs.Reads.{asked_by, chain_read, found_by, opened_by, reads_of}
+use Rattle.stl_tree.specs.Reads.{asked_by, chain_read, found_by, reads_of}
 use Rattle.stl_tree.specs.declared.program.BitArg.TheVariants as arg
 use Rattle.stl_tree.specs.declared.program.Instr.{Instr}
 use Rattle.stl_tree.specs.declared.program.Op.{Op}
