@@ -20,11 +20,7 @@ use Rattle.st_tree.specs.declared.graph.StExit.TheVariants as exit
 use Rattle.st_tree.specs.declared.graph.StNode.{StNode}
 use Rattle.st_tree.specs.declared.program.Pou.{Pou}
 use Rattle.instruction_lowering.specs.Temporaries.{AreTemporaries, types_in}
-<<<<<<< HEAD
 use Rattle.row_templates.specs.Writes.{AreWrites}
-=======
-use Rattle.row_templates.specs.Writes.{AreWrites}
->>>>>>> 6f1474387aa0c03474071da0a1b492ed2bb3c5e2
 use Rattle.row_templates.specs.Nodes.{nodes_in}
 use Rattle.row_templates.specs.Reading.{EachRegister, IsAmong}
 
