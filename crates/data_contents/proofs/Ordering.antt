@@ -1,5 +1,5 @@
 -- A stable sort by numbers puts data blocks in order.
-use Rattle.std.proofs.Common.{◌≡◌, ⊎_elim, ℕ, suc, ◌<◌, ◌≤◌, List, [], ◌∷◌, length, get_or, Bool, true, false, cond, not, if◌then◌else◌, refl, sym, ap, subst, ◌∙◌, arith}
+use Rattle.std.proofs.Common.{◌≡◌, ⊎_elim, ℕ, suc, ◌<◌, ◌≤◌, List, [], ◌∷◌, length, get_or, Bool, true, false, cond, not, if◌then◌else◌, refl, sym, ap, subst, ◌∙◌, arith, eqb-true}
 use Rattle.std.specs.Prelude.{◌==◌, nat_lt, ◌&&◌}
 use Rattle.std.specs.List.{filter}
 use Rattle.std.specs.List.Sorted.{IsNonDecreasingBy, ties}
@@ -8,6 +8,7 @@ use Rattle.std.specs.declared.cmp.Ordering.TheVariants.{Less, Equal, Greater}
 use Rattle.std.proofs.lemmas.Bool.{cases_order, ltb-false, ltb-true}
 use Rattle.memory_areas.specs.declared.data_block.DataBlock.{DataBlock}
 use Rattle.stl_rules.specs.DataBlocks.{in_order, inserted}
+use Rattle.data_contents.specs.Order.{AreInOrder, Rises, of_number}
 
 -- Numbers
 
@@ -52,11 +53,6 @@ same_number a b e = by (ranked a b) (ranked b a) refl refl e
 -- the blocks that are tied with one
 abbrev like : DataBlock → List DataBlock → List DataBlock
 like b blocks = filter (tied b) blocks
-
--- the numbers do not fall, and none is less than this
-abbrev Rises : ℕ → List DataBlock → Type 0
-Rises least [] = Unit {0}
-Rises least (b ∷ rest) = (least ≤ b.number) × Rises b.number rest
 
 rises : (least : ℕ) (ys : List DataBlock) → ((d : DataBlock) → 0 < length ys → least ≤ (get_or ys 0 d).number)
     → IsNonDecreasingBy (λ (b : DataBlock). b.number) ys → Rises least ys
@@ -109,6 +105,34 @@ in_order_like : (a : DataBlock) (blocks : List DataBlock) → like a (in_order b
 in_order_like a [] = refl
 in_order_like a (b ∷ rest) =
     inserted_like a b (in_order rest) ∙ ap (λ l. cond (tied a b) (b ∷ l) l) (in_order_like a rest)
+
+inserted_kept : (n : ℕ) (b : DataBlock) (rest : List DataBlock) → of_number n (inserted b rest) ≡ of_number n (b ∷ rest)
+inserted_kept n b [] = refl
+inserted_kept n b (c ∷ rest) = by (nat_lt c.number b.number) refl (inserted_kept n b rest)
+  where
+    both : (t u : Bool) → (b.number == n) ≡ t → (c.number == n) ≡ u → c.number < b.number
+        → cond u (c ∷ cond t (b ∷ of_number n rest) (of_number n rest)) (cond t (b ∷ of_number n rest) (of_number n rest))
+        ≡ cond t (b ∷ cond u (c ∷ of_number n rest) (of_number n rest)) (cond u (c ∷ of_number n rest) (of_number n rest))
+    both true true f g l = absurd (omega (arith, eqb-true b.number n f, eqb-true c.number n g, l))
+    both true false f g l = refl
+    both false true f g l = refl
+    both false false f g l = refl
+
+    by : (t : Bool) → nat_lt c.number b.number ≡ t → of_number n (inserted b rest) ≡ of_number n (b ∷ rest)
+        → of_number n (if t then c ∷ inserted b rest else b ∷ c ∷ rest) ≡ of_number n (b ∷ c ∷ rest)
+    by true e more =
+        ap (λ l. cond (c.number == n) (c ∷ l) l) more
+        ∙ both (b.number == n) (c.number == n) refl refl (ltb-true c.number b.number e)
+    by false e more = refl
+
+in_order_kept : (n : ℕ) (blocks : List DataBlock) → of_number n (in_order blocks) ≡ of_number n blocks
+in_order_kept n [] = refl
+in_order_kept n (b ∷ rest) =
+    inserted_kept n b (in_order rest) ∙ ap (λ l. cond (b.number == n) (b ∷ l) l) (in_order_kept n rest)
+
+-- the order is what it is to be
+pub in_order_is : (blocks : List DataBlock) → AreInOrder blocks (in_order blocks)
+in_order_is blocks = record { rises = in_order_rises blocks; kept = λ n. in_order_kept n blocks }
 
 -- A list in order is the only one with these blocks of each number
 
