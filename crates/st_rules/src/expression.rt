@@ -2,7 +2,7 @@
 use st_tree::{Expr, StType};
 
 /// An expression of the tree, and its type.
-#[derive(Debug, Drop, PartialEq)]
+#[derive(Drop)]
 pub struct Typed {
     pub ty: StType,
     pub tree: Expr,

@@ -11,7 +11,7 @@ use s7_base::Reg;
 const REGISTERS: usize = 15;
 
 /// The numbers of the registers, in the order of the registers.
-#[derive(Clone, Copy, Debug)]
+#[derive(Clone, Copy)]
 pub struct Registers {
     numbers: [i64; REGISTERS],
 }

@@ -12,7 +12,7 @@ use s7_base::Fault;
 use st_tree::{Reference, StType, Value, type_of_register};
 
 /// A unit that runs: the values of its locals, and what its formals stand for.
-#[derive(Debug, Drop)]
+#[derive(Drop)]
 pub struct Activation {
     pub locals: Vec<Value>,
     pub formals: Vec<Reference>,
@@ -20,7 +20,7 @@ pub struct Activation {
 
 /// The memory, the registers and the activations, the running one last. Those of `spare` wait for calls,
 /// so that a call takes no memory.
-#[derive(Debug, Drop)]
+#[derive(Drop)]
 pub struct State {
     pub memory: Memory,
     pub registers: Registers,

@@ -81,7 +81,7 @@ pub enum Var {
 }
 
 /// An expression, without the brackets of a text.
-#[derive(Debug, Drop, PartialEq)]
+#[derive(Drop, PartialEq)]
 pub enum Expr {
     /// A value of its type. FALSE is 0 and TRUE is 1; that of a bit type is its pattern, read without a
     /// sign.

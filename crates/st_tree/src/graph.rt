@@ -6,7 +6,7 @@ use memory_areas::DataBlock;
 use s7_base::List;
 
 /// Where a unit goes on behind a node. The numbers are positions of nodes of the same unit.
-#[derive(Debug, Drop, PartialEq)]
+#[derive(Drop)]
 pub enum StExit {
     /// At the next node.
     Fall,
@@ -27,7 +27,7 @@ pub enum StExit {
 }
 
 /// Statements without a way out of them, and where the unit goes on behind them.
-#[derive(Debug, Drop, PartialEq)]
+#[derive(Drop)]
 pub struct StNode {
     pub steps: List<Stmt>,
     pub exit: StExit,
@@ -37,20 +37,20 @@ pub struct StNode {
 }
 
 /// The nodes of a unit. It begins at the first one.
-#[derive(Debug, Drop, PartialEq)]
+#[derive(Drop)]
 pub struct StGraph {
     pub nodes: List<StNode>,
 }
 
 /// A unit: its head, whose body is empty, and its nodes.
-#[derive(Debug, Drop, PartialEq)]
+#[derive(Drop)]
 pub struct GraphPou {
     pub head: Pou,
     pub graph: StGraph,
 }
 
 /// A text whose units are graphs: its data blocks by number, its other globals, and its units in their order.
-#[derive(Debug, Drop, PartialEq)]
+#[derive(Drop)]
 pub struct GraphProgram {
     pub dbs: List<DataBlock>,
     pub globals: List<Located>,

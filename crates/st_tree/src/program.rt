@@ -5,7 +5,7 @@ use memory_areas::{DataBlock, Place};
 use s7_base::{Boxed, List, Width};
 
 /// A statement.
-#[derive(Debug, Drop, PartialEq)]
+#[derive(Drop)]
 #[cycle(statements)]
 pub enum Stmt {
     /// The variable takes the value of the expression.
@@ -30,7 +30,7 @@ pub enum Stmt {
 }
 
 /// A test of an `IF`, and the statements where it is TRUE.
-#[derive(Debug, Drop, PartialEq)]
+#[derive(Drop)]
 #[cycle(statements)]
 pub struct Arm {
     pub test: Expr,
@@ -38,7 +38,7 @@ pub struct Arm {
 }
 
 /// Values of a `CASE`, and the statements for them.
-#[derive(Debug, Drop, PartialEq)]
+#[derive(Drop)]
 #[cycle(statements)]
 pub struct CaseArm {
     pub labels: List<i64>,
@@ -46,14 +46,14 @@ pub struct CaseArm {
 }
 
 /// A local, or a formal, of a unit.
-#[derive(Debug, Drop, PartialEq)]
+#[derive(Drop)]
 pub struct Local {
     pub name: List<u8>,
     pub ty: StType,
 }
 
 /// A global on I, Q or M.
-#[derive(Debug, Drop, PartialEq)]
+#[derive(Drop)]
 pub struct Located {
     pub name: List<u8>,
     pub place: Place,
@@ -61,7 +61,7 @@ pub struct Located {
 }
 
 /// A unit: a `PROGRAM`, or else a `FUNCTION`.
-#[derive(Debug, Drop, PartialEq)]
+#[derive(Drop)]
 pub struct Pou {
     pub program: bool,
     pub name: List<u8>,
@@ -71,7 +71,7 @@ pub struct Pou {
 }
 
 /// A text: its data blocks by number, its other globals, and its units in their order.
-#[derive(Debug, Drop, PartialEq)]
+#[derive(Drop)]
 pub struct StProgram {
     pub dbs: List<DataBlock>,
     pub globals: List<Located>,

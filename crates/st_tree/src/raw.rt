@@ -8,7 +8,7 @@ use memory_areas::AreaName;
 use s7_base::{Boxed, Line, List, Width};
 
 /// A variable as it is written.
-#[derive(Debug, Drop, PartialEq)]
+#[derive(Drop)]
 pub enum RawVar {
     /// A register variable too.
     Name(List<u8>),
@@ -18,7 +18,7 @@ pub enum RawVar {
 }
 
 /// A declaration of a local or a formal. Its line is that of its name.
-#[derive(Debug, Drop, PartialEq)]
+#[derive(Drop)]
 pub struct RawLocal {
     pub name: List<u8>,
     pub line: Line,
@@ -26,7 +26,7 @@ pub struct RawLocal {
 }
 
 /// The type of a global.
-#[derive(Debug, Drop, PartialEq)]
+#[derive(Drop)]
 pub enum RawGlobalType {
     Plain(StType),
 
@@ -35,7 +35,7 @@ pub enum RawGlobalType {
 }
 
 /// A declaration of a global. Its line is that of its name.
-#[derive(Debug, Drop, PartialEq)]
+#[derive(Drop)]
 pub struct RawGlobal {
     pub name: List<u8>,
     pub line: Line,
@@ -44,7 +44,7 @@ pub struct RawGlobal {
 }
 
 /// A unit. Its line is that of the word `PROGRAM` or `FUNCTION`.
-#[derive(Debug, Drop, PartialEq)]
+#[derive(Drop)]
 pub struct RawPou {
     pub program: bool,
     pub name: List<u8>,
@@ -55,14 +55,14 @@ pub struct RawPou {
 }
 
 /// A text: its globals and its units in their order.
-#[derive(Debug, Drop, PartialEq)]
+#[derive(Drop)]
 pub struct RawSt {
     pub globals: List<RawGlobal>,
     pub pous: List<RawPou>,
 }
 
 /// A statement, and the line of its first token.
-#[derive(Debug, Drop, PartialEq)]
+#[derive(Drop)]
 #[cycle(raw_statements)]
 pub struct RawStmt {
     pub line: Line,
@@ -70,7 +70,7 @@ pub struct RawStmt {
 }
 
 /// A test of an `IF`, and the statements where it is TRUE.
-#[derive(Debug, Drop, PartialEq)]
+#[derive(Drop)]
 #[cycle(raw_statements)]
 pub struct RawArm {
     pub test: RawExpr,
@@ -78,7 +78,7 @@ pub struct RawArm {
 }
 
 /// Literals of a `CASE`, and the statements for them.
-#[derive(Debug, Drop, PartialEq)]
+#[derive(Drop)]
 #[cycle(raw_statements)]
 pub struct RawCaseArm {
     pub labels: List<(StType, i64)>,
@@ -86,7 +86,7 @@ pub struct RawCaseArm {
 }
 
 /// What a statement does.
-#[derive(Debug, Drop, PartialEq)]
+#[derive(Drop)]
 #[cycle(raw_statements)]
 pub enum RawStmtKind {
     Assign(RawVar, RawExpr),
@@ -104,7 +104,7 @@ pub enum RawStmtKind {
 }
 
 /// An expression without its brackets.
-#[derive(Debug, Drop, PartialEq)]
+#[derive(Drop)]
 pub enum RawExpr {
     Literal(StType, i64),
     Read(RawVar),

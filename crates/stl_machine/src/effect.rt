@@ -15,7 +15,7 @@ use status_word::{Flag, Status};
 use stl_tree::{Ar, ArLoad, ArStore, BitArg, LoadArg, Op, OpenArg, Operand, UnaryRow};
 
 /// How a run goes on after an instruction.
-#[derive(Clone, Copy, Debug)]
+#[derive(Clone, Copy)]
 pub enum Effect {
     /// The next instruction follows.
     Next,

@@ -31,7 +31,7 @@ enum Progress {
 }
 
 /// A run of a block of a program, which can be taken further in any portions of steps.
-#[derive(Debug, Drop)]
+#[derive(Drop)]
 pub struct Machine<'p> {
     program: &'p Program,
     state: State,

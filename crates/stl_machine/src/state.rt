@@ -18,7 +18,7 @@ use status_word::{Flag, Status};
 use stl_tree::Operand;
 
 /// The accumulators and address registers, the numbers of the open data blocks, and the status word.
-#[derive(Clone, Copy, Debug)]
+#[derive(Clone, Copy)]
 pub struct Registers {
     pub accu1: u32,
     pub accu2: u32,
@@ -113,7 +113,7 @@ const RUNNING: u8 = 0;
 
 /// The registers, the open brackets and the memory, with the position of the block that runs in its program
 /// and that of the instruction to come in its body.
-#[derive(Debug, Drop)]
+#[derive(Drop)]
 pub struct State {
     pub registers: Registers,
     pub brackets: Nesting,

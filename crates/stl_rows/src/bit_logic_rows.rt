@@ -309,7 +309,7 @@ fn wants_bytes(
     let outcome = machine.run(u64::MAX);
     let marker = machine.memory().read_byte(byte_of(Area::M, 0))?;
     let found = (outcome, output_4(machine.memory())?, marker);
-    wants(rt, &ops, &found, &(ENDED, bytes.0, bytes.1));
+    wants(rt, &inputs, &found, &(ENDED, bytes.0, bytes.1));
     Ok(())
 }
 

@@ -644,7 +644,7 @@ fn wants_row(rt: &impl Abort, alloc: Global, row: &Row) -> Result<(), Fail> {
     let mut machine = Machine::new(alloc, &program, memory_of(alloc)?, &call)?;
     let outcome = machine.run(u64::MAX);
     let found = (outcome, parts(machine.memory())?);
-    wants(rt, ops, &found, &(Outcome::Ended(*fault), *wanted));
+    wants(rt, wanted, &found, &(Outcome::Ended(*fault), *wanted));
     Ok(())
 }
 

@@ -230,7 +230,7 @@ fn an_assignment_writes_the_rlo_to_its_bit_alone(rt: HostRuntime) -> Result<(), 
     ];
     for (ops, inputs, before, after) in rows {
         let ended = run(alloc, memory(alloc, inputs, before)?, ops)?;
-        wants(&rt, &(ops, inputs, before), &ended, &(ENDED, after));
+        wants(&rt, &(inputs, before), &ended, &(ENDED, after));
     }
     Ok(())
 }
@@ -327,10 +327,10 @@ fn a_fault_ends_the_run_and_the_writes_before_it_stand(rt: HostRuntime) -> Resul
         ];
         let program = program(alloc, &ops)?;
         let mut machine = Machine::new(alloc, &program, memory(alloc, 0, 0)?, &call)?;
-        wants(&rt, &op, &machine.run(2), &GOING);
+        wants(&rt, &fault, &machine.run(2), &GOING);
         for steps in [1, 0, 1, u64::MAX] {
-            wants(&rt, &op, &machine.run(steps), &Outcome::Ended(Some(fault)));
-            wants(&rt, &op, &is_zero_but(machine.memory(), 1), &true);
+            wants(&rt, &fault, &machine.run(steps), &Outcome::Ended(Some(fault)));
+            wants(&rt, &fault, &is_zero_but(machine.memory(), 1), &true);
         }
     }
     Ok(())

@@ -6,7 +6,7 @@ use status_word::Test;
 use stl_tree::{Constant, Operand};
 
 /// What stands behind a mnemonic, as far as built.
-#[derive(Clone, Copy, Debug, PartialEq, Eq)]
+#[derive(Clone, Copy)]
 pub enum Given {
     Nothing,
 

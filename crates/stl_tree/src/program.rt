@@ -13,7 +13,7 @@ pub enum Ar {
 }
 
 /// Where an instruction finds its operand. Offsets have the bit in their lowest three bits, and the byte above.
-#[derive(Clone, Copy, Debug, PartialEq, Eq)]
+#[derive(Clone, Copy)]
 pub enum Operand {
     /// An area, a byte in it and a bit from 0 to 7.
     Direct(AreaName, u32, u8),
@@ -32,7 +32,7 @@ pub enum Operand {
 }
 
 /// What a bit check looks at.
-#[derive(Clone, Copy, Debug, PartialEq, Eq)]
+#[derive(Clone, Copy)]
 pub enum BitArg {
     At(Operand),
 
@@ -41,7 +41,7 @@ pub enum BitArg {
 }
 
 /// What `L` loads.
-#[derive(Clone, Copy, Debug, PartialEq, Eq)]
+#[derive(Clone, Copy)]
 pub enum LoadArg {
     /// A byte, a word or a double word.
     At(Operand, Width),
@@ -51,7 +51,7 @@ pub enum LoadArg {
 }
 
 /// What an address register is loaded with.
-#[derive(Clone, Copy, Debug, PartialEq, Eq)]
+#[derive(Clone, Copy)]
 pub enum ArLoad {
     Accu1,
 
@@ -66,7 +66,7 @@ pub enum ArLoad {
 }
 
 /// Where an address register is stored.
-#[derive(Clone, Copy, Debug, PartialEq, Eq)]
+#[derive(Clone, Copy)]
 pub enum ArStore {
     /// In ACCU1, whose old value goes to ACCU2.
     Accu1,
@@ -79,7 +79,7 @@ pub enum ArStore {
 }
 
 /// Which data block `OPN` opens.
-#[derive(Clone, Copy, Debug, PartialEq, Eq)]
+#[derive(Clone, Copy)]
 pub enum OpenArg {
     Number(u16),
 
@@ -88,7 +88,7 @@ pub enum OpenArg {
 }
 
 /// What a formal of a called block stands for.
-#[derive(Clone, Copy, Debug, PartialEq, Eq)]
+#[derive(Clone, Copy)]
 pub enum Actual {
     /// The call leaves the formal out.
     Missing,
@@ -101,7 +101,7 @@ pub enum Actual {
 
 /// A call inside a program: the position of its block, the data block of its instance, which is 0 for a
 /// function, and what the formals of the block stand for, in their order.
-#[derive(Debug, Drop, PartialEq)]
+#[derive(Drop)]
 pub struct BlockCall {
     pub block: u32,
     pub instance: u16,
@@ -109,7 +109,7 @@ pub struct BlockCall {
 }
 
 /// What an instruction does, with its operand.
-#[derive(Debug, Drop, PartialEq)]
+#[derive(Drop)]
 pub enum Op {
     /// `A`, `AN`, `O`, `ON`, `X` and `XN` on a bit.
     Check(Check, BitArg),
@@ -237,14 +237,14 @@ pub enum Op {
 }
 
 /// An instruction, with the line of its first token.
-#[derive(Debug, Drop, PartialEq)]
+#[derive(Drop)]
 pub struct Instr {
     pub line: Line,
     pub op: Op,
 }
 
 /// How a called block and its caller share a formal.
-#[derive(Clone, Copy, Debug, PartialEq, Eq)]
+#[derive(Clone, Copy)]
 pub enum Mode {
     Input,
     Output,
@@ -252,7 +252,7 @@ pub enum Mode {
 }
 
 /// A formal of a block, with its place in the instance of a function block.
-#[derive(Debug, Drop, PartialEq)]
+#[derive(Drop)]
 pub struct Formal {
     pub name: List<u8>,
     pub mode: Mode,
@@ -262,7 +262,7 @@ pub struct Formal {
 }
 
 /// A block, with the line of its heading. The last instruction of its body is that of its end word.
-#[derive(Debug, Drop, PartialEq)]
+#[derive(Drop)]
 pub struct Block {
     pub name: BlockName,
     pub line: Line,
@@ -271,14 +271,14 @@ pub struct Block {
 }
 
 /// A data block that is an instance of a function block.
-#[derive(Clone, Copy, Debug, PartialEq, Eq)]
+#[derive(Clone, Copy)]
 pub struct Instance {
     pub db: u16,
     pub fb: u16,
 }
 
 /// A name of the symbol table for a place.
-#[derive(Debug, Drop, PartialEq)]
+#[derive(Drop)]
 pub struct Symbol {
     pub name: List<u8>,
     pub place: Place,
@@ -287,7 +287,7 @@ pub struct Symbol {
 
 /// A text: its data blocks in ascending order of their numbers; and its instances, blocks and symbols in
 /// the order of the text.
-#[derive(Debug, Drop, PartialEq)]
+#[derive(Drop)]
 pub struct Program {
     pub dbs: List<DataBlock>,
     pub instances: List<Instance>,

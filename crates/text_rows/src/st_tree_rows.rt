@@ -24,13 +24,14 @@ fn first_check(alloc: Global) -> Result<Boxed<Expr>, NoMemory> {
 fn copies_an_expression(rt: HostRuntime) -> Result<(), Fail> {
     let whole = first_check(rt.alloc())?;
     let copy = Boxed::new(rt.alloc(), whole.get().copy(rt.alloc())?)?;
-    wants(&rt, &"an expression", copy.get(), whole.get());
+    wants(&rt, &"an expression", &(copy.get() == whole.get()), &true);
     Ok(())
 }
 
 #[test]
 fn copies_a_literal(rt: HostRuntime) -> Result<(), Fail> {
     let literal = Expr::Literal(StType::Bool, 1);
-    wants(&rt, &"a literal", &literal.copy(rt.alloc())?, &literal);
+    let is_same = literal.copy(rt.alloc())? == literal;
+    wants(&rt, &"a literal", &is_same, &true);
     Ok(())
 }
