@@ -5,7 +5,7 @@ use Rattle.s7_base.specs.declared.reason.Rejection.{Rejection}
 use Rattle.s7_base.specs.declared.token.Token.{Token}
 use Rattle.stl_grammar.proofs.GrammarLaws.{skipped}
 use Rattle.stl_grammar.specs.Items.{item_at, items_from, prepend_item, with_found}
-use Rattle.stl_grammar.specs.RawPrograms.{with_item}
+use Rattle.stl_grammar.specs.RawPrograms.{nothing_read, raw_by, with_item}
 use Rattle.stl_grammar.specs.declared.item.Found.{Found}
 use Rattle.stl_grammar.specs.declared.item.Found.TheVariants.{Fits}
 use Rattle.stl_grammar.specs.declared.item.Item.{Item}
@@ -28,3 +28,8 @@ item_taken end reading place next (first ∷ rest) item size whole found some e 
     ∙ prepended reading item (items_from end size next rest)
     ∙ ap (λ (f : Found). read_behind reading (with_found f (λ taken after. items_from end taken after rest))) found
     ∙ e
+
+-- a text is what is read behind nothing
+pub read_from_nothing : (items : Result (List Item) Rejection) → read_behind nothing_read items ≡ raw_by items
+read_from_nothing (Ok items) = refl
+read_from_nothing (Err refused) = refl

@@ -2,9 +2,10 @@
 ghost use Rattle.std.specs.Prelude.{◌≡◌, ◌++◌, length, None, IfOk, OnOk};
 ghost use Rattle.s7_base.specs.Answers.{Answers};
 ghost use Rattle.s7_base.specs.Tokens.{line_at_end};
-ghost use Rattle.stl_grammar.specs.Items.{items_from};
+ghost use Rattle.stl_grammar.specs.Items.{items_of};
 ghost use Rattle.stl_grammar.specs.RawPrograms.{blocks_in, data_headed, dbs_in, headed, nothing_read, opened, raw_read, with_item, raw_program, raw_text};
 ghost use Rattle.stl_grammar.specs.declared.item.Item.TheVariants as item;
+ghost use Rattle.stl_reader.specs.inner.Finding.{read_behind};
 
 use crate::declared::{put_closed, put_type};
 use crate::item::item_at;
@@ -143,27 +144,45 @@ fn put_item(alloc: Global, reading: &mut Reading, item: Item) -> Result<(), NoMe
     }
 }
 
-/// The raw program of a text that is read.
-fn finish(reading: Reading) -> Result<RawProgram, NoMemory>
-    ensures { IfOk result (λ raw. raw ≡ raw_read reading) }
+/// The raw program of a text that is read. It leaves the lists of the reading empty.
+fn finish(alloc: Global, reading: &mut Reading) -> Result<RawProgram, NoMemory>
+    ensures { IfOk result (λ raw. raw ≡ raw_read reading.old) }
 {
-    let mut reading = reading;
-    finish_last(&mut reading)?;
-    let Reading {
-        symbols,
-        dbs,
-        done,
-        ..
-    } = reading;
+    finish_last(reading)?;
     Ok(RawProgram {
-        symbols,
-        dbs,
-        blocks: done,
+        symbols: replace(&mut reading.symbols, List::new(alloc)),
+        dbs: replace(&mut reading.dbs, List::new(alloc)),
+        blocks: replace(&mut reading.done, List::new(alloc)),
     })
 }
 
+/// The raw program of what was read before, and of the tokens of a text that ends on a line. The reading stays
+/// with the caller, since a loop that owns one costs the prover a minute.
+fn read_items(
+    alloc: Global,
+    reading: &mut Reading,
+    tokens: &[Token],
+    end: Line,
+) -> Result<RawProgram, Rejection>
+    ensures { Answers result (read_behind reading.old (items_of end tokens.now)) }
+{
+    let mut place = Where::Start;
+    let mut rest = tokens;
+    loop {
+        match item_at(alloc, end, place, rest)? {
+            Found::Fits(item, size, next) => {
+                put_item(alloc, reading, item)?;
+                place = next;
+                rest = rest_after(rest_after(rest, 1), size);
+            }
+            Found::Misfit(line, reason) => return Err(Rejection::Refused(line, reason)),
+            Found::Ended => return Ok(finish(alloc, reading)?),
+        }
+    }
+}
+
 /// The raw program of the tokens of a text that ends on a line.
-#[tactic(auto, unfolding(stl_grammar::specs::RawPrograms::raw_program))]
+#[tactic(auto, using(crate::proofs::Walk::read_from_nothing), unfolding(stl_grammar::specs::RawPrograms::raw_program))]
 fn read_tokens(alloc: Global, tokens: &[Token], end: Line) -> Result<RawProgram, Rejection>
     ensures { Answers result (raw_program end tokens.now) }
 {
@@ -175,19 +194,7 @@ fn read_tokens(alloc: Global, tokens: &[Token], end: Line) -> Result<RawProgram,
         last: None,
         structs: LinkedList::new(alloc),
     };
-    let mut place = Where::Start;
-    let mut rest = tokens;
-    loop {
-        match item_at(alloc, end, place, rest)? {
-            Found::Fits(item, size, next) => {
-                put_item(alloc, &mut reading, item)?;
-                place = next;
-                rest = rest_after(rest_after(rest, 1), size);
-            }
-            Found::Misfit(line, reason) => return Err(Rejection::Refused(line, reason)),
-            Found::Ended => return Ok(finish(reading)?),
-        }
-    }
+    read_items(alloc, &mut reading, tokens, end)
 }
 
 /// The line at the end of a text: one more than its ends of lines.

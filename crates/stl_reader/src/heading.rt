@@ -143,6 +143,8 @@ pub fn heading_at(
 {
     match heading_kind(first) {
         Some(kind) => {
+            // Given up first: what is owned at a `?` costs the prover.
+            drop(other);
             let name = name_at(alloc, kind_word(kind), rest)?;
             Ok(opened(reason, kind, first, rest, name))
         }
