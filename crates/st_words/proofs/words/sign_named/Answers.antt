@@ -1,4 +1,4 @@
-use Rattle.std.proofs.Common.{◌≡◌, ◌∙◌, Option, ap}
+use Rattle.std.proofs.Common.{◌∙◌, Option, ap}
 use Rattle.std.specs.Prelude.{option_map}
 use Rattle.st_grammar.specs.Kinds.{fixed_text, sign_named}
 use Rattle.st_grammar.specs.declared.words.TheConstants.{SIGNS}
