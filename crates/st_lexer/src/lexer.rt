@@ -7,9 +7,10 @@ ghost use Rattle.st_lexer.specs.Literals.{type_at, base_at, literal_at};
 ghost use Rattle.st_lexer.specs.Pieces.{view, cut_view};
 ghost use Rattle.st_lexer.specs.StTokens.{is_blank, is_letter, is_sign, is_double_sign, comment_size, sign_piece, mark_piece, ranged_piece, number_piece, word_piece, direct_piece, other_piece, piece_at, piece_size, line_behind, token_of, cut_from, is_great, has_text, begins_with_bracket, great_from, first_bad, tokens_of, gap};
 ghost use Rattle.st_lexer.specs.TokenGrammar.{line_past};
+ghost use Rattle.st_tree.specs.declared.token.StKind.TheVariants as sort;
 
 use crate::direct::direct_at;
-use crate::literal::{Literal, is_in_range, literal_at, type_at};
+use crate::literal::{Literal, is_in_range, literal_at, literal_to, type_before};
 use crate::number::{Base, base_at, is_digit_to};
 use crate::text::word_size;
 use s7_base::{Line, List, NoMemory, Reason, Rejection, begins_with, front_of, rest_after};
@@ -136,7 +137,8 @@ fn ranged_piece(literal: Option<Literal>) -> Option<Piece>
 fn number_piece(bytes: &[u8]) -> Option<Piece>
     ensures { option_map view result ≡ number_piece (base_at bytes.now) (literal_at bytes.now) }
 {
-    match (base_at(bytes), literal_at(bytes)) {
+    let base = base_at(bytes);
+    match (base, literal_to(base, bytes)) {
         (Base::Ten, Some(literal)) => Some(Piece::Token(StKind::Literal, literal.size)),
         (_, literal) => ranged_piece(literal),
     }
@@ -145,9 +147,10 @@ fn number_piece(bytes: &[u8]) -> Option<Piece>
 fn word_piece(bytes: &[u8]) -> Option<Piece>
     ensures { option_map view result ≡ word_piece (type_at bytes.now) bytes.now }
 {
-    match type_at(bytes) {
+    let size = word_size(bytes);
+    match type_before(size, bytes) {
         Some(_) => ranged_piece(literal_at(bytes)),
-        None => Some(Piece::Token(StKind::Word, word_size(bytes))),
+        None => Some(Piece::Token(StKind::Word, size)),
     }
 }
 
@@ -253,12 +256,22 @@ fn cut_text(alloc: Global, bytes: &[u8]) -> Result<Cut, NoMemory>
     Ok(Cut { tokens, bad: None })
 }
 
+/// The text is that of a literal outside its type's range.
+fn is_great_literal(text: &[u8]) -> bool
+    ensures { result ≡ is_great sort.Literal (literal_at text.now) }
+{
+    match literal_at(text) {
+        Some(literal) => !is_in_range(literal),
+        None => false,
+    }
+}
+
 /// The token is a literal outside its type's range.
 fn is_great(token: &StToken) -> bool
     ensures { result ≡ is_great token.now.kind (literal_at token.now.text) }
 {
-    match (token.kind, literal_at(token.text.as_slice())) {
-        (StKind::Literal, Some(literal)) => !is_in_range(literal),
+    match token.kind {
+        StKind::Literal => is_great_literal(token.text.as_slice()),
         _ => false,
     }
 }

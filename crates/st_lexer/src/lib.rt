@@ -8,7 +8,7 @@
 
 pub use direct::{Direct, direct_at};
 pub use lexer::{end_line, st_tokens};
-pub use literal::{Literal, is_in_range, literal_at, type_named};
+pub use literal::{Literal, is_in_range, literal_at, literal_to, type_named};
 pub use number::{Base, Number, base_at, begins_with_digit};
 pub use s7_base::{front_of, is_same_word, rest_after};
 pub use spelling_laws::{literals_are_tokens, places_are_tokens, words_are_tokens};

@@ -1,6 +1,7 @@
 //! Literals at the front of a text.
-ghost use Rattle.std.specs.Prelude.{◌≡◌, ◌≤◌, ◌<◌, ◌+◌, ◌^◌, length, drop, take, IfSome};
-ghost use Rattle.st_lexer.specs.Literals.{greatest, is_signed, integer_named, type_named, truth_named, literal_of_number, truth_behind, number_behind, value_behind, type_at, type_of_base, literal_behind, literal_at, is_in_range};
+ghost use Rattle.s7_base.specs.Tokens.{begins_with};
+ghost use Rattle.std.specs.Prelude.{◌≡◌, ◌≤◌, ◌<◌, ◌+◌, ◌^◌, if◌then◌else◌, false, length, drop, take, None, IfSome, option_map};
+ghost use Rattle.st_lexer.specs.Literals.{greatest, is_signed, integer_named, type_named, truth_named, literal_of_number, truth_behind, number_behind, value_behind, type_at, base_at, number_to, type_of_base, literal_behind, literal_at, is_in_range};
 ghost use Rattle.st_lexer.specs.Pieces.{IsWithin};
 
 use crate::number::{Base, Number, base_at, number_at, number_to};
@@ -153,16 +154,22 @@ fn value_behind(kind: StType, before: usize, bytes: &[u8]) -> Option<Literal>
     }
 }
 
-/// The type whose word stands at the front with `#` after it.
-pub fn type_at(bytes: &[u8]) -> Option<StType>
-    ensures { result ≡ type_at bytes.now }
+/// The type whose word is so many bytes at the front with `#` after it.
+pub fn type_before(size: usize, bytes: &[u8]) -> Option<StType>
+    ensures { result ≡ (if begins_with 35 (drop size bytes.now) then type_named (take size bytes.now) else None) }
 {
-    let size = word_size(bytes);
     if begins_with(b'#', rest_after(bytes, size)) {
         type_named(front_of(bytes, size))
     } else {
         None
     }
+}
+
+/// The type whose word stands at the front with `#` after it.
+pub fn type_at(bytes: &[u8]) -> Option<StType>
+    ensures { result ≡ type_at bytes.now }
+{
+    type_before(word_size(bytes), bytes)
 }
 
 fn type_of_base(base: Base) -> StType
@@ -172,6 +179,15 @@ fn type_of_base(base: Base) -> StType
         Base::Ten => StType::Dint,
         Base::Two | Base::Eight | Base::Sixteen => StType::Dword,
     }
+}
+
+/// The literal of a number to this base without a type.
+fn untyped_at(base: Base, bytes: &[u8]) -> Option<Literal>
+    ensures literal { result ≡ option_map (literal_of_number (type_of_base base) false 0) (number_to base bytes.now) }
+    ensures within { IfSome result (λ literal. IsWithin literal.size (length bytes.now)) }
+{
+    let number = number_to(base, bytes)?;
+    Some(literal_of_number(type_of_base(base), false, 0, number))
 }
 
 /// The longest literal at the front of a text, whether or not its type has the number.
@@ -184,10 +200,18 @@ pub fn literal_at(bytes: &[u8]) -> Option<Literal>
             let before = word_size(bytes) + 1;
             value_behind(kind, before, rest_after(bytes, before))
         }
-        None => {
-            let number = number_at(bytes)?;
-            Some(literal_of_number(type_of_base(base_at(bytes)), false, 0, number))
-        }
+        None => untyped_at(base_at(bytes), bytes),
+    }
+}
+
+/// The same where the base of a number at the front is known.
+pub fn literal_to(base: Base, bytes: &[u8]) -> Option<Literal>
+    requires { base ≡ base_at bytes.now }
+    ensures { result ≡ literal_at bytes.now }
+{
+    match type_at(bytes) {
+        Some(_) => literal_at(bytes),
+        None => untyped_at(base, bytes),
     }
 }
 

@@ -9,7 +9,7 @@ use s7_base::{Line, List, NoMemory};
 use st_grammar::{Fixed, Function, Kind, Literal, OneOperand, Word};
 use st_lexer::{
     Base, Literal as Found, StKind, StToken, base_at, begins_with_digit, direct_at, front_of,
-    is_in_range, is_same_word, literal_at, rest_after, type_named,
+    is_in_range, is_same_word, literal_to, rest_after, type_named,
 };
 use st_tree::{BinaryOp, RawVar, StType};
 use std::alloc::Global;
@@ -164,8 +164,9 @@ fn literal_kind(base: Base, text: &[u8], found: Found) -> Kind
 fn number_kind(text: &[u8]) -> Kind
     ensures { result ≡ number_kind (literal_at text.now) text.now }
 {
-    match literal_at(text) {
-        Some(found) => literal_kind(base_at(text), text, found),
+    let base = base_at(text);
+    match literal_to(base, text) {
+        Some(found) => literal_kind(base, text, found),
         None => Kind::Misfit,
     }
 }
