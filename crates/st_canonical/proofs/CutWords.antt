@@ -1,5 +1,5 @@
 -- The words and signs of a canonical text, each before what is read after it.
-use Rattle.std.proofs.Common.{◌≡◌, ℕ, Bool, true, false, ◌&&◌, List, [], ◌∷◌, ◌++◌, Option, Some, None, refl, sym, subst}
+use Rattle.std.proofs.Common.{◌≡◌, ℕ, Bool, true, false, ◌&&◌, List, [], ◌∷◌, ◌++◌, Option, Some, None, refl}
 use Rattle.std.specs.Prelude.{codes, is_none}
 use Rattle.std.specs.List.{list_all}
 use Rattle.s7_base.specs.Tokens.{is_word_byte, begins_with}
@@ -9,7 +9,7 @@ use Rattle.st_lexer.proofs.Words.{and_both}
 use Rattle.st_lexer.specs.Spelled.{ends_word}
 use Rattle.st_lexer.specs.StTokens.{is_letter, token, piece_at}
 use Rattle.st_tree.specs.declared.token.StKind.TheVariants as sort
-use Rattle.st_canonical.proofs.Cuts.{ReadsOn, reads_token, reads_word, reads_blank}
+use Rattle.st_canonical.proofs.Cuts.{ReadsOn, begins_with_times, reads_token, reads_word, reads_blank, where_spelled}
 use Rattle.st_canonical.specs.Canonical.{on}
 use Rattle.st_grammar.specs.Kinds.{conversion_named, fixed_text, lead_text, name_kind, sign_named, text_kind, word_kind, word_named, word_text}
 use Rattle.st_canonical.specs.Spelled.{is_function, is_name, is_unreserved}
@@ -154,14 +154,18 @@ no_word None text line h free = by (conversion_named text) free
     by (Some op) h = absurd cc
     by None h = refl
 
-pub reads_name : (name more : List ℕ) (line : ℕ) (ks : List Kind) → is_name name ≡ true → ends_word more ≡ true → ReadsOn line more ks
+name_reads : (name more : List ℕ) (line : ℕ) (ks : List Kind) → is_name name ≡ true → ends_word more ≡ true → ReadsOn line more ks
     → ReadsOn line (name ++ more) (kind.Variable (var.Name name) (on line) ∷ ks)
-reads_name [] more line ks h ends r = absurd cc
-reads_name (b ∷ w) more line ks h ends r =
+name_reads [] more line ks h ends r = absurd cc
+name_reads (b ∷ w) more line ks h ends r =
     let outer = and_both (is_letter b && list_all is_word_byte w) (is_unreserved (b ∷ w)) h in
     let both = and_both (is_letter b) (list_all is_word_byte w) outer.0 in
     let free = and_both (is_none (word_named (b ∷ w))) (is_none (conversion_named (b ∷ w))) outer.1 in
     reads_word b w more line (kind.Variable (var.Name (b ∷ w)) (on line)) ks both.0 both.1 ends (no_word (word_named (b ∷ w)) (b ∷ w) (on line) free.0 free.1) r
+
+pub reads_name : (name more : List ℕ) (line : ℕ) (ks : List Kind) → ends_word more ≡ true → ReadsOn line more ks
+    → ReadsOn line (name ++ more) (kind.Variable (var.Name name) (on line) ∷ ks)
+reads_name name more line ks ends r = where_spelled (λ h. name_reads name more line ks h ends r)
 
 -- Types, shifts and conversions
 
@@ -294,11 +298,11 @@ convert_keyword type.Lint type.Int = refl
 convert_keyword type.Lint type.Dint = refl
 convert_keyword type.Lint type.Lint = refl
 
-pub reads_convert : (from to : StType) (more : List ℕ) (line : ℕ) (ks : List Kind) → is_function (one.Convert from to) ≡ true → ends_word more ≡ true → ReadsOn line more ks
+pub reads_convert : (from to : StType) (more : List ℕ) (line : ℕ) (ks : List Kind) → ends_word more ≡ true → ReadsOn line more ks
     → ReadsOn line ((type_word from ++ codes "_TO_" ++ type_word to) ++ more) (kind.Fixed (fixed.Function (function.One (one.Convert from to))) ∷ ks)
-reads_convert from to more line ks h ends r =
+reads_convert from to more line ks ends r = where_spelled (λ h.
     reads_keyword (type_word from ++ codes "_TO_" ++ type_word to) more line (kind.Fixed (fixed.Function (function.One (one.Convert from to)))) ks (convert_keyword from to) ends
-    (convert_kind from to (on line) h) r
+    (convert_kind from to (on line) h) r)
 
 -- Signs
 
@@ -355,9 +359,17 @@ open_at : (more : List ℕ) → begins_with 42 more ≡ false → piece_at (40 �
 open_at [] h = refl
 open_at (b ∷ more) h = rw h refl
 
-pub reads_open : {line : ℕ} {more : List ℕ} {ks : List Kind} → begins_with 42 more ≡ false → ReadsOn line more ks → ReadsOn line (40 ∷ more) (kind.Fixed fixed.Open ∷ ks)
+no_star : (t : Bool) (ks : List Kind) → (t ≡ true → begins_with_times ks ≡ true) → begins_with_times ks ≡ false → t ≡ false
+no_star false ks star h = refl
+no_star true ks star h = absurd (let is = star refl in cc)
+
+pub reads_open : {line : ℕ} {more : List ℕ} {ks : List Kind} → begins_with_times ks ≡ false → ReadsOn line more ks → ReadsOn line (40 ∷ more) (kind.Fixed fixed.Open ∷ ks)
 unfolding sign_named
-reads_open {line} {more} {ks} h r = reads_token sort.Sign 40 [] more line (kind.Fixed fixed.Open) ks (open_at more h) refl refl refl r
+reads_open {line} {more} {ks} h r = record {
+  read = λ s.
+      let plain = no_star (begins_with 42 more) ks (r.read s.1).star h in
+      (reads_token sort.Sign 40 [] more line (kind.Fixed fixed.Open) ks (open_at more plain) refl refl refl r).read s;
+}
 
 -- a colon before a blank or the end of a line
 pub reads_colon : {line : ℕ} {more : List ℕ} {ks : List Kind} → ReadsOn line (32 ∷ more) ks → ReadsOn line (58 ∷ 32 ∷ more) (kind.Fixed fixed.Colon ∷ ks)

@@ -1,5 +1,6 @@
 -- The data blocks of a tree, in their canonical form: their names are names of data blocks,
 -- their bytes are ones that tokens have, and their lists stand for the same bytes.
+use Rattle.st_proper.proofs.Spells.{Spells, past_spells}
 use Rattle.std.proofs.Common.{◌≡◌, ℕ, ◌+◌, ◌-◌, ◌/◌, ◌%◌, ◌<◌, ◌≤◌, ◌==◌, Bool, true, false, not, List, [], ◌∷◌, ◌++◌, length, drop, take, replicate, Option, None, refl, sym, ap, subst, ◌∙◌, arith, append_assoc, append-nil, length-append}
 use Rattle.std.specs.Prelude.{codes, decimal, is_none, nat_lt, if◌then◌else◌}
 use Rattle.std.specs.List.{flat_map, list_all}
@@ -17,11 +18,11 @@ use Rattle.st_lexer.specs.Literals.{type_named}
 use Rattle.st_lexer.specs.Spelled.{is_byte, is_decimal}
 use Rattle.st_canonical.specs.Canonical.{block_name, items_behind, items_form, run_behind}
 use Rattle.st_grammar.specs.Forms.{Items, no_item, single, times, GlobalType, plain, bytes, Globals, no_global, global}
-use Rattle.st_grammar.specs.Grammar.{tree_items}
+use Rattle.st_grammar.specs.Grammar.{tree_items, spell_items}
 use Rattle.st_grammar.specs.Kinds.{conversion_named, conversion_of_types, size_before_line, word_named, word_text}
 use Rattle.st_tree.specs.Naming.{names_block}
 use Rattle.st_grammar.specs.Levels.{deepest, levels_globals, levels_initial, levels_items, levels_past, levels_type}
-use Rattle.st_canonical.specs.Spelled.{ItemsSpelled, is_name}
+use Rattle.st_canonical.specs.Spelled.{is_name}
 use Rattle.st_grammar.specs.Syntax.{AllWithin}
 use Rattle.st_grammar.specs.declared.kind.OneOperand.{OneOperand}
 use Rattle.st_rules.specs.Globals.{contents, total}
@@ -121,7 +122,7 @@ total_one (r ∷ runs) count b = omega (arith, total_one runs count b)
 
 -- items that tokens have, which stand for some bytes
 record Stand (items : Items) (found : List ℕ) : Type 0 where
-  spelled : ItemsSpelled items
+  spelled : Spells (spell_items items)
   same : spread (tree_items items) ≡ found
   size : total (tree_items items) ≡ length found
 
@@ -148,12 +149,16 @@ run_stands others found count b c d s = by_test (count == 1) refl
     by_test true e =
         let one : count ≡ 1 = eqb-true count 1 e in
         record {
-          spelled = (s.spelled, d);
+          spelled = λ ks q. s.spelled _ (past_spells others _ (d, q));
           same = subst (λ n. spread (tree_items others ++ (n, b) ∷ []) ≡ found ++ replicate count b) one spread_all;
           size = subst (λ n. total (tree_items others ++ (n, b) ∷ [])
               ≡ length (found ++ replicate count b)) one size_all;
         }
-    by_test false e = record { spelled = (s.spelled, c, d); same = spread_all; size = size_all }
+    by_test false e = record {
+      spelled = λ ks q. s.spelled _ (past_spells others _ (c, (refl, (d, (refl, q)))));
+      same = spread_all;
+      size = size_all;
+    }
 
 few : (count : ℕ) → count ≤ 16384 → is_decimal count ≡ true
 few count h = grind (arith, nat_tests)
@@ -186,7 +191,7 @@ items_stand (next ∷ rest) others found count b small d h s =
         (more (run_behind others count b) (found ++ replicate count b) 1 next (omega (arith, small)) p.0 p.1 before)
 
 no_bytes : Stand no_item []
-no_bytes = record { spelled = tt; same = refl; size = refl }
+no_bytes = record { spelled = λ ks q. q; same = refl; size = refl }
 
 form_stands : (bs : List ℕ) → 1 ≤ length bs → length bs ≤ 16384 → list_all is_byte bs ≡ true → Stand (items_form bs) bs
 form_stands [] some small h = absurd (omega (arith, some))
@@ -210,7 +215,7 @@ pub record IsFull (b : DataBlock) : Type 0 where
 -- the list of a data block's bytes
 pub record IsWritten (bs : List ℕ) : Type 0 where
   pub last : is_decimal (length bs - 1) ≡ true
-  pub spelled : ItemsSpelled (items_form bs)
+  pub spelled : Spells (spell_items (items_form bs))
   pub same : contents (length bs - 1) (tree_items (items_form bs)) ≡ bs
   pub size : total (tree_items (items_form bs)) ≡ length bs
 

@@ -368,7 +368,7 @@ module _ (t : StProgram) (p : Proper t) where
   pub proper_form : HasCanonicalForm t
   proper_form = record {
     fits = (section.fit, units.fit);
-    spelled = (section.spelled, units.spelled);
+    spelled = section.spelled _ (units.spelled _ (refl, tt));
     within = with_zero (levels_units (source_of t).units (levels_section levels_globals (source_of t).globals []))
         (units.within (levels_section levels_globals (source_of t).globals []) (section.within [] tt));
     typed = record { sound = ap first_of_all no_breaks; chain = chain; same = same };
