@@ -121,9 +121,7 @@ opens f ks r = reads_open (form_begins f ks) r
 reads_area : (w : Width) (more : List ℕ) (line : ℕ) (ks : List Kind) → ends_word more ≡ true → ReadsOn line more ks
     → ReadsOn line ((codes "AREA_READ_" ++ width_word w) ++ more) (kind.Fixed (fixed.Function (function.One (one.AreaRead w))) ∷ ks)
 reads_area width.Bit more line ks ends r = reads_fixed (fixed.Function (function.One (one.AreaRead width.Bit))) more line ks refl ends r
-reads_area width.Byte more line ks ends r = reads_fixed (fixed.Function (function.One (one.AreaRead width.Byte))) more line ks refl ends r
-reads_area width.Word more line ks ends r = reads_fixed (fixed.Function (function.One (one.AreaRead width.Word))) more line ks refl ends r
-reads_area width.Dword more line ks ends r = reads_fixed (fixed.Function (function.One (one.AreaRead width.Dword))) more line ks refl ends r
+reads_area w more line ks ends r = reads_fixed (fixed.Function (function.One (one.AreaRead w))) more line ks refl ends r
 
 reads_form : (names : Names) (f : Form) (more : List ℕ) (line : ℕ) (ks : List Kind) → IsMade f → ends_word more ≡ true → ReadsOn line more ks
     → ReadsOn line (written names f ++ more) (spell (form_of names line f) ks)

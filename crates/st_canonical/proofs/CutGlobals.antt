@@ -178,11 +178,7 @@ reads_blocks others (b ∷ bs) line more ks r =
 
 same_area : (a : Area) → place_word a ≡ area_word (area_form a)
 same_area place.I = refl
-same_area place.Q = refl
-same_area place.M = refl
-same_area (place.Db n) = refl
-same_area (place.Local d) = refl
-same_area (place.Cell d) = refl
+same_area other = refl
 
 reads_global : (g : Located) (more : List ℕ) (line : ℕ) (ks : List Kind)
     → ReadsOn (line_after line) more ks

@@ -235,23 +235,15 @@ kept_small n h = grind (arith, nat_tests)
 
 bit_no_line : (w : Width) (bit : ℕ) → bit < 2 ^ 64 → has_no_line (bit_text w bit) ≡ true
 bit_no_line width.Bit bit small = decimal_no_line bit small
-bit_no_line width.Byte bit small = refl
-bit_no_line width.Word bit small = refl
-bit_no_line width.Dword bit small = refl
+bit_no_line w bit small = refl
 
 width_no_line : (w : Width) → has_no_line (width_word w) ≡ true
 width_no_line width.Bit = refl
-width_no_line width.Byte = refl
-width_no_line width.Word = refl
-width_no_line width.Dword = refl
+width_no_line other = refl
 
 area_no_line : (a : AreaName) → has_no_line (area_word a) ≡ true
 area_no_line area.I = refl
-area_no_line area.Q = refl
-area_no_line area.M = refl
-area_no_line area.L = refl
-area_no_line area.Db = refl
-area_no_line area.Di = refl
+area_no_line other = refl
 
 place_no_line : (w : Width) (byte bit : ℕ) → byte < 2 ^ 64 → bit < 2 ^ 64 → has_no_line (place_text w byte bit) ≡ true
 place_no_line w byte bit h k =
@@ -259,9 +251,7 @@ place_no_line w byte bit h k =
 
 bit_small : (w : Width) (bit : ℕ) → is_bit_of w bit ≡ true → bit < 2 ^ 64
 bit_small width.Bit bit h = kept_small bit h
-bit_small width.Byte bit h = grind (arith, nat_tests)
-bit_small width.Word bit h = grind (arith, nat_tests)
-bit_small width.Dword bit h = grind (arith, nat_tests)
+bit_small w bit h = grind (arith, nat_tests)
 
 block_no_line : (a : AreaName) (block : Option ℕ) (w : Width) (byte bit : ℕ) → is_block_of a block ≡ true → byte < 2 ^ 64 → bit < 2 ^ 64
     → has_no_line (place_in a block w byte bit) ≡ true
@@ -286,7 +276,4 @@ pub reads_var : (names : Names) (v : Var) (more : List ℕ) (line : ℕ) (ks : L
     → ReadsOn line more ks → ReadsOn line (var_text names v ++ more) (kind.Variable (raw_var names v) (on line) ∷ ks)
 reads_var names (tree_var.Direct a byte bit w) more line ks ends rest = reads_place a None w byte bit more line ks ends rest
 reads_var names (tree_var.InBlock block byte bit w) more line ks ends rest = reads_place area.Db (Some block) w byte bit more line ks ends rest
-reads_var names (tree_var.Register r) more line ks ends rest = reads_name _ more line ks ends rest
-reads_var names (tree_var.Local i) more line ks ends rest = reads_name _ more line ks ends rest
-reads_var names (tree_var.Formal i) more line ks ends rest = reads_name _ more line ks ends rest
-reads_var names (tree_var.Global i) more line ks ends rest = reads_name _ more line ks ends rest
+reads_var names v more line ks ends rest = reads_name _ more line ks ends rest

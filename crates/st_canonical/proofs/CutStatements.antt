@@ -284,9 +284,7 @@ module _ (names : Names) where
   write_word : (w : Width) (more : List ℕ) (line : ℕ) (ks : List Kind) → ends_word more ≡ true → ReadsOn line more ks
       → ReadsOn line ((codes "AREA_WRITE_" ++ width_word w) ++ more) (kind.Lead (lead.AreaWrite w) (on line) ∷ ks)
   write_word width.Bit more line ks ends r = reads_lead (lead.AreaWrite width.Bit) more line ks ends r
-  write_word width.Byte more line ks ends r = reads_lead (lead.AreaWrite width.Byte) more line ks ends r
-  write_word width.Word more line ks ends r = reads_lead (lead.AreaWrite width.Word) more line ks ends r
-  write_word width.Dword more line ks ends r = reads_lead (lead.AreaWrite width.Dword) more line ks ends r
+  write_word w more line ks ends r = reads_lead (lead.AreaWrite w) more line ks ends r
 
   reads_assign : (v : Var) (e : Expr) → ReadsStmt (λ level. line_text level (var_text names v ++ codes " := " ++ expr_text names e ++ codes ";"))
       (λ line. canonical.one_line line (assign (on line) (raw_var names v) (expr_form names line e)))

@@ -17,10 +17,10 @@ use Rattle.st_tree.specs.declared.expr.StType.{StType}
 -- Forms
 
 -- labels of a type whose form says these values
-record AreLabels (ty : StType) (ns : List ℤ) (c : Labels) : Type 0 where
-  means : tree_labels c ≡ of_type ty ns
-  fits : LabelsFit c
-  spelled : Spells (spell_labels c)
+pub record AreLabels (ty : StType) (ns : List ℤ) (c : Labels) : Type 0 where
+  pub means : tree_labels c ≡ of_type ty ns
+  pub fits : LabelsFit c
+  pub spelled : Spells (spell_labels c)
 
 label_good : (ty : StType) (n : ℤ) → is_value ty n ≡ true → Kept ty n (literal_form ty n)
 label_good ty n h = kept ty n (value_of ty n h)
@@ -42,13 +42,8 @@ labels_good ty ns (n ∷ more) c a h =
     (labels_good ty (ns ++ n ∷ []) more next one both.1)
 
 -- the labels of an arm, of which there is one
-pub record FormLabels (ty : StType) (ns : List ℤ) (c : Labels) : Type 0 where
-  pub means : tree_labels c ≡ of_type ty ns
-  pub fits : LabelsFit c
-  pub spelled : Spells (spell_labels c)
-
 pub form_labels : (ty : StType) (ns : List ℤ) → is_some_of ns ≡ true → list_all (is_value ty) ns ≡ true
-    → FormLabels ty ns (labels_form ty ns)
+    → AreLabels ty ns (labels_form ty ns)
 form_labels ty [] some h = absurd cc
 form_labels ty (n ∷ ns) some h =
     let both = and_both (is_value ty n) (list_all (is_value ty) ns) h in
@@ -60,5 +55,4 @@ form_labels ty (n ∷ ns) some h =
       fits = g.value;
       spelled = λ ks q. (g.spelled, q);
     } in
-    let all = labels_good ty (n ∷ []) ns (label (literal_form ty n)) first both.1 in
-    record { means = all.means; fits = all.fits; spelled = all.spelled }
+    labels_good ty (n ∷ []) ns (label (literal_form ty n)) first both.1

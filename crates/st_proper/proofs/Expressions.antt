@@ -86,18 +86,11 @@ before_sound s m unary.Not t ty c h e =
           (wrapped_level 2 c, w.binds);
       spelled = λ ks q. (refl, w.spelled ks q);
     }
-before_sound s m unary.BcdToInt t ty c h e =
-    record {
-      means = is_typed (unary_by s m unary.BcdToInt (tree c) t h.means) e;
-      binds = h.binds;
-      spelled = λ ks q. (refl, (refl, h.spelled _ (refl, q)));
-    }
-before_sound s m unary.BcdToDint t ty c h e =
-    record {
-      means = is_typed (unary_by s m unary.BcdToDint (tree c) t h.means) e;
-      binds = h.binds;
-      spelled = λ ks q. (refl, (refl, h.spelled _ (refl, q)));
-    }
+before_sound s m op t ty c h e = record {
+  means = is_typed (unary_by s m op (tree c) t h.means) e;
+  binds = h.binds;
+  spelled = λ ks q. (refl, (refl, h.spelled _ (refl, q)));
+}
 
 -- Expressions
 

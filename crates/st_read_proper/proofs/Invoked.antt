@@ -240,11 +240,5 @@ module _ (scope : Scope) (sight : Sight) (sees : Sees scope sight) (inside : Boo
 
       by_meaning : (o : Option Meaning) → meaning_in scope (key_of name) ≡ o → (call_of scope l (callee o) (tree_actuals actuals)).breaks ≡ []
           → FoundOne scope sight inside (invoke l name actuals)
-      by_meaning None e c = absurd cc
-      by_meaning (Some (meaning.Register r)) e c = absurd cc
-      by_meaning (Some (meaning.Formal i ty)) e c = absurd cc
-      by_meaning (Some (meaning.Local i ty)) e c = absurd cc
-      by_meaning (Some (meaning.Global i ty)) e c = absurd cc
-      by_meaning (Some meaning.Block) e c = absurd cc
-      by_meaning (Some meaning.Program) e c = absurd cc
       by_meaning (Some (meaning.Function i)) e c = by_function i e c
+      by_meaning other e c = absurd cc

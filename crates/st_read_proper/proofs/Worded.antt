@@ -122,10 +122,6 @@ section_behind word spelled behind (present x) ks h = (behind x _ h.1).1
 pub locals_section_behind : (word : Kind) (s : Section Locals) (ks : List Kind) → AreWorded (spell_section word spell_locals s ks) → AreWorded ks
 locals_section_behind word s ks h = section_behind word spell_locals locals_behind s ks h
 
--- the part of a section that is there
-pub present_worded : {X : Type 0} (word : Kind) (spelled : X → List Kind → List Kind) (x : X) → Worded (spell_section word spelled (present x)) → Worded (spelled x)
-present_worded word spelled x h = (_, h.1.1)
-
 pub units_behind : (us : Units) (ks : List Kind) → AreWorded (spell_units us ks) → AreWorded ks
 units_behind no_unit ks h = h
 units_behind (unit others head formals own body) ks h =
