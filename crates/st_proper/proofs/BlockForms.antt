@@ -236,51 +236,36 @@ is_written b f =
 abbrev pub AreWithin : List ℕ → Type 0
 AreWithin levels = AllWithin deepest levels
 
-pub with_zero : (xs : List ℕ) → AreWithin xs → AreWithin (0 ∷ xs)
-with_zero xs h = (omega arith, h)
+-- the levels of declarations, 0 and 1
+pub low : 0 ≤ deepest
+low = omega arith
 
-pub with_four : (xs : List ℕ) → AreWithin xs → AreWithin (0 ∷ 0 ∷ 0 ∷ 0 ∷ xs)
-with_four xs h = with_zero (0 ∷ 0 ∷ 0 ∷ xs) (with_zero (0 ∷ 0 ∷ xs) (with_zero (0 ∷ xs) (with_zero xs h)))
-
-with_count : (xs : List ℕ) → AreWithin xs → AreWithin (0 ∷ 1 ∷ 1 ∷ 0 ∷ xs)
-with_count xs h = (omega arith, (omega arith, (omega arith, (omega arith, h))))
+one_low : 1 ≤ deepest
+one_low = omega arith
 
 past_within : (items : Items) (before : List ℕ) → AreWithin before → AreWithin (levels_past items before)
 past_within no_item before h = h
-past_within (single others b) before h = with_zero before h
-past_within (times others count b) before h = with_zero before h
+past_within (single others b) before h = (low, h)
+past_within (times others count b) before h = (low, h)
 
 items_within : (items : Items) (before : List ℕ) → AreWithin before → AreWithin (levels_items items before)
 items_within no_item before h = h
-items_within (single others b) before h =
-    with_zero (levels_past others (levels_items others before))
-    (past_within others (levels_items others before) (items_within others before h))
+items_within (single others b) before h = (low, past_within others _ (items_within others before h))
 items_within (times others count b) before h =
-    with_count (levels_past others (levels_items others before))
-    (past_within others (levels_items others before) (items_within others before h))
-
-two_before : (xs : List ℕ) → AreWithin xs → AreWithin (0 ∷ 0 ∷ xs)
-two_before xs h = with_zero (0 ∷ xs) (with_zero xs h)
+    (low, (one_low, (one_low, (low, past_within others _ (items_within others before h)))))
 
 initial_within : (items : Items) (before : List ℕ) → AreWithin before → AreWithin (levels_initial items before)
 initial_within no_item before h = h
-initial_within (single others b) before h =
-    with_zero (levels_items (single others b) (0 ∷ 0 ∷ before))
-    (items_within (single others b) (0 ∷ 0 ∷ before) (two_before before h))
-initial_within (times others count b) before h =
-    with_zero (levels_items (times others count b) (0 ∷ 0 ∷ before))
-    (items_within (times others count b) (0 ∷ 0 ∷ before) (two_before before h))
+initial_within (single others b) before h = (low, items_within (single others b) _ (low, (low, h)))
+initial_within (times others count b) before h = (low, items_within (times others count b) _ (low, (low, h)))
 
 type_within : (ty : GlobalType) (before : List ℕ) → AreWithin before → AreWithin (levels_type ty before)
-type_within (plain ty) before h = with_zero before h
+type_within (plain ty) before h = (low, h)
 type_within (bytes last items) before h =
-    initial_within items (0 ∷ 0 ∷ 0 ∷ 0 ∷ 0 ∷ 0 ∷ 0 ∷ 0 ∷ before)
-    (with_four (0 ∷ 0 ∷ 0 ∷ 0 ∷ before) (with_four before h))
+    initial_within items _ (low, (low, (low, (low, (low, (low, (low, (low, h))))))))
 
 -- globals nest no deeper than they may
 pub globals_within : (gs : Globals) (before : List ℕ) → AreWithin before → AreWithin (levels_globals gs before)
 globals_within no_global before h = h
 globals_within (global others name line v place ty) before h =
-    let four = 0 ∷ 0 ∷ 0 ∷ 0 ∷ levels_globals others before in
-    with_zero (levels_type ty four)
-    (type_within ty four (with_four (levels_globals others before) (globals_within others before h)))
+    (low, type_within ty _ (low, (low, (low, (low, globals_within others before h)))))

@@ -17,7 +17,7 @@ use Rattle.st_grammar.specs.Forms.{plain, bytes, Globals, no_global, global, Sec
 use Rattle.st_grammar.specs.Grammar.{GlobalsFit, IfPresent, held, spell_array, spell_globals, spell_section, tree_globals, tree_items}
 use Rattle.st_grammar.specs.Levels.{levels_globals, levels_section}
 use Rattle.st_canonical.specs.Spelled.{is_variable}
-use Rattle.st_proper.proofs.BlockForms.{AreWithin, IsFull, block_is_name, block_is_named, globals_within, is_written, with_zero}
+use Rattle.st_proper.proofs.BlockForms.{AreWithin, IsFull, block_is_name, block_is_named, globals_within, is_written, low}
 use Rattle.st_types_laws.proofs.Lists.{Each}
 use Rattle.st_proper.proofs.GlobalForms.{IsPlain}
 use Rattle.st_tree.specs.Values.{width_at}
@@ -174,8 +174,7 @@ written bs gs line h k =
     record {
       fit = all.sound.fit;
       spelled = λ ks q. (refl, all.sound.spelled _ (refl, q));
-      within = λ before w. with_zero (levels_globals (globals_form line bs gs).0 (0 ∷ before))
-          (globals_within (globals_form line bs gs).0 (0 ∷ before) (with_zero before w));
+      within = λ before w. (low, globals_within (globals_form line bs gs).0 (0 ∷ before) (low, w));
       blocks = first.more;
       others = all.more;
       globals = all.same ∙ ap (λ xs. xs ++ all.more) first.same;

@@ -12,7 +12,7 @@ use Rattle.st_grammar.specs.Forms.{Statements, Locals, no_local, local, Section,
 use Rattle.st_grammar.specs.Grammar.{AllFit, FormalsFit, HeadFits, IfPresent, LocalsFit, UnitsFit, held, is_formal_type, spell_all, spell_locals, spell_section, spell_units, tree_all, tree_locals, tree_units}
 use Rattle.st_grammar.specs.Levels.{levels_all, levels_locals, levels_section, levels_units}
 use Rattle.st_canonical.specs.Spelled.{is_name, is_spelled}
-use Rattle.st_proper.proofs.BlockForms.{AreWithin, with_four, with_zero}
+use Rattle.st_proper.proofs.BlockForms.{AreWithin, low}
 use Rattle.st_types_laws.proofs.Lists.{Each, each_of}
 use Rattle.st_tree.specs.Proper.{IsFormal, IsLocal, IsProperUnit}
 use Rattle.st_tree.specs.WellTyped.{head_of}
@@ -64,14 +64,12 @@ formal_type ty h = refl
 
 locals_within : (ls : Locals) (before : List ℕ) → AreWithin before → AreWithin (levels_locals ls before)
 locals_within no_local before h = h
-locals_within (local others name line ty) before h = with_four (levels_locals others before)
-    (locals_within others before h)
+locals_within (local others name line ty) before h = (low, (low, (low, (low, locals_within others before h))))
 
 section_within : (s : Section Locals) (before : List ℕ) → AreWithin before
     → AreWithin (levels_section levels_locals s before)
 section_within absent before h = h
-section_within (present ls) before h = with_zero (levels_locals ls (0 ∷ before))
-    (locals_within ls (0 ∷ before) (with_zero before h))
+section_within (present ls) before h = (low, locals_within ls (0 ∷ before) (low, h))
 
 -- what a section of formals and one of locals are
 record IsSection (P : Section Locals → Type 0) (s : Section Locals) (ls : List Local) : Type 0 where
@@ -174,15 +172,11 @@ one_unit text u others line h b a =
               (locals.spelled _ refl _ (b.spelled at _ (end_word_spelled u.program, q))),
         ),
       );
-      within = λ before k.
-          let one = 0 ∷ levels_units others before in
-          let two = 0 ∷ one in
-          let three = levels_section levels_locals (formals_of_unit line u).0 two in
-          let four = levels_section levels_locals (locals_of_unit line u).0 three in
-          let w = with_zero one (with_zero (levels_units others before) (a.within before k)) in
-          with_zero (levels_all 0 (body_at text u at) four)
-          (b.within at four (section_within (locals_of_unit line u).0 three
-          (section_within (formals_of_unit line u).0 two w)));
+      within = λ before k. (
+        low,
+        b.within at _ (section_within (locals_of_unit line u).0 _
+            (section_within (formals_of_unit line u).0 _ (low, (low, a.within before k)))),
+      );
     }
 
 units_behind : (text : StProgram) (us : List Pou) (others : Units) (line : ℕ) → Each (IsUnit text) us

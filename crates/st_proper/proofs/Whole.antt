@@ -13,9 +13,9 @@ use Rattle.memory_areas.specs.declared.place.AreaName.TheVariants as area
 use Rattle.st_canonical.specs.Canonical.{area_form, globals_from, source_of, units_from}
 use Rattle.st_grammar.specs.Forms.{no_unit}
 use Rattle.st_grammar.specs.Grammar.{raw_tree}
-use Rattle.st_grammar.specs.Levels.{deepest, levels_all, levels_globals, levels_section, levels_units}
+use Rattle.st_grammar.specs.Levels.{deepest, levels_all, levels_globals, levels_section}
 use Rattle.st_lexer.specs.Spelled.{is_byte}
-use Rattle.st_proper.proofs.BlockForms.{IsFull, with_zero}
+use Rattle.st_proper.proofs.BlockForms.{IsFull, low}
 use Rattle.st_types_laws.proofs.Bounds.{bound}
 use Rattle.st_proper.proofs.Chains.{AreBounded, is_chain}
 use Rattle.st_proper.proofs.DeclaredGlobals.{IsSection, is_section}
@@ -354,8 +354,8 @@ module _ (t : StProgram) (p : Proper t) where
   proper_form = record {
     fits = (section.fit, units.fit);
     spelled = section.spelled _ (units.spelled _ (refl, tt));
-    within = with_zero (levels_units (source_of t).units (levels_section levels_globals (source_of t).globals []))
-        (units.within (levels_section levels_globals (source_of t).globals []) (section.within [] tt));
+    within =
+        (low, units.within (levels_section levels_globals (source_of t).globals []) (section.within [] tt));
     typed = record { sound = ap first_of_all no_breaks; chain = chain; same = same };
   }
 
