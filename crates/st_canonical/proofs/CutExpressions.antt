@@ -1,31 +1,28 @@
 -- The expressions of a canonical text, each before what is read after it.
 use Rattle.std.proofs.Common.{◌≡◌, ℕ, ◌-◌, Bool, true, false, List, ◌∷◌, ◌++◌, refl, sym, subst, ◌∙◌, append_assoc}
 use Rattle.std.specs.Prelude.{if◌then◌else◌, codes, nat_lt}
-use Rattle.s7_base.specs.Tokens.{begins_with}
 use Rattle.s7_base.specs.declared.word.Width.{Width}
 use Rattle.s7_base.specs.declared.word.Width.TheVariants as width
 use Rattle.st_lexer.specs.Spelled.{ends_word}
-use Rattle.st_canonical.proofs.CutLiterals.{literal_no_star, reads_literal, reads_var, var_no_star}
+use Rattle.st_canonical.proofs.CutLiterals.{reads_literal, reads_var}
 use Rattle.st_canonical.proofs.CutWords.{infix_ends, reads_close, reads_comma, reads_convert, reads_fixed, reads_infix, reads_minus, reads_open, reads_shift}
-use Rattle.st_canonical.proofs.Cuts.{ReadsOn, reads_as, reads_blank}
+use Rattle.st_canonical.proofs.Cuts.{ReadsOn, begins_with_times, reads_as, reads_blank}
 use Rattle.st_canonical.specs.Canonical.{expr_form, form_of}
-use Rattle.st_grammar.specs.Grammar.{spell}
-use Rattle.st_canonical.specs.Spelled.{FormSpelled}
+use Rattle.st_grammar.specs.Grammar.{prefix_kind, spell}
+use Rattle.st_grammar.specs.Forms as grammar
 use Rattle.st_grammar.specs.declared.kind.Fixed.TheVariants as fixed
 use Rattle.st_grammar.specs.declared.kind.Function.TheVariants as function
 use Rattle.st_grammar.specs.declared.kind.Kind.{Kind}
 use Rattle.st_grammar.specs.declared.kind.Kind.TheVariants as kind
 use Rattle.st_grammar.specs.declared.kind.OneOperand.TheVariants as one
+use Rattle.st_grammar.specs.declared.kind.Prefix.{Prefix}
+use Rattle.st_grammar.specs.declared.kind.Prefix.TheVariants as before
 use Rattle.st_tree.specs.Form.{Form, literal, variable, group, prefix, infix_of, digits_to, convert, select, shift, area_read, level, wrap, prefix_level, infix_level, canon_step, canon}
 use Rattle.st_tree.specs.Spelling.{expr_text, written}
 use Rattle.st_tree.specs.Typing.{Names}
-use Rattle.st_tree.specs.Words.{infix_word, prefix_word, shift_word, type_word, width_word}
+use Rattle.st_tree.specs.Words.{infix_word, shift_word, type_word, width_word}
 use Rattle.st_tree.specs.declared.expr.Expr.{Expr, roll-Expr, map-Expr, ind-Expr, fold-roll-Expr}
 use Rattle.st_tree.specs.declared.expr.Expr.TheOpen as E
-use Rattle.st_tree.specs.declared.expr.ShiftOp.{ShiftOp}
-use Rattle.st_tree.specs.declared.expr.ShiftOp.TheVariants as shift_op
-use Rattle.st_tree.specs.declared.expr.StType.{StType}
-use Rattle.st_tree.specs.declared.expr.StType.TheVariants as type
 use Rattle.st_tree.specs.declared.expr.UnaryOp.{UnaryOp}
 use Rattle.st_tree.specs.declared.expr.UnaryOp.TheVariants as unary
 
@@ -101,112 +98,83 @@ six a b c d e f g more = append_assoc (((((a ++ b) ++ c) ++ d) ++ e) ++ f) g mor
 
 -- No expression begins with `*`
 
-type_no_star : (ty : StType) (more : List ℕ) → begins_with 42 (type_word ty ++ more) ≡ false
-type_no_star type.Bool more = refl
-type_no_star type.Byte more = refl
-type_no_star type.Word more = refl
-type_no_star type.Dword more = refl
-type_no_star type.Int more = refl
-type_no_star type.Dint more = refl
-type_no_star type.Lint more = refl
+prefix_begins : (op : Prefix) (ks : List Kind) → begins_with_times (prefix_kind op ∷ ks) ≡ false
+prefix_begins before.Minus ks = refl
+prefix_begins before.Not ks = refl
 
-shift_no_star : (op : ShiftOp) (more : List ℕ) → begins_with 42 (shift_word op ++ more) ≡ false
-shift_no_star shift_op.Shl more = refl
-shift_no_star shift_op.Shr more = refl
-shift_no_star shift_op.Rol more = refl
-shift_no_star shift_op.Ror more = refl
+form_begins : (f : grammar.Form) (ks : List Kind) → begins_with_times (spell f ks) ≡ false
+form_begins (grammar.prefix op f) ks = prefix_begins op (spell f ks)
+form_begins (grammar.infix_of op f g) ks = form_begins f (kind.Fixed (fixed.Between op) ∷ spell g ks)
+form_begins (grammar.literal c) ks = refl
+form_begins (grammar.variable v line) ks = refl
+form_begins (grammar.group f) ks = refl
+form_begins (grammar.apply op f) ks = refl
+form_begins (grammar.shift op f g) ks = refl
+form_begins (grammar.select f g h) ks = refl
 
-prefix_no_star : (op : UnaryOp) (more : List ℕ) → begins_with 42 (prefix_word op ++ more) ≡ false
-prefix_no_star unary.Minus more = refl
-prefix_no_star unary.Not more = refl
-prefix_no_star unary.BcdToInt more = refl
-prefix_no_star unary.BcdToDint more = refl
-
-abbrev NoStar : List ℕ → Type 0
-NoStar text = begins_with 42 text ≡ false
-
-form_no_star : (names : Names) (f : Form) (more : List ℕ) (line : ℕ) → IsMade f → FormSpelled (form_of names line f) → begins_with 42 (written names f ++ more) ≡ false
-form_no_star names (literal ty n) more line m s = literal_no_star ty n more s
-form_no_star names (variable v) more line m s = var_no_star names v more s
-form_no_star names (group f) more line m s = refl
-form_no_star names (prefix op f) more line m s = subst NoStar (sym (append_assoc (prefix_word op) (written names f) more)) (prefix_no_star op (written names f ++ more))
-form_no_star names (infix_of op f g) more line m s =
-    subst NoStar (sym (two (written names f) (infix_word op) (written names g) more)) (form_no_star names f (infix_word op ++ (written names g ++ more)) line m.0 s.0)
-form_no_star names (digits_to op f) more line m s =
-    subst NoStar (sym (two (prefix_word op) (written names f) (codes ")") more)) (prefix_no_star op (written names f ++ 41 ∷ more))
-form_no_star names (convert from to f) more line m s =
-    subst NoStar (sym (five (type_word from) (codes "_TO_") (type_word to) (codes "(") (written names f) (codes ")") more))
-    (type_no_star from (codes "_TO_" ++ (type_word to ++ (codes "(" ++ (written names f ++ 41 ∷ more)))))
-form_no_star names (select f g h) more line m s = refl
-form_no_star names (shift op f g) more line m s =
-    subst NoStar (sym (five (shift_word op) (codes "(") (written names f) (codes ", ") (written names g) (codes ")") more))
-    (shift_no_star op (codes "(" ++ (written names f ++ (codes ", " ++ (written names g ++ 41 ∷ more)))))
-form_no_star names (area_read w f) more line m s = refl
+-- an expression in a bracket
+pub opens : {line : ℕ} {more : List ℕ} (f : grammar.Form) (ks : List Kind) → ReadsOn line more (spell f ks) → ReadsOn line (40 ∷ more) (kind.Fixed fixed.Open ∷ spell f ks)
+opens f ks r = reads_open (form_begins f ks) r
 
 -- Expressions
 
 reads_area : (w : Width) (more : List ℕ) (line : ℕ) (ks : List Kind) → ends_word more ≡ true → ReadsOn line more ks
     → ReadsOn line ((codes "AREA_READ_" ++ width_word w) ++ more) (kind.Fixed (fixed.Function (function.One (one.AreaRead w))) ∷ ks)
 reads_area width.Bit more line ks ends r = reads_fixed (fixed.Function (function.One (one.AreaRead width.Bit))) more line ks refl ends r
-reads_area width.Byte more line ks ends r = reads_fixed (fixed.Function (function.One (one.AreaRead width.Byte))) more line ks refl ends r
-reads_area width.Word more line ks ends r = reads_fixed (fixed.Function (function.One (one.AreaRead width.Word))) more line ks refl ends r
-reads_area width.Dword more line ks ends r = reads_fixed (fixed.Function (function.One (one.AreaRead width.Dword))) more line ks refl ends r
+reads_area w more line ks ends r = reads_fixed (fixed.Function (function.One (one.AreaRead w))) more line ks refl ends r
 
-reads_form : (names : Names) (f : Form) (more : List ℕ) (line : ℕ) (ks : List Kind) → IsMade f → FormSpelled (form_of names line f) → ends_word more ≡ true → ReadsOn line more ks
+reads_form : (names : Names) (f : Form) (more : List ℕ) (line : ℕ) (ks : List Kind) → IsMade f → ends_word more ≡ true → ReadsOn line more ks
     → ReadsOn line (written names f ++ more) (spell (form_of names line f) ks)
-reads_form names (literal ty n) more line ks m s ends r = reads_literal ty n more line ks s ends r
-reads_form names (variable v) more line ks m s ends r = reads_var names v more line ks s ends r
-reads_form names (group f) more line ks m s ends r =
+reads_form names (literal ty n) more line ks m ends r = reads_literal ty n more line ks ends r
+reads_form names (variable v) more line ks m ends r = reads_var names v more line ks ends r
+reads_form names (group f) more line ks m ends r =
     reads_as (two (codes "(") (written names f) (codes ")") more)
-    (reads_open (form_no_star names f (41 ∷ more) line m s) (reads_form names f (41 ∷ more) line (kind.Fixed fixed.Close ∷ ks) m s refl (reads_close r)))
-reads_form names (prefix unary.Minus f) more line ks m s ends r = reads_minus (reads_form names f more line ks m.1 s ends r)
-reads_form names (prefix unary.Not f) more line ks m s ends r =
-    reads_fixed fixed.Not (32 ∷ (written names f ++ more)) line (spell (form_of names line f) ks) refl refl (reads_blank (reads_form names f more line ks m.1 s ends r))
-reads_form names (prefix unary.BcdToInt f) more line ks m s ends r = absurd (let none = m.0 in cc)
-reads_form names (prefix unary.BcdToDint f) more line ks m s ends r = absurd (let none = m.0 in cc)
-reads_form names (infix_of op f g) more line ks m s ends r =
+    (opens (form_of names line f) _ (reads_form names f (41 ∷ more) line (kind.Fixed fixed.Close ∷ ks) m refl (reads_close r)))
+reads_form names (prefix unary.Minus f) more line ks m ends r = reads_minus (reads_form names f more line ks m.1 ends r)
+reads_form names (prefix unary.Not f) more line ks m ends r =
+    reads_fixed fixed.Not (32 ∷ (written names f ++ more)) line (spell (form_of names line f) ks) refl refl (reads_blank (reads_form names f more line ks m.1 ends r))
+reads_form names (prefix unary.BcdToInt f) more line ks m ends r = absurd (let none = m.0 in cc)
+reads_form names (prefix unary.BcdToDint f) more line ks m ends r = absurd (let none = m.0 in cc)
+reads_form names (infix_of op f g) more line ks m ends r =
     reads_as (two (written names f) (infix_word op) (written names g) more)
-    (reads_form names f (infix_word op ++ (written names g ++ more)) line (kind.Fixed (fixed.Between op) ∷ spell (form_of names line g) ks) m.0 s.0
+    (reads_form names f (infix_word op ++ (written names g ++ more)) line (kind.Fixed (fixed.Between op) ∷ spell (form_of names line g) ks) m.0
     (infix_ends op (written names g ++ more))
-    (reads_infix op (written names g ++ more) line (spell (form_of names line g) ks) (reads_form names g more line ks m.1 s.1 ends r)))
-reads_form names (digits_to unary.Minus f) more line ks m s ends r = absurd (let none = m.0 in cc)
-reads_form names (digits_to unary.Not f) more line ks m s ends r = absurd (let none = m.0 in cc)
-reads_form names (digits_to unary.BcdToInt f) more line ks m s ends r =
+    (reads_infix op (written names g ++ more) line (spell (form_of names line g) ks) (reads_form names g more line ks m.1 ends r)))
+reads_form names (digits_to unary.Minus f) more line ks m ends r = absurd (let none = m.0 in cc)
+reads_form names (digits_to unary.Not f) more line ks m ends r = absurd (let none = m.0 in cc)
+reads_form names (digits_to unary.BcdToInt f) more line ks m ends r =
     reads_as (two (codes "BCD_TO_INT(") (written names f) (codes ")") more)
     (reads_fixed (fixed.Function (function.One one.BcdToInt)) (40 ∷ (written names f ++ 41 ∷ more)) line _ refl refl
-    (reads_open (form_no_star names f (41 ∷ more) line m.1 s.1) (reads_form names f (41 ∷ more) line (kind.Fixed fixed.Close ∷ ks) m.1 s.1 refl (reads_close r))))
-reads_form names (digits_to unary.BcdToDint f) more line ks m s ends r =
+    (opens (form_of names line f) _ (reads_form names f (41 ∷ more) line (kind.Fixed fixed.Close ∷ ks) m.1 refl (reads_close r))))
+reads_form names (digits_to unary.BcdToDint f) more line ks m ends r =
     reads_as (two (codes "BCD_TO_DINT(") (written names f) (codes ")") more)
     (reads_fixed (fixed.Function (function.One one.BcdToDint)) (40 ∷ (written names f ++ 41 ∷ more)) line _ refl refl
-    (reads_open (form_no_star names f (41 ∷ more) line m.1 s.1) (reads_form names f (41 ∷ more) line (kind.Fixed fixed.Close ∷ ks) m.1 s.1 refl (reads_close r))))
-reads_form names (convert from to f) more line ks m s ends r =
+    (opens (form_of names line f) _ (reads_form names f (41 ∷ more) line (kind.Fixed fixed.Close ∷ ks) m.1 refl (reads_close r))))
+reads_form names (convert from to f) more line ks m ends r =
     reads_as (three (type_word from ++ codes "_TO_" ++ type_word to) (codes "(") (written names f) (codes ")") more)
-    (reads_convert from to (40 ∷ (written names f ++ 41 ∷ more)) line _ s.0 refl
-    (reads_open (form_no_star names f (41 ∷ more) line m s.1) (reads_form names f (41 ∷ more) line (kind.Fixed fixed.Close ∷ ks) m s.1 refl (reads_close r))))
-reads_form names (select f g h) more line ks m s ends r =
+    (reads_convert from to (40 ∷ (written names f ++ 41 ∷ more)) line _ refl
+    (opens (form_of names line f) _ (reads_form names f (41 ∷ more) line (kind.Fixed fixed.Close ∷ ks) m refl (reads_close r))))
+reads_form names (select f g h) more line ks m ends r =
     let last = spell (form_of names line h) (kind.Fixed fixed.Close ∷ ks) in
     let second = spell (form_of names line g) (kind.Fixed fixed.Comma ∷ last) in
     reads_as (six (codes "SEL(") (written names f) (codes ", ") (written names g) (codes ", ") (written names h) (codes ")") more)
     (reads_fixed (fixed.Function function.Select) (40 ∷ (written names f ++ (codes ", " ++ (written names g ++ (codes ", " ++ (written names h ++ 41 ∷ more)))))) line _ refl refl
-    (reads_open (form_no_star names f (codes ", " ++ (written names g ++ (codes ", " ++ (written names h ++ 41 ∷ more)))) line m.0 s.0)
-    (reads_form names f (codes ", " ++ (written names g ++ (codes ", " ++ (written names h ++ 41 ∷ more)))) line (kind.Fixed fixed.Comma ∷ second) m.0 s.0 refl
-    (reads_comma (reads_blank (reads_form names g (codes ", " ++ (written names h ++ 41 ∷ more)) line (kind.Fixed fixed.Comma ∷ last) m.1 s.1 refl
-    (reads_comma (reads_blank (reads_form names h (41 ∷ more) line (kind.Fixed fixed.Close ∷ ks) m.2 s.2 refl (reads_close r))))))))))
-reads_form names (shift op f g) more line ks m s ends r =
+    (opens (form_of names line f) _
+    (reads_form names f (codes ", " ++ (written names g ++ (codes ", " ++ (written names h ++ 41 ∷ more)))) line (kind.Fixed fixed.Comma ∷ second) m.0 refl
+    (reads_comma (reads_blank (reads_form names g (codes ", " ++ (written names h ++ 41 ∷ more)) line (kind.Fixed fixed.Comma ∷ last) m.1 refl
+    (reads_comma (reads_blank (reads_form names h (41 ∷ more) line (kind.Fixed fixed.Close ∷ ks) m.2 refl (reads_close r))))))))))
+reads_form names (shift op f g) more line ks m ends r =
     let last = spell (form_of names line g) (kind.Fixed fixed.Close ∷ ks) in
     reads_as (five (shift_word op) (codes "(") (written names f) (codes ", ") (written names g) (codes ")") more)
     (reads_shift op (40 ∷ (written names f ++ (codes ", " ++ (written names g ++ 41 ∷ more)))) line _ refl
-    (reads_open (form_no_star names f (codes ", " ++ (written names g ++ 41 ∷ more)) line m.0 s.0)
-    (reads_form names f (codes ", " ++ (written names g ++ 41 ∷ more)) line (kind.Fixed fixed.Comma ∷ last) m.0 s.0 refl
-    (reads_comma (reads_blank (reads_form names g (41 ∷ more) line (kind.Fixed fixed.Close ∷ ks) m.1 s.1 refl (reads_close r)))))))
-reads_form names (area_read w f) more line ks m s ends r =
+    (opens (form_of names line f) _
+    (reads_form names f (codes ", " ++ (written names g ++ 41 ∷ more)) line (kind.Fixed fixed.Comma ∷ last) m.0 refl
+    (reads_comma (reads_blank (reads_form names g (41 ∷ more) line (kind.Fixed fixed.Close ∷ ks) m.1 refl (reads_close r)))))))
+reads_form names (area_read w f) more line ks m ends r =
     reads_as (three (codes "AREA_READ_" ++ width_word w) (codes "(") (written names f) (codes ")") more)
     (reads_area w (40 ∷ (written names f ++ 41 ∷ more)) line _ refl
-    (reads_open (form_no_star names f (41 ∷ more) line m s.1) (reads_form names f (41 ∷ more) line (kind.Fixed fixed.Close ∷ ks) m s.1 refl (reads_close r))))
+    (opens (form_of names line f) _ (reads_form names f (41 ∷ more) line (kind.Fixed fixed.Close ∷ ks) m refl (reads_close r))))
 
-pub reads_expr : (names : Names) (e : Expr) (more : List ℕ) (line : ℕ) (ks : List Kind) → FormSpelled (expr_form names line e) → ends_word more ≡ true → ReadsOn line more ks
+pub reads_expr : (names : Names) (e : Expr) (more : List ℕ) (line : ℕ) (ks : List Kind) → ends_word more ≡ true → ReadsOn line more ks
     → ReadsOn line (expr_text names e ++ more) (spell (expr_form names line e) ks)
-reads_expr names e more line ks s ends r = reads_form names (canon e) more line ks (made e) s ends r
-
-pub expr_no_star : (names : Names) (e : Expr) (more : List ℕ) (line : ℕ) → FormSpelled (expr_form names line e) → begins_with 42 (expr_text names e ++ more) ≡ false
-expr_no_star names e more line s = form_no_star names (canon e) more line (made e) s
+reads_expr names e more line ks ends r = reads_form names (canon e) more line ks (made e) ends r

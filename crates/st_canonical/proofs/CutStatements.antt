@@ -1,21 +1,20 @@
 -- The statements of a canonical text, each before what is read after it.
 use Rattle.std.proofs.Common.{◌≡◌, ℕ, ◌+◌, true, false, ℤ, List, [], ◌∷◌, ◌++◌, map, Option, refl, sym, ap, subst, ◌∙◌, append_assoc}
 use Rattle.std.specs.Prelude.{codes, flat_map, slice_get}
-use Rattle.s7_base.specs.Tokens.{begins_with, line_after}
+use Rattle.s7_base.specs.Tokens.{line_after}
 use Rattle.s7_base.specs.declared.reason.Line.{Line}
 use Rattle.s7_base.specs.declared.word.Width.{Width}
 use Rattle.s7_base.specs.declared.word.Width.TheVariants as width
 use Rattle.st_lexer.specs.Spelled.{ends_word}
-use Rattle.st_canonical.proofs.CutExpressions.{expr_no_star, five, reads_expr, three, two}
-use Rattle.st_canonical.proofs.CutLiterals.{name_no_star, reads_literal, reads_var}
+use Rattle.st_canonical.proofs.CutExpressions.{five, opens, reads_expr, three, two}
+use Rattle.st_canonical.proofs.CutLiterals.{reads_literal, reads_var}
 use Rattle.st_canonical.proofs.CutWords.{reads_becomes, reads_close, reads_comma, reads_fixed, reads_last_colon, reads_lead, reads_name, reads_open, reads_semicolon}
-use Rattle.st_canonical.proofs.Cuts.{ReadsOn, reads_as, reads_blank, reads_line, reads_line_end}
+use Rattle.st_canonical.proofs.Cuts.{ReadsOn, begins_with_times, where_spelled, reads_as, reads_blank, reads_line, reads_line_end}
 use Rattle.st_canonical.specs.Canonical.{ArmFromLine, CaseFromLine, FromLine, Placed, actuals_from, all_from, arms_from, arm_from, body_from, case_from, cases_from, choice_from, expr_form, labels_behind, labels_form, literal_form, on, raw_var, statement_from}
 use Rattle.st_canonical.specs.Canonical as canonical
 use Rattle.st_grammar.specs.Forms.{Actuals, no_actual, actual, Arms, no_arm, arm, CaseArms, no_case, case_arm, Labels, label, more_labels, Statement, assign, write, invoke, jump, Statements, none, further}
 use Rattle.st_grammar.specs.Grammar.{HasArm, arm_word, comma_behind, spell, spell_actuals, spell_all, spell_arms, spell_cases, spell_labels, spell_one}
 use Rattle.st_grammar.specs.Kinds.{lead_text}
-use Rattle.st_canonical.specs.Spelled.{ActualsSpelled, AllSpelled, ArmsSpelled, CasesSpelled, FormSpelled, LabelsSpelled, Spelled, is_literal, is_name, is_variable}
 use Rattle.st_grammar.specs.declared.kind.Fixed.{Fixed}
 use Rattle.st_grammar.specs.declared.kind.Fixed.TheVariants as fixed
 use Rattle.st_grammar.specs.declared.kind.Jump.{Jump}
@@ -52,109 +51,91 @@ reads_kinds {line} {bytes} e r = subst (λ (x : List Kind). ReadsOn line bytes x
 
 -- Labels
 
-labels_front : (ty : StType) (others : Labels) (ns : List ℤ) → LabelsSpelled (labels_behind ty others ns) → LabelsSpelled others
-labels_front ty others [] s = s
-labels_front ty others (n ∷ ns) s = (labels_front ty (more_labels others (literal_form ty n)) ns s).0
-
 labels_end : (ty : StType) (ns : List ℤ) (more : List ℕ) → ends_word more ≡ true → ends_word (flat_map (label_text ty) ns ++ more) ≡ true
 unfolding label_text
 labels_end ty [] more ends = ends
 labels_end ty (n ∷ ns) more ends = refl
 
-reads_more_labels : (ty : StType) (others : Labels) (ns : List ℤ) (more : List ℕ) (line : ℕ) (ks : List Kind) → LabelsSpelled (labels_behind ty others ns)
+reads_more_labels : (ty : StType) (others : Labels) (ns : List ℤ) (more : List ℕ) (line : ℕ) (ks : List Kind)
     → ends_word more ≡ true → ReadsOn line more ks
     → Behind (spell_labels others) line (flat_map (label_text ty) ns ++ more) (spell_labels (labels_behind ty others ns) ks)
 unfolding label_text
-reads_more_labels ty others [] more line ks s ends r = record { inner = ks; reads = r; same = refl }
-reads_more_labels ty others (n ∷ ns) more line ks s ends r =
-    let b = reads_more_labels ty (more_labels others (literal_form ty n)) ns more line ks s ends r in
-    let front = labels_front ty (more_labels others (literal_form ty n)) ns s in
+reads_more_labels ty others [] more line ks ends r = record { inner = ks; reads = r; same = refl }
+reads_more_labels ty others (n ∷ ns) more line ks ends r =
+    let b = reads_more_labels ty (more_labels others (literal_form ty n)) ns more line ks ends r in
     record {
       inner = kind.Fixed fixed.Comma ∷ kind.Literal (literal_form ty n) ∷ b.inner;
       reads = reads_as (two (codes ", ") (literal_text ty n) (flat_map (label_text ty) ns) more)
-          (reads_comma (reads_blank (reads_literal ty n (flat_map (label_text ty) ns ++ more) line b.inner front.1 (labels_end ty ns more ends) b.reads)));
+          (reads_comma (reads_blank (reads_literal ty n (flat_map (label_text ty) ns ++ more) line b.inner (labels_end ty ns more ends) b.reads)));
       same = b.same;
     }
 
-reads_labels : (ty : StType) (ns : List ℤ) (more : List ℕ) (line : ℕ) (ks : List Kind) → LabelsSpelled (labels_form ty ns) → ends_word more ≡ true → ReadsOn line more ks
+reads_labels : (ty : StType) (ns : List ℤ) (more : List ℕ) (line : ℕ) (ks : List Kind) → ends_word more ≡ true → ReadsOn line more ks
     → ReadsOn line (labels_text ty ns ++ more) (spell_labels (labels_form ty ns) ks)
-reads_labels ty [] more line ks s ends r = absurd cc
-reads_labels ty (n ∷ ns) more line ks s ends r =
-    let b = reads_more_labels ty (label (literal_form ty n)) ns more line ks s ends r in
-    let front : is_literal (literal_form ty n) ≡ true = labels_front ty (label (literal_form ty n)) ns s in
+reads_labels ty [] more line ks ends r = where_spelled (λ h. absurd cc)
+reads_labels ty (n ∷ ns) more line ks ends r =
+    let b = reads_more_labels ty (label (literal_form ty n)) ns more line ks ends r in
     reads_kinds b.same
     (reads_as (append_assoc (literal_text ty n) (flat_map (label_text ty) ns) more)
-    (reads_literal ty n (flat_map (label_text ty) ns ++ more) line b.inner front (labels_end ty ns more ends) b.reads))
+    (reads_literal ty n (flat_map (label_text ty) ns ++ more) line b.inner (labels_end ty ns more ends) b.reads))
 
 module _ (names : Names) where
   -- Calls
-
-  actuals_front : (line : ℕ) (others : Actuals) (formals : List Local) (vars : List Var) → ActualsSpelled (actuals_from names line others formals vars) → ActualsSpelled others
-  actuals_front line others [] vars s = s
-  actuals_front line others (formal ∷ formals) [] s = s
-  actuals_front line others (formal ∷ formals) (v ∷ vars) s = (actuals_front line (actual others formal.name (on line) (raw_var names v) (on line)) formals vars s).0
 
   commas_end : (texts : List (List ℕ)) (more : List ℕ) → ends_word more ≡ true → ends_word (flat_map (λ text. codes ", " ++ text) texts ++ more) ≡ true
   commas_end [] more ends = ends
   commas_end (text ∷ texts) more ends = refl
 
-  reads_actual : (formal : Local) (v : Var) (more : List ℕ) (line : ℕ) (ks : List Kind) → is_name formal.name ≡ true → is_variable (raw_var names v) ≡ true
-      → ends_word more ≡ true → ReadsOn line more ks
+  reads_actual : (formal : Local) (v : Var) (more : List ℕ) (line : ℕ) (ks : List Kind) → ends_word more ≡ true → ReadsOn line more ks
       → ReadsOn line ((formal.name ++ codes " := " ++ var_text names v) ++ more) (kind.Variable (var.Name formal.name) (on line) ∷ kind.Fixed fixed.Becomes
       ∷ kind.Variable (raw_var names v) (on line) ∷ ks)
-  reads_actual formal v more line ks h k ends r =
+  reads_actual formal v more line ks ends r =
       reads_as (two formal.name (codes " := ") (var_text names v) more)
-      (reads_name formal.name (codes " := " ++ (var_text names v ++ more)) line _ h refl (reads_blank (reads_becomes (reads_blank (reads_var names v more line ks k ends r)))))
+      (reads_name formal.name (codes " := " ++ (var_text names v ++ more)) line _ refl (reads_blank (reads_becomes (reads_blank (reads_var names v more line ks ends r)))))
 
   reads_more_actuals : (others : Actuals) (formals : List Local) (vars : List Var) (more : List ℕ) (line : ℕ) (ks : List Kind)
       → ((xs : List Kind) → comma_behind others xs ≡ kind.Fixed fixed.Comma ∷ xs)
-      → ActualsSpelled (actuals_from names line others formals vars) → ends_word more ≡ true → ReadsOn line more ks
+      → ends_word more ≡ true → ReadsOn line more ks
       → Behind (spell_actuals others) line (flat_map (λ text. codes ", " ++ text) (actuals_text names formals vars) ++ more)
       (spell_actuals (actuals_from names line others formals vars) ks)
-  reads_more_actuals others [] vars more line ks comma s ends r = record { inner = ks; reads = r; same = refl }
-  reads_more_actuals others (formal ∷ formals) [] more line ks comma s ends r = record { inner = ks; reads = r; same = refl }
-  reads_more_actuals others (formal ∷ formals) (v ∷ vars) more line ks comma s ends r =
+  reads_more_actuals others [] vars more line ks comma ends r = record { inner = ks; reads = r; same = refl }
+  reads_more_actuals others (formal ∷ formals) [] more line ks comma ends r = record { inner = ks; reads = r; same = refl }
+  reads_more_actuals others (formal ∷ formals) (v ∷ vars) more line ks comma ends r =
       let before : Actuals = actual others formal.name (on line) (raw_var names v) (on line) in
-      let b = reads_more_actuals before formals vars more line ks (λ xs. refl) s ends r in
-      let front : ActualsSpelled before = actuals_front line before formals vars s in
+      let b = reads_more_actuals before formals vars more line ks (λ xs. refl) ends r in
       let behind : List ℕ = flat_map (λ text. codes ", " ++ text) (actuals_text names formals vars) in
       record {
         inner = kind.Fixed fixed.Comma ∷ kind.Variable (var.Name formal.name) (on line) ∷ kind.Fixed fixed.Becomes ∷ kind.Variable (raw_var names v) (on line) ∷ b.inner;
         reads = reads_as (two (codes ", ") (formal.name ++ codes " := " ++ var_text names v) behind more)
-            (reads_comma (reads_blank (reads_actual formal v (behind ++ more) line b.inner front.1 front.2 (commas_end (actuals_text names formals vars) more ends) b.reads)));
+            (reads_comma (reads_blank (reads_actual formal v (behind ++ more) line b.inner (commas_end (actuals_text names formals vars) more ends) b.reads)));
         same = ap (spell_actuals others) (sym (comma (kind.Variable (var.Name formal.name) (on line) ∷ kind.Fixed fixed.Becomes ∷ kind.Variable (raw_var names v) (on line) ∷ b.inner)))
             ∙ b.same;
       }
 
-  reads_actuals : (formals : List Local) (vars : List Var) (more : List ℕ) (line : ℕ) (ks : List Kind) → ActualsSpelled (actuals_from names line no_actual formals vars)
+  reads_actuals : (formals : List Local) (vars : List Var) (more : List ℕ) (line : ℕ) (ks : List Kind)
       → ends_word more ≡ true → ReadsOn line more ks
       → ReadsOn line (listed (actuals_text names formals vars) ++ more) (spell_actuals (actuals_from names line no_actual formals vars) ks)
-  reads_actuals [] vars more line ks s ends r = r
-  reads_actuals (formal ∷ formals) [] more line ks s ends r = r
-  reads_actuals (formal ∷ formals) (v ∷ vars) more line ks s ends r =
+  reads_actuals [] vars more line ks ends r = r
+  reads_actuals (formal ∷ formals) [] more line ks ends r = r
+  reads_actuals (formal ∷ formals) (v ∷ vars) more line ks ends r =
       let before : Actuals = actual no_actual formal.name (on line) (raw_var names v) (on line) in
-      let b = reads_more_actuals before formals vars more line ks (λ xs. refl) s ends r in
-      let front : ActualsSpelled before = actuals_front line before formals vars s in
+      let b = reads_more_actuals before formals vars more line ks (λ xs. refl) ends r in
       let behind : List ℕ = flat_map (λ text. codes ", " ++ text) (actuals_text names formals vars) in
       reads_kinds b.same
       (reads_as (append_assoc (formal.name ++ codes " := " ++ var_text names v) behind more)
-      (reads_actual formal v (behind ++ more) line b.inner front.1 front.2 (commas_end (actuals_text names formals vars) more ends) b.reads))
+      (reads_actual formal v (behind ++ more) line b.inner (commas_end (actuals_text names formals vars) more ends) b.reads))
 
-  actuals_no_star : (formals : List Local) (vars : List Var) (more : List ℕ) (line : ℕ) → ActualsSpelled (actuals_from names line no_actual formals vars)
-      → begins_with 42 (listed (actuals_text names formals vars) ++ 41 ∷ more) ≡ false
-  actuals_no_star [] vars more line s = refl
-  actuals_no_star (formal ∷ formals) [] more line s = refl
-  actuals_no_star (formal ∷ formals) (v ∷ vars) more line s =
-      let before : Actuals = actual no_actual formal.name (on line) (raw_var names v) (on line) in
-      let front : ActualsSpelled before = actuals_front line before formals vars s in
-      let behind : List ℕ = flat_map (λ text. codes ", " ++ text) (actuals_text names formals vars) in
-      subst (λ (text : List ℕ). begins_with 42 text ≡ false) (sym (three formal.name (codes " := ") (var_text names v) behind (41 ∷ more)))
-      (name_no_star formal.name (codes " := " ++ (var_text names v ++ (behind ++ 41 ∷ more))) front.1)
+  -- no actual begins with `*`
+  actuals_begin : (a : Actuals) (ks : List Kind) → begins_with_times ks ≡ false → begins_with_times (spell_actuals a ks) ≡ false
+  actuals_begin no_actual ks h = h
+  actuals_begin (actual no_actual name l v place) ks h = refl
+  actuals_begin (actual (actual others o m w p) name l v place) ks h =
+      actuals_begin (actual others o m w p) (kind.Fixed fixed.Comma ∷ kind.Variable (var.Name name) l ∷ kind.Fixed fixed.Becomes ∷ kind.Variable v place ∷ ks) refl
 
   -- Statements
 
   abbrev ReadsStmt : Text → FromLine → Type 0
-  ReadsStmt t f = (level line : ℕ) (more : List ℕ) (ks : List Kind) → Spelled (f line).0 → ReadsOn (f line).1 more ks
+  ReadsStmt t f = (level line : ℕ) (more : List ℕ) (ks : List Kind) → ReadsOn (f line).1 more ks
       → ReadsOn line (t level ++ more) (spell_one (f line).0 (kind.Fixed fixed.Semicolon ∷ ks))
 
   -- IF before the first arm, ELSIF before others
@@ -162,16 +143,14 @@ module _ (names : Names) where
   ReadsArmWord line start others word = (bytes : List ℕ) (ks : List Kind) → ReadsOn line bytes ks → ReadsOn line (word ++ bytes) (arm_word start others ∷ ks)
 
   record ReadsArm (t : ArmText) (f : ArmFromLine) : Type 0 where
-    reads : (level line : ℕ) (start : Line) (others : Arms) (word more : List ℕ) (ks : List Kind) → ReadsArmWord line start others word → ArmsSpelled (f others line).0
+    reads : (level line : ℕ) (start : Line) (others : Arms) (word more : List ℕ) (ks : List Kind) → ReadsArmWord line start others word
         → ReadsOn (f others line).1 more ks
         → Behind (spell_arms start others) line (t word level ++ more) (spell_arms start (f others line).0 ks)
     is_arm : (others : Arms) (line : ℕ) → HasArm (f others line).0
-    front : (others : Arms) (line : ℕ) → ArmsSpelled (f others line).0 → ArmsSpelled others
 
   record ReadsCase (t : CaseText) (f : CaseFromLine) : Type 0 where
-    reads : (ty : StType) (level line : ℕ) (others : CaseArms) (more : List ℕ) (ks : List Kind) → CasesSpelled (f ty others line).0 → ReadsOn (f ty others line).1 more ks
+    reads : (ty : StType) (level line : ℕ) (others : CaseArms) (more : List ℕ) (ks : List Kind) → ReadsOn (f ty others line).1 more ks
         → Behind (spell_cases others) line (t ty level ++ more) (spell_cases (f ty others line).0 ks)
-    front : (ty : StType) (others : CaseArms) (line : ℕ) → CasesSpelled (f ty others line).0 → CasesSpelled others
 
   abbrev P : Stmt → Type 0
   P x = ReadsStmt (statement_text names x) (statement_from names x)
@@ -210,105 +189,87 @@ module _ (names : Names) where
   abbrev case_froms : List ACase → List CaseFromLine
   case_froms ys = map (case_from names) (map (λ (y : ACase). y.0) ys)
 
-  all_front : (others : Statements) (line : ℕ) (fs : List FromLine) → AllSpelled (all_from others line fs).0 → AllSpelled others
-  all_front others line [] s = s
-  all_front others line (f ∷ fs) s = (all_front (further others (f line).0) (f line).1 fs s).0
-
-  reads_more : (others : Statements) (ys : List AStmt) (level line : ℕ) (more : List ℕ) (ks : List Kind) → AllSpelled (all_from others line (froms ys)).0
+  reads_more : (others : Statements) (ys : List AStmt) (level line : ℕ) (more : List ℕ) (ks : List Kind)
       → ReadsOn (all_from others line (froms ys)).1 more ks → Behind (spell_all others) line (texts_at level (texts ys) ++ more) (spell_all (all_from others line (froms ys)).0 ks)
-  reads_more others [] level line more ks s r = record { inner = ks; reads = r; same = refl }
-  reads_more others (y ∷ ys) level line more ks s r =
+  reads_more others [] level line more ks r = record { inner = ks; reads = r; same = refl }
+  reads_more others (y ∷ ys) level line more ks r =
       let here : Placed Statement = statement_from names y.0 line in
-      let b = reads_more (further others here.0) ys level here.1 more ks s r in
-      let front : AllSpelled (further others here.0) = all_front (further others here.0) here.1 (froms ys) s in
+      let b = reads_more (further others here.0) ys level here.1 more ks r in
       record {
         inner = spell_one here.0 (kind.Fixed fixed.Semicolon ∷ b.inner);
-        reads = reads_as (append_assoc (statement_text names y.0 level) (texts_at level (texts ys)) more) (y.1 level line (texts_at level (texts ys) ++ more) b.inner front.1 b.reads);
+        reads = reads_as (append_assoc (statement_text names y.0 level) (texts_at level (texts ys)) more) (y.1 level line (texts_at level (texts ys) ++ more) b.inner b.reads);
         same = b.same;
       }
 
-  reads_all : (ys : List AStmt) (level line : ℕ) (more : List ℕ) (ks : List Kind) → AllSpelled (body_from line (froms ys)).0
+  reads_all : (ys : List AStmt) (level line : ℕ) (more : List ℕ) (ks : List Kind)
       → ReadsOn (body_from line (froms ys)).1 more ks → ReadsOn line (texts_at level (texts ys) ++ more) (spell_all (body_from line (froms ys)).0 ks)
-  reads_all ys level line more ks s r = let b = reads_more none ys level line more ks s r in reads_kinds b.same b.reads
+  reads_all ys level line more ks r = let b = reads_more none ys level line more ks r in reads_kinds b.same b.reads
 
   -- Arms of an IF
-
-  arms_front : (others : Arms) (line : ℕ) (ys : List AnArm) → ArmsSpelled (arms_from others line (arm_froms ys)).0 → ArmsSpelled others
-  arms_front others line [] s = s
-  arms_front others line (y ∷ ys) s = let first = arm_from names y.0 others line in y.1.front others line (arms_front first.0 first.1 ys s)
 
   elsif : (line : ℕ) (start : Line) (others : Arms) → HasArm others → ReadsArmWord line start others (codes "ELSIF ")
   elsif line start no_arm h bytes ks r = absurd h
   elsif line start (arm others e body) h bytes ks r = reads_fixed fixed.Elsif (32 ∷ bytes) line ks refl refl (reads_blank r)
 
   reads_more_arms : (start : Line) (others : Arms) (ys : List AnArm) (level line : ℕ) (more : List ℕ) (ks : List Kind) → HasArm others
-      → ArmsSpelled (arms_from others line (arm_froms ys)).0
       → ReadsOn (arms_from others line (arm_froms ys)).1 more ks
       → Behind (spell_arms start others) line (flat_map (λ (a : ArmText). a (codes "ELSIF ") level) (arm_texts ys) ++ more)
       (spell_arms start (arms_from others line (arm_froms ys)).0 ks)
-  reads_more_arms start others [] level line more ks h s r = record { inner = ks; reads = r; same = refl }
-  reads_more_arms start others (y ∷ ys) level line more ks h s r =
+  reads_more_arms start others [] level line more ks h r = record { inner = ks; reads = r; same = refl }
+  reads_more_arms start others (y ∷ ys) level line more ks h r =
       let first = arm_from names y.0 others line in
-      let b = reads_more_arms start first.0 ys level first.1 more ks (y.1.is_arm others line) s r in
-      let front : ArmsSpelled first.0 = arms_front first.0 first.1 ys s in
+      let b = reads_more_arms start first.0 ys level first.1 more ks (y.1.is_arm others line) r in
       let behind : List ℕ = flat_map (λ (a : ArmText). a (codes "ELSIF ") level) (arm_texts ys) in
-      let c = y.1.reads level line start others (codes "ELSIF ") (behind ++ more) b.inner (elsif line start others h) front b.reads in
+      let c = y.1.reads level line start others (codes "ELSIF ") (behind ++ more) b.inner (elsif line start others h) b.reads in
       record {
         inner = c.inner;
         reads = reads_as (append_assoc (arm_text names y.0 (codes "ELSIF ") level) behind more) c.reads;
         same = c.same ∙ b.same;
       }
 
-  reads_arms : (ys : List AnArm) (level line : ℕ) (more : List ℕ) (ks : List Kind) → ArmsSpelled (arms_from no_arm line (arm_froms ys)).0
+  reads_arms : (ys : List AnArm) (level line : ℕ) (more : List ℕ) (ks : List Kind)
       → ReadsOn (arms_from no_arm line (arm_froms ys)).1 more ks
       → ReadsOn line (arms_text level (arm_texts ys) ++ more) (spell_arms (on line) (arms_from no_arm line (arm_froms ys)).0 ks)
-  reads_arms [] level line more ks s r = r
-  reads_arms (y ∷ ys) level line more ks s r =
+  reads_arms [] level line more ks r = r
+  reads_arms (y ∷ ys) level line more ks r =
       let first = arm_from names y.0 no_arm line in
-      let b = reads_more_arms (on line) first.0 ys level first.1 more ks (y.1.is_arm no_arm line) s r in
-      let front : ArmsSpelled first.0 = arms_front first.0 first.1 ys s in
+      let b = reads_more_arms (on line) first.0 ys level first.1 more ks (y.1.is_arm no_arm line) r in
       let behind : List ℕ = flat_map (λ (a : ArmText). a (codes "ELSIF ") level) (arm_texts ys) in
       let c = y.1.reads level line (on line) no_arm (codes "IF ") (behind ++ more) b.inner
-      (λ bytes ls rest. reads_lead lead.If (32 ∷ bytes) line ls refl (reads_blank rest)) front b.reads in
+      (λ bytes ls rest. reads_lead lead.If (32 ∷ bytes) line ls refl (reads_blank rest)) b.reads in
       reads_kinds (c.same ∙ b.same) (reads_as (append_assoc (arm_text names y.0 (codes "IF ") level) behind more) c.reads)
 
   -- Arms of a CASE
 
-  cases_front : (ty : StType) (others : CaseArms) (line : ℕ) (ys : List ACase) → CasesSpelled (cases_from ty others line (case_froms ys)).0 → CasesSpelled others
-  cases_front ty others line [] s = s
-  cases_front ty others line (y ∷ ys) s = let first = case_from names y.0 ty others line in y.1.front ty others line (cases_front ty first.0 first.1 ys s)
-
   reads_more_cases : (ty : StType) (others : CaseArms) (ys : List ACase) (level line : ℕ) (more : List ℕ) (ks : List Kind)
-      → CasesSpelled (cases_from ty others line (case_froms ys)).0
       → ReadsOn (cases_from ty others line (case_froms ys)).1 more ks
       → Behind (spell_cases others) line (flat_map (λ (a : CaseText). a ty level) (case_texts ys) ++ more) (spell_cases (cases_from ty others line (case_froms ys)).0 ks)
-  reads_more_cases ty others [] level line more ks s r = record { inner = ks; reads = r; same = refl }
-  reads_more_cases ty others (y ∷ ys) level line more ks s r =
+  reads_more_cases ty others [] level line more ks r = record { inner = ks; reads = r; same = refl }
+  reads_more_cases ty others (y ∷ ys) level line more ks r =
       let first = case_from names y.0 ty others line in
-      let b = reads_more_cases ty first.0 ys level first.1 more ks s r in
-      let front : CasesSpelled first.0 = cases_front ty first.0 first.1 ys s in
+      let b = reads_more_cases ty first.0 ys level first.1 more ks r in
       let behind : List ℕ = flat_map (λ (a : CaseText). a ty level) (case_texts ys) in
-      let c = y.1.reads ty level line others (behind ++ more) b.inner front b.reads in
+      let c = y.1.reads ty level line others (behind ++ more) b.inner b.reads in
       record {
         inner = c.inner;
         reads = reads_as (append_assoc (case_text names y.0 ty level) behind more) c.reads;
         same = c.same ∙ b.same;
       }
 
-  reads_cases : (ty : StType) (ys : List ACase) (level line : ℕ) (more : List ℕ) (ks : List Kind) → CasesSpelled (cases_from ty no_case line (case_froms ys)).0
+  reads_cases : (ty : StType) (ys : List ACase) (level line : ℕ) (more : List ℕ) (ks : List Kind)
       → ReadsOn (cases_from ty no_case line (case_froms ys)).1 more ks
       → ReadsOn line (flat_map (λ (a : CaseText). a ty level) (case_texts ys) ++ more) (spell_cases (cases_from ty no_case line (case_froms ys)).0 ks)
-  reads_cases ty ys level line more ks s r = let b = reads_more_cases ty no_case ys level line more ks s r in reads_kinds b.same b.reads
+  reads_cases ty ys level line more ks r = let b = reads_more_cases ty no_case ys level line more ks r in reads_kinds b.same b.reads
 
   -- ELSE with its statements
-  reads_else : (y : AStmt) (ys : List AStmt) (level line : ℕ) (more : List ℕ) (ks : List Kind) → AllSpelled (body_from (line_after line) (froms (y ∷ ys))).0
+  reads_else : (y : AStmt) (ys : List AStmt) (level line : ℕ) (more : List ℕ) (ks : List Kind)
       → ReadsOn (body_from (line_after line) (froms (y ∷ ys))).1 more ks
       → ReadsOn line (else_text level (texts (y ∷ ys)) ++ more) (kind.Fixed fixed.Else ∷ spell_all (body_from (line_after line) (froms (y ∷ ys))).0 ks)
-  reads_else y ys level line more ks s r =
+  reads_else y ys level line more ks r =
       let inner : List ℕ = texts_at (level + 1) (texts (y ∷ ys)) in
       reads_as (append_assoc (line_text level (codes "ELSE")) inner more)
       (reads_line level (codes "ELSE") (inner ++ more)
-      (reads_fixed fixed.Else (10 ∷ (inner ++ more)) line _ refl refl (reads_line_end (reads_all (y ∷ ys) (level + 1) (line_after line) more ks s r))))
+      (reads_fixed fixed.Else (10 ∷ (inner ++ more)) line _ refl refl (reads_line_end (reads_all (y ∷ ys) (level + 1) (line_after line) more ks r))))
 
   -- a word alone on the last line of a statement
   reads_last : (level : ℕ) (f : Fixed) (word more : List ℕ) (line : ℕ) (ks : List Kind)
@@ -323,107 +284,105 @@ module _ (names : Names) where
   write_word : (w : Width) (more : List ℕ) (line : ℕ) (ks : List Kind) → ends_word more ≡ true → ReadsOn line more ks
       → ReadsOn line ((codes "AREA_WRITE_" ++ width_word w) ++ more) (kind.Lead (lead.AreaWrite w) (on line) ∷ ks)
   write_word width.Bit more line ks ends r = reads_lead (lead.AreaWrite width.Bit) more line ks ends r
-  write_word width.Byte more line ks ends r = reads_lead (lead.AreaWrite width.Byte) more line ks ends r
-  write_word width.Word more line ks ends r = reads_lead (lead.AreaWrite width.Word) more line ks ends r
-  write_word width.Dword more line ks ends r = reads_lead (lead.AreaWrite width.Dword) more line ks ends r
+  write_word w more line ks ends r = reads_lead (lead.AreaWrite w) more line ks ends r
 
   reads_assign : (v : Var) (e : Expr) → ReadsStmt (λ level. line_text level (var_text names v ++ codes " := " ++ expr_text names e ++ codes ";"))
       (λ line. canonical.one_line line (assign (on line) (raw_var names v) (expr_form names line e)))
-  reads_assign v e level line more ks s r =
+  reads_assign v e level line more ks r =
       reads_line level (var_text names v ++ codes " := " ++ expr_text names e ++ codes ";") more
       (reads_as (three (var_text names v) (codes " := ") (expr_text names e) (codes ";") (10 ∷ more))
-      (reads_var names v (codes " := " ++ (expr_text names e ++ (codes ";" ++ 10 ∷ more))) line _ s.0 refl
-      (reads_blank (reads_becomes (reads_blank (reads_expr names e (codes ";" ++ 10 ∷ more) line (kind.Fixed fixed.Semicolon ∷ ks) s.1 refl (reads_semicolon (reads_line_end r))))))))
+      (reads_var names v (codes " := " ++ (expr_text names e ++ (codes ";" ++ 10 ∷ more))) line _ refl
+      (reads_blank (reads_becomes (reads_blank (reads_expr names e (codes ";" ++ 10 ∷ more) line (kind.Fixed fixed.Semicolon ∷ ks) refl (reads_semicolon (reads_line_end r))))))))
 
   reads_write : (w : Width) (p e : Expr)
       → ReadsStmt (λ level. line_text level (codes "AREA_WRITE_" ++ width_word w ++ codes "(" ++ expr_text names p ++ codes ", " ++ expr_text names e ++ codes ");"))
       (λ line. canonical.one_line line (write (on line) w (expr_form names line p) (expr_form names line e)))
-  reads_write w p e level line more ks s r =
+  reads_write w p e level line more ks r =
       let last : List ℕ = expr_text names e ++ (codes ");" ++ 10 ∷ more) in
       let last_kinds : List Kind = spell (expr_form names line e) (kind.Fixed fixed.Close ∷ kind.Fixed fixed.Semicolon ∷ ks) in
       reads_line level (codes "AREA_WRITE_" ++ width_word w ++ codes "(" ++ expr_text names p ++ codes ", " ++ expr_text names e ++ codes ");") more
       (reads_as (five (codes "AREA_WRITE_" ++ width_word w) (codes "(") (expr_text names p) (codes ", ") (expr_text names e) (codes ");") (10 ∷ more))
       (write_word w (40 ∷ (expr_text names p ++ (codes ", " ++ last))) line _ refl
-      (reads_open (expr_no_star names p (codes ", " ++ last) line s.0)
-      (reads_expr names p (codes ", " ++ last) line (kind.Fixed fixed.Comma ∷ last_kinds) s.0 refl
-      (reads_comma (reads_blank (reads_expr names e (codes ");" ++ 10 ∷ more) line (kind.Fixed fixed.Close ∷ kind.Fixed fixed.Semicolon ∷ ks) s.1 refl
+      (opens (expr_form names line p) _
+      (reads_expr names p (codes ", " ++ last) line (kind.Fixed fixed.Comma ∷ last_kinds) refl
+      (reads_comma (reads_blank (reads_expr names e (codes ");" ++ 10 ∷ more) line (kind.Fixed fixed.Close ∷ kind.Fixed fixed.Semicolon ∷ ks) refl
       (reads_close (reads_semicolon (reads_line_end r))))))))))
 
   reads_invoke : (unit : Option Pou) (vars : List Var) → ReadsStmt (λ level. line_text level (call_text names unit vars))
       (λ line. canonical.one_line line (invoke (on line) (unit_name unit) (actuals_from names line no_actual (formals_of unit) vars)))
-  reads_invoke unit vars level line more ks s r =
+  reads_invoke unit vars level line more ks r =
       let inner : List ℕ = listed (actuals_text names (formals_of unit) vars) in
       reads_line level (call_text names unit vars) more
       (reads_as (three (unit_name unit) (codes "(") inner (codes ");") (10 ∷ more))
-      (reads_name (unit_name unit) (40 ∷ (inner ++ (codes ");" ++ 10 ∷ more))) line _ s.0 refl
-      (reads_open (actuals_no_star (formals_of unit) vars (codes ";" ++ 10 ∷ more) line s.1)
-      (reads_actuals (formals_of unit) vars (codes ");" ++ 10 ∷ more) line (kind.Fixed fixed.Close ∷ kind.Fixed fixed.Semicolon ∷ ks) s.1 refl
+      (reads_name (unit_name unit) (40 ∷ (inner ++ (codes ");" ++ 10 ∷ more))) line _ refl
+      (reads_open (actuals_begin (actuals_from names line no_actual (formals_of unit) vars) _ refl)
+      (reads_actuals (formals_of unit) vars (codes ");" ++ 10 ∷ more) line (kind.Fixed fixed.Close ∷ kind.Fixed fixed.Semicolon ∷ ks) refl
       (reads_close (reads_semicolon (reads_line_end r)))))))
 
   reads_if : (arms : List AnArm) (other : List AStmt) → ReadsStmt (λ level. arms_text level (arm_texts arms) ++ else_text level (texts other) ++ line_text level (codes "END_IF;"))
       (λ line. choice_from line (arms_from no_arm line (arm_froms arms)) (froms other))
-  reads_if arms [] level line more ks s r =
+  reads_if arms [] level line more ks r =
       reads_as (two (arms_text level (arm_texts arms)) [] (line_text level (codes "END_IF;")) more)
-      (reads_arms arms level line (line_text level (codes "END_IF;") ++ more) (kind.Fixed fixed.EndIf ∷ kind.Fixed fixed.Semicolon ∷ ks) s
+      (reads_arms arms level line (line_text level (codes "END_IF;") ++ more) (kind.Fixed fixed.EndIf ∷ kind.Fixed fixed.Semicolon ∷ ks)
       (reads_last level fixed.EndIf (codes "END_IF") more _ ks (λ bytes ls ends rest. reads_fixed fixed.EndIf bytes _ ls refl ends rest) r))
-  reads_if arms (y ∷ ys) level line more ks s r =
+  reads_if arms (y ∷ ys) level line more ks r =
       let behind = arms_from no_arm line (arm_froms arms) in
       reads_as (two (arms_text level (arm_texts arms)) (else_text level (texts (y ∷ ys))) (line_text level (codes "END_IF;")) more)
-      (reads_arms arms level line (else_text level (texts (y ∷ ys)) ++ (line_text level (codes "END_IF;") ++ more)) _ s.0
-      (reads_else y ys level behind.1 (line_text level (codes "END_IF;") ++ more) (kind.Fixed fixed.EndIf ∷ kind.Fixed fixed.Semicolon ∷ ks) s.1
+      (reads_arms arms level line (else_text level (texts (y ∷ ys)) ++ (line_text level (codes "END_IF;") ++ more)) _
+      (reads_else y ys level behind.1 (line_text level (codes "END_IF;") ++ more) (kind.Fixed fixed.EndIf ∷ kind.Fixed fixed.Semicolon ∷ ks)
       (reads_last level fixed.EndIf (codes "END_IF") more _ ks (λ bytes ls ends rest. reads_fixed fixed.EndIf bytes _ ls refl ends rest) r)))
 
-  reads_case_head : (e : Expr) (level line : ℕ) (more : List ℕ) (ks : List Kind) → FormSpelled (expr_form names line e) → ReadsOn (line_after line) more ks
+  reads_case_head : (e : Expr) (level line : ℕ) (more : List ℕ) (ks : List Kind) → ReadsOn (line_after line) more ks
       → ReadsOn line (line_text level (codes "CASE " ++ expr_text names e ++ codes " OF") ++ more)
       (kind.Lead lead.Case (on line) ∷ spell (expr_form names line e) (kind.Fixed fixed.Of ∷ ks))
-  reads_case_head e level line more ks s r =
+  reads_case_head e level line more ks r =
       reads_line level (codes "CASE " ++ expr_text names e ++ codes " OF") more
       (reads_as (two (codes "CASE ") (expr_text names e) (codes " OF") (10 ∷ more))
       (reads_lead lead.Case (32 ∷ (expr_text names e ++ (codes " OF" ++ 10 ∷ more))) line _ refl
-      (reads_blank (reads_expr names e (codes " OF" ++ 10 ∷ more) line (kind.Fixed fixed.Of ∷ ks) s refl
+      (reads_blank (reads_expr names e (codes " OF" ++ 10 ∷ more) line (kind.Fixed fixed.Of ∷ ks) refl
       (reads_blank (reads_fixed fixed.Of (10 ∷ more) line ks refl refl (reads_line_end r)))))))
 
   reads_case : (e : Expr) (arms : List ACase) (other : List AStmt)
       → ReadsStmt (λ level. line_text level (codes "CASE " ++ expr_text names e ++ codes " OF") ++ flat_map (λ (a : CaseText). a (type_of names e) level) (case_texts arms)
       ++ else_text level (texts other) ++ line_text level (codes "END_CASE;"))
       (λ line. canonical.cases_else_from line (expr_form names line e) (cases_from (type_of names e) no_case (line_after line) (case_froms arms)) (froms other))
-  reads_case e arms [] level line more ks s r =
+  reads_case e arms [] level line more ks r =
       let ty : StType = type_of names e in
       let middle : List ℕ = flat_map (λ (a : CaseText). a ty level) (case_texts arms) in
       reads_as (three (line_text level (codes "CASE " ++ expr_text names e ++ codes " OF")) middle [] (line_text level (codes "END_CASE;")) more)
-      (reads_case_head e level line (middle ++ (line_text level (codes "END_CASE;") ++ more)) _ s.0
-      (reads_cases ty arms level (line_after line) (line_text level (codes "END_CASE;") ++ more) (kind.Fixed fixed.EndCase ∷ kind.Fixed fixed.Semicolon ∷ ks) s.1
+      (reads_case_head e level line (middle ++ (line_text level (codes "END_CASE;") ++ more)) _
+      (reads_cases ty arms level (line_after line) (line_text level (codes "END_CASE;") ++ more) (kind.Fixed fixed.EndCase ∷ kind.Fixed fixed.Semicolon ∷ ks)
       (reads_last level fixed.EndCase (codes "END_CASE") more _ ks (λ bytes ls ends rest. reads_fixed fixed.EndCase bytes _ ls refl ends rest) r)))
-  reads_case e arms (y ∷ ys) level line more ks s r =
+  reads_case e arms (y ∷ ys) level line more ks r =
       let ty : StType = type_of names e in
       let middle : List ℕ = flat_map (λ (a : CaseText). a ty level) (case_texts arms) in
       let behind = cases_from ty no_case (line_after line) (case_froms arms) in
       let last : List ℕ = line_text level (codes "END_CASE;") ++ more in
       reads_as (three (line_text level (codes "CASE " ++ expr_text names e ++ codes " OF")) middle (else_text level (texts (y ∷ ys))) (line_text level (codes "END_CASE;")) more)
-      (reads_case_head e level line (middle ++ (else_text level (texts (y ∷ ys)) ++ last)) _ s.0
-      (reads_cases ty arms level (line_after line) (else_text level (texts (y ∷ ys)) ++ last) _ s.1
-      (reads_else y ys level behind.1 last (kind.Fixed fixed.EndCase ∷ kind.Fixed fixed.Semicolon ∷ ks) s.2
+      (reads_case_head e level line (middle ++ (else_text level (texts (y ∷ ys)) ++ last)) _
+      (reads_cases ty arms level (line_after line) (else_text level (texts (y ∷ ys)) ++ last) _
+      (reads_else y ys level behind.1 last (kind.Fixed fixed.EndCase ∷ kind.Fixed fixed.Semicolon ∷ ks)
       (reads_last level fixed.EndCase (codes "END_CASE") more _ ks (λ bytes ls ends rest. reads_fixed fixed.EndCase bytes _ ls refl ends rest) r))))
 
   reads_while : (e : Expr) (body : List AStmt)
       → ReadsStmt (λ level. line_text level (codes "WHILE " ++ expr_text names e ++ codes " DO") ++ texts_at (level + 1) (texts body) ++ line_text level (codes "END_WHILE;"))
       (λ line. canonical.loop_from line (expr_form names line e) (body_from (line_after line) (froms body)))
-  reads_while e body level line more ks s r =
+  reads_while e body level line more ks r =
       let middle : List ℕ = texts_at (level + 1) (texts body) in
       let last : List ℕ = line_text level (codes "END_WHILE;") ++ more in
       reads_as (two (line_text level (codes "WHILE " ++ expr_text names e ++ codes " DO")) middle (line_text level (codes "END_WHILE;")) more)
       (reads_line level (codes "WHILE " ++ expr_text names e ++ codes " DO") (middle ++ last)
       (reads_as (two (codes "WHILE ") (expr_text names e) (codes " DO") (10 ∷ (middle ++ last)))
       (reads_lead lead.While (32 ∷ (expr_text names e ++ (codes " DO" ++ 10 ∷ (middle ++ last)))) line _ refl
-      (reads_blank (reads_expr names e (codes " DO" ++ 10 ∷ (middle ++ last)) line _ s.0 refl
+      (reads_blank (reads_expr names e (codes " DO" ++ 10 ∷ (middle ++ last)) line _ refl
       (reads_blank (reads_fixed fixed.Do (10 ∷ (middle ++ last)) line _ refl refl
-      (reads_line_end (reads_all body (level + 1) (line_after line) last _ s.1
+      (reads_line_end (reads_all body (level + 1) (line_after line) last _
       (reads_last level fixed.EndWhile (codes "END_WHILE") more _ ks (λ bytes ls ends rest. reads_fixed fixed.EndWhile bytes _ ls refl ends rest) r))))))))))
 
   reads_jump : (word : Jump) (text : List ℕ)
       → ((more : List ℕ) (line : ℕ) (ks : List Kind) → ReadsOn line more ks → ReadsOn line (text ++ 59 ∷ more) (kind.Lead (lead.Jump word) (on line) ∷ kind.Fixed fixed.Semicolon ∷ ks))
       → ReadsStmt (λ level. line_text level (text ++ codes ";")) (λ line. canonical.one_line line (jump (on line) word))
-  reads_jump word text reads level line more ks s r =
+  reads_jump word text reads level line more ks r =
       reads_line level (text ++ codes ";") more (reads_as (append_assoc text (codes ";") (10 ∷ more)) (reads (10 ∷ more) line ks (reads_line_end r)))
 
   jump_word_read : (word : Jump) (more : List ℕ) (line : ℕ) (ks : List Kind) → ReadsOn line more ks
@@ -440,15 +399,15 @@ module _ (names : Names) where
   given_from x = canonical.statement_step names (map-Stmt Stmt Arm CaseArm FromLine ArmFromLine CaseFromLine (statement_from names) (arm_from names) (case_from names) x)
 
   core : (y : S.Stmt-F AStmt AnArm ACase) → ReadsStmt (given_text (bare y)) (given_from (bare y))
-  core (S.Assign v e) level line more ks s r = reads_assign v e level line more ks s r
-  core (S.AreaWrite w p e) level line more ks s r = reads_write w p e level line more ks s r
-  core (S.Invoke n vars) level line more ks s r = reads_invoke (slice_get names.units n) vars level line more ks s r
-  core (S.If arms other) level line more ks s r = reads_if arms other level line more ks s r
-  core (S.Case e arms other) level line more ks s r = reads_case e arms other level line more ks s r
-  core (S.While e body) level line more ks s r = reads_while e body level line more ks s r
-  core S.Exit level line more ks s r = reads_jump jump_word.Exit (codes "EXIT") (jump_word_read jump_word.Exit) level line more ks s r
-  core S.Continue level line more ks s r = reads_jump jump_word.Continue (codes "CONTINUE") (jump_word_read jump_word.Continue) level line more ks s r
-  core S.Return level line more ks s r = reads_jump jump_word.Return (codes "RETURN") (jump_word_read jump_word.Return) level line more ks s r
+  core (S.Assign v e) level line more ks r = reads_assign v e level line more ks r
+  core (S.AreaWrite w p e) level line more ks r = reads_write w p e level line more ks r
+  core (S.Invoke n vars) level line more ks r = reads_invoke (slice_get names.units n) vars level line more ks r
+  core (S.If arms other) level line more ks r = reads_if arms other level line more ks r
+  core (S.Case e arms other) level line more ks r = reads_case e arms other level line more ks r
+  core (S.While e body) level line more ks r = reads_while e body level line more ks r
+  core S.Exit level line more ks r = reads_jump jump_word.Exit (codes "EXIT") (jump_word_read jump_word.Exit) level line more ks r
+  core S.Continue level line more ks r = reads_jump jump_word.Continue (codes "CONTINUE") (jump_word_read jump_word.Continue) level line more ks r
+  core S.Return level line more ks r = reads_jump jump_word.Return (codes "RETURN") (jump_word_read jump_word.Return) level line more ks r
 
   step : (x : S.Stmt-F Stmt Arm CaseArm) (y : S.Stmt-F AStmt AnArm ACase) → bare y ≡ x → P (roll-Stmt x)
   step x y e =
@@ -467,7 +426,7 @@ module _ (names : Names) where
       → ReadsArm (λ word level. line_text level (word ++ expr_text names e ++ codes " THEN") ++ texts_at (level + 1) (texts body))
       (λ others line. (arm others (expr_form names line e) (body_from (line_after line) (froms body)).0, (body_from (line_after line) (froms body)).1))
   reads_arm e body = record {
-    reads = λ level line start others word more ks first s r.
+    reads = λ level line start others word more ks first r.
         let inner : List ℕ = texts_at (level + 1) (texts body) in
         record {
           inner = arm_word start others ∷ spell (expr_form names line e) (kind.Fixed fixed.Then ∷ spell_all (body_from (line_after line) (froms body)).0 ks);
@@ -475,13 +434,12 @@ module _ (names : Names) where
               (reads_line level (word ++ expr_text names e ++ codes " THEN") (inner ++ more)
               (reads_as (two word (expr_text names e) (codes " THEN") (10 ∷ (inner ++ more)))
               (first (expr_text names e ++ (codes " THEN" ++ 10 ∷ (inner ++ more))) _
-              (reads_expr names e (codes " THEN" ++ 10 ∷ (inner ++ more)) line _ s.1 refl
+              (reads_expr names e (codes " THEN" ++ 10 ∷ (inner ++ more)) line _ refl
               (reads_blank (reads_fixed fixed.Then (10 ∷ (inner ++ more)) line _ refl refl
-              (reads_line_end (reads_all body (level + 1) (line_after line) more ks s.2 r))))))));
+              (reads_line_end (reads_all body (level + 1) (line_after line) more ks r))))))));
           same = refl;
         };
     is_arm = λ others line. tt;
-    front = λ others line s. s.0;
   }
 
   step_arm : (x : S.Arm-F Stmt Arm CaseArm) (y : S.Arm-F AStmt AnArm ACase) → bare_arm y ≡ x → PArm (roll-Arm x)
@@ -499,18 +457,17 @@ module _ (names : Names) where
       → ReadsCase (λ ty level. line_text (level + 1) (labels_text ty labels ++ codes ":") ++ texts_at (level + 2) (texts body))
       (λ ty others line. (case_arm others (labels_form ty labels) (body_from (line_after line) (froms body)).0, (body_from (line_after line) (froms body)).1))
   reads_case_arm labels body = record {
-    reads = λ ty level line others more ks s r.
+    reads = λ ty level line others more ks r.
         let inner : List ℕ = texts_at (level + 2) (texts body) in
         record {
           inner = spell_labels (labels_form ty labels) (kind.Fixed fixed.Colon ∷ spell_all (body_from (line_after line) (froms body)).0 ks);
           reads = reads_as (append_assoc (line_text (level + 1) (labels_text ty labels ++ codes ":")) inner more)
               (reads_line (level + 1) (labels_text ty labels ++ codes ":") (inner ++ more)
               (reads_as (append_assoc (labels_text ty labels) (codes ":") (10 ∷ (inner ++ more)))
-              (reads_labels ty labels (58 ∷ 10 ∷ (inner ++ more)) line _ s.1 refl
-              (reads_last_colon (reads_line_end (reads_all body (level + 2) (line_after line) more ks s.2 r))))));
+              (reads_labels ty labels (58 ∷ 10 ∷ (inner ++ more)) line _ refl
+              (reads_last_colon (reads_line_end (reads_all body (level + 2) (line_after line) more ks r))))));
           same = refl;
         };
-    front = λ ty others line s. s.0;
   }
 
   step_case : (x : S.CaseArm-F Stmt Arm CaseArm) (y : S.CaseArm-F AStmt AnArm ACase) → bare_case y ≡ x → PCase (roll-CaseArm x)
@@ -535,10 +492,10 @@ module _ (names : Names) where
   paired_same (x ∷ xs) = ap (λ (ys : List Stmt). x ∷ ys) (paired_same xs)
 
   -- the statements of a body
-  pub reads_body : (body : List Stmt) (level line : ℕ) (more : List ℕ) (ks : List Kind) → AllSpelled (body_from line (map (statement_from names) body)).0
+  pub reads_body : (body : List Stmt) (level line : ℕ) (more : List ℕ) (ks : List Kind)
       → ReadsOn (body_from line (map (statement_from names) body)).1 more ks
       → ReadsOn line (body_text names level body ++ more) (spell_all (body_from line (map (statement_from names) body)).0 ks)
   reads_body body level line more ks =
-      subst (λ (xs : List Stmt). AllSpelled (body_from line (map (statement_from names) xs)).0 → ReadsOn (body_from line (map (statement_from names) xs)).1 more ks
+      subst (λ (xs : List Stmt). ReadsOn (body_from line (map (statement_from names) xs)).1 more ks
       → ReadsOn line (body_text names level xs ++ more) (spell_all (body_from line (map (statement_from names) xs)).0 ks)) (paired_same body)
       (reads_all (paired body) level line more ks)

@@ -8,10 +8,9 @@ use Rattle.st_canonical.proofs.CutWords.{is_keyword, reads_colon, reads_fixed, r
 use Rattle.st_canonical.proofs.Cuts.{ReadsOn, reads_as, reads_blank, reads_line, reads_line_end}
 use Rattle.st_canonical.specs.Canonical.{body_from, locals_from, on, section_from, statement_from, unit_from, units_from}
 use Rattle.st_grammar.specs.Forms.{Locals, no_local, local, Units, no_unit}
-use Rattle.st_grammar.specs.Grammar.{IfPresent, end_word, spell_all, spell_formals, spell_locals, spell_section, spell_temps, spell_units}
+use Rattle.st_grammar.specs.Grammar.{end_word, spell_all, spell_formals, spell_locals, spell_section, spell_temps, spell_units}
 use Rattle.st_grammar.specs.Grammar as grammar
 use Rattle.st_grammar.specs.Kinds.{fixed_text}
-use Rattle.st_canonical.specs.Spelled.{LocalsSpelled, UnitsSpelled, is_name}
 use Rattle.st_grammar.specs.declared.kind.Fixed.{Fixed}
 use Rattle.st_grammar.specs.declared.kind.Fixed.TheVariants as fixed
 use Rattle.st_grammar.specs.declared.kind.Kind.{Kind}
@@ -31,40 +30,35 @@ reads_word_line level f more line ks h r = reads_line level (fixed_text f) more 
 
 -- Locals
 
-reads_local : (first : Local) (more : List ℕ) (line : ℕ) (ks : List Kind) → is_name first.name ≡ true → ReadsOn (line_after line) more ks
+reads_local : (first : Local) (more : List ℕ) (line : ℕ) (ks : List Kind) → ReadsOn (line_after line) more ks
     → ReadsOn line (local_text first ++ more) (kind.Variable (var.Name first.name) (on line) ∷ kind.Fixed fixed.Colon ∷ kind.Fixed (fixed.Type first.ty)
     ∷ kind.Fixed fixed.Semicolon ∷ ks)
 unfolding local_text
-reads_local first more line ks h r =
+reads_local first more line ks r =
     reads_line 2 (first.name ++ codes " : " ++ type_word first.ty ++ codes ";") more
     (reads_as (three first.name (codes " : ") (type_word first.ty) (codes ";") (10 ∷ more))
-    (reads_name first.name (codes " : " ++ (type_word first.ty ++ (codes ";" ++ 10 ∷ more))) line _ h refl
+    (reads_name first.name (codes " : " ++ (type_word first.ty ++ (codes ";" ++ 10 ∷ more))) line _ refl
     (reads_blank (reads_colon (reads_blank
     (reads_type first.ty (codes ";" ++ 10 ∷ more) line (kind.Fixed fixed.Semicolon ∷ ks) refl (reads_semicolon (reads_line_end r))))))))
 
-locals_front : (others : Locals) (line : ℕ) (xs : List Local) → LocalsSpelled (locals_from others line xs).0 → LocalsSpelled others
-locals_front others line [] s = s
-locals_front others line (x ∷ xs) s = (locals_front (local others x.name (on line) x.ty) (line_after line) xs s).0
-
-reads_more_locals : (others : Locals) (xs : List Local) (line : ℕ) (more : List ℕ) (ks : List Kind) → LocalsSpelled (locals_from others line xs).0
+reads_more_locals : (others : Locals) (xs : List Local) (line : ℕ) (more : List ℕ) (ks : List Kind)
     → ReadsOn (locals_from others line xs).1 more ks
     → Behind (spell_locals others) line (flat_map local_text xs ++ more) (spell_locals (locals_from others line xs).0 ks)
-reads_more_locals others [] line more ks s r = record { inner = ks; reads = r; same = refl }
-reads_more_locals others (x ∷ xs) line more ks s r =
-    let b = reads_more_locals (local others x.name (on line) x.ty) xs (line_after line) more ks s r in
-    let front : LocalsSpelled (local others x.name (on line) x.ty) = locals_front (local others x.name (on line) x.ty) (line_after line) xs s in
+reads_more_locals others [] line more ks r = record { inner = ks; reads = r; same = refl }
+reads_more_locals others (x ∷ xs) line more ks r =
+    let b = reads_more_locals (local others x.name (on line) x.ty) xs (line_after line) more ks r in
     record {
       inner = kind.Variable (var.Name x.name) (on line) ∷ kind.Fixed fixed.Colon ∷ kind.Fixed (fixed.Type x.ty) ∷ kind.Fixed fixed.Semicolon ∷ b.inner;
-      reads = reads_as (append_assoc (local_text x) (flat_map local_text xs) more) (reads_local x (flat_map local_text xs ++ more) line b.inner front.1 b.reads);
+      reads = reads_as (append_assoc (local_text x) (flat_map local_text xs) more) (reads_local x (flat_map local_text xs ++ more) line b.inner b.reads);
       same = b.same;
     }
 
-reads_section : (f : Fixed) (xs : List Local) (line : ℕ) (more : List ℕ) (ks : List Kind) → is_keyword (fixed_text f) ≡ true → IfPresent LocalsSpelled (section_from line xs).0
+reads_section : (f : Fixed) (xs : List Local) (line : ℕ) (more : List ℕ) (ks : List Kind) → is_keyword (fixed_text f) ≡ true
     → ReadsOn (section_from line xs).1 more ks
     → ReadsOn line (section_text (fixed_text f) xs ++ more) (spell_section (kind.Fixed f) spell_locals (section_from line xs).0 ks)
-reads_section f [] line more ks h s r = r
-reads_section f (x ∷ xs) line more ks h s r =
-    let b = reads_more_locals no_local (x ∷ xs) (line_after line) (line_text 1 (codes "END_VAR") ++ more) (kind.Fixed fixed.EndVar ∷ ks) s
+reads_section f [] line more ks h r = r
+reads_section f (x ∷ xs) line more ks h r =
+    let b = reads_more_locals no_local (x ∷ xs) (line_after line) (line_text 1 (codes "END_VAR") ++ more) (kind.Fixed fixed.EndVar ∷ ks)
     (reads_word_line 1 fixed.EndVar more (locals_from no_local (line_after line) (x ∷ xs)).1 ks refl r) in
     reads_as (two (line_text 1 (fixed_text f)) (flat_map local_text (x ∷ xs)) (line_text 1 (codes "END_VAR")) more)
     (reads_word_line 1 f (flat_map local_text (x ∷ xs) ++ (line_text 1 (codes "END_VAR") ++ more)) line _ h (reads_kinds b.same b.reads))
@@ -84,11 +78,11 @@ reads_end_word false more line ks r = reads_word_line 0 fixed.EndFunction more l
 four : (a b c d e more : List ℕ) → ((((a ++ b) ++ c) ++ d) ++ e) ++ more ≡ a ++ (b ++ (c ++ (d ++ (e ++ more))))
 four a b c d e more = append_assoc (((a ++ b) ++ c) ++ d) e more ∙ three a b c d (e ++ more)
 
-reads_unit : (text : StProgram) (others : Units) (u : Pou) (line : ℕ) (more : List ℕ) (ks : List Kind) → UnitsSpelled (unit_from text others line u).0
+reads_unit : (text : StProgram) (others : Units) (u : Pou) (line : ℕ) (more : List ℕ) (ks : List Kind)
     → ReadsOn (unit_from text others line u).1 more ks
     → Behind (spell_units others) line (unit_text text u ++ more) (spell_units (unit_from text others line u).0 ks)
 unfolding unit_text
-reads_unit text others u line more ks s r =
+reads_unit text others u line more ks r =
     let names = names_in text u in
     let formals = section_from (line_after line) u.formals in
     let locals = section_from formals.1 u.locals in
@@ -107,33 +101,29 @@ reads_unit text others u line more ks s r =
           (reads_line 0 (unit_word u.program ++ codes " " ++ u.name) inside
           (reads_as (two (unit_word u.program) (codes " ") u.name (10 ∷ inside))
           (reads_unit_word u.program (u.name ++ 10 ∷ inside) line _
-          (reads_blank (reads_name u.name (10 ∷ inside) line inside_kinds s.1 refl
+          (reads_blank (reads_name u.name (10 ∷ inside) line inside_kinds refl
           (reads_line_end
-          (reads_section fixed.VarInOut u.formals (line_after line) temps (spell_temps locals.0 last_kinds) refl s.2
-          (reads_section fixed.VarTemp u.locals formals.1 middle last_kinds refl s.3
-          (reads_body names u.body 1 locals.1 last (end_word u.program ∷ ks) s.4
+          (reads_section fixed.VarInOut u.formals (line_after line) temps (spell_temps locals.0 last_kinds) refl
+          (reads_section fixed.VarTemp u.locals formals.1 middle last_kinds refl
+          (reads_body names u.body 1 locals.1 last (end_word u.program ∷ ks)
           (reads_end_word u.program more body.1 ks r))))))))));
       same = refl;
     }
 
-units_front : (text : StProgram) (others : Units) (line : ℕ) (us : List Pou) → UnitsSpelled (units_from text others line us).0 → UnitsSpelled others
-units_front text others line [] s = s
-units_front text others line (u ∷ us) s = let first = unit_from text others line u in (units_front text first.0 first.1 us s).0
-
-reads_more_units : (text : StProgram) (others : Units) (us : List Pou) (line : ℕ) (more : List ℕ) (ks : List Kind) → UnitsSpelled (units_from text others line us).0
+reads_more_units : (text : StProgram) (others : Units) (us : List Pou) (line : ℕ) (more : List ℕ) (ks : List Kind)
     → ReadsOn (units_from text others line us).1 more ks
     → Behind (spell_units others) line (flat_map (unit_text text) us ++ more) (spell_units (units_from text others line us).0 ks)
-reads_more_units text others [] line more ks s r = record { inner = ks; reads = r; same = refl }
-reads_more_units text others (u ∷ us) line more ks s r =
+reads_more_units text others [] line more ks r = record { inner = ks; reads = r; same = refl }
+reads_more_units text others (u ∷ us) line more ks r =
     let first = unit_from text others line u in
-    let b = reads_more_units text first.0 us first.1 more ks s r in
-    let c = reads_unit text others u line (flat_map (unit_text text) us ++ more) b.inner (units_front text first.0 first.1 us s) b.reads in
+    let b = reads_more_units text first.0 us first.1 more ks r in
+    let c = reads_unit text others u line (flat_map (unit_text text) us ++ more) b.inner b.reads in
     record {
       inner = c.inner;
       reads = reads_as (append_assoc (unit_text text u) (flat_map (unit_text text) us) more) c.reads;
       same = c.same ∙ b.same;
     }
 
-pub reads_units : (text : StProgram) (us : List Pou) (line : ℕ) (more : List ℕ) (ks : List Kind) → UnitsSpelled (units_from text no_unit line us).0
+pub reads_units : (text : StProgram) (us : List Pou) (line : ℕ) (more : List ℕ) (ks : List Kind)
     → ReadsOn (units_from text no_unit line us).1 more ks → ReadsOn line (flat_map (unit_text text) us ++ more) (spell_units (units_from text no_unit line us).0 ks)
-reads_units text us line more ks s r = let b = reads_more_units text no_unit us line more ks s r in reads_kinds b.same b.reads
+reads_units text us line more ks r = let b = reads_more_units text no_unit us line more ks r in reads_kinds b.same b.reads

@@ -1,5 +1,5 @@
 -- The words and signs of a canonical text, each before what is read after it.
-use Rattle.std.proofs.Common.{◌≡◌, ℕ, Bool, true, false, ◌&&◌, List, [], ◌∷◌, ◌++◌, Option, Some, None, refl, sym, subst}
+use Rattle.std.proofs.Common.{◌≡◌, ℕ, Bool, true, false, ◌&&◌, List, [], ◌∷◌, ◌++◌, Option, Some, None, refl}
 use Rattle.std.specs.Prelude.{codes, is_none}
 use Rattle.std.specs.List.{list_all}
 use Rattle.s7_base.specs.Tokens.{is_word_byte, begins_with}
@@ -9,7 +9,7 @@ use Rattle.st_lexer.proofs.Words.{and_both}
 use Rattle.st_lexer.specs.Spelled.{ends_word}
 use Rattle.st_lexer.specs.StTokens.{is_letter, token, piece_at}
 use Rattle.st_tree.specs.declared.token.StKind.TheVariants as sort
-use Rattle.st_canonical.proofs.Cuts.{ReadsOn, reads_token, reads_word, reads_blank}
+use Rattle.st_canonical.proofs.Cuts.{ReadsOn, begins_with_times, reads_token, reads_word, reads_blank, where_spelled}
 use Rattle.st_canonical.specs.Canonical.{on}
 use Rattle.st_grammar.specs.Kinds.{conversion_named, fixed_text, lead_text, name_kind, sign_named, text_kind, word_kind, word_named, word_text}
 use Rattle.st_canonical.specs.Spelled.{is_function, is_name, is_unreserved}
@@ -47,25 +47,8 @@ reads_keyword (b ∷ w) more line k ks h ends same r = let both = and_both (is_l
 fixed_kind : (f : Fixed) (line : Line) → is_keyword (fixed_text f) ≡ true → text_kind sort.Word (fixed_text f) line ≡ kind.Fixed f
 unfolding word_named word_text
 fixed_kind fixed.VarGlobal line h = refl
-fixed_kind fixed.VarInOut line h = refl
-fixed_kind fixed.VarTemp line h = refl
-fixed_kind fixed.EndVar line h = refl
-fixed_kind fixed.At line h = refl
-fixed_kind fixed.Array line h = refl
-fixed_kind fixed.Of line h = refl
-fixed_kind fixed.EndProgram line h = refl
-fixed_kind fixed.EndFunction line h = refl
-fixed_kind fixed.Then line h = refl
-fixed_kind fixed.Elsif line h = refl
-fixed_kind fixed.Else line h = refl
-fixed_kind fixed.EndIf line h = refl
-fixed_kind fixed.EndCase line h = refl
-fixed_kind fixed.Do line h = refl
-fixed_kind fixed.EndWhile line h = refl
-fixed_kind fixed.Not line h = refl
 fixed_kind (fixed.Between binary.Mul) line h = absurd cc
 fixed_kind (fixed.Between binary.Div) line h = absurd cc
-fixed_kind (fixed.Between binary.Mod) line h = refl
 fixed_kind (fixed.Between binary.Add) line h = absurd cc
 fixed_kind (fixed.Between binary.Sub) line h = absurd cc
 fixed_kind (fixed.Between binary.Lt) line h = absurd cc
@@ -74,28 +57,10 @@ fixed_kind (fixed.Between binary.Le) line h = absurd cc
 fixed_kind (fixed.Between binary.Ge) line h = absurd cc
 fixed_kind (fixed.Between binary.Eq) line h = absurd cc
 fixed_kind (fixed.Between binary.Ne) line h = absurd cc
-fixed_kind (fixed.Between binary.And) line h = refl
-fixed_kind (fixed.Between binary.Xor) line h = refl
-fixed_kind (fixed.Between binary.Or) line h = refl
 fixed_kind (fixed.Type type.Bool) line h = refl
-fixed_kind (fixed.Type type.Byte) line h = refl
-fixed_kind (fixed.Type type.Word) line h = refl
-fixed_kind (fixed.Type type.Dword) line h = refl
-fixed_kind (fixed.Type type.Int) line h = refl
-fixed_kind (fixed.Type type.Dint) line h = refl
-fixed_kind (fixed.Type type.Lint) line h = refl
 fixed_kind (fixed.Function (function.One (one.Convert from to))) line h = absurd cc
-fixed_kind (fixed.Function (function.One one.BcdToInt)) line h = refl
-fixed_kind (fixed.Function (function.One one.BcdToDint)) line h = refl
 fixed_kind (fixed.Function (function.One (one.AreaRead width.Bit))) line h = refl
-fixed_kind (fixed.Function (function.One (one.AreaRead width.Byte))) line h = refl
-fixed_kind (fixed.Function (function.One (one.AreaRead width.Word))) line h = refl
-fixed_kind (fixed.Function (function.One (one.AreaRead width.Dword))) line h = refl
 fixed_kind (fixed.Function (function.Shift shift_op.Shl)) line h = refl
-fixed_kind (fixed.Function (function.Shift shift_op.Shr)) line h = refl
-fixed_kind (fixed.Function (function.Shift shift_op.Rol)) line h = refl
-fixed_kind (fixed.Function (function.Shift shift_op.Ror)) line h = refl
-fixed_kind (fixed.Function function.Select) line h = refl
 fixed_kind fixed.Becomes line h = absurd cc
 fixed_kind fixed.Colon line h = absurd cc
 fixed_kind fixed.Semicolon line h = absurd cc
@@ -106,6 +71,7 @@ fixed_kind fixed.OpenSquare line h = absurd cc
 fixed_kind fixed.CloseSquare line h = absurd cc
 fixed_kind fixed.Dots line h = absurd cc
 fixed_kind fixed.End line h = absurd cc
+fixed_kind other line h = refl
 
 pub reads_fixed : (f : Fixed) (more : List ℕ) (line : ℕ) (ks : List Kind) → is_keyword (fixed_text f) ≡ true → ends_word more ≡ true → ReadsOn line more ks
     → ReadsOn line (fixed_text f ++ more) (kind.Fixed f ∷ ks)
@@ -114,31 +80,15 @@ reads_fixed f more line ks h ends r = reads_keyword (fixed_text f) more line (ki
 lead_kind : (l : Lead) (line : Line) → text_kind sort.Word (lead_text l) line ≡ kind.Lead l line
 unfolding word_named word_text
 lead_kind lead.If line = refl
-lead_kind lead.Case line = refl
-lead_kind lead.While line = refl
 lead_kind (lead.Jump jump.Exit) line = refl
-lead_kind (lead.Jump jump.Continue) line = refl
-lead_kind (lead.Jump jump.Return) line = refl
 lead_kind (lead.AreaWrite width.Bit) line = refl
-lead_kind (lead.AreaWrite width.Byte) line = refl
-lead_kind (lead.AreaWrite width.Word) line = refl
-lead_kind (lead.AreaWrite width.Dword) line = refl
-lead_kind lead.Program line = refl
-lead_kind lead.Function line = refl
+lead_kind other line = refl
 
 lead_keyword : (l : Lead) → is_keyword (lead_text l) ≡ true
 lead_keyword lead.If = refl
-lead_keyword lead.Case = refl
-lead_keyword lead.While = refl
 lead_keyword (lead.Jump jump.Exit) = refl
-lead_keyword (lead.Jump jump.Continue) = refl
-lead_keyword (lead.Jump jump.Return) = refl
 lead_keyword (lead.AreaWrite width.Bit) = refl
-lead_keyword (lead.AreaWrite width.Byte) = refl
-lead_keyword (lead.AreaWrite width.Word) = refl
-lead_keyword (lead.AreaWrite width.Dword) = refl
-lead_keyword lead.Program = refl
-lead_keyword lead.Function = refl
+lead_keyword other = refl
 
 pub reads_lead : (l : Lead) (more : List ℕ) (line : ℕ) (ks : List Kind) → ends_word more ≡ true → ReadsOn line more ks
     → ReadsOn line (lead_text l ++ more) (kind.Lead l (on line) ∷ ks)
@@ -154,31 +104,28 @@ no_word None text line h free = by (conversion_named text) free
     by (Some op) h = absurd cc
     by None h = refl
 
-pub reads_name : (name more : List ℕ) (line : ℕ) (ks : List Kind) → is_name name ≡ true → ends_word more ≡ true → ReadsOn line more ks
+name_reads : (name more : List ℕ) (line : ℕ) (ks : List Kind) → is_name name ≡ true → ends_word more ≡ true → ReadsOn line more ks
     → ReadsOn line (name ++ more) (kind.Variable (var.Name name) (on line) ∷ ks)
-reads_name [] more line ks h ends r = absurd cc
-reads_name (b ∷ w) more line ks h ends r =
+name_reads [] more line ks h ends r = absurd cc
+name_reads (b ∷ w) more line ks h ends r =
     let outer = and_both (is_letter b && list_all is_word_byte w) (is_unreserved (b ∷ w)) h in
     let both = and_both (is_letter b) (list_all is_word_byte w) outer.0 in
     let free = and_both (is_none (word_named (b ∷ w))) (is_none (conversion_named (b ∷ w))) outer.1 in
     reads_word b w more line (kind.Variable (var.Name (b ∷ w)) (on line)) ks both.0 both.1 ends (no_word (word_named (b ∷ w)) (b ∷ w) (on line) free.0 free.1) r
 
+pub reads_name : (name more : List ℕ) (line : ℕ) (ks : List Kind) → ends_word more ≡ true → ReadsOn line more ks
+    → ReadsOn line (name ++ more) (kind.Variable (var.Name name) (on line) ∷ ks)
+reads_name name more line ks ends r = where_spelled (λ h. name_reads name more line ks h ends r)
+
 -- Types, shifts and conversions
 
 type_keyword : (ty : StType) → is_keyword (fixed_text (fixed.Type ty)) ≡ true
 type_keyword type.Bool = refl
-type_keyword type.Byte = refl
-type_keyword type.Word = refl
-type_keyword type.Dword = refl
-type_keyword type.Int = refl
-type_keyword type.Dint = refl
-type_keyword type.Lint = refl
+type_keyword other = refl
 
 shift_keyword : (op : ShiftOp) → is_keyword (fixed_text (fixed.Function (function.Shift op))) ≡ true
 shift_keyword shift_op.Shl = refl
-shift_keyword shift_op.Shr = refl
-shift_keyword shift_op.Rol = refl
-shift_keyword shift_op.Ror = refl
+shift_keyword other = refl
 
 pub reads_type : (ty : StType) (more : List ℕ) (line : ℕ) (ks : List Kind) → ends_word more ≡ true → ReadsOn line more ks
     → ReadsOn line (type_word ty ++ more) (kind.Fixed (fixed.Type ty) ∷ ks)
@@ -193,112 +140,30 @@ reads_shift op more line ks ends r =
 convert_kind : (from to : StType) (line : Line) → is_function (one.Convert from to) ≡ true
     → text_kind sort.Word (type_word from ++ codes "_TO_" ++ type_word to) line ≡ kind.Fixed (fixed.Function (function.One (one.Convert from to)))
 unfolding word_named word_text
-convert_kind type.Bool type.Bool line h = absurd cc
-convert_kind type.Bool type.Byte line h = refl
-convert_kind type.Bool type.Word line h = refl
-convert_kind type.Bool type.Dword line h = refl
-convert_kind type.Bool type.Int line h = refl
-convert_kind type.Bool type.Dint line h = refl
-convert_kind type.Bool type.Lint line h = refl
-convert_kind type.Byte type.Bool line h = absurd cc
+convert_kind from type.Bool line h = absurd cc
 convert_kind type.Byte type.Byte line h = absurd cc
-convert_kind type.Byte type.Word line h = refl
-convert_kind type.Byte type.Dword line h = refl
-convert_kind type.Byte type.Int line h = refl
-convert_kind type.Byte type.Dint line h = refl
-convert_kind type.Byte type.Lint line h = refl
-convert_kind type.Word type.Bool line h = absurd cc
-convert_kind type.Word type.Byte line h = refl
 convert_kind type.Word type.Word line h = absurd cc
-convert_kind type.Word type.Dword line h = refl
-convert_kind type.Word type.Int line h = refl
-convert_kind type.Word type.Dint line h = refl
-convert_kind type.Word type.Lint line h = refl
-convert_kind type.Dword type.Bool line h = absurd cc
-convert_kind type.Dword type.Byte line h = refl
-convert_kind type.Dword type.Word line h = refl
 convert_kind type.Dword type.Dword line h = absurd cc
-convert_kind type.Dword type.Int line h = refl
-convert_kind type.Dword type.Dint line h = refl
-convert_kind type.Dword type.Lint line h = refl
-convert_kind type.Int type.Bool line h = absurd cc
-convert_kind type.Int type.Byte line h = refl
-convert_kind type.Int type.Word line h = refl
-convert_kind type.Int type.Dword line h = refl
 convert_kind type.Int type.Int line h = absurd cc
-convert_kind type.Int type.Dint line h = refl
-convert_kind type.Int type.Lint line h = refl
-convert_kind type.Dint type.Bool line h = absurd cc
-convert_kind type.Dint type.Byte line h = refl
-convert_kind type.Dint type.Word line h = refl
-convert_kind type.Dint type.Dword line h = refl
-convert_kind type.Dint type.Int line h = refl
 convert_kind type.Dint type.Dint line h = absurd cc
-convert_kind type.Dint type.Lint line h = refl
-convert_kind type.Lint type.Bool line h = absurd cc
-convert_kind type.Lint type.Byte line h = refl
-convert_kind type.Lint type.Word line h = refl
-convert_kind type.Lint type.Dword line h = refl
-convert_kind type.Lint type.Int line h = refl
-convert_kind type.Lint type.Dint line h = refl
 convert_kind type.Lint type.Lint line h = absurd cc
+convert_kind from to line h = refl
 
 convert_keyword : (from to : StType) → is_keyword (type_word from ++ codes "_TO_" ++ type_word to) ≡ true
 convert_keyword type.Bool type.Bool = refl
-convert_keyword type.Bool type.Byte = refl
-convert_keyword type.Bool type.Word = refl
-convert_keyword type.Bool type.Dword = refl
-convert_keyword type.Bool type.Int = refl
-convert_keyword type.Bool type.Dint = refl
-convert_keyword type.Bool type.Lint = refl
-convert_keyword type.Byte type.Bool = refl
 convert_keyword type.Byte type.Byte = refl
-convert_keyword type.Byte type.Word = refl
-convert_keyword type.Byte type.Dword = refl
-convert_keyword type.Byte type.Int = refl
-convert_keyword type.Byte type.Dint = refl
-convert_keyword type.Byte type.Lint = refl
-convert_keyword type.Word type.Bool = refl
-convert_keyword type.Word type.Byte = refl
 convert_keyword type.Word type.Word = refl
-convert_keyword type.Word type.Dword = refl
-convert_keyword type.Word type.Int = refl
-convert_keyword type.Word type.Dint = refl
-convert_keyword type.Word type.Lint = refl
-convert_keyword type.Dword type.Bool = refl
-convert_keyword type.Dword type.Byte = refl
-convert_keyword type.Dword type.Word = refl
 convert_keyword type.Dword type.Dword = refl
-convert_keyword type.Dword type.Int = refl
-convert_keyword type.Dword type.Dint = refl
-convert_keyword type.Dword type.Lint = refl
-convert_keyword type.Int type.Bool = refl
-convert_keyword type.Int type.Byte = refl
-convert_keyword type.Int type.Word = refl
-convert_keyword type.Int type.Dword = refl
 convert_keyword type.Int type.Int = refl
-convert_keyword type.Int type.Dint = refl
-convert_keyword type.Int type.Lint = refl
-convert_keyword type.Dint type.Bool = refl
-convert_keyword type.Dint type.Byte = refl
-convert_keyword type.Dint type.Word = refl
-convert_keyword type.Dint type.Dword = refl
-convert_keyword type.Dint type.Int = refl
 convert_keyword type.Dint type.Dint = refl
-convert_keyword type.Dint type.Lint = refl
-convert_keyword type.Lint type.Bool = refl
-convert_keyword type.Lint type.Byte = refl
-convert_keyword type.Lint type.Word = refl
-convert_keyword type.Lint type.Dword = refl
-convert_keyword type.Lint type.Int = refl
-convert_keyword type.Lint type.Dint = refl
 convert_keyword type.Lint type.Lint = refl
+convert_keyword from to = refl
 
-pub reads_convert : (from to : StType) (more : List ℕ) (line : ℕ) (ks : List Kind) → is_function (one.Convert from to) ≡ true → ends_word more ≡ true → ReadsOn line more ks
+pub reads_convert : (from to : StType) (more : List ℕ) (line : ℕ) (ks : List Kind) → ends_word more ≡ true → ReadsOn line more ks
     → ReadsOn line ((type_word from ++ codes "_TO_" ++ type_word to) ++ more) (kind.Fixed (fixed.Function (function.One (one.Convert from to))) ∷ ks)
-reads_convert from to more line ks h ends r =
+reads_convert from to more line ks ends r = where_spelled (λ h.
     reads_keyword (type_word from ++ codes "_TO_" ++ type_word to) more line (kind.Fixed (fixed.Function (function.One (one.Convert from to)))) ks (convert_keyword from to) ends
-    (convert_kind from to (on line) h) r
+    (convert_kind from to (on line) h) r)
 
 -- Signs
 
@@ -355,9 +220,17 @@ open_at : (more : List ℕ) → begins_with 42 more ≡ false → piece_at (40 �
 open_at [] h = refl
 open_at (b ∷ more) h = rw h refl
 
-pub reads_open : {line : ℕ} {more : List ℕ} {ks : List Kind} → begins_with 42 more ≡ false → ReadsOn line more ks → ReadsOn line (40 ∷ more) (kind.Fixed fixed.Open ∷ ks)
+no_star : (t : Bool) (ks : List Kind) → (t ≡ true → begins_with_times ks ≡ true) → begins_with_times ks ≡ false → t ≡ false
+no_star false ks star h = refl
+no_star true ks star h = absurd (let is = star refl in cc)
+
+pub reads_open : {line : ℕ} {more : List ℕ} {ks : List Kind} → begins_with_times ks ≡ false → ReadsOn line more ks → ReadsOn line (40 ∷ more) (kind.Fixed fixed.Open ∷ ks)
 unfolding sign_named
-reads_open {line} {more} {ks} h r = reads_token sort.Sign 40 [] more line (kind.Fixed fixed.Open) ks (open_at more h) refl refl refl r
+reads_open {line} {more} {ks} h r = record {
+  read = λ s.
+      let plain = no_star (begins_with 42 more) ks (r.read s.1).star h in
+      (reads_token sort.Sign 40 [] more line (kind.Fixed fixed.Open) ks (open_at more plain) refl refl refl r).read s;
+}
 
 -- a colon before a blank or the end of a line
 pub reads_colon : {line : ℕ} {more : List ℕ} {ks : List Kind} → ReadsOn line (32 ∷ more) ks → ReadsOn line (58 ∷ 32 ∷ more) (kind.Fixed fixed.Colon ∷ ks)
@@ -395,16 +268,4 @@ reads_infix binary.Or more line ks r = reads_blank (reads_fixed (fixed.Between b
 
 pub infix_ends : (op : BinaryOp) (more : List ℕ) → ends_word (infix_word op ++ more) ≡ true
 infix_ends binary.Mul more = refl
-infix_ends binary.Div more = refl
-infix_ends binary.Mod more = refl
-infix_ends binary.Add more = refl
-infix_ends binary.Sub more = refl
-infix_ends binary.Lt more = refl
-infix_ends binary.Gt more = refl
-infix_ends binary.Le more = refl
-infix_ends binary.Ge more = refl
-infix_ends binary.Eq more = refl
-infix_ends binary.Ne more = refl
-infix_ends binary.And more = refl
-infix_ends binary.Xor more = refl
-infix_ends binary.Or more = refl
+infix_ends other more = refl

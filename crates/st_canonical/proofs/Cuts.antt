@@ -4,7 +4,8 @@ use Rattle.std.specs.Prelude.{codes}
 use Rattle.std.specs.List.{list_all}
 use Rattle.std.proofs.lemmas.Bool.Decides.{nat_tests}
 use Rattle.std.proofs.Math.Seq.{take-append_seam}
-use Rattle.s7_base.specs.Tokens.{is_word_byte, line_after}
+use Rattle.s7_base.specs.Tokens.{begins_with, is_word_byte, line_after}
+use Rattle.s7_base.specs.declared.reason.Line.{Line}
 use Rattle.st_lexer.proofs.Words.{and_both, if_false, not_true, word_stands}
 use Rattle.st_lexer.specs.Literals.{literal_at}
 use Rattle.st_lexer.specs.Spelled.{ends_word}
@@ -15,23 +16,39 @@ use Rattle.st_tree.specs.declared.token.StKind.{StKind}
 use Rattle.st_tree.specs.declared.token.StKind.TheVariants as sort
 use Rattle.st_tree.specs.declared.token.StToken.{StToken}
 use Rattle.st_canonical.specs.Canonical.{on}
-use Rattle.st_grammar.specs.Kinds.{kind_of, text_kind}
+use Rattle.st_canonical.specs.Spelled.{AreSpelled, is_spelled}
+use Rattle.st_grammar.specs.Kinds.{kind_of, sign_named, text_kind}
 use Rattle.st_grammar.specs.declared.kind.Fixed.TheVariants as fixed
 use Rattle.st_grammar.specs.declared.kind.Kind.{Kind}
 use Rattle.st_grammar.specs.declared.kind.Kind.TheVariants as kind
 use Rattle.st_tree.specs.Spelling.{blanks, line as line_text}
+use Rattle.st_tree.specs.declared.expr.BinaryOp.TheVariants as binary
+
+-- the first of some kinds is `*`
+abbrev pub begins_with_times : List Kind → Bool
+begins_with_times (kind.Fixed (fixed.Between binary.Mul) ∷ more) = true
+begins_with_times other = false
 
 -- the bytes from a line on are cut to their end, none of their decimals is too great, and these are the
--- kinds of their tokens, with the end
-pub record ReadsOn (line : ℕ) (bytes : List ℕ) (kinds : List Kind) : Type 0 where
+-- kinds of their tokens, with the end; no other token than `*` begins with it
+pub record IsCut (line : ℕ) (bytes : List ℕ) (kinds : List Kind) : Type 0 where
   pub tokens : List StToken
   pub cut : cut_from 0 line bytes ≡ record { tokens = tokens; bad = None }
   pub same : map kind_of tokens ++ kind.Fixed fixed.End ∷ [] ≡ kinds
   pub calm : (behind : Bool) → great_from behind tokens ≡ None
+  pub star : begins_with 42 bytes ≡ true → begins_with_times kinds ≡ true
+
+-- and they are, where tokens can have these kinds
+pub record ReadsOn (line : ℕ) (bytes : List ℕ) (kinds : List Kind) : Type 0 where
+  pub read : AreSpelled kinds → IsCut line bytes kinds
+
+-- a token may be read as one of its kind
+pub where_spelled : {line : ℕ} {bytes : List ℕ} {k : Kind} {ks : List Kind} → (is_spelled k ≡ true → ReadsOn line bytes (k ∷ ks)) → ReadsOn line bytes (k ∷ ks)
+where_spelled reads = record { read = λ s. (reads s.0).read s }
 
 -- the end of a text
 pub reads_end : (line : ℕ) → ReadsOn line [] (kind.Fixed fixed.End ∷ [])
-reads_end line = record { tokens = []; cut = refl; same = refl; calm = λ behind. refl }
+reads_end line = record { read = λ s. record { tokens = []; cut = refl; same = refl; calm = λ behind. refl; star = λ h. absurd cc } }
 
 -- the same bytes in another form
 pub reads_as : {line : ℕ} {a b : List ℕ} {ks : List Kind} → a ≡ b → ReadsOn line b ks → ReadsOn line a ks
@@ -68,6 +85,25 @@ calm_before : (first : StToken) (rest : List StToken) (behind : Bool) → is_gre
     → great_from behind (first ∷ rest) ≡ None
 calm_before first rest behind small calm = rw small (calm (has_text (codes "..") first))
 
+star_at : (more : List ℕ) → piece_at (42 ∷ more) ≡ Some (token sort.Sign 1)
+star_at [] = refl
+star_at (b ∷ more) = refl
+
+star_alone : (of : StKind) (w : List ℕ) (line : Line) (ks : List Kind) → Some (token of (suc (length w))) ≡ Some (token sort.Sign 1)
+    → begins_with_times (text_kind of (42 ∷ w) line ∷ ks) ≡ true
+unfolding sign_named
+star_alone sort.Sign [] line ks e = refl
+star_alone sort.Sign (b ∷ w) line ks e = absurd (let size : suc (suc (length w)) ≡ 1 = cc in omega (arith, size))
+star_alone other w line ks e = absurd cc
+
+-- only `*` is a token that begins with it
+star_is_times : (of : StKind) (b : ℕ) (w more : List ℕ) (line : Line) (ks : List Kind) → piece_at (b ∷ (w ++ more)) ≡ Some (token of (suc (length w))) → (b == 42) ≡ true
+    → begins_with_times (text_kind of (b ∷ w) line ∷ ks) ≡ true
+star_is_times of b w more line ks found h =
+    let is : b ≡ 42 = grind (arith, nat_tests) in
+    subst (λ x. begins_with_times (text_kind of (x ∷ w) line ∷ ks) ≡ true) (sym is)
+    (star_alone of w line ks (sym found ∙ ap (λ (x : ℕ). piece_at (x ∷ (w ++ more))) is ∙ star_at (w ++ more)))
+
 -- one token
 pub reads_token : (sort : StKind) (b : ℕ) (w more : List ℕ) (line : ℕ) (k : Kind) (ks : List Kind) → piece_at (b ∷ (w ++ more)) ≡ Some (token sort (suc (length w)))
     → has_no_line (b ∷ w) ≡ true → text_kind sort (b ∷ w) (on line) ≡ k → is_great sort (literal_at (b ∷ w)) ≡ false → ReadsOn line more ks
@@ -75,13 +111,18 @@ pub reads_token : (sort : StKind) (b : ℕ) (w more : List ℕ) (line : ℕ) (k 
 reads_token sort b w more line k ks found plain same small r =
     let here : StToken = record { kind = sort; text = b ∷ w; line = on line } in
     record {
-      tokens = here ∷ r.tokens;
-      cut = pieced b w more (token sort (suc (length w))) line found refl
-          ∙ ap (λ (n : ℕ). prepend_tokens (token_of (token sort (suc (length w))) (b ∷ (w ++ more)) line) (cut_from 0 n more)) (past_none line (b ∷ w) plain)
-          ∙ ap (λ (c : Cut). prepend_tokens (token_of (token sort (suc (length w))) (b ∷ (w ++ more)) line) c) r.cut
-          ∙ ap (λ (text : List ℕ). record { tokens = record { kind = sort; text = text; line = on line } ∷ r.tokens; bad = None }) (take-append_seam (b ∷ w) more);
-      same = ap (λ (x : Kind). x ∷ (map kind_of r.tokens ++ kind.Fixed fixed.End ∷ [])) same ∙ ap (λ (xs : List Kind). k ∷ xs) r.same;
-      calm = λ behind. calm_before here r.tokens behind small r.calm;
+      read = λ s.
+          let c = r.read s.1 in
+          record {
+            tokens = here ∷ c.tokens;
+            cut = pieced b w more (token sort (suc (length w))) line found refl
+                ∙ ap (λ (n : ℕ). prepend_tokens (token_of (token sort (suc (length w))) (b ∷ (w ++ more)) line) (cut_from 0 n more)) (past_none line (b ∷ w) plain)
+                ∙ ap (λ (x : Cut). prepend_tokens (token_of (token sort (suc (length w))) (b ∷ (w ++ more)) line) x) c.cut
+                ∙ ap (λ (text : List ℕ). record { tokens = record { kind = sort; text = text; line = on line } ∷ c.tokens; bad = None }) (take-append_seam (b ∷ w) more);
+            same = ap (λ (x : Kind). x ∷ (map kind_of c.tokens ++ kind.Fixed fixed.End ∷ [])) same ∙ ap (λ (xs : List Kind). k ∷ xs) c.same;
+            calm = λ behind. calm_before here c.tokens behind small c.calm;
+            star = λ h. subst (λ (x : Kind). begins_with_times (x ∷ ks) ≡ true) same (star_is_times sort b w more (on line) ks found h);
+          };
     }
 
 -- a text that is a token of a sort
@@ -90,23 +131,28 @@ pub reads_text : (sort : StKind) (text more : List ℕ) (line : ℕ) (k : Kind) 
 reads_text sort [] more line k ks is ends plain same small r = absurd (let none = (is [] refl).found in cc)
 reads_text sort (b ∷ w) more line k ks is ends plain same small r = reads_token sort b w more line k ks (is more ends).found plain same small r
 
+-- a blank or an end of a line
+reads_gap : (b : ℕ) {line : ℕ} {more : List ℕ} {ks : List Kind} → piece_at (b ∷ more) ≡ Some (gap 1) → (b == 42) ≡ false → ReadsOn (line_behind b line) more ks
+    → ReadsOn line (b ∷ more) ks
+reads_gap b {line} {more} {ks} found other r = record {
+  read = λ s.
+      let c = r.read s in
+      record {
+        tokens = c.tokens;
+        cut = pieced b [] more (gap 1) line found refl ∙ ap (λ (x : Cut). prepend_tokens [] x) c.cut;
+        same = c.same;
+        calm = c.calm;
+        star = λ h. absurd cc;
+      };
+}
+
 -- one blank
 pub reads_blank : {line : ℕ} {more : List ℕ} {ks : List Kind} → ReadsOn line more ks → ReadsOn line (32 ∷ more) ks
-reads_blank {line} {more} {ks} r = record {
-  tokens = r.tokens;
-  cut = pieced 32 [] more (gap 1) line refl refl ∙ ap (λ (c : Cut). prepend_tokens [] c) r.cut;
-  same = r.same;
-  calm = r.calm;
-}
+reads_blank r = reads_gap 32 refl refl r
 
 -- the end of a line
 pub reads_line_end : {line : ℕ} {more : List ℕ} {ks : List Kind} → ReadsOn (line_after line) more ks → ReadsOn line (10 ∷ more) ks
-reads_line_end {line} {more} {ks} r = record {
-  tokens = r.tokens;
-  cut = pieced 10 [] more (gap 1) line refl refl ∙ ap (λ (c : Cut). prepend_tokens [] c) r.cut;
-  same = r.same;
-  calm = r.calm;
-}
+reads_line_end r = reads_gap 10 refl refl r
 
 pub reads_blanks : (level : ℕ) {line : ℕ} {more : List ℕ} {ks : List Kind} → ReadsOn line more ks → ReadsOn line (blanks level ++ more) ks
 reads_blanks zero r = r

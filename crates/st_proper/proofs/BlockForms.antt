@@ -1,5 +1,6 @@
 -- The data blocks of a tree, in their canonical form: their names are names of data blocks,
 -- their bytes are ones that tokens have, and their lists stand for the same bytes.
+use Rattle.st_proper.proofs.Spells.{Spells, past_spells}
 use Rattle.std.proofs.Common.{◌≡◌, ℕ, ◌+◌, ◌-◌, ◌/◌, ◌%◌, ◌<◌, ◌≤◌, ◌==◌, Bool, true, false, not, List, [], ◌∷◌, ◌++◌, length, drop, take, replicate, Option, None, refl, sym, ap, subst, ◌∙◌, arith, append_assoc, append-nil, length-append}
 use Rattle.std.specs.Prelude.{codes, decimal, is_none, nat_lt, if◌then◌else◌}
 use Rattle.std.specs.List.{flat_map, list_all}
@@ -17,11 +18,11 @@ use Rattle.st_lexer.specs.Literals.{type_named}
 use Rattle.st_lexer.specs.Spelled.{is_byte, is_decimal}
 use Rattle.st_canonical.specs.Canonical.{block_name, items_behind, items_form, run_behind}
 use Rattle.st_grammar.specs.Forms.{Items, no_item, single, times, GlobalType, plain, bytes, Globals, no_global, global}
-use Rattle.st_grammar.specs.Grammar.{tree_items}
+use Rattle.st_grammar.specs.Grammar.{tree_items, spell_items}
 use Rattle.st_grammar.specs.Kinds.{conversion_named, conversion_of_types, size_before_line, word_named, word_text}
 use Rattle.st_tree.specs.Naming.{names_block}
 use Rattle.st_grammar.specs.Levels.{deepest, levels_globals, levels_initial, levels_items, levels_past, levels_type}
-use Rattle.st_canonical.specs.Spelled.{ItemsSpelled, is_name}
+use Rattle.st_canonical.specs.Spelled.{is_name}
 use Rattle.st_grammar.specs.Syntax.{AllWithin}
 use Rattle.st_grammar.specs.declared.kind.OneOperand.{OneOperand}
 use Rattle.st_rules.specs.Globals.{contents, total}
@@ -121,7 +122,7 @@ total_one (r ∷ runs) count b = omega (arith, total_one runs count b)
 
 -- items that tokens have, which stand for some bytes
 record Stand (items : Items) (found : List ℕ) : Type 0 where
-  spelled : ItemsSpelled items
+  spelled : Spells (spell_items items)
   same : spread (tree_items items) ≡ found
   size : total (tree_items items) ≡ length found
 
@@ -148,12 +149,16 @@ run_stands others found count b c d s = by_test (count == 1) refl
     by_test true e =
         let one : count ≡ 1 = eqb-true count 1 e in
         record {
-          spelled = (s.spelled, d);
+          spelled = λ ks q. s.spelled _ (past_spells others _ (d, q));
           same = subst (λ n. spread (tree_items others ++ (n, b) ∷ []) ≡ found ++ replicate count b) one spread_all;
           size = subst (λ n. total (tree_items others ++ (n, b) ∷ [])
               ≡ length (found ++ replicate count b)) one size_all;
         }
-    by_test false e = record { spelled = (s.spelled, c, d); same = spread_all; size = size_all }
+    by_test false e = record {
+      spelled = λ ks q. s.spelled _ (past_spells others _ (c, (refl, (d, (refl, q)))));
+      same = spread_all;
+      size = size_all;
+    }
 
 few : (count : ℕ) → count ≤ 16384 → is_decimal count ≡ true
 few count h = grind (arith, nat_tests)
@@ -186,7 +191,7 @@ items_stand (next ∷ rest) others found count b small d h s =
         (more (run_behind others count b) (found ++ replicate count b) 1 next (omega (arith, small)) p.0 p.1 before)
 
 no_bytes : Stand no_item []
-no_bytes = record { spelled = tt; same = refl; size = refl }
+no_bytes = record { spelled = λ ks q. q; same = refl; size = refl }
 
 form_stands : (bs : List ℕ) → 1 ≤ length bs → length bs ≤ 16384 → list_all is_byte bs ≡ true → Stand (items_form bs) bs
 form_stands [] some small h = absurd (omega (arith, some))
@@ -210,7 +215,7 @@ pub record IsFull (b : DataBlock) : Type 0 where
 -- the list of a data block's bytes
 pub record IsWritten (bs : List ℕ) : Type 0 where
   pub last : is_decimal (length bs - 1) ≡ true
-  pub spelled : ItemsSpelled (items_form bs)
+  pub spelled : Spells (spell_items (items_form bs))
   pub same : contents (length bs - 1) (tree_items (items_form bs)) ≡ bs
   pub size : total (tree_items (items_form bs)) ≡ length bs
 
@@ -231,51 +236,36 @@ is_written b f =
 abbrev pub AreWithin : List ℕ → Type 0
 AreWithin levels = AllWithin deepest levels
 
-pub with_zero : (xs : List ℕ) → AreWithin xs → AreWithin (0 ∷ xs)
-with_zero xs h = (omega arith, h)
+-- the levels of declarations, 0 and 1
+pub low : 0 ≤ deepest
+low = omega arith
 
-pub with_four : (xs : List ℕ) → AreWithin xs → AreWithin (0 ∷ 0 ∷ 0 ∷ 0 ∷ xs)
-with_four xs h = with_zero (0 ∷ 0 ∷ 0 ∷ xs) (with_zero (0 ∷ 0 ∷ xs) (with_zero (0 ∷ xs) (with_zero xs h)))
-
-with_count : (xs : List ℕ) → AreWithin xs → AreWithin (0 ∷ 1 ∷ 1 ∷ 0 ∷ xs)
-with_count xs h = (omega arith, (omega arith, (omega arith, (omega arith, h))))
+one_low : 1 ≤ deepest
+one_low = omega arith
 
 past_within : (items : Items) (before : List ℕ) → AreWithin before → AreWithin (levels_past items before)
 past_within no_item before h = h
-past_within (single others b) before h = with_zero before h
-past_within (times others count b) before h = with_zero before h
+past_within (single others b) before h = (low, h)
+past_within (times others count b) before h = (low, h)
 
 items_within : (items : Items) (before : List ℕ) → AreWithin before → AreWithin (levels_items items before)
 items_within no_item before h = h
-items_within (single others b) before h =
-    with_zero (levels_past others (levels_items others before))
-    (past_within others (levels_items others before) (items_within others before h))
+items_within (single others b) before h = (low, past_within others _ (items_within others before h))
 items_within (times others count b) before h =
-    with_count (levels_past others (levels_items others before))
-    (past_within others (levels_items others before) (items_within others before h))
-
-two_before : (xs : List ℕ) → AreWithin xs → AreWithin (0 ∷ 0 ∷ xs)
-two_before xs h = with_zero (0 ∷ xs) (with_zero xs h)
+    (low, (one_low, (one_low, (low, past_within others _ (items_within others before h)))))
 
 initial_within : (items : Items) (before : List ℕ) → AreWithin before → AreWithin (levels_initial items before)
 initial_within no_item before h = h
-initial_within (single others b) before h =
-    with_zero (levels_items (single others b) (0 ∷ 0 ∷ before))
-    (items_within (single others b) (0 ∷ 0 ∷ before) (two_before before h))
-initial_within (times others count b) before h =
-    with_zero (levels_items (times others count b) (0 ∷ 0 ∷ before))
-    (items_within (times others count b) (0 ∷ 0 ∷ before) (two_before before h))
+initial_within (single others b) before h = (low, items_within (single others b) _ (low, (low, h)))
+initial_within (times others count b) before h = (low, items_within (times others count b) _ (low, (low, h)))
 
 type_within : (ty : GlobalType) (before : List ℕ) → AreWithin before → AreWithin (levels_type ty before)
-type_within (plain ty) before h = with_zero before h
+type_within (plain ty) before h = (low, h)
 type_within (bytes last items) before h =
-    initial_within items (0 ∷ 0 ∷ 0 ∷ 0 ∷ 0 ∷ 0 ∷ 0 ∷ 0 ∷ before)
-    (with_four (0 ∷ 0 ∷ 0 ∷ 0 ∷ before) (with_four before h))
+    initial_within items _ (low, (low, (low, (low, (low, (low, (low, (low, h))))))))
 
 -- globals nest no deeper than they may
 pub globals_within : (gs : Globals) (before : List ℕ) → AreWithin before → AreWithin (levels_globals gs before)
 globals_within no_global before h = h
 globals_within (global others name line v place ty) before h =
-    let four = 0 ∷ 0 ∷ 0 ∷ 0 ∷ levels_globals others before in
-    with_zero (levels_type ty four)
-    (type_within ty four (with_four (levels_globals others before) (globals_within others before h)))
+    (low, type_within ty _ (low, (low, (low, (low, globals_within others before h)))))

@@ -1,9 +1,9 @@
 -- The labels of an arm of a CASE: their canonical form says their values.
-use Rattle.std.proofs.Common.{◌≡◌, ℤ, true, List, [], ◌∷◌, ◌++◌, sym, ap, subst, ◌∙◌}
+use Rattle.std.proofs.Common.{◌≡◌, ℤ, true, List, [], ◌∷◌, ◌++◌, refl, sym, ap, subst, ◌∙◌}
 use Rattle.st_canonical.specs.Canonical.{labels_behind, labels_form, literal_form}
 use Rattle.st_grammar.specs.Forms.{Labels, label, more_labels}
-use Rattle.st_grammar.specs.Grammar.{LabelsFit, label_tree, tree_labels}
-use Rattle.st_canonical.specs.Spelled.{LabelsSpelled}
+use Rattle.st_grammar.specs.Grammar.{LabelsFit, label_tree, spell_labels, tree_labels}
+use Rattle.st_proper.proofs.Spells.{Spells}
 use Rattle.st_proper.proofs.Literals.{Kept, kept}
 use Rattle.st_types_laws.proofs.Lists.{map_last}
 use Rattle.st_types_laws.proofs.Labels.{of_type}
@@ -17,10 +17,10 @@ use Rattle.st_tree.specs.declared.expr.StType.{StType}
 -- Forms
 
 -- labels of a type whose form says these values
-record AreLabels (ty : StType) (ns : List ℤ) (c : Labels) : Type 0 where
-  means : tree_labels c ≡ of_type ty ns
-  fits : LabelsFit c
-  spelled : LabelsSpelled c
+pub record AreLabels (ty : StType) (ns : List ℤ) (c : Labels) : Type 0 where
+  pub means : tree_labels c ≡ of_type ty ns
+  pub fits : LabelsFit c
+  pub spelled : Spells (spell_labels c)
 
 label_good : (ty : StType) (n : ℤ) → is_value ty n ≡ true → Kept ty n (literal_form ty n)
 label_good ty n h = kept ty n (value_of ty n h)
@@ -36,19 +36,14 @@ labels_good ty ns (n ∷ more) c a h =
       means = ap (λ z. z ++ label_tree (literal_form ty n) ∷ []) a.means ∙ ap (λ z. of_type ty ns ++ z ∷ []) g.label
           ∙ sym (map_last (λ (n : ℤ). (ty, n)) ns n);
       fits = (a.fits, g.value);
-      spelled = (a.spelled, g.spelled);
+      spelled = λ ks q. a.spelled _ (refl, (g.spelled, q));
     } in
     subst (λ z. AreLabels ty z (labels_behind ty next more)) (append_assoc ns (n ∷ []) more)
     (labels_good ty (ns ++ n ∷ []) more next one both.1)
 
 -- the labels of an arm, of which there is one
-pub record FormLabels (ty : StType) (ns : List ℤ) (c : Labels) : Type 0 where
-  pub means : tree_labels c ≡ of_type ty ns
-  pub fits : LabelsFit c
-  pub spelled : LabelsSpelled c
-
 pub form_labels : (ty : StType) (ns : List ℤ) → is_some_of ns ≡ true → list_all (is_value ty) ns ≡ true
-    → FormLabels ty ns (labels_form ty ns)
+    → AreLabels ty ns (labels_form ty ns)
 form_labels ty [] some h = absurd cc
 form_labels ty (n ∷ ns) some h =
     let both = and_both (is_value ty n) (list_all (is_value ty) ns) h in
@@ -58,7 +53,6 @@ form_labels ty (n ∷ ns) some h =
       means = ap
           (λ z. z ∷ []) g.label;
       fits = g.value;
-      spelled = g.spelled;
+      spelled = λ ks q. (g.spelled, q);
     } in
-    let all = labels_good ty (n ∷ []) ns (label (literal_form ty n)) first both.1 in
-    record { means = all.means; fits = all.fits; spelled = all.spelled }
+    labels_good ty (n ∷ []) ns (label (literal_form ty n)) first both.1

@@ -1,5 +1,9 @@
 -- The section of globals of a proper tree: it is of the language, tokens can have its parts, it
 -- nests no deeper than it may, and it declares what the tree has.
+use Rattle.st_proper.proofs.Spells.{Spells, initial_spells}
+use Rattle.st_grammar.specs.declared.kind.Fixed.TheVariants as fixed
+use Rattle.st_grammar.specs.declared.kind.Kind.TheVariants as kind
+use Rattle.st_lexer.specs.Spelled.{is_decimal}
 use Rattle.std.proofs.Common.{◌≡◌, ℕ, ◌-◌, ◌≤◌, ◌^◌, true, List, [], ◌∷◌, ◌++◌, length, Some, None, refl, sym, ap, ◌∙◌, arith, append_assoc, append-nil}
 use Rattle.std.specs.Prelude.{nat_lt}
 use Rattle.std.proofs.lemmas.Bool.Decides.{nat_tests}
@@ -10,10 +14,10 @@ use Rattle.s7_base.specs.Tokens.{line_after}
 use Rattle.s7_base.specs.declared.word.Width.TheVariants as width
 use Rattle.st_canonical.specs.Canonical.{area_form, block_name, blocks_from, globals_form, globals_from, items_form, located_from, on}
 use Rattle.st_grammar.specs.Forms.{plain, bytes, Globals, no_global, global, Section, present}
-use Rattle.st_grammar.specs.Grammar.{GlobalsFit, IfPresent, held, tree_globals, tree_items}
+use Rattle.st_grammar.specs.Grammar.{GlobalsFit, IfPresent, held, spell_array, spell_globals, spell_section, tree_globals, tree_items}
 use Rattle.st_grammar.specs.Levels.{levels_globals, levels_section}
-use Rattle.st_canonical.specs.Spelled.{GlobalsSpelled, is_variable}
-use Rattle.st_proper.proofs.BlockForms.{AreWithin, IsFull, block_is_name, block_is_named, globals_within, is_written, with_zero}
+use Rattle.st_canonical.specs.Spelled.{is_variable}
+use Rattle.st_proper.proofs.BlockForms.{AreWithin, IsFull, block_is_name, block_is_named, globals_within, is_written, low}
 use Rattle.st_types_laws.proofs.Lists.{Each}
 use Rattle.st_proper.proofs.GlobalForms.{IsPlain}
 use Rattle.st_tree.specs.Values.{width_at}
@@ -26,7 +30,7 @@ use Rattle.st_types_laws.proofs.Redeclared.{AreBlocksAt, AreLocatedAt, IsBlockAt
 -- globals of the language that tokens can have
 record AreSound (gs : Globals) : Type 0 where
   fit : GlobalsFit gs
-  spelled : GlobalsSpelled gs
+  spelled : Spells (spell_globals gs)
 
 -- globals after others, with what they declare
 record Behind (others all : Globals) (P : List RawGlobal → Type 0) : Type 0 where
@@ -65,6 +69,9 @@ block_at b line f =
       size = w.size;
     }
 
+array_spells : (last : ℕ) → is_decimal last ≡ true → Spells (spell_array last)
+array_spells last h ks q = (refl, (refl, (refl, (refl, (h, (refl, (refl, (refl, q))))))))
+
 block_sound : (b : DataBlock) (others : Globals) (line : ℕ) → IsFull b → AreSound others
     → AreSound (global others (block_name b.number) (on line) (raw.Direct area.Db (Some b.number) width.Byte 0 0)
     (on line) (bytes (length b.bytes - 1) (items_form b.bytes)))
@@ -72,7 +79,20 @@ block_sound b others line f s =
     let w = is_written b f in
     record {
       fit = (s.fit, refl, block_is_named b.number f.small);
-      spelled = (s.spelled, block_is_name b.number f.small, block_placed b f, (w.last, w.spelled));
+      spelled = λ ks q. s.spelled _ (
+        block_is_name b.number f.small,
+        (
+          refl,
+          (
+            block_placed b f,
+            (
+              refl,
+              array_spells _ w.last _
+                  (initial_spells (items_form b.bytes) w.spelled _ (refl, q)),
+            ),
+          ),
+        ),
+      );
     }
 
 blocks_behind : (bs : List DataBlock) (others : Globals) (line : ℕ) → Each IsFull bs → AreSound others
@@ -113,7 +133,7 @@ located_global_at g line p = record {
 located_sound : (g : Located) (others : Globals) (line : ℕ) → IsPlain g → AreSound others
     → AreSound (global others g.name (on line)
     (raw.Direct (area_form g.place.area) None (width_at g.ty) g.place.byte g.place.bit) (on line) (plain g.ty))
-located_sound g others line p s = record { fit = (s.fit, refl, p.free); spelled = (s.spelled, p.name, p.placed, tt) }
+located_sound g others line p s = record { fit = (s.fit, refl, p.free); spelled = λ ks q. s.spelled _ (p.name, (refl, (p.placed, (refl, (refl, (refl, q)))))) }
 
 located_behind : (gs : List Located) (others : Globals) (line : ℕ) → Each IsPlain gs → AreSound others
     → Behind others (located_from others line gs).0 (AreLocatedAt gs)
@@ -137,7 +157,7 @@ located_behind (g ∷ gs) others line h s =
 -- what the section of globals is
 pub record IsSection (bs : List DataBlock) (gs : List Located) (section : Section Globals) : Type 0 where
   pub fit : IfPresent GlobalsFit section
-  pub spelled : IfPresent GlobalsSpelled section
+  pub spelled : Spells (spell_section (kind.Fixed fixed.VarGlobal) spell_globals section)
   pub within : (before : List ℕ) → AreWithin before → AreWithin (levels_section levels_globals section before)
   pub blocks : List RawGlobal
   pub others : List RawGlobal
@@ -148,14 +168,13 @@ pub record IsSection (bs : List DataBlock) (gs : List Located) (section : Sectio
 written : (bs : List DataBlock) (gs : List Located) (line : ℕ) → Each IsFull bs → Each IsPlain gs
     → IsSection bs gs (present (globals_form line bs gs).0)
 written bs gs line h k =
-    let none : AreSound no_global = record { fit = tt; spelled = tt } in
+    let none : AreSound no_global = record { fit = tt; spelled = λ ks q. q } in
     let first = blocks_behind bs no_global line h none in
     let all = located_behind gs (blocks_from no_global line bs).0 (blocks_from no_global line bs).1 k first.sound in
     record {
       fit = all.sound.fit;
-      spelled = all.sound.spelled;
-      within = λ before w. with_zero (levels_globals (globals_form line bs gs).0 (0 ∷ before))
-          (globals_within (globals_form line bs gs).0 (0 ∷ before) (with_zero before w));
+      spelled = λ ks q. (refl, all.sound.spelled _ (refl, q));
+      within = λ before w. (low, globals_within (globals_form line bs gs).0 (0 ∷ before) (low, w));
       blocks = first.more;
       others = all.more;
       globals = all.same ∙ ap (λ xs. xs ++ all.more) first.same;
@@ -168,7 +187,7 @@ pub is_section : (bs : List DataBlock) (gs : List Located) (line : ℕ) → Each
     → IsSection bs gs (globals_from line bs gs).0
 is_section [] [] line h k = record {
   fit = tt;
-  spelled = tt;
+  spelled = λ ks q. q;
   within = λ before w. w;
   blocks = [];
   others = [];

@@ -1,14 +1,15 @@
 -- A well typed expression in its canonical form: it means the expression on each line, is of the language, and
 -- tokens can have its parts.
+use Rattle.st_proper.proofs.Spells.{Spells}
 use Rattle.std.proofs.Common.{◌≡◌, ℕ, ◌-◌, ℤ, Bool, true, false, Option, Some, Result, Ok, refl, sym, ap, subst, ◌∙◌, arith}
 use Rattle.std.specs.Prelude.{nat_lt, if◌then◌else◌}
 use Rattle.s7_base.specs.declared.reason.Line.{Line}
 use Rattle.s7_base.specs.declared.reason.Reason.{Reason}
 use Rattle.s7_base.specs.declared.word.Width.{Width}
 use Rattle.st_canonical.specs.Canonical.{expr_form, form_of, raw_var}
-use Rattle.st_canonical.specs.Spelled.{FormSpelled, is_function}
+use Rattle.st_canonical.specs.Spelled.{is_function}
 use Rattle.st_grammar.specs.Forms.{Form, group}
-use Rattle.st_grammar.specs.Grammar.{Binds, infix_level, level, tree}
+use Rattle.st_grammar.specs.Grammar.{Binds, infix_level, level, tree, spell}
 use Rattle.st_grammar.specs.Levels.{height}
 use Rattle.st_grammar.specs.declared.kind.OneOperand.TheVariants as one
 use Rattle.st_proper.proofs.Equations.{before_operand, form_area, form_binary, form_convert, form_literal, form_read, form_select, form_shift, form_unary, wrapped}
@@ -53,7 +54,7 @@ use Rattle.st_tree.specs.declared.raw.RawVar.{RawVar}
 pub record Sound (s : Scope) (m : Line) (t : Typed) (c : Form) : Type 0 where
   pub means : expression s m (tree c) ≡ sound t
   pub binds : Binds c
-  pub spelled : FormSpelled c
+  pub spelled : Spells (spell c)
 
 -- an expression of a type
 abbrev pub typed_tree : StType → Expr → Typed
@@ -63,7 +64,7 @@ wrap_sound : (s : Scope) (m : Line) (t : Typed) (c : Form) (j : ℕ) → Sound s
 wrap_sound s m t c j h = by (nat_lt j (level c))
   where
     by : (b : Bool) → Sound s m t (if b then group c else c)
-    by true = record { means = h.means; binds = h.binds; spelled = h.spelled }
+    by true = record { means = h.means; binds = h.binds; spelled = λ ks q. (refl, h.spelled _ (refl, q)) }
     by false = h
 
 before_sound : (s : Scope) (m : Line) (op : UnaryOp) (t : Typed) (ty : StType) (c : Form) → Sound s m t c
@@ -75,7 +76,7 @@ before_sound s m unary.Minus t ty c h e =
       means = is_typed (unary_by s m unary.Minus (tree (wrapped 1 c)) t w.means) e;
       binds =
           (wrapped_level 1 c, w.binds);
-      spelled = w.spelled;
+      spelled = λ ks q. (refl, w.spelled ks q);
     }
 before_sound s m unary.Not t ty c h e =
     let w = wrap_sound s m t c 2 h in
@@ -83,22 +84,13 @@ before_sound s m unary.Not t ty c h e =
       means = is_typed (unary_by s m unary.Not (tree (wrapped 2 c)) t w.means) e;
       binds =
           (wrapped_level 2 c, w.binds);
-      spelled = w.spelled;
+      spelled = λ ks q. (refl, w.spelled ks q);
     }
-before_sound s m unary.BcdToInt t ty c h e =
-    record {
-      means = is_typed (unary_by s m unary.BcdToInt (tree c) t h.means) e;
-      binds = h.binds;
-      spelled =
-          (refl, h.spelled);
-    }
-before_sound s m unary.BcdToDint t ty c h e =
-    record {
-      means = is_typed (unary_by s m unary.BcdToDint (tree c) t h.means) e;
-      binds = h.binds;
-      spelled =
-          (refl, h.spelled);
-    }
+before_sound s m op t ty c h e = record {
+  means = is_typed (unary_by s m op (tree c) t h.means) e;
+  binds = h.binds;
+  spelled = λ ks q. (refl, (refl, h.spelled _ (refl, q)));
+}
 
 -- Expressions
 
@@ -117,7 +109,7 @@ module _ (s : Scope) (names : Names) (sees : Sees s names) where
       (subst (Sound s m (typed_tree ty (expr.Literal ty n))) (sym (form_literal names k ty n)) (record {
         means = ap (expression s m) g.tree ∙ read_literal s m ty n;
         binds = g.value;
-        spelled = g.spelled;
+        spelled = λ ks q. (g.spelled, q);
       }))
 
   read_is_variable : (m : Line) (v : RawVar) (x : TypedVar) → variable_in s v ≡ Ok x
@@ -132,7 +124,7 @@ module _ (s : Scope) (names : Names) (sees : Sees s names) where
       subst (Sound s m (typed_tree u (expr.Read v))) (sym (form_read names k v)) (record {
         means = read_is_variable m (raw_var names v) (of_type u v) w.means;
         binds = tt;
-        spelled = w.spelled;
+        spelled = λ ks q. (w.spelled, q);
       })
 
   unary_good : (op : UnaryOp) (a : Expr) → Good a → Good (expr.Unary op a)
@@ -155,7 +147,7 @@ module _ (s : Scope) (names : Names) (sees : Sees s names) where
         means = is_typed (binary_by s m op (tree (wrapped (infix_level op) c)) (tree (wrapped (infix_level op - 1) d))
             (typed_tree g.first a) (typed_tree f.first b) x.means y.means) f.rest;
         binds = (wrapped_level (infix_level op) c, right_level op d, x.binds, y.binds);
-        spelled = (x.spelled, y.spelled);
+        spelled = λ ks q. x.spelled _ (refl, y.spelled ks q);
       })
 
   convert_good : (from to : StType) (a : Expr) → Good a → Good (expr.Convert from to a)
@@ -172,7 +164,7 @@ module _ (s : Scope) (names : Names) (sees : Sees s names) where
         means = is_typed (convert_by s m from to (tree c) (typed_tree g.first a) x.means)
             (f.is ∙ ap (λ t. Some t) w.1);
         binds = x.binds;
-        spelled = (there, x.spelled);
+        spelled = λ ks q. (there, (refl, x.spelled _ (refl, q)));
       })
 
   select_good : (a b e : Expr) → Good a → Good b → Good e → Good (expr.Select a b e)
@@ -189,7 +181,7 @@ module _ (s : Scope) (names : Names) (sees : Sees s names) where
             (typed_tree g.first a) (typed_tree f.first b) (typed_tree i.first e) x.means y.means z.means)
             i.rest;
         binds = (x.binds, y.binds, z.binds);
-        spelled = (x.spelled, y.spelled, z.spelled);
+        spelled = λ ks q. (refl, (refl, x.spelled _ (refl, y.spelled _ (refl, z.spelled _ (refl, q)))));
       })
 
   shift_good : (op : ShiftOp) (a b : Expr) → Good a → Good b → Good (expr.Shift op a b)
@@ -204,7 +196,7 @@ module _ (s : Scope) (names : Names) (sees : Sees s names) where
             (typed_tree f.first b) x.means y.means)
             f.rest;
         binds = (x.binds, y.binds);
-        spelled = (x.spelled, y.spelled);
+        spelled = λ ks q. (refl, (refl, x.spelled _ (refl, y.spelled _ (refl, q))));
       })
 
   area_good : (w : Width) (a : Expr) → Good a → Good (expr.AreaRead w a)
@@ -215,7 +207,7 @@ module _ (s : Scope) (names : Names) (sees : Sees s names) where
         means = is_typed (area_by s m w (tree (expr_form names k a)) (typed_tree g.first a) x.means)
             g.rest;
         binds = x.binds;
-        spelled = (refl, x.spelled);
+        spelled = λ ks q. (refl, (refl, x.spelled _ (refl, q)));
       })
 
   steps : ExprSteps Good

@@ -1,12 +1,12 @@
 -- What holds of the canonical forms of well typed statements, and of a list of them with one more.
 use Rattle.std.proofs.Common.{◌≡◌, ℕ, ◌+◌, ◌≤◌, Bool, true, List, [], ◌∷◌, map, Some}
 use Rattle.s7_base.specs.declared.reason.Line.{Line}
-use Rattle.st_canonical.specs.Spelled.{AllSpelled, ArmsSpelled, CasesSpelled, Spelled}
 use Rattle.st_grammar.specs.Forms.{Statement, Statements, Arms, CaseArms}
-use Rattle.st_grammar.specs.Grammar.{AllFit, ArmsFit, CasesFit, Fits, HasArm, HasCase, tree_all, tree_arms, tree_cases, tree_one}
+use Rattle.st_grammar.specs.Grammar.{AllFit, ArmsFit, CasesFit, Fits, HasArm, HasCase, spell_all, spell_arms, spell_cases, spell_one, tree_all, tree_arms, tree_cases, tree_one}
 use Rattle.st_types_laws.proofs.Bounds.{bound, bound_all, bound_arms, bound_cases}
 use Rattle.st_canonical.proofs.Levels.{top_all, top_arms, top_cases, top_one}
 use Rattle.st_types_laws.proofs.Parts.{AreSound}
+use Rattle.st_proper.proofs.Spells.{Spells}
 use Rattle.st_rules.specs.Judged.{sound}
 use Rattle.st_rules.specs.Calls.{calls_of}
 use Rattle.st_rules.specs.Statements.{arm as arm_in, arms_on, case_arm as case_arm_in, case_arms_on, statement, statements}
@@ -25,14 +25,14 @@ module _ (s : Scope) (inside : Bool) where
   pub record GoodOne (x : Stmt) (c : Statement) : Type 0 where
     pub means : statement s (tree_one c) ≡ sound x
     pub fits : Fits inside c
-    pub spelled : Spelled c
+    pub spelled : Spells (spell_one c)
     pub low : (d : ℕ) → top_one d c ≤ d + nesting x
     pub calls : (f : ℕ → ℕ) → bound f (calls_of s (tree_one c)) ≤ called_most f (x ∷ [])
 
   pub record GoodAll (xs : List Stmt) (c : Statements) : Type 0 where
     pub means : AreSound (statements s (tree_all c)) xs
     pub fits : AllFit inside c
-    pub spelled : AllSpelled c
+    pub spelled : Spells (spell_all c)
     pub low : (d : ℕ) → top_all d c ≤ d + body_nesting xs
     pub calls : (f : ℕ → ℕ) → bound_all f s (tree_all c) ≤ called_most f xs
 
@@ -40,7 +40,7 @@ module _ (s : Scope) (inside : Bool) where
     pub means : AreSound (arms_on m (map (arm_in s) (tree_arms c))) xs
     pub fits : ArmsFit inside c
     pub some : is_some_of xs ≡ true → HasArm c
-    pub spelled : ArmsSpelled c
+    pub spelled : (line : Line) → Spells (spell_arms line c)
     pub low : (d : ℕ) → top_arms d c ≤ d + greatest (map arm_nesting xs)
     pub calls : (f : ℕ → ℕ) → bound_arms f s (tree_arms c) ≤ greatest (map (called_in_arm f) xs)
 
@@ -48,6 +48,6 @@ module _ (s : Scope) (inside : Bool) where
     pub means : AreSound (case_arms_on m (Some ty) (map (case_arm_in s) (tree_cases c))) xs
     pub fits : CasesFit inside c
     pub some : is_some_of xs ≡ true → HasCase c
-    pub spelled : CasesSpelled c
+    pub spelled : Spells (spell_cases c)
     pub low : (d : ℕ) → top_cases d c ≤ d + greatest (map case_nesting xs)
     pub calls : (f : ℕ → ℕ) → bound_cases f s (tree_cases c) ≤ greatest (map (called_in_case f) xs)

@@ -1,4 +1,5 @@
 -- A well typed call in its canonical form: it gives each formal its variable, in the order of the formals.
+use Rattle.st_proper.proofs.Spells.{Spells, comma_spells}
 use Rattle.std.proofs.Common.{◌≡◌, ℕ, suc, max, ◌++◌, Bool, true, false, not, ◌&&◌, ◌||◌, cond, List, [], ◌∷◌, map, Option, Some, None, is_some, Result, Ok, refl, sym, ap, subst, ◌∙◌, arith}
 use Rattle.std.specs.Prelude.{is_none, option_map, slice_get}
 use Rattle.std.specs.List.{fold}
@@ -9,9 +10,9 @@ use Rattle.s7_base.specs.declared.reason.Line.{Line}
 use Rattle.s7_base.specs.declared.reason.Reason.{Reason}
 use Rattle.s7_base.specs.declared.reason.Reason.TheVariants.{TypeMismatch}
 use Rattle.st_canonical.specs.Canonical.{FromLine, actuals_from, on, raw_var, statement_from}
-use Rattle.st_canonical.specs.Spelled.{ActualsSpelled, is_name}
+use Rattle.st_canonical.specs.Spelled.{is_name}
 use Rattle.st_grammar.specs.Forms.{Actuals, no_actual, actual, invoke}
-use Rattle.st_grammar.specs.Grammar.{on_line, tree_actuals}
+use Rattle.st_grammar.specs.Grammar.{on_line, tree_actuals, spell_actuals}
 use Rattle.st_types_laws.proofs.Actions.{calls_invoke}
 use Rattle.st_proper.proofs.StatementForms.{from_invoke}
 use Rattle.st_types_laws.proofs.Bounds.{bound}
@@ -138,14 +139,14 @@ module _ (names : Names) (s : Scope) (types : Table StType) where
       ∙ append_assoc (tree_actuals others) ((l.name, raw_var names x.var) ∷ []) (actuals_of ls xs)
 
   are_spelled : (k : ℕ) (others : Actuals) (ls : List Local) (xs : List TypedVar) → AreFit ls xs
-      → ((i : ℕ) (l : Local) → slice_get ls i ≡ Some l → is_name l.name ≡ true) → ActualsSpelled others
-      → ActualsSpelled (actuals_from names k others ls (vars_of xs))
+      → ((i : ℕ) (l : Local) → slice_get ls i ≡ Some l → is_name l.name ≡ true) → Spells (spell_actuals others)
+      → Spells (spell_actuals (actuals_from names k others ls (vars_of xs)))
   are_spelled k others [] [] f n h = h
   are_spelled k others [] (x ∷ xs) f n h = absurd f
   are_spelled k others (l ∷ ls) [] f n h = absurd f
   are_spelled k others (l ∷ ls) (x ∷ xs) f n h =
       are_spelled k (actual others l.name (on k) (raw_var names x.var) (on k)) ls xs f.1 (λ i m g. n (suc i) m g)
-      (h, n 0 l refl, f.0.0.spelled)
+      (λ ks q. h _ (comma_spells others _ (n 0 l refl, (refl, (f.0.0.spelled, q)))))
 
 -- The variables that a call gives
 
@@ -193,7 +194,7 @@ module _ (names : Names) (s : Scope) (sees : Sees s names) where
             ∙ call_is s (on k) u.name actuals n (formals_in u) table c.means.0 c.formals given order.1
             ∙ ap (λ vs. sound (stmt.Invoke n vs)) order.0;
         fits = tt;
-        spelled = (c.means.1, are_spelled names s types k no_actual u.formals xs fit c.named tt);
+        spelled = λ ks q. (c.means.1, (refl, are_spelled names s types k no_actual u.formals xs fit c.named (λ ls r. r) _ (refl, q)));
         low = λ d. omega (arith, nesting_invoke n (vars_of xs));
         calls = λ f. let b : bound f (calls_of s (on_line (on k) (raw.Invoke u.name form)))
             ≡ max (f n) 0 = ap (bound f) calls in

@@ -12,6 +12,7 @@ pub mod Keys
 pub mod Literals
 pub mod Nested
 pub mod Scope
+pub mod Spells
 pub mod StatementForms
 pub mod Statements
 pub mod UnitForms

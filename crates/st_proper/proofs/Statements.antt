@@ -1,5 +1,6 @@
 -- Well typed statements in their canonical form: they mean the statements, are of the language, nest no deeper than
 -- the tree says, and call the same units.
+use Rattle.st_proper.proofs.Spells.{arm_word_spelled}
 use Rattle.std.proofs.Common.{◌≡◌, ℕ, suc, ◌++◌, Bool, true, ◌&&◌, List, [], ◌∷◌, map, Option, Some, None, refl, sym, ap, subst, ◌∙◌, arith}
 use Rattle.std.specs.List.{list_all}
 use Rattle.std.proofs.lemmas.Bool.{and_parts}
@@ -70,7 +71,7 @@ module _ (s : Scope) (names : Names) (sees : Sees s names) (agree : TypesAgreeIn
         means = assign_is s (on k) (raw_var names v) (tree c) (of_type t.type v) (typed_tree t.type e) w.means g.means
             (is_own_type t.type);
         fits = g.binds;
-        spelled = (w.spelled, g.spelled);
+        spelled = λ ks q. (w.spelled, (refl, g.spelled ks q));
         low = λ d. omega (arith, nest_is names k e, nesting_assign v e);
         calls = λ f. bound_none f _ _ (calls_assign s (on k) (raw_var names v) (tree c));
       })
@@ -88,7 +89,7 @@ module _ (s : Scope) (names : Names) (sees : Sees s names) (agree : TypesAgreeIn
         means = write_is s (on k) w (tree c) (tree d) (typed_tree type.Dword p)
             (typed_tree (type_of_width w) e) g.means i.means (is_own_type (type_of_width w));
         fits = (g.binds, i.binds);
-        spelled = (g.spelled, i.spelled);
+        spelled = λ ks q. (refl, (refl, g.spelled _ (refl, i.spelled _ (refl, q))));
         low = λ d. omega (arith, nest_is names k p, nest_is names k e, nesting_area_write w p e);
         calls = λ f. bound_none f _ _ (calls_write s (on k) w (tree c) (tree d));
       })
@@ -100,7 +101,7 @@ module _ (s : Scope) (names : Names) (sees : Sees s names) (agree : TypesAgreeIn
       subst (λ (f : FromLine). GoodOne s inside stmt.Exit (f k).0) (sym (from_exit names)) (record {
         means = act_exit s (on k);
         fits = sym (good_exit (sight_by names) inside) ∙ h;
-        spelled = tt;
+        spelled = λ ks q. (refl, q);
         low = λ d. omega (arith, nesting_exit);
         calls = λ f. bound_none f _ _ (calls_exit s (on k));
       })
@@ -110,7 +111,7 @@ module _ (s : Scope) (names : Names) (sees : Sees s names) (agree : TypesAgreeIn
       subst (λ (f : FromLine). GoodOne s inside stmt.Continue (f k).0) (sym (from_continue names)) (record {
         means = act_continue s (on k);
         fits = sym (good_continue (sight_by names) inside) ∙ h;
-        spelled = tt;
+        spelled = λ ks q. (refl, q);
         low = λ d. omega (arith, nesting_continue);
         calls = λ f. bound_none f _ _ (calls_continue s (on k));
       })
@@ -120,7 +121,7 @@ module _ (s : Scope) (names : Names) (sees : Sees s names) (agree : TypesAgreeIn
       subst (λ (f : FromLine). GoodOne s inside stmt.Return (f k).0) (sym (from_return names)) (record {
         means = act_return s (on k);
         fits = refl;
-        spelled = tt;
+        spelled = λ ks q. (refl, q);
         low = λ d. omega (arith, nesting_return);
         calls = λ f. bound_none f _ _ (calls_return s (on k));
       })
@@ -133,7 +134,7 @@ module _ (s : Scope) (names : Names) (sees : Sees s names) (agree : TypesAgreeIn
   one_more inside xs x others c g h = record {
     means = statements_last s (tree_all others) (tree_one c) xs x g.means h.means;
     fits = (g.fits, h.fits);
-    spelled = (g.spelled, h.spelled);
+    spelled = λ ks q. g.spelled _ (h.spelled _ (refl, q));
     low = λ d. omega (arith, g.low d, h.low d, greatest_last nesting xs x);
     calls = λ f. omega (
       arith,
@@ -162,7 +163,7 @@ module _ (s : Scope) (names : Names) (sees : Sees s names) (agree : TypesAgreeIn
   no_statement inside = record {
     means = refl;
     fits = tt;
-    spelled = tt;
+    spelled = λ ks q. q;
     low = λ d. omega arith;
     calls = λ f. omega arith;
   }
@@ -184,7 +185,7 @@ module _ (s : Scope) (names : Names) (sees : Sees s names) (agree : TypesAgreeIn
         means = while_is s (on k) (tree c) (tree_all form) e body
             (test_is s (on k) (tree c) (typed_tree type.Bool e) g.means refl) b.means;
         fits = (g.binds, b.fits);
-        spelled = (g.spelled, b.spelled);
+        spelled = λ ks q. (refl, g.spelled _ (refl, b.spelled _ (refl, q)));
         low = λ d. omega (arith, nest_is names k e, b.low (suc d), nesting_while e body);
         calls = λ f. omega (
           arith,
@@ -214,7 +215,7 @@ module _ (s : Scope) (names : Names) (sees : Sees s names) (agree : TypesAgreeIn
             (test_is s m (tree c) (typed_tree type.Bool x.test) i.means refl) b.means);
         fits = (g.fits, i.binds, b.fits);
         some = λ q. tt;
-        spelled = (g.spelled, i.spelled, b.spelled);
+        spelled = λ line ks q. g.spelled line _ (arm_word_spelled line others, i.spelled _ (refl, b.spelled ks q));
         low = λ d. omega (
           arith,
           g.low d,
@@ -252,7 +253,7 @@ module _ (s : Scope) (names : Names) (sees : Sees s names) (agree : TypesAgreeIn
     means = refl;
     fits = tt;
     some = λ q. absurd cc;
-    spelled = tt;
+    spelled = λ line ks q. q;
     low = λ d. omega arith;
     calls = λ f. omega arith;
   }
@@ -266,7 +267,7 @@ module _ (s : Scope) (names : Names) (sees : Sees s names) (agree : TypesAgreeIn
   choice_by inside arms [] k a some g b = record {
     means = if_is s (on k) (tree_arms a.0) [] arms [] g.means refl;
     fits = (g.some some, g.fits);
-    spelled = g.spelled;
+    spelled = λ ks q. g.spelled _ _ (refl, q);
     low = λ d. omega (arith, g.low (suc d), nesting_if arms []);
     calls = λ f. omega (arith, g.calls f, bound_if f s (on k) (tree_arms a.0) [], called_if f arms []);
   }
@@ -276,7 +277,7 @@ module _ (s : Scope) (names : Names) (sees : Sees s names) (agree : TypesAgreeIn
       record {
         means = if_is s (on k) (tree_arms a.0) (tree_all form) arms (y ∷ ys) g.means h.means;
         fits = (g.some some, g.fits, h.fits);
-        spelled = (g.spelled, h.spelled);
+        spelled = λ ks q. g.spelled _ _ (refl, h.spelled _ (refl, q));
         low = λ d. omega (arith, g.low (suc d), h.low (suc d), nesting_if arms (y ∷ ys));
         calls = λ f. omega (
           arith,
@@ -331,7 +332,7 @@ module _ (s : Scope) (names : Names) (sees : Sees s names) (agree : TypesAgreeIn
             (ap values l.means ∙ values_of ty x.labels) b.means);
         fits = (g.fits, l.fits, b.fits);
         some = λ q. tt;
-        spelled = (g.spelled, l.spelled, b.spelled);
+        spelled = λ ks q. g.spelled _ (l.spelled _ (refl, b.spelled ks q));
         low = λ d. omega (arith, g.low d, b.low d, greatest_last case_nesting xs x, nesting_case_arm x);
         calls = λ f. omega (
           arith,
@@ -365,7 +366,7 @@ module _ (s : Scope) (names : Names) (sees : Sees s names) (agree : TypesAgreeIn
     means = refl;
     fits = tt;
     some = λ q. absurd cc;
-    spelled = tt;
+    spelled = λ ks q. q;
     low = λ d. omega arith;
     calls = λ f. omega arith;
   }
@@ -409,7 +410,7 @@ module _ (s : Scope) (names : Names) (sees : Sees s names) (agree : TypesAgreeIn
         means = case_is s (on k) (tree c) (tree_cases a.0) [] (typed_tree t.ty e) arms []
             (selector_is s (on k) (tree c) (typed_tree t.ty e) i.means (t.selects)) g.means refl;
         fits = (i.binds, g.some t.some, g.fits);
-        spelled = (i.spelled, g.spelled);
+        spelled = λ ks q. (refl, i.spelled _ (refl, g.spelled _ (refl, q)));
         low = λ d. omega (arith, nest_is names k e, g.low (suc d), nesting_case e arms []);
         calls = λ f. omega (
           arith,
@@ -429,7 +430,7 @@ module _ (s : Scope) (names : Names) (sees : Sees s names) (agree : TypesAgreeIn
             (selector_is s (on k) (tree c) (typed_tree t.ty e) i.means
             (t.selects)) g.means h.means;
         fits = (i.binds, g.some t.some, g.fits, h.fits);
-        spelled = (i.spelled, g.spelled, h.spelled);
+        spelled = λ ks q. (refl, i.spelled _ (refl, g.spelled _ (refl, h.spelled _ (refl, q))));
         low = λ d. omega (arith, nest_is names k e, g.low (suc d), h.low (suc d), nesting_case e arms (y ∷ ys));
         calls = λ f. omega (
           arith,

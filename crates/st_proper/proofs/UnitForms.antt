@@ -1,5 +1,7 @@
 -- The units of a proper tree, in their canonical form: they are of the language, tokens can have
 -- their names, they nest no deeper than they may, and they declare what the tree has.
+use Rattle.st_proper.proofs.Spells.{Spells, end_word_spelled, unit_word_spelled}
+use Rattle.st_grammar.specs.declared.kind.Kind.{Kind}
 use Rattle.std.proofs.Common.{◌≡◌, ◌≢◌, ℕ, Bool, true, false, List, [], ◌∷◌, ◌++◌, map, refl, sym, subst, ◌∙◌, append_assoc, append-nil}
 use Rattle.std.specs.Prelude.{All}
 use Rattle.s7_base.specs.declared.reason.Line.{Line}
@@ -7,10 +9,10 @@ use Rattle.s7_base.specs.Tokens.{line_after}
 use Rattle.st_canonical.proofs.SameNames.{spelled_name}
 use Rattle.st_canonical.specs.Canonical.{Placed, body_from, locals_from, on, section_from, statement_from, unit_from, units_from}
 use Rattle.st_grammar.specs.Forms.{Statements, Locals, no_local, local, Section, absent, present, Units, no_unit}
-use Rattle.st_grammar.specs.Grammar.{AllFit, FormalsFit, HeadFits, IfPresent, LocalsFit, UnitsFit, held, is_formal_type, tree_all, tree_locals, tree_units}
+use Rattle.st_grammar.specs.Grammar.{AllFit, FormalsFit, HeadFits, IfPresent, LocalsFit, UnitsFit, held, is_formal_type, spell_all, spell_locals, spell_section, spell_units, tree_all, tree_locals, tree_units}
 use Rattle.st_grammar.specs.Levels.{levels_all, levels_locals, levels_section, levels_units}
-use Rattle.st_canonical.specs.Spelled.{AllSpelled, LocalsSpelled, UnitsSpelled, is_name}
-use Rattle.st_proper.proofs.BlockForms.{AreWithin, with_four, with_zero}
+use Rattle.st_canonical.specs.Spelled.{is_name, is_spelled}
+use Rattle.st_proper.proofs.BlockForms.{AreWithin, low}
 use Rattle.st_types_laws.proofs.Lists.{Each, each_of}
 use Rattle.st_tree.specs.Proper.{IsFormal, IsLocal, IsProperUnit}
 use Rattle.st_tree.specs.WellTyped.{head_of}
@@ -33,20 +35,20 @@ IsUnit text u = IsProperUnit text.globals (map head_of text.pous) u
 -- locals that tokens can have
 record AreSound (P : Locals → Type 0) (others all : Locals) (ls : List Local) : Type 0 where
   fit : P all
-  spelled : LocalsSpelled all
+  spelled : Spells (spell_locals all)
   more : List RawLocal
   same : tree_locals all ≡ tree_locals others ++ more
   are : AreLocalsAt ls more
 
 module _ (P : Locals → Type 0) (Q : Local → Type 0) (named : (l : Local) → Q l → is_name l.name ≡ true)
     (fits : (others : Locals) (l : Local) (line : Line) → P others → Q l → P (local others l.name line l.ty)) where
-  all_behind : (ls : List Local) (others : Locals) (line : ℕ) → Each Q ls → P others → LocalsSpelled others
+  all_behind : (ls : List Local) (others : Locals) (line : ℕ) → Each Q ls → P others → Spells (spell_locals others)
       → AreSound P others (locals_from others line ls).0 ls
   all_behind [] others line h f s =
       record { fit = f; spelled = s; more = []; same = sym (append-nil (tree_locals others)); are = tt }
   all_behind (l ∷ ls) others line h f s =
       let r = all_behind ls (local others l.name (on line) l.ty) (line_after line) h.1 (fits others l (on line) f h.0)
-      (s, named l h.0) in
+      (λ ks q. s _ (named l h.0, (refl, (refl, (refl, q))))) in
       let own : RawLocal = record { name = l.name; line = on line; ty = l.ty } in
       record {
         fit = r.fit;
@@ -62,19 +64,17 @@ formal_type ty h = refl
 
 locals_within : (ls : Locals) (before : List ℕ) → AreWithin before → AreWithin (levels_locals ls before)
 locals_within no_local before h = h
-locals_within (local others name line ty) before h = with_four (levels_locals others before)
-    (locals_within others before h)
+locals_within (local others name line ty) before h = (low, (low, (low, (low, locals_within others before h))))
 
 section_within : (s : Section Locals) (before : List ℕ) → AreWithin before
     → AreWithin (levels_section levels_locals s before)
 section_within absent before h = h
-section_within (present ls) before h = with_zero (levels_locals ls (0 ∷ before))
-    (locals_within ls (0 ∷ before) (with_zero before h))
+section_within (present ls) before h = (low, locals_within ls (0 ∷ before) (low, h))
 
 -- what a section of formals and one of locals are
 record IsSection (P : Section Locals → Type 0) (s : Section Locals) (ls : List Local) : Type 0 where
   fit : P s
-  spelled : IfPresent LocalsSpelled s
+  spelled : (word : Kind) → is_spelled word ≡ true → Spells (spell_section word spell_locals s)
   are : AreLocalsAt ls (held tree_locals s)
 
 no_program : (program : Bool) (l : Local) (ls : List Local) → (program ≡ true → l ∷ ls ≡ []) → program ≡ false
@@ -83,24 +83,24 @@ no_program true l ls h = let none = h refl in absurd cc
 
 formals_section : (program : Bool) (ls : List Local) (line : ℕ) → (program ≡ true → ls ≡ []) → All IsFormal ls
     → IsSection (HeadFits program) (section_from line ls).0 ls
-formals_section program [] line m h = record { fit = tt; spelled = tt; are = tt }
+formals_section program [] line m h = record { fit = tt; spelled = λ word w ks q. q; are = tt }
 formals_section program (l ∷ ls) line m h =
     let r = all_behind FormalsFit IsFormal (λ x q. spelled_name x.name q.name)
     (λ others x at f q. (f, q.free, formal_type x.ty q.type)) (l ∷ ls) no_local (line_after line)
-    (each_of IsFormal (l ∷ ls) h) tt tt in
+    (each_of IsFormal (l ∷ ls) h) tt (λ ks q. q) in
     record {
       fit = (no_program program l ls m, r.fit);
-      spelled = r.spelled;
+      spelled = λ word w ks q. (w, r.spelled _ (refl, q));
       are = subst (AreLocalsAt (l ∷ ls)) (sym r.same) r.are;
     }
 
 locals_section : (ls : List Local) (line : ℕ) → All IsLocal ls
     → IsSection (IfPresent LocalsFit) (section_from line ls).0 ls
-locals_section [] line h = record { fit = tt; spelled = tt; are = tt }
+locals_section [] line h = record { fit = tt; spelled = λ word w ks q. q; are = tt }
 locals_section (l ∷ ls) line h =
     let r = all_behind LocalsFit IsLocal (λ x q. spelled_name x.name q.name) (λ others x at f q. (f, q.free)) (l ∷ ls)
-    no_local (line_after line) (each_of IsLocal (l ∷ ls) h) tt tt in
-    record { fit = r.fit; spelled = r.spelled; are = subst (AreLocalsAt (l ∷ ls)) (sym r.same) r.are }
+    no_local (line_after line) (each_of IsLocal (l ∷ ls) h) tt (λ ks q. q) in
+    record { fit = r.fit; spelled = λ word w ks q. (w, r.spelled _ (refl, q)); are = subst (AreLocalsAt (l ∷ ls)) (sym r.same) r.are }
 
 -- Units
 
@@ -111,13 +111,13 @@ body_at text u line = (body_from line (map (statement_from (names_in text u)) u.
 -- they are of the language, tokens can have their parts, and they nest no deeper than they may
 pub record HasBody (text : StProgram) (u : Pou) : Type 0 where
   pub fit : (line : ℕ) → AllFit false (body_at text u line)
-  pub spelled : (line : ℕ) → AllSpelled (body_at text u line)
+  pub spelled : (line : ℕ) → Spells (spell_all (body_at text u line))
   pub within : (line : ℕ) (before : List ℕ) → AreWithin before → AreWithin (levels_all 0 (body_at text u line) before)
 
 -- units of the language that tokens can have, after others
 pub record AreUnits (all : Units) : Type 0 where
   pub fit : UnitsFit all
-  pub spelled : UnitsSpelled all
+  pub spelled : Spells (spell_units all)
   pub within : (before : List ℕ) → AreWithin before → AreWithin (levels_units all before)
 
 -- a unit has the canonical form of the other's statements
@@ -164,16 +164,19 @@ one_unit text u others line h b a =
     let at = (locals_of_unit line u).1 in
     record {
       fit = (a.fit, h.free, formals.fit, locals.fit, b.fit at);
-      spelled = (a.spelled, spelled_name u.name h.name, formals.spelled, locals.spelled, b.spelled at);
-      within = λ before k.
-          let one = 0 ∷ levels_units others before in
-          let two = 0 ∷ one in
-          let three = levels_section levels_locals (formals_of_unit line u).0 two in
-          let four = levels_section levels_locals (locals_of_unit line u).0 three in
-          let w = with_zero one (with_zero (levels_units others before) (a.within before k)) in
-          with_zero (levels_all 0 (body_at text u at) four)
-          (b.within at four (section_within (locals_of_unit line u).0 three
-          (section_within (formals_of_unit line u).0 two w)));
+      spelled = λ ks q. a.spelled _ (
+        unit_word_spelled u.program (on line),
+        (
+          spelled_name u.name h.name,
+          formals.spelled _ refl _
+              (locals.spelled _ refl _ (b.spelled at _ (end_word_spelled u.program, q))),
+        ),
+      );
+      within = λ before k. (
+        low,
+        b.within at _ (section_within (locals_of_unit line u).0 _
+            (section_within (formals_of_unit line u).0 _ (low, (low, a.within before k)))),
+      );
     }
 
 units_behind : (text : StProgram) (us : List Pou) (others : Units) (line : ℕ) → Each (IsUnit text) us
@@ -188,7 +191,7 @@ units_behind text (u ∷ us) others line h b a =
 pub units_are : (text : StProgram) (us : List Pou) (line : ℕ) → Each (IsUnit text) us → Each (HasBody text) us
     → AreUnits (units_from text no_unit line us).0
 units_are text us line h b = units_behind text us no_unit line h b
-    (record { fit = tt; spelled = tt; within = λ before w. w })
+    (record { fit = tt; spelled = λ ks q. q; within = λ before w. w })
 
 units_declare : (text : StProgram) (us : List Pou) (others : Units) (line : ℕ) → Each (IsUnit text) us
     → Declare text us others (units_from text others line us).0

@@ -10,12 +10,12 @@ use Rattle.memory_areas.specs.declared.data_block.DataBlock.{DataBlock}
 use Rattle.memory_areas.specs.declared.place.Area.{Area}
 use Rattle.memory_areas.specs.declared.place.Area.TheVariants as place
 use Rattle.memory_areas.specs.declared.place.AreaName.TheVariants as area
-use Rattle.st_canonical.specs.Canonical.{globals_from, source_of, units_from}
+use Rattle.st_canonical.specs.Canonical.{area_form, globals_from, source_of, units_from}
 use Rattle.st_grammar.specs.Forms.{no_unit}
 use Rattle.st_grammar.specs.Grammar.{raw_tree}
-use Rattle.st_grammar.specs.Levels.{deepest, levels_all, levels_globals, levels_section, levels_units}
+use Rattle.st_grammar.specs.Levels.{deepest, levels_all, levels_globals, levels_section}
 use Rattle.st_lexer.specs.Spelled.{is_byte}
-use Rattle.st_proper.proofs.BlockForms.{IsFull, with_zero}
+use Rattle.st_proper.proofs.BlockForms.{IsFull, low}
 use Rattle.st_types_laws.proofs.Bounds.{bound}
 use Rattle.st_proper.proofs.Chains.{AreBounded, is_chain}
 use Rattle.st_proper.proofs.DeclaredGlobals.{IsSection, is_section}
@@ -105,32 +105,17 @@ global_at name ty a byte bit = record { name = name; place = record { area = a; 
 
 on_area : (name : List ℕ) (ty : StType) (byte bit : ℕ) (a : Area) → is_located a (width_at ty) byte bit ≡ true
     → ty ≢ type.Lint → IsPlaced (global_at name ty a byte bit)
-on_area name ty byte bit place.I h t =
-    let p = placed area.I (width_at ty) byte bit h in
-    record {
-      address = p.rules;
-      fits = wide ty t;
-      found = ap (λ b. cond b (Some (global_at name ty place.I byte bit)) None)
-          (both_true (rules.is_place area.I (width_at ty) byte bit) (has_width ty (width_at ty)) p.rules (wide ty t));
-    }
-on_area name ty byte bit place.Q h t =
-    let p = placed area.Q (width_at ty) byte bit h in
-    record {
-      address = p.rules;
-      fits = wide ty t;
-      found = ap (λ b. cond b (Some (global_at name ty place.Q byte bit)) None)
-          (both_true (rules.is_place area.Q (width_at ty) byte bit) (has_width ty (width_at ty)) p.rules (wide ty t));
-    }
-on_area name ty byte bit place.M h t =
-    let p = placed area.M (width_at ty) byte bit h in
-    record {
-      address = p.rules;
-      fits = wide ty t;
-      found = ap (λ b. cond b (Some (global_at name ty place.M byte bit)) None)
-          (both_true (rules.is_place area.M (width_at ty) byte bit) (has_width ty (width_at ty)) p.rules (wide ty t));
-    }
 on_area name ty byte bit (place.Db n) h t = absurd cc
-on_area name ty byte bit other h t = absurd cc
+on_area name ty byte bit (place.Local d) h t = absurd cc
+on_area name ty byte bit (place.Cell d) h t = absurd cc
+on_area name ty byte bit a h t =
+    let p = placed (area_form a) (width_at ty) byte bit h in
+    record {
+      address = p.rules;
+      fits = wide ty t;
+      found = ap (λ b. cond b (Some (global_at name ty a byte bit)) None)
+          (both_true (rules.is_place (area_form a) (width_at ty) byte bit) (has_width ty (width_at ty)) p.rules (wide ty t));
+    }
 
 are_placed : (gs : List Located) → Each IsGlobal gs → ArePlaced gs
 are_placed [] h = tt
@@ -368,9 +353,9 @@ module _ (t : StProgram) (p : Proper t) where
   pub proper_form : HasCanonicalForm t
   proper_form = record {
     fits = (section.fit, units.fit);
-    spelled = (section.spelled, units.spelled);
-    within = with_zero (levels_units (source_of t).units (levels_section levels_globals (source_of t).globals []))
-        (units.within (levels_section levels_globals (source_of t).globals []) (section.within [] tt));
+    spelled = section.spelled _ (units.spelled _ (refl, tt));
+    within =
+        (low, units.within (levels_section levels_globals (source_of t).globals []) (section.within [] tt));
     typed = record { sound = ap first_of_all no_breaks; chain = chain; same = same };
   }
 

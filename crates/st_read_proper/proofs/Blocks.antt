@@ -11,10 +11,10 @@ use Rattle.std.proofs.lemmas.List.Sums.{fold-append}
 use Rattle.memory_areas.specs.declared.data_block.DataBlock.{DataBlock}
 use Rattle.memory_areas.specs.declared.sizes.TheConstants.{MOST_BLOCKS}
 use Rattle.st_grammar.specs.Forms.{GlobalType, Globals, Items, bytes, global, no_global, no_item, plain, single, times}
-use Rattle.st_grammar.specs.Grammar.{tree_globals, tree_items, tree_type}
+use Rattle.st_grammar.specs.Grammar.{tree_globals, tree_items, tree_type, spell_globals, spell_items, spell_type}
 use Rattle.st_lexer.specs.Spelled.{is_byte}
 use Rattle.st_types_laws.proofs.Lists.{Each}
-use Rattle.st_read_proper.proofs.Worded.{GlobalsWorded, ItemsWorded, TypeWorded}
+use Rattle.st_read_proper.proofs.Worded.{Worded, comma_past_items, globals_behind, initial_worded, items_behind}
 use Rattle.st_rules.specs.Globals.{all_blocks, block_at, block_number, block_of, contents, has_block_address, has_block_form, inserted, is_small_enough, with_block}
 use Rattle.st_tree.specs.Proper.{IsDataBlock}
 use Rattle.st_tree.specs.declared.raw.RawGlobal.{RawGlobal}
@@ -45,10 +45,10 @@ one_more : (others : Items) (count b : ℕ) → list_all is_byte (spread (tree_i
 one_more others count b h d =
     ap (list_all is_byte) (spread_one (tree_items others) count b) ∙ list_all-append is_byte (spread (tree_items others)) (replicate count b) ∙ rw (h, repeated count b d) refl
 
-all_spread : (items : Items) → ItemsWorded items → list_all is_byte (spread (tree_items items)) ≡ true
+all_spread : (items : Items) → Worded (spell_items items) → list_all is_byte (spread (tree_items items)) ≡ true
 all_spread no_item h = refl
-all_spread (single others b) h = one_more others 1 b (all_spread others h.0) h.1
-all_spread (times others count b) h = one_more others count b (all_spread others h.0) h.1
+all_spread (single others b) h = one_more others 1 b (all_spread others (_, h.1)) (comma_past_items others _ (items_behind others _ h.1)).0
+all_spread (times others count b) h = one_more others count b (all_spread others (_, h.1)) (comma_past_items others _ (items_behind others _ h.1)).1.1.0
 
 all_contents : (last : ℕ) (runs : List (ℕ × ℕ)) → list_all is_byte (spread runs) ≡ true → list_all is_byte (contents last runs) ≡ true
 all_contents last [] h = repeated (last + 1) 0 refl
@@ -64,12 +64,12 @@ bytes_at n at last list b h = by_test (has_block_address n at && is_small_enough
     by_test false f = absurd cc
     by_test true f = let same : made ≡ b = cc in ap (λ (c : DataBlock). c.bytes) (sym same)
 
-bytes_of : (ty : GlobalType) (name : List ℕ) (at : RawVar) (b : DataBlock) → TypeWorded ty → block_of (tree_type ty) name at ≡ Some b → list_all is_byte b.bytes ≡ true
+bytes_of : (ty : GlobalType) (name : List ℕ) (at : RawVar) (b : DataBlock) → Worded (spell_type ty) → block_of (tree_type ty) name at ≡ Some b → list_all is_byte b.bytes ≡ true
 bytes_of (plain ty) name at b w h = absurd cc
 bytes_of (bytes last items) name at b w h =
-    ap (list_all is_byte) (bytes_at (block_number name) at last (tree_items items) b h) ∙ all_contents last (tree_items items) (all_spread items w)
+    ap (list_all is_byte) (bytes_at (block_number name) at last (tree_items items) b h) ∙ all_contents last (tree_items items) (all_spread items (initial_worded items (_, w.1.1.1.1.1.1.1.1.1)))
 
-is_block_of : (ty : GlobalType) (name : List ℕ) (at : RawVar) (b : DataBlock) → TypeWorded ty → block_of (tree_type ty) name at ≡ Some b → IsDataBlock b
+is_block_of : (ty : GlobalType) (name : List ℕ) (at : RawVar) (b : DataBlock) → Worded (spell_type ty) → block_of (tree_type ty) name at ≡ Some b → IsDataBlock b
 is_block_of ty name at b w h =
     let i = is_block (tree_type ty) name at b h in
     record { number = omega (arith, i.number, i.small); bytes = all_bytes b.bytes (bytes_of ty name at b w h) }
@@ -91,10 +91,10 @@ block_with (Some b) bs f h = by_test (nat_lt (length bs) MOST_BLOCKS)
     by_test false = h
 
 -- the data blocks of a tree
-pub are_data_blocks : (gs : Globals) → GlobalsWorded gs → Each IsDataBlock (all_blocks (tree_globals gs))
+pub are_data_blocks : (gs : Globals) → Worded (spell_globals gs) → Each IsDataBlock (all_blocks (tree_globals gs))
 are_data_blocks no_global w = tt
 are_data_blocks (global others name line v at ty) w =
     let step = λ (blocks : List DataBlock) (g : RawGlobal). with_block (block_of g.ty g.name g.at) blocks in
     let last : RawGlobal = record { name = name; line = line; at = v; ty = tree_type ty } in
     subst (Each IsDataBlock) (sym (fold-append step [] (tree_globals others) (last ∷ [])))
-    (block_with (block_of (tree_type ty) name v) (all_blocks (tree_globals others)) (λ b e. is_block_of ty name v b w.3 e) (are_data_blocks others w.0))
+    (block_with (block_of (tree_type ty) name v) (all_blocks (tree_globals others)) (λ b e. is_block_of ty name v b (_, (globals_behind others _ w.1).1.1.1.1) e) (are_data_blocks others (_, w.1)))

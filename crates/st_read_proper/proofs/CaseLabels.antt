@@ -1,12 +1,13 @@
 -- The labels of an arm of a CASE: where they have the selector's type, it has their values.
+use Rattle.st_read_proper.proofs.Worded.{Worded, labels_behind, literal_is}
 use Rattle.std.proofs.Common.{◌≡◌, Bool, true, false, ◌&&◌, cond, ℤ, List, [], ◌∷◌, ◌++◌, Some, refl, sym, ap, subst, ◌∙◌}
 use Rattle.std.specs.List.{list_all}
 use Rattle.std.proofs.lemmas.Bool.{and_parts}
 use Rattle.s7_base.specs.declared.reason.Line.{Line}
 use Rattle.s7_base.specs.declared.reason.Reason.TheVariants.{TypeMismatch}
-use Rattle.st_canonical.specs.Spelled.{LabelsSpelled, is_literal}
+use Rattle.st_canonical.specs.Spelled.{is_literal}
 use Rattle.st_grammar.specs.Forms.{Labels, label, more_labels}
-use Rattle.st_grammar.specs.Grammar.{label_tree, tree_labels}
+use Rattle.st_grammar.specs.Grammar.{label_tree, tree_labels, LabelsFit, spell_labels}
 use Rattle.st_grammar.specs.declared.kind.Literal.{Literal}
 use Rattle.st_types_laws.proofs.Lists.{map_last}
 use Rattle.st_types_laws.proofs.Labels.{of_type, same_type}
@@ -54,20 +55,20 @@ one_label c ty h t =
     let e : (label_tree c).0 ≡ ty = same_type (label_tree c).0 ty t in
     (ap (λ z. (z, n)) e, subst (λ z. is_value z n ≡ true) e (label_value c h))
 
-pub found_labels : (ty : StType) (labels : Labels) → LabelsSpelled labels → have_type ty (tree_labels labels) ≡ true
+pub found_labels : (ty : StType) (labels : Labels) → Worded (spell_labels labels) → LabelsFit labels → have_type ty (tree_labels labels) ≡ true
     → FoundLabels ty labels
-found_labels ty (label c) s h =
-    let g = one_label c ty s (and_parts (is_type (label_tree c).0 ty) true h).0 in
+found_labels ty (label c) s b h =
+    let g = one_label c ty (literal_is c b s.1.0) (and_parts (is_type (label_tree c).0 ty) true h).0 in
     record {
       first = (label_tree c).1;
       others = [];
       found = ap (λ z. z ∷ []) g.0;
       typed = ap (λ b. b && true) g.1;
     }
-found_labels ty (more_labels others c) s h =
+found_labels ty (more_labels others c) s b h =
     let t = last_typed ty (tree_labels others) (label_tree c) h in
-    let f = found_labels ty others s.0 t.0 in
-    let g = one_label c ty s.1 t.1 in
+    let f = found_labels ty others (_, s.1) b.0 t.0 in
+    let g = one_label c ty (literal_is c b.1 (labels_behind others _ s.1).1.0) t.1 in
     let n : ℤ = (label_tree c).1 in
     record {
       first = f.first;

@@ -10,7 +10,6 @@ use Rattle.st_types_laws.proofs.Keyed.{AreDistinct}
 use Rattle.st_read_proper.proofs.Sees.{IsCallable, Sees}
 use Rattle.st_rules.specs.Names.{Table, look_up}
 use Rattle.st_tree.specs.Naming.{is_same}
-use Rattle.st_rules.specs.Names as rules
 use Rattle.st_rules.specs.Scopes.{as_register, meaning_in, or_else, register_named}
 use Rattle.st_rules.specs.declared.scope.Formals.{Formals}
 use Rattle.st_rules.specs.declared.scope.Meaning.{Meaning}

@@ -1,12 +1,13 @@
 -- An expression that breaks no rule is well typed, and nests no deeper than it is written.
+use Rattle.st_read_proper.proofs.Worded.{Worded, form_behind, literal_is}
 use Rattle.std.proofs.Common.{◌≡◌, true, [], Option, Some, Result, Ok, Err, refl, sym, ap, subst, ◌∙◌, arith}
 use Rattle.s7_base.specs.declared.reason.Line.{Line}
 use Rattle.s7_base.specs.declared.reason.Reason.{Reason}
 use Rattle.s7_base.specs.declared.word.Width.{Width}
 use Rattle.st_canonical.proofs.SameNames.{between}
-use Rattle.st_canonical.specs.Spelled.{FormSpelled, is_function, is_literal, is_variable}
+use Rattle.st_canonical.specs.Spelled.{is_function, is_literal, is_variable}
 use Rattle.st_grammar.specs.Forms.{Form, literal, variable, group, prefix, infix_of, apply, shift, select}
-use Rattle.st_grammar.specs.Grammar.{Binds, label_tree, tree}
+use Rattle.st_grammar.specs.Grammar.{Binds, label_tree, tree, spell}
 use Rattle.st_grammar.specs.declared.kind.Literal.{Literal}
 use Rattle.st_grammar.specs.declared.kind.OneOperand.TheVariants as one
 use Rattle.st_grammar.specs.declared.kind.Prefix.TheVariants as before
@@ -177,27 +178,28 @@ module _ (scope : Scope) (sight : Sight) (sees : Sees scope sight) (l : Line) wh
       }
 
   -- an expression that was read
-  pub found : (f : Form) → FormSpelled f → Binds f → Clean f → Found scope sight l f
-  found (literal c) s b clean = of_literal c s
-  found (variable v line) s b clean = of_read v line s clean
-  found (group f) s b clean = of_group f (found f s b clean)
+  pub found : (f : Form) → Worded (spell f) → Binds f → Clean f → Found scope sight l f
+  found (literal c) s b clean = of_literal c (literal_is c b s.1.0)
+  found (variable v line) s b clean = of_read v line s.1.0 clean
+  found (group f) s b clean = of_group f (found f (_, s.1.1) b clean)
   found (prefix before.Minus f) s b clean =
-      of_unary unary.Minus f refl b.0 (found f s b.1 (unary_operand scope l unary.Minus (tree f) clean)) clean
+      of_unary unary.Minus f refl b.0 (found f (_, s.1.1) b.1 (unary_operand scope l unary.Minus (tree f) clean)) clean
   found (prefix before.Not f) s b clean =
-      of_unary unary.Not f refl b.0 (found f s b.1 (unary_operand scope l unary.Not (tree f) clean)) clean
+      of_unary unary.Not f refl b.0 (found f (_, s.1.1) b.1 (unary_operand scope l unary.Not (tree f) clean)) clean
   found (infix_of op f g) s b clean =
       let both = binary_operands scope l op (tree f) (tree g) clean in
-      of_infix op f g b (found f s.0 b.2 both.0) (found g s.1 b.3 both.1) clean
+      of_infix op f g b (found f (_, s.1) b.2 both.0) (found g (_, (form_behind f _ s.1).1) b.3 both.1) clean
   found (apply (one.Convert from to) f) s b clean =
-      of_convert from to f s.0 (found f s.1 b (convert_operand scope l from to (tree f) clean)) clean
+      of_convert from to f s.1.0 (found f (_, s.1.1.1) b (convert_operand scope l from to (tree f) clean)) clean
   found (apply one.BcdToInt f) s b clean =
-      of_unary unary.BcdToInt f refl tt (found f s.1 b (unary_operand scope l unary.BcdToInt (tree f) clean)) clean
+      of_unary unary.BcdToInt f refl tt (found f (_, s.1.1.1) b (unary_operand scope l unary.BcdToInt (tree f) clean)) clean
   found (apply one.BcdToDint f) s b clean =
-      of_unary unary.BcdToDint f refl tt (found f s.1 b (unary_operand scope l unary.BcdToDint (tree f) clean)) clean
-  found (apply (one.AreaRead w) f) s b clean = of_area w f (found f s.1 b (area_operand scope l w (tree f) clean)) clean
+      of_unary unary.BcdToDint f refl tt (found f (_, s.1.1.1) b (unary_operand scope l unary.BcdToDint (tree f) clean)) clean
+  found (apply (one.AreaRead w) f) s b clean = of_area w f (found f (_, s.1.1.1) b (area_operand scope l w (tree f) clean)) clean
   found (shift op f g) s b clean =
       let both = shift_operands scope l op (tree f) (tree g) clean in
-      of_shift op f g (found f s.0 b.0 both.0) (found g s.1 b.1 both.1) clean
+      of_shift op f g (found f (_, s.1.1.1) b.0 both.0) (found g (_, (form_behind f _ s.1.1.1).1) b.1 both.1) clean
   found (select f g h) s b clean =
       let all = select_operands scope l (tree f) (tree g) (tree h) clean in
-      of_select f g h (found f s.0 b.0 all.0) (found g s.1 b.1 all.1) (found h s.2 b.2 all.2) clean
+      let second = (form_behind f _ s.1.1.1).1 in
+      of_select f g h (found f (_, s.1.1.1) b.0 all.0) (found g (_, second) b.1 all.1) (found h (_, (form_behind g _ second).1) b.2 all.2) clean

@@ -10,13 +10,13 @@ use Rattle.s7_base.specs.declared.word.Width.{Width}
 use Rattle.s7_base.specs.declared.word.Width.TheVariants as width
 use Rattle.st_lexer.specs.Spelled as written
 use Rattle.st_grammar.specs.Forms.{GlobalType, plain, bytes, Globals, no_global, global}
-use Rattle.st_grammar.specs.Grammar.{GlobalsFit, is_global, tree_globals, tree_type}
+use Rattle.st_grammar.specs.Grammar.{GlobalsFit, is_global, tree_globals, tree_type, spell_globals}
 use Rattle.st_canonical.specs.Spelled.{is_name as spelled_name, is_variable}
 use Rattle.st_types_laws.proofs.DeclaredNames.{same_width}
 use Rattle.st_types_laws.proofs.Lists.{Each, each_append}
 use Rattle.st_canonical.proofs.SameNames.{name_is}
 use Rattle.st_read_proper.proofs.Places.{place_is}
-use Rattle.st_read_proper.proofs.Worded.{GlobalsWorded}
+use Rattle.st_read_proper.proofs.Worded.{Worded, globals_behind}
 use Rattle.st_tree.specs.Naming.{is_free, is_name}
 use Rattle.st_tree.specs.PlaceRules as places
 use Rattle.st_tree.specs.Proper.{IsGlobal}
@@ -74,11 +74,12 @@ global_of name (plain ty) v n f p = global_at name ty v (name_is name n) (f) p
 global_of name (bytes last items) v n f p = tt
 
 -- the globals of a tree that are no data blocks
-pub are_globals : (gs : Globals) → GlobalsFit gs → GlobalsWorded gs → Each IsGlobal (all_located (tree_globals gs))
+pub are_globals : (gs : Globals) → GlobalsFit gs → Worded (spell_globals gs) → Each IsGlobal (all_located (tree_globals gs))
 are_globals no_global h w = tt
 are_globals (global others name line v at ty) h w =
-    let one = global_of name ty v w.1 h.2 w.2 in
+    let own = globals_behind others _ w.1 in
+    let one = global_of name ty v own.0 h.2 own.1.1.0 in
     let last : RawGlobal = record { name = name; line = line; at = v; ty = tree_type ty } in
     let f = λ (g : RawGlobal). listed (located_of g.ty g.name g.at) in
     subst (Each IsGlobal) (sym (flat_map-append f (tree_globals others) (last ∷ [])))
-    (each_append IsGlobal (all_located (tree_globals others)) (f last ++ []) (are_globals others h.0 w.0) (each_append IsGlobal (f last) [] one tt))
+    (each_append IsGlobal (all_located (tree_globals others)) (f last ++ []) (are_globals others h.0 (_, w.1)) (each_append IsGlobal (f last) [] one tt))

@@ -1,13 +1,14 @@
 -- A call that breaks no rule gives each formal of a function a variable of its type.
+use Rattle.st_read_proper.proofs.Worded.{Worded, actuals_behind, comma_past_actuals}
 use Rattle.std.proofs.Common.{◌≡◌, ℕ, max, Bool, true, false, not, ◌&&◌, ◌||◌, cond, List, [], ◌∷◌, ◌++◌, Option, Some, None, is_some, is_none, Result, refl, sym, ap, subst, ◌∙◌, arith}
 use Rattle.std.specs.Prelude.{slice_get}
 use Rattle.std.specs.List.{fold}
 use Rattle.s7_base.specs.declared.reason.Line.{Line}
 use Rattle.s7_base.specs.declared.reason.Reason.{Reason}
 use Rattle.s7_base.specs.declared.reason.Reason.TheVariants.{TypeMismatch}
-use Rattle.st_canonical.specs.Spelled.{ActualsSpelled, is_variable}
+use Rattle.st_canonical.specs.Spelled.{is_variable}
 use Rattle.st_grammar.specs.Forms.{Actuals, no_actual, actual, invoke}
-use Rattle.st_grammar.specs.Grammar.{tree_actuals, tree_one}
+use Rattle.st_grammar.specs.Grammar.{tree_actuals, tree_one, spell_actuals}
 use Rattle.st_types_laws.proofs.Actions.{act_invoke, calls_invoke}
 use Rattle.st_types_laws.proofs.Bounds.{bound}
 use Rattle.st_types_laws.proofs.Called.{AreTyped, are_typed, call_is}
@@ -125,9 +126,10 @@ module _ (sight : Sight) (types : Table StType) where
   have_last [] a h s = (s, tt)
   have_last (b ∷ actuals) a h s = (h.0, have_last actuals a h.1 s)
 
-  have_variables : (a : Actuals) → ActualsSpelled a → HaveVariables (tree_actuals a)
+  have_variables : (a : Actuals) → Worded (spell_actuals a) → HaveVariables (tree_actuals a)
   have_variables no_actual s = tt
-  have_variables (actual others name line v place) s = have_last (tree_actuals others) (name, v) (have_variables others s.0) s.2
+  have_variables (actual others name line v place) s = have_last (tree_actuals others) (name, v) (have_variables others (_, s.1))
+      (comma_past_actuals others _ (actuals_behind others _ s.1)).1.1.0
 
   module _ (scope : Scope) (sees : Sees scope sight) (line : Line) where
     abbrev IsSound : Given → Type 0
@@ -195,7 +197,7 @@ module _ (scope : Scope) (sight : Sight) (sees : Sees scope sight) (inside : Boo
       ∙ ap (λ b. b && are_given sight head.formals vars) seen
       ∙ given
 
-  of_function : (l : Line) (name : List ℕ) (actuals : Actuals) (i : ℕ) → ActualsSpelled actuals
+  of_function : (l : Line) (name : List ℕ) (actuals : Actuals) (i : ℕ) → Worded (spell_actuals actuals)
       → meaning_in scope (key_of name) ≡ Some (meaning.Function i) → (c : IsCallable scope sight i)
       → Called scope l name (tree_actuals actuals) i c.formals → FoundOne scope sight inside (invoke l name actuals)
   of_function l name actuals i s m c k =
@@ -223,7 +225,7 @@ module _ (scope : Scope) (sight : Sight) (sees : Sees scope sight) (inside : Boo
             omega (arith, own, cost, called_invoke f i r.xs);
       }
 
-  pub of_invoke : (l : Line) (name : List ℕ) (actuals : Actuals) → ActualsSpelled actuals
+  pub of_invoke : (l : Line) (name : List ℕ) (actuals : Actuals) → Worded (spell_actuals actuals)
       → (statement scope (tree_one (invoke l name actuals))).breaks ≡ [] → FoundOne scope sight inside (invoke l name actuals)
   of_invoke l name actuals s h =
       by_meaning (meaning_in scope (key_of name)) refl
@@ -238,11 +240,5 @@ module _ (scope : Scope) (sight : Sight) (sees : Sees scope sight) (inside : Boo
 
       by_meaning : (o : Option Meaning) → meaning_in scope (key_of name) ≡ o → (call_of scope l (callee o) (tree_actuals actuals)).breaks ≡ []
           → FoundOne scope sight inside (invoke l name actuals)
-      by_meaning None e c = absurd cc
-      by_meaning (Some (meaning.Register r)) e c = absurd cc
-      by_meaning (Some (meaning.Formal i ty)) e c = absurd cc
-      by_meaning (Some (meaning.Local i ty)) e c = absurd cc
-      by_meaning (Some (meaning.Global i ty)) e c = absurd cc
-      by_meaning (Some meaning.Block) e c = absurd cc
-      by_meaning (Some meaning.Program) e c = absurd cc
       by_meaning (Some (meaning.Function i)) e c = by_function i e c
+      by_meaning other e c = absurd cc

@@ -1,9 +1,8 @@
 -- A place that tokens can have, and that is an address by the rules of texts, is one that a text may name.
-use Rattle.std.proofs.Common.{◌≡◌, ℕ, true, refl, sym, ◌∙◌, nat_le}
+use Rattle.std.proofs.Common.{◌≡◌, ℕ, true, nat_le}
 use Rattle.std.proofs.lemmas.Bool.{and_parts}
 use Rattle.memory_areas.specs.Access as access
 use Rattle.memory_areas.specs.declared.place.AreaName.{AreaName}
-use Rattle.memory_areas.specs.declared.place.AreaName.TheVariants as area
 use Rattle.s7_base.specs.declared.word.Width.{Width}
 use Rattle.s7_base.specs.declared.word.Width.TheVariants as width
 use Rattle.st_lexer.specs.Spelled as written

@@ -1,8 +1,10 @@
 -- What a text reads as is proper.
+use Rattle.st_grammar.specs.declared.kind.Fixed.TheVariants as fixed
+use Rattle.st_grammar.specs.declared.kind.Kind.TheVariants as kind
 use Rattle.std.proofs.Common.{◌≡◌, ◌≢◌, ℕ, ◌+◌, ◌≤◌, max, true, false, List, [], ◌∷◌, map, Some, refl, sym, ap, subst, ◌∙◌, arith}
 use Rattle.std.specs.Prelude.{slice_get}
 use Rattle.st_grammar.specs.Forms.{Globals, Section, Source, absent, present}
-use Rattle.st_grammar.specs.Grammar.{GlobalsFit, IfPresent, SourceFits, held, raw_tree, tree_all, tree_globals}
+use Rattle.st_grammar.specs.Grammar.{GlobalsFit, IfPresent, SourceFits, held, raw_tree, tree_all, tree_globals, spell_globals, spell_section, spell_source, spell_units}
 use Rattle.st_grammar.specs.Levels.{deepest, levels_globals, levels_section, levels_source}
 use Rattle.st_grammar.specs.Syntax.{AllWithin}
 use Rattle.st_read_proper.proofs.Blocks.{are_data_blocks}
@@ -20,7 +22,7 @@ use Rattle.st_read_proper.proofs.Statements.{FoundAll, of_heads}
 use Rattle.st_read_proper.proofs.TokensWorded.{read_worded}
 use Rattle.st_read_proper.proofs.Units.{IsHeaded, WasRead, are_headed, were_read}
 use Rattle.st_read_proper.specs.ReadProper.{ReadsAreProper}
-use Rattle.st_read_proper.proofs.Worded.{GlobalsWorded, SourceWorded}
+use Rattle.st_read_proper.proofs.Worded.{AreWorded, Worded, globals_behind, section_behind}
 use Rattle.st_rules.specs.Judged.{breaks_in, found_in}
 use Rattle.st_rules.specs.Calls.{all_calls}
 use Rattle.st_rules.specs.Declarations.{all_inside, formals_of}
@@ -42,24 +44,27 @@ use Rattle.st_tree.specs.declared.raw.RawStmt.{RawStmt}
 use Rattle.st_types_laws.proofs.DeclaredNames.{gather_inside, inner_entries, local_entries}
 use Rattle.st_types_laws.proofs.DeclaredTree.{IsDeclared, are_blocks, sound_units, formals_same, is_declared, scope_declares, unit_there}
 
-blocks_held : (s : Section Globals) → IfPresent GlobalsWorded s → Each IsDataBlock (all_blocks (held tree_globals s))
+blocks_held : (s : Section Globals) → Worded (spell_section (kind.Fixed fixed.VarGlobal) spell_globals s) → Each IsDataBlock (all_blocks (held tree_globals s))
 blocks_held absent w = tt
-blocks_held (present gs) w = are_data_blocks gs w
+blocks_held (present gs) w = are_data_blocks gs (_, w.1.1)
 
-globals_held : (s : Section Globals) → IfPresent GlobalsFit s → IfPresent GlobalsWorded s → Each IsGlobal (all_located (held tree_globals s))
+globals_held : (s : Section Globals) → IfPresent GlobalsFit s → Worded (spell_section (kind.Fixed fixed.VarGlobal) spell_globals s) → Each IsGlobal (all_located (held tree_globals s))
 globals_held absent f w = tt
-globals_held (present gs) f w = are_globals gs f w
+globals_held (present gs) f w = are_globals gs f (_, w.1.1)
 
 some_mapped : {X Y : Type 0} (f : X → Y) (xs : List X) (ys : List Y) → ys ≡ map f xs → xs ≢ [] → ys ≢ []
 some_mapped f [] ys e some none = some refl
 some_mapped f (x ∷ xs) ys e some none = let never : f x ∷ map f xs ≡ [] = sym e ∙ none in absurd cc
 
-module _ (source : Source) (t : StProgram) (fits : SourceFits source) (worded : SourceWorded source) (within : AllWithin deepest (levels_source source)) (typed : HasTree (raw_tree source) t) where
+module _ (source : Source) (t : StProgram) (fits : SourceFits source) (worded : AreWorded (spell_source source)) (within : AllWithin deepest (levels_source source)) (typed : HasTree (raw_tree source) t) where
   abbrev raw : RawSt
   raw = raw_tree source
 
   abbrev scope_of : RawPou → Scope
   scope_of u = scope_in (names_of raw) (map formals_of raw.pous) u
+
+  units_worded : AreWorded (spell_units source.units (kind.Fixed fixed.End ∷ []))
+  units_worded = section_behind (kind.Fixed fixed.VarGlobal) spell_globals globals_behind source.globals _ worded
 
   declared : IsDeclared raw t
   declared = is_declared raw t typed
@@ -102,7 +107,7 @@ module _ (source : Source) (t : StProgram) (fits : SourceFits source) (worded : 
       let sees = unit_sees t p (scope_of a.u) a.inner declared.names formals keys declares in
       let none = nil_at (breaks_of_unit (names_of raw) (map formals_of raw.pous)) raw.pous n a.u (sound_units raw typed.sound) a.there in
       let read = each_at WasRead raw.pous n a.u
-      (were_read source.units (levels_section levels_globals source.globals []) fits.1 worded.1 within.1) a.there in
+      (were_read source.units (levels_section levels_globals source.globals []) fits.1 (_, units_worded) within.1) a.there in
       let clean : breaks_in (statements (scope_of a.u) (tree_all read.body)) ≡ [] =
       subst (λ (b : List RawStmt). breaks_in (statements (scope_of a.u) b) ≡ []) read.same
       (nil_second (all_inside a.u.formals a.u.locals).breaks (breaks_in (statements (scope_of a.u) a.u.body)) none) in
@@ -135,7 +140,7 @@ module _ (source : Source) (t : StProgram) (fits : SourceFits source) (worded : 
   proper_units : Each (IsProperUnit t.globals (map head_of t.pous)) t.pous
   proper_units =
       let headed = subst (λ (s : StProgram). Each IsHeaded s.pous) (sym typed.same)
-      (are_headed (names_of raw) (map formals_of raw.pous) source.units fits.1 worded.1) in
+      (are_headed (names_of raw) (map formals_of raw.pous) source.units fits.1 (_, units_worded)) in
       each_from (IsProperUnit t.globals (map head_of t.pous)) t.pous
       (λ n p q. proper_unit n p q (each_at IsHeaded t.pous n p headed q))
 
@@ -155,8 +160,8 @@ module _ (source : Source) (t : StProgram) (fits : SourceFits source) (worded : 
   proper : Proper t
   proper = record {
     blocks = are_blocks raw t declared;
-    bytes = each_all IsDataBlock t.dbs (subst (λ (s : StProgram). Each IsDataBlock s.dbs) (sym typed.same) (blocks_held source.globals worded.0));
-    globals = each_all IsGlobal t.globals (subst (λ (s : StProgram). Each IsGlobal s.globals) (sym typed.same) (globals_held source.globals fits.0 worded.0));
+    bytes = each_all IsDataBlock t.dbs (subst (λ (s : StProgram). Each IsDataBlock s.dbs) (sym typed.same) (blocks_held source.globals (_, worded)));
+    globals = each_all IsGlobal t.globals (subst (λ (s : StProgram). Each IsGlobal s.globals) (sym typed.same) (globals_held source.globals fits.0 (_, worded)));
     apart = outer_apart t declared.names.apart;
     some = some_mapped (unit_of (names_of raw) (map formals_of raw.pous)) raw.pous t.pous (ap (λ (s : StProgram). s.pous) typed.same) typed.chain.some;
     units = each_all (IsProperUnit t.globals (map head_of t.pous)) t.pous proper_units;

@@ -2,9 +2,9 @@
 -- statements are well typed.
 use Rattle.std.proofs.Common.{◌≡◌, ◌≢◌, ℕ, ◌≤◌, max, Bool, true, false, List, [], ◌∷◌, refl, sym, subst, ◌∙◌, arith}
 use Rattle.std.proofs.lemmas.List.{map-append}
-use Rattle.st_canonical.specs.Spelled.{AllSpelled, LocalsSpelled, UnitsSpelled}
+use Rattle.st_read_proper.proofs.Worded.{Worded, locals_behind, locals_section_behind, units_behind}
 use Rattle.st_grammar.specs.Forms.{Locals, Section, Statements, Units, absent, local, no_local, no_unit, present, unit, Head}
-use Rattle.st_grammar.specs.Grammar.{AllFit, FormalsFit, HeadFits, IfPresent, LocalsFit, UnitsFit, held, is_formal_type, tree_all, tree_locals, tree_units}
+use Rattle.st_grammar.specs.Grammar.{AllFit, FormalsFit, HeadFits, IfPresent, LocalsFit, UnitsFit, held, is_formal_type, tree_all, tree_locals, tree_units, spell_all, spell_formals, spell_locals, spell_temps, spell_units}
 use Rattle.st_grammar.specs.Levels.{deepest, levels_all, levels_locals, levels_section, levels_units}
 use Rattle.st_grammar.specs.Syntax.{AllWithin}
 use Rattle.st_types_laws.proofs.Lists.{Each, each_append}
@@ -28,31 +28,31 @@ use Rattle.st_tree.specs.declared.raw.RawPou.{RawPou}
 no_lint : (ty : StType) → is_formal_type ty ≡ true → ty ≢ type.Lint
 no_lint ty h e = let none : is_formal_type type.Lint ≡ true = subst (λ t. is_formal_type t ≡ true) e h in absurd cc
 
-are_formals : (ls : Locals) → FormalsFit ls → LocalsSpelled ls → Each IsFormal (locals_of (tree_locals ls))
+are_formals : (ls : Locals) → FormalsFit ls → Worded (spell_locals ls) → Each IsFormal (locals_of (tree_locals ls))
 are_formals no_local f s = tt
 are_formals (local others name line ty) f s =
     let last : RawLocal = record { name = name; line = line; ty = ty } in
     subst (Each IsFormal) (sym (map-append local_of (tree_locals others) (last ∷ [])))
-    (each_append IsFormal (locals_of (tree_locals others)) (local_of last ∷ []) (are_formals others f.0 s.0)
-    (record { name = name_is name s.1; free = f.1; type = no_lint ty f.2 }, tt))
+    (each_append IsFormal (locals_of (tree_locals others)) (local_of last ∷ []) (are_formals others f.0 (_, s.1))
+    (record { name = name_is name (locals_behind others _ s.1).0; free = f.1; type = no_lint ty f.2 }, tt))
 
-are_locals : (ls : Locals) → LocalsFit ls → LocalsSpelled ls → Each IsLocal (locals_of (tree_locals ls))
+are_locals : (ls : Locals) → LocalsFit ls → Worded (spell_locals ls) → Each IsLocal (locals_of (tree_locals ls))
 are_locals no_local f s = tt
 are_locals (local others name line ty) f s =
     let last : RawLocal = record { name = name; line = line; ty = ty } in
     subst (Each IsLocal) (sym (map-append local_of (tree_locals others) (last ∷ [])))
-    (each_append IsLocal (locals_of (tree_locals others)) (local_of last ∷ []) (are_locals others f.0 s.0)
-    (record { name = name_is name s.1; free = f.1 }, tt))
+    (each_append IsLocal (locals_of (tree_locals others)) (local_of last ∷ []) (are_locals others f.0 (_, s.1))
+    (record { name = name_is name (locals_behind others _ s.1).0; free = f.1 }, tt))
 
-formals_held : (program : Bool) (s : Section Locals) → HeadFits program s → IfPresent LocalsSpelled s
+formals_held : (program : Bool) (s : Section Locals) → HeadFits program s → Worded (spell_formals s)
     → Each IsFormal (locals_of (held tree_locals s))
 formals_held program absent f s = tt
-formals_held program (present ls) f s = are_formals ls f.1 s
+formals_held program (present ls) f s = are_formals ls f.1 (_, s.1.1)
 
-locals_held : (s : Section Locals) → IfPresent LocalsFit s → IfPresent LocalsSpelled s
+locals_held : (s : Section Locals) → IfPresent LocalsFit s → Worded (spell_temps s)
     → Each IsLocal (locals_of (held tree_locals s))
 locals_held absent f s = tt
-locals_held (present ls) f s = are_locals ls f s
+locals_held (present ls) f s = are_locals ls f (_, s.1.1)
 
 -- only functions have formals
 none_held : (program : Bool) (s : Section Locals) → HeadFits program s → program ≡ true → locals_of (held tree_locals s) ≡ []
@@ -80,19 +80,20 @@ raw_unit head formals locals body = record {
   body = tree_all body;
 }
 
-pub are_headed : (outer : Table Meaning) (formals : List Formals) (us : Units) → UnitsFit us → UnitsSpelled us
+pub are_headed : (outer : Table Meaning) (formals : List Formals) (us : Units) → UnitsFit us → Worded (spell_units us)
     → Each IsHeaded (all_units outer formals (tree_units us))
 are_headed outer formals no_unit f s = tt
 are_headed outer formals (unit others head formal own body) f s =
     let last = raw_unit head formal own body in
+    let here = units_behind others _ s.1 in
     subst (Each IsHeaded) (sym (map-append (unit_of outer formals) (tree_units others) (last ∷ [])))
-    (each_append IsHeaded (all_units outer formals (tree_units others)) (unit_of outer formals last ∷ []) (are_headed outer formals others f.0 s.0) (
+    (each_append IsHeaded (all_units outer formals (tree_units others)) (unit_of outer formals last ∷ []) (are_headed outer formals others f.0 (_, s.1)) (
       record {
-        name = name_is head.name s.1;
+        name = name_is head.name here.1.0;
         free = f.1;
         program = none_held head.program formal f.2;
-        formals = formals_held head.program formal f.2 s.2;
-        locals = locals_held own f.3 s.3;
+        formals = formals_held head.program formal f.2 (_, here.1.1);
+        locals = locals_held own f.3 (_, locals_section_behind _ formal _ here.1.1);
       },
       tt,
     ))
@@ -107,7 +108,7 @@ pub record WasRead (u : RawPou) : Type 0 where
   pub body : Statements
   pub same : u.body ≡ tree_all body
   pub fit : AllFit false body
-  pub spelled : AllSpelled body
+  pub spelled : Worded (spell_all body)
   pub within : top_all 0 body ≤ deepest
 
 locals_before : (ls : Locals) (before : List ℕ) → AreWithin (levels_locals ls before) → AreWithin before
@@ -118,7 +119,7 @@ section_before : (s : Section Locals) (before : List ℕ) → AreWithin (levels_
 section_before absent before h = h
 section_before (present ls) before h = (locals_before ls (0 ∷ before) h.1).1
 
-pub were_read : (us : Units) (before : List ℕ) → UnitsFit us → UnitsSpelled us → AreWithin (levels_units us before) → Each WasRead (tree_units us)
+pub were_read : (us : Units) (before : List ℕ) → UnitsFit us → Worded (spell_units us) → AreWithin (levels_units us before) → Each WasRead (tree_units us)
 were_read no_unit before f s w = tt
 were_read (unit others head formals own body) before f s w =
     let two = 0 ∷ 0 ∷ levels_units others before in
@@ -129,5 +130,5 @@ were_read (unit others head formals own body) before f s w =
     let behind : AreWithin both = all_within deepest both (omega (arith, top, sum)) in
     let last = raw_unit head formals own body in
     each_append WasRead (tree_units others) (last ∷ [])
-    (were_read others before f.0 s.0 (section_before formals two (section_before own one behind)).1.1)
-    (record { body = body; same = refl; fit = f.4; spelled = s.4; within = omega (arith, top, sum) }, tt)
+    (were_read others before f.0 (_, s.1) (section_before formals two (section_before own one behind)).1.1)
+    (record { body = body; same = refl; fit = f.4; spelled = (_, locals_section_behind _ own _ (locals_section_behind _ formals _ (units_behind others _ s.1).1.1)); within = omega (arith, top, sum) }, tt)
