@@ -74,11 +74,7 @@ statement_ends u d (within b (selecting e arms labels) ∷ s) body w h =
 statement_ends u d (within b (otherwise_case e arms) ∷ s) body w h =
     by_tokens (kind.Fixed fixed.EndCase ∷ semicolon ∷ []) _ (within_unit u (shallower d) s (statement (further b.before (cases_else b.line e arms body)))) w (shallower d ∷ shallower d ∷ w) (λ ks. refl)
     (statement_ends u (shallower d) s (further b.before (cases_else b.line e arms body)) (shallower d ∷ shallower d ∷ w) h.2)
-statement_ends u d (unary op ∷ s) body w h = absurd h
-statement_ends u d (left op f ∷ s) body w h = absurd h
-statement_ends u d (bracket ∷ s) body w h = absurd h
-statement_ends u d (argument a ∷ s) body w h = absurd h
-statement_ends u d (waiting b x ∷ s) body w h = absurd h
+statement_ends u d s body w h = absurd h
 
 closing_ends : (u : Unit_read) (d : ℕ) (s : List (Frame written)) (before : Statements) (x : Statement) (w : List ℕ) → InStatements s → EndsIn u d s (closing before x) w
 closing_ends u d s before x w h =
@@ -114,7 +110,6 @@ as_ends : (u : Unit_read) (d : ℕ) (s : List (Frame written)) (f : Form) (w : L
 as_ends u d s f w e = record { more = e.token ∷ e.rest; text = e.text; levels = e.levels; reaches = e.reaches }
 
 operator_ends : (u : Unit_read) (d : ℕ) (s : List (Frame written)) (f : Form) (w : List ℕ) → InExpr s → Binds f → level f ≤ limit written s → OperatorEnds u d s f w
-operator_ends u d [] f w h b fits = absurd h
 operator_ends u d (unary op ∷ s) f w h b fits =
     let e = operator_ends u (shallower d) s (prefix op f) w h.1 (fits, b) h.0 in
     record {
@@ -169,7 +164,7 @@ operator_ends u d (waiting x selector ∷ s) f w h b fits =
     (closing_ends u (shallower d) s x.before _ (shallower d ∷ d ∷ d ∷ d ∷ w) h.2)
 operator_ends u d (waiting x loop_test ∷ s) f w h b fits =
     operator_by (kind.Fixed fixed.Do) (kind.Fixed fixed.EndWhile ∷ []) u d (waiting x loop_test ∷ s) f _ w (shallower d ∷ d ∷ w) tt (λ ks. refl) (closing_ends u (shallower d) s x.before _ (shallower d ∷ d ∷ w) h.2)
-operator_ends u d (within x y ∷ s) f w h b fits = absurd h
+operator_ends u d s f w h b fits = absurd h
 
 operand_ends : (u : Unit_read) (d : ℕ) (s : List (Frame written)) (w : List ℕ) → InExpr s → EndsIn u d s operand w
 operand_ends u d s w h =

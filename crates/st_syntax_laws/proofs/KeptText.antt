@@ -46,45 +46,30 @@ zero_kept name v (suc n) h = tt
 
 array_kept : (name : List ℕ) (x : Row written) (k : Kind) → RowFits name x → KeepsRow name x k (row_array written x k)
 array_kept name (at_square v) (kind.Fixed fixed.OpenSquare) h = record { fits = h; grown = λ more. refl }
-array_kept name (at_square v) k h = tt
 array_kept name (at_zero v) (kind.Literal (lit.Decimal n)) h = zero_kept name v n h
-array_kept name (at_zero v) k h = tt
 array_kept name (at_dots v) (kind.Fixed fixed.Dots) h = record { fits = h; grown = λ more. refl }
-array_kept name (at_dots v) k h = tt
 array_kept name (at_last v) (kind.Literal (lit.Decimal last)) h = record { fits = h; grown = λ more. refl }
-array_kept name (at_last v) k h = tt
 array_kept name (at_close v last) (kind.Fixed fixed.CloseSquare) h = record { fits = h; grown = λ more. refl }
-array_kept name (at_close v last) k h = tt
 array_kept name (at_of v last) (kind.Fixed fixed.Of) h = record { fits = h; grown = λ more. refl }
-array_kept name (at_of v last) k h = tt
 array_kept name (at_byte v last) (kind.Fixed (fixed.Type type.Byte)) h = record { fits = h; grown = λ more. refl }
-array_kept name (at_byte v last) k h = tt
 array_kept name x k h = tt
 
 item_comma : (items : Items) (ks : List Kind) → HasItem items → comma_past items ks ≡ kind.Fixed fixed.Comma ∷ ks
 item_comma no_item ks h = absurd h
-item_comma (single others b) ks h = refl
-item_comma (times others count b) ks h = refl
+item_comma items ks h = refl
 
 initial_is : (items : Items) (ks : List Kind) → HasItem items → spell_initial items ks ≡ kind.Fixed fixed.Becomes ∷ kind.Fixed fixed.OpenSquare ∷ spell_items items (kind.Fixed fixed.CloseSquare ∷ ks)
 initial_is no_item ks h = absurd h
-initial_is (single others b) ks h = refl
-initial_is (times others count b) ks h = refl
+initial_is items ks h = refl
 
 items_kept : (name : List ℕ) (x : Row written) (k : Kind) → RowFits name x → KeepsRow name x k (row_items written x k)
 items_kept name (at_becomes v last) (kind.Fixed fixed.Becomes) h = record { fits = h; grown = λ more. refl }
-items_kept name (at_becomes v last) k h = tt
 items_kept name (at_open v last) (kind.Fixed fixed.OpenSquare) h = record { fits = h; grown = λ more. refl }
-items_kept name (at_open v last) k h = tt
 items_kept name (at_item v last items) (kind.Literal (lit.Byte b)) h = record { fits = (h.0, h.1, tt); grown = λ more. refl }
 items_kept name (at_item v last items) (kind.Literal (lit.Decimal count)) h = record { fits = h; grown = λ more. refl }
-items_kept name (at_item v last items) k h = tt
 items_kept name (at_count v last items count) (kind.Fixed fixed.Open) h = record { fits = h; grown = λ more. refl }
-items_kept name (at_count v last items count) k h = tt
 items_kept name (at_value v last items count) (kind.Literal (lit.Byte b)) h = record { fits = h; grown = λ more. refl }
-items_kept name (at_value v last items count) k h = tt
 items_kept name (at_value_end v last items count b) (kind.Fixed fixed.Close) h = record { fits = (h.0, h.1, tt); grown = λ more. refl }
-items_kept name (at_value_end v last items count b) k h = tt
 items_kept name (at_comma v last items) (kind.Fixed fixed.Comma) h = record {
   fits = (h.0, h.1);
   grown = λ more. ap (λ (ks : List Kind). past_array v last (kind.Fixed fixed.Becomes ∷ kind.Fixed fixed.OpenSquare ∷ spell_items items ks)) (item_comma items more h.2);
@@ -93,7 +78,6 @@ items_kept name (at_comma v last items) (kind.Fixed fixed.CloseSquare) h = recor
   fits = (h.0, h.1);
   grown = λ more. ap (λ (ks : List Kind). past_array v last ks) (initial_is items more h.2);
 }
-items_kept name (at_comma v last items) k h = tt
 items_kept name x k h = tt
 
 row_kept : (name : List ℕ) (x : Row written) (k : Kind) → RowFits name x → KeepsRow name x k (row_step written name x k)
@@ -134,7 +118,6 @@ at_row_kept done name line x k g n h = rowed done name line x k (row_step writte
 
 at_globals_kept : (done : Globals) (k : Kind) → GlobalsFit done → Keeps (globals done) k (at_globals written done k)
 at_globals_kept done (kind.Variable (var.Name name) line) g = if_to (λ more. past (globals done) (kind.Variable (var.Name name) line ∷ more)) (may_name_global name) _ (λ c. record { shaped = (g, c, tt); grown = λ more. refl })
-at_globals_kept done (kind.Variable (var.Direct area block w byte bit) line) g = tt
 at_globals_kept done (kind.Fixed fixed.EndVar) g = record { shaped = (g, tt); grown = λ more. refl }
 at_globals_kept done other g = tt
 
@@ -143,7 +126,6 @@ at_globals_kept done other g = tt
 at_between_kept : (text : Before written) (k : Kind) → TextFits text → Keeps (between text) k (at_between written text k)
 at_between_kept text (kind.Lead lead.Program line) h = record { shaped = h; grown = λ more. refl }
 at_between_kept text (kind.Lead lead.Function line) h = record { shaped = h; grown = λ more. refl }
-at_between_kept text (kind.Lead other line) h = tt
 at_between_kept text (kind.Fixed fixed.End) h = record { shaped = h; grown = λ more. refl }
 at_between_kept text other h = tt
 
@@ -154,7 +136,6 @@ at_start_kept other = at_between_kept (before_units written absent) other (tt, t
 at_heading_kept : (text : Before written) (program : Bool) (line : Line) (k : Kind) → TextFits text → Keeps (heading text program line) k (at_heading written text program line k)
 at_heading_kept text program line (kind.Variable (var.Name name) place) h =
     if_to (λ more. past (heading text program line) (kind.Variable (var.Name name) place ∷ more)) (may_name_unit name) _ (λ c. record { shaped = (h, c); grown = λ more. refl })
-at_heading_kept text program line (kind.Variable (var.Direct area block w byte bit) place) h = tt
 at_heading_kept text program line other h = tt
 
 formals_fit : (l : Locals) → Declared formals l → FormalsFit l
@@ -168,32 +149,25 @@ locals_fit f (local others name line ty) h = (locals_fit f others h.0, h.1)
 at_section_kept : (top : Top written) (which : Which written) (done : Locals) (k : Kind) → TopFits top → WhichFits top which → Declared which done → Keeps (section top which done) k (at_section written top which done k)
 at_section_kept top which done (kind.Variable (var.Name name) line) t w d =
     if_to (λ more. past (section top which done) (kind.Variable (var.Name name) line ∷ more)) (may_name written which name) _ (λ c. record { shaped = (t, w, d, c, tt); grown = λ more. refl })
-at_section_kept top which done (kind.Variable (var.Direct area block w byte bit) line) t x d = tt
 at_section_kept top formals done (kind.Fixed fixed.EndVar) t w d = record { shaped = (t, (w, formals_fit done d)); grown = λ more. refl }
 at_section_kept top (temps f) done (kind.Fixed fixed.EndVar) t w d = record { shaped = (t, w, locals_fit f done d, (tt, tt)); grown = λ more. refl }
-at_section_kept top which done other t w d = tt
+at_section_kept top which done other t x d = tt
 
 at_typing_kept : (top : Top written) (which : Which written) (done : Locals) (name : List ℕ) (line : Line) (x : Typing) (k : Kind) → Shaped (typing top which done name line x)
     → Keeps (typing top which done name line x) k (at_typing written top which done name line x k)
 at_typing_kept top which done name line local_colon (kind.Fixed fixed.Colon) h = record { shaped = (h.0, h.1, h.2, h.3, tt); grown = λ more. refl }
-at_typing_kept top which done name line local_colon k h = tt
 at_typing_kept top which done name line local_type (kind.Fixed (fixed.Type ty)) h =
     if_to (λ more. past (typing top which done name line local_type) (kind.Fixed (fixed.Type ty) ∷ more)) (may_type written which ty) _ (λ c. record { shaped = (h.0, h.1, h.2, h.3, c); grown = λ more. refl })
-at_typing_kept top which done name line local_type k h = tt
 at_typing_kept top which done name line (local_end ty) (kind.Fixed fixed.Semicolon) h = record { shaped = (h.0, h.1, (h.2, h.3, h.4)); grown = λ more. refl }
-at_typing_kept top which done name line (local_end ty) k h = tt
+at_typing_kept top which done name line x k h = tt
 
 -- the end of a unit, where its head says what it is
 left_kept : (program : Bool) (top : Top written) (f l : Section Locals) (body : Statements) (c : Bool) → top.head.program ≡ c → TopFits top → HeadFits top.head.program f → IfPresent LocalsFit l → AllFit false body
     → IfSome (if ends program c then Some (between (record { globals = top.text.globals; units = unit top.text.units top.head f l body })) else None)
     (Kept (λ more. past_top top (spell_formals f (spell_temps l (spell_all body (end_word program ∷ more))))))
-left_kept true top f l body true e t hf hl hb = record {
-  shaped = (t.0.0, (t.0.1, t.1, hf, hl, hb));
-  grown = λ more. ap (λ (c : Bool). past_top top (spell_formals f (spell_temps l (spell_all body (end_word c ∷ more))))) e;
-}
 left_kept true top f l body false e t hf hl hb = tt
 left_kept false top f l body true e t hf hl hb = tt
-left_kept false top f l body false e t hf hl hb = record {
+left_kept program top f l body c e t hf hl hb = record {
   shaped = (t.0.0, (t.0.1, t.1, hf, hl, hb));
   grown = λ more. ap (λ (c : Bool). past_top top (spell_formals f (spell_temps l (spell_all body (end_word c ∷ more))))) e;
 }
@@ -201,12 +175,7 @@ left_kept false top f l body false e t hf hl hb = record {
 leave_kept : (program : Bool) (top : Top written) (f l : Section Locals) (d : ℕ) (s : List (Frame written)) (p : Place written) → Shaped (inside top f l (spot written d s p))
     → Keeps (inside top f l (spot written d s p)) (end_word program) (leave written program top f l s p)
 leave_kept program top f l d [] (statement body) h = left_kept program top f l body top.head.program refl h.0 h.1 h.2 h.3.1
-leave_kept program top f l d [] (part b x) h = tt
-leave_kept program top f l d [] (closing before x) h = tt
-leave_kept program top f l d [] operand h = tt
-leave_kept program top f l d [] (operator e) h = tt
-leave_kept program top f l d [] (opening e) h = tt
-leave_kept program top f l d (x ∷ s) p h = tt
+leave_kept program top f l d s p h = tt
 
 entered : (top : Top written) (f l : Section Locals) (at : Spot written) (k : Kind) (o : Option (Spot written)) → Shaped (inside top f l at) → IfSome o (KeptIn (λ more. past_stack at.stack (past_place at.place (k ∷ more))))
     → Keeps (inside top f l at) k (option_map (λ (to : Spot written). inside top f l to) o)
