@@ -5,7 +5,7 @@ use Rattle.std.proofs.lemmas.Bool.Decides.{nat_tests}
 use Rattle.st_grammar.specs.Forms.{Form, literal, variable, group, prefix, infix_of, apply, shift, select, Locals, Section}
 use Rattle.st_grammar.specs.Grammar.{prefix_level, infix_level, level, Binds, prefix_kind, spell}
 use Rattle.st_grammar.specs.Levels.{height, levels}
-use Rattle.st_grammar.specs.inner.Machine.{written, Frame, unary, left, bracket, argument, waiting, within, only, shifted, shifted_by, gate, first, second, Place, operand, operator, Spot, Top, State, inside}
+use Rattle.st_grammar.specs.inner.Machine.{written, Frame, unary, left, bracket, argument, only, shifted, shifted_by, gate, first, second, Place, operand, operator, Spot, Top, State, inside}
 use Rattle.st_grammar.specs.inner.Steps.{spot, weakest, limit, Reduced, reduced_to, reduce, with_prefix, waits, leave, next, level_at, mark, Passed, shallower, passes}
 use Rattle.st_grammar.specs.declared.kind.Fixed.TheVariants as fixed
 use Rattle.st_grammar.specs.declared.kind.Kind.{Kind}
