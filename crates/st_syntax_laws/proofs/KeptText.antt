@@ -31,29 +31,6 @@ if_row name before false x h = tt
 abbrev KeepsRow : List ℕ → Row written → Kind → Option (Row written) → Type 0
 KeepsRow name x k o = IfSome o (KeptRow name (λ more. past_row x (k ∷ more)))
 
-type_kept : (name : List ℕ) (v : RawVar × Line) (k : Kind) → is_direct v.0 ≡ true → KeepsRow name (at_type v) k (row_type written name v k)
-type_kept name v (kind.Fixed (fixed.Type ty)) h = if_row name (λ more. past_row (at_type v) (kind.Fixed (fixed.Type ty) ∷ more)) (is_free name) _ (λ c. record { fits = (h, c); grown = λ more. refl })
-type_kept name v (kind.Fixed fixed.Array) h = if_row name (λ more. past_row (at_type v) (kind.Fixed fixed.Array ∷ more)) (names_block name) _ (λ c. record { fits = (h, c); grown = λ more. refl })
-type_kept name v other h = tt
-
-place_kept : (name : List ℕ) (k : Kind) → KeepsRow name at_place k (row_place written k)
-place_kept name (kind.Variable v line) = if_row name (λ more. past_row at_place (kind.Variable v line ∷ more)) (is_direct v) _ (λ c. record { fits = c; grown = λ more. refl })
-place_kept name other = tt
-
-zero_kept : (name : List ℕ) (v : RawVar × Line) (n : ℕ) → RowFits name (at_zero v) → KeepsRow name (at_zero v) (kind.Literal (lit.Decimal n)) (if is_zero n then Some (at_dots v) else None)
-zero_kept name v zero h = record { fits = h; grown = λ more. refl }
-zero_kept name v (suc n) h = tt
-
-array_kept : (name : List ℕ) (x : Row written) (k : Kind) → RowFits name x → KeepsRow name x k (row_array written x k)
-array_kept name (at_square v) (kind.Fixed fixed.OpenSquare) h = record { fits = h; grown = λ more. refl }
-array_kept name (at_zero v) (kind.Literal (lit.Decimal n)) h = zero_kept name v n h
-array_kept name (at_dots v) (kind.Fixed fixed.Dots) h = record { fits = h; grown = λ more. refl }
-array_kept name (at_last v) (kind.Literal (lit.Decimal last)) h = record { fits = h; grown = λ more. refl }
-array_kept name (at_close v last) (kind.Fixed fixed.CloseSquare) h = record { fits = h; grown = λ more. refl }
-array_kept name (at_of v last) (kind.Fixed fixed.Of) h = record { fits = h; grown = λ more. refl }
-array_kept name (at_byte v last) (kind.Fixed (fixed.Type type.Byte)) h = record { fits = h; grown = λ more. refl }
-array_kept name x k h = tt
-
 item_comma : (items : Items) (ks : List Kind) → HasItem items → comma_past items ks ≡ kind.Fixed fixed.Comma ∷ ks
 item_comma no_item ks h = absurd h
 item_comma items ks h = refl
@@ -62,47 +39,43 @@ initial_is : (items : Items) (ks : List Kind) → HasItem items → spell_initia
 initial_is no_item ks h = absurd h
 initial_is items ks h = refl
 
-items_kept : (name : List ℕ) (x : Row written) (k : Kind) → RowFits name x → KeepsRow name x k (row_items written x k)
-items_kept name (at_becomes v last) (kind.Fixed fixed.Becomes) h = record { fits = h; grown = λ more. refl }
-items_kept name (at_open v last) (kind.Fixed fixed.OpenSquare) h = record { fits = h; grown = λ more. refl }
-items_kept name (at_item v last items) (kind.Literal (lit.Byte b)) h = record { fits = (h.0, h.1, tt); grown = λ more. refl }
-items_kept name (at_item v last items) (kind.Literal (lit.Decimal count)) h = record { fits = h; grown = λ more. refl }
-items_kept name (at_count v last items count) (kind.Fixed fixed.Open) h = record { fits = h; grown = λ more. refl }
-items_kept name (at_value v last items count) (kind.Literal (lit.Byte b)) h = record { fits = h; grown = λ more. refl }
-items_kept name (at_value_end v last items count b) (kind.Fixed fixed.Close) h = record { fits = (h.0, h.1, tt); grown = λ more. refl }
-items_kept name (at_comma v last items) (kind.Fixed fixed.Comma) h = record {
-  fits = (h.0, h.1);
-  grown = λ more. ap (λ (ks : List Kind). past_array v last (kind.Fixed fixed.Becomes ∷ kind.Fixed fixed.OpenSquare ∷ spell_items items ks)) (item_comma items more h.2);
-}
-items_kept name (at_comma v last items) (kind.Fixed fixed.CloseSquare) h = record {
-  fits = (h.0, h.1);
-  grown = λ more. ap (λ (ks : List Kind). past_array v last ks) (initial_is items more h.2);
-}
-items_kept name x k h = tt
-
 row_kept : (name : List ℕ) (x : Row written) (k : Kind) → RowFits name x → KeepsRow name x k (row_step written name x k)
 row_kept name at_word (kind.Fixed fixed.At) h = record { fits = tt; grown = λ more. refl }
 row_kept name at_word k h = tt
-row_kept name at_place k h = place_kept name k
+row_kept name at_place (kind.Variable v line) h = if_row name (λ more. past_row at_place (kind.Variable v line ∷ more)) (is_direct v) _ (λ c. record { fits = c; grown = λ more. refl })
+row_kept name at_place other h = tt
 row_kept name (at_colon v) (kind.Fixed fixed.Colon) h = record { fits = h; grown = λ more. refl }
 row_kept name (at_colon v) k h = tt
-row_kept name (at_type v) k h = type_kept name v k h
-row_kept name (at_square v) k h = array_kept name (at_square v) k h
-row_kept name (at_zero v) k h = array_kept name (at_zero v) k h
-row_kept name (at_dots v) k h = array_kept name (at_dots v) k h
-row_kept name (at_last v) k h = array_kept name (at_last v) k h
-row_kept name (at_close v last) k h = array_kept name (at_close v last) k h
-row_kept name (at_of v last) k h = array_kept name (at_of v last) k h
-row_kept name (at_byte v last) k h = array_kept name (at_byte v last) k h
-row_kept name x k h = items_kept name x k h
+row_kept name (at_type v) (kind.Fixed (fixed.Type ty)) h = if_row name (λ more. past_row (at_type v) (kind.Fixed (fixed.Type ty) ∷ more)) (is_free name) _ (λ c. record { fits = (h, c); grown = λ more. refl })
+row_kept name (at_type v) (kind.Fixed fixed.Array) h = if_row name (λ more. past_row (at_type v) (kind.Fixed fixed.Array ∷ more)) (names_block name) _ (λ c. record { fits = (h, c); grown = λ more. refl })
+row_kept name (at_type v) other h = tt
+row_kept name (at_square v) (kind.Fixed fixed.OpenSquare) h = record { fits = h; grown = λ more. refl }
+row_kept name (at_zero v) (kind.Literal (lit.Decimal zero)) h = record { fits = h; grown = λ more. refl }
+row_kept name (at_zero v) (kind.Literal (lit.Decimal (suc n))) h = tt
+row_kept name (at_dots v) (kind.Fixed fixed.Dots) h = record { fits = h; grown = λ more. refl }
+row_kept name (at_last v) (kind.Literal (lit.Decimal last)) h = record { fits = h; grown = λ more. refl }
+row_kept name (at_close v last) (kind.Fixed fixed.CloseSquare) h = record { fits = h; grown = λ more. refl }
+row_kept name (at_of v last) (kind.Fixed fixed.Of) h = record { fits = h; grown = λ more. refl }
+row_kept name (at_byte v last) (kind.Fixed (fixed.Type type.Byte)) h = record { fits = h; grown = λ more. refl }
+row_kept name (at_becomes v last) (kind.Fixed fixed.Becomes) h = record { fits = h; grown = λ more. refl }
+row_kept name (at_open v last) (kind.Fixed fixed.OpenSquare) h = record { fits = h; grown = λ more. refl }
+row_kept name (at_item v last items) (kind.Literal (lit.Byte b)) h = record { fits = (h.0, h.1, tt); grown = λ more. refl }
+row_kept name (at_item v last items) (kind.Literal (lit.Decimal count)) h = record { fits = h; grown = λ more. refl }
+row_kept name (at_count v last items count) (kind.Fixed fixed.Open) h = record { fits = h; grown = λ more. refl }
+row_kept name (at_value v last items count) (kind.Literal (lit.Byte b)) h = record { fits = h; grown = λ more. refl }
+row_kept name (at_value_end v last items count b) (kind.Fixed fixed.Close) h = record { fits = (h.0, h.1, tt); grown = λ more. refl }
+row_kept name (at_comma v last items) (kind.Fixed fixed.Comma) h = record {
+  fits = (h.0, h.1);
+  grown = λ more. ap (λ (ks : List Kind). past_array v last (kind.Fixed fixed.Becomes ∷ kind.Fixed fixed.OpenSquare ∷ spell_items items ks)) (item_comma items more h.2);
+}
+row_kept name (at_comma v last items) (kind.Fixed fixed.CloseSquare) h = record {
+  fits = (h.0, h.1);
+  grown = λ more. ap (λ (ks : List Kind). past_array v last ks) (initial_is items more h.2);
+}
+row_kept name x k h = tt
 
 abbrev Keeps : State written → Kind → Option (State written) → Type 0
 Keeps q k o = IfSome o (Kept (λ more. past q (k ∷ more)))
-
-row_end_kept : (done : Globals) (name : List ℕ) (line : Line) (x : Row written) → GlobalsFit done → RowFits name x → Keeps (row done name line x) (kind.Fixed fixed.Semicolon) (row_end written done name line x)
-row_end_kept done name line (at_end v ty) g h = record { shaped = (g, h.0, h.1); grown = λ more. refl }
-row_end_kept done name line (at_becomes v last) g h = record { shaped = (g, h.0, h.1); grown = λ more. refl }
-row_end_kept done name line x g h = tt
 
 rowed : (done : Globals) (name : List ℕ) (line : Line) (x : Row written) (k : Kind) (o : Option (Row written)) → GlobalsFit done → may_name_global name ≡ true → KeepsRow name x k o
     → Keeps (row done name line x) k (option_map (λ (y : Row written). row done name line y) o)
@@ -112,15 +85,6 @@ rowed done name line x k (Some y) g n h = record {
   grown = λ more. ap (λ (ks : List Kind). kind.Fixed fixed.VarGlobal ∷ spell_globals done (kind.Variable (var.Name name) line ∷ ks)) (h.grown more);
 }
 
-at_row_kept : (done : Globals) (name : List ℕ) (line : Line) (x : Row written) (k : Kind) → GlobalsFit done → may_name_global name ≡ true → RowFits name x → Keeps (row done name line x) k (at_row written done name line x k)
-at_row_kept done name line x (kind.Fixed fixed.Semicolon) g n h = row_end_kept done name line x g h
-at_row_kept done name line x k g n h = rowed done name line x k (row_step written name x k) g n (row_kept name x k h)
-
-at_globals_kept : (done : Globals) (k : Kind) → GlobalsFit done → Keeps (globals done) k (at_globals written done k)
-at_globals_kept done (kind.Variable (var.Name name) line) g = if_to (λ more. past (globals done) (kind.Variable (var.Name name) line ∷ more)) (may_name_global name) _ (λ c. record { shaped = (g, c, tt); grown = λ more. refl })
-at_globals_kept done (kind.Fixed fixed.EndVar) g = record { shaped = (g, tt); grown = λ more. refl }
-at_globals_kept done other g = tt
-
 -- Units
 
 at_between_kept : (text : Before written) (k : Kind) → TextFits text → Keeps (between text) k (at_between written text k)
@@ -129,15 +93,6 @@ at_between_kept text (kind.Lead lead.Function line) h = record { shaped = h; gro
 at_between_kept text (kind.Fixed fixed.End) h = record { shaped = h; grown = λ more. refl }
 at_between_kept text other h = tt
 
-at_start_kept : (k : Kind) → Keeps start k (at_start written k)
-at_start_kept (kind.Fixed fixed.VarGlobal) = record { shaped = tt; grown = λ more. refl }
-at_start_kept other = at_between_kept (before_units written absent) other (tt, tt)
-
-at_heading_kept : (text : Before written) (program : Bool) (line : Line) (k : Kind) → TextFits text → Keeps (heading text program line) k (at_heading written text program line k)
-at_heading_kept text program line (kind.Variable (var.Name name) place) h =
-    if_to (λ more. past (heading text program line) (kind.Variable (var.Name name) place ∷ more)) (may_name_unit name) _ (λ c. record { shaped = (h, c); grown = λ more. refl })
-at_heading_kept text program line other h = tt
-
 formals_fit : (l : Locals) → Declared formals l → FormalsFit l
 formals_fit no_local h = tt
 formals_fit (local others name line ty) h = (formals_fit others h.0, h.1, h.2)
@@ -145,21 +100,6 @@ formals_fit (local others name line ty) h = (formals_fit others h.0, h.1, h.2)
 locals_fit : (f : Section Locals) (l : Locals) → Declared (temps f) l → LocalsFit l
 locals_fit f no_local h = tt
 locals_fit f (local others name line ty) h = (locals_fit f others h.0, h.1)
-
-at_section_kept : (top : Top written) (which : Which written) (done : Locals) (k : Kind) → TopFits top → WhichFits top which → Declared which done → Keeps (section top which done) k (at_section written top which done k)
-at_section_kept top which done (kind.Variable (var.Name name) line) t w d =
-    if_to (λ more. past (section top which done) (kind.Variable (var.Name name) line ∷ more)) (may_name written which name) _ (λ c. record { shaped = (t, w, d, c, tt); grown = λ more. refl })
-at_section_kept top formals done (kind.Fixed fixed.EndVar) t w d = record { shaped = (t, (w, formals_fit done d)); grown = λ more. refl }
-at_section_kept top (temps f) done (kind.Fixed fixed.EndVar) t w d = record { shaped = (t, w, locals_fit f done d, (tt, tt)); grown = λ more. refl }
-at_section_kept top which done other t x d = tt
-
-at_typing_kept : (top : Top written) (which : Which written) (done : Locals) (name : List ℕ) (line : Line) (x : Typing) (k : Kind) → Shaped (typing top which done name line x)
-    → Keeps (typing top which done name line x) k (at_typing written top which done name line x k)
-at_typing_kept top which done name line local_colon (kind.Fixed fixed.Colon) h = record { shaped = (h.0, h.1, h.2, h.3, tt); grown = λ more. refl }
-at_typing_kept top which done name line local_type (kind.Fixed (fixed.Type ty)) h =
-    if_to (λ more. past (typing top which done name line local_type) (kind.Fixed (fixed.Type ty) ∷ more)) (may_type written which ty) _ (λ c. record { shaped = (h.0, h.1, h.2, h.3, c); grown = λ more. refl })
-at_typing_kept top which done name line (local_end ty) (kind.Fixed fixed.Semicolon) h = record { shaped = (h.0, h.1, (h.2, h.3, h.4)); grown = λ more. refl }
-at_typing_kept top which done name line x k h = tt
 
 -- the end of a unit, where its head says what it is
 left_kept : (program : Bool) (top : Top written) (f l : Section Locals) (body : Statements) (c : Bool) → top.head.program ≡ c → TopFits top → HeadFits top.head.program f → IfPresent LocalsFit l → AllFit false body
@@ -198,19 +138,32 @@ in_out_kept : (top : Top written) (c : Bool) → top.head.program ≡ c → TopF
 in_out_kept top true e t = tt
 in_out_kept top false e t = record { shaped = (t, e, tt); grown = λ more. refl }
 
-at_opened_kept : (top : Top written) (k : Kind) → TopFits top → Keeps (opened top) k (at_opened written top k)
-at_opened_kept top (kind.Fixed fixed.VarInOut) t = in_out_kept top top.head.program refl t
-at_opened_kept top other t = at_formals_done_kept top absent other t tt
-
 pub kept : (q : State written) (k : Kind) → Shaped q → Keeps q k (next written q k)
-kept start k h = at_start_kept k
-kept (globals done) k h = at_globals_kept done k h
-kept (row done name line x) k h = at_row_kept done name line x k h.0 h.1 h.2
+kept start (kind.Fixed fixed.VarGlobal) h = record { shaped = tt; grown = λ more. refl }
+kept start other h = at_between_kept (before_units written absent) other (tt, tt)
+kept (globals done) (kind.Variable (var.Name name) line) g = if_to (λ more. past (globals done) (kind.Variable (var.Name name) line ∷ more)) (may_name_global name) _ (λ c. record { shaped = (g, c, tt); grown = λ more. refl })
+kept (globals done) (kind.Fixed fixed.EndVar) g = record { shaped = (g, tt); grown = λ more. refl }
+kept (globals done) other g = tt
+kept (row done name line (at_end v ty)) (kind.Fixed fixed.Semicolon) h = record { shaped = (h.0, h.2.0, h.2.1); grown = λ more. refl }
+kept (row done name line (at_becomes v last)) (kind.Fixed fixed.Semicolon) h = record { shaped = (h.0, h.2.0, h.2.1); grown = λ more. refl }
+kept (row done name line x) (kind.Fixed fixed.Semicolon) h = tt
+kept (row done name line x) k h = rowed done name line x k (row_step written name x k) h.0 h.1 (row_kept name x k h.2)
 kept (between text) k h = at_between_kept text k h
-kept (heading text program line) k h = at_heading_kept text program line k h
-kept (opened top) k h = at_opened_kept top k h
+kept (heading text program line) (kind.Variable (var.Name name) place) h =
+    if_to (λ more. past (heading text program line) (kind.Variable (var.Name name) place ∷ more)) (may_name_unit name) _ (λ c. record { shaped = (h, c); grown = λ more. refl })
+kept (heading text program line) other h = tt
+kept (opened top) (kind.Fixed fixed.VarInOut) t = in_out_kept top top.head.program refl t
+kept (opened top) other t = at_formals_done_kept top absent other t tt
 kept (formals_done top f) k h = at_formals_done_kept top f k h.0 h.1
-kept (section top which done) k h = at_section_kept top which done k h.0 h.1 h.2
-kept (typing top which done name line x) k h = at_typing_kept top which done name line x k h
+kept (section top which done) (kind.Variable (var.Name name) line) h =
+    if_to (λ more. past (section top which done) (kind.Variable (var.Name name) line ∷ more)) (may_name written which name) _ (λ c. record { shaped = (h.0, h.1, h.2, c, tt); grown = λ more. refl })
+kept (section top formals done) (kind.Fixed fixed.EndVar) h = record { shaped = (h.0, (h.1, formals_fit done h.2)); grown = λ more. refl }
+kept (section top (temps f) done) (kind.Fixed fixed.EndVar) h = record { shaped = (h.0, h.1, locals_fit f done h.2, (tt, tt)); grown = λ more. refl }
+kept (section top which done) other h = tt
+kept (typing top which done name line local_colon) (kind.Fixed fixed.Colon) h = record { shaped = (h.0, h.1, h.2, h.3, tt); grown = λ more. refl }
+kept (typing top which done name line local_type) (kind.Fixed (fixed.Type ty)) h =
+    if_to (λ more. past (typing top which done name line local_type) (kind.Fixed (fixed.Type ty) ∷ more)) (may_type written which ty) _ (λ c. record { shaped = (h.0, h.1, h.2, h.3, c); grown = λ more. refl })
+kept (typing top which done name line (local_end ty)) (kind.Fixed fixed.Semicolon) h = record { shaped = (h.0, h.1, (h.2, h.3, h.4)); grown = λ more. refl }
+kept (typing top which done name line x) k h = tt
 kept (inside top f l at) k h = at_inside_kept top f l at k h
 kept (over text) k h = tt
