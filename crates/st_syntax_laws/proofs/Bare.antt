@@ -178,14 +178,12 @@ bare_closed d (argument (shifted_by op g) ∷ s) f (kind.Fixed fixed.Close) = re
 bare_closed d (argument gate ∷ s) f (kind.Fixed fixed.Comma) = refl
 bare_closed d (argument (first g) ∷ s) f (kind.Fixed fixed.Comma) = refl
 bare_closed d (argument (second g h) ∷ s) f (kind.Fixed fixed.Close) = refl
-bare_closed d (argument a ∷ s) f k = refl
 bare_closed d (waiting b (to_var v) ∷ s) f (kind.Fixed fixed.Semicolon) = refl
 bare_closed d (waiting b (to_area w) ∷ s) f (kind.Fixed fixed.Comma) = refl
 bare_closed d (waiting b (area_value w p) ∷ s) f (kind.Fixed fixed.Close) = refl
 bare_closed d (waiting b (test arms) ∷ s) f (kind.Fixed fixed.Then) = refl
 bare_closed d (waiting b selector ∷ s) f (kind.Fixed fixed.Of) = refl
 bare_closed d (waiting b loop_test ∷ s) f (kind.Fixed fixed.Do) = refl
-bare_closed d (waiting b u ∷ s) f k = refl
 bare_closed d s f k = refl
 
 bare_prefix : (d : ℕ) (s : List (Frame written)) (op : Prefix) → with_prefix code d (bare_stack s) op ≡ option_map bare_spot (with_prefix written d s op)
@@ -214,7 +212,6 @@ bare_in_body d (within b (looping e) ∷ s) body (kind.Fixed fixed.EndWhile) = r
 bare_in_body d (within b (selecting e arms labels) ∷ s) body (kind.Literal c) = map_if bare_spot (is_value c) (spot written d s (part b (labelled e (add_case written arms labels body) (of_label written c))))
 bare_in_body d (within b (selecting e arms labels) ∷ s) body (kind.Fixed fixed.Else) = refl
 bare_in_body d (within b (otherwise_case e arms) ∷ s) body (kind.Fixed fixed.EndCase) = refl
-bare_in_body d (within b y ∷ s) body k = refl
 bare_in_body d s body k = refl
 
 step_bare : (d : ℕ) (s : List (Frame written)) (p : Place written) (k : Kind) → step_at code d (bare_stack s) (bare_place p) k ≡ option_map bare_spot (step_at written d s p k)
@@ -261,14 +258,10 @@ step_bare d s (opening f) other = refl
 
 row_bare : (name : List ℕ) (x : Row written) (k : Kind) → row_step code name (bare_row x) k ≡ option_map bare_row (row_step written name x k)
 row_bare name at_word (kind.Fixed fixed.At) = refl
-row_bare name at_word k = refl
 row_bare name at_place (kind.Variable v line) = map_if bare_row (is_direct v) (at_colon (v, line))
-row_bare name at_place other = refl
 row_bare name (at_colon v) (kind.Fixed fixed.Colon) = refl
-row_bare name (at_colon v) k = refl
 row_bare name (at_type v) (kind.Fixed (fixed.Type ty)) = map_if bare_row (is_free name) (at_end v (plain ty))
 row_bare name (at_type v) (kind.Fixed fixed.Array) = map_if bare_row (names_block name) (at_square v)
-row_bare name (at_type v) other = refl
 row_bare name (at_square v) (kind.Fixed fixed.OpenSquare) = refl
 row_bare name (at_zero v) (kind.Literal (lit.Decimal n)) = map_if bare_row (is_zero n) (at_dots v)
 row_bare name (at_dots v) (kind.Fixed fixed.Dots) = refl
@@ -330,7 +323,6 @@ next_bare start (kind.Fixed fixed.VarGlobal) = refl
 next_bare start other = at_between_bare (before_units written absent) other
 next_bare (globals done) (kind.Variable (var.Name name) line) = map_if bare (may_name_global name) (row done name line at_word)
 next_bare (globals done) (kind.Fixed fixed.EndVar) = refl
-next_bare (globals done) other = refl
 next_bare (row done name line (at_end v ty)) (kind.Fixed fixed.Semicolon) = refl
 next_bare (row done name line x) (kind.Fixed fixed.Semicolon) = refl
 next_bare (row done name line x) k =
@@ -339,7 +331,6 @@ next_bare (row done name line x) k =
     ∙ sym (map_map bare (λ (y : Row written). row done name line y) (λ (y : Row written). bare (row done name line y)) (λ y. refl) (row_step written name x k))
 next_bare (between text) k = at_between_bare text k
 next_bare (heading text program line) (kind.Variable (var.Name name) place) = map_if bare (may_name_unit name) (opened (top_of written text (head_of written program line name place)))
-next_bare (heading text program line) other = refl
 next_bare (opened top) k = at_opened_bare top k
 next_bare (formals_done top before) k = at_formals_done_bare top before k
 next_bare (section top which done) (kind.Variable (var.Name name) line) =
@@ -347,15 +338,13 @@ next_bare (section top which done) (kind.Variable (var.Name name) line) =
     ∙ map_if bare (may_name written which name) (typing top which done name line local_colon)
 next_bare (section top formals done) (kind.Fixed fixed.EndVar) = refl
 next_bare (section top (temps before) done) (kind.Fixed fixed.EndVar) = refl
-next_bare (section top which done) other = refl
 next_bare (typing top which done name line local_colon) (kind.Fixed fixed.Colon) = refl
 next_bare (typing top which done name line local_type) (kind.Fixed (fixed.Type ty)) =
     ap (λ (c : Bool). if c then Some (typing (bare_top top) (bare_which which) (tree_locals done) name line (local_end ty)) else None) (may_type_bare which ty)
     ∙ map_if bare (may_type written which ty) (typing top which done name line (local_end ty))
 next_bare (typing top which done name line (local_end ty)) (kind.Fixed fixed.Semicolon) = refl
-next_bare (typing top which done name line x) k = refl
 next_bare (inside top before locals at) k = at_inside_bare top before locals at k
-next_bare (over text) k = refl
+next_bare q other = refl
 
 -- The level of a state
 
@@ -367,5 +356,4 @@ level_bare d other s = refl
 pub mark_bare : (q : State written) → mark code (bare q) ≡ mark written q
 mark_bare (inside top before locals at) = level_bare at.depth at.place at.stack
 mark_bare (row done name line (at_value v last items count)) = refl
-mark_bare (row done name line x) = refl
 mark_bare other = refl

@@ -147,8 +147,7 @@ operand_ends h = by_tokens (zero_kind ∷ []) (λ ks. refl) (as_ends (operator_e
 
 opening_ends : (u : Unit_read) (d : ℕ) (s : List (Frame written)) (f : Function) (w : List ℕ) → InExpr s → EndsIn u d s (opening f) w
 opening_ends u d s (function.One op) w h = by_tokens (kind.Fixed fixed.Open ∷ []) (λ ks. refl) (operand_ends (tt, h))
-opening_ends u d s (function.Shift op) w h = by_tokens (kind.Fixed fixed.Open ∷ []) (λ ks. refl) (operand_ends (tt, h))
-opening_ends u d s function.Select w h = by_tokens (kind.Fixed fixed.Open ∷ []) (λ ks. refl) (operand_ends (tt, h))
+opening_ends u d s f w h = by_tokens (kind.Fixed fixed.Open ∷ []) (λ ks. refl) (operand_ends (tt, h))
 
 -- Parts of statements
 
@@ -172,9 +171,8 @@ part_ends u d s b (next_formal name actuals) w h = by_tokens (kind.Variable (var
 part_ends u d s b (becoming name actuals formal) w h = becoming_ends h.0
 part_ends u d s b (giving name actuals formal) w h = giving_ends h.0
 part_ends u d s b (given name actuals) w h = given_ends h.0
-part_ends u d s b (first_label e arms) w h = by_tokens (zero_kind ∷ []) (λ ks. refl) (labelled_ends h.0)
-part_ends u d s b (next_label e arms labels) w h = by_tokens (zero_kind ∷ []) (λ ks. refl) (labelled_ends h.0)
 part_ends u d s b (labelled e arms labels) w h = labelled_ends h.0
+part_ends u d s b x w h = by_tokens (zero_kind ∷ []) (λ ks. refl) (labelled_ends h.0)
 
 place_ends : (u : Unit_read) (d : ℕ) (s : List (Frame written)) (p : Place written) (w : List ℕ) → PlaceFits s p → EndsIn u d s p w
 place_ends u d s (statement body) w h = statement_ends u d s body w h.0

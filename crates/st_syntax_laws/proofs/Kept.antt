@@ -348,14 +348,12 @@ closed_kept d (argument (shifted_by op g) ∷ s) f (kind.Fixed fixed.Close) h b 
 closed_kept d (argument gate ∷ s) f (kind.Fixed fixed.Comma) h b = record { fits = (b, h.1); grown = λ more. refl }
 closed_kept d (argument (first g) ∷ s) f (kind.Fixed fixed.Comma) h b = record { fits = ((h.0, b), h.1); grown = λ more. refl }
 closed_kept d (argument (second g e) ∷ s) f (kind.Fixed fixed.Close) h b = record { fits = (h.1, (h.0.0, h.0.1, b), refl); grown = λ more. refl }
-closed_kept d (argument a ∷ s) f k h b = tt
 closed_kept d (waiting b (to_var v) ∷ s) f (kind.Fixed fixed.Semicolon) h e = record { fits = (h.2, (h.0, e)); grown = λ more. refl }
 closed_kept d (waiting b (to_area w) ∷ s) f (kind.Fixed fixed.Comma) h e = record { fits = (h.0, e, h.2); grown = λ more. refl }
 closed_kept d (waiting b (area_value w p) ∷ s) f (kind.Fixed fixed.Close) h e = record { fits = (h.2, h.0, (h.1, e)); grown = λ more. refl }
 closed_kept d (waiting b (test arms) ∷ s) f (kind.Fixed fixed.Then) h e = record { fits = ((h.0, (h.1, e), h.2), tt); grown = λ more. refl }
 closed_kept d (waiting b selector ∷ s) f (kind.Fixed fixed.Of) h e = record { fits = (h.2, h.0, (e, tt)); grown = λ more. refl }
 closed_kept d (waiting b loop_test ∷ s) f (kind.Fixed fixed.Do) h e = record { fits = ((h.0, e, h.2), tt); grown = λ more. refl }
-closed_kept d (waiting b u ∷ s) f k h e = tt
 closed_kept d s f k h b = tt
 
 reduced_kept : (d : ℕ) (s : List (Frame written)) (f : Form) (r : Reduced written) (k : Kind) → Fitting weakest s f r → KeepsIn (λ more. past_stack s (spell f (k ∷ more))) (closed written r.depth r.stack r.operand k)
@@ -385,7 +383,6 @@ in_body_kept d (within b (selecting e arms labels) ∷ s) body (kind.Literal c) 
 in_body_kept d (within b (selecting e arms labels) ∷ s) body (kind.Fixed fixed.Else) h p = record { fits = ((h.0, (h.1.0, tt, (h.1.1, h.1.2, p)), h.2), tt); grown = λ more. refl }
 in_body_kept d (within b (selecting e arms labels) ∷ s) body (kind.Fixed fixed.EndCase) h p = record { fits = (h.2, h.0, (h.1.0, tt, (h.1.1, h.1.2, p))); grown = λ more. refl }
 in_body_kept d (within b (otherwise_case e arms) ∷ s) body (kind.Fixed fixed.EndCase) h p = record { fits = (h.2, h.0, (h.1.0, h.1.1, h.1.2, p)); grown = λ more. refl }
-in_body_kept d (within b y ∷ s) body k h p = tt
 in_body_kept d s body k h p = tt
 
 label_kept : (d : ℕ) (s : List (Frame written)) (b : Begun written) (e : Form) (arms : CaseArms) (labels : Literal → Labels) (past_labels : List Kind → List Kind) (k : Kind) →

@@ -41,17 +41,12 @@ initial_is items ks h = refl
 
 row_kept : (name : List ℕ) (x : Row written) (k : Kind) → RowFits name x → KeepsRow name x k (row_step written name x k)
 row_kept name at_word (kind.Fixed fixed.At) h = record { fits = tt; grown = λ more. refl }
-row_kept name at_word k h = tt
 row_kept name at_place (kind.Variable v line) h = if_row name (λ more. past_row at_place (kind.Variable v line ∷ more)) (is_direct v) _ (λ c. record { fits = c; grown = λ more. refl })
-row_kept name at_place other h = tt
 row_kept name (at_colon v) (kind.Fixed fixed.Colon) h = record { fits = h; grown = λ more. refl }
-row_kept name (at_colon v) k h = tt
 row_kept name (at_type v) (kind.Fixed (fixed.Type ty)) h = if_row name (λ more. past_row (at_type v) (kind.Fixed (fixed.Type ty) ∷ more)) (is_free name) _ (λ c. record { fits = (h, c); grown = λ more. refl })
 row_kept name (at_type v) (kind.Fixed fixed.Array) h = if_row name (λ more. past_row (at_type v) (kind.Fixed fixed.Array ∷ more)) (names_block name) _ (λ c. record { fits = (h, c); grown = λ more. refl })
-row_kept name (at_type v) other h = tt
 row_kept name (at_square v) (kind.Fixed fixed.OpenSquare) h = record { fits = h; grown = λ more. refl }
 row_kept name (at_zero v) (kind.Literal (lit.Decimal zero)) h = record { fits = h; grown = λ more. refl }
-row_kept name (at_zero v) (kind.Literal (lit.Decimal (suc n))) h = tt
 row_kept name (at_dots v) (kind.Fixed fixed.Dots) h = record { fits = h; grown = λ more. refl }
 row_kept name (at_last v) (kind.Literal (lit.Decimal last)) h = record { fits = h; grown = λ more. refl }
 row_kept name (at_close v last) (kind.Fixed fixed.CloseSquare) h = record { fits = h; grown = λ more. refl }
@@ -143,7 +138,6 @@ kept start (kind.Fixed fixed.VarGlobal) h = record { shaped = tt; grown = λ mor
 kept start other h = at_between_kept (before_units written absent) other (tt, tt)
 kept (globals done) (kind.Variable (var.Name name) line) g = if_to (λ more. past (globals done) (kind.Variable (var.Name name) line ∷ more)) (may_name_global name) _ (λ c. record { shaped = (g, c, tt); grown = λ more. refl })
 kept (globals done) (kind.Fixed fixed.EndVar) g = record { shaped = (g, tt); grown = λ more. refl }
-kept (globals done) other g = tt
 kept (row done name line (at_end v ty)) (kind.Fixed fixed.Semicolon) h = record { shaped = (h.0, h.2.0, h.2.1); grown = λ more. refl }
 kept (row done name line (at_becomes v last)) (kind.Fixed fixed.Semicolon) h = record { shaped = (h.0, h.2.0, h.2.1); grown = λ more. refl }
 kept (row done name line x) (kind.Fixed fixed.Semicolon) h = tt
@@ -151,7 +145,6 @@ kept (row done name line x) k h = rowed done name line x k (row_step written nam
 kept (between text) k h = at_between_kept text k h
 kept (heading text program line) (kind.Variable (var.Name name) place) h =
     if_to (λ more. past (heading text program line) (kind.Variable (var.Name name) place ∷ more)) (may_name_unit name) _ (λ c. record { shaped = (h, c); grown = λ more. refl })
-kept (heading text program line) other h = tt
 kept (opened top) (kind.Fixed fixed.VarInOut) t = in_out_kept top top.head.program refl t
 kept (opened top) other t = at_formals_done_kept top absent other t tt
 kept (formals_done top f) k h = at_formals_done_kept top f k h.0 h.1
@@ -159,11 +152,9 @@ kept (section top which done) (kind.Variable (var.Name name) line) h =
     if_to (λ more. past (section top which done) (kind.Variable (var.Name name) line ∷ more)) (may_name written which name) _ (λ c. record { shaped = (h.0, h.1, h.2, c, tt); grown = λ more. refl })
 kept (section top formals done) (kind.Fixed fixed.EndVar) h = record { shaped = (h.0, (h.1, formals_fit done h.2)); grown = λ more. refl }
 kept (section top (temps f) done) (kind.Fixed fixed.EndVar) h = record { shaped = (h.0, h.1, locals_fit f done h.2, (tt, tt)); grown = λ more. refl }
-kept (section top which done) other h = tt
 kept (typing top which done name line local_colon) (kind.Fixed fixed.Colon) h = record { shaped = (h.0, h.1, h.2, h.3, tt); grown = λ more. refl }
 kept (typing top which done name line local_type) (kind.Fixed (fixed.Type ty)) h =
     if_to (λ more. past (typing top which done name line local_type) (kind.Fixed (fixed.Type ty) ∷ more)) (may_type written which ty) _ (λ c. record { shaped = (h.0, h.1, h.2, h.3, c); grown = λ more. refl })
 kept (typing top which done name line (local_end ty)) (kind.Fixed fixed.Semicolon) h = record { shaped = (h.0, h.1, (h.2, h.3, h.4)); grown = λ more. refl }
-kept (typing top which done name line x) k h = tt
 kept (inside top f l at) k h = at_inside_kept top f l at k h
-kept (over text) k h = tt
+kept q other h = tt
