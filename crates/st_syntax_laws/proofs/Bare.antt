@@ -1,21 +1,18 @@
 -- The pass of the code does what the pass that keeps what is written does.
 use Rattle.std.proofs.Common.{◌≡◌, ℕ, suc, Bool, true, false, List, [], ◌∷◌, Option, Some, None, refl, sym, ap, ◌∙◌}
 use Rattle.std.specs.Prelude.{nat_le, if◌then◌else◌, option_map}
-use Rattle.s7_base.specs.declared.reason.Line.{Line}
-use Rattle.st_grammar.specs.Forms.{Form, none, no_local, prefix, infix_of, Statement, Statements, CaseArms, Labels, plain, Globals, Locals, Section, absent, Head}
+use Rattle.st_grammar.specs.Forms.{Form, none, no_local, prefix, infix_of, Statements, plain, Locals, Section, absent, Head}
 use Rattle.st_grammar.specs.Grammar.{prefix_level, infix_level, is_value, may_jump, is_direct, tree, tree_one, tree_all, tree_arms, tree_cases, tree_actuals, tree_labels, tree_items, tree_type, tree_globals, tree_locals, tree_units, held}
 use Rattle.st_tree.specs.Naming.{is_free, may_name_global, may_name_unit, names_block}
 use Rattle.st_grammar.specs.Levels.{height}
-use Rattle.st_grammar.specs.inner.Machine.{written, code, of_label, add_label, add_case, of_literal, of_jump, head_of, Begun, Argument, only, shifted, shifted_by, gate, first, second, Use, to_var, to_area, area_value, test, selector, loop_test, Body, choosing, otherwise, looping, selecting, otherwise_case, Frame, unary, left, bracket, argument, waiting, within, Part, target, write_open, first_formal, next_formal, becoming, giving, given, first_label, next_label, labelled, Place, statement, part, closing, operand, operator, opening, Spot, Row, at_word, at_place, at_colon, at_type, at_square, at_zero, at_dots, at_last, at_close, at_of, at_byte, at_becomes, at_open, at_item, at_count, at_value, at_value_end, at_comma, at_end, Typing, local_colon, local_type, local_end, Before, Top, Which, formals, temps, State, start, globals, row, between, heading, opened, formals_done, section, typing, inside, over}
-use Rattle.st_grammar.specs.inner.Steps.{spot, weakest, limit, Reduced, reduced_to, reduce, shallower, with_prefix, argument_closed, use_closed, closed, closed_to, waits, at_operator, in_loop, body_closed, in_body, at_lead, at_statement, at_target, at_label, at_part, at_closing, at_operand, at_opening, step_at, is_zero, row_type, row_place, row_array, row_items, row_step, row_end, at_row, at_globals, before_units, top_of, at_between, at_start, at_heading, may_name, may_type, at_section, at_typing, ends, leave, at_inside, at_formals_done, at_opened, next, level_at, mark}
+use Rattle.st_grammar.specs.inner.Machine.{written, code, of_label, add_label, add_case, of_literal, of_jump, head_of, Begun, Argument, only, shifted, shifted_by, gate, first, second, Use, to_var, to_area, area_value, test, selector, loop_test, Body, choosing, otherwise, looping, selecting, otherwise_case, Frame, unary, left, bracket, argument, waiting, within, Part, target, write_open, first_formal, next_formal, becoming, giving, given, first_label, next_label, labelled, Place, statement, part, closing, operand, operator, opening, Spot, Row, at_word, at_place, at_colon, at_type, at_square, at_zero, at_dots, at_last, at_close, at_of, at_byte, at_becomes, at_open, at_item, at_count, at_value, at_value_end, at_comma, at_end, local_colon, local_type, local_end, Before, Top, Which, formals, temps, State, start, globals, row, between, heading, opened, formals_done, section, typing, inside, over}
+use Rattle.st_grammar.specs.inner.Steps.{spot, weakest, limit, Reduced, reduced_to, reduce, shallower, with_prefix, closed, closed_to, waits, in_loop, in_body, step_at, is_zero, row_step, before_units, top_of, at_between, may_name, may_type, ends, leave, at_inside, at_formals_done, at_opened, next, level_at, mark}
 use Rattle.st_grammar.specs.declared.heading.Heading.{Heading}
 use Rattle.st_grammar.specs.declared.measured.Measured.{Measured}
 use Rattle.st_grammar.specs.declared.kind.Fixed.TheVariants as fixed
-use Rattle.st_grammar.specs.declared.kind.Function.{Function}
 use Rattle.st_grammar.specs.declared.kind.Function.TheVariants as function
 use Rattle.st_grammar.specs.declared.kind.Kind.{Kind}
 use Rattle.st_grammar.specs.declared.kind.Kind.TheVariants as kind
-use Rattle.st_grammar.specs.declared.kind.Lead.{Lead}
 use Rattle.st_grammar.specs.declared.kind.Lead.TheVariants as lead
 use Rattle.st_grammar.specs.declared.kind.Literal.TheVariants as lit
 use Rattle.st_grammar.specs.declared.kind.Prefix.{Prefix}
@@ -23,7 +20,6 @@ use Rattle.st_grammar.specs.declared.kind.Prefix.TheVariants as before
 use Rattle.st_tree.specs.declared.expr.BinaryOp.TheVariants as binary
 use Rattle.st_tree.specs.declared.expr.StType.{StType}
 use Rattle.st_tree.specs.declared.expr.StType.TheVariants as type
-use Rattle.st_tree.specs.declared.raw.RawVar.{RawVar}
 use Rattle.st_tree.specs.declared.raw.RawVar.TheVariants as var
 
 -- What the code has of a state
@@ -194,16 +190,9 @@ bare_prefix d s op =
 -- Statements
 
 bare_in_loop : (s : List (Frame written)) → in_loop code (bare_stack s) ≡ in_loop written s
-bare_in_loop (unary op ∷ s) = bare_in_loop s
-bare_in_loop (left op f ∷ s) = bare_in_loop s
-bare_in_loop (bracket ∷ s) = bare_in_loop s
-bare_in_loop (argument a ∷ s) = bare_in_loop s
-bare_in_loop (waiting b u ∷ s) = bare_in_loop s
-bare_in_loop (within b (choosing arms e) ∷ s) = bare_in_loop s
-bare_in_loop (within b (otherwise arms) ∷ s) = bare_in_loop s
-bare_in_loop (within b (selecting e arms labels) ∷ s) = bare_in_loop s
-bare_in_loop (within b (otherwise_case e arms) ∷ s) = bare_in_loop s
-bare_in_loop s = refl
+bare_in_loop [] = refl
+bare_in_loop (within b (looping e) ∷ s) = refl
+bare_in_loop (frame ∷ s) = bare_in_loop s
 
 bare_in_body : (d : ℕ) (s : List (Frame written)) (body : Statements) (k : Kind) → in_body code d (bare_stack s) (tree_all body) k ≡ option_map bare_spot (in_body written d s body k)
 bare_in_body d (within b (choosing arms e) ∷ s) body (kind.Fixed fixed.Elsif) = refl

@@ -5,17 +5,16 @@ use Rattle.std.proofs.lemmas.Bool.Decides.{nat_tests}
 use Rattle.s7_base.specs.declared.reason.Line.{Line}
 use Rattle.st_syntax_laws.proofs.Drive.{infix_most, infix_some}
 use Rattle.st_syntax_laws.proofs.DriveSource.{Declared}
-use Rattle.st_grammar.specs.Forms.{Form, prefix, infix_of, Actuals, no_actual, actual, Labels, label, more_labels, Statement, Statements, CaseArms, Items, no_item}
+use Rattle.st_grammar.specs.Forms.{Form, prefix, infix_of, Actuals, no_actual, actual, Labels, label, more_labels, Statements, CaseArms, Items, no_item}
 use Rattle.st_grammar.specs.Grammar.{prefix_level, infix_level, level, is_value, Binds, may_jump, LabelsFit, HasArm, HasCase, Fits, AllFit, ArmsFit, CasesFit, is_direct, is_global, GlobalsFit, LocalsFit, IfPresent, HeadFits, UnitsFit, prefix_kind, spell, comma_behind, spell_actuals, spell_labels, arm_word, spell_one, spell_all, spell_arms, spell_cases, comma_past, spell_items, spell_type, spell_globals, spell_locals, unit_word, spell_section, spell_formals, spell_temps, spell_head, spell_units}
 use Rattle.st_tree.specs.Naming.{may_name_global, may_name_unit, names_block}
 use Rattle.st_grammar.specs.inner.Machine.{written, Begun, Argument, only, shifted, shifted_by, gate, first, second, Use, to_var, to_area, area_value, test, selector, loop_test, Body, choosing, otherwise, looping, selecting, otherwise_case, Frame, unary, left, bracket, argument, waiting, within, Part, target, write_open, first_formal, next_formal, becoming, giving, given, first_label, next_label, labelled, Place, statement, part, closing, operand, operator, opening, Spot, Row, at_word, at_place, at_colon, at_type, at_square, at_zero, at_dots, at_last, at_close, at_of, at_byte, at_becomes, at_open, at_item, at_count, at_value, at_value_end, at_comma, at_end, Typing, local_colon, local_type, local_end, Before, Top, Which, formals, temps, State, start, globals, row, between, heading, opened, formals_done, section, typing, inside, over}
-use Rattle.st_grammar.specs.inner.Steps.{spot, shallower, weakest, limit, Reduced, reduce, reduced_to, with_prefix, argument_closed, use_closed, closed, waits, in_loop, body_closed, in_body, at_lead, at_statement, at_target, at_label, at_part, at_closing, at_operand, at_opening, at_operator, step_at, may_name, may_type}
+use Rattle.st_grammar.specs.inner.Steps.{spot, shallower, weakest, limit, Reduced, reduce, reduced_to, with_prefix, closed, waits, in_loop, in_body, at_label, step_at, may_name, may_type}
 use Rattle.st_grammar.specs.declared.kind.Fixed.TheVariants as fixed
 use Rattle.st_grammar.specs.declared.kind.Function.{Function}
 use Rattle.st_grammar.specs.declared.kind.Function.TheVariants as function
 use Rattle.st_grammar.specs.declared.kind.Kind.{Kind}
 use Rattle.st_grammar.specs.declared.kind.Kind.TheVariants as kind
-use Rattle.st_grammar.specs.declared.kind.Lead.{Lead}
 use Rattle.st_grammar.specs.declared.kind.Lead.TheVariants as lead
 use Rattle.st_grammar.specs.declared.kind.Literal.{Literal}
 use Rattle.st_grammar.specs.declared.kind.Literal.TheVariants as lit

@@ -1,21 +1,20 @@
 -- The pass keeps in its state what it has passed of a whole text.
-use Rattle.std.proofs.Common.{◌≡◌, ℕ, zero, suc, Bool, true, false, List, [], ◌∷◌, Option, Some, None, refl, ap}
+use Rattle.std.proofs.Common.{◌≡◌, ℕ, zero, Bool, true, false, List, [], ◌∷◌, Option, Some, None, refl, ap}
 use Rattle.std.specs.Prelude.{IfSome, if◌then◌else◌, option_map}
 use Rattle.s7_base.specs.declared.reason.Line.{Line}
 use Rattle.st_syntax_laws.proofs.DriveSource.{Declared}
-use Rattle.st_syntax_laws.proofs.Kept.{past_stack, past_place, past_array, past_row, past_top, past, HasItem, RowFits, TextFits, TopFits, WhichFits, Shaped, KeptIn, Kept, if_to, step_kept}
+use Rattle.st_syntax_laws.proofs.Kept.{past_stack, past_place, past_array, past_row, past_top, past, HasItem, RowFits, TextFits, TopFits, Shaped, KeptIn, Kept, if_to, step_kept}
 use Rattle.st_grammar.specs.Forms.{Statements, none, Items, no_item, Globals, Locals, no_local, local, Section, absent, unit}
 use Rattle.st_grammar.specs.Grammar.{is_direct, GlobalsFit, FormalsFit, LocalsFit, IfPresent, HeadFits, AllFit, spell_all, comma_past, spell_items, spell_initial, spell_globals, end_word, spell_formals, spell_temps}
 use Rattle.st_tree.specs.Naming.{is_free, may_name_global, may_name_unit, names_block}
-use Rattle.st_grammar.specs.inner.Machine.{written, Frame, Place, statement, Spot, Row, at_word, at_place, at_colon, at_type, at_square, at_zero, at_dots, at_last, at_close, at_of, at_byte, at_becomes, at_open, at_item, at_count, at_value, at_value_end, at_comma, at_end, Typing, local_colon, local_type, local_end, Before, Top, Which, formals, temps, State, start, globals, row, between, heading, opened, formals_done, section, typing, inside, over}
-use Rattle.st_grammar.specs.inner.Steps.{spot, step_at, row_type, row_place, row_array, row_items, row_step, row_end, at_row, is_zero, at_globals, before_units, may_name, may_type, at_between, at_start, at_heading, at_section, at_typing, ends, leave, at_inside, at_formals_done, at_opened, next}
+use Rattle.st_grammar.specs.inner.Machine.{written, Frame, Place, statement, Spot, Row, at_word, at_place, at_colon, at_type, at_square, at_zero, at_dots, at_last, at_close, at_of, at_byte, at_becomes, at_open, at_item, at_count, at_value, at_value_end, at_comma, at_end, local_colon, local_type, local_end, Before, Top, formals, temps, State, start, globals, row, between, heading, opened, formals_done, section, typing, inside}
+use Rattle.st_grammar.specs.inner.Steps.{spot, step_at, row_step, before_units, may_name, may_type, at_between, ends, leave, at_inside, at_formals_done, next}
 use Rattle.st_grammar.specs.declared.kind.Fixed.TheVariants as fixed
 use Rattle.st_grammar.specs.declared.kind.Kind.{Kind}
 use Rattle.st_grammar.specs.declared.kind.Kind.TheVariants as kind
 use Rattle.st_grammar.specs.declared.kind.Lead.TheVariants as lead
 use Rattle.st_grammar.specs.declared.kind.Literal.TheVariants as lit
 use Rattle.st_tree.specs.declared.expr.StType.TheVariants as type
-use Rattle.st_tree.specs.declared.raw.RawVar.{RawVar}
 use Rattle.st_tree.specs.declared.raw.RawVar.TheVariants as var
 
 -- Globals
