@@ -213,7 +213,6 @@ step_bare d s (statement body) (kind.Fixed fixed.Semicolon) = refl
 step_bare d s (statement body) other = bare_in_body d s body other
 step_bare d s (part b (target v)) (kind.Fixed fixed.Becomes) = refl
 step_bare d s (part b (target (var.Name name))) (kind.Fixed fixed.Open) = refl
-step_bare d s (part b (target v)) other = refl
 step_bare d s (part b (write_open w)) (kind.Fixed fixed.Open) = refl
 step_bare d s (part b (first_formal name)) (kind.Variable (var.Name formal) line) = refl
 step_bare d s (part b (first_formal name)) (kind.Fixed fixed.Close) = refl
@@ -222,18 +221,12 @@ step_bare d s (part b (becoming name actuals formal)) (kind.Fixed fixed.Becomes)
 step_bare d s (part b (giving name actuals formal)) (kind.Variable v line) = refl
 step_bare d s (part b (given name actuals)) (kind.Fixed fixed.Comma) = refl
 step_bare d s (part b (first_label e arms)) (kind.Literal c) = map_if bare_spot (is_value c) (spot written d s (part b (labelled e arms (of_label written c))))
-step_bare d s (part b (first_label e arms)) other = refl
 step_bare d s (part b (next_label e arms labels)) (kind.Literal c) = map_if bare_spot (is_value c) (spot written d s (part b (labelled e arms (add_label written labels c))))
-step_bare d s (part b (next_label e arms labels)) other = refl
 step_bare d s (part b (labelled e arms labels)) (kind.Fixed fixed.Comma) = refl
-step_bare d s (part b (labelled e arms labels)) other = refl
-step_bare d s (part b x) k = refl
 step_bare d s (closing before x) (kind.Fixed fixed.Semicolon) = refl
-step_bare d s (closing before x) other = refl
 step_bare d s operand (kind.Literal c) = map_if bare_spot (is_value c) (spot written d s (operator (of_literal written c)))
 step_bare d s operand (kind.Fixed fixed.Not) = bare_prefix d s before.Not
 step_bare d s operand (kind.Fixed (fixed.Between binary.Sub)) = bare_prefix d s before.Minus
-step_bare d s operand other = refl
 step_bare d s (operator f) (kind.Fixed (fixed.Between op)) = ap (λ (r : Reduced code). Some (waits code op r)) (bare_reduce (infix_level op) d s f)
 step_bare d s (operator f) other =
     ap (λ (r : Reduced code). closed_to code r other) (bare_reduce weakest d s f)
@@ -241,7 +234,7 @@ step_bare d s (operator f) other =
 step_bare d s (opening (function.One op)) (kind.Fixed fixed.Open) = refl
 step_bare d s (opening (function.Shift op)) (kind.Fixed fixed.Open) = refl
 step_bare d s (opening function.Select) (kind.Fixed fixed.Open) = refl
-step_bare d s (opening f) other = refl
+step_bare d s p k = refl
 
 -- Globals
 

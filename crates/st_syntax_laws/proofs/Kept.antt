@@ -410,7 +410,6 @@ step_kept d s (statement body) (kind.Fixed fixed.Semicolon) h = record { fits = 
 step_kept d s (statement body) other h = in_body_kept d s body other h.0 h.1
 step_kept d s (part b (target v)) (kind.Fixed fixed.Becomes) h = record { fits = (h.1, tt, h.0); grown = λ more. refl }
 step_kept d s (part b (target (var.Name name))) (kind.Fixed fixed.Open) h = record { fits = (h.0, h.1, tt); grown = λ more. refl }
-step_kept d s (part b (target v)) other h = tt
 step_kept d s (part b (write_open w)) (kind.Fixed fixed.Open) h = record { fits = (h.1, tt, h.0); grown = λ more. refl }
 step_kept d s (part b (first_formal name)) (kind.Variable (var.Name formal) line) h = record { fits = (h.0, h.1, tt); grown = λ more. refl }
 step_kept d s (part b (first_formal name)) (kind.Fixed fixed.Close) h = record { fits = (h.0, h.1, tt); grown = λ more. refl }
@@ -427,19 +426,16 @@ step_kept d s (part b (next_label e arms labels)) k h =
     label_kept d s b e arms (λ c. more_labels labels c) (λ ks. spell_labels labels (comma_kind ∷ ks)) k (λ c more. refl) (λ c v. (h.2.2, v)) h.0 h.1 h.2.0 h.2.1
 step_kept d s (part b (labelled e arms labels)) (kind.Fixed fixed.Comma) h = record { fits = (h.0, h.1, h.2); grown = λ more. refl }
 step_kept d s (part b (labelled e arms labels)) (kind.Fixed fixed.Colon) h = record { fits = ((h.1, h.2, h.0), tt); grown = λ more. refl }
-step_kept d s (part b x) k h = tt
 step_kept d s (closing before x) (kind.Fixed fixed.Semicolon) h = record { fits = (h.0, (h.1, h.2)); grown = λ more. refl }
-step_kept d s (closing before x) other h = tt
 step_kept d s operand (kind.Literal c) h = if_in (λ more. past_stack s (kind.Literal c ∷ more)) (is_value c) _ (λ v. record { fits = (h, v, refl); grown = λ more. refl })
 step_kept d s operand (kind.Variable v line) h = record { fits = (h, tt, refl); grown = λ more. refl }
 step_kept d s operand (kind.Fixed fixed.Not) h = prefix_kept d s before.Not h
 step_kept d s operand (kind.Fixed (fixed.Between binary.Sub)) h = prefix_kept d s before.Minus h
 step_kept d s operand (kind.Fixed fixed.Open) h = record { fits = h; grown = λ more. refl }
 step_kept d s operand (kind.Fixed (fixed.Function f)) h = record { fits = h; grown = λ more. refl }
-step_kept d s operand other h = tt
 step_kept d s (operator f) (kind.Fixed (fixed.Between op)) h = waits_kept s f (reduce written (infix_level op) d s f) op (fitting (infix_level op) d s f (infix_most op) h.0 h.1 (omega arith) (omega arith))
 step_kept d s (operator f) other h = reduced_kept d s f (reduce written weakest d s f) other (fitting weakest d s f (omega arith) h.0 h.1 (omega arith) (omega arith))
 step_kept d s (opening (function.One op)) (kind.Fixed fixed.Open) h = record { fits = (tt, h); grown = λ more. refl }
 step_kept d s (opening (function.Shift op)) (kind.Fixed fixed.Open) h = record { fits = (tt, h); grown = λ more. refl }
 step_kept d s (opening function.Select) (kind.Fixed fixed.Open) h = record { fits = (tt, h); grown = λ more. refl }
-step_kept d s (opening f) other h = tt
+step_kept d s p k h = tt
