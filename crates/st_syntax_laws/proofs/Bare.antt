@@ -1,21 +1,18 @@
 -- The pass of the code does what the pass that keeps what is written does.
 use Rattle.std.proofs.Common.{◌≡◌, ℕ, suc, Bool, true, false, List, [], ◌∷◌, Option, Some, None, refl, sym, ap, ◌∙◌}
 use Rattle.std.specs.Prelude.{nat_le, if◌then◌else◌, option_map}
-use Rattle.s7_base.specs.declared.reason.Line.{Line}
-use Rattle.st_grammar.specs.Forms.{Form, none, no_local, prefix, infix_of, Statement, Statements, CaseArms, Labels, plain, Globals, Locals, Section, absent, Head}
+use Rattle.st_grammar.specs.Forms.{Form, none, no_local, prefix, infix_of, Statements, plain, Locals, Section, absent, Head}
 use Rattle.st_grammar.specs.Grammar.{prefix_level, infix_level, is_value, may_jump, is_direct, tree, tree_one, tree_all, tree_arms, tree_cases, tree_actuals, tree_labels, tree_items, tree_type, tree_globals, tree_locals, tree_units, held}
 use Rattle.st_tree.specs.Naming.{is_free, may_name_global, may_name_unit, names_block}
 use Rattle.st_grammar.specs.Levels.{height}
-use Rattle.st_grammar.specs.inner.Machine.{written, code, of_label, add_label, add_case, of_literal, of_jump, head_of, Begun, Argument, only, shifted, shifted_by, gate, first, second, Use, to_var, to_area, area_value, test, selector, loop_test, Body, choosing, otherwise, looping, selecting, otherwise_case, Frame, unary, left, bracket, argument, waiting, within, Part, target, write_open, first_formal, next_formal, becoming, giving, given, first_label, next_label, labelled, Place, statement, part, closing, operand, operator, opening, Spot, Row, at_word, at_place, at_colon, at_type, at_square, at_zero, at_dots, at_last, at_close, at_of, at_byte, at_becomes, at_open, at_item, at_count, at_value, at_value_end, at_comma, at_end, Typing, local_colon, local_type, local_end, Before, Top, Which, formals, temps, State, start, globals, row, between, heading, opened, formals_done, section, typing, inside, over}
-use Rattle.st_grammar.specs.inner.Steps.{spot, weakest, limit, Reduced, reduced_to, reduce, shallower, with_prefix, argument_closed, use_closed, closed, closed_to, waits, at_operator, in_loop, body_closed, in_body, at_lead, at_statement, at_target, at_label, at_part, at_closing, at_operand, at_opening, step_at, is_zero, row_type, row_place, row_array, row_items, row_step, row_end, at_row, at_globals, before_units, top_of, at_between, at_start, at_heading, may_name, may_type, at_section, at_typing, ends, leave, at_inside, at_formals_done, at_opened, next, level_at, mark}
+use Rattle.st_grammar.specs.inner.Machine.{written, code, of_label, add_label, add_case, of_literal, of_jump, head_of, Begun, Argument, only, shifted, shifted_by, gate, first, second, Use, to_var, to_area, area_value, test, selector, loop_test, Body, choosing, otherwise, looping, selecting, otherwise_case, Frame, unary, left, bracket, argument, waiting, within, Part, target, write_open, first_formal, next_formal, becoming, giving, given, first_label, next_label, labelled, Place, statement, part, closing, operand, operator, opening, Spot, Row, at_word, at_place, at_colon, at_type, at_square, at_zero, at_dots, at_last, at_close, at_of, at_byte, at_becomes, at_open, at_item, at_count, at_value, at_value_end, at_comma, at_end, local_colon, local_type, local_end, Before, Top, Which, formals, temps, State, start, globals, row, between, heading, opened, formals_done, section, typing, inside, over}
+use Rattle.st_grammar.specs.inner.Steps.{spot, weakest, limit, Reduced, reduced_to, reduce, shallower, with_prefix, closed, closed_to, waits, in_loop, in_body, step_at, is_zero, row_step, before_units, top_of, at_between, may_name, may_type, ends, leave, at_inside, at_formals_done, at_opened, next, level_at, mark}
 use Rattle.st_grammar.specs.declared.heading.Heading.{Heading}
 use Rattle.st_grammar.specs.declared.measured.Measured.{Measured}
 use Rattle.st_grammar.specs.declared.kind.Fixed.TheVariants as fixed
-use Rattle.st_grammar.specs.declared.kind.Function.{Function}
 use Rattle.st_grammar.specs.declared.kind.Function.TheVariants as function
 use Rattle.st_grammar.specs.declared.kind.Kind.{Kind}
 use Rattle.st_grammar.specs.declared.kind.Kind.TheVariants as kind
-use Rattle.st_grammar.specs.declared.kind.Lead.{Lead}
 use Rattle.st_grammar.specs.declared.kind.Lead.TheVariants as lead
 use Rattle.st_grammar.specs.declared.kind.Literal.TheVariants as lit
 use Rattle.st_grammar.specs.declared.kind.Prefix.{Prefix}
@@ -23,7 +20,6 @@ use Rattle.st_grammar.specs.declared.kind.Prefix.TheVariants as before
 use Rattle.st_tree.specs.declared.expr.BinaryOp.TheVariants as binary
 use Rattle.st_tree.specs.declared.expr.StType.{StType}
 use Rattle.st_tree.specs.declared.expr.StType.TheVariants as type
-use Rattle.st_tree.specs.declared.raw.RawVar.{RawVar}
 use Rattle.st_tree.specs.declared.raw.RawVar.TheVariants as var
 
 -- What the code has of a state
@@ -152,11 +148,7 @@ map_map g f h e (Some x) = ap Some (e x)
 bare_limit : (s : List (Frame written)) → limit code (bare_stack s) ≡ limit written s
 bare_limit [] = refl
 bare_limit (unary op ∷ s) = refl
-bare_limit (left op f ∷ s) = refl
-bare_limit (bracket ∷ s) = refl
-bare_limit (argument a ∷ s) = refl
-bare_limit (waiting b u ∷ s) = refl
-bare_limit (within b y ∷ s) = refl
+bare_limit s = refl
 
 abbrev bare_reduced : Reduced written → Reduced code
 bare_reduced r = reduced_to code r.depth (bare_stack r.stack) (bare_expr r.operand)
@@ -166,293 +158,114 @@ choose true x y p q e f = e
 choose false x y p q e f = f
 
 bare_reduce : (k d : ℕ) (s : List (Frame written)) (f : Form) → reduce code k d (bare_stack s) (bare_expr f) ≡ bare_reduced (reduce written k d s f)
-bare_reduce k d [] f = refl
 bare_reduce k d (unary op ∷ s) f =
     choose (nat_le (prefix_level op) k) (reduce code k (shallower d) (bare_stack s) (bare_expr (prefix op f))) (reduced_to code d (unary op ∷ bare_stack s) (bare_expr f))
     (reduce written k (shallower d) s (prefix op f)) (reduced_to written d (unary op ∷ s) f) (bare_reduce k (shallower d) s (prefix op f)) refl
 bare_reduce k d (left op g ∷ s) f =
     choose (nat_le (infix_level op) k) (reduce code k d (bare_stack s) (bare_expr (infix_of op g f))) (reduced_to code d (left op (bare_expr g) ∷ bare_stack s) (bare_expr f))
     (reduce written k d s (infix_of op g f)) (reduced_to written d (left op g ∷ s) f) (bare_reduce k d s (infix_of op g f)) refl
-bare_reduce k d (bracket ∷ s) f = refl
-bare_reduce k d (argument a ∷ s) f = refl
-bare_reduce k d (waiting b u ∷ s) f = refl
-bare_reduce k d (within b y ∷ s) f = refl
-
-bare_argument_closed : (d : ℕ) (s : List (Frame written)) (a : Argument written) (f : Form) (k : Kind) → argument_closed code d (bare_stack s) (bare_argument a) (bare_expr f) k ≡ option_map bare_spot (argument_closed written d s a f k)
-bare_argument_closed d s (only op) f (kind.Fixed fixed.Close) = refl
-bare_argument_closed d s (only op) f k = refl
-bare_argument_closed d s (shifted op) f (kind.Fixed fixed.Comma) = refl
-bare_argument_closed d s (shifted op) f k = refl
-bare_argument_closed d s (shifted_by op g) f (kind.Fixed fixed.Close) = refl
-bare_argument_closed d s (shifted_by op g) f k = refl
-bare_argument_closed d s gate f (kind.Fixed fixed.Comma) = refl
-bare_argument_closed d s gate f k = refl
-bare_argument_closed d s (first g) f (kind.Fixed fixed.Comma) = refl
-bare_argument_closed d s (first g) f k = refl
-bare_argument_closed d s (second g h) f (kind.Fixed fixed.Close) = refl
-bare_argument_closed d s (second g h) f k = refl
-
-bare_use_closed : (d : ℕ) (s : List (Frame written)) (b : Begun written) (u : Use written) (f : Form) (k : Kind) → use_closed code d (bare_stack s) (bare_begun b) (bare_use u) (bare_expr f) k ≡ option_map bare_spot (use_closed written d s b u f k)
-bare_use_closed d s b (to_var v) f (kind.Fixed fixed.Semicolon) = refl
-bare_use_closed d s b (to_var v) f k = refl
-bare_use_closed d s b (to_area w) f (kind.Fixed fixed.Comma) = refl
-bare_use_closed d s b (to_area w) f k = refl
-bare_use_closed d s b (area_value w p) f (kind.Fixed fixed.Close) = refl
-bare_use_closed d s b (area_value w p) f k = refl
-bare_use_closed d s b (test arms) f (kind.Fixed fixed.Then) = refl
-bare_use_closed d s b (test arms) f k = refl
-bare_use_closed d s b selector f (kind.Fixed fixed.Of) = refl
-bare_use_closed d s b selector f k = refl
-bare_use_closed d s b loop_test f (kind.Fixed fixed.Do) = refl
-bare_use_closed d s b loop_test f k = refl
+bare_reduce k d s f = refl
 
 bare_closed : (d : ℕ) (s : List (Frame written)) (f : Form) (k : Kind) → closed code d (bare_stack s) (bare_expr f) k ≡ option_map bare_spot (closed written d s f k)
-bare_closed d [] f k = refl
-bare_closed d (unary op ∷ s) f k = refl
-bare_closed d (left op g ∷ s) f k = refl
 bare_closed d (bracket ∷ s) f (kind.Fixed fixed.Close) = refl
-bare_closed d (bracket ∷ s) f k = refl
-bare_closed d (argument a ∷ s) f k = bare_argument_closed d s a f k
-bare_closed d (waiting b u ∷ s) f k = bare_use_closed d s b u f k
-bare_closed d (within b y ∷ s) f k = refl
-
-bare_operator : (d : ℕ) (s : List (Frame written)) (f : Form) (k : Kind) → at_operator code d (bare_stack s) (bare_expr f) k ≡ option_map bare_spot (at_operator written d s f k)
-bare_operator d s f (kind.Fixed (fixed.Between op)) = ap (λ (r : Reduced code). Some (waits code op r)) (bare_reduce (infix_level op) d s f)
-bare_operator d s f other =
-    ap (λ (r : Reduced code). closed_to code r other) (bare_reduce weakest d s f)
-    ∙ bare_closed (reduce written weakest d s f).depth (reduce written weakest d s f).stack (reduce written weakest d s f).operand other
+bare_closed d (argument (only op) ∷ s) f (kind.Fixed fixed.Close) = refl
+bare_closed d (argument (shifted op) ∷ s) f (kind.Fixed fixed.Comma) = refl
+bare_closed d (argument (shifted_by op g) ∷ s) f (kind.Fixed fixed.Close) = refl
+bare_closed d (argument gate ∷ s) f (kind.Fixed fixed.Comma) = refl
+bare_closed d (argument (first g) ∷ s) f (kind.Fixed fixed.Comma) = refl
+bare_closed d (argument (second g h) ∷ s) f (kind.Fixed fixed.Close) = refl
+bare_closed d (waiting b (to_var v) ∷ s) f (kind.Fixed fixed.Semicolon) = refl
+bare_closed d (waiting b (to_area w) ∷ s) f (kind.Fixed fixed.Comma) = refl
+bare_closed d (waiting b (area_value w p) ∷ s) f (kind.Fixed fixed.Close) = refl
+bare_closed d (waiting b (test arms) ∷ s) f (kind.Fixed fixed.Then) = refl
+bare_closed d (waiting b selector ∷ s) f (kind.Fixed fixed.Of) = refl
+bare_closed d (waiting b loop_test ∷ s) f (kind.Fixed fixed.Do) = refl
+bare_closed d s f k = refl
 
 bare_prefix : (d : ℕ) (s : List (Frame written)) (op : Prefix) → with_prefix code d (bare_stack s) op ≡ option_map bare_spot (with_prefix written d s op)
 bare_prefix d s op =
     ap (λ (n : ℕ). if nat_le (prefix_level op) n then Some (spot code (suc d) (unary op ∷ bare_stack s) operand) else None) (bare_limit s)
     ∙ map_if bare_spot (nat_le (prefix_level op) (limit written s)) (spot written (suc d) (unary op ∷ s) operand)
 
-bare_operand : (d : ℕ) (s : List (Frame written)) (k : Kind) → at_operand code d (bare_stack s) k ≡ option_map bare_spot (at_operand written d s k)
-bare_operand d s (kind.Literal c) = map_if bare_spot (is_value c) (spot written d s (operator (of_literal written c)))
-bare_operand d s (kind.Variable v line) = refl
-bare_operand d s (kind.Fixed fixed.Not) = bare_prefix d s before.Not
-bare_operand d s (kind.Fixed (fixed.Between binary.Sub)) = bare_prefix d s before.Minus
-bare_operand d s (kind.Fixed fixed.Open) = refl
-bare_operand d s (kind.Fixed (fixed.Function f)) = refl
-bare_operand d s other = refl
-
-bare_opening : (d : ℕ) (s : List (Frame written)) (f : Function) (k : Kind) → at_opening code d (bare_stack s) f k ≡ option_map bare_spot (at_opening written d s f k)
-bare_opening d s (function.One op) (kind.Fixed fixed.Open) = refl
-bare_opening d s (function.Shift op) (kind.Fixed fixed.Open) = refl
-bare_opening d s function.Select (kind.Fixed fixed.Open) = refl
-bare_opening d s f other = refl
-
 -- Statements
 
 bare_in_loop : (s : List (Frame written)) → in_loop code (bare_stack s) ≡ in_loop written s
 bare_in_loop [] = refl
-bare_in_loop (unary op ∷ s) = bare_in_loop s
-bare_in_loop (left op f ∷ s) = bare_in_loop s
-bare_in_loop (bracket ∷ s) = bare_in_loop s
-bare_in_loop (argument a ∷ s) = bare_in_loop s
-bare_in_loop (waiting b u ∷ s) = bare_in_loop s
-bare_in_loop (within b (choosing arms e) ∷ s) = bare_in_loop s
-bare_in_loop (within b (otherwise arms) ∷ s) = bare_in_loop s
 bare_in_loop (within b (looping e) ∷ s) = refl
-bare_in_loop (within b (selecting e arms labels) ∷ s) = bare_in_loop s
-bare_in_loop (within b (otherwise_case e arms) ∷ s) = bare_in_loop s
-
-bare_body_closed : (d : ℕ) (s : List (Frame written)) (b : Begun written) (y : Body written) (body : Statements) (k : Kind) →
-    body_closed code d (bare_stack s) (bare_begun b) (bare_body y) (tree_all body) k ≡ option_map bare_spot (body_closed written d s b y body k)
-bare_body_closed d s b (choosing arms e) body (kind.Fixed fixed.Elsif) = refl
-bare_body_closed d s b (choosing arms e) body (kind.Fixed fixed.Else) = refl
-bare_body_closed d s b (choosing arms e) body (kind.Fixed fixed.EndIf) = refl
-bare_body_closed d s b (choosing arms e) body k = refl
-bare_body_closed d s b (otherwise arms) body (kind.Fixed fixed.EndIf) = refl
-bare_body_closed d s b (otherwise arms) body k = refl
-bare_body_closed d s b (looping e) body (kind.Fixed fixed.EndWhile) = refl
-bare_body_closed d s b (looping e) body k = refl
-bare_body_closed d s b (selecting e arms labels) body (kind.Literal c) = map_if bare_spot (is_value c) (spot written d s (part b (labelled e (add_case written arms labels body) (of_label written c))))
-bare_body_closed d s b (selecting e arms labels) body (kind.Fixed fixed.Else) = refl
-bare_body_closed d s b (selecting e arms labels) body (kind.Fixed fixed.EndCase) = refl
-bare_body_closed d s b (selecting e arms labels) body k = refl
-bare_body_closed d s b (otherwise_case e arms) body (kind.Fixed fixed.EndCase) = refl
-bare_body_closed d s b (otherwise_case e arms) body k = refl
+bare_in_loop (frame ∷ s) = bare_in_loop s
 
 bare_in_body : (d : ℕ) (s : List (Frame written)) (body : Statements) (k : Kind) → in_body code d (bare_stack s) (tree_all body) k ≡ option_map bare_spot (in_body written d s body k)
-bare_in_body d [] body k = refl
-bare_in_body d (unary op ∷ s) body k = refl
-bare_in_body d (left op f ∷ s) body k = refl
-bare_in_body d (bracket ∷ s) body k = refl
-bare_in_body d (argument a ∷ s) body k = refl
-bare_in_body d (waiting b u ∷ s) body k = refl
-bare_in_body d (within b y ∷ s) body k = bare_body_closed d s b y body k
-
-bare_lead : (d : ℕ) (s : List (Frame written)) (body : Statements) (word : Lead) (line : Line) → at_lead code d (bare_stack s) (tree_all body) word line ≡ option_map bare_spot (at_lead written d s body word line)
-bare_lead d s body lead.If line = refl
-bare_lead d s body lead.Case line = refl
-bare_lead d s body lead.While line = refl
-bare_lead d s body (lead.Jump word) line =
-    ap (λ (c : Bool). if may_jump c word then Some (spot code d (bare_stack s) (closing (tree_all body) (of_jump code line word))) else None) (bare_in_loop s)
-    ∙ map_if bare_spot (may_jump (in_loop written s) word) (spot written d s (closing body (of_jump written line word)))
-bare_lead d s body (lead.AreaWrite w) line = refl
-bare_lead d s body other line = refl
-
-bare_statement : (d : ℕ) (s : List (Frame written)) (body : Statements) (k : Kind) → at_statement code d (bare_stack s) (tree_all body) k ≡ option_map bare_spot (at_statement written d s body k)
-bare_statement d s body (kind.Variable v line) = refl
-bare_statement d s body (kind.Lead word line) = bare_lead d s body word line
-bare_statement d s body (kind.Fixed fixed.Semicolon) = refl
-bare_statement d s body other = bare_in_body d s body other
-
-bare_target : (d : ℕ) (s : List (Frame written)) (b : Begun written) (v : RawVar) (k : Kind) → at_target code d (bare_stack s) (bare_begun b) v k ≡ option_map bare_spot (at_target written d s b v k)
-bare_target d s b v (kind.Fixed fixed.Becomes) = refl
-bare_target d s b (var.Name name) (kind.Fixed fixed.Open) = refl
-bare_target d s b (var.Direct area block w byte bit) (kind.Fixed fixed.Open) = refl
-bare_target d s b v other = refl
-
-bare_first_label : (d : ℕ) (s : List (Frame written)) (b : Begun written) (e : Form) (arms : CaseArms) (k : Kind) →
-    at_label code d (bare_stack s) (bare_begun b) (bare_expr e) (tree_cases arms) (of_label code) k ≡ option_map bare_spot (at_label written d s b e arms (of_label written) k)
-bare_first_label d s b e arms (kind.Literal c) = map_if bare_spot (is_value c) (spot written d s (part b (labelled e arms (of_label written c))))
-bare_first_label d s b e arms other = refl
-
-bare_next_label : (d : ℕ) (s : List (Frame written)) (b : Begun written) (e : Form) (arms : CaseArms) (labels : Labels) (k : Kind) →
-    at_label code d (bare_stack s) (bare_begun b) (bare_expr e) (tree_cases arms) (add_label code (tree_labels labels)) k ≡ option_map bare_spot (at_label written d s b e arms (add_label written labels) k)
-bare_next_label d s b e arms labels (kind.Literal c) = map_if bare_spot (is_value c) (spot written d s (part b (labelled e arms (add_label written labels c))))
-bare_next_label d s b e arms labels other = refl
-
-bare_labelled : (d : ℕ) (s : List (Frame written)) (b : Begun written) (e : Form) (arms : CaseArms) (labels : Labels) (k : Kind) →
-    at_part code d (bare_stack s) (bare_begun b) (bare_part (labelled e arms labels)) k ≡ option_map bare_spot (at_part written d s b (labelled e arms labels) k)
-bare_labelled d s b e arms labels (kind.Fixed fixed.Comma) = refl
-bare_labelled d s b e arms labels (kind.Fixed fixed.Colon) = refl
-bare_labelled d s b e arms labels other = refl
-
-bare_part_step : (d : ℕ) (s : List (Frame written)) (b : Begun written) (x : Part written) (k : Kind) → at_part code d (bare_stack s) (bare_begun b) (bare_part x) k ≡ option_map bare_spot (at_part written d s b x k)
-bare_part_step d s b (target v) k = bare_target d s b v k
-bare_part_step d s b (write_open w) (kind.Fixed fixed.Open) = refl
-bare_part_step d s b (write_open w) k = refl
-bare_part_step d s b (first_formal name) (kind.Variable (var.Name formal) line) = refl
-bare_part_step d s b (first_formal name) (kind.Variable (var.Direct area block w byte bit) line) = refl
-bare_part_step d s b (first_formal name) (kind.Fixed fixed.Close) = refl
-bare_part_step d s b (first_formal name) k = refl
-bare_part_step d s b (next_formal name actuals) (kind.Variable (var.Name formal) line) = refl
-bare_part_step d s b (next_formal name actuals) (kind.Variable (var.Direct area block w byte bit) line) = refl
-bare_part_step d s b (next_formal name actuals) k = refl
-bare_part_step d s b (becoming name actuals formal) (kind.Fixed fixed.Becomes) = refl
-bare_part_step d s b (becoming name actuals formal) k = refl
-bare_part_step d s b (giving name actuals formal) (kind.Variable v line) = refl
-bare_part_step d s b (giving name actuals formal) k = refl
-bare_part_step d s b (given name actuals) (kind.Fixed fixed.Comma) = refl
-bare_part_step d s b (given name actuals) (kind.Fixed fixed.Close) = refl
-bare_part_step d s b (given name actuals) k = refl
-bare_part_step d s b (first_label e arms) k = bare_first_label d s b e arms k
-bare_part_step d s b (next_label e arms labels) k = bare_next_label d s b e arms labels k
-bare_part_step d s b (labelled e arms labels) k = bare_labelled d s b e arms labels k
-
-bare_closing : (d : ℕ) (s : List (Frame written)) (before : Statements) (x : Statement) (k : Kind) → at_closing code d (bare_stack s) (tree_all before) (tree_one x) k ≡ option_map bare_spot (at_closing written d s before x k)
-bare_closing d s before x (kind.Fixed fixed.Semicolon) = refl
-bare_closing d s before x other = refl
+bare_in_body d (within b (choosing arms e) ∷ s) body (kind.Fixed fixed.Elsif) = refl
+bare_in_body d (within b (otherwise arms) ∷ s) body (kind.Fixed fixed.EndIf) = refl
+bare_in_body d (within b (looping e) ∷ s) body (kind.Fixed fixed.EndWhile) = refl
+bare_in_body d (within b (selecting e arms labels) ∷ s) body (kind.Literal c) = map_if bare_spot (is_value c) (spot written d s (part b (labelled e (add_case written arms labels body) (of_label written c))))
+bare_in_body d (within b (selecting e arms labels) ∷ s) body (kind.Fixed fixed.Else) = refl
+bare_in_body d (within b (otherwise_case e arms) ∷ s) body (kind.Fixed fixed.EndCase) = refl
+bare_in_body d s body k = refl
 
 step_bare : (d : ℕ) (s : List (Frame written)) (p : Place written) (k : Kind) → step_at code d (bare_stack s) (bare_place p) k ≡ option_map bare_spot (step_at written d s p k)
-step_bare d s (statement body) k = bare_statement d s body k
-step_bare d s (part b x) k = bare_part_step d s b x k
-step_bare d s (closing before x) k = bare_closing d s before x k
-step_bare d s operand k = bare_operand d s k
-step_bare d s (operator f) k = bare_operator d s f k
-step_bare d s (opening f) k = bare_opening d s f k
+step_bare d s (statement body) (kind.Variable v line) = refl
+step_bare d s (statement body) (kind.Lead (lead.Jump word) line) =
+    ap (λ (c : Bool). if may_jump c word then Some (spot code d (bare_stack s) (closing (tree_all body) (of_jump code line word))) else None) (bare_in_loop s)
+    ∙ map_if bare_spot (may_jump (in_loop written s) word) (spot written d s (closing body (of_jump written line word)))
+step_bare d s (statement body) (kind.Lead other line) = refl
+step_bare d s (statement body) (kind.Fixed fixed.Semicolon) = refl
+step_bare d s (statement body) other = bare_in_body d s body other
+step_bare d s (part b (target v)) (kind.Fixed fixed.Becomes) = refl
+step_bare d s (part b (target (var.Name name))) (kind.Fixed fixed.Open) = refl
+step_bare d s (part b (write_open w)) (kind.Fixed fixed.Open) = refl
+step_bare d s (part b (first_formal name)) (kind.Variable (var.Name formal) line) = refl
+step_bare d s (part b (first_formal name)) (kind.Fixed fixed.Close) = refl
+step_bare d s (part b (next_formal name actuals)) (kind.Variable (var.Name formal) line) = refl
+step_bare d s (part b (becoming name actuals formal)) (kind.Fixed fixed.Becomes) = refl
+step_bare d s (part b (giving name actuals formal)) (kind.Variable v line) = refl
+step_bare d s (part b (given name actuals)) (kind.Fixed fixed.Comma) = refl
+step_bare d s (part b (first_label e arms)) (kind.Literal c) = map_if bare_spot (is_value c) (spot written d s (part b (labelled e arms (of_label written c))))
+step_bare d s (part b (next_label e arms labels)) (kind.Literal c) = map_if bare_spot (is_value c) (spot written d s (part b (labelled e arms (add_label written labels c))))
+step_bare d s (part b (labelled e arms labels)) (kind.Fixed fixed.Comma) = refl
+step_bare d s (closing before x) (kind.Fixed fixed.Semicolon) = refl
+step_bare d s operand (kind.Literal c) = map_if bare_spot (is_value c) (spot written d s (operator (of_literal written c)))
+step_bare d s operand (kind.Fixed fixed.Not) = bare_prefix d s before.Not
+step_bare d s operand (kind.Fixed (fixed.Between binary.Sub)) = bare_prefix d s before.Minus
+step_bare d s (operator f) (kind.Fixed (fixed.Between op)) = ap (λ (r : Reduced code). Some (waits code op r)) (bare_reduce (infix_level op) d s f)
+step_bare d s (operator f) other =
+    ap (λ (r : Reduced code). closed_to code r other) (bare_reduce weakest d s f)
+    ∙ bare_closed (reduce written weakest d s f).depth (reduce written weakest d s f).stack (reduce written weakest d s f).operand other
+step_bare d s (opening (function.One op)) (kind.Fixed fixed.Open) = refl
+step_bare d s (opening (function.Shift op)) (kind.Fixed fixed.Open) = refl
+step_bare d s (opening function.Select) (kind.Fixed fixed.Open) = refl
+step_bare d s p k = refl
 
 -- Globals
 
-row_type_bare : (name : List ℕ) (v : RawVar × Line) (k : Kind) → row_type code name v.0 k ≡ option_map bare_row (row_type written name v k)
-row_type_bare name v (kind.Fixed (fixed.Type ty)) = map_if bare_row (is_free name) (at_end v (plain ty))
-row_type_bare name v (kind.Fixed fixed.Array) = map_if bare_row (names_block name) (at_square v)
-row_type_bare name v other = refl
-
-row_place_bare : (k : Kind) → row_place code k ≡ option_map bare_row (row_place written k)
-row_place_bare (kind.Variable v line) = map_if bare_row (is_direct v) (at_colon (v, line))
-row_place_bare other = refl
-
-row_array_bare : (x : Row written) (k : Kind) → row_array code (bare_row x) k ≡ option_map bare_row (row_array written x k)
-row_array_bare (at_square v) (kind.Fixed fixed.OpenSquare) = refl
-row_array_bare (at_square v) k = refl
-row_array_bare (at_zero v) (kind.Literal (lit.Decimal n)) = map_if bare_row (is_zero n) (at_dots v)
-row_array_bare (at_zero v) k = refl
-row_array_bare (at_dots v) (kind.Fixed fixed.Dots) = refl
-row_array_bare (at_dots v) k = refl
-row_array_bare (at_last v) (kind.Literal (lit.Decimal last)) = refl
-row_array_bare (at_last v) k = refl
-row_array_bare (at_close v last) (kind.Fixed fixed.CloseSquare) = refl
-row_array_bare (at_close v last) k = refl
-row_array_bare (at_of v last) (kind.Fixed fixed.Of) = refl
-row_array_bare (at_of v last) k = refl
-row_array_bare (at_byte v last) (kind.Fixed (fixed.Type type.Byte)) = refl
-row_array_bare (at_byte v last) k = refl
-row_array_bare x k = refl
-
-row_items_bare : (x : Row written) (k : Kind) → row_items code (bare_row x) k ≡ option_map bare_row (row_items written x k)
-row_items_bare (at_becomes v last) (kind.Fixed fixed.Becomes) = refl
-row_items_bare (at_becomes v last) k = refl
-row_items_bare (at_open v last) (kind.Fixed fixed.OpenSquare) = refl
-row_items_bare (at_open v last) k = refl
-row_items_bare (at_item v last items) (kind.Literal (lit.Byte b)) = refl
-row_items_bare (at_item v last items) (kind.Literal (lit.Decimal count)) = refl
-row_items_bare (at_item v last items) k = refl
-row_items_bare (at_count v last items count) (kind.Fixed fixed.Open) = refl
-row_items_bare (at_count v last items count) k = refl
-row_items_bare (at_value v last items count) (kind.Literal (lit.Byte b)) = refl
-row_items_bare (at_value v last items count) k = refl
-row_items_bare (at_value_end v last items count b) (kind.Fixed fixed.Close) = refl
-row_items_bare (at_value_end v last items count b) k = refl
-row_items_bare (at_comma v last items) (kind.Fixed fixed.Comma) = refl
-row_items_bare (at_comma v last items) (kind.Fixed fixed.CloseSquare) = refl
-row_items_bare (at_comma v last items) k = refl
-row_items_bare x k = refl
-
 row_bare : (name : List ℕ) (x : Row written) (k : Kind) → row_step code name (bare_row x) k ≡ option_map bare_row (row_step written name x k)
 row_bare name at_word (kind.Fixed fixed.At) = refl
-row_bare name at_word k = refl
-row_bare name at_place k = row_place_bare k
+row_bare name at_place (kind.Variable v line) = map_if bare_row (is_direct v) (at_colon (v, line))
 row_bare name (at_colon v) (kind.Fixed fixed.Colon) = refl
-row_bare name (at_colon v) k = refl
-row_bare name (at_type v) k = row_type_bare name v k
-row_bare name (at_square v) k = row_array_bare (at_square v) k
-row_bare name (at_zero v) k = row_array_bare (at_zero v) k
-row_bare name (at_dots v) k = row_array_bare (at_dots v) k
-row_bare name (at_last v) k = row_array_bare (at_last v) k
-row_bare name (at_close v last) k = row_array_bare (at_close v last) k
-row_bare name (at_of v last) k = row_array_bare (at_of v last) k
-row_bare name (at_byte v last) k = row_array_bare (at_byte v last) k
-row_bare name x k = row_items_bare x k
-
-row_end_bare : (done : Globals) (name : List ℕ) (line : Line) (x : Row written) → row_end code (tree_globals done) name line (bare_row x) ≡ option_map bare (row_end written done name line x)
-row_end_bare done name line (at_end v ty) = refl
-row_end_bare done name line (at_becomes v last) = refl
-row_end_bare done name line x = refl
-
-at_row_bare : (done : Globals) (name : List ℕ) (line : Line) (x : Row written) (k : Kind) → at_row code (tree_globals done) name line (bare_row x) k ≡ option_map bare (at_row written done name line x k)
-at_row_bare done name line x (kind.Fixed fixed.Semicolon) = row_end_bare done name line x
-at_row_bare done name line x k =
-    ap (λ (o : Option (Row code)). option_map (λ (y : Row code). row (tree_globals done) name line y) o) (row_bare name x k)
-    ∙ map_map (λ (y : Row code). row (tree_globals done) name line y) bare_row (λ (y : Row written). bare (row done name line y)) (λ y. refl) (row_step written name x k)
-    ∙ sym (map_map bare (λ (y : Row written). row done name line y) (λ (y : Row written). bare (row done name line y)) (λ y. refl) (row_step written name x k))
-
-at_globals_bare : (done : Globals) (k : Kind) → at_globals code (tree_globals done) k ≡ option_map bare (at_globals written done k)
-at_globals_bare done (kind.Variable (var.Name name) line) = map_if bare (may_name_global name) (row done name line at_word)
-at_globals_bare done (kind.Variable (var.Direct area block w byte bit) line) = refl
-at_globals_bare done (kind.Fixed fixed.EndVar) = refl
-at_globals_bare done other = refl
+row_bare name (at_type v) (kind.Fixed (fixed.Type ty)) = map_if bare_row (is_free name) (at_end v (plain ty))
+row_bare name (at_type v) (kind.Fixed fixed.Array) = map_if bare_row (names_block name) (at_square v)
+row_bare name (at_square v) (kind.Fixed fixed.OpenSquare) = refl
+row_bare name (at_zero v) (kind.Literal (lit.Decimal n)) = map_if bare_row (is_zero n) (at_dots v)
+row_bare name (at_dots v) (kind.Fixed fixed.Dots) = refl
+row_bare name (at_last v) (kind.Literal (lit.Decimal last)) = refl
+row_bare name (at_close v last) (kind.Fixed fixed.CloseSquare) = refl
+row_bare name (at_of v last) (kind.Fixed fixed.Of) = refl
+row_bare name (at_byte v last) (kind.Fixed (fixed.Type type.Byte)) = refl
+row_bare name (at_becomes v last) (kind.Fixed fixed.Becomes) = refl
+row_bare name (at_open v last) (kind.Fixed fixed.OpenSquare) = refl
+row_bare name (at_item v last items) (kind.Literal (lit.Byte b)) = refl
+row_bare name (at_count v last items count) (kind.Fixed fixed.Open) = refl
+row_bare name (at_value v last items count) (kind.Literal (lit.Byte b)) = refl
+row_bare name (at_value_end v last items count b) (kind.Fixed fixed.Close) = refl
+row_bare name (at_comma v last items) (kind.Fixed fixed.Comma) = refl
+row_bare name x k = refl
 
 -- Units
 
 at_between_bare : (text : Before written) (k : Kind) → at_between code (bare_before text) k ≡ option_map bare (at_between written text k)
 at_between_bare text (kind.Lead lead.Program line) = refl
-at_between_bare text (kind.Lead lead.Function line) = refl
-at_between_bare text (kind.Lead other line) = refl
 at_between_bare text (kind.Fixed fixed.End) = refl
 at_between_bare text other = refl
-
-at_start_bare : (k : Kind) → at_start code k ≡ option_map bare (at_start written k)
-at_start_bare (kind.Fixed fixed.VarGlobal) = refl
-at_start_bare other = at_between_bare (before_units written absent) other
-
-at_heading_bare : (text : Before written) (program : Bool) (line : Line) (k : Kind) → at_heading code (bare_before text) program line k ≡ option_map bare (at_heading written text program line k)
-at_heading_bare text program line (kind.Variable (var.Name name) place) = map_if bare (may_name_unit name) (opened (top_of written text (head_of written program line name place)))
-at_heading_bare text program line (kind.Variable (var.Direct area block w byte bit) place) = refl
-at_heading_bare text program line other = refl
 
 may_name_bare : (which : Which written) (name : List ℕ) → may_name code (bare_which which) name ≡ may_name written which name
 may_name_bare formals name = refl
@@ -462,35 +275,10 @@ may_type_bare : (which : Which written) (ty : StType) → may_type code (bare_wh
 may_type_bare formals ty = refl
 may_type_bare (temps before) ty = refl
 
-at_section_bare : (top : Top written) (which : Which written) (done : Locals) (k : Kind) → at_section code (bare_top top) (bare_which which) (tree_locals done) k ≡ option_map bare (at_section written top which done k)
-at_section_bare top which done (kind.Variable (var.Name name) line) =
-    ap (λ (c : Bool). if c then Some (typing (bare_top top) (bare_which which) (tree_locals done) name line local_colon) else None) (may_name_bare which name)
-    ∙ map_if bare (may_name written which name) (typing top which done name line local_colon)
-at_section_bare top which done (kind.Variable (var.Direct area block w byte bit) line) = refl
-at_section_bare top formals done (kind.Fixed fixed.EndVar) = refl
-at_section_bare top (temps before) done (kind.Fixed fixed.EndVar) = refl
-at_section_bare top which done other = refl
-
-at_typing_bare : (top : Top written) (which : Which written) (done : Locals) (name : List ℕ) (line : Line) (x : Typing) (k : Kind) →
-    at_typing code (bare_top top) (bare_which which) (tree_locals done) name line x k ≡ option_map bare (at_typing written top which done name line x k)
-at_typing_bare top which done name line local_colon (kind.Fixed fixed.Colon) = refl
-at_typing_bare top which done name line local_colon k = refl
-at_typing_bare top which done name line local_type (kind.Fixed (fixed.Type ty)) =
-    ap (λ (c : Bool). if c then Some (typing (bare_top top) (bare_which which) (tree_locals done) name line (local_end ty)) else None) (may_type_bare which ty)
-    ∙ map_if bare (may_type written which ty) (typing top which done name line (local_end ty))
-at_typing_bare top which done name line local_type k = refl
-at_typing_bare top which done name line (local_end ty) (kind.Fixed fixed.Semicolon) = refl
-at_typing_bare top which done name line (local_end ty) k = refl
-
 leave_bare : (program : Bool) (top : Top written) (f l : Section Locals) (s : List (Frame written)) (p : Place written) →
     leave code program (bare_top top) (held tree_locals f) (held tree_locals l) (bare_stack s) (bare_place p) ≡ option_map bare (leave written program top f l s p)
 leave_bare program top f l [] (statement body) = map_if bare (ends program top.head.program) _
-leave_bare program top f l [] (part b x) = refl
-leave_bare program top f l [] (closing before x) = refl
-leave_bare program top f l [] operand = refl
-leave_bare program top f l [] (operator e) = refl
-leave_bare program top f l [] (opening e) = refl
-leave_bare program top f l (x ∷ s) p = refl
+leave_bare program top f l s p = refl
 
 at_inside_bare : (top : Top written) (f l : Section Locals) (at : Spot written) (k : Kind) → at_inside code (bare_top top) (held tree_locals f) (held tree_locals l) (bare_spot at) k ≡ option_map bare (at_inside written top f l at k)
 at_inside_bare top f l at (kind.Fixed fixed.EndProgram) = leave_bare true top f l at.stack at.place
@@ -513,36 +301,41 @@ at_opened_bare top (kind.Fixed fixed.VarInOut) = by top.head.program
 at_opened_bare top other = at_formals_done_bare top absent other
 
 pub next_bare : (q : State written) (k : Kind) → next code (bare q) k ≡ option_map bare (next written q k)
-next_bare start k = at_start_bare k
-next_bare (globals done) k = at_globals_bare done k
-next_bare (row done name line x) k = at_row_bare done name line x k
+next_bare start (kind.Fixed fixed.VarGlobal) = refl
+next_bare start other = at_between_bare (before_units written absent) other
+next_bare (globals done) (kind.Variable (var.Name name) line) = map_if bare (may_name_global name) (row done name line at_word)
+next_bare (globals done) (kind.Fixed fixed.EndVar) = refl
+next_bare (row done name line (at_end v ty)) (kind.Fixed fixed.Semicolon) = refl
+next_bare (row done name line x) (kind.Fixed fixed.Semicolon) = refl
+next_bare (row done name line x) k =
+    ap (λ (o : Option (Row code)). option_map (λ (y : Row code). row (tree_globals done) name line y) o) (row_bare name x k)
+    ∙ map_map (λ (y : Row code). row (tree_globals done) name line y) bare_row (λ (y : Row written). bare (row done name line y)) (λ y. refl) (row_step written name x k)
+    ∙ sym (map_map bare (λ (y : Row written). row done name line y) (λ (y : Row written). bare (row done name line y)) (λ y. refl) (row_step written name x k))
 next_bare (between text) k = at_between_bare text k
-next_bare (heading text program line) k = at_heading_bare text program line k
+next_bare (heading text program line) (kind.Variable (var.Name name) place) = map_if bare (may_name_unit name) (opened (top_of written text (head_of written program line name place)))
 next_bare (opened top) k = at_opened_bare top k
 next_bare (formals_done top before) k = at_formals_done_bare top before k
-next_bare (section top which done) k = at_section_bare top which done k
-next_bare (typing top which done name line x) k = at_typing_bare top which done name line x k
+next_bare (section top which done) (kind.Variable (var.Name name) line) =
+    ap (λ (c : Bool). if c then Some (typing (bare_top top) (bare_which which) (tree_locals done) name line local_colon) else None) (may_name_bare which name)
+    ∙ map_if bare (may_name written which name) (typing top which done name line local_colon)
+next_bare (section top formals done) (kind.Fixed fixed.EndVar) = refl
+next_bare (section top (temps before) done) (kind.Fixed fixed.EndVar) = refl
+next_bare (typing top which done name line local_colon) (kind.Fixed fixed.Colon) = refl
+next_bare (typing top which done name line local_type) (kind.Fixed (fixed.Type ty)) =
+    ap (λ (c : Bool). if c then Some (typing (bare_top top) (bare_which which) (tree_locals done) name line (local_end ty)) else None) (may_type_bare which ty)
+    ∙ map_if bare (may_type written which ty) (typing top which done name line (local_end ty))
+next_bare (typing top which done name line (local_end ty)) (kind.Fixed fixed.Semicolon) = refl
 next_bare (inside top before locals at) k = at_inside_bare top before locals at k
-next_bare (over text) k = refl
+next_bare q other = refl
 
 -- The level of a state
 
 level_bare : (d : ℕ) (p : Place written) (s : List (Frame written)) → level_at code d (bare_place p) (bare_stack s) ≡ level_at written d p s
 level_bare d operand [] = refl
 level_bare d operand (unary op ∷ s) = refl
-level_bare d operand (left op f ∷ s) = refl
-level_bare d operand (bracket ∷ s) = refl
-level_bare d operand (argument a ∷ s) = refl
-level_bare d operand (waiting b u ∷ s) = refl
-level_bare d operand (within b y ∷ s) = refl
 level_bare d other s = refl
-
-row_mark_bare : (done : Globals) (name : List ℕ) (line : Line) (x : Row written) → mark code (bare (row done name line x)) ≡ mark written (row done name line x)
-row_mark_bare done name line (at_value v last items count) = refl
-row_mark_bare done name line (at_value_end v last items count b) = refl
-row_mark_bare done name line x = refl
 
 pub mark_bare : (q : State written) → mark code (bare q) ≡ mark written q
 mark_bare (inside top before locals at) = level_bare at.depth at.place at.stack
-mark_bare (row done name line x) = row_mark_bare done name line x
+mark_bare (row done name line (at_value v last items count)) = refl
 mark_bare other = refl

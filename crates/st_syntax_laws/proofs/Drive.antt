@@ -5,7 +5,7 @@ use Rattle.std.proofs.lemmas.Bool.Decides.{nat_tests}
 use Rattle.st_grammar.specs.Forms.{Form, literal, variable, group, prefix, infix_of, apply, shift, select, Locals, Section}
 use Rattle.st_grammar.specs.Grammar.{prefix_level, infix_level, level, Binds, prefix_kind, spell}
 use Rattle.st_grammar.specs.Levels.{height, levels}
-use Rattle.st_grammar.specs.inner.Machine.{written, Frame, unary, left, bracket, argument, waiting, within, only, shifted, shifted_by, gate, first, second, Place, operand, operator, Spot, Top, State, inside}
+use Rattle.st_grammar.specs.inner.Machine.{written, Frame, unary, left, bracket, argument, only, shifted, shifted_by, gate, first, second, Place, operand, operator, Spot, Top, State, inside}
 use Rattle.st_grammar.specs.inner.Steps.{spot, weakest, limit, Reduced, reduced_to, reduce, with_prefix, waits, leave, next, level_at, mark, Passed, shallower, passes}
 use Rattle.st_grammar.specs.declared.kind.Fixed.TheVariants as fixed
 use Rattle.st_grammar.specs.declared.kind.Kind.{Kind}
@@ -36,49 +36,12 @@ go w ks o = option_and_then (λ r. passes written r (mark written r ∷ w) ks) o
 
 pub prefix_above : (u : Prefix) (op : BinaryOp) → prefix_level u < infix_level op
 prefix_above before.Minus binary.Mul = omega arith
-prefix_above before.Minus binary.Div = omega arith
-prefix_above before.Minus binary.Mod = omega arith
-prefix_above before.Minus binary.Add = omega arith
-prefix_above before.Minus binary.Sub = omega arith
-prefix_above before.Minus binary.Lt = omega arith
-prefix_above before.Minus binary.Gt = omega arith
-prefix_above before.Minus binary.Le = omega arith
-prefix_above before.Minus binary.Ge = omega arith
-prefix_above before.Minus binary.Eq = omega arith
-prefix_above before.Minus binary.Ne = omega arith
-prefix_above before.Minus binary.And = omega arith
-prefix_above before.Minus binary.Xor = omega arith
-prefix_above before.Minus binary.Or = omega arith
 prefix_above before.Not binary.Mul = omega arith
-prefix_above before.Not binary.Div = omega arith
-prefix_above before.Not binary.Mod = omega arith
-prefix_above before.Not binary.Add = omega arith
-prefix_above before.Not binary.Sub = omega arith
-prefix_above before.Not binary.Lt = omega arith
-prefix_above before.Not binary.Gt = omega arith
-prefix_above before.Not binary.Le = omega arith
-prefix_above before.Not binary.Ge = omega arith
-prefix_above before.Not binary.Eq = omega arith
-prefix_above before.Not binary.Ne = omega arith
-prefix_above before.Not binary.And = omega arith
-prefix_above before.Not binary.Xor = omega arith
-prefix_above before.Not binary.Or = omega arith
+prefix_above u op = omega arith
 
 pub infix_most : (op : BinaryOp) → infix_level op ≤ weakest
 infix_most binary.Mul = omega arith
-infix_most binary.Div = omega arith
-infix_most binary.Mod = omega arith
-infix_most binary.Add = omega arith
-infix_most binary.Sub = omega arith
-infix_most binary.Lt = omega arith
-infix_most binary.Gt = omega arith
-infix_most binary.Le = omega arith
-infix_most binary.Ge = omega arith
-infix_most binary.Eq = omega arith
-infix_most binary.Ne = omega arith
-infix_most binary.And = omega arith
-infix_most binary.Xor = omega arith
-infix_most binary.Or = omega arith
+infix_most op = omega arith
 
 pub infix_some : (op : BinaryOp) → 0 < infix_level op
 infix_some op = let h = prefix_above before.Not op in omega arith
@@ -88,14 +51,9 @@ prefix_most before.Minus = omega arith
 prefix_most before.Not = omega arith
 
 pub level_most : (f : Form) → level f ≤ weakest
-level_most (literal c) = omega arith
-level_most (variable v line) = omega arith
-level_most (group f) = omega arith
 level_most (prefix op f) = prefix_most op
 level_most (infix_of op f g) = infix_most op
-level_most (apply op f) = omega arith
-level_most (shift op f g) = omega arith
-level_most (select f g h) = omega arith
+level_most f = omega arith
 
 pub le_true : (a b : ℕ) → a ≤ b → nat_le a b ≡ true
 le_true a b h = grind (arith, nat_tests)
@@ -134,16 +92,12 @@ past_left u d op a s f other h = rw (le_true (infix_level op) weakest (infix_mos
 
 -- where the place takes operands of a level, no operator before it binds as tightly
 unmoved : (op : BinaryOp) (d : ℕ) (s : List (Frame written)) (f : Form) → infix_level op ≤ limit written s → reduce written (infix_level op) d s f ≡ reduced_to written d s f
-unmoved op d [] f h = refl
 unmoved op d (unary u ∷ s) f h = absurd (let k = prefix_above u op in omega arith)
 unmoved op d (left o a ∷ s) f h = rw (le_false (infix_level o) (infix_level op) (strict (infix_level op) (infix_level o) (infix_some o) h)) refl
   where
     strict : (j k : ℕ) → 0 < k → j ≤ k - 1 → j < k
     strict j k p h = omega arith
-unmoved op d (bracket ∷ s) f h = refl
-unmoved op d (argument a ∷ s) f h = refl
-unmoved op d (waiting b x ∷ s) f h = refl
-unmoved op d (within b x ∷ s) f h = refl
+unmoved op d s f h = refl
 
 -- an operator before its operand
 prefix_next : (u : Unit_read) (d : ℕ) (s : List (Frame written)) (op : Prefix) →

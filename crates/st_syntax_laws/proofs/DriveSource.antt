@@ -22,20 +22,18 @@ use Rattle.st_tree.specs.declared.raw.RawVar.TheVariants as var
 
 abbrev HasItem : Items → Type 0
 HasItem no_item = ⊥
-HasItem (single others b) = Unit {0}
-HasItem (times others count b) = Unit {0}
+HasItem other = Unit {0}
 
 items_all : (done : Globals) (name : List ℕ) (line : Line) (v : RawVar × Line) (last : ℕ) (items : Items) (more : List Kind) (w : List ℕ) → HasItem items →
     passes written (row done name line (at_item v last no_item)) w (spell_items items more) ≡ passes written (row done name line (at_comma v last items)) (levels_items items w) more
 items_all done name line v last no_item more w h = absurd h
-items_all done name line v last (single no_item b) more w h = refl
 items_all done name line v last (single (single o a) b) more w h = items_all done name line v last (single o a) (kind.Fixed fixed.Comma ∷ kind.Literal (lit.Byte b) ∷ more) w tt
 items_all done name line v last (single (times o n a) b) more w h = items_all done name line v last (times o n a) (kind.Fixed fixed.Comma ∷ kind.Literal (lit.Byte b) ∷ more) w tt
-items_all done name line v last (times no_item count b) more w h = refl
 items_all done name line v last (times (single o a) count b) more w h =
     items_all done name line v last (single o a) (kind.Fixed fixed.Comma ∷ kind.Literal (lit.Decimal count) ∷ kind.Fixed fixed.Open ∷ kind.Literal (lit.Byte b) ∷ kind.Fixed fixed.Close ∷ more) w tt
 items_all done name line v last (times (times o n a) count b) more w h =
     items_all done name line v last (times o n a) (kind.Fixed fixed.Comma ∷ kind.Literal (lit.Decimal count) ∷ kind.Fixed fixed.Open ∷ kind.Literal (lit.Byte b) ∷ kind.Fixed fixed.Close ∷ more) w tt
+items_all done name line v last items more w h = refl
 
 -- the pass after a token of a global
 abbrev go_row : Globals → List ℕ → Line → List ℕ → List Kind → Option (Row written) → Option (Passed written)

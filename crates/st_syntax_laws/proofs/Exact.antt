@@ -37,10 +37,9 @@ passes-append q w (k ∷ xs) ys = by (next written q k) (λ r. passes-append r (
 
 -- the levels of the last tokens stand before the others
 drop_tail : (n : ℕ) (xs ys : List ℕ) (y : ℕ) → drop n xs ≡ y ∷ ys → drop (suc n) xs ≡ ys
-drop_tail zero [] ys y h = absurd (let e : [] ≡ y ∷ ys = h in cc)
 drop_tail zero (x ∷ xs) ys y h = cc
-drop_tail (suc n) [] ys y h = absurd (let e : [] ≡ y ∷ ys = h in cc)
 drop_tail (suc n) (x ∷ xs) ys y h = drop_tail n xs ys y h
+drop_tail n xs ys y h = absurd (let e : [] ≡ y ∷ ys = h in cc)
 
 dropped : (q : State written) (w : List ℕ) (ks : List Kind) → IfSome (passes written q w ks) (λ r. drop (length ks) r.levels ≡ w)
 dropped q w [] = refl

@@ -1,5 +1,5 @@
 -- Each state of the pass can be finished: tokens lead from it to the end of a text.
-use Rattle.std.proofs.Common.{◌≡◌, ℕ, suc, ◌-◌, ◌<◌, ◌≤◌, Bool, true, false, List, [], ◌∷◌, ◌++◌, Option, Some, None, refl, ap, ◌∙◌, arith}
+use Rattle.std.proofs.Common.{◌≡◌, ℕ, ◌-◌, ◌<◌, ◌≤◌, Bool, true, false, List, [], ◌∷◌, ◌++◌, Option, Some, None, refl, ap, ◌∙◌, arith}
 use Rattle.std.specs.Prelude.{pos, codes, ◌||◌, if◌then◌else◌, option_map}
 use Rattle.s7_base.specs.declared.reason.Line.{Line}
 use Rattle.memory_areas.specs.declared.place.AreaName.TheVariants.{Db}
@@ -7,10 +7,10 @@ use Rattle.s7_base.specs.declared.word.Width.TheVariants as width
 use Rattle.st_syntax_laws.proofs.Drive.{Unit_read, within_unit, run, go, Lets, close, comma, past_unary, past_left, infix_some}
 use Rattle.st_syntax_laws.proofs.DriveSource.{with_unit, unit_left}
 use Rattle.st_syntax_laws.proofs.Kept.{InStatements, InExpr, PlaceFits, Shaped}
-use Rattle.st_grammar.specs.Forms.{Form, literal, group, prefix, infix_of, apply, shift, select, Actuals, actual, Labels, label, more_labels, Items, single, times, no_unit, none, local, Statement, choice, choice_else, cases, cases_else, loop, Statements, further, arm, CaseArms, case_arm, Globals, GlobalType, plain, bytes, no_item, Locals, Section, absent, present}
+use Rattle.st_grammar.specs.Forms.{Form, literal, group, prefix, infix_of, apply, shift, select, Actuals, Labels, label, Items, no_unit, none, Statement, Statements, CaseArms, Globals, GlobalType, plain, Locals, Section, absent}
 use Rattle.st_grammar.specs.Grammar.{infix_level, level, Binds, end_word}
 use Rattle.st_tree.specs.Naming.{is_free, may_name_global, names_block}
-use Rattle.st_grammar.specs.inner.Machine.{written, Begun, only, shifted, shifted_by, gate, first, second, to_var, to_area, area_value, test, selector, loop_test, choosing, otherwise, looping, selecting, otherwise_case, Frame, unary, left, bracket, argument, waiting, within, Part, target, write_open, first_formal, next_formal, becoming, giving, given, first_label, next_label, labelled, Place, statement, part, closing, operand, operator, opening, Row, at_word, at_place, at_colon, at_type, at_square, at_zero, at_dots, at_last, at_close, at_of, at_byte, at_becomes, at_open, at_item, at_count, at_value, at_value_end, at_comma, at_end, Typing, local_colon, local_type, local_end, Before, Top, Which, formals, temps, State, start, globals, row, between, heading, opened, formals_done, section, typing, inside, over}
+use Rattle.st_grammar.specs.inner.Machine.{written, Begun, only, shifted, shifted_by, gate, first, second, to_var, to_area, area_value, test, selector, loop_test, choosing, otherwise, looping, selecting, otherwise_case, Frame, unary, left, bracket, argument, waiting, within, Part, target, write_open, first_formal, next_formal, becoming, giving, given, labelled, Place, statement, part, closing, operand, operator, opening, Row, at_word, at_place, at_colon, at_type, at_square, at_zero, at_dots, at_last, at_close, at_of, at_byte, at_becomes, at_open, at_item, at_count, at_value, at_value_end, at_comma, at_end, Typing, local_colon, local_type, local_end, Before, Top, Which, formals, temps, State, start, globals, row, between, heading, opened, formals_done, section, typing, inside, over}
 use Rattle.st_grammar.specs.inner.Steps.{shallower, limit, no_spot, passes}
 use Rattle.st_grammar.specs.declared.kind.Fixed.TheVariants as fixed
 use Rattle.st_grammar.specs.declared.kind.Function.{Function}
@@ -49,40 +49,26 @@ abbrev EndsIn : Unit_read → ℕ → List (Frame written) → Place written →
 EndsIn u d s p w = Ends (within_unit u d s p) w
 
 -- the state after some tokens is finished
-by_tokens : (front : List Kind) (q r : State written) (w v : List ℕ) → ((ks : List Kind) → passes written q w (front ++ ks) ≡ passes written r v ks) → Ends r v → Ends q w
-by_tokens front q r w v step e = record { more = front ++ e.more; text = e.text; levels = e.levels; reaches = step e.more ∙ e.reaches }
+by_tokens : {q r : State written} {w v : List ℕ} (front : List Kind) → ((ks : List Kind) → passes written q w (front ++ ks) ≡ passes written r v ks) → Ends r v → Ends q w
+by_tokens front step e = record { more = front ++ e.more; text = e.text; levels = e.levels; reaches = step e.more ∙ e.reaches }
+
+between_ends : {text : Before written} {w : List ℕ} → Ends (between text) w
+between_ends {text = text} {w = w} = record { more = kind.Fixed fixed.End ∷ []; text = text; levels = 0 ∷ w; reaches = refl }
 
 statement_ends : (u : Unit_read) (d : ℕ) (s : List (Frame written)) (body : Statements) (w : List ℕ) → InStatements s → EndsIn u d s (statement body) w
-statement_ends u d [] body w h = record {
-  more = end_word u.top.head.program ∷ kind.Fixed fixed.End ∷ [];
-  text = with_unit u.top.text u.top.head u.formals u.locals body;
-  levels = 0 ∷ 0 ∷ w;
-  reaches = unit_left u.top.text u.top.head u.formals u.locals d body u.top.head.program (kind.Fixed fixed.End ∷ []) w refl;
-}
-statement_ends u d (within b (choosing arms e) ∷ s) body w h =
-    by_tokens (kind.Fixed fixed.EndIf ∷ semicolon ∷ []) _ (within_unit u (shallower d) s (statement (further b.before (choice b.line (arm arms e body))))) w (shallower d ∷ shallower d ∷ w) (λ ks. refl)
-    (statement_ends u (shallower d) s (further b.before (choice b.line (arm arms e body))) (shallower d ∷ shallower d ∷ w) h.2)
-statement_ends u d (within b (otherwise arms) ∷ s) body w h =
-    by_tokens (kind.Fixed fixed.EndIf ∷ semicolon ∷ []) _ (within_unit u (shallower d) s (statement (further b.before (choice_else b.line arms body)))) w (shallower d ∷ shallower d ∷ w) (λ ks. refl)
-    (statement_ends u (shallower d) s (further b.before (choice_else b.line arms body)) (shallower d ∷ shallower d ∷ w) h.2)
-statement_ends u d (within b (looping e) ∷ s) body w h =
-    by_tokens (kind.Fixed fixed.EndWhile ∷ semicolon ∷ []) _ (within_unit u (shallower d) s (statement (further b.before (loop b.line e body)))) w (shallower d ∷ shallower d ∷ w) (λ ks. refl)
-    (statement_ends u (shallower d) s (further b.before (loop b.line e body)) (shallower d ∷ shallower d ∷ w) h.2)
+statement_ends u d [] body w h =
+    by_tokens (end_word u.top.head.program ∷ []) (λ ks. unit_left u.top.text u.top.head u.formals u.locals d body u.top.head.program ks w refl) between_ends
+statement_ends u d (within b (choosing arms e) ∷ s) body w h = by_tokens (kind.Fixed fixed.EndIf ∷ semicolon ∷ []) (λ ks. refl) (statement_ends u (shallower d) s _ _ h.2)
+statement_ends u d (within b (otherwise arms) ∷ s) body w h = by_tokens (kind.Fixed fixed.EndIf ∷ semicolon ∷ []) (λ ks. refl) (statement_ends u (shallower d) s _ _ h.2)
+statement_ends u d (within b (looping e) ∷ s) body w h = by_tokens (kind.Fixed fixed.EndWhile ∷ semicolon ∷ []) (λ ks. refl) (statement_ends u (shallower d) s _ _ h.2)
 statement_ends u d (within b (selecting e arms labels) ∷ s) body w h =
-    by_tokens (kind.Fixed fixed.EndCase ∷ semicolon ∷ []) _ (within_unit u (shallower d) s (statement (further b.before (cases b.line e (case_arm arms labels body))))) w (shallower d ∷ shallower d ∷ w) (λ ks. refl)
-    (statement_ends u (shallower d) s (further b.before (cases b.line e (case_arm arms labels body))) (shallower d ∷ shallower d ∷ w) h.2)
+    by_tokens (kind.Fixed fixed.EndCase ∷ semicolon ∷ []) (λ ks. refl) (statement_ends u (shallower d) s _ _ h.2)
 statement_ends u d (within b (otherwise_case e arms) ∷ s) body w h =
-    by_tokens (kind.Fixed fixed.EndCase ∷ semicolon ∷ []) _ (within_unit u (shallower d) s (statement (further b.before (cases_else b.line e arms body)))) w (shallower d ∷ shallower d ∷ w) (λ ks. refl)
-    (statement_ends u (shallower d) s (further b.before (cases_else b.line e arms body)) (shallower d ∷ shallower d ∷ w) h.2)
-statement_ends u d (unary op ∷ s) body w h = absurd h
-statement_ends u d (left op f ∷ s) body w h = absurd h
-statement_ends u d (bracket ∷ s) body w h = absurd h
-statement_ends u d (argument a ∷ s) body w h = absurd h
-statement_ends u d (waiting b x ∷ s) body w h = absurd h
+    by_tokens (kind.Fixed fixed.EndCase ∷ semicolon ∷ []) (λ ks. refl) (statement_ends u (shallower d) s _ _ h.2)
+statement_ends u d s body w h = absurd h
 
-closing_ends : (u : Unit_read) (d : ℕ) (s : List (Frame written)) (before : Statements) (x : Statement) (w : List ℕ) → InStatements s → EndsIn u d s (closing before x) w
-closing_ends u d s before x w h =
-    by_tokens (semicolon ∷ []) _ (within_unit u d s (statement (further before x))) w (d ∷ w) (λ ks. refl) (statement_ends u d s (further before x) (d ∷ w) h)
+closing_ends : {u : Unit_read} {d : ℕ} {s : List (Frame written)} {before : Statements} {x : Statement} {w : List ℕ} → InStatements s → EndsIn u d s (closing before x) w
+closing_ends h = by_tokens (semicolon ∷ []) (λ ks. refl) (statement_ends _ _ _ _ _ h)
 
 -- Expressions
 
@@ -103,18 +89,17 @@ record OperatorEnds (u : Unit_read) (d : ℕ) (s : List (Frame written)) (f : Fo
   closes : Closes token
   reaches : run u d s (operator f) w (token ∷ rest) ≡ Some (record { state = over text; levels = levels })
 
-operator_by : (token : Kind) (front : List Kind) (u : Unit_read) (d : ℕ) (s : List (Frame written)) (f : Form) (r : State written) (w v : List ℕ) → Closes token
+operator_by : {u : Unit_read} {d : ℕ} {s : List (Frame written)} {f : Form} {r : State written} {w v : List ℕ} (token : Kind) (front : List Kind) → Closes token
     → ((ks : List Kind) → run u d s (operator f) w (token ∷ (front ++ ks)) ≡ passes written r v ks) → Ends r v → OperatorEnds u d s f w
-operator_by token front u d s f r w v c step e = record { token = token; rest = front ++ e.more; text = e.text; levels = e.levels; closes = c; reaches = step e.more ∙ e.reaches }
+operator_by token front c step e = record { token = token; rest = front ++ e.more; text = e.text; levels = e.levels; closes = c; reaches = step e.more ∙ e.reaches }
 
 below_one : (j n : ℕ) → 0 < n → j ≤ n - 1 → j < n
 below_one j n p q = omega arith
 
-as_ends : (u : Unit_read) (d : ℕ) (s : List (Frame written)) (f : Form) (w : List ℕ) → OperatorEnds u d s f w → EndsIn u d s (operator f) w
-as_ends u d s f w e = record { more = e.token ∷ e.rest; text = e.text; levels = e.levels; reaches = e.reaches }
+as_ends : {u : Unit_read} {d : ℕ} {s : List (Frame written)} {f : Form} {w : List ℕ} → OperatorEnds u d s f w → EndsIn u d s (operator f) w
+as_ends e = record { more = e.token ∷ e.rest; text = e.text; levels = e.levels; reaches = e.reaches }
 
 operator_ends : (u : Unit_read) (d : ℕ) (s : List (Frame written)) (f : Form) (w : List ℕ) → InExpr s → Binds f → level f ≤ limit written s → OperatorEnds u d s f w
-operator_ends u d [] f w h b fits = absurd h
 operator_ends u d (unary op ∷ s) f w h b fits =
     let e = operator_ends u (shallower d) s (prefix op f) w h.1 (fits, b) h.0 in
     record {
@@ -135,255 +120,183 @@ operator_ends u d (left op g ∷ s) f w h b fits =
       closes = e.closes;
       reaches = ap (λ (o : Option (State written)). go w e.rest o) (past_left u d op g s f e.token (lets (infix_level op) e.token e.closes)) ∙ e.reaches;
     }
-operator_ends u d (bracket ∷ s) f w h b fits =
-    operator_by close [] u d (bracket ∷ s) f (within_unit u (shallower d) s (operator (group f))) w (shallower d ∷ w) tt (λ ks. refl)
-    (as_ends u (shallower d) s (group f) (shallower d ∷ w) (operator_ends u (shallower d) s (group f) (shallower d ∷ w) h b (omega arith)))
+operator_ends u d (bracket ∷ s) f w h b fits = operator_by close [] tt (λ ks. refl) (as_ends (operator_ends u (shallower d) s (group f) _ h b (omega arith)))
 operator_ends u d (argument (only op) ∷ s) f w h b fits =
-    operator_by close [] u d (argument (only op) ∷ s) f (within_unit u (shallower d) s (operator (apply op f))) w (shallower d ∷ w) tt (λ ks. refl)
-    (as_ends u (shallower d) s (apply op f) (shallower d ∷ w) (operator_ends u (shallower d) s (apply op f) (shallower d ∷ w) h.1 b (omega arith)))
+    operator_by close [] tt (λ ks. refl) (as_ends (operator_ends u (shallower d) s (apply op f) _ h.1 b (omega arith)))
 operator_ends u d (argument (shifted op) ∷ s) f w h b fits =
-    operator_by comma (zero_kind ∷ close ∷ []) u d (argument (shifted op) ∷ s) f (within_unit u (shallower d) s (operator (shift op f filler))) w (shallower d ∷ d ∷ d ∷ w) tt (λ ks. refl)
-    (as_ends u (shallower d) s (shift op f filler) (shallower d ∷ d ∷ d ∷ w) (operator_ends u (shallower d) s (shift op f filler) (shallower d ∷ d ∷ d ∷ w) h.1 (b, refl) (omega arith)))
+    operator_by comma (zero_kind ∷ close ∷ []) tt (λ ks. refl) (as_ends (operator_ends u (shallower d) s (shift op f filler) _ h.1 (b, refl) (omega arith)))
 operator_ends u d (argument (shifted_by op g) ∷ s) f w h b fits =
-    operator_by close [] u d (argument (shifted_by op g) ∷ s) f (within_unit u (shallower d) s (operator (shift op g f))) w (shallower d ∷ w) tt (λ ks. refl)
-    (as_ends u (shallower d) s (shift op g f) (shallower d ∷ w) (operator_ends u (shallower d) s (shift op g f) (shallower d ∷ w) h.1 (h.0, b) (omega arith)))
+    operator_by close [] tt (λ ks. refl) (as_ends (operator_ends u (shallower d) s (shift op g f) _ h.1 (h.0, b) (omega arith)))
 operator_ends u d (argument gate ∷ s) f w h b fits =
-    operator_by comma (zero_kind ∷ comma ∷ zero_kind ∷ close ∷ []) u d (argument gate ∷ s) f (within_unit u (shallower d) s (operator (select f filler filler))) w (shallower d ∷ d ∷ d ∷ d ∷ d ∷ w) tt (λ ks. refl)
-    (as_ends u (shallower d) s (select f filler filler) (shallower d ∷ d ∷ d ∷ d ∷ d ∷ w) (operator_ends u (shallower d) s (select f filler filler) (shallower d ∷ d ∷ d ∷ d ∷ d ∷ w) h.1 (b, refl, refl) (omega arith)))
+    operator_by comma (zero_kind ∷ comma ∷ zero_kind ∷ close ∷ []) tt (λ ks. refl) (as_ends (operator_ends u (shallower d) s (select f filler filler) _ h.1 (b, refl, refl) (omega arith)))
 operator_ends u d (argument (first g) ∷ s) f w h b fits =
-    operator_by comma (zero_kind ∷ close ∷ []) u d (argument (first g) ∷ s) f (within_unit u (shallower d) s (operator (select g f filler))) w (shallower d ∷ d ∷ d ∷ w) tt (λ ks. refl)
-    (as_ends u (shallower d) s (select g f filler) (shallower d ∷ d ∷ d ∷ w) (operator_ends u (shallower d) s (select g f filler) (shallower d ∷ d ∷ d ∷ w) h.1 (h.0, b, refl) (omega arith)))
+    operator_by comma (zero_kind ∷ close ∷ []) tt (λ ks. refl) (as_ends (operator_ends u (shallower d) s (select g f filler) _ h.1 (h.0, b, refl) (omega arith)))
 operator_ends u d (argument (second g e) ∷ s) f w h b fits =
-    operator_by close [] u d (argument (second g e) ∷ s) f (within_unit u (shallower d) s (operator (select g e f))) w (shallower d ∷ w) tt (λ ks. refl)
-    (as_ends u (shallower d) s (select g e f) (shallower d ∷ w) (operator_ends u (shallower d) s (select g e f) (shallower d ∷ w) h.1 (h.0.0, h.0.1, b) (omega arith)))
-operator_ends u d (waiting x (to_var v) ∷ s) f w h b fits =
-    operator_by semicolon [] u d (waiting x (to_var v) ∷ s) f _ w (d ∷ w) tt (λ ks. refl) (statement_ends u d s _ (d ∷ w) h.2)
-operator_ends u d (waiting x (to_area a) ∷ s) f w h b fits =
-    operator_by comma (zero_kind ∷ close ∷ []) u d (waiting x (to_area a) ∷ s) f _ w (shallower d ∷ d ∷ d ∷ w) tt (λ ks. refl) (closing_ends u (shallower d) s x.before _ (shallower d ∷ d ∷ d ∷ w) h.2)
-operator_ends u d (waiting x (area_value a p) ∷ s) f w h b fits =
-    operator_by close [] u d (waiting x (area_value a p) ∷ s) f _ w (shallower d ∷ w) tt (λ ks. refl) (closing_ends u (shallower d) s x.before _ (shallower d ∷ w) h.2)
-operator_ends u d (waiting x (test arms) ∷ s) f w h b fits =
-    operator_by (kind.Fixed fixed.Then) (kind.Fixed fixed.EndIf ∷ []) u d (waiting x (test arms) ∷ s) f _ w (shallower d ∷ d ∷ w) tt (λ ks. refl) (closing_ends u (shallower d) s x.before _ (shallower d ∷ d ∷ w) h.2)
+    operator_by close [] tt (λ ks. refl) (as_ends (operator_ends u (shallower d) s (select g e f) _ h.1 (h.0.0, h.0.1, b) (omega arith)))
+operator_ends u d (waiting x (to_var v) ∷ s) f w h b fits = operator_by semicolon [] tt (λ ks. refl) (statement_ends u d s _ _ h.2)
+operator_ends u d (waiting x (to_area a) ∷ s) f w h b fits = operator_by comma (zero_kind ∷ close ∷ []) tt (λ ks. refl) (closing_ends h.2)
+operator_ends u d (waiting x (area_value a p) ∷ s) f w h b fits = operator_by close [] tt (λ ks. refl) (closing_ends h.2)
+operator_ends u d (waiting x (test arms) ∷ s) f w h b fits = operator_by (kind.Fixed fixed.Then) (kind.Fixed fixed.EndIf ∷ []) tt (λ ks. refl) (closing_ends h.2)
 operator_ends u d (waiting x selector ∷ s) f w h b fits =
-    operator_by (kind.Fixed fixed.Of) (zero_kind ∷ kind.Fixed fixed.Colon ∷ kind.Fixed fixed.EndCase ∷ []) u d (waiting x selector ∷ s) f _ w (shallower d ∷ d ∷ d ∷ d ∷ w) tt (λ ks. refl)
-    (closing_ends u (shallower d) s x.before _ (shallower d ∷ d ∷ d ∷ d ∷ w) h.2)
-operator_ends u d (waiting x loop_test ∷ s) f w h b fits =
-    operator_by (kind.Fixed fixed.Do) (kind.Fixed fixed.EndWhile ∷ []) u d (waiting x loop_test ∷ s) f _ w (shallower d ∷ d ∷ w) tt (λ ks. refl) (closing_ends u (shallower d) s x.before _ (shallower d ∷ d ∷ w) h.2)
-operator_ends u d (within x y ∷ s) f w h b fits = absurd h
+    operator_by (kind.Fixed fixed.Of) (zero_kind ∷ kind.Fixed fixed.Colon ∷ kind.Fixed fixed.EndCase ∷ []) tt (λ ks. refl) (closing_ends h.2)
+operator_ends u d (waiting x loop_test ∷ s) f w h b fits = operator_by (kind.Fixed fixed.Do) (kind.Fixed fixed.EndWhile ∷ []) tt (λ ks. refl) (closing_ends h.2)
+operator_ends u d s f w h b fits = absurd h
 
-operand_ends : (u : Unit_read) (d : ℕ) (s : List (Frame written)) (w : List ℕ) → InExpr s → EndsIn u d s operand w
-operand_ends u d s w h =
-    by_tokens (zero_kind ∷ []) _ (within_unit u d s (operator filler)) w (d ∷ w) (λ ks. refl) (as_ends u d s filler (d ∷ w) (operator_ends u d s filler (d ∷ w) h refl (omega arith)))
+operand_ends : {u : Unit_read} {d : ℕ} {s : List (Frame written)} {w : List ℕ} → InExpr s → EndsIn u d s operand w
+operand_ends h = by_tokens (zero_kind ∷ []) (λ ks. refl) (as_ends (operator_ends _ _ _ filler _ h refl (omega arith)))
 
 opening_ends : (u : Unit_read) (d : ℕ) (s : List (Frame written)) (f : Function) (w : List ℕ) → InExpr s → EndsIn u d s (opening f) w
-opening_ends u d s (function.One op) w h =
-    by_tokens (kind.Fixed fixed.Open ∷ []) _ (within_unit u (suc d) (argument (only op) ∷ s) operand) w (suc d ∷ w) (λ ks. refl) (operand_ends u (suc d) (argument (only op) ∷ s) (suc d ∷ w) (tt, h))
-opening_ends u d s (function.Shift op) w h =
-    by_tokens (kind.Fixed fixed.Open ∷ []) _ (within_unit u (suc d) (argument (shifted op) ∷ s) operand) w (suc d ∷ w) (λ ks. refl) (operand_ends u (suc d) (argument (shifted op) ∷ s) (suc d ∷ w) (tt, h))
-opening_ends u d s function.Select w h =
-    by_tokens (kind.Fixed fixed.Open ∷ []) _ (within_unit u (suc d) (argument gate ∷ s) operand) w (suc d ∷ w) (λ ks. refl) (operand_ends u (suc d) (argument gate ∷ s) (suc d ∷ w) (tt, h))
+opening_ends u d s (function.One op) w h = by_tokens (kind.Fixed fixed.Open ∷ []) (λ ks. refl) (operand_ends (tt, h))
+opening_ends u d s f w h = by_tokens (kind.Fixed fixed.Open ∷ []) (λ ks. refl) (operand_ends (tt, h))
 
 -- Parts of statements
 
-given_ends : (u : Unit_read) (d : ℕ) (s : List (Frame written)) (b : Begun written) (name : List ℕ) (actuals : Actuals) (w : List ℕ) → InStatements s → EndsIn u d s (part b (given name actuals)) w
-given_ends u d s b name actuals w h = by_tokens (close ∷ []) _ _ w (shallower d ∷ w) (λ ks. refl) (closing_ends u (shallower d) s b.before _ (shallower d ∷ w) h)
+given_ends : {u : Unit_read} {d : ℕ} {s : List (Frame written)} {b : Begun written} {name : List ℕ} {actuals : Actuals} {w : List ℕ} → InStatements s → EndsIn u d s (part b (given name actuals)) w
+given_ends h = by_tokens (close ∷ []) (λ ks. refl) (closing_ends h)
 
-giving_ends : (u : Unit_read) (d : ℕ) (s : List (Frame written)) (b : Begun written) (name : List ℕ) (actuals : Actuals) (formal : List ℕ × Line) (w : List ℕ) → InStatements s → EndsIn u d s (part b (giving name actuals formal)) w
-giving_ends u d s b name actuals formal w h =
-    by_tokens (kind.Variable (var.Name []) b.line ∷ []) _ (within_unit u d s (part b (given name (actual actuals formal.0 formal.1 (var.Name []) b.line)))) w (d ∷ w) (λ ks. refl)
-    (given_ends u d s b name (actual actuals formal.0 formal.1 (var.Name []) b.line) (d ∷ w) h)
+giving_ends : {u : Unit_read} {d : ℕ} {s : List (Frame written)} {b : Begun written} {name : List ℕ} {actuals : Actuals} {formal : List ℕ × Line} {w : List ℕ} → InStatements s → EndsIn u d s (part b (giving name actuals formal)) w
+giving_ends {b = b} h = by_tokens (kind.Variable (var.Name []) b.line ∷ []) (λ ks. refl) (given_ends h)
 
-becoming_ends : (u : Unit_read) (d : ℕ) (s : List (Frame written)) (b : Begun written) (name : List ℕ) (actuals : Actuals) (formal : List ℕ × Line) (w : List ℕ) → InStatements s → EndsIn u d s (part b (becoming name actuals formal)) w
-becoming_ends u d s b name actuals formal w h =
-    by_tokens (kind.Fixed fixed.Becomes ∷ []) _ (within_unit u d s (part b (giving name actuals formal))) w (d ∷ w) (λ ks. refl) (giving_ends u d s b name actuals formal (d ∷ w) h)
+becoming_ends : {u : Unit_read} {d : ℕ} {s : List (Frame written)} {b : Begun written} {name : List ℕ} {actuals : Actuals} {formal : List ℕ × Line} {w : List ℕ} → InStatements s → EndsIn u d s (part b (becoming name actuals formal)) w
+becoming_ends h = by_tokens (kind.Fixed fixed.Becomes ∷ []) (λ ks. refl) (giving_ends h)
 
-labelled_ends : (u : Unit_read) (d : ℕ) (s : List (Frame written)) (b : Begun written) (e : Form) (arms : CaseArms) (labels : Labels) (w : List ℕ) → InStatements s → EndsIn u d s (part b (labelled e arms labels)) w
-labelled_ends u d s b e arms labels w h =
-    by_tokens (kind.Fixed fixed.Colon ∷ kind.Fixed fixed.EndCase ∷ []) _ _ w (shallower d ∷ d ∷ w) (λ ks. refl) (closing_ends u (shallower d) s b.before _ (shallower d ∷ d ∷ w) h)
+labelled_ends : {u : Unit_read} {d : ℕ} {s : List (Frame written)} {b : Begun written} {e : Form} {arms : CaseArms} {labels : Labels} {w : List ℕ} → InStatements s → EndsIn u d s (part b (labelled e arms labels)) w
+labelled_ends h = by_tokens (kind.Fixed fixed.Colon ∷ kind.Fixed fixed.EndCase ∷ []) (λ ks. refl) (closing_ends h)
 
 part_ends : (u : Unit_read) (d : ℕ) (s : List (Frame written)) (b : Begun written) (x : Part written) (w : List ℕ) → PlaceFits s (part b x) → EndsIn u d s (part b x) w
-part_ends u d s b (target v) w h =
-    by_tokens (kind.Fixed fixed.Becomes ∷ []) _ (within_unit u d (waiting b (to_var v) ∷ s) operand) w (d ∷ w) (λ ks. refl) (operand_ends u d (waiting b (to_var v) ∷ s) (d ∷ w) (h.1, tt, h.0))
-part_ends u d s b (write_open a) w h =
-    by_tokens (kind.Fixed fixed.Open ∷ []) _ (within_unit u (suc d) (waiting b (to_area a) ∷ s) operand) w (suc d ∷ w) (λ ks. refl) (operand_ends u (suc d) (waiting b (to_area a) ∷ s) (suc d ∷ w) (h.1, tt, h.0))
-part_ends u d s b (first_formal name) w h = by_tokens (close ∷ []) _ _ w (shallower d ∷ w) (λ ks. refl) (closing_ends u (shallower d) s b.before _ (shallower d ∷ w) h.0)
-part_ends u d s b (next_formal name actuals) w h =
-    by_tokens (kind.Variable (var.Name []) b.line ∷ []) _ (within_unit u d s (part b (becoming name actuals ([], b.line)))) w (d ∷ w) (λ ks. refl) (becoming_ends u d s b name actuals ([], b.line) (d ∷ w) h.0)
-part_ends u d s b (becoming name actuals formal) w h = becoming_ends u d s b name actuals formal w h.0
-part_ends u d s b (giving name actuals formal) w h = giving_ends u d s b name actuals formal w h.0
-part_ends u d s b (given name actuals) w h = given_ends u d s b name actuals w h.0
-part_ends u d s b (first_label e arms) w h =
-    by_tokens (zero_kind ∷ []) _ (within_unit u d s (part b (labelled e arms filler_label))) w (d ∷ w) (λ ks. refl) (labelled_ends u d s b e arms filler_label (d ∷ w) h.0)
-part_ends u d s b (next_label e arms labels) w h =
-    by_tokens (zero_kind ∷ []) _ (within_unit u d s (part b (labelled e arms (more_labels labels (lit.Typed type.Bool (pos 0)))))) w (d ∷ w) (λ ks. refl)
-    (labelled_ends u d s b e arms (more_labels labels (lit.Typed type.Bool (pos 0))) (d ∷ w) h.0)
-part_ends u d s b (labelled e arms labels) w h = labelled_ends u d s b e arms labels w h.0
+part_ends u d s b (target v) w h = by_tokens (kind.Fixed fixed.Becomes ∷ []) (λ ks. refl) (operand_ends (h.1, tt, h.0))
+part_ends u d s b (write_open a) w h = by_tokens (kind.Fixed fixed.Open ∷ []) (λ ks. refl) (operand_ends (h.1, tt, h.0))
+part_ends u d s b (first_formal name) w h = by_tokens (close ∷ []) (λ ks. refl) (closing_ends h.0)
+part_ends u d s b (next_formal name actuals) w h = by_tokens (kind.Variable (var.Name []) b.line ∷ []) (λ ks. refl) (becoming_ends h.0)
+part_ends u d s b (becoming name actuals formal) w h = becoming_ends h.0
+part_ends u d s b (giving name actuals formal) w h = giving_ends h.0
+part_ends u d s b (given name actuals) w h = given_ends h.0
+part_ends u d s b (labelled e arms labels) w h = labelled_ends h.0
+part_ends u d s b x w h = by_tokens (zero_kind ∷ []) (λ ks. refl) (labelled_ends h.0)
 
 place_ends : (u : Unit_read) (d : ℕ) (s : List (Frame written)) (p : Place written) (w : List ℕ) → PlaceFits s p → EndsIn u d s p w
 place_ends u d s (statement body) w h = statement_ends u d s body w h.0
 place_ends u d s (part b x) w h = part_ends u d s b x w h
-place_ends u d s (closing before x) w h = closing_ends u d s before x w h.0
-place_ends u d s operand w h = operand_ends u d s w h
-place_ends u d s (operator f) w h = let z : level f ≡ 0 = h.2 in as_ends u d s f w (operator_ends u d s f w h.0 h.1 (omega arith))
+place_ends u d s (closing before x) w h = closing_ends h.0
+place_ends u d s operand w h = operand_ends h
+place_ends u d s (operator f) w h = let z : level f ≡ 0 = h.2 in as_ends (operator_ends u d s f w h.0 h.1 (omega arith))
 place_ends u d s (opening f) w h = opening_ends u d s f w h
 
 -- Texts
 
-between_ends : (text : Before written) (w : List ℕ) → Ends (between text) w
-between_ends text w = record { more = kind.Fixed fixed.End ∷ []; text = text; levels = 0 ∷ w; reaches = refl }
+globals_end : {done : Globals} {w : List ℕ} → Ends (globals done) w
+globals_end = by_tokens (kind.Fixed fixed.EndVar ∷ []) (λ ks. refl) between_ends
 
-globals_end : (done : Globals) (w : List ℕ) → Ends (globals done) w
-globals_end done w = by_tokens (kind.Fixed fixed.EndVar ∷ []) (globals done) _ w (0 ∷ w) (λ ks. refl) (between_ends _ (0 ∷ w))
+semicolon_ends : {done : Globals} {name : List ℕ} {line : Line} {v : RawVar × Line} {ty : GlobalType} {w : List ℕ} → Ends (row done name line (at_end v ty)) w
+semicolon_ends = by_tokens (semicolon ∷ []) (λ ks. refl) globals_end
 
-semicolon_ends : (done : Globals) (name : List ℕ) (line : Line) (v : RawVar × Line) (ty : GlobalType) (w : List ℕ) → Ends (row done name line (at_end v ty)) w
-semicolon_ends done name line v ty w = by_tokens (semicolon ∷ []) (row done name line (at_end v ty)) _ w (0 ∷ w) (λ ks. refl) (globals_end _ (0 ∷ w))
+becomes_ends : {done : Globals} {name : List ℕ} {line : Line} {v : RawVar × Line} {last : ℕ} {w : List ℕ} → Ends (row done name line (at_becomes v last)) w
+becomes_ends = by_tokens (semicolon ∷ []) (λ ks. refl) globals_end
 
-becomes_ends : (done : Globals) (name : List ℕ) (line : Line) (v : RawVar × Line) (last : ℕ) (w : List ℕ) → Ends (row done name line (at_becomes v last)) w
-becomes_ends done name line v last w = by_tokens (semicolon ∷ []) (row done name line (at_becomes v last)) _ w (0 ∷ w) (λ ks. refl) (globals_end _ (0 ∷ w))
+close_row_ends : {done : Globals} {name : List ℕ} {line : Line} {v : RawVar × Line} {last : ℕ} {w : List ℕ} → Ends (row done name line (at_close v last)) w
+close_row_ends =
+    by_tokens (kind.Fixed fixed.CloseSquare ∷ kind.Fixed fixed.Of ∷ kind.Fixed (fixed.Type type.Byte) ∷ []) (λ ks. refl) becomes_ends
 
-close_row_ends : (done : Globals) (name : List ℕ) (line : Line) (v : RawVar × Line) (last : ℕ) (w : List ℕ) → Ends (row done name line (at_close v last)) w
-close_row_ends done name line v last w =
-    by_tokens (kind.Fixed fixed.CloseSquare ∷ kind.Fixed fixed.Of ∷ kind.Fixed (fixed.Type type.Byte) ∷ []) (row done name line (at_close v last)) (row done name line (at_becomes v last)) w (0 ∷ 0 ∷ 0 ∷ w) (λ ks. refl)
-    (becomes_ends done name line v last (0 ∷ 0 ∷ 0 ∷ w))
+square_ends : {done : Globals} {name : List ℕ} {line : Line} {v : RawVar × Line} {w : List ℕ} → Ends (row done name line (at_square v)) w
+square_ends =
+    by_tokens (kind.Fixed fixed.OpenSquare ∷ kind.Literal (lit.Decimal 0) ∷ kind.Fixed fixed.Dots ∷ kind.Literal (lit.Decimal 0) ∷ []) (λ ks. refl) close_row_ends
 
-square_ends : (done : Globals) (name : List ℕ) (line : Line) (v : RawVar × Line) (w : List ℕ) → Ends (row done name line (at_square v)) w
-square_ends done name line v w =
-    by_tokens (kind.Fixed fixed.OpenSquare ∷ kind.Literal (lit.Decimal 0) ∷ kind.Fixed fixed.Dots ∷ kind.Literal (lit.Decimal 0) ∷ []) (row done name line (at_square v)) (row done name line (at_close v 0)) w (0 ∷ 0 ∷ 0 ∷ 0 ∷ w) (λ ks. refl)
-    (close_row_ends done name line v 0 (0 ∷ 0 ∷ 0 ∷ 0 ∷ w))
-
-comma_ends : (done : Globals) (name : List ℕ) (line : Line) (v : RawVar × Line) (last : ℕ) (items : Items) (w : List ℕ) → Ends (row done name line (at_comma v last items)) w
-comma_ends done name line v last items w =
-    by_tokens (kind.Fixed fixed.CloseSquare ∷ []) (row done name line (at_comma v last items)) (row done name line (at_end v (bytes last items))) w (0 ∷ w) (λ ks. refl) (semicolon_ends done name line v (bytes last items) (0 ∷ w))
+comma_ends : {done : Globals} {name : List ℕ} {line : Line} {v : RawVar × Line} {last : ℕ} {items : Items} {w : List ℕ} → Ends (row done name line (at_comma v last items)) w
+comma_ends =
+    by_tokens (kind.Fixed fixed.CloseSquare ∷ []) (λ ks. refl) semicolon_ends
 
 -- the name is that of a data block, or free
 type_ends : (done : Globals) (name : List ℕ) (line : Line) (v : RawVar × Line) (w : List ℕ) (b f : Bool) → names_block name ≡ b → is_free name ≡ f → (b || f) ≡ true → Ends (row done name line (at_type v)) w
 type_ends done name line v w true f e g h =
-    by_tokens (kind.Fixed fixed.Array ∷ []) (row done name line (at_type v)) (row done name line (at_square v)) w (0 ∷ w)
-    (λ ks. ap (λ (c : Bool). go w ks (option_map (λ (y : Row written). row done name line y) (if c then Some (at_square v) else None))) e) (square_ends done name line v (0 ∷ w))
+    by_tokens (kind.Fixed fixed.Array ∷ []) (λ ks. ap (λ (c : Bool). go w ks (option_map (λ (y : Row written). row done name line y) (if c then Some (at_square v) else None))) e) square_ends
 type_ends done name line v w false true e g h =
-    by_tokens (kind.Fixed (fixed.Type type.Bool) ∷ []) (row done name line (at_type v)) (row done name line (at_end v (plain type.Bool))) w (0 ∷ w)
-    (λ ks. ap (λ (c : Bool). go w ks (option_map (λ (y : Row written). row done name line y) (if c then Some (at_end v (plain type.Bool)) else None))) g) (semicolon_ends done name line v (plain type.Bool) (0 ∷ w))
+    by_tokens (kind.Fixed (fixed.Type type.Bool) ∷ []) (λ ks. ap (λ (c : Bool). go w ks (option_map (λ (y : Row written). row done name line y) (if c then Some (at_end v (plain type.Bool)) else None))) g) semicolon_ends
 type_ends done name line v w false false e g h = absurd cc
 
-colon_ends : (done : Globals) (name : List ℕ) (line : Line) (v : RawVar × Line) (w : List ℕ) → may_name_global name ≡ true → Ends (row done name line (at_colon v)) w
-colon_ends done name line v w h =
-    by_tokens (kind.Fixed fixed.Colon ∷ []) (row done name line (at_colon v)) (row done name line (at_type v)) w (0 ∷ w) (λ ks. refl)
-    (type_ends done name line v (0 ∷ w) (names_block name) (is_free name) refl refl h)
+colon_ends : {done : Globals} {name : List ℕ} {line : Line} {v : RawVar × Line} {w : List ℕ} → may_name_global name ≡ true → Ends (row done name line (at_colon v)) w
+colon_ends {name = name} h = by_tokens (kind.Fixed fixed.Colon ∷ []) (λ ks. refl) (type_ends _ name _ _ _ (names_block name) (is_free name) refl refl h)
 
 abbrev some_place : RawVar
 some_place = var.Direct Db None width.Byte 0 0
 
-place_row_ends : (done : Globals) (name : List ℕ) (line : Line) (w : List ℕ) → may_name_global name ≡ true → Ends (row done name line at_place) w
-place_row_ends done name line w h =
-    by_tokens (kind.Variable some_place line ∷ []) (row done name line at_place) (row done name line (at_colon (some_place, line))) w (0 ∷ w) (λ ks. refl) (colon_ends done name line (some_place, line) (0 ∷ w) h)
+place_row_ends : {done : Globals} {name : List ℕ} {line : Line} {w : List ℕ} → may_name_global name ≡ true → Ends (row done name line at_place) w
+place_row_ends {line = line} h = by_tokens (kind.Variable some_place line ∷ []) (λ ks. refl) (colon_ends h)
 
 row_ends : (done : Globals) (name : List ℕ) (line : Line) (x : Row written) (w : List ℕ) → may_name_global name ≡ true → Ends (row done name line x) w
-row_ends done name line at_word w h =
-    by_tokens (kind.Fixed fixed.At ∷ []) (row done name line at_word) (row done name line at_place) w (0 ∷ w) (λ ks. refl) (place_row_ends done name line (0 ∷ w) h)
-row_ends done name line at_place w h = place_row_ends done name line w h
-row_ends done name line (at_colon v) w h = colon_ends done name line v w h
+row_ends done name line at_word w h = by_tokens (kind.Fixed fixed.At ∷ []) (λ ks. refl) (place_row_ends h)
+row_ends done name line at_place w h = place_row_ends h
+row_ends done name line (at_colon v) w h = colon_ends h
 row_ends done name line (at_type v) w h = type_ends done name line v w (names_block name) (is_free name) refl refl h
-row_ends done name line (at_square v) w h = square_ends done name line v w
-row_ends done name line (at_zero v) w h =
-    by_tokens (kind.Literal (lit.Decimal 0) ∷ kind.Fixed fixed.Dots ∷ kind.Literal (lit.Decimal 0) ∷ []) (row done name line (at_zero v)) (row done name line (at_close v 0)) w (0 ∷ 0 ∷ 0 ∷ w) (λ ks. refl)
-    (close_row_ends done name line v 0 (0 ∷ 0 ∷ 0 ∷ w))
-row_ends done name line (at_dots v) w h =
-    by_tokens (kind.Fixed fixed.Dots ∷ kind.Literal (lit.Decimal 0) ∷ []) (row done name line (at_dots v)) (row done name line (at_close v 0)) w (0 ∷ 0 ∷ w) (λ ks. refl) (close_row_ends done name line v 0 (0 ∷ 0 ∷ w))
-row_ends done name line (at_last v) w h =
-    by_tokens (kind.Literal (lit.Decimal 0) ∷ []) (row done name line (at_last v)) (row done name line (at_close v 0)) w (0 ∷ w) (λ ks. refl) (close_row_ends done name line v 0 (0 ∷ w))
-row_ends done name line (at_close v last) w h = close_row_ends done name line v last w
-row_ends done name line (at_of v last) w h =
-    by_tokens (kind.Fixed fixed.Of ∷ kind.Fixed (fixed.Type type.Byte) ∷ []) (row done name line (at_of v last)) (row done name line (at_becomes v last)) w (0 ∷ 0 ∷ w) (λ ks. refl) (becomes_ends done name line v last (0 ∷ 0 ∷ w))
-row_ends done name line (at_byte v last) w h =
-    by_tokens (kind.Fixed (fixed.Type type.Byte) ∷ []) (row done name line (at_byte v last)) (row done name line (at_becomes v last)) w (0 ∷ w) (λ ks. refl) (becomes_ends done name line v last (0 ∷ w))
-row_ends done name line (at_becomes v last) w h = becomes_ends done name line v last w
-row_ends done name line (at_open v last) w h =
-    by_tokens (kind.Fixed fixed.OpenSquare ∷ kind.Literal (lit.Byte 0) ∷ []) (row done name line (at_open v last)) (row done name line (at_comma v last (single no_item 0))) w (0 ∷ 0 ∷ w) (λ ks. refl)
-    (comma_ends done name line v last (single no_item 0) (0 ∷ 0 ∷ w))
-row_ends done name line (at_item v last items) w h =
-    by_tokens (kind.Literal (lit.Byte 0) ∷ []) (row done name line (at_item v last items)) (row done name line (at_comma v last (single items 0))) w (0 ∷ w) (λ ks. refl) (comma_ends done name line v last (single items 0) (0 ∷ w))
-row_ends done name line (at_count v last items count) w h =
-    by_tokens (kind.Fixed fixed.Open ∷ kind.Literal (lit.Byte 0) ∷ close ∷ []) (row done name line (at_count v last items count)) (row done name line (at_comma v last (times items count 0))) w (0 ∷ 1 ∷ 1 ∷ w) (λ ks. refl)
-    (comma_ends done name line v last (times items count 0) (0 ∷ 1 ∷ 1 ∷ w))
-row_ends done name line (at_value v last items count) w h =
-    by_tokens (kind.Literal (lit.Byte 0) ∷ close ∷ []) (row done name line (at_value v last items count)) (row done name line (at_comma v last (times items count 0))) w (0 ∷ 1 ∷ w) (λ ks. refl)
-    (comma_ends done name line v last (times items count 0) (0 ∷ 1 ∷ w))
-row_ends done name line (at_value_end v last items count b) w h =
-    by_tokens (close ∷ []) (row done name line (at_value_end v last items count b)) (row done name line (at_comma v last (times items count b))) w (0 ∷ w) (λ ks. refl) (comma_ends done name line v last (times items count b) (0 ∷ w))
-row_ends done name line (at_comma v last items) w h = comma_ends done name line v last items w
-row_ends done name line (at_end v ty) w h = semicolon_ends done name line v ty w
+row_ends done name line (at_square v) w h = square_ends
+row_ends done name line (at_zero v) w h = by_tokens (kind.Literal (lit.Decimal 0) ∷ kind.Fixed fixed.Dots ∷ kind.Literal (lit.Decimal 0) ∷ []) (λ ks. refl) close_row_ends
+row_ends done name line (at_dots v) w h = by_tokens (kind.Fixed fixed.Dots ∷ kind.Literal (lit.Decimal 0) ∷ []) (λ ks. refl) close_row_ends
+row_ends done name line (at_last v) w h = by_tokens (kind.Literal (lit.Decimal 0) ∷ []) (λ ks. refl) close_row_ends
+row_ends done name line (at_close v last) w h = close_row_ends
+row_ends done name line (at_of v last) w h = by_tokens (kind.Fixed fixed.Of ∷ kind.Fixed (fixed.Type type.Byte) ∷ []) (λ ks. refl) becomes_ends
+row_ends done name line (at_byte v last) w h = by_tokens (kind.Fixed (fixed.Type type.Byte) ∷ []) (λ ks. refl) becomes_ends
+row_ends done name line (at_becomes v last) w h = becomes_ends
+row_ends done name line (at_open v last) w h = by_tokens (kind.Fixed fixed.OpenSquare ∷ kind.Literal (lit.Byte 0) ∷ []) (λ ks. refl) comma_ends
+row_ends done name line (at_item v last items) w h = by_tokens (kind.Literal (lit.Byte 0) ∷ []) (λ ks. refl) comma_ends
+row_ends done name line (at_count v last items count) w h = by_tokens (kind.Fixed fixed.Open ∷ kind.Literal (lit.Byte 0) ∷ close ∷ []) (λ ks. refl) comma_ends
+row_ends done name line (at_value v last items count) w h = by_tokens (kind.Literal (lit.Byte 0) ∷ close ∷ []) (λ ks. refl) comma_ends
+row_ends done name line (at_value_end v last items count b) w h = by_tokens (close ∷ []) (λ ks. refl) comma_ends
+row_ends done name line (at_comma v last items) w h = comma_ends
+row_ends done name line (at_end v ty) w h = semicolon_ends
 
 abbrev unit_read : Top written → Section Locals → Section Locals → Unit_read
 unit_read top f l = record { top = top; formals = f; locals = l }
 
-inside_ends : (top : Top written) (f l : Section Locals) (w : List ℕ) → Ends (inside top f l (no_spot written)) w
-inside_ends top f l w = statement_ends (unit_read top f l) 0 [] none w tt
+inside_ends : {top : Top written} {f l : Section Locals} {w : List ℕ} → Ends (inside top f l (no_spot written)) w
+inside_ends {top = top} {f = f} {l = l} {w = w} = statement_ends (unit_read top f l) 0 [] none w tt
 
 -- the end word of a unit, directly after its head
-bare_end : (top : Top written) (f : Section Locals) (p : Bool) (w : List ℕ) → top.head.program ≡ p →
-    passes written (formals_done top f) w (end_word p ∷ kind.Fixed fixed.End ∷ []) ≡ Some (record { state = over (with_unit top.text top.head f absent none); levels = 0 ∷ 0 ∷ w })
-bare_end top f true w e = unit_left top.text top.head f absent 0 none true (kind.Fixed fixed.End ∷ []) w e
-bare_end top f false w e = unit_left top.text top.head f absent 0 none false (kind.Fixed fixed.End ∷ []) w e
+bare_end : (top : Top written) (f : Section Locals) (p : Bool) (w : List ℕ) (ks : List Kind) → top.head.program ≡ p →
+    passes written (formals_done top f) w (end_word p ∷ ks) ≡ passes written (between (with_unit top.text top.head f absent none)) (0 ∷ w) ks
+bare_end top f true w ks e = unit_left top.text top.head f absent 0 none true ks w e
+bare_end top f false w ks e = unit_left top.text top.head f absent 0 none false ks w e
 
-done_ends : (top : Top written) (f : Section Locals) (w : List ℕ) → Ends (formals_done top f) w
-done_ends top f w = record {
-  more = end_word top.head.program ∷ kind.Fixed fixed.End ∷ [];
-  text = with_unit top.text top.head f absent none;
-  levels = 0 ∷ 0 ∷ w;
-  reaches = bare_end top f top.head.program w refl;
-}
+done_ends : {top : Top written} {f : Section Locals} {w : List ℕ} → Ends (formals_done top f) w
+done_ends {top = top} {f = f} {w = w} = by_tokens (end_word top.head.program ∷ []) (λ ks. bare_end top f top.head.program w ks refl) between_ends
 
-opened_end : (top : Top written) (p : Bool) (w : List ℕ) → top.head.program ≡ p →
-    passes written (opened top) w (end_word p ∷ kind.Fixed fixed.End ∷ []) ≡ Some (record { state = over (with_unit top.text top.head absent absent none); levels = 0 ∷ 0 ∷ w })
-opened_end top true w e = unit_left top.text top.head absent absent 0 none true (kind.Fixed fixed.End ∷ []) w e
-opened_end top false w e = unit_left top.text top.head absent absent 0 none false (kind.Fixed fixed.End ∷ []) w e
+opened_end : (top : Top written) (p : Bool) (w : List ℕ) (ks : List Kind) → passes written (opened top) w (end_word p ∷ ks) ≡ passes written (formals_done top absent) w (end_word p ∷ ks)
+opened_end top true w ks = refl
+opened_end top false w ks = refl
 
-opened_ends : (top : Top written) (w : List ℕ) → Ends (opened top) w
-opened_ends top w = record {
-  more = end_word top.head.program ∷ kind.Fixed fixed.End ∷ [];
-  text = with_unit top.text top.head absent absent none;
-  levels = 0 ∷ 0 ∷ w;
-  reaches = opened_end top top.head.program w refl;
-}
+opened_ends : {top : Top written} {w : List ℕ} → Ends (opened top) w
+opened_ends {top = top} {w = w} =
+    by_tokens (end_word top.head.program ∷ []) (λ ks. opened_end top top.head.program w ks ∙ bare_end top absent top.head.program w ks refl) between_ends
 
 section_ends : (top : Top written) (which : Which written) (done : Locals) (w : List ℕ) → Ends (section top which done) w
-section_ends top formals done w = by_tokens (kind.Fixed fixed.EndVar ∷ []) (section top formals done) (formals_done top (present done)) w (0 ∷ w) (λ ks. refl) (done_ends top (present done) (0 ∷ w))
-section_ends top (temps f) done w =
-    by_tokens (kind.Fixed fixed.EndVar ∷ []) (section top (temps f) done) (inside top f (present done) (no_spot written)) w (0 ∷ w) (λ ks. refl) (inside_ends top f (present done) (0 ∷ w))
+section_ends top formals done w = by_tokens (kind.Fixed fixed.EndVar ∷ []) (λ ks. refl) done_ends
+section_ends top (temps f) done w = by_tokens (kind.Fixed fixed.EndVar ∷ []) (λ ks. refl) inside_ends
 
-end_typing : (top : Top written) (which : Which written) (done : Locals) (name : List ℕ) (line : Line) (ty : StType) (w : List ℕ) → Ends (typing top which done name line (local_end ty)) w
-end_typing top which done name line ty w =
-    by_tokens (semicolon ∷ []) (typing top which done name line (local_end ty)) (section top which (local done name line ty)) w (0 ∷ w) (λ ks. refl) (section_ends top which (local done name line ty) (0 ∷ w))
+end_typing : {top : Top written} {which : Which written} {done : Locals} {name : List ℕ} {line : Line} {ty : StType} {w : List ℕ} → Ends (typing top which done name line (local_end ty)) w
+end_typing =
+    by_tokens (semicolon ∷ []) (λ ks. refl) (section_ends _ _ _ _)
 
 type_typing : (top : Top written) (which : Which written) (done : Locals) (name : List ℕ) (line : Line) (w : List ℕ) → Ends (typing top which done name line local_type) w
-type_typing top formals done name line w =
-    by_tokens (kind.Fixed (fixed.Type type.Bool) ∷ []) (typing top formals done name line local_type) (typing top formals done name line (local_end type.Bool)) w (0 ∷ w) (λ ks. refl)
-    (end_typing top formals done name line type.Bool (0 ∷ w))
-type_typing top (temps f) done name line w =
-    by_tokens (kind.Fixed (fixed.Type type.Bool) ∷ []) (typing top (temps f) done name line local_type) (typing top (temps f) done name line (local_end type.Bool)) w (0 ∷ w) (λ ks. refl)
-    (end_typing top (temps f) done name line type.Bool (0 ∷ w))
+type_typing top formals done name line w = by_tokens (kind.Fixed (fixed.Type type.Bool) ∷ []) (λ ks. refl) end_typing
+type_typing top (temps f) done name line w = by_tokens (kind.Fixed (fixed.Type type.Bool) ∷ []) (λ ks. refl) end_typing
 
 typing_ends : (top : Top written) (which : Which written) (done : Locals) (name : List ℕ) (line : Line) (x : Typing) (w : List ℕ) → Ends (typing top which done name line x) w
-typing_ends top which done name line local_colon w =
-    by_tokens (kind.Fixed fixed.Colon ∷ []) (typing top which done name line local_colon) (typing top which done name line local_type) w (0 ∷ w) (λ ks. refl) (type_typing top which done name line (0 ∷ w))
+typing_ends top which done name line local_colon w = by_tokens (kind.Fixed fixed.Colon ∷ []) (λ ks. refl) (type_typing top which done name line (0 ∷ w))
 typing_ends top which done name line local_type w = type_typing top which done name line w
-typing_ends top which done name line (local_end ty) w = end_typing top which done name line ty w
+typing_ends top which done name line (local_end ty) w = end_typing
 
 heading_ends : (text : Before written) (program : Bool) (line : Line) (w : List ℕ) → Ends (heading text program line) w
-heading_ends text program line w =
-    by_tokens (kind.Variable (var.Name (codes "OB1")) line ∷ []) (heading text program line) _ w (0 ∷ w) (λ ks. refl) (opened_ends _ (0 ∷ w))
+heading_ends text program line w = by_tokens (kind.Variable (var.Name (codes "OB1")) line ∷ []) (λ ks. refl) opened_ends
 
 start_ends : (w : List ℕ) → Ends start w
 start_ends w = record { more = kind.Fixed fixed.End ∷ []; text = record { globals = absent; units = no_unit }; levels = 0 ∷ w; reaches = refl }
 
 pub finishes : (q : State written) (w : List ℕ) → Shaped q → Ends q w
 finishes start w h = start_ends w
-finishes (globals done) w h = globals_end done w
+finishes (globals done) w h = globals_end
 finishes (row done name line x) w h = row_ends done name line x w h.1
-finishes (between text) w h = between_ends text w
+finishes (between text) w h = between_ends
 finishes (heading text program line) w h = heading_ends text program line w
-finishes (opened top) w h = opened_ends top w
-finishes (formals_done top f) w h = done_ends top f w
+finishes (opened top) w h = opened_ends
+finishes (formals_done top f) w h = done_ends
 finishes (section top which done) w h = section_ends top which done w
 finishes (typing top which done name line x) w h = typing_ends top which done name line x w
 finishes (inside top f l at) w h = place_ends (unit_read top f l) at.depth at.stack at.place w h.3

@@ -5,17 +5,16 @@ use Rattle.std.proofs.lemmas.Bool.Decides.{nat_tests}
 use Rattle.s7_base.specs.declared.reason.Line.{Line}
 use Rattle.st_syntax_laws.proofs.Drive.{infix_most, infix_some}
 use Rattle.st_syntax_laws.proofs.DriveSource.{Declared}
-use Rattle.st_grammar.specs.Forms.{Form, prefix, infix_of, Actuals, no_actual, actual, Labels, label, more_labels, Statement, Statements, CaseArms, Items, no_item, single, times}
+use Rattle.st_grammar.specs.Forms.{Form, prefix, infix_of, Actuals, no_actual, actual, Labels, label, more_labels, Statements, CaseArms, Items, no_item}
 use Rattle.st_grammar.specs.Grammar.{prefix_level, infix_level, level, is_value, Binds, may_jump, LabelsFit, HasArm, HasCase, Fits, AllFit, ArmsFit, CasesFit, is_direct, is_global, GlobalsFit, LocalsFit, IfPresent, HeadFits, UnitsFit, prefix_kind, spell, comma_behind, spell_actuals, spell_labels, arm_word, spell_one, spell_all, spell_arms, spell_cases, comma_past, spell_items, spell_type, spell_globals, spell_locals, unit_word, spell_section, spell_formals, spell_temps, spell_head, spell_units}
 use Rattle.st_tree.specs.Naming.{may_name_global, may_name_unit, names_block}
 use Rattle.st_grammar.specs.inner.Machine.{written, Begun, Argument, only, shifted, shifted_by, gate, first, second, Use, to_var, to_area, area_value, test, selector, loop_test, Body, choosing, otherwise, looping, selecting, otherwise_case, Frame, unary, left, bracket, argument, waiting, within, Part, target, write_open, first_formal, next_formal, becoming, giving, given, first_label, next_label, labelled, Place, statement, part, closing, operand, operator, opening, Spot, Row, at_word, at_place, at_colon, at_type, at_square, at_zero, at_dots, at_last, at_close, at_of, at_byte, at_becomes, at_open, at_item, at_count, at_value, at_value_end, at_comma, at_end, Typing, local_colon, local_type, local_end, Before, Top, Which, formals, temps, State, start, globals, row, between, heading, opened, formals_done, section, typing, inside, over}
-use Rattle.st_grammar.specs.inner.Steps.{spot, shallower, weakest, limit, Reduced, reduce, reduced_to, with_prefix, argument_closed, use_closed, closed, waits, in_loop, body_closed, in_body, at_lead, at_statement, at_target, at_label, at_part, at_closing, at_operand, at_opening, at_operator, step_at, may_name, may_type}
+use Rattle.st_grammar.specs.inner.Steps.{spot, shallower, weakest, limit, Reduced, reduce, reduced_to, with_prefix, closed, waits, in_loop, in_body, at_label, step_at, may_name, may_type}
 use Rattle.st_grammar.specs.declared.kind.Fixed.TheVariants as fixed
 use Rattle.st_grammar.specs.declared.kind.Function.{Function}
 use Rattle.st_grammar.specs.declared.kind.Function.TheVariants as function
 use Rattle.st_grammar.specs.declared.kind.Kind.{Kind}
 use Rattle.st_grammar.specs.declared.kind.Kind.TheVariants as kind
-use Rattle.st_grammar.specs.declared.kind.Lead.{Lead}
 use Rattle.st_grammar.specs.declared.kind.Lead.TheVariants as lead
 use Rattle.st_grammar.specs.declared.kind.Literal.{Literal}
 use Rattle.st_grammar.specs.declared.kind.Literal.TheVariants as lit
@@ -166,20 +165,15 @@ past (over text) more = past_before text (kind.Fixed fixed.End ∷ more)
 -- What is open stands in order
 
 abbrev pub ArgumentFits : Argument written → Type 0
-ArgumentFits (only op) = Unit {0}
-ArgumentFits (shifted op) = Unit {0}
 ArgumentFits (shifted_by op f) = Binds f
-ArgumentFits gate = Unit {0}
 ArgumentFits (first f) = Binds f
 ArgumentFits (second f g) = Binds f × Binds g
+ArgumentFits other = Unit {0}
 
 abbrev pub UseFits : Bool → Use written → Type 0
-UseFits i (to_var v) = Unit {0}
-UseFits i (to_area w) = Unit {0}
 UseFits i (area_value w p) = Binds p
 UseFits i (test arms) = ArmsFit i arms
-UseFits i selector = Unit {0}
-UseFits i loop_test = Unit {0}
+UseFits i other = Unit {0}
 
 abbrev pub BodyFits : Bool → Body written → Type 0
 BodyFits i (choosing arms e) = ArmsFit i arms × Binds e
@@ -194,20 +188,15 @@ HasActual (actual others name line v place) = Unit {0}
 
 abbrev pub HasItem : Items → Type 0
 HasItem no_item = ⊥
-HasItem (single others b) = Unit {0}
-HasItem (times others count b) = Unit {0}
+HasItem other = Unit {0}
 
 abbrev pub PartFits : Bool → Part written → Type 0
-PartFits i (target v) = Unit {0}
-PartFits i (write_open w) = Unit {0}
-PartFits i (first_formal name) = Unit {0}
 PartFits i (next_formal name actuals) = HasActual actuals
-PartFits i (becoming name actuals formal) = Unit {0}
-PartFits i (giving name actuals formal) = Unit {0}
 PartFits i (given name actuals) = HasActual actuals
 PartFits i (first_label e arms) = Binds e × CasesFit i arms
 PartFits i (next_label e arms labels) = Binds e × CasesFit i arms × LabelsFit labels
 PartFits i (labelled e arms labels) = Binds e × CasesFit i arms × LabelsFit labels
+PartFits i other = Unit {0}
 
 -- statements alone are open
 abbrev pub InStatements : List (Frame written) → Type 0
@@ -217,25 +206,21 @@ InStatements (frame ∷ s) = ⊥
 
 -- an expression is open, and the statement that it belongs to
 abbrev pub InExpr : List (Frame written) → Type 0
-InExpr [] = ⊥
 InExpr (unary op ∷ s) = (prefix_level op ≤ limit written s) × InExpr s
 InExpr (left op f ∷ s) = (level f ≤ infix_level op) × Binds f × (infix_level op ≤ limit written s) × InExpr s
 InExpr (bracket ∷ s) = InExpr s
 InExpr (argument a ∷ s) = ArgumentFits a × InExpr s
 InExpr (waiting b u ∷ s) = AllFit (in_loop written s) b.before × UseFits (in_loop written s) u × InStatements s
-InExpr (within b y ∷ s) = ⊥
+InExpr other = ⊥
 
 abbrev pub PlaceFits : List (Frame written) → Place written → Type 0
 PlaceFits s (statement body) = InStatements s × AllFit (in_loop written s) body
 PlaceFits s (part b x) = InStatements s × AllFit (in_loop written s) b.before × PartFits (in_loop written s) x
 PlaceFits s (closing before x) = InStatements s × AllFit (in_loop written s) before × Fits (in_loop written s) x
-PlaceFits s operand = InExpr s
 PlaceFits s (operator f) = InExpr s × Binds f × (level f ≡ 0)
-PlaceFits s (opening f) = InExpr s
+PlaceFits s other = InExpr s
 
 abbrev pub RowFits : List ℕ → Row written → Type 0
-RowFits name at_word = Unit {0}
-RowFits name at_place = Unit {0}
 RowFits name (at_colon v) = is_direct v.0 ≡ true
 RowFits name (at_type v) = is_direct v.0 ≡ true
 RowFits name (at_square v) = (is_direct v.0 ≡ true) × (names_block name ≡ true)
@@ -253,6 +238,7 @@ RowFits name (at_value v last items count) = (is_direct v.0 ≡ true) × (names_
 RowFits name (at_value_end v last items count b) = (is_direct v.0 ≡ true) × (names_block name ≡ true)
 RowFits name (at_comma v last items) = (is_direct v.0 ≡ true) × (names_block name ≡ true) × HasItem items
 RowFits name (at_end v ty) = (is_direct v.0 ≡ true) × (is_global name ty ≡ true)
+RowFits name other = Unit {0}
 
 abbrev pub TextFits : Before written → Type 0
 TextFits text = IfPresent GlobalsFit text.globals × UnitsFit text.units
@@ -265,9 +251,8 @@ WhichFits top formals = top.head.program ≡ false
 WhichFits top (temps f) = HeadFits top.head.program f
 
 abbrev pub TypingFits : Which written → Typing → Type 0
-TypingFits which local_colon = Unit {0}
-TypingFits which local_type = Unit {0}
 TypingFits which (local_end ty) = may_type written which ty ≡ true
+TypingFits which other = Unit {0}
 
 abbrev pub Shaped : State written → Type 0
 Shaped start = Unit {0}
@@ -351,49 +336,24 @@ fitting k d (left op g ∷ s) f most h b strong fits =
     (λ low. let r = fitting k d s (infix_of op g f) most h.3 (h.0, below_one (level f) (infix_level op) (infix_some op) fits, h.1, b) low h.2 in
     record { inner = r.inner; binds = r.binds; strong = r.strong; room = r.room; same = r.same })
     (λ high. record { inner = h; binds = b; strong = strong; room = at_least k (infix_level op) high; same = λ more. refl })
-fitting k d (bracket ∷ s) f most h b strong fits = record { inner = h; binds = b; strong = strong; room = most; same = λ more. refl }
-fitting k d (argument a ∷ s) f most h b strong fits = record { inner = h; binds = b; strong = strong; room = most; same = λ more. refl }
-fitting k d (waiting x u ∷ s) f most h b strong fits = record { inner = h; binds = b; strong = strong; room = most; same = λ more. refl }
 fitting k d (within x y ∷ s) f most h b strong fits = absurd h
-
-argument_kept : (d : ℕ) (s : List (Frame written)) (a : Argument written) (f : Form) (k : Kind) → ArgumentFits a → InExpr s → Binds f → KeepsIn (λ more. past_stack s (past_argument a (spell f (k ∷ more)))) (argument_closed written d s a f k)
-argument_kept d s (only op) f (kind.Fixed fixed.Close) a h b = record { fits = (h, b, refl); grown = λ more. refl }
-argument_kept d s (only op) f k a h b = tt
-argument_kept d s (shifted op) f (kind.Fixed fixed.Comma) a h b = record { fits = (b, h); grown = λ more. refl }
-argument_kept d s (shifted op) f k a h b = tt
-argument_kept d s (shifted_by op g) f (kind.Fixed fixed.Close) a h b = record { fits = (h, (a, b), refl); grown = λ more. refl }
-argument_kept d s (shifted_by op g) f k a h b = tt
-argument_kept d s gate f (kind.Fixed fixed.Comma) a h b = record { fits = (b, h); grown = λ more. refl }
-argument_kept d s gate f k a h b = tt
-argument_kept d s (first g) f (kind.Fixed fixed.Comma) a h b = record { fits = ((a, b), h); grown = λ more. refl }
-argument_kept d s (first g) f k a h b = tt
-argument_kept d s (second g e) f (kind.Fixed fixed.Close) a h b = record { fits = (h, (a.0, a.1, b), refl); grown = λ more. refl }
-argument_kept d s (second g e) f k a h b = tt
-
-use_kept : (d : ℕ) (s : List (Frame written)) (b : Begun written) (u : Use written) (f : Form) (k : Kind) → AllFit (in_loop written s) b.before → UseFits (in_loop written s) u → InStatements s → Binds f
-    → KeepsIn (λ more. past_stack s (spell_all b.before (past_use b.line u (spell f (k ∷ more))))) (use_closed written d s b u f k)
-use_kept d s b (to_var v) f (kind.Fixed fixed.Semicolon) a u h e = record { fits = (h, (a, e)); grown = λ more. refl }
-use_kept d s b (to_var v) f k a u h e = tt
-use_kept d s b (to_area w) f (kind.Fixed fixed.Comma) a u h e = record { fits = (a, e, h); grown = λ more. refl }
-use_kept d s b (to_area w) f k a u h e = tt
-use_kept d s b (area_value w p) f (kind.Fixed fixed.Close) a u h e = record { fits = (h, a, (u, e)); grown = λ more. refl }
-use_kept d s b (area_value w p) f k a u h e = tt
-use_kept d s b (test arms) f (kind.Fixed fixed.Then) a u h e = record { fits = ((a, (u, e), h), tt); grown = λ more. refl }
-use_kept d s b (test arms) f k a u h e = tt
-use_kept d s b selector f (kind.Fixed fixed.Of) a u h e = record { fits = (h, a, (e, tt)); grown = λ more. refl }
-use_kept d s b selector f k a u h e = tt
-use_kept d s b loop_test f (kind.Fixed fixed.Do) a u h e = record { fits = ((a, e, h), tt); grown = λ more. refl }
-use_kept d s b loop_test f k a u h e = tt
+fitting k d s f most h b strong fits = record { inner = h; binds = b; strong = strong; room = most; same = λ more. refl }
 
 closed_kept : (d : ℕ) (s : List (Frame written)) (f : Form) (k : Kind) → InExpr s → Binds f → KeepsIn (λ more. past_stack s (spell f (k ∷ more))) (closed written d s f k)
-closed_kept d [] f k h b = tt
-closed_kept d (unary op ∷ s) f k h b = tt
-closed_kept d (left op g ∷ s) f k h b = tt
 closed_kept d (bracket ∷ s) f (kind.Fixed fixed.Close) h b = record { fits = (h, b, refl); grown = λ more. refl }
-closed_kept d (bracket ∷ s) f k h b = tt
-closed_kept d (argument a ∷ s) f k h b = argument_kept d s a f k h.0 h.1 b
-closed_kept d (waiting x u ∷ s) f k h b = use_kept d s x u f k h.0 h.1 h.2 b
-closed_kept d (within x y ∷ s) f k h b = tt
+closed_kept d (argument (only op) ∷ s) f (kind.Fixed fixed.Close) h b = record { fits = (h.1, b, refl); grown = λ more. refl }
+closed_kept d (argument (shifted op) ∷ s) f (kind.Fixed fixed.Comma) h b = record { fits = (b, h.1); grown = λ more. refl }
+closed_kept d (argument (shifted_by op g) ∷ s) f (kind.Fixed fixed.Close) h b = record { fits = (h.1, (h.0, b), refl); grown = λ more. refl }
+closed_kept d (argument gate ∷ s) f (kind.Fixed fixed.Comma) h b = record { fits = (b, h.1); grown = λ more. refl }
+closed_kept d (argument (first g) ∷ s) f (kind.Fixed fixed.Comma) h b = record { fits = ((h.0, b), h.1); grown = λ more. refl }
+closed_kept d (argument (second g e) ∷ s) f (kind.Fixed fixed.Close) h b = record { fits = (h.1, (h.0.0, h.0.1, b), refl); grown = λ more. refl }
+closed_kept d (waiting b (to_var v) ∷ s) f (kind.Fixed fixed.Semicolon) h e = record { fits = (h.2, (h.0, e)); grown = λ more. refl }
+closed_kept d (waiting b (to_area w) ∷ s) f (kind.Fixed fixed.Comma) h e = record { fits = (h.0, e, h.2); grown = λ more. refl }
+closed_kept d (waiting b (area_value w p) ∷ s) f (kind.Fixed fixed.Close) h e = record { fits = (h.2, h.0, (h.1, e)); grown = λ more. refl }
+closed_kept d (waiting b (test arms) ∷ s) f (kind.Fixed fixed.Then) h e = record { fits = ((h.0, (h.1, e), h.2), tt); grown = λ more. refl }
+closed_kept d (waiting b selector ∷ s) f (kind.Fixed fixed.Of) h e = record { fits = (h.2, h.0, (e, tt)); grown = λ more. refl }
+closed_kept d (waiting b loop_test ∷ s) f (kind.Fixed fixed.Do) h e = record { fits = ((h.0, e, h.2), tt); grown = λ more. refl }
+closed_kept d s f k h b = tt
 
 reduced_kept : (d : ℕ) (s : List (Frame written)) (f : Form) (r : Reduced written) (k : Kind) → Fitting weakest s f r → KeepsIn (λ more. past_stack s (spell f (k ∷ more))) (closed written r.depth r.stack r.operand k)
 reduced_kept d s f r k t =
@@ -403,80 +363,26 @@ reduced_kept d s f r k t =
 waits_kept : (s : List (Frame written)) (f : Form) (r : Reduced written) (op : BinaryOp) → Fitting (infix_level op) s f r → KeptIn (λ more. past_stack s (spell f (kind.Fixed (fixed.Between op) ∷ more))) (waits written op r)
 waits_kept s f r op t = record { fits = (t.strong, t.binds, t.room, t.inner); grown = λ more. t.same (kind.Fixed (fixed.Between op) ∷ more) }
 
-operator_kept : (d : ℕ) (s : List (Frame written)) (f : Form) (k : Kind) → InExpr s → Binds f → level f ≡ 0 → KeepsIn (λ more. past_stack s (spell f (k ∷ more))) (at_operator written d s f k)
-operator_kept d s f (kind.Fixed (fixed.Between op)) h b z = waits_kept s f (reduce written (infix_level op) d s f) op (fitting (infix_level op) d s f (infix_most op) h b (omega arith) (omega arith))
-operator_kept d s f other h b z = reduced_kept d s f (reduce written weakest d s f) other (fitting weakest d s f (omega arith) h b (omega arith) (omega arith))
-
 prefix_kept : (d : ℕ) (s : List (Frame written)) (op : Prefix) → InExpr s → KeepsIn (λ more. past_stack s (prefix_kind op ∷ more)) (with_prefix written d s op)
 prefix_kept d s op h =
     le_cases (prefix_level op) (limit written s) (λ c. KeepsIn (λ more. past_stack s (prefix_kind op ∷ more)) (if c then Some (spot written (suc d) (unary op ∷ s) operand) else None))
     (λ low. record { fits = (low, h); grown = λ more. refl }) (λ high. tt)
 
-operand_kept : (d : ℕ) (s : List (Frame written)) (k : Kind) → InExpr s → KeepsIn (λ more. past_stack s (k ∷ more)) (at_operand written d s k)
-operand_kept d s (kind.Literal c) h = if_in (λ more. past_stack s (kind.Literal c ∷ more)) (is_value c) _ (λ v. record { fits = (h, v, refl); grown = λ more. refl })
-operand_kept d s (kind.Variable v line) h = record { fits = (h, tt, refl); grown = λ more. refl }
-operand_kept d s (kind.Fixed fixed.Not) h = prefix_kept d s before.Not h
-operand_kept d s (kind.Fixed (fixed.Between binary.Sub)) h = prefix_kept d s before.Minus h
-operand_kept d s (kind.Fixed fixed.Open) h = record { fits = h; grown = λ more. refl }
-operand_kept d s (kind.Fixed (fixed.Function f)) h = record { fits = h; grown = λ more. refl }
-operand_kept d s other h = tt
-
-opening_kept : (d : ℕ) (s : List (Frame written)) (f : Function) (k : Kind) → InExpr s → KeepsIn (λ more. past_stack s (function_kind f ∷ k ∷ more)) (at_opening written d s f k)
-opening_kept d s (function.One op) (kind.Fixed fixed.Open) h = record { fits = (tt, h); grown = λ more. refl }
-opening_kept d s (function.Shift op) (kind.Fixed fixed.Open) h = record { fits = (tt, h); grown = λ more. refl }
-opening_kept d s function.Select (kind.Fixed fixed.Open) h = record { fits = (tt, h); grown = λ more. refl }
-opening_kept d s f other h = tt
-
 -- Statements
 
-body_kept : (d : ℕ) (s : List (Frame written)) (b : Begun written) (y : Body written) (body : Statements) (k : Kind) → AllFit (in_loop written s) b.before → BodyFits (in_loop written s) y → InStatements s → AllFit (in_loop written (within b y ∷ s)) body
-    → KeepsIn (λ more. past_stack s (spell_all b.before (past_body b.line y (spell_all body (k ∷ more))))) (body_closed written d s b y body k)
-body_kept d s b (choosing arms e) body (kind.Fixed fixed.Elsif) a y h p = record { fits = (a, (y.0, y.1, p), h); grown = λ more. refl }
-body_kept d s b (choosing arms e) body (kind.Fixed fixed.Else) a y h p = record { fits = ((a, (tt, (y.0, y.1, p)), h), tt); grown = λ more. refl }
-body_kept d s b (choosing arms e) body (kind.Fixed fixed.EndIf) a y h p = record { fits = (h, a, (tt, (y.0, y.1, p))); grown = λ more. refl }
-body_kept d s b (choosing arms e) body k a y h p = tt
-body_kept d s b (otherwise arms) body (kind.Fixed fixed.EndIf) a y h p = record { fits = (h, a, (y.0, y.1, p)); grown = λ more. refl }
-body_kept d s b (otherwise arms) body k a y h p = tt
-body_kept d s b (looping e) body (kind.Fixed fixed.EndWhile) a y h p = record { fits = (h, a, (y, p)); grown = λ more. refl }
-body_kept d s b (looping e) body k a y h p = tt
-body_kept d s b (selecting e arms labels) body (kind.Literal c) a y h p =
-    if_in (λ more. past_stack s (spell_all b.before (past_body b.line (selecting e arms labels) (spell_all body (kind.Literal c ∷ more))))) (is_value c) _
-    (λ v. record { fits = (h, a, (y.0, (y.1, y.2, p), v)); grown = λ more. refl })
-body_kept d s b (selecting e arms labels) body (kind.Fixed fixed.Else) a y h p = record { fits = ((a, (y.0, tt, (y.1, y.2, p)), h), tt); grown = λ more. refl }
-body_kept d s b (selecting e arms labels) body (kind.Fixed fixed.EndCase) a y h p = record { fits = (h, a, (y.0, tt, (y.1, y.2, p))); grown = λ more. refl }
-body_kept d s b (selecting e arms labels) body k a y h p = tt
-body_kept d s b (otherwise_case e arms) body (kind.Fixed fixed.EndCase) a y h p = record { fits = (h, a, (y.0, y.1, y.2, p)); grown = λ more. refl }
-body_kept d s b (otherwise_case e arms) body k a y h p = tt
-
 in_body_kept : (d : ℕ) (s : List (Frame written)) (body : Statements) (k : Kind) → InStatements s → AllFit (in_loop written s) body → KeepsIn (λ more. past_stack s (spell_all body (k ∷ more))) (in_body written d s body k)
-in_body_kept d [] body k h p = tt
-in_body_kept d (unary op ∷ s) body k h p = tt
-in_body_kept d (left op f ∷ s) body k h p = tt
-in_body_kept d (bracket ∷ s) body k h p = tt
-in_body_kept d (argument a ∷ s) body k h p = tt
-in_body_kept d (waiting b u ∷ s) body k h p = tt
-in_body_kept d (within b y ∷ s) body k h p = body_kept d s b y body k h.0 h.1 h.2 p
-
-lead_kept : (d : ℕ) (s : List (Frame written)) (body : Statements) (word : Lead) (line : Line) → InStatements s → AllFit (in_loop written s) body → KeepsIn (λ more. past_stack s (spell_all body (kind.Lead word line ∷ more))) (at_lead written d s body word line)
-lead_kept d s body lead.If line h p = record { fits = (p, tt, h); grown = λ more. refl }
-lead_kept d s body lead.Case line h p = record { fits = (p, tt, h); grown = λ more. refl }
-lead_kept d s body lead.While line h p = record { fits = (p, tt, h); grown = λ more. refl }
-lead_kept d s body (lead.Jump word) line h p =
-    if_in (λ more. past_stack s (spell_all body (kind.Lead (lead.Jump word) line ∷ more))) (may_jump (in_loop written s) word) _ (λ v. record { fits = (h, p, v); grown = λ more. refl })
-lead_kept d s body (lead.AreaWrite w) line h p = record { fits = (h, p, tt); grown = λ more. refl }
-lead_kept d s body other line h p = tt
-
-statement_kept : (d : ℕ) (s : List (Frame written)) (body : Statements) (k : Kind) → InStatements s → AllFit (in_loop written s) body → KeepsIn (λ more. past_stack s (spell_all body (k ∷ more))) (at_statement written d s body k)
-statement_kept d s body (kind.Variable v line) h p = record { fits = (h, p, tt); grown = λ more. refl }
-statement_kept d s body (kind.Lead word line) h p = lead_kept d s body word line h p
-statement_kept d s body (kind.Fixed fixed.Semicolon) h p = record { fits = (h, p); grown = λ more. refl }
-statement_kept d s body other h p = in_body_kept d s body other h p
-
-target_kept : (d : ℕ) (s : List (Frame written)) (b : Begun written) (v : RawVar) (k : Kind) → InStatements s → AllFit (in_loop written s) b.before → KeepsIn (λ more. past_stack s (spell_all b.before (kind.Variable v b.line ∷ k ∷ more))) (at_target written d s b v k)
-target_kept d s b v (kind.Fixed fixed.Becomes) h p = record { fits = (p, tt, h); grown = λ more. refl }
-target_kept d s b (var.Name name) (kind.Fixed fixed.Open) h p = record { fits = (h, p, tt); grown = λ more. refl }
-target_kept d s b (var.Direct area block w byte bit) (kind.Fixed fixed.Open) h p = tt
-target_kept d s b v other h p = tt
+in_body_kept d (within b (choosing arms e) ∷ s) body (kind.Fixed fixed.Elsif) h p = record { fits = (h.0, (h.1.0, h.1.1, p), h.2); grown = λ more. refl }
+in_body_kept d (within b (choosing arms e) ∷ s) body (kind.Fixed fixed.Else) h p = record { fits = ((h.0, (tt, (h.1.0, h.1.1, p)), h.2), tt); grown = λ more. refl }
+in_body_kept d (within b (choosing arms e) ∷ s) body (kind.Fixed fixed.EndIf) h p = record { fits = (h.2, h.0, (tt, (h.1.0, h.1.1, p))); grown = λ more. refl }
+in_body_kept d (within b (otherwise arms) ∷ s) body (kind.Fixed fixed.EndIf) h p = record { fits = (h.2, h.0, (h.1.0, h.1.1, p)); grown = λ more. refl }
+in_body_kept d (within b (looping e) ∷ s) body (kind.Fixed fixed.EndWhile) h p = record { fits = (h.2, h.0, (h.1, p)); grown = λ more. refl }
+in_body_kept d (within b (selecting e arms labels) ∷ s) body (kind.Literal c) h p =
+    if_in (λ more. past_stack s (spell_all b.before (past_body b.line (selecting e arms labels) (spell_all body (kind.Literal c ∷ more))))) (is_value c) _
+    (λ v. record { fits = (h.2, h.0, (h.1.0, (h.1.1, h.1.2, p), v)); grown = λ more. refl })
+in_body_kept d (within b (selecting e arms labels) ∷ s) body (kind.Fixed fixed.Else) h p = record { fits = ((h.0, (h.1.0, tt, (h.1.1, h.1.2, p)), h.2), tt); grown = λ more. refl }
+in_body_kept d (within b (selecting e arms labels) ∷ s) body (kind.Fixed fixed.EndCase) h p = record { fits = (h.2, h.0, (h.1.0, tt, (h.1.1, h.1.2, p))); grown = λ more. refl }
+in_body_kept d (within b (otherwise_case e arms) ∷ s) body (kind.Fixed fixed.EndCase) h p = record { fits = (h.2, h.0, (h.1.0, h.1.1, h.1.2, p)); grown = λ more. refl }
+in_body_kept d s body k h p = tt
 
 label_kept : (d : ℕ) (s : List (Frame written)) (b : Begun written) (e : Form) (arms : CaseArms) (labels : Literal → Labels) (past_labels : List Kind → List Kind) (k : Kind) →
     ((c : Literal) (more : List Kind) → spell_labels (labels c) more ≡ past_labels (kind.Literal c ∷ more)) → ((c : Literal) → is_value c ≡ true → LabelsFit (labels c))
@@ -491,44 +397,45 @@ comma_is : (a : Actuals) (ks : List Kind) → HasActual a → comma_kind ∷ ks 
 comma_is no_actual ks h = absurd h
 comma_is (actual others name line v place) ks h = refl
 
-part_kept : (d : ℕ) (s : List (Frame written)) (b : Begun written) (x : Part written) (k : Kind) → InStatements s → AllFit (in_loop written s) b.before → PartFits (in_loop written s) x
-    → KeepsIn (λ more. past_stack s (spell_all b.before (past_part b.line x (k ∷ more)))) (at_part written d s b x k)
-part_kept d s b (target v) k h p x = target_kept d s b v k h p
-part_kept d s b (write_open w) (kind.Fixed fixed.Open) h p x = record { fits = (p, tt, h); grown = λ more. refl }
-part_kept d s b (write_open w) k h p x = tt
-part_kept d s b (first_formal name) (kind.Variable (var.Name formal) line) h p x = record { fits = (h, p, tt); grown = λ more. refl }
-part_kept d s b (first_formal name) (kind.Variable (var.Direct area block w byte bit) line) h p x = tt
-part_kept d s b (first_formal name) (kind.Fixed fixed.Close) h p x = record { fits = (h, p, tt); grown = λ more. refl }
-part_kept d s b (first_formal name) k h p x = tt
-part_kept d s b (next_formal name actuals) (kind.Variable (var.Name formal) line) h p x = record {
-  fits = (h, p, tt);
-  grown = λ more. ap (λ (ks : List Kind). past_stack s (spell_all b.before (past_call b.line name (spell_actuals actuals ks)))) (sym (comma_is actuals (kind.Variable (var.Name formal) line ∷ more) x));
-}
-part_kept d s b (next_formal name actuals) (kind.Variable (var.Direct area block w byte bit) line) h p x = tt
-part_kept d s b (next_formal name actuals) k h p x = tt
-part_kept d s b (becoming name actuals formal) (kind.Fixed fixed.Becomes) h p x = record { fits = (h, p, tt); grown = λ more. refl }
-part_kept d s b (becoming name actuals formal) k h p x = tt
-part_kept d s b (giving name actuals formal) (kind.Variable v line) h p x = record { fits = (h, p, tt); grown = λ more. refl }
-part_kept d s b (giving name actuals formal) k h p x = tt
-part_kept d s b (given name actuals) (kind.Fixed fixed.Comma) h p x = record { fits = (h, p, x); grown = λ more. refl }
-part_kept d s b (given name actuals) (kind.Fixed fixed.Close) h p x = record { fits = (h, p, tt); grown = λ more. refl }
-part_kept d s b (given name actuals) k h p x = tt
-part_kept d s b (first_label e arms) k h p x = label_kept d s b e arms (λ c. label c) (λ ks. ks) k (λ c more. refl) (λ c v. v) h p x.0 x.1
-part_kept d s b (next_label e arms labels) k h p x =
-    label_kept d s b e arms (λ c. more_labels labels c) (λ ks. spell_labels labels (comma_kind ∷ ks)) k (λ c more. refl) (λ c v. (x.2, v)) h p x.0 x.1
-part_kept d s b (labelled e arms labels) (kind.Fixed fixed.Comma) h p x = record { fits = (h, p, x); grown = λ more. refl }
-part_kept d s b (labelled e arms labels) (kind.Fixed fixed.Colon) h p x = record { fits = ((p, x, h), tt); grown = λ more. refl }
-part_kept d s b (labelled e arms labels) k h p x = tt
-
-closing_kept : (d : ℕ) (s : List (Frame written)) (before : Statements) (x : Statement) (k : Kind) → InStatements s → AllFit (in_loop written s) before → Fits (in_loop written s) x
-    → KeepsIn (λ more. past_stack s (spell_all before (spell_one x (k ∷ more)))) (at_closing written d s before x k)
-closing_kept d s before x (kind.Fixed fixed.Semicolon) h p f = record { fits = (h, (p, f)); grown = λ more. refl }
-closing_kept d s before x other h p f = tt
-
 pub step_kept : (d : ℕ) (s : List (Frame written)) (p : Place written) (k : Kind) → PlaceFits s p → KeepsIn (λ more. past_stack s (past_place p (k ∷ more))) (step_at written d s p k)
-step_kept d s (statement body) k h = statement_kept d s body k h.0 h.1
-step_kept d s (part b x) k h = part_kept d s b x k h.0 h.1 h.2
-step_kept d s (closing before x) k h = closing_kept d s before x k h.0 h.1 h.2
-step_kept d s operand k h = operand_kept d s k h
-step_kept d s (operator f) k h = operator_kept d s f k h.0 h.1 h.2
-step_kept d s (opening f) k h = opening_kept d s f k h
+step_kept d s (statement body) (kind.Variable v line) h = record { fits = (h.0, h.1, tt); grown = λ more. refl }
+step_kept d s (statement body) (kind.Lead lead.If line) h = record { fits = (h.1, tt, h.0); grown = λ more. refl }
+step_kept d s (statement body) (kind.Lead lead.Case line) h = record { fits = (h.1, tt, h.0); grown = λ more. refl }
+step_kept d s (statement body) (kind.Lead lead.While line) h = record { fits = (h.1, tt, h.0); grown = λ more. refl }
+step_kept d s (statement body) (kind.Lead (lead.Jump word) line) h =
+    if_in (λ more. past_stack s (spell_all body (kind.Lead (lead.Jump word) line ∷ more))) (may_jump (in_loop written s) word) _ (λ v. record { fits = (h.0, h.1, v); grown = λ more. refl })
+step_kept d s (statement body) (kind.Lead (lead.AreaWrite w) line) h = record { fits = (h.0, h.1, tt); grown = λ more. refl }
+step_kept d s (statement body) (kind.Lead other line) h = tt
+step_kept d s (statement body) (kind.Fixed fixed.Semicolon) h = record { fits = (h.0, h.1); grown = λ more. refl }
+step_kept d s (statement body) other h = in_body_kept d s body other h.0 h.1
+step_kept d s (part b (target v)) (kind.Fixed fixed.Becomes) h = record { fits = (h.1, tt, h.0); grown = λ more. refl }
+step_kept d s (part b (target (var.Name name))) (kind.Fixed fixed.Open) h = record { fits = (h.0, h.1, tt); grown = λ more. refl }
+step_kept d s (part b (write_open w)) (kind.Fixed fixed.Open) h = record { fits = (h.1, tt, h.0); grown = λ more. refl }
+step_kept d s (part b (first_formal name)) (kind.Variable (var.Name formal) line) h = record { fits = (h.0, h.1, tt); grown = λ more. refl }
+step_kept d s (part b (first_formal name)) (kind.Fixed fixed.Close) h = record { fits = (h.0, h.1, tt); grown = λ more. refl }
+step_kept d s (part b (next_formal name actuals)) (kind.Variable (var.Name formal) line) h = record {
+  fits = (h.0, h.1, tt);
+  grown = λ more. ap (λ (ks : List Kind). past_stack s (spell_all b.before (past_call b.line name (spell_actuals actuals ks)))) (sym (comma_is actuals (kind.Variable (var.Name formal) line ∷ more) h.2));
+}
+step_kept d s (part b (becoming name actuals formal)) (kind.Fixed fixed.Becomes) h = record { fits = (h.0, h.1, tt); grown = λ more. refl }
+step_kept d s (part b (giving name actuals formal)) (kind.Variable v line) h = record { fits = (h.0, h.1, tt); grown = λ more. refl }
+step_kept d s (part b (given name actuals)) (kind.Fixed fixed.Comma) h = record { fits = (h.0, h.1, h.2); grown = λ more. refl }
+step_kept d s (part b (given name actuals)) (kind.Fixed fixed.Close) h = record { fits = (h.0, h.1, tt); grown = λ more. refl }
+step_kept d s (part b (first_label e arms)) k h = label_kept d s b e arms (λ c. label c) (λ ks. ks) k (λ c more. refl) (λ c v. v) h.0 h.1 h.2.0 h.2.1
+step_kept d s (part b (next_label e arms labels)) k h =
+    label_kept d s b e arms (λ c. more_labels labels c) (λ ks. spell_labels labels (comma_kind ∷ ks)) k (λ c more. refl) (λ c v. (h.2.2, v)) h.0 h.1 h.2.0 h.2.1
+step_kept d s (part b (labelled e arms labels)) (kind.Fixed fixed.Comma) h = record { fits = (h.0, h.1, h.2); grown = λ more. refl }
+step_kept d s (part b (labelled e arms labels)) (kind.Fixed fixed.Colon) h = record { fits = ((h.1, h.2, h.0), tt); grown = λ more. refl }
+step_kept d s (closing before x) (kind.Fixed fixed.Semicolon) h = record { fits = (h.0, (h.1, h.2)); grown = λ more. refl }
+step_kept d s operand (kind.Literal c) h = if_in (λ more. past_stack s (kind.Literal c ∷ more)) (is_value c) _ (λ v. record { fits = (h, v, refl); grown = λ more. refl })
+step_kept d s operand (kind.Variable v line) h = record { fits = (h, tt, refl); grown = λ more. refl }
+step_kept d s operand (kind.Fixed fixed.Not) h = prefix_kept d s before.Not h
+step_kept d s operand (kind.Fixed (fixed.Between binary.Sub)) h = prefix_kept d s before.Minus h
+step_kept d s operand (kind.Fixed fixed.Open) h = record { fits = h; grown = λ more. refl }
+step_kept d s operand (kind.Fixed (fixed.Function f)) h = record { fits = h; grown = λ more. refl }
+step_kept d s (operator f) (kind.Fixed (fixed.Between op)) h = waits_kept s f (reduce written (infix_level op) d s f) op (fitting (infix_level op) d s f (infix_most op) h.0 h.1 (omega arith) (omega arith))
+step_kept d s (operator f) other h = reduced_kept d s f (reduce written weakest d s f) other (fitting weakest d s f (omega arith) h.0 h.1 (omega arith) (omega arith))
+step_kept d s (opening (function.One op)) (kind.Fixed fixed.Open) h = record { fits = (tt, h); grown = λ more. refl }
+step_kept d s (opening (function.Shift op)) (kind.Fixed fixed.Open) h = record { fits = (tt, h); grown = λ more. refl }
+step_kept d s (opening function.Select) (kind.Fixed fixed.Open) h = record { fits = (tt, h); grown = λ more. refl }
+step_kept d s p k h = tt

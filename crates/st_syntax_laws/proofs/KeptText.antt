@@ -1,21 +1,20 @@
 -- The pass keeps in its state what it has passed of a whole text.
-use Rattle.std.proofs.Common.{◌≡◌, ℕ, zero, suc, Bool, true, false, List, [], ◌∷◌, Option, Some, None, refl, ap}
+use Rattle.std.proofs.Common.{◌≡◌, ℕ, zero, Bool, true, false, List, [], ◌∷◌, Option, Some, None, refl, ap}
 use Rattle.std.specs.Prelude.{IfSome, if◌then◌else◌, option_map}
 use Rattle.s7_base.specs.declared.reason.Line.{Line}
 use Rattle.st_syntax_laws.proofs.DriveSource.{Declared}
-use Rattle.st_syntax_laws.proofs.Kept.{past_stack, past_place, past_array, past_row, past_top, past, HasItem, RowFits, TextFits, TopFits, WhichFits, Shaped, KeptIn, Kept, if_to, step_kept}
-use Rattle.st_grammar.specs.Forms.{Statements, none, Items, no_item, single, times, Globals, Locals, no_local, local, Section, absent, unit}
+use Rattle.st_syntax_laws.proofs.Kept.{past_stack, past_place, past_array, past_row, past_top, past, HasItem, RowFits, TextFits, TopFits, Shaped, KeptIn, Kept, if_to, step_kept}
+use Rattle.st_grammar.specs.Forms.{Statements, none, Items, no_item, Globals, Locals, no_local, local, Section, absent, unit}
 use Rattle.st_grammar.specs.Grammar.{is_direct, GlobalsFit, FormalsFit, LocalsFit, IfPresent, HeadFits, AllFit, spell_all, comma_past, spell_items, spell_initial, spell_globals, end_word, spell_formals, spell_temps}
 use Rattle.st_tree.specs.Naming.{is_free, may_name_global, may_name_unit, names_block}
-use Rattle.st_grammar.specs.inner.Machine.{written, Frame, Place, statement, part, closing, operand, operator, opening, Spot, Row, at_word, at_place, at_colon, at_type, at_square, at_zero, at_dots, at_last, at_close, at_of, at_byte, at_becomes, at_open, at_item, at_count, at_value, at_value_end, at_comma, at_end, Typing, local_colon, local_type, local_end, Before, Top, Which, formals, temps, State, start, globals, row, between, heading, opened, formals_done, section, typing, inside, over}
-use Rattle.st_grammar.specs.inner.Steps.{spot, step_at, row_type, row_place, row_array, row_items, row_step, row_end, at_row, is_zero, at_globals, before_units, may_name, may_type, at_between, at_start, at_heading, at_section, at_typing, ends, leave, at_inside, at_formals_done, at_opened, next}
+use Rattle.st_grammar.specs.inner.Machine.{written, Frame, Place, statement, Spot, Row, at_word, at_place, at_colon, at_type, at_square, at_zero, at_dots, at_last, at_close, at_of, at_byte, at_becomes, at_open, at_item, at_count, at_value, at_value_end, at_comma, at_end, local_colon, local_type, local_end, Before, Top, formals, temps, State, start, globals, row, between, heading, opened, formals_done, section, typing, inside}
+use Rattle.st_grammar.specs.inner.Steps.{spot, step_at, row_step, before_units, may_name, may_type, at_between, ends, leave, at_inside, at_formals_done, next}
 use Rattle.st_grammar.specs.declared.kind.Fixed.TheVariants as fixed
 use Rattle.st_grammar.specs.declared.kind.Kind.{Kind}
 use Rattle.st_grammar.specs.declared.kind.Kind.TheVariants as kind
 use Rattle.st_grammar.specs.declared.kind.Lead.TheVariants as lead
 use Rattle.st_grammar.specs.declared.kind.Literal.TheVariants as lit
 use Rattle.st_tree.specs.declared.expr.StType.TheVariants as type
-use Rattle.st_tree.specs.declared.raw.RawVar.{RawVar}
 use Rattle.st_tree.specs.declared.raw.RawVar.TheVariants as var
 
 -- Globals
@@ -31,94 +30,46 @@ if_row name before false x h = tt
 abbrev KeepsRow : List ℕ → Row written → Kind → Option (Row written) → Type 0
 KeepsRow name x k o = IfSome o (KeptRow name (λ more. past_row x (k ∷ more)))
 
-type_kept : (name : List ℕ) (v : RawVar × Line) (k : Kind) → is_direct v.0 ≡ true → KeepsRow name (at_type v) k (row_type written name v k)
-type_kept name v (kind.Fixed (fixed.Type ty)) h = if_row name (λ more. past_row (at_type v) (kind.Fixed (fixed.Type ty) ∷ more)) (is_free name) _ (λ c. record { fits = (h, c); grown = λ more. refl })
-type_kept name v (kind.Fixed fixed.Array) h = if_row name (λ more. past_row (at_type v) (kind.Fixed fixed.Array ∷ more)) (names_block name) _ (λ c. record { fits = (h, c); grown = λ more. refl })
-type_kept name v other h = tt
-
-place_kept : (name : List ℕ) (k : Kind) → KeepsRow name at_place k (row_place written k)
-place_kept name (kind.Variable v line) = if_row name (λ more. past_row at_place (kind.Variable v line ∷ more)) (is_direct v) _ (λ c. record { fits = c; grown = λ more. refl })
-place_kept name other = tt
-
-zero_kept : (name : List ℕ) (v : RawVar × Line) (n : ℕ) → RowFits name (at_zero v) → KeepsRow name (at_zero v) (kind.Literal (lit.Decimal n)) (if is_zero n then Some (at_dots v) else None)
-zero_kept name v zero h = record { fits = h; grown = λ more. refl }
-zero_kept name v (suc n) h = tt
-
-array_kept : (name : List ℕ) (x : Row written) (k : Kind) → RowFits name x → KeepsRow name x k (row_array written x k)
-array_kept name (at_square v) (kind.Fixed fixed.OpenSquare) h = record { fits = h; grown = λ more. refl }
-array_kept name (at_square v) k h = tt
-array_kept name (at_zero v) (kind.Literal (lit.Decimal n)) h = zero_kept name v n h
-array_kept name (at_zero v) k h = tt
-array_kept name (at_dots v) (kind.Fixed fixed.Dots) h = record { fits = h; grown = λ more. refl }
-array_kept name (at_dots v) k h = tt
-array_kept name (at_last v) (kind.Literal (lit.Decimal last)) h = record { fits = h; grown = λ more. refl }
-array_kept name (at_last v) k h = tt
-array_kept name (at_close v last) (kind.Fixed fixed.CloseSquare) h = record { fits = h; grown = λ more. refl }
-array_kept name (at_close v last) k h = tt
-array_kept name (at_of v last) (kind.Fixed fixed.Of) h = record { fits = h; grown = λ more. refl }
-array_kept name (at_of v last) k h = tt
-array_kept name (at_byte v last) (kind.Fixed (fixed.Type type.Byte)) h = record { fits = h; grown = λ more. refl }
-array_kept name (at_byte v last) k h = tt
-array_kept name x k h = tt
-
 item_comma : (items : Items) (ks : List Kind) → HasItem items → comma_past items ks ≡ kind.Fixed fixed.Comma ∷ ks
 item_comma no_item ks h = absurd h
-item_comma (single others b) ks h = refl
-item_comma (times others count b) ks h = refl
+item_comma items ks h = refl
 
 initial_is : (items : Items) (ks : List Kind) → HasItem items → spell_initial items ks ≡ kind.Fixed fixed.Becomes ∷ kind.Fixed fixed.OpenSquare ∷ spell_items items (kind.Fixed fixed.CloseSquare ∷ ks)
 initial_is no_item ks h = absurd h
-initial_is (single others b) ks h = refl
-initial_is (times others count b) ks h = refl
-
-items_kept : (name : List ℕ) (x : Row written) (k : Kind) → RowFits name x → KeepsRow name x k (row_items written x k)
-items_kept name (at_becomes v last) (kind.Fixed fixed.Becomes) h = record { fits = h; grown = λ more. refl }
-items_kept name (at_becomes v last) k h = tt
-items_kept name (at_open v last) (kind.Fixed fixed.OpenSquare) h = record { fits = h; grown = λ more. refl }
-items_kept name (at_open v last) k h = tt
-items_kept name (at_item v last items) (kind.Literal (lit.Byte b)) h = record { fits = (h.0, h.1, tt); grown = λ more. refl }
-items_kept name (at_item v last items) (kind.Literal (lit.Decimal count)) h = record { fits = h; grown = λ more. refl }
-items_kept name (at_item v last items) k h = tt
-items_kept name (at_count v last items count) (kind.Fixed fixed.Open) h = record { fits = h; grown = λ more. refl }
-items_kept name (at_count v last items count) k h = tt
-items_kept name (at_value v last items count) (kind.Literal (lit.Byte b)) h = record { fits = h; grown = λ more. refl }
-items_kept name (at_value v last items count) k h = tt
-items_kept name (at_value_end v last items count b) (kind.Fixed fixed.Close) h = record { fits = (h.0, h.1, tt); grown = λ more. refl }
-items_kept name (at_value_end v last items count b) k h = tt
-items_kept name (at_comma v last items) (kind.Fixed fixed.Comma) h = record {
-  fits = (h.0, h.1);
-  grown = λ more. ap (λ (ks : List Kind). past_array v last (kind.Fixed fixed.Becomes ∷ kind.Fixed fixed.OpenSquare ∷ spell_items items ks)) (item_comma items more h.2);
-}
-items_kept name (at_comma v last items) (kind.Fixed fixed.CloseSquare) h = record {
-  fits = (h.0, h.1);
-  grown = λ more. ap (λ (ks : List Kind). past_array v last ks) (initial_is items more h.2);
-}
-items_kept name (at_comma v last items) k h = tt
-items_kept name x k h = tt
+initial_is items ks h = refl
 
 row_kept : (name : List ℕ) (x : Row written) (k : Kind) → RowFits name x → KeepsRow name x k (row_step written name x k)
 row_kept name at_word (kind.Fixed fixed.At) h = record { fits = tt; grown = λ more. refl }
-row_kept name at_word k h = tt
-row_kept name at_place k h = place_kept name k
+row_kept name at_place (kind.Variable v line) h = if_row name (λ more. past_row at_place (kind.Variable v line ∷ more)) (is_direct v) _ (λ c. record { fits = c; grown = λ more. refl })
 row_kept name (at_colon v) (kind.Fixed fixed.Colon) h = record { fits = h; grown = λ more. refl }
-row_kept name (at_colon v) k h = tt
-row_kept name (at_type v) k h = type_kept name v k h
-row_kept name (at_square v) k h = array_kept name (at_square v) k h
-row_kept name (at_zero v) k h = array_kept name (at_zero v) k h
-row_kept name (at_dots v) k h = array_kept name (at_dots v) k h
-row_kept name (at_last v) k h = array_kept name (at_last v) k h
-row_kept name (at_close v last) k h = array_kept name (at_close v last) k h
-row_kept name (at_of v last) k h = array_kept name (at_of v last) k h
-row_kept name (at_byte v last) k h = array_kept name (at_byte v last) k h
-row_kept name x k h = items_kept name x k h
+row_kept name (at_type v) (kind.Fixed (fixed.Type ty)) h = if_row name (λ more. past_row (at_type v) (kind.Fixed (fixed.Type ty) ∷ more)) (is_free name) _ (λ c. record { fits = (h, c); grown = λ more. refl })
+row_kept name (at_type v) (kind.Fixed fixed.Array) h = if_row name (λ more. past_row (at_type v) (kind.Fixed fixed.Array ∷ more)) (names_block name) _ (λ c. record { fits = (h, c); grown = λ more. refl })
+row_kept name (at_square v) (kind.Fixed fixed.OpenSquare) h = record { fits = h; grown = λ more. refl }
+row_kept name (at_zero v) (kind.Literal (lit.Decimal zero)) h = record { fits = h; grown = λ more. refl }
+row_kept name (at_dots v) (kind.Fixed fixed.Dots) h = record { fits = h; grown = λ more. refl }
+row_kept name (at_last v) (kind.Literal (lit.Decimal last)) h = record { fits = h; grown = λ more. refl }
+row_kept name (at_close v last) (kind.Fixed fixed.CloseSquare) h = record { fits = h; grown = λ more. refl }
+row_kept name (at_of v last) (kind.Fixed fixed.Of) h = record { fits = h; grown = λ more. refl }
+row_kept name (at_byte v last) (kind.Fixed (fixed.Type type.Byte)) h = record { fits = h; grown = λ more. refl }
+row_kept name (at_becomes v last) (kind.Fixed fixed.Becomes) h = record { fits = h; grown = λ more. refl }
+row_kept name (at_open v last) (kind.Fixed fixed.OpenSquare) h = record { fits = h; grown = λ more. refl }
+row_kept name (at_item v last items) (kind.Literal (lit.Byte b)) h = record { fits = (h.0, h.1, tt); grown = λ more. refl }
+row_kept name (at_item v last items) (kind.Literal (lit.Decimal count)) h = record { fits = h; grown = λ more. refl }
+row_kept name (at_count v last items count) (kind.Fixed fixed.Open) h = record { fits = h; grown = λ more. refl }
+row_kept name (at_value v last items count) (kind.Literal (lit.Byte b)) h = record { fits = h; grown = λ more. refl }
+row_kept name (at_value_end v last items count b) (kind.Fixed fixed.Close) h = record { fits = (h.0, h.1, tt); grown = λ more. refl }
+row_kept name (at_comma v last items) (kind.Fixed fixed.Comma) h = record {
+  fits = (h.0, h.1);
+  grown = λ more. ap (λ (ks : List Kind). past_array v last (kind.Fixed fixed.Becomes ∷ kind.Fixed fixed.OpenSquare ∷ spell_items items ks)) (item_comma items more h.2);
+}
+row_kept name (at_comma v last items) (kind.Fixed fixed.CloseSquare) h = record {
+  fits = (h.0, h.1);
+  grown = λ more. ap (λ (ks : List Kind). past_array v last ks) (initial_is items more h.2);
+}
+row_kept name x k h = tt
 
 abbrev Keeps : State written → Kind → Option (State written) → Type 0
 Keeps q k o = IfSome o (Kept (λ more. past q (k ∷ more)))
-
-row_end_kept : (done : Globals) (name : List ℕ) (line : Line) (x : Row written) → GlobalsFit done → RowFits name x → Keeps (row done name line x) (kind.Fixed fixed.Semicolon) (row_end written done name line x)
-row_end_kept done name line (at_end v ty) g h = record { shaped = (g, h.0, h.1); grown = λ more. refl }
-row_end_kept done name line (at_becomes v last) g h = record { shaped = (g, h.0, h.1); grown = λ more. refl }
-row_end_kept done name line x g h = tt
 
 rowed : (done : Globals) (name : List ℕ) (line : Line) (x : Row written) (k : Kind) (o : Option (Row written)) → GlobalsFit done → may_name_global name ≡ true → KeepsRow name x k o
     → Keeps (row done name line x) k (option_map (λ (y : Row written). row done name line y) o)
@@ -128,34 +79,13 @@ rowed done name line x k (Some y) g n h = record {
   grown = λ more. ap (λ (ks : List Kind). kind.Fixed fixed.VarGlobal ∷ spell_globals done (kind.Variable (var.Name name) line ∷ ks)) (h.grown more);
 }
 
-at_row_kept : (done : Globals) (name : List ℕ) (line : Line) (x : Row written) (k : Kind) → GlobalsFit done → may_name_global name ≡ true → RowFits name x → Keeps (row done name line x) k (at_row written done name line x k)
-at_row_kept done name line x (kind.Fixed fixed.Semicolon) g n h = row_end_kept done name line x g h
-at_row_kept done name line x k g n h = rowed done name line x k (row_step written name x k) g n (row_kept name x k h)
-
-at_globals_kept : (done : Globals) (k : Kind) → GlobalsFit done → Keeps (globals done) k (at_globals written done k)
-at_globals_kept done (kind.Variable (var.Name name) line) g = if_to (λ more. past (globals done) (kind.Variable (var.Name name) line ∷ more)) (may_name_global name) _ (λ c. record { shaped = (g, c, tt); grown = λ more. refl })
-at_globals_kept done (kind.Variable (var.Direct area block w byte bit) line) g = tt
-at_globals_kept done (kind.Fixed fixed.EndVar) g = record { shaped = (g, tt); grown = λ more. refl }
-at_globals_kept done other g = tt
-
 -- Units
 
 at_between_kept : (text : Before written) (k : Kind) → TextFits text → Keeps (between text) k (at_between written text k)
 at_between_kept text (kind.Lead lead.Program line) h = record { shaped = h; grown = λ more. refl }
 at_between_kept text (kind.Lead lead.Function line) h = record { shaped = h; grown = λ more. refl }
-at_between_kept text (kind.Lead other line) h = tt
 at_between_kept text (kind.Fixed fixed.End) h = record { shaped = h; grown = λ more. refl }
 at_between_kept text other h = tt
-
-at_start_kept : (k : Kind) → Keeps start k (at_start written k)
-at_start_kept (kind.Fixed fixed.VarGlobal) = record { shaped = tt; grown = λ more. refl }
-at_start_kept other = at_between_kept (before_units written absent) other (tt, tt)
-
-at_heading_kept : (text : Before written) (program : Bool) (line : Line) (k : Kind) → TextFits text → Keeps (heading text program line) k (at_heading written text program line k)
-at_heading_kept text program line (kind.Variable (var.Name name) place) h =
-    if_to (λ more. past (heading text program line) (kind.Variable (var.Name name) place ∷ more)) (may_name_unit name) _ (λ c. record { shaped = (h, c); grown = λ more. refl })
-at_heading_kept text program line (kind.Variable (var.Direct area block w byte bit) place) h = tt
-at_heading_kept text program line other h = tt
 
 formals_fit : (l : Locals) → Declared formals l → FormalsFit l
 formals_fit no_local h = tt
@@ -165,35 +95,13 @@ locals_fit : (f : Section Locals) (l : Locals) → Declared (temps f) l → Loca
 locals_fit f no_local h = tt
 locals_fit f (local others name line ty) h = (locals_fit f others h.0, h.1)
 
-at_section_kept : (top : Top written) (which : Which written) (done : Locals) (k : Kind) → TopFits top → WhichFits top which → Declared which done → Keeps (section top which done) k (at_section written top which done k)
-at_section_kept top which done (kind.Variable (var.Name name) line) t w d =
-    if_to (λ more. past (section top which done) (kind.Variable (var.Name name) line ∷ more)) (may_name written which name) _ (λ c. record { shaped = (t, w, d, c, tt); grown = λ more. refl })
-at_section_kept top which done (kind.Variable (var.Direct area block w byte bit) line) t x d = tt
-at_section_kept top formals done (kind.Fixed fixed.EndVar) t w d = record { shaped = (t, (w, formals_fit done d)); grown = λ more. refl }
-at_section_kept top (temps f) done (kind.Fixed fixed.EndVar) t w d = record { shaped = (t, w, locals_fit f done d, (tt, tt)); grown = λ more. refl }
-at_section_kept top which done other t w d = tt
-
-at_typing_kept : (top : Top written) (which : Which written) (done : Locals) (name : List ℕ) (line : Line) (x : Typing) (k : Kind) → Shaped (typing top which done name line x)
-    → Keeps (typing top which done name line x) k (at_typing written top which done name line x k)
-at_typing_kept top which done name line local_colon (kind.Fixed fixed.Colon) h = record { shaped = (h.0, h.1, h.2, h.3, tt); grown = λ more. refl }
-at_typing_kept top which done name line local_colon k h = tt
-at_typing_kept top which done name line local_type (kind.Fixed (fixed.Type ty)) h =
-    if_to (λ more. past (typing top which done name line local_type) (kind.Fixed (fixed.Type ty) ∷ more)) (may_type written which ty) _ (λ c. record { shaped = (h.0, h.1, h.2, h.3, c); grown = λ more. refl })
-at_typing_kept top which done name line local_type k h = tt
-at_typing_kept top which done name line (local_end ty) (kind.Fixed fixed.Semicolon) h = record { shaped = (h.0, h.1, (h.2, h.3, h.4)); grown = λ more. refl }
-at_typing_kept top which done name line (local_end ty) k h = tt
-
 -- the end of a unit, where its head says what it is
 left_kept : (program : Bool) (top : Top written) (f l : Section Locals) (body : Statements) (c : Bool) → top.head.program ≡ c → TopFits top → HeadFits top.head.program f → IfPresent LocalsFit l → AllFit false body
     → IfSome (if ends program c then Some (between (record { globals = top.text.globals; units = unit top.text.units top.head f l body })) else None)
     (Kept (λ more. past_top top (spell_formals f (spell_temps l (spell_all body (end_word program ∷ more))))))
-left_kept true top f l body true e t hf hl hb = record {
-  shaped = (t.0.0, (t.0.1, t.1, hf, hl, hb));
-  grown = λ more. ap (λ (c : Bool). past_top top (spell_formals f (spell_temps l (spell_all body (end_word c ∷ more))))) e;
-}
 left_kept true top f l body false e t hf hl hb = tt
 left_kept false top f l body true e t hf hl hb = tt
-left_kept false top f l body false e t hf hl hb = record {
+left_kept program top f l body c e t hf hl hb = record {
   shaped = (t.0.0, (t.0.1, t.1, hf, hl, hb));
   grown = λ more. ap (λ (c : Bool). past_top top (spell_formals f (spell_temps l (spell_all body (end_word c ∷ more))))) e;
 }
@@ -201,12 +109,7 @@ left_kept false top f l body false e t hf hl hb = record {
 leave_kept : (program : Bool) (top : Top written) (f l : Section Locals) (d : ℕ) (s : List (Frame written)) (p : Place written) → Shaped (inside top f l (spot written d s p))
     → Keeps (inside top f l (spot written d s p)) (end_word program) (leave written program top f l s p)
 leave_kept program top f l d [] (statement body) h = left_kept program top f l body top.head.program refl h.0 h.1 h.2 h.3.1
-leave_kept program top f l d [] (part b x) h = tt
-leave_kept program top f l d [] (closing before x) h = tt
-leave_kept program top f l d [] operand h = tt
-leave_kept program top f l d [] (operator e) h = tt
-leave_kept program top f l d [] (opening e) h = tt
-leave_kept program top f l d (x ∷ s) p h = tt
+leave_kept program top f l d s p h = tt
 
 entered : (top : Top written) (f l : Section Locals) (at : Spot written) (k : Kind) (o : Option (Spot written)) → Shaped (inside top f l at) → IfSome o (KeptIn (λ more. past_stack at.stack (past_place at.place (k ∷ more))))
     → Keeps (inside top f l at) k (option_map (λ (to : Spot written). inside top f l to) o)
@@ -229,19 +132,28 @@ in_out_kept : (top : Top written) (c : Bool) → top.head.program ≡ c → TopF
 in_out_kept top true e t = tt
 in_out_kept top false e t = record { shaped = (t, e, tt); grown = λ more. refl }
 
-at_opened_kept : (top : Top written) (k : Kind) → TopFits top → Keeps (opened top) k (at_opened written top k)
-at_opened_kept top (kind.Fixed fixed.VarInOut) t = in_out_kept top top.head.program refl t
-at_opened_kept top other t = at_formals_done_kept top absent other t tt
-
 pub kept : (q : State written) (k : Kind) → Shaped q → Keeps q k (next written q k)
-kept start k h = at_start_kept k
-kept (globals done) k h = at_globals_kept done k h
-kept (row done name line x) k h = at_row_kept done name line x k h.0 h.1 h.2
+kept start (kind.Fixed fixed.VarGlobal) h = record { shaped = tt; grown = λ more. refl }
+kept start other h = at_between_kept (before_units written absent) other (tt, tt)
+kept (globals done) (kind.Variable (var.Name name) line) g = if_to (λ more. past (globals done) (kind.Variable (var.Name name) line ∷ more)) (may_name_global name) _ (λ c. record { shaped = (g, c, tt); grown = λ more. refl })
+kept (globals done) (kind.Fixed fixed.EndVar) g = record { shaped = (g, tt); grown = λ more. refl }
+kept (row done name line (at_end v ty)) (kind.Fixed fixed.Semicolon) h = record { shaped = (h.0, h.2.0, h.2.1); grown = λ more. refl }
+kept (row done name line (at_becomes v last)) (kind.Fixed fixed.Semicolon) h = record { shaped = (h.0, h.2.0, h.2.1); grown = λ more. refl }
+kept (row done name line x) (kind.Fixed fixed.Semicolon) h = tt
+kept (row done name line x) k h = rowed done name line x k (row_step written name x k) h.0 h.1 (row_kept name x k h.2)
 kept (between text) k h = at_between_kept text k h
-kept (heading text program line) k h = at_heading_kept text program line k h
-kept (opened top) k h = at_opened_kept top k h
+kept (heading text program line) (kind.Variable (var.Name name) place) h =
+    if_to (λ more. past (heading text program line) (kind.Variable (var.Name name) place ∷ more)) (may_name_unit name) _ (λ c. record { shaped = (h, c); grown = λ more. refl })
+kept (opened top) (kind.Fixed fixed.VarInOut) t = in_out_kept top top.head.program refl t
+kept (opened top) other t = at_formals_done_kept top absent other t tt
 kept (formals_done top f) k h = at_formals_done_kept top f k h.0 h.1
-kept (section top which done) k h = at_section_kept top which done k h.0 h.1 h.2
-kept (typing top which done name line x) k h = at_typing_kept top which done name line x k h
+kept (section top which done) (kind.Variable (var.Name name) line) h =
+    if_to (λ more. past (section top which done) (kind.Variable (var.Name name) line ∷ more)) (may_name written which name) _ (λ c. record { shaped = (h.0, h.1, h.2, c, tt); grown = λ more. refl })
+kept (section top formals done) (kind.Fixed fixed.EndVar) h = record { shaped = (h.0, (h.1, formals_fit done h.2)); grown = λ more. refl }
+kept (section top (temps f) done) (kind.Fixed fixed.EndVar) h = record { shaped = (h.0, h.1, locals_fit f done h.2, (tt, tt)); grown = λ more. refl }
+kept (typing top which done name line local_colon) (kind.Fixed fixed.Colon) h = record { shaped = (h.0, h.1, h.2, h.3, tt); grown = λ more. refl }
+kept (typing top which done name line local_type) (kind.Fixed (fixed.Type ty)) h =
+    if_to (λ more. past (typing top which done name line local_type) (kind.Fixed (fixed.Type ty) ∷ more)) (may_type written which ty) _ (λ c. record { shaped = (h.0, h.1, h.2, h.3, c); grown = λ more. refl })
+kept (typing top which done name line (local_end ty)) (kind.Fixed fixed.Semicolon) h = record { shaped = (h.0, h.1, (h.2, h.3, h.4)); grown = λ more. refl }
 kept (inside top f l at) k h = at_inside_kept top f l at k h
-kept (over text) k h = tt
+kept q other h = tt

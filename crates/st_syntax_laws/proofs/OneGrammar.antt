@@ -23,29 +23,12 @@ prefix_most before.Not = omega arith
 
 infix_within : (o : BinaryOp) → (infix_level o ≤ weakest) × (0 < infix_level o)
 infix_within op.Mul = (omega arith, omega arith)
-infix_within op.Div = (omega arith, omega arith)
-infix_within op.Mod = (omega arith, omega arith)
-infix_within op.Add = (omega arith, omega arith)
-infix_within op.Sub = (omega arith, omega arith)
-infix_within op.Lt = (omega arith, omega arith)
-infix_within op.Gt = (omega arith, omega arith)
-infix_within op.Le = (omega arith, omega arith)
-infix_within op.Ge = (omega arith, omega arith)
-infix_within op.Eq = (omega arith, omega arith)
-infix_within op.Ne = (omega arith, omega arith)
-infix_within op.And = (omega arith, omega arith)
-infix_within op.Xor = (omega arith, omega arith)
-infix_within op.Or = (omega arith, omega arith)
+infix_within o = (omega arith, omega arith)
 
 level_most : (f : Form) → level f ≤ weakest
-level_most (literal c) = omega arith
-level_most (variable v line) = omega arith
-level_most (group f) = omega arith
 level_most (prefix o f) = prefix_most o
 level_most (infix_of o f g) = (infix_within o).0
-level_most (apply o f) = omega arith
-level_most (shift o f g) = omega arith
-level_most (select f g h) = omega arith
+level_most f = omega arith
 
 less_one : (j k : ℕ) → j < k → j ≤ k - 1
 less_one j k h = omega arith
@@ -86,8 +69,6 @@ in_brackets : (s : List Kind → List Kind) (k : Kind) → Passes s → Passes (
 in_brackets s k p more = ap (λ (ks : List Kind). k ∷ kind.Fixed fixed.Open ∷ ks) (p more)
 
 pub passes : (f : Form) (more : List Kind) → spell f more ≡ spell f [] ++ more
-passes (literal c) more = refl
-passes (variable v line) more = refl
 passes (group f) more = begun (to_close (spell f)) (kind.Fixed fixed.Open) (closed (spell f) (passes f)) more
 passes (prefix o f) more = begun (spell f) (prefix_kind o) (passes f) more
 passes (infix_of o f g) more = joined (spell f) (spell g) (kind.Fixed (fixed.Between o)) (passes f) (passes g) more
@@ -100,6 +81,7 @@ passes (select f g h) more =
     let inner = comma (spell f) last in
     in_brackets inner (kind.Fixed (fixed.Function function.Select))
     (listed (spell f) last (passes f) (listed (spell g) (to_close (spell h)) (passes g) (closed (spell h) (passes h)))) more
+passes f more = refl
 
 -- the tokens of parts with a bracket, an operator or commas after them
 with_close : (f : Form) → spell f (kind.Fixed fixed.Close ∷ []) ≡ spell f [] ++ kind.Fixed fixed.Close ∷ []

@@ -11,7 +11,6 @@ use Rattle.st_syntax_laws.proofs.Exact.{Read, read_all}
 use Rattle.st_syntax_laws.proofs.Verdicts.{Refuses, Says, says}
 use Rattle.st_grammar.specs.inner.Judge.{judge, raw_of, text_in}
 use Rattle.st_grammar.specs.inner.Machine.{code, Before, State, start, over}
-use Rattle.st_tree.specs.declared.raw.RawSt.{RawSt}
 use Rattle.st_grammar.specs.Syntax.{all_lined, HasRawTree, IsSyntaxRefused}
 
 -- a text whose tokens are judged good has the tree of its end

@@ -16,11 +16,10 @@ use Rattle.std.proofs.lemmas.Bool.{and_parts}
 
 pub same_keys : (a b : List ℕ) → is_same a b ≡ true → a ≡ b
 same_keys [] [] h = refl
-same_keys [] (y ∷ ys) h = absurd cc
-same_keys (x ∷ xs) [] h = absurd cc
 same_keys (x ∷ xs) (y ∷ ys) h =
     let t = and_parts (nat_eq x y) (pointwise nat_eq xs ys) h in
     ap (λ k. k ∷ xs) (eqb-true x y t.0) ∙ ap (λ l. y ∷ l) (same_keys xs ys t.1)
+same_keys a b h = absurd cc
 
 -- What stands under a key
 

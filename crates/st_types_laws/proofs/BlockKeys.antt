@@ -54,8 +54,6 @@ adds ds v d h =
 aligned : (ds es : List ℕ) (v w : ℕ) → list_all is_digit ds ≡ true → list_all is_digit es ≡ true → length ds ≡ length es → number_from v ds ≡ number_from w es
     → number_from v ds < most → (v ≡ w) × (ds ≡ es)
 aligned [] [] v w a b size same small = (same, refl)
-aligned [] (e ∷ es) v w a b size same small = absurd (omega (arith, size))
-aligned (d ∷ ds) [] v w a b size same small = absurd (omega (arith, size))
 aligned (d ∷ ds) (e ∷ es) v w a b size same small =
     let a = and_parts (is_digit d) (list_all is_digit ds) a in
     let b = and_parts (is_digit e) (list_all is_digit es) b in
@@ -66,6 +64,7 @@ aligned (d ∷ ds) (e ∷ es) v w a b size same small =
     let q = digit e b.0 in
     let first : d ≡ e = omega (arith, head, p.0, p.1, q.0, q.1) in
     (omega (arith, head, p.0, p.1, q.0, q.1), ap (λ x. x ∷ ds) first ∙ ap (λ xs. e ∷ xs) rest.1)
+aligned ds es v w a b size same small = absurd (omega (arith, size))
 
 -- digits of one number with more before them have zero before them
 longer : (k : ℕ) (ds es : List ℕ) (v : ℕ) → list_all is_digit ds ≡ true → list_all is_digit es ≡ true → length ds ≡ k + length es → number_from v ds ≡ number_from 0 es

@@ -397,8 +397,6 @@ gather (g ∷ gs) d bs ls so e none =
 pub gather_units : (ps : List Pou) (us : List RawPou) → AreUnitsAt ps us → (d : Outside) (es : Table Meaning) → Lists d.names es → (fold with_unit d us).breaks ≡ []
     → Lists (fold with_unit d us).names (es ++ unit_entries d.units ps)
 gather_units [] [] a d es l e = subst (Lists d.names) (sym (append-nil es)) l
-gather_units [] (u ∷ us) a d es l e = absurd a
-gather_units (p ∷ ps) [] a d es l e = absurd a
 gather_units (p ∷ ps) (u ∷ us) a d es l e =
     let once : twice u.line (look_up (key_of u.name) d.names) ≡ [] = nil_second d.breaks _ (before_units us (with_unit d u) e) in
     let one = declared_last u.line (key_of u.name) (meaning_of_unit d.units u.program) d.names es l once in
@@ -408,6 +406,7 @@ gather_units (p ∷ ps) (u ∷ us) a d es l e =
     ∙ ap (λ name. es ++ (key_of name, meaning_of_unit d.units u.program) ∷ unit_entries (d.units + 1) ps) a.0.named
     ∙ ap (λ program. es ++ (key_of p.name, meaning_of_unit d.units program) ∷ unit_entries (d.units + 1) ps) a.0.program in
     subst (Lists (fold with_unit (with_unit d u) us).names) order more
+gather_units ps us a d es l e = absurd a
 
 -- Formals and locals
 
@@ -422,8 +421,6 @@ before_locals (r ∷ rs) d e = nil_first d.breaks _ (before_locals rs (with_loca
 gather_formals : (ls : List Local) (rs : List RawLocal) → AreLocalsAt ls rs → (d : Inside) (es : Table Meaning) → Lists d.names es → (fold with_formal d rs).breaks ≡ []
     → Lists (fold with_formal d rs).names (es ++ formal_entries d.formals ls)
 gather_formals [] [] a d es l e = subst (Lists d.names) (sym (append-nil es)) l
-gather_formals [] (r ∷ rs) a d es l e = absurd a
-gather_formals (x ∷ ls) [] a d es l e = absurd a
 gather_formals (x ∷ ls) (r ∷ rs) a d es l e =
     let once : twice r.line (look_up (key_of r.name) d.names) ≡ [] = nil_second d.breaks _ (before_formals rs (with_formal d r) e) in
     let one = declared_last r.line (key_of r.name) (meaning.Formal d.formals r.ty) d.names es l once in
@@ -433,12 +430,11 @@ gather_formals (x ∷ ls) (r ∷ rs) a d es l e =
     ∙ ap (λ name. es ++ (key_of name, meaning.Formal d.formals r.ty) ∷ formal_entries (d.formals + 1) ls) a.0.named
     ∙ ap (λ ty. es ++ (key_of x.name, meaning.Formal d.formals ty) ∷ formal_entries (d.formals + 1) ls) a.0.typed in
     subst (Lists (fold with_formal (with_formal d r) rs).names) order more
+gather_formals ls rs a d es l e = absurd a
 
 gather_locals : (ls : List Local) (rs : List RawLocal) → AreLocalsAt ls rs → (d : Inside) (es : Table Meaning) → Lists d.names es → (fold with_local d rs).breaks ≡ []
     → Lists (fold with_local d rs).names (es ++ local_entries d.locals ls)
 gather_locals [] [] a d es l e = subst (Lists d.names) (sym (append-nil es)) l
-gather_locals [] (r ∷ rs) a d es l e = absurd a
-gather_locals (x ∷ ls) [] a d es l e = absurd a
 gather_locals (x ∷ ls) (r ∷ rs) a d es l e =
     let once : twice r.line (look_up (key_of r.name) d.names) ≡ [] = nil_second d.breaks _ (before_locals rs (with_local d r) e) in
     let one = declared_last r.line (key_of r.name) (meaning.Local d.locals r.ty) d.names es l once in
@@ -448,6 +444,7 @@ gather_locals (x ∷ ls) (r ∷ rs) a d es l e =
     ∙ ap (λ name. es ++ (key_of name, meaning.Local d.locals r.ty) ∷ local_entries (d.locals + 1) ls) a.0.named
     ∙ ap (λ ty. es ++ (key_of x.name, meaning.Local d.locals ty) ∷ local_entries (d.locals + 1) ls) a.0.typed in
     subst (Lists (fold with_local (with_local d r) rs).names) order more
+gather_locals ls rs a d es l e = absurd a
 
 no_locals_before : (rs : List RawLocal) (d : Inside) → (fold with_formal d rs).locals ≡ d.locals
 no_locals_before [] d = refl

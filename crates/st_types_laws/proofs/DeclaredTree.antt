@@ -120,19 +120,17 @@ are_blocks raw t d = record { ascend = d.ascend; few = d.few; sized = are_sized 
 
 keys_same : (ls : List Local) (rs : List RawLocal) → AreLocalsAt ls rs → keys_of rs ≡ keys_of_locals ls
 keys_same [] [] a = refl
-keys_same [] (r ∷ rs) a = absurd a
-keys_same (l ∷ ls) [] a = absurd a
 keys_same (l ∷ ls) (r ∷ rs) a = ap (λ k. key_of k ∷ keys_of rs) a.0.named ∙ ap (λ ks. key_of l.name ∷ ks) (keys_same ls rs a.1)
+keys_same ls rs a = absurd a
 
 types_same : (ls : List Local) (rs : List RawLocal) → AreLocalsAt ls rs → (types : Table StType)
     → fold with_type types rs ≡ fold (λ types (l : Local). with_entry (key_of l.name) l.ty types) types ls
 types_same [] [] a types = refl
-types_same [] (r ∷ rs) a types = absurd a
-types_same (l ∷ ls) [] a types = absurd a
 types_same (l ∷ ls) (r ∷ rs) a types =
     let one : with_type types r ≡ with_entry (key_of l.name) l.ty types =
     ap (λ k. with_entry (key_of k) r.ty types) a.0.named ∙ ap (λ ty. with_entry (key_of l.name) ty types) a.0.typed in
     ap (λ more. fold with_type more rs) one ∙ types_same ls rs a.1 (with_entry (key_of l.name) l.ty types)
+types_same ls rs a types = absurd a
 
 -- the formals of a unit of the tree
 abbrev pub formals_in : Pou → Formals
@@ -140,13 +138,12 @@ formals_in p = record { keys = keys_of_locals p.formals; types = types_of_locals
 
 pub formals_same : (ps : List Pou) (us : List RawPou) → AreUnitsAt ps us → map formals_of us ≡ map formals_in ps
 formals_same [] [] a = refl
-formals_same [] (u ∷ us) a = absurd a
-formals_same (p ∷ ps) [] a = absurd a
 formals_same (p ∷ ps) (u ∷ us) a =
     let one : formals_of u ≡ formals_in p =
     ap (λ keys. record { keys = keys; types = types_of u.formals }) (keys_same p.formals u.formals a.0.formals)
     ∙ ap (λ types. record { keys = keys_of_locals p.formals; types = types }) (types_same p.formals u.formals a.0.formals []) in
     ap (λ f. f ∷ map formals_of us) one ∙ ap (λ fs. formals_in p ∷ fs) (formals_same ps us a.1)
+formals_same ps us a = absurd a
 
 -- Names stand in the tree where their meanings say
 
@@ -208,9 +205,8 @@ in_tables None None y m other h = inr h
 
 pub same_length : (ps : List Pou) (us : List RawPou) → AreUnitsAt ps us → length us ≡ length ps
 same_length [] [] a = refl
-same_length [] (u ∷ us) a = absurd a
-same_length (p ∷ ps) [] a = absurd a
 same_length (p ∷ ps) (u ∷ us) a = omega (arith, same_length ps us a.1)
+same_length ps us a = absurd a
 
 from_start : {X : Type 0} (xs : List X) (n : ℕ) (x : X) → slice_get xs n ≡ Some x → slice_get xs (0 + n) ≡ Some x
 from_start xs n x h = let e : 0 + n ≡ n = omega arith in ap (slice_get xs) e ∙ h

@@ -114,8 +114,6 @@ goes_last least (x ∷ xs) b ys h =
 blocks_again : (bs : List DataBlock) (gs : List RawGlobal) → AreBlocksAt bs gs → AreNumbered bs → (old : List DataBlock) → Ascend 1 (numbers_of (old ++ bs))
     → length old + length bs ≤ MOST_BLOCKS → fold (λ blocks (g : RawGlobal). with_block (block_of g.ty g.name g.at) blocks) old gs ≡ old ++ bs
 blocks_again [] [] a n old h few = sym (append-nil old)
-blocks_again [] (g ∷ gs) a n old h few = absurd a
-blocks_again (b ∷ bs) [] a n old h few = absurd a
 blocks_again (b ∷ bs) (g ∷ gs) a n old h few =
     let i = block_again b g n.0 a.0 in
     let room : nat_lt (length old) MOST_BLOCKS ≡ true = grind (arith, nat_tests) in
@@ -124,51 +122,47 @@ blocks_again (b ∷ bs) (g ∷ gs) a n old h few =
     let ascend : Ascend 1 (numbers_of ((old ++ b ∷ []) ++ bs)) = subst (λ l. Ascend 1 (numbers_of l)) (sym order) h in
     ap (λ blocks. fold (λ more (f : RawGlobal). with_block (block_of f.ty f.name f.at) more) blocks gs) one
     ∙ blocks_again bs gs a.1 n.1 (old ++ b ∷ []) ascend (omega (arith, few, length-append old (b ∷ []))) ∙ order
+blocks_again bs gs a n old h few = absurd a
 
 no_located : (bs : List DataBlock) (gs : List RawGlobal) → AreBlocksAt bs gs → all_located gs ≡ []
 no_located [] [] a = refl
-no_located [] (g ∷ gs) a = absurd a
-no_located (b ∷ bs) [] a = absurd a
 no_located (b ∷ bs) (g ∷ gs) a = ap (λ t. listed (located_of t g.name g.at) ++ all_located gs) a.0.typed ∙ no_located bs gs a.1
+no_located bs gs a = absurd a
 
 sound_blocks : (bs : List DataBlock) (gs : List RawGlobal) → AreBlocksAt bs gs → AreNumbered bs → all_global_breaks gs ≡ []
 sound_blocks [] [] a n = refl
-sound_blocks [] (g ∷ gs) a n = absurd a
-sound_blocks (b ∷ bs) [] a n = absurd a
 sound_blocks (b ∷ bs) (g ∷ gs) a n = ap (λ l. l ++ all_global_breaks gs) (block_again b g n.0 a.0).sound ∙ sound_blocks bs gs a.1 n.1
+sound_blocks bs gs a n = absurd a
 
 -- Other globals
 
 located_again : (ls : List Located) (gs : List RawGlobal) → AreLocatedAt ls gs → ArePlaced ls → all_located gs ≡ ls
 located_again [] [] a p = refl
-located_again [] (g ∷ gs) a p = absurd a
-located_again (l ∷ ls) [] a p = absurd a
 located_again (l ∷ ls) (g ∷ gs) a p =
     let one : located_of g.ty g.name g.at ≡ Some l =
     ap (λ t. located_of t g.name g.at) a.0.typed ∙ ap (λ n. located_of (type.Plain l.ty) n g.at) a.0.named ∙ ap (located_of (type.Plain l.ty) l.name) a.0.placed ∙ p.0.found in
     ap (λ o. listed o ++ all_located gs) one ∙ ap (λ xs. l ∷ xs) (located_again ls gs a.1 p.1)
+located_again ls gs a p = absurd a
 
 no_blocks : (ls : List Located) (gs : List RawGlobal) → AreLocatedAt ls gs → (bs : List DataBlock)
     → fold (λ blocks (g : RawGlobal). with_block (block_of g.ty g.name g.at) blocks) bs gs ≡ bs
 no_blocks [] [] a bs = refl
-no_blocks [] (g ∷ gs) a bs = absurd a
-no_blocks (l ∷ ls) [] a bs = absurd a
 no_blocks (l ∷ ls) (g ∷ gs) a bs =
     ap (λ t. fold (λ blocks (f : RawGlobal). with_block (block_of f.ty f.name f.at) blocks) (with_block (block_of t g.name g.at) bs) gs) a.0.typed
     ∙ no_blocks ls gs a.1 bs
+no_blocks ls gs a bs = absurd a
 
 two_tests : (a b : Bool) (line : Line) (q r : Reason) → a ≡ true → b ≡ true → (unless a (broken line q) ++ unless b (broken line r)) ≡ []
 two_tests a b line q r h g = rw (h, g) refl
 
 sound_located : (ls : List Located) (gs : List RawGlobal) → AreLocatedAt ls gs → ArePlaced ls → all_global_breaks gs ≡ []
 sound_located [] [] a p = refl
-sound_located [] (g ∷ gs) a p = absurd a
-sound_located (l ∷ ls) [] a p = absurd a
 sound_located (l ∷ ls) (g ∷ gs) a p =
     let one : global_breaks g.ty g.line g.name g.at ≡ [] =
     ap (λ t. global_breaks t g.line g.name g.at) a.0.typed ∙ ap (global_breaks (type.Plain l.ty) g.line g.name) a.0.placed
     ∙ two_tests (has_address (location_of l)) (fits_type l.ty (location_of l)) g.line BadAddress TypeMismatch p.0.address p.0.fits in
     ap (λ breaks. breaks ++ all_global_breaks gs) one ∙ sound_located ls gs a.1 p.1
+sound_located ls gs a p = absurd a
 
 -- What is declared outside the units
 
@@ -193,8 +187,7 @@ one_goes d g k m more sound key meant room apart =
 
 roomy : (x : Option Meaning) (t : Bool) (line : Line) (blocks : ℕ) → nat_lt blocks MOST_BLOCKS ≡ true → one_too_many line (not (is_some x) && t) blocks ≡ []
 roomy None true line blocks h = rw h refl
-roomy None false line blocks h = refl
-roomy (Some m) t line blocks h = refl
+roomy x t line blocks h = refl
 
 no_block : (x : Option Meaning) (line : Line) (blocks : ℕ) → one_too_many line (not (is_some x) && false) blocks ≡ []
 no_block None line blocks = refl
@@ -209,8 +202,6 @@ go_blocks : (bs : List DataBlock) (gs : List RawGlobal) → AreBlocksAt bs gs �
     → AreApart (d.names ++ (block_entries bs ++ more)) → d.blocks + length bs ≤ MOST_BLOCKS
     → Goes d (fold with_global d gs) (block_entries bs) more × ((fold with_global d gs).globals ≡ d.globals)
 go_blocks [] [] a n d more sound apart few = (record { sound = sound; order = refl; units = refl }, refl)
-go_blocks [] (g ∷ gs) a n d more sound apart few = absurd a
-go_blocks (b ∷ bs) [] a n d more sound apart few = absurd a
 go_blocks (b ∷ bs) (g ∷ gs) a n d more sound apart few =
     let i = block_again b g n.0 a.0 in
     let room : nat_lt d.blocks MOST_BLOCKS ≡ true = grind (arith, nat_tests) in
@@ -220,12 +211,11 @@ go_blocks (b ∷ bs) (g ∷ gs) a n d more sound apart few =
     let rest = go_blocks bs gs a.1 n.1 (with_global d g) more one.sound (subst AreApart (sym one.order) apart)
     (grown (look_up (key_of g.name) d.names) (is_block g.ty) d.blocks (length bs) MOST_BLOCKS few) in
     (record { sound = rest.0.sound; order = rest.0.order ∙ one.order; units = rest.0.units ∙ one.units }, rest.1 ∙ count)
+go_blocks bs gs a n d more sound apart few = absurd a
 
 go_located : (ls : List Located) (gs : List RawGlobal) → AreLocatedAt ls gs → (d : Outside) (more : Table Meaning) → d.breaks ≡ []
     → AreApart (d.names ++ (located_entries d.globals ls ++ more)) → Goes d (fold with_global d gs) (located_entries d.globals ls) more
 go_located [] [] a d more sound apart = record { sound = sound; order = refl; units = refl }
-go_located [] (g ∷ gs) a d more sound apart = absurd a
-go_located (l ∷ ls) [] a d more sound apart = absurd a
 go_located (l ∷ ls) (g ∷ gs) a d more sound apart =
     let count : (with_global d g).globals ≡ d.globals + 1 = ap (λ t. d.globals + one_if (not (is_block t))) a.0.typed in
     let meant : meaning_of_global d.globals g.ty ≡ meaning.Global d.globals l.ty = ap (meaning_of_global d.globals) a.0.typed in
@@ -235,12 +225,11 @@ go_located (l ∷ ls) (g ∷ gs) a d more sound apart =
     ap (λ n. (with_global d g).names ++ (located_entries n ls ++ more)) count ∙ one.order in
     let rest = go_located ls gs a.1 (with_global d g) more one.sound (subst AreApart (sym order) apart) in
     record { sound = rest.sound; order = rest.order ∙ order; units = rest.units ∙ one.units }
+go_located ls gs a d more sound apart = absurd a
 
 go_units : (ps : List Pou) (us : List RawPou) → AreUnitsAt ps us → (d : Outside) → d.breaks ≡ [] → AreApart (d.names ++ unit_entries d.units ps)
     → ((fold with_unit d us).breaks ≡ []) × ((fold with_unit d us).names ≡ d.names ++ unit_entries d.units ps)
 go_units [] [] a d sound apart = (sound, sym (append-nil d.names))
-go_units [] (u ∷ us) a d sound apart = absurd a
-go_units (p ∷ ps) [] a d sound apart = absurd a
 go_units (p ∷ ps) (u ∷ us) a d sound apart =
     let own = meaning_of_unit d.units u.program in
     let entry : (key_of u.name, own) ≡ (key_of p.name, meaning_of_unit d.units p.program) =
@@ -250,6 +239,7 @@ go_units (p ∷ ps) (u ∷ us) a d sound apart =
     let none : (with_unit d u).breaks ≡ [] = ap (λ l. l ++ twice u.line (look_up (key_of u.name) d.names)) sound ∙ new.once in
     let rest = go_units ps us a.1 (with_unit d u) none new.apart in
     (rest.0, rest.1 ∙ new.order ∙ ap (λ e. d.names ++ e ∷ more) entry)
+go_units ps us a d sound apart = absurd a
 
 -- What is declared in a unit
 
@@ -257,8 +247,6 @@ go_formals : (ls : List Local) (rs : List RawLocal) → AreLocalsAt ls rs → (d
     → AreApart (d.names ++ (formal_entries d.formals ls ++ more))
     → ((fold with_formal d rs).breaks ≡ []) × ((fold with_formal d rs).names ++ more ≡ d.names ++ (formal_entries d.formals ls ++ more)) × ((fold with_formal d rs).locals ≡ d.locals)
 go_formals [] [] a d more sound apart = (sound, refl, refl)
-go_formals [] (r ∷ rs) a d more sound apart = absurd a
-go_formals (l ∷ ls) [] a d more sound apart = absurd a
 go_formals (l ∷ ls) (r ∷ rs) a d more sound apart =
     let own = meaning.Formal d.formals r.ty in
     let entry : (key_of r.name, own) ≡ (key_of l.name, meaning.Formal d.formals l.ty) =
@@ -268,12 +256,11 @@ go_formals (l ∷ ls) (r ∷ rs) a d more sound apart =
     let none : (with_formal d r).breaks ≡ [] = ap (λ l. l ++ twice r.line (look_up (key_of r.name) d.names)) sound ∙ new.once in
     let rest = go_formals ls rs a.1 (with_formal d r) more none new.apart in
     (rest.0, rest.1 ∙ new.order ∙ ap (λ e. d.names ++ e ∷ behind) entry, rest.2)
+go_formals ls rs a d more sound apart = absurd a
 
 go_locals : (ls : List Local) (rs : List RawLocal) → AreLocalsAt ls rs → (d : Inside) → d.breaks ≡ [] → AreApart (d.names ++ local_entries d.locals ls)
     → ((fold with_local d rs).breaks ≡ []) × ((fold with_local d rs).names ≡ d.names ++ local_entries d.locals ls)
 go_locals [] [] a d sound apart = (sound, sym (append-nil d.names))
-go_locals [] (r ∷ rs) a d sound apart = absurd a
-go_locals (l ∷ ls) [] a d sound apart = absurd a
 go_locals (l ∷ ls) (r ∷ rs) a d sound apart =
     let own = meaning.Local d.locals r.ty in
     let entry : (key_of r.name, own) ≡ (key_of l.name, meaning.Local d.locals l.ty) =
@@ -283,6 +270,7 @@ go_locals (l ∷ ls) (r ∷ rs) a d sound apart =
     let none : (with_local d r).breaks ≡ [] = ap (λ l. l ++ twice r.line (look_up (key_of r.name) d.names)) sound ∙ new.once in
     let rest = go_locals ls rs a.1 (with_local d r) none new.apart in
     (rest.0, rest.1 ∙ new.order ∙ ap (λ e. d.names ++ e ∷ behind) entry)
+go_locals ls rs a d sound apart = absurd a
 
 pub inside_again : (p : Pou) (u : RawPou) → AreLocalsAt p.formals u.formals → AreLocalsAt p.locals u.locals → AreApart (inner_entries p)
     → ((all_inside u.formals u.locals).breaks ≡ []) × ((all_inside u.formals u.locals).names ≡ inner_entries p)

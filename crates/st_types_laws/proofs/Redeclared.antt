@@ -32,9 +32,8 @@ pub record IsBlockAt (b : DataBlock) (g : RawGlobal) : Type 0 where
 
 abbrev pub AreBlocksAt : List DataBlock → List RawGlobal → Type 0
 AreBlocksAt [] [] = Unit {0}
-AreBlocksAt [] (g ∷ gs) = ⊥
-AreBlocksAt (b ∷ bs) [] = ⊥
 AreBlocksAt (b ∷ bs) (g ∷ gs) = IsBlockAt b g × AreBlocksAt bs gs
+AreBlocksAt bs gs = ⊥
 
 -- the area that a global's location names; no global stands in another than I, Q and M
 abbrev pub name_of_area : Area → AreaName
@@ -55,9 +54,8 @@ pub record IsLocatedAt (l : Located) (g : RawGlobal) : Type 0 where
 
 abbrev pub AreLocatedAt : List Located → List RawGlobal → Type 0
 AreLocatedAt [] [] = Unit {0}
-AreLocatedAt [] (g ∷ gs) = ⊥
-AreLocatedAt (l ∷ ls) [] = ⊥
 AreLocatedAt (l ∷ ls) (g ∷ gs) = IsLocatedAt l g × AreLocatedAt ls gs
+AreLocatedAt ls gs = ⊥
 
 -- a local or a formal under its name, of its type
 pub record IsLocalOf (l : Local) (r : RawLocal) : Type 0 where
@@ -66,9 +64,8 @@ pub record IsLocalOf (l : Local) (r : RawLocal) : Type 0 where
 
 abbrev pub AreLocalsAt : List Local → List RawLocal → Type 0
 AreLocalsAt [] [] = Unit {0}
-AreLocalsAt [] (r ∷ rs) = ⊥
-AreLocalsAt (l ∷ ls) [] = ⊥
 AreLocalsAt (l ∷ ls) (r ∷ rs) = IsLocalOf l r × AreLocalsAt ls rs
+AreLocalsAt ls rs = ⊥
 
 -- a unit with its name, its formals and its locals, of any body
 pub record IsUnitAt (p : Pou) (u : RawPou) : Type 0 where
@@ -79,6 +76,5 @@ pub record IsUnitAt (p : Pou) (u : RawPou) : Type 0 where
 
 abbrev pub AreUnitsAt : List Pou → List RawPou → Type 0
 AreUnitsAt [] [] = Unit {0}
-AreUnitsAt [] (u ∷ us) = ⊥
-AreUnitsAt (p ∷ ps) [] = ⊥
 AreUnitsAt (p ∷ ps) (u ∷ us) = IsUnitAt p u × AreUnitsAt ps us
+AreUnitsAt ps us = ⊥
