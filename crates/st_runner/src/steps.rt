@@ -8,14 +8,14 @@ ghost use Rattle.st_runner.specs.inner.Waiting.{end_at, ending, with_rest};
 ghost use Rattle.st_runner.specs.inner.View.{IsRunning, IsSound, SameShape, state_of};
 ghost use Rattle.st_runner.specs.declared.frame.At.TheVariants.{Call, Test, Work};
 ghost use Rattle.st_tree.specs.Meaning.{Calls, meaning};
-ghost use Rattle.st_tree.specs.declared.program.Stmt.TheVariants.{If};
+ghost use Rattle.st_tree.specs.declared.program.Stmt.TheVariants.{Case, If};
 
 use crate::evaluate::labelled;
 use crate::frame::{At, Frame};
 use crate::leaving::{continue_loop, exit_loop, return_unit};
 use crate::state::State;
 use s7_base::Fault;
-use st_tree::{Arm, Expr, StProgram, Stmt, Var};
+use st_tree::{Arm, CaseArm, Expr, StProgram, Stmt, Var};
 
 /// How deep statements may nest in a unit.
 pub const MOST_NESTING: usize = 200;
@@ -58,6 +58,31 @@ fn choose<'t>(
     }
 }
 
+/// Lets the statements wait that a CASE chooses.
+fn choose_labelled<'t>(
+    tree: &StProgram,
+    e: &Expr,
+    arms: &'t [CaseArm],
+    other: &'t [Stmt],
+    work: &mut Vec<Frame<'t>>,
+    state: &State,
+) -> At<'t>
+    requires running { IsRunning state.now }
+    requires globals { AreGlobals tree.now.globals }
+    requires room { length work.old.items < vec_capacity work.old }
+    ensures done { Done tree.now (Case e.now arms.now other.now) work.old.items work.new.items result
+        (state_of state.now) (state_of state.now) }
+    ensures capacity { vec_capacity work.new ≡ vec_capacity work.old }
+{
+    match state.value(tree.globals.as_slice(), e) {
+        Ok(v) => {
+            work.push_reserved(Frame::Rest(labelled(v, arms, other)));
+            At::Work
+        }
+        Err(fault) => At::Over(Some(fault)),
+    }
+}
+
 /// Does a statement up to where it needs a unit.
 pub fn statement<'t>(
     tree: &'t StProgram,
@@ -82,14 +107,9 @@ pub fn statement<'t>(
         }
         Stmt::Invoke(n, actuals) => At::Call(*n, actuals.as_slice()),
         Stmt::If(arms, other) => choose(tree, arms.as_slice(), other.as_slice(), work, state),
-        Stmt::Case(e, arms, other) => match state.value(globals, e) {
-            Ok(v) => {
-                let body = labelled(v, arms.as_slice(), other.as_slice());
-                work.push_reserved(Frame::Rest(body));
-                At::Work
-            }
-            Err(fault) => At::Over(Some(fault)),
-        },
+        Stmt::Case(e, arms, other) => {
+            choose_labelled(tree, e, arms.as_slice(), other.as_slice(), work, state)
+        }
         Stmt::While(test, body) => At::Test(test, body.as_slice()),
         Stmt::Exit => {
             exit_loop(work);

@@ -1,11 +1,9 @@
-use Rattle.std.proofs.Common.{◌≡◌, List, Some, Ok, Err, sym, ap, subst, ◌∙◌}
-use Rattle.st_runner.specs.inner.Choice.{labelled}
+use Rattle.std.proofs.Common.{List, sym, subst}
 use Rattle.st_runner.specs.inner.Ready.{Done}
 use Rattle.st_runner.specs.inner.View.{Changes, state_of}
 use Rattle.st_runner.specs.declared.frame.At.TheVariants as at
-use Rattle.st_runner.proofs.Dones.{area_done, assign_done, case_done, case_fault, continue_done, exit_done, return_done}
+use Rattle.st_runner.proofs.Dones.{area_done, assign_done, continue_done, exit_done, return_done}
 use Rattle.st_tree.specs.Meaning.{area_assigned, assigned}
-use Rattle.st_tree.specs.Value.{value}
 use Rattle.st_tree.specs.declared.expr.Expr.{Expr}
 use Rattle.st_tree.specs.declared.program.Arm.{Arm}
 use Rattle.st_tree.specs.declared.program.CaseArm.{CaseArm}
@@ -44,24 +42,15 @@ returns-in-If-clause-done c =
     (subst (λ (xs : List Arm). Done c.args.tree.now (stmt.If xs c.in-If.other) ws vs c.choose.result s s) c.as_slice-in-If.ensures
     (subst (λ (xs : List Stmt). Done c.args.tree.now (stmt.If c.as_slice-in-If.result.now xs) ws vs c.choose.result s s) c.as_slice-in-If-2.ensures c.choose.ensures.done))
 
-pub returns-in-Ok-clause-done : goal.returns-in-Ok-clause-done
-returns-in-Ok-clause-done c =
+pub returns-in-Case-clause-done : goal.returns-in-Case-clause-done
+returns-in-Case-clause-done c =
     let ws = c.args.work.now.items in
+    let vs = c.choose_labelled.new.work.items in
+    let e = c.in-Case.e in
     let s = state_of c.args.state.now in
-    subst (λ (x : Stmt). Done c.args.tree.now x ws c.push_reserved.new.self.items at.Work s s) (sym c.in-Case.is)
-    (case_done c.args.tree.now ws c.in-Case.e c.in-Case.arms c.in-Case.other c.push_reserved.new.self.items c.labelled-body.result c.in-Ok.v s
-    (subst (λ (g : List Located). value g c.in-Case.e s ≡ Ok c.in-Ok.v) c.as_slice-globals.ensures (sym c.value.ensures ∙ c.in-Ok.is))
-    (c.labelled-body.ensures
-    ∙ ap (λ (xs : List CaseArm). labelled c.in-Ok.v.n xs c.as_slice-in-Ok-2.result.now) c.as_slice-in-Ok.ensures
-    ∙ ap (λ (xs : List Stmt). labelled c.in-Ok.v.n c.in-Case.arms xs) c.as_slice-in-Ok-2.ensures) c.push_reserved.ensures.items)
-
-pub returns-in-Err-clause-done : goal.returns-in-Err-clause-done
-returns-in-Err-clause-done c =
-    let ws = c.args.work.now.items in
-    let s = state_of c.args.state.now in
-    subst (λ (x : Stmt). Done c.args.tree.now x ws ws (at.Over (Some c.in-Err.fault)) s s) (sym c.in-Case.is)
-    (case_fault c.args.tree.now ws c.in-Case.e c.in-Case.arms c.in-Case.other s c.in-Err.fault
-    (subst (λ (g : List Located). value g c.in-Case.e s ≡ Err c.in-Err.fault) c.as_slice-globals.ensures (sym c.value.ensures ∙ c.in-Err.is)))
+    subst (λ (x : Stmt). Done c.args.tree.now x ws vs c.choose_labelled.result s s) (sym c.in-Case.is)
+    (subst (λ (xs : List CaseArm). Done c.args.tree.now (stmt.Case e xs c.in-Case.other) ws vs c.choose_labelled.result s s) c.as_slice-in-Case.ensures
+    (subst (λ (xs : List Stmt). Done c.args.tree.now (stmt.Case e c.as_slice-in-Case.result.now xs) ws vs c.choose_labelled.result s s) c.as_slice-in-Case-2.ensures c.choose_labelled.ensures.done))
 
 pub returns-in-Exit-clause-done : goal.returns-in-Exit-clause-done
 returns-in-Exit-clause-done c =
