@@ -99,6 +99,7 @@ impl State {
     }
 
     /// The value of a variable.
+    #[inline]
     pub fn read(&self, globals: &[Located], var: Var) -> Result<Value, Fault>
         requires running { IsRunning self.now }
         requires globals { AreGlobals globals.now }

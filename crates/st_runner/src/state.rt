@@ -29,7 +29,9 @@ pub struct State {
     pub spare: Vec<Activation>,
 }
 
-/// The value that a place in memory holds, read in a type.
+/// The value that a place in memory holds, read in a type. It stays a call, so that `State::read` is small
+/// where registers and locals are read.
+#[inline(never)]
 pub fn read_place(memory: &Memory, ty: StType, place: Place) -> Result<Value, Fault>
     requires { IsActivation place.area }
     ensures { result ≡ read_place ty place memory.now }
