@@ -5,7 +5,7 @@ use Rattle.st_runner.specs.inner.Measures.{body_weight, frame_tall, frame_weight
 use Rattle.st_runner.specs.inner.Costs.{Costs, body_most, most}
 use Rattle.st_runner.specs.inner.Ready.{Done, IfWork, IsReady, Stepped, most_formals, most_locals}
 use Rattle.st_runner.specs.inner.Runnable.{misfit_costs}
-use Rattle.st_runner.specs.inner.Waiting.{ending}
+use Rattle.st_runner.specs.inner.Waiting.{ending, or_none, with_rest}
 use Rattle.st_runner.specs.inner.View.{IsRunning, IsSound, MayLeave, SameShape, state_of}
 use Rattle.st_runner.specs.declared.frame.At.{At}
 use Rattle.st_runner.specs.declared.frame.At.TheVariants as at
@@ -16,11 +16,25 @@ use Rattle.st_runner.proofs.Frames.{sound_running}
 use Rattle.st_runner.proofs.Stack.{sizes_tall}
 use Rattle.st_runner.proofs.Tops.{on_top, top_sizes, top_tall, top_weight}
 use Rattle.st_tree.specs.Calls.{left}
-use Rattle.st_tree.specs.Meaning.{Normal, body_meaning, meaning}
+use Rattle.st_tree.specs.Meaning.{Out, Normal, Exits, Continues, Returns, Faults, NoUnits, body_meaning, meaning, then_do}
 use Rattle.st_tree.specs.State.{State}
 use Rattle.st_tree.specs.declared.expr.Expr.{Expr}
 use Rattle.st_tree.specs.declared.program.StProgram.{StProgram}
 use Rattle.st_tree.specs.declared.program.Stmt.{Stmt}
+
+-- behind a statement nothing is to be done
+alone : (o : Out) → o ≡ then_do o (λ u s. Normal u s)
+alone (Normal u s) = refl
+alone (Exits u s) = refl
+alone (Continues u s) = refl
+alone (Returns u s) = refl
+alone (Faults f s) = refl
+alone (NoUnits s) = refl
+
+-- the rest of a list waits, or there is none
+by_rest : (P : List Frame → Type 0) (xs : List Stmt) (below above : List Frame) → (xs ≡ [] → P below) → P above → P (or_none xs below above)
+by_rest P [] below above none some = none refl
+by_rest P (x ∷ xs) below above none some = some
 
 module _ (tree : StProgram) (ws : List Frame) (s : Parts) where
   pub none_waits : ws ≡ [] → (vs : List Frame) → vs ≡ [] → Stepped tree ws vs (at.Over None) s s
@@ -98,6 +112,46 @@ module _ (tree : StProgram) (ws : List Frame) (s : Parts) where
       weighs (at.Call n q) h = tt
       weighs (at.Over f) h = tt
 
+  -- the last statement of a list, behind which nothing waits
+  pub last_statement : (fs vs : List Frame) (b r : Bor (List Stmt)) (x : Stmt) (next : At) (t : Parts) → ws ≡ fs ++ frame.Rest b ∷ [] → b.now ≡ x ∷ r.now → r.now ≡ []
+      → Done tree x fs vs next (state_of s) (state_of t) → ((l f : ℕ) → IsSound l f s → IsSound l f t) → SameShape s t → Stepped tree ws vs next s t
+  last_statement fs vs b r x next t e split none done sound same =
+      record {
+        meaning = λ c u.
+            done.meaning c u
+            ∙ ap (ending tree.globals c fs) (alone (meaning tree.globals c x u (state_of s)))
+            ∙ ap (λ (xs : List Stmt). ending tree.globals c fs (then_do (meaning tree.globals c x u (state_of s)) (body_meaning tree.globals c xs))) (sym none)
+            ∙ sym (on_top tree.globals c fs ws (frame.Rest b) (Normal u (state_of s)) e ∙ ap (λ (xs : List Stmt). ending tree.globals c fs (body_meaning tree.globals c xs u (state_of s))) split);
+        reach = λ k.
+            let a : tall k ws ≡ max (tall k fs) (sizes k fs + (k.rest + max (most k x) (body_most k r.now))) =
+            top_tall k fs ws (frame.Rest b) e ∙ ap (λ (xs : List Stmt). max (tall k fs) (sizes k fs + (k.rest + body_most k xs))) split in
+            let h : reach k vs next ≤ max (tall k fs) (sizes k fs + most k x) = done.reach k in
+            omega arith;
+        weight = weighs next done.weight;
+        sound = sound;
+        count = λ h.
+            let a : units ws ≡ units fs + 0 = top_sizes unit_costs fs ws (frame.Rest b) e in
+            let q : units vs ≡ units fs = done.units in
+            let same_length : length t.activations.items ≡ length s.activations.items = same in
+            omega arith;
+      }
+    where
+      weighs : (n : At) → IfWork n (work_weight vs + 1 ≤ work_weight fs + weight x) → IfWork n (work_weight vs + 1 ≤ work_weight ws)
+      weighs at.Work h =
+          let a : work_weight ws ≡ work_weight fs + (1 + (weight x + body_weight r.now)) = top_weight fs ws (frame.Rest b) e ∙ ap (λ (xs : List Stmt). work_weight fs + (1 + body_weight xs)) split in
+          omega arith
+      weighs (at.Test p q) h = tt
+      weighs (at.Call n q) h = tt
+      weighs (at.Over f) h = tt
+
+  -- the first statement of a list, with the rest behind it where there is one
+  pub first_statement : (fs gs vs : List Frame) (b r : Bor (List Stmt)) (x : Stmt) (next : At) (t : Parts) → ws ≡ fs ++ frame.Rest b ∷ [] → b.now ≡ x ∷ r.now → gs ≡ with_rest fs r
+      → Done tree x gs vs next (state_of s) (state_of t) → ((l f : ℕ) → IsSound l f s → IsSound l f t) → SameShape s t → Stepped tree ws vs next s t
+  first_statement fs gs vs b r x next t e split g done sound same =
+      by_rest (λ (hs : List Frame). gs ≡ hs → Stepped tree ws vs next s t) r.now fs (fs ++ frame.Rest r ∷ [])
+      (λ none h. last_statement fs vs b r x next t e split none (subst (λ (hs : List Frame). Done tree x hs vs next (state_of s) (state_of t)) h done) sound same)
+      (λ h. one_statement fs gs vs b r x next t e split h done sound same) g
+
 -- each frame of a stack is one
 pub stack_length : (tree : StProgram) (fs : List Frame) → sizes (stack_costs tree) fs ≡ length fs
 stack_length tree [] = refl
@@ -116,6 +170,24 @@ statement_room tree capacity ws fs gs b r x s ready e split g =
     let n : sizes k gs ≡ length gs = stack_length tree gs in
     let h : reach k ws at.Work ≤ capacity = ready.frames in
     omega arith
+
+-- so does the last one of a list
+pub last_room : (tree : StProgram) (capacity : ℕ) (ws fs : List Frame) (b r : Bor (List Stmt)) (x : Stmt) (s : Parts) → IsReady tree capacity ws at.Work s → ws ≡ fs ++ frame.Rest b ∷ [] → b.now ≡ x ∷ r.now
+    → length fs + most (stack_costs tree) x ≤ capacity
+last_room tree capacity ws fs b r x s ready e split =
+    let k : Costs = stack_costs tree in
+    let a : tall k ws ≡ max (tall k fs) (sizes k fs + (1 + max (most k x) (body_most k r.now))) =
+    top_tall k fs ws (frame.Rest b) e ∙ ap (λ (xs : List Stmt). max (tall k fs) (sizes k fs + (1 + body_most k xs))) split in
+    let n : sizes k fs ≡ length fs = stack_length tree fs in
+    let h : reach k ws at.Work ≤ capacity = ready.frames in
+    omega arith
+
+pub first_room : (tree : StProgram) (capacity : ℕ) (ws fs gs : List Frame) (b r : Bor (List Stmt)) (x : Stmt) (s : Parts) → IsReady tree capacity ws at.Work s → ws ≡ fs ++ frame.Rest b ∷ [] → b.now ≡ x ∷ r.now → gs ≡ with_rest fs r
+    → length gs + most (stack_costs tree) x ≤ capacity
+first_room tree capacity ws fs gs b r x s ready e split g =
+    by_rest (λ (hs : List Frame). gs ≡ hs → length gs + most (stack_costs tree) x ≤ capacity) r.now fs (fs ++ frame.Rest r ∷ [])
+    (λ none h. subst (λ (hs : List Frame). length hs + most (stack_costs tree) x ≤ capacity) (sym h) (last_room tree capacity ws fs b r x s ready e split))
+    (λ h. statement_room tree capacity ws fs gs b r x s ready e split h) g
 
 pub may_leave : (tree : StProgram) (capacity : ℕ) (ws fs : List Frame) (s : Parts) → IsReady tree capacity ws at.Work s → ws ≡ fs ++ frame.Unit ∷ [] → MayLeave s
 may_leave tree capacity ws fs s ready e =

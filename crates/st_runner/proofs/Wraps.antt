@@ -1,9 +1,9 @@
 -- A number that wraps in 64 bits leaves the same in each type.
-use Rattle.std.proofs.Common.{◌≡◌, suc, ◌/◌, ◌≤◌, ◌^◌, ℤ, pos, negsuc, ◌*ℤ◌, FitsSigned, w64, arith, refl, ap, ◌∙◌}
+use Rattle.std.proofs.Common.{◌≡◌, suc, ◌/◌, ◌≤◌, ◌^◌, ℤ, pos, negsuc, ◌*ℤ◌, ◌+ℤ◌, FitsSigned, w64, arith, refl, ap, ◌∙◌}
 use Rattle.std.proofs.Math.Nat.{div-le_self}
-use Rattle.std.specs.Prelude.{int_div, unsigned_abs}
-use Rattle.std.specs.Int.{cast_signed, cast_unsigned, int_rem_euclid, int_wrap, int_wrapping_div, int_wrapping_mul}
-use Rattle.std.proofs.lemmas.Int.{ints, wrapping_mul_is}
+use Rattle.std.specs.Prelude.{◌-ℤ◌, int_div, neg_ℤ, unsigned_abs}
+use Rattle.std.specs.Int.{cast_signed, cast_unsigned, int_rem_euclid, int_wrap, int_wrapping_add, int_wrapping_div, int_wrapping_mul, int_wrapping_neg, int_wrapping_sub}
+use Rattle.std.proofs.lemmas.Int.{ints, wrapping_add_is, wrapping_mul_is, wrapping_neg_is, wrapping_sub_is}
 use Rattle.st_tree.specs.Values.{fit, pattern}
 use Rattle.st_tree.specs.declared.expr.StType.{StType}
 use Rattle.st_tree.specs.declared.expr.StType.TheVariants as type
@@ -25,6 +25,15 @@ narrow type.Lint z = grind (arith, ints)
 fit_wrap : (ty : StType) (z : ℤ) → fit ty (int_wrap w64 z) ≡ fit ty z
 unfolding int_wrap
 fit_wrap ty z = ap (λ n. fit ty (cast_signed w64 n)) (remainder_is z) ∙ narrow ty z
+
+pub fit_negation : (ty : StType) (x : ℤ) → FitsSigned w64 x → fit ty (int_wrapping_neg w64 x) ≡ fit ty (neg_ℤ x)
+fit_negation ty x f = ap (fit ty) (wrapping_neg_is w64 x f) ∙ fit_wrap ty (neg_ℤ x)
+
+pub fit_sum : (ty : StType) (x y : ℤ) → FitsSigned w64 x → FitsSigned w64 y → fit ty (int_wrapping_add w64 x y) ≡ fit ty (x +ℤ y)
+fit_sum ty x y f g = ap (fit ty) (wrapping_add_is w64 x y f g) ∙ fit_wrap ty (x +ℤ y)
+
+pub fit_difference : (ty : StType) (x y : ℤ) → FitsSigned w64 x → FitsSigned w64 y → fit ty (int_wrapping_sub w64 x y) ≡ fit ty (x -ℤ y)
+fit_difference ty x y f g = ap (fit ty) (wrapping_sub_is w64 x y f g) ∙ fit_wrap ty (x -ℤ y)
 
 pub fit_product : (ty : StType) (x y : ℤ) → FitsSigned w64 x → FitsSigned w64 y → fit ty (int_wrapping_mul w64 x y) ≡ fit ty (x *ℤ y)
 fit_product ty x y f g = ap (fit ty) (wrapping_mul_is w64 x y f g) ∙ fit_wrap ty (x *ℤ y)

@@ -1,5 +1,5 @@
 //! Expressions, assignments and choices.
-ghost use Rattle.std.specs.Prelude.{◌≡◌, Ok, Err, MatchResult, ℕ};
+ghost use Rattle.std.specs.Prelude.{◌≡◌, Ok, Err, IfSome, MatchResult, ℕ};
 ghost use Rattle.memory_areas.specs.Access.{and_then};
 ghost use Rattle.st_runner.specs.inner.Choice.{has_label, labelled, picked};
 ghost use Rattle.st_runner.specs.inner.View.{Changes, IsRunning, IsSound, SameShape, state_of};
@@ -14,6 +14,20 @@ use s7_base::{Fault, Width};
 use st_tree::{Arm, CaseArm, Expr, Located, Stmt, Value, Var};
 
 impl State {
+    /// The value of a literal or a variable, as operands most often are; none of another expression.
+    #[inline]
+    fn value_at_once(&self, globals: &[Located], e: &Expr) -> Option<Result<Value, Fault>>
+        requires running { IsRunning self.now }
+        requires globals { AreGlobals globals.now }
+        ensures { IfSome result (λ found. found ≡ value globals.now e.now (state_of self.now)) }
+    {
+        match e {
+            Expr::Literal(ty, n) => Some(Ok(Value { ty: *ty, n: *n })),
+            Expr::Read(var) => Some(self.read(globals, *var)),
+            _ => None,
+        }
+    }
+
     /// The value of an expression.
     pub fn value(&self, globals: &[Located], e: &Expr) -> Result<Value, Fault>
         requires running { IsRunning self.now }
@@ -28,8 +42,14 @@ impl State {
                 unary(*op, v)
             }
             Expr::Binary(op, left, right) => {
-                let v = self.value(globals, left.get())?;
-                let w = self.value(globals, right.get())?;
+                let v = match self.value_at_once(globals, left.get()) {
+                    Some(v) => v?,
+                    None => self.value(globals, left.get())?,
+                };
+                let w = match self.value_at_once(globals, right.get()) {
+                    Some(w) => w?,
+                    None => self.value(globals, right.get())?,
+                };
                 binary(*op, v, w)
             }
             Expr::Convert(_, to, operand) => {

@@ -10,7 +10,7 @@ ghost use Rattle.st_tree.specs.declared.program.Located.{Located as GlobalPlace}
 ghost use Rattle.st_tree.specs.declared.state.Reference.TheVariants.{Place as PlaceReference};
 
 use crate::operators::{low_dword, low_word};
-use crate::state::State;
+use crate::state::{State, local_at, read_place, write_place};
 use address_registers::{Pointer, resolve};
 use memory_areas::{Area, AreaName, Place};
 use s7_base::{Fault, Reg, Width};
@@ -99,13 +99,32 @@ impl State {
     }
 
     /// The value of a variable.
+    #[inline]
     pub fn read(&self, globals: &[Located], var: Var) -> Result<Value, Fault>
         requires running { IsRunning self.now }
         requires globals { AreGlobals globals.now }
         ensures { result ≡ read globals.now var (state_of self.now) }
     {
-        let reference = self.reference_of(globals, var)?;
-        self.read_at(reference)
+        match var {
+            Var::Register(r) => Ok(self.register(r)),
+            Var::Local(i) => local_at(&self.activations, self.depth(), i),
+            Var::Direct(name, byte, bit, width) => {
+                let place = self.place_of(name, byte, bit);
+                read_place(&self.memory, type_of_width(width), place)
+            }
+            Var::InBlock(number, byte, bit, width) => {
+                let area = Area::Db(number);
+                read_place(
+                    &self.memory,
+                    type_of_width(width),
+                    Place { area, byte, bit },
+                )
+            }
+            Var::Formal(_) | Var::Global(_) => {
+                let reference = self.reference_of(globals, var)?;
+                self.read_at(reference)
+            }
+        }
     }
 
     /// Gives a variable a value. A fault changes nothing.
@@ -117,8 +136,33 @@ impl State {
         ensures sound { (l f : ℕ) → IsSound l f self.old → IsSound l f self.new }
         ensures same { SameShape self.old self.new }
     {
-        let reference = self.reference_of(globals, var)?;
-        self.write_at(reference, v)
+        match var {
+            Var::Register(r) => {
+                self.registers.set(r, v.n);
+                Ok(())
+            }
+            Var::Local(i) => {
+                let d = self.depth();
+                self.write_local(d, i, v)
+            }
+            Var::Direct(name, byte, bit, width) => {
+                let place = self.place_of(name, byte, bit);
+                write_place(&mut self.memory, type_of_width(width), place, v)
+            }
+            Var::InBlock(number, byte, bit, width) => {
+                let area = Area::Db(number);
+                write_place(
+                    &mut self.memory,
+                    type_of_width(width),
+                    Place { area, byte, bit },
+                    v,
+                )
+            }
+            Var::Formal(_) | Var::Global(_) => {
+                let reference = self.reference_of(globals, var)?;
+                self.write_at(reference, v)
+            }
+        }
     }
 
     /// The value of a width at the place that a pointer names.

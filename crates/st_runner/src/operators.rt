@@ -110,18 +110,21 @@ pub fn is_set(v: Value) -> bool
     v.n != 0
 }
 
+#[tactic(auto, using(crate::proofs::Wraps::fit_negation))]
 fn negated(v: Value) -> Value
     ensures { result ≡ typed v.ty (neg_ℤ v.n) }
 {
     typed(v.ty, v.n.wrapping_neg())
 }
 
+#[tactic(auto, using(crate::proofs::Wraps::fit_sum))]
 fn sum(v: Value, w: Value) -> Value
     ensures { result ≡ typed v.ty (v.n +ℤ w.n) }
 {
     typed(v.ty, v.n.wrapping_add(w.n))
 }
 
+#[tactic(auto, using(crate::proofs::Wraps::fit_difference))]
 fn difference(v: Value, w: Value) -> Value
     ensures { result ≡ typed v.ty (v.n -ℤ w.n) }
 {

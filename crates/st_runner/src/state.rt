@@ -3,12 +3,13 @@ ghost use Rattle.std.specs.Prelude.{◌≡◌, ◌<◌, ◌-◌, length, map, sl
 ghost use Rattle.memory_areas.specs.Memory.{IsActivation, Writes};
 ghost use Rattle.st_runner.specs.inner.View.{AreFrames, Changes, HasLocal, IsLocal, IsReachable, SameShape, IsSound, seen, state_of};
 ghost use Rattle.st_runner.specs.inner.Runnable.{AreGlobals};
+ghost use Rattle.st_tree.specs.declared.state.Reference.TheVariants as reference;
 ghost use Rattle.st_tree.specs.State.{locals_of, read_at, read_place, there, with_local, write_at, write_place};
 
 use crate::operators::{flag, is_set, low_byte, low_dword, low_word, typed};
 use crate::registers::Registers;
 use memory_areas::{Memory, Place};
-use s7_base::Fault;
+use s7_base::{Fault, Reg};
 use st_tree::{Reference, StType, Value, type_of_register};
 
 /// A unit that runs: the values of its locals, and what its formals stand for.
@@ -28,8 +29,10 @@ pub struct State {
     pub spare: Vec<Activation>,
 }
 
-/// The value that a place in memory holds, read in a type.
-fn read_place(memory: &Memory, ty: StType, place: Place) -> Result<Value, Fault>
+/// The value that a place in memory holds, read in a type. It stays a call, so that `State::read` is small
+/// where registers and locals are read.
+#[inline(never)]
+pub fn read_place(memory: &Memory, ty: StType, place: Place) -> Result<Value, Fault>
     requires { IsActivation place.area }
     ensures { result ≡ read_place ty place memory.now }
 {
@@ -44,7 +47,7 @@ fn read_place(memory: &Memory, ty: StType, place: Place) -> Result<Value, Fault>
 }
 
 /// Gives a place in memory a value in a type.
-fn write_place(memory: &mut Memory, ty: StType, place: Place, v: Value) -> Result<(), Fault>
+pub fn write_place(memory: &mut Memory, ty: StType, place: Place, v: Value) -> Result<(), Fault>
     requires { IsActivation place.area }
     ensures { Writes (write_place ty place v memory.old) result memory.old memory.new }
 {
@@ -57,7 +60,7 @@ fn write_place(memory: &mut Memory, ty: StType, place: Place, v: Value) -> Resul
 }
 
 /// A local of an activation.
-fn local_at(activations: &[Activation], d: u8, i: u32) -> Result<Value, Fault>
+pub fn local_at(activations: &[Activation], d: u8, i: u32) -> Result<Value, Fault>
     ensures { result ≡ there (slice_get (locals_of (slice_get (map seen activations.now) d)) i) }
 {
     let Some(activation) = activations.get(d as usize) else {
@@ -95,19 +98,36 @@ fn set_local(activations: &mut Vec<Activation>, d: u8, i: u32, v: Value) -> Resu
 }
 
 impl State {
+    /// The value of a register.
+    pub fn register(&self, r: Reg) -> Value
+        ensures { Ok result ≡ read_at (reference.Register r) (state_of self.now) }
+    {
+        Value {
+            ty: type_of_register(r),
+            n: self.registers.get(r),
+        }
+    }
+
     /// The value at a reference.
     pub fn read_at(&self, reference: Reference) -> Result<Value, Fault>
         requires { IsReachable reference }
         ensures { result ≡ read_at reference (state_of self.now) }
     {
         match reference {
-            Reference::Register(r) => Ok(Value {
-                ty: type_of_register(r),
-                n: self.registers.get(r),
-            }),
+            Reference::Register(r) => Ok(self.register(r)),
             Reference::Local(d, i) => local_at(&self.activations, d, i),
             Reference::Place(place, ty) => read_place(&self.memory, ty, place),
         }
+    }
+
+    /// Gives a local of an activation a value. A fault changes nothing.
+    pub fn write_local(&mut self, d: u8, i: u32, v: Value) -> Result<(), Fault>
+        ensures change { Changes (write_at (reference.Local d i) v (state_of self.old)) result
+            (state_of self.old) (state_of self.new) }
+        ensures sound { (l f : ℕ) → IsSound l f self.old → IsSound l f self.new }
+        ensures same { SameShape self.old self.new }
+    {
+        set_local(&mut self.activations, d, i, v)
     }
 
     /// Writes a value at a reference. A fault changes nothing.
@@ -123,7 +143,7 @@ impl State {
                 self.registers.set(r, v.n);
                 Ok(())
             }
-            Reference::Local(d, i) => set_local(&mut self.activations, d, i, v),
+            Reference::Local(d, i) => self.write_local(d, i, v),
             Reference::Place(place, ty) => write_place(&mut self.memory, ty, place, v),
         }
     }

@@ -4,24 +4,25 @@ ghost use Rattle.st_runner.specs.inner.Measures.{next_tall, reach, sizes, tall, 
 ghost use Rattle.st_runner.specs.inner.Costs.{Costs, body_most, most};
 ghost use Rattle.st_runner.specs.inner.Ready.{Done, IsReady, IsSettled, Spent, Stepped, next_of};
 ghost use Rattle.st_runner.specs.inner.Runnable.{IsRunnable, AreGlobals};
-ghost use Rattle.st_runner.specs.inner.Waiting.{end_at, ending};
+ghost use Rattle.st_runner.specs.inner.Waiting.{end_at, ending, with_rest};
 ghost use Rattle.st_runner.specs.inner.View.{IsRunning, IsSound, SameShape, state_of};
 ghost use Rattle.st_runner.specs.declared.frame.At.TheVariants.{Call, Test, Work};
 ghost use Rattle.st_tree.specs.Meaning.{Calls, meaning};
+ghost use Rattle.st_tree.specs.declared.program.Stmt.TheVariants.{Case, If};
 
 use crate::evaluate::labelled;
 use crate::frame::{At, Frame};
 use crate::leaving::{continue_loop, exit_loop, return_unit};
 use crate::state::State;
 use s7_base::Fault;
-use st_tree::{Expr, StProgram, Stmt, Var};
+use st_tree::{Arm, CaseArm, Expr, StProgram, Stmt, Var};
 
 /// How deep statements may nest in a unit.
 pub const MOST_NESTING: usize = 200;
 
 /// How many frames wait at most for the statements of one unit: two for each level of nesting, one for the
 /// unit and one for its body.
-pub const UNIT_FRAMES: usize = 402;
+pub const UNIT_FRAMES: usize = 2 * MOST_NESTING + 2;
 
 /// What comes next where something was done, or had a fault.
 fn next<'t>(done: Result<(), Fault>) -> At<'t>
@@ -29,6 +30,55 @@ fn next<'t>(done: Result<(), Fault>) -> At<'t>
 {
     match done {
         Ok(()) => At::Work,
+        Err(fault) => At::Over(Some(fault)),
+    }
+}
+
+/// Lets the statements wait that an IF chooses.
+fn choose<'t>(
+    tree: &StProgram,
+    arms: &'t [Arm],
+    other: &'t [Stmt],
+    work: &mut Vec<Frame<'t>>,
+    state: &State,
+) -> At<'t>
+    requires running { IsRunning state.now }
+    requires globals { AreGlobals tree.now.globals }
+    requires room { length work.old.items < vec_capacity work.old }
+    ensures done { Done tree.now (If arms.now other.now) work.old.items work.new.items result
+        (state_of state.now) (state_of state.now) }
+    ensures capacity { vec_capacity work.new ≡ vec_capacity work.old }
+{
+    match state.picked(tree.globals.as_slice(), arms, other) {
+        Ok(body) => {
+            work.push_reserved(Frame::Rest(body));
+            At::Work
+        }
+        Err(fault) => At::Over(Some(fault)),
+    }
+}
+
+/// Lets the statements wait that a CASE chooses.
+fn choose_labelled<'t>(
+    tree: &StProgram,
+    e: &Expr,
+    arms: &'t [CaseArm],
+    other: &'t [Stmt],
+    work: &mut Vec<Frame<'t>>,
+    state: &State,
+) -> At<'t>
+    requires running { IsRunning state.now }
+    requires globals { AreGlobals tree.now.globals }
+    requires room { length work.old.items < vec_capacity work.old }
+    ensures done { Done tree.now (Case e.now arms.now other.now) work.old.items work.new.items result
+        (state_of state.now) (state_of state.now) }
+    ensures capacity { vec_capacity work.new ≡ vec_capacity work.old }
+{
+    match state.value(tree.globals.as_slice(), e) {
+        Ok(v) => {
+            work.push_reserved(Frame::Rest(labelled(v, arms, other)));
+            At::Work
+        }
         Err(fault) => At::Over(Some(fault)),
     }
 }
@@ -56,23 +106,10 @@ pub fn statement<'t>(
             next(state.area_assign(globals, *width, pointer.get(), e.get()))
         }
         Stmt::Invoke(n, actuals) => At::Call(*n, actuals.as_slice()),
-        Stmt::If(arms, other) => {
-            match state.picked(globals, arms.as_slice(), other.as_slice()) {
-                Ok(body) => {
-                    work.push_reserved(Frame::Rest(body));
-                    At::Work
-                }
-                Err(fault) => At::Over(Some(fault)),
-            }
+        Stmt::If(arms, other) => choose(tree, arms.as_slice(), other.as_slice(), work, state),
+        Stmt::Case(e, arms, other) => {
+            choose_labelled(tree, e, arms.as_slice(), other.as_slice(), work, state)
         }
-        Stmt::Case(e, arms, other) => match state.value(globals, e) {
-            Ok(v) => {
-                let body = labelled(v, arms.as_slice(), other.as_slice());
-                work.push_reserved(Frame::Rest(body));
-                At::Work
-            }
-            Err(fault) => At::Over(Some(fault)),
-        },
         Stmt::While(test, body) => At::Test(test, body.as_slice()),
         Stmt::Exit => {
             exit_loop(work);
@@ -89,6 +126,17 @@ pub fn statement<'t>(
     }
 }
 
+/// Lets the rest of a list wait. Nothing waits behind the last statement, so that its end takes no step.
+fn push_rest<'t>(rest: &'t [Stmt], work: &mut Vec<Frame<'t>>)
+    requires { length work.old.items < vec_capacity work.old }
+    ensures items { work.new.items ≡ with_rest work.old.items rest.entry }
+    ensures capacity { vec_capacity work.new ≡ vec_capacity work.old }
+{
+    if !rest.is_empty() {
+        work.push_reserved(Frame::Rest(rest));
+    }
+}
+
 /// Does the next statement that waits, or ends the frame on top.
 fn step<'t>(tree: &'t StProgram, work: &mut Vec<Frame<'t>>, state: &mut State) -> At<'t>
     requires globals { AreGlobals tree.now.globals }
@@ -102,7 +150,7 @@ fn step<'t>(tree: &'t StProgram, work: &mut Vec<Frame<'t>>, state: &mut State) -
             let Some((stmt, rest)) = body.split_first() else {
                 return At::Work;
             };
-            work.push_reserved(Frame::Rest(rest));
+            push_rest(rest, work);
             statement(tree, stmt, work, state)
         }
         Some(Frame::Again(test, body)) => At::Test(test, body),

@@ -1,5 +1,6 @@
 -- What waits and what comes next in the runner, and how a run ends from there.
-use Rattle.std.specs.Prelude.{ℕ, List, [], ◌∷◌}
+use Rattle.std.specs.Prelude.{ℕ, List, [], ◌∷◌, ◌++◌}
+use Rattle.std.specs.Borrow.{Bor}
 use Rattle.memory_areas.specs.End.{End, Ended}
 use Rattle.s7_base.specs.declared.outcome.Outcome.{Outcome}
 use Rattle.s7_base.specs.declared.outcome.Outcome.TheVariants as outcome
@@ -13,6 +14,7 @@ use Rattle.st_tree.specs.StRun.{end_seen}
 use Rattle.st_tree.specs.State.{State}
 use Rattle.st_tree.specs.Value.{value}
 use Rattle.st_tree.specs.declared.program.Located.{Located}
+use Rattle.st_tree.specs.declared.program.Stmt.{Stmt}
 
 -- what follows where the statements above a frame ended so
 abbrev pub framed : List Located → Calls → Frame → Out → Out
@@ -38,6 +40,14 @@ end_at globals calls work (at.Test test body) units s =
 end_at globals calls work (at.Call n actuals) units s =
     ending globals calls work (calls n actuals.now units s)
 end_at globals calls work (at.Over f) units s = Ended s.memory.areas f
+
+-- the rest of a list waits above some frames, where there is one
+abbrev pub or_none : List Stmt → List Frame → List Frame → List Frame
+or_none [] below above = below
+or_none (first ∷ behind) below above = above
+
+abbrev pub with_rest : List Frame → Bor (List Stmt) → List Frame
+with_rest below rest = or_none rest.now below (below ++ frame.Rest rest ∷ [])
 
 -- the outcome of a run for which this comes next
 abbrev pub outcome_of : At → Outcome

@@ -1,16 +1,15 @@
-use Rattle.std.proofs.Common.{◌≡◌, List, Some, Ok, Err, sym, ap, subst, ◌∙◌}
-use Rattle.st_runner.specs.inner.Choice.{labelled, picked}
+use Rattle.std.proofs.Common.{List, sym, subst}
 use Rattle.st_runner.specs.inner.Ready.{Done}
 use Rattle.st_runner.specs.inner.View.{Changes, state_of}
 use Rattle.st_runner.specs.declared.frame.At.TheVariants as at
-use Rattle.st_runner.proofs.Dones.{area_done, assign_done, case_done, case_fault, continue_done, exit_done, if_done, if_fault, return_done}
+use Rattle.st_runner.proofs.Dones.{area_done, assign_done, continue_done, exit_done, return_done}
 use Rattle.st_tree.specs.Meaning.{area_assigned, assigned}
-use Rattle.st_tree.specs.Value.{value}
 use Rattle.st_tree.specs.declared.expr.Expr.{Expr}
 use Rattle.st_tree.specs.declared.program.Arm.{Arm}
 use Rattle.st_tree.specs.declared.program.CaseArm.{CaseArm}
 use Rattle.st_tree.specs.declared.program.Located.{Located}
 use Rattle.st_tree.specs.declared.program.Stmt.{Stmt}
+use Rattle.st_tree.specs.declared.program.Stmt.TheVariants as stmt
 use Rattle.st_runner.proofs.steps.statement.Goals as goal
 
 pub returns-in-Assign-clause-done : goal.returns-in-Assign-clause-done
@@ -34,44 +33,24 @@ returns-in-AreaWrite-clause-done c =
     (subst (λ (p : Expr). Changes (area_assigned c.as_slice-globals.result.now w p c.in-AreaWrite.e s) c.area_assign.result s t) c.get.ensures
     (subst (λ (e : Expr). Changes (area_assigned c.as_slice-globals.result.now w c.get.result.now e s) c.area_assign.result s t) c.get-in-AreaWrite.ensures c.area_assign.ensures.change))) c.next-in-AreaWrite.ensures)
 
-pub returns-in-Ok-clause-done : goal.returns-in-Ok-clause-done
-returns-in-Ok-clause-done c =
+pub returns-in-If-clause-done : goal.returns-in-If-clause-done
+returns-in-If-clause-done c =
     let ws = c.args.work.now.items in
+    let vs = c.choose.new.work.items in
     let s = state_of c.args.state.now in
-    subst (λ (x : Stmt). Done c.args.tree.now x ws c.push_reserved.new.self.items at.Work s s) (sym c.in-If.is)
-    (if_done c.args.tree.now ws c.in-If.arms c.in-If.other c.push_reserved.new.self.items c.in-Ok.body s
-    (subst (λ (g : List Located). picked g c.in-If.arms c.in-If.other s ≡ Ok c.in-Ok.body.now) c.as_slice-globals.ensures
-    (subst (λ (xs : List Arm). picked c.as_slice-globals.result.now xs c.in-If.other s ≡ Ok c.in-Ok.body.now) c.as_slice-in-If.ensures
-    (subst (λ (xs : List Stmt). picked c.as_slice-globals.result.now c.as_slice-in-If.result.now xs s ≡ Ok c.in-Ok.body.now) c.as_slice-in-If-2.ensures c.in-Ok.ensures))) c.push_reserved.ensures.items)
+    subst (λ (x : Stmt). Done c.args.tree.now x ws vs c.choose.result s s) (sym c.in-If.is)
+    (subst (λ (xs : List Arm). Done c.args.tree.now (stmt.If xs c.in-If.other) ws vs c.choose.result s s) c.as_slice-in-If.ensures
+    (subst (λ (xs : List Stmt). Done c.args.tree.now (stmt.If c.as_slice-in-If.result.now xs) ws vs c.choose.result s s) c.as_slice-in-If-2.ensures c.choose.ensures.done))
 
-pub returns-in-Err-clause-done : goal.returns-in-Err-clause-done
-returns-in-Err-clause-done c =
+pub returns-in-Case-clause-done : goal.returns-in-Case-clause-done
+returns-in-Case-clause-done c =
     let ws = c.args.work.now.items in
+    let vs = c.choose_labelled.new.work.items in
+    let e = c.in-Case.e in
     let s = state_of c.args.state.now in
-    subst (λ (x : Stmt). Done c.args.tree.now x ws ws (at.Over (Some c.in-Err.fault)) s s) (sym c.in-If.is)
-    (if_fault c.args.tree.now ws c.in-If.arms c.in-If.other s c.in-Err.fault
-    (subst (λ (g : List Located). picked g c.in-If.arms c.in-If.other s ≡ Err c.in-Err.fault) c.as_slice-globals.ensures
-    (subst (λ (xs : List Arm). picked c.as_slice-globals.result.now xs c.in-If.other s ≡ Err c.in-Err.fault) c.as_slice-in-If.ensures
-    (subst (λ (xs : List Stmt). picked c.as_slice-globals.result.now c.as_slice-in-If.result.now xs s ≡ Err c.in-Err.fault) c.as_slice-in-If-2.ensures c.in-Err.ensures))))
-
-pub returns-in-Ok-value-clause-done : goal.returns-in-Ok-value-clause-done
-returns-in-Ok-value-clause-done c =
-    let ws = c.args.work.now.items in
-    let s = state_of c.args.state.now in
-    subst (λ (x : Stmt). Done c.args.tree.now x ws c.push_reserved-in-Ok-value.new.self.items at.Work s s) (sym c.in-Case.is)
-    (case_done c.args.tree.now ws c.in-Case.e c.in-Case.arms c.in-Case.other c.push_reserved-in-Ok-value.new.self.items c.labelled-body.result c.in-Ok-value.v s
-    (subst (λ (g : List Located). value g c.in-Case.e s ≡ Ok c.in-Ok-value.v) c.as_slice-globals.ensures (sym c.value.ensures ∙ c.in-Ok-value.is))
-    (c.labelled-body.ensures
-    ∙ ap (λ (xs : List CaseArm). labelled c.in-Ok-value.v.n xs c.as_slice-in-Ok-value-2.result.now) c.as_slice-in-Ok-value.ensures
-    ∙ ap (λ (xs : List Stmt). labelled c.in-Ok-value.v.n c.in-Case.arms xs) c.as_slice-in-Ok-value-2.ensures) c.push_reserved-in-Ok-value.ensures.items)
-
-pub returns-in-Err-value-clause-done : goal.returns-in-Err-value-clause-done
-returns-in-Err-value-clause-done c =
-    let ws = c.args.work.now.items in
-    let s = state_of c.args.state.now in
-    subst (λ (x : Stmt). Done c.args.tree.now x ws ws (at.Over (Some c.in-Err-value.fault)) s s) (sym c.in-Case.is)
-    (case_fault c.args.tree.now ws c.in-Case.e c.in-Case.arms c.in-Case.other s c.in-Err-value.fault
-    (subst (λ (g : List Located). value g c.in-Case.e s ≡ Err c.in-Err-value.fault) c.as_slice-globals.ensures (sym c.value.ensures ∙ c.in-Err-value.is)))
+    subst (λ (x : Stmt). Done c.args.tree.now x ws vs c.choose_labelled.result s s) (sym c.in-Case.is)
+    (subst (λ (xs : List CaseArm). Done c.args.tree.now (stmt.Case e xs c.in-Case.other) ws vs c.choose_labelled.result s s) c.as_slice-in-Case.ensures
+    (subst (λ (xs : List Stmt). Done c.args.tree.now (stmt.Case e c.as_slice-in-Case.result.now xs) ws vs c.choose_labelled.result s s) c.as_slice-in-Case-2.ensures c.choose_labelled.ensures.done))
 
 pub returns-in-Exit-clause-done : goal.returns-in-Exit-clause-done
 returns-in-Exit-clause-done c =

@@ -1,7 +1,7 @@
 use Rattle.std.proofs.Common.{◌+◌, ◌≤◌, [], ◌∷◌, ◌++◌, length, sym, ap, subst, ◌∙◌}
 use Rattle.st_runner.specs.inner.Costs.{most}
 use Rattle.st_runner.specs.inner.Measures.{stack_costs}
-use Rattle.st_runner.proofs.Stepping.{body_ended, loop_again, may_leave, no_items, one_statement, ready_running, statement_room, unit_ended}
+use Rattle.st_runner.proofs.Stepping.{body_ended, loop_again, may_leave, no_items, first_statement, ready_running, first_room, unit_ended}
 use Rattle.st_runner.proofs.steps.step.Goals as goal
 
 pub returns-in_default-clause-stepped : goal.returns-in_default-clause-stepped
@@ -16,10 +16,10 @@ statement-requires-clause-running c = ready_running c.args.tree.now _ _ _ c.args
 pub statement-requires-clause-room : goal.statement-requires-clause-room
 statement-requires-clause-room c =
     let fs = c.pop.new.self.items in
-    let gs = c.push_reserved.new.self.items in
-    subst (λ n. length gs + most (stack_costs c.args.tree.now) c.in-Some.stmt.now ≤ n) (sym (c.push_reserved.ensures.capacity ∙ c.in-Some-Rest.ensures.capacity))
-    (statement_room c.args.tree.now _ c.args.work.now.items fs gs c.in-Some-Rest.body c.in-Some.rest c.in-Some.stmt.now c.args.state.now c.requires.ready
-    (c.in-Some-Rest.ensures.items ∙ ap (λ f. fs ++ f ∷ []) c.in-Some-Rest.field-0-is) c.in-Some.ensures.cases.0 c.push_reserved.ensures.items)
+    let gs = c.push_rest.new.work.items in
+    subst (λ n. length gs + most (stack_costs c.args.tree.now) c.in-Some.stmt.now ≤ n) (sym (c.push_rest.ensures.capacity ∙ c.in-Some-Rest.ensures.capacity))
+    (first_room c.args.tree.now _ c.args.work.now.items fs gs c.in-Some-Rest.body c.in-Some.rest c.in-Some.stmt.now c.args.state.now c.requires.ready
+    (c.in-Some-Rest.ensures.items ∙ ap (λ f. fs ++ f ∷ []) c.in-Some-Rest.field-0-is) c.in-Some.ensures.cases.0 c.push_rest.ensures.items)
 
 pub leave-requires : goal.leave-requires
 leave-requires c =
@@ -29,8 +29,8 @@ leave-requires c =
 pub returns-in-Some-clause-stepped : goal.returns-in-Some-clause-stepped
 returns-in-Some-clause-stepped c =
     let fs = c.pop.new.self.items in
-    one_statement c.args.tree.now c.args.work.now.items c.args.state.now fs c.push_reserved.new.self.items c.statement.new.work.items c.in-Some-Rest.body c.in-Some.rest c.in-Some.stmt.now c.statement.result c.statement.new.state
-    (c.in-Some-Rest.ensures.items ∙ ap (λ f. fs ++ f ∷ []) c.in-Some-Rest.field-0-is) c.in-Some.ensures.cases.0 c.push_reserved.ensures.items c.statement.ensures.done c.statement.ensures.sound c.statement.ensures.same
+    first_statement c.args.tree.now c.args.work.now.items c.args.state.now fs c.push_rest.new.work.items c.statement.new.work.items c.in-Some-Rest.body c.in-Some.rest c.in-Some.stmt.now c.statement.result c.statement.new.state
+    (c.in-Some-Rest.ensures.items ∙ ap (λ f. fs ++ f ∷ []) c.in-Some-Rest.field-0-is) c.in-Some.ensures.cases.0 c.push_rest.ensures.items c.statement.ensures.done c.statement.ensures.sound c.statement.ensures.same
 
 pub returns-in-Some-Again-clause-stepped : goal.returns-in-Some-Again-clause-stepped
 returns-in-Some-Again-clause-stepped c =

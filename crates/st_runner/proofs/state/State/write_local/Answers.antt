@@ -1,7 +1,7 @@
 use Rattle.std.proofs.Common.{refl}
 use Rattle.st_runner.proofs.Frames.{sound_by}
-use Rattle.st_runner.proofs.state.State.write_at.Goals as goal
+use Rattle.st_runner.proofs.state.State.write_local.Goals as goal
 
-pub returns-in-Local-clause-sound : goal.returns-in-Local-clause-sound
-returns-in-Local-clause-sound c = λ l f sound.
+pub returns-clause-sound : goal.returns-clause-sound
+returns-clause-sound c = λ l f sound.
     sound_by l f c.args.self.now (record c.args.self.now { activations = c.set_local.new.activations }) (c.set_local.ensures.frames l f sound.running) refl c.set_local.ensures.len c.set_local.ensures.capacity sound
