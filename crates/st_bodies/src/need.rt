@@ -80,8 +80,7 @@ fn written(
         alloc,
         begun,
         RawStmtKind::AreaWrite(width, pointer.tree, value.tree),
-    )?;
-    Ok(true)
+    )
 }
 
 /// The test of an arm of an IF ends.

@@ -1,10 +1,10 @@
 //! Where the parser stands between two tokens of statements: what is open, and what may come next.
 
-ghost use Rattle.std.specs.Prelude.{◌≡◌, ◌∷◌, suc, OnOk};
+ghost use Rattle.std.specs.Prelude.{◌≡◌, ◌∷◌, Some, suc, IfOk, OnOk};
 ghost use Rattle.st_grammar.specs.Grammar.{on_line};
 ghost use Rattle.st_grammar.specs.inner.Machine.{code, closing, no_statements, opening, operand, operator, part, statement, waiting, within};
 ghost use Rattle.st_grammar.specs.inner.Steps.{no_spot, shallower, spot};
-ghost use Rattle.st_bodies.specs.inner.Spots.{begun_of, body_at, body_of, frame_of, part_of, place_of, spot_of, stack_of, use_of};
+ghost use Rattle.st_bodies.specs.inner.Spots.{begun_of, body_at, body_of, frame_of, part_of, place_of, spot_of, stack_of, use_of, went};
 
 use crate::expression::{Held, one_more, shallower};
 use s7_base::{Boxed, Line, List, NoMemory, Width};
@@ -215,11 +215,15 @@ impl Spot {
     }
 
     /// Goes on at a place. The few places that there are have calls of their own below, since each that names
-    /// the whole type costs the prover.
+    /// the whole type costs the prover. A step has taken the old place out, so there is nothing to drop but in
+    /// a call from elsewhere.
     fn go(&mut self, place: Place)
         ensures { spot_of self.new ≡ spot code self.old.depth (stack_of self.old.frames) (place_of place) }
     {
-        drop(replace(&mut self.place, place));
+        match replace(&mut self.place, place) {
+            Place::Operand => {}
+            other => drop(other),
+        }
     }
 
     /// A statement may begin, after these.
@@ -313,13 +317,19 @@ impl Spot {
         Ok(())
     }
 
-    /// A statement that opened a level ends, up to its `;`.
-    pub fn close(&mut self, alloc: Global, begun: Begun, kind: RawStmtKind) -> Result<(), NoMemory>
-        ensures { OnOk result (spot_of self.new
-            ≡ spot code (shallower self.old.depth) (stack_of self.old.frames)
-            (closing begun.before (on_line begun.line kind))) }
+    /// A statement that opened a level ends, up to its `;`. Answers as a step does, whose end this is.
+    pub fn close(
+        &mut self,
+        alloc: Global,
+        begun: Begun,
+        kind: RawStmtKind,
+    ) -> Result<bool, NoMemory>
+        ensures { IfOk result (λ goes. went goes self.new
+            ≡ Some (spot code (shallower self.old.depth) (stack_of self.old.frames)
+            (closing begun.before (on_line begun.line kind)))) }
     {
         self.rise();
-        self.go_closing(alloc, begun.before, begun.line, kind)
+        self.go_closing(alloc, begun.before, begun.line, kind)?;
+        Ok(true)
     }
 }

@@ -70,7 +70,9 @@ fn choosing_closed(
     match word {
         Fixed::Elsif => at.wait(begun, Use::Test(arms))?,
         Fixed::Else => at.enter(alloc, begun, Body::Otherwise(arms))?,
-        Fixed::EndIf => at.close(alloc, begun, RawStmtKind::If(arms, List::new(alloc)))?,
+        Fixed::EndIf => {
+            return at.close(alloc, begun, RawStmtKind::If(arms, List::new(alloc)));
+        }
         _ => return Ok(false),
     }
     Ok(true)
@@ -125,8 +127,7 @@ fn case_closed(
 {
     let Cases { selector, arms } = cases.into_inner();
     let selector = selector.tree.into_inner();
-    at.close(alloc, begun, RawStmtKind::Case(selector, arms, otherwise))?;
-    Ok(true)
+    at.close(alloc, begun, RawStmtKind::Case(selector, arms, otherwise))
 }
 
 /// The statements of an arm of a CASE end.
@@ -189,8 +190,7 @@ fn body_closed(
             _ => return Ok(false),
         },
     };
-    at.close(alloc, begun, statement)?;
-    Ok(true)
+    at.close(alloc, begun, statement)
 }
 
 /// A token that begins no statement ends those of the innermost open one, or cannot follow.
@@ -336,8 +336,7 @@ fn at_first_formal(
 {
     match kind {
         Kind::Fixed(Fixed::Close) => {
-            at.close(alloc, begun, RawStmtKind::Invoke(name, List::new(alloc)))?;
-            Ok(true)
+            at.close(alloc, begun, RawStmtKind::Invoke(name, List::new(alloc)))
         }
         other => at_formal(at, begun, called(alloc, name)?, other),
     }
@@ -411,14 +410,16 @@ fn at_given(
         (begun_of begun) (given call.name call.actuals) kind) }
 {
     match kind {
-        Kind::Fixed(Fixed::Comma) => at.go_part(begun, Part::NextFormal(call)),
+        Kind::Fixed(Fixed::Comma) => {
+            at.go_part(begun, Part::NextFormal(call));
+            Ok(true)
+        }
         Kind::Fixed(Fixed::Close) => {
             let Call { name, actuals } = call.into_inner();
-            at.close(alloc, begun, RawStmtKind::Invoke(name, actuals))?;
+            at.close(alloc, begun, RawStmtKind::Invoke(name, actuals))
         }
-        _ => return Ok(false),
+        _ => Ok(false),
     }
-    Ok(true)
 }
 
 /// A label where one must stand.
