@@ -7,7 +7,7 @@
 
 pub use depth::is_deep_at;
 pub use expression::Held;
-pub use spot::{Argument, Begun, Body, Frame, Part, Place, Spot, Use};
+pub use spot::{Argument, Begun, Body, Call, Cases, Frame, Part, Place, Spot, Use};
 pub use statement::step;
 
 mod depth;

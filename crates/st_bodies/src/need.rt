@@ -6,8 +6,8 @@ ghost use Rattle.st_grammar.specs.declared.kind.Kind.TheVariants as kind;
 ghost use Rattle.st_bodies.specs.inner.Spots.{begun_of, measured_of, stack_of, use_of, went};
 
 use crate::expression::{Held, hold};
-use crate::spot::{Begun, Body, Part, Spot, Use};
-use s7_base::{List, NoMemory, Width};
+use crate::spot::{Begun, Body, Cases, Part, Spot, Use};
+use s7_base::{Boxed, List, NoMemory, Width};
 use st_grammar::{Fixed, Measured};
 use st_tree::{RawArm, RawStmt, RawStmtKind, RawVar};
 use std::alloc::Global;
@@ -77,10 +77,10 @@ fn written(
     };
     let value = hold(alloc, value)?;
     at.close(
+        alloc,
         begun,
         RawStmtKind::AreaWrite(width, pointer.tree, value.tree),
-    );
-    Ok(true)
+    )
 }
 
 /// The test of an arm of an IF ends.
@@ -119,8 +119,11 @@ fn selected(
         drop(value);
         return Ok(false);
     };
-    let value = hold(alloc, value)?;
-    at.go_part(begun, Part::FirstLabel(value, List::new(alloc)));
+    let cases = Cases {
+        selector: hold(alloc, value)?,
+        arms: List::new(alloc),
+    };
+    at.go_part(begun, Part::FirstLabel(Boxed::new(alloc, cases)?));
     Ok(true)
 }
 

@@ -1,13 +1,13 @@
 //! Where the parser stands between two tokens of statements: what is open, and what may come next.
 
-ghost use Rattle.std.specs.Prelude.{◌≡◌, ◌∷◌, suc, OnOk};
+ghost use Rattle.std.specs.Prelude.{◌≡◌, ◌∷◌, Some, suc, IfOk, OnOk};
 ghost use Rattle.st_grammar.specs.Grammar.{on_line};
 ghost use Rattle.st_grammar.specs.inner.Machine.{code, closing, no_statements, opening, operand, operator, part, statement, waiting, within};
 ghost use Rattle.st_grammar.specs.inner.Steps.{no_spot, shallower, spot};
-ghost use Rattle.st_bodies.specs.inner.Spots.{begun_of, body_at, body_of, frame_of, part_of, place_of, spot_of, stack_of, use_of};
+ghost use Rattle.st_bodies.specs.inner.Spots.{begun_of, body_at, body_of, frame_of, part_of, place_of, spot_of, stack_of, use_of, went};
 
 use crate::expression::{Held, one_more, shallower};
-use s7_base::{Line, List, NoMemory, Width};
+use s7_base::{Boxed, Line, List, NoMemory, Width};
 use st_grammar::{Function, Measured, OneOperand, Prefix};
 use st_tree::{BinaryOp, RawArm, RawCaseArm, RawStmt, RawStmtKind, RawVar, ShiftOp, StType};
 use std::alloc::Global;
@@ -18,6 +18,20 @@ use std::mem::replace;
 pub struct Begun {
     pub before: List<RawStmt>,
     pub line: Line,
+}
+
+/// A call while it is read: the name of its function, and the actuals so far.
+#[derive(Drop)]
+pub struct Call {
+    pub name: List<u8>,
+    pub actuals: List<(List<u8>, RawVar)>,
+}
+
+/// A CASE while it is read: its selector, and the arms so far.
+#[derive(Drop)]
+pub struct Cases {
+    pub selector: Held,
+    pub arms: List<RawCaseArm>,
 }
 
 /// An operand of a function, with those before it.
@@ -76,11 +90,11 @@ pub enum Body {
     /// The statements of a WHILE with this test.
     Looping(Held),
 
-    /// An arm of a CASE with this selector, after these arms, with these labels.
-    Selecting(Held, List<RawCaseArm>, List<(StType, i64)>),
+    /// An arm of a CASE with these labels.
+    Selecting(Boxed<Cases>, List<(StType, i64)>),
 
     /// The statements after the ELSE of a CASE.
-    OtherwiseCase(Held, List<RawCaseArm>),
+    OtherwiseCase(Boxed<Cases>),
 }
 
 /// Something that is open.
@@ -117,29 +131,29 @@ pub enum Part {
     /// The first formal of a call, or its closing bracket.
     FirstFormal(List<u8>),
 
-    /// A further formal of a call, after these actuals.
-    NextFormal(List<u8>, List<(List<u8>, RawVar)>),
+    /// A further formal of a call.
+    NextFormal(Boxed<Call>),
 
     /// The `:=` after a formal of a call.
-    Becoming(List<u8>, List<(List<u8>, RawVar)>, List<u8>),
+    Becoming(Boxed<Call>, List<u8>),
 
     /// The variable that a formal of a call is given.
-    Giving(List<u8>, List<(List<u8>, RawVar)>, List<u8>),
+    Giving(Boxed<Call>, List<u8>),
 
     /// The comma or the closing bracket after an actual of a call.
-    Given(List<u8>, List<(List<u8>, RawVar)>),
+    Given(Boxed<Call>),
 
     /// The first label of a CASE.
-    FirstLabel(Held, List<RawCaseArm>),
+    FirstLabel(Boxed<Cases>),
 
     /// A further label of an arm, after a comma.
-    NextLabel(Held, List<RawCaseArm>, List<(StType, i64)>),
+    NextLabel(Boxed<Cases>, List<(StType, i64)>),
 
     /// The comma or the `:` after a label.
-    Labelled(Held, List<RawCaseArm>, List<(StType, i64)>),
+    Labelled(Boxed<Cases>, List<(StType, i64)>),
 }
 
-/// What may come next in statements.
+/// What may come next in statements. It is moved at each token, so what is large and rare stands in a box.
 #[derive(Drop)]
 pub enum Place {
     /// A statement, after these.
@@ -148,7 +162,7 @@ pub enum Place {
     Part(Begun, Part),
 
     /// The `;` of a statement.
-    Closing(List<RawStmt>, RawStmt),
+    Closing(List<RawStmt>, Boxed<RawStmt>),
 
     Operand,
     Operator(Measured),
@@ -201,11 +215,15 @@ impl Spot {
     }
 
     /// Goes on at a place. The few places that there are have calls of their own below, since each that names
-    /// the whole type costs the prover.
+    /// the whole type costs the prover. A step has taken the old place out, so there is nothing to drop but in
+    /// a call from elsewhere.
     fn go(&mut self, place: Place)
         ensures { spot_of self.new ≡ spot code self.old.depth (stack_of self.old.frames) (place_of place) }
     {
-        drop(replace(&mut self.place, place));
+        match replace(&mut self.place, place) {
+            Place::Operand => {}
+            other => drop(other),
+        }
     }
 
     /// A statement may begin, after these.
@@ -224,11 +242,19 @@ impl Spot {
     }
 
     /// The `;` of a statement is next.
-    pub fn go_closing(&mut self, before: List<RawStmt>, line: Line, kind: RawStmtKind)
-        ensures { spot_of self.new
-            ≡ spot code self.old.depth (stack_of self.old.frames) (closing before (on_line line kind)) }
+    pub fn go_closing(
+        &mut self,
+        alloc: Global,
+        before: List<RawStmt>,
+        line: Line,
+        kind: RawStmtKind,
+    ) -> Result<(), NoMemory>
+        ensures { OnOk result (spot_of self.new
+            ≡ spot code self.old.depth (stack_of self.old.frames) (closing before (on_line line kind))) }
     {
-        self.go(Place::Closing(before, RawStmt { line, kind }));
+        let statement = Boxed::new(alloc, RawStmt { line, kind })?;
+        self.go(Place::Closing(before, statement));
+        Ok(())
     }
 
     /// An operand was read.
@@ -291,13 +317,19 @@ impl Spot {
         Ok(())
     }
 
-    /// A statement that opened a level ends, up to its `;`.
-    pub fn close(&mut self, begun: Begun, kind: RawStmtKind)
-        ensures { spot_of self.new
-            ≡ spot code (shallower self.old.depth) (stack_of self.old.frames)
-            (closing begun.before (on_line begun.line kind)) }
+    /// A statement that opened a level ends, up to its `;`. Answers as a step does, whose end this is.
+    pub fn close(
+        &mut self,
+        alloc: Global,
+        begun: Begun,
+        kind: RawStmtKind,
+    ) -> Result<bool, NoMemory>
+        ensures { IfOk result (λ goes. went goes self.new
+            ≡ Some (spot code (shallower self.old.depth) (stack_of self.old.frames)
+            (closing begun.before (on_line begun.line kind)))) }
     {
         self.rise();
-        self.go_closing(begun.before, begun.line, kind);
+        self.go_closing(alloc, begun.before, begun.line, kind)?;
+        Ok(true)
     }
 }

@@ -1,17 +1,17 @@
 //! Steps of the parser in statements.
-ghost use Rattle.std.specs.Prelude.{◌≡◌, [], ◌∷◌, ◌++◌, IfOk};
+ghost use Rattle.std.specs.Prelude.{◌≡◌, [], ◌∷◌, ◌++◌, Some, IfOk};
 ghost use Rattle.std.specs.List.{list_any};
-ghost use Rattle.st_grammar.specs.Grammar.{may_jump, label_tree};
-ghost use Rattle.st_grammar.specs.inner.Machine.{code, choosing, selecting, write_open, first_formal, next_formal, becoming, giving, given, labelled};
-ghost use Rattle.st_grammar.specs.inner.Steps.{is_loop, in_loop, body_closed, in_body, at_lead, at_statement, at_target, at_label, at_call, at_part, at_closing, step_at};
+ghost use Rattle.st_grammar.specs.Grammar.{may_jump, case_of, label_tree};
+ghost use Rattle.st_grammar.specs.inner.Machine.{code, choosing, closing, of_cases_else, selecting, write_open, first_formal, next_formal, becoming, giving, given, labelled};
+ghost use Rattle.st_grammar.specs.inner.Steps.{shallower, spot, is_loop, in_loop, body_closed, in_body, at_lead, at_statement, at_target, at_label, at_call, at_part, at_closing, step_at};
 ghost use Rattle.st_grammar.specs.declared.kind.Kind.TheVariants as kind;
 ghost use Rattle.st_grammar.specs.declared.kind.Lead.TheVariants as lead;
 ghost use Rattle.st_bodies.specs.inner.Spots.{begun_of, body_of, frame_of, measured_of, part_of, place_of, stack_of, went};
 
 use crate::expression::{Held, is_value, label_of};
 use crate::operand::{at_opening, at_operand, at_operator};
-use crate::spot::{Begun, Body, Frame, Part, Place, Spot, Use};
-use s7_base::{Line, List, NoMemory, Width};
+use crate::spot::{Begun, Body, Call, Cases, Frame, Part, Place, Spot, Use};
+use s7_base::{Boxed, Line, List, NoMemory, Width};
 use st_grammar::{Fixed, Jump, Kind, Lead, Literal};
 use st_tree::{RawArm, RawCaseArm, RawStmt, RawStmtKind, RawVar, StType};
 use std::alloc::Global;
@@ -70,7 +70,9 @@ fn choosing_closed(
     match word {
         Fixed::Elsif => at.wait(begun, Use::Test(arms))?,
         Fixed::Else => at.enter(alloc, begun, Body::Otherwise(arms))?,
-        Fixed::EndIf => at.close(begun, RawStmtKind::If(arms, List::new(alloc))),
+        Fixed::EndIf => {
+            return at.close(alloc, begun, RawStmtKind::If(arms, List::new(alloc)));
+        }
         _ => return Ok(false),
     }
     Ok(true)
@@ -80,21 +82,52 @@ fn choosing_closed(
 fn at_label(
     at: &mut Spot,
     begun: Begun,
-    selector: Held,
-    arms: List<RawCaseArm>,
+    cases: Boxed<Cases>,
     mut labels: List<(StType, i64)>,
     literal: Literal,
 ) -> Result<bool, NoMemory>
     ensures { IfOk result (λ goes. went goes at.new
-        ≡ at_label code at.old.depth (stack_of at.old.frames) (begun_of begun) (measured_of selector) arms
+        ≡ at_label code at.old.depth (stack_of at.old.frames) (begun_of begun) (measured_of cases.selector) cases.arms
         (λ c. labels ++ label_tree c ∷ []) (kind.Literal literal)) }
 {
     if !is_value(literal) {
         return Ok(false);
     }
     labels.push(label_of(literal))?;
-    at.go_part(begun, Part::Labelled(selector, arms, labels));
+    at.go_part(begun, Part::Labelled(cases, labels));
     Ok(true)
+}
+
+/// A CASE with one more arm.
+fn with_case(
+    alloc: Global,
+    cases: Boxed<Cases>,
+    labels: List<(StType, i64)>,
+    body: List<RawStmt>,
+) -> Result<Boxed<Cases>, NoMemory>
+    ensures { IfOk result (λ more. more
+        ≡ record { selector = cases.selector; arms = cases.arms ++ case_of labels body ∷ [] }) }
+{
+    let Cases { selector, mut arms } = cases.into_inner();
+    arms.push(RawCaseArm { labels, body })?;
+    Boxed::new(alloc, Cases { selector, arms })
+}
+
+/// The END_CASE of a CASE.
+fn case_closed(
+    alloc: Global,
+    at: &mut Spot,
+    begun: Begun,
+    cases: Boxed<Cases>,
+    otherwise: List<RawStmt>,
+) -> Result<bool, NoMemory>
+    ensures { IfOk result (λ goes. went goes at.new
+        ≡ Some (spot code (shallower at.old.depth) (stack_of at.old.frames)
+        (closing begun.before (of_cases_else code begun.line (measured_of cases.selector) cases.arms otherwise)))) }
+{
+    let Cases { selector, arms } = cases.into_inner();
+    let selector = selector.tree.into_inner();
+    at.close(alloc, begun, RawStmtKind::Case(selector, arms, otherwise))
 }
 
 /// The statements of an arm of a CASE end.
@@ -102,29 +135,25 @@ fn selecting_closed(
     alloc: Global,
     at: &mut Spot,
     begun: Begun,
-    selector: Held,
-    mut arms: List<RawCaseArm>,
+    cases: Boxed<Cases>,
     labels: List<(StType, i64)>,
     body: List<RawStmt>,
     kind: Kind,
 ) -> Result<bool, NoMemory>
     ensures { IfOk result (λ goes. went goes at.new
         ≡ body_closed code at.old.depth (stack_of at.old.frames)
-        (begun_of begun) (selecting (measured_of selector) arms labels) body kind) }
+        (begun_of begun) (selecting (measured_of cases.selector) cases.arms labels) body kind) }
 {
-    arms.push(RawCaseArm { labels, body })?;
+    let cases = with_case(alloc, cases, labels, body)?;
     match kind {
-        Kind::Literal(literal) => {
-            return at_label(at, begun, selector, arms, List::new(alloc), literal);
+        Kind::Literal(literal) => at_label(at, begun, cases, List::new(alloc), literal),
+        Kind::Fixed(Fixed::Else) => {
+            at.enter(alloc, begun, Body::OtherwiseCase(cases))?;
+            Ok(true)
         }
-        Kind::Fixed(Fixed::Else) => at.enter(alloc, begun, Body::OtherwiseCase(selector, arms))?,
-        Kind::Fixed(Fixed::EndCase) => {
-            let selector = selector.tree.into_inner();
-            at.close(begun, RawStmtKind::Case(selector, arms, List::new(alloc)));
-        }
-        _ => return Ok(false),
+        Kind::Fixed(Fixed::EndCase) => case_closed(alloc, at, begun, cases, List::new(alloc)),
+        _ => Ok(false),
     }
-    Ok(true)
 }
 
 /// Statements inside another one end.
@@ -143,8 +172,8 @@ fn body_closed(
         Body::Choosing(arms, test) => {
             return choosing_closed(alloc, at, begun, arms, test, body, kind);
         }
-        Body::Selecting(selector, arms, labels) => {
-            return selecting_closed(alloc, at, begun, selector, arms, labels, body, kind);
+        Body::Selecting(cases, labels) => {
+            return selecting_closed(alloc, at, begun, cases, labels, body, kind);
         }
         Body::Otherwise(arms) => match kind {
             Kind::Fixed(Fixed::EndIf) => RawStmtKind::If(arms, body),
@@ -154,15 +183,14 @@ fn body_closed(
             Kind::Fixed(Fixed::EndWhile) => RawStmtKind::While(test.tree.into_inner(), body),
             _ => return Ok(false),
         },
-        Body::OtherwiseCase(selector, arms) => match kind {
+        Body::OtherwiseCase(cases) => match kind {
             Kind::Fixed(Fixed::EndCase) => {
-                RawStmtKind::Case(selector.tree.into_inner(), arms, body)
+                return case_closed(alloc, at, begun, cases, body);
             }
             _ => return Ok(false),
         },
     };
-    at.close(begun, statement);
-    Ok(true)
+    at.close(alloc, begun, statement)
 }
 
 /// A token that begins no statement ends those of the innermost open one, or cannot follow.
@@ -180,7 +208,13 @@ fn in_body(alloc: Global, at: &mut Spot, body: List<RawStmt>, kind: Kind) -> Res
 }
 
 /// EXIT, CONTINUE or RETURN.
-fn at_jump(at: &mut Spot, before: List<RawStmt>, jump: Jump, line: Line) -> Result<bool, NoMemory>
+fn at_jump(
+    alloc: Global,
+    at: &mut Spot,
+    before: List<RawStmt>,
+    jump: Jump,
+    line: Line,
+) -> Result<bool, NoMemory>
     ensures { IfOk result (λ goes. went goes at.new
         ≡ at_lead code at.old.depth (stack_of at.old.frames) before (lead.Jump jump) line) }
 {
@@ -192,7 +226,7 @@ fn at_jump(at: &mut Spot, before: List<RawStmt>, jump: Jump, line: Line) -> Resu
         Jump::Continue => RawStmtKind::Continue,
         Jump::Return => RawStmtKind::Return,
     };
-    at.go_closing(before, line, kind);
+    at.go_closing(alloc, before, line, kind)?;
     Ok(true)
 }
 
@@ -211,7 +245,7 @@ fn at_lead(
         Lead::If => Use::Test(List::new(alloc)),
         Lead::Case => Use::Selector,
         Lead::While => Use::LoopTest,
-        Lead::Jump(jump) => return at_jump(at, before, jump, line),
+        Lead::Jump(jump) => return at_jump(alloc, at, before, jump, line),
         Lead::AreaWrite(width) => {
             at.go_part(Begun { before, line }, Part::WriteOpen(width));
             return Ok(true);
@@ -267,23 +301,26 @@ fn at_target(at: &mut Spot, begun: Begun, var: RawVar, kind: Kind) -> Result<boo
 }
 
 /// A name of a formal.
-fn at_formal(
-    at: &mut Spot,
-    begun: Begun,
-    name: List<u8>,
-    actuals: List<(List<u8>, RawVar)>,
-    kind: Kind,
-) -> Result<bool, NoMemory>
+fn at_formal(at: &mut Spot, begun: Begun, call: Boxed<Call>, kind: Kind) -> Result<bool, NoMemory>
     ensures { IfOk result (λ goes. went goes at.new
-        ≡ at_call code at.old.depth (stack_of at.old.frames) (begun_of begun) (next_formal name actuals) kind) }
+        ≡ at_call code at.old.depth (stack_of at.old.frames)
+        (begun_of begun) (next_formal call.name call.actuals) kind) }
 {
     match kind {
         Kind::Variable(RawVar::Name(formal), _) => {
-            at.go_part(begun, Part::Becoming(name, actuals, formal));
+            at.go_part(begun, Part::Becoming(call, formal));
             Ok(true)
         }
         _ => Ok(false),
     }
+}
+
+/// A call without actuals.
+fn called(alloc: Global, name: List<u8>) -> Result<Boxed<Call>, NoMemory>
+    ensures { IfOk result (λ call. call ≡ record { name = name; actuals = [] }) }
+{
+    let actuals = List::new(alloc);
+    Boxed::new(alloc, Call { name, actuals })
 }
 
 /// What stands after the bracket of a call.
@@ -299,10 +336,9 @@ fn at_first_formal(
 {
     match kind {
         Kind::Fixed(Fixed::Close) => {
-            at.close(begun, RawStmtKind::Invoke(name, List::new(alloc)));
-            Ok(true)
+            at.close(alloc, begun, RawStmtKind::Invoke(name, List::new(alloc)))
         }
-        other => at_formal(at, begun, name, List::new(alloc), other),
+        other => at_formal(at, begun, called(alloc, name)?, other),
     }
 }
 
@@ -310,75 +346,96 @@ fn at_first_formal(
 fn at_becoming(
     at: &mut Spot,
     begun: Begun,
-    name: List<u8>,
-    actuals: List<(List<u8>, RawVar)>,
+    call: Boxed<Call>,
     formal: List<u8>,
     kind: Kind,
 ) -> Result<bool, NoMemory>
     ensures { IfOk result (λ goes. went goes at.new
-        ≡ at_call code at.old.depth (stack_of at.old.frames) (begun_of begun) (becoming name actuals formal) kind) }
+        ≡ at_call code at.old.depth (stack_of at.old.frames)
+        (begun_of begun) (becoming call.name call.actuals formal) kind) }
 {
     let Kind::Fixed(Fixed::Becomes) = kind else {
         return Ok(false);
     };
-    at.go_part(begun, Part::Giving(name, actuals, formal));
+    at.go_part(begun, Part::Giving(call, formal));
     Ok(true)
+}
+
+/// A call with one more actual.
+fn with_actual(
+    alloc: Global,
+    call: Boxed<Call>,
+    formal: List<u8>,
+    var: RawVar,
+) -> Result<Boxed<Call>, NoMemory>
+    ensures { IfOk result (λ more. more
+        ≡ record { name = call.name; actuals = call.actuals ++ (formal, var) ∷ [] }) }
+{
+    let Call { name, mut actuals } = call.into_inner();
+    actuals.push((formal, var))?;
+    Boxed::new(alloc, Call { name, actuals })
 }
 
 /// A variable for a formal.
 fn at_actual(
+    alloc: Global,
     at: &mut Spot,
     begun: Begun,
-    name: List<u8>,
-    mut actuals: List<(List<u8>, RawVar)>,
+    call: Boxed<Call>,
     formal: List<u8>,
     kind: Kind,
 ) -> Result<bool, NoMemory>
     ensures { IfOk result (λ goes. went goes at.new
-        ≡ at_call code at.old.depth (stack_of at.old.frames) (begun_of begun) (giving name actuals formal) kind) }
+        ≡ at_call code at.old.depth (stack_of at.old.frames)
+        (begun_of begun) (giving call.name call.actuals formal) kind) }
 {
     let Kind::Variable(var, _) = kind else {
         return Ok(false);
     };
-    actuals.push((formal, var))?;
-    at.go_part(begun, Part::Given(name, actuals));
+    let call = with_actual(alloc, call, formal, var)?;
+    at.go_part(begun, Part::Given(call));
     Ok(true)
 }
 
 /// What stands after the actuals of a call.
 fn at_given(
+    alloc: Global,
     at: &mut Spot,
     begun: Begun,
-    name: List<u8>,
-    actuals: List<(List<u8>, RawVar)>,
+    call: Boxed<Call>,
     kind: Kind,
 ) -> Result<bool, NoMemory>
     ensures { IfOk result (λ goes. went goes at.new
-        ≡ at_call code at.old.depth (stack_of at.old.frames) (begun_of begun) (given name actuals) kind) }
+        ≡ at_call code at.old.depth (stack_of at.old.frames)
+        (begun_of begun) (given call.name call.actuals) kind) }
 {
     match kind {
-        Kind::Fixed(Fixed::Comma) => at.go_part(begun, Part::NextFormal(name, actuals)),
-        Kind::Fixed(Fixed::Close) => at.close(begun, RawStmtKind::Invoke(name, actuals)),
-        _ => return Ok(false),
+        Kind::Fixed(Fixed::Comma) => {
+            at.go_part(begun, Part::NextFormal(call));
+            Ok(true)
+        }
+        Kind::Fixed(Fixed::Close) => {
+            let Call { name, actuals } = call.into_inner();
+            at.close(alloc, begun, RawStmtKind::Invoke(name, actuals))
+        }
+        _ => Ok(false),
     }
-    Ok(true)
 }
 
 /// A label where one must stand.
 fn at_next_label(
     at: &mut Spot,
     begun: Begun,
-    selector: Held,
-    arms: List<RawCaseArm>,
+    cases: Boxed<Cases>,
     labels: List<(StType, i64)>,
     kind: Kind,
 ) -> Result<bool, NoMemory>
     ensures { IfOk result (λ goes. went goes at.new
-        ≡ at_label code at.old.depth (stack_of at.old.frames) (begun_of begun) (measured_of selector) arms
+        ≡ at_label code at.old.depth (stack_of at.old.frames) (begun_of begun) (measured_of cases.selector) cases.arms
         (λ c. labels ++ label_tree c ∷ []) kind) }
 {
     match kind {
-        Kind::Literal(literal) => at_label(at, begun, selector, arms, labels, literal),
+        Kind::Literal(literal) => at_label(at, begun, cases, labels, literal),
         _ => Ok(false),
     }
 }
@@ -388,22 +445,17 @@ fn at_labelled(
     alloc: Global,
     at: &mut Spot,
     begun: Begun,
-    selector: Held,
-    arms: List<RawCaseArm>,
+    cases: Boxed<Cases>,
     labels: List<(StType, i64)>,
     kind: Kind,
 ) -> Result<bool, NoMemory>
     ensures { IfOk result (λ goes. went goes at.new
         ≡ at_part code at.old.depth (stack_of at.old.frames)
-        (begun_of begun) (labelled (measured_of selector) arms labels) kind) }
+        (begun_of begun) (labelled (measured_of cases.selector) cases.arms labels) kind) }
 {
     match kind {
-        Kind::Fixed(Fixed::Comma) => {
-            at.go_part(begun, Part::NextLabel(selector, arms, labels));
-        }
-        Kind::Fixed(Fixed::Colon) => {
-            at.enter(alloc, begun, Body::Selecting(selector, arms, labels))?;
-        }
+        Kind::Fixed(Fixed::Comma) => at.go_part(begun, Part::NextLabel(cases, labels)),
+        Kind::Fixed(Fixed::Colon) => at.enter(alloc, begun, Body::Selecting(cases, labels))?,
         _ => return Ok(false),
     }
     Ok(true)
@@ -437,21 +489,13 @@ fn at_part(
         Part::Target(var) => at_target(at, begun, var, kind),
         Part::WriteOpen(width) => at_write_open(at, begun, width, kind),
         Part::FirstFormal(name) => at_first_formal(alloc, at, begun, name, kind),
-        Part::NextFormal(name, actuals) => at_formal(at, begun, name, actuals, kind),
-        Part::Becoming(name, actuals, formal) => {
-            at_becoming(at, begun, name, actuals, formal, kind)
-        }
-        Part::Giving(name, actuals, formal) => at_actual(at, begun, name, actuals, formal, kind),
-        Part::Given(name, actuals) => at_given(at, begun, name, actuals, kind),
-        Part::FirstLabel(selector, arms) => {
-            at_next_label(at, begun, selector, arms, List::new(alloc), kind)
-        }
-        Part::NextLabel(selector, arms, labels) => {
-            at_next_label(at, begun, selector, arms, labels, kind)
-        }
-        Part::Labelled(selector, arms, labels) => {
-            at_labelled(alloc, at, begun, selector, arms, labels, kind)
-        }
+        Part::NextFormal(call) => at_formal(at, begun, call, kind),
+        Part::Becoming(call, formal) => at_becoming(at, begun, call, formal, kind),
+        Part::Giving(call, formal) => at_actual(alloc, at, begun, call, formal, kind),
+        Part::Given(call) => at_given(alloc, at, begun, call, kind),
+        Part::FirstLabel(cases) => at_next_label(at, begun, cases, List::new(alloc), kind),
+        Part::NextLabel(cases, labels) => at_next_label(at, begun, cases, labels, kind),
+        Part::Labelled(cases, labels) => at_labelled(alloc, at, begun, cases, labels, kind),
     }
 }
 
@@ -459,7 +503,7 @@ fn at_part(
 fn at_closing(
     at: &mut Spot,
     mut before: List<RawStmt>,
-    statement: RawStmt,
+    statement: Boxed<RawStmt>,
     kind: Kind,
 ) -> Result<bool, NoMemory>
     ensures { IfOk result (λ goes. went goes at.new
@@ -469,7 +513,7 @@ fn at_closing(
         drop(statement);
         return Ok(false);
     };
-    before.push(statement)?;
+    before.push(statement.into_inner())?;
     at.go_statement(before);
     Ok(true)
 }

@@ -53,8 +53,8 @@ abbrev pub body_of : Body → machine.Body code
 body_of (body.Choosing arms e) = machine.choosing arms (measured_of e)
 body_of (body.Otherwise arms) = machine.otherwise arms
 body_of (body.Looping e) = machine.looping (measured_of e)
-body_of (body.Selecting e arms labels) = machine.selecting (measured_of e) arms labels
-body_of (body.OtherwiseCase e arms) = machine.otherwise_case (measured_of e) arms
+body_of (body.Selecting c labels) = machine.selecting (measured_of c.selector) c.arms labels
+body_of (body.OtherwiseCase c) = machine.otherwise_case (measured_of c.selector) c.arms
 
 -- what is open
 abbrev pub frame_of : Frame → machine.Frame code
@@ -84,13 +84,13 @@ abbrev pub part_of : Part → machine.Part code
 part_of (part.Target v) = machine.target v
 part_of (part.WriteOpen w) = machine.write_open w
 part_of (part.FirstFormal name) = machine.first_formal name
-part_of (part.NextFormal name actuals) = machine.next_formal name actuals
-part_of (part.Becoming name actuals formal) = machine.becoming name actuals formal
-part_of (part.Giving name actuals formal) = machine.giving name actuals formal
-part_of (part.Given name actuals) = machine.given name actuals
-part_of (part.FirstLabel e arms) = machine.first_label (measured_of e) arms
-part_of (part.NextLabel e arms labels) = machine.next_label (measured_of e) arms labels
-part_of (part.Labelled e arms labels) = machine.labelled (measured_of e) arms labels
+part_of (part.NextFormal c) = machine.next_formal c.name c.actuals
+part_of (part.Becoming c formal) = machine.becoming c.name c.actuals formal
+part_of (part.Giving c formal) = machine.giving c.name c.actuals formal
+part_of (part.Given c) = machine.given c.name c.actuals
+part_of (part.FirstLabel c) = machine.first_label (measured_of c.selector) c.arms
+part_of (part.NextLabel c labels) = machine.next_label (measured_of c.selector) c.arms labels
+part_of (part.Labelled c labels) = machine.labelled (measured_of c.selector) c.arms labels
 
 -- what may come next in statements
 abbrev pub place_of : Place → machine.Place code
