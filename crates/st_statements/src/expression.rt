@@ -13,6 +13,14 @@ use st_tree::{
 };
 use std::alloc::Global;
 
+/// Where something is judged: what names mean there, and its line.
+#[derive(Clone, Copy)]
+pub struct Spot<'s> {
+    pub alloc: Global,
+    pub scope: &'s Scope,
+    pub line: Line,
+}
+
 /// An operand: an expression of the tree in the box in which a larger one has it, and its type.
 #[derive(Drop)]
 pub struct Operand {
@@ -183,83 +191,129 @@ fn area_read_of(
     typed_as(line, ty, Expr::AreaRead(width, pointer.tree), breaks)
 }
 
-/// A variable on a line; notes the rule that it breaks.
+/// A variable; notes the rule that it breaks.
 pub fn variable_on(
-    alloc: Global,
-    scope: &Scope,
-    line: Line,
+    at: Spot<'_>,
     raw: &RawVar,
     breaks: &mut List<Break>,
 ) -> Result<Option<TypedVar>, NoMemory>
-    ensures found { IfOk result (λ found. found ≡ (variable_on scope.now line raw.now).found) }
-    ensures breaks { OnOk result (breaks.new ≡ breaks.old ++ (variable_on scope.now line raw.now).breaks) }
+    ensures found { IfOk result (λ found. found ≡ (variable_on at.entry.scope.now at.entry.line raw.now).found) }
+    ensures breaks { OnOk result (breaks.new ≡ breaks.old ++ (variable_on at.entry.scope.now at.entry.line raw.now).breaks) }
 {
-    match variable(alloc, scope, raw)? {
+    match variable(at.alloc, at.scope, raw)? {
         Ok(variable) => Ok(Some(variable)),
         Err(rule) => {
-            note(breaks, line, rule)?;
+            note(breaks, at.line, rule)?;
             Ok(None)
         }
     }
 }
 
-/// An expression on a line that is the operand of another; notes the rules that are broken in it.
+/// An expression that is the operand of another; notes the rules that are broken in it.
 #[cycle(expression)]
 pub fn operand_of(
-    alloc: Global,
-    scope: &Scope,
-    line: Line,
+    at: Spot<'_>,
     raw: &RawExpr,
     breaks: &mut List<Break>,
 ) -> Result<Option<Operand>, NoMemory>
-    ensures found { IfOk result (λ found. option_map typed_of found ≡ (expression scope.now line raw.now).found) }
-    ensures breaks { OnOk result (breaks.new ≡ breaks.old ++ (expression scope.now line raw.now).breaks) }
+    ensures found { IfOk result (λ found. option_map typed_of found ≡ (expression at.entry.scope.now at.entry.line raw.now).found) }
+    ensures breaks { OnOk result (breaks.new ≡ breaks.old ++ (expression at.entry.scope.now at.entry.line raw.now).breaks) }
 {
-    boxed(alloc, expression(alloc, scope, line, raw, breaks)?)
+    boxed(at.alloc, expression(at, raw, breaks)?)
 }
 
-/// An expression on a line; notes the rules that are broken in it.
+/// An operator behind its left operand.
 #[cycle(expression)]
-pub fn expression(
-    alloc: Global,
-    scope: &Scope,
-    line: Line,
+fn binary_with(
+    at: Spot<'_>,
+    op: BinaryOp,
+    left: Option<Operand>,
     raw: &RawExpr,
     breaks: &mut List<Break>,
 ) -> Result<Option<Typed>, NoMemory>
-    ensures found { IfOk result (λ found. found ≡ (expression scope.now line raw.now).found) }
-    ensures breaks { OnOk result (breaks.new ≡ breaks.old ++ (expression scope.now line raw.now).breaks) }
+    ensures found { IfOk result (λ found. found
+        ≡ (binary_of at.entry.line op (option_map typed_of left) (expression at.entry.scope.now at.entry.line raw.now).found).found) }
+    ensures breaks { OnOk result (breaks.new ≡ (breaks.old ++ (expression at.entry.scope.now at.entry.line raw.now).breaks)
+        ++ (binary_of at.entry.line op (option_map typed_of left) (expression at.entry.scope.now at.entry.line raw.now).found).breaks) }
+{
+    let right = operand_of(at, raw, breaks)?;
+    binary_of(at.line, op, left, right, breaks)
+}
+
+/// A shift behind what it shifts.
+#[cycle(expression)]
+fn shift_with(
+    at: Spot<'_>,
+    op: ShiftOp,
+    pattern: Option<Operand>,
+    raw: &RawExpr,
+    breaks: &mut List<Break>,
+) -> Result<Option<Typed>, NoMemory>
+    ensures found { IfOk result (λ found. found
+        ≡ (shift_of at.entry.line op (option_map typed_of pattern) (expression at.entry.scope.now at.entry.line raw.now).found).found) }
+    ensures breaks { OnOk result (breaks.new ≡ (breaks.old ++ (expression at.entry.scope.now at.entry.line raw.now).breaks)
+        ++ (shift_of at.entry.line op (option_map typed_of pattern) (expression at.entry.scope.now at.entry.line raw.now).found).breaks) }
+{
+    let count = operand_of(at, raw, breaks)?;
+    shift_of(at.line, op, pattern, count, breaks)
+}
+
+/// A choice behind its gate and its first value.
+#[cycle(expression)]
+fn choice_with(
+    at: Spot<'_>,
+    gate: Option<Operand>,
+    first: Option<Operand>,
+    raw: &RawExpr,
+    breaks: &mut List<Break>,
+) -> Result<Option<Typed>, NoMemory>
+    ensures found { IfOk result (λ found. found ≡ (choice_of at.entry.line (option_map typed_of gate)
+        (option_map typed_of first) (expression at.entry.scope.now at.entry.line raw.now).found).found) }
+    ensures breaks { OnOk result (breaks.new ≡ (breaks.old ++ (expression at.entry.scope.now at.entry.line raw.now).breaks)
+        ++ (choice_of at.entry.line (option_map typed_of gate) (option_map typed_of first)
+        (expression at.entry.scope.now at.entry.line raw.now).found).breaks) }
+{
+    let second = operand_of(at, raw, breaks)?;
+    choice_of(at.line, gate, first, second, breaks)
+}
+
+/// An expression; notes the rules that are broken in it.
+#[cycle(expression)]
+pub fn expression(
+    at: Spot<'_>,
+    raw: &RawExpr,
+    breaks: &mut List<Break>,
+) -> Result<Option<Typed>, NoMemory>
+    ensures found { IfOk result (λ found. found ≡ (expression at.entry.scope.now at.entry.line raw.now).found) }
+    ensures breaks { OnOk result (breaks.new ≡ breaks.old ++ (expression at.entry.scope.now at.entry.line raw.now).breaks) }
 {
     match raw {
         RawExpr::Literal(ty, value) => Ok(Some(literal_of(*ty, *value))),
-        RawExpr::Read(raw) => Ok(read_of(variable_on(alloc, scope, line, raw, breaks)?)),
+        RawExpr::Read(raw) => Ok(read_of(variable_on(at, raw, breaks)?)),
         RawExpr::Unary(op, value) => {
-            let value = operand_of(alloc, scope, line, value.get(), breaks)?;
-            unary_of(line, *op, value, breaks)
+            let value = operand_of(at, value.get(), breaks)?;
+            unary_of(at.line, *op, value, breaks)
         }
         RawExpr::Binary(op, left, right) => {
-            let left = operand_of(alloc, scope, line, left.get(), breaks)?;
-            let right = operand_of(alloc, scope, line, right.get(), breaks)?;
-            binary_of(line, *op, left, right, breaks)
+            let left = operand_of(at, left.get(), breaks)?;
+            binary_with(at, *op, left, right.get(), breaks)
         }
         RawExpr::Convert(from, to, value) => {
-            let value = operand_of(alloc, scope, line, value.get(), breaks)?;
-            conversion_of(line, *from, *to, value, breaks)
+            let value = operand_of(at, value.get(), breaks)?;
+            conversion_of(at.line, *from, *to, value, breaks)
         }
         RawExpr::Select(gate, first, second) => {
-            let gate = operand_of(alloc, scope, line, gate.get(), breaks)?;
-            let first = operand_of(alloc, scope, line, first.get(), breaks)?;
-            let second = operand_of(alloc, scope, line, second.get(), breaks)?;
-            choice_of(line, gate, first, second, breaks)
+            let gate = operand_of(at, gate.get(), breaks)?;
+            let first = operand_of(at, first.get(), breaks)?;
+            choice_with(at, gate, first, second.get(), breaks)
         }
         RawExpr::Shift(op, pattern, count) => {
-            let pattern = operand_of(alloc, scope, line, pattern.get(), breaks)?;
-            let count = operand_of(alloc, scope, line, count.get(), breaks)?;
-            shift_of(line, *op, pattern, count, breaks)
+            let pattern = operand_of(at, pattern.get(), breaks)?;
+            shift_with(at, *op, pattern, count.get(), breaks)
         }
         RawExpr::AreaRead(width, pointer) => {
-            let pointer = operand_of(alloc, scope, line, pointer.get(), breaks)?;
-            area_read_of(line, *width, pointer, breaks)
+            let pointer = operand_of(at, pointer.get(), breaks)?;
+            area_read_of(at.line, *width, pointer, breaks)
         }
     }
 }
