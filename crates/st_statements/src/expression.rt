@@ -78,22 +78,6 @@ fn read_of(variable: Option<TypedVar>) -> Option<Typed>
     }
 }
 
-fn unary_of(
-    line: Line,
-    op: UnaryOp,
-    operand: Option<Operand>,
-    breaks: &mut List<Break>,
-) -> Result<Option<Typed>, NoMemory>
-    ensures found { IfOk result (λ found. found ≡ (unary_of line op (option_map typed_of operand)).found) }
-    ensures breaks { OnOk result (breaks.new ≡ breaks.old ++ (unary_of line op (option_map typed_of operand)).breaks) }
-{
-    let Some(operand) = operand else {
-        return Ok(None);
-    };
-    let ty = type_of_unary(op, operand.ty);
-    typed_as(line, ty, Expr::Unary(op, operand.tree), breaks)
-}
-
 fn binary_of(
     line: Line,
     op: BinaryOp,
@@ -112,23 +96,6 @@ fn binary_of(
     };
     let ty = type_of_binary(op, left.ty, right.ty);
     typed_as(line, ty, Expr::Binary(op, left.tree, right.tree), breaks)
-}
-
-fn conversion_of(
-    line: Line,
-    from: StType,
-    to: StType,
-    operand: Option<Operand>,
-    breaks: &mut List<Break>,
-) -> Result<Option<Typed>, NoMemory>
-    ensures found { IfOk result (λ found. found ≡ (conversion_of line from to (option_map typed_of operand)).found) }
-    ensures breaks { OnOk result (breaks.new ≡ breaks.old ++ (conversion_of line from to (option_map typed_of operand)).breaks) }
-{
-    let Some(operand) = operand else {
-        return Ok(None);
-    };
-    let ty = type_of_conversion(from, to, operand.ty);
-    typed_as(line, ty, Expr::Convert(from, to, operand.tree), breaks)
 }
 
 fn choice_of(
@@ -175,22 +142,6 @@ fn shift_of(
     typed_as(line, ty, Expr::Shift(op, pattern.tree, count.tree), breaks)
 }
 
-fn area_read_of(
-    line: Line,
-    width: Width,
-    pointer: Option<Operand>,
-    breaks: &mut List<Break>,
-) -> Result<Option<Typed>, NoMemory>
-    ensures found { IfOk result (λ found. found ≡ (area_read_of line width (option_map typed_of pointer)).found) }
-    ensures breaks { OnOk result (breaks.new ≡ breaks.old ++ (area_read_of line width (option_map typed_of pointer)).breaks) }
-{
-    let Some(pointer) = pointer else {
-        return Ok(None);
-    };
-    let ty = type_of_read(width, pointer.ty);
-    typed_as(line, ty, Expr::AreaRead(width, pointer.tree), breaks)
-}
-
 /// A variable; notes the rule that it breaks.
 pub fn variable_on(
     at: Spot<'_>,
@@ -220,6 +171,64 @@ pub fn operand_of(
     ensures breaks { OnOk result (breaks.new ≡ breaks.old ++ (expression at.entry.scope.now at.entry.line raw.now).breaks) }
 {
     boxed(at.alloc, expression(at, raw, breaks)?)
+}
+
+/// Minus, NOT or a BCD conversion of an operand.
+#[cycle(expression)]
+fn unary(
+    at: Spot<'_>,
+    op: UnaryOp,
+    raw: &RawExpr,
+    breaks: &mut List<Break>,
+) -> Result<Option<Typed>, NoMemory>
+    ensures found { IfOk result (λ found. found ≡ (unary_of at.entry.line op (expression at.entry.scope.now at.entry.line raw.now).found).found) }
+    ensures breaks { OnOk result (breaks.new ≡ (breaks.old ++ (expression at.entry.scope.now at.entry.line raw.now).breaks)
+        ++ (unary_of at.entry.line op (expression at.entry.scope.now at.entry.line raw.now).found).breaks) }
+{
+    let Some(operand) = operand_of(at, raw, breaks)? else {
+        return Ok(None);
+    };
+    let ty = type_of_unary(op, operand.ty);
+    typed_as(at.line, ty, Expr::Unary(op, operand.tree), breaks)
+}
+
+/// `A_TO_B` of an operand.
+#[cycle(expression)]
+fn conversion(
+    at: Spot<'_>,
+    from: StType,
+    to: StType,
+    raw: &RawExpr,
+    breaks: &mut List<Break>,
+) -> Result<Option<Typed>, NoMemory>
+    ensures found { IfOk result (λ found. found ≡ (conversion_of at.entry.line from to (expression at.entry.scope.now at.entry.line raw.now).found).found) }
+    ensures breaks { OnOk result (breaks.new ≡ (breaks.old ++ (expression at.entry.scope.now at.entry.line raw.now).breaks)
+        ++ (conversion_of at.entry.line from to (expression at.entry.scope.now at.entry.line raw.now).found).breaks) }
+{
+    let Some(operand) = operand_of(at, raw, breaks)? else {
+        return Ok(None);
+    };
+    let ty = type_of_conversion(from, to, operand.ty);
+    typed_as(at.line, ty, Expr::Convert(from, to, operand.tree), breaks)
+}
+
+/// A read through a pointer.
+#[cycle(expression)]
+fn area_read(
+    at: Spot<'_>,
+    width: Width,
+    raw: &RawExpr,
+    breaks: &mut List<Break>,
+) -> Result<Option<Typed>, NoMemory>
+    ensures found { IfOk result (λ found. found ≡ (area_read_of at.entry.line width (expression at.entry.scope.now at.entry.line raw.now).found).found) }
+    ensures breaks { OnOk result (breaks.new ≡ (breaks.old ++ (expression at.entry.scope.now at.entry.line raw.now).breaks)
+        ++ (area_read_of at.entry.line width (expression at.entry.scope.now at.entry.line raw.now).found).breaks) }
+{
+    let Some(operand) = operand_of(at, raw, breaks)? else {
+        return Ok(None);
+    };
+    let ty = type_of_read(width, operand.ty);
+    typed_as(at.line, ty, Expr::AreaRead(width, operand.tree), breaks)
 }
 
 /// An operator behind its left operand.
@@ -290,18 +299,12 @@ pub fn expression(
     match raw {
         RawExpr::Literal(ty, value) => Ok(Some(literal_of(*ty, *value))),
         RawExpr::Read(raw) => Ok(read_of(variable_on(at, raw, breaks)?)),
-        RawExpr::Unary(op, value) => {
-            let value = operand_of(at, value.get(), breaks)?;
-            unary_of(at.line, *op, value, breaks)
-        }
+        RawExpr::Unary(op, value) => unary(at, *op, value.get(), breaks),
         RawExpr::Binary(op, left, right) => {
             let left = operand_of(at, left.get(), breaks)?;
             binary_with(at, *op, left, right.get(), breaks)
         }
-        RawExpr::Convert(from, to, value) => {
-            let value = operand_of(at, value.get(), breaks)?;
-            conversion_of(at.line, *from, *to, value, breaks)
-        }
+        RawExpr::Convert(from, to, value) => conversion(at, *from, *to, value.get(), breaks),
         RawExpr::Select(gate, first, second) => {
             let gate = operand_of(at, gate.get(), breaks)?;
             let first = operand_of(at, first.get(), breaks)?;
@@ -311,9 +314,6 @@ pub fn expression(
             let pattern = operand_of(at, pattern.get(), breaks)?;
             shift_with(at, *op, pattern, count.get(), breaks)
         }
-        RawExpr::AreaRead(width, pointer) => {
-            let pointer = operand_of(at, pointer.get(), breaks)?;
-            area_read_of(at.line, *width, pointer, breaks)
-        }
+        RawExpr::AreaRead(width, pointer) => area_read(at, *width, pointer.get(), breaks),
     }
 }
