@@ -13,6 +13,14 @@ use st_tree::{
 };
 use std::alloc::Global;
 
+/// Where something is judged: what names mean there, and its line.
+#[derive(Clone, Copy)]
+pub struct Spot<'s> {
+    pub alloc: Global,
+    pub scope: &'s Scope,
+    pub line: Line,
+}
+
 /// An operand: an expression of the tree in the box in which a larger one has it, and its type.
 #[derive(Drop)]
 pub struct Operand {
@@ -70,22 +78,6 @@ fn read_of(variable: Option<TypedVar>) -> Option<Typed>
     }
 }
 
-fn unary_of(
-    line: Line,
-    op: UnaryOp,
-    operand: Option<Operand>,
-    breaks: &mut List<Break>,
-) -> Result<Option<Typed>, NoMemory>
-    ensures found { IfOk result (λ found. found ≡ (unary_of line op (option_map typed_of operand)).found) }
-    ensures breaks { OnOk result (breaks.new ≡ breaks.old ++ (unary_of line op (option_map typed_of operand)).breaks) }
-{
-    let Some(operand) = operand else {
-        return Ok(None);
-    };
-    let ty = type_of_unary(op, operand.ty);
-    typed_as(line, ty, Expr::Unary(op, operand.tree), breaks)
-}
-
 fn binary_of(
     line: Line,
     op: BinaryOp,
@@ -104,23 +96,6 @@ fn binary_of(
     };
     let ty = type_of_binary(op, left.ty, right.ty);
     typed_as(line, ty, Expr::Binary(op, left.tree, right.tree), breaks)
-}
-
-fn conversion_of(
-    line: Line,
-    from: StType,
-    to: StType,
-    operand: Option<Operand>,
-    breaks: &mut List<Break>,
-) -> Result<Option<Typed>, NoMemory>
-    ensures found { IfOk result (λ found. found ≡ (conversion_of line from to (option_map typed_of operand)).found) }
-    ensures breaks { OnOk result (breaks.new ≡ breaks.old ++ (conversion_of line from to (option_map typed_of operand)).breaks) }
-{
-    let Some(operand) = operand else {
-        return Ok(None);
-    };
-    let ty = type_of_conversion(from, to, operand.ty);
-    typed_as(line, ty, Expr::Convert(from, to, operand.tree), breaks)
 }
 
 fn choice_of(
@@ -167,99 +142,178 @@ fn shift_of(
     typed_as(line, ty, Expr::Shift(op, pattern.tree, count.tree), breaks)
 }
 
-fn area_read_of(
-    line: Line,
-    width: Width,
-    pointer: Option<Operand>,
-    breaks: &mut List<Break>,
-) -> Result<Option<Typed>, NoMemory>
-    ensures found { IfOk result (λ found. found ≡ (area_read_of line width (option_map typed_of pointer)).found) }
-    ensures breaks { OnOk result (breaks.new ≡ breaks.old ++ (area_read_of line width (option_map typed_of pointer)).breaks) }
-{
-    let Some(pointer) = pointer else {
-        return Ok(None);
-    };
-    let ty = type_of_read(width, pointer.ty);
-    typed_as(line, ty, Expr::AreaRead(width, pointer.tree), breaks)
-}
-
-/// A variable on a line; notes the rule that it breaks.
+/// A variable; notes the rule that it breaks.
 pub fn variable_on(
-    alloc: Global,
-    scope: &Scope,
-    line: Line,
+    at: Spot<'_>,
     raw: &RawVar,
     breaks: &mut List<Break>,
 ) -> Result<Option<TypedVar>, NoMemory>
-    ensures found { IfOk result (λ found. found ≡ (variable_on scope.now line raw.now).found) }
-    ensures breaks { OnOk result (breaks.new ≡ breaks.old ++ (variable_on scope.now line raw.now).breaks) }
+    ensures found { IfOk result (λ found. found ≡ (variable_on at.entry.scope.now at.entry.line raw.now).found) }
+    ensures breaks { OnOk result (breaks.new ≡ breaks.old ++ (variable_on at.entry.scope.now at.entry.line raw.now).breaks) }
 {
-    match variable(alloc, scope, raw)? {
+    match variable(at.alloc, at.scope, raw)? {
         Ok(variable) => Ok(Some(variable)),
         Err(rule) => {
-            note(breaks, line, rule)?;
+            note(breaks, at.line, rule)?;
             Ok(None)
         }
     }
 }
 
-/// An expression on a line that is the operand of another; notes the rules that are broken in it.
+/// An expression that is the operand of another; notes the rules that are broken in it.
 #[cycle(expression)]
 pub fn operand_of(
-    alloc: Global,
-    scope: &Scope,
-    line: Line,
+    at: Spot<'_>,
     raw: &RawExpr,
     breaks: &mut List<Break>,
 ) -> Result<Option<Operand>, NoMemory>
-    ensures found { IfOk result (λ found. option_map typed_of found ≡ (expression scope.now line raw.now).found) }
-    ensures breaks { OnOk result (breaks.new ≡ breaks.old ++ (expression scope.now line raw.now).breaks) }
+    ensures found { IfOk result (λ found. option_map typed_of found ≡ (expression at.entry.scope.now at.entry.line raw.now).found) }
+    ensures breaks { OnOk result (breaks.new ≡ breaks.old ++ (expression at.entry.scope.now at.entry.line raw.now).breaks) }
 {
-    boxed(alloc, expression(alloc, scope, line, raw, breaks)?)
+    boxed(at.alloc, expression(at, raw, breaks)?)
 }
 
-/// An expression on a line; notes the rules that are broken in it.
+/// Minus, NOT or a BCD conversion of an operand.
 #[cycle(expression)]
-pub fn expression(
-    alloc: Global,
-    scope: &Scope,
-    line: Line,
+fn unary(
+    at: Spot<'_>,
+    op: UnaryOp,
     raw: &RawExpr,
     breaks: &mut List<Break>,
 ) -> Result<Option<Typed>, NoMemory>
-    ensures found { IfOk result (λ found. found ≡ (expression scope.now line raw.now).found) }
-    ensures breaks { OnOk result (breaks.new ≡ breaks.old ++ (expression scope.now line raw.now).breaks) }
+    ensures found { IfOk result (λ found. found ≡ (unary_of at.entry.line op (expression at.entry.scope.now at.entry.line raw.now).found).found) }
+    ensures breaks { OnOk result (breaks.new ≡ (breaks.old ++ (expression at.entry.scope.now at.entry.line raw.now).breaks)
+        ++ (unary_of at.entry.line op (expression at.entry.scope.now at.entry.line raw.now).found).breaks) }
+{
+    let Some(operand) = operand_of(at, raw, breaks)? else {
+        return Ok(None);
+    };
+    let ty = type_of_unary(op, operand.ty);
+    typed_as(at.line, ty, Expr::Unary(op, operand.tree), breaks)
+}
+
+/// `A_TO_B` of an operand.
+#[cycle(expression)]
+fn conversion(
+    at: Spot<'_>,
+    from: StType,
+    to: StType,
+    raw: &RawExpr,
+    breaks: &mut List<Break>,
+) -> Result<Option<Typed>, NoMemory>
+    ensures found { IfOk result (λ found. found ≡ (conversion_of at.entry.line from to (expression at.entry.scope.now at.entry.line raw.now).found).found) }
+    ensures breaks { OnOk result (breaks.new ≡ (breaks.old ++ (expression at.entry.scope.now at.entry.line raw.now).breaks)
+        ++ (conversion_of at.entry.line from to (expression at.entry.scope.now at.entry.line raw.now).found).breaks) }
+{
+    let Some(operand) = operand_of(at, raw, breaks)? else {
+        return Ok(None);
+    };
+    let ty = type_of_conversion(from, to, operand.ty);
+    typed_as(at.line, ty, Expr::Convert(from, to, operand.tree), breaks)
+}
+
+/// A read through a pointer.
+#[cycle(expression)]
+fn area_read(
+    at: Spot<'_>,
+    width: Width,
+    raw: &RawExpr,
+    breaks: &mut List<Break>,
+) -> Result<Option<Typed>, NoMemory>
+    ensures found { IfOk result (λ found. found ≡ (area_read_of at.entry.line width (expression at.entry.scope.now at.entry.line raw.now).found).found) }
+    ensures breaks { OnOk result (breaks.new ≡ (breaks.old ++ (expression at.entry.scope.now at.entry.line raw.now).breaks)
+        ++ (area_read_of at.entry.line width (expression at.entry.scope.now at.entry.line raw.now).found).breaks) }
+{
+    let Some(operand) = operand_of(at, raw, breaks)? else {
+        return Ok(None);
+    };
+    let ty = type_of_read(width, operand.ty);
+    typed_as(at.line, ty, Expr::AreaRead(width, operand.tree), breaks)
+}
+
+/// An operator behind its left operand.
+#[cycle(expression)]
+fn binary_with(
+    at: Spot<'_>,
+    op: BinaryOp,
+    left: Option<Operand>,
+    raw: &RawExpr,
+    breaks: &mut List<Break>,
+) -> Result<Option<Typed>, NoMemory>
+    ensures found { IfOk result (λ found. found
+        ≡ (binary_of at.entry.line op (option_map typed_of left) (expression at.entry.scope.now at.entry.line raw.now).found).found) }
+    ensures breaks { OnOk result (breaks.new ≡ (breaks.old ++ (expression at.entry.scope.now at.entry.line raw.now).breaks)
+        ++ (binary_of at.entry.line op (option_map typed_of left) (expression at.entry.scope.now at.entry.line raw.now).found).breaks) }
+{
+    let right = operand_of(at, raw, breaks)?;
+    binary_of(at.line, op, left, right, breaks)
+}
+
+/// A shift behind what it shifts.
+#[cycle(expression)]
+fn shift_with(
+    at: Spot<'_>,
+    op: ShiftOp,
+    pattern: Option<Operand>,
+    raw: &RawExpr,
+    breaks: &mut List<Break>,
+) -> Result<Option<Typed>, NoMemory>
+    ensures found { IfOk result (λ found. found
+        ≡ (shift_of at.entry.line op (option_map typed_of pattern) (expression at.entry.scope.now at.entry.line raw.now).found).found) }
+    ensures breaks { OnOk result (breaks.new ≡ (breaks.old ++ (expression at.entry.scope.now at.entry.line raw.now).breaks)
+        ++ (shift_of at.entry.line op (option_map typed_of pattern) (expression at.entry.scope.now at.entry.line raw.now).found).breaks) }
+{
+    let count = operand_of(at, raw, breaks)?;
+    shift_of(at.line, op, pattern, count, breaks)
+}
+
+/// A choice behind its gate and its first value.
+#[cycle(expression)]
+fn choice_with(
+    at: Spot<'_>,
+    gate: Option<Operand>,
+    first: Option<Operand>,
+    raw: &RawExpr,
+    breaks: &mut List<Break>,
+) -> Result<Option<Typed>, NoMemory>
+    ensures found { IfOk result (λ found. found ≡ (choice_of at.entry.line (option_map typed_of gate)
+        (option_map typed_of first) (expression at.entry.scope.now at.entry.line raw.now).found).found) }
+    ensures breaks { OnOk result (breaks.new ≡ (breaks.old ++ (expression at.entry.scope.now at.entry.line raw.now).breaks)
+        ++ (choice_of at.entry.line (option_map typed_of gate) (option_map typed_of first)
+        (expression at.entry.scope.now at.entry.line raw.now).found).breaks) }
+{
+    let second = operand_of(at, raw, breaks)?;
+    choice_of(at.line, gate, first, second, breaks)
+}
+
+/// An expression; notes the rules that are broken in it.
+#[cycle(expression)]
+pub fn expression(
+    at: Spot<'_>,
+    raw: &RawExpr,
+    breaks: &mut List<Break>,
+) -> Result<Option<Typed>, NoMemory>
+    ensures found { IfOk result (λ found. found ≡ (expression at.entry.scope.now at.entry.line raw.now).found) }
+    ensures breaks { OnOk result (breaks.new ≡ breaks.old ++ (expression at.entry.scope.now at.entry.line raw.now).breaks) }
 {
     match raw {
         RawExpr::Literal(ty, value) => Ok(Some(literal_of(*ty, *value))),
-        RawExpr::Read(raw) => Ok(read_of(variable_on(alloc, scope, line, raw, breaks)?)),
-        RawExpr::Unary(op, value) => {
-            let value = operand_of(alloc, scope, line, value.get(), breaks)?;
-            unary_of(line, *op, value, breaks)
-        }
+        RawExpr::Read(raw) => Ok(read_of(variable_on(at, raw, breaks)?)),
+        RawExpr::Unary(op, value) => unary(at, *op, value.get(), breaks),
         RawExpr::Binary(op, left, right) => {
-            let left = operand_of(alloc, scope, line, left.get(), breaks)?;
-            let right = operand_of(alloc, scope, line, right.get(), breaks)?;
-            binary_of(line, *op, left, right, breaks)
+            let left = operand_of(at, left.get(), breaks)?;
+            binary_with(at, *op, left, right.get(), breaks)
         }
-        RawExpr::Convert(from, to, value) => {
-            let value = operand_of(alloc, scope, line, value.get(), breaks)?;
-            conversion_of(line, *from, *to, value, breaks)
-        }
+        RawExpr::Convert(from, to, value) => conversion(at, *from, *to, value.get(), breaks),
         RawExpr::Select(gate, first, second) => {
-            let gate = operand_of(alloc, scope, line, gate.get(), breaks)?;
-            let first = operand_of(alloc, scope, line, first.get(), breaks)?;
-            let second = operand_of(alloc, scope, line, second.get(), breaks)?;
-            choice_of(line, gate, first, second, breaks)
+            let gate = operand_of(at, gate.get(), breaks)?;
+            let first = operand_of(at, first.get(), breaks)?;
+            choice_with(at, gate, first, second.get(), breaks)
         }
         RawExpr::Shift(op, pattern, count) => {
-            let pattern = operand_of(alloc, scope, line, pattern.get(), breaks)?;
-            let count = operand_of(alloc, scope, line, count.get(), breaks)?;
-            shift_of(line, *op, pattern, count, breaks)
+            let pattern = operand_of(at, pattern.get(), breaks)?;
+            shift_with(at, *op, pattern, count.get(), breaks)
         }
-        RawExpr::AreaRead(width, pointer) => {
-            let pointer = operand_of(alloc, scope, line, pointer.get(), breaks)?;
-            area_read_of(line, *width, pointer, breaks)
-        }
+        RawExpr::AreaRead(width, pointer) => area_read(at, *width, pointer.get(), breaks),
     }
 }

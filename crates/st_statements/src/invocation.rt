@@ -2,7 +2,7 @@
 ghost use Rattle.std.specs.Prelude.{◌≡◌, [], ◌++◌, Some, IfOk, OnOk};
 ghost use Rattle.st_rules.specs.Invocations.{call_with, callee, formal_breaks, function_call, given_by, given_to_none, in_order, invocation, lacks, no_call, plain, var_given, with_actual, with_name};
 
-use crate::expression::variable_on;
+use crate::expression::{Spot, variable_on};
 use s7_base::{Break, Line, List, NoMemory, Reason, note};
 use st_rules::lists::keep;
 use st_rules::scope::{Formals, Meaning, Scope};
@@ -61,43 +61,39 @@ fn judge_formal(
 
 /// Takes one actual more into what the formals are given.
 fn with_actual(
-    alloc: Global,
-    scope: &Scope,
-    line: Line,
+    at: Spot<'_>,
     types: &Table<StType>,
     actual: &(List<u8>, RawVar),
     vars: &mut Table<Option<Var>>,
     breaks: &mut List<Break>,
 ) -> Result<(), NoMemory>
     ensures vars { OnOk result (vars.new
-        ≡ (with_actual scope.now line types.now (record { vars = vars.old; breaks = [] }) actual.now).vars) }
+        ≡ (with_actual at.entry.scope.now at.entry.line types.now (record { vars = vars.old; breaks = [] }) actual.now).vars) }
     ensures breaks { OnOk result (breaks.new ≡ breaks.old
-        ++ (with_actual scope.now line types.now (record { vars = vars.old; breaks = [] }) actual.now).breaks) }
+        ++ (with_actual at.entry.scope.now at.entry.line types.now (record { vars = vars.old; breaks = [] }) actual.now).breaks) }
 {
-    let key = key_of(alloc, actual.0.as_slice())?;
-    let variable = variable_on(alloc, scope, line, &actual.1, breaks)?;
+    let variable = variable_on(at, &actual.1, breaks)?;
+    let key = key_of(at.alloc, actual.0.as_slice())?;
     let formal = types.look_up(key.as_slice());
     let before = vars.look_up(key.as_slice());
-    judge_formal(line, formal, before, variable, breaks)?;
+    judge_formal(at.line, formal, before, variable, breaks)?;
     vars.declare(key, plain(variable))?;
     Ok(())
 }
 
 /// What the formals are given by all actuals.
 fn given_by(
-    alloc: Global,
-    scope: &Scope,
-    line: Line,
+    at: Spot<'_>,
     types: &Table<StType>,
     actuals: &[(List<u8>, RawVar)],
     breaks: &mut List<Break>,
 ) -> Result<Table<Option<Var>>, NoMemory>
-    ensures vars { IfOk result (λ vars. vars ≡ (given_by scope.now line types.now actuals.now).vars) }
-    ensures breaks { OnOk result (breaks.new ≡ breaks.old ++ (given_by scope.now line types.now actuals.now).breaks) }
+    ensures vars { IfOk result (λ vars. vars ≡ (given_by at.entry.scope.now at.entry.line types.now actuals.now).vars) }
+    ensures breaks { OnOk result (breaks.new ≡ breaks.old ++ (given_by at.entry.scope.now at.entry.line types.now actuals.now).breaks) }
 {
-    let mut vars = Table::new(alloc);
+    let mut vars = Table::new(at.alloc);
     for actual in actuals {
-        with_actual(alloc, scope, line, types, actual, &mut vars, breaks)?;
+        with_actual(at, types, actual, &mut vars, breaks)?;
     }
     Ok(vars)
 }
@@ -133,123 +129,105 @@ fn in_order(
 }
 
 fn call_with(
-    alloc: Global,
-    line: Line,
+    at: Spot<'_>,
     position: u32,
     vars: &Table<Option<Var>>,
     keys: &[List<u8>],
     breaks: &mut List<Break>,
 ) -> Result<Option<Stmt>, NoMemory>
-    ensures found { IfOk result (λ found. found ≡ (call_with line position vars.now keys.now).found) }
-    ensures breaks { OnOk result (breaks.new ≡ breaks.old ++ (call_with line position vars.now keys.now).breaks) }
+    ensures found { IfOk result (λ found. found ≡ (call_with at.entry.line position vars.now keys.now).found) }
+    ensures breaks { OnOk result (breaks.new ≡ breaks.old ++ (call_with at.entry.line position vars.now keys.now).breaks) }
 {
     if lacks(vars, keys) {
-        note(breaks, line, Reason::TypeMismatch)?;
+        note(breaks, at.line, Reason::TypeMismatch)?;
         return Ok(None);
     }
-    let list = in_order(alloc, vars, keys)?;
+    let list = in_order(at.alloc, vars, keys)?;
     Ok(Some(Stmt::Invoke(position, list)))
 }
 
 /// Takes one actual more of a call of what is no function: its name may stand once.
 fn with_name(
-    alloc: Global,
-    scope: &Scope,
-    line: Line,
+    at: Spot<'_>,
     actual: &(List<u8>, RawVar),
     vars: &mut Table<Option<Var>>,
     breaks: &mut List<Break>,
 ) -> Result<(), NoMemory>
     ensures vars { OnOk result (vars.new
-        ≡ (with_name scope.now line (record { vars = vars.old; breaks = [] }) actual.now).vars) }
+        ≡ (with_name at.entry.scope.now at.entry.line (record { vars = vars.old; breaks = [] }) actual.now).vars) }
     ensures breaks { OnOk result (breaks.new ≡ breaks.old
-        ++ (with_name scope.now line (record { vars = vars.old; breaks = [] }) actual.now).breaks) }
+        ++ (with_name at.entry.scope.now at.entry.line (record { vars = vars.old; breaks = [] }) actual.now).breaks) }
 {
-    let key = key_of(alloc, actual.0.as_slice())?;
-    let variable = variable_on(alloc, scope, line, &actual.1, breaks)?;
+    let variable = variable_on(at, &actual.1, breaks)?;
+    let key = key_of(at.alloc, actual.0.as_slice())?;
     if vars.declare(key, plain(variable))? {
         Ok(())
     } else {
-        note(breaks, line, Reason::DuplicateName)
+        note(breaks, at.line, Reason::DuplicateName)
     }
 }
 
 /// Judges the names and the variables of some actuals, without the formals that they name.
 fn judge_actuals(
-    alloc: Global,
-    scope: &Scope,
-    line: Line,
+    at: Spot<'_>,
     actuals: &[(List<u8>, RawVar)],
     breaks: &mut List<Break>,
 ) -> Result<(), NoMemory>
-    ensures { OnOk result (breaks.new ≡ breaks.old ++ (given_to_none scope.now line actuals.now).breaks) }
+    ensures { OnOk result (breaks.new ≡ breaks.old ++ (given_to_none at.entry.scope.now at.entry.line actuals.now).breaks) }
 {
-    let mut vars = Table::new(alloc);
+    let mut vars = Table::new(at.alloc);
     for actual in actuals {
-        with_name(alloc, scope, line, actual, &mut vars, breaks)?;
+        with_name(at, actual, &mut vars, breaks)?;
     }
     Ok(())
 }
 
 fn no_call(
-    alloc: Global,
-    scope: &Scope,
-    line: Line,
+    at: Spot<'_>,
     rule: Reason,
     actuals: &[(List<u8>, RawVar)],
     breaks: &mut List<Break>,
 ) -> Result<Option<Stmt>, NoMemory>
-    ensures found { IfOk result (λ found. found ≡ (no_call scope.now line rule actuals.now).found) }
-    ensures breaks { OnOk result (breaks.new ≡ breaks.old ++ (no_call scope.now line rule actuals.now).breaks) }
+    ensures found { IfOk result (λ found. found ≡ (no_call at.entry.scope.now at.entry.line rule actuals.now).found) }
+    ensures breaks { OnOk result (breaks.new ≡ breaks.old ++ (no_call at.entry.scope.now at.entry.line rule actuals.now).breaks) }
 {
-    note(breaks, line, rule)?;
-    judge_actuals(alloc, scope, line, actuals, breaks)?;
+    note(breaks, at.line, rule)?;
+    judge_actuals(at, actuals, breaks)?;
     Ok(None)
 }
 
 fn call_of(
-    alloc: Global,
-    scope: &Scope,
-    line: Line,
+    at: Spot<'_>,
     position: u32,
     formals: &Formals,
     actuals: &[(List<u8>, RawVar)],
     breaks: &mut List<Break>,
 ) -> Result<Option<Stmt>, NoMemory>
     ensures found { IfOk result (λ found. found
-        ≡ (function_call scope.now line position (Some formals.now) actuals.now).found) }
+        ≡ (function_call at.entry.scope.now at.entry.line position (Some formals.now) actuals.now).found) }
     ensures breaks { OnOk result (breaks.new ≡ breaks.old
-        ++ (function_call scope.now line position (Some formals.now) actuals.now).breaks) }
+        ++ (function_call at.entry.scope.now at.entry.line position (Some formals.now) actuals.now).breaks) }
 {
-    let vars = given_by(alloc, scope, line, &formals.types, actuals, breaks)?;
-    call_with(
-        alloc,
-        line,
-        position,
-        &vars,
-        formals.keys.as_slice(),
-        breaks,
-    )
+    let vars = given_by(at, &formals.types, actuals, breaks)?;
+    call_with(at, position, &vars, formals.keys.as_slice(), breaks)
 }
 
 /// A call as it is written; notes the rules that are broken in it.
 pub fn invocation(
-    alloc: Global,
-    scope: &Scope,
-    line: Line,
+    at: Spot<'_>,
     name: &List<u8>,
     actuals: &[(List<u8>, RawVar)],
     breaks: &mut List<Break>,
 ) -> Result<Option<Stmt>, NoMemory>
-    ensures found { IfOk result (λ found. found ≡ (invocation scope.now line name.now actuals.now).found) }
-    ensures breaks { OnOk result (breaks.new ≡ breaks.old ++ (invocation scope.now line name.now actuals.now).breaks) }
+    ensures found { IfOk result (λ found. found ≡ (invocation at.entry.scope.now at.entry.line name.now actuals.now).found) }
+    ensures breaks { OnOk result (breaks.new ≡ breaks.old ++ (invocation at.entry.scope.now at.entry.line name.now actuals.now).breaks) }
 {
-    let key = key_of(alloc, name.as_slice())?;
-    match callee(scope.meaning(key.as_slice())) {
-        Err(rule) => no_call(alloc, scope, line, rule, actuals, breaks),
-        Ok(position) => match scope.formals.as_slice().get(position as usize) {
-            Some(formals) => call_of(alloc, scope, line, position, formals, actuals, breaks),
-            None => no_call(alloc, scope, line, Reason::TypeMismatch, actuals, breaks),
+    let key = key_of(at.alloc, name.as_slice())?;
+    match callee(at.scope.meaning(key.as_slice())) {
+        Err(rule) => no_call(at, rule, actuals, breaks),
+        Ok(position) => match at.scope.formals.as_slice().get(position as usize) {
+            Some(formals) => call_of(at, position, formals, actuals, breaks),
+            None => no_call(at, Reason::TypeMismatch, actuals, breaks),
         },
     }
 }

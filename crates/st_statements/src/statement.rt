@@ -1,10 +1,11 @@
 //! Statements: what they are in the tree, and the rules that are broken in them.
 ghost use Rattle.std.specs.Prelude.{◌≡◌, ◌++◌, map, IfOk, OnOk, option_map};
+ghost use Rattle.st_rules.specs.Expressions.{expression};
 ghost use Rattle.st_rules.specs.Judged.{breaks_in, found_in};
 ghost use Rattle.st_rules.specs.Statements.{action, area_write_of, arm, arm_of, arms_on, assignment_of, case_arm, case_arms_on, case_of, have_type, label_breaks, selector, selector_of, statement, statements, test, test_of, type_of_selector, while_of};
 ghost use Rattle.st_statements.specs.inner.Operands.{typed_of};
 
-use crate::expression::{Operand, expression, operand_of, variable_on};
+use crate::expression::{Operand, Spot, expression, operand_of, variable_on};
 use crate::invocation::invocation;
 use s7_base::{Break, Line, List, NoMemory, Reason, Width, note};
 use st_rules::expression::Typed;
@@ -16,6 +17,13 @@ use st_tree::{
     is_selector, is_type, type_of_width,
 };
 use std::alloc::Global;
+
+/// A CASE whose ELSE is still to be judged.
+#[derive(Drop)]
+struct BegunCase {
+    selector: Option<Typed>,
+    arms: List<CaseArm>,
+}
 
 fn assignment_of(
     line: Line,
@@ -84,18 +92,12 @@ fn test_of(
     Ok(Some(value.tree))
 }
 
-fn test(
-    alloc: Global,
-    scope: &Scope,
-    line: Line,
-    raw: &RawExpr,
-    breaks: &mut List<Break>,
-) -> Result<Option<Expr>, NoMemory>
-    ensures found { IfOk result (λ found. found ≡ (test scope.now line raw.now).found) }
-    ensures breaks { OnOk result (breaks.new ≡ breaks.old ++ (test scope.now line raw.now).breaks) }
+fn test(at: Spot<'_>, raw: &RawExpr, breaks: &mut List<Break>) -> Result<Option<Expr>, NoMemory>
+    ensures found { IfOk result (λ found. found ≡ (test at.entry.scope.now at.entry.line raw.now).found) }
+    ensures breaks { OnOk result (breaks.new ≡ breaks.old ++ (test at.entry.scope.now at.entry.line raw.now).breaks) }
 {
-    let value = expression(alloc, scope, line, raw, breaks)?;
-    test_of(line, value, breaks)
+    let value = expression(at, raw, breaks)?;
+    test_of(at.line, value, breaks)
 }
 
 fn selector_of(
@@ -118,17 +120,15 @@ fn selector_of(
 }
 
 fn selector(
-    alloc: Global,
-    scope: &Scope,
-    line: Line,
+    at: Spot<'_>,
     raw: &RawExpr,
     breaks: &mut List<Break>,
 ) -> Result<Option<Typed>, NoMemory>
-    ensures found { IfOk result (λ found. found ≡ (selector scope.now line raw.now).found) }
-    ensures breaks { OnOk result (breaks.new ≡ breaks.old ++ (selector scope.now line raw.now).breaks) }
+    ensures found { IfOk result (λ found. found ≡ (selector at.entry.scope.now at.entry.line raw.now).found) }
+    ensures breaks { OnOk result (breaks.new ≡ breaks.old ++ (selector at.entry.scope.now at.entry.line raw.now).breaks) }
 {
-    let value = expression(alloc, scope, line, raw, breaks)?;
-    selector_of(line, value, breaks)
+    let value = expression(at, raw, breaks)?;
+    selector_of(at.line, value, breaks)
 }
 
 fn type_of_selector(selector: &Option<Typed>) -> Option<StType>
@@ -204,18 +204,12 @@ fn case_of(selector: Option<Typed>, arms: List<CaseArm>, other: List<Stmt>) -> O
 }
 
 #[cycle(judge)]
-fn arm(
-    alloc: Global,
-    scope: &Scope,
-    line: Line,
-    raw: &RawArm,
-    breaks: &mut List<Break>,
-) -> Result<Option<Arm>, NoMemory>
-    ensures found { IfOk result (λ found. found ≡ (arm scope.now raw.now line).found) }
-    ensures breaks { OnOk result (breaks.new ≡ breaks.old ++ (arm scope.now raw.now line).breaks) }
+fn arm(at: Spot<'_>, raw: &RawArm, breaks: &mut List<Break>) -> Result<Option<Arm>, NoMemory>
+    ensures found { IfOk result (λ found. found ≡ (arm at.entry.scope.now raw.now at.entry.line).found) }
+    ensures breaks { OnOk result (breaks.new ≡ breaks.old ++ (arm at.entry.scope.now raw.now at.entry.line).breaks) }
 {
-    let test = test(alloc, scope, line, &raw.test, breaks)?;
-    let Ok(body) = statements(alloc, scope, raw.body.as_slice(), breaks) else {
+    let test = test(at, &raw.test, breaks)?;
+    let Ok(body) = statements(at.alloc, at.scope, raw.body.as_slice(), breaks) else {
         drop(test);
         return Err(NoMemory);
     };
@@ -223,19 +217,13 @@ fn arm(
 }
 
 #[cycle(judge)]
-fn arms(
-    alloc: Global,
-    scope: &Scope,
-    line: Line,
-    raws: &[RawArm],
-    breaks: &mut List<Break>,
-) -> Result<List<Arm>, NoMemory>
-    ensures found { IfOk result (λ arms. arms ≡ found_in (arms_on line (map (arm scope.now) raws.now))) }
-    ensures breaks { OnOk result (breaks.new ≡ breaks.old ++ breaks_in (arms_on line (map (arm scope.now) raws.now))) }
+fn arms(at: Spot<'_>, raws: &[RawArm], breaks: &mut List<Break>) -> Result<List<Arm>, NoMemory>
+    ensures found { IfOk result (λ arms. arms ≡ found_in (arms_on at.entry.line (map (arm at.entry.scope.now) raws.now))) }
+    ensures breaks { OnOk result (breaks.new ≡ breaks.old ++ breaks_in (arms_on at.entry.line (map (arm at.entry.scope.now) raws.now))) }
 {
-    let mut arms = List::new(alloc);
+    let mut arms = List::new(at.alloc);
     for raw in raws {
-        let found = arm(alloc, scope, line, raw, breaks)?;
+        let found = arm(at, raw, breaks)?;
         keep(&mut arms, found)?;
     }
     Ok(arms)
@@ -243,39 +231,35 @@ fn arms(
 
 #[cycle(judge)]
 fn case_arm(
-    alloc: Global,
-    scope: &Scope,
-    line: Line,
+    at: Spot<'_>,
     selector: Option<StType>,
     raw: &RawCaseArm,
     breaks: &mut List<Break>,
 ) -> Result<Option<CaseArm>, NoMemory>
-    ensures found { IfOk result (λ found. found ≡ (case_arm scope.now raw.now line selector).found) }
-    ensures breaks { OnOk result (breaks.new ≡ breaks.old ++ (case_arm scope.now raw.now line selector).breaks) }
+    ensures found { IfOk result (λ found. found ≡ (case_arm at.entry.scope.now raw.now at.entry.line selector).found) }
+    ensures breaks { OnOk result (breaks.new ≡ breaks.old ++ (case_arm at.entry.scope.now raw.now at.entry.line selector).breaks) }
 {
-    judge_labels(line, selector, raw.labels.as_slice(), breaks)?;
-    let labels = values_of(alloc, raw.labels.as_slice())?;
-    let body = statements(alloc, scope, raw.body.as_slice(), breaks)?;
+    judge_labels(at.line, selector, raw.labels.as_slice(), breaks)?;
+    let labels = values_of(at.alloc, raw.labels.as_slice())?;
+    let body = statements(at.alloc, at.scope, raw.body.as_slice(), breaks)?;
     Ok(Some(CaseArm { labels, body }))
 }
 
 #[cycle(judge)]
 fn case_arms(
-    alloc: Global,
-    scope: &Scope,
-    line: Line,
+    at: Spot<'_>,
     selector: Option<StType>,
     raws: &[RawCaseArm],
     breaks: &mut List<Break>,
 ) -> Result<List<CaseArm>, NoMemory>
     ensures found { IfOk result (λ arms. arms
-        ≡ found_in (case_arms_on line selector (map (case_arm scope.now) raws.now))) }
+        ≡ found_in (case_arms_on at.entry.line selector (map (case_arm at.entry.scope.now) raws.now))) }
     ensures breaks { OnOk result (breaks.new ≡ breaks.old
-        ++ breaks_in (case_arms_on line selector (map (case_arm scope.now) raws.now))) }
+        ++ breaks_in (case_arms_on at.entry.line selector (map (case_arm at.entry.scope.now) raws.now))) }
 {
-    let mut arms = List::new(alloc);
+    let mut arms = List::new(at.alloc);
     for raw in raws {
-        let found = case_arm(alloc, scope, line, selector, raw, breaks)?;
+        let found = case_arm(at, selector, raw, breaks)?;
         keep(&mut arms, found)?;
     }
     Ok(arms)
@@ -310,60 +294,120 @@ fn statement(
     ensures found { IfOk result (λ found. found ≡ (statement scope.now raw.now).found) }
     ensures breaks { OnOk result (breaks.new ≡ breaks.old ++ (statement scope.now raw.now).breaks) }
 {
-    action(alloc, scope, raw.line, &raw.kind, breaks)
+    let line = raw.line;
+    action(Spot { alloc, scope, line }, &raw.kind, breaks)
 }
 
-/// What a statement does, on its line.
+/// A write through a pointer behind the pointer.
+fn area_write_with(
+    at: Spot<'_>,
+    width: Width,
+    pointer: Option<Operand>,
+    raw: &RawExpr,
+    breaks: &mut List<Break>,
+) -> Result<Option<Stmt>, NoMemory>
+    ensures found { IfOk result (λ found. found
+        ≡ (area_write_of at.entry.line width (option_map typed_of pointer) (expression at.entry.scope.now at.entry.line raw.now).found).found) }
+    ensures breaks { OnOk result (breaks.new ≡ (breaks.old ++ (expression at.entry.scope.now at.entry.line raw.now).breaks)
+        ++ (area_write_of at.entry.line width (option_map typed_of pointer) (expression at.entry.scope.now at.entry.line raw.now).found).breaks) }
+{
+    let value = operand_of(at, raw, breaks)?;
+    area_write_of(at.line, width, pointer, value, breaks)
+}
+
+/// A WHILE behind its test.
+#[cycle(judge)]
+fn while_with(
+    at: Spot<'_>,
+    test: Option<Expr>,
+    raws: &[RawStmt],
+    breaks: &mut List<Break>,
+) -> Result<Option<Stmt>, NoMemory>
+    ensures found { IfOk result (λ found. found ≡ while_of test (found_in (statements at.entry.scope.now raws.now))) }
+    ensures breaks { OnOk result (breaks.new ≡ breaks.old ++ breaks_in (statements at.entry.scope.now raws.now)) }
+{
+    let Ok(body) = statements(at.alloc, at.scope, raws, breaks) else {
+        drop(test);
+        return Err(NoMemory);
+    };
+    Ok(while_of(test, body))
+}
+
+/// A CASE up to its ELSE, behind its selector.
+#[cycle(judge)]
+fn case_begun(
+    at: Spot<'_>,
+    selector: Option<Typed>,
+    raws: &[RawCaseArm],
+    breaks: &mut List<Break>,
+) -> Result<BegunCase, NoMemory>
+    ensures selector { IfOk result (λ begun. begun.selector ≡ selector) }
+    ensures arms { IfOk result (λ begun. begun.arms ≡ found_in (case_arms_on at.entry.line
+        (type_of_selector selector) (map (case_arm at.entry.scope.now) raws.now))) }
+    ensures breaks { OnOk result (breaks.new ≡ breaks.old ++ breaks_in (case_arms_on at.entry.line
+        (type_of_selector selector) (map (case_arm at.entry.scope.now) raws.now))) }
+{
+    let ty = type_of_selector(&selector);
+    let Ok(arms) = case_arms(at, ty, raws, breaks) else {
+        drop(selector);
+        return Err(NoMemory);
+    };
+    Ok(BegunCase { selector, arms })
+}
+
+/// A CASE behind its arms.
+#[cycle(judge)]
+fn case_with(
+    at: Spot<'_>,
+    begun: BegunCase,
+    raws: &[RawStmt],
+    breaks: &mut List<Break>,
+) -> Result<Option<Stmt>, NoMemory>
+    ensures found { IfOk result (λ found. found
+        ≡ case_of begun.selector begun.arms (found_in (statements at.entry.scope.now raws.now))) }
+    ensures breaks { OnOk result (breaks.new ≡ breaks.old ++ breaks_in (statements at.entry.scope.now raws.now)) }
+{
+    let Ok(other) = statements(at.alloc, at.scope, raws, breaks) else {
+        drop(begun);
+        return Err(NoMemory);
+    };
+    Ok(case_of(begun.selector, begun.arms, other))
+}
+
+/// What a statement does.
 #[cycle(judge)]
 fn action(
-    alloc: Global,
-    scope: &Scope,
-    line: Line,
+    at: Spot<'_>,
     raw: &RawStmtKind,
     breaks: &mut List<Break>,
 ) -> Result<Option<Stmt>, NoMemory>
-    ensures found { IfOk result (λ found. found ≡ (action scope.now raw.now line).found) }
-    ensures breaks { OnOk result (breaks.new ≡ breaks.old ++ (action scope.now raw.now line).breaks) }
+    ensures found { IfOk result (λ found. found ≡ (action at.entry.scope.now raw.now at.entry.line).found) }
+    ensures breaks { OnOk result (breaks.new ≡ breaks.old ++ (action at.entry.scope.now raw.now at.entry.line).breaks) }
 {
     match raw {
         RawStmtKind::Assign(target, value) => {
-            let target = variable_on(alloc, scope, line, target, breaks)?;
-            let value = expression(alloc, scope, line, value, breaks)?;
-            assignment_of(line, target, value, breaks)
+            let target = variable_on(at, target, breaks)?;
+            let value = expression(at, value, breaks)?;
+            assignment_of(at.line, target, value, breaks)
         }
         RawStmtKind::AreaWrite(width, pointer, value) => {
-            let pointer = operand_of(alloc, scope, line, pointer.get(), breaks)?;
-            let value = operand_of(alloc, scope, line, value.get(), breaks)?;
-            area_write_of(line, *width, pointer, value, breaks)
+            let pointer = operand_of(at, pointer.get(), breaks)?;
+            area_write_with(at, *width, pointer, value.get(), breaks)
         }
-        RawStmtKind::Invoke(name, actuals) => {
-            invocation(alloc, scope, line, name, actuals.as_slice(), breaks)
-        }
+        RawStmtKind::Invoke(name, actuals) => invocation(at, name, actuals.as_slice(), breaks),
         RawStmtKind::If(raws, other) => {
-            let arms = arms(alloc, scope, line, raws.as_slice(), breaks)?;
-            let other = statements(alloc, scope, other.as_slice(), breaks)?;
+            let arms = arms(at, raws.as_slice(), breaks)?;
+            let other = statements(at.alloc, at.scope, other.as_slice(), breaks)?;
             Ok(Some(Stmt::If(arms, other)))
         }
         RawStmtKind::Case(value, raws, other) => {
-            let selector = selector(alloc, scope, line, value, breaks)?;
-            let ty = type_of_selector(&selector);
-            let Ok(arms) = case_arms(alloc, scope, line, ty, raws.as_slice(), breaks) else {
-                drop(selector);
-                return Err(NoMemory);
-            };
-            let Ok(other) = statements(alloc, scope, other.as_slice(), breaks) else {
-                drop(selector);
-                return Err(NoMemory);
-            };
-            Ok(case_of(selector, arms, other))
+            let selector = selector(at, value, breaks)?;
+            let begun = case_begun(at, selector, raws.as_slice(), breaks)?;
+            case_with(at, begun, other.as_slice(), breaks)
         }
         RawStmtKind::While(value, raws) => {
-            let test = test(alloc, scope, line, value, breaks)?;
-            let Ok(body) = statements(alloc, scope, raws.as_slice(), breaks) else {
-                drop(test);
-                return Err(NoMemory);
-            };
-            Ok(while_of(test, body))
+            let test = test(at, value, breaks)?;
+            while_with(at, test, raws.as_slice(), breaks)
         }
         RawStmtKind::Exit => Ok(Some(Stmt::Exit)),
         RawStmtKind::Continue => Ok(Some(Stmt::Continue)),

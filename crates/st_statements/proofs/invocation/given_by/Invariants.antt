@@ -4,6 +4,6 @@ use Rattle.st_statements.proofs.invocation.given_by.Given as goal
 
 abbrev pub invariant-loop-actual : goal.invariant-loop-actual
 invariant-loop-actual l = record {
-  vars : l.vars ≡ (given_by l.scope l.line l.types (take l.actual-index l.actuals)).vars;
-  breaks : l.breaks ≡ l.initial.breaks ++ (given_by l.scope l.line l.types (take l.actual-index l.actuals)).breaks;
+  vars : l.vars ≡ (given_by l.at.scope.now l.at.line l.types (take l.actual-index l.actuals)).vars;
+  breaks : l.breaks ≡ l.initial.breaks ++ (given_by l.at.scope.now l.at.line l.types (take l.actual-index l.actuals)).breaks;
 }

@@ -5,14 +5,14 @@ use Rattle.st_statements.proofs.statement.«+judge».Given as goal
 
 abbrev pub invariant-arms-loop-raw : goal.invariant-arms-loop-raw
 invariant-arms-loop-raw l = record {
-  found : l.arms ≡ found_in (arms_on l.line (map (arm l.scope) (take l.raw-index l.raws)));
-  breaks : l.breaks ≡ l.initial.breaks ++ breaks_in (arms_on l.line (map (arm l.scope) (take l.raw-index l.raws)));
+  found : l.arms ≡ found_in (arms_on l.at.line (map (arm l.at.scope.now) (take l.raw-index l.raws)));
+  breaks : l.breaks ≡ l.initial.breaks ++ breaks_in (arms_on l.at.line (map (arm l.at.scope.now) (take l.raw-index l.raws)));
 }
 
 abbrev pub invariant-case_arms-loop-raw : goal.invariant-case_arms-loop-raw
 invariant-case_arms-loop-raw l = record {
-  found : l.arms ≡ found_in (case_arms_on l.line l.selector (map (case_arm l.scope) (take l.raw-index l.raws)));
-  breaks : l.breaks ≡ l.initial.breaks ++ breaks_in (case_arms_on l.line l.selector (map (case_arm l.scope) (take l.raw-index l.raws)));
+  found : l.arms ≡ found_in (case_arms_on l.at.line l.selector (map (case_arm l.at.scope.now) (take l.raw-index l.raws)));
+  breaks : l.breaks ≡ l.initial.breaks ++ breaks_in (case_arms_on l.at.line l.selector (map (case_arm l.at.scope.now) (take l.raw-index l.raws)));
 }
 
 abbrev pub invariant-statements-loop-raw : goal.invariant-statements-loop-raw
