@@ -329,7 +329,12 @@ fn a_fault_ends_the_run_and_the_writes_before_it_stand(rt: HostRuntime) -> Resul
         let mut machine = Machine::new(alloc, &program, memory(alloc, 0, 0)?, &call)?;
         wants(&rt, &fault, &machine.run(2), &GOING);
         for steps in [1, 0, 1, u64::MAX] {
-            wants(&rt, &fault, &machine.run(steps), &Outcome::Ended(Some(fault)));
+            wants(
+                &rt,
+                &fault,
+                &machine.run(steps),
+                &Outcome::Ended(Some(fault)),
+            );
             wants(&rt, &fault, &is_zero_but(machine.memory(), 1), &true);
         }
     }
