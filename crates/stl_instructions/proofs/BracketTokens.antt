@@ -23,14 +23,14 @@ use Rattle.stl_statements.specs.Words.{is_quoted_kind, is_sign, is_word, is_word
 use Rattle.stl_statements.specs.declared.mnemonic.Read.TheVariants.{No}
 use Rattle.stl_tree.specs.declared.raw.RawOperand.{RawOperand}
 use Rattle.stl_tree.specs.declared.raw.RawOperand.TheVariants.{Crossing}
-use Rattle.stl_instructions.proofs.ConstantLaws.{AreUnmarked, no_mark, plain_none, starts_late, unmarked_no_text, word_is}
-use Rattle.stl_instructions.proofs.ConstantLaws as are
+use Rattle.stl_constants.proofs.ConstantLaws.{AreUnmarked, no_mark, plain_none, starts_late, unmarked_no_text, word_is}
+use Rattle.stl_constants.proofs.ConstantLaws as are
 use Rattle.stl_instructions.proofs.NoPlaces.{no_place}
 use Rattle.stl_instructions.proofs.PlaceLaws.{no_place_at}
 use Rattle.stl_instructions.proofs.PlaceTokens.{digit_low, itself, no_digits, text_is}
 use Rattle.stl_instructions.proofs.PointerLaws.{register_word}
-use Rattle.stl_instructions.proofs.Reading.{alike, if_false, if_true, no_sign, no_word, or_no, other_sign, same_letters, sign_no_quoted, word_no_quoted}
-use Rattle.stl_instructions.proofs.Tables.{any_at, none_among, none_at}
+use Rattle.stl_constants.proofs.Reading.{alike, if_false, if_true, no_sign, no_word, or_no, other_sign, same_letters, sign_no_quoted, word_no_quoted}
+use Rattle.stl_constants.proofs.Tables.{any_at, none_among, none_at}
 
 -- texts, in lower case, with which an operand in a bracket begins
 abbrev pub is_opening : List ℕ → Bool

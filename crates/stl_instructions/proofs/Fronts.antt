@@ -6,7 +6,7 @@ use Rattle.s7_base.specs.declared.token.Token.{Token}
 use Rattle.stl_statements.specs.Readers.{and_then, fitting, further, or_else, read_as}
 use Rattle.stl_statements.specs.declared.mnemonic.Read.{Read}
 use Rattle.stl_statements.specs.declared.mnemonic.Read.TheVariants.{Fits, LeftOut, No}
-use Rattle.stl_instructions.proofs.Reading.{AllOf}
+use Rattle.stl_constants.proofs.Reading.{AllOf}
 
 -- tokens of which the first so many are so
 pub record Front (tokens : List Token) (size : ℕ) (P : List Token → Type 0) : Type 0 where

@@ -1,15 +1,11 @@
 mod BracketTokens
-mod ConstantLaws
 mod Fronts
 mod InstructionLaws
-mod Kept
 mod NameLaws
 mod NoPlaces
 mod PathLaws
 mod PlaceLaws
 mod PlaceTokens
 mod PointerLaws
-mod Reading
 mod Repeated
 mod TableLaws
-mod Tables

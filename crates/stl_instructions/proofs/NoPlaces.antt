@@ -15,8 +15,8 @@ use Rattle.stl_statements.specs.declared.mnemonic.Read.{Read}
 use Rattle.stl_statements.specs.declared.mnemonic.Read.TheVariants.{Fits, LeftOut, No}
 use Rattle.stl_instructions.proofs.PlaceLaws.{no_place_at}
 use Rattle.stl_instructions.proofs.PlaceTokens.{begins_place}
-use Rattle.stl_instructions.proofs.Reading.{if_false, or_no}
-use Rattle.stl_instructions.proofs.Tables.{find_unlisted, none_found}
+use Rattle.stl_constants.proofs.Reading.{if_false, or_no}
+use Rattle.stl_constants.proofs.Tables.{find_unlisted, none_found}
 
 -- A sign
 

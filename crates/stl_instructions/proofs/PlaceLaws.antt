@@ -20,8 +20,8 @@ use Rattle.stl_statements.specs.Words.{is_joined, is_joined_word, is_word_kind}
 use Rattle.stl_statements.specs.declared.mnemonic.Read.TheVariants.{Fits, No}
 use Rattle.stl_tree.specs.declared.raw.RawPlace.{RawPlace}
 use Rattle.stl_instructions.proofs.Fronts.{Front, FrontOf, and_then_front, and_then_none, and_then_read, as_front, fitting_front, front_all, further_front, further_read, or_front, refined}
-use Rattle.stl_instructions.proofs.Reading.{AllOf, alike, if_true, mapped, or_all, or_no, or_this, same_letters, taken}
-use Rattle.stl_instructions.proofs.Tables.{are_apart, found_among, found_apart, found_passes}
+use Rattle.stl_constants.proofs.Reading.{AllOf, alike, if_true, mapped, or_all, or_no, or_this, same_letters, taken}
+use Rattle.stl_constants.proofs.Tables.{are_apart, found_among, found_apart, found_passes}
 
 -- From what is read to its form
 

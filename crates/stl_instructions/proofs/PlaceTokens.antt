@@ -23,10 +23,10 @@ use Rattle.stl_statements.specs.Readers.{fitting, read_as}
 use Rattle.stl_statements.specs.Words.{is_sign, is_word, is_word_kind}
 use Rattle.stl_statements.specs.declared.mnemonic.Read.TheVariants.{No}
 use Rattle.stl_tree.specs.declared.raw.RawPlace.{RawPlace}
-use Rattle.stl_instructions.proofs.ConstantLaws.{AreUnmarked, no_mark, unmarked_no_text, word_is}
-use Rattle.stl_instructions.proofs.ConstantLaws as are
-use Rattle.stl_instructions.proofs.Reading.{if_false, if_true, joined_sign, no_sign, or_no, same_letters}
-use Rattle.stl_instructions.proofs.Tables.{any_at}
+use Rattle.stl_constants.proofs.ConstantLaws.{AreUnmarked, no_mark, unmarked_no_text, word_is}
+use Rattle.stl_constants.proofs.ConstantLaws as are
+use Rattle.stl_constants.proofs.Reading.{if_false, if_true, joined_sign, no_sign, or_no, same_letters}
+use Rattle.stl_constants.proofs.Tables.{any_at}
 
 -- Letters
 

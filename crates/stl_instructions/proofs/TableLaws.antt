@@ -10,8 +10,8 @@ use Rattle.stl_statements.specs.InstructionForms.{MnemonicsAreLongest}
 use Rattle.stl_statements.specs.Mnemonics.{Row, rows, goes_on, stands_at, mnemonic_at}
 use Rattle.stl_statements.specs.Statements.{size_with}
 use Rattle.stl_statements.specs.Words.{is_spelled}
-use Rattle.stl_instructions.proofs.Reading.{alike}
-use Rattle.stl_instructions.proofs.Tables.{any_at, found_among, found_passes, none_passes, some_is}
+use Rattle.stl_constants.proofs.Reading.{alike}
+use Rattle.stl_constants.proofs.Tables.{any_at, found_among, found_passes, none_passes, some_is}
 
 -- a row stands before a longer one that begins in the same way
 abbrev hides : Row → Row → Bool

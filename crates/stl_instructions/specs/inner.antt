@@ -1,4 +1,3 @@
 pub mod Answers
-pub mod Bits
 pub mod Rows
 pub mod Shapes

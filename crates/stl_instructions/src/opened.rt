@@ -8,10 +8,10 @@ ghost use Rattle.stl_statements.specs.Statements.{opened_at, opened_behind, open
 use crate::path::name_of;
 use crate::place::{further, numbered_at, opened_area};
 use crate::pointer::memory_at;
-use crate::words::{is_quoted, is_sign, is_word_kind};
 use memory_areas::AreaName;
 use s7_base::{NoMemory, Token, Width};
 use std::alloc::Global;
+use stl_constants::{is_quoted, is_sign, is_word_kind};
 use stl_statements::Read;
 use stl_tree::{RawName, RawOperand, RawPlace};
 

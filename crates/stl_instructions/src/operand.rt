@@ -16,18 +16,19 @@ ghost use Rattle.stl_tree.specs.declared.raw.RawOperand.TheVariants as operand;
 ghost use Rattle.stl_instructions.specs.inner.Rows.{seen};
 ghost use Rattle.stl_instructions.specs.inner.Shapes.{IsPlainShape};
 
-use crate::constant::{addend_at, constant_at, left_out_prefixes, marked_at, number_at};
-use crate::number::are_digits;
 use crate::opened::opened_at;
 use crate::path::named_at;
 use crate::place::place_at;
 use crate::pointer::{crossing_at, indirect_at, offset_at, pointer_at};
 use crate::table::goes_on;
-use crate::words::{is_sign, is_word, is_word_kind, is_word_or_sign};
 use memory_areas::is_byte_in;
 use s7_base::{Check, Kind, NoMemory, Token, Width, front_of, is_same_word, rest_after};
 use status_word::Test;
 use std::alloc::Global;
+use stl_constants::{
+    addend_at, are_digits, constant_at, is_sign, is_word, is_word_kind, is_word_or_sign,
+    left_out_constant_at, number_at,
+};
 use stl_statements::{Mnemonic, Read, Shape};
 use stl_tree::{Ar, Constant, LogicRow, RawOperand, RawPlace, RawPointer, ShiftRow};
 
@@ -448,7 +449,7 @@ fn loaded_at(alloc: Global, tokens: &[Token]) -> Result<Read<RawOperand>, NoMemo
 fn pointer_alone_at(tokens: &[Token]) -> Read<RawOperand>
     ensures { result ≡ pointer_alone_at pointer_at tokens.now }
 {
-    match marked_at(left_out_prefixes(), tokens) {
+    match left_out_constant_at(tokens) {
         Read::No => at_pointer(pointer_at(tokens)),
         read => at_constant(read),
     }
@@ -458,7 +459,7 @@ fn pointer_alone_at(tokens: &[Token]) -> Read<RawOperand>
 fn offset_alone_at(tokens: &[Token]) -> Read<RawOperand>
     ensures { result ≡ pointer_alone_at offset_at tokens.now }
 {
-    match marked_at(left_out_prefixes(), tokens) {
+    match left_out_constant_at(tokens) {
         Read::No => at_pointer(offset_at(tokens)),
         read => at_constant(read),
     }

@@ -6,11 +6,9 @@ ghost use Rattle.stl_statements.specs.Pointers.{has_word};
 ghost use Rattle.stl_statements.specs.Readers.{IsWithin, further, read_as};
 ghost use Rattle.stl_instructions.specs.inner.Rows.{lettered, named};
 
-use crate::constant::{begins_glued, fitting};
-use crate::number::kept_number;
-use crate::words::{is_joined, is_joined_word, is_word_kind};
 use memory_areas::AreaName;
 use s7_base::{Token, Width, front_of, is_same_word, rest_after};
+use stl_constants::{begins_glued, fitting, is_joined, is_joined_word, is_word_kind, kept_number};
 use stl_statements::Read;
 use stl_tree::RawPlace;
 

@@ -15,12 +15,11 @@ ghost use Rattle.stl_tree.specs.declared.raw.RawPlace.{RawPlace};
 ghost use Rattle.stl_tree.specs.declared.raw.RawPointer.{RawPointer};
 ghost use Rattle.stl_instructions.specs.inner.Rows.{named};
 
-use crate::constant::begins_glued;
 use crate::path::number_word;
 use crate::place::{PlaceWord, bit_at, further, place_at, word_in};
-use crate::words::{is_joined, is_sign, is_word};
 use memory_areas::AreaName;
 use s7_base::{Token, Width, rest_after};
+use stl_constants::{begins_glued, is_joined, is_sign, is_word};
 use stl_statements::Read;
 use stl_tree::{Ar, RawOperand, RawPlace, RawPointer};
 

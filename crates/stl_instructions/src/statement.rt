@@ -8,9 +8,9 @@ ghost use Rattle.stl_instructions.specs.inner.Rows.{view};
 
 use crate::operand::{operand_of, size_with};
 use crate::table::{Row, mnemonic_at};
-use crate::words::{is_sign, is_word_kind};
 use s7_base::{Kind, Line, NoMemory, Reason, Rejection, SmallText, Token, rest_after};
 use std::alloc::Global;
+use stl_constants::{is_sign, is_word_kind};
 use stl_statements::Read;
 use stl_tree::{RawInstr, RawOp, RawOperand};
 

@@ -6,9 +6,9 @@ ghost use Rattle.stl_statements.specs.Mnemonics.{goes_on, stands_at, mnemonic_at
 ghost use Rattle.stl_statements.specs.Words.{is_sign, is_spelled};
 ghost use Rattle.stl_instructions.specs.inner.Rows.{view};
 
-use crate::words::{is_sign, is_spelled, is_word_or_sign};
 use s7_base::{Check, Kind, Token, Width, front_of, is_same_word, rest_after};
 use status_word::Test;
+use stl_constants::{is_sign, is_spelled, is_word_or_sign};
 use stl_statements::Mnemonic;
 use stl_tree::{Ar, Arith, LogicRow, ShiftRow, UnaryRow};
 

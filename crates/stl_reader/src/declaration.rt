@@ -10,8 +10,9 @@ use crate::words::{is_pointer_type, is_time_type};
 use s7_base::{Kind, Line, List, NoMemory, Token, rest_after};
 use std::alloc::Global;
 use std::collections::LinkedList;
+use stl_constants::{are_digits, is_sign, is_word, is_word_kind};
 use stl_grammar::{Innermost, Level, Written};
-use stl_instructions::{are_digits, is_numbered, is_sign, is_word, is_word_kind, whole_at};
+use stl_instructions::{is_numbered, whole_at};
 use stl_statements::Read;
 use stl_tree::{BlockKind, ElemType, InitialItem};
 

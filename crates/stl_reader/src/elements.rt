@@ -5,7 +5,7 @@ ghost use Rattle.stl_statements.specs.Readers.{further};
 ghost use Rattle.stl_reader.specs.inner.Lists.{next_of};
 
 use s7_base::{NoMemory, Token};
-use stl_instructions::{is_sign, is_word};
+use stl_constants::{is_sign, is_word};
 use stl_statements::Read;
 
 pub fn begins_with_word(word: &str, tokens: &[Token]) -> bool

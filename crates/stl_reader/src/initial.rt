@@ -9,9 +9,8 @@ ghost use Rattle.stl_statements.specs.Readers.{further, or_else, read_as};
 use crate::elements::{Next, begins_with_sign, further, next_of, one_more};
 use s7_base::{Line, List, NoMemory, Token, Width, rest_after};
 use std::alloc::Global;
-use stl_instructions::{
-    constant_at, fitting, is_sign, is_word, is_word_kind, path_at, pointer_at, pointer_value,
-};
+use stl_constants::{constant_at, fitting, is_sign, is_word, is_word_kind};
+use stl_instructions::{path_at, pointer_at, pointer_value};
 use stl_statements::{Read, number_of};
 use stl_tree::{Constant, InitialItem, PathStep, RawInitial, RawPointer};
 

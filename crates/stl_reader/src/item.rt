@@ -16,8 +16,9 @@ use crate::values::{is_end, values_at};
 use s7_base::{Line, NoMemory, Reason, Rejection, Token, front_of};
 use std::alloc::Global;
 use std::collections::LinkedList;
+use stl_constants::is_word;
 use stl_grammar::{Found, Item, Level, Where};
-use stl_instructions::{instruction, is_word};
+use stl_instructions::instruction;
 use stl_tree::BlockKind;
 
 /// The body of a block begins behind its heading.

@@ -10,7 +10,8 @@ use crate::elements::begins_with_word;
 use crate::heading::is_data;
 use crate::words::is_block_word;
 use s7_base::{Kind, Reason, Token};
-use stl_instructions::{begins_with_label, begins_with_mnemonic, is_quoted, is_sign, is_word_kind};
+use stl_constants::{is_quoted, is_sign, is_word_kind};
+use stl_instructions::{begins_with_label, begins_with_mnemonic};
 use stl_tree::BlockKind;
 
 pub fn is_semicolon(token: &Token) -> bool

@@ -10,8 +10,8 @@ use crate::misfit::{heading_reason, reason_with};
 use memory_areas::AreaName;
 use s7_base::{Line, NoMemory, Token, Width, front_of, is_same_word, rest_after};
 use std::alloc::Global;
+use stl_constants::{is_quoted, is_sign, is_word, kept_number};
 use stl_grammar::{Found, Item, Where};
-use stl_instructions::{is_quoted, is_sign, is_word, kept_number};
 use stl_tree::{BlockKind, RawPlace, SymbolAddress, SymbolLine};
 
 fn is_blank(b: u8) -> bool

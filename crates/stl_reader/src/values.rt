@@ -6,8 +6,8 @@ use crate::initial::path_value_at;
 use crate::misfit::left_out_reason;
 use s7_base::{NoMemory, Reason, Token};
 use std::alloc::Global;
+use stl_constants::is_word;
 use stl_grammar::{Found, Item, Where};
-use stl_instructions::is_word;
 use stl_statements::Read;
 use stl_tree::{BlockKind, RawInitial};
 

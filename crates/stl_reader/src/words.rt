@@ -7,7 +7,7 @@ ghost use Rattle.stl_grammar.specs.Headings.{attributes, titles};
 ghost use Rattle.stl_statements.specs.Words.{block_words, is_word_among};
 
 use s7_base::{Token, is_same_word};
-use stl_instructions::is_word_kind;
+use stl_constants::is_word_kind;
 
 /// The words with which a heading, a line of a heading, a section or an end begins.
 const BLOCK_WORDS: [&str; 28] = [

@@ -13,7 +13,8 @@ ghost use Rattle.stl_tree.specs.declared.program.Operand.{Operand};
 use crate::pointer::may_hold_pointers;
 use s7_base::{Check, Width};
 use status_word::Test;
-use stl_instructions::{fits, logic_width, most_steps};
+use stl_constants::fits;
+use stl_instructions::{logic_width, most_steps};
 use stl_rules::Given;
 use stl_statements::Mnemonic;
 use stl_tree::{

@@ -1,10 +1,8 @@
 -- The rows of the code's tables as those of the definitions.
-use Rattle.stl_instructions.specs.declared.constant.Prefixed.{Prefixed as FoundPrefix}
 use Rattle.stl_instructions.specs.declared.operand.NamedForm.{NamedForm as FoundForm}
 use Rattle.stl_instructions.specs.declared.place.Numbered.{Numbered as FoundNumber}
 use Rattle.stl_instructions.specs.declared.place.PlaceWord.{PlaceWord as FoundWord}
 use Rattle.stl_instructions.specs.declared.table.Row.{Row as Found}
-use Rattle.stl_statements.specs.Constants.{Prefixed}
 use Rattle.stl_statements.specs.Mnemonics.{Row}
 use Rattle.stl_statements.specs.Places.{Numbered, PlaceWord}
 use Rattle.stl_statements.specs.Statements.{NamedForm}
@@ -16,10 +14,6 @@ view row = record { first = row.0.now; second = row.1.now; what = row.2 }
 -- a form that is left out, as the definition has it
 abbrev pub seen : FoundForm → NamedForm
 seen form = record { word = form.word.now; is_indirect = form.is_indirect; kind = form.kind }
-
--- a word before a `#`, as the definition has it
-abbrev pub shown : FoundPrefix → Prefixed
-shown row = record { word = row.0.now; what = row.1 }
 
 -- the word of a place, as the definition has it
 abbrev pub named : FoundWord → PlaceWord

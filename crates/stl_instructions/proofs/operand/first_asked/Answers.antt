@@ -3,7 +3,7 @@ use Rattle.std.specs.List.{find}
 use Rattle.s7_base.specs.declared.token.Token.{Token}
 use Rattle.status_word.specs.declared.test.Test.{Test}
 use Rattle.stl_statements.specs.Statements.{is_asked}
-use Rattle.stl_instructions.proofs.Tables.{find_none}
+use Rattle.stl_constants.proofs.Tables.{find_none}
 use Rattle.stl_instructions.proofs.operand.first_asked.Goals as goal
 
 none_asked : (tokens : List Token) (table : List Test) → length tokens < 1 → None ≡ find (λ test. is_asked tokens test) table

@@ -3,7 +3,7 @@ use Rattle.std.specs.Prelude.{option_map}
 use Rattle.stl_statements.specs.Statements.{has_form}
 use Rattle.stl_instructions.specs.declared.operand.NamedForm.{NamedForm}
 use Rattle.stl_instructions.specs.inner.Rows.{seen}
-use Rattle.stl_instructions.proofs.Tables.{find_map}
+use Rattle.stl_constants.proofs.Tables.{find_map}
 use Rattle.stl_instructions.proofs.operand.first_form.Goals as goal
 
 pub returns : goal.returns

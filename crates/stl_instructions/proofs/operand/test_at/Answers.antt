@@ -4,7 +4,7 @@ use Rattle.status_word.specs.declared.test.Test.{Test}
 use Rattle.stl_statements.specs.Mnemonics.{goes_on}
 use Rattle.stl_statements.specs.Statements.{first_of, second_of}
 use Rattle.stl_statements.specs.Words.{is_sign_kind, is_word_kind}
-use Rattle.stl_instructions.proofs.Tables.{find_refused}
+use Rattle.stl_constants.proofs.Tables.{find_refused}
 use Rattle.stl_instructions.proofs.operand.test_at.Goals as goal
 
 pub returns-else-is_word_or_sign : goal.returns-else-is_word_or_sign

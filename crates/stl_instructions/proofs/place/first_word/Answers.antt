@@ -3,7 +3,7 @@ use Rattle.std.specs.Prelude.{option_map}
 use Rattle.stl_statements.specs.Places.{has_letters}
 use Rattle.stl_instructions.specs.declared.place.PlaceWord.{PlaceWord}
 use Rattle.stl_instructions.specs.inner.Rows.{named}
-use Rattle.stl_instructions.proofs.Tables.{find_map}
+use Rattle.stl_constants.proofs.Tables.{find_map}
 use Rattle.stl_instructions.proofs.place.first_word.Goals as goal
 
 pub returns : goal.returns

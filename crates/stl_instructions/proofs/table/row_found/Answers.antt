@@ -4,7 +4,7 @@ use Rattle.s7_base.specs.declared.token.Token.{Token}
 use Rattle.stl_statements.specs.Mnemonics.{stands_at}
 use Rattle.stl_instructions.specs.declared.table.Row.{Row}
 use Rattle.stl_instructions.specs.inner.Rows.{view}
-use Rattle.stl_instructions.proofs.Tables.{find_none}
+use Rattle.stl_constants.proofs.Tables.{find_none}
 use Rattle.stl_instructions.proofs.table.row_found.Goals as goal
 
 none_stands : (tokens : List Token) (table : List Row) → length tokens < 1 → None ≡ find (λ row. stands_at tokens (view row)) table

@@ -3,7 +3,7 @@ use Rattle.std.specs.Prelude.{option_map}
 use Rattle.stl_statements.specs.Mnemonics.{has_name}
 use Rattle.stl_instructions.specs.declared.table.Row.{Row}
 use Rattle.stl_instructions.specs.inner.Rows.{view}
-use Rattle.stl_instructions.proofs.Tables.{find_map}
+use Rattle.stl_constants.proofs.Tables.{find_map}
 use Rattle.stl_instructions.proofs.table.row_named.Goals as goal
 
 pub returns : goal.returns

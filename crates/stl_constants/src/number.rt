@@ -3,7 +3,7 @@ ghost use Rattle.std.specs.Prelude.{◌≡◌, ◌+◌, ◌*◌, ◌-◌, ◌≤
 ghost use Rattle.std.specs.List.{list_all, prefix_len};
 ghost use Rattle.s7_base.specs.Tokens.{is_between};
 ghost use Rattle.stl_statements.specs.Numbers.{are_digits, bits_of, has_bits_at_ends, hex_digit, hex_number, is_bit, kept, kept_number, with_hex_digit, with_next, written_from};
-ghost use Rattle.stl_instructions.specs.inner.Bits.{AreBits};
+ghost use Rattle.stl_constants.specs.inner.Bits.{AreBits};
 
 use stl_statements::Bits;
 

@@ -22,8 +22,8 @@ use Rattle.stl_statements.specs.declared.mnemonic.Prefix.{Prefix}
 use Rattle.stl_statements.specs.declared.mnemonic.Prefix.TheVariants as prefix
 use Rattle.stl_statements.specs.declared.mnemonic.Read.TheVariants.{Fits, LeftOut, No}
 use Rattle.stl_tree.specs.declared.raw.Constant.{Constant}
-use Rattle.stl_instructions.proofs.Reading.{AllOf, alike, as_all, chained, fitting_all, if_false, if_true, joined_sign, mapped, no_sign, no_word, or_all, or_no, or_this, other_sign, other_word, same_letters, sign_no_text, taken, text_no_word, weaker, word_no_text}
-use Rattle.stl_instructions.proofs.Tables.{found_among, found_passes, none_at, none_found}
+use Rattle.stl_constants.proofs.Reading.{AllOf, alike, as_all, chained, fitting_all, if_false, if_true, joined_sign, mapped, no_sign, no_word, or_all, or_no, or_this, other_sign, other_word, same_letters, sign_no_text, taken, text_no_word, weaker, word_no_text}
+use Rattle.stl_constants.proofs.Tables.{found_among, found_passes, none_at, none_found}
 
 -- From what is read to its form
 

@@ -1,6 +1,6 @@
 use Rattle.std.proofs.Common.{◌≡◌, ◌≤◌, drop}
 use Rattle.stl_statements.specs.Numbers.{hex_from}
-use Rattle.stl_instructions.proofs.number.hex_number.Given as goal
+use Rattle.stl_constants.proofs.number.hex_number.Given as goal
 
 -- the digits that are left, after the value so far, give the number of all
 abbrev pub invariant-loop-digit : goal.invariant-loop-digit

@@ -1,6 +1,6 @@
 use Rattle.std.proofs.Common.{◌≡◌, ◌<◌, ◌^◌, drop}
 use Rattle.stl_statements.specs.Numbers.{kept, written_from}
-use Rattle.stl_instructions.proofs.number.number_value.Given as goal
+use Rattle.stl_constants.proofs.number.number_value.Given as goal
 
 -- the digits that are left, after the value so far, give the number of all
 abbrev pub invariant-loop-digit : goal.invariant-loop-digit

@@ -1,7 +1,7 @@
 use Rattle.std.proofs.Common.{◌≡◌, drop}
 use Rattle.stl_statements.specs.Numbers.{bits_from}
-use Rattle.stl_instructions.specs.inner.Bits.{AreBits}
-use Rattle.stl_instructions.proofs.number.bits_of.Given as goal
+use Rattle.stl_constants.specs.inner.Bits.{AreBits}
+use Rattle.stl_constants.proofs.number.bits_of.Given as goal
 
 -- the digits that are left, behind those so far, give those of all
 abbrev pub invariant-loop-b : goal.invariant-loop-b

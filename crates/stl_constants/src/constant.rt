@@ -6,7 +6,7 @@ ghost use Rattle.stl_statements.specs.Constants.{addend_at, addend_prefixes, beg
 ghost use Rattle.stl_statements.specs.Readers.{fitting, number_in, or_else, read_as};
 ghost use Rattle.stl_statements.specs.declared.mnemonic.Prefix.TheVariants as prefix;
 ghost use Rattle.s7_base.specs.declared.word.Width.TheVariants as width;
-ghost use Rattle.stl_instructions.specs.inner.Rows.{shown};
+ghost use Rattle.stl_constants.specs.inner.Rows.{shown};
 
 use crate::number::{are_digits, bits_of, digits_size, hex_number};
 use crate::words::{is_joined, is_joined_word, is_sign, is_text, is_word, is_word_kind};
@@ -394,7 +394,7 @@ fn addend_prefixes() -> &'static [Prefixed]
 }
 
 /// The prefixes of constants that are left out.
-pub fn left_out_prefixes() -> &'static [Prefixed]
+fn left_out_prefixes() -> &'static [Prefixed]
     ensures { map shown result.now ≡ left_out_prefixes }
 {
     rest_after(&PREFIXES, 5)
@@ -455,6 +455,7 @@ fn is_real(tokens: &[Token]) -> bool
     }
 }
 
+/// No blank stands before the first token.
 pub fn begins_glued(tokens: &[Token]) -> bool
     ensures { result ≡ begins_glued tokens.now }
 {
@@ -530,13 +531,20 @@ fn plain_at(tokens: &[Token]) -> Read<Constant>
 }
 
 /// A constant with a prefix of a table, or a real one.
-pub fn marked_at(table: &[Prefixed], tokens: &[Token]) -> Read<Constant>
+fn marked_at(table: &[Prefixed], tokens: &[Token]) -> Read<Constant>
     ensures { result ≡ marked_at (map shown table.now) tokens.now }
 {
     match prefixed_at(table, tokens) {
         Read::No => real_at(tokens),
         read => read,
     }
+}
+
+/// What is left out wherever a constant may stand: a form by its prefix, or a real constant.
+pub fn left_out_constant_at(tokens: &[Token]) -> Read<Constant>
+    ensures { result ≡ marked_at left_out_prefixes tokens.now }
+{
+    marked_at(left_out_prefixes(), tokens)
 }
 
 /// What stands where a number may stand that is added.
@@ -593,7 +601,7 @@ fn up_to(most: u8, tokens: &[Token]) -> Read<u32>
 pub fn number_at(most: u8, tokens: &[Token]) -> Read<Constant>
     ensures { result ≡ number_at most tokens.now }
 {
-    match marked_at(left_out_prefixes(), tokens) {
+    match left_out_constant_at(tokens) {
         Read::No => as_plain(up_to(most, tokens)),
         read => read,
     }

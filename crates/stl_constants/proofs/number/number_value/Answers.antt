@@ -1,8 +1,8 @@
 use Rattle.std.proofs.Common.{◌≡◌, ◌+◌, ◌*◌, ◌-◌, get_or, arith}
 use Rattle.std.proofs.lemmas.Grind.{common_steps}
 use Rattle.stl_statements.specs.Numbers.{kept}
-use Rattle.stl_instructions.proofs.Kept.{digit_further}
-use Rattle.stl_instructions.proofs.number.number_value.Goals as goal
+use Rattle.stl_constants.proofs.Kept.{digit_further}
+use Rattle.stl_constants.proofs.number.number_value.Goals as goal
 
 pub loop-digit-preserved : goal.loop-digit-preserved
 loop-digit-preserved c =

@@ -1,0 +1,4 @@
+pub mod ConstantLaws
+mod Kept
+pub mod Reading
+pub mod Tables
