@@ -25,10 +25,10 @@ use Rattle.stl_tree.specs.declared.raw.RawOperand.{RawOperand}
 use Rattle.stl_tree.specs.declared.raw.RawOperand.TheVariants.{Crossing}
 use Rattle.stl_constants.proofs.ConstantLaws.{AreUnmarked, no_mark, plain_none, starts_late, unmarked_no_text, word_is}
 use Rattle.stl_constants.proofs.ConstantLaws as are
-use Rattle.stl_instructions.proofs.NoPlaces.{no_place}
-use Rattle.stl_instructions.proofs.PlaceLaws.{no_place_at}
-use Rattle.stl_instructions.proofs.PlaceTokens.{digit_low, itself, no_digits, text_is}
-use Rattle.stl_instructions.proofs.PointerLaws.{register_word}
+use Rattle.stl_instructions.proofs.LeftOutLaws.{no_place}
+use Rattle.stl_places.proofs.PlaceLaws.{no_place_at}
+use Rattle.stl_places.proofs.PlaceTokens.{digit_low, itself, no_digits, text_is}
+use Rattle.stl_places.proofs.PointerLaws.{register_word}
 use Rattle.stl_constants.proofs.Reading.{alike, if_false, if_true, no_sign, no_word, or_no, other_sign, same_letters, sign_no_quoted, word_no_quoted}
 use Rattle.stl_constants.proofs.Tables.{any_at, none_among, none_at}
 

@@ -41,9 +41,9 @@ use Rattle.stl_tree.specs.declared.raw.RawPointer.{RawPointer}
 use Rattle.stl_instructions.proofs.BracketTokens.{IsBracketed, bracketed_no_constant, bracketed_no_text, bracketed_no_word, bracketed_there, bracketed_unmarked, crossing_bracketed, indirect_bracketed, is_opening}
 use Rattle.stl_constants.proofs.ConstantLaws.{addend_all, addend_read, constant_all, constant_no_word, constant_read, constant_there, left_out_marked_all, no_mark, number_all, number_at_read, pointer_no_constant, pointer_no_left_out, up_to_there, word_is}
 use Rattle.stl_instructions.proofs.NameLaws.{located_all, located_read, named_no_constant, named_no_mark, named_no_word, named_not_asked, named_there, opened_all, opened_read, placed_as, placed_read}
-use Rattle.stl_instructions.proofs.PlaceLaws.{left_out_all}
-use Rattle.stl_instructions.proofs.PlaceTokens.{IsNoPlace, place_no_constant, place_no_register, place_no_text, place_no_word, place_there, place_unmarked, text_is}
-use Rattle.stl_instructions.proofs.PointerLaws.{Hashed, offset_all, offset_at_read, offset_hashed, pointer_all, pointer_at_read, pointer_hashed}
+use Rattle.stl_instructions.proofs.LeftOutLaws.{left_out_all}
+use Rattle.stl_places.proofs.PlaceTokens.{IsNoPlace, place_no_constant, place_no_register, place_no_text, place_no_word, place_there, place_unmarked, text_is}
+use Rattle.stl_places.proofs.PointerLaws.{Hashed, offset_all, offset_at_read, offset_hashed, pointer_all, pointer_at_read, pointer_hashed}
 use Rattle.stl_constants.proofs.Reading.{AllOf, as_all, if_false, if_true, or_all, or_no, or_this, other_word, same_letters, weaker}
 use Rattle.stl_constants.proofs.Tables.{none_found}
 

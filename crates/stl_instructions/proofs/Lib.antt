@@ -1,11 +1,5 @@
 mod BracketTokens
-mod Fronts
 mod InstructionLaws
+mod LeftOutLaws
 mod NameLaws
-mod NoPlaces
-mod PathLaws
-mod PlaceLaws
-mod PlaceTokens
-mod PointerLaws
-mod Repeated
 mod TableLaws

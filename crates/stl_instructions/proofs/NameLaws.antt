@@ -33,12 +33,13 @@ use Rattle.stl_tree.specs.declared.raw.RawOperand.{RawOperand}
 use Rattle.stl_tree.specs.declared.raw.RawOperand.TheVariants.{At, InBlock, Local, Named, OpenDb}
 use Rattle.stl_instructions.proofs.BracketTokens.{bracketed_no_named, bracketed_no_place, crossing_bracketed, crossing_no_indirect, indirect_bracketed, no_number_before}
 use Rattle.stl_constants.proofs.ConstantLaws.{plain_none, word_is}
-use Rattle.stl_instructions.proofs.Fronts.{FrontOf, and_then_front, and_then_none, and_then_read, as_front, front_all, further_front, further_read, or_front, refined}
-use Rattle.stl_instructions.proofs.PathLaws.{path_front, path_glued, path_read}
-use Rattle.stl_instructions.proofs.NoPlaces.{no_numbered, no_place}
-use Rattle.stl_instructions.proofs.PlaceLaws.{IsNumberOf, numbered_front, numbered_read, place_all, place_read}
-use Rattle.stl_instructions.proofs.PlaceTokens.{no_digits}
-use Rattle.stl_instructions.proofs.PointerLaws.{crossing_all, crossing_read, indirect_all, indirect_read, memory_front, memory_read}
+use Rattle.stl_places.proofs.Fronts.{FrontOf, and_then_front, and_then_none, and_then_read, as_front, front_all, further_front, further_read, or_front, refined}
+use Rattle.stl_places.proofs.PathLaws.{path_front, path_glued, path_read}
+use Rattle.stl_places.proofs.NoPlaces.{no_numbered}
+use Rattle.stl_instructions.proofs.LeftOutLaws.{no_place, place_all, place_read}
+use Rattle.stl_places.proofs.PlaceLaws.{IsNumberOf, numbered_front, numbered_read}
+use Rattle.stl_places.proofs.PlaceTokens.{no_digits}
+use Rattle.stl_places.proofs.PointerLaws.{crossing_all, crossing_read, indirect_all, indirect_read, memory_front, memory_read}
 use Rattle.stl_constants.proofs.Reading.{AllOf, as_all, if_false, if_true, no_word, or_all, or_no, or_this, other_sign, same_letters, sign_no_quoted, sign_no_text, taken, weaker, word_no_quoted}
 use Rattle.stl_constants.proofs.Tables.{none_found}
 

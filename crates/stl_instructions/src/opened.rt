@@ -1,19 +1,31 @@
 //! Reads what `OPN` opens.
 ghost use Rattle.std.specs.Prelude.{◌≡◌, IfOk};
 ghost use Rattle.s7_base.specs.declared.word.Width.TheVariants as width;
+ghost use Rattle.stl_statements.specs.Places.{opened_area};
 ghost use Rattle.stl_statements.specs.Pointers.{memory_at};
 ghost use Rattle.stl_statements.specs.Readers.{IsWithin, or_else};
 ghost use Rattle.stl_statements.specs.Statements.{opened_at, opened_behind, opened_by_memory_at, opened_name_at, opened_number_at, opened_word, opening, opening_by};
 
-use crate::path::name_of;
-use crate::place::{further, numbered_at, opened_area};
-use crate::pointer::memory_at;
 use memory_areas::AreaName;
-use s7_base::{NoMemory, Token, Width};
+use s7_base::{NoMemory, Token, Width, is_same_word};
 use std::alloc::Global;
 use stl_constants::{is_quoted, is_sign, is_word_kind};
+use stl_places::{further, memory_at, name_of, numbered_at};
 use stl_statements::Read;
 use stl_tree::{RawName, RawOperand, RawPlace};
+
+/// `DB` or `DI`, by the area that is opened.
+fn opened_area(letters: &[u8]) -> Option<AreaName>
+    ensures { result ≡ opened_area letters.now }
+{
+    if is_same_word(letters, "DB") {
+        Some(AreaName::Db)
+    } else if is_same_word(letters, "DI") {
+        Some(AreaName::Di)
+    } else {
+        None
+    }
+}
 
 fn opening(area: AreaName, name: RawName) -> RawOperand
     ensures { result ≡ opening area name }

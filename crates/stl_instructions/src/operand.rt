@@ -1,15 +1,14 @@
 //! Reads the operand of an instruction.
-ghost use Rattle.std.specs.Prelude.{◌≡◌, IfOk, ℕ, ◌&&◌, ◌||◌, nat_le, not, map, option_map};
+ghost use Rattle.std.specs.Prelude.{◌≡◌, IfOk, ◌&&◌, ◌||◌, map, option_map};
 ghost use Rattle.std.specs.List.{find};
 ghost use Rattle.s7_base.specs.Tokens.{is_same_word};
-ghost use Rattle.memory_areas.specs.Access.{is_unaligned};
 ghost use Rattle.stl_statements.specs.Constants.{number_at};
 ghost use Rattle.stl_statements.specs.Mnemonics.{goes_on};
 ghost use Rattle.stl_statements.specs.Paths.{named_at};
 ghost use Rattle.stl_statements.specs.Pointers.{indirect_at, offset_at, pointer_at};
 ghost use Rattle.stl_statements.specs.Readers.{or_else, read_as};
 ghost use Rattle.stl_tree.specs.Shifts.{most_steps};
-ghost use Rattle.stl_statements.specs.Statements.{any_constant_at, block_number_at, checked_at, checked_shape, first_of, has_form, is_asked, is_in_area, is_named, is_numbered, left_out_at, left_out_forms, length_at, loaded_at, located_at, nothing_at, operand_by, operand_of, or_nothing, other_at, place_operand, placed_at, pointer_alone_at, pointer_loaded_at, pointer_stored_at, second_of, shape_of, size_with, status_at, stored_at, stw_at, tests, timers_and_counters};
+ghost use Rattle.stl_statements.specs.Statements.{any_constant_at, block_number_at, checked_at, checked_shape, first_of, has_form, is_asked, is_named, is_numbered, left_out_at, left_out_forms, length_at, loaded_at, located_at, nothing_at, operand_by, operand_of, or_nothing, other_at, place_operand, placed_at, pointer_alone_at, pointer_loaded_at, pointer_stored_at, second_of, shape_of, size_with, status_at, stored_at, stw_at, tests, timers_and_counters};
 ghost use Rattle.stl_statements.specs.Words.{is_spelled};
 ghost use Rattle.stl_tree.specs.WordLogic.{width_of as logic_width};
 ghost use Rattle.stl_tree.specs.declared.raw.RawOperand.TheVariants as operand;
@@ -17,11 +16,7 @@ ghost use Rattle.stl_instructions.specs.inner.Rows.{seen};
 ghost use Rattle.stl_instructions.specs.inner.Shapes.{IsPlainShape};
 
 use crate::opened::opened_at;
-use crate::path::named_at;
-use crate::place::place_at;
-use crate::pointer::{crossing_at, indirect_at, offset_at, pointer_at};
 use crate::table::goes_on;
-use memory_areas::is_byte_in;
 use s7_base::{Check, Kind, NoMemory, Token, Width, front_of, is_same_word, rest_after};
 use status_word::Test;
 use std::alloc::Global;
@@ -29,6 +24,7 @@ use stl_constants::{
     addend_at, are_digits, constant_at, is_sign, is_word, is_word_kind, is_word_or_sign,
     left_out_constant_at, number_at,
 };
+use stl_places::{crossing_at, indirect_at, named_at, offset_at, place_at, pointer_at};
 use stl_statements::{Mnemonic, Read, Shape};
 use stl_tree::{Ar, Constant, LogicRow, RawOperand, RawPlace, RawPointer, ShiftRow};
 
@@ -84,23 +80,6 @@ static LEFT_OUT_FORMS: [NamedForm; 8] = [
         kind: Kind::Peripheral,
     },
 ];
-
-/// The place lies in its area, with a bit number that its width has.
-pub fn is_in_area(place: RawPlace) -> bool
-    ensures { result ≡ is_in_area place }
-{
-    is_byte_in(place.area, place.width, place.byte) && place.bit <= most_bit(place.width)
-}
-
-/// The greatest bit number of a width.
-fn most_bit(width: Width) -> u32
-    ensures { (bit : ℕ) → nat_le bit result ≡ not (is_unaligned width bit) }
-{
-    match width {
-        Width::Bit => 7,
-        Width::Byte | Width::Word | Width::Dword => 0,
-    }
-}
 
 fn is_named(form: &NamedForm, tokens: &[Token]) -> bool
     ensures { result ≡ is_named (seen form.now) tokens.now }

@@ -12,7 +12,8 @@ use std::alloc::Global;
 use std::collections::LinkedList;
 use stl_constants::{are_digits, is_sign, is_word, is_word_kind};
 use stl_grammar::{Innermost, Level, Written};
-use stl_instructions::{is_numbered, whole_at};
+use stl_instructions::is_numbered;
+use stl_places::whole_at;
 use stl_statements::Read;
 use stl_tree::{BlockKind, ElemType, InitialItem};
 

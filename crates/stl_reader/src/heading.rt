@@ -8,7 +8,8 @@ use s7_base::{Line, List, NoMemory, Reason, Token, rest_after};
 use std::alloc::Global;
 use stl_constants::{fitting, is_quoted, is_sign, is_word, kept_number};
 use stl_grammar::{Found, Item, Where};
-use stl_instructions::{is_numbered, number_word};
+use stl_instructions::is_numbered;
+use stl_places::number_word;
 use stl_statements::Read;
 use stl_tree::{BlockKind, RawName};
 

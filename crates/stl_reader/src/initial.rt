@@ -10,7 +10,7 @@ use crate::elements::{Next, begins_with_sign, further, next_of, one_more};
 use s7_base::{Line, List, NoMemory, Token, Width, rest_after};
 use std::alloc::Global;
 use stl_constants::{constant_at, fitting, is_sign, is_word, is_word_kind};
-use stl_instructions::{path_at, pointer_at, pointer_value};
+use stl_places::{path_at, pointer_at, pointer_value};
 use stl_statements::{Read, number_of};
 use stl_tree::{Constant, InitialItem, PathStep, RawInitial, RawPointer};
 

@@ -10,7 +10,7 @@ use crate::numbers::Numbers;
 use crate::symbols::{Symbols, may_have};
 use s7_base::{Break, Line, NoMemory, Reason};
 use std::alloc::Global;
-use stl_instructions::is_in_area;
+use stl_places::is_in_area;
 use stl_tree::{BlockKind, SymbolAddress, SymbolLine};
 
 /// An address is one of its area, or a number of its kind.

@@ -5,7 +5,7 @@ ghost use Rattle.stl_rules.specs.declared.given.Given.TheVariants as behind;
 
 use crate::symbols::may_have;
 use memory_areas::AreaName;
-use stl_instructions::is_in_area;
+use stl_places::is_in_area;
 use stl_rules::{Component, Given};
 use stl_tree::{BlockKind, ElemType, Operand, RawPlace, SymbolAddress};
 use symbol_layout::width_of;

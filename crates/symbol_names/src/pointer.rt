@@ -11,7 +11,7 @@ ghost use Rattle.stl_tree.specs.declared.program.Operand.TheVariants as operand;
 
 use memory_areas::{AreaName, is_byte_in};
 use s7_base::Width;
-use stl_instructions::{offset_value, pointer_value};
+use stl_places::{offset_value, pointer_value};
 use stl_rules::Given;
 use stl_tree::{Ar, Constant, Operand, RawPlace, RawPointer};
 

@@ -27,10 +27,10 @@ use Rattle.stl_tree.specs.declared.raw.RawOperand.{RawOperand}
 use Rattle.stl_tree.specs.declared.raw.RawOperand.TheVariants.{ByMemory, ByRegister, Crossing}
 use Rattle.stl_tree.specs.declared.raw.RawPlace.{RawPlace}
 use Rattle.stl_tree.specs.declared.raw.RawPointer.{RawPointer}
-use Rattle.stl_instructions.proofs.Fronts.{FrontOf, and_then_front, and_then_read, as_front, fitting_front, front_all, further_front, further_read, or_front, refined}
-use Rattle.stl_instructions.proofs.NoPlaces.{no_place_begins}
-use Rattle.stl_instructions.proofs.PlaceLaws.{bit_at_front, bit_read, glued_before, place_at_read, place_front, same_words}
-use Rattle.stl_instructions.proofs.PlaceTokens.{begins_place, begins_with_word, place_kind, place_there, register_letters}
+use Rattle.stl_places.proofs.Fronts.{FrontOf, and_then_front, and_then_read, as_front, fitting_front, front_all, further_front, further_read, or_front, refined}
+use Rattle.stl_places.proofs.NoPlaces.{no_place_begins}
+use Rattle.stl_places.proofs.PlaceLaws.{bit_at_front, bit_read, glued_before, place_at_read, place_front, same_words}
+use Rattle.stl_places.proofs.PlaceTokens.{begins_place, begins_with_word, place_kind, place_there, register_letters}
 use Rattle.stl_constants.proofs.Reading.{AllOf, alike, if_false, if_true, no_sign, or_no, or_this, taken}
 use Rattle.stl_constants.proofs.Tables.{found_among, found_apart, found_passes}
 

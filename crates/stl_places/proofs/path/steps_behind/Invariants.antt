@@ -2,8 +2,8 @@ use Rattle.std.proofs.Common.{◌≡◌, ◌∷◌, length, ◌+◌}
 use Rattle.stl_statements.specs.Paths.{step_at}
 use Rattle.stl_statements.specs.Readers.{read_as, repeated}
 use Rattle.stl_tree.specs.declared.raw.PathStep.TheVariants as step
-use Rattle.stl_instructions.proofs.Repeated.{before}
-use Rattle.stl_instructions.proofs.path.steps_behind.Given as goal
+use Rattle.stl_places.proofs.Repeated.{before}
+use Rattle.stl_places.proofs.path.steps_behind.Given as goal
 
 -- the steps so far, with those that are left, are all
 abbrev pub invariant-loop-steps : goal.invariant-loop-steps

@@ -13,7 +13,7 @@ ghost use Rattle.stl_tree.specs.declared.raw.RawOperand.{RawOperand};
 ghost use Rattle.stl_tree.specs.declared.raw.RawOperand.TheVariants as operand;
 ghost use Rattle.stl_tree.specs.declared.raw.RawPlace.{RawPlace};
 ghost use Rattle.stl_tree.specs.declared.raw.RawPointer.{RawPointer};
-ghost use Rattle.stl_instructions.specs.inner.Rows.{named};
+ghost use Rattle.stl_places.specs.inner.Rows.{named};
 
 use crate::path::number_word;
 use crate::place::{PlaceWord, bit_at, further, place_at, word_in};
@@ -24,7 +24,7 @@ use stl_statements::Read;
 use stl_tree::{Ar, RawOperand, RawPlace, RawPointer};
 
 /// The code of an area in a pointer.
-pub fn code_of(area: AreaName) -> u8
+fn code_of(area: AreaName) -> u8
     ensures { result ≡ code_of area }
 {
     match area {
@@ -38,7 +38,7 @@ pub fn code_of(area: AreaName) -> u8
 }
 
 /// Byte and bit are ones that a pointer has.
-pub fn is_in_reach(pointer: RawPointer) -> bool
+fn is_in_reach(pointer: RawPointer) -> bool
     ensures { result ≡ is_in_reach pointer }
 {
     pointer.byte <= 65_535 && pointer.bit <= 7

@@ -6,8 +6,8 @@ use Rattle.stl_statements.specs.Readers.{TakesSome, repeated}
 use Rattle.stl_statements.specs.declared.mnemonic.Read.{Read}
 use Rattle.stl_statements.specs.declared.mnemonic.Read.TheVariants.{Fits}
 use Rattle.stl_tree.specs.declared.raw.PathStep.{PathStep}
-use Rattle.stl_instructions.proofs.Repeated.{before, item_done}
-use Rattle.stl_instructions.proofs.path.steps_behind.Goals as goal
+use Rattle.stl_places.proofs.Repeated.{before, item_done}
+use Rattle.stl_places.proofs.path.steps_behind.Goals as goal
 
 pub loop-steps-preserved : goal.loop-steps-preserved
 loop-steps-preserved c =

@@ -16,9 +16,9 @@ use Rattle.stl_statements.specs.declared.mnemonic.Read.{Read}
 use Rattle.stl_statements.specs.declared.mnemonic.Read.TheVariants.{Fits, LeftOut, No}
 use Rattle.stl_tree.specs.declared.raw.PathStep.{PathStep}
 use Rattle.stl_tree.specs.declared.raw.PathStep.TheVariants.{Index, Name}
-use Rattle.stl_instructions.proofs.Fronts.{Front, FrontOf, and_then_at, and_then_front, and_then_read, as_front, fitting_front, further_front, further_read, or_front, refined}
+use Rattle.stl_places.proofs.Fronts.{Front, FrontOf, and_then_at, and_then_front, and_then_read, as_front, fitting_front, further_front, further_read, or_front, refined}
 use Rattle.stl_constants.proofs.Reading.{if_false, if_true, mapped, no_sign, or_no, or_this, other_sign, taken}
-use Rattle.stl_instructions.proofs.Repeated.{IsNone, item_there, no_item}
+use Rattle.stl_places.proofs.Repeated.{IsNone, item_there, no_item}
 
 -- Items one behind the other
 

@@ -1,8 +1,8 @@
 use Rattle.std.proofs.Common.{◌≡◌, ◌∷◌, length, ◌+◌}
 use Rattle.stl_statements.specs.Paths.{next_index_at}
 use Rattle.stl_statements.specs.Readers.{read_as, repeated}
-use Rattle.stl_instructions.proofs.Repeated.{before}
-use Rattle.stl_instructions.proofs.path.more_indices.Given as goal
+use Rattle.stl_places.proofs.Repeated.{before}
+use Rattle.stl_places.proofs.path.more_indices.Given as goal
 
 -- the indices so far, with those that are left, are all
 abbrev pub invariant-loop-index : goal.invariant-loop-index

@@ -4,8 +4,8 @@ use Rattle.std.proofs.lemmas.List.{length-drop}
 use Rattle.s7_base.specs.declared.token.Token.{Token}
 use Rattle.stl_statements.specs.Paths.{next_index_at}
 use Rattle.stl_statements.specs.Readers.{repeated}
-use Rattle.stl_instructions.proofs.Repeated.{before, item_done}
-use Rattle.stl_instructions.proofs.path.more_indices.Goals as goal
+use Rattle.stl_places.proofs.Repeated.{before, item_done}
+use Rattle.stl_places.proofs.path.more_indices.Goals as goal
 
 pub loop-index-preserved : goal.loop-index-preserved
 loop-index-preserved c =

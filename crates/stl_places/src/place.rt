@@ -1,12 +1,15 @@
 //! Reads written places.
-ghost use Rattle.std.specs.Prelude.{◌≡◌, ◌≤◌, ◌^◌, Some, map, option_map};
+ghost use Rattle.std.specs.Prelude.{◌≡◌, ◌≤◌, ◌^◌, ℕ, Some, map, nat_le, not, option_map};
 ghost use Rattle.std.specs.List.{find, prefix_len};
-ghost use Rattle.stl_statements.specs.Places.{bit_at, bit_behind, bit_number, block_place_at, db_words, digits_of, has_letters, is_no_digit, letters_of, number_behind, numbered_at, opened_area, place_at, place_behind, place_by, place_in, place_words, with_number, with_word};
+ghost use Rattle.memory_areas.specs.Access.{is_unaligned};
+ghost use Rattle.stl_statements.specs.Places.{bit_at, bit_behind, bit_number, block_place_at, db_words, digits_of, has_letters, is_no_digit, letters_of, number_behind, numbered_at, place_at, place_behind, place_by, place_in, place_words, with_number, with_word};
 ghost use Rattle.stl_statements.specs.Pointers.{has_word};
 ghost use Rattle.stl_statements.specs.Readers.{IsWithin, further, read_as};
-ghost use Rattle.stl_instructions.specs.inner.Rows.{lettered, named};
+ghost use Rattle.stl_statements.specs.Statements.{is_in_area};
+ghost use Rattle.stl_places.specs.Numbered.{lettered};
+ghost use Rattle.stl_places.specs.inner.Rows.{named};
 
-use memory_areas::AreaName;
+use memory_areas::{AreaName, is_byte_in};
 use s7_base::{Token, Width, front_of, is_same_word, rest_after};
 use stl_constants::{begins_glued, fitting, is_joined, is_joined_word, is_word_kind, kept_number};
 use stl_statements::Read;
@@ -366,19 +369,6 @@ fn place_behind(block: u32, tokens: &[Token]) -> Read<RawPlace>
     }
 }
 
-/// `DB` or `DI`, by the area that is opened.
-pub fn opened_area(letters: &[u8]) -> Option<AreaName>
-    ensures { result ≡ opened_area letters.now }
-{
-    if is_same_word(letters, "DB") {
-        Some(AreaName::Db)
-    } else if is_same_word(letters, "DI") {
-        Some(AreaName::Di)
-    } else {
-        None
-    }
-}
-
 /// A place in a data block, by the number before it: `DB5.DBW 4`.
 fn block_place_at(tokens: &[Token]) -> Read<RawPlace>
     ensures value { result ≡ block_place_at tokens.now }
@@ -405,5 +395,22 @@ pub fn place_at(tokens: &[Token]) -> Read<RawPlace>
     match place_in(place_words(), None, tokens) {
         Read::No => block_place_at(tokens),
         read => read,
+    }
+}
+
+/// The place lies in its area, with a bit number that its width has.
+pub fn is_in_area(place: RawPlace) -> bool
+    ensures { result ≡ is_in_area place }
+{
+    is_byte_in(place.area, place.width, place.byte) && place.bit <= most_bit(place.width)
+}
+
+/// The greatest bit number of a width.
+fn most_bit(width: Width) -> u32
+    ensures { (bit : ℕ) → nat_le bit result ≡ not (is_unaligned width bit) }
+{
+    match width {
+        Width::Bit => 7,
+        Width::Byte | Width::Word | Width::Dword => 0,
     }
 }

@@ -15,12 +15,11 @@ use Rattle.stl_statements.specs.PlaceForms.{IsBitBehind, IsNumbered, IsPlace, Is
 use Rattle.stl_statements.specs.PlaceForms as form
 use Rattle.stl_statements.specs.Places.{Numbered, PlaceWord, bit_at, bit_behind, bit_number, block_place_at, db_words, digits_of, has_letters, letters_of, number_behind, numbered_at, place_at, place_behind, place_by, place_in, place_of, place_words, with_number, with_word}
 use Rattle.stl_statements.specs.Readers.{fitting, further, read_as}
-use Rattle.stl_statements.specs.Statements.{NamedForm, has_form, left_out_at, left_out_by, left_out_forms, place_operand}
 use Rattle.stl_statements.specs.Words.{is_joined, is_joined_word, is_word_kind}
 use Rattle.stl_statements.specs.declared.mnemonic.Read.TheVariants.{Fits, No}
 use Rattle.stl_tree.specs.declared.raw.RawPlace.{RawPlace}
-use Rattle.stl_instructions.proofs.Fronts.{Front, FrontOf, and_then_front, and_then_none, and_then_read, as_front, fitting_front, front_all, further_front, further_read, or_front, refined}
-use Rattle.stl_constants.proofs.Reading.{AllOf, alike, if_true, mapped, or_all, or_no, or_this, same_letters, taken}
+use Rattle.stl_places.proofs.Fronts.{Front, FrontOf, and_then_front, and_then_none, and_then_read, as_front, fitting_front, further_front, further_read, or_front, refined}
+use Rattle.stl_constants.proofs.Reading.{alike, if_true, mapped, or_no, or_this, same_letters, taken}
 use Rattle.stl_constants.proofs.Tables.{are_apart, found_among, found_apart, found_passes}
 
 -- From what is read to its form
@@ -144,19 +143,6 @@ place_front tokens =
     (refined tokens (IsPlaceIn place_words None) IsPlace (λ front rest place at is. alone front place is) (place_in place_words None tokens) (place_in_front place_words None tokens))
     (block_front tokens)
 
--- what is left out has no form
-pub left_out_all : (n : ℕ) (P : RawPlace → Type 0) (table : List NamedForm) (tokens : List Token) → AllOf n P (left_out_at table tokens)
-left_out_all n P table tokens = by (find (has_form tokens) table)
-  where
-    by : (o : Option NamedForm) → AllOf n P (left_out_by o)
-    by None = tt
-    by (Some form) = tt
-
-pub place_all : (tokens : List Token) → AllOf (length tokens) (IsPlace tokens) (place_operand tokens)
-place_all tokens =
-    or_all (length tokens) (IsPlace tokens) (place_at tokens) (left_out_at left_out_forms tokens) (front_all tokens IsPlace (place_at tokens) (place_front tokens))
-    (left_out_all (length tokens) (IsPlace tokens) left_out_forms tokens)
-
 -- From a form to what is read of it
 
 pub numbered_read : (front : List Token) (letters : List ℕ) (n : ℕ) → IsNumbered front letters n → (rest : List Token) →
@@ -228,11 +214,9 @@ place_at_read tokens place (in_block front letters n point rest p is db at glued
     ∙ if_true (is_joined (codes ".") point && begins_glued (rest ++ behind)) _ No (and_from _ _ at (glued_before rest behind glued))
     ∙ further_read (point ∷ []) rest (place_in db_words (Some n) (rest ++ behind)) p (place_in_read db_words (Some n) rest p refl in_db behind))
 
-place_alone_read : (tokens : List Token) (place : RawPlace) → IsPlace tokens place → place_at tokens ≡ Fits place (length tokens)
+-- with nothing behind them
+pub place_alone_read : (tokens : List Token) (place : RawPlace) → IsPlace tokens place → place_at tokens ≡ Fits place (length tokens)
 place_alone_read tokens place is = subst (λ (ts : List Token). place_at ts ≡ Fits place (length tokens)) (append-nil tokens) (place_at_read tokens place is [])
-
-pub place_read : (tokens : List Token) (place : RawPlace) → IsPlace tokens place → place_operand tokens ≡ Fits place (length tokens)
-place_read tokens place is = or_this (place_at tokens) (left_out_at left_out_forms tokens) place (length tokens) (place_alone_read tokens place is)
 
 -- where no letters with a number stand no place does
 pub no_place_at : (tokens : List Token) → numbered_at tokens ≡ No → place_at tokens ≡ No

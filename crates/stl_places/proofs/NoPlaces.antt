@@ -1,6 +1,6 @@
 -- Words and signs with which no place begins.
 use Rattle.std.proofs.Common.{◌≡◌, ℕ, Bool, true, false, List, [], ◌∷◌, drop, Option, Some, None, refl, ap, ◌∙◌, if◌then◌else◌}
-use Rattle.std.proofs.lemmas.Bool.{and_left, or_from, or_parts}
+use Rattle.std.proofs.lemmas.Bool.{or_parts}
 use Rattle.std.specs.List.{find, list_any}
 use Rattle.std.specs.Prelude.{codes, option_map}
 use Rattle.std.specs.Str.{bytes_eq, str_to_ascii_lowercase}
@@ -9,28 +9,19 @@ use Rattle.s7_base.specs.declared.token.Token.{Token}
 use Rattle.stl_statements.specs.Numbers.{kept_number}
 use Rattle.stl_statements.specs.Places.{Numbered, PlaceWord, block_place_at, digits_of, has_letters, letters_of, number_behind, numbered_at, place_at, place_behind, place_by, place_in, place_words, with_number}
 use Rattle.stl_statements.specs.Readers.{and_then, fitting, further}
-use Rattle.stl_statements.specs.Statements.{NamedForm, has_form, left_out_at, left_out_by, left_out_forms, place_operand}
 use Rattle.stl_statements.specs.Words.{is_word_kind}
 use Rattle.stl_statements.specs.declared.mnemonic.Read.{Read}
 use Rattle.stl_statements.specs.declared.mnemonic.Read.TheVariants.{Fits, LeftOut, No}
-use Rattle.stl_instructions.proofs.PlaceLaws.{no_place_at}
-use Rattle.stl_instructions.proofs.PlaceTokens.{begins_place}
+use Rattle.stl_places.proofs.PlaceLaws.{no_place_at}
+use Rattle.stl_places.proofs.PlaceTokens.{begins_place}
 use Rattle.stl_constants.proofs.Reading.{if_false, or_no}
-use Rattle.stl_constants.proofs.Tables.{find_unlisted, none_found}
+use Rattle.stl_constants.proofs.Tables.{find_unlisted}
 
 -- A sign
 
 -- no number stands where no word does
 pub no_numbered : (first : Token) (rest : List Token) → is_word_kind first.kind ≡ false → numbered_at (first ∷ rest) ≡ No
 no_numbered first rest h = if_false (is_word_kind first.kind) _ No h
-
-pub no_place : (first : Token) (rest : List Token) → is_word_kind first.kind ≡ false → place_operand (first ∷ rest) ≡ No
-no_place first rest h =
-    or_no (place_at (first ∷ rest)) (left_out_at left_out_forms (first ∷ rest)) (no_place_at (first ∷ rest) (no_numbered first rest h))
-    ∙ ap left_out_by (none_found (has_form (first ∷ rest)) left_out_forms no_form)
-  where
-    no_form : (form : NamedForm) → has_form (first ∷ rest) form ≡ false
-    no_form form = or_from _ _ (and_left _ _ (and_left _ _ h)) (and_left _ _ (and_left _ _ h))
 
 -- A word with other letters
 
