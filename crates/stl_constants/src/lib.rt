@@ -8,7 +8,7 @@
 pub use constant::{
     addend_at, begins_glued, constant_at, fits, fitting, left_out_constant_at, number_at,
 };
-pub use number::{are_digits, kept_number};
+pub use number::{are_digits, is_numbered, kept_number};
 pub use words::{
     is_joined, is_joined_word, is_quoted, is_sign, is_spelled, is_word, is_word_kind,
     is_word_or_sign,

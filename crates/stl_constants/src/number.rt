@@ -3,8 +3,11 @@ ghost use Rattle.std.specs.Prelude.{◌≡◌, ◌+◌, ◌*◌, ◌-◌, ◌≤
 ghost use Rattle.std.specs.List.{list_all, prefix_len};
 ghost use Rattle.s7_base.specs.Tokens.{is_between};
 ghost use Rattle.stl_statements.specs.Numbers.{are_digits, bits_of, has_bits_at_ends, hex_digit, hex_number, is_bit, kept, kept_number, with_hex_digit, with_next, written_from};
+ghost use Rattle.stl_statements.specs.Statements.{is_numbered};
 ghost use Rattle.stl_constants.specs.inner.Bits.{AreBits};
 
+use crate::words::is_word_kind;
+use s7_base::{Token, front_of, is_same_word, rest_after};
 use stl_statements::Bits;
 
 /// One or more digits.
@@ -51,6 +54,16 @@ pub fn kept_number(digits: &[u8]) -> Option<u32>
     } else {
         None
     }
+}
+
+/// The token is this word and a number, without a blank.
+pub fn is_numbered(token: &Token, word: &str) -> bool
+    ensures { result ≡ is_numbered word.now token.now }
+{
+    let text = token.text.as_slice();
+    is_word_kind(token)
+        && is_same_word(front_of(text, word.len()), word)
+        && are_digits(rest_after(text, word.len()))
 }
 
 /// How many digits stand at the front.

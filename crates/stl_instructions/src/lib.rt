@@ -7,7 +7,7 @@
 #![tactic(auto)]
 
 pub use laws::{instructions_have_forms, mnemonics_are_longest};
-pub use operand::{is_numbered, logic_width, most_steps};
+pub use operand::{logic_width, most_steps};
 pub use statement::{begins_with_label, instruction};
 pub use table::{begins_with_mnemonic, mnemonic_named};
 

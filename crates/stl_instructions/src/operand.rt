@@ -8,7 +8,7 @@ ghost use Rattle.stl_statements.specs.Paths.{named_at};
 ghost use Rattle.stl_statements.specs.Pointers.{indirect_at, offset_at, pointer_at};
 ghost use Rattle.stl_statements.specs.Readers.{or_else, read_as};
 ghost use Rattle.stl_tree.specs.Shifts.{most_steps};
-ghost use Rattle.stl_statements.specs.Statements.{any_constant_at, block_number_at, checked_at, checked_shape, first_of, has_form, is_asked, is_named, is_numbered, left_out_at, left_out_forms, length_at, loaded_at, located_at, nothing_at, operand_by, operand_of, or_nothing, other_at, place_operand, placed_at, pointer_alone_at, pointer_loaded_at, pointer_stored_at, second_of, shape_of, size_with, status_at, stored_at, stw_at, tests, timers_and_counters};
+ghost use Rattle.stl_statements.specs.Statements.{any_constant_at, block_number_at, checked_at, checked_shape, first_of, has_form, is_asked, is_named, left_out_at, left_out_forms, length_at, loaded_at, located_at, nothing_at, operand_by, operand_of, or_nothing, other_at, place_operand, placed_at, pointer_alone_at, pointer_loaded_at, pointer_stored_at, second_of, shape_of, size_with, status_at, stored_at, stw_at, tests, timers_and_counters};
 ghost use Rattle.stl_statements.specs.Words.{is_spelled};
 ghost use Rattle.stl_tree.specs.WordLogic.{width_of as logic_width};
 ghost use Rattle.stl_tree.specs.declared.raw.RawOperand.TheVariants as operand;
@@ -17,12 +17,12 @@ ghost use Rattle.stl_instructions.specs.inner.Shapes.{IsPlainShape};
 
 use crate::opened::opened_at;
 use crate::table::goes_on;
-use s7_base::{Check, Kind, NoMemory, Token, Width, front_of, is_same_word, rest_after};
+use s7_base::{Check, Kind, NoMemory, Token, Width, front_of, is_same_word};
 use status_word::Test;
 use std::alloc::Global;
 use stl_constants::{
-    addend_at, are_digits, constant_at, is_sign, is_word, is_word_kind, is_word_or_sign,
-    left_out_constant_at, number_at,
+    addend_at, are_digits, constant_at, is_numbered, is_sign, is_word, is_word_kind,
+    is_word_or_sign, left_out_constant_at, number_at,
 };
 use stl_places::{crossing_at, indirect_at, named_at, offset_at, place_at, pointer_at};
 use stl_statements::{Mnemonic, Read, Shape};
@@ -91,16 +91,6 @@ fn is_named(form: &NamedForm, tokens: &[Token]) -> bool
         }
         [] => false,
     }
-}
-
-/// The token is this word and a number, without a blank.
-pub fn is_numbered(token: &Token, word: &str) -> bool
-    ensures { result ≡ is_numbered word.now token.now }
-{
-    let text = token.text.as_slice();
-    is_word_kind(token)
-        && is_same_word(front_of(text, word.len()), word)
-        && are_digits(rest_after(text, word.len()))
 }
 
 /// A form that is left out stands at the front, in one word or in two.

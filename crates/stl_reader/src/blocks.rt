@@ -7,12 +7,12 @@ ghost use Rattle.stl_grammar.specs.RawPrograms.{blocks_in, data_headed, dbs_in, 
 ghost use Rattle.stl_grammar.specs.declared.item.Item.TheVariants as item;
 ghost use Rattle.stl_reader.specs.inner.Finding.{read_behind};
 
-use crate::declared::{put_closed, put_type};
 use crate::item::item_at;
 use s7_base::{Line, List, NoMemory, Rejection, Token, rest_after};
 use std::alloc::Global;
 use std::collections::LinkedList;
 use std::mem::replace;
+use stl_declarations::{put_closed, put_type};
 use stl_grammar::{Found, Item, Reading, Where};
 use stl_lexer::tokens;
 use stl_tree::{

@@ -6,9 +6,8 @@ ghost use Rattle.stl_grammar.specs.Headings.{number_behind, number_within, numbe
 use crate::words::{is_attribute, is_title};
 use s7_base::{Line, List, NoMemory, Reason, Token, rest_after};
 use std::alloc::Global;
-use stl_constants::{fitting, is_quoted, is_sign, is_word, kept_number};
+use stl_constants::{fitting, is_numbered, is_quoted, is_sign, is_word, kept_number};
 use stl_grammar::{Found, Item, Where};
-use stl_instructions::is_numbered;
 use stl_places::number_word;
 use stl_statements::Read;
 use stl_tree::{BlockKind, RawName};

@@ -2,14 +2,14 @@
 ghost use Rattle.std.specs.Prelude.{◌≡◌, ◌∷◌, IfOk};
 ghost use Rattle.stl_grammar.specs.Items.{closing_at, declaration_found, declarations_end, declared, inside_at, struct_found};
 
-use crate::declaration::{declaration_at, ends_level, left_of, open_level};
-use crate::elements::begins_with_sign;
 use crate::heading::{copied, is_data};
-use crate::initial::ending_at;
 use crate::misfit::{left_out_reason, undeclared_reason};
 use s7_base::{Line, List, NoMemory, Reason, Token};
 use std::alloc::Global;
 use std::collections::LinkedList;
+use stl_declarations::{
+    begins_with_sign, declaration_at, ending_at, ends_level, left_of, open_level,
+};
 use stl_grammar::{Found, Item, Level, Where, Written};
 use stl_statements::Read;
 use stl_tree::{BlockKind, InitialItem};

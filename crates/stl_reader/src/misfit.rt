@@ -5,12 +5,11 @@ ghost use Rattle.stl_statements.specs.Statements.{begins_with_label};
 ghost use Rattle.stl_statements.specs.declared.mnemonic.Read.TheVariants as read;
 
 use crate::cut_off::is_heading_cut_off;
-use crate::declaration::{has_number, is_user_type};
-use crate::elements::begins_with_word;
 use crate::heading::is_data;
 use crate::words::is_block_word;
 use s7_base::{Kind, Reason, Token};
 use stl_constants::{is_quoted, is_sign, is_word_kind};
+use stl_declarations::{begins_with_word, has_number, is_user_type};
 use stl_instructions::{begins_with_label, begins_with_mnemonic};
 use stl_tree::BlockKind;
 

@@ -2,11 +2,11 @@
 ghost use Rattle.std.specs.Prelude.{◌≡◌, ◌-◌, IfOk};
 ghost use Rattle.stl_grammar.specs.Items.{end_word, is_end, value_found, values_at};
 
-use crate::initial::path_value_at;
 use crate::misfit::left_out_reason;
 use s7_base::{NoMemory, Reason, Token};
 use std::alloc::Global;
 use stl_constants::is_word;
+use stl_declarations::path_value_at;
 use stl_grammar::{Found, Item, Where};
 use stl_statements::Read;
 use stl_tree::{BlockKind, RawInitial};

@@ -1,4 +1,4 @@
-use Rattle.stl_reader.proofs.declaration.+type_at.Given as goal
+use Rattle.stl_declarations.proofs.declaration.+type_at.Given as goal
 
 abbrev pub decreases-type_at : goal.decreases-type_at
 decreases-type_at l = l.left

@@ -4,8 +4,8 @@ use Rattle.std.specs.Prelude.{codes}
 use Rattle.s7_base.specs.declared.reason.Kind.{Kind}
 use Rattle.s7_base.specs.declared.token.Token.{Token}
 use Rattle.stl_grammar.specs.Elements.{elements_behind, elements_from, elements_with, prepended}
-use Rattle.stl_reader.specs.inner.Lists.{next_of, read_further}
-use Rattle.stl_reader.specs.declared.elements.Next.TheVariants.{End, More, Other}
+use Rattle.stl_declarations.specs.inner.Lists.{next_of, read_further}
+use Rattle.stl_declarations.specs.declared.elements.Next.TheVariants.{End, More, Other}
 use Rattle.stl_statements.specs.Readers.{further, read_as}
 use Rattle.stl_statements.specs.Words.{is_sign}
 use Rattle.stl_statements.specs.declared.mnemonic.Read.{Read}

@@ -2,7 +2,7 @@
 ghost use Rattle.std.specs.Prelude.{◌≡◌, ◌+◌, IfOk};
 ghost use Rattle.stl_grammar.specs.Elements.{begins_with_sign, begins_with_word};
 ghost use Rattle.stl_statements.specs.Readers.{further};
-ghost use Rattle.stl_reader.specs.inner.Lists.{next_of};
+ghost use Rattle.stl_declarations.specs.inner.Lists.{next_of};
 
 use s7_base::{NoMemory, Token};
 use stl_constants::{is_sign, is_word};

@@ -2,8 +2,8 @@ use Rattle.std.proofs.Common.{◌≡◌, ◌+◌, ◌-◌, List, drop, IfOk, sym
 use Rattle.s7_base.specs.declared.token.Token.{Token}
 use Rattle.stl_grammar.specs.Declarations.{array_at, array_with, type_at, with_array}
 use Rattle.stl_grammar.specs.declared.declaration.Written.{Written}
-use Rattle.stl_reader.proofs.Types.{as_word, as_array}
-use Rattle.stl_reader.proofs.declaration.+type_at.Goals as goal
+use Rattle.stl_declarations.proofs.Types.{as_word, as_array}
+use Rattle.stl_declarations.proofs.declaration.+type_at.Goals as goal
 use Rattle.stl_statements.specs.Readers.{further, read_as}
 use Rattle.stl_statements.specs.declared.mnemonic.Read.{Read}
 

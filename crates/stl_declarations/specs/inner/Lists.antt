@@ -1,8 +1,8 @@
 -- How far a list is read.
 use Rattle.std.specs.Prelude.{ℕ, if◌then◌else◌, List, [], ◌∷◌, ◌++◌, codes}
 use Rattle.s7_base.specs.declared.token.Token.{Token}
-use Rattle.stl_reader.specs.declared.elements.Next.{Next}
-use Rattle.stl_reader.specs.declared.elements.Next.TheVariants.{End, More, Other}
+use Rattle.stl_declarations.specs.declared.elements.Next.{Next}
+use Rattle.stl_declarations.specs.declared.elements.Next.TheVariants.{End, More, Other}
 use Rattle.stl_statements.specs.Readers.{further, read_as}
 use Rattle.stl_statements.specs.Words.{is_sign}
 use Rattle.stl_statements.specs.declared.mnemonic.Read.{Read}
