@@ -28,7 +28,7 @@ use Rattle.stl_tree.specs.declared.program.Program.{Program}
 use Rattle.stl2st.specs.Answer.{Reply, Work, alone, Answers, AnswersRun, AnswersSource, AnswersWork, Translates, image_reply, refusal_line, run_reply, run_status, too_long_line, usage_line, source_too_long, refused, read, image_too_long, bad_image, bad_call, ran}
 use Rattle.stl2st.specs.Devices.{AreOf, Input}
 use Rattle.stl2st.specs.Inputs.{IsReadPast, IsReadWhole}
-use Rattle.stl2st.specs.declared.command.Command.{Command}
+use Rattle.command_words.specs.declared.command.Command.{Command}
 use Rattle.stl2st.specs.declared.limits.TheConstants.{INPUT_LIMIT, IMAGE_LIMIT}
 use Rattle.stl2st.specs.declared.reply.Reply.{Reply as Made}
 use Rattle.stl2st.specs.declared.reply.Stop.{Stop}

@@ -9,8 +9,8 @@ use Rattle.st_parser.specs.Texts.{IsTextOf, IsRefusedText}
 use Rattle.stl2st.specs.Answer.{Reply, Row, row, stl, st, Work, alone, on_image, Answers, AnswersRow, AnswersSource, AnswersStl, AnswersTranslate, AnswersWork, IsAcceptedAs, IsOnImage, IsRead, IsRefusedSource, Translates, Wants, WantsRow, source_too_long, refused, read}
 use Rattle.stl2st.specs.Devices.{AreOf, Devices, Input, Output, ReadFailed}
 use Rattle.stl2st.specs.Promises.{Completes, FailedToRead, HasCause, IsAnswered, IsTranslated, Sends, Translated, Writes}
-use Rattle.stl2st.specs.declared.command.Command.{Command}
-use Rattle.stl2st.specs.declared.command.Command.TheVariants.{Translate}
+use Rattle.command_words.specs.declared.command.Command.{Command}
+use Rattle.command_words.specs.declared.command.Command.TheVariants.{Translate}
 use Rattle.stl2st.specs.declared.reply.Reply.{Reply as Made}
 use Rattle.stl2st.specs.declared.status.Status.{Status}
 use Rattle.stl2st.specs.declared.status.Status.TheVariants.{Done, Refused, Usage, BadImage, BadCall, Faulted, Going, ReadFault, WriteFault, TooLong, NoMemory}

@@ -14,7 +14,7 @@ use Rattle.stl2st.specs.Answer.{Reply, Row, row, stl, st, Work, alone, on_image,
 use Rattle.stl2st.specs.Devices.{Input}
 use Rattle.stl2st.specs.Inputs.{IsReadWhole, IsReadWithin, IsUntouched, ReadsFor, ReadsInputs, SaysRead, SaysTooLong, Stopped, source_failed, source_long, source_alone, image_failed, image_long, both}
 use Rattle.stl2st.specs.Promises.{FailedToRead}
-use Rattle.stl2st.specs.declared.command.Command.{Command}
+use Rattle.command_words.specs.declared.command.Command.{Command}
 use Rattle.stl2st.specs.declared.limits.TheConstants.{INPUT_LIMIT}
 use Rattle.stl2st.specs.declared.reply.Task.{Task}
 use Rattle.stl2st.specs.declared.status.Status.{Status}

@@ -23,8 +23,8 @@ use Rattle.st_tree.specs.Spelling.{spelling}
 use Rattle.st_tree.specs.StRun.{FitsSt, st_run}
 use Rattle.st_tree.specs.declared.program.StProgram.{StProgram}
 use Rattle.stl_translate.specs.Same.{Same}
-use Rattle.stl2st.specs.declared.command.Command.{Command}
-use Rattle.stl2st.specs.declared.command.Command.TheVariants.{Translate, Check, RunStl, RunSt}
+use Rattle.command_words.specs.declared.command.Command.{Command}
+use Rattle.command_words.specs.declared.command.Command.TheVariants.{Translate, Check, RunStl, RunSt}
 use Rattle.stl2st.specs.declared.limits.TheConstants.{INPUT_LIMIT, IMAGE_LIMIT}
 use Rattle.stl2st.specs.declared.status.Status.{Status}
 use Rattle.stl2st.specs.declared.status.Status.TheVariants.{Done, Refused, Usage, BadImage, BadCall, Faulted, Going, TooLong, NoMemory}

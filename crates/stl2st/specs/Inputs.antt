@@ -3,7 +3,7 @@ use Rattle.std.specs.Prelude.{◌≡◌, ◌≢◌, ℕ, ◌+◌, ◌⊎◌, Lis
 use Rattle.s7_io.specs.Source.{GaveAll, GaveExactly, GaveAtMost}
 use Rattle.stl2st.specs.Answer.{Wants}
 use Rattle.stl2st.specs.Devices.{Devices, Input, ReadFailed}
-use Rattle.stl2st.specs.declared.command.Command.{Command}
+use Rattle.command_words.specs.declared.command.Command.{Command}
 use Rattle.stl2st.specs.declared.limits.TheConstants.{INPUT_LIMIT, IMAGE_LIMIT}
 use Rattle.stl2st.specs.declared.status.Status.{Status}
 use Rattle.stl2st.specs.declared.status.Status.TheVariants.{ReadFault, WriteFault, TooLong, NoMemory}

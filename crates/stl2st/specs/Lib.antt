@@ -1,6 +1,4 @@
 pub mod Answer
-pub mod CallWord
-pub mod Command
 pub mod Devices
 pub mod Inputs
 pub mod Promises

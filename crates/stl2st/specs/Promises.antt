@@ -4,8 +4,8 @@ use Rattle.s7_io.specs.Sink.{Took, TookFewer}
 use Rattle.stl_tree.specs.declared.program.Program.{Program}
 use Rattle.stl2st.specs.Answer.{Reply, Answers, IsAcceptedAs, Translates, Wants}
 use Rattle.stl2st.specs.Devices.{AreOf, Devices, Input, Output, ReadFailed, WriteFailed}
-use Rattle.stl2st.specs.declared.command.Command.{Command}
-use Rattle.stl2st.specs.declared.command.Command.TheVariants.{Translate}
+use Rattle.command_words.specs.declared.command.Command.{Command}
+use Rattle.command_words.specs.declared.command.Command.TheVariants.{Translate}
 use Rattle.stl2st.specs.declared.status.Status.{Status}
 use Rattle.stl2st.specs.declared.status.Status.TheVariants.{Done, ReadFault, WriteFault, NoMemory}
 

@@ -3,7 +3,7 @@
 //! `writes` is the theorem: for `translate` it says that the written text means what the source means.
 //! What the other clauses say of the text, `translated` and `complete`, follows from it.
 ghost use Rattle.std.specs.Prelude.{◌≡◌, ◌⊎◌, ◌≤◌};
-ghost use Rattle.stl2st.specs.Command.{asked};
+ghost use Rattle.command_words.specs.Command.{asked};
 ghost use Rattle.stl2st.specs.Devices.{NoCountFell, WriteFailed, devices, output};
 ghost use Rattle.stl2st.specs.Inputs.{Reads};
 ghost use Rattle.stl2st.specs.Promises.{Completes, HasCause, Translated, Writes};

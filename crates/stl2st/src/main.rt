@@ -2,15 +2,15 @@
 //! source did, or names the first broken rule and its line. It runs both on memory images.
 //!
 //! `answer` has the call that `main` makes, with the promises of the program as its clauses. Below it
-//! `command` and `call` read the words, and `reply` makes the answer of a command. `stl_checks` judges a
+//! `command_words` reads the words, and `reply` makes the answer of a command. `stl_checks` judges a
 //! source text, `stl_translate` turns its program into a tree, which `st_printer` writes. `st_parser` and
 //! `st_runner` read and run Structured Text.
 #![tactic(auto)]
 
 use crate::answer::stl2st;
-use crate::command::image_name;
 use crate::image_file::ImageFile;
 use crate::status::Status;
+use command_words::image_name;
 use s7_io::{NoFile, StdSink, StdSource};
 use std::process::ExitCode;
 use std::{env, io};
@@ -18,8 +18,6 @@ use std::{env, io};
 #[cfg(test)]
 mod accumulator_tests;
 mod answer;
-mod call;
-mod command;
 #[cfg(test)]
 mod data_block_tests;
 mod image_file;

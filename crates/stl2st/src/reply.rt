@@ -9,17 +9,17 @@ ghost use Rattle.st_tree.specs.StRun.{FitsSt, st_run};
 ghost use Rattle.stl_tree.specs.Accepted.{IsAccepted};
 ghost use Rattle.stl_tree.specs.StlRun.{Fits, stl_run};
 ghost use Rattle.stl2st.specs.Answer.{Answers, AnswersRow, AnswersRunSt, AnswersRunStl, WantsRow, stl, st, image_line, image_reply, refusal_line, run_status};
-ghost use Rattle.stl2st.specs.Command.{asked};
+ghost use Rattle.command_words.specs.Command.{asked};
 ghost use Rattle.stl2st.specs.Devices.{input};
 ghost use Rattle.stl2st.specs.Inputs.{IsReadPast, IsReadWhole, IsReadWithin, ReadsFor, ReadsInputs, SaysRead, Stopped};
 ghost use Rattle.stl2st.specs.inner.Replies.{Answered, AnsweredCall, AnsweredTo, AnswersJob, AnswersTextJob, IsWritten, ReadsImage, ReadsWork, bytes_of_text, ending, reply_of, stop_status, task_of, text_work_of, work_of};
 
-use crate::command::{Command, WordsRefusal, read_words};
 use crate::limits::{IMAGE_LIMIT, INPUT_LIMIT};
 use crate::status::Status;
 use crate::text::{put, put_number};
+use command_words::{Command, WordsRefusal, read_words};
 use image_text::{ImageRefusal, image_text, read_image};
-use memory_areas::Memory;
+use memory_areas::{Call, Memory};
 use s7_base::{Line, NoMemory, Outcome, Reason, Rejection};
 use s7_io::{ReadRefusal, Source, read_all};
 use st_parser::parse;
@@ -30,7 +30,7 @@ use std::alloc::Global;
 use stl_checks::verdict;
 use stl_machine::{Machine, MachineRefusal};
 use stl_translate::translate;
-use stl_tree::{Call, Program};
+use stl_tree::Program;
 
 /// The line for arguments that are no command.
 pub const USAGE_LINE: &str =

@@ -3,17 +3,16 @@
 ghost use Rattle.std.specs.Prelude.{◌≤◌};
 
 use crate::answer::stl2st;
-use crate::command::{Command, WordsRefusal, image_name, read_words};
 use crate::limits::INPUT_LIMIT;
 use crate::reply::USAGE_LINE;
 use crate::status::Status;
-use memory_areas::{Area, Place};
+use command_words::{Command, WordsRefusal, image_name, read_words};
+use memory_areas::{Area, BlockName, Call, Place};
 use s7_base::{List, NoMemory, Width};
 use s7_io::{MemSink, MemSource, NoFile, Source, SureSource};
 use std::alloc::Global;
 use std::process::Abort;
 use std::test::Fail;
-use stl_tree::{BlockName, Call};
 
 const ROW: &[u8] =
     b"ORGANIZATION_BLOCK OB 1\nBEGIN\nA I 0.0; A I 0.1; = Q 4.0;\nEND_ORGANIZATION_BLOCK\n";

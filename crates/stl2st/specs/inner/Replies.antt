@@ -9,8 +9,8 @@ use Rattle.stl_tree.specs.declared.program.Program.{Program}
 use Rattle.stl2st.specs.Answer.{Reply, Row, row, stl, st, Work, alone, on_image, AnswersTranslate, AnswersCheck, AnswersRunSt, AnswersRunStl, AnswersWork, bad_call_line, run_reply}
 use Rattle.stl2st.specs.Devices.{AreOf, Input}
 use Rattle.stl2st.specs.Inputs.{IsReadPast, IsReadWhole, IsReadWithin, IsUntouched, SaysRead, SaysTooLong, Stopped}
-use Rattle.stl2st.specs.declared.command.Command.{Command}
-use Rattle.stl2st.specs.declared.command.Command.TheVariants as command
+use Rattle.command_words.specs.declared.command.Command.{Command}
+use Rattle.command_words.specs.declared.command.Command.TheVariants as command
 use Rattle.stl2st.specs.declared.limits.TheConstants.{IMAGE_LIMIT}
 use Rattle.stl2st.specs.declared.reply.Job.{Job}
 use Rattle.stl2st.specs.declared.reply.Job.TheVariants as job

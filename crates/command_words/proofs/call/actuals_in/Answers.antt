@@ -1,8 +1,8 @@
 use Rattle.std.proofs.Common.{rules, arith, ℕ, ◌≡◌, ◌<◌, Some, None, List, length, take, drop, sym}
 use Rattle.std.proofs.lemmas.Grind.{common_steps}
-use Rattle.stl2st.specs.CallWord.{pieces, actual_of, actuals_in}
-use Rattle.stl2st.proofs.CallPieces.{first_size, pieces_behind, before, at_no_actual, at_actual, at_last, at_comma}
-use Rattle.stl2st.proofs.call.actuals_in.Goals as goal
+use Rattle.command_words.specs.CallWord.{pieces, actual_of, actuals_in}
+use Rattle.command_words.proofs.CallPieces.{first_size, pieces_behind, before, at_no_actual, at_actual, at_last, at_comma}
+use Rattle.command_words.proofs.call.actuals_in.Goals as goal
 
 pub returns-in-None : goal.returns-in-None
 returns-in-None c =

@@ -8,9 +8,9 @@ use Rattle.s7_base.specs.declared.word.Width.{Width}
 use Rattle.s7_base.specs.declared.word.Width.TheVariants as width
 use Rattle.memory_areas.specs.declared.call.BlockName.TheVariants.{Ob, Fc, Fb}
 use Rattle.memory_areas.specs.declared.call.Call.{Call}
-use Rattle.stl2st.specs.CallWord.{call_meant}
-use Rattle.stl2st.specs.Command.{command_meant, run_with, steps_meant, image_meant}
-use Rattle.stl2st.specs.declared.command.Command.TheVariants.{Translate, Check, RunStl, RunSt}
+use Rattle.command_words.specs.CallWord.{call_meant}
+use Rattle.command_words.specs.Command.{command_meant, run_with, steps_meant, image_meant}
+use Rattle.command_words.specs.declared.command.Command.TheVariants.{Translate, Check, RunStl, RunSt}
 
 -- a call of a function
 calls : ℕ → List (Place × Width) → Option Call

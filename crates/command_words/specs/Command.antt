@@ -2,11 +2,11 @@
 use Rattle.std.specs.Prelude.{◌≡◌, ℕ, ◌-◌, ◌^◌, List, [], ◌∷◌, map, Option, Some, None, String, string_bytes, option_map, option_and_then, Result, Ok, Err, codes, if◌then◌else◌}
 use Rattle.std.specs.Str.{bytes_eq}
 use Rattle.memory_areas.specs.declared.call.Call.{Call}
-use Rattle.stl2st.specs.CallWord.{number_in, call_meant}
-use Rattle.stl2st.specs.declared.command.Command.{Command}
-use Rattle.stl2st.specs.declared.command.Command.TheVariants.{Translate, Check, RunStl, RunSt}
-use Rattle.stl2st.specs.declared.command.WordsRefusal.{WordsRefusal}
-use Rattle.stl2st.specs.declared.command.WordsRefusal.TheVariants.{Usage, NoMemory}
+use Rattle.command_words.specs.CallWord.{number_in, call_meant}
+use Rattle.command_words.specs.declared.command.Command.{Command}
+use Rattle.command_words.specs.declared.command.Command.TheVariants.{Translate, Check, RunStl, RunSt}
+use Rattle.command_words.specs.declared.command.WordsRefusal.{WordsRefusal}
+use Rattle.command_words.specs.declared.command.WordsRefusal.TheVariants.{Usage, NoMemory}
 
 -- how many steps or units a run may take: one to twenty digits, below 2^64
 abbrev pub steps_meant : List ℕ → Option ℕ

@@ -1,11 +1,11 @@
 //! The arguments of the program.
 ghost use Rattle.std.specs.Prelude.{◌≡◌, ◌-◌, map, option_map, string_bytes, IfOk};
-ghost use Rattle.stl2st.specs.Command.{command_meant, run_meant, run_with, word_meant, steps_meant, image_meant, Means};
+ghost use Rattle.command_words.specs.Command.{command_meant, run_meant, run_with, word_meant, steps_meant, image_meant, Means};
 
 use crate::call::{call_meant, number_in};
+use memory_areas::Call;
 use s7_base::NoMemory;
 use std::alloc::Global;
-use stl_tree::Call;
 use thiserror::Error;
 
 /// What the arguments ask for.
@@ -36,7 +36,7 @@ pub enum WordsRefusal {
 
 impl From<NoMemory> for WordsRefusal {
     ghost use Rattle.std.specs.Prelude.{◌≡◌};
-    ghost use Rattle.stl2st.specs.declared.command.WordsRefusal.TheVariants as refusal;
+    ghost use Rattle.command_words.specs.declared.command.WordsRefusal.TheVariants as refusal;
 
     ghost from_gives = { λ _ made. made ≡ refusal.NoMemory };
 

@@ -5,7 +5,7 @@ use Rattle.std.specs.List.{prefix_len}
 use Rattle.std.proofs.lemmas.List.{append_assoc, append-nil}
 use Rattle.memory_areas.specs.declared.place.Place.{Place}
 use Rattle.s7_base.specs.declared.word.Width.{Width}
-use Rattle.stl2st.specs.CallWord.{with_byte, pieces, actual_of, actuals_in}
+use Rattle.command_words.specs.CallWord.{with_byte, pieces, actual_of, actuals_in}
 
 -- Pieces
 

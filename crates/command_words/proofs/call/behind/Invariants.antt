@@ -1,6 +1,6 @@
 use Rattle.std.proofs.Common.{◌≡◌, drop}
-use Rattle.stl2st.specs.CallWord.{behind}
-use Rattle.stl2st.proofs.call.behind.Given as goal
+use Rattle.command_words.specs.CallWord.{behind}
+use Rattle.command_words.proofs.call.behind.Given as goal
 
 -- what stands after the letters that are left, in the rest, stands after all of them
 abbrev pub invariant-loop-letter : goal.invariant-loop-letter

@@ -1,7 +1,7 @@
 use Rattle.std.proofs.Common.{◌≡◌, length}
-use Rattle.stl2st.specs.CallWord.{pieces, actuals_in}
-use Rattle.stl2st.proofs.CallPieces.{before}
-use Rattle.stl2st.proofs.call.actuals_in.Given as goal
+use Rattle.command_words.specs.CallWord.{pieces, actuals_in}
+use Rattle.command_words.proofs.CallPieces.{before}
+use Rattle.command_words.proofs.call.actuals_in.Given as goal
 
 -- the actuals so far, before those of the rest, are those of the whole text
 abbrev pub invariant-loop-actual : goal.invariant-loop-actual
