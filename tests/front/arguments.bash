@@ -1,7 +1,7 @@
 # shellcheck shell=bash
 # What is answered from the arguments alone, before any build.
 make_checkout
-usage=$(grep -rhoE 'usage: stl2st [^"\]*' "$top/crates/stl2st/src" | sort -u)
+usage=$(grep -rhoE 'usage: stl2st [^"\]*' "$top/crates/command_answers/src" | sort -u)
 
 for word in help --help -h; do
     front "$word"

@@ -1,40 +1,19 @@
 //! `stl2st` reads Statement List for the S7-300 and writes Structured Text that does exactly what the
 //! source did, or names the first broken rule and its line. It runs both on memory images.
 //!
-//! `answer` has the call that `main` makes, with the promises of the program as its clauses. Below it
-//! `command` and `call` read the words, and `reply` makes the answer of a command. `stl_checks` judges a
-//! source text, `stl_translate` turns its program into a tree, which `st_printer` writes. `st_parser` and
-//! `st_runner` read and run Structured Text.
+//! The call that it makes, `stl2st` of `command_answers`, has the promises of the program as its clauses. Here
+//! arguments and streams are handed to it, with the image that `image_name` of `command_words` finds, and the
+//! number of its status is that of the process. Rows on the call stand in `program_rows`.
 #![tactic(auto)]
 
-use crate::answer::stl2st;
-use crate::command::image_name;
 use crate::image_file::ImageFile;
-use crate::status::Status;
+use command_answers::{Status, stl2st};
+use command_words::image_name;
 use s7_io::{NoFile, StdSink, StdSource};
 use std::process::ExitCode;
 use std::{env, io};
 
-#[cfg(test)]
-mod accumulator_tests;
-mod answer;
-mod call;
-mod command;
-#[cfg(test)]
-mod data_block_tests;
 mod image_file;
-mod limits;
-#[cfg(test)]
-mod logic_tests;
-#[cfg(test)]
-mod pointer_tests;
-mod reply;
-mod status;
-#[cfg(test)]
-mod tests;
-mod text;
-#[cfg(test)]
-mod text_tests;
 
 /// The words behind the program's name.
 fn arguments(rt: &HostRuntime) -> io::Result<Vec<String>> {

@@ -1,0 +1,205 @@
+-- What the program answers: its exit status and the text that it writes.
+use Rattle.std.specs.Prelude.{◌≡◌, ℕ, ◌<◌, ◌≤◌, List, [], ◌++◌, length, Option, Some, None, Ok, Err, codes, decimal}
+use Rattle.image_text.specs.Image.{image_of}
+use Rattle.image_text.specs.Report.{report}
+use Rattle.image_text.specs.declared.refusal.ImageRefusal.{ImageRefusal}
+use Rattle.image_text.specs.declared.refusal.ImageRefusal.TheVariants as image
+use Rattle.memory_areas.specs.Areas.{Areas, Contents}
+use Rattle.memory_areas.specs.End.{End, Ended, Going as Unended}
+use Rattle.memory_areas.specs.declared.data_block.DataBlock.{DataBlock}
+use Rattle.s7_base.specs.Reason.{reason_text}
+use Rattle.s7_base.specs.declared.outcome.Outcome.{Outcome}
+use Rattle.s7_base.specs.declared.outcome.Outcome.TheVariants as outcome
+use Rattle.s7_base.specs.declared.reason.Line.{Line}
+use Rattle.s7_base.specs.declared.reason.Reason.{Reason}
+use Rattle.s7_base.specs.declared.reason.Rejection.TheVariants as rejection
+use Rattle.stl_tree.specs.StlRun.{Fits, stl_run}
+use Rattle.stl_rules.specs.Verdict.{verdict}
+use Rattle.memory_areas.specs.declared.call.Call.{Call}
+use Rattle.stl_tree.specs.declared.program.Program.{Program}
+use Rattle.st_parser.specs.Texts.{IsTextOf, IsRefusedText}
+use Rattle.st_tree.specs.Proper.{Proper}
+use Rattle.st_tree.specs.Spelling.{spelling}
+use Rattle.st_tree.specs.StRun.{FitsSt, st_run}
+use Rattle.st_tree.specs.declared.program.StProgram.{StProgram}
+use Rattle.stl_translate.specs.Same.{Same}
+use Rattle.command_words.specs.declared.command.Command.{Command}
+use Rattle.command_words.specs.declared.command.Command.TheVariants.{Translate, Check, RunStl, RunSt}
+use Rattle.command_answers.specs.declared.limits.TheConstants.{INPUT_LIMIT, IMAGE_LIMIT}
+use Rattle.command_answers.specs.declared.status.Status.{Status}
+use Rattle.command_answers.specs.declared.status.Status.TheVariants.{Done, Refused, Usage, BadImage, BadCall, Faulted, Going, TooLong, NoMemory}
+
+-- Lines
+
+-- the line for arguments that are no command
+abbrev pub usage_line : List ℕ
+usage_line = codes "usage: stl2st translate | check | run-stl STEPS CALL IMAGE | run-st UNITS CALL IMAGE | demo N\n"
+
+-- the line that an input above its limit gets
+abbrev pub too_long_line : List ℕ
+too_long_line = codes "too long\n"
+
+-- the line that a source without a broken rule gets
+abbrev pub accepted_line : List ℕ
+accepted_line = codes "accepted\n"
+
+-- the line that a call which does not fit gets
+abbrev pub bad_call_line : List ℕ
+bad_call_line = codes "bad call\n"
+
+-- the line that names a broken rule
+abbrev pub refusal_line : Line → Reason → List ℕ
+refusal_line line reason = codes "line " ++ decimal line.0 ++ codes ": " ++ reason_text reason ++ codes "\n"
+
+-- the line that names a faulty line of an image
+abbrev pub image_line : Line → List ℕ → List ℕ
+image_line line name = codes "image line " ++ decimal line.0 ++ codes ": " ++ name ++ codes "\n"
+
+-- Replies
+
+-- a status and the text that goes with it
+abbrev pub Reply : Type 0
+Reply = Status × List ℕ
+
+-- an image that is refused
+abbrev pub image_reply : ImageRefusal → Reply
+image_reply (image.BadLine line) = (BadImage, image_line line (codes "BadLine"))
+image_reply (image.BadByte line) = (BadImage, image_line line (codes "BadByte"))
+image_reply (image.OutsideArea line) = (BadImage, image_line line (codes "OutsideArea"))
+image_reply image.NoMemory = (NoMemory, [])
+
+-- the status of a run
+abbrev pub run_status : Outcome → Status
+run_status (outcome.Ended None) = Done
+run_status (outcome.Ended (Some f)) = Faulted
+run_status outcome.Going = Going
+
+-- a run within its bound: its report; one that goes on shows no memory, so the one at its start will do
+abbrev pub run_reply : Areas → End → Reply
+run_reply start (Ended areas f) = (run_status (outcome.Ended f), report (outcome.Ended f) areas)
+run_reply start Unended = (run_status outcome.Going, report outcome.Going start)
+
+-- Sources
+
+-- an STL source is accepted as a program
+abbrev pub IsAcceptedAs : List ℕ → Program → Type 0
+IsAcceptedAs source program = verdict source ≡ Ok program
+
+-- an STL source is refused on a line for a reason
+abbrev pub IsRefusedSource : List ℕ → Line → Reason → Type 0
+IsRefusedSource source line reason = verdict source ≡ Err (rejection.Refused line reason)
+
+-- what is answered to a source of a language, where `Is` says what it is read as, `Breaks` its first broken
+-- rule, and `To` what is answered to what was read
+pub data AnswersSource {X : Type 0} (Is : List ℕ → X → Type 0) (Breaks : List ℕ → Line → Reason → Type 0)
+    (To : X → Reply → Type 0) (source : List ℕ) : Reply → Type 0 where
+  source_too_long : INPUT_LIMIT < length source → AnswersSource Is Breaks To source (TooLong, too_long_line)
+  refused : {line : Line} {reason : Reason} → length source ≤ INPUT_LIMIT → Breaks source line reason
+      → AnswersSource Is Breaks To source (Refused, refusal_line line reason)
+  read : {x : X} {reply : Reply} → length source ≤ INPUT_LIMIT → Is source x → To x reply
+      → AnswersSource Is Breaks To source reply
+
+-- what is answered to an STL source, by what is answered to its program
+abbrev pub AnswersStl : (Program → Reply → Type 0) → List ℕ → Reply → Type 0
+AnswersStl To source reply = AnswersSource IsAcceptedAs IsRefusedSource To source reply
+
+-- what is answered to a Structured Text, by what is answered to its tree
+abbrev pub AnswersSt : (StProgram → Reply → Type 0) → List ℕ → Reply → Type 0
+AnswersSt To source reply = AnswersSource IsTextOf IsRefusedText To source reply
+
+-- Programs and trees
+
+-- the text means what the program means: it is the canonical spelling of a proper tree, which it reads back
+-- as, and which means the same as the program
+pub record Translates (program : Program) (text : List ℕ) : Type 0 where
+  pub tree : StProgram
+  pub proper : Proper tree
+  pub spelled : text ≡ spelling tree
+  pub reads_back : IsTextOf text tree
+  pub same : Same program tree
+
+-- what `translate` answers to a program: some text that means what the program means
+abbrev pub AnswersTranslate : Program → Reply → Type 0
+AnswersTranslate program reply = (reply.0 ≡ Done) × Translates program reply.1
+
+-- what `check` answers to a program
+abbrev pub AnswersCheck : Program → Reply → Type 0
+AnswersCheck program reply = reply ≡ (Done, accepted_line)
+
+-- what a run answers to the text of an image: the image begins with these data blocks, the call fits or it
+-- does not, and from a memory the run ends so
+pub data AnswersRun (blocks : List DataBlock) (Fits : Type 0) (run : Areas → End) (image : List ℕ)
+    : Reply → Type 0 where
+  image_too_long : IMAGE_LIMIT < length image → AnswersRun blocks Fits run image (TooLong, too_long_line)
+  bad_image : {refused : ImageRefusal} → length image ≤ IMAGE_LIMIT → image_of image blocks ≡ Err refused
+      → AnswersRun blocks Fits run image (image_reply refused)
+  bad_call : {memory : Contents} → length image ≤ IMAGE_LIMIT → image_of image blocks ≡ Ok memory → ¬ Fits
+      → AnswersRun blocks Fits run image (BadCall, bad_call_line)
+  ran : {memory : Contents} → length image ≤ IMAGE_LIMIT → image_of image blocks ≡ Ok memory → Fits
+      → AnswersRun blocks Fits run image (run_reply memory.areas (run memory.areas))
+
+-- what `run-stl` answers to a program
+abbrev pub AnswersRunStl : ℕ → Call → List ℕ → Program → Reply → Type 0
+AnswersRunStl steps call image program reply =
+    AnswersRun program.dbs (Fits program call) (λ memory. stl_run program call memory steps) image reply
+
+-- what `run-st` answers to a tree
+abbrev pub AnswersRunSt : ℕ → Call → List ℕ → StProgram → Reply → Type 0
+AnswersRunSt units call image tree reply =
+    AnswersRun tree.dbs (FitsSt tree call) (λ memory. st_run tree call memory units) image reply
+
+-- Commands
+
+-- what is answered to what a source is read as: to it alone, or to it and the bytes of an image
+pub data Work (X : Type 0) : Type 1 where
+  alone : (X → Reply → Type 0) → Work X
+  on_image : (List ℕ → X → Reply → Type 0) → Work X
+
+-- the language of a source, STL or Structured Text, and what is answered to what it is read as
+pub data Row : Type 1 where
+  stl : Work Program → Row
+  st : Work StProgram → Row
+
+-- THE COMMANDS: what each reads, and what it answers to what it read
+abbrev pub row : Command → Row
+row Translate = stl (alone AnswersTranslate)
+row Check = stl (alone AnswersCheck)
+row (RunStl steps call) = stl (on_image (AnswersRunStl steps call))
+row (RunSt units call) = st (on_image (AnswersRunSt units call))
+
+-- what is answered to what was read
+abbrev pub AnswersWork : {X : Type 0} → Work X → List ℕ → X → Reply → Type 0
+AnswersWork (alone To) image x reply = To x reply
+AnswersWork (on_image To) image x reply = To image x reply
+
+-- what is answered to a source, in the language of the row
+abbrev pub AnswersRow : Row → List ℕ → List ℕ → Reply → Type 0
+AnswersRow (stl work) source image reply = AnswersStl (AnswersWork work image) source reply
+AnswersRow (st work) source image reply = AnswersSt (AnswersWork work image) source reply
+
+-- the status and the text to write are an answer to a command, the bytes of the source and those of the
+-- image
+abbrev pub Answers : Option Command → List ℕ → List ℕ → Reply → Type 0
+Answers None source image reply = reply ≡ (Usage, usage_line)
+Answers (Some command) source image reply = AnswersRow (row command) source image reply
+
+-- a source of a language is within the limit and read
+pub record IsRead {X : Type 0} (Is : List ℕ → X → Type 0) (source : List ℕ) : Type 0 where
+  pub within : length source ≤ INPUT_LIMIT
+  pub it : X
+  pub is : Is source it
+
+-- an image is needed
+abbrev pub IsOnImage : {X : Type 0} → Work X → Type 0
+IsOnImage (alone To) = ⊥
+IsOnImage (on_image To) = Unit {0}
+
+-- the image is wanted in a row: one is needed, and the source is within the limit and accepted or read
+abbrev pub WantsRow : Row → List ℕ → Type 0
+WantsRow (stl work) source = IsOnImage work × IsRead IsAcceptedAs source
+WantsRow (st work) source = IsOnImage work × IsRead IsTextOf source
+
+-- the image is wanted: the command has one, and its source is within the limit and accepted or read
+abbrev pub Wants : Option Command → List ℕ → Type 0
+Wants None source = ⊥
+Wants (Some command) source = WantsRow (row command) source

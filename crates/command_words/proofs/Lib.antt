@@ -1,0 +1,2 @@
+pub mod CallPieces
+mod CallRows

@@ -1,0 +1,2 @@
+pub mod CallWord
+pub mod Command

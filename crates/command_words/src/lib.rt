@@ -1,0 +1,11 @@
+//! What the arguments of the program mean: its command, and which of them names the image.
+//!
+//! Stands on `memory_areas` for the call that a run begins with, and on `stl_statements` for decimal numbers.
+//! `specs/Command.antt` says what arguments mean, `specs/CallWord.antt` what the argument CALL does; both
+//! calls give exactly that, or run out of memory.
+#![tactic(auto)]
+
+pub use command::{Command, WordsRefusal, image_name, read_words};
+
+mod call;
+mod command;

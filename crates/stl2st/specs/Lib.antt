@@ -1,8 +1,0 @@
-pub mod Answer
-pub mod CallWord
-pub mod Command
-pub mod Devices
-pub mod Inputs
-pub mod Promises
-pub mod Status
-pub mod inner
