@@ -6,11 +6,11 @@ use Rattle.memory_areas.specs.declared.place.Area.TheVariants as place
 use Rattle.memory_areas.specs.declared.place.AreaName.TheVariants as area
 use Rattle.s7_base.specs.declared.register.Reg.TheVariants as reg
 use Rattle.s7_base.specs.declared.word.Width.TheVariants as width
-use Rattle.st_canonical.specs.Canonical.{ArmFromLine, CaseFromLine, FromLine, arm_from, arm_step, case_from, case_step, items_form, labels_form, on, source_of, statement_from, statement_step}
+use Rattle.st_canonical.specs.Canonical.{ArmFromLine, CaseFromLine, FromLine, arm_from, arm_step, case_from, case_step, on, source_of, statement_from, statement_step}
 use Rattle.st_grammar.specs.Forms.{variable, no_actual, actual, label, more_labels, invoke, choice_else, cases_else, loop, jump, none, further, no_arm, arm, no_case, case_arm, no_item, single, times, plain, bytes, no_global, global, no_local, local, absent, present, no_unit, unit, Source}
-use Rattle.st_grammar.specs.Grammar.{SourceFits, spell_items, spell_labels}
+use Rattle.st_grammar.specs.Grammar.{SourceFits}
 use Rattle.st_grammar.specs.Kinds.{word_named, word_text}
-use Rattle.st_canonical.specs.Spelled.{AreSpelled, SourceSpelled, is_function}
+use Rattle.st_canonical.specs.Spelled.{SourceSpelled, is_function}
 use Rattle.st_grammar.specs.declared.kind.Jump.TheVariants as jump_word
 use Rattle.st_grammar.specs.declared.kind.Literal.TheVariants as lit
 use Rattle.st_grammar.specs.declared.kind.OneOperand.TheVariants as one
@@ -148,12 +148,6 @@ text_spelled : SourceSpelled written
 unfolding word_named word_text
 text_spelled = search
 
--- a conversion that there is not, an arm without labels and a data block without bytes are of no text
+-- a conversion that there is not is of no text
 no_conversion : is_function (one.Convert type.Int type.Bool) ≡ false
 no_conversion = refl
-
-no_labels : AreSpelled (spell_labels (labels_form type.Int []) []) → ⊥
-no_labels h = absurd (let none = h.0 in cc)
-
-no_bytes : AreSpelled (spell_items (items_form []) []) → ⊥
-no_bytes h = absurd (let none = h.0 in cc)

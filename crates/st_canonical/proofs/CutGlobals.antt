@@ -23,7 +23,7 @@ use Rattle.st_grammar.specs.declared.kind.Fixed.TheVariants as fixed
 use Rattle.st_grammar.specs.declared.kind.Kind.{Kind}
 use Rattle.st_grammar.specs.declared.kind.Kind.TheVariants as kind
 use Rattle.st_grammar.specs.declared.kind.Literal.TheVariants as lit
-use Rattle.st_tree.specs.Spelling.{block_text, byte_text, global_text, globals_text, line as line_text, list_behind, list_text, place_text, place_word, run_text}
+use Rattle.st_tree.specs.Spelling.{block_text, byte_text, global_text, globals_text, initial_text, line as line_text, list_behind, place_text, place_word, run_text}
 use Rattle.st_tree.specs.Values.{width_at}
 use Rattle.st_tree.specs.Words.{area_word, type_word}
 use Rattle.st_tree.specs.declared.expr.StType.TheVariants as type
@@ -99,14 +99,19 @@ reads_items (next ∷ rest) others count b more line ks ends r =
           same = d.same ∙ ap (spell_items (run_behind others count b)) (sym (run_comma others count b new.inner)) ∙ new.same;
         }
 
--- bytes in their square brackets
-reads_list : (bs : List ℕ) (more : List ℕ) (line : ℕ) (ks : List Kind) → ReadsOn line more ks
-    → ReadsOn line (codes ":= [" ++ (list_text bs ++ 93 ∷ more)) (spell_initial (items_form bs) ks)
-reads_list [] more line ks r =
-    record { read = λ s. absurd (let none = s.1.1.0 in cc) }
-reads_list (b ∷ rest) more line ks r =
+-- the initial value, where there is one
+reads_initial : (bs : List ℕ) (more : List ℕ) (line : ℕ) (ks : List Kind) → ReadsOn line more ks
+    → ReadsOn line (initial_text bs ++ more) (spell_initial (items_form bs) ks)
+reads_initial [] more line ks r = r
+reads_initial (b ∷ rest) more line ks r =
     let c = reads_items rest no_item 1 b (93 ∷ more) line (kind.Fixed fixed.CloseSquare ∷ ks) refl (reads_close_square r) in
-    reads_kinds (sym (items_initial rest no_item 1 b ks)) (reads_becomes (reads_blank (reads_open_square (reads_kinds c.same c.reads))))
+    reads_kinds (sym (items_initial rest no_item 1 b ks))
+    (reads_as (two (codes " := [") (list_behind 1 b rest) (codes "]") more)
+    (reads_blank (reads_becomes (reads_blank (reads_open_square (reads_kinds c.same c.reads))))))
+
+initial_ends : (bs more : List ℕ) → ends_word (initial_text bs ++ 59 ∷ more) ≡ true
+initial_ends [] more = refl
+initial_ends (b ∷ rest) more = refl
 
 -- Data blocks
 
@@ -133,12 +138,12 @@ unfolding block_text
 reads_block block more line ks r =
     let number : List ℕ = decimal block.number in
     let last : List ℕ = decimal (length block.bytes - 1) in
-    let list : List ℕ = list_text block.bytes in
-    let f : List ℕ = codes "] OF BYTE := [" ++ (list ++ (codes "];" ++ 10 ∷ more)) in
+    let initial : List ℕ = initial_text block.bytes in
+    let f : List ℕ = codes "] OF BYTE" ++ (initial ++ (codes ";" ++ 10 ∷ more)) in
     let e : List ℕ = last ++ f in
     let array : List ℕ = codes " : ARRAY[0.." ++ e in
-    reads_line 1 (codes "DB" ++ number ++ codes " AT %DB" ++ number ++ codes ".DBB0 : ARRAY[0.." ++ last ++ codes "] OF BYTE := [" ++ list ++ codes "];") more
-    (reads_as (eight (block_name block.number) (codes " AT %DB") number (codes ".DBB0 : ARRAY[0..") last (codes "] OF BYTE := [") list (codes "];") (10 ∷ more))
+    reads_line 1 (codes "DB" ++ number ++ codes " AT %DB" ++ number ++ codes ".DBB0 : ARRAY[0.." ++ last ++ codes "] OF BYTE" ++ initial ++ codes ";") more
+    (reads_as (eight (block_name block.number) (codes " AT %DB") number (codes ".DBB0 : ARRAY[0..") last (codes "] OF BYTE") initial (codes ";") (10 ∷ more))
     (reads_name (block_name block.number) (codes " AT %DB" ++ (number ++ (codes ".DBB0" ++ array))) line _ refl
     (reads_blank (reads_fixed fixed.At (32 ∷ (codes "%DB" ++ (number ++ (codes ".DBB0" ++ array)))) line _ refl refl
     (reads_blank (reads_as (block_place block.number array)
@@ -150,12 +155,11 @@ reads_block block more line ks r =
     (reads_dots
     (reads_decimal (length block.bytes - 1) f line _ refl
     (reads_close_square (reads_blank
-    (reads_fixed fixed.Of (codes " BYTE := [" ++ (list ++ (codes "];" ++ 10 ∷ more))) line _ refl refl
+    (reads_fixed fixed.Of (codes " BYTE" ++ (initial ++ (codes ";" ++ 10 ∷ more))) line _ refl refl
     (reads_blank
-    (reads_fixed (fixed.Type type.Byte) (codes " := [" ++ (list ++ (codes "];" ++ 10 ∷ more))) line _ refl refl
-    (reads_blank
-    (reads_list block.bytes (59 ∷ 10 ∷ more) line (kind.Fixed fixed.Semicolon ∷ ks)
-    (reads_semicolon (reads_line_end r)))))))))))))))))))))))))
+    (reads_fixed (fixed.Type type.Byte) (initial ++ (codes ";" ++ 10 ∷ more)) line _ refl (initial_ends block.bytes (10 ∷ more))
+    (reads_initial block.bytes (59 ∷ 10 ∷ more) line (kind.Fixed fixed.Semicolon ∷ ks)
+    (reads_semicolon (reads_line_end r))))))))))))))))))))))))
 
 -- a data block and what stands after it
 abbrev with_block : Globals → ℕ → DataBlock → Globals

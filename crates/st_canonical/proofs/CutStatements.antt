@@ -9,8 +9,8 @@ use Rattle.st_lexer.specs.Spelled.{ends_word}
 use Rattle.st_canonical.proofs.CutExpressions.{five, opens, reads_expr, three, two}
 use Rattle.st_canonical.proofs.CutLiterals.{reads_literal, reads_var}
 use Rattle.st_canonical.proofs.CutWords.{reads_becomes, reads_close, reads_comma, reads_fixed, reads_last_colon, reads_lead, reads_name, reads_open, reads_semicolon}
-use Rattle.st_canonical.proofs.Cuts.{ReadsOn, begins_with_times, where_spelled, reads_as, reads_blank, reads_line, reads_line_end}
-use Rattle.st_canonical.specs.Canonical.{ArmFromLine, CaseFromLine, FromLine, Placed, actuals_from, all_from, arms_from, arm_from, body_from, case_from, cases_from, choice_from, expr_form, labels_behind, labels_form, literal_form, on, raw_var, statement_from}
+use Rattle.st_canonical.proofs.Cuts.{ReadsOn, begins_with_times, reads_as, reads_blank, reads_line, reads_line_end}
+use Rattle.st_canonical.specs.Canonical.{ArmFromLine, CaseFromLine, FromLine, Placed, actuals_from, all_from, arms_from, arm_from, body_from, case_from, cases_from, choice_from, expr_form, labelled, labels_behind, labels_form, literal_form, on, raw_var, statement_from}
 use Rattle.st_canonical.specs.Canonical as canonical
 use Rattle.st_grammar.specs.Forms.{Actuals, no_actual, actual, Arms, no_arm, arm, CaseArms, no_case, case_arm, Labels, label, more_labels, Statement, assign, write, invoke, jump, Statements, none, further}
 use Rattle.st_grammar.specs.Grammar.{HasArm, arm_word, comma_behind, spell, spell_actuals, spell_all, spell_arms, spell_cases, spell_labels, spell_one}
@@ -22,7 +22,7 @@ use Rattle.st_grammar.specs.declared.kind.Jump.TheVariants as jump_word
 use Rattle.st_grammar.specs.declared.kind.Kind.{Kind}
 use Rattle.st_grammar.specs.declared.kind.Kind.TheVariants as kind
 use Rattle.st_grammar.specs.declared.kind.Lead.TheVariants as lead
-use Rattle.st_tree.specs.Spelling.{ArmText, CaseText, Text, actuals_text, arm_text, arms_text, body_text, call_text, case_text, else_text, expr_text, formals_of, label_text, labels_text, line as line_text, listed, literal_text, statement_text, texts_at, unit_name, var_text}
+use Rattle.st_tree.specs.Spelling.{ArmText, CaseText, Text, actuals_text, arm_text, arms_text, body_text, call_text, case_text, else_text, expr_text, formals_of, label_text, labelled_text, labels_text, line as line_text, listed, literal_text, statement_text, texts_at, unit_name, var_text}
 use Rattle.st_tree.specs.Spelling as spelling
 use Rattle.st_tree.specs.Typing.{Names, type_of}
 use Rattle.st_tree.specs.Words.{width_word}
@@ -70,10 +70,9 @@ reads_more_labels ty others (n ∷ ns) more line ks ends r =
       same = b.same;
     }
 
-reads_labels : (ty : StType) (ns : List ℤ) (more : List ℕ) (line : ℕ) (ks : List Kind) → ends_word more ≡ true → ReadsOn line more ks
-    → ReadsOn line (labels_text ty ns ++ more) (spell_labels (labels_form ty ns) ks)
-reads_labels ty [] more line ks ends r = where_spelled (λ h. absurd cc)
-reads_labels ty (n ∷ ns) more line ks ends r =
+reads_labels : (ty : StType) (n : ℤ) (ns : List ℤ) (more : List ℕ) (line : ℕ) (ks : List Kind) → ends_word more ≡ true → ReadsOn line more ks
+    → ReadsOn line (labels_text ty n ns ++ more) (spell_labels (labels_form ty n ns) ks)
+reads_labels ty n ns more line ks ends r =
     let b = reads_more_labels ty (label (literal_form ty n)) ns more line ks ends r in
     reads_kinds b.same
     (reads_as (append_assoc (literal_text ty n) (flat_map (label_text ty) ns) more)
@@ -454,17 +453,18 @@ module _ (names : Names) where
   bare_case y = map-CaseArm AStmt AnArm ACase Stmt Arm CaseArm (λ e. e.0) (λ e. e.0) (λ e. e.0) y
 
   reads_case_arm : (labels : List ℤ) (body : List AStmt)
-      → ReadsCase (λ ty level. line_text (level + 1) (labels_text ty labels ++ codes ":") ++ texts_at (level + 2) (texts body))
-      (λ ty others line. (case_arm others (labels_form ty labels) (body_from (line_after line) (froms body)).0, (body_from (line_after line) (froms body)).1))
-  reads_case_arm labels body = record {
+      → ReadsCase (λ ty level. labelled_text ty level labels (texts_at (level + 2) (texts body)))
+      (λ ty others line. labelled ty others line labels (froms body))
+  reads_case_arm [] body = record { reads = λ ty level line others more ks r. record { inner = ks; reads = r; same = refl } }
+  reads_case_arm (n ∷ ns) body = record {
     reads = λ ty level line others more ks r.
         let inner : List ℕ = texts_at (level + 2) (texts body) in
         record {
-          inner = spell_labels (labels_form ty labels) (kind.Fixed fixed.Colon ∷ spell_all (body_from (line_after line) (froms body)).0 ks);
-          reads = reads_as (append_assoc (line_text (level + 1) (labels_text ty labels ++ codes ":")) inner more)
-              (reads_line (level + 1) (labels_text ty labels ++ codes ":") (inner ++ more)
-              (reads_as (append_assoc (labels_text ty labels) (codes ":") (10 ∷ (inner ++ more)))
-              (reads_labels ty labels (58 ∷ 10 ∷ (inner ++ more)) line _ refl
+          inner = spell_labels (labels_form ty n ns) (kind.Fixed fixed.Colon ∷ spell_all (body_from (line_after line) (froms body)).0 ks);
+          reads = reads_as (append_assoc (line_text (level + 1) (labels_text ty n ns ++ codes ":")) inner more)
+              (reads_line (level + 1) (labels_text ty n ns ++ codes ":") (inner ++ more)
+              (reads_as (append_assoc (labels_text ty n ns) (codes ":") (10 ∷ (inner ++ more)))
+              (reads_labels ty n ns (58 ∷ 10 ∷ (inner ++ more)) line _ refl
               (reads_last_colon (reads_line_end (reads_all body (level + 2) (line_after line) more ks r))))));
           same = refl;
         };
@@ -475,7 +475,7 @@ module _ (names : Names) where
       subst (λ z. PCase (roll-CaseArm z)) e
       (subst (λ (t : CaseText). ReadsCase t (case_from names (roll-CaseArm (bare_case y))))
       (sym (fold-roll-CaseArm Text ArmText CaseText (spelling.statement_step names) (spelling.arm_step names) spelling.case_step (bare_case y)))
-      (subst (λ (f : CaseFromLine). ReadsCase (λ ty level. line_text (level + 1) (labels_text ty y.labels ++ codes ":") ++ texts_at (level + 2) (texts y.body)) f)
+      (subst (λ (f : CaseFromLine). ReadsCase (λ ty level. labelled_text ty level y.labels (texts_at (level + 2) (texts y.body))) f)
       (sym (fold-roll-CaseArm FromLine ArmFromLine CaseFromLine (canonical.statement_step names) (canonical.arm_step names) canonical.case_step (bare_case y)))
       (reads_case_arm y.labels y.body)))
 

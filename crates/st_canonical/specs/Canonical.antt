@@ -152,20 +152,25 @@ abbrev pub labels_behind : StType → Labels → List ℤ → Labels
 labels_behind ty others [] = others
 labels_behind ty others (n ∷ ns) = labels_behind ty (more_labels others (literal_form ty n)) ns
 
--- the labels of an arm; an arm has one, and none are written as one that no token has
-abbrev pub labels_form : StType → List ℤ → Labels
-labels_form ty [] = label (lit.Byte 256)
-labels_form ty (n ∷ ns) = labels_behind ty (label (literal_form ty n)) ns
+-- the labels of an arm
+abbrev pub labels_form : StType → ℤ → List ℤ → Labels
+labels_form ty n ns = labels_behind ty (label (literal_form ty n)) ns
+
+-- an arm of a CASE after others: its labels on one line, its statements from the next on; one without labels is
+-- not written
+abbrev pub labelled : StType → CaseArms → ℕ → List ℤ → List FromLine → Placed CaseArms
+labelled ty others line [] body = (others, line)
+labelled ty others line (n ∷ ns) body =
+    let inner = body_from (line_after line) body in (case_arm others (labels_form ty n ns) inner.0, inner.1)
 
 -- an arm of an IF: its test on one line, its statements from the next on
 abbrev pub arm_step : Names → Arm-F FromLine ArmFromLine CaseFromLine → ArmFromLine
 arm_step names a others line =
     let body = body_from (line_after line) a.body in (arm others (expr_form names line a.test) body.0, body.1)
 
--- an arm of a CASE: its labels on one line, its statements from the next on
+-- an arm of a CASE from a line on
 abbrev pub case_step : CaseArm-F FromLine ArmFromLine CaseFromLine → CaseFromLine
-case_step a ty others line =
-    let body = body_from (line_after line) a.body in (case_arm others (labels_form ty a.labels) body.0, body.1)
+case_step a ty others line = labelled ty others line a.labels a.body
 
 -- a statement of one line
 abbrev pub one_line : ℕ → Statement → Placed Statement
@@ -241,10 +246,9 @@ items_behind others count b [] = run_behind others count b
 items_behind others count b (next ∷ rest) =
     if b == next then items_behind others (count + 1) b rest else items_behind (run_behind others count b) 1 next rest
 
--- bytes, equal ones that stand together as one item; a data block has one, and none are written as one
--- that no token has
+-- bytes, equal ones that stand together as one item
 abbrev pub items_form : List ℕ → Items
-items_form [] = single no_item 256
+items_form [] = no_item
 items_form (b ∷ rest) = items_behind no_item 1 b rest
 
 -- the name of a data block

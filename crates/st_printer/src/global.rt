@@ -2,7 +2,7 @@
 ghost use Rattle.std.specs.Prelude.{◌≡◌, ◌-◌, ◌++◌, decimal, codes, map, flat_map, length, OnOk};
 ghost use Rattle.st_tree.specs.Values.{width_at};
 ghost use Rattle.st_tree.specs.Words.{type_word};
-ghost use Rattle.st_tree.specs.Spelling.{line, byte_text, run_text, list_behind, list_text, block_text, place_text, place_word, global_text, globals_text};
+ghost use Rattle.st_tree.specs.Spelling.{line, byte_text, run_text, list_behind, initial_text, block_text, place_text, place_word, global_text, globals_text};
 
 use crate::statement::put_line;
 use crate::text::{put, put_bytes, put_hexadecimal, put_number};
@@ -51,20 +51,23 @@ fn put_list_behind(out: &mut Vec<u8>, first: u8, bytes: &[u8]) -> Result<(), NoM
     put_run(out, count, byte)
 }
 
-fn put_list(out: &mut Vec<u8>, bytes: &[u8]) -> Result<(), NoMemory>
-    ensures { OnOk result (out.new.items ≡ out.old.items ++ list_text bytes.now) }
+/// The initial value of a data block; without bytes there is none.
+fn put_initial(out: &mut Vec<u8>, bytes: &[u8]) -> Result<(), NoMemory>
+    ensures { OnOk result (out.new.items ≡ out.old.items ++ initial_text bytes.now) }
 {
-    match bytes {
-        [first, rest @ ..] => put_list_behind(out, *first, rest),
-        [] => Ok(()),
-    }
+    let [first, rest @ ..] = bytes else {
+        return Ok(());
+    };
+    put(out, " := [")?;
+    put_list_behind(out, *first, rest)?;
+    put(out, "]")
 }
 
 /// The name, the place and the last index of a data block.
 fn put_block_head(out: &mut Vec<u8>, number: u16, length: usize) -> Result<(), NoMemory>
     ensures { OnOk result (out.new.items ≡ out.old.items
         ++ codes "    DB" ++ decimal number ++ codes " AT %DB" ++ decimal number ++ codes ".DBB0 : ARRAY[0.."
-        ++ decimal (length - 1) ++ codes "] OF BYTE := [") }
+        ++ decimal (length - 1) ++ codes "] OF BYTE") }
 {
     put(out, "    DB")?;
     put_number(out, u64::from(number))?;
@@ -72,7 +75,7 @@ fn put_block_head(out: &mut Vec<u8>, number: u16, length: usize) -> Result<(), N
     put_number(out, u64::from(number))?;
     put(out, ".DBB0 : ARRAY[0..")?;
     put_number(out, length.saturating_sub(1) as u64)?;
-    put(out, "] OF BYTE := [")
+    put(out, "] OF BYTE")
 }
 
 #[tactic(auto, unfolding(st_tree::specs::Spelling::block_text, st_tree::specs::Spelling::line))]
@@ -80,8 +83,8 @@ fn put_block(out: &mut Vec<u8>, block: &DataBlock) -> Result<(), NoMemory>
     ensures { OnOk result (out.new.items ≡ out.old.items ++ block_text block.now) }
 {
     put_block_head(out, block.number, block.bytes.len())?;
-    put_list(out, block.bytes.as_slice())?;
-    put(out, "];\n")
+    put_initial(out, block.bytes.as_slice())?;
+    put(out, ";\n")
 }
 
 fn place_word(area: Area) -> &'static str

@@ -204,25 +204,20 @@ fn put_more_labels(out: &mut Vec<u8>, ty: StType, labels: &[i64]) -> Result<(), 
     Ok(())
 }
 
-fn put_label_list(out: &mut Vec<u8>, ty: StType, labels: &[i64]) -> Result<(), NoMemory>
-    ensures { OnOk result (out.new.items ≡ out.old.items ++ labels_text ty labels.now) }
-{
-    match labels {
-        [first, more @ ..] => {
-            put_literal(out, ty, *first)?;
-            put_more_labels(out, ty, more)
-        }
-        [] => Ok(()),
-    }
-}
-
 /// The line of an arm's labels.
 #[tactic(auto, unfolding(st_tree::specs::Spelling::line))]
-fn put_labels(out: &mut Vec<u8>, level: usize, ty: StType, labels: &[i64]) -> Result<(), NoMemory>
-    ensures { OnOk result (out.new.items ≡ out.old.items ++ line level (labels_text ty labels.now ++ codes ":")) }
+fn put_labels(
+    out: &mut Vec<u8>,
+    level: usize,
+    ty: StType,
+    first: i64,
+    more: &[i64],
+) -> Result<(), NoMemory>
+    ensures { OnOk result (out.new.items ≡ out.old.items ++ line level (labels_text ty first more.now ++ codes ":")) }
 {
     put_blanks(out, level)?;
-    put_label_list(out, ty, labels)?;
+    put_literal(out, ty, first)?;
+    put_more_labels(out, ty, more)?;
     put(out, ":\n")
 }
 
@@ -352,8 +347,11 @@ fn put_case(
 ) -> Result<(), NoMemory>
     ensures { OnOk result (out.new.items ≡ out.old.items ++ case_text (names_in tree.now unit.now) arm.now ty level) }
 {
+    let [first, more @ ..] = arm.labels.as_slice() else {
+        return Ok(());
+    };
     let inner = deeper(level)?;
-    put_labels(out, inner, ty, arm.labels.as_slice())?;
+    put_labels(out, inner, ty, *first, more)?;
     put_body(out, tree, unit, deeper(inner)?, arm.body.as_slice())
 }
 

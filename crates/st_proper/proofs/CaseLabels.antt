@@ -1,7 +1,8 @@
 -- The labels of an arm of a CASE: their canonical form says their values.
-use Rattle.std.proofs.Common.{◌≡◌, ℤ, true, List, [], ◌∷◌, ◌++◌, refl, sym, ap, subst, ◌∙◌}
-use Rattle.st_canonical.specs.Canonical.{labels_behind, labels_form, literal_form}
-use Rattle.st_grammar.specs.Forms.{Labels, label, more_labels}
+use Rattle.std.proofs.Common.{◌≡◌, ℕ, ℤ, true, List, [], ◌∷◌, ◌++◌, refl, sym, ap, subst, ◌∙◌}
+use Rattle.st_canonical.specs.Canonical.{FromLine, body_from, labelled, labels_behind, labels_form, literal_form}
+use Rattle.s7_base.specs.Tokens.{line_after}
+use Rattle.st_grammar.specs.Forms.{CaseArms, case_arm, Labels, label, more_labels}
 use Rattle.st_grammar.specs.Grammar.{LabelsFit, label_tree, spell_labels, tree_labels}
 use Rattle.st_proper.proofs.Spells.{Spells}
 use Rattle.st_proper.proofs.Literals.{Kept, kept}
@@ -41,9 +42,16 @@ labels_good ty ns (n ∷ more) c a h =
     subst (λ z. AreLabels ty z (labels_behind ty next more)) (append_assoc ns (n ∷ []) more)
     (labels_good ty (ns ++ n ∷ []) more next one both.1)
 
+-- an arm of a CASE with these labels after others: it is written, with a form of the labels
+pub record IsWritten (ty : StType) (ns : List ℤ) : Type 0 where
+  pub labels : Labels
+  pub are : AreLabels ty ns labels
+  pub written : (others : CaseArms) (line : ℕ) (body : List FromLine) → labelled ty others line ns body
+      ≡ (case_arm others labels (body_from (line_after line) body).0, (body_from (line_after line) body).1)
+
 -- the labels of an arm, of which there is one
 pub form_labels : (ty : StType) (ns : List ℤ) → is_some_of ns ≡ true → list_all (is_value ty) ns ≡ true
-    → AreLabels ty ns (labels_form ty ns)
+    → IsWritten ty ns
 form_labels ty [] some h = absurd cc
 form_labels ty (n ∷ ns) some h =
     let both = and_both (is_value ty n) (list_all (is_value ty) ns) h in
@@ -55,4 +63,8 @@ form_labels ty (n ∷ ns) some h =
       fits = g.value;
       spelled = λ ks q. (g.spelled, q);
     } in
-    labels_good ty (n ∷ []) ns (label (literal_form ty n)) first both.1
+    record {
+      labels = labels_form ty n ns;
+      are = labels_good ty (n ∷ []) ns (label (literal_form ty n)) first both.1;
+      written = λ others line body. refl;
+    }

@@ -8,13 +8,13 @@ use Rattle.std.proofs.lemmas.List.{append-nil, append_assoc}
 use Rattle.s7_base.specs.Tokens.{line_after}
 use Rattle.s7_base.specs.declared.reason.Line.{Line}
 use Rattle.s7_base.specs.declared.word.Width.{Width}
-use Rattle.st_canonical.specs.Canonical.{ArmFromLine, CaseFromLine, FromLine, Placed, all_from, arm_from, arms_from, body_from, case_from, cases_else_from, cases_from, choice_from, expr_form, labels_form, on, raw_var, statement_from}
+use Rattle.st_canonical.specs.Canonical.{ArmFromLine, CaseFromLine, FromLine, Placed, all_from, arm_from, arms_from, body_from, case_from, cases_else_from, cases_from, choice_from, expr_form, on, raw_var, statement_from}
 use Rattle.st_grammar.specs.Forms.{Statement, Statements, none, further, Arms, no_arm, arm, CaseArms, no_case, case_arm}
 use Rattle.st_grammar.specs.Grammar.{arm_of as raw_arm, case_of as raw_case, tree, tree_all, tree_arms, tree_cases, tree_labels, tree_one}
 use Rattle.st_types_laws.proofs.Actions.{act_continue, act_exit, act_return, calls_assign, calls_continue, calls_exit, calls_return, calls_write}
 use Rattle.st_proper.proofs.StatementForms.{from_arm, from_assign, from_case, from_case_arm, from_continue, from_exit, from_if, from_return, from_while, from_write}
 use Rattle.st_types_laws.proofs.Bounds.{all_last, arms_last, bound_case, bound_if, bound_none, bound_while, cases_last, greatest_last}
-use Rattle.st_proper.proofs.CaseLabels.{form_labels}
+use Rattle.st_proper.proofs.CaseLabels.{IsWritten, form_labels}
 use Rattle.st_types_laws.proofs.Labels.{is_own_type, no_label_breaks, values_of}
 use Rattle.st_proper.proofs.Expressions.{expression_sound, nest_is, typed_tree}
 use Rattle.st_proper.proofs.Good.{GoodAll, GoodArms, GoodCases, GoodOne}
@@ -309,20 +309,29 @@ module _ (s : Scope) (names : Names) (sees : Sees s names) (agree : TypesAgreeIn
 
   -- Arms of a CASE
 
-  one_case : (inside : Bool) (m : Line) (ty : StType) (xs : List CaseArm) (x : CaseArm) (others : CaseArms) (k : ℕ)
-      → GoodCases s inside m ty xs others → InCase Good x
-      → is_case_arm (sight_by names) x ty inside ≡ true
-      → GoodCases s inside m ty (xs ++ x ∷ [])
-      (case_arm others (labels_form ty x.labels) (body_from (line_after k) (map (statement_from names) x.body)).0)
-  one_case inside m ty xs x others k g p h =
+  -- an arm that is well typed: its labels are written, and so is its body
+  record IsTyped (inside : Bool) (ty : StType) (x : CaseArm) : Type 0 where
+    labels : IsWritten ty x.labels
+    body : are_well_typed (sight_by names) inside x.body ≡ true
+
+  typed_arm : (inside : Bool) (ty : StType) (x : CaseArm) → is_case_arm (sight_by names) x ty inside ≡ true
+      → IsTyped inside ty x
+  typed_arm inside ty x h =
       let some : Bool = is_some_of x.labels in
       let all : Bool = list_all (is_value ty) x.labels in
       let parts = and_parts (some && all) (are_well_typed (sight_by names) inside x.body)
       (sym (good_case_arm (sight_by names) inside x ty) ∙ h) in
       let labels = and_parts some all parts.0 in
-      let l = form_labels ty x.labels labels.0 labels.1 in
-      let b = body_good inside x.body (line_after k) p parts.1 in
-      let c = labels_form ty x.labels in
+      record { labels = form_labels ty x.labels labels.0 labels.1; body = parts.1 }
+
+  one_case : (inside : Bool) (m : Line) (ty : StType) (xs : List CaseArm) (x : CaseArm) (others : CaseArms) (k : ℕ)
+      → GoodCases s inside m ty xs others → InCase Good x → (t : IsTyped inside ty x)
+      → GoodCases s inside m ty (xs ++ x ∷ [])
+      (case_arm others t.labels.labels (body_from (line_after k) (map (statement_from names) x.body)).0)
+  one_case inside m ty xs x others k g p t =
+      let l = t.labels.are in
+      let b = body_good inside x.body (line_after k) p t.body in
+      let c = t.labels.labels in
       let form = (body_from (line_after k) (map (statement_from names) x.body)).0 in
       record {
         means = cases_sound_last s m (Some ty) (tree_cases others)
@@ -351,15 +360,20 @@ module _ (s : Scope) (names : Names) (sees : Sees s names) (agree : TypesAgreeIn
   cases_behind inside m ty xs [] others k g p h = subst (λ z. GoodCases s inside m ty z others) (sym (append-nil xs)) g
   cases_behind inside m ty xs (x ∷ more) others k g p h =
       let parts = parts_of_cases (sight_by names) inside ty x more h in
-      let body = body_from (line_after k) (map (statement_from names) x.body) in
-      let next = case_arm others (labels_form ty x.labels) body.0 in
+      let t = typed_arm inside ty x parts.0 in
+      let froms = map (statement_from names) x.body in
+      let body = body_from (line_after k) froms in
+      let next = case_arm others t.labels.labels body.0 in
       subst (λ (f : CaseFromLine). GoodCases s inside m ty (xs ++ x ∷ more)
       (cases_from ty (f ty others k).0 (f ty others k).1 (map (case_from names) more)).0)
       (sym (from_case_arm names x))
+      (subst (λ (a : Placed CaseArms). GoodCases s inside m ty (xs ++ x ∷ more)
+      (cases_from ty a.0 a.1 (map (case_from names) more)).0)
+      (sym (t.labels.written others k froms))
       (subst (λ z. GoodCases s inside m ty z (cases_from ty next body.1 (map (case_from names) more)).0)
       (append_assoc xs (x ∷ []) more)
       (cases_behind inside m ty (xs ++ x ∷ []) more next body.1
-      (one_case inside m ty xs x others k g p.0 parts.0) p.1 parts.1))
+      (one_case inside m ty xs x others k g p.0 t) p.1 parts.1)))
 
   no_cases : (inside : Bool) (m : Line) (ty : StType) → GoodCases s inside m ty [] no_case
   no_cases inside m ty = record {

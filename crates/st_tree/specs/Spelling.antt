@@ -174,18 +174,22 @@ unfoldable pub label_text : StType → ℤ → List ℕ
 label_text ty label = codes ", " ++ literal_text ty label
 
 -- the labels of an arm
-abbrev pub labels_text : StType → List ℤ → List ℕ
-labels_text ty [] = []
-labels_text ty (first ∷ more) = literal_text ty first ++ flat_map (label_text ty) more
+abbrev pub labels_text : StType → ℤ → List ℤ → List ℕ
+labels_text ty first more = literal_text ty first ++ flat_map (label_text ty) more
+
+-- labels on a line one level in, and statements behind; an arm without labels, which never applies, is not written
+abbrev pub labelled_text : StType → ℕ → List ℤ → List ℕ → List ℕ
+labelled_text ty level [] body = []
+labelled_text ty level (first ∷ more) body = line (level + 1) (labels_text ty first more ++ codes ":") ++ body
 
 -- an arm of an IF: its word, its test and THEN on a line, and its statements one level in
 abbrev pub arm_step : Names → Arm-F Text ArmText CaseText → ArmText
 arm_step names arm word level =
     line level (word ++ expr_text names arm.test ++ codes " THEN") ++ texts_at (level + 1) arm.body
 
--- an arm of a CASE: its labels on a line one level in, and its statements two levels in
+-- an arm of a CASE: its labels, and its statements two levels in
 abbrev pub case_step : CaseArm-F Text ArmText CaseText → CaseText
-case_step arm ty level = line (level + 1) (labels_text ty arm.labels ++ codes ":") ++ texts_at (level + 2) arm.body
+case_step arm ty level = labelled_text ty level arm.labels (texts_at (level + 2) arm.body)
 
 -- a statement whose inner statements are spelled as given; a CASE spells its labels in the type of its
 -- selector
@@ -269,18 +273,17 @@ list_behind count b [] = run_text count b
 list_behind count b (next ∷ rest) =
     if b == next then list_behind (count + 1) b rest else run_text count b ++ codes ", " ++ list_behind 1 next rest
 
--- bytes, equal ones that stand together as one item
-abbrev pub list_text : List ℕ → List ℕ
-list_text [] = []
-list_text (b ∷ rest) = list_behind 1 b rest
+-- the initial value: bytes, equal ones that stand together as one item; without bytes there is none
+abbrev pub initial_text : List ℕ → List ℕ
+initial_text [] = []
+initial_text (b ∷ rest) = codes " := [" ++ list_behind 1 b rest ++ codes "]"
 
 -- a data block as a global: its location, its last index, and its bytes, which are always written
 unfoldable pub block_text : DataBlock → List ℕ
 block_text block =
     line 1
     (codes "DB" ++ decimal block.number ++ codes " AT %DB" ++ decimal block.number ++ codes ".DBB0 : ARRAY[0.."
-    ++ decimal (length block.bytes - 1) ++ codes "] OF BYTE := ["
-    ++ list_text block.bytes ++ codes "];")
+    ++ decimal (length block.bytes - 1) ++ codes "] OF BYTE" ++ initial_text block.bytes ++ codes ";")
 
 -- the letter of the area of a global's place; no proper tree has a global on an area but I, Q and M
 abbrev pub place_word : Area → List ℕ
