@@ -1,4 +1,4 @@
--- Operands that no instruction takes.
+-- What is noted of an operand, and what a path in a data block by its name is.
 use denote.Hole.Carrier
 use Rattle.std.proofs.Common.{◌≡◌, ℕ, List, [], ◌∷◌, ◌++◌, Option, Some, None, refl, sym, ap}
 use Rattle.memory_areas.specs.declared.place.AreaName.{AreaName}
@@ -7,50 +7,17 @@ use Rattle.s7_base.specs.declared.reason.Line.{Line}
 use Rattle.s7_base.specs.declared.reason.Reason.TheVariants.{BadAddress}
 use Rattle.s7_base.specs.declared.word.Width.{Width}
 use Rattle.stl_rules.specs.Names.{db_numbered, number_at, symbol_named}
-use Rattle.stl_rules.specs.Programs.{op_by, op_with}
+use Rattle.stl_rules.specs.Programs.{op_by}
 use Rattle.stl_rules.specs.Raw.{Sight, given, given_in_data, given_number}
 use Rattle.stl_rules.specs.Stages.{kind_breaks, operand_breaks, some_place, some_pointer}
 use Rattle.stl_rules.specs.declared.given.Given.TheVariants as behind
 use Rattle.stl_statements.specs.declared.mnemonic.Mnemonic.{Mnemonic}
-use Rattle.stl_statements.specs.declared.mnemonic.Mnemonic.TheVariants as is
 use Rattle.stl_tree.specs.declared.program.Op.{Op}
 use Rattle.stl_tree.specs.declared.raw.BlockKind.TheVariants as block
 use Rattle.stl_tree.specs.declared.raw.PathStep.{PathStep}
 use Rattle.stl_tree.specs.declared.raw.RawOperand.{RawOperand, out-RawOperand}
 use Rattle.stl_tree.specs.declared.raw.RawOperand.TheVariants as operand
 use Rattle.symbol_names.specs.inner.Firsts.{reasons_at}
-
-pub outside : (what : Mnemonic) (name : AreaName) (w : Width) → op_with what (behind.Outside name w) ≡ None
-outside (is.Check c) name w = refl
-outside what name w = refl
-
-pub no_pointer : (what : Mnemonic) → op_with what behind.NoPointer ≡ None
-no_pointer (is.Check c) = refl
-no_pointer what = refl
-
-pub no_number : (what : Mnemonic) → op_with what behind.NoNumber ≡ None
-no_number (is.Check c) = refl
-no_number what = refl
-
-pub unknown : (what : Mnemonic) → op_with what behind.Unknown ≡ None
-unknown (is.Check c) = refl
-unknown what = refl
-
-pub unfit : (what : Mnemonic) → op_with what behind.Unfit ≡ None
-unfit (is.Check c) = refl
-unfit what = refl
-
-pub unjudged : (what : Mnemonic) → op_with what behind.Unjudged ≡ None
-unjudged (is.Check c) = refl
-unjudged what = refl
-
-pub other : (what : Mnemonic) → op_with what behind.Other ≡ None
-other (is.Check c) = refl
-other what = refl
-
-pub ruleset none_fit = (outside, no_pointer, no_number, unknown, unfit, unjudged, other)
-
--- What is noted of an operand
 
 -- an operand that its mnemonic may not have, and a bad address
 address_breaks : (line : Line) (o : Option Op) → reasons_at line (kind_breaks o ++ BadAddress ∷ []) ≡ reasons_at line (kind_breaks o) ++ broken line BadAddress

@@ -12,13 +12,11 @@ ghost use Rattle.symbol_names.specs.inner.Refused.{own_of};
 
 use crate::first::{join, note};
 use crate::headings::note_heading;
-use crate::instruction::op_by;
 use crate::laid::Laid;
 use crate::names::{Names, numbers_of_blocks};
 use crate::numbers::Numbers;
-use crate::pointer::pointer_constant;
 use crate::sight::Sight;
-use crate::symbols::may_have;
+use instruction_operands::{may_have, op_by, pointer_constant};
 use s7_base::{Break, Line, List, NoMemory, Reason};
 use std::alloc::Global;
 use stl_instructions::mnemonic_named;

@@ -7,7 +7,8 @@ ghost use Rattle.symbol_names.specs.inner.Places.{line_breaks, names_before, num
 
 use crate::first::{note, note_if};
 use crate::numbers::Numbers;
-use crate::symbols::{Symbols, may_have};
+use crate::symbols::Symbols;
+use instruction_operands::may_have;
 use s7_base::{Break, Line, NoMemory, Reason};
 use std::alloc::Global;
 use stl_places::is_in_area;

@@ -2,8 +2,8 @@
 ghost use Rattle.std.specs.Prelude.{◌≡◌, ◌++◌, ◌∷◌, [], IfOk, OnOk};
 ghost use Rattle.stl_rules.specs.Raw.{are_refused, given_path};
 
-use crate::place::given_component;
 use component_index::Components;
+use instruction_operands::given_component;
 use memory_areas::AreaName;
 use s7_base::NoMemory;
 use std::alloc::Global;

@@ -9,11 +9,10 @@ ghost use Rattle.symbol_names.specs.inner.Refused.{decls_of, own_of};
 
 use crate::laid::Laid;
 use crate::names::Names;
-use crate::place::{given_place, given_symbol};
-use crate::pointer::{
-    given_by_memory, given_by_register, given_crossing, given_db_by, given_di_by, given_pointer,
+use instruction_operands::{
+    given_by_memory, given_by_register, given_crossing, given_db_by, given_di_by, given_place,
+    given_pointer, given_symbol, may_have,
 };
-use crate::symbols::may_have;
 use memory_areas::AreaName;
 use s7_base::{NoMemory, Reason};
 use std::alloc::Global;

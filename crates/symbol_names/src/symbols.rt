@@ -2,7 +2,7 @@
 ghost use Rattle.std.specs.Prelude.{◌≡◌, IfOk, map, option_and_then, option_map, slice_get, take};
 ghost use Rattle.first_places.specs.Places.{first_place};
 ghost use Rattle.stl_rules.specs.DeclarationRules.{is_named, key_of};
-ghost use Rattle.stl_rules.specs.Names.{is_same_kind, may_have, number_at, number_of, symbol_named};
+ghost use Rattle.stl_rules.specs.Names.{is_same_kind, number_at, number_of, symbol_named};
 ghost use Rattle.symbol_names.specs.inner.Places.{AreNamePlaces, has_key, names_before};
 ghost use Rattle.stl_tree.specs.declared.raw.SymbolLine.{SymbolLine};
 
@@ -82,17 +82,6 @@ fn number_at(kind: BlockKind, address: Option<SymbolAddress>) -> Result<u32, Rea
         }
         Some(_) => Err(Reason::BadOperand),
     }
-}
-
-/// A block of a kind may have a number.
-pub fn may_have(kind: BlockKind, number: u32) -> bool
-    ensures { result ≡ may_have kind number }
-{
-    let least = match kind {
-        BlockKind::Ob | BlockKind::Db => 1,
-        BlockKind::Fc | BlockKind::Fb => 0,
-    };
-    least <= number && number <= 65_535
 }
 
 impl<'t> Symbols<'t> {

@@ -3,7 +3,7 @@ ghost use Rattle.std.specs.Prelude.{◌≡◌, None, Some, if◌then◌else◌};
 ghost use Rattle.stl_rules.specs.Raw.{given_component, given_place, given_symbol, is_placed, operand_at, place_of_kind};
 ghost use Rattle.stl_rules.specs.declared.given.Given.TheVariants as behind;
 
-use crate::symbols::may_have;
+use crate::number::may_have;
 use memory_areas::AreaName;
 use stl_places::is_in_area;
 use stl_rules::{Component, Given};

@@ -1,0 +1,20 @@
+//! What stands behind a mnemonic, where all names in it are found, and the instruction that both make.
+//!
+//! Stands on `stl_rules`, which has all of this as definitions. `place` makes an operand of a written place, of the
+//! address of a symbol and of a component, `pointer` of what a pointer names, or says that it lies outside its area
+//! or range; `instruction` has the instruction of each mnemonic and operand, or none where they don't go together. No
+//! call takes memory, and none can refuse.
+#![tactic(auto)]
+
+pub use instruction::op_by;
+pub use number::may_have;
+pub use place::{given_component, given_place, given_symbol};
+pub use pointer::{
+    given_by_memory, given_by_register, given_crossing, given_db_by, given_di_by, given_pointer,
+    pointer_constant,
+};
+
+mod instruction;
+mod number;
+mod place;
+mod pointer;
