@@ -131,19 +131,30 @@ pause_build() {
     kill -CONT -- "-$builder"
 } 2> /dev/null
 
-# Proves and builds the program by rt, in a process group of its own, and tries it on an empty block. (Job
-# control would give it a group too, and take the terminal from the pipe that the front stands in.)
-run_build() {
-    local signal on_terminal=no builder= ended
-    [[ ! -t 2 || ${TERM-dumb} == dumb ]] || on_terminal=yes
-    for signal in HUP INT QUIT TERM; do
-        # shellcheck disable=SC2064 # the signal is the one of this turn
-        trap "end_build $signal" "$signal"
-    done
-    trap pause_build TSTP
+# How many crates are proved at a time with so many processors and so many free KiB: a check has been seen to
+# take 5 GB.
+crates_at_once() {
+    local fit=$(($2 / 5000000))
+    [[ $fit -le $1 ]] || fit=$1
+    echo $((fit > 1 ? fit : 1))
+}
+
+# The KiB of memory that are free, or 0 where that is not told.
+free_memory() {
+    local name free rest
+    while read -r name free rest; do
+        [[ $name != MemAvailable: ]] || break
+    done < /proc/meminfo
+    echo "${free:-0}"
+} 2> /dev/null
+
+# Runs rt in the program's crate, in a process group of its own, with an empty block to read. (Job control
+# would give it a group too, and take the terminal from the pipe that the front stands in.)
+run_rt() {
+    local ended
     bind_to_front TERM
-    (cd -- "$crate" && exec "${bound[@]}" setsid rt run -- check) \
-        < <(echo "$empty_block") > "$out/answer" 2> "$log" &
+    (cd -- "$crate" && exec "${bound[@]}" setsid rt "$@") \
+        < <(echo "$empty_block") > "$out/answer" 2>> "$log" &
     builder=$!
     while [[ $on_terminal == yes ]] && kill -0 "$builder" 2> /dev/null; do
         show_progress
@@ -152,6 +163,24 @@ run_build() {
     done
     # (a pause ends the wait, and not the build)
     until wait "$builder"; ended=$?; ! kill -0 "$builder" 2> /dev/null; do :; done
+    return "$ended"
+}
+
+# Proves the crates side by side where there is room, and builds the program and tries it on an empty block.
+# What the first call left open, for want of memory perhaps, the second one proves, a crate at a time.
+run_build() {
+    local signal on_terminal=no builder= ended at_once
+    [[ ! -t 2 || ${TERM-dumb} == dumb ]] || on_terminal=yes
+    for signal in HUP INT QUIT TERM; do
+        # shellcheck disable=SC2064 # the signal is the one of this turn
+        trap "end_build $signal" "$signal"
+    done
+    trap pause_build TSTP
+    : > "$log"
+    at_once=$(crates_at_once "$(nproc)" "$(free_memory)")
+    [[ $at_once == 1 ]] || run_rt all check --jobs "$at_once"
+    run_rt run -- check
+    ended=$?
     trap - HUP INT QUIT TERM TSTP
     clear_progress
     [[ $ended == 0 && -x $crate/out/stl2st && $(tail -n 1 -- "$out/answer") == accepted ]]

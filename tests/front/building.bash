@@ -14,6 +14,15 @@ front build
 says "build has nothing to do then" "built from these sources already"
 equal "one build so far" "$(builds)" 1
 
+# Crates are proved side by side first, as many as there is room for.
+# shellcheck source=../../front/build.bash
+. "$top/front/build.bash"
+equal "a crate a processor" "$(crates_at_once 4 24000000)" 4
+equal "a crate for each 5 GB" "$(crates_at_once 16 12000000)" 2
+equal "one crate where memory is short" "$(crates_at_once 4 3000000)" 1
+equal "one crate where memory is not told" "$(crates_at_once 4 0)" 1
+equal "side by side or not at all" "$(cat "$bin/proofs" 2> /dev/null | grep -cvxE 'all check --jobs [1-9][0-9]*')" 0
+
 touch "$repo"/crates/*/src/* "$repo/crates.txt"
 front check a.awl
 equal "a new time alone builds nothing" "$(builds)" 1
