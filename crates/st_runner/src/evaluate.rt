@@ -9,13 +9,14 @@ ghost use Rattle.st_tree.specs.Value.{value};
 ghost use Rattle.st_tree.specs.Values.{is_set};
 
 use crate::operators::{binary, chosen, converted, is_set, shift, unary};
-use crate::state::State;
+use crate::state::{State, local_at};
 use s7_base::{Fault, Width};
 use st_tree::{Arm, CaseArm, Expr, Located, Stmt, Value, Var};
 
 impl State {
-    /// The value of a literal or a variable, as operands most often are; none of another expression.
-    #[inline]
+    /// The value of a literal, a local or a register, as operands most often are; none of another
+    /// expression.
+    #[inline(always)]
     fn value_at_once(&self, globals: &[Located], e: &Expr) -> Option<Result<Value, Fault>>
         requires running { IsRunning self.now }
         requires globals { AreGlobals globals.now }
@@ -23,13 +24,16 @@ impl State {
     {
         match e {
             Expr::Literal(ty, n) => Some(Ok(Value { ty: *ty, n: *n })),
-            Expr::Read(var) => Some(self.read(globals, *var)),
+            Expr::Read(Var::Local(i)) => Some(local_at(&self.activations, self.depth(), *i)),
+            Expr::Read(Var::Register(r)) => Some(Ok(self.register(*r))),
             _ => None,
         }
     }
 
-    /// The value of an expression.
-    pub fn value(&self, globals: &[Located], e: &Expr) -> Result<Value, Fault>
+    /// The value of an expression with operands. It stays a call, so that no place is cleared for the
+    /// values of its operands where there are none.
+    #[inline(never)]
+    fn value_in_parts(&self, globals: &[Located], e: &Expr) -> Result<Value, Fault>
         requires running { IsRunning self.now }
         requires globals { AreGlobals globals.now }
         ensures { result ≡ value globals.now e.now (state_of self.now) }
@@ -38,39 +42,75 @@ impl State {
             Expr::Literal(ty, n) => Ok(Value { ty: *ty, n: *n }),
             Expr::Read(var) => self.read(globals, *var),
             Expr::Unary(op, operand) => {
-                let v = self.value(globals, operand.get())?;
+                let v = self.value_in_parts(globals, operand.get())?;
                 unary(*op, v)
             }
             Expr::Binary(op, left, right) => {
                 let v = match self.value_at_once(globals, left.get()) {
                     Some(v) => v?,
-                    None => self.value(globals, left.get())?,
+                    None => self.value_in_parts(globals, left.get())?,
                 };
                 let w = match self.value_at_once(globals, right.get()) {
                     Some(w) => w?,
-                    None => self.value(globals, right.get())?,
+                    None => self.value_in_parts(globals, right.get())?,
                 };
                 binary(*op, v, w)
             }
             Expr::Convert(_, to, operand) => {
-                let v = self.value(globals, operand.get())?;
+                let v = self.value_in_parts(globals, operand.get())?;
                 Ok(converted(*to, v))
             }
             Expr::Select(gate, first, second) => {
-                let gate = self.value(globals, gate.get())?;
-                let v = self.value(globals, first.get())?;
-                let w = self.value(globals, second.get())?;
+                let gate = self.value_in_parts(globals, gate.get())?;
+                let v = self.value_in_parts(globals, first.get())?;
+                let w = self.value_in_parts(globals, second.get())?;
                 Ok(chosen(gate, v, w))
             }
             Expr::Shift(op, operand, count) => {
-                let v = self.value(globals, operand.get())?;
-                let count = self.value(globals, count.get())?;
+                let v = self.value_in_parts(globals, operand.get())?;
+                let count = self.value_in_parts(globals, count.get())?;
                 Ok(shift(*op, v, count))
             }
             Expr::AreaRead(width, pointer) => {
-                let pointer = self.value(globals, pointer.get())?;
+                let pointer = self.value_in_parts(globals, pointer.get())?;
                 self.area_read(*width, pointer)
             }
+        }
+    }
+
+    /// The value of an operator between operands that have their values at once; none of another
+    /// expression.
+    #[inline(always)]
+    fn binary_at_once(&self, globals: &[Located], e: &Expr) -> Option<Result<Value, Fault>>
+        requires running { IsRunning self.now }
+        requires globals { AreGlobals globals.now }
+        ensures { IfSome result (λ found. found ≡ value globals.now e.now (state_of self.now)) }
+    {
+        let Expr::Binary(op, left, right) = e else {
+            return None;
+        };
+        let Some(Ok(v)) = self.value_at_once(globals, left.get()) else {
+            return None;
+        };
+        let Some(Ok(w)) = self.value_at_once(globals, right.get()) else {
+            return None;
+        };
+        Some(binary(*op, v, w))
+    }
+
+    /// The value of an expression.
+    #[inline(always)]
+    pub fn value(&self, globals: &[Located], e: &Expr) -> Result<Value, Fault>
+        requires running { IsRunning self.now }
+        requires globals { AreGlobals globals.now }
+        ensures { result ≡ value globals.now e.now (state_of self.now) }
+    {
+        if let Some(found) = self.value_at_once(globals, e) {
+            return found;
+        }
+        match self.binary_at_once(globals, e) {
+            Some(found) => found,
+            None => self.value_in_parts(globals, e),
         }
     }
 

@@ -67,7 +67,10 @@ pub fn local_at(activations: &[Activation], d: u8, i: u32) -> Result<Value, Faul
         return Err(Fault::AreaLength);
     };
     match activation.locals.get(i as usize) {
-        Some(value) => Ok(*value),
+        Some(value) => Ok(Value {
+            ty: value.ty,
+            n: value.n,
+        }),
         None => Err(Fault::AreaLength),
     }
 }
