@@ -30,10 +30,10 @@ impl State {
         }
     }
 
-    /// The value of an expression with operands. It stays a call, so that no place is cleared for the
-    /// values of its operands where there are none.
+    /// The value of an expression. It stays a call, so that no place is cleared for the values of operands
+    /// where there are none.
     #[inline(never)]
-    fn value_in_parts(&self, globals: &[Located], e: &Expr) -> Result<Value, Fault>
+    pub fn value(&self, globals: &[Located], e: &Expr) -> Result<Value, Fault>
         requires running { IsRunning self.now }
         requires globals { AreGlobals globals.now }
         ensures { result ≡ value globals.now e.now (state_of self.now) }
@@ -42,75 +42,67 @@ impl State {
             Expr::Literal(ty, n) => Ok(Value { ty: *ty, n: *n }),
             Expr::Read(var) => self.read(globals, *var),
             Expr::Unary(op, operand) => {
-                let v = self.value_in_parts(globals, operand.get())?;
+                let v = self.value(globals, operand.get())?;
                 unary(*op, v)
             }
             Expr::Binary(op, left, right) => {
                 let v = match self.value_at_once(globals, left.get()) {
                     Some(v) => v?,
-                    None => self.value_in_parts(globals, left.get())?,
+                    None => self.value(globals, left.get())?,
                 };
                 let w = match self.value_at_once(globals, right.get()) {
                     Some(w) => w?,
-                    None => self.value_in_parts(globals, right.get())?,
+                    None => self.value(globals, right.get())?,
                 };
                 binary(*op, v, w)
             }
             Expr::Convert(_, to, operand) => {
-                let v = self.value_in_parts(globals, operand.get())?;
+                let v = self.value(globals, operand.get())?;
                 Ok(converted(*to, v))
             }
             Expr::Select(gate, first, second) => {
-                let gate = self.value_in_parts(globals, gate.get())?;
-                let v = self.value_in_parts(globals, first.get())?;
-                let w = self.value_in_parts(globals, second.get())?;
+                let gate = self.value(globals, gate.get())?;
+                let v = self.value(globals, first.get())?;
+                let w = self.value(globals, second.get())?;
                 Ok(chosen(gate, v, w))
             }
             Expr::Shift(op, operand, count) => {
-                let v = self.value_in_parts(globals, operand.get())?;
-                let count = self.value_in_parts(globals, count.get())?;
+                let v = self.value(globals, operand.get())?;
+                let count = self.value(globals, count.get())?;
                 Ok(shift(*op, v, count))
             }
             Expr::AreaRead(width, pointer) => {
-                let pointer = self.value_in_parts(globals, pointer.get())?;
+                let pointer = self.value(globals, pointer.get())?;
                 self.area_read(*width, pointer)
             }
         }
     }
 
-    /// The value of an operator between operands that have their values at once; none of another
-    /// expression.
+    /// The value of an expression that has no operands, or operands that have their values at once; none of
+    /// another expression, and none where there is a fault.
     #[inline(always)]
-    fn binary_at_once(&self, globals: &[Located], e: &Expr) -> Option<Result<Value, Fault>>
+    fn soon(&self, globals: &[Located], e: &Expr) -> Option<Value>
         requires running { IsRunning self.now }
         requires globals { AreGlobals globals.now }
-        ensures { IfSome result (λ found. found ≡ value globals.now e.now (state_of self.now)) }
+        ensures { IfSome result (λ v. value globals.now e.now (state_of self.now) ≡ Ok v) }
     {
-        let Expr::Binary(op, left, right) = e else {
-            return None;
+        let found = match e {
+            Expr::Literal(ty, n) => Ok(Value { ty: *ty, n: *n }),
+            Expr::Read(var) => self.read(globals, *var),
+            Expr::Binary(op, left, right) => {
+                let Some(Ok(v)) = self.value_at_once(globals, left.get()) else {
+                    return None;
+                };
+                let Some(Ok(w)) = self.value_at_once(globals, right.get()) else {
+                    return None;
+                };
+                binary(*op, v, w)
+            }
+            _ => return None,
         };
-        let Some(Ok(v)) = self.value_at_once(globals, left.get()) else {
-            return None;
-        };
-        let Some(Ok(w)) = self.value_at_once(globals, right.get()) else {
-            return None;
-        };
-        Some(binary(*op, v, w))
-    }
-
-    /// The value of an expression.
-    #[inline(always)]
-    pub fn value(&self, globals: &[Located], e: &Expr) -> Result<Value, Fault>
-        requires running { IsRunning self.now }
-        requires globals { AreGlobals globals.now }
-        ensures { result ≡ value globals.now e.now (state_of self.now) }
-    {
-        if let Some(found) = self.value_at_once(globals, e) {
-            return found;
-        }
-        match self.binary_at_once(globals, e) {
-            Some(found) => found,
-            None => self.value_in_parts(globals, e),
+        match found {
+            Ok(v) => Some(v),
+            Err(_) => None,
         }
     }
 
@@ -120,6 +112,9 @@ impl State {
         requires globals { AreGlobals globals.now }
         ensures { result ≡ and_then (value globals.now test.now (state_of self.now)) (λ v. Ok (is_set v)) }
     {
+        if let Some(v) = self.soon(globals, test) {
+            return Ok(is_set(v));
+        }
         let v = self.value(globals, test)?;
         Ok(is_set(v))
     }
@@ -133,6 +128,9 @@ impl State {
         ensures sound { (l f : ℕ) → IsSound l f self.old → IsSound l f self.new }
         ensures same { SameShape self.old self.new }
     {
+        if let Some(v) = self.soon(globals, e) {
+            return self.write(globals, var, v);
+        }
         let v = self.value(globals, e)?;
         self.write(globals, var, v)
     }
