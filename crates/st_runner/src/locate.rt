@@ -98,7 +98,7 @@ impl State {
         resolve(pointer, self.db_number(), self.di_number(), self.depth())
     }
 
-    /// The value of what a variable stands for.
+    /// The value of what a variable stands for. It stays a call, since few variables are formals or globals.
     #[inline(never)]
     fn read_referred(&self, globals: &[Located], var: Var) -> Result<Value, Fault>
         requires running { IsRunning self.now }
@@ -135,7 +135,7 @@ impl State {
         }
     }
 
-    /// Gives a variable a value. A fault changes nothing.
+    /// Gives a variable a value. A fault changes nothing. It stays a call, whose value comes in registers.
     #[inline(never)]
     pub fn write(&mut self, globals: &[Located], var: Var, v: Value) -> Result<(), Fault>
         requires running { IsRunning self.old }

@@ -83,7 +83,8 @@ fn choose_labelled<'t>(
     }
 }
 
-/// Does a statement up to where it needs a unit.
+/// Does a statement up to where it needs a unit. It is no call, and neither is `step`, so that what comes
+/// next is not copied on its way.
 #[inline(always)]
 pub fn statement<'t>(
     tree: &'t StProgram,
