@@ -67,10 +67,7 @@ pub fn local_at(activations: &[Activation], d: u8, i: u32) -> Result<Value, Faul
         return Err(Fault::AreaLength);
     };
     match activation.locals.get(i as usize) {
-        Some(value) => Ok(Value {
-            ty: value.ty,
-            n: value.n,
-        }),
+        Some(value) => Ok(*value),
         None => Err(Fault::AreaLength),
     }
 }
