@@ -9,13 +9,14 @@ ghost use Rattle.st_tree.specs.Value.{value};
 ghost use Rattle.st_tree.specs.Values.{is_set};
 
 use crate::operators::{binary, chosen, converted, is_set, shift, unary};
-use crate::state::State;
+use crate::state::{State, local_at};
 use s7_base::{Fault, Width};
 use st_tree::{Arm, CaseArm, Expr, Located, Stmt, Value, Var};
 
 impl State {
-    /// The value of a literal or a variable, as operands most often are; none of another expression.
-    #[inline]
+    /// The value of a literal, a local or a register, as operands most often are; none of another
+    /// expression.
+    #[inline(always)]
     fn value_at_once(&self, globals: &[Located], e: &Expr) -> Option<Result<Value, Fault>>
         requires running { IsRunning self.now }
         requires globals { AreGlobals globals.now }
@@ -23,12 +24,15 @@ impl State {
     {
         match e {
             Expr::Literal(ty, n) => Some(Ok(Value { ty: *ty, n: *n })),
-            Expr::Read(var) => Some(self.read(globals, *var)),
+            Expr::Read(Var::Local(i)) => Some(local_at(&self.activations, self.depth(), *i)),
+            Expr::Read(Var::Register(r)) => Some(Ok(self.register(*r))),
             _ => None,
         }
     }
 
-    /// The value of an expression.
+    /// The value of an expression. It stays a call, so that no place is cleared for the values of operands
+    /// where there are none.
+    #[inline(never)]
     pub fn value(&self, globals: &[Located], e: &Expr) -> Result<Value, Fault>
         requires running { IsRunning self.now }
         requires globals { AreGlobals globals.now }
@@ -74,12 +78,43 @@ impl State {
         }
     }
 
+    /// The value of an expression that has no operands, or operands that have their values at once; none of
+    /// another expression, and none where there is a fault.
+    #[inline(always)]
+    fn soon(&self, globals: &[Located], e: &Expr) -> Option<Value>
+        requires running { IsRunning self.now }
+        requires globals { AreGlobals globals.now }
+        ensures { IfSome result (λ v. value globals.now e.now (state_of self.now) ≡ Ok v) }
+    {
+        let found = match e {
+            Expr::Literal(ty, n) => Ok(Value { ty: *ty, n: *n }),
+            Expr::Read(var) => self.read(globals, *var),
+            Expr::Binary(op, left, right) => {
+                let Some(Ok(v)) = self.value_at_once(globals, left.get()) else {
+                    return None;
+                };
+                let Some(Ok(w)) = self.value_at_once(globals, right.get()) else {
+                    return None;
+                };
+                binary(*op, v, w)
+            }
+            _ => return None,
+        };
+        match found {
+            Ok(v) => Some(v),
+            Err(_) => None,
+        }
+    }
+
     /// A test is TRUE.
     pub fn is_true(&self, globals: &[Located], test: &Expr) -> Result<bool, Fault>
         requires running { IsRunning self.now }
         requires globals { AreGlobals globals.now }
         ensures { result ≡ and_then (value globals.now test.now (state_of self.now)) (λ v. Ok (is_set v)) }
     {
+        if let Some(v) = self.soon(globals, test) {
+            return Ok(is_set(v));
+        }
         let v = self.value(globals, test)?;
         Ok(is_set(v))
     }
@@ -93,6 +128,9 @@ impl State {
         ensures sound { (l f : ℕ) → IsSound l f self.old → IsSound l f self.new }
         ensures same { SameShape self.old self.new }
     {
+        if let Some(v) = self.soon(globals, e) {
+            return self.write(globals, var, v);
+        }
         let v = self.value(globals, e)?;
         self.write(globals, var, v)
     }

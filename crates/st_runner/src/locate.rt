@@ -98,8 +98,19 @@ impl State {
         resolve(pointer, self.db_number(), self.di_number(), self.depth())
     }
 
+    /// The value of what a variable stands for. It stays a call, since few variables are formals or globals.
+    #[inline(never)]
+    fn read_referred(&self, globals: &[Located], var: Var) -> Result<Value, Fault>
+        requires running { IsRunning self.now }
+        requires globals { AreGlobals globals.now }
+        ensures { result ≡ read globals.now var (state_of self.now) }
+    {
+        let reference = self.reference_of(globals, var)?;
+        self.read_at(reference)
+    }
+
     /// The value of a variable.
-    #[inline]
+    #[inline(always)]
     pub fn read(&self, globals: &[Located], var: Var) -> Result<Value, Fault>
         requires running { IsRunning self.now }
         requires globals { AreGlobals globals.now }
@@ -120,14 +131,12 @@ impl State {
                     Place { area, byte, bit },
                 )
             }
-            Var::Formal(_) | Var::Global(_) => {
-                let reference = self.reference_of(globals, var)?;
-                self.read_at(reference)
-            }
+            Var::Formal(_) | Var::Global(_) => self.read_referred(globals, var),
         }
     }
 
-    /// Gives a variable a value. A fault changes nothing.
+    /// Gives a variable a value. A fault changes nothing. It stays a call, whose value comes in registers.
+    #[inline(never)]
     pub fn write(&mut self, globals: &[Located], var: Var, v: Value) -> Result<(), Fault>
         requires running { IsRunning self.old }
         requires globals { AreGlobals globals.now }

@@ -184,6 +184,7 @@ pub fn unary(op: UnaryOp, v: Value) -> Result<Value, Fault>
 }
 
 /// The value of an operator between its operands.
+#[inline(always)]
 pub fn binary(op: BinaryOp, v: Value, w: Value) -> Result<Value, Fault>
     ensures { result ≡ binary_value op v w }
 {

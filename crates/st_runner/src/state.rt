@@ -29,9 +29,8 @@ pub struct State {
     pub spare: Vec<Activation>,
 }
 
-/// The value that a place in memory holds, read in a type. It stays a call, so that `State::read` is small
-/// where registers and locals are read.
-#[inline(never)]
+/// The value that a place in memory holds, read in a type.
+#[inline(always)]
 pub fn read_place(memory: &Memory, ty: StType, place: Place) -> Result<Value, Fault>
     requires { IsActivation place.area }
     ensures { result ≡ read_place ty place memory.now }
@@ -47,6 +46,7 @@ pub fn read_place(memory: &Memory, ty: StType, place: Place) -> Result<Value, Fa
 }
 
 /// Gives a place in memory a value in a type.
+#[inline(always)]
 pub fn write_place(memory: &mut Memory, ty: StType, place: Place, v: Value) -> Result<(), Fault>
     requires { IsActivation place.area }
     ensures { Writes (write_place ty place v memory.old) result memory.old memory.new }

@@ -83,7 +83,9 @@ fn choose_labelled<'t>(
     }
 }
 
-/// Does a statement up to where it needs a unit.
+/// Does a statement up to where it needs a unit. It is no call, and neither is `step`, so that what comes
+/// next is not copied on its way.
+#[inline(always)]
 pub fn statement<'t>(
     tree: &'t StProgram,
     stmt: &'t Stmt,
@@ -138,6 +140,7 @@ fn push_rest<'t>(rest: &'t [Stmt], work: &mut Vec<Frame<'t>>)
 }
 
 /// Does the next statement that waits, or ends the frame on top.
+#[inline(always)]
 fn step<'t>(tree: &'t StProgram, work: &mut Vec<Frame<'t>>, state: &mut State) -> At<'t>
     requires globals { AreGlobals tree.now.globals }
     requires ready { IsReady tree.now (vec_capacity work.old) work.old.items Work state.old }
