@@ -12,7 +12,6 @@ use Rattle.stl_statements.specs.Readers.{and_then, fitting, further}
 use Rattle.stl_statements.specs.Words.{is_word_kind}
 use Rattle.stl_statements.specs.declared.mnemonic.Read.{Read}
 use Rattle.stl_statements.specs.declared.mnemonic.Read.TheVariants.{Fits, LeftOut, No}
-use Rattle.stl_places.proofs.PlaceLaws.{no_place_at}
 use Rattle.stl_places.proofs.PlaceTokens.{begins_place}
 use Rattle.stl_constants.proofs.Reading.{if_false, or_no}
 use Rattle.stl_constants.proofs.Tables.{find_unlisted}
