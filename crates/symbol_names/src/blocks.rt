@@ -2,11 +2,11 @@
 ghost use Rattle.std.specs.Prelude.{◌≡◌, ◌∷◌, ◌++◌, [], IfOk, OnOk, Ok, map, option_map, take};
 ghost use Rattle.std.specs.List.{filter_map, flat_map};
 ghost use Rattle.std.specs.Option.{option_to_list};
-ghost use Rattle.stl_rules.specs.Programs.{body_of, instr_of, op_by};
+ghost use Rattle.stl_rules.specs.Programs.{body_of, instr_of, op_by, sight_of};
 ghost use Rattle.stl_rules.specs.Stages.{blocks_behind, instr_breaks, kind_breaks, operand_breaks};
 ghost use Rattle.stl_tree.specs.declared.raw.RawData.{RawData};
 ghost use Rattle.symbol_names.specs.inner.Firsts.{reasons_at, with_breaks};
-ghost use Rattle.symbol_names.specs.inner.Kept.{block_breaks, block_kept, instr_with, name_kept};
+ghost use Rattle.symbol_names.specs.inner.Kept.{block_breaks, block_kept, body_breaks, instr_with, name_kept};
 ghost use Rattle.symbol_names.specs.inner.Places.{block_numbers, numbers_before};
 ghost use Rattle.symbol_names.specs.inner.Refused.{own_of};
 
@@ -177,8 +177,28 @@ fn put_named(
     }
 }
 
-/// One more block.
+/// The instructions of a block, by what names mean in it.
 #[tactic(auto, using(crate::proofs::Firsts::behind, crate::proofs::Firsts::joins))]
+fn body_in(
+    alloc: Global,
+    names: &Names<'_>,
+    laid: &[Laid<'_>],
+    raw: &RawBlock,
+    first: &mut Option<Break>,
+) -> Result<List<Instr>, NoMemory>
+    requires { laid.now ≡ map own_of names.now.dbs }
+    ensures body { IfOk result (λ body. body ≡ body_of (sight_of names.now raw.now) raw.now) }
+    ensures first { OnOk result (first.new ≡ with_breaks first.old (body_breaks names.now raw.now)) }
+{
+    let temps = raw.temps.as_slice();
+    let temps_first = first_break(alloc, temps, MOST_LOCAL)?;
+    join(first, temps_first);
+    let temps = Laid::new(alloc, temps, MOST_LOCAL, temps_first.is_some())?;
+    body_of(alloc, &Sight::new(names, laid, &temps), raw, first)
+}
+
+/// One more block.
+#[tactic(auto, using(crate::proofs::Firsts::behind))]
 fn put_block(
     alloc: Global,
     names: &Names<'_>,
@@ -201,12 +221,7 @@ fn put_block(
         number,
         &mut blocks.first,
     );
-    let temps = raw.temps.as_slice();
-    let temps_first = first_break(alloc, temps, MOST_LOCAL)?;
-    join(&mut blocks.first, temps_first);
-    let temps = Laid::new(alloc, temps, MOST_LOCAL, temps_first.is_some())?;
-    let sight = Sight::new(names, laid, &temps);
-    let body = body_of(alloc, &sight, raw, &mut blocks.first)?;
+    let body = body_in(alloc, names, laid, raw, &mut blocks.first)?;
     put_named(
         alloc,
         &mut blocks.made,
@@ -222,6 +237,27 @@ fn numbers_of(alloc: Global, names: &Names<'_>, raws: &[RawBlock]) -> Result<Num
 {
     let numbers = numbers_of_blocks(alloc, names.symbols(), raws)?;
     Numbers::new(alloc, numbers)
+}
+
+/// More blocks, each with the numbers of those before it.
+fn put_each(
+    alloc: Global,
+    names: &Names<'_>,
+    laid: &[Laid<'_>],
+    numbers: &Numbers,
+    raws: &[RawBlock],
+    blocks: &mut Blocks,
+) -> Result<(), NoMemory>
+    requires laid { laid.now ≡ map own_of names.now.dbs }
+    requires numbers { numbers.now ≡ block_numbers names.now.symbols raws.now }
+    ensures made { OnOk result (blocks.new.made ≡ blocks.old.made ++ filter_map (block_kept names.now) raws.now) }
+    ensures first { OnOk result (blocks.new.first ≡ with_breaks blocks.old.first (blocks_behind names.now [] raws.now)) }
+{
+    for place in 0..raws.len() {
+        let raw = &raws[place];
+        put_block(alloc, names, laid, numbers, place, raw, blocks)?;
+    }
+    Ok(())
 }
 
 /// The blocks of a text.
@@ -241,9 +277,6 @@ pub fn put_blocks(
         made: List::new(alloc),
         first,
     };
-    for place in 0..raws.len() {
-        let raw = &raws[place];
-        put_block(alloc, names, laid, &numbers, place, raw, &mut blocks)?;
-    }
+    put_each(alloc, names, laid, &numbers, raws, &mut blocks)?;
     Ok(blocks)
 }

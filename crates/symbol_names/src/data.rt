@@ -177,8 +177,9 @@ fn put_data<'t>(
         bytes,
     } = fill(alloc, d)?;
     join(&mut found.first, first);
+    put_made(&mut found.made, keep, data_by(number, bytes))?;
     found.laid.push(laid_of(alloc, &d.kind, refused)?)?;
-    put_made(&mut found.made, keep, data_by(number, bytes))
+    Ok(())
 }
 
 /// What the data blocks break whose place is past the last that a program may have.
@@ -202,6 +203,26 @@ fn are_few(dbs: &[RawData]) -> bool
     }
 }
 
+/// More data blocks, each with those before it.
+fn put_each<'t>(
+    alloc: Global,
+    names: &Names<'_>,
+    keep: bool,
+    dbs: &'t [RawData],
+    found: &mut Found<'t>,
+) -> Result<(), NoMemory>
+    requires { dbs.now ≡ names.now.dbs }
+    ensures laid { OnOk result (found.new.laid.items ≡ found.old.laid.items ++ map own_of dbs.now) }
+    ensures made { OnOk result (found.new.made ≡ found.old.made ++ filter_map (data_kept keep names.now.symbols) dbs.now) }
+    ensures first { OnOk result (found.new.first ≡ with_breaks found.old.first (dbs_behind names.now.symbols [] dbs.now)) }
+{
+    for place in 0..dbs.len() {
+        let d = &dbs[place];
+        put_data(alloc, names, keep, place, d, found)?;
+    }
+    Ok(())
+}
+
 /// The data blocks of a text.
 pub fn put_dbs<'t>(
     alloc: Global,
@@ -214,15 +235,11 @@ pub fn put_dbs<'t>(
     ensures made { IfOk result (λ f. f.made ≡ filter_map (data_kept (is_none (slice_get dbs.now MOST_BLOCKS)) names.now.symbols) dbs.now) }
     ensures first { IfOk result (λ f. f.first ≡ with_breaks first (dbs_behind names.now.symbols [] dbs.now)) }
 {
-    let keep = are_few(dbs);
     let mut found = Found {
         laid: Vec::new(alloc),
         made: List::new(alloc),
         first,
     };
-    for place in 0..dbs.len() {
-        let d = &dbs[place];
-        put_data(alloc, names, keep, place, d, &mut found)?;
-    }
+    put_each(alloc, names, are_few(dbs), dbs, &mut found)?;
     Ok(found)
 }

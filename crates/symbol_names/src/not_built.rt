@@ -202,14 +202,22 @@ fn note_dbs(dbs: &[RawData], first: &mut Option<Break>)
     }
 }
 
-/// The first of what a raw program has that is not built.
+/// The first of what a raw program has that is not built, by its names.
 #[tactic(auto, using(crate::proofs::Firsts::behind, crate::proofs::Firsts::from_none))]
+fn unbuilt_by(alloc: Global, names: &Names<'_>, raw: &RawProgram) -> Result<Option<Break>, NoMemory>
+    requires { names.now ≡ raw.now }
+    ensures { IfOk result (λ first. first ≡ first_of_all (unbuilt raw.now)) }
+{
+    let mut first = None;
+    note_dbs(raw.dbs.as_slice(), &mut first);
+    note_blocks(alloc, names, raw.blocks.as_slice(), &mut first)?;
+    Ok(first)
+}
+
+/// The first of what a raw program has that is not built.
 pub fn unbuilt(alloc: Global, raw: &RawProgram) -> Result<Option<Break>, NoMemory>
     ensures { IfOk result (λ first. first ≡ first_of_all (unbuilt raw.now)) }
 {
     let names = Names::new(alloc, raw)?;
-    let mut first = None;
-    note_dbs(raw.dbs.as_slice(), &mut first);
-    note_blocks(alloc, &names, raw.blocks.as_slice(), &mut first)?;
-    Ok(first)
+    unbuilt_by(alloc, &names, raw)
 }

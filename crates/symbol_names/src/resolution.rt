@@ -28,20 +28,20 @@ struct Parts {
     first: Option<Break>,
 }
 
-/// All that a raw program breaks, and the parts that can be made.
+/// All that a raw program breaks, and the parts that can be made, by its names.
 #[tactic(auto, using(crate::proofs::Firsts::behind, crate::proofs::Firsts::from_none))]
-fn parts_of(alloc: Global, raw: &RawProgram) -> Result<Parts, NoMemory>
+fn parts_by(alloc: Global, names: &Names<'_>, raw: &RawProgram) -> Result<Parts, NoMemory>
+    requires { names.now ≡ raw.now }
     ensures dbs { IfOk result (λ p. p.dbs ≡ filter_map (data_kept (is_none (slice_get raw.now.dbs MOST_BLOCKS)) raw.now.symbols) raw.now.dbs) }
     ensures blocks { IfOk result (λ p. p.blocks ≡ filter_map (block_kept raw.now) raw.now.blocks) }
     ensures first { IfOk result (λ p. p.first ≡ first_of_all (names raw.now)) }
 {
-    let names = Names::new(alloc, raw)?;
     let mut first = None;
     note_symbols(alloc, names.symbols(), raw.symbols.as_slice(), &mut first)?;
-    let Found { laid, made, first } = put_dbs(alloc, &names, raw.dbs.as_slice(), first)?;
+    let Found { laid, made, first } = put_dbs(alloc, names, raw.dbs.as_slice(), first)?;
     let mut later = first;
     note_too_many(raw.dbs.as_slice(), &mut later);
-    let blocks = put_blocks(alloc, &names, laid.as_slice(), raw.blocks.as_slice(), later)?;
+    let blocks = put_blocks(alloc, names, laid.as_slice(), raw.blocks.as_slice(), later)?;
     let Blocks {
         made: blocks,
         first,
@@ -51,6 +51,16 @@ fn parts_of(alloc: Global, raw: &RawProgram) -> Result<Parts, NoMemory>
         blocks,
         first,
     })
+}
+
+/// All that a raw program breaks, and the parts that can be made.
+fn parts_of(alloc: Global, raw: &RawProgram) -> Result<Parts, NoMemory>
+    ensures dbs { IfOk result (λ p. p.dbs ≡ filter_map (data_kept (is_none (slice_get raw.now.dbs MOST_BLOCKS)) raw.now.symbols) raw.now.dbs) }
+    ensures blocks { IfOk result (λ p. p.blocks ≡ filter_map (block_kept raw.now) raw.now.blocks) }
+    ensures first { IfOk result (λ p. p.first ≡ first_of_all (names raw.now)) }
+{
+    let names = Names::new(alloc, raw)?;
+    parts_by(alloc, &names, raw)
 }
 
 /// The area of a symbol's place.

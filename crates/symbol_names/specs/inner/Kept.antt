@@ -58,6 +58,10 @@ data_kept keep symbols d = kept_if keep (data_by (number_of symbols block.Db d.n
 
 -- Blocks
 
+-- what the temporaries and the instructions break
+abbrev pub body_breaks : RawProgram → RawBlock → List Break
+body_breaks text raw = breaks_in most_local (raw.temps ∷ []) ++ flat_map (instr_breaks (sight_of text raw)) raw.body
+
 -- what a heading, the temporaries and the instructions break
 abbrev pub block_breaks : RawProgram → List ℕ → RawBlock → List Break
 block_breaks text before raw =

@@ -1,15 +1,18 @@
-use Rattle.std.proofs.Common.{◌≡◌, [], ap, sym, take, ◌∙◌, arith}
+use Rattle.std.proofs.Common.{◌≡◌, ◌++◌, map, refl, ap, sym, take, ◌∙◌}
 use Rattle.std.specs.List.{filter_map}
-use Rattle.std.proofs.lemmas.Grind.{common_steps}
-use Rattle.std.proofs.lemmas.List.{take_all}
+use Rattle.std.proofs.lemmas.List.{append-nil, take_all}
 use Rattle.stl_rules.specs.Names.{number_of}
 use Rattle.stl_tree.specs.declared.raw.BlockKind.TheVariants as block
 use Rattle.symbol_names.specs.inner.Firsts.{with_breaks}
 use Rattle.symbol_names.specs.inner.Kept.{data_kept, db_breaks}
 use Rattle.symbol_names.specs.inner.Places.{db_numbers, numbers_before}
-use Rattle.symbol_names.proofs.Filtered.{put_turn}
+use Rattle.symbol_names.specs.inner.Refused.{own_of}
+use Rattle.symbol_names.proofs.Filtered.{map_turn, put_turn}
 use Rattle.symbol_names.proofs.Turns.{db_turn, dbs_ended}
-use Rattle.symbol_names.proofs.data.put_dbs.Goals as goal
+use Rattle.symbol_names.proofs.data.put_each.Goals as goal
+
+pub loop-place-init : goal.loop-place-init
+loop-place-init c = (sym (append-nil c.args.found.now.laid.items), sym (append-nil c.args.found.now.made), refl)
 
 pub loop-place-preserved : goal.loop-place-preserved
 loop-place-preserved c =
@@ -20,18 +23,22 @@ loop-place-preserved c =
     let noted : c.put_data.new.found.first ≡ with_breaks first (db_breaks (numbers_before (take place (db_numbers symbols c.args.dbs.now))) d (number_of symbols block.Db d.name))
     = c.in_ok-put_data.ensures.first
     ∙ ap (λ all. with_breaks first (db_breaks (numbers_before (take place (db_numbers symbols all))) d (number_of symbols block.Db d.name))) (sym c.requires) in (
-      grind (arith, common_steps),
-      put_turn (data_kept c.are_few-keep.result symbols) [] c.loop-place.found.made c.put_data.new.found.made c.args.dbs.now place d c.loop-place-test.true c.index-dbs-place.is
-          c.loop-place.invariant.1 c.in_ok-put_data.ensures.made,
+      map_turn own_of c.args.found.now.laid.items c.loop-place.found.laid.items c.put_data.new.found.laid.items c.args.dbs.now place d c.loop-place-test.true
+          c.index-dbs-place.is c.loop-place.invariant.0 c.in_ok-put_data.ensures.laid,
+      put_turn (data_kept c.args.keep symbols) c.args.found.now.made c.loop-place.found.made c.put_data.new.found.made c.args.dbs.now place d
+          c.loop-place-test.true c.index-dbs-place.is c.loop-place.invariant.1 c.in_ok-put_data.ensures.made,
       db_turn symbols first c.put_data.new.found.first _ c.args.dbs.now place d c.loop-place-test.true c.index-dbs-place.is noted c.loop-place.invariant.2,
     )
 
+pub returns-clause-laid : goal.returns-clause-laid
+returns-clause-laid c =
+    c.loop-place.invariant.0 ∙ ap (λ dbs. c.args.found.now.laid.items ++ map own_of dbs) (take_all c.loop-place.place c.args.dbs.now c.loop-place-test.false)
+
 pub returns-clause-made : goal.returns-clause-made
 returns-clause-made c =
-    let symbols = c.args.names.now.symbols in
-    let dbs = c.args.dbs.now in
-    c.loop-place.invariant.1 ∙ ap (filter_map (data_kept c.are_few-keep.result symbols)) (take_all c.loop-place.place dbs c.loop-place-test.false)
-    ∙ ap (λ b. filter_map (data_kept b symbols) dbs) c.are_few-keep.ensures
+    c.loop-place.invariant.1
+    ∙ ap (λ dbs. c.args.found.now.made ++ filter_map (data_kept c.args.keep c.args.names.now.symbols) dbs)
+    (take_all c.loop-place.place c.args.dbs.now c.loop-place-test.false)
 
 pub returns-clause-first : goal.returns-clause-first
 returns-clause-first c =

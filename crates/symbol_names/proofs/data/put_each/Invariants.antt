@@ -1,16 +1,16 @@
-use Rattle.std.proofs.Common.{◌≡◌, [], map, take, drop}
+use Rattle.std.proofs.Common.{◌≡◌, [], ◌++◌, map, take, drop}
 use Rattle.std.specs.List.{filter_map}
 use Rattle.stl_rules.specs.Stages.{dbs_behind}
 use Rattle.symbol_names.specs.inner.Firsts.{with_breaks}
 use Rattle.symbol_names.specs.inner.Kept.{data_kept}
 use Rattle.symbol_names.specs.inner.Places.{db_numbers, numbers_before}
 use Rattle.symbol_names.specs.inner.Refused.{own_of}
-use Rattle.symbol_names.proofs.data.put_dbs.Given as goal
+use Rattle.symbol_names.proofs.data.put_each.Given as goal
 
 -- what is found and what the rest breaks are what all data blocks break
 abbrev pub invariant-loop-place : goal.invariant-loop-place
 invariant-loop-place l =
-    (l.found.laid.items ≡ map own_of (take l.place l.dbs))
-    × (l.found.made ≡ filter_map (data_kept l.keep l.names.symbols) (take l.place l.dbs))
+    (l.found.laid.items ≡ l.initial.found.laid.items ++ map own_of (take l.place l.dbs))
+    × (l.found.made ≡ l.initial.found.made ++ filter_map (data_kept l.keep l.names.symbols) (take l.place l.dbs))
     × (with_breaks l.found.first (dbs_behind l.names.symbols (numbers_before (take l.place (db_numbers l.names.symbols l.dbs))) (drop l.place l.dbs))
     ≡ with_breaks l.initial.found.first (dbs_behind l.names.symbols [] l.dbs))
