@@ -1,7 +1,7 @@
 //! The memory itself: reads and writes by place.
 ghost use Rattle.std.specs.Prelude.{◌≡◌, ◌+◌, ◌<◌, ◌≤◌, All, [], length, get_or, slice_get, slice_set, Some, None, Ok, Err, is_some, MatchOption, MatchResult, IfOk, OnOk, map, replicate};
 ghost use Rattle.memory_areas.specs.Access.{aimed, bytes_wide, bytes_there, fault_of, unless, reached, put, read_bit, read_byte, read_word, read_dword, write_bit, write_byte, write_word, write_dword};
-ghost use Rattle.memory_areas.specs.Areas.{AreBlocks, Ascend, IsMemoryOf, block_of, bytes_in, bytes_of, cleared, fresh, no_locals, numbers_of, replaced};
+ghost use Rattle.memory_areas.specs.Areas.{AreBlocks, Ascend, IsMemoryOf, block_of, bytes_in, bytes_of, cleared, fresh, no_locals, numbers_of, replaced, with_areas};
 ghost use Rattle.memory_areas.specs.Memory.{IsActivation, IsMissing, HasBytes, HasActivations, HasRoom, Writes, joined, position_of};
 
 use crate::data_block::DataBlock;
@@ -364,5 +364,13 @@ impl Memory {
     {
         self.locals[depth as usize] = [0; LOCAL_BYTES];
         self.cells[depth as usize] = [0; LOCAL_BYTES];
+    }
+
+    /// Makes the local data and the constant actuals of all activations zero, with which a run begins.
+    pub fn clear_all(&mut self)
+        ensures { self.new ≡ with_areas self.old.areas }
+    {
+        self.locals = no_locals();
+        self.cells = no_locals();
     }
 }
