@@ -98,6 +98,7 @@ fn part(parts: &[[u8; LOCAL_BYTES]; ACTIVATIONS], activation: u8) -> &[u8]
 }
 
 /// Puts bytes into the block at a position.
+#[inline(always)]
 fn replace_in_block(blocks: &mut [Vec<u8>], position: usize, at: usize, new: &[u8])
     requires within { position < length blocks.old }
     requires room { at + length new.now ≤ length (get_or (map (λ b. b.items) blocks.old) position []) }
@@ -108,6 +109,7 @@ fn replace_in_block(blocks: &mut [Vec<u8>], position: usize, at: usize, new: &[u
 }
 
 /// Puts bytes into the part of an activation.
+#[inline(always)]
 fn replace_in_part(
     parts: &mut [[u8; LOCAL_BYTES]; ACTIVATIONS],
     activation: u8,
@@ -212,6 +214,7 @@ impl Memory {
     }
 
     /// The bytes of an area; `None` exactly for a data block that is not there.
+    #[inline(always)]
     pub fn bytes(&self, area: Area) -> Option<&[u8]>
         requires { IsActivation area }
         ensures { MatchOption result (IsMissing area self.now) (λ bytes. bytes_of area self.now ≡ Some bytes.now) }
@@ -235,7 +238,9 @@ impl Memory {
         Ok(())
     }
 
-    /// The bytes of the area that an access to a place reaches.
+    /// The bytes of the area that an access to a place reaches. It is no call, so that the place is not
+    /// copied on its way and the width is known.
+    #[inline(always)]
     fn reached(&self, place: Place, width: Width) -> Result<&[u8], Fault>
         requires { IsActivation place.area }
         ensures { MatchResult result
@@ -294,7 +299,9 @@ impl Memory {
         Ok(dword_at(bytes, place.byte as usize))
     }
 
-    /// Puts bytes into an area that is there and has room for them.
+    /// Puts bytes into an area that is there and has room for them. It is no call, so that how many bytes
+    /// there are is known where they are stored.
+    #[inline(always)]
     fn put(&mut self, place: Place, new: &[u8])
         requires { HasRoom (bytes_of place.area self.old) place.byte (length new.now) }
         ensures { self.new ≡ put place (bytes_there (Some place.area) self.old) new.now self.old }
