@@ -9,7 +9,6 @@ use crate::number::byte_of;
 use crate::pieces::{cut_line, next_piece, rest_after, strip_return};
 use crate::refusal::ImageRefusal;
 use crate::shape::{Shape, count_bytes, shape_of};
-use memory_areas::area_laws::memories_stay;
 use memory_areas::{Area, DataBlock, Memory, Place};
 use s7_base::{Line, NoMemory};
 use std::alloc::Global;
@@ -54,7 +53,6 @@ fn put_byte(memory: &mut Memory, area: Area, at: u32, value: u8)
     ensures done { memory.new ≡ written area at (value ∷ []) memory.old }
     ensures stays { MemoryStays memory.old memory.new }
 {
-    memories_stay();
     let place = Place {
         area,
         byte: at,
