@@ -4,7 +4,7 @@ ghost use Rattle.memory_areas.specs.Access.{aimed, bytes_wide, bytes_there, faul
 ghost use Rattle.memory_areas.specs.Areas.{AreBlocks, Ascend, IsMemoryOf, block_of, bytes_in, bytes_of, cleared, fresh, no_locals, numbers_of, replaced, with_areas};
 ghost use Rattle.memory_areas.specs.Memory.{IsActivation, IsMissing, HasBytes, HasActivations, HasRoom, Writes, joined, position_of};
 
-use crate::data_block::DataBlock;
+use crate::data_block::{DataBlock, copied};
 use crate::parts::{
     bit_of_byte, byte_with, bytes_of_dword, bytes_of_word, bytes_wide, dword_at, is_closed,
     is_unaligned, replace, word_at,
@@ -135,11 +135,6 @@ fn numbers_of(alloc: Global, blocks: &[DataBlock]) -> Result<Vec<u16>, NoMemory>
     Ok(numbers)
 }
 
-/// What the type of the bytes says, for the proof alone.
-fn have_8_bits(_bytes: &[u8])
-    ensures { All (λ b. b < 256) _bytes.now }
-{}
-
 /// The bytes of some data blocks.
 fn bytes_of(alloc: Global, blocks: &[DataBlock]) -> Result<Vec<Vec<u8>>, NoMemory>
     ensures stored { IfOk result (λ stored. map (λ b. b.items) stored.items ≡ map (λ b. b.bytes) blocks.now) }
@@ -148,8 +143,7 @@ fn bytes_of(alloc: Global, blocks: &[DataBlock]) -> Result<Vec<Vec<u8>>, NoMemor
     let mut stored = Vec::with_capacity(alloc, blocks.len())?;
     for block in blocks {
         let bytes = block.bytes.as_slice();
-        have_8_bits(bytes);
-        stored.push(Vec::from_slice(alloc, bytes)?)?;
+        stored.push(copied(alloc, bytes)?)?;
     }
     Ok(stored)
 }
