@@ -1,5 +1,5 @@
 //! The memory itself: reads and writes by place.
-ghost use Rattle.std.specs.Prelude.{◌≡◌, ◌+◌, ◌<◌, ◌≤◌, All, [], length, get_or, slice_get, slice_set, Some, None, Ok, Err, is_some, MatchOption, MatchResult, IfOk, OnOk, map, replicate};
+ghost use Rattle.std.specs.Prelude.{ℕ, ◌≡◌, ◌+◌, ◌^◌, ◌<◌, ◌≤◌, All, [], length, get_or, slice_get, slice_set, Some, None, Ok, Err, is_some, MatchOption, MatchResult, IfOk, OnOk, map, replicate};
 ghost use Rattle.memory_areas.specs.Access.{aimed, bytes_wide, bytes_there, fault_of, unless, reached, put, read_bit, read_byte, read_word, read_dword, write_bit, write_byte, write_word, write_dword};
 ghost use Rattle.memory_areas.specs.Areas.{AreBlocks, Ascend, IsMemoryOf, block_of, bytes_in, bytes_of, cleared, fresh, no_locals, numbers_of, replaced, with_areas};
 ghost use Rattle.memory_areas.specs.Memory.{IsActivation, IsMissing, HasBytes, HasActivations, HasRoom, Writes, joined, position_of};
@@ -124,9 +124,12 @@ fn replace_in_part(
     replace(part, at, new);
 }
 
-/// The numbers of some data blocks.
+/// The numbers of some data blocks. That they have 16 bits is what their type says, which a clause on blocks
+/// does not know.
+#[tactic(auto, using(crate::proofs::Fresh::one_number_more))]
 fn numbers_of(alloc: Global, blocks: &[DataBlock]) -> Result<Vec<u16>, NoMemory>
-    ensures { IfOk result (λ numbers. numbers.items ≡ numbers_of blocks.now) }
+    ensures numbers { IfOk result (λ numbers. numbers.items ≡ numbers_of blocks.now) }
+    ensures small { IfOk result (λ numbers. All (λ (n : ℕ). n < 2 ^ 16) numbers.items) }
 {
     let mut numbers = Vec::with_capacity(alloc, blocks.len())?;
     for block in blocks {
@@ -165,6 +168,7 @@ impl Memory {
         requires { AreBlocks blocks.now }
         ensures fresh { IfOk result (λ memory. memory ≡ fresh blocks.now) }
         ensures memory { IfOk result (λ memory. IsMemoryOf blocks.now memory.areas) }
+        ensures numbers { OnOk result (All (λ (n : ℕ). n < 2 ^ 16) (numbers_of blocks.now)) }
     {
         Ok(Memory {
             inputs: zeros(alloc, INPUT_BYTES)?,
