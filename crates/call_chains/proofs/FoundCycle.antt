@@ -5,26 +5,13 @@ use Rattle.std.proofs.lemmas.Bool.{leb-true, leb-false}
 use Rattle.std.proofs.lemmas.Option.{slice_get_cases, slice_get_within, slice_get-get_or}
 use Rattle.s7_base.specs.declared.reason.Line.{Line}
 use Rattle.call_chains.proofs.Cycles.{considered, next_unit, first_of_units, none_before}
-use Rattle.call_chains.proofs.Reached.{onward, reach_sound, decided}
+use Rattle.call_chains.proofs.Reached.{onward, reach_sound, one_less, decided}
 use Rattle.call_chains.specs.Chain.{Graph, Reaches, IsFirstCycle, call_in, call_at}
 use Rattle.call_chains.specs.Cycles.{Considers, IsFirstBefore}
-use Rattle.call_chains.specs.Search.{has, marks_after, lead_to_seen, are_closed, IsSound, Decides}
+use Rattle.call_chains.specs.Search.{has, marks_after, unmarked, lead_to_seen, are_closed, IsSound, Decides}
 use Rattle.call_chains.specs.declared.call.Call.{Call}
 
 -- Marks
-
--- how many units have no mark
-abbrev unmarked : List Bool → ℕ
-unmarked [] = 0
-unmarked (true ∷ seen) = unmarked seen
-unmarked (false ∷ seen) = suc (unmarked seen)
-
-one_less : (seen : List Bool) (i : ℕ) → get_or seen i true ≡ false → unmarked (slice_set seen i true) < unmarked seen
-one_less [] i e = absurd cc
-one_less (true ∷ seen) zero e = absurd cc
-one_less (false ∷ seen) zero e = omega arith
-one_less (true ∷ seen) (suc i) e = one_less seen i e
-one_less (false ∷ seen) (suc i) e = let h = one_less seen i e in omega (arith, h)
 
 -- a unit that is not seen is marked
 marks_less : (from i : ℕ) (seen : List Bool) → has from seen i ≡ false → unmarked (marks_after from i seen) < unmarked seen

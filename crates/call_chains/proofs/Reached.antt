@@ -1,10 +1,11 @@
--- What a search has seen is reached; and where what it has seen calls nothing else, no more is reached.
-use Rattle.std.proofs.Common.{◌≡◌, ◌≢◌, ◌<◌, ◌+◌, ℕ, zero, suc, Bool, true, false, not, ◌&&◌, ◌||◌, ◌==◌, cond, List, [], ◌∷◌, ◌++◌, length, get_or, slice_get, slice_set, Option, Some, None, refl, sym, ap, subst, ◌∙◌, arith, length-set, eqb-true}
+-- What a search has seen is reached, and no unit comes to wait twice; and where what it has seen calls nothing else, no
+-- more is reached.
+use Rattle.std.proofs.Common.{◌≡◌, ◌≢◌, ◌<◌, ◌≤◌, ◌+◌, ℕ, zero, suc, Bool, true, false, not, ◌&&◌, ◌||◌, ◌==◌, cond, List, [], ◌∷◌, ◌++◌, length, get_or, slice_get, slice_set, Option, Some, None, refl, sym, ap, subst, ◌∙◌, arith, length-set, length-append, eqb-true}
 use Rattle.std.proofs.lemmas.Bool.{eqb-false}
 use Rattle.std.proofs.lemmas.Option.{slice_get-get_or}
 use Rattle.std.proofs.lemmas.List.{get_or-set_other}
 use Rattle.call_chains.specs.Chain.{Graph, Reaches, call_in, call_at, follow, with_call}
-use Rattle.call_chains.specs.Search.{has, marks_after, work_after, lead_to_seen, are_closed, AllReached, IsSound, Decides}
+use Rattle.call_chains.specs.Search.{has, marks_after, unmarked, work_after, lead_to_seen, are_closed, AllReached, IsSound, Decides}
 use Rattle.call_chains.specs.declared.call.Call.{Call}
 
 -- Paths
@@ -68,6 +69,35 @@ visited graph from i k calls items d seen work h at same l s r =
     let unit : slice_get graph i ≡ Some items = slice_get-get_or graph i calls h ∙ ap (λ (c : List Call). Some c) (sym (same ∙ at)) in
     let call : call_at graph i k ≡ Some (get_or items k d) = ap (λ u. call_in u k) unit ∙ slice_get-get_or items k d l in
     reach_sound graph from (get_or items k d).callee seen work s (onward graph from i k (get_or items k d) r call)
+
+-- What is left to do
+
+pub one_less : (seen : List Bool) (i : ℕ) → get_or seen i true ≡ false → unmarked (slice_set seen i true) < unmarked seen
+one_less [] i e = absurd cc
+one_less (true ∷ seen) zero e = absurd cc
+one_less (false ∷ seen) zero e = omega arith
+one_less (true ∷ seen) (suc i) e = one_less seen i e
+one_less (false ∷ seen) (suc i) e = let h = one_less seen i e in omega (arith, h)
+
+no_more : (n : ℕ) → n ≤ n
+no_more n = omega arith
+
+one_waits : (a b c d : ℕ) → a < b → d ≡ c + 1 → a + d ≤ b + c
+one_waits a b c d h e = omega (arith, h, e)
+
+leaves : (from i : ℕ) (seen : List Bool) (work : List ℕ) → unmarked (marks_after from i seen) + length (work_after from i seen work) ≤ unmarked seen + length work
+leaves from i seen work = by (i == from) (get_or seen i true) refl
+  where
+    by : (t m : Bool) → get_or seen i true ≡ m
+        → unmarked (cond (t || m) seen (slice_set seen i true)) + length (cond (t || m) work (work ++ i ∷ [])) ≤ unmarked seen + length work
+    by true m e = no_more (unmarked seen + length work)
+    by false true e = no_more (unmarked seen + length work)
+    by false false e = one_waits (unmarked (slice_set seen i true)) (unmarked seen) (length work) (length (work ++ i ∷ [])) (one_less seen i e) (length-append work (i ∷ []))
+
+-- a unit that comes to wait gets a mark
+pub reach_leaves : (from i : ℕ) (seen after : List Bool) (work behind : List ℕ) → after ≡ marks_after from i seen → behind ≡ work_after from i seen work
+    → unmarked after + length behind ≤ unmarked seen + length work
+reach_leaves from i seen after work behind e f = rw (e, f) (leaves from i seen work)
 
 -- Closed sets
 

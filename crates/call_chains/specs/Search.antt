@@ -1,5 +1,5 @@
 -- A search for the units that are reached from one.
-use Rattle.std.specs.Prelude.{◌≡◌, ℕ, ◌+◌, ◌<◌, Bool, true, false, not, ◌&&◌, ◌||◌, ◌==◌, if◌then◌else◌, List, [], ◌∷◌, ◌++◌, length, get_or, slice_set}
+use Rattle.std.specs.Prelude.{◌≡◌, ℕ, suc, ◌+◌, ◌<◌, Bool, true, false, not, ◌&&◌, ◌||◌, ◌==◌, if◌then◌else◌, List, [], ◌∷◌, ◌++◌, length, get_or, slice_set}
 use Rattle.std.specs.List.{list_all}
 use Rattle.call_chains.specs.Chain.{Graph, Reaches}
 use Rattle.call_chains.specs.declared.call.Call.{Call}
@@ -16,6 +16,12 @@ has from seen i = i == from || get_or seen i true
 -- the marks after one more unit is met
 abbrev pub marks_after : ℕ → ℕ → List Bool → List Bool
 marks_after from i seen = if has from seen i then seen else slice_set seen i true
+
+-- how many units have no mark
+abbrev pub unmarked : List Bool → ℕ
+unmarked [] = 0
+unmarked (true ∷ seen) = unmarked seen
+unmarked (false ∷ seen) = suc (unmarked seen)
 
 -- the units that wait after one more unit is met; one that is seen already does not wait again
 abbrev pub work_after : ℕ → ℕ → List Bool → List ℕ → List ℕ

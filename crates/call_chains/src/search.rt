@@ -1,7 +1,7 @@
 //! A search for the units that are reached from one.
-ghost use Rattle.std.specs.Prelude.{◌≡◌, ◌<◌, [], ◌∷◌, true, false, length, replicate, IfOk, OnOk};
+ghost use Rattle.std.specs.Prelude.{◌≡◌, ◌+◌, ◌<◌, ◌≤◌, [], ◌∷◌, true, false, length, replicate, IfOk, OnOk};
 ghost use Rattle.call_chains.specs.Chain.{Reaches};
-ghost use Rattle.call_chains.specs.Search.{are_closed, has, lead_to_seen, marks_after, work_after, Decides, IsSound};
+ghost use Rattle.call_chains.specs.Search.{are_closed, has, lead_to_seen, marks_after, unmarked, work_after, Decides, IsSound};
 
 use crate::call::Call;
 use s7_base::{List, NoMemory};
@@ -50,6 +50,8 @@ impl Search {
         requires reached { Reaches graph.now self.old.from unit }
         ensures from { OnOk result (self.new.from ≡ self.old.from) }
         ensures sound { OnOk result (IsSound graph.now self.new.from self.new.seen.items self.new.work.items) }
+        ensures left { OnOk result (unmarked self.new.seen.items + length self.new.work.items
+            ≤ unmarked self.old.seen.items + length self.old.work.items) }
     {
         let Some(calls) = graph.get(unit) else {
             return Ok(());
@@ -66,10 +68,7 @@ impl Search {
         ensures from { OnOk result (self.new.from ≡ self.old.from) }
         ensures sound { OnOk result (IsSound graph.now self.new.from self.new.seen.items self.new.work.items) }
     {
-        for _ in 0..u64::MAX {
-            let Some(unit) = self.work.pop() else {
-                return Ok(());
-            };
+        while let Some(unit) = self.work.pop() {
             self.visit(graph, unit)?;
         }
         Ok(())
@@ -106,7 +105,8 @@ impl Search {
     }
 }
 
-/// Whether a unit is reached from another by calls. One round sees all that are.
+/// Whether a unit is reached from another by calls. A run sees all that are. That it has is looked at here, and
+/// not proved.
 pub fn reaches(
     alloc: Global,
     graph: &[List<Call>],
@@ -117,11 +117,9 @@ pub fn reaches(
     ensures { IfOk result (Decides (Reaches graph.now from to)) }
 {
     let mut search = Search::new(alloc, graph.len(), from)?;
-    for _ in 0..u64::MAX {
-        search.run(graph)?;
-        if search.is_closed(graph) {
-            return Ok(search.has(to));
-        }
+    search.run(graph)?;
+    if search.is_closed(graph) {
+        return Ok(search.has(to));
     }
     Err(NoMemory)
 }

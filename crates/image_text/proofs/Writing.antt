@@ -153,13 +153,12 @@ count_is count None e = cc
 count_is count (Some values) e = cc
 
 -- a new memory is usable
-pub usable_fresh : (blocks : List DataBlock) (m : Contents) (numbers : List ℕ) → AreBlocks blocks → m ≡ fresh blocks → numbers ≡ numbers_of m.areas.blocks → All (λ (n : ℕ). n < 2 ^ 16) numbers → IsUsable m
-usable_fresh blocks m numbers a e f h =
-    let same : numbers ≡ numbers_of blocks = f ∙ ap (λ (x : Contents). numbers_of x.areas.blocks) e in
+pub usable_fresh : (blocks : List DataBlock) (m : Contents) → AreBlocks blocks → m ≡ fresh blocks → All (λ (n : ℕ). n < 2 ^ 16) (numbers_of blocks) → IsUsable m
+usable_fresh blocks m a e h =
     let sound : IsUsable (fresh blocks) = record {
       inputs = simp length-replicate (omega arith);
       outputs = simp length-replicate (omega arith);
       markers = simp length-replicate (omega arith);
-      blocks = are_blocks 1 blocks (omega arith) a.ascend a.sized (subst (All (λ (n : ℕ). n < 2 ^ 16)) same h);
+      blocks = are_blocks 1 blocks (omega arith) a.ascend a.sized h;
     } in
     subst IsUsable (sym e) sound

@@ -1,5 +1,5 @@
 //! Reads an image.
-ghost use Rattle.std.specs.Prelude.{ℕ, ◌≡◌, ◌∷◌, [], ◌+◌, ◌<◌, ◌^◌, All, IfOk, IsSome, OnOk, Some, false, length, true};
+ghost use Rattle.std.specs.Prelude.{◌≡◌, ◌∷◌, [], ◌+◌, ◌<◌, ◌^◌, IfOk, IsSome, OnOk, Some, false, length, true};
 ghost use Rattle.memory_areas.specs.Access.{is_closed};
 ghost use Rattle.memory_areas.specs.Areas.{AreBlocks, IsMemoryOf, bytes_of, fresh};
 ghost use Rattle.image_text.specs.Image.{has_room, image_of, is_blank, line_on, line_said, says_nothing, shape_said, values_of, written};
@@ -9,7 +9,6 @@ use crate::number::byte_of;
 use crate::pieces::{cut_line, next_piece, rest_after, strip_return};
 use crate::refusal::ImageRefusal;
 use crate::shape::{Shape, count_bytes, shape_of};
-use memory_areas::area_laws::memories_stay;
 use memory_areas::{Area, DataBlock, Memory, Place};
 use s7_base::{Line, NoMemory};
 use std::alloc::Global;
@@ -54,7 +53,6 @@ fn put_byte(memory: &mut Memory, area: Area, at: u32, value: u8)
     ensures done { memory.new ≡ written area at (value ∷ []) memory.old }
     ensures stays { MemoryStays memory.old memory.new }
 {
-    memories_stay();
     let place = Place {
         area,
         byte: at,
@@ -117,11 +115,6 @@ fn apply_line(memory: &mut Memory, line: Line, text: &[u8]) -> Result<(), ImageR
     apply_shape(memory, line, shape)
 }
 
-/// What the type of the numbers says, for the proof alone.
-fn have_16_bits(_numbers: &[u16])
-    ensures { All (λ (n : ℕ). n < 2 ^ 16) _numbers.now }
-{}
-
 fn new_memory(alloc: Global, blocks: &[DataBlock]) -> Result<Memory, NoMemory>
     requires { AreBlocks blocks.now }
     ensures fresh { IfOk result (λ memory. memory ≡ fresh blocks.now) }
@@ -129,7 +122,6 @@ fn new_memory(alloc: Global, blocks: &[DataBlock]) -> Result<Memory, NoMemory>
     ensures memory { IfOk result (λ memory. IsMemoryOf blocks.now memory.areas) }
 {
     let memory = Memory::new(alloc, blocks)?;
-    have_16_bits(memory.numbers());
     Ok(memory)
 }
 

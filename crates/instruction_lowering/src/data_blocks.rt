@@ -1,5 +1,5 @@
 //! The data blocks of a program, for its graph.
-ghost use Rattle.std.specs.Prelude.{◌≡◌, ◌<◌, All, IfOk, OnOk};
+ghost use Rattle.std.specs.Prelude.{◌≡◌, All, IfOk, OnOk};
 ghost use Rattle.st_tree.specs.Proper.{IsDataBlock};
 
 use memory_areas::DataBlock;
@@ -24,11 +24,6 @@ fn copied_block(alloc: Global, block: &DataBlock) -> Result<DataBlock, NoMemory>
     ensures bytes { OnOk result (IsDataBlock block.now) }
 {
     let _number = block.number;
-    have_8_bits(block.bytes.as_slice());
-    block.copy(alloc)
+    let copy = block.copy(alloc)?;
+    Ok(copy)
 }
-
-/// What the type of the bytes says, for the proof alone.
-fn have_8_bits(_bytes: &[u8])
-    ensures { All (λ b. b < 256) _bytes.now }
-{}

@@ -1,8 +1,8 @@
 -- A new memory is one of its data blocks.
-use Rattle.std.proofs.Common.{◌≡◌, ℕ, ◌+◌, ◌<◌, List, [], ◌∷◌, ◌++◌, length, get_or, map, take, Vec, Global, refl, sym, ap, ◌∙◌, subst, arith}
+use Rattle.std.proofs.Common.{◌≡◌, ℕ, ◌+◌, ◌^◌, ◌<◌, List, [], ◌∷◌, ◌++◌, length, get_or, map, take, Vec, Global, refl, sym, ap, ◌∙◌, subst, arith}
 use Rattle.std.specs.Prelude.{All, replicate}
 use Rattle.std.proofs.lemmas.List.{length-replicate, map-append, take_more}
-use Rattle.std.proofs.lemmas.List.Elements.{All-head, All-more, All-replicate, All-tail}
+use Rattle.std.proofs.lemmas.List.Elements.{All-append, All-cons, All-head, All-more, All-nil, All-replicate, All-tail}
 use Rattle.memory_areas.specs.Areas.{Contents, IsArea, IsMemoryOf, Match, fresh}
 use Rattle.memory_areas.specs.Memory.{HasBytes}
 use Rattle.memory_areas.specs.declared.data_block.DataBlock.{DataBlock}
@@ -25,6 +25,10 @@ stored_more blocks i block stored after new h is e f g =
 
 pub bytes_more : (blocks : List DataBlock) (i : ℕ) (block : DataBlock) → i < length blocks → block ≡ get_or blocks i block → HasBytes block → All HasBytes (take i blocks) → All HasBytes (take (i + 1) blocks)
 bytes_more blocks i block h is small before = All-more HasBytes blocks i block h before (subst HasBytes is small)
+
+-- numbers of 16 bits, and one more of them
+pub one_number_more : (ns : List ℕ) (n : ℕ) → All (λ (k : ℕ). k < 2 ^ 16) ns → n < 2 ^ 16 → All (λ (k : ℕ). k < 2 ^ 16) (ns ++ (n ∷ []))
+one_number_more ns n all h = All-append (λ (k : ℕ). k < 2 ^ 16) ns (n ∷ []) all (All-cons (λ (k : ℕ). k < 2 ^ 16) n [] h (All-nil (λ (k : ℕ). k < 2 ^ 16)))
 
 -- an area of zeros
 zeros : (size : ℕ) → IsArea size (replicate size 0)

@@ -1,7 +1,7 @@
 mod AccessRows
 mod Accesses
 mod AreaRows
-mod AreaLaws
+pub mod AreaLaws
 mod Bits
 mod Blocks
 mod Bytes

@@ -1,6 +1,7 @@
 //! Data blocks.
-ghost use Rattle.std.specs.Prelude.{◌≡◌, IfOk, true};
+ghost use Rattle.std.specs.Prelude.{◌≡◌, ◌<◌, All, IfOk, OnOk, true};
 ghost use Rattle.memory_areas.specs.Areas.{AreBlocks, IsSized};
+ghost use Rattle.memory_areas.specs.Memory.{HasBytes};
 
 use crate::sizes::{LEAST_BLOCK_BYTES, MOST_BLOCK_BYTES, MOST_BLOCKS};
 use s7_base::{List, NoMemory};
@@ -13,14 +14,25 @@ pub struct DataBlock {
     pub bytes: List<u8>,
 }
 
+/// The same bytes in memory of their own. That they are bytes is what their type says, which a clause on a
+/// block does not know.
+pub fn copied(alloc: Global, bytes: &[u8]) -> Result<Vec<u8>, NoMemory>
+    ensures same { IfOk result (λ copy. copy.items ≡ bytes.now) }
+    ensures small { OnOk result (All (λ b. b < 256) bytes.now) }
+{
+    Ok(Vec::from_slice(alloc, bytes)?)
+}
+
 impl DataBlock {
     /// A block of the same number and bytes.
     pub fn copy(&self, alloc: Global) -> Result<DataBlock, NoMemory>
-        ensures { IfOk result (λ block. block ≡ self.now) }
+        ensures same { IfOk result (λ block. block ≡ self.now) }
+        ensures bytes { OnOk result (HasBytes self.now) }
     {
+        let bytes = copied(alloc, self.bytes.as_slice())?;
         Ok(DataBlock {
             number: self.number,
-            bytes: self.bytes.copy(alloc)?,
+            bytes: List::from_vec(bytes),
         })
     }
 }

@@ -1,10 +1,10 @@
 //! The memory itself: reads and writes by place.
-ghost use Rattle.std.specs.Prelude.{◌≡◌, ◌+◌, ◌<◌, ◌≤◌, All, [], length, get_or, slice_get, slice_set, Some, None, Ok, Err, is_some, MatchOption, MatchResult, IfOk, OnOk, map, replicate};
+ghost use Rattle.std.specs.Prelude.{ℕ, ◌≡◌, ◌+◌, ◌^◌, ◌<◌, ◌≤◌, All, [], length, get_or, slice_get, slice_set, Some, None, Ok, Err, is_some, MatchOption, MatchResult, IfOk, OnOk, map, replicate};
 ghost use Rattle.memory_areas.specs.Access.{aimed, bytes_wide, bytes_there, fault_of, unless, reached, put, read_bit, read_byte, read_word, read_dword, write_bit, write_byte, write_word, write_dword};
-ghost use Rattle.memory_areas.specs.Areas.{AreBlocks, Ascend, IsMemoryOf, block_of, bytes_in, bytes_of, cleared, fresh, no_locals, numbers_of, replaced};
+ghost use Rattle.memory_areas.specs.Areas.{AreBlocks, Ascend, IsMemoryOf, block_of, bytes_in, bytes_of, cleared, fresh, no_locals, numbers_of, replaced, with_areas};
 ghost use Rattle.memory_areas.specs.Memory.{IsActivation, IsMissing, HasBytes, HasActivations, HasRoom, Writes, joined, position_of};
 
-use crate::data_block::DataBlock;
+use crate::data_block::{DataBlock, copied};
 use crate::parts::{
     bit_of_byte, byte_with, bytes_of_dword, bytes_of_word, bytes_wide, dword_at, is_closed,
     is_unaligned, replace, word_at,
@@ -98,6 +98,7 @@ fn part(parts: &[[u8; LOCAL_BYTES]; ACTIVATIONS], activation: u8) -> &[u8]
 }
 
 /// Puts bytes into the block at a position.
+#[inline(always)]
 fn replace_in_block(blocks: &mut [Vec<u8>], position: usize, at: usize, new: &[u8])
     requires within { position < length blocks.old }
     requires room { at + length new.now ≤ length (get_or (map (λ b. b.items) blocks.old) position []) }
@@ -108,6 +109,7 @@ fn replace_in_block(blocks: &mut [Vec<u8>], position: usize, at: usize, new: &[u
 }
 
 /// Puts bytes into the part of an activation.
+#[inline(always)]
 fn replace_in_part(
     parts: &mut [[u8; LOCAL_BYTES]; ACTIVATIONS],
     activation: u8,
@@ -122,9 +124,12 @@ fn replace_in_part(
     replace(part, at, new);
 }
 
-/// The numbers of some data blocks.
+/// The numbers of some data blocks. That they have 16 bits is what their type says, which a clause on blocks
+/// does not know.
+#[tactic(auto, using(crate::proofs::Fresh::one_number_more))]
 fn numbers_of(alloc: Global, blocks: &[DataBlock]) -> Result<Vec<u16>, NoMemory>
-    ensures { IfOk result (λ numbers. numbers.items ≡ numbers_of blocks.now) }
+    ensures numbers { IfOk result (λ numbers. numbers.items ≡ numbers_of blocks.now) }
+    ensures small { IfOk result (λ numbers. All (λ (n : ℕ). n < 2 ^ 16) numbers.items) }
 {
     let mut numbers = Vec::with_capacity(alloc, blocks.len())?;
     for block in blocks {
@@ -132,11 +137,6 @@ fn numbers_of(alloc: Global, blocks: &[DataBlock]) -> Result<Vec<u16>, NoMemory>
     }
     Ok(numbers)
 }
-
-/// What the type of the bytes says, for the proof alone.
-fn have_8_bits(_bytes: &[u8])
-    ensures { All (λ b. b < 256) _bytes.now }
-{}
 
 /// The bytes of some data blocks.
 fn bytes_of(alloc: Global, blocks: &[DataBlock]) -> Result<Vec<Vec<u8>>, NoMemory>
@@ -146,8 +146,7 @@ fn bytes_of(alloc: Global, blocks: &[DataBlock]) -> Result<Vec<Vec<u8>>, NoMemor
     let mut stored = Vec::with_capacity(alloc, blocks.len())?;
     for block in blocks {
         let bytes = block.bytes.as_slice();
-        have_8_bits(bytes);
-        stored.push(Vec::from_slice(alloc, bytes)?)?;
+        stored.push(copied(alloc, bytes)?)?;
     }
     Ok(stored)
 }
@@ -169,6 +168,7 @@ impl Memory {
         requires { AreBlocks blocks.now }
         ensures fresh { IfOk result (λ memory. memory ≡ fresh blocks.now) }
         ensures memory { IfOk result (λ memory. IsMemoryOf blocks.now memory.areas) }
+        ensures numbers { OnOk result (All (λ (n : ℕ). n < 2 ^ 16) (numbers_of blocks.now)) }
     {
         Ok(Memory {
             inputs: zeros(alloc, INPUT_BYTES)?,
@@ -212,6 +212,7 @@ impl Memory {
     }
 
     /// The bytes of an area; `None` exactly for a data block that is not there.
+    #[inline(always)]
     pub fn bytes(&self, area: Area) -> Option<&[u8]>
         requires { IsActivation area }
         ensures { MatchOption result (IsMissing area self.now) (λ bytes. bytes_of area self.now ≡ Some bytes.now) }
@@ -235,7 +236,9 @@ impl Memory {
         Ok(())
     }
 
-    /// The bytes of the area that an access to a place reaches.
+    /// The bytes of the area that an access to a place reaches. It is no call, so that the place is not
+    /// copied on its way and the width is known.
+    #[inline(always)]
     fn reached(&self, place: Place, width: Width) -> Result<&[u8], Fault>
         requires { IsActivation place.area }
         ensures { MatchResult result
@@ -294,7 +297,9 @@ impl Memory {
         Ok(dword_at(bytes, place.byte as usize))
     }
 
-    /// Puts bytes into an area that is there and has room for them.
+    /// Puts bytes into an area that is there and has room for them. It is no call, so that how many bytes
+    /// there are is known where they are stored.
+    #[inline(always)]
     fn put(&mut self, place: Place, new: &[u8])
         requires { HasRoom (bytes_of place.area self.old) place.byte (length new.now) }
         ensures { self.new ≡ put place (bytes_there (Some place.area) self.old) new.now self.old }
@@ -364,5 +369,13 @@ impl Memory {
     {
         self.locals[depth as usize] = [0; LOCAL_BYTES];
         self.cells[depth as usize] = [0; LOCAL_BYTES];
+    }
+
+    /// Makes the local data and the constant actuals of all activations zero, with which a run begins.
+    pub fn clear_all(&mut self)
+        ensures { self.new ≡ with_areas self.old.areas }
+    {
+        self.locals = no_locals();
+        self.cells = no_locals();
     }
 }

@@ -7,6 +7,7 @@ use crate::place::Area;
 use s7_base::Width;
 
 /// How many bytes a width reaches.
+#[inline(always)]
 pub fn bytes_wide(width: Width) -> usize
     ensures value { result ≡ bytes_wide width }
     ensures few { result ≤ 4 }
@@ -19,6 +20,7 @@ pub fn bytes_wide(width: Width) -> usize
 }
 
 /// No data block is open.
+#[inline(always)]
 pub fn is_closed(area: Area) -> bool
     ensures { result ≡ is_closed (Some area) }
 {
@@ -26,6 +28,7 @@ pub fn is_closed(area: Area) -> bool
 }
 
 /// The bit number is none that the width has.
+#[inline(always)]
 pub fn is_unaligned(width: Width, bit: u8) -> bool
     ensures { result ≡ is_unaligned width bit }
 {
@@ -94,6 +97,7 @@ pub fn bytes_of_dword(word: u32) -> [u8; 4]
 }
 
 /// Puts other bytes in the place of those from `at` on.
+#[inline(always)]
 pub fn replace(bytes: &mut [u8], at: usize, new: &[u8])
     requires { at + length new.now ≤ length bytes.old }
     ensures { bytes.new ≡ replaced bytes.old at new.now }

@@ -35,6 +35,7 @@ pub enum AreaName {
 impl AreaName {
     /// The area that the name stands for. `db` and `di` are the numbers in the DB and the DI register, and
     /// `activation` is that of the running activation.
+    #[inline(always)]
     pub fn area(self, db: u16, di: u16, activation: u8) -> Area
         ensures area { result ≡ area_named self db di activation }
         ensures activation { activation < ACTIVATIONS → IsActivation result }

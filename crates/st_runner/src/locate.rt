@@ -38,7 +38,8 @@ impl State {
         low_word(self.registers.get(Reg::DiNo))
     }
 
-    /// The place that a direct variable names.
+    /// The place that a direct variable names. It is no call, so that the place is not copied on its way.
+    #[inline(always)]
     fn place_of(&self, name: AreaName, byte: u32, bit: u8) -> Place
         requires { IsRunning self.now }
         ensures place { result ≡ place_of name byte bit (state_of self.now) }

@@ -1,6 +1,5 @@
 //! What a runner reserves, and where its first unit begins.
 ghost use Rattle.std.specs.Prelude.{◌≡◌, ◌*◌, ◌≤◌, ◌∷◌, [], length, vec_capacity, IfOk, ℕ};
-ghost use Rattle.memory_areas.specs.Areas.{with_areas};
 ghost use Rattle.memory_areas.specs.declared.sizes.TheConstants.{ACTIVATIONS};
 ghost use Rattle.st_runner.specs.declared.frame.Frame.TheVariants.{Rest};
 ghost use Rattle.st_runner.specs.declared.steps.TheConstants.{UNIT_FRAMES};
@@ -68,16 +67,6 @@ pub fn spare(alloc: Global, locals: usize, formals: usize) -> Result<Vec<Activat
     Ok(spare)
 }
 
-/// The memory with zeros in the local data and the constant actuals of each activation.
-pub fn cleared(mut memory: Memory) -> Memory
-    ensures { result ≡ with_areas memory.areas }
-{
-    for depth in 0..ACTIVATIONS as u8 {
-        memory.clear(depth);
-    }
-    memory
-}
-
 /// The registers at the start of a call.
 pub fn registers_at_start(block: BlockName, instance: u16) -> Registers
     ensures { numbers_of result ≡ registers_at_start block instance }
@@ -134,7 +123,7 @@ pub fn start(
     alloc: Global,
     units: &[Pou],
     unit: &Pou,
-    memory: Memory,
+    mut memory: Memory,
     call: &Call,
 ) -> Result<State, NoMemory>
     requires locals { length unit.now.locals ≤ most_locals units.now }
@@ -151,8 +140,9 @@ pub fn start(
     let mut activations = Vec::with_capacity(alloc, ACTIVATIONS)?;
     begin(&mut first, unit, call);
     activations.push_reserved(first);
+    memory.clear_all();
     Ok(State {
-        memory: cleared(memory),
+        memory,
         registers: registers_at_start(call.block, call.instance),
         activations,
         spare,

@@ -1,4 +1,3 @@
-mod Clearing
 mod Moves
 mod Pushing
 mod StatusWord

@@ -2,11 +2,10 @@
 ghost use Rattle.std.specs.Prelude.{◌≡◌, ◌+◌, ◌^◌, ◌<◌, IfSome, MatchOption, Some, None};
 ghost use Rattle.stl_machine.specs.Machine.{IsNew, is_still, memory_of, outcome_of, seen};
 ghost use Rattle.stl_tree.specs.StlRun.{block_called, block_named, instruction, is_same_name, step, steps_on};
-ghost use Rattle.memory_areas.specs.Areas.{with_areas};
 
 use crate::effect::{Effect, effect_of};
 use crate::state::{Registers, State};
-use memory_areas::{ACTIVATIONS, Memory};
+use memory_areas::Memory;
 use nesting_stack::Nesting;
 use s7_base::{Fault, Outcome};
 use std::alloc::Global;
@@ -82,22 +81,12 @@ fn instruction<'p>(program: &'p Program, state: &State) -> Option<&'p Instr>
     block.body.as_slice().get(state.position)
 }
 
-/// The memory with zeros in the local data and the constant actuals of each activation.
-fn cleared(mut memory: Memory) -> Memory
-    ensures { result ≡ with_areas memory.areas }
-{
-    for depth in 0..ACTIVATIONS as u8 {
-        memory.clear(depth);
-    }
-    memory
-}
-
 impl<'p> Machine<'p> {
     /// A machine at the start of a call, its registers and local data zero.
     pub fn new(
         _alloc: Global,
         program: &'p Program,
-        memory: Memory,
+        mut memory: Memory,
         call: &Call,
     ) -> Result<Machine<'p>, MachineRefusal>
         ensures { IsNew program.now call.now memory.areas result }
@@ -105,12 +94,13 @@ impl<'p> Machine<'p> {
         let Some(block) = block_called(program, call) else {
             return Err(MachineRefusal::BadCall);
         };
+        memory.clear_all();
         Ok(Machine {
             program,
             state: State {
                 registers: Registers::start(),
                 brackets: Nesting::new(),
-                memory: cleared(memory),
+                memory,
                 block,
                 position: 0,
             },

@@ -1,18 +1,24 @@
-use Rattle.std.proofs.Common.{subst}
-use Rattle.call_chains.specs.Search.{AllReached}
+use Rattle.std.proofs.Common.{◌≡◌, ◌≤◌, ◌+◌, ◌∷◌, [], length, ap, ◌∙◌, subst, arith, length-append}
+use Rattle.call_chains.specs.Search.{AllReached, unmarked}
 use Rattle.call_chains.proofs.Reached.{taken}
 use Rattle.call_chains.proofs.search.Search.run.Goals as goal
 
 pub visit-requires-clause-sound : goal.visit-requires-clause-sound
 visit-requires-clause-sound c =
-    let waiting = subst (AllReached c.args.graph.now c.loop.self.from) c.in-Some.ensures.items c.loop.invariant.sound.waiting in
+    let waiting = subst (AllReached c.args.graph.now c.loop-unit.self.from) c.in-Some.ensures.items c.loop-unit.invariant.sound.waiting in
     record {
-      size = c.loop.invariant.sound.size;
-      marked = c.loop.invariant.sound.marked;
-      waiting = (taken c.args.graph.now c.loop.self.from c.in-Some.unit c.pop.new.self.items waiting).0;
+      size = c.loop-unit.invariant.sound.size;
+      marked = c.loop-unit.invariant.sound.marked;
+      waiting = (taken c.args.graph.now c.loop-unit.self.from c.in-Some.unit c.pop.new.self.items waiting).0;
     }
 
 pub visit-requires-clause-reached : goal.visit-requires-clause-reached
 visit-requires-clause-reached c =
-    let waiting = subst (AllReached c.args.graph.now c.loop.self.from) c.in-Some.ensures.items c.loop.invariant.sound.waiting in
-    (taken c.args.graph.now c.loop.self.from c.in-Some.unit c.pop.new.self.items waiting).1
+    let waiting = subst (AllReached c.args.graph.now c.loop-unit.self.from) c.in-Some.ensures.items c.loop-unit.invariant.sound.waiting in
+    (taken c.args.graph.now c.loop-unit.self.from c.in-Some.unit c.pop.new.self.items waiting).1
+
+pub loop-unit-smaller : goal.loop-unit-smaller
+loop-unit-smaller c =
+    let left : unmarked c.visit.new.self.seen.items + length c.visit.new.self.work.items ≤ unmarked c.loop-unit.self.seen.items + length c.pop.new.self.items = c.in_ok-visit.ensures.left in
+    let taken_one : length c.loop-unit.self.work.items ≡ length c.pop.new.self.items + 1 = ap length c.in-Some.ensures.items ∙ length-append c.pop.new.self.items (c.in-Some.unit ∷ []) in
+    omega (arith, left, taken_one)
