@@ -1,6 +1,7 @@
 //! Expressions: their types and what they are in the tree, and the rules that are broken in them.
 ghost use Rattle.std.specs.Prelude.{◌≡◌, ◌++◌, IfOk, OnOk, option_map};
 ghost use Rattle.st_rules.specs.Expressions.{area_read_of, binary_of, choice_of, conversion_of, expression, literal_of, read_of, shift_of, typed_as, unary_of, variable_on};
+ghost use Rattle.st_rules.specs.Judged.{IsJudged};
 ghost use Rattle.st_statements.specs.inner.Operands.{typed_of};
 
 use s7_base::{Boxed, Break, Line, List, NoMemory, Reason, Width, note};
@@ -46,8 +47,7 @@ fn typed_as(
     tree: Expr,
     breaks: &mut List<Break>,
 ) -> Result<Option<Typed>, NoMemory>
-    ensures found { IfOk result (λ found. found ≡ (typed_as line ty tree).found) }
-    ensures breaks { OnOk result (breaks.new ≡ breaks.old ++ (typed_as line ty tree).breaks) }
+    ensures { IsJudged result breaks.old breaks.new (typed_as line ty tree) }
 {
     let Some(ty) = ty else {
         drop(tree);
@@ -85,8 +85,8 @@ fn binary_of(
     right: Option<Operand>,
     breaks: &mut List<Break>,
 ) -> Result<Option<Typed>, NoMemory>
-    ensures found { IfOk result (λ found. found ≡ (binary_of line op (option_map typed_of left) (option_map typed_of right)).found) }
-    ensures breaks { OnOk result (breaks.new ≡ breaks.old ++ (binary_of line op (option_map typed_of left) (option_map typed_of right)).breaks) }
+    ensures { IsJudged result breaks.old breaks.new
+        (binary_of line op (option_map typed_of left) (option_map typed_of right)) }
 {
     let Some(left) = left else {
         return Ok(None);
@@ -105,8 +105,8 @@ fn choice_of(
     second: Option<Operand>,
     breaks: &mut List<Break>,
 ) -> Result<Option<Typed>, NoMemory>
-    ensures found { IfOk result (λ found. found ≡ (choice_of line (option_map typed_of gate) (option_map typed_of first) (option_map typed_of second)).found) }
-    ensures breaks { OnOk result (breaks.new ≡ breaks.old ++ (choice_of line (option_map typed_of gate) (option_map typed_of first) (option_map typed_of second)).breaks) }
+    ensures { IsJudged result breaks.old breaks.new
+        (choice_of line (option_map typed_of gate) (option_map typed_of first) (option_map typed_of second)) }
 {
     let Some(gate) = gate else {
         return Ok(None);
@@ -129,8 +129,8 @@ fn shift_of(
     count: Option<Operand>,
     breaks: &mut List<Break>,
 ) -> Result<Option<Typed>, NoMemory>
-    ensures found { IfOk result (λ found. found ≡ (shift_of line op (option_map typed_of pattern) (option_map typed_of count)).found) }
-    ensures breaks { OnOk result (breaks.new ≡ breaks.old ++ (shift_of line op (option_map typed_of pattern) (option_map typed_of count)).breaks) }
+    ensures { IsJudged result breaks.old breaks.new
+        (shift_of line op (option_map typed_of pattern) (option_map typed_of count)) }
 {
     let Some(pattern) = pattern else {
         return Ok(None);
@@ -148,8 +148,7 @@ pub fn variable_on(
     raw: &RawVar,
     breaks: &mut List<Break>,
 ) -> Result<Option<TypedVar>, NoMemory>
-    ensures found { IfOk result (λ found. found ≡ (variable_on at.entry.scope.now at.entry.line raw.now).found) }
-    ensures breaks { OnOk result (breaks.new ≡ breaks.old ++ (variable_on at.entry.scope.now at.entry.line raw.now).breaks) }
+    ensures { IsJudged result breaks.old breaks.new (variable_on at.entry.scope.now at.entry.line raw.now) }
 {
     match variable(at.alloc, at.scope, raw)? {
         Ok(variable) => Ok(Some(variable)),
