@@ -180,9 +180,8 @@ fn unary(
     raw: &RawExpr,
     breaks: &mut List<Break>,
 ) -> Result<Option<Typed>, NoMemory>
-    ensures found { IfOk result (λ found. found ≡ (unary_of at.entry.line op (expression at.entry.scope.now at.entry.line raw.now).found).found) }
-    ensures breaks { OnOk result (breaks.new ≡ (breaks.old ++ (expression at.entry.scope.now at.entry.line raw.now).breaks)
-        ++ (unary_of at.entry.line op (expression at.entry.scope.now at.entry.line raw.now).found).breaks) }
+    ensures { let operand = expression at.entry.scope.now at.entry.line raw.now in
+        IsJudged result (breaks.old ++ operand.breaks) breaks.new (unary_of at.entry.line op operand.found) }
 {
     let Some(operand) = operand_of(at, raw, breaks)? else {
         return Ok(None);
@@ -200,9 +199,8 @@ fn conversion(
     raw: &RawExpr,
     breaks: &mut List<Break>,
 ) -> Result<Option<Typed>, NoMemory>
-    ensures found { IfOk result (λ found. found ≡ (conversion_of at.entry.line from to (expression at.entry.scope.now at.entry.line raw.now).found).found) }
-    ensures breaks { OnOk result (breaks.new ≡ (breaks.old ++ (expression at.entry.scope.now at.entry.line raw.now).breaks)
-        ++ (conversion_of at.entry.line from to (expression at.entry.scope.now at.entry.line raw.now).found).breaks) }
+    ensures { let operand = expression at.entry.scope.now at.entry.line raw.now in
+        IsJudged result (breaks.old ++ operand.breaks) breaks.new (conversion_of at.entry.line from to operand.found) }
 {
     let Some(operand) = operand_of(at, raw, breaks)? else {
         return Ok(None);
@@ -219,9 +217,8 @@ fn area_read(
     raw: &RawExpr,
     breaks: &mut List<Break>,
 ) -> Result<Option<Typed>, NoMemory>
-    ensures found { IfOk result (λ found. found ≡ (area_read_of at.entry.line width (expression at.entry.scope.now at.entry.line raw.now).found).found) }
-    ensures breaks { OnOk result (breaks.new ≡ (breaks.old ++ (expression at.entry.scope.now at.entry.line raw.now).breaks)
-        ++ (area_read_of at.entry.line width (expression at.entry.scope.now at.entry.line raw.now).found).breaks) }
+    ensures { let operand = expression at.entry.scope.now at.entry.line raw.now in
+        IsJudged result (breaks.old ++ operand.breaks) breaks.new (area_read_of at.entry.line width operand.found) }
 {
     let Some(operand) = operand_of(at, raw, breaks)? else {
         return Ok(None);
@@ -239,10 +236,9 @@ fn binary_with(
     raw: &RawExpr,
     breaks: &mut List<Break>,
 ) -> Result<Option<Typed>, NoMemory>
-    ensures found { IfOk result (λ found. found
-        ≡ (binary_of at.entry.line op (option_map typed_of left) (expression at.entry.scope.now at.entry.line raw.now).found).found) }
-    ensures breaks { OnOk result (breaks.new ≡ (breaks.old ++ (expression at.entry.scope.now at.entry.line raw.now).breaks)
-        ++ (binary_of at.entry.line op (option_map typed_of left) (expression at.entry.scope.now at.entry.line raw.now).found).breaks) }
+    ensures { let operand = expression at.entry.scope.now at.entry.line raw.now in
+        IsJudged result (breaks.old ++ operand.breaks) breaks.new
+        (binary_of at.entry.line op (option_map typed_of left) operand.found) }
 {
     let right = operand_of(at, raw, breaks)?;
     binary_of(at.line, op, left, right, breaks)
@@ -257,10 +253,9 @@ fn shift_with(
     raw: &RawExpr,
     breaks: &mut List<Break>,
 ) -> Result<Option<Typed>, NoMemory>
-    ensures found { IfOk result (λ found. found
-        ≡ (shift_of at.entry.line op (option_map typed_of pattern) (expression at.entry.scope.now at.entry.line raw.now).found).found) }
-    ensures breaks { OnOk result (breaks.new ≡ (breaks.old ++ (expression at.entry.scope.now at.entry.line raw.now).breaks)
-        ++ (shift_of at.entry.line op (option_map typed_of pattern) (expression at.entry.scope.now at.entry.line raw.now).found).breaks) }
+    ensures { let operand = expression at.entry.scope.now at.entry.line raw.now in
+        IsJudged result (breaks.old ++ operand.breaks) breaks.new
+        (shift_of at.entry.line op (option_map typed_of pattern) operand.found) }
 {
     let count = operand_of(at, raw, breaks)?;
     shift_of(at.line, op, pattern, count, breaks)
@@ -275,11 +270,9 @@ fn choice_with(
     raw: &RawExpr,
     breaks: &mut List<Break>,
 ) -> Result<Option<Typed>, NoMemory>
-    ensures found { IfOk result (λ found. found ≡ (choice_of at.entry.line (option_map typed_of gate)
-        (option_map typed_of first) (expression at.entry.scope.now at.entry.line raw.now).found).found) }
-    ensures breaks { OnOk result (breaks.new ≡ (breaks.old ++ (expression at.entry.scope.now at.entry.line raw.now).breaks)
-        ++ (choice_of at.entry.line (option_map typed_of gate) (option_map typed_of first)
-        (expression at.entry.scope.now at.entry.line raw.now).found).breaks) }
+    ensures { let operand = expression at.entry.scope.now at.entry.line raw.now in
+        IsJudged result (breaks.old ++ operand.breaks) breaks.new
+        (choice_of at.entry.line (option_map typed_of gate) (option_map typed_of first) operand.found) }
 {
     let second = operand_of(at, raw, breaks)?;
     choice_of(at.line, gate, first, second, breaks)
@@ -292,8 +285,7 @@ pub fn expression(
     raw: &RawExpr,
     breaks: &mut List<Break>,
 ) -> Result<Option<Typed>, NoMemory>
-    ensures found { IfOk result (λ found. found ≡ (expression at.entry.scope.now at.entry.line raw.now).found) }
-    ensures breaks { OnOk result (breaks.new ≡ breaks.old ++ (expression at.entry.scope.now at.entry.line raw.now).breaks) }
+    ensures { IsJudged result breaks.old breaks.new (expression at.entry.scope.now at.entry.line raw.now) }
 {
     match raw {
         RawExpr::Literal(ty, value) => Ok(Some(literal_of(*ty, *value))),
