@@ -1,8 +1,8 @@
 //! Expressions: their types and what they are in the tree, and the rules that are broken in them.
-ghost use Rattle.std.specs.Prelude.{◌≡◌, ◌++◌, IfOk, OnOk, option_map};
+ghost use Rattle.std.specs.Prelude.{◌≡◌, ◌++◌, IfOk, option_map};
 ghost use Rattle.st_rules.specs.Expressions.{area_read_of, binary_of, choice_of, conversion_of, expression, literal_of, read_of, shift_of, typed_as, unary_of, variable_on};
 ghost use Rattle.st_rules.specs.Judged.{IsJudged};
-ghost use Rattle.st_statements.specs.inner.Operands.{typed_of};
+ghost use Rattle.st_statements.specs.inner.Operands.{IsJudgedOperand, typed_of};
 
 use s7_base::{Boxed, Break, Line, List, NoMemory, Reason, Width, note};
 use st_rules::expression::Typed;
@@ -166,8 +166,7 @@ pub fn operand_of(
     raw: &RawExpr,
     breaks: &mut List<Break>,
 ) -> Result<Option<Operand>, NoMemory>
-    ensures found { IfOk result (λ found. option_map typed_of found ≡ (expression at.entry.scope.now at.entry.line raw.now).found) }
-    ensures breaks { OnOk result (breaks.new ≡ breaks.old ++ (expression at.entry.scope.now at.entry.line raw.now).breaks) }
+    ensures { IsJudgedOperand result breaks.old breaks.new (expression at.entry.scope.now at.entry.line raw.now) }
 {
     boxed(at.alloc, expression(at, raw, breaks)?)
 }
