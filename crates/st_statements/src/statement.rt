@@ -1,7 +1,7 @@
 //! Statements: what they are in the tree, and the rules that are broken in them.
 ghost use Rattle.std.specs.Prelude.{◌≡◌, ◌++◌, map, IfOk, OnOk, option_map};
 ghost use Rattle.st_rules.specs.Expressions.{expression};
-ghost use Rattle.st_rules.specs.Judged.{breaks_in, found_in};
+ghost use Rattle.st_rules.specs.Judged.{IsJudged, breaks_in, found_in};
 ghost use Rattle.st_rules.specs.Statements.{action, area_write_of, arm, arm_of, arms_on, assignment_of, case_arm, case_arms_on, case_of, have_type, label_breaks, selector, selector_of, statement, statements, test, test_of, type_of_selector, while_of};
 ghost use Rattle.st_statements.specs.inner.Operands.{typed_of};
 
@@ -31,8 +31,7 @@ fn assignment_of(
     value: Option<Typed>,
     breaks: &mut List<Break>,
 ) -> Result<Option<Stmt>, NoMemory>
-    ensures found { IfOk result (λ found. found ≡ (assignment_of line target value).found) }
-    ensures breaks { OnOk result (breaks.new ≡ breaks.old ++ (assignment_of line target value).breaks) }
+    ensures { IsJudged result breaks.old breaks.new (assignment_of line target value) }
 {
     let Some(value) = value else {
         return Ok(None);
@@ -56,8 +55,8 @@ fn area_write_of(
     value: Option<Operand>,
     breaks: &mut List<Break>,
 ) -> Result<Option<Stmt>, NoMemory>
-    ensures found { IfOk result (λ found. found ≡ (area_write_of line width (option_map typed_of pointer) (option_map typed_of value)).found) }
-    ensures breaks { OnOk result (breaks.new ≡ breaks.old ++ (area_write_of line width (option_map typed_of pointer) (option_map typed_of value)).breaks) }
+    ensures { IsJudged result breaks.old breaks.new
+        (area_write_of line width (option_map typed_of pointer) (option_map typed_of value)) }
 {
     let Some(pointer) = pointer else {
         return Ok(None);
@@ -78,8 +77,7 @@ fn test_of(
     value: Option<Typed>,
     breaks: &mut List<Break>,
 ) -> Result<Option<Expr>, NoMemory>
-    ensures found { IfOk result (λ found. found ≡ (test_of line value).found) }
-    ensures breaks { OnOk result (breaks.new ≡ breaks.old ++ (test_of line value).breaks) }
+    ensures { IsJudged result breaks.old breaks.new (test_of line value) }
 {
     let Some(value) = value else {
         return Ok(None);
@@ -93,8 +91,7 @@ fn test_of(
 }
 
 fn test(at: Spot<'_>, raw: &RawExpr, breaks: &mut List<Break>) -> Result<Option<Expr>, NoMemory>
-    ensures found { IfOk result (λ found. found ≡ (test at.entry.scope.now at.entry.line raw.now).found) }
-    ensures breaks { OnOk result (breaks.new ≡ breaks.old ++ (test at.entry.scope.now at.entry.line raw.now).breaks) }
+    ensures { IsJudged result breaks.old breaks.new (test at.entry.scope.now at.entry.line raw.now) }
 {
     let value = expression(at, raw, breaks)?;
     test_of(at.line, value, breaks)
@@ -105,8 +102,7 @@ fn selector_of(
     value: Option<Typed>,
     breaks: &mut List<Break>,
 ) -> Result<Option<Typed>, NoMemory>
-    ensures found { IfOk result (λ found. found ≡ (selector_of line value).found) }
-    ensures breaks { OnOk result (breaks.new ≡ breaks.old ++ (selector_of line value).breaks) }
+    ensures { IsJudged result breaks.old breaks.new (selector_of line value) }
 {
     let Some(value) = value else {
         return Ok(None);
@@ -124,8 +120,7 @@ fn selector(
     raw: &RawExpr,
     breaks: &mut List<Break>,
 ) -> Result<Option<Typed>, NoMemory>
-    ensures found { IfOk result (λ found. found ≡ (selector at.entry.scope.now at.entry.line raw.now).found) }
-    ensures breaks { OnOk result (breaks.new ≡ breaks.old ++ (selector at.entry.scope.now at.entry.line raw.now).breaks) }
+    ensures { IsJudged result breaks.old breaks.new (selector at.entry.scope.now at.entry.line raw.now) }
 {
     let value = expression(at, raw, breaks)?;
     selector_of(at.line, value, breaks)
