@@ -200,8 +200,7 @@ fn case_of(selector: Option<Typed>, arms: List<CaseArm>, other: List<Stmt>) -> O
 
 #[cycle(judge)]
 fn arm(at: Spot<'_>, raw: &RawArm, breaks: &mut List<Break>) -> Result<Option<Arm>, NoMemory>
-    ensures found { IfOk result (λ found. found ≡ (arm at.entry.scope.now raw.now at.entry.line).found) }
-    ensures breaks { OnOk result (breaks.new ≡ breaks.old ++ (arm at.entry.scope.now raw.now at.entry.line).breaks) }
+    ensures { IsJudged result breaks.old breaks.new (arm at.entry.scope.now raw.now at.entry.line) }
 {
     let test = test(at, &raw.test, breaks)?;
     let Ok(body) = statements(at.alloc, at.scope, raw.body.as_slice(), breaks) else {
@@ -231,8 +230,7 @@ fn case_arm(
     raw: &RawCaseArm,
     breaks: &mut List<Break>,
 ) -> Result<Option<CaseArm>, NoMemory>
-    ensures found { IfOk result (λ found. found ≡ (case_arm at.entry.scope.now raw.now at.entry.line selector).found) }
-    ensures breaks { OnOk result (breaks.new ≡ breaks.old ++ (case_arm at.entry.scope.now raw.now at.entry.line selector).breaks) }
+    ensures { IsJudged result breaks.old breaks.new (case_arm at.entry.scope.now raw.now at.entry.line selector) }
 {
     judge_labels(at.line, selector, raw.labels.as_slice(), breaks)?;
     let labels = values_of(at.alloc, raw.labels.as_slice())?;
@@ -286,8 +284,7 @@ fn statement(
     raw: &RawStmt,
     breaks: &mut List<Break>,
 ) -> Result<Option<Stmt>, NoMemory>
-    ensures found { IfOk result (λ found. found ≡ (statement scope.now raw.now).found) }
-    ensures breaks { OnOk result (breaks.new ≡ breaks.old ++ (statement scope.now raw.now).breaks) }
+    ensures { IsJudged result breaks.old breaks.new (statement scope.now raw.now) }
 {
     let line = raw.line;
     action(Spot { alloc, scope, line }, &raw.kind, breaks)
@@ -301,10 +298,9 @@ fn area_write_with(
     raw: &RawExpr,
     breaks: &mut List<Break>,
 ) -> Result<Option<Stmt>, NoMemory>
-    ensures found { IfOk result (λ found. found
-        ≡ (area_write_of at.entry.line width (option_map typed_of pointer) (expression at.entry.scope.now at.entry.line raw.now).found).found) }
-    ensures breaks { OnOk result (breaks.new ≡ (breaks.old ++ (expression at.entry.scope.now at.entry.line raw.now).breaks)
-        ++ (area_write_of at.entry.line width (option_map typed_of pointer) (expression at.entry.scope.now at.entry.line raw.now).found).breaks) }
+    ensures { let operand = expression at.entry.scope.now at.entry.line raw.now in
+        IsJudged result (breaks.old ++ operand.breaks) breaks.new
+        (area_write_of at.entry.line width (option_map typed_of pointer) operand.found) }
 {
     let value = operand_of(at, raw, breaks)?;
     area_write_of(at.line, width, pointer, value, breaks)
@@ -376,8 +372,7 @@ fn action(
     raw: &RawStmtKind,
     breaks: &mut List<Break>,
 ) -> Result<Option<Stmt>, NoMemory>
-    ensures found { IfOk result (λ found. found ≡ (action at.entry.scope.now raw.now at.entry.line).found) }
-    ensures breaks { OnOk result (breaks.new ≡ breaks.old ++ (action at.entry.scope.now raw.now at.entry.line).breaks) }
+    ensures { IsJudged result breaks.old breaks.new (action at.entry.scope.now raw.now at.entry.line) }
 {
     match raw {
         RawStmtKind::Assign(target, value) => {
