@@ -51,3 +51,8 @@ breaks_in {T} js = flat_map (λ (j : Judged T). j.breaks) js
 abbrev pub IsJudged : {T E : Type 0} → Result (Option T) E → List Break → List Break → Judged T → Type 0
 IsJudged (Ok found) before after part = (found ≡ part.found) × (after ≡ before ++ part.breaks)
 IsJudged (Err failed) before after part = Unit {0}
+
+-- the same of some parts, of which those are found that have their place in the tree
+abbrev pub AreJudged : {T E : Type 0} → Result (List T) E → List Break → List Break → List (Judged T) → Type 0
+AreJudged (Ok found) before after parts = (found ≡ found_in parts) × (after ≡ before ++ breaks_in parts)
+AreJudged (Err failed) before after parts = Unit {0}

@@ -1,7 +1,7 @@
 //! Statements: what they are in the tree, and the rules that are broken in them.
 ghost use Rattle.std.specs.Prelude.{◌≡◌, ◌++◌, map, IfOk, OnOk, option_map};
 ghost use Rattle.st_rules.specs.Expressions.{expression};
-ghost use Rattle.st_rules.specs.Judged.{IsJudged, breaks_in, found_in};
+ghost use Rattle.st_rules.specs.Judged.{AreJudged, IsJudged, breaks_in, found_in};
 ghost use Rattle.st_rules.specs.Statements.{action, area_write_of, arm, arm_of, arms_on, assignment_of, case_arm, case_arms_on, case_of, have_type, label_breaks, selector, selector_of, statement, statements, test, test_of, type_of_selector, while_of};
 ghost use Rattle.st_statements.specs.inner.Operands.{typed_of};
 
@@ -212,8 +212,7 @@ fn arm(at: Spot<'_>, raw: &RawArm, breaks: &mut List<Break>) -> Result<Option<Ar
 
 #[cycle(judge)]
 fn arms(at: Spot<'_>, raws: &[RawArm], breaks: &mut List<Break>) -> Result<List<Arm>, NoMemory>
-    ensures found { IfOk result (λ arms. arms ≡ found_in (arms_on at.entry.line (map (arm at.entry.scope.now) raws.now))) }
-    ensures breaks { OnOk result (breaks.new ≡ breaks.old ++ breaks_in (arms_on at.entry.line (map (arm at.entry.scope.now) raws.now))) }
+    ensures { AreJudged result breaks.old breaks.new (arms_on at.entry.line (map (arm at.entry.scope.now) raws.now)) }
 {
     let mut arms = List::new(at.alloc);
     for raw in raws {
@@ -245,10 +244,8 @@ fn case_arms(
     raws: &[RawCaseArm],
     breaks: &mut List<Break>,
 ) -> Result<List<CaseArm>, NoMemory>
-    ensures found { IfOk result (λ arms. arms
-        ≡ found_in (case_arms_on at.entry.line selector (map (case_arm at.entry.scope.now) raws.now))) }
-    ensures breaks { OnOk result (breaks.new ≡ breaks.old
-        ++ breaks_in (case_arms_on at.entry.line selector (map (case_arm at.entry.scope.now) raws.now))) }
+    ensures { AreJudged result breaks.old breaks.new
+        (case_arms_on at.entry.line selector (map (case_arm at.entry.scope.now) raws.now)) }
 {
     let mut arms = List::new(at.alloc);
     for raw in raws {
@@ -266,8 +263,7 @@ pub fn statements(
     raws: &[RawStmt],
     breaks: &mut List<Break>,
 ) -> Result<List<Stmt>, NoMemory>
-    ensures found { IfOk result (λ body. body ≡ found_in (statements scope.now raws.now)) }
-    ensures breaks { OnOk result (breaks.new ≡ breaks.old ++ breaks_in (statements scope.now raws.now)) }
+    ensures { AreJudged result breaks.old breaks.new (statements scope.now raws.now) }
 {
     let mut body = List::new(alloc);
     for raw in raws {
