@@ -1,5 +1,5 @@
 -- Parts of a text as they are judged.
-use Rattle.std.specs.Prelude.{List, [], ◌∷◌, ◌++◌, Option, Some, None}
+use Rattle.std.specs.Prelude.{◌≡◌, List, [], ◌∷◌, ◌++◌, Option, Some, None, Result, Ok, Err}
 use Rattle.std.specs.List.{flat_map}
 use Rattle.s7_base.specs.Broken.{broken}
 use Rattle.s7_base.specs.declared.broken.Break.{Break}
@@ -46,3 +46,13 @@ found_in {T} js = flat_map (λ (j : Judged T). listed j.found) js
 -- the rules that are broken in some parts
 abbrev pub breaks_in : {T : Type 0} → List (Judged T) → List Break
 breaks_in {T} js = flat_map (λ (j : Judged T). j.breaks) js
+
+-- a call found what a part is and noted its broken rules after those before, or it failed
+abbrev pub IsJudged : {T E : Type 0} → Result (Option T) E → List Break → List Break → Judged T → Type 0
+IsJudged (Ok found) before after part = (found ≡ part.found) × (after ≡ before ++ part.breaks)
+IsJudged (Err failed) before after part = Unit {0}
+
+-- the same of some parts, of which those are found that have their place in the tree
+abbrev pub AreJudged : {T E : Type 0} → Result (List T) E → List Break → List Break → List (Judged T) → Type 0
+AreJudged (Ok found) before after parts = (found ≡ found_in parts) × (after ≡ before ++ breaks_in parts)
+AreJudged (Err failed) before after parts = Unit {0}

@@ -1,7 +1,8 @@
 //! Expressions: their types and what they are in the tree, and the rules that are broken in them.
-ghost use Rattle.std.specs.Prelude.{◌≡◌, ◌++◌, IfOk, OnOk, option_map};
+ghost use Rattle.std.specs.Prelude.{◌≡◌, ◌++◌, IfOk, option_map};
 ghost use Rattle.st_rules.specs.Expressions.{area_read_of, binary_of, choice_of, conversion_of, expression, literal_of, read_of, shift_of, typed_as, unary_of, variable_on};
-ghost use Rattle.st_statements.specs.inner.Operands.{typed_of};
+ghost use Rattle.st_rules.specs.Judged.{IsJudged};
+ghost use Rattle.st_statements.specs.inner.Operands.{IsJudgedOperand, typed_of};
 
 use s7_base::{Boxed, Break, Line, List, NoMemory, Reason, Width, note};
 use st_rules::expression::Typed;
@@ -46,8 +47,7 @@ fn typed_as(
     tree: Expr,
     breaks: &mut List<Break>,
 ) -> Result<Option<Typed>, NoMemory>
-    ensures found { IfOk result (λ found. found ≡ (typed_as line ty tree).found) }
-    ensures breaks { OnOk result (breaks.new ≡ breaks.old ++ (typed_as line ty tree).breaks) }
+    ensures { IsJudged result breaks.old breaks.new (typed_as line ty tree) }
 {
     let Some(ty) = ty else {
         drop(tree);
@@ -85,8 +85,8 @@ fn binary_of(
     right: Option<Operand>,
     breaks: &mut List<Break>,
 ) -> Result<Option<Typed>, NoMemory>
-    ensures found { IfOk result (λ found. found ≡ (binary_of line op (option_map typed_of left) (option_map typed_of right)).found) }
-    ensures breaks { OnOk result (breaks.new ≡ breaks.old ++ (binary_of line op (option_map typed_of left) (option_map typed_of right)).breaks) }
+    ensures { IsJudged result breaks.old breaks.new
+        (binary_of line op (option_map typed_of left) (option_map typed_of right)) }
 {
     let Some(left) = left else {
         return Ok(None);
@@ -105,8 +105,8 @@ fn choice_of(
     second: Option<Operand>,
     breaks: &mut List<Break>,
 ) -> Result<Option<Typed>, NoMemory>
-    ensures found { IfOk result (λ found. found ≡ (choice_of line (option_map typed_of gate) (option_map typed_of first) (option_map typed_of second)).found) }
-    ensures breaks { OnOk result (breaks.new ≡ breaks.old ++ (choice_of line (option_map typed_of gate) (option_map typed_of first) (option_map typed_of second)).breaks) }
+    ensures { IsJudged result breaks.old breaks.new
+        (choice_of line (option_map typed_of gate) (option_map typed_of first) (option_map typed_of second)) }
 {
     let Some(gate) = gate else {
         return Ok(None);
@@ -129,8 +129,8 @@ fn shift_of(
     count: Option<Operand>,
     breaks: &mut List<Break>,
 ) -> Result<Option<Typed>, NoMemory>
-    ensures found { IfOk result (λ found. found ≡ (shift_of line op (option_map typed_of pattern) (option_map typed_of count)).found) }
-    ensures breaks { OnOk result (breaks.new ≡ breaks.old ++ (shift_of line op (option_map typed_of pattern) (option_map typed_of count)).breaks) }
+    ensures { IsJudged result breaks.old breaks.new
+        (shift_of line op (option_map typed_of pattern) (option_map typed_of count)) }
 {
     let Some(pattern) = pattern else {
         return Ok(None);
@@ -148,8 +148,7 @@ pub fn variable_on(
     raw: &RawVar,
     breaks: &mut List<Break>,
 ) -> Result<Option<TypedVar>, NoMemory>
-    ensures found { IfOk result (λ found. found ≡ (variable_on at.entry.scope.now at.entry.line raw.now).found) }
-    ensures breaks { OnOk result (breaks.new ≡ breaks.old ++ (variable_on at.entry.scope.now at.entry.line raw.now).breaks) }
+    ensures { IsJudged result breaks.old breaks.new (variable_on at.entry.scope.now at.entry.line raw.now) }
 {
     match variable(at.alloc, at.scope, raw)? {
         Ok(variable) => Ok(Some(variable)),
@@ -167,8 +166,7 @@ pub fn operand_of(
     raw: &RawExpr,
     breaks: &mut List<Break>,
 ) -> Result<Option<Operand>, NoMemory>
-    ensures found { IfOk result (λ found. option_map typed_of found ≡ (expression at.entry.scope.now at.entry.line raw.now).found) }
-    ensures breaks { OnOk result (breaks.new ≡ breaks.old ++ (expression at.entry.scope.now at.entry.line raw.now).breaks) }
+    ensures { IsJudgedOperand result breaks.old breaks.new (expression at.entry.scope.now at.entry.line raw.now) }
 {
     boxed(at.alloc, expression(at, raw, breaks)?)
 }
@@ -181,9 +179,8 @@ fn unary(
     raw: &RawExpr,
     breaks: &mut List<Break>,
 ) -> Result<Option<Typed>, NoMemory>
-    ensures found { IfOk result (λ found. found ≡ (unary_of at.entry.line op (expression at.entry.scope.now at.entry.line raw.now).found).found) }
-    ensures breaks { OnOk result (breaks.new ≡ (breaks.old ++ (expression at.entry.scope.now at.entry.line raw.now).breaks)
-        ++ (unary_of at.entry.line op (expression at.entry.scope.now at.entry.line raw.now).found).breaks) }
+    ensures { let operand = expression at.entry.scope.now at.entry.line raw.now in
+        IsJudged result (breaks.old ++ operand.breaks) breaks.new (unary_of at.entry.line op operand.found) }
 {
     let Some(operand) = operand_of(at, raw, breaks)? else {
         return Ok(None);
@@ -201,9 +198,8 @@ fn conversion(
     raw: &RawExpr,
     breaks: &mut List<Break>,
 ) -> Result<Option<Typed>, NoMemory>
-    ensures found { IfOk result (λ found. found ≡ (conversion_of at.entry.line from to (expression at.entry.scope.now at.entry.line raw.now).found).found) }
-    ensures breaks { OnOk result (breaks.new ≡ (breaks.old ++ (expression at.entry.scope.now at.entry.line raw.now).breaks)
-        ++ (conversion_of at.entry.line from to (expression at.entry.scope.now at.entry.line raw.now).found).breaks) }
+    ensures { let operand = expression at.entry.scope.now at.entry.line raw.now in
+        IsJudged result (breaks.old ++ operand.breaks) breaks.new (conversion_of at.entry.line from to operand.found) }
 {
     let Some(operand) = operand_of(at, raw, breaks)? else {
         return Ok(None);
@@ -220,9 +216,8 @@ fn area_read(
     raw: &RawExpr,
     breaks: &mut List<Break>,
 ) -> Result<Option<Typed>, NoMemory>
-    ensures found { IfOk result (λ found. found ≡ (area_read_of at.entry.line width (expression at.entry.scope.now at.entry.line raw.now).found).found) }
-    ensures breaks { OnOk result (breaks.new ≡ (breaks.old ++ (expression at.entry.scope.now at.entry.line raw.now).breaks)
-        ++ (area_read_of at.entry.line width (expression at.entry.scope.now at.entry.line raw.now).found).breaks) }
+    ensures { let operand = expression at.entry.scope.now at.entry.line raw.now in
+        IsJudged result (breaks.old ++ operand.breaks) breaks.new (area_read_of at.entry.line width operand.found) }
 {
     let Some(operand) = operand_of(at, raw, breaks)? else {
         return Ok(None);
@@ -240,10 +235,9 @@ fn binary_with(
     raw: &RawExpr,
     breaks: &mut List<Break>,
 ) -> Result<Option<Typed>, NoMemory>
-    ensures found { IfOk result (λ found. found
-        ≡ (binary_of at.entry.line op (option_map typed_of left) (expression at.entry.scope.now at.entry.line raw.now).found).found) }
-    ensures breaks { OnOk result (breaks.new ≡ (breaks.old ++ (expression at.entry.scope.now at.entry.line raw.now).breaks)
-        ++ (binary_of at.entry.line op (option_map typed_of left) (expression at.entry.scope.now at.entry.line raw.now).found).breaks) }
+    ensures { let operand = expression at.entry.scope.now at.entry.line raw.now in
+        IsJudged result (breaks.old ++ operand.breaks) breaks.new
+        (binary_of at.entry.line op (option_map typed_of left) operand.found) }
 {
     let right = operand_of(at, raw, breaks)?;
     binary_of(at.line, op, left, right, breaks)
@@ -258,10 +252,9 @@ fn shift_with(
     raw: &RawExpr,
     breaks: &mut List<Break>,
 ) -> Result<Option<Typed>, NoMemory>
-    ensures found { IfOk result (λ found. found
-        ≡ (shift_of at.entry.line op (option_map typed_of pattern) (expression at.entry.scope.now at.entry.line raw.now).found).found) }
-    ensures breaks { OnOk result (breaks.new ≡ (breaks.old ++ (expression at.entry.scope.now at.entry.line raw.now).breaks)
-        ++ (shift_of at.entry.line op (option_map typed_of pattern) (expression at.entry.scope.now at.entry.line raw.now).found).breaks) }
+    ensures { let operand = expression at.entry.scope.now at.entry.line raw.now in
+        IsJudged result (breaks.old ++ operand.breaks) breaks.new
+        (shift_of at.entry.line op (option_map typed_of pattern) operand.found) }
 {
     let count = operand_of(at, raw, breaks)?;
     shift_of(at.line, op, pattern, count, breaks)
@@ -276,11 +269,9 @@ fn choice_with(
     raw: &RawExpr,
     breaks: &mut List<Break>,
 ) -> Result<Option<Typed>, NoMemory>
-    ensures found { IfOk result (λ found. found ≡ (choice_of at.entry.line (option_map typed_of gate)
-        (option_map typed_of first) (expression at.entry.scope.now at.entry.line raw.now).found).found) }
-    ensures breaks { OnOk result (breaks.new ≡ (breaks.old ++ (expression at.entry.scope.now at.entry.line raw.now).breaks)
-        ++ (choice_of at.entry.line (option_map typed_of gate) (option_map typed_of first)
-        (expression at.entry.scope.now at.entry.line raw.now).found).breaks) }
+    ensures { let operand = expression at.entry.scope.now at.entry.line raw.now in
+        IsJudged result (breaks.old ++ operand.breaks) breaks.new
+        (choice_of at.entry.line (option_map typed_of gate) (option_map typed_of first) operand.found) }
 {
     let second = operand_of(at, raw, breaks)?;
     choice_of(at.line, gate, first, second, breaks)
@@ -293,8 +284,7 @@ pub fn expression(
     raw: &RawExpr,
     breaks: &mut List<Break>,
 ) -> Result<Option<Typed>, NoMemory>
-    ensures found { IfOk result (λ found. found ≡ (expression at.entry.scope.now at.entry.line raw.now).found) }
-    ensures breaks { OnOk result (breaks.new ≡ breaks.old ++ (expression at.entry.scope.now at.entry.line raw.now).breaks) }
+    ensures { IsJudged result breaks.old breaks.new (expression at.entry.scope.now at.entry.line raw.now) }
 {
     match raw {
         RawExpr::Literal(ty, value) => Ok(Some(literal_of(*ty, *value))),

@@ -1,6 +1,7 @@
 //! Calls of functions: which function is called, and what each of its formals is given.
 ghost use Rattle.std.specs.Prelude.{◌≡◌, [], ◌++◌, Some, IfOk, OnOk};
 ghost use Rattle.st_rules.specs.Invocations.{call_with, callee, formal_breaks, function_call, given_by, given_to_none, in_order, invocation, lacks, no_call, plain, var_given, with_actual, with_name};
+ghost use Rattle.st_rules.specs.Judged.{IsJudged};
 
 use crate::expression::{Spot, variable_on};
 use s7_base::{Break, Line, List, NoMemory, Reason, note};
@@ -135,8 +136,7 @@ fn call_with(
     keys: &[List<u8>],
     breaks: &mut List<Break>,
 ) -> Result<Option<Stmt>, NoMemory>
-    ensures found { IfOk result (λ found. found ≡ (call_with at.entry.line position vars.now keys.now).found) }
-    ensures breaks { OnOk result (breaks.new ≡ breaks.old ++ (call_with at.entry.line position vars.now keys.now).breaks) }
+    ensures { IsJudged result breaks.old breaks.new (call_with at.entry.line position vars.now keys.now) }
 {
     if lacks(vars, keys) {
         note(breaks, at.line, Reason::TypeMismatch)?;
@@ -188,8 +188,7 @@ fn no_call(
     actuals: &[(List<u8>, RawVar)],
     breaks: &mut List<Break>,
 ) -> Result<Option<Stmt>, NoMemory>
-    ensures found { IfOk result (λ found. found ≡ (no_call at.entry.scope.now at.entry.line rule actuals.now).found) }
-    ensures breaks { OnOk result (breaks.new ≡ breaks.old ++ (no_call at.entry.scope.now at.entry.line rule actuals.now).breaks) }
+    ensures { IsJudged result breaks.old breaks.new (no_call at.entry.scope.now at.entry.line rule actuals.now) }
 {
     note(breaks, at.line, rule)?;
     judge_actuals(at, actuals, breaks)?;
@@ -203,10 +202,8 @@ fn call_of(
     actuals: &[(List<u8>, RawVar)],
     breaks: &mut List<Break>,
 ) -> Result<Option<Stmt>, NoMemory>
-    ensures found { IfOk result (λ found. found
-        ≡ (function_call at.entry.scope.now at.entry.line position (Some formals.now) actuals.now).found) }
-    ensures breaks { OnOk result (breaks.new ≡ breaks.old
-        ++ (function_call at.entry.scope.now at.entry.line position (Some formals.now) actuals.now).breaks) }
+    ensures { IsJudged result breaks.old breaks.new
+        (function_call at.entry.scope.now at.entry.line position (Some formals.now) actuals.now) }
 {
     let vars = given_by(at, &formals.types, actuals, breaks)?;
     call_with(at, position, &vars, formals.keys.as_slice(), breaks)
@@ -219,8 +216,7 @@ pub fn invocation(
     actuals: &[(List<u8>, RawVar)],
     breaks: &mut List<Break>,
 ) -> Result<Option<Stmt>, NoMemory>
-    ensures found { IfOk result (λ found. found ≡ (invocation at.entry.scope.now at.entry.line name.now actuals.now).found) }
-    ensures breaks { OnOk result (breaks.new ≡ breaks.old ++ (invocation at.entry.scope.now at.entry.line name.now actuals.now).breaks) }
+    ensures { IsJudged result breaks.old breaks.new (invocation at.entry.scope.now at.entry.line name.now actuals.now) }
 {
     let key = key_of(at.alloc, name.as_slice())?;
     match callee(at.scope.meaning(key.as_slice())) {

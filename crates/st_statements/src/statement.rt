@@ -1,7 +1,7 @@
 //! Statements: what they are in the tree, and the rules that are broken in them.
 ghost use Rattle.std.specs.Prelude.{◌≡◌, ◌++◌, map, IfOk, OnOk, option_map};
 ghost use Rattle.st_rules.specs.Expressions.{expression};
-ghost use Rattle.st_rules.specs.Judged.{breaks_in, found_in};
+ghost use Rattle.st_rules.specs.Judged.{AreJudged, IsJudged, breaks_in, found_in};
 ghost use Rattle.st_rules.specs.Statements.{action, area_write_of, arm, arm_of, arms_on, assignment_of, case_arm, case_arms_on, case_of, have_type, label_breaks, selector, selector_of, statement, statements, test, test_of, type_of_selector, while_of};
 ghost use Rattle.st_statements.specs.inner.Operands.{typed_of};
 
@@ -31,8 +31,7 @@ fn assignment_of(
     value: Option<Typed>,
     breaks: &mut List<Break>,
 ) -> Result<Option<Stmt>, NoMemory>
-    ensures found { IfOk result (λ found. found ≡ (assignment_of line target value).found) }
-    ensures breaks { OnOk result (breaks.new ≡ breaks.old ++ (assignment_of line target value).breaks) }
+    ensures { IsJudged result breaks.old breaks.new (assignment_of line target value) }
 {
     let Some(value) = value else {
         return Ok(None);
@@ -56,8 +55,8 @@ fn area_write_of(
     value: Option<Operand>,
     breaks: &mut List<Break>,
 ) -> Result<Option<Stmt>, NoMemory>
-    ensures found { IfOk result (λ found. found ≡ (area_write_of line width (option_map typed_of pointer) (option_map typed_of value)).found) }
-    ensures breaks { OnOk result (breaks.new ≡ breaks.old ++ (area_write_of line width (option_map typed_of pointer) (option_map typed_of value)).breaks) }
+    ensures { IsJudged result breaks.old breaks.new
+        (area_write_of line width (option_map typed_of pointer) (option_map typed_of value)) }
 {
     let Some(pointer) = pointer else {
         return Ok(None);
@@ -78,8 +77,7 @@ fn test_of(
     value: Option<Typed>,
     breaks: &mut List<Break>,
 ) -> Result<Option<Expr>, NoMemory>
-    ensures found { IfOk result (λ found. found ≡ (test_of line value).found) }
-    ensures breaks { OnOk result (breaks.new ≡ breaks.old ++ (test_of line value).breaks) }
+    ensures { IsJudged result breaks.old breaks.new (test_of line value) }
 {
     let Some(value) = value else {
         return Ok(None);
@@ -93,8 +91,7 @@ fn test_of(
 }
 
 fn test(at: Spot<'_>, raw: &RawExpr, breaks: &mut List<Break>) -> Result<Option<Expr>, NoMemory>
-    ensures found { IfOk result (λ found. found ≡ (test at.entry.scope.now at.entry.line raw.now).found) }
-    ensures breaks { OnOk result (breaks.new ≡ breaks.old ++ (test at.entry.scope.now at.entry.line raw.now).breaks) }
+    ensures { IsJudged result breaks.old breaks.new (test at.entry.scope.now at.entry.line raw.now) }
 {
     let value = expression(at, raw, breaks)?;
     test_of(at.line, value, breaks)
@@ -105,8 +102,7 @@ fn selector_of(
     value: Option<Typed>,
     breaks: &mut List<Break>,
 ) -> Result<Option<Typed>, NoMemory>
-    ensures found { IfOk result (λ found. found ≡ (selector_of line value).found) }
-    ensures breaks { OnOk result (breaks.new ≡ breaks.old ++ (selector_of line value).breaks) }
+    ensures { IsJudged result breaks.old breaks.new (selector_of line value) }
 {
     let Some(value) = value else {
         return Ok(None);
@@ -124,8 +120,7 @@ fn selector(
     raw: &RawExpr,
     breaks: &mut List<Break>,
 ) -> Result<Option<Typed>, NoMemory>
-    ensures found { IfOk result (λ found. found ≡ (selector at.entry.scope.now at.entry.line raw.now).found) }
-    ensures breaks { OnOk result (breaks.new ≡ breaks.old ++ (selector at.entry.scope.now at.entry.line raw.now).breaks) }
+    ensures { IsJudged result breaks.old breaks.new (selector at.entry.scope.now at.entry.line raw.now) }
 {
     let value = expression(at, raw, breaks)?;
     selector_of(at.line, value, breaks)
@@ -205,8 +200,7 @@ fn case_of(selector: Option<Typed>, arms: List<CaseArm>, other: List<Stmt>) -> O
 
 #[cycle(judge)]
 fn arm(at: Spot<'_>, raw: &RawArm, breaks: &mut List<Break>) -> Result<Option<Arm>, NoMemory>
-    ensures found { IfOk result (λ found. found ≡ (arm at.entry.scope.now raw.now at.entry.line).found) }
-    ensures breaks { OnOk result (breaks.new ≡ breaks.old ++ (arm at.entry.scope.now raw.now at.entry.line).breaks) }
+    ensures { IsJudged result breaks.old breaks.new (arm at.entry.scope.now raw.now at.entry.line) }
 {
     let test = test(at, &raw.test, breaks)?;
     let Ok(body) = statements(at.alloc, at.scope, raw.body.as_slice(), breaks) else {
@@ -218,8 +212,7 @@ fn arm(at: Spot<'_>, raw: &RawArm, breaks: &mut List<Break>) -> Result<Option<Ar
 
 #[cycle(judge)]
 fn arms(at: Spot<'_>, raws: &[RawArm], breaks: &mut List<Break>) -> Result<List<Arm>, NoMemory>
-    ensures found { IfOk result (λ arms. arms ≡ found_in (arms_on at.entry.line (map (arm at.entry.scope.now) raws.now))) }
-    ensures breaks { OnOk result (breaks.new ≡ breaks.old ++ breaks_in (arms_on at.entry.line (map (arm at.entry.scope.now) raws.now))) }
+    ensures { AreJudged result breaks.old breaks.new (arms_on at.entry.line (map (arm at.entry.scope.now) raws.now)) }
 {
     let mut arms = List::new(at.alloc);
     for raw in raws {
@@ -236,8 +229,7 @@ fn case_arm(
     raw: &RawCaseArm,
     breaks: &mut List<Break>,
 ) -> Result<Option<CaseArm>, NoMemory>
-    ensures found { IfOk result (λ found. found ≡ (case_arm at.entry.scope.now raw.now at.entry.line selector).found) }
-    ensures breaks { OnOk result (breaks.new ≡ breaks.old ++ (case_arm at.entry.scope.now raw.now at.entry.line selector).breaks) }
+    ensures { IsJudged result breaks.old breaks.new (case_arm at.entry.scope.now raw.now at.entry.line selector) }
 {
     judge_labels(at.line, selector, raw.labels.as_slice(), breaks)?;
     let labels = values_of(at.alloc, raw.labels.as_slice())?;
@@ -252,10 +244,8 @@ fn case_arms(
     raws: &[RawCaseArm],
     breaks: &mut List<Break>,
 ) -> Result<List<CaseArm>, NoMemory>
-    ensures found { IfOk result (λ arms. arms
-        ≡ found_in (case_arms_on at.entry.line selector (map (case_arm at.entry.scope.now) raws.now))) }
-    ensures breaks { OnOk result (breaks.new ≡ breaks.old
-        ++ breaks_in (case_arms_on at.entry.line selector (map (case_arm at.entry.scope.now) raws.now))) }
+    ensures { AreJudged result breaks.old breaks.new
+        (case_arms_on at.entry.line selector (map (case_arm at.entry.scope.now) raws.now)) }
 {
     let mut arms = List::new(at.alloc);
     for raw in raws {
@@ -273,8 +263,7 @@ pub fn statements(
     raws: &[RawStmt],
     breaks: &mut List<Break>,
 ) -> Result<List<Stmt>, NoMemory>
-    ensures found { IfOk result (λ body. body ≡ found_in (statements scope.now raws.now)) }
-    ensures breaks { OnOk result (breaks.new ≡ breaks.old ++ breaks_in (statements scope.now raws.now)) }
+    ensures { AreJudged result breaks.old breaks.new (statements scope.now raws.now) }
 {
     let mut body = List::new(alloc);
     for raw in raws {
@@ -291,8 +280,7 @@ fn statement(
     raw: &RawStmt,
     breaks: &mut List<Break>,
 ) -> Result<Option<Stmt>, NoMemory>
-    ensures found { IfOk result (λ found. found ≡ (statement scope.now raw.now).found) }
-    ensures breaks { OnOk result (breaks.new ≡ breaks.old ++ (statement scope.now raw.now).breaks) }
+    ensures { IsJudged result breaks.old breaks.new (statement scope.now raw.now) }
 {
     let line = raw.line;
     action(Spot { alloc, scope, line }, &raw.kind, breaks)
@@ -306,10 +294,9 @@ fn area_write_with(
     raw: &RawExpr,
     breaks: &mut List<Break>,
 ) -> Result<Option<Stmt>, NoMemory>
-    ensures found { IfOk result (λ found. found
-        ≡ (area_write_of at.entry.line width (option_map typed_of pointer) (expression at.entry.scope.now at.entry.line raw.now).found).found) }
-    ensures breaks { OnOk result (breaks.new ≡ (breaks.old ++ (expression at.entry.scope.now at.entry.line raw.now).breaks)
-        ++ (area_write_of at.entry.line width (option_map typed_of pointer) (expression at.entry.scope.now at.entry.line raw.now).found).breaks) }
+    ensures { let operand = expression at.entry.scope.now at.entry.line raw.now in
+        IsJudged result (breaks.old ++ operand.breaks) breaks.new
+        (area_write_of at.entry.line width (option_map typed_of pointer) operand.found) }
 {
     let value = operand_of(at, raw, breaks)?;
     area_write_of(at.line, width, pointer, value, breaks)
@@ -381,8 +368,7 @@ fn action(
     raw: &RawStmtKind,
     breaks: &mut List<Break>,
 ) -> Result<Option<Stmt>, NoMemory>
-    ensures found { IfOk result (λ found. found ≡ (action at.entry.scope.now raw.now at.entry.line).found) }
-    ensures breaks { OnOk result (breaks.new ≡ breaks.old ++ (action at.entry.scope.now raw.now at.entry.line).breaks) }
+    ensures { IsJudged result breaks.old breaks.new (action at.entry.scope.now raw.now at.entry.line) }
 {
     match raw {
         RawStmtKind::Assign(target, value) => {
