@@ -2,7 +2,7 @@
 ghost use Rattle.std.specs.Prelude.{◌≡◌, ◌≤◌, length, option_map, IfSome};
 ghost use Rattle.std.specs.List.{list_any, slice_split};
 ghost use Rattle.image_text.specs.Image.{area_of_letter, area_of, is_blank, is_empty, shape_of, shaped, values_of};
-ghost use Rattle.image_text.specs.Reading.{IsNamed, area_kept, block_kept, kept, pieces_left, shape_kept, view};
+ghost use Rattle.image_text.specs.Reading.{IsNamed, area_kept, block_kept, pieces_left, shape_kept, view};
 
 use crate::number::{byte_number, byte_of, number_of};
 use crate::pieces::{cut_piece, next_piece};
