@@ -1,60 +1,15 @@
 //! Numbers, digit by digit.
-ghost use Rattle.std.specs.Prelude.{◌≡◌, ◌+◌, ◌*◌, ◌-◌, ◌≤◌, ◌<◌, IfSome};
-ghost use Rattle.std.specs.List.{list_all, prefix_len};
+ghost use Rattle.std.specs.Prelude.{◌≡◌, ◌≤◌, ◌<◌, IfSome};
+ghost use Rattle.std.specs.List.{prefix_len};
 ghost use Rattle.s7_base.specs.Tokens.{is_between};
-ghost use Rattle.stl_statements.specs.Numbers.{are_digits, bits_of, has_bits_at_ends, hex_digit, hex_number, is_bit, kept, kept_number, with_hex_digit, with_next, written_from};
+ghost use Rattle.stl_statements.specs.Numbers.{bits_of, has_bits_at_ends, hex_digit, hex_number, is_bit, with_hex_digit, with_next};
 ghost use Rattle.stl_statements.specs.Statements.{is_numbered};
 ghost use Rattle.stl_constants.specs.inner.Bits.{AreBits};
 
 use crate::words::is_word_kind;
+use digit_texts::are_digits;
 use s7_base::{Token, front_of, is_same_word, rest_after};
 use stl_statements::Bits;
-
-/// One or more digits.
-pub fn are_digits(word: &[u8]) -> bool
-    ensures { result ≡ are_digits word.now }
-{
-    match word {
-        [] => false,
-        _ => all_digits(word),
-    }
-}
-
-fn all_digits(word: &[u8]) -> bool
-    ensures { result ≡ list_all (λ b. is_between 48 57 b) word.now }
-{
-    word.iter().all(|b| b.is_ascii_digit())
-}
-
-/// A number that is kept in 32 bits, with one digit more.
-fn with_digit(before: u32, digit: u8) -> u32
-    ensures { result ≡ kept (before * 10 + (digit - 48)) }
-{
-    before
-        .saturating_mul(10)
-        .saturating_add(u32::from(digit.saturating_sub(b'0')))
-}
-
-fn number_value(digits: &[u8]) -> u32
-    ensures { result ≡ kept (written_from 0 digits.now) }
-{
-    let mut value = 0;
-    for digit in digits {
-        value = with_digit(value, *digit);
-    }
-    value
-}
-
-/// A decimal number of any size; one past the greatest is kept as that one.
-pub fn kept_number(digits: &[u8]) -> Option<u32>
-    ensures { result ≡ kept_number digits.now }
-{
-    if are_digits(digits) {
-        Some(number_value(digits))
-    } else {
-        None
-    }
-}
 
 /// The token is this word and a number, without a blank.
 pub fn is_numbered(token: &Token, word: &str) -> bool

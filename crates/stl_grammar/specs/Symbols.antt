@@ -10,7 +10,7 @@ use Rattle.s7_base.specs.declared.token.Token.{Token}
 use Rattle.s7_base.specs.declared.word.Width.{Width}
 use Rattle.s7_base.specs.declared.word.Width.TheVariants as width
 use Rattle.stl_grammar.specs.Headings.{is_behind, is_on, kind_word}
-use Rattle.stl_statements.specs.Numbers.{kept_number}
+use Rattle.digit_texts.specs.Digits.{kept_number}
 use Rattle.stl_statements.specs.Words.{is_sign, is_word, is_quoted_kind}
 use Rattle.stl_tree.specs.declared.raw.BlockKind.{BlockKind}
 use Rattle.stl_tree.specs.declared.raw.BlockKind.TheVariants as block

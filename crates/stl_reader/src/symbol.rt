@@ -7,10 +7,11 @@ ghost use Rattle.stl_grammar.specs.Symbols.{address_by, address_of, area_by, bit
 
 use crate::heading::{copied, is_behind, is_on, kind_word};
 use crate::misfit::{heading_reason, reason_with};
+use digit_texts::kept_number;
 use memory_areas::AreaName;
 use s7_base::{Line, NoMemory, Token, Width, front_of, is_same_word, rest_after};
 use std::alloc::Global;
-use stl_constants::{is_quoted, is_sign, is_word, kept_number};
+use stl_constants::{is_quoted, is_sign, is_word};
 use stl_grammar::{Found, Item, Where};
 use stl_tree::{BlockKind, RawPlace, SymbolAddress, SymbolLine};
 

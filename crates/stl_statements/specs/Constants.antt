@@ -9,7 +9,8 @@ use Rattle.s7_base.specs.declared.token.Token.{Token}
 use Rattle.s7_base.specs.declared.word.Width.{Width}
 use Rattle.s7_base.specs.declared.word.Width.TheVariants as width
 use Rattle.stl_tree.specs.Accumulators.{bits_wide, signed_part}
-use Rattle.stl_statements.specs.Numbers.{are_digits, bits_of, hex_number}
+use Rattle.digit_texts.specs.Digits.{are_digits}
+use Rattle.stl_statements.specs.Numbers.{bits_of, hex_number}
 use Rattle.stl_statements.specs.Readers.{fitting, number_in, or_else, read_as}
 use Rattle.stl_statements.specs.Words.{is_joined, is_joined_word, is_sign, is_text_kind, is_word, is_word_kind}
 use Rattle.stl_statements.specs.declared.mnemonic.Prefix.{Prefix}

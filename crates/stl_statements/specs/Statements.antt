@@ -20,7 +20,7 @@ use Rattle.status_word.specs.declared.test.Test.{Test}
 use Rattle.status_word.specs.declared.test.Test.TheVariants as test
 use Rattle.stl_statements.specs.Constants.{addend_at, constant_at, left_out_prefixes, marked_at, number_at}
 use Rattle.stl_statements.specs.Mnemonics.{Row, goes_on, mnemonic_at}
-use Rattle.stl_statements.specs.Numbers.{are_digits}
+use Rattle.digit_texts.specs.Digits.{are_digits}
 use Rattle.stl_statements.specs.Paths.{named_at}
 use Rattle.stl_statements.specs.Places.{numbered_at, opened_area, place_at}
 use Rattle.stl_statements.specs.Pointers.{crossing_at, indirect_at, memory_at, offset_at, pointer_at}
