@@ -8,9 +8,9 @@ ghost use Rattle.stl_statements.specs.declared.mnemonic.Prefix.TheVariants as pr
 ghost use Rattle.s7_base.specs.declared.word.Width.TheVariants as width;
 ghost use Rattle.stl_constants.specs.inner.Rows.{shown};
 
-use crate::number::{bits_of, digits_size, hex_number};
+use crate::number::{bits_of, hex_number};
 use crate::words::{is_joined, is_joined_word, is_sign, is_text, is_word, is_word_kind};
-use digit_texts::{are_digits, number_up_to};
+use digit_texts::{are_digits, digits_size, number_up_to};
 use s7_base::{Kind, Token, Width, rest_after};
 use stl_statements::{Bits, Prefix, Read};
 use stl_tree::Constant;

@@ -1,7 +1,5 @@
 //! Numbers, digit by digit.
 ghost use Rattle.std.specs.Prelude.{◌≡◌, ◌≤◌, ◌<◌, IfSome};
-ghost use Rattle.std.specs.List.{prefix_len};
-ghost use Rattle.s7_base.specs.Tokens.{is_between};
 ghost use Rattle.stl_statements.specs.Numbers.{bits_of, has_bits_at_ends, hex_digit, hex_number, is_bit, with_hex_digit, with_next};
 ghost use Rattle.stl_statements.specs.Statements.{is_numbered};
 ghost use Rattle.stl_constants.specs.inner.Bits.{AreBits};
@@ -19,13 +17,6 @@ pub fn is_numbered(token: &Token, word: &str) -> bool
     is_word_kind(token)
         && is_same_word(front_of(text, word.len()), word)
         && are_digits(rest_after(text, word.len()))
-}
-
-/// How many digits stand at the front.
-pub fn digits_size(text: &[u8]) -> usize
-    ensures size { result ≡ prefix_len (λ b. is_between 48 57 b) text.now }
-{
-    text.iter().take_while(|b| b.is_ascii_digit()).count()
 }
 
 /// The number that a hexadecimal digit stands for.
