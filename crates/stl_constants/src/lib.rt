@@ -1,8 +1,9 @@
 //! Tests words and signs, and reads numbers and constants: the least parts of a statement.
 //!
-//! Stands on `stl_statements`, which has them as definitions, and on `digit_texts` for decimal numbers. Each call
-//! gives what its definition gives for the same tokens, also where that is that nothing fits or that a form is left
-//! out. `proofs/` has for the crates above that a constant is read exactly where one of its forms stands.
+//! Stands on `stl_statements`, which has them as definitions, and on `digit_texts` for digits and decimal numbers.
+//! Each call gives what its definition gives for the same tokens, also where that is that nothing fits or that a
+//! form is left out. `proofs/` has for the crates above that a constant is read exactly where one of its forms
+//! stands.
 #![tactic(auto)]
 
 pub use constant::{

@@ -1,11 +1,11 @@
 //! Numbers, digit by digit.
-ghost use Rattle.std.specs.Prelude.{◌≡◌, ◌≤◌, ◌<◌, IfSome};
-ghost use Rattle.stl_statements.specs.Numbers.{bits_of, has_bits_at_ends, hex_digit, hex_number, is_bit, with_hex_digit, with_next};
+ghost use Rattle.std.specs.Prelude.{◌≡◌, ◌≤◌, IfSome};
+ghost use Rattle.stl_statements.specs.Numbers.{bits_of, has_bits_at_ends, hex_number, is_bit, with_hex_digit, with_next};
 ghost use Rattle.stl_statements.specs.Statements.{is_numbered};
 ghost use Rattle.stl_constants.specs.inner.Bits.{AreBits};
 
 use crate::words::is_word_kind;
-use digit_texts::are_digits;
+use digit_texts::{are_digits, hex_value};
 use s7_base::{Token, front_of, is_same_word, rest_after};
 use stl_statements::Bits;
 
@@ -19,26 +19,13 @@ pub fn is_numbered(token: &Token, word: &str) -> bool
         && are_digits(rest_after(text, word.len()))
 }
 
-/// The number that a hexadecimal digit stands for.
-fn hex_digit(b: u8) -> Option<u8>
-    ensures value { result ≡ hex_digit b }
-    ensures within { IfSome result (λ digit. digit < 16) }
-{
-    match b {
-        b'0'..=b'9' => Some(b - b'0'),
-        b'A'..=b'F' => Some(b - 55),
-        b'a'..=b'f' => Some(b - 87),
-        _ => None,
-    }
-}
-
 /// A hexadecimal number with one digit more, where it is at most `most`.
 fn with_hex_digit(most: u32, value: u32, digit: u8) -> Option<u32>
     requires { value ≤ most }
     ensures value { result ≡ with_hex_digit most value digit }
     ensures within { IfSome result (λ value. value ≤ most) }
 {
-    let more = u64::from(value) * 16 + u64::from(hex_digit(digit)?);
+    let more = u64::from(value) * 16 + u64::from(hex_value(digit)?);
     if more <= u64::from(most) {
         Some(more as u32)
     } else {

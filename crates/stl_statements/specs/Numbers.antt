@@ -1,17 +1,10 @@
 -- Numbers: hexadecimal and binary.
 use Rattle.std.specs.Prelude.{ℕ, ◌+◌, ◌*◌, ◌-◌, Bool, false, ◌==◌, ◌&&◌, nat_le, nat_lt, if◌then◌else◌, List, [], ◌∷◌, length, get_or, Option, Some, None, option_and_then}
+use Rattle.digit_texts.specs.Digits.{hex_value}
 use Rattle.s7_base.specs.Tokens.{is_between}
 use Rattle.stl_statements.specs.declared.number.Bits.{Bits}
 
 -- Hexadecimal numbers
-
--- the number that a hexadecimal digit stands for, A to F in either case
-abbrev pub hex_digit : ℕ → Option ℕ
-hex_digit b =
-    if is_between 48 57 b then Some (b - 48)
-    else if is_between 65 70 b then Some (b - 55)
-    else if is_between 97 102 b then Some (b - 87)
-    else None
 
 -- a number, where it is at most `most`
 abbrev pub at_most : ℕ → ℕ → Option ℕ
@@ -19,7 +12,7 @@ at_most most value = if nat_le value most then Some value else None
 
 -- a hexadecimal number with one digit more, where it is at most `most`
 abbrev pub with_hex_digit : ℕ → ℕ → ℕ → Option ℕ
-with_hex_digit most value digit = option_and_then (λ d. at_most most (value * 16 + d)) (hex_digit digit)
+with_hex_digit most value digit = option_and_then (λ d. at_most most (value * 16 + d)) (hex_value digit)
 
 -- the number that hexadecimal digits stand for after those of `value`, where it is at most `most`
 abbrev pub hex_from : ℕ → ℕ → List ℕ → Option ℕ
