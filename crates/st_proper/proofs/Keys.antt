@@ -8,12 +8,13 @@ use Rattle.std.specs.Str.{bytes_eq, str_to_ascii_lowercase}
 use Rattle.std.proofs.lemmas.Bool.{leb-true, ltb-false}
 use Rattle.std.proofs.lemmas.List.{drop-map, length-map, take-map}
 use Rattle.std.proofs.lemmas.Str.Ascii.{lowercase-uppercase}
+use Rattle.digit_texts.specs.Digits.{is_digit}
 use Rattle.s7_base.specs.Tokens.{is_among, is_same_word}
 use Rattle.s7_base.specs.declared.register.Reg.{Reg}
 use Rattle.st_lexer.proofs.Words.{and_both, not_true}
 use Rattle.st_canonical.proofs.SameNames.{of_same, same_of}
 use Rattle.st_rules.specs.Globals.{number_from, number_in}
-use Rattle.st_tree.specs.Naming.{are_digits, is_digit, is_free, is_next, is_numbered, is_register, is_same, is_unit_number, key_of, may_name_local, may_name_unit, names_block, register_names, without_zeros}
+use Rattle.st_tree.specs.Naming.{are_digits, is_free, is_next, is_numbered, is_register, is_same, is_unit_number, key_of, may_name_local, may_name_unit, names_block, register_names, without_zeros}
 use Rattle.st_rules.specs.Scopes.{register_named}
 use Rattle.st_tree.specs.Words.{register_word}
 use Rattle.st_rules.specs.declared.scope.TheConstants.{REGISTERS}

@@ -6,7 +6,7 @@ use Rattle.std.proofs.Math.Nat.{le-min, min-le_right, min-eq_left, min-eq_right}
 use Rattle.std.proofs.lemmas.Bool.{eqb-false, leb-true, leb-false, ltb-true, ltb-false}
 use Rattle.std.proofs.lemmas.Bool.{and_parts}
 use Rattle.st_rules.specs.Globals.{block_number, number_from, number_in}
-use Rattle.st_tree.specs.Naming.{is_digit}
+use Rattle.digit_texts.specs.Digits.{is_digit}
 use Rattle.st_tree.specs.Naming.{are_digits, key_of, names_block, without_zeros, zeros_before}
 
 pub digit : (b : ℕ) → is_digit b ≡ true → (48 ≤ b) × (b ≤ 57)

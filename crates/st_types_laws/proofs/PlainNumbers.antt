@@ -8,7 +8,7 @@ use Rattle.std.proofs.lemmas.Bool.Decides.{nat_tests}
 use Rattle.std.proofs.lemmas.Fmt.{decimal_by_steps, first_decimal}
 use Rattle.std.proofs.lemmas.List.Folds.{list_all-append}
 use Rattle.st_rules.specs.Globals.{block_number, number_from, number_in}
-use Rattle.st_tree.specs.Naming.{is_digit}
+use Rattle.digit_texts.specs.Digits.{is_digit}
 use Rattle.st_tree.specs.Naming.{are_digits, key_of, with_plain_number, without_zeros, zeros_before}
 use Rattle.std.proofs.lemmas.Bool.{and_parts}
 use Rattle.st_types_laws.proofs.BlockKeys.{digit, is_key, one_key}
