@@ -1,5 +1,5 @@
 -- Digits in texts, and the numbers that they write.
-use Rattle.std.specs.Prelude.{ℕ, ◌+◌, ◌*◌, ◌-◌, ◌^◌, min, Bool, false, ◌&&◌, nat_le, if◌then◌else◌, List, [], ◌∷◌, Option, Some, None}
+use Rattle.std.specs.Prelude.{ℕ, ◌+◌, ◌*◌, ◌-◌, ◌^◌, min, Bool, false, ◌&&◌, nat_le, nat_lt, if◌then◌else◌, List, [], ◌∷◌, Option, Some, None}
 use Rattle.std.specs.List.{list_all, prefix_len}
 use Rattle.s7_base.specs.Tokens.{is_between}
 
@@ -54,3 +54,7 @@ hex_value b =
     else if is_between 65 70 b then Some (b - 55)
     else if is_between 97 102 b then Some (b - 87)
     else None
+
+-- the hexadecimal digit of a value, a capital
+abbrev pub hex_digit : ℕ → ℕ
+hex_digit n = if nat_lt n 10 then 48 + n else 55 + n

@@ -1,7 +1,7 @@
 //! Digits, decimal and hexadecimal.
 ghost use Rattle.std.specs.Prelude.{◌≡◌, ◌<◌, IfSome};
 ghost use Rattle.std.specs.List.{list_all};
-ghost use Rattle.digit_texts.specs.Digits.{are_digits, digits_size, hex_value, is_digit};
+ghost use Rattle.digit_texts.specs.Digits.{are_digits, digits_size, hex_digit, hex_value, is_digit};
 
 /// 0 to 9.
 pub fn is_digit(b: u8) -> bool
@@ -45,4 +45,12 @@ pub fn hex_value(digit: u8) -> Option<u8>
         b'a'..=b'f' => Some(digit - b'a' + 10),
         _ => None,
     }
+}
+
+/// The hexadecimal digit of a value, a capital.
+pub fn hex_digit(n: u8) -> u8
+    requires { n < 16 }
+    ensures { result ≡ hex_digit n }
+{
+    if n < 10 { b'0' + n } else { b'A' + (n - 10) }
 }

@@ -4,7 +4,7 @@
 //! which number digits write, kept in 32 bits or up to a bound; each call gives exactly that.
 #![tactic(auto)]
 
-pub use digit::{all_digits, are_digits, digits_size, hex_value, is_digit};
+pub use digit::{all_digits, are_digits, digits_size, hex_digit, hex_value, is_digit};
 pub use number::{kept_number, number_up_to, number_value};
 
 mod digit;
