@@ -2,7 +2,7 @@ use Rattle.std.proofs.Common.{◌≡◌, [], ap, sym, take, ◌∙◌, arith}
 use Rattle.std.specs.List.{filter_map}
 use Rattle.std.proofs.lemmas.Grind.{common_steps}
 use Rattle.std.proofs.lemmas.List.{take_all}
-use Rattle.stl_rules.specs.Names.{number_of}
+use Rattle.stl_rules.specs.Names.{block_number}
 use Rattle.stl_tree.specs.declared.raw.BlockKind.TheVariants as block
 use Rattle.symbol_names.specs.inner.Firsts.{with_breaks}
 use Rattle.symbol_names.specs.inner.Kept.{data_kept, db_breaks}
@@ -17,9 +17,9 @@ loop-place-preserved c =
     let place = c.loop-place.place in
     let symbols = c.args.names.now.symbols in
     let first = c.loop-place.found.first in
-    let noted : c.put_data.new.found.first ≡ with_breaks first (db_breaks (numbers_before (take place (db_numbers symbols c.args.dbs.now))) d (number_of symbols block.Db d.name))
+    let noted : c.put_data.new.found.first ≡ with_breaks first (db_breaks (numbers_before (take place (db_numbers symbols c.args.dbs.now))) d (block_number symbols block.Db d.name))
     = c.in_ok-put_data.ensures.first
-    ∙ ap (λ all. with_breaks first (db_breaks (numbers_before (take place (db_numbers symbols all))) d (number_of symbols block.Db d.name))) (sym c.requires) in (
+    ∙ ap (λ all. with_breaks first (db_breaks (numbers_before (take place (db_numbers symbols all))) d (block_number symbols block.Db d.name))) (sym c.requires) in (
       grind (arith, common_steps),
       put_turn (data_kept c.are_few-keep.result symbols) [] c.loop-place.found.made c.put_data.new.found.made c.args.dbs.now place d c.loop-place-test.true c.index-dbs-place.is
           c.loop-place.invariant.1 c.in_ok-put_data.ensures.made,
