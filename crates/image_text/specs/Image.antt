@@ -21,9 +21,9 @@ is_number [] = false
 is_number (d ∷ []) = is_digit d
 is_number (d ∷ e ∷ rest) = not (d == 48) && list_all is_digit (d ∷ e ∷ rest)
 
--- the number that a word writes
-abbrev pub number_of : List ℕ → Option ℕ
-number_of word = if is_number word then Some (written_from 0 word) else None
+-- the number that a word writes, which has no leading zeros
+abbrev pub image_number : List ℕ → Option ℕ
+image_number word = if is_number word then Some (written_from 0 word) else None
 
 -- the area of a letter: I, Q or M
 abbrev pub area_of_letter : ℕ → Option Area
@@ -34,11 +34,11 @@ area_of_letter b =
 abbrev pub area_of : List ℕ → Option Area
 area_of [] = None
 area_of (b ∷ []) = area_of_letter b
-area_of (b ∷ c ∷ digits) = if b == 68 && c == 66 then option_map area.Db (number_of digits) else None
+area_of (b ∷ c ∷ digits) = if b == 68 && c == 66 then option_map area.Db (image_number digits) else None
 
 -- the number before a colon
 abbrev pub byte_number : List ℕ → Option ℕ
-byte_number word = if slice_index word (length word - 1) == 58 then number_of (take (length word - 1) word) else None
+byte_number word = if slice_index word (length word - 1) == 58 then image_number (take (length word - 1) word) else None
 
 -- Fields
 

@@ -1,7 +1,7 @@
 //! Numbers and bytes as an image writes them.
 ghost use Rattle.std.specs.Prelude.{◌≡◌, option_map};
 ghost use Rattle.digit_texts.specs.Digits.{kept};
-ghost use Rattle.image_text.specs.Image.{is_number, number_of, byte_number, byte_of};
+ghost use Rattle.image_text.specs.Image.{is_number, image_number, byte_number, byte_of};
 
 use digit_texts::{all_digits, hex_value, is_digit, number_value};
 
@@ -16,8 +16,8 @@ fn is_number(word: &[u8]) -> bool
 }
 
 /// A number without leading zeros; one past the greatest is kept as that one.
-pub fn number_of(word: &[u8]) -> Option<u32>
-    ensures { result ≡ option_map kept (number_of word.now) }
+pub fn image_number(word: &[u8]) -> Option<u32>
+    ensures { result ≡ option_map kept (image_number word.now) }
 {
     if is_number(word) {
         Some(number_value(word))
@@ -31,7 +31,7 @@ pub fn byte_number(word: &[u8]) -> Option<u32>
     ensures { result ≡ option_map kept (byte_number word.now) }
 {
     match word {
-        [number @ .., b':'] => number_of(number),
+        [number @ .., b':'] => image_number(number),
         _ => None,
     }
 }
