@@ -1,6 +1,6 @@
 //! How the program ends.
 ghost use Rattle.std.specs.Prelude.{◌≡◌};
-ghost use Rattle.command_answers.specs.Status.{number_of};
+ghost use Rattle.command_answers.specs.Status.{status_number};
 
 /// What a call of the program came to; the number is the exit status of its process.
 #[derive(Clone, Copy, Debug, PartialEq, Eq)]
@@ -42,7 +42,7 @@ pub enum Status {
 impl Status {
     /// The exit status.
     pub fn number(self) -> u8
-        ensures { result ≡ number_of self }
+        ensures { result ≡ status_number self }
     {
         self as u8
     }

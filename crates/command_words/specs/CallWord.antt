@@ -5,13 +5,13 @@ use Rattle.std.specs.Char.{to_ascii_uppercase}
 use Rattle.std.specs.List.{prefix_len}
 use Rattle.std.specs.Option.{option_or}
 use Rattle.std.specs.Str.{bytes_eq}
+use Rattle.digit_texts.specs.Digits.{number_up_to}
 use Rattle.memory_areas.specs.declared.place.Area.{Area}
 use Rattle.memory_areas.specs.declared.place.Area.TheVariants as area
 use Rattle.memory_areas.specs.declared.place.Place.{Place}
 use Rattle.s7_base.specs.Tokens.{is_between, is_word_byte}
 use Rattle.s7_base.specs.declared.word.Width.{Width}
 use Rattle.s7_base.specs.declared.word.Width.TheVariants as width
-use Rattle.stl_statements.specs.Numbers.{number_of}
 use Rattle.memory_areas.specs.declared.call.BlockName.{BlockName}
 use Rattle.memory_areas.specs.declared.call.BlockName.TheVariants.{Ob, Fc, Fb}
 use Rattle.memory_areas.specs.declared.call.Call.{Call}
@@ -20,7 +20,7 @@ use Rattle.memory_areas.specs.declared.call.Call.{Call}
 
 -- a decimal number of one digit to so many, and of a value of `most` at most
 abbrev pub number_in : ℕ → ℕ → List ℕ → Option ℕ
-number_in places most digits = if nat_le (length digits) places then number_of most digits else None
+number_in places most digits = if nat_le (length digits) places then number_up_to most digits else None
 
 -- the number of a block or of a byte
 abbrev pub short_number : List ℕ → Option ℕ

@@ -2,13 +2,12 @@
 ghost use Rattle.std.specs.Prelude.{◌≡◌, ◌*◌, ◌-◌, ◌<◌, ◌≤◌, ◌&&◌, ◌==◌, not, take, length, option_map, IfOk, IfSome};
 ghost use Rattle.std.specs.List.{prefix_len};
 ghost use Rattle.s7_base.specs.Tokens.{is_word_byte};
-ghost use Rattle.stl_statements.specs.Numbers.{number_of};
 ghost use Rattle.command_words.specs.CallWord.{number_in, short_number, begins_with_letter, behind, number_behind, front_size, front, back, letter_area, letter_width, bit_number, bit_actual, bytes_actual, area_actual, part_of, block_actual, actual_of, pieces, actuals_in, actuals_behind, block_meant, call_with, call_meant};
 
+use digit_texts::number_up_to;
 use memory_areas::{Area, BlockName, Call, Place};
 use s7_base::{List, NoMemory, Width, is_word_byte, rest_after};
 use std::alloc::Global;
-use stl_statements::number_of;
 
 /// A decimal number of one digit to `places`, and of at most `most`.
 pub fn number_in(places: usize, most: u64, digits: &[u8]) -> Option<u64>
@@ -16,7 +15,7 @@ pub fn number_in(places: usize, most: u64, digits: &[u8]) -> Option<u64>
     ensures within { IfSome result (λ number. number ≤ most) }
 {
     if digits.len() <= places {
-        number_of(most, digits)
+        number_up_to(most, digits)
     } else {
         None
     }

@@ -2,8 +2,9 @@
 use Rattle.std.specs.Prelude.{ℕ, ◌+◌, ◌-◌, ◌*◌, Bool, true, false, not, ◌==◌, ◌&&◌, ◌||◌, nat_le, if◌then◌else◌, List, [], ◌∷◌, length, take, slice_index, Option, Some, None, option_map, Result, Ok, Err}
 use Rattle.std.specs.List.{slice_split, list_any, list_all}
 use Rattle.std.specs.Str.Lines.{strip_carriage_return}
-use Rattle.s7_base.specs.Tokens.{is_between, line_after}
+use Rattle.s7_base.specs.Tokens.{line_after}
 use Rattle.s7_base.specs.declared.reason.Line.{Line}
+use Rattle.digit_texts.specs.Digits.{hex_value, is_digit, written_from}
 use Rattle.memory_areas.specs.Access.{bytes_there}
 use Rattle.memory_areas.specs.Areas.{Contents, bytes_of, with_bytes, replaced, fresh}
 use Rattle.memory_areas.specs.declared.data_block.DataBlock.{DataBlock}
@@ -14,24 +15,15 @@ use Rattle.image_text.specs.declared.refusal.ImageRefusal.TheVariants.{BadLine, 
 
 -- Numbers and areas
 
--- a decimal digit
-abbrev pub is_digit : ℕ → Bool
-is_digit b = is_between 48 57 b
-
 -- one or more digits, the first of several no zero
 abbrev pub is_number : List ℕ → Bool
 is_number [] = false
 is_number (d ∷ []) = is_digit d
 is_number (d ∷ e ∷ rest) = not (d == 48) && list_all is_digit (d ∷ e ∷ rest)
 
--- the number that digits write after those of a number
-abbrev pub number_from : ℕ → List ℕ → ℕ
-number_from before [] = before
-number_from before (d ∷ rest) = number_from (before * 10 + (d - 48)) rest
-
--- the number that a word writes
-abbrev pub number_of : List ℕ → Option ℕ
-number_of word = if is_number word then Some (number_from 0 word) else None
+-- the number that a word writes, which has no leading zeros
+abbrev pub image_number : List ℕ → Option ℕ
+image_number word = if is_number word then Some (written_from 0 word) else None
 
 -- the area of a letter: I, Q or M
 abbrev pub area_of_letter : ℕ → Option Area
@@ -42,21 +34,13 @@ area_of_letter b =
 abbrev pub area_of : List ℕ → Option Area
 area_of [] = None
 area_of (b ∷ []) = area_of_letter b
-area_of (b ∷ c ∷ digits) = if b == 68 && c == 66 then option_map area.Db (number_of digits) else None
+area_of (b ∷ c ∷ digits) = if b == 68 && c == 66 then option_map area.Db (image_number digits) else None
 
 -- the number before a colon
 abbrev pub byte_number : List ℕ → Option ℕ
-byte_number word = if slice_index word (length word - 1) == 58 then number_of (take (length word - 1) word) else None
+byte_number word = if slice_index word (length word - 1) == 58 then image_number (take (length word - 1) word) else None
 
 -- Fields
-
--- the value of a hexadecimal digit, small or capital
-abbrev pub hex_value : ℕ → Option ℕ
-hex_value b =
-    if is_between 48 57 b then Some (b - 48)
-    else if is_between 65 70 b then Some (b - 55)
-    else if is_between 97 102 b then Some (b - 87)
-    else None
 
 -- the byte of its high and its low digit, where each is one
 abbrev pub two_digits : Option ℕ → Option ℕ → Option ℕ

@@ -1,6 +1,7 @@
 -- How the calls that read an image answer.
-use Rattle.std.specs.Prelude.{◌≡◌, ℕ, ◌^◌, ◌-◌, ◌<◌, ◌≤◌, min, nat_lt, if◌then◌else◌, List, [], ◌∷◌, length, All, Bool, Some, Result, Ok, Err}
+use Rattle.std.specs.Prelude.{◌≡◌, ℕ, ◌^◌, ◌<◌, ◌≤◌, nat_lt, if◌then◌else◌, List, [], ◌∷◌, length, All, Bool, Some, Result, Ok, Err}
 use Rattle.std.specs.List.{slice_split}
+use Rattle.digit_texts.specs.Digits.{kept}
 use Rattle.memory_areas.specs.Access.{bytes_there, or_none}
 use Rattle.memory_areas.specs.Areas.{Contents, IsMemoryOf}
 use Rattle.memory_areas.specs.declared.data_block.DataBlock.{DataBlock}
@@ -31,10 +32,6 @@ pieces_left p (b ∷ behind) = slice_split p behind
 -- the bytes of the fields that are left of a line, where each of them writes one
 abbrev pub values_left : List ℕ → List ℕ
 values_left left = or_none (values_of (pieces_left is_blank left))
-
--- a number that is kept in 32 bits; one past the greatest is kept as that one
-abbrev pub kept : ℕ → ℕ
-kept n = min n (2 ^ 32 - 1)
 
 -- a number of a data block that is kept in 16 bits; one past the greatest is kept as 0, which no block has
 abbrev pub block_kept : ℕ → ℕ

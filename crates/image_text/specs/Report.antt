@@ -1,6 +1,7 @@
 -- The report of a run: how it ended, and the memory as it then was.
-use Rattle.std.specs.Prelude.{ℕ, ◌+◌, ◌/◌, ◌%◌, Bool, true, false, not, ◌==◌, ◌||◌, nat_lt, if◌then◌else◌, List, [], ◌∷◌, ◌++◌, take, codes, decimal, flat_map, Option, Some, None}
+use Rattle.std.specs.Prelude.{ℕ, ◌+◌, ◌/◌, ◌%◌, Bool, true, false, not, ◌==◌, ◌||◌, if◌then◌else◌, List, [], ◌∷◌, ◌++◌, take, codes, decimal, flat_map, Option, Some, None}
 use Rattle.std.specs.List.{list_any}
+use Rattle.digit_texts.specs.Digits.{hex_digit}
 use Rattle.s7_base.specs.declared.outcome.Fault.{Fault}
 use Rattle.s7_base.specs.declared.outcome.Fault.TheVariants as fault
 use Rattle.s7_base.specs.declared.outcome.Outcome.{Outcome}
@@ -17,10 +18,6 @@ fault_name fault.Alignment = codes "Alignment"
 fault_name fault.AreaLength = codes "AreaLength"
 fault_name fault.BcdDigit = codes "BcdDigit"
 fault_name fault.DivideByZero = codes "DivideByZero"
-
--- a hexadecimal digit, a capital
-abbrev pub hex_digit : ℕ → ℕ
-hex_digit n = if nat_lt n 10 then 48 + n else 55 + n
 
 -- a blank and the two digits of a byte
 abbrev pub byte_text : ℕ → List ℕ

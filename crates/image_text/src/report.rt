@@ -4,9 +4,10 @@ ghost use Rattle.std.specs.List.{list_any};
 ghost use Rattle.memory_areas.specs.Access.{bytes_there};
 ghost use Rattle.memory_areas.specs.Memory.{IsActivation};
 ghost use Rattle.image_text.specs.Reading.{numbered_text};
-ghost use Rattle.image_text.specs.Report.{area_text, block_text, byte_text, end_text, fault_name, hex_digit, is_set, memory_text, report, row_shown, row_text};
+ghost use Rattle.image_text.specs.Report.{area_text, block_text, byte_text, end_text, fault_name, is_set, memory_text, report, row_shown, row_text};
 
 use crate::pieces::rest_after;
+use digit_texts::hex_digit;
 use itoa::Buffer;
 use memory_areas::{Area, INPUT_BYTES, MARKER_BYTES, Memory, OUTPUT_BYTES};
 use s7_base::{Fault, NoMemory, Outcome};
@@ -30,13 +31,6 @@ fn fault_name(fault: Fault) -> &'static str
         Fault::BcdDigit => "BcdDigit",
         Fault::DivideByZero => "DivideByZero",
     }
-}
-
-fn hex_digit(n: u8) -> u8
-    requires { n < 16 }
-    ensures { result ≡ hex_digit n }
-{
-    if n < 10 { b'0' + n } else { b'A' + (n - 10) }
 }
 
 fn put(out: &mut Vec<u8>, text: &str) -> Result<(), NoMemory>

@@ -2,9 +2,9 @@
 ghost use Rattle.std.specs.Prelude.{◌≡◌, ◌≤◌, length, option_map, IfSome};
 ghost use Rattle.std.specs.List.{list_any, slice_split};
 ghost use Rattle.image_text.specs.Image.{area_of_letter, area_of, is_blank, is_empty, shape_of, shaped, values_of};
-ghost use Rattle.image_text.specs.Reading.{IsNamed, area_kept, block_kept, kept, pieces_left, shape_kept, view};
+ghost use Rattle.image_text.specs.Reading.{IsNamed, area_kept, block_kept, pieces_left, shape_kept, view};
 
-use crate::number::{byte_number, byte_of, number_of};
+use crate::number::{byte_number, byte_of, image_number};
 use crate::pieces::{cut_piece, next_piece};
 use memory_areas::Area;
 
@@ -42,7 +42,7 @@ fn area_of(word: &[u8]) -> Option<Area>
     match word {
         [letter] => area_of_letter(*letter),
         [b'D', b'B', digits @ ..] => {
-            let number = number_of(digits)?;
+            let number = image_number(digits)?;
             Some(Area::Db(block_kept(number)))
         }
         _ => None,

@@ -4,11 +4,11 @@ use Rattle.std.specs.Prelude.{All, IsSome, decimal}
 use Rattle.std.proofs.lemmas.List.Elements.{All-head, All-tail}
 use Rattle.std.specs.Char.{to_ascii_uppercase}
 use Rattle.std.specs.List.{list_all}
-use Rattle.std.proofs.lemmas.Bool.{lt-ltb}
 use Rattle.std.proofs.lemmas.Bool.Decides.{nat_tests}
 use Rattle.std.proofs.lemmas.Fmt.{decimal_by_steps}
 use Rattle.std.proofs.lemmas.List.{length-append}
 use Rattle.std.proofs.lemmas.List.Folds.{list_all-append}
+use Rattle.digit_texts.proofs.SomeDigits.{some_digits}
 use Rattle.s7_base.specs.Tokens.{is_between, is_word_byte}
 use Rattle.st_tree.specs.Naming.{are_apart, is_name, is_new, is_same, key_of, may_name_unit}
 use Rattle.st_tree.specs.StRun.{called_name}
@@ -54,9 +54,9 @@ has_name (name.Fc n) h = rw (decimal_digits n (omega arith)).bytes refl
 has_name (name.Fb n) h = rw (decimal_digits n (omega arith)).bytes refl
 
 pub names_unit : (b : BlockName) → IsNumbered b → may_name_unit (called_name b) ≡ true
-names_unit (name.Ob n) h = let d = decimal_digits n (omega arith) in rw (lt-ltb 0 (length (decimal n)) d.some, d.digits) refl
-names_unit (name.Fc n) h = let d = decimal_digits n (omega arith) in rw (lt-ltb 0 (length (decimal n)) d.some, d.digits) refl
-names_unit (name.Fb n) h = let d = decimal_digits n (omega arith) in rw (lt-ltb 0 (length (decimal n)) d.some, d.digits) refl
+names_unit (name.Ob n) h = let d = decimal_digits n (omega arith) in rw (some_digits (decimal n) d.some d.digits) refl
+names_unit (name.Fc n) h = let d = decimal_digits n (omega arith) in rw (some_digits (decimal n) d.some d.digits) refl
+names_unit (name.Fb n) h = let d = decimal_digits n (omega arith) in rw (some_digits (decimal n) d.some d.digits) refl
 
 -- Names of blocks that are not the same
 

@@ -4,31 +4,31 @@ use Rattle.std.specs.List.{fold}
 use Rattle.std.proofs.lemmas.Bool.{eqb-false, ltb-true, ltb-false}
 use Rattle.s7_base.specs.declared.reason.Reason.{Reason}
 use Rattle.s7_base.specs.declared.reason.Reason.TheVariants as reason
-use Rattle.s7_base.specs.Broken.{comes_before, first_of_all, number_of, sooner}
+use Rattle.s7_base.specs.Broken.{comes_before, first_of_all, rule_number, sooner}
 use Rattle.s7_base.specs.BrokenLaws.{FirstOfAll, IsFirst}
 use Rattle.s7_base.specs.declared.broken.Break.{Break}
 
-pub few : (r : Reason) → number_of r < 32
+pub few : (r : Reason) → rule_number r < 32
 few reason.BadToken = omega arith
 few other = omega arith
 
 -- a number by which broken rules are ordered
 abbrev pub rank : Break → ℕ
-rank b = b.line.0 * 32 + number_of b.rule
+rank b = b.line.0 * 32 + rule_number b.rule
 
 -- what comes before has a lesser rank, and nothing else
 pub ranked : (a b : Break) (t : Bool) → comes_before a b ≡ t → cond t (rank a < rank b) (rank b ≤ rank a)
 ranked a b t e =
-    by_tests (nat_lt a.line.0 b.line.0) (a.line.0 == b.line.0) (nat_lt (number_of a.rule) (number_of b.rule)) refl refl refl t e
+    by_tests (nat_lt a.line.0 b.line.0) (a.line.0 == b.line.0) (nat_lt (rule_number a.rule) (rule_number b.rule)) refl refl refl t e
   where
-    by_tests : (x y z : Bool) → nat_lt a.line.0 b.line.0 ≡ x → (a.line.0 == b.line.0) ≡ y → nat_lt (number_of a.rule) (number_of b.rule) ≡ z → (t : Bool)
+    by_tests : (x y z : Bool) → nat_lt a.line.0 b.line.0 ≡ x → (a.line.0 == b.line.0) ≡ y → nat_lt (rule_number a.rule) (rule_number b.rule) ≡ z → (t : Bool)
         → (x || (y && z)) ≡ t → cond t (rank a < rank b) (rank b ≤ rank a)
     by_tests true y z f g h true q = omega (arith, ltb-true a.line.0 b.line.0 f, few a.rule, few b.rule)
     by_tests true y z f g h false q = absurd cc
-    by_tests false true true f g h true q = omega (arith, eqb-true a.line.0 b.line.0 g, ltb-true (number_of a.rule) (number_of b.rule) h)
+    by_tests false true true f g h true q = omega (arith, eqb-true a.line.0 b.line.0 g, ltb-true (rule_number a.rule) (rule_number b.rule) h)
     by_tests false true true f g h false q = absurd cc
     by_tests false true false f g h true q = absurd cc
-    by_tests false true false f g h false q = omega (arith, eqb-true a.line.0 b.line.0 g, ltb-false (number_of a.rule) (number_of b.rule) h)
+    by_tests false true false f g h false q = omega (arith, eqb-true a.line.0 b.line.0 g, ltb-false (rule_number a.rule) (rule_number b.rule) h)
     by_tests false false z f g h true q = absurd cc
     by_tests false false z f g h false q =
         let apart : a.line.0 ≡ b.line.0 → ⊥ = eqb-false a.line.0 b.line.0 g in

@@ -7,36 +7,36 @@ use Rattle.s7_base.specs.declared.reason.Reason.{Reason}
 use Rattle.s7_base.specs.declared.reason.Reason.TheVariants as reason
 
 -- the number of a rule, which orders rules on one line
-abbrev pub number_of : Reason → ℕ
-number_of reason.BadToken = 1
-number_of reason.BadStatement = 2
-number_of (reason.Unsupported k) = 3
-number_of reason.UnknownName = 4
-number_of reason.UnknownBlock = 5
-number_of reason.BadOperand = 6
-number_of reason.BadAddress = 7
-number_of reason.DuplicateBlock = 8
-number_of reason.DuplicateName = 9
-number_of reason.BadType = 10
-number_of reason.TooLarge = 11
-number_of reason.DuplicateLabel = 12
-number_of reason.UnknownLabel = 13
-number_of reason.BracketOpen = 14
-number_of reason.BracketMissing = 15
-number_of reason.TooManyBrackets = 16
-number_of reason.BadJumpList = 17
-number_of reason.TooManyInstructions = 18
-number_of reason.TooManyParameters = 19
-number_of reason.CallCycle = 20
-number_of reason.CallTooDeep = 21
-number_of reason.NoBlocks = 22
-number_of reason.BadSyntax = 23
-number_of reason.TooDeep = 24
-number_of reason.TypeMismatch = 25
+abbrev pub rule_number : Reason → ℕ
+rule_number reason.BadToken = 1
+rule_number reason.BadStatement = 2
+rule_number (reason.Unsupported k) = 3
+rule_number reason.UnknownName = 4
+rule_number reason.UnknownBlock = 5
+rule_number reason.BadOperand = 6
+rule_number reason.BadAddress = 7
+rule_number reason.DuplicateBlock = 8
+rule_number reason.DuplicateName = 9
+rule_number reason.BadType = 10
+rule_number reason.TooLarge = 11
+rule_number reason.DuplicateLabel = 12
+rule_number reason.UnknownLabel = 13
+rule_number reason.BracketOpen = 14
+rule_number reason.BracketMissing = 15
+rule_number reason.TooManyBrackets = 16
+rule_number reason.BadJumpList = 17
+rule_number reason.TooManyInstructions = 18
+rule_number reason.TooManyParameters = 19
+rule_number reason.CallCycle = 20
+rule_number reason.CallTooDeep = 21
+rule_number reason.NoBlocks = 22
+rule_number reason.BadSyntax = 23
+rule_number reason.TooDeep = 24
+rule_number reason.TypeMismatch = 25
 
 -- a broken rule comes before another: on a line before, or with a lesser number on one line
 abbrev pub comes_before : Break → Break → Bool
-comes_before a b = nat_lt a.line.0 b.line.0 || (a.line.0 == b.line.0 && nat_lt (number_of a.rule) (number_of b.rule))
+comes_before a b = nat_lt a.line.0 b.line.0 || (a.line.0 == b.line.0 && nat_lt (rule_number a.rule) (rule_number b.rule))
 
 -- the first of a broken rule, if there is one, and another
 abbrev pub sooner : Option Break → Break → Option Break

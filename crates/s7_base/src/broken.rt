@@ -1,6 +1,6 @@
 //! Broken rules, and which of them is named.
 ghost use Rattle.std.specs.Prelude.{◌≡◌, ◌++◌, OnOk};
-ghost use Rattle.s7_base.specs.Broken.{broken, comes_before, first_of_all, number_of, sooner};
+ghost use Rattle.s7_base.specs.Broken.{broken, comes_before, first_of_all, rule_number, sooner};
 
 use crate::list::List;
 use crate::memory::NoMemory;
@@ -20,8 +20,8 @@ pub fn note(breaks: &mut List<Break>, line: Line, rule: Reason) -> Result<(), No
     breaks.push(Break { line, rule })
 }
 
-fn number_of(rule: Reason) -> u8
-    ensures { result ≡ number_of rule }
+fn rule_number(rule: Reason) -> u8
+    ensures { result ≡ rule_number rule }
 {
     match rule {
         Reason::BadToken => 1,
@@ -55,7 +55,7 @@ fn number_of(rule: Reason) -> u8
 fn comes_before(a: Break, b: Break) -> bool
     ensures { result ≡ comes_before a b }
 {
-    a.line.0 < b.line.0 || a.line.0 == b.line.0 && number_of(a.rule) < number_of(b.rule)
+    a.line.0 < b.line.0 || a.line.0 == b.line.0 && rule_number(a.rule) < rule_number(b.rule)
 }
 
 fn sooner(first: Option<Break>, other: Break) -> Option<Break>

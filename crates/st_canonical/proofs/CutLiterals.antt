@@ -4,6 +4,7 @@ use Rattle.std.specs.Prelude.{ℤ, pos, negsuc, neg_ℤ, unsigned_abs, int_lt, n
 use Rattle.std.proofs.lemmas.Bool.Decides.{nat_tests}
 use Rattle.std.proofs.lemmas.Fmt.{decimal_by_steps}
 use Rattle.std.proofs.lemmas.List.Folds.{list_all-append}
+use Rattle.digit_texts.specs.Digits.{hex_digit}
 use Rattle.memory_areas.specs.declared.place.AreaName.{AreaName}
 use Rattle.memory_areas.specs.declared.place.AreaName.TheVariants as area
 use Rattle.s7_base.specs.declared.reason.Line.{Line}
@@ -28,7 +29,7 @@ use Rattle.st_canonical.specs.Spelled.{is_literal}
 use Rattle.st_grammar.specs.declared.kind.Kind.{Kind}
 use Rattle.st_grammar.specs.declared.kind.Kind.TheVariants as kind
 use Rattle.st_grammar.specs.declared.kind.Literal.TheVariants as lit
-use Rattle.st_tree.specs.Spelling.{bit_text, byte_text, digit, hexadecimal, integer_text, literal_text, place_text, var_text}
+use Rattle.st_tree.specs.Spelling.{bit_text, byte_text, hexadecimal, integer_text, literal_text, place_text, var_text}
 use Rattle.st_tree.specs.Typing.{Names}
 use Rattle.st_tree.specs.Words.{area_word, width_word}
 use Rattle.st_tree.specs.declared.expr.StType.{StType}
@@ -51,7 +52,7 @@ more_digits n ds h d = no_line_both ds ((48 + n % 10) ∷ []) d (one_digit (n % 
 decimal_no_line : (n : ℕ) → n < 2 ^ 64 → has_no_line (decimal n) ≡ true
 decimal_no_line n small = decimal_by_steps (λ m ds. has_no_line ds ≡ true) one_digit more_digits n small
 
-digit_no_line : (d : ℕ) → has_no_line (digit d ∷ []) ≡ true
+digit_no_line : (d : ℕ) → has_no_line (hex_digit d ∷ []) ≡ true
 digit_no_line d = by (nat_lt d 10)
   where
     by : (t : Bool) → has_no_line ((if t then 48 + d else 55 + d) ∷ []) ≡ true
@@ -61,7 +62,7 @@ digit_no_line d = by (nat_lt d 10)
 hexadecimal_no_line : (count n : ℕ) → has_no_line (hexadecimal count n) ≡ true
 unfolding hexadecimal
 hexadecimal_no_line zero n = refl
-hexadecimal_no_line (suc count) n = no_line_both (hexadecimal count (n / 16)) (digit (n % 16) ∷ []) (hexadecimal_no_line count (n / 16)) (digit_no_line (n % 16))
+hexadecimal_no_line (suc count) n = no_line_both (hexadecimal count (n / 16)) (hex_digit (n % 16) ∷ []) (hexadecimal_no_line count (n / 16)) (digit_no_line (n % 16))
 
 -- Literals
 

@@ -6,13 +6,14 @@ use Rattle.std.proofs.lemmas.Bool.Decides.{nat_tests}
 use Rattle.std.proofs.lemmas.Fmt.{decimal_by_steps}
 use Rattle.std.proofs.lemmas.List.Folds.{list_all-append}
 use Rattle.std.proofs.Math.Seq.{take-append_seam}
+use Rattle.digit_texts.specs.Digits.{hex_digit}
 use Rattle.s7_base.specs.Tokens.{is_word_byte}
 use Rattle.st_lexer.proofs.Words.{and_both, not_true}
 use Rattle.st_lexer.specs.Literals.{digit_value, is_digit_to, begins_with_digit, digits_size, with_digit, value_from, digits_behind}
 use Rattle.st_lexer.specs.Spelled.{ends_word}
 use Rattle.st_lexer.specs.declared.number.Base.{Base}
 use Rattle.st_lexer.specs.declared.number.Base.TheVariants.{Two, Eight, Ten, Sixteen}
-use Rattle.st_tree.specs.Spelling.{digit, hexadecimal}
+use Rattle.st_tree.specs.Spelling.{hexadecimal}
 
 -- Digits to a base
 
@@ -118,36 +119,36 @@ abbrev pub past : ℕ → ℕ
 past zero = 1
 past (suc count) = past count * 16
 
-sixteen_digit : (d : ℕ) → d < 16 → digit_value (digit d) ≡ d
+sixteen_digit : (d : ℕ) → d < 16 → digit_value (hex_digit d) ≡ d
 sixteen_digit d h = by (nat_lt d 10) refl
   where
     by : (t : Bool) → nat_lt d 10 ≡ t → digit_value (if t then 48 + d else 55 + d) ≡ d
     by true e = ten_digit d (grind (arith, nat_tests))
     by false e = grind (arith, nat_tests)
 
-no_line : (d : ℕ) → d < 16 → (digit d == 95) ≡ false
+no_line : (d : ℕ) → d < 16 → (hex_digit d == 95) ≡ false
 no_line d h = by (nat_lt d 10)
   where
     by : (t : Bool) → ((if t then 48 + d else 55 + d) == 95) ≡ false
     by true = grind (arith, nat_tests)
     by false = grind (arith, nat_tests)
 
-with_sixteen : (value d : ℕ) → d < 16 → with_digit Sixteen value (digit d) ≡ min (value * 16 + d) (2 ^ 64 - 1)
+with_sixteen : (value d : ℕ) → d < 16 → with_digit Sixteen value (hex_digit d) ≡ min (value * 16 + d) (2 ^ 64 - 1)
 with_sixteen value d h = rw (no_line d h) (rw (sixteen_digit d h) refl)
 
-sixteen_ok : (d : ℕ) → d < 16 → is_digit_to Sixteen (digit d) ≡ true
+sixteen_ok : (d : ℕ) → d < 16 → is_digit_to Sixteen (hex_digit d) ≡ true
 sixteen_ok d h = rw (sixteen_digit d h) (grind (arith, nat_tests))
 
 pub length_of_hexadecimal : (count n : ℕ) → length (hexadecimal count n) ≡ count
 unfolding hexadecimal
 length_of_hexadecimal zero n = refl
-length_of_hexadecimal (suc count) n = omega (arith, length-append (hexadecimal count (n / 16)) (digit (n % 16) ∷ []), length_of_hexadecimal count (n / 16))
+length_of_hexadecimal (suc count) n = omega (arith, length-append (hexadecimal count (n / 16)) (hex_digit (n % 16) ∷ []), length_of_hexadecimal count (n / 16))
 
 all_hexadecimal : (count n : ℕ) → list_all (is_digit_to Sixteen) (hexadecimal count n) ≡ true
 unfolding hexadecimal
 all_hexadecimal zero n = refl
 all_hexadecimal (suc count) n =
-    list_all-append (is_digit_to Sixteen) (hexadecimal count (n / 16)) (digit (n % 16) ∷ [])
+    list_all-append (is_digit_to Sixteen) (hexadecimal count (n / 16)) (hex_digit (n % 16) ∷ [])
     ∙ rw (all_hexadecimal count (n / 16), sixteen_ok (n % 16) (omega arith)) refl
 
 value_of_hexadecimal : (count n : ℕ) → n < past count → n < 2 ^ 64 → value_from Sixteen 0 (hexadecimal count n) ≡ n
@@ -155,7 +156,7 @@ unfolding hexadecimal
 value_of_hexadecimal zero n h small = omega arith
 value_of_hexadecimal (suc count) n h small =
     let before : value_from Sixteen 0 (hexadecimal count (n / 16)) ≡ n / 16 = value_of_hexadecimal count (n / 16) (omega arith) (omega arith) in
-    value_snoc Sixteen 0 (hexadecimal count (n / 16)) (digit (n % 16)) ∙ rw before (with_sixteen (n / 16) (n % 16) (omega arith) ∙ omega arith)
+    value_snoc Sixteen 0 (hexadecimal count (n / 16)) (hex_digit (n % 16)) ∙ rw before (with_sixteen (n / 16) (n % 16) (omega arith) ∙ omega arith)
 
 pub hexadecimal_digits : (count n : ℕ) → 0 < count → n < past count → n < 2 ^ 64 → Digits Sixteen n (hexadecimal count n)
 hexadecimal_digits count n some below small = record {

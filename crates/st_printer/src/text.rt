@@ -1,7 +1,8 @@
 //! Pieces of text after others.
-ghost use Rattle.std.specs.Prelude.{◌≡◌, ◌<◌, ◌++◌, decimal, OnOk};
-ghost use Rattle.st_tree.specs.Spelling.{blanks, digit, hexadecimal, integer_text};
+ghost use Rattle.std.specs.Prelude.{◌≡◌, ◌++◌, decimal, OnOk};
+ghost use Rattle.st_tree.specs.Spelling.{blanks, hexadecimal, integer_text};
 
+use digit_texts::hex_digit;
 use itoa::Buffer;
 use s7_base::NoMemory;
 
@@ -39,13 +40,6 @@ pub fn put_integer(out: &mut Vec<u8>, number: i64) -> Result<(), NoMemory>
     put_number(out, number.unsigned_abs())
 }
 
-fn digit_of(value: u8) -> u8
-    requires { value < 16 }
-    ensures { result ≡ digit value }
-{
-    if value < 10 { 48 + value } else { 55 + value }
-}
-
 /// Puts the last so many hexadecimal digits of a number at the end, in capitals and with zeros before
 /// them.
 pub fn put_hexadecimal(out: &mut Vec<u8>, count: u32, number: u64) -> Result<(), NoMemory>
@@ -55,7 +49,7 @@ pub fn put_hexadecimal(out: &mut Vec<u8>, count: u32, number: u64) -> Result<(),
         return Ok(());
     }
     put_hexadecimal(out, count - 1, number / 16)?;
-    out.push(digit_of((number % 16) as u8))?;
+    out.push(hex_digit((number % 16) as u8))?;
     Ok(())
 }
 

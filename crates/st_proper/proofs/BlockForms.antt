@@ -2,7 +2,7 @@
 -- their bytes are ones that tokens have, and their lists stand for the same bytes.
 use Rattle.st_proper.proofs.Spells.{Spells, past_spells}
 use Rattle.std.proofs.Common.{◌≡◌, ℕ, ◌+◌, ◌-◌, ◌/◌, ◌%◌, ◌<◌, ◌≤◌, ◌==◌, Bool, true, false, not, List, [], ◌∷◌, ◌++◌, length, drop, take, replicate, Option, None, refl, sym, ap, subst, ◌∙◌, arith, append_assoc, append-nil, length-append}
-use Rattle.std.specs.Prelude.{codes, decimal, is_none, nat_lt, if◌then◌else◌}
+use Rattle.std.specs.Prelude.{codes, decimal, is_none, if◌then◌else◌}
 use Rattle.std.specs.List.{flat_map, list_all}
 use Rattle.std.proofs.Math.Seq.{drop-length}
 use Rattle.std.proofs.lemmas.Bool.{eqb-true}
@@ -11,6 +11,7 @@ use Rattle.std.proofs.lemmas.Fmt.{decimal_by_steps}
 use Rattle.std.proofs.lemmas.Grind.{flat_map-append}
 use Rattle.std.proofs.lemmas.List.{length-replicate, replicate-append-replicate}
 use Rattle.std.proofs.lemmas.List.Folds.{list_all-append}
+use Rattle.digit_texts.proofs.SomeDigits.{some_digits}
 use Rattle.memory_areas.specs.declared.data_block.DataBlock.{DataBlock}
 use Rattle.s7_base.specs.Tokens.{is_between, is_same_word, is_word_byte}
 use Rattle.st_lexer.proofs.Words.{and_both}
@@ -97,9 +98,7 @@ block_is_name n h =
 pub block_is_named : (n : ℕ) → n ≤ 65535 → names_block (block_name n) ≡ true
 block_is_named n h =
     let d = has_digits n h in
-    let some : nat_lt 0 (length (decimal n))
-    ≡ true = let s : 0 < length (decimal n) = d.some in grind (arith, nat_tests) in
-    rw (some, d.digits) refl
+    some_digits (decimal n) d.some d.digits
 
 -- Bytes as they are written
 

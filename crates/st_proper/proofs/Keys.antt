@@ -1,19 +1,20 @@
 -- The key of a name in a tree is the one by which the text's names are compared; and what keys register
 -- variables, data blocks and other names have.
-use Rattle.std.proofs.Common.{◌≡◌, ℕ, ◌+◌, ◌-◌, ◌<◌, ◌≤◌, Bool, true, false, not, ◌&&◌, ◌||◌, cond, List, [], ◌∷◌, ◌++◌, map, length, take, drop, Some, None, refl, sym, ap, ◌∙◌, arith}
+use Rattle.std.proofs.Common.{◌≡◌, ℕ, ◌+◌, ◌-◌, ◌<◌, ◌≤◌, Bool, true, false, not, ◌&&◌, ◌||◌, cond, List, [], ◌∷◌, ◌++◌, map, take, drop, Some, None, refl, sym, ap, ◌∙◌, arith}
 use Rattle.std.specs.Prelude.{codes, decimal, find, nat_le, nat_lt}
 use Rattle.std.specs.Char.{to_ascii_lowercase, to_ascii_uppercase}
 use Rattle.std.specs.List.{list_all, list_any}
 use Rattle.std.specs.Str.{bytes_eq, str_to_ascii_lowercase}
 use Rattle.std.proofs.lemmas.Bool.{leb-true, ltb-false}
-use Rattle.std.proofs.lemmas.List.{drop-map, length-map, take-map}
+use Rattle.std.proofs.lemmas.List.{drop-map, take-map}
 use Rattle.std.proofs.lemmas.Str.Ascii.{lowercase-uppercase}
+use Rattle.digit_texts.specs.Digits.{are_digits, is_digit}
 use Rattle.s7_base.specs.Tokens.{is_among, is_same_word}
 use Rattle.s7_base.specs.declared.register.Reg.{Reg}
 use Rattle.st_lexer.proofs.Words.{and_both, not_true}
 use Rattle.st_canonical.proofs.SameNames.{of_same, same_of}
 use Rattle.st_rules.specs.Globals.{number_from, number_in}
-use Rattle.st_tree.specs.Naming.{are_digits, is_digit, is_free, is_next, is_numbered, is_register, is_same, is_unit_number, key_of, may_name_local, may_name_unit, names_block, register_names, without_zeros}
+use Rattle.st_tree.specs.Naming.{is_free, is_next, is_numbered, is_register, is_same, is_unit_number, key_of, may_name_local, may_name_unit, names_block, register_names, without_zeros}
 use Rattle.st_rules.specs.Scopes.{register_named}
 use Rattle.st_tree.specs.Words.{register_word}
 use Rattle.st_rules.specs.declared.scope.TheConstants.{REGISTERS}
@@ -42,6 +43,11 @@ digits_back (c ∷ name) h =
     let both = and_both (is_digit (to_ascii_uppercase c)) (list_all is_digit (map to_ascii_uppercase name)) h in
     rw (digit_back c both.0, digits_back name both.1) refl
 
+-- a name whose capitals are digits is digits
+are_back : (name : List ℕ) → are_digits (map to_ascii_uppercase name) ≡ true → are_digits name ≡ true
+are_back [] h = h
+are_back (c ∷ name) h = digits_back (c ∷ name) h
+
 lower_upper : (name : List ℕ) → str_to_ascii_lowercase (map to_ascii_uppercase name) ≡ str_to_ascii_lowercase name
 lower_upper [] = refl
 lower_upper (c ∷ name) =
@@ -54,14 +60,11 @@ block_back name h =
     let parts = and_both (is_same_word (take 2 capitals) (codes "DB")) (are_digits (drop 2 capitals)) h in
     let rest = map to_ascii_uppercase (drop 2 name) in
     let digits : are_digits rest ≡ true = ap are_digits (sym (drop-map to_ascii_uppercase 2 name)) ∙ parts.1 in
-    let more = and_both (nat_lt 0 (length rest)) (list_all is_digit rest) digits in
     let letters : is_same_word (take 2 name) (codes "DB") ≡ true =
     of_same (take 2 name) (codes "DB")
     (sym (lower_upper (take 2 name)) ∙ ap str_to_ascii_lowercase (sym (take-map to_ascii_uppercase 2 name))
     ∙ same_of (take 2 capitals) (codes "DB") parts.0) in
-    both_true (is_same_word (take 2 name) (codes "DB")) (are_digits (drop 2 name)) letters
-    (both_true (nat_lt 0 (length (drop 2 name))) (list_all is_digit (drop 2 name))
-    (ap (nat_lt 0) (sym (length-map (drop 2 name) to_ascii_uppercase)) ∙ more.0) (digits_back (drop 2 name) more.1))
+    both_true (is_same_word (take 2 name) (codes "DB")) (are_digits (drop 2 name)) letters (are_back (drop 2 name) digits)
 
 not_block : (name : List ℕ) → names_block name ≡ false → names_block (map to_ascii_uppercase name) ≡ false
 not_block name h = by (names_block (map to_ascii_uppercase name)) refl

@@ -1,9 +1,10 @@
 -- Names: what a name is, which words are reserved, what a name may be given to, and by what names are
 -- compared.
-use Rattle.std.specs.Prelude.{ℕ, ◌-◌, min, Bool, true, false, not, ◌&&◌, ◌||◌, ◌==◌, nat_eq, nat_lt, if◌then◌else◌, List, [], ◌∷◌, ◌++◌, map, take, drop, length, codes}
+use Rattle.std.specs.Prelude.{ℕ, ◌-◌, min, Bool, true, false, not, ◌&&◌, ◌||◌, ◌==◌, nat_eq, if◌then◌else◌, List, [], ◌∷◌, ◌++◌, map, take, drop, length, codes}
 use Rattle.std.specs.List.{list_all, list_any, prefix_len}
 use Rattle.std.specs.Char.{to_ascii_uppercase}
 use Rattle.std.specs.Cmp.Lexicographic.{pointwise}
+use Rattle.digit_texts.specs.Digits.{are_digits}
 use Rattle.s7_base.specs.Tokens.{is_among, is_between, is_same_word, is_word_byte}
 use Rattle.s7_base.specs.declared.register.Reg.{Reg}
 use Rattle.s7_base.specs.declared.register.Reg.TheVariants as reg
@@ -17,14 +18,6 @@ use Rattle.st_tree.specs.declared.expr.StType.TheVariants as type
 -- a letter or `_`
 abbrev pub is_letter : ℕ → Bool
 is_letter b = is_between 65 90 b || is_between 97 122 b || b == 95
-
--- a digit
-abbrev pub is_digit : ℕ → Bool
-is_digit b = is_between 48 57 b
-
--- a digit and more, and nothing else
-abbrev pub are_digits : List ℕ → Bool
-are_digits text = nat_lt 0 (length text) && list_all is_digit text
 
 -- two letters in any case, and a number after them
 abbrev pub is_numbered : List ℕ → List ℕ → Bool

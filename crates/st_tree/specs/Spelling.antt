@@ -1,7 +1,8 @@
 -- The canonical spelling of a tree: words in capitals, names as declared, four blanks for each level,
 -- one blank around an operator and `:=`, a statement, a heading, a declaration or a label list to a line.
-use Rattle.std.specs.Prelude.{ℕ, zero, suc, ◌+◌, ◌-◌, ◌/◌, ◌%◌, ◌==◌, Bool, true, false, ℤ, pos, unsigned_abs, int_lt, nat_lt, List, [], ◌∷◌, ◌++◌, codes, decimal, map, flat_map, length, slice_get, Option, Some, None, if◌then◌else◌}
+use Rattle.std.specs.Prelude.{ℕ, zero, suc, ◌+◌, ◌-◌, ◌/◌, ◌%◌, ◌==◌, Bool, true, false, ℤ, pos, unsigned_abs, int_lt, List, [], ◌∷◌, ◌++◌, codes, decimal, map, flat_map, length, slice_get, Option, Some, None, if◌then◌else◌}
 use Rattle.std.specs.Ordering.{int_eq}
+use Rattle.digit_texts.specs.Digits.{hex_digit}
 use Rattle.memory_areas.specs.declared.place.Area.{Area}
 use Rattle.memory_areas.specs.declared.place.Area.TheVariants as area
 use Rattle.memory_areas.specs.declared.data_block.DataBlock.{DataBlock}
@@ -41,14 +42,10 @@ blanks (suc level) = codes "    " ++ blanks level
 unfoldable pub line : ℕ → List ℕ → List ℕ
 line level text = blanks level ++ text ++ codes "\n"
 
--- a hexadecimal digit, a capital
-abbrev pub digit : ℕ → ℕ
-digit d = if nat_lt d 10 then 48 + d else 55 + d
-
 -- the last so many hexadecimal digits of a number
 unfoldable pub hexadecimal : ℕ → ℕ → List ℕ
 hexadecimal zero n = []
-hexadecimal (suc count) n = hexadecimal count (n / 16) ++ digit (n % 16) ∷ []
+hexadecimal (suc count) n = hexadecimal count (n / 16) ++ hex_digit (n % 16) ∷ []
 
 -- Variables and literals
 

@@ -3,11 +3,12 @@
 ghost use Rattle.std.specs.Prelude.{◌≡◌, ◌&&◌, IfOk};
 ghost use Rattle.std.specs.List.{list_all, list_any};
 ghost use Rattle.s7_base.specs.Tokens.{is_among, is_same_word, is_word_byte};
-ghost use Rattle.st_tree.specs.Naming.{are_digits, conversion_word, is_conversion, is_conversion_word, is_digit, is_free, is_letter, is_name, is_next, is_numbered, is_register, is_unit_number, is_unreserved, key_of, keywords, may_name_global, may_name_local, may_name_unit, names_block, types, with_plain_number, without_zeros, zeros_before};
+ghost use Rattle.st_tree.specs.Naming.{conversion_word, is_conversion, is_conversion_word, is_free, is_letter, is_name, is_next, is_numbered, is_register, is_unit_number, is_unreserved, key_of, keywords, may_name_global, may_name_local, may_name_unit, names_block, types, with_plain_number, without_zeros, zeros_before};
 
 use crate::expr::StType;
 use crate::type_rules::is_type;
 use crate::words::type_word;
+use digit_texts::are_digits;
 use s7_base::{NoMemory, front_of, is_same_word, is_word_byte, rest_after};
 use std::alloc::Global;
 
@@ -87,24 +88,6 @@ const TYPES: [StType; 7] = [
 ];
 
 // Letters and digits
-
-fn is_digit(b: u8) -> bool
-    ensures { result ≡ is_digit b }
-{
-    matches!(b, b'0'..=b'9')
-}
-
-fn all_digits(text: &[u8]) -> bool
-    ensures { result ≡ list_all is_digit text.now }
-{
-    text.iter().all(|b| is_digit(*b))
-}
-
-fn are_digits(text: &[u8]) -> bool
-    ensures { result ≡ are_digits text.now }
-{
-    !text.is_empty() && all_digits(text)
-}
 
 /// Two letters in any case, and a number after them.
 fn is_numbered(letters: &str, name: &[u8]) -> bool

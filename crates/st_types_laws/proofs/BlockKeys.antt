@@ -6,8 +6,9 @@ use Rattle.std.proofs.Math.Nat.{le-min, min-le_right, min-eq_left, min-eq_right}
 use Rattle.std.proofs.lemmas.Bool.{eqb-false, leb-true, leb-false, ltb-true, ltb-false}
 use Rattle.std.proofs.lemmas.Bool.{and_parts}
 use Rattle.st_rules.specs.Globals.{block_number, number_from, number_in}
-use Rattle.st_tree.specs.Naming.{is_digit}
-use Rattle.st_tree.specs.Naming.{are_digits, key_of, names_block, without_zeros, zeros_before}
+use Rattle.digit_texts.proofs.SomeDigits.{each_digit}
+use Rattle.digit_texts.specs.Digits.{are_digits, is_digit}
+use Rattle.st_tree.specs.Naming.{key_of, names_block, without_zeros, zeros_before}
 
 pub digit : (b : ℕ) → is_digit b ≡ true → (48 ≤ b) × (b ≤ 57)
 digit b h = let t = and_parts (nat_le 48 b) (nat_le b 57) h in (leb-true 48 b t.0, leb-true b 57 t.1)
@@ -156,7 +157,7 @@ has_plain n capitals true e h some = by_test (are_digits ds) refl h
 
     by_test : (t : Bool) → are_digits ds ≡ t → cond t (number_from 0 ds) 0 ≡ n → IsKey n (68 ∷ 66 ∷ ds)
     by_test false f g = absurd (omega (arith, g, some))
-    by_test true f g = record { digits = ds; named = refl; sound = record { digits = (and_parts (nat_lt 0 (length ds)) (list_all is_digit ds) f).1; plain = plain; worth = g } }
+    by_test true f g = record { digits = ds; named = refl; sound = record { digits = each_digit ds f; plain = plain; worth = g } }
       where
         plain : (rest : List ℕ) → ds ≡ 48 ∷ rest → ⊥
         plain rest q =

@@ -1,6 +1,6 @@
 -- The name of a data block in plain form, `DB` and its number, has that number; and its key is that of each
 -- name with the number.
-use Rattle.std.proofs.Common.{◌≡◌, ◌<◌, ◌≤◌, ◌+◌, ◌*◌, ◌-◌, ◌/◌, ◌%◌, ◌^◌, ℕ, min, true, false, cond, ◌&&◌, ◌==◌, nat_lt, List, [], ◌∷◌, ◌++◌, map, drop, length, get_or, refl, ap, ◌∙◌, arith, length-append}
+use Rattle.std.proofs.Common.{◌≡◌, ◌<◌, ◌≤◌, ◌+◌, ◌*◌, ◌-◌, ◌/◌, ◌%◌, ◌^◌, ℕ, min, true, false, cond, ◌==◌, nat_lt, List, [], ◌∷◌, ◌++◌, map, drop, length, get_or, refl, ap, ◌∙◌, arith, length-append}
 use Rattle.std.specs.Prelude.{codes, decimal}
 use Rattle.std.specs.List.{list_all}
 use Rattle.std.specs.Char.{to_ascii_uppercase}
@@ -8,8 +8,9 @@ use Rattle.std.proofs.lemmas.Bool.Decides.{nat_tests}
 use Rattle.std.proofs.lemmas.Fmt.{decimal_by_steps, first_decimal}
 use Rattle.std.proofs.lemmas.List.Folds.{list_all-append}
 use Rattle.st_rules.specs.Globals.{block_number, number_from, number_in}
-use Rattle.st_tree.specs.Naming.{is_digit}
-use Rattle.st_tree.specs.Naming.{are_digits, key_of, with_plain_number, without_zeros, zeros_before}
+use Rattle.digit_texts.proofs.SomeDigits.{some_digits}
+use Rattle.digit_texts.specs.Digits.{are_digits, is_digit}
+use Rattle.st_tree.specs.Naming.{key_of, with_plain_number, without_zeros, zeros_before}
 use Rattle.std.proofs.lemmas.Bool.{and_parts}
 use Rattle.st_types_laws.proofs.BlockKeys.{digit, is_key, one_key}
 
@@ -74,16 +75,14 @@ plain_key : (n : ℕ) → 1 ≤ n → n ≤ 65535 → key_of (codes "DB" ++ deci
 unfolding key_of
 plain_key n some small =
     let w = written n (omega (arith, small)) in
-    let few : nat_lt 0 (length (decimal n)) ≡ true = let l = w.some in grind (arith, nat_tests) in
-    let number : are_digits (decimal n) ≡ true = ap (λ t. t && list_all is_digit (decimal n)) few ∙ w.digits in
+    let number : are_digits (decimal n) ≡ true = some_digits (decimal n) w.some w.digits in
     key_is (map to_ascii_uppercase (68 ∷ 66 ∷ decimal n)) (decimal n) (ap (λ xs. 68 ∷ 66 ∷ xs) (no_capitals (decimal n) w.digits)) number
     (all_kept (decimal n) (first_decimal n (omega (arith, some)) (omega (arith, small))))
 
 pub plain_number : (n : ℕ) → 1 ≤ n → n ≤ 65535 → block_number (codes "DB" ++ decimal n) ≡ n
 plain_number n some small =
     let w = written n (omega (arith, small)) in
-    let few : nat_lt 0 (length (decimal n)) ≡ true = let l = w.some in grind (arith, nat_tests) in
-    let number : are_digits (decimal n) ≡ true = ap (λ t. t && list_all is_digit (decimal n)) few ∙ w.digits in
+    let number : are_digits (decimal n) ≡ true = some_digits (decimal n) w.some w.digits in
     ap number_in (plain_key n some small) ∙ ap (λ t. cond t (number_from 0 (decimal n)) 0) number ∙ w.value (omega (arith, small))
 
 -- each name of a number has the key of the plain one

@@ -15,7 +15,8 @@ use Rattle.stl_tree.specs.Accumulators.{bits_wide}
 use Rattle.stl_statements.specs.ConstantForms.{IsAddend, IsAmong, IsBehind, IsConstant, IsHex, IsNumberIn, IsPair, IsPrefixed, IsSigned, IsUpTo}
 use Rattle.stl_statements.specs.ConstantForms as form
 use Rattle.stl_statements.specs.Constants.{Prefixed, addend_at, addend_prefixes, begins_real, is_real, behind_prefix, binary, binary_behind, binary_of, constant, constant_at, four_behind, four_bytes, half, has_prefix, hex_behind, hex_of, left_out_prefixes, long_behind, marked_at, name_behind, negative, negative_behind, number_at, pair_of, plain, plain_at, prefixed, prefixed_at, prefixed_by, prefixes, real_at, signed_at, text_at, text_in, text_of, two_behind, two_bytes, up_to, with_byte, zero_behind}
-use Rattle.stl_statements.specs.Numbers.{are_digits, bits_of, hex_number, number_of}
+use Rattle.digit_texts.specs.Digits.{are_digits, number_up_to}
+use Rattle.stl_statements.specs.Numbers.{bits_of, hex_number}
 use Rattle.stl_statements.specs.Readers.{fitting, number_in, read_as}
 use Rattle.stl_statements.specs.Words.{is_joined, is_joined_word, is_sign, is_text_kind, is_word, is_word_kind}
 use Rattle.stl_statements.specs.declared.mnemonic.Prefix.{Prefix}
@@ -28,7 +29,7 @@ use Rattle.stl_constants.proofs.Tables.{found_among, found_passes, none_at, none
 -- From what is read to its form
 
 number_is : (most : ℕ) (word : Token) (n : ℕ) → number_in most word ≡ Some n → IsNumberIn most word n
-number_is most word n e = let t = taken (is_word_kind word.kind) (number_of most word.text) n e in record { kind = t.0; number = t.1 }
+number_is most word n e = let t = taken (is_word_kind word.kind) (number_up_to most word.text) n e in record { kind = t.0; number = t.1 }
 
 minus_is : (before n : ℕ) (w : Width) (sign : Token) (rest : List Token) → is_sign (codes "-") sign ≡ true → n ≡ before + length (sign ∷ rest) →
     (v : ℕ) → negative_behind w rest ≡ Some v → before + 2 ≡ n → IsSigned w (sign ∷ rest) v
@@ -273,7 +274,7 @@ number_all most tokens P make =
 -- From a form to what is read of it
 
 number_read : (most : ℕ) (word : Token) (n : ℕ) → IsNumberIn most word n → number_in most word ≡ Some n
-number_read most word n is = if_true (is_word_kind word.kind) (number_of most word.text) None is.kind ∙ is.number
+number_read most word n is = if_true (is_word_kind word.kind) (number_up_to most word.text) None is.kind ∙ is.number
 
 signed_read : (before : ℕ) (w : Width) (tokens : List Token) (v : ℕ) → IsSigned w tokens v → signed_at before w tokens ≡ Fits v (before + length tokens)
 signed_read before w tokens v (form.positive u word n is) =
@@ -499,16 +500,16 @@ late_no_digit c late = by (is_between 48 57 c) refl
         absurd (omega (arith, low, high))
     by false t = refl
 
-pub late_no_number : (most : ℕ) (text : List ℕ) → starts_late (str_to_ascii_lowercase text) ≡ true → number_of most text ≡ None
+pub late_no_number : (most : ℕ) (text : List ℕ) → starts_late (str_to_ascii_lowercase text) ≡ true → number_up_to most text ≡ None
 late_no_number most [] late = absurd cc
 late_no_number most (c ∷ cs) late = if_false (is_between 48 57 c && nat_le (0 * 10 + (c - 48)) most) _ None (and_left _ _ (late_no_digit c late))
 
-digit_no_word : (most : ℕ) (text : List ℕ) (n : ℕ) (word : List ℕ) → number_of most text ≡ Some n → starts_late (str_to_ascii_lowercase word) ≡ true → is_same_word text word ≡ false
+digit_no_word : (most : ℕ) (text : List ℕ) (n : ℕ) (word : List ℕ) → number_up_to most text ≡ Some n → starts_late (str_to_ascii_lowercase word) ≡ true → is_same_word text word ≡ false
 digit_no_word most text n word e letter = by (is_same_word text word) refl
   where
     by : (b : Bool) → is_same_word text word ≡ b → b ≡ false
     by true s =
-        let none : number_of most text ≡ None = late_no_number most text (ap starts_late (same_letters text word s) ∙ letter) in
+        let none : number_up_to most text ≡ None = late_no_number most text (ap starts_late (same_letters text word s) ∙ letter) in
         let clash : Some n ≡ None = sym e ∙ none in
         absurd cc
     by false s = refl
@@ -546,7 +547,7 @@ pub plain_none : (first : Token) (rest : List Token) → is_sign (codes "-") fir
     plain_at (first ∷ rest) ≡ No
 plain_none first rest no_minus letter = ap (read_as plain) (if_false (is_sign (codes "-") first) _ _ no_minus ∙ ap (fitting 1) (by (is_word_kind first.kind) refl))
   where
-    by : (b : Bool) → is_word_kind first.kind ≡ b → (if b then number_of 32767 first.text else None) ≡ None
+    by : (b : Bool) → is_word_kind first.kind ≡ b → (if b then number_up_to 32767 first.text else None) ≡ None
     by true kind = late_no_number 32767 first.text (letter kind)
     by false kind = refl
 

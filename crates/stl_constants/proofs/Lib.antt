@@ -1,4 +1,3 @@
 pub mod ConstantLaws
-mod Kept
 pub mod Reading
 pub mod Tables

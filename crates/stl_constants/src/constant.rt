@@ -8,10 +8,11 @@ ghost use Rattle.stl_statements.specs.declared.mnemonic.Prefix.TheVariants as pr
 ghost use Rattle.s7_base.specs.declared.word.Width.TheVariants as width;
 ghost use Rattle.stl_constants.specs.inner.Rows.{shown};
 
-use crate::number::{are_digits, bits_of, digits_size, hex_number};
+use crate::number::{bits_of, hex_number};
 use crate::words::{is_joined, is_joined_word, is_sign, is_text, is_word, is_word_kind};
+use digit_texts::{are_digits, digits_size, number_up_to};
 use s7_base::{Kind, Token, Width, rest_after};
-use stl_statements::{Bits, Prefix, Read, number_of};
+use stl_statements::{Bits, Prefix, Read};
 use stl_tree::Constant;
 
 /// A word before a `#`, and what stands behind it.
@@ -77,7 +78,7 @@ fn number_in(most: u32, token: &Token) -> Option<u32>
     ensures within { IfSome result (λ number. number ≤ most) }
 {
     if is_word_kind(token) {
-        Some(number_of(u64::from(most), token.text.as_slice())? as u32)
+        Some(number_up_to(u64::from(most), token.text.as_slice())? as u32)
     } else {
         None
     }

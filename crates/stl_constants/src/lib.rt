@@ -1,14 +1,15 @@
 //! Tests words and signs, and reads numbers and constants: the least parts of a statement.
 //!
-//! Stands on `stl_statements`, which has them as definitions. Each call gives what its definition gives for the
-//! same tokens, also where that is that nothing fits or that a form is left out. `proofs/` has for the crates
-//! above that a constant is read exactly where one of its forms stands.
+//! Stands on `stl_statements`, which has them as definitions, and on `digit_texts` for digits and decimal numbers.
+//! Each call gives what its definition gives for the same tokens, also where that is that nothing fits or that a
+//! form is left out. `proofs/` has for the crates above that a constant is read exactly where one of its forms
+//! stands.
 #![tactic(auto)]
 
 pub use constant::{
     addend_at, begins_glued, constant_at, fits, fitting, left_out_constant_at, number_at,
 };
-pub use number::{are_digits, is_numbered, kept_number};
+pub use number::is_numbered;
 pub use words::{
     is_joined, is_joined_word, is_quoted, is_sign, is_spelled, is_word, is_word_kind,
     is_word_or_sign,

@@ -1,60 +1,13 @@
 //! Numbers, digit by digit.
-ghost use Rattle.std.specs.Prelude.{◌≡◌, ◌+◌, ◌*◌, ◌-◌, ◌≤◌, ◌<◌, IfSome};
-ghost use Rattle.std.specs.List.{list_all, prefix_len};
-ghost use Rattle.s7_base.specs.Tokens.{is_between};
-ghost use Rattle.stl_statements.specs.Numbers.{are_digits, bits_of, has_bits_at_ends, hex_digit, hex_number, is_bit, kept, kept_number, with_hex_digit, with_next, written_from};
+ghost use Rattle.std.specs.Prelude.{◌≡◌, ◌≤◌, IfSome};
+ghost use Rattle.stl_statements.specs.Numbers.{bits_of, has_bits_at_ends, hex_number, is_bit, with_hex_digit, with_next};
 ghost use Rattle.stl_statements.specs.Statements.{is_numbered};
 ghost use Rattle.stl_constants.specs.inner.Bits.{AreBits};
 
 use crate::words::is_word_kind;
+use digit_texts::{are_digits, hex_value};
 use s7_base::{Token, front_of, is_same_word, rest_after};
 use stl_statements::Bits;
-
-/// One or more digits.
-pub fn are_digits(word: &[u8]) -> bool
-    ensures { result ≡ are_digits word.now }
-{
-    match word {
-        [] => false,
-        _ => all_digits(word),
-    }
-}
-
-fn all_digits(word: &[u8]) -> bool
-    ensures { result ≡ list_all (λ b. is_between 48 57 b) word.now }
-{
-    word.iter().all(|b| b.is_ascii_digit())
-}
-
-/// A number that is kept in 32 bits, with one digit more.
-fn with_digit(before: u32, digit: u8) -> u32
-    ensures { result ≡ kept (before * 10 + (digit - 48)) }
-{
-    before
-        .saturating_mul(10)
-        .saturating_add(u32::from(digit.saturating_sub(b'0')))
-}
-
-fn number_value(digits: &[u8]) -> u32
-    ensures { result ≡ kept (written_from 0 digits.now) }
-{
-    let mut value = 0;
-    for digit in digits {
-        value = with_digit(value, *digit);
-    }
-    value
-}
-
-/// A decimal number of any size; one past the greatest is kept as that one.
-pub fn kept_number(digits: &[u8]) -> Option<u32>
-    ensures { result ≡ kept_number digits.now }
-{
-    if are_digits(digits) {
-        Some(number_value(digits))
-    } else {
-        None
-    }
-}
 
 /// The token is this word and a number, without a blank.
 pub fn is_numbered(token: &Token, word: &str) -> bool
@@ -66,33 +19,13 @@ pub fn is_numbered(token: &Token, word: &str) -> bool
         && are_digits(rest_after(text, word.len()))
 }
 
-/// How many digits stand at the front.
-pub fn digits_size(text: &[u8]) -> usize
-    ensures size { result ≡ prefix_len (λ b. is_between 48 57 b) text.now }
-{
-    text.iter().take_while(|b| b.is_ascii_digit()).count()
-}
-
-/// The number that a hexadecimal digit stands for.
-fn hex_digit(b: u8) -> Option<u8>
-    ensures value { result ≡ hex_digit b }
-    ensures within { IfSome result (λ digit. digit < 16) }
-{
-    match b {
-        b'0'..=b'9' => Some(b - b'0'),
-        b'A'..=b'F' => Some(b - 55),
-        b'a'..=b'f' => Some(b - 87),
-        _ => None,
-    }
-}
-
 /// A hexadecimal number with one digit more, where it is at most `most`.
 fn with_hex_digit(most: u32, value: u32, digit: u8) -> Option<u32>
     requires { value ≤ most }
     ensures value { result ≡ with_hex_digit most value digit }
     ensures within { IfSome result (λ value. value ≤ most) }
 {
-    let more = u64::from(value) * 16 + u64::from(hex_digit(digit)?);
+    let more = u64::from(value) * 16 + u64::from(hex_value(digit)?);
     if more <= u64::from(most) {
         Some(more as u32)
     } else {

@@ -7,11 +7,12 @@ ghost use Rattle.stl_statements.specs.Pointers.{pointer_at};
 ghost use Rattle.stl_statements.specs.Readers.{further, or_else, read_as};
 
 use crate::elements::{Next, begins_with_sign, further, next_of, one_more};
+use digit_texts::number_up_to;
 use s7_base::{Line, List, NoMemory, Token, Width, rest_after};
 use std::alloc::Global;
 use stl_constants::{constant_at, fitting, is_sign, is_word, is_word_kind};
 use stl_places::{path_at, pointer_at, pointer_value};
-use stl_statements::{Read, number_of};
+use stl_statements::Read;
 use stl_tree::{Constant, InitialItem, PathStep, RawInitial, RawPointer};
 
 fn bit(value: u32) -> Constant
@@ -119,7 +120,7 @@ fn count_of(word: &Token) -> Option<u32>
     if !is_word_kind(word) {
         return None;
     }
-    match number_of(65_535, word.text.as_slice()) {
+    match number_up_to(65_535, word.text.as_slice()) {
         Some(count) if count > 0 => Some(count as u32),
         _ => None,
     }

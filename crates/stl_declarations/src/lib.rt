@@ -1,7 +1,7 @@
 //! Reads declarations and initial values, and puts declarations into the raw program of what is read.
 //!
-//! Stands on `stl_grammar`, which says what they are, and on `stl_constants` and `stl_places` for words, numbers,
-//! constants, pointers and paths. `declaration` reads a declaration behind its name, and knows which levels of STRUCT are
+//! Stands on `stl_grammar`, which says what they are, and on `digit_texts`, `stl_constants` and `stl_places` for
+//! words, numbers, constants, pointers and paths. `declaration` reads a declaration behind its name, and knows which levels of STRUCT are
 //! open; `initial` reads initial values, of a declaration and by a path in the body of a data block; `declared`
 //! says what a declaration and the end of a STRUCT make of what was read before. Each call gives what the
 //! definition of its name gives, and refuses where that refuses. Where an item stands, and why one is refused

@@ -10,7 +10,7 @@ use Rattle.stl_grammar.specs.declared.declaration.Innermost.{Innermost}
 use Rattle.stl_grammar.specs.declared.declaration.Innermost.TheVariants as inner
 use Rattle.stl_grammar.specs.declared.declaration.Level.{Level}
 use Rattle.stl_grammar.specs.declared.declaration.Written.{Written}
-use Rattle.stl_statements.specs.Numbers.{are_digits}
+use Rattle.digit_texts.specs.Digits.{are_digits}
 use Rattle.stl_statements.specs.Paths.{whole_at}
 use Rattle.stl_statements.specs.Readers.{further, read_as}
 use Rattle.stl_statements.specs.Statements.{is_numbered}

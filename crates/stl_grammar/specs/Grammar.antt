@@ -13,7 +13,7 @@ use Rattle.stl_grammar.specs.declared.declaration.Level.{Level}
 use Rattle.stl_grammar.specs.declared.declaration.Written.{Written}
 use Rattle.stl_statements.specs.declared.mnemonic.Read.TheVariants as read
 use Rattle.stl_grammar.specs.Headings.{heading_kind, is_behind, is_skipped, kind_word, size_on}
-use Rattle.stl_statements.specs.Numbers.{kept_number}
+use Rattle.digit_texts.specs.Digits.{kept_number}
 use Rattle.stl_statements.specs.Paths.{number_word}
 use Rattle.stl_grammar.specs.Symbols.{ends_table, is_next, symbol_line}
 use Rattle.stl_statements.specs.Statements.{instruction_of, is_numbered}

@@ -5,7 +5,7 @@ use Rattle.std.specs.List.{prefix_len}
 use Rattle.s7_base.specs.declared.reason.Line.{Line}
 use Rattle.s7_base.specs.declared.reason.Reason.{Reason}
 use Rattle.s7_base.specs.declared.token.Token.{Token}
-use Rattle.stl_statements.specs.Numbers.{are_digits, kept_number}
+use Rattle.digit_texts.specs.Digits.{are_digits, kept_number}
 use Rattle.stl_statements.specs.Paths.{number_word}
 use Rattle.stl_statements.specs.Readers.{fitting}
 use Rattle.stl_statements.specs.Statements.{is_numbered}

@@ -10,7 +10,7 @@ use Rattle.s7_base.specs.declared.token.Token.{Token}
 use Rattle.s7_base.specs.declared.word.Width.{Width}
 use Rattle.s7_base.specs.declared.word.Width.TheVariants as width
 use Rattle.stl_grammar.specs.Headings.{is_behind, is_on, kind_word}
-use Rattle.stl_statements.specs.Numbers.{kept_number}
+use Rattle.digit_texts.specs.Digits.{digits_size, kept_number}
 use Rattle.stl_statements.specs.Words.{is_sign, is_word, is_quoted_kind}
 use Rattle.stl_tree.specs.declared.raw.BlockKind.{BlockKind}
 use Rattle.stl_tree.specs.declared.raw.BlockKind.TheVariants as block
@@ -68,10 +68,6 @@ abbrev pub bit_behind : List ℕ → Option ℕ
 bit_behind [] = None
 bit_behind (point ∷ digits) = if point == 46 then kept_number digits else None
 
--- how many digits stand at the front
-abbrev pub digits_at : List ℕ → ℕ
-digits_at text = prefix_len (λ b. is_between 48 57 b) text
-
 -- a bit, by its byte and what stands behind it
 abbrev pub bit_with : AreaName → List ℕ → Option ℕ → Option SymbolAddress
 bit_with name rest None = None
@@ -79,7 +75,7 @@ bit_with name rest (Some byte) = option_map (λ bit. place_of name width.Bit byt
 
 -- a bit, by its area and what stands behind the letter
 abbrev pub bit_address : AreaName → List ℕ → Option SymbolAddress
-bit_address name text = let size = digits_at text in bit_with name (drop size text) (kept_number (take size text))
+bit_address name text = let size = digits_size text in bit_with name (drop size text) (kept_number (take size text))
 
 -- a place by its area and its width, and what stands behind their letters
 abbrev pub place_address : Option AreaName → Option Width → List ℕ → Option SymbolAddress

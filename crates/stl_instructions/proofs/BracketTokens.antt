@@ -11,7 +11,7 @@ use Rattle.s7_base.specs.declared.word.Width.{Width}
 use Rattle.s7_base.specs.declared.word.Width.TheVariants as width
 use Rattle.stl_statements.specs.ConstantForms.{IsAmong}
 use Rattle.stl_statements.specs.Constants.{constant_at, marked_at, plain_at, prefixes, text_at}
-use Rattle.stl_statements.specs.Numbers.{are_digits}
+use Rattle.digit_texts.specs.Digits.{are_digits}
 use Rattle.stl_statements.specs.Paths.{named_at}
 use Rattle.stl_statements.specs.Places.{PlaceWord, digits_of, is_no_digit, letters_of, number_behind, numbered_at, place_at, place_words}
 use Rattle.stl_statements.specs.PointerForms.{IsCrossing, IsIndirect, IsRegister}

@@ -17,12 +17,13 @@ ghost use Rattle.stl_instructions.specs.inner.Shapes.{IsPlainShape};
 
 use crate::opened::opened_at;
 use crate::table::goes_on;
+use digit_texts::are_digits;
 use s7_base::{Check, Kind, NoMemory, Token, Width, front_of, is_same_word};
 use status_word::Test;
 use std::alloc::Global;
 use stl_constants::{
-    addend_at, are_digits, constant_at, is_numbered, is_sign, is_word, is_word_kind,
-    is_word_or_sign, left_out_constant_at, number_at,
+    addend_at, constant_at, is_numbered, is_sign, is_word, is_word_kind, is_word_or_sign,
+    left_out_constant_at, number_at,
 };
 use stl_places::{crossing_at, indirect_at, named_at, offset_at, place_at, pointer_at};
 use stl_statements::{Mnemonic, Read, Shape};

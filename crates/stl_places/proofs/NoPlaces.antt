@@ -6,7 +6,7 @@ use Rattle.std.specs.Prelude.{codes, option_map}
 use Rattle.std.specs.Str.{bytes_eq, str_to_ascii_lowercase}
 use Rattle.s7_base.specs.Tokens.{is_same_word}
 use Rattle.s7_base.specs.declared.token.Token.{Token}
-use Rattle.stl_statements.specs.Numbers.{kept_number}
+use Rattle.digit_texts.specs.Digits.{kept_number}
 use Rattle.stl_statements.specs.Places.{Numbered, PlaceWord, block_place_at, digits_of, has_letters, letters_of, number_behind, numbered_at, place_at, place_behind, place_by, place_in, place_words, with_number}
 use Rattle.stl_statements.specs.Readers.{and_then, fitting, further}
 use Rattle.stl_statements.specs.Words.{is_word_kind}

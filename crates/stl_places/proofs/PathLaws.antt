@@ -6,7 +6,7 @@ use Rattle.std.proofs.lemmas.List.{append-nil, append_assoc, length-append}
 use Rattle.std.specs.Prelude.{codes, neg_ℤ, option_map}
 use Rattle.s7_base.specs.declared.token.Token.{Token}
 use Rattle.stl_statements.specs.Constants.{begins_glued}
-use Rattle.stl_statements.specs.Numbers.{kept_number}
+use Rattle.digit_texts.specs.Digits.{kept_number}
 use Rattle.stl_statements.specs.PathForms.{AreMany, IsIndices, IsNextIndex, IsPath, IsStep, IsWhole}
 use Rattle.stl_statements.specs.PathForms as form
 use Rattle.stl_statements.specs.Paths.{closed, component_at, element_at, indices_at, indices_behind, minus_number, next_index_at, number_word, path_at, plain_number, step_at, whole_at}

@@ -10,7 +10,7 @@ use Rattle.s7_base.specs.declared.token.Token.{Token}
 use Rattle.s7_base.specs.declared.word.Width.{Width}
 use Rattle.s7_base.specs.declared.word.Width.TheVariants as width
 use Rattle.stl_statements.specs.Constants.{begins_glued}
-use Rattle.stl_statements.specs.Numbers.{kept_number}
+use Rattle.digit_texts.specs.Digits.{kept_number}
 use Rattle.stl_statements.specs.PlaceForms.{IsBitBehind, IsNumbered, IsPlace, IsPlaceIn, alone, in_block, in_one, in_two, placed}
 use Rattle.stl_statements.specs.PlaceForms as form
 use Rattle.stl_statements.specs.Places.{Numbered, PlaceWord, bit_at, bit_behind, bit_number, block_place_at, db_words, digits_of, has_letters, letters_of, number_behind, numbered_at, place_at, place_behind, place_by, place_in, place_of, place_words, with_number, with_word}

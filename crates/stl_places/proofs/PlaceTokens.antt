@@ -15,7 +15,7 @@ use Rattle.s7_base.specs.declared.token.Token.{Token}
 use Rattle.s7_base.specs.declared.word.Width.{Width}
 use Rattle.stl_statements.specs.ConstantForms.{IsAmong}
 use Rattle.stl_statements.specs.Constants.{constant_at, plain, plain_at, prefixes, marked_at, text_at}
-use Rattle.stl_statements.specs.Numbers.{are_digits, number_of}
+use Rattle.digit_texts.specs.Digits.{are_digits, number_up_to}
 use Rattle.stl_statements.specs.PlaceForms.{IsBitBehind, IsNumbered, IsPlace, IsPlaceIn, alone, in_block, in_one, in_two, placed}
 use Rattle.stl_statements.specs.PlaceForms as form
 use Rattle.stl_statements.specs.Places.{PlaceWord, digits_of, is_no_digit, letters_of, place_words}
@@ -84,7 +84,7 @@ begins_with_word (first ∷ rest) = is_word_kind first.kind
 -- letters of a place make no number
 record Lettered (text : List ℕ) : Type 0 where
   no_digits : are_digits text ≡ false
-  no_number : number_of 32767 text ≡ None
+  no_number : number_up_to 32767 text ≡ None
 
 lettered : (text : List ℕ) → begins_place (letters_of text) ≡ true → Lettered text
 lettered [] e = absurd cc
@@ -198,7 +198,7 @@ place_no_constant tokens place is =
     let b = place_begun tokens place is in
     subst (λ (ts : List Token). constant_at ts ≡ No) b.is (by b.first b.rest b.kind (lettered b.first.text b.known).no_number b.unmarked)
   where
-    by : (first : Token) (rest : List Token) → is_word_kind first.kind ≡ true → number_of 32767 first.text ≡ None → AreUnmarked (first ∷ rest) → constant_at (first ∷ rest) ≡ No
+    by : (first : Token) (rest : List Token) → is_word_kind first.kind ≡ true → number_up_to 32767 first.text ≡ None → AreUnmarked (first ∷ rest) → constant_at (first ∷ rest) ≡ No
     by first rest kind none unmarked =
         let plain_is : plain_at (first ∷ rest) ≡ No =
         ap (read_as plain)

@@ -10,7 +10,7 @@ use Rattle.s7_base.specs.declared.word.Width.{Width}
 use Rattle.s7_base.specs.declared.word.Width.TheVariants as width
 use Rattle.stl_statements.specs.ConstantForms.{IsAmong}
 use Rattle.stl_statements.specs.Constants.{begins_glued, name_behind}
-use Rattle.stl_statements.specs.Numbers.{are_digits, kept_number}
+use Rattle.digit_texts.specs.Digits.{are_digits, kept_number}
 use Rattle.stl_statements.specs.Paths.{number_word}
 use Rattle.stl_statements.specs.PlaceForms.{IsBitBehind, IsPlace}
 use Rattle.stl_statements.specs.Places.{PlaceWord, bit_at, is_no_digit, letters_of, place_at, place_words}

@@ -5,10 +5,11 @@ ghost use Rattle.stl_statements.specs.Readers.{TakesSome, read_as, repeated};
 ghost use Rattle.stl_statements.specs.declared.mnemonic.Read.TheVariants.{Fits};
 ghost use Rattle.stl_tree.specs.declared.raw.PathStep.TheVariants as step;
 
+use digit_texts::kept_number;
 use s7_base::{List, NoMemory, Token, rest_after};
 use std::alloc::Global;
 use stl_constants::{
-    begins_glued, fitting, is_joined, is_joined_word, is_quoted, is_sign, is_word_kind, kept_number,
+    begins_glued, fitting, is_joined, is_joined_word, is_quoted, is_sign, is_word_kind,
 };
 use stl_statements::Read;
 use stl_tree::{PathStep, RawOperand};

@@ -9,9 +9,10 @@ ghost use Rattle.stl_statements.specs.Statements.{is_in_area};
 ghost use Rattle.stl_places.specs.Numbered.{lettered};
 ghost use Rattle.stl_places.specs.inner.Rows.{named};
 
+use digit_texts::kept_number;
 use memory_areas::{AreaName, is_byte_in};
 use s7_base::{Token, Width, front_of, is_same_word, rest_after};
-use stl_constants::{begins_glued, fitting, is_joined, is_joined_word, is_word_kind, kept_number};
+use stl_constants::{begins_glued, fitting, is_joined, is_joined_word, is_word_kind};
 use stl_statements::Read;
 use stl_tree::RawPlace;
 

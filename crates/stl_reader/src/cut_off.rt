@@ -2,8 +2,9 @@
 ghost use Rattle.std.specs.Prelude.{◌≡◌};
 ghost use Rattle.stl_grammar.specs.Headings.{ends_in_name, ends_before_type, ends_behind_number, ends_behind_name, ends_heading, ends_function, ends_other, is_heading_cut_off};
 
+use digit_texts::are_digits;
 use s7_base::Token;
-use stl_constants::{are_digits, is_numbered, is_quoted, is_sign, is_word, is_word_kind};
+use stl_constants::{is_numbered, is_quoted, is_sign, is_word, is_word_kind};
 
 /// The text ends before the name of a block of this kind, or behind the word of its kind.
 fn ends_in_name(kind: &str, tokens: &[Token]) -> bool

@@ -4,9 +4,10 @@ ghost use Rattle.stl_grammar.specs.Items.{is_data};
 ghost use Rattle.stl_grammar.specs.Headings.{number_behind, number_within, number_named, name_at, line_of, heading_kind, kind_word, opened, opened_by, is_behind, is_on, size_on, has_colon, is_skipped};
 
 use crate::words::{is_attribute, is_title};
+use digit_texts::kept_number;
 use s7_base::{Line, List, NoMemory, Reason, Token, rest_after};
 use std::alloc::Global;
-use stl_constants::{fitting, is_numbered, is_quoted, is_sign, is_word, kept_number};
+use stl_constants::{fitting, is_numbered, is_quoted, is_sign, is_word};
 use stl_grammar::{Found, Item, Where};
 use stl_places::number_word;
 use stl_statements::Read;

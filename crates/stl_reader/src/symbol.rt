@@ -3,14 +3,15 @@ ghost use Rattle.std.specs.Prelude.{◌≡◌, reverse, IfOk};
 ghost use Rattle.std.specs.List.{prefix_len};
 ghost use Rattle.s7_base.specs.Tokens.{is_blank};
 ghost use Rattle.stl_grammar.specs.Items.{in_table, symbol_found, table_at};
-ghost use Rattle.stl_grammar.specs.Symbols.{address_by, address_of, area_by, bit_address, bit_behind, bit_with, digits_at, ends_line, ends_table, is_letter, is_next, kind_of, named_address, place_address, place_of, symbol_at, symbol_behind, symbol_line, trimmed, width_by};
+ghost use Rattle.stl_grammar.specs.Symbols.{address_by, address_of, area_by, bit_address, bit_behind, bit_with, ends_line, ends_table, is_letter, is_next, kind_of, named_address, place_address, place_of, symbol_at, symbol_behind, symbol_line, trimmed, width_by};
 
 use crate::heading::{copied, is_behind, is_on, kind_word};
 use crate::misfit::{heading_reason, reason_with};
+use digit_texts::{digits_size, kept_number};
 use memory_areas::AreaName;
 use s7_base::{Line, NoMemory, Token, Width, front_of, is_same_word, rest_after};
 use std::alloc::Global;
-use stl_constants::{is_quoted, is_sign, is_word, kept_number};
+use stl_constants::{is_quoted, is_sign, is_word};
 use stl_grammar::{Found, Item, Where};
 use stl_tree::{BlockKind, RawPlace, SymbolAddress, SymbolLine};
 
@@ -53,13 +54,6 @@ fn letters_at(text: &[u8]) -> usize
     ensures { result ≡ prefix_len is_letter text.now }
 {
     text.iter().take_while(|b| is_letter(**b)).count()
-}
-
-/// How many digits stand at the front.
-fn digits_at(text: &[u8]) -> usize
-    ensures { result ≡ digits_at text.now }
-{
-    text.iter().take_while(|b| b.is_ascii_digit()).count()
 }
 
 /// The kind of a block, by the letters before its number.
@@ -144,7 +138,7 @@ fn bit_with(area: AreaName, rest: &[u8], byte: Option<u32>) -> Option<SymbolAddr
 fn bit_address(area: AreaName, text: &[u8]) -> Option<SymbolAddress>
     ensures { result ≡ bit_address area text.now }
 {
-    let size = digits_at(text);
+    let size = digits_size(text);
     bit_with(
         area,
         rest_after(text, size),

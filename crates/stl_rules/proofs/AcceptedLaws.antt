@@ -26,7 +26,7 @@ use Rattle.stl_tree.specs.StlRun.{block_named, is_same_name}
 use Rattle.stl_grammar.specs.RawPrograms.{raw_of, raw_by_tokens, raw_text}
 use Rattle.stl_rules.specs.Accepting.{IsKept, IsText}
 use Rattle.stl_rules.specs.Layouts.{breaks_in}
-use Rattle.stl_rules.specs.Names.{may_have, number_of}
+use Rattle.stl_rules.specs.Names.{block_number, may_have}
 use Rattle.stl_rules.specs.Programs.{block_of, block_with, body_of, instr_of, name_numbered, program_of, sight_of, symbol_area, symbol_at, symbol_in, symbol_of}
 use Rattle.stl_rules.specs.Raw.{Sight, most_local}
 use Rattle.stl_rules.specs.Stages.{blocks_behind, brackets, brackets_at, brackets_from, brackets_in, dbs_behind, heading_breaks, instr_breaks, is_among, is_built_kind, names, no_blocks, none_among, one_too_many, open_then, symbols_behind, unbuilt, unbuilt_block, unbuilt_data, unbuilt_instr, with_block_number}
@@ -179,7 +179,7 @@ kept : (text : RawProgram) (before : List ℕ) (raws : List RawBlock) → blocks
 kept text before [] e =
     record { sound = All-nil IsSound; apart = tt; others = λ n h. All-nil (λ (b : Block). is_same_name b.name (Ob n) ≡ false) }
 kept text before (raw ∷ raws) e =
-    let number = number_of text.symbols raw.kind raw.name in
+    let number = block_number text.symbols raw.kind raw.name in
     let all = no_parts (heading_breaks raw.kind raw.line before number ++ breaks_in most_local (raw.temps ∷ []) ++ flat_map (instr_breaks (sight_of text raw)) raw.body)
     (blocks_behind text (with_block_number before number) raws) e in
     let own = no_parts (heading_breaks raw.kind raw.line before number ++ breaks_in most_local (raw.temps ∷ []))
@@ -202,7 +202,7 @@ some_block : (text : RawProgram) (raws : List RawBlock) → flat_map (unbuilt_bl
     → filter_map (block_of text) raws ≢ []
 some_block text [] e f none = absurd cc
 some_block text (raw ∷ rest) e f none =
-    let number = number_of text.symbols raw.kind raw.name in
+    let number = block_number text.symbols raw.kind raw.name in
     let all = no_parts (unbuilt_block text raw) (flat_map (unbuilt_block text) rest) (sym (flat_map-cons (unbuilt_block text) raw rest) ∙ e) in
     let built = no_parts (if is_built_kind raw.kind then [] else broken raw.line (Unsupported NotBuilt)) (flat_map (unbuilt_instr (sight_of text raw)) raw.body) all.0 in
     let behind = no_parts (heading_breaks raw.kind raw.line [] number ++ breaks_in most_local (raw.temps ∷ []) ++ flat_map (instr_breaks (sight_of text raw)) raw.body)

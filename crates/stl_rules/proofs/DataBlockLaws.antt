@@ -31,7 +31,7 @@ use Rattle.stl_rules.specs.DataBlocks.{bytes_with, data_numbered, data_of, data_
 use Rattle.stl_rules.specs.DeclarationRules.{elementary}
 use Rattle.stl_rules.specs.Extents.{end_of_all, extent_of, extent_of_width, width_of}
 use Rattle.stl_rules.specs.Layouts.{breaks_in, initial_of}
-use Rattle.stl_rules.specs.Names.{may_have, number_of}
+use Rattle.stl_rules.specs.Names.{block_number, may_have}
 use Rattle.stl_rules.specs.Paths.{Placed, component_at, found}
 use Rattle.stl_rules.specs.Raw.{are_refused, most_in_block}
 use Rattle.stl_rules.specs.Stages.{broken_if, content_breaks, dbs_behind, heading_breaks, initial_breaks, is_among, one_too_many, with_block_number}
@@ -221,7 +221,7 @@ kept : (symbols : List SymbolLine) (before : List ℕ) (dbs : List RawData) → 
     → AreKept before (filter_map (data_of symbols) dbs)
 kept symbols before [] e = record { ascend = tt; sized = All-nil IsSized; others = λ n h. All-nil (λ (x : DataBlock). x.number ≡ n → ⊥) }
 kept symbols before (d ∷ dbs) e =
-    let number = number_of symbols block.Db d.name in
+    let number = block_number symbols block.Db d.name in
     let all = no_parts (heading_breaks block.Db d.line before number ++ content_breaks d.initial d.kind)
     (dbs_behind symbols (with_block_number before number) dbs) e in
     let own = no_parts (heading_breaks block.Db d.line before number) (content_breaks d.initial d.kind) all.0 in

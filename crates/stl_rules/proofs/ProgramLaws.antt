@@ -22,7 +22,7 @@ use Rattle.stl_statements.specs.Pointers.{is_in_reach, offset_of, value_of}
 use Rattle.stl_statements.specs.Mnemonics.{mnemonic_named}
 use Rattle.stl_rules.specs.Programs.{adding, alone, checked, combining, comparing, instr_of, is_compared, loading, loading_pointer, moving_pointer, on_bit, on_number, op_by, op_of, op_with, opening, other_by, pointed, shifting, storing, storing_pointer, unchecked, with_number, within}
 use Rattle.stl_rules.specs.Extents.{width_of}
-use Rattle.stl_rules.specs.Names.{db_numbered, may_have, number_of, symbol_named}
+use Rattle.stl_rules.specs.Names.{block_number, db_numbered, may_have, symbol_named}
 use Rattle.stl_rules.specs.Paths.{component_in}
 use Rattle.stl_rules.specs.Raw.{Sight, are_refused, given, given_component, given_held, given_if, given_in, given_in_data, given_in_kind, given_number, given_open, given_path, given_place, given_pointer, given_symbol, is_placed, may_stand, most_in_block, most_local, operand_at, place_of_kind}
 use Rattle.stl_rules.specs.declared.given.Given.{Given}
@@ -180,12 +180,12 @@ layer_is sight (layer.At place) = place_is place
 layer_is sight (layer.Named name) = symbol_is (symbol_named sight.symbols name)
 layer_is sight (layer.InBlock name path) =
     number_is (λ n. given_in_data n path (db_numbered sight.symbols sight.dbs n))
-    (λ n. in_data_is n path (db_numbered sight.symbols sight.dbs n)) (number_of sight.symbols block.Db (raw_name.Name name))
+    (λ n. in_data_is n path (db_numbered sight.symbols sight.dbs n)) (block_number sight.symbols block.Db (raw_name.Name name))
 layer_is sight (layer.Local path) = path_is most_local None area.L sight.temps path
 layer_is sight (layer.OpenDb name) =
-    number_is (given_open (λ n. behind.Db n)) (open_is (λ n. behind.Db n) (λ n h. h)) (number_of sight.symbols block.Db name)
+    number_is (given_open (λ n. behind.Db n)) (open_is (λ n. behind.Db n) (λ n h. h)) (block_number sight.symbols block.Db name)
 layer_is sight (layer.OpenDi name) =
-    number_is (given_open (λ n. behind.Di n)) (open_is (λ n. behind.Di n) (λ n h. h)) (number_of sight.symbols block.Db name)
+    number_is (given_open (λ n. behind.Di n)) (open_is (λ n. behind.Di n) (λ n h. h)) (block_number sight.symbols block.Db name)
 layer_is sight (layer.Pointer p) = pointer_is p
 layer_is sight (layer.ByMemory name w place) =
     if_is (may_stand width.Dword place) name w (ByMemory name place.area place.byte) (λ e. stands width.Dword place e)

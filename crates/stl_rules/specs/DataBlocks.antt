@@ -6,7 +6,7 @@ use Rattle.memory_areas.specs.declared.data_block.DataBlock.{DataBlock}
 use Rattle.s7_base.specs.declared.reason.Reason.{Reason}
 use Rattle.s7_base.specs.declared.word.Width.{Width}
 use Rattle.s7_base.specs.declared.word.Width.TheVariants as width
-use Rattle.stl_rules.specs.Names.{number_of}
+use Rattle.stl_rules.specs.Names.{block_number}
 use Rattle.stl_statements.specs.Constants.{value_in}
 use Rattle.stl_tree.specs.Accumulators.{part}
 use Rattle.stl_tree.specs.declared.raw.BlockKind.TheVariants as block
@@ -65,7 +65,7 @@ data_numbered values kind (Err reason) = None
 
 -- the data block that a raw one is
 abbrev pub data_of : List SymbolLine → RawData → Option DataBlock
-data_of symbols d = data_numbered d.initial d.kind (number_of symbols block.Db d.name)
+data_of symbols d = data_numbered d.initial d.kind (block_number symbols block.Db d.name)
 
 -- Order
 

@@ -36,9 +36,9 @@ number_at kind (Some (address.Block its_kind n)) = if is_same_kind kind its_kind
 number_at kind (Some elsewhere) = Err BadOperand
 
 -- the number of a block of a kind, which may stand there by a symbol
-abbrev pub number_of : List SymbolLine → BlockKind → RawName → Result ℕ Reason
-number_of symbols kind (raw_name.Number n) = Ok n
-number_of symbols kind (raw_name.Name name) = number_at kind (symbol_named symbols name)
+abbrev pub block_number : List SymbolLine → BlockKind → RawName → Result ℕ Reason
+block_number symbols kind (raw_name.Number n) = Ok n
+block_number symbols kind (raw_name.Name name) = number_at kind (symbol_named symbols name)
 
 -- the least number that a block of a kind may have
 abbrev pub least_number : BlockKind → ℕ
@@ -59,4 +59,4 @@ is_number n (Err reason) = false
 
 -- the data block of a number: the first where there are several
 abbrev pub db_numbered : List SymbolLine → List RawData → ℕ → Option RawData
-db_numbered symbols dbs n = find (λ (d : RawData). is_number n (number_of symbols block.Db d.name)) dbs
+db_numbered symbols dbs n = find (λ (d : RawData). is_number n (block_number symbols block.Db d.name)) dbs

@@ -19,7 +19,7 @@ use Rattle.stl_tree.specs.Arithmetic.{is_comparison}
 use Rattle.stl_statements.specs.Constants.{fits, value_in}
 use Rattle.stl_statements.specs.Mnemonics.{mnemonic_named}
 use Rattle.stl_rules.specs.DataBlocks.{data_of, in_order}
-use Rattle.stl_rules.specs.Names.{number_of}
+use Rattle.stl_rules.specs.Names.{block_number}
 use Rattle.stl_rules.specs.Raw.{Sight, given}
 use Rattle.stl_tree.specs.Accepted.{is_of_pointers}
 use Rattle.stl_tree.specs.Shifts.{most_steps}
@@ -244,7 +244,7 @@ name_numbered block.Ob (Ok n) = Some (Ob n)
 name_numbered unbuilt number = None
 
 abbrev pub block_name : List SymbolLine → RawBlock → Option BlockName
-block_name symbols raw = name_numbered raw.kind (number_of symbols raw.kind raw.name)
+block_name symbols raw = name_numbered raw.kind (block_number symbols raw.kind raw.name)
 
 -- the instructions of a raw block, the last of them that of its end word
 abbrev pub body_of : Sight → RawBlock → List Instr

@@ -6,7 +6,7 @@ use Rattle.memory_areas.specs.declared.place.AreaName.TheVariants as area
 use Rattle.s7_base.specs.Broken.{first_of_all}
 use Rattle.s7_base.specs.declared.reason.Reason.{Reason}
 use Rattle.s7_base.specs.declared.reason.Reason.TheVariants.{UnknownName}
-use Rattle.stl_rules.specs.Names.{db_numbered, may_have, number_of, symbol_named}
+use Rattle.stl_rules.specs.Names.{block_number, db_numbered, may_have, symbol_named}
 use Rattle.stl_rules.specs.declared.given.Given.{Given}
 use Rattle.stl_rules.specs.declared.given.Given.TheVariants as behind
 use Rattle.stl_statements.specs.Constants.{constant}
@@ -142,7 +142,7 @@ given_in sight (layer.At place) = given_place place
 given_in sight (layer.Named name) = given_symbol (symbol_named sight.symbols name)
 given_in sight (layer.InBlock name path) =
     given_number (λ n. given_in_data n path (db_numbered sight.symbols sight.dbs n))
-    (number_of sight.symbols block.Db (raw_name.Name name))
+    (block_number sight.symbols block.Db (raw_name.Name name))
 given_in sight (layer.Local path) = given_path most_local None area.L sight.temps path
 given_in sight (layer.Flag test) = behind.Flag test
 given_in sight layer.Stw = behind.Stw
@@ -154,8 +154,8 @@ given_in sight (layer.ByMemory name w place) = given_if (may_stand width.Dword p
 given_in sight (layer.ByRegister name w r p) = given_if (is_in_reach p) name w (ByRegister name r (offset_of p))
 given_in sight (layer.Crossing w r p) = given_if (is_in_reach p) area.M w (Crossing r (offset_of p))
 given_in sight layer.OtherAr = behind.OtherAr
-given_in sight (layer.OpenDb name) = given_number (given_open (λ n. behind.Db n)) (number_of sight.symbols block.Db name)
-given_in sight (layer.OpenDi name) = given_number (given_open (λ n. behind.Di n)) (number_of sight.symbols block.Db name)
+given_in sight (layer.OpenDb name) = given_number (given_open (λ n. behind.Db n)) (block_number sight.symbols block.Db name)
+given_in sight (layer.OpenDi name) = given_number (given_open (λ n. behind.Di n)) (block_number sight.symbols block.Db name)
 given_in sight (layer.OpenDbBy place) = given_held (λ o. behind.DbBy o) place
 given_in sight (layer.OpenDiBy place) = given_held (λ o. behind.DiBy o) place
 given_in sight unbuilt = behind.Other

@@ -12,7 +12,7 @@ use Rattle.s7_base.specs.declared.reason.Kind.TheVariants.{NotBuilt}
 use Rattle.s7_base.specs.declared.reason.Line.{Line}
 use Rattle.s7_base.specs.declared.reason.Reason.{Reason}
 use Rattle.s7_base.specs.declared.reason.Reason.TheVariants.{BadAddress, BadOperand, BracketMissing, BracketOpen, DuplicateBlock, DuplicateName, NoBlocks, TooLarge, TooManyBrackets, UnknownName, Unsupported}
-use Rattle.stl_rules.specs.Names.{may_have, number_of}
+use Rattle.stl_rules.specs.Names.{block_number, may_have}
 use Rattle.stl_rules.specs.Programs.{op_by, program_of, sight_of}
 use Rattle.stl_rules.specs.Raw.{Sight, are_refused, given, most_in_block, most_local}
 use Rattle.stl_rules.specs.declared.given.Given.{Given}
@@ -155,7 +155,7 @@ content_breaks values (data_kind.Instance name) = []
 abbrev pub dbs_behind : List SymbolLine → List ℕ → List RawData → List Break
 dbs_behind symbols before [] = []
 dbs_behind symbols before (d ∷ dbs) =
-    let number = number_of symbols block.Db d.name in
+    let number = block_number symbols block.Db d.name in
     heading_breaks block.Db d.line before number ++ content_breaks d.initial d.kind
     ++ dbs_behind symbols (with_block_number before number) dbs
 
@@ -195,7 +195,7 @@ instr_breaks sight raw =
 abbrev pub blocks_behind : RawProgram → List ℕ → List RawBlock → List Break
 blocks_behind text before [] = []
 blocks_behind text before (raw ∷ raws) =
-    let number = number_of text.symbols raw.kind raw.name in
+    let number = block_number text.symbols raw.kind raw.name in
     heading_breaks raw.kind raw.line before number ++ breaks_in most_local (raw.temps ∷ [])
     ++ flat_map (instr_breaks (sight_of text raw)) raw.body
     ++ blocks_behind text (with_block_number before number) raws

@@ -5,7 +5,8 @@ use Rattle.s7_base.specs.declared.word.Width.{Width}
 use Rattle.s7_base.specs.declared.word.Width.TheVariants as width
 use Rattle.stl_tree.specs.Accumulators.{bits_wide}
 use Rattle.stl_statements.specs.Constants.{Prefixed, addend_prefixes, binary, constant, half, negative, plain, prefixes, text_of, with_byte}
-use Rattle.stl_statements.specs.Numbers.{bits_of, hex_number, number_of}
+use Rattle.digit_texts.specs.Digits.{number_up_to}
+use Rattle.stl_statements.specs.Numbers.{bits_of, hex_number}
 use Rattle.stl_statements.specs.Words.{is_joined, is_joined_word, is_sign, is_text_kind, is_word, is_word_kind}
 use Rattle.stl_statements.specs.declared.mnemonic.Prefix.{Prefix}
 use Rattle.stl_statements.specs.declared.mnemonic.Prefix.TheVariants as prefix
@@ -20,7 +21,7 @@ IsAmong a (first ∷ rest) = (a ≡ first) ⊎ IsAmong a rest
 -- a word that is a number of at most so much
 pub record IsNumberIn (most : ℕ) (word : Token) (n : ℕ) : Type 0 where
   pub kind : is_word_kind word.kind ≡ true
-  pub number : number_of most word.text ≡ Some n
+  pub number : number_up_to most word.text ≡ Some n
 
 -- a number with its sign, and its pattern: `5`, or `-5` without a blank
 pub data IsSigned : Width → List Token → ℕ → Type 0 where

@@ -1,15 +1,15 @@
 -- The constants of the language as they are written, with their widths and values, and those that are left out.
 use Rattle.std.specs.Prelude.{ℕ, ◌+◌, ◌-◌, ◌*◌, ◌^◌, pos, neg_ℤ, Bool, true, false, ◌==◌, ◌&&◌, ◌||◌, nat_lt, nat_le, if◌then◌else◌, List, [], ◌∷◌, map, drop, codes, Option, Some, None, option_and_then, option_map}
 use Rattle.std.specs.Char.{to_ascii_uppercase}
-use Rattle.std.specs.List.{find, prefix_len}
+use Rattle.std.specs.List.{find}
 use Rattle.s7_base.specs.SignedNumbers.{pattern}
-use Rattle.s7_base.specs.Tokens.{is_between}
 use Rattle.s7_base.specs.declared.reason.Kind.TheVariants as kind
 use Rattle.s7_base.specs.declared.token.Token.{Token}
 use Rattle.s7_base.specs.declared.word.Width.{Width}
 use Rattle.s7_base.specs.declared.word.Width.TheVariants as width
 use Rattle.stl_tree.specs.Accumulators.{bits_wide, signed_part}
-use Rattle.stl_statements.specs.Numbers.{are_digits, bits_of, hex_number}
+use Rattle.digit_texts.specs.Digits.{are_digits, digits_size}
+use Rattle.stl_statements.specs.Numbers.{bits_of, hex_number}
 use Rattle.stl_statements.specs.Readers.{fitting, number_in, or_else, read_as}
 use Rattle.stl_statements.specs.Words.{is_joined, is_joined_word, is_sign, is_text_kind, is_word, is_word_kind}
 use Rattle.stl_statements.specs.declared.mnemonic.Prefix.{Prefix}
@@ -199,7 +199,7 @@ ends_real (letter ∷ more) rest = to_ascii_uppercase letter == 69 && is_exponen
 -- digits after a point, and an exponent where one stands
 abbrev pub is_fraction : List ℕ → List Token → Bool
 is_fraction text rest =
-    let size = prefix_len (λ b. is_between 48 57 b) text in nat_lt 0 size && ends_real (drop size text) rest
+    let size = digits_size text in nat_lt 0 size && ends_real (drop size text) rest
 
 -- digits, a point and digits, with no blank inside
 abbrev pub is_real : List Token → Bool

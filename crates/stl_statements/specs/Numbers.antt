@@ -1,50 +1,10 @@
--- Numbers: decimal, hexadecimal and binary.
-use Rattle.std.specs.Prelude.{ℕ, ◌+◌, ◌*◌, ◌-◌, ◌^◌, min, Bool, false, ◌==◌, ◌&&◌, nat_le, nat_lt, if◌then◌else◌, List, [], ◌∷◌, length, get_or, Option, Some, None, option_and_then}
-use Rattle.std.specs.List.{list_all}
+-- Numbers: hexadecimal and binary.
+use Rattle.std.specs.Prelude.{ℕ, ◌+◌, ◌*◌, ◌-◌, Bool, false, ◌==◌, ◌&&◌, nat_le, nat_lt, if◌then◌else◌, List, [], ◌∷◌, length, get_or, Option, Some, None, option_and_then}
+use Rattle.digit_texts.specs.Digits.{hex_value}
 use Rattle.s7_base.specs.Tokens.{is_between}
 use Rattle.stl_statements.specs.declared.number.Bits.{Bits}
 
--- Decimal numbers
-
--- one or more digits
-abbrev pub are_digits : List ℕ → Bool
-are_digits [] = false
-are_digits (digit ∷ rest) = list_all (λ b. is_between 48 57 b) (digit ∷ rest)
-
--- the number that digits stand for after those of `value`, where it is at most `most`
-abbrev pub number_from : ℕ → ℕ → List ℕ → Option ℕ
-number_from most value [] = Some value
-number_from most value (digit ∷ rest) =
-    let more = value * 10 + (digit - 48) in
-    if is_between 48 57 digit && nat_le more most then number_from most more rest else None
-
--- a decimal number of at most `most`; leading zeros are allowed
-abbrev pub number_of : ℕ → List ℕ → Option ℕ
-number_of most [] = None
-number_of most (digit ∷ rest) = number_from most 0 (digit ∷ rest)
-
--- the number that digits write behind those of `value`
-abbrev pub written_from : ℕ → List ℕ → ℕ
-written_from value [] = value
-written_from value (digit ∷ rest) = written_from (value * 10 + (digit - 48)) rest
-
--- a number that is kept in 32 bits; one past the greatest is kept as that one
-abbrev pub kept : ℕ → ℕ
-kept n = min n (2 ^ 32 - 1)
-
--- a decimal number of any size, so kept; leading zeros are allowed
-abbrev pub kept_number : List ℕ → Option ℕ
-kept_number digits = if are_digits digits then Some (kept (written_from 0 digits)) else None
-
 -- Hexadecimal numbers
-
--- the number that a hexadecimal digit stands for, A to F in either case
-abbrev pub hex_digit : ℕ → Option ℕ
-hex_digit b =
-    if is_between 48 57 b then Some (b - 48)
-    else if is_between 65 70 b then Some (b - 55)
-    else if is_between 97 102 b then Some (b - 87)
-    else None
 
 -- a number, where it is at most `most`
 abbrev pub at_most : ℕ → ℕ → Option ℕ
@@ -52,7 +12,7 @@ at_most most value = if nat_le value most then Some value else None
 
 -- a hexadecimal number with one digit more, where it is at most `most`
 abbrev pub with_hex_digit : ℕ → ℕ → ℕ → Option ℕ
-with_hex_digit most value digit = option_and_then (λ d. at_most most (value * 16 + d)) (hex_digit digit)
+with_hex_digit most value digit = option_and_then (λ d. at_most most (value * 16 + d)) (hex_value digit)
 
 -- the number that hexadecimal digits stand for after those of `value`, where it is at most `most`
 abbrev pub hex_from : ℕ → ℕ → List ℕ → Option ℕ

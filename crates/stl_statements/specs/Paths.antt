@@ -3,7 +3,7 @@
 use Rattle.std.specs.Prelude.{ℕ, ℤ, pos, neg_ℤ, ◌&&◌, if◌then◌else◌, List, [], ◌∷◌, codes, Option, None, option_map}
 use Rattle.s7_base.specs.declared.token.Token.{Token}
 use Rattle.stl_statements.specs.Constants.{begins_glued}
-use Rattle.stl_statements.specs.Numbers.{kept_number}
+use Rattle.digit_texts.specs.Digits.{kept_number}
 use Rattle.stl_statements.specs.Readers.{and_then, fitting, further, or_else, read_as, repeated}
 use Rattle.stl_statements.specs.Words.{is_joined, is_joined_word, is_quoted_kind, is_sign, is_word_kind}
 use Rattle.stl_statements.specs.declared.mnemonic.Read.{Read}

@@ -6,7 +6,7 @@ use Rattle.s7_base.specs.declared.word.Width.{Width}
 use Rattle.s7_base.specs.declared.word.Width.TheVariants as width
 use Rattle.stl_statements.specs.ConstantForms.{IsAmong}
 use Rattle.stl_statements.specs.Constants.{begins_glued}
-use Rattle.stl_statements.specs.Numbers.{kept_number}
+use Rattle.digit_texts.specs.Digits.{kept_number}
 use Rattle.stl_statements.specs.Places.{PlaceWord, db_words, digits_of, letters_of, place_of, place_words}
 use Rattle.stl_statements.specs.Words.{is_joined, is_joined_word, is_word_kind}
 use Rattle.stl_tree.specs.declared.raw.RawPlace.{RawPlace}

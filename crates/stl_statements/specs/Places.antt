@@ -5,12 +5,12 @@ use Rattle.std.specs.Prelude.{ℕ, Bool, not, ◌&&◌, if◌then◌else◌, Lis
 use Rattle.std.specs.List.{find, prefix_len}
 use Rattle.memory_areas.specs.declared.place.AreaName.{AreaName}
 use Rattle.memory_areas.specs.declared.place.AreaName.TheVariants as area
-use Rattle.s7_base.specs.Tokens.{is_between, is_same_word}
+use Rattle.s7_base.specs.Tokens.{is_same_word}
 use Rattle.s7_base.specs.declared.token.Token.{Token}
 use Rattle.s7_base.specs.declared.word.Width.{Width}
 use Rattle.s7_base.specs.declared.word.Width.TheVariants as width
 use Rattle.stl_statements.specs.Constants.{begins_glued}
-use Rattle.stl_statements.specs.Numbers.{kept_number}
+use Rattle.digit_texts.specs.Digits.{is_digit, kept_number}
 use Rattle.stl_statements.specs.Readers.{and_then, fitting, further, or_else, read_as}
 use Rattle.stl_statements.specs.Words.{is_joined, is_joined_word, is_word_kind}
 use Rattle.stl_statements.specs.declared.mnemonic.Read.{Read}
@@ -26,7 +26,7 @@ pub record Numbered : Type 0 where
 
 -- the byte is no digit
 abbrev pub is_no_digit : ℕ → Bool
-is_no_digit b = not (is_between 48 57 b)
+is_no_digit b = not (is_digit b)
 
 -- what stands before the first digit of a word
 abbrev pub letters_of : List ℕ → List ℕ

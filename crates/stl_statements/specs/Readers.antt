@@ -1,7 +1,7 @@
 -- What is read at the front of tokens, put together of what is read of its parts.
 use Rattle.std.specs.Prelude.{ℕ, zero, suc, ◌+◌, ◌-◌, ◌≤◌, if◌then◌else◌, List, [], ◌∷◌, drop, Option, Some, None}
 use Rattle.s7_base.specs.declared.token.Token.{Token}
-use Rattle.stl_statements.specs.Numbers.{number_of}
+use Rattle.digit_texts.specs.Digits.{number_up_to}
 use Rattle.stl_statements.specs.Words.{is_word_kind}
 use Rattle.stl_statements.specs.declared.mnemonic.Read.{Read}
 use Rattle.stl_statements.specs.declared.mnemonic.Read.TheVariants.{Fits, LeftOut, No}
@@ -54,7 +54,7 @@ IsWithin most (Fits a size) = size ≤ most
 
 -- a word that is a number of at most so much
 abbrev pub number_in : ℕ → Token → Option ℕ
-number_in most token = if is_word_kind token.kind then number_of most token.text else None
+number_in most token = if is_word_kind token.kind then number_up_to most token.text else None
 
 -- what was read takes a token at least and so many at most
 abbrev pub TakesSome : {A : Type 0} → ℕ → Read A → Type 0

@@ -5,7 +5,7 @@ use Rattle.std.specs.List.{find}
 use Rattle.memory_areas.specs.Access.{is_byte_in, is_unaligned}
 use Rattle.memory_areas.specs.declared.place.AreaName.{AreaName}
 use Rattle.memory_areas.specs.declared.place.AreaName.TheVariants as area
-use Rattle.s7_base.specs.Tokens.{is_between, is_same_word}
+use Rattle.s7_base.specs.Tokens.{is_same_word}
 use Rattle.s7_base.specs.declared.check.Check.{Check}
 use Rattle.s7_base.specs.declared.check.Check.TheVariants as check
 use Rattle.s7_base.specs.declared.reason.Kind.{Kind}
@@ -20,7 +20,7 @@ use Rattle.status_word.specs.declared.test.Test.{Test}
 use Rattle.status_word.specs.declared.test.Test.TheVariants as test
 use Rattle.stl_statements.specs.Constants.{addend_at, constant_at, left_out_prefixes, marked_at, number_at}
 use Rattle.stl_statements.specs.Mnemonics.{Row, goes_on, mnemonic_at}
-use Rattle.stl_statements.specs.Numbers.{are_digits}
+use Rattle.digit_texts.specs.Digits.{are_digits, is_digit}
 use Rattle.stl_statements.specs.Paths.{named_at}
 use Rattle.stl_statements.specs.Places.{numbered_at, opened_area, place_at}
 use Rattle.stl_statements.specs.Pointers.{crossing_at, indirect_at, memory_at, offset_at, pointer_at}
@@ -361,7 +361,7 @@ answered unbuilt = kind.NotBuilt
 -- one to four letters, digits or `_`, the first of them no digit
 abbrev pub is_label : List ℕ → Bool
 is_label [] = false
-is_label (first ∷ rest) = nat_lt (length rest) 4 && not (is_between 48 57 first)
+is_label (first ∷ rest) = nat_lt (length rest) 4 && not (is_digit first)
 
 -- a label and its colon stand at the front
 abbrev pub begins_with_label : List Token → Bool

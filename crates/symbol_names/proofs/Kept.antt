@@ -14,7 +14,7 @@ use Rattle.s7_base.specs.declared.reason.Rejection.TheVariants.{Refused}
 use Rattle.stl_rules.specs.DataBlocks.{bytes_with, data_numbered, data_of, in_order}
 use Rattle.stl_rules.specs.DeclarationRules.{is_named, key_of, with_name}
 use Rattle.stl_rules.specs.Layouts.{breaks_in}
-use Rattle.stl_rules.specs.Names.{may_have, number_of}
+use Rattle.stl_rules.specs.Names.{block_number, may_have}
 use Rattle.stl_rules.specs.Programs.{block_of, block_with, name_numbered, sight_of, symbol_of}
 use Rattle.stl_rules.specs.Raw.{most_local}
 use Rattle.stl_rules.specs.Stages.{blocks_behind, broken_if, content_breaks, dbs_behind, heading_breaks, instr_breaks, is_address, is_among, names, one_too_many, symbols_behind, with_block_number}
@@ -94,7 +94,7 @@ dbs_kept : (symbols : List SymbolLine) (before : List ℕ) (dbs : List RawData) 
     → filter_map (data_kept true symbols) dbs ≡ filter_map (data_of symbols) dbs
 dbs_kept symbols before [] h = refl
 dbs_kept symbols before (d ∷ dbs) h =
-    let number : Result ℕ Reason = number_of symbols block.Db d.name in
+    let number : Result ℕ Reason = block_number symbols block.Db d.name in
     let own : heading_breaks block.Db d.line before number ++ content_breaks d.initial d.kind ≡ []
     = front_empty (heading_breaks block.Db d.line before number ++ content_breaks d.initial d.kind) (dbs_behind symbols (with_block_number before number) dbs) h in
     let later : dbs_behind symbols (with_block_number before number) dbs ≡ []
@@ -122,7 +122,7 @@ blocks_kept : (text : RawProgram) (before : List ℕ) (raws : List RawBlock) →
     → filter_map (block_kept text) raws ≡ filter_map (block_of text) raws
 blocks_kept text before [] h = refl
 blocks_kept text before (raw ∷ raws) h =
-    let number : Result ℕ Reason = number_of text.symbols raw.kind raw.name in
+    let number : Result ℕ Reason = block_number text.symbols raw.kind raw.name in
     let heading : List Break = heading_breaks raw.kind raw.line before number in
     let temps : List Break = breaks_in most_local (raw.temps ∷ []) in
     let body : List Break = flat_map (instr_breaks (sight_of text raw)) raw.body in

@@ -9,7 +9,7 @@ use Rattle.first_places.proofs.Firsts.{name_sound, no_key, same_words, with_key}
 use Rattle.s7_base.specs.Tokens.{is_same_word}
 use Rattle.s7_base.specs.declared.reason.Reason.{Reason}
 use Rattle.stl_rules.specs.DeclarationRules.{is_named, key_of, with_name}
-use Rattle.stl_rules.specs.Names.{db_numbered, is_number, number_of, symbol_named}
+use Rattle.stl_rules.specs.Names.{block_number, db_numbered, is_number, symbol_named}
 use Rattle.stl_rules.specs.Stages.{is_among, with_block_number}
 use Rattle.stl_tree.specs.declared.raw.BlockKind.TheVariants as block
 use Rattle.stl_tree.specs.declared.raw.RawData.{RawData}
@@ -153,8 +153,8 @@ pub db_at : (symbols : List SymbolLine) (dbs : List RawData) (n : ℕ)
     → option_and_then (λ place. slice_get dbs place) (first_place (is_number n) (db_numbers symbols dbs))
     ≡ db_numbered symbols dbs n
 db_at symbols dbs n =
-    ap (option_and_then (λ place. slice_get dbs place)) (first_map (is_number n) (λ (d : RawData). number_of symbols block.Db d.name) dbs)
-    ∙ sym (find_first (λ (d : RawData). is_number n (number_of symbols block.Db d.name)) dbs)
+    ap (option_and_then (λ place. slice_get dbs place)) (first_map (is_number n) (λ (d : RawData). block_number symbols block.Db d.name) dbs)
+    ∙ sym (find_first (λ (d : RawData). is_number n (block_number symbols block.Db d.name)) dbs)
 
 -- what is made of the item at a place
 pub ruleset at_places = (slice_get-map)

@@ -5,7 +5,7 @@ use Rattle.std.proofs.lemmas.List.Sums.{fold_more}
 use Rattle.s7_base.specs.declared.broken.Break.{Break}
 use Rattle.s7_base.specs.declared.reason.Reason.{Reason}
 use Rattle.stl_rules.specs.DeclarationRules.{key_of, with_name}
-use Rattle.stl_rules.specs.Names.{number_of}
+use Rattle.stl_rules.specs.Names.{block_number}
 use Rattle.stl_rules.specs.Stages.{blocks_behind, dbs_behind, symbols_behind, with_block_number}
 use Rattle.stl_tree.specs.declared.raw.BlockKind.TheVariants as block
 use Rattle.stl_tree.specs.declared.raw.RawBlock.{RawBlock}
@@ -75,7 +75,7 @@ numbers_more number xs i x before is =
 
 module _ (symbols : List SymbolLine) where
   abbrev number_of_db : RawData → Result ℕ Reason
-  number_of_db d = number_of symbols block.Db d.name
+  number_of_db d = block_number symbols block.Db d.name
 
   abbrev db_item : List ℕ → RawData → List Break
   db_item before d = db_breaks before d (number_of_db d)
@@ -84,7 +84,7 @@ module _ (symbols : List SymbolLine) where
   next_db before d = with_block_number before (number_of_db d)
 
   pub db_turn : (first later whole : Option Break) (dbs : List RawData) (i : ℕ) (d : RawData) → i < length dbs → d ≡ get_or dbs i d
-      → later ≡ with_breaks first (db_breaks (numbers_before (take i (db_numbers symbols dbs))) d (number_of symbols block.Db d.name))
+      → later ≡ with_breaks first (db_breaks (numbers_before (take i (db_numbers symbols dbs))) d (block_number symbols block.Db d.name))
       → with_breaks first (dbs_behind symbols (numbers_before (take i (db_numbers symbols dbs))) (drop i dbs)) ≡ whole
       → with_breaks later (dbs_behind symbols (numbers_before (take (i + 1) (db_numbers symbols dbs))) (drop (i + 1) dbs)) ≡ whole
   db_turn first later whole dbs i d before is e so_far =
@@ -99,7 +99,7 @@ module _ (symbols : List SymbolLine) where
 
 module _ (text : RawProgram) where
   abbrev number_of_block : RawBlock → Result ℕ Reason
-  number_of_block raw = number_of text.symbols raw.kind raw.name
+  number_of_block raw = block_number text.symbols raw.kind raw.name
 
   abbrev next_block : List ℕ → RawBlock → List ℕ
   next_block before raw = with_block_number before (number_of_block raw)

@@ -212,7 +212,7 @@ fn put_block(
     ensures made { OnOk result (blocks.new.made ≡ blocks.old.made ++ option_to_list (block_kept names.now raw.now)) }
     ensures first { OnOk result (blocks.new.first ≡ with_breaks blocks.old.first (block_breaks names.now (numbers_before (take place numbers.now)) raw.now)) }
 {
-    let number = names.symbols().number_of(alloc, raw.kind, &raw.name)?;
+    let number = names.symbols().block_number(alloc, raw.kind, &raw.name)?;
     note_heading(
         raw.kind,
         raw.line,

@@ -4,7 +4,7 @@ ghost use Rattle.std.specs.List.{filter_map};
 ghost use Rattle.std.specs.Option.{option_to_list};
 ghost use Rattle.memory_areas.specs.declared.sizes.TheConstants.{MOST_BLOCKS};
 ghost use Rattle.s7_base.specs.Broken.{first_of_all};
-ghost use Rattle.stl_rules.specs.Names.{number_of};
+ghost use Rattle.stl_rules.specs.Names.{block_number};
 ghost use Rattle.stl_rules.specs.Raw.{most_in_block};
 ghost use Rattle.stl_rules.specs.Stages.{content_breaks, dbs_behind, one_too_many};
 ghost use Rattle.stl_tree.specs.declared.raw.BlockKind.TheVariants as block;
@@ -160,9 +160,9 @@ fn put_data<'t>(
     ensures laid { OnOk result (found.new.laid.items ≡ found.old.laid.items ++ own_of d.now ∷ []) }
     ensures made { OnOk result (found.new.made ≡ found.old.made ++ option_to_list (data_kept keep names.now.symbols d.now)) }
     ensures first { OnOk result (found.new.first ≡ with_breaks found.old.first (db_breaks
-        (numbers_before (take place (db_numbers names.now.symbols names.now.dbs))) d.now (number_of names.now.symbols block.Db d.now.name))) }
+        (numbers_before (take place (db_numbers names.now.symbols names.now.dbs))) d.now (block_number names.now.symbols block.Db d.now.name))) }
 {
-    let number = names.symbols().number_of(alloc, BlockKind::Db, &d.name)?;
+    let number = names.symbols().block_number(alloc, BlockKind::Db, &d.name)?;
     note_heading(
         BlockKind::Db,
         d.line,

@@ -47,7 +47,7 @@ fn numbers_of_dbs(
 {
     let mut numbers = Vec::new(alloc);
     for d in dbs {
-        let number = symbols.number_of(alloc, BlockKind::Db, &d.name)?;
+        let number = symbols.block_number(alloc, BlockKind::Db, &d.name)?;
         numbers.push(number)?;
     }
     Ok(numbers)
@@ -63,7 +63,7 @@ pub fn numbers_of_blocks(
 {
     let mut numbers = Vec::new(alloc);
     for raw in blocks {
-        let number = symbols.number_of(alloc, raw.kind, &raw.name)?;
+        let number = symbols.block_number(alloc, raw.kind, &raw.name)?;
         numbers.push(number)?;
     }
     Ok(numbers)

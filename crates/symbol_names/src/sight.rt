@@ -1,7 +1,7 @@
 //! What stands behind a mnemonic, by what names mean in a block.
 ghost use Rattle.std.specs.Prelude.{◌≡◌, IfOk, map, if◌then◌else◌, Some, None, ◌∷◌, []};
 ghost use Rattle.memory_areas.specs.declared.place.AreaName.TheVariants as area;
-ghost use Rattle.stl_rules.specs.Names.{db_numbered, number_at, number_of, symbol_named};
+ghost use Rattle.stl_rules.specs.Names.{block_number, db_numbered, number_at, symbol_named};
 ghost use Rattle.stl_rules.specs.Raw.{are_refused, given, given_component, given_in_data, given_in_kind, given_number, given_open, given_path, given_symbol, most_in_block, most_local};
 ghost use Rattle.stl_rules.specs.declared.given.Given.TheVariants as behind;
 ghost use Rattle.stl_tree.specs.declared.raw.BlockKind.TheVariants as block;
@@ -146,10 +146,10 @@ impl<'s, 't> Sight<'s, 't> {
 
     /// OPN of a data block by its name.
     fn given_open_db(&self, alloc: Global, name: &RawName) -> Result<Given, NoMemory>
-        ensures { IfOk result (λ g. g ≡ given_number (given_open (λ n. behind.Db n)) (number_of self.now.symbols block.Db name.now)) }
+        ensures { IfOk result (λ g. g ≡ given_number (given_open (λ n. behind.Db n)) (block_number self.now.symbols block.Db name.now)) }
     {
         let names = self.names;
-        match names.symbols().number_of(alloc, BlockKind::Db, name)? {
+        match names.symbols().block_number(alloc, BlockKind::Db, name)? {
             Ok(number) => Ok(given_db(number)),
             Err(Reason::UnknownName) => Ok(Given::Unknown),
             Err(_) => Ok(Given::Unfit),
@@ -158,10 +158,10 @@ impl<'s, 't> Sight<'s, 't> {
 
     /// OPN of an instance by its name.
     fn given_open_di(&self, alloc: Global, name: &RawName) -> Result<Given, NoMemory>
-        ensures { IfOk result (λ g. g ≡ given_number (given_open (λ n. behind.Di n)) (number_of self.now.symbols block.Db name.now)) }
+        ensures { IfOk result (λ g. g ≡ given_number (given_open (λ n. behind.Di n)) (block_number self.now.symbols block.Db name.now)) }
     {
         let names = self.names;
-        match names.symbols().number_of(alloc, BlockKind::Db, name)? {
+        match names.symbols().block_number(alloc, BlockKind::Db, name)? {
             Ok(number) => Ok(given_di(number)),
             Err(Reason::UnknownName) => Ok(Given::Unknown),
             Err(_) => Ok(Given::Unfit),

@@ -2,7 +2,7 @@
 ghost use Rattle.std.specs.Prelude.{◌≡◌, IfOk, map, option_and_then, option_map, slice_get, take};
 ghost use Rattle.first_places.specs.Places.{first_place};
 ghost use Rattle.stl_rules.specs.DeclarationRules.{is_named, key_of};
-ghost use Rattle.stl_rules.specs.Names.{is_same_kind, number_at, number_of, symbol_named};
+ghost use Rattle.stl_rules.specs.Names.{block_number, is_same_kind, number_at, symbol_named};
 ghost use Rattle.symbol_names.specs.inner.Places.{AreNamePlaces, has_key, names_before};
 ghost use Rattle.stl_tree.specs.declared.raw.SymbolLine.{SymbolLine};
 
@@ -135,13 +135,13 @@ impl<'t> Symbols<'t> {
     }
 
     /// The number of a block of a kind.
-    pub fn number_of(
+    pub fn block_number(
         &self,
         alloc: Global,
         kind: BlockKind,
         name: &RawName,
     ) -> Result<Result<u32, Reason>, NoMemory>
-        ensures { IfOk result (λ number. number ≡ number_of self.now kind name.now) }
+        ensures { IfOk result (λ number. number ≡ block_number self.now kind name.now) }
     {
         match name {
             RawName::Number(number) => Ok(Ok(*number)),

@@ -10,7 +10,7 @@ use Rattle.s7_base.specs.declared.reason.Line.{Line}
 use Rattle.s7_base.specs.declared.reason.Reason.{Reason}
 use Rattle.stl_rules.specs.DataBlocks.{bytes_with}
 use Rattle.stl_rules.specs.Layouts.{breaks_in}
-use Rattle.stl_rules.specs.Names.{may_have, number_of}
+use Rattle.stl_rules.specs.Names.{block_number, may_have}
 use Rattle.stl_rules.specs.Programs.{block_with, sight_of, symbol_of}
 use Rattle.stl_rules.specs.Raw.{most_local}
 use Rattle.stl_rules.specs.Stages.{content_breaks, heading_breaks, instr_breaks, is_address}
@@ -54,7 +54,7 @@ kept_if true made = made
 kept_if false made = None
 
 abbrev pub data_kept : Bool → List SymbolLine → RawData → Option DataBlock
-data_kept keep symbols d = kept_if keep (data_by (number_of symbols block.Db d.name) (bytes_kept d.initial d.kind))
+data_kept keep symbols d = kept_if keep (data_by (block_number symbols block.Db d.name) (bytes_kept d.initial d.kind))
 
 -- Blocks
 
@@ -65,7 +65,7 @@ body_breaks text raw = breaks_in most_local (raw.temps ∷ []) ++ flat_map (inst
 -- what a heading, the temporaries and the instructions break
 abbrev pub block_breaks : RawProgram → List ℕ → RawBlock → List Break
 block_breaks text before raw =
-    heading_breaks raw.kind raw.line before (number_of text.symbols raw.kind raw.name) ++ breaks_in most_local (raw.temps ∷ [])
+    heading_breaks raw.kind raw.line before (block_number text.symbols raw.kind raw.name) ++ breaks_in most_local (raw.temps ∷ [])
     ++ flat_map (instr_breaks (sight_of text raw)) raw.body
 
 -- an instruction on its line, if it is one
@@ -78,7 +78,7 @@ name_kept block.Ob (Ok n) = if may_have block.Ob n then Some (Ob n) else None
 name_kept unbuilt number = None
 
 abbrev pub block_kept : RawProgram → RawBlock → Option Block
-block_kept text raw = option_map (block_with (sight_of text raw) raw) (name_kept raw.kind (number_of text.symbols raw.kind raw.name))
+block_kept text raw = option_map (block_with (sight_of text raw) raw) (name_kept raw.kind (block_number text.symbols raw.kind raw.name))
 
 -- Symbols
 

@@ -7,7 +7,7 @@ use Rattle.s7_base.specs.declared.broken.Break.{Break}
 use Rattle.s7_base.specs.declared.reason.Reason.{Reason}
 use Rattle.s7_base.specs.declared.reason.Reason.TheVariants.{BadAddress, DuplicateName}
 use Rattle.stl_rules.specs.DeclarationRules.{is_named, key_of, with_name}
-use Rattle.stl_rules.specs.Names.{is_number, number_of}
+use Rattle.stl_rules.specs.Names.{block_number, is_number}
 use Rattle.stl_rules.specs.Stages.{broken_if, is_address, with_block_number}
 use Rattle.stl_tree.specs.declared.raw.BlockKind.TheVariants as block
 use Rattle.stl_tree.specs.declared.raw.RawBlock.{RawBlock}
@@ -31,10 +31,10 @@ with_number_place (Err reason) place table = table
 
 -- the numbers of data blocks, and of the other blocks
 abbrev pub db_numbers : List SymbolLine → List RawData → List (Result ℕ Reason)
-db_numbers symbols dbs = map (λ (d : RawData). number_of symbols block.Db d.name) dbs
+db_numbers symbols dbs = map (λ (d : RawData). block_number symbols block.Db d.name) dbs
 
 abbrev pub block_numbers : List SymbolLine → List RawBlock → List (Result ℕ Reason)
-block_numbers symbols blocks = map (λ (raw : RawBlock). number_of symbols raw.kind raw.name) blocks
+block_numbers symbols blocks = map (λ (raw : RawBlock). block_number symbols raw.kind raw.name) blocks
 
 -- the numbers that blocks have
 abbrev pub numbers_before : List (Result ℕ Reason) → List ℕ

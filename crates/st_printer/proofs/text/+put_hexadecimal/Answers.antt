@@ -12,8 +12,8 @@ returns-then-count-eq0 t c =
 pub returns : goal.returns
 returns t c =
     let old : List ℕ = c.args.out.now.items in
-    let last : List ℕ = c.digit_of.result ∷ [] in
+    let last : List ℕ = c.hex_digit.result ∷ [] in
     let front : List ℕ = hexadecimal (c.args.count - 1) (c.args.number / 16) in
     c.in_ok-push.ensures.items ∙ ap (λ (xs : List ℕ). xs ++ last) c.in_ok-put_hexadecimal.ensures ∙ append_assoc old front last
-    ∙ ap (λ (d : ℕ). old ++ (front ++ d ∷ [])) c.digit_of.ensures
+    ∙ ap (λ (d : ℕ). old ++ (front ++ d ∷ [])) c.hex_digit.ensures
     ∙ ap (λ (xs : List ℕ). old ++ xs) (sym (hexadecimal_up c.args.count c.args.number c.if-count-eq0.false))

@@ -1,7 +1,7 @@
 use Rattle.std.proofs.Common.{◌≡◌, ◌++◌, map, refl, ap, sym, take, ◌∙◌}
 use Rattle.std.specs.List.{filter_map}
 use Rattle.std.proofs.lemmas.List.{append-nil, take_all}
-use Rattle.stl_rules.specs.Names.{number_of}
+use Rattle.stl_rules.specs.Names.{block_number}
 use Rattle.stl_tree.specs.declared.raw.BlockKind.TheVariants as block
 use Rattle.symbol_names.specs.inner.Firsts.{with_breaks}
 use Rattle.symbol_names.specs.inner.Kept.{data_kept, db_breaks}
@@ -20,9 +20,9 @@ loop-place-preserved c =
     let place = c.loop-place.place in
     let symbols = c.args.names.now.symbols in
     let first = c.loop-place.found.first in
-    let noted : c.put_data.new.found.first ≡ with_breaks first (db_breaks (numbers_before (take place (db_numbers symbols c.args.dbs.now))) d (number_of symbols block.Db d.name))
+    let noted : c.put_data.new.found.first ≡ with_breaks first (db_breaks (numbers_before (take place (db_numbers symbols c.args.dbs.now))) d (block_number symbols block.Db d.name))
     = c.in_ok-put_data.ensures.first
-    ∙ ap (λ all. with_breaks first (db_breaks (numbers_before (take place (db_numbers symbols all))) d (number_of symbols block.Db d.name))) (sym c.requires) in (
+    ∙ ap (λ all. with_breaks first (db_breaks (numbers_before (take place (db_numbers symbols all))) d (block_number symbols block.Db d.name))) (sym c.requires) in (
       map_turn own_of c.args.found.now.laid.items c.loop-place.found.laid.items c.put_data.new.found.laid.items c.args.dbs.now place d c.loop-place-test.true
           c.index-dbs-place.is c.loop-place.invariant.0 c.in_ok-put_data.ensures.laid,
       put_turn (data_kept c.args.keep symbols) c.args.found.now.made c.loop-place.found.made c.put_data.new.found.made c.args.dbs.now place d

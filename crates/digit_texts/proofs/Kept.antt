@@ -1,6 +1,6 @@
 -- Numbers that are kept in 32 bits.
 use Rattle.std.proofs.Common.{◌≡◌, ℕ, suc, ◌+◌, ◌-◌, ◌*◌, ◌<◌, ◌≤◌, List, [], ◌∷◌, length, get_or, drop, drop-cons, sym, ap, ◌∙◌, arith}
-use Rattle.stl_statements.specs.Numbers.{kept, written_from}
+use Rattle.digit_texts.specs.Digits.{kept, written_from}
 
 grows : (value : ℕ) (digits : List ℕ) → value ≤ written_from value digits
 grows value [] = omega arith

@@ -1,8 +1,8 @@
 use Rattle.std.proofs.Common.{◌≡◌, ◌+◌, ◌*◌, ◌-◌, get_or, arith}
 use Rattle.std.proofs.lemmas.Grind.{common_steps}
-use Rattle.image_text.specs.Reading.{kept}
-use Rattle.image_text.proofs.Kept.{digit_further}
-use Rattle.image_text.proofs.number.number_value.Goals as goal
+use Rattle.digit_texts.specs.Digits.{kept}
+use Rattle.digit_texts.proofs.Kept.{digit_further}
+use Rattle.digit_texts.proofs.number.number_value.Goals as goal
 
 pub loop-digit-preserved : goal.loop-digit-preserved
 loop-digit-preserved c =
