@@ -3,7 +3,7 @@ ghost use Rattle.std.specs.Prelude.{◌≡◌, suc, ◌+◌, IfOk};
 ghost use Rattle.st_grammar.specs.Grammar.{prefix_level, infix_level, is_value, literal_tree, label_tree, prefix_tree, apply_tree};
 ghost use Rattle.st_grammar.specs.inner.Machine.{code, of_literal, of_variable, of_prefix, of_infix, of_apply, of_shift, of_select};
 ghost use Rattle.st_grammar.specs.inner.Steps.{shallower};
-ghost use Rattle.st_bodies.specs.inner.Spots.{measured_of};
+ghost use Rattle.st_bodies.specs.inner.BodyStates.{measured_of};
 
 use s7_base::{Boxed, Line, NoMemory};
 use st_grammar::{Literal, Measured, OneOperand, Prefix};

@@ -5,14 +5,14 @@
 //! and not which names may be declared.
 #![tactic(auto)]
 
+pub use body_state::{Argument, Begun, Body, BodyState, Call, Cases, Frame, Part, Place, Use};
 pub use depth::is_deep_at;
 pub use expression::Held;
-pub use spot::{Argument, Begun, Body, Call, Cases, Frame, Part, Place, Spot, Use};
 pub use statement::step;
 
+mod body_state;
 mod depth;
 mod expression;
 mod need;
 mod operand;
-mod spot;
 mod statement;

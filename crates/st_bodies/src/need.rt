@@ -3,10 +3,10 @@ ghost use Rattle.std.specs.Prelude.{◌≡◌, IfOk};
 ghost use Rattle.st_grammar.specs.inner.Machine.{code, area_value, loop_test, selector, test, to_area, to_var};
 ghost use Rattle.st_grammar.specs.inner.Steps.{use_closed};
 ghost use Rattle.st_grammar.specs.declared.kind.Kind.TheVariants as kind;
-ghost use Rattle.st_bodies.specs.inner.Spots.{begun_of, measured_of, stack_of, use_of, went};
+ghost use Rattle.st_bodies.specs.inner.BodyStates.{begun_of, measured_of, stack_of, use_of, went};
 
+use crate::body_state::{Begun, Body, BodyState, Cases, Part, Use};
 use crate::expression::{Held, hold};
-use crate::spot::{Begun, Body, Cases, Part, Spot, Use};
 use s7_base::{Boxed, List, NoMemory, Width};
 use st_grammar::{Fixed, Measured};
 use st_tree::{RawArm, RawStmt, RawStmtKind, RawVar};
@@ -14,7 +14,7 @@ use std::alloc::Global;
 
 /// The value of an assignment ends.
 fn assigned(
-    at: &mut Spot,
+    at: &mut BodyState,
     mut begun: Begun,
     var: RawVar,
     value: Measured,
@@ -38,7 +38,7 @@ fn assigned(
 /// The pointer of an AREA_WRITE ends, and its value begins.
 fn pointer_closed(
     alloc: Global,
-    at: &mut Spot,
+    at: &mut BodyState,
     begun: Begun,
     width: Width,
     pointer: Measured,
@@ -60,7 +60,7 @@ fn pointer_closed(
 /// The value of an AREA_WRITE ends.
 fn written(
     alloc: Global,
-    at: &mut Spot,
+    at: &mut BodyState,
     begun: Begun,
     width: Width,
     pointer: Held,
@@ -86,7 +86,7 @@ fn written(
 /// The test of an arm of an IF ends.
 fn tested(
     alloc: Global,
-    at: &mut Spot,
+    at: &mut BodyState,
     begun: Begun,
     arms: List<RawArm>,
     value: Measured,
@@ -107,7 +107,7 @@ fn tested(
 /// The selector of a CASE ends.
 fn selected(
     alloc: Global,
-    at: &mut Spot,
+    at: &mut BodyState,
     begun: Begun,
     value: Measured,
     word: Fixed,
@@ -130,7 +130,7 @@ fn selected(
 /// The test of a WHILE ends.
 fn loop_tested(
     alloc: Global,
-    at: &mut Spot,
+    at: &mut BodyState,
     begun: Begun,
     value: Measured,
     word: Fixed,
@@ -150,7 +150,7 @@ fn loop_tested(
 /// The expression that a statement needs ends.
 pub fn use_closed(
     alloc: Global,
-    at: &mut Spot,
+    at: &mut BodyState,
     begun: Begun,
     need: Use,
     value: Measured,

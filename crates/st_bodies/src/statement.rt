@@ -3,14 +3,14 @@ ghost use Rattle.std.specs.Prelude.{◌≡◌, [], ◌∷◌, ◌++◌, Some, If
 ghost use Rattle.std.specs.List.{list_any};
 ghost use Rattle.st_grammar.specs.Grammar.{may_jump, case_of, label_tree};
 ghost use Rattle.st_grammar.specs.inner.Machine.{code, choosing, closing, of_cases_else, selecting, write_open, first_formal, next_formal, becoming, giving, given, labelled};
-ghost use Rattle.st_grammar.specs.inner.Steps.{shallower, spot, is_loop, in_loop, body_closed, in_body, at_lead, at_statement, at_target, at_label, at_call, at_part, at_closing, step_at};
+ghost use Rattle.st_grammar.specs.inner.Steps.{shallower, body_state, is_loop, in_loop, body_closed, in_body, at_lead, at_statement, at_target, at_label, at_call, at_part, at_closing, step_at};
 ghost use Rattle.st_grammar.specs.declared.kind.Kind.TheVariants as kind;
 ghost use Rattle.st_grammar.specs.declared.kind.Lead.TheVariants as lead;
-ghost use Rattle.st_bodies.specs.inner.Spots.{begun_of, body_of, frame_of, measured_of, part_of, place_of, stack_of, went};
+ghost use Rattle.st_bodies.specs.inner.BodyStates.{begun_of, body_of, frame_of, measured_of, part_of, place_of, stack_of, went};
 
+use crate::body_state::{Begun, Body, BodyState, Call, Cases, Frame, Part, Place, Use};
 use crate::expression::{Held, is_value, label_of};
 use crate::operand::{at_opening, at_operand, at_operator};
-use crate::spot::{Begun, Body, Call, Cases, Frame, Part, Place, Spot, Use};
 use s7_base::{Boxed, Line, List, NoMemory, Width};
 use st_grammar::{Fixed, Jump, Kind, Lead, Literal};
 use st_tree::{RawArm, RawCaseArm, RawStmt, RawStmtKind, RawVar, StType};
@@ -49,7 +49,7 @@ fn may_jump(inside: bool, jump: Jump) -> bool
 /// The statements of an arm of an IF end.
 fn choosing_closed(
     alloc: Global,
-    at: &mut Spot,
+    at: &mut BodyState,
     begun: Begun,
     mut arms: List<RawArm>,
     test: Held,
@@ -80,7 +80,7 @@ fn choosing_closed(
 
 /// A label of an arm of a CASE.
 fn at_label(
-    at: &mut Spot,
+    at: &mut BodyState,
     begun: Begun,
     cases: Boxed<Cases>,
     mut labels: List<(StType, i64)>,
@@ -116,13 +116,13 @@ fn with_case(
 /// The END_CASE of a CASE.
 fn case_closed(
     alloc: Global,
-    at: &mut Spot,
+    at: &mut BodyState,
     begun: Begun,
     cases: Boxed<Cases>,
     otherwise: List<RawStmt>,
 ) -> Result<bool, NoMemory>
     ensures { IfOk result (λ goes. went goes at.new
-        ≡ Some (spot code (shallower at.old.depth) (stack_of at.old.frames)
+        ≡ Some (body_state code (shallower at.old.depth) (stack_of at.old.frames)
         (closing begun.before (of_cases_else code begun.line (measured_of cases.selector) cases.arms otherwise)))) }
 {
     let Cases { selector, arms } = cases.into_inner();
@@ -133,7 +133,7 @@ fn case_closed(
 /// The statements of an arm of a CASE end.
 fn selecting_closed(
     alloc: Global,
-    at: &mut Spot,
+    at: &mut BodyState,
     begun: Begun,
     cases: Boxed<Cases>,
     labels: List<(StType, i64)>,
@@ -159,7 +159,7 @@ fn selecting_closed(
 /// Statements inside another one end.
 fn body_closed(
     alloc: Global,
-    at: &mut Spot,
+    at: &mut BodyState,
     begun: Begun,
     outer: Body,
     body: List<RawStmt>,
@@ -194,7 +194,12 @@ fn body_closed(
 }
 
 /// A token that begins no statement ends those of the innermost open one, or cannot follow.
-fn in_body(alloc: Global, at: &mut Spot, body: List<RawStmt>, kind: Kind) -> Result<bool, NoMemory>
+fn in_body(
+    alloc: Global,
+    at: &mut BodyState,
+    body: List<RawStmt>,
+    kind: Kind,
+) -> Result<bool, NoMemory>
     ensures { IfOk result (λ goes. went goes at.new
         ≡ in_body code at.old.depth (stack_of at.old.frames) body kind) }
 {
@@ -210,7 +215,7 @@ fn in_body(alloc: Global, at: &mut Spot, body: List<RawStmt>, kind: Kind) -> Res
 /// EXIT, CONTINUE or RETURN.
 fn at_jump(
     alloc: Global,
-    at: &mut Spot,
+    at: &mut BodyState,
     before: List<RawStmt>,
     jump: Jump,
     line: Line,
@@ -233,7 +238,7 @@ fn at_jump(
 /// A word that begins a statement.
 fn at_lead(
     alloc: Global,
-    at: &mut Spot,
+    at: &mut BodyState,
     before: List<RawStmt>,
     lead: Lead,
     line: Line,
@@ -260,7 +265,7 @@ fn at_lead(
 /// A token where a statement may begin or statements end.
 fn at_statement(
     alloc: Global,
-    at: &mut Spot,
+    at: &mut BodyState,
     before: List<RawStmt>,
     kind: Kind,
 ) -> Result<bool, NoMemory>
@@ -282,7 +287,7 @@ fn at_statement(
 }
 
 /// What stands after a variable at the beginning of a statement.
-fn at_target(at: &mut Spot, begun: Begun, var: RawVar, kind: Kind) -> Result<bool, NoMemory>
+fn at_target(at: &mut BodyState, begun: Begun, var: RawVar, kind: Kind) -> Result<bool, NoMemory>
     ensures { IfOk result (λ goes. went goes at.new
         ≡ at_target code at.old.depth (stack_of at.old.frames) (begun_of begun) var kind) }
 {
@@ -301,7 +306,12 @@ fn at_target(at: &mut Spot, begun: Begun, var: RawVar, kind: Kind) -> Result<boo
 }
 
 /// A name of a formal.
-fn at_formal(at: &mut Spot, begun: Begun, call: Boxed<Call>, kind: Kind) -> Result<bool, NoMemory>
+fn at_formal(
+    at: &mut BodyState,
+    begun: Begun,
+    call: Boxed<Call>,
+    kind: Kind,
+) -> Result<bool, NoMemory>
     ensures { IfOk result (λ goes. went goes at.new
         ≡ at_call code at.old.depth (stack_of at.old.frames)
         (begun_of begun) (next_formal call.name call.actuals) kind) }
@@ -326,7 +336,7 @@ fn called(alloc: Global, name: List<u8>) -> Result<Boxed<Call>, NoMemory>
 /// What stands after the bracket of a call.
 fn at_first_formal(
     alloc: Global,
-    at: &mut Spot,
+    at: &mut BodyState,
     begun: Begun,
     name: List<u8>,
     kind: Kind,
@@ -344,7 +354,7 @@ fn at_first_formal(
 
 /// The `:=` after the name of a formal.
 fn at_becoming(
-    at: &mut Spot,
+    at: &mut BodyState,
     begun: Begun,
     call: Boxed<Call>,
     formal: List<u8>,
@@ -379,7 +389,7 @@ fn with_actual(
 /// A variable for a formal.
 fn at_actual(
     alloc: Global,
-    at: &mut Spot,
+    at: &mut BodyState,
     begun: Begun,
     call: Boxed<Call>,
     formal: List<u8>,
@@ -400,7 +410,7 @@ fn at_actual(
 /// What stands after the actuals of a call.
 fn at_given(
     alloc: Global,
-    at: &mut Spot,
+    at: &mut BodyState,
     begun: Begun,
     call: Boxed<Call>,
     kind: Kind,
@@ -424,7 +434,7 @@ fn at_given(
 
 /// A label where one must stand.
 fn at_next_label(
-    at: &mut Spot,
+    at: &mut BodyState,
     begun: Begun,
     cases: Boxed<Cases>,
     labels: List<(StType, i64)>,
@@ -443,7 +453,7 @@ fn at_next_label(
 /// What stands after a label.
 fn at_labelled(
     alloc: Global,
-    at: &mut Spot,
+    at: &mut BodyState,
     begun: Begun,
     cases: Boxed<Cases>,
     labels: List<(StType, i64)>,
@@ -462,7 +472,12 @@ fn at_labelled(
 }
 
 /// The bracket of an AREA_WRITE.
-fn at_write_open(at: &mut Spot, begun: Begun, width: Width, kind: Kind) -> Result<bool, NoMemory>
+fn at_write_open(
+    at: &mut BodyState,
+    begun: Begun,
+    width: Width,
+    kind: Kind,
+) -> Result<bool, NoMemory>
     ensures { IfOk result (λ goes. went goes at.new
         ≡ at_part code at.old.depth (stack_of at.old.frames) (begun_of begun) (write_open width) kind) }
 {
@@ -477,7 +492,7 @@ fn at_write_open(at: &mut Spot, begun: Begun, width: Width, kind: Kind) -> Resul
 /// A token in a part of a statement that is no expression.
 fn at_part(
     alloc: Global,
-    at: &mut Spot,
+    at: &mut BodyState,
     begun: Begun,
     part: Part,
     kind: Kind,
@@ -501,7 +516,7 @@ fn at_part(
 
 /// The `;` of a statement.
 fn at_closing(
-    at: &mut Spot,
+    at: &mut BodyState,
     mut before: List<RawStmt>,
     statement: Boxed<RawStmt>,
     kind: Kind,
@@ -519,8 +534,8 @@ fn at_closing(
 }
 
 /// One token in statements: whether it can follow, and if it can, where it leads. Where it can't, nothing
-/// is said of what the spot is then.
-pub fn step(alloc: Global, at: &mut Spot, kind: Kind) -> Result<bool, NoMemory>
+/// is said of what the state is then.
+pub fn step(alloc: Global, at: &mut BodyState, kind: Kind) -> Result<bool, NoMemory>
     ensures { IfOk result (λ goes. went goes at.new
         ≡ step_at code at.old.depth (stack_of at.old.frames) (place_of at.old.place) kind) }
 {

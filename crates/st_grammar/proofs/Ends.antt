@@ -8,7 +8,7 @@ use Rattle.s7_base.specs.declared.reason.Rejection.TheVariants.{Refused}
 use Rattle.st_grammar.specs.inner.Judge.{turn, reached, judged, on_good, judge, text_in}
 use Rattle.st_grammar.specs.Levels.{deepest}
 use Rattle.st_grammar.specs.inner.Machine as machine
-use Rattle.st_grammar.specs.inner.Machine.{code, Frame, unary, left, bracket, argument, waiting, within, Argument, Use, Body, Part, target, write_open, first_formal, next_formal, becoming, giving, given, first_label, next_label, labelled, Place, statement, part, closing, operand, operator, opening, Spot, Row, State, start, globals, row, between, heading, opened, formals_done, section, typing, inside, over, Which, formals, temps}
+use Rattle.st_grammar.specs.inner.Machine.{code, Frame, unary, left, bracket, argument, waiting, within, Argument, Use, Body, Part, target, write_open, first_formal, next_formal, becoming, giving, given, first_label, next_label, labelled, Place, statement, part, closing, operand, operator, opening, BodyState, Row, State, start, globals, row, between, heading, opened, formals_done, section, typing, inside, over, Which, formals, temps}
 use Rattle.st_grammar.specs.inner.Steps.{weakest, reduce, closed, in_body, at_part, step_at, row_step, at_typing, next}
 use Rattle.st_grammar.specs.Syntax.{Lined, all_lined, end_on, lined}
 use Rattle.st_grammar.specs.declared.kind.Fixed.TheVariants as fixed
@@ -108,7 +108,7 @@ over_at_end (opened top) = tt
 over_at_end (formals_done top f) = tt
 over_at_end (section top which done) = tt
 over_at_end (typing top which done name line x) = subst (λ (o : Option (State code)). IfSome o IsOver) (sym (typing_end top which done name line x)) tt
-over_at_end (inside top f l at) = subst (λ (o : Option (Spot code)). IfSome (option_map (λ (to : Spot code). inside top f l to) o) IsOver) (sym (step_end at.depth at.stack at.place)) tt
+over_at_end (inside top f l at) = subst (λ (o : Option (BodyState code)). IfSome (option_map (λ (to : BodyState code). inside top f l to) o) IsOver) (sym (step_end at.depth at.stack at.place)) tt
 over_at_end (over text) = tt
 
 turn_end : (q : State code) → IfSome (turn q end) IsOver

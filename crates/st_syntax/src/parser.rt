@@ -27,7 +27,7 @@ fn is_deep(state: &State) -> bool
     ensures { result ≡ nat_lt deepest (reached (seen state.now)) }
 {
     match state {
-        State::Inside(_, _, _, spot) => is_deep_at(spot),
+        State::Inside(_, _, _, at) => is_deep_at(at),
         _ => false,
     }
 }
@@ -39,10 +39,10 @@ fn turn(alloc: Global, state: &mut State, kind: Kind) -> Result<bool, NoMemory>
     ensures { IfOk result (λ goes. went goes state.new ≡ turn (seen state.old) kind) }
 {
     let kind = match state {
-        State::Inside(_, _, _, spot) => match kind {
+        State::Inside(_, _, _, at) => match kind {
             Kind::Fixed(Fixed::EndProgram) => Kind::Fixed(Fixed::EndProgram),
             Kind::Fixed(Fixed::EndFunction) => Kind::Fixed(Fixed::EndFunction),
-            other => return step(alloc, spot, other),
+            other => return step(alloc, at, other),
         },
         _ => kind,
     };
@@ -113,9 +113,9 @@ fn finish(state: State) -> Option<Before>
         State::FormalsDone(top, formals) => drop((top, formals)),
         State::Section(top, which, done) => drop((top, which, done)),
         State::Typing(top, which, done, name, _, _) => drop((top, which, done, name)),
-        State::Inside(top, formals, locals, spot) => {
+        State::Inside(top, formals, locals, at) => {
             drop((top, formals, locals));
-            drop(spot);
+            drop(at);
         }
         State::Over(text) => return Some(text),
     }

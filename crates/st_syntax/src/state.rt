@@ -1,7 +1,7 @@
 //! Where the parser stands between two tokens of a text.
 
 use s7_base::{Line, List};
-use st_bodies::Spot;
+use st_bodies::BodyState;
 use st_grammar::Heading;
 use st_tree::{RawGlobal, RawGlobalType, RawLocal, RawPou, RawVar, StType};
 
@@ -92,7 +92,7 @@ pub enum State {
     Typing(Top, Which, List<RawLocal>, List<u8>, Line, Typing),
 
     /// In the statements of a unit, with its formals and its locals.
-    Inside(Top, List<RawLocal>, List<RawLocal>, Spot),
+    Inside(Top, List<RawLocal>, List<RawLocal>, BodyState),
 
     /// After the end of the text.
     Over(Before),

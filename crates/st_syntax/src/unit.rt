@@ -3,13 +3,13 @@ ghost use Rattle.std.specs.Prelude.{◌≡◌, IfOk, option_map};
 ghost use Rattle.st_grammar.specs.Grammar.{is_formal_type};
 ghost use Rattle.st_grammar.specs.inner.Machine.{code, add_unit};
 ghost use Rattle.st_grammar.specs.inner.Steps.{at_between, at_start, at_heading, may_name, may_type, section_end, at_section, at_typing, ends, leave, at_inside, at_formals_done, at_opened, next, step as body_step};
-ghost use Rattle.st_bodies.specs.inner.Spots.{place_of, spot_of, stack_of};
+ghost use Rattle.st_bodies.specs.inner.BodyStates.{body_state_of, place_of, stack_of};
 ghost use Rattle.st_syntax.specs.inner.Views.{before_of, state_of, top_in, typing_of, typing_step, which_of};
 
 use crate::row::{at_globals, at_row};
 use crate::state::{Before, State, Top, Typing, Which};
 use s7_base::{Line, List, NoMemory};
-use st_bodies::{Spot, step};
+use st_bodies::{BodyState, step};
 use st_grammar::{Fixed, Heading, Kind, Lead};
 use st_tree::{RawLocal, RawPou, RawStmt, RawVar, StType, is_free, may_name_local, may_name_unit};
 use std::alloc::Global;
@@ -84,7 +84,7 @@ fn section_end(alloc: Global, top: Top, which: Which, done: List<RawLocal>) -> S
 {
     match which {
         Which::Formals => State::FormalsDone(top, done),
-        Which::Temps(formals) => State::Inside(top, formals, done, Spot::new(alloc)),
+        Which::Temps(formals) => State::Inside(top, formals, done, BodyState::new(alloc)),
     }
 }
 
@@ -195,12 +195,12 @@ fn leave(
     top: Top,
     formals: List<RawLocal>,
     locals: List<RawLocal>,
-    spot: Spot,
+    at: BodyState,
 ) -> Result<Option<State>, NoMemory>
     ensures { IfOk result (λ o. option_map state_of o
-        ≡ leave code program (top_in top) formals locals (stack_of spot.frames) (place_of spot.place)) }
+        ≡ leave code program (top_in top) formals locals (stack_of at.frames) (place_of at.place)) }
 {
-    let Some(body) = spot.into_body() else {
+    let Some(body) = at.into_body() else {
         return Ok(None);
     };
     if !ends(program, top.head.program) {
@@ -210,17 +210,17 @@ fn leave(
 }
 
 /// The statements after one more token; `None` where it cannot follow.
-fn stepped(alloc: Global, mut spot: Spot, kind: Kind) -> Result<Option<Spot>, NoMemory>
-    ensures { IfOk result (λ o. option_map spot_of o ≡ body_step code (spot_of spot) kind) }
+fn stepped(alloc: Global, mut at: BodyState, kind: Kind) -> Result<Option<BodyState>, NoMemory>
+    ensures { IfOk result (λ o. option_map body_state_of o ≡ body_step code (body_state_of at) kind) }
 {
-    match step(alloc, &mut spot, kind) {
-        Ok(true) => Ok(Some(spot)),
+    match step(alloc, &mut at, kind) {
+        Ok(true) => Ok(Some(at)),
         Ok(false) => {
-            drop(spot);
+            drop(at);
             Ok(None)
         }
         Err(no_memory) => {
-            drop(spot);
+            drop(at);
             Err(no_memory)
         }
     }
@@ -231,16 +231,16 @@ fn at_inside(
     top: Top,
     formals: List<RawLocal>,
     locals: List<RawLocal>,
-    spot: Spot,
+    at: BodyState,
     kind: Kind,
 ) -> Result<Option<State>, NoMemory>
     ensures { IfOk result (λ o. option_map state_of o
-        ≡ at_inside code (top_in top) formals locals (spot_of spot) kind) }
+        ≡ at_inside code (top_in top) formals locals (body_state_of at) kind) }
 {
     match kind {
-        Kind::Fixed(Fixed::EndProgram) => leave(true, top, formals, locals, spot),
-        Kind::Fixed(Fixed::EndFunction) => leave(false, top, formals, locals, spot),
-        other => match stepped(alloc, spot, other)? {
+        Kind::Fixed(Fixed::EndProgram) => leave(true, top, formals, locals, at),
+        Kind::Fixed(Fixed::EndFunction) => leave(false, top, formals, locals, at),
+        other => match stepped(alloc, at, other)? {
             Some(to) => Ok(Some(State::Inside(top, formals, locals, to))),
             None => Ok(None),
         },
@@ -267,7 +267,7 @@ fn at_formals_done(
             top,
             formals,
             List::new(alloc),
-            Spot::new(alloc),
+            BodyState::new(alloc),
             other,
         ),
     }
@@ -304,8 +304,8 @@ pub fn next(alloc: Global, state: State, kind: Kind) -> Result<Option<State>, No
         State::Typing(top, which, done, name, line, typing) => {
             at_typing(top, which, done, name, line, typing, kind)
         }
-        State::Inside(top, formals, locals, spot) => {
-            at_inside(alloc, top, formals, locals, spot, kind)
+        State::Inside(top, formals, locals, at) => {
+            at_inside(alloc, top, formals, locals, at, kind)
         }
         State::Over(_) => Ok(None),
     }

@@ -5,8 +5,8 @@ use Rattle.st_grammar.specs.Forms.{Form, none, no_local, prefix, infix_of, State
 use Rattle.st_grammar.specs.Grammar.{prefix_level, infix_level, is_value, may_jump, is_direct, tree, tree_one, tree_all, tree_arms, tree_cases, tree_actuals, tree_labels, tree_items, tree_type, tree_globals, tree_locals, tree_units, held}
 use Rattle.st_tree.specs.Naming.{is_free, may_name_global, may_name_unit, names_block}
 use Rattle.st_grammar.specs.Levels.{height}
-use Rattle.st_grammar.specs.inner.Machine.{written, code, of_label, add_label, add_case, of_literal, of_jump, head_of, Begun, Argument, only, shifted, shifted_by, gate, first, second, Use, to_var, to_area, area_value, test, selector, loop_test, Body, choosing, otherwise, looping, selecting, otherwise_case, Frame, unary, left, bracket, argument, waiting, within, Part, target, write_open, first_formal, next_formal, becoming, giving, given, first_label, next_label, labelled, Place, statement, part, closing, operand, operator, opening, Spot, Row, at_word, at_place, at_colon, at_type, at_square, at_zero, at_dots, at_last, at_close, at_of, at_byte, at_becomes, at_open, at_item, at_count, at_value, at_value_end, at_comma, at_end, local_colon, local_type, local_end, Before, Top, Which, formals, temps, State, start, globals, row, between, heading, opened, formals_done, section, typing, inside, over}
-use Rattle.st_grammar.specs.inner.Steps.{spot, weakest, limit, Reduced, reduced_to, reduce, shallower, with_prefix, closed, closed_to, waits, in_loop, in_body, step_at, is_zero, row_step, before_units, top_of, at_between, may_name, may_type, ends, leave, at_inside, at_formals_done, at_opened, next, level_at, mark}
+use Rattle.st_grammar.specs.inner.Machine.{written, code, of_label, add_label, add_case, of_literal, of_jump, head_of, Begun, Argument, only, shifted, shifted_by, gate, first, second, Use, to_var, to_area, area_value, test, selector, loop_test, Body, choosing, otherwise, looping, selecting, otherwise_case, Frame, unary, left, bracket, argument, waiting, within, Part, target, write_open, first_formal, next_formal, becoming, giving, given, first_label, next_label, labelled, Place, statement, part, closing, operand, operator, opening, BodyState, Row, at_word, at_place, at_colon, at_type, at_square, at_zero, at_dots, at_last, at_close, at_of, at_byte, at_becomes, at_open, at_item, at_count, at_value, at_value_end, at_comma, at_end, local_colon, local_type, local_end, Before, Top, Which, formals, temps, State, start, globals, row, between, heading, opened, formals_done, section, typing, inside, over}
+use Rattle.st_grammar.specs.inner.Steps.{body_state, weakest, limit, Reduced, reduced_to, reduce, shallower, with_prefix, closed, closed_to, waits, in_loop, in_body, step_at, is_zero, row_step, before_units, top_of, at_between, may_name, may_type, ends, leave, at_inside, at_formals_done, at_opened, next, level_at, mark}
 use Rattle.st_grammar.specs.declared.heading.Heading.{Heading}
 use Rattle.st_grammar.specs.declared.measured.Measured.{Measured}
 use Rattle.st_grammar.specs.declared.kind.Fixed.TheVariants as fixed
@@ -85,8 +85,8 @@ bare_place operand = operand
 bare_place (operator f) = operator (bare_expr f)
 bare_place (opening f) = opening f
 
-abbrev pub bare_spot : Spot written → Spot code
-bare_spot at = spot code at.depth (bare_stack at.stack) (bare_place at.place)
+abbrev pub bare_body_state : BodyState written → BodyState code
+bare_body_state at = body_state code at.depth (bare_stack at.stack) (bare_place at.place)
 
 abbrev pub bare_row : Row written → Row code
 bare_row at_word = at_word
@@ -132,7 +132,7 @@ bare (opened top) = opened (bare_top top)
 bare (formals_done top before) = formals_done (bare_top top) (held tree_locals before)
 bare (section top which done) = section (bare_top top) (bare_which which) (tree_locals done)
 bare (typing top which done name line x) = typing (bare_top top) (bare_which which) (tree_locals done) name line x
-bare (inside top before locals at) = inside (bare_top top) (held tree_locals before) (held tree_locals locals) (bare_spot at)
+bare (inside top before locals at) = inside (bare_top top) (held tree_locals before) (held tree_locals locals) (bare_body_state at)
 bare (over text) = over (bare_before text)
 
 map_if : {X Y : Type 0} (f : X → Y) (c : Bool) (x : X) → (if c then Some (f x) else None) ≡ option_map f (if c then Some x else None)
@@ -166,7 +166,7 @@ bare_reduce k d (left op g ∷ s) f =
     (reduce written k d s (infix_of op g f)) (reduced_to written d (left op g ∷ s) f) (bare_reduce k d s (infix_of op g f)) refl
 bare_reduce k d s f = refl
 
-bare_closed : (d : ℕ) (s : List (Frame written)) (f : Form) (k : Kind) → closed code d (bare_stack s) (bare_expr f) k ≡ option_map bare_spot (closed written d s f k)
+bare_closed : (d : ℕ) (s : List (Frame written)) (f : Form) (k : Kind) → closed code d (bare_stack s) (bare_expr f) k ≡ option_map bare_body_state (closed written d s f k)
 bare_closed d (bracket ∷ s) f (kind.Fixed fixed.Close) = refl
 bare_closed d (argument (only op) ∷ s) f (kind.Fixed fixed.Close) = refl
 bare_closed d (argument (shifted op) ∷ s) f (kind.Fixed fixed.Comma) = refl
@@ -182,10 +182,11 @@ bare_closed d (waiting b selector ∷ s) f (kind.Fixed fixed.Of) = refl
 bare_closed d (waiting b loop_test ∷ s) f (kind.Fixed fixed.Do) = refl
 bare_closed d s f k = refl
 
-bare_prefix : (d : ℕ) (s : List (Frame written)) (op : Prefix) → with_prefix code d (bare_stack s) op ≡ option_map bare_spot (with_prefix written d s op)
+bare_prefix : (d : ℕ) (s : List (Frame written)) (op : Prefix) → with_prefix code d (bare_stack s) op ≡ option_map bare_body_state (with_prefix written d s op)
 bare_prefix d s op =
-    ap (λ (n : ℕ). if nat_le (prefix_level op) n then Some (spot code (suc d) (unary op ∷ bare_stack s) operand) else None) (bare_limit s)
-    ∙ map_if bare_spot (nat_le (prefix_level op) (limit written s)) (spot written (suc d) (unary op ∷ s) operand)
+    ap (λ (n : ℕ). if nat_le (prefix_level op) n then Some (body_state code (suc d) (unary op ∷ bare_stack s) operand) else None) (bare_limit s)
+    ∙ map_if bare_body_state (nat_le (prefix_level op) (limit written s))
+    (body_state written (suc d) (unary op ∷ s) operand)
 
 -- Statements
 
@@ -194,20 +195,21 @@ bare_in_loop [] = refl
 bare_in_loop (within b (looping e) ∷ s) = refl
 bare_in_loop (frame ∷ s) = bare_in_loop s
 
-bare_in_body : (d : ℕ) (s : List (Frame written)) (body : Statements) (k : Kind) → in_body code d (bare_stack s) (tree_all body) k ≡ option_map bare_spot (in_body written d s body k)
+bare_in_body : (d : ℕ) (s : List (Frame written)) (body : Statements) (k : Kind) → in_body code d (bare_stack s) (tree_all body) k ≡ option_map bare_body_state (in_body written d s body k)
 bare_in_body d (within b (choosing arms e) ∷ s) body (kind.Fixed fixed.Elsif) = refl
 bare_in_body d (within b (otherwise arms) ∷ s) body (kind.Fixed fixed.EndIf) = refl
 bare_in_body d (within b (looping e) ∷ s) body (kind.Fixed fixed.EndWhile) = refl
-bare_in_body d (within b (selecting e arms labels) ∷ s) body (kind.Literal c) = map_if bare_spot (is_value c) (spot written d s (part b (labelled e (add_case written arms labels body) (of_label written c))))
+bare_in_body d (within b (selecting e arms labels) ∷ s) body (kind.Literal c) = map_if bare_body_state (is_value c) (body_state written d s (part b (labelled e (add_case written arms labels body) (of_label written c))))
 bare_in_body d (within b (selecting e arms labels) ∷ s) body (kind.Fixed fixed.Else) = refl
 bare_in_body d (within b (otherwise_case e arms) ∷ s) body (kind.Fixed fixed.EndCase) = refl
 bare_in_body d s body k = refl
 
-step_bare : (d : ℕ) (s : List (Frame written)) (p : Place written) (k : Kind) → step_at code d (bare_stack s) (bare_place p) k ≡ option_map bare_spot (step_at written d s p k)
+step_bare : (d : ℕ) (s : List (Frame written)) (p : Place written) (k : Kind) → step_at code d (bare_stack s) (bare_place p) k ≡ option_map bare_body_state (step_at written d s p k)
 step_bare d s (statement body) (kind.Variable v line) = refl
 step_bare d s (statement body) (kind.Lead (lead.Jump word) line) =
-    ap (λ (c : Bool). if may_jump c word then Some (spot code d (bare_stack s) (closing (tree_all body) (of_jump code line word))) else None) (bare_in_loop s)
-    ∙ map_if bare_spot (may_jump (in_loop written s) word) (spot written d s (closing body (of_jump written line word)))
+    ap (λ (c : Bool). if may_jump c word then Some (body_state code d (bare_stack s) (closing (tree_all body) (of_jump code line word))) else None) (bare_in_loop s)
+    ∙ map_if bare_body_state (may_jump (in_loop written s) word)
+    (body_state written d s (closing body (of_jump written line word)))
 step_bare d s (statement body) (kind.Lead other line) = refl
 step_bare d s (statement body) (kind.Fixed fixed.Semicolon) = refl
 step_bare d s (statement body) other = bare_in_body d s body other
@@ -220,11 +222,11 @@ step_bare d s (part b (next_formal name actuals)) (kind.Variable (var.Name forma
 step_bare d s (part b (becoming name actuals formal)) (kind.Fixed fixed.Becomes) = refl
 step_bare d s (part b (giving name actuals formal)) (kind.Variable v line) = refl
 step_bare d s (part b (given name actuals)) (kind.Fixed fixed.Comma) = refl
-step_bare d s (part b (first_label e arms)) (kind.Literal c) = map_if bare_spot (is_value c) (spot written d s (part b (labelled e arms (of_label written c))))
-step_bare d s (part b (next_label e arms labels)) (kind.Literal c) = map_if bare_spot (is_value c) (spot written d s (part b (labelled e arms (add_label written labels c))))
+step_bare d s (part b (first_label e arms)) (kind.Literal c) = map_if bare_body_state (is_value c) (body_state written d s (part b (labelled e arms (of_label written c))))
+step_bare d s (part b (next_label e arms labels)) (kind.Literal c) = map_if bare_body_state (is_value c) (body_state written d s (part b (labelled e arms (add_label written labels c))))
 step_bare d s (part b (labelled e arms labels)) (kind.Fixed fixed.Comma) = refl
 step_bare d s (closing before x) (kind.Fixed fixed.Semicolon) = refl
-step_bare d s operand (kind.Literal c) = map_if bare_spot (is_value c) (spot written d s (operator (of_literal written c)))
+step_bare d s operand (kind.Literal c) = map_if bare_body_state (is_value c) (body_state written d s (operator (of_literal written c)))
 step_bare d s operand (kind.Fixed fixed.Not) = bare_prefix d s before.Not
 step_bare d s operand (kind.Fixed (fixed.Between binary.Sub)) = bare_prefix d s before.Minus
 step_bare d s (operator f) (kind.Fixed (fixed.Between op)) = ap (λ (r : Reduced code). Some (waits code op r)) (bare_reduce (infix_level op) d s f)
@@ -280,17 +282,17 @@ leave_bare : (program : Bool) (top : Top written) (f l : Section Locals) (s : Li
 leave_bare program top f l [] (statement body) = map_if bare (ends program top.head.program) _
 leave_bare program top f l s p = refl
 
-at_inside_bare : (top : Top written) (f l : Section Locals) (at : Spot written) (k : Kind) → at_inside code (bare_top top) (held tree_locals f) (held tree_locals l) (bare_spot at) k ≡ option_map bare (at_inside written top f l at k)
+at_inside_bare : (top : Top written) (f l : Section Locals) (at : BodyState written) (k : Kind) → at_inside code (bare_top top) (held tree_locals f) (held tree_locals l) (bare_body_state at) k ≡ option_map bare (at_inside written top f l at k)
 at_inside_bare top f l at (kind.Fixed fixed.EndProgram) = leave_bare true top f l at.stack at.place
 at_inside_bare top f l at (kind.Fixed fixed.EndFunction) = leave_bare false top f l at.stack at.place
 at_inside_bare top f l at k =
-    ap (λ (o : Option (Spot code)). option_map (λ (to : Spot code). inside (bare_top top) (held tree_locals f) (held tree_locals l) to) o) (step_bare at.depth at.stack at.place k)
-    ∙ map_map (λ (to : Spot code). inside (bare_top top) (held tree_locals f) (held tree_locals l) to) bare_spot (λ (to : Spot written). bare (inside top f l to)) (λ to. refl) (step_at written at.depth at.stack at.place k)
-    ∙ sym (map_map bare (λ (to : Spot written). inside top f l to) (λ (to : Spot written). bare (inside top f l to)) (λ to. refl) (step_at written at.depth at.stack at.place k))
+    ap (λ (o : Option (BodyState code)). option_map (λ (to : BodyState code). inside (bare_top top) (held tree_locals f) (held tree_locals l) to) o) (step_bare at.depth at.stack at.place k)
+    ∙ map_map (λ (to : BodyState code). inside (bare_top top) (held tree_locals f) (held tree_locals l) to) bare_body_state (λ (to : BodyState written). bare (inside top f l to)) (λ to. refl) (step_at written at.depth at.stack at.place k)
+    ∙ sym (map_map bare (λ (to : BodyState written). inside top f l to) (λ (to : BodyState written). bare (inside top f l to)) (λ to. refl) (step_at written at.depth at.stack at.place k))
 
 at_formals_done_bare : (top : Top written) (f : Section Locals) (k : Kind) → at_formals_done code (bare_top top) (held tree_locals f) k ≡ option_map bare (at_formals_done written top f k)
 at_formals_done_bare top f (kind.Fixed fixed.VarTemp) = refl
-at_formals_done_bare top f other = at_inside_bare top f absent (spot written 0 [] (statement none)) other
+at_formals_done_bare top f other = at_inside_bare top f absent (body_state written 0 [] (statement none)) other
 
 at_opened_bare : (top : Top written) (k : Kind) → at_opened code (bare_top top) k ≡ option_map bare (at_opened written top k)
 at_opened_bare top (kind.Fixed fixed.VarInOut) = by top.head.program

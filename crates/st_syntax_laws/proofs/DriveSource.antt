@@ -9,7 +9,7 @@ use Rattle.st_grammar.specs.Grammar.{is_global, GlobalsFit, FormalsFit, LocalsFi
 use Rattle.st_tree.specs.Naming.{is_free, may_name_global, names_block}
 use Rattle.st_grammar.specs.Levels.{levels_all, levels_items, levels_type, levels_globals, levels_locals, levels_section, levels_units, levels_source}
 use Rattle.st_grammar.specs.inner.Machine.{written, statement, Row, at_colon, at_type, at_square, at_item, at_comma, at_end, at_word, local_colon, local_end, Before, Top, Which, formals, temps, State, start, globals, row, between, heading, opened, formals_done, section, typing, inside, over}
-use Rattle.st_grammar.specs.inner.Steps.{spot, top_of, may_name, may_type, no_spot, ends, Passed, passes}
+use Rattle.st_grammar.specs.inner.Steps.{body_state, top_of, may_name, may_type, body_start, ends, Passed, passes}
 use Rattle.st_grammar.specs.declared.kind.Fixed.TheVariants as fixed
 use Rattle.st_grammar.specs.declared.kind.Kind.{Kind}
 use Rattle.st_grammar.specs.declared.kind.Kind.TheVariants as kind
@@ -107,13 +107,13 @@ abbrev is_over : Option (Passed written) → Bool
 is_over None = false
 is_over (Some r) = over_state r.state
 
-as_opened : (top : Top written) (ks : List Kind) (w : List ℕ) (text : Before written) (n : List ℕ) → Reaches (inside top absent absent (no_spot written)) w ks text n → Reaches (opened top) w ks text n
+as_opened : (top : Top written) (ks : List Kind) (w : List ℕ) (text : Before written) (n : List ℕ) → Reaches (inside top absent absent (body_start written)) w ks text n → Reaches (opened top) w ks text n
 as_opened top [] w text n h = absurd (let e : false ≡ true = ap is_over h in cc)
 as_opened top (kind.Fixed fixed.VarInOut ∷ ks) w text n h = absurd (let e : false ≡ true = ap is_over h in cc)
 as_opened top (kind.Fixed fixed.VarTemp ∷ ks) w text n h = absurd (let e : false ≡ true = ap is_over h in cc)
 as_opened top (other ∷ ks) w text n h = h
 
-as_formals_done : (top : Top written) (f : Section Locals) (ks : List Kind) (w : List ℕ) (text : Before written) (n : List ℕ) → Reaches (inside top f absent (no_spot written)) w ks text n → Reaches (formals_done top f) w ks text n
+as_formals_done : (top : Top written) (f : Section Locals) (ks : List Kind) (w : List ℕ) (text : Before written) (n : List ℕ) → Reaches (inside top f absent (body_start written)) w ks text n → Reaches (formals_done top f) w ks text n
 as_formals_done top f [] w text n h = absurd (let e : false ≡ true = ap is_over h in cc)
 as_formals_done top f (kind.Fixed fixed.VarTemp ∷ ks) w text n h = absurd (let e : false ≡ true = ap is_over h in cc)
 as_formals_done top f (other ∷ ks) w text n h = h
@@ -128,18 +128,18 @@ abbrev pub with_unit : Before written → Head → Section Locals → Section Lo
 with_unit text head f l body = record { globals = text.globals; units = unit text.units head f l body }
 
 pub unit_left : (text : Before written) (head : Head) (f l : Section Locals) (d : ℕ) (body : Statements) (p : Bool) (more : List Kind) (w : List ℕ) → head.program ≡ p →
-    passes written (inside (top_of written text head) f l (spot written d [] (statement body))) w (end_word p ∷ more) ≡ passes written (between (with_unit text head f l body)) (0 ∷ w) more
+    passes written (inside (top_of written text head) f l (body_state written d [] (statement body))) w (end_word p ∷ more) ≡ passes written (between (with_unit text head f l body)) (0 ∷ w) more
 unit_left text head f l d body true more w e = ap (λ (c : Bool). go w more (if ends true c then Some (between (with_unit text head f l body)) else None)) e
 unit_left text head f l d body false more w e = ap (λ (c : Bool). go w more (if ends false c then Some (between (with_unit text head f l body)) else None)) e
 
 body_read : (text : Before written) (head : Head) (f l : Section Locals) (body : Statements) (more : List Kind) (w : List ℕ) → AllFit false body →
-    passes written (inside (top_of written text head) f l (no_spot written)) w (spell_all body (end_word head.program ∷ more)) ≡ passes written (between (with_unit text head f l body)) (0 ∷ levels_all 0 body w) more
+    passes written (inside (top_of written text head) f l (body_start written)) w (spell_all body (end_word head.program ∷ more)) ≡ passes written (between (with_unit text head f l body)) (0 ∷ levels_all 0 body w) more
 body_read text head f l body more w h =
     drive_all (record { top = top_of written text head; formals = f; locals = l }) 0 [] body (end_word head.program ∷ more) w h
     ∙ unit_left text head f l 0 body head.program more (levels_all 0 body w) refl
 
 locals_read : (text : Before written) (head : Head) (f : Section Locals) (l : Locals) (ks : List Kind) (w : List ℕ) → LocalsFit l →
-    passes written (section (top_of written text head) (temps f) no_local) w (spell_locals l (kind.Fixed fixed.EndVar ∷ ks)) ≡ passes written (inside (top_of written text head) f (present l) (no_spot written)) (0 ∷ levels_locals l w) ks
+    passes written (section (top_of written text head) (temps f) no_local) w (spell_locals l (kind.Fixed fixed.EndVar ∷ ks)) ≡ passes written (inside (top_of written text head) f (present l) (body_start written)) (0 ∷ levels_locals l w) ks
 locals_read text head f l ks w h = locals_all (top_of written text head) (temps f) l (kind.Fixed fixed.EndVar ∷ ks) w (temps_declared f l h)
 
 formals_read : (text : Before written) (head : Head) (f : Locals) (ks : List Kind) (w : List ℕ) → HeadFits head.program (present f) →

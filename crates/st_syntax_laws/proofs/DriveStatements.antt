@@ -6,8 +6,8 @@ use Rattle.st_syntax_laws.proofs.Drive.{Unit_read, run, go, level_most, close, c
 use Rattle.st_grammar.specs.Forms.{Form, Actuals, no_actual, actual, Labels, label, more_labels, Statement, assign, write, invoke, choice, choice_else, cases, cases_else, loop, jump, Statements, none, empty, further, Arms, no_arm, arm, CaseArms, no_case, case_arm}
 use Rattle.st_grammar.specs.Grammar.{is_value, Binds, LabelsFit, Fits, AllFit, ArmsFit, CasesFit, arm_word, spell, spell_actuals, spell_labels, spell_one, spell_all, spell_arms, spell_cases}
 use Rattle.st_grammar.specs.Levels.{levels, levels_actuals, levels_labels, levels_one, levels_all, levels_arms, levels_cases}
-use Rattle.st_grammar.specs.inner.Machine.{written, Begun, Frame, waiting, within, to_var, to_area, area_value, test, selector, loop_test, choosing, otherwise, looping, selecting, otherwise_case, first_formal, given, first_label, labelled, statement, part, closing, operand, Spot, inside}
-use Rattle.st_grammar.specs.inner.Steps.{spot, in_loop, begun, Passed}
+use Rattle.st_grammar.specs.inner.Machine.{written, Begun, Frame, waiting, within, to_var, to_area, area_value, test, selector, loop_test, choosing, otherwise, looping, selecting, otherwise_case, first_formal, given, first_label, labelled, statement, part, closing, operand, BodyState, inside}
+use Rattle.st_grammar.specs.inner.Steps.{body_state, in_loop, begun, Passed}
 use Rattle.st_grammar.specs.declared.kind.Fixed.TheVariants as fixed
 use Rattle.st_grammar.specs.declared.kind.Kind.{Kind}
 use Rattle.st_grammar.specs.declared.kind.Kind.TheVariants as kind
@@ -37,7 +37,7 @@ labels_all : (u : Unit_read) (d : ℕ) (s : List (Frame written)) (b : Begun wri
 labels_all u d s b e others start w first (label c) more h = first c more h
 labels_all u d s b e others start w first (more_labels labels c) more h =
     labels_all u d s b e others start w first labels (comma ∷ kind.Literal c ∷ more) h.0
-    ∙ ap (λ (v : Bool). go (d ∷ levels_labels d labels w) more (option_map (λ (to : Spot written). inside u.top u.formals u.locals to) (if v then Some (spot written d s (part b (labelled e others (more_labels labels c)))) else None))) h.1
+    ∙ ap (λ (v : Bool). go (d ∷ levels_labels d labels w) more (option_map (λ (to : BodyState written). inside u.top u.formals u.locals to) (if v then Some (body_state written d s (part b (labelled e others (more_labels labels c)))) else None))) h.1
 
 -- Arms, where the tokens before them and the statements in them are passed
 
@@ -110,7 +110,7 @@ mutual
       drive u (suc d) (waiting (begun written before line) loop_test ∷ s) e (kind.Fixed fixed.Do) (spell_all body (kind.Fixed fixed.EndWhile ∷ kind.Fixed fixed.Semicolon ∷ more)) (suc d ∷ w) h.0 (level_most e) tt
       ∙ drive_all u (suc d) (within (begun written before line) (looping e) ∷ s) body (kind.Fixed fixed.EndWhile ∷ kind.Fixed fixed.Semicolon ∷ more) (suc d ∷ levels (suc d) e (suc d ∷ w)) h.1
   drive_one u d s before (jump line word) more w h =
-      ap (λ (v : Bool). go w (kind.Fixed fixed.Semicolon ∷ more) (option_map (λ (to : Spot written). inside u.top u.formals u.locals to) (if v then Some (spot written d s (closing before (jump line word))) else None))) h
+      ap (λ (v : Bool). go w (kind.Fixed fixed.Semicolon ∷ more) (option_map (λ (to : BodyState written). inside u.top u.formals u.locals to) (if v then Some (body_state written d s (closing before (jump line word))) else None))) h
 
   pub drive_all : (u : Unit_read) (d : ℕ) (s : List (Frame written)) (p : Statements) (more : List Kind) (w : List ℕ) → AllFit (in_loop written s) p →
       run u d s (statement none) w (spell_all p more) ≡ run u d s (statement p) (levels_all d p w) more
@@ -132,10 +132,11 @@ mutual
   pub drive_first : (u : Unit_read) (d : ℕ) (s : List (Frame written)) (b : Begun written) (e : Form) (arms : CaseArms) (c : Literal) (ks : List Kind) (w : List ℕ) → CasesFit (in_loop written s) arms → is_value c ≡ true →
       run u d s (part b (first_label e no_case)) w (spell_cases arms (kind.Literal c ∷ ks)) ≡ run u d s (part b (labelled e arms (label c))) (d ∷ levels_cases d arms w) ks
   drive_first u d s b e no_case c ks w h v =
-      ap (λ (x : Bool). go w ks (option_map (λ (to : Spot written). inside u.top u.formals u.locals to) (if x then Some (spot written d s (part b (labelled e no_case (label c)))) else None))) v
+      ap (λ (x : Bool). go w ks (option_map (λ (to : BodyState written). inside u.top u.formals u.locals to) (if x then Some (body_state written d s (part b (labelled e no_case (label c)))) else None))) v
   drive_first u d s b e (case_arm others labels body) c ks w h v =
       case_through u d s b e others labels body (kind.Literal c ∷ ks) w h.1
       (λ x more y. drive_first u d s b e others x more w h.0 y)
       (λ more n. drive_all u d (within b (selecting e others labels) ∷ s) body more n h.2)
-      ∙ ap (λ (x : Bool). go (levels_cases d (case_arm others labels body) w) ks (option_map (λ (to : Spot written). inside u.top u.formals u.locals to)
-      (if x then Some (spot written d s (part b (labelled e (case_arm others labels body) (label c)))) else None))) v
+      ∙ ap (λ (x : Bool). go (levels_cases d (case_arm others labels body) w) ks (option_map (λ (to : BodyState written). inside u.top u.formals u.locals to)
+      (if x then Some (body_state written d s (part b (labelled e (case_arm others labels body) (label c))))
+      else None))) v

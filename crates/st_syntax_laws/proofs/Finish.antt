@@ -11,7 +11,7 @@ use Rattle.st_grammar.specs.Forms.{Form, literal, group, prefix, infix_of, apply
 use Rattle.st_grammar.specs.Grammar.{infix_level, level, Binds, end_word}
 use Rattle.st_tree.specs.Naming.{is_free, may_name_global, names_block}
 use Rattle.st_grammar.specs.inner.Machine.{written, Begun, only, shifted, shifted_by, gate, first, second, to_var, to_area, area_value, test, selector, loop_test, choosing, otherwise, looping, selecting, otherwise_case, Frame, unary, left, bracket, argument, waiting, within, Part, target, write_open, first_formal, next_formal, becoming, giving, given, labelled, Place, statement, part, closing, operand, operator, opening, Row, at_word, at_place, at_colon, at_type, at_square, at_zero, at_dots, at_last, at_close, at_of, at_byte, at_becomes, at_open, at_item, at_count, at_value, at_value_end, at_comma, at_end, Typing, local_colon, local_type, local_end, Before, Top, Which, formals, temps, State, start, globals, row, between, heading, opened, formals_done, section, typing, inside, over}
-use Rattle.st_grammar.specs.inner.Steps.{shallower, limit, no_spot, passes}
+use Rattle.st_grammar.specs.inner.Steps.{shallower, limit, body_start, passes}
 use Rattle.st_grammar.specs.declared.kind.Fixed.TheVariants as fixed
 use Rattle.st_grammar.specs.declared.kind.Function.{Function}
 use Rattle.st_grammar.specs.declared.kind.Function.TheVariants as function
@@ -246,7 +246,7 @@ row_ends done name line (at_end v ty) w h = semicolon_ends
 abbrev unit_read : Top written → Section Locals → Section Locals → Unit_read
 unit_read top f l = record { top = top; formals = f; locals = l }
 
-inside_ends : {top : Top written} {f l : Section Locals} {w : List ℕ} → Ends (inside top f l (no_spot written)) w
+inside_ends : {top : Top written} {f l : Section Locals} {w : List ℕ} → Ends (inside top f l (body_start written)) w
 inside_ends {top = top} {f = f} {l = l} {w = w} = statement_ends (unit_read top f l) 0 [] none w tt
 
 -- the end word of a unit, directly after its head

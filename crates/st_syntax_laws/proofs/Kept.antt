@@ -8,8 +8,8 @@ use Rattle.st_syntax_laws.proofs.DriveSource.{Declared}
 use Rattle.st_grammar.specs.Forms.{Form, prefix, infix_of, Actuals, no_actual, actual, Labels, label, more_labels, Statements, CaseArms, Items, no_item}
 use Rattle.st_grammar.specs.Grammar.{prefix_level, infix_level, level, is_value, Binds, may_jump, LabelsFit, HasArm, HasCase, Fits, AllFit, ArmsFit, CasesFit, is_direct, is_global, GlobalsFit, LocalsFit, IfPresent, HeadFits, UnitsFit, prefix_kind, spell, comma_behind, spell_actuals, spell_labels, arm_word, spell_one, spell_all, spell_arms, spell_cases, comma_past, spell_items, spell_type, spell_globals, spell_locals, unit_word, spell_section, spell_formals, spell_temps, spell_head, spell_units}
 use Rattle.st_tree.specs.Naming.{may_name_global, may_name_unit, names_block}
-use Rattle.st_grammar.specs.inner.Machine.{written, Begun, Argument, only, shifted, shifted_by, gate, first, second, Use, to_var, to_area, area_value, test, selector, loop_test, Body, choosing, otherwise, looping, selecting, otherwise_case, Frame, unary, left, bracket, argument, waiting, within, Part, target, write_open, first_formal, next_formal, becoming, giving, given, first_label, next_label, labelled, Place, statement, part, closing, operand, operator, opening, Spot, Row, at_word, at_place, at_colon, at_type, at_square, at_zero, at_dots, at_last, at_close, at_of, at_byte, at_becomes, at_open, at_item, at_count, at_value, at_value_end, at_comma, at_end, Typing, local_colon, local_type, local_end, Before, Top, Which, formals, temps, State, start, globals, row, between, heading, opened, formals_done, section, typing, inside, over}
-use Rattle.st_grammar.specs.inner.Steps.{spot, shallower, weakest, limit, Reduced, reduce, reduced_to, with_prefix, closed, waits, in_loop, in_body, at_label, step_at, may_name, may_type}
+use Rattle.st_grammar.specs.inner.Machine.{written, Begun, Argument, only, shifted, shifted_by, gate, first, second, Use, to_var, to_area, area_value, test, selector, loop_test, Body, choosing, otherwise, looping, selecting, otherwise_case, Frame, unary, left, bracket, argument, waiting, within, Part, target, write_open, first_formal, next_formal, becoming, giving, given, first_label, next_label, labelled, Place, statement, part, closing, operand, operator, opening, BodyState, Row, at_word, at_place, at_colon, at_type, at_square, at_zero, at_dots, at_last, at_close, at_of, at_byte, at_becomes, at_open, at_item, at_count, at_value, at_value_end, at_comma, at_end, Typing, local_colon, local_type, local_end, Before, Top, Which, formals, temps, State, start, globals, row, between, heading, opened, formals_done, section, typing, inside, over}
+use Rattle.st_grammar.specs.inner.Steps.{body_state, shallower, weakest, limit, Reduced, reduce, reduced_to, with_prefix, closed, waits, in_loop, in_body, at_label, step_at, may_name, may_type}
 use Rattle.st_grammar.specs.declared.kind.Fixed.TheVariants as fixed
 use Rattle.st_grammar.specs.declared.kind.Function.{Function}
 use Rattle.st_grammar.specs.declared.kind.Function.TheVariants as function
@@ -269,26 +269,26 @@ Shaped (over text) = TextFits text
 
 -- A step keeps both
 
-abbrev pub past_spot : Spot written → List Kind → List Kind
-past_spot z more = past_stack z.stack (past_place z.place more)
+abbrev pub past_body_state : BodyState written → List Kind → List Kind
+past_body_state z more = past_stack z.stack (past_place z.place more)
 
-pub record KeptIn (before : List Kind → List Kind) (z : Spot written) : Type 0 where
+pub record KeptIn (before : List Kind → List Kind) (z : BodyState written) : Type 0 where
   pub fits : PlaceFits z.stack z.place
-  pub grown : (more : List Kind) → past_spot z more ≡ before more
+  pub grown : (more : List Kind) → past_body_state z more ≡ before more
 
 pub record Kept (before : List Kind → List Kind) (r : State written) : Type 0 where
   pub shaped : Shaped r
   pub grown : (more : List Kind) → past r more ≡ before more
 
-abbrev pub KeepsIn : (List Kind → List Kind) → Option (Spot written) → Type 0
+abbrev pub KeepsIn : (List Kind → List Kind) → Option (BodyState written) → Type 0
 KeepsIn before o = IfSome o (KeptIn before)
 
-same_in : (p q : List Kind → List Kind) → ((more : List Kind) → p more ≡ q more) → (o : Option (Spot written)) → KeepsIn p o → KeepsIn q o
+same_in : (p q : List Kind → List Kind) → ((more : List Kind) → p more ≡ q more) → (o : Option (BodyState written)) → KeepsIn p o → KeepsIn q o
 same_in p q e None h = tt
 same_in p q e (Some z) h = record { fits = h.fits; grown = λ more. h.grown more ∙ e more }
 
 -- a state that a test allows
-if_in : (before : List Kind → List Kind) (c : Bool) (z : Spot written) → (c ≡ true → KeptIn before z) → KeepsIn before (if c then Some z else None)
+if_in : (before : List Kind → List Kind) (c : Bool) (z : BodyState written) → (c ≡ true → KeptIn before z) → KeepsIn before (if c then Some z else None)
 if_in before true z h = h refl
 if_in before false z h = tt
 
@@ -365,7 +365,7 @@ waits_kept s f r op t = record { fits = (t.strong, t.binds, t.room, t.inner); gr
 
 prefix_kept : (d : ℕ) (s : List (Frame written)) (op : Prefix) → InExpr s → KeepsIn (λ more. past_stack s (prefix_kind op ∷ more)) (with_prefix written d s op)
 prefix_kept d s op h =
-    le_cases (prefix_level op) (limit written s) (λ c. KeepsIn (λ more. past_stack s (prefix_kind op ∷ more)) (if c then Some (spot written (suc d) (unary op ∷ s) operand) else None))
+    le_cases (prefix_level op) (limit written s) (λ c. KeepsIn (λ more. past_stack s (prefix_kind op ∷ more)) (if c then Some (body_state written (suc d) (unary op ∷ s) operand) else None))
     (λ low. record { fits = (low, h); grown = λ more. refl }) (λ high. tt)
 
 -- Statements

@@ -7,8 +7,8 @@ use Rattle.st_syntax_laws.proofs.Kept.{past_stack, past_place, past_array, past_
 use Rattle.st_grammar.specs.Forms.{Statements, none, Items, no_item, Globals, Locals, no_local, local, Section, absent, unit}
 use Rattle.st_grammar.specs.Grammar.{is_direct, GlobalsFit, FormalsFit, LocalsFit, IfPresent, HeadFits, AllFit, spell_all, comma_past, spell_items, spell_initial, spell_globals, end_word, spell_formals, spell_temps}
 use Rattle.st_tree.specs.Naming.{is_free, may_name_global, may_name_unit, names_block}
-use Rattle.st_grammar.specs.inner.Machine.{written, Frame, Place, statement, Spot, Row, at_word, at_place, at_colon, at_type, at_square, at_zero, at_dots, at_last, at_close, at_of, at_byte, at_becomes, at_open, at_item, at_count, at_value, at_value_end, at_comma, at_end, local_colon, local_type, local_end, Before, Top, formals, temps, State, start, globals, row, between, heading, opened, formals_done, section, typing, inside}
-use Rattle.st_grammar.specs.inner.Steps.{spot, step_at, row_step, before_units, may_name, may_type, at_between, ends, leave, at_inside, at_formals_done, next}
+use Rattle.st_grammar.specs.inner.Machine.{written, Frame, Place, statement, BodyState, Row, at_word, at_place, at_colon, at_type, at_square, at_zero, at_dots, at_last, at_close, at_of, at_byte, at_becomes, at_open, at_item, at_count, at_value, at_value_end, at_comma, at_end, local_colon, local_type, local_end, Before, Top, formals, temps, State, start, globals, row, between, heading, opened, formals_done, section, typing, inside}
+use Rattle.st_grammar.specs.inner.Steps.{body_state, step_at, row_step, before_units, may_name, may_type, at_between, ends, leave, at_inside, at_formals_done, next}
 use Rattle.st_grammar.specs.declared.kind.Fixed.TheVariants as fixed
 use Rattle.st_grammar.specs.declared.kind.Kind.{Kind}
 use Rattle.st_grammar.specs.declared.kind.Kind.TheVariants as kind
@@ -106,27 +106,27 @@ left_kept program top f l body c e t hf hl hb = record {
   grown = λ more. ap (λ (c : Bool). past_top top (spell_formals f (spell_temps l (spell_all body (end_word c ∷ more))))) e;
 }
 
-leave_kept : (program : Bool) (top : Top written) (f l : Section Locals) (d : ℕ) (s : List (Frame written)) (p : Place written) → Shaped (inside top f l (spot written d s p))
-    → Keeps (inside top f l (spot written d s p)) (end_word program) (leave written program top f l s p)
+leave_kept : (program : Bool) (top : Top written) (f l : Section Locals) (d : ℕ) (s : List (Frame written)) (p : Place written) → Shaped (inside top f l (body_state written d s p))
+    → Keeps (inside top f l (body_state written d s p)) (end_word program) (leave written program top f l s p)
 leave_kept program top f l d [] (statement body) h = left_kept program top f l body top.head.program refl h.0 h.1 h.2 h.3.1
 leave_kept program top f l d s p h = tt
 
-entered : (top : Top written) (f l : Section Locals) (at : Spot written) (k : Kind) (o : Option (Spot written)) → Shaped (inside top f l at) → IfSome o (KeptIn (λ more. past_stack at.stack (past_place at.place (k ∷ more))))
-    → Keeps (inside top f l at) k (option_map (λ (to : Spot written). inside top f l to) o)
+entered : (top : Top written) (f l : Section Locals) (at : BodyState written) (k : Kind) (o : Option (BodyState written)) → Shaped (inside top f l at) → IfSome o (KeptIn (λ more. past_stack at.stack (past_place at.place (k ∷ more))))
+    → Keeps (inside top f l at) k (option_map (λ (to : BodyState written). inside top f l to) o)
 entered top f l at k None h z = tt
 entered top f l at k (Some to) h z = record {
   shaped = (h.0, h.1, h.2, z.fits);
   grown = λ more. ap (λ (ks : List Kind). past_top top (spell_formals f (spell_temps l ks))) (z.grown more);
 }
 
-at_inside_kept : (top : Top written) (f l : Section Locals) (at : Spot written) (k : Kind) → Shaped (inside top f l at) → Keeps (inside top f l at) k (at_inside written top f l at k)
+at_inside_kept : (top : Top written) (f l : Section Locals) (at : BodyState written) (k : Kind) → Shaped (inside top f l at) → Keeps (inside top f l at) k (at_inside written top f l at k)
 at_inside_kept top f l at (kind.Fixed fixed.EndProgram) h = leave_kept true top f l at.depth at.stack at.place h
 at_inside_kept top f l at (kind.Fixed fixed.EndFunction) h = leave_kept false top f l at.depth at.stack at.place h
 at_inside_kept top f l at k h = entered top f l at k (step_at written at.depth at.stack at.place k) h (step_kept at.depth at.stack at.place k h.3)
 
 at_formals_done_kept : (top : Top written) (f : Section Locals) (k : Kind) → TopFits top → HeadFits top.head.program f → Keeps (formals_done top f) k (at_formals_done written top f k)
 at_formals_done_kept top f (kind.Fixed fixed.VarTemp) t h = record { shaped = (t, h, tt); grown = λ more. refl }
-at_formals_done_kept top f other t h = at_inside_kept top f absent (spot written 0 [] (statement none)) other (t, h, tt, (tt, tt))
+at_formals_done_kept top f other t h = at_inside_kept top f absent (body_state written 0 [] (statement none)) other (t, h, tt, (tt, tt))
 
 in_out_kept : (top : Top written) (c : Bool) → top.head.program ≡ c → TopFits top → Keeps (opened top) (kind.Fixed fixed.VarInOut) (if c then None else Some (section top formals no_local))
 in_out_kept top true e t = tt

@@ -449,7 +449,7 @@ pub data Place (m : Mode) : Type 0 where
   opening : Function → Place m
 
 -- where the pass is in statements: the depth, what is open, what may come next
-pub record Spot (m : Mode) : Type 0 where
+pub record BodyState (m : Mode) : Type 0 where
   pub depth : ℕ
   pub stack : List (Frame m)
   pub place : Place m
@@ -508,5 +508,5 @@ pub data State (m : Mode) : Type 0 where
   formals_done : Top m → LocalSectionIn m → State m
   section : Top m → Which m → LocalsIn m → State m
   typing : Top m → Which m → LocalsIn m → List ℕ → Line → Typing → State m
-  inside : Top m → LocalSectionIn m → LocalSectionIn m → Spot m → State m
+  inside : Top m → LocalSectionIn m → LocalSectionIn m → BodyState m → State m
   over : Before m → State m

@@ -3,7 +3,7 @@ use Rattle.std.specs.Prelude.{ℕ, zero, suc, ◌+◌, ◌-◌, Bool, true, fals
 use Rattle.s7_base.specs.declared.reason.Line.{Line}
 use Rattle.st_grammar.specs.Grammar.{prefix_level, infix_level, is_value, may_jump, is_direct, is_formal_type}
 use Rattle.st_tree.specs.Naming.{is_free, may_name_global, may_name_local, may_name_unit, names_block}
-use Rattle.st_grammar.specs.inner.Machine.{Mode, ExprIn, StatementsIn, StatementIn, CasesIn, LabelsIn, VarIn, HeadIn, GlobalSectionIn, GlobalsIn, LocalsIn, LocalSectionIn, of_literal, of_variable, of_group, of_prefix, of_infix, of_apply, of_shift, of_select, height_in, no_statements, add_empty, add_statement, no_arms, add_arm, no_cases, add_case, of_label, add_label, named, at_var, no_actuals, add_actual, of_assign, of_write, of_invoke, of_choice, of_choice_else, of_cases, of_cases_else, of_loop, of_jump, no_items, add_single, add_times, of_plain, of_bytes, no_globals, add_global, no_locals, add_local, no_global_section, global_section, no_section, section_of, head_of, is_program, no_units, add_unit, Begun, Argument, only, shifted, shifted_by, gate, first, second, Use, to_var, to_area, area_value, test, selector, loop_test, Body, choosing, otherwise, looping, selecting, otherwise_case, Frame, unary, left, bracket, argument, waiting, within, Part, target, write_open, first_formal, next_formal, becoming, giving, given, first_label, next_label, labelled, Place, statement, part, closing, operand, operator, opening, Spot, Row, at_word, at_place, at_colon, at_type, at_square, at_zero, at_dots, at_last, at_close, at_of, at_byte, at_becomes, at_open, at_item, at_count, at_value, at_value_end, at_comma, at_end, Typing, local_colon, local_type, local_end, Before, Top, Which, formals, temps, State, start, globals, row, between, heading, opened, formals_done, section, typing, inside, over}
+use Rattle.st_grammar.specs.inner.Machine.{Mode, ExprIn, StatementsIn, StatementIn, CasesIn, LabelsIn, VarIn, HeadIn, GlobalSectionIn, GlobalsIn, LocalsIn, LocalSectionIn, of_literal, of_variable, of_group, of_prefix, of_infix, of_apply, of_shift, of_select, height_in, no_statements, add_empty, add_statement, no_arms, add_arm, no_cases, add_case, of_label, add_label, named, at_var, no_actuals, add_actual, of_assign, of_write, of_invoke, of_choice, of_choice_else, of_cases, of_cases_else, of_loop, of_jump, no_items, add_single, add_times, of_plain, of_bytes, no_globals, add_global, no_locals, add_local, no_global_section, global_section, no_section, section_of, head_of, is_program, no_units, add_unit, Begun, Argument, only, shifted, shifted_by, gate, first, second, Use, to_var, to_area, area_value, test, selector, loop_test, Body, choosing, otherwise, looping, selecting, otherwise_case, Frame, unary, left, bracket, argument, waiting, within, Part, target, write_open, first_formal, next_formal, becoming, giving, given, first_label, next_label, labelled, Place, statement, part, closing, operand, operator, opening, BodyState, Row, at_word, at_place, at_colon, at_type, at_square, at_zero, at_dots, at_last, at_close, at_of, at_byte, at_becomes, at_open, at_item, at_count, at_value, at_value_end, at_comma, at_end, Typing, local_colon, local_type, local_end, Before, Top, Which, formals, temps, State, start, globals, row, between, heading, opened, formals_done, section, typing, inside, over}
 use Rattle.st_grammar.specs.declared.kind.Fixed.TheVariants as fixed
 use Rattle.st_grammar.specs.declared.kind.Function.{Function}
 use Rattle.st_grammar.specs.declared.kind.Function.TheVariants as function
@@ -23,8 +23,8 @@ use Rattle.st_tree.specs.declared.raw.RawVar.{RawVar}
 use Rattle.st_tree.specs.declared.raw.RawVar.TheVariants as var
 
 -- where the pass is in statements, from its parts
-abbrev pub spot : (m : Mode) → ℕ → List (Frame m) → Place m → Spot m
-spot m d s p = record { depth = d; stack = s; place = p }
+abbrev pub body_state : (m : Mode) → ℕ → List (Frame m) → Place m → BodyState m
+body_state m d s p = record { depth = d; stack = s; place = p }
 
 -- one level less
 abbrev pub shallower : ℕ → ℕ
@@ -77,76 +77,77 @@ function_argument m (function.Shift op) = shifted op
 function_argument m function.Select = gate
 
 -- `-` or NOT before an operand, where the operator before it leaves room for its precedence
-abbrev pub with_prefix : (m : Mode) → ℕ → List (Frame m) → Prefix → Option (Spot m)
+abbrev pub with_prefix : (m : Mode) → ℕ → List (Frame m) → Prefix → Option (BodyState m)
 with_prefix m d s op =
-    if nat_le (prefix_level op) (limit m s) then Some (spot m (suc d) (unary op ∷ s) operand) else None
+    if nat_le (prefix_level op) (limit m s) then Some (body_state m (suc d) (unary op ∷ s) operand) else None
 
 -- a token where an operand must begin
-abbrev pub at_operand : (m : Mode) → ℕ → List (Frame m) → Kind → Option (Spot m)
-at_operand m d s (kind.Literal c) = if is_value c then Some (spot m d s (operator (of_literal m c))) else None
-at_operand m d s (kind.Variable v line) = Some (spot m d s (operator (of_variable m v line)))
+abbrev pub at_operand : (m : Mode) → ℕ → List (Frame m) → Kind → Option (BodyState m)
+at_operand m d s (kind.Literal c) = if is_value c then Some (body_state m d s (operator (of_literal m c))) else None
+at_operand m d s (kind.Variable v line) = Some (body_state m d s (operator (of_variable m v line)))
 at_operand m d s (kind.Fixed fixed.Not) = with_prefix m d s before.Not
 at_operand m d s (kind.Fixed (fixed.Between binary.Sub)) = with_prefix m d s before.Minus
-at_operand m d s (kind.Fixed fixed.Open) = Some (spot m (suc d) (bracket ∷ s) operand)
-at_operand m d s (kind.Fixed (fixed.Function f)) = Some (spot m d s (opening f))
+at_operand m d s (kind.Fixed fixed.Open) = Some (body_state m (suc d) (bracket ∷ s) operand)
+at_operand m d s (kind.Fixed (fixed.Function f)) = Some (body_state m d s (opening f))
 at_operand m d s other = None
 
 -- the bracket after the word of a function, the one token that may stand there
-abbrev pub at_opening : (m : Mode) → ℕ → List (Frame m) → Function → Kind → Option (Spot m)
-at_opening m d s f (kind.Fixed fixed.Open) = Some (spot m (suc d) (argument (function_argument m f) ∷ s) operand)
+abbrev pub at_opening : (m : Mode) → ℕ → List (Frame m) → Function → Kind → Option (BodyState m)
+at_opening m d s f (kind.Fixed fixed.Open) = Some (body_state m (suc d) (argument (function_argument m f) ∷ s) operand)
 at_opening m d s f other = None
 
 -- the last operand of a function ends
-abbrev pub close_argument : (m : Mode) → ℕ → List (Frame m) → Argument m → ExprIn m → Option (Spot m)
-close_argument m d s (only op) e = Some (spot m (shallower d) s (operator (of_apply m op e)))
-close_argument m d s (shifted_by op a) e = Some (spot m (shallower d) s (operator (of_shift m op a e)))
-close_argument m d s (second a b) e = Some (spot m (shallower d) s (operator (of_select m a b e)))
+abbrev pub close_argument : (m : Mode) → ℕ → List (Frame m) → Argument m → ExprIn m → Option (BodyState m)
+close_argument m d s (only op) e = Some (body_state m (shallower d) s (operator (of_apply m op e)))
+close_argument m d s (shifted_by op a) e = Some (body_state m (shallower d) s (operator (of_shift m op a e)))
+close_argument m d s (second a b) e = Some (body_state m (shallower d) s (operator (of_select m a b e)))
 close_argument m d s a e = None
 
 -- an operand of a function ends before another
-abbrev pub next_argument : (m : Mode) → ℕ → List (Frame m) → Argument m → ExprIn m → Option (Spot m)
-next_argument m d s (shifted op) e = Some (spot m d (argument (shifted_by op e) ∷ s) operand)
-next_argument m d s gate e = Some (spot m d (argument (first e) ∷ s) operand)
-next_argument m d s (first a) e = Some (spot m d (argument (second a e) ∷ s) operand)
+abbrev pub next_argument : (m : Mode) → ℕ → List (Frame m) → Argument m → ExprIn m → Option (BodyState m)
+next_argument m d s (shifted op) e = Some (body_state m d (argument (shifted_by op e) ∷ s) operand)
+next_argument m d s gate e = Some (body_state m d (argument (first e) ∷ s) operand)
+next_argument m d s (first a) e = Some (body_state m d (argument (second a e) ∷ s) operand)
 next_argument m d s a e = None
 
 -- an operand of a function ends
-abbrev pub argument_closed : (m : Mode) → ℕ → List (Frame m) → Argument m → ExprIn m → Kind → Option (Spot m)
+abbrev pub argument_closed : (m : Mode) → ℕ → List (Frame m) → Argument m → ExprIn m → Kind → Option (BodyState m)
 argument_closed m d s a e (kind.Fixed fixed.Close) = close_argument m d s a e
 argument_closed m d s a e (kind.Fixed fixed.Comma) = next_argument m d s a e
 argument_closed m d s a e other = None
 
 -- the expression that a statement needs ends
-abbrev pub use_closed : (m : Mode) → ℕ → List (Frame m) → Begun m → Use m → ExprIn m → Kind → Option (Spot m)
-use_closed m d s b (to_var v) e (kind.Fixed fixed.Semicolon) = Some (spot m d s (statement (add_statement m b.before (of_assign m b.line v e))))
-use_closed m d s b (to_area w) e (kind.Fixed fixed.Comma) = Some (spot m d (waiting b (area_value w e) ∷ s) operand)
-use_closed m d s b (area_value w p) e (kind.Fixed fixed.Close) = Some (spot m (shallower d) s (closing b.before (of_write m b.line w p e)))
-use_closed m d s b (test arms) e (kind.Fixed fixed.Then) = Some (spot m d (within b (choosing arms e) ∷ s) (statement (no_statements m)))
-use_closed m d s b selector e (kind.Fixed fixed.Of) = Some (spot m d s (part b (first_label e (no_cases m))))
-use_closed m d s b loop_test e (kind.Fixed fixed.Do) = Some (spot m d (within b (looping e) ∷ s) (statement (no_statements m)))
+abbrev pub use_closed : (m : Mode) → ℕ → List (Frame m) → Begun m → Use m → ExprIn m → Kind → Option (BodyState m)
+use_closed m d s b (to_var v) e (kind.Fixed fixed.Semicolon) = Some (body_state m d s (statement (add_statement m b.before (of_assign m b.line v e))))
+use_closed m d s b (to_area w) e (kind.Fixed fixed.Comma) =
+    Some (body_state m d (waiting b (area_value w e) ∷ s) operand)
+use_closed m d s b (area_value w p) e (kind.Fixed fixed.Close) = Some (body_state m (shallower d) s (closing b.before (of_write m b.line w p e)))
+use_closed m d s b (test arms) e (kind.Fixed fixed.Then) = Some (body_state m d (within b (choosing arms e) ∷ s) (statement (no_statements m)))
+use_closed m d s b selector e (kind.Fixed fixed.Of) = Some (body_state m d s (part b (first_label e (no_cases m))))
+use_closed m d s b loop_test e (kind.Fixed fixed.Do) = Some (body_state m d (within b (looping e) ∷ s) (statement (no_statements m)))
 use_closed m d s b u e other = None
 
 -- an expression ends at a token that is no operator
-abbrev pub closed : (m : Mode) → ℕ → List (Frame m) → ExprIn m → Kind → Option (Spot m)
+abbrev pub closed : (m : Mode) → ℕ → List (Frame m) → ExprIn m → Kind → Option (BodyState m)
 closed m d [] e k = None
 closed m d (unary op ∷ s) e k = None
 closed m d (left op a ∷ s) e k = None
-closed m d (bracket ∷ s) e (kind.Fixed fixed.Close) = Some (spot m (shallower d) s (operator (of_group m e)))
+closed m d (bracket ∷ s) e (kind.Fixed fixed.Close) = Some (body_state m (shallower d) s (operator (of_group m e)))
 closed m d (bracket ∷ s) e k = None
 closed m d (argument a ∷ s) e k = argument_closed m d s a e k
 closed m d (waiting b u ∷ s) e k = use_closed m d s b u e k
 closed m d (within b y ∷ s) e k = None
 
 -- an expression whose operators have their operands ends at a token that is no operator
-abbrev pub closed_to : (m : Mode) → Reduced m → Kind → Option (Spot m)
+abbrev pub closed_to : (m : Mode) → Reduced m → Kind → Option (BodyState m)
 closed_to m r k = closed m r.depth r.stack r.operand k
 
 -- an operator between operands waits for the one after it
-abbrev pub waits : (m : Mode) → BinaryOp → Reduced m → Spot m
-waits m op r = spot m r.depth (left op r.operand ∷ r.stack) operand
+abbrev pub waits : (m : Mode) → BinaryOp → Reduced m → BodyState m
+waits m op r = body_state m r.depth (left op r.operand ∷ r.stack) operand
 
 -- a token after an operand: an operator between operands, or one that ends the expression
-abbrev pub at_operator : (m : Mode) → ℕ → List (Frame m) → ExprIn m → Kind → Option (Spot m)
+abbrev pub at_operator : (m : Mode) → ℕ → List (Frame m) → ExprIn m → Kind → Option (BodyState m)
 at_operator m d s e (kind.Fixed (fixed.Between op)) = Some (waits m op (reduce m (infix_level op) d s e))
 at_operator m d s e other = closed_to m (reduce m weakest d s e) other
 
@@ -163,29 +164,31 @@ in_loop m [] = false
 in_loop m (frame ∷ s) = is_loop m frame || in_loop m s
 
 -- statements end, or a further arm begins
-abbrev pub body_closed : (m : Mode) → ℕ → List (Frame m) → Begun m → Body m → StatementsIn m → Kind → Option (Spot m)
+abbrev pub body_closed : (m : Mode) → ℕ → List (Frame m) → Begun m → Body m → StatementsIn m → Kind
+    → Option (BodyState m)
 body_closed m d s b (choosing arms e) body (kind.Fixed fixed.Elsif) =
-    Some (spot m d (waiting b (test (add_arm m arms e body)) ∷ s) operand)
+    Some (body_state m d (waiting b (test (add_arm m arms e body)) ∷ s) operand)
 body_closed m d s b (choosing arms e) body (kind.Fixed fixed.Else) =
-    Some (spot m d (within b (otherwise (add_arm m arms e body)) ∷ s) (statement (no_statements m)))
+    Some (body_state m d (within b (otherwise (add_arm m arms e body)) ∷ s) (statement (no_statements m)))
 body_closed m d s b (choosing arms e) body (kind.Fixed fixed.EndIf) =
-    Some (spot m (shallower d) s (closing b.before (of_choice m b.line (add_arm m arms e body))))
+    Some (body_state m (shallower d) s (closing b.before (of_choice m b.line (add_arm m arms e body))))
 body_closed m d s b (otherwise arms) body (kind.Fixed fixed.EndIf) =
-    Some (spot m (shallower d) s (closing b.before (of_choice_else m b.line arms body)))
+    Some (body_state m (shallower d) s (closing b.before (of_choice_else m b.line arms body)))
 body_closed m d s b (looping e) body (kind.Fixed fixed.EndWhile) =
-    Some (spot m (shallower d) s (closing b.before (of_loop m b.line e body)))
+    Some (body_state m (shallower d) s (closing b.before (of_loop m b.line e body)))
 body_closed m d s b (selecting e arms labels) body (kind.Literal c) =
-    if is_value c then Some (spot m d s (part b (labelled e (add_case m arms labels body) (of_label m c)))) else None
+    if is_value c then Some (body_state m d s (part b (labelled e (add_case m arms labels body) (of_label m c))))
+    else None
 body_closed m d s b (selecting e arms labels) body (kind.Fixed fixed.Else) =
-    Some (spot m d (within b (otherwise_case e (add_case m arms labels body)) ∷ s) (statement (no_statements m)))
+    Some (body_state m d (within b (otherwise_case e (add_case m arms labels body)) ∷ s) (statement (no_statements m)))
 body_closed m d s b (selecting e arms labels) body (kind.Fixed fixed.EndCase) =
-    Some (spot m (shallower d) s (closing b.before (of_cases m b.line e (add_case m arms labels body))))
+    Some (body_state m (shallower d) s (closing b.before (of_cases m b.line e (add_case m arms labels body))))
 body_closed m d s b (otherwise_case e arms) body (kind.Fixed fixed.EndCase) =
-    Some (spot m (shallower d) s (closing b.before (of_cases_else m b.line e arms body)))
+    Some (body_state m (shallower d) s (closing b.before (of_cases_else m b.line e arms body)))
 body_closed m d s b y body other = None
 
 -- a token that ends statements, or begins a further arm, of the innermost statement that is open
-abbrev pub in_body : (m : Mode) → ℕ → List (Frame m) → StatementsIn m → Kind → Option (Spot m)
+abbrev pub in_body : (m : Mode) → ℕ → List (Frame m) → StatementsIn m → Kind → Option (BodyState m)
 in_body m d (within b y ∷ s) body k = body_closed m d s b y body k
 in_body m d other body k = None
 
@@ -194,73 +197,75 @@ abbrev pub begun : (m : Mode) → StatementsIn m → Line → Begun m
 begun m before line = record { before = before; line = line }
 
 -- the word that a statement begins with; EXIT and CONTINUE only in a WHILE
-abbrev pub at_lead : (m : Mode) → ℕ → List (Frame m) → StatementsIn m → Lead → Line → Option (Spot m)
-at_lead m d s body lead.If line = Some (spot m (suc d) (waiting (begun m body line) (test (no_arms m)) ∷ s) operand)
-at_lead m d s body lead.Case line = Some (spot m (suc d) (waiting (begun m body line) selector ∷ s) operand)
-at_lead m d s body lead.While line = Some (spot m (suc d) (waiting (begun m body line) loop_test ∷ s) operand)
+abbrev pub at_lead : (m : Mode) → ℕ → List (Frame m) → StatementsIn m → Lead → Line → Option (BodyState m)
+at_lead m d s body lead.If line =
+    Some (body_state m (suc d) (waiting (begun m body line) (test (no_arms m)) ∷ s) operand)
+at_lead m d s body lead.Case line = Some (body_state m (suc d) (waiting (begun m body line) selector ∷ s) operand)
+at_lead m d s body lead.While line = Some (body_state m (suc d) (waiting (begun m body line) loop_test ∷ s) operand)
 at_lead m d s body (lead.Jump word) line =
-    if may_jump (in_loop m s) word then Some (spot m d s (closing body (of_jump m line word))) else None
-at_lead m d s body (lead.AreaWrite w) line = Some (spot m d s (part (begun m body line) (write_open w)))
+    if may_jump (in_loop m s) word then Some (body_state m d s (closing body (of_jump m line word))) else None
+at_lead m d s body (lead.AreaWrite w) line = Some (body_state m d s (part (begun m body line) (write_open w)))
 at_lead m d s body other line = None
 
 -- a token where a statement may begin or statements end
-abbrev pub at_statement : (m : Mode) → ℕ → List (Frame m) → StatementsIn m → Kind → Option (Spot m)
-at_statement m d s body (kind.Variable v line) = Some (spot m d s (part (begun m body line) (target v)))
+abbrev pub at_statement : (m : Mode) → ℕ → List (Frame m) → StatementsIn m → Kind → Option (BodyState m)
+at_statement m d s body (kind.Variable v line) = Some (body_state m d s (part (begun m body line) (target v)))
 at_statement m d s body (kind.Lead word line) = at_lead m d s body word line
-at_statement m d s body (kind.Fixed fixed.Semicolon) = Some (spot m d s (statement (add_empty m body)))
+at_statement m d s body (kind.Fixed fixed.Semicolon) = Some (body_state m d s (statement (add_empty m body)))
 at_statement m d s body other = in_body m d s body other
 
 -- a token after a variable at the beginning of a statement: `:=`, or the bracket of a call
-abbrev pub at_target : (m : Mode) → ℕ → List (Frame m) → Begun m → RawVar → Kind → Option (Spot m)
-at_target m d s b v (kind.Fixed fixed.Becomes) = Some (spot m d (waiting b (to_var v) ∷ s) operand)
-at_target m d s b (var.Name name) (kind.Fixed fixed.Open) = Some (spot m (suc d) s (part b (first_formal name)))
+abbrev pub at_target : (m : Mode) → ℕ → List (Frame m) → Begun m → RawVar → Kind → Option (BodyState m)
+at_target m d s b v (kind.Fixed fixed.Becomes) = Some (body_state m d (waiting b (to_var v) ∷ s) operand)
+at_target m d s b (var.Name name) (kind.Fixed fixed.Open) = Some (body_state m (suc d) s (part b (first_formal name)))
 at_target m d s b v other = None
 
 -- a label of an arm where one must stand
 abbrev pub at_label : (m : Mode) → ℕ → List (Frame m) → Begun m → ExprIn m → CasesIn m → (Literal → LabelsIn m) → Kind
-    → Option (Spot m)
+    → Option (BodyState m)
 at_label m d s b e arms labels (kind.Literal c) =
-    if is_value c then Some (spot m d s (part b (labelled e arms (labels c)))) else None
+    if is_value c then Some (body_state m d s (part b (labelled e arms (labels c)))) else None
 at_label m d s b e arms labels other = None
 
 -- a call: formals with their variables
-abbrev pub at_call : (m : Mode) → ℕ → List (Frame m) → Begun m → Part m → Kind → Option (Spot m)
+abbrev pub at_call : (m : Mode) → ℕ → List (Frame m) → Begun m → Part m → Kind → Option (BodyState m)
 at_call m d s b (first_formal name) (kind.Variable (var.Name formal) line) =
-    Some (spot m d s (part b (becoming name (no_actuals m) (named m formal line))))
+    Some (body_state m d s (part b (becoming name (no_actuals m) (named m formal line))))
 at_call m d s b (first_formal name) (kind.Fixed fixed.Close) =
-    Some (spot m (shallower d) s (closing b.before (of_invoke m b.line name (no_actuals m))))
+    Some (body_state m (shallower d) s (closing b.before (of_invoke m b.line name (no_actuals m))))
 at_call m d s b (next_formal name actuals) (kind.Variable (var.Name formal) line) =
-    Some (spot m d s (part b (becoming name actuals (named m formal line))))
+    Some (body_state m d s (part b (becoming name actuals (named m formal line))))
 at_call m d s b (becoming name actuals formal) (kind.Fixed fixed.Becomes) =
-    Some (spot m d s (part b (giving name actuals formal)))
+    Some (body_state m d s (part b (giving name actuals formal)))
 at_call m d s b (giving name actuals formal) (kind.Variable v line) =
-    Some (spot m d s (part b (given name (add_actual m actuals formal v line))))
-at_call m d s b (given name actuals) (kind.Fixed fixed.Comma) = Some (spot m d s (part b (next_formal name actuals)))
+    Some (body_state m d s (part b (given name (add_actual m actuals formal v line))))
+at_call m d s b (given name actuals) (kind.Fixed fixed.Comma) =
+    Some (body_state m d s (part b (next_formal name actuals)))
 at_call m d s b (given name actuals) (kind.Fixed fixed.Close) =
-    Some (spot m (shallower d) s (closing b.before (of_invoke m b.line name actuals)))
+    Some (body_state m (shallower d) s (closing b.before (of_invoke m b.line name actuals)))
 at_call m d s b x other = None
 
 -- a token in a part of a statement that is no expression
-abbrev pub at_part : (m : Mode) → ℕ → List (Frame m) → Begun m → Part m → Kind → Option (Spot m)
+abbrev pub at_part : (m : Mode) → ℕ → List (Frame m) → Begun m → Part m → Kind → Option (BodyState m)
 at_part m d s b (target v) k = at_target m d s b v k
-at_part m d s b (write_open w) (kind.Fixed fixed.Open) = Some (spot m (suc d) (waiting b (to_area w) ∷ s) operand)
+at_part m d s b (write_open w) (kind.Fixed fixed.Open) = Some (body_state m (suc d) (waiting b (to_area w) ∷ s) operand)
 at_part m d s b (write_open w) k = None
 at_part m d s b (first_label e arms) k = at_label m d s b e arms (of_label m) k
 at_part m d s b (next_label e arms labels) k = at_label m d s b e arms (add_label m labels) k
 at_part m d s b (labelled e arms labels) (kind.Fixed fixed.Comma) =
-    Some (spot m d s (part b (next_label e arms labels)))
+    Some (body_state m d s (part b (next_label e arms labels)))
 at_part m d s b (labelled e arms labels) (kind.Fixed fixed.Colon) =
-    Some (spot m d (within b (selecting e arms labels) ∷ s) (statement (no_statements m)))
+    Some (body_state m d (within b (selecting e arms labels) ∷ s) (statement (no_statements m)))
 at_part m d s b (labelled e arms labels) k = None
 at_part m d s b x k = at_call m d s b x k
 
 -- the `;` after a statement, the one token that may stand there
-abbrev pub at_closing : (m : Mode) → ℕ → List (Frame m) → StatementsIn m → StatementIn m → Kind → Option (Spot m)
-at_closing m d s before x (kind.Fixed fixed.Semicolon) = Some (spot m d s (statement (add_statement m before x)))
+abbrev pub at_closing : (m : Mode) → ℕ → List (Frame m) → StatementsIn m → StatementIn m → Kind → Option (BodyState m)
+at_closing m d s before x (kind.Fixed fixed.Semicolon) = Some (body_state m d s (statement (add_statement m before x)))
 at_closing m d s before x other = None
 
 -- one token in statements, by the place
-abbrev pub step_at : (m : Mode) → ℕ → List (Frame m) → Place m → Kind → Option (Spot m)
+abbrev pub step_at : (m : Mode) → ℕ → List (Frame m) → Place m → Kind → Option (BodyState m)
 step_at m d s (statement body) k = at_statement m d s body k
 step_at m d s (part b x) k = at_part m d s b x k
 step_at m d s (closing before x) k = at_closing m d s before x k
@@ -269,7 +274,7 @@ step_at m d s (operator e) k = at_operator m d s e k
 step_at m d s (opening f) k = at_opening m d s f k
 
 -- one token in statements
-abbrev pub step : (m : Mode) → Spot m → Kind → Option (Spot m)
+abbrev pub step : (m : Mode) → BodyState m → Kind → Option (BodyState m)
 step m at k = step_at m at.depth at.stack at.place k
 
 -- Globals
@@ -394,13 +399,13 @@ may_type m formals ty = is_formal_type ty
 may_type m (temps before) ty = true
 
 -- the beginning of a unit's statements
-abbrev pub no_spot : (m : Mode) → Spot m
-no_spot m = spot m 0 [] (statement (no_statements m))
+abbrev pub body_start : (m : Mode) → BodyState m
+body_start m = body_state m 0 [] (statement (no_statements m))
 
 -- a section of a unit ends; after the locals come its statements
 abbrev pub section_end : (m : Mode) → Top m → Which m → LocalsIn m → State m
 section_end m top formals done = formals_done top (section_of m done)
-section_end m top (temps before) done = inside top before (section_of m done) (no_spot m)
+section_end m top (temps before) done = inside top before (section_of m done) (body_start m)
 
 -- a token in a section of a unit where a declaration may begin
 abbrev pub at_section : (m : Mode) → Top m → Which m → LocalsIn m → Kind → Option (State m)
@@ -438,15 +443,15 @@ leave m program top before locals [] (statement body) =
 leave m program top before locals s p = None
 
 -- a token in a unit's statements, or its end word
-abbrev pub at_inside : (m : Mode) → Top m → LocalSectionIn m → LocalSectionIn m → Spot m → Kind → Option (State m)
+abbrev pub at_inside : (m : Mode) → Top m → LocalSectionIn m → LocalSectionIn m → BodyState m → Kind → Option (State m)
 at_inside m top before locals at (kind.Fixed fixed.EndProgram) = leave m true top before locals at.stack at.place
 at_inside m top before locals at (kind.Fixed fixed.EndFunction) = leave m false top before locals at.stack at.place
-at_inside m top before locals at k = option_map (λ (to : Spot m). inside top before locals to) (step m at k)
+at_inside m top before locals at k = option_map (λ (to : BodyState m). inside top before locals to) (step m at k)
 
 -- a token where the section of locals may begin, or the first statement
 abbrev pub at_formals_done : (m : Mode) → Top m → LocalSectionIn m → Kind → Option (State m)
 at_formals_done m top before (kind.Fixed fixed.VarTemp) = Some (section top (temps before) (no_locals m))
-at_formals_done m top before k = at_inside m top before (no_section m) (no_spot m) k
+at_formals_done m top before k = at_inside m top before (no_section m) (body_start m) k
 
 -- a token after the name of a unit; a program has no formals
 abbrev pub at_opened : (m : Mode) → Top m → Kind → Option (State m)

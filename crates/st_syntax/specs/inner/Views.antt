@@ -1,6 +1,6 @@
 -- The code's states as those of the pass.
 use Rattle.std.specs.Prelude.{if◌then◌else◌, Option, Some, None}
-use Rattle.st_bodies.specs.inner.Spots.{spot_of}
+use Rattle.st_bodies.specs.inner.BodyStates.{body_state_of}
 use Rattle.st_grammar.specs.inner.Machine as machine
 use Rattle.st_grammar.specs.inner.Machine.{code}
 use Rattle.st_grammar.specs.inner.Steps.{may_type}
@@ -78,5 +78,5 @@ state_of (state.FormalsDone top before) = machine.formals_done (top_in top) befo
 state_of (state.Section top which done) = machine.section (top_in top) (which_of which) done
 state_of (state.Typing top which done name line x) =
     machine.typing (top_in top) (which_of which) done name line (typing_of x)
-state_of (state.Inside top before locals at) = machine.inside (top_in top) before locals (spot_of at)
+state_of (state.Inside top before locals at) = machine.inside (top_in top) before locals (body_state_of at)
 state_of (state.Over text) = machine.over (before_of text)

@@ -3,24 +3,24 @@ use Rattle.std.specs.Prelude.{ℕ, Bool, true, false, nat_le, List, [], ◌∷�
 use Rattle.st_grammar.specs.Grammar.{prefix_level, infix_level}
 use Rattle.st_grammar.specs.inner.Machine as machine
 use Rattle.st_grammar.specs.inner.Machine.{code}
-use Rattle.st_grammar.specs.inner.Steps.{spot}
+use Rattle.st_grammar.specs.inner.Steps.{body_state}
 use Rattle.st_grammar.specs.declared.measured.Measured.{Measured}
 use Rattle.st_tree.specs.declared.raw.RawStmt.{RawStmt}
 use Rattle.st_bodies.specs.declared.expression.Held.{Held}
-use Rattle.st_bodies.specs.declared.spot.Begun.{Begun}
-use Rattle.st_bodies.specs.declared.spot.Argument.{Argument}
-use Rattle.st_bodies.specs.declared.spot.Argument.TheVariants as argument
-use Rattle.st_bodies.specs.declared.spot.Use.{Use}
-use Rattle.st_bodies.specs.declared.spot.Use.TheVariants as need
-use Rattle.st_bodies.specs.declared.spot.Body.{Body}
-use Rattle.st_bodies.specs.declared.spot.Body.TheVariants as body
-use Rattle.st_bodies.specs.declared.spot.Frame.{Frame}
-use Rattle.st_bodies.specs.declared.spot.Frame.TheVariants as frame
-use Rattle.st_bodies.specs.declared.spot.Part.{Part}
-use Rattle.st_bodies.specs.declared.spot.Part.TheVariants as part
-use Rattle.st_bodies.specs.declared.spot.Place.{Place}
-use Rattle.st_bodies.specs.declared.spot.Place.TheVariants as place
-use Rattle.st_bodies.specs.declared.spot.Spot.{Spot}
+use Rattle.st_bodies.specs.declared.body_state.Begun.{Begun}
+use Rattle.st_bodies.specs.declared.body_state.Argument.{Argument}
+use Rattle.st_bodies.specs.declared.body_state.Argument.TheVariants as argument
+use Rattle.st_bodies.specs.declared.body_state.Use.{Use}
+use Rattle.st_bodies.specs.declared.body_state.Use.TheVariants as need
+use Rattle.st_bodies.specs.declared.body_state.Body.{Body}
+use Rattle.st_bodies.specs.declared.body_state.Body.TheVariants as body
+use Rattle.st_bodies.specs.declared.body_state.Frame.{Frame}
+use Rattle.st_bodies.specs.declared.body_state.Frame.TheVariants as frame
+use Rattle.st_bodies.specs.declared.body_state.Part.{Part}
+use Rattle.st_bodies.specs.declared.body_state.Part.TheVariants as part
+use Rattle.st_bodies.specs.declared.body_state.Place.{Place}
+use Rattle.st_bodies.specs.declared.body_state.Place.TheVariants as place
+use Rattle.st_bodies.specs.declared.body_state.BodyState.{BodyState}
 
 -- a statement that has begun
 abbrev pub begun_of : Begun → machine.Begun code
@@ -102,8 +102,8 @@ place_of (place.Operator e) = machine.operator e
 place_of (place.Opening f) = machine.opening f
 
 -- where the pass is in statements
-abbrev pub spot_of : Spot → machine.Spot code
-spot_of at = spot code at.depth (stack_of at.frames) (place_of at.place)
+abbrev pub body_state_of : BodyState → machine.BodyState code
+body_state_of at = body_state code at.depth (stack_of at.frames) (place_of at.place)
 
 -- the statements that are read where a unit can end: nothing is open, and a statement may begin
 abbrev pub body_at : List (machine.Frame code) → machine.Place code → Option (List RawStmt)
@@ -111,6 +111,6 @@ body_at [] (machine.statement body) = Some body
 body_at s p = None
 
 -- where a token leads, if it can follow
-abbrev pub went : Bool → Spot → Option (machine.Spot code)
-went true at = Some (spot_of at)
+abbrev pub went : Bool → BodyState → Option (machine.BodyState code)
+went true at = Some (body_state_of at)
 went false at = None

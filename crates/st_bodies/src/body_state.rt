@@ -3,8 +3,8 @@
 ghost use Rattle.std.specs.Prelude.{◌≡◌, ◌∷◌, Some, suc, IfOk, OnOk};
 ghost use Rattle.st_grammar.specs.Grammar.{on_line};
 ghost use Rattle.st_grammar.specs.inner.Machine.{code, closing, no_statements, opening, operand, operator, part, statement, waiting, within};
-ghost use Rattle.st_grammar.specs.inner.Steps.{no_spot, shallower, spot};
-ghost use Rattle.st_bodies.specs.inner.Spots.{begun_of, body_at, body_of, frame_of, part_of, place_of, spot_of, stack_of, use_of, went};
+ghost use Rattle.st_grammar.specs.inner.Steps.{body_start, body_state, shallower};
+ghost use Rattle.st_bodies.specs.inner.BodyStates.{begun_of, body_at, body_of, body_state_of, frame_of, part_of, place_of, stack_of, use_of, went};
 
 use crate::expression::{Held, one_more, shallower};
 use s7_base::{Boxed, Line, List, NoMemory, Width};
@@ -173,18 +173,18 @@ pub enum Place {
 
 /// Where the parser stands in statements. The frame that was opened last stands last.
 #[derive(Drop)]
-pub struct Spot {
+pub struct BodyState {
     pub depth: usize,
     pub frames: List<Frame>,
     pub place: Place,
 }
 
-impl Spot {
+impl BodyState {
     /// The beginning of the statements of a unit.
-    pub fn new(alloc: Global) -> Spot
-        ensures { spot_of result ≡ no_spot code }
+    pub fn new(alloc: Global) -> BodyState
+        ensures { body_state_of result ≡ body_start code }
     {
-        Spot {
+        BodyState {
             depth: 0,
             frames: List::new(alloc),
             place: Place::Statement(List::new(alloc)),
@@ -195,7 +195,7 @@ impl Spot {
     pub fn into_body(self) -> Option<List<RawStmt>>
         ensures { result ≡ body_at (stack_of self.frames) (place_of self.place) }
     {
-        let Spot {
+        let BodyState {
             mut frames,
             place,
             ..
@@ -218,7 +218,8 @@ impl Spot {
     /// the whole type costs the prover. A step has taken the old place out, so there is nothing to drop but in
     /// a call from elsewhere.
     fn go(&mut self, place: Place)
-        ensures { spot_of self.new ≡ spot code self.old.depth (stack_of self.old.frames) (place_of place) }
+        ensures { body_state_of self.new
+            ≡ body_state code self.old.depth (stack_of self.old.frames) (place_of place) }
     {
         match replace(&mut self.place, place) {
             Place::Operand => {}
@@ -228,15 +229,16 @@ impl Spot {
 
     /// A statement may begin, after these.
     pub fn go_statement(&mut self, before: List<RawStmt>)
-        ensures { spot_of self.new ≡ spot code self.old.depth (stack_of self.old.frames) (statement before) }
+        ensures { body_state_of self.new
+            ≡ body_state code self.old.depth (stack_of self.old.frames) (statement before) }
     {
         self.go(Place::Statement(before));
     }
 
     /// A part of a statement that is no expression is next.
     pub fn go_part(&mut self, begun: Begun, next: Part)
-        ensures { spot_of self.new
-            ≡ spot code self.old.depth (stack_of self.old.frames) (part (begun_of begun) (part_of next)) }
+        ensures { body_state_of self.new
+            ≡ body_state code self.old.depth (stack_of self.old.frames) (part (begun_of begun) (part_of next)) }
     {
         self.go(Place::Part(begun, next));
     }
@@ -249,8 +251,8 @@ impl Spot {
         line: Line,
         kind: RawStmtKind,
     ) -> Result<(), NoMemory>
-        ensures { OnOk result (spot_of self.new
-            ≡ spot code self.old.depth (stack_of self.old.frames) (closing before (on_line line kind))) }
+        ensures { OnOk result (body_state_of self.new
+            ≡ body_state code self.old.depth (stack_of self.old.frames) (closing before (on_line line kind))) }
     {
         let statement = Boxed::new(alloc, RawStmt { line, kind })?;
         self.go(Place::Closing(before, statement));
@@ -259,22 +261,24 @@ impl Spot {
 
     /// An operand was read.
     pub fn go_operator(&mut self, whole: Measured)
-        ensures { spot_of self.new ≡ spot code self.old.depth (stack_of self.old.frames) (operator whole) }
+        ensures { body_state_of self.new
+            ≡ body_state code self.old.depth (stack_of self.old.frames) (operator whole) }
     {
         self.go(Place::Operator(whole));
     }
 
     /// The bracket of a function is next.
     pub fn go_opening(&mut self, function: Function)
-        ensures { spot_of self.new ≡ spot code self.old.depth (stack_of self.old.frames) (opening function) }
+        ensures { body_state_of self.new
+            ≡ body_state code self.old.depth (stack_of self.old.frames) (opening function) }
     {
         self.go(Place::Opening(function));
     }
 
     /// One level more.
     pub fn deepen(&mut self) -> Result<(), NoMemory>
-        ensures { OnOk result (spot_of self.new
-            ≡ spot code (suc self.old.depth) (stack_of self.old.frames) (place_of self.old.place)) }
+        ensures { OnOk result (body_state_of self.new
+            ≡ body_state code (suc self.old.depth) (stack_of self.old.frames) (place_of self.old.place)) }
     {
         self.depth = one_more(self.depth)?;
         Ok(())
@@ -282,16 +286,16 @@ impl Spot {
 
     /// One level less.
     pub fn rise(&mut self)
-        ensures { spot_of self.new
-            ≡ spot code (shallower self.old.depth) (stack_of self.old.frames) (place_of self.old.place) }
+        ensures { body_state_of self.new
+            ≡ body_state code (shallower self.old.depth) (stack_of self.old.frames) (place_of self.old.place) }
     {
         self.depth = shallower(self.depth);
     }
 
     /// An operand is next, for which a frame waits.
     pub fn expect(&mut self, frame: Frame) -> Result<(), NoMemory>
-        ensures { OnOk result (spot_of self.new
-            ≡ spot code self.old.depth (frame_of frame ∷ stack_of self.old.frames) operand) }
+        ensures { OnOk result (body_state_of self.new
+            ≡ body_state code self.old.depth (frame_of frame ∷ stack_of self.old.frames) operand) }
     {
         self.frames.push(frame)?;
         self.go(Place::Operand);
@@ -300,16 +304,17 @@ impl Spot {
 
     /// An operand is next, which a statement needs.
     pub fn wait(&mut self, begun: Begun, need: Use) -> Result<(), NoMemory>
-        ensures { OnOk result (spot_of self.new
-            ≡ spot code self.old.depth (waiting (begun_of begun) (use_of need) ∷ stack_of self.old.frames) operand) }
+        ensures { OnOk result (body_state_of self.new
+            ≡ body_state code self.old.depth
+            (waiting (begun_of begun) (use_of need) ∷ stack_of self.old.frames) operand) }
     {
         self.expect(Frame::Waiting(begun, need))
     }
 
     /// The statements inside of one that has begun are next.
     pub fn enter(&mut self, alloc: Global, begun: Begun, body: Body) -> Result<(), NoMemory>
-        ensures { OnOk result (spot_of self.new
-            ≡ spot code self.old.depth (within (begun_of begun) (body_of body) ∷ stack_of self.old.frames)
+        ensures { OnOk result (body_state_of self.new
+            ≡ body_state code self.old.depth (within (begun_of begun) (body_of body) ∷ stack_of self.old.frames)
             (statement (no_statements code))) }
     {
         self.frames.push(Frame::Within(begun, body))?;
@@ -325,7 +330,7 @@ impl Spot {
         kind: RawStmtKind,
     ) -> Result<bool, NoMemory>
         ensures { IfOk result (λ goes. went goes self.new
-            ≡ Some (spot code (shallower self.old.depth) (stack_of self.old.frames)
+            ≡ Some (body_state code (shallower self.old.depth) (stack_of self.old.frames)
             (closing begun.before (on_line begun.line kind)))) }
     {
         self.rise();
