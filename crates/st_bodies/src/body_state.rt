@@ -4,7 +4,7 @@ ghost use Rattle.std.specs.Prelude.{◌≡◌, ◌∷◌, Some, suc, IfOk, OnOk}
 ghost use Rattle.st_grammar.specs.Grammar.{on_line};
 ghost use Rattle.st_grammar.specs.inner.Machine.{code, closing, no_statements, opening, operand, operator, part, statement, waiting, within};
 ghost use Rattle.st_grammar.specs.inner.Steps.{body_start, body_state, shallower};
-ghost use Rattle.st_bodies.specs.inner.BodyStates.{begun_of, body_at, body_of, body_state_of, frame_of, part_of, place_of, stack_of, use_of, went};
+ghost use Rattle.st_bodies.specs.inner.BodyStates.{begun_of, body_at, body_of, body_state_of, frame_of, need_of, part_of, place_of, stack_of, went};
 
 use crate::expression::{Held, one_more, shallower};
 use s7_base::{Boxed, Line, List, NoMemory, Width};
@@ -58,7 +58,7 @@ pub enum Argument {
 
 /// What a statement needs an expression for.
 #[derive(Drop)]
-pub enum Use {
+pub enum Need {
     /// The value that a variable takes.
     ToVar(RawVar),
 
@@ -113,7 +113,7 @@ pub enum Frame {
     Argument(Argument),
 
     /// A statement that waits for an expression.
-    Waiting(Begun, Use),
+    Waiting(Begun, Need),
 
     /// A statement whose own statements are read.
     Within(Begun, Body),
@@ -303,10 +303,10 @@ impl BodyState {
     }
 
     /// An operand is next, which a statement needs.
-    pub fn wait(&mut self, begun: Begun, need: Use) -> Result<(), NoMemory>
+    pub fn wait(&mut self, begun: Begun, need: Need) -> Result<(), NoMemory>
         ensures { OnOk result (body_state_of self.new
             ≡ body_state code self.old.depth
-            (waiting (begun_of begun) (use_of need) ∷ stack_of self.old.frames) operand) }
+            (waiting (begun_of begun) (need_of need) ∷ stack_of self.old.frames) operand) }
     {
         self.expect(Frame::Waiting(begun, need))
     }

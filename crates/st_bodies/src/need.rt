@@ -1,11 +1,11 @@
 //! What comes of an expression that a statement needs.
 ghost use Rattle.std.specs.Prelude.{◌≡◌, IfOk};
 ghost use Rattle.st_grammar.specs.inner.Machine.{code, area_value, loop_test, selector, test, to_area, to_var};
-ghost use Rattle.st_grammar.specs.inner.Steps.{use_closed};
+ghost use Rattle.st_grammar.specs.inner.Steps.{need_closed};
 ghost use Rattle.st_grammar.specs.declared.kind.Kind.TheVariants as kind;
-ghost use Rattle.st_bodies.specs.inner.BodyStates.{begun_of, measured_of, stack_of, use_of, went};
+ghost use Rattle.st_bodies.specs.inner.BodyStates.{begun_of, measured_of, need_of, stack_of, went};
 
-use crate::body_state::{Begun, Body, BodyState, Cases, Part, Use};
+use crate::body_state::{Begun, Body, BodyState, Cases, Need, Part};
 use crate::expression::{Held, hold};
 use s7_base::{Boxed, List, NoMemory, Width};
 use st_grammar::{Fixed, Measured};
@@ -21,7 +21,8 @@ fn assigned(
     word: Fixed,
 ) -> Result<bool, NoMemory>
     ensures { IfOk result (λ goes. went goes at.new
-        ≡ use_closed code at.old.depth (stack_of at.old.frames) (begun_of begun) (to_var var) value (kind.Fixed word)) }
+        ≡ need_closed code at.old.depth (stack_of at.old.frames)
+        (begun_of begun) (to_var var) value (kind.Fixed word)) }
 {
     let Fixed::Semicolon = word else {
         drop(value);
@@ -45,7 +46,7 @@ fn pointer_closed(
     word: Fixed,
 ) -> Result<bool, NoMemory>
     ensures { IfOk result (λ goes. went goes at.new
-        ≡ use_closed code at.old.depth (stack_of at.old.frames)
+        ≡ need_closed code at.old.depth (stack_of at.old.frames)
         (begun_of begun) (to_area width) pointer (kind.Fixed word)) }
 {
     let Fixed::Comma = word else {
@@ -53,7 +54,7 @@ fn pointer_closed(
         return Ok(false);
     };
     let pointer = hold(alloc, pointer)?;
-    at.wait(begun, Use::AreaValue(width, pointer))?;
+    at.wait(begun, Need::AreaValue(width, pointer))?;
     Ok(true)
 }
 
@@ -68,7 +69,7 @@ fn written(
     word: Fixed,
 ) -> Result<bool, NoMemory>
     ensures { IfOk result (λ goes. went goes at.new
-        ≡ use_closed code at.old.depth (stack_of at.old.frames)
+        ≡ need_closed code at.old.depth (stack_of at.old.frames)
         (begun_of begun) (area_value width (measured_of pointer)) value (kind.Fixed word)) }
 {
     let Fixed::Close = word else {
@@ -93,7 +94,7 @@ fn tested(
     word: Fixed,
 ) -> Result<bool, NoMemory>
     ensures { IfOk result (λ goes. went goes at.new
-        ≡ use_closed code at.old.depth (stack_of at.old.frames) (begun_of begun) (test arms) value (kind.Fixed word)) }
+        ≡ need_closed code at.old.depth (stack_of at.old.frames) (begun_of begun) (test arms) value (kind.Fixed word)) }
 {
     let Fixed::Then = word else {
         drop(value);
@@ -113,7 +114,7 @@ fn selected(
     word: Fixed,
 ) -> Result<bool, NoMemory>
     ensures { IfOk result (λ goes. went goes at.new
-        ≡ use_closed code at.old.depth (stack_of at.old.frames) (begun_of begun) selector value (kind.Fixed word)) }
+        ≡ need_closed code at.old.depth (stack_of at.old.frames) (begun_of begun) selector value (kind.Fixed word)) }
 {
     let Fixed::Of = word else {
         drop(value);
@@ -136,7 +137,7 @@ fn loop_tested(
     word: Fixed,
 ) -> Result<bool, NoMemory>
     ensures { IfOk result (λ goes. went goes at.new
-        ≡ use_closed code at.old.depth (stack_of at.old.frames) (begun_of begun) loop_test value (kind.Fixed word)) }
+        ≡ need_closed code at.old.depth (stack_of at.old.frames) (begun_of begun) loop_test value (kind.Fixed word)) }
 {
     let Fixed::Do = word else {
         drop(value);
@@ -148,23 +149,23 @@ fn loop_tested(
 }
 
 /// The expression that a statement needs ends.
-pub fn use_closed(
+pub fn need_closed(
     alloc: Global,
     at: &mut BodyState,
     begun: Begun,
-    need: Use,
+    need: Need,
     value: Measured,
     word: Fixed,
 ) -> Result<bool, NoMemory>
     ensures { IfOk result (λ goes. went goes at.new
-        ≡ use_closed code at.old.depth (stack_of at.old.frames) (begun_of begun) (use_of need) value (kind.Fixed word)) }
+        ≡ need_closed code at.old.depth (stack_of at.old.frames) (begun_of begun) (need_of need) value (kind.Fixed word)) }
 {
     match need {
-        Use::ToVar(var) => assigned(at, begun, var, value, word),
-        Use::ToArea(width) => pointer_closed(alloc, at, begun, width, value, word),
-        Use::AreaValue(width, pointer) => written(alloc, at, begun, width, pointer, value, word),
-        Use::Test(arms) => tested(alloc, at, begun, arms, value, word),
-        Use::Selector => selected(alloc, at, begun, value, word),
-        Use::LoopTest => loop_tested(alloc, at, begun, value, word),
+        Need::ToVar(var) => assigned(at, begun, var, value, word),
+        Need::ToArea(width) => pointer_closed(alloc, at, begun, width, value, word),
+        Need::AreaValue(width, pointer) => written(alloc, at, begun, width, pointer, value, word),
+        Need::Test(arms) => tested(alloc, at, begun, arms, value, word),
+        Need::Selector => selected(alloc, at, begun, value, word),
+        Need::LoopTest => loop_tested(alloc, at, begun, value, word),
     }
 }

@@ -10,7 +10,7 @@ use crate::expression::{
     hold, infix_level, is_value, of_apply, of_infix, of_literal, of_prefix, of_select, of_shift,
     of_variable, prefix_level,
 };
-use crate::need::use_closed;
+use crate::need::need_closed;
 use s7_base::NoMemory;
 use st_grammar::{Fixed, Function, Kind, Measured, Prefix};
 use st_tree::BinaryOp;
@@ -242,7 +242,7 @@ fn closed(
             Ok(true)
         }
         Some(Frame::Argument(argument)) => argument_closed(alloc, at, argument, operand, word),
-        Some(Frame::Waiting(begun, need)) => use_closed(alloc, at, begun, need, operand, word),
+        Some(Frame::Waiting(begun, need)) => need_closed(alloc, at, begun, need, operand, word),
         other => {
             drop(other);
             drop(operand);

@@ -8,7 +8,7 @@ ghost use Rattle.st_grammar.specs.declared.kind.Kind.TheVariants as kind;
 ghost use Rattle.st_grammar.specs.declared.kind.Lead.TheVariants as lead;
 ghost use Rattle.st_bodies.specs.inner.BodyStates.{begun_of, body_of, frame_of, measured_of, part_of, place_of, stack_of, went};
 
-use crate::body_state::{Begun, Body, BodyState, Call, Cases, Frame, Part, Place, Use};
+use crate::body_state::{Begun, Body, BodyState, Call, Cases, Frame, Need, Part, Place};
 use crate::expression::{Held, is_value, label_of};
 use crate::operand::{at_opening, at_operand, at_operator};
 use s7_base::{Boxed, Line, List, NoMemory, Width};
@@ -68,7 +68,7 @@ fn choosing_closed(
         body,
     })?;
     match word {
-        Fixed::Elsif => at.wait(begun, Use::Test(arms))?,
+        Fixed::Elsif => at.wait(begun, Need::Test(arms))?,
         Fixed::Else => at.enter(alloc, begun, Body::Otherwise(arms))?,
         Fixed::EndIf => {
             return at.close(alloc, begun, RawStmtKind::If(arms, List::new(alloc)));
@@ -247,9 +247,9 @@ fn at_lead(
         ≡ at_lead code at.old.depth (stack_of at.old.frames) before lead line) }
 {
     let need = match lead {
-        Lead::If => Use::Test(List::new(alloc)),
-        Lead::Case => Use::Selector,
-        Lead::While => Use::LoopTest,
+        Lead::If => Need::Test(List::new(alloc)),
+        Lead::Case => Need::Selector,
+        Lead::While => Need::LoopTest,
         Lead::Jump(jump) => return at_jump(alloc, at, before, jump, line),
         Lead::AreaWrite(width) => {
             at.go_part(Begun { before, line }, Part::WriteOpen(width));
@@ -292,7 +292,7 @@ fn at_target(at: &mut BodyState, begun: Begun, var: RawVar, kind: Kind) -> Resul
         ≡ at_target code at.old.depth (stack_of at.old.frames) (begun_of begun) var kind) }
 {
     match kind {
-        Kind::Fixed(Fixed::Becomes) => at.wait(begun, Use::ToVar(var))?,
+        Kind::Fixed(Fixed::Becomes) => at.wait(begun, Need::ToVar(var))?,
         Kind::Fixed(Fixed::Open) => {
             let RawVar::Name(name) = var else {
                 return Ok(false);
@@ -484,7 +484,7 @@ fn at_write_open(
     let Kind::Fixed(Fixed::Open) = kind else {
         return Ok(false);
     };
-    at.wait(begun, Use::ToArea(width))?;
+    at.wait(begun, Need::ToArea(width))?;
     at.deepen()?;
     Ok(true)
 }

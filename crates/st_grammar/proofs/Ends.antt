@@ -8,7 +8,7 @@ use Rattle.s7_base.specs.declared.reason.Rejection.TheVariants.{Refused}
 use Rattle.st_grammar.specs.inner.Judge.{turn, reached, judged, on_good, judge, text_in}
 use Rattle.st_grammar.specs.Levels.{deepest}
 use Rattle.st_grammar.specs.inner.Machine as machine
-use Rattle.st_grammar.specs.inner.Machine.{code, Frame, unary, left, bracket, argument, waiting, within, Argument, Use, Body, Part, target, write_open, first_formal, next_formal, becoming, giving, given, first_label, next_label, labelled, Place, statement, part, closing, operand, operator, opening, BodyState, Row, State, start, globals, row, between, heading, opened, formals_done, section, typing, inside, over, Which, formals, temps}
+use Rattle.st_grammar.specs.inner.Machine.{code, Frame, unary, left, bracket, argument, waiting, within, Argument, Need, Body, Part, target, write_open, first_formal, next_formal, becoming, giving, given, first_label, next_label, labelled, Place, statement, part, closing, operand, operator, opening, BodyState, Row, State, start, globals, row, between, heading, opened, formals_done, section, typing, inside, over, Which, formals, temps}
 use Rattle.st_grammar.specs.inner.Steps.{weakest, reduce, closed, in_body, at_part, step_at, row_step, at_typing, next}
 use Rattle.st_grammar.specs.Syntax.{Lined, all_lined, end_on, lined}
 use Rattle.st_grammar.specs.declared.kind.Fixed.TheVariants as fixed
@@ -40,7 +40,7 @@ body_end d (unary op ∷ s) body = refl
 body_end d (left op a ∷ s) body = refl
 body_end d (bracket ∷ s) body = refl
 body_end d (argument a ∷ s) body = refl
-body_end d (waiting b u ∷ s) body = refl
+body_end d (waiting b n ∷ s) body = refl
 body_end d (within b (machine.choosing arms e) ∷ s) body = refl
 body_end d (within b (machine.otherwise arms) ∷ s) body = refl
 body_end d (within b (machine.looping e) ∷ s) body = refl

@@ -8,7 +8,7 @@ use Rattle.st_syntax_laws.proofs.DriveSource.{Declared}
 use Rattle.st_grammar.specs.Forms.{Form, prefix, infix_of, Actuals, no_actual, actual, Labels, label, more_labels, Statements, CaseArms, Items, no_item}
 use Rattle.st_grammar.specs.Grammar.{prefix_level, infix_level, level, is_value, Binds, may_jump, LabelsFit, HasArm, HasCase, Fits, AllFit, ArmsFit, CasesFit, is_direct, is_global, GlobalsFit, LocalsFit, IfPresent, HeadFits, UnitsFit, prefix_kind, spell, comma_behind, spell_actuals, spell_labels, arm_word, spell_one, spell_all, spell_arms, spell_cases, comma_past, spell_items, spell_type, spell_globals, spell_locals, unit_word, spell_section, spell_formals, spell_temps, spell_head, spell_units}
 use Rattle.st_tree.specs.Naming.{may_name_global, may_name_unit, names_block}
-use Rattle.st_grammar.specs.inner.Machine.{written, Begun, Argument, only, shifted, shifted_by, gate, first, second, Use, to_var, to_area, area_value, test, selector, loop_test, Body, choosing, otherwise, looping, selecting, otherwise_case, Frame, unary, left, bracket, argument, waiting, within, Part, target, write_open, first_formal, next_formal, becoming, giving, given, first_label, next_label, labelled, Place, statement, part, closing, operand, operator, opening, BodyState, Row, at_word, at_place, at_colon, at_type, at_square, at_zero, at_dots, at_last, at_close, at_of, at_byte, at_becomes, at_open, at_item, at_count, at_value, at_value_end, at_comma, at_end, Typing, local_colon, local_type, local_end, Before, Top, Which, formals, temps, State, start, globals, row, between, heading, opened, formals_done, section, typing, inside, over}
+use Rattle.st_grammar.specs.inner.Machine.{written, Begun, Argument, only, shifted, shifted_by, gate, first, second, Need, to_var, to_area, area_value, test, selector, loop_test, Body, choosing, otherwise, looping, selecting, otherwise_case, Frame, unary, left, bracket, argument, waiting, within, Part, target, write_open, first_formal, next_formal, becoming, giving, given, first_label, next_label, labelled, Place, statement, part, closing, operand, operator, opening, BodyState, Row, at_word, at_place, at_colon, at_type, at_square, at_zero, at_dots, at_last, at_close, at_of, at_byte, at_becomes, at_open, at_item, at_count, at_value, at_value_end, at_comma, at_end, Typing, local_colon, local_type, local_end, Before, Top, Which, formals, temps, State, start, globals, row, between, heading, opened, formals_done, section, typing, inside, over}
 use Rattle.st_grammar.specs.inner.Steps.{body_state, shallower, weakest, limit, Reduced, reduce, reduced_to, with_prefix, closed, waits, in_loop, in_body, at_label, step_at, may_name, may_type}
 use Rattle.st_grammar.specs.declared.kind.Fixed.TheVariants as fixed
 use Rattle.st_grammar.specs.declared.kind.Function.{Function}
@@ -42,13 +42,13 @@ past_argument gate more = kind.Fixed (fixed.Function function.Select) ∷ open_k
 past_argument (first f) more = kind.Fixed (fixed.Function function.Select) ∷ open_kind ∷ spell f (comma_kind ∷ more)
 past_argument (second f g) more = kind.Fixed (fixed.Function function.Select) ∷ open_kind ∷ spell f (comma_kind ∷ spell g (comma_kind ∷ more))
 
-abbrev past_use : Line → Use written → List Kind → List Kind
-past_use line (to_var v) more = kind.Variable v line ∷ kind.Fixed fixed.Becomes ∷ more
-past_use line (to_area w) more = kind.Lead (lead.AreaWrite w) line ∷ open_kind ∷ more
-past_use line (area_value w p) more = kind.Lead (lead.AreaWrite w) line ∷ open_kind ∷ spell p (comma_kind ∷ more)
-past_use line (test arms) more = spell_arms line arms (arm_word line arms ∷ more)
-past_use line selector more = kind.Lead lead.Case line ∷ more
-past_use line loop_test more = kind.Lead lead.While line ∷ more
+abbrev past_need : Line → Need written → List Kind → List Kind
+past_need line (to_var v) more = kind.Variable v line ∷ kind.Fixed fixed.Becomes ∷ more
+past_need line (to_area w) more = kind.Lead (lead.AreaWrite w) line ∷ open_kind ∷ more
+past_need line (area_value w p) more = kind.Lead (lead.AreaWrite w) line ∷ open_kind ∷ spell p (comma_kind ∷ more)
+past_need line (test arms) more = spell_arms line arms (arm_word line arms ∷ more)
+past_need line selector more = kind.Lead lead.Case line ∷ more
+past_need line loop_test more = kind.Lead lead.While line ∷ more
 
 abbrev past_body : Line → Body written → List Kind → List Kind
 past_body line (choosing arms e) more = spell_arms line arms (arm_word line arms ∷ spell e (kind.Fixed fixed.Then ∷ more))
@@ -63,7 +63,7 @@ past_stack (unary op ∷ s) more = past_stack s (prefix_kind op ∷ more)
 past_stack (left op f ∷ s) more = past_stack s (spell f (kind.Fixed (fixed.Between op) ∷ more))
 past_stack (bracket ∷ s) more = past_stack s (open_kind ∷ more)
 past_stack (argument a ∷ s) more = past_stack s (past_argument a more)
-past_stack (waiting b u ∷ s) more = past_stack s (spell_all b.before (past_use b.line u more))
+past_stack (waiting b n ∷ s) more = past_stack s (spell_all b.before (past_need b.line n more))
 past_stack (within b y ∷ s) more = past_stack s (spell_all b.before (past_body b.line y more))
 
 abbrev past_call : Line → List ℕ → List Kind → List Kind
@@ -170,10 +170,10 @@ ArgumentFits (first f) = Binds f
 ArgumentFits (second f g) = Binds f × Binds g
 ArgumentFits other = Unit {0}
 
-abbrev pub UseFits : Bool → Use written → Type 0
-UseFits i (area_value w p) = Binds p
-UseFits i (test arms) = ArmsFit i arms
-UseFits i other = Unit {0}
+abbrev pub NeedFits : Bool → Need written → Type 0
+NeedFits i (area_value w p) = Binds p
+NeedFits i (test arms) = ArmsFit i arms
+NeedFits i other = Unit {0}
 
 abbrev pub BodyFits : Bool → Body written → Type 0
 BodyFits i (choosing arms e) = ArmsFit i arms × Binds e
@@ -210,7 +210,7 @@ InExpr (unary op ∷ s) = (prefix_level op ≤ limit written s) × InExpr s
 InExpr (left op f ∷ s) = (level f ≤ infix_level op) × Binds f × (infix_level op ≤ limit written s) × InExpr s
 InExpr (bracket ∷ s) = InExpr s
 InExpr (argument a ∷ s) = ArgumentFits a × InExpr s
-InExpr (waiting b u ∷ s) = AllFit (in_loop written s) b.before × UseFits (in_loop written s) u × InStatements s
+InExpr (waiting b n ∷ s) = AllFit (in_loop written s) b.before × NeedFits (in_loop written s) n × InStatements s
 InExpr other = ⊥
 
 abbrev pub PlaceFits : List (Frame written) → Place written → Type 0

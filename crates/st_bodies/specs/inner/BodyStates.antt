@@ -10,8 +10,8 @@ use Rattle.st_bodies.specs.declared.expression.Held.{Held}
 use Rattle.st_bodies.specs.declared.body_state.Begun.{Begun}
 use Rattle.st_bodies.specs.declared.body_state.Argument.{Argument}
 use Rattle.st_bodies.specs.declared.body_state.Argument.TheVariants as argument
-use Rattle.st_bodies.specs.declared.body_state.Use.{Use}
-use Rattle.st_bodies.specs.declared.body_state.Use.TheVariants as need
+use Rattle.st_bodies.specs.declared.body_state.Need.{Need}
+use Rattle.st_bodies.specs.declared.body_state.Need.TheVariants as need
 use Rattle.st_bodies.specs.declared.body_state.Body.{Body}
 use Rattle.st_bodies.specs.declared.body_state.Body.TheVariants as body
 use Rattle.st_bodies.specs.declared.body_state.Frame.{Frame}
@@ -40,13 +40,13 @@ argument_of (argument.First e) = machine.first (measured_of e)
 argument_of (argument.Second e f) = machine.second (measured_of e) (measured_of f)
 
 -- what a statement needs an expression for
-abbrev pub use_of : Use → machine.Use code
-use_of (need.ToVar v) = machine.to_var v
-use_of (need.ToArea w) = machine.to_area w
-use_of (need.AreaValue w e) = machine.area_value w (measured_of e)
-use_of (need.Test arms) = machine.test arms
-use_of need.Selector = machine.selector
-use_of need.LoopTest = machine.loop_test
+abbrev pub need_of : Need → machine.Need code
+need_of (need.ToVar v) = machine.to_var v
+need_of (need.ToArea w) = machine.to_area w
+need_of (need.AreaValue w e) = machine.area_value w (measured_of e)
+need_of (need.Test arms) = machine.test arms
+need_of need.Selector = machine.selector
+need_of need.LoopTest = machine.loop_test
 
 -- a statement whose own statements are read
 abbrev pub body_of : Body → machine.Body code
@@ -62,7 +62,7 @@ frame_of (frame.Unary op) = machine.unary op
 frame_of (frame.Left op e) = machine.left op (measured_of e)
 frame_of frame.Bracket = machine.bracket
 frame_of (frame.Argument a) = machine.argument (argument_of a)
-frame_of (frame.Waiting b u) = machine.waiting (begun_of b) (use_of u)
+frame_of (frame.Waiting b n) = machine.waiting (begun_of b) (need_of n)
 frame_of (frame.Within b y) = machine.within (begun_of b) (body_of y)
 
 -- the frame that was opened last stands first
@@ -76,7 +76,7 @@ binds k (machine.unary op ∷ s) = nat_le (prefix_level op) k
 binds k (machine.left op e ∷ s) = nat_le (infix_level op) k
 binds k (machine.bracket ∷ s) = false
 binds k (machine.argument a ∷ s) = false
-binds k (machine.waiting b u ∷ s) = false
+binds k (machine.waiting b n ∷ s) = false
 binds k (machine.within b y ∷ s) = false
 
 -- a part of a statement that is no expression

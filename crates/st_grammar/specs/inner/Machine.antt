@@ -397,13 +397,13 @@ pub data Argument (m : Mode) : Type 0 where
   second : ExprIn m → ExprIn m → Argument m
 
 -- what a statement needs an expression for
-pub data Use (m : Mode) : Type 0 where
-  to_var : RawVar → Use m
-  to_area : Width → Use m
-  area_value : Width → ExprIn m → Use m
-  test : ArmsIn m → Use m
-  selector : Use m
-  loop_test : Use m
+pub data Need (m : Mode) : Type 0 where
+  to_var : RawVar → Need m
+  to_area : Width → Need m
+  area_value : Width → ExprIn m → Need m
+  test : ArmsIn m → Need m
+  selector : Need m
+  loop_test : Need m
 
 -- a statement whose own statements are read
 pub data Body (m : Mode) : Type 0 where
@@ -420,7 +420,7 @@ pub data Frame (m : Mode) : Type 0 where
   left : BinaryOp → ExprIn m → Frame m
   bracket : Frame m
   argument : Argument m → Frame m
-  waiting : Begun m → Use m → Frame m
+  waiting : Begun m → Need m → Frame m
   within : Begun m → Body m → Frame m
 
 -- What may come next

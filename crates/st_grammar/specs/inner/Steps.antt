@@ -3,7 +3,7 @@ use Rattle.std.specs.Prelude.{ℕ, zero, suc, ◌+◌, ◌-◌, Bool, true, fals
 use Rattle.s7_base.specs.declared.reason.Line.{Line}
 use Rattle.st_grammar.specs.Grammar.{prefix_level, infix_level, is_value, may_jump, is_direct, is_formal_type}
 use Rattle.st_tree.specs.Naming.{is_free, may_name_global, may_name_local, may_name_unit, names_block}
-use Rattle.st_grammar.specs.inner.Machine.{Mode, ExprIn, StatementsIn, StatementIn, CasesIn, LabelsIn, VarIn, HeadIn, GlobalSectionIn, GlobalsIn, LocalsIn, LocalSectionIn, of_literal, of_variable, of_group, of_prefix, of_infix, of_apply, of_shift, of_select, height_in, no_statements, add_empty, add_statement, no_arms, add_arm, no_cases, add_case, of_label, add_label, named, at_var, no_actuals, add_actual, of_assign, of_write, of_invoke, of_choice, of_choice_else, of_cases, of_cases_else, of_loop, of_jump, no_items, add_single, add_times, of_plain, of_bytes, no_globals, add_global, no_locals, add_local, no_global_section, global_section, no_section, section_of, head_of, is_program, no_units, add_unit, Begun, Argument, only, shifted, shifted_by, gate, first, second, Use, to_var, to_area, area_value, test, selector, loop_test, Body, choosing, otherwise, looping, selecting, otherwise_case, Frame, unary, left, bracket, argument, waiting, within, Part, target, write_open, first_formal, next_formal, becoming, giving, given, first_label, next_label, labelled, Place, statement, part, closing, operand, operator, opening, BodyState, Row, at_word, at_place, at_colon, at_type, at_square, at_zero, at_dots, at_last, at_close, at_of, at_byte, at_becomes, at_open, at_item, at_count, at_value, at_value_end, at_comma, at_end, Typing, local_colon, local_type, local_end, Before, Top, Which, formals, temps, State, start, globals, row, between, heading, opened, formals_done, section, typing, inside, over}
+use Rattle.st_grammar.specs.inner.Machine.{Mode, ExprIn, StatementsIn, StatementIn, CasesIn, LabelsIn, VarIn, HeadIn, GlobalSectionIn, GlobalsIn, LocalsIn, LocalSectionIn, of_literal, of_variable, of_group, of_prefix, of_infix, of_apply, of_shift, of_select, height_in, no_statements, add_empty, add_statement, no_arms, add_arm, no_cases, add_case, of_label, add_label, named, at_var, no_actuals, add_actual, of_assign, of_write, of_invoke, of_choice, of_choice_else, of_cases, of_cases_else, of_loop, of_jump, no_items, add_single, add_times, of_plain, of_bytes, no_globals, add_global, no_locals, add_local, no_global_section, global_section, no_section, section_of, head_of, is_program, no_units, add_unit, Begun, Argument, only, shifted, shifted_by, gate, first, second, Need, to_var, to_area, area_value, test, selector, loop_test, Body, choosing, otherwise, looping, selecting, otherwise_case, Frame, unary, left, bracket, argument, waiting, within, Part, target, write_open, first_formal, next_formal, becoming, giving, given, first_label, next_label, labelled, Place, statement, part, closing, operand, operator, opening, BodyState, Row, at_word, at_place, at_colon, at_type, at_square, at_zero, at_dots, at_last, at_close, at_of, at_byte, at_becomes, at_open, at_item, at_count, at_value, at_value_end, at_comma, at_end, Typing, local_colon, local_type, local_end, Before, Top, Which, formals, temps, State, start, globals, row, between, heading, opened, formals_done, section, typing, inside, over}
 use Rattle.st_grammar.specs.declared.kind.Fixed.TheVariants as fixed
 use Rattle.st_grammar.specs.declared.kind.Function.{Function}
 use Rattle.st_grammar.specs.declared.kind.Function.TheVariants as function
@@ -44,7 +44,7 @@ limit m (unary op ∷ s) = prefix_level op
 limit m (left op a ∷ s) = infix_level op - 1
 limit m (bracket ∷ s) = weakest
 limit m (argument a ∷ s) = weakest
-limit m (waiting b u ∷ s) = weakest
+limit m (waiting b n ∷ s) = weakest
 limit m (within b y ∷ s) = weakest
 
 -- an operand that has taken operators before it
@@ -67,7 +67,7 @@ reduce m k d (left op a ∷ s) e =
     if nat_le (infix_level op) k then reduce m k d s (of_infix m op a e) else reduced_to m d (left op a ∷ s) e
 reduce m k d (bracket ∷ s) e = reduced_to m d (bracket ∷ s) e
 reduce m k d (argument a ∷ s) e = reduced_to m d (argument a ∷ s) e
-reduce m k d (waiting b u ∷ s) e = reduced_to m d (waiting b u ∷ s) e
+reduce m k d (waiting b n ∷ s) e = reduced_to m d (waiting b n ∷ s) e
 reduce m k d (within b y ∷ s) e = reduced_to m d (within b y ∷ s) e
 
 -- the first operand of a function
@@ -117,15 +117,19 @@ argument_closed m d s a e (kind.Fixed fixed.Comma) = next_argument m d s a e
 argument_closed m d s a e other = None
 
 -- the expression that a statement needs ends
-abbrev pub use_closed : (m : Mode) → ℕ → List (Frame m) → Begun m → Use m → ExprIn m → Kind → Option (BodyState m)
-use_closed m d s b (to_var v) e (kind.Fixed fixed.Semicolon) = Some (body_state m d s (statement (add_statement m b.before (of_assign m b.line v e))))
-use_closed m d s b (to_area w) e (kind.Fixed fixed.Comma) =
+abbrev pub need_closed : (m : Mode) → ℕ → List (Frame m) → Begun m → Need m → ExprIn m → Kind → Option (BodyState m)
+need_closed m d s b (to_var v) e (kind.Fixed fixed.Semicolon) =
+    Some (body_state m d s (statement (add_statement m b.before (of_assign m b.line v e))))
+need_closed m d s b (to_area w) e (kind.Fixed fixed.Comma) =
     Some (body_state m d (waiting b (area_value w e) ∷ s) operand)
-use_closed m d s b (area_value w p) e (kind.Fixed fixed.Close) = Some (body_state m (shallower d) s (closing b.before (of_write m b.line w p e)))
-use_closed m d s b (test arms) e (kind.Fixed fixed.Then) = Some (body_state m d (within b (choosing arms e) ∷ s) (statement (no_statements m)))
-use_closed m d s b selector e (kind.Fixed fixed.Of) = Some (body_state m d s (part b (first_label e (no_cases m))))
-use_closed m d s b loop_test e (kind.Fixed fixed.Do) = Some (body_state m d (within b (looping e) ∷ s) (statement (no_statements m)))
-use_closed m d s b u e other = None
+need_closed m d s b (area_value w p) e (kind.Fixed fixed.Close) =
+    Some (body_state m (shallower d) s (closing b.before (of_write m b.line w p e)))
+need_closed m d s b (test arms) e (kind.Fixed fixed.Then) =
+    Some (body_state m d (within b (choosing arms e) ∷ s) (statement (no_statements m)))
+need_closed m d s b selector e (kind.Fixed fixed.Of) = Some (body_state m d s (part b (first_label e (no_cases m))))
+need_closed m d s b loop_test e (kind.Fixed fixed.Do) =
+    Some (body_state m d (within b (looping e) ∷ s) (statement (no_statements m)))
+need_closed m d s b n e other = None
 
 -- an expression ends at a token that is no operator
 abbrev pub closed : (m : Mode) → ℕ → List (Frame m) → ExprIn m → Kind → Option (BodyState m)
@@ -135,7 +139,7 @@ closed m d (left op a ∷ s) e k = None
 closed m d (bracket ∷ s) e (kind.Fixed fixed.Close) = Some (body_state m (shallower d) s (operator (of_group m e)))
 closed m d (bracket ∷ s) e k = None
 closed m d (argument a ∷ s) e k = argument_closed m d s a e k
-closed m d (waiting b u ∷ s) e k = use_closed m d s b u e k
+closed m d (waiting b n ∷ s) e k = need_closed m d s b n e k
 closed m d (within b y ∷ s) e k = None
 
 -- an expression whose operators have their operands ends at a token that is no operator
