@@ -4,7 +4,7 @@ ghost use Rattle.std.specs.Prelude.{◌≡◌, ◌∷◌, Some, suc, IfOk, OnOk}
 ghost use Rattle.st_grammar.specs.Grammar.{on_line};
 ghost use Rattle.st_grammar.specs.inner.Machine.{code, closing, no_statements, opening, operand, operator, part, statement, waiting, within};
 ghost use Rattle.st_grammar.specs.inner.Steps.{body_start, body_state, shallower};
-ghost use Rattle.st_bodies.specs.inner.BodyStates.{begun_of, body_at, body_of, body_state_of, frame_of, need_of, part_of, place_of, stack_of, went};
+ghost use Rattle.st_bodies.specs.inner.BodyStates.{begun_statement_of, body_at, body_of, body_state_of, frame_of, need_of, part_of, place_of, stack_of, went};
 
 use crate::expression::{Held, one_more, shallower};
 use s7_base::{Boxed, Line, List, NoMemory, Width};
@@ -15,7 +15,7 @@ use std::mem::replace;
 
 /// A statement that has begun: those before it, and its line.
 #[derive(Drop)]
-pub struct Begun {
+pub struct BegunStatement {
     pub before: List<RawStmt>,
     pub line: Line,
 }
@@ -113,10 +113,10 @@ pub enum Frame {
     Argument(Argument),
 
     /// A statement that waits for an expression.
-    Waiting(Begun, Need),
+    Waiting(BegunStatement, Need),
 
     /// A statement whose own statements are read.
-    Within(Begun, Body),
+    Within(BegunStatement, Body),
 }
 
 /// A part of a statement that is no expression.
@@ -159,7 +159,7 @@ pub enum Place {
     /// A statement, after these.
     Statement(List<RawStmt>),
 
-    Part(Begun, Part),
+    Part(BegunStatement, Part),
 
     /// The `;` of a statement.
     Closing(List<RawStmt>, Boxed<RawStmt>),
@@ -236,9 +236,10 @@ impl BodyState {
     }
 
     /// A part of a statement that is no expression is next.
-    pub fn go_part(&mut self, begun: Begun, next: Part)
+    pub fn go_part(&mut self, begun: BegunStatement, next: Part)
         ensures { body_state_of self.new
-            ≡ body_state code self.old.depth (stack_of self.old.frames) (part (begun_of begun) (part_of next)) }
+            ≡ body_state code self.old.depth (stack_of self.old.frames)
+            (part (begun_statement_of begun) (part_of next)) }
     {
         self.go(Place::Part(begun, next));
     }
@@ -303,18 +304,24 @@ impl BodyState {
     }
 
     /// An operand is next, which a statement needs.
-    pub fn wait(&mut self, begun: Begun, need: Need) -> Result<(), NoMemory>
+    pub fn wait(&mut self, begun: BegunStatement, need: Need) -> Result<(), NoMemory>
         ensures { OnOk result (body_state_of self.new
             ≡ body_state code self.old.depth
-            (waiting (begun_of begun) (need_of need) ∷ stack_of self.old.frames) operand) }
+            (waiting (begun_statement_of begun) (need_of need) ∷ stack_of self.old.frames) operand) }
     {
         self.expect(Frame::Waiting(begun, need))
     }
 
     /// The statements inside of one that has begun are next.
-    pub fn enter(&mut self, alloc: Global, begun: Begun, body: Body) -> Result<(), NoMemory>
+    pub fn enter(
+        &mut self,
+        alloc: Global,
+        begun: BegunStatement,
+        body: Body,
+    ) -> Result<(), NoMemory>
         ensures { OnOk result (body_state_of self.new
-            ≡ body_state code self.old.depth (within (begun_of begun) (body_of body) ∷ stack_of self.old.frames)
+            ≡ body_state code self.old.depth
+            (within (begun_statement_of begun) (body_of body) ∷ stack_of self.old.frames)
             (statement (no_statements code))) }
     {
         self.frames.push(Frame::Within(begun, body))?;
@@ -326,7 +333,7 @@ impl BodyState {
     pub fn close(
         &mut self,
         alloc: Global,
-        begun: Begun,
+        begun: BegunStatement,
         kind: RawStmtKind,
     ) -> Result<bool, NoMemory>
         ensures { IfOk result (λ goes. went goes self.new

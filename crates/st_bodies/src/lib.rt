@@ -5,7 +5,9 @@
 //! and not which names may be declared.
 #![tactic(auto)]
 
-pub use body_state::{Argument, Begun, Body, BodyState, Call, Cases, Frame, Need, Part, Place};
+pub use body_state::{
+    Argument, BegunStatement, Body, BodyState, Call, Cases, Frame, Need, Part, Place,
+};
 pub use depth::is_deep_at;
 pub use expression::Held;
 pub use statement::step;

@@ -3,9 +3,9 @@ ghost use Rattle.std.specs.Prelude.{◌≡◌, IfOk};
 ghost use Rattle.st_grammar.specs.inner.Machine.{code, area_value, loop_test, selector, test, to_area, to_var};
 ghost use Rattle.st_grammar.specs.inner.Steps.{need_closed};
 ghost use Rattle.st_grammar.specs.declared.kind.Kind.TheVariants as kind;
-ghost use Rattle.st_bodies.specs.inner.BodyStates.{begun_of, measured_of, need_of, stack_of, went};
+ghost use Rattle.st_bodies.specs.inner.BodyStates.{begun_statement_of, measured_of, need_of, stack_of, went};
 
-use crate::body_state::{Begun, Body, BodyState, Cases, Need, Part};
+use crate::body_state::{BegunStatement, Body, BodyState, Cases, Need, Part};
 use crate::expression::{Held, hold};
 use s7_base::{Boxed, List, NoMemory, Width};
 use st_grammar::{Fixed, Measured};
@@ -15,14 +15,14 @@ use std::alloc::Global;
 /// The value of an assignment ends.
 fn assigned(
     at: &mut BodyState,
-    mut begun: Begun,
+    mut begun: BegunStatement,
     var: RawVar,
     value: Measured,
     word: Fixed,
 ) -> Result<bool, NoMemory>
     ensures { IfOk result (λ goes. went goes at.new
         ≡ need_closed code at.old.depth (stack_of at.old.frames)
-        (begun_of begun) (to_var var) value (kind.Fixed word)) }
+        (begun_statement_of begun) (to_var var) value (kind.Fixed word)) }
 {
     let Fixed::Semicolon = word else {
         drop(value);
@@ -40,14 +40,14 @@ fn assigned(
 fn pointer_closed(
     alloc: Global,
     at: &mut BodyState,
-    begun: Begun,
+    begun: BegunStatement,
     width: Width,
     pointer: Measured,
     word: Fixed,
 ) -> Result<bool, NoMemory>
     ensures { IfOk result (λ goes. went goes at.new
         ≡ need_closed code at.old.depth (stack_of at.old.frames)
-        (begun_of begun) (to_area width) pointer (kind.Fixed word)) }
+        (begun_statement_of begun) (to_area width) pointer (kind.Fixed word)) }
 {
     let Fixed::Comma = word else {
         drop(pointer);
@@ -62,7 +62,7 @@ fn pointer_closed(
 fn written(
     alloc: Global,
     at: &mut BodyState,
-    begun: Begun,
+    begun: BegunStatement,
     width: Width,
     pointer: Held,
     value: Measured,
@@ -70,7 +70,7 @@ fn written(
 ) -> Result<bool, NoMemory>
     ensures { IfOk result (λ goes. went goes at.new
         ≡ need_closed code at.old.depth (stack_of at.old.frames)
-        (begun_of begun) (area_value width (measured_of pointer)) value (kind.Fixed word)) }
+        (begun_statement_of begun) (area_value width (measured_of pointer)) value (kind.Fixed word)) }
 {
     let Fixed::Close = word else {
         drop(value);
@@ -88,13 +88,14 @@ fn written(
 fn tested(
     alloc: Global,
     at: &mut BodyState,
-    begun: Begun,
+    begun: BegunStatement,
     arms: List<RawArm>,
     value: Measured,
     word: Fixed,
 ) -> Result<bool, NoMemory>
     ensures { IfOk result (λ goes. went goes at.new
-        ≡ need_closed code at.old.depth (stack_of at.old.frames) (begun_of begun) (test arms) value (kind.Fixed word)) }
+        ≡ need_closed code at.old.depth (stack_of at.old.frames)
+        (begun_statement_of begun) (test arms) value (kind.Fixed word)) }
 {
     let Fixed::Then = word else {
         drop(value);
@@ -109,12 +110,13 @@ fn tested(
 fn selected(
     alloc: Global,
     at: &mut BodyState,
-    begun: Begun,
+    begun: BegunStatement,
     value: Measured,
     word: Fixed,
 ) -> Result<bool, NoMemory>
     ensures { IfOk result (λ goes. went goes at.new
-        ≡ need_closed code at.old.depth (stack_of at.old.frames) (begun_of begun) selector value (kind.Fixed word)) }
+        ≡ need_closed code at.old.depth (stack_of at.old.frames)
+        (begun_statement_of begun) selector value (kind.Fixed word)) }
 {
     let Fixed::Of = word else {
         drop(value);
@@ -132,12 +134,13 @@ fn selected(
 fn loop_tested(
     alloc: Global,
     at: &mut BodyState,
-    begun: Begun,
+    begun: BegunStatement,
     value: Measured,
     word: Fixed,
 ) -> Result<bool, NoMemory>
     ensures { IfOk result (λ goes. went goes at.new
-        ≡ need_closed code at.old.depth (stack_of at.old.frames) (begun_of begun) loop_test value (kind.Fixed word)) }
+        ≡ need_closed code at.old.depth (stack_of at.old.frames)
+        (begun_statement_of begun) loop_test value (kind.Fixed word)) }
 {
     let Fixed::Do = word else {
         drop(value);
@@ -152,13 +155,14 @@ fn loop_tested(
 pub fn need_closed(
     alloc: Global,
     at: &mut BodyState,
-    begun: Begun,
+    begun: BegunStatement,
     need: Need,
     value: Measured,
     word: Fixed,
 ) -> Result<bool, NoMemory>
     ensures { IfOk result (λ goes. went goes at.new
-        ≡ need_closed code at.old.depth (stack_of at.old.frames) (begun_of begun) (need_of need) value (kind.Fixed word)) }
+        ≡ need_closed code at.old.depth (stack_of at.old.frames)
+        (begun_statement_of begun) (need_of need) value (kind.Fixed word)) }
 {
     match need {
         Need::ToVar(var) => assigned(at, begun, var, value, word),

@@ -6,9 +6,9 @@ ghost use Rattle.st_grammar.specs.inner.Machine.{code, choosing, closing, of_cas
 ghost use Rattle.st_grammar.specs.inner.Steps.{shallower, body_state, is_loop, in_loop, body_closed, in_body, at_lead, at_statement, at_target, at_label, at_call, at_part, at_closing, step_at};
 ghost use Rattle.st_grammar.specs.declared.kind.Kind.TheVariants as kind;
 ghost use Rattle.st_grammar.specs.declared.kind.Lead.TheVariants as lead;
-ghost use Rattle.st_bodies.specs.inner.BodyStates.{begun_of, body_of, frame_of, measured_of, part_of, place_of, stack_of, went};
+ghost use Rattle.st_bodies.specs.inner.BodyStates.{begun_statement_of, body_of, frame_of, measured_of, part_of, place_of, stack_of, went};
 
-use crate::body_state::{Begun, Body, BodyState, Call, Cases, Frame, Need, Part, Place};
+use crate::body_state::{BegunStatement, Body, BodyState, Call, Cases, Frame, Need, Part, Place};
 use crate::expression::{Held, is_value, label_of};
 use crate::operand::{at_opening, at_operand, at_operator};
 use s7_base::{Boxed, Line, List, NoMemory, Width};
@@ -50,7 +50,7 @@ fn may_jump(inside: bool, jump: Jump) -> bool
 fn choosing_closed(
     alloc: Global,
     at: &mut BodyState,
-    begun: Begun,
+    begun: BegunStatement,
     mut arms: List<RawArm>,
     test: Held,
     body: List<RawStmt>,
@@ -58,7 +58,7 @@ fn choosing_closed(
 ) -> Result<bool, NoMemory>
     ensures { IfOk result (λ goes. went goes at.new
         ≡ body_closed code at.old.depth (stack_of at.old.frames)
-        (begun_of begun) (choosing arms (measured_of test)) body kind) }
+        (begun_statement_of begun) (choosing arms (measured_of test)) body kind) }
 {
     let Kind::Fixed(word) = kind else {
         return Ok(false);
@@ -81,13 +81,14 @@ fn choosing_closed(
 /// A label of an arm of a CASE.
 fn at_label(
     at: &mut BodyState,
-    begun: Begun,
+    begun: BegunStatement,
     cases: Boxed<Cases>,
     mut labels: List<(StType, i64)>,
     literal: Literal,
 ) -> Result<bool, NoMemory>
     ensures { IfOk result (λ goes. went goes at.new
-        ≡ at_label code at.old.depth (stack_of at.old.frames) (begun_of begun) (measured_of cases.selector) cases.arms
+        ≡ at_label code at.old.depth (stack_of at.old.frames)
+        (begun_statement_of begun) (measured_of cases.selector) cases.arms
         (λ c. labels ++ label_tree c ∷ []) (kind.Literal literal)) }
 {
     if !is_value(literal) {
@@ -117,7 +118,7 @@ fn with_case(
 fn case_closed(
     alloc: Global,
     at: &mut BodyState,
-    begun: Begun,
+    begun: BegunStatement,
     cases: Boxed<Cases>,
     otherwise: List<RawStmt>,
 ) -> Result<bool, NoMemory>
@@ -134,7 +135,7 @@ fn case_closed(
 fn selecting_closed(
     alloc: Global,
     at: &mut BodyState,
-    begun: Begun,
+    begun: BegunStatement,
     cases: Boxed<Cases>,
     labels: List<(StType, i64)>,
     body: List<RawStmt>,
@@ -142,7 +143,7 @@ fn selecting_closed(
 ) -> Result<bool, NoMemory>
     ensures { IfOk result (λ goes. went goes at.new
         ≡ body_closed code at.old.depth (stack_of at.old.frames)
-        (begun_of begun) (selecting (measured_of cases.selector) cases.arms labels) body kind) }
+        (begun_statement_of begun) (selecting (measured_of cases.selector) cases.arms labels) body kind) }
 {
     let cases = with_case(alloc, cases, labels, body)?;
     match kind {
@@ -160,13 +161,13 @@ fn selecting_closed(
 fn body_closed(
     alloc: Global,
     at: &mut BodyState,
-    begun: Begun,
+    begun: BegunStatement,
     outer: Body,
     body: List<RawStmt>,
     kind: Kind,
 ) -> Result<bool, NoMemory>
     ensures { IfOk result (λ goes. went goes at.new
-        ≡ body_closed code at.old.depth (stack_of at.old.frames) (begun_of begun) (body_of outer) body kind) }
+        ≡ body_closed code at.old.depth (stack_of at.old.frames) (begun_statement_of begun) (body_of outer) body kind) }
 {
     let statement = match outer {
         Body::Choosing(arms, test) => {
@@ -252,12 +253,12 @@ fn at_lead(
         Lead::While => Need::LoopTest,
         Lead::Jump(jump) => return at_jump(alloc, at, before, jump, line),
         Lead::AreaWrite(width) => {
-            at.go_part(Begun { before, line }, Part::WriteOpen(width));
+            at.go_part(BegunStatement { before, line }, Part::WriteOpen(width));
             return Ok(true);
         }
         Lead::Program | Lead::Function => return Ok(false),
     };
-    at.wait(Begun { before, line }, need)?;
+    at.wait(BegunStatement { before, line }, need)?;
     at.deepen()?;
     Ok(true)
 }
@@ -274,7 +275,7 @@ fn at_statement(
 {
     match kind {
         Kind::Variable(var, line) => {
-            at.go_part(Begun { before, line }, Part::Target(var));
+            at.go_part(BegunStatement { before, line }, Part::Target(var));
             Ok(true)
         }
         Kind::Lead(lead, line) => at_lead(alloc, at, before, lead, line),
@@ -287,9 +288,14 @@ fn at_statement(
 }
 
 /// What stands after a variable at the beginning of a statement.
-fn at_target(at: &mut BodyState, begun: Begun, var: RawVar, kind: Kind) -> Result<bool, NoMemory>
+fn at_target(
+    at: &mut BodyState,
+    begun: BegunStatement,
+    var: RawVar,
+    kind: Kind,
+) -> Result<bool, NoMemory>
     ensures { IfOk result (λ goes. went goes at.new
-        ≡ at_target code at.old.depth (stack_of at.old.frames) (begun_of begun) var kind) }
+        ≡ at_target code at.old.depth (stack_of at.old.frames) (begun_statement_of begun) var kind) }
 {
     match kind {
         Kind::Fixed(Fixed::Becomes) => at.wait(begun, Need::ToVar(var))?,
@@ -308,13 +314,13 @@ fn at_target(at: &mut BodyState, begun: Begun, var: RawVar, kind: Kind) -> Resul
 /// A name of a formal.
 fn at_formal(
     at: &mut BodyState,
-    begun: Begun,
+    begun: BegunStatement,
     call: Boxed<Call>,
     kind: Kind,
 ) -> Result<bool, NoMemory>
     ensures { IfOk result (λ goes. went goes at.new
         ≡ at_call code at.old.depth (stack_of at.old.frames)
-        (begun_of begun) (next_formal call.name call.actuals) kind) }
+        (begun_statement_of begun) (next_formal call.name call.actuals) kind) }
 {
     match kind {
         Kind::Variable(RawVar::Name(formal), _) => {
@@ -337,12 +343,12 @@ fn called(alloc: Global, name: List<u8>) -> Result<Boxed<Call>, NoMemory>
 fn at_first_formal(
     alloc: Global,
     at: &mut BodyState,
-    begun: Begun,
+    begun: BegunStatement,
     name: List<u8>,
     kind: Kind,
 ) -> Result<bool, NoMemory>
     ensures { IfOk result (λ goes. went goes at.new
-        ≡ at_call code at.old.depth (stack_of at.old.frames) (begun_of begun) (first_formal name) kind) }
+        ≡ at_call code at.old.depth (stack_of at.old.frames) (begun_statement_of begun) (first_formal name) kind) }
 {
     match kind {
         Kind::Fixed(Fixed::Close) => {
@@ -355,14 +361,14 @@ fn at_first_formal(
 /// The `:=` after the name of a formal.
 fn at_becoming(
     at: &mut BodyState,
-    begun: Begun,
+    begun: BegunStatement,
     call: Boxed<Call>,
     formal: List<u8>,
     kind: Kind,
 ) -> Result<bool, NoMemory>
     ensures { IfOk result (λ goes. went goes at.new
         ≡ at_call code at.old.depth (stack_of at.old.frames)
-        (begun_of begun) (becoming call.name call.actuals formal) kind) }
+        (begun_statement_of begun) (becoming call.name call.actuals formal) kind) }
 {
     let Kind::Fixed(Fixed::Becomes) = kind else {
         return Ok(false);
@@ -390,14 +396,14 @@ fn with_actual(
 fn at_actual(
     alloc: Global,
     at: &mut BodyState,
-    begun: Begun,
+    begun: BegunStatement,
     call: Boxed<Call>,
     formal: List<u8>,
     kind: Kind,
 ) -> Result<bool, NoMemory>
     ensures { IfOk result (λ goes. went goes at.new
         ≡ at_call code at.old.depth (stack_of at.old.frames)
-        (begun_of begun) (giving call.name call.actuals formal) kind) }
+        (begun_statement_of begun) (giving call.name call.actuals formal) kind) }
 {
     let Kind::Variable(var, _) = kind else {
         return Ok(false);
@@ -411,13 +417,13 @@ fn at_actual(
 fn at_given(
     alloc: Global,
     at: &mut BodyState,
-    begun: Begun,
+    begun: BegunStatement,
     call: Boxed<Call>,
     kind: Kind,
 ) -> Result<bool, NoMemory>
     ensures { IfOk result (λ goes. went goes at.new
         ≡ at_call code at.old.depth (stack_of at.old.frames)
-        (begun_of begun) (given call.name call.actuals) kind) }
+        (begun_statement_of begun) (given call.name call.actuals) kind) }
 {
     match kind {
         Kind::Fixed(Fixed::Comma) => {
@@ -435,13 +441,14 @@ fn at_given(
 /// A label where one must stand.
 fn at_next_label(
     at: &mut BodyState,
-    begun: Begun,
+    begun: BegunStatement,
     cases: Boxed<Cases>,
     labels: List<(StType, i64)>,
     kind: Kind,
 ) -> Result<bool, NoMemory>
     ensures { IfOk result (λ goes. went goes at.new
-        ≡ at_label code at.old.depth (stack_of at.old.frames) (begun_of begun) (measured_of cases.selector) cases.arms
+        ≡ at_label code at.old.depth (stack_of at.old.frames)
+        (begun_statement_of begun) (measured_of cases.selector) cases.arms
         (λ c. labels ++ label_tree c ∷ []) kind) }
 {
     match kind {
@@ -454,14 +461,14 @@ fn at_next_label(
 fn at_labelled(
     alloc: Global,
     at: &mut BodyState,
-    begun: Begun,
+    begun: BegunStatement,
     cases: Boxed<Cases>,
     labels: List<(StType, i64)>,
     kind: Kind,
 ) -> Result<bool, NoMemory>
     ensures { IfOk result (λ goes. went goes at.new
         ≡ at_part code at.old.depth (stack_of at.old.frames)
-        (begun_of begun) (labelled (measured_of cases.selector) cases.arms labels) kind) }
+        (begun_statement_of begun) (labelled (measured_of cases.selector) cases.arms labels) kind) }
 {
     match kind {
         Kind::Fixed(Fixed::Comma) => at.go_part(begun, Part::NextLabel(cases, labels)),
@@ -474,12 +481,12 @@ fn at_labelled(
 /// The bracket of an AREA_WRITE.
 fn at_write_open(
     at: &mut BodyState,
-    begun: Begun,
+    begun: BegunStatement,
     width: Width,
     kind: Kind,
 ) -> Result<bool, NoMemory>
     ensures { IfOk result (λ goes. went goes at.new
-        ≡ at_part code at.old.depth (stack_of at.old.frames) (begun_of begun) (write_open width) kind) }
+        ≡ at_part code at.old.depth (stack_of at.old.frames) (begun_statement_of begun) (write_open width) kind) }
 {
     let Kind::Fixed(Fixed::Open) = kind else {
         return Ok(false);
@@ -493,12 +500,12 @@ fn at_write_open(
 fn at_part(
     alloc: Global,
     at: &mut BodyState,
-    begun: Begun,
+    begun: BegunStatement,
     part: Part,
     kind: Kind,
 ) -> Result<bool, NoMemory>
     ensures { IfOk result (λ goes. went goes at.new
-        ≡ at_part code at.old.depth (stack_of at.old.frames) (begun_of begun) (part_of part) kind) }
+        ≡ at_part code at.old.depth (stack_of at.old.frames) (begun_statement_of begun) (part_of part) kind) }
 {
     match part {
         Part::Target(var) => at_target(at, begun, var, kind),

@@ -47,7 +47,8 @@ body_end d (within b (machine.looping e) ∷ s) body = refl
 body_end d (within b (machine.selecting e arms labels) ∷ s) body = refl
 body_end d (within b (machine.otherwise_case e arms) ∷ s) body = refl
 
-part_end : (d : ℕ) (s : List (Frame code)) (b : machine.Begun code) (x : Part code) → at_part code d s b x end ≡ None
+part_end : (d : ℕ) (s : List (Frame code)) (b : machine.BegunStatement code) (x : Part code) →
+    at_part code d s b x end ≡ None
 part_end d s b (target (var.Name name)) = refl
 part_end d s b (target (var.Direct area block w byte bit)) = refl
 part_end d s b (write_open w) = refl

@@ -5,7 +5,7 @@ use Rattle.st_grammar.specs.Forms.{Form, none, no_local, prefix, infix_of, State
 use Rattle.st_grammar.specs.Grammar.{prefix_level, infix_level, is_value, may_jump, is_direct, tree, tree_one, tree_all, tree_arms, tree_cases, tree_actuals, tree_labels, tree_items, tree_type, tree_globals, tree_locals, tree_units, held}
 use Rattle.st_tree.specs.Naming.{is_free, may_name_global, may_name_unit, names_block}
 use Rattle.st_grammar.specs.Levels.{height}
-use Rattle.st_grammar.specs.inner.Machine.{written, code, of_label, add_label, add_case, of_literal, of_jump, head_of, Begun, Argument, only, shifted, shifted_by, gate, first, second, Need, to_var, to_area, area_value, test, selector, loop_test, Body, choosing, otherwise, looping, selecting, otherwise_case, Frame, unary, left, bracket, argument, waiting, within, Part, target, write_open, first_formal, next_formal, becoming, giving, given, first_label, next_label, labelled, Place, statement, part, closing, operand, operator, opening, BodyState, Row, at_word, at_place, at_colon, at_type, at_square, at_zero, at_dots, at_last, at_close, at_of, at_byte, at_becomes, at_open, at_item, at_count, at_value, at_value_end, at_comma, at_end, local_colon, local_type, local_end, Before, Top, Which, formals, temps, State, start, globals, row, between, heading, opened, formals_done, section, typing, inside, over}
+use Rattle.st_grammar.specs.inner.Machine.{written, code, of_label, add_label, add_case, of_literal, of_jump, head_of, BegunStatement, Argument, only, shifted, shifted_by, gate, first, second, Need, to_var, to_area, area_value, test, selector, loop_test, Body, choosing, otherwise, looping, selecting, otherwise_case, Frame, unary, left, bracket, argument, waiting, within, Part, target, write_open, first_formal, next_formal, becoming, giving, given, first_label, next_label, labelled, Place, statement, part, closing, operand, operator, opening, BodyState, Row, at_word, at_place, at_colon, at_type, at_square, at_zero, at_dots, at_last, at_close, at_of, at_byte, at_becomes, at_open, at_item, at_count, at_value, at_value_end, at_comma, at_end, local_colon, local_type, local_end, Before, Top, Which, formals, temps, State, start, globals, row, between, heading, opened, formals_done, section, typing, inside, over}
 use Rattle.st_grammar.specs.inner.Steps.{body_state, weakest, limit, Reduced, reduced_to, reduce, shallower, with_prefix, closed, closed_to, waits, in_loop, in_body, step_at, is_zero, row_step, before_units, top_of, at_between, may_name, may_type, ends, leave, at_inside, at_formals_done, at_opened, next, level_at, mark}
 use Rattle.st_grammar.specs.declared.heading.Heading.{Heading}
 use Rattle.st_grammar.specs.declared.measured.Measured.{Measured}
@@ -27,8 +27,8 @@ use Rattle.st_tree.specs.declared.raw.RawVar.TheVariants as var
 abbrev pub bare_expr : Form → Measured
 bare_expr f = record { tree = tree f; height = height f }
 
-abbrev pub bare_begun : Begun written → Begun code
-bare_begun b = record { before = tree_all b.before; line = b.line }
+abbrev pub bare_begun_statement : BegunStatement written → BegunStatement code
+bare_begun_statement b = record { before = tree_all b.before; line = b.line }
 
 abbrev pub bare_argument : Argument written → Argument code
 bare_argument (only op) = only op
@@ -58,8 +58,8 @@ bare_frame (unary op) = unary op
 bare_frame (left op f) = left op (bare_expr f)
 bare_frame bracket = bracket
 bare_frame (argument a) = argument (bare_argument a)
-bare_frame (waiting b n) = waiting (bare_begun b) (bare_need n)
-bare_frame (within b y) = within (bare_begun b) (bare_body y)
+bare_frame (waiting b n) = waiting (bare_begun_statement b) (bare_need n)
+bare_frame (within b y) = within (bare_begun_statement b) (bare_body y)
 
 abbrev pub bare_stack : List (Frame written) → List (Frame code)
 bare_stack [] = []
@@ -79,7 +79,7 @@ bare_part (labelled f arms labels) = labelled (bare_expr f) (tree_cases arms) (t
 
 abbrev pub bare_place : Place written → Place code
 bare_place (statement body) = statement (tree_all body)
-bare_place (part b x) = part (bare_begun b) (bare_part x)
+bare_place (part b x) = part (bare_begun_statement b) (bare_part x)
 bare_place (closing before x) = closing (tree_all before) (tree_one x)
 bare_place operand = operand
 bare_place (operator f) = operator (bare_expr f)

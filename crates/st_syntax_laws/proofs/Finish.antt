@@ -10,7 +10,7 @@ use Rattle.st_syntax_laws.proofs.Kept.{InStatements, InExpr, PlaceFits, Shaped}
 use Rattle.st_grammar.specs.Forms.{Form, literal, group, prefix, infix_of, apply, shift, select, Actuals, Labels, label, Items, no_unit, none, Statement, Statements, CaseArms, Globals, GlobalType, plain, Locals, Section, absent}
 use Rattle.st_grammar.specs.Grammar.{infix_level, level, Binds, end_word}
 use Rattle.st_tree.specs.Naming.{is_free, may_name_global, names_block}
-use Rattle.st_grammar.specs.inner.Machine.{written, Begun, only, shifted, shifted_by, gate, first, second, to_var, to_area, area_value, test, selector, loop_test, choosing, otherwise, looping, selecting, otherwise_case, Frame, unary, left, bracket, argument, waiting, within, Part, target, write_open, first_formal, next_formal, becoming, giving, given, labelled, Place, statement, part, closing, operand, operator, opening, Row, at_word, at_place, at_colon, at_type, at_square, at_zero, at_dots, at_last, at_close, at_of, at_byte, at_becomes, at_open, at_item, at_count, at_value, at_value_end, at_comma, at_end, Typing, local_colon, local_type, local_end, Before, Top, Which, formals, temps, State, start, globals, row, between, heading, opened, formals_done, section, typing, inside, over}
+use Rattle.st_grammar.specs.inner.Machine.{written, BegunStatement, only, shifted, shifted_by, gate, first, second, to_var, to_area, area_value, test, selector, loop_test, choosing, otherwise, looping, selecting, otherwise_case, Frame, unary, left, bracket, argument, waiting, within, Part, target, write_open, first_formal, next_formal, becoming, giving, given, labelled, Place, statement, part, closing, operand, operator, opening, Row, at_word, at_place, at_colon, at_type, at_square, at_zero, at_dots, at_last, at_close, at_of, at_byte, at_becomes, at_open, at_item, at_count, at_value, at_value_end, at_comma, at_end, Typing, local_colon, local_type, local_end, Before, Top, Which, formals, temps, State, start, globals, row, between, heading, opened, formals_done, section, typing, inside, over}
 use Rattle.st_grammar.specs.inner.Steps.{shallower, limit, body_start, passes}
 use Rattle.st_grammar.specs.declared.kind.Fixed.TheVariants as fixed
 use Rattle.st_grammar.specs.declared.kind.Function.{Function}
@@ -151,19 +151,19 @@ opening_ends u d s f w h = by_tokens (kind.Fixed fixed.Open ∷ []) (λ ks. refl
 
 -- Parts of statements
 
-given_ends : {u : Unit_read} {d : ℕ} {s : List (Frame written)} {b : Begun written} {name : List ℕ} {actuals : Actuals} {w : List ℕ} → InStatements s → EndsIn u d s (part b (given name actuals)) w
+given_ends : {u : Unit_read} {d : ℕ} {s : List (Frame written)} {b : BegunStatement written} {name : List ℕ} {actuals : Actuals} {w : List ℕ} → InStatements s → EndsIn u d s (part b (given name actuals)) w
 given_ends h = by_tokens (close ∷ []) (λ ks. refl) (closing_ends h)
 
-giving_ends : {u : Unit_read} {d : ℕ} {s : List (Frame written)} {b : Begun written} {name : List ℕ} {actuals : Actuals} {formal : List ℕ × Line} {w : List ℕ} → InStatements s → EndsIn u d s (part b (giving name actuals formal)) w
+giving_ends : {u : Unit_read} {d : ℕ} {s : List (Frame written)} {b : BegunStatement written} {name : List ℕ} {actuals : Actuals} {formal : List ℕ × Line} {w : List ℕ} → InStatements s → EndsIn u d s (part b (giving name actuals formal)) w
 giving_ends {b = b} h = by_tokens (kind.Variable (var.Name []) b.line ∷ []) (λ ks. refl) (given_ends h)
 
-becoming_ends : {u : Unit_read} {d : ℕ} {s : List (Frame written)} {b : Begun written} {name : List ℕ} {actuals : Actuals} {formal : List ℕ × Line} {w : List ℕ} → InStatements s → EndsIn u d s (part b (becoming name actuals formal)) w
+becoming_ends : {u : Unit_read} {d : ℕ} {s : List (Frame written)} {b : BegunStatement written} {name : List ℕ} {actuals : Actuals} {formal : List ℕ × Line} {w : List ℕ} → InStatements s → EndsIn u d s (part b (becoming name actuals formal)) w
 becoming_ends h = by_tokens (kind.Fixed fixed.Becomes ∷ []) (λ ks. refl) (giving_ends h)
 
-labelled_ends : {u : Unit_read} {d : ℕ} {s : List (Frame written)} {b : Begun written} {e : Form} {arms : CaseArms} {labels : Labels} {w : List ℕ} → InStatements s → EndsIn u d s (part b (labelled e arms labels)) w
+labelled_ends : {u : Unit_read} {d : ℕ} {s : List (Frame written)} {b : BegunStatement written} {e : Form} {arms : CaseArms} {labels : Labels} {w : List ℕ} → InStatements s → EndsIn u d s (part b (labelled e arms labels)) w
 labelled_ends h = by_tokens (kind.Fixed fixed.Colon ∷ kind.Fixed fixed.EndCase ∷ []) (λ ks. refl) (closing_ends h)
 
-part_ends : (u : Unit_read) (d : ℕ) (s : List (Frame written)) (b : Begun written) (x : Part written) (w : List ℕ) → PlaceFits s (part b x) → EndsIn u d s (part b x) w
+part_ends : (u : Unit_read) (d : ℕ) (s : List (Frame written)) (b : BegunStatement written) (x : Part written) (w : List ℕ) → PlaceFits s (part b x) → EndsIn u d s (part b x) w
 part_ends u d s b (target v) w h = by_tokens (kind.Fixed fixed.Becomes ∷ []) (λ ks. refl) (operand_ends (h.1, tt, h.0))
 part_ends u d s b (write_open a) w h = by_tokens (kind.Fixed fixed.Open ∷ []) (λ ks. refl) (operand_ends (h.1, tt, h.0))
 part_ends u d s b (first_formal name) w h = by_tokens (close ∷ []) (λ ks. refl) (closing_ends h.0)

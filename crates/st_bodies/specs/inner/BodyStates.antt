@@ -7,7 +7,7 @@ use Rattle.st_grammar.specs.inner.Steps.{body_state}
 use Rattle.st_grammar.specs.declared.measured.Measured.{Measured}
 use Rattle.st_tree.specs.declared.raw.RawStmt.{RawStmt}
 use Rattle.st_bodies.specs.declared.expression.Held.{Held}
-use Rattle.st_bodies.specs.declared.body_state.Begun.{Begun}
+use Rattle.st_bodies.specs.declared.body_state.BegunStatement.{BegunStatement}
 use Rattle.st_bodies.specs.declared.body_state.Argument.{Argument}
 use Rattle.st_bodies.specs.declared.body_state.Argument.TheVariants as argument
 use Rattle.st_bodies.specs.declared.body_state.Need.{Need}
@@ -23,8 +23,8 @@ use Rattle.st_bodies.specs.declared.body_state.Place.TheVariants as place
 use Rattle.st_bodies.specs.declared.body_state.BodyState.{BodyState}
 
 -- a statement that has begun
-abbrev pub begun_of : Begun → machine.Begun code
-begun_of b = record { before = b.before; line = b.line }
+abbrev pub begun_statement_of : BegunStatement → machine.BegunStatement code
+begun_statement_of b = record { before = b.before; line = b.line }
 
 -- an operand in its box
 abbrev pub measured_of : Held → Measured
@@ -62,8 +62,8 @@ frame_of (frame.Unary op) = machine.unary op
 frame_of (frame.Left op e) = machine.left op (measured_of e)
 frame_of frame.Bracket = machine.bracket
 frame_of (frame.Argument a) = machine.argument (argument_of a)
-frame_of (frame.Waiting b n) = machine.waiting (begun_of b) (need_of n)
-frame_of (frame.Within b y) = machine.within (begun_of b) (body_of y)
+frame_of (frame.Waiting b n) = machine.waiting (begun_statement_of b) (need_of n)
+frame_of (frame.Within b y) = machine.within (begun_statement_of b) (body_of y)
 
 -- the frame that was opened last stands first
 abbrev pub stack_of : List Frame → List (machine.Frame code)
@@ -95,7 +95,7 @@ part_of (part.Labelled c labels) = machine.labelled (measured_of c.selector) c.a
 -- what may come next in statements
 abbrev pub place_of : Place → machine.Place code
 place_of (place.Statement before) = machine.statement before
-place_of (place.Part b x) = machine.part (begun_of b) (part_of x)
+place_of (place.Part b x) = machine.part (begun_statement_of b) (part_of x)
 place_of (place.Closing before x) = machine.closing before x
 place_of place.Operand = machine.operand
 place_of (place.Operator e) = machine.operator e

@@ -383,7 +383,7 @@ add_unit code units head formals locals body =
 -- What is open
 
 -- a statement that has begun: those before it, and its line
-pub record Begun (m : Mode) : Type 0 where
+pub record BegunStatement (m : Mode) : Type 0 where
   pub before : StatementsIn m
   pub line : Line
 
@@ -420,8 +420,8 @@ pub data Frame (m : Mode) : Type 0 where
   left : BinaryOp → ExprIn m → Frame m
   bracket : Frame m
   argument : Argument m → Frame m
-  waiting : Begun m → Need m → Frame m
-  within : Begun m → Body m → Frame m
+  waiting : BegunStatement m → Need m → Frame m
+  within : BegunStatement m → Body m → Frame m
 
 -- What may come next
 
@@ -442,7 +442,7 @@ pub data Part (m : Mode) : Type 0 where
 -- the bracket of a function
 pub data Place (m : Mode) : Type 0 where
   statement : StatementsIn m → Place m
-  part : Begun m → Part m → Place m
+  part : BegunStatement m → Part m → Place m
   closing : StatementsIn m → StatementIn m → Place m
   operand : Place m
   operator : ExprIn m → Place m

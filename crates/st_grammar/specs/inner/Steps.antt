@@ -3,7 +3,7 @@ use Rattle.std.specs.Prelude.{ℕ, zero, suc, ◌+◌, ◌-◌, Bool, true, fals
 use Rattle.s7_base.specs.declared.reason.Line.{Line}
 use Rattle.st_grammar.specs.Grammar.{prefix_level, infix_level, is_value, may_jump, is_direct, is_formal_type}
 use Rattle.st_tree.specs.Naming.{is_free, may_name_global, may_name_local, may_name_unit, names_block}
-use Rattle.st_grammar.specs.inner.Machine.{Mode, ExprIn, StatementsIn, StatementIn, CasesIn, LabelsIn, VarIn, HeadIn, GlobalSectionIn, GlobalsIn, LocalsIn, LocalSectionIn, of_literal, of_variable, of_group, of_prefix, of_infix, of_apply, of_shift, of_select, height_in, no_statements, add_empty, add_statement, no_arms, add_arm, no_cases, add_case, of_label, add_label, named, at_var, no_actuals, add_actual, of_assign, of_write, of_invoke, of_choice, of_choice_else, of_cases, of_cases_else, of_loop, of_jump, no_items, add_single, add_times, of_plain, of_bytes, no_globals, add_global, no_locals, add_local, no_global_section, global_section, no_section, section_of, head_of, is_program, no_units, add_unit, Begun, Argument, only, shifted, shifted_by, gate, first, second, Need, to_var, to_area, area_value, test, selector, loop_test, Body, choosing, otherwise, looping, selecting, otherwise_case, Frame, unary, left, bracket, argument, waiting, within, Part, target, write_open, first_formal, next_formal, becoming, giving, given, first_label, next_label, labelled, Place, statement, part, closing, operand, operator, opening, BodyState, Row, at_word, at_place, at_colon, at_type, at_square, at_zero, at_dots, at_last, at_close, at_of, at_byte, at_becomes, at_open, at_item, at_count, at_value, at_value_end, at_comma, at_end, Typing, local_colon, local_type, local_end, Before, Top, Which, formals, temps, State, start, globals, row, between, heading, opened, formals_done, section, typing, inside, over}
+use Rattle.st_grammar.specs.inner.Machine.{Mode, ExprIn, StatementsIn, StatementIn, CasesIn, LabelsIn, VarIn, HeadIn, GlobalSectionIn, GlobalsIn, LocalsIn, LocalSectionIn, of_literal, of_variable, of_group, of_prefix, of_infix, of_apply, of_shift, of_select, height_in, no_statements, add_empty, add_statement, no_arms, add_arm, no_cases, add_case, of_label, add_label, named, at_var, no_actuals, add_actual, of_assign, of_write, of_invoke, of_choice, of_choice_else, of_cases, of_cases_else, of_loop, of_jump, no_items, add_single, add_times, of_plain, of_bytes, no_globals, add_global, no_locals, add_local, no_global_section, global_section, no_section, section_of, head_of, is_program, no_units, add_unit, BegunStatement, Argument, only, shifted, shifted_by, gate, first, second, Need, to_var, to_area, area_value, test, selector, loop_test, Body, choosing, otherwise, looping, selecting, otherwise_case, Frame, unary, left, bracket, argument, waiting, within, Part, target, write_open, first_formal, next_formal, becoming, giving, given, first_label, next_label, labelled, Place, statement, part, closing, operand, operator, opening, BodyState, Row, at_word, at_place, at_colon, at_type, at_square, at_zero, at_dots, at_last, at_close, at_of, at_byte, at_becomes, at_open, at_item, at_count, at_value, at_value_end, at_comma, at_end, Typing, local_colon, local_type, local_end, Before, Top, Which, formals, temps, State, start, globals, row, between, heading, opened, formals_done, section, typing, inside, over}
 use Rattle.st_grammar.specs.declared.kind.Fixed.TheVariants as fixed
 use Rattle.st_grammar.specs.declared.kind.Function.{Function}
 use Rattle.st_grammar.specs.declared.kind.Function.TheVariants as function
@@ -117,7 +117,8 @@ argument_closed m d s a e (kind.Fixed fixed.Comma) = next_argument m d s a e
 argument_closed m d s a e other = None
 
 -- the expression that a statement needs ends
-abbrev pub need_closed : (m : Mode) → ℕ → List (Frame m) → Begun m → Need m → ExprIn m → Kind → Option (BodyState m)
+abbrev pub need_closed : (m : Mode) → ℕ → List (Frame m) → BegunStatement m → Need m → ExprIn m → Kind
+    → Option (BodyState m)
 need_closed m d s b (to_var v) e (kind.Fixed fixed.Semicolon) =
     Some (body_state m d s (statement (add_statement m b.before (of_assign m b.line v e))))
 need_closed m d s b (to_area w) e (kind.Fixed fixed.Comma) =
@@ -168,7 +169,7 @@ in_loop m [] = false
 in_loop m (frame ∷ s) = is_loop m frame || in_loop m s
 
 -- statements end, or a further arm begins
-abbrev pub body_closed : (m : Mode) → ℕ → List (Frame m) → Begun m → Body m → StatementsIn m → Kind
+abbrev pub body_closed : (m : Mode) → ℕ → List (Frame m) → BegunStatement m → Body m → StatementsIn m → Kind
     → Option (BodyState m)
 body_closed m d s b (choosing arms e) body (kind.Fixed fixed.Elsif) =
     Some (body_state m d (waiting b (test (add_arm m arms e body)) ∷ s) operand)
@@ -197,42 +198,44 @@ in_body m d (within b y ∷ s) body k = body_closed m d s b y body k
 in_body m d other body k = None
 
 -- a statement that begins on a line after others
-abbrev pub begun : (m : Mode) → StatementsIn m → Line → Begun m
-begun m before line = record { before = before; line = line }
+abbrev pub begun_statement : (m : Mode) → StatementsIn m → Line → BegunStatement m
+begun_statement m before line = record { before = before; line = line }
 
 -- the word that a statement begins with; EXIT and CONTINUE only in a WHILE
 abbrev pub at_lead : (m : Mode) → ℕ → List (Frame m) → StatementsIn m → Lead → Line → Option (BodyState m)
 at_lead m d s body lead.If line =
-    Some (body_state m (suc d) (waiting (begun m body line) (test (no_arms m)) ∷ s) operand)
-at_lead m d s body lead.Case line = Some (body_state m (suc d) (waiting (begun m body line) selector ∷ s) operand)
-at_lead m d s body lead.While line = Some (body_state m (suc d) (waiting (begun m body line) loop_test ∷ s) operand)
+    Some (body_state m (suc d) (waiting (begun_statement m body line) (test (no_arms m)) ∷ s) operand)
+at_lead m d s body lead.Case line =
+    Some (body_state m (suc d) (waiting (begun_statement m body line) selector ∷ s) operand)
+at_lead m d s body lead.While line =
+    Some (body_state m (suc d) (waiting (begun_statement m body line) loop_test ∷ s) operand)
 at_lead m d s body (lead.Jump word) line =
     if may_jump (in_loop m s) word then Some (body_state m d s (closing body (of_jump m line word))) else None
-at_lead m d s body (lead.AreaWrite w) line = Some (body_state m d s (part (begun m body line) (write_open w)))
+at_lead m d s body (lead.AreaWrite w) line = Some (body_state m d s (part (begun_statement m body line) (write_open w)))
 at_lead m d s body other line = None
 
 -- a token where a statement may begin or statements end
 abbrev pub at_statement : (m : Mode) → ℕ → List (Frame m) → StatementsIn m → Kind → Option (BodyState m)
-at_statement m d s body (kind.Variable v line) = Some (body_state m d s (part (begun m body line) (target v)))
+at_statement m d s body (kind.Variable v line) = Some (body_state m d s (part (begun_statement m body line) (target v)))
 at_statement m d s body (kind.Lead word line) = at_lead m d s body word line
 at_statement m d s body (kind.Fixed fixed.Semicolon) = Some (body_state m d s (statement (add_empty m body)))
 at_statement m d s body other = in_body m d s body other
 
 -- a token after a variable at the beginning of a statement: `:=`, or the bracket of a call
-abbrev pub at_target : (m : Mode) → ℕ → List (Frame m) → Begun m → RawVar → Kind → Option (BodyState m)
+abbrev pub at_target : (m : Mode) → ℕ → List (Frame m) → BegunStatement m → RawVar → Kind → Option (BodyState m)
 at_target m d s b v (kind.Fixed fixed.Becomes) = Some (body_state m d (waiting b (to_var v) ∷ s) operand)
 at_target m d s b (var.Name name) (kind.Fixed fixed.Open) = Some (body_state m (suc d) s (part b (first_formal name)))
 at_target m d s b v other = None
 
 -- a label of an arm where one must stand
-abbrev pub at_label : (m : Mode) → ℕ → List (Frame m) → Begun m → ExprIn m → CasesIn m → (Literal → LabelsIn m) → Kind
-    → Option (BodyState m)
+abbrev pub at_label : (m : Mode) → ℕ → List (Frame m) → BegunStatement m → ExprIn m → CasesIn m → (Literal → LabelsIn m)
+    → Kind → Option (BodyState m)
 at_label m d s b e arms labels (kind.Literal c) =
     if is_value c then Some (body_state m d s (part b (labelled e arms (labels c)))) else None
 at_label m d s b e arms labels other = None
 
 -- a call: formals with their variables
-abbrev pub at_call : (m : Mode) → ℕ → List (Frame m) → Begun m → Part m → Kind → Option (BodyState m)
+abbrev pub at_call : (m : Mode) → ℕ → List (Frame m) → BegunStatement m → Part m → Kind → Option (BodyState m)
 at_call m d s b (first_formal name) (kind.Variable (var.Name formal) line) =
     Some (body_state m d s (part b (becoming name (no_actuals m) (named m formal line))))
 at_call m d s b (first_formal name) (kind.Fixed fixed.Close) =
@@ -250,7 +253,7 @@ at_call m d s b (given name actuals) (kind.Fixed fixed.Close) =
 at_call m d s b x other = None
 
 -- a token in a part of a statement that is no expression
-abbrev pub at_part : (m : Mode) → ℕ → List (Frame m) → Begun m → Part m → Kind → Option (BodyState m)
+abbrev pub at_part : (m : Mode) → ℕ → List (Frame m) → BegunStatement m → Part m → Kind → Option (BodyState m)
 at_part m d s b (target v) k = at_target m d s b v k
 at_part m d s b (write_open w) (kind.Fixed fixed.Open) = Some (body_state m (suc d) (waiting b (to_area w) ∷ s) operand)
 at_part m d s b (write_open w) k = None
