@@ -8,7 +8,7 @@ use Rattle.s7_base.specs.declared.reason.Rejection.TheVariants.{Refused}
 use Rattle.st_grammar.specs.inner.Judge.{turn, reached, judged, on_good, judge, text_in}
 use Rattle.st_grammar.specs.Levels.{deepest}
 use Rattle.st_grammar.specs.inner.Machine as machine
-use Rattle.st_grammar.specs.inner.Machine.{code, Frame, unary, left, bracket, argument, waiting, within, Argument, Need, Body, Part, target, write_open, first_formal, next_formal, becoming, giving, given, first_label, next_label, labelled, Place, statement, part, closing, operand, operator, opening, BodyState, Row, State, start, globals, row, between, heading, opened, formals_done, section, typing, inside, over, Which, formals, temps}
+use Rattle.st_grammar.specs.inner.Machine.{code, Frame, unary, left, bracket, argument, waiting, within, Argument, Need, Body, Part, target, write_open, first_formal, next_formal, becoming, giving, given, first_label, next_label, labelled, Place, statement, part, closing, operand, operator, opening, BodyState, Row, State, start, globals, row, between, heading, opened, formals_done, section, typing, inside, over, SectionKind, formals, temps}
 use Rattle.st_grammar.specs.inner.Steps.{weakest, reduce, closed, in_body, at_part, step_at, row_step, at_typing, next}
 use Rattle.st_grammar.specs.Syntax.{Lined, all_lined, end_on, lined}
 use Rattle.st_grammar.specs.declared.kind.Fixed.TheVariants as fixed
@@ -94,7 +94,7 @@ abbrev pub IsOver : State code → Type 0
 IsOver (over text) = Unit {0}
 IsOver other = ⊥
 
-typing_end : (top : machine.Top code) (which : Which code) (done : machine.LocalsIn code) (name : List ℕ) (line : Line) (x : machine.Typing) → at_typing code top which done name line x end ≡ None
+typing_end : (top : machine.Top code) (which : SectionKind code) (done : machine.LocalsIn code) (name : List ℕ) (line : Line) (x : machine.Typing) → at_typing code top which done name line x end ≡ None
 typing_end top which done name line machine.local_colon = refl
 typing_end top which done name line machine.local_type = refl
 typing_end top which done name line (machine.local_end ty) = refl

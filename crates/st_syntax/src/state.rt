@@ -54,7 +54,7 @@ pub struct Top {
 
 /// The section that is read.
 #[derive(Drop)]
-pub enum Which {
+pub enum SectionKind {
     Formals,
 
     /// The locals, after these formals.
@@ -86,10 +86,10 @@ pub enum State {
     FormalsDone(Top, List<RawLocal>),
 
     /// In a section of a unit, where a declaration may begin.
-    Section(Top, Which, List<RawLocal>),
+    Section(Top, SectionKind, List<RawLocal>),
 
     /// In a declaration of a unit, after its name.
-    Typing(Top, Which, List<RawLocal>, List<u8>, Line, Typing),
+    Typing(Top, SectionKind, List<RawLocal>, List<u8>, Line, Typing),
 
     /// In the statements of a unit, with its formals and its locals.
     Inside(Top, List<RawLocal>, List<RawLocal>, BodyState),

@@ -4,10 +4,10 @@ ghost use Rattle.st_grammar.specs.Grammar.{is_formal_type};
 ghost use Rattle.st_grammar.specs.inner.Machine.{code, add_unit};
 ghost use Rattle.st_grammar.specs.inner.Steps.{at_between, at_start, at_heading, may_name, may_type, section_end, at_section, at_typing, ends, leave, at_inside, at_formals_done, at_opened, next, step as body_step};
 ghost use Rattle.st_bodies.specs.inner.BodyStates.{body_state_of, place_of, stack_of};
-ghost use Rattle.st_syntax.specs.inner.Views.{before_of, state_of, top_in, typing_of, typing_step, which_of};
+ghost use Rattle.st_syntax.specs.inner.Views.{before_of, section_kind_of, state_of, top_in, typing_of, typing_step};
 
 use crate::row::{at_globals, at_row};
-use crate::state::{Before, State, Top, Typing, Which};
+use crate::state::{Before, SectionKind, State, Top, Typing};
 use s7_base::{Line, List, NoMemory};
 use st_bodies::{BodyState, step};
 use st_grammar::{Fixed, Heading, Kind, Lead};
@@ -60,31 +60,31 @@ fn at_heading(text: Before, program: bool, line: Line, kind: Kind) -> Option<Sta
     }
 }
 
-fn may_name(which: &Which, name: &[u8]) -> bool
-    ensures { result ≡ may_name code (which_of which.now) name.now }
+fn may_name(which: &SectionKind, name: &[u8]) -> bool
+    ensures { result ≡ may_name code (section_kind_of which.now) name.now }
 {
     match which {
-        Which::Formals => is_free(name),
-        Which::Temps(_) => may_name_local(name),
+        SectionKind::Formals => is_free(name),
+        SectionKind::Temps(_) => may_name_local(name),
     }
 }
 
 /// A formal has another type than LINT.
-fn may_type(which: &Which, ty: StType) -> bool
-    ensures { result ≡ may_type code (which_of which.now) ty }
+fn may_type(which: &SectionKind, ty: StType) -> bool
+    ensures { result ≡ may_type code (section_kind_of which.now) ty }
 {
     match which {
-        Which::Formals => !matches!(ty, StType::Lint),
-        Which::Temps(_) => true,
+        SectionKind::Formals => !matches!(ty, StType::Lint),
+        SectionKind::Temps(_) => true,
     }
 }
 
-fn section_end(alloc: Global, top: Top, which: Which, done: List<RawLocal>) -> State
-    ensures { state_of result ≡ section_end code (top_in top) (which_of which) done }
+fn section_end(alloc: Global, top: Top, which: SectionKind, done: List<RawLocal>) -> State
+    ensures { state_of result ≡ section_end code (top_in top) (section_kind_of which) done }
 {
     match which {
-        Which::Formals => State::FormalsDone(top, done),
-        Which::Temps(formals) => State::Inside(top, formals, done, BodyState::new(alloc)),
+        SectionKind::Formals => State::FormalsDone(top, done),
+        SectionKind::Temps(formals) => State::Inside(top, formals, done, BodyState::new(alloc)),
     }
 }
 
@@ -92,11 +92,11 @@ fn section_end(alloc: Global, top: Top, which: Which, done: List<RawLocal>) -> S
 fn at_section(
     alloc: Global,
     top: Top,
-    which: Which,
+    which: SectionKind,
     done: List<RawLocal>,
     kind: Kind,
 ) -> Option<State>
-    ensures { option_map state_of result ≡ at_section code (top_in top) (which_of which) done kind }
+    ensures { option_map state_of result ≡ at_section code (top_in top) (section_kind_of which) done kind }
 {
     match kind {
         Kind::Variable(var, line) => match var {
@@ -114,8 +114,8 @@ fn at_section(
 }
 
 /// A token of a formal or a local after its name, but the `;`.
-fn typing_step(which: &Which, typing: Typing, kind: &Kind) -> Option<Typing>
-    ensures { option_map typing_of result ≡ typing_step (which_of which.now) (typing_of typing) kind.now }
+fn typing_step(which: &SectionKind, typing: Typing, kind: &Kind) -> Option<Typing>
+    ensures { option_map typing_of result ≡ typing_step (section_kind_of which.now) (typing_of typing) kind.now }
 {
     match typing {
         Typing::Colon => match kind {
@@ -138,7 +138,7 @@ fn typing_step(which: &Which, typing: Typing, kind: &Kind) -> Option<Typing>
 /// A token of a formal or a local after its name.
 fn at_typing(
     top: Top,
-    which: Which,
+    which: SectionKind,
     mut done: List<RawLocal>,
     name: List<u8>,
     line: Line,
@@ -146,7 +146,7 @@ fn at_typing(
     kind: Kind,
 ) -> Result<Option<State>, NoMemory>
     ensures { IfOk result (λ o. option_map state_of o
-        ≡ at_typing code (top_in top) (which_of which) done name line (typing_of typing) kind) }
+        ≡ at_typing code (top_in top) (section_kind_of which) done name line (typing_of typing) kind) }
 {
     if let Typing::End(ty) = typing {
         let Kind::Fixed(Fixed::Semicolon) = kind else {
@@ -259,7 +259,7 @@ fn at_formals_done(
     match kind {
         Kind::Fixed(Fixed::VarTemp) => Ok(Some(State::Section(
             top,
-            Which::Temps(formals),
+            SectionKind::Temps(formals),
             List::new(alloc),
         ))),
         other => at_inside(
@@ -282,7 +282,7 @@ fn at_opened(alloc: Global, top: Top, kind: Kind) -> Result<Option<State>, NoMem
             if top.head.program {
                 return Ok(None);
             }
-            Ok(Some(State::Section(top, Which::Formals, List::new(alloc))))
+            Ok(Some(State::Section(top, SectionKind::Formals, List::new(alloc))))
         }
         other => at_formals_done(alloc, top, List::new(alloc), other),
     }

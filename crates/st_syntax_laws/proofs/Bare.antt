@@ -5,7 +5,7 @@ use Rattle.st_grammar.specs.Forms.{Form, none, no_local, prefix, infix_of, State
 use Rattle.st_grammar.specs.Grammar.{prefix_level, infix_level, is_value, may_jump, is_direct, tree, tree_one, tree_all, tree_arms, tree_cases, tree_actuals, tree_labels, tree_items, tree_type, tree_globals, tree_locals, tree_units, held}
 use Rattle.st_tree.specs.Naming.{is_free, may_name_global, may_name_unit, names_block}
 use Rattle.st_grammar.specs.Levels.{height}
-use Rattle.st_grammar.specs.inner.Machine.{written, code, of_label, add_label, add_case, of_literal, of_jump, head_of, BegunStatement, Argument, only, shifted, shifted_by, gate, first, second, Need, to_var, to_area, area_value, test, selector, loop_test, Body, choosing, otherwise, looping, selecting, otherwise_case, Frame, unary, left, bracket, argument, waiting, within, Part, target, write_open, first_formal, next_formal, becoming, giving, given, first_label, next_label, labelled, Place, statement, part, closing, operand, operator, opening, BodyState, Row, at_word, at_place, at_colon, at_type, at_square, at_zero, at_dots, at_last, at_close, at_of, at_byte, at_becomes, at_open, at_item, at_count, at_value, at_value_end, at_comma, at_end, local_colon, local_type, local_end, Before, Top, Which, formals, temps, State, start, globals, row, between, heading, opened, formals_done, section, typing, inside, over}
+use Rattle.st_grammar.specs.inner.Machine.{written, code, of_label, add_label, add_case, of_literal, of_jump, head_of, BegunStatement, Argument, only, shifted, shifted_by, gate, first, second, Need, to_var, to_area, area_value, test, selector, loop_test, Body, choosing, otherwise, looping, selecting, otherwise_case, Frame, unary, left, bracket, argument, waiting, within, Part, target, write_open, first_formal, next_formal, becoming, giving, given, first_label, next_label, labelled, Place, statement, part, closing, operand, operator, opening, BodyState, Row, at_word, at_place, at_colon, at_type, at_square, at_zero, at_dots, at_last, at_close, at_of, at_byte, at_becomes, at_open, at_item, at_count, at_value, at_value_end, at_comma, at_end, local_colon, local_type, local_end, Before, Top, SectionKind, formals, temps, State, start, globals, row, between, heading, opened, formals_done, section, typing, inside, over}
 use Rattle.st_grammar.specs.inner.Steps.{body_state, weakest, limit, Reduced, reduced_to, reduce, shallower, with_prefix, closed, closed_to, waits, in_loop, in_body, step_at, is_zero, row_step, before_units, top_of, at_between, may_name, may_type, ends, leave, at_inside, at_formals_done, at_opened, next, level_at, mark}
 use Rattle.st_grammar.specs.declared.heading.Heading.{Heading}
 use Rattle.st_grammar.specs.declared.measured.Measured.{Measured}
@@ -118,9 +118,9 @@ bare_before text = record { globals = held tree_globals text.globals; units = tr
 abbrev pub bare_top : Top written → Top code
 bare_top top = record { text = bare_before top.text; head = bare_head top.head }
 
-abbrev pub bare_which : Which written → Which code
-bare_which formals = formals
-bare_which (temps before) = temps (held tree_locals before)
+abbrev pub bare_section_kind : SectionKind written → SectionKind code
+bare_section_kind formals = formals
+bare_section_kind (temps before) = temps (held tree_locals before)
 
 abbrev pub bare : State written → State code
 bare start = start
@@ -130,8 +130,9 @@ bare (between text) = between (bare_before text)
 bare (heading text program line) = heading (bare_before text) program line
 bare (opened top) = opened (bare_top top)
 bare (formals_done top before) = formals_done (bare_top top) (held tree_locals before)
-bare (section top which done) = section (bare_top top) (bare_which which) (tree_locals done)
-bare (typing top which done name line x) = typing (bare_top top) (bare_which which) (tree_locals done) name line x
+bare (section top which done) = section (bare_top top) (bare_section_kind which) (tree_locals done)
+bare (typing top which done name line x) =
+    typing (bare_top top) (bare_section_kind which) (tree_locals done) name line x
 bare (inside top before locals at) = inside (bare_top top) (held tree_locals before) (held tree_locals locals) (bare_body_state at)
 bare (over text) = over (bare_before text)
 
@@ -269,11 +270,13 @@ at_between_bare text (kind.Lead lead.Program line) = refl
 at_between_bare text (kind.Fixed fixed.End) = refl
 at_between_bare text other = refl
 
-may_name_bare : (which : Which written) (name : List ℕ) → may_name code (bare_which which) name ≡ may_name written which name
+may_name_bare : (which : SectionKind written) (name : List ℕ) →
+    may_name code (bare_section_kind which) name ≡ may_name written which name
 may_name_bare formals name = refl
 may_name_bare (temps before) name = refl
 
-may_type_bare : (which : Which written) (ty : StType) → may_type code (bare_which which) ty ≡ may_type written which ty
+may_type_bare : (which : SectionKind written) (ty : StType) →
+    may_type code (bare_section_kind which) ty ≡ may_type written which ty
 may_type_bare formals ty = refl
 may_type_bare (temps before) ty = refl
 
@@ -318,13 +321,13 @@ next_bare (heading text program line) (kind.Variable (var.Name name) place) = ma
 next_bare (opened top) k = at_opened_bare top k
 next_bare (formals_done top before) k = at_formals_done_bare top before k
 next_bare (section top which done) (kind.Variable (var.Name name) line) =
-    ap (λ (c : Bool). if c then Some (typing (bare_top top) (bare_which which) (tree_locals done) name line local_colon) else None) (may_name_bare which name)
+    ap (λ (c : Bool). if c then Some (typing (bare_top top) (bare_section_kind which) (tree_locals done) name line local_colon) else None) (may_name_bare which name)
     ∙ map_if bare (may_name written which name) (typing top which done name line local_colon)
 next_bare (section top formals done) (kind.Fixed fixed.EndVar) = refl
 next_bare (section top (temps before) done) (kind.Fixed fixed.EndVar) = refl
 next_bare (typing top which done name line local_colon) (kind.Fixed fixed.Colon) = refl
 next_bare (typing top which done name line local_type) (kind.Fixed (fixed.Type ty)) =
-    ap (λ (c : Bool). if c then Some (typing (bare_top top) (bare_which which) (tree_locals done) name line (local_end ty)) else None) (may_type_bare which ty)
+    ap (λ (c : Bool). if c then Some (typing (bare_top top) (bare_section_kind which) (tree_locals done) name line (local_end ty)) else None) (may_type_bare which ty)
     ∙ map_if bare (may_type written which ty) (typing top which done name line (local_end ty))
 next_bare (typing top which done name line (local_end ty)) (kind.Fixed fixed.Semicolon) = refl
 next_bare (inside top before locals at) k = at_inside_bare top before locals at k

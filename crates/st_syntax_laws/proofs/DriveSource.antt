@@ -8,7 +8,7 @@ use Rattle.st_grammar.specs.Forms.{Statements, Items, no_item, single, times, Gl
 use Rattle.st_grammar.specs.Grammar.{is_global, GlobalsFit, FormalsFit, LocalsFit, IfPresent, HeadFits, UnitsFit, SourceFits, AllFit, spell_all, spell_items, spell_type, spell_globals, spell_locals, unit_word, end_word, spell_formals, spell_temps, spell_head, spell_units, spell_source}
 use Rattle.st_tree.specs.Naming.{is_free, may_name_global, names_block}
 use Rattle.st_grammar.specs.Levels.{levels_all, levels_items, levels_type, levels_globals, levels_locals, levels_section, levels_units, levels_source}
-use Rattle.st_grammar.specs.inner.Machine.{written, statement, Row, at_colon, at_type, at_square, at_item, at_comma, at_end, at_word, local_colon, local_end, Before, Top, Which, formals, temps, State, start, globals, row, between, heading, opened, formals_done, section, typing, inside, over}
+use Rattle.st_grammar.specs.inner.Machine.{written, statement, Row, at_colon, at_type, at_square, at_item, at_comma, at_end, at_word, local_colon, local_end, Before, Top, SectionKind, formals, temps, State, start, globals, row, between, heading, opened, formals_done, section, typing, inside, over}
 use Rattle.st_grammar.specs.inner.Steps.{body_state, top_of, may_name, may_type, body_start, ends, Passed, passes}
 use Rattle.st_grammar.specs.declared.kind.Fixed.TheVariants as fixed
 use Rattle.st_grammar.specs.declared.kind.Kind.{Kind}
@@ -73,7 +73,7 @@ globals_all (global others name line v place ty) more w h =
 
 -- Formals and locals
 
-abbrev pub Declared : Which written → Locals → Type 0
+abbrev pub Declared : SectionKind written → Locals → Type 0
 Declared which no_local = Unit {0}
 Declared which (local others name line ty) = Declared which others × (may_name written which name ≡ true) × (may_type written which ty ≡ true)
 
@@ -85,7 +85,7 @@ temps_declared : (before : Section Locals) (l : Locals) → LocalsFit l → Decl
 temps_declared before no_local h = tt
 temps_declared before (local others name line ty) h = (temps_declared before others h.0, h.1, refl)
 
-locals_all : (top : Top written) (which : Which written) (l : Locals) (more : List Kind) (w : List ℕ) → Declared which l →
+locals_all : (top : Top written) (which : SectionKind written) (l : Locals) (more : List Kind) (w : List ℕ) → Declared which l →
     passes written (section top which no_local) w (spell_locals l more) ≡ passes written (section top which l) (levels_locals l w) more
 locals_all top which no_local more w h = refl
 locals_all top which (local others name line ty) more w h =

@@ -10,7 +10,7 @@ use Rattle.st_syntax_laws.proofs.Kept.{InStatements, InExpr, PlaceFits, Shaped}
 use Rattle.st_grammar.specs.Forms.{Form, literal, group, prefix, infix_of, apply, shift, select, Actuals, Labels, label, Items, no_unit, none, Statement, Statements, CaseArms, Globals, GlobalType, plain, Locals, Section, absent}
 use Rattle.st_grammar.specs.Grammar.{infix_level, level, Binds, end_word}
 use Rattle.st_tree.specs.Naming.{is_free, may_name_global, names_block}
-use Rattle.st_grammar.specs.inner.Machine.{written, BegunStatement, only, shifted, shifted_by, gate, first, second, to_var, to_area, area_value, test, selector, loop_test, choosing, otherwise, looping, selecting, otherwise_case, Frame, unary, left, bracket, argument, waiting, within, Part, target, write_open, first_formal, next_formal, becoming, giving, given, labelled, Place, statement, part, closing, operand, operator, opening, Row, at_word, at_place, at_colon, at_type, at_square, at_zero, at_dots, at_last, at_close, at_of, at_byte, at_becomes, at_open, at_item, at_count, at_value, at_value_end, at_comma, at_end, Typing, local_colon, local_type, local_end, Before, Top, Which, formals, temps, State, start, globals, row, between, heading, opened, formals_done, section, typing, inside, over}
+use Rattle.st_grammar.specs.inner.Machine.{written, BegunStatement, only, shifted, shifted_by, gate, first, second, to_var, to_area, area_value, test, selector, loop_test, choosing, otherwise, looping, selecting, otherwise_case, Frame, unary, left, bracket, argument, waiting, within, Part, target, write_open, first_formal, next_formal, becoming, giving, given, labelled, Place, statement, part, closing, operand, operator, opening, Row, at_word, at_place, at_colon, at_type, at_square, at_zero, at_dots, at_last, at_close, at_of, at_byte, at_becomes, at_open, at_item, at_count, at_value, at_value_end, at_comma, at_end, Typing, local_colon, local_type, local_end, Before, Top, SectionKind, formals, temps, State, start, globals, row, between, heading, opened, formals_done, section, typing, inside, over}
 use Rattle.st_grammar.specs.inner.Steps.{shallower, limit, body_start, passes}
 use Rattle.st_grammar.specs.declared.kind.Fixed.TheVariants as fixed
 use Rattle.st_grammar.specs.declared.kind.Function.{Function}
@@ -266,19 +266,19 @@ opened_ends : {top : Top written} {w : List ℕ} → Ends (opened top) w
 opened_ends {top = top} {w = w} =
     by_tokens (end_word top.head.program ∷ []) (λ ks. opened_end top top.head.program w ks ∙ bare_end top absent top.head.program w ks refl) between_ends
 
-section_ends : (top : Top written) (which : Which written) (done : Locals) (w : List ℕ) → Ends (section top which done) w
+section_ends : (top : Top written) (which : SectionKind written) (done : Locals) (w : List ℕ) → Ends (section top which done) w
 section_ends top formals done w = by_tokens (kind.Fixed fixed.EndVar ∷ []) (λ ks. refl) done_ends
 section_ends top (temps f) done w = by_tokens (kind.Fixed fixed.EndVar ∷ []) (λ ks. refl) inside_ends
 
-end_typing : {top : Top written} {which : Which written} {done : Locals} {name : List ℕ} {line : Line} {ty : StType} {w : List ℕ} → Ends (typing top which done name line (local_end ty)) w
+end_typing : {top : Top written} {which : SectionKind written} {done : Locals} {name : List ℕ} {line : Line} {ty : StType} {w : List ℕ} → Ends (typing top which done name line (local_end ty)) w
 end_typing =
     by_tokens (semicolon ∷ []) (λ ks. refl) (section_ends _ _ _ _)
 
-type_typing : (top : Top written) (which : Which written) (done : Locals) (name : List ℕ) (line : Line) (w : List ℕ) → Ends (typing top which done name line local_type) w
+type_typing : (top : Top written) (which : SectionKind written) (done : Locals) (name : List ℕ) (line : Line) (w : List ℕ) → Ends (typing top which done name line local_type) w
 type_typing top formals done name line w = by_tokens (kind.Fixed (fixed.Type type.Bool) ∷ []) (λ ks. refl) end_typing
 type_typing top (temps f) done name line w = by_tokens (kind.Fixed (fixed.Type type.Bool) ∷ []) (λ ks. refl) end_typing
 
-typing_ends : (top : Top written) (which : Which written) (done : Locals) (name : List ℕ) (line : Line) (x : Typing) (w : List ℕ) → Ends (typing top which done name line x) w
+typing_ends : (top : Top written) (which : SectionKind written) (done : Locals) (name : List ℕ) (line : Line) (x : Typing) (w : List ℕ) → Ends (typing top which done name line x) w
 typing_ends top which done name line local_colon w = by_tokens (kind.Fixed fixed.Colon ∷ []) (λ ks. refl) (type_typing top which done name line (0 ∷ w))
 typing_ends top which done name line local_type w = type_typing top which done name line w
 typing_ends top which done name line (local_end ty) w = end_typing

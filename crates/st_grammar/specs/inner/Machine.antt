@@ -493,9 +493,9 @@ pub record Top (m : Mode) : Type 0 where
   pub head : HeadIn m
 
 -- which section is read: formals, or locals after the formals
-pub data Which (m : Mode) : Type 0 where
-  formals : Which m
-  temps : LocalSectionIn m → Which m
+pub data SectionKind (m : Mode) : Type 0 where
+  formals : SectionKind m
+  temps : LocalSectionIn m → SectionKind m
 
 -- where the pass is in a text, with all that it has read so far
 pub data State (m : Mode) : Type 0 where
@@ -506,7 +506,7 @@ pub data State (m : Mode) : Type 0 where
   heading : Before m → Bool → Line → State m
   opened : Top m → State m
   formals_done : Top m → LocalSectionIn m → State m
-  section : Top m → Which m → LocalsIn m → State m
-  typing : Top m → Which m → LocalsIn m → List ℕ → Line → Typing → State m
+  section : Top m → SectionKind m → LocalsIn m → State m
+  typing : Top m → SectionKind m → LocalsIn m → List ℕ → Line → Typing → State m
   inside : Top m → LocalSectionIn m → LocalSectionIn m → BodyState m → State m
   over : Before m → State m

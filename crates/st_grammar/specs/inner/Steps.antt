@@ -3,7 +3,7 @@ use Rattle.std.specs.Prelude.{ℕ, zero, suc, ◌+◌, ◌-◌, Bool, true, fals
 use Rattle.s7_base.specs.declared.reason.Line.{Line}
 use Rattle.st_grammar.specs.Grammar.{prefix_level, infix_level, is_value, may_jump, is_direct, is_formal_type}
 use Rattle.st_tree.specs.Naming.{is_free, may_name_global, may_name_local, may_name_unit, names_block}
-use Rattle.st_grammar.specs.inner.Machine.{Mode, ExprIn, StatementsIn, StatementIn, CasesIn, LabelsIn, VarIn, HeadIn, GlobalSectionIn, GlobalsIn, LocalsIn, LocalSectionIn, of_literal, of_variable, of_group, of_prefix, of_infix, of_apply, of_shift, of_select, height_in, no_statements, add_empty, add_statement, no_arms, add_arm, no_cases, add_case, of_label, add_label, named, at_var, no_actuals, add_actual, of_assign, of_write, of_invoke, of_choice, of_choice_else, of_cases, of_cases_else, of_loop, of_jump, no_items, add_single, add_times, of_plain, of_bytes, no_globals, add_global, no_locals, add_local, no_global_section, global_section, no_section, section_of, head_of, is_program, no_units, add_unit, BegunStatement, Argument, only, shifted, shifted_by, gate, first, second, Need, to_var, to_area, area_value, test, selector, loop_test, Body, choosing, otherwise, looping, selecting, otherwise_case, Frame, unary, left, bracket, argument, waiting, within, Part, target, write_open, first_formal, next_formal, becoming, giving, given, first_label, next_label, labelled, Place, statement, part, closing, operand, operator, opening, BodyState, Row, at_word, at_place, at_colon, at_type, at_square, at_zero, at_dots, at_last, at_close, at_of, at_byte, at_becomes, at_open, at_item, at_count, at_value, at_value_end, at_comma, at_end, Typing, local_colon, local_type, local_end, Before, Top, Which, formals, temps, State, start, globals, row, between, heading, opened, formals_done, section, typing, inside, over}
+use Rattle.st_grammar.specs.inner.Machine.{Mode, ExprIn, StatementsIn, StatementIn, CasesIn, LabelsIn, VarIn, HeadIn, GlobalSectionIn, GlobalsIn, LocalsIn, LocalSectionIn, of_literal, of_variable, of_group, of_prefix, of_infix, of_apply, of_shift, of_select, height_in, no_statements, add_empty, add_statement, no_arms, add_arm, no_cases, add_case, of_label, add_label, named, at_var, no_actuals, add_actual, of_assign, of_write, of_invoke, of_choice, of_choice_else, of_cases, of_cases_else, of_loop, of_jump, no_items, add_single, add_times, of_plain, of_bytes, no_globals, add_global, no_locals, add_local, no_global_section, global_section, no_section, section_of, head_of, is_program, no_units, add_unit, BegunStatement, Argument, only, shifted, shifted_by, gate, first, second, Need, to_var, to_area, area_value, test, selector, loop_test, Body, choosing, otherwise, looping, selecting, otherwise_case, Frame, unary, left, bracket, argument, waiting, within, Part, target, write_open, first_formal, next_formal, becoming, giving, given, first_label, next_label, labelled, Place, statement, part, closing, operand, operator, opening, BodyState, Row, at_word, at_place, at_colon, at_type, at_square, at_zero, at_dots, at_last, at_close, at_of, at_byte, at_becomes, at_open, at_item, at_count, at_value, at_value_end, at_comma, at_end, Typing, local_colon, local_type, local_end, Before, Top, SectionKind, formals, temps, State, start, globals, row, between, heading, opened, formals_done, section, typing, inside, over}
 use Rattle.st_grammar.specs.declared.kind.Fixed.TheVariants as fixed
 use Rattle.st_grammar.specs.declared.kind.Function.{Function}
 use Rattle.st_grammar.specs.declared.kind.Function.TheVariants as function
@@ -396,12 +396,12 @@ at_heading m text program line (kind.Variable (var.Name name) place) =
 at_heading m text program line other = None
 
 -- a name that may be declared in a section
-abbrev pub may_name : (m : Mode) → Which m → List ℕ → Bool
+abbrev pub may_name : (m : Mode) → SectionKind m → List ℕ → Bool
 may_name m formals name = is_free name
 may_name m (temps before) name = may_name_local name
 
 -- a type that a declaration in a section may have
-abbrev pub may_type : (m : Mode) → Which m → StType → Bool
+abbrev pub may_type : (m : Mode) → SectionKind m → StType → Bool
 may_type m formals ty = is_formal_type ty
 may_type m (temps before) ty = true
 
@@ -410,19 +410,20 @@ abbrev pub body_start : (m : Mode) → BodyState m
 body_start m = body_state m 0 [] (statement (no_statements m))
 
 -- a section of a unit ends; after the locals come its statements
-abbrev pub section_end : (m : Mode) → Top m → Which m → LocalsIn m → State m
+abbrev pub section_end : (m : Mode) → Top m → SectionKind m → LocalsIn m → State m
 section_end m top formals done = formals_done top (section_of m done)
 section_end m top (temps before) done = inside top before (section_of m done) (body_start m)
 
 -- a token in a section of a unit where a declaration may begin
-abbrev pub at_section : (m : Mode) → Top m → Which m → LocalsIn m → Kind → Option (State m)
+abbrev pub at_section : (m : Mode) → Top m → SectionKind m → LocalsIn m → Kind → Option (State m)
 at_section m top which done (kind.Variable (var.Name name) line) =
     if may_name m which name then Some (typing top which done name line local_colon) else None
 at_section m top which done (kind.Fixed fixed.EndVar) = Some (section_end m top which done)
 at_section m top which done other = None
 
 -- a token of a formal or a local after its name
-abbrev pub at_typing : (m : Mode) → Top m → Which m → LocalsIn m → List ℕ → Line → Typing → Kind → Option (State m)
+abbrev pub at_typing : (m : Mode) → Top m → SectionKind m → LocalsIn m → List ℕ → Line → Typing → Kind
+    → Option (State m)
 at_typing m top which done name line local_colon (kind.Fixed fixed.Colon) =
     Some (typing top which done name line local_type)
 at_typing m top which done name line local_type (kind.Fixed (fixed.Type ty)) =

@@ -13,8 +13,8 @@ use Rattle.st_syntax.specs.declared.state.Typing.{Typing}
 use Rattle.st_syntax.specs.declared.state.Typing.TheVariants as typing
 use Rattle.st_syntax.specs.declared.state.Before.{Before}
 use Rattle.st_syntax.specs.declared.state.Top.{Top}
-use Rattle.st_syntax.specs.declared.state.Which.{Which}
-use Rattle.st_syntax.specs.declared.state.Which.TheVariants as which
+use Rattle.st_syntax.specs.declared.state.SectionKind.{SectionKind}
+use Rattle.st_syntax.specs.declared.state.SectionKind.TheVariants as section_kind
 use Rattle.st_syntax.specs.declared.state.State.{State}
 use Rattle.st_syntax.specs.declared.state.State.TheVariants as state
 
@@ -55,12 +55,12 @@ abbrev pub top_in : Top → machine.Top code
 top_in top = record { text = before_of top.text; head = top.head }
 
 -- which section is read
-abbrev pub which_of : Which → machine.Which code
-which_of which.Formals = machine.formals
-which_of (which.Temps before) = machine.temps before
+abbrev pub section_kind_of : SectionKind → machine.SectionKind code
+section_kind_of section_kind.Formals = machine.formals
+section_kind_of (section_kind.Temps before) = machine.temps before
 
 -- a token of a formal or a local after its name, but the `;`
-abbrev pub typing_step : machine.Which code → machine.Typing → Kind → Option machine.Typing
+abbrev pub typing_step : machine.SectionKind code → machine.Typing → Kind → Option machine.Typing
 typing_step which machine.local_colon (kind.Fixed fixed.Colon) = Some machine.local_type
 typing_step which machine.local_type (kind.Fixed (fixed.Type ty)) =
     if may_type code which ty then Some (machine.local_end ty) else None
@@ -75,8 +75,8 @@ state_of (state.Between text) = machine.between (before_of text)
 state_of (state.Heading text program line) = machine.heading (before_of text) program line
 state_of (state.Opened top) = machine.opened (top_in top)
 state_of (state.FormalsDone top before) = machine.formals_done (top_in top) before
-state_of (state.Section top which done) = machine.section (top_in top) (which_of which) done
+state_of (state.Section top which done) = machine.section (top_in top) (section_kind_of which) done
 state_of (state.Typing top which done name line x) =
-    machine.typing (top_in top) (which_of which) done name line (typing_of x)
+    machine.typing (top_in top) (section_kind_of which) done name line (typing_of x)
 state_of (state.Inside top before locals at) = machine.inside (top_in top) before locals (body_state_of at)
 state_of (state.Over text) = machine.over (before_of text)
