@@ -94,10 +94,10 @@ abbrev pub IsOver : State code → Type 0
 IsOver (over text) = Unit {0}
 IsOver other = ⊥
 
-typing_end : (top : machine.Top code) (which : SectionKind code) (done : machine.LocalsIn code) (name : List ℕ) (line : Line) (x : machine.Typing) → at_typing code top which done name line x end ≡ None
-typing_end top which done name line machine.local_colon = refl
-typing_end top which done name line machine.local_type = refl
-typing_end top which done name line (machine.local_end ty) = refl
+typing_end : (begun : machine.BegunUnit code) (which : SectionKind code) (done : machine.LocalsIn code) (name : List ℕ) (line : Line) (x : machine.Typing) → at_typing code begun which done name line x end ≡ None
+typing_end begun which done name line machine.local_colon = refl
+typing_end begun which done name line machine.local_type = refl
+typing_end begun which done name line (machine.local_end ty) = refl
 
 over_at_end : (q : State code) → IfSome (next code q end) IsOver
 over_at_end start = tt
@@ -105,11 +105,11 @@ over_at_end (globals done) = tt
 over_at_end (row done name line x) = subst (λ (o : Option (Row code)). IfSome (option_map (λ (y : Row code). row done name line y) o) IsOver) (sym (row_end name x)) tt
 over_at_end (between text) = tt
 over_at_end (heading text program line) = tt
-over_at_end (opened top) = tt
-over_at_end (formals_done top f) = tt
-over_at_end (section top which done) = tt
-over_at_end (typing top which done name line x) = subst (λ (o : Option (State code)). IfSome o IsOver) (sym (typing_end top which done name line x)) tt
-over_at_end (inside top f l at) = subst (λ (o : Option (BodyState code)). IfSome (option_map (λ (to : BodyState code). inside top f l to) o) IsOver) (sym (step_end at.depth at.stack at.place)) tt
+over_at_end (opened begun) = tt
+over_at_end (formals_done begun f) = tt
+over_at_end (section begun which done) = tt
+over_at_end (typing begun which done name line x) = subst (λ (o : Option (State code)). IfSome o IsOver) (sym (typing_end begun which done name line x)) tt
+over_at_end (inside begun f l at) = subst (λ (o : Option (BodyState code)). IfSome (option_map (λ (to : BodyState code). inside begun f l to) o) IsOver) (sym (step_end at.depth at.stack at.place)) tt
 over_at_end (over text) = tt
 
 turn_end : (q : State code) → IfSome (turn q end) IsOver

@@ -109,12 +109,12 @@ fn finish(state: State) -> Option<Before>
             drop(row);
         }
         State::Between(text) | State::Heading(text, _, _) => drop(text),
-        State::Opened(top) => drop(top),
-        State::FormalsDone(top, formals) => drop((top, formals)),
-        State::Section(top, which, done) => drop((top, which, done)),
-        State::Typing(top, which, done, name, _, _) => drop((top, which, done, name)),
-        State::Inside(top, formals, locals, at) => {
-            drop((top, formals, locals));
+        State::Opened(unit) => drop(unit),
+        State::FormalsDone(unit, formals) => drop((unit, formals)),
+        State::Section(unit, which, done) => drop((unit, which, done)),
+        State::Typing(unit, which, done, name, _, _) => drop((unit, which, done, name)),
+        State::Inside(unit, formals, locals, at) => {
+            drop((unit, formals, locals));
             drop(at);
         }
         State::Over(text) => return Some(text),

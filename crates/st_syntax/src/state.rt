@@ -45,9 +45,9 @@ pub struct Before {
     pub units: List<RawPou>,
 }
 
-/// A unit before its statements, with the text before it.
+/// A unit that has begun: the text before it, and its heading.
 #[derive(Drop)]
-pub struct Top {
+pub struct BegunUnit {
     pub text: Before,
     pub head: Heading,
 }
@@ -80,19 +80,19 @@ pub enum State {
     Heading(Before, bool, Line),
 
     /// After the name of a unit.
-    Opened(Top),
+    Opened(BegunUnit),
 
     /// After the formals of a unit.
-    FormalsDone(Top, List<RawLocal>),
+    FormalsDone(BegunUnit, List<RawLocal>),
 
     /// In a section of a unit, where a declaration may begin.
-    Section(Top, SectionKind, List<RawLocal>),
+    Section(BegunUnit, SectionKind, List<RawLocal>),
 
     /// In a declaration of a unit, after its name.
-    Typing(Top, SectionKind, List<RawLocal>, List<u8>, Line, Typing),
+    Typing(BegunUnit, SectionKind, List<RawLocal>, List<u8>, Line, Typing),
 
     /// In the statements of a unit, with its formals and its locals.
-    Inside(Top, List<RawLocal>, List<RawLocal>, BodyState),
+    Inside(BegunUnit, List<RawLocal>, List<RawLocal>, BodyState),
 
     /// After the end of the text.
     Over(Before),

@@ -4,10 +4,17 @@ ghost use Rattle.st_grammar.specs.Grammar.{is_formal_type};
 ghost use Rattle.st_grammar.specs.inner.Machine.{code, add_unit};
 ghost use Rattle.st_grammar.specs.inner.Steps.{at_between, at_start, at_heading, may_name, may_type, section_end, at_section, at_typing, ends, leave, at_inside, at_formals_done, at_opened, next, step as body_step};
 ghost use Rattle.st_bodies.specs.inner.BodyStates.{body_state_of, place_of, stack_of};
-ghost use Rattle.st_syntax.specs.inner.Views.{before_of, section_kind_of, state_of, top_in, typing_of, typing_step};
+ghost use Rattle.st_syntax.specs.inner.Views.{
+  before_of,
+  begun_unit_of,
+  section_kind_of,
+  state_of,
+  typing_of,
+  typing_step,
+};
 
 use crate::row::{at_globals, at_row};
-use crate::state::{Before, SectionKind, State, Top, Typing};
+use crate::state::{Before, BegunUnit, SectionKind, State, Typing};
 use s7_base::{Line, List, NoMemory};
 use st_bodies::{BodyState, step};
 use st_grammar::{Fixed, Heading, Kind, Lead};
@@ -54,7 +61,7 @@ fn at_heading(text: Before, program: bool, line: Line, kind: Kind) -> Option<Sta
                 name,
                 line,
             };
-            Some(State::Opened(Top { text, head }))
+            Some(State::Opened(BegunUnit { text, head }))
         }
         _ => None,
     }
@@ -79,24 +86,24 @@ fn may_type(which: &SectionKind, ty: StType) -> bool
     }
 }
 
-fn section_end(alloc: Global, top: Top, which: SectionKind, done: List<RawLocal>) -> State
-    ensures { state_of result ≡ section_end code (top_in top) (section_kind_of which) done }
+fn section_end(alloc: Global, unit: BegunUnit, which: SectionKind, done: List<RawLocal>) -> State
+    ensures { state_of result ≡ section_end code (begun_unit_of unit) (section_kind_of which) done }
 {
     match which {
-        SectionKind::Formals => State::FormalsDone(top, done),
-        SectionKind::Temps(formals) => State::Inside(top, formals, done, BodyState::new(alloc)),
+        SectionKind::Formals => State::FormalsDone(unit, done),
+        SectionKind::Temps(formals) => State::Inside(unit, formals, done, BodyState::new(alloc)),
     }
 }
 
 /// A token before the name of a formal or a local.
 fn at_section(
     alloc: Global,
-    top: Top,
+    unit: BegunUnit,
     which: SectionKind,
     done: List<RawLocal>,
     kind: Kind,
 ) -> Option<State>
-    ensures { option_map state_of result ≡ at_section code (top_in top) (section_kind_of which) done kind }
+    ensures { option_map state_of result ≡ at_section code (begun_unit_of unit) (section_kind_of which) done kind }
 {
     match kind {
         Kind::Variable(var, line) => match var {
@@ -104,11 +111,11 @@ fn at_section(
                 if !may_name(&which, name.as_slice()) {
                     return None;
                 }
-                Some(State::Typing(top, which, done, name, line, Typing::Colon))
+                Some(State::Typing(unit, which, done, name, line, Typing::Colon))
             }
             RawVar::Direct(..) => None,
         },
-        Kind::Fixed(Fixed::EndVar) => Some(section_end(alloc, top, which, done)),
+        Kind::Fixed(Fixed::EndVar) => Some(section_end(alloc, unit, which, done)),
         _ => None,
     }
 }
@@ -137,7 +144,7 @@ fn typing_step(which: &SectionKind, typing: Typing, kind: &Kind) -> Option<Typin
 
 /// A token of a formal or a local after its name.
 fn at_typing(
-    top: Top,
+    unit: BegunUnit,
     which: SectionKind,
     mut done: List<RawLocal>,
     name: List<u8>,
@@ -146,17 +153,17 @@ fn at_typing(
     kind: Kind,
 ) -> Result<Option<State>, NoMemory>
     ensures { IfOk result (λ o. option_map state_of o
-        ≡ at_typing code (top_in top) (section_kind_of which) done name line (typing_of typing) kind) }
+        ≡ at_typing code (begun_unit_of unit) (section_kind_of which) done name line (typing_of typing) kind) }
 {
     if let Typing::End(ty) = typing {
         let Kind::Fixed(Fixed::Semicolon) = kind else {
             return Ok(None);
         };
         done.push(RawLocal { name, line, ty })?;
-        return Ok(Some(State::Section(top, which, done)));
+        return Ok(Some(State::Section(unit, which, done)));
     }
     match typing_step(&which, typing, &kind) {
-        Some(next) => Ok(Some(State::Typing(top, which, done, name, line, next))),
+        Some(next) => Ok(Some(State::Typing(unit, which, done, name, line, next))),
         None => Ok(None),
     }
 }
@@ -169,15 +176,15 @@ fn ends(program: bool, other: bool) -> bool
 
 /// The text with one more unit.
 fn with_unit(
-    top: Top,
+    unit: BegunUnit,
     formals: List<RawLocal>,
     locals: List<RawLocal>,
     body: List<RawStmt>,
 ) -> Result<Before, NoMemory>
     ensures { IfOk result (λ text. before_of text
-        ≡ record { globals = top.text.globals; units = add_unit code top.text.units top.head formals locals body }) }
+        ≡ record { globals = unit.text.globals; units = add_unit code unit.text.units unit.head formals locals body }) }
 {
-    let Top { mut text, head } = top;
+    let BegunUnit { mut text, head } = unit;
     text.units.push(RawPou {
         program: head.program,
         name: head.name,
@@ -192,21 +199,21 @@ fn with_unit(
 /// The end word of a program, or that of a function.
 fn leave(
     program: bool,
-    top: Top,
+    unit: BegunUnit,
     formals: List<RawLocal>,
     locals: List<RawLocal>,
     at: BodyState,
 ) -> Result<Option<State>, NoMemory>
     ensures { IfOk result (λ o. option_map state_of o
-        ≡ leave code program (top_in top) formals locals (stack_of at.frames) (place_of at.place)) }
+        ≡ leave code program (begun_unit_of unit) formals locals (stack_of at.frames) (place_of at.place)) }
 {
     let Some(body) = at.into_body() else {
         return Ok(None);
     };
-    if !ends(program, top.head.program) {
+    if !ends(program, unit.head.program) {
         return Ok(None);
     }
-    Ok(Some(State::Between(with_unit(top, formals, locals, body)?)))
+    Ok(Some(State::Between(with_unit(unit, formals, locals, body)?)))
 }
 
 /// The statements after one more token; `None` where it cannot follow.
@@ -228,20 +235,20 @@ fn stepped(alloc: Global, mut at: BodyState, kind: Kind) -> Result<Option<BodySt
 
 fn at_inside(
     alloc: Global,
-    top: Top,
+    unit: BegunUnit,
     formals: List<RawLocal>,
     locals: List<RawLocal>,
     at: BodyState,
     kind: Kind,
 ) -> Result<Option<State>, NoMemory>
     ensures { IfOk result (λ o. option_map state_of o
-        ≡ at_inside code (top_in top) formals locals (body_state_of at) kind) }
+        ≡ at_inside code (begun_unit_of unit) formals locals (body_state_of at) kind) }
 {
     match kind {
-        Kind::Fixed(Fixed::EndProgram) => leave(true, top, formals, locals, at),
-        Kind::Fixed(Fixed::EndFunction) => leave(false, top, formals, locals, at),
+        Kind::Fixed(Fixed::EndProgram) => leave(true, unit, formals, locals, at),
+        Kind::Fixed(Fixed::EndFunction) => leave(false, unit, formals, locals, at),
         other => match stepped(alloc, at, other)? {
-            Some(to) => Ok(Some(State::Inside(top, formals, locals, to))),
+            Some(to) => Ok(Some(State::Inside(unit, formals, locals, to))),
             None => Ok(None),
         },
     }
@@ -250,21 +257,21 @@ fn at_inside(
 /// A token after the formals of a unit.
 fn at_formals_done(
     alloc: Global,
-    top: Top,
+    unit: BegunUnit,
     formals: List<RawLocal>,
     kind: Kind,
 ) -> Result<Option<State>, NoMemory>
-    ensures { IfOk result (λ o. option_map state_of o ≡ at_formals_done code (top_in top) formals kind) }
+    ensures { IfOk result (λ o. option_map state_of o ≡ at_formals_done code (begun_unit_of unit) formals kind) }
 {
     match kind {
         Kind::Fixed(Fixed::VarTemp) => Ok(Some(State::Section(
-            top,
+            unit,
             SectionKind::Temps(formals),
             List::new(alloc),
         ))),
         other => at_inside(
             alloc,
-            top,
+            unit,
             formals,
             List::new(alloc),
             BodyState::new(alloc),
@@ -274,17 +281,17 @@ fn at_formals_done(
 }
 
 /// A token after the name of a unit.
-fn at_opened(alloc: Global, top: Top, kind: Kind) -> Result<Option<State>, NoMemory>
-    ensures { IfOk result (λ o. option_map state_of o ≡ at_opened code (top_in top) kind) }
+fn at_opened(alloc: Global, unit: BegunUnit, kind: Kind) -> Result<Option<State>, NoMemory>
+    ensures { IfOk result (λ o. option_map state_of o ≡ at_opened code (begun_unit_of unit) kind) }
 {
     match kind {
         Kind::Fixed(Fixed::VarInOut) => {
-            if top.head.program {
+            if unit.head.program {
                 return Ok(None);
             }
-            Ok(Some(State::Section(top, SectionKind::Formals, List::new(alloc))))
+            Ok(Some(State::Section(unit, SectionKind::Formals, List::new(alloc))))
         }
-        other => at_formals_done(alloc, top, List::new(alloc), other),
+        other => at_formals_done(alloc, unit, List::new(alloc), other),
     }
 }
 
@@ -298,14 +305,14 @@ pub fn next(alloc: Global, state: State, kind: Kind) -> Result<Option<State>, No
         State::Row(done, name, line, row) => at_row(alloc, done, name, line, row, kind),
         State::Between(text) => Ok(at_between(text, kind)),
         State::Heading(text, program, line) => Ok(at_heading(text, program, line, kind)),
-        State::Opened(top) => at_opened(alloc, top, kind),
-        State::FormalsDone(top, formals) => at_formals_done(alloc, top, formals, kind),
-        State::Section(top, which, done) => Ok(at_section(alloc, top, which, done, kind)),
-        State::Typing(top, which, done, name, line, typing) => {
-            at_typing(top, which, done, name, line, typing, kind)
+        State::Opened(unit) => at_opened(alloc, unit, kind),
+        State::FormalsDone(unit, formals) => at_formals_done(alloc, unit, formals, kind),
+        State::Section(unit, which, done) => Ok(at_section(alloc, unit, which, done, kind)),
+        State::Typing(unit, which, done, name, line, typing) => {
+            at_typing(unit, which, done, name, line, typing, kind)
         }
-        State::Inside(top, formals, locals, at) => {
-            at_inside(alloc, top, formals, locals, at, kind)
+        State::Inside(unit, formals, locals, at) => {
+            at_inside(alloc, unit, formals, locals, at, kind)
         }
         State::Over(_) => Ok(None),
     }

@@ -5,8 +5,8 @@ use Rattle.st_grammar.specs.Forms.{Form, none, no_local, prefix, infix_of, State
 use Rattle.st_grammar.specs.Grammar.{prefix_level, infix_level, is_value, may_jump, is_direct, tree, tree_one, tree_all, tree_arms, tree_cases, tree_actuals, tree_labels, tree_items, tree_type, tree_globals, tree_locals, tree_units, held}
 use Rattle.st_tree.specs.Naming.{is_free, may_name_global, may_name_unit, names_block}
 use Rattle.st_grammar.specs.Levels.{height}
-use Rattle.st_grammar.specs.inner.Machine.{written, code, of_label, add_label, add_case, of_literal, of_jump, head_of, BegunStatement, Argument, only, shifted, shifted_by, gate, first, second, Need, to_var, to_area, area_value, test, selector, loop_test, Body, choosing, otherwise, looping, selecting, otherwise_case, Frame, unary, left, bracket, argument, waiting, within, Part, target, write_open, first_formal, next_formal, becoming, giving, given, first_label, next_label, labelled, Place, statement, part, closing, operand, operator, opening, BodyState, Row, at_word, at_place, at_colon, at_type, at_square, at_zero, at_dots, at_last, at_close, at_of, at_byte, at_becomes, at_open, at_item, at_count, at_value, at_value_end, at_comma, at_end, local_colon, local_type, local_end, Before, Top, SectionKind, formals, temps, State, start, globals, row, between, heading, opened, formals_done, section, typing, inside, over}
-use Rattle.st_grammar.specs.inner.Steps.{body_state, weakest, limit, Reduced, reduced_to, reduce, shallower, with_prefix, closed, closed_to, waits, in_loop, in_body, step_at, is_zero, row_step, before_units, top_of, at_between, may_name, may_type, ends, leave, at_inside, at_formals_done, at_opened, next, level_at, mark}
+use Rattle.st_grammar.specs.inner.Machine.{written, code, of_label, add_label, add_case, of_literal, of_jump, head_of, BegunStatement, Argument, only, shifted, shifted_by, gate, first, second, Need, to_var, to_area, area_value, test, selector, loop_test, Body, choosing, otherwise, looping, selecting, otherwise_case, Frame, unary, left, bracket, argument, waiting, within, Part, target, write_open, first_formal, next_formal, becoming, giving, given, first_label, next_label, labelled, Place, statement, part, closing, operand, operator, opening, BodyState, Row, at_word, at_place, at_colon, at_type, at_square, at_zero, at_dots, at_last, at_close, at_of, at_byte, at_becomes, at_open, at_item, at_count, at_value, at_value_end, at_comma, at_end, local_colon, local_type, local_end, Before, BegunUnit, SectionKind, formals, temps, State, start, globals, row, between, heading, opened, formals_done, section, typing, inside, over}
+use Rattle.st_grammar.specs.inner.Steps.{body_state, weakest, limit, Reduced, reduced_to, reduce, shallower, with_prefix, closed, closed_to, waits, in_loop, in_body, step_at, is_zero, row_step, before_units, begun_unit, at_between, may_name, may_type, ends, leave, at_inside, at_formals_done, at_opened, next, level_at, mark}
 use Rattle.st_grammar.specs.declared.heading.Heading.{Heading}
 use Rattle.st_grammar.specs.declared.measured.Measured.{Measured}
 use Rattle.st_grammar.specs.declared.kind.Fixed.TheVariants as fixed
@@ -115,8 +115,8 @@ bare_head head = record { program = head.program; name = head.name; line = head.
 abbrev pub bare_before : Before written → Before code
 bare_before text = record { globals = held tree_globals text.globals; units = tree_units text.units }
 
-abbrev pub bare_top : Top written → Top code
-bare_top top = record { text = bare_before top.text; head = bare_head top.head }
+abbrev pub bare_begun_unit : BegunUnit written → BegunUnit code
+bare_begun_unit begun = record { text = bare_before begun.text; head = bare_head begun.head }
 
 abbrev pub bare_section_kind : SectionKind written → SectionKind code
 bare_section_kind formals = formals
@@ -128,12 +128,12 @@ bare (globals done) = globals (tree_globals done)
 bare (row done name line x) = row (tree_globals done) name line (bare_row x)
 bare (between text) = between (bare_before text)
 bare (heading text program line) = heading (bare_before text) program line
-bare (opened top) = opened (bare_top top)
-bare (formals_done top before) = formals_done (bare_top top) (held tree_locals before)
-bare (section top which done) = section (bare_top top) (bare_section_kind which) (tree_locals done)
-bare (typing top which done name line x) =
-    typing (bare_top top) (bare_section_kind which) (tree_locals done) name line x
-bare (inside top before locals at) = inside (bare_top top) (held tree_locals before) (held tree_locals locals) (bare_body_state at)
+bare (opened begun) = opened (bare_begun_unit begun)
+bare (formals_done begun before) = formals_done (bare_begun_unit begun) (held tree_locals before)
+bare (section begun which done) = section (bare_begun_unit begun) (bare_section_kind which) (tree_locals done)
+bare (typing begun which done name line x) =
+    typing (bare_begun_unit begun) (bare_section_kind which) (tree_locals done) name line x
+bare (inside begun before locals at) = inside (bare_begun_unit begun) (held tree_locals before) (held tree_locals locals) (bare_body_state at)
 bare (over text) = over (bare_before text)
 
 map_if : {X Y : Type 0} (f : X → Y) (c : Bool) (x : X) → (if c then Some (f x) else None) ≡ option_map f (if c then Some x else None)
@@ -280,30 +280,30 @@ may_type_bare : (which : SectionKind written) (ty : StType) →
 may_type_bare formals ty = refl
 may_type_bare (temps before) ty = refl
 
-leave_bare : (program : Bool) (top : Top written) (f l : Section Locals) (s : List (Frame written)) (p : Place written) →
-    leave code program (bare_top top) (held tree_locals f) (held tree_locals l) (bare_stack s) (bare_place p) ≡ option_map bare (leave written program top f l s p)
-leave_bare program top f l [] (statement body) = map_if bare (ends program top.head.program) _
-leave_bare program top f l s p = refl
+leave_bare : (program : Bool) (begun : BegunUnit written) (f l : Section Locals) (s : List (Frame written)) (p : Place written) →
+    leave code program (bare_begun_unit begun) (held tree_locals f) (held tree_locals l) (bare_stack s) (bare_place p) ≡ option_map bare (leave written program begun f l s p)
+leave_bare program begun f l [] (statement body) = map_if bare (ends program begun.head.program) _
+leave_bare program begun f l s p = refl
 
-at_inside_bare : (top : Top written) (f l : Section Locals) (at : BodyState written) (k : Kind) → at_inside code (bare_top top) (held tree_locals f) (held tree_locals l) (bare_body_state at) k ≡ option_map bare (at_inside written top f l at k)
-at_inside_bare top f l at (kind.Fixed fixed.EndProgram) = leave_bare true top f l at.stack at.place
-at_inside_bare top f l at (kind.Fixed fixed.EndFunction) = leave_bare false top f l at.stack at.place
-at_inside_bare top f l at k =
-    ap (λ (o : Option (BodyState code)). option_map (λ (to : BodyState code). inside (bare_top top) (held tree_locals f) (held tree_locals l) to) o) (step_bare at.depth at.stack at.place k)
-    ∙ map_map (λ (to : BodyState code). inside (bare_top top) (held tree_locals f) (held tree_locals l) to) bare_body_state (λ (to : BodyState written). bare (inside top f l to)) (λ to. refl) (step_at written at.depth at.stack at.place k)
-    ∙ sym (map_map bare (λ (to : BodyState written). inside top f l to) (λ (to : BodyState written). bare (inside top f l to)) (λ to. refl) (step_at written at.depth at.stack at.place k))
+at_inside_bare : (begun : BegunUnit written) (f l : Section Locals) (at : BodyState written) (k : Kind) → at_inside code (bare_begun_unit begun) (held tree_locals f) (held tree_locals l) (bare_body_state at) k ≡ option_map bare (at_inside written begun f l at k)
+at_inside_bare begun f l at (kind.Fixed fixed.EndProgram) = leave_bare true begun f l at.stack at.place
+at_inside_bare begun f l at (kind.Fixed fixed.EndFunction) = leave_bare false begun f l at.stack at.place
+at_inside_bare begun f l at k =
+    ap (λ (o : Option (BodyState code)). option_map (λ (to : BodyState code). inside (bare_begun_unit begun) (held tree_locals f) (held tree_locals l) to) o) (step_bare at.depth at.stack at.place k)
+    ∙ map_map (λ (to : BodyState code). inside (bare_begun_unit begun) (held tree_locals f) (held tree_locals l) to) bare_body_state (λ (to : BodyState written). bare (inside begun f l to)) (λ to. refl) (step_at written at.depth at.stack at.place k)
+    ∙ sym (map_map bare (λ (to : BodyState written). inside begun f l to) (λ (to : BodyState written). bare (inside begun f l to)) (λ to. refl) (step_at written at.depth at.stack at.place k))
 
-at_formals_done_bare : (top : Top written) (f : Section Locals) (k : Kind) → at_formals_done code (bare_top top) (held tree_locals f) k ≡ option_map bare (at_formals_done written top f k)
-at_formals_done_bare top f (kind.Fixed fixed.VarTemp) = refl
-at_formals_done_bare top f other = at_inside_bare top f absent (body_state written 0 [] (statement none)) other
+at_formals_done_bare : (begun : BegunUnit written) (f : Section Locals) (k : Kind) → at_formals_done code (bare_begun_unit begun) (held tree_locals f) k ≡ option_map bare (at_formals_done written begun f k)
+at_formals_done_bare begun f (kind.Fixed fixed.VarTemp) = refl
+at_formals_done_bare begun f other = at_inside_bare begun f absent (body_state written 0 [] (statement none)) other
 
-at_opened_bare : (top : Top written) (k : Kind) → at_opened code (bare_top top) k ≡ option_map bare (at_opened written top k)
-at_opened_bare top (kind.Fixed fixed.VarInOut) = by top.head.program
+at_opened_bare : (begun : BegunUnit written) (k : Kind) → at_opened code (bare_begun_unit begun) k ≡ option_map bare (at_opened written begun k)
+at_opened_bare begun (kind.Fixed fixed.VarInOut) = by begun.head.program
   where
-    by : (c : Bool) → (let x : Option (State code) = if c then None else Some (section (bare_top top) formals []) in x) ≡ option_map bare (if c then None else Some (section top formals no_local))
+    by : (c : Bool) → (let x : Option (State code) = if c then None else Some (section (bare_begun_unit begun) formals []) in x) ≡ option_map bare (if c then None else Some (section begun formals no_local))
     by true = refl
     by false = refl
-at_opened_bare top other = at_formals_done_bare top absent other
+at_opened_bare begun other = at_formals_done_bare begun absent other
 
 pub next_bare : (q : State written) (k : Kind) → next code (bare q) k ≡ option_map bare (next written q k)
 next_bare start (kind.Fixed fixed.VarGlobal) = refl
@@ -317,20 +317,20 @@ next_bare (row done name line x) k =
     ∙ map_map (λ (y : Row code). row (tree_globals done) name line y) bare_row (λ (y : Row written). bare (row done name line y)) (λ y. refl) (row_step written name x k)
     ∙ sym (map_map bare (λ (y : Row written). row done name line y) (λ (y : Row written). bare (row done name line y)) (λ y. refl) (row_step written name x k))
 next_bare (between text) k = at_between_bare text k
-next_bare (heading text program line) (kind.Variable (var.Name name) place) = map_if bare (may_name_unit name) (opened (top_of written text (head_of written program line name place)))
-next_bare (opened top) k = at_opened_bare top k
-next_bare (formals_done top before) k = at_formals_done_bare top before k
-next_bare (section top which done) (kind.Variable (var.Name name) line) =
-    ap (λ (c : Bool). if c then Some (typing (bare_top top) (bare_section_kind which) (tree_locals done) name line local_colon) else None) (may_name_bare which name)
-    ∙ map_if bare (may_name written which name) (typing top which done name line local_colon)
-next_bare (section top formals done) (kind.Fixed fixed.EndVar) = refl
-next_bare (section top (temps before) done) (kind.Fixed fixed.EndVar) = refl
-next_bare (typing top which done name line local_colon) (kind.Fixed fixed.Colon) = refl
-next_bare (typing top which done name line local_type) (kind.Fixed (fixed.Type ty)) =
-    ap (λ (c : Bool). if c then Some (typing (bare_top top) (bare_section_kind which) (tree_locals done) name line (local_end ty)) else None) (may_type_bare which ty)
-    ∙ map_if bare (may_type written which ty) (typing top which done name line (local_end ty))
-next_bare (typing top which done name line (local_end ty)) (kind.Fixed fixed.Semicolon) = refl
-next_bare (inside top before locals at) k = at_inside_bare top before locals at k
+next_bare (heading text program line) (kind.Variable (var.Name name) place) = map_if bare (may_name_unit name) (opened (begun_unit written text (head_of written program line name place)))
+next_bare (opened begun) k = at_opened_bare begun k
+next_bare (formals_done begun before) k = at_formals_done_bare begun before k
+next_bare (section begun which done) (kind.Variable (var.Name name) line) =
+    ap (λ (c : Bool). if c then Some (typing (bare_begun_unit begun) (bare_section_kind which) (tree_locals done) name line local_colon) else None) (may_name_bare which name)
+    ∙ map_if bare (may_name written which name) (typing begun which done name line local_colon)
+next_bare (section begun formals done) (kind.Fixed fixed.EndVar) = refl
+next_bare (section begun (temps before) done) (kind.Fixed fixed.EndVar) = refl
+next_bare (typing begun which done name line local_colon) (kind.Fixed fixed.Colon) = refl
+next_bare (typing begun which done name line local_type) (kind.Fixed (fixed.Type ty)) =
+    ap (λ (c : Bool). if c then Some (typing (bare_begun_unit begun) (bare_section_kind which) (tree_locals done) name line (local_end ty)) else None) (may_type_bare which ty)
+    ∙ map_if bare (may_type written which ty) (typing begun which done name line (local_end ty))
+next_bare (typing begun which done name line (local_end ty)) (kind.Fixed fixed.Semicolon) = refl
+next_bare (inside begun before locals at) k = at_inside_bare begun before locals at k
 next_bare q other = refl
 
 -- The level of a state
@@ -341,6 +341,6 @@ level_bare d operand (unary op ∷ s) = refl
 level_bare d other s = refl
 
 pub mark_bare : (q : State written) → mark code (bare q) ≡ mark written q
-mark_bare (inside top before locals at) = level_bare at.depth at.place at.stack
+mark_bare (inside begun before locals at) = level_bare at.depth at.place at.stack
 mark_bare (row done name line (at_value v last items count)) = refl
 mark_bare other = refl

@@ -37,7 +37,7 @@ labels_all : (u : Unit_read) (d : ℕ) (s : List (Frame written)) (b : BegunStat
 labels_all u d s b e others start w first (label c) more h = first c more h
 labels_all u d s b e others start w first (more_labels labels c) more h =
     labels_all u d s b e others start w first labels (comma ∷ kind.Literal c ∷ more) h.0
-    ∙ ap (λ (v : Bool). go (d ∷ levels_labels d labels w) more (option_map (λ (to : BodyState written). inside u.top u.formals u.locals to) (if v then Some (body_state written d s (part b (labelled e others (more_labels labels c)))) else None))) h.1
+    ∙ ap (λ (v : Bool). go (d ∷ levels_labels d labels w) more (option_map (λ (to : BodyState written). inside u.begun u.formals u.locals to) (if v then Some (body_state written d s (part b (labelled e others (more_labels labels c)))) else None))) h.1
 
 -- Arms, where the tokens before them and the statements in them are passed
 
@@ -114,7 +114,7 @@ mutual
       drive u (suc d) (waiting (begun_statement written before line) loop_test ∷ s) e (kind.Fixed fixed.Do) (spell_all body (kind.Fixed fixed.EndWhile ∷ kind.Fixed fixed.Semicolon ∷ more)) (suc d ∷ w) h.0 (level_most e) tt
       ∙ drive_all u (suc d) (within (begun_statement written before line) (looping e) ∷ s) body (kind.Fixed fixed.EndWhile ∷ kind.Fixed fixed.Semicolon ∷ more) (suc d ∷ levels (suc d) e (suc d ∷ w)) h.1
   drive_one u d s before (jump line word) more w h =
-      ap (λ (v : Bool). go w (kind.Fixed fixed.Semicolon ∷ more) (option_map (λ (to : BodyState written). inside u.top u.formals u.locals to) (if v then Some (body_state written d s (closing before (jump line word))) else None))) h
+      ap (λ (v : Bool). go w (kind.Fixed fixed.Semicolon ∷ more) (option_map (λ (to : BodyState written). inside u.begun u.formals u.locals to) (if v then Some (body_state written d s (closing before (jump line word))) else None))) h
 
   pub drive_all : (u : Unit_read) (d : ℕ) (s : List (Frame written)) (p : Statements) (more : List Kind) (w : List ℕ) → AllFit (in_loop written s) p →
       run u d s (statement none) w (spell_all p more) ≡ run u d s (statement p) (levels_all d p w) more
@@ -137,11 +137,11 @@ mutual
   pub drive_first : (u : Unit_read) (d : ℕ) (s : List (Frame written)) (b : BegunStatement written) (e : Form) (arms : CaseArms) (c : Literal) (ks : List Kind) (w : List ℕ) → CasesFit (in_loop written s) arms → is_value c ≡ true →
       run u d s (part b (first_label e no_case)) w (spell_cases arms (kind.Literal c ∷ ks)) ≡ run u d s (part b (labelled e arms (label c))) (d ∷ levels_cases d arms w) ks
   drive_first u d s b e no_case c ks w h v =
-      ap (λ (x : Bool). go w ks (option_map (λ (to : BodyState written). inside u.top u.formals u.locals to) (if x then Some (body_state written d s (part b (labelled e no_case (label c)))) else None))) v
+      ap (λ (x : Bool). go w ks (option_map (λ (to : BodyState written). inside u.begun u.formals u.locals to) (if x then Some (body_state written d s (part b (labelled e no_case (label c)))) else None))) v
   drive_first u d s b e (case_arm others labels body) c ks w h v =
       case_through u d s b e others labels body (kind.Literal c ∷ ks) w h.1
       (λ x more y. drive_first u d s b e others x more w h.0 y)
       (λ more n. drive_all u d (within b (selecting e others labels) ∷ s) body more n h.2)
-      ∙ ap (λ (x : Bool). go (levels_cases d (case_arm others labels body) w) ks (option_map (λ (to : BodyState written). inside u.top u.formals u.locals to)
+      ∙ ap (λ (x : Bool). go (levels_cases d (case_arm others labels body) w) ks (option_map (λ (to : BodyState written). inside u.begun u.formals u.locals to)
       (if x then Some (body_state written d s (part b (labelled e (case_arm others labels body) (label c))))
       else None))) v

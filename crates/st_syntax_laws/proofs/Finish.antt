@@ -10,7 +10,7 @@ use Rattle.st_syntax_laws.proofs.Kept.{InStatements, InExpr, PlaceFits, Shaped}
 use Rattle.st_grammar.specs.Forms.{Form, literal, group, prefix, infix_of, apply, shift, select, Actuals, Labels, label, Items, no_unit, none, Statement, Statements, CaseArms, Globals, GlobalType, plain, Locals, Section, absent}
 use Rattle.st_grammar.specs.Grammar.{infix_level, level, Binds, end_word}
 use Rattle.st_tree.specs.Naming.{is_free, may_name_global, names_block}
-use Rattle.st_grammar.specs.inner.Machine.{written, BegunStatement, only, shifted, shifted_by, gate, first, second, to_var, to_area, area_value, test, selector, loop_test, choosing, otherwise, looping, selecting, otherwise_case, Frame, unary, left, bracket, argument, waiting, within, Part, target, write_open, first_formal, next_formal, becoming, giving, given, labelled, Place, statement, part, closing, operand, operator, opening, Row, at_word, at_place, at_colon, at_type, at_square, at_zero, at_dots, at_last, at_close, at_of, at_byte, at_becomes, at_open, at_item, at_count, at_value, at_value_end, at_comma, at_end, Typing, local_colon, local_type, local_end, Before, Top, SectionKind, formals, temps, State, start, globals, row, between, heading, opened, formals_done, section, typing, inside, over}
+use Rattle.st_grammar.specs.inner.Machine.{written, BegunStatement, only, shifted, shifted_by, gate, first, second, to_var, to_area, area_value, test, selector, loop_test, choosing, otherwise, looping, selecting, otherwise_case, Frame, unary, left, bracket, argument, waiting, within, Part, target, write_open, first_formal, next_formal, becoming, giving, given, labelled, Place, statement, part, closing, operand, operator, opening, Row, at_word, at_place, at_colon, at_type, at_square, at_zero, at_dots, at_last, at_close, at_of, at_byte, at_becomes, at_open, at_item, at_count, at_value, at_value_end, at_comma, at_end, Typing, local_colon, local_type, local_end, Before, BegunUnit, SectionKind, formals, temps, State, start, globals, row, between, heading, opened, formals_done, section, typing, inside, over}
 use Rattle.st_grammar.specs.inner.Steps.{shallower, limit, body_start, passes}
 use Rattle.st_grammar.specs.declared.kind.Fixed.TheVariants as fixed
 use Rattle.st_grammar.specs.declared.kind.Function.{Function}
@@ -57,7 +57,7 @@ between_ends {text = text} {w = w} = record { more = kind.Fixed fixed.End ∷ []
 
 statement_ends : (u : Unit_read) (d : ℕ) (s : List (Frame written)) (body : Statements) (w : List ℕ) → InStatements s → EndsIn u d s (statement body) w
 statement_ends u d [] body w h =
-    by_tokens (end_word u.top.head.program ∷ []) (λ ks. unit_left u.top.text u.top.head u.formals u.locals d body u.top.head.program ks w refl) between_ends
+    by_tokens (end_word u.begun.head.program ∷ []) (λ ks. unit_left u.begun.text u.begun.head u.formals u.locals d body u.begun.head.program ks w refl) between_ends
 statement_ends u d (within b (choosing arms e) ∷ s) body w h = by_tokens (kind.Fixed fixed.EndIf ∷ semicolon ∷ []) (λ ks. refl) (statement_ends u (shallower d) s _ _ h.2)
 statement_ends u d (within b (otherwise arms) ∷ s) body w h = by_tokens (kind.Fixed fixed.EndIf ∷ semicolon ∷ []) (λ ks. refl) (statement_ends u (shallower d) s _ _ h.2)
 statement_ends u d (within b (looping e) ∷ s) body w h = by_tokens (kind.Fixed fixed.EndWhile ∷ semicolon ∷ []) (λ ks. refl) (statement_ends u (shallower d) s _ _ h.2)
@@ -243,45 +243,48 @@ row_ends done name line (at_value_end v last items count b) w h = by_tokens (clo
 row_ends done name line (at_comma v last items) w h = comma_ends
 row_ends done name line (at_end v ty) w h = semicolon_ends
 
-abbrev unit_read : Top written → Section Locals → Section Locals → Unit_read
-unit_read top f l = record { top = top; formals = f; locals = l }
+abbrev unit_read : BegunUnit written → Section Locals → Section Locals → Unit_read
+unit_read begun f l = record { begun = begun; formals = f; locals = l }
 
-inside_ends : {top : Top written} {f l : Section Locals} {w : List ℕ} → Ends (inside top f l (body_start written)) w
-inside_ends {top = top} {f = f} {l = l} {w = w} = statement_ends (unit_read top f l) 0 [] none w tt
+inside_ends : {begun : BegunUnit written} {f l : Section Locals} {w : List ℕ} →
+    Ends (inside begun f l (body_start written)) w
+inside_ends {begun = begun} {f = f} {l = l} {w = w} = statement_ends (unit_read begun f l) 0 [] none w tt
 
 -- the end word of a unit, directly after its head
-bare_end : (top : Top written) (f : Section Locals) (p : Bool) (w : List ℕ) (ks : List Kind) → top.head.program ≡ p →
-    passes written (formals_done top f) w (end_word p ∷ ks) ≡ passes written (between (with_unit top.text top.head f absent none)) (0 ∷ w) ks
-bare_end top f true w ks e = unit_left top.text top.head f absent 0 none true ks w e
-bare_end top f false w ks e = unit_left top.text top.head f absent 0 none false ks w e
+bare_end : (begun : BegunUnit written) (f : Section Locals) (p : Bool) (w : List ℕ) (ks : List Kind)
+    → begun.head.program ≡ p
+    → passes written (formals_done begun f) w (end_word p ∷ ks) ≡ passes written (between (with_unit begun.text begun.head f absent none)) (0 ∷ w) ks
+bare_end begun f true w ks e = unit_left begun.text begun.head f absent 0 none true ks w e
+bare_end begun f false w ks e = unit_left begun.text begun.head f absent 0 none false ks w e
 
-done_ends : {top : Top written} {f : Section Locals} {w : List ℕ} → Ends (formals_done top f) w
-done_ends {top = top} {f = f} {w = w} = by_tokens (end_word top.head.program ∷ []) (λ ks. bare_end top f top.head.program w ks refl) between_ends
+done_ends : {begun : BegunUnit written} {f : Section Locals} {w : List ℕ} → Ends (formals_done begun f) w
+done_ends {begun = begun} {f = f} {w = w} = by_tokens (end_word begun.head.program ∷ []) (λ ks. bare_end begun f begun.head.program w ks refl) between_ends
 
-opened_end : (top : Top written) (p : Bool) (w : List ℕ) (ks : List Kind) → passes written (opened top) w (end_word p ∷ ks) ≡ passes written (formals_done top absent) w (end_word p ∷ ks)
-opened_end top true w ks = refl
-opened_end top false w ks = refl
+opened_end : (begun : BegunUnit written) (p : Bool) (w : List ℕ) (ks : List Kind) → passes written (opened begun) w (end_word p ∷ ks) ≡ passes written (formals_done begun absent) w (end_word p ∷ ks)
+opened_end begun true w ks = refl
+opened_end begun false w ks = refl
 
-opened_ends : {top : Top written} {w : List ℕ} → Ends (opened top) w
-opened_ends {top = top} {w = w} =
-    by_tokens (end_word top.head.program ∷ []) (λ ks. opened_end top top.head.program w ks ∙ bare_end top absent top.head.program w ks refl) between_ends
+opened_ends : {begun : BegunUnit written} {w : List ℕ} → Ends (opened begun) w
+opened_ends {begun = begun} {w = w} =
+    by_tokens (end_word begun.head.program ∷ []) (λ ks. opened_end begun begun.head.program w ks ∙ bare_end begun absent begun.head.program w ks refl) between_ends
 
-section_ends : (top : Top written) (which : SectionKind written) (done : Locals) (w : List ℕ) → Ends (section top which done) w
-section_ends top formals done w = by_tokens (kind.Fixed fixed.EndVar ∷ []) (λ ks. refl) done_ends
-section_ends top (temps f) done w = by_tokens (kind.Fixed fixed.EndVar ∷ []) (λ ks. refl) inside_ends
+section_ends : (begun : BegunUnit written) (which : SectionKind written) (done : Locals) (w : List ℕ) → Ends (section begun which done) w
+section_ends begun formals done w = by_tokens (kind.Fixed fixed.EndVar ∷ []) (λ ks. refl) done_ends
+section_ends begun (temps f) done w = by_tokens (kind.Fixed fixed.EndVar ∷ []) (λ ks. refl) inside_ends
 
-end_typing : {top : Top written} {which : SectionKind written} {done : Locals} {name : List ℕ} {line : Line} {ty : StType} {w : List ℕ} → Ends (typing top which done name line (local_end ty)) w
+end_typing : {begun : BegunUnit written} {which : SectionKind written} {done : Locals} {name : List ℕ} {line : Line} {ty : StType} {w : List ℕ} → Ends (typing begun which done name line (local_end ty)) w
 end_typing =
     by_tokens (semicolon ∷ []) (λ ks. refl) (section_ends _ _ _ _)
 
-type_typing : (top : Top written) (which : SectionKind written) (done : Locals) (name : List ℕ) (line : Line) (w : List ℕ) → Ends (typing top which done name line local_type) w
-type_typing top formals done name line w = by_tokens (kind.Fixed (fixed.Type type.Bool) ∷ []) (λ ks. refl) end_typing
-type_typing top (temps f) done name line w = by_tokens (kind.Fixed (fixed.Type type.Bool) ∷ []) (λ ks. refl) end_typing
+type_typing : (begun : BegunUnit written) (which : SectionKind written) (done : Locals) (name : List ℕ) (line : Line) (w : List ℕ) → Ends (typing begun which done name line local_type) w
+type_typing begun formals done name line w = by_tokens (kind.Fixed (fixed.Type type.Bool) ∷ []) (λ ks. refl) end_typing
+type_typing begun (temps f) done name line w =
+    by_tokens (kind.Fixed (fixed.Type type.Bool) ∷ []) (λ ks. refl) end_typing
 
-typing_ends : (top : Top written) (which : SectionKind written) (done : Locals) (name : List ℕ) (line : Line) (x : Typing) (w : List ℕ) → Ends (typing top which done name line x) w
-typing_ends top which done name line local_colon w = by_tokens (kind.Fixed fixed.Colon ∷ []) (λ ks. refl) (type_typing top which done name line (0 ∷ w))
-typing_ends top which done name line local_type w = type_typing top which done name line w
-typing_ends top which done name line (local_end ty) w = end_typing
+typing_ends : (begun : BegunUnit written) (which : SectionKind written) (done : Locals) (name : List ℕ) (line : Line) (x : Typing) (w : List ℕ) → Ends (typing begun which done name line x) w
+typing_ends begun which done name line local_colon w = by_tokens (kind.Fixed fixed.Colon ∷ []) (λ ks. refl) (type_typing begun which done name line (0 ∷ w))
+typing_ends begun which done name line local_type w = type_typing begun which done name line w
+typing_ends begun which done name line (local_end ty) w = end_typing
 
 heading_ends : (text : Before written) (program : Bool) (line : Line) (w : List ℕ) → Ends (heading text program line) w
 heading_ends text program line w = by_tokens (kind.Variable (var.Name (codes "OB1")) line ∷ []) (λ ks. refl) opened_ends
@@ -295,9 +298,9 @@ finishes (globals done) w h = globals_end
 finishes (row done name line x) w h = row_ends done name line x w h.1
 finishes (between text) w h = between_ends
 finishes (heading text program line) w h = heading_ends text program line w
-finishes (opened top) w h = opened_ends
-finishes (formals_done top f) w h = done_ends
-finishes (section top which done) w h = section_ends top which done w
-finishes (typing top which done name line x) w h = typing_ends top which done name line x w
-finishes (inside top f l at) w h = place_ends (unit_read top f l) at.depth at.stack at.place w h.3
+finishes (opened begun) w h = opened_ends
+finishes (formals_done begun f) w h = done_ends
+finishes (section begun which done) w h = section_ends begun which done w
+finishes (typing begun which done name line x) w h = typing_ends begun which done name line x w
+finishes (inside begun f l at) w h = place_ends (unit_read begun f l) at.depth at.stack at.place w h.3
 finishes (over text) w h = record { more = []; text = text; levels = w; reaches = refl }

@@ -8,7 +8,7 @@ use Rattle.st_syntax_laws.proofs.DriveSource.{Declared}
 use Rattle.st_grammar.specs.Forms.{Form, prefix, infix_of, Actuals, no_actual, actual, Labels, label, more_labels, Statements, CaseArms, Items, no_item}
 use Rattle.st_grammar.specs.Grammar.{prefix_level, infix_level, level, is_value, Binds, may_jump, LabelsFit, HasArm, HasCase, Fits, AllFit, ArmsFit, CasesFit, is_direct, is_global, GlobalsFit, LocalsFit, IfPresent, HeadFits, UnitsFit, prefix_kind, spell, comma_behind, spell_actuals, spell_labels, arm_word, spell_one, spell_all, spell_arms, spell_cases, comma_past, spell_items, spell_type, spell_globals, spell_locals, unit_word, spell_section, spell_formals, spell_temps, spell_head, spell_units}
 use Rattle.st_tree.specs.Naming.{may_name_global, may_name_unit, names_block}
-use Rattle.st_grammar.specs.inner.Machine.{written, BegunStatement, Argument, only, shifted, shifted_by, gate, first, second, Need, to_var, to_area, area_value, test, selector, loop_test, Body, choosing, otherwise, looping, selecting, otherwise_case, Frame, unary, left, bracket, argument, waiting, within, Part, target, write_open, first_formal, next_formal, becoming, giving, given, first_label, next_label, labelled, Place, statement, part, closing, operand, operator, opening, BodyState, Row, at_word, at_place, at_colon, at_type, at_square, at_zero, at_dots, at_last, at_close, at_of, at_byte, at_becomes, at_open, at_item, at_count, at_value, at_value_end, at_comma, at_end, Typing, local_colon, local_type, local_end, Before, Top, SectionKind, formals, temps, State, start, globals, row, between, heading, opened, formals_done, section, typing, inside, over}
+use Rattle.st_grammar.specs.inner.Machine.{written, BegunStatement, Argument, only, shifted, shifted_by, gate, first, second, Need, to_var, to_area, area_value, test, selector, loop_test, Body, choosing, otherwise, looping, selecting, otherwise_case, Frame, unary, left, bracket, argument, waiting, within, Part, target, write_open, first_formal, next_formal, becoming, giving, given, first_label, next_label, labelled, Place, statement, part, closing, operand, operator, opening, BodyState, Row, at_word, at_place, at_colon, at_type, at_square, at_zero, at_dots, at_last, at_close, at_of, at_byte, at_becomes, at_open, at_item, at_count, at_value, at_value_end, at_comma, at_end, Typing, local_colon, local_type, local_end, Before, BegunUnit, SectionKind, formals, temps, State, start, globals, row, between, heading, opened, formals_done, section, typing, inside, over}
 use Rattle.st_grammar.specs.inner.Steps.{body_state, shallower, weakest, limit, Reduced, reduce, reduced_to, with_prefix, closed, waits, in_loop, in_body, at_label, step_at, may_name, may_type}
 use Rattle.st_grammar.specs.declared.kind.Fixed.TheVariants as fixed
 use Rattle.st_grammar.specs.declared.kind.Function.{Function}
@@ -137,8 +137,8 @@ past_row (at_end v ty) more = past_colon v (spell_type ty more)
 abbrev pub past_before : Before written → List Kind → List Kind
 past_before text more = spell_section (kind.Fixed fixed.VarGlobal) spell_globals text.globals (spell_units text.units more)
 
-abbrev pub past_top : Top written → List Kind → List Kind
-past_top top more = past_before top.text (spell_head top.head more)
+abbrev pub past_begun_unit : BegunUnit written → List Kind → List Kind
+past_begun_unit begun more = past_before begun.text (spell_head begun.head more)
 
 abbrev pub past_section_kind : SectionKind written → List Kind → List Kind
 past_section_kind formals more = kind.Fixed fixed.VarInOut ∷ more
@@ -155,11 +155,11 @@ past (globals done) more = kind.Fixed fixed.VarGlobal ∷ spell_globals done mor
 past (row done name line x) more = kind.Fixed fixed.VarGlobal ∷ spell_globals done (kind.Variable (var.Name name) line ∷ past_row x more)
 past (between text) more = past_before text more
 past (heading text program line) more = past_before text (unit_word program line ∷ more)
-past (opened top) more = past_top top more
-past (formals_done top f) more = past_top top (spell_formals f more)
-past (section top which done) more = past_top top (past_section_kind which (spell_locals done more))
-past (typing top which done name line x) more = past_top top (past_section_kind which (spell_locals done (kind.Variable (var.Name name) line ∷ past_typing x more)))
-past (inside top f l at) more = past_top top (spell_formals f (spell_temps l (past_stack at.stack (past_place at.place more))))
+past (opened begun) more = past_begun_unit begun more
+past (formals_done begun f) more = past_begun_unit begun (spell_formals f more)
+past (section begun which done) more = past_begun_unit begun (past_section_kind which (spell_locals done more))
+past (typing begun which done name line x) more = past_begun_unit begun (past_section_kind which (spell_locals done (kind.Variable (var.Name name) line ∷ past_typing x more)))
+past (inside begun f l at) more = past_begun_unit begun (spell_formals f (spell_temps l (past_stack at.stack (past_place at.place more))))
 past (over text) more = past_before text (kind.Fixed fixed.End ∷ more)
 
 -- What is open stands in order
@@ -243,12 +243,12 @@ RowFits name other = Unit {0}
 abbrev pub TextFits : Before written → Type 0
 TextFits text = IfPresent GlobalsFit text.globals × UnitsFit text.units
 
-abbrev pub TopFits : Top written → Type 0
-TopFits top = TextFits top.text × (may_name_unit top.head.name ≡ true)
+abbrev pub BegunUnitFits : BegunUnit written → Type 0
+BegunUnitFits begun = TextFits begun.text × (may_name_unit begun.head.name ≡ true)
 
-abbrev pub SectionKindFits : Top written → SectionKind written → Type 0
-SectionKindFits top formals = top.head.program ≡ false
-SectionKindFits top (temps f) = HeadFits top.head.program f
+abbrev pub SectionKindFits : BegunUnit written → SectionKind written → Type 0
+SectionKindFits begun formals = begun.head.program ≡ false
+SectionKindFits begun (temps f) = HeadFits begun.head.program f
 
 abbrev pub TypingFits : SectionKind written → Typing → Type 0
 TypingFits which (local_end ty) = may_type written which ty ≡ true
@@ -260,11 +260,11 @@ Shaped (globals done) = GlobalsFit done
 Shaped (row done name line x) = GlobalsFit done × (may_name_global name ≡ true) × RowFits name x
 Shaped (between text) = TextFits text
 Shaped (heading text program line) = TextFits text
-Shaped (opened top) = TopFits top
-Shaped (formals_done top f) = TopFits top × HeadFits top.head.program f
-Shaped (section top which done) = TopFits top × SectionKindFits top which × Declared which done
-Shaped (typing top which done name line x) = TopFits top × SectionKindFits top which × Declared which done × (may_name written which name ≡ true) × TypingFits which x
-Shaped (inside top f l at) = TopFits top × HeadFits top.head.program f × IfPresent LocalsFit l × PlaceFits at.stack at.place
+Shaped (opened begun) = BegunUnitFits begun
+Shaped (formals_done begun f) = BegunUnitFits begun × HeadFits begun.head.program f
+Shaped (section begun which done) = BegunUnitFits begun × SectionKindFits begun which × Declared which done
+Shaped (typing begun which done name line x) = BegunUnitFits begun × SectionKindFits begun which × Declared which done × (may_name written which name ≡ true) × TypingFits which x
+Shaped (inside begun f l at) = BegunUnitFits begun × HeadFits begun.head.program f × IfPresent LocalsFit l × PlaceFits at.stack at.place
 Shaped (over text) = TextFits text
 
 -- A step keeps both

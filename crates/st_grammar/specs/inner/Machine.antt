@@ -487,8 +487,8 @@ pub record Before (m : Mode) : Type 0 where
   pub globals : GlobalSectionIn m
   pub units : UnitsIn m
 
--- the part of a unit before its statements
-pub record Top (m : Mode) : Type 0 where
+-- a unit that has begun: the text before it, and its heading
+pub record BegunUnit (m : Mode) : Type 0 where
   pub text : Before m
   pub head : HeadIn m
 
@@ -504,9 +504,9 @@ pub data State (m : Mode) : Type 0 where
   row : GlobalsIn m → List ℕ → Line → Row m → State m
   between : Before m → State m
   heading : Before m → Bool → Line → State m
-  opened : Top m → State m
-  formals_done : Top m → LocalSectionIn m → State m
-  section : Top m → SectionKind m → LocalsIn m → State m
-  typing : Top m → SectionKind m → LocalsIn m → List ℕ → Line → Typing → State m
-  inside : Top m → LocalSectionIn m → LocalSectionIn m → BodyState m → State m
+  opened : BegunUnit m → State m
+  formals_done : BegunUnit m → LocalSectionIn m → State m
+  section : BegunUnit m → SectionKind m → LocalsIn m → State m
+  typing : BegunUnit m → SectionKind m → LocalsIn m → List ℕ → Line → Typing → State m
+  inside : BegunUnit m → LocalSectionIn m → LocalSectionIn m → BodyState m → State m
   over : Before m → State m

@@ -3,7 +3,7 @@ use Rattle.std.specs.Prelude.{ℕ, zero, suc, ◌+◌, ◌-◌, Bool, true, fals
 use Rattle.s7_base.specs.declared.reason.Line.{Line}
 use Rattle.st_grammar.specs.Grammar.{prefix_level, infix_level, is_value, may_jump, is_direct, is_formal_type}
 use Rattle.st_tree.specs.Naming.{is_free, may_name_global, may_name_local, may_name_unit, names_block}
-use Rattle.st_grammar.specs.inner.Machine.{Mode, ExprIn, StatementsIn, StatementIn, CasesIn, LabelsIn, VarIn, HeadIn, GlobalSectionIn, GlobalsIn, LocalsIn, LocalSectionIn, of_literal, of_variable, of_group, of_prefix, of_infix, of_apply, of_shift, of_select, height_in, no_statements, add_empty, add_statement, no_arms, add_arm, no_cases, add_case, of_label, add_label, named, at_var, no_actuals, add_actual, of_assign, of_write, of_invoke, of_choice, of_choice_else, of_cases, of_cases_else, of_loop, of_jump, no_items, add_single, add_times, of_plain, of_bytes, no_globals, add_global, no_locals, add_local, no_global_section, global_section, no_section, section_of, head_of, is_program, no_units, add_unit, BegunStatement, Argument, only, shifted, shifted_by, gate, first, second, Need, to_var, to_area, area_value, test, selector, loop_test, Body, choosing, otherwise, looping, selecting, otherwise_case, Frame, unary, left, bracket, argument, waiting, within, Part, target, write_open, first_formal, next_formal, becoming, giving, given, first_label, next_label, labelled, Place, statement, part, closing, operand, operator, opening, BodyState, Row, at_word, at_place, at_colon, at_type, at_square, at_zero, at_dots, at_last, at_close, at_of, at_byte, at_becomes, at_open, at_item, at_count, at_value, at_value_end, at_comma, at_end, Typing, local_colon, local_type, local_end, Before, Top, SectionKind, formals, temps, State, start, globals, row, between, heading, opened, formals_done, section, typing, inside, over}
+use Rattle.st_grammar.specs.inner.Machine.{Mode, ExprIn, StatementsIn, StatementIn, CasesIn, LabelsIn, VarIn, HeadIn, GlobalSectionIn, GlobalsIn, LocalsIn, LocalSectionIn, of_literal, of_variable, of_group, of_prefix, of_infix, of_apply, of_shift, of_select, height_in, no_statements, add_empty, add_statement, no_arms, add_arm, no_cases, add_case, of_label, add_label, named, at_var, no_actuals, add_actual, of_assign, of_write, of_invoke, of_choice, of_choice_else, of_cases, of_cases_else, of_loop, of_jump, no_items, add_single, add_times, of_plain, of_bytes, no_globals, add_global, no_locals, add_local, no_global_section, global_section, no_section, section_of, head_of, is_program, no_units, add_unit, BegunStatement, Argument, only, shifted, shifted_by, gate, first, second, Need, to_var, to_area, area_value, test, selector, loop_test, Body, choosing, otherwise, looping, selecting, otherwise_case, Frame, unary, left, bracket, argument, waiting, within, Part, target, write_open, first_formal, next_formal, becoming, giving, given, first_label, next_label, labelled, Place, statement, part, closing, operand, operator, opening, BodyState, Row, at_word, at_place, at_colon, at_type, at_square, at_zero, at_dots, at_last, at_close, at_of, at_byte, at_becomes, at_open, at_item, at_count, at_value, at_value_end, at_comma, at_end, Typing, local_colon, local_type, local_end, Before, BegunUnit, SectionKind, formals, temps, State, start, globals, row, between, heading, opened, formals_done, section, typing, inside, over}
 use Rattle.st_grammar.specs.declared.kind.Fixed.TheVariants as fixed
 use Rattle.st_grammar.specs.declared.kind.Function.{Function}
 use Rattle.st_grammar.specs.declared.kind.Function.TheVariants as function
@@ -386,13 +386,13 @@ at_start m (kind.Fixed fixed.VarGlobal) = Some (globals (no_globals m))
 at_start m other = at_between m (before_units m (no_global_section m)) other
 
 -- a unit after its heading
-abbrev pub top_of : (m : Mode) → Before m → HeadIn m → Top m
-top_of m text head = record { text = text; head = head }
+abbrev pub begun_unit : (m : Mode) → Before m → HeadIn m → BegunUnit m
+begun_unit m text head = record { text = text; head = head }
 
 -- the name of a unit after its first word
 abbrev pub at_heading : (m : Mode) → Before m → Bool → Line → Kind → Option (State m)
 at_heading m text program line (kind.Variable (var.Name name) place) =
-    if may_name_unit name then Some (opened (top_of m text (head_of m program line name place))) else None
+    if may_name_unit name then Some (opened (begun_unit m text (head_of m program line name place))) else None
 at_heading m text program line other = None
 
 -- a name that may be declared in a section
@@ -410,27 +410,27 @@ abbrev pub body_start : (m : Mode) → BodyState m
 body_start m = body_state m 0 [] (statement (no_statements m))
 
 -- a section of a unit ends; after the locals come its statements
-abbrev pub section_end : (m : Mode) → Top m → SectionKind m → LocalsIn m → State m
-section_end m top formals done = formals_done top (section_of m done)
-section_end m top (temps before) done = inside top before (section_of m done) (body_start m)
+abbrev pub section_end : (m : Mode) → BegunUnit m → SectionKind m → LocalsIn m → State m
+section_end m begun formals done = formals_done begun (section_of m done)
+section_end m begun (temps before) done = inside begun before (section_of m done) (body_start m)
 
 -- a token in a section of a unit where a declaration may begin
-abbrev pub at_section : (m : Mode) → Top m → SectionKind m → LocalsIn m → Kind → Option (State m)
-at_section m top which done (kind.Variable (var.Name name) line) =
-    if may_name m which name then Some (typing top which done name line local_colon) else None
-at_section m top which done (kind.Fixed fixed.EndVar) = Some (section_end m top which done)
-at_section m top which done other = None
+abbrev pub at_section : (m : Mode) → BegunUnit m → SectionKind m → LocalsIn m → Kind → Option (State m)
+at_section m begun which done (kind.Variable (var.Name name) line) =
+    if may_name m which name then Some (typing begun which done name line local_colon) else None
+at_section m begun which done (kind.Fixed fixed.EndVar) = Some (section_end m begun which done)
+at_section m begun which done other = None
 
 -- a token of a formal or a local after its name
-abbrev pub at_typing : (m : Mode) → Top m → SectionKind m → LocalsIn m → List ℕ → Line → Typing → Kind
+abbrev pub at_typing : (m : Mode) → BegunUnit m → SectionKind m → LocalsIn m → List ℕ → Line → Typing → Kind
     → Option (State m)
-at_typing m top which done name line local_colon (kind.Fixed fixed.Colon) =
-    Some (typing top which done name line local_type)
-at_typing m top which done name line local_type (kind.Fixed (fixed.Type ty)) =
-    if may_type m which ty then Some (typing top which done name line (local_end ty)) else None
-at_typing m top which done name line (local_end ty) (kind.Fixed fixed.Semicolon) =
-    Some (section top which (add_local m done name line ty))
-at_typing m top which done name line x other = None
+at_typing m begun which done name line local_colon (kind.Fixed fixed.Colon) =
+    Some (typing begun which done name line local_type)
+at_typing m begun which done name line local_type (kind.Fixed (fixed.Type ty)) =
+    if may_type m which ty then Some (typing begun which done name line (local_end ty)) else None
+at_typing m begun which done name line (local_end ty) (kind.Fixed fixed.Semicolon) =
+    Some (section begun which (add_local m done name line ty))
+at_typing m begun which done name line x other = None
 
 -- whether an end word is that of the unit: END_PROGRAM for a program, END_FUNCTION for a function
 abbrev pub ends : Bool → Bool → Bool
@@ -439,33 +439,34 @@ ends false false = true
 ends a b = false
 
 -- a unit ends where nothing is open
-abbrev pub leave : (m : Mode) → Bool → Top m → LocalSectionIn m → LocalSectionIn m → List (Frame m) → Place m
+abbrev pub leave : (m : Mode) → Bool → BegunUnit m → LocalSectionIn m → LocalSectionIn m → List (Frame m) → Place m
     → Option (State m)
-leave m program top before locals [] (statement body) =
-    if ends program (is_program m top.head)
+leave m program begun before locals [] (statement body) =
+    if ends program (is_program m begun.head)
     then Some (between (record {
-      globals = top.text.globals;
-      units = add_unit m top.text.units top.head before locals body;
+      globals = begun.text.globals;
+      units = add_unit m begun.text.units begun.head before locals body;
     }))
     else None
-leave m program top before locals s p = None
+leave m program begun before locals s p = None
 
 -- a token in a unit's statements, or its end word
-abbrev pub at_inside : (m : Mode) → Top m → LocalSectionIn m → LocalSectionIn m → BodyState m → Kind → Option (State m)
-at_inside m top before locals at (kind.Fixed fixed.EndProgram) = leave m true top before locals at.stack at.place
-at_inside m top before locals at (kind.Fixed fixed.EndFunction) = leave m false top before locals at.stack at.place
-at_inside m top before locals at k = option_map (λ (to : BodyState m). inside top before locals to) (step m at k)
+abbrev pub at_inside : (m : Mode) → BegunUnit m → LocalSectionIn m → LocalSectionIn m → BodyState m → Kind
+    → Option (State m)
+at_inside m begun before locals at (kind.Fixed fixed.EndProgram) = leave m true begun before locals at.stack at.place
+at_inside m begun before locals at (kind.Fixed fixed.EndFunction) = leave m false begun before locals at.stack at.place
+at_inside m begun before locals at k = option_map (λ (to : BodyState m). inside begun before locals to) (step m at k)
 
 -- a token where the section of locals may begin, or the first statement
-abbrev pub at_formals_done : (m : Mode) → Top m → LocalSectionIn m → Kind → Option (State m)
-at_formals_done m top before (kind.Fixed fixed.VarTemp) = Some (section top (temps before) (no_locals m))
-at_formals_done m top before k = at_inside m top before (no_section m) (body_start m) k
+abbrev pub at_formals_done : (m : Mode) → BegunUnit m → LocalSectionIn m → Kind → Option (State m)
+at_formals_done m begun before (kind.Fixed fixed.VarTemp) = Some (section begun (temps before) (no_locals m))
+at_formals_done m begun before k = at_inside m begun before (no_section m) (body_start m) k
 
 -- a token after the name of a unit; a program has no formals
-abbrev pub at_opened : (m : Mode) → Top m → Kind → Option (State m)
-at_opened m top (kind.Fixed fixed.VarInOut) =
-    if is_program m top.head then None else Some (section top formals (no_locals m))
-at_opened m top k = at_formals_done m top (no_section m) k
+abbrev pub at_opened : (m : Mode) → BegunUnit m → Kind → Option (State m)
+at_opened m begun (kind.Fixed fixed.VarInOut) =
+    if is_program m begun.head then None else Some (section begun formals (no_locals m))
+at_opened m begun k = at_formals_done m begun (no_section m) k
 
 -- one token
 abbrev pub next : (m : Mode) → State m → Kind → Option (State m)
@@ -474,11 +475,11 @@ next m (globals done) k = at_globals m done k
 next m (row done name line x) k = at_row m done name line x k
 next m (between text) k = at_between m text k
 next m (heading text program line) k = at_heading m text program line k
-next m (opened top) k = at_opened m top k
-next m (formals_done top before) k = at_formals_done m top before k
-next m (section top which done) k = at_section m top which done k
-next m (typing top which done name line x) k = at_typing m top which done name line x k
-next m (inside top before locals at) k = at_inside m top before locals at k
+next m (opened begun) k = at_opened m begun k
+next m (formals_done begun before) k = at_formals_done m begun before k
+next m (section begun which done) k = at_section m begun which done k
+next m (typing begun which done name line x) k = at_typing m begun which done name line x k
+next m (inside begun before locals at) k = at_inside m begun before locals at k
 next m (over text) k = None
 
 -- Levels
@@ -491,7 +492,7 @@ level_at m d p s = d
 
 -- the level that the last token made
 abbrev pub mark : (m : Mode) → State m → ℕ
-mark m (inside top before locals at) = level_at m at.depth at.place at.stack
+mark m (inside begun before locals at) = level_at m at.depth at.place at.stack
 mark m (row done name line (at_value v last items count)) = 1
 mark m (row done name line (at_value_end v last items count b)) = 1
 mark m other = 0

@@ -12,7 +12,7 @@ use Rattle.st_syntax.specs.declared.state.Row.TheVariants as row
 use Rattle.st_syntax.specs.declared.state.Typing.{Typing}
 use Rattle.st_syntax.specs.declared.state.Typing.TheVariants as typing
 use Rattle.st_syntax.specs.declared.state.Before.{Before}
-use Rattle.st_syntax.specs.declared.state.Top.{Top}
+use Rattle.st_syntax.specs.declared.state.BegunUnit.{BegunUnit}
 use Rattle.st_syntax.specs.declared.state.SectionKind.{SectionKind}
 use Rattle.st_syntax.specs.declared.state.SectionKind.TheVariants as section_kind
 use Rattle.st_syntax.specs.declared.state.State.{State}
@@ -50,9 +50,9 @@ typing_of (typing.End ty) = machine.local_end ty
 abbrev pub before_of : Before → machine.Before code
 before_of text = record { globals = text.globals; units = text.units }
 
--- the part of a unit before its statements
-abbrev pub top_in : Top → machine.Top code
-top_in top = record { text = before_of top.text; head = top.head }
+-- a unit that has begun
+abbrev pub begun_unit_of : BegunUnit → machine.BegunUnit code
+begun_unit_of begun = record { text = before_of begun.text; head = begun.head }
 
 -- which section is read
 abbrev pub section_kind_of : SectionKind → machine.SectionKind code
@@ -73,10 +73,10 @@ state_of (state.Globals done) = machine.globals done
 state_of (state.Row done name line x) = machine.row done name line (row_of x)
 state_of (state.Between text) = machine.between (before_of text)
 state_of (state.Heading text program line) = machine.heading (before_of text) program line
-state_of (state.Opened top) = machine.opened (top_in top)
-state_of (state.FormalsDone top before) = machine.formals_done (top_in top) before
-state_of (state.Section top which done) = machine.section (top_in top) (section_kind_of which) done
-state_of (state.Typing top which done name line x) =
-    machine.typing (top_in top) (section_kind_of which) done name line (typing_of x)
-state_of (state.Inside top before locals at) = machine.inside (top_in top) before locals (body_state_of at)
+state_of (state.Opened begun) = machine.opened (begun_unit_of begun)
+state_of (state.FormalsDone begun before) = machine.formals_done (begun_unit_of begun) before
+state_of (state.Section begun which done) = machine.section (begun_unit_of begun) (section_kind_of which) done
+state_of (state.Typing begun which done name line x) =
+    machine.typing (begun_unit_of begun) (section_kind_of which) done name line (typing_of x)
+state_of (state.Inside begun before locals at) = machine.inside (begun_unit_of begun) before locals (body_state_of at)
 state_of (state.Over text) = machine.over (before_of text)
