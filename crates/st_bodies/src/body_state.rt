@@ -6,7 +6,7 @@ ghost use Rattle.st_grammar.specs.inner.Machine.{code, closing, no_statements, o
 ghost use Rattle.st_grammar.specs.inner.Steps.{body_start, body_state, shallower};
 ghost use Rattle.st_bodies.specs.inner.BodyStates.{begun_statement_of, body_at, body_of, body_state_of, frame_of, need_of, part_of, place_of, stack_of, went};
 
-use crate::expression::{Held, one_more, shallower};
+use crate::expression::{BoxedExpression, one_more, shallower};
 use s7_base::{Boxed, Line, List, NoMemory, Width};
 use st_grammar::{Function, Measured, OneOperand, Prefix};
 use st_tree::{BinaryOp, RawArm, RawCaseArm, RawStmt, RawStmtKind, RawVar, ShiftOp, StType};
@@ -30,7 +30,7 @@ pub struct Call {
 /// A CASE while it is read: its selector, and the arms so far.
 #[derive(Drop)]
 pub struct Cases {
-    pub selector: Held,
+    pub selector: BoxedExpression,
     pub arms: List<RawCaseArm>,
 }
 
@@ -44,16 +44,16 @@ pub enum Argument {
     Shifted(ShiftOp),
 
     /// The count of a shift or a rotation, after its value.
-    ShiftedBy(ShiftOp, Held),
+    ShiftedBy(ShiftOp, BoxedExpression),
 
     /// The BOOL of SEL.
     Gate,
 
     /// The value of SEL where its BOOL is FALSE.
-    First(Held),
+    First(BoxedExpression),
 
     /// The value of SEL where its BOOL is TRUE.
-    Second(Held, Held),
+    Second(BoxedExpression, BoxedExpression),
 }
 
 /// What a statement needs an expression for.
@@ -66,7 +66,7 @@ pub enum Need {
     ToArea(Width),
 
     /// The value of an area write, after its pointer.
-    AreaValue(Width, Held),
+    AreaValue(Width, BoxedExpression),
 
     /// The test of an arm of an IF, after these arms.
     Test(List<RawArm>),
@@ -82,13 +82,13 @@ pub enum Need {
 #[derive(Drop)]
 pub enum Body {
     /// An arm of an IF with this test, after these arms.
-    Choosing(List<RawArm>, Held),
+    Choosing(List<RawArm>, BoxedExpression),
 
     /// The statements after the ELSE of an IF.
     Otherwise(List<RawArm>),
 
     /// The statements of a WHILE with this test.
-    Looping(Held),
+    Looping(BoxedExpression),
 
     /// An arm of a CASE with these labels.
     Selecting(Boxed<Cases>, List<(StType, i64)>),
@@ -104,7 +104,7 @@ pub enum Frame {
     Unary(Prefix),
 
     /// An operator with its left operand, which waits for the right one.
-    Left(BinaryOp, Held),
+    Left(BinaryOp, BoxedExpression),
 
     /// A bracket of an expression.
     Bracket,

@@ -9,7 +9,7 @@ pub use body_state::{
     Argument, BegunStatement, Body, BodyState, Call, Cases, Frame, Need, Part, Place,
 };
 pub use depth::is_deep_at;
-pub use expression::Held;
+pub use expression::BoxedExpression;
 pub use statement::step;
 
 mod body_state;

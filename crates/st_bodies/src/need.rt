@@ -6,7 +6,7 @@ ghost use Rattle.st_grammar.specs.declared.kind.Kind.TheVariants as kind;
 ghost use Rattle.st_bodies.specs.inner.BodyStates.{begun_statement_of, measured_of, need_of, stack_of, went};
 
 use crate::body_state::{BegunStatement, Body, BodyState, Cases, Need, Part};
-use crate::expression::{Held, hold};
+use crate::expression::{BoxedExpression, boxed};
 use s7_base::{Boxed, List, NoMemory, Width};
 use st_grammar::{Fixed, Measured};
 use st_tree::{RawArm, RawStmt, RawStmtKind, RawVar};
@@ -53,7 +53,7 @@ fn pointer_closed(
         drop(pointer);
         return Ok(false);
     };
-    let pointer = hold(alloc, pointer)?;
+    let pointer = boxed(alloc, pointer)?;
     at.wait(begun, Need::AreaValue(width, pointer))?;
     Ok(true)
 }
@@ -64,7 +64,7 @@ fn written(
     at: &mut BodyState,
     begun: BegunStatement,
     width: Width,
-    pointer: Held,
+    pointer: BoxedExpression,
     value: Measured,
     word: Fixed,
 ) -> Result<bool, NoMemory>
@@ -76,7 +76,7 @@ fn written(
         drop(value);
         return Ok(false);
     };
-    let value = hold(alloc, value)?;
+    let value = boxed(alloc, value)?;
     at.close(
         alloc,
         begun,
@@ -101,7 +101,7 @@ fn tested(
         drop(value);
         return Ok(false);
     };
-    let value = hold(alloc, value)?;
+    let value = boxed(alloc, value)?;
     at.enter(alloc, begun, Body::Choosing(arms, value))?;
     Ok(true)
 }
@@ -123,7 +123,7 @@ fn selected(
         return Ok(false);
     };
     let cases = Cases {
-        selector: hold(alloc, value)?,
+        selector: boxed(alloc, value)?,
         arms: List::new(alloc),
     };
     at.go_part(begun, Part::FirstLabel(Boxed::new(alloc, cases)?));
@@ -146,7 +146,7 @@ fn loop_tested(
         drop(value);
         return Ok(false);
     };
-    let value = hold(alloc, value)?;
+    let value = boxed(alloc, value)?;
     at.enter(alloc, begun, Body::Looping(value))?;
     Ok(true)
 }

@@ -7,7 +7,7 @@ ghost use Rattle.st_bodies.specs.inner.BodyStates.{argument_of, binds, stack_of,
 
 use crate::body_state::{Argument, BodyState, Frame};
 use crate::expression::{
-    hold, infix_level, is_value, of_apply, of_infix, of_literal, of_prefix, of_select, of_shift,
+    boxed, infix_level, is_value, of_apply, of_infix, of_literal, of_prefix, of_select, of_shift,
     of_variable, prefix_level,
 };
 use crate::need::need_closed;
@@ -180,7 +180,7 @@ fn next_argument(
     ensures { IfOk result (λ goes. went goes at.new
         ≡ next_argument code at.old.depth (stack_of at.old.frames) (argument_of argument) operand) }
 {
-    let operand = hold(alloc, operand)?;
+    let operand = boxed(alloc, operand)?;
     let next = match argument {
         Argument::Shifted(op) => Argument::ShiftedBy(op, operand),
         Argument::Gate => Argument::First(operand),
@@ -263,7 +263,7 @@ pub fn at_operator(
 {
     if let Kind::Fixed(Fixed::Between(op)) = kind {
         let left = reduce(alloc, at, infix_level(op), operand)?;
-        at.expect(Frame::Left(op, hold(alloc, left)?))?;
+        at.expect(Frame::Left(op, boxed(alloc, left)?))?;
         return Ok(true);
     }
     let whole = reduce(alloc, at, WEAKEST, operand)?;

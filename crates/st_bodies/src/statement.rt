@@ -9,7 +9,7 @@ ghost use Rattle.st_grammar.specs.declared.kind.Lead.TheVariants as lead;
 ghost use Rattle.st_bodies.specs.inner.BodyStates.{begun_statement_of, body_of, frame_of, measured_of, part_of, place_of, stack_of, went};
 
 use crate::body_state::{BegunStatement, Body, BodyState, Call, Cases, Frame, Need, Part, Place};
-use crate::expression::{Held, is_value, label_of};
+use crate::expression::{BoxedExpression, is_value, label_of};
 use crate::operand::{at_opening, at_operand, at_operator};
 use s7_base::{Boxed, Line, List, NoMemory, Width};
 use st_grammar::{Fixed, Jump, Kind, Lead, Literal};
@@ -52,7 +52,7 @@ fn choosing_closed(
     at: &mut BodyState,
     begun: BegunStatement,
     mut arms: List<RawArm>,
-    test: Held,
+    test: BoxedExpression,
     body: List<RawStmt>,
     kind: Kind,
 ) -> Result<bool, NoMemory>

@@ -6,7 +6,7 @@ use Rattle.st_grammar.specs.inner.Machine.{code}
 use Rattle.st_grammar.specs.inner.Steps.{body_state}
 use Rattle.st_grammar.specs.declared.measured.Measured.{Measured}
 use Rattle.st_tree.specs.declared.raw.RawStmt.{RawStmt}
-use Rattle.st_bodies.specs.declared.expression.Held.{Held}
+use Rattle.st_bodies.specs.declared.expression.BoxedExpression.{BoxedExpression}
 use Rattle.st_bodies.specs.declared.body_state.BegunStatement.{BegunStatement}
 use Rattle.st_bodies.specs.declared.body_state.Argument.{Argument}
 use Rattle.st_bodies.specs.declared.body_state.Argument.TheVariants as argument
@@ -26,8 +26,8 @@ use Rattle.st_bodies.specs.declared.body_state.BodyState.{BodyState}
 abbrev pub begun_statement_of : BegunStatement → machine.BegunStatement code
 begun_statement_of b = record { before = b.before; line = b.line }
 
--- an operand in its box
-abbrev pub measured_of : Held → Measured
+-- an expression in its box
+abbrev pub measured_of : BoxedExpression → Measured
 measured_of e = record { tree = e.tree; height = e.height }
 
 -- an operand of a function, with those before it
