@@ -5,7 +5,7 @@ use Rattle.s7_base.specs.declared.reason.Line.{Line}
 use Rattle.s7_base.specs.declared.reason.Reason.TheVariants.{TooDeep}
 use Rattle.s7_base.specs.declared.reason.Rejection.{Rejection}
 use Rattle.s7_base.specs.declared.reason.Rejection.TheVariants.{Refused}
-use Rattle.st_grammar.specs.inner.Judge.{turn, reached, judged, on_good, judge, text_in}
+use Rattle.st_grammar.specs.inner.Judge.{turn, reached, judged, on_good, judge_tokens, text_in}
 use Rattle.st_grammar.specs.Levels.{deepest}
 use Rattle.st_grammar.specs.inner.Machine as machine
 use Rattle.st_grammar.specs.inner.Machine.{code, Frame, unary, left, bracket, argument, waiting, within, Argument, Need, Body, Part, target, write_open, first_formal, next_formal, becoming, giving, given, first_label, next_label, labelled, Place, statement, part, closing, operand, operator, opening, BodyState, Row, State, start, globals, row, between, heading, opened, formals_done, section, typing, inside, over, SectionKind, formals, temps}
@@ -129,19 +129,20 @@ good_end (Some to) line h = by (nat_lt deepest (reached to))
     by true = tt
     by false = h
 
-last_judged : (items : List Lined) (line : Line) (q : State code) → GoodOver (judge q (items ++ end_on line ∷ []))
+last_judged : (items : List Lined) (line : Line) (q : State code) →
+    GoodOver (judge_tokens q (items ++ end_on line ∷ []))
 last_judged [] line q = good_end (turn q end) line (turn_end q)
 last_judged (item ∷ items) line q = by (judged (turn q item.kind) item.line) (λ to. last_judged items line to)
   where
-    by : (r : Result (State code) Rejection) → ((to : State code) → GoodOver (judge to (items ++ end_on line ∷ []))) → GoodOver (on_good r (λ to. judge to (items ++ end_on line ∷ [])))
+    by : (r : Result (State code) Rejection) → ((to : State code) → GoodOver (judge_tokens to (items ++ end_on line ∷ []))) → GoodOver (on_good r (λ to. judge_tokens to (items ++ end_on line ∷ [])))
     by (Ok to) h = h to
     by (Err refused) h = tt
 
 -- the state that is judged good after the end of a text
-ends_over : (items : List Lined) (line : Line) (q : State code) → judge start (items ++ end_on line ∷ []) ≡ Ok q → IsOver q
+ends_over : (items : List Lined) (line : Line) (q : State code) → judge_tokens start (items ++ end_on line ∷ []) ≡ Ok q → IsOver q
 ends_over items line q e = subst GoodOver e (last_judged items line start)
 
 -- tokens that are judged good come to the end
-pub not_over : (tokens : List StToken) (line : Line) (q : State code) → judge start (all_lined tokens line) ≡ Ok q → text_in q ≡ None → ⊥
+pub not_over : (tokens : List StToken) (line : Line) (q : State code) → judge_tokens start (all_lined tokens line) ≡ Ok q → text_in q ≡ None → ⊥
 not_over tokens line (over t) good e = absurd cc
 not_over tokens line other good e = ends_over (map lined tokens) line other good

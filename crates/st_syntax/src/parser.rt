@@ -2,7 +2,7 @@
 ghost use Rattle.std.specs.Prelude.{◌≡◌, nat_lt, Some, Err, IfOk, option_map};
 ghost use Rattle.s7_base.specs.declared.reason.Rejection.TheVariants.{Refused};
 ghost use Rattle.s7_base.specs.Answers.{IfRefused};
-ghost use Rattle.st_grammar.specs.inner.Judge.{turn, reached, judged, judge, text_in, tree_at, verdict};
+ghost use Rattle.st_grammar.specs.inner.Judge.{turn, reached, judged, judge_tokens, text_in, tree_at, verdict};
 ghost use Rattle.st_grammar.specs.Kinds.{kind_of};
 ghost use Rattle.st_grammar.specs.Levels.{deepest};
 ghost use Rattle.st_syntax.specs.declared.state.State.TheVariants as state;
@@ -81,8 +81,13 @@ fn advance_token(alloc: Global, state: &mut State, token: &StToken) -> Option<Re
 }
 
 /// The state after all tokens of a text that ends on a line, and why the text is refused, if it is.
-fn judge(alloc: Global, state: &mut State, tokens: &[StToken], end: Line) -> Option<Rejection>
-    ensures { JudgedIs (seen state.new) result (judge (seen state.old) (all_lined tokens.now end)) }
+fn judge_tokens(
+    alloc: Global,
+    state: &mut State,
+    tokens: &[StToken],
+    end: Line,
+) -> Option<Rejection>
+    ensures { JudgedIs (seen state.new) result (judge_tokens (seen state.old) (all_lined tokens.now end)) }
 {
     let mut rest = tokens;
     while let [first, ..] = rest {
@@ -125,12 +130,12 @@ fn finish(state: State) -> Option<Before>
 /// The whole text of these tokens, or why it is refused.
 fn whole(alloc: Global, tokens: &[StToken], end: Line) -> Result<Before, Rejection>
     ensures text { IfOk result
-        (λ text. HasText (judge (seen state.Start) (all_lined tokens.now end)) (before_of text)) }
+        (λ text. HasText (judge_tokens (seen state.Start) (all_lined tokens.now end)) (before_of text)) }
     ensures refused { IfRefused result
-        (λ line reason. judge (seen state.Start) (all_lined tokens.now end) ≡ Err (Refused line reason)) }
+        (λ line reason. judge_tokens (seen state.Start) (all_lined tokens.now end) ≡ Err (Refused line reason)) }
 {
     let mut state = State::Start;
-    let refusal = judge(alloc, &mut state, tokens, end);
+    let refusal = judge_tokens(alloc, &mut state, tokens, end);
     let text = finish(state);
     if let Some(refused) = refusal {
         return Err(refused);

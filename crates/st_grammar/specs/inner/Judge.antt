@@ -36,9 +36,9 @@ on_good (Ok to) on = on to
 on_good (Err refused) on = Err refused
 
 -- the state after tokens, or the first refusal
-abbrev pub judge : State code → List Lined → Result (State code) Rejection
-judge q [] = Ok q
-judge q (item ∷ items) = on_good (judged (turn q item.kind) item.line) (λ to. judge to items)
+abbrev pub judge_tokens : State code → List Lined → Result (State code) Rejection
+judge_tokens q [] = Ok q
+judge_tokens q (item ∷ items) = on_good (judged (turn q item.kind) item.line) (λ to. judge_tokens to items)
 
 -- the whole text, if a state is after its end
 abbrev pub text_in : State code → Option (Before code)
@@ -56,7 +56,7 @@ tree_at (Err refused) = None
 
 -- the judgement of a text: that of its tokens, if none of them is bad
 abbrev pub verdict_on : List ℕ → Result (List StToken) Rejection → Result (State code) Rejection
-verdict_on bytes (Ok tokens) = judge start (all_lined tokens (line_at_end bytes))
+verdict_on bytes (Ok tokens) = judge_tokens start (all_lined tokens (line_at_end bytes))
 verdict_on bytes (Err refused) = Err refused
 
 -- the judgement of a text from its bytes
