@@ -9,9 +9,9 @@ use Rattle.s7_base.specs.declared.reason.Rejection.{Rejection}
 use Rattle.s7_base.specs.declared.reason.Rejection.TheVariants.{Refused, NoMemory}
 use Rattle.st_grammar.specs.Syntax.{all_lined}
 use Rattle.st_grammar.specs.inner.Judge.{judge_tokens, raw_of, tree_at, verdict, verdict_on}
-use Rattle.st_grammar.specs.inner.Machine.{code, Before, State, start}
+use Rattle.st_grammar.specs.inner.Machine.{code, TextSoFar, State, start}
 use Rattle.st_lexer.specs.StTokens.{tokens_of}
-use Rattle.st_syntax.specs.declared.state.Before.{Before as Found}
+use Rattle.st_syntax.specs.declared.state.TextSoFar.{TextSoFar as Found}
 use Rattle.st_syntax.specs.inner.Seen.{HasText}
 use Rattle.st_tree.specs.declared.raw.RawSt.{RawSt}
 use Rattle.st_tree.specs.declared.token.StToken.{StToken}
@@ -20,12 +20,12 @@ use Rattle.st_tree.specs.declared.token.StToken.{StToken}
 abbrev IsJudged : List ℕ → Line → Reason → Type 0
 IsJudged bytes line why = verdict bytes ≡ Err (Refused line why)
 
-has_tree : (given : Result (State code) Rejection) (text : Before code) → HasText given text → tree_at given ≡ Some (raw_of text)
+has_tree : (given : Result (State code) Rejection) (text : TextSoFar code) → HasText given text → tree_at given ≡ Some (raw_of text)
 has_tree (Ok q) text h = ap (option_map raw_of) h
 has_tree (Err refused) text h = absurd h
 
 -- a text whose tokens are judged good has the tree of its end
-pub read_as : (bytes : List ℕ) (tokens : List StToken) (end : Line) (text : Before code) → tokens_of bytes ≡ Ok tokens → end ≡ line_at_end bytes → HasText (judge_tokens start (all_lined tokens end)) text
+pub read_as : (bytes : List ℕ) (tokens : List StToken) (end : Line) (text : TextSoFar code) → tokens_of bytes ≡ Ok tokens → end ≡ line_at_end bytes → HasText (judge_tokens start (all_lined tokens end)) text
     → tree_at (verdict bytes) ≡ Some (raw_of text)
 read_as bytes tokens end text found at h =
     ap (λ (o : Result (List StToken) Rejection). tree_at (verdict_on bytes o)) found

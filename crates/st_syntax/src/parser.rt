@@ -8,9 +8,9 @@ ghost use Rattle.st_grammar.specs.Levels.{deepest};
 ghost use Rattle.st_syntax.specs.declared.state.State.TheVariants as state;
 ghost use Rattle.st_grammar.specs.Syntax.{all_lined};
 ghost use Rattle.st_syntax.specs.inner.Seen.{seen, went, HasText, JudgedIs};
-ghost use Rattle.st_syntax.specs.inner.Views.{before_of};
+ghost use Rattle.st_syntax.specs.inner.Views.{text_so_far_of};
 
-use crate::state::{Before, State};
+use crate::state::{State, TextSoFar};
 use crate::unit::next;
 use s7_base::{Line, NoMemory, Reason, Rejection};
 use st_bodies::{is_deep_at, step};
@@ -103,8 +103,8 @@ fn judge_tokens(
 /// The whole text, if the state is after its end. The parts of another state are given up in calls of
 /// their own, since they are too many for one function's borrow check.
 #[tactic(auto, unfolding(crate::specs::inner::Seen::seen))]
-fn finish(state: State) -> Option<Before>
-    ensures { option_map before_of result ≡ text_in (seen state) }
+fn finish(state: State) -> Option<TextSoFar>
+    ensures { option_map text_so_far_of result ≡ text_in (seen state) }
 {
     match state {
         State::Start => {}
@@ -128,9 +128,9 @@ fn finish(state: State) -> Option<Before>
 }
 
 /// The whole text of these tokens, or why it is refused.
-fn whole(alloc: Global, tokens: &[StToken], end: Line) -> Result<Before, Rejection>
+fn whole(alloc: Global, tokens: &[StToken], end: Line) -> Result<TextSoFar, Rejection>
     ensures text { IfOk result
-        (λ text. HasText (judge_tokens (seen state.Start) (all_lined tokens.now end)) (before_of text)) }
+        (λ text. HasText (judge_tokens (seen state.Start) (all_lined tokens.now end)) (text_so_far_of text)) }
     ensures refused { IfRefused result
         (λ line reason. judge_tokens (seen state.Start) (all_lined tokens.now end) ≡ Err (Refused line reason)) }
 {
@@ -157,7 +157,7 @@ pub fn syntax(alloc: Global, bytes: &[u8]) -> Result<RawSt, Rejection>
         Err(refused) => return Err(refused),
     };
     match whole(alloc, tokens.as_slice(), end_line(bytes)) {
-        Ok(Before { globals, units }) => Ok(RawSt {
+        Ok(TextSoFar { globals, units }) => Ok(RawSt {
             globals,
             pous: units,
         }),

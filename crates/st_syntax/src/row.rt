@@ -5,7 +5,7 @@ ghost use Rattle.st_grammar.specs.inner.Machine.{code, at_comma, at_item};
 ghost use Rattle.st_grammar.specs.inner.Steps.{is_zero, is_array, row_type, row_place, row_array, row_items, row_step, row_end, at_row, at_globals};
 ghost use Rattle.st_syntax.specs.inner.Views.{row_of, state_of};
 
-use crate::state::{Before, Row, State};
+use crate::state::{Row, State, TextSoFar};
 use s7_base::{Line, List, NoMemory};
 use st_grammar::{Fixed, Kind, Literal};
 use st_tree::{RawGlobal, RawGlobalType, RawVar, StType, is_free, may_name_global, names_block};
@@ -261,7 +261,7 @@ pub fn at_globals(alloc: Global, done: List<RawGlobal>, kind: Kind) -> Option<St
             }
             RawVar::Direct(..) => None,
         },
-        Kind::Fixed(Fixed::EndVar) => Some(State::Between(Before {
+        Kind::Fixed(Fixed::EndVar) => Some(State::Between(TextSoFar {
             globals: done,
             units: List::new(alloc),
         })),

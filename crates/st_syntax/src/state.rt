@@ -38,9 +38,9 @@ pub enum Typing {
     End(StType),
 }
 
-/// The text before a unit.
+/// The text so far: its globals, and the units that have ended.
 #[derive(Drop)]
-pub struct Before {
+pub struct TextSoFar {
     pub globals: List<RawGlobal>,
     pub units: List<RawPou>,
 }
@@ -48,7 +48,7 @@ pub struct Before {
 /// A unit that has begun: the text before it, and its heading.
 #[derive(Drop)]
 pub struct BegunUnit {
-    pub text: Before,
+    pub text: TextSoFar,
     pub head: Heading,
 }
 
@@ -74,10 +74,10 @@ pub enum State {
     Row(List<RawGlobal>, List<u8>, Line, Row),
 
     /// Before a unit, or the end of the text.
-    Between(Before),
+    Between(TextSoFar),
 
     /// After `PROGRAM` or `FUNCTION`, before the unit's name.
-    Heading(Before, bool, Line),
+    Heading(TextSoFar, bool, Line),
 
     /// After the name of a unit.
     Opened(BegunUnit),
@@ -95,5 +95,5 @@ pub enum State {
     Inside(BegunUnit, List<RawLocal>, List<RawLocal>, BodyState),
 
     /// After the end of the text.
-    Over(Before),
+    Over(TextSoFar),
 }

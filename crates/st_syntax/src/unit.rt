@@ -5,24 +5,24 @@ ghost use Rattle.st_grammar.specs.inner.Machine.{code, add_unit};
 ghost use Rattle.st_grammar.specs.inner.Steps.{at_between, at_start, at_heading, may_name, may_type, section_end, at_section, at_typing, ends, leave, at_inside, at_formals_done, at_opened, next, step as body_step};
 ghost use Rattle.st_bodies.specs.inner.BodyStates.{body_state_of, place_of, stack_of};
 ghost use Rattle.st_syntax.specs.inner.Views.{
-  before_of,
   begun_unit_of,
   section_kind_of,
   state_of,
+  text_so_far_of,
   typing_of,
   typing_step,
 };
 
 use crate::row::{at_globals, at_row};
-use crate::state::{Before, BegunUnit, SectionKind, State, Typing};
+use crate::state::{BegunUnit, SectionKind, State, TextSoFar, Typing};
 use s7_base::{Line, List, NoMemory};
 use st_bodies::{BodyState, step};
 use st_grammar::{Fixed, Heading, Kind, Lead};
 use st_tree::{RawLocal, RawPou, RawStmt, RawVar, StType, is_free, may_name_local, may_name_unit};
 use std::alloc::Global;
 
-fn at_between(text: Before, kind: Kind) -> Option<State>
-    ensures { option_map state_of result ≡ at_between code (before_of text) kind }
+fn at_between(text: TextSoFar, kind: Kind) -> Option<State>
+    ensures { option_map state_of result ≡ at_between code (text_so_far_of text) kind }
 {
     match kind {
         Kind::Lead(Lead::Program, line) => Some(State::Heading(text, true, line)),
@@ -38,7 +38,7 @@ fn at_start(alloc: Global, kind: Kind) -> Option<State>
     match kind {
         Kind::Fixed(Fixed::VarGlobal) => Some(State::Globals(List::new(alloc))),
         other => {
-            let text = Before {
+            let text = TextSoFar {
                 globals: List::new(alloc),
                 units: List::new(alloc),
             };
@@ -48,8 +48,8 @@ fn at_start(alloc: Global, kind: Kind) -> Option<State>
 }
 
 /// The name of a unit.
-fn at_heading(text: Before, program: bool, line: Line, kind: Kind) -> Option<State>
-    ensures { option_map state_of result ≡ at_heading code (before_of text) program line kind }
+fn at_heading(text: TextSoFar, program: bool, line: Line, kind: Kind) -> Option<State>
+    ensures { option_map state_of result ≡ at_heading code (text_so_far_of text) program line kind }
 {
     match kind {
         Kind::Variable(RawVar::Name(name), _) => {
@@ -180,8 +180,8 @@ fn with_unit(
     formals: List<RawLocal>,
     locals: List<RawLocal>,
     body: List<RawStmt>,
-) -> Result<Before, NoMemory>
-    ensures { IfOk result (λ text. before_of text
+) -> Result<TextSoFar, NoMemory>
+    ensures { IfOk result (λ text. text_so_far_of text
         ≡ record { globals = unit.text.globals; units = add_unit code unit.text.units unit.head formals locals body }) }
 {
     let BegunUnit { mut text, head } = unit;

@@ -5,7 +5,7 @@ use Rattle.st_grammar.specs.Forms.{Form, none, no_local, prefix, infix_of, State
 use Rattle.st_grammar.specs.Grammar.{prefix_level, infix_level, is_value, may_jump, is_direct, tree, tree_one, tree_all, tree_arms, tree_cases, tree_actuals, tree_labels, tree_items, tree_type, tree_globals, tree_locals, tree_units, held}
 use Rattle.st_tree.specs.Naming.{is_free, may_name_global, may_name_unit, names_block}
 use Rattle.st_grammar.specs.Levels.{height}
-use Rattle.st_grammar.specs.inner.Machine.{written, code, of_label, add_label, add_case, of_literal, of_jump, head_of, BegunStatement, Argument, only, shifted, shifted_by, gate, first, second, Need, to_var, to_area, area_value, test, selector, loop_test, Body, choosing, otherwise, looping, selecting, otherwise_case, Frame, unary, left, bracket, argument, waiting, within, Part, target, write_open, first_formal, next_formal, becoming, giving, given, first_label, next_label, labelled, Place, statement, part, closing, operand, operator, opening, BodyState, Row, at_word, at_place, at_colon, at_type, at_square, at_zero, at_dots, at_last, at_close, at_of, at_byte, at_becomes, at_open, at_item, at_count, at_value, at_value_end, at_comma, at_end, local_colon, local_type, local_end, Before, BegunUnit, SectionKind, formals, temps, State, start, globals, row, between, heading, opened, formals_done, section, typing, inside, over}
+use Rattle.st_grammar.specs.inner.Machine.{written, code, of_label, add_label, add_case, of_literal, of_jump, head_of, BegunStatement, Argument, only, shifted, shifted_by, gate, first, second, Need, to_var, to_area, area_value, test, selector, loop_test, Body, choosing, otherwise, looping, selecting, otherwise_case, Frame, unary, left, bracket, argument, waiting, within, Part, target, write_open, first_formal, next_formal, becoming, giving, given, first_label, next_label, labelled, Place, statement, part, closing, operand, operator, opening, BodyState, Row, at_word, at_place, at_colon, at_type, at_square, at_zero, at_dots, at_last, at_close, at_of, at_byte, at_becomes, at_open, at_item, at_count, at_value, at_value_end, at_comma, at_end, local_colon, local_type, local_end, TextSoFar, BegunUnit, SectionKind, formals, temps, State, start, globals, row, between, heading, opened, formals_done, section, typing, inside, over}
 use Rattle.st_grammar.specs.inner.Steps.{body_state, weakest, limit, Reduced, reduced_to, reduce, shallower, with_prefix, closed, closed_to, waits, in_loop, in_body, step_at, is_zero, row_step, before_units, begun_unit, at_between, may_name, may_type, ends, leave, at_inside, at_formals_done, at_opened, next, level_at, mark}
 use Rattle.st_grammar.specs.declared.heading.Heading.{Heading}
 use Rattle.st_grammar.specs.declared.measured.Measured.{Measured}
@@ -112,11 +112,11 @@ bare_row (at_end v ty) = at_end v.0 (tree_type ty)
 abbrev pub bare_head : Head → Heading
 bare_head head = record { program = head.program; name = head.name; line = head.line }
 
-abbrev pub bare_before : Before written → Before code
-bare_before text = record { globals = held tree_globals text.globals; units = tree_units text.units }
+abbrev pub bare_text : TextSoFar written → TextSoFar code
+bare_text text = record { globals = held tree_globals text.globals; units = tree_units text.units }
 
 abbrev pub bare_begun_unit : BegunUnit written → BegunUnit code
-bare_begun_unit begun = record { text = bare_before begun.text; head = bare_head begun.head }
+bare_begun_unit begun = record { text = bare_text begun.text; head = bare_head begun.head }
 
 abbrev pub bare_section_kind : SectionKind written → SectionKind code
 bare_section_kind formals = formals
@@ -126,15 +126,15 @@ abbrev pub bare : State written → State code
 bare start = start
 bare (globals done) = globals (tree_globals done)
 bare (row done name line x) = row (tree_globals done) name line (bare_row x)
-bare (between text) = between (bare_before text)
-bare (heading text program line) = heading (bare_before text) program line
+bare (between text) = between (bare_text text)
+bare (heading text program line) = heading (bare_text text) program line
 bare (opened begun) = opened (bare_begun_unit begun)
 bare (formals_done begun before) = formals_done (bare_begun_unit begun) (held tree_locals before)
 bare (section begun which done) = section (bare_begun_unit begun) (bare_section_kind which) (tree_locals done)
 bare (typing begun which done name line x) =
     typing (bare_begun_unit begun) (bare_section_kind which) (tree_locals done) name line x
 bare (inside begun before locals at) = inside (bare_begun_unit begun) (held tree_locals before) (held tree_locals locals) (bare_body_state at)
-bare (over text) = over (bare_before text)
+bare (over text) = over (bare_text text)
 
 map_if : {X Y : Type 0} (f : X → Y) (c : Bool) (x : X) → (if c then Some (f x) else None) ≡ option_map f (if c then Some x else None)
 map_if f true x = refl
@@ -265,7 +265,7 @@ row_bare name x k = refl
 
 -- Units
 
-at_between_bare : (text : Before written) (k : Kind) → at_between code (bare_before text) k ≡ option_map bare (at_between written text k)
+at_between_bare : (text : TextSoFar written) (k : Kind) → at_between code (bare_text text) k ≡ option_map bare (at_between written text k)
 at_between_bare text (kind.Lead lead.Program line) = refl
 at_between_bare text (kind.Fixed fixed.End) = refl
 at_between_bare text other = refl

@@ -3,7 +3,7 @@
 use Rattle.std.proofs.Common.{◌≡◌, ℕ, zero, suc, ◌<◌, ◌≤◌, List, [], ◌∷◌, ◌++◌, length, drop, Option, Some, None, refl, sym, ap, subst, ◌∙◌, append_assoc, append-nil}
 use Rattle.std.specs.Prelude.{IfSome, option_and_then, option_map}
 use Rattle.std.proofs.lemmas.List.{map-append}
-use Rattle.st_syntax_laws.proofs.Bare.{bare, bare_before, next_bare, mark_bare}
+use Rattle.st_syntax_laws.proofs.Bare.{bare, bare_text, next_bare, mark_bare}
 use Rattle.st_syntax_laws.proofs.DriveSource.{finished, drive_source}
 use Rattle.st_syntax_laws.proofs.Finish.{Ends, finishes}
 use Rattle.st_syntax_laws.proofs.Kept.{past, Shaped, Kept}
@@ -12,7 +12,7 @@ use Rattle.st_grammar.specs.Forms.{Source}
 use Rattle.st_grammar.specs.Grammar.{spell_source, raw_tree}
 use Rattle.st_grammar.specs.Levels.{deepest, levels_source}
 use Rattle.st_grammar.specs.inner.Judge.{raw_of, text_in}
-use Rattle.st_grammar.specs.inner.Machine.{written, code, Before, State, start, over}
+use Rattle.st_grammar.specs.inner.Machine.{written, code, TextSoFar, State, start, over}
 use Rattle.st_grammar.specs.inner.Steps.{next, mark, Passed, passes}
 use Rattle.st_grammar.specs.Syntax.{Lined, kinds, Reads, AllWithin, Begins, levels_in, BeginsWithin, FirstWrong, FirstDeep}
 use Rattle.st_grammar.specs.declared.kind.Kind.{Kind}
@@ -76,18 +76,18 @@ passed_all ks q w e = subst (λ (o : Option (Passed written)). IfSome o (λ z. P
 
 -- The text of a finished pass
 
-abbrev pub source_of : Before written → Source
+abbrev pub source_of : TextSoFar written → Source
 source_of text = record { globals = text.globals; units = text.units }
 
 abbrev levels_of : Option (Passed written) → List ℕ
 levels_of None = []
 levels_of (Some r) = r.levels
 
-pub record WasRead (all : List Kind) (text : Before written) (w : List ℕ) : Type 0 where
+pub record WasRead (all : List Kind) (text : TextSoFar written) (w : List ℕ) : Type 0 where
   pub reads : Reads all (source_of text)
   pub levels : levels_source (source_of text) ≡ w
 
-pub was_read : (all : List Kind) (text : Before written) (w : List ℕ) → passes written start [] all ≡ Some (at_state (over text) w) → WasRead all text w
+pub was_read : (all : List Kind) (text : TextSoFar written) (w : List ℕ) → passes written start [] all ≡ Some (at_state (over text) w) → WasRead all text w
 was_read all text w e =
     let p = passed_all all (over text) w e in
     let spelled : spell_source (source_of text) ≡ all = p.text [] ∙ append-nil all in
@@ -228,12 +228,12 @@ pub record ReadAll (all : List Lined) (raw : RawSt) : Type 0 where
   pub within : AllWithin deepest (levels_source source)
   pub same : raw_tree source ≡ raw
 
-pub read_all : (all : List Lined) (text : Before code) → Read all (over text) → ReadAll all (raw_of text)
+pub read_all : (all : List Lined) (text : TextSoFar code) → Read all (over text) → ReadAll all (raw_of text)
 read_all all text r = by r.inner (ap text_in r.same) r.passed
   where
     by : (q : State written) → text_in (bare q) ≡ Some text → passes written start [] (kinds all) ≡ Some (at_state q r.levels) → ReadAll all (raw_of text)
     by (over t) e p =
         let w = was_read (kinds all) t r.levels p in
-        let same : bare_before t ≡ text = cc in
+        let same : bare_text t ≡ text = cc in
         record { source = source_of t; reads = w.reads; within = subst (λ (ls : List ℕ). AllWithin deepest ls) (sym w.levels) r.within; same = ap raw_of same }
     by other e p = absurd cc

@@ -10,7 +10,7 @@ use Rattle.st_syntax_laws.proofs.Kept.{InStatements, InExpr, PlaceFits, Shaped}
 use Rattle.st_grammar.specs.Forms.{Form, literal, group, prefix, infix_of, apply, shift, select, Actuals, Labels, label, Items, no_unit, none, Statement, Statements, CaseArms, Globals, GlobalType, plain, Locals, Section, absent}
 use Rattle.st_grammar.specs.Grammar.{infix_level, level, Binds, end_word}
 use Rattle.st_tree.specs.Naming.{is_free, may_name_global, names_block}
-use Rattle.st_grammar.specs.inner.Machine.{written, BegunStatement, only, shifted, shifted_by, gate, first, second, to_var, to_area, area_value, test, selector, loop_test, choosing, otherwise, looping, selecting, otherwise_case, Frame, unary, left, bracket, argument, waiting, within, Part, target, write_open, first_formal, next_formal, becoming, giving, given, labelled, Place, statement, part, closing, operand, operator, opening, Row, at_word, at_place, at_colon, at_type, at_square, at_zero, at_dots, at_last, at_close, at_of, at_byte, at_becomes, at_open, at_item, at_count, at_value, at_value_end, at_comma, at_end, Typing, local_colon, local_type, local_end, Before, BegunUnit, SectionKind, formals, temps, State, start, globals, row, between, heading, opened, formals_done, section, typing, inside, over}
+use Rattle.st_grammar.specs.inner.Machine.{written, BegunStatement, only, shifted, shifted_by, gate, first, second, to_var, to_area, area_value, test, selector, loop_test, choosing, otherwise, looping, selecting, otherwise_case, Frame, unary, left, bracket, argument, waiting, within, Part, target, write_open, first_formal, next_formal, becoming, giving, given, labelled, Place, statement, part, closing, operand, operator, opening, Row, at_word, at_place, at_colon, at_type, at_square, at_zero, at_dots, at_last, at_close, at_of, at_byte, at_becomes, at_open, at_item, at_count, at_value, at_value_end, at_comma, at_end, Typing, local_colon, local_type, local_end, TextSoFar, BegunUnit, SectionKind, formals, temps, State, start, globals, row, between, heading, opened, formals_done, section, typing, inside, over}
 use Rattle.st_grammar.specs.inner.Steps.{shallower, limit, body_start, passes}
 use Rattle.st_grammar.specs.declared.kind.Fixed.TheVariants as fixed
 use Rattle.st_grammar.specs.declared.kind.Function.{Function}
@@ -26,7 +26,7 @@ use Rattle.st_tree.specs.declared.raw.RawVar.TheVariants as var
 -- tokens lead to the end of a text
 pub record Ends (q : State written) (w : List ℕ) : Type 0 where
   pub more : List Kind
-  pub text : Before written
+  pub text : TextSoFar written
   pub levels : List ℕ
   pub reaches : passes written q w more ≡ Some (record { state = over text; levels = levels })
 
@@ -52,7 +52,7 @@ EndsIn u d s p w = Ends (within_unit u d s p) w
 by_tokens : {q r : State written} {w v : List ℕ} (front : List Kind) → ((ks : List Kind) → passes written q w (front ++ ks) ≡ passes written r v ks) → Ends r v → Ends q w
 by_tokens front step e = record { more = front ++ e.more; text = e.text; levels = e.levels; reaches = step e.more ∙ e.reaches }
 
-between_ends : {text : Before written} {w : List ℕ} → Ends (between text) w
+between_ends : {text : TextSoFar written} {w : List ℕ} → Ends (between text) w
 between_ends {text = text} {w = w} = record { more = kind.Fixed fixed.End ∷ []; text = text; levels = 0 ∷ w; reaches = refl }
 
 statement_ends : (u : Unit_read) (d : ℕ) (s : List (Frame written)) (body : Statements) (w : List ℕ) → InStatements s → EndsIn u d s (statement body) w
@@ -84,7 +84,7 @@ lets k other h = tt
 record OperatorEnds (u : Unit_read) (d : ℕ) (s : List (Frame written)) (f : Form) (w : List ℕ) : Type 0 where
   token : Kind
   rest : List Kind
-  text : Before written
+  text : TextSoFar written
   levels : List ℕ
   closes : Closes token
   reaches : run u d s (operator f) w (token ∷ rest) ≡ Some (record { state = over text; levels = levels })
@@ -286,7 +286,8 @@ typing_ends begun which done name line local_colon w = by_tokens (kind.Fixed fix
 typing_ends begun which done name line local_type w = type_typing begun which done name line w
 typing_ends begun which done name line (local_end ty) w = end_typing
 
-heading_ends : (text : Before written) (program : Bool) (line : Line) (w : List ℕ) → Ends (heading text program line) w
+heading_ends : (text : TextSoFar written) (program : Bool) (line : Line) (w : List ℕ) →
+    Ends (heading text program line) w
 heading_ends text program line w = by_tokens (kind.Variable (var.Name (codes "OB1")) line ∷ []) (λ ks. refl) opened_ends
 
 start_ends : (w : List ℕ) → Ends start w

@@ -8,7 +8,7 @@ use Rattle.s7_base.specs.declared.reason.Rejection.{Rejection}
 use Rattle.s7_base.specs.declared.reason.Rejection.TheVariants.{Refused}
 use Rattle.st_grammar.specs.Syntax.{HasRawTree, IsSyntaxRefused, all_lined}
 use Rattle.st_grammar.specs.inner.Judge.{judge_tokens, raw_of, text_in, tree_at, verdict, verdict_on}
-use Rattle.st_grammar.specs.inner.Machine.{code, Before, State, start}
+use Rattle.st_grammar.specs.inner.Machine.{code, TextSoFar, State, start}
 use Rattle.st_lexer.specs.StTokens.{tokens_of}
 use Rattle.st_syntax_laws.proofs.OneSyntax.{of_refusal, tree_is}
 use Rattle.st_syntax_laws.proofs.Whole.{bad_token, refused_of, tree_of}
@@ -21,7 +21,7 @@ of_verdict : (bytes : List ℕ) (o : Result (List StToken) Rejection) (v : Resul
 of_verdict bytes o v found e = sym (ap (verdict_on bytes) found) ∙ e
 
 -- the state to which a text is judged good has a tree, and it is the text's
-from_state : (bytes : List ℕ) (tokens : List StToken) (q : State code) (raw : RawSt) (o : Option (Before code)) → tokens_of bytes ≡ Ok tokens → judge_tokens start (all_lined tokens (line_at_end bytes)) ≡ Ok q → text_in q ≡ o
+from_state : (bytes : List ℕ) (tokens : List StToken) (q : State code) (raw : RawSt) (o : Option (TextSoFar code)) → tokens_of bytes ≡ Ok tokens → judge_tokens start (all_lined tokens (line_at_end bytes)) ≡ Ok q → text_in q ≡ o
     → option_map raw_of o ≡ Some raw → HasRawTree bytes raw
 from_state bytes tokens q raw None found good at e = absurd cc
 from_state bytes tokens q raw (Some text) found good at e =

@@ -8,7 +8,7 @@ use Rattle.st_syntax_laws.proofs.DriveSource.{Declared}
 use Rattle.st_grammar.specs.Forms.{Form, prefix, infix_of, Actuals, no_actual, actual, Labels, label, more_labels, Statements, CaseArms, Items, no_item}
 use Rattle.st_grammar.specs.Grammar.{prefix_level, infix_level, level, is_value, Binds, may_jump, LabelsFit, HasArm, HasCase, Fits, AllFit, ArmsFit, CasesFit, is_direct, is_global, GlobalsFit, LocalsFit, IfPresent, HeadFits, UnitsFit, prefix_kind, spell, comma_behind, spell_actuals, spell_labels, arm_word, spell_one, spell_all, spell_arms, spell_cases, comma_past, spell_items, spell_type, spell_globals, spell_locals, unit_word, spell_section, spell_formals, spell_temps, spell_head, spell_units}
 use Rattle.st_tree.specs.Naming.{may_name_global, may_name_unit, names_block}
-use Rattle.st_grammar.specs.inner.Machine.{written, BegunStatement, Argument, only, shifted, shifted_by, gate, first, second, Need, to_var, to_area, area_value, test, selector, loop_test, Body, choosing, otherwise, looping, selecting, otherwise_case, Frame, unary, left, bracket, argument, waiting, within, Part, target, write_open, first_formal, next_formal, becoming, giving, given, first_label, next_label, labelled, Place, statement, part, closing, operand, operator, opening, BodyState, Row, at_word, at_place, at_colon, at_type, at_square, at_zero, at_dots, at_last, at_close, at_of, at_byte, at_becomes, at_open, at_item, at_count, at_value, at_value_end, at_comma, at_end, Typing, local_colon, local_type, local_end, Before, BegunUnit, SectionKind, formals, temps, State, start, globals, row, between, heading, opened, formals_done, section, typing, inside, over}
+use Rattle.st_grammar.specs.inner.Machine.{written, BegunStatement, Argument, only, shifted, shifted_by, gate, first, second, Need, to_var, to_area, area_value, test, selector, loop_test, Body, choosing, otherwise, looping, selecting, otherwise_case, Frame, unary, left, bracket, argument, waiting, within, Part, target, write_open, first_formal, next_formal, becoming, giving, given, first_label, next_label, labelled, Place, statement, part, closing, operand, operator, opening, BodyState, Row, at_word, at_place, at_colon, at_type, at_square, at_zero, at_dots, at_last, at_close, at_of, at_byte, at_becomes, at_open, at_item, at_count, at_value, at_value_end, at_comma, at_end, Typing, local_colon, local_type, local_end, TextSoFar, BegunUnit, SectionKind, formals, temps, State, start, globals, row, between, heading, opened, formals_done, section, typing, inside, over}
 use Rattle.st_grammar.specs.inner.Steps.{body_state, shallower, weakest, limit, Reduced, reduce, reduced_to, with_prefix, closed, waits, in_loop, in_body, at_label, step_at, may_name, may_type}
 use Rattle.st_grammar.specs.declared.kind.Fixed.TheVariants as fixed
 use Rattle.st_grammar.specs.declared.kind.Function.{Function}
@@ -134,11 +134,11 @@ past_row (at_value_end v last items count b) more = past_items v last items (com
 past_row (at_comma v last items) more = past_items v last items more
 past_row (at_end v ty) more = past_colon v (spell_type ty more)
 
-abbrev pub past_before : Before written → List Kind → List Kind
-past_before text more = spell_section (kind.Fixed fixed.VarGlobal) spell_globals text.globals (spell_units text.units more)
+abbrev pub past_text : TextSoFar written → List Kind → List Kind
+past_text text more = spell_section (kind.Fixed fixed.VarGlobal) spell_globals text.globals (spell_units text.units more)
 
 abbrev pub past_begun_unit : BegunUnit written → List Kind → List Kind
-past_begun_unit begun more = past_before begun.text (spell_head begun.head more)
+past_begun_unit begun more = past_text begun.text (spell_head begun.head more)
 
 abbrev pub past_section_kind : SectionKind written → List Kind → List Kind
 past_section_kind formals more = kind.Fixed fixed.VarInOut ∷ more
@@ -153,14 +153,14 @@ abbrev pub past : State written → List Kind → List Kind
 past start more = more
 past (globals done) more = kind.Fixed fixed.VarGlobal ∷ spell_globals done more
 past (row done name line x) more = kind.Fixed fixed.VarGlobal ∷ spell_globals done (kind.Variable (var.Name name) line ∷ past_row x more)
-past (between text) more = past_before text more
-past (heading text program line) more = past_before text (unit_word program line ∷ more)
+past (between text) more = past_text text more
+past (heading text program line) more = past_text text (unit_word program line ∷ more)
 past (opened begun) more = past_begun_unit begun more
 past (formals_done begun f) more = past_begun_unit begun (spell_formals f more)
 past (section begun which done) more = past_begun_unit begun (past_section_kind which (spell_locals done more))
 past (typing begun which done name line x) more = past_begun_unit begun (past_section_kind which (spell_locals done (kind.Variable (var.Name name) line ∷ past_typing x more)))
 past (inside begun f l at) more = past_begun_unit begun (spell_formals f (spell_temps l (past_stack at.stack (past_place at.place more))))
-past (over text) more = past_before text (kind.Fixed fixed.End ∷ more)
+past (over text) more = past_text text (kind.Fixed fixed.End ∷ more)
 
 -- What is open stands in order
 
@@ -240,7 +240,7 @@ RowFits name (at_comma v last items) = (is_direct v.0 ≡ true) × (names_block 
 RowFits name (at_end v ty) = (is_direct v.0 ≡ true) × (is_global name ty ≡ true)
 RowFits name other = Unit {0}
 
-abbrev pub TextFits : Before written → Type 0
+abbrev pub TextFits : TextSoFar written → Type 0
 TextFits text = IfPresent GlobalsFit text.globals × UnitsFit text.units
 
 abbrev pub BegunUnitFits : BegunUnit written → Type 0

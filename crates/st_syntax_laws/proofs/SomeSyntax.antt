@@ -11,7 +11,7 @@ use Rattle.st_grammar.proofs.Ends.{not_over}
 use Rattle.st_syntax_laws.proofs.Verdicts.{Says, says}
 use Rattle.st_syntax_laws.proofs.Whole.{bad_token, refused_of, tree_of}
 use Rattle.st_grammar.specs.inner.Judge.{judge_tokens, raw_of, text_in}
-use Rattle.st_grammar.specs.inner.Machine.{code, Before, State, start}
+use Rattle.st_grammar.specs.inner.Machine.{code, TextSoFar, State, start}
 use Rattle.st_grammar.specs.Syntax.{HasRawTree, IsSyntaxRefused, all_lined}
 use Rattle.st_syntax_laws.specs.SyntaxLaws.{EachHasOneSyntax}
 use Rattle.st_tree.specs.declared.raw.RawSt.{RawSt}
@@ -23,7 +23,7 @@ ForSome P = (line : Line) × (why : Reason) × P line why
 abbrev HasRaw : List ℕ → Type 0
 HasRaw bytes = (raw : RawSt) × HasRawTree bytes raw
 
-from_state : (bytes : List ℕ) (tokens : List StToken) (q : State code) (o : Option (Before code)) → tokens_of bytes ≡ Ok tokens → judge_tokens start (all_lined tokens (line_at_end bytes)) ≡ Ok q
+from_state : (bytes : List ℕ) (tokens : List StToken) (q : State code) (o : Option (TextSoFar code)) → tokens_of bytes ≡ Ok tokens → judge_tokens start (all_lined tokens (line_at_end bytes)) ≡ Ok q
     → text_in q ≡ o → HasRaw bytes
 from_state bytes tokens q None found good e = absurd (not_over tokens (line_at_end bytes) q good e)
 from_state bytes tokens q (Some text) found good e = (raw_of text, tree_of bytes tokens q text found good e)

@@ -8,7 +8,7 @@ use Rattle.s7_base.specs.declared.reason.Rejection.TheVariants.{Refused}
 use Rattle.st_lexer.specs.StTokens.{tokens_of}
 use Rattle.st_grammar.specs.Levels.{deepest}
 use Rattle.st_grammar.specs.Syntax.{Lined, all_lined}
-use Rattle.st_grammar.specs.inner.Machine.{code, Before, State, start, over}
+use Rattle.st_grammar.specs.inner.Machine.{code, TextSoFar, State, start, over}
 use Rattle.st_grammar.specs.inner.Steps.{next, mark}
 use Rattle.st_grammar.specs.declared.kind.Kind.{Kind}
 use Rattle.st_tree.specs.declared.raw.RawSt.{RawSt}
@@ -41,12 +41,12 @@ judge_tokens q [] = Ok q
 judge_tokens q (item ∷ items) = on_good (judged (turn q item.kind) item.line) (λ to. judge_tokens to items)
 
 -- the whole text, if a state is after its end
-abbrev pub text_in : State code → Option (Before code)
+abbrev pub text_in : State code → Option (TextSoFar code)
 text_in (over text) = Some text
 text_in other = None
 
 -- the raw tree of a whole text
-abbrev pub raw_of : Before code → RawSt
+abbrev pub raw_of : TextSoFar code → RawSt
 raw_of text = record { globals = text.globals; pous = text.units }
 
 -- the tree of a text that is judged good to its end

@@ -482,14 +482,14 @@ pub data Typing : Type 0 where
   local_type : Typing
   local_end : StType → Typing
 
--- the text before a unit
-pub record Before (m : Mode) : Type 0 where
+-- the text so far: its globals, and the units that have ended
+pub record TextSoFar (m : Mode) : Type 0 where
   pub globals : GlobalSectionIn m
   pub units : UnitsIn m
 
 -- a unit that has begun: the text before it, and its heading
 pub record BegunUnit (m : Mode) : Type 0 where
-  pub text : Before m
+  pub text : TextSoFar m
   pub head : HeadIn m
 
 -- which section is read: formals, or locals after the formals
@@ -502,11 +502,11 @@ pub data State (m : Mode) : Type 0 where
   start : State m
   globals : GlobalsIn m → State m
   row : GlobalsIn m → List ℕ → Line → Row m → State m
-  between : Before m → State m
-  heading : Before m → Bool → Line → State m
+  between : TextSoFar m → State m
+  heading : TextSoFar m → Bool → Line → State m
   opened : BegunUnit m → State m
   formals_done : BegunUnit m → LocalSectionIn m → State m
   section : BegunUnit m → SectionKind m → LocalsIn m → State m
   typing : BegunUnit m → SectionKind m → LocalsIn m → List ℕ → Line → Typing → State m
   inside : BegunUnit m → LocalSectionIn m → LocalSectionIn m → BodyState m → State m
-  over : Before m → State m
+  over : TextSoFar m → State m

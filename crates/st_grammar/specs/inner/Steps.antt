@@ -3,7 +3,7 @@ use Rattle.std.specs.Prelude.{ℕ, zero, suc, ◌+◌, ◌-◌, Bool, true, fals
 use Rattle.s7_base.specs.declared.reason.Line.{Line}
 use Rattle.st_grammar.specs.Grammar.{prefix_level, infix_level, is_value, may_jump, is_direct, is_formal_type}
 use Rattle.st_tree.specs.Naming.{is_free, may_name_global, may_name_local, may_name_unit, names_block}
-use Rattle.st_grammar.specs.inner.Machine.{Mode, ExprIn, StatementsIn, StatementIn, CasesIn, LabelsIn, VarIn, HeadIn, GlobalSectionIn, GlobalsIn, LocalsIn, LocalSectionIn, of_literal, of_variable, of_group, of_prefix, of_infix, of_apply, of_shift, of_select, height_in, no_statements, add_empty, add_statement, no_arms, add_arm, no_cases, add_case, of_label, add_label, named, at_var, no_actuals, add_actual, of_assign, of_write, of_invoke, of_choice, of_choice_else, of_cases, of_cases_else, of_loop, of_jump, no_items, add_single, add_times, of_plain, of_bytes, no_globals, add_global, no_locals, add_local, no_global_section, global_section, no_section, section_of, head_of, is_program, no_units, add_unit, BegunStatement, Argument, only, shifted, shifted_by, gate, first, second, Need, to_var, to_area, area_value, test, selector, loop_test, Body, choosing, otherwise, looping, selecting, otherwise_case, Frame, unary, left, bracket, argument, waiting, within, Part, target, write_open, first_formal, next_formal, becoming, giving, given, first_label, next_label, labelled, Place, statement, part, closing, operand, operator, opening, BodyState, Row, at_word, at_place, at_colon, at_type, at_square, at_zero, at_dots, at_last, at_close, at_of, at_byte, at_becomes, at_open, at_item, at_count, at_value, at_value_end, at_comma, at_end, Typing, local_colon, local_type, local_end, Before, BegunUnit, SectionKind, formals, temps, State, start, globals, row, between, heading, opened, formals_done, section, typing, inside, over}
+use Rattle.st_grammar.specs.inner.Machine.{Mode, ExprIn, StatementsIn, StatementIn, CasesIn, LabelsIn, VarIn, HeadIn, GlobalSectionIn, GlobalsIn, LocalsIn, LocalSectionIn, of_literal, of_variable, of_group, of_prefix, of_infix, of_apply, of_shift, of_select, height_in, no_statements, add_empty, add_statement, no_arms, add_arm, no_cases, add_case, of_label, add_label, named, at_var, no_actuals, add_actual, of_assign, of_write, of_invoke, of_choice, of_choice_else, of_cases, of_cases_else, of_loop, of_jump, no_items, add_single, add_times, of_plain, of_bytes, no_globals, add_global, no_locals, add_local, no_global_section, global_section, no_section, section_of, head_of, is_program, no_units, add_unit, BegunStatement, Argument, only, shifted, shifted_by, gate, first, second, Need, to_var, to_area, area_value, test, selector, loop_test, Body, choosing, otherwise, looping, selecting, otherwise_case, Frame, unary, left, bracket, argument, waiting, within, Part, target, write_open, first_formal, next_formal, becoming, giving, given, first_label, next_label, labelled, Place, statement, part, closing, operand, operator, opening, BodyState, Row, at_word, at_place, at_colon, at_type, at_square, at_zero, at_dots, at_last, at_close, at_of, at_byte, at_becomes, at_open, at_item, at_count, at_value, at_value_end, at_comma, at_end, Typing, local_colon, local_type, local_end, TextSoFar, BegunUnit, SectionKind, formals, temps, State, start, globals, row, between, heading, opened, formals_done, section, typing, inside, over}
 use Rattle.st_grammar.specs.declared.kind.Fixed.TheVariants as fixed
 use Rattle.st_grammar.specs.declared.kind.Function.{Function}
 use Rattle.st_grammar.specs.declared.kind.Function.TheVariants as function
@@ -361,7 +361,7 @@ at_row m done name line x (kind.Fixed fixed.Semicolon) = row_end m done name lin
 at_row m done name line x k = option_map (λ (y : Row m). row done name line y) (row_step m name x k)
 
 -- a text after its section of globals
-abbrev pub before_units : (m : Mode) → GlobalSectionIn m → Before m
+abbrev pub before_units : (m : Mode) → GlobalSectionIn m → TextSoFar m
 before_units m before = record { globals = before; units = no_units m }
 
 -- a token in the section of globals where a global may begin
@@ -374,7 +374,7 @@ at_globals m done other = None
 -- Units
 
 -- a token where a unit may begin or the text end
-abbrev pub at_between : (m : Mode) → Before m → Kind → Option (State m)
+abbrev pub at_between : (m : Mode) → TextSoFar m → Kind → Option (State m)
 at_between m text (kind.Lead lead.Program line) = Some (heading text true line)
 at_between m text (kind.Lead lead.Function line) = Some (heading text false line)
 at_between m text (kind.Fixed fixed.End) = Some (over text)
@@ -386,11 +386,11 @@ at_start m (kind.Fixed fixed.VarGlobal) = Some (globals (no_globals m))
 at_start m other = at_between m (before_units m (no_global_section m)) other
 
 -- a unit after its heading
-abbrev pub begun_unit : (m : Mode) → Before m → HeadIn m → BegunUnit m
+abbrev pub begun_unit : (m : Mode) → TextSoFar m → HeadIn m → BegunUnit m
 begun_unit m text head = record { text = text; head = head }
 
 -- the name of a unit after its first word
-abbrev pub at_heading : (m : Mode) → Before m → Bool → Line → Kind → Option (State m)
+abbrev pub at_heading : (m : Mode) → TextSoFar m → Bool → Line → Kind → Option (State m)
 at_heading m text program line (kind.Variable (var.Name name) place) =
     if may_name_unit name then Some (opened (begun_unit m text (head_of m program line name place))) else None
 at_heading m text program line other = None

@@ -11,7 +11,7 @@ use Rattle.st_syntax.specs.declared.state.Row.{Row}
 use Rattle.st_syntax.specs.declared.state.Row.TheVariants as row
 use Rattle.st_syntax.specs.declared.state.Typing.{Typing}
 use Rattle.st_syntax.specs.declared.state.Typing.TheVariants as typing
-use Rattle.st_syntax.specs.declared.state.Before.{Before}
+use Rattle.st_syntax.specs.declared.state.TextSoFar.{TextSoFar}
 use Rattle.st_syntax.specs.declared.state.BegunUnit.{BegunUnit}
 use Rattle.st_syntax.specs.declared.state.SectionKind.{SectionKind}
 use Rattle.st_syntax.specs.declared.state.SectionKind.TheVariants as section_kind
@@ -46,13 +46,13 @@ typing_of typing.Colon = machine.local_colon
 typing_of typing.Type = machine.local_type
 typing_of (typing.End ty) = machine.local_end ty
 
--- the text before a unit
-abbrev pub before_of : Before → machine.Before code
-before_of text = record { globals = text.globals; units = text.units }
+-- the text so far
+abbrev pub text_so_far_of : TextSoFar → machine.TextSoFar code
+text_so_far_of text = record { globals = text.globals; units = text.units }
 
 -- a unit that has begun
 abbrev pub begun_unit_of : BegunUnit → machine.BegunUnit code
-begun_unit_of begun = record { text = before_of begun.text; head = begun.head }
+begun_unit_of begun = record { text = text_so_far_of begun.text; head = begun.head }
 
 -- which section is read
 abbrev pub section_kind_of : SectionKind → machine.SectionKind code
@@ -71,12 +71,12 @@ abbrev pub state_of : State → machine.State code
 state_of state.Start = machine.start
 state_of (state.Globals done) = machine.globals done
 state_of (state.Row done name line x) = machine.row done name line (row_of x)
-state_of (state.Between text) = machine.between (before_of text)
-state_of (state.Heading text program line) = machine.heading (before_of text) program line
+state_of (state.Between text) = machine.between (text_so_far_of text)
+state_of (state.Heading text program line) = machine.heading (text_so_far_of text) program line
 state_of (state.Opened begun) = machine.opened (begun_unit_of begun)
 state_of (state.FormalsDone begun before) = machine.formals_done (begun_unit_of begun) before
 state_of (state.Section begun which done) = machine.section (begun_unit_of begun) (section_kind_of which) done
 state_of (state.Typing begun which done name line x) =
     machine.typing (begun_unit_of begun) (section_kind_of which) done name line (typing_of x)
 state_of (state.Inside begun before locals at) = machine.inside (begun_unit_of begun) before locals (body_state_of at)
-state_of (state.Over text) = machine.over (before_of text)
+state_of (state.Over text) = machine.over (text_so_far_of text)
