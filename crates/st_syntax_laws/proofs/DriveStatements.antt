@@ -2,7 +2,7 @@
 use Rattle.std.proofs.Common.{◌≡◌, ℕ, suc, Bool, true, List, ◌∷◌, Option, Some, None, refl, ap, ◌∙◌}
 use Rattle.std.specs.Prelude.{if◌then◌else◌, option_map}
 use Rattle.s7_base.specs.declared.reason.Line.{Line}
-use Rattle.st_syntax_laws.proofs.Drive.{Unit_read, run, go, level_most, close, comma, drive}
+use Rattle.st_syntax_laws.proofs.Drive.{DeclaredUnit, run, go, level_most, close, comma, drive}
 use Rattle.st_grammar.specs.Forms.{Form, Actuals, no_actual, actual, Labels, label, more_labels, Statement, assign, write, invoke, choice, choice_else, cases, cases_else, loop, jump, Statements, none, empty, further, Arms, no_arm, arm, CaseArms, no_case, case_arm}
 use Rattle.st_grammar.specs.Grammar.{is_value, Binds, LabelsFit, Fits, AllFit, ArmsFit, CasesFit, arm_word, spell, spell_actuals, spell_labels, spell_one, spell_all, spell_arms, spell_cases}
 use Rattle.st_grammar.specs.Levels.{levels, levels_actuals, levels_labels, levels_one, levels_all, levels_arms, levels_cases}
@@ -17,13 +17,13 @@ use Rattle.st_tree.specs.declared.raw.RawVar.{RawVar}
 use Rattle.st_tree.specs.declared.raw.RawVar.TheVariants as var
 
 -- the expression of a CASE
-selected : (u : Unit_read) (d : ℕ) (s : List (Frame written)) (before : Statements) (line : Line) (e : Form) (ks : List Kind) (w : List ℕ) → Binds e →
+selected : (u : DeclaredUnit) (d : ℕ) (s : List (Frame written)) (before : Statements) (line : Line) (e : Form) (ks : List Kind) (w : List ℕ) → Binds e →
     run u d s (statement before) w (kind.Lead lead.Case line ∷ spell e (kind.Fixed fixed.Of ∷ ks)) ≡ run u (suc d) s (part (begun_statement written before line) (first_label e no_case)) (suc d ∷ levels (suc d) e (suc d ∷ w)) ks
 selected u d s before line e ks w h = drive u (suc d) (waiting (begun_statement written before line) selector ∷ s) e (kind.Fixed fixed.Of) ks (suc d ∷ w) h (level_most e) tt
 
 -- Calls
 
-given_all : (u : Unit_read) (d : ℕ) (s : List (Frame written)) (b : BegunStatement written) (name : List ℕ) (a : Actuals) (f : List ℕ) (l : Line) (v : RawVar) (vl : Line) (more : List Kind) (w : List ℕ) →
+given_all : (u : DeclaredUnit) (d : ℕ) (s : List (Frame written)) (b : BegunStatement written) (name : List ℕ) (a : Actuals) (f : List ℕ) (l : Line) (v : RawVar) (vl : Line) (more : List Kind) (w : List ℕ) →
     run u d s (part b (first_formal name)) w (spell_actuals (actual a f l v vl) more) ≡ run u d s (part b (given name (actual a f l v vl))) (levels_actuals d (actual a f l v vl) w) more
 given_all u d s b name no_actual f l v vl more w = refl
 given_all u d s b name (actual a g k x xk) f l v vl more w =
@@ -31,7 +31,7 @@ given_all u d s b name (actual a g k x xk) f l v vl more w =
 
 -- Labels
 
-labels_all : (u : Unit_read) (d : ℕ) (s : List (Frame written)) (b : BegunStatement written) (e : Form) (others : CaseArms) (start : List Kind → Option (Passed written)) (w : List ℕ) →
+labels_all : (u : DeclaredUnit) (d : ℕ) (s : List (Frame written)) (b : BegunStatement written) (e : Form) (others : CaseArms) (start : List Kind → Option (Passed written)) (w : List ℕ) →
     ((c : Literal) (ks : List Kind) → is_value c ≡ true → start (kind.Literal c ∷ ks) ≡ run u d s (part b (labelled e others (label c))) (d ∷ w) ks)
     → (labels : Labels) (more : List Kind) → LabelsFit labels → start (spell_labels labels more) ≡ run u d s (part b (labelled e others labels)) (levels_labels d labels w) more
 labels_all u d s b e others start w first (label c) more h = first c more h
@@ -41,10 +41,10 @@ labels_all u d s b e others start w first (more_labels labels c) more h =
 
 -- Arms, where the tokens before them and the statements in them are passed
 
-abbrev Through : Unit_read → ℕ → List (Frame written) → Statements → Type 0
+abbrev Through : DeclaredUnit → ℕ → List (Frame written) → Statements → Type 0
 Through u d s body = (ks : List Kind) (w : List ℕ) → run u d s (statement none) w (spell_all body ks) ≡ run u d s (statement body) (levels_all d body w) ks
 
-arm_through : (u : Unit_read) (d : ℕ) (s : List (Frame written)) (before : Statements) (line : Line) (others : Arms) (e : Form) (body : Statements) (more : List Kind) (w : List ℕ) → Binds e →
+arm_through : (u : DeclaredUnit) (d : ℕ) (s : List (Frame written)) (before : Statements) (line : Line) (others : Arms) (e : Form) (body : Statements) (more : List Kind) (w : List ℕ) → Binds e →
     ((ks : List Kind) → run u d s (statement before) w (spell_arms line others (arm_word line others ∷ ks))
     ≡ run u (suc d) (waiting (begun_statement written before line) (test others) ∷ s) operand (suc d ∷ levels_arms (suc d) others w) ks)
     → Through u (suc d) (within (begun_statement written before line) (choosing others e) ∷ s) body
@@ -55,7 +55,7 @@ arm_through u d s before line others e body more w bind word through =
     ∙ drive u (suc d) (waiting (begun_statement written before line) (test others) ∷ s) e (kind.Fixed fixed.Then) (spell_all body more) (suc d ∷ levels_arms (suc d) others w) bind (level_most e) tt
     ∙ through more (suc d ∷ levels (suc d) e (suc d ∷ levels_arms (suc d) others w))
 
-case_through : (u : Unit_read) (d : ℕ) (s : List (Frame written)) (b : BegunStatement written) (e : Form) (others : CaseArms) (labels : Labels) (body : Statements) (more : List Kind) (w : List ℕ) →
+case_through : (u : DeclaredUnit) (d : ℕ) (s : List (Frame written)) (b : BegunStatement written) (e : Form) (others : CaseArms) (labels : Labels) (body : Statements) (more : List Kind) (w : List ℕ) →
     LabelsFit labels
     → ((c : Literal) (ks : List Kind) → is_value c ≡ true →
     run u d s (part b (first_label e no_case)) w (spell_cases others (kind.Literal c ∷ ks)) ≡ run u d s (part b (labelled e others (label c))) (d ∷ levels_cases d others w) ks)
@@ -70,7 +70,7 @@ case_through u d s b e others labels body more w fit first through =
 -- Statements
 
 mutual
-  pub drive_one : (u : Unit_read) (d : ℕ) (s : List (Frame written)) (before : Statements) (x : Statement) (more : List Kind) (w : List ℕ) → Fits (in_loop written s) x →
+  pub drive_one : (u : DeclaredUnit) (d : ℕ) (s : List (Frame written)) (before : Statements) (x : Statement) (more : List Kind) (w : List ℕ) → Fits (in_loop written s) x →
       run u d s (statement before) w (spell_one x (kind.Fixed fixed.Semicolon ∷ more)) ≡ run u d s (statement (further before x)) (d ∷ levels_one d x w) more
   drive_one u d s before (assign line v e) more w h =
       drive u d (waiting (begun_statement written before line) (to_var v) ∷ s) e (kind.Fixed fixed.Semicolon) more (d ∷ d ∷ w) h (level_most e) tt
@@ -116,7 +116,7 @@ mutual
   drive_one u d s before (jump line word) more w h =
       ap (λ (v : Bool). go w (kind.Fixed fixed.Semicolon ∷ more) (option_map (λ (to : BodyState written). inside u.begun u.formals u.locals to) (if v then Some (body_state written d s (closing before (jump line word))) else None))) h
 
-  pub drive_all : (u : Unit_read) (d : ℕ) (s : List (Frame written)) (p : Statements) (more : List Kind) (w : List ℕ) → AllFit (in_loop written s) p →
+  pub drive_all : (u : DeclaredUnit) (d : ℕ) (s : List (Frame written)) (p : Statements) (more : List Kind) (w : List ℕ) → AllFit (in_loop written s) p →
       run u d s (statement none) w (spell_all p more) ≡ run u d s (statement p) (levels_all d p w) more
   drive_all u d s none more w h = refl
   drive_all u d s (empty before) more w h = drive_all u d s before (kind.Fixed fixed.Semicolon ∷ more) w h
@@ -124,7 +124,7 @@ mutual
       drive_all u d s before (spell_one x (kind.Fixed fixed.Semicolon ∷ more)) w h.0
       ∙ drive_one u d s before x more (levels_all d before w) h.1
 
-  pub drive_word : (u : Unit_read) (d : ℕ) (s : List (Frame written)) (before : Statements) (line : Line) (arms : Arms) (ks : List Kind) (w : List ℕ) → ArmsFit (in_loop written s) arms →
+  pub drive_word : (u : DeclaredUnit) (d : ℕ) (s : List (Frame written)) (before : Statements) (line : Line) (arms : Arms) (ks : List Kind) (w : List ℕ) → ArmsFit (in_loop written s) arms →
       run u d s (statement before) w (spell_arms line arms (arm_word line arms ∷ ks))
       ≡ run u (suc d) (waiting (begun_statement written before line) (test arms) ∷ s) operand (suc d ∷ levels_arms (suc d) arms w) ks
   drive_word u d s before line no_arm ks w h = refl
@@ -134,7 +134,7 @@ mutual
       (λ more n. drive_all u (suc d) (within (begun_statement written before line) (choosing others e) ∷ s)
       body more n h.2)
 
-  pub drive_first : (u : Unit_read) (d : ℕ) (s : List (Frame written)) (b : BegunStatement written) (e : Form) (arms : CaseArms) (c : Literal) (ks : List Kind) (w : List ℕ) → CasesFit (in_loop written s) arms → is_value c ≡ true →
+  pub drive_first : (u : DeclaredUnit) (d : ℕ) (s : List (Frame written)) (b : BegunStatement written) (e : Form) (arms : CaseArms) (c : Literal) (ks : List Kind) (w : List ℕ) → CasesFit (in_loop written s) arms → is_value c ≡ true →
       run u d s (part b (first_label e no_case)) w (spell_cases arms (kind.Literal c ∷ ks)) ≡ run u d s (part b (labelled e arms (label c))) (d ∷ levels_cases d arms w) ks
   drive_first u d s b e no_case c ks w h v =
       ap (λ (x : Bool). go w ks (option_map (λ (to : BodyState written). inside u.begun u.formals u.locals to) (if x then Some (body_state written d s (part b (labelled e no_case (label c)))) else None))) v

@@ -4,7 +4,7 @@ use Rattle.std.specs.Prelude.{pos, codes, ◌||◌, if◌then◌else◌, option_
 use Rattle.s7_base.specs.declared.reason.Line.{Line}
 use Rattle.memory_areas.specs.declared.place.AreaName.TheVariants.{Db}
 use Rattle.s7_base.specs.declared.word.Width.TheVariants as width
-use Rattle.st_syntax_laws.proofs.Drive.{Unit_read, within_unit, run, go, Lets, close, comma, past_unary, past_left, infix_some}
+use Rattle.st_syntax_laws.proofs.Drive.{DeclaredUnit, within_unit, run, go, Lets, close, comma, past_unary, past_left, infix_some}
 use Rattle.st_syntax_laws.proofs.DriveSource.{with_unit, unit_left}
 use Rattle.st_syntax_laws.proofs.Kept.{InStatements, InExpr, PlaceFits, Shaped}
 use Rattle.st_grammar.specs.Forms.{Form, literal, group, prefix, infix_of, apply, shift, select, Actuals, Labels, label, Items, no_unit, none, Statement, Statements, CaseArms, Globals, GlobalType, plain, Locals, Section, absent}
@@ -45,7 +45,7 @@ semicolon = kind.Fixed fixed.Semicolon
 
 -- Statements
 
-abbrev EndsIn : Unit_read → ℕ → List (Frame written) → Place written → List ℕ → Type 0
+abbrev EndsIn : DeclaredUnit → ℕ → List (Frame written) → Place written → List ℕ → Type 0
 EndsIn u d s p w = Ends (within_unit u d s p) w
 
 -- the state after some tokens is finished
@@ -55,7 +55,7 @@ by_tokens front step e = record { more = front ++ e.more; text = e.text; levels 
 between_ends : {text : TextSoFar written} {w : List ℕ} → Ends (between text) w
 between_ends {text = text} {w = w} = record { more = kind.Fixed fixed.End ∷ []; text = text; levels = 0 ∷ w; reaches = refl }
 
-statement_ends : (u : Unit_read) (d : ℕ) (s : List (Frame written)) (body : Statements) (w : List ℕ) → InStatements s → EndsIn u d s (statement body) w
+statement_ends : (u : DeclaredUnit) (d : ℕ) (s : List (Frame written)) (body : Statements) (w : List ℕ) → InStatements s → EndsIn u d s (statement body) w
 statement_ends u d [] body w h =
     by_tokens (end_word u.begun.head.program ∷ []) (λ ks. unit_left u.begun.text u.begun.head u.formals u.locals d body u.begun.head.program ks w refl) between_ends
 statement_ends u d (within b (choosing arms e) ∷ s) body w h = by_tokens (kind.Fixed fixed.EndIf ∷ semicolon ∷ []) (λ ks. refl) (statement_ends u (shallower d) s _ _ h.2)
@@ -67,7 +67,7 @@ statement_ends u d (within b (otherwise_case e arms) ∷ s) body w h =
     by_tokens (kind.Fixed fixed.EndCase ∷ semicolon ∷ []) (λ ks. refl) (statement_ends u (shallower d) s _ _ h.2)
 statement_ends u d s body w h = absurd h
 
-closing_ends : {u : Unit_read} {d : ℕ} {s : List (Frame written)} {before : Statements} {x : Statement} {w : List ℕ} → InStatements s → EndsIn u d s (closing before x) w
+closing_ends : {u : DeclaredUnit} {d : ℕ} {s : List (Frame written)} {before : Statements} {x : Statement} {w : List ℕ} → InStatements s → EndsIn u d s (closing before x) w
 closing_ends h = by_tokens (semicolon ∷ []) (λ ks. refl) (statement_ends _ _ _ _ _ h)
 
 -- Expressions
@@ -81,7 +81,7 @@ lets : (k : ℕ) (t : Kind) → Closes t → Lets k t
 lets k (kind.Fixed (fixed.Between op)) h = absurd h
 lets k other h = tt
 
-record OperatorEnds (u : Unit_read) (d : ℕ) (s : List (Frame written)) (f : Form) (w : List ℕ) : Type 0 where
+record OperatorEnds (u : DeclaredUnit) (d : ℕ) (s : List (Frame written)) (f : Form) (w : List ℕ) : Type 0 where
   token : Kind
   rest : List Kind
   text : TextSoFar written
@@ -89,17 +89,17 @@ record OperatorEnds (u : Unit_read) (d : ℕ) (s : List (Frame written)) (f : Fo
   closes : Closes token
   reaches : run u d s (operator f) w (token ∷ rest) ≡ Some (record { state = over text; levels = levels })
 
-operator_by : {u : Unit_read} {d : ℕ} {s : List (Frame written)} {f : Form} {r : State written} {w v : List ℕ} (token : Kind) (front : List Kind) → Closes token
+operator_by : {u : DeclaredUnit} {d : ℕ} {s : List (Frame written)} {f : Form} {r : State written} {w v : List ℕ} (token : Kind) (front : List Kind) → Closes token
     → ((ks : List Kind) → run u d s (operator f) w (token ∷ (front ++ ks)) ≡ passes written r v ks) → Ends r v → OperatorEnds u d s f w
 operator_by token front c step e = record { token = token; rest = front ++ e.more; text = e.text; levels = e.levels; closes = c; reaches = step e.more ∙ e.reaches }
 
 below_one : (j n : ℕ) → 0 < n → j ≤ n - 1 → j < n
 below_one j n p q = omega arith
 
-as_ends : {u : Unit_read} {d : ℕ} {s : List (Frame written)} {f : Form} {w : List ℕ} → OperatorEnds u d s f w → EndsIn u d s (operator f) w
+as_ends : {u : DeclaredUnit} {d : ℕ} {s : List (Frame written)} {f : Form} {w : List ℕ} → OperatorEnds u d s f w → EndsIn u d s (operator f) w
 as_ends e = record { more = e.token ∷ e.rest; text = e.text; levels = e.levels; reaches = e.reaches }
 
-operator_ends : (u : Unit_read) (d : ℕ) (s : List (Frame written)) (f : Form) (w : List ℕ) → InExpr s → Binds f → level f ≤ limit written s → OperatorEnds u d s f w
+operator_ends : (u : DeclaredUnit) (d : ℕ) (s : List (Frame written)) (f : Form) (w : List ℕ) → InExpr s → Binds f → level f ≤ limit written s → OperatorEnds u d s f w
 operator_ends u d (unary op ∷ s) f w h b fits =
     let e = operator_ends u (shallower d) s (prefix op f) w h.1 (fits, b) h.0 in
     record {
@@ -142,28 +142,28 @@ operator_ends u d (waiting x selector ∷ s) f w h b fits =
 operator_ends u d (waiting x loop_test ∷ s) f w h b fits = operator_by (kind.Fixed fixed.Do) (kind.Fixed fixed.EndWhile ∷ []) tt (λ ks. refl) (closing_ends h.2)
 operator_ends u d s f w h b fits = absurd h
 
-operand_ends : {u : Unit_read} {d : ℕ} {s : List (Frame written)} {w : List ℕ} → InExpr s → EndsIn u d s operand w
+operand_ends : {u : DeclaredUnit} {d : ℕ} {s : List (Frame written)} {w : List ℕ} → InExpr s → EndsIn u d s operand w
 operand_ends h = by_tokens (zero_kind ∷ []) (λ ks. refl) (as_ends (operator_ends _ _ _ filler _ h refl (omega arith)))
 
-opening_ends : (u : Unit_read) (d : ℕ) (s : List (Frame written)) (f : Function) (w : List ℕ) → InExpr s → EndsIn u d s (opening f) w
+opening_ends : (u : DeclaredUnit) (d : ℕ) (s : List (Frame written)) (f : Function) (w : List ℕ) → InExpr s → EndsIn u d s (opening f) w
 opening_ends u d s (function.One op) w h = by_tokens (kind.Fixed fixed.Open ∷ []) (λ ks. refl) (operand_ends (tt, h))
 opening_ends u d s f w h = by_tokens (kind.Fixed fixed.Open ∷ []) (λ ks. refl) (operand_ends (tt, h))
 
 -- Parts of statements
 
-given_ends : {u : Unit_read} {d : ℕ} {s : List (Frame written)} {b : BegunStatement written} {name : List ℕ} {actuals : Actuals} {w : List ℕ} → InStatements s → EndsIn u d s (part b (given name actuals)) w
+given_ends : {u : DeclaredUnit} {d : ℕ} {s : List (Frame written)} {b : BegunStatement written} {name : List ℕ} {actuals : Actuals} {w : List ℕ} → InStatements s → EndsIn u d s (part b (given name actuals)) w
 given_ends h = by_tokens (close ∷ []) (λ ks. refl) (closing_ends h)
 
-giving_ends : {u : Unit_read} {d : ℕ} {s : List (Frame written)} {b : BegunStatement written} {name : List ℕ} {actuals : Actuals} {formal : List ℕ × Line} {w : List ℕ} → InStatements s → EndsIn u d s (part b (giving name actuals formal)) w
+giving_ends : {u : DeclaredUnit} {d : ℕ} {s : List (Frame written)} {b : BegunStatement written} {name : List ℕ} {actuals : Actuals} {formal : List ℕ × Line} {w : List ℕ} → InStatements s → EndsIn u d s (part b (giving name actuals formal)) w
 giving_ends {b = b} h = by_tokens (kind.Variable (var.Name []) b.line ∷ []) (λ ks. refl) (given_ends h)
 
-becoming_ends : {u : Unit_read} {d : ℕ} {s : List (Frame written)} {b : BegunStatement written} {name : List ℕ} {actuals : Actuals} {formal : List ℕ × Line} {w : List ℕ} → InStatements s → EndsIn u d s (part b (becoming name actuals formal)) w
+becoming_ends : {u : DeclaredUnit} {d : ℕ} {s : List (Frame written)} {b : BegunStatement written} {name : List ℕ} {actuals : Actuals} {formal : List ℕ × Line} {w : List ℕ} → InStatements s → EndsIn u d s (part b (becoming name actuals formal)) w
 becoming_ends h = by_tokens (kind.Fixed fixed.Becomes ∷ []) (λ ks. refl) (giving_ends h)
 
-labelled_ends : {u : Unit_read} {d : ℕ} {s : List (Frame written)} {b : BegunStatement written} {e : Form} {arms : CaseArms} {labels : Labels} {w : List ℕ} → InStatements s → EndsIn u d s (part b (labelled e arms labels)) w
+labelled_ends : {u : DeclaredUnit} {d : ℕ} {s : List (Frame written)} {b : BegunStatement written} {e : Form} {arms : CaseArms} {labels : Labels} {w : List ℕ} → InStatements s → EndsIn u d s (part b (labelled e arms labels)) w
 labelled_ends h = by_tokens (kind.Fixed fixed.Colon ∷ kind.Fixed fixed.EndCase ∷ []) (λ ks. refl) (closing_ends h)
 
-part_ends : (u : Unit_read) (d : ℕ) (s : List (Frame written)) (b : BegunStatement written) (x : Part written) (w : List ℕ) → PlaceFits s (part b x) → EndsIn u d s (part b x) w
+part_ends : (u : DeclaredUnit) (d : ℕ) (s : List (Frame written)) (b : BegunStatement written) (x : Part written) (w : List ℕ) → PlaceFits s (part b x) → EndsIn u d s (part b x) w
 part_ends u d s b (target v) w h = by_tokens (kind.Fixed fixed.Becomes ∷ []) (λ ks. refl) (operand_ends (h.1, tt, h.0))
 part_ends u d s b (write_open a) w h = by_tokens (kind.Fixed fixed.Open ∷ []) (λ ks. refl) (operand_ends (h.1, tt, h.0))
 part_ends u d s b (first_formal name) w h = by_tokens (close ∷ []) (λ ks. refl) (closing_ends h.0)
@@ -174,7 +174,7 @@ part_ends u d s b (given name actuals) w h = given_ends h.0
 part_ends u d s b (labelled e arms labels) w h = labelled_ends h.0
 part_ends u d s b x w h = by_tokens (zero_kind ∷ []) (λ ks. refl) (labelled_ends h.0)
 
-place_ends : (u : Unit_read) (d : ℕ) (s : List (Frame written)) (p : Place written) (w : List ℕ) → PlaceFits s p → EndsIn u d s p w
+place_ends : (u : DeclaredUnit) (d : ℕ) (s : List (Frame written)) (p : Place written) (w : List ℕ) → PlaceFits s p → EndsIn u d s p w
 place_ends u d s (statement body) w h = statement_ends u d s body w h.0
 place_ends u d s (part b x) w h = part_ends u d s b x w h
 place_ends u d s (closing before x) w h = closing_ends h.0
@@ -243,12 +243,12 @@ row_ends done name line (at_value_end v last items count b) w h = by_tokens (clo
 row_ends done name line (at_comma v last items) w h = comma_ends
 row_ends done name line (at_end v ty) w h = semicolon_ends
 
-abbrev unit_read : BegunUnit written → Section Locals → Section Locals → Unit_read
-unit_read begun f l = record { begun = begun; formals = f; locals = l }
+abbrev declared_unit : BegunUnit written → Section Locals → Section Locals → DeclaredUnit
+declared_unit begun f l = record { begun = begun; formals = f; locals = l }
 
 inside_ends : {begun : BegunUnit written} {f l : Section Locals} {w : List ℕ} →
     Ends (inside begun f l (body_start written)) w
-inside_ends {begun = begun} {f = f} {l = l} {w = w} = statement_ends (unit_read begun f l) 0 [] none w tt
+inside_ends {begun = begun} {f = f} {l = l} {w = w} = statement_ends (declared_unit begun f l) 0 [] none w tt
 
 -- the end word of a unit, directly after its head
 bare_end : (begun : BegunUnit written) (f : Section Locals) (p : Bool) (w : List ℕ) (ks : List Kind)
@@ -303,5 +303,5 @@ finishes (opened begun) w h = opened_ends
 finishes (formals_done begun f) w h = done_ends
 finishes (section begun which done) w h = section_ends begun which done w
 finishes (typing begun which done name line x) w h = typing_ends begun which done name line x w
-finishes (inside begun f l at) w h = place_ends (unit_read begun f l) at.depth at.stack at.place w h.3
+finishes (inside begun f l at) w h = place_ends (declared_unit begun f l) at.depth at.stack at.place w h.3
 finishes (over text) w h = record { more = []; text = text; levels = w; reaches = refl }
