@@ -4,7 +4,7 @@ ghost use Rattle.std.specs.Prelude.{◌≡◌, ◌∷◌, Some, suc, IfOk, OnOk}
 ghost use Rattle.st_grammar.specs.Grammar.{on_line};
 ghost use Rattle.st_grammar.specs.inner.Machine.{code, closing, no_statements, opening, operand, operator, part, statement, waiting, within};
 ghost use Rattle.st_grammar.specs.inner.Steps.{body_start, body_state, shallower};
-ghost use Rattle.st_bodies.specs.inner.BodyStates.{begun_statement_of, body_at, body_of, body_state_of, frame_of, need_of, part_of, place_of, stack_of, went};
+ghost use Rattle.st_bodies.specs.inner.BodyStates.{begun_statement_of, body_at, body_of, body_state_of, frame_of, leads_to, need_of, part_of, place_of, stack_of};
 
 use crate::expression::{BoxedExpression, one_more, shallower};
 use s7_base::{Boxed, Line, List, NoMemory, Width};
@@ -336,7 +336,7 @@ impl BodyState {
         begun: BegunStatement,
         kind: RawStmtKind,
     ) -> Result<bool, NoMemory>
-        ensures { IfOk result (λ goes. went goes self.new
+        ensures { IfOk result (λ goes. leads_to goes self.new
             ≡ Some (body_state code (shallower self.old.depth) (stack_of self.old.frames)
             (closing begun.before (on_line begun.line kind)))) }
     {

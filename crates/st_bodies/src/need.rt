@@ -3,7 +3,7 @@ ghost use Rattle.std.specs.Prelude.{◌≡◌, IfOk};
 ghost use Rattle.st_grammar.specs.inner.Machine.{code, area_value, loop_test, selector, test, to_area, to_var};
 ghost use Rattle.st_grammar.specs.inner.Steps.{need_closed};
 ghost use Rattle.st_grammar.specs.declared.kind.Kind.TheVariants as kind;
-ghost use Rattle.st_bodies.specs.inner.BodyStates.{begun_statement_of, measured_of, need_of, stack_of, went};
+ghost use Rattle.st_bodies.specs.inner.BodyStates.{begun_statement_of, leads_to, measured_of, need_of, stack_of};
 
 use crate::body_state::{BegunStatement, Body, BodyState, Cases, Need, Part};
 use crate::expression::{BoxedExpression, boxed};
@@ -20,7 +20,7 @@ fn assigned(
     value: Measured,
     word: Fixed,
 ) -> Result<bool, NoMemory>
-    ensures { IfOk result (λ goes. went goes at.new
+    ensures { IfOk result (λ goes. leads_to goes at.new
         ≡ need_closed code at.old.depth (stack_of at.old.frames)
         (begun_statement_of begun) (to_var var) value (kind.Fixed word)) }
 {
@@ -45,7 +45,7 @@ fn pointer_closed(
     pointer: Measured,
     word: Fixed,
 ) -> Result<bool, NoMemory>
-    ensures { IfOk result (λ goes. went goes at.new
+    ensures { IfOk result (λ goes. leads_to goes at.new
         ≡ need_closed code at.old.depth (stack_of at.old.frames)
         (begun_statement_of begun) (to_area width) pointer (kind.Fixed word)) }
 {
@@ -68,7 +68,7 @@ fn written(
     value: Measured,
     word: Fixed,
 ) -> Result<bool, NoMemory>
-    ensures { IfOk result (λ goes. went goes at.new
+    ensures { IfOk result (λ goes. leads_to goes at.new
         ≡ need_closed code at.old.depth (stack_of at.old.frames)
         (begun_statement_of begun) (area_value width (measured_of pointer)) value (kind.Fixed word)) }
 {
@@ -93,7 +93,7 @@ fn tested(
     value: Measured,
     word: Fixed,
 ) -> Result<bool, NoMemory>
-    ensures { IfOk result (λ goes. went goes at.new
+    ensures { IfOk result (λ goes. leads_to goes at.new
         ≡ need_closed code at.old.depth (stack_of at.old.frames)
         (begun_statement_of begun) (test arms) value (kind.Fixed word)) }
 {
@@ -114,7 +114,7 @@ fn selected(
     value: Measured,
     word: Fixed,
 ) -> Result<bool, NoMemory>
-    ensures { IfOk result (λ goes. went goes at.new
+    ensures { IfOk result (λ goes. leads_to goes at.new
         ≡ need_closed code at.old.depth (stack_of at.old.frames)
         (begun_statement_of begun) selector value (kind.Fixed word)) }
 {
@@ -138,7 +138,7 @@ fn loop_tested(
     value: Measured,
     word: Fixed,
 ) -> Result<bool, NoMemory>
-    ensures { IfOk result (λ goes. went goes at.new
+    ensures { IfOk result (λ goes. leads_to goes at.new
         ≡ need_closed code at.old.depth (stack_of at.old.frames)
         (begun_statement_of begun) loop_test value (kind.Fixed word)) }
 {
@@ -160,7 +160,7 @@ pub fn need_closed(
     value: Measured,
     word: Fixed,
 ) -> Result<bool, NoMemory>
-    ensures { IfOk result (λ goes. went goes at.new
+    ensures { IfOk result (λ goes. leads_to goes at.new
         ≡ need_closed code at.old.depth (stack_of at.old.frames)
         (begun_statement_of begun) (need_of need) value (kind.Fixed word)) }
 {

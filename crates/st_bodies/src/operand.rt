@@ -3,7 +3,7 @@ ghost use Rattle.std.specs.Prelude.{◌≡◌, IfOk};
 ghost use Rattle.st_grammar.specs.inner.Machine.{code};
 ghost use Rattle.st_grammar.specs.inner.Steps.{limit, reduce, reduced_to, function_argument, with_prefix, at_operand, at_opening, close_argument, next_argument, argument_closed, closed, at_operator};
 ghost use Rattle.st_grammar.specs.declared.kind.Kind.TheVariants as kind;
-ghost use Rattle.st_bodies.specs.inner.BodyStates.{argument_of, binds, stack_of, went};
+ghost use Rattle.st_bodies.specs.inner.BodyStates.{argument_of, binds, leads_to, stack_of};
 
 use crate::body_state::{Argument, BodyState, Frame};
 use crate::expression::{
@@ -80,7 +80,7 @@ fn function_argument(function: Function) -> Argument
 }
 
 fn with_prefix(at: &mut BodyState, op: Prefix) -> Result<bool, NoMemory>
-    ensures { IfOk result (λ goes. went goes at.new ≡ with_prefix code at.old.depth (stack_of at.old.frames) op) }
+    ensures { IfOk result (λ goes. leads_to goes at.new ≡ with_prefix code at.old.depth (stack_of at.old.frames) op) }
 {
     if prefix_level(op) > limit(at.frames.as_slice()) {
         return Ok(false);
@@ -92,7 +92,7 @@ fn with_prefix(at: &mut BodyState, op: Prefix) -> Result<bool, NoMemory>
 
 /// A word or a sign where an operand must begin.
 fn at_operand_word(at: &mut BodyState, word: Fixed) -> Result<bool, NoMemory>
-    ensures { IfOk result (λ goes. went goes at.new
+    ensures { IfOk result (λ goes. leads_to goes at.new
         ≡ at_operand code at.old.depth (stack_of at.old.frames) (kind.Fixed word)) }
 {
     match word {
@@ -113,7 +113,7 @@ fn at_operand_word(at: &mut BodyState, word: Fixed) -> Result<bool, NoMemory>
 
 /// A token where an operand must begin.
 pub fn at_operand(at: &mut BodyState, kind: Kind) -> Result<bool, NoMemory>
-    ensures { IfOk result (λ goes. went goes at.new ≡ at_operand code at.old.depth (stack_of at.old.frames) kind) }
+    ensures { IfOk result (λ goes. leads_to goes at.new ≡ at_operand code at.old.depth (stack_of at.old.frames) kind) }
 {
     match kind {
         Kind::Literal(literal) => {
@@ -134,7 +134,7 @@ pub fn at_operand(at: &mut BodyState, kind: Kind) -> Result<bool, NoMemory>
 
 /// The bracket after the word of a function, the one token that may stand there.
 pub fn at_opening(at: &mut BodyState, function: Function, kind: Kind) -> Result<bool, NoMemory>
-    ensures { IfOk result (λ goes. went goes at.new
+    ensures { IfOk result (λ goes. leads_to goes at.new
         ≡ at_opening code at.old.depth (stack_of at.old.frames) function kind) }
 {
     let Kind::Fixed(Fixed::Open) = kind else {
@@ -152,7 +152,7 @@ fn close_argument(
     argument: Argument,
     operand: Measured,
 ) -> Result<bool, NoMemory>
-    ensures { IfOk result (λ goes. went goes at.new
+    ensures { IfOk result (λ goes. leads_to goes at.new
         ≡ close_argument code at.old.depth (stack_of at.old.frames) (argument_of argument) operand) }
 {
     let whole = match argument {
@@ -177,7 +177,7 @@ fn next_argument(
     argument: Argument,
     operand: Measured,
 ) -> Result<bool, NoMemory>
-    ensures { IfOk result (λ goes. went goes at.new
+    ensures { IfOk result (λ goes. leads_to goes at.new
         ≡ next_argument code at.old.depth (stack_of at.old.frames) (argument_of argument) operand) }
 {
     let operand = boxed(alloc, operand)?;
@@ -202,7 +202,7 @@ fn argument_closed(
     operand: Measured,
     word: Fixed,
 ) -> Result<bool, NoMemory>
-    ensures { IfOk result (λ goes. went goes at.new
+    ensures { IfOk result (λ goes. leads_to goes at.new
         ≡ argument_closed code at.old.depth (stack_of at.old.frames) (argument_of argument) operand (kind.Fixed word)) }
 {
     match word {
@@ -222,7 +222,7 @@ fn closed(
     operand: Measured,
     kind: Kind,
 ) -> Result<bool, NoMemory>
-    ensures { IfOk result (λ goes. went goes at.new
+    ensures { IfOk result (λ goes. leads_to goes at.new
         ≡ closed code at.old.depth (stack_of at.old.frames) operand kind) }
 {
     let frame = at.frames.pop();
@@ -258,7 +258,7 @@ pub fn at_operator(
     operand: Measured,
     kind: Kind,
 ) -> Result<bool, NoMemory>
-    ensures { IfOk result (λ goes. went goes at.new
+    ensures { IfOk result (λ goes. leads_to goes at.new
         ≡ at_operator code at.old.depth (stack_of at.old.frames) operand kind) }
 {
     if let Kind::Fixed(Fixed::Between(op)) = kind {

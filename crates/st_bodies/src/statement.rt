@@ -6,7 +6,7 @@ ghost use Rattle.st_grammar.specs.inner.Machine.{code, choosing, closing, of_cas
 ghost use Rattle.st_grammar.specs.inner.Steps.{shallower, body_state, is_loop, in_loop, body_closed, in_body, at_lead, at_statement, at_target, at_label, at_call, at_part, at_closing, step_at};
 ghost use Rattle.st_grammar.specs.declared.kind.Kind.TheVariants as kind;
 ghost use Rattle.st_grammar.specs.declared.kind.Lead.TheVariants as lead;
-ghost use Rattle.st_bodies.specs.inner.BodyStates.{begun_statement_of, body_of, frame_of, measured_of, part_of, place_of, stack_of, went};
+ghost use Rattle.st_bodies.specs.inner.BodyStates.{begun_statement_of, body_of, frame_of, leads_to, measured_of, part_of, place_of, stack_of};
 
 use crate::body_state::{BegunStatement, Body, BodyState, Call, Cases, Frame, Need, Part, Place};
 use crate::expression::{BoxedExpression, is_value, label_of};
@@ -56,7 +56,7 @@ fn choosing_closed(
     body: List<RawStmt>,
     kind: Kind,
 ) -> Result<bool, NoMemory>
-    ensures { IfOk result (λ goes. went goes at.new
+    ensures { IfOk result (λ goes. leads_to goes at.new
         ≡ body_closed code at.old.depth (stack_of at.old.frames)
         (begun_statement_of begun) (choosing arms (measured_of test)) body kind) }
 {
@@ -86,7 +86,7 @@ fn at_label(
     mut labels: List<(StType, i64)>,
     literal: Literal,
 ) -> Result<bool, NoMemory>
-    ensures { IfOk result (λ goes. went goes at.new
+    ensures { IfOk result (λ goes. leads_to goes at.new
         ≡ at_label code at.old.depth (stack_of at.old.frames)
         (begun_statement_of begun) (measured_of cases.selector) cases.arms
         (λ c. labels ++ label_tree c ∷ []) (kind.Literal literal)) }
@@ -122,7 +122,7 @@ fn case_closed(
     cases: Boxed<Cases>,
     otherwise: List<RawStmt>,
 ) -> Result<bool, NoMemory>
-    ensures { IfOk result (λ goes. went goes at.new
+    ensures { IfOk result (λ goes. leads_to goes at.new
         ≡ Some (body_state code (shallower at.old.depth) (stack_of at.old.frames)
         (closing begun.before (of_cases_else code begun.line (measured_of cases.selector) cases.arms otherwise)))) }
 {
@@ -141,7 +141,7 @@ fn selecting_closed(
     body: List<RawStmt>,
     kind: Kind,
 ) -> Result<bool, NoMemory>
-    ensures { IfOk result (λ goes. went goes at.new
+    ensures { IfOk result (λ goes. leads_to goes at.new
         ≡ body_closed code at.old.depth (stack_of at.old.frames)
         (begun_statement_of begun) (selecting (measured_of cases.selector) cases.arms labels) body kind) }
 {
@@ -166,7 +166,7 @@ fn body_closed(
     body: List<RawStmt>,
     kind: Kind,
 ) -> Result<bool, NoMemory>
-    ensures { IfOk result (λ goes. went goes at.new
+    ensures { IfOk result (λ goes. leads_to goes at.new
         ≡ body_closed code at.old.depth (stack_of at.old.frames) (begun_statement_of begun) (body_of outer) body kind) }
 {
     let statement = match outer {
@@ -201,7 +201,7 @@ fn in_body(
     body: List<RawStmt>,
     kind: Kind,
 ) -> Result<bool, NoMemory>
-    ensures { IfOk result (λ goes. went goes at.new
+    ensures { IfOk result (λ goes. leads_to goes at.new
         ≡ in_body code at.old.depth (stack_of at.old.frames) body kind) }
 {
     match at.frames.pop() {
@@ -221,7 +221,7 @@ fn at_jump(
     jump: Jump,
     line: Line,
 ) -> Result<bool, NoMemory>
-    ensures { IfOk result (λ goes. went goes at.new
+    ensures { IfOk result (λ goes. leads_to goes at.new
         ≡ at_lead code at.old.depth (stack_of at.old.frames) before (lead.Jump jump) line) }
 {
     if !may_jump(in_loop(at.frames.as_slice()), jump) {
@@ -244,7 +244,7 @@ fn at_lead(
     lead: Lead,
     line: Line,
 ) -> Result<bool, NoMemory>
-    ensures { IfOk result (λ goes. went goes at.new
+    ensures { IfOk result (λ goes. leads_to goes at.new
         ≡ at_lead code at.old.depth (stack_of at.old.frames) before lead line) }
 {
     let need = match lead {
@@ -270,7 +270,7 @@ fn at_statement(
     before: List<RawStmt>,
     kind: Kind,
 ) -> Result<bool, NoMemory>
-    ensures { IfOk result (λ goes. went goes at.new
+    ensures { IfOk result (λ goes. leads_to goes at.new
         ≡ at_statement code at.old.depth (stack_of at.old.frames) before kind) }
 {
     match kind {
@@ -294,7 +294,7 @@ fn at_target(
     var: RawVar,
     kind: Kind,
 ) -> Result<bool, NoMemory>
-    ensures { IfOk result (λ goes. went goes at.new
+    ensures { IfOk result (λ goes. leads_to goes at.new
         ≡ at_target code at.old.depth (stack_of at.old.frames) (begun_statement_of begun) var kind) }
 {
     match kind {
@@ -318,7 +318,7 @@ fn at_formal(
     call: Boxed<Call>,
     kind: Kind,
 ) -> Result<bool, NoMemory>
-    ensures { IfOk result (λ goes. went goes at.new
+    ensures { IfOk result (λ goes. leads_to goes at.new
         ≡ at_call code at.old.depth (stack_of at.old.frames)
         (begun_statement_of begun) (next_formal call.name call.actuals) kind) }
 {
@@ -347,7 +347,7 @@ fn at_first_formal(
     name: List<u8>,
     kind: Kind,
 ) -> Result<bool, NoMemory>
-    ensures { IfOk result (λ goes. went goes at.new
+    ensures { IfOk result (λ goes. leads_to goes at.new
         ≡ at_call code at.old.depth (stack_of at.old.frames) (begun_statement_of begun) (first_formal name) kind) }
 {
     match kind {
@@ -366,7 +366,7 @@ fn at_becoming(
     formal: List<u8>,
     kind: Kind,
 ) -> Result<bool, NoMemory>
-    ensures { IfOk result (λ goes. went goes at.new
+    ensures { IfOk result (λ goes. leads_to goes at.new
         ≡ at_call code at.old.depth (stack_of at.old.frames)
         (begun_statement_of begun) (becoming call.name call.actuals formal) kind) }
 {
@@ -401,7 +401,7 @@ fn at_actual(
     formal: List<u8>,
     kind: Kind,
 ) -> Result<bool, NoMemory>
-    ensures { IfOk result (λ goes. went goes at.new
+    ensures { IfOk result (λ goes. leads_to goes at.new
         ≡ at_call code at.old.depth (stack_of at.old.frames)
         (begun_statement_of begun) (giving call.name call.actuals formal) kind) }
 {
@@ -421,7 +421,7 @@ fn at_given(
     call: Boxed<Call>,
     kind: Kind,
 ) -> Result<bool, NoMemory>
-    ensures { IfOk result (λ goes. went goes at.new
+    ensures { IfOk result (λ goes. leads_to goes at.new
         ≡ at_call code at.old.depth (stack_of at.old.frames)
         (begun_statement_of begun) (given call.name call.actuals) kind) }
 {
@@ -446,7 +446,7 @@ fn at_next_label(
     labels: List<(StType, i64)>,
     kind: Kind,
 ) -> Result<bool, NoMemory>
-    ensures { IfOk result (λ goes. went goes at.new
+    ensures { IfOk result (λ goes. leads_to goes at.new
         ≡ at_label code at.old.depth (stack_of at.old.frames)
         (begun_statement_of begun) (measured_of cases.selector) cases.arms
         (λ c. labels ++ label_tree c ∷ []) kind) }
@@ -466,7 +466,7 @@ fn at_labelled(
     labels: List<(StType, i64)>,
     kind: Kind,
 ) -> Result<bool, NoMemory>
-    ensures { IfOk result (λ goes. went goes at.new
+    ensures { IfOk result (λ goes. leads_to goes at.new
         ≡ at_part code at.old.depth (stack_of at.old.frames)
         (begun_statement_of begun) (labelled (measured_of cases.selector) cases.arms labels) kind) }
 {
@@ -485,7 +485,7 @@ fn at_write_open(
     width: Width,
     kind: Kind,
 ) -> Result<bool, NoMemory>
-    ensures { IfOk result (λ goes. went goes at.new
+    ensures { IfOk result (λ goes. leads_to goes at.new
         ≡ at_part code at.old.depth (stack_of at.old.frames) (begun_statement_of begun) (write_open width) kind) }
 {
     let Kind::Fixed(Fixed::Open) = kind else {
@@ -504,7 +504,7 @@ fn at_part(
     part: Part,
     kind: Kind,
 ) -> Result<bool, NoMemory>
-    ensures { IfOk result (λ goes. went goes at.new
+    ensures { IfOk result (λ goes. leads_to goes at.new
         ≡ at_part code at.old.depth (stack_of at.old.frames) (begun_statement_of begun) (part_of part) kind) }
 {
     match part {
@@ -528,7 +528,7 @@ fn at_closing(
     statement: Boxed<RawStmt>,
     kind: Kind,
 ) -> Result<bool, NoMemory>
-    ensures { IfOk result (λ goes. went goes at.new
+    ensures { IfOk result (λ goes. leads_to goes at.new
         ≡ at_closing code at.old.depth (stack_of at.old.frames) before statement kind) }
 {
     let Kind::Fixed(Fixed::Semicolon) = kind else {
@@ -543,7 +543,7 @@ fn at_closing(
 /// One token in statements: whether it can follow, and if it can, where it leads. Where it can't, nothing
 /// is said of what the state is then.
 pub fn step(alloc: Global, at: &mut BodyState, kind: Kind) -> Result<bool, NoMemory>
-    ensures { IfOk result (λ goes. went goes at.new
+    ensures { IfOk result (λ goes. leads_to goes at.new
         ≡ step_at code at.old.depth (stack_of at.old.frames) (place_of at.old.place) kind) }
 {
     match replace(&mut at.place, Place::Operand) {

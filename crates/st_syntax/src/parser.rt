@@ -7,7 +7,7 @@ ghost use Rattle.st_grammar.specs.Kinds.{kind_of};
 ghost use Rattle.st_grammar.specs.Levels.{deepest};
 ghost use Rattle.st_syntax.specs.declared.state.State.TheVariants as state;
 ghost use Rattle.st_grammar.specs.Syntax.{all_lined};
-ghost use Rattle.st_syntax.specs.inner.Seen.{seen, went, HasText, JudgedIs};
+ghost use Rattle.st_syntax.specs.inner.Seen.{leads_to, seen, HasText, JudgedIs};
 ghost use Rattle.st_syntax.specs.inner.Views.{text_so_far_of};
 
 use crate::state::{State, TextSoFar};
@@ -36,7 +36,7 @@ fn is_deep(state: &State) -> bool
 /// most of a text is, the state stays where it is.
 #[tactic(auto, unfolding(crate::specs::inner::Seen::seen, st_grammar::specs::inner::Judge::turn))]
 fn turn(alloc: Global, state: &mut State, kind: Kind) -> Result<bool, NoMemory>
-    ensures { IfOk result (λ goes. went goes state.new ≡ turn (seen state.old) kind) }
+    ensures { IfOk result (λ goes. leads_to goes state.new ≡ turn (seen state.old) kind) }
 {
     let kind = match state {
         State::Inside(_, _, _, at) => match kind {

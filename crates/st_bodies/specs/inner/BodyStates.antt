@@ -111,6 +111,6 @@ body_at [] (machine.statement body) = Some body
 body_at s p = None
 
 -- where a token leads, if it can follow
-abbrev pub went : Bool → BodyState → Option (machine.BodyState code)
-went true at = Some (body_state_of at)
-went false at = None
+abbrev pub leads_to : Bool → BodyState → Option (machine.BodyState code)
+leads_to true at = Some (body_state_of at)
+leads_to false at = None

@@ -13,9 +13,9 @@ unfoldable pub seen : Found → State code
 seen state = state_of state
 
 -- where a token leads, if it can follow
-abbrev pub went : Bool → Found → Option (State code)
-went true state = Some (seen state)
-went false state = None
+abbrev pub leads_to : Bool → Found → Option (State code)
+leads_to true state = Some (seen state)
+leads_to false state = None
 
 -- a judgement that is good comes to this text
 abbrev pub HasText : Result (State code) Rejection → TextSoFar code → Type 0
