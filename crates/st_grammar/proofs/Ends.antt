@@ -5,7 +5,7 @@ use Rattle.s7_base.specs.declared.reason.Line.{Line}
 use Rattle.s7_base.specs.declared.reason.Reason.TheVariants.{TooDeep}
 use Rattle.s7_base.specs.declared.reason.Rejection.{Rejection}
 use Rattle.s7_base.specs.declared.reason.Rejection.TheVariants.{Refused}
-use Rattle.st_grammar.specs.inner.Judge.{turn, reached, judged, on_good, judge_tokens, text_in}
+use Rattle.st_grammar.specs.inner.Judge.{after_token, reached, judged, on_good, judge_tokens, text_in}
 use Rattle.st_grammar.specs.Levels.{deepest}
 use Rattle.st_grammar.specs.inner.Machine as machine
 use Rattle.st_grammar.specs.inner.Machine.{code, Frame, unary, left, bracket, argument, waiting, within, Argument, Need, Body, Part, target, write_open, first_formal, next_formal, becoming, giving, given, first_label, next_label, labelled, Place, statement, part, closing, operand, operator, opening, BodyState, Row, State, start, globals, row, between, heading, opened, formals_done, section, typing, inside, over, SectionKind, formals, temps}
@@ -112,9 +112,9 @@ over_at_end (typing begun which done name line x) = subst (λ (o : Option (State
 over_at_end (inside begun f l at) = subst (λ (o : Option (BodyState code)). IfSome (option_map (λ (to : BodyState code). inside begun f l to) o) IsOver) (sym (step_end at.depth at.stack at.place)) tt
 over_at_end (over text) = tt
 
-turn_end : (q : State code) → IfSome (turn q end) IsOver
-unfolding turn
-turn_end q = over_at_end q
+after_token_end : (q : State code) → IfSome (after_token q end) IsOver
+unfolding after_token
+after_token_end q = over_at_end q
 
 -- what is judged good at the end is over
 abbrev GoodOver : Result (State code) Rejection → Type 0
@@ -131,8 +131,8 @@ good_end (Some to) line h = by (nat_lt deepest (reached to))
 
 last_judged : (items : List Lined) (line : Line) (q : State code) →
     GoodOver (judge_tokens q (items ++ end_on line ∷ []))
-last_judged [] line q = good_end (turn q end) line (turn_end q)
-last_judged (item ∷ items) line q = by (judged (turn q item.kind) item.line) (λ to. last_judged items line to)
+last_judged [] line q = good_end (after_token q end) line (after_token_end q)
+last_judged (item ∷ items) line q = by (judged (after_token q item.kind) item.line) (λ to. last_judged items line to)
   where
     by : (r : Result (State code) Rejection) → ((to : State code) → GoodOver (judge_tokens to (items ++ end_on line ∷ []))) → GoodOver (on_good r (λ to. judge_tokens to (items ++ end_on line ∷ [])))
     by (Ok to) h = h to

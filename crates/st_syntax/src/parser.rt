@@ -2,7 +2,7 @@
 ghost use Rattle.std.specs.Prelude.{◌≡◌, nat_lt, Some, Err, IfOk, option_map};
 ghost use Rattle.s7_base.specs.declared.reason.Rejection.TheVariants.{Refused};
 ghost use Rattle.s7_base.specs.Answers.{IfRefused};
-ghost use Rattle.st_grammar.specs.inner.Judge.{turn, reached, judged, judge_tokens, text_in, tree_at, verdict};
+ghost use Rattle.st_grammar.specs.inner.Judge.{after_token, reached, judged, judge_tokens, text_in, tree_at, verdict};
 ghost use Rattle.st_grammar.specs.Kinds.{kind_of};
 ghost use Rattle.st_grammar.specs.Levels.{deepest};
 ghost use Rattle.st_syntax.specs.declared.state.State.TheVariants as state;
@@ -34,9 +34,9 @@ fn is_deep(state: &State) -> bool
 
 /// One token of a text: whether it can follow, and if it can, where it leads. Inside of statements, where
 /// most of a text is, the state stays where it is.
-#[tactic(auto, unfolding(crate::specs::inner::Seen::seen, st_grammar::specs::inner::Judge::turn))]
-fn turn(alloc: Global, state: &mut State, kind: Kind) -> Result<bool, NoMemory>
-    ensures { IfOk result (λ goes. leads_to goes state.new ≡ turn (seen state.old) kind) }
+#[tactic(auto, unfolding(crate::specs::inner::Seen::seen, st_grammar::specs::inner::Judge::after_token))]
+fn after_token(alloc: Global, state: &mut State, kind: Kind) -> Result<bool, NoMemory>
+    ensures { IfOk result (λ goes. leads_to goes state.new ≡ after_token (seen state.old) kind) }
 {
     let kind = match state {
         State::Inside(_, _, _, at) => match kind {
@@ -55,9 +55,9 @@ fn turn(alloc: Global, state: &mut State, kind: Kind) -> Result<bool, NoMemory>
 
 /// Goes on by one token; why the text is refused, if it is.
 fn advance(alloc: Global, state: &mut State, kind: Kind, line: Line) -> Option<Rejection>
-    ensures { JudgedIs (seen state.new) result (judged (turn (seen state.old) kind) line) }
+    ensures { JudgedIs (seen state.new) result (judged (after_token (seen state.old) kind) line) }
 {
-    match turn(alloc, state, kind) {
+    match after_token(alloc, state, kind) {
         Ok(true) => {
             if is_deep(state) {
                 Some(Rejection::Refused(line, Reason::TooDeep))
@@ -72,7 +72,7 @@ fn advance(alloc: Global, state: &mut State, kind: Kind, line: Line) -> Option<R
 
 fn advance_token(alloc: Global, state: &mut State, token: &StToken) -> Option<Rejection>
     ensures { JudgedIs (seen state.new) result
-        (judged (turn (seen state.old) (kind_of token.now)) token.now.line) }
+        (judged (after_token (seen state.old) (kind_of token.now)) token.now.line) }
 {
     match kind_of(alloc, token) {
         Ok(kind) => advance(alloc, state, kind, token.line),

@@ -10,7 +10,7 @@ use Rattle.st_syntax_laws.proofs.Bare.{bare, next_bare, mark_bare}
 use Rattle.st_syntax_laws.proofs.DriveSource.{finished, drive_source}
 use Rattle.st_syntax_laws.proofs.Exact.{begins_at, same_levels}
 use Rattle.st_grammar.specs.Forms.{Source}
-use Rattle.st_grammar.specs.inner.Judge.{turn, reached, judged, on_good, judge_tokens}
+use Rattle.st_grammar.specs.inner.Judge.{after_token, reached, judged, on_good, judge_tokens}
 use Rattle.st_grammar.specs.Levels.{deepest, levels_source}
 use Rattle.st_grammar.specs.inner.Machine.{written, code, State, start}
 use Rattle.st_grammar.specs.inner.Steps.{next, mark, Passed, passes}
@@ -25,9 +25,9 @@ behind q w = Some (at_state q w)
 
 -- One token
 
-turned : (q : State written) (k : Kind) (o : Option (State written)) → next written q k ≡ o → turn (bare q) k ≡ option_map bare o
-unfolding turn
-turned q k o n = next_bare q k ∙ ap (λ (x : Option (State written)). option_map bare x) n
+after_token_bare : (q : State written) (k : Kind) (o : Option (State written)) → next written q k ≡ o → after_token (bare q) k ≡ option_map bare o
+unfolding after_token
+after_token_bare q k o n = next_bare q k ∙ ap (λ (x : Option (State written)). option_map bare x) n
 
 reached_is : (q : State written) → reached (bare q) ≡ mark written q
 unfolding reached
@@ -44,13 +44,13 @@ abbrev by_level : Lined → List Lined → State code → Bool → Result (State
 by_level item back to deep = on_good (if deep then Err (Refused item.line TooDeep) else Ok to) (λ next_to. judge_tokens next_to back)
 
 -- what comes of a token by what is after it
-abbrev by_turn : Lined → List Lined → Option (State code) → Result (State code) Rejection
-by_turn item back o = on_good (judged o item.line) (λ to. judge_tokens to back)
+abbrev by_token : Lined → List Lined → Option (State code) → Result (State code) Rejection
+by_token item back o = on_good (judged o item.line) (λ to. judge_tokens to back)
 
 level_of : (item : Lined) (back : List Lined) (q r : State written) (deep : Bool) → next written q item.kind ≡ Some r → nat_lt deepest (mark written r) ≡ deep
     → judge_tokens (bare q) (item ∷ back) ≡ by_level item back (bare r) deep
 level_of item back q r deep n e =
-    ap (by_turn item back) (turned q item.kind (Some r) n) ∙ ap (λ (level : ℕ). by_level item back (bare r) (nat_lt deepest level)) (reached_is r) ∙ ap (by_level item back (bare r)) e
+    ap (by_token item back) (after_token_bare q item.kind (Some r) n) ∙ ap (λ (level : ℕ). by_level item back (bare r) (nat_lt deepest level)) (reached_is r) ∙ ap (by_level item back (bare r)) e
 
 -- a token that is good
 goes_on : (item : Lined) (back : List Lined) (q r : State written) → next written q item.kind ≡ Some r → mark written r ≤ deepest → judge_tokens (bare q) (item ∷ back) ≡ judge_tokens (bare r) back
@@ -62,7 +62,7 @@ too_deep item back q r n high = level_of item back q r true n (lt_true deepest (
 
 -- one that cannot follow
 stopped : (item : Lined) (back : List Lined) (q : State written) → next written q item.kind ≡ None → judge_tokens (bare q) (item ∷ back) ≡ Err (Refused item.line BadSyntax)
-stopped item back q n = ap (by_turn item back) (turned q item.kind None n)
+stopped item back q n = ap (by_token item back) (after_token_bare q item.kind None n)
 
 -- The first tokens
 

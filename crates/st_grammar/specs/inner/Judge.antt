@@ -17,8 +17,8 @@ use Rattle.st_tree.specs.declared.token.StToken.{StToken}
 -- one step and its level, each kept shut so that proofs of the whole don't open them
 
 -- the state after one more token, if the token can follow
-unfoldable pub turn : State code → Kind → Option (State code)
-turn q k = next code q k
+unfoldable pub after_token : State code → Kind → Option (State code)
+after_token q k = next code q k
 
 -- the level that the last token made
 unfoldable pub reached : State code → ℕ
@@ -38,7 +38,7 @@ on_good (Err refused) on = Err refused
 -- the state after tokens, or the first refusal
 abbrev pub judge_tokens : State code → List Lined → Result (State code) Rejection
 judge_tokens q [] = Ok q
-judge_tokens q (item ∷ items) = on_good (judged (turn q item.kind) item.line) (λ to. judge_tokens to items)
+judge_tokens q (item ∷ items) = on_good (judged (after_token q item.kind) item.line) (λ to. judge_tokens to items)
 
 -- the whole text, if a state is after its end
 abbrev pub text_in : State code → Option (TextSoFar code)
