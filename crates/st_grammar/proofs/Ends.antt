@@ -5,7 +5,7 @@ use Rattle.s7_base.specs.declared.reason.Line.{Line}
 use Rattle.s7_base.specs.declared.reason.Reason.TheVariants.{TooDeep}
 use Rattle.s7_base.specs.declared.reason.Rejection.{Rejection}
 use Rattle.s7_base.specs.declared.reason.Rejection.TheVariants.{Refused}
-use Rattle.st_grammar.specs.inner.Judge.{after_token, reached, judged, on_good, judge_tokens, text_in}
+use Rattle.st_grammar.specs.inner.Judge.{after_token, level_reached, judged, on_good, judge_tokens, text_in}
 use Rattle.st_grammar.specs.Levels.{deepest}
 use Rattle.st_grammar.specs.inner.Machine as machine
 use Rattle.st_grammar.specs.inner.Machine.{code, Frame, unary, left, bracket, argument, waiting, within, Argument, Need, Body, Part, target, write_open, first_formal, next_formal, becoming, giving, given, first_label, next_label, labelled, Place, statement, part, closing, operand, operator, opening, BodyState, Row, State, start, globals, row, between, heading, opened, formals_done, section, typing, inside, over, SectionKind, formals, temps}
@@ -123,7 +123,7 @@ GoodOver (Err refused) = Unit {0}
 
 good_end : (o : Option (State code)) (line : Line) → IfSome o IsOver → GoodOver (on_good (judged o line) (λ to. Ok to))
 good_end None line h = tt
-good_end (Some to) line h = by (nat_lt deepest (reached to))
+good_end (Some to) line h = by (nat_lt deepest (level_reached to))
   where
     by : (c : Bool) → GoodOver (on_good (if c then Err (Refused line TooDeep) else Ok to) (λ to. Ok to))
     by true = tt

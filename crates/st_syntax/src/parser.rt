@@ -2,7 +2,15 @@
 ghost use Rattle.std.specs.Prelude.{◌≡◌, nat_lt, Some, Err, IfOk, option_map};
 ghost use Rattle.s7_base.specs.declared.reason.Rejection.TheVariants.{Refused};
 ghost use Rattle.s7_base.specs.Answers.{IfRefused};
-ghost use Rattle.st_grammar.specs.inner.Judge.{after_token, reached, judged, judge_tokens, text_in, tree_at, verdict};
+ghost use Rattle.st_grammar.specs.inner.Judge.{
+  after_token,
+  judge_tokens,
+  judged,
+  level_reached,
+  text_in,
+  tree_at,
+  verdict,
+};
 ghost use Rattle.st_grammar.specs.Kinds.{kind_of};
 ghost use Rattle.st_grammar.specs.Levels.{deepest};
 ghost use Rattle.st_syntax.specs.declared.state.State.TheVariants as state;
@@ -22,9 +30,9 @@ use std::alloc::Global;
 use std::mem::replace;
 
 /// The last token made a level above the greatest.
-#[tactic(auto, unfolding(crate::specs::inner::Seen::seen, st_grammar::specs::inner::Judge::reached))]
+#[tactic(auto, unfolding(crate::specs::inner::Seen::seen, st_grammar::specs::inner::Judge::level_reached))]
 fn is_deep(state: &State) -> bool
-    ensures { result ≡ nat_lt deepest (reached (seen state.now)) }
+    ensures { result ≡ nat_lt deepest (level_reached (seen state.now)) }
 {
     match state {
         State::Inside(_, _, _, at) => is_deep_at(at),

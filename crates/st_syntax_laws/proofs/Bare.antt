@@ -6,7 +6,7 @@ use Rattle.st_grammar.specs.Grammar.{prefix_level, infix_level, is_value, may_ju
 use Rattle.st_tree.specs.Naming.{is_free, may_name_global, may_name_unit, names_block}
 use Rattle.st_grammar.specs.Levels.{height}
 use Rattle.st_grammar.specs.inner.Machine.{written, code, of_label, add_label, add_case, of_literal, of_jump, head_of, BegunStatement, Argument, only, shifted, shifted_by, gate, first, second, Need, to_var, to_area, area_value, test, selector, loop_test, Body, choosing, otherwise, looping, selecting, otherwise_case, Frame, unary, left, bracket, argument, waiting, within, Part, target, write_open, first_formal, next_formal, becoming, giving, given, first_label, next_label, labelled, Place, statement, part, closing, operand, operator, opening, BodyState, Row, at_word, at_place, at_colon, at_type, at_square, at_zero, at_dots, at_last, at_close, at_of, at_byte, at_becomes, at_open, at_item, at_count, at_value, at_value_end, at_comma, at_end, local_colon, local_type, local_end, TextSoFar, BegunUnit, SectionKind, formals, temps, State, start, globals, row, between, heading, opened, formals_done, section, typing, inside, over}
-use Rattle.st_grammar.specs.inner.Steps.{body_state, weakest, limit, Reduced, reduced_to, reduce, shallower, with_prefix, closed, closed_to, waits, in_loop, in_body, step_at, is_zero, row_step, before_units, begun_unit, at_between, may_name, may_type, ends, leave, at_inside, at_formals_done, at_opened, next, level_at, mark}
+use Rattle.st_grammar.specs.inner.Steps.{body_state, weakest, limit, Reduced, reduced_to, reduce, shallower, with_prefix, closed, closed_to, waits, in_loop, in_body, step_at, is_zero, row_step, before_units, begun_unit, at_between, may_name, may_type, ends, leave, at_inside, at_formals_done, at_opened, next, level_at, last_level}
 use Rattle.st_grammar.specs.declared.heading.Heading.{Heading}
 use Rattle.st_grammar.specs.declared.measured.Measured.{Measured}
 use Rattle.st_grammar.specs.declared.kind.Fixed.TheVariants as fixed
@@ -340,7 +340,7 @@ level_bare d operand [] = refl
 level_bare d operand (unary op ∷ s) = refl
 level_bare d other s = refl
 
-pub mark_bare : (q : State written) → mark code (bare q) ≡ mark written q
-mark_bare (inside begun before locals at) = level_bare at.depth at.place at.stack
-mark_bare (row done name line (at_value v last items count)) = refl
-mark_bare other = refl
+pub last_level_bare : (q : State written) → last_level code (bare q) ≡ last_level written q
+last_level_bare (inside begun before locals at) = level_bare at.depth at.place at.stack
+last_level_bare (row done name line (at_value v last items count)) = refl
+last_level_bare other = refl

@@ -6,7 +6,7 @@ use Rattle.st_grammar.specs.Forms.{Form, literal, variable, group, prefix, infix
 use Rattle.st_grammar.specs.Grammar.{prefix_level, infix_level, level, Binds, prefix_kind, spell}
 use Rattle.st_grammar.specs.Levels.{height, levels}
 use Rattle.st_grammar.specs.inner.Machine.{written, Frame, unary, left, bracket, argument, only, shifted, shifted_by, gate, first, second, Place, operand, operator, BodyState, BegunUnit, State, inside}
-use Rattle.st_grammar.specs.inner.Steps.{body_state, weakest, limit, Reduced, reduced_to, reduce, with_prefix, waits, leave, next, level_at, mark, Passed, shallower, passes}
+use Rattle.st_grammar.specs.inner.Steps.{body_state, weakest, limit, Reduced, reduced_to, reduce, with_prefix, waits, leave, next, level_at, last_level, Passed, shallower, passes}
 use Rattle.st_grammar.specs.declared.kind.Fixed.TheVariants as fixed
 use Rattle.st_grammar.specs.declared.kind.Kind.{Kind}
 use Rattle.st_grammar.specs.declared.kind.Kind.TheVariants as kind
@@ -30,7 +30,7 @@ run u d s p w ks = passes written (within_unit u d s p) w ks
 
 -- the pass after a token
 abbrev pub go : List ℕ → List Kind → Option (State written) → Option (Passed written)
-go w ks o = option_and_then (λ r. passes written r (mark written r ∷ w) ks) o
+go w ks o = option_and_then (λ r. passes written r (last_level written r ∷ w) ks) o
 
 -- Levels of precedence
 

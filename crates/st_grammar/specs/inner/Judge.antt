@@ -9,7 +9,7 @@ use Rattle.st_lexer.specs.StTokens.{tokens_of}
 use Rattle.st_grammar.specs.Levels.{deepest}
 use Rattle.st_grammar.specs.Syntax.{Lined, all_lined}
 use Rattle.st_grammar.specs.inner.Machine.{code, TextSoFar, State, start, over}
-use Rattle.st_grammar.specs.inner.Steps.{next, mark}
+use Rattle.st_grammar.specs.inner.Steps.{next, last_level}
 use Rattle.st_grammar.specs.declared.kind.Kind.{Kind}
 use Rattle.st_tree.specs.declared.raw.RawSt.{RawSt}
 use Rattle.st_tree.specs.declared.token.StToken.{StToken}
@@ -21,13 +21,13 @@ unfoldable pub after_token : State code → Kind → Option (State code)
 after_token q k = next code q k
 
 -- the level that the last token made
-unfoldable pub reached : State code → ℕ
-reached q = mark code q
+unfoldable pub level_reached : State code → ℕ
+level_reached q = last_level code q
 
 -- the state after a token on a line, if the token can follow and makes no level too many
 abbrev pub judged : Option (State code) → Line → Result (State code) Rejection
 judged None line = Err (Refused line BadSyntax)
-judged (Some to) line = if nat_lt deepest (reached to) then Err (Refused line TooDeep) else Ok to
+judged (Some to) line = if nat_lt deepest (level_reached to) then Err (Refused line TooDeep) else Ok to
 
 -- what comes of a judgement
 abbrev pub on_good : Result (State code) Rejection → (State code → Result (State code) Rejection)

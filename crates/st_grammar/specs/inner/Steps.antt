@@ -491,11 +491,11 @@ level_at m d operand (left op e ∷ s) = d + height_in m e
 level_at m d p s = d
 
 -- the level that the last token made
-abbrev pub mark : (m : Mode) → State m → ℕ
-mark m (inside begun before locals at) = level_at m at.depth at.place at.stack
-mark m (row done name line (at_value v last items count)) = 1
-mark m (row done name line (at_value_end v last items count b)) = 1
-mark m other = 0
+abbrev pub last_level : (m : Mode) → State m → ℕ
+last_level m (inside begun before locals at) = level_at m at.depth at.place at.stack
+last_level m (row done name line (at_value v last items count)) = 1
+last_level m (row done name line (at_value_end v last items count b)) = 1
+last_level m other = 0
 
 -- the state after tokens, and their levels, the last one first
 pub record Passed (m : Mode) : Type 0 where
@@ -505,4 +505,4 @@ pub record Passed (m : Mode) : Type 0 where
 -- all tokens
 abbrev pub passes : (m : Mode) → State m → List ℕ → List Kind → Option (Passed m)
 passes m q before [] = Some (record { state = q; levels = before })
-passes m q before (k ∷ ks) = option_and_then (λ r. passes m r (mark m r ∷ before) ks) (next m q k)
+passes m q before (k ∷ ks) = option_and_then (λ r. passes m r (last_level m r ∷ before) ks) (next m q k)
