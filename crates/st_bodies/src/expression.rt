@@ -6,7 +6,7 @@ ghost use Rattle.st_grammar.specs.inner.Steps.{shallower};
 ghost use Rattle.st_bodies.specs.inner.BodyStates.{measured_of};
 
 use s7_base::{Boxed, Line, NoMemory};
-use st_grammar::{Literal, Measured, OneOperand, Prefix};
+use st_grammar::{Fixed, Literal, Measured, OneOperand, Prefix};
 use st_tree::{BinaryOp, RawExpr, RawVar, ShiftOp, StType, UnaryOp};
 use std::alloc::Global;
 
@@ -108,6 +108,13 @@ pub fn boxed(alloc: Global, operand: Measured) -> Result<BoxedExpression, NoMemo
         tree: Boxed::new(alloc, operand.tree)?,
         height: operand.height,
     })
+}
+
+/// An expression that has ended, and the word or the sign at which it did.
+#[derive(Drop)]
+pub struct EndedExpression {
+    pub value: Measured,
+    pub word: Fixed,
 }
 
 /// `-` or NOT on an operand.

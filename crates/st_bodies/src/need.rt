@@ -6,9 +6,9 @@ ghost use Rattle.st_grammar.specs.declared.kind.Kind.TheVariants as kind;
 ghost use Rattle.st_bodies.specs.inner.BodyStates.{begun_statement_of, leads_to, measured_of, need_of, stack_of};
 
 use crate::body_state::{BegunStatement, Body, BodyState, Cases, Need, Part};
-use crate::expression::{BoxedExpression, boxed};
+use crate::expression::{BoxedExpression, EndedExpression, boxed};
 use s7_base::{Boxed, List, NoMemory, Width};
-use st_grammar::{Fixed, Measured};
+use st_grammar::Fixed;
 use st_tree::{RawArm, RawStmt, RawStmtKind, RawVar};
 use std::alloc::Global;
 
@@ -17,13 +17,13 @@ fn assigned(
     at: &mut BodyState,
     mut begun: BegunStatement,
     var: RawVar,
-    value: Measured,
-    word: Fixed,
+    ended: EndedExpression,
 ) -> Result<bool, NoMemory>
     ensures { IfOk result (λ goes. leads_to goes at.new
         ≡ need_closed code at.old.depth (stack_of at.old.frames)
-        (begun_statement_of begun) (to_var var) value (kind.Fixed word)) }
+        (begun_statement_of begun) (to_var var) ended.value (kind.Fixed ended.word)) }
 {
+    let EndedExpression { value, word } = ended;
     let Fixed::Semicolon = word else {
         drop(value);
         return Ok(false);
@@ -42,18 +42,18 @@ fn pointer_closed(
     at: &mut BodyState,
     begun: BegunStatement,
     width: Width,
-    pointer: Measured,
-    word: Fixed,
+    ended: EndedExpression,
 ) -> Result<bool, NoMemory>
     ensures { IfOk result (λ goes. leads_to goes at.new
         ≡ need_closed code at.old.depth (stack_of at.old.frames)
-        (begun_statement_of begun) (to_area width) pointer (kind.Fixed word)) }
+        (begun_statement_of begun) (to_area width) ended.value (kind.Fixed ended.word)) }
 {
+    let EndedExpression { value, word } = ended;
     let Fixed::Comma = word else {
-        drop(pointer);
+        drop(value);
         return Ok(false);
     };
-    let pointer = boxed(alloc, pointer)?;
+    let pointer = boxed(alloc, value)?;
     at.wait(begun, Need::AreaValue(width, pointer))?;
     Ok(true)
 }
@@ -65,13 +65,13 @@ fn written(
     begun: BegunStatement,
     width: Width,
     pointer: BoxedExpression,
-    value: Measured,
-    word: Fixed,
+    ended: EndedExpression,
 ) -> Result<bool, NoMemory>
     ensures { IfOk result (λ goes. leads_to goes at.new
         ≡ need_closed code at.old.depth (stack_of at.old.frames)
-        (begun_statement_of begun) (area_value width (measured_of pointer)) value (kind.Fixed word)) }
+        (begun_statement_of begun) (area_value width (measured_of pointer)) ended.value (kind.Fixed ended.word)) }
 {
+    let EndedExpression { value, word } = ended;
     let Fixed::Close = word else {
         drop(value);
         return Ok(false);
@@ -90,13 +90,13 @@ fn tested(
     at: &mut BodyState,
     begun: BegunStatement,
     arms: List<RawArm>,
-    value: Measured,
-    word: Fixed,
+    ended: EndedExpression,
 ) -> Result<bool, NoMemory>
     ensures { IfOk result (λ goes. leads_to goes at.new
         ≡ need_closed code at.old.depth (stack_of at.old.frames)
-        (begun_statement_of begun) (test arms) value (kind.Fixed word)) }
+        (begun_statement_of begun) (test arms) ended.value (kind.Fixed ended.word)) }
 {
+    let EndedExpression { value, word } = ended;
     let Fixed::Then = word else {
         drop(value);
         return Ok(false);
@@ -111,13 +111,13 @@ fn selected(
     alloc: Global,
     at: &mut BodyState,
     begun: BegunStatement,
-    value: Measured,
-    word: Fixed,
+    ended: EndedExpression,
 ) -> Result<bool, NoMemory>
     ensures { IfOk result (λ goes. leads_to goes at.new
         ≡ need_closed code at.old.depth (stack_of at.old.frames)
-        (begun_statement_of begun) selector value (kind.Fixed word)) }
+        (begun_statement_of begun) selector ended.value (kind.Fixed ended.word)) }
 {
+    let EndedExpression { value, word } = ended;
     let Fixed::Of = word else {
         drop(value);
         return Ok(false);
@@ -135,13 +135,13 @@ fn loop_tested(
     alloc: Global,
     at: &mut BodyState,
     begun: BegunStatement,
-    value: Measured,
-    word: Fixed,
+    ended: EndedExpression,
 ) -> Result<bool, NoMemory>
     ensures { IfOk result (λ goes. leads_to goes at.new
         ≡ need_closed code at.old.depth (stack_of at.old.frames)
-        (begun_statement_of begun) loop_test value (kind.Fixed word)) }
+        (begun_statement_of begun) loop_test ended.value (kind.Fixed ended.word)) }
 {
+    let EndedExpression { value, word } = ended;
     let Fixed::Do = word else {
         drop(value);
         return Ok(false);
@@ -157,19 +157,18 @@ pub fn need_closed(
     at: &mut BodyState,
     begun: BegunStatement,
     need: Need,
-    value: Measured,
-    word: Fixed,
+    ended: EndedExpression,
 ) -> Result<bool, NoMemory>
     ensures { IfOk result (λ goes. leads_to goes at.new
         ≡ need_closed code at.old.depth (stack_of at.old.frames)
-        (begun_statement_of begun) (need_of need) value (kind.Fixed word)) }
+        (begun_statement_of begun) (need_of need) ended.value (kind.Fixed ended.word)) }
 {
     match need {
-        Need::ToVar(var) => assigned(at, begun, var, value, word),
-        Need::ToArea(width) => pointer_closed(alloc, at, begun, width, value, word),
-        Need::AreaValue(width, pointer) => written(alloc, at, begun, width, pointer, value, word),
-        Need::Test(arms) => tested(alloc, at, begun, arms, value, word),
-        Need::Selector => selected(alloc, at, begun, value, word),
-        Need::LoopTest => loop_tested(alloc, at, begun, value, word),
+        Need::ToVar(var) => assigned(at, begun, var, ended),
+        Need::ToArea(width) => pointer_closed(alloc, at, begun, width, ended),
+        Need::AreaValue(width, pointer) => written(alloc, at, begun, width, pointer, ended),
+        Need::Test(arms) => tested(alloc, at, begun, arms, ended),
+        Need::Selector => selected(alloc, at, begun, ended),
+        Need::LoopTest => loop_tested(alloc, at, begun, ended),
     }
 }

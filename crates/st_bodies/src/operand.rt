@@ -7,8 +7,8 @@ ghost use Rattle.st_bodies.specs.inner.BodyStates.{argument_of, binds, leads_to,
 
 use crate::body_state::{Argument, BodyState, Frame};
 use crate::expression::{
-    boxed, infix_level, is_value, of_apply, of_infix, of_literal, of_prefix, of_select, of_shift,
-    of_variable, prefix_level,
+    EndedExpression, boxed, infix_level, is_value, of_apply, of_infix, of_literal, of_prefix,
+    of_select, of_shift, of_variable, prefix_level,
 };
 use crate::need::need_closed;
 use s7_base::NoMemory;
@@ -216,36 +216,33 @@ fn argument_closed(
 }
 
 /// An expression ends at a token that is no operator.
-fn closed(
-    alloc: Global,
-    at: &mut BodyState,
-    operand: Measured,
-    kind: Kind,
-) -> Result<bool, NoMemory>
+fn closed(alloc: Global, at: &mut BodyState, value: Measured, kind: Kind) -> Result<bool, NoMemory>
     ensures { IfOk result (λ goes. leads_to goes at.new
-        ≡ closed code at.old.depth (stack_of at.old.frames) operand kind) }
+        ≡ closed code at.old.depth (stack_of at.old.frames) value kind) }
 {
     let frame = at.frames.pop();
     let Kind::Fixed(word) = kind else {
         drop(frame);
-        drop(operand);
+        drop(value);
         return Ok(false);
     };
     match frame {
         Some(Frame::Bracket) => {
             let Fixed::Close = word else {
-                drop(operand);
+                drop(value);
                 return Ok(false);
             };
             at.rise();
-            at.go_operator(operand);
+            at.go_operator(value);
             Ok(true)
         }
-        Some(Frame::Argument(argument)) => argument_closed(alloc, at, argument, operand, word),
-        Some(Frame::Waiting(begun, need)) => need_closed(alloc, at, begun, need, operand, word),
+        Some(Frame::Argument(argument)) => argument_closed(alloc, at, argument, value, word),
+        Some(Frame::Waiting(begun, need)) => {
+            need_closed(alloc, at, begun, need, EndedExpression { value, word })
+        }
         other => {
             drop(other);
-            drop(operand);
+            drop(value);
             Ok(false)
         }
     }
