@@ -34,6 +34,13 @@ pub struct Cases {
     pub arms: List<RawCaseArm>,
 }
 
+/// An area write whose value is read: its width, and its pointer.
+#[derive(Drop)]
+pub struct BegunWrite {
+    pub width: Width,
+    pub pointer: BoxedExpression,
+}
+
 /// An operand of a function, with those before it.
 #[derive(Drop)]
 pub enum Argument {
@@ -66,7 +73,7 @@ pub enum Need {
     ToArea(Width),
 
     /// The value of an area write, after its pointer.
-    AreaValue(Width, BoxedExpression),
+    AreaValue(BegunWrite),
 
     /// The test of an arm of an IF, after these arms.
     Test(List<RawArm>),

@@ -5,8 +5,8 @@ ghost use Rattle.st_grammar.specs.inner.Steps.{need_closed};
 ghost use Rattle.st_grammar.specs.declared.kind.Kind.TheVariants as kind;
 ghost use Rattle.st_bodies.specs.inner.BodyStates.{begun_statement_of, leads_to, measured_of, need_of, stack_of};
 
-use crate::body_state::{BegunStatement, Body, BodyState, Cases, Need, Part};
-use crate::expression::{BoxedExpression, EndedExpression, boxed};
+use crate::body_state::{BegunStatement, BegunWrite, Body, BodyState, Cases, Need, Part};
+use crate::expression::{EndedExpression, boxed};
 use s7_base::{Boxed, List, NoMemory, Width};
 use st_grammar::Fixed;
 use st_tree::{RawArm, RawStmt, RawStmtKind, RawVar};
@@ -54,7 +54,7 @@ fn pointer_closed(
         return Ok(false);
     };
     let pointer = boxed(alloc, value)?;
-    at.wait(begun, Need::AreaValue(width, pointer))?;
+    at.wait(begun, Need::AreaValue(BegunWrite { width, pointer }))?;
     Ok(true)
 }
 
@@ -63,19 +63,20 @@ fn written(
     alloc: Global,
     at: &mut BodyState,
     begun: BegunStatement,
-    width: Width,
-    pointer: BoxedExpression,
+    write: BegunWrite,
     ended: EndedExpression,
 ) -> Result<bool, NoMemory>
     ensures { IfOk result (λ goes. leads_to goes at.new
         ≡ need_closed code at.old.depth (stack_of at.old.frames)
-        (begun_statement_of begun) (area_value width (measured_of pointer)) ended.value (kind.Fixed ended.word)) }
+        (begun_statement_of begun) (area_value write.width (measured_of write.pointer)) ended.value
+        (kind.Fixed ended.word)) }
 {
     let EndedExpression { value, word } = ended;
     let Fixed::Close = word else {
         drop(value);
         return Ok(false);
     };
+    let BegunWrite { width, pointer } = write;
     let value = boxed(alloc, value)?;
     at.close(
         alloc,
@@ -166,7 +167,7 @@ pub fn need_closed(
     match need {
         Need::ToVar(var) => assigned(at, begun, var, ended),
         Need::ToArea(width) => pointer_closed(alloc, at, begun, width, ended),
-        Need::AreaValue(width, pointer) => written(alloc, at, begun, width, pointer, ended),
+        Need::AreaValue(write) => written(alloc, at, begun, write, ended),
         Need::Test(arms) => tested(alloc, at, begun, arms, ended),
         Need::Selector => selected(alloc, at, begun, ended),
         Need::LoopTest => loop_tested(alloc, at, begun, ended),

@@ -43,7 +43,7 @@ argument_of (argument.Second e f) = machine.second (measured_of e) (measured_of 
 abbrev pub need_of : Need → machine.Need code
 need_of (need.ToVar v) = machine.to_var v
 need_of (need.ToArea w) = machine.to_area w
-need_of (need.AreaValue w e) = machine.area_value w (measured_of e)
+need_of (need.AreaValue w) = machine.area_value w.width (measured_of w.pointer)
 need_of (need.Test arms) = machine.test arms
 need_of need.Selector = machine.selector
 need_of need.LoopTest = machine.loop_test
