@@ -2,7 +2,7 @@
 ghost use Rattle.std.specs.Prelude.{◌≡◌, [], ◌∷◌, ◌++◌, Some, IfOk};
 ghost use Rattle.std.specs.List.{list_any};
 ghost use Rattle.st_grammar.specs.Grammar.{may_jump, case_of, label_tree};
-ghost use Rattle.st_grammar.specs.inner.Machine.{code, choosing, closing, of_cases_else, selecting, write_open, first_formal, next_formal, becoming, giving, given, labelled};
+ghost use Rattle.st_grammar.specs.inner.Machine.{code, choosing, otherwise, looping, selecting, otherwise_case, closing, of_cases_else, write_open, first_formal, next_formal, becoming, giving, given, labelled};
 ghost use Rattle.st_grammar.specs.inner.Steps.{shallower, body_state, is_loop, in_loop, body_closed, in_body, at_lead, at_statement, at_target, at_label, at_call, at_part, at_closing, step_at};
 ghost use Rattle.st_grammar.specs.declared.kind.Kind.TheVariants as kind;
 ghost use Rattle.st_grammar.specs.declared.kind.Lead.TheVariants as lead;
@@ -46,6 +46,13 @@ fn may_jump(inside: bool, jump: Jump) -> bool
     }
 }
 
+/// Statements inside another one that have ended, and the token at which they did.
+#[derive(Drop)]
+struct EndedStatements {
+    body: List<RawStmt>,
+    kind: Kind,
+}
+
 /// The statements of an arm of an IF end.
 fn choosing_closed(
     alloc: Global,
@@ -53,13 +60,13 @@ fn choosing_closed(
     begun: BegunStatement,
     mut arms: List<RawArm>,
     test: BoxedExpression,
-    body: List<RawStmt>,
-    kind: Kind,
+    ended: EndedStatements,
 ) -> Result<bool, NoMemory>
     ensures { IfOk result (λ goes. leads_to goes at.new
         ≡ body_closed code at.old.depth (stack_of at.old.frames)
-        (begun_statement_of begun) (choosing arms (measured_of test)) body kind) }
+        (begun_statement_of begun) (choosing arms (measured_of test)) ended.body ended.kind) }
 {
+    let EndedStatements { body, kind } = ended;
     let Kind::Fixed(word) = kind else {
         return Ok(false);
     };
@@ -120,15 +127,15 @@ fn case_closed(
     at: &mut BodyState,
     begun: BegunStatement,
     cases: Boxed<Cases>,
-    otherwise: List<RawStmt>,
+    body: List<RawStmt>,
 ) -> Result<bool, NoMemory>
     ensures { IfOk result (λ goes. leads_to goes at.new
         ≡ Some (body_state code (shallower at.old.depth) (stack_of at.old.frames)
-        (closing begun.before (of_cases_else code begun.line (measured_of cases.selector) cases.arms otherwise)))) }
+        (closing begun.before (of_cases_else code begun.line (measured_of cases.selector) cases.arms body)))) }
 {
     let Cases { selector, arms } = cases.into_inner();
     let selector = selector.tree.into_inner();
-    at.close(alloc, begun, RawStmtKind::Case(selector, arms, otherwise))
+    at.close(alloc, begun, RawStmtKind::Case(selector, arms, body))
 }
 
 /// The statements of an arm of a CASE end.
@@ -138,13 +145,13 @@ fn selecting_closed(
     begun: BegunStatement,
     cases: Boxed<Cases>,
     labels: List<(StType, i64)>,
-    body: List<RawStmt>,
-    kind: Kind,
+    ended: EndedStatements,
 ) -> Result<bool, NoMemory>
     ensures { IfOk result (λ goes. leads_to goes at.new
         ≡ body_closed code at.old.depth (stack_of at.old.frames)
-        (begun_statement_of begun) (selecting (measured_of cases.selector) cases.arms labels) body kind) }
+        (begun_statement_of begun) (selecting (measured_of cases.selector) cases.arms labels) ended.body ended.kind) }
 {
+    let EndedStatements { body, kind } = ended;
     let cases = with_case(alloc, cases, labels, body)?;
     match kind {
         Kind::Literal(literal) => at_label(at, begun, cases, List::new(alloc), literal),
@@ -157,41 +164,86 @@ fn selecting_closed(
     }
 }
 
+/// The statements after the ELSE of an IF end.
+fn otherwise_closed(
+    alloc: Global,
+    at: &mut BodyState,
+    begun: BegunStatement,
+    arms: List<RawArm>,
+    ended: EndedStatements,
+) -> Result<bool, NoMemory>
+    ensures { IfOk result (λ goes. leads_to goes at.new
+        ≡ body_closed code at.old.depth (stack_of at.old.frames)
+        (begun_statement_of begun) (otherwise arms) ended.body ended.kind) }
+{
+    let EndedStatements { body, kind } = ended;
+    let Kind::Fixed(Fixed::EndIf) = kind else {
+        return Ok(false);
+    };
+    at.close(alloc, begun, RawStmtKind::If(arms, body))
+}
+
+/// The statements of a WHILE end.
+fn looping_closed(
+    alloc: Global,
+    at: &mut BodyState,
+    begun: BegunStatement,
+    test: BoxedExpression,
+    ended: EndedStatements,
+) -> Result<bool, NoMemory>
+    ensures { IfOk result (λ goes. leads_to goes at.new
+        ≡ body_closed code at.old.depth (stack_of at.old.frames)
+        (begun_statement_of begun) (looping (measured_of test)) ended.body ended.kind) }
+{
+    let EndedStatements { body, kind } = ended;
+    let Kind::Fixed(Fixed::EndWhile) = kind else {
+        return Ok(false);
+    };
+    at.close(
+        alloc,
+        begun,
+        RawStmtKind::While(test.tree.into_inner(), body),
+    )
+}
+
+/// The statements after the ELSE of a CASE end.
+fn otherwise_case_closed(
+    alloc: Global,
+    at: &mut BodyState,
+    begun: BegunStatement,
+    cases: Boxed<Cases>,
+    ended: EndedStatements,
+) -> Result<bool, NoMemory>
+    ensures { IfOk result (λ goes. leads_to goes at.new
+        ≡ body_closed code at.old.depth (stack_of at.old.frames)
+        (begun_statement_of begun) (otherwise_case (measured_of cases.selector) cases.arms) ended.body ended.kind) }
+{
+    let EndedStatements { body, kind } = ended;
+    let Kind::Fixed(Fixed::EndCase) = kind else {
+        return Ok(false);
+    };
+    case_closed(alloc, at, begun, cases, body)
+}
+
 /// Statements inside another one end.
 fn body_closed(
     alloc: Global,
     at: &mut BodyState,
     begun: BegunStatement,
     outer: Body,
-    body: List<RawStmt>,
-    kind: Kind,
+    ended: EndedStatements,
 ) -> Result<bool, NoMemory>
     ensures { IfOk result (λ goes. leads_to goes at.new
-        ≡ body_closed code at.old.depth (stack_of at.old.frames) (begun_statement_of begun) (body_of outer) body kind) }
+        ≡ body_closed code at.old.depth (stack_of at.old.frames)
+        (begun_statement_of begun) (body_of outer) ended.body ended.kind) }
 {
-    let statement = match outer {
-        Body::Choosing(arms, test) => {
-            return choosing_closed(alloc, at, begun, arms, test, body, kind);
-        }
-        Body::Selecting(cases, labels) => {
-            return selecting_closed(alloc, at, begun, cases, labels, body, kind);
-        }
-        Body::Otherwise(arms) => match kind {
-            Kind::Fixed(Fixed::EndIf) => RawStmtKind::If(arms, body),
-            _ => return Ok(false),
-        },
-        Body::Looping(test) => match kind {
-            Kind::Fixed(Fixed::EndWhile) => RawStmtKind::While(test.tree.into_inner(), body),
-            _ => return Ok(false),
-        },
-        Body::OtherwiseCase(cases) => match kind {
-            Kind::Fixed(Fixed::EndCase) => {
-                return case_closed(alloc, at, begun, cases, body);
-            }
-            _ => return Ok(false),
-        },
-    };
-    at.close(alloc, begun, statement)
+    match outer {
+        Body::Choosing(arms, test) => choosing_closed(alloc, at, begun, arms, test, ended),
+        Body::Otherwise(arms) => otherwise_closed(alloc, at, begun, arms, ended),
+        Body::Looping(test) => looping_closed(alloc, at, begun, test, ended),
+        Body::Selecting(cases, labels) => selecting_closed(alloc, at, begun, cases, labels, ended),
+        Body::OtherwiseCase(cases) => otherwise_case_closed(alloc, at, begun, cases, ended),
+    }
 }
 
 /// A token that begins no statement ends those of the innermost open one, or cannot follow.
@@ -205,7 +257,9 @@ fn in_body(
         ≡ in_body code at.old.depth (stack_of at.old.frames) body kind) }
 {
     match at.frames.pop() {
-        Some(Frame::Within(begun, outer)) => body_closed(alloc, at, begun, outer, body, kind),
+        Some(Frame::Within(begun, outer)) => {
+            body_closed(alloc, at, begun, outer, EndedStatements { body, kind })
+        }
         other => {
             drop(other);
             Ok(false)
