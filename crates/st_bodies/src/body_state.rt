@@ -34,6 +34,13 @@ pub struct Cases {
     pub arms: List<RawCaseArm>,
 }
 
+/// An arm of an IF whose statements are read: the arms before it, and its test.
+#[derive(Drop)]
+pub struct BegunIfArm {
+    pub arms: List<RawArm>,
+    pub test: BoxedExpression,
+}
+
 /// An area write whose value is read: its width, and its pointer.
 #[derive(Drop)]
 pub struct BegunWrite {
@@ -88,8 +95,8 @@ pub enum Need {
 /// A statement whose own statements are read.
 #[derive(Drop)]
 pub enum Body {
-    /// An arm of an IF with this test, after these arms.
-    Choosing(List<RawArm>, BoxedExpression),
+    /// An arm of an IF.
+    Choosing(BegunIfArm),
 
     /// The statements after the ELSE of an IF.
     Otherwise(List<RawArm>),

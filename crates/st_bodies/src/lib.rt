@@ -6,7 +6,8 @@
 #![tactic(auto)]
 
 pub use body_state::{
-    Argument, BegunStatement, BegunWrite, Body, BodyState, Call, Cases, Frame, Need, Part, Place,
+    Argument, BegunIfArm, BegunStatement, BegunWrite, Body, BodyState, Call, Cases, Frame, Need,
+    Part, Place,
 };
 pub use depth::is_deep_at;
 pub use expression::BoxedExpression;

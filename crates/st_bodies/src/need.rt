@@ -5,7 +5,9 @@ ghost use Rattle.st_grammar.specs.inner.Steps.{need_closed};
 ghost use Rattle.st_grammar.specs.declared.kind.Kind.TheVariants as kind;
 ghost use Rattle.st_bodies.specs.inner.BodyStates.{begun_statement_of, leads_to, measured_of, need_of, stack_of};
 
-use crate::body_state::{BegunStatement, BegunWrite, Body, BodyState, Cases, Need, Part};
+use crate::body_state::{
+    BegunIfArm, BegunStatement, BegunWrite, Body, BodyState, Cases, Need, Part,
+};
 use crate::expression::{EndedExpression, boxed};
 use s7_base::{Boxed, List, NoMemory, Width};
 use st_grammar::Fixed;
@@ -102,8 +104,8 @@ fn tested(
         drop(value);
         return Ok(false);
     };
-    let value = boxed(alloc, value)?;
-    at.enter(alloc, begun, Body::Choosing(arms, value))?;
+    let test = boxed(alloc, value)?;
+    at.enter(alloc, begun, Body::Choosing(BegunIfArm { arms, test }))?;
     Ok(true)
 }
 

@@ -8,7 +8,9 @@ ghost use Rattle.st_grammar.specs.declared.kind.Kind.TheVariants as kind;
 ghost use Rattle.st_grammar.specs.declared.kind.Lead.TheVariants as lead;
 ghost use Rattle.st_bodies.specs.inner.BodyStates.{begun_statement_of, body_of, frame_of, leads_to, measured_of, part_of, place_of, stack_of};
 
-use crate::body_state::{BegunStatement, Body, BodyState, Call, Cases, Frame, Need, Part, Place};
+use crate::body_state::{
+    BegunIfArm, BegunStatement, Body, BodyState, Call, Cases, Frame, Need, Part, Place,
+};
 use crate::expression::{BoxedExpression, is_value, label_of};
 use crate::operand::{at_opening, at_operand, at_operator};
 use s7_base::{Boxed, Line, List, NoMemory, Width};
@@ -58,18 +60,18 @@ fn choosing_closed(
     alloc: Global,
     at: &mut BodyState,
     begun: BegunStatement,
-    mut arms: List<RawArm>,
-    test: BoxedExpression,
+    arm: BegunIfArm,
     ended: EndedStatements,
 ) -> Result<bool, NoMemory>
     ensures { IfOk result (λ goes. leads_to goes at.new
         ≡ body_closed code at.old.depth (stack_of at.old.frames)
-        (begun_statement_of begun) (choosing arms (measured_of test)) ended.body ended.kind) }
+        (begun_statement_of begun) (choosing arm.arms (measured_of arm.test)) ended.body ended.kind) }
 {
     let EndedStatements { body, kind } = ended;
     let Kind::Fixed(word) = kind else {
         return Ok(false);
     };
+    let BegunIfArm { mut arms, test } = arm;
     arms.push(RawArm {
         test: test.tree.into_inner(),
         body,
@@ -238,7 +240,7 @@ fn body_closed(
         (begun_statement_of begun) (body_of outer) ended.body ended.kind) }
 {
     match outer {
-        Body::Choosing(arms, test) => choosing_closed(alloc, at, begun, arms, test, ended),
+        Body::Choosing(arm) => choosing_closed(alloc, at, begun, arm, ended),
         Body::Otherwise(arms) => otherwise_closed(alloc, at, begun, arms, ended),
         Body::Looping(test) => looping_closed(alloc, at, begun, test, ended),
         Body::Selecting(cases, labels) => selecting_closed(alloc, at, begun, cases, labels, ended),

@@ -50,7 +50,7 @@ need_of need.LoopTest = machine.loop_test
 
 -- a statement whose own statements are read
 abbrev pub body_of : Body → machine.Body code
-body_of (body.Choosing arms e) = machine.choosing arms (measured_of e)
+body_of (body.Choosing arm) = machine.choosing arm.arms (measured_of arm.test)
 body_of (body.Otherwise arms) = machine.otherwise arms
 body_of (body.Looping e) = machine.looping (measured_of e)
 body_of (body.Selecting c labels) = machine.selecting (measured_of c.selector) c.arms labels
