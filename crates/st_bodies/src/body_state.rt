@@ -41,6 +41,13 @@ pub struct BegunIfArm {
     pub test: BoxedExpression,
 }
 
+/// An arm of a CASE while it is read: the CASE with the arms before it, and its labels so far.
+#[derive(Drop)]
+pub struct BegunCaseArm {
+    pub cases: Boxed<Cases>,
+    pub labels: List<(StType, i64)>,
+}
+
 /// An area write whose value is read: its width, and its pointer.
 #[derive(Drop)]
 pub struct BegunWrite {
@@ -104,8 +111,8 @@ pub enum Body {
     /// The statements of a WHILE with this test.
     Looping(BoxedExpression),
 
-    /// An arm of a CASE with these labels.
-    Selecting(Boxed<Cases>, List<(StType, i64)>),
+    /// An arm of a CASE.
+    Selecting(BegunCaseArm),
 
     /// The statements after the ELSE of a CASE.
     OtherwiseCase(Boxed<Cases>),
@@ -161,10 +168,10 @@ pub enum Part {
     FirstLabel(Boxed<Cases>),
 
     /// A further label of an arm, after a comma.
-    NextLabel(Boxed<Cases>, List<(StType, i64)>),
+    NextLabel(BegunCaseArm),
 
     /// The comma or the `:` after a label.
-    Labelled(Boxed<Cases>, List<(StType, i64)>),
+    Labelled(BegunCaseArm),
 }
 
 /// What may come next in statements. It is moved at each token, so what is large and rare stands in a box.

@@ -9,13 +9,14 @@ ghost use Rattle.st_grammar.specs.declared.kind.Lead.TheVariants as lead;
 ghost use Rattle.st_bodies.specs.inner.BodyStates.{begun_statement_of, body_of, frame_of, leads_to, measured_of, part_of, place_of, stack_of};
 
 use crate::body_state::{
-    BegunIfArm, BegunStatement, Body, BodyState, Call, Cases, Frame, Need, Part, Place,
+    BegunCaseArm, BegunIfArm, BegunStatement, Body, BodyState, Call, Cases, Frame, Need, Part,
+    Place,
 };
 use crate::expression::{BoxedExpression, is_value, label_of};
 use crate::operand::{at_opening, at_operand, at_operator};
 use s7_base::{Boxed, Line, List, NoMemory, Width};
 use st_grammar::{Fixed, Jump, Kind, Lead, Literal};
-use st_tree::{RawArm, RawCaseArm, RawStmt, RawStmtKind, RawVar, StType};
+use st_tree::{RawArm, RawCaseArm, RawStmt, RawStmtKind, RawVar};
 use std::alloc::Global;
 use std::mem::replace;
 
@@ -91,33 +92,32 @@ fn choosing_closed(
 fn at_label(
     at: &mut BodyState,
     begun: BegunStatement,
-    cases: Boxed<Cases>,
-    mut labels: List<(StType, i64)>,
+    mut arm: BegunCaseArm,
     literal: Literal,
 ) -> Result<bool, NoMemory>
     ensures { IfOk result (λ goes. leads_to goes at.new
         ≡ at_label code at.old.depth (stack_of at.old.frames)
-        (begun_statement_of begun) (measured_of cases.selector) cases.arms
-        (λ c. labels ++ label_tree c ∷ []) (kind.Literal literal)) }
+        (begun_statement_of begun) (measured_of arm.cases.selector) arm.cases.arms
+        (λ c. arm.labels ++ label_tree c ∷ []) (kind.Literal literal)) }
 {
     if !is_value(literal) {
         return Ok(false);
     }
-    labels.push(label_of(literal))?;
-    at.go_part(begun, Part::Labelled(cases, labels));
+    arm.labels.push(label_of(literal))?;
+    at.go_part(begun, Part::Labelled(arm));
     Ok(true)
 }
 
 /// A CASE with one more arm.
 fn with_case(
     alloc: Global,
-    cases: Boxed<Cases>,
-    labels: List<(StType, i64)>,
+    arm: BegunCaseArm,
     body: List<RawStmt>,
 ) -> Result<Boxed<Cases>, NoMemory>
     ensures { IfOk result (λ more. more
-        ≡ record { selector = cases.selector; arms = cases.arms ++ case_of labels body ∷ [] }) }
+        ≡ record { selector = arm.cases.selector; arms = arm.cases.arms ++ case_of arm.labels body ∷ [] }) }
 {
+    let BegunCaseArm { cases, labels } = arm;
     let Cases { selector, mut arms } = cases.into_inner();
     arms.push(RawCaseArm { labels, body })?;
     Boxed::new(alloc, Cases { selector, arms })
@@ -145,18 +145,21 @@ fn selecting_closed(
     alloc: Global,
     at: &mut BodyState,
     begun: BegunStatement,
-    cases: Boxed<Cases>,
-    labels: List<(StType, i64)>,
+    arm: BegunCaseArm,
     ended: EndedStatements,
 ) -> Result<bool, NoMemory>
     ensures { IfOk result (λ goes. leads_to goes at.new
         ≡ body_closed code at.old.depth (stack_of at.old.frames)
-        (begun_statement_of begun) (selecting (measured_of cases.selector) cases.arms labels) ended.body ended.kind) }
+        (begun_statement_of begun) (selecting (measured_of arm.cases.selector) arm.cases.arms arm.labels)
+        ended.body ended.kind) }
 {
     let EndedStatements { body, kind } = ended;
-    let cases = with_case(alloc, cases, labels, body)?;
+    let cases = with_case(alloc, arm, body)?;
     match kind {
-        Kind::Literal(literal) => at_label(at, begun, cases, List::new(alloc), literal),
+        Kind::Literal(literal) => {
+            let labels = List::new(alloc);
+            at_label(at, begun, BegunCaseArm { cases, labels }, literal)
+        }
         Kind::Fixed(Fixed::Else) => {
             at.enter(alloc, begun, Body::OtherwiseCase(cases))?;
             Ok(true)
@@ -243,7 +246,7 @@ fn body_closed(
         Body::Choosing(arm) => choosing_closed(alloc, at, begun, arm, ended),
         Body::Otherwise(arms) => otherwise_closed(alloc, at, begun, arms, ended),
         Body::Looping(test) => looping_closed(alloc, at, begun, test, ended),
-        Body::Selecting(cases, labels) => selecting_closed(alloc, at, begun, cases, labels, ended),
+        Body::Selecting(arm) => selecting_closed(alloc, at, begun, arm, ended),
         Body::OtherwiseCase(cases) => otherwise_case_closed(alloc, at, begun, cases, ended),
     }
 }
@@ -498,17 +501,16 @@ fn at_given(
 fn at_next_label(
     at: &mut BodyState,
     begun: BegunStatement,
-    cases: Boxed<Cases>,
-    labels: List<(StType, i64)>,
+    arm: BegunCaseArm,
     kind: Kind,
 ) -> Result<bool, NoMemory>
     ensures { IfOk result (λ goes. leads_to goes at.new
         ≡ at_label code at.old.depth (stack_of at.old.frames)
-        (begun_statement_of begun) (measured_of cases.selector) cases.arms
-        (λ c. labels ++ label_tree c ∷ []) kind) }
+        (begun_statement_of begun) (measured_of arm.cases.selector) arm.cases.arms
+        (λ c. arm.labels ++ label_tree c ∷ []) kind) }
 {
     match kind {
-        Kind::Literal(literal) => at_label(at, begun, cases, labels, literal),
+        Kind::Literal(literal) => at_label(at, begun, arm, literal),
         _ => Ok(false),
     }
 }
@@ -518,17 +520,16 @@ fn at_labelled(
     alloc: Global,
     at: &mut BodyState,
     begun: BegunStatement,
-    cases: Boxed<Cases>,
-    labels: List<(StType, i64)>,
+    arm: BegunCaseArm,
     kind: Kind,
 ) -> Result<bool, NoMemory>
     ensures { IfOk result (λ goes. leads_to goes at.new
         ≡ at_part code at.old.depth (stack_of at.old.frames)
-        (begun_statement_of begun) (labelled (measured_of cases.selector) cases.arms labels) kind) }
+        (begun_statement_of begun) (labelled (measured_of arm.cases.selector) arm.cases.arms arm.labels) kind) }
 {
     match kind {
-        Kind::Fixed(Fixed::Comma) => at.go_part(begun, Part::NextLabel(cases, labels)),
-        Kind::Fixed(Fixed::Colon) => at.enter(alloc, begun, Body::Selecting(cases, labels))?,
+        Kind::Fixed(Fixed::Comma) => at.go_part(begun, Part::NextLabel(arm)),
+        Kind::Fixed(Fixed::Colon) => at.enter(alloc, begun, Body::Selecting(arm))?,
         _ => return Ok(false),
     }
     Ok(true)
@@ -571,9 +572,12 @@ fn at_part(
         Part::Becoming(call, formal) => at_becoming(at, begun, call, formal, kind),
         Part::Giving(call, formal) => at_actual(alloc, at, begun, call, formal, kind),
         Part::Given(call) => at_given(alloc, at, begun, call, kind),
-        Part::FirstLabel(cases) => at_next_label(at, begun, cases, List::new(alloc), kind),
-        Part::NextLabel(cases, labels) => at_next_label(at, begun, cases, labels, kind),
-        Part::Labelled(cases, labels) => at_labelled(alloc, at, begun, cases, labels, kind),
+        Part::FirstLabel(cases) => {
+            let labels = List::new(alloc);
+            at_next_label(at, begun, BegunCaseArm { cases, labels }, kind)
+        }
+        Part::NextLabel(arm) => at_next_label(at, begun, arm, kind),
+        Part::Labelled(arm) => at_labelled(alloc, at, begun, arm, kind),
     }
 }
 

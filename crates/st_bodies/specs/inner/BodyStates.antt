@@ -53,7 +53,7 @@ abbrev pub body_of : Body → machine.Body code
 body_of (body.Choosing arm) = machine.choosing arm.arms (measured_of arm.test)
 body_of (body.Otherwise arms) = machine.otherwise arms
 body_of (body.Looping e) = machine.looping (measured_of e)
-body_of (body.Selecting c labels) = machine.selecting (measured_of c.selector) c.arms labels
+body_of (body.Selecting arm) = machine.selecting (measured_of arm.cases.selector) arm.cases.arms arm.labels
 body_of (body.OtherwiseCase c) = machine.otherwise_case (measured_of c.selector) c.arms
 
 -- what is open
@@ -89,8 +89,8 @@ part_of (part.Becoming c formal) = machine.becoming c.name c.actuals formal
 part_of (part.Giving c formal) = machine.giving c.name c.actuals formal
 part_of (part.Given c) = machine.given c.name c.actuals
 part_of (part.FirstLabel c) = machine.first_label (measured_of c.selector) c.arms
-part_of (part.NextLabel c labels) = machine.next_label (measured_of c.selector) c.arms labels
-part_of (part.Labelled c labels) = machine.labelled (measured_of c.selector) c.arms labels
+part_of (part.NextLabel arm) = machine.next_label (measured_of arm.cases.selector) arm.cases.arms arm.labels
+part_of (part.Labelled arm) = machine.labelled (measured_of arm.cases.selector) arm.cases.arms arm.labels
 
 -- what may come next in statements
 abbrev pub place_of : Place → machine.Place code
