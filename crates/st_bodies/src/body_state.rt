@@ -27,6 +27,13 @@ pub struct Call {
     pub actuals: List<(List<u8>, RawVar)>,
 }
 
+/// An actual while it is read: the call with those before it, and the name of its formal.
+#[derive(Drop)]
+pub struct BegunActual {
+    pub call: Boxed<Call>,
+    pub formal: List<u8>,
+}
+
 /// A CASE while it is read: its selector, and the arms so far.
 #[derive(Drop)]
 pub struct Cases {
@@ -156,10 +163,10 @@ pub enum Part {
     NextFormal(Boxed<Call>),
 
     /// The `:=` after a formal of a call.
-    Becoming(Boxed<Call>, List<u8>),
+    Becoming(BegunActual),
 
     /// The variable that a formal of a call is given.
-    Giving(Boxed<Call>, List<u8>),
+    Giving(BegunActual),
 
     /// The comma or the closing bracket after an actual of a call.
     Given(Boxed<Call>),

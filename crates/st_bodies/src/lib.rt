@@ -6,8 +6,8 @@
 #![tactic(auto)]
 
 pub use body_state::{
-    Argument, BegunCaseArm, BegunIfArm, BegunStatement, BegunWrite, Body, BodyState, Call, Cases,
-    Frame, Need, Part, Place,
+    Argument, BegunActual, BegunCaseArm, BegunIfArm, BegunStatement, BegunWrite, Body, BodyState,
+    Call, Cases, Frame, Need, Part, Place,
 };
 pub use depth::is_deep_at;
 pub use expression::BoxedExpression;

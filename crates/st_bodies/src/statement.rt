@@ -9,8 +9,8 @@ ghost use Rattle.st_grammar.specs.declared.kind.Lead.TheVariants as lead;
 ghost use Rattle.st_bodies.specs.inner.BodyStates.{begun_statement_of, body_of, frame_of, leads_to, measured_of, part_of, place_of, stack_of};
 
 use crate::body_state::{
-    BegunCaseArm, BegunIfArm, BegunStatement, Body, BodyState, Call, Cases, Frame, Need, Part,
-    Place,
+    BegunActual, BegunCaseArm, BegunIfArm, BegunStatement, Body, BodyState, Call, Cases, Frame,
+    Need, Part, Place,
 };
 use crate::expression::{BoxedExpression, is_value, label_of};
 use crate::operand::{at_opening, at_operand, at_operator};
@@ -383,7 +383,7 @@ fn at_formal(
 {
     match kind {
         Kind::Variable(RawVar::Name(formal), _) => {
-            at.go_part(begun, Part::Becoming(call, formal));
+            at.go_part(begun, Part::Becoming(BegunActual { call, formal }));
             Ok(true)
         }
         _ => Ok(false),
@@ -421,31 +421,26 @@ fn at_first_formal(
 fn at_becoming(
     at: &mut BodyState,
     begun: BegunStatement,
-    call: Boxed<Call>,
-    formal: List<u8>,
+    actual: BegunActual,
     kind: Kind,
 ) -> Result<bool, NoMemory>
     ensures { IfOk result (λ goes. leads_to goes at.new
         ≡ at_call code at.old.depth (stack_of at.old.frames)
-        (begun_statement_of begun) (becoming call.name call.actuals formal) kind) }
+        (begun_statement_of begun) (becoming actual.call.name actual.call.actuals actual.formal) kind) }
 {
     let Kind::Fixed(Fixed::Becomes) = kind else {
         return Ok(false);
     };
-    at.go_part(begun, Part::Giving(call, formal));
+    at.go_part(begun, Part::Giving(actual));
     Ok(true)
 }
 
 /// A call with one more actual.
-fn with_actual(
-    alloc: Global,
-    call: Boxed<Call>,
-    formal: List<u8>,
-    var: RawVar,
-) -> Result<Boxed<Call>, NoMemory>
+fn with_actual(alloc: Global, actual: BegunActual, var: RawVar) -> Result<Boxed<Call>, NoMemory>
     ensures { IfOk result (λ more. more
-        ≡ record { name = call.name; actuals = call.actuals ++ (formal, var) ∷ [] }) }
+        ≡ record { name = actual.call.name; actuals = actual.call.actuals ++ (actual.formal, var) ∷ [] }) }
 {
+    let BegunActual { call, formal } = actual;
     let Call { name, mut actuals } = call.into_inner();
     actuals.push((formal, var))?;
     Boxed::new(alloc, Call { name, actuals })
@@ -456,18 +451,17 @@ fn at_actual(
     alloc: Global,
     at: &mut BodyState,
     begun: BegunStatement,
-    call: Boxed<Call>,
-    formal: List<u8>,
+    actual: BegunActual,
     kind: Kind,
 ) -> Result<bool, NoMemory>
     ensures { IfOk result (λ goes. leads_to goes at.new
         ≡ at_call code at.old.depth (stack_of at.old.frames)
-        (begun_statement_of begun) (giving call.name call.actuals formal) kind) }
+        (begun_statement_of begun) (giving actual.call.name actual.call.actuals actual.formal) kind) }
 {
     let Kind::Variable(var, _) = kind else {
         return Ok(false);
     };
-    let call = with_actual(alloc, call, formal, var)?;
+    let call = with_actual(alloc, actual, var)?;
     at.go_part(begun, Part::Given(call));
     Ok(true)
 }
@@ -569,8 +563,8 @@ fn at_part(
         Part::WriteOpen(width) => at_write_open(at, begun, width, kind),
         Part::FirstFormal(name) => at_first_formal(alloc, at, begun, name, kind),
         Part::NextFormal(call) => at_formal(at, begun, call, kind),
-        Part::Becoming(call, formal) => at_becoming(at, begun, call, formal, kind),
-        Part::Giving(call, formal) => at_actual(alloc, at, begun, call, formal, kind),
+        Part::Becoming(actual) => at_becoming(at, begun, actual, kind),
+        Part::Giving(actual) => at_actual(alloc, at, begun, actual, kind),
         Part::Given(call) => at_given(alloc, at, begun, call, kind),
         Part::FirstLabel(cases) => {
             let labels = List::new(alloc);
