@@ -117,8 +117,8 @@ fn finish(state: State) -> Option<TextSoFar>
     match state {
         State::Start => {}
         State::Globals(globals) => drop(globals),
-        State::Row(globals, name, _line, row) => {
-            drop((globals, name));
+        State::Row(begun, row) => {
+            drop(begun);
             drop(row);
         }
         State::Between(text) | State::Heading(text, _, _) => drop(text),

@@ -5,6 +5,14 @@ use st_bodies::BodyState;
 use st_grammar::Heading;
 use st_tree::{RawGlobal, RawGlobalType, RawLocal, RawPou, RawVar, StType};
 
+/// A global that has begun: those before it, its name, and its line.
+#[derive(Drop)]
+pub struct BegunGlobal {
+    pub before: List<RawGlobal>,
+    pub name: List<u8>,
+    pub line: Line,
+}
+
 /// What may come next in a global, after its name: each is named by that token, and holds what was read
 /// before it.
 #[derive(Drop)]
@@ -71,7 +79,7 @@ pub enum State {
     Globals(List<RawGlobal>),
 
     /// In a global, after its name.
-    Row(List<RawGlobal>, List<u8>, Line, Row),
+    Row(BegunGlobal, Row),
 
     /// Before a unit, or the end of the text.
     Between(TextSoFar),

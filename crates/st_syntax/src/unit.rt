@@ -302,7 +302,7 @@ pub fn next(alloc: Global, state: State, kind: Kind) -> Result<Option<State>, No
     match state {
         State::Start => Ok(at_start(alloc, kind)),
         State::Globals(done) => Ok(at_globals(alloc, done, kind)),
-        State::Row(done, name, line, row) => at_row(alloc, done, name, line, row, kind),
+        State::Row(begun, row) => at_row(alloc, begun, row, kind),
         State::Between(text) => Ok(at_between(text, kind)),
         State::Heading(text, program, line) => Ok(at_heading(text, program, line, kind)),
         State::Opened(unit) => at_opened(alloc, unit, kind),

@@ -70,7 +70,7 @@ typing_step which x k = None
 abbrev pub state_of : State → machine.State code
 state_of state.Start = machine.start
 state_of (state.Globals done) = machine.globals done
-state_of (state.Row done name line x) = machine.row done name line (row_of x)
+state_of (state.Row begun x) = machine.row begun.before begun.name begun.line (row_of x)
 state_of (state.Between text) = machine.between (text_so_far_of text)
 state_of (state.Heading text program line) = machine.heading (text_so_far_of text) program line
 state_of (state.Opened begun) = machine.opened (begun_unit_of begun)
