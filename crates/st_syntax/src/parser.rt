@@ -124,8 +124,8 @@ fn finish(state: State) -> Option<TextSoFar>
         State::Between(text) | State::Heading(text, _, _) => drop(text),
         State::Opened(unit) => drop(unit),
         State::FormalsDone(unit, formals) => drop((unit, formals)),
-        State::Section(unit, which, done) => drop((unit, which, done)),
-        State::Typing(unit, which, done, name, _, _) => drop((unit, which, done, name)),
+        State::Section(section) => drop(section),
+        State::Typing(section, name, _, _) => drop((section, name)),
         State::Inside(unit, formals, locals, at) => {
             drop((unit, formals, locals));
             drop(at);

@@ -69,6 +69,14 @@ pub enum SectionKind {
     Temps(List<RawLocal>),
 }
 
+/// A section of a unit that has begun: the unit, which section it is, and what it declares so far.
+#[derive(Drop)]
+pub struct BegunSection {
+    pub unit: BegunUnit,
+    pub which: SectionKind,
+    pub done: List<RawLocal>,
+}
+
 /// Where the parser stands in a text.
 #[derive(Drop)]
 pub enum State {
@@ -94,10 +102,10 @@ pub enum State {
     FormalsDone(BegunUnit, List<RawLocal>),
 
     /// In a section of a unit, where a declaration may begin.
-    Section(BegunUnit, SectionKind, List<RawLocal>),
+    Section(BegunSection),
 
     /// In a declaration of a unit, after its name.
-    Typing(BegunUnit, SectionKind, List<RawLocal>, List<u8>, Line, Typing),
+    Typing(BegunSection, List<u8>, Line, Typing),
 
     /// In the statements of a unit, with its formals and its locals.
     Inside(BegunUnit, List<RawLocal>, List<RawLocal>, BodyState),

@@ -14,7 +14,7 @@ ghost use Rattle.st_syntax.specs.inner.Views.{
 };
 
 use crate::row::{at_globals, at_row};
-use crate::state::{BegunUnit, SectionKind, State, TextSoFar, Typing};
+use crate::state::{BegunSection, BegunUnit, SectionKind, State, TextSoFar, Typing};
 use s7_base::{Line, List, NoMemory};
 use st_bodies::{BodyState, step};
 use st_grammar::{Fixed, Heading, Kind, Lead};
@@ -86,9 +86,11 @@ fn may_type(which: &SectionKind, ty: StType) -> bool
     }
 }
 
-fn section_end(alloc: Global, unit: BegunUnit, which: SectionKind, done: List<RawLocal>) -> State
-    ensures { state_of result ≡ section_end code (begun_unit_of unit) (section_kind_of which) done }
+fn section_end(alloc: Global, section: BegunSection) -> State
+    ensures { state_of result
+        ≡ section_end code (begun_unit_of section.unit) (section_kind_of section.which) section.done }
 {
+    let BegunSection { unit, which, done } = section;
     match which {
         SectionKind::Formals => State::FormalsDone(unit, done),
         SectionKind::Temps(formals) => State::Inside(unit, formals, done, BodyState::new(alloc)),
@@ -96,26 +98,21 @@ fn section_end(alloc: Global, unit: BegunUnit, which: SectionKind, done: List<Ra
 }
 
 /// A token before the name of a formal or a local.
-fn at_section(
-    alloc: Global,
-    unit: BegunUnit,
-    which: SectionKind,
-    done: List<RawLocal>,
-    kind: Kind,
-) -> Option<State>
-    ensures { option_map state_of result ≡ at_section code (begun_unit_of unit) (section_kind_of which) done kind }
+fn at_section(alloc: Global, section: BegunSection, kind: Kind) -> Option<State>
+    ensures { option_map state_of result
+        ≡ at_section code (begun_unit_of section.unit) (section_kind_of section.which) section.done kind }
 {
     match kind {
         Kind::Variable(var, line) => match var {
             RawVar::Name(name) => {
-                if !may_name(&which, name.as_slice()) {
+                if !may_name(&section.which, name.as_slice()) {
                     return None;
                 }
-                Some(State::Typing(unit, which, done, name, line, Typing::Colon))
+                Some(State::Typing(section, name, line, Typing::Colon))
             }
             RawVar::Direct(..) => None,
         },
-        Kind::Fixed(Fixed::EndVar) => Some(section_end(alloc, unit, which, done)),
+        Kind::Fixed(Fixed::EndVar) => Some(section_end(alloc, section)),
         _ => None,
     }
 }
@@ -144,26 +141,25 @@ fn typing_step(which: &SectionKind, typing: Typing, kind: &Kind) -> Option<Typin
 
 /// A token of a formal or a local after its name.
 fn at_typing(
-    unit: BegunUnit,
-    which: SectionKind,
-    mut done: List<RawLocal>,
+    mut section: BegunSection,
     name: List<u8>,
     line: Line,
     typing: Typing,
     kind: Kind,
 ) -> Result<Option<State>, NoMemory>
     ensures { IfOk result (λ o. option_map state_of o
-        ≡ at_typing code (begun_unit_of unit) (section_kind_of which) done name line (typing_of typing) kind) }
+        ≡ at_typing code (begun_unit_of section.unit) (section_kind_of section.which) section.done name line
+        (typing_of typing) kind) }
 {
     if let Typing::End(ty) = typing {
         let Kind::Fixed(Fixed::Semicolon) = kind else {
             return Ok(None);
         };
-        done.push(RawLocal { name, line, ty })?;
-        return Ok(Some(State::Section(unit, which, done)));
+        section.done.push(RawLocal { name, line, ty })?;
+        return Ok(Some(State::Section(section)));
     }
-    match typing_step(&which, typing, &kind) {
-        Some(next) => Ok(Some(State::Typing(unit, which, done, name, line, next))),
+    match typing_step(&section.which, typing, &kind) {
+        Some(next) => Ok(Some(State::Typing(section, name, line, next))),
         None => Ok(None),
     }
 }
@@ -264,11 +260,11 @@ fn at_formals_done(
     ensures { IfOk result (λ o. option_map state_of o ≡ at_formals_done code (begun_unit_of unit) formals kind) }
 {
     match kind {
-        Kind::Fixed(Fixed::VarTemp) => Ok(Some(State::Section(
+        Kind::Fixed(Fixed::VarTemp) => Ok(Some(State::Section(BegunSection {
             unit,
-            SectionKind::Temps(formals),
-            List::new(alloc),
-        ))),
+            which: SectionKind::Temps(formals),
+            done: List::new(alloc),
+        }))),
         other => at_inside(
             alloc,
             unit,
@@ -289,7 +285,11 @@ fn at_opened(alloc: Global, unit: BegunUnit, kind: Kind) -> Result<Option<State>
             if unit.head.program {
                 return Ok(None);
             }
-            Ok(Some(State::Section(unit, SectionKind::Formals, List::new(alloc))))
+            Ok(Some(State::Section(BegunSection {
+                unit,
+                which: SectionKind::Formals,
+                done: List::new(alloc),
+            })))
         }
         other => at_formals_done(alloc, unit, List::new(alloc), other),
     }
@@ -307,10 +307,8 @@ pub fn next(alloc: Global, state: State, kind: Kind) -> Result<Option<State>, No
         State::Heading(text, program, line) => Ok(at_heading(text, program, line, kind)),
         State::Opened(unit) => at_opened(alloc, unit, kind),
         State::FormalsDone(unit, formals) => at_formals_done(alloc, unit, formals, kind),
-        State::Section(unit, which, done) => Ok(at_section(alloc, unit, which, done, kind)),
-        State::Typing(unit, which, done, name, line, typing) => {
-            at_typing(unit, which, done, name, line, typing, kind)
-        }
+        State::Section(section) => Ok(at_section(alloc, section, kind)),
+        State::Typing(section, name, line, typing) => at_typing(section, name, line, typing, kind),
         State::Inside(unit, formals, locals, at) => {
             at_inside(alloc, unit, formals, locals, at, kind)
         }

@@ -75,8 +75,9 @@ state_of (state.Between text) = machine.between (text_so_far_of text)
 state_of (state.Heading text program line) = machine.heading (text_so_far_of text) program line
 state_of (state.Opened begun) = machine.opened (begun_unit_of begun)
 state_of (state.FormalsDone begun before) = machine.formals_done (begun_unit_of begun) before
-state_of (state.Section begun which done) = machine.section (begun_unit_of begun) (section_kind_of which) done
-state_of (state.Typing begun which done name line x) =
-    machine.typing (begun_unit_of begun) (section_kind_of which) done name line (typing_of x)
+state_of (state.Section begun) =
+    machine.section (begun_unit_of begun.unit) (section_kind_of begun.which) begun.done
+state_of (state.Typing begun name line x) =
+    machine.typing (begun_unit_of begun.unit) (section_kind_of begun.which) begun.done name line (typing_of x)
 state_of (state.Inside begun before locals at) = machine.inside (begun_unit_of begun) before locals (body_state_of at)
 state_of (state.Over text) = machine.over (text_so_far_of text)
