@@ -35,7 +35,7 @@ fn is_deep(state: &State) -> bool
     ensures { result ≡ nat_lt deepest (level_reached (seen state.now)) }
 {
     match state {
-        State::Inside(_, _, _, at) => is_deep_at(at),
+        State::Inside(_, at) => is_deep_at(at),
         _ => false,
     }
 }
@@ -47,7 +47,7 @@ fn after_token(alloc: Global, state: &mut State, kind: Kind) -> Result<bool, NoM
     ensures { IfOk result (λ goes. leads_to goes state.new ≡ after_token (seen state.old) kind) }
 {
     let kind = match state {
-        State::Inside(_, _, _, at) => match kind {
+        State::Inside(_, at) => match kind {
             Kind::Fixed(Fixed::EndProgram) => Kind::Fixed(Fixed::EndProgram),
             Kind::Fixed(Fixed::EndFunction) => Kind::Fixed(Fixed::EndFunction),
             other => return step(alloc, at, other),
@@ -126,8 +126,8 @@ fn finish(state: State) -> Option<TextSoFar>
         State::FormalsDone(unit, formals) => drop((unit, formals)),
         State::Section(section) => drop(section),
         State::Typing(section, name, _, _) => drop((section, name)),
-        State::Inside(unit, formals, locals, at) => {
-            drop((unit, formals, locals));
+        State::Inside(unit, at) => {
+            drop(unit);
             drop(at);
         }
         State::Over(text) => return Some(text),

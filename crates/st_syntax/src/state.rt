@@ -77,6 +77,14 @@ pub struct BegunSection {
     pub done: List<RawLocal>,
 }
 
+/// A unit with its declarations: what stands before its statements.
+#[derive(Drop)]
+pub struct DeclaredUnit {
+    pub begun: BegunUnit,
+    pub formals: List<RawLocal>,
+    pub locals: List<RawLocal>,
+}
+
 /// Where the parser stands in a text.
 #[derive(Drop)]
 pub enum State {
@@ -107,8 +115,8 @@ pub enum State {
     /// In a declaration of a unit, after its name.
     Typing(BegunSection, List<u8>, Line, Typing),
 
-    /// In the statements of a unit, with its formals and its locals.
-    Inside(BegunUnit, List<RawLocal>, List<RawLocal>, BodyState),
+    /// In the statements of a unit.
+    Inside(DeclaredUnit, BodyState),
 
     /// After the end of the text.
     Over(TextSoFar),

@@ -14,7 +14,7 @@ ghost use Rattle.st_syntax.specs.inner.Views.{
 };
 
 use crate::row::{at_globals, at_row};
-use crate::state::{BegunSection, BegunUnit, SectionKind, State, TextSoFar, Typing};
+use crate::state::{BegunSection, BegunUnit, DeclaredUnit, SectionKind, State, TextSoFar, Typing};
 use s7_base::{Line, List, NoMemory};
 use st_bodies::{BodyState, step};
 use st_grammar::{Fixed, Heading, Kind, Lead};
@@ -93,7 +93,14 @@ fn section_end(alloc: Global, section: BegunSection) -> State
     let BegunSection { unit, which, done } = section;
     match which {
         SectionKind::Formals => State::FormalsDone(unit, done),
-        SectionKind::Temps(formals) => State::Inside(unit, formals, done, BodyState::new(alloc)),
+        SectionKind::Temps(formals) => {
+            let declared = DeclaredUnit {
+                begun: unit,
+                formals,
+                locals: done,
+            };
+            State::Inside(declared, BodyState::new(alloc))
+        }
     }
 }
 
@@ -171,16 +178,19 @@ fn ends(program: bool, other: bool) -> bool
 }
 
 /// The text with one more unit.
-fn with_unit(
-    unit: BegunUnit,
-    formals: List<RawLocal>,
-    locals: List<RawLocal>,
-    body: List<RawStmt>,
-) -> Result<TextSoFar, NoMemory>
+fn with_unit(unit: DeclaredUnit, body: List<RawStmt>) -> Result<TextSoFar, NoMemory>
     ensures { IfOk result (λ text. text_so_far_of text
-        ≡ record { globals = unit.text.globals; units = add_unit code unit.text.units unit.head formals locals body }) }
+        ≡ record {
+          globals = unit.begun.text.globals;
+          units = add_unit code unit.begun.text.units unit.begun.head unit.formals unit.locals body;
+        }) }
 {
-    let BegunUnit { mut text, head } = unit;
+    let DeclaredUnit {
+        begun,
+        formals,
+        locals,
+    } = unit;
+    let BegunUnit { mut text, head } = begun;
     text.units.push(RawPou {
         program: head.program,
         name: head.name,
@@ -193,23 +203,18 @@ fn with_unit(
 }
 
 /// The end word of a program, or that of a function.
-fn leave(
-    program: bool,
-    unit: BegunUnit,
-    formals: List<RawLocal>,
-    locals: List<RawLocal>,
-    at: BodyState,
-) -> Result<Option<State>, NoMemory>
+fn leave(program: bool, unit: DeclaredUnit, at: BodyState) -> Result<Option<State>, NoMemory>
     ensures { IfOk result (λ o. option_map state_of o
-        ≡ leave code program (begun_unit_of unit) formals locals (stack_of at.frames) (place_of at.place)) }
+        ≡ leave code program (begun_unit_of unit.begun) unit.formals unit.locals
+        (stack_of at.frames) (place_of at.place)) }
 {
     let Some(body) = at.into_body() else {
         return Ok(None);
     };
-    if !ends(program, unit.head.program) {
+    if !ends(program, unit.begun.head.program) {
         return Ok(None);
     }
-    Ok(Some(State::Between(with_unit(unit, formals, locals, body)?)))
+    Ok(Some(State::Between(with_unit(unit, body)?)))
 }
 
 /// The statements after one more token; `None` where it cannot follow.
@@ -231,20 +236,18 @@ fn stepped(alloc: Global, mut at: BodyState, kind: Kind) -> Result<Option<BodySt
 
 fn at_inside(
     alloc: Global,
-    unit: BegunUnit,
-    formals: List<RawLocal>,
-    locals: List<RawLocal>,
+    unit: DeclaredUnit,
     at: BodyState,
     kind: Kind,
 ) -> Result<Option<State>, NoMemory>
     ensures { IfOk result (λ o. option_map state_of o
-        ≡ at_inside code (begun_unit_of unit) formals locals (body_state_of at) kind) }
+        ≡ at_inside code (begun_unit_of unit.begun) unit.formals unit.locals (body_state_of at) kind) }
 {
     match kind {
-        Kind::Fixed(Fixed::EndProgram) => leave(true, unit, formals, locals, at),
-        Kind::Fixed(Fixed::EndFunction) => leave(false, unit, formals, locals, at),
+        Kind::Fixed(Fixed::EndProgram) => leave(true, unit, at),
+        Kind::Fixed(Fixed::EndFunction) => leave(false, unit, at),
         other => match stepped(alloc, at, other)? {
-            Some(to) => Ok(Some(State::Inside(unit, formals, locals, to))),
+            Some(to) => Ok(Some(State::Inside(unit, to))),
             None => Ok(None),
         },
     }
@@ -265,14 +268,14 @@ fn at_formals_done(
             which: SectionKind::Temps(formals),
             done: List::new(alloc),
         }))),
-        other => at_inside(
-            alloc,
-            unit,
-            formals,
-            List::new(alloc),
-            BodyState::new(alloc),
-            other,
-        ),
+        other => {
+            let declared = DeclaredUnit {
+                begun: unit,
+                formals,
+                locals: List::new(alloc),
+            };
+            at_inside(alloc, declared, BodyState::new(alloc), other)
+        }
     }
 }
 
@@ -309,9 +312,7 @@ pub fn next(alloc: Global, state: State, kind: Kind) -> Result<Option<State>, No
         State::FormalsDone(unit, formals) => at_formals_done(alloc, unit, formals, kind),
         State::Section(section) => Ok(at_section(alloc, section, kind)),
         State::Typing(section, name, line, typing) => at_typing(section, name, line, typing, kind),
-        State::Inside(unit, formals, locals, at) => {
-            at_inside(alloc, unit, formals, locals, at, kind)
-        }
+        State::Inside(unit, at) => at_inside(alloc, unit, at, kind),
         State::Over(_) => Ok(None),
     }
 }

@@ -79,5 +79,6 @@ state_of (state.Section begun) =
     machine.section (begun_unit_of begun.unit) (section_kind_of begun.which) begun.done
 state_of (state.Typing begun name line x) =
     machine.typing (begun_unit_of begun.unit) (section_kind_of begun.which) begun.done name line (typing_of x)
-state_of (state.Inside begun before locals at) = machine.inside (begun_unit_of begun) before locals (body_state_of at)
+state_of (state.Inside unit at) =
+    machine.inside (begun_unit_of unit.begun) unit.formals unit.locals (body_state_of at)
 state_of (state.Over text) = machine.over (text_so_far_of text)
