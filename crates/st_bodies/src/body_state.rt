@@ -4,7 +4,7 @@ ghost use Rattle.std.specs.Prelude.{◌≡◌, ◌∷◌, Some, suc, IfOk, OnOk}
 ghost use Rattle.st_grammar.specs.Grammar.{on_line};
 ghost use Rattle.st_grammar.specs.inner.Machine.{code, closing, no_statements, opening, operand, operator, part, statement, waiting, within};
 ghost use Rattle.st_grammar.specs.inner.Steps.{body_start, body_state, shallower};
-ghost use Rattle.st_bodies.specs.inner.BodyStates.{begun_statement_of, body_at, body_of, body_state_of, frame_of, leads_to, need_of, part_of, place_of, stack_of};
+ghost use Rattle.st_bodies.specs.inner.BodyStates.{begun_statement_of, body_at, body_state_of, frame_of, leads_to, need_of, outer_statement_of, part_of, place_of, stack_of};
 
 use crate::expression::{BoxedExpression, one_more, shallower};
 use s7_base::{Boxed, Line, List, NoMemory, Width};
@@ -108,7 +108,7 @@ pub enum Need {
 
 /// A statement whose own statements are read.
 #[derive(Drop)]
-pub enum Body {
+pub enum OuterStatement {
     /// An arm of an IF.
     Choosing(BegunIfArm),
 
@@ -144,7 +144,7 @@ pub enum Frame {
     Waiting(BegunStatement, Need),
 
     /// A statement whose own statements are read.
-    Within(BegunStatement, Body),
+    Within(BegunStatement, OuterStatement),
 }
 
 /// A part of a statement that is no expression.
@@ -345,14 +345,14 @@ impl BodyState {
         &mut self,
         alloc: Global,
         begun: BegunStatement,
-        body: Body,
+        outer: OuterStatement,
     ) -> Result<(), NoMemory>
         ensures { OnOk result (body_state_of self.new
             ≡ body_state code self.old.depth
-            (within (begun_statement_of begun) (body_of body) ∷ stack_of self.old.frames)
+            (within (begun_statement_of begun) (outer_statement_of outer) ∷ stack_of self.old.frames)
             (statement (no_statements code))) }
     {
-        self.frames.push(Frame::Within(begun, body))?;
+        self.frames.push(Frame::Within(begun, outer))?;
         self.go_statement(List::new(alloc));
         Ok(())
     }

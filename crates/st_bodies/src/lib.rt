@@ -6,8 +6,8 @@
 #![tactic(auto)]
 
 pub use body_state::{
-    Argument, BegunActual, BegunCaseArm, BegunIfArm, BegunStatement, BegunWrite, Body, BodyState,
-    Call, Cases, Frame, Need, Part, Place,
+    Argument, BegunActual, BegunCaseArm, BegunIfArm, BegunStatement, BegunWrite, BodyState, Call,
+    Cases, Frame, Need, OuterStatement, Part, Place,
 };
 pub use depth::is_deep_at;
 pub use expression::BoxedExpression;

@@ -6,7 +6,7 @@ ghost use Rattle.st_grammar.specs.declared.kind.Kind.TheVariants as kind;
 ghost use Rattle.st_bodies.specs.inner.BodyStates.{begun_statement_of, leads_to, measured_of, need_of, stack_of};
 
 use crate::body_state::{
-    BegunIfArm, BegunStatement, BegunWrite, Body, BodyState, Cases, Need, Part,
+    BegunIfArm, BegunStatement, BegunWrite, BodyState, Cases, Need, OuterStatement, Part,
 };
 use crate::expression::{EndedExpression, boxed};
 use s7_base::{Boxed, List, NoMemory, Width};
@@ -105,7 +105,11 @@ fn tested(
         return Ok(false);
     };
     let test = boxed(alloc, value)?;
-    at.enter(alloc, begun, Body::Choosing(BegunIfArm { arms, test }))?;
+    at.enter(
+        alloc,
+        begun,
+        OuterStatement::Choosing(BegunIfArm { arms, test }),
+    )?;
     Ok(true)
 }
 
@@ -150,7 +154,7 @@ fn loop_tested(
         return Ok(false);
     };
     let value = boxed(alloc, value)?;
-    at.enter(alloc, begun, Body::Looping(value))?;
+    at.enter(alloc, begun, OuterStatement::Looping(value))?;
     Ok(true)
 }
 

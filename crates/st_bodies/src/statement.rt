@@ -6,11 +6,11 @@ ghost use Rattle.st_grammar.specs.inner.Machine.{code, choosing, otherwise, loop
 ghost use Rattle.st_grammar.specs.inner.Steps.{shallower, body_state, is_loop, in_loop, body_closed, in_body, at_lead, at_statement, at_target, at_label, at_call, at_part, at_closing, step_at};
 ghost use Rattle.st_grammar.specs.declared.kind.Kind.TheVariants as kind;
 ghost use Rattle.st_grammar.specs.declared.kind.Lead.TheVariants as lead;
-ghost use Rattle.st_bodies.specs.inner.BodyStates.{begun_statement_of, body_of, frame_of, leads_to, measured_of, part_of, place_of, stack_of};
+ghost use Rattle.st_bodies.specs.inner.BodyStates.{begun_statement_of, frame_of, leads_to, measured_of, outer_statement_of, part_of, place_of, stack_of};
 
 use crate::body_state::{
-    BegunActual, BegunCaseArm, BegunIfArm, BegunStatement, Body, BodyState, Call, Cases, Frame,
-    Need, Part, Place,
+    BegunActual, BegunCaseArm, BegunIfArm, BegunStatement, BodyState, Call, Cases, Frame, Need,
+    OuterStatement, Part, Place,
 };
 use crate::expression::{BoxedExpression, is_value, label_of};
 use crate::operand::{at_opening, at_operand, at_operator};
@@ -23,7 +23,7 @@ use std::mem::replace;
 fn is_loop(frame: &Frame) -> bool
     ensures { result ≡ is_loop code (frame_of frame.now) }
 {
-    matches!(frame, Frame::Within(_, Body::Looping(_)))
+    matches!(frame, Frame::Within(_, OuterStatement::Looping(_)))
 }
 
 /// A WHILE is among the frames.
@@ -79,7 +79,7 @@ fn choosing_closed(
     })?;
     match word {
         Fixed::Elsif => at.wait(begun, Need::Test(arms))?,
-        Fixed::Else => at.enter(alloc, begun, Body::Otherwise(arms))?,
+        Fixed::Else => at.enter(alloc, begun, OuterStatement::Otherwise(arms))?,
         Fixed::EndIf => {
             return at.close(alloc, begun, RawStmtKind::If(arms, List::new(alloc)));
         }
@@ -161,7 +161,7 @@ fn selecting_closed(
             at_label(at, begun, BegunCaseArm { cases, labels }, literal)
         }
         Kind::Fixed(Fixed::Else) => {
-            at.enter(alloc, begun, Body::OtherwiseCase(cases))?;
+            at.enter(alloc, begun, OuterStatement::OtherwiseCase(cases))?;
             Ok(true)
         }
         Kind::Fixed(Fixed::EndCase) => case_closed(alloc, at, begun, cases, List::new(alloc)),
@@ -235,19 +235,21 @@ fn body_closed(
     alloc: Global,
     at: &mut BodyState,
     begun: BegunStatement,
-    outer: Body,
+    outer: OuterStatement,
     ended: EndedStatements,
 ) -> Result<bool, NoMemory>
     ensures { IfOk result (λ goes. leads_to goes at.new
         ≡ body_closed code at.old.depth (stack_of at.old.frames)
-        (begun_statement_of begun) (body_of outer) ended.body ended.kind) }
+        (begun_statement_of begun) (outer_statement_of outer) ended.body ended.kind) }
 {
     match outer {
-        Body::Choosing(arm) => choosing_closed(alloc, at, begun, arm, ended),
-        Body::Otherwise(arms) => otherwise_closed(alloc, at, begun, arms, ended),
-        Body::Looping(test) => looping_closed(alloc, at, begun, test, ended),
-        Body::Selecting(arm) => selecting_closed(alloc, at, begun, arm, ended),
-        Body::OtherwiseCase(cases) => otherwise_case_closed(alloc, at, begun, cases, ended),
+        OuterStatement::Choosing(arm) => choosing_closed(alloc, at, begun, arm, ended),
+        OuterStatement::Otherwise(arms) => otherwise_closed(alloc, at, begun, arms, ended),
+        OuterStatement::Looping(test) => looping_closed(alloc, at, begun, test, ended),
+        OuterStatement::Selecting(arm) => selecting_closed(alloc, at, begun, arm, ended),
+        OuterStatement::OtherwiseCase(cases) => otherwise_case_closed(
+            alloc, at, begun, cases, ended,
+        ),
     }
 }
 
@@ -523,7 +525,7 @@ fn at_labelled(
 {
     match kind {
         Kind::Fixed(Fixed::Comma) => at.go_part(begun, Part::NextLabel(arm)),
-        Kind::Fixed(Fixed::Colon) => at.enter(alloc, begun, Body::Selecting(arm))?,
+        Kind::Fixed(Fixed::Colon) => at.enter(alloc, begun, OuterStatement::Selecting(arm))?,
         _ => return Ok(false),
     }
     Ok(true)

@@ -8,7 +8,7 @@ use Rattle.s7_base.specs.declared.reason.Rejection.TheVariants.{Refused}
 use Rattle.st_grammar.specs.inner.Judge.{after_token, level_reached, judged, on_good, judge_tokens, text_in}
 use Rattle.st_grammar.specs.Levels.{deepest}
 use Rattle.st_grammar.specs.inner.Machine as machine
-use Rattle.st_grammar.specs.inner.Machine.{code, Frame, unary, left, bracket, argument, waiting, within, Argument, Need, Body, Part, target, write_open, first_formal, next_formal, becoming, giving, given, first_label, next_label, labelled, Place, statement, part, closing, operand, operator, opening, BodyState, Row, State, start, globals, row, between, heading, opened, formals_done, section, typing, inside, over, SectionKind, formals, temps}
+use Rattle.st_grammar.specs.inner.Machine.{code, Frame, unary, left, bracket, argument, waiting, within, Argument, Need, OuterStatement, Part, target, write_open, first_formal, next_formal, becoming, giving, given, first_label, next_label, labelled, Place, statement, part, closing, operand, operator, opening, BodyState, Row, State, start, globals, row, between, heading, opened, formals_done, section, typing, inside, over, SectionKind, formals, temps}
 use Rattle.st_grammar.specs.inner.Steps.{weakest, reduce, closed, in_body, at_part, step_at, row_step, at_typing, next}
 use Rattle.st_grammar.specs.Syntax.{Lined, all_lined, end_on, lined}
 use Rattle.st_grammar.specs.declared.kind.Fixed.TheVariants as fixed

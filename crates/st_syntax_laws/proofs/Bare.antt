@@ -5,7 +5,7 @@ use Rattle.st_grammar.specs.Forms.{Form, none, no_local, prefix, infix_of, State
 use Rattle.st_grammar.specs.Grammar.{prefix_level, infix_level, is_value, may_jump, is_direct, tree, tree_one, tree_all, tree_arms, tree_cases, tree_actuals, tree_labels, tree_items, tree_type, tree_globals, tree_locals, tree_units, held}
 use Rattle.st_tree.specs.Naming.{is_free, may_name_global, may_name_unit, names_block}
 use Rattle.st_grammar.specs.Levels.{height}
-use Rattle.st_grammar.specs.inner.Machine.{written, code, of_label, add_label, add_case, of_literal, of_jump, head_of, BegunStatement, Argument, only, shifted, shifted_by, gate, first, second, Need, to_var, to_area, area_value, test, selector, loop_test, Body, choosing, otherwise, looping, selecting, otherwise_case, Frame, unary, left, bracket, argument, waiting, within, Part, target, write_open, first_formal, next_formal, becoming, giving, given, first_label, next_label, labelled, Place, statement, part, closing, operand, operator, opening, BodyState, Row, at_word, at_place, at_colon, at_type, at_square, at_zero, at_dots, at_last, at_close, at_of, at_byte, at_becomes, at_open, at_item, at_count, at_value, at_value_end, at_comma, at_end, local_colon, local_type, local_end, TextSoFar, BegunUnit, SectionKind, formals, temps, State, start, globals, row, between, heading, opened, formals_done, section, typing, inside, over}
+use Rattle.st_grammar.specs.inner.Machine.{written, code, of_label, add_label, add_case, of_literal, of_jump, head_of, BegunStatement, Argument, only, shifted, shifted_by, gate, first, second, Need, to_var, to_area, area_value, test, selector, loop_test, OuterStatement, choosing, otherwise, looping, selecting, otherwise_case, Frame, unary, left, bracket, argument, waiting, within, Part, target, write_open, first_formal, next_formal, becoming, giving, given, first_label, next_label, labelled, Place, statement, part, closing, operand, operator, opening, BodyState, Row, at_word, at_place, at_colon, at_type, at_square, at_zero, at_dots, at_last, at_close, at_of, at_byte, at_becomes, at_open, at_item, at_count, at_value, at_value_end, at_comma, at_end, local_colon, local_type, local_end, TextSoFar, BegunUnit, SectionKind, formals, temps, State, start, globals, row, between, heading, opened, formals_done, section, typing, inside, over}
 use Rattle.st_grammar.specs.inner.Steps.{body_state, weakest, limit, Reduced, reduced_to, reduce, shallower, with_prefix, closed, closed_to, waits, in_loop, in_body, step_at, is_zero, row_step, before_units, begun_unit, at_between, may_name, may_type, ends, leave, at_inside, at_formals_done, at_opened, next, level_at, last_level}
 use Rattle.st_grammar.specs.declared.heading.Heading.{Heading}
 use Rattle.st_grammar.specs.declared.measured.Measured.{Measured}
@@ -46,12 +46,12 @@ bare_need (test arms) = test (tree_arms arms)
 bare_need selector = selector
 bare_need loop_test = loop_test
 
-abbrev pub bare_body : Body written → Body code
-bare_body (choosing arms f) = choosing (tree_arms arms) (bare_expr f)
-bare_body (otherwise arms) = otherwise (tree_arms arms)
-bare_body (looping f) = looping (bare_expr f)
-bare_body (selecting f arms labels) = selecting (bare_expr f) (tree_cases arms) (tree_labels labels)
-bare_body (otherwise_case f arms) = otherwise_case (bare_expr f) (tree_cases arms)
+abbrev pub bare_outer_statement : OuterStatement written → OuterStatement code
+bare_outer_statement (choosing arms f) = choosing (tree_arms arms) (bare_expr f)
+bare_outer_statement (otherwise arms) = otherwise (tree_arms arms)
+bare_outer_statement (looping f) = looping (bare_expr f)
+bare_outer_statement (selecting f arms labels) = selecting (bare_expr f) (tree_cases arms) (tree_labels labels)
+bare_outer_statement (otherwise_case f arms) = otherwise_case (bare_expr f) (tree_cases arms)
 
 abbrev pub bare_frame : Frame written → Frame code
 bare_frame (unary op) = unary op
@@ -59,7 +59,7 @@ bare_frame (left op f) = left op (bare_expr f)
 bare_frame bracket = bracket
 bare_frame (argument a) = argument (bare_argument a)
 bare_frame (waiting b n) = waiting (bare_begun_statement b) (bare_need n)
-bare_frame (within b y) = within (bare_begun_statement b) (bare_body y)
+bare_frame (within b y) = within (bare_begun_statement b) (bare_outer_statement y)
 
 abbrev pub bare_stack : List (Frame written) → List (Frame code)
 bare_stack [] = []

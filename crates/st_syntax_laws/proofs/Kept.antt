@@ -8,7 +8,7 @@ use Rattle.st_syntax_laws.proofs.DriveSource.{Declared}
 use Rattle.st_grammar.specs.Forms.{Form, prefix, infix_of, Actuals, no_actual, actual, Labels, label, more_labels, Statements, CaseArms, Items, no_item}
 use Rattle.st_grammar.specs.Grammar.{prefix_level, infix_level, level, is_value, Binds, may_jump, LabelsFit, HasArm, HasCase, Fits, AllFit, ArmsFit, CasesFit, is_direct, is_global, GlobalsFit, LocalsFit, IfPresent, HeadFits, UnitsFit, prefix_kind, spell, comma_behind, spell_actuals, spell_labels, arm_word, spell_one, spell_all, spell_arms, spell_cases, comma_past, spell_items, spell_type, spell_globals, spell_locals, unit_word, spell_section, spell_formals, spell_temps, spell_head, spell_units}
 use Rattle.st_tree.specs.Naming.{may_name_global, may_name_unit, names_block}
-use Rattle.st_grammar.specs.inner.Machine.{written, BegunStatement, Argument, only, shifted, shifted_by, gate, first, second, Need, to_var, to_area, area_value, test, selector, loop_test, Body, choosing, otherwise, looping, selecting, otherwise_case, Frame, unary, left, bracket, argument, waiting, within, Part, target, write_open, first_formal, next_formal, becoming, giving, given, first_label, next_label, labelled, Place, statement, part, closing, operand, operator, opening, BodyState, Row, at_word, at_place, at_colon, at_type, at_square, at_zero, at_dots, at_last, at_close, at_of, at_byte, at_becomes, at_open, at_item, at_count, at_value, at_value_end, at_comma, at_end, Typing, local_colon, local_type, local_end, TextSoFar, BegunUnit, SectionKind, formals, temps, State, start, globals, row, between, heading, opened, formals_done, section, typing, inside, over}
+use Rattle.st_grammar.specs.inner.Machine.{written, BegunStatement, Argument, only, shifted, shifted_by, gate, first, second, Need, to_var, to_area, area_value, test, selector, loop_test, OuterStatement, choosing, otherwise, looping, selecting, otherwise_case, Frame, unary, left, bracket, argument, waiting, within, Part, target, write_open, first_formal, next_formal, becoming, giving, given, first_label, next_label, labelled, Place, statement, part, closing, operand, operator, opening, BodyState, Row, at_word, at_place, at_colon, at_type, at_square, at_zero, at_dots, at_last, at_close, at_of, at_byte, at_becomes, at_open, at_item, at_count, at_value, at_value_end, at_comma, at_end, Typing, local_colon, local_type, local_end, TextSoFar, BegunUnit, SectionKind, formals, temps, State, start, globals, row, between, heading, opened, formals_done, section, typing, inside, over}
 use Rattle.st_grammar.specs.inner.Steps.{body_state, shallower, weakest, limit, Reduced, reduce, reduced_to, with_prefix, closed, waits, in_loop, in_body, at_label, step_at, may_name, may_type}
 use Rattle.st_grammar.specs.declared.kind.Fixed.TheVariants as fixed
 use Rattle.st_grammar.specs.declared.kind.Function.{Function}
@@ -50,12 +50,12 @@ past_need line (test arms) more = spell_arms line arms (arm_word line arms ∷ m
 past_need line selector more = kind.Lead lead.Case line ∷ more
 past_need line loop_test more = kind.Lead lead.While line ∷ more
 
-abbrev past_body : Line → Body written → List Kind → List Kind
-past_body line (choosing arms e) more = spell_arms line arms (arm_word line arms ∷ spell e (kind.Fixed fixed.Then ∷ more))
-past_body line (otherwise arms) more = spell_arms line arms (kind.Fixed fixed.Else ∷ more)
-past_body line (looping e) more = kind.Lead lead.While line ∷ spell e (kind.Fixed fixed.Do ∷ more)
-past_body line (selecting e arms labels) more = kind.Lead lead.Case line ∷ spell e (kind.Fixed fixed.Of ∷ spell_cases arms (spell_labels labels (kind.Fixed fixed.Colon ∷ more)))
-past_body line (otherwise_case e arms) more = kind.Lead lead.Case line ∷ spell e (kind.Fixed fixed.Of ∷ spell_cases arms (kind.Fixed fixed.Else ∷ more))
+abbrev past_outer_statement : Line → OuterStatement written → List Kind → List Kind
+past_outer_statement line (choosing arms e) more = spell_arms line arms (arm_word line arms ∷ spell e (kind.Fixed fixed.Then ∷ more))
+past_outer_statement line (otherwise arms) more = spell_arms line arms (kind.Fixed fixed.Else ∷ more)
+past_outer_statement line (looping e) more = kind.Lead lead.While line ∷ spell e (kind.Fixed fixed.Do ∷ more)
+past_outer_statement line (selecting e arms labels) more = kind.Lead lead.Case line ∷ spell e (kind.Fixed fixed.Of ∷ spell_cases arms (spell_labels labels (kind.Fixed fixed.Colon ∷ more)))
+past_outer_statement line (otherwise_case e arms) more = kind.Lead lead.Case line ∷ spell e (kind.Fixed fixed.Of ∷ spell_cases arms (kind.Fixed fixed.Else ∷ more))
 
 abbrev pub past_stack : List (Frame written) → List Kind → List Kind
 past_stack [] more = more
@@ -64,7 +64,7 @@ past_stack (left op f ∷ s) more = past_stack s (spell f (kind.Fixed (fixed.Bet
 past_stack (bracket ∷ s) more = past_stack s (open_kind ∷ more)
 past_stack (argument a ∷ s) more = past_stack s (past_argument a more)
 past_stack (waiting b n ∷ s) more = past_stack s (spell_all b.before (past_need b.line n more))
-past_stack (within b y ∷ s) more = past_stack s (spell_all b.before (past_body b.line y more))
+past_stack (within b y ∷ s) more = past_stack s (spell_all b.before (past_outer_statement b.line y more))
 
 abbrev past_call : Line → List ℕ → List Kind → List Kind
 past_call line name more = kind.Variable (var.Name name) line ∷ open_kind ∷ more
@@ -175,12 +175,12 @@ NeedFits i (area_value w p) = Binds p
 NeedFits i (test arms) = ArmsFit i arms
 NeedFits i other = Unit {0}
 
-abbrev pub BodyFits : Bool → Body written → Type 0
-BodyFits i (choosing arms e) = ArmsFit i arms × Binds e
-BodyFits i (otherwise arms) = HasArm arms × ArmsFit i arms
-BodyFits i (looping e) = Binds e
-BodyFits i (selecting e arms labels) = Binds e × CasesFit i arms × LabelsFit labels
-BodyFits i (otherwise_case e arms) = Binds e × HasCase arms × CasesFit i arms
+abbrev pub OuterStatementFits : Bool → OuterStatement written → Type 0
+OuterStatementFits i (choosing arms e) = ArmsFit i arms × Binds e
+OuterStatementFits i (otherwise arms) = HasArm arms × ArmsFit i arms
+OuterStatementFits i (looping e) = Binds e
+OuterStatementFits i (selecting e arms labels) = Binds e × CasesFit i arms × LabelsFit labels
+OuterStatementFits i (otherwise_case e arms) = Binds e × HasCase arms × CasesFit i arms
 
 abbrev pub HasActual : Actuals → Type 0
 HasActual no_actual = ⊥
@@ -201,7 +201,8 @@ PartFits i other = Unit {0}
 -- statements alone are open
 abbrev pub InStatements : List (Frame written) → Type 0
 InStatements [] = Unit {0}
-InStatements (within b y ∷ s) = AllFit (in_loop written s) b.before × BodyFits (in_loop written s) y × InStatements s
+InStatements (within b y ∷ s) =
+    AllFit (in_loop written s) b.before × OuterStatementFits (in_loop written s) y × InStatements s
 InStatements (frame ∷ s) = ⊥
 
 -- an expression is open, and the statement that it belongs to
@@ -377,7 +378,7 @@ in_body_kept d (within b (choosing arms e) ∷ s) body (kind.Fixed fixed.EndIf) 
 in_body_kept d (within b (otherwise arms) ∷ s) body (kind.Fixed fixed.EndIf) h p = record { fits = (h.2, h.0, (h.1.0, h.1.1, p)); grown = λ more. refl }
 in_body_kept d (within b (looping e) ∷ s) body (kind.Fixed fixed.EndWhile) h p = record { fits = (h.2, h.0, (h.1, p)); grown = λ more. refl }
 in_body_kept d (within b (selecting e arms labels) ∷ s) body (kind.Literal c) h p =
-    if_in (λ more. past_stack s (spell_all b.before (past_body b.line (selecting e arms labels) (spell_all body (kind.Literal c ∷ more))))) (is_value c) _
+    if_in (λ more. past_stack s (spell_all b.before (past_outer_statement b.line (selecting e arms labels) (spell_all body (kind.Literal c ∷ more))))) (is_value c) _
     (λ v. record { fits = (h.2, h.0, (h.1.0, (h.1.1, h.1.2, p), v)); grown = λ more. refl })
 in_body_kept d (within b (selecting e arms labels) ∷ s) body (kind.Fixed fixed.Else) h p = record { fits = ((h.0, (h.1.0, tt, (h.1.1, h.1.2, p)), h.2), tt); grown = λ more. refl }
 in_body_kept d (within b (selecting e arms labels) ∷ s) body (kind.Fixed fixed.EndCase) h p = record { fits = (h.2, h.0, (h.1.0, tt, (h.1.1, h.1.2, p))); grown = λ more. refl }

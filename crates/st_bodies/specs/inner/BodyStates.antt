@@ -12,8 +12,8 @@ use Rattle.st_bodies.specs.declared.body_state.Argument.{Argument}
 use Rattle.st_bodies.specs.declared.body_state.Argument.TheVariants as argument
 use Rattle.st_bodies.specs.declared.body_state.Need.{Need}
 use Rattle.st_bodies.specs.declared.body_state.Need.TheVariants as need
-use Rattle.st_bodies.specs.declared.body_state.Body.{Body}
-use Rattle.st_bodies.specs.declared.body_state.Body.TheVariants as body
+use Rattle.st_bodies.specs.declared.body_state.OuterStatement.{OuterStatement}
+use Rattle.st_bodies.specs.declared.body_state.OuterStatement.TheVariants as outer
 use Rattle.st_bodies.specs.declared.body_state.Frame.{Frame}
 use Rattle.st_bodies.specs.declared.body_state.Frame.TheVariants as frame
 use Rattle.st_bodies.specs.declared.body_state.Part.{Part}
@@ -49,12 +49,12 @@ need_of need.Selector = machine.selector
 need_of need.LoopTest = machine.loop_test
 
 -- a statement whose own statements are read
-abbrev pub body_of : Body → machine.Body code
-body_of (body.Choosing arm) = machine.choosing arm.arms (measured_of arm.test)
-body_of (body.Otherwise arms) = machine.otherwise arms
-body_of (body.Looping e) = machine.looping (measured_of e)
-body_of (body.Selecting arm) = machine.selecting (measured_of arm.cases.selector) arm.cases.arms arm.labels
-body_of (body.OtherwiseCase c) = machine.otherwise_case (measured_of c.selector) c.arms
+abbrev pub outer_statement_of : OuterStatement → machine.OuterStatement code
+outer_statement_of (outer.Choosing arm) = machine.choosing arm.arms (measured_of arm.test)
+outer_statement_of (outer.Otherwise arms) = machine.otherwise arms
+outer_statement_of (outer.Looping e) = machine.looping (measured_of e)
+outer_statement_of (outer.Selecting arm) = machine.selecting (measured_of arm.cases.selector) arm.cases.arms arm.labels
+outer_statement_of (outer.OtherwiseCase c) = machine.otherwise_case (measured_of c.selector) c.arms
 
 -- what is open
 abbrev pub frame_of : Frame → machine.Frame code
@@ -63,7 +63,7 @@ frame_of (frame.Left op e) = machine.left op (measured_of e)
 frame_of frame.Bracket = machine.bracket
 frame_of (frame.Argument a) = machine.argument (argument_of a)
 frame_of (frame.Waiting b n) = machine.waiting (begun_statement_of b) (need_of n)
-frame_of (frame.Within b y) = machine.within (begun_statement_of b) (body_of y)
+frame_of (frame.Within b y) = machine.within (begun_statement_of b) (outer_statement_of y)
 
 -- the frame that was opened last stands first
 abbrev pub stack_of : List Frame → List (machine.Frame code)

@@ -406,12 +406,12 @@ pub data Need (m : Mode) : Type 0 where
   loop_test : Need m
 
 -- a statement whose own statements are read
-pub data Body (m : Mode) : Type 0 where
-  choosing : ArmsIn m → ExprIn m → Body m
-  otherwise : ArmsIn m → Body m
-  looping : ExprIn m → Body m
-  selecting : ExprIn m → CasesIn m → LabelsIn m → Body m
-  otherwise_case : ExprIn m → CasesIn m → Body m
+pub data OuterStatement (m : Mode) : Type 0 where
+  choosing : ArmsIn m → ExprIn m → OuterStatement m
+  otherwise : ArmsIn m → OuterStatement m
+  looping : ExprIn m → OuterStatement m
+  selecting : ExprIn m → CasesIn m → LabelsIn m → OuterStatement m
+  otherwise_case : ExprIn m → CasesIn m → OuterStatement m
 
 -- what is open: an operator that waits for its operand, a bracket, a function, an expression of a
 -- statement, or a statement with statements in it
@@ -421,7 +421,7 @@ pub data Frame (m : Mode) : Type 0 where
   bracket : Frame m
   argument : Argument m → Frame m
   waiting : BegunStatement m → Need m → Frame m
-  within : BegunStatement m → Body m → Frame m
+  within : BegunStatement m → OuterStatement m → Frame m
 
 -- What may come next
 
