@@ -5,8 +5,8 @@ use Rattle.std.specs.List.{list_any}
 use Rattle.std.proofs.lemmas.List.{reverse-append}
 use Rattle.st_grammar.specs.inner.Machine.{code, Frame}
 use Rattle.st_grammar.specs.inner.Steps.{is_loop, in_loop}
-use Rattle.st_bodies.specs.inner.Spots.{frame_of, stack_of}
-use Rattle.st_bodies.specs.declared.spot.Frame.{Frame as Found}
+use Rattle.st_bodies.specs.inner.BodyStates.{frame_of, stack_of}
+use Rattle.st_bodies.specs.declared.body_state.Frame.{Frame as Found}
 
 or_assoc : (a b c : Bool) → (a || (b || c)) ≡ ((a || b) || c)
 or_assoc true b c = refl

@@ -3,9 +3,9 @@ ghost use Rattle.std.specs.Prelude.{◌≡◌, ◌+◌, nat_lt};
 ghost use Rattle.st_grammar.specs.Levels.{deepest};
 ghost use Rattle.st_grammar.specs.inner.Machine.{code};
 ghost use Rattle.st_grammar.specs.inner.Steps.{level_at};
-ghost use Rattle.st_bodies.specs.inner.Spots.{place_of, stack_of};
+ghost use Rattle.st_bodies.specs.inner.BodyStates.{place_of, stack_of};
 
-use crate::spot::{Frame, Place, Spot};
+use crate::body_state::{BodyState, Frame, Place};
 
 /// The greatest level of nesting.
 const DEEPEST: usize = 200;
@@ -18,15 +18,15 @@ fn is_above(depth: usize, height: usize) -> bool
 }
 
 /// The last token of statements made a level above the greatest.
-pub fn is_deep_at(spot: &Spot) -> bool
+pub fn is_deep_at(at: &BodyState) -> bool
     ensures { result
-        ≡ nat_lt deepest (level_at code spot.now.depth (place_of spot.now.place) (stack_of spot.now.frames)) }
+        ≡ nat_lt deepest (level_at code at.now.depth (place_of at.now.place) (stack_of at.now.frames)) }
 {
-    match spot.place {
-        Place::Operand => match spot.frames.as_slice().last() {
-            Some(Frame::Left(_, left)) => is_above(spot.depth, left.height),
-            _ => spot.depth > DEEPEST,
+    match at.place {
+        Place::Operand => match at.frames.as_slice().last() {
+            Some(Frame::Left(_, left)) => is_above(at.depth, left.height),
+            _ => at.depth > DEEPEST,
         },
-        _ => spot.depth > DEEPEST,
+        _ => at.depth > DEEPEST,
     }
 }

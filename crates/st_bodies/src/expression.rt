@@ -3,10 +3,10 @@ ghost use Rattle.std.specs.Prelude.{◌≡◌, suc, ◌+◌, IfOk};
 ghost use Rattle.st_grammar.specs.Grammar.{prefix_level, infix_level, is_value, literal_tree, label_tree, prefix_tree, apply_tree};
 ghost use Rattle.st_grammar.specs.inner.Machine.{code, of_literal, of_variable, of_prefix, of_infix, of_apply, of_shift, of_select};
 ghost use Rattle.st_grammar.specs.inner.Steps.{shallower};
-ghost use Rattle.st_bodies.specs.inner.Spots.{measured_of};
+ghost use Rattle.st_bodies.specs.inner.BodyStates.{measured_of};
 
 use s7_base::{Boxed, Line, NoMemory};
-use st_grammar::{Literal, Measured, OneOperand, Prefix};
+use st_grammar::{Fixed, Literal, Measured, OneOperand, Prefix};
 use st_tree::{BinaryOp, RawExpr, RawVar, ShiftOp, StType, UnaryOp};
 use std::alloc::Global;
 
@@ -92,28 +92,36 @@ pub fn of_variable(var: RawVar, line: Line) -> Measured
     }
 }
 
-/// An operand that waits for what follows it, in the box in which its tree will have it.
+/// An expression that waits for what follows it, in the box in which a larger tree will have it, and how
+/// high it is.
 #[derive(Drop)]
-pub struct Held {
+pub struct BoxedExpression {
     pub tree: Boxed<RawExpr>,
     pub height: usize,
 }
 
-/// Puts an operand into its box.
-pub fn hold(alloc: Global, operand: Measured) -> Result<Held, NoMemory>
-    ensures { IfOk result (λ held. measured_of held ≡ operand) }
+/// Puts an expression into its box.
+pub fn boxed(alloc: Global, operand: Measured) -> Result<BoxedExpression, NoMemory>
+    ensures { IfOk result (λ found. measured_of found ≡ operand) }
 {
-    Ok(Held {
+    Ok(BoxedExpression {
         tree: Boxed::new(alloc, operand.tree)?,
         height: operand.height,
     })
+}
+
+/// An expression that has ended, and the word or the sign at which it did.
+#[derive(Drop)]
+pub struct EndedExpression {
+    pub value: Measured,
+    pub word: Fixed,
 }
 
 /// `-` or NOT on an operand.
 pub fn of_prefix(alloc: Global, op: Prefix, operand: Measured) -> Result<Measured, NoMemory>
     ensures { IfOk result (λ whole. whole ≡ of_prefix code op operand) }
 {
-    let operand = hold(alloc, operand)?;
+    let operand = boxed(alloc, operand)?;
     let height = one_more(operand.height)?;
     let inner = operand.tree;
     let tree = match op {
@@ -127,12 +135,12 @@ pub fn of_prefix(alloc: Global, op: Prefix, operand: Measured) -> Result<Measure
 pub fn of_infix(
     alloc: Global,
     op: BinaryOp,
-    left: Held,
+    left: BoxedExpression,
     right: Measured,
 ) -> Result<Measured, NoMemory>
     ensures { IfOk result (λ whole. whole ≡ of_infix code op (measured_of left) right) }
 {
-    let right = hold(alloc, right)?;
+    let right = boxed(alloc, right)?;
     let height = one_more(left.height.max(right.height))?;
     Ok(Measured {
         tree: RawExpr::Binary(op, left.tree, right.tree),
@@ -144,7 +152,7 @@ pub fn of_infix(
 pub fn of_apply(alloc: Global, op: OneOperand, operand: Measured) -> Result<Measured, NoMemory>
     ensures { IfOk result (λ whole. whole ≡ of_apply code op operand) }
 {
-    let operand = hold(alloc, operand)?;
+    let operand = boxed(alloc, operand)?;
     let height = one_more(operand.height)?;
     let inner = operand.tree;
     let tree = match op {
@@ -160,12 +168,12 @@ pub fn of_apply(alloc: Global, op: OneOperand, operand: Measured) -> Result<Meas
 pub fn of_shift(
     alloc: Global,
     op: ShiftOp,
-    pattern: Held,
+    pattern: BoxedExpression,
     count: Measured,
 ) -> Result<Measured, NoMemory>
     ensures { IfOk result (λ whole. whole ≡ of_shift code op (measured_of pattern) count) }
 {
-    let count = hold(alloc, count)?;
+    let count = boxed(alloc, count)?;
     let height = one_more(pattern.height.max(count.height))?;
     Ok(Measured {
         tree: RawExpr::Shift(op, pattern.tree, count.tree),
@@ -176,13 +184,13 @@ pub fn of_shift(
 /// SEL of a BOOL and two values.
 pub fn of_select(
     alloc: Global,
-    gate: Held,
-    first: Held,
+    gate: BoxedExpression,
+    first: BoxedExpression,
     second: Measured,
 ) -> Result<Measured, NoMemory>
     ensures { IfOk result (λ whole. whole ≡ of_select code (measured_of gate) (measured_of first) second) }
 {
-    let second = hold(alloc, second)?;
+    let second = boxed(alloc, second)?;
     let height = one_more(gate.height.max(first.height).max(second.height))?;
     Ok(Measured {
         tree: RawExpr::Select(gate.tree, first.tree, second.tree),

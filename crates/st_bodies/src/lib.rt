@@ -5,14 +5,17 @@
 //! and not which names may be declared.
 #![tactic(auto)]
 
+pub use body_state::{
+    Argument, BegunActual, BegunCaseArm, BegunIfArm, BegunStatement, BegunWrite, BodyState, Call,
+    Cases, Frame, Need, OuterStatement, Part, Place,
+};
 pub use depth::is_deep_at;
-pub use expression::Held;
-pub use spot::{Argument, Begun, Body, Call, Cases, Frame, Part, Place, Spot, Use};
+pub use expression::BoxedExpression;
 pub use statement::step;
 
+mod body_state;
 mod depth;
 mod expression;
 mod need;
 mod operand;
-mod spot;
 mod statement;

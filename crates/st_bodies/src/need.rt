@@ -1,28 +1,31 @@
 //! What comes of an expression that a statement needs.
 ghost use Rattle.std.specs.Prelude.{◌≡◌, IfOk};
 ghost use Rattle.st_grammar.specs.inner.Machine.{code, area_value, loop_test, selector, test, to_area, to_var};
-ghost use Rattle.st_grammar.specs.inner.Steps.{use_closed};
+ghost use Rattle.st_grammar.specs.inner.Steps.{need_closed};
 ghost use Rattle.st_grammar.specs.declared.kind.Kind.TheVariants as kind;
-ghost use Rattle.st_bodies.specs.inner.Spots.{begun_of, measured_of, stack_of, use_of, went};
+ghost use Rattle.st_bodies.specs.inner.BodyStates.{begun_statement_of, leads_to, measured_of, need_of, stack_of};
 
-use crate::expression::{Held, hold};
-use crate::spot::{Begun, Body, Cases, Part, Spot, Use};
+use crate::body_state::{
+    BegunIfArm, BegunStatement, BegunWrite, BodyState, Cases, Need, OuterStatement, Part,
+};
+use crate::expression::{EndedExpression, boxed};
 use s7_base::{Boxed, List, NoMemory, Width};
-use st_grammar::{Fixed, Measured};
+use st_grammar::Fixed;
 use st_tree::{RawArm, RawStmt, RawStmtKind, RawVar};
 use std::alloc::Global;
 
 /// The value of an assignment ends.
 fn assigned(
-    at: &mut Spot,
-    mut begun: Begun,
+    at: &mut BodyState,
+    mut begun: BegunStatement,
     var: RawVar,
-    value: Measured,
-    word: Fixed,
+    ended: EndedExpression,
 ) -> Result<bool, NoMemory>
-    ensures { IfOk result (λ goes. went goes at.new
-        ≡ use_closed code at.old.depth (stack_of at.old.frames) (begun_of begun) (to_var var) value (kind.Fixed word)) }
+    ensures { IfOk result (λ goes. leads_to goes at.new
+        ≡ need_closed code at.old.depth (stack_of at.old.frames)
+        (begun_statement_of begun) (to_var var) ended.value (kind.Fixed ended.word)) }
 {
+    let EndedExpression { value, word } = ended;
     let Fixed::Semicolon = word else {
         drop(value);
         return Ok(false);
@@ -38,44 +41,45 @@ fn assigned(
 /// The pointer of an AREA_WRITE ends, and its value begins.
 fn pointer_closed(
     alloc: Global,
-    at: &mut Spot,
-    begun: Begun,
+    at: &mut BodyState,
+    begun: BegunStatement,
     width: Width,
-    pointer: Measured,
-    word: Fixed,
+    ended: EndedExpression,
 ) -> Result<bool, NoMemory>
-    ensures { IfOk result (λ goes. went goes at.new
-        ≡ use_closed code at.old.depth (stack_of at.old.frames)
-        (begun_of begun) (to_area width) pointer (kind.Fixed word)) }
+    ensures { IfOk result (λ goes. leads_to goes at.new
+        ≡ need_closed code at.old.depth (stack_of at.old.frames)
+        (begun_statement_of begun) (to_area width) ended.value (kind.Fixed ended.word)) }
 {
+    let EndedExpression { value, word } = ended;
     let Fixed::Comma = word else {
-        drop(pointer);
+        drop(value);
         return Ok(false);
     };
-    let pointer = hold(alloc, pointer)?;
-    at.wait(begun, Use::AreaValue(width, pointer))?;
+    let pointer = boxed(alloc, value)?;
+    at.wait(begun, Need::AreaValue(BegunWrite { width, pointer }))?;
     Ok(true)
 }
 
 /// The value of an AREA_WRITE ends.
 fn written(
     alloc: Global,
-    at: &mut Spot,
-    begun: Begun,
-    width: Width,
-    pointer: Held,
-    value: Measured,
-    word: Fixed,
+    at: &mut BodyState,
+    begun: BegunStatement,
+    write: BegunWrite,
+    ended: EndedExpression,
 ) -> Result<bool, NoMemory>
-    ensures { IfOk result (λ goes. went goes at.new
-        ≡ use_closed code at.old.depth (stack_of at.old.frames)
-        (begun_of begun) (area_value width (measured_of pointer)) value (kind.Fixed word)) }
+    ensures { IfOk result (λ goes. leads_to goes at.new
+        ≡ need_closed code at.old.depth (stack_of at.old.frames)
+        (begun_statement_of begun) (area_value write.width (measured_of write.pointer)) ended.value
+        (kind.Fixed ended.word)) }
 {
+    let EndedExpression { value, word } = ended;
     let Fixed::Close = word else {
         drop(value);
         return Ok(false);
     };
-    let value = hold(alloc, value)?;
+    let BegunWrite { width, pointer } = write;
+    let value = boxed(alloc, value)?;
     at.close(
         alloc,
         begun,
@@ -86,41 +90,47 @@ fn written(
 /// The test of an arm of an IF ends.
 fn tested(
     alloc: Global,
-    at: &mut Spot,
-    begun: Begun,
+    at: &mut BodyState,
+    begun: BegunStatement,
     arms: List<RawArm>,
-    value: Measured,
-    word: Fixed,
+    ended: EndedExpression,
 ) -> Result<bool, NoMemory>
-    ensures { IfOk result (λ goes. went goes at.new
-        ≡ use_closed code at.old.depth (stack_of at.old.frames) (begun_of begun) (test arms) value (kind.Fixed word)) }
+    ensures { IfOk result (λ goes. leads_to goes at.new
+        ≡ need_closed code at.old.depth (stack_of at.old.frames)
+        (begun_statement_of begun) (test arms) ended.value (kind.Fixed ended.word)) }
 {
+    let EndedExpression { value, word } = ended;
     let Fixed::Then = word else {
         drop(value);
         return Ok(false);
     };
-    let value = hold(alloc, value)?;
-    at.enter(alloc, begun, Body::Choosing(arms, value))?;
+    let test = boxed(alloc, value)?;
+    at.enter(
+        alloc,
+        begun,
+        OuterStatement::Choosing(BegunIfArm { arms, test }),
+    )?;
     Ok(true)
 }
 
 /// The selector of a CASE ends.
 fn selected(
     alloc: Global,
-    at: &mut Spot,
-    begun: Begun,
-    value: Measured,
-    word: Fixed,
+    at: &mut BodyState,
+    begun: BegunStatement,
+    ended: EndedExpression,
 ) -> Result<bool, NoMemory>
-    ensures { IfOk result (λ goes. went goes at.new
-        ≡ use_closed code at.old.depth (stack_of at.old.frames) (begun_of begun) selector value (kind.Fixed word)) }
+    ensures { IfOk result (λ goes. leads_to goes at.new
+        ≡ need_closed code at.old.depth (stack_of at.old.frames)
+        (begun_statement_of begun) selector ended.value (kind.Fixed ended.word)) }
 {
+    let EndedExpression { value, word } = ended;
     let Fixed::Of = word else {
         drop(value);
         return Ok(false);
     };
     let cases = Cases {
-        selector: hold(alloc, value)?,
+        selector: boxed(alloc, value)?,
         arms: List::new(alloc),
     };
     at.go_part(begun, Part::FirstLabel(Boxed::new(alloc, cases)?));
@@ -130,41 +140,42 @@ fn selected(
 /// The test of a WHILE ends.
 fn loop_tested(
     alloc: Global,
-    at: &mut Spot,
-    begun: Begun,
-    value: Measured,
-    word: Fixed,
+    at: &mut BodyState,
+    begun: BegunStatement,
+    ended: EndedExpression,
 ) -> Result<bool, NoMemory>
-    ensures { IfOk result (λ goes. went goes at.new
-        ≡ use_closed code at.old.depth (stack_of at.old.frames) (begun_of begun) loop_test value (kind.Fixed word)) }
+    ensures { IfOk result (λ goes. leads_to goes at.new
+        ≡ need_closed code at.old.depth (stack_of at.old.frames)
+        (begun_statement_of begun) loop_test ended.value (kind.Fixed ended.word)) }
 {
+    let EndedExpression { value, word } = ended;
     let Fixed::Do = word else {
         drop(value);
         return Ok(false);
     };
-    let value = hold(alloc, value)?;
-    at.enter(alloc, begun, Body::Looping(value))?;
+    let value = boxed(alloc, value)?;
+    at.enter(alloc, begun, OuterStatement::Looping(value))?;
     Ok(true)
 }
 
 /// The expression that a statement needs ends.
-pub fn use_closed(
+pub fn need_closed(
     alloc: Global,
-    at: &mut Spot,
-    begun: Begun,
-    need: Use,
-    value: Measured,
-    word: Fixed,
+    at: &mut BodyState,
+    begun: BegunStatement,
+    need: Need,
+    ended: EndedExpression,
 ) -> Result<bool, NoMemory>
-    ensures { IfOk result (λ goes. went goes at.new
-        ≡ use_closed code at.old.depth (stack_of at.old.frames) (begun_of begun) (use_of need) value (kind.Fixed word)) }
+    ensures { IfOk result (λ goes. leads_to goes at.new
+        ≡ need_closed code at.old.depth (stack_of at.old.frames)
+        (begun_statement_of begun) (need_of need) ended.value (kind.Fixed ended.word)) }
 {
     match need {
-        Use::ToVar(var) => assigned(at, begun, var, value, word),
-        Use::ToArea(width) => pointer_closed(alloc, at, begun, width, value, word),
-        Use::AreaValue(width, pointer) => written(alloc, at, begun, width, pointer, value, word),
-        Use::Test(arms) => tested(alloc, at, begun, arms, value, word),
-        Use::Selector => selected(alloc, at, begun, value, word),
-        Use::LoopTest => loop_tested(alloc, at, begun, value, word),
+        Need::ToVar(var) => assigned(at, begun, var, ended),
+        Need::ToArea(width) => pointer_closed(alloc, at, begun, width, ended),
+        Need::AreaValue(write) => written(alloc, at, begun, write, ended),
+        Need::Test(arms) => tested(alloc, at, begun, arms, ended),
+        Need::Selector => selected(alloc, at, begun, ended),
+        Need::LoopTest => loop_tested(alloc, at, begun, ended),
     }
 }

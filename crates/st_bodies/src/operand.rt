@@ -3,14 +3,14 @@ ghost use Rattle.std.specs.Prelude.{◌≡◌, IfOk};
 ghost use Rattle.st_grammar.specs.inner.Machine.{code};
 ghost use Rattle.st_grammar.specs.inner.Steps.{limit, reduce, reduced_to, function_argument, with_prefix, at_operand, at_opening, close_argument, next_argument, argument_closed, closed, at_operator};
 ghost use Rattle.st_grammar.specs.declared.kind.Kind.TheVariants as kind;
-ghost use Rattle.st_bodies.specs.inner.Spots.{argument_of, binds, stack_of, went};
+ghost use Rattle.st_bodies.specs.inner.BodyStates.{argument_of, binds, leads_to, stack_of};
 
+use crate::body_state::{Argument, BodyState, Frame};
 use crate::expression::{
-    hold, infix_level, is_value, of_apply, of_infix, of_literal, of_prefix, of_select, of_shift,
-    of_variable, prefix_level,
+    EndedExpression, boxed, infix_level, is_value, of_apply, of_infix, of_literal, of_prefix,
+    of_select, of_shift, of_variable, prefix_level,
 };
-use crate::need::use_closed;
-use crate::spot::{Argument, Frame, Spot};
+use crate::need::need_closed;
 use s7_base::NoMemory;
 use st_grammar::{Fixed, Function, Kind, Measured, Prefix};
 use st_tree::BinaryOp;
@@ -43,7 +43,12 @@ fn binds(frames: &[Frame], level: u32) -> bool
 
 /// The operand takes the operators before it that bind as tightly as a level, or more. As many stand
 /// there as levels of precedence and levels of nesting at most.
-fn reduce(alloc: Global, at: &mut Spot, level: u32, operand: Measured) -> Result<Measured, NoMemory>
+fn reduce(
+    alloc: Global,
+    at: &mut BodyState,
+    level: u32,
+    operand: Measured,
+) -> Result<Measured, NoMemory>
     ensures { IfOk result (λ whole. reduced_to code at.new.depth (stack_of at.new.frames) whole
         ≡ reduce code level at.old.depth (stack_of at.old.frames) operand) }
 {
@@ -74,8 +79,8 @@ fn function_argument(function: Function) -> Argument
     }
 }
 
-fn with_prefix(at: &mut Spot, op: Prefix) -> Result<bool, NoMemory>
-    ensures { IfOk result (λ goes. went goes at.new ≡ with_prefix code at.old.depth (stack_of at.old.frames) op) }
+fn with_prefix(at: &mut BodyState, op: Prefix) -> Result<bool, NoMemory>
+    ensures { IfOk result (λ goes. leads_to goes at.new ≡ with_prefix code at.old.depth (stack_of at.old.frames) op) }
 {
     if prefix_level(op) > limit(at.frames.as_slice()) {
         return Ok(false);
@@ -86,8 +91,8 @@ fn with_prefix(at: &mut Spot, op: Prefix) -> Result<bool, NoMemory>
 }
 
 /// A word or a sign where an operand must begin.
-fn at_operand_word(at: &mut Spot, word: Fixed) -> Result<bool, NoMemory>
-    ensures { IfOk result (λ goes. went goes at.new
+fn at_operand_word(at: &mut BodyState, word: Fixed) -> Result<bool, NoMemory>
+    ensures { IfOk result (λ goes. leads_to goes at.new
         ≡ at_operand code at.old.depth (stack_of at.old.frames) (kind.Fixed word)) }
 {
     match word {
@@ -107,8 +112,8 @@ fn at_operand_word(at: &mut Spot, word: Fixed) -> Result<bool, NoMemory>
 }
 
 /// A token where an operand must begin.
-pub fn at_operand(at: &mut Spot, kind: Kind) -> Result<bool, NoMemory>
-    ensures { IfOk result (λ goes. went goes at.new ≡ at_operand code at.old.depth (stack_of at.old.frames) kind) }
+pub fn at_operand(at: &mut BodyState, kind: Kind) -> Result<bool, NoMemory>
+    ensures { IfOk result (λ goes. leads_to goes at.new ≡ at_operand code at.old.depth (stack_of at.old.frames) kind) }
 {
     match kind {
         Kind::Literal(literal) => {
@@ -128,8 +133,8 @@ pub fn at_operand(at: &mut Spot, kind: Kind) -> Result<bool, NoMemory>
 }
 
 /// The bracket after the word of a function, the one token that may stand there.
-pub fn at_opening(at: &mut Spot, function: Function, kind: Kind) -> Result<bool, NoMemory>
-    ensures { IfOk result (λ goes. went goes at.new
+pub fn at_opening(at: &mut BodyState, function: Function, kind: Kind) -> Result<bool, NoMemory>
+    ensures { IfOk result (λ goes. leads_to goes at.new
         ≡ at_opening code at.old.depth (stack_of at.old.frames) function kind) }
 {
     let Kind::Fixed(Fixed::Open) = kind else {
@@ -143,11 +148,11 @@ pub fn at_opening(at: &mut Spot, function: Function, kind: Kind) -> Result<bool,
 /// The last operand of a function ends.
 fn close_argument(
     alloc: Global,
-    at: &mut Spot,
+    at: &mut BodyState,
     argument: Argument,
     operand: Measured,
 ) -> Result<bool, NoMemory>
-    ensures { IfOk result (λ goes. went goes at.new
+    ensures { IfOk result (λ goes. leads_to goes at.new
         ≡ close_argument code at.old.depth (stack_of at.old.frames) (argument_of argument) operand) }
 {
     let whole = match argument {
@@ -168,14 +173,14 @@ fn close_argument(
 /// An operand of a function ends before another.
 fn next_argument(
     alloc: Global,
-    at: &mut Spot,
+    at: &mut BodyState,
     argument: Argument,
     operand: Measured,
 ) -> Result<bool, NoMemory>
-    ensures { IfOk result (λ goes. went goes at.new
+    ensures { IfOk result (λ goes. leads_to goes at.new
         ≡ next_argument code at.old.depth (stack_of at.old.frames) (argument_of argument) operand) }
 {
-    let operand = hold(alloc, operand)?;
+    let operand = boxed(alloc, operand)?;
     let next = match argument {
         Argument::Shifted(op) => Argument::ShiftedBy(op, operand),
         Argument::Gate => Argument::First(operand),
@@ -192,12 +197,12 @@ fn next_argument(
 /// An operand of a function ends.
 fn argument_closed(
     alloc: Global,
-    at: &mut Spot,
+    at: &mut BodyState,
     argument: Argument,
     operand: Measured,
     word: Fixed,
 ) -> Result<bool, NoMemory>
-    ensures { IfOk result (λ goes. went goes at.new
+    ensures { IfOk result (λ goes. leads_to goes at.new
         ≡ argument_closed code at.old.depth (stack_of at.old.frames) (argument_of argument) operand (kind.Fixed word)) }
 {
     match word {
@@ -211,31 +216,33 @@ fn argument_closed(
 }
 
 /// An expression ends at a token that is no operator.
-fn closed(alloc: Global, at: &mut Spot, operand: Measured, kind: Kind) -> Result<bool, NoMemory>
-    ensures { IfOk result (λ goes. went goes at.new
-        ≡ closed code at.old.depth (stack_of at.old.frames) operand kind) }
+fn closed(alloc: Global, at: &mut BodyState, value: Measured, kind: Kind) -> Result<bool, NoMemory>
+    ensures { IfOk result (λ goes. leads_to goes at.new
+        ≡ closed code at.old.depth (stack_of at.old.frames) value kind) }
 {
     let frame = at.frames.pop();
     let Kind::Fixed(word) = kind else {
         drop(frame);
-        drop(operand);
+        drop(value);
         return Ok(false);
     };
     match frame {
         Some(Frame::Bracket) => {
             let Fixed::Close = word else {
-                drop(operand);
+                drop(value);
                 return Ok(false);
             };
             at.rise();
-            at.go_operator(operand);
+            at.go_operator(value);
             Ok(true)
         }
-        Some(Frame::Argument(argument)) => argument_closed(alloc, at, argument, operand, word),
-        Some(Frame::Waiting(begun, need)) => use_closed(alloc, at, begun, need, operand, word),
+        Some(Frame::Argument(argument)) => argument_closed(alloc, at, argument, value, word),
+        Some(Frame::Waiting(begun, need)) => {
+            need_closed(alloc, at, begun, need, EndedExpression { value, word })
+        }
         other => {
             drop(other);
-            drop(operand);
+            drop(value);
             Ok(false)
         }
     }
@@ -244,16 +251,16 @@ fn closed(alloc: Global, at: &mut Spot, operand: Measured, kind: Kind) -> Result
 /// A token after an operand: an operator between operands, or one that ends the expression.
 pub fn at_operator(
     alloc: Global,
-    at: &mut Spot,
+    at: &mut BodyState,
     operand: Measured,
     kind: Kind,
 ) -> Result<bool, NoMemory>
-    ensures { IfOk result (λ goes. went goes at.new
+    ensures { IfOk result (λ goes. leads_to goes at.new
         ≡ at_operator code at.old.depth (stack_of at.old.frames) operand kind) }
 {
     if let Kind::Fixed(Fixed::Between(op)) = kind {
         let left = reduce(alloc, at, infix_level(op), operand)?;
-        at.expect(Frame::Left(op, hold(alloc, left)?))?;
+        at.expect(Frame::Left(op, boxed(alloc, left)?))?;
         return Ok(true);
     }
     let whole = reduce(alloc, at, WEAKEST, operand)?;

@@ -2,25 +2,28 @@
 ghost use Rattle.std.specs.Prelude.{◌≡◌, [], ◌∷◌, ◌++◌, Some, IfOk};
 ghost use Rattle.std.specs.List.{list_any};
 ghost use Rattle.st_grammar.specs.Grammar.{may_jump, case_of, label_tree};
-ghost use Rattle.st_grammar.specs.inner.Machine.{code, choosing, closing, of_cases_else, selecting, write_open, first_formal, next_formal, becoming, giving, given, labelled};
-ghost use Rattle.st_grammar.specs.inner.Steps.{shallower, spot, is_loop, in_loop, body_closed, in_body, at_lead, at_statement, at_target, at_label, at_call, at_part, at_closing, step_at};
+ghost use Rattle.st_grammar.specs.inner.Machine.{code, choosing, otherwise, looping, selecting, otherwise_case, closing, of_cases_else, write_open, first_formal, next_formal, becoming, giving, given, labelled};
+ghost use Rattle.st_grammar.specs.inner.Steps.{shallower, body_state, is_loop, in_loop, body_closed, in_body, at_lead, at_statement, at_target, at_label, at_call, at_part, at_closing, step_at};
 ghost use Rattle.st_grammar.specs.declared.kind.Kind.TheVariants as kind;
 ghost use Rattle.st_grammar.specs.declared.kind.Lead.TheVariants as lead;
-ghost use Rattle.st_bodies.specs.inner.Spots.{begun_of, body_of, frame_of, measured_of, part_of, place_of, stack_of, went};
+ghost use Rattle.st_bodies.specs.inner.BodyStates.{begun_statement_of, frame_of, leads_to, measured_of, outer_statement_of, part_of, place_of, stack_of};
 
-use crate::expression::{Held, is_value, label_of};
+use crate::body_state::{
+    BegunActual, BegunCaseArm, BegunIfArm, BegunStatement, BodyState, Call, Cases, Frame, Need,
+    OuterStatement, Part, Place,
+};
+use crate::expression::{BoxedExpression, is_value, label_of};
 use crate::operand::{at_opening, at_operand, at_operator};
-use crate::spot::{Begun, Body, Call, Cases, Frame, Part, Place, Spot, Use};
 use s7_base::{Boxed, Line, List, NoMemory, Width};
 use st_grammar::{Fixed, Jump, Kind, Lead, Literal};
-use st_tree::{RawArm, RawCaseArm, RawStmt, RawStmtKind, RawVar, StType};
+use st_tree::{RawArm, RawCaseArm, RawStmt, RawStmtKind, RawVar};
 use std::alloc::Global;
 use std::mem::replace;
 
 fn is_loop(frame: &Frame) -> bool
     ensures { result ≡ is_loop code (frame_of frame.now) }
 {
-    matches!(frame, Frame::Within(_, Body::Looping(_)))
+    matches!(frame, Frame::Within(_, OuterStatement::Looping(_)))
 }
 
 /// A WHILE is among the frames.
@@ -46,30 +49,37 @@ fn may_jump(inside: bool, jump: Jump) -> bool
     }
 }
 
+/// Statements inside another one that have ended, and the token at which they did.
+#[derive(Drop)]
+struct EndedStatements {
+    body: List<RawStmt>,
+    kind: Kind,
+}
+
 /// The statements of an arm of an IF end.
 fn choosing_closed(
     alloc: Global,
-    at: &mut Spot,
-    begun: Begun,
-    mut arms: List<RawArm>,
-    test: Held,
-    body: List<RawStmt>,
-    kind: Kind,
+    at: &mut BodyState,
+    begun: BegunStatement,
+    arm: BegunIfArm,
+    ended: EndedStatements,
 ) -> Result<bool, NoMemory>
-    ensures { IfOk result (λ goes. went goes at.new
+    ensures { IfOk result (λ goes. leads_to goes at.new
         ≡ body_closed code at.old.depth (stack_of at.old.frames)
-        (begun_of begun) (choosing arms (measured_of test)) body kind) }
+        (begun_statement_of begun) (choosing arm.arms (measured_of arm.test)) ended.body ended.kind) }
 {
+    let EndedStatements { body, kind } = ended;
     let Kind::Fixed(word) = kind else {
         return Ok(false);
     };
+    let BegunIfArm { mut arms, test } = arm;
     arms.push(RawArm {
         test: test.tree.into_inner(),
         body,
     })?;
     match word {
-        Fixed::Elsif => at.wait(begun, Use::Test(arms))?,
-        Fixed::Else => at.enter(alloc, begun, Body::Otherwise(arms))?,
+        Fixed::Elsif => at.wait(begun, Need::Test(arms))?,
+        Fixed::Else => at.enter(alloc, begun, OuterStatement::Otherwise(arms))?,
         Fixed::EndIf => {
             return at.close(alloc, begun, RawStmtKind::If(arms, List::new(alloc)));
         }
@@ -80,34 +90,34 @@ fn choosing_closed(
 
 /// A label of an arm of a CASE.
 fn at_label(
-    at: &mut Spot,
-    begun: Begun,
-    cases: Boxed<Cases>,
-    mut labels: List<(StType, i64)>,
+    at: &mut BodyState,
+    begun: BegunStatement,
+    mut arm: BegunCaseArm,
     literal: Literal,
 ) -> Result<bool, NoMemory>
-    ensures { IfOk result (λ goes. went goes at.new
-        ≡ at_label code at.old.depth (stack_of at.old.frames) (begun_of begun) (measured_of cases.selector) cases.arms
-        (λ c. labels ++ label_tree c ∷ []) (kind.Literal literal)) }
+    ensures { IfOk result (λ goes. leads_to goes at.new
+        ≡ at_label code at.old.depth (stack_of at.old.frames)
+        (begun_statement_of begun) (measured_of arm.cases.selector) arm.cases.arms
+        (λ c. arm.labels ++ label_tree c ∷ []) (kind.Literal literal)) }
 {
     if !is_value(literal) {
         return Ok(false);
     }
-    labels.push(label_of(literal))?;
-    at.go_part(begun, Part::Labelled(cases, labels));
+    arm.labels.push(label_of(literal))?;
+    at.go_part(begun, Part::Labelled(arm));
     Ok(true)
 }
 
 /// A CASE with one more arm.
 fn with_case(
     alloc: Global,
-    cases: Boxed<Cases>,
-    labels: List<(StType, i64)>,
+    arm: BegunCaseArm,
     body: List<RawStmt>,
 ) -> Result<Boxed<Cases>, NoMemory>
     ensures { IfOk result (λ more. more
-        ≡ record { selector = cases.selector; arms = cases.arms ++ case_of labels body ∷ [] }) }
+        ≡ record { selector = arm.cases.selector; arms = arm.cases.arms ++ case_of arm.labels body ∷ [] }) }
 {
+    let BegunCaseArm { cases, labels } = arm;
     let Cases { selector, mut arms } = cases.into_inner();
     arms.push(RawCaseArm { labels, body })?;
     Boxed::new(alloc, Cases { selector, arms })
@@ -116,39 +126,42 @@ fn with_case(
 /// The END_CASE of a CASE.
 fn case_closed(
     alloc: Global,
-    at: &mut Spot,
-    begun: Begun,
+    at: &mut BodyState,
+    begun: BegunStatement,
     cases: Boxed<Cases>,
-    otherwise: List<RawStmt>,
+    body: List<RawStmt>,
 ) -> Result<bool, NoMemory>
-    ensures { IfOk result (λ goes. went goes at.new
-        ≡ Some (spot code (shallower at.old.depth) (stack_of at.old.frames)
-        (closing begun.before (of_cases_else code begun.line (measured_of cases.selector) cases.arms otherwise)))) }
+    ensures { IfOk result (λ goes. leads_to goes at.new
+        ≡ Some (body_state code (shallower at.old.depth) (stack_of at.old.frames)
+        (closing begun.before (of_cases_else code begun.line (measured_of cases.selector) cases.arms body)))) }
 {
     let Cases { selector, arms } = cases.into_inner();
     let selector = selector.tree.into_inner();
-    at.close(alloc, begun, RawStmtKind::Case(selector, arms, otherwise))
+    at.close(alloc, begun, RawStmtKind::Case(selector, arms, body))
 }
 
 /// The statements of an arm of a CASE end.
 fn selecting_closed(
     alloc: Global,
-    at: &mut Spot,
-    begun: Begun,
-    cases: Boxed<Cases>,
-    labels: List<(StType, i64)>,
-    body: List<RawStmt>,
-    kind: Kind,
+    at: &mut BodyState,
+    begun: BegunStatement,
+    arm: BegunCaseArm,
+    ended: EndedStatements,
 ) -> Result<bool, NoMemory>
-    ensures { IfOk result (λ goes. went goes at.new
+    ensures { IfOk result (λ goes. leads_to goes at.new
         ≡ body_closed code at.old.depth (stack_of at.old.frames)
-        (begun_of begun) (selecting (measured_of cases.selector) cases.arms labels) body kind) }
+        (begun_statement_of begun) (selecting (measured_of arm.cases.selector) arm.cases.arms arm.labels)
+        ended.body ended.kind) }
 {
-    let cases = with_case(alloc, cases, labels, body)?;
+    let EndedStatements { body, kind } = ended;
+    let cases = with_case(alloc, arm, body)?;
     match kind {
-        Kind::Literal(literal) => at_label(at, begun, cases, List::new(alloc), literal),
+        Kind::Literal(literal) => {
+            let labels = List::new(alloc);
+            at_label(at, begun, BegunCaseArm { cases, labels }, literal)
+        }
         Kind::Fixed(Fixed::Else) => {
-            at.enter(alloc, begun, Body::OtherwiseCase(cases))?;
+            at.enter(alloc, begun, OuterStatement::OtherwiseCase(cases))?;
             Ok(true)
         }
         Kind::Fixed(Fixed::EndCase) => case_closed(alloc, at, begun, cases, List::new(alloc)),
@@ -156,50 +169,104 @@ fn selecting_closed(
     }
 }
 
+/// The statements after the ELSE of an IF end.
+fn otherwise_closed(
+    alloc: Global,
+    at: &mut BodyState,
+    begun: BegunStatement,
+    arms: List<RawArm>,
+    ended: EndedStatements,
+) -> Result<bool, NoMemory>
+    ensures { IfOk result (λ goes. leads_to goes at.new
+        ≡ body_closed code at.old.depth (stack_of at.old.frames)
+        (begun_statement_of begun) (otherwise arms) ended.body ended.kind) }
+{
+    let EndedStatements { body, kind } = ended;
+    let Kind::Fixed(Fixed::EndIf) = kind else {
+        return Ok(false);
+    };
+    at.close(alloc, begun, RawStmtKind::If(arms, body))
+}
+
+/// The statements of a WHILE end.
+fn looping_closed(
+    alloc: Global,
+    at: &mut BodyState,
+    begun: BegunStatement,
+    test: BoxedExpression,
+    ended: EndedStatements,
+) -> Result<bool, NoMemory>
+    ensures { IfOk result (λ goes. leads_to goes at.new
+        ≡ body_closed code at.old.depth (stack_of at.old.frames)
+        (begun_statement_of begun) (looping (measured_of test)) ended.body ended.kind) }
+{
+    let EndedStatements { body, kind } = ended;
+    let Kind::Fixed(Fixed::EndWhile) = kind else {
+        return Ok(false);
+    };
+    at.close(
+        alloc,
+        begun,
+        RawStmtKind::While(test.tree.into_inner(), body),
+    )
+}
+
+/// The statements after the ELSE of a CASE end.
+fn otherwise_case_closed(
+    alloc: Global,
+    at: &mut BodyState,
+    begun: BegunStatement,
+    cases: Boxed<Cases>,
+    ended: EndedStatements,
+) -> Result<bool, NoMemory>
+    ensures { IfOk result (λ goes. leads_to goes at.new
+        ≡ body_closed code at.old.depth (stack_of at.old.frames)
+        (begun_statement_of begun) (otherwise_case (measured_of cases.selector) cases.arms) ended.body ended.kind) }
+{
+    let EndedStatements { body, kind } = ended;
+    let Kind::Fixed(Fixed::EndCase) = kind else {
+        return Ok(false);
+    };
+    case_closed(alloc, at, begun, cases, body)
+}
+
 /// Statements inside another one end.
 fn body_closed(
     alloc: Global,
-    at: &mut Spot,
-    begun: Begun,
-    outer: Body,
-    body: List<RawStmt>,
-    kind: Kind,
+    at: &mut BodyState,
+    begun: BegunStatement,
+    outer: OuterStatement,
+    ended: EndedStatements,
 ) -> Result<bool, NoMemory>
-    ensures { IfOk result (λ goes. went goes at.new
-        ≡ body_closed code at.old.depth (stack_of at.old.frames) (begun_of begun) (body_of outer) body kind) }
+    ensures { IfOk result (λ goes. leads_to goes at.new
+        ≡ body_closed code at.old.depth (stack_of at.old.frames)
+        (begun_statement_of begun) (outer_statement_of outer) ended.body ended.kind) }
 {
-    let statement = match outer {
-        Body::Choosing(arms, test) => {
-            return choosing_closed(alloc, at, begun, arms, test, body, kind);
-        }
-        Body::Selecting(cases, labels) => {
-            return selecting_closed(alloc, at, begun, cases, labels, body, kind);
-        }
-        Body::Otherwise(arms) => match kind {
-            Kind::Fixed(Fixed::EndIf) => RawStmtKind::If(arms, body),
-            _ => return Ok(false),
-        },
-        Body::Looping(test) => match kind {
-            Kind::Fixed(Fixed::EndWhile) => RawStmtKind::While(test.tree.into_inner(), body),
-            _ => return Ok(false),
-        },
-        Body::OtherwiseCase(cases) => match kind {
-            Kind::Fixed(Fixed::EndCase) => {
-                return case_closed(alloc, at, begun, cases, body);
-            }
-            _ => return Ok(false),
-        },
-    };
-    at.close(alloc, begun, statement)
+    match outer {
+        OuterStatement::Choosing(arm) => choosing_closed(alloc, at, begun, arm, ended),
+        OuterStatement::Otherwise(arms) => otherwise_closed(alloc, at, begun, arms, ended),
+        OuterStatement::Looping(test) => looping_closed(alloc, at, begun, test, ended),
+        OuterStatement::Selecting(arm) => selecting_closed(alloc, at, begun, arm, ended),
+        OuterStatement::OtherwiseCase(cases) => otherwise_case_closed(
+            alloc, at, begun, cases, ended,
+        ),
+    }
 }
 
 /// A token that begins no statement ends those of the innermost open one, or cannot follow.
-fn in_body(alloc: Global, at: &mut Spot, body: List<RawStmt>, kind: Kind) -> Result<bool, NoMemory>
-    ensures { IfOk result (λ goes. went goes at.new
+fn in_body(
+    alloc: Global,
+    at: &mut BodyState,
+    body: List<RawStmt>,
+    kind: Kind,
+) -> Result<bool, NoMemory>
+    ensures { IfOk result (λ goes. leads_to goes at.new
         ≡ in_body code at.old.depth (stack_of at.old.frames) body kind) }
 {
     match at.frames.pop() {
-        Some(Frame::Within(begun, outer)) => body_closed(alloc, at, begun, outer, body, kind),
+        Some(Frame::Within(begun, outer)) => {
+            body_closed(alloc, at, begun, outer, EndedStatements { body, kind })
+        }
         other => {
             drop(other);
             Ok(false)
@@ -210,12 +277,12 @@ fn in_body(alloc: Global, at: &mut Spot, body: List<RawStmt>, kind: Kind) -> Res
 /// EXIT, CONTINUE or RETURN.
 fn at_jump(
     alloc: Global,
-    at: &mut Spot,
+    at: &mut BodyState,
     before: List<RawStmt>,
     jump: Jump,
     line: Line,
 ) -> Result<bool, NoMemory>
-    ensures { IfOk result (λ goes. went goes at.new
+    ensures { IfOk result (λ goes. leads_to goes at.new
         ≡ at_lead code at.old.depth (stack_of at.old.frames) before (lead.Jump jump) line) }
 {
     if !may_jump(in_loop(at.frames.as_slice()), jump) {
@@ -233,26 +300,26 @@ fn at_jump(
 /// A word that begins a statement.
 fn at_lead(
     alloc: Global,
-    at: &mut Spot,
+    at: &mut BodyState,
     before: List<RawStmt>,
     lead: Lead,
     line: Line,
 ) -> Result<bool, NoMemory>
-    ensures { IfOk result (λ goes. went goes at.new
+    ensures { IfOk result (λ goes. leads_to goes at.new
         ≡ at_lead code at.old.depth (stack_of at.old.frames) before lead line) }
 {
     let need = match lead {
-        Lead::If => Use::Test(List::new(alloc)),
-        Lead::Case => Use::Selector,
-        Lead::While => Use::LoopTest,
+        Lead::If => Need::Test(List::new(alloc)),
+        Lead::Case => Need::Selector,
+        Lead::While => Need::LoopTest,
         Lead::Jump(jump) => return at_jump(alloc, at, before, jump, line),
         Lead::AreaWrite(width) => {
-            at.go_part(Begun { before, line }, Part::WriteOpen(width));
+            at.go_part(BegunStatement { before, line }, Part::WriteOpen(width));
             return Ok(true);
         }
         Lead::Program | Lead::Function => return Ok(false),
     };
-    at.wait(Begun { before, line }, need)?;
+    at.wait(BegunStatement { before, line }, need)?;
     at.deepen()?;
     Ok(true)
 }
@@ -260,16 +327,16 @@ fn at_lead(
 /// A token where a statement may begin or statements end.
 fn at_statement(
     alloc: Global,
-    at: &mut Spot,
+    at: &mut BodyState,
     before: List<RawStmt>,
     kind: Kind,
 ) -> Result<bool, NoMemory>
-    ensures { IfOk result (λ goes. went goes at.new
+    ensures { IfOk result (λ goes. leads_to goes at.new
         ≡ at_statement code at.old.depth (stack_of at.old.frames) before kind) }
 {
     match kind {
         Kind::Variable(var, line) => {
-            at.go_part(Begun { before, line }, Part::Target(var));
+            at.go_part(BegunStatement { before, line }, Part::Target(var));
             Ok(true)
         }
         Kind::Lead(lead, line) => at_lead(alloc, at, before, lead, line),
@@ -282,12 +349,17 @@ fn at_statement(
 }
 
 /// What stands after a variable at the beginning of a statement.
-fn at_target(at: &mut Spot, begun: Begun, var: RawVar, kind: Kind) -> Result<bool, NoMemory>
-    ensures { IfOk result (λ goes. went goes at.new
-        ≡ at_target code at.old.depth (stack_of at.old.frames) (begun_of begun) var kind) }
+fn at_target(
+    at: &mut BodyState,
+    begun: BegunStatement,
+    var: RawVar,
+    kind: Kind,
+) -> Result<bool, NoMemory>
+    ensures { IfOk result (λ goes. leads_to goes at.new
+        ≡ at_target code at.old.depth (stack_of at.old.frames) (begun_statement_of begun) var kind) }
 {
     match kind {
-        Kind::Fixed(Fixed::Becomes) => at.wait(begun, Use::ToVar(var))?,
+        Kind::Fixed(Fixed::Becomes) => at.wait(begun, Need::ToVar(var))?,
         Kind::Fixed(Fixed::Open) => {
             let RawVar::Name(name) = var else {
                 return Ok(false);
@@ -301,14 +373,19 @@ fn at_target(at: &mut Spot, begun: Begun, var: RawVar, kind: Kind) -> Result<boo
 }
 
 /// A name of a formal.
-fn at_formal(at: &mut Spot, begun: Begun, call: Boxed<Call>, kind: Kind) -> Result<bool, NoMemory>
-    ensures { IfOk result (λ goes. went goes at.new
+fn at_formal(
+    at: &mut BodyState,
+    begun: BegunStatement,
+    call: Boxed<Call>,
+    kind: Kind,
+) -> Result<bool, NoMemory>
+    ensures { IfOk result (λ goes. leads_to goes at.new
         ≡ at_call code at.old.depth (stack_of at.old.frames)
-        (begun_of begun) (next_formal call.name call.actuals) kind) }
+        (begun_statement_of begun) (next_formal call.name call.actuals) kind) }
 {
     match kind {
         Kind::Variable(RawVar::Name(formal), _) => {
-            at.go_part(begun, Part::Becoming(call, formal));
+            at.go_part(begun, Part::Becoming(BegunActual { call, formal }));
             Ok(true)
         }
         _ => Ok(false),
@@ -326,13 +403,13 @@ fn called(alloc: Global, name: List<u8>) -> Result<Boxed<Call>, NoMemory>
 /// What stands after the bracket of a call.
 fn at_first_formal(
     alloc: Global,
-    at: &mut Spot,
-    begun: Begun,
+    at: &mut BodyState,
+    begun: BegunStatement,
     name: List<u8>,
     kind: Kind,
 ) -> Result<bool, NoMemory>
-    ensures { IfOk result (λ goes. went goes at.new
-        ≡ at_call code at.old.depth (stack_of at.old.frames) (begun_of begun) (first_formal name) kind) }
+    ensures { IfOk result (λ goes. leads_to goes at.new
+        ≡ at_call code at.old.depth (stack_of at.old.frames) (begun_statement_of begun) (first_formal name) kind) }
 {
     match kind {
         Kind::Fixed(Fixed::Close) => {
@@ -344,33 +421,28 @@ fn at_first_formal(
 
 /// The `:=` after the name of a formal.
 fn at_becoming(
-    at: &mut Spot,
-    begun: Begun,
-    call: Boxed<Call>,
-    formal: List<u8>,
+    at: &mut BodyState,
+    begun: BegunStatement,
+    actual: BegunActual,
     kind: Kind,
 ) -> Result<bool, NoMemory>
-    ensures { IfOk result (λ goes. went goes at.new
+    ensures { IfOk result (λ goes. leads_to goes at.new
         ≡ at_call code at.old.depth (stack_of at.old.frames)
-        (begun_of begun) (becoming call.name call.actuals formal) kind) }
+        (begun_statement_of begun) (becoming actual.call.name actual.call.actuals actual.formal) kind) }
 {
     let Kind::Fixed(Fixed::Becomes) = kind else {
         return Ok(false);
     };
-    at.go_part(begun, Part::Giving(call, formal));
+    at.go_part(begun, Part::Giving(actual));
     Ok(true)
 }
 
 /// A call with one more actual.
-fn with_actual(
-    alloc: Global,
-    call: Boxed<Call>,
-    formal: List<u8>,
-    var: RawVar,
-) -> Result<Boxed<Call>, NoMemory>
+fn with_actual(alloc: Global, actual: BegunActual, var: RawVar) -> Result<Boxed<Call>, NoMemory>
     ensures { IfOk result (λ more. more
-        ≡ record { name = call.name; actuals = call.actuals ++ (formal, var) ∷ [] }) }
+        ≡ record { name = actual.call.name; actuals = actual.call.actuals ++ (actual.formal, var) ∷ [] }) }
 {
+    let BegunActual { call, formal } = actual;
     let Call { name, mut actuals } = call.into_inner();
     actuals.push((formal, var))?;
     Boxed::new(alloc, Call { name, actuals })
@@ -379,20 +451,19 @@ fn with_actual(
 /// A variable for a formal.
 fn at_actual(
     alloc: Global,
-    at: &mut Spot,
-    begun: Begun,
-    call: Boxed<Call>,
-    formal: List<u8>,
+    at: &mut BodyState,
+    begun: BegunStatement,
+    actual: BegunActual,
     kind: Kind,
 ) -> Result<bool, NoMemory>
-    ensures { IfOk result (λ goes. went goes at.new
+    ensures { IfOk result (λ goes. leads_to goes at.new
         ≡ at_call code at.old.depth (stack_of at.old.frames)
-        (begun_of begun) (giving call.name call.actuals formal) kind) }
+        (begun_statement_of begun) (giving actual.call.name actual.call.actuals actual.formal) kind) }
 {
     let Kind::Variable(var, _) = kind else {
         return Ok(false);
     };
-    let call = with_actual(alloc, call, formal, var)?;
+    let call = with_actual(alloc, actual, var)?;
     at.go_part(begun, Part::Given(call));
     Ok(true)
 }
@@ -400,14 +471,14 @@ fn at_actual(
 /// What stands after the actuals of a call.
 fn at_given(
     alloc: Global,
-    at: &mut Spot,
-    begun: Begun,
+    at: &mut BodyState,
+    begun: BegunStatement,
     call: Boxed<Call>,
     kind: Kind,
 ) -> Result<bool, NoMemory>
-    ensures { IfOk result (λ goes. went goes at.new
+    ensures { IfOk result (λ goes. leads_to goes at.new
         ≡ at_call code at.old.depth (stack_of at.old.frames)
-        (begun_of begun) (given call.name call.actuals) kind) }
+        (begun_statement_of begun) (given call.name call.actuals) kind) }
 {
     match kind {
         Kind::Fixed(Fixed::Comma) => {
@@ -424,18 +495,18 @@ fn at_given(
 
 /// A label where one must stand.
 fn at_next_label(
-    at: &mut Spot,
-    begun: Begun,
-    cases: Boxed<Cases>,
-    labels: List<(StType, i64)>,
+    at: &mut BodyState,
+    begun: BegunStatement,
+    arm: BegunCaseArm,
     kind: Kind,
 ) -> Result<bool, NoMemory>
-    ensures { IfOk result (λ goes. went goes at.new
-        ≡ at_label code at.old.depth (stack_of at.old.frames) (begun_of begun) (measured_of cases.selector) cases.arms
-        (λ c. labels ++ label_tree c ∷ []) kind) }
+    ensures { IfOk result (λ goes. leads_to goes at.new
+        ≡ at_label code at.old.depth (stack_of at.old.frames)
+        (begun_statement_of begun) (measured_of arm.cases.selector) arm.cases.arms
+        (λ c. arm.labels ++ label_tree c ∷ []) kind) }
 {
     match kind {
-        Kind::Literal(literal) => at_label(at, begun, cases, labels, literal),
+        Kind::Literal(literal) => at_label(at, begun, arm, literal),
         _ => Ok(false),
     }
 }
@@ -443,33 +514,37 @@ fn at_next_label(
 /// What stands after a label.
 fn at_labelled(
     alloc: Global,
-    at: &mut Spot,
-    begun: Begun,
-    cases: Boxed<Cases>,
-    labels: List<(StType, i64)>,
+    at: &mut BodyState,
+    begun: BegunStatement,
+    arm: BegunCaseArm,
     kind: Kind,
 ) -> Result<bool, NoMemory>
-    ensures { IfOk result (λ goes. went goes at.new
+    ensures { IfOk result (λ goes. leads_to goes at.new
         ≡ at_part code at.old.depth (stack_of at.old.frames)
-        (begun_of begun) (labelled (measured_of cases.selector) cases.arms labels) kind) }
+        (begun_statement_of begun) (labelled (measured_of arm.cases.selector) arm.cases.arms arm.labels) kind) }
 {
     match kind {
-        Kind::Fixed(Fixed::Comma) => at.go_part(begun, Part::NextLabel(cases, labels)),
-        Kind::Fixed(Fixed::Colon) => at.enter(alloc, begun, Body::Selecting(cases, labels))?,
+        Kind::Fixed(Fixed::Comma) => at.go_part(begun, Part::NextLabel(arm)),
+        Kind::Fixed(Fixed::Colon) => at.enter(alloc, begun, OuterStatement::Selecting(arm))?,
         _ => return Ok(false),
     }
     Ok(true)
 }
 
 /// The bracket of an AREA_WRITE.
-fn at_write_open(at: &mut Spot, begun: Begun, width: Width, kind: Kind) -> Result<bool, NoMemory>
-    ensures { IfOk result (λ goes. went goes at.new
-        ≡ at_part code at.old.depth (stack_of at.old.frames) (begun_of begun) (write_open width) kind) }
+fn at_write_open(
+    at: &mut BodyState,
+    begun: BegunStatement,
+    width: Width,
+    kind: Kind,
+) -> Result<bool, NoMemory>
+    ensures { IfOk result (λ goes. leads_to goes at.new
+        ≡ at_part code at.old.depth (stack_of at.old.frames) (begun_statement_of begun) (write_open width) kind) }
 {
     let Kind::Fixed(Fixed::Open) = kind else {
         return Ok(false);
     };
-    at.wait(begun, Use::ToArea(width))?;
+    at.wait(begun, Need::ToArea(width))?;
     at.deepen()?;
     Ok(true)
 }
@@ -477,36 +552,39 @@ fn at_write_open(at: &mut Spot, begun: Begun, width: Width, kind: Kind) -> Resul
 /// A token in a part of a statement that is no expression.
 fn at_part(
     alloc: Global,
-    at: &mut Spot,
-    begun: Begun,
+    at: &mut BodyState,
+    begun: BegunStatement,
     part: Part,
     kind: Kind,
 ) -> Result<bool, NoMemory>
-    ensures { IfOk result (λ goes. went goes at.new
-        ≡ at_part code at.old.depth (stack_of at.old.frames) (begun_of begun) (part_of part) kind) }
+    ensures { IfOk result (λ goes. leads_to goes at.new
+        ≡ at_part code at.old.depth (stack_of at.old.frames) (begun_statement_of begun) (part_of part) kind) }
 {
     match part {
         Part::Target(var) => at_target(at, begun, var, kind),
         Part::WriteOpen(width) => at_write_open(at, begun, width, kind),
         Part::FirstFormal(name) => at_first_formal(alloc, at, begun, name, kind),
         Part::NextFormal(call) => at_formal(at, begun, call, kind),
-        Part::Becoming(call, formal) => at_becoming(at, begun, call, formal, kind),
-        Part::Giving(call, formal) => at_actual(alloc, at, begun, call, formal, kind),
+        Part::Becoming(actual) => at_becoming(at, begun, actual, kind),
+        Part::Giving(actual) => at_actual(alloc, at, begun, actual, kind),
         Part::Given(call) => at_given(alloc, at, begun, call, kind),
-        Part::FirstLabel(cases) => at_next_label(at, begun, cases, List::new(alloc), kind),
-        Part::NextLabel(cases, labels) => at_next_label(at, begun, cases, labels, kind),
-        Part::Labelled(cases, labels) => at_labelled(alloc, at, begun, cases, labels, kind),
+        Part::FirstLabel(cases) => {
+            let labels = List::new(alloc);
+            at_next_label(at, begun, BegunCaseArm { cases, labels }, kind)
+        }
+        Part::NextLabel(arm) => at_next_label(at, begun, arm, kind),
+        Part::Labelled(arm) => at_labelled(alloc, at, begun, arm, kind),
     }
 }
 
 /// The `;` of a statement.
 fn at_closing(
-    at: &mut Spot,
+    at: &mut BodyState,
     mut before: List<RawStmt>,
     statement: Boxed<RawStmt>,
     kind: Kind,
 ) -> Result<bool, NoMemory>
-    ensures { IfOk result (λ goes. went goes at.new
+    ensures { IfOk result (λ goes. leads_to goes at.new
         ≡ at_closing code at.old.depth (stack_of at.old.frames) before statement kind) }
 {
     let Kind::Fixed(Fixed::Semicolon) = kind else {
@@ -519,9 +597,9 @@ fn at_closing(
 }
 
 /// One token in statements: whether it can follow, and if it can, where it leads. Where it can't, nothing
-/// is said of what the spot is then.
-pub fn step(alloc: Global, at: &mut Spot, kind: Kind) -> Result<bool, NoMemory>
-    ensures { IfOk result (λ goes. went goes at.new
+/// is said of what the state is then.
+pub fn step(alloc: Global, at: &mut BodyState, kind: Kind) -> Result<bool, NoMemory>
+    ensures { IfOk result (λ goes. leads_to goes at.new
         ≡ step_at code at.old.depth (stack_of at.old.frames) (place_of at.old.place) kind) }
 {
     match replace(&mut at.place, Place::Operand) {

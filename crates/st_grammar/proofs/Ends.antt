@@ -5,10 +5,10 @@ use Rattle.s7_base.specs.declared.reason.Line.{Line}
 use Rattle.s7_base.specs.declared.reason.Reason.TheVariants.{TooDeep}
 use Rattle.s7_base.specs.declared.reason.Rejection.{Rejection}
 use Rattle.s7_base.specs.declared.reason.Rejection.TheVariants.{Refused}
-use Rattle.st_grammar.specs.inner.Judge.{turn, reached, judged, on_good, judge, text_in}
+use Rattle.st_grammar.specs.inner.Judge.{after_token, level_reached, judged, on_good, judge_tokens, text_in}
 use Rattle.st_grammar.specs.Levels.{deepest}
 use Rattle.st_grammar.specs.inner.Machine as machine
-use Rattle.st_grammar.specs.inner.Machine.{code, Frame, unary, left, bracket, argument, waiting, within, Argument, Use, Body, Part, target, write_open, first_formal, next_formal, becoming, giving, given, first_label, next_label, labelled, Place, statement, part, closing, operand, operator, opening, Spot, Row, State, start, globals, row, between, heading, opened, formals_done, section, typing, inside, over, Which, formals, temps}
+use Rattle.st_grammar.specs.inner.Machine.{code, Frame, unary, left, bracket, argument, waiting, within, Argument, Need, OuterStatement, Part, target, write_open, first_formal, next_formal, becoming, giving, given, first_label, next_label, labelled, Place, statement, part, closing, operand, operator, opening, BodyState, Row, State, start, globals, row, between, heading, opened, formals_done, section, typing, inside, over, SectionKind, formals, temps}
 use Rattle.st_grammar.specs.inner.Steps.{weakest, reduce, closed, in_body, at_part, step_at, row_step, at_typing, next}
 use Rattle.st_grammar.specs.Syntax.{Lined, all_lined, end_on, lined}
 use Rattle.st_grammar.specs.declared.kind.Fixed.TheVariants as fixed
@@ -40,14 +40,15 @@ body_end d (unary op ∷ s) body = refl
 body_end d (left op a ∷ s) body = refl
 body_end d (bracket ∷ s) body = refl
 body_end d (argument a ∷ s) body = refl
-body_end d (waiting b u ∷ s) body = refl
+body_end d (waiting b n ∷ s) body = refl
 body_end d (within b (machine.choosing arms e) ∷ s) body = refl
 body_end d (within b (machine.otherwise arms) ∷ s) body = refl
 body_end d (within b (machine.looping e) ∷ s) body = refl
 body_end d (within b (machine.selecting e arms labels) ∷ s) body = refl
 body_end d (within b (machine.otherwise_case e arms) ∷ s) body = refl
 
-part_end : (d : ℕ) (s : List (Frame code)) (b : machine.Begun code) (x : Part code) → at_part code d s b x end ≡ None
+part_end : (d : ℕ) (s : List (Frame code)) (b : machine.BegunStatement code) (x : Part code) →
+    at_part code d s b x end ≡ None
 part_end d s b (target (var.Name name)) = refl
 part_end d s b (target (var.Direct area block w byte bit)) = refl
 part_end d s b (write_open w) = refl
@@ -93,10 +94,10 @@ abbrev pub IsOver : State code → Type 0
 IsOver (over text) = Unit {0}
 IsOver other = ⊥
 
-typing_end : (top : machine.Top code) (which : Which code) (done : machine.LocalsIn code) (name : List ℕ) (line : Line) (x : machine.Typing) → at_typing code top which done name line x end ≡ None
-typing_end top which done name line machine.local_colon = refl
-typing_end top which done name line machine.local_type = refl
-typing_end top which done name line (machine.local_end ty) = refl
+typing_end : (begun : machine.BegunUnit code) (which : SectionKind code) (done : machine.LocalsIn code) (name : List ℕ) (line : Line) (x : machine.Typing) → at_typing code begun which done name line x end ≡ None
+typing_end begun which done name line machine.local_colon = refl
+typing_end begun which done name line machine.local_type = refl
+typing_end begun which done name line (machine.local_end ty) = refl
 
 over_at_end : (q : State code) → IfSome (next code q end) IsOver
 over_at_end start = tt
@@ -104,16 +105,16 @@ over_at_end (globals done) = tt
 over_at_end (row done name line x) = subst (λ (o : Option (Row code)). IfSome (option_map (λ (y : Row code). row done name line y) o) IsOver) (sym (row_end name x)) tt
 over_at_end (between text) = tt
 over_at_end (heading text program line) = tt
-over_at_end (opened top) = tt
-over_at_end (formals_done top f) = tt
-over_at_end (section top which done) = tt
-over_at_end (typing top which done name line x) = subst (λ (o : Option (State code)). IfSome o IsOver) (sym (typing_end top which done name line x)) tt
-over_at_end (inside top f l at) = subst (λ (o : Option (Spot code)). IfSome (option_map (λ (to : Spot code). inside top f l to) o) IsOver) (sym (step_end at.depth at.stack at.place)) tt
+over_at_end (opened begun) = tt
+over_at_end (formals_done begun f) = tt
+over_at_end (section begun which done) = tt
+over_at_end (typing begun which done name line x) = subst (λ (o : Option (State code)). IfSome o IsOver) (sym (typing_end begun which done name line x)) tt
+over_at_end (inside begun f l at) = subst (λ (o : Option (BodyState code)). IfSome (option_map (λ (to : BodyState code). inside begun f l to) o) IsOver) (sym (step_end at.depth at.stack at.place)) tt
 over_at_end (over text) = tt
 
-turn_end : (q : State code) → IfSome (turn q end) IsOver
-unfolding turn
-turn_end q = over_at_end q
+after_token_end : (q : State code) → IfSome (after_token q end) IsOver
+unfolding after_token
+after_token_end q = over_at_end q
 
 -- what is judged good at the end is over
 abbrev GoodOver : Result (State code) Rejection → Type 0
@@ -122,25 +123,26 @@ GoodOver (Err refused) = Unit {0}
 
 good_end : (o : Option (State code)) (line : Line) → IfSome o IsOver → GoodOver (on_good (judged o line) (λ to. Ok to))
 good_end None line h = tt
-good_end (Some to) line h = by (nat_lt deepest (reached to))
+good_end (Some to) line h = by (nat_lt deepest (level_reached to))
   where
     by : (c : Bool) → GoodOver (on_good (if c then Err (Refused line TooDeep) else Ok to) (λ to. Ok to))
     by true = tt
     by false = h
 
-last_judged : (items : List Lined) (line : Line) (q : State code) → GoodOver (judge q (items ++ end_on line ∷ []))
-last_judged [] line q = good_end (turn q end) line (turn_end q)
-last_judged (item ∷ items) line q = by (judged (turn q item.kind) item.line) (λ to. last_judged items line to)
+last_judged : (items : List Lined) (line : Line) (q : State code) →
+    GoodOver (judge_tokens q (items ++ end_on line ∷ []))
+last_judged [] line q = good_end (after_token q end) line (after_token_end q)
+last_judged (item ∷ items) line q = by (judged (after_token q item.kind) item.line) (λ to. last_judged items line to)
   where
-    by : (r : Result (State code) Rejection) → ((to : State code) → GoodOver (judge to (items ++ end_on line ∷ []))) → GoodOver (on_good r (λ to. judge to (items ++ end_on line ∷ [])))
+    by : (r : Result (State code) Rejection) → ((to : State code) → GoodOver (judge_tokens to (items ++ end_on line ∷ []))) → GoodOver (on_good r (λ to. judge_tokens to (items ++ end_on line ∷ [])))
     by (Ok to) h = h to
     by (Err refused) h = tt
 
 -- the state that is judged good after the end of a text
-ends_over : (items : List Lined) (line : Line) (q : State code) → judge start (items ++ end_on line ∷ []) ≡ Ok q → IsOver q
+ends_over : (items : List Lined) (line : Line) (q : State code) → judge_tokens start (items ++ end_on line ∷ []) ≡ Ok q → IsOver q
 ends_over items line q e = subst GoodOver e (last_judged items line start)
 
 -- tokens that are judged good come to the end
-pub not_over : (tokens : List StToken) (line : Line) (q : State code) → judge start (all_lined tokens line) ≡ Ok q → text_in q ≡ None → ⊥
+pub not_over : (tokens : List StToken) (line : Line) (q : State code) → judge_tokens start (all_lined tokens line) ≡ Ok q → text_in q ≡ None → ⊥
 not_over tokens line (over t) good e = absurd cc
 not_over tokens line other good e = ends_over (map lined tokens) line other good

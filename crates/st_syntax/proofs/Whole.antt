@@ -8,10 +8,10 @@ use Rattle.s7_base.specs.declared.reason.Reason.{Reason}
 use Rattle.s7_base.specs.declared.reason.Rejection.{Rejection}
 use Rattle.s7_base.specs.declared.reason.Rejection.TheVariants.{Refused, NoMemory}
 use Rattle.st_grammar.specs.Syntax.{all_lined}
-use Rattle.st_grammar.specs.inner.Judge.{judge, raw_of, tree_at, verdict, verdict_on}
-use Rattle.st_grammar.specs.inner.Machine.{code, Before, State, start}
+use Rattle.st_grammar.specs.inner.Judge.{judge_tokens, raw_of, tree_at, verdict, verdict_on}
+use Rattle.st_grammar.specs.inner.Machine.{code, TextSoFar, State, start}
 use Rattle.st_lexer.specs.StTokens.{tokens_of}
-use Rattle.st_syntax.specs.declared.state.Before.{Before as Found}
+use Rattle.st_syntax.specs.declared.state.TextSoFar.{TextSoFar as Found}
 use Rattle.st_syntax.specs.inner.Seen.{HasText}
 use Rattle.st_tree.specs.declared.raw.RawSt.{RawSt}
 use Rattle.st_tree.specs.declared.token.StToken.{StToken}
@@ -20,16 +20,16 @@ use Rattle.st_tree.specs.declared.token.StToken.{StToken}
 abbrev IsJudged : List ℕ → Line → Reason → Type 0
 IsJudged bytes line why = verdict bytes ≡ Err (Refused line why)
 
-has_tree : (given : Result (State code) Rejection) (text : Before code) → HasText given text → tree_at given ≡ Some (raw_of text)
+has_tree : (given : Result (State code) Rejection) (text : TextSoFar code) → HasText given text → tree_at given ≡ Some (raw_of text)
 has_tree (Ok q) text h = ap (option_map raw_of) h
 has_tree (Err refused) text h = absurd h
 
 -- a text whose tokens are judged good has the tree of its end
-pub read_as : (bytes : List ℕ) (tokens : List StToken) (end : Line) (text : Before code) → tokens_of bytes ≡ Ok tokens → end ≡ line_at_end bytes → HasText (judge start (all_lined tokens end)) text
+pub read_as : (bytes : List ℕ) (tokens : List StToken) (end : Line) (text : TextSoFar code) → tokens_of bytes ≡ Ok tokens → end ≡ line_at_end bytes → HasText (judge_tokens start (all_lined tokens end)) text
     → tree_at (verdict bytes) ≡ Some (raw_of text)
 read_as bytes tokens end text found at h =
     ap (λ (o : Result (List StToken) Rejection). tree_at (verdict_on bytes o)) found
-    ∙ has_tree (judge start (all_lined tokens (line_at_end bytes))) text (subst (λ (line : Line). HasText (judge start (all_lined tokens line)) text) at h)
+    ∙ has_tree (judge_tokens start (all_lined tokens (line_at_end bytes))) text (subst (λ (line : Line). HasText (judge_tokens start (all_lined tokens line)) text) at h)
 
 -- what refuses a text's tokens refuses the text
 pub bad_tokens : (bytes : List ℕ) (refused : Rejection) → Answers {X = List StToken} (Err refused) (tokens_of bytes) → IfRefused {X = RawSt} (Err refused) (IsJudged bytes)
@@ -38,7 +38,7 @@ bad_tokens bytes NoMemory h = tt
 
 -- and so does what their judgement refuses
 pub refused_as : (bytes : List ℕ) (tokens : List StToken) (end : Line) (refused : Rejection) → tokens_of bytes ≡ Ok tokens → end ≡ line_at_end bytes
-    → IfRefused {X = Found} (Err refused) (λ line why. judge start (all_lined tokens end) ≡ Err (Refused line why)) → IfRefused {X = RawSt} (Err refused) (IsJudged bytes)
+    → IfRefused {X = Found} (Err refused) (λ line why. judge_tokens start (all_lined tokens end) ≡ Err (Refused line why)) → IfRefused {X = RawSt} (Err refused) (IsJudged bytes)
 refused_as bytes tokens end (Refused line why) found at bad =
-    ap (verdict_on bytes) found ∙ subst (λ (last : Line). judge start (all_lined tokens last) ≡ Err (Refused line why)) at bad
+    ap (verdict_on bytes) found ∙ subst (λ (last : Line). judge_tokens start (all_lined tokens last) ≡ Err (Refused line why)) at bad
 refused_as bytes tokens end NoMemory found at bad = tt

@@ -2,15 +2,23 @@
 ghost use Rattle.std.specs.Prelude.{◌≡◌, nat_lt, Some, Err, IfOk, option_map};
 ghost use Rattle.s7_base.specs.declared.reason.Rejection.TheVariants.{Refused};
 ghost use Rattle.s7_base.specs.Answers.{IfRefused};
-ghost use Rattle.st_grammar.specs.inner.Judge.{turn, reached, judged, judge, text_in, tree_at, verdict};
+ghost use Rattle.st_grammar.specs.inner.Judge.{
+  after_token,
+  judge_tokens,
+  judged,
+  level_reached,
+  text_in,
+  tree_at,
+  verdict,
+};
 ghost use Rattle.st_grammar.specs.Kinds.{kind_of};
 ghost use Rattle.st_grammar.specs.Levels.{deepest};
 ghost use Rattle.st_syntax.specs.declared.state.State.TheVariants as state;
 ghost use Rattle.st_grammar.specs.Syntax.{all_lined};
-ghost use Rattle.st_syntax.specs.inner.Seen.{seen, went, HasText, JudgedIs};
-ghost use Rattle.st_syntax.specs.inner.Views.{before_of};
+ghost use Rattle.st_syntax.specs.inner.Seen.{leads_to, seen, HasText, JudgedIs};
+ghost use Rattle.st_syntax.specs.inner.Views.{text_so_far_of};
 
-use crate::state::{Before, State};
+use crate::state::{State, TextSoFar};
 use crate::unit::next;
 use s7_base::{Line, NoMemory, Reason, Rejection};
 use st_bodies::{is_deep_at, step};
@@ -22,27 +30,27 @@ use std::alloc::Global;
 use std::mem::replace;
 
 /// The last token made a level above the greatest.
-#[tactic(auto, unfolding(crate::specs::inner::Seen::seen, st_grammar::specs::inner::Judge::reached))]
+#[tactic(auto, unfolding(crate::specs::inner::Seen::seen, st_grammar::specs::inner::Judge::level_reached))]
 fn is_deep(state: &State) -> bool
-    ensures { result ≡ nat_lt deepest (reached (seen state.now)) }
+    ensures { result ≡ nat_lt deepest (level_reached (seen state.now)) }
 {
     match state {
-        State::Inside(_, _, _, spot) => is_deep_at(spot),
+        State::Inside(_, at) => is_deep_at(at),
         _ => false,
     }
 }
 
 /// One token of a text: whether it can follow, and if it can, where it leads. Inside of statements, where
 /// most of a text is, the state stays where it is.
-#[tactic(auto, unfolding(crate::specs::inner::Seen::seen, st_grammar::specs::inner::Judge::turn))]
-fn turn(alloc: Global, state: &mut State, kind: Kind) -> Result<bool, NoMemory>
-    ensures { IfOk result (λ goes. went goes state.new ≡ turn (seen state.old) kind) }
+#[tactic(auto, unfolding(crate::specs::inner::Seen::seen, st_grammar::specs::inner::Judge::after_token))]
+fn after_token(alloc: Global, state: &mut State, kind: Kind) -> Result<bool, NoMemory>
+    ensures { IfOk result (λ goes. leads_to goes state.new ≡ after_token (seen state.old) kind) }
 {
     let kind = match state {
-        State::Inside(_, _, _, spot) => match kind {
+        State::Inside(_, at) => match kind {
             Kind::Fixed(Fixed::EndProgram) => Kind::Fixed(Fixed::EndProgram),
             Kind::Fixed(Fixed::EndFunction) => Kind::Fixed(Fixed::EndFunction),
-            other => return step(alloc, spot, other),
+            other => return step(alloc, at, other),
         },
         _ => kind,
     };
@@ -55,9 +63,9 @@ fn turn(alloc: Global, state: &mut State, kind: Kind) -> Result<bool, NoMemory>
 
 /// Goes on by one token; why the text is refused, if it is.
 fn advance(alloc: Global, state: &mut State, kind: Kind, line: Line) -> Option<Rejection>
-    ensures { JudgedIs (seen state.new) result (judged (turn (seen state.old) kind) line) }
+    ensures { JudgedIs (seen state.new) result (judged (after_token (seen state.old) kind) line) }
 {
-    match turn(alloc, state, kind) {
+    match after_token(alloc, state, kind) {
         Ok(true) => {
             if is_deep(state) {
                 Some(Rejection::Refused(line, Reason::TooDeep))
@@ -72,7 +80,7 @@ fn advance(alloc: Global, state: &mut State, kind: Kind, line: Line) -> Option<R
 
 fn advance_token(alloc: Global, state: &mut State, token: &StToken) -> Option<Rejection>
     ensures { JudgedIs (seen state.new) result
-        (judged (turn (seen state.old) (kind_of token.now)) token.now.line) }
+        (judged (after_token (seen state.old) (kind_of token.now)) token.now.line) }
 {
     match kind_of(alloc, token) {
         Ok(kind) => advance(alloc, state, kind, token.line),
@@ -81,8 +89,13 @@ fn advance_token(alloc: Global, state: &mut State, token: &StToken) -> Option<Re
 }
 
 /// The state after all tokens of a text that ends on a line, and why the text is refused, if it is.
-fn judge(alloc: Global, state: &mut State, tokens: &[StToken], end: Line) -> Option<Rejection>
-    ensures { JudgedIs (seen state.new) result (judge (seen state.old) (all_lined tokens.now end)) }
+fn judge_tokens(
+    alloc: Global,
+    state: &mut State,
+    tokens: &[StToken],
+    end: Line,
+) -> Option<Rejection>
+    ensures { JudgedIs (seen state.new) result (judge_tokens (seen state.old) (all_lined tokens.now end)) }
 {
     let mut rest = tokens;
     while let [first, ..] = rest {
@@ -98,24 +111,24 @@ fn judge(alloc: Global, state: &mut State, tokens: &[StToken], end: Line) -> Opt
 /// The whole text, if the state is after its end. The parts of another state are given up in calls of
 /// their own, since they are too many for one function's borrow check.
 #[tactic(auto, unfolding(crate::specs::inner::Seen::seen))]
-fn finish(state: State) -> Option<Before>
-    ensures { option_map before_of result ≡ text_in (seen state) }
+fn finish(state: State) -> Option<TextSoFar>
+    ensures { option_map text_so_far_of result ≡ text_in (seen state) }
 {
     match state {
         State::Start => {}
         State::Globals(globals) => drop(globals),
-        State::Row(globals, name, _line, row) => {
-            drop((globals, name));
+        State::Row(begun, row) => {
+            drop(begun);
             drop(row);
         }
         State::Between(text) | State::Heading(text, _, _) => drop(text),
-        State::Opened(top) => drop(top),
-        State::FormalsDone(top, formals) => drop((top, formals)),
-        State::Section(top, which, done) => drop((top, which, done)),
-        State::Typing(top, which, done, name, _, _) => drop((top, which, done, name)),
-        State::Inside(top, formals, locals, spot) => {
-            drop((top, formals, locals));
-            drop(spot);
+        State::Opened(unit) => drop(unit),
+        State::FormalsDone(unit, formals) => drop((unit, formals)),
+        State::Section(section) => drop(section),
+        State::Typing(section, name, _, _) => drop((section, name)),
+        State::Inside(unit, at) => {
+            drop(unit);
+            drop(at);
         }
         State::Over(text) => return Some(text),
     }
@@ -123,14 +136,14 @@ fn finish(state: State) -> Option<Before>
 }
 
 /// The whole text of these tokens, or why it is refused.
-fn whole(alloc: Global, tokens: &[StToken], end: Line) -> Result<Before, Rejection>
+fn whole(alloc: Global, tokens: &[StToken], end: Line) -> Result<TextSoFar, Rejection>
     ensures text { IfOk result
-        (λ text. HasText (judge (seen state.Start) (all_lined tokens.now end)) (before_of text)) }
+        (λ text. HasText (judge_tokens (seen state.Start) (all_lined tokens.now end)) (text_so_far_of text)) }
     ensures refused { IfRefused result
-        (λ line reason. judge (seen state.Start) (all_lined tokens.now end) ≡ Err (Refused line reason)) }
+        (λ line reason. judge_tokens (seen state.Start) (all_lined tokens.now end) ≡ Err (Refused line reason)) }
 {
     let mut state = State::Start;
-    let refusal = judge(alloc, &mut state, tokens, end);
+    let refusal = judge_tokens(alloc, &mut state, tokens, end);
     let text = finish(state);
     if let Some(refused) = refusal {
         return Err(refused);
@@ -152,7 +165,7 @@ pub fn syntax(alloc: Global, bytes: &[u8]) -> Result<RawSt, Rejection>
         Err(refused) => return Err(refused),
     };
     match whole(alloc, tokens.as_slice(), end_line(bytes)) {
-        Ok(Before { globals, units }) => Ok(RawSt {
+        Ok(TextSoFar { globals, units }) => Ok(RawSt {
             globals,
             pous: units,
         }),

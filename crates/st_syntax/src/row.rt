@@ -5,8 +5,8 @@ ghost use Rattle.st_grammar.specs.inner.Machine.{code, at_comma, at_item};
 ghost use Rattle.st_grammar.specs.inner.Steps.{is_zero, is_array, row_type, row_place, row_array, row_items, row_step, row_end, at_row, at_globals};
 ghost use Rattle.st_syntax.specs.inner.Views.{row_of, state_of};
 
-use crate::state::{Before, Row, State};
-use s7_base::{Line, List, NoMemory};
+use crate::state::{BegunGlobal, Row, State, TextSoFar};
+use s7_base::{List, NoMemory};
 use st_grammar::{Fixed, Kind, Literal};
 use st_tree::{RawGlobal, RawGlobalType, RawVar, StType, is_free, may_name_global, names_block};
 use std::alloc::Global;
@@ -206,14 +206,9 @@ fn row_step(alloc: Global, name: &[u8], row: Row, kind: Kind) -> Result<Option<R
 }
 
 /// A global ends.
-fn row_end(
-    alloc: Global,
-    mut done: List<RawGlobal>,
-    name: List<u8>,
-    line: Line,
-    row: Row,
-) -> Result<Option<State>, NoMemory>
-    ensures { IfOk result (λ o. option_map state_of o ≡ row_end code done name line (row_of row)) }
+fn row_end(alloc: Global, begun: BegunGlobal, row: Row) -> Result<Option<State>, NoMemory>
+    ensures { IfOk result (λ o. option_map state_of o
+        ≡ row_end code begun.before begun.name begun.line (row_of row)) }
 {
     let (at, ty) = match row {
         Row::AtEnd(at, ty) => (at, ty),
@@ -223,33 +218,37 @@ fn row_end(
             return Ok(None);
         }
     };
-    done.push(RawGlobal { name, line, at, ty })?;
-    Ok(Some(State::Globals(done)))
+    let BegunGlobal {
+        mut before,
+        name,
+        line,
+    } = begun;
+    before.push(RawGlobal { name, line, at, ty })?;
+    Ok(Some(State::Globals(before)))
 }
 
 /// A token of a global after its name.
 pub fn at_row(
     alloc: Global,
-    done: List<RawGlobal>,
-    name: List<u8>,
-    line: Line,
+    begun: BegunGlobal,
     row: Row,
     kind: Kind,
 ) -> Result<Option<State>, NoMemory>
-    ensures { IfOk result (λ o. option_map state_of o ≡ at_row code done name line (row_of row) kind) }
+    ensures { IfOk result (λ o. option_map state_of o
+        ≡ at_row code begun.before begun.name begun.line (row_of row) kind) }
 {
     match kind {
-        Kind::Fixed(Fixed::Semicolon) => row_end(alloc, done, name, line, row),
-        other => match row_step(alloc, name.as_slice(), row, other)? {
-            Some(next) => Ok(Some(State::Row(done, name, line, next))),
+        Kind::Fixed(Fixed::Semicolon) => row_end(alloc, begun, row),
+        other => match row_step(alloc, begun.name.as_slice(), row, other)? {
+            Some(next) => Ok(Some(State::Row(begun, next))),
             None => Ok(None),
         },
     }
 }
 
 /// A token before the name of a global.
-pub fn at_globals(alloc: Global, done: List<RawGlobal>, kind: Kind) -> Option<State>
-    ensures { option_map state_of result ≡ at_globals code done kind }
+pub fn at_globals(alloc: Global, before: List<RawGlobal>, kind: Kind) -> Option<State>
+    ensures { option_map state_of result ≡ at_globals code before kind }
 {
     match kind {
         Kind::Variable(var, line) => match var {
@@ -257,12 +256,13 @@ pub fn at_globals(alloc: Global, done: List<RawGlobal>, kind: Kind) -> Option<St
                 if !may_name_global(name.as_slice()) {
                     return None;
                 }
-                Some(State::Row(done, name, line, Row::AtWord))
+                let begun = BegunGlobal { before, name, line };
+                Some(State::Row(begun, Row::AtWord))
             }
             RawVar::Direct(..) => None,
         },
-        Kind::Fixed(Fixed::EndVar) => Some(State::Between(Before {
-            globals: done,
+        Kind::Fixed(Fixed::EndVar) => Some(State::Between(TextSoFar {
+            globals: before,
             units: List::new(alloc),
         })),
         _ => None,

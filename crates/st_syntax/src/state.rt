@@ -1,9 +1,17 @@
 //! Where the parser stands between two tokens of a text.
 
 use s7_base::{Line, List};
-use st_bodies::Spot;
+use st_bodies::BodyState;
 use st_grammar::Heading;
 use st_tree::{RawGlobal, RawGlobalType, RawLocal, RawPou, RawVar, StType};
+
+/// A global that has begun: those before it, its name, and its line.
+#[derive(Drop)]
+pub struct BegunGlobal {
+    pub before: List<RawGlobal>,
+    pub name: List<u8>,
+    pub line: Line,
+}
 
 /// What may come next in a global, after its name: each is named by that token, and holds what was read
 /// before it.
@@ -38,27 +46,43 @@ pub enum Typing {
     End(StType),
 }
 
-/// The text before a unit.
+/// The text so far: its globals, and the units that have ended.
 #[derive(Drop)]
-pub struct Before {
+pub struct TextSoFar {
     pub globals: List<RawGlobal>,
     pub units: List<RawPou>,
 }
 
-/// A unit before its statements, with the text before it.
+/// A unit that has begun: the text before it, and its heading.
 #[derive(Drop)]
-pub struct Top {
-    pub text: Before,
+pub struct BegunUnit {
+    pub text: TextSoFar,
     pub head: Heading,
 }
 
 /// The section that is read.
 #[derive(Drop)]
-pub enum Which {
+pub enum SectionKind {
     Formals,
 
     /// The locals, after these formals.
     Temps(List<RawLocal>),
+}
+
+/// A section of a unit that has begun: the unit, which section it is, and what it declares so far.
+#[derive(Drop)]
+pub struct BegunSection {
+    pub unit: BegunUnit,
+    pub which: SectionKind,
+    pub done: List<RawLocal>,
+}
+
+/// A unit with its declarations: what stands before its statements.
+#[derive(Drop)]
+pub struct DeclaredUnit {
+    pub begun: BegunUnit,
+    pub formals: List<RawLocal>,
+    pub locals: List<RawLocal>,
 }
 
 /// Where the parser stands in a text.
@@ -71,29 +95,29 @@ pub enum State {
     Globals(List<RawGlobal>),
 
     /// In a global, after its name.
-    Row(List<RawGlobal>, List<u8>, Line, Row),
+    Row(BegunGlobal, Row),
 
     /// Before a unit, or the end of the text.
-    Between(Before),
+    Between(TextSoFar),
 
     /// After `PROGRAM` or `FUNCTION`, before the unit's name.
-    Heading(Before, bool, Line),
+    Heading(TextSoFar, bool, Line),
 
     /// After the name of a unit.
-    Opened(Top),
+    Opened(BegunUnit),
 
     /// After the formals of a unit.
-    FormalsDone(Top, List<RawLocal>),
+    FormalsDone(BegunUnit, List<RawLocal>),
 
     /// In a section of a unit, where a declaration may begin.
-    Section(Top, Which, List<RawLocal>),
+    Section(BegunSection),
 
     /// In a declaration of a unit, after its name.
-    Typing(Top, Which, List<RawLocal>, List<u8>, Line, Typing),
+    Typing(BegunSection, List<u8>, Line, Typing),
 
-    /// In the statements of a unit, with its formals and its locals.
-    Inside(Top, List<RawLocal>, List<RawLocal>, Spot),
+    /// In the statements of a unit.
+    Inside(DeclaredUnit, BodyState),
 
     /// After the end of the text.
-    Over(Before),
+    Over(TextSoFar),
 }

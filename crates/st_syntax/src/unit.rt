@@ -3,19 +3,26 @@ ghost use Rattle.std.specs.Prelude.{◌≡◌, IfOk, option_map};
 ghost use Rattle.st_grammar.specs.Grammar.{is_formal_type};
 ghost use Rattle.st_grammar.specs.inner.Machine.{code, add_unit};
 ghost use Rattle.st_grammar.specs.inner.Steps.{at_between, at_start, at_heading, may_name, may_type, section_end, at_section, at_typing, ends, leave, at_inside, at_formals_done, at_opened, next, step as body_step};
-ghost use Rattle.st_bodies.specs.inner.Spots.{place_of, spot_of, stack_of};
-ghost use Rattle.st_syntax.specs.inner.Views.{before_of, state_of, top_in, typing_of, typing_step, which_of};
+ghost use Rattle.st_bodies.specs.inner.BodyStates.{body_state_of, place_of, stack_of};
+ghost use Rattle.st_syntax.specs.inner.Views.{
+  begun_unit_of,
+  section_kind_of,
+  state_of,
+  text_so_far_of,
+  typing_of,
+  typing_step,
+};
 
 use crate::row::{at_globals, at_row};
-use crate::state::{Before, State, Top, Typing, Which};
+use crate::state::{BegunSection, BegunUnit, DeclaredUnit, SectionKind, State, TextSoFar, Typing};
 use s7_base::{Line, List, NoMemory};
-use st_bodies::{Spot, step};
+use st_bodies::{BodyState, step};
 use st_grammar::{Fixed, Heading, Kind, Lead};
 use st_tree::{RawLocal, RawPou, RawStmt, RawVar, StType, is_free, may_name_local, may_name_unit};
 use std::alloc::Global;
 
-fn at_between(text: Before, kind: Kind) -> Option<State>
-    ensures { option_map state_of result ≡ at_between code (before_of text) kind }
+fn at_between(text: TextSoFar, kind: Kind) -> Option<State>
+    ensures { option_map state_of result ≡ at_between code (text_so_far_of text) kind }
 {
     match kind {
         Kind::Lead(Lead::Program, line) => Some(State::Heading(text, true, line)),
@@ -31,7 +38,7 @@ fn at_start(alloc: Global, kind: Kind) -> Option<State>
     match kind {
         Kind::Fixed(Fixed::VarGlobal) => Some(State::Globals(List::new(alloc))),
         other => {
-            let text = Before {
+            let text = TextSoFar {
                 globals: List::new(alloc),
                 units: List::new(alloc),
             };
@@ -41,8 +48,8 @@ fn at_start(alloc: Global, kind: Kind) -> Option<State>
 }
 
 /// The name of a unit.
-fn at_heading(text: Before, program: bool, line: Line, kind: Kind) -> Option<State>
-    ensures { option_map state_of result ≡ at_heading code (before_of text) program line kind }
+fn at_heading(text: TextSoFar, program: bool, line: Line, kind: Kind) -> Option<State>
+    ensures { option_map state_of result ≡ at_heading code (text_so_far_of text) program line kind }
 {
     match kind {
         Kind::Variable(RawVar::Name(name), _) => {
@@ -54,68 +61,72 @@ fn at_heading(text: Before, program: bool, line: Line, kind: Kind) -> Option<Sta
                 name,
                 line,
             };
-            Some(State::Opened(Top { text, head }))
+            Some(State::Opened(BegunUnit { text, head }))
         }
         _ => None,
     }
 }
 
-fn may_name(which: &Which, name: &[u8]) -> bool
-    ensures { result ≡ may_name code (which_of which.now) name.now }
+fn may_name(which: &SectionKind, name: &[u8]) -> bool
+    ensures { result ≡ may_name code (section_kind_of which.now) name.now }
 {
     match which {
-        Which::Formals => is_free(name),
-        Which::Temps(_) => may_name_local(name),
+        SectionKind::Formals => is_free(name),
+        SectionKind::Temps(_) => may_name_local(name),
     }
 }
 
 /// A formal has another type than LINT.
-fn may_type(which: &Which, ty: StType) -> bool
-    ensures { result ≡ may_type code (which_of which.now) ty }
+fn may_type(which: &SectionKind, ty: StType) -> bool
+    ensures { result ≡ may_type code (section_kind_of which.now) ty }
 {
     match which {
-        Which::Formals => !matches!(ty, StType::Lint),
-        Which::Temps(_) => true,
+        SectionKind::Formals => !matches!(ty, StType::Lint),
+        SectionKind::Temps(_) => true,
     }
 }
 
-fn section_end(alloc: Global, top: Top, which: Which, done: List<RawLocal>) -> State
-    ensures { state_of result ≡ section_end code (top_in top) (which_of which) done }
+fn section_end(alloc: Global, section: BegunSection) -> State
+    ensures { state_of result
+        ≡ section_end code (begun_unit_of section.unit) (section_kind_of section.which) section.done }
 {
+    let BegunSection { unit, which, done } = section;
     match which {
-        Which::Formals => State::FormalsDone(top, done),
-        Which::Temps(formals) => State::Inside(top, formals, done, Spot::new(alloc)),
+        SectionKind::Formals => State::FormalsDone(unit, done),
+        SectionKind::Temps(formals) => {
+            let declared = DeclaredUnit {
+                begun: unit,
+                formals,
+                locals: done,
+            };
+            State::Inside(declared, BodyState::new(alloc))
+        }
     }
 }
 
 /// A token before the name of a formal or a local.
-fn at_section(
-    alloc: Global,
-    top: Top,
-    which: Which,
-    done: List<RawLocal>,
-    kind: Kind,
-) -> Option<State>
-    ensures { option_map state_of result ≡ at_section code (top_in top) (which_of which) done kind }
+fn at_section(alloc: Global, section: BegunSection, kind: Kind) -> Option<State>
+    ensures { option_map state_of result
+        ≡ at_section code (begun_unit_of section.unit) (section_kind_of section.which) section.done kind }
 {
     match kind {
         Kind::Variable(var, line) => match var {
             RawVar::Name(name) => {
-                if !may_name(&which, name.as_slice()) {
+                if !may_name(&section.which, name.as_slice()) {
                     return None;
                 }
-                Some(State::Typing(top, which, done, name, line, Typing::Colon))
+                Some(State::Typing(section, name, line, Typing::Colon))
             }
             RawVar::Direct(..) => None,
         },
-        Kind::Fixed(Fixed::EndVar) => Some(section_end(alloc, top, which, done)),
+        Kind::Fixed(Fixed::EndVar) => Some(section_end(alloc, section)),
         _ => None,
     }
 }
 
 /// A token of a formal or a local after its name, but the `;`.
-fn typing_step(which: &Which, typing: Typing, kind: &Kind) -> Option<Typing>
-    ensures { option_map typing_of result ≡ typing_step (which_of which.now) (typing_of typing) kind.now }
+fn typing_step(which: &SectionKind, typing: Typing, kind: &Kind) -> Option<Typing>
+    ensures { option_map typing_of result ≡ typing_step (section_kind_of which.now) (typing_of typing) kind.now }
 {
     match typing {
         Typing::Colon => match kind {
@@ -137,26 +148,25 @@ fn typing_step(which: &Which, typing: Typing, kind: &Kind) -> Option<Typing>
 
 /// A token of a formal or a local after its name.
 fn at_typing(
-    top: Top,
-    which: Which,
-    mut done: List<RawLocal>,
+    mut section: BegunSection,
     name: List<u8>,
     line: Line,
     typing: Typing,
     kind: Kind,
 ) -> Result<Option<State>, NoMemory>
     ensures { IfOk result (λ o. option_map state_of o
-        ≡ at_typing code (top_in top) (which_of which) done name line (typing_of typing) kind) }
+        ≡ at_typing code (begun_unit_of section.unit) (section_kind_of section.which) section.done name line
+        (typing_of typing) kind) }
 {
     if let Typing::End(ty) = typing {
         let Kind::Fixed(Fixed::Semicolon) = kind else {
             return Ok(None);
         };
-        done.push(RawLocal { name, line, ty })?;
-        return Ok(Some(State::Section(top, which, done)));
+        section.done.push(RawLocal { name, line, ty })?;
+        return Ok(Some(State::Section(section)));
     }
-    match typing_step(&which, typing, &kind) {
-        Some(next) => Ok(Some(State::Typing(top, which, done, name, line, next))),
+    match typing_step(&section.which, typing, &kind) {
+        Some(next) => Ok(Some(State::Typing(section, name, line, next))),
         None => Ok(None),
     }
 }
@@ -168,16 +178,19 @@ fn ends(program: bool, other: bool) -> bool
 }
 
 /// The text with one more unit.
-fn with_unit(
-    top: Top,
-    formals: List<RawLocal>,
-    locals: List<RawLocal>,
-    body: List<RawStmt>,
-) -> Result<Before, NoMemory>
-    ensures { IfOk result (λ text. before_of text
-        ≡ record { globals = top.text.globals; units = add_unit code top.text.units top.head formals locals body }) }
+fn with_unit(unit: DeclaredUnit, body: List<RawStmt>) -> Result<TextSoFar, NoMemory>
+    ensures { IfOk result (λ text. text_so_far_of text
+        ≡ record {
+          globals = unit.begun.text.globals;
+          units = add_unit code unit.begun.text.units unit.begun.head unit.formals unit.locals body;
+        }) }
 {
-    let Top { mut text, head } = top;
+    let DeclaredUnit {
+        begun,
+        formals,
+        locals,
+    } = unit;
+    let BegunUnit { mut text, head } = begun;
     text.units.push(RawPou {
         program: head.program,
         name: head.name,
@@ -190,37 +203,32 @@ fn with_unit(
 }
 
 /// The end word of a program, or that of a function.
-fn leave(
-    program: bool,
-    top: Top,
-    formals: List<RawLocal>,
-    locals: List<RawLocal>,
-    spot: Spot,
-) -> Result<Option<State>, NoMemory>
+fn leave(program: bool, unit: DeclaredUnit, at: BodyState) -> Result<Option<State>, NoMemory>
     ensures { IfOk result (λ o. option_map state_of o
-        ≡ leave code program (top_in top) formals locals (stack_of spot.frames) (place_of spot.place)) }
+        ≡ leave code program (begun_unit_of unit.begun) unit.formals unit.locals
+        (stack_of at.frames) (place_of at.place)) }
 {
-    let Some(body) = spot.into_body() else {
+    let Some(body) = at.into_body() else {
         return Ok(None);
     };
-    if !ends(program, top.head.program) {
+    if !ends(program, unit.begun.head.program) {
         return Ok(None);
     }
-    Ok(Some(State::Between(with_unit(top, formals, locals, body)?)))
+    Ok(Some(State::Between(with_unit(unit, body)?)))
 }
 
 /// The statements after one more token; `None` where it cannot follow.
-fn stepped(alloc: Global, mut spot: Spot, kind: Kind) -> Result<Option<Spot>, NoMemory>
-    ensures { IfOk result (λ o. option_map spot_of o ≡ body_step code (spot_of spot) kind) }
+fn stepped(alloc: Global, mut at: BodyState, kind: Kind) -> Result<Option<BodyState>, NoMemory>
+    ensures { IfOk result (λ o. option_map body_state_of o ≡ body_step code (body_state_of at) kind) }
 {
-    match step(alloc, &mut spot, kind) {
-        Ok(true) => Ok(Some(spot)),
+    match step(alloc, &mut at, kind) {
+        Ok(true) => Ok(Some(at)),
         Ok(false) => {
-            drop(spot);
+            drop(at);
             Ok(None)
         }
         Err(no_memory) => {
-            drop(spot);
+            drop(at);
             Err(no_memory)
         }
     }
@@ -228,20 +236,18 @@ fn stepped(alloc: Global, mut spot: Spot, kind: Kind) -> Result<Option<Spot>, No
 
 fn at_inside(
     alloc: Global,
-    top: Top,
-    formals: List<RawLocal>,
-    locals: List<RawLocal>,
-    spot: Spot,
+    unit: DeclaredUnit,
+    at: BodyState,
     kind: Kind,
 ) -> Result<Option<State>, NoMemory>
     ensures { IfOk result (λ o. option_map state_of o
-        ≡ at_inside code (top_in top) formals locals (spot_of spot) kind) }
+        ≡ at_inside code (begun_unit_of unit.begun) unit.formals unit.locals (body_state_of at) kind) }
 {
     match kind {
-        Kind::Fixed(Fixed::EndProgram) => leave(true, top, formals, locals, spot),
-        Kind::Fixed(Fixed::EndFunction) => leave(false, top, formals, locals, spot),
-        other => match stepped(alloc, spot, other)? {
-            Some(to) => Ok(Some(State::Inside(top, formals, locals, to))),
+        Kind::Fixed(Fixed::EndProgram) => leave(true, unit, at),
+        Kind::Fixed(Fixed::EndFunction) => leave(false, unit, at),
+        other => match stepped(alloc, at, other)? {
+            Some(to) => Ok(Some(State::Inside(unit, to))),
             None => Ok(None),
         },
     }
@@ -250,41 +256,45 @@ fn at_inside(
 /// A token after the formals of a unit.
 fn at_formals_done(
     alloc: Global,
-    top: Top,
+    unit: BegunUnit,
     formals: List<RawLocal>,
     kind: Kind,
 ) -> Result<Option<State>, NoMemory>
-    ensures { IfOk result (λ o. option_map state_of o ≡ at_formals_done code (top_in top) formals kind) }
+    ensures { IfOk result (λ o. option_map state_of o ≡ at_formals_done code (begun_unit_of unit) formals kind) }
 {
     match kind {
-        Kind::Fixed(Fixed::VarTemp) => Ok(Some(State::Section(
-            top,
-            Which::Temps(formals),
-            List::new(alloc),
-        ))),
-        other => at_inside(
-            alloc,
-            top,
-            formals,
-            List::new(alloc),
-            Spot::new(alloc),
-            other,
-        ),
+        Kind::Fixed(Fixed::VarTemp) => Ok(Some(State::Section(BegunSection {
+            unit,
+            which: SectionKind::Temps(formals),
+            done: List::new(alloc),
+        }))),
+        other => {
+            let declared = DeclaredUnit {
+                begun: unit,
+                formals,
+                locals: List::new(alloc),
+            };
+            at_inside(alloc, declared, BodyState::new(alloc), other)
+        }
     }
 }
 
 /// A token after the name of a unit.
-fn at_opened(alloc: Global, top: Top, kind: Kind) -> Result<Option<State>, NoMemory>
-    ensures { IfOk result (λ o. option_map state_of o ≡ at_opened code (top_in top) kind) }
+fn at_opened(alloc: Global, unit: BegunUnit, kind: Kind) -> Result<Option<State>, NoMemory>
+    ensures { IfOk result (λ o. option_map state_of o ≡ at_opened code (begun_unit_of unit) kind) }
 {
     match kind {
         Kind::Fixed(Fixed::VarInOut) => {
-            if top.head.program {
+            if unit.head.program {
                 return Ok(None);
             }
-            Ok(Some(State::Section(top, Which::Formals, List::new(alloc))))
+            Ok(Some(State::Section(BegunSection {
+                unit,
+                which: SectionKind::Formals,
+                done: List::new(alloc),
+            })))
         }
-        other => at_formals_done(alloc, top, List::new(alloc), other),
+        other => at_formals_done(alloc, unit, List::new(alloc), other),
     }
 }
 
@@ -295,18 +305,14 @@ pub fn next(alloc: Global, state: State, kind: Kind) -> Result<Option<State>, No
     match state {
         State::Start => Ok(at_start(alloc, kind)),
         State::Globals(done) => Ok(at_globals(alloc, done, kind)),
-        State::Row(done, name, line, row) => at_row(alloc, done, name, line, row, kind),
+        State::Row(begun, row) => at_row(alloc, begun, row, kind),
         State::Between(text) => Ok(at_between(text, kind)),
         State::Heading(text, program, line) => Ok(at_heading(text, program, line, kind)),
-        State::Opened(top) => at_opened(alloc, top, kind),
-        State::FormalsDone(top, formals) => at_formals_done(alloc, top, formals, kind),
-        State::Section(top, which, done) => Ok(at_section(alloc, top, which, done, kind)),
-        State::Typing(top, which, done, name, line, typing) => {
-            at_typing(top, which, done, name, line, typing, kind)
-        }
-        State::Inside(top, formals, locals, spot) => {
-            at_inside(alloc, top, formals, locals, spot, kind)
-        }
+        State::Opened(unit) => at_opened(alloc, unit, kind),
+        State::FormalsDone(unit, formals) => at_formals_done(alloc, unit, formals, kind),
+        State::Section(section) => Ok(at_section(alloc, section, kind)),
+        State::Typing(section, name, line, typing) => at_typing(section, name, line, typing, kind),
+        State::Inside(unit, at) => at_inside(alloc, unit, at, kind),
         State::Over(_) => Ok(None),
     }
 }

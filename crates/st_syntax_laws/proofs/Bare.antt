@@ -5,8 +5,8 @@ use Rattle.st_grammar.specs.Forms.{Form, none, no_local, prefix, infix_of, State
 use Rattle.st_grammar.specs.Grammar.{prefix_level, infix_level, is_value, may_jump, is_direct, tree, tree_one, tree_all, tree_arms, tree_cases, tree_actuals, tree_labels, tree_items, tree_type, tree_globals, tree_locals, tree_units, held}
 use Rattle.st_tree.specs.Naming.{is_free, may_name_global, may_name_unit, names_block}
 use Rattle.st_grammar.specs.Levels.{height}
-use Rattle.st_grammar.specs.inner.Machine.{written, code, of_label, add_label, add_case, of_literal, of_jump, head_of, Begun, Argument, only, shifted, shifted_by, gate, first, second, Use, to_var, to_area, area_value, test, selector, loop_test, Body, choosing, otherwise, looping, selecting, otherwise_case, Frame, unary, left, bracket, argument, waiting, within, Part, target, write_open, first_formal, next_formal, becoming, giving, given, first_label, next_label, labelled, Place, statement, part, closing, operand, operator, opening, Spot, Row, at_word, at_place, at_colon, at_type, at_square, at_zero, at_dots, at_last, at_close, at_of, at_byte, at_becomes, at_open, at_item, at_count, at_value, at_value_end, at_comma, at_end, local_colon, local_type, local_end, Before, Top, Which, formals, temps, State, start, globals, row, between, heading, opened, formals_done, section, typing, inside, over}
-use Rattle.st_grammar.specs.inner.Steps.{spot, weakest, limit, Reduced, reduced_to, reduce, shallower, with_prefix, closed, closed_to, waits, in_loop, in_body, step_at, is_zero, row_step, before_units, top_of, at_between, may_name, may_type, ends, leave, at_inside, at_formals_done, at_opened, next, level_at, mark}
+use Rattle.st_grammar.specs.inner.Machine.{written, code, of_label, add_label, add_case, of_literal, of_jump, head_of, BegunStatement, Argument, only, shifted, shifted_by, gate, first, second, Need, to_var, to_area, area_value, test, selector, loop_test, OuterStatement, choosing, otherwise, looping, selecting, otherwise_case, Frame, unary, left, bracket, argument, waiting, within, Part, target, write_open, first_formal, next_formal, becoming, giving, given, first_label, next_label, labelled, Place, statement, part, closing, operand, operator, opening, BodyState, Row, at_word, at_place, at_colon, at_type, at_square, at_zero, at_dots, at_last, at_close, at_of, at_byte, at_becomes, at_open, at_item, at_count, at_value, at_value_end, at_comma, at_end, local_colon, local_type, local_end, TextSoFar, BegunUnit, SectionKind, formals, temps, State, start, globals, row, between, heading, opened, formals_done, section, typing, inside, over}
+use Rattle.st_grammar.specs.inner.Steps.{body_state, weakest, limit, Reduced, reduced_to, reduce, shallower, with_prefix, closed, closed_to, waits, in_loop, in_body, step_at, is_zero, row_step, before_units, begun_unit, at_between, may_name, may_type, ends, leave, at_inside, at_formals_done, at_opened, next, level_at, last_level}
 use Rattle.st_grammar.specs.declared.heading.Heading.{Heading}
 use Rattle.st_grammar.specs.declared.measured.Measured.{Measured}
 use Rattle.st_grammar.specs.declared.kind.Fixed.TheVariants as fixed
@@ -27,8 +27,8 @@ use Rattle.st_tree.specs.declared.raw.RawVar.TheVariants as var
 abbrev pub bare_expr : Form → Measured
 bare_expr f = record { tree = tree f; height = height f }
 
-abbrev pub bare_begun : Begun written → Begun code
-bare_begun b = record { before = tree_all b.before; line = b.line }
+abbrev pub bare_begun_statement : BegunStatement written → BegunStatement code
+bare_begun_statement b = record { before = tree_all b.before; line = b.line }
 
 abbrev pub bare_argument : Argument written → Argument code
 bare_argument (only op) = only op
@@ -38,28 +38,28 @@ bare_argument gate = gate
 bare_argument (first f) = first (bare_expr f)
 bare_argument (second f g) = second (bare_expr f) (bare_expr g)
 
-abbrev pub bare_use : Use written → Use code
-bare_use (to_var v) = to_var v
-bare_use (to_area w) = to_area w
-bare_use (area_value w f) = area_value w (bare_expr f)
-bare_use (test arms) = test (tree_arms arms)
-bare_use selector = selector
-bare_use loop_test = loop_test
+abbrev pub bare_need : Need written → Need code
+bare_need (to_var v) = to_var v
+bare_need (to_area w) = to_area w
+bare_need (area_value w f) = area_value w (bare_expr f)
+bare_need (test arms) = test (tree_arms arms)
+bare_need selector = selector
+bare_need loop_test = loop_test
 
-abbrev pub bare_body : Body written → Body code
-bare_body (choosing arms f) = choosing (tree_arms arms) (bare_expr f)
-bare_body (otherwise arms) = otherwise (tree_arms arms)
-bare_body (looping f) = looping (bare_expr f)
-bare_body (selecting f arms labels) = selecting (bare_expr f) (tree_cases arms) (tree_labels labels)
-bare_body (otherwise_case f arms) = otherwise_case (bare_expr f) (tree_cases arms)
+abbrev pub bare_outer_statement : OuterStatement written → OuterStatement code
+bare_outer_statement (choosing arms f) = choosing (tree_arms arms) (bare_expr f)
+bare_outer_statement (otherwise arms) = otherwise (tree_arms arms)
+bare_outer_statement (looping f) = looping (bare_expr f)
+bare_outer_statement (selecting f arms labels) = selecting (bare_expr f) (tree_cases arms) (tree_labels labels)
+bare_outer_statement (otherwise_case f arms) = otherwise_case (bare_expr f) (tree_cases arms)
 
 abbrev pub bare_frame : Frame written → Frame code
 bare_frame (unary op) = unary op
 bare_frame (left op f) = left op (bare_expr f)
 bare_frame bracket = bracket
 bare_frame (argument a) = argument (bare_argument a)
-bare_frame (waiting b u) = waiting (bare_begun b) (bare_use u)
-bare_frame (within b y) = within (bare_begun b) (bare_body y)
+bare_frame (waiting b n) = waiting (bare_begun_statement b) (bare_need n)
+bare_frame (within b y) = within (bare_begun_statement b) (bare_outer_statement y)
 
 abbrev pub bare_stack : List (Frame written) → List (Frame code)
 bare_stack [] = []
@@ -79,14 +79,14 @@ bare_part (labelled f arms labels) = labelled (bare_expr f) (tree_cases arms) (t
 
 abbrev pub bare_place : Place written → Place code
 bare_place (statement body) = statement (tree_all body)
-bare_place (part b x) = part (bare_begun b) (bare_part x)
+bare_place (part b x) = part (bare_begun_statement b) (bare_part x)
 bare_place (closing before x) = closing (tree_all before) (tree_one x)
 bare_place operand = operand
 bare_place (operator f) = operator (bare_expr f)
 bare_place (opening f) = opening f
 
-abbrev pub bare_spot : Spot written → Spot code
-bare_spot at = spot code at.depth (bare_stack at.stack) (bare_place at.place)
+abbrev pub bare_body_state : BodyState written → BodyState code
+bare_body_state at = body_state code at.depth (bare_stack at.stack) (bare_place at.place)
 
 abbrev pub bare_row : Row written → Row code
 bare_row at_word = at_word
@@ -112,28 +112,29 @@ bare_row (at_end v ty) = at_end v.0 (tree_type ty)
 abbrev pub bare_head : Head → Heading
 bare_head head = record { program = head.program; name = head.name; line = head.line }
 
-abbrev pub bare_before : Before written → Before code
-bare_before text = record { globals = held tree_globals text.globals; units = tree_units text.units }
+abbrev pub bare_text : TextSoFar written → TextSoFar code
+bare_text text = record { globals = held tree_globals text.globals; units = tree_units text.units }
 
-abbrev pub bare_top : Top written → Top code
-bare_top top = record { text = bare_before top.text; head = bare_head top.head }
+abbrev pub bare_begun_unit : BegunUnit written → BegunUnit code
+bare_begun_unit begun = record { text = bare_text begun.text; head = bare_head begun.head }
 
-abbrev pub bare_which : Which written → Which code
-bare_which formals = formals
-bare_which (temps before) = temps (held tree_locals before)
+abbrev pub bare_section_kind : SectionKind written → SectionKind code
+bare_section_kind formals = formals
+bare_section_kind (temps before) = temps (held tree_locals before)
 
 abbrev pub bare : State written → State code
 bare start = start
 bare (globals done) = globals (tree_globals done)
 bare (row done name line x) = row (tree_globals done) name line (bare_row x)
-bare (between text) = between (bare_before text)
-bare (heading text program line) = heading (bare_before text) program line
-bare (opened top) = opened (bare_top top)
-bare (formals_done top before) = formals_done (bare_top top) (held tree_locals before)
-bare (section top which done) = section (bare_top top) (bare_which which) (tree_locals done)
-bare (typing top which done name line x) = typing (bare_top top) (bare_which which) (tree_locals done) name line x
-bare (inside top before locals at) = inside (bare_top top) (held tree_locals before) (held tree_locals locals) (bare_spot at)
-bare (over text) = over (bare_before text)
+bare (between text) = between (bare_text text)
+bare (heading text program line) = heading (bare_text text) program line
+bare (opened begun) = opened (bare_begun_unit begun)
+bare (formals_done begun before) = formals_done (bare_begun_unit begun) (held tree_locals before)
+bare (section begun which done) = section (bare_begun_unit begun) (bare_section_kind which) (tree_locals done)
+bare (typing begun which done name line x) =
+    typing (bare_begun_unit begun) (bare_section_kind which) (tree_locals done) name line x
+bare (inside begun before locals at) = inside (bare_begun_unit begun) (held tree_locals before) (held tree_locals locals) (bare_body_state at)
+bare (over text) = over (bare_text text)
 
 map_if : {X Y : Type 0} (f : X → Y) (c : Bool) (x : X) → (if c then Some (f x) else None) ≡ option_map f (if c then Some x else None)
 map_if f true x = refl
@@ -166,7 +167,7 @@ bare_reduce k d (left op g ∷ s) f =
     (reduce written k d s (infix_of op g f)) (reduced_to written d (left op g ∷ s) f) (bare_reduce k d s (infix_of op g f)) refl
 bare_reduce k d s f = refl
 
-bare_closed : (d : ℕ) (s : List (Frame written)) (f : Form) (k : Kind) → closed code d (bare_stack s) (bare_expr f) k ≡ option_map bare_spot (closed written d s f k)
+bare_closed : (d : ℕ) (s : List (Frame written)) (f : Form) (k : Kind) → closed code d (bare_stack s) (bare_expr f) k ≡ option_map bare_body_state (closed written d s f k)
 bare_closed d (bracket ∷ s) f (kind.Fixed fixed.Close) = refl
 bare_closed d (argument (only op) ∷ s) f (kind.Fixed fixed.Close) = refl
 bare_closed d (argument (shifted op) ∷ s) f (kind.Fixed fixed.Comma) = refl
@@ -182,10 +183,11 @@ bare_closed d (waiting b selector ∷ s) f (kind.Fixed fixed.Of) = refl
 bare_closed d (waiting b loop_test ∷ s) f (kind.Fixed fixed.Do) = refl
 bare_closed d s f k = refl
 
-bare_prefix : (d : ℕ) (s : List (Frame written)) (op : Prefix) → with_prefix code d (bare_stack s) op ≡ option_map bare_spot (with_prefix written d s op)
+bare_prefix : (d : ℕ) (s : List (Frame written)) (op : Prefix) → with_prefix code d (bare_stack s) op ≡ option_map bare_body_state (with_prefix written d s op)
 bare_prefix d s op =
-    ap (λ (n : ℕ). if nat_le (prefix_level op) n then Some (spot code (suc d) (unary op ∷ bare_stack s) operand) else None) (bare_limit s)
-    ∙ map_if bare_spot (nat_le (prefix_level op) (limit written s)) (spot written (suc d) (unary op ∷ s) operand)
+    ap (λ (n : ℕ). if nat_le (prefix_level op) n then Some (body_state code (suc d) (unary op ∷ bare_stack s) operand) else None) (bare_limit s)
+    ∙ map_if bare_body_state (nat_le (prefix_level op) (limit written s))
+    (body_state written (suc d) (unary op ∷ s) operand)
 
 -- Statements
 
@@ -194,20 +196,21 @@ bare_in_loop [] = refl
 bare_in_loop (within b (looping e) ∷ s) = refl
 bare_in_loop (frame ∷ s) = bare_in_loop s
 
-bare_in_body : (d : ℕ) (s : List (Frame written)) (body : Statements) (k : Kind) → in_body code d (bare_stack s) (tree_all body) k ≡ option_map bare_spot (in_body written d s body k)
+bare_in_body : (d : ℕ) (s : List (Frame written)) (body : Statements) (k : Kind) → in_body code d (bare_stack s) (tree_all body) k ≡ option_map bare_body_state (in_body written d s body k)
 bare_in_body d (within b (choosing arms e) ∷ s) body (kind.Fixed fixed.Elsif) = refl
 bare_in_body d (within b (otherwise arms) ∷ s) body (kind.Fixed fixed.EndIf) = refl
 bare_in_body d (within b (looping e) ∷ s) body (kind.Fixed fixed.EndWhile) = refl
-bare_in_body d (within b (selecting e arms labels) ∷ s) body (kind.Literal c) = map_if bare_spot (is_value c) (spot written d s (part b (labelled e (add_case written arms labels body) (of_label written c))))
+bare_in_body d (within b (selecting e arms labels) ∷ s) body (kind.Literal c) = map_if bare_body_state (is_value c) (body_state written d s (part b (labelled e (add_case written arms labels body) (of_label written c))))
 bare_in_body d (within b (selecting e arms labels) ∷ s) body (kind.Fixed fixed.Else) = refl
 bare_in_body d (within b (otherwise_case e arms) ∷ s) body (kind.Fixed fixed.EndCase) = refl
 bare_in_body d s body k = refl
 
-step_bare : (d : ℕ) (s : List (Frame written)) (p : Place written) (k : Kind) → step_at code d (bare_stack s) (bare_place p) k ≡ option_map bare_spot (step_at written d s p k)
+step_bare : (d : ℕ) (s : List (Frame written)) (p : Place written) (k : Kind) → step_at code d (bare_stack s) (bare_place p) k ≡ option_map bare_body_state (step_at written d s p k)
 step_bare d s (statement body) (kind.Variable v line) = refl
 step_bare d s (statement body) (kind.Lead (lead.Jump word) line) =
-    ap (λ (c : Bool). if may_jump c word then Some (spot code d (bare_stack s) (closing (tree_all body) (of_jump code line word))) else None) (bare_in_loop s)
-    ∙ map_if bare_spot (may_jump (in_loop written s) word) (spot written d s (closing body (of_jump written line word)))
+    ap (λ (c : Bool). if may_jump c word then Some (body_state code d (bare_stack s) (closing (tree_all body) (of_jump code line word))) else None) (bare_in_loop s)
+    ∙ map_if bare_body_state (may_jump (in_loop written s) word)
+    (body_state written d s (closing body (of_jump written line word)))
 step_bare d s (statement body) (kind.Lead other line) = refl
 step_bare d s (statement body) (kind.Fixed fixed.Semicolon) = refl
 step_bare d s (statement body) other = bare_in_body d s body other
@@ -220,11 +223,11 @@ step_bare d s (part b (next_formal name actuals)) (kind.Variable (var.Name forma
 step_bare d s (part b (becoming name actuals formal)) (kind.Fixed fixed.Becomes) = refl
 step_bare d s (part b (giving name actuals formal)) (kind.Variable v line) = refl
 step_bare d s (part b (given name actuals)) (kind.Fixed fixed.Comma) = refl
-step_bare d s (part b (first_label e arms)) (kind.Literal c) = map_if bare_spot (is_value c) (spot written d s (part b (labelled e arms (of_label written c))))
-step_bare d s (part b (next_label e arms labels)) (kind.Literal c) = map_if bare_spot (is_value c) (spot written d s (part b (labelled e arms (add_label written labels c))))
+step_bare d s (part b (first_label e arms)) (kind.Literal c) = map_if bare_body_state (is_value c) (body_state written d s (part b (labelled e arms (of_label written c))))
+step_bare d s (part b (next_label e arms labels)) (kind.Literal c) = map_if bare_body_state (is_value c) (body_state written d s (part b (labelled e arms (add_label written labels c))))
 step_bare d s (part b (labelled e arms labels)) (kind.Fixed fixed.Comma) = refl
 step_bare d s (closing before x) (kind.Fixed fixed.Semicolon) = refl
-step_bare d s operand (kind.Literal c) = map_if bare_spot (is_value c) (spot written d s (operator (of_literal written c)))
+step_bare d s operand (kind.Literal c) = map_if bare_body_state (is_value c) (body_state written d s (operator (of_literal written c)))
 step_bare d s operand (kind.Fixed fixed.Not) = bare_prefix d s before.Not
 step_bare d s operand (kind.Fixed (fixed.Between binary.Sub)) = bare_prefix d s before.Minus
 step_bare d s (operator f) (kind.Fixed (fixed.Between op)) = ap (λ (r : Reduced code). Some (waits code op r)) (bare_reduce (infix_level op) d s f)
@@ -262,43 +265,45 @@ row_bare name x k = refl
 
 -- Units
 
-at_between_bare : (text : Before written) (k : Kind) → at_between code (bare_before text) k ≡ option_map bare (at_between written text k)
+at_between_bare : (text : TextSoFar written) (k : Kind) → at_between code (bare_text text) k ≡ option_map bare (at_between written text k)
 at_between_bare text (kind.Lead lead.Program line) = refl
 at_between_bare text (kind.Fixed fixed.End) = refl
 at_between_bare text other = refl
 
-may_name_bare : (which : Which written) (name : List ℕ) → may_name code (bare_which which) name ≡ may_name written which name
+may_name_bare : (which : SectionKind written) (name : List ℕ) →
+    may_name code (bare_section_kind which) name ≡ may_name written which name
 may_name_bare formals name = refl
 may_name_bare (temps before) name = refl
 
-may_type_bare : (which : Which written) (ty : StType) → may_type code (bare_which which) ty ≡ may_type written which ty
+may_type_bare : (which : SectionKind written) (ty : StType) →
+    may_type code (bare_section_kind which) ty ≡ may_type written which ty
 may_type_bare formals ty = refl
 may_type_bare (temps before) ty = refl
 
-leave_bare : (program : Bool) (top : Top written) (f l : Section Locals) (s : List (Frame written)) (p : Place written) →
-    leave code program (bare_top top) (held tree_locals f) (held tree_locals l) (bare_stack s) (bare_place p) ≡ option_map bare (leave written program top f l s p)
-leave_bare program top f l [] (statement body) = map_if bare (ends program top.head.program) _
-leave_bare program top f l s p = refl
+leave_bare : (program : Bool) (begun : BegunUnit written) (f l : Section Locals) (s : List (Frame written)) (p : Place written) →
+    leave code program (bare_begun_unit begun) (held tree_locals f) (held tree_locals l) (bare_stack s) (bare_place p) ≡ option_map bare (leave written program begun f l s p)
+leave_bare program begun f l [] (statement body) = map_if bare (ends program begun.head.program) _
+leave_bare program begun f l s p = refl
 
-at_inside_bare : (top : Top written) (f l : Section Locals) (at : Spot written) (k : Kind) → at_inside code (bare_top top) (held tree_locals f) (held tree_locals l) (bare_spot at) k ≡ option_map bare (at_inside written top f l at k)
-at_inside_bare top f l at (kind.Fixed fixed.EndProgram) = leave_bare true top f l at.stack at.place
-at_inside_bare top f l at (kind.Fixed fixed.EndFunction) = leave_bare false top f l at.stack at.place
-at_inside_bare top f l at k =
-    ap (λ (o : Option (Spot code)). option_map (λ (to : Spot code). inside (bare_top top) (held tree_locals f) (held tree_locals l) to) o) (step_bare at.depth at.stack at.place k)
-    ∙ map_map (λ (to : Spot code). inside (bare_top top) (held tree_locals f) (held tree_locals l) to) bare_spot (λ (to : Spot written). bare (inside top f l to)) (λ to. refl) (step_at written at.depth at.stack at.place k)
-    ∙ sym (map_map bare (λ (to : Spot written). inside top f l to) (λ (to : Spot written). bare (inside top f l to)) (λ to. refl) (step_at written at.depth at.stack at.place k))
+at_inside_bare : (begun : BegunUnit written) (f l : Section Locals) (at : BodyState written) (k : Kind) → at_inside code (bare_begun_unit begun) (held tree_locals f) (held tree_locals l) (bare_body_state at) k ≡ option_map bare (at_inside written begun f l at k)
+at_inside_bare begun f l at (kind.Fixed fixed.EndProgram) = leave_bare true begun f l at.stack at.place
+at_inside_bare begun f l at (kind.Fixed fixed.EndFunction) = leave_bare false begun f l at.stack at.place
+at_inside_bare begun f l at k =
+    ap (λ (o : Option (BodyState code)). option_map (λ (to : BodyState code). inside (bare_begun_unit begun) (held tree_locals f) (held tree_locals l) to) o) (step_bare at.depth at.stack at.place k)
+    ∙ map_map (λ (to : BodyState code). inside (bare_begun_unit begun) (held tree_locals f) (held tree_locals l) to) bare_body_state (λ (to : BodyState written). bare (inside begun f l to)) (λ to. refl) (step_at written at.depth at.stack at.place k)
+    ∙ sym (map_map bare (λ (to : BodyState written). inside begun f l to) (λ (to : BodyState written). bare (inside begun f l to)) (λ to. refl) (step_at written at.depth at.stack at.place k))
 
-at_formals_done_bare : (top : Top written) (f : Section Locals) (k : Kind) → at_formals_done code (bare_top top) (held tree_locals f) k ≡ option_map bare (at_formals_done written top f k)
-at_formals_done_bare top f (kind.Fixed fixed.VarTemp) = refl
-at_formals_done_bare top f other = at_inside_bare top f absent (spot written 0 [] (statement none)) other
+at_formals_done_bare : (begun : BegunUnit written) (f : Section Locals) (k : Kind) → at_formals_done code (bare_begun_unit begun) (held tree_locals f) k ≡ option_map bare (at_formals_done written begun f k)
+at_formals_done_bare begun f (kind.Fixed fixed.VarTemp) = refl
+at_formals_done_bare begun f other = at_inside_bare begun f absent (body_state written 0 [] (statement none)) other
 
-at_opened_bare : (top : Top written) (k : Kind) → at_opened code (bare_top top) k ≡ option_map bare (at_opened written top k)
-at_opened_bare top (kind.Fixed fixed.VarInOut) = by top.head.program
+at_opened_bare : (begun : BegunUnit written) (k : Kind) → at_opened code (bare_begun_unit begun) k ≡ option_map bare (at_opened written begun k)
+at_opened_bare begun (kind.Fixed fixed.VarInOut) = by begun.head.program
   where
-    by : (c : Bool) → (let x : Option (State code) = if c then None else Some (section (bare_top top) formals []) in x) ≡ option_map bare (if c then None else Some (section top formals no_local))
+    by : (c : Bool) → (let x : Option (State code) = if c then None else Some (section (bare_begun_unit begun) formals []) in x) ≡ option_map bare (if c then None else Some (section begun formals no_local))
     by true = refl
     by false = refl
-at_opened_bare top other = at_formals_done_bare top absent other
+at_opened_bare begun other = at_formals_done_bare begun absent other
 
 pub next_bare : (q : State written) (k : Kind) → next code (bare q) k ≡ option_map bare (next written q k)
 next_bare start (kind.Fixed fixed.VarGlobal) = refl
@@ -312,20 +317,20 @@ next_bare (row done name line x) k =
     ∙ map_map (λ (y : Row code). row (tree_globals done) name line y) bare_row (λ (y : Row written). bare (row done name line y)) (λ y. refl) (row_step written name x k)
     ∙ sym (map_map bare (λ (y : Row written). row done name line y) (λ (y : Row written). bare (row done name line y)) (λ y. refl) (row_step written name x k))
 next_bare (between text) k = at_between_bare text k
-next_bare (heading text program line) (kind.Variable (var.Name name) place) = map_if bare (may_name_unit name) (opened (top_of written text (head_of written program line name place)))
-next_bare (opened top) k = at_opened_bare top k
-next_bare (formals_done top before) k = at_formals_done_bare top before k
-next_bare (section top which done) (kind.Variable (var.Name name) line) =
-    ap (λ (c : Bool). if c then Some (typing (bare_top top) (bare_which which) (tree_locals done) name line local_colon) else None) (may_name_bare which name)
-    ∙ map_if bare (may_name written which name) (typing top which done name line local_colon)
-next_bare (section top formals done) (kind.Fixed fixed.EndVar) = refl
-next_bare (section top (temps before) done) (kind.Fixed fixed.EndVar) = refl
-next_bare (typing top which done name line local_colon) (kind.Fixed fixed.Colon) = refl
-next_bare (typing top which done name line local_type) (kind.Fixed (fixed.Type ty)) =
-    ap (λ (c : Bool). if c then Some (typing (bare_top top) (bare_which which) (tree_locals done) name line (local_end ty)) else None) (may_type_bare which ty)
-    ∙ map_if bare (may_type written which ty) (typing top which done name line (local_end ty))
-next_bare (typing top which done name line (local_end ty)) (kind.Fixed fixed.Semicolon) = refl
-next_bare (inside top before locals at) k = at_inside_bare top before locals at k
+next_bare (heading text program line) (kind.Variable (var.Name name) place) = map_if bare (may_name_unit name) (opened (begun_unit written text (head_of written program line name place)))
+next_bare (opened begun) k = at_opened_bare begun k
+next_bare (formals_done begun before) k = at_formals_done_bare begun before k
+next_bare (section begun which done) (kind.Variable (var.Name name) line) =
+    ap (λ (c : Bool). if c then Some (typing (bare_begun_unit begun) (bare_section_kind which) (tree_locals done) name line local_colon) else None) (may_name_bare which name)
+    ∙ map_if bare (may_name written which name) (typing begun which done name line local_colon)
+next_bare (section begun formals done) (kind.Fixed fixed.EndVar) = refl
+next_bare (section begun (temps before) done) (kind.Fixed fixed.EndVar) = refl
+next_bare (typing begun which done name line local_colon) (kind.Fixed fixed.Colon) = refl
+next_bare (typing begun which done name line local_type) (kind.Fixed (fixed.Type ty)) =
+    ap (λ (c : Bool). if c then Some (typing (bare_begun_unit begun) (bare_section_kind which) (tree_locals done) name line (local_end ty)) else None) (may_type_bare which ty)
+    ∙ map_if bare (may_type written which ty) (typing begun which done name line (local_end ty))
+next_bare (typing begun which done name line (local_end ty)) (kind.Fixed fixed.Semicolon) = refl
+next_bare (inside begun before locals at) k = at_inside_bare begun before locals at k
 next_bare q other = refl
 
 -- The level of a state
@@ -335,7 +340,7 @@ level_bare d operand [] = refl
 level_bare d operand (unary op ∷ s) = refl
 level_bare d other s = refl
 
-pub mark_bare : (q : State written) → mark code (bare q) ≡ mark written q
-mark_bare (inside top before locals at) = level_bare at.depth at.place at.stack
-mark_bare (row done name line (at_value v last items count)) = refl
-mark_bare other = refl
+pub last_level_bare : (q : State written) → last_level code (bare q) ≡ last_level written q
+last_level_bare (inside begun before locals at) = level_bare at.depth at.place at.stack
+last_level_bare (row done name line (at_value v last items count)) = refl
+last_level_bare other = refl

@@ -5,8 +5,8 @@ use Rattle.std.proofs.lemmas.Bool.Decides.{nat_tests}
 use Rattle.st_grammar.specs.Forms.{Form, literal, variable, group, prefix, infix_of, apply, shift, select, Locals, Section}
 use Rattle.st_grammar.specs.Grammar.{prefix_level, infix_level, level, Binds, prefix_kind, spell}
 use Rattle.st_grammar.specs.Levels.{height, levels}
-use Rattle.st_grammar.specs.inner.Machine.{written, Frame, unary, left, bracket, argument, only, shifted, shifted_by, gate, first, second, Place, operand, operator, Spot, Top, State, inside}
-use Rattle.st_grammar.specs.inner.Steps.{spot, weakest, limit, Reduced, reduced_to, reduce, with_prefix, waits, leave, next, level_at, mark, Passed, shallower, passes}
+use Rattle.st_grammar.specs.inner.Machine.{written, Frame, unary, left, bracket, argument, only, shifted, shifted_by, gate, first, second, Place, operand, operator, BodyState, BegunUnit, State, inside}
+use Rattle.st_grammar.specs.inner.Steps.{body_state, weakest, limit, Reduced, reduced_to, reduce, with_prefix, waits, leave, next, level_at, last_level, Passed, shallower, passes}
 use Rattle.st_grammar.specs.declared.kind.Fixed.TheVariants as fixed
 use Rattle.st_grammar.specs.declared.kind.Kind.{Kind}
 use Rattle.st_grammar.specs.declared.kind.Kind.TheVariants as kind
@@ -15,22 +15,22 @@ use Rattle.st_grammar.specs.declared.kind.Prefix.TheVariants as before
 use Rattle.st_tree.specs.declared.expr.BinaryOp.{BinaryOp}
 use Rattle.st_tree.specs.declared.expr.BinaryOp.TheVariants as binary
 
--- a unit that is read: what stands before its statements
-pub record Unit_read : Type 0 where
-  pub top : Top written
+-- a unit with its declarations: what stands before its statements
+pub record DeclaredUnit : Type 0 where
+  pub begun : BegunUnit written
   pub formals : Section Locals
   pub locals : Section Locals
 
 -- the pass from a place in a unit
-abbrev pub within_unit : Unit_read → ℕ → List (Frame written) → Place written → State written
-within_unit u d s p = inside u.top u.formals u.locals (spot written d s p)
+abbrev pub within_unit : DeclaredUnit → ℕ → List (Frame written) → Place written → State written
+within_unit u d s p = inside u.begun u.formals u.locals (body_state written d s p)
 
-abbrev pub run : Unit_read → ℕ → List (Frame written) → Place written → List ℕ → List Kind → Option (Passed written)
+abbrev pub run : DeclaredUnit → ℕ → List (Frame written) → Place written → List ℕ → List Kind → Option (Passed written)
 run u d s p w ks = passes written (within_unit u d s p) w ks
 
 -- the pass after a token
 abbrev pub go : List ℕ → List Kind → Option (State written) → Option (Passed written)
-go w ks o = option_and_then (λ r. passes written r (mark written r ∷ w) ks) o
+go w ks o = option_and_then (λ r. passes written r (last_level written r ∷ w) ks) o
 
 -- Levels of precedence
 
@@ -71,19 +71,19 @@ lets_less j k (kind.Fixed (fixed.Between op)) h l = omega arith
 lets_less j k other h l = tt
 
 -- no unit ends in an expression
-no_end : (u : Unit_read) (program : Bool) (s : List (Frame written)) (f : Form) → None ≡ leave written program u.top u.formals u.locals s (operator f)
+no_end : (u : DeclaredUnit) (program : Bool) (s : List (Frame written)) (f : Form) → None ≡ leave written program u.begun u.formals u.locals s (operator f)
 no_end u program [] f = refl
 no_end u program (x ∷ s) f = refl
 
 -- an operator with its operand behaves as the expression that it makes
-pub past_unary : (u : Unit_read) (d : ℕ) (op : Prefix) (s : List (Frame written)) (f : Form) (t : Kind) →
+pub past_unary : (u : DeclaredUnit) (d : ℕ) (op : Prefix) (s : List (Frame written)) (f : Form) (t : Kind) →
     next written (within_unit u d (unary op ∷ s) (operator f)) t ≡ next written (within_unit u (shallower d) s (operator (prefix op f))) t
 past_unary u d op s f (kind.Fixed (fixed.Between o)) = rw (le_true (prefix_level op) (infix_level o) (let h = prefix_above op o in omega arith)) refl
 past_unary u d op s f (kind.Fixed fixed.EndProgram) = no_end u true s (prefix op f)
 past_unary u d op s f (kind.Fixed fixed.EndFunction) = no_end u false s (prefix op f)
 past_unary u d op s f other = rw (le_true (prefix_level op) weakest (prefix_most op)) refl
 
-pub past_left : (u : Unit_read) (d : ℕ) (op : BinaryOp) (a : Form) (s : List (Frame written)) (f : Form) (t : Kind) → Lets (infix_level op) t →
+pub past_left : (u : DeclaredUnit) (d : ℕ) (op : BinaryOp) (a : Form) (s : List (Frame written)) (f : Form) (t : Kind) → Lets (infix_level op) t →
     next written (within_unit u d (left op a ∷ s) (operator f)) t ≡ next written (within_unit u d s (operator (infix_of op a f))) t
 past_left u d op a s f (kind.Fixed (fixed.Between o)) h = rw (le_true (infix_level op) (infix_level o) h) refl
 past_left u d op a s f (kind.Fixed fixed.EndProgram) h = no_end u true s (infix_of op a f)
@@ -100,8 +100,8 @@ unmoved op d (left o a ∷ s) f h = rw (le_false (infix_level o) (infix_level op
 unmoved op d s f h = refl
 
 -- an operator before its operand
-prefix_next : (u : Unit_read) (d : ℕ) (s : List (Frame written)) (op : Prefix) →
-    next written (within_unit u d s operand) (prefix_kind op) ≡ option_map (λ (to : Spot written). inside u.top u.formals u.locals to) (with_prefix written d s op)
+prefix_next : (u : DeclaredUnit) (d : ℕ) (s : List (Frame written)) (op : Prefix) →
+    next written (within_unit u d s operand) (prefix_kind op) ≡ option_map (λ (to : BodyState written). inside u.begun u.formals u.locals to) (with_prefix written d s op)
 prefix_next u d s before.Minus = refl
 prefix_next u d s before.Not = refl
 
@@ -111,20 +111,20 @@ close = kind.Fixed fixed.Close
 abbrev pub comma : Kind
 comma = kind.Fixed fixed.Comma
 
-pub drive : (u : Unit_read) (d : ℕ) (s : List (Frame written)) (f : Form) (t : Kind) (ts : List Kind) (w : List ℕ) → Binds f → level f ≤ limit written s → Lets (level f) t →
+pub drive : (u : DeclaredUnit) (d : ℕ) (s : List (Frame written)) (f : Form) (t : Kind) (ts : List Kind) (w : List ℕ) → Binds f → level f ≤ limit written s → Lets (level f) t →
     run u d s operand w (spell f (t ∷ ts)) ≡ run u d s (operator f) (levels d f w) (t ∷ ts)
 drive u d s (literal c) t ts w b h l =
-    ap (λ (v : Bool). go w (t ∷ ts) (option_map (λ (to : Spot written). inside u.top u.formals u.locals to) (if v then Some (spot written d s (operator (literal c))) else None))) b
+    ap (λ (v : Bool). go w (t ∷ ts) (option_map (λ (to : BodyState written). inside u.begun u.formals u.locals to) (if v then Some (body_state written d s (operator (literal c))) else None))) b
 drive u d s (variable v line) t ts w b h l = refl
 drive u d s (group f) t ts w b h l = drive u (suc d) (bracket ∷ s) f close (t ∷ ts) (suc d ∷ w) b (level_most f) tt
 drive u d s (prefix op f) t ts w b h l =
     ap (λ (o : Option (State written)). go w (spell f (t ∷ ts)) o) (prefix_next u d s op
-    ∙ ap (λ (c : Bool). option_map (λ (to : Spot written). inside u.top u.formals u.locals to) (if c then Some (spot written (suc d) (unary op ∷ s) operand) else None)) (le_true (prefix_level op) (limit written s) h))
+    ∙ ap (λ (c : Bool). option_map (λ (to : BodyState written). inside u.begun u.formals u.locals to) (if c then Some (body_state written (suc d) (unary op ∷ s) operand) else None)) (le_true (prefix_level op) (limit written s) h))
     ∙ drive u (suc d) (unary op ∷ s) f t ts (suc d ∷ w) b.1 b.0 (lets_less (level f) (prefix_level op) t b.0 l)
     ∙ ap (λ (o : Option (State written)). go (levels (suc d) f (suc d ∷ w)) ts o) (past_unary u (suc d) op s f t)
 drive u d s (infix_of op f g) t ts w b fits l =
     drive u d s f (kind.Fixed (fixed.Between op)) (spell g (t ∷ ts)) w b.2 (le_through (level f) (infix_level op) (limit written s) b.0 fits) b.0
-    ∙ ap (λ (r : Reduced written). passes written (inside u.top u.formals u.locals (waits written op r)) (level_at written r.depth operand (left op r.operand ∷ r.stack) ∷ levels d f w) (spell g (t ∷ ts))) (unmoved op d s f fits)
+    ∙ ap (λ (r : Reduced written). passes written (inside u.begun u.formals u.locals (waits written op r)) (level_at written r.depth operand (left op r.operand ∷ r.stack) ∷ levels d f w) (spell g (t ∷ ts))) (unmoved op d s f fits)
     ∙ drive u d (left op f ∷ s) g t ts ((d + height f) ∷ levels d f w) b.3 (below (level g) (infix_level op) b.1) (lets_less (level g) (infix_level op) t (less (level g) (infix_level op) b.1) l)
     ∙ ap (λ (o : Option (State written)). go (levels d g ((d + height f) ∷ levels d f w)) ts o) (past_left u d op f s g t l)
   where

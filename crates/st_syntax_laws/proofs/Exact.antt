@@ -3,7 +3,7 @@
 use Rattle.std.proofs.Common.{◌≡◌, ℕ, zero, suc, ◌<◌, ◌≤◌, List, [], ◌∷◌, ◌++◌, length, drop, Option, Some, None, refl, sym, ap, subst, ◌∙◌, append_assoc, append-nil}
 use Rattle.std.specs.Prelude.{IfSome, option_and_then, option_map}
 use Rattle.std.proofs.lemmas.List.{map-append}
-use Rattle.st_syntax_laws.proofs.Bare.{bare, bare_before, next_bare, mark_bare}
+use Rattle.st_syntax_laws.proofs.Bare.{bare, bare_text, next_bare, last_level_bare}
 use Rattle.st_syntax_laws.proofs.DriveSource.{finished, drive_source}
 use Rattle.st_syntax_laws.proofs.Finish.{Ends, finishes}
 use Rattle.st_syntax_laws.proofs.Kept.{past, Shaped, Kept}
@@ -12,8 +12,8 @@ use Rattle.st_grammar.specs.Forms.{Source}
 use Rattle.st_grammar.specs.Grammar.{spell_source, raw_tree}
 use Rattle.st_grammar.specs.Levels.{deepest, levels_source}
 use Rattle.st_grammar.specs.inner.Judge.{raw_of, text_in}
-use Rattle.st_grammar.specs.inner.Machine.{written, code, Before, State, start, over}
-use Rattle.st_grammar.specs.inner.Steps.{next, mark, Passed, passes}
+use Rattle.st_grammar.specs.inner.Machine.{written, code, TextSoFar, State, start, over}
+use Rattle.st_grammar.specs.inner.Steps.{next, last_level, Passed, passes}
 use Rattle.st_grammar.specs.Syntax.{Lined, kinds, Reads, AllWithin, Begins, levels_in, BeginsWithin, FirstWrong, FirstDeep}
 use Rattle.st_grammar.specs.declared.kind.Kind.{Kind}
 use Rattle.st_tree.specs.declared.raw.RawSt.{RawSt}
@@ -28,10 +28,10 @@ then_pass ks o = option_and_then (λ (r : Passed written). passes written r.stat
 
 passes-append : (q : State written) (w : List ℕ) (xs ys : List Kind) → passes written q w (xs ++ ys) ≡ then_pass ys (passes written q w xs)
 passes-append q w [] ys = refl
-passes-append q w (k ∷ xs) ys = by (next written q k) (λ r. passes-append r (mark written r ∷ w) xs ys)
+passes-append q w (k ∷ xs) ys = by (next written q k) (λ r. passes-append r (last_level written r ∷ w) xs ys)
   where
-    by : (o : Option (State written)) → ((r : State written) → passes written r (mark written r ∷ w) (xs ++ ys) ≡ then_pass ys (passes written r (mark written r ∷ w) xs))
-        → option_and_then (λ r. passes written r (mark written r ∷ w) (xs ++ ys)) o ≡ then_pass ys (option_and_then (λ r. passes written r (mark written r ∷ w) xs) o)
+    by : (o : Option (State written)) → ((r : State written) → passes written r (last_level written r ∷ w) (xs ++ ys) ≡ then_pass ys (passes written r (last_level written r ∷ w) xs))
+        → option_and_then (λ r. passes written r (last_level written r ∷ w) (xs ++ ys)) o ≡ then_pass ys (option_and_then (λ r. passes written r (last_level written r ∷ w) xs) o)
     by None e = refl
     by (Some r) e = e r
 
@@ -43,16 +43,16 @@ drop_tail n xs ys y h = absurd (let e : [] ≡ y ∷ ys = h in cc)
 
 dropped : (q : State written) (w : List ℕ) (ks : List Kind) → IfSome (passes written q w ks) (λ r. drop (length ks) r.levels ≡ w)
 dropped q w [] = refl
-dropped q w (k ∷ ks) = by (next written q k) (λ r. dropped r (mark written r ∷ w) ks)
+dropped q w (k ∷ ks) = by (next written q k) (λ r. dropped r (last_level written r ∷ w) ks)
   where
     last : (x : ℕ) (o : Option (Passed written)) → IfSome o (λ r. drop (length ks) r.levels ≡ x ∷ w) → IfSome o (λ r. drop (length (k ∷ ks)) r.levels ≡ w)
     last x None h = tt
     last x (Some r) h = drop_tail (length ks) r.levels w x h
 
-    by : (o : Option (State written)) → ((r : State written) → IfSome (passes written r (mark written r ∷ w) ks) (λ z. drop (length ks) z.levels ≡ mark written r ∷ w))
-        → IfSome (option_and_then (λ r. passes written r (mark written r ∷ w) ks) o) (λ z. drop (length (k ∷ ks)) z.levels ≡ w)
+    by : (o : Option (State written)) → ((r : State written) → IfSome (passes written r (last_level written r ∷ w) ks) (λ z. drop (length ks) z.levels ≡ last_level written r ∷ w))
+        → IfSome (option_and_then (λ r. passes written r (last_level written r ∷ w) ks) o) (λ z. drop (length (k ∷ ks)) z.levels ≡ w)
     by None h = tt
-    by (Some r) h = last (mark written r) (passes written r (mark written r ∷ w) ks) (h r)
+    by (Some r) h = last (last_level written r) (passes written r (last_level written r ∷ w) ks) (h r)
 
 -- what was passed is the text of the state
 record PassedAll (front : List Kind) (r : State written) : Type 0 where
@@ -60,34 +60,34 @@ record PassedAll (front : List Kind) (r : State written) : Type 0 where
   text : (more : List Kind) → past r more ≡ front ++ more
 
 kept_then : (front : List Kind) (q : State written) (w : List ℕ) (k : Kind) (ks : List Kind) (o : Option (State written)) → ((more : List Kind) → past q more ≡ front ++ more) → IfSome o (Kept (λ more. past q (k ∷ more)))
-    → ((r : State written) → Shaped r → ((more : List Kind) → past r more ≡ (front ++ k ∷ []) ++ more) → IfSome (passes written r (mark written r ∷ w) ks) (λ z. PassedAll ((front ++ k ∷ []) ++ ks) z.state))
-    → IfSome (option_and_then (λ r. passes written r (mark written r ∷ w) ks) o) (λ z. PassedAll (front ++ k ∷ ks) z.state)
+    → ((r : State written) → Shaped r → ((more : List Kind) → past r more ≡ (front ++ k ∷ []) ++ more) → IfSome (passes written r (last_level written r ∷ w) ks) (λ z. PassedAll ((front ++ k ∷ []) ++ ks) z.state))
+    → IfSome (option_and_then (λ r. passes written r (last_level written r ∷ w) ks) o) (λ z. PassedAll (front ++ k ∷ ks) z.state)
 kept_then front q w k ks None e h more = tt
 kept_then front q w k ks (Some r) e h on =
-    subst (λ (xs : List Kind). IfSome (passes written r (mark written r ∷ w) ks) (λ z. PassedAll xs z.state)) (append_assoc front (k ∷ []) ks)
+    subst (λ (xs : List Kind). IfSome (passes written r (last_level written r ∷ w) ks) (λ z. PassedAll xs z.state)) (append_assoc front (k ∷ []) ks)
     (on r h.shaped (λ more. h.grown more ∙ e (k ∷ more) ∙ sym (append_assoc front (k ∷ []) more)))
 
 kept_all : (front : List Kind) (q : State written) (w : List ℕ) (ks : List Kind) → Shaped q → ((more : List Kind) → past q more ≡ front ++ more) → IfSome (passes written q w ks) (λ z. PassedAll (front ++ ks) z.state)
 kept_all front q w [] h e = record { shaped = h; text = λ more. e more ∙ ap (λ (xs : List Kind). xs ++ more) (sym (append-nil front)) }
-kept_all front q w (k ∷ ks) h e = kept_then front q w k ks (next written q k) e (kept q k h) (λ r s t. kept_all (front ++ k ∷ []) r (mark written r ∷ w) ks s t)
+kept_all front q w (k ∷ ks) h e = kept_then front q w k ks (next written q k) e (kept q k h) (λ r s t. kept_all (front ++ k ∷ []) r (last_level written r ∷ w) ks s t)
 
 passed_all : (ks : List Kind) (q : State written) (w : List ℕ) → passes written start [] ks ≡ Some (at_state q w) → PassedAll ks q
 passed_all ks q w e = subst (λ (o : Option (Passed written)). IfSome o (λ z. PassedAll ks z.state)) e (kept_all [] start [] ks tt (λ more. refl))
 
 -- The text of a finished pass
 
-abbrev pub source_of : Before written → Source
+abbrev pub source_of : TextSoFar written → Source
 source_of text = record { globals = text.globals; units = text.units }
 
 abbrev levels_of : Option (Passed written) → List ℕ
 levels_of None = []
 levels_of (Some r) = r.levels
 
-pub record WasRead (all : List Kind) (text : Before written) (w : List ℕ) : Type 0 where
+pub record WasRead (all : List Kind) (text : TextSoFar written) (w : List ℕ) : Type 0 where
   pub reads : Reads all (source_of text)
   pub levels : levels_source (source_of text) ≡ w
 
-pub was_read : (all : List Kind) (text : Before written) (w : List ℕ) → passes written start [] all ≡ Some (at_state (over text) w) → WasRead all text w
+pub was_read : (all : List Kind) (text : TextSoFar written) (w : List ℕ) → passes written start [] all ≡ Some (at_state (over text) w) → WasRead all text w
 was_read all text w e =
     let p = passed_all all (over text) w e in
     let spelled : spell_source (source_of text) ≡ all = p.text [] ∙ append-nil all in
@@ -131,7 +131,7 @@ cannot_follow front k q w e none b =
     let whole : spell_source b.source ≡ front ++ k ∷ b.more = b.reads.spelled ∙ append_assoc front (k ∷ []) b.more in
     let shorter : Begins front = record { source = b.source; more = k ∷ b.more; reads = record { fits = b.reads.fits; spelled = whole } } in
     let on : passes written q w (k ∷ b.more) ≡ Some (at_state (finished b.source) (levels_source b.source)) = on_from front q w shorter e in
-    let stopped : passes written q w (k ∷ b.more) ≡ None = ap (λ (o : Option (State written)). option_and_then (λ r. passes written r (mark written r ∷ w) b.more) o) none in
+    let stopped : passes written q w (k ∷ b.more) ≡ None = ap (λ (o : Option (State written)). option_and_then (λ r. passes written r (last_level written r ∷ w) b.more) o) none in
     absurd (let c : Some (at_state (finished b.source) (levels_source b.source)) ≡ None = sym on ∙ stopped in cc)
 
 -- What the code has read
@@ -168,18 +168,18 @@ stopped q k e = by (next written q k) (sym (next_bare q k) ∙ e)
     by (Some r) h = absurd cc
 
 passes_more : (front : List Lined) (item : Lined) (q r : State written) (w : List ℕ) → passes written start [] (kinds front) ≡ Some (at_state q w) → next written q item.kind ≡ Some r
-    → passes written start [] (kinds front ++ item.kind ∷ []) ≡ Some (at_state r (mark written r ∷ w))
+    → passes written start [] (kinds front ++ item.kind ∷ []) ≡ Some (at_state r (last_level written r ∷ w))
 passes_more front item q r w e n =
     passes-append start [] (kinds front) (item.kind ∷ []) ∙ ap (λ (o : Option (Passed written)). then_pass (item.kind ∷ []) o) e
-    ∙ ap (λ (o : Option (State written)). option_and_then (λ z. passes written z (mark written z ∷ w) []) o) n
+    ∙ ap (λ (o : Option (State written)). option_and_then (λ z. passes written z (last_level written z ∷ w) []) o) n
 
-pub read_more : (front : List Lined) (item : Lined) (state to : State code) → Read front state → next code state item.kind ≡ Some to → mark code to ≤ deepest → Read (front ++ item ∷ []) to
+pub read_more : (front : List Lined) (item : Lined) (state to : State code) → Read front state → next code state item.kind ≡ Some to → last_level code to ≤ deepest → Read (front ++ item ∷ []) to
 read_more front item state to r n low =
     let s = stepped r.inner item.kind to (ap (λ (q : State code). next code q item.kind) r.same ∙ n) in
-    let level : mark written s.inner ≡ mark code to = sym (mark_bare s.inner) ∙ ap (λ (q : State code). mark code q) s.same in
+    let level : last_level written s.inner ≡ last_level code to = sym (last_level_bare s.inner) ∙ ap (λ (q : State code). last_level code q) s.same in
     record {
       inner = s.inner;
-      levels = mark written s.inner ∷ r.levels;
+      levels = last_level written s.inner ∷ r.levels;
       same = s.same;
       passed = ap (λ (ks : List Kind). passes written start [] ks) (map-append (λ (i : Lined). i.kind) front (item ∷ [])) ∙ passes_more front item r.inner s.inner r.levels r.passed s.step;
       within = (subst (λ (n : ℕ). n ≤ deepest) (sym level) low, r.within);
@@ -201,11 +201,11 @@ wrong_at front back item state r n = record {
   cannot_follow = cannot_follow (kinds front) item.kind r.inner r.levels r.passed (stopped r.inner item.kind (ap (λ (q : State code). next code q item.kind) r.same ∙ n));
 }
 
-pub deep_at : (front back : List Lined) (item : Lined) (state to : State code) → Read front state → next code state item.kind ≡ Some to → deepest < mark code to → FirstDeep (front ++ item ∷ back) item.line
+pub deep_at : (front back : List Lined) (item : Lined) (state to : State code) → Read front state → next code state item.kind ≡ Some to → deepest < last_level code to → FirstDeep (front ++ item ∷ back) item.line
 deep_at front back item state to r n high =
     let s = stepped r.inner item.kind to (ap (λ (q : State code). next code q item.kind) r.same ∙ n) in
-    let level : mark written s.inner ≡ mark code to = sym (mark_bare s.inner) ∙ ap (λ (q : State code). mark code q) s.same in
-    let b = begins_at (kinds front ++ item.kind ∷ []) s.inner (mark written s.inner ∷ r.levels) (passes_more front item r.inner s.inner r.levels r.passed s.step) in
+    let level : last_level written s.inner ≡ last_level code to = sym (last_level_bare s.inner) ∙ ap (λ (q : State code). last_level code q) s.same in
+    let b = begins_at (kinds front ++ item.kind ∷ []) s.inner (last_level written s.inner ∷ r.levels) (passes_more front item r.inner s.inner r.levels r.passed s.step) in
     record {
       front = front;
       item = item;
@@ -213,7 +213,7 @@ deep_at front back item state to r n high =
       split = refl;
       on_line = refl;
       can_follow = b.begins;
-      level = mark written s.inner;
+      level = last_level written s.inner;
       others = r.levels;
       levels = b.levels;
       too_deep = subst (λ (n : ℕ). deepest < n) (sym level) high;
@@ -228,12 +228,12 @@ pub record ReadAll (all : List Lined) (raw : RawSt) : Type 0 where
   pub within : AllWithin deepest (levels_source source)
   pub same : raw_tree source ≡ raw
 
-pub read_all : (all : List Lined) (text : Before code) → Read all (over text) → ReadAll all (raw_of text)
+pub read_all : (all : List Lined) (text : TextSoFar code) → Read all (over text) → ReadAll all (raw_of text)
 read_all all text r = by r.inner (ap text_in r.same) r.passed
   where
     by : (q : State written) → text_in (bare q) ≡ Some text → passes written start [] (kinds all) ≡ Some (at_state q r.levels) → ReadAll all (raw_of text)
     by (over t) e p =
         let w = was_read (kinds all) t r.levels p in
-        let same : bare_before t ≡ text = cc in
+        let same : bare_text t ≡ text = cc in
         record { source = source_of t; reads = w.reads; within = subst (λ (ls : List ℕ). AllWithin deepest ls) (sym w.levels) r.within; same = ap raw_of same }
     by other e p = absurd cc

@@ -4,14 +4,14 @@ use Rattle.std.specs.Prelude.{pos, codes, ◌||◌, if◌then◌else◌, option_
 use Rattle.s7_base.specs.declared.reason.Line.{Line}
 use Rattle.memory_areas.specs.declared.place.AreaName.TheVariants.{Db}
 use Rattle.s7_base.specs.declared.word.Width.TheVariants as width
-use Rattle.st_syntax_laws.proofs.Drive.{Unit_read, within_unit, run, go, Lets, close, comma, past_unary, past_left, infix_some}
+use Rattle.st_syntax_laws.proofs.Drive.{DeclaredUnit, within_unit, run, go, Lets, close, comma, past_unary, past_left, infix_some}
 use Rattle.st_syntax_laws.proofs.DriveSource.{with_unit, unit_left}
 use Rattle.st_syntax_laws.proofs.Kept.{InStatements, InExpr, PlaceFits, Shaped}
 use Rattle.st_grammar.specs.Forms.{Form, literal, group, prefix, infix_of, apply, shift, select, Actuals, Labels, label, Items, no_unit, none, Statement, Statements, CaseArms, Globals, GlobalType, plain, Locals, Section, absent}
 use Rattle.st_grammar.specs.Grammar.{infix_level, level, Binds, end_word}
 use Rattle.st_tree.specs.Naming.{is_free, may_name_global, names_block}
-use Rattle.st_grammar.specs.inner.Machine.{written, Begun, only, shifted, shifted_by, gate, first, second, to_var, to_area, area_value, test, selector, loop_test, choosing, otherwise, looping, selecting, otherwise_case, Frame, unary, left, bracket, argument, waiting, within, Part, target, write_open, first_formal, next_formal, becoming, giving, given, labelled, Place, statement, part, closing, operand, operator, opening, Row, at_word, at_place, at_colon, at_type, at_square, at_zero, at_dots, at_last, at_close, at_of, at_byte, at_becomes, at_open, at_item, at_count, at_value, at_value_end, at_comma, at_end, Typing, local_colon, local_type, local_end, Before, Top, Which, formals, temps, State, start, globals, row, between, heading, opened, formals_done, section, typing, inside, over}
-use Rattle.st_grammar.specs.inner.Steps.{shallower, limit, no_spot, passes}
+use Rattle.st_grammar.specs.inner.Machine.{written, BegunStatement, only, shifted, shifted_by, gate, first, second, to_var, to_area, area_value, test, selector, loop_test, choosing, otherwise, looping, selecting, otherwise_case, Frame, unary, left, bracket, argument, waiting, within, Part, target, write_open, first_formal, next_formal, becoming, giving, given, labelled, Place, statement, part, closing, operand, operator, opening, Row, at_word, at_place, at_colon, at_type, at_square, at_zero, at_dots, at_last, at_close, at_of, at_byte, at_becomes, at_open, at_item, at_count, at_value, at_value_end, at_comma, at_end, Typing, local_colon, local_type, local_end, TextSoFar, BegunUnit, SectionKind, formals, temps, State, start, globals, row, between, heading, opened, formals_done, section, typing, inside, over}
+use Rattle.st_grammar.specs.inner.Steps.{shallower, limit, body_start, passes}
 use Rattle.st_grammar.specs.declared.kind.Fixed.TheVariants as fixed
 use Rattle.st_grammar.specs.declared.kind.Function.{Function}
 use Rattle.st_grammar.specs.declared.kind.Function.TheVariants as function
@@ -26,7 +26,7 @@ use Rattle.st_tree.specs.declared.raw.RawVar.TheVariants as var
 -- tokens lead to the end of a text
 pub record Ends (q : State written) (w : List ℕ) : Type 0 where
   pub more : List Kind
-  pub text : Before written
+  pub text : TextSoFar written
   pub levels : List ℕ
   pub reaches : passes written q w more ≡ Some (record { state = over text; levels = levels })
 
@@ -45,19 +45,19 @@ semicolon = kind.Fixed fixed.Semicolon
 
 -- Statements
 
-abbrev EndsIn : Unit_read → ℕ → List (Frame written) → Place written → List ℕ → Type 0
+abbrev EndsIn : DeclaredUnit → ℕ → List (Frame written) → Place written → List ℕ → Type 0
 EndsIn u d s p w = Ends (within_unit u d s p) w
 
 -- the state after some tokens is finished
 by_tokens : {q r : State written} {w v : List ℕ} (front : List Kind) → ((ks : List Kind) → passes written q w (front ++ ks) ≡ passes written r v ks) → Ends r v → Ends q w
 by_tokens front step e = record { more = front ++ e.more; text = e.text; levels = e.levels; reaches = step e.more ∙ e.reaches }
 
-between_ends : {text : Before written} {w : List ℕ} → Ends (between text) w
+between_ends : {text : TextSoFar written} {w : List ℕ} → Ends (between text) w
 between_ends {text = text} {w = w} = record { more = kind.Fixed fixed.End ∷ []; text = text; levels = 0 ∷ w; reaches = refl }
 
-statement_ends : (u : Unit_read) (d : ℕ) (s : List (Frame written)) (body : Statements) (w : List ℕ) → InStatements s → EndsIn u d s (statement body) w
+statement_ends : (u : DeclaredUnit) (d : ℕ) (s : List (Frame written)) (body : Statements) (w : List ℕ) → InStatements s → EndsIn u d s (statement body) w
 statement_ends u d [] body w h =
-    by_tokens (end_word u.top.head.program ∷ []) (λ ks. unit_left u.top.text u.top.head u.formals u.locals d body u.top.head.program ks w refl) between_ends
+    by_tokens (end_word u.begun.head.program ∷ []) (λ ks. unit_left u.begun.text u.begun.head u.formals u.locals d body u.begun.head.program ks w refl) between_ends
 statement_ends u d (within b (choosing arms e) ∷ s) body w h = by_tokens (kind.Fixed fixed.EndIf ∷ semicolon ∷ []) (λ ks. refl) (statement_ends u (shallower d) s _ _ h.2)
 statement_ends u d (within b (otherwise arms) ∷ s) body w h = by_tokens (kind.Fixed fixed.EndIf ∷ semicolon ∷ []) (λ ks. refl) (statement_ends u (shallower d) s _ _ h.2)
 statement_ends u d (within b (looping e) ∷ s) body w h = by_tokens (kind.Fixed fixed.EndWhile ∷ semicolon ∷ []) (λ ks. refl) (statement_ends u (shallower d) s _ _ h.2)
@@ -67,7 +67,7 @@ statement_ends u d (within b (otherwise_case e arms) ∷ s) body w h =
     by_tokens (kind.Fixed fixed.EndCase ∷ semicolon ∷ []) (λ ks. refl) (statement_ends u (shallower d) s _ _ h.2)
 statement_ends u d s body w h = absurd h
 
-closing_ends : {u : Unit_read} {d : ℕ} {s : List (Frame written)} {before : Statements} {x : Statement} {w : List ℕ} → InStatements s → EndsIn u d s (closing before x) w
+closing_ends : {u : DeclaredUnit} {d : ℕ} {s : List (Frame written)} {before : Statements} {x : Statement} {w : List ℕ} → InStatements s → EndsIn u d s (closing before x) w
 closing_ends h = by_tokens (semicolon ∷ []) (λ ks. refl) (statement_ends _ _ _ _ _ h)
 
 -- Expressions
@@ -81,25 +81,25 @@ lets : (k : ℕ) (t : Kind) → Closes t → Lets k t
 lets k (kind.Fixed (fixed.Between op)) h = absurd h
 lets k other h = tt
 
-record OperatorEnds (u : Unit_read) (d : ℕ) (s : List (Frame written)) (f : Form) (w : List ℕ) : Type 0 where
+record OperatorEnds (u : DeclaredUnit) (d : ℕ) (s : List (Frame written)) (f : Form) (w : List ℕ) : Type 0 where
   token : Kind
   rest : List Kind
-  text : Before written
+  text : TextSoFar written
   levels : List ℕ
   closes : Closes token
   reaches : run u d s (operator f) w (token ∷ rest) ≡ Some (record { state = over text; levels = levels })
 
-operator_by : {u : Unit_read} {d : ℕ} {s : List (Frame written)} {f : Form} {r : State written} {w v : List ℕ} (token : Kind) (front : List Kind) → Closes token
+operator_by : {u : DeclaredUnit} {d : ℕ} {s : List (Frame written)} {f : Form} {r : State written} {w v : List ℕ} (token : Kind) (front : List Kind) → Closes token
     → ((ks : List Kind) → run u d s (operator f) w (token ∷ (front ++ ks)) ≡ passes written r v ks) → Ends r v → OperatorEnds u d s f w
 operator_by token front c step e = record { token = token; rest = front ++ e.more; text = e.text; levels = e.levels; closes = c; reaches = step e.more ∙ e.reaches }
 
 below_one : (j n : ℕ) → 0 < n → j ≤ n - 1 → j < n
 below_one j n p q = omega arith
 
-as_ends : {u : Unit_read} {d : ℕ} {s : List (Frame written)} {f : Form} {w : List ℕ} → OperatorEnds u d s f w → EndsIn u d s (operator f) w
+as_ends : {u : DeclaredUnit} {d : ℕ} {s : List (Frame written)} {f : Form} {w : List ℕ} → OperatorEnds u d s f w → EndsIn u d s (operator f) w
 as_ends e = record { more = e.token ∷ e.rest; text = e.text; levels = e.levels; reaches = e.reaches }
 
-operator_ends : (u : Unit_read) (d : ℕ) (s : List (Frame written)) (f : Form) (w : List ℕ) → InExpr s → Binds f → level f ≤ limit written s → OperatorEnds u d s f w
+operator_ends : (u : DeclaredUnit) (d : ℕ) (s : List (Frame written)) (f : Form) (w : List ℕ) → InExpr s → Binds f → level f ≤ limit written s → OperatorEnds u d s f w
 operator_ends u d (unary op ∷ s) f w h b fits =
     let e = operator_ends u (shallower d) s (prefix op f) w h.1 (fits, b) h.0 in
     record {
@@ -142,28 +142,28 @@ operator_ends u d (waiting x selector ∷ s) f w h b fits =
 operator_ends u d (waiting x loop_test ∷ s) f w h b fits = operator_by (kind.Fixed fixed.Do) (kind.Fixed fixed.EndWhile ∷ []) tt (λ ks. refl) (closing_ends h.2)
 operator_ends u d s f w h b fits = absurd h
 
-operand_ends : {u : Unit_read} {d : ℕ} {s : List (Frame written)} {w : List ℕ} → InExpr s → EndsIn u d s operand w
+operand_ends : {u : DeclaredUnit} {d : ℕ} {s : List (Frame written)} {w : List ℕ} → InExpr s → EndsIn u d s operand w
 operand_ends h = by_tokens (zero_kind ∷ []) (λ ks. refl) (as_ends (operator_ends _ _ _ filler _ h refl (omega arith)))
 
-opening_ends : (u : Unit_read) (d : ℕ) (s : List (Frame written)) (f : Function) (w : List ℕ) → InExpr s → EndsIn u d s (opening f) w
+opening_ends : (u : DeclaredUnit) (d : ℕ) (s : List (Frame written)) (f : Function) (w : List ℕ) → InExpr s → EndsIn u d s (opening f) w
 opening_ends u d s (function.One op) w h = by_tokens (kind.Fixed fixed.Open ∷ []) (λ ks. refl) (operand_ends (tt, h))
 opening_ends u d s f w h = by_tokens (kind.Fixed fixed.Open ∷ []) (λ ks. refl) (operand_ends (tt, h))
 
 -- Parts of statements
 
-given_ends : {u : Unit_read} {d : ℕ} {s : List (Frame written)} {b : Begun written} {name : List ℕ} {actuals : Actuals} {w : List ℕ} → InStatements s → EndsIn u d s (part b (given name actuals)) w
+given_ends : {u : DeclaredUnit} {d : ℕ} {s : List (Frame written)} {b : BegunStatement written} {name : List ℕ} {actuals : Actuals} {w : List ℕ} → InStatements s → EndsIn u d s (part b (given name actuals)) w
 given_ends h = by_tokens (close ∷ []) (λ ks. refl) (closing_ends h)
 
-giving_ends : {u : Unit_read} {d : ℕ} {s : List (Frame written)} {b : Begun written} {name : List ℕ} {actuals : Actuals} {formal : List ℕ × Line} {w : List ℕ} → InStatements s → EndsIn u d s (part b (giving name actuals formal)) w
+giving_ends : {u : DeclaredUnit} {d : ℕ} {s : List (Frame written)} {b : BegunStatement written} {name : List ℕ} {actuals : Actuals} {formal : List ℕ × Line} {w : List ℕ} → InStatements s → EndsIn u d s (part b (giving name actuals formal)) w
 giving_ends {b = b} h = by_tokens (kind.Variable (var.Name []) b.line ∷ []) (λ ks. refl) (given_ends h)
 
-becoming_ends : {u : Unit_read} {d : ℕ} {s : List (Frame written)} {b : Begun written} {name : List ℕ} {actuals : Actuals} {formal : List ℕ × Line} {w : List ℕ} → InStatements s → EndsIn u d s (part b (becoming name actuals formal)) w
+becoming_ends : {u : DeclaredUnit} {d : ℕ} {s : List (Frame written)} {b : BegunStatement written} {name : List ℕ} {actuals : Actuals} {formal : List ℕ × Line} {w : List ℕ} → InStatements s → EndsIn u d s (part b (becoming name actuals formal)) w
 becoming_ends h = by_tokens (kind.Fixed fixed.Becomes ∷ []) (λ ks. refl) (giving_ends h)
 
-labelled_ends : {u : Unit_read} {d : ℕ} {s : List (Frame written)} {b : Begun written} {e : Form} {arms : CaseArms} {labels : Labels} {w : List ℕ} → InStatements s → EndsIn u d s (part b (labelled e arms labels)) w
+labelled_ends : {u : DeclaredUnit} {d : ℕ} {s : List (Frame written)} {b : BegunStatement written} {e : Form} {arms : CaseArms} {labels : Labels} {w : List ℕ} → InStatements s → EndsIn u d s (part b (labelled e arms labels)) w
 labelled_ends h = by_tokens (kind.Fixed fixed.Colon ∷ kind.Fixed fixed.EndCase ∷ []) (λ ks. refl) (closing_ends h)
 
-part_ends : (u : Unit_read) (d : ℕ) (s : List (Frame written)) (b : Begun written) (x : Part written) (w : List ℕ) → PlaceFits s (part b x) → EndsIn u d s (part b x) w
+part_ends : (u : DeclaredUnit) (d : ℕ) (s : List (Frame written)) (b : BegunStatement written) (x : Part written) (w : List ℕ) → PlaceFits s (part b x) → EndsIn u d s (part b x) w
 part_ends u d s b (target v) w h = by_tokens (kind.Fixed fixed.Becomes ∷ []) (λ ks. refl) (operand_ends (h.1, tt, h.0))
 part_ends u d s b (write_open a) w h = by_tokens (kind.Fixed fixed.Open ∷ []) (λ ks. refl) (operand_ends (h.1, tt, h.0))
 part_ends u d s b (first_formal name) w h = by_tokens (close ∷ []) (λ ks. refl) (closing_ends h.0)
@@ -174,7 +174,7 @@ part_ends u d s b (given name actuals) w h = given_ends h.0
 part_ends u d s b (labelled e arms labels) w h = labelled_ends h.0
 part_ends u d s b x w h = by_tokens (zero_kind ∷ []) (λ ks. refl) (labelled_ends h.0)
 
-place_ends : (u : Unit_read) (d : ℕ) (s : List (Frame written)) (p : Place written) (w : List ℕ) → PlaceFits s p → EndsIn u d s p w
+place_ends : (u : DeclaredUnit) (d : ℕ) (s : List (Frame written)) (p : Place written) (w : List ℕ) → PlaceFits s p → EndsIn u d s p w
 place_ends u d s (statement body) w h = statement_ends u d s body w h.0
 place_ends u d s (part b x) w h = part_ends u d s b x w h
 place_ends u d s (closing before x) w h = closing_ends h.0
@@ -243,47 +243,51 @@ row_ends done name line (at_value_end v last items count b) w h = by_tokens (clo
 row_ends done name line (at_comma v last items) w h = comma_ends
 row_ends done name line (at_end v ty) w h = semicolon_ends
 
-abbrev unit_read : Top written → Section Locals → Section Locals → Unit_read
-unit_read top f l = record { top = top; formals = f; locals = l }
+abbrev declared_unit : BegunUnit written → Section Locals → Section Locals → DeclaredUnit
+declared_unit begun f l = record { begun = begun; formals = f; locals = l }
 
-inside_ends : {top : Top written} {f l : Section Locals} {w : List ℕ} → Ends (inside top f l (no_spot written)) w
-inside_ends {top = top} {f = f} {l = l} {w = w} = statement_ends (unit_read top f l) 0 [] none w tt
+inside_ends : {begun : BegunUnit written} {f l : Section Locals} {w : List ℕ} →
+    Ends (inside begun f l (body_start written)) w
+inside_ends {begun = begun} {f = f} {l = l} {w = w} = statement_ends (declared_unit begun f l) 0 [] none w tt
 
 -- the end word of a unit, directly after its head
-bare_end : (top : Top written) (f : Section Locals) (p : Bool) (w : List ℕ) (ks : List Kind) → top.head.program ≡ p →
-    passes written (formals_done top f) w (end_word p ∷ ks) ≡ passes written (between (with_unit top.text top.head f absent none)) (0 ∷ w) ks
-bare_end top f true w ks e = unit_left top.text top.head f absent 0 none true ks w e
-bare_end top f false w ks e = unit_left top.text top.head f absent 0 none false ks w e
+bare_end : (begun : BegunUnit written) (f : Section Locals) (p : Bool) (w : List ℕ) (ks : List Kind)
+    → begun.head.program ≡ p
+    → passes written (formals_done begun f) w (end_word p ∷ ks) ≡ passes written (between (with_unit begun.text begun.head f absent none)) (0 ∷ w) ks
+bare_end begun f true w ks e = unit_left begun.text begun.head f absent 0 none true ks w e
+bare_end begun f false w ks e = unit_left begun.text begun.head f absent 0 none false ks w e
 
-done_ends : {top : Top written} {f : Section Locals} {w : List ℕ} → Ends (formals_done top f) w
-done_ends {top = top} {f = f} {w = w} = by_tokens (end_word top.head.program ∷ []) (λ ks. bare_end top f top.head.program w ks refl) between_ends
+done_ends : {begun : BegunUnit written} {f : Section Locals} {w : List ℕ} → Ends (formals_done begun f) w
+done_ends {begun = begun} {f = f} {w = w} = by_tokens (end_word begun.head.program ∷ []) (λ ks. bare_end begun f begun.head.program w ks refl) between_ends
 
-opened_end : (top : Top written) (p : Bool) (w : List ℕ) (ks : List Kind) → passes written (opened top) w (end_word p ∷ ks) ≡ passes written (formals_done top absent) w (end_word p ∷ ks)
-opened_end top true w ks = refl
-opened_end top false w ks = refl
+opened_end : (begun : BegunUnit written) (p : Bool) (w : List ℕ) (ks : List Kind) → passes written (opened begun) w (end_word p ∷ ks) ≡ passes written (formals_done begun absent) w (end_word p ∷ ks)
+opened_end begun true w ks = refl
+opened_end begun false w ks = refl
 
-opened_ends : {top : Top written} {w : List ℕ} → Ends (opened top) w
-opened_ends {top = top} {w = w} =
-    by_tokens (end_word top.head.program ∷ []) (λ ks. opened_end top top.head.program w ks ∙ bare_end top absent top.head.program w ks refl) between_ends
+opened_ends : {begun : BegunUnit written} {w : List ℕ} → Ends (opened begun) w
+opened_ends {begun = begun} {w = w} =
+    by_tokens (end_word begun.head.program ∷ []) (λ ks. opened_end begun begun.head.program w ks ∙ bare_end begun absent begun.head.program w ks refl) between_ends
 
-section_ends : (top : Top written) (which : Which written) (done : Locals) (w : List ℕ) → Ends (section top which done) w
-section_ends top formals done w = by_tokens (kind.Fixed fixed.EndVar ∷ []) (λ ks. refl) done_ends
-section_ends top (temps f) done w = by_tokens (kind.Fixed fixed.EndVar ∷ []) (λ ks. refl) inside_ends
+section_ends : (begun : BegunUnit written) (which : SectionKind written) (done : Locals) (w : List ℕ) → Ends (section begun which done) w
+section_ends begun formals done w = by_tokens (kind.Fixed fixed.EndVar ∷ []) (λ ks. refl) done_ends
+section_ends begun (temps f) done w = by_tokens (kind.Fixed fixed.EndVar ∷ []) (λ ks. refl) inside_ends
 
-end_typing : {top : Top written} {which : Which written} {done : Locals} {name : List ℕ} {line : Line} {ty : StType} {w : List ℕ} → Ends (typing top which done name line (local_end ty)) w
+end_typing : {begun : BegunUnit written} {which : SectionKind written} {done : Locals} {name : List ℕ} {line : Line} {ty : StType} {w : List ℕ} → Ends (typing begun which done name line (local_end ty)) w
 end_typing =
     by_tokens (semicolon ∷ []) (λ ks. refl) (section_ends _ _ _ _)
 
-type_typing : (top : Top written) (which : Which written) (done : Locals) (name : List ℕ) (line : Line) (w : List ℕ) → Ends (typing top which done name line local_type) w
-type_typing top formals done name line w = by_tokens (kind.Fixed (fixed.Type type.Bool) ∷ []) (λ ks. refl) end_typing
-type_typing top (temps f) done name line w = by_tokens (kind.Fixed (fixed.Type type.Bool) ∷ []) (λ ks. refl) end_typing
+type_typing : (begun : BegunUnit written) (which : SectionKind written) (done : Locals) (name : List ℕ) (line : Line) (w : List ℕ) → Ends (typing begun which done name line local_type) w
+type_typing begun formals done name line w = by_tokens (kind.Fixed (fixed.Type type.Bool) ∷ []) (λ ks. refl) end_typing
+type_typing begun (temps f) done name line w =
+    by_tokens (kind.Fixed (fixed.Type type.Bool) ∷ []) (λ ks. refl) end_typing
 
-typing_ends : (top : Top written) (which : Which written) (done : Locals) (name : List ℕ) (line : Line) (x : Typing) (w : List ℕ) → Ends (typing top which done name line x) w
-typing_ends top which done name line local_colon w = by_tokens (kind.Fixed fixed.Colon ∷ []) (λ ks. refl) (type_typing top which done name line (0 ∷ w))
-typing_ends top which done name line local_type w = type_typing top which done name line w
-typing_ends top which done name line (local_end ty) w = end_typing
+typing_ends : (begun : BegunUnit written) (which : SectionKind written) (done : Locals) (name : List ℕ) (line : Line) (x : Typing) (w : List ℕ) → Ends (typing begun which done name line x) w
+typing_ends begun which done name line local_colon w = by_tokens (kind.Fixed fixed.Colon ∷ []) (λ ks. refl) (type_typing begun which done name line (0 ∷ w))
+typing_ends begun which done name line local_type w = type_typing begun which done name line w
+typing_ends begun which done name line (local_end ty) w = end_typing
 
-heading_ends : (text : Before written) (program : Bool) (line : Line) (w : List ℕ) → Ends (heading text program line) w
+heading_ends : (text : TextSoFar written) (program : Bool) (line : Line) (w : List ℕ) →
+    Ends (heading text program line) w
 heading_ends text program line w = by_tokens (kind.Variable (var.Name (codes "OB1")) line ∷ []) (λ ks. refl) opened_ends
 
 start_ends : (w : List ℕ) → Ends start w
@@ -295,9 +299,9 @@ finishes (globals done) w h = globals_end
 finishes (row done name line x) w h = row_ends done name line x w h.1
 finishes (between text) w h = between_ends
 finishes (heading text program line) w h = heading_ends text program line w
-finishes (opened top) w h = opened_ends
-finishes (formals_done top f) w h = done_ends
-finishes (section top which done) w h = section_ends top which done w
-finishes (typing top which done name line x) w h = typing_ends top which done name line x w
-finishes (inside top f l at) w h = place_ends (unit_read top f l) at.depth at.stack at.place w h.3
+finishes (opened begun) w h = opened_ends
+finishes (formals_done begun f) w h = done_ends
+finishes (section begun which done) w h = section_ends begun which done w
+finishes (typing begun which done name line x) w h = typing_ends begun which done name line x w
+finishes (inside begun f l at) w h = place_ends (declared_unit begun f l) at.depth at.stack at.place w h.3
 finishes (over text) w h = record { more = []; text = text; levels = w; reaches = refl }

@@ -7,8 +7,8 @@ use Rattle.s7_base.specs.declared.reason.Reason.{Reason}
 use Rattle.s7_base.specs.declared.reason.Rejection.{Rejection}
 use Rattle.s7_base.specs.declared.reason.Rejection.TheVariants.{Refused}
 use Rattle.st_grammar.specs.Syntax.{HasRawTree, IsSyntaxRefused, all_lined}
-use Rattle.st_grammar.specs.inner.Judge.{judge, raw_of, text_in, tree_at, verdict, verdict_on}
-use Rattle.st_grammar.specs.inner.Machine.{code, Before, State, start}
+use Rattle.st_grammar.specs.inner.Judge.{judge_tokens, raw_of, text_in, tree_at, verdict, verdict_on}
+use Rattle.st_grammar.specs.inner.Machine.{code, TextSoFar, State, start}
 use Rattle.st_lexer.specs.StTokens.{tokens_of}
 use Rattle.st_syntax_laws.proofs.OneSyntax.{of_refusal, tree_is}
 use Rattle.st_syntax_laws.proofs.Whole.{bad_token, refused_of, tree_of}
@@ -21,14 +21,14 @@ of_verdict : (bytes : List ℕ) (o : Result (List StToken) Rejection) (v : Resul
 of_verdict bytes o v found e = sym (ap (verdict_on bytes) found) ∙ e
 
 -- the state to which a text is judged good has a tree, and it is the text's
-from_state : (bytes : List ℕ) (tokens : List StToken) (q : State code) (raw : RawSt) (o : Option (Before code)) → tokens_of bytes ≡ Ok tokens → judge start (all_lined tokens (line_at_end bytes)) ≡ Ok q → text_in q ≡ o
+from_state : (bytes : List ℕ) (tokens : List StToken) (q : State code) (raw : RawSt) (o : Option (TextSoFar code)) → tokens_of bytes ≡ Ok tokens → judge_tokens start (all_lined tokens (line_at_end bytes)) ≡ Ok q → text_in q ≡ o
     → option_map raw_of o ≡ Some raw → HasRawTree bytes raw
 from_state bytes tokens q raw None found good at e = absurd cc
 from_state bytes tokens q raw (Some text) found good at e =
     let same : raw_of text ≡ raw = cc in
     subst (HasRawTree bytes) same (tree_of bytes tokens q text found good at)
 
-from_judgement : (bytes : List ℕ) (tokens : List StToken) (raw : RawSt) (v : Result (State code) Rejection) → tokens_of bytes ≡ Ok tokens → judge start (all_lined tokens (line_at_end bytes)) ≡ v → tree_at v ≡ Some raw → HasRawTree bytes raw
+from_judgement : (bytes : List ℕ) (tokens : List StToken) (raw : RawSt) (v : Result (State code) Rejection) → tokens_of bytes ≡ Ok tokens → judge_tokens start (all_lined tokens (line_at_end bytes)) ≡ v → tree_at v ≡ Some raw → HasRawTree bytes raw
 from_judgement bytes tokens raw (Ok q) found good e = from_state bytes tokens q raw (text_in q) found good refl e
 from_judgement bytes tokens raw (Err refused) found good e = absurd cc
 
@@ -36,7 +36,7 @@ judged_tree : (bytes : List ℕ) (raw : RawSt) → tree_at (verdict bytes) ≡ S
 judged_tree bytes raw = by (tokens_of bytes) refl
   where
     by : (o : Result (List StToken) Rejection) → tokens_of bytes ≡ o → tree_at (verdict bytes) ≡ Some raw → HasRawTree bytes raw
-    by (Ok tokens) found e = from_judgement bytes tokens raw (judge start (all_lined tokens (line_at_end bytes))) found refl (sym (ap (λ (o : Result (List StToken) Rejection). tree_at (verdict_on bytes o)) found) ∙ e)
+    by (Ok tokens) found e = from_judgement bytes tokens raw (judge_tokens start (all_lined tokens (line_at_end bytes))) found refl (sym (ap (λ (o : Result (List StToken) Rejection). tree_at (verdict_on bytes o)) found) ∙ e)
     by (Err refused) found e = absurd (no_tree refused (sym (ap (λ (o : Result (List StToken) Rejection). tree_at (verdict_on bytes o)) found) ∙ e))
       where
         no_tree : (refused : Rejection) → tree_at (Err refused) ≡ Some raw → ⊥

@@ -8,8 +8,8 @@ use Rattle.st_syntax_laws.proofs.DriveSource.{Declared}
 use Rattle.st_grammar.specs.Forms.{Form, prefix, infix_of, Actuals, no_actual, actual, Labels, label, more_labels, Statements, CaseArms, Items, no_item}
 use Rattle.st_grammar.specs.Grammar.{prefix_level, infix_level, level, is_value, Binds, may_jump, LabelsFit, HasArm, HasCase, Fits, AllFit, ArmsFit, CasesFit, is_direct, is_global, GlobalsFit, LocalsFit, IfPresent, HeadFits, UnitsFit, prefix_kind, spell, comma_behind, spell_actuals, spell_labels, arm_word, spell_one, spell_all, spell_arms, spell_cases, comma_past, spell_items, spell_type, spell_globals, spell_locals, unit_word, spell_section, spell_formals, spell_temps, spell_head, spell_units}
 use Rattle.st_tree.specs.Naming.{may_name_global, may_name_unit, names_block}
-use Rattle.st_grammar.specs.inner.Machine.{written, Begun, Argument, only, shifted, shifted_by, gate, first, second, Use, to_var, to_area, area_value, test, selector, loop_test, Body, choosing, otherwise, looping, selecting, otherwise_case, Frame, unary, left, bracket, argument, waiting, within, Part, target, write_open, first_formal, next_formal, becoming, giving, given, first_label, next_label, labelled, Place, statement, part, closing, operand, operator, opening, Spot, Row, at_word, at_place, at_colon, at_type, at_square, at_zero, at_dots, at_last, at_close, at_of, at_byte, at_becomes, at_open, at_item, at_count, at_value, at_value_end, at_comma, at_end, Typing, local_colon, local_type, local_end, Before, Top, Which, formals, temps, State, start, globals, row, between, heading, opened, formals_done, section, typing, inside, over}
-use Rattle.st_grammar.specs.inner.Steps.{spot, shallower, weakest, limit, Reduced, reduce, reduced_to, with_prefix, closed, waits, in_loop, in_body, at_label, step_at, may_name, may_type}
+use Rattle.st_grammar.specs.inner.Machine.{written, BegunStatement, Argument, only, shifted, shifted_by, gate, first, second, Need, to_var, to_area, area_value, test, selector, loop_test, OuterStatement, choosing, otherwise, looping, selecting, otherwise_case, Frame, unary, left, bracket, argument, waiting, within, Part, target, write_open, first_formal, next_formal, becoming, giving, given, first_label, next_label, labelled, Place, statement, part, closing, operand, operator, opening, BodyState, Row, at_word, at_place, at_colon, at_type, at_square, at_zero, at_dots, at_last, at_close, at_of, at_byte, at_becomes, at_open, at_item, at_count, at_value, at_value_end, at_comma, at_end, Typing, local_colon, local_type, local_end, TextSoFar, BegunUnit, SectionKind, formals, temps, State, start, globals, row, between, heading, opened, formals_done, section, typing, inside, over}
+use Rattle.st_grammar.specs.inner.Steps.{body_state, shallower, weakest, limit, Reduced, reduce, reduced_to, with_prefix, closed, waits, in_loop, in_body, at_label, step_at, may_name, may_type}
 use Rattle.st_grammar.specs.declared.kind.Fixed.TheVariants as fixed
 use Rattle.st_grammar.specs.declared.kind.Function.{Function}
 use Rattle.st_grammar.specs.declared.kind.Function.TheVariants as function
@@ -42,20 +42,20 @@ past_argument gate more = kind.Fixed (fixed.Function function.Select) ∷ open_k
 past_argument (first f) more = kind.Fixed (fixed.Function function.Select) ∷ open_kind ∷ spell f (comma_kind ∷ more)
 past_argument (second f g) more = kind.Fixed (fixed.Function function.Select) ∷ open_kind ∷ spell f (comma_kind ∷ spell g (comma_kind ∷ more))
 
-abbrev past_use : Line → Use written → List Kind → List Kind
-past_use line (to_var v) more = kind.Variable v line ∷ kind.Fixed fixed.Becomes ∷ more
-past_use line (to_area w) more = kind.Lead (lead.AreaWrite w) line ∷ open_kind ∷ more
-past_use line (area_value w p) more = kind.Lead (lead.AreaWrite w) line ∷ open_kind ∷ spell p (comma_kind ∷ more)
-past_use line (test arms) more = spell_arms line arms (arm_word line arms ∷ more)
-past_use line selector more = kind.Lead lead.Case line ∷ more
-past_use line loop_test more = kind.Lead lead.While line ∷ more
+abbrev past_need : Line → Need written → List Kind → List Kind
+past_need line (to_var v) more = kind.Variable v line ∷ kind.Fixed fixed.Becomes ∷ more
+past_need line (to_area w) more = kind.Lead (lead.AreaWrite w) line ∷ open_kind ∷ more
+past_need line (area_value w p) more = kind.Lead (lead.AreaWrite w) line ∷ open_kind ∷ spell p (comma_kind ∷ more)
+past_need line (test arms) more = spell_arms line arms (arm_word line arms ∷ more)
+past_need line selector more = kind.Lead lead.Case line ∷ more
+past_need line loop_test more = kind.Lead lead.While line ∷ more
 
-abbrev past_body : Line → Body written → List Kind → List Kind
-past_body line (choosing arms e) more = spell_arms line arms (arm_word line arms ∷ spell e (kind.Fixed fixed.Then ∷ more))
-past_body line (otherwise arms) more = spell_arms line arms (kind.Fixed fixed.Else ∷ more)
-past_body line (looping e) more = kind.Lead lead.While line ∷ spell e (kind.Fixed fixed.Do ∷ more)
-past_body line (selecting e arms labels) more = kind.Lead lead.Case line ∷ spell e (kind.Fixed fixed.Of ∷ spell_cases arms (spell_labels labels (kind.Fixed fixed.Colon ∷ more)))
-past_body line (otherwise_case e arms) more = kind.Lead lead.Case line ∷ spell e (kind.Fixed fixed.Of ∷ spell_cases arms (kind.Fixed fixed.Else ∷ more))
+abbrev past_outer_statement : Line → OuterStatement written → List Kind → List Kind
+past_outer_statement line (choosing arms e) more = spell_arms line arms (arm_word line arms ∷ spell e (kind.Fixed fixed.Then ∷ more))
+past_outer_statement line (otherwise arms) more = spell_arms line arms (kind.Fixed fixed.Else ∷ more)
+past_outer_statement line (looping e) more = kind.Lead lead.While line ∷ spell e (kind.Fixed fixed.Do ∷ more)
+past_outer_statement line (selecting e arms labels) more = kind.Lead lead.Case line ∷ spell e (kind.Fixed fixed.Of ∷ spell_cases arms (spell_labels labels (kind.Fixed fixed.Colon ∷ more)))
+past_outer_statement line (otherwise_case e arms) more = kind.Lead lead.Case line ∷ spell e (kind.Fixed fixed.Of ∷ spell_cases arms (kind.Fixed fixed.Else ∷ more))
 
 abbrev pub past_stack : List (Frame written) → List Kind → List Kind
 past_stack [] more = more
@@ -63,8 +63,8 @@ past_stack (unary op ∷ s) more = past_stack s (prefix_kind op ∷ more)
 past_stack (left op f ∷ s) more = past_stack s (spell f (kind.Fixed (fixed.Between op) ∷ more))
 past_stack (bracket ∷ s) more = past_stack s (open_kind ∷ more)
 past_stack (argument a ∷ s) more = past_stack s (past_argument a more)
-past_stack (waiting b u ∷ s) more = past_stack s (spell_all b.before (past_use b.line u more))
-past_stack (within b y ∷ s) more = past_stack s (spell_all b.before (past_body b.line y more))
+past_stack (waiting b n ∷ s) more = past_stack s (spell_all b.before (past_need b.line n more))
+past_stack (within b y ∷ s) more = past_stack s (spell_all b.before (past_outer_statement b.line y more))
 
 abbrev past_call : Line → List ℕ → List Kind → List Kind
 past_call line name more = kind.Variable (var.Name name) line ∷ open_kind ∷ more
@@ -134,15 +134,15 @@ past_row (at_value_end v last items count b) more = past_items v last items (com
 past_row (at_comma v last items) more = past_items v last items more
 past_row (at_end v ty) more = past_colon v (spell_type ty more)
 
-abbrev pub past_before : Before written → List Kind → List Kind
-past_before text more = spell_section (kind.Fixed fixed.VarGlobal) spell_globals text.globals (spell_units text.units more)
+abbrev pub past_text : TextSoFar written → List Kind → List Kind
+past_text text more = spell_section (kind.Fixed fixed.VarGlobal) spell_globals text.globals (spell_units text.units more)
 
-abbrev pub past_top : Top written → List Kind → List Kind
-past_top top more = past_before top.text (spell_head top.head more)
+abbrev pub past_begun_unit : BegunUnit written → List Kind → List Kind
+past_begun_unit begun more = past_text begun.text (spell_head begun.head more)
 
-abbrev pub past_which : Which written → List Kind → List Kind
-past_which formals more = kind.Fixed fixed.VarInOut ∷ more
-past_which (temps f) more = spell_formals f (kind.Fixed fixed.VarTemp ∷ more)
+abbrev pub past_section_kind : SectionKind written → List Kind → List Kind
+past_section_kind formals more = kind.Fixed fixed.VarInOut ∷ more
+past_section_kind (temps f) more = spell_formals f (kind.Fixed fixed.VarTemp ∷ more)
 
 abbrev past_typing : Typing → List Kind → List Kind
 past_typing local_colon more = more
@@ -153,14 +153,14 @@ abbrev pub past : State written → List Kind → List Kind
 past start more = more
 past (globals done) more = kind.Fixed fixed.VarGlobal ∷ spell_globals done more
 past (row done name line x) more = kind.Fixed fixed.VarGlobal ∷ spell_globals done (kind.Variable (var.Name name) line ∷ past_row x more)
-past (between text) more = past_before text more
-past (heading text program line) more = past_before text (unit_word program line ∷ more)
-past (opened top) more = past_top top more
-past (formals_done top f) more = past_top top (spell_formals f more)
-past (section top which done) more = past_top top (past_which which (spell_locals done more))
-past (typing top which done name line x) more = past_top top (past_which which (spell_locals done (kind.Variable (var.Name name) line ∷ past_typing x more)))
-past (inside top f l at) more = past_top top (spell_formals f (spell_temps l (past_stack at.stack (past_place at.place more))))
-past (over text) more = past_before text (kind.Fixed fixed.End ∷ more)
+past (between text) more = past_text text more
+past (heading text program line) more = past_text text (unit_word program line ∷ more)
+past (opened begun) more = past_begun_unit begun more
+past (formals_done begun f) more = past_begun_unit begun (spell_formals f more)
+past (section begun which done) more = past_begun_unit begun (past_section_kind which (spell_locals done more))
+past (typing begun which done name line x) more = past_begun_unit begun (past_section_kind which (spell_locals done (kind.Variable (var.Name name) line ∷ past_typing x more)))
+past (inside begun f l at) more = past_begun_unit begun (spell_formals f (spell_temps l (past_stack at.stack (past_place at.place more))))
+past (over text) more = past_text text (kind.Fixed fixed.End ∷ more)
 
 -- What is open stands in order
 
@@ -170,17 +170,17 @@ ArgumentFits (first f) = Binds f
 ArgumentFits (second f g) = Binds f × Binds g
 ArgumentFits other = Unit {0}
 
-abbrev pub UseFits : Bool → Use written → Type 0
-UseFits i (area_value w p) = Binds p
-UseFits i (test arms) = ArmsFit i arms
-UseFits i other = Unit {0}
+abbrev pub NeedFits : Bool → Need written → Type 0
+NeedFits i (area_value w p) = Binds p
+NeedFits i (test arms) = ArmsFit i arms
+NeedFits i other = Unit {0}
 
-abbrev pub BodyFits : Bool → Body written → Type 0
-BodyFits i (choosing arms e) = ArmsFit i arms × Binds e
-BodyFits i (otherwise arms) = HasArm arms × ArmsFit i arms
-BodyFits i (looping e) = Binds e
-BodyFits i (selecting e arms labels) = Binds e × CasesFit i arms × LabelsFit labels
-BodyFits i (otherwise_case e arms) = Binds e × HasCase arms × CasesFit i arms
+abbrev pub OuterStatementFits : Bool → OuterStatement written → Type 0
+OuterStatementFits i (choosing arms e) = ArmsFit i arms × Binds e
+OuterStatementFits i (otherwise arms) = HasArm arms × ArmsFit i arms
+OuterStatementFits i (looping e) = Binds e
+OuterStatementFits i (selecting e arms labels) = Binds e × CasesFit i arms × LabelsFit labels
+OuterStatementFits i (otherwise_case e arms) = Binds e × HasCase arms × CasesFit i arms
 
 abbrev pub HasActual : Actuals → Type 0
 HasActual no_actual = ⊥
@@ -201,7 +201,8 @@ PartFits i other = Unit {0}
 -- statements alone are open
 abbrev pub InStatements : List (Frame written) → Type 0
 InStatements [] = Unit {0}
-InStatements (within b y ∷ s) = AllFit (in_loop written s) b.before × BodyFits (in_loop written s) y × InStatements s
+InStatements (within b y ∷ s) =
+    AllFit (in_loop written s) b.before × OuterStatementFits (in_loop written s) y × InStatements s
 InStatements (frame ∷ s) = ⊥
 
 -- an expression is open, and the statement that it belongs to
@@ -210,7 +211,7 @@ InExpr (unary op ∷ s) = (prefix_level op ≤ limit written s) × InExpr s
 InExpr (left op f ∷ s) = (level f ≤ infix_level op) × Binds f × (infix_level op ≤ limit written s) × InExpr s
 InExpr (bracket ∷ s) = InExpr s
 InExpr (argument a ∷ s) = ArgumentFits a × InExpr s
-InExpr (waiting b u ∷ s) = AllFit (in_loop written s) b.before × UseFits (in_loop written s) u × InStatements s
+InExpr (waiting b n ∷ s) = AllFit (in_loop written s) b.before × NeedFits (in_loop written s) n × InStatements s
 InExpr other = ⊥
 
 abbrev pub PlaceFits : List (Frame written) → Place written → Type 0
@@ -240,17 +241,17 @@ RowFits name (at_comma v last items) = (is_direct v.0 ≡ true) × (names_block 
 RowFits name (at_end v ty) = (is_direct v.0 ≡ true) × (is_global name ty ≡ true)
 RowFits name other = Unit {0}
 
-abbrev pub TextFits : Before written → Type 0
+abbrev pub TextFits : TextSoFar written → Type 0
 TextFits text = IfPresent GlobalsFit text.globals × UnitsFit text.units
 
-abbrev pub TopFits : Top written → Type 0
-TopFits top = TextFits top.text × (may_name_unit top.head.name ≡ true)
+abbrev pub BegunUnitFits : BegunUnit written → Type 0
+BegunUnitFits begun = TextFits begun.text × (may_name_unit begun.head.name ≡ true)
 
-abbrev pub WhichFits : Top written → Which written → Type 0
-WhichFits top formals = top.head.program ≡ false
-WhichFits top (temps f) = HeadFits top.head.program f
+abbrev pub SectionKindFits : BegunUnit written → SectionKind written → Type 0
+SectionKindFits begun formals = begun.head.program ≡ false
+SectionKindFits begun (temps f) = HeadFits begun.head.program f
 
-abbrev pub TypingFits : Which written → Typing → Type 0
+abbrev pub TypingFits : SectionKind written → Typing → Type 0
 TypingFits which (local_end ty) = may_type written which ty ≡ true
 TypingFits which other = Unit {0}
 
@@ -260,35 +261,35 @@ Shaped (globals done) = GlobalsFit done
 Shaped (row done name line x) = GlobalsFit done × (may_name_global name ≡ true) × RowFits name x
 Shaped (between text) = TextFits text
 Shaped (heading text program line) = TextFits text
-Shaped (opened top) = TopFits top
-Shaped (formals_done top f) = TopFits top × HeadFits top.head.program f
-Shaped (section top which done) = TopFits top × WhichFits top which × Declared which done
-Shaped (typing top which done name line x) = TopFits top × WhichFits top which × Declared which done × (may_name written which name ≡ true) × TypingFits which x
-Shaped (inside top f l at) = TopFits top × HeadFits top.head.program f × IfPresent LocalsFit l × PlaceFits at.stack at.place
+Shaped (opened begun) = BegunUnitFits begun
+Shaped (formals_done begun f) = BegunUnitFits begun × HeadFits begun.head.program f
+Shaped (section begun which done) = BegunUnitFits begun × SectionKindFits begun which × Declared which done
+Shaped (typing begun which done name line x) = BegunUnitFits begun × SectionKindFits begun which × Declared which done × (may_name written which name ≡ true) × TypingFits which x
+Shaped (inside begun f l at) = BegunUnitFits begun × HeadFits begun.head.program f × IfPresent LocalsFit l × PlaceFits at.stack at.place
 Shaped (over text) = TextFits text
 
 -- A step keeps both
 
-abbrev pub past_spot : Spot written → List Kind → List Kind
-past_spot z more = past_stack z.stack (past_place z.place more)
+abbrev pub past_body_state : BodyState written → List Kind → List Kind
+past_body_state z more = past_stack z.stack (past_place z.place more)
 
-pub record KeptIn (before : List Kind → List Kind) (z : Spot written) : Type 0 where
+pub record KeptIn (before : List Kind → List Kind) (z : BodyState written) : Type 0 where
   pub fits : PlaceFits z.stack z.place
-  pub grown : (more : List Kind) → past_spot z more ≡ before more
+  pub grown : (more : List Kind) → past_body_state z more ≡ before more
 
 pub record Kept (before : List Kind → List Kind) (r : State written) : Type 0 where
   pub shaped : Shaped r
   pub grown : (more : List Kind) → past r more ≡ before more
 
-abbrev pub KeepsIn : (List Kind → List Kind) → Option (Spot written) → Type 0
+abbrev pub KeepsIn : (List Kind → List Kind) → Option (BodyState written) → Type 0
 KeepsIn before o = IfSome o (KeptIn before)
 
-same_in : (p q : List Kind → List Kind) → ((more : List Kind) → p more ≡ q more) → (o : Option (Spot written)) → KeepsIn p o → KeepsIn q o
+same_in : (p q : List Kind → List Kind) → ((more : List Kind) → p more ≡ q more) → (o : Option (BodyState written)) → KeepsIn p o → KeepsIn q o
 same_in p q e None h = tt
 same_in p q e (Some z) h = record { fits = h.fits; grown = λ more. h.grown more ∙ e more }
 
 -- a state that a test allows
-if_in : (before : List Kind → List Kind) (c : Bool) (z : Spot written) → (c ≡ true → KeptIn before z) → KeepsIn before (if c then Some z else None)
+if_in : (before : List Kind → List Kind) (c : Bool) (z : BodyState written) → (c ≡ true → KeptIn before z) → KeepsIn before (if c then Some z else None)
 if_in before true z h = h refl
 if_in before false z h = tt
 
@@ -365,7 +366,7 @@ waits_kept s f r op t = record { fits = (t.strong, t.binds, t.room, t.inner); gr
 
 prefix_kept : (d : ℕ) (s : List (Frame written)) (op : Prefix) → InExpr s → KeepsIn (λ more. past_stack s (prefix_kind op ∷ more)) (with_prefix written d s op)
 prefix_kept d s op h =
-    le_cases (prefix_level op) (limit written s) (λ c. KeepsIn (λ more. past_stack s (prefix_kind op ∷ more)) (if c then Some (spot written (suc d) (unary op ∷ s) operand) else None))
+    le_cases (prefix_level op) (limit written s) (λ c. KeepsIn (λ more. past_stack s (prefix_kind op ∷ more)) (if c then Some (body_state written (suc d) (unary op ∷ s) operand) else None))
     (λ low. record { fits = (low, h); grown = λ more. refl }) (λ high. tt)
 
 -- Statements
@@ -377,14 +378,14 @@ in_body_kept d (within b (choosing arms e) ∷ s) body (kind.Fixed fixed.EndIf) 
 in_body_kept d (within b (otherwise arms) ∷ s) body (kind.Fixed fixed.EndIf) h p = record { fits = (h.2, h.0, (h.1.0, h.1.1, p)); grown = λ more. refl }
 in_body_kept d (within b (looping e) ∷ s) body (kind.Fixed fixed.EndWhile) h p = record { fits = (h.2, h.0, (h.1, p)); grown = λ more. refl }
 in_body_kept d (within b (selecting e arms labels) ∷ s) body (kind.Literal c) h p =
-    if_in (λ more. past_stack s (spell_all b.before (past_body b.line (selecting e arms labels) (spell_all body (kind.Literal c ∷ more))))) (is_value c) _
+    if_in (λ more. past_stack s (spell_all b.before (past_outer_statement b.line (selecting e arms labels) (spell_all body (kind.Literal c ∷ more))))) (is_value c) _
     (λ v. record { fits = (h.2, h.0, (h.1.0, (h.1.1, h.1.2, p), v)); grown = λ more. refl })
 in_body_kept d (within b (selecting e arms labels) ∷ s) body (kind.Fixed fixed.Else) h p = record { fits = ((h.0, (h.1.0, tt, (h.1.1, h.1.2, p)), h.2), tt); grown = λ more. refl }
 in_body_kept d (within b (selecting e arms labels) ∷ s) body (kind.Fixed fixed.EndCase) h p = record { fits = (h.2, h.0, (h.1.0, tt, (h.1.1, h.1.2, p))); grown = λ more. refl }
 in_body_kept d (within b (otherwise_case e arms) ∷ s) body (kind.Fixed fixed.EndCase) h p = record { fits = (h.2, h.0, (h.1.0, h.1.1, h.1.2, p)); grown = λ more. refl }
 in_body_kept d s body k h p = tt
 
-label_kept : (d : ℕ) (s : List (Frame written)) (b : Begun written) (e : Form) (arms : CaseArms) (labels : Literal → Labels) (past_labels : List Kind → List Kind) (k : Kind) →
+label_kept : (d : ℕ) (s : List (Frame written)) (b : BegunStatement written) (e : Form) (arms : CaseArms) (labels : Literal → Labels) (past_labels : List Kind → List Kind) (k : Kind) →
     ((c : Literal) (more : List Kind) → spell_labels (labels c) more ≡ past_labels (kind.Literal c ∷ more)) → ((c : Literal) → is_value c ≡ true → LabelsFit (labels c))
     → InStatements s → AllFit (in_loop written s) b.before → Binds e → CasesFit (in_loop written s) arms
     → KeepsIn (λ more. past_stack s (spell_all b.before (past_case b.line e arms (past_labels (k ∷ more))))) (at_label written d s b e arms labels k)

@@ -3,12 +3,12 @@ use Rattle.std.proofs.Common.{◌≡◌, ℕ, zero, Bool, true, false, List, [],
 use Rattle.std.specs.Prelude.{IfSome, if◌then◌else◌, option_map}
 use Rattle.s7_base.specs.declared.reason.Line.{Line}
 use Rattle.st_syntax_laws.proofs.DriveSource.{Declared}
-use Rattle.st_syntax_laws.proofs.Kept.{past_stack, past_place, past_array, past_row, past_top, past, HasItem, RowFits, TextFits, TopFits, Shaped, KeptIn, Kept, if_to, step_kept}
+use Rattle.st_syntax_laws.proofs.Kept.{past_stack, past_place, past_array, past_row, past_begun_unit, past, HasItem, RowFits, TextFits, BegunUnitFits, Shaped, KeptIn, Kept, if_to, step_kept}
 use Rattle.st_grammar.specs.Forms.{Statements, none, Items, no_item, Globals, Locals, no_local, local, Section, absent, unit}
 use Rattle.st_grammar.specs.Grammar.{is_direct, GlobalsFit, FormalsFit, LocalsFit, IfPresent, HeadFits, AllFit, spell_all, comma_past, spell_items, spell_initial, spell_globals, end_word, spell_formals, spell_temps}
 use Rattle.st_tree.specs.Naming.{is_free, may_name_global, may_name_unit, names_block}
-use Rattle.st_grammar.specs.inner.Machine.{written, Frame, Place, statement, Spot, Row, at_word, at_place, at_colon, at_type, at_square, at_zero, at_dots, at_last, at_close, at_of, at_byte, at_becomes, at_open, at_item, at_count, at_value, at_value_end, at_comma, at_end, local_colon, local_type, local_end, Before, Top, formals, temps, State, start, globals, row, between, heading, opened, formals_done, section, typing, inside}
-use Rattle.st_grammar.specs.inner.Steps.{spot, step_at, row_step, before_units, may_name, may_type, at_between, ends, leave, at_inside, at_formals_done, next}
+use Rattle.st_grammar.specs.inner.Machine.{written, Frame, Place, statement, BodyState, Row, at_word, at_place, at_colon, at_type, at_square, at_zero, at_dots, at_last, at_close, at_of, at_byte, at_becomes, at_open, at_item, at_count, at_value, at_value_end, at_comma, at_end, local_colon, local_type, local_end, TextSoFar, BegunUnit, formals, temps, State, start, globals, row, between, heading, opened, formals_done, section, typing, inside}
+use Rattle.st_grammar.specs.inner.Steps.{body_state, step_at, row_step, before_units, may_name, may_type, at_between, ends, leave, at_inside, at_formals_done, next}
 use Rattle.st_grammar.specs.declared.kind.Fixed.TheVariants as fixed
 use Rattle.st_grammar.specs.declared.kind.Kind.{Kind}
 use Rattle.st_grammar.specs.declared.kind.Kind.TheVariants as kind
@@ -81,7 +81,7 @@ rowed done name line x k (Some y) g n h = record {
 
 -- Units
 
-at_between_kept : (text : Before written) (k : Kind) → TextFits text → Keeps (between text) k (at_between written text k)
+at_between_kept : (text : TextSoFar written) (k : Kind) → TextFits text → Keeps (between text) k (at_between written text k)
 at_between_kept text (kind.Lead lead.Program line) h = record { shaped = h; grown = λ more. refl }
 at_between_kept text (kind.Lead lead.Function line) h = record { shaped = h; grown = λ more. refl }
 at_between_kept text (kind.Fixed fixed.End) h = record { shaped = h; grown = λ more. refl }
@@ -96,41 +96,41 @@ locals_fit f no_local h = tt
 locals_fit f (local others name line ty) h = (locals_fit f others h.0, h.1)
 
 -- the end of a unit, where its head says what it is
-left_kept : (program : Bool) (top : Top written) (f l : Section Locals) (body : Statements) (c : Bool) → top.head.program ≡ c → TopFits top → HeadFits top.head.program f → IfPresent LocalsFit l → AllFit false body
-    → IfSome (if ends program c then Some (between (record { globals = top.text.globals; units = unit top.text.units top.head f l body })) else None)
-    (Kept (λ more. past_top top (spell_formals f (spell_temps l (spell_all body (end_word program ∷ more))))))
-left_kept true top f l body false e t hf hl hb = tt
-left_kept false top f l body true e t hf hl hb = tt
-left_kept program top f l body c e t hf hl hb = record {
+left_kept : (program : Bool) (begun : BegunUnit written) (f l : Section Locals) (body : Statements) (c : Bool) → begun.head.program ≡ c → BegunUnitFits begun → HeadFits begun.head.program f → IfPresent LocalsFit l → AllFit false body
+    → IfSome (if ends program c then Some (between (record { globals = begun.text.globals; units = unit begun.text.units begun.head f l body })) else None)
+    (Kept (λ more. past_begun_unit begun (spell_formals f (spell_temps l (spell_all body (end_word program ∷ more))))))
+left_kept true begun f l body false e t hf hl hb = tt
+left_kept false begun f l body true e t hf hl hb = tt
+left_kept program begun f l body c e t hf hl hb = record {
   shaped = (t.0.0, (t.0.1, t.1, hf, hl, hb));
-  grown = λ more. ap (λ (c : Bool). past_top top (spell_formals f (spell_temps l (spell_all body (end_word c ∷ more))))) e;
+  grown = λ more. ap (λ (c : Bool). past_begun_unit begun (spell_formals f (spell_temps l (spell_all body (end_word c ∷ more))))) e;
 }
 
-leave_kept : (program : Bool) (top : Top written) (f l : Section Locals) (d : ℕ) (s : List (Frame written)) (p : Place written) → Shaped (inside top f l (spot written d s p))
-    → Keeps (inside top f l (spot written d s p)) (end_word program) (leave written program top f l s p)
-leave_kept program top f l d [] (statement body) h = left_kept program top f l body top.head.program refl h.0 h.1 h.2 h.3.1
-leave_kept program top f l d s p h = tt
+leave_kept : (program : Bool) (begun : BegunUnit written) (f l : Section Locals) (d : ℕ) (s : List (Frame written)) (p : Place written) → Shaped (inside begun f l (body_state written d s p))
+    → Keeps (inside begun f l (body_state written d s p)) (end_word program) (leave written program begun f l s p)
+leave_kept program begun f l d [] (statement body) h = left_kept program begun f l body begun.head.program refl h.0 h.1 h.2 h.3.1
+leave_kept program begun f l d s p h = tt
 
-entered : (top : Top written) (f l : Section Locals) (at : Spot written) (k : Kind) (o : Option (Spot written)) → Shaped (inside top f l at) → IfSome o (KeptIn (λ more. past_stack at.stack (past_place at.place (k ∷ more))))
-    → Keeps (inside top f l at) k (option_map (λ (to : Spot written). inside top f l to) o)
-entered top f l at k None h z = tt
-entered top f l at k (Some to) h z = record {
+entered : (begun : BegunUnit written) (f l : Section Locals) (at : BodyState written) (k : Kind) (o : Option (BodyState written)) → Shaped (inside begun f l at) → IfSome o (KeptIn (λ more. past_stack at.stack (past_place at.place (k ∷ more))))
+    → Keeps (inside begun f l at) k (option_map (λ (to : BodyState written). inside begun f l to) o)
+entered begun f l at k None h z = tt
+entered begun f l at k (Some to) h z = record {
   shaped = (h.0, h.1, h.2, z.fits);
-  grown = λ more. ap (λ (ks : List Kind). past_top top (spell_formals f (spell_temps l ks))) (z.grown more);
+  grown = λ more. ap (λ (ks : List Kind). past_begun_unit begun (spell_formals f (spell_temps l ks))) (z.grown more);
 }
 
-at_inside_kept : (top : Top written) (f l : Section Locals) (at : Spot written) (k : Kind) → Shaped (inside top f l at) → Keeps (inside top f l at) k (at_inside written top f l at k)
-at_inside_kept top f l at (kind.Fixed fixed.EndProgram) h = leave_kept true top f l at.depth at.stack at.place h
-at_inside_kept top f l at (kind.Fixed fixed.EndFunction) h = leave_kept false top f l at.depth at.stack at.place h
-at_inside_kept top f l at k h = entered top f l at k (step_at written at.depth at.stack at.place k) h (step_kept at.depth at.stack at.place k h.3)
+at_inside_kept : (begun : BegunUnit written) (f l : Section Locals) (at : BodyState written) (k : Kind) → Shaped (inside begun f l at) → Keeps (inside begun f l at) k (at_inside written begun f l at k)
+at_inside_kept begun f l at (kind.Fixed fixed.EndProgram) h = leave_kept true begun f l at.depth at.stack at.place h
+at_inside_kept begun f l at (kind.Fixed fixed.EndFunction) h = leave_kept false begun f l at.depth at.stack at.place h
+at_inside_kept begun f l at k h = entered begun f l at k (step_at written at.depth at.stack at.place k) h (step_kept at.depth at.stack at.place k h.3)
 
-at_formals_done_kept : (top : Top written) (f : Section Locals) (k : Kind) → TopFits top → HeadFits top.head.program f → Keeps (formals_done top f) k (at_formals_done written top f k)
-at_formals_done_kept top f (kind.Fixed fixed.VarTemp) t h = record { shaped = (t, h, tt); grown = λ more. refl }
-at_formals_done_kept top f other t h = at_inside_kept top f absent (spot written 0 [] (statement none)) other (t, h, tt, (tt, tt))
+at_formals_done_kept : (begun : BegunUnit written) (f : Section Locals) (k : Kind) → BegunUnitFits begun → HeadFits begun.head.program f → Keeps (formals_done begun f) k (at_formals_done written begun f k)
+at_formals_done_kept begun f (kind.Fixed fixed.VarTemp) t h = record { shaped = (t, h, tt); grown = λ more. refl }
+at_formals_done_kept begun f other t h = at_inside_kept begun f absent (body_state written 0 [] (statement none)) other (t, h, tt, (tt, tt))
 
-in_out_kept : (top : Top written) (c : Bool) → top.head.program ≡ c → TopFits top → Keeps (opened top) (kind.Fixed fixed.VarInOut) (if c then None else Some (section top formals no_local))
-in_out_kept top true e t = tt
-in_out_kept top false e t = record { shaped = (t, e, tt); grown = λ more. refl }
+in_out_kept : (begun : BegunUnit written) (c : Bool) → begun.head.program ≡ c → BegunUnitFits begun → Keeps (opened begun) (kind.Fixed fixed.VarInOut) (if c then None else Some (section begun formals no_local))
+in_out_kept begun true e t = tt
+in_out_kept begun false e t = record { shaped = (t, e, tt); grown = λ more. refl }
 
 pub kept : (q : State written) (k : Kind) → Shaped q → Keeps q k (next written q k)
 kept start (kind.Fixed fixed.VarGlobal) h = record { shaped = tt; grown = λ more. refl }
@@ -144,16 +144,16 @@ kept (row done name line x) k h = rowed done name line x k (row_step written nam
 kept (between text) k h = at_between_kept text k h
 kept (heading text program line) (kind.Variable (var.Name name) place) h =
     if_to (λ more. past (heading text program line) (kind.Variable (var.Name name) place ∷ more)) (may_name_unit name) _ (λ c. record { shaped = (h, c); grown = λ more. refl })
-kept (opened top) (kind.Fixed fixed.VarInOut) t = in_out_kept top top.head.program refl t
-kept (opened top) other t = at_formals_done_kept top absent other t tt
-kept (formals_done top f) k h = at_formals_done_kept top f k h.0 h.1
-kept (section top which done) (kind.Variable (var.Name name) line) h =
-    if_to (λ more. past (section top which done) (kind.Variable (var.Name name) line ∷ more)) (may_name written which name) _ (λ c. record { shaped = (h.0, h.1, h.2, c, tt); grown = λ more. refl })
-kept (section top formals done) (kind.Fixed fixed.EndVar) h = record { shaped = (h.0, (h.1, formals_fit done h.2)); grown = λ more. refl }
-kept (section top (temps f) done) (kind.Fixed fixed.EndVar) h = record { shaped = (h.0, h.1, locals_fit f done h.2, (tt, tt)); grown = λ more. refl }
-kept (typing top which done name line local_colon) (kind.Fixed fixed.Colon) h = record { shaped = (h.0, h.1, h.2, h.3, tt); grown = λ more. refl }
-kept (typing top which done name line local_type) (kind.Fixed (fixed.Type ty)) h =
-    if_to (λ more. past (typing top which done name line local_type) (kind.Fixed (fixed.Type ty) ∷ more)) (may_type written which ty) _ (λ c. record { shaped = (h.0, h.1, h.2, h.3, c); grown = λ more. refl })
-kept (typing top which done name line (local_end ty)) (kind.Fixed fixed.Semicolon) h = record { shaped = (h.0, h.1, (h.2, h.3, h.4)); grown = λ more. refl }
-kept (inside top f l at) k h = at_inside_kept top f l at k h
+kept (opened begun) (kind.Fixed fixed.VarInOut) t = in_out_kept begun begun.head.program refl t
+kept (opened begun) other t = at_formals_done_kept begun absent other t tt
+kept (formals_done begun f) k h = at_formals_done_kept begun f k h.0 h.1
+kept (section begun which done) (kind.Variable (var.Name name) line) h =
+    if_to (λ more. past (section begun which done) (kind.Variable (var.Name name) line ∷ more)) (may_name written which name) _ (λ c. record { shaped = (h.0, h.1, h.2, c, tt); grown = λ more. refl })
+kept (section begun formals done) (kind.Fixed fixed.EndVar) h = record { shaped = (h.0, (h.1, formals_fit done h.2)); grown = λ more. refl }
+kept (section begun (temps f) done) (kind.Fixed fixed.EndVar) h = record { shaped = (h.0, h.1, locals_fit f done h.2, (tt, tt)); grown = λ more. refl }
+kept (typing begun which done name line local_colon) (kind.Fixed fixed.Colon) h = record { shaped = (h.0, h.1, h.2, h.3, tt); grown = λ more. refl }
+kept (typing begun which done name line local_type) (kind.Fixed (fixed.Type ty)) h =
+    if_to (λ more. past (typing begun which done name line local_type) (kind.Fixed (fixed.Type ty) ∷ more)) (may_type written which ty) _ (λ c. record { shaped = (h.0, h.1, h.2, h.3, c); grown = λ more. refl })
+kept (typing begun which done name line (local_end ty)) (kind.Fixed fixed.Semicolon) h = record { shaped = (h.0, h.1, (h.2, h.3, h.4)); grown = λ more. refl }
+kept (inside begun f l at) k h = at_inside_kept begun f l at k h
 kept q other h = tt

@@ -8,14 +8,14 @@ use Rattle.s7_base.specs.declared.reason.Rejection.TheVariants.{Refused}
 use Rattle.st_syntax_laws.proofs.Bare.{bare}
 use Rattle.st_syntax_laws.proofs.DriveSource.{finished}
 use Rattle.st_syntax_laws.proofs.Judged.{good_judged, wrong_judged, deep_judged}
-use Rattle.st_grammar.specs.inner.Judge.{judge, tree_at, verdict, verdict_on}
+use Rattle.st_grammar.specs.inner.Judge.{judge_tokens, tree_at, verdict, verdict_on}
 use Rattle.st_grammar.specs.inner.Machine.{code, State, start}
 use Rattle.st_grammar.specs.Syntax.{Lined, HasLined, HasRawTree, IsSyntaxRefused}
 use Rattle.st_syntax_laws.specs.SyntaxLaws.{NotBothSyntaxes, OneRawTree, OneSyntaxRefusal}
 use Rattle.st_tree.specs.declared.raw.RawSt.{RawSt}
 
-of_tokens : (bytes : List ℕ) (all : List Lined) → HasLined bytes all → verdict bytes ≡ judge start all
-of_tokens bytes all h = ap (verdict_on bytes) h.1 ∙ ap (judge start) h.2
+of_tokens : (bytes : List ℕ) (all : List Lined) → HasLined bytes all → verdict bytes ≡ judge_tokens start all
+of_tokens bytes all h = ap (verdict_on bytes) h.1 ∙ ap (judge_tokens start) h.2
 
 -- a text with a tree is judged good
 of_tree : (bytes : List ℕ) (raw : RawSt) (h : HasRawTree bytes raw) → verdict bytes ≡ Ok (bare (finished h.source))

@@ -10,8 +10,8 @@ use Rattle.st_tree.specs.declared.token.StToken.{StToken}
 use Rattle.st_grammar.proofs.Ends.{not_over}
 use Rattle.st_syntax_laws.proofs.Verdicts.{Says, says}
 use Rattle.st_syntax_laws.proofs.Whole.{bad_token, refused_of, tree_of}
-use Rattle.st_grammar.specs.inner.Judge.{judge, raw_of, text_in}
-use Rattle.st_grammar.specs.inner.Machine.{code, Before, State, start}
+use Rattle.st_grammar.specs.inner.Judge.{judge_tokens, raw_of, text_in}
+use Rattle.st_grammar.specs.inner.Machine.{code, TextSoFar, State, start}
 use Rattle.st_grammar.specs.Syntax.{HasRawTree, IsSyntaxRefused, all_lined}
 use Rattle.st_syntax_laws.specs.SyntaxLaws.{EachHasOneSyntax}
 use Rattle.st_tree.specs.declared.raw.RawSt.{RawSt}
@@ -23,12 +23,12 @@ ForSome P = (line : Line) × (why : Reason) × P line why
 abbrev HasRaw : List ℕ → Type 0
 HasRaw bytes = (raw : RawSt) × HasRawTree bytes raw
 
-from_state : (bytes : List ℕ) (tokens : List StToken) (q : State code) (o : Option (Before code)) → tokens_of bytes ≡ Ok tokens → judge start (all_lined tokens (line_at_end bytes)) ≡ Ok q
+from_state : (bytes : List ℕ) (tokens : List StToken) (q : State code) (o : Option (TextSoFar code)) → tokens_of bytes ≡ Ok tokens → judge_tokens start (all_lined tokens (line_at_end bytes)) ≡ Ok q
     → text_in q ≡ o → HasRaw bytes
 from_state bytes tokens q None found good e = absurd (not_over tokens (line_at_end bytes) q good e)
 from_state bytes tokens q (Some text) found good e = (raw_of text, tree_of bytes tokens q text found good e)
 
-from_tokens : (bytes : List ℕ) (tokens : List StToken) (given : Result (State code) Rejection) → tokens_of bytes ≡ Ok tokens → judge start (all_lined tokens (line_at_end bytes)) ≡ given
+from_tokens : (bytes : List ℕ) (tokens : List StToken) (given : Result (State code) Rejection) → tokens_of bytes ≡ Ok tokens → judge_tokens start (all_lined tokens (line_at_end bytes)) ≡ given
     → Says (all_lined tokens (line_at_end bytes)) given → HasRaw bytes ⊎ ForSome (IsSyntaxRefused bytes)
 from_tokens bytes tokens (Ok q) found e s = inl (from_state bytes tokens q (text_in q) found e refl)
 from_tokens bytes tokens (Err (Refused line why)) found e s = inr (line, why, refused_of bytes tokens line why found e)
@@ -46,6 +46,6 @@ pub each_has_one_syntax : EachHasOneSyntax
 each_has_one_syntax bytes = by (tokens_of bytes) refl
   where
     by : (o : Result (List StToken) Rejection) → tokens_of bytes ≡ o → HasRaw bytes ⊎ ForSome (IsSyntaxRefused bytes)
-    by (Ok tokens) e = let all = all_lined tokens (line_at_end bytes) in from_tokens bytes tokens (judge start all) e refl (says all)
+    by (Ok tokens) e = let all = all_lined tokens (line_at_end bytes) in from_tokens bytes tokens (judge_tokens start all) e refl (says all)
     by (Err (Refused line why)) e = inr (line, why, bad_token bytes line why e)
     by (Err NoMemory) e = absurd (no_memory bytes e)

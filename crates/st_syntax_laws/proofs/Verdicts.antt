@@ -8,10 +8,10 @@ use Rattle.s7_base.specs.declared.reason.Reason.TheVariants as reason
 use Rattle.s7_base.specs.declared.reason.Rejection.{Rejection}
 use Rattle.s7_base.specs.declared.reason.Rejection.TheVariants.{Refused, NoMemory}
 use Rattle.st_syntax_laws.proofs.Exact.{Read, none_read, read_more, wrong_at, deep_at}
-use Rattle.st_grammar.specs.inner.Judge.{turn, reached, judged, on_good, judge}
+use Rattle.st_grammar.specs.inner.Judge.{after_token, level_reached, judged, on_good, judge_tokens}
 use Rattle.st_grammar.specs.Levels.{deepest}
 use Rattle.st_grammar.specs.inner.Machine.{code, State, start}
-use Rattle.st_grammar.specs.inner.Steps.{next, mark}
+use Rattle.st_grammar.specs.inner.Steps.{next, last_level}
 use Rattle.st_grammar.specs.Syntax.{Lined, FirstWrong, FirstDeep}
 use Rattle.st_grammar.specs.declared.kind.Kind.{Kind}
 
@@ -34,29 +34,29 @@ choose m n P low high = by (nat_lt m n) (λ h. grind (arith, nat_tests)) (λ h. 
     by true p q = high (q refl)
     by false p q = low (p refl)
 
-turn_is : (q : State code) (k : Kind) (o : Option (State code)) → turn q k ≡ o → next code q k ≡ o
-unfolding turn
-turn_is q k o e = e
+after_token_is : (q : State code) (k : Kind) (o : Option (State code)) → after_token q k ≡ o → next code q k ≡ o
+unfolding after_token
+after_token_is q k o e = e
 
-low_reach : (q : State code) → reached q ≤ deepest → mark code q ≤ deepest
-unfolding reached
+low_reach : (q : State code) → level_reached q ≤ deepest → last_level code q ≤ deepest
+unfolding level_reached
 low_reach q h = h
 
-high_reach : (q : State code) → deepest < reached q → deepest < mark code q
-unfolding reached
+high_reach : (q : State code) → deepest < level_reached q → deepest < last_level code q
+unfolding level_reached
 high_reach q h = h
 
-on_token : (front back : List Lined) (item : Lined) (q : State code) (o : Option (State code)) → Read front q → turn q item.kind ≡ o
-    → ((to : State code) → Read (front ++ item ∷ []) to → Says ((front ++ item ∷ []) ++ back) (judge to back)) → Says (front ++ item ∷ back) (on_good (judged o item.line) (λ to. judge to back))
-on_token front back item q None r e on = wrong_at front back item q r (turn_is q item.kind None e)
+on_token : (front back : List Lined) (item : Lined) (q : State code) (o : Option (State code)) → Read front q → after_token q item.kind ≡ o
+    → ((to : State code) → Read (front ++ item ∷ []) to → Says ((front ++ item ∷ []) ++ back) (judge_tokens to back)) → Says (front ++ item ∷ back) (on_good (judged o item.line) (λ to. judge_tokens to back))
+on_token front back item q None r e on = wrong_at front back item q r (after_token_is q item.kind None e)
 on_token front back item q (Some to) r e on =
-    choose deepest (reached to) (λ c. Says (front ++ item ∷ back) (on_good (if c then Err (Refused item.line reason.TooDeep) else Ok to) (λ to. judge to back)))
-    (λ low. subst (λ (all : List Lined). Says all (judge to back)) (append_assoc front (item ∷ []) back) (on to (read_more front item q to r (turn_is q item.kind (Some to) e) (low_reach to low))))
-    (λ high. deep_at front back item q to r (turn_is q item.kind (Some to) e) (high_reach to high))
+    choose deepest (level_reached to) (λ c. Says (front ++ item ∷ back) (on_good (if c then Err (Refused item.line reason.TooDeep) else Ok to) (λ to. judge_tokens to back)))
+    (λ low. subst (λ (all : List Lined). Says all (judge_tokens to back)) (append_assoc front (item ∷ []) back) (on to (read_more front item q to r (after_token_is q item.kind (Some to) e) (low_reach to low))))
+    (λ high. deep_at front back item q to r (after_token_is q item.kind (Some to) e) (high_reach to high))
 
-says_from : (front back : List Lined) (q : State code) → Read front q → Says (front ++ back) (judge q back)
+says_from : (front back : List Lined) (q : State code) → Read front q → Says (front ++ back) (judge_tokens q back)
 says_from front [] q r = subst (λ (all : List Lined). Read all q) (sym (append-nil front)) r
-says_from front (item ∷ back) q r = on_token front back item q (turn q item.kind) r refl (λ to h. says_from (front ++ item ∷ []) back to h)
+says_from front (item ∷ back) q r = on_token front back item q (after_token q item.kind) r refl (λ to h. says_from (front ++ item ∷ []) back to h)
 
-pub says : (all : List Lined) → Says all (judge start all)
+pub says : (all : List Lined) → Says all (judge_tokens start all)
 says all = says_from [] all start none_read

@@ -8,8 +8,8 @@ use Rattle.s7_base.specs.declared.reason.Rejection.TheVariants.{Refused}
 use Rattle.st_lexer.specs.StTokens.{tokens_of}
 use Rattle.st_grammar.specs.Levels.{deepest}
 use Rattle.st_grammar.specs.Syntax.{Lined, all_lined}
-use Rattle.st_grammar.specs.inner.Machine.{code, Before, State, start, over}
-use Rattle.st_grammar.specs.inner.Steps.{next, mark}
+use Rattle.st_grammar.specs.inner.Machine.{code, TextSoFar, State, start, over}
+use Rattle.st_grammar.specs.inner.Steps.{next, last_level}
 use Rattle.st_grammar.specs.declared.kind.Kind.{Kind}
 use Rattle.st_tree.specs.declared.raw.RawSt.{RawSt}
 use Rattle.st_tree.specs.declared.token.StToken.{StToken}
@@ -17,17 +17,17 @@ use Rattle.st_tree.specs.declared.token.StToken.{StToken}
 -- one step and its level, each kept shut so that proofs of the whole don't open them
 
 -- the state after one more token, if the token can follow
-unfoldable pub turn : State code → Kind → Option (State code)
-turn q k = next code q k
+unfoldable pub after_token : State code → Kind → Option (State code)
+after_token q k = next code q k
 
 -- the level that the last token made
-unfoldable pub reached : State code → ℕ
-reached q = mark code q
+unfoldable pub level_reached : State code → ℕ
+level_reached q = last_level code q
 
 -- the state after a token on a line, if the token can follow and makes no level too many
 abbrev pub judged : Option (State code) → Line → Result (State code) Rejection
 judged None line = Err (Refused line BadSyntax)
-judged (Some to) line = if nat_lt deepest (reached to) then Err (Refused line TooDeep) else Ok to
+judged (Some to) line = if nat_lt deepest (level_reached to) then Err (Refused line TooDeep) else Ok to
 
 -- what comes of a judgement
 abbrev pub on_good : Result (State code) Rejection → (State code → Result (State code) Rejection)
@@ -36,17 +36,17 @@ on_good (Ok to) on = on to
 on_good (Err refused) on = Err refused
 
 -- the state after tokens, or the first refusal
-abbrev pub judge : State code → List Lined → Result (State code) Rejection
-judge q [] = Ok q
-judge q (item ∷ items) = on_good (judged (turn q item.kind) item.line) (λ to. judge to items)
+abbrev pub judge_tokens : State code → List Lined → Result (State code) Rejection
+judge_tokens q [] = Ok q
+judge_tokens q (item ∷ items) = on_good (judged (after_token q item.kind) item.line) (λ to. judge_tokens to items)
 
 -- the whole text, if a state is after its end
-abbrev pub text_in : State code → Option (Before code)
+abbrev pub text_in : State code → Option (TextSoFar code)
 text_in (over text) = Some text
 text_in other = None
 
 -- the raw tree of a whole text
-abbrev pub raw_of : Before code → RawSt
+abbrev pub raw_of : TextSoFar code → RawSt
 raw_of text = record { globals = text.globals; pous = text.units }
 
 -- the tree of a text that is judged good to its end
@@ -56,7 +56,7 @@ tree_at (Err refused) = None
 
 -- the judgement of a text: that of its tokens, if none of them is bad
 abbrev pub verdict_on : List ℕ → Result (List StToken) Rejection → Result (State code) Rejection
-verdict_on bytes (Ok tokens) = judge start (all_lined tokens (line_at_end bytes))
+verdict_on bytes (Ok tokens) = judge_tokens start (all_lined tokens (line_at_end bytes))
 verdict_on bytes (Err refused) = Err refused
 
 -- the judgement of a text from its bytes

@@ -383,7 +383,7 @@ add_unit code units head formals locals body =
 -- What is open
 
 -- a statement that has begun: those before it, and its line
-pub record Begun (m : Mode) : Type 0 where
+pub record BegunStatement (m : Mode) : Type 0 where
   pub before : StatementsIn m
   pub line : Line
 
@@ -397,21 +397,21 @@ pub data Argument (m : Mode) : Type 0 where
   second : ExprIn m → ExprIn m → Argument m
 
 -- what a statement needs an expression for
-pub data Use (m : Mode) : Type 0 where
-  to_var : RawVar → Use m
-  to_area : Width → Use m
-  area_value : Width → ExprIn m → Use m
-  test : ArmsIn m → Use m
-  selector : Use m
-  loop_test : Use m
+pub data Need (m : Mode) : Type 0 where
+  to_var : RawVar → Need m
+  to_area : Width → Need m
+  area_value : Width → ExprIn m → Need m
+  test : ArmsIn m → Need m
+  selector : Need m
+  loop_test : Need m
 
 -- a statement whose own statements are read
-pub data Body (m : Mode) : Type 0 where
-  choosing : ArmsIn m → ExprIn m → Body m
-  otherwise : ArmsIn m → Body m
-  looping : ExprIn m → Body m
-  selecting : ExprIn m → CasesIn m → LabelsIn m → Body m
-  otherwise_case : ExprIn m → CasesIn m → Body m
+pub data OuterStatement (m : Mode) : Type 0 where
+  choosing : ArmsIn m → ExprIn m → OuterStatement m
+  otherwise : ArmsIn m → OuterStatement m
+  looping : ExprIn m → OuterStatement m
+  selecting : ExprIn m → CasesIn m → LabelsIn m → OuterStatement m
+  otherwise_case : ExprIn m → CasesIn m → OuterStatement m
 
 -- what is open: an operator that waits for its operand, a bracket, a function, an expression of a
 -- statement, or a statement with statements in it
@@ -420,8 +420,8 @@ pub data Frame (m : Mode) : Type 0 where
   left : BinaryOp → ExprIn m → Frame m
   bracket : Frame m
   argument : Argument m → Frame m
-  waiting : Begun m → Use m → Frame m
-  within : Begun m → Body m → Frame m
+  waiting : BegunStatement m → Need m → Frame m
+  within : BegunStatement m → OuterStatement m → Frame m
 
 -- What may come next
 
@@ -442,14 +442,14 @@ pub data Part (m : Mode) : Type 0 where
 -- the bracket of a function
 pub data Place (m : Mode) : Type 0 where
   statement : StatementsIn m → Place m
-  part : Begun m → Part m → Place m
+  part : BegunStatement m → Part m → Place m
   closing : StatementsIn m → StatementIn m → Place m
   operand : Place m
   operator : ExprIn m → Place m
   opening : Function → Place m
 
 -- where the pass is in statements: the depth, what is open, what may come next
-pub record Spot (m : Mode) : Type 0 where
+pub record BodyState (m : Mode) : Type 0 where
   pub depth : ℕ
   pub stack : List (Frame m)
   pub place : Place m
@@ -482,31 +482,31 @@ pub data Typing : Type 0 where
   local_type : Typing
   local_end : StType → Typing
 
--- the text before a unit
-pub record Before (m : Mode) : Type 0 where
+-- the text so far: its globals, and the units that have ended
+pub record TextSoFar (m : Mode) : Type 0 where
   pub globals : GlobalSectionIn m
   pub units : UnitsIn m
 
--- the part of a unit before its statements
-pub record Top (m : Mode) : Type 0 where
-  pub text : Before m
+-- a unit that has begun: the text before it, and its heading
+pub record BegunUnit (m : Mode) : Type 0 where
+  pub text : TextSoFar m
   pub head : HeadIn m
 
 -- which section is read: formals, or locals after the formals
-pub data Which (m : Mode) : Type 0 where
-  formals : Which m
-  temps : LocalSectionIn m → Which m
+pub data SectionKind (m : Mode) : Type 0 where
+  formals : SectionKind m
+  temps : LocalSectionIn m → SectionKind m
 
 -- where the pass is in a text, with all that it has read so far
 pub data State (m : Mode) : Type 0 where
   start : State m
   globals : GlobalsIn m → State m
   row : GlobalsIn m → List ℕ → Line → Row m → State m
-  between : Before m → State m
-  heading : Before m → Bool → Line → State m
-  opened : Top m → State m
-  formals_done : Top m → LocalSectionIn m → State m
-  section : Top m → Which m → LocalsIn m → State m
-  typing : Top m → Which m → LocalsIn m → List ℕ → Line → Typing → State m
-  inside : Top m → LocalSectionIn m → LocalSectionIn m → Spot m → State m
-  over : Before m → State m
+  between : TextSoFar m → State m
+  heading : TextSoFar m → Bool → Line → State m
+  opened : BegunUnit m → State m
+  formals_done : BegunUnit m → LocalSectionIn m → State m
+  section : BegunUnit m → SectionKind m → LocalsIn m → State m
+  typing : BegunUnit m → SectionKind m → LocalsIn m → List ℕ → Line → Typing → State m
+  inside : BegunUnit m → LocalSectionIn m → LocalSectionIn m → BodyState m → State m
+  over : TextSoFar m → State m

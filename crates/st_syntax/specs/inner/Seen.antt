@@ -3,7 +3,7 @@ use Rattle.std.specs.Prelude.{◌≡◌, Bool, true, false, Option, Some, None, 
 use Rattle.s7_base.specs.declared.reason.Rejection.{Rejection}
 use Rattle.s7_base.specs.declared.reason.Rejection.TheVariants.{Refused, NoMemory}
 use Rattle.st_grammar.specs.inner.Judge.{text_in}
-use Rattle.st_grammar.specs.inner.Machine.{code, Before, State}
+use Rattle.st_grammar.specs.inner.Machine.{code, TextSoFar, State}
 use Rattle.st_syntax.specs.inner.Views.{state_of}
 use Rattle.st_syntax.specs.declared.state.State.{State as Found}
 
@@ -13,12 +13,12 @@ unfoldable pub seen : Found → State code
 seen state = state_of state
 
 -- where a token leads, if it can follow
-abbrev pub went : Bool → Found → Option (State code)
-went true state = Some (seen state)
-went false state = None
+abbrev pub leads_to : Bool → Found → Option (State code)
+leads_to true state = Some (seen state)
+leads_to false state = None
 
 -- a judgement that is good comes to this text
-abbrev pub HasText : Result (State code) Rejection → Before code → Type 0
+abbrev pub HasText : Result (State code) Rejection → TextSoFar code → Type 0
 HasText (Ok q) text = text_in q ≡ Some text
 HasText (Err refused) text = ⊥
 

@@ -1,6 +1,6 @@
 -- The code's states as those of the pass.
 use Rattle.std.specs.Prelude.{if◌then◌else◌, Option, Some, None}
-use Rattle.st_bodies.specs.inner.Spots.{spot_of}
+use Rattle.st_bodies.specs.inner.BodyStates.{body_state_of}
 use Rattle.st_grammar.specs.inner.Machine as machine
 use Rattle.st_grammar.specs.inner.Machine.{code}
 use Rattle.st_grammar.specs.inner.Steps.{may_type}
@@ -11,10 +11,10 @@ use Rattle.st_syntax.specs.declared.state.Row.{Row}
 use Rattle.st_syntax.specs.declared.state.Row.TheVariants as row
 use Rattle.st_syntax.specs.declared.state.Typing.{Typing}
 use Rattle.st_syntax.specs.declared.state.Typing.TheVariants as typing
-use Rattle.st_syntax.specs.declared.state.Before.{Before}
-use Rattle.st_syntax.specs.declared.state.Top.{Top}
-use Rattle.st_syntax.specs.declared.state.Which.{Which}
-use Rattle.st_syntax.specs.declared.state.Which.TheVariants as which
+use Rattle.st_syntax.specs.declared.state.TextSoFar.{TextSoFar}
+use Rattle.st_syntax.specs.declared.state.BegunUnit.{BegunUnit}
+use Rattle.st_syntax.specs.declared.state.SectionKind.{SectionKind}
+use Rattle.st_syntax.specs.declared.state.SectionKind.TheVariants as section_kind
 use Rattle.st_syntax.specs.declared.state.State.{State}
 use Rattle.st_syntax.specs.declared.state.State.TheVariants as state
 
@@ -46,21 +46,21 @@ typing_of typing.Colon = machine.local_colon
 typing_of typing.Type = machine.local_type
 typing_of (typing.End ty) = machine.local_end ty
 
--- the text before a unit
-abbrev pub before_of : Before → machine.Before code
-before_of text = record { globals = text.globals; units = text.units }
+-- the text so far
+abbrev pub text_so_far_of : TextSoFar → machine.TextSoFar code
+text_so_far_of text = record { globals = text.globals; units = text.units }
 
--- the part of a unit before its statements
-abbrev pub top_in : Top → machine.Top code
-top_in top = record { text = before_of top.text; head = top.head }
+-- a unit that has begun
+abbrev pub begun_unit_of : BegunUnit → machine.BegunUnit code
+begun_unit_of begun = record { text = text_so_far_of begun.text; head = begun.head }
 
 -- which section is read
-abbrev pub which_of : Which → machine.Which code
-which_of which.Formals = machine.formals
-which_of (which.Temps before) = machine.temps before
+abbrev pub section_kind_of : SectionKind → machine.SectionKind code
+section_kind_of section_kind.Formals = machine.formals
+section_kind_of (section_kind.Temps before) = machine.temps before
 
 -- a token of a formal or a local after its name, but the `;`
-abbrev pub typing_step : machine.Which code → machine.Typing → Kind → Option machine.Typing
+abbrev pub typing_step : machine.SectionKind code → machine.Typing → Kind → Option machine.Typing
 typing_step which machine.local_colon (kind.Fixed fixed.Colon) = Some machine.local_type
 typing_step which machine.local_type (kind.Fixed (fixed.Type ty)) =
     if may_type code which ty then Some (machine.local_end ty) else None
@@ -70,13 +70,15 @@ typing_step which x k = None
 abbrev pub state_of : State → machine.State code
 state_of state.Start = machine.start
 state_of (state.Globals done) = machine.globals done
-state_of (state.Row done name line x) = machine.row done name line (row_of x)
-state_of (state.Between text) = machine.between (before_of text)
-state_of (state.Heading text program line) = machine.heading (before_of text) program line
-state_of (state.Opened top) = machine.opened (top_in top)
-state_of (state.FormalsDone top before) = machine.formals_done (top_in top) before
-state_of (state.Section top which done) = machine.section (top_in top) (which_of which) done
-state_of (state.Typing top which done name line x) =
-    machine.typing (top_in top) (which_of which) done name line (typing_of x)
-state_of (state.Inside top before locals at) = machine.inside (top_in top) before locals (spot_of at)
-state_of (state.Over text) = machine.over (before_of text)
+state_of (state.Row begun x) = machine.row begun.before begun.name begun.line (row_of x)
+state_of (state.Between text) = machine.between (text_so_far_of text)
+state_of (state.Heading text program line) = machine.heading (text_so_far_of text) program line
+state_of (state.Opened begun) = machine.opened (begun_unit_of begun)
+state_of (state.FormalsDone begun before) = machine.formals_done (begun_unit_of begun) before
+state_of (state.Section begun) =
+    machine.section (begun_unit_of begun.unit) (section_kind_of begun.which) begun.done
+state_of (state.Typing begun name line x) =
+    machine.typing (begun_unit_of begun.unit) (section_kind_of begun.which) begun.done name line (typing_of x)
+state_of (state.Inside unit at) =
+    machine.inside (begun_unit_of unit.begun) unit.formals unit.locals (body_state_of at)
+state_of (state.Over text) = machine.over (text_so_far_of text)

@@ -3,7 +3,7 @@ use Rattle.st_lexer.specs.StTokens.{tokens_of}
 use Rattle.st_syntax.proofs.Whole.{bad_tokens, read_as, refused_as}
 use Rattle.st_syntax.proofs.parser.syntax.Goals as goal
 use Rattle.st_syntax.specs.inner.Seen.{seen}
-use Rattle.st_syntax.specs.inner.Views.{before_of}
+use Rattle.st_syntax.specs.inner.Views.{text_so_far_of}
 
 pub returns-in-Err-clause-refused : goal.returns-in-Err-clause-refused
 returns-in-Err-clause-refused c = bad_tokens c.args.bytes.now c.in-Err.refused c.in-Err.ensures
@@ -12,7 +12,7 @@ pub returns-in-Ok-whole-clause-tree : goal.returns-in-Ok-whole-clause-tree
 unfolding seen
 returns-in-Ok-whole-clause-tree c =
     let found : tokens_of c.args.bytes.now ≡ Ok c.as_slice.result.now = c.in-Ok.ensures ∙ ap Ok (sym c.as_slice.ensures) in
-    read_as c.args.bytes.now c.as_slice.result.now c.end_line.result (before_of c.in-Ok-whole.field-0) found c.end_line.ensures c.in-Ok-whole.ensures.text
+    read_as c.args.bytes.now c.as_slice.result.now c.end_line.result (text_so_far_of c.in-Ok-whole.field-0) found c.end_line.ensures c.in-Ok-whole.ensures.text
 
 pub returns-clause-refused : goal.returns-clause-refused
 unfolding seen

@@ -3,16 +3,17 @@ use Rattle.std.specs.Prelude.{option_map}
 use Rattle.s7_base.specs.declared.reason.Rejection.{Rejection}
 use Rattle.st_grammar.proofs.Ends.{not_over}
 use Rattle.st_syntax.proofs.parser.whole.Goals as goal
-use Rattle.st_grammar.specs.inner.Judge.{judge}
+use Rattle.st_grammar.specs.inner.Judge.{judge_tokens}
 use Rattle.st_syntax.specs.inner.Seen.{JudgedIs, seen}
 use Rattle.st_grammar.specs.Syntax.{all_lined}
-use Rattle.st_syntax.specs.inner.Views.{before_of}
+use Rattle.st_syntax.specs.inner.Views.{text_so_far_of}
 use Rattle.st_syntax.specs.declared.state.State.TheVariants as state
 
 pub unreachable-requires : goal.unreachable-requires
 unfolding seen
 unreachable-requires c =
-    let given = judge (seen state.Start) (all_lined c.args.tokens.now c.args.end) in
-    let at = seen c.judge-refusal.new.state in
-    let good : given ≡ Ok at = subst (λ (r : Option Rejection). JudgedIs at r given) c.in_default.is c.judge-refusal.ensures in
-    not_over c.args.tokens.now c.args.end at good (sym c.finish-text.ensures ∙ ap (option_map before_of) c.in-None.is)
+    let given = judge_tokens (seen state.Start) (all_lined c.args.tokens.now c.args.end) in
+    let at = seen c.judge_tokens-refusal.new.state in
+    let good : given ≡ Ok at = subst (λ (r : Option Rejection). JudgedIs at r given) c.in_default.is c.judge_tokens-refusal.ensures in
+    not_over c.args.tokens.now c.args.end at good
+    (sym c.finish-text.ensures ∙ ap (option_map text_so_far_of) c.in-None.is)

@@ -3,10 +3,10 @@
 ghost use Rattle.std.specs.Prelude.{◌≡◌, ◌∷◌, Some, suc, IfOk, OnOk};
 ghost use Rattle.st_grammar.specs.Grammar.{on_line};
 ghost use Rattle.st_grammar.specs.inner.Machine.{code, closing, no_statements, opening, operand, operator, part, statement, waiting, within};
-ghost use Rattle.st_grammar.specs.inner.Steps.{no_spot, shallower, spot};
-ghost use Rattle.st_bodies.specs.inner.Spots.{begun_of, body_at, body_of, frame_of, part_of, place_of, spot_of, stack_of, use_of, went};
+ghost use Rattle.st_grammar.specs.inner.Steps.{body_start, body_state, shallower};
+ghost use Rattle.st_bodies.specs.inner.BodyStates.{begun_statement_of, body_at, body_state_of, frame_of, leads_to, need_of, outer_statement_of, part_of, place_of, stack_of};
 
-use crate::expression::{Held, one_more, shallower};
+use crate::expression::{BoxedExpression, one_more, shallower};
 use s7_base::{Boxed, Line, List, NoMemory, Width};
 use st_grammar::{Function, Measured, OneOperand, Prefix};
 use st_tree::{BinaryOp, RawArm, RawCaseArm, RawStmt, RawStmtKind, RawVar, ShiftOp, StType};
@@ -15,7 +15,7 @@ use std::mem::replace;
 
 /// A statement that has begun: those before it, and its line.
 #[derive(Drop)]
-pub struct Begun {
+pub struct BegunStatement {
     pub before: List<RawStmt>,
     pub line: Line,
 }
@@ -27,11 +27,39 @@ pub struct Call {
     pub actuals: List<(List<u8>, RawVar)>,
 }
 
+/// An actual while it is read: the call with those before it, and the name of its formal.
+#[derive(Drop)]
+pub struct BegunActual {
+    pub call: Boxed<Call>,
+    pub formal: List<u8>,
+}
+
 /// A CASE while it is read: its selector, and the arms so far.
 #[derive(Drop)]
 pub struct Cases {
-    pub selector: Held,
+    pub selector: BoxedExpression,
     pub arms: List<RawCaseArm>,
+}
+
+/// An arm of an IF whose statements are read: the arms before it, and its test.
+#[derive(Drop)]
+pub struct BegunIfArm {
+    pub arms: List<RawArm>,
+    pub test: BoxedExpression,
+}
+
+/// An arm of a CASE while it is read: the CASE with the arms before it, and its labels so far.
+#[derive(Drop)]
+pub struct BegunCaseArm {
+    pub cases: Boxed<Cases>,
+    pub labels: List<(StType, i64)>,
+}
+
+/// An area write whose value is read: its width, and its pointer.
+#[derive(Drop)]
+pub struct BegunWrite {
+    pub width: Width,
+    pub pointer: BoxedExpression,
 }
 
 /// An operand of a function, with those before it.
@@ -44,21 +72,21 @@ pub enum Argument {
     Shifted(ShiftOp),
 
     /// The count of a shift or a rotation, after its value.
-    ShiftedBy(ShiftOp, Held),
+    ShiftedBy(ShiftOp, BoxedExpression),
 
     /// The BOOL of SEL.
     Gate,
 
     /// The value of SEL where its BOOL is FALSE.
-    First(Held),
+    First(BoxedExpression),
 
     /// The value of SEL where its BOOL is TRUE.
-    Second(Held, Held),
+    Second(BoxedExpression, BoxedExpression),
 }
 
 /// What a statement needs an expression for.
 #[derive(Drop)]
-pub enum Use {
+pub enum Need {
     /// The value that a variable takes.
     ToVar(RawVar),
 
@@ -66,7 +94,7 @@ pub enum Use {
     ToArea(Width),
 
     /// The value of an area write, after its pointer.
-    AreaValue(Width, Held),
+    AreaValue(BegunWrite),
 
     /// The test of an arm of an IF, after these arms.
     Test(List<RawArm>),
@@ -80,18 +108,18 @@ pub enum Use {
 
 /// A statement whose own statements are read.
 #[derive(Drop)]
-pub enum Body {
-    /// An arm of an IF with this test, after these arms.
-    Choosing(List<RawArm>, Held),
+pub enum OuterStatement {
+    /// An arm of an IF.
+    Choosing(BegunIfArm),
 
     /// The statements after the ELSE of an IF.
     Otherwise(List<RawArm>),
 
     /// The statements of a WHILE with this test.
-    Looping(Held),
+    Looping(BoxedExpression),
 
-    /// An arm of a CASE with these labels.
-    Selecting(Boxed<Cases>, List<(StType, i64)>),
+    /// An arm of a CASE.
+    Selecting(BegunCaseArm),
 
     /// The statements after the ELSE of a CASE.
     OtherwiseCase(Boxed<Cases>),
@@ -104,7 +132,7 @@ pub enum Frame {
     Unary(Prefix),
 
     /// An operator with its left operand, which waits for the right one.
-    Left(BinaryOp, Held),
+    Left(BinaryOp, BoxedExpression),
 
     /// A bracket of an expression.
     Bracket,
@@ -113,10 +141,10 @@ pub enum Frame {
     Argument(Argument),
 
     /// A statement that waits for an expression.
-    Waiting(Begun, Use),
+    Waiting(BegunStatement, Need),
 
     /// A statement whose own statements are read.
-    Within(Begun, Body),
+    Within(BegunStatement, OuterStatement),
 }
 
 /// A part of a statement that is no expression.
@@ -135,10 +163,10 @@ pub enum Part {
     NextFormal(Boxed<Call>),
 
     /// The `:=` after a formal of a call.
-    Becoming(Boxed<Call>, List<u8>),
+    Becoming(BegunActual),
 
     /// The variable that a formal of a call is given.
-    Giving(Boxed<Call>, List<u8>),
+    Giving(BegunActual),
 
     /// The comma or the closing bracket after an actual of a call.
     Given(Boxed<Call>),
@@ -147,10 +175,10 @@ pub enum Part {
     FirstLabel(Boxed<Cases>),
 
     /// A further label of an arm, after a comma.
-    NextLabel(Boxed<Cases>, List<(StType, i64)>),
+    NextLabel(BegunCaseArm),
 
     /// The comma or the `:` after a label.
-    Labelled(Boxed<Cases>, List<(StType, i64)>),
+    Labelled(BegunCaseArm),
 }
 
 /// What may come next in statements. It is moved at each token, so what is large and rare stands in a box.
@@ -159,7 +187,7 @@ pub enum Place {
     /// A statement, after these.
     Statement(List<RawStmt>),
 
-    Part(Begun, Part),
+    Part(BegunStatement, Part),
 
     /// The `;` of a statement.
     Closing(List<RawStmt>, Boxed<RawStmt>),
@@ -173,18 +201,18 @@ pub enum Place {
 
 /// Where the parser stands in statements. The frame that was opened last stands last.
 #[derive(Drop)]
-pub struct Spot {
+pub struct BodyState {
     pub depth: usize,
     pub frames: List<Frame>,
     pub place: Place,
 }
 
-impl Spot {
+impl BodyState {
     /// The beginning of the statements of a unit.
-    pub fn new(alloc: Global) -> Spot
-        ensures { spot_of result ≡ no_spot code }
+    pub fn new(alloc: Global) -> BodyState
+        ensures { body_state_of result ≡ body_start code }
     {
-        Spot {
+        BodyState {
             depth: 0,
             frames: List::new(alloc),
             place: Place::Statement(List::new(alloc)),
@@ -195,7 +223,7 @@ impl Spot {
     pub fn into_body(self) -> Option<List<RawStmt>>
         ensures { result ≡ body_at (stack_of self.frames) (place_of self.place) }
     {
-        let Spot {
+        let BodyState {
             mut frames,
             place,
             ..
@@ -218,7 +246,8 @@ impl Spot {
     /// the whole type costs the prover. A step has taken the old place out, so there is nothing to drop but in
     /// a call from elsewhere.
     fn go(&mut self, place: Place)
-        ensures { spot_of self.new ≡ spot code self.old.depth (stack_of self.old.frames) (place_of place) }
+        ensures { body_state_of self.new
+            ≡ body_state code self.old.depth (stack_of self.old.frames) (place_of place) }
     {
         match replace(&mut self.place, place) {
             Place::Operand => {}
@@ -228,15 +257,17 @@ impl Spot {
 
     /// A statement may begin, after these.
     pub fn go_statement(&mut self, before: List<RawStmt>)
-        ensures { spot_of self.new ≡ spot code self.old.depth (stack_of self.old.frames) (statement before) }
+        ensures { body_state_of self.new
+            ≡ body_state code self.old.depth (stack_of self.old.frames) (statement before) }
     {
         self.go(Place::Statement(before));
     }
 
     /// A part of a statement that is no expression is next.
-    pub fn go_part(&mut self, begun: Begun, next: Part)
-        ensures { spot_of self.new
-            ≡ spot code self.old.depth (stack_of self.old.frames) (part (begun_of begun) (part_of next)) }
+    pub fn go_part(&mut self, begun: BegunStatement, next: Part)
+        ensures { body_state_of self.new
+            ≡ body_state code self.old.depth (stack_of self.old.frames)
+            (part (begun_statement_of begun) (part_of next)) }
     {
         self.go(Place::Part(begun, next));
     }
@@ -249,8 +280,8 @@ impl Spot {
         line: Line,
         kind: RawStmtKind,
     ) -> Result<(), NoMemory>
-        ensures { OnOk result (spot_of self.new
-            ≡ spot code self.old.depth (stack_of self.old.frames) (closing before (on_line line kind))) }
+        ensures { OnOk result (body_state_of self.new
+            ≡ body_state code self.old.depth (stack_of self.old.frames) (closing before (on_line line kind))) }
     {
         let statement = Boxed::new(alloc, RawStmt { line, kind })?;
         self.go(Place::Closing(before, statement));
@@ -259,22 +290,24 @@ impl Spot {
 
     /// An operand was read.
     pub fn go_operator(&mut self, whole: Measured)
-        ensures { spot_of self.new ≡ spot code self.old.depth (stack_of self.old.frames) (operator whole) }
+        ensures { body_state_of self.new
+            ≡ body_state code self.old.depth (stack_of self.old.frames) (operator whole) }
     {
         self.go(Place::Operator(whole));
     }
 
     /// The bracket of a function is next.
     pub fn go_opening(&mut self, function: Function)
-        ensures { spot_of self.new ≡ spot code self.old.depth (stack_of self.old.frames) (opening function) }
+        ensures { body_state_of self.new
+            ≡ body_state code self.old.depth (stack_of self.old.frames) (opening function) }
     {
         self.go(Place::Opening(function));
     }
 
     /// One level more.
     pub fn deepen(&mut self) -> Result<(), NoMemory>
-        ensures { OnOk result (spot_of self.new
-            ≡ spot code (suc self.old.depth) (stack_of self.old.frames) (place_of self.old.place)) }
+        ensures { OnOk result (body_state_of self.new
+            ≡ body_state code (suc self.old.depth) (stack_of self.old.frames) (place_of self.old.place)) }
     {
         self.depth = one_more(self.depth)?;
         Ok(())
@@ -282,16 +315,16 @@ impl Spot {
 
     /// One level less.
     pub fn rise(&mut self)
-        ensures { spot_of self.new
-            ≡ spot code (shallower self.old.depth) (stack_of self.old.frames) (place_of self.old.place) }
+        ensures { body_state_of self.new
+            ≡ body_state code (shallower self.old.depth) (stack_of self.old.frames) (place_of self.old.place) }
     {
         self.depth = shallower(self.depth);
     }
 
     /// An operand is next, for which a frame waits.
     pub fn expect(&mut self, frame: Frame) -> Result<(), NoMemory>
-        ensures { OnOk result (spot_of self.new
-            ≡ spot code self.old.depth (frame_of frame ∷ stack_of self.old.frames) operand) }
+        ensures { OnOk result (body_state_of self.new
+            ≡ body_state code self.old.depth (frame_of frame ∷ stack_of self.old.frames) operand) }
     {
         self.frames.push(frame)?;
         self.go(Place::Operand);
@@ -299,20 +332,27 @@ impl Spot {
     }
 
     /// An operand is next, which a statement needs.
-    pub fn wait(&mut self, begun: Begun, need: Use) -> Result<(), NoMemory>
-        ensures { OnOk result (spot_of self.new
-            ≡ spot code self.old.depth (waiting (begun_of begun) (use_of need) ∷ stack_of self.old.frames) operand) }
+    pub fn wait(&mut self, begun: BegunStatement, need: Need) -> Result<(), NoMemory>
+        ensures { OnOk result (body_state_of self.new
+            ≡ body_state code self.old.depth
+            (waiting (begun_statement_of begun) (need_of need) ∷ stack_of self.old.frames) operand) }
     {
         self.expect(Frame::Waiting(begun, need))
     }
 
     /// The statements inside of one that has begun are next.
-    pub fn enter(&mut self, alloc: Global, begun: Begun, body: Body) -> Result<(), NoMemory>
-        ensures { OnOk result (spot_of self.new
-            ≡ spot code self.old.depth (within (begun_of begun) (body_of body) ∷ stack_of self.old.frames)
+    pub fn enter(
+        &mut self,
+        alloc: Global,
+        begun: BegunStatement,
+        outer: OuterStatement,
+    ) -> Result<(), NoMemory>
+        ensures { OnOk result (body_state_of self.new
+            ≡ body_state code self.old.depth
+            (within (begun_statement_of begun) (outer_statement_of outer) ∷ stack_of self.old.frames)
             (statement (no_statements code))) }
     {
-        self.frames.push(Frame::Within(begun, body))?;
+        self.frames.push(Frame::Within(begun, outer))?;
         self.go_statement(List::new(alloc));
         Ok(())
     }
@@ -321,11 +361,11 @@ impl Spot {
     pub fn close(
         &mut self,
         alloc: Global,
-        begun: Begun,
+        begun: BegunStatement,
         kind: RawStmtKind,
     ) -> Result<bool, NoMemory>
-        ensures { IfOk result (λ goes. went goes self.new
-            ≡ Some (spot code (shallower self.old.depth) (stack_of self.old.frames)
+        ensures { IfOk result (λ goes. leads_to goes self.new
+            ≡ Some (body_state code (shallower self.old.depth) (stack_of self.old.frames)
             (closing begun.before (on_line begun.line kind)))) }
     {
         self.rise();
