@@ -28,10 +28,14 @@ add_word_of n = unless_zero n (with_low_of (sum_of binary.Add type.Int type.Word
 abbrev pub add_dword_of : ℤ → List Stmt
 add_dword_of n = unless_zero n (sum_of binary.Add type.Dint type.Dword n)
 
+-- a constant added to the lowest byte of ACCU1, or taken from it
+abbrev pub byte_sum_of : BinaryOp → ℕ → List Stmt
+byte_sum_of op n = unless_zero (pos n) (with_byte_of (sum_of op type.Int type.Byte (pos n)))
+
 -- INC
 abbrev pub inc_of : ℕ → List Stmt
-inc_of n = unless_zero (pos n) (with_byte_of (sum_of binary.Add type.Int type.Byte (pos n)))
+inc_of n = byte_sum_of binary.Add n
 
 -- DEC
 abbrev pub dec_of : ℕ → List Stmt
-dec_of n = unless_zero (pos n) (with_byte_of (sum_of binary.Sub type.Int type.Byte (pos n)))
+dec_of n = byte_sum_of binary.Sub n

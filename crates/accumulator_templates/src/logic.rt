@@ -2,7 +2,6 @@
 ghost use Rattle.std.specs.Prelude.{◌≡◌, ◌++◌, IfOk, OnOk};
 ghost use Rattle.accumulator_templates.specs.Logic.{combined_of, computed_of, fixed_of, logic_of, operator_of, other_of, result_of, type_of_row, types_of_logic, with_pattern_of};
 ghost use Rattle.stl_tree.specs.Reads.{is_fixed};
-ghost use Rattle.stl_tree.specs.WordLogic.{width_of};
 
 use crate::parts::{cut, dword};
 use row_templates::{binary, constant, literal, local, read, set, set_local, with_low};
@@ -33,7 +32,7 @@ pub fn types_of_logic(row: LogicRow, number: Option<u32>) -> &'static [StType]
 {
     match number {
         Some(number) if is_fixed(row, number) => &[],
-        number => match width_of(row) {
+        number => match row.width() {
             Width::Word => &[StType::Word],
             other => &[StType::Dword],
         },
@@ -51,23 +50,10 @@ fn is_fixed(row: LogicRow, number: u32) -> bool
     }
 }
 
-fn width_of(row: LogicRow) -> Width
-    ensures { result ≡ width_of row }
-{
-    match row {
-        LogicRow::Aw => Width::Word,
-        LogicRow::Ow => Width::Word,
-        LogicRow::Xow => Width::Word,
-        LogicRow::Ad => Width::Dword,
-        LogicRow::Od => Width::Dword,
-        LogicRow::Xod => Width::Dword,
-    }
-}
-
 fn type_of_row(row: LogicRow) -> StType
     ensures { result ≡ type_of_row row }
 {
-    match width_of(row) {
+    match row.width() {
         Width::Word => StType::Word,
         other => StType::Dword,
     }
@@ -123,7 +109,7 @@ fn push_result(steps: &mut List<Stmt>, nonzero: Expr, accu1: Expr) -> Result<(),
 fn combined(alloc: Global, row: LogicRow, number: Option<u32>) -> Result<Expr, NoMemory>
     ensures { IfOk result (λ value. value ≡ combined_of row number) }
 {
-    let pattern = cut(alloc, width_of(row), read(Reg::Accu1))?;
+    let pattern = cut(alloc, row.width(), read(Reg::Accu1))?;
     binary(alloc, operator_of(row), pattern, other(alloc, row, number)?)
 }
 
@@ -133,7 +119,7 @@ fn other(alloc: Global, row: LogicRow, number: Option<u32>) -> Result<Expr, NoMe
 {
     match number {
         Some(number) => Ok(constant(type_of_row(row), i64::from(number))),
-        None => cut(alloc, width_of(row), read(Reg::Accu2)),
+        None => cut(alloc, row.width(), read(Reg::Accu2)),
     }
 }
 

@@ -1,6 +1,6 @@
 //! A constant added to a part of ACCU1, or taken from it. A constant 0 reads nothing, so that ACCU1 may be unset there.
 ghost use Rattle.std.specs.Prelude.{◌≡◌, ◌++◌, IfOk, OnOk};
-ghost use Rattle.accumulator_templates.specs.Sums.{add_dword_of, add_word_of, dec_of, inc_of, sum_of};
+ghost use Rattle.accumulator_templates.specs.Sums.{add_dword_of, add_word_of, byte_sum_of, dec_of, inc_of, sum_of};
 
 use crate::parts::with_byte;
 use row_templates::{binary, constant, convert, read, set, with_low};
@@ -57,36 +57,32 @@ pub fn push_add_dword(alloc: Global, steps: &mut List<Stmt>, number: i32) -> Res
     steps.push(set(Reg::Accu1, sum))
 }
 
-/// `INC`.
-pub fn push_inc(alloc: Global, steps: &mut List<Stmt>, number: u8) -> Result<(), NoMemory>
-    ensures { OnOk result (steps.new ≡ steps.old ++ inc_of number) }
+/// A constant added to the lowest byte of ACCU1, or taken from it.
+fn push_byte_sum(
+    alloc: Global,
+    steps: &mut List<Stmt>,
+    op: BinaryOp,
+    number: u8,
+) -> Result<(), NoMemory>
+    ensures { OnOk result (steps.new ≡ steps.old ++ byte_sum_of op number) }
 {
     if number == 0 {
         return Ok(());
     }
-    let sum = sum(
-        alloc,
-        BinaryOp::Add,
-        StType::Int,
-        StType::Byte,
-        i64::from(number),
-    )?;
+    let sum = sum(alloc, op, StType::Int, StType::Byte, i64::from(number))?;
     steps.push(set(Reg::Accu1, with_byte(alloc, sum)?))
+}
+
+/// `INC`.
+pub fn push_inc(alloc: Global, steps: &mut List<Stmt>, number: u8) -> Result<(), NoMemory>
+    ensures { OnOk result (steps.new ≡ steps.old ++ inc_of number) }
+{
+    push_byte_sum(alloc, steps, BinaryOp::Add, number)
 }
 
 /// `DEC`.
 pub fn push_dec(alloc: Global, steps: &mut List<Stmt>, number: u8) -> Result<(), NoMemory>
     ensures { OnOk result (steps.new ≡ steps.old ++ dec_of number) }
 {
-    if number == 0 {
-        return Ok(());
-    }
-    let sum = sum(
-        alloc,
-        BinaryOp::Sub,
-        StType::Int,
-        StType::Byte,
-        i64::from(number),
-    )?;
-    steps.push(set(Reg::Accu1, with_byte(alloc, sum)?))
+    push_byte_sum(alloc, steps, BinaryOp::Sub, number)
 }

@@ -14,7 +14,6 @@ use crate::pointer::may_hold_pointers;
 use s7_base::{Check, Width};
 use status_word::Test;
 use stl_constants::fits;
-use stl_instructions::{logic_width, most_steps};
 use stl_rules::Given;
 use stl_statements::Mnemonic;
 use stl_tree::{
@@ -321,7 +320,7 @@ fn moving_pointer(ar: Ar, constant: Constant) -> Option<Op>
 fn shifting(row: ShiftRow, constant: Constant) -> Option<Op>
     ensures { result ≡ shifting row (behind.Constant constant) }
 {
-    if constant.value <= u32::from(most_steps(row)) {
+    if constant.value <= u32::from(row.most_steps()) {
         Some(Op::Shift(row, Some(constant.value as u8)))
     } else {
         None
@@ -345,7 +344,7 @@ fn within(width: Width, value: u32) -> Option<u32>
 fn combining(row: LogicRow, constant: Constant) -> Option<Op>
     ensures { result ≡ combining row (behind.Constant constant) }
 {
-    let width = logic_width(row);
+    let width = row.width();
     if fits(width, constant) {
         let value = within(width, value_in(width, constant))?;
         Some(Op::Logic(row, Some(value)))

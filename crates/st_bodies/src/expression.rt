@@ -1,9 +1,10 @@
 //! Expressions while they are read.
 ghost use Rattle.std.specs.Prelude.{◌≡◌, suc, ◌+◌, IfOk};
-ghost use Rattle.st_grammar.specs.Grammar.{prefix_level, infix_level, is_value, literal_tree, label_tree, prefix_tree, apply_tree};
+ghost use Rattle.st_grammar.specs.Grammar.{prefix_level, is_value, literal_tree, label_tree, prefix_tree, apply_tree};
 ghost use Rattle.st_grammar.specs.inner.Machine.{code, of_literal, of_variable, of_prefix, of_infix, of_apply, of_shift, of_select};
 ghost use Rattle.st_grammar.specs.inner.Steps.{shallower};
 ghost use Rattle.st_bodies.specs.inner.BodyStates.{measured_of};
+ghost use Rattle.st_tree.specs.Form.{infix_level};
 
 use s7_base::{Boxed, Line, NoMemory};
 use st_grammar::{Fixed, Literal, Measured, OneOperand, Prefix};
@@ -26,27 +27,12 @@ pub fn shallower(depth: usize) -> usize
 }
 
 /// The precedence of an operator before its operand, 0 the highest.
-pub fn prefix_level(op: Prefix) -> u32
+pub fn prefix_level(op: Prefix) -> u8
     ensures { result ≡ prefix_level op }
 {
     match op {
         Prefix::Minus => 1,
         Prefix::Not => 2,
-    }
-}
-
-/// The precedence of an operator between its operands, 0 the highest.
-pub fn infix_level(op: BinaryOp) -> u32
-    ensures { result ≡ infix_level op }
-{
-    match op {
-        BinaryOp::Mul | BinaryOp::Div | BinaryOp::Mod => 3,
-        BinaryOp::Add | BinaryOp::Sub => 4,
-        BinaryOp::Lt | BinaryOp::Gt | BinaryOp::Le | BinaryOp::Ge => 5,
-        BinaryOp::Eq | BinaryOp::Ne => 6,
-        BinaryOp::And => 7,
-        BinaryOp::Xor => 8,
-        BinaryOp::Or => 9,
     }
 }
 

@@ -7,36 +7,36 @@ ghost use Rattle.st_bodies.specs.inner.BodyStates.{argument_of, binds, leads_to,
 
 use crate::body_state::{Argument, BodyState, Frame};
 use crate::expression::{
-    EndedExpression, boxed, infix_level, is_value, of_apply, of_infix, of_literal, of_prefix,
+    EndedExpression, boxed, is_value, of_apply, of_infix, of_literal, of_prefix,
     of_select, of_shift, of_variable, prefix_level,
 };
 use crate::need::need_closed;
 use s7_base::NoMemory;
 use st_grammar::{Fixed, Function, Kind, Measured, Prefix};
-use st_tree::BinaryOp;
+use st_tree::{BinaryOp, infix_level_of};
 use std::alloc::Global;
 
 /// The lowest precedence, that of OR.
-const WEAKEST: u32 = 9;
+const WEAKEST: u8 = 9;
 
 /// The lowest precedence that an operator of the operand here may have.
-fn limit(frames: &[Frame]) -> u32
+fn limit(frames: &[Frame]) -> u8
     ensures { result ≡ limit code (stack_of frames.now) }
 {
     match frames.last() {
         Some(Frame::Unary(op)) => prefix_level(*op),
-        Some(Frame::Left(op, _)) => infix_level(*op) - 1,
+        Some(Frame::Left(op, _)) => infix_level_of(*op) - 1,
         _ => WEAKEST,
     }
 }
 
 /// The frame that was opened last is an operator that binds as tightly as a level, or more.
-fn binds(frames: &[Frame], level: u32) -> bool
+fn binds(frames: &[Frame], level: u8) -> bool
     ensures { result ≡ binds level (stack_of frames.now) }
 {
     match frames.last() {
         Some(Frame::Unary(op)) => prefix_level(*op) <= level,
-        Some(Frame::Left(op, _)) => infix_level(*op) <= level,
+        Some(Frame::Left(op, _)) => infix_level_of(*op) <= level,
         _ => false,
     }
 }
@@ -46,7 +46,7 @@ fn binds(frames: &[Frame], level: u32) -> bool
 fn reduce(
     alloc: Global,
     at: &mut BodyState,
-    level: u32,
+    level: u8,
     operand: Measured,
 ) -> Result<Measured, NoMemory>
     ensures { IfOk result (λ whole. reduced_to code at.new.depth (stack_of at.new.frames) whole
@@ -259,7 +259,7 @@ pub fn at_operator(
         ≡ at_operator code at.old.depth (stack_of at.old.frames) operand kind) }
 {
     if let Kind::Fixed(Fixed::Between(op)) = kind {
-        let left = reduce(alloc, at, infix_level(op), operand)?;
+        let left = reduce(alloc, at, infix_level_of(op), operand)?;
         at.expect(Frame::Left(op, boxed(alloc, left)?))?;
         return Ok(true);
     }

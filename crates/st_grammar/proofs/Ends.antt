@@ -9,11 +9,12 @@ use Rattle.st_grammar.specs.inner.Judge.{after_token, level_reached, judged, on_
 use Rattle.st_grammar.specs.Levels.{deepest}
 use Rattle.st_grammar.specs.inner.Machine as machine
 use Rattle.st_grammar.specs.inner.Machine.{code, Frame, unary, left, bracket, argument, waiting, within, Argument, Need, OuterStatement, Part, target, write_open, first_formal, next_formal, becoming, giving, given, first_label, next_label, labelled, Place, statement, part, closing, operand, operator, opening, BodyState, Row, State, start, globals, row, between, heading, opened, formals_done, section, typing, inside, over, SectionKind, formals, temps}
-use Rattle.st_grammar.specs.inner.Steps.{weakest, reduce, closed, in_body, at_part, step_at, row_step, at_typing, next}
+use Rattle.st_grammar.specs.inner.Steps.{reduce, closed, in_body, at_part, step_at, row_step, at_typing, next}
 use Rattle.st_grammar.specs.Syntax.{Lined, all_lined, end_on, lined}
 use Rattle.st_grammar.specs.declared.kind.Fixed.TheVariants as fixed
 use Rattle.st_grammar.specs.declared.kind.Kind.{Kind}
 use Rattle.st_grammar.specs.declared.kind.Kind.TheVariants as kind
+use Rattle.st_tree.specs.Form.{weakest}
 use Rattle.st_tree.specs.declared.raw.RawVar.TheVariants as var
 use Rattle.st_tree.specs.declared.token.StToken.{StToken}
 

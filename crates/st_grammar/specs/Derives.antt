@@ -2,7 +2,7 @@
 use Rattle.std.specs.Prelude.{◌≡◌, ℕ, ◌-◌, ◌≤◌, true, List, [], ◌∷◌, ◌++◌}
 use Rattle.s7_base.specs.declared.reason.Line.{Line}
 use Rattle.st_grammar.specs.Forms.{Form}
-use Rattle.st_grammar.specs.Grammar.{Binds, apply_tree, infix_level, is_value, level, literal_tree, prefix_kind, prefix_level, prefix_tree, spell, tree}
+use Rattle.st_grammar.specs.Grammar.{Binds, apply_tree, is_value, level, literal_tree, prefix_kind, prefix_level, prefix_tree, spell, tree}
 use Rattle.st_grammar.specs.declared.kind.Fixed.TheVariants as fixed
 use Rattle.st_grammar.specs.declared.kind.Function.TheVariants as function
 use Rattle.st_grammar.specs.declared.kind.Kind.{Kind}
@@ -10,15 +10,12 @@ use Rattle.st_grammar.specs.declared.kind.Kind.TheVariants as kind
 use Rattle.st_grammar.specs.declared.kind.Literal.{Literal}
 use Rattle.st_grammar.specs.declared.kind.OneOperand.{OneOperand}
 use Rattle.st_grammar.specs.declared.kind.Prefix.{Prefix}
+use Rattle.st_tree.specs.Form.{infix_level, weakest}
 use Rattle.st_tree.specs.declared.expr.BinaryOp.{BinaryOp}
 use Rattle.st_tree.specs.declared.expr.ShiftOp.{ShiftOp}
 use Rattle.st_tree.specs.declared.raw.RawExpr.{RawExpr}
 use Rattle.st_tree.specs.declared.raw.RawExpr.TheVariants as expr
 use Rattle.st_tree.specs.declared.raw.RawVar.{RawVar}
-
--- the lowest precedence, that of OR
-abbrev pub weakest : ℕ
-weakest = 9
 
 -- tokens in brackets
 abbrev pub bracketed : List Kind → List Kind

@@ -3,6 +3,7 @@
 use Rattle.std.specs.Prelude.{◌≡◌, ℕ, ◌≤◌, ◌<◌, ℤ, pos, Bool, true, false, nat_le, List, [], ◌∷◌, ◌++◌}
 use Rattle.s7_base.specs.declared.reason.Line.{Line}
 use Rattle.st_grammar.specs.Forms.{Form, literal, variable, group, prefix, infix_of, apply, shift, select, Actuals, no_actual, actual, Labels, label, more_labels, Statement, assign, write, invoke, choice, choice_else, cases, cases_else, loop, jump, Statements, none, empty, further, Arms, no_arm, arm, CaseArms, no_case, case_arm, Items, no_item, single, times, GlobalType, plain, bytes, Globals, no_global, global, Locals, no_local, local, Section, absent, present, Head, Units, no_unit, unit, Source}
+use Rattle.st_tree.specs.Form.{infix_level}
 use Rattle.st_tree.specs.Naming.{is_free, may_name_local, may_name_unit, names_block}
 use Rattle.st_grammar.specs.declared.kind.Fixed.TheVariants as fixed
 use Rattle.st_grammar.specs.declared.kind.Function.TheVariants as function
@@ -45,23 +46,6 @@ use Rattle.st_tree.specs.declared.raw.RawVar.TheVariants as var
 abbrev pub prefix_level : Prefix → ℕ
 prefix_level before.Minus = 1
 prefix_level before.Not = 2
-
--- the precedence of an operator between its operands, 0 the highest
-abbrev pub infix_level : BinaryOp → ℕ
-infix_level binary.Mul = 3
-infix_level binary.Div = 3
-infix_level binary.Mod = 3
-infix_level binary.Add = 4
-infix_level binary.Sub = 4
-infix_level binary.Lt = 5
-infix_level binary.Gt = 5
-infix_level binary.Le = 5
-infix_level binary.Ge = 5
-infix_level binary.Eq = 6
-infix_level binary.Ne = 6
-infix_level binary.And = 7
-infix_level binary.Xor = 8
-infix_level binary.Or = 9
 
 -- the precedence of an expression: that of its outermost operator that no brackets enclose
 abbrev pub level : Form → ℕ

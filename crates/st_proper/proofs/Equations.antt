@@ -4,12 +4,12 @@ use Rattle.std.specs.Prelude.{nat_lt, if◌then◌else◌}
 use Rattle.s7_base.specs.declared.word.Width.{Width}
 use Rattle.st_canonical.specs.Canonical.{expr_form, form_of, literal_form, on, raw_var}
 use Rattle.st_grammar.specs.Forms.{Form, literal, variable, group, prefix, infix_of, apply, shift, select}
-use Rattle.st_grammar.specs.Grammar.{infix_level, level}
+use Rattle.st_grammar.specs.Grammar.{level}
 use Rattle.st_grammar.specs.declared.kind.OneOperand.TheVariants as one
 use Rattle.st_grammar.specs.declared.kind.Prefix.TheVariants as before
 use Rattle.st_tree.proofs.Equations.{canon_literal, canon_read, canon_unary, canon_binary, canon_convert, canon_select, canon_shift, canon_area_read}
 use Rattle.st_tree.specs.Form as tree
-use Rattle.st_tree.specs.Form.{canon, canon_step}
+use Rattle.st_tree.specs.Form.{canon, canon_step, infix_level}
 use Rattle.st_tree.specs.Typing.{Names}
 use Rattle.st_tree.specs.declared.expr.BinaryOp.{BinaryOp}
 use Rattle.st_tree.specs.declared.expr.BinaryOp.TheVariants as binary
@@ -28,10 +28,6 @@ use Rattle.st_tree.specs.declared.expr.Var.{Var}
 abbrev pub wrapped : ℕ → Form → Form
 wrapped j f = if nat_lt j (level f) then group f else f
 
-same_level : (op : BinaryOp) → tree.infix_level op ≡ infix_level op
-same_level binary.Mul = refl
-same_level other = refl
-
 -- an operator before its operand, in the form that the operand has
 abbrev pub before_operand : UnaryOp → Form → Form
 before_operand unary.Minus f = prefix before.Minus (wrapped 1 f)
@@ -47,7 +43,7 @@ module _ (names : Names) (k : ℕ) where
   core (E.Unary unary.Not f) = refl
   core (E.Unary unary.BcdToInt f) = refl
   core (E.Unary unary.BcdToDint f) = refl
-  core (E.Binary op f g) = sym (same_level op)
+  core (E.Binary op f g) = refl
   core (E.Convert from to f) = refl
   core other = refl
 
@@ -92,11 +88,10 @@ module _ (names : Names) (k : ℕ) where
       (wrapped (infix_level op - 1) (expr_form names k g))
   form_binary op e g =
       ap (form_of names k) (canon_binary op e g)
-      ∙ ap (λ f. infix_of op f (form_of names k (tree.wrap (tree.infix_level op - 1) (canon g))))
-      (form_wrap (tree.infix_level op) e)
-      ∙ ap (λ f. infix_of op (wrapped (tree.infix_level op) (expr_form names k e)) f)
-      (form_wrap (tree.infix_level op - 1) g)
-      ∙ ap (λ n. infix_of op (wrapped n (expr_form names k e)) (wrapped (n - 1) (expr_form names k g))) (same_level op)
+      ∙ ap (λ f. infix_of op f (form_of names k (tree.wrap (infix_level op - 1) (canon g))))
+      (form_wrap (infix_level op) e)
+      ∙ ap (λ f. infix_of op (wrapped (infix_level op) (expr_form names k e)) f)
+      (form_wrap (infix_level op - 1) g)
 
   pub form_convert : (from to : StType) (e : Expr)
       → expr_form names k (expr.Convert from to e) ≡ apply (one.Convert from to) (expr_form names k e)

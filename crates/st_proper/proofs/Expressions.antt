@@ -9,7 +9,7 @@ use Rattle.s7_base.specs.declared.word.Width.{Width}
 use Rattle.st_canonical.specs.Canonical.{expr_form, form_of, raw_var}
 use Rattle.st_canonical.specs.Spelled.{is_function}
 use Rattle.st_grammar.specs.Forms.{Form, group}
-use Rattle.st_grammar.specs.Grammar.{Binds, infix_level, level, tree, spell}
+use Rattle.st_grammar.specs.Grammar.{Binds, level, tree, spell}
 use Rattle.st_grammar.specs.Levels.{height}
 use Rattle.st_grammar.specs.declared.kind.OneOperand.TheVariants as one
 use Rattle.st_proper.proofs.Equations.{before_operand, form_area, form_binary, form_convert, form_literal, form_read, form_select, form_shift, form_unary, wrapped}
@@ -25,6 +25,7 @@ use Rattle.st_proper.proofs.Variables.{of_type, written}
 use Rattle.st_canonical.proofs.SameNames.{between}
 use Rattle.st_rules.specs.Judged.{Judged, sound}
 use Rattle.st_rules.specs.Expressions.{answered, expression, read_of}
+use Rattle.st_tree.specs.Form.{infix_level}
 use Rattle.st_tree.specs.TypeRules.{type_of_unary}
 use Rattle.st_rules.specs.Variables.{variable as variable_in}
 use Rattle.st_rules.specs.declared.expression.Typed.{Typed}

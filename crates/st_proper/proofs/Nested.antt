@@ -3,8 +3,9 @@ use Rattle.std.proofs.Common.{◌≡◌, ℕ, ◌-◌, ◌<◌, ◌≤◌, Bool,
 use Rattle.std.specs.Prelude.{nat_lt, if◌then◌else◌}
 use Rattle.std.proofs.lemmas.Bool.Decides.{nat_tests}
 use Rattle.st_grammar.specs.Forms.{Form, group}
-use Rattle.st_grammar.specs.Grammar.{infix_level, level}
+use Rattle.st_grammar.specs.Grammar.{level}
 use Rattle.st_proper.proofs.Equations.{wrapped}
+use Rattle.st_tree.specs.Form.{infix_level}
 use Rattle.st_tree.specs.declared.expr.BinaryOp.{BinaryOp}
 use Rattle.st_tree.specs.declared.expr.BinaryOp.TheVariants as binary
 

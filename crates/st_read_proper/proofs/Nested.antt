@@ -106,18 +106,14 @@ close_unary unary.BcdToDint f c h g = close_digits one.BcdToDint unary.BcdToDint
 
 -- Operators between their operands
 
-same_level : (op : BinaryOp) → infix_level op ≡ grammar.infix_level op
-same_level binary.Mul = refl
-same_level other = refl
-
-pub close_infix : (op : BinaryOp) (f g : forms.Form) (c d : Form) → grammar.level f ≤ grammar.infix_level op
-    → grammar.level g < grammar.infix_level op → Close f c → Close g d
+pub close_infix : (op : BinaryOp) (f g : forms.Form) (c d : Form) → grammar.level f ≤ infix_level op
+    → grammar.level g < infix_level op → Close f c → Close g d
     → Close (forms.infix_of op f g) (infix_of op (wrap (infix_level op) c) (wrap (infix_level op - 1) d))
 close_infix op f g c d h less p q =
     alike (forms.infix_of op f g) (infix_of op (wrap (infix_level op) c) (wrap (infix_level op - 1) d))
-    (omega (arith, same_level op))
-    (most _ _ _ _ _ _ (p.outer (infix_level op) (up (grammar.level f) (infix_level op) (grammar.infix_level op) h (same_level op)))
-    (q.outer (infix_level op - 1) (below (grammar.level g) (infix_level op) (grammar.infix_level op) less (same_level op))) high_c)
+    (omega arith)
+    (most _ _ _ _ _ _ (p.outer (infix_level op) h)
+    (q.outer (infix_level op - 1) (below (grammar.level g) (infix_level op) less)) high_c)
     (tall _ _ _ _ high_c high_d)
   where
     high_c : form_height (wrap (infix_level op) c) ≡ height f
@@ -126,11 +122,8 @@ close_infix op f g c d h less p q =
     high_d : form_height (wrap (infix_level op - 1) d) ≡ height g
     high_d = wrap_height (infix_level op - 1) d ∙ q.high
 
-    up : (i k l : ℕ) → i ≤ l → k ≡ l → i ≤ k
-    up i k l h e = omega (arith, h, e)
-
-    below : (i k l : ℕ) → i < l → k ≡ l → i ≤ k - 1
-    below i k l h e = omega (arith, h, e)
+    below : (i k : ℕ) → i < k → i ≤ k - 1
+    below i k h = omega arith
 
     most : (nc ne nd nf hc he : ℕ) → nc ≤ ne → nd ≤ nf → hc ≡ he → max (max nc hc) nd ≤ max (max ne he) nf
     most nc ne nd nf hc he p q r = omega arith

@@ -12,22 +12,27 @@ use crate::state::State;
 use crate::steps::{advance, spend_call, spend_test};
 use st_tree::StProgram;
 
-/// Does what needs no unit, where something is to be done.
-pub fn settle<'t>(
+/// What comes next once all that needs no unit is done. It is no call, and neither are `spent`, `advance` and
+/// `spend_test`, so that what comes next stays in registers from turn to turn of a loop.
+#[inline(always)]
+fn settled<'t>(
     tree: &'t StProgram,
-    at: &mut At<'t>,
+    at: At<'t>,
     work: &mut Vec<Frame<'t>>,
     state: &mut State,
-)
+) -> At<'t>
     requires runnable { IsRunnable tree.now }
-    requires ready { IsReady tree.now (vec_capacity work.old) work.old.items at.old state.old }
-    ensures meaning { (c : Calls) (u : ℕ) → end_at tree.now.globals c work.new.items at.new u (state_of state.new)
-        ≡ end_at tree.now.globals c work.old.items at.old u (state_of state.old) }
-    ensures settled { IsSettled at.new }
-    ensures ready { IsReady tree.now (vec_capacity work.new) work.new.items at.new state.new }
+    requires ready { IsReady tree.now (vec_capacity work.old) work.old.items at state.old }
+    ensures meaning { (c : Calls) (u : ℕ) → end_at tree.now.globals c work.new.items result u (state_of state.new)
+        ≡ end_at tree.now.globals c work.old.items at.entry u (state_of state.old) }
+    ensures settled { IsSettled result }
+    ensures ready { IsReady tree.now (vec_capacity work.new) work.new.items result state.new }
 {
-    if let At::Work = *at {
-        *at = advance(tree, work, state);
+    match at {
+        At::Work => advance(tree, work, state),
+        At::Test(test, body) => At::Test(test, body),
+        At::Call(n, actuals) => At::Call(n, actuals),
+        At::Over(fault) => At::Over(fault),
     }
 }
 
@@ -43,21 +48,27 @@ fn needs_unit<'t>(at: At<'t>) -> bool
     }
 }
 
-/// Spends a unit.
-fn spend<'t>(tree: &'t StProgram, at: &mut At<'t>, work: &mut Vec<Frame<'t>>, state: &mut State)
+/// What comes next once a unit is spent.
+#[inline(always)]
+fn spent<'t>(
+    tree: &'t StProgram,
+    at: At<'t>,
+    work: &mut Vec<Frame<'t>>,
+    state: &mut State,
+) -> At<'t>
     requires runnable { IsRunnable tree.now }
-    requires ready { IsReady tree.now (vec_capacity work.old) work.old.items at.old state.old }
-    requires needed { needs_unit at.old ≡ true }
+    requires ready { IsReady tree.now (vec_capacity work.old) work.old.items at state.old }
+    requires needed { needs_unit at ≡ true }
     ensures meaning { (u : ℕ)
-        → end_at tree.now.globals (calls_to u tree.now) work.new.items at.new u (state_of state.new)
-        ≡ end_at tree.now.globals (calls_to (suc u) tree.now) work.old.items at.old (suc u) (state_of state.old) }
-    ensures ready { IsReady tree.now (vec_capacity work.new) work.new.items at.new state.new }
+        → end_at tree.now.globals (calls_to u tree.now) work.new.items result u (state_of state.new)
+        ≡ end_at tree.now.globals (calls_to (suc u) tree.now) work.old.items at.entry (suc u) (state_of state.old) }
+    ensures ready { IsReady tree.now (vec_capacity work.new) work.new.items result state.new }
 {
-    match *at {
-        At::Test(test, body) => *at = spend_test(tree, test, body, work, state),
-        At::Call(n, actuals) => *at = spend_call(tree, n, actuals, work, state),
-        At::Work => {}
-        At::Over(_) => {}
+    match at {
+        At::Test(test, body) => spend_test(tree, test, body, work, state),
+        At::Call(n, actuals) => spend_call(tree, n, actuals, work, state),
+        At::Work => At::Work,
+        At::Over(fault) => At::Over(fault),
     }
 }
 
@@ -78,13 +89,15 @@ pub fn go<'t>(
     ensures ready { IsReady tree.now (vec_capacity work.new) work.new.items at.new state.new }
 {
     let mut left = units;
-    settle(tree, at, work, state);
-    while needs_unit(*at) {
+    let mut next = settled(tree, *at, work, state);
+    while needs_unit(next) {
         if left == 0 {
+            *at = next;
             return;
         }
         left -= 1;
-        spend(tree, at, work, state);
-        settle(tree, at, work, state);
+        let begun = spent(tree, next, work, state);
+        next = settled(tree, begun, work, state);
     }
+    *at = next;
 }

@@ -3,15 +3,17 @@ use Rattle.std.proofs.Common.{◌≡◌, ℕ, suc, ◌+◌, ◌-◌, ◌<◌, �
 use Rattle.std.specs.Prelude.{nat_le, if◌then◌else◌, option_and_then, option_map}
 use Rattle.std.proofs.lemmas.Bool.Decides.{nat_tests}
 use Rattle.st_grammar.specs.Forms.{Form, literal, variable, group, prefix, infix_of, apply, shift, select, Locals, Section}
-use Rattle.st_grammar.specs.Grammar.{prefix_level, infix_level, level, Binds, prefix_kind, spell}
+use Rattle.st_grammar.specs.Grammar.{prefix_level, level, Binds, prefix_kind, spell}
 use Rattle.st_grammar.specs.Levels.{height, levels}
 use Rattle.st_grammar.specs.inner.Machine.{written, Frame, unary, left, bracket, argument, only, shifted, shifted_by, gate, first, second, Place, operand, operator, BodyState, BegunUnit, State, inside}
-use Rattle.st_grammar.specs.inner.Steps.{body_state, weakest, limit, Reduced, reduced_to, reduce, with_prefix, waits, leave, next, level_at, last_level, Passed, shallower, passes}
+use Rattle.st_grammar.specs.inner.Steps.{body_state, limit, Reduced, reduced_to, reduce, with_prefix, waits, leave, next, level_at, last_level, Passed, shallower, passes}
 use Rattle.st_grammar.specs.declared.kind.Fixed.TheVariants as fixed
 use Rattle.st_grammar.specs.declared.kind.Kind.{Kind}
 use Rattle.st_grammar.specs.declared.kind.Kind.TheVariants as kind
 use Rattle.st_grammar.specs.declared.kind.Prefix.{Prefix}
 use Rattle.st_grammar.specs.declared.kind.Prefix.TheVariants as before
+use Rattle.st_syntax_laws.proofs.Precedence.{infix_most, infix_some, prefix_above, prefix_most}
+use Rattle.st_tree.specs.Form.{infix_level, weakest}
 use Rattle.st_tree.specs.declared.expr.BinaryOp.{BinaryOp}
 use Rattle.st_tree.specs.declared.expr.BinaryOp.TheVariants as binary
 
@@ -32,28 +34,7 @@ run u d s p w ks = passes written (within_unit u d s p) w ks
 abbrev pub go : List ℕ → List Kind → Option (State written) → Option (Passed written)
 go w ks o = option_and_then (λ r. passes written r (last_level written r ∷ w) ks) o
 
--- Levels of precedence
-
-pub prefix_above : (u : Prefix) (op : BinaryOp) → prefix_level u < infix_level op
-prefix_above before.Minus binary.Mul = omega arith
-prefix_above before.Not binary.Mul = omega arith
-prefix_above u op = omega arith
-
-pub infix_most : (op : BinaryOp) → infix_level op ≤ weakest
-infix_most binary.Mul = omega arith
-infix_most op = omega arith
-
-pub infix_some : (op : BinaryOp) → 0 < infix_level op
-infix_some op = let h = prefix_above before.Not op in omega arith
-
-pub prefix_most : (u : Prefix) → prefix_level u ≤ weakest
-prefix_most before.Minus = omega arith
-prefix_most before.Not = omega arith
-
-pub level_most : (f : Form) → level f ≤ weakest
-level_most (prefix op f) = prefix_most op
-level_most (infix_of op f g) = infix_most op
-level_most f = omega arith
+-- Tests of levels
 
 pub le_true : (a b : ℕ) → a ≤ b → nat_le a b ≡ true
 le_true a b h = grind (arith, nat_tests)

@@ -4,11 +4,13 @@ use Rattle.std.specs.Prelude.{pos, codes, ◌||◌, if◌then◌else◌, option_
 use Rattle.s7_base.specs.declared.reason.Line.{Line}
 use Rattle.memory_areas.specs.declared.place.AreaName.TheVariants.{Db}
 use Rattle.s7_base.specs.declared.word.Width.TheVariants as width
-use Rattle.st_syntax_laws.proofs.Drive.{DeclaredUnit, within_unit, run, go, Lets, close, comma, past_unary, past_left, infix_some}
+use Rattle.st_syntax_laws.proofs.Drive.{DeclaredUnit, within_unit, run, go, Lets, close, comma, past_unary, past_left}
+use Rattle.st_syntax_laws.proofs.Precedence.{below_one, infix_some}
 use Rattle.st_syntax_laws.proofs.DriveSource.{with_unit, unit_left}
 use Rattle.st_syntax_laws.proofs.Kept.{InStatements, InExpr, PlaceFits, Shaped}
 use Rattle.st_grammar.specs.Forms.{Form, literal, group, prefix, infix_of, apply, shift, select, Actuals, Labels, label, Items, no_unit, none, Statement, Statements, CaseArms, Globals, GlobalType, plain, Locals, Section, absent}
-use Rattle.st_grammar.specs.Grammar.{infix_level, level, Binds, end_word}
+use Rattle.st_grammar.specs.Grammar.{level, Binds, end_word}
+use Rattle.st_tree.specs.Form.{infix_level}
 use Rattle.st_tree.specs.Naming.{is_free, may_name_global, names_block}
 use Rattle.st_grammar.specs.inner.Machine.{written, BegunStatement, only, shifted, shifted_by, gate, first, second, to_var, to_area, area_value, test, selector, loop_test, choosing, otherwise, looping, selecting, otherwise_case, Frame, unary, left, bracket, argument, waiting, within, Part, target, write_open, first_formal, next_formal, becoming, giving, given, labelled, Place, statement, part, closing, operand, operator, opening, Row, at_word, at_place, at_colon, at_type, at_square, at_zero, at_dots, at_last, at_close, at_of, at_byte, at_becomes, at_open, at_item, at_count, at_value, at_value_end, at_comma, at_end, Typing, local_colon, local_type, local_end, TextSoFar, BegunUnit, SectionKind, formals, temps, State, start, globals, row, between, heading, opened, formals_done, section, typing, inside, over}
 use Rattle.st_grammar.specs.inner.Steps.{shallower, limit, body_start, passes}
@@ -92,9 +94,6 @@ record OperatorEnds (u : DeclaredUnit) (d : ℕ) (s : List (Frame written)) (f :
 operator_by : {u : DeclaredUnit} {d : ℕ} {s : List (Frame written)} {f : Form} {r : State written} {w v : List ℕ} (token : Kind) (front : List Kind) → Closes token
     → ((ks : List Kind) → run u d s (operator f) w (token ∷ (front ++ ks)) ≡ passes written r v ks) → Ends r v → OperatorEnds u d s f w
 operator_by token front c step e = record { token = token; rest = front ++ e.more; text = e.text; levels = e.levels; closes = c; reaches = step e.more ∙ e.reaches }
-
-below_one : (j n : ℕ) → 0 < n → j ≤ n - 1 → j < n
-below_one j n p q = omega arith
 
 as_ends : {u : DeclaredUnit} {d : ℕ} {s : List (Frame written)} {f : Form} {w : List ℕ} → OperatorEnds u d s f w → EndsIn u d s (operator f) w
 as_ends e = record { more = e.token ∷ e.rest; text = e.text; levels = e.levels; reaches = e.reaches }

@@ -3,13 +3,14 @@ use Rattle.std.proofs.Common.{◌≡◌, ℕ, suc, ◌-◌, ◌<◌, ◌≤◌, 
 use Rattle.std.specs.Prelude.{IfSome, nat_le, if◌then◌else◌}
 use Rattle.std.proofs.lemmas.Bool.Decides.{nat_tests}
 use Rattle.s7_base.specs.declared.reason.Line.{Line}
-use Rattle.st_syntax_laws.proofs.Drive.{infix_most, infix_some}
+use Rattle.st_syntax_laws.proofs.Precedence.{below_one, infix_most, infix_some}
 use Rattle.st_syntax_laws.proofs.DriveSource.{Declared}
 use Rattle.st_grammar.specs.Forms.{Form, prefix, infix_of, Actuals, no_actual, actual, Labels, label, more_labels, Statements, CaseArms, Items, no_item}
-use Rattle.st_grammar.specs.Grammar.{prefix_level, infix_level, level, is_value, Binds, may_jump, LabelsFit, HasArm, HasCase, Fits, AllFit, ArmsFit, CasesFit, is_direct, is_global, GlobalsFit, LocalsFit, IfPresent, HeadFits, UnitsFit, prefix_kind, spell, comma_behind, spell_actuals, spell_labels, arm_word, spell_one, spell_all, spell_arms, spell_cases, comma_past, spell_items, spell_type, spell_globals, spell_locals, unit_word, spell_section, spell_formals, spell_temps, spell_head, spell_units}
+use Rattle.st_grammar.specs.Grammar.{prefix_level, level, is_value, Binds, may_jump, LabelsFit, HasArm, HasCase, Fits, AllFit, ArmsFit, CasesFit, is_direct, is_global, GlobalsFit, LocalsFit, IfPresent, HeadFits, UnitsFit, prefix_kind, spell, comma_behind, spell_actuals, spell_labels, arm_word, spell_one, spell_all, spell_arms, spell_cases, comma_past, spell_items, spell_type, spell_globals, spell_locals, unit_word, spell_section, spell_formals, spell_temps, spell_head, spell_units}
+use Rattle.st_tree.specs.Form.{infix_level, weakest}
 use Rattle.st_tree.specs.Naming.{may_name_global, may_name_unit, names_block}
 use Rattle.st_grammar.specs.inner.Machine.{written, BegunStatement, Argument, only, shifted, shifted_by, gate, first, second, Need, to_var, to_area, area_value, test, selector, loop_test, OuterStatement, choosing, otherwise, looping, selecting, otherwise_case, Frame, unary, left, bracket, argument, waiting, within, Part, target, write_open, first_formal, next_formal, becoming, giving, given, first_label, next_label, labelled, Place, statement, part, closing, operand, operator, opening, BodyState, Row, at_word, at_place, at_colon, at_type, at_square, at_zero, at_dots, at_last, at_close, at_of, at_byte, at_becomes, at_open, at_item, at_count, at_value, at_value_end, at_comma, at_end, Typing, local_colon, local_type, local_end, TextSoFar, BegunUnit, SectionKind, formals, temps, State, start, globals, row, between, heading, opened, formals_done, section, typing, inside, over}
-use Rattle.st_grammar.specs.inner.Steps.{body_state, shallower, weakest, limit, Reduced, reduce, reduced_to, with_prefix, closed, waits, in_loop, in_body, at_label, step_at, may_name, may_type}
+use Rattle.st_grammar.specs.inner.Steps.{body_state, shallower, limit, Reduced, reduce, reduced_to, with_prefix, closed, waits, in_loop, in_body, at_label, step_at, may_name, may_type}
 use Rattle.st_grammar.specs.declared.kind.Fixed.TheVariants as fixed
 use Rattle.st_grammar.specs.declared.kind.Function.{Function}
 use Rattle.st_grammar.specs.declared.kind.Function.TheVariants as function
@@ -318,9 +319,6 @@ le_cases a b P low high = by (nat_le a b) (at_true a b) (at_false a b)
 
     at_false : (m n : ℕ) → nat_le m n ≡ false → n < m
     at_false m n h = grind (arith, nat_tests)
-
-below_one : (j n : ℕ) → 0 < n → j ≤ n - 1 → j < n
-below_one j n p q = omega arith
 
 at_least : (j n : ℕ) → j < n → j ≤ n - 1
 at_least j n p = omega arith

@@ -10,6 +10,7 @@ mod Kept
 mod KeptText
 mod OneGrammar
 pub mod OneSyntax
+mod Precedence
 pub mod SomeSyntax
 mod SyntaxRows
 mod Verdicts

@@ -1,8 +1,9 @@
 -- The grammar by precedence levels has the expressions of the forms that keep their brackets.
 use Rattle.std.proofs.Common.{◌≡◌, ℕ, ◌-◌, ◌<◌, ◌≤◌, List, [], ◌∷◌, ◌++◌, refl, sym, ap, subst, ◌∙◌, arith, append_assoc}
-use Rattle.st_grammar.specs.Derives.{Derives, value, read, brackets, unary, binary, applied, shifted, selected, IsSpelled, bracketed, weakest, with_comma}
+use Rattle.st_grammar.specs.Derives.{Derives, value, read, brackets, unary, binary, applied, shifted, selected, IsSpelled, bracketed, with_comma}
 use Rattle.st_grammar.specs.Forms.{Form, literal, variable, group, prefix, infix_of, apply, shift, select}
-use Rattle.st_grammar.specs.Grammar.{Binds, apply_tree, infix_level, level, prefix_kind, prefix_level, prefix_tree, spell, tree}
+use Rattle.st_grammar.specs.Grammar.{Binds, apply_tree, level, prefix_kind, prefix_level, prefix_tree, spell, tree}
+use Rattle.st_syntax_laws.proofs.Precedence.{below_one, infix_some, level_most}
 use Rattle.st_syntax_laws.specs.SyntaxLaws.{OneGrammar}
 use Rattle.st_grammar.specs.declared.kind.Fixed.TheVariants as fixed
 use Rattle.st_grammar.specs.declared.kind.Function.TheVariants as function
@@ -10,6 +11,7 @@ use Rattle.st_grammar.specs.declared.kind.Kind.{Kind}
 use Rattle.st_grammar.specs.declared.kind.Kind.TheVariants as kind
 use Rattle.st_grammar.specs.declared.kind.Prefix.{Prefix}
 use Rattle.st_grammar.specs.declared.kind.Prefix.TheVariants as before
+use Rattle.st_tree.specs.Form.{infix_level, weakest}
 use Rattle.st_tree.specs.declared.expr.BinaryOp.{BinaryOp}
 use Rattle.st_tree.specs.declared.expr.BinaryOp.TheVariants as op
 use Rattle.st_tree.specs.declared.raw.RawExpr.{RawExpr}
@@ -17,24 +19,8 @@ use Rattle.st_tree.specs.declared.raw.RawExpr.TheVariants as expr
 
 -- Levels
 
-prefix_most : (o : Prefix) → prefix_level o ≤ weakest
-prefix_most before.Minus = omega arith
-prefix_most before.Not = omega arith
-
-infix_within : (o : BinaryOp) → (infix_level o ≤ weakest) × (0 < infix_level o)
-infix_within op.Mul = (omega arith, omega arith)
-infix_within o = (omega arith, omega arith)
-
-level_most : (f : Form) → level f ≤ weakest
-level_most (prefix o f) = prefix_most o
-level_most (infix_of o f g) = (infix_within o).0
-level_most f = omega arith
-
 less_one : (j k : ℕ) → j < k → j ≤ k - 1
 less_one j k h = omega arith
-
-below_one : (j k : ℕ) → 0 < k → j ≤ k - 1 → j < k
-below_one j k p h = omega arith
 
 -- Tokens
 
@@ -148,7 +134,7 @@ spelled k ts e (binary {ts = us} {us = vs} {e = x} {f = y} o h d c) =
     let between = kind.Fixed (fixed.Between o) in
     record {
       form = infix_of o f.form g.form;
-      binds = (f.strong, below_one (level g.form) (infix_level o) (infix_within o).1 g.strong, f.binds, g.binds);
+      binds = (f.strong, below_one (level g.form) (infix_level o) (infix_some o) g.strong, f.binds, g.binds);
       strong = h;
       spelled = passes f.form (between ∷ spell g.form []) ∙ ap (λ (ks : List Kind). ks ++ between ∷ spell g.form []) f.spelled ∙ ap (λ (ks : List Kind). us ++ between ∷ ks) g.spelled;
       same = ap (λ (z : RawExpr). expr.Binary o z (tree g.form)) f.same ∙ ap (λ (z : RawExpr). expr.Binary o x z) g.same;

@@ -51,6 +51,10 @@ infix_level binary.And = 7
 infix_level binary.Xor = 8
 infix_level binary.Or = 9
 
+-- the lowest level, that of OR
+abbrev pub weakest : ℕ
+weakest = 9
+
 -- the precedence of an expression: that of its outermost operator that no brackets enclose
 abbrev pub level : Form → ℕ
 level (literal ty n) = 0

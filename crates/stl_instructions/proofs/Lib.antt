@@ -2,4 +2,3 @@ mod BracketTokens
 mod InstructionLaws
 mod LeftOutLaws
 mod NameLaws
-mod TableLaws

@@ -7,27 +7,25 @@ ghost use Rattle.stl_statements.specs.Mnemonics.{goes_on};
 ghost use Rattle.stl_statements.specs.Paths.{named_at};
 ghost use Rattle.stl_statements.specs.Pointers.{indirect_at, offset_at, pointer_at};
 ghost use Rattle.stl_statements.specs.Readers.{or_else, read_as};
-ghost use Rattle.stl_tree.specs.Shifts.{most_steps};
 ghost use Rattle.stl_statements.specs.Statements.{any_constant_at, block_number_at, checked_at, checked_shape, first_of, has_form, is_asked, is_named, left_out_at, left_out_forms, length_at, loaded_at, located_at, nothing_at, operand_by, operand_of, or_nothing, other_at, place_operand, placed_at, pointer_alone_at, pointer_loaded_at, pointer_stored_at, second_of, shape_of, size_with, status_at, stored_at, stw_at, tests, timers_and_counters};
 ghost use Rattle.stl_statements.specs.Words.{is_spelled};
-ghost use Rattle.stl_tree.specs.WordLogic.{width_of as logic_width};
 ghost use Rattle.stl_tree.specs.declared.raw.RawOperand.TheVariants as operand;
 ghost use Rattle.stl_instructions.specs.inner.Rows.{seen};
 ghost use Rattle.stl_instructions.specs.inner.Shapes.{IsPlainShape};
 
 use crate::opened::opened_at;
-use crate::table::goes_on;
 use digit_texts::are_digits;
-use s7_base::{Check, Kind, NoMemory, Token, Width, front_of, is_same_word};
+use s7_base::{Check, Kind, NoMemory, Token, front_of, is_same_word};
 use status_word::Test;
 use std::alloc::Global;
 use stl_constants::{
     addend_at, constant_at, is_numbered, is_sign, is_word, is_word_kind, is_word_or_sign,
     left_out_constant_at, number_at,
 };
+use stl_mnemonics::goes_on;
 use stl_places::{crossing_at, indirect_at, named_at, offset_at, place_at, pointer_at};
 use stl_statements::{Mnemonic, Read, Shape};
-use stl_tree::{Ar, Constant, LogicRow, RawOperand, RawPlace, RawPointer, ShiftRow};
+use stl_tree::{Ar, Constant, RawOperand, RawPlace, RawPointer};
 
 /// A form that is left out where a place may stand: a word with a number, or with a bracket where it may be
 /// indirect, and its kind.
@@ -596,26 +594,6 @@ fn checked_shape(check: Check) -> Shape
     }
 }
 
-/// The greatest count of a shift or rotation as a constant.
-pub fn most_steps(row: ShiftRow) -> u8
-    ensures { result ≡ most_steps row }
-{
-    match row {
-        ShiftRow::Slw | ShiftRow::Srw | ShiftRow::Ssi => 15,
-        ShiftRow::Sld | ShiftRow::Srd | ShiftRow::Ssd | ShiftRow::Rld | ShiftRow::Rrd => 32,
-    }
-}
-
-/// The width that a row of word logic works on.
-pub fn logic_width(row: LogicRow) -> Width
-    ensures { result ≡ logic_width row }
-{
-    match row {
-        LogicRow::Aw | LogicRow::Ow | LogicRow::Xow => Width::Word,
-        LogicRow::Ad | LogicRow::Od | LogicRow::Xod => Width::Dword,
-    }
-}
-
 /// The shape of a mnemonic's operand.
 fn shape_of(what: Mnemonic) -> Shape
     ensures { result ≡ shape_of what }
@@ -647,7 +625,7 @@ fn shape_of(what: Mnemonic) -> Shape
         Mnemonic::Transfer => Shape::Stored,
         Mnemonic::Plus => Shape::Addend,
         Mnemonic::Inc | Mnemonic::Dec | Mnemonic::Nop => Shape::Number(255),
-        Mnemonic::Shift(row) => Shape::NumberOrNothing(most_steps(row)),
+        Mnemonic::Shift(row) => Shape::NumberOrNothing(row.most_steps()),
         Mnemonic::Logic(_) => Shape::ConstantOrNothing,
         Mnemonic::LoadAr(register) => Shape::PointerLoaded(register),
         Mnemonic::StoreAr(register) => Shape::PointerStored(register),

@@ -4,13 +4,13 @@ ghost use Rattle.s7_base.specs.Answers.{Answers};
 ghost use Rattle.stl_statements.specs.Statements.{answered, is_label, begins_with_label, name_of, instr_with, with_operand, with_mnemonic, statement, instruction_of};
 ghost use Rattle.stl_statements.specs.Mnemonics.{mnemonic_at};
 ghost use Rattle.stl_instructions.specs.inner.Answers.{Says};
-ghost use Rattle.stl_instructions.specs.inner.Rows.{view};
+ghost use Rattle.stl_mnemonics.specs.Rows.{view};
 
 use crate::operand::{operand_of, size_with};
-use crate::table::{Row, mnemonic_at};
 use s7_base::{Kind, Line, NoMemory, Reason, Rejection, SmallText, Token, rest_after};
 use std::alloc::Global;
 use stl_constants::{is_sign, is_word_kind};
+use stl_mnemonics::{Row, mnemonic_at};
 use stl_statements::Read;
 use stl_tree::{RawInstr, RawOp, RawOperand};
 

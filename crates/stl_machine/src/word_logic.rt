@@ -9,16 +9,6 @@ use crate::state::Registers;
 use s7_base::Width;
 use stl_tree::LogicRow;
 
-/// The width that a row works on.
-fn width_of(row: LogicRow) -> Width
-    ensures { result ≡ width_of row }
-{
-    match row {
-        LogicRow::Aw | LogicRow::Ow | LogicRow::Xow => Width::Word,
-        LogicRow::Ad | LogicRow::Od | LogicRow::Xod => Width::Dword,
-    }
-}
-
 /// Two patterns, bit by bit.
 fn combined(row: LogicRow, p: u32, q: u32) -> u32
     requires { p < 2 ^ bits_wide (width_of row) × q < 2 ^ bits_wide (width_of row) }
@@ -59,7 +49,7 @@ impl Registers {
     pub fn after_logic_row(self, row: LogicRow, constant: Option<u32>) -> Registers
         ensures { values result ≡ after_logic_row row constant (values self) }
     {
-        let width = width_of(row);
+        let width = row.width();
         let p = part(width, self.accu1);
         let q = part(width, self.other_of(constant));
         self.logic_result(width, combined(row, p, q))

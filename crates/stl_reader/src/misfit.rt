@@ -10,7 +10,8 @@ use crate::words::is_block_word;
 use s7_base::{Kind, Reason, Token};
 use stl_constants::{is_quoted, is_sign, is_word_kind};
 use stl_declarations::{begins_with_word, has_number, is_user_type};
-use stl_instructions::{begins_with_label, begins_with_mnemonic};
+use stl_instructions::begins_with_label;
+use stl_mnemonics::begins_with_mnemonic;
 use stl_tree::BlockKind;
 
 pub fn is_semicolon(token: &Token) -> bool

@@ -1,4 +1,9 @@
 //! The instructions that work in the accumulators, kind by kind.
+ghost use Rattle.std.specs.Prelude.{◌≡◌};
+ghost use Rattle.stl_tree.specs.Shifts.{most_steps};
+ghost use Rattle.stl_tree.specs.WordLogic.{width_of};
+
+use s7_base::Width;
 
 /// Arithmetic: on the low words of ACCU2 and ACCU1, or with `D` on the whole of them.
 #[derive(Clone, Copy, Debug, PartialEq, Eq)]
@@ -45,6 +50,18 @@ pub enum ShiftRow {
     Rrd,
 }
 
+impl ShiftRow {
+    /// The greatest count as a constant.
+    pub fn most_steps(self) -> u8
+        ensures { result ≡ most_steps self }
+    {
+        match self {
+            ShiftRow::Slw | ShiftRow::Srw | ShiftRow::Ssi => 15,
+            ShiftRow::Sld | ShiftRow::Srd | ShiftRow::Ssd | ShiftRow::Rld | ShiftRow::Rrd => 32,
+        }
+    }
+}
+
 /// Word logic: AND, OR and exclusive OR on the low word of ACCU1, or with `d` on the whole of it.
 #[derive(Clone, Copy, Debug, PartialEq, Eq)]
 pub enum LogicRow {
@@ -54,6 +71,18 @@ pub enum LogicRow {
     Ad,
     Od,
     Xod,
+}
+
+impl LogicRow {
+    /// The width that it works on.
+    pub fn width(self) -> Width
+        ensures { result ≡ width_of self }
+    {
+        match self {
+            LogicRow::Aw | LogicRow::Ow | LogicRow::Xow => Width::Word,
+            LogicRow::Ad | LogicRow::Od | LogicRow::Xod => Width::Dword,
+        }
+    }
 }
 
 /// Instructions on ACCU1 alone.

@@ -19,7 +19,7 @@ use crate::sight::Sight;
 use instruction_operands::{may_have, op_by, pointer_constant};
 use s7_base::{Break, Line, List, NoMemory, Reason};
 use std::alloc::Global;
-use stl_instructions::mnemonic_named;
+use stl_mnemonics::mnemonic_named;
 use stl_rules::Given;
 use stl_statements::Mnemonic;
 use stl_tree::{Block, BlockKind, BlockName, Instr, Op, Operand, RawBlock, RawInstr};

@@ -15,7 +15,7 @@ use crate::first::note;
 use crate::names::Names;
 use s7_base::{Break, Kind, Line, NoMemory, Reason};
 use std::alloc::Global;
-use stl_instructions::mnemonic_named;
+use stl_mnemonics::mnemonic_named;
 use stl_statements::Mnemonic;
 use stl_tree::{
     BlockKind, PathStep, RawBlock, RawData, RawDataKind, RawInstr, RawOperand, RawProgram,

@@ -1,10 +1,11 @@
 -- The code's places in statements as those of the pass.
 use Rattle.std.specs.Prelude.{ℕ, Bool, true, false, nat_le, List, [], ◌∷◌, map, reverse, Option, Some, None}
-use Rattle.st_grammar.specs.Grammar.{prefix_level, infix_level}
+use Rattle.st_grammar.specs.Grammar.{prefix_level}
 use Rattle.st_grammar.specs.inner.Machine as machine
 use Rattle.st_grammar.specs.inner.Machine.{code}
 use Rattle.st_grammar.specs.inner.Steps.{body_state}
 use Rattle.st_grammar.specs.declared.measured.Measured.{Measured}
+use Rattle.st_tree.specs.Form.{infix_level}
 use Rattle.st_tree.specs.declared.raw.RawStmt.{RawStmt}
 use Rattle.st_bodies.specs.declared.expression.BoxedExpression.{BoxedExpression}
 use Rattle.st_bodies.specs.declared.body_state.BegunStatement.{BegunStatement}

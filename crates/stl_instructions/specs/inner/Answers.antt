@@ -1,8 +1,8 @@
 -- What the code reads of a statement, before the mnemonic's name is made.
 use Rattle.std.specs.Prelude.{◌≡◌, Result, Ok, Err}
 use Rattle.s7_base.specs.declared.reason.Reason.{Reason}
-use Rattle.stl_instructions.specs.declared.table.Row.{Row}
-use Rattle.stl_instructions.specs.inner.Rows.{view}
+use Rattle.stl_mnemonics.specs.declared.table.Row.{Row}
+use Rattle.stl_mnemonics.specs.Rows.{view}
 use Rattle.stl_statements.specs.Statements.{name_of}
 use Rattle.stl_tree.specs.declared.raw.RawOp.{RawOp}
 use Rattle.stl_tree.specs.declared.raw.RawOperand.{RawOperand}

@@ -11,7 +11,7 @@ decreases-loop-units l = l.left
 
 abbrev pub invariant-loop-units : goal.invariant-loop-units
 invariant-loop-units l =
-    ((j : ℕ) → end_at l.tree.globals (calls_to (l.left + j) l.tree) l.work.items l.at (l.left + j) (state_of l.state)
+    ((j : ℕ) → end_at l.tree.globals (calls_to (l.left + j) l.tree) l.work.items l.next (l.left + j) (state_of l.state)
     ≡ end_at l.tree.globals (calls_to (l.units + j) l.tree) l.fn.work.items l.fn.at (l.units + j) (state_of l.fn.state))
-    × IsSettled l.at
-    × IsReady l.tree (vec_capacity l.work) l.work.items l.at l.state
+    × IsSettled l.next
+    × IsReady l.tree (vec_capacity l.work) l.work.items l.next l.state

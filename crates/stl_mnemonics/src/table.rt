@@ -4,7 +4,7 @@ ghost use Rattle.std.specs.List.{find};
 ghost use Rattle.s7_base.specs.Tokens.{is_same_word};
 ghost use Rattle.stl_statements.specs.Mnemonics.{goes_on, stands_at, mnemonic_at, begins_with_mnemonic, has_name, rows, mnemonic_named};
 ghost use Rattle.stl_statements.specs.Words.{is_sign, is_spelled};
-ghost use Rattle.stl_instructions.specs.inner.Rows.{view};
+ghost use Rattle.stl_mnemonics.specs.Rows.{view};
 
 use s7_base::{Check, Kind, Token, Width, front_of, is_same_word, rest_after};
 use status_word::Test;

@@ -3,7 +3,7 @@ use Rattle.st_runner.specs.inner.Waiting.{end_at}
 use Rattle.st_runner.specs.inner.View.{state_of}
 use Rattle.st_runner.specs.declared.frame.At.{At}
 use Rattle.st_tree.specs.Calls.{calls_to}
-use Rattle.st_runner.proofs.runs.spend.Goals as goal
+use Rattle.st_runner.proofs.runs.spent.Goals as goal
 
 pub returns-in-Test-clause-meaning : goal.returns-in-Test-clause-meaning
 returns-in-Test-clause-meaning c = λ u.
