@@ -16,7 +16,7 @@ use std::alloc::Global;
 
 /// Where something is judged: what names mean there, and its line.
 #[derive(Clone, Copy)]
-pub struct Spot<'s> {
+pub struct Context<'s> {
     pub alloc: Global,
     pub scope: &'s Scope,
     pub line: Line,
@@ -144,7 +144,7 @@ fn shift_of(
 
 /// A variable; notes the rule that it breaks.
 pub fn variable_on(
-    at: Spot<'_>,
+    at: Context<'_>,
     raw: &RawVar,
     breaks: &mut List<Break>,
 ) -> Result<Option<TypedVar>, NoMemory>
@@ -162,7 +162,7 @@ pub fn variable_on(
 /// An expression that is the operand of another; notes the rules that are broken in it.
 #[cycle(expression)]
 pub fn operand_of(
-    at: Spot<'_>,
+    at: Context<'_>,
     raw: &RawExpr,
     breaks: &mut List<Break>,
 ) -> Result<Option<Operand>, NoMemory>
@@ -174,7 +174,7 @@ pub fn operand_of(
 /// Minus, NOT or a BCD conversion of an operand.
 #[cycle(expression)]
 fn unary(
-    at: Spot<'_>,
+    at: Context<'_>,
     op: UnaryOp,
     raw: &RawExpr,
     breaks: &mut List<Break>,
@@ -192,7 +192,7 @@ fn unary(
 /// `A_TO_B` of an operand.
 #[cycle(expression)]
 fn conversion(
-    at: Spot<'_>,
+    at: Context<'_>,
     from: StType,
     to: StType,
     raw: &RawExpr,
@@ -211,7 +211,7 @@ fn conversion(
 /// A read through a pointer.
 #[cycle(expression)]
 fn area_read(
-    at: Spot<'_>,
+    at: Context<'_>,
     width: Width,
     raw: &RawExpr,
     breaks: &mut List<Break>,
@@ -229,7 +229,7 @@ fn area_read(
 /// An operator behind its left operand.
 #[cycle(expression)]
 fn binary_with(
-    at: Spot<'_>,
+    at: Context<'_>,
     op: BinaryOp,
     left: Option<Operand>,
     raw: &RawExpr,
@@ -246,7 +246,7 @@ fn binary_with(
 /// A shift behind what it shifts.
 #[cycle(expression)]
 fn shift_with(
-    at: Spot<'_>,
+    at: Context<'_>,
     op: ShiftOp,
     pattern: Option<Operand>,
     raw: &RawExpr,
@@ -263,7 +263,7 @@ fn shift_with(
 /// A choice behind its gate and its first value.
 #[cycle(expression)]
 fn choice_with(
-    at: Spot<'_>,
+    at: Context<'_>,
     gate: Option<Operand>,
     first: Option<Operand>,
     raw: &RawExpr,
@@ -280,7 +280,7 @@ fn choice_with(
 /// An expression; notes the rules that are broken in it.
 #[cycle(expression)]
 pub fn expression(
-    at: Spot<'_>,
+    at: Context<'_>,
     raw: &RawExpr,
     breaks: &mut List<Break>,
 ) -> Result<Option<Typed>, NoMemory>

@@ -3,7 +3,7 @@ ghost use Rattle.std.specs.Prelude.{◌≡◌, [], ◌++◌, Some, IfOk, OnOk};
 ghost use Rattle.st_rules.specs.Invocations.{call_with, callee, formal_breaks, function_call, given_by, given_to_none, in_order, invocation, lacks, no_call, plain, var_given, with_actual, with_name};
 ghost use Rattle.st_rules.specs.Judged.{IsJudged};
 
-use crate::expression::{Spot, variable_on};
+use crate::expression::{Context, variable_on};
 use s7_base::{Break, Line, List, NoMemory, Reason, note};
 use st_rules::lists::keep;
 use st_rules::scope::{Formals, Meaning, Scope};
@@ -62,7 +62,7 @@ fn judge_formal(
 
 /// Takes one actual more into what the formals are given.
 fn with_actual(
-    at: Spot<'_>,
+    at: Context<'_>,
     types: &Table<StType>,
     actual: &(List<u8>, RawVar),
     vars: &mut Table<Option<Var>>,
@@ -84,7 +84,7 @@ fn with_actual(
 
 /// What the formals are given by all actuals.
 fn given_by(
-    at: Spot<'_>,
+    at: Context<'_>,
     types: &Table<StType>,
     actuals: &[(List<u8>, RawVar)],
     breaks: &mut List<Break>,
@@ -130,7 +130,7 @@ fn in_order(
 }
 
 fn call_with(
-    at: Spot<'_>,
+    at: Context<'_>,
     position: u32,
     vars: &Table<Option<Var>>,
     keys: &[List<u8>],
@@ -148,7 +148,7 @@ fn call_with(
 
 /// Takes one actual more of a call of what is no function: its name may stand once.
 fn with_name(
-    at: Spot<'_>,
+    at: Context<'_>,
     actual: &(List<u8>, RawVar),
     vars: &mut Table<Option<Var>>,
     breaks: &mut List<Break>,
@@ -169,7 +169,7 @@ fn with_name(
 
 /// Judges the names and the variables of some actuals, without the formals that they name.
 fn judge_actuals(
-    at: Spot<'_>,
+    at: Context<'_>,
     actuals: &[(List<u8>, RawVar)],
     breaks: &mut List<Break>,
 ) -> Result<(), NoMemory>
@@ -183,7 +183,7 @@ fn judge_actuals(
 }
 
 fn no_call(
-    at: Spot<'_>,
+    at: Context<'_>,
     rule: Reason,
     actuals: &[(List<u8>, RawVar)],
     breaks: &mut List<Break>,
@@ -196,7 +196,7 @@ fn no_call(
 }
 
 fn call_of(
-    at: Spot<'_>,
+    at: Context<'_>,
     position: u32,
     formals: &Formals,
     actuals: &[(List<u8>, RawVar)],
@@ -211,7 +211,7 @@ fn call_of(
 
 /// A call as it is written; notes the rules that are broken in it.
 pub fn invocation(
-    at: Spot<'_>,
+    at: Context<'_>,
     name: &List<u8>,
     actuals: &[(List<u8>, RawVar)],
     breaks: &mut List<Break>,

@@ -5,7 +5,7 @@ ghost use Rattle.st_rules.specs.Judged.{AreJudged, IsJudged, breaks_in, found_in
 ghost use Rattle.st_rules.specs.Statements.{action, area_write_of, arm, arm_of, arms_on, assignment_of, case_arm, case_arms_on, case_of, have_type, label_breaks, selector, selector_of, statement, statements, test, test_of, type_of_selector, while_of};
 ghost use Rattle.st_statements.specs.inner.Operands.{typed_of};
 
-use crate::expression::{Operand, Spot, expression, operand_of, variable_on};
+use crate::expression::{Operand, Context, expression, operand_of, variable_on};
 use crate::invocation::invocation;
 use s7_base::{Break, Line, List, NoMemory, Reason, Width, note};
 use st_rules::expression::Typed;
@@ -90,7 +90,7 @@ fn test_of(
     Ok(Some(value.tree))
 }
 
-fn test(at: Spot<'_>, raw: &RawExpr, breaks: &mut List<Break>) -> Result<Option<Expr>, NoMemory>
+fn test(at: Context<'_>, raw: &RawExpr, breaks: &mut List<Break>) -> Result<Option<Expr>, NoMemory>
     ensures { IsJudged result breaks.old breaks.new (test at.entry.scope.now at.entry.line raw.now) }
 {
     let value = expression(at, raw, breaks)?;
@@ -116,7 +116,7 @@ fn selector_of(
 }
 
 fn selector(
-    at: Spot<'_>,
+    at: Context<'_>,
     raw: &RawExpr,
     breaks: &mut List<Break>,
 ) -> Result<Option<Typed>, NoMemory>
@@ -199,7 +199,7 @@ fn case_of(selector: Option<Typed>, arms: List<CaseArm>, other: List<Stmt>) -> O
 }
 
 #[cycle(judge)]
-fn arm(at: Spot<'_>, raw: &RawArm, breaks: &mut List<Break>) -> Result<Option<Arm>, NoMemory>
+fn arm(at: Context<'_>, raw: &RawArm, breaks: &mut List<Break>) -> Result<Option<Arm>, NoMemory>
     ensures { IsJudged result breaks.old breaks.new (arm at.entry.scope.now raw.now at.entry.line) }
 {
     let test = test(at, &raw.test, breaks)?;
@@ -211,7 +211,7 @@ fn arm(at: Spot<'_>, raw: &RawArm, breaks: &mut List<Break>) -> Result<Option<Ar
 }
 
 #[cycle(judge)]
-fn arms(at: Spot<'_>, raws: &[RawArm], breaks: &mut List<Break>) -> Result<List<Arm>, NoMemory>
+fn arms(at: Context<'_>, raws: &[RawArm], breaks: &mut List<Break>) -> Result<List<Arm>, NoMemory>
     ensures { AreJudged result breaks.old breaks.new (arms_on at.entry.line (map (arm at.entry.scope.now) raws.now)) }
 {
     let mut arms = List::new(at.alloc);
@@ -224,7 +224,7 @@ fn arms(at: Spot<'_>, raws: &[RawArm], breaks: &mut List<Break>) -> Result<List<
 
 #[cycle(judge)]
 fn case_arm(
-    at: Spot<'_>,
+    at: Context<'_>,
     selector: Option<StType>,
     raw: &RawCaseArm,
     breaks: &mut List<Break>,
@@ -239,7 +239,7 @@ fn case_arm(
 
 #[cycle(judge)]
 fn case_arms(
-    at: Spot<'_>,
+    at: Context<'_>,
     selector: Option<StType>,
     raws: &[RawCaseArm],
     breaks: &mut List<Break>,
@@ -283,12 +283,12 @@ fn statement(
     ensures { IsJudged result breaks.old breaks.new (statement scope.now raw.now) }
 {
     let line = raw.line;
-    action(Spot { alloc, scope, line }, &raw.kind, breaks)
+    action(Context { alloc, scope, line }, &raw.kind, breaks)
 }
 
 /// A write through a pointer behind the pointer.
 fn area_write_with(
-    at: Spot<'_>,
+    at: Context<'_>,
     width: Width,
     pointer: Option<Operand>,
     raw: &RawExpr,
@@ -305,7 +305,7 @@ fn area_write_with(
 /// A WHILE behind its test.
 #[cycle(judge)]
 fn while_with(
-    at: Spot<'_>,
+    at: Context<'_>,
     test: Option<Expr>,
     raws: &[RawStmt],
     breaks: &mut List<Break>,
@@ -323,7 +323,7 @@ fn while_with(
 /// A CASE up to its ELSE, behind its selector.
 #[cycle(judge)]
 fn case_begun(
-    at: Spot<'_>,
+    at: Context<'_>,
     selector: Option<Typed>,
     raws: &[RawCaseArm],
     breaks: &mut List<Break>,
@@ -345,7 +345,7 @@ fn case_begun(
 /// A CASE behind its arms.
 #[cycle(judge)]
 fn case_with(
-    at: Spot<'_>,
+    at: Context<'_>,
     begun: BegunCase,
     raws: &[RawStmt],
     breaks: &mut List<Break>,
@@ -364,7 +364,7 @@ fn case_with(
 /// What a statement does.
 #[cycle(judge)]
 fn action(
-    at: Spot<'_>,
+    at: Context<'_>,
     raw: &RawStmtKind,
     breaks: &mut List<Break>,
 ) -> Result<Option<Stmt>, NoMemory>
