@@ -12,7 +12,7 @@ use Rattle.st_grammar.specs.declared.kind.Kind.{Kind}
 use Rattle.st_grammar.specs.declared.kind.Kind.TheVariants as kind
 use Rattle.st_grammar.specs.declared.kind.Prefix.{Prefix}
 use Rattle.st_grammar.specs.declared.kind.Prefix.TheVariants as before
-use Rattle.st_syntax_laws.proofs.Precedence.{infix_most, infix_some, prefix_above, prefix_most}
+use Rattle.st_syntax_laws.proofs.Precedence.{infix_most, infix_some, level_most, prefix_above, prefix_most}
 use Rattle.st_tree.specs.Form.{infix_level, weakest}
 use Rattle.st_tree.specs.declared.expr.BinaryOp.{BinaryOp}
 use Rattle.st_tree.specs.declared.expr.BinaryOp.TheVariants as binary

@@ -2,7 +2,8 @@
 use Rattle.std.proofs.Common.{◌≡◌, ℕ, suc, Bool, true, List, ◌∷◌, Option, Some, None, refl, ap, ◌∙◌}
 use Rattle.std.specs.Prelude.{if◌then◌else◌, option_map}
 use Rattle.s7_base.specs.declared.reason.Line.{Line}
-use Rattle.st_syntax_laws.proofs.Drive.{DeclaredUnit, run, go, level_most, close, comma, drive}
+use Rattle.st_syntax_laws.proofs.Drive.{DeclaredUnit, run, go, close, comma, drive}
+use Rattle.st_syntax_laws.proofs.Precedence.{level_most}
 use Rattle.st_grammar.specs.Forms.{Form, Actuals, no_actual, actual, Labels, label, more_labels, Statement, assign, write, invoke, choice, choice_else, cases, cases_else, loop, jump, Statements, none, empty, further, Arms, no_arm, arm, CaseArms, no_case, case_arm}
 use Rattle.st_grammar.specs.Grammar.{is_value, Binds, LabelsFit, Fits, AllFit, ArmsFit, CasesFit, arm_word, spell, spell_actuals, spell_labels, spell_one, spell_all, spell_arms, spell_cases}
 use Rattle.st_grammar.specs.Levels.{levels, levels_actuals, levels_labels, levels_one, levels_all, levels_arms, levels_cases}
