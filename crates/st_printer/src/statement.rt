@@ -11,6 +11,14 @@ use crate::variable::put_var;
 use s7_base::{NoMemory, Width};
 use st_tree::{Arm, CaseArm, Expr, Local, Pou, StProgram, StType, Stmt, Var, width_word};
 
+/// Where something is printed: the tree and the unit that say what names mean there, and the level.
+#[derive(Clone, Copy)]
+pub struct Context<'t> {
+    pub tree: &'t StProgram,
+    pub unit: &'t Pou,
+    pub level: usize,
+}
+
 /// The next level. No tree in a machine's memory has as many levels as a machine can count.
 fn deeper(level: usize) -> Result<usize, NoMemory>
     ensures { IfOk result (λ next. next ≡ level + 1) }
@@ -29,91 +37,75 @@ pub fn put_line(out: &mut Vec<u8>, level: usize, text: &str) -> Result<(), NoMem
 }
 
 #[tactic(auto, unfolding(st_tree::specs::Spelling::line))]
-fn put_assign(
-    out: &mut Vec<u8>,
-    tree: &StProgram,
-    unit: &Pou,
-    level: usize,
-    var: Var,
-    value: &Expr,
-) -> Result<(), NoMemory>
-    ensures { let names = names_in tree.now unit.now in
+fn put_assign(out: &mut Vec<u8>, at: Context<'_>, var: Var, value: &Expr) -> Result<(), NoMemory>
+    ensures { let names = names_in at.entry.tree.now at.entry.unit.now in
         OnOk result (out.new.items ≡ out.old.items
-        ++ line level (var_text names var ++ codes " := " ++ expr_text names value.now ++ codes ";")) }
+        ++ line at.entry.level (var_text names var ++ codes " := " ++ expr_text names value.now ++ codes ";")) }
 {
-    put_blanks(out, level)?;
-    put_var(out, tree, unit, var)?;
+    put_blanks(out, at.level)?;
+    put_var(out, at.tree, at.unit, var)?;
     put(out, " := ")?;
-    put_expr(out, tree, unit, value)?;
+    put_expr(out, at.tree, at.unit, value)?;
     put(out, ";\n")
 }
 
 /// The operands of an area write and the end of its line.
 fn put_operands(
     out: &mut Vec<u8>,
-    tree: &StProgram,
-    unit: &Pou,
+    at: Context<'_>,
     pointer: &Expr,
     value: &Expr,
 ) -> Result<(), NoMemory>
-    ensures { let names = names_in tree.now unit.now in
+    ensures { let names = names_in at.entry.tree.now at.entry.unit.now in
         OnOk result (out.new.items ≡ out.old.items
         ++ expr_text names pointer.now ++ codes ", " ++ expr_text names value.now ++ codes ");\n") }
 {
-    put_expr(out, tree, unit, pointer)?;
+    put_expr(out, at.tree, at.unit, pointer)?;
     put(out, ", ")?;
-    put_expr(out, tree, unit, value)?;
+    put_expr(out, at.tree, at.unit, value)?;
     put(out, ");\n")
 }
 
 #[tactic(auto, unfolding(st_tree::specs::Spelling::line))]
 fn put_area_write(
     out: &mut Vec<u8>,
-    tree: &StProgram,
-    unit: &Pou,
-    level: usize,
+    at: Context<'_>,
     width: Width,
     pointer: &Expr,
     value: &Expr,
 ) -> Result<(), NoMemory>
-    ensures { let names = names_in tree.now unit.now in
+    ensures { let names = names_in at.entry.tree.now at.entry.unit.now in
         OnOk result (out.new.items ≡ out.old.items
-        ++ line level (codes "AREA_WRITE_" ++ width_word width ++ codes "(" ++ expr_text names pointer.now
-        ++ codes ", " ++ expr_text names value.now ++ codes ");")) }
+        ++ line at.entry.level (codes "AREA_WRITE_" ++ width_word width ++ codes "("
+        ++ expr_text names pointer.now ++ codes ", " ++ expr_text names value.now ++ codes ");")) }
 {
-    put_blanks(out, level)?;
+    put_blanks(out, at.level)?;
     put(out, "AREA_WRITE_")?;
     put(out, width_word(width))?;
     put(out, "(")?;
-    put_operands(out, tree, unit, pointer, value)
+    put_operands(out, at, pointer, value)
 }
 
 /// A formal with its variable.
-fn put_actual(
-    out: &mut Vec<u8>,
-    tree: &StProgram,
-    unit: &Pou,
-    formal: &Local,
-    var: Var,
-) -> Result<(), NoMemory>
+fn put_actual(out: &mut Vec<u8>, at: Context<'_>, formal: &Local, var: Var) -> Result<(), NoMemory>
     ensures { OnOk result (out.new.items ≡ out.old.items
-        ++ formal.now.name ++ codes " := " ++ var_text (names_in tree.now unit.now) var) }
+        ++ formal.now.name ++ codes " := " ++ var_text (names_in at.entry.tree.now at.entry.unit.now) var) }
 {
     put_bytes(out, formal.name.as_slice())?;
     put(out, " := ")?;
-    put_var(out, tree, unit, var)
+    put_var(out, at.tree, at.unit, var)
 }
 
 /// The actuals after the first, each with its comma.
 fn put_more_actuals(
     out: &mut Vec<u8>,
-    tree: &StProgram,
-    unit: &Pou,
+    at: Context<'_>,
     formals: &[Local],
     vars: &[Var],
 ) -> Result<(), NoMemory>
-    ensures { OnOk result (out.new.items ≡ out.old.items
-        ++ flat_map (λ text. codes ", " ++ text) (actuals_text (names_in tree.now unit.now) formals.now vars.now)) }
+    ensures { let names = names_in at.entry.tree.now at.entry.unit.now in
+        OnOk result (out.new.items ≡ out.old.items
+        ++ flat_map (λ text. codes ", " ++ text) (actuals_text names formals.now vars.now)) }
 {
     let [formal, formals @ ..] = formals else {
         return Ok(());
@@ -122,19 +114,18 @@ fn put_more_actuals(
         return Ok(());
     };
     put(out, ", ")?;
-    put_actual(out, tree, unit, formal, *var)?;
-    put_more_actuals(out, tree, unit, formals, vars)
+    put_actual(out, at, formal, *var)?;
+    put_more_actuals(out, at, formals, vars)
 }
 
 fn put_actuals(
     out: &mut Vec<u8>,
-    tree: &StProgram,
-    unit: &Pou,
+    at: Context<'_>,
     formals: &[Local],
     vars: &[Var],
 ) -> Result<(), NoMemory>
     ensures { OnOk result (out.new.items ≡ out.old.items
-        ++ listed (actuals_text (names_in tree.now unit.now) formals.now vars.now)) }
+        ++ listed (actuals_text (names_in at.entry.tree.now at.entry.unit.now) formals.now vars.now)) }
 {
     let [formal, formals @ ..] = formals else {
         return Ok(());
@@ -142,27 +133,21 @@ fn put_actuals(
     let [var, vars @ ..] = vars else {
         return Ok(());
     };
-    put_actual(out, tree, unit, formal, *var)?;
-    put_more_actuals(out, tree, unit, formals, vars)
+    put_actual(out, at, formal, *var)?;
+    put_more_actuals(out, at, formals, vars)
 }
 
 #[tactic(auto, unfolding(st_tree::specs::Spelling::line))]
-fn put_call(
-    out: &mut Vec<u8>,
-    tree: &StProgram,
-    unit: &Pou,
-    level: usize,
-    callee: u32,
-    vars: &[Var],
-) -> Result<(), NoMemory>
-    ensures { OnOk result (out.new.items ≡ out.old.items
-        ++ line level (call_text (names_in tree.now unit.now) (slice_get tree.now.pous callee) vars.now)) }
+fn put_call(out: &mut Vec<u8>, at: Context<'_>, callee: u32, vars: &[Var]) -> Result<(), NoMemory>
+    ensures { let names = names_in at.entry.tree.now at.entry.unit.now in
+        OnOk result (out.new.items ≡ out.old.items
+        ++ line at.entry.level (call_text names (slice_get at.entry.tree.now.pous callee) vars.now)) }
 {
-    let units = tree.pous.as_slice();
-    put_blanks(out, level)?;
+    let units = at.tree.pous.as_slice();
+    put_blanks(out, at.level)?;
     put_bytes(out, unit_name(units, callee))?;
     put(out, "(")?;
-    put_actuals(out, tree, unit, formals_of(units, callee), vars)?;
+    put_actuals(out, at, formals_of(units, callee), vars)?;
     put(out, ");\n")
 }
 
@@ -170,19 +155,18 @@ fn put_call(
 #[tactic(auto, unfolding(st_tree::specs::Spelling::line))]
 fn put_head(
     out: &mut Vec<u8>,
-    tree: &StProgram,
-    unit: &Pou,
-    level: usize,
+    at: Context<'_>,
     before: &str,
     expr: &Expr,
     behind: &str,
 ) -> Result<(), NoMemory>
-    ensures { OnOk result (out.new.items ≡ out.old.items
-        ++ line level (before.now ++ expr_text (names_in tree.now unit.now) expr.now ++ behind.now)) }
+    ensures { let names = names_in at.entry.tree.now at.entry.unit.now in
+        OnOk result (out.new.items ≡ out.old.items
+        ++ line at.entry.level (before.now ++ expr_text names expr.now ++ behind.now)) }
 {
-    put_blanks(out, level)?;
+    put_blanks(out, at.level)?;
     put(out, before)?;
-    put_expr(out, tree, unit, expr)?;
+    put_expr(out, at.tree, at.unit, expr)?;
     put(out, behind)?;
     put(out, "\n")
 }
@@ -223,97 +207,83 @@ fn put_labels(
 
 /// Puts the statements of a body at the end, each at this level.
 #[cycle(statements)]
-pub fn put_body(
-    out: &mut Vec<u8>,
-    tree: &StProgram,
-    unit: &Pou,
-    level: usize,
-    body: &[Stmt],
-) -> Result<(), NoMemory>
-    ensures { OnOk result (out.new.items ≡ out.old.items ++ body_text (names_in tree.now unit.now) level body.now) }
+pub fn put_body(out: &mut Vec<u8>, at: Context<'_>, body: &[Stmt]) -> Result<(), NoMemory>
+    ensures { OnOk result (out.new.items ≡ out.old.items
+        ++ body_text (names_in at.entry.tree.now at.entry.unit.now) at.entry.level body.now) }
 {
     for statement in body {
-        put_statement(out, tree, unit, level, statement)?;
+        put_statement(out, at, statement)?;
     }
     Ok(())
 }
 
+/// Puts the statements of a body at the end, each one level further in.
 #[cycle(statements)]
-fn put_statement(
-    out: &mut Vec<u8>,
-    tree: &StProgram,
-    unit: &Pou,
-    level: usize,
-    statement: &Stmt,
-) -> Result<(), NoMemory>
+fn put_inner(out: &mut Vec<u8>, at: Context<'_>, body: &[Stmt]) -> Result<(), NoMemory>
     ensures { OnOk result (out.new.items ≡ out.old.items
-        ++ statement_text (names_in tree.now unit.now) statement.now level) }
+        ++ body_text (names_in at.entry.tree.now at.entry.unit.now) (at.entry.level + 1) body.now) }
+{
+    let level = deeper(at.level)?;
+    put_body(out, Context { level, ..at }, body)
+}
+
+#[cycle(statements)]
+fn put_statement(out: &mut Vec<u8>, at: Context<'_>, statement: &Stmt) -> Result<(), NoMemory>
+    ensures { OnOk result (out.new.items ≡ out.old.items
+        ++ statement_text (names_in at.entry.tree.now at.entry.unit.now) statement.now at.entry.level) }
 {
     match statement {
-        Stmt::Assign(var, value) => put_assign(out, tree, unit, level, *var, value),
+        Stmt::Assign(var, value) => put_assign(out, at, *var, value),
         Stmt::AreaWrite(width, pointer, value) => {
             let pointer = pointer.get();
             let value = value.get();
-            put_area_write(out, tree, unit, level, *width, pointer, value)
+            put_area_write(out, at, *width, pointer, value)
         }
-        Stmt::Invoke(callee, vars) => put_call(out, tree, unit, level, *callee, vars.as_slice()),
+        Stmt::Invoke(callee, vars) => put_call(out, at, *callee, vars.as_slice()),
         Stmt::If(arms, other) => {
-            put_arms(out, tree, unit, level, arms.as_slice())?;
-            put_else(out, tree, unit, level, other.as_slice())?;
-            put_line(out, level, "END_IF;")
+            put_arms(out, at, arms.as_slice())?;
+            put_else(out, at, other.as_slice())?;
+            put_line(out, at.level, "END_IF;")
         }
         Stmt::Case(selector, arms, other) => {
-            let ty = type_of(tree, unit, selector);
-            put_head(out, tree, unit, level, "CASE ", selector, " OF")?;
-            put_cases(out, tree, unit, level, ty, arms.as_slice())?;
-            put_else(out, tree, unit, level, other.as_slice())?;
-            put_line(out, level, "END_CASE;")
+            let ty = type_of(at.tree, at.unit, selector);
+            put_head(out, at, "CASE ", selector, " OF")?;
+            put_cases(out, at, ty, arms.as_slice())?;
+            put_else(out, at, other.as_slice())?;
+            put_line(out, at.level, "END_CASE;")
         }
         Stmt::While(test, body) => {
-            put_head(out, tree, unit, level, "WHILE ", test, " DO")?;
-            put_body(out, tree, unit, deeper(level)?, body.as_slice())?;
-            put_line(out, level, "END_WHILE;")
+            put_head(out, at, "WHILE ", test, " DO")?;
+            put_inner(out, at, body.as_slice())?;
+            put_line(out, at.level, "END_WHILE;")
         }
-        Stmt::Exit => put_line(out, level, "EXIT;"),
-        Stmt::Continue => put_line(out, level, "CONTINUE;"),
-        Stmt::Return => put_line(out, level, "RETURN;"),
+        Stmt::Exit => put_line(out, at.level, "EXIT;"),
+        Stmt::Continue => put_line(out, at.level, "CONTINUE;"),
+        Stmt::Return => put_line(out, at.level, "RETURN;"),
     }
 }
 
 /// An arm of an IF after its word and a blank.
 #[cycle(statements)]
-fn put_arm(
-    out: &mut Vec<u8>,
-    tree: &StProgram,
-    unit: &Pou,
-    level: usize,
-    word: &str,
-    arm: &Arm,
-) -> Result<(), NoMemory>
+fn put_arm(out: &mut Vec<u8>, at: Context<'_>, word: &str, arm: &Arm) -> Result<(), NoMemory>
     ensures { OnOk result (out.new.items ≡ out.old.items
-        ++ arm_text (names_in tree.now unit.now) arm.now word.now level) }
+        ++ arm_text (names_in at.entry.tree.now at.entry.unit.now) arm.now word.now at.entry.level) }
 {
-    put_head(out, tree, unit, level, word, &arm.test, " THEN")?;
-    put_body(out, tree, unit, deeper(level)?, arm.body.as_slice())
+    put_head(out, at, word, &arm.test, " THEN")?;
+    put_inner(out, at, arm.body.as_slice())
 }
 
 #[cycle(statements)]
-fn put_arms(
-    out: &mut Vec<u8>,
-    tree: &StProgram,
-    unit: &Pou,
-    level: usize,
-    arms: &[Arm],
-) -> Result<(), NoMemory>
+fn put_arms(out: &mut Vec<u8>, at: Context<'_>, arms: &[Arm]) -> Result<(), NoMemory>
     ensures { OnOk result (out.new.items ≡ out.old.items
-        ++ arms_text level (map (arm_text (names_in tree.now unit.now)) arms.now)) }
+        ++ arms_text at.entry.level (map (arm_text (names_in at.entry.tree.now at.entry.unit.now)) arms.now)) }
 {
     let [first, more @ ..] = arms else {
         return Ok(());
     };
-    put_arm(out, tree, unit, level, "IF ", first)?;
+    put_arm(out, at, "IF ", first)?;
     for arm in more {
-        put_arm(out, tree, unit, level, "ELSIF ", arm)?;
+        put_arm(out, at, "ELSIF ", arm)?;
     }
     Ok(())
 }
@@ -321,54 +291,42 @@ fn put_arms(
 #[cycle(statements)]
 fn put_cases(
     out: &mut Vec<u8>,
-    tree: &StProgram,
-    unit: &Pou,
-    level: usize,
+    at: Context<'_>,
     ty: StType,
     arms: &[CaseArm],
 ) -> Result<(), NoMemory>
-    ensures { OnOk result (out.new.items ≡ out.old.items
-        ++ flat_map (λ arm. arm ty level) (map (case_text (names_in tree.now unit.now)) arms.now)) }
+    ensures { let names = names_in at.entry.tree.now at.entry.unit.now in
+        OnOk result (out.new.items ≡ out.old.items
+        ++ flat_map (λ arm. arm ty at.entry.level) (map (case_text names) arms.now)) }
 {
     for arm in arms {
-        put_case(out, tree, unit, level, ty, arm)?;
+        put_case(out, at, ty, arm)?;
     }
     Ok(())
 }
 
 #[cycle(statements)]
-fn put_case(
-    out: &mut Vec<u8>,
-    tree: &StProgram,
-    unit: &Pou,
-    level: usize,
-    ty: StType,
-    arm: &CaseArm,
-) -> Result<(), NoMemory>
-    ensures { OnOk result (out.new.items ≡ out.old.items ++ case_text (names_in tree.now unit.now) arm.now ty level) }
+fn put_case(out: &mut Vec<u8>, at: Context<'_>, ty: StType, arm: &CaseArm) -> Result<(), NoMemory>
+    ensures { OnOk result (out.new.items ≡ out.old.items
+        ++ case_text (names_in at.entry.tree.now at.entry.unit.now) arm.now ty at.entry.level) }
 {
     let [first, more @ ..] = arm.labels.as_slice() else {
         return Ok(());
     };
-    let inner = deeper(level)?;
-    put_labels(out, inner, ty, *first, more)?;
-    put_body(out, tree, unit, deeper(inner)?, arm.body.as_slice())
+    let level = deeper(at.level)?;
+    put_labels(out, level, ty, *first, more)?;
+    put_inner(out, Context { level, ..at }, arm.body.as_slice())
 }
 
 #[cycle(statements)]
-fn put_else(
-    out: &mut Vec<u8>,
-    tree: &StProgram,
-    unit: &Pou,
-    level: usize,
-    other: &[Stmt],
-) -> Result<(), NoMemory>
-    ensures { OnOk result (out.new.items ≡ out.old.items
-        ++ else_text level (map (statement_text (names_in tree.now unit.now)) other.now)) }
+fn put_else(out: &mut Vec<u8>, at: Context<'_>, other: &[Stmt]) -> Result<(), NoMemory>
+    ensures { let names = names_in at.entry.tree.now at.entry.unit.now in
+        OnOk result (out.new.items ≡ out.old.items
+        ++ else_text at.entry.level (map (statement_text names) other.now)) }
 {
     if other.is_empty() {
         return Ok(());
     }
-    put_line(out, level, "ELSE")?;
-    put_body(out, tree, unit, deeper(level)?, other)
+    put_line(out, at.level, "ELSE")?;
+    put_inner(out, at, other)
 }

@@ -3,7 +3,7 @@ ghost use Rattle.std.specs.Prelude.{◌≡◌, ◌++◌, codes, flat_map, IfOk, 
 ghost use Rattle.st_tree.specs.Spelling.{line, local_text, section_text, unit_word, unit_text, spelling};
 
 use crate::global::put_globals;
-use crate::statement::{put_body, put_line};
+use crate::statement::{Context, put_body, put_line};
 use crate::text::{put, put_blanks, put_bytes};
 use crate::variable::put_type;
 use s7_base::NoMemory;
@@ -92,6 +92,11 @@ fn put_unit(out: &mut Vec<u8>, tree: &StProgram, unit: &Pou) -> Result<(), NoMem
     put_heading(out, unit)?;
     put_section(out, "VAR_IN_OUT", unit.formals.as_slice())?;
     put_section(out, "VAR_TEMP", unit.locals.as_slice())?;
-    put_body(out, tree, unit, 1, unit.body.as_slice())?;
+    let at = Context {
+        tree,
+        unit,
+        level: 1,
+    };
+    put_body(out, at, unit.body.as_slice())?;
     put_end(out, unit)
 }

@@ -9,26 +9,25 @@ use Rattle.st_printer.proofs.Pieces.{on_ok}
 use Rattle.st_printer.proofs.Statements.{while_text, case_whole, three, four}
 use Rattle.st_printer.proofs.statement.+statements.Goals as goal
 
-pub put_statement-returns-in_ok-put_body-in-While : goal.put_statement-returns-in_ok-put_body-in-While
-put_statement-returns-in_ok-put_body-in-While t c =
-    let names : Names = names_in c.args.tree.now c.args.unit.now in
+pub put_statement-returns-in_ok-put_inner-in-While : goal.put_statement-returns-in_ok-put_inner-in-While
+put_statement-returns-in_ok-put_inner-in-While t c =
+    let names : Names = names_in c.args.at.tree.now c.args.at.unit.now in
     let old : List ℕ = c.args.out.now.items in
-    let level : ℕ = c.args.level in
+    let level : ℕ = c.args.at.level in
     let a : List ℕ = line level (codes "WHILE " ++ expr_text names c.in-While.test ++ codes " DO") in
     let b : List ℕ = texts_at (level + 1) (map (statement_text names) c.in-While.body) in
     let d : List ℕ = line level (codes "END_WHILE;") in
-    let inner : c.put_body.new.out.items ≡ c.put_head-in-While.new.out.items ++ b =
-    c.in_ok-put_body-in-While.ensures ∙ ap (λ (n : ℕ). c.put_head-in-While.new.out.items ++ body_text names n c.as_slice-in-While.result.now) c.in_ok-deeper-in-While.ensures
-    ∙ ap (λ (body : List Stmt). c.put_head-in-While.new.out.items ++ body_text names (level + 1) body) c.as_slice-in-While.ensures in
+    let inner : c.put_inner.new.out.items ≡ c.put_head-in-While.new.out.items ++ b =
+    c.in_ok-put_inner-in-While.ensures ∙ ap (λ (body : List Stmt). c.put_head-in-While.new.out.items ++ body_text names (level + 1) body) c.as_slice-in-While.ensures in
     on_ok c.put_line-in-While.result
     (λ e. three old a b d _ _ _ c.in_ok-put_head-in-While.ensures inner e ∙ ap (λ (xs : List ℕ). old ++ xs) (sym (while_text names c.in-While.test c.in-While.body level) ∙ ap (λ (s : Stmt). statement_text names s level) (sym c.in-While.is)))
     c.put_line-in-While.ensures
 
 pub put_statement-returns-in_ok-put_else-in-Case : goal.put_statement-returns-in_ok-put_else-in-Case
 put_statement-returns-in_ok-put_else-in-Case t c =
-    let names : Names = names_in c.args.tree.now c.args.unit.now in
+    let names : Names = names_in c.args.at.tree.now c.args.at.unit.now in
     let old : List ℕ = c.args.out.now.items in
-    let level : ℕ = c.args.level in
+    let level : ℕ = c.args.at.level in
     let ty : StType = type_of names c.in-Case.selector in
     let a : List ℕ = line level (codes "CASE " ++ expr_text names c.in-Case.selector ++ codes " OF") in
     let b : List ℕ = flat_map (λ arm. arm ty level) (map (case_text names) c.in-Case.arms) in
