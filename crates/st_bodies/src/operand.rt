@@ -7,8 +7,8 @@ ghost use Rattle.st_bodies.specs.inner.BodyStates.{argument_of, binds, leads_to,
 
 use crate::body_state::{Argument, BodyState, Frame};
 use crate::expression::{
-    EndedExpression, boxed, is_value, of_apply, of_infix, of_literal, of_prefix,
-    of_select, of_shift, of_variable, prefix_level,
+    EndedExpression, boxed, is_value, of_apply, of_infix, of_literal, of_prefix, of_select,
+    of_shift, of_variable, prefix_level,
 };
 use crate::need::need_closed;
 use s7_base::NoMemory;

@@ -5,7 +5,7 @@ ghost use Rattle.st_rules.specs.Judged.{AreJudged, IsJudged, breaks_in, found_in
 ghost use Rattle.st_rules.specs.Statements.{action, area_write_of, arm, arm_of, arms_on, assignment_of, case_arm, case_arms_on, case_of, have_type, label_breaks, selector, selector_of, statement, statements, test, test_of, type_of_selector, while_of};
 ghost use Rattle.st_statements.specs.inner.Operands.{typed_of};
 
-use crate::expression::{Operand, Context, expression, operand_of, variable_on};
+use crate::expression::{Context, Operand, expression, operand_of, variable_on};
 use crate::invocation::invocation;
 use s7_base::{Break, Line, List, NoMemory, Reason, Width, note};
 use st_rules::expression::Typed;

@@ -8,8 +8,8 @@ use std::alloc::Global;
 use std::process::Abort;
 use std::test::Fail;
 use stl_instructions::instruction;
-use stl_mnemonics::mnemonic_named;
 use stl_lexer::tokens;
+use stl_mnemonics::mnemonic_named;
 use stl_statements::Mnemonic;
 use stl_tree::{Ar, Constant, RawName, RawOperand, RawPlace};
 
