@@ -51,7 +51,8 @@ pub fn low_dword(n: i64) -> u32
 }
 
 /// What a number leaves in a type.
-fn fit(ty: StType, n: i64) -> i64
+#[inline(always)]
+pub fn fit(ty: StType, n: i64) -> i64
     ensures { result ≡ fit ty n }
 {
     match ty {

@@ -1,12 +1,12 @@
 //! The state of a run: its memory, its registers and its activations.
-ghost use Rattle.std.specs.Prelude.{◌≡◌, ◌<◌, ◌-◌, length, map, slice_get, Ok, Err, IfOk, pos, vec_capacity, ℕ};
+ghost use Rattle.std.specs.Prelude.{◌≡◌, ◌<◌, ◌-◌, length, map, slice_get, Ok, Err, IfOk, MatchResult, pos, vec_capacity, ℕ};
 ghost use Rattle.memory_areas.specs.Memory.{IsActivation, Writes};
 ghost use Rattle.st_runner.specs.inner.View.{AreFrames, Changes, HasLocal, IsLocal, IsReachable, SameShape, IsSound, seen, state_of};
 ghost use Rattle.st_runner.specs.inner.Runnable.{AreGlobals};
 ghost use Rattle.st_tree.specs.declared.state.Reference.TheVariants as reference;
 ghost use Rattle.st_tree.specs.State.{locals_of, read_at, read_place, there, with_local, write_at, write_place};
 
-use crate::operators::{flag, is_set, low_byte, low_dword, low_word, typed};
+use crate::operators::{fit, is_set, low_byte, low_dword, low_word};
 use crate::registers::Registers;
 use memory_areas::{Memory, Place};
 use s7_base::{Fault, Reg};
@@ -29,19 +29,33 @@ pub struct State {
     pub spare: Vec<Activation>,
 }
 
-/// The value that a place in memory holds, read in a type.
+/// The number that a place in memory holds, read in a type.
+#[inline(always)]
+fn number_at(memory: &Memory, ty: StType, place: Place) -> Result<i64, Fault>
+    requires { IsActivation place.area }
+    ensures { MatchResult result (λ n. read_place ty place memory.now ≡ Ok (record { ty = ty; n = n }))
+        (λ fault. read_place ty place memory.now ≡ Err fault) }
+{
+    match ty {
+        StType::Bool => Ok(i64::from(memory.read_bit(place)?)),
+        StType::Byte => Ok(fit(ty, i64::from(memory.read_byte(place)?))),
+        StType::Word | StType::Int => Ok(fit(ty, i64::from(memory.read_word(place)?))),
+        StType::Dword | StType::Dint | StType::Lint => {
+            Ok(fit(ty, i64::from(memory.read_dword(place)?)))
+        }
+    }
+}
+
+/// The value that a place in memory holds, read in a type. Its number alone comes out of the tests, since a
+/// value that is moved takes its unused bytes with it.
 #[inline(always)]
 pub fn read_place(memory: &Memory, ty: StType, place: Place) -> Result<Value, Fault>
     requires { IsActivation place.area }
     ensures { result ≡ read_place ty place memory.now }
 {
-    match ty {
-        StType::Bool => Ok(flag(memory.read_bit(place)?)),
-        StType::Byte => Ok(typed(ty, i64::from(memory.read_byte(place)?))),
-        StType::Word | StType::Int => Ok(typed(ty, i64::from(memory.read_word(place)?))),
-        StType::Dword | StType::Dint | StType::Lint => {
-            Ok(typed(ty, i64::from(memory.read_dword(place)?)))
-        }
+    match number_at(memory, ty, place) {
+        Ok(n) => Ok(Value { ty, n }),
+        Err(fault) => Err(fault),
     }
 }
 
