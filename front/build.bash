@@ -11,7 +11,7 @@ program=$out/stl2st
 stamp=$out/stl2st.sums
 log=$out/build.log
 crate=$top/crates/stl2st
-first_build="40 minutes on four processors"
+first_build="an hour on four processors"
 
 # A source that every version of the program accepts.
 empty_block=$'ORGANIZATION_BLOCK OB 1\nBEGIN\nEND_ORGANIZATION_BLOCK'
