@@ -6,7 +6,7 @@ ghost use Rattle.memory_areas.specs.declared.sizes.TheConstants.{MOST_BLOCKS};
 ghost use Rattle.s7_base.specs.Answers.{Answers};
 ghost use Rattle.s7_base.specs.Broken.{first_of_all};
 ghost use Rattle.stl_rules.specs.Programs.{symbol_area, symbol_in};
-ghost use Rattle.stl_rules.specs.Stages.{names};
+ghost use Rattle.stl_rules.specs.Stages.{names as names_stage};
 ghost use Rattle.stl_rules.specs.Verdict.{resolved};
 ghost use Rattle.symbol_names.specs.inner.Kept.{block_kept, data_kept, symbol_kept};
 
@@ -34,7 +34,7 @@ fn parts_by(alloc: Global, names: &Names<'_>, raw: &RawProgram) -> Result<Parts,
     requires { names.now ≡ raw.now }
     ensures dbs { IfOk result (λ p. p.dbs ≡ filter_map (data_kept (is_none (slice_get raw.now.dbs MOST_BLOCKS)) raw.now.symbols) raw.now.dbs) }
     ensures blocks { IfOk result (λ p. p.blocks ≡ filter_map (block_kept raw.now) raw.now.blocks) }
-    ensures first { IfOk result (λ p. p.first ≡ first_of_all (names raw.now)) }
+    ensures first { IfOk result (λ p. p.first ≡ first_of_all (names_stage raw.now)) }
 {
     let mut first = None;
     note_symbols(alloc, names.symbols(), raw.symbols.as_slice(), &mut first)?;
@@ -57,7 +57,7 @@ fn parts_by(alloc: Global, names: &Names<'_>, raw: &RawProgram) -> Result<Parts,
 fn parts_of(alloc: Global, raw: &RawProgram) -> Result<Parts, NoMemory>
     ensures dbs { IfOk result (λ p. p.dbs ≡ filter_map (data_kept (is_none (slice_get raw.now.dbs MOST_BLOCKS)) raw.now.symbols) raw.now.dbs) }
     ensures blocks { IfOk result (λ p. p.blocks ≡ filter_map (block_kept raw.now) raw.now.blocks) }
-    ensures first { IfOk result (λ p. p.first ≡ first_of_all (names raw.now)) }
+    ensures first { IfOk result (λ p. p.first ≡ first_of_all (names_stage raw.now)) }
 {
     let names = Names::new(alloc, raw)?;
     parts_by(alloc, &names, raw)
