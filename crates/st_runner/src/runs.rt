@@ -12,8 +12,8 @@ use crate::state::State;
 use crate::steps::{advance, spend_call, spend_test};
 use st_tree::StProgram;
 
-/// What comes next once all that needs no unit is done. It is no call, and neither are `spent`, `advance` and
-/// `spend_test`, so that what comes next stays in registers from turn to turn of a loop.
+/// What comes next once all that needs no unit is done. It is no call, and neither is `spent`, so that what comes
+/// next is not copied behind a reference at each step.
 #[inline(always)]
 fn settled<'t>(
     tree: &'t StProgram,
