@@ -1,6 +1,7 @@
 -- Some call of a text is the first that lies on a cycle, or none does. A search from a unit comes to an
 -- end, since each step marks one more unit.
 use Rattle.std.proofs.Common.{◌≡◌, ◌⊎◌, ◌<◌, ◌≤◌, ◌+◌, ℕ, zero, suc, Bool, true, false, not, ◌&&◌, ◌||◌, ◌==◌, cond, List, [], ◌∷◌, length, get_or, slice_get, slice_set, nat_le, Option, Some, None, inl, inr, refl, sym, ap, subst, ◌∙◌, arith, eqb-true}
+use Rattle.std.specs.List.{list_all}
 use Rattle.std.proofs.lemmas.Bool.{leb-true, leb-false}
 use Rattle.std.proofs.lemmas.Option.{slice_get_cases, slice_get_within, slice_get-get_or}
 use Rattle.s7_base.specs.declared.reason.Line.{Line}
@@ -8,7 +9,7 @@ use Rattle.call_chains.proofs.Cycles.{considered, next_unit, first_of_units, non
 use Rattle.call_chains.proofs.Reached.{onward, reach_sound, one_less, decided}
 use Rattle.call_chains.specs.Chain.{Graph, Reaches, IsFirstCycle, call_in, call_at}
 use Rattle.call_chains.specs.Cycles.{Considers, IsFirstBefore}
-use Rattle.call_chains.specs.Search.{has, marks_after, unmarked, lead_to_seen, are_closed, IsSound, Decides}
+use Rattle.call_chains.specs.Search.{has, marks_after, unmarked, IsClosed, IsSound, Decides}
 use Rattle.call_chains.specs.declared.call.Call.{Call}
 
 -- Marks
@@ -35,6 +36,64 @@ none_marked : (graph : Graph) (i : ℕ) → i < length (no_marks graph) → get_
 none_marked [] i h e = absurd (omega (arith, h))
 none_marked (calls ∷ graph) zero h e = absurd cc
 none_marked (calls ∷ graph) (suc i) h e = none_marked graph i (omega (arith, h)) e
+
+-- Closed sets
+
+-- some calls call units alone that are seen
+abbrev lead_to_seen : ℕ → List Bool → List Call → Bool
+lead_to_seen from seen calls = list_all (λ (c : Call). has from seen c.callee) calls
+
+-- so do the calls of all seen units from unit i on
+abbrev are_closed : ℕ → List Bool → ℕ → Graph → Bool
+are_closed from seen i [] = true
+are_closed from seen i (calls ∷ graph) =
+    (not (has from seen i) || lead_to_seen from seen calls) && are_closed from seen (i + 1) graph
+
+lead_at : (from : ℕ) (seen : List Bool) (calls : List Call) (k : ℕ) (c : Call) → lead_to_seen from seen calls ≡ true → slice_get calls k ≡ Some c → has from seen c.callee ≡ true
+lead_at from seen [] k c h q = cc
+lead_at from seen (d ∷ calls) zero c h q =
+    let same : d ≡ c = cc in
+    let here : has from seen d.callee ≡ true = first (has from seen d.callee) (lead_to_seen from seen calls) h in
+    ap (λ (e : Call). has from seen e.callee) (sym same) ∙ here
+  where
+    first : (a b : Bool) → (a && b) ≡ true → a ≡ true
+    first true b e = refl
+    first false b e = e
+lead_at from seen (d ∷ calls) (suc k) c h q = lead_at from seen calls k c (second (has from seen d.callee) (lead_to_seen from seen calls) h) q
+  where
+    second : (a b : Bool) → (a && b) ≡ true → b ≡ true
+    second true b e = e
+    second false b e = cc
+
+closed_at : (from : ℕ) (seen : List Bool) (graph : Graph) (i j : ℕ) (calls : List Call) → are_closed from seen i graph ≡ true → has from seen (i + j) ≡ true
+    → slice_get graph j ≡ Some calls → lead_to_seen from seen calls ≡ true
+closed_at from seen [] i j calls h m q = cc
+closed_at from seen (cs ∷ graph) i zero calls h m q =
+    let same : cs ≡ calls = cc in
+    let here : has from seen i ≡ true = ap (has from seen) (omega arith) ∙ m in
+    ap (lead_to_seen from seen) (sym same) ∙ first (has from seen i) (lead_to_seen from seen cs) _ here h
+  where
+    first : (a b c : Bool) → a ≡ true → ((not a || b) && c) ≡ true → b ≡ true
+    first true true c e g = refl
+    first true false c e g = g
+    first false b c e g = cc
+closed_at from seen (cs ∷ graph) i (suc j) calls h m q =
+    let there : has from seen (i + 1 + j) ≡ true = ap (has from seen) (omega arith) ∙ m in
+    closed_at from seen graph (i + 1) j calls (second _ (are_closed from seen (i + 1) graph) h) there q
+  where
+    second : (a b : Bool) → (a && b) ≡ true → b ≡ true
+    second true b e = e
+    second false b e = cc
+
+zero_first : (i : ℕ) → 0 + i ≡ i
+zero_first i = omega arith
+
+are_followed : (graph : Graph) (from : ℕ) (seen : List Bool) → are_closed from seen 0 graph ≡ true → IsClosed graph from seen
+are_followed graph from seen h = λ i k c q m. by i k c m (slice_get graph i) refl q
+  where
+    by : (i k : ℕ) (c : Call) → has from seen i ≡ true → (u : Option (List Call)) → slice_get graph i ≡ u → call_in u k ≡ Some c → has from seen c.callee ≡ true
+    by i k c m None e q = cc
+    by i k c m (Some calls) e q = lead_at from seen calls k c (closed_at from seen graph 0 i calls h (ap (has from seen) (zero_first i) ∙ m) e) q
 
 -- The search
 
@@ -123,7 +182,7 @@ closed_from graph from =
     close (unmarked (no_marks graph)) graph from (no_marks graph) s (omega arith)
 
 reached_or_not : (graph : Graph) (from to : ℕ) → to < length graph → Reaches graph from to ⊎ (Reaches graph from to → ⊥)
-reached_or_not graph from to h = let c = closed_from graph from in by (has from c.seen to) (decided graph from to c.seen [] c.sound c.closed h)
+reached_or_not graph from to h = let c = closed_from graph from in by (has from c.seen to) (decided graph from to c.seen [] c.sound (are_followed graph from c.seen c.closed) h)
   where
     by : (t : Bool) → Decides (Reaches graph from to) t → Reaches graph from to ⊎ (Reaches graph from to → ⊥)
     by true d = inl d

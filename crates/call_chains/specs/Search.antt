@@ -1,7 +1,6 @@
 -- A search for the units that are reached from one.
-use Rattle.std.specs.Prelude.{◌≡◌, ℕ, suc, ◌+◌, ◌<◌, Bool, true, false, not, ◌&&◌, ◌||◌, ◌==◌, if◌then◌else◌, List, [], ◌∷◌, ◌++◌, length, get_or, slice_set}
-use Rattle.std.specs.List.{list_all}
-use Rattle.call_chains.specs.Chain.{Graph, Reaches}
+use Rattle.std.specs.Prelude.{◌≡◌, ◌⊎◌, ℕ, suc, ◌<◌, ◌≤◌, Bool, true, false, ◌||◌, ◌==◌, if◌then◌else◌, List, [], ◌∷◌, ◌++◌, length, get_or, slice_set, Some, Contains}
+use Rattle.call_chains.specs.Chain.{Graph, Reaches, call_at}
 use Rattle.call_chains.specs.declared.call.Call.{Call}
 
 -- a truth value says whether something holds
@@ -38,12 +37,17 @@ pub record IsSound (graph : Graph) (from : ℕ) (seen : List Bool) (work : List 
   pub marked : (i : ℕ) → i < length seen → get_or seen i true ≡ true → Reaches graph from i
   pub waiting : AllReached graph from work
 
--- some calls call units alone that are seen
-abbrev pub lead_to_seen : ℕ → List Bool → List Call → Bool
-lead_to_seen from seen calls = list_all (λ (c : Call). has from seen c.callee) calls
+-- what the calls of seen units lead to is seen, but for units that wait, and for one unit's calls from call n on
+abbrev pub AreFollowed : Graph → ℕ → List Bool → List ℕ → ℕ → ℕ → Type 0
+AreFollowed graph from seen work unit n = (i k : ℕ) (c : Call) → call_at graph i k ≡ Some c → has from seen i ≡ true
+    → ((i ≡ unit) × (n ≤ k)) ⊎ (Contains work i ⊎ (has from seen c.callee ≡ true))
 
--- so do the calls of all seen units from unit i on
-abbrev pub are_closed : ℕ → List Bool → ℕ → Graph → Bool
-are_closed from seen i [] = true
-are_closed from seen i (calls ∷ graph) =
-    (not (has from seen i) || lead_to_seen from seen calls) && are_closed from seen (i + 1) graph
+-- what the calls of seen units lead to is seen, but for units that wait
+abbrev pub AreLeft : Graph → ℕ → List Bool → List ℕ → Type 0
+AreLeft graph from seen work = (i k : ℕ) (c : Call) → call_at graph i k ≡ Some c → has from seen i ≡ true
+    → Contains work i ⊎ (has from seen c.callee ≡ true)
+
+-- what the calls of seen units lead to is seen
+abbrev pub IsClosed : Graph → ℕ → List Bool → Type 0
+IsClosed graph from seen = (i k : ℕ) (c : Call) → call_at graph i k ≡ Some c → has from seen i ≡ true
+    → has from seen c.callee ≡ true

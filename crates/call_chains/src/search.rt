@@ -1,7 +1,7 @@
 //! A search for the units that are reached from one.
-ghost use Rattle.std.specs.Prelude.{◌≡◌, ◌+◌, ◌<◌, ◌≤◌, [], ◌∷◌, true, false, length, replicate, IfOk, OnOk};
+ghost use Rattle.std.specs.Prelude.{◌≡◌, ◌+◌, ◌<◌, ◌≤◌, [], ◌∷◌, false, length, replicate, IfOk, OnOk};
 ghost use Rattle.call_chains.specs.Chain.{Reaches};
-ghost use Rattle.call_chains.specs.Search.{are_closed, has, lead_to_seen, marks_after, unmarked, work_after, Decides, IsSound};
+ghost use Rattle.call_chains.specs.Search.{AreFollowed, AreLeft, Decides, IsClosed, IsSound, has, marks_after, unmarked, work_after};
 
 use crate::call::Call;
 use s7_base::{List, NoMemory};
@@ -48,8 +48,10 @@ impl Search {
     fn visit(&mut self, graph: &[List<Call>], unit: usize) -> Result<(), NoMemory>
         requires sound { IsSound graph.now self.old.from self.old.seen.items self.old.work.items }
         requires reached { Reaches graph.now self.old.from unit }
+        requires followed { AreFollowed graph.now self.old.from self.old.seen.items self.old.work.items unit 0 }
         ensures from { OnOk result (self.new.from ≡ self.old.from) }
         ensures sound { OnOk result (IsSound graph.now self.new.from self.new.seen.items self.new.work.items) }
+        ensures followed { OnOk result (AreLeft graph.now self.new.from self.new.seen.items self.new.work.items) }
         ensures left { OnOk result (unmarked self.new.seen.items + length self.new.work.items
             ≤ unmarked self.old.seen.items + length self.old.work.items) }
     {
@@ -62,34 +64,18 @@ impl Search {
         Ok(())
     }
 
-    /// Looks at the calls of all units that wait.
+    /// Looks at the calls of all units that wait, and of those that come to wait.
     fn run(&mut self, graph: &[List<Call>]) -> Result<(), NoMemory>
         requires sound { IsSound graph.now self.old.from self.old.seen.items self.old.work.items }
+        requires followed { AreLeft graph.now self.old.from self.old.seen.items self.old.work.items }
         ensures from { OnOk result (self.new.from ≡ self.old.from) }
         ensures sound { OnOk result (IsSound graph.now self.new.from self.new.seen.items self.new.work.items) }
+        ensures closed { OnOk result (IsClosed graph.now self.new.from self.new.seen.items) }
     {
         while let Some(unit) = self.work.pop() {
             self.visit(graph, unit)?;
         }
         Ok(())
-    }
-
-    fn leads_to_seen(&self, calls: &[Call]) -> bool
-        ensures { result ≡ lead_to_seen self.now.from self.now.seen.items calls.now }
-    {
-        calls.iter().all(|call| self.has(call.callee as usize))
-    }
-
-    /// Whether the units that are seen call no others.
-    fn is_closed(&self, graph: &[List<Call>]) -> bool
-        ensures { result ≡ are_closed self.now.from self.now.seen.items 0 graph.now }
-    {
-        for (unit, calls) in graph.iter().enumerate() {
-            if self.has(unit) && !self.leads_to_seen(calls.as_slice()) {
-                return false;
-            }
-        }
-        true
     }
 
     fn new(alloc: Global, size: usize, from: usize) -> Result<Search, NoMemory>
@@ -105,8 +91,7 @@ impl Search {
     }
 }
 
-/// Whether a unit is reached from another by calls. A run sees all that are. That it has is looked at here, and
-/// not proved.
+/// Whether a unit is reached from another by calls.
 pub fn reaches(
     alloc: Global,
     graph: &[List<Call>],
@@ -118,8 +103,5 @@ pub fn reaches(
 {
     let mut search = Search::new(alloc, graph.len(), from)?;
     search.run(graph)?;
-    if search.is_closed(graph) {
-        return Ok(search.has(to));
-    }
-    Err(NoMemory)
+    Ok(search.has(to))
 }
