@@ -262,6 +262,7 @@ impl Memory {
     }
 
     /// The bit at a place, or the fault of the access.
+    #[inline(always)]
     pub fn read_bit(&self, place: Place) -> Result<bool, Fault>
         requires { IsActivation place.area }
         ensures { result ≡ read_bit place self.now }
@@ -271,6 +272,7 @@ impl Memory {
     }
 
     /// The byte at a place, or the fault of the access.
+    #[inline(always)]
     pub fn read_byte(&self, place: Place) -> Result<u8, Fault>
         requires { IsActivation place.area }
         ensures { result ≡ read_byte place self.now }
@@ -280,6 +282,7 @@ impl Memory {
     }
 
     /// The word that begins at a place, its first byte the high one, or the fault of the access.
+    #[inline(always)]
     pub fn read_word(&self, place: Place) -> Result<u16, Fault>
         requires { IsActivation place.area }
         ensures { result ≡ read_word place self.now }
@@ -289,6 +292,7 @@ impl Memory {
     }
 
     /// The double word that begins at a place, its first byte the highest, or the fault of the access.
+    #[inline(always)]
     pub fn read_dword(&self, place: Place) -> Result<u32, Fault>
         requires { IsActivation place.area }
         ensures { result ≡ read_dword place self.now }
@@ -320,6 +324,7 @@ impl Memory {
     }
 
     /// Writes one bit; a refused write leaves the memory as it was.
+    #[inline(always)]
     pub fn write_bit(&mut self, place: Place, value: bool) -> Result<(), Fault>
         requires { IsActivation place.area }
         ensures { Writes (write_bit place value self.old) result self.old self.new }
@@ -331,6 +336,7 @@ impl Memory {
     }
 
     /// Writes a byte; a refused write leaves the memory as it was.
+    #[inline(always)]
     pub fn write_byte(&mut self, place: Place, value: u8) -> Result<(), Fault>
         requires { IsActivation place.area }
         ensures { Writes (write_byte place value self.old) result self.old self.new }
@@ -341,6 +347,7 @@ impl Memory {
     }
 
     /// Writes a word into two bytes, the high one first; a refused write leaves the memory as it was.
+    #[inline(always)]
     pub fn write_word(&mut self, place: Place, value: u16) -> Result<(), Fault>
         requires { IsActivation place.area }
         ensures { Writes (write_word place value self.old) result self.old self.new }
@@ -352,6 +359,7 @@ impl Memory {
 
     /// Writes a double word into four bytes, the highest first; a refused write leaves the memory as it
     /// was.
+    #[inline(always)]
     pub fn write_dword(&mut self, place: Place, value: u32) -> Result<(), Fault>
         requires { IsActivation place.area }
         ensures { Writes (write_dword place value self.old) result self.old self.new }

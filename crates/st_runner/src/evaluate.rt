@@ -106,8 +106,9 @@ impl State {
         }
     }
 
-    /// A test is TRUE.
-    pub fn is_true(&self, globals: &[Located], test: &Expr) -> Result<bool, Fault>
+    /// A test that is no literal is TRUE. It stays a call, which a loop whose test is TRUE does without.
+    #[inline(never)]
+    fn is_found_true(&self, globals: &[Located], test: &Expr) -> Result<bool, Fault>
         requires running { IsRunning self.now }
         requires globals { AreGlobals globals.now }
         ensures { result ≡ and_then (value globals.now test.now (state_of self.now)) (λ v. Ok (is_set v)) }
@@ -119,7 +120,36 @@ impl State {
         Ok(is_set(v))
     }
 
+    /// A test is TRUE.
+    #[inline(always)]
+    pub fn is_true(&self, globals: &[Located], test: &Expr) -> Result<bool, Fault>
+        requires running { IsRunning self.now }
+        requires globals { AreGlobals globals.now }
+        ensures { result ≡ and_then (value globals.now test.now (state_of self.now)) (λ v. Ok (is_set v)) }
+    {
+        match test {
+            Expr::Literal(ty, n) => Ok(is_set(Value { ty: *ty, n: *n })),
+            _ => self.is_found_true(globals, test),
+        }
+    }
+
+    /// Assigns a value that is found by steps of its own. It stays a call, so that its operands take no
+    /// place where there are none.
+    #[inline(never)]
+    fn assign_found(&mut self, globals: &[Located], var: Var, e: &Expr) -> Result<(), Fault>
+        requires running { IsRunning self.old }
+        requires globals { AreGlobals globals.now }
+        ensures change { Changes (assigned globals.now var e.now (state_of self.old)) result
+            (state_of self.old) (state_of self.new) }
+        ensures sound { (l f : ℕ) → IsSound l f self.old → IsSound l f self.new }
+        ensures same { SameShape self.old self.new }
+    {
+        let v = self.value(globals, e)?;
+        self.write(globals, var, v)
+    }
+
     /// Assigns the value of an expression to a variable. A fault changes nothing.
+    #[inline(always)]
     pub fn assign(&mut self, globals: &[Located], var: Var, e: &Expr) -> Result<(), Fault>
         requires running { IsRunning self.old }
         requires globals { AreGlobals globals.now }
@@ -128,11 +158,10 @@ impl State {
         ensures sound { (l f : ℕ) → IsSound l f self.old → IsSound l f self.new }
         ensures same { SameShape self.old self.new }
     {
-        if let Some(v) = self.soon(globals, e) {
-            return self.write(globals, var, v);
+        match self.soon(globals, e) {
+            Some(v) => self.write(globals, var, v),
+            None => self.assign_found(globals, var, e),
         }
-        let v = self.value(globals, e)?;
-        self.write(globals, var, v)
     }
 
     /// Writes the value of an expression through a pointer. A fault changes nothing.

@@ -136,8 +136,8 @@ impl State {
         }
     }
 
-    /// Gives a variable a value. A fault changes nothing. It stays a call, whose value comes in registers.
-    #[inline(never)]
+    /// Gives a variable a value. A fault changes nothing.
+    #[inline(always)]
     pub fn write(&mut self, globals: &[Located], var: Var, v: Value) -> Result<(), Fault>
         requires running { IsRunning self.old }
         requires globals { AreGlobals globals.now }
