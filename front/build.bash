@@ -11,7 +11,7 @@ program=$out/stl2st
 stamp=$out/stl2st.sums
 log=$out/build.log
 crate=$top/crates/stl2st
-first_build="an hour on four processors"
+first_build="half an hour to an hour on four processors"
 
 # A source that every version of the program accepts.
 empty_block=$'ORGANIZATION_BLOCK OB 1\nBEGIN\nEND_ORGANIZATION_BLOCK'
@@ -198,7 +198,7 @@ install_program() {
 # Builds until the sources stayed the same throughout. A failed build leaves the former program.
 build() {
     local begun=$SECONDS sum
-    say "the program is $1: proving and building it takes about $first_build the first time, and less after a change; the log is $log"
+    say "the program is $1: proving and building it takes $first_build the first time, and less after a change; the log is $log"
     while sum=$(sources_sum); do
         if ! run_build; then
             say "not built; the last lines of $log are"

@@ -5,7 +5,7 @@ echo BLOCK > "$room/a.awl"
 
 front check a.awl
 gives "the first run builds" 0 accepted
-says "it says so" "the program is not built yet: proving and building it takes about an hour"
+says "it says so" "the program is not built yet: proving and building it takes half an hour to an hour"
 says "it says where the log is" "$repo/out/build.log"
 equal "two lines without a terminal" "$(wc -l < "$room/err")" 2
 front check a.awl
