@@ -6,7 +6,7 @@ use Rattle.std.proofs.lemmas.Option.{slice_get-get_or, slice_get_within}
 use Rattle.std.proofs.lemmas.List.{get_or-replicate, get_or-set_other}
 use Rattle.std.proofs.lemmas.List.Elements.{Contains-append_cases, Contains-append_left, Contains-append_right}
 use Rattle.call_chains.specs.Chain.{Graph, Reaches, call_in, call_at, follow, with_call}
-use Rattle.call_chains.specs.Search.{AllReached, AreFollowed, AreLeft, Decides, IsClosed, IsSound, has, marks_after, unmarked, work_after}
+use Rattle.call_chains.specs.Search.{AllReached, AreFollowed, Decides, Followed, IsClosed, IsClosedButFor, IsSound, has, marks_after, unmarked, work_after}
 use Rattle.call_chains.specs.declared.call.Call.{Call}
 
 -- Paths
@@ -128,10 +128,6 @@ met from i seen = by (has from seen i) refl
 as_before : (from i j : ℕ) (seen : List Bool) → j ≢ i → has from (slice_set seen i true) j ≡ has from seen j
 as_before from i j seen apart = ap (λ m. (j == from) || m) (get_or-set_other seen i j true true apart)
 
--- what one call leads to is seen, or its turn is still to come
-abbrev Followed : Graph → ℕ → List Bool → List ℕ → ℕ → ℕ → ℕ → ℕ → Call → Type 0
-Followed graph from seen work unit n i k c = ((i ≡ unit) × (n ≤ k)) ⊎ (Contains work i ⊎ (has from seen c.callee ≡ true))
-
 -- marks and units that wait, after a unit is met
 meets : (graph : Graph) (from unit n j : ℕ) (seen : List Bool) (work : List ℕ) → AreFollowed graph from seen work unit n
     → AreFollowed graph from (marks_after from j seen) (work_after from j seen work) unit n
@@ -148,14 +144,14 @@ meets graph from unit n j seen work f = by_test (has from seen j) refl
             by_unit true g = let same : i ≡ j = eqb-true i j g in absurd cc
             by_unit false g = as_before from j i seen (λ q. eqb-false i j g q) ∙ h
 
-        wider : (i k : ℕ) (c : Call) → Followed graph from seen work unit n i k c
-            → Followed graph from (slice_set seen j true) (work ++ j ∷ []) unit n i k c
+        wider : (i k : ℕ) (c : Call) → Followed from seen work unit n i k c
+            → Followed from (slice_set seen j true) (work ++ j ∷ []) unit n i k c
         wider i k c (inl here) = inl here
         wider i k c (inr (inl waiting)) = inr (inl (Contains-append_left work (j ∷ []) i waiting))
         wider i k c (inr (inr seen_now)) = inr (inr (seen_so c.callee seen_now))
 
         at : (i k : ℕ) (c : Call) → call_at graph i k ≡ Some c → has from (slice_set seen j true) i ≡ true → (t : Bool) → (i == j) ≡ t
-            → Followed graph from (slice_set seen j true) (work ++ j ∷ []) unit n i k c
+            → Followed from (slice_set seen j true) (work ++ j ∷ []) unit n i k c
         at i k c q h true g = inr (inl (Contains-append_right work (j ∷ []) i (0, omega arith, sym (eqb-true i j g))))
         at i k c q h false g = wider i k c (f i k c q (sym (as_before from j i seen (λ r. eqb-false i j g r)) ∙ h))
 
@@ -165,12 +161,12 @@ follows : (graph : Graph) (from unit n : ℕ) (c : Call) (seen : List Bool) (wor
 follows graph from unit n c seen work is_call f = λ i k d q h. next i k d q (meets graph from unit n c.callee seen work f i k d q h)
   where
     next : (i k : ℕ) (d : Call) → call_at graph i k ≡ Some d
-        → Followed graph from (marks_after from c.callee seen) (work_after from c.callee seen work) unit n i k d
-        → Followed graph from (marks_after from c.callee seen) (work_after from c.callee seen work) unit (n + 1) i k d
+        → Followed from (marks_after from c.callee seen) (work_after from c.callee seen work) unit n i k d
+        → Followed from (marks_after from c.callee seen) (work_after from c.callee seen work) unit (n + 1) i k d
     next i k d q (inr other) = inr other
     next i k d q (inl here) = by (k == n) refl
       where
-        by : (t : Bool) → (k == n) ≡ t → Followed graph from (marks_after from c.callee seen) (work_after from c.callee seen work) unit (n + 1) i k d
+        by : (t : Bool) → (k == n) ≡ t → Followed from (marks_after from c.callee seen) (work_after from c.callee seen work) unit (n + 1) i k d
         by true g =
             let at : call_at graph i k ≡ call_at graph unit n = rw (here.0, eqb-true k n g) refl in
             let some : Some d ≡ Some c = sym q ∙ at ∙ is_call in
@@ -186,13 +182,13 @@ followed_at graph from i k calls items d seen work h at same l f = follows graph
 
 -- a unit has no call at or behind its end
 pub all_followed : (graph : Graph) (from unit n : ℕ) (calls : List Call) (seen : List Bool) (work : List ℕ) → unit < length graph → calls ≡ get_or graph unit calls
-    → length calls ≤ n → AreFollowed graph from seen work unit n → AreLeft graph from seen work
+    → length calls ≤ n → AreFollowed graph from seen work unit n → IsClosedButFor graph from seen work
 all_followed graph from unit n calls seen work h at l f = λ i k c q m. by i k c q (f i k c q m)
   where
     there : slice_get graph unit ≡ Some calls
     there = slice_get-get_or graph unit calls h ∙ ap (λ (c : List Call). Some c) (sym at)
 
-    by : (i k : ℕ) (c : Call) → call_at graph i k ≡ Some c → Followed graph from seen work unit n i k c → Contains work i ⊎ (has from seen c.callee ≡ true)
+    by : (i k : ℕ) (c : Call) → call_at graph i k ≡ Some c → Followed from seen work unit n i k c → Contains work i ⊎ (has from seen c.callee ≡ true)
     by i k c q (inr other) = other
     by i k c q (inl here) =
         let call : call_in (slice_get graph unit) k ≡ Some c = subst (λ m. call_at graph m k ≡ Some c) here.0 q in
@@ -200,23 +196,23 @@ all_followed graph from unit n calls seen work h at l f = λ i k c q m. by i k c
         absurd (omega (arith, l, here.1, within))
 
 -- the unit that is taken is the only one whose calls are still to be looked at and that does not wait
-pub taken_follows : (graph : Graph) (from unit : ℕ) (seen : List Bool) (work : List ℕ) → AreLeft graph from seen (work ++ unit ∷ []) → AreFollowed graph from seen work unit 0
+pub taken_follows : (graph : Graph) (from unit : ℕ) (seen : List Bool) (work : List ℕ) → IsClosedButFor graph from seen (work ++ unit ∷ []) → AreFollowed graph from seen work unit 0
 taken_follows graph from unit seen work f = λ i k c q h. by i k c (f i k c q h)
   where
-    is_unit : (i k : ℕ) (c : Call) → Contains (unit ∷ []) i → Followed graph from seen work unit 0 i k c
+    is_unit : (i k : ℕ) (c : Call) → Contains (unit ∷ []) i → Followed from seen work unit 0 i k c
     is_unit i k c (zero, l, e) = inl (sym e, omega arith)
     is_unit i k c (suc m, l, e) = absurd (omega (arith, l))
 
-    waits_or : (i k : ℕ) (c : Call) → Contains work i ⊎ Contains (unit ∷ []) i → Followed graph from seen work unit 0 i k c
+    waits_or : (i k : ℕ) (c : Call) → Contains work i ⊎ Contains (unit ∷ []) i → Followed from seen work unit 0 i k c
     waits_or i k c (inl waiting) = inr (inl waiting)
     waits_or i k c (inr last) = is_unit i k c last
 
-    by : (i k : ℕ) (c : Call) → Contains (work ++ unit ∷ []) i ⊎ (has from seen c.callee ≡ true) → Followed graph from seen work unit 0 i k c
+    by : (i k : ℕ) (c : Call) → Contains (work ++ unit ∷ []) i ⊎ (has from seen c.callee ≡ true) → Followed from seen work unit 0 i k c
     by i k c (inl waiting) = waits_or i k c (Contains-append_cases work (unit ∷ []) i waiting)
     by i k c (inr seen_now) = inr (inr seen_now)
 
 -- where no unit is left to take, all calls of seen units are followed
-pub none_waits : (graph : Graph) (from n : ℕ) (seen : List Bool) (work rest : List ℕ) → n ≡ 0 → work ≡ rest ++ [] → rest ≡ take (n - 1) work → AreLeft graph from seen work
+pub none_waits : (graph : Graph) (from n : ℕ) (seen : List Bool) (work rest : List ℕ) → n ≡ 0 → work ≡ rest ++ [] → rest ≡ take (n - 1) work → IsClosedButFor graph from seen work
     → IsClosed graph from seen
 none_waits graph from n seen work rest none whole e f = λ i k c q h. by c i (f i k c q h)
   where
@@ -231,7 +227,7 @@ none_waits graph from n seen work rest none whole e f = λ i k c q h. by c i (f 
     by c i (inr seen_now) = seen_now
 
 -- at the start one unit alone is seen, and waits
-pub begins : (graph : Graph) (from : ℕ) → AreLeft graph from (replicate (length graph) false) (from ∷ [])
+pub begins : (graph : Graph) (from : ℕ) → IsClosedButFor graph from (replicate (length graph) false) (from ∷ [])
 begins graph from = λ i k c q h. inl (by i (i == from) refl (within i k c (slice_get graph i) refl q) h)
   where
     within : (i k : ℕ) (c : Call) (u : Option (List Call)) → slice_get graph i ≡ u → call_in u k ≡ Some c → i < length graph

@@ -37,14 +37,18 @@ pub record IsSound (graph : Graph) (from : ℕ) (seen : List Bool) (work : List 
   pub marked : (i : ℕ) → i < length seen → get_or seen i true ≡ true → Reaches graph from i
   pub waiting : AllReached graph from work
 
+-- what call k of unit i leads to is seen, or the unit waits, or the call is one of a unit's calls from call n on
+abbrev pub Followed : ℕ → List Bool → List ℕ → ℕ → ℕ → ℕ → ℕ → Call → Type 0
+Followed from seen work unit n i k c = ((i ≡ unit) × (n ≤ k)) ⊎ (Contains work i ⊎ (has from seen c.callee ≡ true))
+
 -- what the calls of seen units lead to is seen, but for units that wait, and for one unit's calls from call n on
 abbrev pub AreFollowed : Graph → ℕ → List Bool → List ℕ → ℕ → ℕ → Type 0
 AreFollowed graph from seen work unit n = (i k : ℕ) (c : Call) → call_at graph i k ≡ Some c → has from seen i ≡ true
-    → ((i ≡ unit) × (n ≤ k)) ⊎ (Contains work i ⊎ (has from seen c.callee ≡ true))
+    → Followed from seen work unit n i k c
 
 -- what the calls of seen units lead to is seen, but for units that wait
-abbrev pub AreLeft : Graph → ℕ → List Bool → List ℕ → Type 0
-AreLeft graph from seen work = (i k : ℕ) (c : Call) → call_at graph i k ≡ Some c → has from seen i ≡ true
+abbrev pub IsClosedButFor : Graph → ℕ → List Bool → List ℕ → Type 0
+IsClosedButFor graph from seen work = (i k : ℕ) (c : Call) → call_at graph i k ≡ Some c → has from seen i ≡ true
     → Contains work i ⊎ (has from seen c.callee ≡ true)
 
 -- what the calls of seen units lead to is seen

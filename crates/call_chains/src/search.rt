@@ -1,7 +1,7 @@
 //! A search for the units that are reached from one.
 ghost use Rattle.std.specs.Prelude.{◌≡◌, ◌+◌, ◌<◌, ◌≤◌, [], ◌∷◌, false, length, replicate, IfOk, OnOk};
 ghost use Rattle.call_chains.specs.Chain.{Reaches};
-ghost use Rattle.call_chains.specs.Search.{AreFollowed, AreLeft, Decides, IsClosed, IsSound, has, marks_after, unmarked, work_after};
+ghost use Rattle.call_chains.specs.Search.{AreFollowed, IsClosedButFor, Decides, IsClosed, IsSound, has, marks_after, unmarked, work_after};
 
 use crate::call::Call;
 use s7_base::{List, NoMemory};
@@ -51,7 +51,7 @@ impl Search {
         requires followed { AreFollowed graph.now self.old.from self.old.seen.items self.old.work.items unit 0 }
         ensures from { OnOk result (self.new.from ≡ self.old.from) }
         ensures sound { OnOk result (IsSound graph.now self.new.from self.new.seen.items self.new.work.items) }
-        ensures followed { OnOk result (AreLeft graph.now self.new.from self.new.seen.items self.new.work.items) }
+        ensures followed { OnOk result (IsClosedButFor graph.now self.new.from self.new.seen.items self.new.work.items) }
         ensures left { OnOk result (unmarked self.new.seen.items + length self.new.work.items
             ≤ unmarked self.old.seen.items + length self.old.work.items) }
     {
@@ -67,7 +67,7 @@ impl Search {
     /// Looks at the calls of all units that wait, and of those that come to wait.
     fn run(&mut self, graph: &[List<Call>]) -> Result<(), NoMemory>
         requires sound { IsSound graph.now self.old.from self.old.seen.items self.old.work.items }
-        requires followed { AreLeft graph.now self.old.from self.old.seen.items self.old.work.items }
+        requires followed { IsClosedButFor graph.now self.old.from self.old.seen.items self.old.work.items }
         ensures from { OnOk result (self.new.from ≡ self.old.from) }
         ensures sound { OnOk result (IsSound graph.now self.new.from self.new.seen.items self.new.work.items) }
         ensures closed { OnOk result (IsClosed graph.now self.new.from self.new.seen.items) }

@@ -1,5 +1,5 @@
 use Rattle.std.proofs.Common.{◌≡◌, ◌≤◌, ◌+◌, ◌∷◌, [], length, ap, ◌∙◌, subst, arith, length-append}
-use Rattle.call_chains.specs.Search.{AllReached, AreLeft, unmarked}
+use Rattle.call_chains.specs.Search.{AllReached, IsClosedButFor, unmarked}
 use Rattle.call_chains.proofs.Reached.{none_waits, taken, taken_follows}
 use Rattle.call_chains.proofs.search.Search.run.Goals as goal
 
@@ -26,7 +26,7 @@ loop-unit-smaller c =
 pub visit-requires-clause-followed : goal.visit-requires-clause-followed
 visit-requires-clause-followed c =
     taken_follows c.args.graph.now c.loop-unit.self.from c.in-Some.unit c.loop-unit.self.seen.items c.pop.new.self.items
-    (subst (AreLeft c.args.graph.now c.loop-unit.self.from c.loop-unit.self.seen.items) c.in-Some.ensures.items c.loop-unit.invariant.followed)
+    (subst (IsClosedButFor c.args.graph.now c.loop-unit.self.from c.loop-unit.self.seen.items) c.in-Some.ensures.items c.loop-unit.invariant.followed)
 
 pub returns-clause-closed : goal.returns-clause-closed
 returns-clause-closed c =

@@ -1,5 +1,5 @@
 use Rattle.std.proofs.Common.{◌≡◌, ◌+◌, length}
-use Rattle.call_chains.specs.Search.{AreLeft, IsSound, unmarked}
+use Rattle.call_chains.specs.Search.{IsClosedButFor, IsSound, unmarked}
 use Rattle.call_chains.proofs.search.Search.run.Given as goal
 
 -- a unit is taken, and each that comes to wait gets a mark
@@ -10,5 +10,5 @@ abbrev pub invariant-loop-unit : goal.invariant-loop-unit
 invariant-loop-unit l = record {
   from : l.self.from ≡ l.initial.self.from;
   sound : IsSound l.graph l.self.from l.self.seen.items l.self.work.items;
-  followed : AreLeft l.graph l.self.from l.self.seen.items l.self.work.items;
+  followed : IsClosedButFor l.graph l.self.from l.self.seen.items l.self.work.items;
 }
