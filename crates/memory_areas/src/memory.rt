@@ -1,4 +1,5 @@
-//! The memory itself: reads and writes by place.
+//! The memory itself: reads and writes by place. Each step of a run makes some, so they are put into the code
+//! of their callers, where the width is known and no place is copied on its way.
 ghost use Rattle.std.specs.Prelude.{ℕ, ◌≡◌, ◌+◌, ◌^◌, ◌<◌, ◌≤◌, All, [], length, get_or, slice_get, slice_set, Some, None, Ok, Err, is_some, MatchOption, MatchResult, IfOk, OnOk, map, replicate};
 ghost use Rattle.memory_areas.specs.Access.{aimed, bytes_wide, bytes_there, fault_of, unless, reached, put, read_bit, read_byte, read_word, read_dword, write_bit, write_byte, write_word, write_dword};
 ghost use Rattle.memory_areas.specs.Areas.{AreBlocks, Ascend, IsMemoryOf, block_of, bytes_in, bytes_of, cleared, fresh, no_locals, numbers_of, replaced, with_areas};
