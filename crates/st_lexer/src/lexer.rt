@@ -1,10 +1,12 @@
-//! Cuts a text into pieces, and keeps those that are tokens.
-ghost use Rattle.std.specs.Prelude.{◌≡◌, ◌≤◌, ◌+◌, ◌++◌, ◌&&◌, ◌==◌, length, drop, take, false, IfSome, IfOk, OnOk, option_map};
+//! Cuts a text into pieces, and keeps those that are tokens: where they stand in the text first, so that
+//! one bad token costs no copies.
+ghost use Rattle.std.specs.Prelude.{◌≡◌, ◌≤◌, ◌+◌, ◌++◌, ◌&&◌, ◌==◌, length, drop, take, map, false, Ok, Err, IfSome, IfOk, OnOk, option_map};
 ghost use Rattle.s7_base.specs.Tokens.{begins_with, line_size, line_at_end};
-ghost use Rattle.s7_base.specs.Answers.{Answers};
+ghost use Rattle.s7_base.specs.Answers.{Answers, IfRefused};
+ghost use Rattle.s7_base.specs.declared.reason.Rejection.TheVariants.{Refused};
 ghost use Rattle.st_lexer.specs.Direct.{direct_at};
 ghost use Rattle.st_lexer.specs.Literals.{type_at, base_at, literal_at};
-ghost use Rattle.st_lexer.specs.Pieces.{view, cut_view};
+ghost use Rattle.st_lexer.specs.Pieces.{view, cut_view, token_seen};
 ghost use Rattle.st_lexer.specs.StTokens.{is_blank, is_letter, is_sign, is_double_sign, comment_size, sign_piece, mark_piece, ranged_piece, number_piece, word_piece, direct_piece, other_piece, piece_at, piece_size, line_behind, token_of, cut_from, is_great, has_text, begins_with_bracket, great_from, first_bad, tokens_of, gap};
 ghost use Rattle.st_lexer.specs.TokenGrammar.{line_past};
 ghost use Rattle.st_tree.specs.declared.token.StKind.TheVariants as sort;
@@ -27,10 +29,20 @@ pub enum Piece {
     Token(StKind, usize),
 }
 
+/// A token where it stands in a text.
+#[derive(Clone, Copy)]
+pub struct Lexeme<'t> {
+    pub kind: StKind,
+
+    /// Its characters, a part of the text.
+    pub text: &'t [u8],
+    pub line: Line,
+}
+
 /// The tokens up to the end of a text or to where no piece stands, and the line of that place.
 #[derive(Drop)]
-pub struct Cut {
-    pub tokens: List<StToken>,
+pub struct Cut<'t> {
+    pub tokens: Vec<Lexeme<'t>>,
     pub bad: Option<Line>,
 }
 
@@ -214,31 +226,31 @@ fn line_past(start: u32, bytes: &[u8]) -> u32
 }
 
 /// Keeps the token that a piece at the front of `bytes` is, if it is one.
-fn keep_token(
-    alloc: Global,
-    tokens: &mut List<StToken>,
+fn keep_token<'t>(
+    tokens: &mut Vec<Lexeme<'t>>,
     piece: Piece,
-    bytes: &[u8],
+    bytes: &'t [u8],
     line: u32,
 ) -> Result<(), NoMemory>
-    ensures { OnOk result (tokens.new ≡ tokens.old ++ token_of (view piece) bytes.now line) }
+    ensures { OnOk result (map token_seen tokens.new.items
+        ≡ map token_seen tokens.old.items ++ token_of (view piece) bytes.now line) }
 {
     let Piece::Token(kind, size) = piece else {
         return Ok(());
     };
-    let text = List::from_vec(Vec::from_slice(alloc, front_of(bytes, size))?);
-    tokens.push(StToken {
+    tokens.push(Lexeme {
         kind,
-        text,
+        text: front_of(bytes, size),
         line: Line(line),
-    })
+    })?;
+    Ok(())
 }
 
 /// Cuts a text up to its end or to where no piece stands.
-fn cut_text(alloc: Global, bytes: &[u8]) -> Result<Cut, NoMemory>
+fn cut_text<'t>(alloc: Global, bytes: &'t [u8]) -> Result<Cut<'t>, NoMemory>
     ensures { IfOk result (λ cut. cut_view cut ≡ cut_from 0 1 bytes.now) }
 {
-    let mut tokens = List::new(alloc);
+    let mut tokens = Vec::new(alloc);
     let mut rest = bytes;
     let mut line = 1;
     while !rest.is_empty() {
@@ -249,7 +261,7 @@ fn cut_text(alloc: Global, bytes: &[u8]) -> Result<Cut, NoMemory>
             });
         };
         let size = size_of(piece);
-        keep_token(alloc, &mut tokens, piece, rest, line)?;
+        keep_token(&mut tokens, piece, rest, line)?;
         line = line_past(line, front_of(rest, size));
         rest = rest_after(rest, size);
     }
@@ -267,23 +279,23 @@ fn is_great_literal(text: &[u8]) -> bool
 }
 
 /// The token is a literal outside its type's range.
-fn is_great(token: &StToken) -> bool
-    ensures { result ≡ is_great token.now.kind (literal_at token.now.text) }
+fn is_great(token: &Lexeme) -> bool
+    ensures { result ≡ is_great token.now.kind (literal_at token.now.text.now) }
 {
     match token.kind {
-        StKind::Literal => is_great_literal(token.text.as_slice()),
+        StKind::Literal => is_great_literal(token.text),
         _ => false,
     }
 }
 
-fn has_text(text: &[u8], token: &StToken) -> bool
-    ensures { result ≡ has_text text.now token.now }
+fn has_text(text: &[u8], token: &Lexeme) -> bool
+    ensures { result ≡ has_text text.now (token_seen token.now) }
 {
-    token.text.as_slice() == text
+    token.text == text
 }
 
-fn begins_with_bracket(tokens: &[StToken]) -> bool
-    ensures { result ≡ begins_with_bracket tokens.now }
+fn begins_with_bracket(tokens: &[Lexeme]) -> bool
+    ensures { result ≡ begins_with_bracket (map token_seen tokens.now) }
 {
     match tokens {
         [first, ..] => has_text(b"(", first),
@@ -292,8 +304,8 @@ fn begins_with_bracket(tokens: &[StToken]) -> bool
 }
 
 /// The line of the first decimal that is too great where it stands.
-fn great_line(tokens: &[StToken]) -> Option<Line>
-    ensures { result ≡ great_from false tokens.now }
+fn great_line(tokens: &[Lexeme]) -> Option<Line>
+    ensures { result ≡ great_from false (map token_seen tokens.now) }
 {
     let mut behind_dots = false;
     let mut rest = tokens;
@@ -314,15 +326,39 @@ fn first_bad(great: Option<Line>, place: Option<Line>) -> Option<Line>
     great.or(place)
 }
 
-/// The tokens of a text, or the line of its first bad token.
-pub fn st_tokens(alloc: Global, bytes: &[u8]) -> Result<List<StToken>, Rejection>
-    ensures { Answers result (tokens_of bytes.now) }
+/// The tokens of a text where they stand in it, or the line of its first bad token.
+pub fn lexemes<'t>(alloc: Global, bytes: &'t [u8]) -> Result<Vec<Lexeme<'t>>, Rejection>
+    ensures tokens { IfOk result (λ found. tokens_of bytes.now ≡ Ok (map token_seen found.items)) }
+    ensures refused { IfRefused result (λ line reason. tokens_of bytes.now ≡ Err (Refused line reason)) }
 {
     let Cut { tokens, bad } = cut_text(alloc, bytes)?;
     match first_bad(great_line(tokens.as_slice()), bad) {
         Some(line) => Err(Rejection::Refused(line, Reason::BadToken)),
         None => Ok(tokens),
     }
+}
+
+/// The tokens with their own characters.
+fn copies(alloc: Global, lexemes: &[Lexeme]) -> Result<List<StToken>, NoMemory>
+    ensures { IfOk result (λ tokens. tokens ≡ map token_seen lexemes.now) }
+{
+    let mut tokens = List::new(alloc);
+    for lexeme in lexemes {
+        tokens.push(StToken {
+            kind: lexeme.kind,
+            text: List::from_vec(Vec::from_slice(alloc, lexeme.text)?),
+            line: lexeme.line,
+        })?;
+    }
+    Ok(tokens)
+}
+
+/// The tokens of a text, or the line of its first bad token.
+pub fn st_tokens(alloc: Global, bytes: &[u8]) -> Result<List<StToken>, Rejection>
+    ensures { Answers result (tokens_of bytes.now) }
+{
+    let found = lexemes(alloc, bytes)?;
+    Ok(copies(alloc, found.as_slice())?)
 }
 
 /// The line of the end of a text.

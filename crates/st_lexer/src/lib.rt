@@ -7,7 +7,7 @@
 #![tactic(auto)]
 
 pub use direct::{Direct, direct_at};
-pub use lexer::{end_line, st_tokens};
+pub use lexer::{Lexeme, end_line, lexemes, st_tokens};
 pub use literal::{Literal, is_in_range, literal_at, literal_to, type_named};
 pub use number::{Base, Number, base_at, begins_with_digit};
 pub use s7_base::{front_of, is_same_word, rest_after};

@@ -1,7 +1,7 @@
 -- What the judgement of a text's tokens says of the judgement of the text.
 use Rattle.std.proofs.Common.{◌≡◌, ℕ, List, Some, Result, Ok, Err, ap, subst, ◌∙◌}
 use Rattle.std.specs.Prelude.{option_map}
-use Rattle.s7_base.specs.Answers.{Answers, IfRefused}
+use Rattle.s7_base.specs.Answers.{IfRefused}
 use Rattle.s7_base.specs.Tokens.{line_at_end}
 use Rattle.s7_base.specs.declared.reason.Line.{Line}
 use Rattle.s7_base.specs.declared.reason.Reason.{Reason}
@@ -32,9 +32,10 @@ read_as bytes tokens end text found at h =
     ∙ has_tree (judge_tokens start (all_lined tokens (line_at_end bytes))) text (subst (λ (line : Line). HasText (judge_tokens start (all_lined tokens line)) text) at h)
 
 -- what refuses a text's tokens refuses the text
-pub bad_tokens : (bytes : List ℕ) (refused : Rejection) → Answers {X = List StToken} (Err refused) (tokens_of bytes) → IfRefused {X = RawSt} (Err refused) (IsJudged bytes)
-bad_tokens bytes (Refused line why) h = ap (verdict_on bytes) h
-bad_tokens bytes NoMemory h = tt
+pub bad_tokens : (X : Type 0) (bytes : List ℕ) (refused : Rejection)
+    → IfRefused {X = X} (Err refused) (λ line why. tokens_of bytes ≡ Err (Refused line why)) → IfRefused {X = RawSt} (Err refused) (IsJudged bytes)
+bad_tokens X bytes (Refused line why) h = ap (verdict_on bytes) h
+bad_tokens X bytes NoMemory h = tt
 
 -- and so does what their judgement refuses
 pub refused_as : (bytes : List ℕ) (tokens : List StToken) (end : Line) (refused : Rejection) → tokens_of bytes ≡ Ok tokens → end ≡ line_at_end bytes

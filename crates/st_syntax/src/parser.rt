@@ -1,5 +1,5 @@
 //! Judges the syntax of a text: its tree before names are looked up, or its first wrong token.
-ghost use Rattle.std.specs.Prelude.{◌≡◌, nat_lt, Some, Err, IfOk, option_map};
+ghost use Rattle.std.specs.Prelude.{◌≡◌, nat_lt, map, Some, Err, IfOk, option_map};
 ghost use Rattle.s7_base.specs.declared.reason.Rejection.TheVariants.{Refused};
 ghost use Rattle.s7_base.specs.Answers.{IfRefused};
 ghost use Rattle.st_grammar.specs.inner.Judge.{
@@ -13,6 +13,7 @@ ghost use Rattle.st_grammar.specs.inner.Judge.{
 };
 ghost use Rattle.st_grammar.specs.Kinds.{kind_of};
 ghost use Rattle.st_grammar.specs.Levels.{deepest};
+ghost use Rattle.st_lexer.specs.Pieces.{token_seen};
 ghost use Rattle.st_syntax.specs.declared.state.State.TheVariants as state;
 ghost use Rattle.st_grammar.specs.Syntax.{all_lined};
 ghost use Rattle.st_syntax.specs.inner.Seen.{leads_to, seen, HasText, JudgedIs};
@@ -23,7 +24,7 @@ use crate::unit::next;
 use s7_base::{Line, NoMemory, Reason, Rejection};
 use st_bodies::{is_deep_at, step};
 use st_grammar::{Fixed, Kind};
-use st_lexer::{StToken, end_line, rest_after, st_tokens};
+use st_lexer::{Lexeme, end_line, lexemes, rest_after};
 use st_tree::RawSt;
 use st_words::kind_of;
 use std::alloc::Global;
@@ -78,9 +79,9 @@ fn advance(alloc: Global, state: &mut State, kind: Kind, line: Line) -> Option<R
     }
 }
 
-fn advance_token(alloc: Global, state: &mut State, token: &StToken) -> Option<Rejection>
+fn advance_token(alloc: Global, state: &mut State, token: &Lexeme) -> Option<Rejection>
     ensures { JudgedIs (seen state.new) result
-        (judged (after_token (seen state.old) (kind_of token.now)) token.now.line) }
+        (judged (after_token (seen state.old) (kind_of (token_seen token.now))) token.now.line) }
 {
     match kind_of(alloc, token) {
         Ok(kind) => advance(alloc, state, kind, token.line),
@@ -92,10 +93,11 @@ fn advance_token(alloc: Global, state: &mut State, token: &StToken) -> Option<Re
 fn judge_tokens(
     alloc: Global,
     state: &mut State,
-    tokens: &[StToken],
+    tokens: &[Lexeme],
     end: Line,
 ) -> Option<Rejection>
-    ensures { JudgedIs (seen state.new) result (judge_tokens (seen state.old) (all_lined tokens.now end)) }
+    ensures { JudgedIs (seen state.new) result
+        (judge_tokens (seen state.old) (all_lined (map token_seen tokens.now) end)) }
 {
     let mut rest = tokens;
     while let [first, ..] = rest {
@@ -136,11 +138,11 @@ fn finish(state: State) -> Option<TextSoFar>
 }
 
 /// The whole text of these tokens, or why it is refused.
-fn whole(alloc: Global, tokens: &[StToken], end: Line) -> Result<TextSoFar, Rejection>
-    ensures text { IfOk result
-        (λ text. HasText (judge_tokens (seen state.Start) (all_lined tokens.now end)) (text_so_far_of text)) }
-    ensures refused { IfRefused result
-        (λ line reason. judge_tokens (seen state.Start) (all_lined tokens.now end) ≡ Err (Refused line reason)) }
+fn whole(alloc: Global, tokens: &[Lexeme], end: Line) -> Result<TextSoFar, Rejection>
+    ensures text { IfOk result (λ text. HasText
+        (judge_tokens (seen state.Start) (all_lined (map token_seen tokens.now) end)) (text_so_far_of text)) }
+    ensures refused { IfRefused result (λ line reason.
+        judge_tokens (seen state.Start) (all_lined (map token_seen tokens.now) end) ≡ Err (Refused line reason)) }
 {
     let mut state = State::Start;
     let refusal = judge_tokens(alloc, &mut state, tokens, end);
@@ -160,7 +162,7 @@ pub fn syntax(alloc: Global, bytes: &[u8]) -> Result<RawSt, Rejection>
     ensures tree { IfOk result (λ raw. tree_at (verdict bytes.now) ≡ Some raw) }
     ensures refused { IfRefused result (λ line reason. verdict bytes.now ≡ Err (Refused line reason)) }
 {
-    let tokens = match st_tokens(alloc, bytes) {
+    let tokens = match lexemes(alloc, bytes) {
         Ok(tokens) => tokens,
         Err(refused) => return Err(refused),
     };

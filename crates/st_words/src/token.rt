@@ -3,12 +3,13 @@ ghost use Rattle.std.specs.Prelude.{◌≡◌, IfOk};
 ghost use Rattle.st_grammar.specs.Kinds.{conversion_between, conversion_of_types, conversion_named, size_before_line, kind_of_word, truth, name_kind, word_kind, sign_kind, direct_kind, are_two_digits, typed_kind, decimal_kind, literal_kind, number_kind, word_named, sign_named, text_kind, kind_of};
 ghost use Rattle.st_lexer.specs.Literals.{literal_at, base_at, signed};
 ghost use Rattle.st_lexer.specs.Direct.{direct_of};
+ghost use Rattle.st_lexer.specs.Pieces.{token_seen};
 
 use crate::words::{sign_named, word_named};
 use s7_base::{Line, List, NoMemory};
 use st_grammar::{Fixed, Function, Kind, Literal, OneOperand, Word};
 use st_lexer::{
-    Base, Literal as Found, StKind, StToken, base_at, begins_with_digit, direct_at, front_of,
+    Base, Lexeme, Literal as Found, StKind, base_at, begins_with_digit, direct_at, front_of,
     is_in_range, is_same_word, literal_to, rest_after, type_named,
 };
 use st_tree::{BinaryOp, RawVar, StType};
@@ -171,11 +172,11 @@ fn number_kind(text: &[u8]) -> Kind
     }
 }
 
-/// What a token stands for in the grammar.
-pub fn kind_of(alloc: Global, token: &StToken) -> Result<Kind, NoMemory>
-    ensures { IfOk result (λ kind. kind ≡ kind_of token.now) }
+/// What a token of a text stands for in the grammar.
+pub fn kind_of(alloc: Global, token: &Lexeme) -> Result<Kind, NoMemory>
+    ensures { IfOk result (λ kind. kind ≡ kind_of (token_seen token.now)) }
 {
-    let text = token.text.as_slice();
+    let text = token.text;
     match token.kind {
         StKind::Word => word_kind(alloc, text, token.line),
         StKind::Direct => Ok(direct_kind(text, token.line)),

@@ -1,12 +1,13 @@
-use Rattle.std.proofs.Common.{◌≡◌, length}
+use Rattle.std.proofs.Common.{◌≡◌, length, map}
 use Rattle.st_grammar.specs.inner.Judge.{judge_tokens}
+use Rattle.st_lexer.specs.Pieces.{token_seen}
 use Rattle.st_syntax.specs.inner.Seen.{seen}
 use Rattle.st_grammar.specs.Syntax.{all_lined}
 use Rattle.st_syntax.proofs.parser.judge_tokens.Given as goal
 
 -- the judgement of the rest is that of all
 abbrev pub invariant-loop-rest : goal.invariant-loop-rest
-invariant-loop-rest l = judge_tokens (seen l.state) (all_lined l.rest l.end) ≡ judge_tokens (seen l.initial.state) (all_lined l.tokens l.end)
+invariant-loop-rest l = judge_tokens (seen l.state) (all_lined (map token_seen l.rest) l.end) ≡ judge_tokens (seen l.initial.state) (all_lined (map token_seen l.tokens) l.end)
 
 abbrev pub decreases-loop-rest : goal.decreases-loop-rest
 decreases-loop-rest l = length l.rest

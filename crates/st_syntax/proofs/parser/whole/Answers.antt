@@ -1,4 +1,4 @@
-use Rattle.std.proofs.Common.{◌≡◌, Option, Ok, sym, ap, subst, ◌∙◌}
+use Rattle.std.proofs.Common.{◌≡◌, Option, Ok, map, sym, ap, subst, ◌∙◌}
 use Rattle.std.specs.Prelude.{option_map}
 use Rattle.s7_base.specs.declared.reason.Rejection.{Rejection}
 use Rattle.st_grammar.proofs.Ends.{not_over}
@@ -7,13 +7,15 @@ use Rattle.st_grammar.specs.inner.Judge.{judge_tokens}
 use Rattle.st_syntax.specs.inner.Seen.{JudgedIs, seen}
 use Rattle.st_grammar.specs.Syntax.{all_lined}
 use Rattle.st_syntax.specs.inner.Views.{text_so_far_of}
+use Rattle.st_lexer.specs.Pieces.{token_seen}
 use Rattle.st_syntax.specs.declared.state.State.TheVariants as state
 
 pub unreachable-requires : goal.unreachable-requires
 unfolding seen
 unreachable-requires c =
-    let given = judge_tokens (seen state.Start) (all_lined c.args.tokens.now c.args.end) in
+    let tokens = map token_seen c.args.tokens.now in
+    let given = judge_tokens (seen state.Start) (all_lined tokens c.args.end) in
     let at = seen c.judge_tokens-refusal.new.state in
     let good : given ≡ Ok at = subst (λ (r : Option Rejection). JudgedIs at r given) c.in_default.is c.judge_tokens-refusal.ensures in
-    not_over c.args.tokens.now c.args.end at good
+    not_over tokens c.args.end at good
     (sym c.finish-text.ensures ∙ ap (option_map text_so_far_of) c.in-None.is)
