@@ -83,8 +83,8 @@ fn choose_labelled<'t>(
     }
 }
 
-/// Does a statement up to where it needs a unit. It is no call, and neither is `step`, so that what comes
-/// next is not copied on its way.
+/// Does a statement up to where it needs a unit. It is no call, and neither are `step`, `advance` and
+/// `spend_test`, so that what comes next is not copied on its way.
 #[inline(always)]
 pub fn statement<'t>(
     tree: &'t StProgram,
@@ -165,6 +165,7 @@ fn step<'t>(tree: &'t StProgram, work: &mut Vec<Frame<'t>>, state: &mut State) -
 }
 
 /// Does what needs no unit, up to where a unit is needed or the run has ended.
+#[inline(always)]
 pub fn advance<'t>(tree: &'t StProgram, work: &mut Vec<Frame<'t>>, state: &mut State) -> At<'t>
     requires globals { AreGlobals tree.now.globals }
     requires ready { IsReady tree.now (vec_capacity work.old) work.old.items Work state.old }
@@ -182,6 +183,7 @@ pub fn advance<'t>(tree: &'t StProgram, work: &mut Vec<Frame<'t>>, state: &mut S
 }
 
 /// Spends a unit on the test of a loop.
+#[inline(always)]
 pub fn spend_test<'t>(
     tree: &'t StProgram,
     test: &'t Expr,
