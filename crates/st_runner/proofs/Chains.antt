@@ -2,7 +2,7 @@
 use Rattle.std.proofs.Common.{◌≡◌, ℕ, zero, suc, ◌+◌, ◌*◌, ◌<◌, ◌≤◌, max, List, [], ◌∷◌, map, Option, Some, None, refl, sym, ap, subst, arith}
 use Rattle.std.specs.Prelude.{slice_get}
 use Rattle.memory_areas.specs.declared.sizes.TheConstants.{ACTIVATIONS}
-use Rattle.st_runner.specs.inner.Costs.{Costs, arm_most, body_most, case_most, most}
+use Rattle.st_runner.specs.inner.Costs.{Costs, arm_most, body_most, case_most, most, most_step}
 use Rattle.st_tree.specs.Depth.{greatest}
 use Rattle.st_runner.specs.inner.Measures.{depth_costs, stack_costs}
 use Rattle.st_runner.specs.inner.Runnable.{IsRunnableUnit, nesting_costs}
@@ -14,8 +14,10 @@ use Rattle.st_tree.specs.declared.program.Arm.{Arm}
 use Rattle.st_tree.specs.declared.program.CaseArm.{CaseArm}
 use Rattle.st_tree.specs.declared.program.Pou.{Pou}
 use Rattle.st_tree.specs.declared.program.StProgram.{StProgram}
-use Rattle.st_tree.specs.declared.program.Stmt.{Stmt}
-use Rattle.st_runner.proofs.CostEquations.{most_area_write, most_arm, most_assign, most_case, most_case_arm, most_continue, most_exit, most_if, most_invoke, most_return, most_while}
+use Rattle.st_tree.specs.declared.program.Stmt.{Stmt, map-Stmt, roll-Stmt}
+use Rattle.st_tree.specs.declared.program.Stmt.TheOpen as S
+use Rattle.st_tree.specs.declared.program.Stmt.TheVariants as stmt
+use Rattle.st_runner.proofs.Costs.{most_arm, most_case_arm, most_stmt}
 use Rattle.st_tree.proofs.Induction.{Each, InArm, InCase, StmtSteps, every_body}
 
 -- three measures of one statement that are related at its parts are related
@@ -26,8 +28,15 @@ module _ (p q r : Costs) (R : ℕ → ℕ → ℕ → Type 0) (none : R 0 0 0) (
   P x = R (most p x) (most q x) (most r x)
 
   -- the same of equal measures
-  opened : (a b c x y z : ℕ) → a ≡ x → b ≡ y → c ≡ z → R x y z → R a b c
-  opened a b c x y z e f g h = subst (λ n. R n b c) (sym e) (subst (λ n. R x n c) (sym f) (subst (λ n. R x y n) (sym g) h))
+  equal : (a b c x y z : ℕ) → a ≡ x → b ≡ y → c ≡ z → R x y z → R a b c
+  equal a b c x y z e f g h = subst (λ n. R n b c) (sym e) (subst (λ n. R x n c) (sym f) (subst (λ n. R x y n) (sym g) h))
+
+  -- the measure of one layer of a statement
+  abbrev layer : Costs → S.Stmt-F Stmt Arm CaseArm → ℕ
+  layer k y = most_step k (map-Stmt Stmt Arm CaseArm ℕ ℕ ℕ (most k) (arm_most k) (case_most k) y)
+
+  opened : {x : Stmt} (y : S.Stmt-F Stmt Arm CaseArm) → roll-Stmt y ≡ x → R (layer p y) (layer q y) (layer r y) → P x
+  opened y e h = equal _ _ _ _ _ _ (most_stmt p y e) (most_stmt q y e) (most_stmt r y e) h
 
   stmts_hold : (xs : List Stmt) → Each P xs → R (body_most p xs) (body_most q xs) (body_most r xs)
   stmts_hold [] each = none
@@ -35,29 +44,26 @@ module _ (p q r : Costs) (R : ℕ → ℕ → ℕ → Type 0) (none : R 0 0 0) (
 
   arms_hold : (xs : List Arm) → Each (InArm P) xs → R (greatest (map (arm_most p) xs)) (greatest (map (arm_most q) xs)) (greatest (map (arm_most r) xs))
   arms_hold [] each = none
-  arms_hold (x ∷ xs) each = either _ _ _ _ _ _ (opened _ _ _ _ _ _ (most_arm p x) (most_arm q x) (most_arm r x) (stmts_hold x.body each.0)) (arms_hold xs each.1)
+  arms_hold (x ∷ xs) each = either _ _ _ _ _ _ (equal _ _ _ _ _ _ (most_arm p x) (most_arm q x) (most_arm r x) (stmts_hold x.body each.0)) (arms_hold xs each.1)
 
   cases_hold : (xs : List CaseArm) → Each (InCase P) xs → R (greatest (map (case_most p) xs)) (greatest (map (case_most q) xs)) (greatest (map (case_most r) xs))
   cases_hold [] each = none
-  cases_hold (x ∷ xs) each = either _ _ _ _ _ _ (opened _ _ _ _ _ _ (most_case_arm p x) (most_case_arm q x) (most_case_arm r x) (stmts_hold x.body each.0)) (cases_hold xs each.1)
+  cases_hold (x ∷ xs) each = either _ _ _ _ _ _ (equal _ _ _ _ _ _ (most_case_arm p x) (most_case_arm q x) (most_case_arm r x) (stmts_hold x.body each.0)) (cases_hold xs each.1)
 
   steps : StmtSteps P
   steps =
       record {
-        assign = λ v e. opened _ _ _ _ _ _ (most_assign p v e) (most_assign q v e) (most_assign r v e) none;
-        area_write = λ w a e. opened _ _ _ _ _ _ (most_area_write p w a e) (most_area_write q w a e) (most_area_write r w a e) none;
-        invoke = λ n actuals. opened _ _ _ _ _ _ (most_invoke p n actuals) (most_invoke q n actuals) (most_invoke r n actuals) (at_call n actuals);
+        assign = λ v e. opened (S.Assign v e) (stmt.rolls-Assign v e) none;
+        area_write = λ w a e. opened (S.AreaWrite w a e) (stmt.rolls-AreaWrite w a e) none;
+        invoke = λ n actuals. opened (S.Invoke n actuals) (stmt.rolls-Invoke n actuals) (at_call n actuals);
         choice = λ arms other each rest.
-            opened _ _ _ _ _ _ (most_if p arms other) (most_if q arms other) (most_if r arms other)
-            (nested _ _ _ (either _ _ _ _ _ _ (arms_hold arms each) (stmts_hold other rest)));
+            opened (S.If arms other) (stmt.rolls-If arms other) (nested _ _ _ (either _ _ _ _ _ _ (arms_hold arms each) (stmts_hold other rest)));
         selection = λ e arms other each rest.
-            opened _ _ _ _ _ _ (most_case p e arms other) (most_case q e arms other) (most_case r e arms other)
-            (nested _ _ _ (either _ _ _ _ _ _ (cases_hold arms each) (stmts_hold other rest)));
-        loop = λ test body each.
-            opened _ _ _ _ _ _ (most_while p test body) (most_while q test body) (most_while r test body) (turned _ _ _ (stmts_hold body each));
-        exit = opened _ _ _ _ _ _ (most_exit p) (most_exit q) (most_exit r) none;
-        continue = opened _ _ _ _ _ _ (most_continue p) (most_continue q) (most_continue r) none;
-        return = opened _ _ _ _ _ _ (most_return p) (most_return q) (most_return r) none;
+            opened (S.Case e arms other) (stmt.rolls-Case e arms other) (nested _ _ _ (either _ _ _ _ _ _ (cases_hold arms each) (stmts_hold other rest)));
+        loop = λ test body each. opened (S.While test body) (stmt.rolls-While test body) (turned _ _ _ (stmts_hold body each));
+        exit = opened S.Exit stmt.rolls-Exit none;
+        continue = opened S.Continue stmt.rolls-Continue none;
+        return = opened S.Return stmt.rolls-Return none;
       }
 
   pub body_holds : (body : List Stmt) → R (body_most p body) (body_most q body) (body_most r body)
@@ -70,9 +76,7 @@ greatest_stays : (f g : ℕ → ℕ) (k : ℕ) → ((n : ℕ) → g n < k → f 
     → greatest (map g ns) < k → greatest (map f ns) ≤ greatest (map g ns)
 greatest_stays f g k each [] less = omega arith
 greatest_stays f g k each (n ∷ ns) less =
-    let first : f n ≤ g n = each n (omega arith) in
-    let more : greatest (map f ns) ≤ greatest (map g ns) = greatest_stays f g k each ns (omega arith) in
-    omega arith
+    omega (arith, each n (omega arith), greatest_stays f g k each ns (omega arith))
 
 -- a chain that is shorter than the count is no longer by a greater count
 unit_stays : (k : ℕ) (tree : StProgram) (o : Option Pou)
@@ -121,7 +125,4 @@ stacked tree body =
 
 pub stack_covers : (tree : StProgram) (n : ℕ) (unit : Pou) → slice_get tree.pous n ≡ Some unit → IsRunnableUnit tree n unit → 1 + (1 + body_most (stack_costs tree) unit.body) ≤ UNIT_FRAMES * chain_of tree n
 stack_covers tree n unit e runnable =
-    let a : body_most (stack_costs tree) unit.body ≤ 2 * body_most nesting_costs unit.body + UNIT_FRAMES * body_most (depth_costs tree) unit.body = stacked tree unit.body in
-    let b : body_most nesting_costs unit.body ≤ MOST_NESTING = runnable.nesting in
-    let c : 1 + body_most (depth_costs tree) unit.body ≤ chain_of tree n = chain_covers tree n unit e runnable.chain in
-    omega arith
+    omega (arith, stacked tree unit.body, runnable.nesting, chain_covers tree n unit e runnable.chain)

@@ -14,7 +14,7 @@ use Rattle.st_runner.specs.declared.frame.At.{At}
 use Rattle.st_runner.specs.declared.frame.At.TheVariants as at
 use Rattle.st_runner.specs.declared.frame.Frame.{Frame}
 use Rattle.st_runner.specs.declared.frame.Frame.TheVariants as frame
-use Rattle.st_runner.proofs.Costs.{labelled_most, labelled_weight, picked_most, picked_weight, weight_area, weight_assign, weight_continue, weight_exit, weight_return}
+use Rattle.st_runner.proofs.Costs.{labelled_most, labelled_weight, most_stmt, picked_most, picked_weight, weight_stmt}
 use Rattle.st_runner.proofs.Means.{area_err, area_ok, assign_err, assign_ok, case_means, chosen_out, if_means}
 use Rattle.st_runner.proofs.Stack.{sizes_tall, unwound_faults}
 use Rattle.st_runner.proofs.Tops.{on_top, top_sizes, top_tall, top_weight}
@@ -28,17 +28,17 @@ use Rattle.st_tree.specs.declared.program.Arm.{Arm}
 use Rattle.st_tree.specs.declared.program.CaseArm.{CaseArm}
 use Rattle.st_tree.specs.declared.program.StProgram.{StProgram}
 use Rattle.st_tree.specs.declared.program.Stmt.{Stmt}
+use Rattle.st_tree.specs.declared.program.Stmt.TheOpen as S
 use Rattle.st_tree.specs.declared.program.Stmt.TheVariants as stmt
 use Rattle.st_tree.specs.declared.state.Value.{Value}
 use Rattle.st_tree.proofs.Equations.{meaning_continue, meaning_exit, meaning_invoke, meaning_return, meaning_while}
-use Rattle.st_runner.proofs.CostEquations.{most_invoke, most_while}
 
 -- frames that stay as they are cost no more
 stay_reach : (k : Costs) (ws : List Frame) (n : ℕ) → reach k ws at.Work ≤ max (tall k ws) (sizes k ws + n)
-stay_reach k ws n = let h : sizes k ws ≤ tall k ws = sizes_tall k ws in omega arith
+stay_reach k ws n = omega (arith, sizes_tall k ws)
 
 over_reach : (k : Costs) (ws : List Frame) (n : ℕ) (f : Option Fault) → reach k ws (at.Over f) ≤ max (tall k ws) (sizes k ws + n)
-over_reach k ws n f = let h : sizes k ws ≤ tall k ws = sizes_tall k ws in omega arith
+over_reach k ws n f = omega (arith, sizes_tall k ws)
 
 module _ (tree : StProgram) (ws : List Frame) where
   -- a fault
@@ -51,7 +51,7 @@ module _ (tree : StProgram) (ws : List Frame) where
         meaning = λ c u. assign_ok tree.globals c ws u v e s t h;
         reach = λ k. stay_reach k ws (most k (stmt.Assign v e));
         units = refl;
-        weight = let w : weight (stmt.Assign v e) ≡ 1 = weight_assign v e in omega arith;
+        weight = omega (arith, weight_stmt (S.Assign v e) (stmt.rolls-Assign v e));
       }
   assign_by v e s t (Err f) h =
       subst (λ (z : State). Done tree (stmt.Assign v e) ws ws (at.Over (Some f)) s z) (sym h.1) (faulted (stmt.Assign v e) s f (λ c u. assign_err tree.globals c ws u v e s f h.0))
@@ -65,7 +65,7 @@ module _ (tree : StProgram) (ws : List Frame) where
         meaning = λ c u. area_ok tree.globals c ws u w p e s t h;
         reach = λ k. stay_reach k ws (most k (stmt.AreaWrite w p e));
         units = refl;
-        weight = let q : weight (stmt.AreaWrite w p e) ≡ 1 = weight_area w p e in omega arith;
+        weight = omega (arith, weight_stmt (S.AreaWrite w p e) (stmt.rolls-AreaWrite w p e));
       }
   area_by w p e s t (Err f) h =
       subst (λ (z : State). Done tree (stmt.AreaWrite w p e) ws ws (at.Over (Some f)) s z) (sym h.1) (faulted (stmt.AreaWrite w p e) s f (λ c u. area_err tree.globals c ws u w p e s f h.0))
@@ -79,7 +79,7 @@ module _ (tree : StProgram) (ws : List Frame) where
         meaning = λ c u.
             ap (ending tree.globals c ws) (sym (meaning_invoke tree.globals c u s n b.now))
             ∙ ap (λ (xs : List Var). ending tree.globals c ws (meaning tree.globals c (stmt.Invoke n xs) u s)) e;
-        reach = λ k. let m : most k (stmt.Invoke n actuals) ≡ k.call n b.now = most_invoke k n actuals ∙ ap (k.call n) (sym e) in let h : sizes k ws ≤ tall k ws = sizes_tall k ws in omega arith;
+        reach = λ k. let m : most k (stmt.Invoke n actuals) ≡ k.call n b.now = most_stmt k (S.Invoke n actuals) (stmt.rolls-Invoke n actuals) ∙ ap (k.call n) (sym e) in omega (arith, sizes_tall k ws);
         units = refl;
         weight = tt;
       }
@@ -92,7 +92,7 @@ module _ (tree : StProgram) (ws : List Frame) where
             ∙ ap (λ (x : Expr). ending tree.globals c ws (meaning tree.globals c (stmt.While x b.now) u s)) e
             ∙ ap (λ (xs : List Stmt). ending tree.globals c ws (meaning tree.globals c (stmt.While test xs) u s)) f;
         reach = λ k.
-            let m : most k (stmt.While test body) ≡ k.again + k.rest + body_most k b.now = most_while k test body ∙ ap (λ (xs : List Stmt). k.again + k.rest + body_most k xs) (sym f) in
+            let m : most k (stmt.While test body) ≡ k.again + k.rest + body_most k b.now = most_stmt k (S.While test body) (stmt.rolls-While test body) ∙ ap (λ (xs : List Stmt). k.again + k.rest + body_most k xs) (sym f) in
             let h : sizes k ws ≤ tall k ws = sizes_tall k ws in
             omega arith;
         units = refl;
@@ -104,19 +104,19 @@ module _ (tree : StProgram) (ws : List Frame) where
   left_by x o vs s m w h =
       record {
         meaning = λ c u. h.meaning tree.globals c u s ∙ ap (ending tree.globals c ws) (sym (m c u));
-        reach = λ k. let a : tall k vs ≤ tall k ws = h.tall k in let b : sizes k vs ≤ tall k vs = sizes_tall k vs in omega arith;
+        reach = λ k. omega (arith, h.tall k, sizes_tall k vs);
         units = h.units;
-        weight = let a : work_weight vs ≤ work_weight ws = h.weight in omega arith;
+        weight = omega (arith, h.weight);
       }
 
   pub exit_done : (vs : List Frame) (s : State) → Leaves Exits Normal ws vs → Done tree stmt.Exit ws vs at.Work s s
-  exit_done vs s h = left_by stmt.Exit Exits vs s (λ c u. meaning_exit tree.globals c u s) weight_exit h
+  exit_done vs s h = left_by stmt.Exit Exits vs s (λ c u. meaning_exit tree.globals c u s) (weight_stmt S.Exit stmt.rolls-Exit) h
 
   pub continue_done : (vs : List Frame) (s : State) → Leaves Continues Normal ws vs → Done tree stmt.Continue ws vs at.Work s s
-  continue_done vs s h = left_by stmt.Continue Continues vs s (λ c u. meaning_continue tree.globals c u s) weight_continue h
+  continue_done vs s h = left_by stmt.Continue Continues vs s (λ c u. meaning_continue tree.globals c u s) (weight_stmt S.Continue stmt.rolls-Continue) h
 
   pub return_done : (vs : List Frame) (s : State) → Leaves Returns Normal ws vs → Done tree stmt.Return ws vs at.Work s s
-  return_done vs s h = left_by stmt.Return Returns vs s (λ c u. meaning_return tree.globals c u s) weight_return h
+  return_done vs s h = left_by stmt.Return Returns vs s (λ c u. meaning_return tree.globals c u s) (weight_stmt S.Return stmt.rolls-Return) h
 
   -- statements that were chosen
   chosen_by : (x : Stmt) (vs : List Frame) (b : Bor (List Stmt)) (s : State) → ((c : Calls) (u : ℕ) → meaning tree.globals c x u s ≡ body_meaning tree.globals c b.now u s)
@@ -124,13 +124,9 @@ module _ (tree : StProgram) (ws : List Frame) where
   chosen_by x vs b s m r w e =
       record {
         meaning = λ c u. on_top tree.globals c ws vs (frame.Rest b) (Normal u s) e ∙ ap (ending tree.globals c ws) (sym (m c u));
-        reach = λ k.
-            let a : tall k vs ≡ max (tall k ws) (sizes k ws + (k.rest + body_most k b.now)) = top_tall k ws vs (frame.Rest b) e in
-            let d : sizes k vs ≤ tall k vs = sizes_tall k vs in
-            let f : k.rest + body_most k b.now ≤ most k x = r k in
-            omega arith;
-        units = let a : units vs ≡ units ws + 0 = top_sizes unit_costs ws vs (frame.Rest b) e in omega arith;
-        weight = let a : work_weight vs ≡ work_weight ws + (1 + body_weight b.now) = top_weight ws vs (frame.Rest b) e in omega arith;
+        reach = λ k. omega (arith, top_tall k ws vs (frame.Rest b) e, sizes_tall k vs, r k);
+        units = omega (arith, top_sizes unit_costs ws vs (frame.Rest b) e);
+        weight = omega (arith, w, top_weight ws vs (frame.Rest b) e);
       }
 
   pub if_done : (arms : List Arm) (other : List Stmt) (vs : List Frame) (b : Bor (List Stmt)) (s : State) → picked tree.globals arms other s ≡ Ok b.now → vs ≡ ws ++ frame.Rest b ∷ [] → Done tree (stmt.If arms other) ws vs at.Work s s

@@ -1,7 +1,6 @@
 pub mod Actuals
 pub mod CalledCosts
 pub mod Chains
-pub mod CostEquations
 pub mod Costs
 pub mod Dones
 pub mod Fewer

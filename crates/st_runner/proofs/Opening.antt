@@ -85,17 +85,14 @@ ready_at_start tree runnable call unit b s work called is e sound one =
     let unit_runs = runnable.units k.0 unit k.1 in
     let reached : (c : Costs) → reach c work at.Work ≡ c.rest + body_most c unit.body = λ c.
     let a : reach c work at.Work ≡ reach c (frame.Rest b ∷ []) at.Work = ap (λ (x : List Frame). reach c x at.Work) e in
-    let d : body_most c b.now ≡ body_most c unit.body = ap (body_most c) is in
-    omega arith in
-    let p : reach (stack_costs tree) work at.Work ≡ 1 + body_most (stack_costs tree) unit.body = reached (stack_costs tree) in
-    let q : reach (depth_costs tree) work at.Work ≡ 0 + body_most (depth_costs tree) unit.body = reached (depth_costs tree) in
-    let r : reach (misfit_costs tree) work at.Work ≡ 0 + body_most (misfit_costs tree) unit.body = reached (misfit_costs tree) in
-    let p1 : 1 + (1 + body_most (stack_costs tree) unit.body) ≤ UNIT_FRAMES * chain_of tree k.0 = stack_covers tree k.0 unit k.1 unit_runs in
-    let q1 : 1 + body_most (depth_costs tree) unit.body ≤ chain_of tree k.0 = chain_covers tree k.0 unit k.1 unit_runs.chain in
-    let c1 : chain_of tree k.0 ≤ ACTIVATIONS = unit_runs.chain in
-    let r1 : body_most (misfit_costs tree) unit.body ≡ 0 = unit_runs.actuals in
-    let u : units work ≡ 0 + 0 = ap units e in
-    record { sound = sound; count = omega arith; frames = omega arith; depth = omega arith; actuals = omega arith }
+    omega (arith, a, ap (body_most c) is) in
+    record {
+      sound = sound;
+      count = omega (arith, one, ap units e);
+      frames = omega (arith, reached (stack_costs tree), stack_covers tree k.0 unit k.1 unit_runs, unit_runs.chain);
+      depth = omega (arith, reached (depth_costs tree), chain_covers tree k.0 unit k.1 unit_runs.chain, unit_runs.chain);
+      actuals = omega (arith, reached (misfit_costs tree), unit_runs.actuals);
+    }
 
 -- it ends as the run of its call does
 pub ends_as_run : (tree : StProgram) (call : Call) (areas : Areas) (unit : Pou) (b : Bor (List Stmt)) (s : State) (work : List Frame) → unit_called call.block tree.pous ≡ Some unit → b.now ≡ unit.body → work ≡ frame.Rest b ∷ []
@@ -109,9 +106,3 @@ ends_as_run tree call areas unit b s work called is e start k =
 
 pub fits_there : (tree : StProgram) (call : Call) (unit : Pou) → unit_called call.block tree.pous ≡ Some unit → FitsUnit tree.dbs unit call.block call.instance call.actuals → FitsSt tree call
 fits_there tree call unit e h = subst (λ (o : Option Pou). FitsIfThere tree call o) (sym e) h
-
-pub fits_none : (tree : StProgram) (call : Call) → unit_called call.block tree.pous ≡ None → FitsSt tree call → ⊥
-fits_none tree call e h = subst (λ (o : Option Pou). FitsIfThere tree call o) e h
-
-pub fits_not : (tree : StProgram) (call : Call) (unit : Pou) → unit_called call.block tree.pous ≡ Some unit → (FitsUnit tree.dbs unit call.block call.instance call.actuals → ⊥) → FitsSt tree call → ⊥
-fits_not tree call unit e refuse h = refuse (subst (λ (o : Option Pou). FitsIfThere tree call o) e h)

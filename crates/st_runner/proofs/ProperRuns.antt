@@ -25,7 +25,9 @@ use Rattle.st_tree.specs.declared.program.Located.{Located}
 use Rattle.st_tree.specs.declared.program.Pou.{Pou}
 use Rattle.st_tree.specs.declared.program.StProgram.{StProgram}
 use Rattle.st_tree.specs.declared.program.Stmt.{Stmt}
-use Rattle.st_runner.proofs.CostEquations.{most_area_write, most_arm, most_assign, most_case, most_case_arm, most_continue, most_exit, most_if, most_invoke, most_return, most_while}
+use Rattle.st_tree.specs.declared.program.Stmt.TheOpen as S
+use Rattle.st_tree.specs.declared.program.Stmt.TheVariants as stmt
+use Rattle.st_runner.proofs.Costs.{most_arm, most_case_arm, most_stmt}
 use Rattle.st_tree.proofs.FittingCalls.{at_position}
 use Rattle.st_tree.proofs.Induction.{Each, InArm, InCase, StmtSteps, every_body}
 use Rattle.st_tree.proofs.TypedParts.{body_of_case, parts_of_arm, parts_of_arms, parts_of_body, parts_of_case, parts_of_cases, parts_of_if, parts_of_while}
@@ -59,18 +61,21 @@ free x e = omega arith
 shallow_steps : StmtSteps Shallow
 shallow_steps =
     record {
-      assign = λ v e. free _ (most_assign nesting_costs v e);
-      area_write = λ w p e. free _ (most_area_write nesting_costs w p e);
-      invoke = λ n actuals. free _ (most_invoke nesting_costs n actuals);
+      assign = λ v e. free _ (most_stmt nesting_costs (S.Assign v e) (stmt.rolls-Assign v e));
+      area_write = λ w p e. free _ (most_stmt nesting_costs (S.AreaWrite w p e) (stmt.rolls-AreaWrite w p e));
+      invoke = λ n actuals. free _ (most_stmt nesting_costs (S.Invoke n actuals) (stmt.rolls-Invoke n actuals));
       choice = λ arms other all rest.
-          omega (arith, most_if nesting_costs arms other, nesting_if arms other, shallow_arms arms all, shallow_list other rest);
+          let cost = most_stmt nesting_costs (S.If arms other) (stmt.rolls-If arms other) in
+          omega (arith, cost, nesting_if arms other, shallow_arms arms all, shallow_list other rest);
       selection = λ e arms other all rest.
-          omega (arith, most_case nesting_costs e arms other, nesting_case e arms other, shallow_cases arms all, shallow_list other rest);
+          let cost = most_stmt nesting_costs (S.Case e arms other) (stmt.rolls-Case e arms other) in
+          omega (arith, cost, nesting_case e arms other, shallow_cases arms all, shallow_list other rest);
       loop = λ test body all.
-          omega (arith, most_while nesting_costs test body, nesting_while test body, shallow_list body all);
-      exit = free _ (most_exit nesting_costs);
-      continue = free _ (most_continue nesting_costs);
-      return = free _ (most_return nesting_costs);
+          let cost = most_stmt nesting_costs (S.While test body) (stmt.rolls-While test body) in
+          omega (arith, cost, nesting_while test body, shallow_list body all);
+      exit = free _ (most_stmt nesting_costs S.Exit stmt.rolls-Exit);
+      continue = free _ (most_stmt nesting_costs S.Continue stmt.rolls-Continue);
+      return = free _ (most_stmt nesting_costs S.Return stmt.rolls-Return);
     }
 
 body_shallow : (body : List Stmt) → body_most nesting_costs body ≤ body_nesting body
@@ -114,15 +119,12 @@ module _ (tree : StProgram) (unit : Pou) where
   abbrev Given : Stmt → Type 0
   Given x = (inside : Bool) → is_well_typed sight x inside ≡ true → most costs x ≡ 0
 
-  max_none : (a b : ℕ) → a ≡ 0 → b ≡ 0 → max a b ≡ 0
-  max_none a b h k = omega arith
-
   given_list : (xs : List Stmt) → Each Given xs → (inside : Bool) → are_well_typed sight inside xs ≡ true
       → body_most costs xs ≡ 0
   given_list [] all inside good = refl
   given_list (x ∷ xs) all inside good =
       let parts = parts_of_body sight inside x xs good in
-      max_none (most costs x) (body_most costs xs) (all.0 inside parts.0) (given_list xs all.1 inside parts.1)
+      omega (arith, all.0 inside parts.0, given_list xs all.1 inside parts.1)
 
   given_arms : (arms : List Arm) → Each (InArm Given) arms → (inside : Bool)
       → each inside (map (is_arm sight) arms) ≡ true → greatest (map (arm_most costs) arms) ≡ 0
@@ -130,8 +132,7 @@ module _ (tree : StProgram) (unit : Pou) where
   given_arms (x ∷ xs) all inside good =
       let parts = parts_of_arms sight inside x xs good in
       let body = given_list x.body all.0 inside (parts_of_arm sight inside x parts.0).1 in
-      max_none (arm_most costs x) (greatest (map (arm_most costs) xs)) (most_arm costs x ∙ body)
-      (given_arms xs all.1 inside parts.1)
+      omega (arith, most_arm costs x, body, given_arms xs all.1 inside parts.1)
 
   given_cases : (ty : StType) (arms : List CaseArm) → Each (InCase Given) arms → (inside : Bool)
       → each_case ty inside (map (is_case_arm sight) arms) ≡ true → greatest (map (case_most costs) arms) ≡ 0
@@ -139,35 +140,30 @@ module _ (tree : StProgram) (unit : Pou) where
   given_cases ty (x ∷ xs) all inside good =
       let parts = parts_of_cases sight inside ty x xs good in
       let body = given_list x.body all.0 inside (body_of_case sight inside x ty parts.0) in
-      max_none (case_most costs x) (greatest (map (case_most costs) xs)) (most_case_arm costs x ∙ body)
-      (given_cases ty xs all.1 inside parts.1)
+      omega (arith, most_case_arm costs x, body, given_cases ty xs all.1 inside parts.1)
 
   steps : StmtSteps Given
   steps =
       record {
-        assign = λ v e inside good. most_assign costs v e;
-        area_write = λ w p e inside good. most_area_write costs w p e;
+        assign = λ v e inside good. most_stmt costs (S.Assign v e) (stmt.rolls-Assign v e);
+        area_write = λ w p e inside good. most_stmt costs (S.AreaWrite w p e) (stmt.rolls-AreaWrite w p e);
         invoke = λ n actuals inside good.
-            most_invoke costs n actuals ∙ invoke_fits n actuals (sym (good_invoke sight inside n actuals) ∙ good);
+            most_stmt costs (S.Invoke n actuals) (stmt.rolls-Invoke n actuals)
+            ∙ invoke_fits n actuals (sym (good_invoke sight inside n actuals) ∙ good);
         choice = λ arms other all rest inside good.
             let parts = parts_of_if sight inside arms other good in
-            let m = most_if costs arms other in
-            let a = given_arms arms all inside parts.0 in
-            let b = given_list other rest inside parts.1 in
-            omega arith;
+            let m = most_stmt costs (S.If arms other) (stmt.rolls-If arms other) in
+            omega (arith, m, given_arms arms all inside parts.0, given_list other rest inside parts.1);
         selection = λ e arms other all rest inside good.
             let parts = parts_of_case sight inside e arms other good in
-            let m = most_case costs e arms other in
-            let a = given_cases parts.0.type arms all inside parts.0.arms in
-            let b = given_list other rest inside parts.1 in
-            omega arith;
+            let m = most_stmt costs (S.Case e arms other) (stmt.rolls-Case e arms other) in
+            omega (arith, m, given_cases parts.0.type arms all inside parts.0.arms, given_list other rest inside parts.1);
         loop = λ test body all inside good.
-            let m = most_while costs test body in
-            let a = given_list body all true (parts_of_while sight inside test body good).1 in
-            omega arith;
-        exit = λ inside good. most_exit costs;
-        continue = λ inside good. most_continue costs;
-        return = λ inside good. most_return costs;
+            let m = most_stmt costs (S.While test body) (stmt.rolls-While test body) in
+            omega (arith, m, given_list body all true (parts_of_while sight inside test body good).1);
+        exit = λ inside good. most_stmt costs S.Exit stmt.rolls-Exit;
+        continue = λ inside good. most_stmt costs S.Continue stmt.rolls-Continue;
+        return = λ inside good. most_stmt costs S.Return stmt.rolls-Return;
       }
 
   pub body_given : (body : List Stmt) → are_well_typed sight false body ≡ true → body_most costs body ≡ 0

@@ -38,41 +38,30 @@ use Rattle.st_tree.specs.declared.state.Value.{Value}
 
 -- two frames more
 two_tall : (k : Costs) (ws vs us : List Frame) (f h : Frame) → vs ≡ ws ++ f ∷ [] → us ≡ vs ++ h ∷ [] → tall k us ≡ max (max (tall k ws) (sizes k ws + frame_tall k f)) (sizes k ws + size k f + frame_tall k h)
-two_tall k ws vs us f h e d =
-    let a : tall k us ≡ max (tall k vs) (sizes k vs + frame_tall k h) = top_tall k vs us h d in
-    let b : tall k vs ≡ max (tall k ws) (sizes k ws + frame_tall k f) = top_tall k ws vs f e in
-    let c : sizes k vs ≡ sizes k ws + size k f = top_sizes k ws vs f e in
-    omega arith
+two_tall k ws vs us f h e d = omega (arith, top_tall k vs us h d, top_tall k ws vs f e, top_sizes k ws vs f e)
 
 two_sizes : (k : Costs) (ws vs us : List Frame) (f h : Frame) → vs ≡ ws ++ f ∷ [] → us ≡ vs ++ h ∷ [] → sizes k us ≡ sizes k ws + size k f + size k h
-two_sizes k ws vs us f h e d =
-    let b : sizes k us ≡ sizes k vs + size k h = top_sizes k vs us h d in
-    let c : sizes k vs ≡ sizes k ws + size k f = top_sizes k ws vs f e in
-    omega arith
+two_sizes k ws vs us f h e d = omega (arith, top_sizes k vs us h d, top_sizes k ws vs f e)
 
 module _ (tree : StProgram) (capacity : ℕ) (ws : List Frame) (s : Parts) where
   -- what waits costs no more than it did with what came next
   fewer : (next : At) → IsReady tree capacity ws next s → IsReady tree capacity ws at.Work s
   fewer next r =
-      let h : (k : Costs) → reach k ws at.Work ≤ reach k ws next = λ k. let m : sizes k ws ≤ tall k ws = sizes_tall k ws in omega arith in
-      let a : reach (stack_costs tree) ws at.Work ≤ reach (stack_costs tree) ws next = h (stack_costs tree) in
-      let b : reach (depth_costs tree) ws at.Work ≤ reach (depth_costs tree) ws next = h (depth_costs tree) in
-      let c : reach (misfit_costs tree) ws at.Work ≤ reach (misfit_costs tree) ws next = h (misfit_costs tree) in
-      let x : reach (stack_costs tree) ws next ≤ capacity = r.frames in
-      let y : reach (depth_costs tree) ws next < ACTIVATIONS = r.depth in
-      let z : reach (misfit_costs tree) ws next ≡ 0 = r.actuals in
-      record { sound = r.sound; count = r.count; frames = omega arith; depth = omega arith; actuals = omega arith }
+      let h : (k : Costs) → reach k ws at.Work ≤ reach k ws next = λ k. omega (arith, sizes_tall k ws) in
+      record {
+        sound = r.sound;
+        count = r.count;
+        frames = omega (arith, h (stack_costs tree));
+        depth = omega (arith, h (depth_costs tree));
+        actuals = omega (arith, h (misfit_costs tree));
+      }
 
   fewer_over : (next : At) (f : Option Fault) → IsReady tree capacity ws next s → IsReady tree capacity ws (at.Over f) s
   fewer_over next f r = let w = fewer next r in record { sound = w.sound; count = w.count; frames = w.frames; depth = w.depth; actuals = w.actuals }
 
   module _ (t : Bor Expr) (b : Bor (List Stmt)) (r : IsReady tree capacity ws (at.Test t b) s) where
     pub test_room : length ws + 2 ≤ capacity
-    test_room =
-        let k : Costs = stack_costs tree in
-        let a : reach k ws (at.Test t b) ≤ capacity = r.frames in
-        let n : sizes k ws ≡ length ws = stack_length tree ws in
-        omega arith
+    test_room = omega (arith, r.frames, stack_length tree ws)
 
     pub test_fault : (f : Fault) → value tree.globals t.now (state_of s) ≡ Err f → Spent tree capacity ws ws (at.Test t b) (at.Over (Some f)) s s
     test_fault f e = record { meaning = λ u. test_faults tree u ws (state_of s) t.now b.now f e; ready = fewer_over (at.Test t b) (Some f) r }
@@ -82,24 +71,14 @@ module _ (tree : StProgram) (capacity : ℕ) (ws : List Frame) (s : Parts) where
 
     pub test_true : (vs us : List Frame) → vs ≡ ws ++ frame.Again t b ∷ [] → us ≡ vs ++ frame.Rest b ∷ [] → and_then (value tree.globals t.now (state_of s)) (λ v. Ok (is_set v)) ≡ Ok true → Spent tree capacity ws us (at.Test t b) at.Work s s
     test_true vs us e d x =
-        let h : (k : Costs) → reach k us at.Work ≤ reach k ws (at.Test t b) = λ k.
-        let m : sizes k us ≤ tall k us = sizes_tall k us in
-        let n : tall k us ≡ max (max (tall k ws) (sizes k ws + (k.again + (k.rest + body_most k b.now)))) (sizes k ws + k.again + (k.rest + body_most k b.now)) = two_tall k ws vs us (frame.Again t b) (frame.Rest b) e d in
-        omega arith in
-        let p : reach (stack_costs tree) us at.Work ≤ reach (stack_costs tree) ws (at.Test t b) = h (stack_costs tree) in
-        let q : reach (depth_costs tree) us at.Work ≤ reach (depth_costs tree) ws (at.Test t b) = h (depth_costs tree) in
-        let v : reach (misfit_costs tree) us at.Work ≤ reach (misfit_costs tree) ws (at.Test t b) = h (misfit_costs tree) in
-        let p2 : reach (stack_costs tree) ws (at.Test t b) ≤ capacity = r.frames in
-        let q2 : reach (depth_costs tree) ws (at.Test t b) < ACTIVATIONS = r.depth in
-        let v2 : reach (misfit_costs tree) ws (at.Test t b) ≡ 0 = r.actuals in
-        let n : units us ≡ units ws + 0 + 0 = two_sizes unit_costs ws vs us (frame.Again t b) (frame.Rest b) e d in
-        let m : length s.activations.items ≡ 1 + units ws = r.count in
+        let h : (k : Costs) → reach k us at.Work ≤ reach k ws (at.Test t b) = λ k. omega (arith, sizes_tall k us, two_tall k ws vs us (frame.Again t b) (frame.Rest b) e d) in
+        let n = two_sizes unit_costs ws vs us (frame.Again t b) (frame.Rest b) e d in
         record {
           meaning = λ u.
               on_top tree.globals (calls_to u tree) vs us (frame.Rest b) (Normal u (state_of s)) d
               ∙ on_top tree.globals (calls_to u tree) ws vs (frame.Again t b) (body_meaning tree.globals (calls_to u tree) b.now u (state_of s)) e
               ∙ test_goes_on tree u ws (state_of s) t.now b.now x;
-          ready = record { sound = r.sound; count = omega arith; frames = omega arith; depth = omega arith; actuals = omega arith };
+          ready = record { sound = r.sound; count = omega (arith, n, r.count); frames = omega (arith, h (stack_costs tree), r.frames); depth = omega (arith, h (depth_costs tree), r.depth); actuals = omega (arith, h (misfit_costs tree), r.actuals) };
         }
 
 -- Calls
@@ -122,14 +101,7 @@ indexed (x ∷ xs) (suc n) d h = indexed xs n d (omega arith)
 
 pub locals_at : (xs : List Pou) (n : ℕ) (x : Pou) → slice_get xs n ≡ Some x → length x.locals ≤ most_locals xs
 locals_at [] n x e = cc
-locals_at (y ∷ xs) zero x e = let h : length y.locals ≡ length x.locals = some_length y x e in omega arith
-  where
-    some_length : (p q : Pou) → Some p ≡ Some q → length p.locals ≡ length q.locals
-    some_length p q k = ap (λ (z : Option Pou). locals_in z) k
-      where
-        locals_in : Option Pou → ℕ
-        locals_in None = 0
-        locals_in (Some z) = length z.locals
+locals_at (y ∷ xs) zero x e = let same : y ≡ x = cc in omega (arith, ap (λ (p : Pou). length p.locals) same)
 locals_at (y ∷ xs) (suc n) x e = let h : length x.locals ≤ most_locals xs = locals_at xs n x e in omega arith
 
 pub formals_at : (xs : List Pou) (n : ℕ) (x : Pou) → slice_get xs n ≡ Some x → formals_of_unit (slice_get xs n) ≤ most_formals xs
@@ -157,35 +129,21 @@ fault_at (Err g) f x e = by g x e
 
 module _ (tree : StProgram) (runnable : IsRunnable tree) (capacity : ℕ) (ws : List Frame) (s : Parts) (n : ℕ) (b : Bor (List Var)) (r : IsReady tree capacity ws (at.Call n b) s) where
   chain_small : units ws + chain_of tree n < ACTIVATIONS
-  chain_small =
-      let a : reach (depth_costs tree) ws (at.Call n b) < ACTIVATIONS = r.depth in
-      let e : sizes (depth_costs tree) ws ≡ units ws = depth_units tree ws in
-      omega arith
+  chain_small = omega (arith, r.depth, depth_units tree ws)
 
   pub call_there : n < length tree.pous
   call_there =
-      let a : units ws + chain_of tree n < ACTIVATIONS = chain_small in
-      let found = unit_there tree n (omega arith) in
+      let found = unit_there tree n (omega (arith, chain_small)) in
       in_range tree.pous n found.0 found.1
 
   pub call_room : length ws + 2 ≤ capacity
-  call_room =
-      let k : Costs = stack_costs tree in
-      let a : reach k ws (at.Call n b) ≤ capacity = r.frames in
-      let e : sizes k ws ≡ length ws = stack_length tree ws in
-      let o : 1 ≤ chain_of tree n = chain_some tree n in
-      omega arith
+  call_room = omega (arith, r.frames, stack_length tree ws, chain_some tree n)
 
   pub call_may : (unit : Pou) → slice_get tree.pous n ≡ Some unit → MayEnter s unit b.now
   call_may unit e =
-      let a : units ws + chain_of tree n < ACTIVATIONS = chain_small in
-      let o : 1 ≤ chain_of tree n = chain_some tree n in
-      let m : length s.activations.items ≡ 1 + units ws = r.count in
-      let z : reach (misfit_costs tree) ws (at.Call n b) ≡ 0 = r.actuals in
-      let w : misfit tree n b.now ≡ 0 = omega arith in
-      let x : length b.now ≡ formals_of_unit (slice_get tree.pous n) = fits (length b.now) (formals_of_unit (slice_get tree.pous n)) w in
-      let y : formals_of_unit (slice_get tree.pous n) ≤ most_formals tree.pous = formals_at tree.pous n unit e in
-      (most_locals tree.pous, most_formals tree.pous, record { sound = r.sound; few = omega arith; locals_fit = locals_at tree.pous n unit e; actuals_fit = omega arith })
+      let same = fits (length b.now) (formals_of_unit (slice_get tree.pous n)) (omega (arith, r.actuals)) in
+      let few = chain_small in
+      (most_locals tree.pous, most_formals tree.pous, record { sound = r.sound; few = omega (arith, few, chain_some tree n, r.count); locals_fit = locals_at tree.pous n unit e; actuals_fit = omega (arith, same, formals_at tree.pous n unit e) })
 
   pub call_fault : (unit : Pou) (t : Parts) (f : Fault) → slice_get tree.pous n ≡ Some unit
       → Changes (and_then (located_actuals tree.globals b.now (state_of s)) (λ formals. Ok (entered unit formals (state_of s)))) (Err f) (state_of s) (state_of t)
@@ -206,21 +164,8 @@ module _ (tree : StProgram) (runnable : IsRunnable tree) (capacity : ℕ) (ws : 
       let done = done_at (located_actuals tree.globals b.now (state_of s)) (λ formals. entered unit formals (state_of s)) (state_of t) change in
       let unit_runs = runnable.units n unit there in
       let tall_is : (k : Costs) → reach k us at.Work ≤ max (tall k ws) (sizes k ws + (k.unit + (k.rest + body_most k unit.body))) = λ k.
-      let m : sizes k us ≤ tall k us = sizes_tall k us in
-      let q : body_most k body.now ≡ body_most k unit.body = ap (body_most k) is in
-      let p : tall k us ≡ max (max (tall k ws) (sizes k ws + k.unit)) (sizes k ws + k.unit + (k.rest + body_most k body.now)) = two_tall k ws vs us frame.Unit (frame.Rest body) e d in
-      omega arith in
-      let p : reach (stack_costs tree) us at.Work ≤ max (tall (stack_costs tree) ws) (sizes (stack_costs tree) ws + (1 + (1 + body_most (stack_costs tree) unit.body))) = tall_is (stack_costs tree) in
-      let q : reach (depth_costs tree) us at.Work ≤ max (tall (depth_costs tree) ws) (sizes (depth_costs tree) ws + (1 + (0 + body_most (depth_costs tree) unit.body))) = tall_is (depth_costs tree) in
-      let v : reach (misfit_costs tree) us at.Work ≤ max (tall (misfit_costs tree) ws) (sizes (misfit_costs tree) ws + (0 + (0 + body_most (misfit_costs tree) unit.body))) = tall_is (misfit_costs tree) in
-      let p1 : 1 + (1 + body_most (stack_costs tree) unit.body) ≤ UNIT_FRAMES * chain_of tree n = stack_covers tree n unit there unit_runs in
-      let q1 : 1 + body_most (depth_costs tree) unit.body ≤ chain_of tree n = chain_covers tree n unit there unit_runs.chain in
-      let v1 : body_most (misfit_costs tree) unit.body ≡ 0 = unit_runs.actuals in
-      let p2 : reach (stack_costs tree) ws (at.Call n b) ≤ capacity = r.frames in
-      let q2 : reach (depth_costs tree) ws (at.Call n b) < ACTIVATIONS = r.depth in
-      let v2 : reach (misfit_costs tree) ws (at.Call n b) ≡ 0 = r.actuals in
-      let c1 : units us ≡ units ws + 1 + 0 = two_sizes unit_costs ws vs us frame.Unit (frame.Rest body) e d in
-      let c2 : length s.activations.items ≡ 1 + units ws = r.count in
+      omega (arith, sizes_tall k us, ap (body_most k) is, two_tall k ws vs us frame.Unit (frame.Rest body) e d) in
+      let two = two_sizes unit_costs ws vs us frame.Unit (frame.Rest body) e d in
       record {
         meaning = λ u.
             ap (λ (x : State). ending tree.globals (calls_to u tree) us (Normal u x)) (sym done.2)
@@ -228,7 +173,14 @@ module _ (tree : StProgram) (runnable : IsRunnable tree) (capacity : ℕ) (ws : 
             ∙ on_top tree.globals (calls_to u tree) ws vs frame.Unit (body_meaning tree.globals (calls_to u tree) body.now u (entered unit done.0 (state_of s))) e
             ∙ ap (λ (xs : List Stmt). ending tree.globals (calls_to u tree) ws (after_unit (body_meaning tree.globals (calls_to u tree) xs u (entered unit done.0 (state_of s))))) is
             ∙ call_enters tree u ws (state_of s) n b.now unit done.0 there done.1;
-        ready = record { sound = sound (most_locals tree.pous) (most_formals tree.pous) r.sound; count = omega arith; frames = omega arith; depth = omega arith; actuals = omega arith };
+        ready =
+            record {
+              sound = sound (most_locals tree.pous) (most_formals tree.pous) r.sound;
+              count = omega (arith, two, r.count);
+              frames = omega (arith, tall_is (stack_costs tree), stack_covers tree n unit there unit_runs, r.frames);
+              depth = omega (arith, tall_is (depth_costs tree), chain_covers tree n unit there unit_runs.chain, r.depth);
+              actuals = omega (arith, tall_is (misfit_costs tree), unit_runs.actuals, r.actuals);
+            };
       }
 
 pub test_is_fault : (r : Result Value Fault) (f : Fault) → and_then r (λ v. Ok (is_set v)) ≡ Err f → r ≡ Err f

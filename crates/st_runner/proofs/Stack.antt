@@ -49,9 +49,7 @@ module _ (k : Costs) where
 
   pub tall_push : (fs : List Frame) (f : Frame) → tall k (fs ++ f ∷ []) ≡ max (tall k fs) (sizes k fs + frame_tall k f)
   tall_push [] f = let h : size k f ≤ frame_tall k f = size_frame f in omega arith
-  tall_push (x ∷ fs) f =
-      let h : tall k (fs ++ f ∷ []) ≡ max (tall k fs) (sizes k fs + frame_tall k f) = tall_push fs f in
-      omega arith
+  tall_push (x ∷ fs) f = omega (arith, tall_push fs f)
 
 pub weight_push : (fs : List Frame) (f : Frame) → work_weight (fs ++ f ∷ []) ≡ work_weight fs + frame_weight f
 weight_push [] f = omega arith

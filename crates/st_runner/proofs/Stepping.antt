@@ -16,7 +16,7 @@ use Rattle.st_runner.proofs.Frames.{sound_running}
 use Rattle.st_runner.proofs.Stack.{sizes_tall}
 use Rattle.st_runner.proofs.Tops.{on_top, top_sizes, top_tall, top_weight}
 use Rattle.st_tree.specs.Calls.{left}
-use Rattle.st_tree.specs.Meaning.{Out, Normal, Exits, Continues, Returns, Faults, NoUnits, body_meaning, meaning, then_do}
+use Rattle.st_tree.specs.Meaning.{Calls, Out, Normal, Exits, Continues, Returns, Faults, NoUnits, body_meaning, meaning, then_do}
 use Rattle.st_tree.specs.State.{State}
 use Rattle.st_tree.specs.declared.expr.Expr.{Expr}
 use Rattle.st_tree.specs.declared.program.StProgram.{StProgram}
@@ -36,22 +36,43 @@ by_rest : (P : List Frame → Type 0) (xs : List Stmt) (below above : List Frame
 by_rest P [] below above none some = none refl
 by_rest P (x ∷ xs) below above none some = some
 
-module _ (tree : StProgram) (ws : List Frame) (s : Parts) where
-  pub none_waits : ws ≡ [] → (vs : List Frame) → vs ≡ [] → Stepped tree ws vs (at.Over None) s s
-  none_waits e vs d =
-      record {
-        meaning = λ c u. sym (ap (λ (x : List Frame). ending tree.globals c x (Normal u (state_of s))) e);
-        reach = λ k. subst (λ (x : List Frame). reach k x (at.Over None) ≤ tall k ws) (sym d) (omega arith);
-        weight = tt;
-        sound = λ l f h. h;
-        count = λ h. subst (λ (x : List Frame). length s.activations.items ≡ 1 + units x) (e ∙ sym d) h;
-      }
+-- what waits behind the first statement of a list: some frames, and above them the rest of the list, where there is one
+record Behind (tree : StProgram) (fs gs : List Frame) (rest : List Stmt) : Type 0 where
+  meaning : (c : Calls) (o : Out) → ending tree.globals c gs o ≡ ending tree.globals c fs (then_do o (body_meaning tree.globals c rest))
+  tall : (k : Costs) → tall k gs ≤ max (tall k fs) (sizes k fs + (k.rest + body_most k rest))
+  sizes : (k : Costs) → sizes k gs ≤ sizes k fs + k.rest
+  units : units gs ≡ units fs
+  weight : work_weight gs ≤ work_weight fs + (1 + body_weight rest)
 
+behind : (tree : StProgram) (fs gs : List Frame) (r : Bor (List Stmt)) → gs ≡ with_rest fs r → Behind tree fs gs r.now
+behind tree fs gs r g = by_rest (λ (hs : List Frame). gs ≡ hs → Behind tree fs gs r.now) r.now fs (fs ++ frame.Rest r ∷ []) last more g
+  where
+    last : r.now ≡ [] → gs ≡ fs → Behind tree fs gs r.now
+    last none h =
+        record {
+          meaning = λ c o. ap (λ (x : List Frame). ending tree.globals c x o) h ∙ ap (ending tree.globals c fs) (alone o ∙ ap (λ (xs : List Stmt). then_do o (body_meaning tree.globals c xs)) (sym none));
+          tall = λ k. omega (arith, ap (tall k) h);
+          sizes = λ k. omega (arith, ap (sizes k) h);
+          units = ap units h;
+          weight = omega (arith, ap work_weight h);
+        }
+
+    more : gs ≡ fs ++ frame.Rest r ∷ [] → Behind tree fs gs r.now
+    more h =
+        record {
+          meaning = λ c o. on_top tree.globals c fs gs (frame.Rest r) o h;
+          tall = λ k. omega (arith, top_tall k fs gs (frame.Rest r) h);
+          sizes = λ k. omega (arith, top_sizes k fs gs (frame.Rest r) h);
+          units = omega (arith, top_sizes unit_costs fs gs (frame.Rest r) h);
+          weight = omega (arith, top_weight fs gs (frame.Rest r) h);
+        }
+
+module _ (tree : StProgram) (ws : List Frame) (s : Parts) where
   pub body_ended : (fs : List Frame) (b : Bor (List Stmt)) → ws ≡ fs ++ frame.Rest b ∷ [] → b.now ≡ [] → Stepped tree ws fs at.Work s s
   body_ended fs b e none =
       record {
         meaning = λ c u. sym (on_top tree.globals c fs ws (frame.Rest b) (Normal u (state_of s)) e ∙ ap (λ (xs : List Stmt). ending tree.globals c fs (body_meaning tree.globals c xs u (state_of s))) none);
-        reach = λ k. let t : tall k ws ≡ max (tall k fs) (sizes k fs + frame_tall k (frame.Rest b)) = top_tall k fs ws (frame.Rest b) e in let h : sizes k fs ≤ tall k fs = sizes_tall k fs in omega arith;
+        reach = λ k. omega (arith, top_tall k fs ws (frame.Rest b) e, sizes_tall k fs);
         weight = let w : work_weight ws ≡ work_weight fs + frame_weight (frame.Rest b) = top_weight fs ws (frame.Rest b) e in omega arith;
         sound = λ l f h. h;
         count = λ h. let w : units ws ≡ units fs + 0 = top_sizes unit_costs fs ws (frame.Rest b) e in omega arith;
@@ -78,79 +99,25 @@ module _ (tree : StProgram) (ws : List Frame) (s : Parts) where
         count = λ h. let w : units ws ≡ units fs + 1 = top_sizes unit_costs fs ws frame.Unit e in omega arith;
       }
 
-  pub one_statement : (fs gs vs : List Frame) (b r : Bor (List Stmt)) (x : Stmt) (next : At) (t : Parts) → ws ≡ fs ++ frame.Rest b ∷ [] → b.now ≡ x ∷ r.now → gs ≡ fs ++ frame.Rest r ∷ []
-      → Done tree x gs vs next (state_of s) (state_of t) → ((l f : ℕ) → IsSound l f s → IsSound l f t) → SameShape s t → Stepped tree ws vs next s t
-  one_statement fs gs vs b r x next t e split g done sound same =
-      record {
-        meaning = λ c u.
-            done.meaning c u
-            ∙ on_top tree.globals c fs gs (frame.Rest r) (meaning tree.globals c x u (state_of s)) g
-            ∙ sym (on_top tree.globals c fs ws (frame.Rest b) (Normal u (state_of s)) e ∙ ap (λ (xs : List Stmt). ending tree.globals c fs (body_meaning tree.globals c xs u (state_of s))) split);
-        reach = λ k.
-            let a : tall k ws ≡ max (tall k fs) (sizes k fs + (k.rest + max (most k x) (body_most k r.now))) =
-            top_tall k fs ws (frame.Rest b) e ∙ ap (λ (xs : List Stmt). max (tall k fs) (sizes k fs + (k.rest + body_most k xs))) split in
-            let d : tall k gs ≡ max (tall k fs) (sizes k fs + (k.rest + body_most k r.now)) = top_tall k fs gs (frame.Rest r) g in
-            let q : sizes k gs ≡ sizes k fs + k.rest = top_sizes k fs gs (frame.Rest r) g in
-            let h : reach k vs next ≤ max (tall k gs) (sizes k gs + most k x) = done.reach k in
-            omega arith;
-        weight = weighs next done.weight;
-        sound = sound;
-        count = λ h.
-            let a : units ws ≡ units fs + 0 = top_sizes unit_costs fs ws (frame.Rest b) e in
-            let d : units gs ≡ units fs + 0 = top_sizes unit_costs fs gs (frame.Rest r) g in
-            let q : units vs ≡ units gs = done.units in
-            let same_length : length t.activations.items ≡ length s.activations.items = same in
-            omega arith;
-      }
-    where
-      weighs : (n : At) → IfWork n (work_weight vs + 1 ≤ work_weight gs + weight x) → IfWork n (work_weight vs + 1 ≤ work_weight ws)
-      weighs at.Work h =
-          let a : work_weight ws ≡ work_weight fs + (1 + (weight x + body_weight r.now)) = top_weight fs ws (frame.Rest b) e ∙ ap (λ (xs : List Stmt). work_weight fs + (1 + body_weight xs)) split in
-          let d : work_weight gs ≡ work_weight fs + (1 + body_weight r.now) = top_weight fs gs (frame.Rest r) g in
-          omega arith
-      weighs (at.Test p q) h = tt
-      weighs (at.Call n q) h = tt
-      weighs (at.Over f) h = tt
-
-  -- the last statement of a list, behind which nothing waits
-  pub last_statement : (fs vs : List Frame) (b r : Bor (List Stmt)) (x : Stmt) (next : At) (t : Parts) → ws ≡ fs ++ frame.Rest b ∷ [] → b.now ≡ x ∷ r.now → r.now ≡ []
-      → Done tree x fs vs next (state_of s) (state_of t) → ((l f : ℕ) → IsSound l f s → IsSound l f t) → SameShape s t → Stepped tree ws vs next s t
-  last_statement fs vs b r x next t e split none done sound same =
-      record {
-        meaning = λ c u.
-            done.meaning c u
-            ∙ ap (ending tree.globals c fs) (alone (meaning tree.globals c x u (state_of s)))
-            ∙ ap (λ (xs : List Stmt). ending tree.globals c fs (then_do (meaning tree.globals c x u (state_of s)) (body_meaning tree.globals c xs))) (sym none)
-            ∙ sym (on_top tree.globals c fs ws (frame.Rest b) (Normal u (state_of s)) e ∙ ap (λ (xs : List Stmt). ending tree.globals c fs (body_meaning tree.globals c xs u (state_of s))) split);
-        reach = λ k.
-            let a : tall k ws ≡ max (tall k fs) (sizes k fs + (k.rest + max (most k x) (body_most k r.now))) =
-            top_tall k fs ws (frame.Rest b) e ∙ ap (λ (xs : List Stmt). max (tall k fs) (sizes k fs + (k.rest + body_most k xs))) split in
-            let h : reach k vs next ≤ max (tall k fs) (sizes k fs + most k x) = done.reach k in
-            omega arith;
-        weight = weighs next done.weight;
-        sound = sound;
-        count = λ h.
-            let a : units ws ≡ units fs + 0 = top_sizes unit_costs fs ws (frame.Rest b) e in
-            let q : units vs ≡ units fs = done.units in
-            let same_length : length t.activations.items ≡ length s.activations.items = same in
-            omega arith;
-      }
-    where
-      weighs : (n : At) → IfWork n (work_weight vs + 1 ≤ work_weight fs + weight x) → IfWork n (work_weight vs + 1 ≤ work_weight ws)
-      weighs at.Work h =
-          let a : work_weight ws ≡ work_weight fs + (1 + (weight x + body_weight r.now)) = top_weight fs ws (frame.Rest b) e ∙ ap (λ (xs : List Stmt). work_weight fs + (1 + body_weight xs)) split in
-          omega arith
-      weighs (at.Test p q) h = tt
-      weighs (at.Call n q) h = tt
-      weighs (at.Over f) h = tt
-
   -- the first statement of a list, with the rest behind it where there is one
   pub first_statement : (fs gs vs : List Frame) (b r : Bor (List Stmt)) (x : Stmt) (next : At) (t : Parts) → ws ≡ fs ++ frame.Rest b ∷ [] → b.now ≡ x ∷ r.now → gs ≡ with_rest fs r
       → Done tree x gs vs next (state_of s) (state_of t) → ((l f : ℕ) → IsSound l f s → IsSound l f t) → SameShape s t → Stepped tree ws vs next s t
   first_statement fs gs vs b r x next t e split g done sound same =
-      by_rest (λ (hs : List Frame). gs ≡ hs → Stepped tree ws vs next s t) r.now fs (fs ++ frame.Rest r ∷ [])
-      (λ none h. last_statement fs vs b r x next t e split none (subst (λ (hs : List Frame). Done tree x hs vs next (state_of s) (state_of t)) h done) sound same)
-      (λ h. one_statement fs gs vs b r x next t e split h done sound same) g
+      let rest : Behind tree fs gs r.now = behind tree fs gs r g in
+      record {
+        meaning = λ c u.
+            done.meaning c u
+            ∙ rest.meaning c (meaning tree.globals c x u (state_of s))
+            ∙ sym (on_top tree.globals c fs ws (frame.Rest b) (Normal u (state_of s)) e ∙ ap (λ (xs : List Stmt). ending tree.globals c fs (body_meaning tree.globals c xs u (state_of s))) split);
+        reach = λ k. omega (arith, top_tall k fs ws (frame.Rest b) e, ap (body_most k) split, rest.tall k, rest.sizes k, done.reach k);
+        weight = weighs next done.weight;
+        sound = sound;
+        count = λ h. let same_length : length t.activations.items ≡ length s.activations.items = same in omega (arith, top_sizes unit_costs fs ws (frame.Rest b) e, rest.units, done.units);
+      }
+    where
+      weighs : (n : At) → IfWork n (work_weight vs + 1 ≤ work_weight gs + weight x) → IfWork n (work_weight vs + 1 ≤ work_weight ws)
+      weighs at.Work h = omega (arith, top_weight fs ws (frame.Rest b) e, ap body_weight split, (behind tree fs gs r g).weight)
+      weighs n h = tt
 
 -- each frame of a stack is one
 pub stack_length : (tree : StProgram) (fs : List Frame) → sizes (stack_costs tree) fs ≡ length fs
@@ -160,41 +127,16 @@ stack_length tree (frame.Again t b ∷ fs) = let h : sizes (stack_costs tree) fs
 stack_length tree (frame.Unit ∷ fs) = let h : sizes (stack_costs tree) fs ≡ length fs = stack_length tree fs in omega arith
 
 -- a statement finds room for what it pushes
-pub statement_room : (tree : StProgram) (capacity : ℕ) (ws fs gs : List Frame) (b r : Bor (List Stmt)) (x : Stmt) (s : Parts) → IsReady tree capacity ws at.Work s → ws ≡ fs ++ frame.Rest b ∷ [] → b.now ≡ x ∷ r.now → gs ≡ fs ++ frame.Rest r ∷ []
-    → length gs + most (stack_costs tree) x ≤ capacity
-statement_room tree capacity ws fs gs b r x s ready e split g =
-    let k : Costs = stack_costs tree in
-    let a : tall k ws ≡ max (tall k fs) (sizes k fs + (1 + max (most k x) (body_most k r.now))) =
-    top_tall k fs ws (frame.Rest b) e ∙ ap (λ (xs : List Stmt). max (tall k fs) (sizes k fs + (1 + body_most k xs))) split in
-    let q : sizes k gs ≡ sizes k fs + 1 = top_sizes k fs gs (frame.Rest r) g in
-    let n : sizes k gs ≡ length gs = stack_length tree gs in
-    let h : reach k ws at.Work ≤ capacity = ready.frames in
-    omega arith
-
--- so does the last one of a list
-pub last_room : (tree : StProgram) (capacity : ℕ) (ws fs : List Frame) (b r : Bor (List Stmt)) (x : Stmt) (s : Parts) → IsReady tree capacity ws at.Work s → ws ≡ fs ++ frame.Rest b ∷ [] → b.now ≡ x ∷ r.now
-    → length fs + most (stack_costs tree) x ≤ capacity
-last_room tree capacity ws fs b r x s ready e split =
-    let k : Costs = stack_costs tree in
-    let a : tall k ws ≡ max (tall k fs) (sizes k fs + (1 + max (most k x) (body_most k r.now))) =
-    top_tall k fs ws (frame.Rest b) e ∙ ap (λ (xs : List Stmt). max (tall k fs) (sizes k fs + (1 + body_most k xs))) split in
-    let n : sizes k fs ≡ length fs = stack_length tree fs in
-    let h : reach k ws at.Work ≤ capacity = ready.frames in
-    omega arith
-
 pub first_room : (tree : StProgram) (capacity : ℕ) (ws fs gs : List Frame) (b r : Bor (List Stmt)) (x : Stmt) (s : Parts) → IsReady tree capacity ws at.Work s → ws ≡ fs ++ frame.Rest b ∷ [] → b.now ≡ x ∷ r.now → gs ≡ with_rest fs r
     → length gs + most (stack_costs tree) x ≤ capacity
 first_room tree capacity ws fs gs b r x s ready e split g =
-    by_rest (λ (hs : List Frame). gs ≡ hs → length gs + most (stack_costs tree) x ≤ capacity) r.now fs (fs ++ frame.Rest r ∷ [])
-    (λ none h. subst (λ (hs : List Frame). length hs + most (stack_costs tree) x ≤ capacity) (sym h) (last_room tree capacity ws fs b r x s ready e split))
-    (λ h. statement_room tree capacity ws fs gs b r x s ready e split h) g
+    let k : Costs = stack_costs tree in
+    let rest : Behind tree fs gs r.now = behind tree fs gs r g in
+    omega (arith, top_tall k fs ws (frame.Rest b) e, ap (body_most k) split, rest.sizes k, stack_length tree gs, ready.frames)
 
 pub may_leave : (tree : StProgram) (capacity : ℕ) (ws fs : List Frame) (s : Parts) → IsReady tree capacity ws at.Work s → ws ≡ fs ++ frame.Unit ∷ [] → MayLeave s
 may_leave tree capacity ws fs s ready e =
-    let w : units ws ≡ units fs + 1 = top_sizes unit_costs fs ws frame.Unit e in
-    let n : length s.activations.items ≡ 1 + units ws = ready.count in
-    let more : 1 < length s.activations.items = omega arith in
-    (most_locals tree.pous, most_formals tree.pous, ready.sound, more)
+    (most_locals tree.pous, most_formals tree.pous, ready.sound, omega (arith, top_sizes unit_costs fs ws frame.Unit e, ready.count))
 
 pub ready_running : (tree : StProgram) (capacity : ℕ) (ws : List Frame) (next : At) (s : Parts) → IsReady tree capacity ws next s → IsRunning s
 ready_running tree capacity ws next s ready = sound_running (most_locals tree.pous) (most_formals tree.pous) s ready.sound
@@ -202,18 +144,12 @@ ready_running tree capacity ws next s ready = sound_running (most_locals tree.po
 -- what was ready is so after a step
 pub stepped_ready : (tree : StProgram) (capacity : ℕ) (ws vs : List Frame) (next : At) (s t : Parts) → Stepped tree ws vs next s t → IsReady tree capacity ws at.Work s → IsReady tree capacity vs next t
 stepped_ready tree capacity ws vs next s t h ready =
-    let a : reach (stack_costs tree) vs next ≤ tall (stack_costs tree) ws = h.reach (stack_costs tree) in
-    let b : reach (stack_costs tree) ws at.Work ≤ capacity = ready.frames in
-    let c : reach (depth_costs tree) vs next ≤ tall (depth_costs tree) ws = h.reach (depth_costs tree) in
-    let d : reach (depth_costs tree) ws at.Work < ACTIVATIONS = ready.depth in
-    let e : reach (misfit_costs tree) vs next ≤ tall (misfit_costs tree) ws = h.reach (misfit_costs tree) in
-    let f : reach (misfit_costs tree) ws at.Work ≡ 0 = ready.actuals in
     record {
       sound = h.sound (most_locals tree.pous) (most_formals tree.pous) ready.sound;
       count = h.count ready.count;
-      frames = omega arith;
-      depth = omega arith;
-      actuals = omega arith;
+      frames = omega (arith, h.reach (stack_costs tree), ready.frames);
+      depth = omega (arith, h.reach (depth_costs tree), ready.depth);
+      actuals = omega (arith, h.reach (misfit_costs tree), ready.actuals);
     }
 
 pub no_items : (xs : List Stmt) → length xs ≡ 0 → xs ≡ []

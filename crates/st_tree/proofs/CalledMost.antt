@@ -1,18 +1,20 @@
 -- The greatest of what the units give that a body calls, by its statements.
 use Rattle.std.specs.Prelude.{◌≡◌, ℕ, max, List, [], ◌∷◌, ◌++◌, map}
 use Rattle.std.specs.List.{flat_map}
-use Rattle.std.proofs.Common.{refl, ap, ◌∙◌, arith}
+use Rattle.std.proofs.Common.{ap, ◌∙◌, arith, append_assoc}
+use Rattle.std.proofs.lemmas.Grind.{flat_map-append}
 use Rattle.s7_base.specs.declared.word.Width.{Width}
 use Rattle.st_tree.specs.Chains.{called_in}
 use Rattle.st_tree.specs.Depth.{greatest}
-use Rattle.st_tree.specs.Parts.{calls_in}
+use Rattle.st_tree.specs.Parts.{call_step, calls_in, statements_in}
 use Rattle.st_tree.specs.declared.expr.Expr.{Expr}
 use Rattle.st_tree.specs.declared.expr.Var.{Var}
 use Rattle.st_tree.specs.declared.program.Arm.{Arm}
 use Rattle.st_tree.specs.declared.program.CaseArm.{CaseArm}
-use Rattle.st_tree.specs.declared.program.Stmt.{Stmt}
+use Rattle.st_tree.specs.declared.program.Stmt.{Stmt, out-Stmt, roll-Stmt}
+use Rattle.st_tree.specs.declared.program.Stmt.TheOpen as S
 use Rattle.st_tree.specs.declared.program.Stmt.TheVariants as stmt
-use Rattle.st_tree.proofs.PartEquations.{calls_in_append, calls_in_area_write, calls_in_assign, calls_in_case, calls_in_continue, calls_in_exit, calls_in_if, calls_in_invoke, calls_in_return, calls_in_while}
+use Rattle.st_tree.proofs.PartEquations.{gathered_append, gathered_first, inner_bodies}
 
 module _ (f : ℕ → ℕ) where
   -- the greatest that the units of some calls give
@@ -27,6 +29,15 @@ module _ (f : ℕ → ℕ) where
   abbrev pub called_most : List Stmt → ℕ
   called_most body = greatest (map f (called_in body))
 
+  -- and the one that some statements call, apart from those in them
+  abbrev called_by : List Stmt → ℕ
+  called_by xs = most (flat_map (λ (x : Stmt). call_step (out-Stmt x)) xs)
+
+  called_both : (xs ys : List Stmt) → called_by (xs ++ ys) ≡ max (called_by xs) (called_by ys)
+  called_both xs ys =
+      ap most (flat_map-append (λ (x : Stmt). call_step (out-Stmt x)) xs ys)
+      ∙ both (flat_map (λ (x : Stmt). call_step (out-Stmt x)) xs) (flat_map (λ (x : Stmt). call_step (out-Stmt x)) ys)
+
   abbrev pub called_in_arm : Arm → ℕ
   called_in_arm arm = called_most arm.body
 
@@ -35,56 +46,61 @@ module _ (f : ℕ → ℕ) where
 
   pub called_first : (x : Stmt) (rest : List Stmt)
       → called_most (x ∷ rest) ≡ max (called_most (x ∷ [])) (called_most rest)
-  called_first x rest = ap most (calls_in_append (x ∷ []) rest) ∙ both (calls_in (x ∷ [])) (calls_in rest)
+  called_first x rest =
+      ap most (gathered_append call_step (x ∷ []) rest) ∙ both (calls_in (x ∷ [])) (calls_in rest)
 
   pub called_last : (xs : List Stmt) (x : Stmt)
       → called_most (xs ++ x ∷ []) ≡ max (called_most xs) (called_most (x ∷ []))
-  called_last xs x = ap most (calls_in_append xs (x ∷ [])) ∙ both (calls_in xs) (calls_in (x ∷ []))
+  called_last xs x = ap most (gathered_append call_step xs (x ∷ [])) ∙ both (calls_in xs) (calls_in (x ∷ []))
+
+  -- of one statement, by its layer
+  one : {x : Stmt} (y : S.Stmt-F Stmt Arm CaseArm) → roll-Stmt y ≡ x
+      → called_most (x ∷ []) ≡ max (most (call_step y)) (called_by (inner_bodies y))
+  one y e =
+      let inner : List (ℕ × List Var) = flat_map (λ (x : Stmt). call_step (out-Stmt x)) (inner_bodies y) in
+      omega (arith, ap most (gathered_first call_step y e []), both (call_step y) (inner ++ []), both inner [])
 
   pub called_assign : (v : Var) (e : Expr) → called_most (stmt.Assign v e ∷ []) ≡ 0
-  called_assign v e = ap most (calls_in_assign v e [])
+  called_assign v e = one (S.Assign v e) (stmt.rolls-Assign v e)
 
   pub called_area_write : (w : Width) (p e : Expr) → called_most (stmt.AreaWrite w p e ∷ []) ≡ 0
-  called_area_write w p e = ap most (calls_in_area_write w p e [])
+  called_area_write w p e = one (S.AreaWrite w p e) (stmt.rolls-AreaWrite w p e)
 
   pub called_invoke : (n : ℕ) (actuals : List Var) → called_most (stmt.Invoke n actuals ∷ []) ≡ f n
-  called_invoke n actuals = let e = ap most (calls_in_invoke n actuals []) in omega (arith, e)
+  called_invoke n actuals = omega (arith, one (S.Invoke n actuals) (stmt.rolls-Invoke n actuals))
 
-  over_arms : {X : Type 0} (body_of : X → List Stmt) (arms : List X)
-      → most (flat_map (λ (x : X). calls_in (body_of x)) arms)
-      ≡ greatest (map (λ (x : X). called_most (body_of x)) arms)
-  over_arms body_of [] = refl
-  over_arms {X} body_of (x ∷ xs) =
-      let split = both (calls_in (body_of x)) (flat_map (λ (x : X). calls_in (body_of x)) xs) in
-      omega (arith, split, over_arms body_of xs)
-
+  -- of the arms of an IF or of a CASE, and of what stands after ELSE
   over_bodies : {X : Type 0} (body_of : X → List Stmt) (arms : List X) (other : List Stmt)
-      → most (flat_map (λ (x : X). calls_in (body_of x)) arms ++ calls_in other ++ [])
+      → called_by (flat_map (λ (x : X). statements_in (body_of x)) arms ++ statements_in other)
       ≡ max (greatest (map (λ (x : X). called_most (body_of x)) arms)) (called_most other)
-  over_bodies {X} body_of arms other =
-      let inner : List (ℕ × List Var) = flat_map (λ (x : X). calls_in (body_of x)) arms in
-      omega (arith, both (inner ++ calls_in other) [], both inner (calls_in other), over_arms body_of arms)
+  over_bodies body_of [] other = omega arith
+  over_bodies {X} body_of (x ∷ xs) other =
+      let more = flat_map (λ (x : X). statements_in (body_of x)) xs in
+      let split = called_both (statements_in (body_of x)) (more ++ statements_in other) in
+      let same = append_assoc (statements_in (body_of x)) more (statements_in other) in
+      omega (arith, ap called_by same, split, over_bodies body_of xs other)
 
   pub called_if : (arms : List Arm) (other : List Stmt) → called_most (stmt.If arms other ∷ [])
       ≡ max (greatest (map called_in_arm arms)) (called_most other)
-  called_if arms other = ap most (calls_in_if arms other []) ∙ over_bodies (λ (arm : Arm). arm.body) arms other
+  called_if arms other =
+      let bodies = over_bodies (λ (arm : Arm). arm.body) arms other in
+      omega (arith, one (S.If arms other) (stmt.rolls-If arms other), bodies)
 
   pub called_case : (e : Expr) (arms : List CaseArm) (other : List Stmt)
       → called_most (stmt.Case e arms other ∷ [])
       ≡ max (greatest (map called_in_case arms)) (called_most other)
   called_case e arms other =
-      ap most (calls_in_case e arms other []) ∙ over_bodies (λ (arm : CaseArm). arm.body) arms other
+      let bodies = over_bodies (λ (arm : CaseArm). arm.body) arms other in
+      omega (arith, one (S.Case e arms other) (stmt.rolls-Case e arms other), bodies)
 
   pub called_while : (test : Expr) (body : List Stmt) → called_most (stmt.While test body ∷ []) ≡ called_most body
-  called_while test body =
-      let e = ap most (calls_in_while test body []) in
-      omega (arith, e, both (calls_in body) [])
+  called_while test body = omega (arith, one (S.While test body) (stmt.rolls-While test body))
 
   pub called_exit : called_most (stmt.Exit ∷ []) ≡ 0
-  called_exit = ap most (calls_in_exit [])
+  called_exit = one S.Exit stmt.rolls-Exit
 
   pub called_continue : called_most (stmt.Continue ∷ []) ≡ 0
-  called_continue = ap most (calls_in_continue [])
+  called_continue = one S.Continue stmt.rolls-Continue
 
   pub called_return : called_most (stmt.Return ∷ []) ≡ 0
-  called_return = ap most (calls_in_return [])
+  called_return = one S.Return stmt.rolls-Return

@@ -1,6 +1,6 @@
--- What a fold over a tree is at each variant: of expressions, of statements and of arms. First any fold, and
--- then those of this crate, as rules by which `simp` opens them.
-use Rattle.std.specs.Prelude.{◌≡◌, ℕ, ◌-◌, ℤ, List, ◌∷◌, map, Ok, Err}
+-- What a fold over a tree is: of expressions at each variant, and of statements. First any fold, and then those
+-- of this crate, as rules by which `simp` opens them.
+use Rattle.std.specs.Prelude.{◌≡◌, ℕ, ◌-◌, ℤ, List, ◌∷◌, map, Result, Ok, Err}
 use Rattle.std.proofs.Common.{sym, ap, ◌∙◌}
 use Rattle.memory_areas.specs.Access.{and_then}
 use Rattle.s7_base.specs.declared.outcome.Fault.{Fault}
@@ -8,11 +8,11 @@ use Rattle.s7_base.specs.declared.word.Width.{Width}
 use Rattle.st_tree.specs.Form.{Form, literal, variable, infix_of, convert, select, shift, area_read, wrap, unary_form, infix_level, canon_step, canon}
 use Rattle.st_tree.specs.Meaning.{Calls, Faults, Guarded, Labelled, Out, Sem, then_do, changed, arm_meaning, arm_step, body_meaning, case_meaning, case_step, meaning, stmt_step}
 use Rattle.st_tree.specs.Spelling as text
-use Rattle.st_tree.specs.Spelling.{Text, ArmText, CaseText, arm_text, case_text, statement_step, statement_text}
+use Rattle.st_tree.specs.Spelling.{Text, ArmText, CaseText, statement_step, statement_text}
 use Rattle.st_tree.specs.State.{State, write}
-use Rattle.st_tree.specs.Typing.{Names, binary_type, type_of, type_step, unary_type, var_type}
+use Rattle.st_tree.specs.Typing.{Names}
 use Rattle.st_tree.specs.Value.{Worth, value, value_step}
-use Rattle.st_tree.specs.Values.{Value, type_of_width}
+use Rattle.st_tree.specs.Values.{Value}
 use Rattle.st_tree.specs.declared.expr.BinaryOp.{BinaryOp}
 use Rattle.st_tree.specs.declared.expr.Expr.{Expr, fold-Expr, fold-roll-Expr}
 use Rattle.st_tree.specs.declared.expr.Expr.TheVariants as expr
@@ -60,56 +60,15 @@ module _ (A : Type 0) (step : E.Expr-F A → A) where
   pub fold_area_read : (w : Width) (a : Expr) → folded (expr.AreaRead w a) ≡ step (E.AreaRead w (folded a))
   fold_area_read w a = ap folded (sym (expr.rolls-AreaRead w a)) ∙ fold-roll-Expr A step (E.AreaRead w a)
 
-module _ (A B C : Type 0) (step : S.Stmt-F A B C → A) (arm : S.Arm-F A B C → B) (labelled : S.CaseArm-F A B C → C) where
-  abbrev folded_stmt : Stmt → A
-  folded_stmt = fold-Stmt A B C step arm labelled
-
-  abbrev folded_arm : Arm → B
-  folded_arm = fold-Arm A B C step arm labelled
-
-  abbrev folded_case : CaseArm → C
-  folded_case = fold-CaseArm A B C step arm labelled
-
-  rolled : (x : Stmt) (y : S.Stmt-F Stmt Arm CaseArm) → x ≡ roll-Stmt y → folded_stmt x
-      ≡ step (map-Stmt Stmt Arm CaseArm A B C folded_stmt folded_arm folded_case y)
-  rolled x y e = ap folded_stmt e ∙ fold-roll-Stmt A B C step arm labelled y
-
-  pub fold_assign : (v : Var) (e : Expr) → folded_stmt (stmt.Assign v e) ≡ step (S.Assign v e)
-  fold_assign v e = rolled (stmt.Assign v e) (S.Assign v e) (sym (stmt.rolls-Assign v e))
-
-  pub fold_area_write : (w : Width) (p e : Expr) → folded_stmt (stmt.AreaWrite w p e) ≡ step (S.AreaWrite w p e)
-  fold_area_write w p e = rolled (stmt.AreaWrite w p e) (S.AreaWrite w p e) (sym (stmt.rolls-AreaWrite w p e))
-
-  pub fold_invoke : (n : ℕ) (actuals : List Var) → folded_stmt (stmt.Invoke n actuals) ≡ step (S.Invoke n actuals)
-  fold_invoke n actuals = rolled (stmt.Invoke n actuals) (S.Invoke n actuals) (sym (stmt.rolls-Invoke n actuals))
-
-  pub fold_if : (arms : List Arm) (other : List Stmt) → folded_stmt (stmt.If arms other)
-      ≡ step (S.If (map folded_arm arms) (map folded_stmt other))
-  fold_if arms other = rolled (stmt.If arms other) (S.If arms other) (sym (stmt.rolls-If arms other))
-
-  pub fold_case : (e : Expr) (arms : List CaseArm) (other : List Stmt) → folded_stmt (stmt.Case e arms other)
-      ≡ step (S.Case e (map folded_case arms) (map folded_stmt other))
-  fold_case e arms other = rolled (stmt.Case e arms other) (S.Case e arms other) (sym (stmt.rolls-Case e arms other))
-
-  pub fold_while : (test : Expr) (body : List Stmt) → folded_stmt (stmt.While test body)
-      ≡ step (S.While test (map folded_stmt body))
-  fold_while test body = rolled (stmt.While test body) (S.While test body) (sym (stmt.rolls-While test body))
-
-  pub fold_exit : folded_stmt stmt.Exit ≡ step S.Exit
-  fold_exit = rolled stmt.Exit S.Exit (sym stmt.rolls-Exit)
-
-  pub fold_continue : folded_stmt stmt.Continue ≡ step S.Continue
-  fold_continue = rolled stmt.Continue S.Continue (sym stmt.rolls-Continue)
-
-  pub fold_return : folded_stmt stmt.Return ≡ step S.Return
-  fold_return = rolled stmt.Return S.Return (sym stmt.rolls-Return)
-
-  pub fold_arm : (x : Arm) → folded_arm x ≡ arm (record { test = x.test; body = map folded_stmt x.body })
-  fold_arm x = fold_out-Arm A B C step arm labelled x
-
-  pub fold_case_arm : (x : CaseArm) → folded_case x
-      ≡ labelled (record { labels = x.labels; body = map folded_stmt x.body })
-  fold_case_arm x = fold_out-CaseArm A B C step arm labelled x
+-- of a statement, by its layer
+pub fold_stmt : (A B C : Type 0) (step : S.Stmt-F A B C → A) (arm : S.Arm-F A B C → B)
+    (labelled : S.CaseArm-F A B C → C) {x : Stmt} (y : S.Stmt-F Stmt Arm CaseArm) → roll-Stmt y ≡ x
+    → fold-Stmt A B C step arm labelled x
+    ≡ step
+    (map-Stmt Stmt Arm CaseArm A B C (fold-Stmt A B C step arm labelled) (fold-Arm A B C step arm labelled)
+    (fold-CaseArm A B C step arm labelled) y)
+fold_stmt A B C step arm labelled y e =
+    ap (fold-Stmt A B C step arm labelled) (sym e) ∙ fold-roll-Stmt A B C step arm labelled y
 
 -- Values, in a state
 
@@ -151,51 +110,50 @@ pub ruleset value_equations =
 -- Meanings, with some units and in a state
 
 module _ (g : List Located) (c : Calls) (u : ℕ) (s : State) where
+  means : {x : Stmt} (y : S.Stmt-F Stmt Arm CaseArm) → roll-Stmt y ≡ x → meaning g c x u s
+      ≡ stmt_step g c
+      (map-Stmt Stmt Arm CaseArm Sem Guarded Labelled (meaning g c) (arm_meaning g c) (case_meaning g c) y) u s
+  means y e = ap (λ (m : Sem). m u s) (fold_stmt Sem Guarded Labelled (stmt_step g c) (arm_step g) case_step y e)
+
   pub meaning_assign : (v : Var) (e : Expr) → meaning g c (stmt.Assign v e) u s ≡ stmt_step g c (S.Assign v e) u s
-  meaning_assign v e =
-      ap (λ (m : Sem). m u s) (fold_assign Sem Guarded Labelled (stmt_step g c) (arm_step g) case_step v e)
+  meaning_assign v e = means (S.Assign v e) (stmt.rolls-Assign v e)
 
   pub meaning_area_write : (w : Width) (p e : Expr) → meaning g c (stmt.AreaWrite w p e) u s
       ≡ stmt_step g c (S.AreaWrite w p e) u s
-  meaning_area_write w p e =
-      ap (λ (m : Sem). m u s) (fold_area_write Sem Guarded Labelled (stmt_step g c) (arm_step g) case_step w p e)
+  meaning_area_write w p e = means (S.AreaWrite w p e) (stmt.rolls-AreaWrite w p e)
 
   pub meaning_invoke : (n : ℕ) (actuals : List Var) → meaning g c (stmt.Invoke n actuals) u s
       ≡ stmt_step g c (S.Invoke n actuals) u s
-  meaning_invoke n actuals =
-      ap (λ (m : Sem). m u s) (fold_invoke Sem Guarded Labelled (stmt_step g c) (arm_step g) case_step n actuals)
+  meaning_invoke n actuals = means (S.Invoke n actuals) (stmt.rolls-Invoke n actuals)
 
   pub meaning_if : (arms : List Arm) (other : List Stmt) → meaning g c (stmt.If arms other) u s
       ≡ stmt_step g c (S.If (map (arm_meaning g c) arms) (map (meaning g c) other)) u s
-  meaning_if arms other =
-      ap (λ (m : Sem). m u s) (fold_if Sem Guarded Labelled (stmt_step g c) (arm_step g) case_step arms other)
+  meaning_if arms other = means (S.If arms other) (stmt.rolls-If arms other)
 
   pub meaning_case : (e : Expr) (arms : List CaseArm) (other : List Stmt) → meaning g c (stmt.Case e arms other) u s
       ≡ stmt_step g c (S.Case e (map (case_meaning g c) arms) (map (meaning g c) other)) u s
-  meaning_case e arms other =
-      ap (λ (m : Sem). m u s) (fold_case Sem Guarded Labelled (stmt_step g c) (arm_step g) case_step e arms other)
+  meaning_case e arms other = means (S.Case e arms other) (stmt.rolls-Case e arms other)
 
   pub meaning_while : (test : Expr) (body : List Stmt) → meaning g c (stmt.While test body) u s
       ≡ stmt_step g c (S.While test (map (meaning g c) body)) u s
-  meaning_while test body =
-      ap (λ (m : Sem). m u s) (fold_while Sem Guarded Labelled (stmt_step g c) (arm_step g) case_step test body)
+  meaning_while test body = means (S.While test body) (stmt.rolls-While test body)
 
   pub meaning_exit : meaning g c stmt.Exit u s ≡ stmt_step g c S.Exit u s
-  meaning_exit = ap (λ (m : Sem). m u s) (fold_exit Sem Guarded Labelled (stmt_step g c) (arm_step g) case_step)
+  meaning_exit = means S.Exit stmt.rolls-Exit
 
   pub meaning_continue : meaning g c stmt.Continue u s ≡ stmt_step g c S.Continue u s
-  meaning_continue = ap (λ (m : Sem). m u s) (fold_continue Sem Guarded Labelled (stmt_step g c) (arm_step g) case_step)
+  meaning_continue = means S.Continue stmt.rolls-Continue
 
   pub meaning_return : meaning g c stmt.Return u s ≡ stmt_step g c S.Return u s
-  meaning_return = ap (λ (m : Sem). m u s) (fold_return Sem Guarded Labelled (stmt_step g c) (arm_step g) case_step)
+  meaning_return = means S.Return stmt.rolls-Return
 
 pub meaning_arm : (g : List Located) (c : Calls) (x : Arm) → arm_meaning g c x
     ≡ (value g x.test, body_meaning g c x.body)
-meaning_arm g c x = fold_arm Sem Guarded Labelled (stmt_step g c) (arm_step g) case_step x
+meaning_arm g c x = fold_out-Arm Sem Guarded Labelled (stmt_step g c) (arm_step g) case_step x
 
 pub meaning_case_arm : (g : List Located) (c : Calls) (x : CaseArm) → case_meaning g c x
     ≡ (x.labels, body_meaning g c x.body)
-meaning_case_arm g c x = fold_case_arm Sem Guarded Labelled (stmt_step g c) (arm_step g) case_step x
+meaning_case_arm g c x = fold_out-CaseArm Sem Guarded Labelled (stmt_step g c) (arm_step g) case_step x
 
 pub ruleset meaning_equations = (
   value_equations,
@@ -242,149 +200,32 @@ canon_area_read w a = fold_area_read Form canon_step w a
 pub ruleset canon_equations =
     (canon_literal, canon_read, canon_unary, canon_binary, canon_convert, canon_select, canon_shift, canon_area_read)
 
--- Types
+-- The text of an assignment, at a level
 
-module _ (names : Names) where
-  pub type_literal : (ty : StType) (n : ℤ) → type_of names (expr.Literal ty n) ≡ ty
-  type_literal ty n = fold_literal StType (type_step names) ty n
-
-  pub type_read : (v : Var) → type_of names (expr.Read v) ≡ var_type names v
-  type_read v = fold_read StType (type_step names) v
-
-  pub type_unary : (op : UnaryOp) (a : Expr) → type_of names (expr.Unary op a) ≡ unary_type op (type_of names a)
-  type_unary op a = fold_unary StType (type_step names) op a
-
-  pub type_binary : (op : BinaryOp) (a b : Expr) → type_of names (expr.Binary op a b) ≡ binary_type op (type_of names a)
-  type_binary op a b = fold_binary StType (type_step names) op a b
-
-  pub type_convert : (from to : StType) (a : Expr) → type_of names (expr.Convert from to a) ≡ to
-  type_convert from to a = fold_convert StType (type_step names) from to a
-
-  pub type_select : (a b c : Expr) → type_of names (expr.Select a b c) ≡ type_of names b
-  type_select a b c = fold_select StType (type_step names) a b c
-
-  pub type_shift : (op : ShiftOp) (a b : Expr) → type_of names (expr.Shift op a b) ≡ type_of names a
-  type_shift op a b = fold_shift StType (type_step names) op a b
-
-  pub type_area_read : (w : Width) (a : Expr) → type_of names (expr.AreaRead w a) ≡ type_of_width w
-  type_area_read w a = fold_area_read StType (type_step names) w a
-
-pub ruleset type_equations =
-    (type_literal, type_read, type_unary, type_binary, type_convert, type_select, type_shift, type_area_read)
-
--- Texts, at a level
-
-module _ (names : Names) (level : ℕ) where
-  pub text_assign : (v : Var) (e : Expr) → statement_text names (stmt.Assign v e) level
-      ≡ statement_step names (S.Assign v e) level
-  text_assign v e =
-      ap (λ (f : Text). f level)
-      (fold_assign Text ArmText CaseText (statement_step names) (text.arm_step names) text.case_step v e)
-
-  pub text_area_write : (w : Width) (p e : Expr) → statement_text names (stmt.AreaWrite w p e) level
-      ≡ statement_step names (S.AreaWrite w p e) level
-  text_area_write w p e =
-      ap (λ (f : Text). f level)
-      (fold_area_write Text ArmText CaseText (statement_step names) (text.arm_step names) text.case_step w p e)
-
-  pub text_invoke : (n : ℕ) (actuals : List Var) → statement_text names (stmt.Invoke n actuals) level
-      ≡ statement_step names (S.Invoke n actuals) level
-  text_invoke n actuals =
-      ap (λ (f : Text). f level)
-      (fold_invoke Text ArmText CaseText (statement_step names) (text.arm_step names) text.case_step n actuals)
-
-  pub text_if : (arms : List Arm) (other : List Stmt) → statement_text names (stmt.If arms other) level
-      ≡ statement_step names (S.If (map (arm_text names) arms) (map (statement_text names) other)) level
-  text_if arms other =
-      ap (λ (f : Text). f level)
-      (fold_if Text ArmText CaseText (statement_step names) (text.arm_step names) text.case_step arms other)
-
-  pub text_case : (e : Expr) (arms : List CaseArm) (other : List Stmt)
-      → statement_text names (stmt.Case e arms other) level
-      ≡ statement_step names (S.Case e (map (case_text names) arms) (map (statement_text names) other)) level
-  text_case e arms other =
-      ap (λ (f : Text). f level)
-      (fold_case Text ArmText CaseText (statement_step names) (text.arm_step names) text.case_step e arms other)
-
-  pub text_while : (test : Expr) (body : List Stmt) → statement_text names (stmt.While test body) level
-      ≡ statement_step names (S.While test (map (statement_text names) body)) level
-  text_while test body =
-      ap (λ (f : Text). f level)
-      (fold_while Text ArmText CaseText (statement_step names) (text.arm_step names) text.case_step test body)
-
-  pub text_exit : statement_text names stmt.Exit level ≡ statement_step names S.Exit level
-  text_exit =
-      ap (λ (f : Text). f level)
-      (fold_exit Text ArmText CaseText (statement_step names) (text.arm_step names) text.case_step)
-
-  pub text_continue : statement_text names stmt.Continue level ≡ statement_step names S.Continue level
-  text_continue =
-      ap (λ (f : Text). f level)
-      (fold_continue Text ArmText CaseText (statement_step names) (text.arm_step names) text.case_step)
-
-  pub text_return : statement_text names stmt.Return level ≡ statement_step names S.Return level
-  text_return =
-      ap (λ (f : Text). f level)
-      (fold_return Text ArmText CaseText (statement_step names) (text.arm_step names) text.case_step)
-
-pub text_arm : (names : Names) (x : Arm) → arm_text names x
-    ≡ text.arm_step names (record { test = x.test; body = map (statement_text names) x.body })
-text_arm names x = fold_arm Text ArmText CaseText (statement_step names) (text.arm_step names) text.case_step x
-
-pub text_case_arm : (names : Names) (x : CaseArm) → case_text names x
-    ≡ text.case_step (record { labels = x.labels; body = map (statement_text names) x.body })
-text_case_arm names x =
-    fold_case_arm Text ArmText CaseText (statement_step names) (text.arm_step names) text.case_step x
-
-pub ruleset text_equations = (
-  text_assign,
-  text_area_write,
-  text_invoke,
-  text_if,
-  text_case,
-  text_while,
-  text_exit,
-  text_continue,
-  text_return,
-  text_arm,
-  text_case_arm,
-)
+pub text_assign : (names : Names) (level : ℕ) (v : Var) (e : Expr) → statement_text names (stmt.Assign v e) level
+    ≡ statement_step names (S.Assign v e) level
+text_assign names level v e =
+    ap (λ (f : Text). f level)
+    (fold_stmt Text ArmText CaseText (statement_step names) (text.arm_step names) text.case_step (S.Assign v e)
+    (stmt.rolls-Assign v e))
 
 -- An assignment before other statements
 
--- an assignment, and then others
-assign_first : (g : List Located) (c : Calls) (v : Var) (e : Expr) (rest : List Stmt)
-    (units : ℕ) (s : State) →
-    body_meaning g c (stmt.Assign v e ∷ rest) units s
-    ≡ then_do (changed (and_then (value g e s) (λ x. write g v x s)) units s) (body_meaning g c rest)
-assign_first g c v e rest units s =
-    ap (λ (out : Out). then_do out (body_meaning g c rest)) (meaning_assign g c units s v e)
+module _ (g : List Located) (c : Calls) (v : Var) (e : Expr) (rest : List Stmt) (units : ℕ) (s : State) where
+  -- by what its expression gives
+  assign_first : (r : Result Value Fault) → value g e s ≡ r → body_meaning g c (stmt.Assign v e ∷ rest) units s
+      ≡ then_do (changed (and_then r (λ x. write g v x s)) units s) (body_meaning g c rest)
+  assign_first r worth =
+      ap (λ (out : Out). then_do out (body_meaning g c rest)) (meaning_assign g c units s v e)
+      ∙ ap (λ r. then_do (changed (and_then r (λ x. write g v x s)) units s) (body_meaning g c rest)) worth
 
--- both parts give a value
-pub assign_goes_on : (g : List Located) (c : Calls) (v : Var) (e : Expr) (rest : List Stmt)
-    (units : ℕ) (s t : State) (w : Value)
-    → value g e s ≡ Ok w → write g v w s ≡ Ok t →
-    body_meaning g c (stmt.Assign v e ∷ rest) units s ≡ body_meaning g c rest units t
-assign_goes_on g c v e rest units s t w worth written =
-    assign_first g c v e rest units s
-    ∙ ap (λ r. then_do (changed (and_then r (λ x. write g v x s)) units s) (body_meaning g c rest)) worth
-    ∙ ap (λ r. then_do (changed r units s) (body_meaning g c rest)) written
+  -- both parts give a value
+  pub assign_goes_on : (t : State) (w : Value) → value g e s ≡ Ok w → write g v w s ≡ Ok t
+      → body_meaning g c (stmt.Assign v e ∷ rest) units s ≡ body_meaning g c rest units t
+  assign_goes_on t w worth written =
+      assign_first (Ok w) worth ∙ ap (λ r. then_do (changed r units s) (body_meaning g c rest)) written
 
--- the expression faults
-pub assign_stops_at_value : (g : List Located) (c : Calls) (v : Var) (e : Expr) (rest : List Stmt)
-    (units : ℕ) (s : State) (f : Fault)
-    → value g e s ≡ Err f →
-    body_meaning g c (stmt.Assign v e ∷ rest) units s ≡ Faults f s
-assign_stops_at_value g c v e rest units s f worth =
-    assign_first g c v e rest units s
-    ∙ ap (λ r. then_do (changed (and_then r (λ x. write g v x s)) units s) (body_meaning g c rest)) worth
-
--- the variable's place faults
-pub assign_stops_at_place : (g : List Located) (c : Calls) (v : Var) (e : Expr) (rest : List Stmt)
-    (units : ℕ) (s : State) (w : Value) (f : Fault)
-    → value g e s ≡ Ok w → write g v w s ≡ Err f →
-    body_meaning g c (stmt.Assign v e ∷ rest) units s ≡ Faults f s
-assign_stops_at_place g c v e rest units s w f worth written =
-    assign_first g c v e rest units s
-    ∙ ap (λ r. then_do (changed (and_then r (λ x. write g v x s)) units s) (body_meaning g c rest)) worth
-    ∙ ap (λ r. then_do (changed r units s) (body_meaning g c rest)) written
+  -- the expression faults
+  pub assign_stops_at_value : (f : Fault) → value g e s ≡ Err f
+      → body_meaning g c (stmt.Assign v e ∷ rest) units s ≡ Faults f s
+  assign_stops_at_value f worth = assign_first (Err f) worth

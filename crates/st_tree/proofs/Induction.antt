@@ -4,7 +4,7 @@ use Rattle.std.specs.Prelude.{◌≡◌, ℕ, ℤ, List, [], ◌∷◌, map}
 use Rattle.std.proofs.Common.{sym, subst}
 use Rattle.s7_base.specs.declared.word.Width.{Width}
 use Rattle.st_tree.specs.declared.expr.BinaryOp.{BinaryOp}
-use Rattle.st_tree.specs.declared.expr.Expr.{Expr, ind-Expr, map-Expr, roll-Expr}
+use Rattle.st_tree.specs.declared.expr.Expr.{Expr, fold-Expr, fold-roll-Expr, ind-Expr, map-Expr, roll-Expr}
 use Rattle.st_tree.specs.declared.expr.Expr.TheVariants as expr
 use Rattle.st_tree.specs.declared.expr.Expr.TheOpen as E
 use Rattle.st_tree.specs.declared.expr.ShiftOp.{ShiftOp}
@@ -52,6 +52,44 @@ module _ (P : Expr → Type 0) (h : ExprSteps P) where
   every_expr =
       ind-Expr P (λ (x : E.Expr-F Expr) (y : E.Expr-F AnExpr) e.
       subst (λ (z : E.Expr-F Expr). P (roll-Expr z)) e (expr_core y))
+
+-- Two folds
+
+-- what two folds gave of one operand, which is related
+abbrev pub Both : {A B : Type 0} → (A → B → Type 0) → Type 0
+Both {A} {B} R = (a : A) × (b : B) × R a b
+
+-- one layer of them gives what is related, whatever related operands it has
+abbrev pub Layers : {A B : Type 0} → (A → B → Type 0) → (E.Expr-F A → A) → (E.Expr-F B → B) → Type 0
+Layers {A} {B} R first second =
+    (y : E.Expr-F (Both R)) → R (first (map-Expr (Both R) A (λ x. x.0) y)) (second (map-Expr (Both R) B (λ x. x.1) y))
+
+module _ {A B : Type 0} (R : A → B → Type 0) (first : E.Expr-F A → A) (second : E.Expr-F B → B)
+    (layers : Layers R first second)
+  where
+    abbrev Related : Expr → Type 0
+    Related e = R (fold-Expr A first e) (fold-Expr B second e)
+
+    abbrev AnOperand : Type 0
+    AnOperand = (x : Expr) × Related x
+
+    abbrev both : AnOperand → Both R
+    both x = (fold-Expr A first x.0, fold-Expr B second x.0, x.1)
+
+    abbrev layer : E.Expr-F AnOperand → E.Expr-F Expr
+    layer y = map-Expr AnOperand Expr (λ x. x.0) y
+
+    in_step : (y : E.Expr-F AnOperand) → R (first (map-Expr Expr A (fold-Expr A first) (layer y)))
+        (second (map-Expr Expr B (fold-Expr B second) (layer y)))
+    in_step (E.Literal ty n) = layers (E.Literal ty n)
+    in_step y = layers (map-Expr AnOperand (Both R) both y)
+
+    -- so they give what is related of every expression
+    pub folds_related : (e : Expr) → Related e
+    folds_related =
+        ind-Expr Related (λ (x : E.Expr-F Expr) (y : E.Expr-F AnOperand) e.
+        subst (λ (z : E.Expr-F Expr). Related (roll-Expr z)) e
+        (rw (fold-roll-Expr A first (layer y), fold-roll-Expr B second (layer y)) (in_step y)))
 
 -- Statements
 

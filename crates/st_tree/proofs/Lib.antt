@@ -12,7 +12,6 @@ pub mod FittingWrites
 pub mod GraphUnits
 pub mod Induction
 pub mod PartEquations
-pub mod RawInduction
 pub mod TypedParts
 pub mod TypesAgree
 pub mod TypingEquations

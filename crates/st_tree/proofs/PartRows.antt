@@ -1,8 +1,10 @@
 -- The parts of a small body, by computing them.
 use Rattle.std.specs.Prelude.{◌≡◌, pos, List, [], ◌∷◌}
+use Rattle.std.specs.List.{flat_map}
+use Rattle.std.proofs.Common.{ap, ◌∙◌}
 use Rattle.s7_base.specs.declared.register.Reg.TheVariants as reg
 use Rattle.s7_base.specs.declared.word.Width.TheVariants as width
-use Rattle.st_tree.specs.Parts.{calls_in, expressions_in, height, reads_in, statements_in}
+use Rattle.st_tree.specs.Parts.{calls_in, expressions_in, height, reads_in, reads_of, statements_in}
 use Rattle.st_tree.proofs.PartEquations.{part_equations}
 use Rattle.st_tree.specs.declared.expr.BinaryOp.TheVariants as binary
 use Rattle.st_tree.specs.declared.expr.Expr.{Expr}
@@ -48,7 +50,7 @@ each_expression : expressions_in body ≡ expr.Read rlo ∷ expr.Read rlo ∷ su
 each_expression = simp part_equations
 
 each_read : reads_in body ≡ rlo ∷ rlo ∷ var.Local 0 ∷ var.Register reg.Ar1 ∷ var.Local 0 ∷ []
-each_read = simp part_equations
+each_read = ap (flat_map reads_of) each_expression ∙ simp part_equations
 
 two_high : height sum ≡ 2
 two_high = simp part_equations

@@ -16,6 +16,7 @@ use Rattle.memory_areas.specs.declared.call.Call.{Call}
 use Rattle.st_tree.specs.Chains.{chain_of}
 use Rattle.st_tree.specs.Depth.{deepest}
 use Rattle.st_tree.specs.Naming.{are_apart, is_free, is_name, key_of, may_name_local, may_name_unit}
+use Rattle.st_tree.specs.Parts.{calls_in}
 use Rattle.st_tree.specs.Nesting.{body_nesting, expression_nesting}
 use Rattle.st_tree.specs.Proper.{IsDataBlock, IsFormal, IsGlobal, IsLocal, IsProperUnit, Proper, outer_keys}
 use Rattle.st_tree.specs.Fitting.{Fits}
@@ -248,8 +249,14 @@ main_is =
 one_long : chain_of tree 0 ≡ 1
 one_long = simp part_equations
 
+calls_of_counter : calls_in counter.body ≡ []
+calls_of_counter = simp part_equations
+
+calls_of_main : calls_in main.body ≡ (0, var.Global 0 ∷ []) ∷ []
+calls_of_main = simp part_equations
+
 two_long : chain_of tree 1 ≡ 2
-two_long = simp part_equations
+two_long = simp (calls_of_main, calls_of_counter)
 
 chains : (n : ℕ) (unit : Pou) → slice_get tree.pous n ≡ Some unit → chain_of tree n ≤ ACTIVATIONS
 chains zero unit e = subst (λ (n : ℕ). n ≤ ACTIVATIONS) (sym one_long) (omega arith)

@@ -1,13 +1,13 @@
 -- What the rules of types and of nesting say of an expression and of a statement at each variant, and which types
 -- are the same.
-use Rattle.std.specs.Prelude.{◌≡◌, ℕ, suc, max, Bool, true, ◌&&◌, ◌==◌, if◌then◌else◌, ℤ, List, map, slice_get, Option, Some, None}
+use Rattle.std.specs.Prelude.{◌≡◌, ℕ, suc, max, Bool, true, ◌&&◌, ℤ, List, map, slice_get, Option, Some, None}
 use Rattle.std.specs.List.{list_all}
-use Rattle.std.proofs.Common.{refl, sym, ap, ◌∙◌, eqb-true}
+use Rattle.std.proofs.Common.{refl, ap}
 use Rattle.s7_base.specs.declared.word.Width.{Width}
 use Rattle.st_tree.specs.Depth.{greatest}
 use Rattle.st_tree.specs.Nesting
 use Rattle.st_tree.specs.Nesting.{arm_nesting, body_nesting, case_nesting, expression_nesting, nesting, nesting_step}
-use Rattle.st_tree.specs.TypeRules.{is_type, place_of}
+use Rattle.st_tree.specs.TypeRules.{is_type}
 use Rattle.st_tree.specs.WellTyped.{CaseCheck, Check, Sight, arm_step, case_step, are_well_typed, expression_step, expression_type, has_type, is_arm, is_assigned, is_call, is_case_arm, is_some_of, is_value, is_well_typed, statement_step, variable_type}
 use Rattle.st_tree.specs.Values.{type_of_width}
 use Rattle.st_tree.specs.declared.expr.BinaryOp.{BinaryOp}
@@ -19,12 +19,12 @@ use Rattle.st_tree.specs.declared.expr.StType.{StType}
 use Rattle.st_tree.specs.declared.expr.StType.TheVariants as type
 use Rattle.st_tree.specs.declared.expr.UnaryOp.{UnaryOp}
 use Rattle.st_tree.specs.declared.expr.Var.{Var}
-use Rattle.st_tree.specs.declared.program.Arm.{Arm}
-use Rattle.st_tree.specs.declared.program.CaseArm.{CaseArm}
-use Rattle.st_tree.specs.declared.program.Stmt.{Stmt}
+use Rattle.st_tree.specs.declared.program.Arm.{Arm, fold_out-Arm}
+use Rattle.st_tree.specs.declared.program.CaseArm.{CaseArm, fold_out-CaseArm}
+use Rattle.st_tree.specs.declared.program.Stmt.{Stmt, map-Stmt, roll-Stmt}
 use Rattle.st_tree.specs.declared.program.Stmt.TheOpen as S
 use Rattle.st_tree.specs.declared.program.Stmt.TheVariants as stmt
-use Rattle.st_tree.proofs.Equations.{canon_equations, fold_area_read, fold_area_write, fold_arm, fold_assign, fold_binary, fold_case, fold_case_arm, fold_continue, fold_convert, fold_exit, fold_if, fold_invoke, fold_literal, fold_read, fold_return, fold_select, fold_shift, fold_unary, fold_while}
+use Rattle.st_tree.proofs.Equations.{canon_equations, fold_area_read, fold_binary, fold_convert, fold_literal, fold_read, fold_select, fold_shift, fold_stmt, fold_unary}
 
 -- Expressions
 
@@ -74,67 +74,58 @@ pub ruleset typed_equations = (
 -- Statements, inside a WHILE or not
 
 module _ (sight : Sight) (inside : Bool) where
-  abbrev at : Check → Bool
-  at check = check inside
+  good : {x : Stmt} (y : S.Stmt-F Stmt Arm CaseArm) → roll-Stmt y ≡ x → is_well_typed sight x inside
+      ≡ statement_step sight
+      (map-Stmt Stmt Arm CaseArm Check Check CaseCheck (is_well_typed sight) (is_arm sight) (is_case_arm sight) y) inside
+  good y e =
+      ap (λ (check : Check). check inside)
+      (fold_stmt Check Check CaseCheck (statement_step sight) (arm_step sight) case_step y e)
 
   pub good_assign : (v : Var) (e : Expr) → is_well_typed sight (stmt.Assign v e) inside
       ≡ is_assigned (variable_type sight v) (expression_type sight e)
-  good_assign v e =
-      ap at (fold_assign Check Check CaseCheck (statement_step sight) (arm_step sight) case_step v e)
+  good_assign v e = good (S.Assign v e) (stmt.rolls-Assign v e)
 
   pub good_area_write : (w : Width) (p e : Expr) → is_well_typed sight (stmt.AreaWrite w p e) inside
       ≡ has_type type.Dword (expression_type sight p) && has_type (type_of_width w) (expression_type sight e)
-  good_area_write w p e =
-      ap at
-      (fold_area_write Check Check CaseCheck (statement_step sight) (arm_step sight) case_step w p e)
+  good_area_write w p e = good (S.AreaWrite w p e) (stmt.rolls-AreaWrite w p e)
 
   pub good_invoke : (n : ℕ) (actuals : List Var) → is_well_typed sight (stmt.Invoke n actuals) inside
       ≡ is_call sight (slice_get sight.heads n) actuals
-  good_invoke n actuals =
-      ap at
-      (fold_invoke Check Check CaseCheck (statement_step sight) (arm_step sight) case_step n actuals)
+  good_invoke n actuals = good (S.Invoke n actuals) (stmt.rolls-Invoke n actuals)
 
   pub good_if : (arms : List Arm) (other : List Stmt) → is_well_typed sight (stmt.If arms other) inside
       ≡ statement_step sight (S.If (map (is_arm sight) arms) (map (is_well_typed sight) other)) inside
-  good_if arms other =
-      ap at
-      (fold_if Check Check CaseCheck (statement_step sight) (arm_step sight) case_step arms other)
+  good_if arms other = good (S.If arms other) (stmt.rolls-If arms other)
 
   pub good_case : (e : Expr) (arms : List CaseArm) (other : List Stmt)
       → is_well_typed sight (stmt.Case e arms other) inside
       ≡ statement_step sight (S.Case e (map (is_case_arm sight) arms) (map (is_well_typed sight) other)) inside
-  good_case e arms other =
-      ap at
-      (fold_case Check Check CaseCheck (statement_step sight) (arm_step sight) case_step e arms other)
+  good_case e arms other = good (S.Case e arms other) (stmt.rolls-Case e arms other)
 
   pub good_while : (test : Expr) (body : List Stmt) → is_well_typed sight (stmt.While test body) inside
       ≡ has_type type.Bool (expression_type sight test) && are_well_typed sight true body
-  good_while test body =
-      ap at
-      (fold_while Check Check CaseCheck (statement_step sight) (arm_step sight) case_step test body)
+  good_while test body = good (S.While test body) (stmt.rolls-While test body)
 
   pub good_arm : (x : Arm) → is_arm sight x inside
       ≡ has_type type.Bool (expression_type sight x.test) && are_well_typed sight inside x.body
   good_arm x =
-      ap at (fold_arm Check Check CaseCheck (statement_step sight) (arm_step sight) case_step x)
+      ap (λ (check : Check). check inside)
+      (fold_out-Arm Check Check CaseCheck (statement_step sight) (arm_step sight) case_step x)
 
   pub good_case_arm : (x : CaseArm) (ty : StType) → is_case_arm sight x ty inside
       ≡ is_some_of x.labels && list_all (is_value ty) x.labels && are_well_typed sight inside x.body
   good_case_arm x ty =
       ap (λ (check : CaseCheck). check ty inside)
-      (fold_case_arm Check Check CaseCheck (statement_step sight) (arm_step sight) case_step x)
+      (fold_out-CaseArm Check Check CaseCheck (statement_step sight) (arm_step sight) case_step x)
 
   pub good_exit : is_well_typed sight stmt.Exit inside ≡ inside
-  good_exit =
-      ap at (fold_exit Check Check CaseCheck (statement_step sight) (arm_step sight) case_step)
+  good_exit = good S.Exit stmt.rolls-Exit
 
   pub good_continue : is_well_typed sight stmt.Continue inside ≡ inside
-  good_continue =
-      ap at (fold_continue Check Check CaseCheck (statement_step sight) (arm_step sight) case_step)
+  good_continue = good S.Continue stmt.rolls-Continue
 
   pub good_return : is_well_typed sight stmt.Return inside ≡ true
-  good_return =
-      ap at (fold_return Check Check CaseCheck (statement_step sight) (arm_step sight) case_step)
+  good_return = good S.Return stmt.rolls-Return
 
 pub ruleset good_equations = (
   typed_equations,
@@ -153,42 +144,46 @@ pub ruleset good_equations = (
 
 -- Nesting
 
+nests : {x : Stmt} (y : S.Stmt-F Stmt Arm CaseArm) → roll-Stmt y ≡ x
+    → nesting x ≡ nesting_step (map-Stmt Stmt Arm CaseArm ℕ ℕ ℕ nesting arm_nesting case_nesting y)
+nests y e = fold_stmt ℕ ℕ ℕ nesting_step Nesting.arm_step Nesting.case_step y e
+
 pub nesting_assign : (v : Var) (e : Expr) → nesting (stmt.Assign v e) ≡ expression_nesting e
-nesting_assign v e = fold_assign ℕ ℕ ℕ nesting_step Nesting.arm_step Nesting.case_step v e
+nesting_assign v e = nests (S.Assign v e) (stmt.rolls-Assign v e)
 
 pub nesting_area_write : (w : Width) (p e : Expr) → nesting (stmt.AreaWrite w p e)
     ≡ suc (max (expression_nesting p) (expression_nesting e))
-nesting_area_write w p e = fold_area_write ℕ ℕ ℕ nesting_step Nesting.arm_step Nesting.case_step w p e
+nesting_area_write w p e = nests (S.AreaWrite w p e) (stmt.rolls-AreaWrite w p e)
 
 pub nesting_invoke : (n : ℕ) (actuals : List Var) → nesting (stmt.Invoke n actuals) ≡ 1
-nesting_invoke n actuals = fold_invoke ℕ ℕ ℕ nesting_step Nesting.arm_step Nesting.case_step n actuals
+nesting_invoke n actuals = nests (S.Invoke n actuals) (stmt.rolls-Invoke n actuals)
 
 pub nesting_if : (arms : List Arm) (other : List Stmt) → nesting (stmt.If arms other)
     ≡ suc (max (greatest (map arm_nesting arms)) (body_nesting other))
-nesting_if arms other = fold_if ℕ ℕ ℕ nesting_step Nesting.arm_step Nesting.case_step arms other
+nesting_if arms other = nests (S.If arms other) (stmt.rolls-If arms other)
 
 pub nesting_case : (e : Expr) (arms : List CaseArm) (other : List Stmt) → nesting (stmt.Case e arms other)
     ≡ suc (max (expression_nesting e) (max (greatest (map case_nesting arms)) (body_nesting other)))
-nesting_case e arms other = fold_case ℕ ℕ ℕ nesting_step Nesting.arm_step Nesting.case_step e arms other
+nesting_case e arms other = nests (S.Case e arms other) (stmt.rolls-Case e arms other)
 
 pub nesting_while : (test : Expr) (body : List Stmt) → nesting (stmt.While test body)
     ≡ suc (max (expression_nesting test) (body_nesting body))
-nesting_while test body = fold_while ℕ ℕ ℕ nesting_step Nesting.arm_step Nesting.case_step test body
+nesting_while test body = nests (S.While test body) (stmt.rolls-While test body)
 
 pub nesting_arm : (x : Arm) → arm_nesting x ≡ max (expression_nesting x.test) (body_nesting x.body)
-nesting_arm x = fold_arm ℕ ℕ ℕ nesting_step Nesting.arm_step Nesting.case_step x
+nesting_arm x = fold_out-Arm ℕ ℕ ℕ nesting_step Nesting.arm_step Nesting.case_step x
 
 pub nesting_case_arm : (x : CaseArm) → case_nesting x ≡ body_nesting x.body
-nesting_case_arm x = fold_case_arm ℕ ℕ ℕ nesting_step Nesting.arm_step Nesting.case_step x
+nesting_case_arm x = fold_out-CaseArm ℕ ℕ ℕ nesting_step Nesting.arm_step Nesting.case_step x
 
 pub nesting_exit : nesting stmt.Exit ≡ 0
-nesting_exit = fold_exit ℕ ℕ ℕ nesting_step Nesting.arm_step Nesting.case_step
+nesting_exit = nests S.Exit stmt.rolls-Exit
 
 pub nesting_continue : nesting stmt.Continue ≡ 0
-nesting_continue = fold_continue ℕ ℕ ℕ nesting_step Nesting.arm_step Nesting.case_step
+nesting_continue = nests S.Continue stmt.rolls-Continue
 
 pub nesting_return : nesting stmt.Return ≡ 0
-nesting_return = fold_return ℕ ℕ ℕ nesting_step Nesting.arm_step Nesting.case_step
+nesting_return = nests S.Return stmt.rolls-Return
 
 pub ruleset nesting_equations = (
   canon_equations,
@@ -207,29 +202,15 @@ pub ruleset nesting_equations = (
 
 -- Types
 
--- the type at a place in the list of types
-type_at : ℕ → StType
-type_at n =
-    if n == 0 then type.Bool
-    else if n == 1 then type.Byte
-    else if n == 2 then type.Word
-    else if n == 3 then type.Dword
-    else if n == 4 then type.Int
-    else if n == 5 then type.Dint
-    else type.Lint
-
-at_place : (ty : StType) → type_at (place_of ty) ≡ ty
-unfolding type_at
-at_place type.Bool = refl
-at_place type.Byte = refl
-at_place type.Word = refl
-at_place type.Dword = refl
-at_place type.Int = refl
-at_place type.Dint = refl
-at_place type.Lint = refl
-
 pub same_type : (a b : StType) → is_type a b ≡ true → a ≡ b
-same_type a b h = sym (at_place a) ∙ ap type_at (eqb-true (place_of a) (place_of b) h) ∙ at_place b
+same_type type.Bool type.Bool h = refl
+same_type type.Byte type.Byte h = refl
+same_type type.Word type.Word h = refl
+same_type type.Dword type.Dword h = refl
+same_type type.Int type.Int h = refl
+same_type type.Dint type.Dint h = refl
+same_type type.Lint type.Lint h = refl
+same_type a b h = cc
 
 pub type_had : (ty : StType) (o : Option StType) → has_type ty o ≡ true → o ≡ Some ty
 type_had ty None h = cc

@@ -7,7 +7,7 @@ use Rattle.st_runner.proofs.leaving.continue_loop.Goals as goal
 
 pub loop-frame-preserved : goal.loop-frame-preserved
 loop-frame-preserved c = (
-  passed Continues _ c.loop-frame.work.items c.pop.new.self.items c.in-Some.frame (ap (size unit_costs) c.in-Rest.is) (λ g d u s. ap (λ f. framed g d f (Continues u s)) c.in-Rest.is) c.in-Some.ensures.items c.loop-frame.invariant.0,
+  passed Continues Continues _ c.loop-frame.work.items c.pop.new.self.items c.in-Some.frame (ap (size unit_costs) c.in-Rest.is) (λ g d u s. ap (λ f. framed g d f (Continues u s)) c.in-Rest.is) c.in-Some.ensures.items c.loop-frame.invariant.0,
   c.in-Some.ensures.capacity ∙ c.loop-frame.invariant.1,
 )
 

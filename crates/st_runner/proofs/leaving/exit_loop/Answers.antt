@@ -2,18 +2,18 @@ use Rattle.std.proofs.Common.{[], ◌∷◌, ◌++◌, ap, sym, ◌∙◌}
 use Rattle.st_runner.specs.inner.Measures.{size, unit_costs}
 use Rattle.st_runner.specs.inner.Waiting.{framed}
 use Rattle.st_tree.specs.Meaning.{Exits, Normal}
-use Rattle.st_runner.proofs.Tops.{loop_ended, passed, stopped}
+use Rattle.st_runner.proofs.Tops.{passed, stopped}
 use Rattle.st_runner.proofs.leaving.exit_loop.Goals as goal
 
 pub loop-frame-preserved : goal.loop-frame-preserved
 loop-frame-preserved c = (
-  passed Exits _ c.loop-frame.work.items c.pop.new.self.items c.in-Some.frame (ap (size unit_costs) c.in-Rest.is) (λ g d u s. ap (λ f. framed g d f (Exits u s)) c.in-Rest.is) c.in-Some.ensures.items c.loop-frame.invariant.0,
+  passed Exits Exits _ c.loop-frame.work.items c.pop.new.self.items c.in-Some.frame (ap (size unit_costs) c.in-Rest.is) (λ g d u s. ap (λ f. framed g d f (Exits u s)) c.in-Rest.is) c.in-Some.ensures.items c.loop-frame.invariant.0,
   c.in-Some.ensures.capacity ∙ c.loop-frame.invariant.1,
 )
 
 pub returns-in-Again-clause-leaves : goal.returns-in-Again-clause-leaves
 returns-in-Again-clause-leaves c =
-    loop_ended c.args.work.now.items c.loop-frame.work.items c.pop.new.self.items c.in-Some.frame (ap (size unit_costs) c.in-Again.is) (λ g d u s. ap (λ f. framed g d f (Exits u s)) c.in-Again.is) c.in-Some.ensures.items c.loop-frame.invariant.0
+    passed Exits Normal c.args.work.now.items c.loop-frame.work.items c.pop.new.self.items c.in-Some.frame (ap (size unit_costs) c.in-Again.is) (λ g d u s. ap (λ f. framed g d f (Exits u s)) c.in-Again.is) c.in-Some.ensures.items c.loop-frame.invariant.0
 
 pub returns-in-Unit-clause-leaves : goal.returns-in-Unit-clause-leaves
 returns-in-Unit-clause-leaves c =

@@ -7,13 +7,13 @@ use Rattle.st_runner.proofs.leaving.return_unit.Goals as goal
 
 pub loop-frame-preserved-in-Rest : goal.loop-frame-preserved-in-Rest
 loop-frame-preserved-in-Rest c = (
-  passed Returns _ c.loop-frame.work.items c.pop.new.self.items c.in-Some.frame (ap (size unit_costs) c.in-Rest.is) (λ g d u s. ap (λ f. framed g d f (Returns u s)) c.in-Rest.is) c.in-Some.ensures.items c.loop-frame.invariant.0,
+  passed Returns Returns _ c.loop-frame.work.items c.pop.new.self.items c.in-Some.frame (ap (size unit_costs) c.in-Rest.is) (λ g d u s. ap (λ f. framed g d f (Returns u s)) c.in-Rest.is) c.in-Some.ensures.items c.loop-frame.invariant.0,
   c.in-Some.ensures.capacity ∙ c.loop-frame.invariant.1,
 )
 
 pub loop-frame-preserved : goal.loop-frame-preserved
 loop-frame-preserved c = (
-  passed Returns _ c.loop-frame.work.items c.pop.new.self.items c.in-Some.frame (ap (size unit_costs) c.in-Again.is) (λ g d u s. ap (λ f. framed g d f (Returns u s)) c.in-Again.is) c.in-Some.ensures.items c.loop-frame.invariant.0,
+  passed Returns Returns _ c.loop-frame.work.items c.pop.new.self.items c.in-Some.frame (ap (size unit_costs) c.in-Again.is) (λ g d u s. ap (λ f. framed g d f (Returns u s)) c.in-Again.is) c.in-Some.ensures.items c.loop-frame.invariant.0,
   c.in-Some.ensures.capacity ∙ c.loop-frame.invariant.1,
 )
 
