@@ -14,7 +14,7 @@ use Rattle.st_runner.specs.declared.frame.At.{At}
 use Rattle.st_runner.specs.declared.frame.At.TheVariants as at
 use Rattle.st_runner.specs.declared.frame.Frame.{Frame}
 use Rattle.st_runner.specs.declared.frame.Frame.TheVariants as frame
-use Rattle.st_runner.proofs.Costs.{labelled_most, labelled_weight, most_stmt, picked_most, picked_weight, weight_stmt}
+use Rattle.st_runner.proofs.Costs.{labelled_most, labelled_weight, picked_most, picked_weight, weight_stmt}
 use Rattle.st_runner.proofs.Means.{area_err, area_ok, assign_err, assign_ok, case_means, chosen_out, if_means}
 use Rattle.st_runner.proofs.Stack.{sizes_tall, unwound_faults}
 use Rattle.st_runner.proofs.Tops.{on_top, top_sizes, top_tall, top_weight}
@@ -31,7 +31,7 @@ use Rattle.st_tree.specs.declared.program.Stmt.{Stmt}
 use Rattle.st_tree.specs.declared.program.Stmt.TheOpen as S
 use Rattle.st_tree.specs.declared.program.Stmt.TheVariants as stmt
 use Rattle.st_tree.specs.declared.state.Value.{Value}
-use Rattle.st_tree.proofs.Equations.{meaning_continue, meaning_exit, meaning_invoke, meaning_return, meaning_while}
+use Rattle.st_tree.proofs.Equations.{meaning_continue, meaning_exit, meaning_return}
 
 -- frames that stay as they are cost no more
 stay_reach : (k : Costs) (ws : List Frame) (n : ℕ) → reach k ws at.Work ≤ max (tall k ws) (sizes k ws + n)
@@ -72,32 +72,6 @@ module _ (tree : StProgram) (ws : List Frame) where
 
   pub area_done : (w : Width) (p e : Expr) (s t : State) (r : Result (Unit {0}) Fault) (next : At) → Changes (area_assigned tree.globals w p e s) r s t → next ≡ next_of r → Done tree (stmt.AreaWrite w p e) ws ws next s t
   area_done w p e s t r next h n = subst (λ (z : At). Done tree (stmt.AreaWrite w p e) ws ws z s t) (sym n) (area_by w p e s t r h)
-
-  pub invoke_done : (n : ℕ) (actuals : List Var) (b : Bor (List Var)) (s : State) → b.now ≡ actuals → Done tree (stmt.Invoke n actuals) ws ws (at.Call n b) s s
-  invoke_done n actuals b s e =
-      record {
-        meaning = λ c u.
-            ap (ending tree.globals c ws) (sym (meaning_invoke tree.globals c u s n b.now))
-            ∙ ap (λ (xs : List Var). ending tree.globals c ws (meaning tree.globals c (stmt.Invoke n xs) u s)) e;
-        reach = λ k. let m : most k (stmt.Invoke n actuals) ≡ k.call n b.now = most_stmt k (S.Invoke n actuals) (stmt.rolls-Invoke n actuals) ∙ ap (k.call n) (sym e) in omega (arith, sizes_tall k ws);
-        units = refl;
-        weight = tt;
-      }
-
-  pub while_done : (test : Expr) (body : List Stmt) (t : Bor Expr) (b : Bor (List Stmt)) (s : State) → t.now ≡ test → b.now ≡ body → Done tree (stmt.While test body) ws ws (at.Test t b) s s
-  while_done test body t b s e f =
-      record {
-        meaning = λ c u.
-            ap (ending tree.globals c ws) (sym (meaning_while tree.globals c u s t.now b.now))
-            ∙ ap (λ (x : Expr). ending tree.globals c ws (meaning tree.globals c (stmt.While x b.now) u s)) e
-            ∙ ap (λ (xs : List Stmt). ending tree.globals c ws (meaning tree.globals c (stmt.While test xs) u s)) f;
-        reach = λ k.
-            let m : most k (stmt.While test body) ≡ k.again + k.rest + body_most k b.now = most_stmt k (S.While test body) (stmt.rolls-While test body) ∙ ap (λ (xs : List Stmt). k.again + k.rest + body_most k xs) (sym f) in
-            let h : sizes k ws ≤ tall k ws = sizes_tall k ws in
-            omega arith;
-        units = refl;
-        weight = tt;
-      }
 
   -- EXIT, CONTINUE and RETURN
   left_by : (x : Stmt) (o : ℕ → State → Out) (vs : List Frame) (s : State) → ((c : Calls) (u : ℕ) → meaning tree.globals c x u s ≡ o u s) → weight x ≡ 1 → Leaves o Normal ws vs → Done tree x ws vs at.Work s s
@@ -152,5 +126,3 @@ module _ (tree : StProgram) (ws : List Frame) where
       faulted (stmt.Case x arms other) s f (λ c u.
       sym (ap end_seen (unwound_faults tree.globals c ws f s))
       ∙ ap (ending tree.globals c ws) (sym (case_means tree.globals c u s x arms other ∙ ap (λ r. chosen_out tree.globals c u s (and_then r (λ (w : Value). Ok (labelled w.n arms other)))) p)))
-
-pub ruleset done_lemmas = (assign_done, area_done, invoke_done, while_done, exit_done, continue_done, return_done, if_done, if_fault, case_done, case_fault)

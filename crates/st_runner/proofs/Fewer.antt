@@ -22,7 +22,7 @@ use Rattle.st_tree.specs.declared.program.StProgram.{StProgram}
 use Rattle.st_tree.specs.declared.program.Stmt.{Stmt}
 use Rattle.st_tree.specs.declared.state.Reference.{Reference}
 use Rattle.st_tree.specs.declared.state.Value.{Value}
-use Rattle.st_tree.proofs.Ends.{follows_same}
+use Rattle.st_tree.proofs.Units.{follows_same}
 use Rattle.st_tree.proofs.Units.{CallsFollow, Follows, body_follows, calls_follow, statements_follow, then_follows, turns_follow, unit_follows}
 
 module _ (g : List Located) (c d : Calls) (k : ℕ) (calls : CallsFollow k c d) where

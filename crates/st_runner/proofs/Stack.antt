@@ -16,18 +16,16 @@ module _ (g : List Located) (c : Calls) where
   unwound_push (x ∷ fs) f o = ap (framed g c x) (unwound_push fs f o)
 
   framed_faults : (f : Frame) (x : Fault) (s : State) → framed g c f (Faults x s) ≡ Faults x s
-  framed_faults (frame.Rest body) x s = refl
-  framed_faults (frame.Again test body) x s = refl
   framed_faults frame.Unit x s = refl
+  framed_faults f x s = refl
 
   pub unwound_faults : (fs : List Frame) (x : Fault) (s : State) → unwound g c fs (Faults x s) ≡ Faults x s
   unwound_faults [] x s = refl
   unwound_faults (f ∷ fs) x s = ap (framed g c f) (unwound_faults fs x s) ∙ framed_faults f x s
 
   framed_none : (f : Frame) (s : State) → framed g c f (NoUnits s) ≡ NoUnits s
-  framed_none (frame.Rest body) s = refl
-  framed_none (frame.Again test body) s = refl
   framed_none frame.Unit s = refl
+  framed_none f s = refl
 
   pub unwound_none : (fs : List Frame) (s : State) → unwound g c fs (NoUnits s) ≡ NoUnits s
   unwound_none [] s = refl

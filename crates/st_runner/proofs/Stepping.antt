@@ -25,11 +25,7 @@ use Rattle.st_tree.specs.declared.program.Stmt.{Stmt}
 -- behind a statement nothing is to be done
 alone : (o : Out) → o ≡ then_do o (λ u s. Normal u s)
 alone (Normal u s) = refl
-alone (Exits u s) = refl
-alone (Continues u s) = refl
-alone (Returns u s) = refl
-alone (Faults f s) = refl
-alone (NoUnits s) = refl
+alone o = refl
 
 -- the rest of a list waits, or there is none
 by_rest : (P : List Frame → Type 0) (xs : List Stmt) (below above : List Frame) → (xs ≡ [] → P below) → P above → P (or_none xs below above)

@@ -24,8 +24,7 @@ use Rattle.st_tree.specs.declared.program.StProgram.{StProgram}
 use Rattle.st_tree.specs.declared.state.Reference.{Reference}
 use Rattle.st_tree.specs.declared.state.Reference.TheVariants as reference
 use Rattle.st_tree.proofs.FittingMemory.{cleared_holds}
-use Rattle.st_tree.proofs.FittingStatements.{statements_keep}
-use Rattle.st_tree.proofs.FittingStates.{Refers, depth_is, variable_refers}
+use Rattle.st_tree.proofs.FittingStatements.{Refers, depth_is, statements_keep, variable_refers}
 use Rattle.st_tree.proofs.TypingEquations.{type_had}
 
 -- Elements by their positions
@@ -46,12 +45,7 @@ all_before P xs ys all k d less =
 -- zero is a number of each type
 pub zero_fits : (ty : StType) → fit ty (pos 0) ≡ pos 0
 zero_fits type.Bool = refl
-zero_fits type.Byte = refl
-zero_fits type.Word = refl
-zero_fits type.Dword = refl
-zero_fits type.Int = refl
-zero_fits type.Dint = refl
-zero_fits type.Lint = refl
+zero_fits ty = refl
 
 pub zeros_fit : (ls : List Local) → Paired (λ (l : Local) v. IsOf l.ty v) ls (map zero_of ls)
 zeros_fit [] = tt
@@ -140,23 +134,8 @@ module _ (tree : StProgram) (waiting : List Pou) (unit : Pou) where
   actual_refers : (v : Var) (s : State) → Fits tree waiting unit s
       → Refers running (variable_type sight v) (located_actual tree.globals v s)
   actual_refers (var.Formal i) s h = variable_refers tree waiting unit s h (var.Formal i)
-  actual_refers (var.Register r) s h =
-      after_test (variable_type sight (var.Register r)) (reference_of tree.globals (var.Register r) s) s
-      (variable_refers tree waiting unit s h (var.Register r))
-  actual_refers (var.Local i) s h =
-      after_test (variable_type sight (var.Local i)) (reference_of tree.globals (var.Local i) s) s
-      (variable_refers tree waiting unit s h (var.Local i))
-  actual_refers (var.Global i) s h =
-      after_test (variable_type sight (var.Global i)) (reference_of tree.globals (var.Global i) s) s
-      (variable_refers tree waiting unit s h (var.Global i))
-  actual_refers (var.Direct a byte bit w) s h =
-      after_test (variable_type sight (var.Direct a byte bit w))
-      (reference_of tree.globals (var.Direct a byte bit w) s) s
-      (variable_refers tree waiting unit s h (var.Direct a byte bit w))
-  actual_refers (var.InBlock n byte bit w) s h =
-      after_test (variable_type sight (var.InBlock n byte bit w))
-      (reference_of tree.globals (var.InBlock n byte bit w) s) s
-      (variable_refers tree waiting unit s h (var.InBlock n byte bit w))
+  actual_refers v s h =
+      after_test (variable_type sight v) (reference_of tree.globals v s) s (variable_refers tree waiting unit s h v)
 
   -- references, where there are some, are of the types of formals
   abbrev AreOf : List Local → Result (List Reference) Fault → Type 0

@@ -28,8 +28,7 @@ use Rattle.st_tree.specs.declared.program.StProgram.{StProgram}
 use Rattle.st_tree.specs.declared.state.Reference.{Reference}
 use Rattle.st_tree.proofs.FittingCalls.{at_position, calls_fit, is_in, zero_fits, zeros_fit}
 use Rattle.st_tree.proofs.FittingMemory.{AreBytes, zeros_small}
-use Rattle.st_tree.proofs.FittingStatements.{statements_keep}
-use Rattle.st_tree.proofs.FittingWrites.{register_fits}
+use Rattle.st_tree.proofs.FittingStatements.{register_fits, statements_keep}
 
 -- The unit that is called
 

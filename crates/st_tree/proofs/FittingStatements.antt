@@ -1,35 +1,353 @@
--- Well typed statements leave states that fit, where their calls do.
-use Rattle.std.specs.Prelude.{◌≡◌, ℕ, zero, suc, Bool, true, false, if◌then◌else◌, ℤ, List, [], ◌∷◌, map, Result, Ok, Err}
+-- Well typed expressions and statements in a state that fits: what variables stand for and what is read is of its
+-- type, and what is written and what statements leave is a state that fits, where their calls leave one.
 use Rattle.std.specs.List.{list_any}
 use Rattle.std.specs.Ordering.{int_eq}
-use Rattle.std.proofs.Common.{refl, sym, ◌∙◌, subst}
+use Rattle.std.specs.Prelude.{◌≡◌, ℕ, zero, suc, ℤ, Bool, true, false, ◌&&◌, List, [], ◌∷◌, ◌++◌, length, slice_get, Option, Some, None, Result, Ok, Err, ◌==◌, if◌then◌else◌, slice_set, map, get_or}
+use Rattle.std.proofs.Common.{refl, sym, ap, ◌∙◌, subst, arith, append-nil, append_assoc, eqb-true}
+use Rattle.std.proofs.lemmas.Bool.Decides.{Decides-int_eq}
 use Rattle.memory_areas.specs.Access.{and_then}
+use Rattle.memory_areas.specs.Areas.{Contents}
+use Rattle.memory_areas.specs.declared.place.AreaName.TheVariants as area
+use Rattle.memory_areas.specs.declared.place.Place.{Place}
+use Rattle.s7_base.specs.RegSet.{place}
 use Rattle.s7_base.specs.declared.outcome.Fault.{Fault}
+use Rattle.s7_base.specs.declared.register.Reg.{Reg}
+use Rattle.s7_base.specs.declared.register.Reg.TheVariants as reg
 use Rattle.s7_base.specs.declared.word.Width.{Width}
-use Rattle.st_tree.specs.Fitting.{CallsFit, EndsFit, Fits}
+use Rattle.st_tree.specs.Fitting.{ActivationFits, ActivationsFit, Fits, IsOf, Paired, StandsFor, local_type, locals_declared, RegistersFit, CallsFit, EndsFit}
 use Rattle.st_tree.specs.Meaning.{Out, Normal, Exits, Continues, Returns, Faults, NoUnits, Sem, Calls, Guarded, Labelled, after_body, area_assigned, arm_meaning, assigned, body_meaning, case_meaning, changed, first_true, first_with, meaning, then_do, turns, with_value}
-use Rattle.st_tree.specs.State.{State, area_write, write}
-use Rattle.st_tree.specs.Value.{Worth, value}
-use Rattle.st_tree.specs.Values.{Value, is_set}
-use Rattle.st_tree.specs.WellTyped.{Sight, are_well_typed, each, each_case, expression_type, is_arm, is_assigned, is_case_arm, is_well_typed, sight_in, variable_type}
+use Rattle.st_tree.specs.Naming.{is_conversion}
+use Rattle.st_tree.specs.Operators.{binary_value, chosen, converted, shift_value, unary_value}
+use Rattle.st_tree.specs.PlaceRules.{is_block_number, is_place}
+use Rattle.st_tree.specs.State.{Activation, State, depth, formals_of, locals_of, read, read_at, reference_of, there, type_of_register, area_write, is_same_register, pointed_at, with_local, with_register, write, write_at, write_place, area_read}
+use Rattle.st_tree.specs.TypeRules.{where_true, type_of_binary, type_of_choice, type_of_conversion, type_of_read, type_of_shift, type_of_unary}
+use Rattle.st_tree.specs.Value.{value, Worth, value_step}
+use Rattle.st_tree.specs.Values.{Value, fit, type_of_width, is_set}
+use Rattle.st_tree.specs.WellTyped.{Sight, expression_type, is_seen, is_value, sight_in, type_inside, type_outside, variable_type, are_well_typed, each, each_case, is_arm, is_assigned, is_case_arm, is_well_typed, expression_step, on_type}
 use Rattle.st_tree.specs.declared.expr.Expr.{Expr}
+use Rattle.st_tree.specs.declared.expr.Expr.TheOpen as E
 use Rattle.st_tree.specs.declared.expr.StType.{StType}
+use Rattle.st_tree.specs.declared.expr.StType.TheVariants as type
 use Rattle.st_tree.specs.declared.expr.Var.{Var}
+use Rattle.st_tree.specs.declared.expr.Var.TheVariants as var
 use Rattle.st_tree.specs.declared.program.Arm.{Arm}
 use Rattle.st_tree.specs.declared.program.CaseArm.{CaseArm}
+use Rattle.st_tree.specs.declared.program.Local.{Local}
+use Rattle.st_tree.specs.declared.program.Located.{Located}
 use Rattle.st_tree.specs.declared.program.Pou.{Pou}
 use Rattle.st_tree.specs.declared.program.StProgram.{StProgram}
 use Rattle.st_tree.specs.declared.program.Stmt.{Stmt}
-use Rattle.st_tree.proofs.Equations.{meaning_area_write, meaning_arm, meaning_assign, meaning_case, meaning_case_arm, meaning_continue, meaning_exit, meaning_if, meaning_invoke, meaning_return, meaning_while}
-use Rattle.st_tree.proofs.FittingStates.{value_of}
-use Rattle.st_tree.proofs.FittingWrites.{AfterFits, area_written, variable_written}
-use Rattle.st_tree.proofs.Induction.{Each, InArm, InCase, StmtSteps, every_body}
+use Rattle.st_tree.specs.declared.state.Reference.{Reference}
+use Rattle.st_tree.specs.declared.state.Reference.TheVariants as reference
+use Rattle.st_tree.proofs.Equations.{value_area_read, value_binary, value_convert, value_literal, value_read, value_select, value_shift, value_unary, meaning_area_write, meaning_arm, meaning_assign, meaning_case, meaning_case_arm, meaning_continue, meaning_exit, meaning_if, meaning_invoke, meaning_return, meaning_while}
+use Rattle.st_tree.proofs.FittingMemory.{AfterHolds, place_holds}
+use Rattle.st_tree.proofs.FittingValues.{Typed, area_typed, choice_typed, converted_typed, either_fits, on_both, on_then, one_typed, place_typed, shifted_typed, two_typed, typed_is, where_typed}
+use Rattle.st_tree.proofs.Induction.{ExprSteps, every_expr, Each, InArm, InCase, StmtSteps, every_body, Layers, folds_related}
 use Rattle.st_tree.proofs.TypedParts.{body_of_case, both_sides, parts_of_arm, parts_of_arms, parts_of_body, parts_of_case, parts_of_cases, parts_of_if, parts_of_while}
-use Rattle.st_tree.proofs.TypingEquations.{good_assign, good_invoke}
+use Rattle.st_tree.proofs.TypingEquations.{typed_area_read, typed_binary, typed_convert, typed_literal, typed_read, typed_select, typed_shift, typed_unary, good_assign, good_invoke}
+
+-- Activations
+
+-- the last activation is one of a unit for which some wait, and there are as many others
+record IsLast (waiting : List Pou) (unit : Pou) (at : ℕ) (acts : List Activation) : Type 0 where
+  activation : Activation
+  there : slice_get acts at ≡ Some activation
+  fits : ActivationFits waiting unit activation
+  many : length acts ≡ suc at
+
+last_fits : (before waiting : List Pou) (unit : Pou) (acts : List Activation)
+    → ActivationsFit before (waiting ++ unit ∷ []) acts → IsLast (before ++ waiting) unit (length waiting) acts
+last_fits before [] unit [] h = absurd h
+last_fits before [] unit (a ∷ b ∷ rest) h = absurd h.1
+last_fits before [] unit (a ∷ []) h =
+    record {
+      activation = a;
+      there = refl;
+      fits = subst (λ (w : List Pou). ActivationFits w unit a) (sym (append-nil before)) h.0;
+      many = refl;
+    }
+last_fits before (w ∷ more) unit [] h = absurd h
+last_fits before (w ∷ more) unit (a ∷ rest) h =
+    let r = last_fits (before ++ w ∷ []) more unit rest h.1 in
+    record {
+      activation = r.activation;
+      there = r.there;
+      fits = subst (λ (xs : List Pou). ActivationFits xs unit r.activation) (append_assoc before (w ∷ []) more) r.fits;
+      many = ap suc r.many;
+    }
+
+pub depth_is : (before waiting : List Pou) (unit : Pou) (s : State)
+    → ActivationsFit before (waiting ++ unit ∷ []) s.activations → depth s ≡ length waiting
+depth_is before waiting unit s h = let r = last_fits before waiting unit s.activations h in omega (arith, r.many)
+
+-- Locals
+
+get_last : {A : Type 0} (xs : List A) (x : A) → slice_get (xs ++ x ∷ []) (length xs) ≡ Some x
+get_last [] x = refl
+get_last (y ∷ xs) x = get_last xs x
+
+local_typed : (ls : List Local) (vs : List Value) (i : ℕ) → Paired (λ (l : Local) v. IsOf l.ty v) ls vs
+    → Typed (type_inside (slice_get ls i)) (there (slice_get vs i))
+local_typed [] [] i h = tt
+local_typed [] (v ∷ vs) i h = absurd h
+local_typed (l ∷ ls) [] i h = absurd h
+local_typed (l ∷ ls) (v ∷ vs) zero h = h.0
+local_typed (l ∷ ls) (v ∷ vs) (suc i) h = local_typed ls vs i h.1
+
+local_fits : (before units : List Pou) (acts : List Activation) (d i : ℕ) → ActivationsFit before units acts
+    → Typed (local_type units d i) (there (slice_get (locals_of (slice_get acts d)) i))
+local_fits before [] [] d i h = tt
+local_fits before [] (a ∷ rest) d i h = absurd h
+local_fits before (u ∷ units) [] d i h = absurd h
+local_fits before (u ∷ units) (a ∷ rest) zero i h = local_typed u.locals a.locals i h.0.locals
+local_fits before (u ∷ units) (a ∷ rest) (suc d) i h = local_fits (before ++ u ∷ []) units rest d i h.1
+
+-- a local of one of some units is one of more units too
+still_local : (units more : List Pou) (d i : ℕ) (ty : StType) → local_type units d i ≡ Some ty
+    → local_type (units ++ more) d i ≡ Some ty
+still_local [] more d i ty h = cc
+still_local (u ∷ units) more zero i ty h = h
+still_local (u ∷ units) more (suc d) i ty h = still_local units more d i ty h
+
+still_stands : (units more : List Pou) (ty : StType) (r : Reference) → StandsFor units ty r
+    → StandsFor (units ++ more) ty r
+still_stands units more ty (reference.Register r) h = h
+still_stands units more ty (reference.Local d i) h = still_local units more d i ty h
+still_stands units more ty (reference.Place p t) h = h
+
+-- a local of an activation takes a value of its type
+value_set : (ls : List Local) (vs : List Value) (i : ℕ) (ty : StType) (v : Value)
+    → Paired (λ (l : Local) v. IsOf l.ty v) ls vs → type_inside (slice_get ls i) ≡ Some ty → IsOf ty v
+    → Paired (λ (l : Local) v. IsOf l.ty v) ls (slice_set vs i v)
+value_set [] [] i ty v h e k = tt
+value_set [] (w ∷ vs) i ty v h e k = absurd h
+value_set (l ∷ ls) [] i ty v h e k = absurd h
+value_set (l ∷ ls) (w ∷ vs) zero ty v h e k =
+    let same : ty ≡ l.ty = cc in (subst (λ (t : StType). IsOf t v) same k, h.1)
+value_set (l ∷ ls) (w ∷ vs) (suc i) ty v h e k = (h.0, value_set ls vs i ty v h.1 e k)
+
+local_set : (before units : List Pou) (acts : List Activation) (d i : ℕ) (ty : StType) (v : Value)
+    → ActivationsFit before units acts → local_type units d i ≡ Some ty → IsOf ty v
+    → ActivationsFit before units (with_local d i v acts)
+local_set before [] [] d i ty v h e k = tt
+local_set before [] (a ∷ rest) d i ty v h e k = absurd h
+local_set before (u ∷ units) [] d i ty v h e k = absurd h
+local_set before (u ∷ units) (a ∷ rest) zero i ty v h e k =
+    (record { locals = value_set u.locals a.locals i ty v h.0.locals e k; formals = h.0.formals }, h.1)
+local_set before (u ∷ units) (a ∷ rest) (suc d) i ty v h e k =
+    (h.0, local_set (before ++ u ∷ []) units rest d i ty v h.1 e k)
+
+-- Registers
+
+-- the types of the register variables that are no BOOLs, in the order of their numbers
+is_numbered : (r : Reg) → type_of_register r
+    ≡ get_or (type.Dword ∷ type.Dword ∷ type.Dword ∷ type.Dword ∷ type.Word ∷ type.Word ∷ []) (place r) type.Bool
+is_numbered r = grind arith
+
+pub register_fits : (r : Reg) (n : ℤ) (registers : Reg → ℤ) → fit (type_of_register r) n ≡ n → RegistersFit registers
+    → RegistersFit (with_register r n registers)
+register_fits r n registers h all q =
+    either_fits (is_same_register q r) (type_of_register q) n (registers q)
+    (λ same. subst (λ (ty : StType). fit ty n ≡ n) (by (eqb-true (place q) (place r) same)) h) (all q)
+  where
+    by : place q ≡ place r → type_of_register r ≡ type_of_register q
+    by e = cc (is_numbered q, is_numbered r)
+
+-- What variables stand for
+
+-- a reference, where there are a type and one, is of the type
+abbrev pub Refers : List Pou → Option StType → Result Reference Fault → Type 0
+Refers running None r = Unit {0}
+Refers running (Some ty) (Ok r) = StandsFor running ty r
+Refers running (Some ty) (Err f) = Unit {0}
+
+where_refers : (running : List Pou) (b : Bool) (ty : StType) (r : Reference) → StandsFor running ty r
+    → Refers running (where_true b ty) (Ok r)
+where_refers running true ty r h = h
+where_refers running false ty r h = tt
+
+formal_refers : (waiting more : List Pou) (fs : List Local) (rs : List Reference) (i : ℕ)
+    → Paired (λ (f : Local) r. StandsFor waiting f.ty r) fs rs
+    → Refers (waiting ++ more) (type_inside (slice_get fs i)) (there (slice_get rs i))
+formal_refers waiting more [] [] i h = tt
+formal_refers waiting more [] (r ∷ rs) i h = absurd h
+formal_refers waiting more (f ∷ fs) [] i h = absurd h
+formal_refers waiting more (f ∷ fs) (r ∷ rs) zero h = still_stands waiting more f.ty r h.0
+formal_refers waiting more (f ∷ fs) (r ∷ rs) (suc i) h = formal_refers waiting more fs rs i h.1
+
+global_refers : (running : List Pou) (sight : Sight) (o : Option Located)
+    → Refers running (type_outside sight o)
+    (and_then (there o) (λ (g : Located). Ok (reference.Place g.place g.ty)))
+global_refers running sight None = tt
+global_refers running sight (Some g) =
+    where_refers running (is_seen sight g.name) g.ty (reference.Place g.place g.ty) refl
+
+-- States
 
 module _ (tree : StProgram) (waiting : List Pou) (unit : Pou) where
+  abbrev running : List Pou
+  running = waiting ++ unit ∷ []
+
   abbrev sight : Sight
   sight = sight_in tree unit
+
+  -- the state after a write, if there is one, fits
+  abbrev AfterFits : Result State Fault → Type 0
+  AfterFits (Ok t) = Fits tree waiting unit t
+  AfterFits (Err f) = Unit {0}
+
+  module _ (s : State) (h : Fits tree waiting unit s) where
+    at_depth : depth s ≡ length waiting
+    at_depth = depth_is [] waiting unit s h.activations
+
+    last : IsLast waiting unit (length waiting) s.activations
+    last = last_fits [] waiting unit s.activations h.activations
+
+    own_local : (i : ℕ) (o : Option StType) → type_inside (slice_get unit.locals i) ≡ o
+        → Refers running o (Ok (reference.Local (depth s) i))
+    own_local i None e = tt
+    own_local i (Some ty) e =
+        subst (λ (d : ℕ). local_type running d i ≡ Some ty) (sym at_depth)
+        (ap (λ (u : Option Pou). type_inside (slice_get (locals_declared u) i)) (get_last waiting unit) ∙ e)
+
+    own_formal : (i : ℕ) → Refers running (type_inside (slice_get unit.formals i))
+        (there (slice_get (formals_of (slice_get s.activations (depth s))) i))
+    own_formal i =
+        subst
+        (λ (d : ℕ). Refers running (type_inside (slice_get unit.formals i))
+        (there (slice_get (formals_of (slice_get s.activations d)) i)))
+        (sym at_depth)
+        (subst
+        (λ (a : Option Activation). Refers running (type_inside (slice_get unit.formals i))
+        (there (slice_get (formals_of a) i)))
+        (sym last.there)
+        (formal_refers waiting (unit ∷ []) unit.formals last.activation.formals i last.fits.formals))
+
+    pub variable_refers : (v : Var) → Refers running (variable_type sight v) (reference_of tree.globals v s)
+    variable_refers (var.Register r) = refl
+    variable_refers (var.Local i) = own_local i (type_inside (slice_get unit.locals i)) refl
+    variable_refers (var.Formal i) = own_formal i
+    variable_refers (var.Global i) = global_refers running sight (slice_get tree.globals i)
+    variable_refers (var.Direct a byte bit w) =
+        where_refers running (is_place a w byte bit) (type_of_width w) (reference.Place _ (type_of_width w)) refl
+    variable_refers (var.InBlock n byte bit w) =
+        where_refers running (is_block_number n && is_place area.Db w byte bit) (type_of_width w)
+        (reference.Place _ (type_of_width w)) refl
+
+    -- What is read
+
+    reference_typed : (ty : StType) (r : Reference) → StandsFor running ty r → Typed (Some ty) (read_at r s)
+    reference_typed ty (reference.Register r) e =
+        subst (λ (t : StType). IsOf t (record { ty = type_of_register r; n = s.registers r })) e
+        (record { type = refl; number = h.registers r })
+    reference_typed ty (reference.Local d i) e =
+        subst (λ (o : Option StType). Typed o (there (slice_get (locals_of (slice_get s.activations d)) i))) e
+        (local_fits [] running s.activations d i h.activations)
+    reference_typed ty (reference.Place p t) e =
+        subst (λ (u : StType). Typed (Some u) (read_at (reference.Place p t) s)) e (place_typed t p s.memory)
+
+    refers_typed : (o : Option StType) (r : Result Reference Fault) → Refers running o r
+        → Typed o (and_then r (λ r. read_at r s))
+    refers_typed None r e = tt
+    refers_typed (Some ty) (Ok r) e = reference_typed ty r e
+    refers_typed (Some ty) (Err f) e = tt
+
+    read_typed : (v : Var) → Typed (variable_type sight v) (read tree.globals v s)
+    read_typed v = refers_typed (variable_type sight v) (reference_of tree.globals v s) (variable_refers v)
+
+    -- Expressions
+
+    -- a value of an expression, where the rules give a type, is of that type
+    abbrev IsTyped : Option StType → Worth → Type 0
+    IsTyped o worth = Typed o (worth s)
+
+    layers : Layers IsTyped (expression_step sight) (value_step tree.globals)
+    layers (E.Literal ty n) =
+        where_typed (is_value ty n) ty _ (λ e. record { type = refl; number = (Decides-int_eq (fit ty n) n).0 e })
+    layers (E.Read v) = read_typed v
+    layers (E.Unary op a) = on_then (type_of_unary op) (unary_value op) (one_typed op) a.0 (a.1 s) a.2
+    layers (E.Binary op a b) =
+        on_both (type_of_binary op) (binary_value op) (two_typed op) a.0 b.0 (a.1 s) (b.1 s) a.2 b.2
+    layers (E.Convert from to a) =
+        on_then (λ ty. on_type (type_of_conversion from to ty) (where_true (is_conversion from to)))
+        (λ v. Ok (converted to v)) (λ ty v i. converted_typed from to ty v) a.0 (a.1 s) a.2
+    layers (E.Select gate a b) =
+        on_then (λ g. on_type a.0 (λ ty. on_type b.0 (type_of_choice g ty)))
+        (λ on. and_then (a.1 s) (λ v. and_then (b.1 s) (λ w. Ok (chosen on v w))))
+        (λ g on i.
+        on_both (type_of_choice g) (λ v w. Ok (chosen on v w)) (choice_typed on g) a.0 b.0 (a.1 s) (b.1 s) a.2 b.2)
+        gate.0 (gate.1 s) gate.2
+    layers (E.Shift op a b) =
+        on_both type_of_shift (λ v count. Ok (shift_value op v count)) (shifted_typed op) a.0 b.0 (a.1 s) (b.1 s) a.2 b.2
+    layers (E.AreaRead w a) =
+        on_then (type_of_read w) (λ p. area_read w p s) (λ ty p i. area_typed w ty p s) a.0 (a.1 s) a.2
+
+    pub value_of : (e : Expr) (ty : StType) (v : Value) → expression_type sight e ≡ Some ty
+        → value tree.globals e s ≡ Ok v → IsOf ty v
+    value_of e ty v a b =
+        subst (λ (q : Result Value Fault). Typed (Some ty) q) b
+        (subst (λ (t : Option StType). Typed t (value tree.globals e s)) a
+        (folds_related IsTyped (expression_step sight) (value_step tree.globals) layers e))
+
+    -- What is written
+
+    local_written : (o : Result Value Fault) (d i : ℕ) (ty : StType) (v : Value) → local_type running d i ≡ Some ty
+        → IsOf ty v
+        → AfterFits
+        (and_then o (λ (old : Value). Ok (record s { activations = with_local d i v s.activations })))
+    local_written (Ok old) d i ty v e k =
+        record {
+          units = h.units;
+          registers = h.registers;
+          memory = h.memory;
+          activations = local_set [] running s.activations d i ty v h.activations e k;
+        }
+    local_written (Err f) d i ty v e k = tt
+
+    place_written : (o : Result Contents Fault) → AfterHolds o
+        → AfterFits (and_then o (λ memory. Ok (record s { memory = memory })))
+    place_written (Ok m) k =
+        record { units = h.units; registers = h.registers; memory = k; activations = h.activations }
+    place_written (Err f) k = tt
+
+    reference_written : (ty : StType) (r : Reference) (v : Value) → StandsFor running ty r → IsOf ty v
+        → AfterFits (write_at r v s)
+    reference_written ty (reference.Register r) v e k =
+        record {
+          units = h.units;
+          registers =
+              register_fits r v.n s.registers (subst (λ (t : StType). fit t v.n ≡ v.n) (sym e) k.number) h.registers;
+          memory = h.memory;
+          activations = h.activations;
+        }
+    reference_written ty (reference.Local d i) v e k =
+        local_written (there (slice_get (locals_of (slice_get s.activations d)) i)) d i ty v e k
+    reference_written ty (reference.Place p t) v e k =
+        place_written (write_place t p v s.memory) (place_holds t p v s.memory h.memory)
+
+    referred_written : (ty : StType) (o : Result Reference Fault) (v : Value) → Refers running (Some ty) o → IsOf ty v
+        → AfterFits (and_then o (λ r. write_at r v s))
+    referred_written ty (Ok r) v e k = reference_written ty r v e k
+    referred_written ty (Err f) v e k = tt
+
+    variable_written : (ty : StType) (v : Var) (w : Value) → variable_type sight v ≡ Some ty
+        → IsOf ty w → AfterFits (write tree.globals v w s)
+    variable_written ty v w e k =
+        referred_written ty (reference_of tree.globals v s) w
+        (subst (λ (o : Option StType). Refers running o (reference_of tree.globals v s)) e
+        (variable_refers v)) k
+
+    pointed_written : (w : Width) (o : Result Place Fault) (v : Value)
+        → AfterFits (and_then o (λ place. write_at (reference.Place place (type_of_width w)) v s))
+    pointed_written w (Ok p) v =
+        place_written (write_place (type_of_width w) p v s.memory)
+        (place_holds (type_of_width w) p v s.memory h.memory)
+    pointed_written w (Err f) v = tt
+
+    area_written : (w : Width) (p v : Value) → AfterFits (area_write w p v s)
+    area_written w p v = pointed_written w (pointed_at p s) v
+
+  -- Statements
 
   abbrev Ends : Out → Type 0
   Ends o = EndsFit tree waiting unit o
@@ -42,19 +360,12 @@ module _ (tree : StProgram) (waiting : List Pou) (unit : Pou) where
 
   then_ends : (o : Out) (f : Sem) → Keeps f → Ends o → Ends (then_do o f)
   then_ends (Normal u s) f more h = more u s h
-  then_ends (Exits u s) f more h = h
-  then_ends (Continues u s) f more h = h
-  then_ends (Returns u s) f more h = h
-  then_ends (Faults x s) f more h = h
-  then_ends (NoUnits s) f more h = h
+  then_ends o f more h = h
 
   body_ends : (o : Out) (f : Sem) → Keeps f → Ends o → Ends (after_body o f)
   body_ends (Normal u s) f more h = more u s h
-  body_ends (Exits u s) f more h = h
   body_ends (Continues u s) f more h = more u s h
-  body_ends (Returns u s) f more h = h
-  body_ends (Faults x s) f more h = h
-  body_ends (NoUnits s) f more h = h
+  body_ends o f more h = h
 
   picked_ends : (b : Bool) (o p : Out) → Ends o → Ends p → Ends (if b then o else p)
   picked_ends true o p h k = h
@@ -76,27 +387,27 @@ module _ (tree : StProgram) (waiting : List Pou) (unit : Pou) where
   -- Assignments
 
   changed_ends : (r : Result State Fault) (u : ℕ) (s : State) → Fits tree waiting unit s
-      → AfterFits tree waiting unit r → Ends (changed r u s)
+      → AfterFits r → Ends (changed r u s)
   changed_ends (Ok new) u s h k = k
   changed_ends (Err f) u s h k = (waiting, unit, h)
 
   assigned_fits : (v : Var) (r : Result Value Fault) (s : State)
-      → ((w : Value) → r ≡ Ok w → AfterFits tree waiting unit (write tree.globals v w s))
-      → AfterFits tree waiting unit (and_then r (λ w. write tree.globals v w s))
+      → ((w : Value) → r ≡ Ok w → AfterFits (write tree.globals v w s))
+      → AfterFits (and_then r (λ w. write tree.globals v w s))
   assigned_fits v (Ok w) s k = k w refl
   assigned_fits v (Err f) s k = tt
 
   assign_keeps : (v : Var) (e : Expr) → is_assigned (variable_type sight v) (expression_type sight e) ≡ true
-      → (s : State) → Fits tree waiting unit s → AfterFits tree waiting unit (assigned tree.globals v e s)
+      → (s : State) → Fits tree waiting unit s → AfterFits (assigned tree.globals v e s)
   assign_keeps v e good s h =
       let b = both_sides (variable_type sight v) (expression_type sight e) good in
       assigned_fits v (value tree.globals e s) s (λ w worth.
-      let is = value_of tree waiting unit s h e b.type w b.right worth in
-      variable_written tree waiting unit s h b.type v w b.left is)
+      let is = value_of s h e b.type w b.right worth in
+      variable_written s h b.type v w b.left is)
 
   area_fits : (w : Width) (r q : Result Value Fault) (s : State) → Fits tree waiting unit s
-      → AfterFits tree waiting unit (and_then r (λ at. and_then q (λ v. area_write w at v s)))
-  area_fits w (Ok p) (Ok v) s h = area_written tree waiting unit s h w p v
+      → AfterFits (and_then r (λ at. and_then q (λ v. area_write w at v s)))
+  area_fits w (Ok p) (Ok v) s h = area_written s h w p v
   area_fits w (Ok p) (Err f) s h = tt
   area_fits w (Err f) q s h = tt
 

@@ -97,14 +97,29 @@ if_typed : (b : Bool) (o : Option StType) (r : Result Value Fault) → (b ≡ tr
 if_typed true o r h = h refl
 if_typed false o r h = tt
 
-on_typed : (o : Option StType) (b : Bool) (r : Result Value Fault) → Typed o r → Typed (on_type o (where_true b)) r
-on_typed None b r h = tt
-on_typed (Some ty) b r h = where_typed b ty r (λ e. h)
-
 pub then_typed : {A : Type 0} (r : Result A Fault) (f : A → Value) (ty : StType) → ((x : A) → IsOf ty (f x))
     → Typed (Some ty) (and_then r (λ x. Ok (f x)))
 then_typed (Ok x) f ty h = h x
 then_typed (Err e) f ty h = tt
+
+-- Operands
+
+-- by the operand's type and value, where it has them
+pub on_then : (rule : StType → Option StType) (f : Value → Result Value Fault)
+    → ((ty : StType) (v : Value) → IsOf ty v → Typed (rule ty) (f v))
+    → (o : Option StType) (r : Result Value Fault) → Typed o r → Typed (on_type o rule) (and_then r f)
+on_then rule f given None r h = tt
+on_then rule f given (Some ty) (Ok v) h = given ty v h
+on_then rule f given (Some ty) (Err e) h = fault_typed (rule ty) e
+
+-- by those of two operands
+pub on_both : (rule : StType → StType → Option StType) (f : Value → Value → Result Value Fault)
+    → ((s t : StType) (v w : Value) → IsOf s v → IsOf t w → Typed (rule s t) (f v w))
+    → (a b : Option StType) (r q : Result Value Fault) → Typed a r → Typed b q
+    → Typed (on_type a (λ ty. on_type b (rule ty))) (and_then r (λ v. and_then q (f v)))
+on_both rule f given a b r q h k =
+    on_then (λ ty. on_type b (rule ty)) (λ v. and_then q (f v))
+    (λ s v i. on_then (rule s) (f v) (λ t w j. given s t v w i j) b q k) a r h
 
 -- Operators
 
@@ -112,19 +127,12 @@ digits_typed : (ty : StType) (r : Result ℤ Fault) → Typed (Some ty) (from_di
 digits_typed ty (Ok z) = typed_is ty z
 digits_typed ty (Err f) = tt
 
-one_typed : (op : UnaryOp) (ty : StType) (v : Value) → IsOf ty v → Typed (type_of_unary op ty) (unary_value op v)
-one_typed unary.Minus ty v h = where_typed (has_numbers ty) ty _ (λ e. typed_as ty v _ h)
-one_typed unary.Not ty v h = where_typed (has_bits ty) ty _ (λ e. typed_as ty v _ h)
+pub one_typed : (op : UnaryOp) (ty : StType) (v : Value) → IsOf ty v → Typed (type_of_unary op ty) (unary_value op v)
 one_typed unary.BcdToInt ty v h =
     where_typed (is_type ty type.Word) type.Int _ (λ e. digits_typed type.Int (bcd_value 3 (pattern 16 v.n)))
 one_typed unary.BcdToDint ty v h =
     where_typed (is_type ty type.Dword) type.Dint _ (λ e. digits_typed type.Dint (bcd_value 7 (pattern 32 v.n)))
-
-pub unary_typed : (op : UnaryOp) (a : Option StType) (r : Result Value Fault) → Typed a r
-    → Typed (on_type a (type_of_unary op)) (and_then r (unary_value op))
-unary_typed op None r h = tt
-unary_typed op (Some ty) (Ok v) h = one_typed op ty v h
-unary_typed op (Some ty) (Err f) h = fault_typed (type_of_unary op ty) f
+one_typed op ty v h = where_typed _ ty _ (λ e. typed_as ty v _ h)
 
 divided_typed : (b : Bool) (f : Fault) (ty : StType) (v : Value) → IsOf ty v
     → Typed (Some ty) (if b then Err f else Ok v)
@@ -133,81 +141,54 @@ divided_typed false f ty v h = h
 
 equals_typed : (op : BinaryOp) (ty : StType) (v w : Value) → IsOf ty v
     → Typed (type_on_equals op ty) (binary_value op v w)
-equals_typed binary.Mul ty v w h = where_typed (has_numbers ty) ty _ (λ e. typed_as ty v _ h)
-equals_typed binary.Div ty v w h =
-    where_typed (has_numbers ty) ty _ (λ e. divided_typed (int_eq w.n (pos 0)) _ ty _ (typed_as ty v _ h))
-equals_typed binary.Mod ty v w h =
-    where_typed (has_numbers ty) ty _ (λ e. divided_typed (int_eq w.n (pos 0)) _ ty _ (typed_as ty v _ h))
-equals_typed binary.Add ty v w h = where_typed (has_numbers ty) ty _ (λ e. typed_as ty v _ h)
-equals_typed binary.Sub ty v w h = where_typed (has_numbers ty) ty _ (λ e. typed_as ty v _ h)
 equals_typed binary.Lt ty v w h = flag_is _
 equals_typed binary.Gt ty v w h = flag_is _
 equals_typed binary.Le ty v w h = flag_is _
 equals_typed binary.Ge ty v w h = flag_is _
 equals_typed binary.Eq ty v w h = flag_is _
 equals_typed binary.Ne ty v w h = flag_is _
-equals_typed binary.And ty v w h = where_typed (has_bits ty) ty _ (λ e. typed_as ty v _ h)
-equals_typed binary.Xor ty v w h = where_typed (has_bits ty) ty _ (λ e. typed_as ty v _ h)
-equals_typed binary.Or ty v w h = where_typed (has_bits ty) ty _ (λ e. typed_as ty v _ h)
+equals_typed binary.Div ty v w h =
+    where_typed _ ty _ (λ e. divided_typed (int_eq w.n (pos 0)) _ ty _ (typed_as ty v _ h))
+equals_typed binary.Mod ty v w h =
+    where_typed _ ty _ (λ e. divided_typed (int_eq w.n (pos 0)) _ ty _ (typed_as ty v _ h))
+equals_typed op ty v w h = where_typed _ ty _ (λ e. typed_as ty v _ h)
 
-pub binary_typed : (op : BinaryOp) (a b : Option StType) (r q : Result Value Fault) → Typed a r → Typed b q
-    → Typed (on_type a (λ ty. on_type b (type_of_binary op ty)))
-    (and_then r (λ v. and_then q (binary_value op v)))
-binary_typed op None b r q h k = tt
-binary_typed op (Some s) None r q h k = tt
-binary_typed op (Some s) (Some t) (Err f) q h k = fault_typed (type_of_binary op s t) f
-binary_typed op (Some s) (Some t) (Ok v) (Err f) h k = fault_typed (type_of_binary op s t) f
-binary_typed op (Some s) (Some t) (Ok v) (Ok w) h k =
+pub two_typed : (op : BinaryOp) (s t : StType) (v w : Value) → IsOf s v → IsOf t w
+    → Typed (type_of_binary op s t) (binary_value op v w)
+two_typed op s t v w h k =
     if_typed (is_type s t) (type_on_equals op s) (binary_value op v w) (λ e. equals_typed op s v w h)
 
-pub convert_typed : (from to : StType) (a : Option StType) (r : Result Value Fault) → Typed a r
-    → Typed (on_type a (λ ty. on_type (type_of_conversion from to ty) (where_true (is_conversion from to))))
-    (and_then r (λ v. Ok (converted to v)))
-convert_typed from to None r h = tt
-convert_typed from to (Some ty) r h =
-    on_typed (type_of_conversion from to ty) (is_conversion from to) (and_then r (λ v. Ok (converted to v)))
-    (where_typed (is_type ty from) to _ (λ e. then_typed r (converted to) to (λ v. typed_is to v.n)))
+pub converted_typed : (from to ty : StType) (v : Value)
+    → Typed (on_type (type_of_conversion from to ty) (where_true (is_conversion from to))) (Ok (converted to v))
+converted_typed from to ty v = by (is_type ty from) (is_conversion from to)
+  where
+    by : (b c : Bool) → Typed (on_type (where_true b to) (where_true c)) (Ok (converted to v))
+    by true true = typed_is to v.n
+    by true false = tt
+    by false c = tt
 
-chosen_number : (b : Bool) (ty : StType) (m n : ℤ) → fit ty m ≡ m → fit ty n ≡ n
+-- a number of two that fits
+pub either_fits : (b : Bool) (ty : StType) (m n : ℤ) → (b ≡ true → fit ty m ≡ m) → fit ty n ≡ n
     → fit ty (if b then m else n) ≡ (if b then m else n)
-chosen_number true ty m n h k = h
-chosen_number false ty m n h k = k
+either_fits true ty m n h k = h refl
+either_fits false ty m n h k = k
 
-chosen_is : (gate : Value) (ty : StType) (v w : Value) → IsOf ty v → IsOf ty w → IsOf ty (chosen gate v w)
-chosen_is gate ty v w h k =
-    record { type = h.type; number = chosen_number (is_set gate) ty w.n v.n k.number h.number }
-
-choice_typed : (g a b : StType) (gate v w : Value) → IsOf a v → IsOf b w
+pub choice_typed : (gate : Value) (g a b : StType) (v w : Value) → IsOf a v → IsOf b w
     → Typed (type_of_choice g a b) (Ok (chosen gate v w))
-choice_typed g a b gate v w h k =
+choice_typed gate g a b v w h k =
     where_typed (is_type g type.Bool && is_type a b) a (Ok (chosen gate v w))
     (λ e.
     let same : b ≡ a = sym (same_type a b (and_parts (is_type g type.Bool) (is_type a b) e).1) in
-    chosen_is gate a v w h (subst (λ (t : StType). IsOf t w) same k))
-
-pub select_typed : (g a b : Option StType) (o r q : Result Value Fault) → Typed g o → Typed a r → Typed b q
-    → Typed (on_type g (λ t. on_type a (λ ty. on_type b (type_of_choice t ty))))
-    (and_then o (λ gate. and_then r (λ v. and_then q (λ w. Ok (chosen gate v w)))))
-select_typed None a b o r q i h k = tt
-select_typed (Some t) None b o r q i h k = tt
-select_typed (Some t) (Some x) None o r q i h k = tt
-select_typed (Some t) (Some x) (Some y) (Err f) r q i h k = fault_typed (type_of_choice t x y) f
-select_typed (Some t) (Some x) (Some y) (Ok gate) (Err f) q i h k = fault_typed (type_of_choice t x y) f
-select_typed (Some t) (Some x) (Some y) (Ok gate) (Ok v) (Err f) i h k = fault_typed (type_of_choice t x y) f
-select_typed (Some t) (Some x) (Some y) (Ok gate) (Ok v) (Ok w) i h k = choice_typed t x y gate v w h k
+    let other : IsOf a w = subst (λ (t : StType). IsOf t w) same k in
+    record { type = h.type; number = either_fits (is_set gate) a w.n v.n (λ set. other.number) h.number })
 
 shifted_is : (b : Bool) (ty : StType) (v w : Value) → IsOf ty v → IsOf ty w → IsOf ty (if b then v else w)
 shifted_is true ty v w h k = h
 shifted_is false ty v w h k = k
 
-pub shift_typed : (op : ShiftOp) (a b : Option StType) (r q : Result Value Fault) → Typed a r → Typed b q
-    → Typed (on_type a (λ ty. on_type b (type_of_shift ty)))
-    (and_then r (λ v. and_then q (λ count. Ok (shift_value op v count))))
-shift_typed op None b r q h k = tt
-shift_typed op (Some s) None r q h k = tt
-shift_typed op (Some s) (Some t) (Err f) q h k = fault_typed (type_of_shift s t) f
-shift_typed op (Some s) (Some t) (Ok v) (Err f) h k = fault_typed (type_of_shift s t) f
-shift_typed op (Some s) (Some t) (Ok v) (Ok count) h k =
+pub shifted_typed : (op : ShiftOp) (s t : StType) (v count : Value) → IsOf s v → IsOf t count
+    → Typed (type_of_shift s t) (Ok (shift_value op v count))
+shifted_typed op s t v count h k =
     where_typed (has_bits s && is_type t type.Int) s (Ok (shift_value op v count))
     (λ e. shifted_is (int_lt count.n (pos 0)) s v _ h (typed_as s v _ h))
 
@@ -215,22 +196,14 @@ shift_typed op (Some s) (Some t) (Ok v) (Ok count) h k =
 
 pub place_typed : (ty : StType) (p : Place) (m : Contents) → Typed (Some ty) (read_place ty p m)
 place_typed type.Bool p m = then_typed (read_bit p m) flag type.Bool flag_is
-place_typed type.Byte p m = then_typed (read_byte p m) _ type.Byte (λ n. typed_is type.Byte (pos n))
-place_typed type.Word p m = then_typed (read_word p m) _ type.Word (λ n. typed_is type.Word (pos n))
-place_typed type.Dword p m = then_typed (read_dword p m) _ type.Dword (λ n. typed_is type.Dword (pos n))
-place_typed type.Int p m = then_typed (read_word p m) _ type.Int (λ n. typed_is type.Int (pos n))
-place_typed type.Dint p m = then_typed (read_dword p m) _ type.Dint (λ n. typed_is type.Dint (pos n))
-place_typed type.Lint p m = then_typed (read_dword p m) _ type.Lint (λ n. typed_is type.Lint (pos n))
+place_typed ty p m = then_typed _ _ ty (λ n. typed_is ty (pos n))
 
 pointed_typed : (ty : StType) (r : Result Place Fault) (m : Contents)
     → Typed (Some ty) (and_then r (λ place. read_place ty place m))
 pointed_typed ty (Ok p) m = place_typed ty p m
 pointed_typed ty (Err f) m = tt
 
-pub area_typed : (w : Width) (a : Option StType) (r : Result Value Fault) (s : State) → Typed a r
-    → Typed (on_type a (type_of_read w)) (and_then r (λ p. area_read w p s))
-area_typed w None r s h = tt
-area_typed w (Some ty) (Err f) s h = fault_typed (type_of_read w ty) f
-area_typed w (Some ty) (Ok p) s h =
+pub area_typed : (w : Width) (ty : StType) (p : Value) (s : State) → Typed (type_of_read w ty) (area_read w p s)
+area_typed w ty p s =
     where_typed (is_type ty type.Dword) (type_of_width w) (area_read w p s)
     (λ e. pointed_typed (type_of_width w) (pointed_at p s) s.memory)

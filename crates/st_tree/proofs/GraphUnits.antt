@@ -20,8 +20,7 @@ use Rattle.st_tree.specs.declared.graph.GraphPou.{GraphPou}
 use Rattle.st_tree.specs.declared.graph.GraphProgram.{GraphProgram}
 use Rattle.st_tree.specs.declared.graph.StNode.{StNode}
 use Rattle.st_tree.specs.declared.state.Reference.{Reference}
-use Rattle.st_tree.proofs.Ends.{end_follows, follows_same}
-use Rattle.st_tree.proofs.Units.{CallsFollow, Follow, Follows, statements_follow, then_follows, unit_follows, wider}
+use Rattle.st_tree.proofs.Units.{CallsFollow, Follow, Follows, called_follows, end_follows, follows_same, statements_follow, then_follows, unit_follows, wider}
 
 -- What is counted
 
@@ -38,10 +37,6 @@ counted_follows k f g more (suc u) j s h =
 counted_if_follows : (k : ℕ) (test : Bool) (f g : Sem) → (test ≡ true → (v : ℕ) → suc v ≤ k → Follow v f g) → (test ≡ false → Follow k f g) → Follow k (counted_if test f) (counted_if test g)
 counted_if_follows k true f g paid free = counted_follows k f g (paid refl)
 counted_if_follows k false f g paid free = free refl
-
-called_follows : (k : ℕ) (f g : List Reference → Sem) → ((r : List Reference) → Follow k (f r) (g r)) → (r : Result (List Reference) Fault) → Follow k (called f r) (called g r)
-called_follows k f g enter (Ok formals) u j s b = enter formals u j s b
-called_follows k f g enter (Err x) u j s b = refl
 
 -- How many nodes there are
 

@@ -1,14 +1,11 @@
 pub mod CalledMost
 pub mod CanonEquations
-pub mod Ends
 pub mod Equations
 pub mod FittingCalls
 pub mod FittingMemory
 pub mod FittingStart
 pub mod FittingStatements
-pub mod FittingStates
 pub mod FittingValues
-pub mod FittingWrites
 pub mod GraphUnits
 pub mod Induction
 pub mod PartEquations

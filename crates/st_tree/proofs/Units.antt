@@ -1,9 +1,14 @@
 -- Units: more of them never change what has ended, and calls that may nest deeper than there are units
 -- change nothing. Two meanings are compared, of which the second has j units more.
-use Rattle.std.proofs.Common.{◌≡◌, ℕ, zero, suc, ◌+◌, ◌≤◌, Bool, true, false, if◌then◌else◌, ℤ, List, [], ◌∷◌, map, Option, Some, None, Result, Ok, Err, refl, sym, ap, subst, arith}
+use Rattle.std.proofs.Common.{◌≡◌, ℕ, zero, suc, ◌+◌, ◌≤◌, Bool, true, false, if◌then◌else◌, ℤ, List, [], ◌∷◌, map, Option, Some, None, Result, Ok, Err, refl, sym, ap, subst, arith, ◌-◌, ◌∙◌}
 use Rattle.std.specs.Prelude.{slice_get}
 use Rattle.std.specs.List.{list_any}
 use Rattle.std.specs.Ordering.{int_eq}
+use Rattle.memory_areas.specs.Areas.{Areas}
+use Rattle.memory_areas.specs.End.{Ended}
+use Rattle.memory_areas.specs.declared.call.Call.{Call}
+use Rattle.st_tree.specs.StRun.{end_seen, run_of_unit, state_at_start, unit_called}
+use Rattle.st_tree.specs.StRunLaws.{DepthIsFree, EndStays}
 use Rattle.s7_base.specs.declared.outcome.Fault.{Fault}
 use Rattle.st_tree.specs.Calls.{after_unit, called, calls_to, entered, invoked, located_actuals, unit_step}
 use Rattle.st_tree.specs.Meaning.{Out, Normal, Exits, Continues, Returns, Faults, NoUnits, Sem, Calls, Guarded, Labelled, after_body, area_assigned, arm_meaning, assigned, body_meaning, case_meaning, changed, first_true, first_with, meaning, then_do, turns, with_value}
@@ -40,12 +45,9 @@ abbrev pub CallsFollow : ℕ → Calls → Calls → Type 0
 CallsFollow k c d = (n : ℕ) (actuals : List Var) → Follow k (c n actuals) (d n actuals)
 
 pub wider : (j least most : ℕ) (o p : Out) → least ≤ most → Follows j least o p → Follows j most o p
-wider j least most (Normal u s) p h f = let b = f.1 in (f.0, omega arith)
-wider j least most (Exits u s) p h f = let b = f.1 in (f.0, omega arith)
-wider j least most (Continues u s) p h f = let b = f.1 in (f.0, omega arith)
-wider j least most (Returns u s) p h f = let b = f.1 in (f.0, omega arith)
 wider j least most (Faults x s) p h f = f
 wider j least most (NoUnits s) p h f = f
+wider j least most o p h f = (f.0, omega (arith, f.1))
 
 module _ (k : ℕ) where
   pub then_follows : (j u : ℕ) (o p : Out) (f g : Sem) → u ≤ k → Follow k f g → Follows j u o p → Follows j u (then_do o f) (then_do p g)
@@ -53,29 +55,23 @@ module _ (k : ℕ) where
       let b : v ≤ u = e.1 in
       let within : v ≤ k = omega arith in
       subst (λ (q : Out). Follows j u (f v s) (then_do q g)) (sym e.0) (wider j v u (f v s) (g (v + j) s) b (more v j s within))
-  then_follows j u (Exits v s) p f g h more e = (ap (λ (q : Out). then_do q g) e.0, e.1)
-  then_follows j u (Continues v s) p f g h more e = (ap (λ (q : Out). then_do q g) e.0, e.1)
-  then_follows j u (Returns v s) p f g h more e = (ap (λ (q : Out). then_do q g) e.0, e.1)
   then_follows j u (Faults x s) p f g h more e = ap (λ (q : Out). then_do q g) e
   then_follows j u (NoUnits s) p f g h more e = λ none. ap (λ (q : Out). then_do q g) (e none)
+  then_follows j u o p f g h more e = (ap (λ (q : Out). then_do q g) e.0, e.1)
 
   pub body_follows : (j u : ℕ) (o p : Out) (f g : Sem) → ((v : ℕ) (s : State) → v ≤ u → Follows j v (f v s) (g (v + j) s)) → Follows j u o p → Follows j u (after_body o f) (after_body p g)
   body_follows j u (Normal v s) p f g more e =
       subst (λ (q : Out). Follows j u (f v s) (after_body q g)) (sym e.0) (wider j v u (f v s) (g (v + j) s) e.1 (more v s e.1))
-  body_follows j u (Exits v s) p f g more e = (ap (λ (q : Out). after_body q g) e.0, e.1)
   body_follows j u (Continues v s) p f g more e =
       subst (λ (q : Out). Follows j u (f v s) (after_body q g)) (sym e.0) (wider j v u (f v s) (g (v + j) s) e.1 (more v s e.1))
-  body_follows j u (Returns v s) p f g more e = (ap (λ (q : Out). after_body q g) e.0, e.1)
   body_follows j u (Faults x s) p f g more e = ap (λ (q : Out). after_body q g) e
   body_follows j u (NoUnits s) p f g more e = λ none. ap (λ (q : Out). after_body q g) (e none)
+  body_follows j u o p f g more e = (ap (λ (q : Out). after_body q g) e.0, e.1)
 
   pub unit_follows : (j u : ℕ) (o p : Out) → Follows j u o p → Follows j u (after_unit o) (after_unit p)
-  unit_follows j u (Normal v s) p e = (ap after_unit e.0, e.1)
-  unit_follows j u (Exits v s) p e = (ap after_unit e.0, e.1)
-  unit_follows j u (Continues v s) p e = (ap after_unit e.0, e.1)
-  unit_follows j u (Returns v s) p e = (ap after_unit e.0, e.1)
   unit_follows j u (Faults x s) p e = ap after_unit e
   unit_follows j u (NoUnits s) p e = λ none. ap after_unit (e none)
+  unit_follows j u o p e = (ap after_unit e.0, e.1)
 
   changed_follows : (r : Result State Fault) (j u : ℕ) (s : State) → Follows j u (changed r u s) (changed r (u + j) s)
   changed_follows (Ok new) j u s = (refl, omega arith)
@@ -174,7 +170,7 @@ unit_given k tree c d calls (Some unit) r u j s h =
     unit_follows k j u (body_meaning tree.globals c unit.body u (entered unit r s)) (body_meaning tree.globals d unit.body (u + j) (entered unit r s))
     (statements_follow k tree.globals c d calls unit.body u j (entered unit r s) h)
 
-called_follows : (k : ℕ) (f h : List Reference → Sem) → ((r : List Reference) → Follow k (f r) (h r)) → (r : Result (List Reference) Fault) → Follow k (called f r) (called h r)
+pub called_follows : (k : ℕ) (f h : List Reference → Sem) → ((r : List Reference) → Follow k (f r) (h r)) → (r : Result (List Reference) Fault) → Follow k (called f r) (called h r)
 called_follows k f h enter (Ok formals) u j s b = enter formals u j s b
 called_follows k f h enter (Err x) u j s b = refl
 
@@ -205,3 +201,46 @@ calls_follow (suc k) zero b tree x y n actuals u j s h = absurd (omega arith)
 calls_follow (suc k) (suc a) zero tree x y n actuals u j s h = absurd (omega arith)
 calls_follow (suc k) (suc a) (suc b) tree x y n actuals u j s h =
     invoked_follows k tree (calls_to a tree) (calls_to b tree) (calls_follow k a b tree (omega arith) (omega arith)) n actuals u j s h
+
+-- Ends: an end stays, and how deep calls may nest is free
+
+-- what follows an end is the same end
+pub end_follows : (j most : ℕ) (o p : Out) (after : Areas) (f : Option Fault) → Follows j most o p → end_seen o ≡ Ended after f → end_seen p ≡ Ended after f
+end_follows j most (Faults x s) p after f h e = ap end_seen h ∙ e
+end_follows j most (NoUnits s) p after f h e = cc
+end_follows j most o p after f h e = ap end_seen h.0 ∙ e
+
+none_more : (u : ℕ) → u + 0 ≡ u
+none_more u = omega arith
+
+-- what follows with no more units is the same
+pub follows_same : (most : ℕ) (o p : Out) → Follows 0 most o p → p ≡ o
+follows_same most (Normal u s) p h = h.0 ∙ ap (λ x. Normal x s) (none_more u)
+follows_same most (Exits u s) p h = h.0 ∙ ap (λ x. Exits x s) (none_more u)
+follows_same most (Continues u s) p h = h.0 ∙ ap (λ x. Continues x s) (none_more u)
+follows_same most (Returns u s) p h = h.0 ∙ ap (λ x. Returns x s) (none_more u)
+follows_same most (Faults f s) p h = h
+follows_same most (NoUnits s) p h = h refl
+
+pub deeper_is_same : DepthIsFree
+deeper_is_same tree body units deep s h =
+    let same : units ≤ units = omega arith in
+    let run = body_meaning tree.globals (calls_to deep tree) body in
+    ap (λ u. run u s) (sym (none_more units))
+    ∙ follows_same units (body_meaning tree.globals (calls_to units tree) body units s) (run (units + 0) s)
+    (statements_follow units tree.globals (calls_to units tree) (calls_to deep tree) (calls_follow units units deep tree same h) body units 0 s same)
+
+run_stays : (tree : StProgram) (o : Option Pou) (call : Call) (memory : Areas) (units more : ℕ) (after : Areas) (f : Option Fault) → units ≤ more →
+    run_of_unit tree o call memory units ≡ Ended after f → run_of_unit tree o call memory more ≡ Ended after f
+run_stays tree None call memory units more after f h e = e
+run_stays tree (Some unit) call memory units more after f h e =
+    let j : ℕ = more - units in
+    let sum : units + j ≡ more = omega arith in
+    let same : units ≤ units = omega arith in
+    let s = state_at_start unit call memory in
+    subst (λ (u : ℕ). end_seen (body_meaning tree.globals (calls_to more tree) unit.body u s) ≡ Ended after f) sum
+    (end_follows j units (body_meaning tree.globals (calls_to units tree) unit.body units s) (body_meaning tree.globals (calls_to more tree) unit.body (units + j) s) after f
+    (statements_follow units tree.globals (calls_to units tree) (calls_to more tree) (calls_follow units units more tree same h) unit.body units j s same) e)
+
+pub runs_end_stays : EndStays
+runs_end_stays tree call memory units more after f h e = run_stays tree (unit_called call.block tree.pous) call memory units more after f h e
