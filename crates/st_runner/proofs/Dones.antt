@@ -15,10 +15,10 @@ use Rattle.st_runner.specs.declared.frame.At.TheVariants as at
 use Rattle.st_runner.specs.declared.frame.Frame.{Frame}
 use Rattle.st_runner.specs.declared.frame.Frame.TheVariants as frame
 use Rattle.st_runner.proofs.Costs.{labelled_most, labelled_weight, picked_most, picked_weight, weight_stmt}
-use Rattle.st_runner.proofs.Means.{area_err, area_ok, assign_err, assign_ok, case_means, chosen_out, if_means}
+use Rattle.st_runner.proofs.Means.{case_means, changed_err, changed_ok, chosen_out, if_means}
 use Rattle.st_runner.proofs.Stack.{sizes_tall, unwound_faults}
 use Rattle.st_runner.proofs.Tops.{on_top, top_sizes, top_tall, top_weight}
-use Rattle.st_tree.specs.Meaning.{Out, Normal, Exits, Continues, Returns, Calls, area_assigned, assigned, body_meaning, meaning}
+use Rattle.st_tree.specs.Meaning.{Out, Normal, Exits, Continues, Returns, Calls, area_assigned, assigned, body_meaning, changed, meaning}
 use Rattle.st_tree.specs.StRun.{end_seen}
 use Rattle.st_tree.specs.State.{State}
 use Rattle.st_tree.specs.Value.{value}
@@ -31,7 +31,7 @@ use Rattle.st_tree.specs.declared.program.Stmt.{Stmt}
 use Rattle.st_tree.specs.declared.program.Stmt.TheOpen as S
 use Rattle.st_tree.specs.declared.program.Stmt.TheVariants as stmt
 use Rattle.st_tree.specs.declared.state.Value.{Value}
-use Rattle.st_tree.proofs.Equations.{meaning_continue, meaning_exit, meaning_return}
+use Rattle.st_tree.proofs.Equations.{meaning_area_write, meaning_assign, meaning_continue, meaning_exit, meaning_return}
 
 -- frames that stay as they are cost no more
 stay_reach : (k : Costs) (ws : List Frame) (n : ℕ) → reach k ws at.Work ≤ max (tall k ws) (sizes k ws + n)
@@ -45,52 +45,48 @@ module _ (tree : StProgram) (ws : List Frame) where
   pub faulted : (x : Stmt) (s : State) (f : Fault) → ((c : Calls) (u : ℕ) → end_at tree.globals c ws (at.Over (Some f)) u s ≡ ending tree.globals c ws (meaning tree.globals c x u s)) → Done tree x ws ws (at.Over (Some f)) s s
   faulted x s f m = record { meaning = m; reach = λ k. over_reach k ws (most k x) (Some f); units = refl; weight = tt }
 
-  assign_by : (v : Var) (e : Expr) (s t : State) (r : Result (Unit {0}) Fault) → Changes (assigned tree.globals v e s) r s t → Done tree (stmt.Assign v e) ws ws (next_of r) s t
-  assign_by v e s t (Ok done) h =
+  -- a change of the state, or its fault
+  changed_by : (x : Stmt) (change : Result State Fault) (s t : State) (r : Result (Unit {0}) Fault) → ((c : Calls) (u : ℕ) → meaning tree.globals c x u s ≡ changed change u s) → weight x ≡ 1 → Changes change r s t
+      → Done tree x ws ws (next_of r) s t
+  changed_by x change s t (Ok done) m w h =
       record {
-        meaning = λ c u. assign_ok tree.globals c ws u v e s t h;
-        reach = λ k. stay_reach k ws (most k (stmt.Assign v e));
+        meaning = λ c u. changed_ok tree.globals c ws u change s t h ∙ ap (ending tree.globals c ws) (sym (m c u));
+        reach = λ k. stay_reach k ws (most k x);
         units = refl;
-        weight = omega (arith, weight_stmt (S.Assign v e) (stmt.rolls-Assign v e));
+        weight = omega (arith, w);
       }
-  assign_by v e s t (Err f) h =
-      subst (λ (z : State). Done tree (stmt.Assign v e) ws ws (at.Over (Some f)) s z) (sym h.1) (faulted (stmt.Assign v e) s f (λ c u. assign_err tree.globals c ws u v e s f h.0))
+  changed_by x change s t (Err f) m w h =
+      subst (λ (z : State). Done tree x ws ws (at.Over (Some f)) s z) (sym h.1) (faulted x s f (λ c u. changed_err tree.globals c ws u change s f h.0 ∙ ap (ending tree.globals c ws) (sym (m c u))))
 
   pub assign_done : (v : Var) (e : Expr) (s t : State) (r : Result (Unit {0}) Fault) (next : At) → Changes (assigned tree.globals v e s) r s t → next ≡ next_of r → Done tree (stmt.Assign v e) ws ws next s t
-  assign_done v e s t r next h n = subst (λ (z : At). Done tree (stmt.Assign v e) ws ws z s t) (sym n) (assign_by v e s t r h)
-
-  area_by : (w : Width) (p e : Expr) (s t : State) (r : Result (Unit {0}) Fault) → Changes (area_assigned tree.globals w p e s) r s t → Done tree (stmt.AreaWrite w p e) ws ws (next_of r) s t
-  area_by w p e s t (Ok done) h =
-      record {
-        meaning = λ c u. area_ok tree.globals c ws u w p e s t h;
-        reach = λ k. stay_reach k ws (most k (stmt.AreaWrite w p e));
-        units = refl;
-        weight = omega (arith, weight_stmt (S.AreaWrite w p e) (stmt.rolls-AreaWrite w p e));
-      }
-  area_by w p e s t (Err f) h =
-      subst (λ (z : State). Done tree (stmt.AreaWrite w p e) ws ws (at.Over (Some f)) s z) (sym h.1) (faulted (stmt.AreaWrite w p e) s f (λ c u. area_err tree.globals c ws u w p e s f h.0))
+  assign_done v e s t r next h n =
+      subst (λ (z : At). Done tree (stmt.Assign v e) ws ws z s t) (sym n)
+      (changed_by (stmt.Assign v e) (assigned tree.globals v e s) s t r (λ c u. meaning_assign tree.globals c u s v e) (weight_stmt (S.Assign v e) (stmt.rolls-Assign v e)) h)
 
   pub area_done : (w : Width) (p e : Expr) (s t : State) (r : Result (Unit {0}) Fault) (next : At) → Changes (area_assigned tree.globals w p e s) r s t → next ≡ next_of r → Done tree (stmt.AreaWrite w p e) ws ws next s t
-  area_done w p e s t r next h n = subst (λ (z : At). Done tree (stmt.AreaWrite w p e) ws ws z s t) (sym n) (area_by w p e s t r h)
+  area_done w p e s t r next h n =
+      subst (λ (z : At). Done tree (stmt.AreaWrite w p e) ws ws z s t) (sym n)
+      (changed_by (stmt.AreaWrite w p e) (area_assigned tree.globals w p e s) s t r (λ c u. meaning_area_write tree.globals c u s w p e) (weight_stmt (S.AreaWrite w p e) (stmt.rolls-AreaWrite w p e)) h)
 
   -- EXIT, CONTINUE and RETURN
-  left_by : (x : Stmt) (o : ℕ → State → Out) (vs : List Frame) (s : State) → ((c : Calls) (u : ℕ) → meaning tree.globals c x u s ≡ o u s) → weight x ≡ 1 → Leaves o Normal ws vs → Done tree x ws vs at.Work s s
-  left_by x o vs s m w h =
-      record {
+  left_by : {x : Stmt} (y : Stmt) (o : ℕ → State → Out) (vs : List Frame) (s : State) → ((c : Calls) (u : ℕ) → meaning tree.globals c y u s ≡ o u s) → weight y ≡ 1 → x ≡ y → Leaves o Normal ws vs → Done tree x ws vs at.Work s s
+  left_by y o vs s m w is h =
+      subst (λ (x : Stmt). Done tree x ws vs at.Work s s) (sym is)
+      (record {
         meaning = λ c u. h.meaning tree.globals c u s ∙ ap (ending tree.globals c ws) (sym (m c u));
         reach = λ k. omega (arith, h.tall k, sizes_tall k vs);
         units = h.units;
         weight = omega (arith, h.weight);
-      }
+      })
 
-  pub exit_done : (vs : List Frame) (s : State) → Leaves Exits Normal ws vs → Done tree stmt.Exit ws vs at.Work s s
-  exit_done vs s h = left_by stmt.Exit Exits vs s (λ c u. meaning_exit tree.globals c u s) (weight_stmt S.Exit stmt.rolls-Exit) h
+  pub exit_done : {x : Stmt} (vs : List Frame) (s : State) → x ≡ stmt.Exit → Leaves Exits Normal ws vs → Done tree x ws vs at.Work s s
+  exit_done vs s is h = left_by stmt.Exit Exits vs s (λ c u. meaning_exit tree.globals c u s) (weight_stmt S.Exit stmt.rolls-Exit) is h
 
-  pub continue_done : (vs : List Frame) (s : State) → Leaves Continues Normal ws vs → Done tree stmt.Continue ws vs at.Work s s
-  continue_done vs s h = left_by stmt.Continue Continues vs s (λ c u. meaning_continue tree.globals c u s) (weight_stmt S.Continue stmt.rolls-Continue) h
+  pub continue_done : {x : Stmt} (vs : List Frame) (s : State) → x ≡ stmt.Continue → Leaves Continues Normal ws vs → Done tree x ws vs at.Work s s
+  continue_done vs s is h = left_by stmt.Continue Continues vs s (λ c u. meaning_continue tree.globals c u s) (weight_stmt S.Continue stmt.rolls-Continue) is h
 
-  pub return_done : (vs : List Frame) (s : State) → Leaves Returns Normal ws vs → Done tree stmt.Return ws vs at.Work s s
-  return_done vs s h = left_by stmt.Return Returns vs s (λ c u. meaning_return tree.globals c u s) (weight_stmt S.Return stmt.rolls-Return) h
+  pub return_done : {x : Stmt} (vs : List Frame) (s : State) → x ≡ stmt.Return → Leaves Returns Normal ws vs → Done tree x ws vs at.Work s s
+  return_done vs s is h = left_by stmt.Return Returns vs s (λ c u. meaning_return tree.globals c u s) (weight_stmt S.Return stmt.rolls-Return) is h
 
   -- statements that were chosen
   chosen_by : (x : Stmt) (vs : List Frame) (b : Bor (List Stmt)) (s : State) → ((c : Calls) (u : ℕ) → meaning tree.globals c x u s ≡ body_meaning tree.globals c b.now u s)

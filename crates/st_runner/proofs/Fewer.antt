@@ -22,8 +22,7 @@ use Rattle.st_tree.specs.declared.program.StProgram.{StProgram}
 use Rattle.st_tree.specs.declared.program.Stmt.{Stmt}
 use Rattle.st_tree.specs.declared.state.Reference.{Reference}
 use Rattle.st_tree.specs.declared.state.Value.{Value}
-use Rattle.st_tree.proofs.Units.{follows_same}
-use Rattle.st_tree.proofs.Units.{CallsFollow, Follows, body_follows, calls_follow, statements_follow, then_follows, turns_follow, unit_follows}
+use Rattle.st_tree.proofs.Units.{CallsFollow, Follows, body_follows, calls_follow, follows_same, none_more, statements_follow, then_follows, turns_follow, unit_follows}
 
 module _ (g : List Located) (c d : Calls) (k : ℕ) (calls : CallsFollow k c d) where
   framed_follows : (f : Frame) (j u : ℕ) (o p : Out) → u ≤ k → Follows j u o p → Follows j u (framed g c f o) (framed g d f p)
@@ -36,9 +35,6 @@ module _ (g : List Located) (c d : Calls) (k : ℕ) (calls : CallsFollow k c d) 
   pub unwound_follows : (fs : List Frame) (j u : ℕ) (o p : Out) → u ≤ k → Follows j u o p → Follows j u (unwound g c fs o) (unwound g d fs p)
   unwound_follows [] j u o p h e = e
   unwound_follows (f ∷ fs) j u o p h e = framed_follows f j u (unwound g c fs o) (unwound g d fs p) h (unwound_follows fs j u o p h e)
-
-none_more : (u : ℕ) → u + 0 ≡ u
-none_more u = omega arith
 
 module _ (tree : StProgram) (u : ℕ) where
   abbrev g : List Located

@@ -58,13 +58,11 @@ frame_there (a ∷ xs) (suc d) i h = let k : d < length xs = frame_there xs d i 
 pub sound_by : (l f : ℕ) (s t : Parts) → AreFrames l f t.activations.items → t.spare ≡ s.spare → length t.activations.items ≡ length s.activations.items → vec_capacity t.activations ≡ vec_capacity s.activations → IsSound l f s → IsSound l f t
 sound_by l f s t frames same len capacity k =
     let spare : t.spare.items ≡ s.spare.items = ap (λ v. v.items) same in
-    let some : 0 < length s.activations.items = k.some in
-    let all : length s.activations.items + length s.spare.items ≡ ACTIVATIONS = k.all in
     record {
       running = frames;
       spare = subst (λ (ys : List Kept). AreFrames l f ys) (sym spare) k.spare;
-      some = omega arith;
-      all = ap (λ n. n + length t.spare.items) len ∙ ap (λ (ys : List Kept). length s.activations.items + length ys) spare ∙ all;
+      some = omega (arith, len, k.some);
+      all = omega (arith, len, k.all, ap length spare);
       room = subst (λ n. ACTIVATIONS ≤ n) (sym capacity) k.room;
       spare_room = subst (λ n. ACTIVATIONS ≤ n) (ap (λ v. vec_capacity v) (sym same)) k.spare_room;
     }
@@ -74,9 +72,7 @@ held_frames l f [] h = tt
 held_frames l f (a ∷ xs) h = (h.0.reachable, held_frames l f xs h.1)
 
 pub sound_running : (l f : ℕ) (s : Parts) → IsSound l f s → IsRunning s
-sound_running l f s h =
-    let all : length s.activations.items + length s.spare.items ≡ ACTIVATIONS = h.all in
-    record { some = h.some; few = omega arith; held = held_frames l f s.activations.items h.running }
+sound_running l f s h = record { some = h.some; few = omega (arith, h.all); held = held_frames l f s.activations.items h.running }
 
 pub reachable_at : (rs : List Reference) (i : ℕ) → AreReachable rs → IfOk (there (slice_get rs i)) IsReachable
 reachable_at [] i h = tt

@@ -2,48 +2,34 @@
 use Rattle.std.proofs.Common.{◌≡◌, ℕ, Bool, true, false, if◌then◌else◌, ℤ, List, [], ◌∷◌, map, Some, Result, Ok, Err, refl, sym, ap, ◌∙◌}
 use Rattle.memory_areas.specs.Access.{and_then}
 use Rattle.s7_base.specs.declared.outcome.Fault.{Fault}
-use Rattle.s7_base.specs.declared.word.Width.{Width}
 use Rattle.st_runner.specs.inner.Choice.{has_label, labelled, picked}
 use Rattle.st_runner.specs.inner.Waiting.{end_at, ending}
 use Rattle.st_runner.specs.declared.frame.At.TheVariants as at
 use Rattle.st_runner.specs.declared.frame.Frame.{Frame}
 use Rattle.st_runner.proofs.Stack.{unwound_faults}
-use Rattle.st_tree.specs.Meaning.{Out, Faults, Calls, Guarded, Labelled, area_assigned, arm_meaning, assigned, body_meaning, case_meaning, changed, first_true, first_with, in_order, meaning, with_value}
+use Rattle.st_tree.specs.Meaning.{Out, Faults, Calls, Guarded, Labelled, arm_meaning, body_meaning, case_meaning, changed, first_true, first_with, in_order, meaning, with_value}
 use Rattle.st_tree.specs.StRun.{end_seen}
 use Rattle.st_tree.specs.State.{State}
 use Rattle.st_tree.specs.Value.{value}
 use Rattle.st_tree.specs.Values.{is_set}
 use Rattle.st_tree.specs.declared.expr.Expr.{Expr}
-use Rattle.st_tree.specs.declared.expr.Var.{Var}
 use Rattle.st_tree.specs.declared.program.Arm.{Arm}
 use Rattle.st_tree.specs.declared.program.CaseArm.{CaseArm}
 use Rattle.st_tree.specs.declared.program.Located.{Located}
 use Rattle.st_tree.specs.declared.program.Stmt.{Stmt}
 use Rattle.st_tree.specs.declared.program.Stmt.TheVariants as stmt
 use Rattle.st_tree.specs.declared.state.Value.{Value}
-use Rattle.st_tree.proofs.Equations.{meaning_area_write, meaning_arm, meaning_assign, meaning_case, meaning_case_arm, meaning_if}
+use Rattle.st_tree.proofs.Equations.{meaning_arm, meaning_case, meaning_case_arm, meaning_if}
 
 module _ (g : List Located) (c : Calls) (fs : List Frame) (u : ℕ) where
-  changed_ok : (r : Result State Fault) (s t : State) → r ≡ Ok t → end_at g c fs at.Work u t ≡ ending g c fs (changed r u s)
+  pub changed_ok : (r : Result State Fault) (s t : State) → r ≡ Ok t → end_at g c fs at.Work u t ≡ ending g c fs (changed r u s)
   changed_ok (Ok x) s t e = ap (λ (y : Result State Fault). ending g c fs (changed y u s)) (sym e)
   changed_ok (Err f) s t e = cc
 
-  changed_err : (r : Result State Fault) (s : State) (f : Fault) → r ≡ Err f → end_at g c fs (at.Over (Some f)) u s ≡ ending g c fs (changed r u s)
+  pub changed_err : (r : Result State Fault) (s : State) (f : Fault) → r ≡ Err f → end_at g c fs (at.Over (Some f)) u s ≡ ending g c fs (changed r u s)
   changed_err (Ok x) s f e = cc
   changed_err (Err x) s f e =
       sym (ap end_seen (unwound_faults g c fs f s)) ∙ ap (λ (y : Result State Fault). ending g c fs (changed y u s)) (sym e)
-
-  pub assign_ok : (v : Var) (e : Expr) (s t : State) → assigned g v e s ≡ Ok t → end_at g c fs at.Work u t ≡ ending g c fs (meaning g c (stmt.Assign v e) u s)
-  assign_ok v e s t h = changed_ok (assigned g v e s) s t h ∙ ap (ending g c fs) (sym (meaning_assign g c u s v e))
-
-  pub assign_err : (v : Var) (e : Expr) (s : State) (f : Fault) → assigned g v e s ≡ Err f → end_at g c fs (at.Over (Some f)) u s ≡ ending g c fs (meaning g c (stmt.Assign v e) u s)
-  assign_err v e s f h = changed_err (assigned g v e s) s f h ∙ ap (ending g c fs) (sym (meaning_assign g c u s v e))
-
-  pub area_ok : (w : Width) (p e : Expr) (s t : State) → area_assigned g w p e s ≡ Ok t → end_at g c fs at.Work u t ≡ ending g c fs (meaning g c (stmt.AreaWrite w p e) u s)
-  area_ok w p e s t h = changed_ok (area_assigned g w p e s) s t h ∙ ap (ending g c fs) (sym (meaning_area_write g c u s w p e))
-
-  pub area_err : (w : Width) (p e : Expr) (s : State) (f : Fault) → area_assigned g w p e s ≡ Err f → end_at g c fs (at.Over (Some f)) u s ≡ ending g c fs (meaning g c (stmt.AreaWrite w p e) u s)
-  area_err w p e s f h = changed_err (area_assigned g w p e s) s f h ∙ ap (ending g c fs) (sym (meaning_area_write g c u s w p e))
 
 -- the chosen statements, or the fault of the choice
 abbrev pub chosen_out : List Located → Calls → ℕ → State → Result (List Stmt) Fault → Out

@@ -33,14 +33,11 @@ pub sound_leave : (l f : ℕ) (s t : Parts) (a : Kept) → s.activations.items �
     → vec_capacity t.activations ≡ vec_capacity s.activations → vec_capacity t.spare ≡ vec_capacity s.spare → 1 < length s.activations.items → IsSound l f s → IsSound l f t
 sound_leave l f s t a e g c d more h =
     let parts = taken l f s.activations.items t.activations.items a e h.running in
-    let m : length s.activations.items ≡ length t.activations.items + 1 = longer s.activations.items t.activations.items a e in
-    let n : length t.spare.items ≡ length s.spare.items + 1 = longer t.spare.items s.spare.items a g in
-    let all : length s.activations.items + length s.spare.items ≡ ACTIVATIONS = h.all in
     record {
       running = parts.0;
       spare = given l f t.spare.items s.spare.items a g h.spare parts.1;
-      some = omega arith;
-      all = omega arith;
+      some = omega (arith, longer s.activations.items t.activations.items a e);
+      all = omega (arith, h.all, longer s.activations.items t.activations.items a e, longer t.spare.items s.spare.items a g);
       room = subst (λ k. ACTIVATIONS ≤ k) (sym c) h.room;
       spare_room = subst (λ k. ACTIVATIONS ≤ k) (sym d) h.spare_room;
     }
@@ -50,14 +47,11 @@ pub sound_enter : (l f : ℕ) (s t : Parts) (a b : Kept) → s.spare.items ≡ t
     → vec_capacity b.locals ≡ vec_capacity a.locals → vec_capacity b.formals ≡ vec_capacity a.formals → AreReachable b.formals.items → IsSound l f s → IsSound l f t
 sound_enter l f s t a b e g c d x y r h =
     let parts = taken l f s.spare.items t.spare.items a e h.spare in
-    let m : length s.spare.items ≡ length t.spare.items + 1 = longer s.spare.items t.spare.items a e in
-    let n : length t.activations.items ≡ length s.activations.items + 1 = longer t.activations.items s.activations.items b g in
-    let all : length s.activations.items + length s.spare.items ≡ ACTIVATIONS = h.all in
     record {
       running = given l f t.activations.items s.activations.items b g h.running (same_room l f a b x y r parts.1);
       spare = parts.0;
-      some = omega arith;
-      all = omega arith;
+      some = omega (arith, longer t.activations.items s.activations.items b g);
+      all = omega (arith, h.all, longer s.spare.items t.spare.items a e, longer t.activations.items s.activations.items b g);
       room = subst (λ k. ACTIVATIONS ≤ k) (sym c) h.room;
       spare_room = subst (λ k. ACTIVATIONS ≤ k) (sym d) h.spare_room;
     }
@@ -67,16 +61,12 @@ pub sound_back : (l f : ℕ) (s t : Parts) (ys : List Kept) (a b : Kept) → s.s
     → vec_capacity t.spare ≡ vec_capacity s.spare → vec_capacity b.locals ≡ vec_capacity a.locals → vec_capacity b.formals ≡ vec_capacity a.formals → AreReachable b.formals.items → IsSound l f s → IsSound l f t
 sound_back l f s t ys a b e g v d x y r h =
     let parts = taken l f s.spare.items ys a e h.spare in
-    let m : length s.spare.items ≡ length ys + 1 = longer s.spare.items ys a e in
-    let n : length t.spare.items ≡ length ys + 1 = longer t.spare.items ys b g in
     let k : length t.activations.items ≡ length s.activations.items = ap (λ w. length w.items) v in
-    let all : length s.activations.items + length s.spare.items ≡ ACTIVATIONS = h.all in
-    let some : 0 < length s.activations.items = h.some in
     record {
       running = subst (λ w. AreFrames l f w.items) (sym v) h.running;
       spare = given l f t.spare.items ys b g parts.0 (same_room l f a b x y r parts.1);
-      some = omega arith;
-      all = omega arith;
+      some = omega (arith, h.some);
+      all = omega (arith, h.all, longer s.spare.items ys a e, longer t.spare.items ys b g);
       room = subst (λ w. ACTIVATIONS ≤ vec_capacity w) (sym v) h.room;
       spare_room = subst (λ w. ACTIVATIONS ≤ w) (sym d) h.spare_room;
     }

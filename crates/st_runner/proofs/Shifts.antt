@@ -32,10 +32,8 @@ turns_right w b k = omega arith
 -- a number below 2 ^ j, k bits further up, is 2 ^ k below 2 ^ (j + k) at least
 pub below : (a j k : ℕ) → a < 2 ^ j → a * 2 ^ k + 2 ^ k ≤ 2 ^ (j + k)
 below a j k h =
-    let e : 2 ^ (j + k) ≡ 2 ^ j * 2 ^ k = pow-add 2 j k in
     let m : (a + 1) * 2 ^ k ≤ 2 ^ j * 2 ^ k = mul-le-mul_right (2 ^ k) (omega arith) in
-    let s : (a + 1) * 2 ^ k ≡ a * 2 ^ k + 2 ^ k = omega arith in
-    omega arith
+    omega (arith, pow-add 2 j k)
 
 -- the code's shifts at 64 bits lose nothing
 pub moved_is : (b j k : ℕ) → 0 < k → j + k ≤ 64 → b % (1 * 2 ^ j % 2 ^ 64) * 2 ^ k % 2 ^ 64 ≡ b % 2 ^ j * 2 ^ k
@@ -44,10 +42,7 @@ moved_is b j k h within =
     ∙ shl_whole (b % 2 ^ j) j k 64 (mod-lt b (pow_pos j)) within
 
 pub moved_below : (b j k : ℕ) → 0 < k → j + k ≤ 64 → b % (1 * 2 ^ j % 2 ^ 64) * 2 ^ k % 2 ^ 64 + 2 ^ k ≤ 2 ^ (j + k)
-moved_below b j k h within =
-    let e : b % (1 * 2 ^ j % 2 ^ 64) * 2 ^ k % 2 ^ 64 ≡ b % 2 ^ j * 2 ^ k = moved_is b j k h within in
-    let f : b % 2 ^ j * 2 ^ k + 2 ^ k ≤ 2 ^ (j + k) = below (b % 2 ^ j) j k (mod-lt b (pow_pos j)) in
-    omega arith
+moved_below b j k h within = omega (arith, moved_is b j k h within, below (b % 2 ^ j) j k (mod-lt b (pow_pos j)))
 
 -- what leaves a pattern fits what it leaves free
 pub turn_fits : (b j k : ℕ) → b < 2 ^ (j + k) → b / 2 ^ j < 2 ^ k

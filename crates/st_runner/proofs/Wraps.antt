@@ -15,12 +15,7 @@ remainder_is (negsuc n) = refl
 -- the bits of a number in a narrower type
 narrow : (ty : StType) (z : ℤ) → fit ty (cast_signed w64 (pattern 64 z)) ≡ fit ty z
 narrow type.Bool z = grind (arith, ints)
-narrow type.Byte z = grind (arith, ints)
-narrow type.Word z = grind (arith, ints)
-narrow type.Dword z = grind (arith, ints)
-narrow type.Int z = grind (arith, ints)
-narrow type.Dint z = grind (arith, ints)
-narrow type.Lint z = grind (arith, ints)
+narrow ty z = grind (arith, ints)
 
 fit_wrap : (ty : StType) (z : ℤ) → fit ty (int_wrap w64 z) ≡ fit ty z
 unfolding int_wrap
@@ -47,15 +42,9 @@ quotient_abs (negsuc n) (negsuc m) = let h : suc n / suc m ≤ suc n = div-le_se
 
 within : (ty : StType) (z : ℤ) → unsigned_abs z ≤ 2 ^ 63 → fit ty (cast_signed w64 (cast_unsigned w64 z)) ≡ fit ty z
 within type.Bool z h = grind (arith, ints)
-within type.Byte z h = grind (arith, ints)
-within type.Word z h = grind (arith, ints)
-within type.Dword z h = grind (arith, ints)
-within type.Int z h = grind (arith, ints)
-within type.Dint z h = grind (arith, ints)
-within type.Lint z h = grind (arith, ints)
+within ty z h = grind (arith, ints)
 
 pub fit_quotient : (ty : StType) (x y : ℤ) → FitsSigned w64 x → fit ty (int_wrapping_div w64 x y) ≡ fit ty (int_div x y)
 fit_quotient ty x y f =
     let a : unsigned_abs x ≤ 2 ^ 63 = grind (arith, ints) in
-    let b : unsigned_abs (int_div x y) ≤ unsigned_abs x = quotient_abs x y in
-    within ty (int_div x y) (omega arith)
+    within ty (int_div x y) (omega (arith, quotient_abs x y))

@@ -210,7 +210,7 @@ end_follows j most (Faults x s) p after f h e = ap end_seen h ∙ e
 end_follows j most (NoUnits s) p after f h e = cc
 end_follows j most o p after f h e = ap end_seen h.0 ∙ e
 
-none_more : (u : ℕ) → u + 0 ≡ u
+pub none_more : (u : ℕ) → u + 0 ≡ u
 none_more u = omega arith
 
 -- what follows with no more units is the same

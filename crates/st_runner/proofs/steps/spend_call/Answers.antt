@@ -19,19 +19,13 @@ enter-requires-clause-may c =
 
 pub push_reserved-requires : goal.push_reserved-requires
 push_reserved-requires c =
-    let w = c.args.work.now in
-    let room : length c.args.work.now.items + 2 ≤ vec_capacity c.args.work.now = call_room c.args.tree.now c.requires.runnable _ w.items c.args.state.now c.args.n c.args.actuals c.requires.ready in
-    let len : vec_len c.args.work.now ≡ length c.args.work.now.items = w.ok.0 in
-    omega arith
+    let room = call_room c.args.tree.now c.requires.runnable _ c.args.work.now.items c.args.state.now c.args.n c.args.actuals c.requires.ready in
+    omega (arith, room, c.args.work.now.ok.0)
 
 pub push_reserved-requires-in-Ok : goal.push_reserved-requires-in-Ok
 push_reserved-requires-in-Ok c =
-    let w = c.args.work.now in
-    let room : length c.args.work.now.items + 2 ≤ vec_capacity c.args.work.now = call_room c.args.tree.now c.requires.runnable _ w.items c.args.state.now c.args.n c.args.actuals c.requires.ready in
-    let len : vec_len c.args.work.now ≡ length c.args.work.now.items = w.ok.0 in
-    let more : vec_len c.push_reserved.new.self ≡ vec_len c.args.work.now + 1 = c.push_reserved.ensures.len in
-    let same : vec_capacity c.push_reserved.new.self ≡ vec_capacity c.args.work.now = c.push_reserved.ensures.capacity in
-    omega arith
+    let room = call_room c.args.tree.now c.requires.runnable _ c.args.work.now.items c.args.state.now c.args.n c.args.actuals c.requires.ready in
+    omega (arith, room, c.args.work.now.ok.0, c.push_reserved.ensures.len, c.push_reserved.ensures.capacity)
 
 pub returns-in-Ok-clause-spent : goal.returns-in-Ok-clause-spent
 returns-in-Ok-clause-spent c =

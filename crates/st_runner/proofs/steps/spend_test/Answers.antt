@@ -15,19 +15,13 @@ is_true-requires-clause-running c = ready_running c.args.tree.now _ _ _ c.args.s
 
 pub push_reserved-requires : goal.push_reserved-requires
 push_reserved-requires c =
-    let w = c.args.work.now in
-    let room : length c.args.work.now.items + 2 ≤ vec_capacity c.args.work.now = test_room c.args.tree.now _ w.items c.args.state.now c.args.test c.args.body c.requires.ready in
-    let len : vec_len c.args.work.now ≡ length c.args.work.now.items = w.ok.0 in
-    omega arith
+    let room = test_room c.args.tree.now _ c.args.work.now.items c.args.state.now c.args.test c.args.body c.requires.ready in
+    omega (arith, room, c.args.work.now.ok.0)
 
 pub push_reserved-requires-in-Ok-true : goal.push_reserved-requires-in-Ok-true
 push_reserved-requires-in-Ok-true c =
-    let w = c.args.work.now in
-    let room : length c.args.work.now.items + 2 ≤ vec_capacity c.args.work.now = test_room c.args.tree.now _ w.items c.args.state.now c.args.test c.args.body c.requires.ready in
-    let len : vec_len c.args.work.now ≡ length c.args.work.now.items = w.ok.0 in
-    let more : vec_len c.push_reserved.new.self ≡ vec_len c.args.work.now + 1 = c.push_reserved.ensures.len in
-    let same : vec_capacity c.push_reserved.new.self ≡ vec_capacity c.args.work.now = c.push_reserved.ensures.capacity in
-    omega arith
+    let room = test_room c.args.tree.now _ c.args.work.now.items c.args.state.now c.args.test c.args.body c.requires.ready in
+    omega (arith, room, c.args.work.now.ok.0, c.push_reserved.ensures.len, c.push_reserved.ensures.capacity)
 
 pub returns-in-Ok-true-clause-spent : goal.returns-in-Ok-true-clause-spent
 returns-in-Ok-true-clause-spent c =

@@ -1,7 +1,6 @@
 use Rattle.std.proofs.Common.{List, sym, subst}
 use Rattle.st_runner.specs.inner.Ready.{Done}
 use Rattle.st_runner.specs.inner.View.{Changes, state_of}
-use Rattle.st_runner.specs.declared.frame.At.TheVariants as at
 use Rattle.st_runner.proofs.Dones.{area_done, assign_done, continue_done, exit_done, return_done}
 use Rattle.st_tree.specs.Meaning.{area_assigned, assigned}
 use Rattle.st_tree.specs.declared.expr.Expr.{Expr}
@@ -53,22 +52,10 @@ returns-in-Case-clause-done c =
     (subst (λ (xs : List Stmt). Done c.args.tree.now (stmt.Case e c.as_slice-in-Case.result.now xs) ws vs c.choose_labelled.result s s) c.as_slice-in-Case-2.ensures c.choose_labelled.ensures.done))
 
 pub returns-in-Exit-clause-done : goal.returns-in-Exit-clause-done
-returns-in-Exit-clause-done c =
-    let ws = c.args.work.now.items in
-    let s = state_of c.args.state.now in
-    subst (λ (x : Stmt). Done c.args.tree.now x ws c.exit_loop.new.work.items at.Work s s) (sym c.in-Exit.is)
-    (exit_done c.args.tree.now ws c.exit_loop.new.work.items s c.exit_loop.ensures.leaves)
+returns-in-Exit-clause-done c = exit_done c.args.tree.now _ _ _ c.in-Exit.is c.exit_loop.ensures.leaves
 
 pub returns-in-Continue-clause-done : goal.returns-in-Continue-clause-done
-returns-in-Continue-clause-done c =
-    let ws = c.args.work.now.items in
-    let s = state_of c.args.state.now in
-    subst (λ (x : Stmt). Done c.args.tree.now x ws c.continue_loop.new.work.items at.Work s s) (sym c.in-Continue.is)
-    (continue_done c.args.tree.now ws c.continue_loop.new.work.items s c.continue_loop.ensures.leaves)
+returns-in-Continue-clause-done c = continue_done c.args.tree.now _ _ _ c.in-Continue.is c.continue_loop.ensures.leaves
 
 pub returns-in-Return-clause-done : goal.returns-in-Return-clause-done
-returns-in-Return-clause-done c =
-    let ws = c.args.work.now.items in
-    let s = state_of c.args.state.now in
-    subst (λ (x : Stmt). Done c.args.tree.now x ws c.return_unit.new.work.items at.Work s s) (sym c.in-Return.is)
-    (return_done c.args.tree.now ws c.return_unit.new.work.items s c.return_unit.ensures.leaves)
+returns-in-Return-clause-done c = return_done c.args.tree.now _ _ _ c.in-Return.is c.return_unit.ensures.leaves

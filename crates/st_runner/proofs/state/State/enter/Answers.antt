@@ -13,9 +13,7 @@ pub locate_actuals-requires-clause-room : goal.locate_actuals-requires-clause-ro
 locate_actuals-requires-clause-room c =
     let can = c.requires.may.2 in
     let frame = (taken c.requires.may.0 c.requires.may.1 c.args.self.now.spare.items c.pop.new.self.items c.in-Some.activation c.in-Some.ensures.items can.sound.spare).1 in
-    let a : length c.args.actuals.now ≤ c.requires.may.1 = can.actuals_fit in
-    let b : c.requires.may.1 ≤ vec_capacity c.in-Some.activation.formals = frame.formals_room in
-    omega arith
+    omega (arith, can.actuals_fit, frame.formals_room)
 
 pub returns-in-Err-clause-sound : goal.returns-in-Err-clause-sound
 returns-in-Err-clause-sound c = λ l f sound.
@@ -28,10 +26,7 @@ pub zero_locals-requires : goal.zero_locals-requires
 zero_locals-requires c =
     let can = c.requires.may.2 in
     let frame = (taken c.requires.may.0 c.requires.may.1 c.args.self.now.spare.items c.pop.new.self.items c.in-Some.activation c.in-Some.ensures.items can.sound.spare).1 in
-    let a : length c.args.unit.now.locals ≤ c.requires.may.0 = can.locals_fit in
-    let b : c.requires.may.0 ≤ vec_capacity c.in-Some.activation.locals = frame.locals_room in
-    let e : c.as_slice.result.now ≡ c.args.unit.now.locals = c.as_slice.ensures in
-    subst (λ xs. length xs ≤ vec_capacity c.in-Some.activation.locals) (sym e) (omega arith)
+    subst (λ xs. length xs ≤ vec_capacity c.in-Some.activation.locals) (sym c.as_slice.ensures) (omega (arith, can.locals_fit, frame.locals_room))
 
 pub returns-clause-sound : goal.returns-clause-sound
 returns-clause-sound c = λ l f sound.
