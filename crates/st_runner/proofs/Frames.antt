@@ -29,21 +29,6 @@ set_frames l f [] d i v x h k = absurd (omega arith)
 set_frames l f (a ∷ xs) zero i v x h k = (record { locals_room = k.0.locals_room; formals_room = k.0.formals_room; reachable = k.0.reachable }, k.1)
 set_frames l f (a ∷ xs) (suc d) i v x h k = (k.0, set_frames l f xs d i v x (omega arith) k.1)
 
-pub locals_there : (xs : List Kept) (d : ℕ) (x : Kept) → d < length xs → locals_of (slice_get (map seen xs) d) ≡ (slice_index_or xs d x).locals.items
-locals_there [] d x h = absurd (omega arith)
-locals_there (a ∷ xs) zero x h = refl
-locals_there (a ∷ xs) (suc d) x h = locals_there xs d x (omega arith)
-
-pub some_there : (vs : List Value) (i : ℕ) → i < length vs → (v : Value) × (slice_get vs i ≡ Some v)
-some_there [] i h = absurd (omega arith)
-some_there (v ∷ vs) zero h = (v, refl)
-some_there (v ∷ vs) (suc i) h = some_there vs i (omega arith)
-
-pub none_there : (vs : List Value) (i : ℕ) → length vs ≤ i → slice_get vs i ≡ None
-none_there [] i h = refl
-none_there (v ∷ vs) zero h = absurd (omega arith)
-none_there (v ∷ vs) (suc i) h = none_there vs i (omega arith)
-
 pub is_local : (vs : List Value) (i : ℕ) (v : Value) → there (slice_get vs i) ≡ Ok v → i < length vs
 is_local [] i v e = cc
 is_local (x ∷ vs) zero v e = omega arith

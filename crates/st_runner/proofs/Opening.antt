@@ -1,6 +1,8 @@
 -- Where a run begins.
 use Rattle.std.proofs.Common.{◌≡◌, ℕ, suc, ◌+◌, ◌*◌, ◌≤◌, Bool, true, false, if◌then◌else◌, Bor, List, [], ◌∷◌, length, map, Option, Some, None, sym, ap, subst, ◌∙◌, arith}
 use Rattle.std.specs.Prelude.{find, slice_get}
+use Rattle.std.specs.List.{position_or_len}
+use Rattle.std.proofs.lemmas.List.Folds.{find_at}
 use Rattle.memory_areas.specs.Areas.{Areas}
 use Rattle.memory_areas.specs.Memory.{IsActivation}
 use Rattle.memory_areas.specs.declared.data_block.DataBlock.{DataBlock}
@@ -39,16 +41,8 @@ use Rattle.memory_areas.specs.declared.call.BlockName.TheVariants as name
 use Rattle.memory_areas.specs.declared.call.Call.{Call}
 
 -- a unit that is found stands somewhere
-found_at : (p : Pou → Bool) (xs : List Pou) (x : Pou) → find p xs ≡ Some x → (n : ℕ) × (slice_get xs n ≡ Some x)
-found_at p [] x e = cc
-found_at p (y ∷ xs) x e = by (p y) e (found_at p xs x)
-  where
-    by : (b : Bool) → (if b then Some y else find p xs) ≡ Some x → (find p xs ≡ Some x → (n : ℕ) × (slice_get xs n ≡ Some x)) → (n : ℕ) × (slice_get (y ∷ xs) n ≡ Some x)
-    by true h more = (0, h)
-    by false h more = let k = more h in (suc k.0, k.1)
-
 pub called_at : (block : BlockName) (xs : List Pou) (x : Pou) → unit_called block xs ≡ Some x → (n : ℕ) × (slice_get xs n ≡ Some x)
-called_at block xs x e = found_at (is_meant block) xs x e
+called_at block xs x e = (position_or_len (is_meant block) xs, sym (find_at (is_meant block) xs) ∙ e)
 
 pub called_locals : (block : BlockName) (xs : List Pou) (x : Pou) → unit_called block xs ≡ Some x → length x.locals ≤ most_locals xs
 called_locals block xs x e = let k = called_at block xs x e in locals_at xs k.0 x k.1

@@ -1,7 +1,8 @@
 -- What takes a unit: the test of a loop and a call.
-use Rattle.std.proofs.Common.{◌≡◌, ℕ, zero, suc, ◌+◌, ◌*◌, ◌<◌, ◌≤◌, max, Bool, true, false, if◌then◌else◌, Bor, List, [], ◌∷◌, ◌++◌, length, Option, Some, None, Result, Ok, Err, refl, sym, ap, ◌∙◌, arith}
+use Rattle.std.proofs.Common.{◌≡◌, ℕ, zero, suc, ◌+◌, ◌*◌, ◌<◌, ◌≤◌, max, Bool, true, false, if◌then◌else◌, Bor, List, [], ◌∷◌, ◌++◌, length, Option, Some, None, Result, Ok, Err, refl, sym, ap, subst, ◌∙◌, arith}
 use Rattle.std.specs.Prelude.{◌==◌, slice_get, slice_index_or}
 use Rattle.std.proofs.lemmas.Bool.Decides.{nat_tests}
+use Rattle.std.proofs.lemmas.Option.{slice_get-get_or, slice_get_within}
 use Rattle.st_runner.specs.declared.steps.TheConstants.{UNIT_FRAMES}
 use Rattle.memory_areas.specs.Access.{and_then}
 use Rattle.memory_areas.specs.declared.sizes.TheConstants.{ACTIVATIONS}
@@ -89,16 +90,6 @@ depth_units tree (frame.Rest b ∷ ws) = let h : sizes (depth_costs tree) ws ≡
 depth_units tree (frame.Again t b ∷ ws) = let h : sizes (depth_costs tree) ws ≡ units ws = depth_units tree ws in omega arith
 depth_units tree (frame.Unit ∷ ws) = let h : sizes (depth_costs tree) ws ≡ units ws = depth_units tree ws in omega arith
 
-in_range : (xs : List Pou) (n : ℕ) (x : Pou) → slice_get xs n ≡ Some x → n < length xs
-in_range [] n x e = cc
-in_range (y ∷ xs) zero x e = omega arith
-in_range (y ∷ xs) (suc n) x e = let h : n < length xs = in_range xs n x e in omega arith
-
-pub indexed : (xs : List Pou) (n : ℕ) (d : Pou) → n < length xs → slice_get xs n ≡ Some (slice_index_or xs n d)
-indexed [] n d h = absurd (omega arith)
-indexed (x ∷ xs) zero d h = refl
-indexed (x ∷ xs) (suc n) d h = indexed xs n d (omega arith)
-
 pub locals_at : (xs : List Pou) (n : ℕ) (x : Pou) → slice_get xs n ≡ Some x → length x.locals ≤ most_locals xs
 locals_at [] n x e = cc
 locals_at (y ∷ xs) zero x e = let same : y ≡ x = cc in omega (arith, ap (λ (p : Pou). length p.locals) same)
@@ -134,7 +125,11 @@ module _ (tree : StProgram) (runnable : IsRunnable tree) (capacity : ℕ) (ws : 
   pub call_there : n < length tree.pous
   call_there =
       let found = unit_there tree n (omega (arith, chain_small)) in
-      in_range tree.pous n found.0 found.1
+      slice_get_within tree.pous n found.0 found.1
+
+  -- the unit that is found at the number
+  pub call_unit : (xs : List Pou) (unit : Pou) → xs ≡ tree.pous → unit ≡ slice_index_or xs n unit → slice_get tree.pous n ≡ Some unit
+  call_unit xs unit e is = subst (λ (ys : List Pou). slice_get ys n ≡ Some unit) e (slice_get-get_or xs n unit (subst (λ (ys : List Pou). n < length ys) (sym e) call_there) ∙ ap (λ (p : Pou). Some p) (sym is))
 
   pub call_room : length ws + 2 ≤ capacity
   call_room = omega (arith, r.frames, stack_length tree ws, chain_some tree n)

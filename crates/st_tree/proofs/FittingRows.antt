@@ -40,20 +40,7 @@ no_int h = let e = h.type in cc
 
 zeros_fit : RegistersFit all_zero
 zeros_fit reg.Accu1 = refl
-zeros_fit reg.Accu2 = refl
-zeros_fit reg.Ar1 = refl
-zeros_fit reg.Ar2 = refl
-zeros_fit reg.DbNo = refl
-zeros_fit reg.DiNo = refl
-zeros_fit reg.Nfc = refl
-zeros_fit reg.Rlo = refl
-zeros_fit reg.Sta = refl
-zeros_fit reg.Orb = refl
-zeros_fit reg.Os = refl
-zeros_fit reg.Ov = refl
-zeros_fit reg.Cc0 = refl
-zeros_fit reg.Cc1 = refl
-zeros_fit reg.Br = refl
+zeros_fit r = refl
 
 abbrev twos : Reg → ℤ
 twos r = pos 2

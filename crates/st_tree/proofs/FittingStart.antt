@@ -1,8 +1,10 @@
 -- A call from outside begins in a state that fits, and its run leads to no other.
 use Rattle.std.specs.Prelude.{◌≡◌, ℕ, zero, suc, ◌≤◌, ◌<◌, ◌^◌, ◌==◌, Bool, true, false, cond, if◌then◌else◌, pos, List, [], ◌∷◌, find, map, replicate, slice_get, All, Contains, Option, Some, IsSome}
 use Rattle.std.specs.Str.{str_eq_ignore_ascii_case}
-use Rattle.std.proofs.Common.{refl, sym, ap, subst, arith, eqb-true, mod-eq_of_lt}
+use Rattle.std.proofs.Common.{refl, sym, ap, ◌∙◌, subst, arith, eqb-true, mod-eq_of_lt}
 use Rattle.std.proofs.lemmas.Bool.{and_parts}
+use Rattle.std.specs.List.{position_or_len}
+use Rattle.std.proofs.lemmas.List.Folds.{find_at}
 use Rattle.std.proofs.lemmas.List.Elements.{All-cons, All-head, All-nil, All-tail}
 use Rattle.memory_areas.specs.Access.{or_none}
 use Rattle.memory_areas.specs.Areas.{Areas, IsMemoryOf, Match, block_of, bytes_in, with_areas, zero_locals}
@@ -32,22 +34,14 @@ use Rattle.st_tree.proofs.FittingStatements.{register_fits, statements_keep}
 
 -- The unit that is called
 
--- a unit that is found stands somewhere, and passes the test
-record IsFound (p : Pou → Bool) (xs : List Pou) (x : Pou) : Type 0 where
-  at : ℕ
-  there : slice_get xs at ≡ Some x
-  passes : p x ≡ true
-
-found : (p : Pou → Bool) (xs : List Pou) (x : Pou) → find p xs ≡ Some x → IsFound p xs x
-found p [] x e = cc
-found p (y ∷ xs) x e = by (p y) refl e (found p xs x)
+-- a unit that is found passes the test
+passes : (p : Pou → Bool) (xs : List Pou) (x : Pou) → find p xs ≡ Some x → p x ≡ true
+passes p [] x e = cc
+passes p (y ∷ xs) x e = by (p y) refl e (passes p xs x)
   where
-    by : (b : Bool) → p y ≡ b → (if b then Some y else find p xs) ≡ Some x
-        → (find p xs ≡ Some x → IsFound p xs x) → IsFound p (y ∷ xs) x
-    by true t h more =
-        let same : y ≡ x = cc in
-        record { at = 0; there = h; passes = subst (λ (u : Pou). p u ≡ true) same t }
-    by false t h more = let r = more h in record { at = suc r.at; there = r.there; passes = r.passes }
+    by : (b : Bool) → p y ≡ b → cond b (Some y) (find p xs) ≡ Some x → (find p xs ≡ Some x → p x ≡ true) → p x ≡ true
+    by true t h rest = let same : y ≡ x = cc in subst (λ (u : Pou). p u ≡ true) same t
+    by false t h rest = rest h
 
 -- Registers
 
@@ -129,12 +123,11 @@ module _ (tree : StProgram) (call : Call) (unit : Pou) (areas : Areas) (proper :
     (there : unit_called call.block tree.pous ≡ Some unit) (fits : FitsSt tree call)
     (memory : IsMemoryOf tree.dbs areas)
   where
-    place : IsFound (is_meant call.block) tree.pous unit
-    place = found (is_meant call.block) tree.pous unit there
+    at : slice_get tree.pous (position_or_len (is_meant call.block) tree.pous) ≡ Some unit
+    at = sym (find_at (is_meant call.block) tree.pous) ∙ there
 
     own : IsProperUnit tree.globals (map head_of tree.pous) unit
-    own =
-        at_position (IsProperUnit tree.globals (map head_of tree.pous)) tree.pous place.at unit proper.units place.there
+    own = at_position (IsProperUnit tree.globals (map head_of tree.pous)) tree.pous _ unit proper.units at
 
     fits_unit : FitsUnit tree.dbs unit call.block call.instance call.actuals
     fits_unit = subst (λ (o : Option Pou). FitsIfThere tree call o) there fits
@@ -143,14 +136,15 @@ module _ (tree : StProgram) (call : Call) (unit : Pou) (areas : Areas) (proper :
     start_fits =
         record {
           units =
-              All-cons (Contains tree.pous) unit [] (is_in tree.pous place.at unit place.there)
+              All-cons (Contains tree.pous) unit [] (is_in tree.pous _ unit at)
               (All-nil (Contains tree.pous));
           registers = registers_fit tree unit call.block call.instance call.actuals proper fits_unit;
           memory = memory_holds tree.dbs areas memory;
           activations = (
             record {
               locals = zeros_fit unit.locals;
-              formals = formals_fit tree unit call.block call.instance call.actuals own place.passes fits_unit;
+              formals = formals_fit tree unit call.block call.instance call.actuals own
+                  (passes (is_meant call.block) tree.pous unit there) fits_unit;
             },
             tt,
           );

@@ -213,15 +213,8 @@ module _ (tree : StProgram) (waiting : List Pou) (unit : Pou) where
     own_formal : (i : ℕ) → Refers running (type_inside (slice_get unit.formals i))
         (there (slice_get (formals_of (slice_get s.activations (depth s))) i))
     own_formal i =
-        subst
-        (λ (d : ℕ). Refers running (type_inside (slice_get unit.formals i))
-        (there (slice_get (formals_of (slice_get s.activations d)) i)))
-        (sym at_depth)
-        (subst
-        (λ (a : Option Activation). Refers running (type_inside (slice_get unit.formals i))
-        (there (slice_get (formals_of a) i)))
-        (sym last.there)
-        (formal_refers waiting (unit ∷ []) unit.formals last.activation.formals i last.fits.formals))
+        rw (at_depth, last.there)
+        (formal_refers waiting (unit ∷ []) unit.formals last.activation.formals i last.fits.formals)
 
     pub variable_refers : (v : Var) → Refers running (variable_type sight v) (reference_of tree.globals v s)
     variable_refers (var.Register r) = refl

@@ -4,6 +4,7 @@ use Rattle.std.proofs.Common.{◌≡◌, ℕ, zero, suc, ◌+◌, ◌-◌, ◌*�
 use Rattle.std.specs.Prelude.{find, max, slice_get}
 use Rattle.std.proofs.Math.Nat.{mul-le-mul_right, suc-mul}
 use Rattle.std.proofs.lemmas.Bool.{cases_lt}
+use Rattle.std.proofs.lemmas.List.Folds.{find_at}
 use Rattle.std.proofs.lemmas.Option.{slice_get_past}
 use Rattle.memory_areas.specs.Areas.{Areas}
 use Rattle.memory_areas.specs.End.{Ended}
@@ -20,19 +21,14 @@ use Rattle.st_tree.specs.declared.graph.GraphPou.{GraphPou}
 use Rattle.st_tree.specs.declared.graph.GraphProgram.{GraphProgram}
 use Rattle.st_tree.specs.declared.graph.StNode.{StNode}
 use Rattle.st_tree.specs.declared.state.Reference.{Reference}
-use Rattle.st_tree.proofs.Units.{CallsFollow, Follow, Follows, called_follows, end_follows, follows_same, statements_follow, then_follows, unit_follows, wider}
+use Rattle.st_tree.proofs.Units.{CallsFollow, Follow, Follows, called_follows, end_follows, follows_same, one_more, statements_follow, then_follows, unit_follows, wider}
 
 -- What is counted
 
 counted_follows : (k : ℕ) (f g : Sem) → ((v : ℕ) → suc v ≤ k → Follow v f g) → Follow k (counted f) (counted g)
 counted_follows k f g more zero zero s h = λ none. refl
 counted_follows k f g more zero (suc j) s h = λ none. cc
-counted_follows k f g more (suc u) j s h =
-    let less : u ≤ suc u = omega arith in
-    let same : u ≤ u = omega arith in
-    let one : suc (u + j) ≡ suc u + j = omega arith in
-    subst (λ (z : ℕ). Follows j (suc u) (counted f (suc u) s) (counted g z s)) one
-    (wider j u (suc u) _ _ less (more u h u j s same))
+counted_follows k f g more (suc u) j s h = one_more j u _ (λ z. counted g z s) (more u h u j s (omega arith))
 
 counted_if_follows : (k : ℕ) (test : Bool) (f g : Sem) → (test ≡ true → (v : ℕ) → suc v ≤ k → Follow v f g) → (test ≡ false → Follow k f g) → Follow k (counted_if test f) (counted_if test g)
 counted_if_follows k true f g paid free = counted_follows k f g (paid refl)
@@ -42,25 +38,8 @@ counted_if_follows k false f g paid free = free refl
 
 within_longest : (units : List GraphPou) (n : ℕ) (unit : GraphPou) → slice_get units n ≡ Some unit → length unit.graph.nodes ≤ greatest (map (λ (u : GraphPou). length u.graph.nodes) units)
 within_longest [] n unit e = cc
-within_longest (x ∷ xs) zero unit e =
-    let there : x ≡ unit = cc in
-    let same : length x.graph.nodes ≡ length unit.graph.nodes = ap (λ (u : GraphPou). length u.graph.nodes) there in
-    omega arith
-within_longest (x ∷ xs) (suc n) unit e = let rest = within_longest xs n unit e in omega arith
-
-by_test : (test : Bool) (x unit : GraphPou) (o : Option GraphPou) (most : ℕ) → cond test (Some x) o ≡ Some unit → (o ≡ Some unit → length unit.graph.nodes ≤ most) → length unit.graph.nodes ≤ max (length x.graph.nodes) most
-by_test true x unit o most e rest =
-    let there : x ≡ unit = cc in
-    let same : length x.graph.nodes ≡ length unit.graph.nodes = ap (λ (u : GraphPou). length u.graph.nodes) there in
-    omega arith
-by_test false x unit o most e rest = let less = rest e in omega arith
-
--- one that is found is among them
-found_within : (test : GraphPou → Bool) (units : List GraphPou) (unit : GraphPou) → find test units ≡ Some unit → length unit.graph.nodes ≤ greatest (map (λ (u : GraphPou). length u.graph.nodes) units)
-found_within test [] unit e = cc
-found_within test (x ∷ xs) unit e =
-    let rest : find test xs ≡ Some unit → length unit.graph.nodes ≤ greatest (map (λ (u : GraphPou). length u.graph.nodes) xs) = found_within test xs unit in
-    by_test (test x) x unit (find test xs) (greatest (map (λ (u : GraphPou). length u.graph.nodes) xs)) e rest
+within_longest (x ∷ xs) zero unit e = let there : x ≡ unit = cc in omega (arith, ap (λ (u : GraphPou). length u.graph.nodes) there)
+within_longest (x ∷ xs) (suc n) unit e = omega (arith, within_longest xs n unit e)
 
 -- Nodes
 
@@ -71,6 +50,10 @@ module _ (counts : Counting) (forward : FreeIsForward counts) (graph : GraphProg
   -- how many nodes can follow one another from a position on
   abbrev left_from : ℕ → List StNode → ℕ → ℕ
   left_from k nodes i = k * suc most + (length nodes - i)
+
+  -- with a unit of work less there is room for a whole unit
+  with_less : (v k a : ℕ) → suc v ≤ k → k * suc most ≤ suc a → v * suc most + most ≤ a
+  with_less v k a less room = omega (arith, suc-mul v (suc most), mul-le-mul_right (suc most) less)
 
   -- nodes that may follow one another in two numbers, both large enough
   abbrev NodesFollow : ℕ → ℕ → Type 0
@@ -98,10 +81,7 @@ module _ (counts : Counting) (forward : FreeIsForward counts) (graph : GraphProg
         let nodes : List StNode = unit.graph.nodes in
         let size : length nodes ≤ most = within_longest graph.pous n unit e in
         let begun : (v : ℕ) → suc v ≤ k → Follow v (nodes_do counts graph a nodes 0) (nodes_do counts graph b nodes 0) =
-        λ v less.
-        let one : suc v * suc most ≡ v * suc most + suc most = suc-mul v (suc most) in
-        let all : suc v * suc most ≤ k * suc most = mul-le-mul_right (suc most) less in
-        hypothesis v nodes 0 size (omega arith) (omega arith) in
+        λ v less. hypothesis v nodes 0 size (omega (arith, with_less v k a less x)) (omega (arith, with_less v k b less y)) in
         unit_follows k j u _ _
         (counted_follows k (nodes_do counts graph a nodes 0) (nodes_do counts graph b nodes 0) begun u j (entered unit.head r s) h)
 
@@ -113,10 +93,7 @@ module _ (counts : Counting) (forward : FreeIsForward counts) (graph : GraphProg
       way_follows : (w : Result Way Fault) → Follow k (follow counts (nodes_do counts graph a nodes) i w) (follow counts (nodes_do counts graph b nodes) i w)
       way_follows (Ok (to m)) =
           counted_if_follows k (counts i m) (nodes_do counts graph a nodes m) (nodes_do counts graph b nodes m)
-          (λ paid v less.
-          let one : suc v * suc most ≡ v * suc most + suc most = suc-mul v (suc most) in
-          let all : suc v * suc most ≤ k * suc most = mul-le-mul_right (suc most) less in
-          hypothesis v nodes m size (omega arith) (omega arith))
+          (λ paid v less. hypothesis v nodes m size (omega (arith, with_less v k a less (omega arith))) (omega (arith, with_less v k b less (omega arith))))
           (λ free. let later : i < m = forward i m free in hypothesis k nodes m size (omega arith) (omega arith))
       way_follows (Ok out) = λ u j s h. (refl, omega arith)
       way_follows (Err f) = λ u j s h. refl
@@ -178,4 +155,4 @@ run_stays counts forward graph (Some unit) call small memory units more after f 
 pub graph_end_stays : GraphEndStays
 graph_end_stays counts forward graph call memory units more after f h e =
     run_stays counts forward graph (find (λ (u : GraphPou). is_meant call.block u.head) graph.pous) call
-    (λ unit found. found_within (λ (u : GraphPou). is_meant call.block u.head) graph.pous unit found) memory units more after f h e
+    (λ unit found. within_longest graph.pous _ unit (sym (find_at (λ (u : GraphPou). is_meant call.block u.head) graph.pous) ∙ found)) memory units more after f h e

@@ -49,6 +49,11 @@ wider j least most (Faults x s) p h f = f
 wider j least most (NoUnits s) p h f = f
 wider j least most o p h f = (f.0, omega (arith, f.1))
 
+-- with one unit more before both
+pub one_more : (j u : ℕ) (o : Out) (p : ℕ → Out) → Follows j u o (p (suc (u + j))) → Follows j (suc u) o (p (suc u + j))
+one_more j u o p f =
+    subst (λ (z : ℕ). Follows j (suc u) o (p z)) (omega arith) (wider j u (suc u) o (p (suc (u + j))) (omega arith) f)
+
 module _ (k : ℕ) where
   pub then_follows : (j u : ℕ) (o p : Out) (f g : Sem) → u ≤ k → Follow k f g → Follows j u o p → Follows j u (then_do o f) (then_do p g)
   then_follows j u (Normal v s) p f g h more e =
@@ -100,15 +105,11 @@ module _ (k : ℕ) where
       let within : u ≤ k = omega arith in
       let again : (v : ℕ) (t : State) → v ≤ u → Follows j v (turns m test f v t) (turns n test g (v + j) t) =
       λ v t c. turns_follow m n test f g more v j t (omega arith) (omega arith) (omega arith) in
-      let less : u ≤ suc u = omega arith in
-      let one : suc (u + j) ≡ suc u + j = omega arith in
-      let same : u ≤ u = omega arith in
-      subst (λ (z : ℕ). Follows j (suc u) (turns (suc m) test f (suc u) s) (turns (suc n) test g z s)) one
-      (wider j u (suc u) _ _ less
+      one_more j u _ (λ z. turns (suc n) test g z s)
       (valued (test s) j u (u + j) s _ _ (λ x.
       picked (is_set x) j u (after_body (f u s) (turns m test f)) (Normal u s) (after_body (g (u + j) s) (turns n test g)) (Normal (u + j) s)
       (body_follows j u (f u s) (g (u + j) s) (turns m test f) (turns n test g) again (more u j s within))
-      (refl, same))))
+      (refl, omega arith)))
 
   -- the same of equal ends
   opened : (j u : ℕ) (o p q r : Out) → o ≡ q → p ≡ r → Follows j u q r → Follows j u o p
@@ -178,11 +179,9 @@ invoked_follows : (k : ℕ) (tree : StProgram) (c d : Calls) → CallsFollow k c
 invoked_follows k tree c d calls n actuals zero zero s h = λ none. refl
 invoked_follows k tree c d calls n actuals zero (suc j) s h = λ none. cc
 invoked_follows k tree c d calls n actuals (suc u) j s h =
-    let step : u ≤ suc u = omega arith in
-    let one : suc (u + j) ≡ suc u + j = omega arith in
     let o : Option Pou = slice_get tree.pous n in
-    subst (λ (z : ℕ). Follows j (suc u) (invoked tree c n actuals (suc u) s) (invoked tree d n actuals z s)) one
-    (wider j u (suc u) _ _ step (called_follows k (unit_step tree c o) (unit_step tree d o) (unit_given k tree c d calls o) (located_actuals tree.globals actuals s) u j s (omega arith)))
+    one_more j u _ (λ z. invoked tree d n actuals z s)
+    (called_follows k (unit_step tree c o) (unit_step tree d o) (unit_given k tree c d calls o) (located_actuals tree.globals actuals s) u j s (omega arith))
 
 -- without a unit no call is begun
 pub no_call : (deep : ℕ) (tree : StProgram) (n : ℕ) (actuals : List Var) (s : State) → calls_to deep tree n actuals 0 s ≡ NoUnits s

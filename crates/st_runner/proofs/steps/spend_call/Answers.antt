@@ -3,7 +3,7 @@ use Rattle.std.specs.Prelude.{vec_capacity}
 use Rattle.std.specs.Vec.{vec_len}
 use Rattle.memory_areas.specs.Access.{and_then}
 use Rattle.st_runner.specs.inner.View.{Changes, IsDeeper, state_of}
-use Rattle.st_runner.proofs.Spending.{call_done, call_fault, call_may, call_room, call_there, indexed}
+use Rattle.st_runner.proofs.Spending.{call_done, call_fault, call_may, call_room, call_unit}
 use Rattle.st_tree.specs.Calls.{entered, located_actuals}
 use Rattle.st_tree.specs.declared.program.Located.{Located}
 use Rattle.st_tree.specs.declared.program.Pou.{Pou}
@@ -13,9 +13,8 @@ pub enter-requires-clause-may : goal.enter-requires-clause-may
 enter-requires-clause-may c =
     let tree = c.args.tree.now in
     let unit = c.index-as_slice-n.result in
-    let here = call_there tree c.requires.runnable _ c.args.work.now.items c.args.state.now c.args.n c.args.actuals c.requires.ready in
-    let is : Some (slice_index_or tree.pous c.args.n unit) ≡ Some unit = ap (λ (xs : List Pou). Some (slice_index_or xs c.args.n unit)) (sym c.as_slice.ensures) ∙ ap (λ (p : Pou). Some p) (sym c.index-as_slice-n.is) in
-    call_may tree c.requires.runnable _ c.args.work.now.items c.args.state.now c.args.n c.args.actuals c.requires.ready unit (indexed tree.pous c.args.n unit here ∙ is)
+    let there = call_unit tree c.requires.runnable _ c.args.work.now.items c.args.state.now c.args.n c.args.actuals c.requires.ready _ unit c.as_slice.ensures c.index-as_slice-n.is in
+    call_may tree c.requires.runnable _ c.args.work.now.items c.args.state.now c.args.n c.args.actuals c.requires.ready unit there
 
 pub push_reserved-requires : goal.push_reserved-requires
 push_reserved-requires c =
@@ -34,12 +33,11 @@ returns-in-Ok-clause-spent c =
     let s = state_of c.args.state.now in
     let t = state_of c.enter.new.self in
     let xs = c.args.actuals.now in
-    let here = call_there tree c.requires.runnable _ c.args.work.now.items c.args.state.now c.args.n c.args.actuals c.requires.ready in
-    let is : Some (slice_index_or tree.pous c.args.n unit) ≡ Some unit = ap (λ (ys : List Pou). Some (slice_index_or ys c.args.n unit)) (sym c.as_slice.ensures) ∙ ap (λ (p : Pou). Some p) (sym c.index-as_slice-n.is) in
+    let there = call_unit tree c.requires.runnable _ c.args.work.now.items c.args.state.now c.args.n c.args.actuals c.requires.ready _ unit c.as_slice.ensures c.index-as_slice-n.is in
     let change = subst (λ r. Changes (and_then (located_actuals c.as_slice-2.result.now xs s) (λ formals. Ok (entered unit formals s))) r s t) c.in-Ok.is c.enter.ensures.change in
     let deeper = subst (λ r. IsDeeper r c.args.state.now c.enter.new.self) c.in-Ok.is c.enter.ensures.deeper in
     call_done tree c.requires.runnable _ c.args.work.now.items c.args.state.now c.args.n c.args.actuals c.requires.ready unit c.enter.new.self c.as_slice-in-Ok.result c.push_reserved.new.self.items c.push_reserved-in-Ok.new.self.items
-    (indexed tree.pous c.args.n unit here ∙ is) c.as_slice-in-Ok.ensures c.push_reserved.ensures.items c.push_reserved-in-Ok.ensures.items
+    there c.as_slice-in-Ok.ensures c.push_reserved.ensures.items c.push_reserved-in-Ok.ensures.items
     (subst (λ (g : List Located). and_then (located_actuals g xs s) (λ formals. Ok (entered unit formals s)) ≡ Ok t) c.as_slice-2.ensures change) c.enter.ensures.sound deeper
 
 pub returns-in-Err-clause-spent : goal.returns-in-Err-clause-spent
@@ -49,10 +47,9 @@ returns-in-Err-clause-spent c =
     let s = state_of c.args.state.now in
     let t = state_of c.enter.new.self in
     let xs = c.args.actuals.now in
-    let here = call_there tree c.requires.runnable _ c.args.work.now.items c.args.state.now c.args.n c.args.actuals c.requires.ready in
-    let is : Some (slice_index_or tree.pous c.args.n unit) ≡ Some unit = ap (λ (ys : List Pou). Some (slice_index_or ys c.args.n unit)) (sym c.as_slice.ensures) ∙ ap (λ (p : Pou). Some p) (sym c.index-as_slice-n.is) in
+    let there = call_unit tree c.requires.runnable _ c.args.work.now.items c.args.state.now c.args.n c.args.actuals c.requires.ready _ unit c.as_slice.ensures c.index-as_slice-n.is in
     let change = subst (λ r. Changes (and_then (located_actuals c.as_slice-2.result.now xs s) (λ formals. Ok (entered unit formals s))) r s t) c.in-Err.is c.enter.ensures.change in
     let deeper = subst (λ r. IsDeeper r c.args.state.now c.enter.new.self) c.in-Err.is c.enter.ensures.deeper in
     call_fault tree c.requires.runnable _ c.args.work.now.items c.args.state.now c.args.n c.args.actuals c.requires.ready unit c.enter.new.self c.in-Err.fault
-    (indexed tree.pous c.args.n unit here ∙ is)
+    there
     (subst (λ (g : List Located). Changes (and_then (located_actuals g xs s) (λ formals. Ok (entered unit formals s))) (Err c.in-Err.fault) s t) c.as_slice-2.ensures change) c.enter.ensures.sound deeper
