@@ -1,17 +1,85 @@
 -- Which calls from outside fit.
-use Rattle.std.proofs.Common.{◌≡◌, ℕ, Bool, true, false, List, [], ◌∷◌, Option, Some, None, length, refl, sym, ◌∙◌, arith}
-use Rattle.std.specs.Prelude.{is_some, IsSome}
-use Rattle.memory_areas.specs.Access.{aimed, fault_of}
-use Rattle.memory_areas.specs.Areas.{Contents, IsMemoryOf, block_of}
+use Rattle.std.proofs.Common.{◌≡◌, ℕ, ◌+◌, Bool, true, false, List, [], ◌∷◌, length, Option, Some, None, refl, sym, ap, ◌∙◌, arith}
+use Rattle.std.specs.Prelude.{◌==◌, is_none, is_some, nat_lt, if◌then◌else◌, IsSome}
+use Rattle.std.proofs.lemmas.List.{length-replicate}
+use Rattle.memory_areas.specs.Access.{aimed, bytes_there, bytes_wide, fault_of, first_fault, is_closed, is_missing, is_unaligned, or_none}
+use Rattle.memory_areas.specs.Areas.{Contents, IsMemoryOf, Match, block_of, bytes_in, fresh}
 use Rattle.memory_areas.specs.declared.data_block.DataBlock.{DataBlock}
+use Rattle.memory_areas.specs.declared.place.Area.{Area}
+use Rattle.memory_areas.specs.declared.place.Area.TheVariants as area
 use Rattle.memory_areas.specs.declared.place.Place.{Place}
+use Rattle.memory_areas.specs.declared.sizes.TheConstants.{INPUT_BYTES, MARKER_BYTES, OUTPUT_BYTES}
+use Rattle.s7_base.specs.declared.outcome.Fault.TheVariants.{DbNotOpen, DbMissing, AreaCode, Alignment, AreaLength}
 use Rattle.s7_base.specs.declared.word.Width.{Width}
+use Rattle.st_tree.specs.StRun.{IsOutsidePlace, FitsFormal, FitsInstance}
 use Rattle.st_runner.specs.inner.Fitting.{Decides}
-use Rattle.st_runner.proofs.Sizes.{block_same, fault_same}
-use Rattle.st_tree.specs.StRun.{FitsFormal, FitsInstance, IsOutsidePlace}
 use Rattle.st_tree.specs.Values.{width_at}
 use Rattle.st_tree.specs.declared.program.Local.{Local}
 use Rattle.st_tree.specs.declared.program.Pou.{Pou}
+
+-- the blocks of a number, in two lists of the same numbers and lengths
+abbrev Alike : Option DataBlock → Option DataBlock → Type 0
+Alike None None = Unit {0}
+Alike None (Some b) = ⊥
+Alike (Some a) None = ⊥
+Alike (Some a) (Some b) = length a.bytes ≡ length b.bytes
+
+alike_by : (t u : Bool) (a b : DataBlock) (x y : Option DataBlock) → t ≡ u → length a.bytes ≡ length b.bytes → Alike x y → Alike (if t then Some a else x) (if u then Some b else y)
+alike_by true true a b x y e h k = h
+alike_by false false a b x y e h k = k
+alike_by true false a b x y e h k = cc
+alike_by false true a b x y e h k = cc
+
+blocks_alike : (n : ℕ) (xs ys : List DataBlock) → Match xs ys → Alike (block_of n xs) (block_of n ys)
+blocks_alike n [] [] h = tt
+blocks_alike n [] (y ∷ ys) h = absurd h
+blocks_alike n (x ∷ xs) [] h = absurd h
+blocks_alike n (x ∷ xs) (y ∷ ys) h = alike_by (x.number == n) (y.number == n) x y (block_of n xs) (block_of n ys) (ap (λ k. k == n) h.0) h.1.sized (blocks_alike n xs ys h.2)
+
+alike_none : (x y : Option DataBlock) → Alike x y → is_none x ≡ is_none y
+alike_none None None h = refl
+alike_none None (Some b) h = absurd h
+alike_none (Some a) None h = absurd h
+alike_none (Some a) (Some b) h = refl
+
+alike_length : (x y : Option DataBlock) → Alike x y → length (or_none (bytes_in x)) ≡ length (or_none (bytes_in y))
+alike_length None None h = refl
+alike_length None (Some b) h = absurd h
+alike_length (Some a) None h = absurd h
+alike_length (Some a) (Some b) h = h
+
+module _ (blocks : List DataBlock) (m : Contents) (is : IsMemoryOf blocks m.areas) where
+  missing_same : (a : Area) → is_missing (Some a) m ≡ is_missing (Some a) (fresh blocks)
+  missing_same area.I = refl
+  missing_same area.Q = refl
+  missing_same area.M = refl
+  missing_same (area.Local d) = refl
+  missing_same (area.Cell d) = refl
+  missing_same (area.Db n) = alike_none (block_of n m.areas.blocks) (block_of n blocks) (blocks_alike n m.areas.blocks blocks is.matching)
+
+  length_same : (a : Area) → IsOutsidePlace a → length (bytes_there (Some a) m) ≡ length (bytes_there (Some a) (fresh blocks))
+  length_same area.I h = is.inputs.sized ∙ sym (length-replicate {A = ℕ} INPUT_BYTES 0)
+  length_same area.Q h = is.outputs.sized ∙ sym (length-replicate {A = ℕ} OUTPUT_BYTES 0)
+  length_same area.M h = is.markers.sized ∙ sym (length-replicate {A = ℕ} MARKER_BYTES 0)
+  length_same (area.Local d) h = absurd h
+  length_same (area.Cell d) h = absurd h
+  length_same (area.Db n) h = alike_length (block_of n m.areas.blocks) (block_of n blocks) (blocks_alike n m.areas.blocks blocks is.matching)
+
+  -- an access outside meets the same fault
+  pub fault_same : (p : Place) (w : Width) → IsOutsidePlace p.area → fault_of (aimed p) w m ≡ fault_of (aimed p) w (fresh blocks)
+  fault_same p w h =
+      ap (λ b. first_fault ((is_closed (Some p.area), DbNotOpen) ∷ (b, DbMissing) ∷ (is_none (Some p.area), AreaCode) ∷ (is_unaligned w p.bit, Alignment) ∷ (nat_lt (length (bytes_there (Some p.area) m)) (p.byte + bytes_wide w), AreaLength) ∷ [])) (missing_same p.area)
+      ∙ ap (λ n. first_fault ((is_closed (Some p.area), DbNotOpen) ∷ (is_missing (Some p.area) (fresh blocks), DbMissing) ∷ (is_none (Some p.area), AreaCode) ∷ (is_unaligned w p.bit, Alignment) ∷ (nat_lt n (p.byte + bytes_wide w), AreaLength) ∷ [])) (length_same p.area h)
+
+  -- a block is there as in a new memory
+  pub block_same : (n : ℕ) → is_some (block_of n m.areas.blocks) ≡ is_some (block_of n blocks)
+  block_same n = some_same (block_of n m.areas.blocks) (block_of n blocks) (blocks_alike n m.areas.blocks blocks is.matching)
+    where
+      some_same : (x y : Option DataBlock) → Alike x y → is_some x ≡ is_some y
+      some_same None None k = refl
+      some_same None (Some b) k = absurd k
+      some_same (Some a) None k = absurd k
+      some_same (Some a) (Some b) k = refl
 
 module _ (blocks : List DataBlock) (m : Contents) (is : IsMemoryOf blocks m.areas) where
   pub formal_decides : (b : Bool) (formal : Local) (p : Place) (w : Width) → w ≡ width_at formal.ty → IsOutsidePlace p.area → Decides b (fault_of (aimed p) w m ≡ None) → Decides b (FitsFormal blocks formal (p, w))

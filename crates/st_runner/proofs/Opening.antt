@@ -1,5 +1,21 @@
--- Where a run begins.
-use Rattle.std.proofs.Common.{◌≡◌, ℕ, suc, ◌+◌, ◌*◌, ◌≤◌, Bool, true, false, if◌then◌else◌, Bor, List, [], ◌∷◌, length, map, Option, Some, None, sym, ap, subst, ◌∙◌, arith}
+-- What callers see of a runner is what it is made of; and where a run begins.
+use Rattle.std.proofs.Common.{◌≡◌, ℕ, List, [], ◌∷◌, map, refl, ap, ◌∙◌, suc, ◌+◌, ◌*◌, ◌≤◌, Bool, true, false, if◌then◌else◌, Bor, length, Option, Some, None, sym, subst, arith}
+use Rattle.st_runner.specs.inner.Plain.{coming, pending}
+use Rattle.st_runner.specs.inner.Ready.{IsSettled, IsReady, most_formals, most_locals}
+use Rattle.st_runner.specs.Standing.{Shows, all_followed, end_by, followed}
+use Rattle.st_runner.specs.inner.Waiting.{end_at, framed, outcome_of, unwound}
+use Rattle.st_runner.specs.declared.frame.At.{At}
+use Rattle.st_runner.specs.declared.frame.At.TheVariants as at
+use Rattle.st_runner.specs.declared.frame.Frame.{Frame}
+use Rattle.st_runner.specs.declared.frame.Frame.TheVariants as frame
+use Rattle.st_runner.proofs.Stack.{unwound_none}
+use Rattle.st_tree.specs.Calls.{calls_to}
+use Rattle.st_tree.specs.Meaning.{Out, Normal, Calls, body_meaning, loop}
+use Rattle.st_tree.specs.StRun.{end_seen, FitFormals, FitsIfThere, FitsSt, FitsUnit, IsOutsidePlace, formals_given, is_meant, references, run_of_unit, st_run, state_at_start, unit_called}
+use Rattle.st_tree.specs.State.{State}
+use Rattle.st_tree.specs.Value.{value}
+use Rattle.st_tree.specs.declared.program.Located.{Located}
+use Rattle.st_tree.specs.declared.program.StProgram.{StProgram}
 use Rattle.std.specs.Prelude.{find, slice_get}
 use Rattle.std.specs.List.{position_or_len}
 use Rattle.std.proofs.lemmas.List.Folds.{find_at}
@@ -13,32 +29,43 @@ use Rattle.memory_areas.specs.declared.sizes.TheConstants.{ACTIVATIONS}
 use Rattle.s7_base.specs.declared.word.Width.{Width}
 use Rattle.st_runner.specs.inner.Measures.{reach, units, depth_costs, stack_costs}
 use Rattle.st_runner.specs.inner.Costs.{Costs, body_most}
-use Rattle.st_runner.specs.inner.Plain.{coming, pending}
-use Rattle.st_runner.specs.inner.Ready.{IsReady, most_formals, most_locals}
 use Rattle.st_runner.specs.inner.Runnable.{IsRunnable, formals_of_unit, misfit_costs}
 use Rattle.st_tree.specs.Chains.{chain_of}
-use Rattle.st_runner.specs.Standing.{end_by}
 use Rattle.st_runner.specs.inner.View.{AreReachable, IsSound}
-use Rattle.st_runner.specs.inner.Waiting.{end_at}
-use Rattle.st_runner.specs.declared.frame.At.TheVariants as at
-use Rattle.st_runner.specs.declared.frame.Frame.{Frame}
-use Rattle.st_runner.specs.declared.frame.Frame.TheVariants as frame
 use Rattle.st_runner.specs.declared.state.State.{State as Parts}
 use Rattle.st_runner.specs.declared.steps.TheConstants.{UNIT_FRAMES}
 use Rattle.st_runner.proofs.Chains.{chain_covers, stack_covers}
-use Rattle.st_runner.proofs.Outward.{end_same}
 use Rattle.st_runner.proofs.Spending.{formals_at, locals_at}
-use Rattle.st_tree.specs.Calls.{calls_to}
-use Rattle.st_tree.specs.Meaning.{body_meaning}
-use Rattle.st_tree.specs.StRun.{FitFormals, FitsIfThere, FitsSt, FitsUnit, IsOutsidePlace, formals_given, is_meant, references, end_seen, run_of_unit, st_run, state_at_start, unit_called}
-use Rattle.st_tree.specs.State.{State}
 use Rattle.st_tree.specs.declared.program.Local.{Local}
 use Rattle.st_tree.specs.declared.program.Pou.{Pou}
-use Rattle.st_tree.specs.declared.program.StProgram.{StProgram}
 use Rattle.st_tree.specs.declared.program.Stmt.{Stmt}
 use Rattle.memory_areas.specs.declared.call.BlockName.{BlockName}
 use Rattle.memory_areas.specs.declared.call.BlockName.TheVariants as name
 use Rattle.memory_areas.specs.declared.call.Call.{Call}
+
+module _ (g : List Located) (c : Calls) where
+  framed_same : (f : Frame) (o : Out) → framed g c f o ≡ followed g c (pending f) o
+  framed_same (frame.Rest b) o = refl
+  framed_same (frame.Again t b) o = refl
+  framed_same frame.Unit o = refl
+
+  unwound_same : (fs : List Frame) (o : Out) → unwound g c fs o ≡ all_followed g c (map pending fs) o
+  unwound_same [] o = refl
+  unwound_same (f ∷ fs) o = framed_same f (unwound g c fs o) ∙ ap (followed g c (pending f)) (unwound_same fs o)
+
+  pub end_same : (fs : List Frame) (next : At) (u : ℕ) (s : State) → end_at g c fs next u s ≡ end_by g c (map pending fs) (coming next) u s
+  end_same fs at.Work u s = ap end_seen (unwound_same fs (Normal u s))
+  end_same fs (at.Test t b) u s = ap end_seen (unwound_same fs (loop (value g t.now) (body_meaning g c b.now) u s))
+  end_same fs (at.Call n b) u s = ap end_seen (unwound_same fs (c n b.now u s))
+  end_same fs (at.Over f) u s = refl
+
+-- without a unit, what is settled shows its outcome
+pub settled_shows : (tree : StProgram) (fs : List Frame) (next : At) (s : State) → IsSettled next
+    → Shows (outcome_of next) (end_at tree.globals (calls_to 0 tree) fs next 0 s) s.memory.areas
+settled_shows tree fs at.Work s h = absurd h
+settled_shows tree fs (at.Test t b) s h = ap end_seen (unwound_none tree.globals (calls_to 0 tree) fs s)
+settled_shows tree fs (at.Call n b) s h = ap end_seen (unwound_none tree.globals (calls_to 0 tree) fs s)
+settled_shows tree fs (at.Over f) s h = refl
 
 -- a unit that is found stands somewhere
 pub called_at : (block : BlockName) (xs : List Pou) (x : Pou) → unit_called block xs ≡ Some x → (n : ℕ) × (slice_get xs n ≡ Some x)

@@ -13,8 +13,7 @@ use Rattle.st_runner.specs.declared.frame.Frame.{Frame}
 use Rattle.st_runner.specs.declared.frame.Frame.TheVariants as frame
 use Rattle.st_runner.specs.declared.state.State.{State as Parts}
 use Rattle.st_runner.proofs.Frames.{sound_running}
-use Rattle.st_runner.proofs.Stack.{sizes_tall}
-use Rattle.st_runner.proofs.Tops.{on_top, top_sizes, top_tall, top_weight}
+use Rattle.st_runner.proofs.Stack.{sizes_tall, on_top, top_sizes, top_tall, top_weight}
 use Rattle.st_tree.specs.Calls.{left}
 use Rattle.st_tree.specs.Meaning.{Calls, Out, Normal, Exits, Continues, Returns, Faults, NoUnits, body_meaning, meaning, then_do}
 use Rattle.st_tree.specs.State.{State}

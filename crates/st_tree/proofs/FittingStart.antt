@@ -1,5 +1,5 @@
 -- A call from outside begins in a state that fits, and its run leads to no other.
-use Rattle.std.specs.Prelude.{◌≡◌, ℕ, zero, suc, ◌≤◌, ◌<◌, ◌^◌, ◌==◌, Bool, true, false, cond, if◌then◌else◌, pos, List, [], ◌∷◌, find, map, replicate, slice_get, All, Contains, Option, Some, IsSome}
+use Rattle.std.specs.Prelude.{◌≡◌, ℕ, zero, suc, ◌≤◌, ◌<◌, ◌^◌, ◌==◌, Bool, true, false, cond, pos, List, [], ◌∷◌, find, map, replicate, slice_get, All, Contains, Option, Some, IsSome}
 use Rattle.std.specs.Str.{str_eq_ignore_ascii_case}
 use Rattle.std.proofs.Common.{refl, sym, ap, ◌∙◌, subst, arith, eqb-true, mod-eq_of_lt}
 use Rattle.std.proofs.lemmas.Bool.{and_parts}

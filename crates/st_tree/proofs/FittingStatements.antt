@@ -2,7 +2,7 @@
 -- type, and what is written and what statements leave is a state that fits, where their calls leave one.
 use Rattle.std.specs.List.{list_any}
 use Rattle.std.specs.Ordering.{int_eq}
-use Rattle.std.specs.Prelude.{◌≡◌, ℕ, zero, suc, ℤ, Bool, true, false, ◌&&◌, List, [], ◌∷◌, ◌++◌, length, slice_get, Option, Some, None, Result, Ok, Err, ◌==◌, if◌then◌else◌, slice_set, map, get_or}
+use Rattle.std.specs.Prelude.{◌≡◌, ℕ, zero, suc, ℤ, Bool, true, false, ◌&&◌, List, [], ◌∷◌, ◌++◌, length, slice_get, Option, Some, None, Result, Ok, Err, if◌then◌else◌, slice_set, map, get_or}
 use Rattle.std.proofs.Common.{refl, sym, ap, ◌∙◌, subst, arith, append-nil, append_assoc, eqb-true}
 use Rattle.std.proofs.lemmas.Bool.Decides.{Decides-int_eq}
 use Rattle.memory_areas.specs.Access.{and_then}
@@ -12,10 +12,9 @@ use Rattle.memory_areas.specs.declared.place.Place.{Place}
 use Rattle.s7_base.specs.RegSet.{place}
 use Rattle.s7_base.specs.declared.outcome.Fault.{Fault}
 use Rattle.s7_base.specs.declared.register.Reg.{Reg}
-use Rattle.s7_base.specs.declared.register.Reg.TheVariants as reg
 use Rattle.s7_base.specs.declared.word.Width.{Width}
 use Rattle.st_tree.specs.Fitting.{ActivationFits, ActivationsFit, Fits, IsOf, Paired, StandsFor, local_type, locals_declared, RegistersFit, CallsFit, EndsFit}
-use Rattle.st_tree.specs.Meaning.{Out, Normal, Exits, Continues, Returns, Faults, NoUnits, Sem, Calls, Guarded, Labelled, after_body, area_assigned, arm_meaning, assigned, body_meaning, case_meaning, changed, first_true, first_with, meaning, then_do, turns, with_value}
+use Rattle.st_tree.specs.Meaning.{Out, Normal, Continues, Sem, Calls, Guarded, Labelled, after_body, area_assigned, arm_meaning, assigned, body_meaning, case_meaning, changed, first_true, first_with, meaning, then_do, turns, with_value}
 use Rattle.st_tree.specs.Naming.{is_conversion}
 use Rattle.st_tree.specs.Operators.{binary_value, chosen, converted, shift_value, unary_value}
 use Rattle.st_tree.specs.PlaceRules.{is_block_number, is_place}
@@ -39,12 +38,12 @@ use Rattle.st_tree.specs.declared.program.StProgram.{StProgram}
 use Rattle.st_tree.specs.declared.program.Stmt.{Stmt}
 use Rattle.st_tree.specs.declared.state.Reference.{Reference}
 use Rattle.st_tree.specs.declared.state.Reference.TheVariants as reference
-use Rattle.st_tree.proofs.Equations.{value_area_read, value_binary, value_convert, value_literal, value_read, value_select, value_shift, value_unary, meaning_area_write, meaning_arm, meaning_assign, meaning_case, meaning_case_arm, meaning_continue, meaning_exit, meaning_if, meaning_invoke, meaning_return, meaning_while}
+use Rattle.st_tree.proofs.Equations.{meaning_area_write, meaning_arm, meaning_assign, meaning_case, meaning_case_arm, meaning_continue, meaning_exit, meaning_if, meaning_invoke, meaning_return, meaning_while}
 use Rattle.st_tree.proofs.FittingMemory.{AfterHolds, place_holds}
-use Rattle.st_tree.proofs.FittingValues.{Typed, area_typed, choice_typed, converted_typed, either_fits, on_both, on_then, one_typed, place_typed, shifted_typed, two_typed, typed_is, where_typed}
-use Rattle.st_tree.proofs.Induction.{ExprSteps, every_expr, Each, InArm, InCase, StmtSteps, every_body, Layers, folds_related}
+use Rattle.st_tree.proofs.FittingValues.{Typed, area_typed, choice_typed, converted_typed, either_fits, on_both, on_then, one_typed, place_typed, shifted_typed, two_typed, where_typed}
+use Rattle.st_tree.proofs.Induction.{Each, InArm, InCase, StmtSteps, every_body, Layers, folds_related}
 use Rattle.st_tree.proofs.TypedParts.{body_of_case, both_sides, parts_of_arm, parts_of_arms, parts_of_body, parts_of_case, parts_of_cases, parts_of_if, parts_of_while}
-use Rattle.st_tree.proofs.TypingEquations.{typed_area_read, typed_binary, typed_convert, typed_literal, typed_read, typed_select, typed_shift, typed_unary, good_assign, good_invoke}
+use Rattle.st_tree.proofs.TypingEquations.{good_assign, good_invoke}
 
 -- Activations
 

@@ -1,7 +1,7 @@
 -- Graph runs: a larger bound never changes a run that has ended, and how many nodes may follow one another changes
 -- nothing. Two runs of nodes are compared, of which the second has j units more.
-use Rattle.std.proofs.Common.{◌≡◌, ℕ, zero, suc, ◌+◌, ◌-◌, ◌*◌, ◌<◌, ◌≤◌, Bool, true, false, cond, List, [], ◌∷◌, length, map, Option, Some, None, Result, Ok, Err, refl, sym, ◌⊎◌, inl, inr, ap, ◌∙◌, subst, arith}
-use Rattle.std.specs.Prelude.{find, max, slice_get}
+use Rattle.std.proofs.Common.{◌≡◌, ℕ, zero, suc, ◌+◌, ◌-◌, ◌*◌, ◌<◌, ◌≤◌, Bool, true, false, List, [], ◌∷◌, length, map, Option, Some, None, Result, Ok, Err, refl, sym, ◌⊎◌, inl, inr, ap, ◌∙◌, subst, arith}
+use Rattle.std.specs.Prelude.{find, slice_get}
 use Rattle.std.proofs.Math.Nat.{mul-le-mul_right, suc-mul}
 use Rattle.std.proofs.lemmas.Bool.{cases_lt}
 use Rattle.std.proofs.lemmas.List.Folds.{find_at}
@@ -10,7 +10,7 @@ use Rattle.memory_areas.specs.Areas.{Areas}
 use Rattle.memory_areas.specs.End.{Ended}
 use Rattle.s7_base.specs.declared.outcome.Fault.{Fault}
 use Rattle.memory_areas.specs.declared.call.Call.{Call}
-use Rattle.st_tree.specs.Calls.{called, entered, located_actuals}
+use Rattle.st_tree.specs.Calls.{entered, located_actuals}
 use Rattle.st_tree.specs.Depth.{greatest}
 use Rattle.st_tree.specs.GraphRun.{Counting, Way, counted, counted_if, exit_meaning, follow, graph_calls, longest, most_nodes, node_meaning, nodes_do, out, run_of_graph, to, unit_begun, way_of}
 use Rattle.st_tree.specs.GraphRunLaws.{FreeIsForward, GraphEndStays, LengthIsFree}
@@ -21,7 +21,7 @@ use Rattle.st_tree.specs.declared.graph.GraphPou.{GraphPou}
 use Rattle.st_tree.specs.declared.graph.GraphProgram.{GraphProgram}
 use Rattle.st_tree.specs.declared.graph.StNode.{StNode}
 use Rattle.st_tree.specs.declared.state.Reference.{Reference}
-use Rattle.st_tree.proofs.Units.{CallsFollow, Follow, Follows, called_follows, end_follows, follows_same, one_more, statements_follow, then_follows, unit_follows, wider}
+use Rattle.st_tree.proofs.Units.{CallsFollow, Follow, Follows, called_follows, end_follows, follows_same, one_more, statements_follow, then_follows, unit_follows}
 
 -- What is counted
 

@@ -2,7 +2,6 @@
 use Rattle.std.specs.Prelude.{◌≡◌, Bool, true, false, ◌&&◌, if◌then◌else◌, slice_get, Option, Some, None}
 use Rattle.std.proofs.Common.{refl, subst}
 use Rattle.memory_areas.specs.declared.place.AreaName.TheVariants as area
-use Rattle.s7_base.specs.declared.word.Width.{Width}
 use Rattle.st_tree.specs.Naming.{is_conversion}
 use Rattle.st_tree.specs.PlaceRules.{is_block_number, is_place}
 use Rattle.st_tree.specs.Spelling.{names_in}

@@ -2,7 +2,7 @@ use Rattle.std.proofs.Common.{[], ◌∷◌, ◌++◌, ap, sym, ◌∙◌}
 use Rattle.st_runner.specs.inner.Measures.{size, unit_costs}
 use Rattle.st_runner.specs.inner.Waiting.{framed}
 use Rattle.st_tree.specs.Meaning.{Normal, Returns}
-use Rattle.st_runner.proofs.Tops.{passed, stopped}
+use Rattle.st_runner.proofs.Stack.{passed, stopped}
 use Rattle.st_runner.proofs.leaving.return_unit.Goals as goal
 
 pub loop-frame-preserved-in-Rest : goal.loop-frame-preserved-in-Rest

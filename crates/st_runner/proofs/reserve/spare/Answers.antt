@@ -1,5 +1,5 @@
 use Rattle.std.proofs.Common.{◌+◌, ◌∙◌, ap}
-use Rattle.st_runner.proofs.Moves.{given, longer}
+use Rattle.st_runner.proofs.Frames.{given, longer}
 use Rattle.st_runner.proofs.reserve.spare.Goals as goal
 
 pub loop-preserved : goal.loop-preserved

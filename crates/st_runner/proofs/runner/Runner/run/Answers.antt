@@ -4,7 +4,7 @@ use Rattle.s7_base.specs.declared.outcome.Outcome.{Outcome}
 use Rattle.st_runner.specs.Standing.{Shows, Standing, end_within}
 use Rattle.st_runner.specs.inner.View.{state_of}
 use Rattle.st_runner.specs.inner.Waiting.{end_at, outcome_of}
-use Rattle.st_runner.proofs.Outward.{end_same, settled_shows}
+use Rattle.st_runner.proofs.Opening.{end_same, settled_shows}
 use Rattle.st_tree.specs.Calls.{calls_to}
 use Rattle.st_runner.proofs.runner.Runner.run.Goals as goal
 

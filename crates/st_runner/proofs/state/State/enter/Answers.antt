@@ -1,7 +1,6 @@
 use Rattle.std.proofs.Common.{◌≡◌, ◌≤◌, length, refl, sym, subst, ◌∙◌, arith}
 use Rattle.std.specs.Prelude.{vec_capacity}
-use Rattle.st_runner.proofs.Frames.{sound_running}
-use Rattle.st_runner.proofs.Moves.{sound_back, sound_enter, taken}
+use Rattle.st_runner.proofs.Frames.{sound_running, sound_back, sound_enter, taken}
 use Rattle.st_runner.proofs.state.State.enter.Goals as goal
 
 pub locate_actuals-requires-clause-running : goal.locate_actuals-requires-clause-running

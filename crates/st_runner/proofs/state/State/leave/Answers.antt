@@ -1,4 +1,4 @@
-use Rattle.st_runner.proofs.Moves.{sound_leave}
+use Rattle.st_runner.proofs.Frames.{sound_leave}
 use Rattle.st_runner.proofs.state.State.leave.Goals as goal
 
 pub returns-in-Some-clause-sound : goal.returns-in-Some-clause-sound
