@@ -159,34 +159,29 @@ bit_holds p v m h =
     (bit_small (byte_at bytes p.byte) p.bit v (byte_small bytes p.byte all) (bit_aligned p m none))
     (All-nil IsByte))
 
-byte_holds : (p : Place) (n : ℕ) (m : Contents) → n < 2 ^ 8 → HoldsBytes m
-    → AfterHolds (and_then (reached p width.Byte m) (λ bytes. Ok (put p bytes (n ∷ []) m)))
-byte_holds p n m small h =
-    put_holds p width.Byte (λ bytes. n ∷ []) m h (λ none bytes all. one_more n [] (omega arith) (All-nil IsByte))
+new_holds : (p : Place) (w : Width) (new : List ℕ) (m : Contents) → AreBytes new → HoldsBytes m
+    → AfterHolds (and_then (reached p w m) (λ bytes. Ok (put p bytes new m)))
+new_holds p w new m small h = put_holds p w (λ bytes. new) m h (λ none bytes all. small)
 
-word_holds : (p : Place) (n : ℕ) (m : Contents) → n < 2 ^ 16 → HoldsBytes m
-    → AfterHolds (and_then (reached p width.Word m) (λ bytes. Ok (put p bytes (bytes_of_word n) m)))
-word_holds p n m small h =
-    put_holds p width.Word (λ bytes. bytes_of_word n) m h
-    (λ none bytes all.
-    one_more (n / 256) (n % 256 ∷ []) (omega arith) (one_more (n % 256) [] (omega arith) (All-nil IsByte)))
+word_small : (n : ℕ) → n < 2 ^ 16 → AreBytes (bytes_of_word n)
+word_small n h = one_more (n / 256) (n % 256 ∷ []) (omega arith) (one_more (n % 256) [] (omega arith) (All-nil IsByte))
 
-dword_holds : (p : Place) (n : ℕ) (m : Contents) → n < 2 ^ 32 → HoldsBytes m
-    → AfterHolds (and_then (reached p width.Dword m) (λ bytes. Ok (put p bytes (bytes_of_dword n) m)))
-dword_holds p n m small h =
-    put_holds p width.Dword (λ bytes. bytes_of_dword n) m h
-    (λ none bytes all.
+dword_small : (n : ℕ) → n < 2 ^ 32 → AreBytes (bytes_of_dword n)
+dword_small n h =
     one_more (n / 2 ^ 24) (n / 2 ^ 16 % 256 ∷ n / 2 ^ 8 % 256 ∷ n % 256 ∷ []) (omega arith)
     (one_more (n / 2 ^ 16 % 256) (n / 2 ^ 8 % 256 ∷ n % 256 ∷ []) (omega arith)
     (one_more (n / 2 ^ 8 % 256) (n % 256 ∷ []) (omega arith)
-    (one_more (n % 256) [] (omega arith) (All-nil IsByte)))))
+    (one_more (n % 256) [] (omega arith) (All-nil IsByte))))
 
 pub place_holds : (ty : StType) (p : Place) (v : Value) (m : Contents) → HoldsBytes m
     → AfterHolds (write_place ty p v m)
 place_holds type.Bool p v m h = bit_holds p (is_set v) m h
-place_holds type.Byte p v m h = byte_holds p (pattern 8 v.n) m (pattern_below 8 v.n) h
-place_holds type.Word p v m h = word_holds p (pattern 16 v.n) m (pattern_below 16 v.n) h
-place_holds type.Dword p v m h = dword_holds p (pattern 32 v.n) m (pattern_below 32 v.n) h
-place_holds type.Int p v m h = word_holds p (pattern 16 v.n) m (pattern_below 16 v.n) h
-place_holds type.Dint p v m h = dword_holds p (pattern 32 v.n) m (pattern_below 32 v.n) h
-place_holds type.Lint p v m h = dword_holds p (pattern 32 v.n) m (pattern_below 32 v.n) h
+place_holds type.Byte p v m h =
+    let small = pattern_below 8 v.n in
+    new_holds p width.Byte (pattern 8 v.n ∷ []) m (one_more (pattern 8 v.n) [] (omega (arith, small)) (All-nil IsByte)) h
+place_holds type.Word p v m h =
+    new_holds p width.Word (bytes_of_word (pattern 16 v.n)) m (word_small (pattern 16 v.n) (pattern_below 16 v.n)) h
+place_holds type.Int p v m h =
+    new_holds p width.Word (bytes_of_word (pattern 16 v.n)) m (word_small (pattern 16 v.n) (pattern_below 16 v.n)) h
+place_holds ty p v m h =
+    new_holds p width.Dword (bytes_of_dword (pattern 32 v.n)) m (dword_small (pattern 32 v.n) (pattern_below 32 v.n)) h

@@ -14,7 +14,7 @@ use Rattle.s7_base.specs.declared.outcome.Fault.{Fault}
 use Rattle.s7_base.specs.declared.register.Reg.{Reg}
 use Rattle.s7_base.specs.declared.word.Width.{Width}
 use Rattle.st_tree.specs.Fitting.{ActivationFits, ActivationsFit, Fits, IsOf, Paired, StandsFor, local_type, locals_declared, RegistersFit, CallsFit, EndsFit}
-use Rattle.st_tree.specs.Meaning.{Out, Normal, Continues, Sem, Calls, Guarded, Labelled, after_body, area_assigned, arm_meaning, assigned, body_meaning, case_meaning, changed, first_true, first_with, meaning, then_do, turns, with_value}
+use Rattle.st_tree.specs.Meaning.{Out, Normal, Continues, Sem, Calls, after_body, area_assigned, arm_meaning, assigned, body_meaning, case_meaning, changed, first_true, first_with, meaning, then_do, turns, with_value}
 use Rattle.st_tree.specs.Naming.{is_conversion}
 use Rattle.st_tree.specs.Operators.{binary_value, chosen, converted, shift_value, unary_value}
 use Rattle.st_tree.specs.PlaceRules.{is_block_number, is_place}
@@ -429,8 +429,7 @@ module _ (tree : StProgram) (waiting : List Pou) (unit : Pou) where
     arms_keep (x ∷ xs) all inside good f more u s h =
         let parts = parts_of_arms sight inside x xs good in
         let body = (parts_of_arm sight inside x parts.0).1 in
-        subst (λ (a : Guarded). Ends (first_true (a ∷ map (arm_meaning tree.globals calls) xs) f u s))
-        (sym (meaning_arm tree.globals calls x))
+        rw (meaning_arm tree.globals calls x)
         (valued_ends (value tree.globals x.test s) u s _ h (λ v.
         picked_ends (is_set v) (bodies x.body u s) (first_true (map (arm_meaning tree.globals calls) xs) f u s)
         (list_keeps x.body all.0 inside body u s h) (arms_keep xs all.1 inside parts.1 f more u s h)))
@@ -442,8 +441,7 @@ module _ (tree : StProgram) (waiting : List Pou) (unit : Pou) where
     cases_keep n ty (x ∷ xs) all inside good f more u s h =
         let parts = parts_of_cases sight inside ty x xs good in
         let body = body_of_case sight inside x ty parts.0 in
-        subst (λ (a : Labelled). Ends (first_with n (a ∷ map (case_meaning tree.globals calls) xs) f u s))
-        (sym (meaning_case_arm tree.globals calls x))
+        rw (meaning_case_arm tree.globals calls x)
         (picked_ends (list_any (λ label. int_eq label n) x.labels) (bodies x.body u s)
         (first_with n (map (case_meaning tree.globals calls) xs) f u s)
         (list_keeps x.body all.0 inside body u s h) (cases_keep n ty xs all.1 inside parts.1 f more u s h))

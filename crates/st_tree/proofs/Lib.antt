@@ -6,7 +6,6 @@ pub mod FittingMemory
 pub mod FittingStart
 pub mod FittingStatements
 pub mod FittingValues
-pub mod GraphUnits
 pub mod Induction
 pub mod PartEquations
 pub mod TypedParts

@@ -33,9 +33,7 @@ pub record AreCases (o : Option StType) (inside : Bool) (checks : List CaseCheck
 cases_are : (o : Option StType) (inside : Bool) (arms : List CaseCheck) → are_cases o inside arms ≡ true
     → AreCases o inside arms
 cases_are None inside arms h = cc
-cases_are (Some ty) inside arms h =
-    let all = (and_parts (is_selector ty && is_some_of arms) (each_case ty inside arms) h).1 in
-    record { type = ty; selector = refl; arms = all }
+cases_are (Some ty) inside arms h = record { type = ty; selector = refl; arms = (and_parts _ _ h).1 }
 
 module _ (sight : Sight) (inside : Bool) where
   pub parts_of_body : (x : Stmt) (xs : List Stmt) → are_well_typed sight inside (x ∷ xs) ≡ true
@@ -44,9 +42,7 @@ module _ (sight : Sight) (inside : Bool) where
 
   pub parts_of_arm : (x : Arm) → is_arm sight x inside ≡ true
       → (has_type type.Bool (expression_type sight x.test) ≡ true) × (are_well_typed sight inside x.body ≡ true)
-  parts_of_arm x h =
-      let test : Bool = has_type type.Bool (expression_type sight x.test) in
-      and_parts test (are_well_typed sight inside x.body) (sym (good_arm sight inside x) ∙ h)
+  parts_of_arm x h = and_parts _ _ (sym (good_arm sight inside x) ∙ h)
 
   pub parts_of_arms : (x : Arm) (xs : List Arm) → each inside (map (is_arm sight) (x ∷ xs)) ≡ true
       → (is_arm sight x inside ≡ true) × (each inside (map (is_arm sight) xs) ≡ true)
@@ -54,9 +50,7 @@ module _ (sight : Sight) (inside : Bool) where
 
   pub body_of_case : (x : CaseArm) (ty : StType) → is_case_arm sight x ty inside ≡ true
       → are_well_typed sight inside x.body ≡ true
-  body_of_case x ty h =
-      let labels : Bool = is_some_of x.labels && list_all (is_value ty) x.labels in
-      (and_parts labels (are_well_typed sight inside x.body) (sym (good_case_arm sight inside x ty) ∙ h)).1
+  body_of_case x ty h = (and_parts _ _ (sym (good_case_arm sight inside x ty) ∙ h)).1
 
   pub parts_of_cases : (ty : StType) (x : CaseArm) (xs : List CaseArm)
       → each_case ty inside (map (is_case_arm sight) (x ∷ xs)) ≡ true
@@ -67,23 +61,17 @@ module _ (sight : Sight) (inside : Bool) where
   pub parts_of_if : (arms : List Arm) (other : List Stmt) → is_well_typed sight (stmt.If arms other) inside ≡ true
       → (each inside (map (is_arm sight) arms) ≡ true) × (are_well_typed sight inside other ≡ true)
   parts_of_if arms other h =
-      let some : Bool = is_some_of (map (is_arm sight) arms) in
-      let all : Bool = each inside (map (is_arm sight) arms) in
-      let parts =
-      and_parts (some && all) (are_well_typed sight inside other) (sym (good_if sight inside arms other) ∙ h) in
-      ((and_parts some all parts.0).1, parts.1)
+      let parts = and_parts _ _ (sym (good_if sight inside arms other) ∙ h) in
+      ((and_parts _ _ parts.0).1, parts.1)
 
   pub parts_of_case : (e : Expr) (arms : List CaseArm) (other : List Stmt)
       → is_well_typed sight (stmt.Case e arms other) inside ≡ true
       → AreCases (expression_type sight e) inside (map (is_case_arm sight) arms)
       × (are_well_typed sight inside other ≡ true)
   parts_of_case e arms other h =
-      let some : Bool = are_cases (expression_type sight e) inside (map (is_case_arm sight) arms) in
-      let parts = and_parts some (are_well_typed sight inside other) (sym (good_case sight inside e arms other) ∙ h) in
+      let parts = and_parts _ _ (sym (good_case sight inside e arms other) ∙ h) in
       (cases_are (expression_type sight e) inside (map (is_case_arm sight) arms) parts.0, parts.1)
 
   pub parts_of_while : (test : Expr) (body : List Stmt) → is_well_typed sight (stmt.While test body) inside ≡ true
       → (has_type type.Bool (expression_type sight test) ≡ true) × (are_well_typed sight true body ≡ true)
-  parts_of_while test body h =
-      let tested : Bool = has_type type.Bool (expression_type sight test) in
-      and_parts tested (are_well_typed sight true body) (sym (good_while sight inside test body) ∙ h)
+  parts_of_while test body h = and_parts _ _ (sym (good_while sight inside test body) ∙ h)
