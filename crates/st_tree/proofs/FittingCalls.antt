@@ -56,13 +56,12 @@ pushed_fits : (before units : List Pou) (acts : List Activation) (unit : Pou) (a
     → ActivationsFit before (units ++ unit ∷ []) (acts ++ a ∷ [])
 pushed_fits before [] [] unit a h k =
     (subst (λ (w : List Pou). ActivationFits w unit a) (append-nil before) k, tt)
-pushed_fits before [] (b ∷ rest) unit a h k = absurd h
-pushed_fits before (u ∷ units) [] unit a h k = absurd h
 pushed_fits before (u ∷ units) (b ∷ rest) unit a h k = (
   h.0,
   pushed_fits (before ++ u ∷ []) units rest unit a h.1
       (subst (λ (w : List Pou). ActivationFits w unit a) (sym (append_assoc before (u ∷ []) units)) k),
 )
+pushed_fits before units acts unit a h k = absurd h
 
 popped_fits : (before units : List Pou) (acts : List Activation) (unit : Pou)
     → ActivationsFit before (units ++ unit ∷ []) acts → ActivationsFit before units (take (length units) acts)
@@ -120,10 +119,9 @@ module _ (tree : StProgram) (waiting : List Pou) (unit : Pou) where
 
   tested_refers : (o : Option StType) (r : Reference) (s : State) → Refers running o (Ok r)
       → Refers running o (tested r s)
-  tested_refers o (reference.Register r) s h = h
-  tested_refers o (reference.Local d i) s h = h
   tested_refers o (reference.Place p ty) s h =
       unless_refers o (fault_of (aimed p) (width_at ty) s.memory) (reference.Place p ty) h
+  tested_refers o r s h = h
 
   after_test : (o : Option StType) (r : Result Reference Fault) (s : State) → Refers running o r
       → Refers running o (and_then r (λ r. tested r s))

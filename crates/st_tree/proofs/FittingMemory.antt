@@ -40,11 +40,9 @@ byte_small (b ∷ bs) (suc i) h = byte_small bs i (All-tail IsByte b bs h)
 
 in_list : (xs : List (List ℕ)) (d e : ℕ) (new : List ℕ) → AreBytes new → AreBytes (or_none (slice_get xs e))
     → AreBytes (or_none (slice_get (slice_set xs d new) e))
-in_list [] d e new small h = h
 in_list (x ∷ xs) zero zero new small h = small
-in_list (x ∷ xs) zero (suc e) new small h = h
-in_list (x ∷ xs) (suc d) zero new small h = h
 in_list (x ∷ xs) (suc d) (suc e) new small h = in_list xs d e new small h
+in_list xs d e new small h = h
 
 in_block : (t u : Bool) (n k : ℕ) (new : List ℕ) (b : DataBlock) (bs : List DataBlock) → (b.number == k) ≡ u
     → AreBytes new → AreBytes (or_none (bytes_in (cond u (Some b) (block_of k bs))))
@@ -65,28 +63,20 @@ in_blocks n k new (b ∷ bs) small h =
 with_bytes_holds : (a : Area) (new : List ℕ) (m : Contents) → HoldsBytes m → AreBytes new
     → HoldsBytes (with_bytes a new m)
 with_bytes_holds area.I new m h small area.I = small
-with_bytes_holds area.I new m h small b = h b
 with_bytes_holds area.Q new m h small area.Q = small
-with_bytes_holds area.Q new m h small b = h b
 with_bytes_holds area.M new m h small area.M = small
-with_bytes_holds area.M new m h small b = h b
 with_bytes_holds (area.Local d) new m h small (area.Local e) = in_list m.locals d e new small (h (area.Local e))
-with_bytes_holds (area.Local d) new m h small b = h b
 with_bytes_holds (area.Cell d) new m h small (area.Cell e) = in_list m.cells d e new small (h (area.Cell e))
-with_bytes_holds (area.Cell d) new m h small b = h b
 with_bytes_holds (area.Db n) new m h small (area.Db k) = in_blocks n k new m.areas.blocks small (h (area.Db k))
-with_bytes_holds (area.Db n) new m h small b = h b
+with_bytes_holds a new m h small b = h b
 
 pub zeros_small : AreBytes zero_locals
 zeros_small = All-replicate IsByte LOCAL_BYTES 0 (omega arith)
 
 pub cleared_holds : (d : ℕ) (m : Contents) → HoldsBytes m → HoldsBytes (cleared d m)
-cleared_holds d m h area.I = h area.I
-cleared_holds d m h area.Q = h area.Q
-cleared_holds d m h area.M = h area.M
 cleared_holds d m h (area.Local e) = in_list m.locals d e zero_locals zeros_small (h (area.Local e))
 cleared_holds d m h (area.Cell e) = in_list m.cells d e zero_locals zeros_small (h (area.Cell e))
-cleared_holds d m h (area.Db n) = h (area.Db n)
+cleared_holds d m h a = h a
 
 -- Writes
 
@@ -118,11 +108,8 @@ put_holds p w new m h f = by (fault_of (aimed p) w m) refl
 -- a test that is passed
 aligned : (a b c d e : Bool) (u v w x y : Fault)
     → first_fault ((a, u) ∷ (b, v) ∷ (c, w) ∷ (d, x) ∷ (e, y) ∷ []) ≡ None → d ≡ false
-aligned true b c d e u v w x y h = cc
-aligned false true c d e u v w x y h = cc
-aligned false false true d e u v w x y h = cc
-aligned false false false true e u v w x y h = cc
 aligned false false false false e u v w x y h = refl
+aligned a b c d e u v w x y h = cc
 
 bit_aligned : (p : Place) (m : Contents) → fault_of (aimed p) width.Bit m ≡ None → nat_lt 7 p.bit ≡ false
 bit_aligned p m none =

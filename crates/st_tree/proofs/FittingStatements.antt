@@ -56,7 +56,6 @@ record IsLast (waiting : List Pou) (unit : Pou) (at : ℕ) (acts : List Activati
 
 last_fits : (before waiting : List Pou) (unit : Pou) (acts : List Activation)
     → ActivationsFit before (waiting ++ unit ∷ []) acts → IsLast (before ++ waiting) unit (length waiting) acts
-last_fits before [] unit [] h = absurd h
 last_fits before [] unit (a ∷ b ∷ rest) h = absurd h.1
 last_fits before [] unit (a ∷ []) h =
     record {
@@ -65,7 +64,6 @@ last_fits before [] unit (a ∷ []) h =
       fits = subst (λ (w : List Pou). ActivationFits w unit a) (sym (append-nil before)) h.0;
       many = refl;
     }
-last_fits before (w ∷ more) unit [] h = absurd h
 last_fits before (w ∷ more) unit (a ∷ rest) h =
     let r = last_fits (before ++ w ∷ []) more unit rest h.1 in
     record {
@@ -74,6 +72,7 @@ last_fits before (w ∷ more) unit (a ∷ rest) h =
       fits = subst (λ (xs : List Pou). ActivationFits xs unit r.activation) (append_assoc before (w ∷ []) more) r.fits;
       many = ap suc r.many;
     }
+last_fits before waiting unit acts h = absurd h
 
 pub depth_is : (before waiting : List Pou) (unit : Pou) (s : State)
     → ActivationsFit before (waiting ++ unit ∷ []) s.activations → depth s ≡ length waiting
@@ -88,18 +87,16 @@ get_last (y ∷ xs) x = get_last xs x
 local_typed : (ls : List Local) (vs : List Value) (i : ℕ) → Paired (λ (l : Local) v. IsOf l.ty v) ls vs
     → Typed (type_inside (slice_get ls i)) (there (slice_get vs i))
 local_typed [] [] i h = tt
-local_typed [] (v ∷ vs) i h = absurd h
-local_typed (l ∷ ls) [] i h = absurd h
 local_typed (l ∷ ls) (v ∷ vs) zero h = h.0
 local_typed (l ∷ ls) (v ∷ vs) (suc i) h = local_typed ls vs i h.1
+local_typed ls vs i h = absurd h
 
 local_fits : (before units : List Pou) (acts : List Activation) (d i : ℕ) → ActivationsFit before units acts
     → Typed (local_type units d i) (there (slice_get (locals_of (slice_get acts d)) i))
 local_fits before [] [] d i h = tt
-local_fits before [] (a ∷ rest) d i h = absurd h
-local_fits before (u ∷ units) [] d i h = absurd h
 local_fits before (u ∷ units) (a ∷ rest) zero i h = local_typed u.locals a.locals i h.0.locals
 local_fits before (u ∷ units) (a ∷ rest) (suc d) i h = local_fits (before ++ u ∷ []) units rest d i h.1
+local_fits before units acts d i h = absurd h
 
 -- a local of one of some units is one of more units too
 still_local : (units more : List Pou) (d i : ℕ) (ty : StType) → local_type units d i ≡ Some ty
@@ -119,22 +116,20 @@ value_set : (ls : List Local) (vs : List Value) (i : ℕ) (ty : StType) (v : Val
     → Paired (λ (l : Local) v. IsOf l.ty v) ls vs → type_inside (slice_get ls i) ≡ Some ty → IsOf ty v
     → Paired (λ (l : Local) v. IsOf l.ty v) ls (slice_set vs i v)
 value_set [] [] i ty v h e k = tt
-value_set [] (w ∷ vs) i ty v h e k = absurd h
-value_set (l ∷ ls) [] i ty v h e k = absurd h
 value_set (l ∷ ls) (w ∷ vs) zero ty v h e k =
     let same : ty ≡ l.ty = cc in (subst (λ (t : StType). IsOf t v) same k, h.1)
 value_set (l ∷ ls) (w ∷ vs) (suc i) ty v h e k = (h.0, value_set ls vs i ty v h.1 e k)
+value_set ls vs i ty v h e k = absurd h
 
 local_set : (before units : List Pou) (acts : List Activation) (d i : ℕ) (ty : StType) (v : Value)
     → ActivationsFit before units acts → local_type units d i ≡ Some ty → IsOf ty v
     → ActivationsFit before units (with_local d i v acts)
 local_set before [] [] d i ty v h e k = tt
-local_set before [] (a ∷ rest) d i ty v h e k = absurd h
-local_set before (u ∷ units) [] d i ty v h e k = absurd h
 local_set before (u ∷ units) (a ∷ rest) zero i ty v h e k =
     (record { locals = value_set u.locals a.locals i ty v h.0.locals e k; formals = h.0.formals }, h.1)
 local_set before (u ∷ units) (a ∷ rest) (suc d) i ty v h e k =
     (h.0, local_set (before ++ u ∷ []) units rest d i ty v h.1 e k)
+local_set before units acts d i ty v h e k = absurd h
 
 -- Registers
 
@@ -169,10 +164,9 @@ formal_refers : (waiting more : List Pou) (fs : List Local) (rs : List Reference
     → Paired (λ (f : Local) r. StandsFor waiting f.ty r) fs rs
     → Refers (waiting ++ more) (type_inside (slice_get fs i)) (there (slice_get rs i))
 formal_refers waiting more [] [] i h = tt
-formal_refers waiting more [] (r ∷ rs) i h = absurd h
-formal_refers waiting more (f ∷ fs) [] i h = absurd h
 formal_refers waiting more (f ∷ fs) (r ∷ rs) zero h = still_stands waiting more f.ty r h.0
 formal_refers waiting more (f ∷ fs) (r ∷ rs) (suc i) h = formal_refers waiting more fs rs i h.1
+formal_refers waiting more fs rs i h = absurd h
 
 global_refers : (running : List Pou) (sight : Sight) (o : Option Located)
     → Refers running (type_outside sight o)
@@ -446,42 +440,38 @@ module _ (tree : StProgram) (waiting : List Pou) (unit : Pou) where
         (first_with n (map (case_meaning tree.globals calls) xs) f u s)
         (list_keeps x.body all.0 inside body u s h) (cases_keep n ty xs all.1 inside parts.1 f more u s h))
 
-    -- the same of an equal end
-    opened : (o p : Out) → o ≡ p → Ends p → Ends o
-    opened o p e h = subst Ends (sym e) h
-
     steps : StmtSteps P
     steps =
         record {
           assign = λ v e inside good u s h.
-              opened _ _ (meaning_assign tree.globals calls u s v e)
+              rw (meaning_assign tree.globals calls u s v e)
               (changed_ends (assigned tree.globals v e s) u s h
               (assign_keeps v e (sym (good_assign sight inside v e) ∙ good) s h));
           area_write = λ w p e inside good u s h.
-              opened _ _ (meaning_area_write tree.globals calls u s w p e)
+              rw (meaning_area_write tree.globals calls u s w p e)
               (changed_ends (area_assigned tree.globals w p e s) u s h
               (area_fits w (value tree.globals p s) (value tree.globals e s) s h));
           invoke = λ n actuals inside good u s h.
-              opened _ _ (meaning_invoke tree.globals calls u s n actuals)
+              rw (meaning_invoke tree.globals calls u s n actuals)
               (fit n actuals waiting unit u s (sym (good_invoke sight inside n actuals) ∙ good) h);
           choice = λ arms other all rest inside good u s h.
               let parts = parts_of_if sight inside arms other good in
               let keeps = list_keeps other rest inside parts.1 in
-              opened _ _ (meaning_if tree.globals calls u s arms other)
+              rw (meaning_if tree.globals calls u s arms other)
               (arms_keep arms all inside parts.0 (bodies other) keeps u s h);
           selection = λ e arms other all rest inside good u s h.
               let parts = parts_of_case sight inside e arms other good in
               let keeps = list_keeps other rest inside parts.1 in
-              opened _ _ (meaning_case tree.globals calls u s e arms other)
+              rw (meaning_case tree.globals calls u s e arms other)
               (valued_ends (value tree.globals e s) u s _ h (λ v.
               cases_keep v.n parts.0.type arms all inside parts.0.arms (bodies other) keeps u s h));
           loop = λ test body all inside good u s h.
               let parts = parts_of_while sight inside test body good in
-              opened _ _ (meaning_while tree.globals calls u s test body)
+              rw (meaning_while tree.globals calls u s test body)
               (turns_keep u (value tree.globals test) (bodies body) (list_keeps body all true parts.1) u s h);
-          exit = λ inside good u s h. opened _ _ (meaning_exit tree.globals calls u s) h;
-          continue = λ inside good u s h. opened _ _ (meaning_continue tree.globals calls u s) h;
-          return = λ inside good u s h. opened _ _ (meaning_return tree.globals calls u s) h;
+          exit = λ inside good u s h. rw (meaning_exit tree.globals calls u s) h;
+          continue = λ inside good u s h. rw (meaning_continue tree.globals calls u s) h;
+          return = λ inside good u s h. rw (meaning_return tree.globals calls u s) h;
         }
 
     pub statements_keep : (inside : Bool) (body : List Stmt) → are_well_typed sight inside body ≡ true
