@@ -27,35 +27,23 @@ Alike (Some a) (Some b) = length a.bytes ≡ length b.bytes
 alike_by : (t u : Bool) (a b : DataBlock) (x y : Option DataBlock) → t ≡ u → length a.bytes ≡ length b.bytes → Alike x y → Alike (if t then Some a else x) (if u then Some b else y)
 alike_by true true a b x y e h k = h
 alike_by false false a b x y e h k = k
-alike_by true false a b x y e h k = cc
-alike_by false true a b x y e h k = cc
+alike_by t u a b x y e h k = cc
 
 blocks_alike : (n : ℕ) (xs ys : List DataBlock) → Match xs ys → Alike (block_of n xs) (block_of n ys)
 blocks_alike n [] [] h = tt
-blocks_alike n [] (y ∷ ys) h = absurd h
-blocks_alike n (x ∷ xs) [] h = absurd h
 blocks_alike n (x ∷ xs) (y ∷ ys) h = alike_by (x.number == n) (y.number == n) x y (block_of n xs) (block_of n ys) (ap (λ k. k == n) h.0) h.1.sized (blocks_alike n xs ys h.2)
+blocks_alike n xs ys h = absurd h
 
-alike_none : (x y : Option DataBlock) → Alike x y → is_none x ≡ is_none y
-alike_none None None h = refl
-alike_none None (Some b) h = absurd h
-alike_none (Some a) None h = absurd h
-alike_none (Some a) (Some b) h = refl
-
-alike_length : (x y : Option DataBlock) → Alike x y → length (or_none (bytes_in x)) ≡ length (or_none (bytes_in y))
-alike_length None None h = refl
-alike_length None (Some b) h = absurd h
-alike_length (Some a) None h = absurd h
-alike_length (Some a) (Some b) h = h
+-- so both are there or neither is, with as many bytes
+alike_same : (x y : Option DataBlock) → Alike x y → (is_none x ≡ is_none y) × (is_some x ≡ is_some y) × (length (or_none (bytes_in x)) ≡ length (or_none (bytes_in y)))
+alike_same None None h = (refl, refl, refl)
+alike_same (Some a) (Some b) h = (refl, refl, h)
+alike_same x y h = absurd h
 
 module _ (blocks : List DataBlock) (m : Contents) (is : IsMemoryOf blocks m.areas) where
   missing_same : (a : Area) → is_missing (Some a) m ≡ is_missing (Some a) (fresh blocks)
-  missing_same area.I = refl
-  missing_same area.Q = refl
-  missing_same area.M = refl
-  missing_same (area.Local d) = refl
-  missing_same (area.Cell d) = refl
-  missing_same (area.Db n) = alike_none (block_of n m.areas.blocks) (block_of n blocks) (blocks_alike n m.areas.blocks blocks is.matching)
+  missing_same (area.Db n) = (alike_same (block_of n m.areas.blocks) (block_of n blocks) (blocks_alike n m.areas.blocks blocks is.matching)).0
+  missing_same a = refl
 
   length_same : (a : Area) → IsOutsidePlace a → length (bytes_there (Some a) m) ≡ length (bytes_there (Some a) (fresh blocks))
   length_same area.I h = is.inputs.sized ∙ sym (length-replicate {A = ℕ} INPUT_BYTES 0)
@@ -63,7 +51,7 @@ module _ (blocks : List DataBlock) (m : Contents) (is : IsMemoryOf blocks m.area
   length_same area.M h = is.markers.sized ∙ sym (length-replicate {A = ℕ} MARKER_BYTES 0)
   length_same (area.Local d) h = absurd h
   length_same (area.Cell d) h = absurd h
-  length_same (area.Db n) h = alike_length (block_of n m.areas.blocks) (block_of n blocks) (blocks_alike n m.areas.blocks blocks is.matching)
+  length_same (area.Db n) h = (alike_same (block_of n m.areas.blocks) (block_of n blocks) (blocks_alike n m.areas.blocks blocks is.matching)).2
 
   -- an access outside meets the same fault
   pub fault_same : (p : Place) (w : Width) → IsOutsidePlace p.area → fault_of (aimed p) w m ≡ fault_of (aimed p) w (fresh blocks)
@@ -73,13 +61,7 @@ module _ (blocks : List DataBlock) (m : Contents) (is : IsMemoryOf blocks m.area
 
   -- a block is there as in a new memory
   pub block_same : (n : ℕ) → is_some (block_of n m.areas.blocks) ≡ is_some (block_of n blocks)
-  block_same n = some_same (block_of n m.areas.blocks) (block_of n blocks) (blocks_alike n m.areas.blocks blocks is.matching)
-    where
-      some_same : (x y : Option DataBlock) → Alike x y → is_some x ≡ is_some y
-      some_same None None k = refl
-      some_same None (Some b) k = absurd k
-      some_same (Some a) None k = absurd k
-      some_same (Some a) (Some b) k = refl
+  block_same n = (alike_same (block_of n m.areas.blocks) (block_of n blocks) (blocks_alike n m.areas.blocks blocks is.matching)).1
 
 module _ (blocks : List DataBlock) (m : Contents) (is : IsMemoryOf blocks m.areas) where
   pub formal_decides : (b : Bool) (formal : Local) (p : Place) (w : Width) → w ≡ width_at formal.ty → IsOutsidePlace p.area → Decides b (fault_of (aimed p) w m ≡ None) → Decides b (FitsFormal blocks formal (p, w))

@@ -45,9 +45,8 @@ use Rattle.memory_areas.specs.declared.call.Call.{Call}
 
 module _ (g : List Located) (c : Calls) where
   framed_same : (f : Frame) (o : Out) → framed g c f o ≡ followed g c (pending f) o
-  framed_same (frame.Rest b) o = refl
-  framed_same (frame.Again t b) o = refl
   framed_same frame.Unit o = refl
+  framed_same f o = refl
 
   unwound_same : (fs : List Frame) (o : Out) → unwound g c fs o ≡ all_followed g c (map pending fs) o
   unwound_same [] o = refl
@@ -81,12 +80,9 @@ called_formals block xs x e =
 
 -- the places of actuals can be reached
 outside_reached : (a : Area) → IsOutsidePlace a → IsActivation a
-outside_reached area.I h = tt
-outside_reached area.Q h = tt
-outside_reached area.M h = tt
-outside_reached (area.Db n) h = tt
 outside_reached (area.Local d) h = absurd h
 outside_reached (area.Cell d) h = absurd h
+outside_reached a h = tt
 
 references_reached : (blocks : List DataBlock) (formals : List Local) (actuals : List (Place × Width)) → FitFormals blocks formals actuals → AreReachable (references formals actuals)
 references_reached blocks [] actuals h = tt

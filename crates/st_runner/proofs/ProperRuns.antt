@@ -172,12 +172,9 @@ module _ (tree : StProgram) (unit : Pou) where
 -- The tree
 
 area_there : (a : Area) (w : Width) (byte bit : ℕ) → is_located a w byte bit ≡ true → IsActivation a
-area_there place.I w byte bit h = tt
-area_there place.Q w byte bit h = tt
-area_there place.M w byte bit h = tt
 area_there (place.Local d) w byte bit h = cc
 area_there (place.Cell d) w byte bit h = cc
-area_there (place.Db n) w byte bit h = tt
+area_there a w byte bit h = tt
 
 globals_there : (globals : List Located) → All IsGlobal globals → AreGlobals globals
 globals_there [] all = tt
