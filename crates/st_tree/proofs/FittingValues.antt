@@ -2,6 +2,7 @@
 use Rattle.std.specs.Prelude.{◌≡◌, ℕ, ◌-◌, ◌<◌, ◌^◌, ◌%◌, Bool, true, false, ◌&&◌, nat_lt, if◌then◌else◌, ℤ, pos, negsuc, int_lt, Option, Some, None, Result, Ok, Err}
 use Rattle.std.specs.Ordering.{int_eq}
 use Rattle.std.proofs.Common.{refl, sym, ap, ◌∙◌, subst, arith, mod-eq_of_lt, pow_pos}
+use Rattle.std.proofs.lemmas.Int.{ints}
 use Rattle.std.proofs.lemmas.Bool.{and_parts}
 use Rattle.memory_areas.specs.Access.{and_then, read_bit}
 use Rattle.memory_areas.specs.Areas.{Contents}
@@ -37,33 +38,9 @@ pub pattern_below : (k : ℕ) (z : ℤ) → pattern k z < 2 ^ k
 pattern_below k (pos n) = let p = pow_pos k in omega arith
 pattern_below k (negsuc n) = let p = pow_pos k in omega arith
 
-pattern_again : (k p : ℕ) → p < 2 ^ k → pattern k (pos p) ≡ p
-pattern_again k p h = mod-eq_of_lt h
-
-sign_again : (b : Bool) (k p : ℕ) → p < 2 ^ k → pattern k (if b then pos p else negsuc (2 ^ k - 1 - p)) ≡ p
-sign_again true k p h = mod-eq_of_lt h
-sign_again false k p h =
-    let less : 2 ^ k - 1 - p < 2 ^ k = omega arith in
-    let same : (2 ^ k - 1 - p) % 2 ^ k ≡ 2 ^ k - 1 - p = mod-eq_of_lt less in
-    rw same (omega arith)
-
-pattern_of_number : (k p : ℕ) → p < 2 ^ k → pattern k (number k p) ≡ p
-pattern_of_number k p h = sign_again (nat_lt p (2 ^ (k - 1))) k p h
-
-bits_again : (k : ℕ) (z : ℤ) → pos (pattern k (pos (pattern k z))) ≡ pos (pattern k z)
-bits_again k z = ap (λ n. pos n) (pattern_again k (pattern k z) (pattern_below k z))
-
-number_again : (k : ℕ) (z : ℤ) → number k (pattern k (number k (pattern k z))) ≡ number k (pattern k z)
-number_again k z = ap (number k) (pattern_of_number k (pattern k z) (pattern_below k z))
-
 pub fits_again : (ty : StType) (z : ℤ) → fit ty (fit ty z) ≡ fit ty z
-fits_again type.Bool z = bits_again 1 z
-fits_again type.Byte z = bits_again 8 z
-fits_again type.Word z = bits_again 16 z
-fits_again type.Dword z = bits_again 32 z
-fits_again type.Int z = number_again 16 z
-fits_again type.Dint z = number_again 32 z
-fits_again type.Lint z = number_again 64 z
+fits_again type.Bool z = grind (arith, ints)
+fits_again ty z = grind (arith, ints)
 
 pub typed_is : (ty : StType) (z : ℤ) → IsOf ty (typed ty z)
 typed_is ty z = record { type = refl; number = fits_again ty z }
