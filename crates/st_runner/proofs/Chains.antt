@@ -67,57 +67,6 @@ module _ (f : ℕ → ℕ) where
   pub called_cost : (body : List Stmt) → body_most k body ≡ called_most f body
   called_cost body = body_same body (every_body Same same_steps body)
 
--- Three measures
-
--- three measures of one statement that are related at its parts are related
-module _ (p q r : Costs) (R : ℕ → ℕ → ℕ → Type 0) (none : R 0 0 0) (either : (a b c x y z : ℕ) → R a b c → R x y z → R (max a x) (max b y) (max c z))
-    (nested : (a b c : ℕ) → R a b c → R (p.rest + a) (q.rest + b) (r.rest + c)) (turned : (a b c : ℕ) → R a b c → R (p.again + p.rest + a) (q.again + q.rest + b) (r.again + r.rest + c))
-    (at_call : (n : ℕ) (actuals : List Var) → R (p.call n actuals) (q.call n actuals) (r.call n actuals)) where
-  abbrev P : Stmt → Type 0
-  P x = R (most p x) (most q x) (most r x)
-
-  -- the same of equal measures
-  equal : (a b c x y z : ℕ) → a ≡ x → b ≡ y → c ≡ z → R x y z → R a b c
-  equal a b c x y z e f g h = subst (λ n. R n b c) (sym e) (subst (λ n. R x n c) (sym f) (subst (λ n. R x y n) (sym g) h))
-
-  -- the measure of one layer of a statement
-  abbrev layer : Costs → S.Stmt-F Stmt Arm CaseArm → ℕ
-  layer k y = most_step k (map-Stmt Stmt Arm CaseArm ℕ ℕ ℕ (most k) (arm_most k) (case_most k) y)
-
-  opened : {x : Stmt} (y : S.Stmt-F Stmt Arm CaseArm) → roll-Stmt y ≡ x → R (layer p y) (layer q y) (layer r y) → P x
-  opened y e h = equal _ _ _ _ _ _ (most_stmt p y e) (most_stmt q y e) (most_stmt r y e) h
-
-  stmts_hold : (xs : List Stmt) → Each P xs → R (body_most p xs) (body_most q xs) (body_most r xs)
-  stmts_hold [] each = none
-  stmts_hold (x ∷ xs) each = either _ _ _ _ _ _ each.0 (stmts_hold xs each.1)
-
-  arms_hold : (xs : List Arm) → Each (InArm P) xs → R (greatest (map (arm_most p) xs)) (greatest (map (arm_most q) xs)) (greatest (map (arm_most r) xs))
-  arms_hold [] each = none
-  arms_hold (x ∷ xs) each = either _ _ _ _ _ _ (equal _ _ _ _ _ _ (most_arm p x) (most_arm q x) (most_arm r x) (stmts_hold x.body each.0)) (arms_hold xs each.1)
-
-  cases_hold : (xs : List CaseArm) → Each (InCase P) xs → R (greatest (map (case_most p) xs)) (greatest (map (case_most q) xs)) (greatest (map (case_most r) xs))
-  cases_hold [] each = none
-  cases_hold (x ∷ xs) each = either _ _ _ _ _ _ (equal _ _ _ _ _ _ (most_case_arm p x) (most_case_arm q x) (most_case_arm r x) (stmts_hold x.body each.0)) (cases_hold xs each.1)
-
-  steps : StmtSteps P
-  steps =
-      record {
-        assign = λ v e. opened (S.Assign v e) (stmt.rolls-Assign v e) none;
-        area_write = λ w a e. opened (S.AreaWrite w a e) (stmt.rolls-AreaWrite w a e) none;
-        invoke = λ n actuals. opened (S.Invoke n actuals) (stmt.rolls-Invoke n actuals) (at_call n actuals);
-        choice = λ arms other each rest.
-            opened (S.If arms other) (stmt.rolls-If arms other) (nested _ _ _ (either _ _ _ _ _ _ (arms_hold arms each) (stmts_hold other rest)));
-        selection = λ e arms other each rest.
-            opened (S.Case e arms other) (stmt.rolls-Case e arms other) (nested _ _ _ (either _ _ _ _ _ _ (cases_hold arms each) (stmts_hold other rest)));
-        loop = λ test body each. opened (S.While test body) (stmt.rolls-While test body) (turned _ _ _ (stmts_hold body each));
-        exit = opened S.Exit stmt.rolls-Exit none;
-        continue = opened S.Continue stmt.rolls-Continue none;
-        return = opened S.Return stmt.rolls-Return none;
-      }
-
-  pub body_holds : (body : List Stmt) → R (body_most p body) (body_most q body) (body_most r body)
-  body_holds body = stmts_hold body (every_body P steps body)
-
 -- Chains
 
 -- where each that is less than a bound is no more by another count, so is the greatest of some
@@ -162,16 +111,45 @@ some_chain f (Some unit) = omega arith
 pub chain_some : (tree : StProgram) (n : ℕ) → 1 ≤ chain_of tree n
 chain_some tree n = some_chain (chain_to 8 tree) (slice_get tree.pous n)
 
--- Frames
+-- Frames: two for each level of nesting, and those of the calls
 
-abbrev Stacked : ℕ → ℕ → ℕ → Type 0
-Stacked a b c = a ≤ 2 * b + UNIT_FRAMES * c
+module _ (tree : StProgram) where
+  abbrev Stacked : Stmt → Type 0
+  Stacked x = most (stack_costs tree) x ≤ 2 * most nesting_costs x + UNIT_FRAMES * most (depth_costs tree) x
 
--- two frames for each level of nesting, and those of the calls
-stacked : (tree : StProgram) (body : List Stmt) → Stacked (body_most (stack_costs tree) body) (body_most nesting_costs body) (body_most (depth_costs tree) body)
-stacked tree body =
-    body_holds (stack_costs tree) nesting_costs (depth_costs tree) Stacked (omega arith) (λ a b c x y z h m. omega arith) (λ a b c h. omega arith) (λ a b c h. omega arith) (λ n actuals. omega arith) body
+  -- a measure of one layer of a statement
+  abbrev layer : Costs → S.Stmt-F Stmt Arm CaseArm → ℕ
+  layer k y = most_step k (map-Stmt Stmt Arm CaseArm ℕ ℕ ℕ (most k) (arm_most k) (case_most k) y)
+
+  stacked_by : {x : Stmt} (y : S.Stmt-F Stmt Arm CaseArm) → roll-Stmt y ≡ x → layer (stack_costs tree) y ≤ 2 * layer nesting_costs y + UNIT_FRAMES * layer (depth_costs tree) y → Stacked x
+  stacked_by y e h = omega (arith, most_stmt (stack_costs tree) y e, most_stmt nesting_costs y e, most_stmt (depth_costs tree) y e)
+
+  stacked_list : (xs : List Stmt) → Each Stacked xs → body_most (stack_costs tree) xs ≤ 2 * body_most nesting_costs xs + UNIT_FRAMES * body_most (depth_costs tree) xs
+  stacked_list [] each = omega arith
+  stacked_list (x ∷ xs) each = omega (arith, each.0, stacked_list xs each.1)
+
+  stacked_arms : (xs : List Arm) → Each (InArm Stacked) xs → greatest (map (arm_most (stack_costs tree)) xs) ≤ 2 * greatest (map (arm_most nesting_costs) xs) + UNIT_FRAMES * greatest (map (arm_most (depth_costs tree)) xs)
+  stacked_arms [] each = omega arith
+  stacked_arms (x ∷ xs) each = omega (arith, most_arm (stack_costs tree) x, most_arm nesting_costs x, most_arm (depth_costs tree) x, stacked_list x.body each.0, stacked_arms xs each.1)
+
+  stacked_cases : (xs : List CaseArm) → Each (InCase Stacked) xs → greatest (map (case_most (stack_costs tree)) xs) ≤ 2 * greatest (map (case_most nesting_costs) xs) + UNIT_FRAMES * greatest (map (case_most (depth_costs tree)) xs)
+  stacked_cases [] each = omega arith
+  stacked_cases (x ∷ xs) each = omega (arith, most_case_arm (stack_costs tree) x, most_case_arm nesting_costs x, most_case_arm (depth_costs tree) x, stacked_list x.body each.0, stacked_cases xs each.1)
+
+  stacked_steps : StmtSteps Stacked
+  stacked_steps =
+      record {
+        assign = λ v e. stacked_by (S.Assign v e) (stmt.rolls-Assign v e) (omega arith);
+        area_write = λ w a e. stacked_by (S.AreaWrite w a e) (stmt.rolls-AreaWrite w a e) (omega arith);
+        invoke = λ n actuals. stacked_by (S.Invoke n actuals) (stmt.rolls-Invoke n actuals) (omega arith);
+        choice = λ arms other each rest. stacked_by (S.If arms other) (stmt.rolls-If arms other) (omega (arith, stacked_arms arms each, stacked_list other rest));
+        selection = λ e arms other each rest. stacked_by (S.Case e arms other) (stmt.rolls-Case e arms other) (omega (arith, stacked_cases arms each, stacked_list other rest));
+        loop = λ test body each. stacked_by (S.While test body) (stmt.rolls-While test body) (omega (arith, stacked_list body each));
+        exit = stacked_by S.Exit stmt.rolls-Exit (omega arith);
+        continue = stacked_by S.Continue stmt.rolls-Continue (omega arith);
+        return = stacked_by S.Return stmt.rolls-Return (omega arith);
+      }
 
 pub stack_covers : (tree : StProgram) (n : ℕ) (unit : Pou) → slice_get tree.pous n ≡ Some unit → IsRunnableUnit tree n unit → 1 + (1 + body_most (stack_costs tree) unit.body) ≤ UNIT_FRAMES * chain_of tree n
 stack_covers tree n unit e runnable =
-    omega (arith, stacked tree unit.body, runnable.nesting, chain_covers tree n unit e runnable.chain)
+    omega (arith, stacked_list tree unit.body (every_body (Stacked tree) (stacked_steps tree) unit.body), runnable.nesting, chain_covers tree n unit e runnable.chain)

@@ -91,17 +91,10 @@ module _ (g : List Located) (c : Calls) (u : ℕ) (s : State) where
 
 -- What was done
 
--- frames that stay as they are cost no more
-stay_reach : (k : Costs) (ws : List Frame) (n : ℕ) → reach k ws at.Work ≤ max (tall k ws) (sizes k ws + n)
-stay_reach k ws n = omega (arith, sizes_tall k ws)
-
-over_reach : (k : Costs) (ws : List Frame) (n : ℕ) (f : Option Fault) → reach k ws (at.Over f) ≤ max (tall k ws) (sizes k ws + n)
-over_reach k ws n f = omega (arith, sizes_tall k ws)
-
 module _ (tree : StProgram) (ws : List Frame) where
   -- a fault
   pub faulted : (x : Stmt) (s : State) (f : Fault) → ((c : Calls) (u : ℕ) → end_at tree.globals c ws (at.Over (Some f)) u s ≡ ending tree.globals c ws (meaning tree.globals c x u s)) → Done tree x ws ws (at.Over (Some f)) s s
-  faulted x s f m = record { meaning = m; reach = λ k. over_reach k ws (most k x) (Some f); units = refl; weight = tt }
+  faulted x s f m = record { meaning = m; reach = λ k. omega (arith, sizes_tall k ws); units = refl; weight = tt }
 
   -- a change of the state, or its fault
   changed_by : (x : Stmt) (change : Result State Fault) (s t : State) (r : Result (Unit {0}) Fault) → ((c : Calls) (u : ℕ) → meaning tree.globals c x u s ≡ changed change u s) → weight x ≡ 1 → Changes change r s t
@@ -109,7 +102,7 @@ module _ (tree : StProgram) (ws : List Frame) where
   changed_by x change s t (Ok done) m w h =
       record {
         meaning = λ c u. changed_ok tree.globals c ws u change s t h ∙ ap (ending tree.globals c ws) (sym (m c u));
-        reach = λ k. stay_reach k ws (most k x);
+        reach = λ k. omega (arith, sizes_tall k ws);
         units = refl;
         weight = omega (arith, w);
       }
