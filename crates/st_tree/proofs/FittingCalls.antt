@@ -3,7 +3,7 @@ use Rattle.std.specs.Prelude.{◌≡◌, ℕ, zero, suc, true, false, not, ◌&&
 use Rattle.std.proofs.Common.{refl, sym, subst, arith, length-append, append-nil, append_assoc}
 use Rattle.std.proofs.lemmas.Bool.{and_parts}
 use Rattle.std.proofs.lemmas.List.{get_or_append_left}
-use Rattle.std.proofs.lemmas.List.Elements.{All-push}
+use Rattle.std.proofs.lemmas.List.Elements.{All-pop, All-push}
 use Rattle.std.proofs.lemmas.Option.{get_or_from_slice_get, slice_get-map, slice_get_within}
 use Rattle.memory_areas.specs.Access.{aimed, and_then, fault_of, unless}
 use Rattle.s7_base.specs.declared.outcome.Fault.{Fault}
@@ -34,11 +34,6 @@ at_position P xs n x all e = subst P (get_or_from_slice_get xs n x x e) (all n x
 
 pub is_in : {A : Type 0} (xs : List A) (n : ℕ) (x : A) → slice_get xs n ≡ Some x → Contains xs x
 is_in xs n x e = (n, slice_get_within xs n x e, get_or_from_slice_get xs n x x e)
-
-all_before : {A : Type 0} (P : A → Type 0) (xs ys : List A) → All P (xs ++ ys) → All P xs
-all_before P xs ys all k d less =
-    let long = length-append xs ys in
-    subst P (get_or_append_left xs ys d k less) (all k d (omega arith))
 
 -- Activations
 
@@ -92,7 +87,7 @@ module _ (tree : StProgram) (waiting : List Pou) (unit : Pou) where
   left_fits : (callee : Pou) (s : State) → Fits tree running callee s → Fits tree waiting unit (left s)
   left_fits callee s h =
       record {
-        units = all_before (Contains tree.pous) running (callee ∷ []) h.units;
+        units = (All-pop (Contains tree.pous) (running ++ callee ∷ []) running (Some callee) refl h.units).0;
         registers = h.registers;
         memory = h.memory;
         activations =
@@ -162,17 +157,13 @@ module _ (tree : StProgram) (waiting : List Pou) (unit : Pou) where
   -- Calls
 
   module _ (proper : Proper tree) (calls : Calls) (fit : CallsFit tree calls) where
-    body_typed : (n : ℕ) (callee : Pou) → slice_get tree.pous n ≡ Some callee
-        → IsProperUnit tree.globals (map head_of tree.pous) callee
-    body_typed n callee e =
-        at_position (IsProperUnit tree.globals (map head_of tree.pous)) tree.pous n callee proper.units e
-
     called_ends : (n : ℕ) (callee : Pou) (r : Result (List Reference) Fault) (u : ℕ) (s : State)
         → slice_get tree.pous n ≡ Some callee → Fits tree waiting unit s → AreOf callee.formals r
         → EndsFit tree waiting unit (called (unit_step tree calls (Some callee)) r u s)
     called_ends n callee (Ok formals) u s e h k =
         after_ends callee (body_meaning tree.globals calls callee.body u (entered callee formals s))
-        (statements_keep tree running callee calls fit false callee.body (body_typed n callee e).typed u
+        (statements_keep tree running callee calls fit false callee.body
+        (at_position (IsProperUnit tree.globals (map head_of tree.pous)) tree.pous n callee proper.units e).typed u
         (entered callee formals s) (entered_fits n callee formals s e h k))
     called_ends n callee (Err f) u s e h k = (waiting, unit, h)
 

@@ -200,19 +200,15 @@ module _ (tree : StProgram) (waiting : List Pou) (unit : Pou) where
         → Refers running o (Ok (reference.Local (depth s) i))
     own_local i None e = tt
     own_local i (Some ty) e =
-        subst (λ (d : ℕ). local_type running d i ≡ Some ty) (sym at_depth)
+        rw at_depth
         (ap (λ (u : Option Pou). type_inside (slice_get (locals_declared u) i)) (get_last waiting unit) ∙ e)
-
-    own_formal : (i : ℕ) → Refers running (type_inside (slice_get unit.formals i))
-        (there (slice_get (formals_of (slice_get s.activations (depth s))) i))
-    own_formal i =
-        rw (at_depth, last.there)
-        (formal_refers waiting (unit ∷ []) unit.formals last.activation.formals i last.fits.formals)
 
     pub variable_refers : (v : Var) → Refers running (variable_type sight v) (reference_of tree.globals v s)
     variable_refers (var.Register r) = refl
     variable_refers (var.Local i) = own_local i (type_inside (slice_get unit.locals i)) refl
-    variable_refers (var.Formal i) = own_formal i
+    variable_refers (var.Formal i) =
+        rw (at_depth, last.there)
+        (formal_refers waiting (unit ∷ []) unit.formals last.activation.formals i last.fits.formals)
     variable_refers (var.Global i) = global_refers running sight (slice_get tree.globals i)
     variable_refers (var.Direct a byte bit w) =
         where_refers running (is_place a w byte bit) (type_of_width w) (reference.Place _ (type_of_width w)) refl
@@ -238,9 +234,6 @@ module _ (tree : StProgram) (waiting : List Pou) (unit : Pou) where
     refers_typed (Some ty) (Ok r) e = reference_typed ty r e
     refers_typed (Some ty) (Err f) e = tt
 
-    read_typed : (v : Var) → Typed (variable_type sight v) (read tree.globals v s)
-    read_typed v = refers_typed (variable_type sight v) (reference_of tree.globals v s) (variable_refers v)
-
     -- Expressions
 
     -- a value of an expression, where the rules give a type, is of that type
@@ -250,7 +243,8 @@ module _ (tree : StProgram) (waiting : List Pou) (unit : Pou) where
     layers : Layers IsTyped (expression_step sight) (value_step tree.globals)
     layers (E.Literal ty n) =
         where_typed (is_value ty n) ty _ (λ e. record { type = refl; number = (Decides-int_eq (fit ty n) n).0 e })
-    layers (E.Read v) = read_typed v
+    layers (E.Read v) =
+        refers_typed (variable_type sight v) (reference_of tree.globals v s) (variable_refers v)
     layers (E.Unary op a) = on_then (type_of_unary op) (unary_value op) (one_typed op) a.0 (a.1 s) a.2
     layers (E.Binary op a b) =
         on_both (type_of_binary op) (binary_value op) (two_typed op) a.0 b.0 (a.1 s) (b.1 s) a.2 b.2

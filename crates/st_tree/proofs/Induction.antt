@@ -11,8 +11,8 @@ use Rattle.st_tree.specs.declared.expr.ShiftOp.{ShiftOp}
 use Rattle.st_tree.specs.declared.expr.StType.{StType}
 use Rattle.st_tree.specs.declared.expr.UnaryOp.{UnaryOp}
 use Rattle.st_tree.specs.declared.expr.Var.{Var}
-use Rattle.st_tree.specs.declared.program.Arm.{Arm, map-Arm, roll-Arm}
-use Rattle.st_tree.specs.declared.program.CaseArm.{CaseArm, map-CaseArm, roll-CaseArm}
+use Rattle.st_tree.specs.declared.program.Arm.{Arm}
+use Rattle.st_tree.specs.declared.program.CaseArm.{CaseArm}
 use Rattle.st_tree.specs.declared.program.Stmt.{Stmt, ind-Stmt, map-Stmt, roll-Stmt}
 use Rattle.st_tree.specs.declared.program.Stmt.TheOpen as S
 use Rattle.st_tree.specs.declared.program.Stmt.TheVariants as stmt
@@ -35,10 +35,7 @@ module _ (P : Expr → Type 0) (h : ExprSteps P) where
   abbrev AnExpr : Type 0
   AnExpr = (x : Expr) × P x
 
-  abbrev bare_expr : E.Expr-F AnExpr → E.Expr-F Expr
-  bare_expr y = map-Expr AnExpr Expr (λ e. e.0) y
-
-  expr_core : (y : E.Expr-F AnExpr) → P (roll-Expr (bare_expr y))
+  expr_core : (y : E.Expr-F AnExpr) → P (roll-Expr (map-Expr AnExpr Expr (λ e. e.0) y))
   expr_core (E.Literal ty n) = subst P (sym (expr.rolls-Literal ty n)) (h.literal ty n)
   expr_core (E.Read v) = subst P (sym (expr.rolls-Read v)) (h.read v)
   expr_core (E.Unary op a) = subst P (sym (expr.rolls-Unary op a.0)) (h.unary op a.0 a.1)
@@ -49,9 +46,7 @@ module _ (P : Expr → Type 0) (h : ExprSteps P) where
   expr_core (E.AreaRead w a) = subst P (sym (expr.rolls-AreaRead w a.0)) (h.area_read w a.0 a.1)
 
   pub every_expr : (e : Expr) → P e
-  every_expr =
-      ind-Expr P (λ (x : E.Expr-F Expr) (y : E.Expr-F AnExpr) e.
-      subst (λ (z : E.Expr-F Expr). P (roll-Expr z)) e (expr_core y))
+  every_expr = ind-Expr P (λ x y e. rw (← e) (expr_core y))
 
 -- Two folds
 
@@ -133,10 +128,8 @@ module _ (P : Stmt → Type 0) (h : StmtSteps P) where
   all_hold Q [] = tt
   all_hold Q (y ∷ ys) = (y.1, all_hold Q ys)
 
-  abbrev bare : S.Stmt-F AStmt AnArm ACase → S.Stmt-F Stmt Arm CaseArm
-  bare y = map-Stmt AStmt AnArm ACase Stmt Arm CaseArm (λ e. e.0) (λ e. e.0) (λ e. e.0) y
-
-  core : (y : S.Stmt-F AStmt AnArm ACase) → P (roll-Stmt (bare y))
+  core : (y : S.Stmt-F AStmt AnArm ACase)
+      → P (roll-Stmt (map-Stmt AStmt AnArm ACase Stmt Arm CaseArm (λ e. e.0) (λ e. e.0) (λ e. e.0) y))
   core (S.Assign v e) = subst P (sym (stmt.rolls-Assign v e)) (h.assign v e)
   core (S.AreaWrite w p e) = subst P (sym (stmt.rolls-AreaWrite w p e)) (h.area_write w p e)
   core (S.Invoke n actuals) = subst P (sym (stmt.rolls-Invoke n actuals)) (h.invoke n actuals)
@@ -148,24 +141,11 @@ module _ (P : Stmt → Type 0) (h : StmtSteps P) where
   core S.Continue = subst P (sym stmt.rolls-Continue) h.continue
   core S.Return = subst P (sym stmt.rolls-Return) h.return
 
-  step : (x : S.Stmt-F Stmt Arm CaseArm) (y : S.Stmt-F AStmt AnArm ACase) → bare y ≡ x → P (roll-Stmt x)
-  step x y e = subst (λ (z : S.Stmt-F Stmt Arm CaseArm). P (roll-Stmt z)) e (core y)
-
-  abbrev bare_arm : S.Arm-F AStmt AnArm ACase → S.Arm-F Stmt Arm CaseArm
-  bare_arm y = map-Arm AStmt AnArm ACase Stmt Arm CaseArm (λ e. e.0) (λ e. e.0) (λ e. e.0) y
-
-  step_arm : (x : S.Arm-F Stmt Arm CaseArm) (y : S.Arm-F AStmt AnArm ACase) → bare_arm y ≡ x → InArm P (roll-Arm x)
-  step_arm x y e = subst (λ (z : S.Arm-F Stmt Arm CaseArm). InArm P (roll-Arm z)) e (all_hold P y.body)
-
-  abbrev bare_case : S.CaseArm-F AStmt AnArm ACase → S.CaseArm-F Stmt Arm CaseArm
-  bare_case y = map-CaseArm AStmt AnArm ACase Stmt Arm CaseArm (λ e. e.0) (λ e. e.0) (λ e. e.0) y
-
-  step_case : (x : S.CaseArm-F Stmt Arm CaseArm) (y : S.CaseArm-F AStmt AnArm ACase) → bare_case y
-      ≡ x → InCase P (roll-CaseArm x)
-  step_case x y e = subst (λ (z : S.CaseArm-F Stmt Arm CaseArm). InCase P (roll-CaseArm z)) e (all_hold P y.body)
-
   pub every_stmt : (x : Stmt) → P x
-  every_stmt = ind-Stmt P (InArm P) (InCase P) step step_arm step_case
+  every_stmt =
+      ind-Stmt P (InArm P) (InCase P) (λ x y e. rw (← e) (core y))
+      (λ x (y : S.Arm-F AStmt AnArm ACase) e. rw (← e) (all_hold P y.body))
+      (λ x (y : S.CaseArm-F AStmt AnArm ACase) e. rw (← e) (all_hold P y.body))
 
   pub every_body : (body : List Stmt) → Each P body
   every_body [] = tt
