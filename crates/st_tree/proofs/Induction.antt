@@ -82,9 +82,8 @@ module _ {A B : Type 0} (R : A → B → Type 0) (first : E.Expr-F A → A) (sec
     -- so they give what is related of every expression
     pub folds_related : (e : Expr) → Related e
     folds_related =
-        ind-Expr Related (λ (x : E.Expr-F Expr) (y : E.Expr-F AnOperand) e.
-        subst (λ (z : E.Expr-F Expr). Related (roll-Expr z)) e
-        (rw (fold-roll-Expr A first (layer y), fold-roll-Expr B second (layer y)) (in_step y)))
+        ind-Expr Related (λ x y e.
+        rw (← e, fold-roll-Expr A first (layer y), fold-roll-Expr B second (layer y)) (in_step y))
 
 -- Statements
 

@@ -221,32 +221,32 @@ none_more u = omega arith
 
 -- what follows with no more units is the same
 pub follows_same : (most : ℕ) (o p : Out) → Follows 0 most o p → p ≡ o
-follows_same most (Normal u s) p h = h.0 ∙ ap (λ x. Normal x s) (none_more u)
-follows_same most (Exits u s) p h = h.0 ∙ ap (λ x. Exits x s) (none_more u)
-follows_same most (Continues u s) p h = h.0 ∙ ap (λ x. Continues x s) (none_more u)
-follows_same most (Returns u s) p h = h.0 ∙ ap (λ x. Returns x s) (none_more u)
 follows_same most (Faults f s) p h = h
 follows_same most (NoUnits s) p h = h refl
+follows_same most o p h = rw none_more at h.0
+
+-- what follows within some units ends alike within as many, and its end stays within more
+same_end : (units : ℕ) (f g : Sem) (s : State) → Follow units f g → g units s ≡ f units s
+same_end units f g s follow =
+    ap (λ (u : ℕ). g u s) (sym (none_more units)) ∙ follows_same units (f units s) (g (units + 0) s) (follow units 0 s (omega arith))
+
+stays : (units more : ℕ) (f g : Sem) (s : State) (after : Areas) (x : Option Fault) → units ≤ more → Follow units f g → end_seen (f units s) ≡ Ended after x → end_seen (g more s) ≡ Ended after x
+stays units more f g s after x less follow e =
+    let sum : units + (more - units) ≡ more = omega arith in
+    subst (λ (u : ℕ). end_seen (g u s) ≡ Ended after x) sum
+    (end_follows (more - units) units (f units s) (g (units + (more - units)) s) after x (follow units (more - units) s (omega arith)) e)
 
 pub deeper_is_same : DepthIsFree
 deeper_is_same tree body units deep s h =
-    let same : units ≤ units = omega arith in
-    let run = body_meaning tree.globals (calls_to deep tree) body in
-    ap (λ u. run u s) (sym (none_more units))
-    ∙ follows_same units (body_meaning tree.globals (calls_to units tree) body units s) (run (units + 0) s)
-    (statements_follow units tree.globals (calls_to units tree) (calls_to deep tree) (calls_follow units units deep tree same h) body units 0 s same)
+    same_end units (body_meaning tree.globals (calls_to units tree) body) (body_meaning tree.globals (calls_to deep tree) body) s
+    (statements_follow units tree.globals (calls_to units tree) (calls_to deep tree) (calls_follow units units deep tree (omega arith) h) body)
 
 run_stays : (tree : StProgram) (o : Option Pou) (call : Call) (memory : Areas) (units more : ℕ) (after : Areas) (f : Option Fault) → units ≤ more →
     run_of_unit tree o call memory units ≡ Ended after f → run_of_unit tree o call memory more ≡ Ended after f
 run_stays tree None call memory units more after f h e = e
 run_stays tree (Some unit) call memory units more after f h e =
-    let j : ℕ = more - units in
-    let sum : units + j ≡ more = omega arith in
-    let same : units ≤ units = omega arith in
-    let s = state_at_start unit call memory in
-    subst (λ (u : ℕ). end_seen (body_meaning tree.globals (calls_to more tree) unit.body u s) ≡ Ended after f) sum
-    (end_follows j units (body_meaning tree.globals (calls_to units tree) unit.body units s) (body_meaning tree.globals (calls_to more tree) unit.body (units + j) s) after f
-    (statements_follow units tree.globals (calls_to units tree) (calls_to more tree) (calls_follow units units more tree same h) unit.body units j s same) e)
+    stays units more (body_meaning tree.globals (calls_to units tree) unit.body) (body_meaning tree.globals (calls_to more tree) unit.body) (state_at_start unit call memory) after f h
+    (statements_follow units tree.globals (calls_to units tree) (calls_to more tree) (calls_follow units units more tree (omega arith) h) unit.body) e
 
 pub runs_end_stays : EndStays
 runs_end_stays tree call memory units more after f h e = run_stays tree (unit_called call.block tree.pous) call memory units more after f h e
@@ -353,22 +353,15 @@ module _ (counts : Counting) (forward : FreeIsForward counts) (graph : GraphProg
 pub longer_is_same : LengthIsFree
 longer_is_same counts forward graph n unit there units most s h =
     let size = within_longest graph.pous n unit there in
-    let one : suc units * suc (longest graph) ≡ units * suc (longest graph) + suc (longest graph) = suc-mul units (suc (longest graph)) in
-    let same : units ≤ units = omega arith in
-    let run = nodes_do counts graph most unit.graph.nodes 0 in
-    let none : units + 0 ≡ units = omega arith in
-    ap (λ (u : ℕ). run u s) (sym none)
-    ∙ follows_same units (nodes_do counts graph (most_nodes graph units) unit.graph.nodes 0 units s) (run (units + 0) s)
-    (nodes_follow counts forward graph (most_nodes graph units) most units unit.graph.nodes 0 size (omega arith) (omega arith) units 0 s same)
+    let one = suc-mul units (suc (longest graph)) in
+    same_end units (nodes_do counts graph (most_nodes graph units) unit.graph.nodes 0) (nodes_do counts graph most unit.graph.nodes 0) s
+    (nodes_follow counts forward graph (most_nodes graph units) most units unit.graph.nodes 0 size (omega (arith, one)) (omega (arith, one)))
 
 graph_run_stays : (counts : Counting) → FreeIsForward counts → (graph : GraphProgram) (o : Option GraphPou) (call : Call) → ((unit : GraphPou) → o ≡ Some unit → length unit.graph.nodes ≤ longest graph)
     → (memory : Areas) (units more : ℕ) (after : Areas) (f : Option Fault) → units ≤ more →
     run_of_graph counts graph o call memory units ≡ Ended after f → run_of_graph counts graph o call memory more ≡ Ended after f
 graph_run_stays counts forward graph None call small memory units more after f h e = e
 graph_run_stays counts forward graph (Some unit) call small memory units more after f h e =
-    let j : ℕ = more - units in
-    let sum : units + j ≡ more = omega arith in
-    let same : units ≤ units = omega arith in
     let s = state_at_start unit.head call memory in
     let nodes = unit.graph.nodes in
     let size : length nodes ≤ longest graph = small unit refl in
@@ -378,9 +371,8 @@ graph_run_stays counts forward graph (Some unit) call small memory units more af
     let lower : v * suc (longest graph) ≤ units * suc (longest graph) = mul-le-mul_right (suc (longest graph)) (omega arith) in
     let upper : suc units * suc (longest graph) ≤ suc more * suc (longest graph) = mul-le-mul_right (suc (longest graph)) (omega arith) in
     nodes_follow counts forward graph (most_nodes graph units) (most_nodes graph more) v nodes 0 size (omega arith) (omega arith) in
-    subst (λ (u : ℕ). end_seen (counted (nodes_do counts graph (most_nodes graph more) nodes 0) u s) ≡ Ended after f) sum
-    (end_follows j units (counted (nodes_do counts graph (most_nodes graph units) nodes 0) units s) (counted (nodes_do counts graph (most_nodes graph more) nodes 0) (units + j) s) after f
-    (counted_follows units (nodes_do counts graph (most_nodes graph units) nodes 0) (nodes_do counts graph (most_nodes graph more) nodes 0) begun units j s same) e)
+    stays units more (counted (nodes_do counts graph (most_nodes graph units) nodes 0)) (counted (nodes_do counts graph (most_nodes graph more) nodes 0)) s after f h
+    (counted_follows units (nodes_do counts graph (most_nodes graph units) nodes 0) (nodes_do counts graph (most_nodes graph more) nodes 0) begun) e
 
 pub graph_end_stays : GraphEndStays
 graph_end_stays counts forward graph call memory units more after f h e =
