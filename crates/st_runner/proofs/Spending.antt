@@ -197,11 +197,12 @@ done_at (Ok formals) f t e = (formals, refl, by (f formals) t e)
     by x y h = cc
 done_at (Err g) f t e = cc
 
-fault_at : (r : Result (List Reference) Fault) (f : List Reference → State) (x : Fault) → and_then r (λ formals. Ok (f formals)) ≡ Err x → r ≡ Err x
-fault_at (Ok formals) f x e = cc
-fault_at (Err g) f x e = by g x e
+-- what had a fault before it was used
+pub fault_is : {A B : Type 0} (r : Result A Fault) (f : A → B) (x : Fault) → and_then r (λ a. Ok (f a)) ≡ Err x → r ≡ Err x
+fault_is (Ok a) f x e = cc
+fault_is {A} {B} (Err g) f x e = by g x e
   where
-    by : (p q : Fault) → ◌≡◌ {A = Result State Fault} (Err p) (Err q) → ◌≡◌ {A = Result (List Reference) Fault} (Err p) (Err q)
+    by : (p q : Fault) → ◌≡◌ {A = Result B Fault} (Err p) (Err q) → ◌≡◌ {A = Result A Fault} (Err p) (Err q)
     by p q h = cc
 
 module _ (tree : StProgram) (runnable : IsRunnable tree) (capacity : ℕ) (ws : List Frame) (s : Parts) (n : ℕ) (b : Bor (List Var)) (r : IsReady tree capacity ws (at.Call n b) s) where
@@ -234,7 +235,7 @@ module _ (tree : StProgram) (runnable : IsRunnable tree) (capacity : ℕ) (ws : 
       record {
         meaning = λ u.
             ap (λ (x : State). end_at tree.globals (calls_to u tree) ws (at.Over (Some f)) u x) change.1
-            ∙ call_faults tree u ws (state_of s) n b.now f (fault_at (located_actuals tree.globals b.now (state_of s)) (λ formals. entered unit formals (state_of s)) f change.0);
+            ∙ call_faults tree u ws (state_of s) n b.now f (fault_is (located_actuals tree.globals b.now (state_of s)) (λ formals. entered unit formals (state_of s)) f change.0);
         ready = record { sound = sound (most_locals tree.pous) (most_formals tree.pous) w.sound; count = same ∙ w.count; frames = w.frames; depth = w.depth; actuals = w.actuals };
       }
 
@@ -263,10 +264,3 @@ module _ (tree : StProgram) (runnable : IsRunnable tree) (capacity : ℕ) (ws : 
               actuals = omega (arith, tall_is (misfit_costs tree), unit_runs.actuals, r.actuals);
             };
       }
-
-pub test_is_fault : (r : Result Value Fault) (f : Fault) → and_then r (λ v. Ok (is_set v)) ≡ Err f → r ≡ Err f
-test_is_fault (Ok v) f e = cc
-test_is_fault (Err x) f e = by x f e
-  where
-    by : (p q : Fault) → ◌≡◌ {A = Result Bool Fault} (Err p) (Err q) → ◌≡◌ {A = Result Value Fault} (Err p) (Err q)
-    by p q h = cc

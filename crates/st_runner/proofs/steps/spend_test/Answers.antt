@@ -3,7 +3,7 @@ use Rattle.std.specs.Prelude.{vec_capacity}
 use Rattle.std.specs.Vec.{vec_len}
 use Rattle.memory_areas.specs.Access.{and_then}
 use Rattle.st_runner.specs.inner.View.{state_of}
-use Rattle.st_runner.proofs.Spending.{test_false, test_fault, test_is_fault, test_room, test_true}
+use Rattle.st_runner.proofs.Spending.{fault_is, test_false, test_fault, test_room, test_true}
 use Rattle.st_runner.proofs.Stepping.{ready_running}
 use Rattle.st_tree.specs.Value.{value}
 use Rattle.st_tree.specs.Values.{is_set}
@@ -39,4 +39,4 @@ pub returns-in-Err-clause-spent : goal.returns-in-Err-clause-spent
 returns-in-Err-clause-spent c =
     let s = state_of c.args.state.now in
     test_fault c.args.tree.now _ c.args.work.now.items c.args.state.now c.args.test c.args.body c.requires.ready c.in-Err.fault
-    (subst (λ (g : List Located). value g c.args.test.now s ≡ Err c.in-Err.fault) c.as_slice.ensures (test_is_fault (value c.as_slice.result.now c.args.test.now s) c.in-Err.fault (sym c.is_true.ensures ∙ c.in-Err.is)))
+    (subst (λ (g : List Located). value g c.args.test.now s ≡ Err c.in-Err.fault) c.as_slice.ensures (fault_is (value c.as_slice.result.now c.args.test.now s) is_set c.in-Err.fault (sym c.is_true.ensures ∙ c.in-Err.is)))
