@@ -49,13 +49,9 @@ zeros_fit (l ∷ ls) = (record { type = refl; number = zero_fits l.ty }, zeros_f
 pushed_fits : (before units : List Pou) (acts : List Activation) (unit : Pou) (a : Activation)
     → ActivationsFit before units acts → ActivationFits (before ++ units) unit a
     → ActivationsFit before (units ++ unit ∷ []) (acts ++ a ∷ [])
-pushed_fits before [] [] unit a h k =
-    (subst (λ (w : List Pou). ActivationFits w unit a) (append-nil before) k, tt)
-pushed_fits before (u ∷ units) (b ∷ rest) unit a h k = (
-  h.0,
-  pushed_fits (before ++ u ∷ []) units rest unit a h.1
-      (subst (λ (w : List Pou). ActivationFits w unit a) (sym (append_assoc before (u ∷ []) units)) k),
-)
+pushed_fits before [] [] unit a h k = (rw append-nil at k, tt)
+pushed_fits before (u ∷ units) (b ∷ rest) unit a h k =
+    (h.0, pushed_fits (before ++ u ∷ []) units rest unit a h.1 (rw append_assoc k))
 pushed_fits before units acts unit a h k = absurd h
 
 popped_fits : (before units : List Pou) (acts : List Activation) (unit : Pou)
@@ -91,9 +87,7 @@ module _ (tree : StProgram) (waiting : List Pou) (unit : Pou) where
         registers = h.registers;
         memory = h.memory;
         activations =
-            subst (λ (d : ℕ). ActivationsFit [] running (take d s.activations))
-            (sym (depth_is [] running callee s h.activations))
-            (popped_fits [] running s.activations callee h.activations);
+            rw (depth_is [] running callee s h.activations) (popped_fits [] running s.activations callee h.activations);
       }
 
   after_ends : (callee : Pou) (o : Out) → EndsFit tree running callee o → EndsFit tree waiting unit (after_unit o)

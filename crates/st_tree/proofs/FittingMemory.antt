@@ -118,22 +118,14 @@ bit_aligned p m none =
     DbNotOpen DbMissing AreaCode Alignment AreaLength none
 
 bit_small : (b x : ℕ) (v : Bool) → b < 256 → nat_lt 7 x ≡ false → byte_with b x v < 256
-bit_small b zero true h k = omega arith
-bit_small b zero false h k = omega arith
-bit_small b (suc zero) true h k = omega arith
-bit_small b (suc zero) false h k = omega arith
-bit_small b (suc (suc zero)) true h k = omega arith
-bit_small b (suc (suc zero)) false h k = omega arith
-bit_small b (suc (suc (suc zero))) true h k = omega arith
-bit_small b (suc (suc (suc zero))) false h k = omega arith
-bit_small b (suc (suc (suc (suc zero)))) true h k = omega arith
-bit_small b (suc (suc (suc (suc zero)))) false h k = omega arith
-bit_small b (suc (suc (suc (suc (suc zero))))) true h k = omega arith
-bit_small b (suc (suc (suc (suc (suc zero))))) false h k = omega arith
-bit_small b (suc (suc (suc (suc (suc (suc zero)))))) true h k = omega arith
-bit_small b (suc (suc (suc (suc (suc (suc zero)))))) false h k = omega arith
-bit_small b (suc (suc (suc (suc (suc (suc (suc zero))))))) true h k = omega arith
-bit_small b (suc (suc (suc (suc (suc (suc (suc zero))))))) false h k = omega arith
+bit_small b zero v h k = grind arith
+bit_small b (suc zero) v h k = grind arith
+bit_small b (suc (suc zero)) v h k = grind arith
+bit_small b (suc (suc (suc zero))) v h k = grind arith
+bit_small b (suc (suc (suc (suc zero)))) v h k = grind arith
+bit_small b (suc (suc (suc (suc (suc zero))))) v h k = grind arith
+bit_small b (suc (suc (suc (suc (suc (suc zero)))))) v h k = grind arith
+bit_small b (suc (suc (suc (suc (suc (suc (suc zero))))))) v h k = grind arith
 bit_small b (suc (suc (suc (suc (suc (suc (suc (suc x)))))))) v h k = absurd (grind (arith, nat_tests))
 
 bit_holds : (p : Place) (v : Bool) (m : Contents) → HoldsBytes m

@@ -61,7 +61,7 @@ last_fits before [] unit (a ∷ []) h =
     record {
       activation = a;
       there = refl;
-      fits = subst (λ (w : List Pou). ActivationFits w unit a) (sym (append-nil before)) h.0;
+      fits = rw append-nil h.0;
       many = refl;
     }
 last_fits before (w ∷ more) unit (a ∷ rest) h =
@@ -69,7 +69,7 @@ last_fits before (w ∷ more) unit (a ∷ rest) h =
     record {
       activation = r.activation;
       there = r.there;
-      fits = subst (λ (xs : List Pou). ActivationFits xs unit r.activation) (append_assoc before (w ∷ []) more) r.fits;
+      fits = rw append_assoc at r.fits;
       many = ap suc r.many;
     }
 last_fits before waiting unit acts h = absurd h
