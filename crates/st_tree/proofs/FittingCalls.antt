@@ -144,9 +144,7 @@ module _ (tree : StProgram) (waiting : List Pou) (unit : Pou) where
   actuals_are (f ∷ fs) (v ∷ vars) s h good =
       let parts = and_parts (has_type f.ty (variable_type sight v)) (are_given sight fs vars) good in
       one_more f fs (located_actual tree.globals v s) (located_actuals tree.globals vars s)
-      (subst (λ (o : Option StType). Refers running o (located_actual tree.globals v s))
-      (type_had f.ty (variable_type sight v) parts.0) (actual_refers v s h))
-      (actuals_are fs vars s h parts.1)
+      (rw (type_had f.ty (variable_type sight v) parts.0, Refers) at (actual_refers v s h)) (actuals_are fs vars s h parts.1)
 
   -- Calls
 
@@ -177,7 +175,7 @@ module _ (tree : StProgram) (waiting : List Pou) (unit : Pou) where
     invoked_ends n actuals zero s good h = (waiting, unit, h)
     invoked_ends n actuals (suc u) s good h =
         found_ends n (slice_get tree.pous n) actuals u s refl
-        (subst (λ (o : Option Head). is_call sight o actuals ≡ true) (slice_get-map head_of tree.pous n) good) h
+        (rw (slice_get-map head_of tree.pous n) at good) h
 
 -- calls that nest at most so deep
 pub calls_fit : (tree : StProgram) (deep : ℕ) → Proper tree → CallsFit tree (calls_to deep tree)

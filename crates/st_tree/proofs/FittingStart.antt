@@ -111,11 +111,10 @@ formals_fit : (tree : StProgram) (unit : Pou) (block : BlockName) (instance : �
     → AreGiven unit.formals (formals_given block unit.formals actuals)
 formals_fit tree unit (name.Ob n) instance actuals proper meant fits =
     let program = (and_parts (str_eq_ignore_ascii_case unit.name (called_name (name.Ob n))) unit.program meant).1 in
-    subst (λ (fs : List Local). AreGiven fs []) (sym (proper.program program)) tt
+    rw (proper.program program) tt
 formals_fit tree unit (name.Fc n) instance actuals proper meant fits =
     places_given tree.dbs unit.formals actuals fits
-formals_fit tree unit (name.Fb n) instance actuals proper meant fits =
-    subst (λ (fs : List Local). AreGiven fs []) (sym fits.formals) tt
+formals_fit tree unit (name.Fb n) instance actuals proper meant fits = rw fits.formals tt
 
 -- States
 

@@ -219,12 +219,8 @@ module _ (tree : StProgram) (waiting : List Pou) (unit : Pou) where
     -- What is read
 
     reference_typed : (ty : StType) (r : Reference) → StandsFor running ty r → Typed (Some ty) (read_at r s)
-    reference_typed ty (reference.Register r) e =
-        subst (λ (t : StType). IsOf t (record { ty = type_of_register r; n = s.registers r })) e
-        (record { type = refl; number = h.registers r })
-    reference_typed ty (reference.Local d i) e =
-        subst (λ (o : Option StType). Typed o (there (slice_get (locals_of (slice_get s.activations d)) i))) e
-        (local_fits [] running s.activations d i h.activations)
+    reference_typed ty (reference.Register r) e = record { type = e; number = rw e at (h.registers r) }
+    reference_typed ty (reference.Local d i) e = rw (e, Typed) at (local_fits [] running s.activations d i h.activations)
     reference_typed ty (reference.Place p t) e =
         subst (λ (u : StType). Typed (Some u) (read_at (reference.Place p t) s)) e (place_typed t p s.memory)
 
@@ -265,9 +261,7 @@ module _ (tree : StProgram) (waiting : List Pou) (unit : Pou) where
     pub value_of : (e : Expr) (ty : StType) (v : Value) → expression_type sight e ≡ Some ty
         → value tree.globals e s ≡ Ok v → IsOf ty v
     value_of e ty v a b =
-        subst (λ (q : Result Value Fault). Typed (Some ty) q) b
-        (subst (λ (t : Option StType). Typed t (value tree.globals e s)) a
-        (folds_related IsTyped (expression_step sight) (value_step tree.globals) layers e))
+        rw (a, b, Typed) at (folds_related IsTyped (expression_step sight) (value_step tree.globals) layers e)
 
     -- What is written
 
@@ -314,8 +308,7 @@ module _ (tree : StProgram) (waiting : List Pou) (unit : Pou) where
         → IsOf ty w → AfterFits (write tree.globals v w s)
     variable_written ty v w e k =
         referred_written ty (reference_of tree.globals v s) w
-        (subst (λ (o : Option StType). Refers running o (reference_of tree.globals v s)) e
-        (variable_refers v)) k
+        (rw (e, Refers) at (variable_refers v)) k
 
     pointed_written : (w : Width) (o : Result Place Fault) (v : Value)
         → AfterFits (and_then o (λ place. write_at (reference.Place place (type_of_width w)) v s))

@@ -1,6 +1,6 @@
 -- The type of a well typed expression is the one in which the labels of a CASE are written.
 use Rattle.std.specs.Prelude.{◌≡◌, Bool, true, false, ◌&&◌, if◌then◌else◌, slice_get, Option, Some, None}
-use Rattle.std.proofs.Common.{refl, subst}
+use Rattle.std.proofs.Common.{refl}
 use Rattle.memory_areas.specs.declared.place.AreaName.TheVariants as area
 use Rattle.st_tree.specs.Naming.{is_conversion}
 use Rattle.st_tree.specs.PlaceRules.{is_block_number, is_place}
@@ -116,5 +116,4 @@ module _ (tree : StProgram) (unit : Pou) where
 
   pub types_agree : (e : Expr) (ty : StType) → expression_type sight e ≡ Some ty → type_of names e ≡ ty
   types_agree e ty h =
-      subst (λ (o : Option StType). Agrees o (type_of names e)) h
-      (folds_related Agrees (expression_step sight) (type_step names) layers e)
+      rw (h, Agrees) at (folds_related Agrees (expression_step sight) (type_step names) layers e)
