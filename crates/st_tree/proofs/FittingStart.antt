@@ -28,9 +28,8 @@ use Rattle.st_tree.specs.declared.program.Local.{Local}
 use Rattle.st_tree.specs.declared.program.Pou.{Pou}
 use Rattle.st_tree.specs.declared.program.StProgram.{StProgram}
 use Rattle.st_tree.specs.declared.state.Reference.{Reference}
-use Rattle.st_tree.proofs.FittingCalls.{at_position, calls_fit, is_in, zero_fits, zeros_fit}
+use Rattle.st_tree.proofs.FittingCalls.{at_position, calls_fit, is_in, register_fits, statements_keep, zero_fits, zeros_fit}
 use Rattle.st_tree.proofs.FittingMemory.{AreBytes, zeros_small}
-use Rattle.st_tree.proofs.FittingStatements.{register_fits, statements_keep}
 
 -- The unit that is called
 

@@ -4,7 +4,6 @@ pub mod Equations
 pub mod FittingCalls
 pub mod FittingMemory
 pub mod FittingStart
-pub mod FittingStatements
 pub mod FittingValues
 pub mod Induction
 pub mod PartEquations

@@ -1,4 +1,4 @@
-use Rattle.st_tree.proofs.FittingStatements.{statements_keep}
+use Rattle.st_tree.proofs.FittingCalls.{statements_keep}
 use Rattle.st_tree.proofs.type_laws.statements_fit.Goals as goal
 
 pub returns : goal.returns

@@ -1,4 +1,4 @@
-use Rattle.st_tree.proofs.FittingStatements.{value_of}
+use Rattle.st_tree.proofs.FittingCalls.{value_of}
 use Rattle.st_tree.proofs.type_laws.values_fit.Goals as goal
 
 pub returns : goal.returns
