@@ -114,25 +114,29 @@ chain_some tree n = some_chain (chain_to 8 tree) (slice_get tree.pous n)
 -- Frames: two for each level of nesting, and those of the calls
 
 module _ (tree : StProgram) where
+  -- by what something costs
+  abbrev Within : (Costs → ℕ) → Type 0
+  Within size = size (stack_costs tree) ≤ 2 * size nesting_costs + UNIT_FRAMES * size (depth_costs tree)
+
   abbrev Stacked : Stmt → Type 0
-  Stacked x = most (stack_costs tree) x ≤ 2 * most nesting_costs x + UNIT_FRAMES * most (depth_costs tree) x
+  Stacked x = Within (λ k. most k x)
 
   -- a measure of one layer of a statement
   abbrev layer : Costs → S.Stmt-F Stmt Arm CaseArm → ℕ
   layer k y = most_step k (map-Stmt Stmt Arm CaseArm ℕ ℕ ℕ (most k) (arm_most k) (case_most k) y)
 
-  stacked_by : {x : Stmt} (y : S.Stmt-F Stmt Arm CaseArm) → roll-Stmt y ≡ x → layer (stack_costs tree) y ≤ 2 * layer nesting_costs y + UNIT_FRAMES * layer (depth_costs tree) y → Stacked x
+  stacked_by : {x : Stmt} (y : S.Stmt-F Stmt Arm CaseArm) → roll-Stmt y ≡ x → Within (λ k. layer k y) → Stacked x
   stacked_by y e h = omega (arith, most_stmt (stack_costs tree) y e, most_stmt nesting_costs y e, most_stmt (depth_costs tree) y e)
 
-  stacked_list : (xs : List Stmt) → Each Stacked xs → body_most (stack_costs tree) xs ≤ 2 * body_most nesting_costs xs + UNIT_FRAMES * body_most (depth_costs tree) xs
+  stacked_list : (xs : List Stmt) → Each Stacked xs → Within (λ k. body_most k xs)
   stacked_list [] each = omega arith
   stacked_list (x ∷ xs) each = omega (arith, each.0, stacked_list xs each.1)
 
-  stacked_arms : (xs : List Arm) → Each (InArm Stacked) xs → greatest (map (arm_most (stack_costs tree)) xs) ≤ 2 * greatest (map (arm_most nesting_costs) xs) + UNIT_FRAMES * greatest (map (arm_most (depth_costs tree)) xs)
+  stacked_arms : (xs : List Arm) → Each (InArm Stacked) xs → Within (λ k. greatest (map (arm_most k) xs))
   stacked_arms [] each = omega arith
   stacked_arms (x ∷ xs) each = omega (arith, most_arm (stack_costs tree) x, most_arm nesting_costs x, most_arm (depth_costs tree) x, stacked_list x.body each.0, stacked_arms xs each.1)
 
-  stacked_cases : (xs : List CaseArm) → Each (InCase Stacked) xs → greatest (map (case_most (stack_costs tree)) xs) ≤ 2 * greatest (map (case_most nesting_costs) xs) + UNIT_FRAMES * greatest (map (case_most (depth_costs tree)) xs)
+  stacked_cases : (xs : List CaseArm) → Each (InCase Stacked) xs → Within (λ k. greatest (map (case_most k) xs))
   stacked_cases [] each = omega arith
   stacked_cases (x ∷ xs) each = omega (arith, most_case_arm (stack_costs tree) x, most_case_arm nesting_costs x, most_case_arm (depth_costs tree) x, stacked_list x.body each.0, stacked_cases xs each.1)
 

@@ -165,7 +165,14 @@ module _ (tree : StProgram) (capacity : ℕ) (ws : List Frame) (s : Parts) where
               on_top tree.globals (calls_to u tree) vs us (frame.Rest b) (Normal u (state_of s)) d
               ∙ on_top tree.globals (calls_to u tree) ws vs (frame.Again t b) (body_meaning tree.globals (calls_to u tree) b.now u (state_of s)) e
               ∙ test_goes_on tree u ws (state_of s) t.now b.now x;
-          ready = record { sound = r.sound; count = omega (arith, n, r.count); frames = omega (arith, h (stack_costs tree), r.frames); depth = omega (arith, h (depth_costs tree), r.depth); actuals = omega (arith, h (misfit_costs tree), r.actuals) };
+          ready =
+              record {
+                sound = r.sound;
+                count = omega (arith, n, r.count);
+                frames = omega (arith, h (stack_costs tree), r.frames);
+                depth = omega (arith, h (depth_costs tree), r.depth);
+                actuals = omega (arith, h (misfit_costs tree), r.actuals);
+              };
         }
 
 -- Calls
@@ -225,7 +232,8 @@ module _ (tree : StProgram) (runnable : IsRunnable tree) (capacity : ℕ) (ws : 
   call_may unit e =
       let same = fits (length b.now) (formals_of_unit (slice_get tree.pous n)) (omega (arith, r.actuals)) in
       let few = chain_small in
-      (most_locals tree.pous, most_formals tree.pous, record { sound = r.sound; few = omega (arith, few, chain_some tree n, r.count); locals_fit = locals_at tree.pous n unit e; actuals_fit = omega (arith, same, formals_at tree.pous n unit e) })
+      let given = formals_at tree.pous n unit e in
+      (most_locals tree.pous, most_formals tree.pous, record { sound = r.sound; few = omega (arith, few, chain_some tree n, r.count); locals_fit = locals_at tree.pous n unit e; actuals_fit = omega (arith, same, given) })
 
   pub call_fault : (unit : Pou) (t : Parts) (f : Fault) → slice_get tree.pous n ≡ Some unit
       → Changes (and_then (located_actuals tree.globals b.now (state_of s)) (λ formals. Ok (entered unit formals (state_of s)))) (Err f) (state_of s) (state_of t)

@@ -227,7 +227,8 @@ module _ (tree : StProgram) (waiting : List Pou) (unit : Pou) where
 
     reference_typed : (ty : StType) (r : Reference) → StandsFor running ty r → Typed (Some ty) (read_at r s)
     reference_typed ty (reference.Register r) e = record { type = e; number = rw e at (h.registers r) }
-    reference_typed ty (reference.Local d i) e = rw (e, Typed) at (local_fits [] running s.activations d i h.activations)
+    reference_typed ty (reference.Local d i) e =
+        rw (e, Typed) at (local_fits [] running s.activations d i h.activations)
     reference_typed ty (reference.Place p t) e =
         subst (λ (u : StType). Typed (Some u) (read_at (reference.Place p t) s)) e (place_typed t p s.memory)
 
@@ -261,7 +262,8 @@ module _ (tree : StProgram) (waiting : List Pou) (unit : Pou) where
         on_both (type_of_choice g) (λ v w. Ok (chosen on v w)) (choice_typed on g) a.0 b.0 (a.1 s) (b.1 s) a.2 b.2)
         gate.0 (gate.1 s) gate.2
     layers (E.Shift op a b) =
-        on_both type_of_shift (λ v count. Ok (shift_value op v count)) (shifted_typed op) a.0 b.0 (a.1 s) (b.1 s) a.2 b.2
+        on_both type_of_shift (λ v count. Ok (shift_value op v count)) (shifted_typed op) a.0 b.0 (a.1 s) (b.1 s)
+        a.2 b.2
     layers (E.AreaRead w a) =
         on_then (type_of_read w) (λ p. area_read w p s) (λ ty p i. area_typed w ty p s) a.0 (a.1 s) a.2
 
@@ -534,7 +536,8 @@ module _ (tree : StProgram) (waiting : List Pou) (unit : Pou) where
         registers = h.registers;
         memory = h.memory;
         activations =
-            rw (depth_is [] all_running callee s h.activations) (popped_fits [] all_running s.activations callee h.activations);
+            rw (depth_is [] all_running callee s h.activations)
+            (popped_fits [] all_running s.activations callee h.activations);
       }
 
   after_ends : (callee : Pou) (o : Out) → EndsFit tree all_running callee o → EndsFit tree waiting unit (after_unit o)
@@ -591,7 +594,8 @@ module _ (tree : StProgram) (waiting : List Pou) (unit : Pou) where
   actuals_are (f ∷ fs) (v ∷ vars) s h good =
       let parts = and_parts (has_type f.ty (variable_type own_sight v)) (are_given own_sight fs vars) good in
       one_more f fs (located_actual tree.globals v s) (located_actuals tree.globals vars s)
-      (rw (type_had f.ty (variable_type own_sight v) parts.0, Refers) at (actual_refers v s h)) (actuals_are fs vars s h parts.1)
+      (rw (type_had f.ty (variable_type own_sight v) parts.0, Refers) at (actual_refers v s h))
+      (actuals_are fs vars s h parts.1)
 
   -- Calls
 
@@ -611,8 +615,7 @@ module _ (tree : StProgram) (waiting : List Pou) (unit : Pou) where
         → EndsFit tree waiting unit (called (unit_step tree calls o) (located_actuals tree.globals actuals s) u s)
     found_ends n None actuals u s e good h = cc
     found_ends n (Some callee) actuals u s e good h =
-        let given =
-        (and_parts (not callee.program && is_seen own_sight callee.name) (are_given own_sight callee.formals actuals) good).1 in
+        let given = (and_parts _ _ good).1 in
         called_ends n callee (located_actuals tree.globals actuals s) u s e h
         (actuals_are callee.formals actuals s h given)
 

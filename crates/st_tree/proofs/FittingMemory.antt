@@ -157,7 +157,8 @@ pub place_holds : (ty : StType) (p : Place) (v : Value) (m : Contents) → Holds
 place_holds type.Bool p v m h = bit_holds p (is_set v) m h
 place_holds type.Byte p v m h =
     let small = pattern_below 8 v.n in
-    new_holds p width.Byte (pattern 8 v.n ∷ []) m (one_more (pattern 8 v.n) [] (omega (arith, small)) (All-nil IsByte)) h
+    new_holds p width.Byte (pattern 8 v.n ∷ []) m
+    (one_more (pattern 8 v.n) [] (omega (arith, small)) (All-nil IsByte)) h
 place_holds type.Word p v m h =
     new_holds p width.Word (bytes_of_word (pattern 16 v.n)) m (word_small (pattern 16 v.n) (pattern_below 16 v.n)) h
 place_holds type.Int p v m h =

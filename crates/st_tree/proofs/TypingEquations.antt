@@ -76,7 +76,8 @@ pub ruleset typed_equations = (
 module _ (sight : Sight) (inside : Bool) where
   good : {x : Stmt} (y : S.Stmt-F Stmt Arm CaseArm) → roll-Stmt y ≡ x → is_well_typed sight x inside
       ≡ statement_step sight
-      (map-Stmt Stmt Arm CaseArm Check Check CaseCheck (is_well_typed sight) (is_arm sight) (is_case_arm sight) y) inside
+      (map-Stmt Stmt Arm CaseArm Check Check CaseCheck (is_well_typed sight) (is_arm sight) (is_case_arm sight) y)
+      inside
   good y e =
       ap (λ (check : Check). check inside)
       (fold_stmt Check Check CaseCheck (statement_step sight) (arm_step sight) case_step y e)
