@@ -1,6 +1,6 @@
 -- Chains of calls, and what statements cost by several measures; what a body costs by its calls alone is the
 -- greatest that the units give which it calls.
-use Rattle.std.proofs.Common.{◌≡◌, ℕ, List, [], ◌∷◌, map, refl, sym, ◌∙◌, arith, zero, suc, ◌+◌, ◌*◌, ◌<◌, ◌≤◌, max, Option, Some, None, ap, subst}
+use Rattle.std.proofs.Common.{◌≡◌, ℕ, List, [], ◌∷◌, map, refl, sym, ◌∙◌, arith, zero, suc, ◌+◌, ◌*◌, ◌<◌, ◌≤◌, Option, Some, None, ap}
 use Rattle.st_runner.proofs.Costs.{most_arm, most_case_arm, most_stmt}
 use Rattle.st_runner.specs.inner.Costs.{Costs, arm_most, body_most, case_most, most, most_step}
 use Rattle.st_runner.specs.inner.Runnable.{chain_costs, IsRunnableUnit, nesting_costs}
@@ -16,8 +16,7 @@ use Rattle.std.specs.Prelude.{slice_get}
 use Rattle.memory_areas.specs.declared.sizes.TheConstants.{ACTIVATIONS}
 use Rattle.st_runner.specs.inner.Measures.{depth_costs, stack_costs}
 use Rattle.st_tree.specs.Chains.{called_in, chain_of, chain_to, unit_chain}
-use Rattle.st_runner.specs.declared.steps.TheConstants.{MOST_NESTING, UNIT_FRAMES}
-use Rattle.st_tree.specs.declared.expr.Var.{Var}
+use Rattle.st_runner.specs.declared.steps.TheConstants.{UNIT_FRAMES}
 use Rattle.st_tree.specs.declared.program.Pou.{Pou}
 use Rattle.st_tree.specs.declared.program.StProgram.{StProgram}
 

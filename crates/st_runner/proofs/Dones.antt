@@ -1,5 +1,5 @@
 -- Each statement that needs no unit is done as it means, and costs no more than it may.
-use Rattle.std.proofs.Common.{◌≡◌, ℕ, Bool, true, false, if◌then◌else◌, ℤ, List, [], ◌∷◌, map, Some, Result, Ok, Err, refl, sym, ap, ◌∙◌, ◌+◌, ◌≤◌, max, Bor, ◌++◌, Option, subst, arith}
+use Rattle.std.proofs.Common.{◌≡◌, ℕ, Bool, true, false, if◌then◌else◌, ℤ, List, [], ◌∷◌, map, Some, Result, Ok, Err, refl, sym, ap, ◌∙◌, ◌+◌, ◌≤◌, Bor, ◌++◌, subst, arith}
 use Rattle.memory_areas.specs.Access.{and_then}
 use Rattle.s7_base.specs.declared.outcome.Fault.{Fault}
 use Rattle.st_runner.specs.inner.Choice.{has_label, labelled, picked}
@@ -22,7 +22,7 @@ use Rattle.st_tree.specs.declared.state.Value.{Value}
 use Rattle.st_tree.proofs.Equations.{meaning_arm, meaning_case, meaning_case_arm, meaning_if, meaning_area_write, meaning_assign, meaning_continue, meaning_exit, meaning_return}
 use Rattle.s7_base.specs.declared.word.Width.{Width}
 use Rattle.st_runner.specs.inner.Leaving.{Leaves}
-use Rattle.st_runner.specs.inner.Measures.{body_weight, reach, sizes, tall, unit_costs, units, weight, work_weight}
+use Rattle.st_runner.specs.inner.Measures.{body_weight, unit_costs, weight}
 use Rattle.st_runner.specs.inner.Costs.{Costs, body_most, most}
 use Rattle.st_runner.specs.inner.Ready.{Done, next_of}
 use Rattle.st_runner.specs.inner.View.{Changes}

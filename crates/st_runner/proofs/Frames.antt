@@ -1,5 +1,5 @@
 -- Activations by their number, and those that begin and end.
-use Rattle.std.proofs.Common.{◌≡◌, ℕ, zero, suc, ◌+◌, ◌<◌, ◌≤◌, List, [], ◌∷◌, length, map, slice_index_or, slice_set, Some, None, Result, Ok, refl, sym, ap, subst, ◌∙◌, arith, ◌++◌}
+use Rattle.std.proofs.Common.{◌≡◌, ℕ, zero, suc, ◌+◌, ◌<◌, ◌≤◌, List, [], ◌∷◌, length, map, slice_index_or, slice_set, Result, Ok, refl, sym, ap, subst, ◌∙◌, arith, ◌++◌}
 use Rattle.std.specs.Prelude.{IfOk, slice_get, vec_capacity}
 use Rattle.std.specs.Vec.{with_item}
 use Rattle.st_runner.specs.inner.View.{AreFrames, AreHeld, AreReachable, IsLocal, IsReachable, IsRunning, IsSound, seen, state_of, IsFrame}
@@ -9,7 +9,7 @@ use Rattle.st_runner.specs.declared.state.State.{State as Parts}
 use Rattle.memory_areas.specs.Access.{and_then}
 use Rattle.s7_base.specs.declared.outcome.Fault.{Fault}
 use Rattle.memory_areas.specs.declared.sizes.TheConstants.{ACTIVATIONS}
-use Rattle.st_tree.specs.State.{Activation, depth, formals_of, locals_of, there, with_local}
+use Rattle.st_tree.specs.State.{Activation, depth, formals_of, there, with_local}
 use Rattle.st_tree.specs.declared.program.Located.{Located}
 use Rattle.st_tree.specs.declared.state.Reference.{Reference}
 use Rattle.st_tree.specs.declared.state.Reference.TheVariants as reference

@@ -1,5 +1,5 @@
 -- What callers see of a runner is what it is made of; and where a run begins.
-use Rattle.std.proofs.Common.{◌≡◌, ℕ, List, [], ◌∷◌, map, refl, ap, ◌∙◌, suc, ◌+◌, ◌*◌, ◌≤◌, Bool, true, false, if◌then◌else◌, Bor, length, Option, Some, None, sym, subst, arith}
+use Rattle.std.proofs.Common.{◌≡◌, ℕ, List, [], ◌∷◌, map, refl, ap, ◌∙◌, ◌+◌, ◌*◌, ◌≤◌, Bor, length, Option, Some, sym, subst, arith}
 use Rattle.st_runner.specs.inner.Plain.{coming, pending}
 use Rattle.st_runner.specs.inner.Ready.{IsSettled, IsReady, most_formals, most_locals}
 use Rattle.st_runner.specs.Standing.{Shows, all_followed, end_by, followed}
@@ -16,7 +16,7 @@ use Rattle.st_tree.specs.State.{State}
 use Rattle.st_tree.specs.Value.{value}
 use Rattle.st_tree.specs.declared.program.Located.{Located}
 use Rattle.st_tree.specs.declared.program.StProgram.{StProgram}
-use Rattle.std.specs.Prelude.{find, slice_get}
+use Rattle.std.specs.Prelude.{slice_get}
 use Rattle.std.specs.List.{position_or_len}
 use Rattle.std.proofs.lemmas.List.Folds.{find_at}
 use Rattle.memory_areas.specs.Areas.{Areas}
@@ -30,7 +30,6 @@ use Rattle.s7_base.specs.declared.word.Width.{Width}
 use Rattle.st_runner.specs.inner.Measures.{reach, units, depth_costs, stack_costs}
 use Rattle.st_runner.specs.inner.Costs.{Costs, body_most}
 use Rattle.st_runner.specs.inner.Runnable.{IsRunnable, formals_of_unit, misfit_costs}
-use Rattle.st_tree.specs.Chains.{chain_of}
 use Rattle.st_runner.specs.inner.View.{AreReachable, IsSound}
 use Rattle.st_runner.specs.declared.state.State.{State as Parts}
 use Rattle.st_runner.specs.declared.steps.TheConstants.{UNIT_FRAMES}

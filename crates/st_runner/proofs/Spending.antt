@@ -1,5 +1,5 @@
 -- What takes a unit: the test of a loop and a call.
-use Rattle.std.proofs.Common.{◌≡◌, ℕ, suc, ◌+◌, ◌≤◌, Bool, true, false, if◌then◌else◌, List, [], ◌∷◌, Option, Some, Result, Ok, Err, sym, ap, subst, ◌∙◌, arith, zero, ◌*◌, ◌<◌, max, Bor, ◌++◌, length, None, refl}
+use Rattle.std.proofs.Common.{◌≡◌, ℕ, suc, ◌+◌, ◌≤◌, Bool, true, false, if◌then◌else◌, List, [], ◌∷◌, Option, Some, Result, Ok, Err, sym, ap, subst, ◌∙◌, arith, zero, ◌<◌, max, Bor, ◌++◌, length, refl}
 use Rattle.std.specs.Prelude.{slice_get, ◌==◌, slice_index_or}
 use Rattle.memory_areas.specs.Access.{and_then}
 use Rattle.s7_base.specs.declared.outcome.Fault.{Fault}
@@ -25,12 +25,11 @@ use Rattle.st_tree.specs.declared.state.Value.{Value}
 use Rattle.st_tree.proofs.Units.{CallsFollow, Follows, body_follows, calls_follow, follows_same, none_more, statements_follow, then_follows, turns_follow, unit_follows}
 use Rattle.std.proofs.lemmas.Bool.Decides.{nat_tests}
 use Rattle.std.proofs.lemmas.Option.{slice_get-get_or, slice_get_within}
-use Rattle.st_runner.specs.declared.steps.TheConstants.{UNIT_FRAMES}
 use Rattle.memory_areas.specs.declared.sizes.TheConstants.{ACTIVATIONS}
 use Rattle.st_runner.specs.inner.Measures.{frame_tall, reach, size, sizes, tall, unit_costs, units, depth_costs, stack_costs}
 use Rattle.st_runner.specs.inner.Costs.{Costs, body_most}
 use Rattle.st_runner.specs.inner.Ready.{IsReady, Spent, most_formals, most_locals}
-use Rattle.st_runner.specs.inner.Runnable.{IsRunnable, formals_of_unit, misfit, misfit_costs}
+use Rattle.st_runner.specs.inner.Runnable.{IsRunnable, formals_of_unit, misfit_costs}
 use Rattle.st_tree.specs.Chains.{chain_of}
 use Rattle.st_runner.specs.inner.View.{Changes, IsSound, MayEnter, state_of}
 use Rattle.st_runner.specs.declared.frame.At.{At}

@@ -7,7 +7,7 @@ use Rattle.st_runner.specs.inner.Costs.{Costs}
 use Rattle.st_runner.specs.inner.Waiting.{framed, unwound, ending}
 use Rattle.st_runner.specs.declared.frame.Frame.{Frame}
 use Rattle.st_runner.specs.declared.frame.Frame.TheVariants as frame
-use Rattle.st_tree.specs.Meaning.{Out, Faults, NoUnits, Calls, Normal, Exits}
+use Rattle.st_tree.specs.Meaning.{Out, Faults, NoUnits, Calls, Normal}
 use Rattle.st_tree.specs.State.{State}
 use Rattle.st_tree.specs.declared.program.Located.{Located}
 use Rattle.st_runner.specs.inner.Leaving.{Leaves}

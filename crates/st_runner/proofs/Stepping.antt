@@ -1,7 +1,6 @@
 -- What needs no unit, frame by frame.
-use Rattle.std.proofs.Common.{◌≡◌, ℕ, ◌+◌, ◌<◌, ◌≤◌, max, Bor, List, [], ◌∷◌, ◌++◌, length, None, refl, sym, ap, subst, ◌∙◌, arith}
-use Rattle.memory_areas.specs.declared.sizes.TheConstants.{ACTIVATIONS}
-use Rattle.st_runner.specs.inner.Measures.{body_weight, frame_tall, frame_weight, reach, sizes, tall, unit_costs, units, weight, work_weight, depth_costs, stack_costs}
+use Rattle.std.proofs.Common.{◌≡◌, ℕ, ◌+◌, ◌≤◌, max, Bor, List, [], ◌∷◌, ◌++◌, length, refl, sym, ap, ◌∙◌, arith}
+use Rattle.st_runner.specs.inner.Measures.{body_weight, frame_tall, frame_weight, sizes, tall, unit_costs, units, weight, work_weight, depth_costs, stack_costs}
 use Rattle.st_runner.specs.inner.Costs.{Costs, body_most, most}
 use Rattle.st_runner.specs.inner.Ready.{Done, IfWork, IsReady, Stepped, most_formals, most_locals}
 use Rattle.st_runner.specs.inner.Runnable.{misfit_costs}
@@ -15,7 +14,7 @@ use Rattle.st_runner.specs.declared.state.State.{State as Parts}
 use Rattle.st_runner.proofs.Frames.{sound_running}
 use Rattle.st_runner.proofs.Stack.{sizes_tall, on_top, top_sizes, top_tall, top_weight}
 use Rattle.st_tree.specs.Calls.{left}
-use Rattle.st_tree.specs.Meaning.{Calls, Out, Normal, Exits, Continues, Returns, Faults, NoUnits, body_meaning, meaning, then_do}
+use Rattle.st_tree.specs.Meaning.{Calls, Out, Normal, body_meaning, meaning, then_do}
 use Rattle.st_tree.specs.State.{State}
 use Rattle.st_tree.specs.declared.expr.Expr.{Expr}
 use Rattle.st_tree.specs.declared.program.StProgram.{StProgram}

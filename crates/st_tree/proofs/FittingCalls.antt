@@ -3,8 +3,8 @@
 -- fits.
 use Rattle.std.specs.List.{list_any}
 use Rattle.std.specs.Ordering.{int_eq}
-use Rattle.std.specs.Prelude.{◌≡◌, ℕ, zero, suc, ℤ, Bool, true, false, ◌&&◌, List, [], ◌∷◌, ◌++◌, length, slice_get, Option, Some, None, Result, Ok, Err, if◌then◌else◌, slice_set, map, get_or, not, pos, take, All, Contains, option_map}
-use Rattle.std.proofs.Common.{refl, sym, ap, ◌∙◌, subst, arith, append-nil, append_assoc, eqb-true, length-append}
+use Rattle.std.specs.Prelude.{◌≡◌, ℕ, zero, suc, ℤ, Bool, true, false, ◌&&◌, List, [], ◌∷◌, ◌++◌, length, slice_get, Option, Some, None, Result, Ok, Err, if◌then◌else◌, slice_set, map, get_or, pos, take, All, Contains, option_map}
+use Rattle.std.proofs.Common.{refl, sym, ap, ◌∙◌, subst, arith, append-nil, append_assoc, eqb-true}
 use Rattle.std.proofs.lemmas.Bool.Decides.{Decides-int_eq}
 use Rattle.memory_areas.specs.Access.{and_then, aimed, fault_of, unless}
 use Rattle.memory_areas.specs.Areas.{Contents}
@@ -19,11 +19,11 @@ use Rattle.st_tree.specs.Meaning.{Out, Normal, Continues, Sem, Calls, after_body
 use Rattle.st_tree.specs.Naming.{is_conversion}
 use Rattle.st_tree.specs.Operators.{binary_value, chosen, converted, shift_value, unary_value}
 use Rattle.st_tree.specs.PlaceRules.{is_block_number, is_place}
-use Rattle.st_tree.specs.State.{Activation, State, depth, formals_of, locals_of, read, read_at, reference_of, there, type_of_register, area_write, is_same_register, pointed_at, with_local, with_register, write, write_at, write_place, area_read}
+use Rattle.st_tree.specs.State.{Activation, State, depth, locals_of, read_at, reference_of, there, type_of_register, area_write, is_same_register, pointed_at, with_local, with_register, write, write_at, write_place, area_read}
 use Rattle.st_tree.specs.TypeRules.{where_true, type_of_binary, type_of_choice, type_of_conversion, type_of_read, type_of_shift, type_of_unary}
 use Rattle.st_tree.specs.Value.{value, Worth, value_step}
 use Rattle.st_tree.specs.Values.{Value, fit, type_of_width, is_set, width_at}
-use Rattle.st_tree.specs.WellTyped.{Sight, expression_type, is_seen, is_value, sight_in, type_inside, type_outside, variable_type, are_well_typed, each, each_case, is_arm, is_assigned, is_case_arm, is_well_typed, expression_step, on_type, Head, are_given, has_type, head_of, is_call}
+use Rattle.st_tree.specs.WellTyped.{Sight, expression_type, is_seen, is_value, sight_in, type_inside, type_outside, variable_type, are_well_typed, each, each_case, is_arm, is_assigned, is_case_arm, is_well_typed, expression_step, on_type, are_given, has_type, head_of, is_call}
 use Rattle.st_tree.specs.declared.expr.Expr.{Expr}
 use Rattle.st_tree.specs.declared.expr.Expr.TheOpen as E
 use Rattle.st_tree.specs.declared.expr.StType.{StType}
@@ -46,7 +46,6 @@ use Rattle.st_tree.proofs.Induction.{Each, InArm, InCase, StmtSteps, every_body,
 use Rattle.st_tree.proofs.TypedParts.{body_of_case, both_sides, parts_of_arm, parts_of_arms, parts_of_body, parts_of_case, parts_of_cases, parts_of_if, parts_of_while}
 use Rattle.st_tree.proofs.TypingEquations.{good_assign, good_invoke, type_had}
 use Rattle.std.proofs.lemmas.Bool.{and_parts}
-use Rattle.std.proofs.lemmas.List.{get_or_append_left}
 use Rattle.std.proofs.lemmas.List.Elements.{All-pop, All-push}
 use Rattle.std.proofs.lemmas.Option.{get_or_from_slice_get, slice_get-map, slice_get_within}
 use Rattle.st_tree.specs.Calls.{activation_of, after_unit, called, calls_to, entered, invoked, left, located_actual, located_actuals, tested, unit_step, zero_of}

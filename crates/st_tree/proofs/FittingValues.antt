@@ -1,7 +1,7 @@
 -- What operators give is of the type that the rules say, by one lemma a class of operators.
-use Rattle.std.specs.Prelude.{◌≡◌, ℕ, ◌-◌, ◌<◌, ◌^◌, ◌%◌, Bool, true, false, ◌&&◌, nat_lt, if◌then◌else◌, ℤ, pos, negsuc, int_lt, Option, Some, None, Result, Ok, Err}
+use Rattle.std.specs.Prelude.{◌≡◌, ℕ, ◌<◌, ◌^◌, Bool, true, false, ◌&&◌, if◌then◌else◌, ℤ, pos, negsuc, int_lt, Option, Some, None, Result, Ok, Err}
 use Rattle.std.specs.Ordering.{int_eq}
-use Rattle.std.proofs.Common.{refl, sym, ap, ◌∙◌, subst, arith, mod-eq_of_lt, pow_pos}
+use Rattle.std.proofs.Common.{refl, sym, ap, ◌∙◌, subst, arith, pow_pos}
 use Rattle.std.proofs.lemmas.Int.{ints}
 use Rattle.std.proofs.lemmas.Bool.{and_parts}
 use Rattle.memory_areas.specs.Access.{and_then, read_bit}
@@ -15,7 +15,7 @@ use Rattle.st_tree.specs.Naming.{is_conversion}
 use Rattle.st_tree.specs.Operators.{binary_value, chosen, converted, from_digits, shift_value, unary_value}
 use Rattle.st_tree.specs.State.{State, area_read, pointed_at, read_place}
 use Rattle.st_tree.specs.TypeRules.{has_bits, is_type, type_of_binary, type_of_choice, type_of_conversion, type_of_read, type_of_shift, type_of_unary, type_on_equals, where_true}
-use Rattle.st_tree.specs.Values.{Value, fit, flag, is_set, number, pattern, type_of_width, typed}
+use Rattle.st_tree.specs.Values.{Value, fit, flag, is_set, pattern, type_of_width, typed}
 use Rattle.st_tree.specs.WellTyped.{on_type}
 use Rattle.st_tree.specs.declared.expr.BinaryOp.{BinaryOp}
 use Rattle.st_tree.specs.declared.expr.BinaryOp.TheVariants as binary

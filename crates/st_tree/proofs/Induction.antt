@@ -1,6 +1,6 @@
 -- Induction over expressions and over statements: a fact holds of each where it is shown at each variant, with
 -- the fact of the parts.
-use Rattle.std.specs.Prelude.{◌≡◌, ℕ, ℤ, List, [], ◌∷◌, map}
+use Rattle.std.specs.Prelude.{ℕ, ℤ, List, [], ◌∷◌, map}
 use Rattle.std.proofs.Common.{sym, subst}
 use Rattle.s7_base.specs.declared.word.Width.{Width}
 use Rattle.st_tree.specs.declared.expr.BinaryOp.{BinaryOp}

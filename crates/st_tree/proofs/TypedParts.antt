@@ -1,10 +1,8 @@
 -- What the parts of a well typed statement keep.
-use Rattle.std.specs.Prelude.{◌≡◌, Bool, true, ◌&&◌, List, ◌∷◌, map, Option, Some, None}
-use Rattle.std.specs.List.{list_all}
+use Rattle.std.specs.Prelude.{◌≡◌, Bool, true, List, ◌∷◌, map, Option, Some, None}
 use Rattle.std.proofs.Common.{refl, sym, ◌∙◌}
 use Rattle.std.proofs.lemmas.Bool.{and_parts}
-use Rattle.st_tree.specs.TypeRules.{is_selector}
-use Rattle.st_tree.specs.WellTyped.{CaseCheck, Sight, are_cases, are_well_typed, each, each_case, expression_type, has_type, is_arm, is_assigned, is_case_arm, is_some_of, is_value, is_well_typed}
+use Rattle.st_tree.specs.WellTyped.{CaseCheck, Sight, are_cases, are_well_typed, each, each_case, expression_type, has_type, is_arm, is_assigned, is_case_arm, is_well_typed}
 use Rattle.st_tree.specs.declared.expr.Expr.{Expr}
 use Rattle.st_tree.specs.declared.expr.StType.{StType}
 use Rattle.st_tree.specs.declared.expr.StType.TheVariants as type

@@ -1,12 +1,9 @@
-use Rattle.std.proofs.Common.{◌≡◌, ◌+◌, ◌≤◌, List, length, slice_index_or, Some, Ok, Err, sym, ap, subst, ◌∙◌, arith}
-use Rattle.std.specs.Prelude.{vec_capacity}
-use Rattle.std.specs.Vec.{vec_len}
+use Rattle.std.proofs.Common.{◌≡◌, List, Ok, Err, subst, arith}
 use Rattle.memory_areas.specs.Access.{and_then}
 use Rattle.st_runner.specs.inner.View.{Changes, IsDeeper, state_of}
 use Rattle.st_runner.proofs.Spending.{call_done, call_fault, call_may, call_room, call_unit}
 use Rattle.st_tree.specs.Calls.{entered, located_actuals}
 use Rattle.st_tree.specs.declared.program.Located.{Located}
-use Rattle.st_tree.specs.declared.program.Pou.{Pou}
 use Rattle.st_runner.proofs.steps.spend_call.Goals as goal
 
 pub enter-requires-clause-may : goal.enter-requires-clause-may

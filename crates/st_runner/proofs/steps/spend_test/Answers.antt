@@ -1,6 +1,4 @@
-use Rattle.std.proofs.Common.{◌≡◌, ◌+◌, ◌≤◌, true, false, List, length, Ok, Err, sym, ap, subst, ◌∙◌, arith}
-use Rattle.std.specs.Prelude.{vec_capacity}
-use Rattle.std.specs.Vec.{vec_len}
+use Rattle.std.proofs.Common.{◌≡◌, true, false, List, Ok, Err, sym, ap, subst, ◌∙◌, arith}
 use Rattle.memory_areas.specs.Access.{and_then}
 use Rattle.st_runner.specs.inner.View.{state_of}
 use Rattle.st_runner.proofs.Spending.{fault_is, test_false, test_fault, test_room, test_true}
