@@ -1,7 +1,6 @@
 -- Whether a WHILE is open does not depend on the order in which the frames are looked at.
-use Rattle.std.proofs.Common.{◌≡◌, Bool, true, false, List, [], ◌∷◌, ◌++◌, map, reverse, refl, sym, ap, ◌∙◌}
-use Rattle.std.specs.Prelude.{◌||◌}
-use Rattle.std.specs.List.{list_any}
+use Rattle.st_tree.proofs.Common.{◌≡◌, Bool, true, false, List, [], ◌∷◌, ◌++◌, map, refl, sym, ap, ◌∙◌, ◌||◌, list_any}
+use Rattle.std.proofs.Common.{reverse}
 use Rattle.std.proofs.lemmas.List.{reverse-append}
 use Rattle.st_grammar.specs.inner.Machine.{code, Frame}
 use Rattle.st_grammar.specs.inner.Steps.{is_loop, in_loop}

@@ -1,8 +1,5 @@
 -- Where a data block goes among others.
-use Rattle.std.proofs.Common.{◌≡◌, ℕ, ◌+◌, Bool, true, false, cond, nat_lt, List, [], ◌∷◌, suc, refl, ap, ◌∙◌, arith}
-use Rattle.std.specs.Prelude.{insert}
-use Rattle.std.specs.List.{prefix_len}
-use Rattle.memory_areas.specs.declared.data_block.DataBlock.{DataBlock}
+use Rattle.st_tree.proofs.Common.{◌≡◌, ℕ, ◌+◌, Bool, true, false, cond, nat_lt, List, [], ◌∷◌, suc, refl, ap, ◌∙◌, arith, insert, prefix_len, DataBlock}
 use Rattle.st_rules.specs.Globals.{inserted}
 
 further : (n : ℕ) (c b : DataBlock) (cs : List DataBlock) → insert (c ∷ cs) (1 + n) b ≡ c ∷ insert cs n b

@@ -1,20 +1,14 @@
 -- At the end of a text the pass is over.
-use Rattle.std.proofs.Common.{◌≡◌, ℕ, Bool, true, false, List, [], ◌∷◌, ◌++◌, Option, Some, None, Result, Ok, Err, map, refl, sym, subst}
-use Rattle.std.specs.Prelude.{IfSome, nat_lt, if◌then◌else◌, option_map}
-use Rattle.s7_base.specs.declared.reason.Line.{Line}
+use Rattle.st_tree.proofs.Common.{◌≡◌, ℕ, Bool, true, false, List, [], ◌∷◌, ◌++◌, Option, Some, None, Result, Ok, Err, map, refl, sym, subst, IfSome, nat_lt, if◌then◌else◌, option_map, Line, Rejection, weakest}
 use Rattle.s7_base.specs.declared.reason.Reason.TheVariants.{TooDeep}
-use Rattle.s7_base.specs.declared.reason.Rejection.{Rejection}
 use Rattle.s7_base.specs.declared.reason.Rejection.TheVariants.{Refused}
-use Rattle.st_grammar.specs.inner.Judge.{after_token, level_reached, judged, on_good, judge_tokens, text_in}
-use Rattle.st_grammar.specs.Levels.{deepest}
+use Rattle.st_grammar.proofs.Common.{after_token, level_reached, judged, on_good, judge_tokens, text_in, deepest, code, Frame, unary, left, bracket, argument, waiting, within, Argument, Need, OuterStatement, Part, target, write_open, first_formal, next_formal, becoming, giving, given, first_label, next_label, labelled, Place, statement, part, closing, operand, operator, opening, BodyState, Row, State, start, globals, row, between, heading, opened, formals_done, section, typing, inside, over, SectionKind, formals, temps, reduce, closed, in_body, step_at, row_step, next, Lined, all_lined}
 use Rattle.st_grammar.specs.inner.Machine as machine
-use Rattle.st_grammar.specs.inner.Machine.{code, Frame, unary, left, bracket, argument, waiting, within, Argument, Need, OuterStatement, Part, target, write_open, first_formal, next_formal, becoming, giving, given, first_label, next_label, labelled, Place, statement, part, closing, operand, operator, opening, BodyState, Row, State, start, globals, row, between, heading, opened, formals_done, section, typing, inside, over, SectionKind, formals, temps}
-use Rattle.st_grammar.specs.inner.Steps.{reduce, closed, in_body, at_part, step_at, row_step, at_typing, next}
-use Rattle.st_grammar.specs.Syntax.{Lined, all_lined, end_on, lined}
+use Rattle.st_grammar.specs.inner.Steps.{at_part, at_typing}
+use Rattle.st_grammar.specs.Syntax.{end_on, lined}
 use Rattle.st_grammar.specs.declared.kind.Fixed.TheVariants as fixed
 use Rattle.st_grammar.specs.declared.kind.Kind.{Kind}
 use Rattle.st_grammar.specs.declared.kind.Kind.TheVariants as kind
-use Rattle.st_tree.specs.Form.{weakest}
 use Rattle.st_tree.specs.declared.raw.RawVar.TheVariants as var
 use Rattle.st_tree.specs.declared.token.StToken.{StToken}
 

@@ -1,19 +1,9 @@
 -- Digits to a base that stand for a number: those of a decimal, and hexadecimal ones.
-use Rattle.std.proofs.Common.{◌≡◌, ℕ, zero, suc, ◌+◌, ◌-◌, ◌*◌, ◌/◌, ◌%◌, ◌^◌, ◌<◌, ◌≤◌, Bool, true, false, not, ◌==◌, List, [], ◌∷◌, ◌++◌, length, take, refl, ap, ◌∙◌, arith, length-append}
-use Rattle.std.specs.Prelude.{if◌then◌else◌, nat_lt, min, decimal}
-use Rattle.std.specs.List.{list_all}
-use Rattle.std.proofs.lemmas.Bool.Decides.{nat_tests}
-use Rattle.std.proofs.lemmas.Fmt.{decimal_by_steps}
-use Rattle.std.proofs.lemmas.List.Folds.{list_all-append}
-use Rattle.std.proofs.Math.Seq.{take-append_seam}
-use Rattle.digit_texts.specs.Digits.{hex_digit}
-use Rattle.s7_base.specs.Tokens.{is_word_byte}
+use Rattle.st_tree.proofs.Common.{◌≡◌, ℕ, zero, suc, ◌+◌, ◌-◌, ◌*◌, ◌/◌, ◌%◌, ◌^◌, ◌<◌, ◌≤◌, Bool, true, false, not, ◌==◌, List, [], ◌∷◌, ◌++◌, length, take, refl, ap, ◌∙◌, arith, length-append, if◌then◌else◌, nat_lt, min, decimal, list_all, nat_tests, decimal_by_steps, list_all-append, take-append_seam, hex_digit, is_word_byte, hexadecimal}
 use Rattle.st_lexer.proofs.Words.{and_both, not_true}
-use Rattle.st_lexer.specs.Literals.{digit_value, is_digit_to, begins_with_digit, digits_size, with_digit, value_from, digits_behind}
-use Rattle.st_lexer.specs.Spelled.{ends_word}
-use Rattle.st_lexer.specs.declared.number.Base.{Base}
+use Rattle.st_lexer.proofs.Common.{is_digit_to, begins_with_digit, digits_size, value_from, digits_behind, ends_word, Base}
+use Rattle.st_lexer.specs.Literals.{digit_value, with_digit}
 use Rattle.st_lexer.specs.declared.number.Base.TheVariants.{Two, Eight, Ten, Sixteen}
-use Rattle.st_tree.specs.Spelling.{hexadecimal}
 
 -- Digits to a base
 

@@ -1,12 +1,7 @@
 -- How the lexer's loops follow the definition of the tokens.
-use Rattle.std.proofs.Common.{◌≡◌, ℕ, suc, ◌+◌, ◌<◌, false, ◌==◌, ◌&&◌, List, [], ◌∷◌, ◌++◌, length, take, drop, get_or, Option, Some, None, refl, sym, ap, ◌∙◌, arith}
-use Rattle.std.specs.Prelude.{option_map}
-use Rattle.s7_base.specs.Tokens.{begins_with}
-use Rattle.s7_base.specs.declared.reason.Line.{Line}
+use Rattle.st_tree.proofs.Common.{◌≡◌, ℕ, suc, ◌+◌, ◌<◌, false, ◌==◌, ◌&&◌, List, [], ◌∷◌, ◌++◌, length, take, drop, get_or, Option, Some, None, refl, sym, ap, ◌∙◌, arith, option_map, begins_with, Line}
 use Rattle.st_lexer.proofs.TokenLaws.{prepend-prepend, next_piece, piece_some}
-use Rattle.st_lexer.specs.StTokens.{Piece, piece_at, piece_size, token_of, comment_size, Cut, prepend_tokens, cut_from, great_from, first_bad, answer, answer_to, tokens_of}
-use Rattle.st_lexer.specs.TokenGrammar.{line_past}
-use Rattle.st_tree.specs.declared.token.StToken.{StToken}
+use Rattle.st_lexer.proofs.Common.{Piece, piece_at, piece_size, token_of, comment_size, Cut, prepend_tokens, cut_from, great_from, first_bad, answer, answer_to, tokens_of, line_past, StToken}
 
 -- one turn of the loop
 pub after_piece : (tokens more : List StToken) (piece : Piece) (bytes : List ℕ) (line : ℕ) (whole : Cut) → piece_at bytes ≡ Some piece →

@@ -1,3 +1,4 @@
+pub mod Common
 pub mod Digits
 mod Following
 mod Lines

@@ -1,11 +1,8 @@
 -- The line after some bytes.
-use Rattle.std.proofs.Common.{◌≡◌, ℕ, ◌+◌, ◌-◌, ◌^◌, ◌≤◌, Bool, true, false, cond, ◌==◌, List, [], ◌∷◌, ◌++◌, refl, sym, ap, ◌∙◌, arith}
+use Rattle.st_tree.proofs.Common.{◌≡◌, ℕ, ◌+◌, ◌-◌, ◌^◌, ◌≤◌, Bool, true, false, cond, ◌==◌, List, [], ◌∷◌, ◌++◌, refl, sym, ap, ◌∙◌, arith, min, if◌then◌else◌, line_after, line_at_end}
 use Rattle.std.proofs.lemmas.List.Sums.{sum_by-cons}
-use Rattle.std.specs.Prelude.{count_by, min, if◌then◌else◌}
-use Rattle.s7_base.specs.Tokens.{line_after, line_at_end}
-use Rattle.st_lexer.specs.StTokens.{line_behind}
-use Rattle.st_lexer.specs.TokenGrammar.{line_past, Cuts, here, next}
-use Rattle.st_tree.specs.declared.token.StToken.{StToken}
+use Rattle.std.specs.Prelude.{count_by}
+use Rattle.st_lexer.proofs.Common.{line_behind, line_past, Cuts, here, next, StToken}
 
 by_test : (test : Bool) (line : ℕ) (past : ℕ → ℕ) (n : ℕ) → past (line_after line) ≡ min (line_after line + n) (2 ^ 32 - 1) → past line ≡ min (line + n) (2 ^ 32 - 1)
     → past (if test then line_after line else line) ≡ min (line + (cond test 1 0 + n)) (2 ^ 32 - 1)

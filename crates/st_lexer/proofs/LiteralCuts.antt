@@ -1,21 +1,12 @@
 -- Literals of a canonical text, whatever stands after them that does not go on with them.
-use Rattle.std.proofs.Common.{◌≡◌, ℕ, suc, ◌+◌, ◌^◌, ◌<◌, Bool, true, false, ◌&&◌, List, [], ◌∷◌, ◌++◌, length, Option, Some, refl, sym, ap, ◌∙◌, arith, append_assoc, append-nil, length-append}
-use Rattle.std.specs.Prelude.{ℤ, pos, unsigned_abs, int_lt, if◌then◌else◌, nat_le, decimal, codes, option_map}
-use Rattle.std.proofs.lemmas.Bool.Decides.{nat_tests}
-use Rattle.s7_base.specs.Tokens.{begins_with}
+use Rattle.st_tree.proofs.Common.{◌≡◌, ℕ, suc, ◌+◌, ◌^◌, ◌<◌, Bool, true, false, ◌&&◌, List, [], ◌∷◌, ◌++◌, length, Option, Some, refl, sym, ap, ◌∙◌, arith, append_assoc, append-nil, length-append, ℤ, pos, unsigned_abs, int_lt, if◌then◌else◌, nat_le, decimal, codes, option_map, nat_tests, begins_with, byte_text, hexadecimal, integer_text, literal_text}
 use Rattle.st_lexer.proofs.Digits.{Digits, past, digits_word, begins_digit, decimal_digits, hexadecimal_digits, length_of_hexadecimal}
 use Rattle.st_lexer.proofs.NumberCuts.{decimal_to, decimal_at, marked_at}
 use Rattle.st_lexer.proofs.Words.{and_both, if_true, if_false, no_type}
-use Rattle.st_lexer.specs.Literals.{is_digit_to, type_of_base, begins_with_digit, base_at, number_at, greatest, is_signed, literal_of_number, number_behind, literal_behind, literal_at}
-use Rattle.st_lexer.specs.Spelled.{ends_word, has_value}
-use Rattle.st_lexer.specs.SpellingLaws.{IsLiteral, LiteralsAreTokens, is_number}
-use Rattle.st_lexer.specs.StTokens.{is_blank, is_letter, token, ranged_piece, number_piece, piece_at}
-use Rattle.st_lexer.specs.declared.literal.Literal.{Literal}
-use Rattle.st_lexer.specs.declared.number.Base.{Base}
+use Rattle.st_lexer.proofs.Common.{is_digit_to, type_of_base, begins_with_digit, base_at, number_at, greatest, is_signed, literal_of_number, number_behind, literal_behind, literal_at, ends_word, has_value, IsLiteral, is_blank, is_letter, token, ranged_piece, number_piece, piece_at, Literal, Base, StType}
+use Rattle.st_lexer.specs.SpellingLaws.{LiteralsAreTokens, is_number}
 use Rattle.st_lexer.specs.declared.number.Base.TheVariants as base
 use Rattle.st_tree.specs.declared.token.StKind.TheVariants as sort
-use Rattle.st_tree.specs.Spelling.{byte_text, hexadecimal, integer_text, literal_text}
-use Rattle.st_tree.specs.declared.expr.StType.{StType}
 use Rattle.st_tree.specs.declared.expr.StType.TheVariants as type
 
 abbrev literal : StType → Bool → ℕ → ℕ → Literal

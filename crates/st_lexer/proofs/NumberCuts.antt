@@ -1,14 +1,8 @@
 -- Numbers at the front of a text, whatever stands after them that does not go on with them.
-use Rattle.std.proofs.Common.{◌≡◌, ℕ, ◌+◌, ◌^◌, ◌<◌, Bool, true, false, not, ◌&&◌, ◌==◌, List, [], ◌∷◌, ◌++◌, length, Some, refl, ap, ◌∙◌, arith}
-use Rattle.std.specs.Prelude.{nat_eq, decimal, codes}
-use Rattle.std.specs.List.{list_all, starts_with}
-use Rattle.std.proofs.lemmas.Bool.Decides.{nat_tests}
-use Rattle.s7_base.specs.Tokens.{is_word_byte}
+use Rattle.st_tree.proofs.Common.{◌≡◌, ℕ, ◌+◌, ◌^◌, ◌<◌, Bool, true, false, not, ◌&&◌, ◌==◌, List, [], ◌∷◌, ◌++◌, length, Some, refl, ap, ◌∙◌, arith, nat_eq, decimal, codes, list_all, starts_with, nat_tests, is_word_byte}
 use Rattle.st_lexer.proofs.Digits.{Digits, digits_word, begins_digit, number_of_digits, decimal_digits}
 use Rattle.st_lexer.proofs.Words.{and_both, not_true, if_true, no_mark}
-use Rattle.st_lexer.specs.Literals.{begins_with_digit, digits_behind, base_at, number_to, number_at}
-use Rattle.st_lexer.specs.Spelled.{ends_word}
-use Rattle.st_lexer.specs.declared.number.Base.{Base}
+use Rattle.st_lexer.proofs.Common.{begins_with_digit, digits_behind, base_at, number_to, number_at, ends_word, Base}
 use Rattle.st_lexer.specs.declared.number.Base.TheVariants.{Ten, Sixteen}
 
 -- Decimals

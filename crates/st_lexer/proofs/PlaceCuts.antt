@@ -1,24 +1,13 @@
 -- Places of a canonical text, whatever stands after them that does not go on with them.
-use Rattle.std.proofs.Common.{◌≡◌, ℕ, ◌+◌, ◌^◌, ◌<◌, true, false, ◌&&◌, ◌==◌, List, [], ◌∷◌, ◌++◌, length, Option, Some, None, refl, sym, ap, ◌∙◌, arith, append_assoc, append-nil, length-append}
-use Rattle.std.specs.Prelude.{decimal, codes, option_map}
-use Rattle.std.proofs.lemmas.Bool.Decides.{nat_tests}
-use Rattle.std.proofs.Math.Seq.{drop-append_seam}
-use Rattle.memory_areas.specs.declared.place.AreaName.{AreaName}
+use Rattle.st_tree.proofs.Common.{◌≡◌, ℕ, ◌+◌, ◌^◌, ◌<◌, true, false, ◌&&◌, ◌==◌, List, [], ◌∷◌, ◌++◌, length, Option, Some, None, refl, sym, ap, ◌∙◌, arith, append_assoc, append-nil, length-append, decimal, codes, option_map, nat_tests, drop-append_seam, AreaName, Width, bit_text, place_text, area_word, width_word}
 use Rattle.memory_areas.specs.declared.place.AreaName.TheVariants as area
-use Rattle.s7_base.specs.declared.word.Width.{Width}
 use Rattle.s7_base.specs.declared.word.Width.TheVariants as width
 use Rattle.st_lexer.proofs.NumberCuts.{decimal_to}
 use Rattle.st_lexer.proofs.Words.{and_both, if_false}
-use Rattle.st_lexer.specs.Direct.{kept, bit_variable, whole_variable, bit_of_byte, bit_behind, place_at, lettered_at, numbered_at, block_at, direct_at}
-use Rattle.st_lexer.specs.Literals.{begins_with_digit, number_to}
-use Rattle.st_lexer.specs.Spelled.{ends_word, is_kept, is_bit_of, is_block_of}
-use Rattle.st_lexer.specs.SpellingLaws.{IsDirect, PlacesAreTokens, place_in}
-use Rattle.st_lexer.specs.StTokens.{direct_piece, piece_at}
-use Rattle.st_lexer.specs.declared.direct.Direct.{Direct}
+use Rattle.st_lexer.proofs.Common.{kept, bit_variable, whole_variable, bit_behind, place_at, lettered_at, block_at, direct_at, begins_with_digit, number_to, ends_word, is_kept, is_bit_of, is_block_of, place_in, direct_piece, piece_at, Direct, Number}
+use Rattle.st_lexer.specs.Direct.{bit_of_byte, numbered_at}
+use Rattle.st_lexer.specs.SpellingLaws.{IsDirect, PlacesAreTokens}
 use Rattle.st_lexer.specs.declared.number.Base.TheVariants.{Ten}
-use Rattle.st_lexer.specs.declared.number.Number.{Number}
-use Rattle.st_tree.specs.Spelling.{bit_text, place_text}
-use Rattle.st_tree.specs.Words.{area_word, width_word}
 
 abbrev variable_of : AreaName → Option ℕ → Width → ℕ → ℕ → ℕ → Direct
 variable_of a block w byte bit size = record { area = a; block = block; width = w; byte = byte; bit = bit; size = size }

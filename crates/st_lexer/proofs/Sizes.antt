@@ -1,26 +1,15 @@
 -- Each number, literal, direct variable and piece has a byte, and no more than there are.
-use Rattle.std.proofs.Common.{◌≡◌, ℕ, suc, ◌+◌, ◌-◌, ◌<◌, ◌≤◌, Bool, true, false, not, cond, ◌&&◌, ◌||◌, ◌==◌, List, [], ◌∷◌, length, take, drop, Option, Some, None, refl, ap, arith, length-drop, length-take-le}
-use Rattle.std.specs.Char.{to_ascii_uppercase}
-use Rattle.std.specs.Prelude.{IfSome, if◌then◌else◌, option_map, nat_eq, codes}
-use Rattle.std.specs.List.{prefix_len, starts_with}
-use Rattle.std.proofs.lemmas.Bool.Decides.{nat_tests}
+use Rattle.st_tree.proofs.Common.{◌≡◌, ℕ, suc, ◌+◌, ◌-◌, ◌<◌, ◌≤◌, Bool, true, false, not, cond, ◌&&◌, ◌||◌, ◌==◌, List, [], ◌∷◌, length, take, drop, Option, Some, None, refl, ap, arith, length-drop, length-take-le, to_ascii_uppercase, IfSome, if◌then◌else◌, option_map, nat_eq, codes, prefix_len, starts_with, nat_tests, AreaName, is_word_byte, is_same_word, begins_with, Width}
 use Rattle.std.proofs.lemmas.List.Sums.{prefix_len-le-length}
-use Rattle.memory_areas.specs.declared.place.AreaName.{AreaName}
 use Rattle.memory_areas.specs.declared.place.AreaName.TheVariants as area
-use Rattle.s7_base.specs.Tokens.{is_word_byte, is_same_word, begins_with, line_size}
-use Rattle.s7_base.specs.declared.word.Width.{Width}
+use Rattle.s7_base.specs.Tokens.{line_size}
 use Rattle.s7_base.specs.declared.word.Width.TheVariants as width
-use Rattle.st_lexer.specs.Direct.{bit_variable, whole_variable, bit_behind, bit_at, whole_at, place_at, lettered_at, unlettered_at, begins_with_block, block_at, data_at, area_named, area_at, direct_at}
-use Rattle.st_lexer.specs.Literals.{is_digit_to, begins_with_digit, digits_size, mark, stands_to, base_at, digits_behind, number_to, is_signed, literal_of_number, truth_named, or_else, truth_behind, number_behind, value_behind, word_size, type_named, type_at, type_of_base, literal_behind, literal_at, is_in_range}
+use Rattle.st_lexer.proofs.Common.{bit_variable, whole_variable, bit_behind, bit_at, place_at, lettered_at, unlettered_at, begins_with_block, block_at, data_at, area_named, area_at, direct_at, is_digit_to, begins_with_digit, digits_size, stands_to, base_at, digits_behind, number_to, is_signed, literal_of_number, truth_named, or_else, truth_behind, number_behind, value_behind, word_size, type_named, type_at, type_of_base, literal_behind, literal_at, is_in_range, gap, token, piece_size, is_blank, is_letter, is_sign, is_double_sign, comment_size, sign_piece, mark_piece, ranged_piece, number_piece, word_piece, direct_piece, other_piece, piece_at, Direct, Literal, StType, Base, Number}
+use Rattle.st_lexer.specs.Direct.{whole_at}
+use Rattle.st_lexer.specs.Literals.{mark}
 use Rattle.st_lexer.specs.Pieces.{IsWithin}
-use Rattle.st_lexer.specs.StTokens.{gap, token, piece_size, is_blank, is_letter, is_sign, is_double_sign, comment_size, sign_piece, mark_piece, ranged_piece, number_piece, word_piece, direct_piece, other_piece, piece_at}
-use Rattle.st_lexer.specs.declared.direct.Direct.{Direct}
-use Rattle.st_lexer.specs.declared.literal.Literal.{Literal}
-use Rattle.st_tree.specs.declared.expr.StType.{StType}
 use Rattle.st_tree.specs.declared.expr.StType.TheVariants as type
-use Rattle.st_lexer.specs.declared.number.Base.{Base}
 use Rattle.st_lexer.specs.declared.number.Base.TheVariants as base
-use Rattle.st_lexer.specs.declared.number.Number.{Number}
 use Rattle.st_tree.specs.declared.token.StKind.TheVariants as sort
 
 -- what is found, if it is, has a byte and no more than these

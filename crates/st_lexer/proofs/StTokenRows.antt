@@ -1,18 +1,13 @@
 -- Worked texts, each with its tokens or the line of its first bad token.
-use Rattle.std.proofs.Common.{◌≡◌, ℕ, refl, List, [], ◌∷◌, ◌++◌, Some, None, Result, Ok, Err}
-use Rattle.std.specs.Prelude.{codes, pos, negsuc}
+use Rattle.st_tree.proofs.Common.{◌≡◌, ℕ, refl, List, [], ◌∷◌, ◌++◌, Some, None, Result, Ok, Err, codes, pos, negsuc, Rejection}
 use Rattle.memory_areas.specs.declared.place.AreaName.TheVariants as area
 use Rattle.s7_base.specs.declared.reason.Reason.TheVariants.{BadToken}
-use Rattle.s7_base.specs.declared.reason.Rejection.{Rejection}
 use Rattle.s7_base.specs.declared.reason.Rejection.TheVariants.{Refused}
 use Rattle.s7_base.specs.declared.word.Width.TheVariants as width
-use Rattle.st_lexer.specs.Direct.{direct_of}
+use Rattle.st_lexer.proofs.Common.{direct_of, tokens_of, StKind, StToken}
 use Rattle.st_lexer.specs.Literals.{literal_value}
-use Rattle.st_lexer.specs.StTokens.{tokens_of}
 use Rattle.st_tree.specs.declared.expr.StType.TheVariants as type
-use Rattle.st_tree.specs.declared.token.StKind.{StKind}
 use Rattle.st_tree.specs.declared.token.StKind.TheVariants.{Word, Direct, Literal, Sign}
-use Rattle.st_tree.specs.declared.token.StToken.{StToken}
 
 abbrev token : StKind → List ℕ → ℕ → StToken
 token kind text line = record { kind = kind; text = text; line = record { 0 = line } }

@@ -1,30 +1,13 @@
 -- The tokens of a text are of their sorts.
-use Rattle.std.proofs.Common.{◌≡◌, ℕ, zero, suc, ◌+◌, ◌-◌, Bool, true, false, cond, ◌&&◌, ◌==◌, List, [], ◌∷◌, ◌++◌, take, drop, Option, Some, None, Ok, refl, ap, subst, ◌∙◌, arith}
-use Rattle.std.specs.Prelude.{All, IfSome, pos, neg_ℤ, int_lt, if◌then◌else◌, nat_le, option_map, codes}
-use Rattle.std.specs.Char.{to_ascii_uppercase}
-use Rattle.std.specs.List.{list_all}
-use Rattle.std.proofs.lemmas.Bool.Decides.{nat_tests}
-use Rattle.std.proofs.lemmas.List.Elements.{All-nil, All-cons}
-use Rattle.memory_areas.specs.declared.place.AreaName.{AreaName}
+use Rattle.st_tree.proofs.Common.{◌≡◌, ℕ, zero, suc, ◌+◌, ◌-◌, Bool, true, false, cond, ◌&&◌, ◌==◌, List, [], ◌∷◌, ◌++◌, take, drop, Option, Some, None, Ok, refl, ap, subst, ◌∙◌, arith, All, IfSome, pos, neg_ℤ, int_lt, if◌then◌else◌, nat_le, option_map, codes, to_ascii_uppercase, list_all, nat_tests, All-nil, All-cons, AreaName, is_word_byte, is_same_word, begins_with, Line, Width}
 use Rattle.memory_areas.specs.declared.place.AreaName.TheVariants as area
-use Rattle.s7_base.specs.Tokens.{is_word_byte, is_same_word, begins_with}
-use Rattle.s7_base.specs.declared.reason.Line.{Line}
-use Rattle.s7_base.specs.declared.word.Width.{Width}
 use Rattle.s7_base.specs.declared.word.Width.TheVariants as width
 use Rattle.st_lexer.proofs.Words.{and_both, letter_word}
-use Rattle.st_lexer.specs.Direct.{kept, bit_variable, whole_variable, bit_behind, bit_at, width_named, place_at, lettered_at, unlettered_at, begins_with_block, block_at, data_at, area_named, area_at, direct_at}
-use Rattle.st_lexer.specs.Literals.{is_digit_to, begins_with_digit, base_at, number_to, number_at, greatest, is_signed, literal_of_number, truth_named, or_else, truth_behind, number_behind, value_behind, word_size, type_at, type_of_base, literal_behind, literal_at}
-use Rattle.st_lexer.specs.Spelled.{has_value, is_kept, is_block_of}
-use Rattle.st_lexer.specs.StTokens.{Piece, gap, token, is_blank, is_letter, ranged_piece, number_piece, word_piece, direct_piece, other_piece, mark_piece, sign_piece, comment_size, is_sign, is_double_sign, piece_at, piece_size, line_behind, token_of, Cut, prepend_tokens, with_piece, cut_from, great_from, first_bad, answer, tokens_of}
-use Rattle.st_lexer.specs.TokenFacts.{is_word, HasPlace, HasValue, IsOfSort, IsOfItsSort, TokensAreOfTheirSorts}
-use Rattle.st_lexer.specs.declared.direct.Direct.{Direct}
-use Rattle.st_lexer.specs.declared.literal.Literal.{Literal}
-use Rattle.st_lexer.specs.declared.number.Base.{Base}
+use Rattle.st_lexer.proofs.Common.{kept, bit_variable, whole_variable, bit_behind, bit_at, place_at, lettered_at, unlettered_at, begins_with_block, block_at, data_at, area_named, area_at, direct_at, is_digit_to, begins_with_digit, base_at, number_to, number_at, greatest, is_signed, literal_of_number, truth_named, or_else, truth_behind, number_behind, value_behind, word_size, type_at, type_of_base, literal_behind, literal_at, has_value, is_kept, is_block_of, Piece, gap, token, is_blank, is_letter, ranged_piece, number_piece, word_piece, direct_piece, other_piece, mark_piece, sign_piece, comment_size, is_sign, is_double_sign, piece_at, piece_size, line_behind, token_of, Cut, prepend_tokens, with_piece, cut_from, great_from, first_bad, answer, tokens_of, is_word, HasPlace, HasValue, IsOfSort, IsOfItsSort, Direct, Literal, Base, Number, StToken, StType}
+use Rattle.st_lexer.specs.Direct.{width_named}
+use Rattle.st_lexer.specs.TokenFacts.{TokensAreOfTheirSorts}
 use Rattle.st_lexer.specs.declared.number.Base.TheVariants as base
-use Rattle.st_lexer.specs.declared.number.Number.{Number}
 use Rattle.st_tree.specs.declared.token.StKind.TheVariants as sort
-use Rattle.st_tree.specs.declared.token.StToken.{StToken}
-use Rattle.st_tree.specs.declared.expr.StType.{StType}
 use Rattle.st_tree.specs.declared.expr.StType.TheVariants as type
 
 -- what holds of both arms holds of their choice

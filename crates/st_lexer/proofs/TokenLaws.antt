@@ -1,15 +1,11 @@
 -- A text has the tokens of its first piece, and then those of what stands after it.
-use Rattle.std.proofs.Common.{◌≡◌, ℕ, zero, suc, ◌-◌, ◌<◌, ◌≤◌, false, List, [], ◌∷◌, ◌++◌, length, take, drop, Option, Some, None, Ok, Err, refl, sym, ap, subst, ◌∙◌, arith, append_assoc, append-nil, length-drop, length-take-le}
-use Rattle.std.proofs.Math.Seq.{take-append_seam, drop-append_seam}
-use Rattle.std.proofs.lemmas.List.{take-append-drop}
-use Rattle.s7_base.specs.declared.reason.Line.{Line}
+use Rattle.st_tree.proofs.Common.{◌≡◌, ℕ, zero, suc, ◌-◌, ◌<◌, ◌≤◌, false, List, [], ◌∷◌, ◌++◌, length, take, drop, Option, Some, None, Ok, Err, refl, sym, ap, subst, ◌∙◌, arith, append_assoc, append-nil, length-drop, length-take-le, take-append_seam, drop-append_seam, take-append-drop, Line}
 use Rattle.s7_base.specs.declared.reason.Reason.TheVariants.{BadToken}
 use Rattle.s7_base.specs.declared.reason.Rejection.TheVariants.{Refused}
 use Rattle.st_lexer.proofs.Lines.{ends_on}
 use Rattle.st_lexer.proofs.Sizes.{Within, piece_within}
-use Rattle.st_lexer.specs.StTokens.{Piece, piece_at, piece_size, token_of, line_behind, Cut, prepend_tokens, with_piece, cut_from, great_from, first_bad, answer, answer_to, tokens_of}
-use Rattle.st_lexer.specs.TokenGrammar.{line_past, Stands, Cuts, here, next, NoPiece, TokensAreCut}
-use Rattle.st_tree.specs.declared.token.StToken.{StToken}
+use Rattle.st_lexer.proofs.Common.{Piece, piece_at, piece_size, token_of, line_behind, Cut, prepend_tokens, with_piece, cut_from, great_from, first_bad, answer, answer_to, tokens_of, line_past, Cuts, here, next, StToken}
+use Rattle.st_lexer.specs.TokenGrammar.{Stands, NoPiece, TokensAreCut}
 
 abbrev with_bad : Option Line → List StToken → Cut
 with_bad bad tokens = record { tokens = tokens; bad = bad }

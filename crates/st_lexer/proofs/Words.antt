@@ -1,14 +1,7 @@
 -- A word at the front of a text, whatever stands after it that does not go on with it.
-use Rattle.std.proofs.Common.{◌≡◌, ℕ, Bool, true, false, not, ◌&&◌, ◌==◌, List, [], ◌∷◌, ◌++◌, length, drop, Some, None, refl, ap, ◌∙◌, arith}
-use Rattle.std.specs.Prelude.{if◌then◌else◌}
-use Rattle.std.specs.List.{list_all}
-use Rattle.std.proofs.lemmas.Bool.Decides.{nat_tests}
-use Rattle.std.proofs.Math.Seq.{drop-append_seam}
-use Rattle.s7_base.specs.Tokens.{is_word_byte, begins_with}
-use Rattle.st_lexer.specs.Literals.{word_size, type_at}
-use Rattle.st_lexer.specs.Spelled.{ends_word}
+use Rattle.st_tree.proofs.Common.{◌≡◌, ℕ, Bool, true, false, not, ◌&&◌, ◌==◌, List, [], ◌∷◌, ◌++◌, length, drop, Some, None, refl, ap, ◌∙◌, arith, if◌then◌else◌, list_all, nat_tests, drop-append_seam, is_word_byte, begins_with}
+use Rattle.st_lexer.proofs.Common.{word_size, type_at, ends_word, is_blank, is_letter, token}
 use Rattle.st_lexer.specs.SpellingLaws.{WordsAreTokens}
-use Rattle.st_lexer.specs.StTokens.{is_blank, is_letter, token}
 use Rattle.st_tree.specs.declared.token.StKind.TheVariants as sort
 
 pub and_both : (a b : Bool) → (a && b) ≡ true → (a ≡ true) × (b ≡ true)

@@ -1,11 +1,7 @@
 -- What the pass over a text's tokens judges is the raw tree or the refusal of the text.
-use Rattle.std.proofs.Common.{◌≡◌, ℕ, List, Some, Result, Ok, Err}
-use Rattle.std.specs.Prelude.{IfOk}
-use Rattle.s7_base.specs.Answers.{IfRefused}
-use Rattle.s7_base.specs.declared.reason.Rejection.{Rejection}
+use Rattle.st_tree.proofs.Common.{◌≡◌, ℕ, List, Some, Result, Ok, Err, IfOk, IfRefused, Rejection}
 use Rattle.s7_base.specs.declared.reason.Rejection.TheVariants.{Refused, NoMemory}
-use Rattle.st_grammar.specs.Syntax.{HasRawTree, IsSyntaxRefused}
-use Rattle.st_grammar.specs.inner.Judge.{tree_at, verdict}
+use Rattle.st_grammar.proofs.Common.{HasRawTree, IsSyntaxRefused, tree_at, verdict}
 use Rattle.st_syntax_laws.proofs.JudgedSyntax.{judged_refusals, judged_trees}
 use Rattle.st_tree.specs.declared.raw.RawSt.{RawSt}
 

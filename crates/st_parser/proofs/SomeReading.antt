@@ -1,21 +1,15 @@
 -- Each text has a reading.
-use Rattle.std.proofs.Common.{◌≡◌, ◌⊎◌, List, [], ◌∷◌, Option, Some, None, inl, inr, refl}
-use Rattle.s7_base.specs.declared.reason.Line.{Line}
-use Rattle.s7_base.specs.declared.reason.Reason.{Reason}
+use Rattle.st_tree.proofs.Common.{◌≡◌, ◌⊎◌, List, [], ◌∷◌, Option, Some, None, inl, inr, refl, Line, Reason, Break}
 use Rattle.s7_base.specs.declared.reason.Reason.TheVariants.{CallCycle, NoBlocks}
 use Rattle.call_chains.proofs.FoundCycle.{found_cycle}
 use Rattle.st_syntax_laws.proofs.SomeSyntax.{each_has_one_syntax}
 use Rattle.st_grammar.specs.Syntax.{HasRawTree, IsSyntaxRefused}
 use Rattle.st_parser.specs.TextLaws.{EachHasOne}
 use Rattle.st_parser.specs.Texts.{IsRefusedText, IsTextOf, by_rules, by_syntax}
-use Rattle.st_tree.specs.declared.program.StProgram.{StProgram}
-use Rattle.st_tree.specs.declared.raw.RawPou.{RawPou}
-use Rattle.st_tree.specs.declared.raw.RawSt.{RawSt}
+use Rattle.st_lexer.proofs.Common.{StProgram, RawPou, RawSt}
 use Rattle.call_chains.specs.Chain.{Graph, IsFirstCycle, NoCycle}
-use Rattle.st_rules.specs.LongChains.{first_long_chain}
+use Rattle.st_rules.proofs.Common.{first_long_chain, Breaks, BreaksChain, HasTree, IsChain, calls_in, chained, cycle, first_break, long, named, no_unit}
 use Rattle.st_rules.specs.Typed as of_raw
-use Rattle.st_rules.specs.Typed.{Breaks, BreaksChain, HasTree, IsChain, calls_in, chained, cycle, first_break, long, named, no_unit}
-use Rattle.s7_base.specs.declared.broken.Break.{Break}
 
 -- a line and a reason of which something holds
 abbrev ForSome : (Line → Reason → Type 0) → Type 0

@@ -1,15 +1,12 @@
 -- What is said of the answer to a text by that to its raw tree.
-use Rattle.std.proofs.Common.{ℕ, List, Result, Ok, Err}
-use Rattle.std.specs.Prelude.{IfErr, IfOk}
-use Rattle.s7_base.specs.declared.reason.Rejection.{Rejection}
+use Rattle.st_tree.proofs.Common.{ℕ, List, Result, Ok, Err, IfOk, Rejection, Proper}
+use Rattle.std.specs.Prelude.{IfErr}
 use Rattle.s7_base.specs.declared.reason.Rejection.TheVariants as rejection
 use Rattle.st_grammar.specs.Syntax.{HasRawTree}
 use Rattle.st_parser.specs.Texts.{IsRefusedAs, by_rules}
 use Rattle.st_read_proper.proofs.ReadProper.{read_proper}
 use Rattle.st_rules.specs.Typed.{HasTree, IsRefused}
-use Rattle.st_tree.specs.Proper.{Proper}
-use Rattle.st_tree.specs.declared.program.StProgram.{StProgram}
-use Rattle.st_tree.specs.declared.raw.RawSt.{RawSt}
+use Rattle.st_lexer.proofs.Common.{StProgram, RawSt}
 
 pub refused_by_rules : (bytes : List ℕ) (raw : RawSt) (r : Result StProgram Rejection) → HasRawTree bytes raw → IfErr r (IsRefused raw) → IfErr r (IsRefusedAs bytes)
 refused_by_rules bytes raw (Ok tree) reads h = tt

@@ -1,8 +1,6 @@
 -- Levels and digits, taken from their other end.
-use Rattle.std.proofs.Common.{◌≡◌, ℕ, zero, suc, ◌-◌, ◌++◌, ◌∷◌, [], Result, Ok, Err, refl, ap, arith}
-use Rattle.std.specs.Prelude.{◌/◌, ◌%◌, codes, OnOk}
-use Rattle.digit_texts.specs.Digits.{hex_digit}
-use Rattle.st_tree.specs.Spelling.{blanks, hexadecimal}
+use Rattle.st_tree.proofs.Common.{◌≡◌, ℕ, zero, suc, ◌-◌, ◌++◌, ◌∷◌, [], Result, Ok, Err, refl, ap, arith, ◌/◌, ◌%◌, codes, hex_digit, blanks, hexadecimal}
+use Rattle.std.specs.Prelude.{OnOk}
 
 pub blanks_up : (level : ℕ) → (level ≡ 0 → ⊥) → blanks level ≡ codes "    " ++ blanks (level - 1)
 blanks_up zero h = absurd (h refl)

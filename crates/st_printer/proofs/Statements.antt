@@ -1,8 +1,6 @@
 -- The text of a statement at its variants that have a body, and texts of three and four pieces.
-use Rattle.std.proofs.Common.{◌≡◌, ℕ, ◌+◌, List, ◌++◌, sym, ap, ◌∙◌, append_assoc}
-use Rattle.std.specs.Prelude.{codes, map, flat_map}
-use Rattle.st_tree.specs.Spelling.{Text, ArmText, CaseText, line, expr_text, texts_at, else_text, statement_step, arm_step, case_step, statement_text, case_text}
-use Rattle.st_tree.specs.Typing.{Names, type_of}
+use Rattle.st_tree.proofs.Common.{◌≡◌, ℕ, ◌+◌, List, ◌++◌, sym, ap, ◌∙◌, append_assoc, codes, map, flat_map, Text, ArmText, CaseText, line, expr_text, texts_at, else_text, statement_step, statement_text, case_text, Names, type_of}
+use Rattle.st_tree.specs.Spelling.{arm_step, case_step}
 use Rattle.st_tree.specs.declared.expr.Expr.{Expr}
 use Rattle.st_tree.specs.declared.program.CaseArm.{CaseArm}
 use Rattle.st_tree.specs.declared.program.Stmt.{Stmt, fold-roll-Stmt}

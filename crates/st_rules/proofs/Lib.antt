@@ -1,3 +1,4 @@
+pub mod Common
 pub mod NameRows
 pub mod Tables
 pub mod TextRows

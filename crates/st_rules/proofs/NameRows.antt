@@ -1,20 +1,15 @@
 -- Names, tables, places and types, computed.
-use Rattle.std.proofs.Common.{◌≡◌, ℕ, true, false, [], ◌∷◌, Some, None, Ok, Err, refl}
-use Rattle.std.specs.Prelude.{codes}
+use Rattle.st_tree.proofs.Common.{◌≡◌, ℕ, true, false, [], ◌∷◌, Some, None, Ok, Err, refl, codes, type_of_register, key_of, type_of_binary, type_of_choice, type_of_conversion, type_of_read, type_of_shift, type_of_unary, has_width}
 use Rattle.memory_areas.specs.declared.place.AreaName.TheVariants as area
 use Rattle.s7_base.specs.declared.reason.Reason.TheVariants.{BadAddress, TypeMismatch, UnknownName}
 use Rattle.s7_base.specs.declared.register.Reg.TheVariants as reg
 use Rattle.s7_base.specs.declared.word.Width.TheVariants as width
-use Rattle.st_tree.specs.State.{type_of_register}
 use Rattle.st_tree.specs.declared.expr.BinaryOp.TheVariants as binary
 use Rattle.st_tree.specs.declared.expr.StType.TheVariants as type
 use Rattle.st_tree.specs.declared.expr.UnaryOp.TheVariants as unary
 use Rattle.st_tree.specs.declared.expr.Var.TheVariants as var
-use Rattle.st_rules.specs.Names.{look_up, with_entry}
-use Rattle.st_tree.specs.Naming.{key_of}
-use Rattle.st_rules.specs.Scopes.{meaning_in, register_named}
-use Rattle.st_tree.specs.TypeRules.{type_of_binary, type_of_choice, type_of_conversion, type_of_read, type_of_shift, type_of_unary, has_width}
-use Rattle.st_rules.specs.Variables.{is_address, place_at, variable_named}
+use Rattle.st_rules.proofs.Common.{look_up, with_entry, meaning_in, register_named, is_address, variable_named}
+use Rattle.st_rules.specs.Variables.{place_at}
 use Rattle.st_rules.specs.declared.scope.Meaning.TheVariants as meaning
 
 -- Names in any case; data blocks by number; the names of units as texts

@@ -1,9 +1,8 @@
 -- A table as the entries of a map with keys in vectors.
-use Rattle.std.proofs.Common.{◌≡◌, ℕ, Bool, true, false, cond, List, [], ◌∷◌, ◌++◌, map, Option, Some, None, is_some, refl, sym, ap, ◌∙◌}
+use Rattle.st_tree.proofs.Common.{◌≡◌, ℕ, Bool, true, false, cond, List, [], ◌∷◌, ◌++◌, map, Option, Some, None, is_some, refl, sym, ap, ◌∙◌, is_same}
 use Rattle.std.specs.Map.{lookup}
 use Rattle.indexmap.specs.IndexMap.{insert_entry}
 use Rattle.st_rules.specs.Names.{look_up, with_entry}
-use Rattle.st_tree.specs.Naming.{is_same}
 
 -- the first key that is the same is found in either form
 pub looks : {K T : Type 0} (items : K → List ℕ) (key : List ℕ) (es : List (K × T))

@@ -1,22 +1,15 @@
 -- Broken rules, declarations, data blocks, calls and chains, computed.
-use Rattle.std.proofs.Common.{◌≡◌, ℕ, true, false, List, [], ◌∷◌, ◌++◌, Some, None, refl}
-use Rattle.std.specs.Prelude.{codes, replicate}
+use Rattle.st_tree.proofs.Common.{◌≡◌, ℕ, true, false, List, [], ◌∷◌, ◌++◌, Some, None, refl, codes, replicate, Line, broken, first_of_all, key_of}
 use Rattle.memory_areas.specs.declared.place.AreaName.TheVariants as area
-use Rattle.s7_base.specs.declared.reason.Line.{Line}
 use Rattle.s7_base.specs.declared.reason.Reason.TheVariants.{BadAddress, DuplicateName, TooLarge, TypeMismatch, UnknownName}
 use Rattle.s7_base.specs.declared.word.Width.TheVariants as width
 use Rattle.st_tree.specs.declared.expr.StType.TheVariants as type
 use Rattle.st_tree.specs.declared.expr.Var.TheVariants as var
 use Rattle.st_tree.specs.declared.program.Stmt.TheVariants as stmt
-use Rattle.st_tree.specs.declared.raw.RawVar.{RawVar}
+use Rattle.st_rules.proofs.Common.{RawVar, breaks_rule, sound, one_too_many, block_breaks, block_number, contents, fits_type, inserted, formal_breaks}
 use Rattle.st_tree.specs.declared.raw.RawVar.TheVariants as raw
-use Rattle.s7_base.specs.Broken.{broken, first_of_all}
-use Rattle.st_rules.specs.Judged.{breaks_rule, sound}
 use Rattle.call_chains.specs.Chain.{Graph, chains, follow}
-use Rattle.st_rules.specs.Declarations.{one_too_many}
-use Rattle.st_rules.specs.Globals.{block_breaks, block_number, contents, fits_type, inserted}
-use Rattle.st_rules.specs.Invocations.{call_with, formal_breaks, no_call}
-use Rattle.st_tree.specs.Naming.{key_of}
+use Rattle.st_rules.specs.Invocations.{call_with, no_call}
 use Rattle.st_rules.specs.declared.scope.Scope.{Scope}
 
 abbrev line : ℕ → Line

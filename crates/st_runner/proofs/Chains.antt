@@ -1,24 +1,13 @@
 -- Chains of calls, and what statements cost by several measures; what a body costs by its calls alone is the
 -- greatest that the units give which it calls.
-use Rattle.std.proofs.Common.{◌≡◌, ℕ, List, [], ◌∷◌, map, refl, sym, ◌∙◌, arith, zero, suc, ◌+◌, ◌*◌, ◌<◌, ◌≤◌, Option, Some, None, ap}
+use Rattle.st_tree.proofs.Common.{◌≡◌, ℕ, List, [], ◌∷◌, map, refl, sym, ◌∙◌, arith, zero, suc, ◌+◌, ◌*◌, ◌<◌, ◌≤◌, Option, Some, None, ap, greatest, slice_get, ACTIVATIONS, called_in, chain_of, chain_to, unit_chain}
 use Rattle.st_runner.proofs.Costs.{most_arm, most_case_arm, most_stmt}
-use Rattle.st_runner.specs.inner.Costs.{Costs, arm_most, body_most, case_most, most, most_step}
-use Rattle.st_runner.specs.inner.Runnable.{chain_costs, IsRunnableUnit, nesting_costs}
+use Rattle.st_runner.proofs.Common.{Costs, arm_most, body_most, case_most, most, most_step, nesting_costs, Arm, CaseArm, Stmt, map-Stmt, roll-Stmt, depth_costs, stack_costs, UNIT_FRAMES, Pou, StProgram}
+use Rattle.st_runner.specs.inner.Runnable.{chain_costs, IsRunnableUnit}
 use Rattle.st_tree.proofs.CalledMost.{called_area_write, called_assign, called_case, called_continue, called_exit, called_first, called_if, called_in_arm, called_in_case, called_invoke, called_most, called_return, called_while}
 use Rattle.st_tree.proofs.Induction.{Each, InArm, InCase, StmtSteps, every_body}
-use Rattle.st_tree.specs.Depth.{greatest}
-use Rattle.st_tree.specs.declared.program.Arm.{Arm}
-use Rattle.st_tree.specs.declared.program.CaseArm.{CaseArm}
-use Rattle.st_tree.specs.declared.program.Stmt.{Stmt, map-Stmt, roll-Stmt}
 use Rattle.st_tree.specs.declared.program.Stmt.TheOpen as S
 use Rattle.st_tree.specs.declared.program.Stmt.TheVariants as stmt
-use Rattle.std.specs.Prelude.{slice_get}
-use Rattle.memory_areas.specs.declared.sizes.TheConstants.{ACTIVATIONS}
-use Rattle.st_runner.specs.inner.Measures.{depth_costs, stack_costs}
-use Rattle.st_tree.specs.Chains.{called_in, chain_of, chain_to, unit_chain}
-use Rattle.st_runner.specs.declared.steps.TheConstants.{UNIT_FRAMES}
-use Rattle.st_tree.specs.declared.program.Pou.{Pou}
-use Rattle.st_tree.specs.declared.program.StProgram.{StProgram}
 
 -- Calls alone
 

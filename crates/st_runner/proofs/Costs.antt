@@ -1,22 +1,11 @@
 -- What statements cost and weigh by one layer, and that what is chosen costs and weighs no more than the choice.
-use Rattle.std.proofs.Common.{◌≡◌, ℕ, ◌+◌, ◌≤◌, Bool, true, false, if◌then◌else◌, ℤ, max, List, [], ◌∷◌, map, Result, Ok, Err, subst, arith}
-use Rattle.memory_areas.specs.Access.{and_then}
-use Rattle.s7_base.specs.declared.outcome.Fault.{Fault}
-use Rattle.st_runner.specs.inner.Choice.{has_label, labelled, picked}
-use Rattle.st_runner.specs.inner.Measures.{arm_weight, body_weight, case_weight, sum, weight, weight_step}
-use Rattle.st_runner.specs.inner.Costs.{Costs, arm_most, body_most, case_most, most, most_step}
-use Rattle.st_tree.specs.Depth.{greatest}
-use Rattle.st_tree.specs.State.{State}
-use Rattle.st_tree.specs.Value.{value}
-use Rattle.st_tree.specs.Values.{is_set}
-use Rattle.st_tree.specs.declared.expr.Expr.{Expr}
-use Rattle.st_tree.specs.declared.program.Arm.{Arm, fold_out-Arm}
-use Rattle.st_tree.specs.declared.program.CaseArm.{CaseArm, fold_out-CaseArm}
-use Rattle.st_tree.specs.declared.program.Located.{Located}
-use Rattle.st_tree.specs.declared.program.Stmt.{Stmt, map-Stmt, roll-Stmt}
+use Rattle.st_tree.proofs.Common.{◌≡◌, ℕ, ◌+◌, ◌≤◌, Bool, true, false, if◌then◌else◌, ℤ, max, List, [], ◌∷◌, map, Result, Ok, Err, subst, arith, and_then, Fault, greatest, State, value, is_set}
+use Rattle.st_runner.proofs.Common.{has_label, labelled, picked, body_weight, weight, Costs, arm_most, body_most, case_most, most, most_step, Expr, Arm, CaseArm, Located, Stmt, map-Stmt, roll-Stmt, Value}
+use Rattle.st_runner.specs.inner.Measures.{arm_weight, case_weight, sum, weight_step}
+use Rattle.st_tree.specs.declared.program.Arm.{fold_out-Arm}
+use Rattle.st_tree.specs.declared.program.CaseArm.{fold_out-CaseArm}
 use Rattle.st_tree.specs.declared.program.Stmt.TheOpen as S
 use Rattle.st_tree.specs.declared.program.Stmt.TheVariants as stmt
-use Rattle.st_tree.specs.declared.state.Value.{Value}
 use Rattle.st_tree.proofs.Equations.{fold_stmt}
 
 -- by one layer of a statement

@@ -1,36 +1,14 @@
 -- Each statement that needs no unit is done as it means, and costs no more than it may.
-use Rattle.std.proofs.Common.{◌≡◌, ℕ, Bool, true, false, if◌then◌else◌, ℤ, List, [], ◌∷◌, map, Some, Result, Ok, Err, refl, sym, ap, ◌∙◌, ◌+◌, ◌≤◌, Bor, ◌++◌, subst, arith}
-use Rattle.memory_areas.specs.Access.{and_then}
-use Rattle.s7_base.specs.declared.outcome.Fault.{Fault}
-use Rattle.st_runner.specs.inner.Choice.{has_label, labelled, picked}
-use Rattle.st_runner.specs.inner.Waiting.{end_at, ending}
+use Rattle.st_tree.proofs.Common.{◌≡◌, ℕ, Bool, true, false, if◌then◌else◌, ℤ, List, [], ◌∷◌, map, Some, Result, Ok, Err, refl, sym, ap, ◌∙◌, ◌+◌, ◌≤◌, Bor, ◌++◌, subst, arith, and_then, Fault, Out, Faults, Calls, Guarded, Labelled, arm_meaning, body_meaning, case_meaning, changed, first_true, first_with, meaning, with_value, Normal, Exits, Continues, Returns, area_assigned, assigned, end_seen, State, value, is_set, Width}
+use Rattle.st_runner.proofs.Common.{has_label, labelled, picked, end_at, ending, Frame, Expr, Arm, CaseArm, Located, Stmt, Value, Leaves, body_weight, unit_costs, weight, Costs, body_most, most, Done, Changes, At, Var, StProgram}
 use Rattle.st_runner.specs.declared.frame.At.TheVariants as at
-use Rattle.st_runner.specs.declared.frame.Frame.{Frame}
 use Rattle.st_runner.proofs.Stack.{unwound_faults, sizes_tall, on_top, top_sizes, top_tall, top_weight}
-use Rattle.st_tree.specs.Meaning.{Out, Faults, Calls, Guarded, Labelled, arm_meaning, body_meaning, case_meaning, changed, first_true, first_with, in_order, meaning, with_value, Normal, Exits, Continues, Returns, area_assigned, assigned}
-use Rattle.st_tree.specs.StRun.{end_seen}
-use Rattle.st_tree.specs.State.{State}
-use Rattle.st_tree.specs.Value.{value}
-use Rattle.st_tree.specs.Values.{is_set}
-use Rattle.st_tree.specs.declared.expr.Expr.{Expr}
-use Rattle.st_tree.specs.declared.program.Arm.{Arm}
-use Rattle.st_tree.specs.declared.program.CaseArm.{CaseArm}
-use Rattle.st_tree.specs.declared.program.Located.{Located}
-use Rattle.st_tree.specs.declared.program.Stmt.{Stmt}
+use Rattle.st_tree.specs.Meaning.{in_order}
 use Rattle.st_tree.specs.declared.program.Stmt.TheVariants as stmt
-use Rattle.st_tree.specs.declared.state.Value.{Value}
 use Rattle.st_tree.proofs.Equations.{meaning_arm, meaning_case, meaning_case_arm, meaning_if, meaning_area_write, meaning_assign, meaning_continue, meaning_exit, meaning_return}
-use Rattle.s7_base.specs.declared.word.Width.{Width}
-use Rattle.st_runner.specs.inner.Leaving.{Leaves}
-use Rattle.st_runner.specs.inner.Measures.{body_weight, unit_costs, weight}
-use Rattle.st_runner.specs.inner.Costs.{Costs, body_most, most}
-use Rattle.st_runner.specs.inner.Ready.{Done, next_of}
-use Rattle.st_runner.specs.inner.View.{Changes}
-use Rattle.st_runner.specs.declared.frame.At.{At}
+use Rattle.st_runner.specs.inner.Ready.{next_of}
 use Rattle.st_runner.specs.declared.frame.Frame.TheVariants as frame
 use Rattle.st_runner.proofs.Costs.{labelled_most, labelled_weight, picked_most, picked_weight, weight_stmt}
-use Rattle.st_tree.specs.declared.expr.Var.{Var}
-use Rattle.st_tree.specs.declared.program.StProgram.{StProgram}
 use Rattle.st_tree.specs.declared.program.Stmt.TheOpen as S
 
 -- What is done for each statement is what it means

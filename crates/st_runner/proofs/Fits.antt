@@ -1,21 +1,10 @@
 -- Which calls from outside fit.
-use Rattle.std.proofs.Common.{◌≡◌, ℕ, ◌+◌, Bool, true, false, List, [], ◌∷◌, length, Option, Some, None, refl, sym, ap, ◌∙◌, arith}
-use Rattle.std.specs.Prelude.{◌==◌, is_none, is_some, nat_lt, if◌then◌else◌, IsSome}
-use Rattle.std.proofs.lemmas.List.{length-replicate}
-use Rattle.memory_areas.specs.Access.{aimed, bytes_there, bytes_wide, fault_of, first_fault, is_closed, is_missing, is_unaligned, or_none}
-use Rattle.memory_areas.specs.Areas.{Contents, IsMemoryOf, Match, block_of, bytes_in, fresh}
-use Rattle.memory_areas.specs.declared.data_block.DataBlock.{DataBlock}
-use Rattle.memory_areas.specs.declared.place.Area.{Area}
+use Rattle.st_tree.proofs.Common.{◌≡◌, ℕ, ◌+◌, Bool, true, false, List, [], ◌∷◌, length, Option, Some, None, refl, sym, ap, ◌∙◌, arith, ◌==◌, is_none, is_some, nat_lt, if◌then◌else◌, IsSome, length-replicate, aimed, bytes_there, bytes_wide, fault_of, first_fault, is_closed, is_missing, or_none, Contents, IsMemoryOf, Match, block_of, bytes_in, fresh, DataBlock, Area, Place, INPUT_BYTES, MARKER_BYTES, OUTPUT_BYTES, Width, IsOutsidePlace, width_at}
+use Rattle.memory_areas.specs.Access.{is_unaligned}
 use Rattle.memory_areas.specs.declared.place.Area.TheVariants as area
-use Rattle.memory_areas.specs.declared.place.Place.{Place}
-use Rattle.memory_areas.specs.declared.sizes.TheConstants.{INPUT_BYTES, MARKER_BYTES, OUTPUT_BYTES}
 use Rattle.s7_base.specs.declared.outcome.Fault.TheVariants.{DbNotOpen, DbMissing, AreaCode, Alignment, AreaLength}
-use Rattle.s7_base.specs.declared.word.Width.{Width}
-use Rattle.st_tree.specs.StRun.{IsOutsidePlace, FitsFormal, FitsInstance}
-use Rattle.st_runner.specs.inner.Fitting.{Decides}
-use Rattle.st_tree.specs.Values.{width_at}
-use Rattle.st_tree.specs.declared.program.Local.{Local}
-use Rattle.st_tree.specs.declared.program.Pou.{Pou}
+use Rattle.st_tree.specs.StRun.{FitsFormal, FitsInstance}
+use Rattle.st_runner.proofs.Common.{Decides, Local, Pou}
 
 -- the blocks of a number, in two lists of the same numbers and lengths
 abbrev Alike : Option DataBlock → Option DataBlock → Type 0

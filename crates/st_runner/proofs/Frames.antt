@@ -1,19 +1,12 @@
 -- Activations by their number, and those that begin and end.
-use Rattle.std.proofs.Common.{◌≡◌, ℕ, zero, suc, ◌+◌, ◌<◌, ◌≤◌, List, [], ◌∷◌, length, map, slice_index_or, slice_set, Result, Ok, refl, sym, ap, subst, ◌∙◌, arith, ◌++◌}
-use Rattle.std.specs.Prelude.{IfOk, slice_get, vec_capacity}
+use Rattle.st_tree.proofs.Common.{◌≡◌, ℕ, zero, suc, ◌+◌, ◌<◌, ◌≤◌, List, [], ◌∷◌, length, map, slice_index_or, slice_set, Result, Ok, refl, sym, ap, subst, ◌∙◌, arith, ◌++◌, IfOk, slice_get, vec_capacity, and_then, Fault, ACTIVATIONS, Activation, depth, there, with_local}
 use Rattle.std.specs.Vec.{with_item}
-use Rattle.st_runner.specs.inner.View.{AreFrames, AreHeld, AreReachable, IsLocal, IsReachable, IsRunning, IsSound, seen, state_of, IsFrame}
-use Rattle.st_runner.specs.inner.Runnable.{AreGlobals}
+use Rattle.st_runner.proofs.Common.{AreFrames, AreReachable, IsReachable, IsRunning, IsSound, seen, state_of, AreGlobals, Located, Reference, Value}
+use Rattle.st_runner.specs.inner.View.{AreHeld, IsLocal, IsFrame}
 use Rattle.st_runner.specs.declared.state.Activation.{Activation as Kept}
 use Rattle.st_runner.specs.declared.state.State.{State as Parts}
-use Rattle.memory_areas.specs.Access.{and_then}
-use Rattle.s7_base.specs.declared.outcome.Fault.{Fault}
-use Rattle.memory_areas.specs.declared.sizes.TheConstants.{ACTIVATIONS}
-use Rattle.st_tree.specs.State.{Activation, depth, formals_of, there, with_local}
-use Rattle.st_tree.specs.declared.program.Located.{Located}
-use Rattle.st_tree.specs.declared.state.Reference.{Reference}
+use Rattle.st_tree.specs.State.{formals_of}
 use Rattle.st_tree.specs.declared.state.Reference.TheVariants as reference
-use Rattle.st_tree.specs.declared.state.Value.{Value}
 use Rattle.std.proofs.lemmas.List.{length-append}
 
 -- an activation after a local took a value

@@ -1,4 +1,5 @@
 pub mod Chains
+pub mod Common
 pub mod Costs
 pub mod Dones
 pub mod Fits

@@ -1,46 +1,16 @@
 -- What callers see of a runner is what it is made of; and where a run begins.
-use Rattle.std.proofs.Common.{◌≡◌, ℕ, List, [], ◌∷◌, map, refl, ap, ◌∙◌, ◌+◌, ◌*◌, ◌≤◌, Bor, length, Option, Some, sym, subst, arith}
+use Rattle.st_tree.proofs.Common.{◌≡◌, ℕ, List, [], ◌∷◌, map, refl, ap, ◌∙◌, ◌+◌, ◌*◌, ◌≤◌, Bor, length, Option, Some, sym, subst, arith, calls_to, Out, Normal, Calls, body_meaning, loop, end_seen, FitFormals, FitsIfThere, FitsSt, FitsUnit, IsOutsidePlace, formals_given, is_meant, references, run_of_unit, st_run, state_at_start, unit_called, State, value, slice_get, position_or_len, find_at, Areas, IsActivation, DataBlock, Area, Place, ACTIVATIONS, Width, BlockName, Call}
+use Rattle.st_runner.proofs.Common.{IsSettled, IsReady, most_formals, most_locals, Shows, end_at, framed, outcome_of, unwound, At, Frame, Located, StProgram, reach, units, depth_costs, stack_costs, Costs, body_most, IsRunnable, formals_of_unit, misfit_costs, AreReachable, IsSound, UNIT_FRAMES, Local, Pou, Stmt}
 use Rattle.st_runner.specs.inner.Plain.{coming, pending}
-use Rattle.st_runner.specs.inner.Ready.{IsSettled, IsReady, most_formals, most_locals}
-use Rattle.st_runner.specs.Standing.{Shows, all_followed, end_by, followed}
-use Rattle.st_runner.specs.inner.Waiting.{end_at, framed, outcome_of, unwound}
-use Rattle.st_runner.specs.declared.frame.At.{At}
+use Rattle.st_runner.specs.Standing.{all_followed, end_by, followed}
 use Rattle.st_runner.specs.declared.frame.At.TheVariants as at
-use Rattle.st_runner.specs.declared.frame.Frame.{Frame}
 use Rattle.st_runner.specs.declared.frame.Frame.TheVariants as frame
 use Rattle.st_runner.proofs.Stack.{unwound_none}
-use Rattle.st_tree.specs.Calls.{calls_to}
-use Rattle.st_tree.specs.Meaning.{Out, Normal, Calls, body_meaning, loop}
-use Rattle.st_tree.specs.StRun.{end_seen, FitFormals, FitsIfThere, FitsSt, FitsUnit, IsOutsidePlace, formals_given, is_meant, references, run_of_unit, st_run, state_at_start, unit_called}
-use Rattle.st_tree.specs.State.{State}
-use Rattle.st_tree.specs.Value.{value}
-use Rattle.st_tree.specs.declared.program.Located.{Located}
-use Rattle.st_tree.specs.declared.program.StProgram.{StProgram}
-use Rattle.std.specs.Prelude.{slice_get}
-use Rattle.std.specs.List.{position_or_len}
-use Rattle.std.proofs.lemmas.List.Folds.{find_at}
-use Rattle.memory_areas.specs.Areas.{Areas}
-use Rattle.memory_areas.specs.Memory.{IsActivation}
-use Rattle.memory_areas.specs.declared.data_block.DataBlock.{DataBlock}
-use Rattle.memory_areas.specs.declared.place.Area.{Area}
 use Rattle.memory_areas.specs.declared.place.Area.TheVariants as area
-use Rattle.memory_areas.specs.declared.place.Place.{Place}
-use Rattle.memory_areas.specs.declared.sizes.TheConstants.{ACTIVATIONS}
-use Rattle.s7_base.specs.declared.word.Width.{Width}
-use Rattle.st_runner.specs.inner.Measures.{reach, units, depth_costs, stack_costs}
-use Rattle.st_runner.specs.inner.Costs.{Costs, body_most}
-use Rattle.st_runner.specs.inner.Runnable.{IsRunnable, formals_of_unit, misfit_costs}
-use Rattle.st_runner.specs.inner.View.{AreReachable, IsSound}
 use Rattle.st_runner.specs.declared.state.State.{State as Parts}
-use Rattle.st_runner.specs.declared.steps.TheConstants.{UNIT_FRAMES}
 use Rattle.st_runner.proofs.Chains.{chain_covers, stack_covers}
 use Rattle.st_runner.proofs.Spending.{formals_at, locals_at}
-use Rattle.st_tree.specs.declared.program.Local.{Local}
-use Rattle.st_tree.specs.declared.program.Pou.{Pou}
-use Rattle.st_tree.specs.declared.program.Stmt.{Stmt}
-use Rattle.memory_areas.specs.declared.call.BlockName.{BlockName}
 use Rattle.memory_areas.specs.declared.call.BlockName.TheVariants as name
-use Rattle.memory_areas.specs.declared.call.Call.{Call}
 
 module _ (g : List Located) (c : Calls) where
   framed_same : (f : Frame) (o : Out) → framed g c f o ≡ followed g c (pending f) o

@@ -1,30 +1,10 @@
 -- A proper tree can be run.
-use Rattle.std.specs.Prelude.{◌≡◌, ℕ, suc, ◌≤◌, ◌==◌, Bool, true, false, not, ◌&&◌, if◌then◌else◌, List, [], ◌∷◌, length, map, slice_get, All, Option, Some, None, option_map}
-use Rattle.std.proofs.Common.{refl, sym, ap, ◌∙◌, subst, arith, eq-eqb}
-use Rattle.std.proofs.lemmas.Bool.{and_parts}
-use Rattle.std.proofs.lemmas.List.Elements.{All-head, All-tail}
-use Rattle.std.proofs.lemmas.Option.{slice_get-map}
-use Rattle.memory_areas.specs.Memory.{IsActivation}
-use Rattle.memory_areas.specs.declared.place.Area.{Area}
+use Rattle.st_tree.proofs.Common.{◌≡◌, ℕ, suc, ◌≤◌, ◌==◌, Bool, true, false, not, ◌&&◌, if◌then◌else◌, List, [], ◌∷◌, length, map, slice_get, All, Option, Some, None, option_map, refl, sym, ap, ◌∙◌, subst, arith, and_parts, All-head, All-tail, slice_get-map, IsActivation, Area, Width, greatest, arm_nesting, body_nesting, case_nesting, nesting, IsGlobal, IsProperUnit, Proper, width_at, Head, Sight, are_given, are_well_typed, each, each_case, has_type, head_of, is_arm, is_call, is_case_arm, is_seen, is_well_typed, sight_in, variable_type}
+use Rattle.std.proofs.Common.{eq-eqb}
 use Rattle.memory_areas.specs.declared.place.Area.TheVariants as place
-use Rattle.s7_base.specs.declared.word.Width.{Width}
-use Rattle.st_runner.specs.inner.Costs.{Costs, arm_most, body_most, case_most, most}
-use Rattle.st_tree.specs.Depth.{greatest}
-use Rattle.st_tree.specs.Nesting.{arm_nesting, body_nesting, case_nesting, nesting}
+use Rattle.st_runner.proofs.Common.{Costs, arm_most, body_most, case_most, most, AreGlobals, IsRunnable, formals_of_unit, misfit_costs, nesting_costs, StType, Var, Arm, CaseArm, Local, Located, Pou, StProgram, Stmt}
 use Rattle.st_tree.specs.PlaceRules.{is_located}
-use Rattle.st_tree.specs.Proper.{IsGlobal, IsProperUnit, Proper}
-use Rattle.st_runner.specs.inner.Runnable.{AreGlobals, IsRunnable, formals_of_unit, misfit, misfit_costs, nesting_costs}
-use Rattle.st_tree.specs.Values.{width_at}
-use Rattle.st_tree.specs.WellTyped.{Head, Sight, are_given, are_well_typed, each, each_case, has_type, head_of, is_arm, is_call, is_case_arm, is_seen, is_well_typed, sight_in, variable_type}
-use Rattle.st_tree.specs.declared.expr.StType.{StType}
-use Rattle.st_tree.specs.declared.expr.Var.{Var}
-use Rattle.st_tree.specs.declared.program.Arm.{Arm}
-use Rattle.st_tree.specs.declared.program.CaseArm.{CaseArm}
-use Rattle.st_tree.specs.declared.program.Local.{Local}
-use Rattle.st_tree.specs.declared.program.Located.{Located}
-use Rattle.st_tree.specs.declared.program.Pou.{Pou}
-use Rattle.st_tree.specs.declared.program.StProgram.{StProgram}
-use Rattle.st_tree.specs.declared.program.Stmt.{Stmt}
+use Rattle.st_runner.specs.inner.Runnable.{misfit}
 use Rattle.st_tree.specs.declared.program.Stmt.TheOpen as S
 use Rattle.st_tree.specs.declared.program.Stmt.TheVariants as stmt
 use Rattle.st_runner.proofs.Costs.{most_arm, most_case_arm, most_stmt}

@@ -1,38 +1,13 @@
 -- What takes a unit: the test of a loop and a call.
-use Rattle.std.proofs.Common.{◌≡◌, ℕ, suc, ◌+◌, ◌≤◌, Bool, true, false, if◌then◌else◌, List, [], ◌∷◌, Option, Some, Result, Ok, Err, sym, ap, subst, ◌∙◌, arith, zero, ◌<◌, max, Bor, ◌++◌, length, refl}
-use Rattle.std.specs.Prelude.{slice_get, ◌==◌, slice_index_or}
-use Rattle.memory_areas.specs.Access.{and_then}
-use Rattle.s7_base.specs.declared.outcome.Fault.{Fault}
-use Rattle.st_runner.specs.inner.Waiting.{end_at, ending, framed, unwound}
+use Rattle.st_tree.proofs.Common.{◌≡◌, ℕ, suc, ◌+◌, ◌≤◌, Bool, true, false, if◌then◌else◌, List, [], ◌∷◌, Option, Some, Result, Ok, Err, sym, ap, subst, ◌∙◌, arith, zero, ◌<◌, max, Bor, ◌++◌, length, refl, slice_get, ◌==◌, slice_index_or, and_then, Fault, after_unit, called, calls_to, entered, located_actuals, unit_step, Out, Normal, Calls, after_body, body_meaning, loop, turns, with_value, end_seen, State, value, is_set, nat_tests, slice_get_within, ACTIVATIONS, chain_of}
+use Rattle.st_runner.proofs.Common.{end_at, ending, framed, unwound, Frame, Expr, Var, Located, Pou, StProgram, Stmt, Reference, Value, frame_tall, reach, size, sizes, tall, unit_costs, units, depth_costs, stack_costs, Costs, body_most, IsReady, most_formals, most_locals, IsRunnable, formals_of_unit, misfit_costs, Changes, IsSound, state_of, At}
 use Rattle.st_runner.specs.declared.frame.At.TheVariants as at
-use Rattle.st_runner.specs.declared.frame.Frame.{Frame}
 use Rattle.st_runner.specs.declared.frame.Frame.TheVariants as frame
 use Rattle.st_runner.proofs.Stack.{unwound_faults, sizes_tall, on_top, top_sizes, top_tall}
-use Rattle.st_tree.specs.Calls.{after_unit, called, calls_to, entered, located_actuals, unit_step}
-use Rattle.st_tree.specs.Meaning.{Out, Normal, Calls, after_body, body_meaning, loop, turns, with_value}
-use Rattle.st_tree.specs.StRun.{end_seen}
-use Rattle.st_tree.specs.State.{State}
-use Rattle.st_tree.specs.Value.{value}
-use Rattle.st_tree.specs.Values.{is_set}
-use Rattle.st_tree.specs.declared.expr.Expr.{Expr}
-use Rattle.st_tree.specs.declared.expr.Var.{Var}
-use Rattle.st_tree.specs.declared.program.Located.{Located}
-use Rattle.st_tree.specs.declared.program.Pou.{Pou}
-use Rattle.st_tree.specs.declared.program.StProgram.{StProgram}
-use Rattle.st_tree.specs.declared.program.Stmt.{Stmt}
-use Rattle.st_tree.specs.declared.state.Reference.{Reference}
-use Rattle.st_tree.specs.declared.state.Value.{Value}
 use Rattle.st_tree.proofs.Units.{CallsFollow, Follows, body_follows, calls_follow, follows_same, none_more, statements_follow, then_follows, turns_follow, unit_follows}
-use Rattle.std.proofs.lemmas.Bool.Decides.{nat_tests}
-use Rattle.std.proofs.lemmas.Option.{slice_get-get_or, slice_get_within}
-use Rattle.memory_areas.specs.declared.sizes.TheConstants.{ACTIVATIONS}
-use Rattle.st_runner.specs.inner.Measures.{frame_tall, reach, size, sizes, tall, unit_costs, units, depth_costs, stack_costs}
-use Rattle.st_runner.specs.inner.Costs.{Costs, body_most}
-use Rattle.st_runner.specs.inner.Ready.{IsReady, Spent, most_formals, most_locals}
-use Rattle.st_runner.specs.inner.Runnable.{IsRunnable, formals_of_unit, misfit_costs}
-use Rattle.st_tree.specs.Chains.{chain_of}
-use Rattle.st_runner.specs.inner.View.{Changes, IsSound, MayEnter, state_of}
-use Rattle.st_runner.specs.declared.frame.At.{At}
+use Rattle.std.proofs.lemmas.Option.{slice_get-get_or}
+use Rattle.st_runner.specs.inner.Ready.{Spent}
+use Rattle.st_runner.specs.inner.View.{MayEnter}
 use Rattle.st_runner.specs.declared.state.State.{State as Parts}
 use Rattle.st_runner.proofs.Chains.{chain_covers, chain_some, stack_covers, unit_there}
 use Rattle.st_runner.proofs.Stepping.{stack_length}

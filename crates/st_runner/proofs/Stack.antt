@@ -1,17 +1,8 @@
 -- Frames that wait: what is pushed is done first, how much they cost, and those that EXIT, CONTINUE and RETURN
 -- take away.
-use Rattle.std.proofs.Common.{◌≡◌, ◌+◌, ◌≤◌, max, List, [], ◌∷◌, ◌++◌, refl, ap, ◌∙◌, arith, ℕ, sym, subst}
-use Rattle.s7_base.specs.declared.outcome.Fault.{Fault}
-use Rattle.st_runner.specs.inner.Measures.{frame_tall, frame_weight, size, sizes, tall, work_weight, unit_costs, units}
-use Rattle.st_runner.specs.inner.Costs.{Costs}
-use Rattle.st_runner.specs.inner.Waiting.{framed, unwound, ending}
-use Rattle.st_runner.specs.declared.frame.Frame.{Frame}
+use Rattle.st_tree.proofs.Common.{◌≡◌, ◌+◌, ◌≤◌, max, List, [], ◌∷◌, ◌++◌, refl, ap, ◌∙◌, arith, ℕ, sym, subst, Fault, Out, Faults, NoUnits, Calls, Normal, State, end_seen}
+use Rattle.st_runner.proofs.Common.{frame_tall, frame_weight, size, sizes, tall, work_weight, unit_costs, units, Costs, framed, unwound, ending, Frame, Located, Leaves}
 use Rattle.st_runner.specs.declared.frame.Frame.TheVariants as frame
-use Rattle.st_tree.specs.Meaning.{Out, Faults, NoUnits, Calls, Normal}
-use Rattle.st_tree.specs.State.{State}
-use Rattle.st_tree.specs.declared.program.Located.{Located}
-use Rattle.st_runner.specs.inner.Leaving.{Leaves}
-use Rattle.st_tree.specs.StRun.{end_seen}
 
 module _ (g : List Located) (c : Calls) where
   pub unwound_push : (fs : List Frame) (f : Frame) (o : Out) → unwound g c (fs ++ f ∷ []) o ≡ unwound g c fs (framed g c f o)

@@ -1,24 +1,14 @@
 -- What needs no unit, frame by frame.
-use Rattle.std.proofs.Common.{◌≡◌, ℕ, ◌+◌, ◌≤◌, max, Bor, List, [], ◌∷◌, ◌++◌, length, refl, sym, ap, ◌∙◌, arith}
-use Rattle.st_runner.specs.inner.Measures.{body_weight, frame_tall, frame_weight, sizes, tall, unit_costs, units, weight, work_weight, depth_costs, stack_costs}
-use Rattle.st_runner.specs.inner.Costs.{Costs, body_most, most}
-use Rattle.st_runner.specs.inner.Ready.{Done, IfWork, IsReady, Stepped, most_formals, most_locals}
-use Rattle.st_runner.specs.inner.Runnable.{misfit_costs}
-use Rattle.st_runner.specs.inner.Waiting.{ending, or_none, with_rest}
-use Rattle.st_runner.specs.inner.View.{IsRunning, IsSound, MayLeave, SameShape, state_of}
-use Rattle.st_runner.specs.declared.frame.At.{At}
+use Rattle.st_tree.proofs.Common.{◌≡◌, ℕ, ◌+◌, ◌≤◌, max, Bor, List, [], ◌∷◌, ◌++◌, length, refl, sym, ap, ◌∙◌, arith, left, Calls, Out, Normal, body_meaning, meaning, then_do, State}
+use Rattle.st_runner.proofs.Common.{body_weight, frame_tall, frame_weight, sizes, tall, unit_costs, units, weight, work_weight, depth_costs, stack_costs, Costs, body_most, most, Done, IsReady, most_formals, most_locals, misfit_costs, ending, IsRunning, IsSound, state_of, At, Frame, Expr, StProgram, Stmt}
+use Rattle.st_runner.specs.inner.Ready.{IfWork, Stepped}
+use Rattle.st_runner.specs.inner.Waiting.{or_none, with_rest}
+use Rattle.st_runner.specs.inner.View.{MayLeave, SameShape}
 use Rattle.st_runner.specs.declared.frame.At.TheVariants as at
-use Rattle.st_runner.specs.declared.frame.Frame.{Frame}
 use Rattle.st_runner.specs.declared.frame.Frame.TheVariants as frame
 use Rattle.st_runner.specs.declared.state.State.{State as Parts}
 use Rattle.st_runner.proofs.Frames.{sound_running}
 use Rattle.st_runner.proofs.Stack.{sizes_tall, on_top, top_sizes, top_tall, top_weight}
-use Rattle.st_tree.specs.Calls.{left}
-use Rattle.st_tree.specs.Meaning.{Calls, Out, Normal, body_meaning, meaning, then_do}
-use Rattle.st_tree.specs.State.{State}
-use Rattle.st_tree.specs.declared.expr.Expr.{Expr}
-use Rattle.st_tree.specs.declared.program.StProgram.{StProgram}
-use Rattle.st_tree.specs.declared.program.Stmt.{Stmt}
 
 -- behind a statement nothing is to be done
 alone : (o : Out) → o ≡ then_do o (λ u s. Normal u s)

@@ -1,20 +1,10 @@
 -- What the judgement of a text's tokens says of the judgement of the text.
-use Rattle.std.proofs.Common.{◌≡◌, ℕ, List, Some, Result, Ok, Err, ap, subst, ◌∙◌}
-use Rattle.std.specs.Prelude.{option_map}
-use Rattle.s7_base.specs.Answers.{IfRefused}
-use Rattle.s7_base.specs.Tokens.{line_at_end}
-use Rattle.s7_base.specs.declared.reason.Line.{Line}
-use Rattle.s7_base.specs.declared.reason.Reason.{Reason}
-use Rattle.s7_base.specs.declared.reason.Rejection.{Rejection}
+use Rattle.st_tree.proofs.Common.{◌≡◌, ℕ, List, Some, Result, Ok, Err, ap, subst, ◌∙◌, option_map, IfRefused, line_at_end, Line, Reason, Rejection}
 use Rattle.s7_base.specs.declared.reason.Rejection.TheVariants.{Refused, NoMemory}
-use Rattle.st_grammar.specs.Syntax.{all_lined}
-use Rattle.st_grammar.specs.inner.Judge.{judge_tokens, raw_of, tree_at, verdict, verdict_on}
-use Rattle.st_grammar.specs.inner.Machine.{code, TextSoFar, State, start}
-use Rattle.st_lexer.specs.StTokens.{tokens_of}
+use Rattle.st_grammar.proofs.Common.{all_lined, judge_tokens, raw_of, tree_at, verdict, verdict_on, code, TextSoFar, State, start}
+use Rattle.st_lexer.proofs.Common.{tokens_of, RawSt, StToken}
 use Rattle.st_syntax.specs.declared.state.TextSoFar.{TextSoFar as Found}
 use Rattle.st_syntax.specs.inner.Seen.{HasText}
-use Rattle.st_tree.specs.declared.raw.RawSt.{RawSt}
-use Rattle.st_tree.specs.declared.token.StToken.{StToken}
 
 -- what a judgement of a text is
 abbrev IsJudged : List ℕ → Line → Reason → Type 0

@@ -1,26 +1,12 @@
 -- Calls from outside: which fit, and what they run, held against worked rows.
-use Rattle.std.proofs.Common.{◌≡◌, refl, ℕ, false, true, List, [], ◌∷◌, pos, None}
-use Rattle.std.specs.Prelude.{codes}
-use Rattle.std.specs.Fmt.{digits}
-use Rattle.memory_areas.specs.Areas.{Areas}
-use Rattle.memory_areas.specs.End.{Ended}
-use Rattle.memory_areas.specs.declared.place.Area.{Area}
+use Rattle.st_tree.proofs.Common.{◌≡◌, refl, ℕ, false, true, List, [], ◌∷◌, pos, None, codes, digits, Areas, Ended, Area, Place, Width, BlockName, Call, FitsSt, st_run, Local, Pou, StProgram, Stmt}
 use Rattle.memory_areas.specs.declared.place.Area.TheVariants as place
 use Rattle.memory_areas.specs.declared.place.AreaName.TheVariants as area
-use Rattle.memory_areas.specs.declared.place.Place.{Place}
-use Rattle.s7_base.specs.declared.word.Width.{Width}
 use Rattle.s7_base.specs.declared.word.Width.TheVariants as width
-use Rattle.memory_areas.specs.declared.call.BlockName.{BlockName}
 use Rattle.memory_areas.specs.declared.call.BlockName.TheVariants.{Ob, Fc, Fb}
-use Rattle.memory_areas.specs.declared.call.Call.{Call}
-use Rattle.st_tree.specs.StRun.{FitsSt, st_run}
 use Rattle.st_tree.specs.declared.expr.StType.TheVariants as type
 use Rattle.st_tree.specs.declared.expr.Var.TheVariants as var
 use Rattle.st_tree.specs.declared.expr.Expr.TheVariants as expr
-use Rattle.st_tree.specs.declared.program.Local.{Local}
-use Rattle.st_tree.specs.declared.program.Pou.{Pou}
-use Rattle.st_tree.specs.declared.program.StProgram.{StProgram}
-use Rattle.st_tree.specs.declared.program.Stmt.{Stmt}
 use Rattle.st_tree.specs.declared.program.Stmt.TheVariants as stmt
 use Rattle.st_tree.proofs.Equations.{meaning_equations}
 

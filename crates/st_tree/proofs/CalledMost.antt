@@ -1,17 +1,6 @@
 -- The greatest of what the units give that a body calls, by its statements.
-use Rattle.std.specs.Prelude.{◌≡◌, ℕ, max, List, [], ◌∷◌, ◌++◌, map}
+use Rattle.st_tree.proofs.Common.{◌≡◌, ℕ, max, List, [], ◌∷◌, ◌++◌, map, ap, ◌∙◌, arith, append_assoc, flat_map-append, Width, called_in, greatest, call_step, calls_in, statements_in, Expr, Var, Arm, CaseArm, Stmt, out-Stmt, roll-Stmt}
 use Rattle.std.specs.List.{flat_map}
-use Rattle.std.proofs.Common.{ap, ◌∙◌, arith, append_assoc}
-use Rattle.std.proofs.lemmas.Grind.{flat_map-append}
-use Rattle.s7_base.specs.declared.word.Width.{Width}
-use Rattle.st_tree.specs.Chains.{called_in}
-use Rattle.st_tree.specs.Depth.{greatest}
-use Rattle.st_tree.specs.Parts.{call_step, calls_in, statements_in}
-use Rattle.st_tree.specs.declared.expr.Expr.{Expr}
-use Rattle.st_tree.specs.declared.expr.Var.{Var}
-use Rattle.st_tree.specs.declared.program.Arm.{Arm}
-use Rattle.st_tree.specs.declared.program.CaseArm.{CaseArm}
-use Rattle.st_tree.specs.declared.program.Stmt.{Stmt, out-Stmt, roll-Stmt}
 use Rattle.st_tree.specs.declared.program.Stmt.TheOpen as S
 use Rattle.st_tree.specs.declared.program.Stmt.TheVariants as stmt
 use Rattle.st_tree.proofs.PartEquations.{gathered_append, gathered_first, inner_bodies}

@@ -1,30 +1,13 @@
 -- What a fold over a tree is: of expressions at each variant, and of statements. First any fold, and then those
 -- of this crate, as rules by which `simp` opens them.
-use Rattle.std.specs.Prelude.{◌≡◌, ℕ, ◌-◌, ℤ, List, ◌∷◌, map, Result, Ok, Err}
-use Rattle.std.proofs.Common.{sym, ap, ◌∙◌}
-use Rattle.memory_areas.specs.Access.{and_then}
-use Rattle.s7_base.specs.declared.outcome.Fault.{Fault}
-use Rattle.s7_base.specs.declared.word.Width.{Width}
-use Rattle.st_tree.specs.Form.{Form, literal, variable, infix_of, convert, select, shift, area_read, wrap, unary_form, infix_level, canon_step, canon}
-use Rattle.st_tree.specs.Meaning.{Calls, Faults, Guarded, Labelled, Out, Sem, then_do, changed, arm_meaning, arm_step, body_meaning, case_meaning, case_step, meaning, stmt_step}
+use Rattle.st_tree.proofs.Common.{◌≡◌, ℕ, ◌-◌, ℤ, List, ◌∷◌, map, Result, Ok, Err, sym, ap, ◌∙◌, and_then, Fault, Width, Form, literal, variable, infix_of, convert, select, shift, area_read, wrap, unary_form, infix_level, canon_step, canon, Calls, Faults, Guarded, Labelled, Out, Sem, then_do, changed, arm_meaning, body_meaning, case_meaning, meaning, Text, ArmText, CaseText, statement_step, statement_text, State, write, Names, Worth, value, value_step, Value, BinaryOp, Expr, fold-Expr, fold-roll-Expr, ShiftOp, StType, UnaryOp, Var, Arm, fold_out-Arm, CaseArm, fold_out-CaseArm, Located, Stmt, map-Stmt, roll-Stmt}
+use Rattle.st_tree.specs.Meaning.{arm_step, case_step, stmt_step}
 use Rattle.st_tree.specs.Spelling as text
-use Rattle.st_tree.specs.Spelling.{Text, ArmText, CaseText, statement_step, statement_text}
-use Rattle.st_tree.specs.State.{State, write}
-use Rattle.st_tree.specs.Typing.{Names}
-use Rattle.st_tree.specs.Value.{Worth, value, value_step}
-use Rattle.st_tree.specs.Values.{Value}
-use Rattle.st_tree.specs.declared.expr.BinaryOp.{BinaryOp}
-use Rattle.st_tree.specs.declared.expr.Expr.{Expr, fold-Expr, fold-roll-Expr}
 use Rattle.st_tree.specs.declared.expr.Expr.TheVariants as expr
 use Rattle.st_tree.specs.declared.expr.Expr.TheOpen as E
-use Rattle.st_tree.specs.declared.expr.ShiftOp.{ShiftOp}
-use Rattle.st_tree.specs.declared.expr.StType.{StType}
-use Rattle.st_tree.specs.declared.expr.UnaryOp.{UnaryOp}
-use Rattle.st_tree.specs.declared.expr.Var.{Var}
-use Rattle.st_tree.specs.declared.program.Arm.{Arm, fold-Arm, fold_out-Arm}
-use Rattle.st_tree.specs.declared.program.CaseArm.{CaseArm, fold-CaseArm, fold_out-CaseArm}
-use Rattle.st_tree.specs.declared.program.Located.{Located}
-use Rattle.st_tree.specs.declared.program.Stmt.{Stmt, fold-Stmt, fold-roll-Stmt, map-Stmt, roll-Stmt}
+use Rattle.st_tree.specs.declared.program.Arm.{fold-Arm}
+use Rattle.st_tree.specs.declared.program.CaseArm.{fold-CaseArm}
+use Rattle.st_tree.specs.declared.program.Stmt.{fold-Stmt, fold-roll-Stmt}
 use Rattle.st_tree.specs.declared.program.Stmt.TheOpen as S
 use Rattle.st_tree.specs.declared.program.Stmt.TheVariants as stmt
 

@@ -1,43 +1,14 @@
 -- Well typed expressions, statements and calls in a state that fits: what variables stand for and what is read is
 -- of its type, and what is written, what statements leave and what the calls of a proper tree leave is a state that
 -- fits.
-use Rattle.std.specs.List.{list_any}
-use Rattle.std.specs.Ordering.{int_eq}
-use Rattle.std.specs.Prelude.{◌≡◌, ℕ, zero, suc, ℤ, Bool, true, false, ◌&&◌, List, [], ◌∷◌, ◌++◌, length, slice_get, Option, Some, None, Result, Ok, Err, if◌then◌else◌, slice_set, map, get_or, pos, take, All, Contains, option_map}
-use Rattle.std.proofs.Common.{refl, sym, ap, ◌∙◌, subst, arith, append-nil, append_assoc, eqb-true}
-use Rattle.std.proofs.lemmas.Bool.Decides.{Decides-int_eq}
-use Rattle.memory_areas.specs.Access.{and_then, aimed, fault_of, unless}
-use Rattle.memory_areas.specs.Areas.{Contents}
+use Rattle.st_tree.proofs.Common.{list_any, int_eq, ◌≡◌, ℕ, zero, suc, ℤ, Bool, true, false, ◌&&◌, List, [], ◌∷◌, ◌++◌, length, slice_get, Option, Some, None, Result, Ok, Err, if◌then◌else◌, slice_set, map, get_or, pos, take, All, Contains, option_map, refl, sym, ap, ◌∙◌, subst, arith, append-nil, append_assoc, eqb-true, Decides-int_eq, and_then, aimed, fault_of, unless, Contents, Place, Fault, Reg, Width, ActivationFits, Fits, IsOf, Paired, StandsFor, RegistersFit, EndsFit, Out, Normal, Continues, Sem, Calls, after_body, area_assigned, arm_meaning, assigned, body_meaning, case_meaning, changed, first_true, first_with, meaning, then_do, turns, with_value, Exits, Returns, Faults, NoUnits, is_conversion, binary_value, chosen, converted, shift_value, unary_value, is_block_number, is_place, Activation, State, depth, there, type_of_register, pointed_at, with_local, write, write_place, where_true, type_of_binary, type_of_choice, type_of_conversion, type_of_read, type_of_shift, type_of_unary, value, Worth, value_step, Value, fit, type_of_width, is_set, width_at, Sight, expression_type, is_seen, is_value, sight_in, type_inside, type_outside, variable_type, are_well_typed, each, each_case, is_arm, is_assigned, is_case_arm, is_well_typed, expression_step, on_type, are_given, has_type, head_of, is_call, Expr, StType, Var, Arm, CaseArm, Local, Located, Pou, StProgram, Stmt, Reference, and_parts, get_or_from_slice_get, slice_get-map, slice_get_within, activation_of, after_unit, called, calls_to, entered, invoked, left, located_actual, located_actuals, unit_step, zero_of, IsProperUnit, Proper}
 use Rattle.memory_areas.specs.declared.place.AreaName.TheVariants as area
-use Rattle.memory_areas.specs.declared.place.Place.{Place}
 use Rattle.s7_base.specs.RegSet.{place}
-use Rattle.s7_base.specs.declared.outcome.Fault.{Fault}
-use Rattle.s7_base.specs.declared.register.Reg.{Reg}
-use Rattle.s7_base.specs.declared.word.Width.{Width}
-use Rattle.st_tree.specs.Fitting.{ActivationFits, ActivationsFit, Fits, IsOf, Paired, StandsFor, local_type, locals_declared, RegistersFit, CallsFit, EndsFit}
-use Rattle.st_tree.specs.Meaning.{Out, Normal, Continues, Sem, Calls, after_body, area_assigned, arm_meaning, assigned, body_meaning, case_meaning, changed, first_true, first_with, meaning, then_do, turns, with_value, Exits, Returns, Faults, NoUnits}
-use Rattle.st_tree.specs.Naming.{is_conversion}
-use Rattle.st_tree.specs.Operators.{binary_value, chosen, converted, shift_value, unary_value}
-use Rattle.st_tree.specs.PlaceRules.{is_block_number, is_place}
-use Rattle.st_tree.specs.State.{Activation, State, depth, locals_of, read_at, reference_of, there, type_of_register, area_write, is_same_register, pointed_at, with_local, with_register, write, write_at, write_place, area_read}
-use Rattle.st_tree.specs.TypeRules.{where_true, type_of_binary, type_of_choice, type_of_conversion, type_of_read, type_of_shift, type_of_unary}
-use Rattle.st_tree.specs.Value.{value, Worth, value_step}
-use Rattle.st_tree.specs.Values.{Value, fit, type_of_width, is_set, width_at}
-use Rattle.st_tree.specs.WellTyped.{Sight, expression_type, is_seen, is_value, sight_in, type_inside, type_outside, variable_type, are_well_typed, each, each_case, is_arm, is_assigned, is_case_arm, is_well_typed, expression_step, on_type, are_given, has_type, head_of, is_call}
-use Rattle.st_tree.specs.declared.expr.Expr.{Expr}
+use Rattle.st_tree.specs.Fitting.{ActivationsFit, local_type, locals_declared, CallsFit}
+use Rattle.st_tree.specs.State.{locals_of, read_at, reference_of, area_write, is_same_register, with_register, write_at, area_read}
 use Rattle.st_tree.specs.declared.expr.Expr.TheOpen as E
-use Rattle.st_tree.specs.declared.expr.StType.{StType}
 use Rattle.st_tree.specs.declared.expr.StType.TheVariants as type
-use Rattle.st_tree.specs.declared.expr.Var.{Var}
 use Rattle.st_tree.specs.declared.expr.Var.TheVariants as var
-use Rattle.st_tree.specs.declared.program.Arm.{Arm}
-use Rattle.st_tree.specs.declared.program.CaseArm.{CaseArm}
-use Rattle.st_tree.specs.declared.program.Local.{Local}
-use Rattle.st_tree.specs.declared.program.Located.{Located}
-use Rattle.st_tree.specs.declared.program.Pou.{Pou}
-use Rattle.st_tree.specs.declared.program.StProgram.{StProgram}
-use Rattle.st_tree.specs.declared.program.Stmt.{Stmt}
-use Rattle.st_tree.specs.declared.state.Reference.{Reference}
 use Rattle.st_tree.specs.declared.state.Reference.TheVariants as reference
 use Rattle.st_tree.proofs.Equations.{meaning_area_write, meaning_arm, meaning_assign, meaning_case, meaning_case_arm, meaning_continue, meaning_exit, meaning_if, meaning_invoke, meaning_return, meaning_while}
 use Rattle.st_tree.proofs.FittingMemory.{AfterHolds, place_holds, cleared_holds}
@@ -45,11 +16,8 @@ use Rattle.st_tree.proofs.FittingValues.{Typed, area_typed, choice_typed, conver
 use Rattle.st_tree.proofs.Induction.{Each, InArm, InCase, StmtSteps, every_body, Layers, folds_related}
 use Rattle.st_tree.proofs.TypedParts.{body_of_case, both_sides, parts_of_arm, parts_of_arms, parts_of_body, parts_of_case, parts_of_cases, parts_of_if, parts_of_while}
 use Rattle.st_tree.proofs.TypingEquations.{good_assign, good_invoke, type_had}
-use Rattle.std.proofs.lemmas.Bool.{and_parts}
 use Rattle.std.proofs.lemmas.List.Elements.{All-pop, All-push}
-use Rattle.std.proofs.lemmas.Option.{get_or_from_slice_get, slice_get-map, slice_get_within}
-use Rattle.st_tree.specs.Calls.{activation_of, after_unit, called, calls_to, entered, invoked, left, located_actual, located_actuals, tested, unit_step, zero_of}
-use Rattle.st_tree.specs.Proper.{IsProperUnit, Proper}
+use Rattle.st_tree.specs.Calls.{tested}
 
 -- Activations
 

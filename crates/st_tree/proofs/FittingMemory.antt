@@ -1,23 +1,12 @@
 -- Writes keep that each area holds bytes.
-use Rattle.std.specs.Prelude.{◌≡◌, ℕ, zero, suc, ◌+◌, ◌<◌, ◌/◌, ◌%◌, ◌^◌, Bool, true, false, cond, ◌==◌, nat_lt, if◌then◌else◌, List, [], ◌∷◌, ◌++◌, length, get_or, take, drop, slice_get, slice_set, All, Option, Some, None, Result, Ok, Err}
-use Rattle.std.proofs.Common.{refl, arith}
-use Rattle.std.proofs.lemmas.Bool.Decides.{nat_tests}
-use Rattle.std.proofs.lemmas.List.Elements.{All-append, All-cons, All-drop, All-head, All-nil, All-replicate, All-tail, All-take}
-use Rattle.memory_areas.specs.Access.{aimed, and_then, bytes_there, bytes_wide, fault_of, first_fault, is_closed, is_missing, or_none, put, reached, unless}
-use Rattle.memory_areas.specs.Areas.{Contents, block_of, byte_at, byte_with, bytes_in, bytes_of_dword, bytes_of_word, cleared, replaced, with_block, with_bytes, zero_locals}
-use Rattle.memory_areas.specs.declared.data_block.DataBlock.{DataBlock}
-use Rattle.memory_areas.specs.declared.place.Area.{Area}
+use Rattle.st_tree.proofs.Common.{◌≡◌, ℕ, zero, suc, ◌+◌, ◌<◌, ◌/◌, ◌%◌, ◌^◌, Bool, true, false, cond, ◌==◌, nat_lt, if◌then◌else◌, List, [], ◌∷◌, ◌++◌, length, get_or, take, drop, slice_get, slice_set, All, Option, Some, None, Result, Ok, Err, refl, arith, nat_tests, All-cons, All-head, All-nil, All-replicate, All-tail, aimed, and_then, bytes_there, bytes_wide, fault_of, first_fault, is_closed, is_missing, or_none, unless, Contents, block_of, bytes_in, zero_locals, DataBlock, Area, Place, Fault, Width, HoldsBytes, write_place, Value, is_set, pattern, StType}
+use Rattle.std.proofs.lemmas.List.Elements.{All-append, All-drop, All-take}
+use Rattle.memory_areas.specs.Access.{put, reached}
+use Rattle.memory_areas.specs.Areas.{byte_at, byte_with, bytes_of_dword, bytes_of_word, cleared, replaced, with_block, with_bytes}
 use Rattle.memory_areas.specs.declared.place.Area.TheVariants as area
-use Rattle.memory_areas.specs.declared.place.Place.{Place}
 use Rattle.memory_areas.specs.declared.sizes.TheConstants.{LOCAL_BYTES}
-use Rattle.s7_base.specs.declared.outcome.Fault.{Fault}
 use Rattle.s7_base.specs.declared.outcome.Fault.TheVariants.{Alignment, AreaCode, AreaLength, DbMissing, DbNotOpen}
-use Rattle.s7_base.specs.declared.word.Width.{Width}
 use Rattle.s7_base.specs.declared.word.Width.TheVariants as width
-use Rattle.st_tree.specs.Fitting.{HoldsBytes}
-use Rattle.st_tree.specs.State.{write_place}
-use Rattle.st_tree.specs.Values.{Value, is_set, pattern}
-use Rattle.st_tree.specs.declared.expr.StType.{StType}
 use Rattle.st_tree.specs.declared.expr.StType.TheVariants as type
 use Rattle.st_tree.proofs.FittingValues.{pattern_below}
 

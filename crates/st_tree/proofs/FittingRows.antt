@@ -1,17 +1,8 @@
 -- What fits a type and what does not, held against worked rows.
-use Rattle.std.specs.Prelude.{ℕ, false, ℤ, pos, negsuc, List, [], ◌∷◌, codes}
-use Rattle.std.proofs.Common.{refl}
+use Rattle.st_tree.proofs.Common.{ℕ, false, ℤ, pos, negsuc, List, [], ◌∷◌, codes, refl, Reg, activation_of, ActivationFits, IsOf, RegistersFit, StandsFor, all_zero, Value, StType, Local, Pou}
 use Rattle.memory_areas.specs.declared.place.Area.TheVariants as place
-use Rattle.s7_base.specs.declared.register.Reg.{Reg}
 use Rattle.s7_base.specs.declared.register.Reg.TheVariants as reg
-use Rattle.st_tree.specs.Calls.{activation_of}
-use Rattle.st_tree.specs.Fitting.{ActivationFits, IsOf, RegistersFit, StandsFor}
-use Rattle.st_tree.specs.StRun.{all_zero}
-use Rattle.st_tree.specs.Values.{Value}
-use Rattle.st_tree.specs.declared.expr.StType.{StType}
 use Rattle.st_tree.specs.declared.expr.StType.TheVariants as type
-use Rattle.st_tree.specs.declared.program.Local.{Local}
-use Rattle.st_tree.specs.declared.program.Pou.{Pou}
 use Rattle.st_tree.specs.declared.state.Reference.TheVariants as reference
 
 abbrev of : StType → ℤ → Value

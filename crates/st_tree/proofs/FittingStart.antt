@@ -1,33 +1,13 @@
 -- A call from outside begins in a state that fits, and its run leads to no other.
-use Rattle.std.specs.Prelude.{◌≡◌, ℕ, zero, suc, ◌≤◌, ◌<◌, ◌^◌, ◌==◌, Bool, true, false, cond, pos, List, [], ◌∷◌, find, map, replicate, slice_get, All, Contains, Option, Some, IsSome}
+use Rattle.st_tree.proofs.Common.{◌≡◌, ℕ, zero, suc, ◌≤◌, ◌<◌, ◌^◌, ◌==◌, Bool, true, false, cond, pos, List, [], ◌∷◌, map, replicate, slice_get, All, Contains, Option, Some, IsSome, refl, sym, ap, ◌∙◌, subst, arith, eqb-true, and_parts, position_or_len, find_at, All-cons, All-head, All-nil, All-tail, or_none, Areas, IsMemoryOf, Match, block_of, bytes_in, zero_locals, DataBlock, Place, ACTIVATIONS, Width, BlockName, Call, calls_to, EndsFit, Fits, HoldsBytes, Paired, RegistersFit, StandsFor, body_meaning, IsDataBlock, IsProperUnit, Proper, FitFormals, FitsIfThere, FitsSt, FitsUnit, all_zero, formals_given, is_meant, references, state_at_start, unit_called, type_of_register, head_of, Local, Pou, StProgram, Reference}
+use Rattle.std.specs.Prelude.{find}
 use Rattle.std.specs.Str.{str_eq_ignore_ascii_case}
-use Rattle.std.proofs.Common.{refl, sym, ap, ◌∙◌, subst, arith, eqb-true, mod-eq_of_lt}
-use Rattle.std.proofs.lemmas.Bool.{and_parts}
-use Rattle.std.specs.List.{position_or_len}
-use Rattle.std.proofs.lemmas.List.Folds.{find_at}
-use Rattle.std.proofs.lemmas.List.Elements.{All-cons, All-head, All-nil, All-tail}
-use Rattle.memory_areas.specs.Access.{or_none}
-use Rattle.memory_areas.specs.Areas.{Areas, IsMemoryOf, Match, block_of, bytes_in, with_areas, zero_locals}
-use Rattle.memory_areas.specs.declared.data_block.DataBlock.{DataBlock}
+use Rattle.std.proofs.Common.{mod-eq_of_lt}
+use Rattle.memory_areas.specs.Areas.{with_areas}
 use Rattle.memory_areas.specs.declared.place.Area.TheVariants as area
-use Rattle.memory_areas.specs.declared.place.Place.{Place}
-use Rattle.memory_areas.specs.declared.sizes.TheConstants.{ACTIVATIONS}
 use Rattle.s7_base.specs.declared.register.Reg.TheVariants.{DiNo}
-use Rattle.s7_base.specs.declared.word.Width.{Width}
-use Rattle.memory_areas.specs.declared.call.BlockName.{BlockName}
 use Rattle.memory_areas.specs.declared.call.BlockName.TheVariants as name
-use Rattle.memory_areas.specs.declared.call.Call.{Call}
-use Rattle.st_tree.specs.Calls.{calls_to}
-use Rattle.st_tree.specs.Fitting.{EndsFit, Fits, HoldsBytes, Paired, RegistersFit, StandsFor}
-use Rattle.st_tree.specs.Meaning.{body_meaning}
-use Rattle.st_tree.specs.Proper.{IsDataBlock, IsProperUnit, Proper}
-use Rattle.st_tree.specs.StRun.{FitFormals, FitsIfThere, FitsSt, FitsUnit, all_zero, called_name, formals_given, is_meant, references, registers_at_start, state_at_start, unit_called}
-use Rattle.st_tree.specs.State.{type_of_register}
-use Rattle.st_tree.specs.WellTyped.{head_of}
-use Rattle.st_tree.specs.declared.program.Local.{Local}
-use Rattle.st_tree.specs.declared.program.Pou.{Pou}
-use Rattle.st_tree.specs.declared.program.StProgram.{StProgram}
-use Rattle.st_tree.specs.declared.state.Reference.{Reference}
+use Rattle.st_tree.specs.StRun.{called_name, registers_at_start}
 use Rattle.st_tree.proofs.FittingCalls.{at_position, calls_fit, is_in, register_fits, statements_keep, zero_fits, zeros_fit}
 use Rattle.st_tree.proofs.FittingMemory.{AreBytes, zeros_small}
 

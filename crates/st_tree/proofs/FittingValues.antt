@@ -1,28 +1,12 @@
 -- What operators give is of the type that the rules say, by one lemma a class of operators.
-use Rattle.std.specs.Prelude.{◌≡◌, ℕ, ◌<◌, ◌^◌, Bool, true, false, ◌&&◌, if◌then◌else◌, ℤ, pos, negsuc, int_lt, Option, Some, None, Result, Ok, Err}
-use Rattle.std.specs.Ordering.{int_eq}
-use Rattle.std.proofs.Common.{refl, sym, ap, ◌∙◌, subst, arith, pow_pos}
-use Rattle.std.proofs.lemmas.Int.{ints}
-use Rattle.std.proofs.lemmas.Bool.{and_parts}
-use Rattle.memory_areas.specs.Access.{and_then, read_bit}
-use Rattle.memory_areas.specs.Areas.{Contents}
-use Rattle.memory_areas.specs.declared.place.Place.{Place}
-use Rattle.s7_base.specs.declared.outcome.Fault.{Fault}
-use Rattle.s7_base.specs.declared.word.Width.{Width}
+use Rattle.st_tree.proofs.Common.{◌≡◌, ℕ, ◌<◌, ◌^◌, Bool, true, false, ◌&&◌, if◌then◌else◌, ℤ, pos, negsuc, int_lt, Option, Some, None, Result, Ok, Err, int_eq, refl, sym, ap, ◌∙◌, subst, arith, ints, and_parts, and_then, Contents, Place, Fault, Width, IsOf, is_conversion, binary_value, chosen, converted, shift_value, unary_value, State, pointed_at, has_bits, is_type, type_of_binary, type_of_choice, type_of_conversion, type_of_read, type_of_shift, type_of_unary, type_on_equals, where_true, Value, fit, flag, is_set, pattern, type_of_width, typed, on_type, BinaryOp, ShiftOp, StType, UnaryOp}
+use Rattle.std.proofs.Common.{pow_pos}
+use Rattle.memory_areas.specs.Access.{read_bit}
 use Rattle.bcd_words.specs.Bcd.{bcd_value}
-use Rattle.st_tree.specs.Fitting.{IsOf}
-use Rattle.st_tree.specs.Naming.{is_conversion}
-use Rattle.st_tree.specs.Operators.{binary_value, chosen, converted, from_digits, shift_value, unary_value}
-use Rattle.st_tree.specs.State.{State, area_read, pointed_at, read_place}
-use Rattle.st_tree.specs.TypeRules.{has_bits, is_type, type_of_binary, type_of_choice, type_of_conversion, type_of_read, type_of_shift, type_of_unary, type_on_equals, where_true}
-use Rattle.st_tree.specs.Values.{Value, fit, flag, is_set, pattern, type_of_width, typed}
-use Rattle.st_tree.specs.WellTyped.{on_type}
-use Rattle.st_tree.specs.declared.expr.BinaryOp.{BinaryOp}
+use Rattle.st_tree.specs.Operators.{from_digits}
+use Rattle.st_tree.specs.State.{area_read, read_place}
 use Rattle.st_tree.specs.declared.expr.BinaryOp.TheVariants as binary
-use Rattle.st_tree.specs.declared.expr.ShiftOp.{ShiftOp}
-use Rattle.st_tree.specs.declared.expr.StType.{StType}
 use Rattle.st_tree.specs.declared.expr.StType.TheVariants as type
-use Rattle.st_tree.specs.declared.expr.UnaryOp.{UnaryOp}
 use Rattle.st_tree.specs.declared.expr.UnaryOp.TheVariants as unary
 use Rattle.st_tree.proofs.TypingEquations.{same_type}
 

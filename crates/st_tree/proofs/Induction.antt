@@ -1,19 +1,10 @@
 -- Induction over expressions and over statements: a fact holds of each where it is shown at each variant, with
 -- the fact of the parts.
-use Rattle.std.specs.Prelude.{ℕ, ℤ, List, [], ◌∷◌, map}
-use Rattle.std.proofs.Common.{sym, subst}
-use Rattle.s7_base.specs.declared.word.Width.{Width}
-use Rattle.st_tree.specs.declared.expr.BinaryOp.{BinaryOp}
-use Rattle.st_tree.specs.declared.expr.Expr.{Expr, fold-Expr, fold-roll-Expr, ind-Expr, map-Expr, roll-Expr}
+use Rattle.st_tree.proofs.Common.{ℕ, ℤ, List, [], ◌∷◌, map, sym, subst, Width, BinaryOp, Expr, fold-Expr, fold-roll-Expr, ShiftOp, StType, UnaryOp, Var, Arm, CaseArm, Stmt, map-Stmt, roll-Stmt}
+use Rattle.st_tree.specs.declared.expr.Expr.{ind-Expr, map-Expr, roll-Expr}
 use Rattle.st_tree.specs.declared.expr.Expr.TheVariants as expr
 use Rattle.st_tree.specs.declared.expr.Expr.TheOpen as E
-use Rattle.st_tree.specs.declared.expr.ShiftOp.{ShiftOp}
-use Rattle.st_tree.specs.declared.expr.StType.{StType}
-use Rattle.st_tree.specs.declared.expr.UnaryOp.{UnaryOp}
-use Rattle.st_tree.specs.declared.expr.Var.{Var}
-use Rattle.st_tree.specs.declared.program.Arm.{Arm}
-use Rattle.st_tree.specs.declared.program.CaseArm.{CaseArm}
-use Rattle.st_tree.specs.declared.program.Stmt.{Stmt, ind-Stmt, map-Stmt, roll-Stmt}
+use Rattle.st_tree.specs.declared.program.Stmt.{ind-Stmt}
 use Rattle.st_tree.specs.declared.program.Stmt.TheOpen as S
 use Rattle.st_tree.specs.declared.program.Stmt.TheVariants as stmt
 

@@ -1,12 +1,6 @@
 -- The name of a conversion, a piece at a time.
-use Rattle.std.proofs.Common.{◌≡◌, ℕ, ◌==◌, Bool, true, false, ◌&&◌, List, [], ◌∷◌, ◌++◌, take, drop, length, refl, ap, ◌∙◌}
-use Rattle.std.specs.Prelude.{codes}
-use Rattle.std.specs.Char.{to_ascii_lowercase}
+use Rattle.st_tree.proofs.Common.{◌≡◌, ℕ, ◌==◌, Bool, true, false, ◌&&◌, List, [], ◌∷◌, ◌++◌, take, drop, length, refl, ap, ◌∙◌, codes, to_ascii_lowercase, is_same_word, conversion_word, type_word, StType}
 use Rattle.std.proofs.lemmas.List.{append_assoc}
-use Rattle.s7_base.specs.Tokens.{is_same_word}
-use Rattle.st_tree.specs.Naming.{conversion_word}
-use Rattle.st_tree.specs.Words.{type_word}
-use Rattle.st_tree.specs.declared.expr.StType.{StType}
 
 grouped : (a b c : Bool) → (a && (b && c)) ≡ ((a && b) && c)
 grouped true b c = refl

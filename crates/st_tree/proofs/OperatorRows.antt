@@ -1,12 +1,8 @@
 -- Operators on values, held against worked rows.
-use Rattle.std.specs.Prelude.{◌≡◌, ℕ, ℤ, pos, negsuc, true, false, Ok, Err}
-use Rattle.std.proofs.Common.{refl}
+use Rattle.st_tree.proofs.Common.{◌≡◌, ℕ, ℤ, pos, negsuc, true, false, Ok, Err, refl, binary_value, chosen, converted, shift_value, unary_value, Value, flag, StType}
 use Rattle.s7_base.specs.declared.outcome.Fault.TheVariants.{BcdDigit, DivideByZero}
-use Rattle.st_tree.specs.Operators.{binary_value, chosen, converted, shift_value, unary_value}
-use Rattle.st_tree.specs.Values.{Value, flag}
 use Rattle.st_tree.specs.declared.expr.BinaryOp.TheVariants as binary
 use Rattle.st_tree.specs.declared.expr.ShiftOp.TheVariants as shift
-use Rattle.st_tree.specs.declared.expr.StType.{StType}
 use Rattle.st_tree.specs.declared.expr.StType.TheVariants as type
 use Rattle.st_tree.specs.declared.expr.UnaryOp.TheVariants as unary
 

@@ -1,21 +1,12 @@
 -- What the parts of an expression and of a body are: at each variant, and of statements one after another.
-use Rattle.std.specs.Prelude.{◌≡◌, ℕ, ◌+◌, max, ℤ, List, [], ◌∷◌, ◌++◌, map}
+use Rattle.st_tree.proofs.Common.{◌≡◌, ℕ, ◌+◌, max, ℤ, List, [], ◌∷◌, ◌++◌, map, refl, sym, ap, ◌∙◌, append_assoc, flat_map-append, Width, call_step, calls_in, expressions_in, height, reads_in, reads_of, statements_in, BinaryOp, Expr, ShiftOp, StType, UnaryOp, Var, Arm, CaseArm, Stmt, map-Stmt, out-Stmt, roll-Stmt}
 use Rattle.std.specs.List.{flat_map}
-use Rattle.std.proofs.Common.{refl, sym, ap, ◌∙◌, append_assoc}
-use Rattle.std.proofs.lemmas.Grind.{flat_map-append}
 use Rattle.std.proofs.lemmas.List.Folds.{flat_map-map}
-use Rattle.s7_base.specs.declared.word.Width.{Width}
-use Rattle.st_tree.specs.Parts.{all_of, call_step, calls_in, expressions_in, expressions_step, height, height_step, inner_statements, inner_step, reads_in, reads_of, reads_step, statements_in}
-use Rattle.st_tree.specs.declared.expr.BinaryOp.{BinaryOp}
-use Rattle.st_tree.specs.declared.expr.Expr.{Expr}
+use Rattle.st_tree.specs.Parts.{all_of, expressions_step, height_step, inner_statements, inner_step, reads_step}
 use Rattle.st_tree.specs.declared.expr.Expr.TheVariants as expr
-use Rattle.st_tree.specs.declared.expr.ShiftOp.{ShiftOp}
-use Rattle.st_tree.specs.declared.expr.StType.{StType}
-use Rattle.st_tree.specs.declared.expr.UnaryOp.{UnaryOp}
-use Rattle.st_tree.specs.declared.expr.Var.{Var}
-use Rattle.st_tree.specs.declared.program.Arm.{Arm, out-Arm, para-Arm, para-roll-Arm, roll-out-Arm}
-use Rattle.st_tree.specs.declared.program.CaseArm.{CaseArm, out-CaseArm, para-CaseArm, para-roll-CaseArm, roll-out-CaseArm}
-use Rattle.st_tree.specs.declared.program.Stmt.{Stmt, map-Stmt, out-Stmt, out-roll-Stmt, para-roll-Stmt, roll-Stmt}
+use Rattle.st_tree.specs.declared.program.Arm.{out-Arm, para-Arm, para-roll-Arm, roll-out-Arm}
+use Rattle.st_tree.specs.declared.program.CaseArm.{out-CaseArm, para-CaseArm, para-roll-CaseArm, roll-out-CaseArm}
+use Rattle.st_tree.specs.declared.program.Stmt.{out-roll-Stmt, para-roll-Stmt}
 use Rattle.st_tree.specs.declared.program.Stmt.TheOpen as S
 use Rattle.st_tree.specs.declared.program.Stmt.TheVariants as stmt
 use Rattle.st_tree.proofs.Equations.{fold_literal, fold_read, fold_unary, fold_binary, fold_convert, fold_select, fold_shift, fold_area_read}

@@ -1,18 +1,13 @@
 -- The parts of a small body, by computing them.
-use Rattle.std.specs.Prelude.{◌≡◌, pos, List, [], ◌∷◌}
+use Rattle.st_tree.proofs.Common.{◌≡◌, pos, List, [], ◌∷◌, ap, ◌∙◌, calls_in, expressions_in, height, reads_in, reads_of, statements_in, Expr, Var, Stmt}
 use Rattle.std.specs.List.{flat_map}
-use Rattle.std.proofs.Common.{ap, ◌∙◌}
 use Rattle.s7_base.specs.declared.register.Reg.TheVariants as reg
 use Rattle.s7_base.specs.declared.word.Width.TheVariants as width
-use Rattle.st_tree.specs.Parts.{calls_in, expressions_in, height, reads_in, reads_of, statements_in}
 use Rattle.st_tree.proofs.PartEquations.{part_equations}
 use Rattle.st_tree.specs.declared.expr.BinaryOp.TheVariants as binary
-use Rattle.st_tree.specs.declared.expr.Expr.{Expr}
 use Rattle.st_tree.specs.declared.expr.Expr.TheVariants as expr
 use Rattle.st_tree.specs.declared.expr.StType.TheVariants as type
-use Rattle.st_tree.specs.declared.expr.Var.{Var}
 use Rattle.st_tree.specs.declared.expr.Var.TheVariants as var
-use Rattle.st_tree.specs.declared.program.Stmt.{Stmt}
 use Rattle.st_tree.specs.declared.program.Stmt.TheVariants as stmt
 
 abbrev rlo : Var

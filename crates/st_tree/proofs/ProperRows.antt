@@ -1,39 +1,18 @@
 -- The rules of types and of proper trees, held against worked rows; and a whole tree that keeps them all.
-use Rattle.std.specs.Prelude.{◌≡◌, ℕ, zero, suc, ◌≤◌, ◌<◌, true, false, pos, negsuc, List, [], ◌∷◌, codes, map, slice_get, replicate, All, Some, None}
-use Rattle.std.proofs.Common.{refl, sym, subst, arith}
-use Rattle.std.proofs.lemmas.List.Elements.{All-cons, All-nil, All-replicate}
-use Rattle.std.proofs.lemmas.List.{length-replicate}
-use Rattle.std.specs.Fmt.{digits}
-use Rattle.memory_areas.specs.Areas.{IsArea, IsMemoryOf, IsSized, fresh}
-use Rattle.memory_areas.specs.declared.data_block.DataBlock.{DataBlock}
+use Rattle.st_tree.proofs.Common.{◌≡◌, ℕ, zero, suc, ◌≤◌, ◌<◌, true, false, pos, negsuc, List, [], ◌∷◌, codes, map, slice_get, replicate, All, Some, None, refl, sym, subst, arith, All-cons, All-nil, All-replicate, length-replicate, digits, IsMemoryOf, IsSized, fresh, DataBlock, ACTIVATIONS, INPUT_BYTES, MARKER_BYTES, OUTPUT_BYTES, Call, chain_of, are_apart, is_free, is_name, key_of, may_name_local, may_name_unit, calls_in, body_nesting, expression_nesting, IsDataBlock, IsFormal, IsGlobal, IsLocal, IsProperUnit, Proper, outer_keys, Fits, FitsSt, state_at_start, unit_called, Sight, are_well_typed, expression_type, head_of, is_well_typed, Expr, StType, Local, Located, Pou, StProgram, Stmt}
+use Rattle.memory_areas.specs.Areas.{IsArea}
 use Rattle.memory_areas.specs.declared.place.Area.TheVariants as place
 use Rattle.memory_areas.specs.declared.place.AreaName.TheVariants as area
-use Rattle.memory_areas.specs.declared.sizes.TheConstants.{ACTIVATIONS, INPUT_BYTES, MARKER_BYTES, OUTPUT_BYTES}
 use Rattle.s7_base.specs.declared.register.Reg.TheVariants as reg
 use Rattle.s7_base.specs.declared.word.Width.TheVariants as width
 use Rattle.memory_areas.specs.declared.call.BlockName.TheVariants.{Ob}
-use Rattle.memory_areas.specs.declared.call.Call.{Call}
-use Rattle.st_tree.specs.Chains.{chain_of}
 use Rattle.st_tree.specs.Depth.{deepest}
-use Rattle.st_tree.specs.Naming.{are_apart, is_free, is_name, key_of, may_name_local, may_name_unit}
-use Rattle.st_tree.specs.Parts.{calls_in}
-use Rattle.st_tree.specs.Nesting.{body_nesting, expression_nesting}
-use Rattle.st_tree.specs.Proper.{IsDataBlock, IsFormal, IsGlobal, IsLocal, IsProperUnit, Proper, outer_keys}
-use Rattle.st_tree.specs.Fitting.{Fits}
-use Rattle.st_tree.specs.StRun.{FitsSt, state_at_start, unit_called}
-use Rattle.st_tree.specs.WellTyped.{Sight, are_well_typed, expression_type, head_of, is_well_typed, sight_of}
+use Rattle.st_tree.specs.WellTyped.{sight_of}
 use Rattle.st_tree.specs.declared.expr.BinaryOp.TheVariants as binary
-use Rattle.st_tree.specs.declared.expr.Expr.{Expr}
 use Rattle.st_tree.specs.declared.expr.Expr.TheVariants as expr
-use Rattle.st_tree.specs.declared.expr.StType.{StType}
 use Rattle.st_tree.specs.declared.expr.StType.TheVariants as type
 use Rattle.st_tree.specs.declared.expr.UnaryOp.TheVariants as unary
 use Rattle.st_tree.specs.declared.expr.Var.TheVariants as var
-use Rattle.st_tree.specs.declared.program.Local.{Local}
-use Rattle.st_tree.specs.declared.program.Located.{Located}
-use Rattle.st_tree.specs.declared.program.Pou.{Pou}
-use Rattle.st_tree.specs.declared.program.StProgram.{StProgram}
-use Rattle.st_tree.specs.declared.program.Stmt.{Stmt}
 use Rattle.st_tree.specs.declared.program.Stmt.TheVariants as stmt
 use Rattle.st_tree.proofs.FittingStart.{start_fits}
 use Rattle.st_tree.proofs.PartEquations.{part_equations}

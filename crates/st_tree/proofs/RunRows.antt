@@ -1,29 +1,14 @@
 -- Runs of small texts, held against worked rows by computing them.
-use Rattle.std.proofs.Common.{◌≡◌, refl, ℕ, true, false, List, [], ◌∷◌, pos, Option, Some, None}
-use Rattle.std.specs.Prelude.{codes}
-use Rattle.std.specs.Fmt.{digits}
-use Rattle.memory_areas.specs.Areas.{Areas}
-use Rattle.memory_areas.specs.End.{End, Ended, Going}
+use Rattle.st_tree.proofs.Common.{◌≡◌, refl, ℕ, true, false, List, [], ◌∷◌, pos, Option, Some, None, codes, digits, Areas, End, Ended, Going, Fault, BlockName, Call, st_run, StType, Var, Expr, Local, Pou, StProgram, Stmt}
 use Rattle.memory_areas.specs.declared.place.AreaName.TheVariants as area
-use Rattle.s7_base.specs.declared.outcome.Fault.{Fault}
 use Rattle.s7_base.specs.declared.outcome.Fault.TheVariants.{AreaCode, AreaLength, DbMissing, DbNotOpen, DivideByZero}
 use Rattle.s7_base.specs.declared.register.Reg.TheVariants as reg
 use Rattle.s7_base.specs.declared.word.Width.TheVariants as width
-use Rattle.memory_areas.specs.declared.call.BlockName.{BlockName}
 use Rattle.memory_areas.specs.declared.call.BlockName.TheVariants.{Ob, Fc}
-use Rattle.memory_areas.specs.declared.call.Call.{Call}
-use Rattle.st_tree.specs.StRun.{st_run}
-use Rattle.st_tree.specs.declared.expr.StType.{StType}
 use Rattle.st_tree.specs.declared.expr.StType.TheVariants as type
 use Rattle.st_tree.specs.declared.expr.BinaryOp.TheVariants as binary
-use Rattle.st_tree.specs.declared.expr.Var.{Var}
 use Rattle.st_tree.specs.declared.expr.Var.TheVariants as var
-use Rattle.st_tree.specs.declared.expr.Expr.{Expr}
 use Rattle.st_tree.specs.declared.expr.Expr.TheVariants as expr
-use Rattle.st_tree.specs.declared.program.Local.{Local}
-use Rattle.st_tree.specs.declared.program.Pou.{Pou}
-use Rattle.st_tree.specs.declared.program.StProgram.{StProgram}
-use Rattle.st_tree.specs.declared.program.Stmt.{Stmt}
 use Rattle.st_tree.specs.declared.program.Stmt.TheVariants as stmt
 use Rattle.st_tree.proofs.Equations.{meaning_equations}
 

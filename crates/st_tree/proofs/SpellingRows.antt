@@ -1,18 +1,13 @@
 -- What the spelling gives for some expressions, by computation: where brackets stand, and each word.
-use Rattle.std.specs.Prelude.{◌≡◌, ℕ, List, [], pos, codes, refl}
-use Rattle.std.specs.Fmt.{digits}
+use Rattle.st_tree.proofs.Common.{◌≡◌, ℕ, List, [], pos, codes, refl, digits, canon, literal_text, written, var_text, Names, Expr}
 use Rattle.memory_areas.specs.declared.place.AreaName.TheVariants as area
 use Rattle.s7_base.specs.declared.register.Reg.TheVariants as reg
 use Rattle.s7_base.specs.declared.word.Width.TheVariants as width
-use Rattle.st_tree.specs.Form.{canon}
-use Rattle.st_tree.specs.Spelling.{literal_text, written, var_text}
-use Rattle.st_tree.specs.Typing.{Names}
 use Rattle.st_tree.proofs.Equations.{canon_equations}
 use Rattle.st_tree.specs.declared.expr.StType.TheVariants as type
 use Rattle.st_tree.specs.declared.expr.UnaryOp.TheVariants as unary
 use Rattle.st_tree.specs.declared.expr.BinaryOp.TheVariants as binary
 use Rattle.st_tree.specs.declared.expr.Var.TheVariants as var
-use Rattle.st_tree.specs.declared.expr.Expr.{Expr}
 use Rattle.st_tree.specs.declared.expr.Expr.TheVariants as expr
 
 -- nothing is declared

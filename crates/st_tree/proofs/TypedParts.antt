@@ -1,14 +1,7 @@
 -- What the parts of a well typed statement keep.
-use Rattle.std.specs.Prelude.{◌≡◌, Bool, true, List, ◌∷◌, map, Option, Some, None}
-use Rattle.std.proofs.Common.{refl, sym, ◌∙◌}
-use Rattle.std.proofs.lemmas.Bool.{and_parts}
-use Rattle.st_tree.specs.WellTyped.{CaseCheck, Sight, are_cases, are_well_typed, each, each_case, expression_type, has_type, is_arm, is_assigned, is_case_arm, is_well_typed}
-use Rattle.st_tree.specs.declared.expr.Expr.{Expr}
-use Rattle.st_tree.specs.declared.expr.StType.{StType}
+use Rattle.st_tree.proofs.Common.{◌≡◌, Bool, true, List, ◌∷◌, map, Option, Some, None, refl, sym, ◌∙◌, and_parts, CaseCheck, Sight, are_well_typed, each, each_case, expression_type, has_type, is_arm, is_assigned, is_case_arm, is_well_typed, Expr, StType, Arm, CaseArm, Stmt}
+use Rattle.st_tree.specs.WellTyped.{are_cases}
 use Rattle.st_tree.specs.declared.expr.StType.TheVariants as type
-use Rattle.st_tree.specs.declared.program.Arm.{Arm}
-use Rattle.st_tree.specs.declared.program.CaseArm.{CaseArm}
-use Rattle.st_tree.specs.declared.program.Stmt.{Stmt}
 use Rattle.st_tree.specs.declared.program.Stmt.TheVariants as stmt
 use Rattle.st_tree.proofs.TypingEquations.{good_arm, good_case, good_case_arm, good_if, good_while, type_had}
 

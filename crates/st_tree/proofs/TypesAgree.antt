@@ -1,28 +1,13 @@
 -- The type of a well typed expression is the one in which the labels of a CASE are written.
-use Rattle.std.specs.Prelude.{◌≡◌, Bool, true, false, ◌&&◌, if◌then◌else◌, slice_get, Option, Some, None}
-use Rattle.std.proofs.Common.{refl}
+use Rattle.st_tree.proofs.Common.{◌≡◌, Bool, true, false, ◌&&◌, if◌then◌else◌, slice_get, Option, Some, None, refl, is_conversion, is_block_number, is_place, names_in, has_bits, is_type, type_of_binary, type_of_choice, type_of_conversion, type_of_read, type_of_shift, type_of_unary, type_on_equals, where_true, Names, type_of, type_of_width, Sight, expression_step, expression_type, is_seen, is_value, on_type, sight_in, type_inside, type_outside, variable_type, BinaryOp, Expr, StType, UnaryOp, Var, Local, Located, Pou, StProgram}
 use Rattle.memory_areas.specs.declared.place.AreaName.TheVariants as area
-use Rattle.st_tree.specs.Naming.{is_conversion}
-use Rattle.st_tree.specs.PlaceRules.{is_block_number, is_place}
-use Rattle.st_tree.specs.Spelling.{names_in}
-use Rattle.st_tree.specs.TypeRules.{has_bits, has_numbers, is_type, type_of_binary, type_of_choice, type_of_conversion, type_of_read, type_of_shift, type_of_unary, type_on_equals, where_true}
-use Rattle.st_tree.specs.Typing.{Names, binary_type, global_type, local_type, type_of, type_step, unary_type, var_type}
-use Rattle.st_tree.specs.Values.{type_of_width}
-use Rattle.st_tree.specs.WellTyped.{Sight, expression_step, expression_type, is_seen, is_value, on_type, sight_in, type_inside, type_outside, variable_type}
-use Rattle.st_tree.specs.declared.expr.BinaryOp.{BinaryOp}
+use Rattle.st_tree.specs.TypeRules.{has_numbers}
+use Rattle.st_tree.specs.Typing.{binary_type, global_type, local_type, type_step, unary_type, var_type}
 use Rattle.st_tree.specs.declared.expr.BinaryOp.TheVariants as binary
-use Rattle.st_tree.specs.declared.expr.Expr.{Expr}
 use Rattle.st_tree.specs.declared.expr.Expr.TheOpen as E
-use Rattle.st_tree.specs.declared.expr.StType.{StType}
 use Rattle.st_tree.specs.declared.expr.StType.TheVariants as type
-use Rattle.st_tree.specs.declared.expr.UnaryOp.{UnaryOp}
 use Rattle.st_tree.specs.declared.expr.UnaryOp.TheVariants as unary
-use Rattle.st_tree.specs.declared.expr.Var.{Var}
 use Rattle.st_tree.specs.declared.expr.Var.TheVariants as var
-use Rattle.st_tree.specs.declared.program.Local.{Local}
-use Rattle.st_tree.specs.declared.program.Located.{Located}
-use Rattle.st_tree.specs.declared.program.Pou.{Pou}
-use Rattle.st_tree.specs.declared.program.StProgram.{StProgram}
 use Rattle.st_tree.proofs.Induction.{Both, Layers, folds_related}
 
 -- the type that the rules give, where they give one, is this one

@@ -1,27 +1,12 @@
 -- What the rules of types and of nesting say of an expression and of a statement at each variant, and which types
 -- are the same.
-use Rattle.std.specs.Prelude.{◌≡◌, ℕ, suc, max, Bool, true, ◌&&◌, ℤ, List, map, slice_get, Option, Some, None}
-use Rattle.std.specs.List.{list_all}
-use Rattle.std.proofs.Common.{refl, ap}
-use Rattle.s7_base.specs.declared.word.Width.{Width}
-use Rattle.st_tree.specs.Depth.{greatest}
+use Rattle.st_tree.proofs.Common.{◌≡◌, ℕ, suc, max, Bool, true, ◌&&◌, ℤ, List, map, slice_get, Option, Some, None, list_all, refl, ap, Width, greatest, arm_nesting, body_nesting, case_nesting, expression_nesting, nesting, is_type, CaseCheck, Sight, are_well_typed, expression_step, expression_type, has_type, is_arm, is_assigned, is_call, is_case_arm, is_some_of, is_value, is_well_typed, variable_type, type_of_width, BinaryOp, Expr, ShiftOp, StType, UnaryOp, Var, Arm, fold_out-Arm, CaseArm, fold_out-CaseArm, Stmt, map-Stmt, roll-Stmt}
 use Rattle.st_tree.specs.Nesting
-use Rattle.st_tree.specs.Nesting.{arm_nesting, body_nesting, case_nesting, expression_nesting, nesting, nesting_step}
-use Rattle.st_tree.specs.TypeRules.{is_type}
-use Rattle.st_tree.specs.WellTyped.{CaseCheck, Check, Sight, arm_step, case_step, are_well_typed, expression_step, expression_type, has_type, is_arm, is_assigned, is_call, is_case_arm, is_some_of, is_value, is_well_typed, statement_step, variable_type}
-use Rattle.st_tree.specs.Values.{type_of_width}
-use Rattle.st_tree.specs.declared.expr.BinaryOp.{BinaryOp}
-use Rattle.st_tree.specs.declared.expr.Expr.{Expr}
+use Rattle.st_tree.specs.Nesting.{nesting_step}
+use Rattle.st_tree.specs.WellTyped.{Check, arm_step, case_step, statement_step}
 use Rattle.st_tree.specs.declared.expr.Expr.TheVariants as expr
 use Rattle.st_tree.specs.declared.expr.Expr.TheOpen as E
-use Rattle.st_tree.specs.declared.expr.ShiftOp.{ShiftOp}
-use Rattle.st_tree.specs.declared.expr.StType.{StType}
 use Rattle.st_tree.specs.declared.expr.StType.TheVariants as type
-use Rattle.st_tree.specs.declared.expr.UnaryOp.{UnaryOp}
-use Rattle.st_tree.specs.declared.expr.Var.{Var}
-use Rattle.st_tree.specs.declared.program.Arm.{Arm, fold_out-Arm}
-use Rattle.st_tree.specs.declared.program.CaseArm.{CaseArm, fold_out-CaseArm}
-use Rattle.st_tree.specs.declared.program.Stmt.{Stmt, map-Stmt, roll-Stmt}
 use Rattle.st_tree.specs.declared.program.Stmt.TheOpen as S
 use Rattle.st_tree.specs.declared.program.Stmt.TheVariants as stmt
 use Rattle.st_tree.proofs.Equations.{canon_equations, fold_area_read, fold_binary, fold_convert, fold_literal, fold_read, fold_select, fold_shift, fold_stmt, fold_unary}

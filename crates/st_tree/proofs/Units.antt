@@ -1,41 +1,16 @@
 -- Units: more of them never change what has ended, and calls that may nest deeper than there are units
 -- change nothing; nor does how many nodes of a graph may follow one another. Two meanings are compared, of which
 -- the second has j units more.
-use Rattle.std.proofs.Common.{◌≡◌, ℕ, zero, suc, ◌+◌, ◌≤◌, Bool, true, false, if◌then◌else◌, ℤ, List, [], ◌∷◌, map, Option, Some, None, Result, Ok, Err, refl, sym, ap, subst, arith, ◌-◌, ◌∙◌, ◌*◌, ◌<◌, length, ◌⊎◌, inl, inr}
-use Rattle.std.specs.Prelude.{slice_get, find}
-use Rattle.std.specs.List.{list_any}
-use Rattle.std.specs.Ordering.{int_eq}
-use Rattle.memory_areas.specs.Areas.{Areas}
-use Rattle.memory_areas.specs.End.{Ended}
-use Rattle.memory_areas.specs.declared.call.Call.{Call}
-use Rattle.st_tree.specs.StRun.{end_seen, run_of_unit, state_at_start, unit_called, is_meant}
+use Rattle.st_tree.proofs.Common.{◌≡◌, ℕ, zero, suc, ◌+◌, ◌≤◌, Bool, true, false, if◌then◌else◌, ℤ, List, [], ◌∷◌, map, Option, Some, None, Result, Ok, Err, refl, sym, ap, subst, arith, ◌-◌, ◌∙◌, ◌*◌, ◌<◌, length, ◌⊎◌, inl, inr, slice_get, list_any, int_eq, Areas, Ended, Call, end_seen, run_of_unit, state_at_start, unit_called, is_meant, Fault, after_unit, called, calls_to, entered, invoked, located_actuals, unit_step, Out, Normal, Exits, Continues, Returns, Faults, NoUnits, Sem, Calls, after_body, area_assigned, arm_meaning, assigned, body_meaning, case_meaning, changed, first_true, first_with, meaning, then_do, turns, with_value, State, Worth, value, Value, is_set, Var, Arm, CaseArm, Located, Pou, StProgram, Stmt, Reference, mul-le-mul_right, find_at, greatest, GraphPou, GraphProgram, StNode}
+use Rattle.std.specs.Prelude.{find}
 use Rattle.st_tree.specs.StRunLaws.{DepthIsFree, EndStays}
-use Rattle.s7_base.specs.declared.outcome.Fault.{Fault}
-use Rattle.st_tree.specs.Calls.{after_unit, called, calls_to, entered, invoked, located_actuals, unit_step}
-use Rattle.st_tree.specs.Meaning.{Out, Normal, Exits, Continues, Returns, Faults, NoUnits, Sem, Calls, after_body, area_assigned, arm_meaning, assigned, body_meaning, case_meaning, changed, first_true, first_with, meaning, then_do, turns, with_value}
-use Rattle.st_tree.specs.State.{State}
-use Rattle.st_tree.specs.Value.{Worth, value}
-use Rattle.st_tree.specs.Values.{Value, is_set}
-use Rattle.st_tree.specs.declared.expr.Var.{Var}
-use Rattle.st_tree.specs.declared.program.Arm.{Arm}
-use Rattle.st_tree.specs.declared.program.CaseArm.{CaseArm}
-use Rattle.st_tree.specs.declared.program.Located.{Located}
-use Rattle.st_tree.specs.declared.program.Pou.{Pou}
-use Rattle.st_tree.specs.declared.program.StProgram.{StProgram}
-use Rattle.st_tree.specs.declared.program.Stmt.{Stmt}
-use Rattle.st_tree.specs.declared.state.Reference.{Reference}
 use Rattle.st_tree.proofs.Equations.{meaning_area_write, meaning_arm, meaning_assign, meaning_case, meaning_case_arm, meaning_continue, meaning_exit, meaning_if, meaning_invoke, meaning_return, meaning_while}
 use Rattle.st_tree.proofs.Induction.{Each, InArm, InCase, StmtSteps, every_body}
-use Rattle.std.proofs.Math.Nat.{mul-le-mul_right, suc-mul}
+use Rattle.std.proofs.Math.Nat.{suc-mul}
 use Rattle.std.proofs.lemmas.Bool.{cases_lt}
-use Rattle.std.proofs.lemmas.List.Folds.{find_at}
 use Rattle.std.proofs.lemmas.Option.{slice_get_past}
-use Rattle.st_tree.specs.Depth.{greatest}
 use Rattle.st_tree.specs.GraphRun.{Counting, Way, counted, counted_if, exit_meaning, follow, graph_calls, longest, most_nodes, node_meaning, nodes_do, out, run_of_graph, to, unit_begun, way_of}
 use Rattle.st_tree.specs.GraphRunLaws.{FreeIsForward, GraphEndStays, LengthIsFree}
-use Rattle.st_tree.specs.declared.graph.GraphPou.{GraphPou}
-use Rattle.st_tree.specs.declared.graph.GraphProgram.{GraphProgram}
-use Rattle.st_tree.specs.declared.graph.StNode.{StNode}
 
 -- the second ends as the first with j units more left, and the first has gained none; without a unit left
 -- the first says something of the second only where that has no more

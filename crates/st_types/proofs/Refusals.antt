@@ -1,9 +1,7 @@
 -- Refusals of a text from those of its parts.
-use Rattle.std.proofs.Common.{◌≡◌, true, ◌==◌, List, [], ◌∷◌, length, None, refl, sym, arith, eqb-true}
-use Rattle.s7_base.specs.declared.reason.Rejection.{Rejection}
+use Rattle.st_tree.proofs.Common.{◌≡◌, true, ◌==◌, List, [], ◌∷◌, length, None, refl, sym, arith, eqb-true, Rejection}
 use Rattle.s7_base.specs.declared.reason.Rejection.TheVariants as rejection
-use Rattle.st_tree.specs.declared.raw.RawSt.{RawSt}
-use Rattle.st_rules.specs.Typed.{calls_in, chained, first_break, IsChainRefused, IsRefused}
+use Rattle.st_rules.proofs.Common.{RawSt, calls_in, chained, first_break, IsChainRefused, IsRefused}
 
 -- a refusal of the chain of calls is one of the text
 pub refused_by_chain : (raw : RawSt) (r : Rejection) → first_break raw ≡ None → IsChainRefused (calls_in raw) raw.pous r → IsRefused raw r

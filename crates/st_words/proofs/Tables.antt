@@ -1,8 +1,5 @@
 -- Looking up in rows of texts is looking up in the table that they spell.
-use Rattle.std.proofs.Common.{◌≡◌, ℕ, Bool, true, false, cond, List, [], ◌∷◌, map, Option, Some, None, refl, sym, ap, ◌∙◌}
-use Rattle.std.specs.List.{find}
-use Rattle.std.specs.Prelude.{option_map}
-use Rattle.s7_base.specs.Tokens.{is_same_word}
+use Rattle.st_tree.proofs.Common.{◌≡◌, ℕ, Bool, true, false, cond, List, [], ◌∷◌, map, Option, Some, None, refl, sym, ap, ◌∙◌, find, option_map, is_same_word}
 use Rattle.st_words.specs.inner.Rows.{with_text}
 
 at : {X Y : Type 0} (view : X → Y) (test : Y → Bool) (x : X) (xs : List X) (b : Bool) → option_map view (find (λ y. test (view y)) xs) ≡ find test (map view xs) →

@@ -1,5 +1,4 @@
-use Rattle.std.proofs.Common.{◌≡◌, take}
-use Rattle.std.specs.List.{fold}
+use Rattle.st_tree.proofs.Common.{◌≡◌, take, fold}
 use Rattle.st_rules.specs.Declarations.{no_inside, with_formal}
 use Rattle.st_declarations.proofs.declaration.inside_formals.Given as goal
 

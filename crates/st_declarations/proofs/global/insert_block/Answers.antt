@@ -1,7 +1,4 @@
-use Rattle.std.proofs.Common.{nat_lt, ap, ◌∙◌}
-use Rattle.std.specs.List.{prefix_len}
-use Rattle.std.specs.Prelude.{insert}
-use Rattle.memory_areas.specs.declared.data_block.DataBlock.{DataBlock}
+use Rattle.st_tree.proofs.Common.{nat_lt, ap, ◌∙◌, prefix_len, insert, DataBlock}
 use Rattle.st_declarations.proofs.Blocks.{placed}
 use Rattle.st_declarations.proofs.global.insert_block.Goals as goal
 

@@ -1,5 +1,4 @@
-use Rattle.std.proofs.Common.{◌≡◌, ℕ, ◌+◌, List, length}
-use Rattle.std.specs.Prelude.{option_map}
+use Rattle.st_tree.proofs.Common.{◌≡◌, ℕ, ◌+◌, List, length, option_map}
 use Rattle.st_lexer.specs.StTokens.{comment_size}
 use Rattle.st_lexer.proofs.lexer.comment_size.Given as goal
 

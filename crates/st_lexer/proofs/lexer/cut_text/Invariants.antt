@@ -1,6 +1,5 @@
 use Rattle.std.proofs.Common.{◌≡◌, length, map}
-use Rattle.st_lexer.specs.Pieces.{token_seen}
-use Rattle.st_lexer.specs.StTokens.{prepend_tokens, cut_from}
+use Rattle.st_lexer.proofs.Common.{token_seen, prepend_tokens, cut_from}
 use Rattle.st_lexer.proofs.lexer.cut_text.Given as goal
 
 -- the tokens so far and those of the rest are those of the whole text

@@ -1,6 +1,5 @@
 use Rattle.std.proofs.Common.{◌≡◌, length, map, false}
-use Rattle.st_lexer.specs.Pieces.{token_seen}
-use Rattle.st_lexer.specs.StTokens.{great_from}
+use Rattle.st_lexer.proofs.Common.{token_seen, great_from}
 use Rattle.st_lexer.proofs.lexer.great_line.Given as goal
 
 -- the first of the rest is the first of all

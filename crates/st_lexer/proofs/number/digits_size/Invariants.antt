@@ -1,6 +1,5 @@
 use Rattle.std.proofs.Common.{◌≡◌, ℕ, ◌+◌, List, length}
-use Rattle.st_lexer.specs.Literals.{digits_size}
-use Rattle.st_lexer.specs.declared.number.Base.{Base}
+use Rattle.st_lexer.proofs.Common.{digits_size, Base}
 use Rattle.st_lexer.proofs.number.digits_size.Given as goal
 
 -- the digits so far and those at the front of the rest are those of the whole text

@@ -1,5 +1,4 @@
-use Rattle.std.proofs.Common.{◌≡◌, ◌++◌, ◌+◌, ◌≤◌, length}
-use Rattle.st_tree.specs.Spelling.{list_behind}
+use Rattle.st_tree.proofs.Common.{◌≡◌, ◌++◌, ◌+◌, ◌≤◌, length, list_behind}
 use Rattle.st_printer.proofs.global.put_list_behind.Given as goal
 
 -- what is written and what is still to be written are the whole list; there are no more equal bytes

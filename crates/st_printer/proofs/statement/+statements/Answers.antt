@@ -1,7 +1,4 @@
-use Rattle.std.proofs.Common.{◌≡◌, ◌+◌, ◌++◌, List, ℕ, sym, ap, ◌∙◌}
-use Rattle.std.specs.Prelude.{codes, map, flat_map}
-use Rattle.st_tree.specs.Spelling.{line, expr_text, texts_at, else_text, names_in, statement_text, case_text, body_text}
-use Rattle.st_tree.specs.Typing.{Names, type_of}
+use Rattle.st_tree.proofs.Common.{◌≡◌, ◌+◌, ◌++◌, List, ℕ, sym, ap, ◌∙◌, codes, map, flat_map, line, expr_text, texts_at, else_text, names_in, statement_text, case_text, body_text, Names, type_of}
 use Rattle.st_tree.specs.declared.expr.StType.{StType}
 use Rattle.st_tree.specs.declared.program.CaseArm.{CaseArm}
 use Rattle.st_tree.specs.declared.program.Stmt.{Stmt}

@@ -1,6 +1,4 @@
-use Rattle.std.proofs.Common.{◌≡◌, ◌++◌, take}
-use Rattle.std.specs.Prelude.{codes, map, flat_map}
-use Rattle.st_tree.specs.Spelling.{arm_text, case_text, body_text, names_in}
+use Rattle.st_tree.proofs.Common.{◌≡◌, ◌++◌, take, codes, map, flat_map, arm_text, case_text, body_text, names_in}
 use Rattle.st_printer.proofs.statement.+statements.Given as goal
 
 -- what was passed so far stands after what stood there

@@ -1,6 +1,4 @@
-use Rattle.std.proofs.Common.{◌≡◌, ◌++◌, take}
-use Rattle.std.specs.Prelude.{flat_map}
-use Rattle.st_tree.specs.Spelling.{label_text}
+use Rattle.st_tree.proofs.Common.{◌≡◌, ◌++◌, take, flat_map, label_text}
 use Rattle.st_printer.proofs.statement.put_more_labels.Given as goal
 
 -- the labels passed so far stand after what stood there

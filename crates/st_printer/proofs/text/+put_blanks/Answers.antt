@@ -1,6 +1,4 @@
-use Rattle.std.proofs.Common.{◌-◌, ◌++◌, List, ℕ, sym, ap, ◌∙◌, append_assoc}
-use Rattle.std.specs.Prelude.{codes}
-use Rattle.st_tree.specs.Spelling.{blanks}
+use Rattle.st_tree.proofs.Common.{◌-◌, ◌++◌, List, ℕ, sym, ap, ◌∙◌, append_assoc, codes, blanks}
 use Rattle.st_printer.proofs.Pieces.{on_ok, blanks_up}
 use Rattle.st_printer.proofs.text.+put_blanks.Goals as goal
 

@@ -1,6 +1,4 @@
-use Rattle.std.proofs.Common.{◌-◌, ◌++◌, ◌∷◌, [], List, ℕ, sym, ap, ◌∙◌, append_assoc, append-nil}
-use Rattle.std.specs.Prelude.{◌/◌}
-use Rattle.st_tree.specs.Spelling.{hexadecimal}
+use Rattle.st_tree.proofs.Common.{◌-◌, ◌++◌, ◌∷◌, [], List, ℕ, sym, ap, ◌∙◌, append_assoc, append-nil, ◌/◌, hexadecimal}
 use Rattle.st_printer.proofs.Pieces.{hexadecimal_up, hexadecimal_none}
 use Rattle.st_printer.proofs.text.+put_hexadecimal.Goals as goal
 

@@ -1,6 +1,4 @@
-use Rattle.std.proofs.Common.{◌≡◌, ◌++◌, take}
-use Rattle.std.specs.Prelude.{flat_map}
-use Rattle.st_tree.specs.Spelling.{local_text}
+use Rattle.st_tree.proofs.Common.{◌≡◌, ◌++◌, take, flat_map, local_text}
 use Rattle.st_printer.proofs.unit.put_locals.Given as goal
 
 -- what was passed so far stands after what stood there

@@ -1,6 +1,4 @@
-use Rattle.std.proofs.Common.{◌≡◌, ◌++◌, take}
-use Rattle.std.specs.Prelude.{flat_map}
-use Rattle.st_tree.specs.Spelling.{unit_text}
+use Rattle.st_tree.proofs.Common.{◌≡◌, ◌++◌, take, flat_map, unit_text}
 use Rattle.st_printer.proofs.unit.put_units.Given as goal
 
 -- what was passed so far stands after what stood there

@@ -1,6 +1,4 @@
-use Rattle.std.proofs.Common.{◌≡◌, map, take}
-use Rattle.std.specs.Prelude.{vec_capacity}
-use Rattle.st_tree.specs.Calls.{zero_of}
+use Rattle.st_tree.proofs.Common.{◌≡◌, map, take, vec_capacity, zero_of}
 use Rattle.st_runner.proofs.call.zero_locals.Given as goal
 
 abbrev pub invariant-loop-local : goal.invariant-loop-local

@@ -1,7 +1,4 @@
-use Rattle.std.proofs.Common.{List, length}
-use Rattle.memory_areas.specs.Areas.{IsMemoryOf}
-use Rattle.memory_areas.specs.declared.data_block.DataBlock.{DataBlock}
-use Rattle.st_tree.specs.StRun.{FitFormals}
+use Rattle.st_tree.proofs.Common.{List, length, IsMemoryOf, DataBlock, FitFormals}
 use Rattle.st_runner.proofs.calling.fit_formals.Given as goal
 
 abbrev pub decreases-loop-formal : goal.decreases-loop-formal

@@ -1,6 +1,5 @@
-use Rattle.std.proofs.Common.{◌≡◌, rules}
+use Rattle.st_tree.proofs.Common.{◌≡◌, rules, width_at}
 use Rattle.st_runner.proofs.Fits.{formal_decides}
-use Rattle.st_tree.specs.Values.{width_at}
 use Rattle.st_runner.proofs.calling.fits_formal.Goals as goal
 
 pub returns : goal.returns

@@ -1,8 +1,6 @@
-use Rattle.std.proofs.Common.{sym, subst, ◌∙◌}
+use Rattle.st_tree.proofs.Common.{sym, subst, ◌∙◌, FitsUnit, BlockName}
 use Rattle.st_runner.specs.inner.Fitting.{Decides}
 use Rattle.st_runner.proofs.Fits.{instance_decides, none_declared}
-use Rattle.st_tree.specs.StRun.{FitsUnit}
-use Rattle.memory_areas.specs.declared.call.BlockName.{BlockName}
 use Rattle.st_runner.proofs.calling.fits_unit.Goals as goal
 
 pub returns-then-len-eq0 : goal.returns-then-len-eq0

@@ -1,5 +1,4 @@
-use Rattle.std.proofs.Common.{◌≡◌, length}
-use Rattle.st_tree.specs.StRun.{unit_called}
+use Rattle.st_tree.proofs.Common.{◌≡◌, length, unit_called}
 use Rattle.st_runner.proofs.calling.unit_called.Given as goal
 
 abbrev pub decreases-loop-unit : goal.decreases-loop-unit

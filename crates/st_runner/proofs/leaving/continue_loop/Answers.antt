@@ -1,7 +1,5 @@
-use Rattle.std.proofs.Common.{[], ◌∷◌, ◌++◌, ap, sym, ◌∙◌}
-use Rattle.st_runner.specs.inner.Measures.{size, unit_costs}
-use Rattle.st_runner.specs.inner.Waiting.{framed}
-use Rattle.st_tree.specs.Meaning.{Continues, Normal}
+use Rattle.st_tree.proofs.Common.{[], ◌∷◌, ◌++◌, ap, sym, ◌∙◌, Continues, Normal}
+use Rattle.st_runner.proofs.Common.{size, unit_costs, framed}
 use Rattle.st_runner.proofs.Stack.{passed, stopped}
 use Rattle.st_runner.proofs.leaving.continue_loop.Goals as goal
 

@@ -1,7 +1,5 @@
-use Rattle.std.proofs.Common.{◌≡◌, length}
-use Rattle.std.specs.Prelude.{vec_capacity}
+use Rattle.st_tree.proofs.Common.{◌≡◌, length, vec_capacity, Returns}
 use Rattle.st_runner.specs.inner.Leaving.{Leaves}
-use Rattle.st_tree.specs.Meaning.{Returns}
 use Rattle.st_runner.proofs.leaving.return_unit.Given as goal
 
 abbrev pub decreases-loop-frame : goal.decreases-loop-frame

@@ -1,7 +1,6 @@
-use Rattle.std.proofs.Common.{◌≡◌, rules, ℤ, FitsSigned, w64, to_z, of_z, ap, ◌∙◌}
-use Rattle.std.specs.Int.{int_wrapping_div}
+use Rattle.st_tree.proofs.Common.{◌≡◌, rules, ℤ, FitsSigned, w64, ap, ◌∙◌, int_wrapping_div, typed}
+use Rattle.std.proofs.Common.{to_z, of_z}
 use Rattle.std.proofs.lemmas.Int.{to_z-of_z}
-use Rattle.st_tree.specs.Values.{typed}
 use Rattle.st_runner.proofs.Wraps.{fit_quotient}
 use Rattle.st_runner.proofs.operators.truncated.Goals as goal
 

@@ -1,6 +1,4 @@
-use Rattle.std.proofs.Common.{◌≡◌, ◌++◌, ◌+◌, ◌≤◌, length}
-use Rattle.std.specs.Prelude.{vec_capacity}
-use Rattle.st_tree.specs.StRun.{references}
+use Rattle.st_tree.proofs.Common.{◌≡◌, ◌++◌, ◌+◌, ◌≤◌, length, vec_capacity, references}
 use Rattle.st_runner.proofs.reserve.give_formals.Given as goal
 
 abbrev pub decreases-loop-formal : goal.decreases-loop-formal

@@ -1,6 +1,4 @@
-use Rattle.std.proofs.Common.{◌≡◌, length}
-use Rattle.std.specs.Prelude.{vec_capacity}
-use Rattle.memory_areas.specs.declared.sizes.TheConstants.{ACTIVATIONS}
+use Rattle.st_tree.proofs.Common.{◌≡◌, length, vec_capacity, ACTIVATIONS}
 use Rattle.st_runner.specs.inner.View.{AreFrames}
 use Rattle.st_runner.proofs.reserve.spare.Given as goal
 

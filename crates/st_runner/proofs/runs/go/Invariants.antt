@@ -1,9 +1,5 @@
-use Rattle.std.proofs.Common.{◌≡◌, ℕ, ◌+◌}
-use Rattle.std.specs.Prelude.{vec_capacity}
-use Rattle.st_runner.specs.inner.Ready.{IsReady, IsSettled}
-use Rattle.st_runner.specs.inner.Waiting.{end_at}
-use Rattle.st_runner.specs.inner.View.{state_of}
-use Rattle.st_tree.specs.Calls.{calls_to}
+use Rattle.st_tree.proofs.Common.{◌≡◌, ℕ, ◌+◌, vec_capacity, calls_to}
+use Rattle.st_runner.proofs.Common.{IsReady, IsSettled, end_at, state_of}
 use Rattle.st_runner.proofs.runs.go.Given as goal
 
 abbrev pub decreases-loop-next : goal.decreases-loop-next

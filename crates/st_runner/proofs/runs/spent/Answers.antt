@@ -1,8 +1,5 @@
-use Rattle.std.proofs.Common.{suc, sym, ap, ◌∙◌}
-use Rattle.st_runner.specs.inner.Waiting.{end_at}
-use Rattle.st_runner.specs.inner.View.{state_of}
-use Rattle.st_runner.specs.declared.frame.At.{At}
-use Rattle.st_tree.specs.Calls.{calls_to}
+use Rattle.st_tree.proofs.Common.{suc, sym, ap, ◌∙◌, calls_to}
+use Rattle.st_runner.proofs.Common.{end_at, state_of, At}
 use Rattle.st_runner.proofs.runs.spent.Goals as goal
 
 pub returns-in-Test-clause-meaning : goal.returns-in-Test-clause-meaning

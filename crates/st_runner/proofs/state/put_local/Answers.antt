@@ -1,8 +1,7 @@
-use Rattle.std.proofs.Common.{◌≡◌, map, slice_set, sym, subst}
+use Rattle.st_tree.proofs.Common.{◌≡◌, map, slice_set, sym, subst, with_local}
 use Rattle.st_runner.proofs.Frames.{changed, frame_there, set_frames, set_seen}
 use Rattle.st_runner.specs.inner.View.{AreFrames, seen}
 use Rattle.st_runner.specs.declared.state.Activation.{Activation as Kept}
-use Rattle.st_tree.specs.State.{with_local}
 use Rattle.st_runner.proofs.state.put_local.Goals as goal
 
 pub returns-clause-change : goal.returns-clause-change

@@ -1,9 +1,5 @@
-use Rattle.std.proofs.Common.{sym, ap, subst, ◌∙◌}
-use Rattle.std.specs.Prelude.{vec_capacity}
-use Rattle.st_runner.specs.inner.Ready.{IsReady}
-use Rattle.st_runner.specs.inner.Waiting.{end_at}
-use Rattle.st_runner.specs.inner.View.{state_of}
-use Rattle.st_runner.specs.declared.frame.At.{At}
+use Rattle.st_tree.proofs.Common.{sym, ap, subst, ◌∙◌, vec_capacity}
+use Rattle.st_runner.proofs.Common.{IsReady, end_at, state_of, At}
 use Rattle.st_runner.proofs.Stepping.{stepped_ready}
 use Rattle.st_runner.proofs.steps.advance.Goals as goal
 

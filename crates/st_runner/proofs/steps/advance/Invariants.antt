@@ -1,12 +1,6 @@
-use Rattle.std.proofs.Common.{◌≡◌, ℕ, suc}
-use Rattle.std.specs.Prelude.{vec_capacity}
-use Rattle.st_runner.specs.inner.Measures.{work_weight}
-use Rattle.st_runner.specs.inner.Ready.{IsReady}
-use Rattle.st_runner.specs.inner.Waiting.{end_at}
-use Rattle.st_runner.specs.inner.View.{state_of}
-use Rattle.st_runner.specs.declared.frame.At.{At}
+use Rattle.st_tree.proofs.Common.{◌≡◌, ℕ, suc, vec_capacity, Calls}
+use Rattle.st_runner.proofs.Common.{work_weight, IsReady, end_at, state_of, At}
 use Rattle.st_runner.specs.declared.frame.At.TheVariants as at
-use Rattle.st_tree.specs.Meaning.{Calls}
 use Rattle.st_runner.proofs.steps.advance.Given as goal
 
 -- how many steps follow at most

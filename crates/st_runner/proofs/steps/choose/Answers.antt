@@ -1,8 +1,6 @@
 use Rattle.std.proofs.Common.{◌≡◌, List, Ok, Err, subst}
-use Rattle.st_runner.specs.inner.Choice.{picked}
-use Rattle.st_runner.specs.inner.View.{state_of}
+use Rattle.st_runner.proofs.Common.{picked, state_of, Located}
 use Rattle.st_runner.proofs.Dones.{if_done, if_fault}
-use Rattle.st_tree.specs.declared.program.Located.{Located}
 use Rattle.st_runner.proofs.steps.choose.Goals as goal
 
 pub returns-in-Ok-clause-done : goal.returns-in-Ok-clause-done

@@ -1,8 +1,6 @@
-use Rattle.std.proofs.Common.{◌≡◌, List, Ok, Err, sym, subst, ◌∙◌}
-use Rattle.st_runner.specs.inner.View.{state_of}
+use Rattle.st_tree.proofs.Common.{◌≡◌, List, Ok, Err, sym, subst, ◌∙◌, value}
+use Rattle.st_runner.proofs.Common.{state_of, Located}
 use Rattle.st_runner.proofs.Dones.{case_done, case_fault}
-use Rattle.st_tree.specs.Value.{value}
-use Rattle.st_tree.specs.declared.program.Located.{Located}
 use Rattle.st_runner.proofs.steps.choose_labelled.Goals as goal
 
 pub returns-in-Ok-clause-done : goal.returns-in-Ok-clause-done

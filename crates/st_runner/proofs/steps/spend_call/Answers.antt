@@ -1,8 +1,6 @@
-use Rattle.std.proofs.Common.{◌≡◌, List, Ok, Err, subst, arith}
-use Rattle.memory_areas.specs.Access.{and_then}
+use Rattle.st_tree.proofs.Common.{◌≡◌, List, Ok, Err, subst, arith, and_then, entered, located_actuals}
 use Rattle.st_runner.specs.inner.View.{Changes, IsDeeper, state_of}
 use Rattle.st_runner.proofs.Spending.{call_done, call_fault, call_may, call_room, call_unit}
-use Rattle.st_tree.specs.Calls.{entered, located_actuals}
 use Rattle.st_tree.specs.declared.program.Located.{Located}
 use Rattle.st_runner.proofs.steps.spend_call.Goals as goal
 

@@ -1,11 +1,7 @@
-use Rattle.std.proofs.Common.{◌≡◌, true, false, List, Ok, Err, sym, ap, subst, ◌∙◌, arith}
-use Rattle.memory_areas.specs.Access.{and_then}
-use Rattle.st_runner.specs.inner.View.{state_of}
+use Rattle.st_tree.proofs.Common.{◌≡◌, true, false, List, Ok, Err, sym, ap, subst, ◌∙◌, arith, and_then, value, is_set}
+use Rattle.st_runner.proofs.Common.{state_of, Located}
 use Rattle.st_runner.proofs.Spending.{fault_is, test_false, test_fault, test_room, test_true}
 use Rattle.st_runner.proofs.Stepping.{ready_running}
-use Rattle.st_tree.specs.Value.{value}
-use Rattle.st_tree.specs.Values.{is_set}
-use Rattle.st_tree.specs.declared.program.Located.{Located}
 use Rattle.st_runner.proofs.steps.spend_test.Goals as goal
 
 pub is_true-requires-clause-running : goal.is_true-requires-clause-running

@@ -1,13 +1,6 @@
-use Rattle.std.proofs.Common.{List, sym, subst}
-use Rattle.st_runner.specs.inner.Ready.{Done}
-use Rattle.st_runner.specs.inner.View.{Changes, state_of}
+use Rattle.st_tree.proofs.Common.{List, sym, subst, area_assigned, assigned}
+use Rattle.st_runner.proofs.Common.{Done, Changes, state_of, Expr, Arm, CaseArm, Located, Stmt}
 use Rattle.st_runner.proofs.Dones.{area_done, assign_done, continue_done, exit_done, return_done}
-use Rattle.st_tree.specs.Meaning.{area_assigned, assigned}
-use Rattle.st_tree.specs.declared.expr.Expr.{Expr}
-use Rattle.st_tree.specs.declared.program.Arm.{Arm}
-use Rattle.st_tree.specs.declared.program.CaseArm.{CaseArm}
-use Rattle.st_tree.specs.declared.program.Located.{Located}
-use Rattle.st_tree.specs.declared.program.Stmt.{Stmt}
 use Rattle.st_tree.specs.declared.program.Stmt.TheVariants as stmt
 use Rattle.st_runner.proofs.steps.statement.Goals as goal
 

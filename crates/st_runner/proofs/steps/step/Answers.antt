@@ -1,6 +1,5 @@
 use Rattle.std.proofs.Common.{◌+◌, ◌≤◌, [], ◌∷◌, ◌++◌, length, sym, ap, subst, ◌∙◌}
-use Rattle.st_runner.specs.inner.Costs.{most}
-use Rattle.st_runner.specs.inner.Measures.{stack_costs}
+use Rattle.st_runner.proofs.Common.{most, stack_costs}
 use Rattle.st_runner.proofs.Stepping.{body_ended, loop_again, may_leave, no_items, first_statement, ready_running, first_room, unit_ended}
 use Rattle.st_runner.proofs.steps.step.Goals as goal
 

@@ -1,6 +1,5 @@
 use Rattle.std.proofs.Common.{◌≡◌, ◌++◌, map, take}
-use Rattle.st_rules.specs.Judged.{breaks_in, found_in}
-use Rattle.st_rules.specs.Statements.{arm, arms_on, case_arm, case_arms_on, statements}
+use Rattle.st_rules.proofs.Common.{breaks_in, found_in, arm, arms_on, case_arm, case_arms_on, statements}
 use Rattle.st_statements.proofs.statement.«+judge».Given as goal
 
 abbrev pub invariant-arms-loop-raw : goal.invariant-arms-loop-raw

@@ -1,8 +1,7 @@
 use Rattle.std.proofs.Common.{◌≡◌, length, map}
-use Rattle.st_grammar.specs.inner.Judge.{judge_tokens}
+use Rattle.st_grammar.proofs.Common.{judge_tokens, all_lined}
 use Rattle.st_lexer.specs.Pieces.{token_seen}
 use Rattle.st_syntax.specs.inner.Seen.{seen}
-use Rattle.st_grammar.specs.Syntax.{all_lined}
 use Rattle.st_syntax.proofs.parser.judge_tokens.Given as goal
 
 -- the judgement of the rest is that of all

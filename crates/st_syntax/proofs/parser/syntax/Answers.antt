@@ -1,6 +1,5 @@
 use Rattle.std.proofs.Common.{◌≡◌, Global, List, Vec, map, Ok, sym, ap, ◌∙◌}
-use Rattle.st_lexer.specs.Pieces.{token_seen}
-use Rattle.st_lexer.specs.StTokens.{tokens_of}
+use Rattle.st_lexer.proofs.Common.{token_seen, tokens_of}
 use Rattle.st_lexer.specs.declared.lexer.Lexeme.{Lexeme}
 use Rattle.st_syntax.proofs.Whole.{bad_tokens, read_as, refused_as}
 use Rattle.st_syntax.proofs.parser.syntax.Goals as goal

@@ -1,11 +1,8 @@
-use Rattle.std.proofs.Common.{◌≡◌, Option, Ok, map, sym, ap, subst, ◌∙◌}
-use Rattle.std.specs.Prelude.{option_map}
-use Rattle.s7_base.specs.declared.reason.Rejection.{Rejection}
+use Rattle.st_tree.proofs.Common.{◌≡◌, Option, Ok, map, sym, ap, subst, ◌∙◌, option_map, Rejection}
 use Rattle.st_grammar.proofs.Ends.{not_over}
 use Rattle.st_syntax.proofs.parser.whole.Goals as goal
-use Rattle.st_grammar.specs.inner.Judge.{judge_tokens}
+use Rattle.st_grammar.proofs.Common.{judge_tokens, all_lined}
 use Rattle.st_syntax.specs.inner.Seen.{JudgedIs, seen}
-use Rattle.st_grammar.specs.Syntax.{all_lined}
 use Rattle.st_syntax.specs.inner.Views.{text_so_far_of}
 use Rattle.st_lexer.specs.Pieces.{token_seen}
 use Rattle.st_syntax.specs.declared.state.State.TheVariants as state

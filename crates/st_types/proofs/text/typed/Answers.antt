@@ -1,5 +1,4 @@
-use Rattle.std.proofs.Common.{◌≡◌, sym, ap, ◌∙◌, subst, None}
-use Rattle.s7_base.specs.Broken.{first_of_all}
+use Rattle.st_tree.proofs.Common.{◌≡◌, sym, ap, ◌∙◌, subst, None, first_of_all}
 use Rattle.call_chains.specs.Chain.{Graph}
 use Rattle.st_rules.specs.Typed.{first_break, named, IsChainRefused}
 use Rattle.st_types.proofs.Refusals.{refused_by_chain}

@@ -1,5 +1,4 @@
-use Rattle.std.proofs.Common.{◌∙◌, Option, ap}
-use Rattle.std.specs.Prelude.{option_map}
+use Rattle.st_tree.proofs.Common.{◌∙◌, Option, ap, option_map}
 use Rattle.st_grammar.specs.Kinds.{word_text, word_named}
 use Rattle.st_grammar.specs.declared.words.TheConstants.{WORDS}
 use Rattle.st_words.proofs.Tables.{found_by}

@@ -1,12 +1,8 @@
-use Rattle.std.proofs.Common.{◌≡◌, Bool, List, Some, sym, subst}
-use Rattle.st_runner.specs.inner.Fitting.{Decides}
-use Rattle.st_runner.specs.inner.Ready.{IsReady, most_formals, most_locals}
-use Rattle.st_runner.specs.inner.View.{IsSound, state_of}
+use Rattle.st_tree.proofs.Common.{◌≡◌, Bool, List, Some, sym, subst, FitsUnit, unit_called}
+use Rattle.st_runner.proofs.Common.{Decides, IsReady, most_formals, most_locals, IsSound, state_of, Pou}
 use Rattle.st_runner.specs.declared.frame.At.TheVariants as at
 use Rattle.st_runner.proofs.ProperRuns.{proper_runs}
 use Rattle.st_runner.proofs.Opening.{called_formals, called_locals, ends_as_run, fits_there, given_reached, ready_at_start}
-use Rattle.st_tree.specs.StRun.{FitsUnit, unit_called}
-use Rattle.st_tree.specs.declared.program.Pou.{Pou}
 use Rattle.st_runner.proofs.runner.Runner.new.Goals as goal
 
 pub start-requires-clause-locals : goal.start-requires-clause-locals

@@ -1,11 +1,8 @@
-use Rattle.std.proofs.Common.{◌≡◌, ◌+◌, sym, ap, subst, ◌∙◌, arith}
-use Rattle.memory_areas.specs.End.{End}
+use Rattle.st_tree.proofs.Common.{◌≡◌, ◌+◌, sym, ap, subst, ◌∙◌, arith, End, calls_to}
 use Rattle.s7_base.specs.declared.outcome.Outcome.{Outcome}
-use Rattle.st_runner.specs.Standing.{Shows, Standing, end_within}
-use Rattle.st_runner.specs.inner.View.{state_of}
-use Rattle.st_runner.specs.inner.Waiting.{end_at, outcome_of}
+use Rattle.st_runner.proofs.Common.{Shows, state_of, end_at, outcome_of}
+use Rattle.st_runner.specs.Standing.{Standing, end_within}
 use Rattle.st_runner.proofs.Opening.{end_same, settled_shows}
-use Rattle.st_tree.specs.Calls.{calls_to}
 use Rattle.st_runner.proofs.runner.Runner.run.Goals as goal
 
 pub returns-clause-later : goal.returns-clause-later

@@ -1,5 +1,4 @@
-use Rattle.std.proofs.Common.{◌≤◌, length, refl, sym, subst, ◌∙◌, arith}
-use Rattle.std.specs.Prelude.{vec_capacity}
+use Rattle.st_tree.proofs.Common.{◌≤◌, length, refl, sym, subst, ◌∙◌, arith, vec_capacity}
 use Rattle.st_runner.proofs.Frames.{sound_running, sound_back, sound_enter, taken}
 use Rattle.st_runner.proofs.state.State.enter.Goals as goal
 

@@ -1,13 +1,6 @@
 -- Actuals that are located one after another.
-use Rattle.std.proofs.Common.{◌≡◌, ℕ, suc, zero, ◌<◌, List, [], ◌∷◌, ◌++◌, length, take, slice_index_or, Result, Ok, Err, refl, sym, ap, ◌∙◌, arith, rules, ◌+◌, subst}
-use Rattle.memory_areas.specs.Access.{and_then}
-use Rattle.s7_base.specs.declared.outcome.Fault.{Fault}
-use Rattle.st_runner.specs.inner.View.{AreReachable, IsReachable, state_of}
-use Rattle.st_tree.specs.Calls.{located_actual, located_actuals}
-use Rattle.st_tree.specs.State.{State}
-use Rattle.st_tree.specs.declared.expr.Var.{Var}
-use Rattle.st_tree.specs.declared.program.Located.{Located}
-use Rattle.st_tree.specs.declared.state.Reference.{Reference}
+use Rattle.st_tree.proofs.Common.{◌≡◌, ℕ, suc, zero, ◌<◌, List, [], ◌∷◌, ◌++◌, length, take, slice_index_or, Result, Ok, Err, refl, sym, ap, ◌∙◌, arith, rules, ◌+◌, subst, and_then, Fault, located_actual, located_actuals, State}
+use Rattle.st_runner.proofs.Common.{AreReachable, IsReachable, state_of, Var, Located, Reference}
 use Rattle.std.proofs.lemmas.List.{length-append}
 use Rattle.st_runner.proofs.state.State.locate_actuals.Goals as goal
 

@@ -1,7 +1,5 @@
-use Rattle.std.proofs.Common.{◌≡◌, length, take, Ok}
-use Rattle.std.specs.Prelude.{vec_capacity}
+use Rattle.st_tree.proofs.Common.{◌≡◌, length, take, Ok, vec_capacity, located_actuals}
 use Rattle.st_runner.specs.inner.View.{AreReachable, state_of}
-use Rattle.st_tree.specs.Calls.{located_actuals}
 use Rattle.st_runner.proofs.state.State.locate_actuals.Given as goal
 
 abbrev pub invariant-loop-actual : goal.invariant-loop-actual

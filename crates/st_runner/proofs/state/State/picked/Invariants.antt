@@ -1,6 +1,5 @@
 use Rattle.std.proofs.Common.{◌≡◌, length}
-use Rattle.st_runner.specs.inner.Choice.{picked}
-use Rattle.st_runner.specs.inner.View.{state_of}
+use Rattle.st_runner.proofs.Common.{picked, state_of}
 use Rattle.st_runner.proofs.state.State.picked.Given as goal
 
 abbrev pub decreases-loop-arm : goal.decreases-loop-arm
