@@ -1,5 +1,5 @@
 -- Tables in which no key stands twice, and what stands under their keys.
-use Rattle.std.proofs.Common.{◌≡◌, ℕ, Bool, true, false, cond, List, [], ◌∷◌, ◌++◌, Option, Some, None, refl, sym, ap, subst, ◌∙◌, eqb-true}
+use Rattle.std.proofs.Common.{◌≡◌, ℕ, Bool, true, false, cond, List, [], ◌∷◌, ◌++◌, Option, Some, None, refl, sym, ap, subst, ◌∙◌, eqb-true, arith}
 use Rattle.std.specs.Prelude.{nat_eq, is_some}
 use Rattle.std.specs.Cmp.Lexicographic.{pointwise}
 use Rattle.std.proofs.lemmas.Cmp.{nat_list_eq_equiv}
@@ -26,12 +26,7 @@ same_keys a b h = absurd cc
 -- what stands under a key in one table after another
 pub looked_behind : (k : List ℕ) (xs ys : Table Meaning) → look_up k (xs ++ ys) ≡ or_else (look_up k xs) (look_up k ys)
 looked_behind k [] ys = refl
-looked_behind k (x ∷ xs) ys = by (is_same k x.0) (looked_behind k xs ys)
-  where
-    by : (t : Bool) → look_up k (xs ++ ys) ≡ or_else (look_up k xs) (look_up k ys)
-        → cond t (Some x.1) (look_up k (xs ++ ys)) ≡ or_else (cond t (Some x.1) (look_up k xs)) (look_up k ys)
-    by true h = refl
-    by false h = h
+looked_behind k (x ∷ xs) ys = grind (arith, looked_behind k xs ys)
 
 pub none_second : (a b : Option Meaning) → or_else a b ≡ None → b ≡ None
 none_second None b h = h
@@ -49,27 +44,17 @@ missing_between j k m xs ys e h =
 
 apart_between : (k : List ℕ) (m : Meaning) (xs ys : Table Meaning) → AreApart (xs ++ ys) → look_up k (xs ++ ys) ≡ None → AreApart (xs ++ (k, m) ∷ ys)
 apart_between k m [] ys a h = (h, a)
-apart_between k m (x ∷ xs) ys a h = by (is_same k x.0) refl (λ q. apart_between k m xs ys a.1 q) h
-  where
-    by : (t : Bool) → is_same k x.0 ≡ t → (look_up k (xs ++ ys) ≡ None → AreApart (xs ++ (k, m) ∷ ys)) → cond t (Some x.1) (look_up k (xs ++ ys)) ≡ None
-        → AreApart (x ∷ (xs ++ (k, m) ∷ ys))
-    by true e more q = absurd cc
-    by false e more q = (missing_between x.0 k m xs ys (nat_list_eq_equiv.symm x.0 k ∙ e) a.0, more q)
+apart_between k m (x ∷ xs) ys a h =
+    let differ : is_same k x.0 ≡ false = grind arith in
+    (missing_between x.0 k m xs ys (nat_list_eq_equiv.symm x.0 k ∙ differ) a.0, apart_between k m xs ys a.1 (grind arith))
 
 -- a key that stands after some others is none of them
 pub is_new : (k : List ℕ) (m : Meaning) (xs ys : Table Meaning) → AreApart (xs ++ (k, m) ∷ ys) → look_up k xs ≡ None
 is_new k m [] ys a = refl
-is_new k m (x ∷ xs) ys a = by (is_same k x.0) refl (is_new k m xs ys a.1)
-  where
-    here : look_up x.0 ((k, m) ∷ ys) ≡ None
-    here = none_second (look_up x.0 xs) (look_up x.0 ((k, m) ∷ ys)) (sym (looked_behind x.0 xs ((k, m) ∷ ys)) ∙ a.0)
-
-    by : (t : Bool) → is_same k x.0 ≡ t → look_up k xs ≡ None → cond t (Some x.1) (look_up k xs) ≡ None
-    by true e q =
-        let there : look_up x.0 ((k, m) ∷ ys) ≡ Some m = ap (λ t. cond t (Some m) (look_up x.0 ys)) (nat_list_eq_equiv.symm x.0 k ∙ e) in
-        let none : Some m ≡ None = sym there ∙ here in
-        absurd cc
-    by false e q = q
+is_new k m (x ∷ xs) ys a =
+    let here : look_up x.0 ((k, m) ∷ ys) ≡ None =
+    none_second (look_up x.0 xs) (look_up x.0 ((k, m) ∷ ys)) (sym (looked_behind x.0 xs ((k, m) ∷ ys)) ∙ a.0) in
+    grind (arith, nat_list_eq_equiv.symm x.0 k, is_new k m xs ys a.1)
 
 -- Tables with the same under each key
 
@@ -79,11 +64,7 @@ pub record Lists (names entries : Table Meaning) : Type 0 where
   pub apart : AreApart entries
 
 joins : (t : Bool) (m : Meaning) (n x y : Option Meaning) → n ≡ or_else x y → (t ≡ true → n ≡ None) → or_else n (cond t (Some m) None) ≡ or_else x (cond t (Some m) y)
-joins true m None None y e h = refl
-joins true m None (Some a) y e h = absurd cc
-joins true m (Some n) x y e h = let none : Some n ≡ None = h refl in absurd cc
-joins false m None x y e h = e
-joins false m (Some n) x y e h = e
+joins t m n x y e h = grind arith
 
 -- one name more goes anywhere among the entries
 pub one_between : (k : List ℕ) (m : Meaning) (names xs ys : Table Meaning) → Lists names (xs ++ ys) → look_up k names ≡ None → Lists (names ++ (k, m) ∷ []) (xs ++ (k, m) ∷ ys)

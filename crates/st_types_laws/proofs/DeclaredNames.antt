@@ -11,7 +11,6 @@ use Rattle.memory_areas.specs.declared.place.AreaName.TheVariants as area
 use Rattle.memory_areas.specs.declared.sizes.TheConstants.{MOST_BLOCKS}
 use Rattle.s7_base.specs.declared.reason.Line.{Line}
 use Rattle.s7_base.specs.declared.reason.Reason.{Reason}
-use Rattle.s7_base.specs.declared.reason.Reason.TheVariants.{TooLarge}
 use Rattle.s7_base.specs.declared.word.Width.{Width}
 use Rattle.s7_base.specs.declared.word.Width.TheVariants as width
 use Rattle.st_tree.specs.Values.{width_at}
@@ -120,20 +119,14 @@ placed_also (x ∷ ls) l h p = (h.0, placed_also ls l h.1 p)
 
 numbered_also : (b : DataBlock) (bs : List DataBlock) → IsBlock b.number b → AreNumbered bs → AreNumbered (inserted b bs)
 numbered_also b [] i h = (i, tt)
-numbered_also b (c ∷ cs) i h = by (nat_lt c.number b.number) (numbered_also b cs i h.1)
-  where
-    by : (t : Bool) → AreNumbered (inserted b cs) → AreNumbered (cond t (c ∷ inserted b cs) (b ∷ c ∷ cs))
-    by true more = (h.0, more)
-    by false more = (i, h)
+numbered_also b (c ∷ cs) i h =
+    elim (nat_lt c.number b.number) as (λ t. AreNumbered (cond t (c ∷ inserted b cs) (b ∷ c ∷ cs)))
+    [ true ↦ (h.0, numbered_also b cs i h.1) | false ↦ (i, h) ]
 
 -- one data block more
 one_more : (b : DataBlock) (bs : List DataBlock) → length (inserted b bs) ≡ length bs + 1
 one_more b [] = refl
-one_more b (c ∷ cs) = by_test (nat_lt c.number b.number) (one_more b cs)
-  where
-    by_test : (t : Bool) → length (inserted b cs) ≡ length cs + 1 → length (cond t (c ∷ inserted b cs) (b ∷ c ∷ cs)) ≡ length (c ∷ cs) + 1
-    by_test true more = omega (arith, more)
-    by_test false more = omega arith
+one_more b (c ∷ cs) = grind (arith, one_more b cs)
 
 -- no data block has a number
 abbrev AreOthers : ℕ → List DataBlock → Type 0
@@ -145,33 +138,18 @@ no_block_of : (n : ℕ) (bs : List DataBlock) (rest : Table Meaning)
     → look_up (key_of (codes "DB" ++ decimal n)) (block_entries bs ++ rest) ≡ None → AreOthers n bs
 no_block_of n [] rest h = tt
 no_block_of n (b ∷ bs) rest h =
-    by (is_same (key_of (codes "DB" ++ decimal n)) (key_of (codes "DB" ++ decimal b.number))) refl (no_block_of n bs rest) h
-  where
-    differ : b.number ≡ n → is_same (key_of (codes "DB" ++ decimal n)) (key_of (codes "DB" ++ decimal b.number)) ≡ false → ⊥
-    differ same e =
-        let own : is_same (key_of (codes "DB" ++ decimal n)) (key_of (codes "DB" ++ decimal b.number)) ≡ true =
-        ap (λ m. is_same (key_of (codes "DB" ++ decimal n)) (key_of (codes "DB" ++ decimal m))) same
-        ∙ nat_list_eq_equiv.refl (key_of (codes "DB" ++ decimal n)) in
-        absurd cc
-
-    by : (t : Bool) → is_same (key_of (codes "DB" ++ decimal n)) (key_of (codes "DB" ++ decimal b.number)) ≡ t
-        → (look_up (key_of (codes "DB" ++ decimal n)) (block_entries bs ++ rest) ≡ None → AreOthers n bs)
-        → cond t (Some meaning.Block) (look_up (key_of (codes "DB" ++ decimal n)) (block_entries bs ++ rest)) ≡ None
-        → AreOthers n (b ∷ bs)
-    by true e more q = absurd cc
-    by false e more q = (λ same. differ same e, more q)
+    let key : ℕ → List ℕ = λ m. key_of (codes "DB" ++ decimal m) in
+    let differ : is_same (key n) (key b.number) ≡ false = grind arith in
+    let own : is_same (key n) (key n) ≡ true = nat_list_eq_equiv.refl (key n) in
+    (λ same. let equal = ap (λ m. is_same (key n) (key m)) same in absurd cc, no_block_of n bs rest (grind arith))
 
 ascends : (least : ℕ) (b : DataBlock) (bs : List DataBlock) → least ≤ b.number → AreOthers b.number bs → Ascend least (numbers_of bs) → Ascend least (numbers_of (inserted b bs))
 ascends least b [] first o h = (first, tt)
-ascends least b (c ∷ cs) first o h = by_test (nat_lt c.number b.number) refl (λ k q. ascends k b cs q o.1)
-  where
-    by_test : (t : Bool) → nat_lt c.number b.number ≡ t → ((k : ℕ) → k ≤ b.number → Ascend k (numbers_of cs) → Ascend k (numbers_of (inserted b cs)))
-        → Ascend least (numbers_of (cond t (c ∷ inserted b cs) (b ∷ c ∷ cs)))
-    by_test true e more = let l : c.number < b.number = ltb-true c.number b.number e in (h.0, more (c.number + 1) (omega (arith, l)) h.1)
-    by_test false e more =
-        let l : b.number ≤ c.number = ltb-false c.number b.number e in
-        let apart : c.number ≡ b.number → ⊥ = o.0 in
-        (first, (omega (arith, l, apart), h.1))
+ascends least b (c ∷ cs) first o h =
+    (elim (nat_lt c.number b.number) as (λ t. nat_lt c.number b.number ≡ t → Ascend least (numbers_of (cond t (c ∷ inserted b cs) (b ∷ c ∷ cs)))) [
+      | true ↦ λ e. (h.0, ascends (c.number + 1) b cs (omega (arith, ltb-true c.number b.number e)) o.1 h.1)
+      | false ↦ λ e. (first, (omega (arith, ltb-false c.number b.number e, o.0), h.1))
+    ]) refl
 
 -- where one data block more goes
 record IsPut (b : DataBlock) (old new : List DataBlock) : Type 0 where
@@ -182,11 +160,12 @@ record IsPut (b : DataBlock) (old new : List DataBlock) : Type 0 where
 
 is_put : (b : DataBlock) (bs : List DataBlock) → IsPut b bs (inserted b bs)
 is_put b [] = record { before = []; after = []; whole = refl; put = refl }
-is_put b (c ∷ cs) = by (nat_lt c.number b.number) (is_put b cs)
-  where
-    by : (t : Bool) → IsPut b cs (inserted b cs) → IsPut b (c ∷ cs) (cond t (c ∷ inserted b cs) (b ∷ c ∷ cs))
-    by true more = record { before = c ∷ more.before; after = more.after; whole = ap (λ l. c ∷ l) more.whole; put = ap (λ l. c ∷ l) more.put }
-    by false more = record { before = []; after = c ∷ cs; whole = refl; put = refl }
+is_put b (c ∷ cs) =
+    let more = is_put b cs in
+    elim (nat_lt c.number b.number) as (λ t. IsPut b (c ∷ cs) (cond t (c ∷ inserted b cs) (b ∷ c ∷ cs))) [
+      | true ↦ record { before = c ∷ more.before; after = more.after; whole = ap (λ l. c ∷ l) more.whole; put = ap (λ l. c ∷ l) more.put }
+      | false ↦ record { before = []; after = c ∷ cs; whole = refl; put = refl }
+    ]
 
 -- Tests
 
@@ -263,11 +242,7 @@ has_block line n at last list h =
 -- there is room for a new data block
 has_room : (line : Line) (first : Option Meaning) (blocks : ℕ) → (twice line first ++ one_too_many line (not (is_some first) && true) blocks) ≡ [] → nat_lt blocks MOST_BLOCKS ≡ true
 has_room line (Some m) blocks h = absurd cc
-has_room line None blocks h = by (nat_lt blocks MOST_BLOCKS) h
-  where
-    by : (t : Bool) → cond (not t) (broken line TooLarge) [] ≡ [] → t ≡ true
-    by true q = refl
-    by false q = absurd cc
+has_room line None blocks h = grind arith
 
 -- Globals
 

@@ -1,9 +1,8 @@
 -- Tables by keys: what stands under a key after other entries, and formals with keys of their own.
-use Rattle.std.proofs.Common.{◌≡◌, ℕ, ◌+◌, Bool, true, false, cond, List, [], ◌∷◌, ◌++◌, Some, None, refl, ap, ◌∙◌}
+use Rattle.std.proofs.Common.{◌≡◌, ℕ, ◌+◌, true, false, cond, List, [], ◌∷◌, ◌++◌, Some, None, refl, ap, ◌∙◌, arith}
 use Rattle.std.proofs.lemmas.Cmp.{nat_list_eq_equiv}
 use Rattle.st_tree.specs.declared.program.Local.{Local}
 use Rattle.st_rules.specs.declared.scope.Meaning.{Meaning}
-use Rattle.st_rules.specs.declared.scope.Meaning.TheVariants as meaning
 use Rattle.st_types_laws.proofs.Apart.{AreApart}
 use Rattle.st_types_laws.proofs.DeclaredNames.{formal_entries}
 use Rattle.st_rules.specs.Names.{Table, look_up}
@@ -15,22 +14,12 @@ own_key k = nat_list_eq_equiv.refl k
 -- what stands under a key after entries that do not have it
 pub found_behind : {T : Type 0} (table : Table T) (k : List ℕ) (x : T) (rest : Table T) → look_up k table ≡ None → look_up k (table ++ (k, x) ∷ rest) ≡ Some x
 found_behind {T} [] k x rest h = ap (λ t. cond t (Some x) (look_up k rest)) (own_key k)
-found_behind {T} (e ∷ table) k x rest h = by (is_same k e.0) (found_behind table k x rest) h
-  where
-    by : (t : Bool) → (look_up k table ≡ None → look_up k (table ++ (k, x) ∷ rest) ≡ Some x) → cond t (Some e.1) (look_up k table) ≡ None
-        → cond t (Some e.1) (look_up k (table ++ (k, x) ∷ rest)) ≡ Some x
-    by true more q = absurd cc
-    by false more q = more q
+found_behind {T} (e ∷ table) k x rest h = grind (arith, found_behind table k x rest)
 
 -- a key that is not there is not there after one more entry with another key
 pub absent_last : {T : Type 0} (table : Table T) (k j : List ℕ) (x : T) → look_up k table ≡ None → is_same k j ≡ false → look_up k (table ++ (j, x) ∷ []) ≡ None
 absent_last {T} [] k j x h e = ap (λ t. cond t (Some x) None) e
-absent_last {T} (first ∷ table) k j x h e = by (is_same k first.0) (λ q. absent_last table k j x q e) h
-  where
-    by : (t : Bool) → (look_up k table ≡ None → look_up k (table ++ (j, x) ∷ []) ≡ None) → cond t (Some first.1) (look_up k table) ≡ None
-        → cond t (Some first.1) (look_up k (table ++ (j, x) ∷ [])) ≡ None
-    by true more q = absurd cc
-    by false more q = more q
+absent_last {T} (first ∷ table) k j x h e = grind (arith, absent_last table k j x)
 
 -- Formals
 
@@ -60,12 +49,7 @@ none_absent T (l ∷ ls) = (refl, none_absent T ls)
 -- a key that does not stand in a table is that of no formal in it
 others_of : (k : List ℕ) (i : ℕ) (ls : List Local) (more : Table Meaning) → look_up k (formal_entries i ls ++ more) ≡ None → IsOther k ls
 others_of k i [] more h = tt
-others_of k i (l ∷ ls) more h = by (is_same k (key_of l.name)) refl (others_of k (i + 1) ls more) h
-  where
-    by : (t : Bool) → is_same k (key_of l.name) ≡ t → (look_up k (formal_entries (i + 1) ls ++ more) ≡ None → IsOther k ls)
-        → cond t (Some (meaning.Formal i l.ty)) (look_up k (formal_entries (i + 1) ls ++ more)) ≡ None → IsOther k (l ∷ ls)
-    by true e next q = absurd cc
-    by false e next q = (e, next q)
+others_of k i (l ∷ ls) more h = (grind arith, others_of k (i + 1) ls more (grind arith))
 
 pub distinct_of : (i : ℕ) (ls : List Local) (more : Table Meaning) → AreApart (formal_entries i ls ++ more) → AreDistinct ls
 distinct_of i [] more a = tt

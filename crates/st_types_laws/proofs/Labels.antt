@@ -1,5 +1,5 @@
 -- The labels of an arm of a CASE that have a type.
-use Rattle.std.proofs.Common.{◌≡◌, true, ◌&&◌, cond, ℤ, List, [], ◌∷◌, map, Some, refl, sym, ap, ◌∙◌}
+use Rattle.std.proofs.Common.{◌≡◌, true, ◌&&◌, cond, ℤ, List, [], ◌∷◌, map, Some, refl, ap, ◌∙◌}
 use Rattle.s7_base.specs.declared.reason.Line.{Line}
 use Rattle.s7_base.specs.declared.reason.Reason.TheVariants.{TypeMismatch}
 use Rattle.s7_base.specs.Broken.{broken}
