@@ -1,10 +1,10 @@
 -- Keys of data blocks with one number are the same.
-use Rattle.std.proofs.Common.{◌≡◌, ◌<◌, ◌≤◌, ◌+◌, ◌*◌, ◌-◌, ◌^◌, ℕ, zero, suc, min, Bool, true, false, cond, ◌==◌, nat_le, nat_lt, List, [], ◌∷◌, map, drop, length, refl, sym, ap, subst, ◌∙◌, arith}
+use Rattle.std.proofs.Common.{◌≡◌, ◌<◌, ◌≤◌, ◌+◌, ◌*◌, ◌-◌, ◌^◌, ℕ, zero, suc, min, Bool, true, false, cond, ◌==◌, nat_le, List, [], ◌∷◌, map, drop, length, refl, sym, ap, subst, ◌∙◌, arith}
 use Rattle.std.specs.List.{list_all}
 use Rattle.std.specs.Char.{to_ascii_uppercase}
-use Rattle.std.proofs.Math.Nat.{le-min, min-le_right, min-eq_left, min-eq_right}
-use Rattle.std.proofs.lemmas.Bool.{eqb-false, leb-true, leb-false, ltb-true, ltb-false}
+use Rattle.std.proofs.lemmas.Bool.{leb-true}
 use Rattle.std.proofs.lemmas.Bool.{and_parts}
+use Rattle.std.proofs.lemmas.Bool.Decides.{nat_tests}
 use Rattle.st_rules.specs.Globals.{block_number, number_from, number_in}
 use Rattle.digit_texts.proofs.SomeDigits.{each_digit}
 use Rattle.digit_texts.specs.Digits.{are_digits, is_digit}
@@ -24,32 +24,16 @@ abbrev with_digit : ℕ → ℕ → ℕ
 with_digit v d = min (v * 10 + (d - 48)) (2 ^ 32 - 1)
 
 kept : (v d : ℕ) → with_digit v d ≤ most
-kept v d = min-le_right (v * 10 + (d - 48)) most
-
--- a number below the greatest one is no other number that is kept as that
-in_full : (x m : ℕ) → min x m < m → min x m ≡ x
-in_full x m h = by_size (nat_le x m) refl
-  where
-    by_size : (t : Bool) → nat_le x m ≡ t → min x m ≡ x
-    by_size true e = min-eq_left (leb-true x m e)
-    by_size false e =
-        let above : m < x = leb-false x m e in
-        let same : min x m ≡ m = min-eq_right (omega (arith, above)) in
-        absurd (omega (arith, same, h))
+kept v d = omega arith
 
 -- with more digits no number grows less
 grows : (ds : List ℕ) (v : ℕ) → v ≤ most → v ≤ number_from v ds
 grows [] v h = omega arith
-grows (d ∷ ds) v h =
-    let up : v ≤ with_digit v d = le-min (omega arith) h in
-    let rest : with_digit v d ≤ number_from (with_digit v d) ds = grows ds (with_digit v d) (kept v d) in
-    omega (arith, up, rest)
+grows (d ∷ ds) v h = omega (arith, grows ds (with_digit v d) (kept v d))
 
 -- what a digit adds to a number is in it, where the number from it and more digits is below the greatest one
 adds : (ds : List ℕ) (v d : ℕ) → number_from (with_digit v d) ds < most → with_digit v d ≡ v * 10 + (d - 48)
-adds ds v d h =
-    let rest : with_digit v d ≤ number_from (with_digit v d) ds = grows ds (with_digit v d) (kept v d) in
-    in_full (v * 10 + (d - 48)) most (omega (arith, rest, h))
+adds ds v d h = omega (arith, grows ds (with_digit v d) (kept v d))
 
 -- as many digits of one number are the same, and so is what stands before them
 aligned : (ds es : List ℕ) (v w : ℕ) → list_all is_digit ds ≡ true → list_all is_digit es ≡ true → length ds ≡ length es → number_from v ds ≡ number_from w es
@@ -94,14 +78,10 @@ no_longer n k (d ∷ ds) es small a b size =
     a.plain ds (ap (λ x. x ∷ ds) first)
 
 one_list : (n : ℕ) (ds es : List ℕ) → n < most → AreDigits n ds → AreDigits n es → ds ≡ es
-one_list n ds es small a b = by_sizes (nat_lt (length ds) (length es)) (nat_lt (length es) (length ds)) refl refl
-  where
-    by_sizes : (t u : Bool) → nat_lt (length ds) (length es) ≡ t → nat_lt (length es) (length ds) ≡ u → ds ≡ es
-    by_sizes true u f g = absurd (no_longer n (length es - length ds - 1) es ds small b a (omega (arith, ltb-true (length ds) (length es) f)))
-    by_sizes false true f g = absurd (no_longer n (length ds - length es - 1) ds es small a b (omega (arith, ltb-true (length es) (length ds) g)))
-    by_sizes false false f g =
-        let size : length ds ≡ length es = omega (arith, ltb-false (length ds) (length es) f, ltb-false (length es) (length ds) g) in
-        (aligned ds es 0 0 a.digits b.digits size (a.worth ∙ sym b.worth) (omega (arith, small, a.worth))).1
+one_list n ds es small a b =
+    let no_more = no_longer n (length ds - length es - 1) ds es small a b in
+    let no_less = no_longer n (length es - length ds - 1) es ds small b a in
+    (aligned ds es 0 0 a.digits b.digits (omega (arith, no_more, no_less)) (a.worth ∙ sym b.worth) (omega (arith, small, a.worth))).1
 
 -- Keys
 
@@ -135,14 +115,7 @@ single d z = let m : min z 0 ≡ 0 = omega arith in ap (λ n. drop n (d ∷ []))
 zero_alone : (ds rest : List ℕ) → without_zeros ds ≡ 48 ∷ rest → rest ≡ []
 zero_alone [] rest h = absurd cc
 zero_alone (d ∷ []) rest h = sym (ap (drop 1) (sym (single d (zeros_before (d ∷ []))) ∙ h))
-zero_alone (d ∷ e ∷ ds) rest h = by_test (d == 48) refl (λ q. zero_alone (e ∷ ds) rest q)
-  where
-    by_test : (t : Bool) → (d == 48) ≡ t → (without_zeros (e ∷ ds) ≡ 48 ∷ rest → rest ≡ []) → rest ≡ []
-    by_test true f more = more (sym (fewer d e ds f) ∙ h)
-    by_test false f more =
-        let same : d ∷ e ∷ ds ≡ 48 ∷ rest = sym (no_fewer d e ds f) ∙ h in
-        let first : d ≡ 48 = cc in
-        absurd (eqb-false d 48 f first)
+zero_alone (d ∷ e ∷ ds) rest h = grind (arith, nat_tests, fewer d e ds, no_fewer d e ds, zero_alone (e ∷ ds) rest)
 
 -- a name that is the key of a data block has a plain number
 has_plain : (n : ℕ) (capitals : List ℕ) (t : Bool) → names_block capitals ≡ t → number_in (cond t (68 ∷ 66 ∷ without_zeros (drop 2 capitals)) capitals) ≡ n → 1 ≤ n

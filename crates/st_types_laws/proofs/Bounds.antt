@@ -2,7 +2,7 @@
 use Rattle.std.proofs.Common.{◌≡◌, ℕ, ◌≤◌, max, ◌++◌, ℤ, List, [], ◌∷◌, map, ap, ◌∙◌, arith}
 use Rattle.call_chains.specs.declared.call.Call.{Call}
 use Rattle.s7_base.specs.declared.reason.Line.{Line}
-use Rattle.st_types_laws.proofs.Actions.{calls_arm, calls_case, calls_case_arm, calls_if, calls_while, on_line, raw_arm, raw_case}
+use Rattle.st_types_laws.proofs.Actions.{calls_arm, calls_at, calls_case_arm, on_line, raw_arm, raw_case}
 use Rattle.st_types_laws.proofs.Lists.{map_last}
 use Rattle.st_rules.specs.Calls.{all_calls, calls_of, calls_of_arm, calls_of_case_arm, joined}
 use Rattle.st_rules.specs.declared.scope.Scope.{Scope}
@@ -12,6 +12,7 @@ use Rattle.st_tree.specs.declared.raw.RawArm.{RawArm}
 use Rattle.st_tree.specs.declared.raw.RawCaseArm.{RawCaseArm}
 use Rattle.st_tree.specs.declared.raw.RawExpr.{RawExpr}
 use Rattle.st_tree.specs.declared.raw.RawStmt.{RawStmt}
+use Rattle.st_tree.specs.declared.raw.RawStmtKind.TheOpen as K
 use Rattle.st_tree.specs.declared.raw.RawStmtKind.TheVariants as raw
 
 -- the greatest that the called units cost
@@ -76,15 +77,15 @@ module _ (f : ℕ → ℕ) (s : Scope) where
 
   pub bound_if : (l : Line) (arms : List RawArm) (other : List RawStmt)
       → bound f (calls_of s (on_line l (raw.If arms other))) ≡ max (bound_arms arms) (bound_all other)
-  bound_if l arms other = ap (bound f) (calls_if s l arms other)
+  bound_if l arms other = ap (bound f) (calls_at s l (K.If arms other) (raw.rolls-If arms other))
       ∙ bound_joined f (joined (map (calls_of_arm s) arms)) (all_calls s other)
 
   pub bound_case : (l : Line) (e : RawExpr) (arms : List RawCaseArm) (other : List RawStmt)
       → bound f (calls_of s (on_line l (raw.Case e arms other))) ≡ max (bound_cases arms) (bound_all other)
   bound_case l e arms other =
-      ap (bound f) (calls_case s l e arms other)
+      ap (bound f) (calls_at s l (K.Case e arms other) (raw.rolls-Case e arms other))
       ∙ bound_joined f (joined (map (calls_of_case_arm s) arms)) (all_calls s other)
 
   pub bound_while : (l : Line) (e : RawExpr) (body : List RawStmt)
       → bound f (calls_of s (on_line l (raw.While e body))) ≡ bound_all body
-  bound_while l e body = ap (bound f) (calls_while s l e body)
+  bound_while l e body = ap (bound f) (calls_at s l (K.While e body) (raw.rolls-While e body))

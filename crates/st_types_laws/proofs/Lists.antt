@@ -19,6 +19,9 @@ pub nil_second : {X : Type 0} (xs ys : List X) → xs ++ ys ≡ [] → ys ≡ []
 nil_second [] ys h = h
 nil_second (x ∷ xs) ys h = absurd cc
 
+pub both_nil : {X : Type 0} (xs ys : List X) → xs ++ ys ≡ [] → (xs ≡ []) × (ys ≡ [])
+both_nil xs ys h = (nil_first xs ys h, nil_second xs ys h)
+
 pub nil_at : {X Y : Type 0} (f : X → List Y) (xs : List X) (i : ℕ) (x : X) → flat_map f xs ≡ [] → slice_get xs i ≡ Some x → f x ≡ []
 nil_at f [] i x h q = absurd cc
 nil_at f (z ∷ xs) zero x h q = let same : z ≡ x = cc in ap f (sym same) ∙ nil_first (f z) (flat_map f xs) h

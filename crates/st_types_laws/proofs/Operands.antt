@@ -1,8 +1,8 @@
 -- An expression with operands by what its operands are: where it breaks no rule, and what it is.
-use Rattle.std.proofs.Common.{◌≡◌, ◌++◌, [], Option, Some, None, refl, sym, ap, ◌∙◌}
+use Rattle.std.proofs.Common.{◌≡◌, [], Option, Some, None, refl, sym, ap, ◌∙◌}
 use Rattle.s7_base.specs.declared.reason.Line.{Line}
 use Rattle.s7_base.specs.declared.word.Width.{Width}
-use Rattle.st_types_laws.proofs.ReadEquations.{read_unary, read_binary, read_convert, read_select, read_shift, read_area}
+use Rattle.st_types_laws.proofs.ReadEquations.{read_at}
 use Rattle.st_tree.specs.declared.expr.BinaryOp.{BinaryOp}
 use Rattle.st_tree.specs.declared.expr.Expr.{Expr}
 use Rattle.st_tree.specs.declared.expr.Expr.TheVariants as expr
@@ -10,10 +10,11 @@ use Rattle.st_tree.specs.declared.expr.ShiftOp.{ShiftOp}
 use Rattle.st_tree.specs.declared.expr.StType.{StType}
 use Rattle.st_tree.specs.declared.expr.UnaryOp.{UnaryOp}
 use Rattle.st_tree.specs.declared.raw.RawExpr.{RawExpr}
+use Rattle.st_tree.specs.declared.raw.RawExpr.TheOpen as R
 use Rattle.st_tree.specs.declared.raw.RawExpr.TheVariants as raw
-use Rattle.st_types_laws.proofs.Lists.{nil_first, nil_second}
+use Rattle.st_types_laws.proofs.Lists.{both_nil, nil_first}
 use Rattle.st_rules.specs.Judged.{Judged, behind, sound}
-use Rattle.st_rules.specs.Expressions.{area_read_of, binary_of, choice_of, conversion_of, expression, shift_of, typed_as, unary_of}
+use Rattle.st_rules.specs.Expressions.{expression, typed_as}
 use Rattle.st_tree.specs.TypeRules.{type_of_binary, type_of_choice, type_of_conversion, type_of_read, type_of_shift, type_of_unary}
 use Rattle.st_rules.specs.declared.expression.Typed.{Typed}
 use Rattle.st_rules.specs.declared.scope.Scope.{Scope}
@@ -53,77 +54,41 @@ module _ (s : Scope) (l : Line) where
 
   -- the operands of what breaks no rule break none
   pub unary_operand : (op : UnaryOp) (a : RawExpr) → IsClean (raw.Unary op a) → IsClean a
-  unary_operand op a h = nil_first (expression s l a).breaks (unary_of l op (expression s l a).found).breaks (sym (ap (λ (j : Judged Typed). j.breaks) (read_unary s l op a)) ∙ h)
+  unary_operand op a h = nil_first _ _ (rw (read_at s l (R.Unary op a) (raw.rolls-Unary op a)) at h)
 
   pub binary_operands : (op : BinaryOp) (a b : RawExpr) → IsClean (raw.Binary op a b) → IsClean a × IsClean b
-  binary_operands op a b h =
-      let j = expression s l a in
-      let k = expression s l b in
-      let both : j.breaks ++ k.breaks ≡ [] =
-      nil_first (j.breaks ++ k.breaks) (binary_of l op j.found k.found).breaks (sym (ap (λ (j : Judged Typed). j.breaks) (read_binary s l op a b)) ∙ h) in
-      (nil_first j.breaks k.breaks both, nil_second j.breaks k.breaks both)
+  binary_operands op a b h = both_nil _ _ (nil_first _ _ (rw (read_at s l (R.Binary op a b) (raw.rolls-Binary op a b)) at h))
 
   pub convert_operand : (from to : StType) (a : RawExpr) → IsClean (raw.Convert from to a) → IsClean a
-  convert_operand from to a h =
-      nil_first (expression s l a).breaks (conversion_of l from to (expression s l a).found).breaks (sym (ap (λ (j : Judged Typed). j.breaks) (read_convert s l from to a)) ∙ h)
+  convert_operand from to a h = nil_first _ _ (rw (read_at s l (R.Convert from to a) (raw.rolls-Convert from to a)) at h)
 
   pub select_operands : (a b c : RawExpr) → IsClean (raw.Select a b c) → IsClean a × IsClean b × IsClean c
   select_operands a b c h =
-      let i = expression s l a in
-      let j = expression s l b in
-      let k = expression s l c in
-      let all : i.breaks ++ j.breaks ++ k.breaks ≡ [] =
-      nil_first (i.breaks ++ j.breaks ++ k.breaks) (choice_of l i.found j.found k.found).breaks (sym (ap (λ (j : Judged Typed). j.breaks) (read_select s l a b c)) ∙ h)
-      in
-      let both : i.breaks ++ j.breaks ≡ [] = nil_first (i.breaks ++ j.breaks) k.breaks all in
-      (nil_first i.breaks j.breaks both, nil_second i.breaks j.breaks both, nil_second (i.breaks ++ j.breaks) k.breaks all)
+      let all = both_nil _ _ (nil_first _ _ (rw (read_at s l (R.Select a b c) (raw.rolls-Select a b c)) at h)) in
+      let first = both_nil _ _ all.0 in
+      (first.0, first.1, all.1)
 
   pub shift_operands : (op : ShiftOp) (a b : RawExpr) → IsClean (raw.Shift op a b) → IsClean a × IsClean b
-  shift_operands op a b h =
-      let j = expression s l a in
-      let k = expression s l b in
-      let both : j.breaks ++ k.breaks ≡ [] =
-      nil_first (j.breaks ++ k.breaks) (shift_of l op j.found k.found).breaks (sym (ap (λ (j : Judged Typed). j.breaks) (read_shift s l op a b)) ∙ h) in
-      (nil_first j.breaks k.breaks both, nil_second j.breaks k.breaks both)
+  shift_operands op a b h = both_nil _ _ (nil_first _ _ (rw (read_at s l (R.Shift op a b) (raw.rolls-Shift op a b)) at h))
 
   pub area_operand : (w : Width) (a : RawExpr) → IsClean (raw.AreaRead w a) → IsClean a
-  area_operand w a h = nil_first (expression s l a).breaks (area_read_of l w (expression s l a).found).breaks (sym (ap (λ (j : Judged Typed). j.breaks) (read_area s l w a)) ∙ h)
+  area_operand w a h = nil_first _ _ (rw (read_at s l (R.AreaRead w a) (raw.rolls-AreaRead w a)) at h)
 
   -- what they are with the operands that they have
   pub unary_by : (op : UnaryOp) (a : RawExpr) (t : Typed) → Is a t → IsBy l (expression s l (raw.Unary op a)) (type_of_unary op t.ty) (expr.Unary op t.tree)
-  unary_by op a t h = record {
-    is = read_unary s l op a ∙ ap (λ (j : Judged Typed). behind j.breaks (unary_of l op j.found)) h;
-  }
+  unary_by op a t h = record { is = rw (read_at s l (R.Unary op a) (raw.rolls-Unary op a), h) refl }
 
   pub binary_by : (op : BinaryOp) (a b : RawExpr) (t u : Typed) → Is a t → Is b u → IsBy l (expression s l (raw.Binary op a b)) (type_of_binary op t.ty u.ty) (expr.Binary op t.tree u.tree)
-  binary_by op a b t u h g = record {
-    is = read_binary s l op a b
-        ∙ ap (λ (j : Judged Typed). behind (j.breaks ++ (expression s l b).breaks) (binary_of l op j.found (expression s l b).found)) h
-        ∙ ap (λ (j : Judged Typed). behind j.breaks (binary_of l op (Some t) j.found)) g;
-  }
+  binary_by op a b t u h g = record { is = rw (read_at s l (R.Binary op a b) (raw.rolls-Binary op a b), h, g) refl }
 
   pub convert_by : (from to : StType) (a : RawExpr) (t : Typed) → Is a t → IsBy l (expression s l (raw.Convert from to a)) (type_of_conversion from to t.ty) (expr.Convert from to t.tree)
-  convert_by from to a t h = record {
-    is = read_convert s l from to a ∙ ap (λ (j : Judged Typed). behind j.breaks (conversion_of l from to j.found)) h;
-  }
+  convert_by from to a t h = record { is = rw (read_at s l (R.Convert from to a) (raw.rolls-Convert from to a), h) refl }
 
   pub select_by : (a b c : RawExpr) (t u v : Typed) → Is a t → Is b u → Is c v → IsBy l (expression s l (raw.Select a b c)) (type_of_choice t.ty u.ty v.ty) (expr.Select t.tree u.tree v.tree)
-  select_by a b c t u v h g f = record {
-    is = read_select s l a b c
-        ∙ ap (λ (j : Judged Typed). behind (j.breaks ++ (expression s l b).breaks ++ (expression s l c).breaks)
-        (choice_of l j.found (expression s l b).found (expression s l c).found)) h
-        ∙ ap (λ (j : Judged Typed). behind (j.breaks ++ (expression s l c).breaks) (choice_of l (Some t) j.found (expression s l c).found)) g
-        ∙ ap (λ (j : Judged Typed). behind j.breaks (choice_of l (Some t) (Some u) j.found)) f;
-  }
+  select_by a b c t u v h g f = record { is = rw (read_at s l (R.Select a b c) (raw.rolls-Select a b c), h, g, f) refl }
 
   pub shift_by : (op : ShiftOp) (a b : RawExpr) (t u : Typed) → Is a t → Is b u → IsBy l (expression s l (raw.Shift op a b)) (type_of_shift t.ty u.ty) (expr.Shift op t.tree u.tree)
-  shift_by op a b t u h g = record {
-    is = read_shift s l op a b
-        ∙ ap (λ (j : Judged Typed). behind (j.breaks ++ (expression s l b).breaks) (shift_of l op j.found (expression s l b).found)) h
-        ∙ ap (λ (j : Judged Typed). behind j.breaks (shift_of l op (Some t) j.found)) g;
-  }
+  shift_by op a b t u h g = record { is = rw (read_at s l (R.Shift op a b) (raw.rolls-Shift op a b), h, g) refl }
 
   pub area_by : (w : Width) (a : RawExpr) (t : Typed) → Is a t → IsBy l (expression s l (raw.AreaRead w a)) (type_of_read w t.ty) (expr.AreaRead w t.tree)
-  area_by w a t h = record {
-    is = read_area s l w a ∙ ap (λ (j : Judged Typed). behind j.breaks (area_read_of l w j.found)) h;
-  }
+  area_by w a t h = record { is = rw (read_at s l (R.AreaRead w a) (raw.rolls-AreaRead w a), h) refl }

@@ -1,10 +1,11 @@
 -- A statement by its parts: where it breaks no rule, and what it is.
 use Rattle.std.proofs.Common.{◌≡◌, ◌++◌, ℤ, Bool, true, false, ◌&&◌, cond, List, [], ◌∷◌, map, Option, Some, Result, Ok, Err, refl, sym, ap, ◌∙◌}
+use Rattle.std.proofs.lemmas.Grind.{flat_map-append}
 use Rattle.s7_base.specs.declared.reason.Line.{Line}
 use Rattle.s7_base.specs.declared.reason.Reason.{Reason}
 use Rattle.s7_base.specs.declared.reason.Reason.TheVariants.{TypeMismatch}
 use Rattle.s7_base.specs.declared.word.Width.{Width}
-use Rattle.st_types_laws.proofs.Actions.{act_arm, act_assign, act_case, act_case_arm, act_if, act_while, act_write, on_line, raw_arm, raw_case}
+use Rattle.st_types_laws.proofs.Actions.{act_arm, act_at, act_case_arm, on_line, raw_arm, raw_case}
 use Rattle.st_tree.specs.Values.{type_of_width}
 use Rattle.st_tree.specs.declared.expr.Expr.{Expr}
 use Rattle.st_tree.specs.declared.expr.StType.{StType}
@@ -17,15 +18,15 @@ use Rattle.st_tree.specs.declared.raw.RawArm.{RawArm}
 use Rattle.st_tree.specs.declared.raw.RawCaseArm.{RawCaseArm}
 use Rattle.st_tree.specs.declared.raw.RawExpr.{RawExpr}
 use Rattle.st_tree.specs.declared.raw.RawStmt.{RawStmt}
+use Rattle.st_tree.specs.declared.raw.RawStmtKind.TheOpen as K
 use Rattle.st_tree.specs.declared.raw.RawStmtKind.TheVariants as raw
 use Rattle.st_tree.specs.declared.raw.RawVar.{RawVar}
-use Rattle.st_types_laws.proofs.Lists.{map_last, nil_first, nil_second}
-use Rattle.st_rules.specs.Judged.{Judged, behind, breaks_in, breaks_rule, found_in, sound}
+use Rattle.st_types_laws.proofs.Lists.{both_nil, map_last, nil_first}
+use Rattle.st_rules.specs.Judged.{Judged, breaks_in, breaks_rule, found_in, sound}
 use Rattle.st_rules.specs.Expressions.{answered, expression, variable_on}
-use Rattle.st_rules.specs.Statements.{Armed, Labelled, area_write_of, arm, arm_of, arms_on, assignment_of, case_arm, case_arms_on, case_of, label_breaks, selector, selector_of, statement, statements, test, test_of, type_of_selector, while_of}
+use Rattle.st_rules.specs.Statements.{Armed, Labelled, arm, arms_on, case_arm, case_arms_on, label_breaks, selector, statement, statements, test, type_of_selector}
 use Rattle.st_tree.specs.TypeRules.{is_selector, is_type}
 use Rattle.st_rules.specs.Variables.{variable}
-use Rattle.s7_base.specs.declared.broken.Break.{Break}
 use Rattle.st_rules.specs.declared.expression.Typed.{Typed}
 use Rattle.st_rules.specs.declared.scope.Scope.{Scope}
 use Rattle.st_rules.specs.declared.variable.TypedVar.{TypedVar}
@@ -51,31 +52,14 @@ pub clean_of : {T : Type 0} (js : List (Judged T)) (xs : List T) → AreSound js
 clean_of js xs h = ap breaks_in h ∙ breaks_sound xs
 
 pub breaks_last : {T : Type 0} (js : List (Judged T)) (j : Judged T) → breaks_in (js ++ j ∷ []) ≡ [] → (breaks_in js ≡ []) × (j.breaks ≡ [])
-breaks_last [] j h = (refl, nil_first j.breaks [] h)
-breaks_last (i ∷ js) j h =
-    let more = breaks_last js j (nil_second i.breaks (breaks_in (js ++ j ∷ [])) h) in
-    let first : i.breaks ≡ [] = nil_first i.breaks (breaks_in (js ++ j ∷ [])) h in
-    (no_more i.breaks (breaks_in js) first more.0, more.1)
-  where
-    no_more : (bs cs : List Break) → bs ≡ [] → cs ≡ [] → bs ++ cs ≡ []
-    no_more bs cs h g = ap (λ l. l ++ cs) h ∙ g
-
-pub no_break : (bs cs : List Break) → bs ≡ [] → cs ≡ [] → bs ++ cs ≡ []
-no_break bs cs h g = ap (λ l. l ++ cs) h ∙ g
-
-abbrev of_parts : {T : Type 0} → Option T → List Break → Judged T
-of_parts o bs = record { found = o; breaks = bs }
-
-judged : {T : Type 0} (o : Option T) (x : T) (bs : List Break) → o ≡ Some x → bs ≡ [] → of_parts o bs ≡ sound x
-judged {T} o x bs h g = ap (λ (p : Option T). of_parts p bs) h ∙ ap (λ (cs : List Break). of_parts (Some x) cs) g
+breaks_last {T} js j h =
+    let both = both_nil (breaks_in js) _ (sym (flat_map-append (λ (k : Judged T). k.breaks) js (j ∷ [])) ∙ h) in
+    (both.0, nil_first j.breaks [] both.1)
 
 -- a test holds where no rule is broken by it
 held : {T : Type 0} (l : Line) (x : T) (b : Bool) → (cond b (sound x) (breaks_rule l TypeMismatch)).breaks ≡ [] → b ≡ true
 held l x true q = refl
 held l x false q = absurd cc
-
-both_nil : (xs ys : List Break) → xs ++ ys ≡ [] → (xs ≡ []) × (ys ≡ [])
-both_nil xs ys h = (nil_first xs ys h, nil_second xs ys h)
 
 -- the values of some labels
 abbrev pub values : List (StType × ℤ) → List ℤ
@@ -88,29 +72,23 @@ writes w p e = is_type p.ty type.Dword && is_type e.ty (type_of_width w)
 module _ (s : Scope) (l : Line) where
   -- Tests and selectors
 
-  test_with : (e : RawExpr) (t : Typed) → expression s l e ≡ sound t → test s l e ≡ behind [] (test_of l (Some t))
-  test_with e t h = ap (λ (j : Judged Typed). behind j.breaks (test_of l j.found)) h
-
   pub test_is : (e : RawExpr) (t : Typed) → expression s l e ≡ sound t → is_type t.ty type.Bool ≡ true → test s l e ≡ sound t.tree
-  test_is e t h b = test_with e t h ∙ ap (λ x. behind [] (cond x (sound t.tree) (breaks_rule l TypeMismatch))) b
+  test_is e t h b = rw (h, b) refl
 
   pub test_clean : (e : RawExpr) → (test s l e).breaks ≡ [] → (expression s l e).breaks ≡ []
-  test_clean e h = nil_first (expression s l e).breaks (test_of l (expression s l e).found).breaks h
+  test_clean e h = nil_first _ _ h
 
   pub test_bool : (e : RawExpr) (t : Typed) → expression s l e ≡ sound t → (test s l e).breaks ≡ [] → is_type t.ty type.Bool ≡ true
-  test_bool e t h c = held l t.tree (is_type t.ty type.Bool) (sym (ap (λ (j : Judged Expr). j.breaks) (test_with e t h)) ∙ c)
-
-  selector_with : (e : RawExpr) (t : Typed) → expression s l e ≡ sound t → selector s l e ≡ behind [] (selector_of l (Some t))
-  selector_with e t h = ap (λ (j : Judged Typed). behind j.breaks (selector_of l j.found)) h
+  test_bool e t h c = held l t.tree (is_type t.ty type.Bool) (rw h at c)
 
   pub selector_is : (e : RawExpr) (t : Typed) → expression s l e ≡ sound t → is_selector t.ty ≡ true → selector s l e ≡ sound t
-  selector_is e t h b = selector_with e t h ∙ ap (λ x. behind [] (cond x (sound t) (breaks_rule l TypeMismatch))) b
+  selector_is e t h b = rw (h, b) refl
 
   pub selector_clean : (e : RawExpr) → (selector s l e).breaks ≡ [] → (expression s l e).breaks ≡ []
-  selector_clean e h = nil_first (expression s l e).breaks (selector_of l (expression s l e).found).breaks h
+  selector_clean e h = nil_first _ _ h
 
   pub selector_type : (e : RawExpr) (t : Typed) → expression s l e ≡ sound t → (selector s l e).breaks ≡ [] → is_selector t.ty ≡ true
-  selector_type e t h c = held l t (is_selector t.ty) (sym (ap (λ (j : Judged Typed). j.breaks) (selector_with e t h)) ∙ c)
+  selector_type e t h c = held l t (is_selector t.ty) (rw h at c)
 
   -- Assignments and writes
 
@@ -121,146 +99,88 @@ module _ (s : Scope) (l : Line) where
       by (Ok x) e q = (x, e)
       by (Err rule) e q = absurd cc
 
-  assign_with : (v : RawVar) (e : RawExpr) (x : TypedVar) (t : Typed) → variable s v ≡ Ok x → expression s l e ≡ sound t
-      → statement s (on_line l (raw.Assign v e)) ≡ behind [] (assignment_of l (Some x) (Some t))
-  assign_with v e x t h g =
-      act_assign s l v e
-      ∙ ap (λ (r : Result TypedVar Reason). behind ((answered l r).breaks ++ (expression s l e).breaks) (assignment_of l (answered l r).found (expression s l e).found)) h
-      ∙ ap (λ (j : Judged Typed). behind j.breaks (assignment_of l (Some x) j.found)) g
-
   pub assign_clean : (v : RawVar) (e : RawExpr) → (statement s (on_line l (raw.Assign v e))).breaks ≡ [] → ((variable_on s l v).breaks ≡ []) × ((expression s l e).breaks ≡ [])
-  assign_clean v e c =
-      let j = variable_on s l v in
-      let k = expression s l e in
-      both_nil j.breaks k.breaks
-      (nil_first (j.breaks ++ k.breaks) (assignment_of l j.found k.found).breaks (sym (ap (λ (j : Judged Stmt). j.breaks) (act_assign s l v e)) ∙ c))
+  assign_clean v e c = both_nil _ _ (nil_first _ _ (rw (act_at s l (K.Assign v e) (raw.rolls-Assign v e)) at c))
 
   pub assign_fits : (v : RawVar) (e : RawExpr) (x : TypedVar) (t : Typed) → variable s v ≡ Ok x → expression s l e ≡ sound t
       → (statement s (on_line l (raw.Assign v e))).breaks ≡ [] → is_type x.ty t.ty ≡ true
-  assign_fits v e x t h g c = held l (stmt.Assign x.var t.tree) (is_type x.ty t.ty) (sym (ap (λ (j : Judged Stmt). j.breaks) (assign_with v e x t h g)) ∙ c)
+  assign_fits v e x t h g c =
+      held l (stmt.Assign x.var t.tree) (is_type x.ty t.ty) (rw (act_at s l (K.Assign v e) (raw.rolls-Assign v e), h, g) at c)
 
   pub assign_is : (v : RawVar) (e : RawExpr) (x : TypedVar) (t : Typed) → variable s v ≡ Ok x → expression s l e ≡ sound t → is_type x.ty t.ty ≡ true
       → statement s (on_line l (raw.Assign v e)) ≡ sound (stmt.Assign x.var t.tree)
-  assign_is v e x t h g b = assign_with v e x t h g ∙ ap (λ y. behind [] (cond y (sound (stmt.Assign x.var t.tree)) (breaks_rule l TypeMismatch))) b
-
-  write_with : (w : Width) (p e : RawExpr) (t u : Typed) → expression s l p ≡ sound t → expression s l e ≡ sound u
-      → statement s (on_line l (raw.AreaWrite w p e)) ≡ behind [] (area_write_of l w (Some t) (Some u))
-  write_with w p e t u h g =
-      act_write s l w p e
-      ∙ ap (λ (j : Judged Typed). behind (j.breaks ++ (expression s l e).breaks) (area_write_of l w j.found (expression s l e).found)) h
-      ∙ ap (λ (j : Judged Typed). behind j.breaks (area_write_of l w (Some t) j.found)) g
+  assign_is v e x t h g b = rw (act_at s l (K.Assign v e) (raw.rolls-Assign v e), h, g, b) refl
 
   pub write_clean : (w : Width) (p e : RawExpr) → (statement s (on_line l (raw.AreaWrite w p e))).breaks ≡ [] → ((expression s l p).breaks ≡ []) × ((expression s l e).breaks ≡ [])
-  write_clean w p e c =
-      let j = expression s l p in
-      let k = expression s l e in
-      both_nil j.breaks k.breaks
-      (nil_first (j.breaks ++ k.breaks) (area_write_of l w j.found k.found).breaks (sym (ap (λ (j : Judged Stmt). j.breaks) (act_write s l w p e)) ∙ c))
+  write_clean w p e c = both_nil _ _ (nil_first _ _ (rw (act_at s l (K.AreaWrite w p e) (raw.rolls-AreaWrite w p e)) at c))
 
   pub write_fits : (w : Width) (p e : RawExpr) (t u : Typed) → expression s l p ≡ sound t → expression s l e ≡ sound u
       → (statement s (on_line l (raw.AreaWrite w p e))).breaks ≡ [] → writes w t u ≡ true
-  write_fits w p e t u h g c = held l (stmt.AreaWrite w t.tree u.tree) (writes w t u) (sym (ap (λ (j : Judged Stmt). j.breaks) (write_with w p e t u h g)) ∙ c)
+  write_fits w p e t u h g c =
+      held l (stmt.AreaWrite w t.tree u.tree) (writes w t u) (rw (act_at s l (K.AreaWrite w p e) (raw.rolls-AreaWrite w p e), h, g) at c)
 
   pub write_is : (w : Width) (p e : RawExpr) (t u : Typed) → expression s l p ≡ sound t → expression s l e ≡ sound u → writes w t u ≡ true
       → statement s (on_line l (raw.AreaWrite w p e)) ≡ sound (stmt.AreaWrite w t.tree u.tree)
-  write_is w p e t u h g b = write_with w p e t u h g ∙ ap (λ y. behind [] (cond y (sound (stmt.AreaWrite w t.tree u.tree)) (breaks_rule l TypeMismatch))) b
+  write_is w p e t u h g b = rw (act_at s l (K.AreaWrite w p e) (raw.rolls-AreaWrite w p e), h, g, b) refl
 
   -- IF
 
   pub if_clean : (arms : List RawArm) (bs : List RawStmt) → (statement s (on_line l (raw.If arms bs))).breaks ≡ []
       → (breaks_in (arms_on l (map (arm s) arms)) ≡ []) × (breaks_in (statements s bs) ≡ [])
-  if_clean arms bs c =
-      let js = arms_on l (map (arm s) arms) in
-      let ks = statements s bs in
-      both_nil (breaks_in js) (breaks_in ks) (sym (ap (λ (j : Judged Stmt). j.breaks) (act_if s l arms bs)) ∙ c)
+  if_clean arms bs c = both_nil _ _ (rw (act_at s l (K.If arms bs) (raw.rolls-If arms bs)) at c)
 
   pub if_is : (arms : List RawArm) (bs : List RawStmt) (xs : List Arm) (ys : List Stmt) → AreSound (arms_on l (map (arm s) arms)) xs → AreSound (statements s bs) ys
       → statement s (on_line l (raw.If arms bs)) ≡ sound (stmt.If xs ys)
-  if_is arms bs xs ys h g =
-      let js = arms_on l (map (arm s) arms) in
-      let ks = statements s bs in
-      act_if s l arms bs
-      ∙ judged (Some (stmt.If (found_in js) (found_in ks))) (stmt.If xs ys) (breaks_in js ++ breaks_in ks)
-      (ap (λ z. Some (stmt.If z (found_in ks))) (found_of js xs h) ∙ ap (λ z. Some (stmt.If xs z)) (found_of ks ys g))
-      (no_break (breaks_in js) (breaks_in ks) (clean_of js xs h) (clean_of ks ys g))
+  if_is arms bs xs ys h g = rw (act_at s l (K.If arms bs) (raw.rolls-If arms bs), h, g) (simp (found_sound, breaks_sound))
 
   -- CASE
 
   pub case_clean : (e : RawExpr) (arms : List RawCaseArm) (bs : List RawStmt) → (statement s (on_line l (raw.Case e arms bs))).breaks ≡ []
       → ((selector s l e).breaks ≡ []) × (breaks_in (case_arms_on l (type_of_selector (selector s l e).found) (map (case_arm s) arms)) ≡ []) × (breaks_in (statements s bs) ≡ [])
   case_clean e arms bs c =
-      let j = selector s l e in
-      let js = case_arms_on l (type_of_selector j.found) (map (case_arm s) arms) in
-      let ks = statements s bs in
-      let all : j.breaks ++ breaks_in js ++ breaks_in ks ≡ [] = sym (ap (λ (j : Judged Stmt). j.breaks) (act_case s l e arms bs)) ∙ c in
-      let both : j.breaks ++ breaks_in js ≡ [] = nil_first (j.breaks ++ breaks_in js) (breaks_in ks) all in
-      (nil_first j.breaks (breaks_in js) both, nil_second j.breaks (breaks_in js) both, nil_second (j.breaks ++ breaks_in js) (breaks_in ks) all)
+      let all = both_nil _ _ (rw (act_at s l (K.Case e arms bs) (raw.rolls-Case e arms bs)) at c) in
+      let first = both_nil _ _ all.0 in
+      (first.0, first.1, all.1)
 
   pub case_is : (e : RawExpr) (arms : List RawCaseArm) (bs : List RawStmt) (t : Typed) (xs : List CaseArm) (ys : List Stmt) → selector s l e ≡ sound t
       → AreSound (case_arms_on l (Some t.ty) (map (case_arm s) arms)) xs → AreSound (statements s bs) ys
       → statement s (on_line l (raw.Case e arms bs)) ≡ sound (stmt.Case t.tree xs ys)
   case_is e arms bs t xs ys f h g =
-      let js = case_arms_on l (Some t.ty) (map (case_arm s) arms) in
-      let ks = statements s bs in
-      act_case s l e arms bs
-      ∙ ap (λ (j : Judged Typed). let is = case_arms_on l (type_of_selector j.found) (map (case_arm s) arms) in of_parts (case_of j.found (found_in is) (found_in ks))
-      (j.breaks ++ breaks_in is ++ breaks_in ks)) f
-      ∙ judged (Some (stmt.Case t.tree (found_in js) (found_in ks))) (stmt.Case t.tree xs ys) (breaks_in js ++ breaks_in ks)
-      (ap (λ z. Some (stmt.Case t.tree z (found_in ks))) (found_of js xs h) ∙ ap (λ z. Some (stmt.Case t.tree xs z)) (found_of ks ys g))
-      (no_break (breaks_in js) (breaks_in ks) (clean_of js xs h) (clean_of ks ys g))
+      let found = ap (λ (j : Judged Typed). j.found) f in
+      let clean = ap (λ (j : Judged Typed). j.breaks) f in
+      rw (act_at s l (K.Case e arms bs) (raw.rolls-Case e arms bs), found, clean, h, g) (simp (found_sound, breaks_sound))
 
   -- WHILE
 
   pub while_clean : (e : RawExpr) (bs : List RawStmt) → (statement s (on_line l (raw.While e bs))).breaks ≡ [] → ((test s l e).breaks ≡ []) × (breaks_in (statements s bs) ≡ [])
-  while_clean e bs c =
-      let j = test s l e in
-      let ks = statements s bs in
-      both_nil j.breaks (breaks_in ks) (sym (ap (λ (j : Judged Stmt). j.breaks) (act_while s l e bs)) ∙ c)
+  while_clean e bs c = both_nil _ _ (rw (act_at s l (K.While e bs) (raw.rolls-While e bs)) at c)
 
   pub while_is : (e : RawExpr) (bs : List RawStmt) (x : Expr) (ys : List Stmt) → test s l e ≡ sound x → AreSound (statements s bs) ys
       → statement s (on_line l (raw.While e bs)) ≡ sound (stmt.While x ys)
   while_is e bs x ys h g =
-      let ks = statements s bs in
-      act_while s l e bs
-      ∙ ap (λ (j : Judged Expr). of_parts (while_of j.found (found_in ks)) (j.breaks ++ breaks_in ks)) h
-      ∙ judged (Some (stmt.While x (found_in ks))) (stmt.While x ys) (breaks_in ks) (ap (λ z. Some (stmt.While x z)) (found_of ks ys g)) (clean_of ks ys g)
+      let found = ap (λ (j : Judged Expr). j.found) h in
+      let clean = ap (λ (j : Judged Expr). j.breaks) h in
+      rw (act_at s l (K.While e bs) (raw.rolls-While e bs), found, clean, g) (simp (found_sound, breaks_sound))
 
   -- Arms
 
   pub arm_clean : (e : RawExpr) (bs : List RawStmt) → (arm s (raw_arm e bs) l).breaks ≡ [] → ((test s l e).breaks ≡ []) × (breaks_in (statements s bs) ≡ [])
-  arm_clean e bs c =
-      let j = test s l e in
-      let ks = statements s bs in
-      both_nil j.breaks (breaks_in ks) (sym (ap (λ (d : Armed). (d l).breaks) (act_arm s e bs)) ∙ c)
+  arm_clean e bs c = both_nil _ _ (rw (act_arm s e bs) at c)
 
   pub arm_is : (e : RawExpr) (bs : List RawStmt) (x : Expr) (ys : List Stmt) → test s l e ≡ sound x → AreSound (statements s bs) ys
       → arm s (raw_arm e bs) l ≡ sound (record { test = x; body = ys })
   arm_is e bs x ys h g =
-      let ks = statements s bs in
-      ap (λ (d : Armed). d l) (act_arm s e bs)
-      ∙ ap (λ (j : Judged Expr). of_parts (arm_of j.found (found_in ks)) (j.breaks ++ breaks_in ks)) h
-      ∙ judged (Some (arm_with (found_in ks))) (arm_with ys) (breaks_in ks) (ap (λ z. Some (arm_with z)) (found_of ks ys g)) (clean_of ks ys g)
-    where
-      arm_with : List Stmt → Arm
-      arm_with body = record { test = x; body = body }
+      let found = ap (λ (j : Judged Expr). j.found) h in
+      let clean = ap (λ (j : Judged Expr). j.breaks) h in
+      rw (act_arm s e bs, found, clean, g) (simp (found_sound, breaks_sound))
 
   pub case_arm_clean : (ty : StType) (labels : List (StType × ℤ)) (bs : List RawStmt) → (case_arm s (raw_case labels bs) l (Some ty)).breaks ≡ []
       → (label_breaks l (Some ty) labels ≡ []) × (breaks_in (statements s bs) ≡ [])
-  case_arm_clean ty labels bs c =
-      let ks = statements s bs in
-      both_nil (label_breaks l (Some ty) labels) (breaks_in ks) (sym (ap (λ (d : Labelled). (d l (Some ty)).breaks) (act_case_arm s labels bs)) ∙ c)
+  case_arm_clean ty labels bs c = both_nil _ _ (rw (act_case_arm s labels bs) at c)
 
   pub case_arm_is : (ty : StType) (labels : List (StType × ℤ)) (bs : List RawStmt) (ns : List ℤ) (ys : List Stmt) → label_breaks l (Some ty) labels ≡ [] → values labels ≡ ns
       → AreSound (statements s bs) ys → case_arm s (raw_case labels bs) l (Some ty) ≡ sound (record { labels = ns; body = ys })
-  case_arm_is ty labels bs ns ys h f g =
-      let ks = statements s bs in
-      ap (λ (d : Labelled). d l (Some ty)) (act_case_arm s labels bs)
-      ∙ judged (Some (arm_with (values labels) (found_in ks))) (arm_with ns ys) (label_breaks l (Some ty) labels ++ breaks_in ks)
-      (ap (λ z. Some (arm_with z (found_in ks))) f ∙ ap (λ z. Some (arm_with ns z)) (found_of ks ys g))
-      (no_break (label_breaks l (Some ty) labels) (breaks_in ks) h (clean_of ks ys g))
-    where
-      arm_with : List ℤ → List Stmt → CaseArm
-      arm_with labels body = record { labels = labels; body = body }
+  case_arm_is ty labels bs ns ys h f g = rw (act_case_arm s labels bs, h, f, g) (simp (found_sound, breaks_sound))
 
 -- Lists, with one part more
 

@@ -1,6 +1,6 @@
 -- A text that declares what a tree has breaks no rule in its declarations, and has the tree's data blocks and
 -- globals again.
-use Rattle.std.proofs.Common.{◌≡◌, ◌≤◌, ◌+◌, ◌-◌, ℕ, suc, Bool, true, false, not, cond, ◌&&◌, ◌==◌, nat_le, nat_lt, List, [], ◌∷◌, ◌++◌, length, Option, Some, None, is_some, refl, sym, ap, subst, ◌∙◌, arith, length-append}
+use Rattle.std.proofs.Common.{◌≡◌, ◌≤◌, ◌+◌, ◌-◌, ℕ, suc, Bool, true, false, not, ◌&&◌, ◌==◌, nat_le, nat_lt, List, [], ◌∷◌, ◌++◌, length, Option, Some, is_some, refl, sym, ap, subst, ◌∙◌, arith, length-append}
 use Rattle.std.specs.Prelude.{codes, decimal}
 use Rattle.std.specs.List.{fold}
 use Rattle.std.proofs.lemmas.Bool.Decides.{nat_tests}
@@ -12,8 +12,6 @@ use Rattle.memory_areas.specs.declared.data_block.DataBlock.{DataBlock}
 use Rattle.memory_areas.specs.declared.place.AreaName.TheVariants as area
 use Rattle.memory_areas.specs.declared.sizes.TheConstants.{MOST_BLOCKS}
 use Rattle.s7_base.specs.declared.reason.Line.{Line}
-use Rattle.s7_base.specs.declared.reason.Reason.{Reason}
-use Rattle.s7_base.specs.declared.reason.Reason.TheVariants.{BadAddress, TypeMismatch}
 use Rattle.s7_base.specs.declared.word.Width.TheVariants as width
 use Rattle.st_tree.specs.declared.program.Local.{Local}
 use Rattle.st_tree.specs.declared.program.Located.{Located}
@@ -24,10 +22,9 @@ use Rattle.st_tree.specs.declared.raw.RawLocal.{RawLocal}
 use Rattle.st_tree.specs.declared.raw.RawPou.{RawPou}
 use Rattle.st_tree.specs.declared.raw.RawVar.{RawVar}
 use Rattle.st_tree.specs.declared.raw.RawVar.TheVariants as var
-use Rattle.s7_base.specs.Broken.{broken}
 use Rattle.st_rules.specs.Judged.{listed, twice}
 use Rattle.st_rules.specs.Declarations.{all_inside, all_outside, is_block, meaning_of_global, meaning_of_unit, no_inside, no_outside, one_if, one_too_many, with_formal, with_global, with_local, with_unit}
-use Rattle.st_rules.specs.Globals.{all_blocks, all_global_breaks, all_located, block_at, block_breaks, block_number, block_of, contents, fills, fits_type, global_breaks, has_address, has_block_address, has_block_form, inserted, is_small_enough, is_start_of, located_of, total, unless, with_block}
+use Rattle.st_rules.specs.Globals.{all_blocks, all_global_breaks, all_located, block_at, block_breaks, block_number, block_of, contents, fills, global_breaks, has_block_address, has_block_form, inserted, is_small_enough, is_start_of, located_of, total, with_block}
 use Rattle.st_rules.specs.Names.{Table, look_up}
 use Rattle.st_tree.specs.Naming.{key_of}
 use Rattle.st_tree.specs.PlaceRules.{is_block_number}
@@ -39,7 +36,7 @@ use Rattle.st_types_laws.proofs.Apart.{AreApart, declares_new}
 use Rattle.st_types_laws.proofs.BlockSizes.{IsBlock}
 use Rattle.st_types_laws.proofs.DeclaredNames.{AreNumbered, ArePlaced, block_entries, formal_entries, inner_entries, local_entries, located_entries, unit_entries}
 use Rattle.st_types_laws.proofs.PlainNumbers.{plain_number}
-use Rattle.st_types_laws.proofs.Redeclared.{AreBlocksAt, AreLocalsAt, AreLocatedAt, AreUnitsAt, IsBlockAt, location_of}
+use Rattle.st_types_laws.proofs.Redeclared.{AreBlocksAt, AreLocalsAt, AreLocatedAt, AreUnitsAt, IsBlockAt}
 
 -- One data block
 
@@ -83,19 +80,18 @@ plain_block b last list i greatest bytes size =
     let same : Some (record { number = b.number; bytes = contents last list }) ≡ Some b = ap (λ (l : List ℕ). Some (record { number = b.number; bytes = l })) bytes in
     (rw (address, small, form) same, λ line. rw (address, small, form) refl)
 
-by_parts : (b : DataBlock) (g : RawGlobal) (n last : ℕ) (list : List (ℕ × ℕ)) → n ≡ b.number → block_number g.name ≡ n → g.at ≡ start_of n → g.ty ≡ type.Bytes last list
-    → (block_at n (start_of n) last list ≡ Some b) × ((line : Line) → block_breaks line n (start_of n) last list ≡ [])
-    → (block_of g.ty g.name g.at ≡ Some b) × (global_breaks g.ty g.line g.name g.at ≡ [])
-by_parts b g n last list e number at ty h = (
-  ap (λ t. block_of t g.name g.at) ty ∙ ap (λ k. block_at k g.at last list) number ∙ ap (λ a. block_at n a last list) at ∙ h.0,
-  ap (λ t. global_breaks t g.line g.name g.at) ty ∙ ap (λ k. block_breaks g.line k g.at last list) number ∙ ap (λ a. block_breaks g.line n a last list) at ∙ h.1 g.line,
-)
-
 block_again : (b : DataBlock) (g : RawGlobal) → IsBlock b.number b → IsBlockAt b g → IsAgain b g
 block_again b g i p =
     let number : block_number g.name ≡ b.number = ap block_number p.named ∙ plain_number b.number i.some i.small in
-    let parts = by_parts b g b.number p.last p.list refl number p.placed p.typed (plain_block b p.last p.list i p.greatest p.bytes p.size) in
-    record { again = parts.0; sound = parts.1; key = ap key_of p.named; last = p.last; list = p.list; typed = p.typed }
+    let parts = plain_block b p.last p.list i p.greatest p.bytes p.size in
+    record {
+      again = rw (p.typed, number, p.placed) parts.0;
+      sound = rw (p.typed, number, p.placed) (parts.1 g.line);
+      key = ap key_of p.named;
+      last = p.last;
+      list = p.list;
+      typed = p.typed;
+    }
 
 -- All data blocks
 
@@ -107,9 +103,7 @@ number_behind least (x ∷ xs) b ys h = let more : x.number + 1 ≤ b.number = n
 goes_last : (least : ℕ) (xs : List DataBlock) (b : DataBlock) (ys : List DataBlock) → Ascend least (numbers_of (xs ++ b ∷ ys)) → inserted b xs ≡ xs ++ b ∷ []
 goes_last least [] b ys h = refl
 goes_last least (x ∷ xs) b ys h =
-    let more : x.number + 1 ≤ b.number = number_behind (x.number + 1) xs b ys h.1 in
-    let test : nat_lt x.number b.number ≡ true = grind (arith, nat_tests) in
-    ap (λ t. cond t (x ∷ inserted b xs) (b ∷ x ∷ xs)) test ∙ ap (λ l. x ∷ l) (goes_last (x.number + 1) xs b ys h.1)
+    grind (arith, nat_tests, number_behind (x.number + 1) xs b ys h.1, goes_last (x.number + 1) xs b ys h.1)
 
 blocks_again : (bs : List DataBlock) (gs : List RawGlobal) → AreBlocksAt bs gs → AreNumbered bs → (old : List DataBlock) → Ascend 1 (numbers_of (old ++ bs))
     → length old + length bs ≤ MOST_BLOCKS → fold (λ blocks (g : RawGlobal). with_block (block_of g.ty g.name g.at) blocks) old gs ≡ old ++ bs
@@ -117,7 +111,7 @@ blocks_again [] [] a n old h few = sym (append-nil old)
 blocks_again (b ∷ bs) (g ∷ gs) a n old h few =
     let i = block_again b g n.0 a.0 in
     let room : nat_lt (length old) MOST_BLOCKS ≡ true = grind (arith, nat_tests) in
-    let one : with_block (block_of g.ty g.name g.at) old ≡ old ++ b ∷ [] = ap (λ o. with_block o old) i.again ∙ ap (λ t. cond t (inserted b old) old) room ∙ goes_last 1 old b bs h in
+    let one : with_block (block_of g.ty g.name g.at) old ≡ old ++ b ∷ [] = rw (i.again, room) (goes_last 1 old b bs h) in
     let order : (old ++ b ∷ []) ++ bs ≡ old ++ b ∷ bs = append_assoc old (b ∷ []) bs in
     let ascend : Ascend 1 (numbers_of ((old ++ b ∷ []) ++ bs)) = subst (λ l. Ascend 1 (numbers_of l)) (sym order) h in
     ap (λ blocks. fold (λ more (f : RawGlobal). with_block (block_of f.ty f.name f.at) more) blocks gs) one
@@ -139,29 +133,19 @@ sound_blocks bs gs a n = absurd a
 located_again : (ls : List Located) (gs : List RawGlobal) → AreLocatedAt ls gs → ArePlaced ls → all_located gs ≡ ls
 located_again [] [] a p = refl
 located_again (l ∷ ls) (g ∷ gs) a p =
-    let one : located_of g.ty g.name g.at ≡ Some l =
-    ap (λ t. located_of t g.name g.at) a.0.typed ∙ ap (λ n. located_of (type.Plain l.ty) n g.at) a.0.named ∙ ap (located_of (type.Plain l.ty) l.name) a.0.placed ∙ p.0.found in
-    ap (λ o. listed o ++ all_located gs) one ∙ ap (λ xs. l ∷ xs) (located_again ls gs a.1 p.1)
+    rw (a.0.typed, a.0.named, a.0.placed, p.0.found) (ap (λ xs. l ∷ xs) (located_again ls gs a.1 p.1))
 located_again ls gs a p = absurd a
 
 no_blocks : (ls : List Located) (gs : List RawGlobal) → AreLocatedAt ls gs → (bs : List DataBlock)
     → fold (λ blocks (g : RawGlobal). with_block (block_of g.ty g.name g.at) blocks) bs gs ≡ bs
 no_blocks [] [] a bs = refl
-no_blocks (l ∷ ls) (g ∷ gs) a bs =
-    ap (λ t. fold (λ blocks (f : RawGlobal). with_block (block_of f.ty f.name f.at) blocks) (with_block (block_of t g.name g.at) bs) gs) a.0.typed
-    ∙ no_blocks ls gs a.1 bs
+no_blocks (l ∷ ls) (g ∷ gs) a bs = rw a.0.typed (no_blocks ls gs a.1 bs)
 no_blocks ls gs a bs = absurd a
-
-two_tests : (a b : Bool) (line : Line) (q r : Reason) → a ≡ true → b ≡ true → (unless a (broken line q) ++ unless b (broken line r)) ≡ []
-two_tests a b line q r h g = rw (h, g) refl
 
 sound_located : (ls : List Located) (gs : List RawGlobal) → AreLocatedAt ls gs → ArePlaced ls → all_global_breaks gs ≡ []
 sound_located [] [] a p = refl
 sound_located (l ∷ ls) (g ∷ gs) a p =
-    let one : global_breaks g.ty g.line g.name g.at ≡ [] =
-    ap (λ t. global_breaks t g.line g.name g.at) a.0.typed ∙ ap (global_breaks (type.Plain l.ty) g.line g.name) a.0.placed
-    ∙ two_tests (has_address (location_of l)) (fits_type l.ty (location_of l)) g.line BadAddress TypeMismatch p.0.address p.0.fits in
-    ap (λ breaks. breaks ++ all_global_breaks gs) one ∙ sound_located ls gs a.1 p.1
+    rw (a.0.typed, a.0.placed, p.0.address, p.0.fits) (sound_located ls gs a.1 p.1)
 sound_located ls gs a p = absurd a
 
 -- What is declared outside the units
@@ -180,23 +164,17 @@ one_goes d g k m more sound key meant room apart =
     let own = meaning_of_global d.globals g.ty in
     let entry : (key_of g.name, own) ≡ (k, m) = ap (λ l. (l, own)) key ∙ ap (λ n. (k, n)) meant in
     let new = declares_new g.line (key_of g.name) own d.names more (subst (λ e. AreApart (d.names ++ e ∷ more)) (sym entry) apart) in
-    let broken_none : d.breaks ++ (twice g.line first ++ one_too_many g.line (not (is_some first) && is_block g.ty) d.blocks) ≡ [] =
-    ap (λ l. l ++ (twice g.line first ++ one_too_many g.line (not (is_some first) && is_block g.ty) d.blocks)) sound
-    ∙ ap (λ l. l ++ one_too_many g.line (not (is_some first) && is_block g.ty) d.blocks) new.once ∙ room first in
-    record { sound = broken_none; order = new.order ∙ ap (λ e. d.names ++ e ∷ more) entry; units = refl }
+    record { sound = rw (sound, new.once, room first) refl; order = new.order ∙ ap (λ e. d.names ++ e ∷ more) entry; units = refl }
 
 roomy : (x : Option Meaning) (t : Bool) (line : Line) (blocks : ℕ) → nat_lt blocks MOST_BLOCKS ≡ true → one_too_many line (not (is_some x) && t) blocks ≡ []
-roomy None true line blocks h = rw h refl
-roomy x t line blocks h = refl
+roomy x t line blocks h = grind arith
 
 no_block : (x : Option Meaning) (line : Line) (blocks : ℕ) → one_too_many line (not (is_some x) && false) blocks ≡ []
-no_block None line blocks = refl
-no_block (Some m) line blocks = refl
+no_block x line blocks = grind arith
 
 -- one data block more is one at most
 grown : (x : Option Meaning) (t : Bool) (blocks rest most : ℕ) → blocks + suc rest ≤ most → blocks + one_if (not (is_some x) && t) + rest ≤ most
-grown None true blocks rest most h = omega (arith, h)
-grown other one blocks rest most h = omega (arith, h)
+grown x t blocks rest most h = grind arith
 
 go_blocks : (bs : List DataBlock) (gs : List RawGlobal) → AreBlocksAt bs gs → AreNumbered bs → (d : Outside) (more : Table Meaning) → d.breaks ≡ []
     → AreApart (d.names ++ (block_entries bs ++ more)) → d.blocks + length bs ≤ MOST_BLOCKS
