@@ -1,22 +1,20 @@
 -- A well typed expression in its canonical form: it means the expression on each line, is of the language, and
 -- tokens can have its parts.
-use Rattle.st_proper.proofs.Spells.{Spells}
-use Rattle.std.proofs.Common.{◌≡◌, ℕ, ◌-◌, ℤ, Bool, true, false, Option, Some, Result, Ok, refl, sym, ap, subst, ◌∙◌, arith}
+use Rattle.std.proofs.Common.{◌≡◌, ℕ, suc, ◌-◌, ℤ, true, false, Option, Some, Result, Ok, refl, sym, ap, subst, ◌∙◌, arith, ◌<◌, ◌≤◌}
 use Rattle.std.specs.Prelude.{nat_lt, if◌then◌else◌}
+use Rattle.st_proper.proofs.Spells.{Spells}
 use Rattle.s7_base.specs.declared.reason.Line.{Line}
 use Rattle.s7_base.specs.declared.reason.Reason.{Reason}
 use Rattle.s7_base.specs.declared.word.Width.{Width}
-use Rattle.st_canonical.specs.Canonical.{expr_form, form_of, raw_var}
+use Rattle.st_canonical.specs.Canonical.{expr_form, form_of, unary_form, raw_var}
 use Rattle.st_canonical.specs.Spelled.{is_function}
-use Rattle.st_grammar.specs.Forms.{Form, group}
+use Rattle.st_grammar.specs.Forms.{Form, group, prefix, infix_of, apply}
 use Rattle.st_grammar.specs.Grammar.{Binds, level, tree, spell}
 use Rattle.st_grammar.specs.Levels.{height}
 use Rattle.st_grammar.specs.declared.kind.OneOperand.TheVariants as one
-use Rattle.st_proper.proofs.Equations.{before_operand, form_area, form_binary, form_convert, form_literal, form_read, form_select, form_shift, form_unary, wrapped}
 use Rattle.st_types_laws.proofs.ReadEquations.{read_literal, read_variable}
 use Rattle.st_canonical.proofs.Levels.{nest}
 use Rattle.st_proper.proofs.Literals.{kept}
-use Rattle.st_proper.proofs.Nested.{right_level, wrapped_level}
 use Rattle.st_types_laws.proofs.Operands.{area_by, binary_by, convert_by, is_typed, select_by, shift_by, unary_by}
 use Rattle.st_proper.proofs.Given.{given, where_given}
 use Rattle.st_proper.proofs.Scope.{Sees, sight_by}
@@ -25,8 +23,8 @@ use Rattle.st_proper.proofs.Variables.{of_type, written}
 use Rattle.st_canonical.proofs.SameNames.{between}
 use Rattle.st_rules.specs.Judged.{Judged, sound}
 use Rattle.st_rules.specs.Expressions.{answered, expression, read_of}
-use Rattle.st_tree.specs.Form.{infix_level}
-use Rattle.st_tree.specs.TypeRules.{type_of_unary}
+use Rattle.st_tree.specs.Form.{infix_level, canon, canon_step}
+use Rattle.st_tree.specs.TypeRules.{type_of_unary, where_true}
 use Rattle.st_rules.specs.Variables.{variable as variable_in}
 use Rattle.st_rules.specs.declared.expression.Typed.{Typed}
 use Rattle.st_rules.specs.declared.scope.Scope.{Scope}
@@ -37,11 +35,10 @@ use Rattle.st_tree.specs.Form as bare
 use Rattle.st_tree.specs.Naming.{is_conversion}
 use Rattle.st_tree.specs.Nesting.{form_height, form_nesting}
 use Rattle.st_tree.specs.TypeRules as types
-use Rattle.st_tree.specs.TypeRules.{where_true}
 use Rattle.st_tree.specs.Typing.{Names}
 use Rattle.st_tree.specs.WellTyped.{expression_type, is_value, on_type}
 use Rattle.st_tree.specs.declared.expr.BinaryOp.{BinaryOp}
-use Rattle.st_tree.specs.declared.expr.Expr.{Expr}
+use Rattle.st_tree.specs.declared.expr.Expr.{Expr, fold-roll-Expr, ind-Expr, map-Expr}
 use Rattle.st_tree.specs.declared.expr.Expr.TheVariants as expr
 use Rattle.st_tree.specs.declared.expr.ShiftOp.{ShiftOp}
 use Rattle.st_tree.specs.declared.expr.StType.{StType}
@@ -50,6 +47,66 @@ use Rattle.st_tree.specs.declared.expr.UnaryOp.TheVariants as unary
 use Rattle.st_tree.specs.declared.expr.Var.{Var}
 use Rattle.st_tree.specs.declared.raw.RawExpr.TheVariants as raw
 use Rattle.st_tree.specs.declared.raw.RawVar.{RawVar}
+use Rattle.st_grammar.specs.declared.kind.Prefix.TheVariants as before
+use Rattle.st_tree.proofs.Equations.{canon_literal, canon_read, canon_unary, canon_binary, canon_convert, canon_select, canon_shift, canon_area_read}
+use Rattle.st_tree.specs.declared.expr.BinaryOp.TheVariants as binary
+use Rattle.st_tree.specs.declared.expr.Expr.TheOpen as E
+use Rattle.std.proofs.lemmas.Bool.Decides.{nat_tests}
+
+-- Canonical forms
+
+-- the form at a place that takes levels up to j, in brackets where its precedence is lower
+abbrev wrapped : ℕ → Form → Form
+wrapped j f = if nat_lt j (level f) then group f else f
+
+-- an operator before its operand, in the form that the operand has
+abbrev before_operand : UnaryOp → Form → Form
+before_operand unary.Minus f = prefix before.Minus (wrapped 1 f)
+before_operand unary.Not f = prefix before.Not (wrapped 2 f)
+before_operand unary.BcdToInt f = apply one.BcdToInt f
+before_operand unary.BcdToDint f = apply one.BcdToDint f
+
+module _ (names : Names) (k : ℕ) where
+  core : (y : E.Expr-F bare.Form) → level (form_of names k (canon_step y)) ≡ bare.level (canon_step y)
+  core (E.Unary unary.Minus f) = refl
+  core other = refl
+
+  abbrev HasLevel : Expr → Type 0
+  HasLevel e = level (expr_form names k e) ≡ bare.level (canon e)
+
+  -- a canonical form has the precedence of what it is of
+  form_level : (e : Expr) → HasLevel e
+  form_level = ind-Expr HasLevel (λ (x : E.Expr-F Expr) (y : E.Expr-F ((e : Expr) × HasLevel e)) e.
+      subst (λ (f : bare.Form). level (form_of names k f) ≡ bare.level f) (sym (fold-roll-Expr bare.Form canon_step x))
+      (core (map-Expr Expr bare.Form canon x)))
+
+  form_wrap : (j : ℕ) (e : Expr) → form_of names k (bare.wrap j (canon e)) ≡ wrapped j (expr_form names k e)
+  form_wrap j e = grind (arith, form_level e)
+
+  form_unary : (op : UnaryOp) (e : Expr)
+      → expr_form names k (expr.Unary op e) ≡ before_operand op (expr_form names k e)
+  form_unary unary.Minus e = ap (form_of names k) (canon_unary unary.Minus e) ∙ ap (prefix before.Minus) (form_wrap 1 e)
+  form_unary unary.Not e = ap (form_of names k) (canon_unary unary.Not e) ∙ ap (prefix before.Not) (form_wrap 2 e)
+  form_unary op e = ap (form_of names k) (canon_unary op e)
+
+  form_binary : (op : BinaryOp) (e g : Expr) →
+      expr_form names k (expr.Binary op e g)
+      ≡ infix_of op (wrapped (infix_level op) (expr_form names k e))
+      (wrapped (infix_level op - 1) (expr_form names k g))
+  form_binary op e g =
+      rw (canon_binary op e g) (cc (form_wrap (infix_level op) e, form_wrap (infix_level op - 1) g))
+
+wrapped_level : (j : ℕ) (f : Form) → level (wrapped j f) ≤ j
+wrapped_level j f = grind (arith, nat_tests)
+
+some : (op : BinaryOp) → 0 < infix_level op
+some binary.Mul = omega arith
+some other = omega arith
+
+right_level : (op : BinaryOp) (c : Form) → level (wrapped (infix_level op - 1) c) < infix_level op
+right_level op c = omega (arith, wrapped_level (infix_level op - 1) c, some op)
+
+-- What holds of them
 
 -- a form is one of this expression, and of the language
 pub record Sound (s : Scope) (m : Line) (t : Typed) (c : Form) : Type 0 where
@@ -62,11 +119,10 @@ abbrev pub typed_tree : StType → Expr → Typed
 typed_tree ty e = record { ty = ty; tree = e }
 
 wrap_sound : (s : Scope) (m : Line) (t : Typed) (c : Form) (j : ℕ) → Sound s m t c → Sound s m t (wrapped j c)
-wrap_sound s m t c j h = by (nat_lt j (level c))
-  where
-    by : (b : Bool) → Sound s m t (if b then group c else c)
-    by true = record { means = h.means; binds = h.binds; spelled = λ ks q. (refl, h.spelled _ (refl, q)) }
-    by false = h
+wrap_sound s m t c j h = elim (nat_lt j (level c)) as (λ b. Sound s m t (if b then group c else c)) [
+  | true ↦ record { means = h.means; binds = h.binds; spelled = λ ks q. (refl, h.spelled _ (refl, q)) }
+  | false ↦ h
+]
 
 before_sound : (s : Scope) (m : Line) (op : UnaryOp) (t : Typed) (ty : StType) (c : Form) → Sound s m t c
     → type_of_unary op t.ty ≡ Some ty
@@ -75,16 +131,14 @@ before_sound s m unary.Minus t ty c h e =
     let w = wrap_sound s m t c 1 h in
     record {
       means = is_typed (unary_by s m unary.Minus (tree (wrapped 1 c)) t w.means) e;
-      binds =
-          (wrapped_level 1 c, w.binds);
+      binds = (wrapped_level 1 c, w.binds);
       spelled = λ ks q. (refl, w.spelled ks q);
     }
 before_sound s m unary.Not t ty c h e =
     let w = wrap_sound s m t c 2 h in
     record {
       means = is_typed (unary_by s m unary.Not (tree (wrapped 2 c)) t w.means) e;
-      binds =
-          (wrapped_level 2 c, w.binds);
+      binds = (wrapped_level 2 c, w.binds);
       spelled = λ ks q. (refl, w.spelled ks q);
     }
 before_sound s m op t ty c h e = record {
@@ -107,7 +161,7 @@ module _ (s : Scope) (names : Names) (sees : Sees s names) where
       let w = where_given (is_value ty n) ty u (sym (typed_literal (sight_by names) ty n) ∙ h) in
       let g = kept ty n (has_value ty n w.0) in
       subst (λ v. Sound s m (typed_tree v (expr.Literal ty n)) (expr_form names k (expr.Literal ty n))) w.1
-      (subst (Sound s m (typed_tree ty (expr.Literal ty n))) (sym (form_literal names k ty n)) (record {
+      (rw (canon_literal ty n) (record {
         means = ap (expression s m) g.tree ∙ read_literal s m ty n;
         binds = g.value;
         spelled = λ ks q. (g.spelled, q);
@@ -122,7 +176,7 @@ module _ (s : Scope) (names : Names) (sees : Sees s names) where
   read_good : (v : Var) → Good (expr.Read v)
   read_good v u h k m =
       let w = written s names sees v u (sym (typed_read (sight_by names) v) ∙ h) in
-      subst (Sound s m (typed_tree u (expr.Read v))) (sym (form_read names k v)) (record {
+      rw (canon_read v) (record {
         means = read_is_variable m (raw_var names v) (of_type u v) w.means;
         binds = tt;
         spelled = λ ks q. (w.spelled, q);
@@ -131,9 +185,8 @@ module _ (s : Scope) (names : Names) (sees : Sees s names) where
   unary_good : (op : UnaryOp) (a : Expr) → Good a → Good (expr.Unary op a)
   unary_good op a p u h k m =
       let g = given (type_in a) (types.type_of_unary op) u (sym (typed_unary (sight_by names) op a) ∙ h) in
-      subst (Sound s m (typed_tree u (expr.Unary op a))) (sym (form_unary names k op a))
-      (before_sound s m op (typed_tree g.first a) u (expr_form names k a) (p g.first g.is k m)
-      g.rest)
+      rw (form_unary names k op a)
+      (before_sound s m op (typed_tree g.first a) u (expr_form names k a) (p g.first g.is k m) g.rest)
 
   binary_good : (op : BinaryOp) (a b : Expr) → Good a → Good b → Good (expr.Binary op a b)
   binary_good op a b p q u h k m =
@@ -144,7 +197,7 @@ module _ (s : Scope) (names : Names) (sees : Sees s names) where
       let d = expr_form names k b in
       let x = wrap_sound s m (typed_tree g.first a) c (infix_level op) (p g.first g.is k m) in
       let y = wrap_sound s m (typed_tree f.first b) d (infix_level op - 1) (q f.first f.is k m) in
-      subst (Sound s m (typed_tree u (expr.Binary op a b))) (sym (form_binary names k op a b)) (record {
+      rw (form_binary names k op a b) (record {
         means = is_typed (binary_by s m op (tree (wrapped (infix_level op) c)) (tree (wrapped (infix_level op - 1) d))
             (typed_tree g.first a) (typed_tree f.first b) x.means y.means) f.rest;
         binds = (wrapped_level (infix_level op) c, right_level op d, x.binds, y.binds);
@@ -161,7 +214,7 @@ module _ (s : Scope) (names : Names) (sees : Sees s names) where
       let x = p g.first g.is k m in
       let c = expr_form names k a in
       let there : is_function (one.Convert from to) ≡ true = between from to ∙ w.0 in
-      subst (Sound s m (typed_tree u (expr.Convert from to a))) (sym (form_convert names k from to a)) (record {
+      rw (canon_convert from to a) (record {
         means = is_typed (convert_by s m from to (tree c) (typed_tree g.first a) x.means)
             (f.is ∙ ap (λ t. Some t) w.1);
         binds = x.binds;
@@ -177,7 +230,7 @@ module _ (s : Scope) (names : Names) (sees : Sees s names) where
       let x = p g.first g.is k m in
       let y = q f.first f.is k m in
       let z = r i.first i.is k m in
-      subst (Sound s m (typed_tree u (expr.Select a b e))) (sym (form_select names k a b e)) (record {
+      rw (canon_select a b e) (record {
         means = is_typed (select_by s m (tree (expr_form names k a)) (tree (expr_form names k b)) (tree (expr_form names k e))
             (typed_tree g.first a) (typed_tree f.first b) (typed_tree i.first e) x.means y.means z.means)
             i.rest;
@@ -192,7 +245,7 @@ module _ (s : Scope) (names : Names) (sees : Sees s names) where
       let f = given (type_in b) (types.type_of_shift g.first) u g.rest in
       let x = p g.first g.is k m in
       let y = q f.first f.is k m in
-      subst (Sound s m (typed_tree u (expr.Shift op a b))) (sym (form_shift names k op a b)) (record {
+      rw (canon_shift op a b) (record {
         means = is_typed (shift_by s m op (tree (expr_form names k a)) (tree (expr_form names k b)) (typed_tree g.first a)
             (typed_tree f.first b) x.means y.means)
             f.rest;
@@ -204,7 +257,7 @@ module _ (s : Scope) (names : Names) (sees : Sees s names) where
   area_good w a p u h k m =
       let g = given (type_in a) (types.type_of_read w) u (sym (typed_area_read (sight_by names) w a) ∙ h) in
       let x = p g.first g.is k m in
-      subst (Sound s m (typed_tree u (expr.AreaRead w a))) (sym (form_area names k w a)) (record {
+      rw (canon_area_read w a) (record {
         means = is_typed (area_by s m w (tree (expr_form names k a)) (typed_tree g.first a) x.means)
             g.rest;
         binds = x.binds;
@@ -230,46 +283,35 @@ module _ (s : Scope) (names : Names) (sees : Sees s names) where
 
 -- How deep it nests
 
--- a form nests as deep as the tree says, and is as high
-record IsDeep (f : bare.Form) (c : Form) : Type 0 where
-  inner : nest c ≡ form_nesting f
-  high : height c ≡ form_height f
+-- an operator before its operand is one higher, and one deeper
+unary_grows : (op : UnaryOp) (f : Form) → (height (unary_form op f) ≡ suc (height f)) × (nest (unary_form op f) ≡ suc (nest f))
+unary_grows unary.Minus f = (omega arith, omega arith)
+unary_grows other f = (omega arith, omega arith)
 
 module _ (names : Names) (k : ℕ) where
-  unary_deep : (op : UnaryOp) (f : bare.Form) → IsDeep f (form_of names k f)
-      → IsDeep (bare.prefix op f) (form_of names k (bare.prefix op f))
-  unary_deep unary.Minus f h = record { inner = omega (arith, h.inner); high = omega (arith, h.high) }
-  unary_deep other f h = record { inner = omega (arith, h.inner); high = omega (arith, h.high) }
+  -- a form is as high as the tree says, and nests as deep
+  high : (f : bare.Form) → height (form_of names k f) ≡ form_height f
+  high (bare.group f) = high f
+  high (bare.prefix op f) = omega (arith, (unary_grows op (form_of names k f)).0, high f)
+  high (bare.infix_of op f g) = omega (arith, high f, high g)
+  high (bare.digits_to op f) = omega (arith, (unary_grows op (form_of names k f)).0, high f)
+  high (bare.convert from to f) = omega (arith, high f)
+  high (bare.select f g h) = omega (arith, high f, high g, high h)
+  high (bare.shift op f g) = omega (arith, high f, high g)
+  high (bare.area_read w f) = omega (arith, high f)
+  high other = refl
 
-  digits_deep : (op : UnaryOp) (f : bare.Form) → IsDeep f (form_of names k f)
-      → IsDeep (bare.digits_to op f) (form_of names k (bare.digits_to op f))
-  digits_deep unary.Minus f h = record { inner = omega (arith, h.inner); high = omega (arith, h.high) }
-  digits_deep other f h = record { inner = omega (arith, h.inner); high = omega (arith, h.high) }
-
-  is_deep : (f : bare.Form) → IsDeep f (form_of names k f)
-  is_deep (bare.literal ty n) = record { inner = refl; high = refl }
-  is_deep (bare.variable v) = record { inner = refl; high = refl }
-  is_deep (bare.group f) = let h = is_deep f in record { inner = omega (arith, h.inner); high = h.high }
-  is_deep (bare.prefix op f) = unary_deep op f (is_deep f)
-  is_deep (bare.infix_of op f g) =
-      let h = is_deep f in
-      let i = is_deep g in
-      record { inner = omega (arith, h.inner, h.high, i.inner); high = omega (arith, h.high, i.high) }
-  is_deep (bare.digits_to op f) = digits_deep op f (is_deep f)
-  is_deep (bare.convert from to f) = let h =
-      is_deep f in record { inner = omega (arith, h.inner); high = omega (arith, h.high) }
-  is_deep (bare.select f g j) =
-      let h = is_deep f in
-      let i = is_deep g in
-      let l = is_deep j in
-      record { inner = omega (arith, h.inner, i.inner, l.inner); high = omega (arith, h.high, i.high, l.high) }
-  is_deep (bare.shift op f g) =
-      let h = is_deep f in
-      let i = is_deep g in
-      record { inner = omega (arith, h.inner, i.inner); high = omega (arith, h.high, i.high) }
-  is_deep (bare.area_read w f) = let h =
-      is_deep f in record { inner = omega (arith, h.inner); high = omega (arith, h.high) }
+  deep : (f : bare.Form) → nest (form_of names k f) ≡ form_nesting f
+  deep (bare.group f) = omega (arith, deep f)
+  deep (bare.prefix op f) = omega (arith, (unary_grows op (form_of names k f)).1, deep f)
+  deep (bare.infix_of op f g) = omega (arith, deep f, high f, deep g)
+  deep (bare.digits_to op f) = omega (arith, (unary_grows op (form_of names k f)).1, deep f)
+  deep (bare.convert from to f) = omega (arith, deep f)
+  deep (bare.select f g h) = omega (arith, deep f, deep g, deep h)
+  deep (bare.shift op f g) = omega (arith, deep f, deep g)
+  deep (bare.area_read w f) = omega (arith, deep f)
+  deep other = refl
 
 -- an expression nests as deep as the tree says
 pub nest_is : (names : Names) (k : ℕ) (e : Expr) → nest (expr_form names k e) ≡ form_nesting (bare.canon e)
-nest_is names k e = (is_deep names k (bare.canon e)).inner
+nest_is names k e = deep names k (bare.canon e)

@@ -1,5 +1,6 @@
--- What holds of the canonical forms of well typed statements, and of a list of them with one more.
-use Rattle.std.proofs.Common.{◌≡◌, ℕ, ◌+◌, ◌≤◌, Bool, true, List, [], ◌∷◌, map, Some}
+-- What holds of the canonical forms of well typed statements, and of a list of them with one more; and the form of a
+-- statement, which is made of those of its parts.
+use Rattle.std.proofs.Common.{◌≡◌, ℕ, ◌+◌, ◌≤◌, Bool, true, List, [], ◌∷◌, map, Some, sym, ap, subst, ◌∙◌}
 use Rattle.s7_base.specs.declared.reason.Line.{Line}
 use Rattle.st_grammar.specs.Forms.{Statement, Statements, Arms, CaseArms}
 use Rattle.st_grammar.specs.Grammar.{AllFit, ArmsFit, CasesFit, Fits, HasArm, HasCase, spell_all, spell_arms, spell_cases, spell_one, tree_all, tree_arms, tree_cases, tree_one}
@@ -16,9 +17,13 @@ use Rattle.st_tree.specs.Depth.{greatest}
 use Rattle.st_tree.specs.Nesting.{arm_nesting, body_nesting, case_nesting, nesting}
 use Rattle.st_tree.specs.WellTyped.{is_some_of}
 use Rattle.st_tree.specs.declared.expr.StType.{StType}
-use Rattle.st_tree.specs.declared.program.Arm.{Arm}
-use Rattle.st_tree.specs.declared.program.CaseArm.{CaseArm}
-use Rattle.st_tree.specs.declared.program.Stmt.{Stmt}
+use Rattle.st_canonical.specs.Canonical.{ArmFromLine, CaseFromLine, FromLine, arm_from, case_from, statement_from}
+use Rattle.st_canonical.specs.Canonical as canonical
+use Rattle.st_tree.specs.Typing.{Names}
+use Rattle.st_tree.specs.declared.program.Arm.{Arm, fold_out-Arm}
+use Rattle.st_tree.specs.declared.program.CaseArm.{CaseArm, fold_out-CaseArm}
+use Rattle.st_tree.specs.declared.program.Stmt.{Stmt, fold-roll-Stmt, map-Stmt, roll-Stmt}
+use Rattle.st_tree.specs.declared.program.Stmt.TheOpen as S
 
 -- a form that means this statement, is of the language, nests no deeper, and calls no dearer units
 module _ (s : Scope) (inside : Bool) where
@@ -51,3 +56,28 @@ module _ (s : Scope) (inside : Bool) where
     pub spelled : Spells (spell_cases c)
     pub low : (d : ℕ) → top_cases d c ≤ d + greatest (map case_nesting xs)
     pub calls : (f : ℕ → ℕ) → bound_cases f s (tree_cases c) ≤ greatest (map (called_in_case f) xs)
+
+-- The form of a statement and of an arm is made of those of their parts
+
+module _ (names : Names) where
+  abbrev step_at : S.Stmt-F Stmt Arm CaseArm → FromLine
+  step_at y = canonical.statement_step names
+      (map-Stmt Stmt Arm CaseArm FromLine ArmFromLine CaseFromLine (statement_from names) (arm_from names)
+      (case_from names) y)
+
+  pub good_at : {s : Scope} {inside : Bool} {x : Stmt} (y : S.Stmt-F Stmt Arm CaseArm) → roll-Stmt y ≡ x → (k : ℕ)
+      → GoodOne s inside x (step_at y k).0 → GoodOne s inside x (statement_from names x k).0
+  good_at {s} {inside} {x} y e k g = subst (λ (f : FromLine). GoodOne s inside x (f k).0)
+      (sym (ap (statement_from names) (sym e)
+      ∙ fold-roll-Stmt FromLine ArmFromLine CaseFromLine (canonical.statement_step names)
+      (canonical.arm_step names) canonical.case_step y)) g
+
+  pub from_arm : (a : Arm) → arm_from names a
+      ≡ canonical.arm_step names (record { test = a.test; body = map (statement_from names) a.body })
+  from_arm a = fold_out-Arm FromLine ArmFromLine CaseFromLine (canonical.statement_step names)
+      (canonical.arm_step names) canonical.case_step a
+
+  pub from_case_arm : (a : CaseArm)
+      → case_from names a ≡ canonical.case_step (record { labels = a.labels; body = map (statement_from names) a.body })
+  from_case_arm a = fold_out-CaseArm FromLine ArmFromLine CaseFromLine (canonical.statement_step names)
+      (canonical.arm_step names) canonical.case_step a

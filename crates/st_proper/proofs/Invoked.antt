@@ -9,15 +9,14 @@ use Rattle.std.proofs.lemmas.Option.{slice_get-map}
 use Rattle.s7_base.specs.declared.reason.Line.{Line}
 use Rattle.s7_base.specs.declared.reason.Reason.{Reason}
 use Rattle.s7_base.specs.declared.reason.Reason.TheVariants.{TypeMismatch}
-use Rattle.st_canonical.specs.Canonical.{FromLine, actuals_from, on, raw_var, statement_from}
+use Rattle.st_canonical.specs.Canonical.{actuals_from, on, raw_var, statement_from}
 use Rattle.st_canonical.specs.Spelled.{is_name}
 use Rattle.st_grammar.specs.Forms.{Actuals, no_actual, actual, invoke}
 use Rattle.st_grammar.specs.Grammar.{on_line, tree_actuals, spell_actuals}
 use Rattle.st_types_laws.proofs.Actions.{calls_invoke}
-use Rattle.st_proper.proofs.StatementForms.{from_invoke}
 use Rattle.st_types_laws.proofs.Bounds.{bound}
 use Rattle.st_types_laws.proofs.Labels.{is_own_type}
-use Rattle.st_proper.proofs.Good.{GoodOne}
+use Rattle.st_proper.proofs.Good.{GoodOne, good_at}
 use Rattle.st_types_laws.proofs.Keyed.{AreAbsent, AreDistinct, absent_also, found_behind, none_absent}
 use Rattle.st_types_laws.proofs.Called.{AreTyped, are_typed, call_is, given_with}
 use Rattle.st_proper.proofs.Scope.{Callable, Sees, sight_by}
@@ -43,6 +42,7 @@ use Rattle.st_tree.specs.declared.expr.StType.{StType}
 use Rattle.st_tree.specs.declared.expr.Var.{Var}
 use Rattle.st_tree.specs.declared.program.Local.{Local}
 use Rattle.st_tree.specs.declared.program.Pou.{Pou}
+use Rattle.st_tree.specs.declared.program.Stmt.TheOpen as S
 use Rattle.st_tree.specs.declared.program.Stmt.TheVariants as stmt
 use Rattle.st_tree.specs.declared.raw.RawStmtKind.TheVariants as raw
 use Rattle.st_types_laws.proofs.Declared.{keys_of_locals, types_of_locals}
@@ -231,5 +231,4 @@ module _ (names : Names) (s : Scope) (sees : Sees s names) where
       let typed : is_call (sight_by names) (option_map head_of (slice_get names.units n)) vars ≡ true =
       ap (λ o. is_call (sight_by names) o vars) (sym (slice_get-map head_of names.units n))
       ∙ sym (good_invoke (sight_by names) inside n vars) ∙ h in
-      subst (λ (f : FromLine). GoodOne s inside (stmt.Invoke n vars) (f k).0) (sym (from_invoke names n vars))
-      (called inside n vars k (slice_get names.units n) refl typed)
+      good_at names (S.Invoke n vars) (stmt.rolls-Invoke n vars) k (called inside n vars k (slice_get names.units n) refl typed)

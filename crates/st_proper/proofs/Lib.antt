@@ -2,7 +2,6 @@ pub mod BlockForms
 pub mod CaseLabels
 pub mod Chains
 pub mod DeclaredGlobals
-pub mod Equations
 pub mod Expressions
 pub mod Given
 pub mod GlobalForms
@@ -10,10 +9,8 @@ pub mod Good
 pub mod Invoked
 pub mod Keys
 pub mod Literals
-pub mod Nested
 pub mod Scope
 pub mod Spells
-pub mod StatementForms
 pub mod Statements
 pub mod UnitForms
 pub mod Values
