@@ -5,10 +5,9 @@ use Rattle.s7_base.specs.Tokens.{line_after}
 use Rattle.st_grammar.specs.Forms.{CaseArms, case_arm, Labels, label, more_labels}
 use Rattle.st_grammar.specs.Grammar.{LabelsFit, label_tree, spell_labels, tree_labels}
 use Rattle.st_proper.proofs.Spells.{Spells}
-use Rattle.st_proper.proofs.Literals.{Kept, kept}
 use Rattle.st_types_laws.proofs.Lists.{map_last}
 use Rattle.st_types_laws.proofs.Labels.{of_type}
-use Rattle.st_proper.proofs.Values.{has_value as value_of}
+use Rattle.st_proper.proofs.Values.{kept_literal}
 use Rattle.st_lexer.proofs.Words.{and_both}
 use Rattle.std.specs.List.{list_all}
 use Rattle.std.proofs.lemmas.List.{append-nil, append_assoc}
@@ -23,15 +22,12 @@ pub record AreLabels (ty : StType) (ns : List ℤ) (c : Labels) : Type 0 where
   pub fits : LabelsFit c
   pub spelled : Spells (spell_labels c)
 
-label_good : (ty : StType) (n : ℤ) → is_value ty n ≡ true → Kept ty n (literal_form ty n)
-label_good ty n h = kept ty n (value_of ty n h)
-
 labels_good : (ty : StType) (ns more : List ℤ) (c : Labels) → AreLabels ty ns c → list_all (is_value ty) more ≡ true
     → AreLabels ty (ns ++ more) (labels_behind ty c more)
 labels_good ty ns [] c a h = subst (λ z. AreLabels ty z c) (sym (append-nil ns)) a
 labels_good ty ns (n ∷ more) c a h =
     let both = and_both (is_value ty n) (list_all (is_value ty) more) h in
-    let g = label_good ty n both.0 in
+    let g = kept_literal ty n both.0 in
     let next = more_labels c (literal_form ty n) in
     let one : AreLabels ty (ns ++ n ∷ []) next = record {
       means = ap (λ z. z ++ label_tree (literal_form ty n) ∷ []) a.means ∙ ap (λ z. of_type ty ns ++ z ∷ []) g.label
@@ -55,14 +51,10 @@ pub form_labels : (ty : StType) (ns : List ℤ) → is_some_of ns ≡ true → l
 form_labels ty [] some h = absurd cc
 form_labels ty (n ∷ ns) some h =
     let both = and_both (is_value ty n) (list_all (is_value ty) ns) h in
-    let g = label_good ty n both.0 in
+    let g = kept_literal ty n both.0 in
     let first : AreLabels ty (n ∷ [])
-    (label (literal_form ty n)) = record {
-      means = ap
-          (λ z. z ∷ []) g.label;
-      fits = g.value;
-      spelled = λ ks q. (g.spelled, q);
-    } in
+    (label (literal_form ty n)) =
+    record { means = ap (λ z. z ∷ []) g.label; fits = g.value; spelled = λ ks q. (g.spelled, q) } in
     record {
       labels = labels_form ty n ns;
       are = labels_good ty (n ∷ []) ns (label (literal_form ty n)) first both.1;

@@ -14,12 +14,10 @@ use Rattle.st_grammar.specs.Levels.{height}
 use Rattle.st_grammar.specs.declared.kind.OneOperand.TheVariants as one
 use Rattle.st_types_laws.proofs.ReadEquations.{read_literal, read_variable}
 use Rattle.st_canonical.proofs.Levels.{nest}
-use Rattle.st_proper.proofs.Literals.{kept}
 use Rattle.st_types_laws.proofs.Operands.{area_by, binary_by, convert_by, is_typed, select_by, shift_by, unary_by}
-use Rattle.st_proper.proofs.Given.{given, where_given}
 use Rattle.st_proper.proofs.Scope.{Sees, sight_by}
-use Rattle.st_proper.proofs.Values.{has_value}
-use Rattle.st_proper.proofs.Variables.{of_type, written}
+use Rattle.st_proper.proofs.Values.{kept_literal}
+use Rattle.st_proper.proofs.Variables.{given, of_type, where_given, written}
 use Rattle.st_canonical.proofs.SameNames.{between}
 use Rattle.st_rules.specs.Judged.{Judged, sound}
 use Rattle.st_rules.specs.Expressions.{answered, expression, read_of}
@@ -159,7 +157,7 @@ module _ (s : Scope) (names : Names) (sees : Sees s names) where
   literal_good : (ty : StType) (n : ℤ) → Good (expr.Literal ty n)
   literal_good ty n u h k m =
       let w = where_given (is_value ty n) ty u (sym (typed_literal (sight_by names) ty n) ∙ h) in
-      let g = kept ty n (has_value ty n w.0) in
+      let g = kept_literal ty n w.0 in
       subst (λ v. Sound s m (typed_tree v (expr.Literal ty n)) (expr_form names k (expr.Literal ty n))) w.1
       (rw (canon_literal ty n) (record {
         means = ap (expression s m) g.tree ∙ read_literal s m ty n;

@@ -1,11 +1,12 @@
 -- The key of a name in a tree is the one by which the text's names are compared; and what keys register
 -- variables, data blocks and other names have.
-use Rattle.std.proofs.Common.{◌≡◌, ℕ, ◌-◌, ◌<◌, ◌≤◌, Bool, true, false, not, ◌&&◌, ◌||◌, cond, List, [], ◌∷◌, ◌++◌, map, take, drop, Some, None, refl, sym, ap, ◌∙◌, arith}
+use Rattle.std.proofs.Common.{◌≡◌, ℕ, ◌-◌, ◌<◌, ◌≤◌, Bool, true, false, not, ◌&&◌, ◌||◌, cond, List, [], ◌∷◌, ◌++◌, map, take, drop, Option, Some, None, refl, sym, ap, ◌∙◌, arith}
 use Rattle.std.specs.Prelude.{codes, decimal, find, nat_le, nat_lt}
 use Rattle.std.specs.Char.{to_ascii_lowercase, to_ascii_uppercase}
 use Rattle.std.specs.List.{list_all, list_any}
 use Rattle.std.specs.Str.{bytes_eq, str_to_ascii_lowercase}
 use Rattle.std.proofs.lemmas.Bool.{leb-true, ltb-false}
+use Rattle.std.proofs.lemmas.Bool.Decides.{nat_tests}
 use Rattle.std.proofs.lemmas.List.{drop-map, take-map}
 use Rattle.std.proofs.lemmas.Str.Ascii.{lowercase-uppercase}
 use Rattle.digit_texts.specs.Digits.{are_digits, is_digit}
@@ -25,23 +26,11 @@ use Rattle.st_types_laws.proofs.PlainNumbers.{plain_number}
 -- Names of data blocks
 
 digit_back : (c : ℕ) → is_digit (to_ascii_uppercase c) ≡ true → is_digit c ≡ true
-digit_back c = by (nat_lt c 97) (nat_lt c 123) refl refl
-  where
-    by : (a b : Bool) → nat_lt c 97 ≡ a → nat_lt c 123 ≡ b → is_digit (cond a c (cond b (c - 32) c)) ≡ true
-        → is_digit c ≡ true
-    by true b e f h = h
-    by false false e f h = h
-    by false true e f h =
-        let more = ltb-false c 97 e in
-        let both = and_both (nat_le 48 (c - 32)) (nat_le (c - 32) 57) h in
-        let less : c - 32 ≤ 57 = leb-true (c - 32) 57 both.1 in
-        absurd (omega (arith, more, less))
+digit_back c h = grind (arith, nat_tests)
 
 digits_back : (name : List ℕ) → list_all is_digit (map to_ascii_uppercase name) ≡ true → list_all is_digit name ≡ true
 digits_back [] h = refl
-digits_back (c ∷ name) h =
-    let both = and_both (is_digit (to_ascii_uppercase c)) (list_all is_digit (map to_ascii_uppercase name)) h in
-    rw (digit_back c both.0, digits_back name both.1) refl
+digits_back (c ∷ name) h = grind (arith, digit_back c, digits_back name)
 
 -- a name whose capitals are digits is digits
 are_back : (name : List ℕ) → are_digits (map to_ascii_uppercase name) ≡ true → are_digits name ≡ true
@@ -67,11 +56,7 @@ block_back name h =
     both_true (is_same_word (take 2 name) (codes "DB")) (are_digits (drop 2 name)) letters (are_back (drop 2 name) digits)
 
 not_block : (name : List ℕ) → names_block name ≡ false → names_block (map to_ascii_uppercase name) ≡ false
-not_block name h = by (names_block (map to_ascii_uppercase name)) refl
-  where
-    by : (t : Bool) → names_block (map to_ascii_uppercase name) ≡ t → t ≡ false
-    by false e = refl
-    by true e = let back = block_back name e in absurd cc
+not_block name h = grind (arith, block_back name)
 
 -- the key of another name is its capitals
 key_is : (name : List ℕ) → names_block name ≡ false → key_of name ≡ map to_ascii_uppercase name
@@ -90,22 +75,15 @@ is_word name w h =
     of_same name w (sym (lower_upper name)
     ∙ ap str_to_ascii_lowercase (sym (same_keys w (map to_ascii_uppercase name) h)))
 
+-- the first of some things is not found where its test fails
+not_first : {X : Type 0} (t u v : Bool) (x : X) (o : Option X) → (t ≡ true → u ≡ true) → (v ≡ false → o ≡ None)
+    → (u || v) ≡ false → cond t (Some x) o ≡ None
+not_first {X} t u v x o f g h = grind arith
+
 not_found : (name : List ℕ) (rs : List Reg) → is_among (map register_word rs) name ≡ false
     → find (λ r. is_same (register_word r) (map to_ascii_uppercase name)) rs ≡ None
 not_found name [] h = refl
-not_found name (r ∷ rs) h =
-    by (is_same (register_word r) (map to_ascii_uppercase name)) refl (is_same_word name (register_word r)) refl
-    (not_found name rs) h
-  where
-    by : (t : Bool) → is_same (register_word r) (map to_ascii_uppercase name) ≡ t → (u : Bool)
-        → is_same_word name (register_word r) ≡ u
-        → (is_among (map register_word rs) name ≡ false
-        → find (λ r. is_same (register_word r) (map to_ascii_uppercase name)) rs ≡ None)
-        → (u || is_among (map register_word rs) name) ≡ false
-        → cond t (Some r) (find (λ r. is_same (register_word r) (map to_ascii_uppercase name)) rs) ≡ None
-    by t e true f more g = absurd cc
-    by true e false f more g = let is = is_word name (register_word r) e in absurd cc
-    by false e false f more g = more g
+not_found name (r ∷ rs) h = not_first _ _ _ r _ (is_word name (register_word r)) (not_found name rs) h
 
 no_register : (name : List ℕ) → names_block name ≡ false → is_register name ≡ false
     → register_named (key_of name) ≡ None
@@ -155,19 +133,10 @@ begins_other : (ws : List (List ℕ)) (name letters : List ℕ) → is_same_word
     → list_any (λ w. is_same_word letters (take 2 w)) ws ≡ false → is_among ws name ≡ false
 begins_other [] name letters h g = refl
 begins_other (w ∷ ws) name letters h g =
-    by (is_same_word name w) refl (is_same_word letters (take 2 w)) refl (begins_other ws name letters h) g
-  where
-    by : (t : Bool) → is_same_word name w ≡ t → (u : Bool) → is_same_word letters (take 2 w) ≡ u
-        → (list_any (λ w. is_same_word letters (take 2 w)) ws ≡ false → is_among ws name ≡ false)
-        → (u || list_any (λ w. is_same_word letters (take 2 w)) ws) ≡ false → (t || is_among ws name) ≡ false
-    by t e true f more q = absurd cc
-    by false e false f more q = more q
-    by true e false f more q =
-        let is : is_same_word letters (take 2 w) ≡ true =
-        of_same letters (take 2 w)
-        (sym (same_of (take 2 name) letters h) ∙ sym (take-map to_ascii_lowercase 2 name) ∙ ap (take 2) (same_of name w e)
-        ∙ take-map to_ascii_lowercase 2 w) in
-        absurd cc
+    let begins : is_same_word name w ≡ true → is_same_word letters (take 2 w) ≡ true = λ e. of_same letters (take 2 w)
+    (sym (same_of (take 2 name) letters h) ∙ sym (take-map to_ascii_lowercase 2 name) ∙ ap (take 2) (same_of name w e)
+    ∙ take-map to_ascii_lowercase 2 w) in
+    grind (arith, begins, begins_other ws name letters h)
 
 numbered : (name letters : List ℕ) → is_numbered letters name ≡ true
     → bytes_eq (str_to_ascii_lowercase letters) (codes "db") ≡ false
@@ -181,61 +150,38 @@ next_name : (name : List ℕ) → is_next name ≡ true → IsOther name
 next_name name h = is_other name (no_letters name (next_letters name h))
     (same_among register_names name (codes "NEXT") h)
 
+-- what holds where either of two tests does
+either : {P : Type 0} (a b : Bool) → (a ≡ true → P) → (b ≡ true → P) → (a || b) ≡ true → P
+either true b f g h = f refl
+either false b f g h = g h
+
 pub local_name : (name : List ℕ) → may_name_local name ≡ true → IsOther name
-local_name name h = by (is_next name) refl h
-  where
-    by : (t : Bool) → is_next name ≡ t → (t || is_free name) ≡ true → IsOther name
-    by true e g = next_name name e
-    by false e g = free_name name g
+local_name name h = either (is_next name) (is_free name) (next_name name) (free_name name) h
 
 unit_number : (name : List ℕ) → is_unit_number name ≡ true → IsOther name
-unit_number name h = by (is_numbered (codes "OB") name) refl (is_numbered (codes "FC") name) refl h
-  where
-    by : (t : Bool) → is_numbered (codes "OB") name ≡ t → (u : Bool) → is_numbered (codes "FC") name ≡ u
-        → (t || u || is_numbered (codes "FB") name) ≡ true → IsOther name
-    by true e u f g = numbered name (codes "OB") e refl refl
-    by false e true f g = numbered name (codes "FC") f refl refl
-    by false e false f g = numbered name (codes "FB") g refl refl
+unit_number name h =
+    either (is_numbered (codes "OB") name || is_numbered (codes "FC") name) (is_numbered (codes "FB") name)
+    (either (is_numbered (codes "OB") name) (is_numbered (codes "FC") name) (λ e. numbered name (codes "OB") e refl refl)
+    (λ e. numbered name (codes "FC") e refl refl)) (λ e. numbered name (codes "FB") e refl refl) h
 
 pub unit_name : (name : List ℕ) → may_name_unit name ≡ true → IsOther name
-unit_name name h = by (is_unit_number name) refl h
-  where
-    by : (t : Bool) → is_unit_number name ≡ t → (t || is_free name) ≡ true → IsOther name
-    by true e g = unit_number name e
-    by false e g = free_name name g
+unit_name name h = either (is_unit_number name) (is_free name) (unit_number name) (free_name name) h
 
 -- the key of a data block is that of no other name, and of no data block of another number
 pub block_key : (n : ℕ) → 1 ≤ n → n ≤ 65535 → names_block (key_of (codes "DB" ++ decimal n)) ≡ true
-block_key n some small = by (names_block (key_of (codes "DB" ++ decimal n))) refl (plain_number n some small)
-  where
-    by : (t : Bool) → names_block (key_of (codes "DB" ++ decimal n)) ≡ t
-        → cond t (number_from 0 (drop 2 (key_of (codes "DB" ++ decimal n)))) 0 ≡ n → t ≡ true
-    by true e h = refl
-    by false e h = absurd (omega (arith, h, some))
+block_key n some small = grind (arith, plain_number n some small)
+
+differ : (k l : List ℕ) → (k ≡ l → ⊥) → is_same k l ≡ false
+differ k l h = grind (arith, same_keys k l)
 
 pub other_key : (key : List ℕ) (name : List ℕ) → names_block key ≡ true → IsOther name
     → is_same key (key_of name) ≡ false
-other_key key name h o = by (is_same key (key_of name)) refl
-  where
-    by : (t : Bool) → is_same key (key_of name) ≡ t → t ≡ false
-    by false e = refl
-    by true e =
-        let is : names_block (key_of name) ≡ true = ap names_block (sym (same_keys key (key_of name) e))
-        ∙ h in
-        let no = o.block in
-        absurd cc
+other_key key name h o = differ key (key_of name) (λ e. let is = ap names_block e in let no = o.block in absurd cc)
 
 pub other_number : (n m : ℕ) → 1 ≤ n → n < m → m ≤ 65535
     → is_same (key_of (codes "DB" ++ decimal n)) (key_of (codes "DB" ++ decimal m)) ≡ false
-other_number n m some less small = by
-    (is_same (key_of (codes "DB" ++ decimal n)) (key_of (codes "DB" ++ decimal m))) refl
-  where
-    by : (t : Bool) → is_same (key_of (codes "DB" ++ decimal n)) (key_of (codes "DB" ++ decimal m)) ≡ t
-        → t ≡ false
-    by false e = refl
-    by true e =
-        let same = same_keys (key_of (codes "DB" ++ decimal n)) (key_of (codes "DB" ++ decimal m)) e in
-        let equal : n ≡ m =
-        sym (plain_number n some (omega (arith, less, small))) ∙ ap number_in same
-        ∙ plain_number m (omega (arith, some, less)) small in
-        absurd (omega (arith, equal, less))
+other_number n m some less small =
+    differ (key_of (codes "DB" ++ decimal n)) (key_of (codes "DB" ++ decimal m)) (λ e.
+    let equal : n ≡ m =
+    sym (plain_number n some (omega arith)) ∙ ap number_in e ∙ plain_number m (omega arith) small in
+    omega arith)

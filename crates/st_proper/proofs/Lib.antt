@@ -3,12 +3,10 @@ pub mod CaseLabels
 pub mod Chains
 pub mod DeclaredGlobals
 pub mod Expressions
-pub mod Given
 pub mod GlobalForms
 pub mod Good
 pub mod Invoked
 pub mod Keys
-pub mod Literals
 pub mod Scope
 pub mod Spells
 pub mod Statements

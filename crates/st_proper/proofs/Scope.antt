@@ -36,12 +36,7 @@ use Rattle.st_types_laws.proofs.Lists.{Each, each_at, each_map, each_of, mapped_
 
 missing : (k : List ℕ) (es : Table Meaning) → tree.is_new k (keys_in es) ≡ true → look_up k es ≡ None
 missing k [] h = refl
-missing k (e ∷ es) h = by (is_same k e.0) (missing k es) h
-  where
-    by : (t : Bool) → (tree.is_new k (keys_in es) ≡ true → look_up k es ≡ None)
-        → not (t || list_any (λ other. is_same k other) (keys_in es)) ≡ true → cond t (Some e.1) (look_up k es) ≡ None
-    by true more q = absurd cc
-    by false more q = more q
+missing k (e ∷ es) h = grind (arith, missing k es)
 
 apart_of : (es : Table Meaning) → tree.are_apart (keys_in es) ≡ true → AreApart es
 apart_of [] h = tt
@@ -57,18 +52,12 @@ record Holds (k : List ℕ) (m : Meaning) (es : Table Meaning) : Type 0 where
   whole : es ≡ before ++ (k, m) ∷ after
 
 in_first : (k : List ℕ) (m : Meaning) (xs ys : Table Meaning) → Holds k m xs → Holds k m (xs ++ ys)
-in_first k m xs ys h = record {
-  before = h.before;
-  after = h.after ++ ys;
-  whole = ap (λ z. z ++ ys) h.whole ∙ append_assoc h.before ((k, m) ∷ h.after) ys;
-}
+in_first k m xs ys h =
+    record { before = h.before; after = h.after ++ ys; whole = rw h.whole (append_assoc h.before ((k, m) ∷ h.after) ys) }
 
 in_second : (k : List ℕ) (m : Meaning) (xs ys : Table Meaning) → Holds k m ys → Holds k m (xs ++ ys)
-in_second k m xs ys h = record {
-  before = xs ++ h.before;
-  after = h.after;
-  whole = ap (λ z. xs ++ z) h.whole ∙ sym (append_assoc xs h.before ((k, m) ∷ h.after));
-}
+in_second k m xs ys h =
+    record { before = xs ++ h.before; after = h.after; whole = rw h.whole (sym (append_assoc xs h.before ((k, m) ∷ h.after))) }
 
 found : (k : List ℕ) (m : Meaning) (es : Table Meaning) → Holds k m es → AreApart es → look_up k es ≡ Some m
 found k m es h a =
@@ -76,32 +65,16 @@ found k m es h a =
     ap (look_up k) h.whole ∙ found_behind h.before k m h.after (is_new k m h.before h.after apart)
 
 module _ {X : Type 0} (key : X → List ℕ) (mean : ℕ → X → Meaning) where
-  held : (i n : ℕ) (xs : List X) (x : X) → slice_get xs n ≡ Some x
-      → Holds (key x) (mean (i + n) x) (entries key mean i xs)
-  held i n [] x h = absurd cc
-  held i zero (y ∷ xs) x h =
+  held : (i n j : ℕ) (xs : List X) (x : X) → i + n ≡ j → slice_get xs n ≡ Some x
+      → Holds (key x) (mean j x) (entries key mean i xs)
+  held i n j [] x e h = absurd cc
+  held i zero j (y ∷ xs) x e h =
       let same : y ≡ x = cc in
-      let here : i ≡ i + 0 = omega arith in
-      record {
-        before = [];
-        after = entries key mean (i + 1) xs;
-        whole = ap (λ z. (key z, mean i z) ∷ entries key mean (i + 1) xs) same
-            ∙ ap (λ j. (key x, mean j x) ∷ entries key mean (i + 1) xs) here;
-      }
-  held i (suc n) (y ∷ xs) x h =
-      let r = held (i + 1) n xs x h in
-      let next : i + 1 + n ≡ i + suc n = omega arith in
-      record {
-        before = (key y, mean i y) ∷ r.before;
-        after = r.after;
-        whole = ap (λ es. (key y, mean i y) ∷ es) r.whole
-            ∙ ap (λ j. (key y, mean i y) ∷ (r.before ++ (key x, mean j x) ∷ r.after)) next;
-      }
-
-  held_at : (n : ℕ) (xs : List X) (x : X) → slice_get xs n ≡ Some x → Holds (key x) (mean n x) (entries key mean 0 xs)
-  held_at n xs x h =
-      let start : 0 + n ≡ n = omega arith in
-      subst (λ j. Holds (key x) (mean j x) (entries key mean 0 xs)) start (held 0 n xs x h)
+      let here : i ≡ j = omega arith in
+      record { before = []; after = entries key mean (i + 1) xs; whole = rw (same, here) refl }
+  held i (suc n) j (y ∷ xs) x e h =
+      let r = held (i + 1) n j xs x (omega arith) h in
+      record { before = (key y, mean i y) ∷ r.before; after = r.after; whole = rw r.whole refl }
 
 -- Data blocks
 
@@ -222,63 +195,45 @@ pub record Sees (s : Scope) (names : Names) : Type 0 where
 
 by_inner : (s : Scope) (k : List ℕ) (m : Meaning) → register_named k ≡ None → look_up k s.inner ≡ Some m
     → meaning_in s k ≡ Some m
-by_inner s k m r h =
-    ap (λ o. or_else (as_register o) (or_else (look_up k s.inner) (look_up k s.outer))) r
-    ∙ ap (λ o. or_else o (look_up k s.outer)) h
+by_inner s k m r h = rw (r, h) refl
 
 by_outer : (s : Scope) (k : List ℕ) (m : Meaning) → register_named k ≡ None → look_up k s.inner ≡ None
     → look_up k s.outer ≡ Some m
     → meaning_in s k ≡ Some m
-by_outer s k m r n h =
-    ap (λ o. or_else (as_register o) (or_else (look_up k s.inner) (look_up k s.outer))) r
-    ∙ ap (λ o. or_else o (look_up k s.outer)) n ∙ h
+by_outer s k m r n h = rw (r, n, h) refl
 
 pub sees : (t : StProgram) (u : Pou) (s : Scope) → Proper t → IsProperUnit t.globals (map head_of t.pous) u
     → s.inner ≡ inner_entries u → s.outer ≡ outer_entries t → s.formals ≡ map formals_in t.pous → Sees s (names_in t u)
 sees t u s p h inner outer formals = record {
   formal = λ i l q.
       let f = each_at IsFormal u.formals i l (each_of IsFormal u.formals h.formals) q in (
-        by_inner s (key_of l.name) (meaning.Formal i l.ty) (free_name l.name f.free).register
-            (ap (look_up (key_of l.name)) inner
-            ∙ found (key_of l.name) (meaning.Formal i l.ty) (inner_entries u)
+        inside l.name (meaning.Formal i l.ty) (free_name l.name f.free)
             (in_first _ _ (formal_entries 0 u.formals) (local_entries 0 u.locals)
-            (held_at (λ (l : Local). key_of l.name) (λ i (l : Local). meaning.Formal i l.ty) i u.formals l q))
-            (inner_apart u h.apart)),
+            (held (λ (l : Local). key_of l.name) (λ i (l : Local). meaning.Formal i l.ty) 0 i i u.formals l (omega arith) q)),
         spelled_name l.name f.name,
       );
   local = λ i l q.
       let f = each_at IsLocal u.locals i l (each_of IsLocal u.locals h.locals) q in (
-        by_inner s (key_of l.name) (meaning.Local i l.ty) (local_name l.name f.free).register
-            (ap (look_up (key_of l.name)) inner
-            ∙ found (key_of l.name) (meaning.Local i l.ty) (inner_entries u)
+        inside l.name (meaning.Local i l.ty) (local_name l.name f.free)
             (in_second _ _ (formal_entries 0 u.formals) (local_entries 0 u.locals)
-            (held_at (λ (l : Local). key_of l.name) (λ i (l : Local). meaning.Local i l.ty) i u.locals l q))
-            (inner_apart u h.apart)),
+            (held (λ (l : Local). key_of l.name) (λ i (l : Local). meaning.Local i l.ty) 0 i i u.locals l (omega arith) q)),
         spelled_name l.name f.name,
       );
   global = λ i g q seen.
       let f = each_at IsGlobal t.globals i g (globals_proper t p) q in (
-        by_outer s (key_of g.name) (meaning.Global i g.ty) (free_name g.name f.free).register (hidden g.name seen)
-            (ap (look_up (key_of g.name)) outer
-            ∙ found (key_of g.name) (meaning.Global i g.ty) (outer_entries t)
-            (in_second _ _ (block_entries t.dbs) (located_entries 0 t.globals ++ unit_entries 0 t.pous)
+        outside g.name (meaning.Global i g.ty) (free_name g.name f.free) seen
             (in_first _ _ (located_entries 0 t.globals) (unit_entries 0 t.pous)
-            (held_at (λ (l : Located). key_of l.name) (λ i (l : Located). meaning.Global i l.ty) i t.globals g q)))
-            (outer_apart t p)),
+            (held (λ (l : Located). key_of l.name) (λ i (l : Located). meaning.Global i l.ty) 0 i i t.globals g (omega arith) q)),
         spelled_name g.name f.name,
       );
   function = λ i v q no seen.
       let f = each_at (IsUnit t p) t.pous i v (units_proper t p) q in
       record {
         means = (
-          by_outer s (key_of v.name) (meaning.Function i) (unit_name v.name f.free).register (hidden v.name seen)
-              (ap (look_up (key_of v.name)) outer
-              ∙ found (key_of v.name) (meaning.Function i) (outer_entries t)
-              (in_second _ _ (block_entries t.dbs) (located_entries 0 t.globals ++ unit_entries 0 t.pous)
+          outside v.name (meaning.Function i) (unit_name v.name f.free) seen
               (in_second _ _ (located_entries 0 t.globals) (unit_entries 0 t.pous)
               (subst (λ (b : Bool). Holds (key_of v.name) (meaning_of_unit i b) (unit_entries 0 t.pous)) no
-              (held_at (λ (u : Pou). key_of u.name) (λ i (u : Pou). meaning_of_unit i u.program) i t.pous v q))))
-              (outer_apart t p)),
+              (held (λ (u : Pou). key_of u.name) (λ i (u : Pou). meaning_of_unit i u.program) 0 i i t.pous v (omega arith) q))),
           spelled_name v.name f.name,
         );
         formals = ap (λ fs. slice_get fs i) formals ∙ mapped_at formals_in t.pous i v q;
@@ -288,8 +243,16 @@ sees t u s p h inner outer formals = record {
       };
 }
   where
-    hidden : (name : List ℕ) → is_seen (sight_by (names_in t u)) name ≡ true → look_up (key_of name) s.inner ≡ None
-    hidden name seen =
-        ap (look_up (key_of name)) inner
-        ∙ missing (key_of name) (inner_entries u)
-        (ap (tree.is_new (key_of name)) (inner_keys u) ∙ seen)
+    inside : (name : List ℕ) (m : Meaning) → IsOther name → Holds (key_of name) m (inner_entries u)
+        → meaning_in s (key_of name) ≡ Some m
+    inside name m o there = by_inner s (key_of name) m o.register
+        (ap (look_up (key_of name)) inner ∙ found (key_of name) m (inner_entries u) there (inner_apart u h.apart))
+
+    outside : (name : List ℕ) (m : Meaning) → IsOther name → is_seen (sight_by (names_in t u)) name ≡ true
+        → Holds (key_of name) m (located_entries 0 t.globals ++ unit_entries 0 t.pous)
+        → meaning_in s (key_of name) ≡ Some m
+    outside name m o seen there = by_outer s (key_of name) m o.register
+        (ap (look_up (key_of name)) inner ∙ missing (key_of name) (inner_entries u)
+        (ap (tree.is_new (key_of name)) (inner_keys u) ∙ seen))
+        (ap (look_up (key_of name)) outer ∙ found (key_of name) m (outer_entries t)
+        (in_second _ _ (block_entries t.dbs) (located_entries 0 t.globals ++ unit_entries 0 t.pous) there) (outer_apart t p))

@@ -1,5 +1,5 @@
--- A value that a type has is one that a token can have, and a place that a tree may name is one that a token can
--- have and that breaks no rule.
+-- A value that a type has is one that a token can have, as the canonical text writes it; and a place that a tree may
+-- name is one that a token can have and that breaks no rule.
 use Rattle.std.proofs.Common.{◌≡◌, ℕ, suc, ◌+◌, ◌-◌, ◌^◌, ◌<◌, ◌≤◌, ℤ, pos, negsuc, Bool, true, false, ◌&&◌, cond, None, Some, refl, ap, subst, ◌∙◌, arith}
 use Rattle.std.specs.Prelude.{nat_le, nat_lt}
 use Rattle.std.proofs.lemmas.Bool.{eqb-true, le-leb, leb-true, lt-ltb, ltb-false, ltb-true}
@@ -9,6 +9,11 @@ use Rattle.memory_areas.specs.declared.place.AreaName.{AreaName}
 use Rattle.memory_areas.specs.declared.place.AreaName.TheVariants as area
 use Rattle.s7_base.specs.declared.word.Width.{Width}
 use Rattle.s7_base.specs.declared.word.Width.TheVariants as width
+use Rattle.st_canonical.specs.Canonical.{literal_form}
+use Rattle.st_canonical.specs.Spelled.{is_literal}
+use Rattle.st_grammar.specs.Grammar.{is_value as is_literal_value, label_tree, literal_tree}
+use Rattle.st_grammar.specs.declared.kind.Literal.{Literal}
+use Rattle.st_tree.specs.declared.raw.RawExpr.TheVariants as raw
 use Rattle.st_lexer.proofs.Words.{and_both}
 use Rattle.st_lexer.specs.Literals.{greatest, is_signed}
 use Rattle.st_lexer.specs.Spelled as text
@@ -47,32 +52,38 @@ signed ty half p z s most least small false e h =
     (ap (λ b. b && nat_le (suc (half + half - 1 - p)) (greatest ty true)) s
     ∙ le-leb (suc (half + half - 1 - p)) (greatest ty true) (omega (arith, least, above, small)))
 
-int_value : (z : ℤ) → number 16 (pattern 16 z) ≡ z → text.has_value type.Int z ≡ true
-int_value z h =
-    signed type.Int 32768 (pattern 16 z) z refl refl refl (pattern_below 16 z) (nat_lt (pattern 16 z) 32768) refl h
-
-dint_value : (z : ℤ) → number 32 (pattern 32 z) ≡ z → text.has_value type.Dint z ≡ true
-dint_value z h =
-    signed type.Dint 2147483648 (pattern 32 z) z refl refl refl (pattern_below 32 z) (nat_lt (pattern 32 z) 2147483648)
-    refl h
-
-lint_value : (z : ℤ) → number 64 (pattern 64 z) ≡ z → text.has_value type.Lint z ≡ true
-lint_value z h =
-    signed type.Lint 9223372036854775808 (pattern 64 z) z refl refl refl (pattern_below 64 z)
-    (nat_lt (pattern 64 z) 9223372036854775808) refl h
-
 fitting : (ty : StType) (z : ℤ) → fit ty z ≡ z → text.has_value ty z ≡ true
 fitting type.Bool z h = bits type.Bool 1 z (omega arith) h
 fitting type.Byte z h = bits type.Byte 8 z (omega arith) h
 fitting type.Word z h = bits type.Word 16 z (omega arith) h
 fitting type.Dword z h = bits type.Dword 32 z (omega arith) h
-fitting type.Int z h = int_value z h
-fitting type.Dint z h = dint_value z h
-fitting type.Lint z h = lint_value z h
+fitting type.Int z h = signed type.Int 32768 (pattern 16 z) z refl refl refl (pattern_below 16 z) _ refl h
+fitting type.Dint z h = signed type.Dint 2147483648 (pattern 32 z) z refl refl refl (pattern_below 32 z) _ refl h
+fitting type.Lint z h =
+    signed type.Lint 9223372036854775808 (pattern 64 z) z refl refl refl (pattern_below 64 z) _ refl h
 
 -- a token can have a value of a type
-pub has_value : (ty : StType) (z : ℤ) → is_value ty z ≡ true → text.has_value ty z ≡ true
+has_value : (ty : StType) (z : ℤ) → is_value ty z ≡ true → text.has_value ty z ≡ true
 has_value ty z h = fitting ty z ((Decides-int_eq (fit ty z) z).0 h)
+
+-- what holds of the canonical literal of a type and a value
+pub record Kept (ty : StType) (n : ℤ) (c : Literal) : Type 0 where
+  pub tree : literal_tree c ≡ raw.Literal ty n
+  pub label : label_tree c ≡ (ty, n)
+  pub value : is_literal_value c ≡ true
+  pub spelled : is_literal c ≡ true
+
+-- a DINT from 0 on is a plain decimal, other literals have their type
+literal_kept : (ty : StType) (n : ℤ) → text.has_value ty n ≡ true → Kept ty n (literal_form ty n)
+literal_kept type.Dint (pos n) h =
+    let never : nat_lt n 0 ≡ false = grind (arith, nat_tests) in
+    let least = rw never at h in
+    rw never (record { tree = refl; label = refl; value = least; spelled = least })
+literal_kept type.Dint (negsuc n) h = record { tree = refl; label = refl; value = refl; spelled = h }
+literal_kept ty n h = record { tree = refl; label = refl; value = refl; spelled = h }
+
+pub kept_literal : (ty : StType) (n : ℤ) → is_value ty n ≡ true → Kept ty n (literal_form ty n)
+kept_literal ty n h = literal_kept ty n (has_value ty n h)
 
 -- Places
 
@@ -87,17 +98,13 @@ pub record IsPlaced (a : AreaName) (w : Width) (byte bit : ℕ) : Type 0 where
   pub kept_bit : text.is_bit_of w bit ≡ true
 
 small_bit : (w : Width) (bit : ℕ) → is_bit_of w bit ≡ true → (nat_le bit 7 ≡ true) × (text.is_bit_of w bit ≡ true)
-small_bit width.Bit bit h = let less : bit ≤ 7 = leb-true bit 7 h in (h, kept bit (omega (arith, less)))
-small_bit width.Byte bit h = let none : bit ≡ 0 = eqb-true bit 0 h in (le-leb bit 7 (omega (arith, none)), h)
-small_bit other bit h = let none : bit ≡ 0 = eqb-true bit 0 h in (le-leb bit 7 (omega (arith, none)), h)
+small_bit width.Bit bit h = let less : bit ≤ 7 = leb-true bit 7 h in (h, kept bit (omega arith))
+small_bit width.Byte bit h = let none : bit ≡ 0 = eqb-true bit 0 h in (le-leb bit 7 (omega arith), h)
+small_bit other bit h = let none : bit ≡ 0 = eqb-true bit 0 h in (le-leb bit 7 (omega arith), h)
 
 small_byte : (a : AreaName) (w : Width) (byte : ℕ) → is_byte_in a w byte ≡ true → byte ≤ 65535
-small_byte area.I w byte h = let less = leb-true _ 2048 h in omega (arith, less)
-small_byte area.Q w byte h = let less = leb-true _ 2048 h in omega (arith, less)
-small_byte area.M w byte h = let less = leb-true _ 8192 h in omega (arith, less)
-small_byte area.L w byte h = let less = leb-true _ 256 h in omega (arith, less)
-small_byte area.Db w byte h = leb-true byte 65535 h
-small_byte area.Di w byte h = leb-true byte 65535 h
+small_byte area.I w byte h = grind (arith, nat_tests)
+small_byte other w byte h = grind (arith, nat_tests)
 
 pub placed : (a : AreaName) (w : Width) (byte bit : ℕ) → is_place a w byte bit ≡ true → IsPlaced a w byte bit
 placed a w byte bit h =

@@ -1,5 +1,5 @@
 -- A variable that a unit may name, as the canonical text writes it: it means the variable, and tokens can have it.
-use Rattle.std.proofs.Common.{◌≡◌, ℕ, true, ◌&&◌, cond, Option, Some, None, Ok, Err, refl, ap, subst, ◌∙◌}
+use Rattle.std.proofs.Common.{◌≡◌, ℕ, List, Bool, true, false, ◌&&◌, cond, Option, Some, None, Ok, Err, refl, ap, subst, ◌∙◌}
 use Rattle.std.specs.Prelude.{slice_get}
 use Rattle.memory_areas.specs.declared.place.AreaName.{AreaName}
 use Rattle.memory_areas.specs.declared.place.AreaName.TheVariants as area
@@ -11,14 +11,15 @@ use Rattle.st_canonical.specs.Canonical.{raw_var}
 use Rattle.st_canonical.specs.Spelled.{is_name, is_variable}
 use Rattle.st_grammar.specs.Kinds.{word_named, word_text}
 use Rattle.st_lexer.proofs.Words.{and_both}
-use Rattle.st_proper.proofs.Given.{where_given}
-use Rattle.st_proper.proofs.Scope.{Sees, sight_by}
+use Rattle.st_proper.proofs.Scope.{Means, Sees, sight_by}
 use Rattle.st_proper.proofs.Values.{block_place, placed, plain_place, small_number}
 use Rattle.st_rules.specs.Names.{look_up}
 use Rattle.st_tree.specs.Naming.{key_of}
 use Rattle.st_rules.specs.Scopes.{as_register, or_else, register_named}
 use Rattle.st_rules.specs.Variables as rules
 use Rattle.st_rules.specs.Variables.{variable, variable_named, variable_of}
+use Rattle.st_rules.specs.declared.scope.Meaning.{Meaning}
+use Rattle.st_rules.specs.declared.scope.Meaning.TheVariants as meaning
 use Rattle.st_rules.specs.declared.scope.Scope.{Scope}
 use Rattle.st_rules.specs.declared.variable.TypedVar.{TypedVar}
 use Rattle.st_tree.specs.PlaceRules.{is_block_number, is_place}
@@ -26,7 +27,8 @@ use Rattle.st_tree.specs.Spelling.{global_name, local_name}
 use Rattle.st_tree.specs.State.{type_of_register}
 use Rattle.st_tree.specs.Typing.{Names}
 use Rattle.st_tree.specs.Values.{type_of_width}
-use Rattle.st_tree.specs.WellTyped.{is_seen, type_inside, type_outside, variable_type}
+use Rattle.st_tree.specs.TypeRules.{where_true}
+use Rattle.st_tree.specs.WellTyped.{is_seen, on_type, type_inside, type_outside, variable_type}
 use Rattle.st_tree.specs.Words.{register_word}
 use Rattle.st_tree.specs.declared.expr.StType.{StType}
 use Rattle.st_tree.specs.declared.expr.Var.{Var}
@@ -34,6 +36,25 @@ use Rattle.st_tree.specs.declared.expr.Var.TheVariants as var
 use Rattle.st_tree.specs.declared.program.Local.{Local}
 use Rattle.st_tree.specs.declared.program.Located.{Located}
 use Rattle.st_tree.specs.declared.raw.RawVar.TheVariants as raw
+
+-- Types that a rule gives
+
+-- an operand has a type, from which a rule gives this one
+pub record Given (o : Option StType) (rule : StType → Option StType) (ty : StType) : Type 0 where
+  pub first : StType
+  pub is : o ≡ Some first
+  pub rest : rule first ≡ Some ty
+
+pub given : (o : Option StType) (rule : StType → Option StType) (ty : StType) → on_type o rule ≡ Some ty
+    → Given o rule ty
+given None rule ty h = absurd cc
+given (Some x) rule ty h = record { first = x; is = refl; rest = h }
+
+pub where_given : (t : Bool) (x y : StType) → where_true t x ≡ Some y → (t ≡ true) × (x ≡ y)
+where_given true x y h = let same : x ≡ y = cc in (refl, same)
+where_given false x y h = absurd cc
+
+-- Variables as they are written
 
 -- what holds of a variable of the tree as it is written
 pub record Written (names : Names) (s : Scope) (v : TypedVar) : Type 0 where
@@ -63,72 +84,54 @@ module _ (s : Scope) (names : Names) (sees : Sees s names) where
   Good ty v = Written names s (of_type ty v)
 
   register : (r : Reg) → Good (type_of_register r) (var.Register r)
-  register r = record {
-    means =
-        ap (λ (o : Option Reg). variable_named
-        (or_else (as_register o) (or_else (look_up (key_of (register_word r)) s.inner)
-        (look_up (key_of (register_word r)) s.outer))))
-        (register_key r);
-    spelled = register_is_name r;
-  }
+  register r = record { means = rw (register_key r) refl; spelled = register_is_name r }
+
+  -- a variable that is written by a name, which means it
+  named : (name : List ℕ) (v : Var) (ty : StType) (m : Meaning) → raw_var names v ≡ raw.Name name
+      → variable_named (Some m) ≡ Ok (of_type ty v) → Means s name m → Good ty v
+  named name v ty m e g h =
+      record { means = ap (variable s) e ∙ ap variable_named h.0 ∙ g; spelled = ap is_variable e ∙ h.1 }
 
   local : (i : ℕ) (ty : StType) (o : Option Local) → slice_get names.locals i ≡ o → type_inside o ≡ Some ty
       → Good ty (var.Local i)
   local i ty None e h = absurd cc
   local i ty (Some l) e h =
-      let m = sees.local i l e in
       let same : l.ty ≡ ty = cc in
-      subst (λ t. Good t (var.Local i)) same (record {
-        means = ap (λ p. variable s (raw.Name (local_name p))) e ∙ ap variable_named m.0;
-        spelled = ap (λ p. is_name (local_name p)) e ∙ m.1;
-      })
+      subst (λ t. Good t (var.Local i)) same (named l.name (var.Local i) l.ty (meaning.Local i l.ty)
+      (ap (λ p. raw.Name (local_name p)) e) refl (sees.local i l e))
 
   formal : (i : ℕ) (ty : StType) (o : Option Local) → slice_get names.formals i ≡ o → type_inside o ≡ Some ty
       → Good ty (var.Formal i)
   formal i ty None e h = absurd cc
   formal i ty (Some l) e h =
-      let m = sees.formal i l e in
       let same : l.ty ≡ ty = cc in
-      subst (λ t. Good t (var.Formal i)) same (record {
-        means = ap (λ p. variable s (raw.Name (local_name p))) e ∙ ap variable_named m.0;
-        spelled = ap (λ p. is_name (local_name p)) e ∙ m.1;
-      })
+      subst (λ t. Good t (var.Formal i)) same (named l.name (var.Formal i) l.ty (meaning.Formal i l.ty)
+      (ap (λ p. raw.Name (local_name p)) e) refl (sees.formal i l e))
 
   global : (i : ℕ) (ty : StType) (o : Option Located) → slice_get names.globals i ≡ o
       → type_outside (sight_by names) o ≡ Some ty → Good ty (var.Global i)
   global i ty None e h = absurd cc
   global i ty (Some g) e h =
       let w = where_given (is_seen (sight_by names) g.name) g.ty ty h in
-      let m = sees.global i g e w.0 in
-      subst (λ t. Good t (var.Global i)) w.1 (record {
-        means = ap (λ p. variable s (raw.Name (global_name p))) e ∙ ap variable_named m.0;
-        spelled = ap (λ p. is_name (global_name p)) e ∙ m.1;
-      })
+      subst (λ t. Good t (var.Global i)) w.1 (named g.name (var.Global i) g.ty (meaning.Global i g.ty)
+      (ap (λ p. raw.Name (global_name p)) e) refl (sees.global i g e w.0))
 
   direct : (a : AreaName) (byte bit : ℕ) (w : Width) → is_place a w byte bit ≡ true
       → Good (type_of_width w) (var.Direct a byte bit w)
   direct a byte bit w h =
       let p = placed a w byte bit h in
-      record {
-        means = ap (λ t. cond t (variable_of (type_of_width w) (var.Direct a byte bit w)) (Err BadAddress)) p.rules;
-        spelled = plain_place a w byte bit p;
-      }
+      record { means = rw p.rules refl; spelled = plain_place a w byte bit p }
 
   in_block : (n byte bit : ℕ) (w : Width) → is_block_number n ≡ true → is_place area.Db w byte bit ≡ true
       → Good (type_of_width w) (var.InBlock n byte bit w)
   in_block n byte bit w h g =
       let p = placed area.Db w byte bit g in
-      let both : (is_block_number n && rules.is_place area.Db w byte bit)
-      ≡ true = ap (λ t. t && rules.is_place area.Db w byte bit) h ∙ p.rules in
-      record {
-        means = ap (λ t. cond t (variable_of (type_of_width w) (var.InBlock n byte bit w)) (Err BadAddress)) both;
-        spelled = block_place n w byte bit (small_number n h) p;
-      }
+      record { means = rw (h, p.rules) refl; spelled = block_place n w byte bit (small_number n h) p }
 
   -- a variable of a type that the unit may name
   pub written : (v : Var) (ty : StType) → variable_type (sight_by names) v ≡ Some ty → Good ty v
-  written (var.Register r) ty h = let same : type_of_register r
-      ≡ ty = cc in subst (λ t. Good t (var.Register r)) same (register r)
+  written (var.Register r) ty h =
+      let same : type_of_register r ≡ ty = cc in subst (λ t. Good t (var.Register r)) same (register r)
   written (var.Local i) ty h = local i ty (slice_get names.locals i) refl h
   written (var.Formal i) ty h = formal i ty (slice_get names.formals i) refl h
   written (var.Global i) ty h = global i ty (slice_get names.globals i) refl h
