@@ -3,7 +3,8 @@
 use Rattle.st_proper.proofs.Spells.{Spells, initial_spells}
 use Rattle.st_grammar.specs.declared.kind.Fixed.TheVariants as fixed
 use Rattle.st_grammar.specs.declared.kind.Kind.TheVariants as kind
-use Rattle.st_lexer.specs.Spelled.{is_decimal}
+use Rattle.st_lexer.specs.Spelled.{is_decimal, is_place}
+use Rattle.st_tree.specs.Naming.{is_free}
 use Rattle.std.proofs.Common.{◌≡◌, ℕ, ◌-◌, ◌≤◌, ◌^◌, true, List, [], ◌∷◌, ◌++◌, length, Some, None, refl, sym, ap, ◌∙◌, arith, append_assoc, append-nil}
 use Rattle.std.specs.Prelude.{nat_lt}
 use Rattle.std.proofs.lemmas.Bool.Decides.{nat_tests}
@@ -16,34 +17,53 @@ use Rattle.st_canonical.specs.Canonical.{area_form, block_name, blocks_from, glo
 use Rattle.st_grammar.specs.Forms.{plain, bytes, Globals, no_global, global, Section, present}
 use Rattle.st_grammar.specs.Grammar.{GlobalsFit, IfPresent, held, spell_array, spell_globals, spell_section, tree_globals, tree_items}
 use Rattle.st_grammar.specs.Levels.{levels_globals, levels_section}
-use Rattle.st_canonical.specs.Spelled.{is_variable}
+use Rattle.st_canonical.specs.Spelled.{is_name, is_variable}
 use Rattle.st_proper.proofs.BlockForms.{AreWithin, IsFull, block_is_name, block_is_named, globals_within, is_written, low}
-use Rattle.st_types_laws.proofs.Lists.{Each}
-use Rattle.st_proper.proofs.GlobalForms.{IsPlain}
+use Rattle.st_types_laws.proofs.Lists.{Each, EachPair}
 use Rattle.st_tree.specs.Values.{width_at}
 use Rattle.st_tree.specs.declared.program.Located.{Located}
 use Rattle.st_tree.specs.declared.raw.RawGlobal.{RawGlobal}
 use Rattle.st_tree.specs.declared.raw.RawGlobalType.TheVariants as type
 use Rattle.st_tree.specs.declared.raw.RawVar.TheVariants as raw
-use Rattle.st_types_laws.proofs.Redeclared.{AreBlocksAt, AreLocatedAt, IsBlockAt, IsLocatedAt}
+use Rattle.st_types_laws.proofs.Redeclared.{AreBlocksAt, AreLocatedAt, IsBlockAt, IsLocatedAt, name_of_area}
+
+-- a global of a proper tree
+pub record IsPlain (g : Located) : Type 0 where
+  pub name : is_name g.name ≡ true
+  pub free : is_free g.name ≡ true
+  pub placed : is_place (area_form g.place.area) None (width_at g.ty) g.place.byte g.place.bit ≡ true
+  pub known : name_of_area g.place.area ≡ area_form g.place.area
 
 -- globals of the language that tokens can have
 record AreSound (gs : Globals) : Type 0 where
   fit : GlobalsFit gs
   spelled : Spells (spell_globals gs)
 
--- globals after others, with what they declare
-record Behind (others all : Globals) (P : List RawGlobal → Type 0) : Type 0 where
+-- globals after others, with those that they declare, each as its tree has it
+record Behind {X : Type 0} (P : X → RawGlobal → Type 0) (others all : Globals) (xs : List X) : Type 0 where
   sound : AreSound all
   more : List RawGlobal
   same : tree_globals all ≡ tree_globals others ++ more
-  are : P more
+  are : EachPair P xs more
+
+none_behind : {X : Type 0} (P : X → RawGlobal → Type 0) (others : Globals) → AreSound others → Behind P others others []
+none_behind {X} P others s = record { sound = s; more = []; same = sym (append-nil (tree_globals others)); are = tt }
+
+-- one more is declared before those behind it
+one_behind : {X : Type 0} {P : X → RawGlobal → Type 0} {all : Globals} {x : X} {xs : List X} (others next : Globals) (own : RawGlobal)
+    → tree_globals next ≡ tree_globals others ++ own ∷ [] → P x own → Behind P next all xs → Behind P others all (x ∷ xs)
+one_behind others next own e p r = record {
+  sound = r.sound;
+  more = own ∷ r.more;
+  same = r.same ∙ ap (λ gs. gs ++ r.more) e ∙ append_assoc (tree_globals others) (own ∷ []) r.more;
+  are = (p, r.are);
+}
 
 -- Data blocks
 
 block_placed : (b : DataBlock) → IsFull b → is_variable (raw.Direct area.Db (Some b.number) width.Byte 0 0) ≡ true
 block_placed b f = let small : nat_lt b.number (2 ^ 32)
-    ≡ true = let s : b.number ≤ 65535 = f.small in grind (arith, nat_tests) in rw small refl
+    ≡ true = let s : b.number ≤ 65535 = f.block.small in grind (arith, nat_tests) in rw small refl
 
 -- what it declares
 abbrev block_global : DataBlock → ℕ → RawGlobal
@@ -59,8 +79,7 @@ block_at b line f =
     let w = is_written b f in
     record {
       last = length b.bytes - 1;
-      list = tree_items
-          (items_form b.bytes);
+      list = tree_items (items_form b.bytes);
       named = refl;
       placed = refl;
       typed = refl;
@@ -78,17 +97,16 @@ block_sound : (b : DataBlock) (others : Globals) (line : ℕ) → IsFull b → A
 block_sound b others line f s =
     let w = is_written b f in
     record {
-      fit = (s.fit, refl, block_is_named b.number f.small);
+      fit = (s.fit, refl, block_is_named b.number f.block.small);
       spelled = λ ks q. s.spelled _ (
-        block_is_name b.number f.small,
+        block_is_name b.number f.block.small,
         (
           refl,
           (
             block_placed b f,
             (
               refl,
-              array_spells _ w.last _
-                  (initial_spells (items_form b.bytes) w.spelled _ (refl, q)),
+              array_spells _ w.last _ (initial_spells (items_form b.bytes) w.spelled _ (refl, q)),
             ),
           ),
         ),
@@ -96,21 +114,13 @@ block_sound b others line f s =
     }
 
 blocks_behind : (bs : List DataBlock) (others : Globals) (line : ℕ) → Each IsFull bs → AreSound others
-    → Behind others (blocks_from others line bs).0 (AreBlocksAt bs)
-blocks_behind [] others line h s =
-    record { sound = s; more = []; same = sym (append-nil (tree_globals others)); are = tt }
+    → Behind IsBlockAt others (blocks_from others line bs).0 bs
+blocks_behind [] others line h s = none_behind IsBlockAt others s
 blocks_behind (b ∷ bs) others line h s =
     let next = global others (block_name b.number) (on line) (raw.Direct area.Db (Some b.number) width.Byte 0 0)
     (on line) (bytes (length b.bytes - 1) (items_form b.bytes)) in
-    let r = blocks_behind bs next (line_after line) h.1 (block_sound b others line h.0 s) in
-    let own : RawGlobal = block_global b line in
-    record {
-      sound = r.sound;
-      more = own ∷ r.more;
-      same = r.same
-          ∙ append_assoc (tree_globals others) (own ∷ []) r.more;
-      are = (block_at b line h.0, r.are);
-    }
+    one_behind others next (block_global b line) refl (block_at b line h.0)
+    (blocks_behind bs next (line_after line) h.1 (block_sound b others line h.0 s))
 
 -- Other globals
 
@@ -136,21 +146,13 @@ located_sound : (g : Located) (others : Globals) (line : ℕ) → IsPlain g → 
 located_sound g others line p s = record { fit = (s.fit, refl, p.free); spelled = λ ks q. s.spelled _ (p.name, (refl, (p.placed, (refl, (refl, (refl, q)))))) }
 
 located_behind : (gs : List Located) (others : Globals) (line : ℕ) → Each IsPlain gs → AreSound others
-    → Behind others (located_from others line gs).0 (AreLocatedAt gs)
-located_behind [] others line h s =
-    record { sound = s; more = []; same = sym (append-nil (tree_globals others)); are = tt }
+    → Behind IsLocatedAt others (located_from others line gs).0 gs
+located_behind [] others line h s = none_behind IsLocatedAt others s
 located_behind (g ∷ gs) others line h s =
     let next = global others g.name (on line)
     (raw.Direct (area_form g.place.area) None (width_at g.ty) g.place.byte g.place.bit) (on line) (plain g.ty) in
-    let r = located_behind gs next (line_after line) h.1 (located_sound g others line h.0 s) in
-    let own : RawGlobal = located_global g line in
-    record {
-      sound = r.sound;
-      more = own ∷ r.more;
-      same = r.same
-          ∙ append_assoc (tree_globals others) (own ∷ []) r.more;
-      are = (located_global_at g line h.0, r.are);
-    }
+    one_behind others next (located_global g line) refl (located_global_at g line h.0)
+    (located_behind gs next (line_after line) h.1 (located_sound g others line h.0 s))
 
 -- Both
 

@@ -1,11 +1,10 @@
 -- The key of a name in a tree is the one by which the text's names are compared; and what keys register
 -- variables, data blocks and other names have.
-use Rattle.std.proofs.Common.{◌≡◌, ℕ, ◌-◌, ◌<◌, ◌≤◌, Bool, true, false, not, ◌&&◌, ◌||◌, cond, List, [], ◌∷◌, ◌++◌, map, take, drop, Option, Some, None, refl, sym, ap, ◌∙◌, arith}
-use Rattle.std.specs.Prelude.{codes, decimal, find, nat_le, nat_lt}
+use Rattle.std.proofs.Common.{◌≡◌, ℕ, ◌<◌, ◌≤◌, Bool, true, false, not, ◌&&◌, ◌||◌, cond, List, [], ◌∷◌, ◌++◌, map, take, drop, Option, Some, None, refl, sym, ap, ◌∙◌, arith}
+use Rattle.std.specs.Prelude.{codes, decimal, find}
 use Rattle.std.specs.Char.{to_ascii_lowercase, to_ascii_uppercase}
 use Rattle.std.specs.List.{list_all, list_any}
 use Rattle.std.specs.Str.{bytes_eq, str_to_ascii_lowercase}
-use Rattle.std.proofs.lemmas.Bool.{leb-true, ltb-false}
 use Rattle.std.proofs.lemmas.Bool.Decides.{nat_tests}
 use Rattle.std.proofs.lemmas.List.{drop-map, take-map}
 use Rattle.std.proofs.lemmas.Str.Ascii.{lowercase-uppercase}
@@ -14,7 +13,7 @@ use Rattle.s7_base.specs.Tokens.{is_among, is_same_word}
 use Rattle.s7_base.specs.declared.register.Reg.{Reg}
 use Rattle.st_lexer.proofs.Words.{and_both, not_true}
 use Rattle.st_canonical.proofs.SameNames.{of_same, same_of}
-use Rattle.st_rules.specs.Globals.{number_from, number_in}
+use Rattle.st_rules.specs.Globals.{number_in}
 use Rattle.st_tree.specs.Naming.{is_free, is_next, is_numbered, is_register, is_same, is_unit_number, key_of, may_name_local, may_name_unit, names_block, register_names, without_zeros}
 use Rattle.st_rules.specs.Scopes.{register_named}
 use Rattle.st_tree.specs.Words.{register_word}

@@ -3,7 +3,6 @@ pub mod CaseLabels
 pub mod Chains
 pub mod DeclaredGlobals
 pub mod Expressions
-pub mod GlobalForms
 pub mod Good
 pub mod Invoked
 pub mod Keys

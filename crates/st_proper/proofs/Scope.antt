@@ -1,7 +1,6 @@
 -- What names mean in the text of a proper tree: each position is found under its key.
-use Rattle.std.proofs.Common.{◌≡◌, ℕ, zero, suc, ◌+◌, ◌<◌, ◌≤◌, Bool, true, false, not, ◌||◌, cond, List, [], ◌∷◌, ◌++◌, map, Some, None, refl, sym, ap, subst, ◌∙◌, arith}
+use Rattle.std.proofs.Common.{◌≡◌, ℕ, zero, suc, ◌+◌, ◌<◌, ◌≤◌, Bool, true, false, cond, List, [], ◌∷◌, ◌++◌, map, Some, None, refl, sym, ap, subst, ◌∙◌, arith}
 use Rattle.std.specs.Prelude.{codes, decimal, slice_get}
-use Rattle.std.specs.List.{list_any}
 use Rattle.std.proofs.lemmas.List.{append_assoc}
 use Rattle.memory_areas.specs.Areas.{Ascend, numbers_of}
 use Rattle.memory_areas.specs.declared.data_block.DataBlock.{DataBlock}
@@ -13,7 +12,7 @@ use Rattle.st_canonical.proofs.SameNames.{spelled_name}
 use Rattle.st_rules.specs.Declarations.{meaning_of_unit}
 use Rattle.st_rules.specs.Names.{Table, look_up}
 use Rattle.st_tree.specs.Naming.{is_same, key_of, names_block}
-use Rattle.st_rules.specs.Scopes.{as_register, meaning_in, or_else, register_named}
+use Rattle.st_rules.specs.Scopes.{meaning_in, register_named}
 use Rattle.st_rules.specs.declared.scope.Meaning.{Meaning}
 use Rattle.st_rules.specs.declared.scope.Meaning.TheVariants as meaning
 use Rattle.st_rules.specs.declared.scope.Scope.{Scope}

@@ -13,7 +13,7 @@ use Rattle.st_grammar.specs.Grammar.{AllFit, FormalsFit, HeadFits, IfPresent, Lo
 use Rattle.st_grammar.specs.Levels.{levels_all, levels_locals, levels_section, levels_units}
 use Rattle.st_canonical.specs.Spelled.{is_name, is_spelled}
 use Rattle.st_proper.proofs.BlockForms.{AreWithin, low}
-use Rattle.st_types_laws.proofs.Lists.{Each, each_of}
+use Rattle.st_types_laws.proofs.Lists.{Each, EachPair, each_of}
 use Rattle.st_tree.specs.Proper.{IsFormal, IsLocal, IsProperUnit}
 use Rattle.st_tree.specs.WellTyped.{head_of}
 use Rattle.st_tree.specs.declared.expr.StType.{StType}
@@ -126,10 +126,7 @@ pub record HasForm (text : StProgram) (u : Pou) (v : RawPou) : Type 0 where
   pub same : v.body ≡ tree_all (body_at text u line)
 
 abbrev pub HaveForms : StProgram → List Pou → List RawPou → Type 0
-HaveForms text [] [] = Unit {0}
-HaveForms text [] (v ∷ vs) = ⊥
-HaveForms text (u ∷ us) [] = ⊥
-HaveForms text (u ∷ us) (v ∷ vs) = HasForm text u v × HaveForms text us vs
+HaveForms text = EachPair (HasForm text)
 
 -- what they declare and say
 pub record Declare (text : StProgram) (us : List Pou) (others all : Units) : Type 0 where

@@ -20,7 +20,7 @@ use Rattle.st_lexer.specs.Spelled as text
 use Rattle.st_rules.specs.Variables as rules
 use Rattle.st_tree.proofs.FittingValues.{pattern_below}
 use Rattle.st_tree.specs.PlaceRules.{is_bit_of, is_block_number, is_place}
-use Rattle.st_tree.specs.Values.{fit, number, pattern}
+use Rattle.st_tree.specs.Values.{fit, pattern}
 use Rattle.st_tree.specs.WellTyped.{is_value}
 use Rattle.st_tree.specs.declared.expr.StType.{StType}
 use Rattle.st_tree.specs.declared.expr.StType.TheVariants as type

@@ -1,9 +1,8 @@
 -- A variable that a unit may name, as the canonical text writes it: it means the variable, and tokens can have it.
-use Rattle.std.proofs.Common.{◌≡◌, ℕ, List, Bool, true, false, ◌&&◌, cond, Option, Some, None, Ok, Err, refl, ap, subst, ◌∙◌}
+use Rattle.std.proofs.Common.{◌≡◌, ℕ, List, Bool, true, false, ◌&&◌, Option, Some, None, Ok, refl, ap, subst, ◌∙◌}
 use Rattle.std.specs.Prelude.{slice_get}
 use Rattle.memory_areas.specs.declared.place.AreaName.{AreaName}
 use Rattle.memory_areas.specs.declared.place.AreaName.TheVariants as area
-use Rattle.s7_base.specs.declared.reason.Reason.TheVariants.{BadAddress}
 use Rattle.s7_base.specs.declared.register.Reg.{Reg}
 use Rattle.s7_base.specs.declared.register.Reg.TheVariants as reg
 use Rattle.s7_base.specs.declared.word.Width.{Width}
@@ -13,11 +12,9 @@ use Rattle.st_grammar.specs.Kinds.{word_named, word_text}
 use Rattle.st_lexer.proofs.Words.{and_both}
 use Rattle.st_proper.proofs.Scope.{Means, Sees, sight_by}
 use Rattle.st_proper.proofs.Values.{block_place, placed, plain_place, small_number}
-use Rattle.st_rules.specs.Names.{look_up}
 use Rattle.st_tree.specs.Naming.{key_of}
-use Rattle.st_rules.specs.Scopes.{as_register, or_else, register_named}
-use Rattle.st_rules.specs.Variables as rules
-use Rattle.st_rules.specs.Variables.{variable, variable_named, variable_of}
+use Rattle.st_rules.specs.Scopes.{register_named}
+use Rattle.st_rules.specs.Variables.{variable, variable_named}
 use Rattle.st_rules.specs.declared.scope.Meaning.{Meaning}
 use Rattle.st_rules.specs.declared.scope.Meaning.TheVariants as meaning
 use Rattle.st_rules.specs.declared.scope.Scope.{Scope}

@@ -1,15 +1,15 @@
 -- A proper tree has a canonical form: its declarations and its units together.
-use Rattle.std.proofs.Common.{◌≡◌, ◌≢◌, ℕ, zero, suc, ◌+◌, ◌<◌, ◌≤◌, max, Bool, true, false, cond, List, [], ◌∷◌, ◌++◌, map, length, slice_get, Some, None, refl, sym, ap, subst, ◌∙◌, arith}
+use Rattle.std.proofs.Common.{◌≡◌, ◌≢◌, ℕ, suc, ◌+◌, ◌<◌, ◌≤◌, max, true, false, List, [], ◌∷◌, ◌++◌, map, length, slice_get, Some, refl, sym, ap, subst, ◌∙◌, arith}
 use Rattle.std.specs.Prelude.{All}
 use Rattle.std.specs.List.{flat_map, list_all}
-use Rattle.std.proofs.lemmas.Bool.{le-leb}
+use Rattle.std.proofs.lemmas.Bool.Decides.{nat_tests}
+use Rattle.std.proofs.lemmas.Option.{slice_get_within}
 use Rattle.std.proofs.lemmas.List.Elements.{All-head, All-tail}
 use Rattle.std.proofs.lemmas.List.{length-map}
 use Rattle.memory_areas.specs.Areas.{Ascend, IsSized, numbers_of}
 use Rattle.memory_areas.specs.declared.data_block.DataBlock.{DataBlock}
 use Rattle.memory_areas.specs.declared.place.Area.{Area}
 use Rattle.memory_areas.specs.declared.place.Area.TheVariants as place
-use Rattle.memory_areas.specs.declared.place.AreaName.TheVariants as area
 use Rattle.st_canonical.specs.Canonical.{area_form, globals_from, source_of, units_from}
 use Rattle.st_grammar.specs.Forms.{no_unit}
 use Rattle.st_grammar.specs.Grammar.{raw_tree}
@@ -18,51 +18,46 @@ use Rattle.st_lexer.specs.Spelled.{is_byte}
 use Rattle.st_proper.proofs.BlockForms.{IsFull, low}
 use Rattle.st_types_laws.proofs.Bounds.{bound}
 use Rattle.st_proper.proofs.Chains.{AreBounded, is_chain}
-use Rattle.st_proper.proofs.DeclaredGlobals.{IsSection, is_section}
-use Rattle.st_proper.proofs.GlobalForms.{IsPlain}
+use Rattle.st_proper.proofs.DeclaredGlobals.{IsPlain, IsSection, is_section}
 use Rattle.st_proper.proofs.Good.{GoodAll}
 use Rattle.st_canonical.proofs.Levels.{all_within, greatest, greatest_within, top_all, top_of_all}
 use Rattle.st_types_laws.proofs.Parts.{clean_of, found_of}
-use Rattle.st_types_laws.proofs.Lists.{each_at, each_of, both_true, each_from, mapped_from}
+use Rattle.st_types_laws.proofs.Lists.{each_at, each_from, each_map, each_of, mapped_from, pair_at, there_at}
 use Rattle.st_types_laws.proofs.DeclaredTree.{formals_in, formals_same, same_length, unit_there}
 use Rattle.st_proper.proofs.Scope.{inner_apart, outer_apart, sees, units_proper}
 use Rattle.st_proper.proofs.Statements.{statements_good}
-use Rattle.st_proper.proofs.UnitForms.{AreUnits, DeclareAll, HasBody, HasForm, HaveForms, all_declare, body_at, units_are}
+use Rattle.st_proper.proofs.UnitForms.{AreUnits, DeclareAll, HasBody, HasForm, all_declare, body_at, units_are}
 use Rattle.st_proper.proofs.Values.{placed, plain_place}
 use Rattle.st_canonical.proofs.SameNames.{spelled_name}
 use Rattle.st_proper.specs.CanonicalForms.{HasCanonicalForm, ProperHasForm}
 use Rattle.s7_base.specs.Broken.{first_of_all}
 use Rattle.st_rules.specs.Judged.{breaks_in, found_in}
 use Rattle.st_rules.specs.Calls.{all_calls}
-use Rattle.st_rules.specs.Declarations.{all_outside, formals_of, local_of, locals_of}
+use Rattle.st_rules.specs.Declarations.{all_outside, formals_of}
 use Rattle.st_rules.specs.Globals.{all_blocks, all_global_breaks, all_located}
 use Rattle.st_rules.specs.Statements.{statements}
 use Rattle.st_tree.specs.TypeRules.{has_width}
 use Rattle.st_rules.specs.Typed.{IsChain, breaks_of, calls_in, names_of, tree_of}
 use Rattle.st_rules.specs.Units.{all_unit_breaks, all_units, breaks_of_unit, calls_of_unit, scope_in, unit_of}
-use Rattle.st_rules.specs.Variables as rules
 use Rattle.st_rules.specs.declared.scope.Scope.{Scope}
 use Rattle.st_tree.proofs.CalledMost.{called_most}
 use Rattle.st_tree.proofs.Induction.{Each}
 use Rattle.st_tree.proofs.TypesAgree.{types_agree}
-use Rattle.st_tree.specs.PlaceRules.{is_located}
 use Rattle.st_tree.specs.Proper.{IsDataBlock, IsGlobal, IsProperUnit, Proper}
 use Rattle.st_tree.specs.Spelling.{names_in}
 use Rattle.st_tree.specs.Values.{width_at}
 use Rattle.st_tree.specs.WellTyped.{head_of}
 use Rattle.st_tree.specs.declared.expr.StType.{StType}
 use Rattle.st_tree.specs.declared.expr.StType.TheVariants as type
-use Rattle.st_tree.specs.declared.program.Local.{Local}
 use Rattle.st_tree.specs.declared.program.Located.{Located}
 use Rattle.st_tree.specs.declared.program.Pou.{Pou}
-use Rattle.st_tree.specs.declared.program.Stmt.{Stmt}
 use Rattle.st_tree.specs.declared.program.StProgram.{StProgram}
-use Rattle.st_tree.specs.declared.raw.RawLocal.{RawLocal}
 use Rattle.st_tree.specs.declared.raw.RawPou.{RawPou}
 use Rattle.st_tree.specs.declared.raw.RawSt.{RawSt}
-use Rattle.st_types_laws.proofs.DeclaredNames.{AreNumbered, ArePlaced, IsPlaced, outer_entries}
+use Rattle.st_types_laws.proofs.DeclaredNames.{IsPlaced, locals_again, outer_entries}
+use Rattle.st_types_laws.proofs.BlockSizes.{IsBlock}
 use Rattle.st_types_laws.proofs.PlainTexts.{IsPlainText, inside_again, plain_text}
-use Rattle.st_types_laws.proofs.Redeclared.{AreLocalsAt, IsUnitAt}
+use Rattle.st_types_laws.proofs.Redeclared.{IsUnitAt}
 
 -- Data blocks
 
@@ -70,28 +65,17 @@ all_bytes : (bs : List ℕ) → All (λ b. b < 256) bs → list_all is_byte bs �
 all_bytes [] h = refl
 all_bytes (b ∷ bs) h =
     let less : b < 256 = All-head (λ b. b < 256) b bs h in
-    rw (le-leb b 255 (omega (arith, less)), all_bytes bs (All-tail (λ b. b < 256) b bs h)) refl
+    grind (arith, nat_tests, all_bytes bs (All-tail (λ b. b < 256) b bs h))
 
 are_full : (least : ℕ) (bs : List DataBlock) → 1 ≤ least → Ascend least (numbers_of bs) → Each IsDataBlock bs
     → Each IsSized bs → Each IsFull bs
 are_full least [] some a d s = tt
 are_full least (b ∷ bs) some a d s = (
   record {
-    some = omega (arith, some, a.0);
-    small = d.0.number;
-    least = s.0.0;
-    most = s.0.1;
+    block = record { number = refl; some = omega (arith, a.0); small = d.0.number; sized = s.0 };
     bytes = all_bytes b.bytes d.0.bytes;
   },
   are_full (b.number + 1) bs (omega arith) a.1 d.1 s.1,
-)
-
-are_numbered : (least : ℕ) (bs : List DataBlock) → 1 ≤ least → Ascend least (numbers_of bs) → Each IsDataBlock bs
-    → Each IsSized bs → AreNumbered bs
-are_numbered least [] some a d s = tt
-are_numbered least (b ∷ bs) some a d s = (
-  record { number = refl; some = omega (arith, some, a.0); small = d.0.number; sized = s.0 },
-  are_numbered (b.number + 1) bs (omega arith) a.1 d.1 s.1,
 )
 
 -- Globals
@@ -103,68 +87,29 @@ wide ty h = refl
 abbrev global_at : List ℕ → StType → Area → ℕ → ℕ → Located
 global_at name ty a byte bit = record { name = name; place = record { area = a; byte = byte; bit = bit }; ty = ty }
 
-on_area : (name : List ℕ) (ty : StType) (byte bit : ℕ) (a : Area) → is_located a (width_at ty) byte bit ≡ true
-    → ty ≢ type.Lint → IsPlaced (global_at name ty a byte bit)
-on_area name ty byte bit (place.Db n) h t = absurd cc
-on_area name ty byte bit (place.Local d) h t = absurd cc
-on_area name ty byte bit (place.Cell d) h t = absurd cc
-on_area name ty byte bit a h t =
-    let p = placed (area_form a) (width_at ty) byte bit h in
-    record {
-      address = p.rules;
-      fits = wide ty t;
-      found = ap (λ b. cond b (Some (global_at name ty a byte bit)) None)
-          (both_true (rules.is_place (area_form a) (width_at ty) byte bit) (has_width ty (width_at ty)) p.rules (wide ty t));
-    }
-
-are_placed : (gs : List Located) → Each IsGlobal gs → ArePlaced gs
-are_placed [] h = tt
-are_placed (g ∷ gs) h = (
-  on_area g.name g.ty g.place.byte g.place.bit g.place.area h.0.place h.0.type,
-  are_placed gs h.1,
-)
-
-is_plain : (name : List ℕ) (ty : StType) (byte bit : ℕ) (a : Area) → IsGlobal (global_at name ty a byte bit)
-    → is_located a (width_at ty) byte bit ≡ true → IsPlain (global_at name ty a byte bit)
-is_plain name ty byte bit place.I g h =
-    record {
-      name = spelled_name name g.name;
-      free = g.free;
-      placed = plain_place area.I (width_at ty) byte bit
-          (placed area.I (width_at ty) byte bit h);
-      known = refl;
-    }
-is_plain name ty byte bit place.Q g h =
-    record {
-      name = spelled_name name g.name;
-      free = g.free;
-      placed = plain_place area.Q (width_at ty) byte bit
-          (placed area.Q (width_at ty) byte bit h);
-      known = refl;
-    }
-is_plain name ty byte bit place.M g h =
-    record {
-      name = spelled_name name g.name;
-      free = g.free;
-      placed = plain_place area.M (width_at ty) byte bit
-          (placed area.M (width_at ty) byte bit h);
-      known = refl;
-    }
-is_plain name ty byte bit (place.Db n) g h = absurd cc
-is_plain name ty byte bit other g h = absurd cc
-
-are_plain : (gs : List Located) → Each IsGlobal gs → Each IsPlain gs
-are_plain [] h = tt
-are_plain (g ∷ gs) h = (is_plain g.name g.ty g.place.byte g.place.bit g.place.area h.0 h.0.place, are_plain gs h.1)
+-- a global's place is one that it may have, and tokens can have it
+global_good : (name : List ℕ) (ty : StType) (byte bit : ℕ) (a : Area) → IsGlobal (global_at name ty a byte bit)
+    → IsPlaced (global_at name ty a byte bit) × IsPlain (global_at name ty a byte bit)
+global_good name ty byte bit (place.Db n) g = absurd (cc g.place)
+global_good name ty byte bit (place.Local d) g = absurd (cc g.place)
+global_good name ty byte bit (place.Cell d) g = absurd (cc g.place)
+global_good name ty byte bit a g =
+    let p = placed (area_form a) (width_at ty) byte bit g.place in
+    let w = wide ty g.type in (
+      record { address = p.rules; fits = w; found = rw (p.rules, w) refl },
+      record {
+        name = spelled_name name g.name;
+        free = g.free;
+        placed = plain_place (area_form a) (width_at ty) byte bit p;
+        known = refl;
+      },
+    )
 
 -- Lists
 
 fellow : {X Y : Type 0} (xs : List X) (ys : List Y) (n : ℕ) (x : X) → length xs ≡ length ys → slice_get xs n ≡ Some x
     → (y : Y) × (slice_get ys n ≡ Some y)
-fellow [] ys n x size h = absurd cc
-fellow (a ∷ xs) [] n x size h = absurd (omega (arith, size))
-fellow (a ∷ xs) (b ∷ ys) zero x size h = (b, refl)
-fellow (a ∷ xs) (b ∷ ys) (suc n) x size h = fellow xs ys n x (omega (arith, size)) h
+fellow xs ys n x size h = there_at ys n (omega (arith, slice_get_within xs n x h))
 
 each_is : {X Y : Type 0} (f : X → Y) (xs : List X) (ys : List Y) → length xs ≡ length ys
     → ((n : ℕ) (x : X) (y : Y) → slice_get xs n ≡ Some x → slice_get ys n ≡ Some y → f x ≡ y)
@@ -172,61 +117,23 @@ each_is : {X Y : Type 0} (f : X → Y) (xs : List X) (ys : List Y) → length xs
 each_is f [] [] size h = refl
 each_is f [] (y ∷ ys) size h = absurd (omega (arith, size))
 each_is f (x ∷ xs) [] size h = absurd (omega (arith, size))
-each_is f (x ∷ xs) (y ∷ ys) size h = ap (λ z. z ∷ map f xs) (h 0 x y refl refl)
-    ∙ ap (λ zs. y ∷ zs) (each_is f xs ys (omega (arith, size)) (λ n a b p q. h (suc n) a b p q))
+each_is f (x ∷ xs) (y ∷ ys) size h =
+    rw (h 0 x y refl refl, each_is f xs ys (omega arith) (λ n a b p q. h (suc n) a b p q)) refl
 
 all_nil : {X Y : Type 0} (f : X → List Y) (xs : List X) → ((n : ℕ) (x : X) → slice_get xs n ≡ Some x → f x ≡ [])
     → flat_map f xs ≡ []
 all_nil f [] h = refl
-all_nil f (x ∷ xs) h = ap (λ l. l ++ flat_map f xs) (h 0 x refl) ∙ all_nil f xs (λ n a p. h (suc n) a p)
-
-locals_again : (ls : List Local) (rs : List RawLocal) → AreLocalsAt ls rs → locals_of rs ≡ ls
-locals_again [] [] a = refl
-locals_again [] (r ∷ rs) a = absurd a
-locals_again (l ∷ ls) [] a = absurd a
-locals_again (l ∷ ls) (r ∷ rs) a =
-    let one : local_of r ≡ l = ap (λ name. record { name = name; ty = r.ty }) a.0.named
-    ∙ ap (λ ty. record { name = l.name; ty = ty }) a.0.typed in
-    ap (λ x. x ∷ locals_of rs) one ∙ ap (λ xs. l ∷ xs) (locals_again ls rs a.1)
-
-form_there : (text : StProgram) (us : List Pou) (vs : List RawPou) → HaveForms text us vs
-    → (n : ℕ) (u : Pou) (v : RawPou) → slice_get us n ≡ Some u → slice_get vs n ≡ Some v
-    → HasForm text u v
-form_there text [] vs h n u v q s = absurd cc
-form_there text (a ∷ us) [] h n u v q s = absurd h
-form_there text (a ∷ us) (b ∷ vs) h zero u v q s =
-    let one : a ≡ u = cc in
-    let two : b ≡ v = cc in
-    subst (λ w. HasForm text u w) two (subst (λ w. HasForm text w b) one h.0)
-form_there text (a ∷ us) (b ∷ vs) h (suc n) u v q s = form_there text us vs h.1 n u v q s
-
-abbrev unit_with : Bool → List ℕ → List Local → List Local → List Stmt → Pou
-unit_with program name formals locals body =
-    record { program = program; name = name; formals = formals; locals = locals; body = body }
-
-same_unit : (a b : Bool) (m n : List ℕ) (f g k l : List Local) (x y : List Stmt) → a ≡ b → m ≡ n → f ≡ g → k ≡ l
-    → x ≡ y → unit_with a m f k x ≡ unit_with b n g l y
-same_unit a b m n f g k l x y p q r s t = cc
+all_nil f (x ∷ xs) h = rw (h 0 x refl) (all_nil f xs (λ n a p. h (suc n) a p))
 
 unit_again : (raw : RawSt) (p : Pou) (v : RawPou) → IsUnitAt p v
     → found_in (statements (scope_in (names_of raw) (map formals_of raw.pous) v) v.body) ≡ p.body
     → unit_of (names_of raw) (map formals_of raw.pous) v ≡ p
 unit_again raw p v at body =
-    same_unit v.program p.program v.name p.name (locals_of v.formals) p.formals (locals_of v.locals) p.locals
-    (found_in (statements (scope_in (names_of raw) (map formals_of raw.pous) v) v.body)) p.body at.program at.named
-    (locals_again p.formals v.formals at.formals) (locals_again p.locals v.locals at.locals) body
-
-abbrev tree_with : List DataBlock → List Located → List Pou → StProgram
-tree_with dbs globals pous = record { dbs = dbs; globals = globals; pous = pous }
-
-same_tree : (a b : List DataBlock) (f g : List Located) (x y : List Pou) → a ≡ b → f ≡ g → x ≡ y
-    → tree_with a f x ≡ tree_with b g y
-same_tree a b f g x y p q r = cc
+    rw (body, at.program, at.named, locals_again p.formals v.formals at.formals, locals_again p.locals v.locals at.locals) refl
 
 some_units : (vs : List RawPou) (ps : List Pou) → length vs ≡ length ps → ps ≢ [] → vs ≢ []
-some_units [] [] size some e = some refl
-some_units [] (p ∷ ps) size some e = omega (arith, size)
-some_units (v ∷ vs) ps size some e = let none : length (v ∷ vs) ≡ 0 = ap length e in omega (arith, none)
+some_units vs [] size some e = some refl
+some_units vs (p ∷ ps) size some e = let none : length vs ≡ 0 = ap length e in omega arith
 
 -- A tree
 
@@ -237,18 +144,18 @@ module _ (t : StProgram) (p : Proper t) where
   abbrev scope_of : RawPou → Scope
   scope_of v = scope_in (names_of raw) (map formals_of raw.pous) v
 
-  blocks : Each IsDataBlock t.dbs
-  blocks = each_of IsDataBlock t.dbs p.bytes
-
-  sized : Each IsSized t.dbs
-  sized = each_of IsSized t.dbs p.blocks.sized
-
   globals : Each IsGlobal t.globals
   globals = each_of IsGlobal t.globals p.globals
 
+  full : Each IsFull t.dbs
+  full = are_full 1 t.dbs (omega arith) p.blocks.ascend (each_of IsDataBlock t.dbs p.bytes)
+      (each_of IsSized t.dbs p.blocks.sized)
+
+  good : (g : Located) → IsGlobal g → IsPlaced g × IsPlain g
+  good g = global_good g.name g.ty g.place.byte g.place.bit g.place.area
+
   section : IsSection t.dbs t.globals (globals_from 1 t.dbs t.globals).0
-  section = is_section t.dbs t.globals 1 (are_full 1 t.dbs (omega arith) p.blocks.ascend blocks sized)
-      (are_plain t.globals globals)
+  section = is_section t.dbs t.globals 1 full (each_map IsGlobal IsPlain t.globals (λ g h. (good g h).1) globals)
 
   declare : DeclareAll t t.pous raw.pous
   declare = all_declare t t.pous (globals_from 1 t.dbs t.globals).1 (units_proper t p)
@@ -256,8 +163,8 @@ module _ (t : StProgram) (p : Proper t) where
   plain : IsPlainText t.dbs t.globals t.pous (section.blocks ++ section.others) raw.pous
   plain =
       plain_text t.dbs t.globals t.pous section.blocks section.others raw.pous section.are_blocks section.are_located declare.are
-      (are_numbered 1 t.dbs (omega arith) p.blocks.ascend blocks sized)
-      (are_placed t.globals globals) p.blocks.ascend p.blocks.few (outer_apart t p)
+      (each_map IsFull (λ (b : DataBlock). IsBlock b.number b) t.dbs (λ b f. f.block) full)
+      (each_map IsGlobal IsPlaced t.globals (λ g h. (good g h).0) globals) p.blocks.ascend p.blocks.few (outer_apart t p)
 
   outer : names_of raw ≡ outer_entries t
   outer = ap (λ gs. (all_outside gs raw.pous).names) section.globals ∙ plain.names
@@ -302,7 +209,7 @@ module _ (t : StProgram) (p : Proper t) where
       → (breaks_in (statements (scope_of v) v.body) ≡ []) × (found_in (statements (scope_of v) v.body) ≡ u.body)
       × ((f : ℕ → ℕ) → bound f (all_calls (scope_of v) v.body) ≤ called_most f u.body)
   said n u v q d =
-      let form = form_there t t.pous raw.pous declare.forms n u v q d in
+      let form = pair_at (HasForm t) t.pous raw.pous declare.forms n u v q d in
       let g = body n u v q d form.line in (
         ap (λ b. breaks_in (statements (scope_of v) b)) form.same ∙ clean_of _ _ g.means,
         ap (λ b. found_in (statements (scope_of v) b)) form.same ∙ found_of _ _ g.means,
@@ -334,10 +241,7 @@ module _ (t : StProgram) (p : Proper t) where
       (λ n v u d q. unit_again raw u v (unit_there t.pous raw.pous declare.are n u v q d) (said n u v q d).1)
 
   same : t ≡ tree_of raw
-  same =
-      same_tree t.dbs (all_blocks raw.globals) t.globals (all_located raw.globals) t.pous
-      (all_units (names_of raw) (map formals_of raw.pous) raw.pous) (sym (ap all_blocks section.globals ∙ plain.blocks))
-      (sym (ap all_located section.globals ∙ plain.located)) (sym all_again)
+  same = sym (rw (ap all_blocks section.globals ∙ plain.blocks, ap all_located section.globals ∙ plain.located, all_again) refl)
 
   bounded : AreBounded t (calls_in raw)
   bounded i calls unit e q f =

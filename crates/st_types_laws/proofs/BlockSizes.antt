@@ -14,7 +14,7 @@ use Rattle.st_rules.specs.Globals.{block_at, block_number, block_of, contents, f
 use Rattle.st_tree.specs.PlaceRules.{is_block_number}
 
 -- runs have as many bytes as their counts say
-runs_size : (runs : List (ℕ × ℕ)) → length (flat_map (λ (r : ℕ × ℕ). replicate r.0 r.1) runs) ≡ total runs
+pub runs_size : (runs : List (ℕ × ℕ)) → length (flat_map (λ (r : ℕ × ℕ). replicate r.0 r.1) runs) ≡ total runs
 runs_size [] = refl
 runs_size (r ∷ runs) =
     ap length (flat_map-cons (λ (r : ℕ × ℕ). replicate r.0 r.1) r runs) ∙ length-append (replicate r.0 r.1) (flat_map (λ (r : ℕ × ℕ). replicate r.0 r.1) runs)

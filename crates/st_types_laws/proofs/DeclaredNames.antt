@@ -1,5 +1,5 @@
 -- What names mean by the declarations of a tree, and that they mean the same in a text that has the tree.
-use Rattle.std.proofs.Common.{◌≡◌, ◌+◌, ℕ, Bool, true, false, not, cond, ◌&&◌, nat_lt, List, [], ◌∷◌, ◌++◌, length, Option, Some, None, is_some, refl, sym, ap, subst, ◌∙◌, arith, length-append, ◌≤◌, ◌<◌}
+use Rattle.std.proofs.Common.{map, ◌≡◌, ◌+◌, ℕ, Bool, true, false, not, cond, ◌&&◌, nat_lt, List, [], ◌∷◌, ◌++◌, length, Option, Some, None, is_some, refl, sym, ap, subst, ◌∙◌, arith, length-append, ◌≤◌, ◌<◌}
 use Rattle.std.specs.Prelude.{codes, decimal}
 use Rattle.std.specs.List.{fold}
 use Rattle.std.proofs.lemmas.List.{append-nil, append_assoc}
@@ -28,8 +28,9 @@ use Rattle.st_tree.specs.declared.raw.RawPou.{RawPou}
 use Rattle.st_tree.specs.declared.raw.RawVar.{RawVar}
 use Rattle.st_tree.specs.declared.raw.RawVar.TheVariants as var
 use Rattle.s7_base.specs.Broken.{broken}
+use Rattle.s7_base.specs.declared.broken.Break.{Break}
 use Rattle.st_rules.specs.Judged.{listed, twice}
-use Rattle.st_rules.specs.Declarations.{all_inside, meaning_of_unit, no_inside, one_if, one_too_many, with_formal, with_global, with_local, with_unit}
+use Rattle.st_rules.specs.Declarations.{all_inside, local_of, locals_of, meaning_of_unit, no_inside, one_if, one_too_many, with_formal, with_global, with_local, with_unit}
 use Rattle.st_rules.specs.Globals.{all_global_breaks, all_located, area_of, block_at, block_breaks, block_number, block_of, contents, fits_type, global_breaks, has_address, has_block_address, has_block_form, inserted, is_small_enough, located_at, located_in, located_of, unless, with_block}
 use Rattle.memory_areas.specs.Areas.{Ascend, numbers_of}
 use Rattle.std.proofs.lemmas.Bool.{ltb-false, ltb-true}
@@ -42,10 +43,10 @@ use Rattle.st_rules.specs.declared.declaration.Inside.{Inside}
 use Rattle.st_rules.specs.declared.declaration.Outside.{Outside}
 use Rattle.st_rules.specs.declared.scope.Meaning.{Meaning}
 use Rattle.st_rules.specs.declared.scope.Meaning.TheVariants as meaning
-use Rattle.st_types_laws.proofs.Apart.{Lists, declared_between, declared_last, not_twice}
+use Rattle.st_types_laws.proofs.Apart.{AreApart, Lists, declared_between, declared_last, declares_new, not_twice}
 use Rattle.std.proofs.lemmas.Bool.{and_parts}
 use Rattle.st_types_laws.proofs.BlockSizes.{IsBlock, is_block}
-use Rattle.st_types_laws.proofs.Lists.{both_true, nil_first, nil_second}
+use Rattle.st_types_laws.proofs.Lists.{Each, both_true, each_append, nil_first, nil_second}
 use Rattle.st_types_laws.proofs.PlainNumbers.{key_by_number}
 use Rattle.st_types_laws.proofs.Redeclared.{AreLocalsAt, AreUnitsAt, location_of, name_of_area}
 
@@ -100,8 +101,7 @@ located_last i (x ∷ ls) l =
 
 -- each data block has a number and a size that one may have
 abbrev pub AreNumbered : List DataBlock → Type 0
-AreNumbered [] = Unit {0}
-AreNumbered (b ∷ bs) = IsBlock b.number b × AreNumbered bs
+AreNumbered = Each (λ (b : DataBlock). IsBlock b.number b)
 
 -- a global's own location is one that it may have
 pub record IsPlaced (l : Located) : Type 0 where
@@ -110,12 +110,7 @@ pub record IsPlaced (l : Located) : Type 0 where
   pub found : located_at l.name l.ty (location_of l) ≡ Some l
 
 abbrev pub ArePlaced : List Located → Type 0
-ArePlaced [] = Unit {0}
-ArePlaced (l ∷ ls) = IsPlaced l × ArePlaced ls
-
-placed_also : (ls : List Located) (l : Located) → ArePlaced ls → IsPlaced l → ArePlaced (ls ++ l ∷ [])
-placed_also [] l h p = (p, tt)
-placed_also (x ∷ ls) l h p = (h.0, placed_also ls l h.1 p)
+ArePlaced = Each IsPlaced
 
 numbered_also : (b : DataBlock) (bs : List DataBlock) → IsBlock b.number b → AreNumbered bs → AreNumbered (inserted b bs)
 numbered_also b [] i h = (i, tt)
@@ -251,10 +246,6 @@ before_globals : (gs : List RawGlobal) (d : Outside) → (fold with_global d gs)
 before_globals [] d e = e
 before_globals (g ∷ gs) d e = nil_first d.breaks _ (before_globals gs (with_global d g) e)
 
-pub before_units : (us : List RawPou) (d : Outside) → (fold with_unit d us).breaks ≡ [] → d.breaks ≡ []
-before_units [] d e = e
-before_units (u ∷ us) d e = nil_first d.breaks _ (before_units us (with_unit d u) e)
-
 -- what is known of the globals so far, and of the data blocks and other globals that they are in the tree
 pub record Gathered (d : Outside) (bs : List DataBlock) (ls : List Located) : Type 0 where
   pub names : Lists d.names (block_entries bs ++ located_entries 0 ls)
@@ -299,7 +290,7 @@ module _ (d : Outside) (bs : List DataBlock) (ls : List Located) (name : List �
         numbered = so.numbered;
         ascend = so.ascend;
         few = so.few;
-        placed = placed_also ls p.located so.placed p.placed;
+        placed = each_append IsPlaced ls (p.located ∷ []) so.placed (p.placed, tt);
       } in
       subst (λ o. Gathered (with_global d (declaration (type.Plain ty))) bs (ls ++ listed o)) (sym p.found) done
 
@@ -367,68 +358,86 @@ gather (g ∷ gs) d bs ls so e none =
     subst (Gathered (fold with_global (with_global d g) gs) (fold (λ blocks (h : RawGlobal). with_block (block_of h.ty h.name h.at) blocks) blocks gs))
     (append_assoc ls here (all_located gs)) more
 
+-- What is declared one after another, each under its key
+
+module _ {D R X : Type 0} (with_one : D → R → D) (breaks : D → List Break) (names : D → Table Meaning) (count : D → ℕ)
+    (line : R → Line) (made : R → X) (key : X → List ℕ) (mean : ℕ → X → Meaning)
+    (noted : (d : D) (r : R) → breaks (with_one d r) ≡ breaks d ++ twice (line r) (look_up (key (made r)) (names d)))
+    (named : (d : D) (r : R) → names (with_one d r) ≡ with_entry (key (made r)) (mean (count d) (made r)) (names d))
+    (counted : (d : D) (r : R) → count (with_one d r) ≡ count d + 1) where
+  abbrev entries_of : D → List R → Table Meaning
+  entries_of d rs = entries key mean (count d) (map made rs)
+
+  -- where nothing is broken at the end, nothing was before
+  pub unbroken : (rs : List R) (d : D) → breaks (fold with_one d rs) ≡ [] → breaks d ≡ []
+  unbroken [] d e = e
+  unbroken (r ∷ rs) d e = nil_first (breaks d) _ (sym (noted d r) ∙ unbroken rs (with_one d r) e)
+
+  -- where nothing is broken, each has its entry
+  pub all_listed : (rs : List R) (d : D) (es : Table Meaning) → Lists (names d) es → breaks (fold with_one d rs) ≡ []
+      → Lists (names (fold with_one d rs)) (es ++ entries_of d rs)
+  all_listed [] d es l e = rw (append-nil es) l
+  all_listed (r ∷ rs) d es l e =
+      let entry : List ℕ × Meaning = (key (made r), mean (count d) (made r)) in
+      let once = nil_second (breaks d) _ (sym (noted d r) ∙ unbroken rs (with_one d r) e) in
+      let one = declared_last (line r) entry.0 entry.1 (names d) es l once in
+      subst (Lists (names (fold with_one (with_one d r) rs)))
+      (append_assoc es (entry ∷ []) (entries_of (with_one d r) rs)
+      ∙ ap (λ n. es ++ entry ∷ entries key mean n (map made rs)) (counted d r))
+      (all_listed rs (with_one d r) (es ++ entry ∷ []) (rw (named d r) one) e)
+
+  -- where no key stands twice, nothing is broken, and the entries go after those before them
+  pub all_new : (rs : List R) (d : D) (more : Table Meaning) → breaks d ≡ [] → AreApart (names d ++ (entries_of d rs ++ more))
+      → (breaks (fold with_one d rs) ≡ []) × (names (fold with_one d rs) ++ more ≡ names d ++ (entries_of d rs ++ more))
+  all_new [] d more sound apart = (sound, refl)
+  all_new (r ∷ rs) d more sound apart =
+      let behind = entries key mean (count d + 1) (map made rs) ++ more in
+      let new = declares_new (line r) (key (made r)) (mean (count d) (made r)) (names d) behind apart in
+      let rest = all_new rs (with_one d r) more (rw (noted d r, sound, new.once) refl) (rw (named d r, counted d r) new.apart) in
+      (rest.0, rest.1 ∙ rw (named d r, counted d r) new.order)
+
 -- Units
+
+-- a unit with what a text declares of it
+abbrev pub unit_made : RawPou → Pou
+unit_made u = record { program = u.program; name = u.name; formals = locals_of u.formals; locals = locals_of u.locals; body = [] }
+
+pub units_named : (i : ℕ) (ps : List Pou) (us : List RawPou) → AreUnitsAt ps us → unit_entries i (map unit_made us) ≡ unit_entries i ps
+units_named i [] [] a = refl
+units_named i (p ∷ ps) (u ∷ us) a = rw (a.0.named, a.0.program, units_named (i + 1) ps us a.1) refl
+units_named i ps us a = absurd a
+
+pub before_units : (us : List RawPou) (d : Outside) → (fold with_unit d us).breaks ≡ [] → d.breaks ≡ []
+before_units = unbroken with_unit (λ d. d.breaks) (λ d. d.names) (λ d. d.units) (λ u. u.line) unit_made (λ p. key_of p.name)
+    (λ i p. meaning_of_unit i p.program) (λ d u. refl) (λ d u. refl) (λ d u. refl)
 
 pub gather_units : (ps : List Pou) (us : List RawPou) → AreUnitsAt ps us → (d : Outside) (es : Table Meaning) → Lists d.names es → (fold with_unit d us).breaks ≡ []
     → Lists (fold with_unit d us).names (es ++ unit_entries d.units ps)
-gather_units [] [] a d es l e = subst (Lists d.names) (sym (append-nil es)) l
-gather_units (p ∷ ps) (u ∷ us) a d es l e =
-    let once : twice u.line (look_up (key_of u.name) d.names) ≡ [] = nil_second d.breaks _ (before_units us (with_unit d u) e) in
-    let one = declared_last u.line (key_of u.name) (meaning_of_unit d.units u.program) d.names es l once in
-    let more = gather_units ps us a.1 (with_unit d u) (es ++ (key_of u.name, meaning_of_unit d.units u.program) ∷ []) one e in
-    let order : (es ++ (key_of u.name, meaning_of_unit d.units u.program) ∷ []) ++ unit_entries (d.units + 1) ps ≡ es ++ unit_entries d.units (p ∷ ps) =
-    append_assoc es ((key_of u.name, meaning_of_unit d.units u.program) ∷ []) (unit_entries (d.units + 1) ps)
-    ∙ ap (λ name. es ++ (key_of name, meaning_of_unit d.units u.program) ∷ unit_entries (d.units + 1) ps) a.0.named
-    ∙ ap (λ program. es ++ (key_of p.name, meaning_of_unit d.units program) ∷ unit_entries (d.units + 1) ps) a.0.program in
-    subst (Lists (fold with_unit (with_unit d u) us).names) order more
-gather_units ps us a d es l e = absurd a
+gather_units ps us a d es l e = subst (λ own. Lists (fold with_unit d us).names (es ++ own)) (units_named d.units ps us a)
+    (all_listed with_unit (λ d. d.breaks) (λ d. d.names) (λ d. d.units) (λ u. u.line) unit_made (λ p. key_of p.name)
+    (λ i p. meaning_of_unit i p.program) (λ d u. refl) (λ d u. refl) (λ d u. refl) us d es l e)
 
 -- Formals and locals
 
-before_formals : (rs : List RawLocal) (d : Inside) → (fold with_formal d rs).breaks ≡ [] → d.breaks ≡ []
-before_formals [] d e = e
-before_formals (r ∷ rs) d e = nil_first d.breaks _ (before_formals rs (with_formal d r) e)
+pub locals_again : (ls : List Local) (rs : List RawLocal) → AreLocalsAt ls rs → locals_of rs ≡ ls
+locals_again [] [] a = refl
+locals_again (l ∷ ls) (r ∷ rs) a = rw (a.0.named, a.0.typed, locals_again ls rs a.1) refl
+locals_again ls rs a = absurd a
 
-before_locals : (rs : List RawLocal) (d : Inside) → (fold with_local d rs).breaks ≡ [] → d.breaks ≡ []
-before_locals [] d e = e
-before_locals (r ∷ rs) d e = nil_first d.breaks _ (before_locals rs (with_local d r) e)
-
-gather_formals : (ls : List Local) (rs : List RawLocal) → AreLocalsAt ls rs → (d : Inside) (es : Table Meaning) → Lists d.names es → (fold with_formal d rs).breaks ≡ []
-    → Lists (fold with_formal d rs).names (es ++ formal_entries d.formals ls)
-gather_formals [] [] a d es l e = subst (Lists d.names) (sym (append-nil es)) l
-gather_formals (x ∷ ls) (r ∷ rs) a d es l e =
-    let once : twice r.line (look_up (key_of r.name) d.names) ≡ [] = nil_second d.breaks _ (before_formals rs (with_formal d r) e) in
-    let one = declared_last r.line (key_of r.name) (meaning.Formal d.formals r.ty) d.names es l once in
-    let more = gather_formals ls rs a.1 (with_formal d r) (es ++ (key_of r.name, meaning.Formal d.formals r.ty) ∷ []) one e in
-    let order : (es ++ (key_of r.name, meaning.Formal d.formals r.ty) ∷ []) ++ formal_entries (d.formals + 1) ls ≡ es ++ formal_entries d.formals (x ∷ ls) =
-    append_assoc es ((key_of r.name, meaning.Formal d.formals r.ty) ∷ []) (formal_entries (d.formals + 1) ls)
-    ∙ ap (λ name. es ++ (key_of name, meaning.Formal d.formals r.ty) ∷ formal_entries (d.formals + 1) ls) a.0.named
-    ∙ ap (λ ty. es ++ (key_of x.name, meaning.Formal d.formals ty) ∷ formal_entries (d.formals + 1) ls) a.0.typed in
-    subst (Lists (fold with_formal (with_formal d r) rs).names) order more
-gather_formals ls rs a d es l e = absurd a
-
-gather_locals : (ls : List Local) (rs : List RawLocal) → AreLocalsAt ls rs → (d : Inside) (es : Table Meaning) → Lists d.names es → (fold with_local d rs).breaks ≡ []
-    → Lists (fold with_local d rs).names (es ++ local_entries d.locals ls)
-gather_locals [] [] a d es l e = subst (Lists d.names) (sym (append-nil es)) l
-gather_locals (x ∷ ls) (r ∷ rs) a d es l e =
-    let once : twice r.line (look_up (key_of r.name) d.names) ≡ [] = nil_second d.breaks _ (before_locals rs (with_local d r) e) in
-    let one = declared_last r.line (key_of r.name) (meaning.Local d.locals r.ty) d.names es l once in
-    let more = gather_locals ls rs a.1 (with_local d r) (es ++ (key_of r.name, meaning.Local d.locals r.ty) ∷ []) one e in
-    let order : (es ++ (key_of r.name, meaning.Local d.locals r.ty) ∷ []) ++ local_entries (d.locals + 1) ls ≡ es ++ local_entries d.locals (x ∷ ls) =
-    append_assoc es ((key_of r.name, meaning.Local d.locals r.ty) ∷ []) (local_entries (d.locals + 1) ls)
-    ∙ ap (λ name. es ++ (key_of name, meaning.Local d.locals r.ty) ∷ local_entries (d.locals + 1) ls) a.0.named
-    ∙ ap (λ ty. es ++ (key_of x.name, meaning.Local d.locals ty) ∷ local_entries (d.locals + 1) ls) a.0.typed in
-    subst (Lists (fold with_local (with_local d r) rs).names) order more
-gather_locals ls rs a d es l e = absurd a
-
-no_locals_before : (rs : List RawLocal) (d : Inside) → (fold with_formal d rs).locals ≡ d.locals
+pub no_locals_before : (rs : List RawLocal) (d : Inside) → (fold with_formal d rs).locals ≡ d.locals
 no_locals_before [] d = refl
 no_locals_before (r ∷ rs) d = no_locals_before rs (with_formal d r)
 
 pub gather_inside : (p : Pou) (u : RawPou) → AreLocalsAt p.formals u.formals → AreLocalsAt p.locals u.locals → (all_inside u.formals u.locals).breaks ≡ []
     → Lists (all_inside u.formals u.locals).names (inner_entries p)
 gather_inside p u a b e =
-    let empty : Lists [] [] = record { same = λ k. refl; apart = tt } in
-    let formals = gather_formals p.formals u.formals a no_inside [] empty (before_locals u.locals (fold with_formal no_inside u.formals) e) in
-    let locals = gather_locals p.locals u.locals b (fold with_formal no_inside u.formals) (formal_entries 0 p.formals) formals e in
-    subst (λ i. Lists (all_inside u.formals u.locals).names (formal_entries 0 p.formals ++ local_entries i p.locals)) (no_locals_before u.formals no_inside) locals
+    let d = fold with_formal no_inside u.formals in
+    let before = unbroken with_local (λ d. d.breaks) (λ d. d.names) (λ d. d.locals) (λ r. r.line) local_of (λ l. key_of l.name)
+    (λ i l. meaning.Local i l.ty) (λ d r. refl) (λ d r. refl) (λ d r. refl) u.locals d e in
+    let formals = all_listed with_formal (λ d. d.breaks) (λ d. d.names) (λ d. d.formals) (λ r. r.line) local_of (λ l. key_of l.name)
+    (λ i l. meaning.Formal i l.ty) (λ d r. refl) (λ d r. refl) (λ d r. refl) u.formals no_inside []
+    (record { same = λ k. refl; apart = tt }) before in
+    let locals = all_listed with_local (λ d. d.breaks) (λ d. d.names) (λ d. d.locals) (λ r. r.line) local_of (λ l. key_of l.name)
+    (λ i l. meaning.Local i l.ty) (λ d r. refl) (λ d r. refl) (λ d r. refl) u.locals d (formal_entries 0 (locals_of u.formals)) formals e in
+    subst (λ i. Lists (all_inside u.formals u.locals).names (formal_entries 0 p.formals ++ local_entries i p.locals)) (no_locals_before u.formals no_inside)
+    (rw (locals_again p.formals u.formals a, locals_again p.locals u.locals b) at locals)

@@ -1,5 +1,5 @@
 -- What a text declares that has a tree, and that names in a scope say what stands in the tree.
-use Rattle.std.proofs.Common.{◌≡◌, ◌⊎◌, ℕ, zero, suc, ◌+◌, Bool, true, false, cond, List, [], ◌∷◌, ◌++◌, map, length, Option, Some, None, inl, inr, refl, sym, ap, subst, ◌∙◌, arith, ◌≤◌, All}
+use Rattle.std.proofs.Common.{◌≡◌, ◌⊎◌, ℕ, suc, ◌+◌, Bool, true, false, cond, List, [], ◌∷◌, ◌++◌, map, length, Option, Some, None, inl, inr, refl, sym, ap, subst, ◌∙◌, arith, ◌≤◌}
 use Rattle.std.specs.Prelude.{slice_get}
 use Rattle.std.specs.List.{fold}
 use Rattle.std.proofs.lemmas.List.{append_assoc}
@@ -15,10 +15,9 @@ use Rattle.st_tree.specs.declared.program.StProgram.{StProgram}
 use Rattle.st_tree.specs.declared.raw.RawLocal.{RawLocal}
 use Rattle.st_tree.specs.declared.raw.RawPou.{RawPou}
 use Rattle.st_tree.specs.declared.raw.RawSt.{RawSt}
-use Rattle.std.proofs.lemmas.List.Elements.{All-cons, All-nil}
 use Rattle.memory_areas.specs.Areas.{AreBlocks, Ascend, IsSized, numbers_of}
 use Rattle.memory_areas.specs.declared.sizes.TheConstants.{MOST_BLOCKS}
-use Rattle.st_rules.specs.Declarations.{meaning_of_unit, all_inside, all_outside, formals_of, keys_of, locals_of, no_outside, types_of, with_global, with_type}
+use Rattle.st_rules.specs.Declarations.{meaning_of_unit, all_inside, all_outside, formals_of, keys_of, locals_of, no_outside, with_global, with_type}
 use Rattle.st_rules.specs.Globals.{all_blocks, all_global_breaks, all_located}
 use Rattle.st_rules.specs.Names.{Table, look_up, with_entry}
 use Rattle.st_tree.specs.Naming.{is_same, key_of}
@@ -30,11 +29,11 @@ use Rattle.st_rules.specs.declared.scope.Meaning.{Meaning}
 use Rattle.st_rules.specs.declared.scope.Meaning.TheVariants as meaning
 use Rattle.st_rules.specs.declared.scope.Scope.{Scope}
 use Rattle.st_types_laws.proofs.Apart.{Lists, same_keys}
-use Rattle.st_types_laws.proofs.Lists.{nil_first, nil_second, mapped_at, nil_at}
+use Rattle.st_types_laws.proofs.Lists.{each_all, each_map, mapped_at, nil_at, nil_first, nil_second, pair_at, pair_length, pair_map}
 use Rattle.st_types_laws.proofs.Declared.{Declares, IsFunctionAt, IsGlobalAt, IsLocalAt, keys_of_locals, types_of_locals}
 use Rattle.st_types_laws.proofs.DeclaredNames.{AreNumbered, before_units, ArePlaced, Gathered, block_entries, entries, formal_entries, gather, gather_units, inner_entries, local_entries, located_entries, outer_entries, unit_entries}
 use Rattle.s7_base.proofs.FirstBreak.{first_of_all_is_first}
-use Rattle.st_types_laws.proofs.Redeclared.{AreLocalsAt, AreUnitsAt, IsUnitAt}
+use Rattle.st_types_laws.proofs.Redeclared.{AreLocalsAt, AreUnitsAt, IsLocalOf, IsUnitAt}
 
 pub sound_units : (raw : RawSt) → first_break raw ≡ None → all_unit_breaks (names_of raw) (map formals_of raw.pous) raw.pous ≡ []
 sound_units raw h =
@@ -55,13 +54,7 @@ units_there outer formals (u ∷ us) =
     (record { program = refl; named = refl; formals = locals_there u.formals; locals = locals_there u.locals }, units_there outer formals us)
 
 pub unit_there : (ps : List Pou) (us : List RawPou) → AreUnitsAt ps us → (n : ℕ) (p : Pou) (u : RawPou) → slice_get ps n ≡ Some p → slice_get us n ≡ Some u → IsUnitAt p u
-unit_there [] us a n p u h g = absurd cc
-unit_there (q ∷ ps) [] a n p u h g = absurd a
-unit_there (q ∷ ps) (v ∷ us) a zero p u h g =
-    let one : q ≡ p = cc in
-    let two : v ≡ u = cc in
-    subst (λ w. IsUnitAt p w) two (subst (λ w. IsUnitAt w v) one a.0)
-unit_there (q ∷ ps) (v ∷ us) a (suc n) p u h g = unit_there ps us a.1 n p u h g
+unit_there = pair_at IsUnitAt
 
 -- what a text that has a tree declares
 pub record IsDeclared (raw : RawSt) (t : StProgram) : Type 0 where
@@ -109,27 +102,18 @@ is_declared raw t h =
     }
 
 -- the data blocks of a tree are ones that a memory may have
-are_sized : (bs : List DataBlock) → AreNumbered bs → All IsSized bs
-are_sized [] h = All-nil IsSized
-are_sized (b ∷ bs) h = All-cons IsSized b bs h.0.sized (are_sized bs h.1)
-
 pub are_blocks : (raw : RawSt) (t : StProgram) → IsDeclared raw t → AreBlocks t.dbs
-are_blocks raw t d = record { ascend = d.ascend; few = d.few; sized = are_sized t.dbs d.numbered }
+are_blocks raw t d = record { ascend = d.ascend; few = d.few; sized = each_all IsSized t.dbs (each_map _ IsSized t.dbs (λ b i. i.sized) d.numbered) }
 
 -- Formals as calls see them
 
 keys_same : (ls : List Local) (rs : List RawLocal) → AreLocalsAt ls rs → keys_of rs ≡ keys_of_locals ls
-keys_same [] [] a = refl
-keys_same (l ∷ ls) (r ∷ rs) a = ap (λ k. key_of k ∷ keys_of rs) a.0.named ∙ ap (λ ks. key_of l.name ∷ ks) (keys_same ls rs a.1)
-keys_same ls rs a = absurd a
+keys_same = pair_map IsLocalOf (λ l. key_of l.name) (λ r. key_of r.name) (λ l r a. ap key_of a.named)
 
 types_same : (ls : List Local) (rs : List RawLocal) → AreLocalsAt ls rs → (types : Table StType)
     → fold with_type types rs ≡ fold (λ types (l : Local). with_entry (key_of l.name) l.ty types) types ls
 types_same [] [] a types = refl
-types_same (l ∷ ls) (r ∷ rs) a types =
-    let one : with_type types r ≡ with_entry (key_of l.name) l.ty types =
-    ap (λ k. with_entry (key_of k) r.ty types) a.0.named ∙ ap (λ ty. with_entry (key_of l.name) ty types) a.0.typed in
-    ap (λ more. fold with_type more rs) one ∙ types_same ls rs a.1 (with_entry (key_of l.name) l.ty types)
+types_same (l ∷ ls) (r ∷ rs) a types = rw (a.0.named, a.0.typed) (types_same ls rs a.1 (with_entry (key_of l.name) l.ty types))
 types_same ls rs a types = absurd a
 
 -- the formals of a unit of the tree
@@ -137,13 +121,7 @@ abbrev pub formals_in : Pou → Formals
 formals_in p = record { keys = keys_of_locals p.formals; types = types_of_locals p.formals }
 
 pub formals_same : (ps : List Pou) (us : List RawPou) → AreUnitsAt ps us → map formals_of us ≡ map formals_in ps
-formals_same [] [] a = refl
-formals_same (p ∷ ps) (u ∷ us) a =
-    let one : formals_of u ≡ formals_in p =
-    ap (λ keys. record { keys = keys; types = types_of u.formals }) (keys_same p.formals u.formals a.0.formals)
-    ∙ ap (λ types. record { keys = keys_of_locals p.formals; types = types }) (types_same p.formals u.formals a.0.formals []) in
-    ap (λ f. f ∷ map formals_of us) one ∙ ap (λ fs. formals_in p ∷ fs) (formals_same ps us a.1)
-formals_same ps us a = absurd a
+formals_same = pair_map IsUnitAt formals_in formals_of (λ p u a. rw (keys_same p.formals u.formals a.formals, types_same p.formals u.formals a.formals []) refl)
 
 -- Names stand in the tree where their meanings say
 
@@ -204,9 +182,7 @@ in_tables None None y m other h = inr h
 -- A scope
 
 pub same_length : (ps : List Pou) (us : List RawPou) → AreUnitsAt ps us → length us ≡ length ps
-same_length [] [] a = refl
-same_length (p ∷ ps) (u ∷ us) a = omega (arith, same_length ps us a.1)
-same_length ps us a = absurd a
+same_length = pair_length IsUnitAt
 
 from_start : {X : Type 0} (xs : List X) (n : ℕ) (x : X) → slice_get xs n ≡ Some x → slice_get xs (0 + n) ≡ Some x
 from_start xs n x h = let e : 0 + n ≡ n = omega arith in ap (slice_get xs) e ∙ h

@@ -73,3 +73,32 @@ each_at P (y ∷ xs) (suc n) x h q = each_at P xs n x h.1 q
 pub each_from : {X : Type 0} (P : X → Type 0) (xs : List X) → ((n : ℕ) (x : X) → slice_get xs n ≡ Some x → P x) → Each P xs
 each_from P [] h = tt
 each_from P (x ∷ xs) h = (h 0 x refl, each_from P xs (λ n y q. h (suc n) y q))
+
+-- Two lists side by side
+
+-- each of some things with the one at its place in another list
+abbrev pub EachPair : {X Y : Type 0} → (X → Y → Type 0) → List X → List Y → Type 0
+EachPair P [] [] = Unit {0}
+EachPair P (x ∷ xs) (y ∷ ys) = P x y × EachPair P xs ys
+EachPair P xs ys = ⊥
+
+pub pair_at : {X Y : Type 0} (P : X → Y → Type 0) (xs : List X) (ys : List Y) → EachPair P xs ys
+    → (n : ℕ) (x : X) (y : Y) → slice_get xs n ≡ Some x → slice_get ys n ≡ Some y → P x y
+pair_at P [] ys h n x y p q = absurd cc
+pair_at P (a ∷ xs) [] h n x y p q = absurd h
+pair_at P (a ∷ xs) (b ∷ ys) h zero x y p q =
+    let one : a ≡ x = cc in
+    let two : b ≡ y = cc in
+    subst (P x) two (subst (λ w. P w b) one h.0)
+pair_at P (a ∷ xs) (b ∷ ys) h (suc n) x y p q = pair_at P xs ys h.1 n x y p q
+
+pub pair_length : {X Y : Type 0} (P : X → Y → Type 0) (xs : List X) (ys : List Y) → EachPair P xs ys → length ys ≡ length xs
+pair_length P [] [] h = refl
+pair_length P (x ∷ xs) (y ∷ ys) h = omega (arith, pair_length P xs ys h.1)
+pair_length P xs ys h = absurd h
+
+pub pair_map : {X Y Z : Type 0} (P : X → Y → Type 0) (f : X → Z) (g : Y → Z) → ((x : X) (y : Y) → P x y → g y ≡ f x)
+    → (xs : List X) (ys : List Y) → EachPair P xs ys → map g ys ≡ map f xs
+pair_map P f g e [] [] h = refl
+pair_map P f g e (x ∷ xs) (y ∷ ys) h = rw (e x y h.0, pair_map P f g e xs ys h.1) refl
+pair_map P f g e xs ys h = absurd h

@@ -19,10 +19,10 @@ number_behind v [] d = refl
 number_behind v (b ∷ ds) d = number_behind (min (v * 10 + (b - 48)) (2 ^ 32 - 1)) ds d
 
 -- the digits of a number
-record Written (n : ℕ) (ds : List ℕ) : Type 0 where
-  digits : list_all is_digit ds ≡ true
-  some : 0 < length ds
-  value : n < 2 ^ 32 → number_from 0 ds ≡ n
+pub record Written (n : ℕ) (ds : List ℕ) : Type 0 where
+  pub digits : list_all is_digit ds ≡ true
+  pub some : 0 < length ds
+  pub value : n < 2 ^ 32 → number_from 0 ds ≡ n
 
 ten_ok : (n : ℕ) → n < 10 → is_digit (48 + n) ≡ true
 ten_ok n h = grind (arith, nat_tests)
@@ -43,7 +43,7 @@ more_digits n ds h d = record {
       number_behind 0 ds (48 + n % 10) ∙ rw before (omega arith);
 }
 
-written : (n : ℕ) → n < 2 ^ 64 → Written n (decimal n)
+pub written : (n : ℕ) → n < 2 ^ 64 → Written n (decimal n)
 written n small = decimal_by_steps Written one more_digits n small
 
 -- digits have no capitals

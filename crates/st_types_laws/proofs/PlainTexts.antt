@@ -1,6 +1,6 @@
 -- A text that declares what a tree has breaks no rule in its declarations, and has the tree's data blocks and
 -- globals again.
-use Rattle.std.proofs.Common.{◌≡◌, ◌≤◌, ◌+◌, ◌-◌, ℕ, suc, Bool, true, false, not, ◌&&◌, ◌==◌, nat_le, nat_lt, List, [], ◌∷◌, ◌++◌, length, Option, Some, is_some, refl, sym, ap, subst, ◌∙◌, arith, length-append}
+use Rattle.std.proofs.Common.{map, ◌≡◌, ◌≤◌, ◌+◌, ◌-◌, ℕ, suc, Bool, true, false, not, ◌&&◌, ◌==◌, nat_le, nat_lt, List, [], ◌∷◌, ◌++◌, length, Option, Some, is_some, refl, sym, ap, subst, ◌∙◌, arith, length-append}
 use Rattle.std.specs.Prelude.{codes, decimal}
 use Rattle.std.specs.List.{fold}
 use Rattle.std.proofs.lemmas.Bool.Decides.{nat_tests}
@@ -13,28 +13,25 @@ use Rattle.memory_areas.specs.declared.place.AreaName.TheVariants as area
 use Rattle.memory_areas.specs.declared.sizes.TheConstants.{MOST_BLOCKS}
 use Rattle.s7_base.specs.declared.reason.Line.{Line}
 use Rattle.s7_base.specs.declared.word.Width.TheVariants as width
-use Rattle.st_tree.specs.declared.program.Local.{Local}
 use Rattle.st_tree.specs.declared.program.Located.{Located}
 use Rattle.st_tree.specs.declared.program.Pou.{Pou}
 use Rattle.st_tree.specs.declared.raw.RawGlobal.{RawGlobal}
 use Rattle.st_tree.specs.declared.raw.RawGlobalType.TheVariants as type
-use Rattle.st_tree.specs.declared.raw.RawLocal.{RawLocal}
 use Rattle.st_tree.specs.declared.raw.RawPou.{RawPou}
 use Rattle.st_tree.specs.declared.raw.RawVar.{RawVar}
 use Rattle.st_tree.specs.declared.raw.RawVar.TheVariants as var
-use Rattle.st_rules.specs.Judged.{listed, twice}
-use Rattle.st_rules.specs.Declarations.{all_inside, all_outside, is_block, meaning_of_global, meaning_of_unit, no_inside, no_outside, one_if, one_too_many, with_formal, with_global, with_local, with_unit}
+use Rattle.st_rules.specs.Judged.{listed}
+use Rattle.st_rules.specs.Declarations.{all_inside, all_outside, is_block, local_of, locals_of, meaning_of_global, meaning_of_unit, no_inside, no_outside, one_if, one_too_many, with_formal, with_global, with_local, with_unit}
 use Rattle.st_rules.specs.Globals.{all_blocks, all_global_breaks, all_located, block_at, block_breaks, block_number, block_of, contents, fills, global_breaks, has_block_address, has_block_form, inserted, is_small_enough, is_start_of, located_of, total, with_block}
 use Rattle.st_rules.specs.Names.{Table, look_up}
 use Rattle.st_tree.specs.Naming.{key_of}
 use Rattle.st_tree.specs.PlaceRules.{is_block_number}
-use Rattle.st_rules.specs.declared.declaration.Inside.{Inside}
 use Rattle.st_rules.specs.declared.declaration.Outside.{Outside}
 use Rattle.st_rules.specs.declared.scope.Meaning.{Meaning}
 use Rattle.st_rules.specs.declared.scope.Meaning.TheVariants as meaning
 use Rattle.st_types_laws.proofs.Apart.{AreApart, declares_new}
 use Rattle.st_types_laws.proofs.BlockSizes.{IsBlock}
-use Rattle.st_types_laws.proofs.DeclaredNames.{AreNumbered, ArePlaced, block_entries, formal_entries, inner_entries, local_entries, located_entries, unit_entries}
+use Rattle.st_types_laws.proofs.DeclaredNames.{AreNumbered, ArePlaced, all_new, block_entries, inner_entries, local_entries, located_entries, locals_again, no_locals_before, unit_entries, unit_made, units_named}
 use Rattle.st_types_laws.proofs.PlainNumbers.{plain_number}
 use Rattle.st_types_laws.proofs.Redeclared.{AreBlocksAt, AreLocalsAt, AreLocatedAt, AreUnitsAt, IsBlockAt}
 
@@ -205,59 +202,22 @@ go_located (l ∷ ls) (g ∷ gs) a d more sound apart =
     record { sound = rest.sound; order = rest.order ∙ order; units = rest.units ∙ one.units }
 go_located ls gs a d more sound apart = absurd a
 
-go_units : (ps : List Pou) (us : List RawPou) → AreUnitsAt ps us → (d : Outside) → d.breaks ≡ [] → AreApart (d.names ++ unit_entries d.units ps)
-    → ((fold with_unit d us).breaks ≡ []) × ((fold with_unit d us).names ≡ d.names ++ unit_entries d.units ps)
-go_units [] [] a d sound apart = (sound, sym (append-nil d.names))
-go_units (p ∷ ps) (u ∷ us) a d sound apart =
-    let own = meaning_of_unit d.units u.program in
-    let entry : (key_of u.name, own) ≡ (key_of p.name, meaning_of_unit d.units p.program) =
-    ap (λ name. (key_of name, own)) a.0.named ∙ ap (λ t. (key_of p.name, meaning_of_unit d.units t)) a.0.program in
-    let more = unit_entries (d.units + 1) ps in
-    let new = declares_new u.line (key_of u.name) own d.names more (subst (λ e. AreApart (d.names ++ e ∷ more)) (sym entry) apart) in
-    let none : (with_unit d u).breaks ≡ [] = ap (λ l. l ++ twice u.line (look_up (key_of u.name) d.names)) sound ∙ new.once in
-    let rest = go_units ps us a.1 (with_unit d u) none new.apart in
-    (rest.0, rest.1 ∙ new.order ∙ ap (λ e. d.names ++ e ∷ more) entry)
-go_units ps us a d sound apart = absurd a
-
 -- What is declared in a unit
-
-go_formals : (ls : List Local) (rs : List RawLocal) → AreLocalsAt ls rs → (d : Inside) (more : Table Meaning) → d.breaks ≡ []
-    → AreApart (d.names ++ (formal_entries d.formals ls ++ more))
-    → ((fold with_formal d rs).breaks ≡ []) × ((fold with_formal d rs).names ++ more ≡ d.names ++ (formal_entries d.formals ls ++ more)) × ((fold with_formal d rs).locals ≡ d.locals)
-go_formals [] [] a d more sound apart = (sound, refl, refl)
-go_formals (l ∷ ls) (r ∷ rs) a d more sound apart =
-    let own = meaning.Formal d.formals r.ty in
-    let entry : (key_of r.name, own) ≡ (key_of l.name, meaning.Formal d.formals l.ty) =
-    ap (λ name. (key_of name, own)) a.0.named ∙ ap (λ ty. (key_of l.name, meaning.Formal d.formals ty)) a.0.typed in
-    let behind = formal_entries (d.formals + 1) ls ++ more in
-    let new = declares_new r.line (key_of r.name) own d.names behind (subst (λ e. AreApart (d.names ++ e ∷ behind)) (sym entry) apart) in
-    let none : (with_formal d r).breaks ≡ [] = ap (λ l. l ++ twice r.line (look_up (key_of r.name) d.names)) sound ∙ new.once in
-    let rest = go_formals ls rs a.1 (with_formal d r) more none new.apart in
-    (rest.0, rest.1 ∙ new.order ∙ ap (λ e. d.names ++ e ∷ behind) entry, rest.2)
-go_formals ls rs a d more sound apart = absurd a
-
-go_locals : (ls : List Local) (rs : List RawLocal) → AreLocalsAt ls rs → (d : Inside) → d.breaks ≡ [] → AreApart (d.names ++ local_entries d.locals ls)
-    → ((fold with_local d rs).breaks ≡ []) × ((fold with_local d rs).names ≡ d.names ++ local_entries d.locals ls)
-go_locals [] [] a d sound apart = (sound, sym (append-nil d.names))
-go_locals (l ∷ ls) (r ∷ rs) a d sound apart =
-    let own = meaning.Local d.locals r.ty in
-    let entry : (key_of r.name, own) ≡ (key_of l.name, meaning.Local d.locals l.ty) =
-    ap (λ name. (key_of name, own)) a.0.named ∙ ap (λ ty. (key_of l.name, meaning.Local d.locals ty)) a.0.typed in
-    let behind = local_entries (d.locals + 1) ls in
-    let new = declares_new r.line (key_of r.name) own d.names behind (subst (λ e. AreApart (d.names ++ e ∷ behind)) (sym entry) apart) in
-    let none : (with_local d r).breaks ≡ [] = ap (λ l. l ++ twice r.line (look_up (key_of r.name) d.names)) sound ∙ new.once in
-    let rest = go_locals ls rs a.1 (with_local d r) none new.apart in
-    (rest.0, rest.1 ∙ new.order ∙ ap (λ e. d.names ++ e ∷ behind) entry)
-go_locals ls rs a d sound apart = absurd a
 
 pub inside_again : (p : Pou) (u : RawPou) → AreLocalsAt p.formals u.formals → AreLocalsAt p.locals u.locals → AreApart (inner_entries p)
     → ((all_inside u.formals u.locals).breaks ≡ []) × ((all_inside u.formals u.locals).names ≡ inner_entries p)
 inside_again p u a b apart =
-    let first = go_formals p.formals u.formals a no_inside (local_entries 0 p.locals) refl apart in
     let d = fold with_formal no_inside u.formals in
-    let order : d.names ++ local_entries d.locals p.locals ≡ inner_entries p = ap (λ n. d.names ++ local_entries n p.locals) first.2 ∙ first.1 in
-    let second = go_locals p.locals u.locals b d first.0 (subst AreApart (sym order) apart) in
-    (second.0, second.1 ∙ order)
+    let formals = sym (locals_again p.formals u.formals a) in
+    let locals = sym (locals_again p.locals u.locals b) in
+    let first = all_new with_formal (λ d. d.breaks) (λ d. d.names) (λ d. d.formals) (λ r. r.line) local_of (λ l. key_of l.name)
+    (λ i l. meaning.Formal i l.ty) (λ d r. refl) (λ d r. refl) (λ d r. refl) u.formals no_inside (local_entries 0 (locals_of u.locals)) refl
+    (rw (formals, locals) at apart) in
+    let order : d.names ++ (local_entries d.locals (locals_of u.locals) ++ []) ≡ inner_entries p =
+    rw (no_locals_before u.formals no_inside, append-nil (local_entries 0 (locals_of u.locals)), formals, locals) first.1 in
+    let second = all_new with_local (λ d. d.breaks) (λ d. d.names) (λ d. d.locals) (λ r. r.line) local_of (λ l. key_of l.name)
+    (λ i l. meaning.Local i l.ty) (λ d r. refl) (λ d r. refl) (λ d r. refl) u.locals d [] first.0 (subst AreApart (sym order) apart) in
+    (second.0, sym (append-nil (all_inside u.formals u.locals).names) ∙ second.1 ∙ order)
 
 -- A text
 
@@ -279,13 +239,15 @@ plain_text bs ls ps first second us a b c sizes placed ascend few apart =
     let order_of_located : d.names ++ (located_entries d.globals ls ++ unit_entries 0 ps) ≡ block_entries bs ++ (located_entries 0 ls ++ unit_entries 0 ps) =
     ap (λ n. d.names ++ (located_entries n ls ++ unit_entries 0 ps)) one.1 ∙ one.0.order in
     let two = go_located ls second b d (unit_entries 0 ps) one.0.sound (subst AreApart (sym order_of_located) apart) in
-    let order_of_units : e.names ++ unit_entries e.units ps ≡ block_entries bs ++ (located_entries 0 ls ++ unit_entries 0 ps) =
-    ap (λ n. e.names ++ unit_entries n ps) (two.units ∙ one.0.units) ∙ two.order ∙ order_of_located in
-    let three = go_units ps us c e two.sound (subst AreApart (sym order_of_units) apart) in
+    let order_of_units : e.names ++ (unit_entries e.units (map unit_made us) ++ []) ≡ block_entries bs ++ (located_entries 0 ls ++ unit_entries 0 ps) =
+    ap (λ es. e.names ++ es) (append-nil (unit_entries e.units (map unit_made us)) ∙ units_named e.units ps us c)
+    ∙ ap (λ n. e.names ++ unit_entries n ps) (two.units ∙ one.0.units) ∙ two.order ∙ order_of_located in
+    let three = all_new with_unit (λ d. d.breaks) (λ d. d.names) (λ d. d.units) (λ u. u.line) unit_made (λ p. key_of p.name)
+    (λ i p. meaning_of_unit i p.program) (λ d u. refl) (λ d u. refl) (λ d u. refl) us e [] two.sound (subst AreApart (sym order_of_units) apart) in
     let whole : fold with_global no_outside (first ++ second) ≡ e = fold-append with_global no_outside first second in
     record {
       outside = ap (λ (o : Outside). (fold with_unit o us).breaks) whole ∙ three.0;
-      names = ap (λ (o : Outside). (fold with_unit o us).names) whole ∙ three.1 ∙ order_of_units;
+      names = ap (λ (o : Outside). (fold with_unit o us).names) whole ∙ sym (append-nil (fold with_unit e us).names) ∙ three.1 ∙ order_of_units;
       sound = flat_map-append (λ (g : RawGlobal). global_breaks g.ty g.line g.name g.at) first second
           ∙ ap (λ l. l ++ all_global_breaks second) (sound_blocks bs first a sizes) ∙ sound_located ls second b placed;
       blocks = fold-append (λ blocks (g : RawGlobal). with_block (block_of g.ty g.name g.at) blocks) [] first second

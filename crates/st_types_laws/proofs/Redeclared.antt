@@ -1,5 +1,5 @@
 -- Raw texts that declare what a tree has, whatever their lines are.
-use Rattle.std.proofs.Common.{◌≡◌, ℕ, ◌-◌, List, [], ◌∷◌, ◌++◌, length, Some, None}
+use Rattle.std.proofs.Common.{◌≡◌, ℕ, ◌-◌, List, ◌++◌, length, Some, None}
 use Rattle.std.specs.Prelude.{codes, decimal}
 use Rattle.memory_areas.specs.declared.data_block.DataBlock.{DataBlock}
 use Rattle.memory_areas.specs.declared.place.Area.{Area}
@@ -18,6 +18,7 @@ use Rattle.st_tree.specs.declared.raw.RawPou.{RawPou}
 use Rattle.st_tree.specs.declared.raw.RawVar.{RawVar}
 use Rattle.st_tree.specs.declared.raw.RawVar.TheVariants as var
 use Rattle.st_rules.specs.Globals.{contents, total}
+use Rattle.st_types_laws.proofs.Lists.{EachPair}
 
 -- a data block under its plain name, at its own byte 0, with a list of all its bytes
 pub record IsBlockAt (b : DataBlock) (g : RawGlobal) : Type 0 where
@@ -31,9 +32,7 @@ pub record IsBlockAt (b : DataBlock) (g : RawGlobal) : Type 0 where
   pub size : total list ≡ length b.bytes
 
 abbrev pub AreBlocksAt : List DataBlock → List RawGlobal → Type 0
-AreBlocksAt [] [] = Unit {0}
-AreBlocksAt (b ∷ bs) (g ∷ gs) = IsBlockAt b g × AreBlocksAt bs gs
-AreBlocksAt bs gs = ⊥
+AreBlocksAt = EachPair IsBlockAt
 
 -- the area that a global's location names; no global stands in another than I, Q and M
 abbrev pub name_of_area : Area → AreaName
@@ -53,9 +52,7 @@ pub record IsLocatedAt (l : Located) (g : RawGlobal) : Type 0 where
   pub typed : g.ty ≡ type.Plain l.ty
 
 abbrev pub AreLocatedAt : List Located → List RawGlobal → Type 0
-AreLocatedAt [] [] = Unit {0}
-AreLocatedAt (l ∷ ls) (g ∷ gs) = IsLocatedAt l g × AreLocatedAt ls gs
-AreLocatedAt ls gs = ⊥
+AreLocatedAt = EachPair IsLocatedAt
 
 -- a local or a formal under its name, of its type
 pub record IsLocalOf (l : Local) (r : RawLocal) : Type 0 where
@@ -63,9 +60,7 @@ pub record IsLocalOf (l : Local) (r : RawLocal) : Type 0 where
   pub typed : r.ty ≡ l.ty
 
 abbrev pub AreLocalsAt : List Local → List RawLocal → Type 0
-AreLocalsAt [] [] = Unit {0}
-AreLocalsAt (l ∷ ls) (r ∷ rs) = IsLocalOf l r × AreLocalsAt ls rs
-AreLocalsAt ls rs = ⊥
+AreLocalsAt = EachPair IsLocalOf
 
 -- a unit with its name, its formals and its locals, of any body
 pub record IsUnitAt (p : Pou) (u : RawPou) : Type 0 where
@@ -75,6 +70,4 @@ pub record IsUnitAt (p : Pou) (u : RawPou) : Type 0 where
   pub locals : AreLocalsAt p.locals u.locals
 
 abbrev pub AreUnitsAt : List Pou → List RawPou → Type 0
-AreUnitsAt [] [] = Unit {0}
-AreUnitsAt (p ∷ ps) (u ∷ us) = IsUnitAt p u × AreUnitsAt ps us
-AreUnitsAt ps us = ⊥
+AreUnitsAt = EachPair IsUnitAt
