@@ -9,7 +9,7 @@ use Rattle.memory_areas.specs.declared.sizes.TheConstants.{ACTIVATIONS}
 use Rattle.st_types_laws.proofs.Bounds.{bound}
 use Rattle.st_types_laws.proofs.Lists.{there_at}
 use Rattle.s7_base.specs.Broken.{first_of_all}
-use Rattle.st_rules.specs.LongChains.{chain_break, long_chains}
+use Rattle.st_rules.specs.LongChains.{long_chains}
 use Rattle.st_rules.specs.Typed.{IsChain}
 use Rattle.st_tree.proofs.CalledMost.{called_most}
 use Rattle.st_tree.specs.Chains.{chain_of, chain_to, unit_chain}
@@ -21,24 +21,18 @@ use Rattle.st_tree.specs.declared.raw.RawPou.{RawPou}
 call_within : (f : ℕ → ℕ) (calls : List Call) (k : ℕ) (c : Call) → slice_get calls k ≡ Some c
     → f c.callee ≤ bound f calls
 call_within f [] k c h = absurd cc
-call_within f (d ∷ calls) zero c h =
-    let same : d ≡ c = cc in
-    let e : f d.callee ≡ f c.callee = ap (λ (x : Call). f x.callee) same in
-    omega (arith, e)
+call_within f (d ∷ calls) zero c h = let e : f d.callee ≡ f c.callee = cc in omega arith
 call_within f (d ∷ calls) (suc k) c h = omega (arith, call_within f calls k c h)
 
 -- calls that are followed one after another
 follow_on : (graph : Graph) (xs ys : List ℕ) (i j : ℕ) → follow graph i xs ≡ Some j
     → follow graph i (xs ++ ys) ≡ follow graph j ys
 follow_on graph [] ys i j h = let same : i ≡ j = cc in ap (λ n. follow graph n ys) same
-follow_on graph (x ∷ xs) ys i j h = by (call_at graph i x) (λ c q. follow_on graph xs ys c.callee j q) h
-  where
-    by : (o : Option Call) → ((c : Call) → follow graph c.callee xs ≡ Some j
-        → follow graph c.callee (xs ++ ys) ≡ follow graph j ys)
-        → with_call o (λ c. follow graph c.callee xs) ≡ Some j
-        → with_call o (λ c. follow graph c.callee (xs ++ ys)) ≡ follow graph j ys
-    by None more q = absurd cc
-    by (Some c) more q = more c q
+follow_on graph (x ∷ xs) ys i j h = (elim (call_at graph i x) as (λ o. with_call o (λ c. follow graph c.callee xs) ≡ Some j
+    → with_call o (λ c. follow graph c.callee (xs ++ ys)) ≡ follow graph j ys) [
+      | None ↦ λ q. absurd cc
+      | Some c ↦ λ q. follow_on graph xs ys c.callee j q
+    ]) h
 
 -- some calls so many times
 abbrev times : ℕ → List ℕ → List ℕ
@@ -51,8 +45,7 @@ round graph xs i (suc n) h = follow_on graph xs (times n xs) i i h ∙ round gra
 
 times_size : (n x : ℕ) (xs : List ℕ) → n ≤ length (times n (x ∷ xs))
 times_size zero x xs = omega arith
-times_size (suc n) x xs =
-    omega (arith, times_size n x xs, length-append (x ∷ xs) (times n (x ∷ xs)))
+times_size (suc n) x xs = omega (arith, times_size n x xs, length-append (x ∷ xs) (times n (x ∷ xs)))
 
 -- calls that cost no more than the statements of the unit in which they stand
 abbrev pub AreBounded : StProgram → Graph → Type 0
@@ -63,8 +56,7 @@ AreBounded tree graph = (i : ℕ) (calls : List Call) (unit : Pou) → slice_get
 none_long : (begins : List Bool) (i : ℕ) (us : List RawPou) → ((n : ℕ) → get_or begins n false ≡ false)
     → long_chains begins i us ≡ []
 none_long begins i [] h = refl
-none_long begins i (u ∷ us) h =
-    ap (λ t. chain_break t u.line ++ long_chains begins (i + 1) us) (h i) ∙ none_long begins (i + 1) us h
+none_long begins i (u ∷ us) h = rw (h i) (none_long begins (i + 1) us h)
 
 module _ (tree : StProgram) (graph : Graph) (bounded : AreBounded tree graph) where
   -- a call begins a chain that has one unit more
@@ -74,10 +66,8 @@ module _ (tree : StProgram) (graph : Graph) (bounded : AreBounded tree graph) wh
   one_call m i k c None p e g h less = absurd cc
   one_call m i k c (Some calls) None e g h less = omega arith
   one_call m i k c (Some calls) (Some unit) e g h less =
-      let within : chain_to (suc m) tree c.callee ≤ bound (chain_to (suc m) tree) calls = call_within
-      (chain_to (suc m) tree) calls k c h in
-      let most : bound (chain_to (suc m) tree) calls ≤ called_most (chain_to (suc m) tree) unit.body = bounded i calls unit e g (chain_to (suc m) tree) in
-      omega (arith, within, most, less)
+      let f = chain_to (suc m) tree in
+      omega (arith, call_within f calls k c h, bounded i calls unit e g f)
 
   some_chain : (p : Option Pou) (f : ℕ → ℕ) → 1 ≤ unit_chain f 0 p
   some_chain None f = omega arith
@@ -88,14 +78,11 @@ module _ (tree : StProgram) (graph : Graph) (bounded : AreBounded tree graph) wh
       → suc m ≤ chain_to (suc m) tree i
   long_path zero i ks j size h = some_chain (slice_get tree.pous i) (chain_to 0 tree)
   long_path (suc m) i [] j size h = absurd (omega (arith, size))
-  long_path (suc m) i (k ∷ ks) j size h = by (call_at graph i k) refl
-      (λ c q. long_path m c.callee ks j (omega (arith, size)) q) h
-    where
-      by : (o : Option Call) → call_at graph i k ≡ o
-          → ((c : Call) → follow graph c.callee ks ≡ Some j → suc m ≤ chain_to (suc m) tree c.callee)
-          → with_call o (λ c. follow graph c.callee ks) ≡ Some j → suc (suc m) ≤ chain_to (suc (suc m)) tree i
-      by None e more q = absurd cc
-      by (Some c) e more q = one_call m i k c (slice_get graph i) (slice_get tree.pous i) refl refl e (more c q)
+  long_path (suc m) i (k ∷ ks) j size h = (elim (call_at graph i k) as (λ o. call_at graph i k ≡ o
+      → with_call o (λ c. follow graph c.callee ks) ≡ Some j → suc (suc m) ≤ chain_to (suc (suc m)) tree i) [
+        | None ↦ λ e q. absurd cc
+        | Some c ↦ λ e q. one_call m i k c _ _ refl refl e (long_path m c.callee ks j (omega (arith, size)) q)
+      ]) refl h
 
   module _ (short : (n : ℕ) (unit : Pou) → slice_get tree.pous n ≡ Some unit → chain_of tree n ≤ ACTIVATIONS)
       (size : length graph ≡ length tree.pous) where
@@ -109,33 +96,27 @@ module _ (tree : StProgram) (graph : Graph) (bounded : AreBounded tree graph) wh
 
     no_path : (i : ℕ) (ks : List ℕ) (j : ℕ) → 8 ≤ length ks → follow graph i ks ≡ Some j → ⊥
     no_path i [] j long h = omega (arith, long)
-    no_path i (k ∷ ks) j long h = by (slice_get graph i) refl h
-      where
-        by : (o : Option (List Call)) → slice_get graph i ≡ o
-            → with_call (call_in o k) (λ c. follow graph c.callee ks) ≡ Some j → ⊥
-        by None e q = absurd cc
-        by (Some calls) e q = no_path_at i (k ∷ ks) j (slice_get_within graph i calls e) long h
+    no_path i (k ∷ ks) j long h = (elim (slice_get graph i) as (λ o. slice_get graph i ≡ o
+        → with_call (call_in o k) (λ c. follow graph c.callee ks) ≡ Some j → ⊥) [
+          | None ↦ λ e q. absurd cc
+          | Some calls ↦ λ e q. no_path_at i (k ∷ ks) j (slice_get_within graph i calls e) long h
+        ]) refl h
 
     no_cycle : NoCycle graph
     no_cycle i k c on =
         let ks = on.back.0 in
-        let back : follow graph i (k ∷ ks) ≡ Some i = ap (λ o. with_call o (λ c. follow graph c.callee ks)) on.is_call
-        ∙ on.back.1 in
+        let back : follow graph i (k ∷ ks) ≡ Some i = rw on.is_call on.back.1 in
         no_path i (times 8 (k ∷ ks)) i (times_size 8 k ks) (round graph (k ∷ ks) i 8 back)
 
     none_begins : (n : ℕ) → get_or (chains graph ACTIVATIONS) n false ≡ false
-    none_begins n = by (get_or (chains graph ACTIVATIONS) n false) refl
-      where
-        by : (t : Bool) → get_or (chains graph ACTIVATIONS) n false ≡ t → t ≡ false
-        by false e = refl
-        by true e =
-            let f = followed.sound graph ACTIVATIONS n e in
-            absurd (no_path n f.calls f.last (omega (arith, f.size)) f.followed)
+    none_begins n =
+        let none : get_or (chains graph ACTIVATIONS) n false ≡ true → ⊥ = λ e.
+        let f = followed.sound graph ACTIVATIONS n e in no_path n f.calls f.last (omega (arith, f.size)) f.followed in
+        grind arith
 
     pub is_chain : (us : List RawPou) → us ≢ [] → IsChain graph us
     is_chain us some = record {
       no_cycle = no_cycle;
-      short = ap first_of_all
-          (none_long (chains graph ACTIVATIONS) 0 us none_begins);
+      short = ap first_of_all (none_long (chains graph ACTIVATIONS) 0 us none_begins);
       some = some;
     }
