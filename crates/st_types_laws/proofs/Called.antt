@@ -1,13 +1,12 @@
 -- Calls: the types of formals that have keys of their own stand under these keys, and what a call is of which all
 -- is given.
-use Rattle.std.proofs.Common.{◌≡◌, ℕ, cond, false, List, [], ◌∷◌, ◌++◌, Option, Some, is_some, sym, ap, subst, ◌∙◌}
+use Rattle.std.proofs.Common.{◌≡◌, ℕ, false, List, [], ◌∷◌, ◌++◌, Option, Some, refl, sym, subst}
 use Rattle.std.specs.List.{fold}
 use Rattle.std.proofs.lemmas.List.{append_assoc, append-nil}
 use Rattle.std.specs.Prelude.{slice_get}
 use Rattle.s7_base.specs.declared.reason.Line.{Line}
-use Rattle.s7_base.specs.declared.reason.Reason.TheVariants.{TypeMismatch}
-use Rattle.st_rules.specs.Judged.{behind, breaks_rule, sound}
-use Rattle.st_rules.specs.Invocations.{Actual, Given, call_of, call_with, callee, function_call, given_by, in_order, lacks}
+use Rattle.st_rules.specs.Judged.{sound}
+use Rattle.st_rules.specs.Invocations.{Actual, Given, given_by, in_order, lacks}
 use Rattle.st_rules.specs.Scopes.{meaning_in}
 use Rattle.st_rules.specs.Statements.{statement}
 use Rattle.st_rules.specs.declared.scope.Formals.{Formals}
@@ -36,10 +35,8 @@ gathered : (types : Table StType) (ls : List Local) → AreAbsent types ls → A
 gathered types [] a d = sym (append-nil types)
 gathered types (l ∷ ls) a d =
     let e : List ℕ × StType = (key_of l.name, l.ty) in
-    let one : with_type types l ≡ types ++ e ∷ [] = ap (λ (o : Option StType). cond (is_some o) types (types ++ e ∷ [])) a.0 in
-    ap (λ t. fold with_type t ls) one
-    ∙ gathered (types ++ e ∷ []) ls (absent_also types (key_of l.name) l.ty ls a.1 d.0) d.1
-    ∙ append_assoc types (e ∷ []) (entries ls)
+    rw (a.0, ← append_assoc types (e ∷ []) (entries ls))
+    (gathered (types ++ e ∷ []) ls (absent_also types (key_of l.name) l.ty ls a.1 d.0) d.1)
 
 -- each formal has its type in a table
 abbrev pub AreTyped : Table StType → List Local → Type 0
@@ -71,8 +68,4 @@ pub call_is : (s : Scope) (m : Line) (name : List ℕ) (actuals : List Actual) (
     → slice_get s.formals i ≡ Some formals → given_by s m formals.types actuals ≡ given_with table → lacks table formals.keys ≡ false
     → statement s (on_line m (raw.Invoke name actuals)) ≡ sound (stmt.Invoke i (in_order table formals.keys))
 call_is s m name actuals i formals table h there given none =
-    act_invoke s m name actuals
-    ∙ ap (λ o. call_of s m (callee o) actuals) h
-    ∙ ap (λ o. function_call s m i o actuals) there
-    ∙ ap (λ (g : Given). behind g.breaks (call_with m i g.vars formals.keys)) given
-    ∙ ap (λ b. behind [] (cond b (breaks_rule m TypeMismatch) (sound (stmt.Invoke i (in_order table formals.keys))))) none
+    rw (act_invoke s m name actuals, h, there, given, none) refl

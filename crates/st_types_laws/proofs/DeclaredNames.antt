@@ -224,15 +224,16 @@ has_place name ty other h g = absurd cc
 
 -- Data blocks
 
+-- where three tests break no rule, all hold
+three_tests : {T : Type 0} (a b c : Bool) (line : Line) (p q r : Reason) (x : T)
+    → unless a (broken line p) ++ (unless b (broken line q) ++ unless c (broken line r)) ≡ [] → cond (a && b && c) (Some x) None ≡ Some x
+three_tests true true true line p q r x h = refl
+three_tests a b c line p q r x h = absurd cc
+
 has_block : (line : Line) (n : ℕ) (at : RawVar) (last : ℕ) (list : List (ℕ × ℕ)) → block_breaks line n at last list ≡ []
     → block_at n at last list ≡ Some (record { number = n; bytes = contents last list })
 has_block line n at last list h =
-    let first = holds (has_block_address n at) line _ (nil_first _ _ h) in
-    let rest = nil_second (unless (has_block_address n at) (broken line _)) _ h in
-    let second = holds (is_small_enough last) line _ (nil_first _ _ rest) in
-    let third = holds (has_block_form n at last list) line _ (nil_second (unless (is_small_enough last) (broken line _)) _ rest) in
-    ap (λ t. cond t (Some (record { number = n; bytes = contents last list })) None)
-    (both_true (has_block_address n at && is_small_enough last) (has_block_form n at last list) (both_true (has_block_address n at) (is_small_enough last) first second) third)
+    three_tests (has_block_address n at) (is_small_enough last) (has_block_form n at last list) line _ _ _ _ h
 
 -- there is room for a new data block
 has_room : (line : Line) (first : Option Meaning) (blocks : ℕ) → (twice line first ++ one_too_many line (not (is_some first) && true) blocks) ≡ [] → nat_lt blocks MOST_BLOCKS ≡ true
@@ -265,8 +266,7 @@ module _ (d : Outside) (bs : List DataBlock) (ls : List Located) (name : List �
   first = look_up (key_of name) d.names
 
   no_block : (x : Option Meaning) → d.blocks + one_if (not (is_some x) && false) ≡ d.blocks
-  no_block None = omega arith
-  no_block (Some m) = omega arith
+  no_block x = grind arith
 
   one_located : (ty : StType) → (with_global d (declaration (type.Plain ty))).breaks ≡ [] → HasPlace name ty at
       → Gathered (with_global d (declaration (type.Plain ty))) bs (ls ++ listed (located_at name ty at))
@@ -335,8 +335,7 @@ module _ (d : Outside) (bs : List DataBlock) (ls : List Located) (name : List �
       (subst (λ xs. Gathered (with_global d (declaration (type.Bytes last list))) (inserted b bs) xs) (sym (append-nil ls)) done)
     where
       counted : (x : Option Meaning) → twice line x ≡ [] → d.blocks + one_if (not (is_some x) && true) ≡ d.blocks + 1
-      counted None h = refl
-      counted (Some m) h = absurd cc
+      counted x h = grind arith
 
   one_global : (ty : RawGlobalType) → (with_global d (declaration ty)).breaks ≡ [] → global_breaks ty line name at ≡ []
       → Gathered (with_global d (declaration ty)) (with_block (block_of ty name at) bs) (ls ++ listed (located_of ty name at))

@@ -1,6 +1,5 @@
 pub mod Actions
 pub mod Apart
-pub mod BlockKeys
 pub mod BlockSizes
 pub mod Bounds
 pub mod Called

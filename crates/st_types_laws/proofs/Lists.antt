@@ -2,6 +2,7 @@
 use Rattle.std.proofs.Common.{◌≡◌, ℕ, zero, suc, ◌<◌, ◌&&◌, Bool, true, List, [], ◌∷◌, ◌++◌, length, map, Some, refl, sym, ap, subst, ◌∙◌, arith}
 use Rattle.std.specs.Prelude.{All, option_map, slice_get}
 use Rattle.std.specs.List.{flat_map}
+use Rattle.std.proofs.lemmas.List.{append-nil, append_assoc}
 use Rattle.std.proofs.lemmas.List.Elements.{All-cons, All-head, All-nil, All-tail}
 use Rattle.std.proofs.lemmas.Option.{slice_get-map}
 pub use Rattle.st_tree.proofs.Induction.{Each}
@@ -102,3 +103,26 @@ pub pair_map : {X Y Z : Type 0} (P : X → Y → Type 0) (f : X → Z) (g : Y �
 pair_map P f g e [] [] h = refl
 pair_map P f g e (x ∷ xs) (y ∷ ys) h = rw (e x y h.0, pair_map P f g e xs ys h.1) refl
 pair_map P f g e xs ys h = absurd h
+
+-- What forms stand for, behind others
+
+-- a form that stands for what others stand for, and then for something beside each of some things
+pub record Behind {C R X : Type 0} (tree : C → List R) (P : X → R → Type 0) (others all : C) (xs : List X) : Type 0 where
+  pub more : List R
+  pub same : tree all ≡ tree others ++ more
+  pub are : EachPair P xs more
+
+pub none_behind : {C R X : Type 0} (tree : C → List R) (P : X → R → Type 0) (others : C) → Behind tree P others others []
+none_behind tree P others = record { more = []; same = sym (append-nil (tree others)); are = tt }
+
+pub one_behind : {C R X : Type 0} {tree : C → List R} {P : X → R → Type 0} {all : C} {x : X} {xs : List X} (others next : C)
+    (own : R) → tree next ≡ tree others ++ own ∷ [] → P x own → Behind tree P next all xs → Behind tree P others all (x ∷ xs)
+one_behind {tree = tree} others next own e p r = record {
+  more = own ∷ r.more;
+  same = r.same ∙ ap (λ l. l ++ r.more) e ∙ append_assoc (tree others) (own ∷ []) r.more;
+  are = (p, r.are);
+}
+
+pub pairs_behind : {C R X : Type 0} (tree : C → List R) (P : X → R → Type 0) (others all : C) (xs : List X)
+    → tree others ≡ [] → Behind tree P others all xs → EachPair P xs (tree all)
+pairs_behind tree P others all xs none r = subst (EachPair P xs) (ap (λ l. l ++ r.more) (sym none) ∙ sym r.same) r.are
