@@ -5,8 +5,7 @@ use Rattle.st_grammar.specs.declared.kind.Fixed.TheVariants as fixed
 use Rattle.st_grammar.specs.declared.kind.Kind.TheVariants as kind
 use Rattle.st_lexer.specs.Spelled.{is_decimal, is_place}
 use Rattle.st_tree.specs.Naming.{is_free}
-use Rattle.std.proofs.Common.{◌≡◌, ℕ, ◌-◌, ◌≤◌, ◌^◌, true, List, [], ◌∷◌, ◌++◌, length, Some, None, refl, sym, ap, ◌∙◌, arith, append_assoc, append-nil}
-use Rattle.std.specs.Prelude.{nat_lt}
+use Rattle.std.proofs.Common.{◌≡◌, ℕ, ◌-◌, ◌≤◌, true, List, [], ◌∷◌, ◌++◌, length, Some, None, refl, sym, ap, ◌∙◌, arith}
 use Rattle.std.proofs.lemmas.Bool.Decides.{nat_tests}
 use Rattle.memory_areas.specs.declared.data_block.DataBlock.{DataBlock}
 use Rattle.memory_areas.specs.declared.place.AreaName.{AreaName}
@@ -14,16 +13,17 @@ use Rattle.memory_areas.specs.declared.place.AreaName.TheVariants as area
 use Rattle.s7_base.specs.Tokens.{line_after}
 use Rattle.s7_base.specs.declared.word.Width.TheVariants as width
 use Rattle.st_canonical.specs.Canonical.{area_form, block_name, blocks_from, globals_form, globals_from, items_form, located_from, on}
-use Rattle.st_grammar.specs.Forms.{plain, bytes, Globals, no_global, global, Section, present}
-use Rattle.st_grammar.specs.Grammar.{GlobalsFit, IfPresent, held, spell_array, spell_globals, spell_section, tree_globals, tree_items}
+use Rattle.st_grammar.specs.Forms.{Items, plain, bytes, Globals, no_global, global, Section, present}
+use Rattle.st_grammar.specs.Grammar.{GlobalsFit, IfPresent, held, spell_array, spell_globals, spell_initial, spell_items, spell_section, tree_globals, tree_items}
 use Rattle.st_grammar.specs.Levels.{levels_globals, levels_section}
 use Rattle.st_canonical.specs.Spelled.{is_name, is_variable}
 use Rattle.st_proper.proofs.BlockForms.{AreWithin, IsFull, block_is_name, block_is_named, globals_within, is_written, low}
-use Rattle.st_types_laws.proofs.Lists.{Each, EachPair}
+use Rattle.st_types_laws.proofs.Lists.{Behind, Each, none_behind, one_behind}
 use Rattle.st_tree.specs.Values.{width_at}
 use Rattle.st_tree.specs.declared.program.Located.{Located}
 use Rattle.st_tree.specs.declared.raw.RawGlobal.{RawGlobal}
 use Rattle.st_tree.specs.declared.raw.RawGlobalType.TheVariants as type
+use Rattle.st_tree.specs.declared.raw.RawVar.{RawVar}
 use Rattle.st_tree.specs.declared.raw.RawVar.TheVariants as raw
 use Rattle.st_types_laws.proofs.Redeclared.{AreBlocksAt, AreLocatedAt, IsBlockAt, IsLocatedAt, name_of_area}
 
@@ -39,31 +39,10 @@ record AreSound (gs : Globals) : Type 0 where
   fit : GlobalsFit gs
   spelled : Spells (spell_globals gs)
 
--- globals after others, with those that they declare, each as its tree has it
-record Behind {X : Type 0} (P : X → RawGlobal → Type 0) (others all : Globals) (xs : List X) : Type 0 where
-  sound : AreSound all
-  more : List RawGlobal
-  same : tree_globals all ≡ tree_globals others ++ more
-  are : EachPair P xs more
-
-none_behind : {X : Type 0} (P : X → RawGlobal → Type 0) (others : Globals) → AreSound others → Behind P others others []
-none_behind {X} P others s = record { sound = s; more = []; same = sym (append-nil (tree_globals others)); are = tt }
-
--- one more is declared before those behind it
-one_behind : {X : Type 0} {P : X → RawGlobal → Type 0} {all : Globals} {x : X} {xs : List X} (others next : Globals) (own : RawGlobal)
-    → tree_globals next ≡ tree_globals others ++ own ∷ [] → P x own → Behind P next all xs → Behind P others all (x ∷ xs)
-one_behind others next own e p r = record {
-  sound = r.sound;
-  more = own ∷ r.more;
-  same = r.same ∙ ap (λ gs. gs ++ r.more) e ∙ append_assoc (tree_globals others) (own ∷ []) r.more;
-  are = (p, r.are);
-}
-
 -- Data blocks
 
 block_placed : (b : DataBlock) → IsFull b → is_variable (raw.Direct area.Db (Some b.number) width.Byte 0 0) ≡ true
-block_placed b f = let small : nat_lt b.number (2 ^ 32)
-    ≡ true = let s : b.number ≤ 65535 = f.block.small in grind (arith, nat_tests) in rw small refl
+block_placed b f = let s : b.number ≤ 65535 = f.block.small in grind (arith, nat_tests)
 
 -- what it declares
 abbrev block_global : DataBlock → ℕ → RawGlobal
@@ -88,50 +67,47 @@ block_at b line f =
       size = w.size;
     }
 
-array_spells : (last : ℕ) → is_decimal last ≡ true → Spells (spell_array last)
-array_spells last h ks q = (refl, (refl, (refl, (refl, (h, (refl, (refl, (refl, q))))))))
+list_spells : (last : ℕ) (items : Items) → is_decimal last ≡ true → Spells (spell_items items)
+    → Spells (λ ks. spell_array last (spell_initial items ks))
+list_spells last items h s ks q =
+    (refl, (refl, (refl, (refl, (h, (refl, (refl, (refl, initial_spells items s ks q))))))))
+
+abbrev with_block : DataBlock → Globals → ℕ → Globals
+with_block b others line = global others (block_name b.number) (on line)
+    (raw.Direct area.Db (Some b.number) width.Byte 0 0) (on line) (bytes (length b.bytes - 1) (items_form b.bytes))
 
 block_sound : (b : DataBlock) (others : Globals) (line : ℕ) → IsFull b → AreSound others
-    → AreSound (global others (block_name b.number) (on line) (raw.Direct area.Db (Some b.number) width.Byte 0 0)
-    (on line) (bytes (length b.bytes - 1) (items_form b.bytes)))
+    → AreSound (with_block b others line)
 block_sound b others line f s =
     let w = is_written b f in
+    let named = block_is_name b.number f.block.small in
+    let there = block_placed b f in
+    let list = list_spells (length b.bytes - 1) (items_form b.bytes) w.last w.spelled in
     record {
       fit = (s.fit, refl, block_is_named b.number f.block.small);
-      spelled = λ ks q. s.spelled _ (
-        block_is_name b.number f.block.small,
-        (
-          refl,
-          (
-            block_placed b f,
-            (
-              refl,
-              array_spells _ w.last _ (initial_spells (items_form b.bytes) w.spelled _ (refl, q)),
-            ),
-          ),
-        ),
-      );
+      spelled = λ ks q. s.spelled _ (named, (refl, (there, (refl, list _ (refl, q)))));
     }
 
-blocks_behind : (bs : List DataBlock) (others : Globals) (line : ℕ) → Each IsFull bs → AreSound others
-    → Behind IsBlockAt others (blocks_from others line bs).0 bs
-blocks_behind [] others line h s = none_behind IsBlockAt others s
-blocks_behind (b ∷ bs) others line h s =
-    let next = global others (block_name b.number) (on line) (raw.Direct area.Db (Some b.number) width.Byte 0 0)
-    (on line) (bytes (length b.bytes - 1) (items_form b.bytes)) in
-    one_behind others next (block_global b line) refl (block_at b line h.0)
-    (blocks_behind bs next (line_after line) h.1 (block_sound b others line h.0 s))
+blocks_sound : (bs : List DataBlock) (others : Globals) (line : ℕ) → Each IsFull bs → AreSound others
+    → AreSound (blocks_from others line bs).0
+blocks_sound [] others line h s = s
+blocks_sound (b ∷ bs) others line h s = blocks_sound bs _ (line_after line) h.1 (block_sound b others line h.0 s)
+
+blocks_behind : (bs : List DataBlock) (others : Globals) (line : ℕ) → Each IsFull bs
+    → Behind tree_globals IsBlockAt others (blocks_from others line bs).0 bs
+blocks_behind [] others line h = none_behind tree_globals IsBlockAt others
+blocks_behind (b ∷ bs) others line h =
+    one_behind others (with_block b others line) (block_global b line) refl (block_at b line h.0)
+    (blocks_behind bs (with_block b others line) (line_after line) h.1)
 
 -- Other globals
 
+abbrev at_place : Located → RawVar
+at_place g = raw.Direct (area_form g.place.area) None (width_at g.ty) g.place.byte g.place.bit
+
 abbrev located_global : Located → ℕ → RawGlobal
-located_global g line = record {
-  name = g.name;
-  line = on line;
-  at = raw.Direct (area_form g.place.area) None
-      (width_at g.ty) g.place.byte g.place.bit;
-  ty = type.Plain g.ty;
-}
+located_global g line =
+    record { name = g.name; line = on line; at = at_place g; ty = type.Plain g.ty }
 
 located_global_at : (g : Located) (line : ℕ) → IsPlain g → IsLocatedAt g (located_global g line)
 located_global_at g line p = record {
@@ -140,19 +116,23 @@ located_global_at g line p = record {
   typed = refl;
 }
 
-located_sound : (g : Located) (others : Globals) (line : ℕ) → IsPlain g → AreSound others
-    → AreSound (global others g.name (on line)
-    (raw.Direct (area_form g.place.area) None (width_at g.ty) g.place.byte g.place.bit) (on line) (plain g.ty))
-located_sound g others line p s = record { fit = (s.fit, refl, p.free); spelled = λ ks q. s.spelled _ (p.name, (refl, (p.placed, (refl, (refl, (refl, q)))))) }
+abbrev with_located : Located → Globals → ℕ → Globals
+with_located g others line = global others g.name (on line) (at_place g) (on line) (plain g.ty)
 
-located_behind : (gs : List Located) (others : Globals) (line : ℕ) → Each IsPlain gs → AreSound others
-    → Behind IsLocatedAt others (located_from others line gs).0 gs
-located_behind [] others line h s = none_behind IsLocatedAt others s
-located_behind (g ∷ gs) others line h s =
-    let next = global others g.name (on line)
-    (raw.Direct (area_form g.place.area) None (width_at g.ty) g.place.byte g.place.bit) (on line) (plain g.ty) in
-    one_behind others next (located_global g line) refl (located_global_at g line h.0)
-    (located_behind gs next (line_after line) h.1 (located_sound g others line h.0 s))
+located_sound : (gs : List Located) (others : Globals) (line : ℕ) → Each IsPlain gs → AreSound others
+    → AreSound (located_from others line gs).0
+located_sound [] others line h s = s
+located_sound (g ∷ gs) others line h s = located_sound gs (with_located g others line) (line_after line) h.1 (record {
+  fit = (s.fit, refl, h.0.free);
+  spelled = λ ks q. s.spelled _ (h.0.name, (refl, (h.0.placed, (refl, (refl, (refl, q))))));
+})
+
+located_behind : (gs : List Located) (others : Globals) (line : ℕ) → Each IsPlain gs
+    → Behind tree_globals IsLocatedAt others (located_from others line gs).0 gs
+located_behind [] others line h = none_behind tree_globals IsLocatedAt others
+located_behind (g ∷ gs) others line h =
+    one_behind others (with_located g others line) (located_global g line) refl (located_global_at g line h.0)
+    (located_behind gs (with_located g others line) (line_after line) h.1)
 
 -- Both
 
@@ -171,17 +151,19 @@ written : (bs : List DataBlock) (gs : List Located) (line : ℕ) → Each IsFull
     → IsSection bs gs (present (globals_form line bs gs).0)
 written bs gs line h k =
     let none : AreSound no_global = record { fit = tt; spelled = λ ks q. q } in
-    let first = blocks_behind bs no_global line h none in
-    let all = located_behind gs (blocks_from no_global line bs).0 (blocks_from no_global line bs).1 k first.sound in
+    let blocks = blocks_from no_global line bs in
+    let first = blocks_behind bs no_global line h in
+    let second = located_behind gs blocks.0 blocks.1 k in
+    let sound = located_sound gs blocks.0 blocks.1 k (blocks_sound bs no_global line h none) in
     record {
-      fit = all.sound.fit;
-      spelled = λ ks q. (refl, all.sound.spelled _ (refl, q));
+      fit = sound.fit;
+      spelled = λ ks q. (refl, sound.spelled _ (refl, q));
       within = λ before w. (low, globals_within (globals_form line bs gs).0 (0 ∷ before) (low, w));
       blocks = first.more;
-      others = all.more;
-      globals = all.same ∙ ap (λ xs. xs ++ all.more) first.same;
+      others = second.more;
+      globals = second.same ∙ ap (λ xs. xs ++ second.more) first.same;
       are_blocks = first.are;
-      are_located = all.are;
+      are_located = second.are;
     }
 
 -- the section of globals of a proper tree

@@ -2,7 +2,7 @@
 -- their names, they nest no deeper than they may, and they declare what the tree has.
 use Rattle.st_proper.proofs.Spells.{Spells, end_word_spelled, unit_word_spelled}
 use Rattle.st_grammar.specs.declared.kind.Kind.{Kind}
-use Rattle.std.proofs.Common.{◌≡◌, ◌≢◌, ℕ, Bool, true, false, List, [], ◌∷◌, ◌++◌, map, refl, sym, subst, ◌∙◌, append_assoc, append-nil}
+use Rattle.std.proofs.Common.{◌≡◌, ◌≢◌, ℕ, Bool, true, false, List, [], ◌∷◌, map, refl}
 use Rattle.std.specs.Prelude.{All}
 use Rattle.s7_base.specs.declared.reason.Line.{Line}
 use Rattle.s7_base.specs.Tokens.{line_after}
@@ -13,7 +13,7 @@ use Rattle.st_grammar.specs.Grammar.{AllFit, FormalsFit, HeadFits, IfPresent, Lo
 use Rattle.st_grammar.specs.Levels.{levels_all, levels_locals, levels_section, levels_units}
 use Rattle.st_canonical.specs.Spelled.{is_name, is_spelled}
 use Rattle.st_proper.proofs.BlockForms.{AreWithin, low}
-use Rattle.st_types_laws.proofs.Lists.{Each, EachPair, each_of}
+use Rattle.st_types_laws.proofs.Lists.{Behind, Each, EachPair, each_of, none_behind, one_behind, pairs_behind}
 use Rattle.st_tree.specs.Proper.{IsFormal, IsLocal, IsProperUnit}
 use Rattle.st_tree.specs.WellTyped.{head_of}
 use Rattle.st_tree.specs.declared.expr.StType.{StType}
@@ -22,9 +22,8 @@ use Rattle.st_tree.specs.Spelling.{names_in}
 use Rattle.st_tree.specs.declared.program.Local.{Local}
 use Rattle.st_tree.specs.declared.program.Pou.{Pou}
 use Rattle.st_tree.specs.declared.program.StProgram.{StProgram}
-use Rattle.st_tree.specs.declared.raw.RawLocal.{RawLocal}
 use Rattle.st_tree.specs.declared.raw.RawPou.{RawPou}
-use Rattle.st_types_laws.proofs.Redeclared.{AreLocalsAt, AreUnitsAt}
+use Rattle.st_types_laws.proofs.Redeclared.{AreLocalsAt, AreUnitsAt, IsLocalOf, IsUnitAt}
 
 -- a unit of a proper tree
 abbrev pub IsUnit : StProgram → Pou → Type 0
@@ -32,31 +31,33 @@ IsUnit text u = IsProperUnit text.globals (map head_of text.pous) u
 
 -- Their sections
 
--- locals that tokens can have
-record AreSound (P : Locals → Type 0) (others all : Locals) (ls : List Local) : Type 0 where
+-- locals of the language that tokens can have
+record AreSound (P : Locals → Type 0) (all : Locals) : Type 0 where
   fit : P all
   spelled : Spells (spell_locals all)
-  more : List RawLocal
-  same : tree_locals all ≡ tree_locals others ++ more
-  are : AreLocalsAt ls more
 
 module _ (P : Locals → Type 0) (Q : Local → Type 0) (named : (l : Local) → Q l → is_name l.name ≡ true)
     (fits : (others : Locals) (l : Local) (line : Line) → P others → Q l → P (local others l.name line l.ty)) where
-  all_behind : (ls : List Local) (others : Locals) (line : ℕ) → Each Q ls → P others → Spells (spell_locals others)
-      → AreSound P others (locals_from others line ls).0 ls
-  all_behind [] others line h f s =
-      record { fit = f; spelled = s; more = []; same = sym (append-nil (tree_locals others)); are = tt }
-  all_behind (l ∷ ls) others line h f s =
-      let r = all_behind ls (local others l.name (on line) l.ty) (line_after line) h.1 (fits others l (on line) f h.0)
-      (λ ks q. s _ (named l h.0, (refl, (refl, (refl, q))))) in
-      let own : RawLocal = record { name = l.name; line = on line; ty = l.ty } in
-      record {
-        fit = r.fit;
-        spelled = r.spelled;
-        more = own ∷ r.more;
-        same = r.same ∙ append_assoc (tree_locals others) (own ∷ []) r.more;
-        are = (record { named = refl; typed = refl }, r.are);
-      }
+  all_sound : (ls : List Local) (others : Locals) (line : ℕ) → Each Q ls → AreSound P others
+      → AreSound P (locals_from others line ls).0
+  all_sound [] others line h s = s
+  all_sound (l ∷ ls) others line h s = all_sound ls (local others l.name (on line) l.ty) (line_after line) h.1 (record {
+    fit = fits others l (on line) s.fit h.0;
+    spelled = λ ks q. s.spelled _ (named l h.0, (refl, (refl, (refl, q))));
+  })
+
+locals_behind : (ls : List Local) (others : Locals) (line : ℕ)
+    → Behind tree_locals IsLocalOf others (locals_from others line ls).0 ls
+locals_behind [] others line = none_behind tree_locals IsLocalOf others
+locals_behind (l ∷ ls) others line =
+    one_behind others (local others l.name (on line) l.ty) (record { name = l.name; line = on line; ty = l.ty }) refl
+    (record { named = refl; typed = refl }) (locals_behind ls (local others l.name (on line) l.ty) (line_after line))
+
+-- a section declares the formals or the locals
+section_at : (ls : List Local) (line : ℕ) → AreLocalsAt ls (held tree_locals (section_from line ls).0)
+section_at [] line = tt
+section_at (l ∷ ls) line =
+    pairs_behind tree_locals IsLocalOf no_local _ (l ∷ ls) refl (locals_behind (l ∷ ls) no_local (line_after line))
 
 formal_type : (ty : StType) → ty ≢ type.Lint → is_formal_type ty ≡ true
 formal_type type.Lint h = absurd (h refl)
@@ -72,35 +73,29 @@ section_within absent before h = h
 section_within (present ls) before h = (low, locals_within ls (0 ∷ before) (low, h))
 
 -- what a section of formals and one of locals are
-record IsSection (P : Section Locals → Type 0) (s : Section Locals) (ls : List Local) : Type 0 where
+record IsSection (P : Section Locals → Type 0) (s : Section Locals) : Type 0 where
   fit : P s
   spelled : (word : Kind) → is_spelled word ≡ true → Spells (spell_section word spell_locals s)
-  are : AreLocalsAt ls (held tree_locals s)
 
 no_program : (program : Bool) (l : Local) (ls : List Local) → (program ≡ true → l ∷ ls ≡ []) → program ≡ false
 no_program false l ls h = refl
 no_program true l ls h = let none = h refl in absurd cc
 
 formals_section : (program : Bool) (ls : List Local) (line : ℕ) → (program ≡ true → ls ≡ []) → All IsFormal ls
-    → IsSection (HeadFits program) (section_from line ls).0 ls
-formals_section program [] line m h = record { fit = tt; spelled = λ word w ks q. q; are = tt }
+    → IsSection (HeadFits program) (section_from line ls).0
+formals_section program [] line m h = record { fit = tt; spelled = λ word w ks q. q }
 formals_section program (l ∷ ls) line m h =
-    let r = all_behind FormalsFit IsFormal (λ x q. spelled_name x.name q.name)
+    let r = all_sound FormalsFit IsFormal (λ x q. spelled_name x.name q.name)
     (λ others x at f q. (f, q.free, formal_type x.ty q.type)) (l ∷ ls) no_local (line_after line)
-    (each_of IsFormal (l ∷ ls) h) tt (λ ks q. q) in
-    record {
-      fit = (no_program program l ls m, r.fit);
-      spelled = λ word w ks q. (w, r.spelled _ (refl, q));
-      are = subst (AreLocalsAt (l ∷ ls)) (sym r.same) r.are;
-    }
+    (each_of IsFormal (l ∷ ls) h) (record { fit = tt; spelled = λ ks q. q }) in
+    record { fit = (no_program program l ls m, r.fit); spelled = λ word w ks q. (w, r.spelled _ (refl, q)) }
 
-locals_section : (ls : List Local) (line : ℕ) → All IsLocal ls
-    → IsSection (IfPresent LocalsFit) (section_from line ls).0 ls
-locals_section [] line h = record { fit = tt; spelled = λ word w ks q. q; are = tt }
+locals_section : (ls : List Local) (line : ℕ) → All IsLocal ls → IsSection (IfPresent LocalsFit) (section_from line ls).0
+locals_section [] line h = record { fit = tt; spelled = λ word w ks q. q }
 locals_section (l ∷ ls) line h =
-    let r = all_behind LocalsFit IsLocal (λ x q. spelled_name x.name q.name) (λ others x at f q. (f, q.free)) (l ∷ ls)
-    no_local (line_after line) (each_of IsLocal (l ∷ ls) h) tt (λ ks q. q) in
-    record { fit = r.fit; spelled = λ word w ks q. (w, r.spelled _ (refl, q)); are = subst (AreLocalsAt (l ∷ ls)) (sym r.same) r.are }
+    let r = all_sound LocalsFit IsLocal (λ x q. spelled_name x.name q.name) (λ others x at f q. (f, q.free)) (l ∷ ls)
+    no_local (line_after line) (each_of IsLocal (l ∷ ls) h) (record { fit = tt; spelled = λ ks q. q }) in
+    record { fit = r.fit; spelled = λ word w ks q. (w, r.spelled _ (refl, q)) }
 
 -- Units
 
@@ -128,13 +123,6 @@ pub record HasForm (text : StProgram) (u : Pou) (v : RawPou) : Type 0 where
 abbrev pub HaveForms : StProgram → List Pou → List RawPou → Type 0
 HaveForms text = EachPair (HasForm text)
 
--- what they declare and say
-pub record Declare (text : StProgram) (us : List Pou) (others all : Units) : Type 0 where
-  pub more : List RawPou
-  pub same : tree_units all ≡ tree_units others ++ more
-  pub are : AreUnitsAt us more
-  pub forms : HaveForms text us more
-
 -- the lines after the sections of a unit
 abbrev formals_of_unit : ℕ → Pou → Placed (Section Locals)
 formals_of_unit line u = section_from (line_after line) u.formals
@@ -159,21 +147,16 @@ one_unit text u others line h b a =
     let formals = formals_section u.program u.formals (line_after line) h.program h.formals in
     let locals = locals_section u.locals (formals_of_unit line u).1 h.locals in
     let at = (locals_of_unit line u).1 in
+    let named = spelled_name u.name h.name in
+    let front = unit_word_spelled u.program (on line) in
+    let back = end_word_spelled u.program in
+    let first = section_within (formals_of_unit line u).0 in
+    let second = section_within (locals_of_unit line u).0 in
     record {
       fit = (a.fit, h.free, formals.fit, locals.fit, b.fit at);
-      spelled = λ ks q. a.spelled _ (
-        unit_word_spelled u.program (on line),
-        (
-          spelled_name u.name h.name,
-          formals.spelled _ refl _
-              (locals.spelled _ refl _ (b.spelled at _ (end_word_spelled u.program, q))),
-        ),
-      );
-      within = λ before k. (
-        low,
-        b.within at _ (section_within (locals_of_unit line u).0 _
-            (section_within (formals_of_unit line u).0 _ (low, (low, a.within before k)))),
-      );
+      spelled = λ ks q. a.spelled _
+          (front, (named, formals.spelled _ refl _ (locals.spelled _ refl _ (b.spelled at _ (back, q)))));
+      within = λ before k. (low, b.within at _ (second _ (first _ (low, (low, a.within before k)))));
     }
 
 units_behind : (text : StProgram) (us : List Pou) (others : Units) (line : ℕ) → Each (IsUnit text) us
@@ -190,29 +173,28 @@ pub units_are : (text : StProgram) (us : List Pou) (line : ℕ) → Each (IsUnit
 units_are text us line h b = units_behind text us no_unit line h b
     (record { fit = tt; spelled = λ ks q. q; within = λ before w. w })
 
-units_declare : (text : StProgram) (us : List Pou) (others : Units) (line : ℕ) → Each (IsUnit text) us
-    → Declare text us others (units_from text others line us).0
-units_declare text [] others line h =
-    record { more = []; same = sym (append-nil (tree_units others)); are = tt; forms = tt }
-units_declare text (u ∷ us) others line h =
+-- they declare what holds of each unit beside its own declaration
+units_declare : (text : StProgram) (P : Pou → RawPou → Type 0) → ((u : Pou) (line : ℕ) → P u (unit_raw text line u))
+    → (us : List Pou) (others : Units) (line : ℕ) → Behind tree_units P others (units_from text others line us).0 us
+units_declare text P own [] others line = none_behind tree_units P others
+units_declare text P own (u ∷ us) others line =
     let next = unit_from text others line u in
-    let r = units_declare text us next.0 next.1 h.1 in
-    let formals = formals_section u.program u.formals (line_after line) h.0.program h.0.formals in
-    let locals = locals_section u.locals (formals_of_unit line u).1 h.0.locals in
-    record {
-      more = unit_raw text line u ∷ r.more;
-      same = r.same ∙ append_assoc (tree_units others) (unit_raw text line u ∷ []) r.more;
-      are = (record { program = refl; named = refl; formals = formals.are; locals = locals.are }, r.are);
-      forms = (record { line = (locals_of_unit line u).1; same = refl }, r.forms);
-    }
+    one_behind others next.0 (unit_raw text line u) refl (own u line) (units_declare text P own us next.0 next.1)
 
 -- the units of a text declare what it has, and have the canonical form of its statements
 pub record DeclareAll (text : StProgram) (us : List Pou) (units : List RawPou) : Type 0 where
   pub are : AreUnitsAt us units
   pub forms : HaveForms text us units
 
-pub all_declare : (text : StProgram) (us : List Pou) (line : ℕ) → Each (IsUnit text) us
+pub all_declare : (text : StProgram) (us : List Pou) (line : ℕ)
     → DeclareAll text us (tree_units (units_from text no_unit line us).0)
-all_declare text us line h =
-    let r = units_declare text us no_unit line h in
-    record { are = subst (AreUnitsAt us) (sym r.same) r.are; forms = subst (HaveForms text us) (sym r.same) r.forms }
+all_declare text us line = record {
+  are = pairs_behind tree_units IsUnitAt no_unit _ us refl (units_declare text IsUnitAt (λ u at. record {
+    program = refl;
+    named = refl;
+    formals = section_at u.formals (line_after at);
+    locals = section_at u.locals (formals_of_unit at u).1;
+  }) us no_unit line);
+  forms = pairs_behind tree_units (HasForm text) no_unit _ us refl
+      (units_declare text (HasForm text) (λ u at. record { line = (locals_of_unit at u).1; same = refl }) us no_unit line);
+}

@@ -158,7 +158,7 @@ module _ (t : StProgram) (p : Proper t) where
   section = is_section t.dbs t.globals 1 full (each_map IsGlobal IsPlain t.globals (λ g h. (good g h).1) globals)
 
   declare : DeclareAll t t.pous raw.pous
-  declare = all_declare t t.pous (globals_from 1 t.dbs t.globals).1 (units_proper t p)
+  declare = all_declare t t.pous (globals_from 1 t.dbs t.globals).1
 
   plain : IsPlainText t.dbs t.globals t.pous (section.blocks ++ section.others) raw.pous
   plain =
