@@ -1,8 +1,8 @@
 -- The data blocks of a tree, in their canonical form: their names are names of data blocks,
 -- their bytes are ones that tokens have, and their lists stand for the same bytes.
 use Rattle.st_proper.proofs.Spells.{Spells, past_spells}
-use Rattle.std.proofs.Common.{◌≡◌, ℕ, ◌+◌, ◌-◌, ◌≤◌, ◌==◌, true, false, not, List, [], ◌∷◌, ◌++◌, length, drop, take, replicate, Option, None, refl, sym, ap, subst, ◌∙◌, arith, append_assoc, append-nil}
-use Rattle.std.specs.Prelude.{codes, decimal, is_none, if◌then◌else◌}
+use Rattle.std.proofs.Common.{◌≡◌, ℕ, ◌+◌, ◌-◌, ◌≤◌, ◌==◌, true, false, not, List, [], ◌∷◌, ◌++◌, length, replicate, refl, sym, ap, subst, ◌∙◌, arith, append_assoc, append-nil}
+use Rattle.std.specs.Prelude.{decimal, is_none, if◌then◌else◌}
 use Rattle.std.specs.List.{flat_map, list_all}
 use Rattle.std.proofs.Math.Seq.{drop-length}
 use Rattle.std.proofs.lemmas.Bool.{eqb-true}
@@ -14,19 +14,17 @@ use Rattle.digit_texts.specs.Digits.{is_digit}
 use Rattle.st_types_laws.proofs.BlockSizes.{IsBlock, runs_size}
 use Rattle.st_types_laws.proofs.PlainNumbers.{written}
 use Rattle.memory_areas.specs.declared.data_block.DataBlock.{DataBlock}
-use Rattle.s7_base.specs.Tokens.{is_same_word, is_word_byte}
+use Rattle.s7_base.specs.Tokens.{is_word_byte}
 use Rattle.st_lexer.proofs.Words.{and_both}
-use Rattle.st_lexer.specs.Literals.{type_named}
 use Rattle.st_lexer.specs.Spelled.{is_byte, is_decimal}
 use Rattle.st_canonical.specs.Canonical.{block_name, items_behind, items_form, run_behind}
 use Rattle.st_grammar.specs.Forms.{Items, no_item, single, times, GlobalType, plain, bytes, Globals, no_global, global}
 use Rattle.st_grammar.specs.Grammar.{tree_items, spell_items}
-use Rattle.st_grammar.specs.Kinds.{conversion_named, conversion_of_types, size_before_line, word_named, word_text}
+use Rattle.st_grammar.specs.Kinds.{conversion_named, size_before_line, word_named, word_text}
 use Rattle.st_tree.specs.Naming.{names_block}
 use Rattle.st_grammar.specs.Levels.{deepest, levels_globals, levels_initial, levels_items, levels_past, levels_type}
 use Rattle.st_canonical.specs.Spelled.{is_name}
 use Rattle.st_grammar.specs.Syntax.{AllWithin}
-use Rattle.st_grammar.specs.declared.kind.OneOperand.{OneOperand}
 use Rattle.st_rules.specs.Globals.{contents, total}
 
 -- Names
@@ -53,28 +51,19 @@ no_word : (ds : List ℕ) → is_none (word_named (68 ∷ 66 ∷ ds)) ≡ true
 unfolding word_named word_text
 no_word ds = refl
 
--- a conversion by what stands before the first `_` and from there on
-abbrev conversion_by : ℕ → List ℕ → List ℕ → Option OneOperand
-conversion_by size text rest =
-    if is_same_word (take 4 rest) (codes "_TO_") then conversion_of_types (type_named (take size text))
-    (type_named (drop 4 rest)) else None
-
+-- and nothing stands before a `_`
 no_conversion : (text : List ℕ) → size_before_line text ≡ length text → is_none (conversion_named text) ≡ true
-no_conversion text h =
-    ap (λ (size : ℕ). is_none (conversion_by size text (drop size text))) h
-    ∙ ap (λ (rest : List ℕ). is_none (conversion_by (length text) text rest)) (drop-length text)
+no_conversion text h = rw (h, drop-length text) refl
 
 pub block_is_name : (n : ℕ) → n ≤ 65535 → is_name (block_name n) ≡ true
 block_is_name n h =
     let d = written n (omega arith) in
-    let size : size_before_line (68 ∷ 66 ∷ decimal n)
-    ≡ length (68 ∷ 66 ∷ decimal n) = rw (size_of (decimal n) d.digits) (omega arith) in
-    rw (all_words (decimal n) d.digits, no_word (decimal n), no_conversion (68 ∷ 66 ∷ decimal n) size) refl
+    let text = 68 ∷ 66 ∷ decimal n in
+    let size : size_before_line text ≡ length text = rw (size_of (decimal n) d.digits) (omega arith) in
+    rw (all_words (decimal n) d.digits, no_word (decimal n), no_conversion text size) refl
 
 pub block_is_named : (n : ℕ) → n ≤ 65535 → names_block (block_name n) ≡ true
-block_is_named n h =
-    let d = written n (omega arith) in
-    some_digits (decimal n) d.some d.digits
+block_is_named n h = let d = written n (omega arith) in some_digits (decimal n) d.some d.digits
 
 -- Bytes as they are written
 
@@ -88,8 +77,7 @@ abbrev spread : List (ℕ × ℕ) → List ℕ
 spread runs = flat_map (λ (r : ℕ × ℕ). replicate r.0 r.1) runs
 
 spread_one : (runs : List (ℕ × ℕ)) (count b : ℕ) → spread (runs ++ (count, b) ∷ []) ≡ spread runs ++ replicate count b
-spread_one runs count b = flat_map-append (λ (r : ℕ × ℕ). replicate r.0 r.1) runs ((count, b) ∷ [])
-    ∙ ap (λ xs. spread runs ++ xs) (append-nil (replicate count b))
+spread_one runs count b = simp (flat_map-append, append-nil)
 
 -- items that tokens have, which stand for some bytes
 record Stand (items : Items) (found : List ℕ) : Type 0 where

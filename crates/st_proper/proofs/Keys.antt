@@ -14,7 +14,7 @@ use Rattle.s7_base.specs.declared.register.Reg.{Reg}
 use Rattle.st_lexer.proofs.Words.{and_both, not_true}
 use Rattle.st_canonical.proofs.SameNames.{of_same, same_of}
 use Rattle.st_rules.specs.Globals.{number_in}
-use Rattle.st_tree.specs.Naming.{is_free, is_next, is_numbered, is_register, is_same, is_unit_number, key_of, may_name_local, may_name_unit, names_block, register_names, without_zeros}
+use Rattle.st_tree.specs.Naming.{is_free, is_next, is_numbered, is_register, is_same, is_unit_number, key_of, may_name_local, may_name_unit, names_block, register_names}
 use Rattle.st_rules.specs.Scopes.{register_named}
 use Rattle.st_tree.specs.Words.{register_word}
 use Rattle.st_rules.specs.declared.scope.TheConstants.{REGISTERS}
@@ -38,9 +38,7 @@ are_back (c ∷ name) h = digits_back (c ∷ name) h
 
 lower_upper : (name : List ℕ) → str_to_ascii_lowercase (map to_ascii_uppercase name) ≡ str_to_ascii_lowercase name
 lower_upper [] = refl
-lower_upper (c ∷ name) =
-    ap (λ d. d ∷ str_to_ascii_lowercase (map to_ascii_uppercase name)) (lowercase-uppercase c)
-    ∙ ap (λ ds. to_ascii_lowercase c ∷ ds) (lower_upper name)
+lower_upper (c ∷ name) = rw (lowercase-uppercase c, lower_upper name) refl
 
 block_back : (name : List ℕ) → names_block (map to_ascii_uppercase name) ≡ true → names_block name ≡ true
 block_back name h =
@@ -60,14 +58,9 @@ not_block name h = grind (arith, block_back name)
 -- the key of another name is its capitals
 key_is : (name : List ℕ) → names_block name ≡ false → key_of name ≡ map to_ascii_uppercase name
 unfolding key_of
-key_is name h =
-    let capitals = map to_ascii_uppercase name in
-    ap (λ t. cond t (68 ∷ 66 ∷ without_zeros (drop 2 capitals)) capitals) (not_block name h)
+key_is name h = rw (not_block name h) refl
 
 -- Registers
-
-registers_are : map register_word REGISTERS ≡ register_names
-registers_are = refl
 
 is_word : (name w : List ℕ) → is_same w (map to_ascii_uppercase name) ≡ true → is_same_word name w ≡ true
 is_word name w h =
@@ -89,7 +82,7 @@ no_register : (name : List ℕ) → names_block name ≡ false → is_register n
 unfolding register_named
 no_register name h g =
     ap (λ k. find (λ r. is_same (register_word r) k) REGISTERS) (key_is name h)
-    ∙ not_found name REGISTERS (ap (λ ws. is_among ws name) registers_are ∙ g)
+    ∙ not_found name REGISTERS g
 
 -- What a name is that names no register and no data block
 
@@ -98,11 +91,8 @@ pub record IsOther (name : List ℕ) : Type 0 where
   pub register : register_named (key_of name) ≡ None
 
 is_other : (name : List ℕ) → names_block name ≡ false → is_register name ≡ false → IsOther name
-is_other name h g = record {
-  block = ap names_block (key_is name h)
-      ∙ not_block name h;
-  register = no_register name h g;
-}
+is_other name h g =
+    record { block = ap names_block (key_is name h) ∙ not_block name h; register = no_register name h g }
 
 pub free_name : (name : List ℕ) → is_free name ≡ true → IsOther name
 free_name name h =
@@ -116,9 +106,7 @@ free_name name h =
 same_among : (ws : List (List ℕ)) (name word : List ℕ) → is_same_word name word ≡ true
     → is_among ws name ≡ is_among ws word
 same_among [] name word h = refl
-same_among (w ∷ ws) name word h =
-    ap (λ l. bytes_eq l (str_to_ascii_lowercase w) || is_among ws name) (same_of name word h)
-    ∙ ap (λ t. is_same_word word w || t) (same_among ws name word h)
+same_among (w ∷ ws) name word h = cc (same_of name word h, same_among ws name word h)
 
 next_letters : (name : List ℕ) → is_next name ≡ true → is_same_word (take 2 name) (codes "DB") ≡ false
 next_letters name h =

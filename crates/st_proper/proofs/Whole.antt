@@ -1,5 +1,5 @@
 -- A proper tree has a canonical form: its declarations and its units together.
-use Rattle.std.proofs.Common.{◌≡◌, ◌≢◌, ℕ, suc, ◌+◌, ◌<◌, ◌≤◌, max, true, false, List, [], ◌∷◌, ◌++◌, map, length, slice_get, Some, refl, sym, ap, subst, ◌∙◌, arith}
+use Rattle.std.proofs.Common.{◌≡◌, ◌≢◌, ℕ, suc, ◌+◌, ◌<◌, ◌≤◌, true, false, List, [], ◌∷◌, ◌++◌, map, length, slice_get, Some, refl, sym, ap, subst, ◌∙◌, arith}
 use Rattle.std.specs.Prelude.{All}
 use Rattle.std.specs.List.{flat_map, list_all}
 use Rattle.std.proofs.lemmas.Bool.Decides.{nat_tests}
@@ -13,14 +13,14 @@ use Rattle.memory_areas.specs.declared.place.Area.TheVariants as place
 use Rattle.st_canonical.specs.Canonical.{area_form, globals_from, source_of, units_from}
 use Rattle.st_grammar.specs.Forms.{no_unit}
 use Rattle.st_grammar.specs.Grammar.{raw_tree}
-use Rattle.st_grammar.specs.Levels.{deepest, levels_all, levels_globals, levels_section}
+use Rattle.st_grammar.specs.Levels.{deepest, levels_globals, levels_section}
 use Rattle.st_lexer.specs.Spelled.{is_byte}
 use Rattle.st_proper.proofs.BlockForms.{IsFull, low}
 use Rattle.st_types_laws.proofs.Bounds.{bound}
 use Rattle.st_proper.proofs.Chains.{AreBounded, is_chain}
 use Rattle.st_proper.proofs.DeclaredGlobals.{IsPlain, IsSection, is_section}
 use Rattle.st_proper.proofs.Good.{GoodAll}
-use Rattle.st_canonical.proofs.Levels.{all_within, greatest, greatest_within, top_all, top_of_all}
+use Rattle.st_canonical.proofs.Levels.{all_within, greatest_within, top_of_all}
 use Rattle.st_types_laws.proofs.Parts.{clean_of, found_of}
 use Rattle.st_types_laws.proofs.Lists.{each_at, each_from, each_map, each_of, mapped_from, pair_at, there_at}
 use Rattle.st_types_laws.proofs.DeclaredTree.{formals_in, formals_same, same_length, unit_there}
@@ -33,12 +33,12 @@ use Rattle.st_proper.specs.CanonicalForms.{HasCanonicalForm, ProperHasForm}
 use Rattle.s7_base.specs.Broken.{first_of_all}
 use Rattle.st_rules.specs.Judged.{breaks_in, found_in}
 use Rattle.st_rules.specs.Calls.{all_calls}
-use Rattle.st_rules.specs.Declarations.{all_outside, formals_of}
+use Rattle.st_rules.specs.Declarations.{all_inside, all_outside, formals_of}
 use Rattle.st_rules.specs.Globals.{all_blocks, all_global_breaks, all_located}
 use Rattle.st_rules.specs.Statements.{statements}
 use Rattle.st_tree.specs.TypeRules.{has_width}
 use Rattle.st_rules.specs.Typed.{IsChain, breaks_of, calls_in, names_of, tree_of}
-use Rattle.st_rules.specs.Units.{all_unit_breaks, all_units, breaks_of_unit, calls_of_unit, scope_in, unit_of}
+use Rattle.st_rules.specs.Units.{all_units, breaks_of_unit, calls_of_unit, scope_in, unit_of}
 use Rattle.st_rules.specs.declared.scope.Scope.{Scope}
 use Rattle.st_tree.proofs.CalledMost.{called_most}
 use Rattle.st_tree.proofs.Induction.{Each}
@@ -54,7 +54,7 @@ use Rattle.st_tree.specs.declared.program.Pou.{Pou}
 use Rattle.st_tree.specs.declared.program.StProgram.{StProgram}
 use Rattle.st_tree.specs.declared.raw.RawPou.{RawPou}
 use Rattle.st_tree.specs.declared.raw.RawSt.{RawSt}
-use Rattle.st_types_laws.proofs.DeclaredNames.{IsPlaced, locals_again, outer_entries}
+use Rattle.st_types_laws.proofs.DeclaredNames.{IsPlaced, inner_entries, locals_again, outer_entries}
 use Rattle.st_types_laws.proofs.BlockSizes.{IsBlock}
 use Rattle.st_types_laws.proofs.PlainTexts.{IsPlainText, inside_again, plain_text}
 use Rattle.st_types_laws.proofs.Redeclared.{IsUnitAt}
@@ -125,12 +125,6 @@ all_nil : {X Y : Type 0} (f : X → List Y) (xs : List X) → ((n : ℕ) (x : X)
 all_nil f [] h = refl
 all_nil f (x ∷ xs) h = rw (h 0 x refl) (all_nil f xs (λ n a p. h (suc n) a p))
 
-unit_again : (raw : RawSt) (p : Pou) (v : RawPou) → IsUnitAt p v
-    → found_in (statements (scope_in (names_of raw) (map formals_of raw.pous) v) v.body) ≡ p.body
-    → unit_of (names_of raw) (map formals_of raw.pous) v ≡ p
-unit_again raw p v at body =
-    rw (body, at.program, at.named, locals_again p.formals v.formals at.formals, locals_again p.locals v.locals at.locals) refl
-
 some_units : (vs : List RawPou) (ps : List Pou) → length vs ≡ length ps → ps ≢ [] → vs ≢ []
 some_units vs [] size some e = some refl
 some_units vs (p ∷ ps) size some e = let none : length vs ≡ 0 = ap length e in omega arith
@@ -175,30 +169,40 @@ module _ (t : StProgram) (p : Proper t) where
   size : length raw.pous ≡ length t.pous
   size = same_length t.pous raw.pous declare.are
 
+  -- a unit of the tree with that of the text
+  proper_at : (n : ℕ) (u : Pou) → slice_get t.pous n ≡ Some u → IsProperUnit t.globals (map head_of t.pous) u
+  proper_at n u q = each_at (IsProperUnit t.globals (map head_of t.pous)) t.pous n u (units_proper t p) q
+
+  unit_at : (n : ℕ) (u : Pou) (v : RawPou) → slice_get t.pous n ≡ Some u → slice_get raw.pous n ≡ Some v → IsUnitAt u v
+  unit_at = unit_there t.pous raw.pous declare.are
+
+  inside_at : (n : ℕ) (u : Pou) (v : RawPou) → slice_get t.pous n ≡ Some u → slice_get raw.pous n ≡ Some v
+      → ((all_inside v.formals v.locals).breaks ≡ []) × ((all_inside v.formals v.locals).names ≡ inner_entries u)
+  inside_at n u v q d =
+      let at = unit_at n u v q d in inside_again u v at.formals at.locals (inner_apart u (proper_at n u q).apart)
+
   -- the statements of a unit
   body : (n : ℕ) (u : Pou) (v : RawPou) → slice_get t.pous n ≡ Some u → slice_get raw.pous n ≡ Some v → (line : ℕ)
       → GoodAll (scope_of v) false u.body (body_at t u line)
   body n u v q d line =
-      let h = each_at (IsProperUnit t.globals (map head_of t.pous)) t.pous n u (units_proper t p) q in
-      let at = unit_there t.pous raw.pous declare.are n u v q d in
-      let inside = inside_again u v at.formals at.locals (inner_apart u h.apart) in
-      statements_good (scope_of v) (names_in t u) (sees t u (scope_of v) p h inside.1 outer formals)
-      (λ e ty g. types_agree t u e ty g) false u.body h.typed line
+      let h = proper_at n u q in
+      statements_good (scope_of v) (names_in t u)
+      (sees t u (scope_of v) p h (inside_at n u v q d).1 outer formals) (types_agree t u) false u.body h.typed line
 
   has_body : (n : ℕ) (u : Pou) → slice_get t.pous n ≡ Some u → HasBody t u
   has_body n u q =
-      let h = each_at (IsProperUnit t.globals (map head_of t.pous)) t.pous n u (units_proper t p) q in
       let v = fellow t.pous raw.pous n u (sym size) q in
+      let good = body n u v.0 q v.1 in
       record {
-        fit = λ line. (body n u v.0 q v.1 line).fits;
-        spelled = λ line. (body n u v.0 q v.1 line).spelled;
-        within = λ line before w.
-            let form = body_at t u line in
-            let low = (body n u v.0 q v.1 line).low 0 in
-            let rest : greatest before ≤ deepest = greatest_within deepest before w in
-            let sum : greatest (levels_all 0 form before)
-            ≡ max (top_all 0 form) (greatest before) = top_of_all 0 form before in
-            all_within deepest (levels_all 0 form before) (omega (arith, low, h.nesting, rest, sum));
+        fit = λ line. (good line).fits;
+        spelled = λ line. (good line).spelled;
+        within = λ line before w. all_within deepest _ (omega (
+          arith,
+          (good line).low 0,
+          (proper_at n u q).nesting,
+          greatest_within deepest before w,
+          top_of_all 0 (body_at t u line) before,
+        ));
       }
 
   units : AreUnits (units_from t no_unit (globals_from 1 t.dbs t.globals).1 t.pous).0
@@ -210,35 +214,31 @@ module _ (t : StProgram) (p : Proper t) where
       × ((f : ℕ → ℕ) → bound f (all_calls (scope_of v) v.body) ≤ called_most f u.body)
   said n u v q d =
       let form = pair_at (HasForm t) t.pous raw.pous declare.forms n u v q d in
-      let g = body n u v q d form.line in (
-        ap (λ b. breaks_in (statements (scope_of v) b)) form.same ∙ clean_of _ _ g.means,
-        ap (λ b. found_in (statements (scope_of v) b)) form.same ∙ found_of _ _ g.means,
-        λ f. subst (λ b. bound f (all_calls (scope_of v) b) ≤ called_most f u.body) (sym form.same)
-            (g.calls f),
-      )
+      let g = body n u v q d form.line in
+      rw form.same (clean_of _ _ g.means, found_of _ _ g.means, g.calls)
 
   sound_unit : (n : ℕ) (v : RawPou) → slice_get raw.pous n ≡ Some v
       → breaks_of_unit (names_of raw) (map formals_of raw.pous) v ≡ []
   sound_unit n v d =
       let u = fellow raw.pous t.pous n v size d in
-      let h = each_at (IsProperUnit t.globals (map head_of t.pous)) t.pous n u.0 (units_proper t p) u.1 in
-      let at = unit_there t.pous raw.pous declare.are n u.0 v u.1 d in
-      let inside = inside_again u.0 v at.formals at.locals (inner_apart u.0 h.apart) in
-      ap (λ l. l ++ breaks_in (statements (scope_of v) v.body)) inside.0 ∙ (said n u.0 v u.1 d).0
+      rw (inside_at n u.0 v u.1 d).0 (said n u.0 v u.1 d).0
 
   no_breaks : breaks_of raw ≡ []
   no_breaks =
-      ap (λ l. l ++ (all_global_breaks raw.globals ++ all_unit_breaks (names_of raw)
-      (map formals_of raw.pous) raw.pous))
-      (ap (λ gs. (all_outside gs raw.pous).breaks) section.globals ∙ plain.outside)
-      ∙ ap (λ l. l ++ all_unit_breaks (names_of raw) (map formals_of raw.pous) raw.pous)
-      (ap all_global_breaks section.globals ∙ plain.sound)
-      ∙ all_nil (breaks_of_unit (names_of raw) (map formals_of raw.pous)) raw.pous sound_unit
+      let outside = ap (λ gs. (all_outside gs raw.pous).breaks) section.globals ∙ plain.outside in
+      let sound = ap all_global_breaks section.globals ∙ plain.sound in
+      rw (outside, sound) (all_nil (breaks_of_unit (names_of raw) (map formals_of raw.pous)) raw.pous sound_unit)
 
   all_again : all_units (names_of raw) (map formals_of raw.pous) raw.pous ≡ t.pous
   all_again =
       each_is (unit_of (names_of raw) (map formals_of raw.pous)) raw.pous t.pous size
-      (λ n v u d q. unit_again raw u v (unit_there t.pous raw.pous declare.are n u v q d) (said n u v q d).1)
+      (λ n v u d q. let at = unit_at n u v q d in rw (
+        (said n u v q d).1,
+        at.program,
+        at.named,
+        locals_again u.formals v.formals at.formals,
+        locals_again u.locals v.locals at.locals,
+      ) refl)
 
   same : t ≡ tree_of raw
   same = sym (rw (ap all_blocks section.globals ∙ plain.blocks, ap all_located section.globals ∙ plain.located, all_again) refl)
