@@ -38,7 +38,7 @@ use Rattle.st_rules.specs.Globals.{all_blocks, all_global_breaks, all_located}
 use Rattle.st_rules.specs.Statements.{statements}
 use Rattle.st_tree.specs.TypeRules.{has_width}
 use Rattle.st_rules.specs.Typed.{IsChain, breaks_of, calls_in, names_of, tree_of}
-use Rattle.st_rules.specs.Units.{all_units, breaks_of_unit, calls_of_unit, scope_in, unit_of}
+use Rattle.st_rules.specs.Units.{all_unit_breaks, all_units, breaks_of_unit, calls_of_unit, scope_in, unit_of}
 use Rattle.st_rules.specs.declared.scope.Scope.{Scope}
 use Rattle.st_tree.proofs.CalledMost.{called_most}
 use Rattle.st_tree.proofs.Induction.{Each}
@@ -124,6 +124,12 @@ all_nil : {X Y : Type 0} (f : X → List Y) (xs : List X) → ((n : ℕ) (x : X)
     → flat_map f xs ≡ []
 all_nil f [] h = refl
 all_nil f (x ∷ xs) h = rw (h 0 x refl) (all_nil f xs (λ n a p. h (suc n) a p))
+
+unit_again : (raw : RawSt) (p : Pou) (v : RawPou) → IsUnitAt p v
+    → found_in (statements (scope_in (names_of raw) (map formals_of raw.pous) v) v.body) ≡ p.body
+    → unit_of (names_of raw) (map formals_of raw.pous) v ≡ p
+unit_again raw p v at body =
+    rw (body, at.program, at.named, locals_again p.formals v.formals at.formals, locals_again p.locals v.locals at.locals) refl
 
 some_units : (vs : List RawPou) (ps : List Pou) → length vs ≡ length ps → ps ≢ [] → vs ≢ []
 some_units vs [] size some e = some refl
@@ -215,30 +221,28 @@ module _ (t : StProgram) (p : Proper t) where
   said n u v q d =
       let form = pair_at (HasForm t) t.pous raw.pous declare.forms n u v q d in
       let g = body n u v q d form.line in
-      rw form.same (clean_of _ _ g.means, found_of _ _ g.means, g.calls)
+      subst (λ b. (breaks_in (statements (scope_of v) b) ≡ []) × (found_in (statements (scope_of v) b) ≡ u.body)
+      × ((f : ℕ → ℕ) → bound f (all_calls (scope_of v) b) ≤ called_most f u.body)) (sym form.same)
+      (clean_of _ _ g.means, found_of _ _ g.means, g.calls)
 
   sound_unit : (n : ℕ) (v : RawPou) → slice_get raw.pous n ≡ Some v
       → breaks_of_unit (names_of raw) (map formals_of raw.pous) v ≡ []
   sound_unit n v d =
       let u = fellow raw.pous t.pous n v size d in
-      rw (inside_at n u.0 v u.1 d).0 (said n u.0 v u.1 d).0
+      ap (λ l. l ++ breaks_in (statements (scope_of v) v.body)) (inside_at n u.0 v u.1 d).0 ∙ (said n u.0 v u.1 d).0
 
   no_breaks : breaks_of raw ≡ []
   no_breaks =
       let outside = ap (λ gs. (all_outside gs raw.pous).breaks) section.globals ∙ plain.outside in
       let sound = ap all_global_breaks section.globals ∙ plain.sound in
-      rw (outside, sound) (all_nil (breaks_of_unit (names_of raw) (map formals_of raw.pous)) raw.pous sound_unit)
+      ap (λ l. l ++ (all_global_breaks raw.globals ++ all_unit_breaks (names_of raw) (map formals_of raw.pous) raw.pous)) outside
+      ∙ ap (λ l. l ++ all_unit_breaks (names_of raw) (map formals_of raw.pous) raw.pous) sound
+      ∙ all_nil (breaks_of_unit (names_of raw) (map formals_of raw.pous)) raw.pous sound_unit
 
   all_again : all_units (names_of raw) (map formals_of raw.pous) raw.pous ≡ t.pous
   all_again =
       each_is (unit_of (names_of raw) (map formals_of raw.pous)) raw.pous t.pous size
-      (λ n v u d q. let at = unit_at n u v q d in rw (
-        (said n u v q d).1,
-        at.program,
-        at.named,
-        locals_again u.formals v.formals at.formals,
-        locals_again u.locals v.locals at.locals,
-      ) refl)
+      (λ n v u d q. unit_again raw u v (unit_at n u v q d) (said n u v q d).1)
 
   same : t ≡ tree_of raw
   same = sym (rw (ap all_blocks section.globals ∙ plain.blocks, ap all_located section.globals ∙ plain.located, all_again) refl)
