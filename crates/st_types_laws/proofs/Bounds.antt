@@ -29,16 +29,13 @@ bound_none f cs n e = let none : bound f cs ≡ 0 = ap (bound f) e in omega (ari
 
 bound_last : (f : ℕ → ℕ) (parts : List (List Call)) (cs : List Call)
     → bound f (joined (parts ++ cs ∷ [])) ≡ max (bound f (joined parts)) (bound f cs)
-bound_last f [] cs = let end : bound f (cs ++ []) ≡ max (bound f cs) 0 = bound_joined f cs [] in omega (arith, end)
-bound_last f (first ∷ parts) cs =
-    let whole : bound f (first ++ joined (parts ++ cs ∷ []))
-    ≡ max (bound f first) (bound f (joined (parts ++ cs ∷ []))) =
-    bound_joined f first (joined (parts ++ cs ∷ [])) in
-    let more : bound f (joined (parts ++ cs ∷ []))
-    ≡ max (bound f (joined parts)) (bound f cs) = bound_last f parts cs in
-    let front : bound f (first ++ joined parts)
-    ≡ max (bound f first) (bound f (joined parts)) = bound_joined f first (joined parts) in
-    omega (arith, whole, more, front)
+bound_last f [] cs = omega (arith, bound_joined f cs [])
+bound_last f (first ∷ parts) cs = omega (
+  arith,
+  bound_joined f first (joined (parts ++ cs ∷ [])),
+  bound_last f parts cs,
+  bound_joined f first (joined parts),
+)
 
 -- the greatest of some numbers and one more
 pub greatest_last : {X : Type 0} (f : X → ℕ) (xs : List X) (x : X)

@@ -209,9 +209,7 @@ on_area name ty a r w byte bit there back address fits =
     own = ap (λ b. var.Direct b None (width_at ty) byte bit) back ∙ ap (λ v. var.Direct a None v byte bit) (same_width ty w wide)
 
     found : located_at name ty (var.Direct a None w byte bit) ≡ Some made
-    found =
-        ap (λ t. cond t (located_in name ty (area_of a) byte bit) None) (both_true (is_address a None w byte bit) (has_width ty w) address wide)
-        ∙ ap (λ o. located_in name ty o byte bit) there
+    found = rw (address, wide, there) refl
 
 has_place : (name : List ℕ) (ty : StType) (at : RawVar) → has_address at ≡ true → fits_type ty at ≡ true → HasPlace name ty at
 has_place name ty (var.Name other) h g = absurd cc
@@ -276,9 +274,7 @@ module _ (d : Outside) (bs : List DataBlock) (ls : List Located) (name : List �
       let last : Lists (with_entry (key_of name) (meaning.Global d.globals ty) d.names) ((block_entries bs ++ located_entries 0 ls) ++ (key_of name, meaning.Global d.globals ty) ∷ []) =
       declared_last line (key_of name) (meaning.Global d.globals ty) d.names (block_entries bs ++ located_entries 0 ls) so.names once in
       let size : d.globals ≡ 0 + length ls = omega (arith, so.globals) in
-      let entry : (key_of name, meaning.Global d.globals ty) ≡ (key_of p.located.name, meaning.Global (0 + length ls) p.located.ty) =
-      ap (λ k. (key_of k, meaning.Global d.globals ty)) (sym p.named) ∙ ap (λ n. (key_of p.located.name, meaning.Global n ty)) size
-      ∙ ap (λ s. (key_of p.located.name, meaning.Global (0 + length ls) s)) (sym p.typed) in
+      let entry : (key_of name, meaning.Global d.globals ty) ≡ (key_of p.located.name, meaning.Global (0 + length ls) p.located.ty) = rw (p.named, p.typed, size) refl in
       let order : (block_entries bs ++ located_entries 0 ls) ++ (key_of name, meaning.Global d.globals ty) ∷ [] ≡ block_entries bs ++ located_entries 0 (ls ++ p.located ∷ []) =
       append_assoc (block_entries bs) (located_entries 0 ls) ((key_of name, meaning.Global d.globals ty) ∷ [])
       ∙ ap (λ x. block_entries bs ++ (located_entries 0 ls ++ x ∷ [])) entry ∙ ap (λ es. block_entries bs ++ es) (sym (located_last 0 ls p.located)) in

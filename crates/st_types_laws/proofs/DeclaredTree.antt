@@ -29,7 +29,7 @@ use Rattle.st_rules.specs.declared.scope.Meaning.{Meaning}
 use Rattle.st_rules.specs.declared.scope.Meaning.TheVariants as meaning
 use Rattle.st_rules.specs.declared.scope.Scope.{Scope}
 use Rattle.st_types_laws.proofs.Apart.{Lists, same_keys}
-use Rattle.st_types_laws.proofs.Lists.{each_all, each_map, mapped_at, nil_at, nil_first, nil_second, pair_at, pair_length, pair_map}
+use Rattle.st_types_laws.proofs.Lists.{Each, each_all, each_append, each_map, mapped_at, nil_at, nil_first, nil_second, pair_at, pair_length, pair_map}
 use Rattle.st_types_laws.proofs.Declared.{Declares, IsFunctionAt, IsGlobalAt, IsLocalAt, keys_of_locals, types_of_locals}
 use Rattle.st_types_laws.proofs.DeclaredNames.{AreNumbered, before_units, ArePlaced, Gathered, block_entries, entries, formal_entries, gather, gather_units, inner_entries, local_entries, located_entries, outer_entries, unit_entries}
 use Rattle.s7_base.proofs.FirstBreak.{first_of_all_is_first}
@@ -136,12 +136,7 @@ Stands names formals key other = Unit {0}
 module _ (names : Names) (formals : List Formals) where
   -- each entry of a table is right
   abbrev AllStand : Table Meaning → Type 0
-  AllStand [] = Unit {0}
-  AllStand (e ∷ es) = Stands names formals e.0 e.1 × AllStand es
-
-  stand_joined : (xs ys : Table Meaning) → AllStand xs → AllStand ys → AllStand (xs ++ ys)
-  stand_joined [] ys h g = g
-  stand_joined (x ∷ xs) ys h g = (h.0, stand_joined xs ys h.1 g)
+  AllStand = Each (λ (e : List ℕ × Meaning). Stands names formals e.0 e.1)
 
   found_stands : (k : List ℕ) (m : Meaning) (es : Table Meaning) → look_up k es ≡ Some m → AllStand es → Stands names formals k m
   found_stands k m [] q h = absurd cc
@@ -158,16 +153,11 @@ module _ (names : Names) (formals : List Formals) where
   blocks_stand (b ∷ bs) = (tt, blocks_stand bs)
 
   entries_stand : {X : Type 0} (name : X → List ℕ) (mean : ℕ → X → Meaning) (i : ℕ) (xs : List X)
-      → ((n : ℕ) (x : X) → slice_get xs n ≡ Some x → Stands names formals (key_of (name x)) (mean (i + n) x))
+      → ((n j : ℕ) (x : X) → i + n ≡ j → slice_get xs n ≡ Some x → Stands names formals (key_of (name x)) (mean j x))
       → AllStand (entries (λ x. key_of (name x)) mean i xs)
   entries_stand name mean i [] h = tt
   entries_stand name mean i (x ∷ xs) h =
-      let here : i + 0 ≡ i = omega arith in (
-        subst (λ j. Stands names formals (key_of (name x)) (mean j x)) here (h 0 x refl),
-        entries_stand name mean (i + 1) xs (λ n y q.
-            let next : i + suc n ≡ i + 1 + n = omega arith in
-            subst (λ j. Stands names formals (key_of (name y)) (mean j y)) next (h (suc n) y q)),
-      )
+      (h 0 i x (omega arith) refl, entries_stand name mean (i + 1) xs (λ n j y e q. h (suc n) j y (omega arith) q))
 
 -- the meaning of another name than a register's stands in a table
 abbrev IsNoRegister : Meaning → Type 0
@@ -184,8 +174,8 @@ in_tables None None y m other h = inr h
 pub same_length : (ps : List Pou) (us : List RawPou) → AreUnitsAt ps us → length us ≡ length ps
 same_length = pair_length IsUnitAt
 
-from_start : {X : Type 0} (xs : List X) (n : ℕ) (x : X) → slice_get xs n ≡ Some x → slice_get xs (0 + n) ≡ Some x
-from_start xs n x h = let e : 0 + n ≡ n = omega arith in ap (slice_get xs) e ∙ h
+from_start : {X : Type 0} (xs : List X) (n j : ℕ) (x : X) → 0 + n ≡ j → slice_get xs n ≡ Some x → slice_get xs j ≡ Some x
+from_start xs n j x e h = let same : n ≡ j = omega arith in subst (λ i. slice_get xs i ≡ Some x) same h
 
 -- a scope says of each name what stands in the tree
 pub scope_declares : (t : StProgram) (p : Pou) (scope : Scope) → Lists scope.inner (inner_entries p) → Lists scope.outer (outer_entries t) → scope.formals ≡ map formals_in t.pous
@@ -200,33 +190,32 @@ scope_declares t p scope inner outer formals = record {
     names : Names
     names = names_in t p
 
-    unit_stands : (n : ℕ) (u : Pou) → slice_get t.pous n ≡ Some u
-        → Stands names scope.formals (key_of u.name) (meaning_of_unit (0 + n) u.program)
-    unit_stands n u q = by u.program
+    unit_stands : (n j : ℕ) (u : Pou) → 0 + n ≡ j → slice_get t.pous n ≡ Some u
+        → Stands names scope.formals (key_of u.name) (meaning_of_unit j u.program)
+    unit_stands n j u e q =
+        elim u.program as (λ b. Stands names scope.formals (key_of u.name) (meaning_of_unit j b)) [ true ↦ tt | false ↦ function ]
       where
-        by : (b : Bool) → Stands names scope.formals (key_of u.name) (meaning_of_unit (0 + n) b)
-        by true = tt
-        by false =
-            let there = from_start t.pous n u q in
-            let seen : slice_get scope.formals (0 + n) ≡ Some (formals_in u) =
-            ap (λ fs. slice_get fs (0 + n)) formals ∙ mapped_at formals_in t.pous (0 + n) u there in
-            subst (λ o. IsFunctionAt (key_of u.name) o (slice_get scope.formals (0 + n))) (sym there)
-            (subst (IsFunctionAt (key_of u.name) (Some u)) (sym seen) (record { named = refl; keys = refl; types = refl }))
+        there : slice_get t.pous j ≡ Some u
+        there = from_start t.pous n j u e q
+
+        function : IsFunctionAt (key_of u.name) (slice_get t.pous j) (slice_get scope.formals j)
+        function = rw (there, ap (λ fs. slice_get fs j) formals ∙ mapped_at formals_in t.pous j u there)
+            (record { named = refl; keys = refl; types = refl })
 
     inner_stands : AllStand names scope.formals (inner_entries p)
     inner_stands =
-        stand_joined names scope.formals (formal_entries 0 p.formals) (local_entries 0 p.locals)
-        (entries_stand names scope.formals (λ (l : Local). l.name) _ 0 p.formals (λ n l q.
-        subst (IsLocalAt (key_of l.name) l.ty) (sym (from_start p.formals n l q)) (refl, refl)))
-        (entries_stand names scope.formals (λ (l : Local). l.name) _ 0 p.locals (λ n l q.
-        subst (IsLocalAt (key_of l.name) l.ty) (sym (from_start p.locals n l q)) (refl, refl)))
+        each_append _ (formal_entries 0 p.formals) (local_entries 0 p.locals)
+        (entries_stand names scope.formals (λ (l : Local). l.name) _ 0 p.formals (λ n j l e q.
+        subst (IsLocalAt (key_of l.name) l.ty) (sym (from_start p.formals n j l e q)) (refl, refl)))
+        (entries_stand names scope.formals (λ (l : Local). l.name) _ 0 p.locals (λ n j l e q.
+        subst (IsLocalAt (key_of l.name) l.ty) (sym (from_start p.locals n j l e q)) (refl, refl)))
 
     outer_stands : AllStand names scope.formals (outer_entries t)
     outer_stands =
-        stand_joined names scope.formals (block_entries t.dbs) (located_entries 0 t.globals ++ unit_entries 0 t.pous) (blocks_stand names scope.formals t.dbs)
-        (stand_joined names scope.formals (located_entries 0 t.globals) (unit_entries 0 t.pous)
-        (entries_stand names scope.formals (λ (g : Located). g.name) _ 0 t.globals (λ n g q.
-        subst (IsGlobalAt (key_of g.name) g.ty) (sym (from_start t.globals n g q)) (refl, refl)))
+        each_append _ (block_entries t.dbs) (located_entries 0 t.globals ++ unit_entries 0 t.pous) (blocks_stand names scope.formals t.dbs)
+        (each_append _ (located_entries 0 t.globals) (unit_entries 0 t.pous)
+        (entries_stand names scope.formals (λ (g : Located). g.name) _ 0 t.globals (λ n j g e q.
+        subst (IsGlobalAt (key_of g.name) g.ty) (sym (from_start t.globals n j g e q)) (refl, refl)))
         (entries_stand names scope.formals (λ (u : Pou). u.name) _ 0 t.pous unit_stands))
 
     stands : (key : List ℕ) (m : Meaning) → IsNoRegister m → meaning_in scope key ≡ Some m → Stands names scope.formals key m

@@ -187,9 +187,7 @@ module _ (s : Scope) (l : Line) where
 pub statements_last : (s : Scope) (rs : List RawStmt) (r : RawStmt) (xs : List Stmt) (x : Stmt)
     → AreSound (statements s rs) xs → statement s r ≡ sound x
     → AreSound (statements s (rs ++ r ∷ [])) (xs ++ x ∷ [])
-statements_last s rs r xs x h g =
-    map_last (statement s) rs r ∙ ap (λ z. z ++ statement s r ∷ []) h ∙ ap (λ z. map sound xs ++ z ∷ []) g
-    ∙ sym (map_last sound xs x)
+statements_last s rs r xs x h g = rw (map_last (statement s) rs r, h, g, map_last sound xs x) refl
 
 pub arms_read_last : (s : Scope) (m : Line) (rs : List RawArm) (r : RawArm)
     → arms_on m (map (arm s) (rs ++ r ∷ [])) ≡ arms_on m (map (arm s) rs) ++ arm s r m ∷ []
@@ -205,12 +203,10 @@ cases_read_last s m ty rs r = ap (case_arms_on m ty) (map_last (case_arm s) rs r
 pub arms_sound_last : (s : Scope) (m : Line) (rs : List RawArm) (r : RawArm) (xs : List Arm) (x : Arm)
     → AreSound (arms_on m (map (arm s) rs)) xs → arm s r m ≡ sound x
     → AreSound (arms_on m (map (arm s) (rs ++ r ∷ []))) (xs ++ x ∷ [])
-arms_sound_last s m rs r xs x h g = arms_read_last s m rs r ∙ ap (λ z. z ++ arm s r m ∷ []) h
-    ∙ ap (λ z. map sound xs ++ z ∷ []) g ∙ sym (map_last sound xs x)
+arms_sound_last s m rs r xs x h g = rw (arms_read_last s m rs r, h, g, map_last sound xs x) refl
 
 pub cases_sound_last : (s : Scope) (m : Line) (ty : Option StType) (rs : List RawCaseArm) (r : RawCaseArm)
     (xs : List CaseArm) (x : CaseArm)
     → AreSound (case_arms_on m ty (map (case_arm s) rs)) xs → case_arm s r m ty ≡ sound x
     → AreSound (case_arms_on m ty (map (case_arm s) (rs ++ r ∷ []))) (xs ++ x ∷ [])
-cases_sound_last s m ty rs r xs x h g = cases_read_last s m ty rs r ∙ ap (λ z. z ++ case_arm s r m ty ∷ []) h
-    ∙ ap (λ z. map sound xs ++ z ∷ []) g ∙ sym (map_last sound xs x)
+cases_sound_last s m ty rs r xs x h g = rw (cases_read_last s m ty rs r, h, g, map_last sound xs x) refl

@@ -188,15 +188,13 @@ no_capitals : (ds : List ℕ) → list_all is_digit ds ≡ true → map to_ascii
 no_capitals [] h = refl
 no_capitals (d ∷ ds) h =
     let t = and_parts (is_digit d) (list_all is_digit ds) h in
-    ap (λ x. x ∷ map to_ascii_uppercase ds) (no_capital d t.0) ∙ ap (λ xs. d ∷ xs) (no_capitals ds t.1)
+    rw (no_capital d t.0, no_capitals ds t.1) refl
 
 -- where no zero stands first, none is left out
 all_kept : (ds : List ℕ) → 48 < get_or ds 0 0 → without_zeros ds ≡ ds
 all_kept [] h = absurd (omega (arith, h))
 all_kept (d ∷ ds) h =
-    let first : 48 < d = h in
-    let no_zero : (d == 48) ≡ false = grind (arith, nat_tests) in
-    let none : zeros_before (d ∷ ds) ≡ 0 = ap (λ t. cond t (1 + zeros_before ds) 0) no_zero in
+    let none : zeros_before (d ∷ ds) ≡ 0 = grind (arith, nat_tests) in
     let all : min (zeros_before (d ∷ ds)) (length (d ∷ ds) - 1) ≡ 0 = omega (arith, none) in
     ap (λ n. drop n (d ∷ ds)) all
 
