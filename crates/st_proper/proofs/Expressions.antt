@@ -1,10 +1,9 @@
 -- A well typed expression in its canonical form: it means the expression on each line, is of the language, and
 -- tokens can have its parts.
-use Rattle.std.proofs.Common.{◌≡◌, ℕ, suc, ◌-◌, ℤ, true, false, Option, Some, Result, Ok, refl, sym, ap, subst, ◌∙◌, arith, ◌<◌, ◌≤◌}
+use Rattle.std.proofs.Common.{◌≡◌, ℕ, suc, ◌-◌, ℤ, true, false, Option, Some, refl, sym, ap, subst, ◌∙◌, arith, ◌<◌, ◌≤◌}
 use Rattle.std.specs.Prelude.{nat_lt, if◌then◌else◌}
 use Rattle.st_proper.proofs.Spells.{Spells}
 use Rattle.s7_base.specs.declared.reason.Line.{Line}
-use Rattle.s7_base.specs.declared.reason.Reason.{Reason}
 use Rattle.s7_base.specs.declared.word.Width.{Width}
 use Rattle.st_canonical.specs.Canonical.{expr_form, form_of, unary_form, raw_var}
 use Rattle.st_canonical.specs.Spelled.{is_function}
@@ -17,16 +16,14 @@ use Rattle.st_canonical.proofs.Levels.{nest}
 use Rattle.st_types_laws.proofs.Operands.{area_by, binary_by, convert_by, is_typed, select_by, shift_by, unary_by}
 use Rattle.st_proper.proofs.Scope.{Sees, sight_by}
 use Rattle.st_proper.proofs.Values.{kept_literal}
-use Rattle.st_proper.proofs.Variables.{given, of_type, where_given, written}
+use Rattle.st_proper.proofs.Variables.{given, where_given, written}
 use Rattle.st_canonical.proofs.SameNames.{between}
-use Rattle.st_rules.specs.Judged.{Judged, sound}
-use Rattle.st_rules.specs.Expressions.{answered, expression, read_of}
+use Rattle.st_rules.specs.Judged.{sound}
+use Rattle.st_rules.specs.Expressions.{expression}
 use Rattle.st_tree.specs.Form.{infix_level, canon, canon_step}
 use Rattle.st_tree.specs.TypeRules.{type_of_unary, where_true}
-use Rattle.st_rules.specs.Variables.{variable as variable_in}
 use Rattle.st_rules.specs.declared.expression.Typed.{Typed}
 use Rattle.st_rules.specs.declared.scope.Scope.{Scope}
-use Rattle.st_rules.specs.declared.variable.TypedVar.{TypedVar}
 use Rattle.st_tree.proofs.Induction.{ExprSteps, every_expr}
 use Rattle.st_tree.proofs.TypingEquations.{typed_area_read, typed_binary, typed_convert, typed_literal, typed_read, typed_select, typed_shift, typed_unary}
 use Rattle.st_tree.specs.Form as bare
@@ -43,8 +40,6 @@ use Rattle.st_tree.specs.declared.expr.StType.{StType}
 use Rattle.st_tree.specs.declared.expr.UnaryOp.{UnaryOp}
 use Rattle.st_tree.specs.declared.expr.UnaryOp.TheVariants as unary
 use Rattle.st_tree.specs.declared.expr.Var.{Var}
-use Rattle.st_tree.specs.declared.raw.RawExpr.TheVariants as raw
-use Rattle.st_tree.specs.declared.raw.RawVar.{RawVar}
 use Rattle.st_grammar.specs.declared.kind.Prefix.TheVariants as before
 use Rattle.st_tree.proofs.Equations.{canon_literal, canon_read, canon_unary, canon_binary, canon_convert, canon_select, canon_shift, canon_area_read}
 use Rattle.st_tree.specs.declared.expr.BinaryOp.TheVariants as binary
@@ -165,17 +160,11 @@ module _ (s : Scope) (names : Names) (sees : Sees s names) where
         spelled = λ ks q. (g.spelled, q);
       }))
 
-  read_is_variable : (m : Line) (v : RawVar) (x : TypedVar) → variable_in s v ≡ Ok x
-      → expression s m (raw.Read v) ≡ sound (typed_tree x.ty (expr.Read x.var))
-  read_is_variable m v x e =
-      read_variable s m v ∙ ap (λ (r : Result TypedVar Reason). let j : Judged TypedVar = answered m r in
-      let k : Judged Typed = record { found = read_of j.found; breaks = j.breaks } in k) e
-
   read_good : (v : Var) → Good (expr.Read v)
   read_good v u h k m =
       let w = written s names sees v u (sym (typed_read (sight_by names) v) ∙ h) in
       rw (canon_read v) (record {
-        means = read_is_variable m (raw_var names v) (of_type u v) w.means;
+        means = rw (read_variable s m (raw_var names v), w.means) refl;
         binds = tt;
         spelled = λ ks q. (w.spelled, q);
       })

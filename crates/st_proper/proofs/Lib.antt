@@ -1,5 +1,4 @@
 pub mod BlockForms
-pub mod CaseLabels
 pub mod Chains
 pub mod DeclaredGlobals
 pub mod Expressions

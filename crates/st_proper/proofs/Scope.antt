@@ -12,7 +12,7 @@ use Rattle.st_canonical.proofs.SameNames.{spelled_name}
 use Rattle.st_rules.specs.Declarations.{meaning_of_unit}
 use Rattle.st_rules.specs.Names.{Table, look_up}
 use Rattle.st_tree.specs.Naming.{is_same, key_of, names_block}
-use Rattle.st_rules.specs.Scopes.{meaning_in, register_named}
+use Rattle.st_rules.specs.Scopes.{meaning_in}
 use Rattle.st_rules.specs.declared.scope.Meaning.{Meaning}
 use Rattle.st_rules.specs.declared.scope.Meaning.TheVariants as meaning
 use Rattle.st_rules.specs.declared.scope.Scope.{Scope}
@@ -29,7 +29,7 @@ use Rattle.st_types_laws.proofs.Apart.{AreApart, is_new}
 use Rattle.st_types_laws.proofs.DeclaredTree.{formals_in}
 use Rattle.st_types_laws.proofs.EntryKeys.{inner_keys, keys_in, named_keys}
 use Rattle.st_types_laws.proofs.DeclaredNames.{block_entries, entries, formal_entries, inner_entries, local_entries, located_entries, outer_entries, unit_entries}
-use Rattle.st_types_laws.proofs.Lists.{Each, each_at, each_map, each_of, mapped_at}
+use Rattle.st_types_laws.proofs.Lists.{Each, each_append, each_at, each_map, each_of, mapped_at}
 
 -- Entries of a table
 
@@ -82,16 +82,11 @@ key_of_block n = key_of (codes "DB" ++ decimal n)
 
 -- no data block has one of these keys
 abbrev AreOther : Table Meaning → Type 0
-AreOther [] = Unit {0}
-AreOther (e ∷ es) = ((key : List ℕ) → names_block key ≡ true → is_same key e.0 ≡ false) × AreOther es
+AreOther = Each (λ (e : List ℕ × Meaning). (key : List ℕ) → names_block key ≡ true → is_same key e.0 ≡ false)
 
 no_other : (k : List ℕ) (es : Table Meaning) → names_block k ≡ true → AreOther es → look_up k es ≡ None
 no_other k [] h o = refl
 no_other k (e ∷ es) h o = ap (λ t. cond t (Some e.1) (look_up k es)) (o.0 k h) ∙ no_other k es h o.1
-
-others_joined : (xs ys : Table Meaning) → AreOther xs → AreOther ys → AreOther (xs ++ ys)
-others_joined [] ys h g = g
-others_joined (x ∷ xs) ys h g = (h.0, others_joined xs ys h.1 g)
 
 others_of : {X : Type 0} (name : X → List ℕ) (mean : ℕ → X → Meaning) (i : ℕ) (xs : List X)
     → Each (λ x. IsOther (name x)) xs
@@ -137,7 +132,7 @@ module _ (t : StProgram) (p : Proper t) where
 
   are_other : AreOther named_entries
   are_other =
-      others_joined (located_entries 0 t.globals) (unit_entries 0 t.pous)
+      each_append _ (located_entries 0 t.globals) (unit_entries 0 t.pous)
       (others_of (λ (l : Located). l.name) _ 0 t.globals
       (each_map IsGlobal (λ (l : Located). IsOther l.name) t.globals (λ l g. free_name l.name g.free) globals_proper))
       (others_of (λ (u : Pou). u.name) _ 0 t.pous
@@ -192,15 +187,6 @@ pub record Sees (s : Scope) (names : Names) : Type 0 where
       → is_seen (sight_by names) u.name ≡ true
       → Callable s i u
 
-by_inner : (s : Scope) (k : List ℕ) (m : Meaning) → register_named k ≡ None → look_up k s.inner ≡ Some m
-    → meaning_in s k ≡ Some m
-by_inner s k m r h = rw (r, h) refl
-
-by_outer : (s : Scope) (k : List ℕ) (m : Meaning) → register_named k ≡ None → look_up k s.inner ≡ None
-    → look_up k s.outer ≡ Some m
-    → meaning_in s k ≡ Some m
-by_outer s k m r n h = rw (r, n, h) refl
-
 pub sees : (t : StProgram) (u : Pou) (s : Scope) → Proper t → IsProperUnit t.globals (map head_of t.pous) u
     → s.inner ≡ inner_entries u → s.outer ≡ outer_entries t → s.formals ≡ map formals_in t.pous → Sees s (names_in t u)
 sees t u s p h inner outer formals = record {
@@ -244,14 +230,16 @@ sees t u s p h inner outer formals = record {
   where
     inside : (name : List ℕ) (m : Meaning) → IsOther name → Holds (key_of name) m (inner_entries u)
         → meaning_in s (key_of name) ≡ Some m
-    inside name m o there = by_inner s (key_of name) m o.register
-        (ap (look_up (key_of name)) inner ∙ found (key_of name) m (inner_entries u) there (inner_apart u h.apart))
+    inside name m o there =
+        let here = ap (look_up (key_of name)) inner ∙ found (key_of name) m (inner_entries u) there (inner_apart u h.apart) in
+        rw (o.register, here) refl
 
     outside : (name : List ℕ) (m : Meaning) → IsOther name → is_seen (sight_by (names_in t u)) name ≡ true
         → Holds (key_of name) m (located_entries 0 t.globals ++ unit_entries 0 t.pous)
         → meaning_in s (key_of name) ≡ Some m
-    outside name m o seen there = by_outer s (key_of name) m o.register
-        (ap (look_up (key_of name)) inner ∙ missing (key_of name) (inner_entries u)
-        (ap (tree.is_new (key_of name)) (inner_keys u) ∙ seen))
-        (ap (look_up (key_of name)) outer ∙ found (key_of name) m (outer_entries t)
-        (in_second _ _ (block_entries t.dbs) (located_entries 0 t.globals ++ unit_entries 0 t.pous) there) (outer_apart t p))
+    outside name m o seen there =
+        let hidden = ap (look_up (key_of name)) inner ∙ missing (key_of name) (inner_entries u)
+        (ap (tree.is_new (key_of name)) (inner_keys u) ∙ seen) in
+        let here = ap (look_up (key_of name)) outer ∙ found (key_of name) m (outer_entries t)
+        (in_second _ _ (block_entries t.dbs) (located_entries 0 t.globals ++ unit_entries 0 t.pous) there) (outer_apart t p) in
+        rw (o.register, hidden, here) refl

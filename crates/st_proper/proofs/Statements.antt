@@ -1,19 +1,18 @@
 -- Well typed statements in their canonical form: they mean the statements, are of the language, nest no deeper than
 -- the tree says, and call the same units.
-use Rattle.st_proper.proofs.Spells.{arm_word_spelled}
-use Rattle.std.proofs.Common.{◌≡◌, ℕ, ◌++◌, Bool, true, List, [], ◌∷◌, map, Option, Some, refl, sym, ap, subst, ◌∙◌, arith}
+use Rattle.st_proper.proofs.Spells.{arm_word_spelled, Spells}
+use Rattle.std.proofs.Common.{◌≡◌, ℕ, ◌++◌, Bool, true, List, [], ◌∷◌, map, Option, Some, refl, sym, ap, subst, ◌∙◌, arith, ℤ}
 use Rattle.std.proofs.lemmas.Bool.{and_parts}
 use Rattle.std.proofs.lemmas.List.{append-nil, append_assoc}
 use Rattle.s7_base.specs.Tokens.{line_after}
 use Rattle.s7_base.specs.declared.reason.Line.{Line}
 use Rattle.s7_base.specs.declared.word.Width.{Width}
-use Rattle.st_canonical.specs.Canonical.{Placed, all_from, arm_from, arms_from, body_from, case_from, cases_else_from, cases_from, choice_from, expr_form, on, raw_var, statement_from}
-use Rattle.st_grammar.specs.Forms.{Statement, Statements, none, further, Arms, no_arm, arm, CaseArms, no_case, case_arm, jump}
-use Rattle.st_grammar.specs.Grammar.{arm_of as raw_arm, case_of as raw_case, jump_tree, may_jump, on_line, tree, tree_all, tree_arms, tree_cases, tree_labels, tree_one}
+use Rattle.st_canonical.specs.Canonical.{Placed, all_from, arm_from, arms_from, body_from, case_from, cases_else_from, cases_from, choice_from, expr_form, on, raw_var, statement_from, FromLine, labelled, labels_behind, labels_form, literal_form}
+use Rattle.st_grammar.specs.Forms.{Statement, Statements, none, further, Arms, no_arm, arm, CaseArms, no_case, case_arm, jump, Labels, label, more_labels}
+use Rattle.st_grammar.specs.Grammar.{arm_of as raw_arm, case_of as raw_case, jump_tree, may_jump, on_line, tree, tree_all, tree_arms, tree_cases, tree_labels, tree_one, LabelsFit, label_tree, spell_labels}
 use Rattle.st_types_laws.proofs.Actions.{act_continue, act_exit, act_return, calls_at}
 use Rattle.st_types_laws.proofs.Bounds.{all_last, arms_last, bound_case, bound_if, bound_none, bound_while, cases_last, greatest_last}
-use Rattle.st_proper.proofs.CaseLabels.{IsWritten, form_labels}
-use Rattle.st_types_laws.proofs.Labels.{is_own_type, no_label_breaks, values_of}
+use Rattle.st_types_laws.proofs.Labels.{is_own_type, no_label_breaks, of_type as labels_of, values_of}
 use Rattle.st_proper.proofs.Expressions.{expression_sound, nest_is, typed_tree}
 use Rattle.st_proper.proofs.Good.{GoodAll, GoodArms, GoodCases, GoodOne, from_arm, from_case_arm, good_at}
 use Rattle.st_proper.proofs.Invoked.{invoke_good}
@@ -32,7 +31,7 @@ use Rattle.st_tree.specs.Nesting.{arm_nesting, case_nesting, nesting}
 use Rattle.st_tree.specs.TypeRules.{is_selector}
 use Rattle.st_tree.specs.Typing.{Names, type_of}
 use Rattle.st_tree.specs.Values.{type_of_width}
-use Rattle.st_tree.specs.WellTyped.{are_well_typed, each, each_case, expression_type, has_type, is_arm, is_case_arm, is_some_of, is_well_typed, variable_type}
+use Rattle.st_tree.specs.WellTyped.{are_well_typed, each, each_case, expression_type, has_type, is_arm, is_case_arm, is_some_of, is_well_typed, variable_type, is_value}
 use Rattle.st_tree.specs.declared.expr.Expr.{Expr}
 use Rattle.st_tree.specs.declared.expr.StType.{StType}
 use Rattle.st_tree.specs.declared.expr.StType.TheVariants as type
@@ -46,6 +45,59 @@ use Rattle.st_tree.specs.declared.raw.RawStmtKind.TheOpen as K
 use Rattle.st_tree.specs.declared.raw.RawStmtKind.TheVariants as raw
 use Rattle.st_grammar.specs.declared.kind.Jump.{Jump}
 use Rattle.st_grammar.specs.declared.kind.Jump.TheVariants as word
+use Rattle.st_types_laws.proofs.Lists.{map_last}
+use Rattle.st_proper.proofs.Values.{kept_literal}
+use Rattle.st_lexer.proofs.Words.{and_both}
+use Rattle.std.specs.List.{list_all}
+
+-- Labels of an arm of a CASE: their canonical form says their values
+
+-- labels of a type whose form says these values
+record AreLabels (ty : StType) (ns : List ℤ) (c : Labels) : Type 0 where
+  means : tree_labels c ≡ labels_of ty ns
+  fits : LabelsFit c
+  spelled : Spells (spell_labels c)
+
+labels_good : (ty : StType) (ns more : List ℤ) (c : Labels) → AreLabels ty ns c → list_all (is_value ty) more ≡ true
+    → AreLabels ty (ns ++ more) (labels_behind ty c more)
+labels_good ty ns [] c a h = subst (λ z. AreLabels ty z c) (sym (append-nil ns)) a
+labels_good ty ns (n ∷ more) c a h =
+    let both = and_both (is_value ty n) (list_all (is_value ty) more) h in
+    let g = kept_literal ty n both.0 in
+    let next = more_labels c (literal_form ty n) in
+    let one : AreLabels ty (ns ++ n ∷ []) next = record {
+      means = ap (λ z. z ++ label_tree (literal_form ty n) ∷ []) a.means ∙ ap (λ z. labels_of ty ns ++ z ∷ []) g.label
+          ∙ sym (map_last (λ (n : ℤ). (ty, n)) ns n);
+      fits = (a.fits, g.value);
+      spelled = λ ks q. a.spelled _ (refl, (g.spelled, q));
+    } in
+    subst (λ z. AreLabels ty z (labels_behind ty next more)) (append_assoc ns (n ∷ []) more)
+    (labels_good ty (ns ++ n ∷ []) more next one both.1)
+
+-- an arm of a CASE with these labels after others: it is written, with a form of the labels
+record IsWritten (ty : StType) (ns : List ℤ) : Type 0 where
+  labels : Labels
+  are : AreLabels ty ns labels
+  written : (others : CaseArms) (line : ℕ) (body : List FromLine) → labelled ty others line ns body
+      ≡ (case_arm others labels (body_from (line_after line) body).0, (body_from (line_after line) body).1)
+
+-- the labels of an arm, of which there is one
+form_labels : (ty : StType) (ns : List ℤ) → is_some_of ns ≡ true → list_all (is_value ty) ns ≡ true
+    → IsWritten ty ns
+form_labels ty [] some h = absurd cc
+form_labels ty (n ∷ ns) some h =
+    let both = and_both (is_value ty n) (list_all (is_value ty) ns) h in
+    let g = kept_literal ty n both.0 in
+    let first : AreLabels ty (n ∷ [])
+    (label (literal_form ty n)) =
+    record { means = ap (λ z. z ∷ []) g.label; fits = g.value; spelled = λ ks q. (g.spelled, q) } in
+    record {
+      labels = labels_form ty n ns;
+      are = labels_good ty (n ∷ []) ns (label (literal_form ty n)) first both.1;
+      written = λ others line body. refl;
+    }
+
+-- Types
 
 -- the type of a selector by the rules is the one in which its labels are written
 abbrev pub TypesAgreeIn : Names → Type 0
@@ -246,28 +298,15 @@ module _ (s : Scope) (names : Names) (sees : Sees s names) (agree : TypesAgreeIn
 
   -- Arms of a CASE
 
-  -- an arm that is well typed: its labels are written, and so is its body
-  record IsTyped (inside : Bool) (ty : StType) (x : CaseArm) : Type 0 where
-    labels : IsWritten ty x.labels
-    body : are_well_typed (sight_by names) inside x.body ≡ true
-
-  typed_arm : (inside : Bool) (ty : StType) (x : CaseArm) → is_case_arm (sight_by names) x ty inside ≡ true
-      → IsTyped inside ty x
-  typed_arm inside ty x h =
-      let good = sym (good_case_arm (sight_by names) inside x ty) ∙ h in
-      record {
-        labels = form_labels ty x.labels (grind arith) (grind arith);
-        body = body_of_case (sight_by names) inside x ty h;
-      }
-
   one_case : (inside : Bool) (m : Line) (ty : StType) (xs : List CaseArm) (x : CaseArm) (others : CaseArms) (k : ℕ)
-      → GoodCases s inside m ty xs others → InCase Good x → (t : IsTyped inside ty x)
+      → GoodCases s inside m ty xs others → InCase Good x → (w : IsWritten ty x.labels)
+      → are_well_typed (sight_by names) inside x.body ≡ true
       → GoodCases s inside m ty (xs ++ x ∷ [])
-      (case_arm others t.labels.labels (body_from (line_after k) (map (statement_from names) x.body)).0)
-  one_case inside m ty xs x others k g p t =
-      let l = t.labels.are in
-      let b = body_good inside x.body (line_after k) p t.body in
-      let c = tree_labels t.labels.labels in
+      (case_arm others w.labels (body_from (line_after k) (map (statement_from names) x.body)).0)
+  one_case inside m ty xs x others k g p w t =
+      let l = w.are in
+      let b = body_good inside x.body (line_after k) p t in
+      let c = tree_labels w.labels in
       let form = tree_all (body_from (line_after k) (map (statement_from names) x.body)).0 in
       record {
         means = cases_sound_last s m (Some ty) (tree_cases others) (raw_case c form) xs x g.means
@@ -288,12 +327,14 @@ module _ (s : Scope) (names : Names) (sees : Sees s names) (agree : TypesAgreeIn
   cases_behind inside m ty xs [] others k g p h = rw (append-nil xs) g
   cases_behind inside m ty xs (x ∷ more) others k g p h =
       let parts = parts_of_cases (sight_by names) inside ty x more h in
-      let t = typed_arm inside ty x parts.0 in
+      let good = sym (good_case_arm (sight_by names) inside x ty) ∙ parts.0 in
+      let w = form_labels ty x.labels (grind arith) (grind arith) in
+      let t = body_of_case (sight_by names) inside x ty parts.0 in
       rw (from_case_arm names x, ← append_assoc xs (x ∷ []) more)
       (subst (λ (a : Placed CaseArms). GoodCases s inside m ty ((xs ++ x ∷ []) ++ more)
       (cases_from ty a.0 a.1 (map (case_from names) more)).0)
-      (sym (t.labels.written others k (map (statement_from names) x.body)))
-      (cases_behind inside m ty (xs ++ x ∷ []) more _ _ (one_case inside m ty xs x others k g p.0 t) p.1 parts.1))
+      (sym (w.written others k (map (statement_from names) x.body)))
+      (cases_behind inside m ty (xs ++ x ∷ []) more _ _ (one_case inside m ty xs x others k g p.0 w t) p.1 parts.1))
 
   -- CASE
 

@@ -1,11 +1,9 @@
 -- A variable that a unit may name, as the canonical text writes it: it means the variable, and tokens can have it.
 use Rattle.std.proofs.Common.{◌≡◌, ℕ, List, Bool, true, false, ◌&&◌, Option, Some, None, Ok, refl, ap, subst, ◌∙◌}
 use Rattle.std.specs.Prelude.{slice_get}
-use Rattle.memory_areas.specs.declared.place.AreaName.{AreaName}
 use Rattle.memory_areas.specs.declared.place.AreaName.TheVariants as area
 use Rattle.s7_base.specs.declared.register.Reg.{Reg}
 use Rattle.s7_base.specs.declared.register.Reg.TheVariants as reg
-use Rattle.s7_base.specs.declared.word.Width.{Width}
 use Rattle.st_canonical.specs.Canonical.{raw_var}
 use Rattle.st_canonical.specs.Spelled.{is_name, is_variable}
 use Rattle.st_grammar.specs.Kinds.{word_named, word_text}
@@ -80,9 +78,6 @@ module _ (s : Scope) (names : Names) (sees : Sees s names) where
   abbrev Good : StType → Var → Type 0
   Good ty v = Written names s (of_type ty v)
 
-  register : (r : Reg) → Good (type_of_register r) (var.Register r)
-  register r = record { means = rw (register_key r) refl; spelled = register_is_name r }
-
   -- a variable that is written by a name, which means it
   named : (name : List ℕ) (v : Var) (ty : StType) (m : Meaning) → raw_var names v ≡ raw.Name name
       → variable_named (Some m) ≡ Ok (of_type ty v) → Means s name m → Good ty v
@@ -113,29 +108,21 @@ module _ (s : Scope) (names : Names) (sees : Sees s names) where
       subst (λ t. Good t (var.Global i)) w.1 (named g.name (var.Global i) g.ty (meaning.Global i g.ty)
       (ap (λ p. raw.Name (global_name p)) e) refl (sees.global i g e w.0))
 
-  direct : (a : AreaName) (byte bit : ℕ) (w : Width) → is_place a w byte bit ≡ true
-      → Good (type_of_width w) (var.Direct a byte bit w)
-  direct a byte bit w h =
-      let p = placed a w byte bit h in
-      record { means = rw p.rules refl; spelled = plain_place a w byte bit p }
-
-  in_block : (n byte bit : ℕ) (w : Width) → is_block_number n ≡ true → is_place area.Db w byte bit ≡ true
-      → Good (type_of_width w) (var.InBlock n byte bit w)
-  in_block n byte bit w h g =
-      let p = placed area.Db w byte bit g in
-      record { means = rw (h, p.rules) refl; spelled = block_place n w byte bit (small_number n h) p }
-
   -- a variable of a type that the unit may name
   pub written : (v : Var) (ty : StType) → variable_type (sight_by names) v ≡ Some ty → Good ty v
   written (var.Register r) ty h =
-      let same : type_of_register r ≡ ty = cc in subst (λ t. Good t (var.Register r)) same (register r)
+      let same : type_of_register r ≡ ty = cc in
+      subst (λ t. Good t (var.Register r)) same (record { means = rw (register_key r) refl; spelled = register_is_name r })
   written (var.Local i) ty h = local i ty (slice_get names.locals i) refl h
   written (var.Formal i) ty h = formal i ty (slice_get names.formals i) refl h
   written (var.Global i) ty h = global i ty (slice_get names.globals i) refl h
   written (var.Direct a byte bit w) ty h =
       let g = where_given (is_place a w byte bit) (type_of_width w) ty h in
-      subst (λ t. Good t (var.Direct a byte bit w)) g.1 (direct a byte bit w g.0)
+      let p = placed a w byte bit g.0 in
+      subst (λ t. Good t (var.Direct a byte bit w)) g.1 (record { means = rw p.rules refl; spelled = plain_place a w byte bit p })
   written (var.InBlock n byte bit w) ty h =
       let g = where_given (is_block_number n && is_place area.Db w byte bit) (type_of_width w) ty h in
       let both = and_both (is_block_number n) (is_place area.Db w byte bit) g.0 in
-      subst (λ t. Good t (var.InBlock n byte bit w)) g.1 (in_block n byte bit w both.0 both.1)
+      let p = placed area.Db w byte bit both.1 in
+      let spelled = block_place n w byte bit (small_number n both.0) p in
+      subst (λ t. Good t (var.InBlock n byte bit w)) g.1 (record { means = rw (both.0, p.rules) refl; spelled = spelled })
