@@ -31,7 +31,7 @@ use Rattle.s7_base.specs.Broken.{broken}
 use Rattle.s7_base.specs.declared.broken.Break.{Break}
 use Rattle.st_rules.specs.Judged.{listed, twice}
 use Rattle.st_rules.specs.Declarations.{all_inside, local_of, locals_of, meaning_of_unit, no_inside, one_if, one_too_many, with_formal, with_global, with_local, with_unit}
-use Rattle.st_rules.specs.Globals.{all_global_breaks, all_located, area_of, block_at, block_breaks, block_number, block_of, contents, fits_type, global_breaks, has_address, has_block_address, has_block_form, inserted, is_small_enough, located_at, located_in, located_of, unless, with_block}
+use Rattle.st_rules.specs.Globals.{all_global_breaks, all_located, area_of, block_at, block_breaks, block_number, block_of, contents, fits_type, global_breaks, has_address, has_block_address, has_block_form, inserted, is_small_enough, located_at, located_of, unless, with_block}
 use Rattle.memory_areas.specs.Areas.{Ascend, numbers_of}
 use Rattle.std.proofs.lemmas.Bool.{ltb-false, ltb-true}
 use Rattle.std.proofs.lemmas.Cmp.{nat_list_eq_equiv}
@@ -46,7 +46,7 @@ use Rattle.st_rules.specs.declared.scope.Meaning.TheVariants as meaning
 use Rattle.st_types_laws.proofs.Apart.{AreApart, Lists, declared_between, declared_last, declares_new, not_twice}
 use Rattle.std.proofs.lemmas.Bool.{and_parts}
 use Rattle.st_types_laws.proofs.BlockSizes.{IsBlock, is_block}
-use Rattle.st_types_laws.proofs.Lists.{Each, both_true, each_append, nil_first, nil_second}
+use Rattle.st_types_laws.proofs.Lists.{Each, each_append, nil_first, nil_second}
 use Rattle.st_types_laws.proofs.PlainNumbers.{key_by_number}
 use Rattle.st_types_laws.proofs.Redeclared.{AreLocalsAt, AreUnitsAt, location_of, name_of_area}
 

@@ -1,5 +1,5 @@
 -- What a text declares that has a tree, and that names in a scope say what stands in the tree.
-use Rattle.std.proofs.Common.{◌≡◌, ◌⊎◌, ℕ, suc, ◌+◌, Bool, true, false, cond, List, [], ◌∷◌, ◌++◌, map, length, Option, Some, None, inl, inr, refl, sym, ap, subst, ◌∙◌, arith, ◌≤◌}
+use Rattle.std.proofs.Common.{◌≡◌, ◌⊎◌, ℕ, suc, ◌+◌, true, false, cond, List, [], ◌∷◌, ◌++◌, map, length, Option, Some, None, inl, inr, refl, sym, ap, subst, ◌∙◌, arith, ◌≤◌}
 use Rattle.std.specs.Prelude.{slice_get}
 use Rattle.std.specs.List.{fold}
 use Rattle.std.proofs.lemmas.List.{append_assoc}
@@ -85,10 +85,7 @@ is_declared raw t h =
     let before = block_entries (all_blocks raw.globals) ++ located_entries 0 (all_located raw.globals) in
     let names = gather_units t.pous raw.pous units d before g.names outside in
     let order : before ++ unit_entries d.units t.pous ≡ outer_entries t =
-    append_assoc (block_entries (all_blocks raw.globals)) (located_entries 0 (all_located raw.globals)) (unit_entries d.units t.pous)
-    ∙ ap (λ bs. block_entries bs ++ (located_entries 0 (all_located raw.globals) ++ unit_entries d.units t.pous)) blocks
-    ∙ ap (λ ls. block_entries t.dbs ++ (located_entries 0 ls ++ unit_entries d.units t.pous)) located
-    ∙ ap (λ n. block_entries t.dbs ++ (located_entries 0 t.globals ++ unit_entries n t.pous)) g.units in
+    rw (blocks, located, g.units) (append_assoc (block_entries t.dbs) (located_entries 0 t.globals) (unit_entries 0 t.pous)) in
     record {
       blocks = blocks;
       located = located;
@@ -140,13 +137,12 @@ module _ (names : Names) (formals : List Formals) where
 
   found_stands : (k : List ℕ) (m : Meaning) (es : Table Meaning) → look_up k es ≡ Some m → AllStand es → Stands names formals k m
   found_stands k m [] q h = absurd cc
-  found_stands k m (e ∷ es) q h = by (is_same k e.0) refl (λ r. found_stands k m es r h.1) q
-    where
-      by : (t : Bool) → is_same k e.0 ≡ t → (look_up k es ≡ Some m → Stands names formals k m) → cond t (Some e.1) (look_up k es) ≡ Some m → Stands names formals k m
-      by true f more r =
-          let meant : e.1 ≡ m = cc in
-          subst (Stands names formals k) meant (subst (λ j. Stands names formals j e.1) (sym (same_keys k e.0 f)) h.0)
-      by false f more r = more r
+  found_stands k m (e ∷ es) q h = (elim (is_same k e.0) as (λ t. is_same k e.0 ≡ t → cond t (Some e.1) (look_up k es) ≡ Some m → Stands names formals k m) [
+    | true ↦ λ f r.
+        let meant : e.1 ≡ m = cc in
+        subst (Stands names formals k) meant (subst (λ j. Stands names formals j e.1) (sym (same_keys k e.0 f)) h.0)
+    | false ↦ λ f r. found_stands k m es r h.1
+  ]) refl q
 
   blocks_stand : (bs : List DataBlock) → AllStand (block_entries bs)
   blocks_stand [] = tt
@@ -219,8 +215,7 @@ scope_declares t p scope inner outer formals = record {
         (entries_stand names scope.formals (λ (u : Pou). u.name) _ 0 t.pous unit_stands))
 
     stands : (key : List ℕ) (m : Meaning) → IsNoRegister m → meaning_in scope key ≡ Some m → Stands names scope.formals key m
-    stands key m other h = by (in_tables (register_named key) (look_up key scope.inner) (look_up key scope.outer) m other h)
-      where
-        by : (look_up key scope.inner ≡ Some m) ⊎ (look_up key scope.outer ≡ Some m) → Stands names scope.formals key m
-        by (inl q) = found_stands names scope.formals key m (inner_entries p) (sym (inner.same key) ∙ q) inner_stands
-        by (inr q) = found_stands names scope.formals key m (outer_entries t) (sym (outer.same key) ∙ q) outer_stands
+    stands key m other h = elim (in_tables (register_named key) (look_up key scope.inner) (look_up key scope.outer) m other h) [
+      | inl q ↦ found_stands names scope.formals key m (inner_entries p) (sym (inner.same key) ∙ q) inner_stands
+      | inr q ↦ found_stands names scope.formals key m (outer_entries t) (sym (outer.same key) ∙ q) outer_stands
+    ]

@@ -31,11 +31,9 @@ HasType o = (ty : StType) × (o ≡ Some ty)
 
 -- it has a type where it breaks no rule
 pub has_type : {l : Line} {j : Judged Typed} {o : Option StType} {e : Expr} → IsBy l j o e → j.breaks ≡ [] → HasType o
-has_type {l} {j} {o} {e} h c = by o (sym (ap (λ (k : Judged Typed). k.breaks) h.is) ∙ c)
-  where
-    by : (o : Option StType) → (typed_as l o e).breaks ≡ [] → HasType o
-    by None q = absurd cc
-    by (Some ty) q = (ty, refl)
+has_type {l} {j} {o} {e} h c =
+    (elim o as (λ p. (typed_as l p e).breaks ≡ [] → HasType p) [ None ↦ λ q. absurd cc | Some ty ↦ λ q. (ty, refl) ])
+    (sym (ap (λ (k : Judged Typed). k.breaks) h.is) ∙ c)
 
 -- and is an expression of the type that it has
 pub is_typed : {l : Line} {j : Judged Typed} {o : Option StType} {e : Expr} {ty : StType} → IsBy l j o e → o ≡ Some ty

@@ -1,8 +1,7 @@
 -- A statement by its parts: where it breaks no rule, and what it is.
-use Rattle.std.proofs.Common.{◌≡◌, ◌++◌, ℤ, Bool, true, false, ◌&&◌, cond, List, [], ◌∷◌, map, Option, Some, Result, Ok, Err, refl, sym, ap, ◌∙◌}
+use Rattle.std.proofs.Common.{◌≡◌, ◌++◌, ℤ, Bool, true, false, ◌&&◌, cond, List, [], ◌∷◌, map, Option, Some, Ok, Err, refl, sym, ap, ◌∙◌}
 use Rattle.std.proofs.lemmas.Grind.{flat_map-append}
 use Rattle.s7_base.specs.declared.reason.Line.{Line}
-use Rattle.s7_base.specs.declared.reason.Reason.{Reason}
 use Rattle.s7_base.specs.declared.reason.Reason.TheVariants.{TypeMismatch}
 use Rattle.s7_base.specs.declared.word.Width.{Width}
 use Rattle.st_types_laws.proofs.Actions.{act_arm, act_at, act_case_arm, on_line, raw_arm, raw_case}
@@ -93,11 +92,8 @@ module _ (s : Scope) (l : Line) where
   -- Assignments and writes
 
   pub variable_there : (v : RawVar) → (variable_on s l v).breaks ≡ [] → (x : TypedVar) × (variable s v ≡ Ok x)
-  variable_there v h = by (variable s v) refl h
-    where
-      by : (r : Result TypedVar Reason) → variable s v ≡ r → (answered l r).breaks ≡ [] → (x : TypedVar) × (variable s v ≡ Ok x)
-      by (Ok x) e q = (x, e)
-      by (Err rule) e q = absurd cc
+  variable_there v h =
+      (elim (variable s v) as (λ r. (answered l r).breaks ≡ [] → (x : TypedVar) × (r ≡ Ok x)) [ Ok x ↦ λ q. (x, refl) | Err rule ↦ λ q. absurd cc ]) h
 
   pub assign_clean : (v : RawVar) (e : RawExpr) → (statement s (on_line l (raw.Assign v e))).breaks ≡ [] → ((variable_on s l v).breaks ≡ []) × ((expression s l e).breaks ≡ [])
   assign_clean v e c = both_nil _ _ (nil_first _ _ (rw (act_at s l (K.Assign v e) (raw.rolls-Assign v e)) at c))
