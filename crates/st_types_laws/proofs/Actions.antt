@@ -16,7 +16,7 @@ use Rattle.st_rules.specs.Calls.{OnLine, all_calls, call_on, calls_of, calls_of_
 use Rattle.st_rules.specs.Invocations.{Actual, callee}
 use Rattle.st_tree.specs.Naming.{key_of}
 use Rattle.st_rules.specs.Scopes.{meaning_in}
-use Rattle.st_rules.specs.Statements.{Armed, Done, Labelled, action, arm, arm_step, case_arm, case_arm_step, kind_step, statement, statement_step, statements}
+use Rattle.st_rules.specs.Statements.{Armed, Done, Labelled, action, arm, arm_step, case_arm, case_arm_step, kind_step, statement, statements}
 use Rattle.call_chains.specs.declared.call.Call.{Call}
 use Rattle.st_rules.specs.declared.scope.Scope.{Scope}
 
@@ -40,12 +40,8 @@ module _ (s : Scope) (l : Line) where
       → statement s (on_line l x) ≡ kind_step s
       (map-RawStmtKind RawStmtKind RawArm RawCaseArm RawStmt Done Armed Labelled (Judged Stmt) (action s) (arm s)
       (case_arm s) (statement s) y) l
-  act_at {x} y e =
-      fold_out-RawStmt Done Armed Labelled (Judged Stmt) (kind_step s) (arm_step s) case_arm_step statement_step
-      (on_line l x)
-      ∙ ap (λ (d : Done). d l) (ap (action s) (sym e)
-      ∙ fold-roll-RawStmtKind Done Armed Labelled (Judged Stmt) (kind_step s)
-      (arm_step s) case_arm_step statement_step y)
+  act_at {x} y e = fold_out-RawStmt _ _ _ _ _ _ _ _ (on_line l x)
+      ∙ ap (λ (d : Done). d l) (ap (action s) (sym e) ∙ fold-roll-RawStmtKind _ _ _ _ _ _ _ _ y)
 
   pub act_invoke : (name : List ℕ) (actuals : List Actual)
       → statement s (on_line l (raw.Invoke name actuals)) ≡ kind_step s (K.Invoke name actuals) l
@@ -68,12 +64,8 @@ module _ (s : Scope) (l : Line) where
       ≡ calls.kind_step s (map-RawStmtKind RawStmtKind RawArm RawCaseArm RawStmt OnLine (List Call) (List Call)
       (List Call) (calls_of_action s) (calls_of_arm s)
       (calls_of_case_arm s) (calls_of s) y) l
-  calls_at {x} y e =
-      fold_out-RawStmt OnLine (List Call) (List Call) (List Call)
-      (calls.kind_step s) calls.arm_step calls.case_arm_step calls.statement_step (on_line l x)
-      ∙ ap (λ (d : OnLine). d l)
-      (ap (calls_of_action s) (sym e) ∙ fold-roll-RawStmtKind OnLine (List Call) (List Call) (List Call)
-      (calls.kind_step s) calls.arm_step calls.case_arm_step calls.statement_step y)
+  calls_at {x} y e = fold_out-RawStmt _ _ _ _ _ _ _ _ (on_line l x)
+      ∙ ap (λ (d : OnLine). d l) (ap (calls_of_action s) (sym e) ∙ fold-roll-RawStmtKind _ _ _ _ _ _ _ _ y)
 
   pub calls_invoke : (name : List ℕ) (actuals : List Actual)
       → calls_of s (on_line l (raw.Invoke name actuals)) ≡ call_on l (callee (meaning_in s (key_of name)))
@@ -84,24 +76,15 @@ module _ (s : Scope) (l : Line) where
 module _ (s : Scope) where
   pub act_arm : (test : RawExpr) (body : List RawStmt)
       → arm s (raw_arm test body) ≡ arm_step s (record { test = test; body = statements s body })
-  act_arm test body = fold-roll-RawArm Done Armed Labelled (Judged Stmt) (kind_step s)
-      (arm_step s) case_arm_step statement_step (record { test = test; body = body })
+  act_arm test body = fold-roll-RawArm _ _ _ _ _ _ _ _ (record { test = test; body = body })
 
   pub act_case_arm : (labels : List (StType × ℤ)) (body : List RawStmt)
       → case_arm s (raw_case labels body) ≡ case_arm_step (record { labels = labels; body = statements s body })
-  act_case_arm labels body =
-      fold-roll-RawCaseArm Done Armed Labelled (Judged Stmt) (kind_step s) (arm_step s) case_arm_step statement_step
-      (record { labels = labels; body = body })
+  act_case_arm labels body = fold-roll-RawCaseArm _ _ _ _ _ _ _ _ (record { labels = labels; body = body })
 
   pub calls_arm : (test : RawExpr) (body : List RawStmt) → calls_of_arm s (raw_arm test body) ≡ all_calls s body
-  calls_arm test body =
-      fold-roll-RawArm OnLine (List Call) (List Call) (List Call)
-      (calls.kind_step s) calls.arm_step calls.case_arm_step calls.statement_step
-      (record { test = test; body = body })
+  calls_arm test body = fold-roll-RawArm _ _ _ _ _ _ _ _ (record { test = test; body = body })
 
   pub calls_case_arm : (labels : List (StType × ℤ)) (body : List RawStmt)
       → calls_of_case_arm s (raw_case labels body) ≡ all_calls s body
-  calls_case_arm labels body =
-      fold-roll-RawCaseArm OnLine (List Call) (List Call) (List Call)
-      (calls.kind_step s) calls.arm_step calls.case_arm_step calls.statement_step
-      (record { labels = labels; body = body })
+  calls_case_arm labels body = fold-roll-RawCaseArm _ _ _ _ _ _ _ _ (record { labels = labels; body = body })
