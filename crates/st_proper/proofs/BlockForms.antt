@@ -178,8 +178,7 @@ one_low = omega arith
 
 past_within : (items : Items) (before : List ℕ) → AreWithin before → AreWithin (levels_past items before)
 past_within no_item before h = h
-past_within (single others b) before h = (low, h)
-past_within (times others count b) before h = (low, h)
+past_within items before h = (low, h)
 
 items_within : (items : Items) (before : List ℕ) → AreWithin before → AreWithin (levels_items items before)
 items_within no_item before h = h
@@ -189,8 +188,7 @@ items_within (times others count b) before h =
 
 initial_within : (items : Items) (before : List ℕ) → AreWithin before → AreWithin (levels_initial items before)
 initial_within no_item before h = h
-initial_within (single others b) before h = (low, items_within (single others b) _ (low, (low, h)))
-initial_within (times others count b) before h = (low, items_within (times others count b) _ (low, (low, h)))
+initial_within items before h = (low, items_within items _ (low, (low, h)))
 
 type_within : (ty : GlobalType) (before : List ℕ) → AreWithin before → AreWithin (levels_type ty before)
 type_within (plain ty) before h = (low, h)

@@ -185,8 +185,7 @@ module _ (s : Scope) (names : Names) (sees : Sees s names) where
       let x = wrap_sound s m (typed_tree g.first a) c (infix_level op) (p g.first g.is k m) in
       let y = wrap_sound s m (typed_tree f.first b) d (infix_level op - 1) (q f.first f.is k m) in
       rw (form_binary names k op a b) (record {
-        means = is_typed (binary_by s m op (tree (wrapped (infix_level op) c)) (tree (wrapped (infix_level op - 1) d))
-            (typed_tree g.first a) (typed_tree f.first b) x.means y.means) f.rest;
+        means = is_typed (binary_by s m op _ _ _ _ x.means y.means) f.rest;
         binds = (wrapped_level (infix_level op) c, right_level op d, x.binds, y.binds);
         spelled = λ ks q. x.spelled _ (refl, y.spelled ks q);
       })
@@ -199,11 +198,9 @@ module _ (s : Scope) (names : Names) (sees : Sees s names) where
       let f = given (types.type_of_conversion from to g.first) (where_true (is_conversion from to)) u g.rest in
       let w = where_given (is_conversion from to) f.first u f.rest in
       let x = p g.first g.is k m in
-      let c = expr_form names k a in
       let there : is_function (one.Convert from to) ≡ true = between from to ∙ w.0 in
       rw (canon_convert from to a) (record {
-        means = is_typed (convert_by s m from to (tree c) (typed_tree g.first a) x.means)
-            (f.is ∙ ap (λ t. Some t) w.1);
+        means = is_typed (convert_by s m from to _ _ x.means) (f.is ∙ ap (λ t. Some t) w.1);
         binds = x.binds;
         spelled = λ ks q. (there, (refl, x.spelled _ (refl, q)));
       })
@@ -218,9 +215,7 @@ module _ (s : Scope) (names : Names) (sees : Sees s names) where
       let y = q f.first f.is k m in
       let z = r i.first i.is k m in
       rw (canon_select a b e) (record {
-        means = is_typed (select_by s m (tree (expr_form names k a)) (tree (expr_form names k b)) (tree (expr_form names k e))
-            (typed_tree g.first a) (typed_tree f.first b) (typed_tree i.first e) x.means y.means z.means)
-            i.rest;
+        means = is_typed (select_by s m _ _ _ _ _ _ x.means y.means z.means) i.rest;
         binds = (x.binds, y.binds, z.binds);
         spelled = λ ks q. (refl, (refl, x.spelled _ (refl, y.spelled _ (refl, z.spelled _ (refl, q)))));
       })
@@ -233,9 +228,7 @@ module _ (s : Scope) (names : Names) (sees : Sees s names) where
       let x = p g.first g.is k m in
       let y = q f.first f.is k m in
       rw (canon_shift op a b) (record {
-        means = is_typed (shift_by s m op (tree (expr_form names k a)) (tree (expr_form names k b)) (typed_tree g.first a)
-            (typed_tree f.first b) x.means y.means)
-            f.rest;
+        means = is_typed (shift_by s m op _ _ _ _ x.means y.means) f.rest;
         binds = (x.binds, y.binds);
         spelled = λ ks q. (refl, (refl, x.spelled _ (refl, y.spelled _ (refl, q))));
       })
@@ -245,8 +238,7 @@ module _ (s : Scope) (names : Names) (sees : Sees s names) where
       let g = given (type_in a) (types.type_of_read w) u (sym (typed_area_read (sight_by names) w a) ∙ h) in
       let x = p g.first g.is k m in
       rw (canon_area_read w a) (record {
-        means = is_typed (area_by s m w (tree (expr_form names k a)) (typed_tree g.first a) x.means)
-            g.rest;
+        means = is_typed (area_by s m w _ _ x.means) g.rest;
         binds = x.binds;
         spelled = λ ks q. (refl, (refl, x.spelled _ (refl, q)));
       })

@@ -68,16 +68,12 @@ module _ (names : Names) where
   pub good_at : {s : Scope} {inside : Bool} {x : Stmt} (y : S.Stmt-F Stmt Arm CaseArm) → roll-Stmt y ≡ x → (k : ℕ)
       → GoodOne s inside x (step_at y k).0 → GoodOne s inside x (statement_from names x k).0
   good_at {s} {inside} {x} y e k g = subst (λ (f : FromLine). GoodOne s inside x (f k).0)
-      (sym (ap (statement_from names) (sym e)
-      ∙ fold-roll-Stmt FromLine ArmFromLine CaseFromLine (canonical.statement_step names)
-      (canonical.arm_step names) canonical.case_step y)) g
+      (sym (ap (statement_from names) (sym e) ∙ fold-roll-Stmt _ _ _ _ _ _ y)) g
 
   pub from_arm : (a : Arm) → arm_from names a
       ≡ canonical.arm_step names (record { test = a.test; body = map (statement_from names) a.body })
-  from_arm a = fold_out-Arm FromLine ArmFromLine CaseFromLine (canonical.statement_step names)
-      (canonical.arm_step names) canonical.case_step a
+  from_arm a = fold_out-Arm _ _ _ _ _ _ a
 
   pub from_case_arm : (a : CaseArm)
       → case_from names a ≡ canonical.case_step (record { labels = a.labels; body = map (statement_from names) a.body })
-  from_case_arm a = fold_out-CaseArm FromLine ArmFromLine CaseFromLine (canonical.statement_step names)
-      (canonical.arm_step names) canonical.case_step a
+  from_case_arm a = fold_out-CaseArm _ _ _ _ _ _ a

@@ -2,7 +2,7 @@
 use Rattle.std.proofs.Common.{◌≡◌, Bool, true, false, List, refl}
 use Rattle.s7_base.specs.declared.reason.Line.{Line}
 use Rattle.st_canonical.specs.Spelled.{AreSpelled, is_spelled}
-use Rattle.st_grammar.specs.Forms.{Actuals, no_actual, actual, Arms, no_arm, arm, Items, no_item, single, times}
+use Rattle.st_grammar.specs.Forms.{Actuals, no_actual, actual, Arms, no_arm, arm, Items, no_item}
 use Rattle.st_grammar.specs.Grammar.{arm_word, comma_behind, comma_past, end_word, spell_initial, spell_items, unit_word}
 use Rattle.st_grammar.specs.declared.kind.Kind.{Kind}
 
@@ -20,13 +20,11 @@ arm_word_spelled line (arm others e body) = refl
 
 pub past_spells : (items : Items) → Spells (comma_past items)
 past_spells no_item ks s = s
-past_spells (single others b) ks s = (refl, s)
-past_spells (times others count b) ks s = (refl, s)
+past_spells items ks s = (refl, s)
 
 pub initial_spells : (items : Items) → Spells (spell_items items) → Spells (spell_initial items)
 initial_spells no_item h ks s = s
-initial_spells (single others b) h ks s = (refl, (refl, h _ (refl, s)))
-initial_spells (times others count b) h ks s = (refl, (refl, h _ (refl, s)))
+initial_spells items h ks s = (refl, (refl, h _ (refl, s)))
 
 pub unit_word_spelled : (program : Bool) (line : Line) → is_spelled (unit_word program line) ≡ true
 unit_word_spelled true line = refl

@@ -107,10 +107,6 @@ global_good name ty byte bit a g =
 
 -- Lists
 
-fellow : {X Y : Type 0} (xs : List X) (ys : List Y) (n : ℕ) (x : X) → length xs ≡ length ys → slice_get xs n ≡ Some x
-    → (y : Y) × (slice_get ys n ≡ Some y)
-fellow xs ys n x size h = there_at ys n (omega (arith, slice_get_within xs n x h))
-
 each_is : {X Y : Type 0} (f : X → Y) (xs : List X) (ys : List Y) → length xs ≡ length ys
     → ((n : ℕ) (x : X) (y : Y) → slice_get xs n ≡ Some x → slice_get ys n ≡ Some y → f x ≡ y)
     → map f xs ≡ ys
@@ -197,7 +193,7 @@ module _ (t : StProgram) (p : Proper t) where
 
   has_body : (n : ℕ) (u : Pou) → slice_get t.pous n ≡ Some u → HasBody t u
   has_body n u q =
-      let v = fellow t.pous raw.pous n u (sym size) q in
+      let v = there_at raw.pous n (omega (arith, slice_get_within t.pous n u q, size)) in
       let good = body n u v.0 q v.1 in
       record {
         fit = λ line. (good line).fits;
@@ -228,7 +224,7 @@ module _ (t : StProgram) (p : Proper t) where
   sound_unit : (n : ℕ) (v : RawPou) → slice_get raw.pous n ≡ Some v
       → breaks_of_unit (names_of raw) (map formals_of raw.pous) v ≡ []
   sound_unit n v d =
-      let u = fellow raw.pous t.pous n v size d in
+      let u = there_at t.pous n (omega (arith, slice_get_within raw.pous n v d, size)) in
       ap (λ l. l ++ breaks_in (statements (scope_of v) v.body)) (inside_at n u.0 v u.1 d).0 ∙ (said n u.0 v u.1 d).0
 
   no_breaks : breaks_of raw ≡ []
