@@ -263,9 +263,6 @@ module _ (d : Outside) (bs : List DataBlock) (ls : List Located) (name : List �
   abbrev first : Option Meaning
   first = look_up (key_of name) d.names
 
-  no_block : (x : Option Meaning) → d.blocks + one_if (not (is_some x) && false) ≡ d.blocks
-  no_block x = grind arith
-
   one_located : (ty : StType) → (with_global d (declaration (type.Plain ty))).breaks ≡ [] → HasPlace name ty at
       → Gathered (with_global d (declaration (type.Plain ty))) bs (ls ++ listed (located_at name ty at))
   one_located ty e p =
@@ -278,17 +275,16 @@ module _ (d : Outside) (bs : List DataBlock) (ls : List Located) (name : List �
       let order : (block_entries bs ++ located_entries 0 ls) ++ (key_of name, meaning.Global d.globals ty) ∷ [] ≡ block_entries bs ++ located_entries 0 (ls ++ p.located ∷ []) =
       append_assoc (block_entries bs) (located_entries 0 ls) ((key_of name, meaning.Global d.globals ty) ∷ [])
       ∙ ap (λ x. block_entries bs ++ (located_entries 0 ls ++ x ∷ [])) entry ∙ ap (λ es. block_entries bs ++ es) (sym (located_last 0 ls p.located)) in
-      let done : Gathered (with_global d (declaration (type.Plain ty))) bs (ls ++ p.located ∷ []) = record {
+      rw p.found (record {
         names = subst (Lists (with_entry (key_of name) (meaning.Global d.globals ty) d.names)) order last;
         globals = count;
-        blocks = no_block first ∙ so.blocks;
+        blocks = grind (arith, so.blocks);
         units = so.units;
         numbered = so.numbered;
         ascend = so.ascend;
         few = so.few;
         placed = each_append IsPlaced ls (p.located ∷ []) so.placed (p.placed, tt);
-      } in
-      subst (λ o. Gathered (with_global d (declaration (type.Plain ty))) bs (ls ++ listed o)) (sym p.found) done
+      })
 
   one_block : (last : ℕ) (list : List (ℕ × ℕ)) → (with_global d (declaration (type.Bytes last list))).breaks ≡ []
       → block_at (block_number name) at last list ≡ Some (record { number = block_number name; bytes = contents last list })
@@ -315,8 +311,8 @@ module _ (d : Outside) (bs : List DataBlock) (ls : List Located) (name : List �
       ∙ ap (λ xs. block_entries xs ++ rest) (sym p.put) in
       let put : Lists (with_entry (key_of name) meaning.Block d.names) (block_entries p.before ++ (key_of name, meaning.Block) ∷ (block_entries p.after ++ rest)) =
       declared_between line (key_of name) meaning.Block d.names (block_entries p.before) (block_entries p.after ++ rest) (subst (Lists d.names) before so.names) once in
-      let count : d.blocks + one_if (not (is_some first) && true) ≡ length (inserted b bs) = counted first once ∙ omega (arith, so.blocks, one_more b bs) in
-      let done : Gathered (with_global d (declaration (type.Bytes last list))) (inserted b bs) ls = record {
+      let count : d.blocks + one_if (not (is_some first) && true) ≡ length (inserted b bs) = grind (arith, so.blocks, one_more b bs, once) in
+      rw (found, room, append-nil ls) (record {
         names = subst (Lists (with_entry (key_of name) meaning.Block d.names)) after put;
         globals = omega (arith, so.globals);
         blocks = count;
@@ -325,13 +321,7 @@ module _ (d : Outside) (bs : List DataBlock) (ls : List Located) (name : List �
         ascend = ascends 1 b bs i.some (no_block_of n bs rest none) so.ascend;
         few = omega (arith, less, one_more b bs);
         placed = so.placed;
-      } in
-      let there : inserted b bs ≡ with_block (block_at n at last list) bs = sym (ap (λ o. with_block o bs) found ∙ ap (λ t. cond t (inserted b bs) bs) room) in
-      subst (λ xs. Gathered (with_global d (declaration (type.Bytes last list))) xs (ls ++ [])) there
-      (subst (λ xs. Gathered (with_global d (declaration (type.Bytes last list))) (inserted b bs) xs) (sym (append-nil ls)) done)
-    where
-      counted : (x : Option Meaning) → twice line x ≡ [] → d.blocks + one_if (not (is_some x) && true) ≡ d.blocks + 1
-      counted x h = grind arith
+      })
 
   one_global : (ty : RawGlobalType) → (with_global d (declaration ty)).breaks ≡ [] → global_breaks ty line name at ≡ []
       → Gathered (with_global d (declaration ty)) (with_block (block_of ty name at) bs) (ls ++ listed (located_of ty name at))
