@@ -84,23 +84,19 @@ record Stand (items : Items) (found : List ℕ) : Type 0 where
   spelled : Spells (spell_items items)
   same : spread (tree_items items) ≡ found
 
+run_tree : (others : Items) (count b : ℕ) → tree_items (run_behind others count b) ≡ tree_items others ++ (count, b) ∷ []
+run_tree others count b = grind (arith, nat_tests)
+
 run_stands : (others : Items) (found : List ℕ) (count b : ℕ) → is_decimal count ≡ true → is_byte b ≡ true
     → Stand others found
     → Stand (run_behind others count b) (found ++ replicate count b)
-run_stands others found count b c d s = (elim (count == 1) as (λ t. (count == 1) ≡ t
-    → Stand (if t then single others b else times others count b) (found ++ replicate count b)) [
-      | true ↦ λ e. record {
-        spelled = λ ks q. s.spelled _ (past_spells others _ (d, q));
-        same = subst (λ n. spread (tree_items others ++ (n, b) ∷ []) ≡ found ++ replicate count b) (eqb-true count 1 e) same;
-      }
-      | false ↦ λ e. record {
-        spelled = λ ks q. s.spelled _ (past_spells others _ (c, (refl, (d, (refl, q)))));
-        same = same;
-      }
-    ]) refl
-  where
-    same : spread (tree_items others ++ (count, b) ∷ []) ≡ found ++ replicate count b
-    same = spread_one (tree_items others) count b ∙ ap (λ xs. xs ++ replicate count b) s.same
+run_stands others found count b c d s = record {
+  spelled = elim (count == 1) as (λ t. Spells (spell_items (if t then single others b else times others count b))) [
+    | true ↦ λ ks q. s.spelled _ (past_spells others _ (d, q))
+    | false ↦ λ ks q. s.spelled _ (past_spells others _ (c, (refl, (d, (refl, q)))))
+  ];
+  same = rw (run_tree others count b, ← s.same) (spread_one (tree_items others) count b);
+}
 
 few : (count : ℕ) → count ≤ 16384 → is_decimal count ≡ true
 few count h = grind (arith, nat_tests)

@@ -2,7 +2,7 @@
 -- name is one that a token can have and that breaks no rule.
 use Rattle.std.proofs.Common.{◌≡◌, ℕ, suc, ◌+◌, ◌-◌, ◌^◌, ◌<◌, ◌≤◌, ℤ, pos, negsuc, Bool, true, false, ◌&&◌, cond, None, Some, refl, ap, subst, ◌∙◌, arith}
 use Rattle.std.specs.Prelude.{nat_le, nat_lt}
-use Rattle.std.proofs.lemmas.Bool.{eqb-true, le-leb, leb-true, lt-ltb, ltb-false, ltb-true}
+use Rattle.std.proofs.lemmas.Bool.{le-leb, leb-true, lt-ltb, ltb-false, ltb-true}
 use Rattle.std.proofs.lemmas.Bool.Decides.{Decides-int_eq, nat_tests}
 use Rattle.memory_areas.specs.Access.{is_byte_in}
 use Rattle.memory_areas.specs.declared.place.AreaName.{AreaName}
@@ -35,8 +35,7 @@ plain ty n h = let never : nat_lt n 0 ≡ false = grind (arith, nat_tests) in rw
 bits : (ty : StType) (k : ℕ) (z : ℤ) → 2 ^ k ≤ suc (greatest ty false) → pos (pattern k z) ≡ z
     → text.has_value ty z ≡ true
 bits ty k z most h =
-    subst (λ (n : ℤ). text.has_value ty n ≡ true) h
-    (plain ty (pattern k z) (let below : pattern k z < 2 ^ k = pattern_below k z in omega (arith, below, most)))
+    subst (λ (n : ℤ). text.has_value ty n ≡ true) h (plain ty (pattern k z) (omega (arith, pattern_below k z)))
 
 -- a number with a sign, of so many patterns from 0 on and as many below 0
 signed : (ty : StType) (half p : ℕ) (z : ℤ) → is_signed ty ≡ true → half ≡ suc (greatest ty false)
@@ -98,9 +97,8 @@ pub record IsPlaced (a : AreaName) (w : Width) (byte bit : ℕ) : Type 0 where
   pub kept_bit : text.is_bit_of w bit ≡ true
 
 small_bit : (w : Width) (bit : ℕ) → is_bit_of w bit ≡ true → (nat_le bit 7 ≡ true) × (text.is_bit_of w bit ≡ true)
-small_bit width.Bit bit h = let less : bit ≤ 7 = leb-true bit 7 h in (h, kept bit (omega arith))
-small_bit width.Byte bit h = let none : bit ≡ 0 = eqb-true bit 0 h in (le-leb bit 7 (omega arith), h)
-small_bit other bit h = let none : bit ≡ 0 = eqb-true bit 0 h in (le-leb bit 7 (omega arith), h)
+small_bit width.Bit bit h = (h, grind (arith, nat_tests))
+small_bit other bit h = (grind (arith, nat_tests), h)
 
 small_byte : (a : AreaName) (w : Width) (byte : ℕ) → is_byte_in a w byte ≡ true → byte ≤ 65535
 small_byte area.I w byte h = grind (arith, nat_tests)
@@ -109,25 +107,19 @@ small_byte other w byte h = grind (arith, nat_tests)
 pub placed : (a : AreaName) (w : Width) (byte bit : ℕ) → is_place a w byte bit ≡ true → IsPlaced a w byte bit
 placed a w byte bit h =
     let both = and_both (is_byte_in a w byte) (is_bit_of w bit) h in
-    let inside : is_byte_in a w byte ≡ true = both.0 in
     let small = small_bit w bit both.1 in
-    record {
-      rules = ap (λ b. b && nat_le bit 7) inside ∙ small.0;
-      kept_byte = kept byte (small_byte a w byte inside);
-      kept_bit = small.1;
-    }
+    let byte_kept = kept byte (small_byte a w byte both.0) in
+    record { rules = rw (both.0, small.0) refl; kept_byte = byte_kept; kept_bit = small.1 }
 
 -- a token can have a place without a data block's number
 pub plain_place : (a : AreaName) (w : Width) (byte bit : ℕ) → IsPlaced a w byte bit
     → text.is_place a None w byte bit ≡ true
-plain_place a w byte bit p = ap (λ b. b && text.is_bit_of w bit) p.kept_byte ∙ p.kept_bit
+plain_place a w byte bit p = rw (p.kept_byte, p.kept_bit) refl
 
 -- and one with it
 pub block_place : (n : ℕ) (w : Width) (byte bit : ℕ) → n ≤ 65535 → IsPlaced area.Db w byte bit
     → text.is_place area.Db (Some n) w byte bit ≡ true
-block_place n w byte bit h p =
-    ap (λ b. b && text.is_kept byte && text.is_bit_of w bit) (kept n h)
-    ∙ ap (λ b. b && text.is_bit_of w bit) p.kept_byte ∙ p.kept_bit
+block_place n w byte bit h p = rw (kept n h, p.kept_byte, p.kept_bit) refl
 
 pub small_number : (n : ℕ) → is_block_number n ≡ true → n ≤ 65535
 small_number n h = leb-true n 65535 (and_both (nat_le 1 n) (nat_le n 65535) h).1
