@@ -1,5 +1,5 @@
 -- Tables by keys: what stands under a key after other entries, and formals with keys of their own.
-use Rattle.std.proofs.Common.{◌≡◌, ℕ, ◌+◌, true, false, cond, List, [], ◌∷◌, ◌++◌, Some, None, refl, ap, ◌∙◌, arith}
+use Rattle.std.proofs.Common.{◌≡◌, ℕ, ◌+◌, false, cond, List, [], ◌∷◌, ◌++◌, Some, None, refl, ap, ◌∙◌, arith}
 use Rattle.std.proofs.lemmas.Cmp.{nat_list_eq_equiv}
 use Rattle.st_tree.specs.declared.program.Local.{Local}
 use Rattle.st_rules.specs.declared.scope.Meaning.{Meaning}
@@ -8,12 +8,9 @@ use Rattle.st_types_laws.proofs.DeclaredNames.{formal_entries}
 use Rattle.st_rules.specs.Names.{Table, look_up}
 use Rattle.st_tree.specs.Naming.{is_same, key_of}
 
-own_key : (k : List ℕ) → is_same k k ≡ true
-own_key k = nat_list_eq_equiv.refl k
-
 -- what stands under a key after entries that do not have it
 pub found_behind : {T : Type 0} (table : Table T) (k : List ℕ) (x : T) (rest : Table T) → look_up k table ≡ None → look_up k (table ++ (k, x) ∷ rest) ≡ Some x
-found_behind {T} [] k x rest h = ap (λ t. cond t (Some x) (look_up k rest)) (own_key k)
+found_behind {T} [] k x rest h = ap (λ t. cond t (Some x) (look_up k rest)) (nat_list_eq_equiv.refl k)
 found_behind {T} (e ∷ table) k x rest h = grind (arith, found_behind table k x rest)
 
 -- a key that is not there is not there after one more entry with another key

@@ -22,7 +22,7 @@ use Rattle.st_tree.specs.declared.raw.RawVar.{RawVar}
 use Rattle.st_tree.specs.declared.raw.RawVar.TheVariants as var
 use Rattle.st_rules.specs.Judged.{listed}
 use Rattle.st_rules.specs.Declarations.{all_inside, all_outside, is_block, local_of, locals_of, meaning_of_global, meaning_of_unit, no_inside, no_outside, one_if, one_too_many, with_formal, with_global, with_local, with_unit}
-use Rattle.st_rules.specs.Globals.{all_blocks, all_global_breaks, all_located, block_at, block_breaks, block_number, block_of, contents, fills, global_breaks, has_block_address, has_block_form, inserted, is_small_enough, is_start_of, located_of, total, with_block}
+use Rattle.st_rules.specs.Globals.{all_blocks, all_global_breaks, all_located, block_at, block_breaks, block_number, block_of, contents, fills, global_breaks, has_block_address, has_block_form, inserted, is_small_enough, located_of, total, with_block}
 use Rattle.st_rules.specs.Names.{Table, look_up}
 use Rattle.st_tree.specs.Naming.{key_of}
 use Rattle.st_tree.specs.PlaceRules.{is_block_number}
@@ -41,15 +41,6 @@ use Rattle.st_types_laws.proofs.Redeclared.{AreBlocksAt, AreLocalsAt, AreLocated
 abbrev start_of : ℕ → RawVar
 start_of n = var.Direct area.Db (Some n) width.Byte 0 0
 
-numbered : (n : ℕ) → 1 ≤ n → n ≤ 65535 → is_block_number n ≡ true
-numbered n some small = grind (arith, nat_tests)
-
-has_start : (n : ℕ) → is_block_number n ≡ true → has_block_address n (start_of n) ≡ true
-has_start n h = rw h refl
-
-is_start : (n : ℕ) → is_start_of n (start_of n) ≡ true
-is_start n = let same : (n == n) ≡ true = grind (arith, nat_tests) in rw same refl
-
 is_filled : (last : ℕ) (list : List (ℕ × ℕ)) → total list ≡ last + 1 → fills last list ≡ true
 is_filled last [] h = refl
 is_filled last (run ∷ runs) h = grind (arith, nat_tests)
@@ -66,14 +57,15 @@ record IsAgain (b : DataBlock) (g : RawGlobal) : Type 0 where
 plain_block : (b : DataBlock) (last : ℕ) (list : List (ℕ × ℕ)) → IsBlock b.number b → last ≡ length b.bytes - 1 → contents last list ≡ b.bytes → total list ≡ length b.bytes
     → (block_at b.number (start_of b.number) last list ≡ Some b) × ((line : Line) → block_breaks line b.number (start_of b.number) last list ≡ [])
 plain_block b last list i greatest bytes size =
-    let number : is_block_number b.number ≡ true = numbered b.number i.some i.small in
-    let address : has_block_address b.number (start_of b.number) ≡ true = has_start b.number number in
+    let number : is_block_number b.number ≡ true = grind (arith, nat_tests) in
+    let address : has_block_address b.number (start_of b.number) ≡ true = rw number refl in
     let least = i.sized.0 in
     let most = i.sized.1 in
     let small : is_small_enough last ≡ true = grind (arith, nat_tests) in
+    let own : (b.number == b.number) ≡ true = grind (arith, nat_tests) in
     let some : nat_le 1 last ≡ true = grind (arith, nat_tests) in
     let filled : fills last list ≡ true = is_filled last list (omega (arith, size, greatest, least)) in
-    let form : has_block_form b.number (start_of b.number) last list ≡ true = rw (is_start b.number, some, filled) refl in
+    let form : has_block_form b.number (start_of b.number) last list ≡ true = rw (own, some, filled) refl in
     let same : Some (record { number = b.number; bytes = contents last list }) ≡ Some b = ap (λ (l : List ℕ). Some (record { number = b.number; bytes = l })) bytes in
     (rw (address, small, form) same, λ line. rw (address, small, form) refl)
 
