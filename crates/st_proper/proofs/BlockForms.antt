@@ -33,9 +33,6 @@ use Rattle.st_rules.specs.Globals.{contents, total}
 digit_word : (b : ℕ) → is_digit b ≡ true → is_word_byte b ≡ true
 digit_word b h = rw h refl
 
-no_line : (b : ℕ) → is_digit b ≡ true → not (b == 95) ≡ true
-no_line b h = grind (arith, nat_tests)
-
 all_words : (ds : List ℕ) → list_all is_digit ds ≡ true → list_all is_word_byte ds ≡ true
 all_words [] h = refl
 all_words (d ∷ ds) h = grind (arith, digit_word d, all_words ds)
@@ -44,7 +41,8 @@ size_of : (ds : List ℕ) → list_all is_digit ds ≡ true → size_before_line
 size_of [] h = refl
 size_of (d ∷ ds) h =
     let p = and_both (is_digit d) (list_all is_digit ds) h in
-    rw (no_line d p.0, size_of ds p.1) (omega arith)
+    let other : not (d == 95) ≡ true = grind (arith, nat_tests) in
+    rw (other, size_of ds p.1) (omega arith)
 
 -- the letters tell it from every keyword
 no_word : (ds : List ℕ) → is_none (word_named (68 ∷ 66 ∷ ds)) ≡ true
@@ -122,14 +120,11 @@ items_stand (next ∷ rest) others found count b small d h s = (elim (b == next)
     bytes : (is_byte next ≡ true) × (list_all is_byte rest ≡ true)
     bytes = and_both (is_byte next) (list_all is_byte rest) h
 
-no_bytes : Stand no_item []
-no_bytes = record { spelled = λ ks q. q; same = refl }
-
 form_stands : (bs : List ℕ) → 1 ≤ length bs → length bs ≤ 16384 → list_all is_byte bs ≡ true → Stand (items_form bs) bs
 form_stands [] some small h = absurd (omega (arith, some))
 form_stands (b ∷ rest) some small h =
     let p = and_both (is_byte b) (list_all is_byte rest) h in
-    items_stand rest no_item [] 1 b (omega (arith, small)) p.0 p.1 no_bytes
+    items_stand rest no_item [] 1 b (omega (arith, small)) p.0 p.1 (record { spelled = λ ks q. q; same = refl })
 
 -- the bytes of a list that is there
 contents_of : (last : ℕ) (runs : List (ℕ × ℕ)) → 1 ≤ total runs → contents last runs ≡ spread runs

@@ -24,12 +24,9 @@ use Rattle.st_types_laws.proofs.PlainNumbers.{plain_number}
 
 -- Names of data blocks
 
-digit_back : (c : ℕ) → is_digit (to_ascii_uppercase c) ≡ true → is_digit c ≡ true
-digit_back c h = grind (arith, nat_tests)
-
 digits_back : (name : List ℕ) → list_all is_digit (map to_ascii_uppercase name) ≡ true → list_all is_digit name ≡ true
 digits_back [] h = refl
-digits_back (c ∷ name) h = grind (arith, digit_back c, digits_back name)
+digits_back (c ∷ name) h = grind (arith, nat_tests, digits_back name)
 
 -- a name whose capitals are digits is digits
 are_back : (name : List ℕ) → are_digits (map to_ascii_uppercase name) ≡ true → are_digits name ≡ true

@@ -151,10 +151,6 @@ module _ (t : StProgram) (p : Proper t) where
 pub inner_apart : (u : Pou) → tree.are_apart (keys_of u.formals ++ keys_of u.locals) ≡ true → AreApart (inner_entries u)
 inner_apart u h = apart_of (inner_entries u) (ap tree.are_apart (inner_keys u) ∙ h)
 
--- a unit's formals have keys of their own
-pub are_distinct : (u : Pou) → tree.are_apart (keys_of u.formals ++ keys_of u.locals) ≡ true → AreDistinct u.formals
-are_distinct u h = distinct_of 0 u.formals (local_entries 0 u.locals) (inner_apart u h)
-
 -- What a unit sees
 
 -- what the statements of a unit may name, by what they name
@@ -222,7 +218,7 @@ sees t u s p h inner outer formals = record {
           spelled_name v.name f.name,
         );
         formals = ap (λ fs. slice_get fs i) formals ∙ mapped_at formals_in t.pous i v q;
-        distinct = are_distinct v f.apart;
+        distinct = distinct_of 0 v.formals (local_entries 0 v.locals) (inner_apart v f.apart);
         named = λ j l e. spelled_name l.name
             (each_at IsFormal v.formals j l (each_of IsFormal v.formals f.formals) e).name;
       };

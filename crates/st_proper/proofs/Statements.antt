@@ -160,20 +160,6 @@ module _ (s : Scope) (names : Names) (sees : Sees s names) (agree : TypesAgreeIn
     calls = λ f. bound_none f _ _ quiet;
   }
 
-  exit_good : Good stmt.Exit
-  exit_good inside h k = good_at names S.Exit stmt.rolls-Exit k
-      (jump_good stmt.Exit word.Exit inside k (act_exit s (on k)) (calls_at s (on k) K.Exit raw.rolls-Exit)
-      (sym (good_exit (sight_by names) inside) ∙ h))
-
-  continue_good : Good stmt.Continue
-  continue_good inside h k = good_at names S.Continue stmt.rolls-Continue k
-      (jump_good stmt.Continue word.Continue inside k (act_continue s (on k))
-      (calls_at s (on k) K.Continue raw.rolls-Continue) (sym (good_continue (sight_by names) inside) ∙ h))
-
-  return_good : Good stmt.Return
-  return_good inside h k = good_at names S.Return stmt.rolls-Return k
-      (jump_good stmt.Return word.Return inside k (act_return s (on k)) (calls_at s (on k) K.Return raw.rolls-Return) refl)
-
   -- Bodies
 
   one_more : (inside : Bool) (xs : List Stmt) (x : Stmt) (others : Statements) (c : Statement)
@@ -401,9 +387,14 @@ module _ (s : Scope) (names : Names) (sees : Sees s names) (agree : TypesAgreeIn
     choice = choice_good;
     selection = case_good;
     loop = loop_good;
-    exit = exit_good;
-    continue = continue_good;
-    return = return_good;
+    exit = λ inside h k. good_at names S.Exit stmt.rolls-Exit k
+        (jump_good stmt.Exit word.Exit inside k (act_exit s (on k)) (calls_at s (on k) K.Exit raw.rolls-Exit)
+        (sym (good_exit (sight_by names) inside) ∙ h));
+    continue = λ inside h k. good_at names S.Continue stmt.rolls-Continue k
+        (jump_good stmt.Continue word.Continue inside k (act_continue s (on k))
+        (calls_at s (on k) K.Continue raw.rolls-Continue) (sym (good_continue (sight_by names) inside) ∙ h));
+    return = λ inside h k. good_at names S.Return stmt.rolls-Return k
+        (jump_good stmt.Return word.Return inside k (act_return s (on k)) (calls_at s (on k) K.Return raw.rolls-Return) refl);
   }
 
   -- well typed statements

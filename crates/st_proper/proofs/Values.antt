@@ -61,10 +61,6 @@ fitting type.Dint z h = signed type.Dint 2147483648 (pattern 32 z) z refl refl r
 fitting type.Lint z h =
     signed type.Lint 9223372036854775808 (pattern 64 z) z refl refl refl (pattern_below 64 z) _ refl h
 
--- a token can have a value of a type
-has_value : (ty : StType) (z : ℤ) → is_value ty z ≡ true → text.has_value ty z ≡ true
-has_value ty z h = fitting ty z ((Decides-int_eq (fit ty z) z).0 h)
-
 -- what holds of the canonical literal of a type and a value
 pub record Kept (ty : StType) (n : ℤ) (c : Literal) : Type 0 where
   pub tree : literal_tree c ≡ raw.Literal ty n
@@ -82,7 +78,7 @@ literal_kept type.Dint (negsuc n) h = record { tree = refl; label = refl; value 
 literal_kept ty n h = record { tree = refl; label = refl; value = refl; spelled = h }
 
 pub kept_literal : (ty : StType) (n : ℤ) → is_value ty n ≡ true → Kept ty n (literal_form ty n)
-kept_literal ty n h = literal_kept ty n (has_value ty n h)
+kept_literal ty n h = literal_kept ty n (fitting ty n ((Decides-int_eq (fit ty n) n).0 h))
 
 -- Places
 

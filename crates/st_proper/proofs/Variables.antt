@@ -58,15 +58,10 @@ pub record Written (names : Names) (s : Scope) (v : TypedVar) : Type 0 where
 
 -- Registers
 
-register_key : (r : Reg) → register_named (key_of (register_word r)) ≡ Some r
-unfolding key_of register_named
-register_key reg.Accu1 = refl
-register_key other = refl
-
-register_is_name : (r : Reg) → is_name (register_word r) ≡ true
-unfolding word_named word_text
-register_is_name reg.Accu1 = refl
-register_is_name other = refl
+register_good : (r : Reg) → (register_named (key_of (register_word r)) ≡ Some r) × (is_name (register_word r) ≡ true)
+unfolding key_of register_named word_named word_text
+register_good reg.Accu1 = (refl, refl)
+register_good other = (refl, refl)
 
 -- All variables
 
@@ -112,7 +107,7 @@ module _ (s : Scope) (names : Names) (sees : Sees s names) where
   pub written : (v : Var) (ty : StType) → variable_type (sight_by names) v ≡ Some ty → Good ty v
   written (var.Register r) ty h =
       let same : type_of_register r ≡ ty = cc in
-      subst (λ t. Good t (var.Register r)) same (record { means = rw (register_key r) refl; spelled = register_is_name r })
+      subst (λ t. Good t (var.Register r)) same (record { means = rw (register_good r).0 refl; spelled = (register_good r).1 })
   written (var.Local i) ty h = local i ty (slice_get names.locals i) refl h
   written (var.Formal i) ty h = formal i ty (slice_get names.formals i) refl h
   written (var.Global i) ty h = global i ty (slice_get names.globals i) refl h
