@@ -9,7 +9,7 @@ use Rattle.s7_base.specs.declared.reason.Line.{Line}
 use Rattle.s7_base.specs.declared.word.Width.{Width}
 use Rattle.st_canonical.specs.Canonical.{Placed, all_from, arm_from, arms_from, body_from, case_from, cases_else_from, cases_from, choice_from, expr_form, on, raw_var, statement_from, FromLine, labelled, labels_behind, labels_form, literal_form}
 use Rattle.st_grammar.specs.Forms.{Statement, Statements, none, further, Arms, no_arm, arm, CaseArms, no_case, case_arm, jump, Labels, label, more_labels}
-use Rattle.st_grammar.specs.Grammar.{arm_of as raw_arm, case_of as raw_case, jump_tree, may_jump, on_line, tree, tree_all, tree_arms, tree_cases, tree_labels, tree_one, LabelsFit, label_tree, spell_labels}
+use Rattle.st_grammar.specs.Grammar.{arm_of as raw_arm, case_of as raw_case, jump_tree, may_jump, on_line, tree, tree_all, tree_arms, tree_cases, tree_labels, tree_one, LabelsFit, spell_labels}
 use Rattle.st_types_laws.proofs.Actions.{act_continue, act_exit, act_return, calls_at}
 use Rattle.st_types_laws.proofs.Bounds.{all_last, arms_last, bound_case, bound_if, bound_none, bound_while, cases_last, greatest_last}
 use Rattle.st_types_laws.proofs.Labels.{is_own_type, no_label_breaks, of_type as labels_of, values_of}
@@ -64,15 +64,11 @@ labels_good ty ns [] c a h = subst (λ z. AreLabels ty z c) (sym (append-nil ns)
 labels_good ty ns (n ∷ more) c a h =
     let both = and_both (is_value ty n) (list_all (is_value ty) more) h in
     let g = kept_literal ty n both.0 in
-    let next = more_labels c (literal_form ty n) in
-    let one : AreLabels ty (ns ++ n ∷ []) next = record {
-      means = ap (λ z. z ++ label_tree (literal_form ty n) ∷ []) a.means ∙ ap (λ z. labels_of ty ns ++ z ∷ []) g.label
-          ∙ sym (map_last (λ (n : ℤ). (ty, n)) ns n);
+    rw (← append_assoc ns (n ∷ []) more) (labels_good ty (ns ++ n ∷ []) more (more_labels c (literal_form ty n)) (record {
+      means = rw (a.means, g.label) (sym (map_last (λ (n : ℤ). (ty, n)) ns n));
       fits = (a.fits, g.value);
       spelled = λ ks q. a.spelled _ (refl, (g.spelled, q));
-    } in
-    subst (λ z. AreLabels ty z (labels_behind ty next more)) (append_assoc ns (n ∷ []) more)
-    (labels_good ty (ns ++ n ∷ []) more next one both.1)
+    }) both.1)
 
 -- an arm of a CASE with these labels after others: it is written, with a form of the labels
 record IsWritten (ty : StType) (ns : List ℤ) : Type 0 where

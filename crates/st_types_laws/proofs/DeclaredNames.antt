@@ -266,6 +266,7 @@ module _ (d : Outside) (bs : List DataBlock) (ls : List Located) (name : List �
   one_located : (ty : StType) → (with_global d (declaration (type.Plain ty))).breaks ≡ [] → HasPlace name ty at
       → Gathered (with_global d (declaration (type.Plain ty))) bs (ls ++ listed (located_at name ty at))
   one_located ty e p =
+      let blocks : d.blocks + one_if (not (is_some first) && false) ≡ length bs = grind (arith, so.blocks) in
       let count : d.globals + 1 ≡ length (ls ++ p.located ∷ []) = omega (arith, so.globals, length-append ls (p.located ∷ [])) in
       let once : twice line first ≡ [] = nil_first (twice line first) _ (nil_second d.breaks _ e) in
       let last : Lists (with_entry (key_of name) (meaning.Global d.globals ty) d.names) ((block_entries bs ++ located_entries 0 ls) ++ (key_of name, meaning.Global d.globals ty) ∷ []) =
@@ -278,7 +279,7 @@ module _ (d : Outside) (bs : List DataBlock) (ls : List Located) (name : List �
       rw p.found (record {
         names = subst (Lists (with_entry (key_of name) (meaning.Global d.globals ty) d.names)) order last;
         globals = count;
-        blocks = grind (arith, so.blocks);
+        blocks = blocks;
         units = so.units;
         numbered = so.numbered;
         ascend = so.ascend;

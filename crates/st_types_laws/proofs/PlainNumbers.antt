@@ -126,20 +126,15 @@ has_plain : (n : ℕ) (capitals : List ℕ) (t : Bool) → names_block capitals 
 has_plain n capitals false e h some =
     let none : number_in capitals ≡ 0 = ap (λ t. cond t (number_from 0 (drop 2 capitals)) 0) e in
     absurd (omega (arith, none, h, some))
-has_plain n capitals true e h some = by_test (are_digits ds) refl h
-  where
-    ds : List ℕ
-    ds = without_zeros (drop 2 capitals)
-
-    by_test : (t : Bool) → are_digits ds ≡ t → cond t (number_from 0 ds) 0 ≡ n → IsKey n (68 ∷ 66 ∷ ds)
-    by_test false f g = absurd (omega (arith, g, some))
-    by_test true f g = record { digits = ds; named = refl; sound = record { digits = each_digit ds f; plain = plain; worth = g } }
-      where
-        plain : (rest : List ℕ) → ds ≡ 48 ∷ rest → ⊥
-        plain rest q =
-            let alone : ds ≡ 48 ∷ [] = q ∙ ap (λ xs. 48 ∷ xs) (zero_alone (drop 2 capitals) rest q) in
-            let zero_worth : number_from 0 ds ≡ 0 = ap (number_from 0) alone in
-            omega (arith, zero_worth, g, some)
+has_plain n capitals true e h some =
+    let ds = without_zeros (drop 2 capitals) in
+    let digits : are_digits ds ≡ true = grind arith in
+    let worth : number_from 0 ds ≡ n = grind arith in
+    let plain : (rest : List ℕ) → ds ≡ 48 ∷ rest → ⊥ = λ rest q.
+    let alone : ds ≡ 48 ∷ [] = q ∙ ap (λ xs. 48 ∷ xs) (zero_alone (drop 2 capitals) rest q) in
+    let none : number_from 0 ds ≡ 0 = ap (number_from 0) alone in
+    omega arith in
+    record { digits = ds; named = refl; sound = record { digits = each_digit ds digits; plain = plain; worth = worth } }
 
 -- the key of a name that has the number of a data block
 is_key : (n : ℕ) (name : List ℕ) → block_number name ≡ n → 1 ≤ n → IsKey n (key_of name)
