@@ -82,7 +82,8 @@ record Stand (items : Items) (found : List ℕ) : Type 0 where
   spelled : Spells (spell_items items)
   same : spread (tree_items items) ≡ found
 
-run_tree : (others : Items) (count b : ℕ) → tree_items (run_behind others count b) ≡ tree_items others ++ (count, b) ∷ []
+run_tree : (others : Items) (count b : ℕ)
+    → tree_items (run_behind others count b) ≡ tree_items others ++ (count, b) ∷ []
 run_tree others count b = grind (arith, nat_tests)
 
 run_stands : (others : Items) (found : List ℕ) (count b : ℕ) → is_decimal count ≡ true → is_byte b ≡ true
@@ -113,7 +114,7 @@ items_stand (next ∷ rest) others found count b small d h s = (elim (b == next)
           (items_stand rest others found (count + 1) b (omega (arith, small)) d bytes.1 s)
       | false ↦ λ e. subst (Stand (items_behind (run_behind others count b) 1 next rest))
           (append_assoc found (replicate count b) (next ∷ rest))
-          (items_stand rest (run_behind others count b) (found ++ replicate count b) 1 next (omega (arith, small)) bytes.0 bytes.1
+          (items_stand rest (run_behind others count b) (found ++ replicate count b) 1 next (omega arith) bytes.0 bytes.1
           (run_stands others found count b (few count (omega (arith, small))) d s))
     ]) refl
   where
@@ -146,11 +147,12 @@ pub record IsWritten (bs : List ℕ) : Type 0 where
 pub is_written : (b : DataBlock) → IsFull b → IsWritten b.bytes
 is_written b f =
     let s = form_stands b.bytes (omega (arith, f.block.sized.0)) f.block.sized.1 f.bytes in
-    let size : total (tree_items (items_form b.bytes)) ≡ length b.bytes = sym (runs_size (tree_items (items_form b.bytes))) ∙ ap length s.same in
+    let list = tree_items (items_form b.bytes) in
+    let size : total list ≡ length b.bytes = sym (runs_size list) ∙ ap length s.same in
     record {
       last = few (length b.bytes - 1) (omega (arith, f.block.sized.1));
       spelled = s.spelled;
-      same = contents_of (length b.bytes - 1) (tree_items (items_form b.bytes)) (omega (arith, f.block.sized.0)) ∙ s.same;
+      same = contents_of (length b.bytes - 1) list (omega (arith, f.block.sized.0)) ∙ s.same;
       size = size;
     }
 

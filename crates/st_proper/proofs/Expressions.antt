@@ -263,7 +263,8 @@ module _ (s : Scope) (names : Names) (sees : Sees s names) where
 -- How deep it nests
 
 -- an operator before its operand is one higher, and one deeper
-unary_grows : (op : UnaryOp) (f : Form) → (height (unary_form op f) ≡ suc (height f)) × (nest (unary_form op f) ≡ suc (nest f))
+unary_grows : (op : UnaryOp) (f : Form)
+    → (height (unary_form op f) ≡ suc (height f)) × (nest (unary_form op f) ≡ suc (nest f))
 unary_grows unary.Minus f = (omega arith, omega arith)
 unary_grows other f = (omega arith, omega arith)
 

@@ -52,11 +52,11 @@ record Holds (k : List ℕ) (m : Meaning) (es : Table Meaning) : Type 0 where
 
 in_first : (k : List ℕ) (m : Meaning) (xs ys : Table Meaning) → Holds k m xs → Holds k m (xs ++ ys)
 in_first k m xs ys h =
-    record { before = h.before; after = h.after ++ ys; whole = rw h.whole (append_assoc h.before ((k, m) ∷ h.after) ys) }
+    record { before = h.before; after = h.after ++ ys; whole = rw h.whole (append_assoc h.before _ ys) }
 
 in_second : (k : List ℕ) (m : Meaning) (xs ys : Table Meaning) → Holds k m ys → Holds k m (xs ++ ys)
 in_second k m xs ys h =
-    record { before = xs ++ h.before; after = h.after; whole = rw h.whole (sym (append_assoc xs h.before ((k, m) ∷ h.after))) }
+    record { before = xs ++ h.before; after = h.after; whole = rw h.whole (sym (append_assoc xs h.before _)) }
 
 found : (k : List ℕ) (m : Meaning) (es : Table Meaning) → Holds k m es → AreApart es → look_up k es ≡ Some m
 found k m es h a =
@@ -190,21 +190,21 @@ sees t u s p h inner outer formals = record {
       let f = each_at IsFormal u.formals i l (each_of IsFormal u.formals h.formals) q in (
         inside l.name (meaning.Formal i l.ty) (free_name l.name f.free)
             (in_first _ _ (formal_entries 0 u.formals) (local_entries 0 u.locals)
-            (held (λ (l : Local). key_of l.name) (λ i (l : Local). meaning.Formal i l.ty) 0 i i u.formals l (omega arith) q)),
+            (held {X = Local} (λ l. key_of l.name) (λ i l. meaning.Formal i l.ty) 0 i i u.formals l (omega arith) q)),
         spelled_name l.name f.name,
       );
   local = λ i l q.
       let f = each_at IsLocal u.locals i l (each_of IsLocal u.locals h.locals) q in (
         inside l.name (meaning.Local i l.ty) (local_name l.name f.free)
             (in_second _ _ (formal_entries 0 u.formals) (local_entries 0 u.locals)
-            (held (λ (l : Local). key_of l.name) (λ i (l : Local). meaning.Local i l.ty) 0 i i u.locals l (omega arith) q)),
+            (held {X = Local} (λ l. key_of l.name) (λ i l. meaning.Local i l.ty) 0 i i u.locals l (omega arith) q)),
         spelled_name l.name f.name,
       );
   global = λ i g q seen.
       let f = each_at IsGlobal t.globals i g (globals_proper t p) q in (
         outside g.name (meaning.Global i g.ty) (free_name g.name f.free) seen
             (in_first _ _ (located_entries 0 t.globals) (unit_entries 0 t.pous)
-            (held (λ (l : Located). key_of l.name) (λ i (l : Located). meaning.Global i l.ty) 0 i i t.globals g (omega arith) q)),
+            (held {X = Located} (λ l. key_of l.name) (λ i l. meaning.Global i l.ty) 0 i i t.globals g (omega arith) q)),
         spelled_name g.name f.name,
       );
   function = λ i v q no seen.
@@ -214,7 +214,8 @@ sees t u s p h inner outer formals = record {
           outside v.name (meaning.Function i) (unit_name v.name f.free) seen
               (in_second _ _ (located_entries 0 t.globals) (unit_entries 0 t.pous)
               (subst (λ (b : Bool). Holds (key_of v.name) (meaning_of_unit i b) (unit_entries 0 t.pous)) no
-              (held (λ (u : Pou). key_of u.name) (λ i (u : Pou). meaning_of_unit i u.program) 0 i i t.pous v (omega arith) q))),
+              (held {X = Pou} (λ u. key_of u.name) (λ i u. meaning_of_unit i u.program) 0 i i t.pous v
+              (omega arith) q))),
           spelled_name v.name f.name,
         );
         formals = ap (λ fs. slice_get fs i) formals ∙ mapped_at formals_in t.pous i v q;
@@ -227,7 +228,7 @@ sees t u s p h inner outer formals = record {
     inside : (name : List ℕ) (m : Meaning) → IsOther name → Holds (key_of name) m (inner_entries u)
         → meaning_in s (key_of name) ≡ Some m
     inside name m o there =
-        let here = ap (look_up (key_of name)) inner ∙ found (key_of name) m (inner_entries u) there (inner_apart u h.apart) in
+        let here = ap (look_up (key_of name)) inner ∙ found _ m (inner_entries u) there (inner_apart u h.apart) in
         rw (o.register, here) refl
 
     outside : (name : List ℕ) (m : Meaning) → IsOther name → is_seen (sight_by (names_in t u)) name ≡ true
@@ -237,5 +238,5 @@ sees t u s p h inner outer formals = record {
         let hidden = ap (look_up (key_of name)) inner ∙ missing (key_of name) (inner_entries u)
         (ap (tree.is_new (key_of name)) (inner_keys u) ∙ seen) in
         let here = ap (look_up (key_of name)) outer ∙ found (key_of name) m (outer_entries t)
-        (in_second _ _ (block_entries t.dbs) (located_entries 0 t.globals ++ unit_entries 0 t.pous) there) (outer_apart t p) in
+        (in_second _ _ (block_entries t.dbs) _ there) (outer_apart t p) in
         rw (o.register, hidden, here) refl

@@ -64,7 +64,8 @@ labels_good ty ns [] c a h = subst (λ z. AreLabels ty z c) (sym (append-nil ns)
 labels_good ty ns (n ∷ more) c a h =
     let both = and_both (is_value ty n) (list_all (is_value ty) more) h in
     let g = kept_literal ty n both.0 in
-    rw (← append_assoc ns (n ∷ []) more) (labels_good ty (ns ++ n ∷ []) more (more_labels c (literal_form ty n)) (record {
+    rw (← append_assoc ns (n ∷ []) more)
+    (labels_good ty (ns ++ n ∷ []) more (more_labels c (literal_form ty n)) (record {
       means = rw (a.means, g.label) (sym (map_last (λ (n : ℤ). (ty, n)) ns n));
       fits = (a.fits, g.value);
       spelled = λ ks q. a.spelled _ (refl, (g.spelled, q));
@@ -120,8 +121,8 @@ module _ (s : Scope) (names : Names) (sees : Sees s names) (agree : TypesAgreeIn
       let w = written s names sees v t.type t.left in
       let g = expression_sound s names sees e t.type t.right k (on k) in
       good_at names (S.Assign v e) (stmt.rolls-Assign v e) k (record {
-        means = assign_is s (on k) (raw_var names v) (tree (expr_form names k e)) (of_type t.type v) (typed_tree t.type e)
-            w.means g.means (is_own_type t.type);
+        means = assign_is s (on k) (raw_var names v) (tree (expr_form names k e)) (of_type t.type v)
+            (typed_tree t.type e) w.means g.means (is_own_type t.type);
         fits = g.binds;
         spelled = λ ks q. (w.spelled, (refl, g.spelled ks q));
         low = λ d. omega (arith, nest_is names k e, nesting_assign v e);
@@ -390,7 +391,8 @@ module _ (s : Scope) (names : Names) (sees : Sees s names) (agree : TypesAgreeIn
         (jump_good stmt.Continue word.Continue inside k (act_continue s (on k))
         (calls_at s (on k) K.Continue raw.rolls-Continue) (sym (good_continue (sight_by names) inside) ∙ h));
     return = λ inside h k. good_at names S.Return stmt.rolls-Return k
-        (jump_good stmt.Return word.Return inside k (act_return s (on k)) (calls_at s (on k) K.Return raw.rolls-Return) refl);
+        (jump_good stmt.Return word.Return inside k (act_return s (on k))
+        (calls_at s (on k) K.Return raw.rolls-Return) refl);
   }
 
   -- well typed statements

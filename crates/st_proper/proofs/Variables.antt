@@ -107,17 +107,19 @@ module _ (s : Scope) (names : Names) (sees : Sees s names) where
   pub written : (v : Var) (ty : StType) → variable_type (sight_by names) v ≡ Some ty → Good ty v
   written (var.Register r) ty h =
       let same : type_of_register r ≡ ty = cc in
-      subst (λ t. Good t (var.Register r)) same (record { means = rw (register_good r).0 refl; spelled = (register_good r).1 })
+      let g = register_good r in
+      subst (λ t. Good t (var.Register r)) same (record { means = rw g.0 refl; spelled = g.1 })
   written (var.Local i) ty h = local i ty (slice_get names.locals i) refl h
   written (var.Formal i) ty h = formal i ty (slice_get names.formals i) refl h
   written (var.Global i) ty h = global i ty (slice_get names.globals i) refl h
   written (var.Direct a byte bit w) ty h =
       let g = where_given (is_place a w byte bit) (type_of_width w) ty h in
       let p = placed a w byte bit g.0 in
-      subst (λ t. Good t (var.Direct a byte bit w)) g.1 (record { means = rw p.rules refl; spelled = plain_place a w byte bit p })
+      let there = plain_place a w byte bit p in
+      subst (λ t. Good t (var.Direct a byte bit w)) g.1 (record { means = rw p.rules refl; spelled = there })
   written (var.InBlock n byte bit w) ty h =
       let g = where_given (is_block_number n && is_place area.Db w byte bit) (type_of_width w) ty h in
       let both = and_both (is_block_number n) (is_place area.Db w byte bit) g.0 in
       let p = placed area.Db w byte bit both.1 in
-      let spelled = block_place n w byte bit (small_number n both.0) p in
-      subst (λ t. Good t (var.InBlock n byte bit w)) g.1 (record { means = rw (both.0, p.rules) refl; spelled = spelled })
+      let there = block_place n w byte bit (small_number n both.0) p in
+      subst (λ t. Good t (var.InBlock n byte bit w)) g.1 (record { means = rw (both.0, p.rules) refl; spelled = there })
