@@ -85,12 +85,10 @@ form_labels ty [] some h = absurd cc
 form_labels ty (n ∷ ns) some h =
     let both = and_both (is_value ty n) (list_all (is_value ty) ns) h in
     let g = kept_literal ty n both.0 in
-    let first : AreLabels ty (n ∷ [])
-    (label (literal_form ty n)) =
-    record { means = ap (λ z. z ∷ []) g.label; fits = g.value; spelled = λ ks q. (g.spelled, q) } in
     record {
       labels = labels_form ty n ns;
-      are = labels_good ty (n ∷ []) ns (label (literal_form ty n)) first both.1;
+      are = labels_good ty (n ∷ []) ns (label (literal_form ty n))
+          (record { means = ap (λ z. z ∷ []) g.label; fits = g.value; spelled = λ ks q. (g.spelled, q) }) both.1;
       written = λ others line body. refl;
     }
 

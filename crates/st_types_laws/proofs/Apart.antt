@@ -100,9 +100,7 @@ declared_last line k m names es l h = declared_between line k m names es [] (sub
 
 -- where no key stands twice, the first of more declarations breaks no rule and goes after the others
 pub record IsNew (line : Line) (k : List ℕ) (m : Meaning) (names more : Table Meaning) : Type 0 where
-  pub none : look_up k names ≡ None
   pub once : twice line (look_up k names) ≡ []
-  pub last : with_entry k m names ≡ names ++ (k, m) ∷ []
   pub apart : AreApart (with_entry k m names ++ more)
   pub order : with_entry k m names ++ more ≡ names ++ (k, m) ∷ more
 
@@ -111,4 +109,4 @@ declares_new line k m names more a =
     let none : look_up k names ≡ None = is_new k m names more a in
     let last : with_entry k m names ≡ names ++ (k, m) ∷ [] = goes_last k m names none in
     let order : with_entry k m names ++ more ≡ names ++ (k, m) ∷ more = ap (λ (table : Table Meaning). table ++ more) last ∙ append_assoc names ((k, m) ∷ []) more in
-    record { none = none; once = ap (twice line) none; last = last; apart = subst AreApart (sym order) a; order = order }
+    record { once = ap (twice line) none; apart = subst AreApart (sym order) a; order = order }
