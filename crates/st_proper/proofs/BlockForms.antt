@@ -1,30 +1,20 @@
 -- The data blocks of a tree, in their canonical form: their names are names of data blocks,
 -- their bytes are ones that tokens have, and their lists stand for the same bytes.
 use Rattle.st_proper.proofs.Spells.{Spells, past_spells}
-use Rattle.std.proofs.Common.{◌≡◌, ℕ, ◌+◌, ◌-◌, ◌≤◌, ◌==◌, true, false, not, List, [], ◌∷◌, ◌++◌, length, replicate, refl, sym, ap, subst, ◌∙◌, arith, append_assoc, append-nil}
-use Rattle.std.specs.Prelude.{decimal, is_none, if◌then◌else◌}
-use Rattle.std.specs.List.{flat_map, list_all}
+use Rattle.st_tree.proofs.Common.{◌≡◌, ℕ, ◌+◌, ◌-◌, ◌≤◌, ◌==◌, true, false, not, List, [], ◌∷◌, ◌++◌, length, replicate, refl, sym, ap, subst, ◌∙◌, arith, append_assoc, append-nil, decimal, is_none, if◌then◌else◌, list_all, nat_tests, flat_map-append, is_digit, DataBlock, is_word_byte, names_block}
+use Rattle.std.specs.List.{flat_map}
 use Rattle.std.proofs.Math.Seq.{drop-length}
 use Rattle.std.proofs.lemmas.Bool.{eqb-true}
-use Rattle.std.proofs.lemmas.Bool.Decides.{nat_tests}
-use Rattle.std.proofs.lemmas.Grind.{flat_map-append}
 use Rattle.std.proofs.lemmas.List.{replicate-append-replicate}
 use Rattle.digit_texts.proofs.SomeDigits.{some_digits}
-use Rattle.digit_texts.specs.Digits.{is_digit}
 use Rattle.st_types_laws.proofs.BlockSizes.{IsBlock, runs_size}
 use Rattle.st_types_laws.proofs.PlainNumbers.{written}
-use Rattle.memory_areas.specs.declared.data_block.DataBlock.{DataBlock}
-use Rattle.s7_base.specs.Tokens.{is_word_byte}
 use Rattle.st_lexer.proofs.Words.{and_both}
 use Rattle.st_lexer.specs.Spelled.{is_byte, is_decimal}
 use Rattle.st_canonical.specs.Canonical.{block_name, items_behind, items_form, run_behind}
-use Rattle.st_grammar.specs.Forms.{Items, no_item, single, times, GlobalType, plain, bytes, Globals, no_global, global}
-use Rattle.st_grammar.specs.Grammar.{tree_items, spell_items}
-use Rattle.st_grammar.specs.Kinds.{conversion_named, size_before_line, word_named, word_text}
-use Rattle.st_tree.specs.Naming.{names_block}
-use Rattle.st_grammar.specs.Levels.{deepest, levels_globals, levels_initial, levels_items, levels_past, levels_type}
+use Rattle.st_grammar.proofs.Common.{Items, no_item, single, times, GlobalType, plain, bytes, Globals, no_global, global, tree_items, spell_items, conversion_named, size_before_line, word_named, word_text, deepest, levels_globals, levels_items, levels_type, AllWithin}
+use Rattle.st_grammar.specs.Levels.{levels_initial, levels_past}
 use Rattle.st_canonical.specs.Spelled.{is_name}
-use Rattle.st_grammar.specs.Syntax.{AllWithin}
 use Rattle.st_rules.specs.Globals.{contents, total}
 
 -- Names

@@ -1,21 +1,14 @@
 -- The chains of calls of a proper tree: no call lies on a cycle, and no chain is too long.
-use Rattle.std.proofs.Common.{◌≡◌, ◌≢◌, ℕ, zero, suc, ◌+◌, ◌<◌, ◌≤◌, Bool, true, false, List, [], ◌∷◌, ◌++◌, length, get_or, slice_get, Option, Some, None, refl, ap, ◌∙◌, arith}
+use Rattle.st_tree.proofs.Common.{◌≡◌, ◌≢◌, ℕ, zero, suc, ◌+◌, ◌<◌, ◌≤◌, Bool, true, false, List, [], ◌∷◌, ◌++◌, length, get_or, slice_get, Option, Some, None, refl, ap, ◌∙◌, arith, slice_get_within, ACTIVATIONS, first_of_all, chain_of, chain_to, unit_chain}
 use Rattle.std.proofs.lemmas.List.{length-append}
-use Rattle.std.proofs.lemmas.Option.{slice_get_within}
 use Rattle.call_chains.proofs.Followed.{followed}
 use Rattle.call_chains.specs.Chain.{Graph, NoCycle, call_at, call_in, chains, follow, with_call}
 use Rattle.call_chains.specs.declared.call.Call.{Call}
-use Rattle.memory_areas.specs.declared.sizes.TheConstants.{ACTIVATIONS}
 use Rattle.st_types_laws.proofs.Bounds.{bound}
 use Rattle.st_types_laws.proofs.Lists.{there_at}
-use Rattle.s7_base.specs.Broken.{first_of_all}
-use Rattle.st_rules.specs.LongChains.{long_chains}
-use Rattle.st_rules.specs.Typed.{IsChain}
+use Rattle.st_rules.proofs.Common.{long_chains, IsChain}
 use Rattle.st_tree.proofs.CalledMost.{called_most}
-use Rattle.st_tree.specs.Chains.{chain_of, chain_to, unit_chain}
-use Rattle.st_tree.specs.declared.program.Pou.{Pou}
-use Rattle.st_tree.specs.declared.program.StProgram.{StProgram}
-use Rattle.st_tree.specs.declared.raw.RawPou.{RawPou}
+use Rattle.st_lexer.proofs.Common.{Pou, StProgram, RawPou}
 
 -- a call costs no more than the dearest
 call_within : (f : ℕ → ℕ) (calls : List Call) (k : ℕ) (c : Call) → slice_get calls k ≡ Some c

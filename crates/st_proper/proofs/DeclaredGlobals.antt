@@ -3,27 +3,18 @@
 use Rattle.st_proper.proofs.Spells.{Spells, initial_spells}
 use Rattle.st_grammar.specs.declared.kind.Fixed.TheVariants as fixed
 use Rattle.st_grammar.specs.declared.kind.Kind.TheVariants as kind
-use Rattle.st_lexer.specs.Spelled.{is_decimal, is_place}
-use Rattle.st_tree.specs.Naming.{is_free}
-use Rattle.std.proofs.Common.{◌≡◌, ℕ, ◌-◌, ◌≤◌, true, List, [], ◌∷◌, ◌++◌, length, Some, None, refl, sym, ap, ◌∙◌, arith}
-use Rattle.std.proofs.lemmas.Bool.Decides.{nat_tests}
-use Rattle.memory_areas.specs.declared.data_block.DataBlock.{DataBlock}
-use Rattle.memory_areas.specs.declared.place.AreaName.{AreaName}
+use Rattle.st_lexer.proofs.Common.{is_decimal, Located, RawGlobal, RawVar}
+use Rattle.st_lexer.specs.Spelled.{is_place}
+use Rattle.st_tree.proofs.Common.{is_free, ◌≡◌, ℕ, ◌-◌, ◌≤◌, true, List, [], ◌∷◌, ◌++◌, length, Some, None, refl, sym, ap, ◌∙◌, arith, nat_tests, DataBlock, AreaName, line_after, width_at}
 use Rattle.memory_areas.specs.declared.place.AreaName.TheVariants as area
-use Rattle.s7_base.specs.Tokens.{line_after}
 use Rattle.s7_base.specs.declared.word.Width.TheVariants as width
 use Rattle.st_canonical.specs.Canonical.{area_form, block_name, blocks_from, globals_form, globals_from, items_form, located_from, on}
-use Rattle.st_grammar.specs.Forms.{Items, plain, bytes, Globals, no_global, global, Section, present}
-use Rattle.st_grammar.specs.Grammar.{GlobalsFit, IfPresent, held, spell_array, spell_globals, spell_initial, spell_items, spell_section, tree_globals, tree_items}
-use Rattle.st_grammar.specs.Levels.{levels_globals, levels_section}
+use Rattle.st_grammar.proofs.Common.{Items, plain, bytes, Globals, no_global, global, Section, present, GlobalsFit, IfPresent, held, spell_globals, spell_initial, spell_items, spell_section, tree_globals, tree_items, levels_globals, levels_section}
+use Rattle.st_grammar.specs.Grammar.{spell_array}
 use Rattle.st_canonical.specs.Spelled.{is_name, is_variable}
 use Rattle.st_proper.proofs.BlockForms.{AreWithin, IsFull, block_is_name, block_is_named, globals_within, is_written, low}
 use Rattle.st_types_laws.proofs.Lists.{Behind, Each, none_behind, one_behind}
-use Rattle.st_tree.specs.Values.{width_at}
-use Rattle.st_tree.specs.declared.program.Located.{Located}
-use Rattle.st_tree.specs.declared.raw.RawGlobal.{RawGlobal}
 use Rattle.st_tree.specs.declared.raw.RawGlobalType.TheVariants as type
-use Rattle.st_tree.specs.declared.raw.RawVar.{RawVar}
 use Rattle.st_tree.specs.declared.raw.RawVar.TheVariants as raw
 use Rattle.st_types_laws.proofs.Redeclared.{AreBlocksAt, AreLocatedAt, IsBlockAt, IsLocatedAt, name_of_area}
 

@@ -1,15 +1,10 @@
 -- A well typed expression in its canonical form: it means the expression on each line, is of the language, and
 -- tokens can have its parts.
-use Rattle.std.proofs.Common.{◌≡◌, ℕ, suc, ◌-◌, ℤ, true, false, Option, Some, refl, sym, ap, subst, ◌∙◌, arith, ◌<◌, ◌≤◌}
-use Rattle.std.specs.Prelude.{nat_lt, if◌then◌else◌}
+use Rattle.st_tree.proofs.Common.{◌≡◌, ℕ, suc, ◌-◌, ℤ, true, false, Option, Some, refl, sym, ap, subst, ◌∙◌, arith, ◌<◌, ◌≤◌, nat_lt, if◌then◌else◌, Line, Width, infix_level, canon, canon_step, type_of_unary, where_true, is_conversion, form_height, form_nesting, Names, expression_type, is_value, on_type, nat_tests}
 use Rattle.st_proper.proofs.Spells.{Spells}
-use Rattle.s7_base.specs.declared.reason.Line.{Line}
-use Rattle.s7_base.specs.declared.word.Width.{Width}
 use Rattle.st_canonical.specs.Canonical.{expr_form, form_of, unary_form, raw_var}
 use Rattle.st_canonical.specs.Spelled.{is_function}
-use Rattle.st_grammar.specs.Forms.{Form, group, prefix, infix_of, apply}
-use Rattle.st_grammar.specs.Grammar.{Binds, level, tree, spell}
-use Rattle.st_grammar.specs.Levels.{height}
+use Rattle.st_grammar.proofs.Common.{Form, group, prefix, infix_of, apply, Binds, level, tree, spell, height}
 use Rattle.st_grammar.specs.declared.kind.OneOperand.TheVariants as one
 use Rattle.st_types_laws.proofs.ReadEquations.{read_literal, read_variable}
 use Rattle.st_canonical.proofs.Levels.{nest}
@@ -18,33 +13,21 @@ use Rattle.st_proper.proofs.Scope.{Sees, sight_by}
 use Rattle.st_proper.proofs.Values.{kept_literal}
 use Rattle.st_proper.proofs.Variables.{given, where_given, written}
 use Rattle.st_canonical.proofs.SameNames.{between}
-use Rattle.st_rules.specs.Judged.{sound}
-use Rattle.st_rules.specs.Expressions.{expression}
-use Rattle.st_tree.specs.Form.{infix_level, canon, canon_step}
-use Rattle.st_tree.specs.TypeRules.{type_of_unary, where_true}
+use Rattle.st_rules.proofs.Common.{sound, expression}
 use Rattle.st_rules.specs.declared.expression.Typed.{Typed}
 use Rattle.st_rules.specs.declared.scope.Scope.{Scope}
 use Rattle.st_tree.proofs.Induction.{ExprSteps, every_expr}
 use Rattle.st_tree.proofs.TypingEquations.{typed_area_read, typed_binary, typed_convert, typed_literal, typed_read, typed_select, typed_shift, typed_unary}
 use Rattle.st_tree.specs.Form as bare
-use Rattle.st_tree.specs.Naming.{is_conversion}
-use Rattle.st_tree.specs.Nesting.{form_height, form_nesting}
 use Rattle.st_tree.specs.TypeRules as types
-use Rattle.st_tree.specs.Typing.{Names}
-use Rattle.st_tree.specs.WellTyped.{expression_type, is_value, on_type}
-use Rattle.st_tree.specs.declared.expr.BinaryOp.{BinaryOp}
-use Rattle.st_tree.specs.declared.expr.Expr.{Expr, fold-roll-Expr, ind-Expr, map-Expr}
+use Rattle.st_lexer.proofs.Common.{BinaryOp, Expr, ShiftOp, StType, UnaryOp, Var}
+use Rattle.st_tree.specs.declared.expr.Expr.{fold-roll-Expr, ind-Expr, map-Expr}
 use Rattle.st_tree.specs.declared.expr.Expr.TheVariants as expr
-use Rattle.st_tree.specs.declared.expr.ShiftOp.{ShiftOp}
-use Rattle.st_tree.specs.declared.expr.StType.{StType}
-use Rattle.st_tree.specs.declared.expr.UnaryOp.{UnaryOp}
 use Rattle.st_tree.specs.declared.expr.UnaryOp.TheVariants as unary
-use Rattle.st_tree.specs.declared.expr.Var.{Var}
 use Rattle.st_grammar.specs.declared.kind.Prefix.TheVariants as before
 use Rattle.st_tree.proofs.Equations.{canon_literal, canon_read, canon_unary, canon_binary, canon_convert, canon_select, canon_shift, canon_area_read}
 use Rattle.st_tree.specs.declared.expr.BinaryOp.TheVariants as binary
 use Rattle.st_tree.specs.declared.expr.Expr.TheOpen as E
-use Rattle.std.proofs.lemmas.Bool.Decides.{nat_tests}
 
 -- Canonical forms
 

@@ -1,28 +1,18 @@
 -- What holds of the canonical forms of well typed statements, and of a list of them with one more; and the form of a
 -- statement, which is made of those of its parts.
-use Rattle.std.proofs.Common.{◌≡◌, ℕ, ◌+◌, ◌≤◌, Bool, true, List, [], ◌∷◌, map, Some, sym, ap, subst, ◌∙◌}
-use Rattle.s7_base.specs.declared.reason.Line.{Line}
-use Rattle.st_grammar.specs.Forms.{Statement, Statements, Arms, CaseArms}
-use Rattle.st_grammar.specs.Grammar.{AllFit, ArmsFit, CasesFit, Fits, HasArm, HasCase, spell_all, spell_arms, spell_cases, spell_one, tree_all, tree_arms, tree_cases, tree_one}
+use Rattle.st_tree.proofs.Common.{◌≡◌, ℕ, ◌+◌, ◌≤◌, Bool, true, List, [], ◌∷◌, map, Some, sym, ap, subst, ◌∙◌, Line, greatest, arm_nesting, body_nesting, case_nesting, nesting, is_some_of, Names}
+use Rattle.st_grammar.proofs.Common.{Statement, Statements, Arms, CaseArms, AllFit, ArmsFit, CasesFit, Fits, HasArm, HasCase, spell_all, spell_arms, spell_cases, spell_one, tree_all, tree_arms, tree_cases, tree_one}
 use Rattle.st_types_laws.proofs.Bounds.{bound, bound_all, bound_arms, bound_cases}
 use Rattle.st_canonical.proofs.Levels.{top_all, top_arms, top_cases, top_one}
 use Rattle.st_types_laws.proofs.Parts.{AreSound}
 use Rattle.st_proper.proofs.Spells.{Spells}
-use Rattle.st_rules.specs.Judged.{sound}
-use Rattle.st_rules.specs.Calls.{calls_of}
-use Rattle.st_rules.specs.Statements.{arm as arm_in, arms_on, case_arm as case_arm_in, case_arms_on, statement, statements}
+use Rattle.st_rules.proofs.Common.{sound, calls_of, arms_on, case_arms_on, statement, statements}
+use Rattle.st_rules.specs.Statements.{arm as arm_in, case_arm as case_arm_in}
 use Rattle.st_rules.specs.declared.scope.Scope.{Scope}
 use Rattle.st_tree.proofs.CalledMost.{called_in_arm, called_in_case, called_most}
-use Rattle.st_tree.specs.Depth.{greatest}
-use Rattle.st_tree.specs.Nesting.{arm_nesting, body_nesting, case_nesting, nesting}
-use Rattle.st_tree.specs.WellTyped.{is_some_of}
-use Rattle.st_tree.specs.declared.expr.StType.{StType}
+use Rattle.st_lexer.proofs.Common.{StType, Arm, fold_out-Arm, CaseArm, fold_out-CaseArm, Stmt, fold-roll-Stmt, map-Stmt, roll-Stmt}
 use Rattle.st_canonical.specs.Canonical.{ArmFromLine, CaseFromLine, FromLine, arm_from, case_from, statement_from}
 use Rattle.st_canonical.specs.Canonical as canonical
-use Rattle.st_tree.specs.Typing.{Names}
-use Rattle.st_tree.specs.declared.program.Arm.{Arm, fold_out-Arm}
-use Rattle.st_tree.specs.declared.program.CaseArm.{CaseArm, fold_out-CaseArm}
-use Rattle.st_tree.specs.declared.program.Stmt.{Stmt, fold-roll-Stmt, map-Stmt, roll-Stmt}
 use Rattle.st_tree.specs.declared.program.Stmt.TheOpen as S
 
 -- a form that means this statement, is of the language, nests no deeper, and calls no dearer units

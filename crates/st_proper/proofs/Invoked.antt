@@ -1,16 +1,10 @@
 -- A well typed call in its canonical form: it gives each formal its variable, in the order of the formals.
 use Rattle.st_proper.proofs.Spells.{Spells, comma_spells}
-use Rattle.std.proofs.Common.{◌≡◌, ℕ, suc, ◌++◌, Bool, true, false, List, [], ◌∷◌, Option, Some, None, Ok, refl, sym, ap, ◌∙◌, arith}
-use Rattle.std.specs.Prelude.{option_map, slice_get}
-use Rattle.std.specs.List.{fold}
-use Rattle.std.proofs.lemmas.Bool.{and_parts}
+use Rattle.st_tree.proofs.Common.{◌≡◌, ℕ, suc, ◌++◌, Bool, true, false, List, [], ◌∷◌, Option, Some, None, Ok, refl, sym, ap, ◌∙◌, arith, option_map, slice_get, fold, and_parts, slice_get-map, Line, key_of, formals_of, unit_name, Names, are_given, has_type, head_of, is_call, is_well_typed, variable_type}
 use Rattle.std.proofs.lemmas.List.{append-nil, append_assoc}
-use Rattle.std.proofs.lemmas.Option.{slice_get-map}
-use Rattle.s7_base.specs.declared.reason.Line.{Line}
 use Rattle.st_canonical.specs.Canonical.{actuals_from, on, raw_var, statement_from}
 use Rattle.st_canonical.specs.Spelled.{is_name}
-use Rattle.st_grammar.specs.Forms.{Actuals, no_actual, actual, invoke}
-use Rattle.st_grammar.specs.Grammar.{on_line, tree_actuals, spell_actuals}
+use Rattle.st_grammar.proofs.Common.{Actuals, no_actual, actual, invoke, on_line, tree_actuals, spell_actuals}
 use Rattle.st_types_laws.proofs.Actions.{calls_invoke}
 use Rattle.st_types_laws.proofs.Bounds.{bound}
 use Rattle.st_types_laws.proofs.Labels.{is_own_type}
@@ -21,22 +15,11 @@ use Rattle.st_types_laws.proofs.Called.{AreTyped, are_typed, call_is, given_with
 use Rattle.st_proper.proofs.Scope.{Sees, sight_by}
 use Rattle.st_types_laws.proofs.DeclaredTree.{formals_in}
 use Rattle.st_proper.proofs.Variables.{Written, of_type, written}
-use Rattle.st_rules.specs.Judged.{sound}
-use Rattle.st_rules.specs.Calls.{call_on, calls_of}
-use Rattle.st_rules.specs.Invocations.{Actual, callee, in_order, lacks, with_actual}
-use Rattle.st_rules.specs.Names.{Table, look_up}
-use Rattle.st_tree.specs.Naming.{key_of}
-use Rattle.st_rules.specs.Statements.{statement}
+use Rattle.st_rules.proofs.Common.{sound, call_on, calls_of, Actual, callee, in_order, lacks, with_actual, Table, look_up, statement}
 use Rattle.st_rules.specs.declared.scope.Scope.{Scope}
 use Rattle.st_tree.proofs.CalledMost.{called_invoke}
 use Rattle.st_tree.proofs.TypingEquations.{good_invoke, nesting_invoke, type_had}
-use Rattle.st_tree.specs.Spelling.{formals_of, unit_name}
-use Rattle.st_tree.specs.Typing.{Names}
-use Rattle.st_tree.specs.WellTyped.{are_given, has_type, head_of, is_call, is_well_typed, variable_type}
-use Rattle.st_tree.specs.declared.expr.StType.{StType}
-use Rattle.st_tree.specs.declared.expr.Var.{Var}
-use Rattle.st_tree.specs.declared.program.Local.{Local}
-use Rattle.st_tree.specs.declared.program.Pou.{Pou}
+use Rattle.st_lexer.proofs.Common.{StType, Var, Local, Pou}
 use Rattle.st_tree.specs.declared.program.Stmt.TheOpen as S
 use Rattle.st_tree.specs.declared.program.Stmt.TheVariants as stmt
 use Rattle.st_tree.specs.declared.raw.RawStmtKind.TheVariants as raw

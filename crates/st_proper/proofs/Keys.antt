@@ -1,22 +1,14 @@
 -- The key of a name in a tree is the one by which the text's names are compared; and what keys register
 -- variables, data blocks and other names have.
-use Rattle.std.proofs.Common.{◌≡◌, ℕ, ◌<◌, ◌≤◌, Bool, true, false, not, ◌&&◌, ◌||◌, cond, List, [], ◌∷◌, ◌++◌, map, take, drop, Option, Some, None, refl, sym, ap, ◌∙◌, arith}
-use Rattle.std.specs.Prelude.{codes, decimal, find}
-use Rattle.std.specs.Char.{to_ascii_lowercase, to_ascii_uppercase}
-use Rattle.std.specs.List.{list_all, list_any}
-use Rattle.std.specs.Str.{bytes_eq, str_to_ascii_lowercase}
-use Rattle.std.proofs.lemmas.Bool.Decides.{nat_tests}
-use Rattle.std.proofs.lemmas.List.{drop-map, take-map}
+use Rattle.st_tree.proofs.Common.{◌≡◌, ℕ, ◌<◌, ◌≤◌, Bool, true, false, not, ◌&&◌, ◌||◌, cond, List, [], ◌∷◌, ◌++◌, map, take, drop, Option, Some, None, refl, sym, ap, ◌∙◌, arith, codes, decimal, to_ascii_lowercase, to_ascii_uppercase, list_all, list_any, str_to_ascii_lowercase, nat_tests, drop-map, take-map, are_digits, is_digit, is_same_word, Reg, is_free, is_same, key_of, may_name_local, may_name_unit, names_block, register_word}
+use Rattle.std.specs.Prelude.{find}
+use Rattle.std.specs.Str.{bytes_eq}
 use Rattle.std.proofs.lemmas.Str.Ascii.{lowercase-uppercase}
-use Rattle.digit_texts.specs.Digits.{are_digits, is_digit}
-use Rattle.s7_base.specs.Tokens.{is_among, is_same_word}
-use Rattle.s7_base.specs.declared.register.Reg.{Reg}
+use Rattle.s7_base.specs.Tokens.{is_among}
 use Rattle.st_lexer.proofs.Words.{and_both, not_true}
 use Rattle.st_canonical.proofs.SameNames.{of_same, same_of}
-use Rattle.st_rules.specs.Globals.{number_in}
-use Rattle.st_tree.specs.Naming.{is_free, is_next, is_numbered, is_register, is_same, is_unit_number, key_of, may_name_local, may_name_unit, names_block, register_names}
-use Rattle.st_rules.specs.Scopes.{register_named}
-use Rattle.st_tree.specs.Words.{register_word}
+use Rattle.st_rules.proofs.Common.{number_in, register_named}
+use Rattle.st_tree.specs.Naming.{is_next, is_numbered, is_register, is_unit_number, register_names}
 use Rattle.st_rules.specs.declared.scope.TheConstants.{REGISTERS}
 use Rattle.st_types_laws.proofs.Apart.{same_keys}
 use Rattle.st_types_laws.proofs.Lists.{both_true}

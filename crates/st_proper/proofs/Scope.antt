@@ -1,30 +1,17 @@
 -- What names mean in the text of a proper tree: each position is found under its key.
-use Rattle.std.proofs.Common.{◌≡◌, ℕ, zero, suc, ◌+◌, ◌<◌, ◌≤◌, Bool, true, false, cond, List, [], ◌∷◌, ◌++◌, map, Some, None, refl, sym, ap, subst, ◌∙◌, arith}
-use Rattle.std.specs.Prelude.{codes, decimal, slice_get}
+use Rattle.st_tree.proofs.Common.{◌≡◌, ℕ, zero, suc, ◌+◌, ◌<◌, ◌≤◌, Bool, true, false, cond, List, [], ◌∷◌, ◌++◌, map, Some, None, refl, sym, ap, subst, ◌∙◌, arith, codes, decimal, slice_get, Ascend, numbers_of, DataBlock, is_same, key_of, names_block, IsDataBlock, IsFormal, IsGlobal, IsLocal, IsProperUnit, Proper, names_in, Names, Sight, head_of, is_seen, keys_of}
 use Rattle.std.proofs.lemmas.List.{append_assoc}
-use Rattle.memory_areas.specs.Areas.{Ascend, numbers_of}
-use Rattle.memory_areas.specs.declared.data_block.DataBlock.{DataBlock}
 use Rattle.st_canonical.specs.Spelled.{is_name}
 use Rattle.st_lexer.proofs.Words.{and_both}
 use Rattle.st_types_laws.proofs.Keyed.{AreDistinct, distinct_of, found_behind}
 use Rattle.st_proper.proofs.Keys.{IsOther, block_key, free_name, local_name, other_key, other_number, unit_name}
 use Rattle.st_canonical.proofs.SameNames.{spelled_name}
-use Rattle.st_rules.specs.Declarations.{meaning_of_unit}
-use Rattle.st_rules.specs.Names.{Table, look_up}
-use Rattle.st_tree.specs.Naming.{is_same, key_of, names_block}
-use Rattle.st_rules.specs.Scopes.{meaning_in}
+use Rattle.st_rules.proofs.Common.{meaning_of_unit, Table, look_up, meaning_in}
 use Rattle.st_rules.specs.declared.scope.Meaning.{Meaning}
 use Rattle.st_rules.specs.declared.scope.Meaning.TheVariants as meaning
 use Rattle.st_rules.specs.declared.scope.Scope.{Scope}
 use Rattle.st_tree.specs.Naming as tree
-use Rattle.st_tree.specs.Proper.{IsDataBlock, IsFormal, IsGlobal, IsLocal, IsProperUnit, Proper}
-use Rattle.st_tree.specs.Spelling.{names_in}
-use Rattle.st_tree.specs.Typing.{Names}
-use Rattle.st_tree.specs.WellTyped.{Sight, head_of, is_seen, keys_of}
-use Rattle.st_tree.specs.declared.program.Local.{Local}
-use Rattle.st_tree.specs.declared.program.Located.{Located}
-use Rattle.st_tree.specs.declared.program.Pou.{Pou}
-use Rattle.st_tree.specs.declared.program.StProgram.{StProgram}
+use Rattle.st_lexer.proofs.Common.{Local, Located, Pou, StProgram}
 use Rattle.st_types_laws.proofs.Apart.{AreApart, is_new}
 use Rattle.st_types_laws.proofs.DeclaredTree.{formals_in}
 use Rattle.st_types_laws.proofs.EntryKeys.{inner_keys, keys_in, named_keys}

@@ -1,9 +1,7 @@
 -- What a part spells, tokens can have where they can have what stands behind it.
-use Rattle.std.proofs.Common.{◌≡◌, Bool, true, false, List, refl}
-use Rattle.s7_base.specs.declared.reason.Line.{Line}
+use Rattle.st_tree.proofs.Common.{◌≡◌, Bool, true, false, List, refl, Line}
 use Rattle.st_canonical.specs.Spelled.{AreSpelled, is_spelled}
-use Rattle.st_grammar.specs.Forms.{Actuals, no_actual, actual, Arms, no_arm, arm, Items, no_item}
-use Rattle.st_grammar.specs.Grammar.{arm_word, comma_behind, comma_past, end_word, spell_initial, spell_items, unit_word}
+use Rattle.st_grammar.proofs.Common.{Actuals, no_actual, actual, Arms, no_arm, arm, Items, no_item, arm_word, comma_behind, comma_past, end_word, spell_initial, spell_items, unit_word}
 use Rattle.st_grammar.specs.declared.kind.Kind.{Kind}
 
 -- tokens can have what is spelled before others

@@ -1,12 +1,8 @@
 -- Well typed statements in their canonical form: they mean the statements, are of the language, nest no deeper than
 -- the tree says, and call the same units.
 use Rattle.st_proper.proofs.Spells.{arm_word_spelled, Spells}
-use Rattle.std.proofs.Common.{◌≡◌, ℕ, ◌++◌, Bool, true, List, [], ◌∷◌, map, Option, Some, refl, sym, ap, subst, ◌∙◌, arith, ℤ}
-use Rattle.std.proofs.lemmas.Bool.{and_parts}
+use Rattle.st_tree.proofs.Common.{◌≡◌, ℕ, ◌++◌, Bool, true, List, [], ◌∷◌, map, Option, Some, refl, sym, ap, subst, ◌∙◌, arith, ℤ, and_parts, line_after, Line, Width, arm_nesting, case_nesting, nesting, is_selector, Names, type_of, type_of_width, are_well_typed, each, each_case, expression_type, has_type, is_arm, is_case_arm, is_some_of, is_well_typed, variable_type, is_value, list_all}
 use Rattle.std.proofs.lemmas.List.{append-nil, append_assoc}
-use Rattle.s7_base.specs.Tokens.{line_after}
-use Rattle.s7_base.specs.declared.reason.Line.{Line}
-use Rattle.s7_base.specs.declared.word.Width.{Width}
 use Rattle.st_canonical.specs.Canonical.{Placed, all_from, arm_from, arms_from, body_from, case_from, cases_else_from, cases_from, choice_from, expr_form, on, raw_var, statement_from, FromLine, labelled, labels_behind, labels_form, literal_form}
 use Rattle.st_grammar.specs.Forms.{Statement, Statements, none, further, Arms, no_arm, arm, CaseArms, no_case, case_arm, jump, Labels, label, more_labels}
 use Rattle.st_grammar.specs.Grammar.{arm_of as raw_arm, case_of as raw_case, jump_tree, may_jump, on_line, tree, tree_all, tree_arms, tree_cases, tree_labels, tree_one, LabelsFit, spell_labels}
@@ -19,26 +15,14 @@ use Rattle.st_proper.proofs.Invoked.{invoke_good}
 use Rattle.st_types_laws.proofs.Parts.{arm_is, assign_is, case_arm_is, case_is, if_is, selector_is, test_is, values, while_is, write_is, arms_sound_last, cases_sound_last, statements_last}
 use Rattle.st_proper.proofs.Scope.{Sees, sight_by}
 use Rattle.st_proper.proofs.Variables.{of_type, written}
-use Rattle.st_rules.specs.Calls.{calls_of}
-use Rattle.st_rules.specs.Judged.{sound}
-use Rattle.st_rules.specs.Statements.{label_breaks, statement}
+use Rattle.st_rules.proofs.Common.{calls_of, sound, label_breaks, statement}
 use Rattle.st_rules.specs.declared.scope.Scope.{Scope}
 use Rattle.st_tree.proofs.CalledMost.{called_case, called_if, called_in_arm, called_in_case, called_last, called_while}
 use Rattle.st_tree.proofs.Induction.{Each, InArm, InCase, StmtSteps, every_body}
 use Rattle.st_tree.proofs.TypedParts.{body_of_case, both_sides, parts_of_arm, parts_of_arms, parts_of_body, parts_of_case, parts_of_cases, parts_of_if, parts_of_while}
 use Rattle.st_tree.proofs.TypingEquations.{good_area_write, good_assign, good_case, good_case_arm, good_continue, good_exit, good_if, nesting_area_write, nesting_arm, nesting_assign, nesting_case, nesting_case_arm, nesting_if, nesting_while, type_had}
-use Rattle.st_tree.specs.Nesting.{arm_nesting, case_nesting, nesting}
-use Rattle.st_tree.specs.TypeRules.{is_selector}
-use Rattle.st_tree.specs.Typing.{Names, type_of}
-use Rattle.st_tree.specs.Values.{type_of_width}
-use Rattle.st_tree.specs.WellTyped.{are_well_typed, each, each_case, expression_type, has_type, is_arm, is_case_arm, is_some_of, is_well_typed, variable_type, is_value}
-use Rattle.st_tree.specs.declared.expr.Expr.{Expr}
-use Rattle.st_tree.specs.declared.expr.StType.{StType}
+use Rattle.st_lexer.proofs.Common.{Expr, StType, Var, Arm, CaseArm, Stmt}
 use Rattle.st_tree.specs.declared.expr.StType.TheVariants as type
-use Rattle.st_tree.specs.declared.expr.Var.{Var}
-use Rattle.st_tree.specs.declared.program.Arm.{Arm}
-use Rattle.st_tree.specs.declared.program.CaseArm.{CaseArm}
-use Rattle.st_tree.specs.declared.program.Stmt.{Stmt}
 use Rattle.st_tree.specs.declared.program.Stmt.TheOpen as S
 use Rattle.st_tree.specs.declared.program.Stmt.TheVariants as stmt
 use Rattle.st_tree.specs.declared.raw.RawStmtKind.TheOpen as K
@@ -48,7 +32,6 @@ use Rattle.st_grammar.specs.declared.kind.Jump.TheVariants as word
 use Rattle.st_types_laws.proofs.Lists.{map_last}
 use Rattle.st_proper.proofs.Values.{kept_literal}
 use Rattle.st_lexer.proofs.Words.{and_both}
-use Rattle.std.specs.List.{list_all}
 
 -- Labels of an arm of a CASE: their canonical form says their values
 

@@ -2,27 +2,15 @@
 -- their names, they nest no deeper than they may, and they declare what the tree has.
 use Rattle.st_proper.proofs.Spells.{Spells, end_word_spelled, unit_word_spelled}
 use Rattle.st_grammar.specs.declared.kind.Kind.{Kind}
-use Rattle.std.proofs.Common.{◌≡◌, ◌≢◌, ℕ, Bool, true, false, List, [], ◌∷◌, map, refl}
-use Rattle.std.specs.Prelude.{All}
-use Rattle.s7_base.specs.declared.reason.Line.{Line}
-use Rattle.s7_base.specs.Tokens.{line_after}
+use Rattle.st_tree.proofs.Common.{◌≡◌, ◌≢◌, ℕ, Bool, true, false, List, [], ◌∷◌, map, refl, All, Line, line_after, IsFormal, IsLocal, IsProperUnit, head_of, names_in}
 use Rattle.st_canonical.proofs.SameNames.{spelled_name}
 use Rattle.st_canonical.specs.Canonical.{Placed, body_from, locals_from, on, section_from, statement_from, unit_from, units_from}
-use Rattle.st_grammar.specs.Forms.{Statements, Locals, no_local, local, Section, absent, present, Units, no_unit}
-use Rattle.st_grammar.specs.Grammar.{AllFit, FormalsFit, HeadFits, IfPresent, LocalsFit, UnitsFit, held, is_formal_type, spell_all, spell_locals, spell_section, spell_units, tree_all, tree_locals, tree_units}
-use Rattle.st_grammar.specs.Levels.{levels_all, levels_locals, levels_section, levels_units}
+use Rattle.st_grammar.proofs.Common.{Statements, Locals, no_local, local, Section, absent, present, Units, no_unit, AllFit, FormalsFit, HeadFits, IfPresent, LocalsFit, UnitsFit, held, is_formal_type, spell_all, spell_locals, spell_section, spell_units, tree_all, tree_locals, tree_units, levels_all, levels_locals, levels_section, levels_units}
 use Rattle.st_canonical.specs.Spelled.{is_name, is_spelled}
 use Rattle.st_proper.proofs.BlockForms.{AreWithin, low}
 use Rattle.st_types_laws.proofs.Lists.{Behind, Each, EachPair, each_of, none_behind, one_behind, pairs_behind}
-use Rattle.st_tree.specs.Proper.{IsFormal, IsLocal, IsProperUnit}
-use Rattle.st_tree.specs.WellTyped.{head_of}
-use Rattle.st_tree.specs.declared.expr.StType.{StType}
+use Rattle.st_lexer.proofs.Common.{StType, Local, Pou, StProgram, RawPou}
 use Rattle.st_tree.specs.declared.expr.StType.TheVariants as type
-use Rattle.st_tree.specs.Spelling.{names_in}
-use Rattle.st_tree.specs.declared.program.Local.{Local}
-use Rattle.st_tree.specs.declared.program.Pou.{Pou}
-use Rattle.st_tree.specs.declared.program.StProgram.{StProgram}
-use Rattle.st_tree.specs.declared.raw.RawPou.{RawPou}
 use Rattle.st_types_laws.proofs.Redeclared.{AreLocalsAt, AreUnitsAt, IsLocalOf, IsUnitAt}
 
 -- a unit of a proper tree

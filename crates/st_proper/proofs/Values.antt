@@ -1,13 +1,9 @@
 -- A value that a type has is one that a token can have, as the canonical text writes it; and a place that a tree may
 -- name is one that a token can have and that breaks no rule.
-use Rattle.std.proofs.Common.{◌≡◌, ℕ, suc, ◌+◌, ◌-◌, ◌^◌, ◌<◌, ◌≤◌, ℤ, pos, negsuc, Bool, true, false, ◌&&◌, cond, None, Some, refl, ap, subst, ◌∙◌, arith}
-use Rattle.std.specs.Prelude.{nat_le, nat_lt}
-use Rattle.std.proofs.lemmas.Bool.{le-leb, leb-true, lt-ltb, ltb-false, ltb-true}
-use Rattle.std.proofs.lemmas.Bool.Decides.{Decides-int_eq, nat_tests}
+use Rattle.st_tree.proofs.Common.{◌≡◌, ℕ, suc, ◌+◌, ◌-◌, ◌^◌, ◌<◌, ◌≤◌, ℤ, pos, negsuc, Bool, true, false, ◌&&◌, cond, None, Some, refl, ap, subst, ◌∙◌, arith, nat_le, nat_lt, leb-true, ltb-false, ltb-true, Decides-int_eq, nat_tests, AreaName, Width, is_block_number, is_place, fit, pattern, is_value}
+use Rattle.std.proofs.lemmas.Bool.{le-leb, lt-ltb}
 use Rattle.memory_areas.specs.Access.{is_byte_in}
-use Rattle.memory_areas.specs.declared.place.AreaName.{AreaName}
 use Rattle.memory_areas.specs.declared.place.AreaName.TheVariants as area
-use Rattle.s7_base.specs.declared.word.Width.{Width}
 use Rattle.s7_base.specs.declared.word.Width.TheVariants as width
 use Rattle.st_canonical.specs.Canonical.{literal_form}
 use Rattle.st_canonical.specs.Spelled.{is_literal}
@@ -15,14 +11,11 @@ use Rattle.st_grammar.specs.Grammar.{is_value as is_literal_value, label_tree, l
 use Rattle.st_grammar.specs.declared.kind.Literal.{Literal}
 use Rattle.st_tree.specs.declared.raw.RawExpr.TheVariants as raw
 use Rattle.st_lexer.proofs.Words.{and_both}
-use Rattle.st_lexer.specs.Literals.{greatest, is_signed}
+use Rattle.st_lexer.proofs.Common.{greatest, is_signed, StType}
 use Rattle.st_lexer.specs.Spelled as text
 use Rattle.st_rules.specs.Variables as rules
 use Rattle.st_tree.proofs.FittingValues.{pattern_below}
-use Rattle.st_tree.specs.PlaceRules.{is_bit_of, is_block_number, is_place}
-use Rattle.st_tree.specs.Values.{fit, pattern}
-use Rattle.st_tree.specs.WellTyped.{is_value}
-use Rattle.st_tree.specs.declared.expr.StType.{StType}
+use Rattle.st_tree.specs.PlaceRules.{is_bit_of}
 use Rattle.st_tree.specs.declared.expr.StType.TheVariants as type
 
 -- Values

@@ -1,8 +1,6 @@
 -- A variable that a unit may name, as the canonical text writes it: it means the variable, and tokens can have it.
-use Rattle.std.proofs.Common.{◌≡◌, ℕ, List, Bool, true, false, ◌&&◌, Option, Some, None, Ok, refl, ap, subst, ◌∙◌}
-use Rattle.std.specs.Prelude.{slice_get}
+use Rattle.st_tree.proofs.Common.{◌≡◌, ℕ, List, Bool, true, false, ◌&&◌, Option, Some, None, Ok, refl, ap, subst, ◌∙◌, slice_get, Reg, key_of, is_block_number, is_place, type_of_register, Names, type_of_width, where_true, is_seen, on_type, type_inside, type_outside, variable_type, register_word}
 use Rattle.memory_areas.specs.declared.place.AreaName.TheVariants as area
-use Rattle.s7_base.specs.declared.register.Reg.{Reg}
 use Rattle.s7_base.specs.declared.register.Reg.TheVariants as reg
 use Rattle.st_canonical.specs.Canonical.{raw_var}
 use Rattle.st_canonical.specs.Spelled.{is_name, is_variable}
@@ -10,26 +8,14 @@ use Rattle.st_grammar.specs.Kinds.{word_named, word_text}
 use Rattle.st_lexer.proofs.Words.{and_both}
 use Rattle.st_proper.proofs.Scope.{Means, Sees, sight_by}
 use Rattle.st_proper.proofs.Values.{block_place, placed, plain_place, small_number}
-use Rattle.st_tree.specs.Naming.{key_of}
-use Rattle.st_rules.specs.Scopes.{register_named}
-use Rattle.st_rules.specs.Variables.{variable, variable_named}
+use Rattle.st_rules.proofs.Common.{register_named, variable, variable_named}
 use Rattle.st_rules.specs.declared.scope.Meaning.{Meaning}
 use Rattle.st_rules.specs.declared.scope.Meaning.TheVariants as meaning
 use Rattle.st_rules.specs.declared.scope.Scope.{Scope}
 use Rattle.st_rules.specs.declared.variable.TypedVar.{TypedVar}
-use Rattle.st_tree.specs.PlaceRules.{is_block_number, is_place}
 use Rattle.st_tree.specs.Spelling.{global_name, local_name}
-use Rattle.st_tree.specs.State.{type_of_register}
-use Rattle.st_tree.specs.Typing.{Names}
-use Rattle.st_tree.specs.Values.{type_of_width}
-use Rattle.st_tree.specs.TypeRules.{where_true}
-use Rattle.st_tree.specs.WellTyped.{is_seen, on_type, type_inside, type_outside, variable_type}
-use Rattle.st_tree.specs.Words.{register_word}
-use Rattle.st_tree.specs.declared.expr.StType.{StType}
-use Rattle.st_tree.specs.declared.expr.Var.{Var}
+use Rattle.st_lexer.proofs.Common.{StType, Var, Local, Located}
 use Rattle.st_tree.specs.declared.expr.Var.TheVariants as var
-use Rattle.st_tree.specs.declared.program.Local.{Local}
-use Rattle.st_tree.specs.declared.program.Located.{Located}
 use Rattle.st_tree.specs.declared.raw.RawVar.TheVariants as raw
 
 -- Types that a rule gives

@@ -1,20 +1,11 @@
 -- A proper tree has a canonical form: its declarations and its units together.
-use Rattle.std.proofs.Common.{◌≡◌, ◌≢◌, ℕ, suc, ◌+◌, ◌<◌, ◌≤◌, true, false, List, [], ◌∷◌, ◌++◌, map, length, slice_get, Some, refl, sym, ap, subst, ◌∙◌, arith}
-use Rattle.std.specs.Prelude.{All}
-use Rattle.std.specs.List.{flat_map, list_all}
-use Rattle.std.proofs.lemmas.Bool.Decides.{nat_tests}
-use Rattle.std.proofs.lemmas.Option.{slice_get_within}
-use Rattle.std.proofs.lemmas.List.Elements.{All-head, All-tail}
+use Rattle.st_tree.proofs.Common.{◌≡◌, ◌≢◌, ℕ, suc, ◌+◌, ◌<◌, ◌≤◌, true, false, List, [], ◌∷◌, ◌++◌, map, length, slice_get, Some, refl, sym, ap, subst, ◌∙◌, arith, All, list_all, nat_tests, slice_get_within, All-head, All-tail, Ascend, IsSized, numbers_of, DataBlock, Area, first_of_all, has_width, IsDataBlock, IsGlobal, IsProperUnit, Proper, names_in, width_at, head_of}
+use Rattle.std.specs.List.{flat_map}
 use Rattle.std.proofs.lemmas.List.{length-map}
-use Rattle.memory_areas.specs.Areas.{Ascend, IsSized, numbers_of}
-use Rattle.memory_areas.specs.declared.data_block.DataBlock.{DataBlock}
-use Rattle.memory_areas.specs.declared.place.Area.{Area}
 use Rattle.memory_areas.specs.declared.place.Area.TheVariants as place
 use Rattle.st_canonical.specs.Canonical.{area_form, globals_from, source_of, units_from}
-use Rattle.st_grammar.specs.Forms.{no_unit}
-use Rattle.st_grammar.specs.Grammar.{raw_tree}
-use Rattle.st_grammar.specs.Levels.{deepest, levels_globals, levels_section}
-use Rattle.st_lexer.specs.Spelled.{is_byte}
+use Rattle.st_grammar.proofs.Common.{no_unit, raw_tree, deepest, levels_globals, levels_section}
+use Rattle.st_lexer.proofs.Common.{is_byte, StType, Located, Pou, StProgram, RawPou, RawSt}
 use Rattle.st_proper.proofs.BlockForms.{IsFull, low}
 use Rattle.st_types_laws.proofs.Bounds.{bound}
 use Rattle.st_proper.proofs.Chains.{AreBounded, is_chain}
@@ -30,30 +21,13 @@ use Rattle.st_proper.proofs.UnitForms.{AreUnits, DeclareAll, HasBody, HasForm, a
 use Rattle.st_proper.proofs.Values.{placed, plain_place}
 use Rattle.st_canonical.proofs.SameNames.{spelled_name}
 use Rattle.st_proper.specs.CanonicalForms.{HasCanonicalForm, ProperHasForm}
-use Rattle.s7_base.specs.Broken.{first_of_all}
-use Rattle.st_rules.specs.Judged.{breaks_in, found_in}
-use Rattle.st_rules.specs.Calls.{all_calls}
-use Rattle.st_rules.specs.Declarations.{all_inside, all_outside, formals_of}
-use Rattle.st_rules.specs.Globals.{all_blocks, all_global_breaks, all_located}
-use Rattle.st_rules.specs.Statements.{statements}
-use Rattle.st_tree.specs.TypeRules.{has_width}
-use Rattle.st_rules.specs.Typed.{IsChain, breaks_of, calls_in, names_of, tree_of}
-use Rattle.st_rules.specs.Units.{all_unit_breaks, all_units, breaks_of_unit, calls_of_unit, scope_in, unit_of}
+use Rattle.st_rules.proofs.Common.{breaks_in, found_in, all_calls, all_inside, all_outside, formals_of, all_blocks, all_global_breaks, all_located, statements, IsChain, breaks_of, calls_in, names_of, all_unit_breaks, all_units, breaks_of_unit, calls_of_unit, scope_in, unit_of}
+use Rattle.st_rules.specs.Typed.{tree_of}
 use Rattle.st_rules.specs.declared.scope.Scope.{Scope}
 use Rattle.st_tree.proofs.CalledMost.{called_most}
 use Rattle.st_tree.proofs.Induction.{Each}
 use Rattle.st_tree.proofs.TypesAgree.{types_agree}
-use Rattle.st_tree.specs.Proper.{IsDataBlock, IsGlobal, IsProperUnit, Proper}
-use Rattle.st_tree.specs.Spelling.{names_in}
-use Rattle.st_tree.specs.Values.{width_at}
-use Rattle.st_tree.specs.WellTyped.{head_of}
-use Rattle.st_tree.specs.declared.expr.StType.{StType}
 use Rattle.st_tree.specs.declared.expr.StType.TheVariants as type
-use Rattle.st_tree.specs.declared.program.Located.{Located}
-use Rattle.st_tree.specs.declared.program.Pou.{Pou}
-use Rattle.st_tree.specs.declared.program.StProgram.{StProgram}
-use Rattle.st_tree.specs.declared.raw.RawPou.{RawPou}
-use Rattle.st_tree.specs.declared.raw.RawSt.{RawSt}
 use Rattle.st_types_laws.proofs.DeclaredNames.{IsPlaced, inner_entries, locals_again, outer_entries}
 use Rattle.st_types_laws.proofs.BlockSizes.{IsBlock}
 use Rattle.st_types_laws.proofs.PlainTexts.{IsPlainText, inside_again, plain_text}

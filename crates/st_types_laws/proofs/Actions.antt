@@ -1,22 +1,15 @@
 -- What a statement is in the tree, and its calls, at each variant.
-use Rattle.std.proofs.Common.{◌≡◌, ℕ, ℤ, List, sym, ap, ◌∙◌}
-use Rattle.s7_base.specs.declared.reason.Line.{Line}
-use Rattle.st_tree.specs.declared.expr.StType.{StType}
-use Rattle.st_tree.specs.declared.program.Stmt.{Stmt}
-use Rattle.st_tree.specs.declared.raw.RawArm.{RawArm, fold-roll-RawArm, roll-RawArm}
-use Rattle.st_tree.specs.declared.raw.RawCaseArm.{RawCaseArm, fold-roll-RawCaseArm, roll-RawCaseArm}
-use Rattle.st_tree.specs.declared.raw.RawExpr.{RawExpr}
-use Rattle.st_tree.specs.declared.raw.RawStmt.{RawStmt, fold_out-RawStmt}
+use Rattle.st_tree.proofs.Common.{◌≡◌, ℕ, ℤ, List, sym, ap, ◌∙◌, Line, key_of}
+use Rattle.st_rules.proofs.Common.{StType, Stmt, RawArm, RawCaseArm, RawExpr, RawStmt, Judged, all_calls, call_on, calls_of, calls_of_arm, calls_of_case_arm, joined, Actual, callee, meaning_in, Armed, Labelled, arm, case_arm, statement, statements}
+use Rattle.st_tree.specs.declared.raw.RawArm.{fold-roll-RawArm, roll-RawArm}
+use Rattle.st_tree.specs.declared.raw.RawCaseArm.{fold-roll-RawCaseArm, roll-RawCaseArm}
+use Rattle.st_tree.specs.declared.raw.RawStmt.{fold_out-RawStmt}
 use Rattle.st_tree.specs.declared.raw.RawStmtKind.{RawStmtKind, fold-roll-RawStmtKind, map-RawStmtKind, roll-RawStmtKind}
 use Rattle.st_tree.specs.declared.raw.RawStmtKind.TheOpen as K
 use Rattle.st_tree.specs.declared.raw.RawStmtKind.TheVariants as raw
-use Rattle.st_rules.specs.Judged.{Judged}
 use Rattle.st_rules.specs.Calls as calls
-use Rattle.st_rules.specs.Calls.{OnLine, all_calls, call_on, calls_of, calls_of_action, calls_of_arm, calls_of_case_arm, joined}
-use Rattle.st_rules.specs.Invocations.{Actual, callee}
-use Rattle.st_tree.specs.Naming.{key_of}
-use Rattle.st_rules.specs.Scopes.{meaning_in}
-use Rattle.st_rules.specs.Statements.{Armed, Done, Labelled, action, arm, arm_step, case_arm, case_arm_step, kind_step, statement, statements}
+use Rattle.st_rules.specs.Calls.{OnLine, calls_of_action}
+use Rattle.st_rules.specs.Statements.{Done, action, arm_step, case_arm_step, kind_step}
 use Rattle.call_chains.specs.declared.call.Call.{Call}
 use Rattle.st_rules.specs.declared.scope.Scope.{Scope}
 

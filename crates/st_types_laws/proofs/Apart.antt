@@ -1,16 +1,9 @@
 -- Tables in which no key stands twice, and what stands under their keys.
-use Rattle.std.proofs.Common.{◌≡◌, ℕ, Bool, true, false, cond, List, [], ◌∷◌, ◌++◌, Option, Some, None, refl, sym, ap, subst, ◌∙◌, eqb-true, arith}
-use Rattle.std.specs.Prelude.{nat_eq, is_some}
+use Rattle.st_tree.proofs.Common.{◌≡◌, ℕ, Bool, true, false, cond, List, [], ◌∷◌, ◌++◌, Option, Some, None, refl, sym, ap, subst, ◌∙◌, eqb-true, arith, nat_eq, is_some, nat_list_eq_equiv, Line, is_same, and_parts}
 use Rattle.std.specs.Cmp.Lexicographic.{pointwise}
-use Rattle.std.proofs.lemmas.Cmp.{nat_list_eq_equiv}
 use Rattle.std.proofs.lemmas.List.{append-nil, append_assoc}
-use Rattle.s7_base.specs.declared.reason.Line.{Line}
-use Rattle.st_rules.specs.Judged.{twice}
-use Rattle.st_rules.specs.Names.{Table, look_up, with_entry}
-use Rattle.st_tree.specs.Naming.{is_same}
-use Rattle.st_rules.specs.Scopes.{or_else}
+use Rattle.st_rules.proofs.Common.{twice, Table, look_up, with_entry, or_else}
 use Rattle.st_rules.specs.declared.scope.Meaning.{Meaning}
-use Rattle.std.proofs.lemmas.Bool.{and_parts}
 
 -- Keys
 

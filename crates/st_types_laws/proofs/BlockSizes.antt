@@ -1,15 +1,8 @@
 -- A data block in the tree has the number that its name says, and a size that a data block may have.
-use Rattle.std.proofs.Common.{◌≡◌, ◌≤◌, ◌+◌, ℕ, Bool, true, false, cond, ◌&&◌, List, [], ◌∷◌, length, replicate, Some, None, refl, subst, ◌∙◌, arith, eqb-true, length-append}
+use Rattle.st_tree.proofs.Common.{◌≡◌, ◌≤◌, ◌+◌, ℕ, Bool, true, false, cond, ◌&&◌, List, [], ◌∷◌, length, replicate, Some, None, refl, subst, ◌∙◌, arith, eqb-true, length-append, nat_tests, length-replicate, flat_map-cons, IsSized, DataBlock}
 use Rattle.std.specs.List.{flat_map}
-use Rattle.std.proofs.lemmas.Bool.Decides.{nat_tests}
-use Rattle.std.proofs.lemmas.List.{length-replicate}
-use Rattle.std.proofs.lemmas.List.Concat.{flat_map-cons}
-use Rattle.memory_areas.specs.Areas.{IsSized}
-use Rattle.memory_areas.specs.declared.data_block.DataBlock.{DataBlock}
-use Rattle.st_tree.specs.declared.raw.RawGlobalType.{RawGlobalType}
+use Rattle.st_rules.proofs.Common.{RawGlobalType, RawVar, block_at, block_number, block_of, contents, fills, has_block_address, has_block_form, is_small_enough, total}
 use Rattle.st_tree.specs.declared.raw.RawGlobalType.TheVariants as type
-use Rattle.st_tree.specs.declared.raw.RawVar.{RawVar}
-use Rattle.st_rules.specs.Globals.{block_at, block_number, block_of, contents, fills, has_block_address, has_block_form, is_small_enough, total}
 
 -- runs have as many bytes as their counts say
 pub runs_size : (runs : List (ℕ × ℕ)) → length (flat_map (λ (r : ℕ × ℕ). replicate r.0 r.1) runs) ≡ total runs

@@ -1,17 +1,10 @@
 -- The greatest that the units cost which some calls call, by the parts of statements.
-use Rattle.std.proofs.Common.{◌≡◌, ℕ, ◌≤◌, max, ◌++◌, ℤ, List, [], ◌∷◌, map, ap, ◌∙◌, arith}
+use Rattle.st_tree.proofs.Common.{◌≡◌, ℕ, ◌≤◌, max, ◌++◌, ℤ, List, [], ◌∷◌, map, ap, ◌∙◌, arith, Line, greatest}
 use Rattle.call_chains.specs.declared.call.Call.{Call}
-use Rattle.s7_base.specs.declared.reason.Line.{Line}
 use Rattle.st_types_laws.proofs.Actions.{calls_arm, calls_at, calls_case_arm, on_line, raw_arm, raw_case}
 use Rattle.st_types_laws.proofs.Lists.{map_last}
-use Rattle.st_rules.specs.Calls.{all_calls, calls_of, calls_of_arm, calls_of_case_arm, joined}
+use Rattle.st_rules.proofs.Common.{all_calls, calls_of, calls_of_arm, calls_of_case_arm, joined, StType, RawArm, RawCaseArm, RawExpr, RawStmt}
 use Rattle.st_rules.specs.declared.scope.Scope.{Scope}
-use Rattle.st_tree.specs.Depth.{greatest}
-use Rattle.st_tree.specs.declared.expr.StType.{StType}
-use Rattle.st_tree.specs.declared.raw.RawArm.{RawArm}
-use Rattle.st_tree.specs.declared.raw.RawCaseArm.{RawCaseArm}
-use Rattle.st_tree.specs.declared.raw.RawExpr.{RawExpr}
-use Rattle.st_tree.specs.declared.raw.RawStmt.{RawStmt}
 use Rattle.st_tree.specs.declared.raw.RawStmtKind.TheOpen as K
 use Rattle.st_tree.specs.declared.raw.RawStmtKind.TheVariants as raw
 

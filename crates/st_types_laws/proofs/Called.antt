@@ -1,14 +1,8 @@
 -- Calls: the types of formals that have keys of their own stand under these keys, and what a call is of which all
 -- is given.
-use Rattle.std.proofs.Common.{◌≡◌, ℕ, false, List, [], ◌∷◌, ◌++◌, Option, Some, refl, sym, subst}
-use Rattle.std.specs.List.{fold}
+use Rattle.st_tree.proofs.Common.{◌≡◌, ℕ, false, List, [], ◌∷◌, ◌++◌, Option, Some, refl, sym, subst, fold, slice_get, Line, key_of}
 use Rattle.std.proofs.lemmas.List.{append_assoc, append-nil}
-use Rattle.std.specs.Prelude.{slice_get}
-use Rattle.s7_base.specs.declared.reason.Line.{Line}
-use Rattle.st_rules.specs.Judged.{sound}
-use Rattle.st_rules.specs.Invocations.{Actual, Given, given_by, in_order, lacks}
-use Rattle.st_rules.specs.Scopes.{meaning_in}
-use Rattle.st_rules.specs.Statements.{statement}
+use Rattle.st_rules.proofs.Common.{sound, Actual, Given, given_by, in_order, lacks, meaning_in, statement, Table, look_up, with_entry, StType, Local}
 use Rattle.st_rules.specs.declared.scope.Formals.{Formals}
 use Rattle.st_rules.specs.declared.scope.Meaning.TheVariants as meaning
 use Rattle.st_rules.specs.declared.scope.Scope.{Scope}
@@ -16,10 +10,6 @@ use Rattle.st_tree.specs.declared.expr.Var.{Var}
 use Rattle.st_tree.specs.declared.program.Stmt.TheVariants as stmt
 use Rattle.st_tree.specs.declared.raw.RawStmtKind.TheVariants as raw
 use Rattle.st_types_laws.proofs.Actions.{act_invoke, on_line}
-use Rattle.st_rules.specs.Names.{Table, look_up, with_entry}
-use Rattle.st_tree.specs.Naming.{key_of}
-use Rattle.st_tree.specs.declared.expr.StType.{StType}
-use Rattle.st_tree.specs.declared.program.Local.{Local}
 use Rattle.st_types_laws.proofs.Declared.{types_of_locals}
 use Rattle.st_types_laws.proofs.Keyed.{AreAbsent, AreDistinct, absent_also, found_behind, none_absent}
 

@@ -1,15 +1,6 @@
 -- What a unit's scope says of the names that its tree has at their positions.
-use Rattle.std.proofs.Common.{◌≡◌, ℕ, List, [], map, Option, Some, None}
-use Rattle.std.specs.Prelude.{slice_get}
-use Rattle.std.specs.List.{fold}
-use Rattle.st_tree.specs.Typing.{Names}
-use Rattle.st_tree.specs.declared.expr.StType.{StType}
-use Rattle.st_tree.specs.declared.program.Local.{Local}
-use Rattle.st_tree.specs.declared.program.Located.{Located}
-use Rattle.st_tree.specs.declared.program.Pou.{Pou}
-use Rattle.st_rules.specs.Names.{Table, with_entry}
-use Rattle.st_tree.specs.Naming.{key_of}
-use Rattle.st_rules.specs.Scopes.{meaning_in}
+use Rattle.st_tree.proofs.Common.{◌≡◌, ℕ, List, [], map, Option, Some, None, slice_get, fold, Names, key_of}
+use Rattle.st_rules.proofs.Common.{StType, Local, Located, Pou, Table, with_entry, meaning_in}
 use Rattle.st_rules.specs.declared.scope.Formals.{Formals}
 use Rattle.st_rules.specs.declared.scope.Meaning.TheVariants as meaning
 use Rattle.st_rules.specs.declared.scope.Scope.{Scope}

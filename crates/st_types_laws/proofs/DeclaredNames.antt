@@ -1,50 +1,19 @@
 -- What names mean by the declarations of a tree, and that they mean the same in a text that has the tree.
-use Rattle.std.proofs.Common.{map, ◌≡◌, ◌+◌, ℕ, Bool, true, false, not, cond, ◌&&◌, nat_lt, List, [], ◌∷◌, ◌++◌, length, Option, Some, None, is_some, refl, sym, ap, subst, ◌∙◌, arith, length-append, ◌≤◌, ◌<◌}
-use Rattle.std.specs.Prelude.{codes, decimal}
-use Rattle.std.specs.List.{fold}
+use Rattle.st_tree.proofs.Common.{map, ◌≡◌, ◌+◌, ℕ, Bool, true, false, not, cond, ◌&&◌, nat_lt, List, [], ◌∷◌, ◌++◌, length, Option, Some, None, is_some, refl, sym, ap, subst, ◌∙◌, arith, length-append, ◌≤◌, ◌<◌, codes, decimal, fold, DataBlock, Area, AreaName, MOST_BLOCKS, Line, Reason, Width, width_at, broken, Break, Ascend, numbers_of, ltb-false, ltb-true, nat_list_eq_equiv, is_same, key_of, has_width, and_parts}
 use Rattle.std.proofs.lemmas.List.{append-nil, append_assoc}
-use Rattle.memory_areas.specs.declared.data_block.DataBlock.{DataBlock}
-use Rattle.memory_areas.specs.declared.place.Area.{Area}
 use Rattle.memory_areas.specs.declared.place.Area.TheVariants as place
-use Rattle.memory_areas.specs.declared.place.AreaName.{AreaName}
 use Rattle.memory_areas.specs.declared.place.AreaName.TheVariants as area
-use Rattle.memory_areas.specs.declared.sizes.TheConstants.{MOST_BLOCKS}
-use Rattle.s7_base.specs.declared.reason.Line.{Line}
-use Rattle.s7_base.specs.declared.reason.Reason.{Reason}
-use Rattle.s7_base.specs.declared.word.Width.{Width}
 use Rattle.s7_base.specs.declared.word.Width.TheVariants as width
-use Rattle.st_tree.specs.Values.{width_at}
-use Rattle.st_tree.specs.declared.expr.StType.{StType}
+use Rattle.st_rules.proofs.Common.{StType, Local, Located, Pou, StProgram, RawGlobal, RawGlobalType, RawLocal, RawPou, RawVar, listed, twice, all_inside, local_of, locals_of, meaning_of_unit, no_inside, one_if, one_too_many, with_formal, with_global, with_local, with_unit, all_global_breaks, all_located, area_of, block_at, block_breaks, block_number, block_of, contents, fits_type, global_breaks, has_block_address, has_block_form, inserted, is_small_enough, located_at, located_of, with_block, Table, look_up, with_entry, is_address}
 use Rattle.st_tree.specs.declared.expr.StType.TheVariants as st
-use Rattle.st_tree.specs.declared.program.Local.{Local}
-use Rattle.st_tree.specs.declared.program.Located.{Located}
-use Rattle.st_tree.specs.declared.program.Pou.{Pou}
-use Rattle.st_tree.specs.declared.program.StProgram.{StProgram}
-use Rattle.st_tree.specs.declared.raw.RawGlobal.{RawGlobal}
-use Rattle.st_tree.specs.declared.raw.RawGlobalType.{RawGlobalType}
 use Rattle.st_tree.specs.declared.raw.RawGlobalType.TheVariants as type
-use Rattle.st_tree.specs.declared.raw.RawLocal.{RawLocal}
-use Rattle.st_tree.specs.declared.raw.RawPou.{RawPou}
-use Rattle.st_tree.specs.declared.raw.RawVar.{RawVar}
 use Rattle.st_tree.specs.declared.raw.RawVar.TheVariants as var
-use Rattle.s7_base.specs.Broken.{broken}
-use Rattle.s7_base.specs.declared.broken.Break.{Break}
-use Rattle.st_rules.specs.Judged.{listed, twice}
-use Rattle.st_rules.specs.Declarations.{all_inside, local_of, locals_of, meaning_of_unit, no_inside, one_if, one_too_many, with_formal, with_global, with_local, with_unit}
-use Rattle.st_rules.specs.Globals.{all_global_breaks, all_located, area_of, block_at, block_breaks, block_number, block_of, contents, fits_type, global_breaks, has_address, has_block_address, has_block_form, inserted, is_small_enough, located_at, located_of, unless, with_block}
-use Rattle.memory_areas.specs.Areas.{Ascend, numbers_of}
-use Rattle.std.proofs.lemmas.Bool.{ltb-false, ltb-true}
-use Rattle.std.proofs.lemmas.Cmp.{nat_list_eq_equiv}
-use Rattle.st_rules.specs.Names.{Table, look_up, with_entry}
-use Rattle.st_tree.specs.Naming.{is_same, key_of}
-use Rattle.st_tree.specs.TypeRules.{has_width}
-use Rattle.st_rules.specs.Variables.{is_address}
+use Rattle.st_rules.specs.Globals.{has_address, unless}
 use Rattle.st_rules.specs.declared.declaration.Inside.{Inside}
 use Rattle.st_rules.specs.declared.declaration.Outside.{Outside}
 use Rattle.st_rules.specs.declared.scope.Meaning.{Meaning}
 use Rattle.st_rules.specs.declared.scope.Meaning.TheVariants as meaning
 use Rattle.st_types_laws.proofs.Apart.{AreApart, Lists, declared_between, declared_last, declares_new, not_twice}
-use Rattle.std.proofs.lemmas.Bool.{and_parts}
 use Rattle.st_types_laws.proofs.BlockSizes.{IsBlock, is_block}
 use Rattle.st_types_laws.proofs.Lists.{Each, each_append, nil_first, nil_second}
 use Rattle.st_types_laws.proofs.PlainNumbers.{key_by_number}

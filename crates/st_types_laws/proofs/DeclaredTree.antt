@@ -1,29 +1,9 @@
 -- What a text declares that has a tree, and that names in a scope say what stands in the tree.
-use Rattle.std.proofs.Common.{◌≡◌, ◌⊎◌, ℕ, suc, ◌+◌, true, false, cond, List, [], ◌∷◌, ◌++◌, map, length, Option, Some, None, inl, inr, refl, sym, ap, subst, ◌∙◌, arith, ◌≤◌}
-use Rattle.std.specs.Prelude.{slice_get}
-use Rattle.std.specs.List.{fold}
+use Rattle.st_tree.proofs.Common.{◌≡◌, ◌⊎◌, ℕ, suc, ◌+◌, true, false, cond, List, [], ◌∷◌, ◌++◌, map, length, Option, Some, None, inl, inr, refl, sym, ap, subst, ◌∙◌, arith, ◌≤◌, slice_get, fold, Reg, DataBlock, names_in, Names, Ascend, IsSized, numbers_of, MOST_BLOCKS, is_same, key_of}
 use Rattle.std.proofs.lemmas.List.{append_assoc}
-use Rattle.s7_base.specs.declared.register.Reg.{Reg}
-use Rattle.memory_areas.specs.declared.data_block.DataBlock.{DataBlock}
-use Rattle.st_tree.specs.Spelling.{names_in}
-use Rattle.st_tree.specs.Typing.{Names}
-use Rattle.st_tree.specs.declared.expr.StType.{StType}
-use Rattle.st_tree.specs.declared.program.Local.{Local}
-use Rattle.st_tree.specs.declared.program.Located.{Located}
-use Rattle.st_tree.specs.declared.program.Pou.{Pou}
-use Rattle.st_tree.specs.declared.program.StProgram.{StProgram}
-use Rattle.st_tree.specs.declared.raw.RawLocal.{RawLocal}
-use Rattle.st_tree.specs.declared.raw.RawPou.{RawPou}
-use Rattle.st_tree.specs.declared.raw.RawSt.{RawSt}
-use Rattle.memory_areas.specs.Areas.{AreBlocks, Ascend, IsSized, numbers_of}
-use Rattle.memory_areas.specs.declared.sizes.TheConstants.{MOST_BLOCKS}
-use Rattle.st_rules.specs.Declarations.{meaning_of_unit, all_inside, all_outside, formals_of, keys_of, locals_of, no_outside, with_global, with_type}
-use Rattle.st_rules.specs.Globals.{all_blocks, all_global_breaks, all_located}
-use Rattle.st_rules.specs.Names.{Table, look_up, with_entry}
-use Rattle.st_tree.specs.Naming.{is_same, key_of}
-use Rattle.st_rules.specs.Scopes.{as_register, meaning_in, or_else, register_named}
-use Rattle.st_rules.specs.Typed.{HasTree, breaks_of, first_break, names_of}
-use Rattle.st_rules.specs.Units.{all_unit_breaks, all_units, breaks_of_unit}
+use Rattle.st_rules.proofs.Common.{StType, Local, Located, Pou, StProgram, RawLocal, RawPou, RawSt, meaning_of_unit, all_inside, all_outside, formals_of, keys_of, locals_of, no_outside, with_global, all_blocks, all_global_breaks, all_located, Table, look_up, with_entry, as_register, meaning_in, or_else, register_named, HasTree, breaks_of, first_break, names_of, all_unit_breaks, all_units, breaks_of_unit}
+use Rattle.memory_areas.specs.Areas.{AreBlocks}
+use Rattle.st_rules.specs.Declarations.{with_type}
 use Rattle.st_rules.specs.declared.scope.Formals.{Formals}
 use Rattle.st_rules.specs.declared.scope.Meaning.{Meaning}
 use Rattle.st_rules.specs.declared.scope.Meaning.TheVariants as meaning

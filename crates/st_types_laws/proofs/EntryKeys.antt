@@ -1,15 +1,7 @@
 -- The keys of the names that a tree declares.
-use Rattle.std.proofs.Common.{◌≡◌, ℕ, ◌+◌, List, [], ◌∷◌, ◌++◌, map, refl, ap, ◌∙◌}
-use Rattle.std.proofs.lemmas.List.{map-append}
-use Rattle.st_rules.specs.Names.{Table}
+use Rattle.st_tree.proofs.Common.{◌≡◌, ℕ, ◌+◌, List, [], ◌∷◌, ◌++◌, map, refl, ap, ◌∙◌, map-append, key_of, outer_keys, keys_of}
+use Rattle.st_rules.proofs.Common.{Table, Local, Located, Pou, StProgram}
 use Rattle.st_rules.specs.declared.scope.Meaning.{Meaning}
-use Rattle.st_tree.specs.Naming.{key_of}
-use Rattle.st_tree.specs.Proper.{outer_keys}
-use Rattle.st_tree.specs.WellTyped.{keys_of}
-use Rattle.st_tree.specs.declared.program.Local.{Local}
-use Rattle.st_tree.specs.declared.program.Located.{Located}
-use Rattle.st_tree.specs.declared.program.Pou.{Pou}
-use Rattle.st_tree.specs.declared.program.StProgram.{StProgram}
 use Rattle.st_types_laws.proofs.DeclaredNames.{entries, formal_entries, inner_entries, local_entries, located_entries, unit_entries}
 
 -- the keys of a table

@@ -1,12 +1,9 @@
 -- Tables by keys: what stands under a key after other entries, and formals with keys of their own.
-use Rattle.std.proofs.Common.{◌≡◌, ℕ, ◌+◌, false, cond, List, [], ◌∷◌, ◌++◌, Some, None, refl, ap, ◌∙◌, arith}
-use Rattle.std.proofs.lemmas.Cmp.{nat_list_eq_equiv}
-use Rattle.st_tree.specs.declared.program.Local.{Local}
+use Rattle.st_tree.proofs.Common.{◌≡◌, ℕ, ◌+◌, false, cond, List, [], ◌∷◌, ◌++◌, Some, None, refl, ap, ◌∙◌, arith, nat_list_eq_equiv, is_same, key_of}
+use Rattle.st_rules.proofs.Common.{Local, Table, look_up}
 use Rattle.st_rules.specs.declared.scope.Meaning.{Meaning}
 use Rattle.st_types_laws.proofs.Apart.{AreApart}
 use Rattle.st_types_laws.proofs.DeclaredNames.{formal_entries}
-use Rattle.st_rules.specs.Names.{Table, look_up}
-use Rattle.st_tree.specs.Naming.{is_same, key_of}
 
 -- what stands under a key after entries that do not have it
 pub found_behind : {T : Type 0} (table : Table T) (k : List ℕ) (x : T) (rest : Table T) → look_up k table ≡ None → look_up k (table ++ (k, x) ∷ rest) ≡ Some x

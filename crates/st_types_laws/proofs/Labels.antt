@@ -1,12 +1,8 @@
 -- The labels of an arm of a CASE that have a type.
-use Rattle.std.proofs.Common.{◌≡◌, true, ◌&&◌, cond, ℤ, List, [], ◌∷◌, map, Some, refl, ap, ◌∙◌}
-use Rattle.s7_base.specs.declared.reason.Line.{Line}
+use Rattle.st_tree.proofs.Common.{◌≡◌, true, ◌&&◌, cond, ℤ, List, [], ◌∷◌, map, Some, refl, ap, ◌∙◌, Line, broken, is_type}
 use Rattle.s7_base.specs.declared.reason.Reason.TheVariants.{TypeMismatch}
-use Rattle.s7_base.specs.Broken.{broken}
-use Rattle.st_rules.specs.Statements.{have_type, label_breaks}
-use Rattle.st_tree.specs.TypeRules.{is_type}
+use Rattle.st_rules.proofs.Common.{have_type, label_breaks, StType}
 use Rattle.st_tree.proofs.TypingEquations as tree_types
-use Rattle.st_tree.specs.declared.expr.StType.{StType}
 use Rattle.st_tree.specs.declared.expr.StType.TheVariants as type
 use Rattle.st_types_laws.proofs.Parts.{values}
 

@@ -1,16 +1,8 @@
 -- A text has one answer.
-use Rattle.std.proofs.Common.{◌≡◌, ◌≤◌, List, [], map, Some, None, refl, sym, ap, ◌∙◌, subst, arith}
-use Rattle.s7_base.specs.declared.reason.Line.{Line}
-use Rattle.s7_base.specs.declared.reason.Reason.{Reason}
-use Rattle.st_tree.specs.declared.raw.RawPou.{RawPou}
-use Rattle.st_tree.specs.declared.raw.RawSt.{RawSt}
+use Rattle.st_tree.proofs.Common.{◌≡◌, ◌≤◌, List, [], map, Some, None, refl, sym, ap, ◌∙◌, subst, arith, Line, Reason, Break}
+use Rattle.st_rules.proofs.Common.{RawPou, RawSt, first_long_chain, BreaksChain, IsChain, calls_in, chained, cycle, long, named, names_of, no_unit, formals_of, calls_of_unit}
 use Rattle.call_chains.specs.Chain.{Graph, NoCycle, FirstCycle, call_at}
-use Rattle.st_rules.specs.LongChains.{first_long_chain}
-use Rattle.st_rules.specs.Typed.{BreaksChain, IsChain, calls_in, chained, cycle, long, named, names_of, no_unit}
-use Rattle.st_rules.specs.Declarations.{formals_of}
-use Rattle.st_rules.specs.Units.{calls_of_unit}
 use Rattle.st_types_laws.specs.TypedLaws.{NotBoth, OneRefusal, OneTree}
-use Rattle.s7_base.specs.declared.broken.Break.{Break}
 
 same_line : (l m : Line) → l.0 ≡ m.0 → l ≡ m
 same_line l m e = λ i. record { 0 = e i }

@@ -1,21 +1,16 @@
 -- An expression with operands by what its operands are: where it breaks no rule, and what it is.
-use Rattle.std.proofs.Common.{◌≡◌, [], Option, Some, None, refl, sym, ap, ◌∙◌}
-use Rattle.s7_base.specs.declared.reason.Line.{Line}
-use Rattle.s7_base.specs.declared.word.Width.{Width}
+use Rattle.st_tree.proofs.Common.{◌≡◌, [], Option, Some, None, refl, sym, ap, ◌∙◌, Line, Width, type_of_binary, type_of_choice, type_of_conversion, type_of_read, type_of_shift, type_of_unary}
 use Rattle.st_types_laws.proofs.ReadEquations.{read_at}
+use Rattle.st_rules.proofs.Common.{Expr, StType, RawExpr, Judged, sound, expression}
 use Rattle.st_tree.specs.declared.expr.BinaryOp.{BinaryOp}
-use Rattle.st_tree.specs.declared.expr.Expr.{Expr}
 use Rattle.st_tree.specs.declared.expr.Expr.TheVariants as expr
 use Rattle.st_tree.specs.declared.expr.ShiftOp.{ShiftOp}
-use Rattle.st_tree.specs.declared.expr.StType.{StType}
 use Rattle.st_tree.specs.declared.expr.UnaryOp.{UnaryOp}
-use Rattle.st_tree.specs.declared.raw.RawExpr.{RawExpr}
 use Rattle.st_tree.specs.declared.raw.RawExpr.TheOpen as R
 use Rattle.st_tree.specs.declared.raw.RawExpr.TheVariants as raw
 use Rattle.st_types_laws.proofs.Lists.{both_nil, nil_first}
-use Rattle.st_rules.specs.Judged.{Judged, behind, sound}
-use Rattle.st_rules.specs.Expressions.{expression, typed_as}
-use Rattle.st_tree.specs.TypeRules.{type_of_binary, type_of_choice, type_of_conversion, type_of_read, type_of_shift, type_of_unary}
+use Rattle.st_rules.specs.Judged.{behind}
+use Rattle.st_rules.specs.Expressions.{typed_as}
 use Rattle.st_rules.specs.declared.expression.Typed.{Typed}
 use Rattle.st_rules.specs.declared.scope.Scope.{Scope}
 

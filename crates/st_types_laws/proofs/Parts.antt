@@ -1,31 +1,16 @@
 -- A statement by its parts: where it breaks no rule, and what it is.
-use Rattle.std.proofs.Common.{◌≡◌, ◌++◌, ℤ, Bool, true, false, ◌&&◌, cond, List, [], ◌∷◌, map, Option, Some, Ok, Err, refl, sym, ap, ◌∙◌}
-use Rattle.std.proofs.lemmas.Grind.{flat_map-append}
-use Rattle.s7_base.specs.declared.reason.Line.{Line}
+use Rattle.st_tree.proofs.Common.{◌≡◌, ◌++◌, ℤ, Bool, true, false, ◌&&◌, cond, List, [], ◌∷◌, map, Option, Some, Ok, Err, refl, sym, ap, ◌∙◌, flat_map-append, Line, Width, type_of_width, is_selector, is_type}
 use Rattle.s7_base.specs.declared.reason.Reason.TheVariants.{TypeMismatch}
-use Rattle.s7_base.specs.declared.word.Width.{Width}
 use Rattle.st_types_laws.proofs.Actions.{act_arm, act_at, act_case_arm, on_line, raw_arm, raw_case}
-use Rattle.st_tree.specs.Values.{type_of_width}
-use Rattle.st_tree.specs.declared.expr.Expr.{Expr}
-use Rattle.st_tree.specs.declared.expr.StType.{StType}
+use Rattle.st_rules.proofs.Common.{Expr, StType, Stmt, RawArm, RawCaseArm, RawExpr, RawStmt, RawVar, Judged, breaks_in, breaks_rule, found_in, sound, answered, expression, variable_on, Armed, Labelled, arm, arms_on, case_arm, case_arms_on, label_breaks, selector, statement, statements, type_of_selector, variable}
 use Rattle.st_tree.specs.declared.expr.StType.TheVariants as type
 use Rattle.st_tree.specs.declared.program.Arm.{Arm}
 use Rattle.st_tree.specs.declared.program.CaseArm.{CaseArm}
-use Rattle.st_tree.specs.declared.program.Stmt.{Stmt}
 use Rattle.st_tree.specs.declared.program.Stmt.TheVariants as stmt
-use Rattle.st_tree.specs.declared.raw.RawArm.{RawArm}
-use Rattle.st_tree.specs.declared.raw.RawCaseArm.{RawCaseArm}
-use Rattle.st_tree.specs.declared.raw.RawExpr.{RawExpr}
-use Rattle.st_tree.specs.declared.raw.RawStmt.{RawStmt}
 use Rattle.st_tree.specs.declared.raw.RawStmtKind.TheOpen as K
 use Rattle.st_tree.specs.declared.raw.RawStmtKind.TheVariants as raw
-use Rattle.st_tree.specs.declared.raw.RawVar.{RawVar}
 use Rattle.st_types_laws.proofs.Lists.{both_nil, map_last, nil_first}
-use Rattle.st_rules.specs.Judged.{Judged, breaks_in, breaks_rule, found_in, sound}
-use Rattle.st_rules.specs.Expressions.{answered, expression, variable_on}
-use Rattle.st_rules.specs.Statements.{Armed, Labelled, arm, arms_on, case_arm, case_arms_on, label_breaks, selector, statement, statements, test, type_of_selector}
-use Rattle.st_tree.specs.TypeRules.{is_selector, is_type}
-use Rattle.st_rules.specs.Variables.{variable}
+use Rattle.st_rules.specs.Statements.{test}
 use Rattle.st_rules.specs.declared.expression.Typed.{Typed}
 use Rattle.st_rules.specs.declared.scope.Scope.{Scope}
 use Rattle.st_rules.specs.declared.variable.TypedVar.{TypedVar}

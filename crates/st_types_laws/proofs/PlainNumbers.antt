@@ -1,17 +1,10 @@
 -- Keys of data blocks with one number are the same; the name of a data block in plain form, `DB` and its number,
 -- has that number, and its key is that of each name with the number.
-use Rattle.std.proofs.Common.{◌≡◌, ◌<◌, ◌≤◌, ◌+◌, ◌*◌, ◌-◌, ◌^◌, ℕ, zero, suc, min, Bool, true, false, cond, ◌==◌, nat_le, List, [], ◌∷◌, map, drop, length, refl, sym, ap, subst, ◌∙◌, arith, ◌/◌, ◌%◌, nat_lt, ◌++◌, get_or, length-append}
-use Rattle.std.specs.List.{list_all}
-use Rattle.std.specs.Char.{to_ascii_uppercase}
-use Rattle.std.proofs.lemmas.Bool.{leb-true, and_parts}
-use Rattle.std.proofs.lemmas.Bool.Decides.{nat_tests}
+use Rattle.st_tree.proofs.Common.{◌≡◌, ◌<◌, ◌≤◌, ◌+◌, ◌*◌, ◌-◌, ◌^◌, ℕ, zero, suc, min, Bool, true, false, cond, ◌==◌, nat_le, List, [], ◌∷◌, map, drop, length, refl, sym, ap, subst, ◌∙◌, arith, ◌/◌, ◌%◌, nat_lt, ◌++◌, get_or, length-append, list_all, to_ascii_uppercase, leb-true, and_parts, nat_tests, are_digits, is_digit, key_of, names_block, codes, decimal, decimal_by_steps, list_all-append}
 use Rattle.st_rules.specs.Globals.{block_number, number_from, number_in}
 use Rattle.digit_texts.proofs.SomeDigits.{each_digit, some_digits}
-use Rattle.digit_texts.specs.Digits.{are_digits, is_digit}
-use Rattle.st_tree.specs.Naming.{key_of, names_block, without_zeros, zeros_before, with_plain_number}
-use Rattle.std.specs.Prelude.{codes, decimal}
-use Rattle.std.proofs.lemmas.Fmt.{decimal_by_steps, first_decimal}
-use Rattle.std.proofs.lemmas.List.Folds.{list_all-append}
+use Rattle.st_tree.specs.Naming.{without_zeros, zeros_before, with_plain_number}
+use Rattle.std.proofs.lemmas.Fmt.{first_decimal}
 
 digit : (b : ℕ) → is_digit b ≡ true → (48 ≤ b) × (b ≤ 57)
 digit b h = let t = and_parts (nat_le 48 b) (nat_le b 57) h in (leb-true 48 b t.0, leb-true b 57 t.1)

@@ -1,31 +1,13 @@
 -- A text that declares what a tree has breaks no rule in its declarations, and has the tree's data blocks and
 -- globals again.
-use Rattle.std.proofs.Common.{map, ◌≡◌, ◌≤◌, ◌+◌, ◌-◌, ℕ, suc, Bool, true, false, not, ◌&&◌, ◌==◌, nat_le, nat_lt, List, [], ◌∷◌, ◌++◌, length, Option, Some, is_some, refl, sym, ap, subst, ◌∙◌, arith, length-append}
-use Rattle.std.specs.Prelude.{codes, decimal}
-use Rattle.std.specs.List.{fold}
-use Rattle.std.proofs.lemmas.Bool.Decides.{nat_tests}
-use Rattle.std.proofs.lemmas.Grind.{flat_map-append}
+use Rattle.st_tree.proofs.Common.{map, ◌≡◌, ◌≤◌, ◌+◌, ◌-◌, ℕ, suc, Bool, true, false, not, ◌&&◌, ◌==◌, nat_le, nat_lt, List, [], ◌∷◌, ◌++◌, length, Option, Some, is_some, refl, sym, ap, subst, ◌∙◌, arith, length-append, codes, decimal, fold, nat_tests, flat_map-append, fold-append, Ascend, numbers_of, DataBlock, MOST_BLOCKS, Line, key_of, is_block_number}
 use Rattle.std.proofs.lemmas.List.{append-nil, append_assoc}
-use Rattle.std.proofs.lemmas.List.Sums.{fold-append}
-use Rattle.memory_areas.specs.Areas.{Ascend, numbers_of}
-use Rattle.memory_areas.specs.declared.data_block.DataBlock.{DataBlock}
 use Rattle.memory_areas.specs.declared.place.AreaName.TheVariants as area
-use Rattle.memory_areas.specs.declared.sizes.TheConstants.{MOST_BLOCKS}
-use Rattle.s7_base.specs.declared.reason.Line.{Line}
 use Rattle.s7_base.specs.declared.word.Width.TheVariants as width
-use Rattle.st_tree.specs.declared.program.Located.{Located}
-use Rattle.st_tree.specs.declared.program.Pou.{Pou}
-use Rattle.st_tree.specs.declared.raw.RawGlobal.{RawGlobal}
+use Rattle.st_rules.proofs.Common.{Located, Pou, RawGlobal, RawPou, RawVar, listed, all_inside, all_outside, local_of, locals_of, meaning_of_unit, no_inside, no_outside, one_if, one_too_many, with_formal, with_global, with_local, with_unit, all_blocks, all_global_breaks, all_located, block_at, block_breaks, block_number, block_of, contents, fills, global_breaks, has_block_address, has_block_form, inserted, is_small_enough, located_of, total, with_block, Table, look_up}
 use Rattle.st_tree.specs.declared.raw.RawGlobalType.TheVariants as type
-use Rattle.st_tree.specs.declared.raw.RawPou.{RawPou}
-use Rattle.st_tree.specs.declared.raw.RawVar.{RawVar}
 use Rattle.st_tree.specs.declared.raw.RawVar.TheVariants as var
-use Rattle.st_rules.specs.Judged.{listed}
-use Rattle.st_rules.specs.Declarations.{all_inside, all_outside, is_block, local_of, locals_of, meaning_of_global, meaning_of_unit, no_inside, no_outside, one_if, one_too_many, with_formal, with_global, with_local, with_unit}
-use Rattle.st_rules.specs.Globals.{all_blocks, all_global_breaks, all_located, block_at, block_breaks, block_number, block_of, contents, fills, global_breaks, has_block_address, has_block_form, inserted, is_small_enough, located_of, total, with_block}
-use Rattle.st_rules.specs.Names.{Table, look_up}
-use Rattle.st_tree.specs.Naming.{key_of}
-use Rattle.st_tree.specs.PlaceRules.{is_block_number}
+use Rattle.st_rules.specs.Declarations.{is_block, meaning_of_global}
 use Rattle.st_rules.specs.declared.declaration.Outside.{Outside}
 use Rattle.st_rules.specs.declared.scope.Meaning.{Meaning}
 use Rattle.st_rules.specs.declared.scope.Meaning.TheVariants as meaning

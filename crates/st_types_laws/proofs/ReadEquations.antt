@@ -1,13 +1,10 @@
 -- What an expression is by the rules of texts, at each variant.
-use Rattle.std.proofs.Common.{◌≡◌, ℤ, sym, ap, ◌∙◌}
-use Rattle.s7_base.specs.declared.reason.Line.{Line}
-use Rattle.st_tree.specs.declared.expr.StType.{StType}
-use Rattle.st_tree.specs.declared.raw.RawExpr.{RawExpr, fold-roll-RawExpr, map-RawExpr, roll-RawExpr}
+use Rattle.st_tree.proofs.Common.{◌≡◌, ℤ, sym, ap, ◌∙◌, Line}
+use Rattle.st_rules.proofs.Common.{StType, RawExpr, RawVar, Judged, expression}
+use Rattle.st_tree.specs.declared.raw.RawExpr.{fold-roll-RawExpr, map-RawExpr, roll-RawExpr}
 use Rattle.st_tree.specs.declared.raw.RawExpr.TheOpen as R
 use Rattle.st_tree.specs.declared.raw.RawExpr.TheVariants as raw
-use Rattle.st_tree.specs.declared.raw.RawVar.{RawVar}
-use Rattle.st_rules.specs.Judged.{Judged}
-use Rattle.st_rules.specs.Expressions.{expression, expression_step}
+use Rattle.st_rules.specs.Expressions.{expression_step}
 use Rattle.st_rules.specs.declared.expression.Typed.{Typed}
 use Rattle.st_rules.specs.declared.scope.Scope.{Scope}
 

@@ -1,23 +1,11 @@
 -- Raw texts that declare what a tree has, whatever their lines are.
-use Rattle.std.proofs.Common.{◌≡◌, ℕ, ◌-◌, List, ◌++◌, length, Some, None}
-use Rattle.std.specs.Prelude.{codes, decimal}
-use Rattle.memory_areas.specs.declared.data_block.DataBlock.{DataBlock}
-use Rattle.memory_areas.specs.declared.place.Area.{Area}
+use Rattle.st_tree.proofs.Common.{◌≡◌, ℕ, ◌-◌, List, ◌++◌, length, Some, None, codes, decimal, DataBlock, Area, AreaName, width_at}
 use Rattle.memory_areas.specs.declared.place.Area.TheVariants as place
-use Rattle.memory_areas.specs.declared.place.AreaName.{AreaName}
 use Rattle.memory_areas.specs.declared.place.AreaName.TheVariants as area
 use Rattle.s7_base.specs.declared.word.Width.TheVariants as width
-use Rattle.st_tree.specs.Values.{width_at}
-use Rattle.st_tree.specs.declared.program.Local.{Local}
-use Rattle.st_tree.specs.declared.program.Located.{Located}
-use Rattle.st_tree.specs.declared.program.Pou.{Pou}
-use Rattle.st_tree.specs.declared.raw.RawGlobal.{RawGlobal}
+use Rattle.st_rules.proofs.Common.{Local, Located, Pou, RawGlobal, RawLocal, RawPou, RawVar, contents, total}
 use Rattle.st_tree.specs.declared.raw.RawGlobalType.TheVariants as type
-use Rattle.st_tree.specs.declared.raw.RawLocal.{RawLocal}
-use Rattle.st_tree.specs.declared.raw.RawPou.{RawPou}
-use Rattle.st_tree.specs.declared.raw.RawVar.{RawVar}
 use Rattle.st_tree.specs.declared.raw.RawVar.TheVariants as var
-use Rattle.st_rules.specs.Globals.{contents, total}
 use Rattle.st_types_laws.proofs.Lists.{EachPair}
 
 -- a data block under its plain name, at its own byte 0, with a list of all its bytes
