@@ -141,9 +141,11 @@ map_if : {X Y : Type 0} (f : X → Y) (c : Bool) (x : X) → (if c then Some (f 
 map_if f true x = refl
 map_if f false x = refl
 
-map_map : {X Y Z : Type 0} (g : Y → Z) (f : X → Y) (h : X → Z) → ((x : X) → g (f x) ≡ h x) → (o : Option X) → option_map g (option_map f o) ≡ option_map h o
-map_map g f h e None = refl
-map_map g f h e (Some x) = ap Some (e x)
+-- what a step gives in one form is what it gives in the other, and so is what is made of it
+made_of : {X Y V W : Type 0} (f : X → Y) (g : Y → W) (make : X → V) (h : V → W) → ((x : X) → g (f x) ≡ h (make x)) → (p : Option Y) (o : Option X) → p ≡ option_map f o
+    → option_map g p ≡ option_map h (option_map make o)
+made_of f g make h same p None e = ap (option_map g) e
+made_of f g make h same p (Some x) e = ap (option_map g) e ∙ ap Some (same x)
 
 -- Expressions
 
@@ -160,29 +162,15 @@ choose true x y p q e f = e
 choose false x y p q e f = f
 
 bare_reduce : (k d : ℕ) (s : List (Frame written)) (f : Form) → reduce code k d (bare_stack s) (bare_expr f) ≡ bare_reduced (reduce written k d s f)
-bare_reduce k d (unary op ∷ s) f =
-    choose (nat_le (prefix_level op) k) (reduce code k (shallower d) (bare_stack s) (bare_expr (prefix op f))) (reduced_to code d (unary op ∷ bare_stack s) (bare_expr f))
-    (reduce written k (shallower d) s (prefix op f)) (reduced_to written d (unary op ∷ s) f) (bare_reduce k (shallower d) s (prefix op f)) refl
-bare_reduce k d (left op g ∷ s) f =
-    choose (nat_le (infix_level op) k) (reduce code k d (bare_stack s) (bare_expr (infix_of op g f))) (reduced_to code d (left op (bare_expr g) ∷ bare_stack s) (bare_expr f))
-    (reduce written k d s (infix_of op g f)) (reduced_to written d (left op g ∷ s) f) (bare_reduce k d s (infix_of op g f)) refl
+bare_reduce k d (unary op ∷ s) f = choose (nat_le (prefix_level op) k) _ _ _ _ (bare_reduce k (shallower d) s (prefix op f)) refl
+bare_reduce k d (left op g ∷ s) f = choose (nat_le (infix_level op) k) _ _ _ _ (bare_reduce k d s (infix_of op g f)) refl
 bare_reduce k d s f = refl
 
-bare_closed : (d : ℕ) (s : List (Frame written)) (f : Form) (k : Kind) → closed code d (bare_stack s) (bare_expr f) k ≡ option_map bare_body_state (closed written d s f k)
-bare_closed d (bracket ∷ s) f (kind.Fixed fixed.Close) = refl
-bare_closed d (argument (only op) ∷ s) f (kind.Fixed fixed.Close) = refl
-bare_closed d (argument (shifted op) ∷ s) f (kind.Fixed fixed.Comma) = refl
-bare_closed d (argument (shifted_by op g) ∷ s) f (kind.Fixed fixed.Close) = refl
-bare_closed d (argument gate ∷ s) f (kind.Fixed fixed.Comma) = refl
-bare_closed d (argument (first g) ∷ s) f (kind.Fixed fixed.Comma) = refl
-bare_closed d (argument (second g h) ∷ s) f (kind.Fixed fixed.Close) = refl
-bare_closed d (waiting b (to_var v) ∷ s) f (kind.Fixed fixed.Semicolon) = refl
-bare_closed d (waiting b (to_area w) ∷ s) f (kind.Fixed fixed.Comma) = refl
-bare_closed d (waiting b (area_value w p) ∷ s) f (kind.Fixed fixed.Close) = refl
-bare_closed d (waiting b (test arms) ∷ s) f (kind.Fixed fixed.Then) = refl
-bare_closed d (waiting b selector ∷ s) f (kind.Fixed fixed.Of) = refl
-bare_closed d (waiting b loop_test ∷ s) f (kind.Fixed fixed.Do) = refl
-bare_closed d s f k = refl
+bare_closed : (k : Kind) (d : ℕ) (s : List (Frame written)) (f : Form) → closed code d (bare_stack s) (bare_expr f) k ≡ option_map bare_body_state (closed written d s f k)
+bare_closed (kind.Fixed fixed.Close) d (argument (only op) ∷ s) f = refl
+bare_closed (kind.Fixed fixed.Comma) d (argument (only op) ∷ s) f = refl
+bare_closed k d (waiting b (to_var v) ∷ s) f = refl
+bare_closed k d s f = refl
 
 bare_prefix : (d : ℕ) (s : List (Frame written)) (op : Prefix) → with_prefix code d (bare_stack s) op ≡ option_map bare_body_state (with_prefix written d s op)
 bare_prefix d s op =
@@ -197,72 +185,46 @@ bare_in_loop [] = refl
 bare_in_loop (within b (looping e) ∷ s) = refl
 bare_in_loop (frame ∷ s) = bare_in_loop s
 
-bare_in_body : (d : ℕ) (s : List (Frame written)) (body : Statements) (k : Kind) → in_body code d (bare_stack s) (tree_all body) k ≡ option_map bare_body_state (in_body written d s body k)
-bare_in_body d (within b (choosing arms e) ∷ s) body (kind.Fixed fixed.Elsif) = refl
-bare_in_body d (within b (otherwise arms) ∷ s) body (kind.Fixed fixed.EndIf) = refl
-bare_in_body d (within b (looping e) ∷ s) body (kind.Fixed fixed.EndWhile) = refl
-bare_in_body d (within b (selecting e arms labels) ∷ s) body (kind.Literal c) = map_if bare_body_state (is_value c) (body_state written d s (part b (labelled e (add_case written arms labels body) (of_label written c))))
-bare_in_body d (within b (selecting e arms labels) ∷ s) body (kind.Fixed fixed.Else) = refl
-bare_in_body d (within b (otherwise_case e arms) ∷ s) body (kind.Fixed fixed.EndCase) = refl
-bare_in_body d s body k = refl
+bare_in_body : (k : Kind) (d : ℕ) (s : List (Frame written)) (body : Statements) → in_body code d (bare_stack s) (tree_all body) k ≡ option_map bare_body_state (in_body written d s body k)
+bare_in_body (kind.Literal c) d (within b (selecting e arms labels) ∷ s) body = map_if bare_body_state (is_value c) (body_state written d s (part b (labelled e (add_case written arms labels body) (of_label written c))))
+bare_in_body (kind.Fixed fixed.Elsif) d (within b (choosing arms e) ∷ s) body = refl
+bare_in_body k d (within b (choosing arms e) ∷ s) body = refl
+bare_in_body k d s body = refl
 
-step_bare : (d : ℕ) (s : List (Frame written)) (p : Place written) (k : Kind) → step_at code d (bare_stack s) (bare_place p) k ≡ option_map bare_body_state (step_at written d s p k)
-step_bare d s (statement body) (kind.Variable v line) = refl
-step_bare d s (statement body) (kind.Lead (lead.Jump word) line) =
+-- by the token first, so that each place is looked at for each of them
+step_bare : (k : Kind) (p : Place written) (d : ℕ) (s : List (Frame written)) → step_at code d (bare_stack s) (bare_place p) k ≡ option_map bare_body_state (step_at written d s p k)
+step_bare (kind.Variable (var.Name name) line) (statement body) d s = refl
+step_bare (kind.Variable v line) (statement body) d s = refl
+step_bare (kind.Lead (lead.Jump word) line) (statement body) d s =
     ap (λ (c : Bool). if may_jump c word then Some (body_state code d (bare_stack s) (closing (tree_all body) (of_jump code line word))) else None) (bare_in_loop s)
     ∙ map_if bare_body_state (may_jump (in_loop written s) word)
     (body_state written d s (closing body (of_jump written line word)))
-step_bare d s (statement body) (kind.Lead other line) = refl
-step_bare d s (statement body) (kind.Fixed fixed.Semicolon) = refl
-step_bare d s (statement body) other = bare_in_body d s body other
-step_bare d s (part b (target v)) (kind.Fixed fixed.Becomes) = refl
-step_bare d s (part b (target (var.Name name))) (kind.Fixed fixed.Open) = refl
-step_bare d s (part b (write_open w)) (kind.Fixed fixed.Open) = refl
-step_bare d s (part b (first_formal name)) (kind.Variable (var.Name formal) line) = refl
-step_bare d s (part b (first_formal name)) (kind.Fixed fixed.Close) = refl
-step_bare d s (part b (next_formal name actuals)) (kind.Variable (var.Name formal) line) = refl
-step_bare d s (part b (becoming name actuals formal)) (kind.Fixed fixed.Becomes) = refl
-step_bare d s (part b (giving name actuals formal)) (kind.Variable v line) = refl
-step_bare d s (part b (given name actuals)) (kind.Fixed fixed.Comma) = refl
-step_bare d s (part b (first_label e arms)) (kind.Literal c) = map_if bare_body_state (is_value c) (body_state written d s (part b (labelled e arms (of_label written c))))
-step_bare d s (part b (next_label e arms labels)) (kind.Literal c) = map_if bare_body_state (is_value c) (body_state written d s (part b (labelled e arms (add_label written labels c))))
-step_bare d s (part b (labelled e arms labels)) (kind.Fixed fixed.Comma) = refl
-step_bare d s (closing before x) (kind.Fixed fixed.Semicolon) = refl
-step_bare d s operand (kind.Literal c) = map_if bare_body_state (is_value c) (body_state written d s (operator (of_literal written c)))
-step_bare d s operand (kind.Fixed fixed.Not) = bare_prefix d s before.Not
-step_bare d s operand (kind.Fixed (fixed.Between binary.Sub)) = bare_prefix d s before.Minus
-step_bare d s (operator f) (kind.Fixed (fixed.Between op)) = ap (λ (r : Reduced code). Some (waits code op r)) (bare_reduce (infix_level op) d s f)
-step_bare d s (operator f) other =
-    ap (λ (r : Reduced code). closed_to code r other) (bare_reduce weakest d s f)
-    ∙ bare_closed (reduce written weakest d s f).depth (reduce written weakest d s f).stack (reduce written weakest d s f).operand other
-step_bare d s (opening (function.One op)) (kind.Fixed fixed.Open) = refl
-step_bare d s (opening (function.Shift op)) (kind.Fixed fixed.Open) = refl
-step_bare d s (opening function.Select) (kind.Fixed fixed.Open) = refl
-step_bare d s p k = refl
+step_bare (kind.Lead word line) (statement body) d s = refl
+step_bare (kind.Fixed fixed.Semicolon) (statement body) d s = refl
+step_bare k (statement body) d s = bare_in_body k d s body
+step_bare (kind.Literal c) (part b (first_label e arms)) d s = map_if bare_body_state (is_value c) (body_state written d s (part b (labelled e arms (of_label written c))))
+step_bare (kind.Literal c) (part b (next_label e arms labels)) d s = map_if bare_body_state (is_value c) (body_state written d s (part b (labelled e arms (add_label written labels c))))
+step_bare (kind.Literal c) operand d s = map_if bare_body_state (is_value c) (body_state written d s (operator (of_literal written c)))
+step_bare (kind.Fixed (fixed.Between op)) (operator f) d s = ap (λ (r : Reduced code). Some (waits code op r)) (bare_reduce (infix_level op) d s f)
+step_bare k (operator f) d s =
+    ap (λ (r : Reduced code). closed_to code r k) (bare_reduce weakest d s f)
+    ∙ bare_closed k (reduce written weakest d s f).depth (reduce written weakest d s f).stack (reduce written weakest d s f).operand
+step_bare (kind.Fixed fixed.Not) operand d s = bare_prefix d s before.Not
+step_bare (kind.Fixed (fixed.Between binary.Sub)) operand d s = bare_prefix d s before.Minus
+step_bare k (part b (target (var.Name name))) d s = refl
+step_bare k (opening (function.One op)) d s = refl
+step_bare k p d s = refl
 
 -- Globals
 
-row_bare : (name : List ℕ) (x : Row written) (k : Kind) → row_step code name (bare_row x) k ≡ option_map bare_row (row_step written name x k)
-row_bare name at_word (kind.Fixed fixed.At) = refl
-row_bare name at_place (kind.Variable v line) = map_if bare_row (is_direct v) (at_colon (v, line))
-row_bare name (at_colon v) (kind.Fixed fixed.Colon) = refl
-row_bare name (at_type v) (kind.Fixed (fixed.Type ty)) = map_if bare_row (is_free name) (at_end v (plain ty))
-row_bare name (at_type v) (kind.Fixed fixed.Array) = map_if bare_row (names_block name) (at_square v)
-row_bare name (at_square v) (kind.Fixed fixed.OpenSquare) = refl
-row_bare name (at_zero v) (kind.Literal (lit.Decimal n)) = map_if bare_row (is_zero n) (at_dots v)
-row_bare name (at_dots v) (kind.Fixed fixed.Dots) = refl
-row_bare name (at_last v) (kind.Literal (lit.Decimal last)) = refl
-row_bare name (at_close v last) (kind.Fixed fixed.CloseSquare) = refl
-row_bare name (at_of v last) (kind.Fixed fixed.Of) = refl
-row_bare name (at_byte v last) (kind.Fixed (fixed.Type type.Byte)) = refl
-row_bare name (at_becomes v last) (kind.Fixed fixed.Becomes) = refl
-row_bare name (at_open v last) (kind.Fixed fixed.OpenSquare) = refl
-row_bare name (at_item v last items) (kind.Literal (lit.Byte b)) = refl
-row_bare name (at_count v last items count) (kind.Fixed fixed.Open) = refl
-row_bare name (at_value v last items count) (kind.Literal (lit.Byte b)) = refl
-row_bare name (at_value_end v last items count b) (kind.Fixed fixed.Close) = refl
-row_bare name (at_comma v last items) (kind.Fixed fixed.Comma) = refl
-row_bare name x k = refl
+row_bare : (k : Kind) (name : List ℕ) (x : Row written) → row_step code name (bare_row x) k ≡ option_map bare_row (row_step written name x k)
+row_bare (kind.Variable v line) name at_place = map_if bare_row (is_direct v) (at_colon (v, line))
+row_bare (kind.Literal (lit.Decimal n)) name (at_zero v) = map_if bare_row (is_zero n) (at_dots v)
+row_bare (kind.Fixed (fixed.Type ty)) name (at_type v) = map_if bare_row (is_free name) (at_end v (plain ty))
+row_bare (kind.Fixed fixed.Array) name (at_type v) = map_if bare_row (names_block name) (at_square v)
+row_bare (kind.Fixed (fixed.Type type.Byte)) name (at_byte v last) = refl
+row_bare k name at_word = refl
+row_bare k name x = refl
 
 -- Units
 
@@ -290,9 +252,8 @@ at_inside_bare : (begun : BegunUnit written) (f l : Section Locals) (at : BodySt
 at_inside_bare begun f l at (kind.Fixed fixed.EndProgram) = leave_bare true begun f l at.stack at.place
 at_inside_bare begun f l at (kind.Fixed fixed.EndFunction) = leave_bare false begun f l at.stack at.place
 at_inside_bare begun f l at k =
-    ap (λ (o : Option (BodyState code)). option_map (λ (to : BodyState code). inside (bare_begun_unit begun) (held tree_locals f) (held tree_locals l) to) o) (step_bare at.depth at.stack at.place k)
-    ∙ map_map (λ (to : BodyState code). inside (bare_begun_unit begun) (held tree_locals f) (held tree_locals l) to) bare_body_state (λ (to : BodyState written). bare (inside begun f l to)) (λ to. refl) (step_at written at.depth at.stack at.place k)
-    ∙ sym (map_map bare (λ (to : BodyState written). inside begun f l to) (λ (to : BodyState written). bare (inside begun f l to)) (λ to. refl) (step_at written at.depth at.stack at.place k))
+    made_of bare_body_state (λ (to : BodyState code). inside (bare_begun_unit begun) (held tree_locals f) (held tree_locals l) to)
+    (λ (to : BodyState written). inside begun f l to) bare (λ to. refl) _ (step_at written at.depth at.stack at.place k) (step_bare k at.place at.depth at.stack)
 
 at_formals_done_bare : (begun : BegunUnit written) (f : Section Locals) (k : Kind) → at_formals_done code (bare_begun_unit begun) (held tree_locals f) k ≡ option_map bare (at_formals_done written begun f k)
 at_formals_done_bare begun f (kind.Fixed fixed.VarTemp) = refl
@@ -314,9 +275,7 @@ next_bare (globals done) (kind.Fixed fixed.EndVar) = refl
 next_bare (row done name line (at_end v ty)) (kind.Fixed fixed.Semicolon) = refl
 next_bare (row done name line x) (kind.Fixed fixed.Semicolon) = refl
 next_bare (row done name line x) k =
-    ap (λ (o : Option (Row code)). option_map (λ (y : Row code). row (tree_globals done) name line y) o) (row_bare name x k)
-    ∙ map_map (λ (y : Row code). row (tree_globals done) name line y) bare_row (λ (y : Row written). bare (row done name line y)) (λ y. refl) (row_step written name x k)
-    ∙ sym (map_map bare (λ (y : Row written). row done name line y) (λ (y : Row written). bare (row done name line y)) (λ y. refl) (row_step written name x k))
+    made_of bare_row (λ (y : Row code). row (tree_globals done) name line y) (λ (y : Row written). row done name line y) bare (λ y. refl) _ (row_step written name x k) (row_bare k name x)
 next_bare (between text) k = at_between_bare text k
 next_bare (heading text program line) (kind.Variable (var.Name name) place) = map_if bare (may_name_unit name) (opened (begun_unit written text (head_of written program line name place)))
 next_bare (opened begun) k = at_opened_bare begun k

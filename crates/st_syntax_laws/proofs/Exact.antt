@@ -69,7 +69,7 @@ kept_then front q w k ks (Some r) e h on =
 
 kept_all : (front : List Kind) (q : State written) (w : List ℕ) (ks : List Kind) → Shaped q → ((more : List Kind) → past q more ≡ front ++ more) → IfSome (passes written q w ks) (λ z. PassedAll (front ++ ks) z.state)
 kept_all front q w [] h e = record { shaped = h; text = λ more. e more ∙ ap (λ (xs : List Kind). xs ++ more) (sym (append-nil front)) }
-kept_all front q w (k ∷ ks) h e = kept_then front q w k ks (next written q k) e (kept q k h) (λ r s t. kept_all (front ++ k ∷ []) r (last_level written r ∷ w) ks s t)
+kept_all front q w (k ∷ ks) h e = kept_then front q w k ks (next written q k) e (kept k q h) (λ r s t. kept_all (front ++ k ∷ []) r (last_level written r ∷ w) ks s t)
 
 passed_all : (ks : List Kind) (q : State written) (w : List ℕ) → passes written start [] ks ≡ Some (at_state q w) → PassedAll ks q
 passed_all ks q w e = subst (λ (o : Option (Passed written)). IfSome o (λ z. PassedAll ks z.state)) e (kept_all [] start [] ks tt (λ more. refl))

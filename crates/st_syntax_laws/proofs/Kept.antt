@@ -290,13 +290,13 @@ same_in p q e None h = tt
 same_in p q e (Some z) h = record { fits = h.fits; grown = λ more. h.grown more ∙ e more }
 
 -- a state that a test allows
-if_in : (before : List Kind → List Kind) (c : Bool) (z : BodyState written) → (c ≡ true → KeptIn before z) → KeepsIn before (if c then Some z else None)
-if_in before true z h = h refl
-if_in before false z h = tt
+if_in : {before : List Kind → List Kind} {z : BodyState written} (c : Bool) → (c ≡ true → KeptIn before z) → KeepsIn before (if c then Some z else None)
+if_in true h = h refl
+if_in false h = tt
 
-pub if_to : (before : List Kind → List Kind) (c : Bool) (r : State written) → (c ≡ true → Kept before r) → IfSome (if c then Some r else None) (Kept before)
-if_to before true r h = h refl
-if_to before false r h = tt
+pub if_to : {before : List Kind → List Kind} {r : State written} (c : Bool) → (c ≡ true → Kept before r) → IfSome (if c then Some r else None) (Kept before)
+if_to true h = h refl
+if_to false h = tt
 
 -- Expressions
 
@@ -338,26 +338,17 @@ fitting k d (left op g ∷ s) f most h b strong fits =
 fitting k d (within x y ∷ s) f most h b strong fits = absurd h
 fitting k d s f most h b strong fits = record { inner = h; binds = b; strong = strong; room = most; same = λ more. refl }
 
-closed_kept : (d : ℕ) (s : List (Frame written)) (f : Form) (k : Kind) → InExpr s → Binds f → KeepsIn (λ more. past_stack s (spell f (k ∷ more))) (closed written d s f k)
-closed_kept d (bracket ∷ s) f (kind.Fixed fixed.Close) h b = record { fits = (h, b, refl); grown = λ more. refl }
-closed_kept d (argument (only op) ∷ s) f (kind.Fixed fixed.Close) h b = record { fits = (h.1, b, refl); grown = λ more. refl }
-closed_kept d (argument (shifted op) ∷ s) f (kind.Fixed fixed.Comma) h b = record { fits = (b, h.1); grown = λ more. refl }
-closed_kept d (argument (shifted_by op g) ∷ s) f (kind.Fixed fixed.Close) h b = record { fits = (h.1, (h.0, b), refl); grown = λ more. refl }
-closed_kept d (argument gate ∷ s) f (kind.Fixed fixed.Comma) h b = record { fits = (b, h.1); grown = λ more. refl }
-closed_kept d (argument (first g) ∷ s) f (kind.Fixed fixed.Comma) h b = record { fits = ((h.0, b), h.1); grown = λ more. refl }
-closed_kept d (argument (second g e) ∷ s) f (kind.Fixed fixed.Close) h b = record { fits = (h.1, (h.0.0, h.0.1, b), refl); grown = λ more. refl }
-closed_kept d (waiting b (to_var v) ∷ s) f (kind.Fixed fixed.Semicolon) h e = record { fits = (h.2, (h.0, e)); grown = λ more. refl }
-closed_kept d (waiting b (to_area w) ∷ s) f (kind.Fixed fixed.Comma) h e = record { fits = (h.0, e, h.2); grown = λ more. refl }
-closed_kept d (waiting b (area_value w p) ∷ s) f (kind.Fixed fixed.Close) h e = record { fits = (h.2, h.0, (h.1, e)); grown = λ more. refl }
-closed_kept d (waiting b (test arms) ∷ s) f (kind.Fixed fixed.Then) h e = record { fits = ((h.0, (h.1, e), h.2), tt); grown = λ more. refl }
-closed_kept d (waiting b selector ∷ s) f (kind.Fixed fixed.Of) h e = record { fits = (h.2, h.0, (e, tt)); grown = λ more. refl }
-closed_kept d (waiting b loop_test ∷ s) f (kind.Fixed fixed.Do) h e = record { fits = ((h.0, e, h.2), tt); grown = λ more. refl }
-closed_kept d s f k h b = tt
+-- by the token first, so that each frame is looked at for each of them
+closed_kept : (k : Kind) (d : ℕ) (s : List (Frame written)) (f : Form) → InExpr s → Binds f → KeepsIn (λ more. past_stack s (spell f (k ∷ more))) (closed written d s f k)
+closed_kept (kind.Fixed fixed.Close) d (argument (only op) ∷ s) f h b = assumption
+closed_kept (kind.Fixed fixed.Comma) d (argument (only op) ∷ s) f h b = assumption
+closed_kept k d (waiting x (to_var v) ∷ s) f h b = assumption
+closed_kept k d s f h b = assumption
 
 reduced_kept : (d : ℕ) (s : List (Frame written)) (f : Form) (r : Reduced written) (k : Kind) → Fitting weakest s f r → KeepsIn (λ more. past_stack s (spell f (k ∷ more))) (closed written r.depth r.stack r.operand k)
 reduced_kept d s f r k t =
     same_in (λ more. past_stack r.stack (spell r.operand (k ∷ more))) (λ more. past_stack s (spell f (k ∷ more))) (λ more. t.same (k ∷ more)) (closed written r.depth r.stack r.operand k)
-    (closed_kept r.depth r.stack r.operand k t.inner t.binds)
+    (closed_kept k r.depth r.stack r.operand t.inner t.binds)
 
 waits_kept : (s : List (Frame written)) (f : Form) (r : Reduced written) (op : BinaryOp) → Fitting (infix_level op) s f r → KeptIn (λ more. past_stack s (spell f (kind.Fixed (fixed.Between op) ∷ more))) (waits written op r)
 waits_kept s f r op t = record { fits = (t.strong, t.binds, t.room, t.inner); grown = λ more. t.same (kind.Fixed (fixed.Between op) ∷ more) }
@@ -369,72 +360,45 @@ prefix_kept d s op h =
 
 -- Statements
 
-in_body_kept : (d : ℕ) (s : List (Frame written)) (body : Statements) (k : Kind) → InStatements s → AllFit (in_loop written s) body → KeepsIn (λ more. past_stack s (spell_all body (k ∷ more))) (in_body written d s body k)
-in_body_kept d (within b (choosing arms e) ∷ s) body (kind.Fixed fixed.Elsif) h p = record { fits = (h.0, (h.1.0, h.1.1, p), h.2); grown = λ more. refl }
-in_body_kept d (within b (choosing arms e) ∷ s) body (kind.Fixed fixed.Else) h p = record { fits = ((h.0, (tt, (h.1.0, h.1.1, p)), h.2), tt); grown = λ more. refl }
-in_body_kept d (within b (choosing arms e) ∷ s) body (kind.Fixed fixed.EndIf) h p = record { fits = (h.2, h.0, (tt, (h.1.0, h.1.1, p))); grown = λ more. refl }
-in_body_kept d (within b (otherwise arms) ∷ s) body (kind.Fixed fixed.EndIf) h p = record { fits = (h.2, h.0, (h.1.0, h.1.1, p)); grown = λ more. refl }
-in_body_kept d (within b (looping e) ∷ s) body (kind.Fixed fixed.EndWhile) h p = record { fits = (h.2, h.0, (h.1, p)); grown = λ more. refl }
-in_body_kept d (within b (selecting e arms labels) ∷ s) body (kind.Literal c) h p =
-    if_in (λ more. past_stack s (spell_all b.before (past_outer_statement b.line (selecting e arms labels) (spell_all body (kind.Literal c ∷ more))))) (is_value c) _
-    (λ v. record { fits = (h.2, h.0, (h.1.0, (h.1.1, h.1.2, p), v)); grown = λ more. refl })
-in_body_kept d (within b (selecting e arms labels) ∷ s) body (kind.Fixed fixed.Else) h p = record { fits = ((h.0, (h.1.0, tt, (h.1.1, h.1.2, p)), h.2), tt); grown = λ more. refl }
-in_body_kept d (within b (selecting e arms labels) ∷ s) body (kind.Fixed fixed.EndCase) h p = record { fits = (h.2, h.0, (h.1.0, tt, (h.1.1, h.1.2, p))); grown = λ more. refl }
-in_body_kept d (within b (otherwise_case e arms) ∷ s) body (kind.Fixed fixed.EndCase) h p = record { fits = (h.2, h.0, (h.1.0, h.1.1, h.1.2, p)); grown = λ more. refl }
-in_body_kept d s body k h p = tt
+in_body_kept : (k : Kind) (d : ℕ) (s : List (Frame written)) (body : Statements) → InStatements s → AllFit (in_loop written s) body → KeepsIn (λ more. past_stack s (spell_all body (k ∷ more))) (in_body written d s body k)
+in_body_kept (kind.Literal c) d (within b (selecting e arms labels) ∷ s) body h p = if_in (is_value c) (λ v. assumption)
+in_body_kept (kind.Fixed fixed.Elsif) d (within b (choosing arms e) ∷ s) body h p = assumption
+in_body_kept k d (within b (choosing arms e) ∷ s) body h p = assumption
+in_body_kept k d s body h p = assumption
 
 label_kept : (d : ℕ) (s : List (Frame written)) (b : BegunStatement written) (e : Form) (arms : CaseArms) (labels : Literal → Labels) (past_labels : List Kind → List Kind) (k : Kind) →
     ((c : Literal) (more : List Kind) → spell_labels (labels c) more ≡ past_labels (kind.Literal c ∷ more)) → ((c : Literal) → is_value c ≡ true → LabelsFit (labels c))
     → InStatements s → AllFit (in_loop written s) b.before → Binds e → CasesFit (in_loop written s) arms
     → KeepsIn (λ more. past_stack s (spell_all b.before (past_case b.line e arms (past_labels (k ∷ more))))) (at_label written d s b e arms labels k)
-label_kept d s b e arms labels past_labels (kind.Literal c) same good h p f g =
-    if_in (λ more. past_stack s (spell_all b.before (past_case b.line e arms (past_labels (kind.Literal c ∷ more))))) (is_value c) _
-    (λ v. record { fits = (h, p, (f, g, good c v)); grown = λ more. ap (λ (ks : List Kind). past_stack s (spell_all b.before (past_case b.line e arms ks))) (same c more) })
+label_kept d s b e arms labels past_labels (kind.Literal c) same good h p f g = if_in (is_value c) (λ v. record {
+  fits = (h, p, (f, g, good c v));
+  grown = λ more. ap (λ (ks : List Kind). past_stack s (spell_all b.before (past_case b.line e arms ks))) (same c more);
+})
 label_kept d s b e arms labels past_labels other same good h p f g = tt
 
 comma_is : (a : Actuals) (ks : List Kind) → HasActual a → comma_kind ∷ ks ≡ comma_behind a ks
 comma_is no_actual ks h = absurd h
 comma_is (actual others name line v place) ks h = refl
 
-pub step_kept : (d : ℕ) (s : List (Frame written)) (p : Place written) (k : Kind) → PlaceFits s p → KeepsIn (λ more. past_stack s (past_place p (k ∷ more))) (step_at written d s p k)
-step_kept d s (statement body) (kind.Variable v line) h = record { fits = (h.0, h.1, tt); grown = λ more. refl }
-step_kept d s (statement body) (kind.Lead lead.If line) h = record { fits = (h.1, tt, h.0); grown = λ more. refl }
-step_kept d s (statement body) (kind.Lead lead.Case line) h = record { fits = (h.1, tt, h.0); grown = λ more. refl }
-step_kept d s (statement body) (kind.Lead lead.While line) h = record { fits = (h.1, tt, h.0); grown = λ more. refl }
-step_kept d s (statement body) (kind.Lead (lead.Jump word) line) h =
-    if_in (λ more. past_stack s (spell_all body (kind.Lead (lead.Jump word) line ∷ more))) (may_jump (in_loop written s) word) _ (λ v. record { fits = (h.0, h.1, v); grown = λ more. refl })
-step_kept d s (statement body) (kind.Lead (lead.AreaWrite w) line) h = record { fits = (h.0, h.1, tt); grown = λ more. refl }
-step_kept d s (statement body) (kind.Lead other line) h = tt
-step_kept d s (statement body) (kind.Fixed fixed.Semicolon) h = record { fits = (h.0, h.1); grown = λ more. refl }
-step_kept d s (statement body) other h = in_body_kept d s body other h.0 h.1
-step_kept d s (part b (target v)) (kind.Fixed fixed.Becomes) h = record { fits = (h.1, tt, h.0); grown = λ more. refl }
-step_kept d s (part b (target (var.Name name))) (kind.Fixed fixed.Open) h = record { fits = (h.0, h.1, tt); grown = λ more. refl }
-step_kept d s (part b (write_open w)) (kind.Fixed fixed.Open) h = record { fits = (h.1, tt, h.0); grown = λ more. refl }
-step_kept d s (part b (first_formal name)) (kind.Variable (var.Name formal) line) h = record { fits = (h.0, h.1, tt); grown = λ more. refl }
-step_kept d s (part b (first_formal name)) (kind.Fixed fixed.Close) h = record { fits = (h.0, h.1, tt); grown = λ more. refl }
-step_kept d s (part b (next_formal name actuals)) (kind.Variable (var.Name formal) line) h = record {
+pub step_kept : (k : Kind) (p : Place written) (d : ℕ) (s : List (Frame written)) → PlaceFits s p → KeepsIn (λ more. past_stack s (past_place p (k ∷ more))) (step_at written d s p k)
+step_kept (kind.Variable (var.Name name) line) (statement body) d s h = assumption
+step_kept (kind.Variable v line) (statement body) d s h = assumption
+step_kept (kind.Lead (lead.Jump word) line) (statement body) d s h = if_in (may_jump (in_loop written s) word) (λ v. assumption)
+step_kept (kind.Lead word line) (statement body) d s h = assumption
+step_kept (kind.Fixed fixed.Semicolon) (statement body) d s h = assumption
+step_kept k (statement body) d s h = in_body_kept k d s body h.0 h.1
+step_kept (kind.Variable (var.Name formal) line) (part b (next_formal name actuals)) d s h = record {
   fits = (h.0, h.1, tt);
   grown = λ more. ap (λ (ks : List Kind). past_stack s (spell_all b.before (past_call b.line name (spell_actuals actuals ks)))) (sym (comma_is actuals (kind.Variable (var.Name formal) line ∷ more) h.2));
 }
-step_kept d s (part b (becoming name actuals formal)) (kind.Fixed fixed.Becomes) h = record { fits = (h.0, h.1, tt); grown = λ more. refl }
-step_kept d s (part b (giving name actuals formal)) (kind.Variable v line) h = record { fits = (h.0, h.1, tt); grown = λ more. refl }
-step_kept d s (part b (given name actuals)) (kind.Fixed fixed.Comma) h = record { fits = (h.0, h.1, h.2); grown = λ more. refl }
-step_kept d s (part b (given name actuals)) (kind.Fixed fixed.Close) h = record { fits = (h.0, h.1, tt); grown = λ more. refl }
-step_kept d s (part b (first_label e arms)) k h = label_kept d s b e arms (λ c. label c) (λ ks. ks) k (λ c more. refl) (λ c v. v) h.0 h.1 h.2.0 h.2.1
-step_kept d s (part b (next_label e arms labels)) k h =
+step_kept k (part b (first_label e arms)) d s h = label_kept d s b e arms (λ c. label c) (λ ks. ks) k (λ c more. refl) (λ c v. v) h.0 h.1 h.2.0 h.2.1
+step_kept k (part b (next_label e arms labels)) d s h =
     label_kept d s b e arms (λ c. more_labels labels c) (λ ks. spell_labels labels (comma_kind ∷ ks)) k (λ c more. refl) (λ c v. (h.2.2, v)) h.0 h.1 h.2.0 h.2.1
-step_kept d s (part b (labelled e arms labels)) (kind.Fixed fixed.Comma) h = record { fits = (h.0, h.1, h.2); grown = λ more. refl }
-step_kept d s (part b (labelled e arms labels)) (kind.Fixed fixed.Colon) h = record { fits = ((h.1, h.2, h.0), tt); grown = λ more. refl }
-step_kept d s (closing before x) (kind.Fixed fixed.Semicolon) h = record { fits = (h.0, (h.1, h.2)); grown = λ more. refl }
-step_kept d s operand (kind.Literal c) h = if_in (λ more. past_stack s (kind.Literal c ∷ more)) (is_value c) _ (λ v. record { fits = (h, v, refl); grown = λ more. refl })
-step_kept d s operand (kind.Variable v line) h = record { fits = (h, tt, refl); grown = λ more. refl }
-step_kept d s operand (kind.Fixed fixed.Not) h = prefix_kept d s before.Not h
-step_kept d s operand (kind.Fixed (fixed.Between binary.Sub)) h = prefix_kept d s before.Minus h
-step_kept d s operand (kind.Fixed fixed.Open) h = record { fits = h; grown = λ more. refl }
-step_kept d s operand (kind.Fixed (fixed.Function f)) h = record { fits = h; grown = λ more. refl }
-step_kept d s (operator f) (kind.Fixed (fixed.Between op)) h = waits_kept s f (reduce written (infix_level op) d s f) op (fitting (infix_level op) d s f (infix_most op) h.0 h.1 (omega arith) (omega arith))
-step_kept d s (operator f) other h = reduced_kept d s f (reduce written weakest d s f) other (fitting weakest d s f (omega arith) h.0 h.1 (omega arith) (omega arith))
-step_kept d s (opening (function.One op)) (kind.Fixed fixed.Open) h = record { fits = (tt, h); grown = λ more. refl }
-step_kept d s (opening (function.Shift op)) (kind.Fixed fixed.Open) h = record { fits = (tt, h); grown = λ more. refl }
-step_kept d s (opening function.Select) (kind.Fixed fixed.Open) h = record { fits = (tt, h); grown = λ more. refl }
-step_kept d s p k h = tt
+step_kept (kind.Literal c) operand d s h = if_in (is_value c) (λ v. assumption)
+step_kept (kind.Fixed (fixed.Between op)) (operator f) d s h = waits_kept s f (reduce written (infix_level op) d s f) op (fitting (infix_level op) d s f (infix_most op) h.0 h.1 (omega arith) (omega arith))
+step_kept k (operator f) d s h = reduced_kept d s f (reduce written weakest d s f) k (fitting weakest d s f (omega arith) h.0 h.1 (omega arith) (omega arith))
+step_kept (kind.Fixed fixed.Not) operand d s h = prefix_kept d s before.Not h
+step_kept (kind.Fixed (fixed.Between binary.Sub)) operand d s h = prefix_kept d s before.Minus h
+step_kept k (part b (target (var.Name name))) d s h = assumption
+step_kept k (opening (function.One op)) d s h = assumption
+step_kept k p d s h = assumption

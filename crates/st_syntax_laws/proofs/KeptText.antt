@@ -23,9 +23,9 @@ record KeptRow (name : List ℕ) (before : List Kind → List Kind) (x : Row wri
   fits : RowFits name x
   grown : (more : List Kind) → past_row x more ≡ before more
 
-if_row : (name : List ℕ) (before : List Kind → List Kind) (c : Bool) (x : Row written) → (c ≡ true → KeptRow name before x) → IfSome (if c then Some x else None) (KeptRow name before)
-if_row name before true x h = h refl
-if_row name before false x h = tt
+if_row : {name : List ℕ} {before : List Kind → List Kind} {x : Row written} (c : Bool) → (c ≡ true → KeptRow name before x) → IfSome (if c then Some x else None) (KeptRow name before)
+if_row true h = h refl
+if_row false h = tt
 
 abbrev KeepsRow : List ℕ → Row written → Kind → Option (Row written) → Type 0
 KeepsRow name x k o = IfSome o (KeptRow name (λ more. past_row x (k ∷ more)))
@@ -38,35 +38,23 @@ initial_is : (items : Items) (ks : List Kind) → HasItem items → spell_initia
 initial_is no_item ks h = absurd h
 initial_is items ks h = refl
 
-row_kept : (name : List ℕ) (x : Row written) (k : Kind) → RowFits name x → KeepsRow name x k (row_step written name x k)
-row_kept name at_word (kind.Fixed fixed.At) h = record { fits = tt; grown = λ more. refl }
-row_kept name at_place (kind.Variable v line) h = if_row name (λ more. past_row at_place (kind.Variable v line ∷ more)) (is_direct v) _ (λ c. record { fits = c; grown = λ more. refl })
-row_kept name (at_colon v) (kind.Fixed fixed.Colon) h = record { fits = h; grown = λ more. refl }
-row_kept name (at_type v) (kind.Fixed (fixed.Type ty)) h = if_row name (λ more. past_row (at_type v) (kind.Fixed (fixed.Type ty) ∷ more)) (is_free name) _ (λ c. record { fits = (h, c); grown = λ more. refl })
-row_kept name (at_type v) (kind.Fixed fixed.Array) h = if_row name (λ more. past_row (at_type v) (kind.Fixed fixed.Array ∷ more)) (names_block name) _ (λ c. record { fits = (h, c); grown = λ more. refl })
-row_kept name (at_square v) (kind.Fixed fixed.OpenSquare) h = record { fits = h; grown = λ more. refl }
-row_kept name (at_zero v) (kind.Literal (lit.Decimal zero)) h = record { fits = h; grown = λ more. refl }
-row_kept name (at_dots v) (kind.Fixed fixed.Dots) h = record { fits = h; grown = λ more. refl }
-row_kept name (at_last v) (kind.Literal (lit.Decimal last)) h = record { fits = h; grown = λ more. refl }
-row_kept name (at_close v last) (kind.Fixed fixed.CloseSquare) h = record { fits = h; grown = λ more. refl }
-row_kept name (at_of v last) (kind.Fixed fixed.Of) h = record { fits = h; grown = λ more. refl }
-row_kept name (at_byte v last) (kind.Fixed (fixed.Type type.Byte)) h = record { fits = h; grown = λ more. refl }
-row_kept name (at_becomes v last) (kind.Fixed fixed.Becomes) h = record { fits = h; grown = λ more. refl }
-row_kept name (at_open v last) (kind.Fixed fixed.OpenSquare) h = record { fits = h; grown = λ more. refl }
-row_kept name (at_item v last items) (kind.Literal (lit.Byte b)) h = record { fits = (h.0, h.1, tt); grown = λ more. refl }
-row_kept name (at_item v last items) (kind.Literal (lit.Decimal count)) h = record { fits = h; grown = λ more. refl }
-row_kept name (at_count v last items count) (kind.Fixed fixed.Open) h = record { fits = h; grown = λ more. refl }
-row_kept name (at_value v last items count) (kind.Literal (lit.Byte b)) h = record { fits = h; grown = λ more. refl }
-row_kept name (at_value_end v last items count b) (kind.Fixed fixed.Close) h = record { fits = (h.0, h.1, tt); grown = λ more. refl }
-row_kept name (at_comma v last items) (kind.Fixed fixed.Comma) h = record {
+-- by the token first, so that each place is looked at for each of them
+row_kept : (k : Kind) (name : List ℕ) (x : Row written) → RowFits name x → KeepsRow name x k (row_step written name x k)
+row_kept (kind.Variable v line) name at_place h = if_row (is_direct v) (λ c. assumption)
+row_kept (kind.Fixed (fixed.Type ty)) name (at_type v) h = if_row (is_free name) (λ c. assumption)
+row_kept (kind.Fixed fixed.Array) name (at_type v) h = if_row (names_block name) (λ c. assumption)
+row_kept (kind.Literal (lit.Decimal zero)) name (at_zero v) h = assumption
+row_kept (kind.Fixed (fixed.Type type.Byte)) name (at_byte v last) h = assumption
+row_kept (kind.Fixed fixed.Comma) name (at_comma v last items) h = record {
   fits = (h.0, h.1);
   grown = λ more. ap (λ (ks : List Kind). past_array v last (kind.Fixed fixed.Becomes ∷ kind.Fixed fixed.OpenSquare ∷ spell_items items ks)) (item_comma items more h.2);
 }
-row_kept name (at_comma v last items) (kind.Fixed fixed.CloseSquare) h = record {
+row_kept (kind.Fixed fixed.CloseSquare) name (at_comma v last items) h = record {
   fits = (h.0, h.1);
   grown = λ more. ap (λ (ks : List Kind). past_array v last ks) (initial_is items more h.2);
 }
-row_kept name x k h = tt
+row_kept k name at_word h = assumption
+row_kept k name x h = assumption
 
 abbrev Keeps : State written → Kind → Option (State written) → Type 0
 Keeps q k o = IfSome o (Kept (λ more. past q (k ∷ more)))
@@ -82,10 +70,9 @@ rowed done name line x k (Some y) g n h = record {
 -- Units
 
 at_between_kept : (text : TextSoFar written) (k : Kind) → TextFits text → Keeps (between text) k (at_between written text k)
-at_between_kept text (kind.Lead lead.Program line) h = record { shaped = h; grown = λ more. refl }
-at_between_kept text (kind.Lead lead.Function line) h = record { shaped = h; grown = λ more. refl }
-at_between_kept text (kind.Fixed fixed.End) h = record { shaped = h; grown = λ more. refl }
-at_between_kept text other h = tt
+at_between_kept text (kind.Lead lead.Program line) h = assumption
+at_between_kept text (kind.Fixed fixed.End) h = assumption
+at_between_kept text other h = assumption
 
 formals_fit : (l : Locals) → Declared formals l → FormalsFit l
 formals_fit no_local h = tt
@@ -122,7 +109,7 @@ entered begun f l at k (Some to) h z = record {
 at_inside_kept : (begun : BegunUnit written) (f l : Section Locals) (at : BodyState written) (k : Kind) → Shaped (inside begun f l at) → Keeps (inside begun f l at) k (at_inside written begun f l at k)
 at_inside_kept begun f l at (kind.Fixed fixed.EndProgram) h = leave_kept true begun f l at.depth at.stack at.place h
 at_inside_kept begun f l at (kind.Fixed fixed.EndFunction) h = leave_kept false begun f l at.depth at.stack at.place h
-at_inside_kept begun f l at k h = entered begun f l at k (step_at written at.depth at.stack at.place k) h (step_kept at.depth at.stack at.place k h.3)
+at_inside_kept begun f l at k h = entered begun f l at k (step_at written at.depth at.stack at.place k) h (step_kept k at.place at.depth at.stack h.3)
 
 at_formals_done_kept : (begun : BegunUnit written) (f : Section Locals) (k : Kind) → BegunUnitFits begun → HeadFits begun.head.program f → Keeps (formals_done begun f) k (at_formals_done written begun f k)
 at_formals_done_kept begun f (kind.Fixed fixed.VarTemp) t h = record { shaped = (t, h, tt); grown = λ more. refl }
@@ -132,28 +119,22 @@ in_out_kept : (begun : BegunUnit written) (c : Bool) → begun.head.program ≡ 
 in_out_kept begun true e t = tt
 in_out_kept begun false e t = record { shaped = (t, e, tt); grown = λ more. refl }
 
-pub kept : (q : State written) (k : Kind) → Shaped q → Keeps q k (next written q k)
-kept start (kind.Fixed fixed.VarGlobal) h = record { shaped = tt; grown = λ more. refl }
-kept start other h = at_between_kept (before_units written absent) other (tt, tt)
-kept (globals done) (kind.Variable (var.Name name) line) g = if_to (λ more. past (globals done) (kind.Variable (var.Name name) line ∷ more)) (may_name_global name) _ (λ c. record { shaped = (g, c, tt); grown = λ more. refl })
-kept (globals done) (kind.Fixed fixed.EndVar) g = record { shaped = (g, tt); grown = λ more. refl }
-kept (row done name line (at_end v ty)) (kind.Fixed fixed.Semicolon) h = record { shaped = (h.0, h.2.0, h.2.1); grown = λ more. refl }
-kept (row done name line (at_becomes v last)) (kind.Fixed fixed.Semicolon) h = record { shaped = (h.0, h.2.0, h.2.1); grown = λ more. refl }
-kept (row done name line x) (kind.Fixed fixed.Semicolon) h = tt
-kept (row done name line x) k h = rowed done name line x k (row_step written name x k) h.0 h.1 (row_kept name x k h.2)
-kept (between text) k h = at_between_kept text k h
-kept (heading text program line) (kind.Variable (var.Name name) place) h =
-    if_to (λ more. past (heading text program line) (kind.Variable (var.Name name) place ∷ more)) (may_name_unit name) _ (λ c. record { shaped = (h, c); grown = λ more. refl })
-kept (opened begun) (kind.Fixed fixed.VarInOut) t = in_out_kept begun begun.head.program refl t
-kept (opened begun) other t = at_formals_done_kept begun absent other t tt
-kept (formals_done begun f) k h = at_formals_done_kept begun f k h.0 h.1
-kept (section begun which done) (kind.Variable (var.Name name) line) h =
-    if_to (λ more. past (section begun which done) (kind.Variable (var.Name name) line ∷ more)) (may_name written which name) _ (λ c. record { shaped = (h.0, h.1, h.2, c, tt); grown = λ more. refl })
-kept (section begun formals done) (kind.Fixed fixed.EndVar) h = record { shaped = (h.0, (h.1, formals_fit done h.2)); grown = λ more. refl }
-kept (section begun (temps f) done) (kind.Fixed fixed.EndVar) h = record { shaped = (h.0, h.1, locals_fit f done h.2, (tt, tt)); grown = λ more. refl }
-kept (typing begun which done name line local_colon) (kind.Fixed fixed.Colon) h = record { shaped = (h.0, h.1, h.2, h.3, tt); grown = λ more. refl }
-kept (typing begun which done name line local_type) (kind.Fixed (fixed.Type ty)) h =
-    if_to (λ more. past (typing begun which done name line local_type) (kind.Fixed (fixed.Type ty) ∷ more)) (may_type written which ty) _ (λ c. record { shaped = (h.0, h.1, h.2, h.3, c); grown = λ more. refl })
-kept (typing begun which done name line (local_end ty)) (kind.Fixed fixed.Semicolon) h = record { shaped = (h.0, h.1, (h.2, h.3, h.4)); grown = λ more. refl }
-kept (inside begun f l at) k h = at_inside_kept begun f l at k h
-kept q other h = tt
+pub kept : (k : Kind) (q : State written) → Shaped q → Keeps q k (next written q k)
+kept (kind.Fixed fixed.VarGlobal) start h = assumption
+kept k start h = at_between_kept (before_units written absent) k (tt, tt)
+kept (kind.Variable (var.Name name) line) (globals done) g = if_to (may_name_global name) (λ c. assumption)
+kept (kind.Fixed fixed.Semicolon) (row done name line (at_end v ty)) h = assumption
+kept (kind.Fixed fixed.Semicolon) (row done name line x) h = assumption
+kept k (row done name line x) h = rowed done name line x k (row_step written name x k) h.0 h.1 (row_kept k name x h.2)
+kept k (between text) h = at_between_kept text k h
+kept (kind.Variable (var.Name name) place) (heading text program line) h = if_to (may_name_unit name) (λ c. assumption)
+kept (kind.Fixed fixed.VarInOut) (opened begun) t = in_out_kept begun begun.head.program refl t
+kept k (opened begun) t = at_formals_done_kept begun absent k t tt
+kept k (formals_done begun f) h = at_formals_done_kept begun f k h.0 h.1
+kept (kind.Variable (var.Name name) line) (section begun which done) h = if_to (may_name written which name) (λ c. assumption)
+kept (kind.Fixed fixed.EndVar) (section begun formals done) h = record { shaped = (h.0, (h.1, formals_fit done h.2)); grown = λ more. refl }
+kept (kind.Fixed fixed.EndVar) (section begun (temps f) done) h = record { shaped = (h.0, h.1, locals_fit f done h.2, (tt, tt)); grown = λ more. refl }
+kept (kind.Fixed (fixed.Type ty)) (typing begun which done name line local_type) h = if_to (may_type written which ty) (λ c. assumption)
+kept k (typing begun which done name line local_colon) h = assumption
+kept k (inside begun f l at) h = at_inside_kept begun f l at k h
+kept k q h = assumption
