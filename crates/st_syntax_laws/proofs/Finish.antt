@@ -6,14 +6,14 @@ use Rattle.memory_areas.specs.declared.place.AreaName.TheVariants.{Db}
 use Rattle.s7_base.specs.declared.word.Width.TheVariants as width
 use Rattle.st_syntax_laws.proofs.Drive.{DeclaredUnit, within_unit, run, go, Lets, close, comma, past_unary, past_left}
 use Rattle.st_syntax_laws.proofs.Precedence.{below_one, infix_some}
-use Rattle.st_syntax_laws.proofs.DriveSource.{with_unit, unit_left}
+use Rattle.st_syntax_laws.proofs.DriveSource.{unit_left}
 use Rattle.st_syntax_laws.proofs.Kept.{InStatements, InExpr, PlaceFits, Shaped}
-use Rattle.st_grammar.specs.Forms.{Form, literal, group, prefix, infix_of, apply, shift, select, Actuals, Labels, label, Items, no_unit, none, Statement, Statements, CaseArms, Globals, GlobalType, plain, Locals, Section, absent}
+use Rattle.st_grammar.specs.Forms.{Form, literal, group, prefix, infix_of, apply, shift, select, Actuals, Labels, label, Items, none, Statement, Statements, Globals, plain, Locals, Section, absent, present}
 use Rattle.st_grammar.specs.Grammar.{level, Binds, end_word}
 use Rattle.st_tree.specs.Form.{infix_level}
 use Rattle.st_tree.specs.Naming.{is_free, may_name_global, names_block}
 use Rattle.st_grammar.specs.inner.Machine.{written, BegunStatement, only, shifted, shifted_by, gate, first, second, to_var, to_area, area_value, test, selector, loop_test, choosing, otherwise, looping, selecting, otherwise_case, Frame, unary, left, bracket, argument, waiting, within, Part, target, write_open, first_formal, next_formal, becoming, giving, given, labelled, Place, statement, part, closing, operand, operator, opening, Row, at_word, at_place, at_colon, at_type, at_square, at_zero, at_dots, at_last, at_close, at_of, at_byte, at_becomes, at_open, at_item, at_count, at_value, at_value_end, at_comma, at_end, Typing, local_colon, local_type, local_end, TextSoFar, BegunUnit, SectionKind, formals, temps, State, start, globals, row, between, heading, opened, formals_done, section, typing, inside, over}
-use Rattle.st_grammar.specs.inner.Steps.{shallower, limit, body_start, passes}
+use Rattle.st_grammar.specs.inner.Steps.{shallower, limit, next, passes}
 use Rattle.st_grammar.specs.declared.kind.Fixed.TheVariants as fixed
 use Rattle.st_grammar.specs.declared.kind.Function.{Function}
 use Rattle.st_grammar.specs.declared.kind.Function.TheVariants as function
@@ -54,19 +54,22 @@ EndsIn u d s p w = Ends (within_unit u d s p) w
 by_tokens : {q r : State written} {w v : List ℕ} (front : List Kind) → ((ks : List Kind) → passes written q w (front ++ ks) ≡ passes written r v ks) → Ends r v → Ends q w
 by_tokens front step e = record { more = front ++ e.more; text = e.text; levels = e.levels; reaches = step e.more ∙ e.reaches }
 
-between_ends : {text : TextSoFar written} {w : List ℕ} → Ends (between text) w
-between_ends {text = text} {w = w} = record { more = kind.Fixed fixed.End ∷ []; text = text; levels = 0 ∷ w; reaches = refl }
+-- tokens that lead there at once
+ends_by : {q : State written} {w levels : List ℕ} {text : TextSoFar written} (more : List Kind) → passes written q w more ≡ Some (record { state = over text; levels = levels }) → Ends q w
+ends_by {levels = levels} {text = text} more e = record { more = more; text = text; levels = levels; reaches = e }
+
+-- the end word of a unit in whose statements nothing is open, and the end of the text
+abbrev unit_end : Bool → List Kind
+unit_end program = end_word program ∷ kind.Fixed fixed.End ∷ []
 
 statement_ends : (u : DeclaredUnit) (d : ℕ) (s : List (Frame written)) (body : Statements) (w : List ℕ) → InStatements s → EndsIn u d s (statement body) w
-statement_ends u d [] body w h =
-    by_tokens (end_word u.begun.head.program ∷ []) (λ ks. unit_left u.begun.text u.begun.head u.formals u.locals d body u.begun.head.program ks w refl) between_ends
-statement_ends u d (within b (choosing arms e) ∷ s) body w h = by_tokens (kind.Fixed fixed.EndIf ∷ semicolon ∷ []) (λ ks. refl) (statement_ends u (shallower d) s _ _ h.2)
-statement_ends u d (within b (otherwise arms) ∷ s) body w h = by_tokens (kind.Fixed fixed.EndIf ∷ semicolon ∷ []) (λ ks. refl) (statement_ends u (shallower d) s _ _ h.2)
+statement_ends u d [] body w h = ends_by (unit_end u.begun.head.program) (unit_left u.begun.text u.begun.head u.formals u.locals d body u.begun.head.program (kind.Fixed fixed.End ∷ []) w refl)
 statement_ends u d (within b (looping e) ∷ s) body w h = by_tokens (kind.Fixed fixed.EndWhile ∷ semicolon ∷ []) (λ ks. refl) (statement_ends u (shallower d) s _ _ h.2)
 statement_ends u d (within b (selecting e arms labels) ∷ s) body w h =
     by_tokens (kind.Fixed fixed.EndCase ∷ semicolon ∷ []) (λ ks. refl) (statement_ends u (shallower d) s _ _ h.2)
 statement_ends u d (within b (otherwise_case e arms) ∷ s) body w h =
     by_tokens (kind.Fixed fixed.EndCase ∷ semicolon ∷ []) (λ ks. refl) (statement_ends u (shallower d) s _ _ h.2)
+statement_ends u d (within b y ∷ s) body w h = by_tokens (kind.Fixed fixed.EndIf ∷ semicolon ∷ []) (λ ks. refl) (statement_ends u (shallower d) s _ _ h.2)
 statement_ends u d s body w h = absurd h
 
 closing_ends : {u : DeclaredUnit} {d : ℕ} {s : List (Frame written)} {before : Statements} {x : Statement} {w : List ℕ} → InStatements s → EndsIn u d s (closing before x) w
@@ -95,30 +98,27 @@ operator_by : {u : DeclaredUnit} {d : ℕ} {s : List (Frame written)} {f : Form}
     → ((ks : List Kind) → run u d s (operator f) w (token ∷ (front ++ ks)) ≡ passes written r v ks) → Ends r v → OperatorEnds u d s f w
 operator_by token front c step e = record { token = token; rest = front ++ e.more; text = e.text; levels = e.levels; closes = c; reaches = step e.more ∙ e.reaches }
 
+-- an operator with its operand ends as the expression that it makes
+operator_as : {u : DeclaredUnit} {d e : ℕ} {s r : List (Frame written)} {f g : Form} {w : List ℕ}
+    → ((t : Kind) → Closes t → next written (within_unit u d s (operator f)) t ≡ next written (within_unit u e r (operator g)) t) → OperatorEnds u e r g w → OperatorEnds u d s f w
+operator_as {w = w} same e = record {
+  token = e.token;
+  rest = e.rest;
+  text = e.text;
+  levels = e.levels;
+  closes = e.closes;
+  reaches = ap (λ (o : Option (State written)). go w e.rest o) (same e.token e.closes) ∙ e.reaches;
+}
+
 as_ends : {u : DeclaredUnit} {d : ℕ} {s : List (Frame written)} {f : Form} {w : List ℕ} → OperatorEnds u d s f w → EndsIn u d s (operator f) w
 as_ends e = record { more = e.token ∷ e.rest; text = e.text; levels = e.levels; reaches = e.reaches }
 
 operator_ends : (u : DeclaredUnit) (d : ℕ) (s : List (Frame written)) (f : Form) (w : List ℕ) → InExpr s → Binds f → level f ≤ limit written s → OperatorEnds u d s f w
 operator_ends u d (unary op ∷ s) f w h b fits =
-    let e = operator_ends u (shallower d) s (prefix op f) w h.1 (fits, b) h.0 in
-    record {
-      token = e.token;
-      rest = e.rest;
-      text = e.text;
-      levels = e.levels;
-      closes = e.closes;
-      reaches = ap (λ (o : Option (State written)). go w e.rest o) (past_unary u d op s f e.token) ∙ e.reaches;
-    }
+    operator_as (λ t c. past_unary u d op s f t) (operator_ends u (shallower d) s (prefix op f) w h.1 (fits, b) h.0)
 operator_ends u d (left op g ∷ s) f w h b fits =
-    let e = operator_ends u d s (infix_of op g f) w h.3 (h.0, below_one (level f) (infix_level op) (infix_some op) fits, h.1, b) h.2 in
-    record {
-      token = e.token;
-      rest = e.rest;
-      text = e.text;
-      levels = e.levels;
-      closes = e.closes;
-      reaches = ap (λ (o : Option (State written)). go w e.rest o) (past_left u d op g s f e.token (lets (infix_level op) e.token e.closes)) ∙ e.reaches;
-    }
+    operator_as (λ t c. past_left u d op g s f t (lets (infix_level op) t c))
+    (operator_ends u d s (infix_of op g f) w h.3 (h.0, below_one (level f) (infix_level op) (infix_some op) fits, h.1, b) h.2)
 operator_ends u d (bracket ∷ s) f w h b fits = operator_by close [] tt (λ ks. refl) (as_ends (operator_ends u (shallower d) s (group f) _ h b (omega arith)))
 operator_ends u d (argument (only op) ∷ s) f w h b fits =
     operator_by close [] tt (λ ks. refl) (as_ends (operator_ends u (shallower d) s (apply op f) _ h.1 b (omega arith)))
@@ -150,28 +150,23 @@ opening_ends u d s f w h = by_tokens (kind.Fixed fixed.Open ∷ []) (λ ks. refl
 
 -- Parts of statements
 
-given_ends : {u : DeclaredUnit} {d : ℕ} {s : List (Frame written)} {b : BegunStatement written} {name : List ℕ} {actuals : Actuals} {w : List ℕ} → InStatements s → EndsIn u d s (part b (given name actuals)) w
-given_ends h = by_tokens (close ∷ []) (λ ks. refl) (closing_ends h)
+abbrev some_name : BegunStatement written → Kind
+some_name b = kind.Variable (var.Name []) b.line
 
-giving_ends : {u : DeclaredUnit} {d : ℕ} {s : List (Frame written)} {b : BegunStatement written} {name : List ℕ} {actuals : Actuals} {formal : List ℕ × Line} {w : List ℕ} → InStatements s → EndsIn u d s (part b (giving name actuals formal)) w
-giving_ends {b = b} h = by_tokens (kind.Variable (var.Name []) b.line ∷ []) (λ ks. refl) (given_ends h)
-
-becoming_ends : {u : DeclaredUnit} {d : ℕ} {s : List (Frame written)} {b : BegunStatement written} {name : List ℕ} {actuals : Actuals} {formal : List ℕ × Line} {w : List ℕ} → InStatements s → EndsIn u d s (part b (becoming name actuals formal)) w
-becoming_ends h = by_tokens (kind.Fixed fixed.Becomes ∷ []) (λ ks. refl) (giving_ends h)
-
-labelled_ends : {u : DeclaredUnit} {d : ℕ} {s : List (Frame written)} {b : BegunStatement written} {e : Form} {arms : CaseArms} {labels : Labels} {w : List ℕ} → InStatements s → EndsIn u d s (part b (labelled e arms labels)) w
-labelled_ends h = by_tokens (kind.Fixed fixed.Colon ∷ kind.Fixed fixed.EndCase ∷ []) (λ ks. refl) (closing_ends h)
+abbrev labels_end : List Kind
+labels_end = kind.Fixed fixed.Colon ∷ kind.Fixed fixed.EndCase ∷ []
 
 part_ends : (u : DeclaredUnit) (d : ℕ) (s : List (Frame written)) (b : BegunStatement written) (x : Part written) (w : List ℕ) → PlaceFits s (part b x) → EndsIn u d s (part b x) w
 part_ends u d s b (target v) w h = by_tokens (kind.Fixed fixed.Becomes ∷ []) (λ ks. refl) (operand_ends (h.1, tt, h.0))
 part_ends u d s b (write_open a) w h = by_tokens (kind.Fixed fixed.Open ∷ []) (λ ks. refl) (operand_ends (h.1, tt, h.0))
 part_ends u d s b (first_formal name) w h = by_tokens (close ∷ []) (λ ks. refl) (closing_ends h.0)
-part_ends u d s b (next_formal name actuals) w h = by_tokens (kind.Variable (var.Name []) b.line ∷ []) (λ ks. refl) (becoming_ends h.0)
-part_ends u d s b (becoming name actuals formal) w h = becoming_ends h.0
-part_ends u d s b (giving name actuals formal) w h = giving_ends h.0
-part_ends u d s b (given name actuals) w h = given_ends h.0
-part_ends u d s b (labelled e arms labels) w h = labelled_ends h.0
-part_ends u d s b x w h = by_tokens (zero_kind ∷ []) (λ ks. refl) (labelled_ends h.0)
+part_ends u d s b (next_formal name actuals) w h =
+    by_tokens (some_name b ∷ kind.Fixed fixed.Becomes ∷ some_name b ∷ close ∷ []) (λ ks. refl) (closing_ends h.0)
+part_ends u d s b (becoming name actuals formal) w h = by_tokens (kind.Fixed fixed.Becomes ∷ some_name b ∷ close ∷ []) (λ ks. refl) (closing_ends h.0)
+part_ends u d s b (giving name actuals formal) w h = by_tokens (some_name b ∷ close ∷ []) (λ ks. refl) (closing_ends h.0)
+part_ends u d s b (given name actuals) w h = by_tokens (close ∷ []) (λ ks. refl) (closing_ends h.0)
+part_ends u d s b (labelled e arms labels) w h = by_tokens labels_end (λ ks. refl) (closing_ends h.0)
+part_ends u d s b x w h = by_tokens (zero_kind ∷ labels_end) (λ ks. refl) (closing_ends h.0)
 
 place_ends : (u : DeclaredUnit) (d : ℕ) (s : List (Frame written)) (p : Place written) (w : List ℕ) → PlaceFits s p → EndsIn u d s p w
 place_ends u d s (statement body) w h = statement_ends u d s body w h.0
@@ -183,124 +178,92 @@ place_ends u d s (opening f) w h = opening_ends u d s f w h
 
 -- Texts
 
-globals_end : {done : Globals} {w : List ℕ} → Ends (globals done) w
-globals_end = by_tokens (kind.Fixed fixed.EndVar ∷ []) (λ ks. refl) between_ends
+-- the end of the globals, that of one with bytes, and those of an array
+abbrev globals_end : List Kind
+globals_end = kind.Fixed fixed.EndVar ∷ kind.Fixed fixed.End ∷ []
 
-semicolon_ends : {done : Globals} {name : List ℕ} {line : Line} {v : RawVar × Line} {ty : GlobalType} {w : List ℕ} → Ends (row done name line (at_end v ty)) w
-semicolon_ends = by_tokens (semicolon ∷ []) (λ ks. refl) globals_end
+abbrev row_end : List Kind
+row_end = semicolon ∷ globals_end
 
-becomes_ends : {done : Globals} {name : List ℕ} {line : Line} {v : RawVar × Line} {last : ℕ} {w : List ℕ} → Ends (row done name line (at_becomes v last)) w
-becomes_ends = by_tokens (semicolon ∷ []) (λ ks. refl) globals_end
+abbrev items_end : List Kind
+items_end = kind.Fixed fixed.CloseSquare ∷ row_end
 
-close_row_ends : {done : Globals} {name : List ℕ} {line : Line} {v : RawVar × Line} {last : ℕ} {w : List ℕ} → Ends (row done name line (at_close v last)) w
-close_row_ends =
-    by_tokens (kind.Fixed fixed.CloseSquare ∷ kind.Fixed fixed.Of ∷ kind.Fixed (fixed.Type type.Byte) ∷ []) (λ ks. refl) becomes_ends
+abbrev bytes_end : List Kind
+bytes_end = kind.Fixed fixed.Of ∷ kind.Fixed (fixed.Type type.Byte) ∷ row_end
 
-square_ends : {done : Globals} {name : List ℕ} {line : Line} {v : RawVar × Line} {w : List ℕ} → Ends (row done name line (at_square v)) w
-square_ends =
-    by_tokens (kind.Fixed fixed.OpenSquare ∷ kind.Literal (lit.Decimal 0) ∷ kind.Fixed fixed.Dots ∷ kind.Literal (lit.Decimal 0) ∷ []) (λ ks. refl) close_row_ends
+abbrev array_end : List Kind
+array_end = kind.Literal (lit.Decimal 0) ∷ kind.Fixed fixed.CloseSquare ∷ bytes_end
 
-comma_ends : {done : Globals} {name : List ℕ} {line : Line} {v : RawVar × Line} {last : ℕ} {items : Items} {w : List ℕ} → Ends (row done name line (at_comma v last items)) w
-comma_ends =
-    by_tokens (kind.Fixed fixed.CloseSquare ∷ []) (λ ks. refl) semicolon_ends
+abbrev square_end : List Kind
+square_end = kind.Fixed fixed.OpenSquare ∷ kind.Literal (lit.Decimal 0) ∷ kind.Fixed fixed.Dots ∷ array_end
 
 -- the name is that of a data block, or free
 type_ends : (done : Globals) (name : List ℕ) (line : Line) (v : RawVar × Line) (w : List ℕ) (b f : Bool) → names_block name ≡ b → is_free name ≡ f → (b || f) ≡ true → Ends (row done name line (at_type v)) w
 type_ends done name line v w true f e g h =
-    by_tokens (kind.Fixed fixed.Array ∷ []) (λ ks. ap (λ (c : Bool). go w ks (option_map (λ (y : Row written). row done name line y) (if c then Some (at_square v) else None))) e) square_ends
+    ends_by (kind.Fixed fixed.Array ∷ square_end) (ap (λ (c : Bool). go w square_end (option_map (λ (y : Row written). row done name line y) (if c then Some (at_square v) else None))) e)
 type_ends done name line v w false true e g h =
-    by_tokens (kind.Fixed (fixed.Type type.Bool) ∷ []) (λ ks. ap (λ (c : Bool). go w ks (option_map (λ (y : Row written). row done name line y) (if c then Some (at_end v (plain type.Bool)) else None))) g) semicolon_ends
+    ends_by (kind.Fixed (fixed.Type type.Bool) ∷ row_end) (ap (λ (c : Bool). go w row_end (option_map (λ (y : Row written). row done name line y) (if c then Some (at_end v (plain type.Bool)) else None))) g)
 type_ends done name line v w false false e g h = absurd cc
-
-colon_ends : {done : Globals} {name : List ℕ} {line : Line} {v : RawVar × Line} {w : List ℕ} → may_name_global name ≡ true → Ends (row done name line (at_colon v)) w
-colon_ends {name = name} h = by_tokens (kind.Fixed fixed.Colon ∷ []) (λ ks. refl) (type_ends _ name _ _ _ (names_block name) (is_free name) refl refl h)
 
 abbrev some_place : RawVar
 some_place = var.Direct Db None width.Byte 0 0
 
-place_row_ends : {done : Globals} {name : List ℕ} {line : Line} {w : List ℕ} → may_name_global name ≡ true → Ends (row done name line at_place) w
-place_row_ends {line = line} h = by_tokens (kind.Variable some_place line ∷ []) (λ ks. refl) (colon_ends h)
-
 row_ends : (done : Globals) (name : List ℕ) (line : Line) (x : Row written) (w : List ℕ) → may_name_global name ≡ true → Ends (row done name line x) w
-row_ends done name line at_word w h = by_tokens (kind.Fixed fixed.At ∷ []) (λ ks. refl) (place_row_ends h)
-row_ends done name line at_place w h = place_row_ends h
-row_ends done name line (at_colon v) w h = colon_ends h
+row_ends done name line at_word w h =
+    by_tokens (kind.Fixed fixed.At ∷ kind.Variable some_place line ∷ kind.Fixed fixed.Colon ∷ []) (λ ks. refl) (type_ends done name line _ _ (names_block name) (is_free name) refl refl h)
+row_ends done name line at_place w h =
+    by_tokens (kind.Variable some_place line ∷ kind.Fixed fixed.Colon ∷ []) (λ ks. refl) (type_ends done name line _ _ (names_block name) (is_free name) refl refl h)
+row_ends done name line (at_colon v) w h = by_tokens (kind.Fixed fixed.Colon ∷ []) (λ ks. refl) (type_ends done name line v _ (names_block name) (is_free name) refl refl h)
 row_ends done name line (at_type v) w h = type_ends done name line v w (names_block name) (is_free name) refl refl h
-row_ends done name line (at_square v) w h = square_ends
-row_ends done name line (at_zero v) w h = by_tokens (kind.Literal (lit.Decimal 0) ∷ kind.Fixed fixed.Dots ∷ kind.Literal (lit.Decimal 0) ∷ []) (λ ks. refl) close_row_ends
-row_ends done name line (at_dots v) w h = by_tokens (kind.Fixed fixed.Dots ∷ kind.Literal (lit.Decimal 0) ∷ []) (λ ks. refl) close_row_ends
-row_ends done name line (at_last v) w h = by_tokens (kind.Literal (lit.Decimal 0) ∷ []) (λ ks. refl) close_row_ends
-row_ends done name line (at_close v last) w h = close_row_ends
-row_ends done name line (at_of v last) w h = by_tokens (kind.Fixed fixed.Of ∷ kind.Fixed (fixed.Type type.Byte) ∷ []) (λ ks. refl) becomes_ends
-row_ends done name line (at_byte v last) w h = by_tokens (kind.Fixed (fixed.Type type.Byte) ∷ []) (λ ks. refl) becomes_ends
-row_ends done name line (at_becomes v last) w h = becomes_ends
-row_ends done name line (at_open v last) w h = by_tokens (kind.Fixed fixed.OpenSquare ∷ kind.Literal (lit.Byte 0) ∷ []) (λ ks. refl) comma_ends
-row_ends done name line (at_item v last items) w h = by_tokens (kind.Literal (lit.Byte 0) ∷ []) (λ ks. refl) comma_ends
-row_ends done name line (at_count v last items count) w h = by_tokens (kind.Fixed fixed.Open ∷ kind.Literal (lit.Byte 0) ∷ close ∷ []) (λ ks. refl) comma_ends
-row_ends done name line (at_value v last items count) w h = by_tokens (kind.Literal (lit.Byte 0) ∷ close ∷ []) (λ ks. refl) comma_ends
-row_ends done name line (at_value_end v last items count b) w h = by_tokens (close ∷ []) (λ ks. refl) comma_ends
-row_ends done name line (at_comma v last items) w h = comma_ends
-row_ends done name line (at_end v ty) w h = semicolon_ends
+row_ends done name line (at_square v) w h = ends_by square_end refl
+row_ends done name line (at_zero v) w h = ends_by (kind.Literal (lit.Decimal 0) ∷ kind.Fixed fixed.Dots ∷ array_end) refl
+row_ends done name line (at_dots v) w h = ends_by (kind.Fixed fixed.Dots ∷ array_end) refl
+row_ends done name line (at_last v) w h = ends_by array_end refl
+row_ends done name line (at_close v last) w h = ends_by (kind.Fixed fixed.CloseSquare ∷ bytes_end) refl
+row_ends done name line (at_of v last) w h = ends_by bytes_end refl
+row_ends done name line (at_byte v last) w h = ends_by (kind.Fixed (fixed.Type type.Byte) ∷ row_end) refl
+row_ends done name line (at_open v last) w h = ends_by (kind.Fixed fixed.OpenSquare ∷ kind.Literal (lit.Byte 0) ∷ items_end) refl
+row_ends done name line (at_item v last items) w h = ends_by (kind.Literal (lit.Byte 0) ∷ items_end) refl
+row_ends done name line (at_count v last items count) w h = ends_by (kind.Fixed fixed.Open ∷ kind.Literal (lit.Byte 0) ∷ close ∷ items_end) refl
+row_ends done name line (at_value v last items count) w h = ends_by (kind.Literal (lit.Byte 0) ∷ close ∷ items_end) refl
+row_ends done name line (at_value_end v last items count b) w h = ends_by (close ∷ items_end) refl
+row_ends done name line (at_comma v last items) w h = ends_by items_end refl
+row_ends done name line x w h = ends_by row_end refl
 
 abbrev declared_unit : BegunUnit written → Section Locals → Section Locals → DeclaredUnit
 declared_unit begun f l = record { begun = begun; formals = f; locals = l }
 
-inside_ends : {begun : BegunUnit written} {f l : Section Locals} {w : List ℕ} →
-    Ends (inside begun f l (body_start written)) w
-inside_ends {begun = begun} {f = f} {l = l} {w = w} = statement_ends (declared_unit begun f l) 0 [] none w tt
+-- the end word of a unit, directly after its head or its formals
+bare_end : (begun : BegunUnit written) (f : Section Locals) (p : Bool) (w : List ℕ) → begun.head.program ≡ p → Ends (formals_done begun f) w
+bare_end begun f true w e = ends_by (unit_end true) (unit_left begun.text begun.head f absent 0 none true (kind.Fixed fixed.End ∷ []) w e)
+bare_end begun f false w e = ends_by (unit_end false) (unit_left begun.text begun.head f absent 0 none false (kind.Fixed fixed.End ∷ []) w e)
 
--- the end word of a unit, directly after its head
-bare_end : (begun : BegunUnit written) (f : Section Locals) (p : Bool) (w : List ℕ) (ks : List Kind)
-    → begun.head.program ≡ p
-    → passes written (formals_done begun f) w (end_word p ∷ ks) ≡ passes written (between (with_unit begun.text begun.head f absent none)) (0 ∷ w) ks
-bare_end begun f true w ks e = unit_left begun.text begun.head f absent 0 none true ks w e
-bare_end begun f false w ks e = unit_left begun.text begun.head f absent 0 none false ks w e
-
-done_ends : {begun : BegunUnit written} {f : Section Locals} {w : List ℕ} → Ends (formals_done begun f) w
-done_ends {begun = begun} {f = f} {w = w} = by_tokens (end_word begun.head.program ∷ []) (λ ks. bare_end begun f begun.head.program w ks refl) between_ends
-
-opened_end : (begun : BegunUnit written) (p : Bool) (w : List ℕ) (ks : List Kind) → passes written (opened begun) w (end_word p ∷ ks) ≡ passes written (formals_done begun absent) w (end_word p ∷ ks)
-opened_end begun true w ks = refl
-opened_end begun false w ks = refl
-
-opened_ends : {begun : BegunUnit written} {w : List ℕ} → Ends (opened begun) w
-opened_ends {begun = begun} {w = w} =
-    by_tokens (end_word begun.head.program ∷ []) (λ ks. opened_end begun begun.head.program w ks ∙ bare_end begun absent begun.head.program w ks refl) between_ends
+opened_end : (begun : BegunUnit written) (p : Bool) (w : List ℕ) → begun.head.program ≡ p → Ends (opened begun) w
+opened_end begun true w e = ends_by (unit_end true) (unit_left begun.text begun.head absent absent 0 none true (kind.Fixed fixed.End ∷ []) w e)
+opened_end begun false w e = ends_by (unit_end false) (unit_left begun.text begun.head absent absent 0 none false (kind.Fixed fixed.End ∷ []) w e)
 
 section_ends : (begun : BegunUnit written) (which : SectionKind written) (done : Locals) (w : List ℕ) → Ends (section begun which done) w
-section_ends begun formals done w = by_tokens (kind.Fixed fixed.EndVar ∷ []) (λ ks. refl) done_ends
-section_ends begun (temps f) done w = by_tokens (kind.Fixed fixed.EndVar ∷ []) (λ ks. refl) inside_ends
-
-end_typing : {begun : BegunUnit written} {which : SectionKind written} {done : Locals} {name : List ℕ} {line : Line} {ty : StType} {w : List ℕ} → Ends (typing begun which done name line (local_end ty)) w
-end_typing =
-    by_tokens (semicolon ∷ []) (λ ks. refl) (section_ends _ _ _ _)
-
-type_typing : (begun : BegunUnit written) (which : SectionKind written) (done : Locals) (name : List ℕ) (line : Line) (w : List ℕ) → Ends (typing begun which done name line local_type) w
-type_typing begun formals done name line w = by_tokens (kind.Fixed (fixed.Type type.Bool) ∷ []) (λ ks. refl) end_typing
-type_typing begun (temps f) done name line w =
-    by_tokens (kind.Fixed (fixed.Type type.Bool) ∷ []) (λ ks. refl) end_typing
+section_ends begun formals done w = by_tokens (kind.Fixed fixed.EndVar ∷ []) (λ ks. refl) (bare_end begun _ begun.head.program _ refl)
+section_ends begun (temps f) done w = by_tokens (kind.Fixed fixed.EndVar ∷ []) (λ ks. refl) (statement_ends (declared_unit begun f (present done)) 0 [] none _ tt)
 
 typing_ends : (begun : BegunUnit written) (which : SectionKind written) (done : Locals) (name : List ℕ) (line : Line) (x : Typing) (w : List ℕ) → Ends (typing begun which done name line x) w
-typing_ends begun which done name line local_colon w = by_tokens (kind.Fixed fixed.Colon ∷ []) (λ ks. refl) (type_typing begun which done name line (0 ∷ w))
-typing_ends begun which done name line local_type w = type_typing begun which done name line w
-typing_ends begun which done name line (local_end ty) w = end_typing
-
-heading_ends : (text : TextSoFar written) (program : Bool) (line : Line) (w : List ℕ) →
-    Ends (heading text program line) w
-heading_ends text program line w = by_tokens (kind.Variable (var.Name (codes "OB1")) line ∷ []) (λ ks. refl) opened_ends
-
-start_ends : (w : List ℕ) → Ends start w
-start_ends w = record { more = kind.Fixed fixed.End ∷ []; text = record { globals = absent; units = no_unit }; levels = 0 ∷ w; reaches = refl }
+typing_ends begun formals done name line local_colon w =
+    by_tokens (kind.Fixed fixed.Colon ∷ kind.Fixed (fixed.Type type.Bool) ∷ semicolon ∷ []) (λ ks. refl) (section_ends begun formals _ _)
+typing_ends begun (temps f) done name line local_colon w =
+    by_tokens (kind.Fixed fixed.Colon ∷ kind.Fixed (fixed.Type type.Bool) ∷ semicolon ∷ []) (λ ks. refl) (section_ends begun (temps f) _ _)
+typing_ends begun formals done name line local_type w = by_tokens (kind.Fixed (fixed.Type type.Bool) ∷ semicolon ∷ []) (λ ks. refl) (section_ends begun formals _ _)
+typing_ends begun (temps f) done name line local_type w = by_tokens (kind.Fixed (fixed.Type type.Bool) ∷ semicolon ∷ []) (λ ks. refl) (section_ends begun (temps f) _ _)
+typing_ends begun which done name line (local_end ty) w = by_tokens (semicolon ∷ []) (λ ks. refl) (section_ends begun which _ _)
 
 pub finishes : (q : State written) (w : List ℕ) → Shaped q → Ends q w
-finishes start w h = start_ends w
-finishes (globals done) w h = globals_end
+finishes start w h = ends_by (kind.Fixed fixed.End ∷ []) refl
+finishes (globals done) w h = ends_by globals_end refl
 finishes (row done name line x) w h = row_ends done name line x w h.1
-finishes (between text) w h = between_ends
-finishes (heading text program line) w h = heading_ends text program line w
-finishes (opened begun) w h = opened_ends
-finishes (formals_done begun f) w h = done_ends
+finishes (between text) w h = ends_by (kind.Fixed fixed.End ∷ []) refl
+finishes (heading text program line) w h = by_tokens (kind.Variable (var.Name (codes "OB1")) line ∷ []) (λ ks. refl) (opened_end _ program _ refl)
+finishes (opened begun) w h = opened_end begun begun.head.program w refl
+finishes (formals_done begun f) w h = bare_end begun f begun.head.program w refl
 finishes (section begun which done) w h = section_ends begun which done w
 finishes (typing begun which done name line x) w h = typing_ends begun which done name line x w
 finishes (inside begun f l at) w h = place_ends (declared_unit begun f l) at.depth at.stack at.place w h.3
-finishes (over text) w h = record { more = []; text = text; levels = w; reaches = refl }
+finishes (over text) w h = ends_by [] refl
