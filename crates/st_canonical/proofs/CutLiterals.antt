@@ -1,5 +1,5 @@
 -- The literals and variables of a canonical text, each before what is read after it.
-use Rattle.std.proofs.Common.{◌≡◌, ℕ, suc, zero, ◌+◌, ◌-◌, ◌/◌, ◌%◌, ◌^◌, ◌<◌, ◌≤◌, Bool, true, false, not, ◌&&◌, ◌==◌, ◌⊎◌, inl, inr, List, [], ◌∷◌, ◌++◌, length, drop, Option, Some, None, refl, sym, ap, subst, ◌∙◌, arith}
+use Rattle.std.proofs.Common.{◌≡◌, ℕ, suc, zero, ◌+◌, ◌-◌, ◌/◌, ◌%◌, ◌^◌, ◌<◌, ◌≤◌, Bool, true, false, not, ◌&&◌, ◌==◌, ◌⊎◌, inl, inr, List, [], ◌∷◌, ◌++◌, length, drop, Option, Some, None, refl, ap, subst, ◌∙◌, arith}
 use Rattle.std.specs.Prelude.{ℤ, pos, negsuc, neg_ℤ, unsigned_abs, int_lt, nat_lt, nat_le, min, if◌then◌else◌, codes, decimal}
 use Rattle.std.proofs.lemmas.Bool.Decides.{nat_tests}
 use Rattle.std.proofs.lemmas.Fmt.{decimal_by_steps}
@@ -16,7 +16,7 @@ use Rattle.st_lexer.proofs.Words.{and_both, if_true, if_false}
 use Rattle.st_lexer.specs.Literals.{base_at, begins_with_digit, greatest, is_signed, literal_at}
 use Rattle.st_lexer.specs.Spelled.{ends_word, has_value, is_bit_of, is_block_of, is_byte, is_decimal}
 use Rattle.st_lexer.specs.SpellingLaws.{IsLiteral, place_in}
-use Rattle.st_lexer.specs.StTokens.{is_great, token}
+use Rattle.st_lexer.specs.StTokens.{is_great}
 use Rattle.st_lexer.specs.declared.literal.Literal.{Literal as Found}
 use Rattle.st_lexer.specs.declared.number.Base.{Base}
 use Rattle.st_lexer.specs.declared.number.Base.TheVariants as base
@@ -143,28 +143,26 @@ byte_read b h =
       small = ap (λ (o : Option Found). is_great sort.Literal o) is.found ∙ ap not range;
     }
 
-pub reads_decimal : (n : ℕ) (more : List ℕ) (line : ℕ) (ks : List Kind) → ends_word more ≡ true → ReadsOn line more ks
+pub reads_decimal : {line : ℕ} {more : List ℕ} {ks : List Kind} (n : ℕ) → ends_word more ≡ true → ReadsOn line more ks
     → ReadsOn line (decimal n ++ more) (kind.Literal (lit.Decimal n) ∷ ks)
-reads_decimal n more line ks ends r = where_spelled (λ h.
-    let read : IsRead (decimal n) (kind.Literal (lit.Decimal n)) = decimal_read n h in
-    let small : n < 2 ^ 64 = omega (arith, below n 2147483647 h) in
-    reads_text sort.Literal (decimal n) more line (kind.Literal (lit.Decimal n)) ks (literals_stand.plain n h).is_token ends (decimal_no_line n small)
-    (read.is_kind (on line)) read.small r)
+reads_decimal {line} n ends r = where_spelled (λ h.
+    let read = decimal_read n h in
+    reads_text sort.Literal (decimal n) (literals_stand.plain n h).is_token ends (decimal_no_line n (omega (arith, below n 2147483647 h))) (read.is_kind (on line)) read.small r)
 
-pub reads_byte : (b : ℕ) (more : List ℕ) (line : ℕ) (ks : List Kind) → ends_word more ≡ true → ReadsOn line more ks
+pub reads_byte : {line : ℕ} {more : List ℕ} {ks : List Kind} (b : ℕ) → ends_word more ≡ true → ReadsOn line more ks
     → ReadsOn line (byte_text b ++ more) (kind.Literal (lit.Byte b) ∷ ks)
-reads_byte b more line ks ends r = where_spelled (λ h.
-    let read : IsRead (byte_text b) (kind.Literal (lit.Byte b)) = byte_read b h in
-    reads_text sort.Literal (byte_text b) more line (kind.Literal (lit.Byte b)) ks (literals_stand.byte b h).is_token ends
-    (no_line_both (codes "16#") (hexadecimal 2 b) refl (hexadecimal_no_line 2 b)) (read.is_kind (on line)) read.small r)
+reads_byte {line} b ends r = where_spelled (λ h.
+    let read = byte_read b h in
+    reads_text sort.Literal (byte_text b) (literals_stand.byte b h).is_token ends (no_line_both (codes "16#") (hexadecimal 2 b) refl (hexadecimal_no_line 2 b)) (read.is_kind
+    (on line)) read.small r)
 
--- a typed text, with what is known of its front
-reads_typed : (text : List ℕ) (ty : StType) (n : ℤ) (more : List ℕ) (line : ℕ) (ks : List Kind) → IsLiteral text ty n → has_value ty n ≡ true → base_at text ≡ base.Ten
-    → begins_with_digit base.Ten text ≡ false → has_no_line text ≡ true → ends_word more ≡ true → ReadsOn line more ks
-    → ReadsOn line (text ++ more) (kind.Literal (lit.Typed ty n) ∷ ks)
-reads_typed text ty n more line ks is h ten plain no_line ends r =
-    let read : IsRead text (kind.Literal (lit.Typed ty n)) = typed_read text ty n is h ten plain in
-    reads_text sort.Literal text more line (kind.Literal (lit.Typed ty n)) ks is.is_token ends no_line (read.is_kind (on line)) read.small r
+-- a typed text, with what is known of its front and of what stands behind that
+reads_typed : {line : ℕ} {more : List ℕ} {ks : List Kind} (front back : List ℕ) (ty : StType) (n : ℤ) → IsLiteral (front ++ back) ty n → has_value ty n ≡ true
+    → base_at (front ++ back) ≡ base.Ten → begins_with_digit base.Ten (front ++ back) ≡ false → has_no_line front ≡ true → has_no_line back ≡ true → ends_word more ≡ true
+    → ReadsOn line more ks → ReadsOn line ((front ++ back) ++ more) (kind.Literal (lit.Typed ty n) ∷ ks)
+reads_typed {line} front back ty n is h ten plain first last ends r =
+    let read = typed_read (front ++ back) ty n is h ten plain in
+    reads_text sort.Literal (front ++ back) is.is_token ends (no_line_both front back first last) (read.is_kind (on line)) read.small r
 
 integer_no_line : (n : ℤ) → unsigned_abs n < 2 ^ 64 → has_no_line (integer_text n) ≡ true
 integer_no_line n small = by (int_lt n (pos 0))
@@ -179,55 +177,49 @@ value_cases (pos (suc zero)) h = inr refl
 value_cases (pos (suc (suc m))) h = absurd (omega (arith, below (suc (suc m)) 1 (in_range type.Bool (int_lt (pos (suc (suc m))) (pos 0)) (suc (suc m)) h)))
 value_cases (negsuc m) h = absurd cc
 
-reads_truth : (n : ℤ) (more : List ℕ) (line : ℕ) (ks : List Kind) → (n ≡ pos 0) ⊎ (n ≡ pos 1) → ends_word more ≡ true → ReadsOn line more ks
+reads_truth : {line : ℕ} {more : List ℕ} {ks : List Kind} (n : ℤ) → (n ≡ pos 0) ⊎ (n ≡ pos 1) → ends_word more ≡ true → ReadsOn line more ks
     → ReadsOn line (literal_text type.Bool n ++ more) (kind.Literal (lit.Typed type.Bool n) ∷ ks)
 unfolding literal_text word_named word_text
-reads_truth n more line ks (inl e) ends r =
-    subst (λ (m : ℤ). ReadsOn line (literal_text type.Bool m ++ more) (kind.Literal (lit.Typed type.Bool m) ∷ ks)) (sym e)
-    (reads_keyword (codes "FALSE") more line (kind.Literal (lit.Typed type.Bool (pos 0))) ks refl ends refl r)
-reads_truth n more line ks (inr e) ends r =
-    subst (λ (m : ℤ). ReadsOn line (literal_text type.Bool m ++ more) (kind.Literal (lit.Typed type.Bool m) ∷ ks)) (sym e)
-    (reads_keyword (codes "TRUE") more line (kind.Literal (lit.Typed type.Bool (pos 1))) ks refl ends refl r)
+reads_truth n (inl e) ends r = rw e (reads_keyword (codes "FALSE") refl ends refl r)
+reads_truth n (inr e) ends r = rw e (reads_keyword (codes "TRUE") refl ends refl r)
 
 small_value : (ty : StType) (n : ℤ) → has_value ty n ≡ true → unsigned_abs n < 2 ^ 64
 small_value ty n h = within_64 ty (int_lt n (pos 0)) (unsigned_abs n) (in_range ty (int_lt n (pos 0)) (unsigned_abs n) h)
 
 -- a DINT from 0 on is plain
-reads_dint : (n : ℤ) (minus : Bool) (more : List ℕ) (line : ℕ) (ks : List Kind) → int_lt n (pos 0) ≡ minus
+reads_dint : {line : ℕ} {more : List ℕ} {ks : List Kind} (n : ℤ) (minus : Bool) → int_lt n (pos 0) ≡ minus
     → is_literal (if minus then lit.Typed type.Dint n else lit.Decimal (unsigned_abs n)) ≡ true → ends_word more ≡ true → ReadsOn line more ks
     → ReadsOn line ((if minus then codes "DINT#" ++ integer_text n else decimal (unsigned_abs n)) ++ more)
     (kind.Literal (if minus then lit.Typed type.Dint n else lit.Decimal (unsigned_abs n)) ∷ ks)
 unfolding literal_text
-reads_dint n true more line ks e h ends r =
+reads_dint n true e h ends r =
     let text : (if int_lt n (pos 0) then codes "DINT#" ++ integer_text n else decimal (unsigned_abs n)) ≡ codes "DINT#" ++ integer_text n = if_true (int_lt n (pos 0)) _ _ e in
-    reads_typed (codes "DINT#" ++ integer_text n) type.Dint n more line ks (subst (λ (t : List ℕ). IsLiteral t type.Dint n) text (literals_stand.typed type.Dint n refl h)) h refl refl
-    (no_line_both (codes "DINT#") (integer_text n) refl (integer_no_line n (small_value type.Dint n h))) ends r
-reads_dint n false more line ks e h ends r = reads_decimal (unsigned_abs n) more line ks ends r
+    reads_typed (codes "DINT#") (integer_text n) type.Dint n (subst (λ (t : List ℕ). IsLiteral t type.Dint n) text (literals_stand.typed type.Dint n refl h)) h refl refl
+    refl (integer_no_line n (small_value type.Dint n h)) ends r
+reads_dint n false e h ends r = reads_decimal (unsigned_abs n) ends r
 
-literal_reads : (ty : StType) (n : ℤ) (more : List ℕ) (line : ℕ) (ks : List Kind) → is_literal (literal_form ty n) ≡ true → ends_word more ≡ true → ReadsOn line more ks
+literal_reads : {line : ℕ} {more : List ℕ} {ks : List Kind} (ty : StType) (n : ℤ) → is_literal (literal_form ty n) ≡ true → ends_word more ≡ true → ReadsOn line more ks
     → ReadsOn line (literal_text ty n ++ more) (kind.Literal (literal_form ty n) ∷ ks)
 unfolding literal_text
-literal_reads type.Bool n more line ks h ends r = reads_truth n more line ks (value_cases n h) ends r
-literal_reads type.Byte n more line ks h ends r =
-    reads_typed (literal_text type.Byte n) type.Byte n more line ks (literals_stand.typed type.Byte n refl h) h refl refl
-    (no_line_both (codes "BYTE#16#") (hexadecimal 2 (unsigned_abs n)) refl (hexadecimal_no_line 2 (unsigned_abs n))) ends r
-literal_reads type.Word n more line ks h ends r =
-    reads_typed (literal_text type.Word n) type.Word n more line ks (literals_stand.typed type.Word n refl h) h refl refl
-    (no_line_both (codes "WORD#16#") (hexadecimal 4 (unsigned_abs n)) refl (hexadecimal_no_line 4 (unsigned_abs n))) ends r
-literal_reads type.Dword n more line ks h ends r =
-    reads_typed (literal_text type.Dword n) type.Dword n more line ks (literals_stand.typed type.Dword n refl h) h refl refl
-    (no_line_both (codes "DWORD#16#") (hexadecimal 8 (unsigned_abs n)) refl (hexadecimal_no_line 8 (unsigned_abs n))) ends r
-literal_reads type.Int n more line ks h ends r =
-    reads_typed (literal_text type.Int n) type.Int n more line ks (literals_stand.typed type.Int n refl h) h refl refl
-    (no_line_both (codes "INT#") (integer_text n) refl (integer_no_line n (small_value type.Int n h))) ends r
-literal_reads type.Dint n more line ks h ends r = reads_dint n (int_lt n (pos 0)) more line ks refl h ends r
-literal_reads type.Lint n more line ks h ends r =
-    reads_typed (literal_text type.Lint n) type.Lint n more line ks (literals_stand.typed type.Lint n refl h) h refl refl
-    (no_line_both (codes "LINT#") (integer_text n) refl (integer_no_line n (small_value type.Lint n h))) ends r
+literal_reads type.Bool n h ends r = reads_truth n (value_cases n h) ends r
+literal_reads type.Dint n h ends r = reads_dint n (int_lt n (pos 0)) refl h ends r
+literal_reads type.Byte n h ends r =
+    reads_typed (codes "BYTE#16#") (hexadecimal 2 (unsigned_abs n)) type.Byte n (literals_stand.typed type.Byte n refl h) h refl refl refl (hexadecimal_no_line 2
+    (unsigned_abs n)) ends r
+literal_reads type.Word n h ends r =
+    reads_typed (codes "WORD#16#") (hexadecimal 4 (unsigned_abs n)) type.Word n (literals_stand.typed type.Word n refl h) h refl refl refl (hexadecimal_no_line 4
+    (unsigned_abs n)) ends r
+literal_reads type.Dword n h ends r =
+    reads_typed (codes "DWORD#16#") (hexadecimal 8 (unsigned_abs n)) type.Dword n (literals_stand.typed type.Dword n refl h) h refl refl refl (hexadecimal_no_line 8
+    (unsigned_abs n)) ends r
+literal_reads type.Int n h ends r =
+    reads_typed (codes "INT#") (integer_text n) type.Int n (literals_stand.typed type.Int n refl h) h refl refl refl (integer_no_line n (small_value type.Int n h)) ends r
+literal_reads type.Lint n h ends r =
+    reads_typed (codes "LINT#") (integer_text n) type.Lint n (literals_stand.typed type.Lint n refl h) h refl refl refl (integer_no_line n (small_value type.Lint n h)) ends r
 
-pub reads_literal : (ty : StType) (n : ℤ) (more : List ℕ) (line : ℕ) (ks : List Kind) → ends_word more ≡ true → ReadsOn line more ks
+pub reads_literal : {line : ℕ} {more : List ℕ} {ks : List Kind} (ty : StType) (n : ℤ) → ends_word more ≡ true → ReadsOn line more ks
     → ReadsOn line (literal_text ty n ++ more) (kind.Literal (literal_form ty n) ∷ ks)
-reads_literal ty n more line ks ends r = where_spelled (λ h. literal_reads ty n more line ks h ends r)
+reads_literal ty n ends r = where_spelled (λ h. literal_reads ty n h ends r)
 
 -- Places
 
@@ -263,18 +255,18 @@ block_no_line area.Db (Some n) w byte bit h k l =
     (no_line_both (codes "%DB" ++ decimal n) (codes ".DB") (no_line_both (codes "%DB") (decimal n) refl (decimal_no_line n (kept_small n h))) refl) (place_no_line w byte bit k l)
 block_no_line other (Some n) w byte bit h k l = absurd cc
 
-pub reads_place : (a : AreaName) (block : Option ℕ) (w : Width) (byte bit : ℕ) (more : List ℕ) (line : ℕ) (ks : List Kind) → ends_word more ≡ true
+pub reads_place : {line : ℕ} {more : List ℕ} {ks : List Kind} (a : AreaName) (block : Option ℕ) (w : Width) (byte bit : ℕ) → ends_word more ≡ true
     → ReadsOn line more ks → ReadsOn line (place_in a block w byte bit ++ more) (kind.Variable (var.Direct a block w byte bit) (on line) ∷ ks)
-reads_place a block w byte bit more line ks ends r = where_spelled (λ h.
+reads_place {line} a block w byte bit ends r = where_spelled (λ h.
     let is = places_stand a block w byte bit h in
     let outer = and_both _ (is_bit_of w bit) h in
     let both = and_both (is_block_of a block) _ outer.0 in
-    reads_text sort.Direct (place_in a block w byte bit) more line (kind.Variable (var.Direct a block w byte bit) (on line)) ks is.is_token ends
+    reads_text sort.Direct (place_in a block w byte bit) is.is_token ends
     (block_no_line a block w byte bit both.0 (kept_small byte both.1) (bit_small w bit outer.1)) (ap (λ o. direct_kind o (on line)) is.found) refl r)
 
 -- a variable
-pub reads_var : (names : Names) (v : Var) (more : List ℕ) (line : ℕ) (ks : List Kind) → ends_word more ≡ true
-    → ReadsOn line more ks → ReadsOn line (var_text names v ++ more) (kind.Variable (raw_var names v) (on line) ∷ ks)
-reads_var names (tree_var.Direct a byte bit w) more line ks ends rest = reads_place a None w byte bit more line ks ends rest
-reads_var names (tree_var.InBlock block byte bit w) more line ks ends rest = reads_place area.Db (Some block) w byte bit more line ks ends rest
-reads_var names v more line ks ends rest = reads_name _ more line ks ends rest
+pub reads_var : {line : ℕ} {more : List ℕ} {ks : List Kind} (names : Names) (v : Var) → ends_word more ≡ true → ReadsOn line more ks
+    → ReadsOn line (var_text names v ++ more) (kind.Variable (raw_var names v) (on line) ∷ ks)
+reads_var names (tree_var.Direct a byte bit w) ends r = reads_place a None w byte bit ends r
+reads_var names (tree_var.InBlock block byte bit w) ends r = reads_place area.Db (Some block) w byte bit ends r
+reads_var names v ends r = reads_name _ ends r

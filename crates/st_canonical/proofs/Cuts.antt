@@ -105,31 +105,32 @@ star_is_times of b w more line ks found h =
     (star_alone of w line ks (sym found ∙ ap (λ (x : ℕ). piece_at (x ∷ (w ++ more))) is ∙ star_at (w ++ more)))
 
 -- one token
-pub reads_token : (sort : StKind) (b : ℕ) (w more : List ℕ) (line : ℕ) (k : Kind) (ks : List Kind) → piece_at (b ∷ (w ++ more)) ≡ Some (token sort (suc (length w)))
+pub reads_token : {line : ℕ} {more : List ℕ} {k : Kind} {ks : List Kind} (sort : StKind) (b : ℕ) (w : List ℕ)
+    → piece_at (b ∷ (w ++ more)) ≡ Some (token sort (suc (length w)))
     → has_no_line (b ∷ w) ≡ true → text_kind sort (b ∷ w) (on line) ≡ k → is_great sort (literal_at (b ∷ w)) ≡ false → ReadsOn line more ks
     → ReadsOn line (b ∷ (w ++ more)) (k ∷ ks)
-reads_token sort b w more line k ks found plain same small r =
-    let here : StToken = record { kind = sort; text = b ∷ w; line = on line } in
-    record {
-      read = λ s.
-          let c = r.read s.1 in
-          record {
-            tokens = here ∷ c.tokens;
-            cut = pieced b w more (token sort (suc (length w))) line found refl
-                ∙ ap (λ (n : ℕ). prepend_tokens (token_of (token sort (suc (length w))) (b ∷ (w ++ more)) line) (cut_from 0 n more)) (past_none line (b ∷ w) plain)
-                ∙ ap (λ (x : Cut). prepend_tokens (token_of (token sort (suc (length w))) (b ∷ (w ++ more)) line) x) c.cut
-                ∙ ap (λ (text : List ℕ). record { tokens = record { kind = sort; text = text; line = on line } ∷ c.tokens; bad = None }) (take-append_seam (b ∷ w) more);
-            same = ap (λ (x : Kind). x ∷ (map kind_of c.tokens ++ kind.Fixed fixed.End ∷ [])) same ∙ ap (λ (xs : List Kind). k ∷ xs) c.same;
-            calm = λ behind. calm_before here c.tokens behind small c.calm;
-            star = λ h. subst (λ (x : Kind). begins_with_times (x ∷ ks) ≡ true) same (star_is_times sort b w more (on line) ks found h);
-          };
-    }
+reads_token {line} {more} {k} {ks} sort b w found plain same small r = record {
+  read = λ s.
+      let c = r.read s.1 in
+      let here : StToken = record { kind = sort; text = b ∷ w; line = on line } in
+      record {
+        tokens = here ∷ c.tokens;
+        cut = pieced b w more (token sort (suc (length w))) line found refl
+            ∙ ap (λ (n : ℕ). prepend_tokens (token_of (token sort (suc (length w))) (b ∷ (w ++ more)) line) (cut_from 0 n more)) (past_none line (b ∷ w) plain)
+            ∙ ap (λ (x : Cut). prepend_tokens (token_of (token sort (suc (length w))) (b ∷ (w ++ more)) line) x) c.cut
+            ∙ ap (λ (text : List ℕ). record { tokens = record { kind = sort; text = text; line = on line } ∷ c.tokens; bad = None }) (take-append_seam (b ∷ w) more);
+        same = ap (λ (x : Kind). x ∷ (map kind_of c.tokens ++ kind.Fixed fixed.End ∷ [])) same ∙ ap (λ (xs : List Kind). k ∷ xs) c.same;
+        calm = λ behind. calm_before here c.tokens behind small c.calm;
+        star = λ h. subst (λ (x : Kind). begins_with_times (x ∷ ks) ≡ true) same (star_is_times sort b w more (on line) ks found h);
+      };
+}
 
 -- a text that is a token of a sort
-pub reads_text : (sort : StKind) (text more : List ℕ) (line : ℕ) (k : Kind) (ks : List Kind) → IsToken sort text → ends_word more ≡ true → has_no_line text ≡ true
+pub reads_text : {line : ℕ} {more : List ℕ} {k : Kind} {ks : List Kind} (sort : StKind) (text : List ℕ) → IsToken sort text → ends_word more ≡ true
+    → has_no_line text ≡ true
     → text_kind sort text (on line) ≡ k → is_great sort (literal_at text) ≡ false → ReadsOn line more ks → ReadsOn line (text ++ more) (k ∷ ks)
-reads_text sort [] more line k ks is ends plain same small r = absurd (let none = (is [] refl).found in cc)
-reads_text sort (b ∷ w) more line k ks is ends plain same small r = reads_token sort b w more line k ks (is more ends).found plain same small r
+reads_text sort [] is ends plain same small r = absurd (let none = (is [] refl).found in cc)
+reads_text {more = more} sort (b ∷ w) is ends plain same small r = reads_token sort b w (is more ends).found plain same small r
 
 -- a blank or an end of a line
 reads_gap : (b : ℕ) {line : ℕ} {more : List ℕ} {ks : List Kind} → piece_at (b ∷ more) ≡ Some (gap 1) → (b == 42) ≡ false → ReadsOn (line_behind b line) more ks
@@ -159,7 +160,7 @@ reads_blanks zero r = r
 reads_blanks (suc level) r = reads_blank (reads_blank (reads_blank (reads_blank (reads_blanks level r))))
 
 -- a line at a level
-pub reads_line : (level : ℕ) (text more : List ℕ) {line : ℕ} {ks : List Kind} → ReadsOn line (text ++ 10 ∷ more) ks → ReadsOn line (line_text level text ++ more) ks
+pub reads_line : {line : ℕ} {ks : List Kind} (level : ℕ) (text more : List ℕ) → ReadsOn line (text ++ 10 ∷ more) ks → ReadsOn line (line_text level text ++ more) ks
 unfolding line_text
 reads_line level text more r =
     reads_as (append_assoc (blanks level ++ text) (codes "\n") more ∙ append_assoc (blanks level) text (10 ∷ more)) (reads_blanks level r)
@@ -177,7 +178,8 @@ letter_no_line : (b : ℕ) → is_letter b ≡ true → not (b == 10) ≡ true
 letter_no_line b h = grind (arith, nat_tests)
 
 -- a word, with what it stands for
-pub reads_word : (b : ℕ) (w more : List ℕ) (line : ℕ) (k : Kind) (ks : List Kind) → is_letter b ≡ true → list_all is_word_byte w ≡ true → ends_word more ≡ true
+pub reads_word : {line : ℕ} {more : List ℕ} {k : Kind} {ks : List Kind} (b : ℕ) (w : List ℕ) → is_letter b ≡ true → list_all is_word_byte w ≡ true
+    → ends_word more ≡ true
     → text_kind sort.Word (b ∷ w) (on line) ≡ k → ReadsOn line more ks → ReadsOn line (b ∷ (w ++ more)) (k ∷ ks)
-reads_word b w more line k ks letter all ends same r =
-    reads_token sort.Word b w more line k ks (word_stands b w letter all more ends).found (rw (letter_no_line b letter, words_no_line w all) refl) same refl r
+reads_word {more = more} b w letter all ends same r =
+    reads_token sort.Word b w (word_stands b w letter all more ends).found (rw (letter_no_line b letter, words_no_line w all) refl) same refl r
