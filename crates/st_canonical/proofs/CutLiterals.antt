@@ -74,17 +74,13 @@ in_range ty false m h = h
 below : (m most : ℕ) → nat_le m most ≡ true → m < suc most
 below m most h = grind (arith, nat_tests)
 
+greatest_small : (minus : Bool) (ty : StType) → greatest ty minus < 2 ^ 64
+greatest_small true type.Bool = omega arith
+greatest_small false type.Bool = omega arith
+greatest_small minus ty = omega arith
+
 within_64 : (ty : StType) (minus : Bool) (m : ℕ) → nat_le m (greatest ty minus) ≡ true → m < 2 ^ 64
-within_64 type.Bool minus m h = omega (arith, below m 1 h)
-within_64 type.Byte minus m h = omega (arith, below m 255 h)
-within_64 type.Word minus m h = omega (arith, below m 65535 h)
-within_64 type.Dword minus m h = omega (arith, below m 4294967295 h)
-within_64 type.Int true m h = omega (arith, below m 32768 h)
-within_64 type.Int false m h = omega (arith, below m 32767 h)
-within_64 type.Dint true m h = omega (arith, below m 2147483648 h)
-within_64 type.Dint false m h = omega (arith, below m 2147483647 h)
-within_64 type.Lint true m h = omega (arith, below m 9223372036854775808 h)
-within_64 type.Lint false m h = omega (arith, below m 9223372036854775807 h)
+within_64 ty minus m h = omega (arith, below m (greatest ty minus) h, greatest_small minus ty)
 
 signed_same : (n : ℤ) → (if int_lt n (pos 0) then neg_ℤ (pos (unsigned_abs n)) else pos (unsigned_abs n)) ≡ n
 signed_same (pos m) = let plus : int_lt (pos m) (pos 0) ≡ false = grind (arith, nat_tests) in if_false (int_lt (pos m) (pos 0)) (neg_ℤ (pos m)) (pos m) plus
@@ -95,33 +91,34 @@ record IsRead (text : List ℕ) (k : Kind) : Type 0 where
   is_kind : (line : Line) → text_kind sort.Literal text line ≡ k
   small : is_great sort.Literal (literal_at text) ≡ false
 
+-- what is found where a literal of a type stands
+abbrev found_at : List ℕ → StType → ℤ → Found
+found_at text ty n = record { kind = ty; minus = int_lt n (pos 0); number = unsigned_abs n; size = length text }
+
+of_literal : (text : List ℕ) (ty : StType) (n : ℤ) (to : Base) (k : Kind) → IsLiteral text ty n → has_value ty n ≡ true → base_at text ≡ to
+    → literal_kind to text (found_at text ty n) ≡ k → IsRead text k
+of_literal text ty n to k is h based same = record {
+  is_kind = λ line. ap (λ (o : Option Found). number_kind o text) is.found ∙ ap (λ (b : Base). literal_kind b text (found_at text ty n)) based ∙ same;
+  small = ap (λ (o : Option Found). is_great sort.Literal o) is.found ∙ ap not (in_range ty (int_lt n (pos 0)) (unsigned_abs n) h);
+}
+
 typed_read : (text : List ℕ) (ty : StType) (n : ℤ) → IsLiteral text ty n → has_value ty n ≡ true → base_at text ≡ base.Ten → begins_with_digit base.Ten text ≡ false
     → IsRead text (kind.Literal (lit.Typed ty n))
 typed_read text ty n is h ten plain =
-    let found : Found = record { kind = ty; minus = int_lt n (pos 0); number = unsigned_abs n; size = length text } in
-    let range : nat_le (unsigned_abs n) (greatest ty (int_lt n (pos 0))) ≡ true = in_range ty (int_lt n (pos 0)) (unsigned_abs n) h in
-    record {
-      is_kind = λ line. ap (λ (o : Option Found). number_kind o text) is.found ∙ ap (λ (b : Base). literal_kind b text found) ten
-          ∙ if_false (begins_with_digit base.Ten text) (decimal_kind found.number) (typed_kind found) plain
-          ∙ if_true (nat_le (unsigned_abs n) (greatest ty (int_lt n (pos 0)))) _ _ range
-          ∙ ap (λ (m : ℤ). kind.Literal (lit.Typed ty m)) (signed_same n);
-      small = ap (λ (o : Option Found). is_great sort.Literal o) is.found ∙ ap not range;
-    }
+    of_literal text ty n base.Ten _ is h ten (if_false (begins_with_digit base.Ten text) _ (typed_kind (found_at text ty n)) plain
+    ∙ if_true (nat_le (unsigned_abs n) (greatest ty (int_lt n (pos 0)))) _ _ (in_range ty (int_lt n (pos 0)) (unsigned_abs n) h)
+    ∙ ap (λ (m : ℤ). kind.Literal (lit.Typed ty m)) (signed_same n))
+
+-- a number from 0 on has a value of a type that goes so far
+plain_value : (ty : StType) (n : ℕ) → nat_le n (greatest ty false) ≡ true → has_value ty (pos n) ≡ true
+plain_value ty n h = let plus : int_lt (pos n) (pos 0) ≡ false = grind (arith, nat_tests) in if_false (int_lt (pos n) (pos 0)) _ _ plus ∙ h
 
 decimal_read : (n : ℕ) → is_decimal n ≡ true → IsRead (decimal n) (kind.Literal (lit.Decimal n))
 decimal_read n h =
-    let is : IsLiteral (decimal n) type.Dint (pos n) = literals_stand.plain n h in
     let plain = literals_stand.in_plain n h in
-    let found : Found = record { kind = type.Dint; minus = int_lt (pos n) (pos 0); number = n; size = length (decimal n) } in
-    let plus : int_lt (pos n) (pos 0) ≡ false = grind (arith, nat_tests) in
-    let range : nat_le n (greatest type.Dint (int_lt (pos n) (pos 0))) ≡ true = ap (λ (b : Bool). nat_le n (greatest type.Dint b)) plus ∙ h in
     let kept : min n (2 ^ 32 - 1) ≡ n = omega (arith, below n 2147483647 h) in
-    record {
-      is_kind = λ line. ap (λ (o : Option Found). number_kind o (decimal n)) is.found ∙ ap (λ (b : Base). literal_kind b (decimal n) found) plain.0
-          ∙ if_true (begins_with_digit base.Ten (decimal n)) (decimal_kind n) (typed_kind found) plain.1
-          ∙ ap (λ (m : ℕ). kind.Literal (lit.Decimal m)) kept;
-      small = ap (λ (o : Option Found). is_great sort.Literal o) is.found ∙ ap not range;
-    }
+    of_literal (decimal n) type.Dint (pos n) base.Ten _ (literals_stand.plain n h) (plain_value type.Dint n h) plain.0
+    (if_true (begins_with_digit base.Ten (decimal n)) (decimal_kind n) _ plain.1 ∙ ap (λ (m : ℕ). kind.Literal (lit.Decimal m)) kept)
 
 two_digits : (text : List ℕ) → length text ≡ 2 → are_two_digits text ≡ true
 two_digits [] h = absurd (omega (arith, h))
@@ -131,17 +128,12 @@ two_digits (a ∷ b ∷ c ∷ text) h = absurd (omega (arith, h))
 
 byte_read : (b : ℕ) → is_byte b ≡ true → IsRead (byte_text b) (kind.Literal (lit.Byte b))
 byte_read b h =
-    let is : IsLiteral (byte_text b) type.Dword (pos b) = literals_stand.byte b h in
     let plain = literals_stand.in_byte b h in
-    let found : Found = record { kind = type.Dword; minus = int_lt (pos b) (pos 0); number = b; size = length (byte_text b) } in
     let kept : min b 255 ≡ b = omega (arith, below b 255 h) in
     let range : nat_le b 4294967295 ≡ true = grind (arith, nat_tests) in
-    record {
-      is_kind = λ line. ap (λ (o : Option Found). number_kind o (byte_text b)) is.found ∙ ap (λ (a : Base). literal_kind a (byte_text b) found) plain.0
-          ∙ if_true (are_two_digits (drop 3 (byte_text b))) (kind.Literal (lit.Byte (min b 255))) (typed_kind found) (two_digits (drop 3 (byte_text b)) plain.1)
-          ∙ ap (λ (m : ℕ). kind.Literal (lit.Byte m)) kept;
-      small = ap (λ (o : Option Found). is_great sort.Literal o) is.found ∙ ap not range;
-    }
+    of_literal (byte_text b) type.Dword (pos b) base.Sixteen _ (literals_stand.byte b h) (plain_value type.Dword b range) plain.0
+    (if_true (are_two_digits (drop 3 (byte_text b))) (kind.Literal (lit.Byte (min b 255))) _ (two_digits (drop 3 (byte_text b)) plain.1) ∙ ap (λ (m : ℕ). kind.Literal
+    (lit.Byte m)) kept)
 
 pub reads_decimal : {line : ℕ} {more : List ℕ} {ks : List Kind} (n : ℕ) → ends_word more ≡ true → ReadsOn line more ks
     → ReadsOn line (decimal n ++ more) (kind.Literal (lit.Decimal n) ∷ ks)

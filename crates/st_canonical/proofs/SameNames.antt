@@ -3,7 +3,7 @@ use Rattle.std.proofs.Common.{◌≡◌, ℕ, ◌+◌, ◌==◌, Bool, true, fal
 use Rattle.std.specs.Prelude.{codes, is_none, is_some}
 use Rattle.std.specs.Char.{to_ascii_lowercase}
 use Rattle.std.specs.List.{find, list_all, list_any}
-use Rattle.std.specs.Str.{bytes_eq, str_to_ascii_lowercase}
+use Rattle.std.specs.Str.{str_to_ascii_lowercase}
 use Rattle.std.proofs.lemmas.Bool.{and_parts}
 use Rattle.std.proofs.lemmas.Bool.Decides.{nat_tests}
 use Rattle.std.proofs.lemmas.List.{append_assoc, drop-map, map-append, take-append-drop, take-map}
@@ -83,38 +83,18 @@ start_alike n a b h = sym (take-map to_ascii_lowercase n a) ∙ ap (take n) h �
 rest_alike : (n : ℕ) (a b : List ℕ) → str_to_ascii_lowercase a ≡ str_to_ascii_lowercase b → str_to_ascii_lowercase (drop n a) ≡ str_to_ascii_lowercase (drop n b)
 rest_alike n a b h = sym (drop-map to_ascii_lowercase n a) ∙ ap (drop n) h ∙ drop-map to_ascii_lowercase n b
 
--- the type that a word names, by its small letters
-abbrev named_by : List ℕ → Option StType
-named_by word =
-    cond (bytes_eq word (str_to_ascii_lowercase (codes "BOOL"))) (Some type.Bool)
-    (cond (bytes_eq word (str_to_ascii_lowercase (codes "BYTE"))) (Some type.Byte)
-    (cond (bytes_eq word (str_to_ascii_lowercase (codes "WORD"))) (Some type.Word)
-    (cond (bytes_eq word (str_to_ascii_lowercase (codes "DWORD"))) (Some type.Dword)
-    (cond (bytes_eq word (str_to_ascii_lowercase (codes "INT"))) (Some type.Int)
-    (cond (bytes_eq word (str_to_ascii_lowercase (codes "DINT"))) (Some type.Dint)
-    (cond (bytes_eq word (str_to_ascii_lowercase (codes "LINT"))) (Some type.Lint) None))))))
-
 type_alike : (a b : List ℕ) → str_to_ascii_lowercase a ≡ str_to_ascii_lowercase b → type_named a ≡ type_named b
-type_alike a b h = ap named_by h
+type_alike a b h = rw h refl
 
 conversion_alike : (a b : List ℕ) → str_to_ascii_lowercase a ≡ str_to_ascii_lowercase b → conversion_named a ≡ conversion_named b
 conversion_alike a b h =
-    let m = size_before_line a in
     let n = size_before_line b in
-    let by = λ (k : ℕ). cond (is_same_word (take 4 (drop k a)) (codes "_TO_"))
-    (conversion_of_types (type_named (take k a)) (type_named (drop 4 (drop k a)))) None in
-    let same : m ≡ n = before_alike a b h in
     let rest = rest_alike n a b h in
-    ap by same
-    ∙ ap (λ w. cond (bytes_eq w (str_to_ascii_lowercase (codes "_TO_")))
-    (conversion_of_types (type_named (take n a)) (type_named (drop 4 (drop n a)))) None)
-    (start_alike 4 (drop n a) (drop n b) rest)
-    ∙ ap (λ t. cond (is_same_word (take 4 (drop n b)) (codes "_TO_"))
-    (conversion_of_types t (type_named (drop 4 (drop n a)))) None)
+    rw (before_alike a b h) (rw (start_alike 4 (drop n a) (drop n b) rest)
+    (ap (λ t. cond (is_same_word (take 4 (drop n b)) (codes "_TO_")) (conversion_of_types t (type_named (drop 4 (drop n a)))) None)
     (type_alike (take n a) (take n b) (start_alike n a b h))
-    ∙ ap (λ t. cond (is_same_word (take 4 (drop n b)) (codes "_TO_"))
-    (conversion_of_types (type_named (take n b)) t) None)
-    (type_alike (drop 4 (drop n a)) (drop 4 (drop n b)) (rest_alike 4 (drop n a) (drop n b) rest))
+    ∙ ap (λ t. cond (is_same_word (take 4 (drop n b)) (codes "_TO_")) (conversion_of_types (type_named (take n b)) t) None)
+    (type_alike (drop 4 (drop n a)) (drop 4 (drop n b)) (rest_alike 4 (drop n a) (drop n b) rest))))
 
 -- each conversion is found by its name
 abbrev is_found : StType → StType → Bool
@@ -164,40 +144,20 @@ joined a b c d h g =
     ∙ ap (λ x. str_to_ascii_lowercase c ++ x) (same_of b d g) ∙ sym (map-append to_ascii_lowercase c d))
 
 -- a word is that of the type that it names
-named_last : (word : List ℕ) (ty : StType) (a b c : Bool) → is_same_word word (codes "INT") ≡ a
-    → is_same_word word (codes "DINT") ≡ b → is_same_word word (codes "LINT") ≡ c
-    → cond a (Some type.Int) (cond b (Some type.Dint) (cond c (Some type.Lint) None)) ≡ Some ty
-    → is_same_word word (type_word ty) ≡ true
-named_last word ty true b c p q r h =
-    let e : type.Int ≡ ty = cc in subst (λ t. is_same_word word (type_word t) ≡ true) e p
-named_last word ty false true c p q r h =
-    let e : type.Dint ≡ ty = cc in subst (λ t. is_same_word word (type_word t) ≡ true) e q
-named_last word ty false false true p q r h =
-    let e : type.Lint ≡ ty = cc in subst (λ t. is_same_word word (type_word t) ≡ true) e r
-named_last word ty false false false p q r h = absurd cc
-
-named_first : (word : List ℕ) (ty : StType) (rest : Option StType) (a b c d : Bool) → is_same_word word (codes "BOOL") ≡ a
-    → is_same_word word (codes "BYTE") ≡ b → is_same_word word (codes "WORD") ≡ c
-    → is_same_word word (codes "DWORD") ≡ d → (rest ≡ Some ty → is_same_word word (type_word ty) ≡ true)
-    → cond a (Some type.Bool) (cond b (Some type.Byte) (cond c (Some type.Word) (cond d (Some type.Dword) rest)))
-    ≡ Some ty
-    → is_same_word word (type_word ty) ≡ true
-named_first word ty rest true b c d p q r s more h =
-    let e : type.Bool ≡ ty = cc in subst (λ t. is_same_word word (type_word t) ≡ true) e p
-named_first word ty rest false true c d p q r s more h =
-    let e : type.Byte ≡ ty = cc in subst (λ t. is_same_word word (type_word t) ≡ true) e q
-named_first word ty rest false false true d p q r s more h =
-    let e : type.Word ≡ ty = cc in subst (λ t. is_same_word word (type_word t) ≡ true) e r
-named_first word ty rest false false false true p q r s more h =
-    let e : type.Dword ≡ ty = cc in subst (λ t. is_same_word word (type_word t) ≡ true) e s
-named_first word ty rest false false false false p q r s more h = more h
+named_or : (word : List ℕ) (first ty : StType) (rest : Option StType) → (rest ≡ Some ty → is_same_word word (type_word ty) ≡ true)
+    → cond (is_same_word word (type_word first)) (Some first) rest ≡ Some ty → is_same_word word (type_word ty) ≡ true
+named_or word first ty rest more = by (is_same_word word (type_word first)) refl
+  where
+    by : (t : Bool) → is_same_word word (type_word first) ≡ t → cond t (Some first) rest ≡ Some ty
+        → is_same_word word (type_word ty) ≡ true
+    by true e h = let same : first ≡ ty = cc in subst (λ t. is_same_word word (type_word t) ≡ true) same e
+    by false e h = more h
 
 type_is : (word : List ℕ) (ty : StType) → type_named word ≡ Some ty → is_same_word word (type_word ty) ≡ true
-type_is word ty h =
-    named_first word ty _ (is_same_word word (codes "BOOL")) (is_same_word word (codes "BYTE"))
-    (is_same_word word (codes "WORD")) (is_same_word word (codes "DWORD")) refl refl refl refl
-    (λ more. named_last word ty (is_same_word word (codes "INT")) (is_same_word word (codes "DINT"))
-    (is_same_word word (codes "LINT")) refl refl refl more) h
+type_is word ty =
+    named_or word type.Bool ty _ (named_or word type.Byte ty _ (named_or word type.Word ty _
+    (named_or word type.Dword ty _ (named_or word type.Int ty _ (named_or word type.Dint ty _
+    (named_or word type.Lint ty None (λ h. absurd cc)))))))
 
 -- a test that one of the types passes
 some_type : (p : StType → Bool) (ty : StType) → p ty ≡ true → list_any p types ≡ true
