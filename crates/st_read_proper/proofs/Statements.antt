@@ -119,11 +119,6 @@ module _ (scope : Scope) (sight : Sight) (inside : Bool) where
   turned : (a b : StType) → rules.is_type a b ≡ true → rules.is_type b a ≡ true
   turned a b h = let e : a ≡ b = same_type a b h in subst (λ c. rules.is_type c a ≡ true) e (is_own_type a)
 
-  -- an expression of a type
-  typed_as : (l : Line) (e : Form) (ty : StType) → (g : An l e) → rules.is_type g.t.ty ty ≡ true
-      → has_type ty (expression_type sight g.t.tree) ≡ true
-  typed_as l e ty g fits = ap (has_type ty) g.typed ∙ fits
-
   abbrev costs : (ℕ → ℕ) → ℕ → ℕ
   costs f = of_heads sight.heads f
 
@@ -141,68 +136,40 @@ module _ (scope : Scope) (sight : Sight) (inside : Bool) where
     found = statements_last scope (tree_all b) (tree_one s) p.xs q.x p.found q.found;
     typed = checks_last (is_well_typed sight) (λ c. c inside) p.xs q.x p.typed q.typed;
     low = λ d. omega (arith, greatest_last nesting p.xs q.x, p.low d, q.low d);
-    calls = λ f. omega (
-      arith,
-      p.calls f,
-      q.calls f,
-      called_last f p.xs q.x,
-      all_last (costs f) scope (tree_all b) (tree_one s),
-    );
+    calls = λ f. omega (arith, called_last f p.xs q.x, all_last (costs f) scope (tree_all b) (tree_one s));
   }
 
-  -- Assignments and writes
+  -- Statements that call nothing
+
+  of_plain : (s : Statement) (x : Stmt) → statement scope (tree_one s) ≡ sound x → is_well_typed sight x inside ≡ true
+      → ((d : ℕ) → d + nesting x ≤ top_one d s) → ((f : ℕ → ℕ) → called_most f (x ∷ []) ≡ 0) → One s
+  of_plain s x found typed low nothing =
+      record { x = x; found = found; typed = typed; low = low; calls = λ f. omega (arith, nothing f) }
 
   pub of_assign : (l : Line) (v : RawVar) (e : Form) (x : TypedVar) → variable_in scope v ≡ Ok x
       → variable_type sight x.var ≡ Some x.ty → (g : An l e) → rules.is_type x.ty g.t.ty ≡ true → One (assign l v e)
-  of_assign l v e x there has g fits = record {
-    x = stmt.Assign x.var g.t.tree;
-    found = assign_is scope l v (tree e) x g.t there g.found fits;
-    typed = good_assign sight inside x.var g.t.tree
-        ∙ ap (λ o. is_assigned o (expression_type sight g.t.tree)) has
-        ∙ ap (has_type x.ty) g.typed ∙ turned x.ty g.t.ty fits;
-    low = λ d. omega (arith, nesting_assign x.var g.t.tree, g.close.inner);
-    calls = λ f. omega (arith, called_assign f x.var g.t.tree);
-  }
+  of_assign l v e x there has g fits =
+      of_plain (assign l v e) (stmt.Assign x.var g.t.tree) (assign_is scope l v (tree e) x g.t there g.found fits)
+      (rw (good_assign sight inside x.var g.t.tree, has, g.typed) (turned x.ty g.t.ty fits))
+      (λ d. omega (arith, nesting_assign x.var g.t.tree)) (λ f. called_assign f x.var g.t.tree)
 
   pub of_write : (l : Line) (w : Width) (p e : Form) → (f : An l p) → (g : An l e) → writes w f.t g.t ≡ true
       → One (write l w p e)
   of_write l w p e f g fits =
       let parts = and_parts (rules.is_type f.t.ty type.Dword) (rules.is_type g.t.ty (type_of_width w)) fits in
-      record {
-        x = stmt.AreaWrite w f.t.tree g.t.tree;
-        found = write_is scope l w (tree p) (tree e) f.t g.t f.found g.found fits;
-        typed = good_area_write sight inside w f.t.tree g.t.tree
-            ∙ both_true (has_type type.Dword (expression_type sight f.t.tree))
-            (has_type (type_of_width w) (expression_type sight g.t.tree))
-            (typed_as l p type.Dword f parts.0) (typed_as l e (type_of_width w) g parts.1);
-        low = λ d. omega (arith, nesting_area_write w f.t.tree g.t.tree, f.close.inner, g.close.inner);
-        calls = λ h. omega (arith, called_area_write h w f.t.tree g.t.tree);
-      }
-
-  -- Jumps
+      of_plain (write l w p e) (stmt.AreaWrite w f.t.tree g.t.tree)
+      (write_is scope l w (tree p) (tree e) f.t g.t f.found g.found fits)
+      (rw (good_area_write sight inside w f.t.tree g.t.tree, f.typed, g.typed, parts.0) parts.1)
+      (λ d. omega (arith, nesting_area_write w f.t.tree g.t.tree)) (λ h. called_area_write h w f.t.tree g.t.tree)
 
   pub of_jump : (l : Line) (word : Jump) → may_jump inside word ≡ true → One (jump l word)
-  of_jump l jump_word.Exit fits = record {
-    x = stmt.Exit;
-    found = act_exit scope l;
-    typed = good_exit sight inside ∙ fits;
-    low = λ d. omega (arith, nesting_exit);
-    calls = λ f. omega (arith, called_exit f);
-  }
-  of_jump l jump_word.Continue fits = record {
-    x = stmt.Continue;
-    found = act_continue scope l;
-    typed = good_continue sight inside ∙ fits;
-    low = λ d. omega (arith, nesting_continue);
-    calls = λ f. omega (arith, called_continue f);
-  }
-  of_jump l jump_word.Return fits = record {
-    x = stmt.Return;
-    found = act_return scope l;
-    typed = good_return sight inside;
-    low = λ d. omega (arith, nesting_return);
-    calls = λ f. omega (arith, called_return f);
-  }
+  of_jump l jump_word.Exit fits =
+      of_plain _ stmt.Exit (act_exit scope l) (good_exit sight inside ∙ fits) (λ d. omega (arith, nesting_exit)) called_exit
+  of_jump l jump_word.Continue fits =
+      of_plain _ stmt.Continue (act_continue scope l) (good_continue sight inside ∙ fits)
+      (λ d. omega (arith, nesting_continue)) called_continue
+  of_jump l jump_word.Return fits =
+      of_plain _ stmt.Return (act_return scope l) (good_return sight inside) (λ d. omega (arith, nesting_return)) called_return
 
   -- WHILE
 
@@ -211,16 +178,9 @@ module _ (scope : Scope) (sight : Sight) (inside : Bool) where
   of_loop l e b g fits p = record {
     x = stmt.While g.t.tree p.xs;
     found = while_is scope l (tree e) (tree_all b) g.t.tree p.xs (test_is scope l (tree e) g.t g.found fits) p.found;
-    typed = good_while sight inside g.t.tree p.xs
-        ∙ both_true (has_type type.Bool (expression_type sight g.t.tree)) (are_well_typed sight true p.xs)
-        (typed_as l e type.Bool g fits) p.typed;
-    low = λ d. omega (arith, nesting_while g.t.tree p.xs, g.close.inner, p.low (suc d));
-    calls = λ f. omega (
-      arith,
-      p.calls f,
-      bound_while (costs f) scope l (tree e) (tree_all b),
-      called_while f g.t.tree p.xs,
-    );
+    typed = rw (good_while sight inside g.t.tree p.xs, g.typed, fits) p.typed;
+    low = λ d. omega (arith, nesting_while g.t.tree p.xs, p.low (suc d));
+    calls = λ f. omega (arith, bound_while (costs f) scope l (tree e) (tree_all b), called_while f g.t.tree p.xs);
   }
 
   -- IF
@@ -239,58 +199,31 @@ module _ (scope : Scope) (sight : Sight) (inside : Bool) where
       → rules.is_type g.t.ty type.Bool ≡ true → All b → SomeArms l (arm others e b)
   of_arm l others e b p g fits q =
       let x : Arm = record { test = g.t.tree; body = q.xs } in
-      let read = raw_arm (tree e) (tree_all b) in
       record {
         xs = p.xs ++ x ∷ [];
-        found = arms_sound_last scope l (tree_arms others) read p.xs x p.found
+        found = arms_sound_last scope l (tree_arms others) (raw_arm (tree e) (tree_all b)) p.xs x p.found
             (arm_is scope l (tree e) (tree_all b) g.t.tree q.xs (test_is scope l (tree e) g.t g.found fits) q.found);
-        typed = checks_last (is_arm sight) (λ c. c inside) p.xs x p.typed (good_arm sight inside x
-            ∙ both_true (has_type type.Bool (expression_type sight g.t.tree)) (are_well_typed sight inside q.xs)
-            (typed_as l e type.Bool g fits) q.typed);
+        typed = checks_last (is_arm sight) (λ c. c inside) p.xs x p.typed (rw (good_arm sight inside x, g.typed, fits) q.typed);
         some = λ h. some_last (is_arm sight) p.xs x;
-        low = λ d. omega (arith, greatest_last arm_nesting p.xs x, nesting_arm x, p.low d, g.close.inner, q.low d);
-        calls = λ f. omega (
-          arith,
-          p.calls f,
-          q.calls f,
-          greatest_last (called_in_arm f) p.xs x,
-          arms_last (costs f) scope (tree_arms others) (tree e) (tree_all b),
-        );
+        low = λ d. omega (arith, greatest_last arm_nesting p.xs x, nesting_arm x, p.low d, q.low d);
+        calls = λ f. omega (arith, greatest_last (called_in_arm f) p.xs x, arms_last (costs f) scope (tree_arms others) (tree e) (tree_all b));
       }
-
-  if_typed : (arms : List Arm) (other : List Stmt) → is_some_of (map (is_arm sight) arms) ≡ true
-      → each inside (map (is_arm sight) arms) ≡ true → are_well_typed sight inside other ≡ true
-      → is_well_typed sight (stmt.If arms other) inside ≡ true
-  if_typed arms other some h g =
-      let first : Bool = is_some_of (map (is_arm sight) arms) && each inside (map (is_arm sight) arms) in
-      good_if sight inside arms other
-      ∙ both_true first (are_well_typed sight inside other)
-      (both_true (is_some_of (map (is_arm sight) arms)) (each inside (map (is_arm sight) arms)) some h) g
-
-  pub of_choice : (l : Line) (arms : Arms) → HasArm arms → SomeArms l arms → One (choice l arms)
-  of_choice l arms some p = record {
-    x = stmt.If p.xs [];
-    found = if_is scope l (tree_arms arms) [] p.xs [] p.found refl;
-    typed = if_typed p.xs [] (p.some some) p.typed refl;
-    low = λ d. omega (arith, nesting_if p.xs [], p.low (suc d), arms_high (suc d) arms some);
-    calls = λ f. omega (arith, p.calls f, bound_if (costs f) scope l (tree_arms arms) [], called_if f p.xs []);
-  }
 
   pub of_choice_else : (l : Line) (arms : Arms) (b : Statements) → HasArm arms → SomeArms l arms → All b
       → One (choice_else l arms b)
   of_choice_else l arms b some p q = record {
     x = stmt.If p.xs q.xs;
     found = if_is scope l (tree_arms arms) (tree_all b) p.xs q.xs p.found q.found;
-    typed = if_typed p.xs q.xs (p.some some) p.typed q.typed;
+    typed = rw (good_if sight inside p.xs q.xs, p.some some, p.typed) q.typed;
     low = λ d. omega (arith, nesting_if p.xs q.xs, p.low (suc d), q.low (suc d));
-    calls = λ f. omega (
-      arith,
-      p.calls f,
-      q.calls f,
-      bound_if (costs f) scope l (tree_arms arms) (tree_all b),
-      called_if f p.xs q.xs,
-    );
+    calls = λ f. omega (arith, bound_if (costs f) scope l (tree_arms arms) (tree_all b), called_if f p.xs q.xs);
   }
+
+  -- one without ELSE is read as one with an empty ELSE
+  pub of_choice : (l : Line) (arms : Arms) → HasArm arms → SomeArms l arms → One (choice l arms)
+  of_choice l arms some p =
+      let q = of_choice_else l arms none some p of_none in
+      record { x = q.x; found = q.found; typed = q.typed; low = λ d. omega (arith, q.low d, arms_high (suc d) arms some); calls = q.calls }
 
   -- CASE
 
@@ -314,59 +247,24 @@ module _ (scope : Scope) (sight : Sight) (inside : Bool) where
         found = cases_sound_last scope l (Some ty) (tree_cases others) (raw_case (tree_labels labels) (tree_all b)) p.xs x p.found
             (case_arm_is scope l ty (tree_labels labels) (tree_all b) ns q.xs (ap (label_breaks l (Some ty)) g.found ∙ no_label_breaks l ty ns)
             (ap values g.found ∙ values_of ty ns) q.found);
-        typed = checks_last (is_case_arm sight) (λ c. c ty inside) p.xs x p.typed (good_case_arm sight inside x ty
-            ∙ both_true (is_some_of ns && list_all (is_value ty) ns) (are_well_typed sight inside q.xs) g.typed q.typed);
+        typed = checks_last (is_case_arm sight) (λ c. c ty inside) p.xs x p.typed (rw (good_case_arm sight inside x ty, g.typed) q.typed);
         some = λ h. some_last (is_case_arm sight) p.xs x;
         low = λ d. omega (arith, greatest_last case_nesting p.xs x, nesting_case_arm x, p.low d, q.low d);
-        calls = λ f. omega (
-          arith,
-          p.calls f,
-          q.calls f,
-          greatest_last (called_in_case f) p.xs x,
-          cases_last (costs f) scope (tree_cases others) (tree_labels labels) (tree_all b),
-        );
+        calls = λ f. omega (arith, greatest_last (called_in_case f) p.xs x, cases_last (costs f) scope (tree_cases others) (tree_labels labels) (tree_all b));
       }
-
-  case_typed : (l : Line) (e : Form) (g : An l e) (arms : List CaseArm) (other : List Stmt)
-      → rules.is_selector g.t.ty ≡ true → is_some_of (map (is_case_arm sight) arms) ≡ true
-      → each_case g.t.ty inside (map (is_case_arm sight) arms) ≡ true → are_well_typed sight inside other ≡ true
-      → is_well_typed sight (stmt.Case g.t.tree arms other) inside ≡ true
-  case_typed l e g arms other fits some h more =
-      let checks = map (is_case_arm sight) arms in
-      let first : Bool = is_selector g.t.ty && is_some_of checks in
-      good_case sight inside g.t.tree arms other
-      ∙ ap (λ o. are_cases o inside checks && are_well_typed sight inside other) g.typed
-      ∙ both_true (first && each_case g.t.ty inside checks) (are_well_typed sight inside other)
-      (both_true first (each_case g.t.ty inside checks)
-      (both_true (is_selector g.t.ty) (is_some_of checks) (fits) some) h) more
-
-  pub of_cases : (l : Line) (e : Form) (arms : CaseArms) → HasCase arms → (g : An l e)
-      → rules.is_selector g.t.ty ≡ true → SomeCases l g.t.ty arms → One (cases l e arms)
-  of_cases l e arms some g fits p = record {
-    x = stmt.Case g.t.tree p.xs [];
-    found = case_is scope l (tree e) (tree_cases arms) [] g.t p.xs [] (selector_is scope l (tree e) g.t g.found fits) p.found refl;
-    typed = case_typed l e g p.xs [] fits (p.some some) p.typed refl;
-    low = λ d. omega (arith, nesting_case g.t.tree p.xs [], g.close.inner, p.low (suc d));
-    calls = λ f. omega (
-      arith,
-      p.calls f,
-      bound_case (costs f) scope l (tree e) (tree_cases arms) [],
-      called_case f g.t.tree p.xs [],
-    );
-  }
 
   pub of_cases_else : (l : Line) (e : Form) (arms : CaseArms) (b : Statements) → HasCase arms → (g : An l e)
       → rules.is_selector g.t.ty ≡ true → SomeCases l g.t.ty arms → All b → One (cases_else l e arms b)
   of_cases_else l e arms b some g fits p q = record {
     x = stmt.Case g.t.tree p.xs q.xs;
     found = case_is scope l (tree e) (tree_cases arms) (tree_all b) g.t p.xs q.xs (selector_is scope l (tree e) g.t g.found fits) p.found q.found;
-    typed = case_typed l e g p.xs q.xs fits (p.some some) p.typed q.typed;
-    low = λ d. omega (arith, nesting_case g.t.tree p.xs q.xs, g.close.inner, p.low (suc d), q.low (suc d));
-    calls = λ f. omega (
-      arith,
-      p.calls f,
-      q.calls f,
-      bound_case (costs f) scope l (tree e) (tree_cases arms) (tree_all b),
-      called_case f g.t.tree p.xs q.xs,
-    );
+    typed = rw (good_case sight inside g.t.tree p.xs q.xs, g.typed, fits, p.some some, p.typed) q.typed;
+    low = λ d. omega (arith, nesting_case g.t.tree p.xs q.xs, p.low (suc d), q.low (suc d));
+    calls = λ f. omega (arith, bound_case (costs f) scope l (tree e) (tree_cases arms) (tree_all b), called_case f g.t.tree p.xs q.xs);
   }
+
+  pub of_cases : (l : Line) (e : Form) (arms : CaseArms) → HasCase arms → (g : An l e)
+      → rules.is_selector g.t.ty ≡ true → SomeCases l g.t.ty arms → One (cases l e arms)
+  of_cases l e arms some g fits p =
+      let q = of_cases_else l e arms none some g fits p of_none in
+      record { x = q.x; found = q.found; typed = q.typed; low = λ d. omega (arith, q.low d); calls = q.calls }
