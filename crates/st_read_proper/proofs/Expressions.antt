@@ -1,6 +1,12 @@
 -- An expression that breaks no rule is well typed, and nests no deeper than it is written.
 use Rattle.st_read_proper.proofs.Worded.{Worded, form_behind, literal_is}
-use Rattle.std.proofs.Common.{◌≡◌, true, [], Option, Some, Result, Ok, Err, refl, sym, ap, subst, ◌∙◌, arith}
+use Rattle.std.proofs.Common.{◌≡◌, true, [], Some, Result, Ok, Err, refl, sym, ap, subst, ◌∙◌, arith, ℕ, suc, ◌+◌, ◌-◌, ◌<◌, ◌≤◌, Bool, false, max}
+use Rattle.std.specs.Prelude.{nat_lt, if◌then◌else◌}
+use Rattle.std.proofs.lemmas.Bool.Decides.{nat_tests}
+use Rattle.st_grammar.specs.Grammar as grammar
+use Rattle.st_grammar.specs.Levels.{height}
+use Rattle.st_canonical.proofs.Levels.{nest}
+use Rattle.st_tree.specs.Nesting.{form_height, form_nesting}
 use Rattle.s7_base.specs.declared.reason.Line.{Line}
 use Rattle.s7_base.specs.declared.reason.Reason.{Reason}
 use Rattle.s7_base.specs.declared.word.Width.{Width}
@@ -11,7 +17,6 @@ use Rattle.st_grammar.specs.Grammar.{Binds, label_tree, tree, spell}
 use Rattle.st_grammar.specs.declared.kind.Literal.{Literal}
 use Rattle.st_grammar.specs.declared.kind.OneOperand.TheVariants as one
 use Rattle.st_grammar.specs.declared.kind.Prefix.TheVariants as before
-use Rattle.st_read_proper.proofs.Nested.{Close, Under, alike, close_area, close_convert, close_group, close_infix, close_select, close_shift, close_unary, written}
 use Rattle.st_types_laws.proofs.Operands.{IsClean, area_by, area_operand, binary_by, binary_operands, convert_by, convert_operand, has_type, is_typed, select_by, select_operands, shift_by, shift_operands, unary_by, unary_operand}
 use Rattle.st_types_laws.proofs.ReadEquations.{read_literal, read_variable}
 use Rattle.st_read_proper.proofs.Sees.{Sees, variable_has}
@@ -25,9 +30,9 @@ use Rattle.st_rules.specs.declared.variable.TypedVar.{TypedVar}
 use Rattle.st_tree.proofs.Equations.{canon_area_read, canon_binary, canon_convert, canon_literal, canon_read, canon_select, canon_shift, canon_unary}
 use Rattle.st_tree.proofs.TypingEquations.{typed_area_read, typed_binary, typed_convert, typed_literal, typed_read, typed_select, typed_shift, typed_unary}
 use Rattle.st_tree.specs.Form as canonical
-use Rattle.st_tree.specs.Form.{canon}
+use Rattle.st_tree.specs.Form.{canon, infix_level, level, unary_form, wrap}
 use Rattle.st_tree.specs.Naming.{is_conversion}
-use Rattle.st_tree.specs.TypeRules.{type_of_binary, type_of_choice, type_of_conversion, type_of_read, type_of_shift, type_of_unary, where_true}
+use Rattle.st_tree.specs.TypeRules.{where_true}
 use Rattle.st_tree.specs.WellTyped.{Sight, expression_type, on_type}
 use Rattle.st_tree.specs.declared.expr.BinaryOp.{BinaryOp}
 use Rattle.st_tree.specs.declared.expr.Expr.TheVariants as expr
@@ -37,6 +42,94 @@ use Rattle.st_tree.specs.declared.expr.UnaryOp.{UnaryOp}
 use Rattle.st_tree.specs.declared.expr.UnaryOp.TheVariants as unary
 use Rattle.st_tree.specs.declared.raw.RawExpr.TheVariants as raw
 use Rattle.st_tree.specs.declared.raw.RawVar.{RawVar}
+
+-- The brackets that the tree of an expression needs stand in each form that has the tree: it nests no deeper
+
+-- what holds of a form that was read and the form with the brackets that its tree needs
+pub record Close (f : Form) (c : canonical.Form) : Type 0 where
+  pub inner : form_nesting c ≤ nest f
+  pub outer : (j : ℕ) → grammar.level f ≤ j → form_nesting (wrap j c) ≤ nest f
+  pub high : form_height c ≡ height f
+
+wrap_nesting : (j : ℕ) (c : canonical.Form) → form_nesting (wrap j c) ≤ suc (form_nesting c)
+wrap_nesting j c = by (nat_lt j (level c))
+  where
+    by : (b : Bool) → form_nesting (if b then canonical.group c else c) ≤ suc (form_nesting c)
+    by true = omega arith
+    by false = omega arith
+
+wrap_height : (j : ℕ) (c : canonical.Form) → form_height (wrap j c) ≡ form_height c
+wrap_height j c = by (nat_lt j (level c))
+  where
+    by : (b : Bool) → form_height (if b then canonical.group c else c) ≡ form_height c
+    by true = refl
+    by false = refl
+
+unwrapped : (j : ℕ) (c : canonical.Form) → level c ≤ j → wrap j c ≡ c
+unwrapped j c h = by (nat_lt j (level c)) (no j (level c) h)
+  where
+    by : (b : Bool) → b ≡ false → (if b then canonical.group c else c) ≡ c
+    by true e = absurd cc
+    by false e = refl
+
+    no : (i n : ℕ) → n ≤ i → nat_lt i n ≡ false
+    no i n h = grind (arith, nat_tests)
+
+-- a form that is no group keeps its outermost operator
+alike : (f : Form) (c : canonical.Form) → level c ≤ grammar.level f → form_nesting c ≤ nest f
+    → form_height c ≡ height f → Close f c
+alike f c same inner high = record {
+  inner = inner;
+  outer = λ j h. subst (λ (d : canonical.Form). form_nesting d ≤ nest f) (sym (unwrapped j c (omega (arith, same, h)))) inner;
+  high = high;
+}
+
+close_group : (f : Form) (c : canonical.Form) → Close f c → Close (group f) c
+close_group f c g = record { inner = omega arith; outer = λ j h. omega (arith, wrap_nesting j c); high = g.high }
+
+-- an operator on one operand, as it is written
+abbrev written : UnaryOp → Form → Form
+written unary.Minus f = prefix before.Minus f
+written unary.Not f = prefix before.Not f
+written unary.BcdToInt f = apply one.BcdToInt f
+written unary.BcdToDint f = apply one.BcdToDint f
+
+-- how it binds
+abbrev Under : UnaryOp → Form → Type 0
+Under unary.Minus f = grammar.level f ≤ 1
+Under unary.Not f = grammar.level f ≤ 2
+Under op f = Unit {0}
+
+close_unary : (op : UnaryOp) (f : Form) (c : canonical.Form) → Under op f → Close f c → Close (written op f) (unary_form op c)
+close_unary unary.Minus f c h g = alike _ _ (omega arith) (omega (arith, g.outer 1 h)) (omega (arith, wrap_height 1 c))
+close_unary unary.Not f c h g = alike _ _ (omega arith) (omega (arith, g.outer 2 h)) (omega (arith, wrap_height 2 c))
+close_unary op f c h g = alike _ _ (omega arith) (omega arith) (omega arith)
+
+close_infix : (op : BinaryOp) (f g : Form) (c d : canonical.Form) → grammar.level f ≤ infix_level op
+    → grammar.level g < infix_level op → Close f c → Close g d
+    → Close (infix_of op f g) (canonical.infix_of op (wrap (infix_level op) c) (wrap (infix_level op - 1) d))
+close_infix op f g c d h less p q =
+    alike _ _ (omega arith)
+    (most _ _ _ _ _ _ (p.outer (infix_level op) h)
+    (q.outer (infix_level op - 1) (below (grammar.level g) (infix_level op) less)) high_c)
+    (tall _ _ _ _ high_c high_d)
+  where
+    high_c : form_height (wrap (infix_level op) c) ≡ height f
+    high_c = wrap_height (infix_level op) c ∙ p.high
+
+    high_d : form_height (wrap (infix_level op - 1) d) ≡ height g
+    high_d = wrap_height (infix_level op - 1) d ∙ q.high
+
+    below : (i k : ℕ) → i < k → i ≤ k - 1
+    below i k h = omega arith
+
+    most : (nc ne nd nf hc he : ℕ) → nc ≤ ne → nd ≤ nf → hc ≡ he → max (max nc hc) nd ≤ max (max ne he) nf
+    most nc ne nd nf hc he p q r = omega arith
+
+    tall : (hc he hd hf : ℕ) → hc ≡ he → hd ≡ hf → suc (max hc hd) ≡ 1 + max he hf
+    tall hc he hd hf p q = omega arith
+
+-- Expressions
 
 -- what an expression that was read is in the tree
 pub record Found (scope : Scope) (sight : Sight) (l : Line) (f : Form) : Type 0 where
@@ -52,9 +145,6 @@ module _ (scope : Scope) (sight : Sight) (sees : Sees scope sight) (l : Line) wh
   abbrev Clean : Form → Type 0
   Clean f = (expression scope l (tree f)).breaks ≡ []
 
-  abbrev type_of : Typed → Option StType
-  type_of t = expression_type sight t.tree
-
   of_literal : (c : Literal) → is_literal c ≡ true → Fine (literal c)
   of_literal c h =
       let ty = (label_tree c).0 in
@@ -63,8 +153,7 @@ module _ (scope : Scope) (sight : Sight) (sees : Sees scope sight) (l : Line) wh
         t = record { ty = ty; tree = expr.Literal ty n };
         found = ap (expression scope l) (tree_of_label c) ∙ read_literal scope l ty n;
         typed = typed_literal sight ty n ∙ ap (λ t. where_true t ty) (label_value c h);
-        close = subst (Close (literal c)) (sym (canon_literal ty n))
-            (alike (literal c) (canonical.literal ty n) (omega arith) (omega arith) refl);
+        close = rw (canon_literal ty n) (alike _ _ (omega arith) (omega arith) refl);
       }
 
   of_read : (v : RawVar) (line : Line) → is_variable v ≡ true → Clean (variable v line) → Fine (variable v line)
@@ -79,8 +168,7 @@ module _ (scope : Scope) (sight : Sight) (sees : Sees scope sight) (l : Line) wh
             ∙ ap (λ (r : Result TypedVar Reason). let j : Judged TypedVar = answered l r in
             let k : Judged Typed = record { found = read_of j.found; breaks = j.breaks } in k) e;
         typed = typed_read sight x.var ∙ variable_has scope sight sees v x h e;
-        close = subst (Close (variable v line)) (sym (canon_read x.var))
-            (alike (variable v line) (canonical.variable x.var) (omega arith) (omega arith) refl);
+        close = rw (canon_read x.var) (alike _ _ (omega arith) (omega arith) refl);
       }
 
   of_group : (f : Form) → Fine f → Fine (group f)
@@ -95,9 +183,8 @@ module _ (scope : Scope) (sight : Sight) (sees : Sees scope sight) (l : Line) wh
       record {
         t = record { ty = ty.0; tree = expr.Unary op g.t.tree };
         found = ap (expression scope l) same_tree ∙ is_typed by ty.1;
-        typed = typed_unary sight op g.t.tree ∙ ap (λ o. on_type o (type_of_unary op)) g.typed
-            ∙ ty.1;
-        close = subst (Close (written op f)) (sym (canon_unary op g.t.tree)) (close_unary op f (canon g.t.tree) under g.close);
+        typed = rw (typed_unary sight op g.t.tree, g.typed) ty.1;
+        close = rw (canon_unary op g.t.tree) (close_unary op f (canon g.t.tree) under g.close);
       }
 
   of_infix : (op : BinaryOp) (f g : Form) → Binds (infix_of op f g) → Fine f → Fine g → Clean (infix_of op f g)
@@ -108,12 +195,8 @@ module _ (scope : Scope) (sight : Sight) (sees : Sees scope sight) (l : Line) wh
       record {
         t = record { ty = ty.0; tree = expr.Binary op p.t.tree q.t.tree };
         found = is_typed by ty.1;
-        typed = typed_binary sight op p.t.tree q.t.tree
-            ∙ ap (λ o. on_type o (λ ty. on_type (type_of q.t) (type_of_binary op ty))) p.typed
-            ∙ ap (λ o. on_type o (type_of_binary op p.t.ty)) q.typed
-            ∙ ty.1;
-        close = subst (Close (infix_of op f g)) (sym (canon_binary op p.t.tree q.t.tree))
-            (close_infix op f g (canon p.t.tree) (canon q.t.tree) b.0 b.1 p.close q.close);
+        typed = rw (typed_binary sight op p.t.tree q.t.tree, p.typed, q.typed) ty.1;
+        close = rw (canon_binary op p.t.tree q.t.tree) (close_infix op f g _ _ b.0 b.1 p.close q.close);
       }
 
   of_convert : (from to : StType) (f : Form) → is_function (one.Convert from to) ≡ true → Fine f
@@ -125,12 +208,9 @@ module _ (scope : Scope) (sight : Sight) (sees : Sees scope sight) (l : Line) wh
       record {
         t = record { ty = ty.0; tree = expr.Convert from to g.t.tree };
         found = is_typed by ty.1;
-        typed = typed_convert sight from to g.t.tree
-            ∙ ap (λ o. on_type o (λ ty. on_type (type_of_conversion from to ty) (where_true (is_conversion from to)))) g.typed
-            ∙ ap (λ o. on_type o (where_true (is_conversion from to))) ty.1
-            ∙ ap (λ t. where_true t ty.0) known;
-        close = subst (Close (apply (one.Convert from to) f)) (sym (canon_convert from to g.t.tree))
-            (close_convert from to f (canon g.t.tree) g.close);
+        typed = rw (typed_convert sight from to g.t.tree, g.typed)
+            (ap (λ o. on_type o (where_true (is_conversion from to))) ty.1 ∙ ap (λ t. where_true t ty.0) known);
+        close = rw (canon_convert from to g.t.tree) (alike _ _ (omega arith) (omega arith) (omega arith));
       }
 
   of_area : (w : Width) (f : Form) → Fine f → Clean (apply (one.AreaRead w) f) → Fine (apply (one.AreaRead w) f)
@@ -140,10 +220,8 @@ module _ (scope : Scope) (sight : Sight) (sees : Sees scope sight) (l : Line) wh
       record {
         t = record { ty = ty.0; tree = expr.AreaRead w g.t.tree };
         found = is_typed by ty.1;
-        typed = typed_area_read sight w g.t.tree ∙ ap (λ o. on_type o (type_of_read w)) g.typed
-            ∙ ty.1;
-        close = subst (Close (apply (one.AreaRead w) f)) (sym (canon_area_read w g.t.tree))
-            (close_area w f (canon g.t.tree) g.close);
+        typed = rw (typed_area_read sight w g.t.tree, g.typed) ty.1;
+        close = rw (canon_area_read w g.t.tree) (alike _ _ (omega arith) (omega arith) (omega arith));
       }
 
   of_shift : (op : ShiftOp) (f g : Form) → Fine f → Fine g → Clean (shift op f g) → Fine (shift op f g)
@@ -153,12 +231,8 @@ module _ (scope : Scope) (sight : Sight) (sees : Sees scope sight) (l : Line) wh
       record {
         t = record { ty = ty.0; tree = expr.Shift op p.t.tree q.t.tree };
         found = is_typed by ty.1;
-        typed = typed_shift sight op p.t.tree q.t.tree
-            ∙ ap (λ o. on_type o (λ ty. on_type (type_of q.t) (type_of_shift ty))) p.typed
-            ∙ ap (λ o. on_type o (type_of_shift p.t.ty)) q.typed
-            ∙ ty.1;
-        close = subst (Close (shift op f g)) (sym (canon_shift op p.t.tree q.t.tree))
-            (close_shift op f g (canon p.t.tree) (canon q.t.tree) p.close q.close);
+        typed = rw (typed_shift sight op p.t.tree q.t.tree, p.typed, q.typed) ty.1;
+        close = rw (canon_shift op p.t.tree q.t.tree) (alike _ _ (omega arith) (omega arith) (omega arith));
       }
 
   of_select : (f g h : Form) → Fine f → Fine g → Fine h → Clean (select f g h) → Fine (select f g h)
@@ -168,13 +242,8 @@ module _ (scope : Scope) (sight : Sight) (sees : Sees scope sight) (l : Line) wh
       record {
         t = record { ty = ty.0; tree = expr.Select p.t.tree q.t.tree r.t.tree };
         found = is_typed by ty.1;
-        typed = typed_select sight p.t.tree q.t.tree r.t.tree
-            ∙ ap (λ o. on_type o (λ g. on_type (type_of q.t) (λ ty. on_type (type_of r.t) (type_of_choice g ty)))) p.typed
-            ∙ ap (λ o. on_type o (λ ty. on_type (type_of r.t) (type_of_choice p.t.ty ty))) q.typed
-            ∙ ap (λ o. on_type o (type_of_choice p.t.ty q.t.ty)) r.typed
-            ∙ ty.1;
-        close = subst (Close (select f g h)) (sym (canon_select p.t.tree q.t.tree r.t.tree))
-            (close_select f g h (canon p.t.tree) (canon q.t.tree) (canon r.t.tree) p.close q.close r.close);
+        typed = rw (typed_select sight p.t.tree q.t.tree r.t.tree, p.typed, q.typed, r.typed) ty.1;
+        close = rw (canon_select p.t.tree q.t.tree r.t.tree) (alike _ _ (omega arith) (omega arith) (omega arith));
       }
 
   -- an expression that was read

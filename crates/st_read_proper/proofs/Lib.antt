@@ -6,7 +6,6 @@ pub mod Declared
 pub mod Expressions
 pub mod Globals
 pub mod Invoked
-pub mod Nested
 pub mod Places
 pub mod ReadProper
 pub mod Sees

@@ -1,6 +1,6 @@
 -- Statements that break no rule, by their parts: they are well typed, nest no deeper than they are written, and
 -- call what the text calls.
-use Rattle.std.proofs.Common.{◌≡◌, ℕ, suc, ◌+◌, ◌≤◌, max, ◌++◌, ℤ, Bool, true, ◌&&◌, List, [], ◌∷◌, map, Option, Some, None, Ok, refl, ap, subst, ◌∙◌, arith}
+use Rattle.std.proofs.Common.{◌≡◌, ℕ, suc, ◌+◌, ◌≤◌, max, ◌++◌, ℤ, Bool, true, List, [], ◌∷◌, map, Option, Some, None, Ok, refl, ap, subst, ◌∙◌, arith}
 use Rattle.std.specs.List.{list_all}
 use Rattle.std.specs.Prelude.{slice_get}
 use Rattle.std.proofs.lemmas.Bool.{and_parts}
@@ -31,7 +31,7 @@ use Rattle.st_tree.specs.Depth.{greatest}
 use Rattle.st_tree.specs.Nesting.{arm_nesting, body_nesting, case_nesting, nesting}
 use Rattle.st_tree.specs.TypeRules.{is_selector}
 use Rattle.st_tree.specs.Values.{type_of_width}
-use Rattle.st_tree.specs.WellTyped.{Head, Sight, are_cases, are_well_typed, each, each_case, expression_type, has_type, is_arm, is_assigned, is_case_arm, is_some_of, is_value, is_well_typed, variable_type}
+use Rattle.st_tree.specs.WellTyped.{Head, Sight, are_well_typed, each, each_case, is_arm, is_case_arm, is_some_of, is_well_typed, variable_type}
 use Rattle.st_tree.specs.declared.expr.StType.{StType}
 use Rattle.st_tree.specs.declared.expr.StType.TheVariants as type
 use Rattle.st_tree.specs.declared.program.Arm.{Arm}

@@ -24,10 +24,8 @@ use Rattle.st_grammar.specs.Kinds.{word_text, fixed_text, size_before_line, conv
 use Rattle.st_canonical.specs.Spelled.{is_unreserved, is_function, is_name, is_spelled}
 use Rattle.st_grammar.specs.Syntax.{HasRawTree, all_lined, kinds}
 use Rattle.st_grammar.specs.declared.kind.Fixed.{Fixed}
-use Rattle.st_grammar.specs.declared.kind.Function.TheVariants as function
 use Rattle.st_grammar.specs.declared.kind.Kind.{Kind}
 use Rattle.st_grammar.specs.declared.kind.Kind.TheVariants as kind
-use Rattle.st_grammar.specs.declared.kind.Literal.{Literal}
 use Rattle.st_grammar.specs.declared.kind.OneOperand.{OneOperand}
 use Rattle.st_grammar.specs.declared.kind.Word.{Word}
 use Rattle.st_grammar.specs.declared.kind.Word.TheVariants as word

@@ -1,5 +1,5 @@
 -- The pass of the code does what the pass that keeps what is written does.
-use Rattle.std.proofs.Common.{◌≡◌, ℕ, suc, Bool, true, false, List, [], ◌∷◌, Option, Some, None, refl, sym, ap, ◌∙◌}
+use Rattle.std.proofs.Common.{◌≡◌, ℕ, suc, Bool, true, false, List, [], ◌∷◌, Option, Some, None, refl, ap, ◌∙◌}
 use Rattle.std.specs.Prelude.{nat_le, if◌then◌else◌, option_map}
 use Rattle.st_grammar.specs.Forms.{Form, none, no_local, prefix, infix_of, Statements, plain, Locals, Section, absent, Head}
 use Rattle.st_grammar.specs.Grammar.{prefix_level, is_value, may_jump, is_direct, tree, tree_one, tree_all, tree_arms, tree_cases, tree_actuals, tree_labels, tree_items, tree_type, tree_globals, tree_locals, tree_units, held}

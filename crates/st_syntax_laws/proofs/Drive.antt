@@ -15,7 +15,6 @@ use Rattle.st_grammar.specs.declared.kind.Prefix.TheVariants as before
 use Rattle.st_syntax_laws.proofs.Precedence.{infix_most, infix_some, level_most, prefix_above, prefix_most}
 use Rattle.st_tree.specs.Form.{infix_level, weakest}
 use Rattle.st_tree.specs.declared.expr.BinaryOp.{BinaryOp}
-use Rattle.st_tree.specs.declared.expr.BinaryOp.TheVariants as binary
 
 -- a unit with its declarations: what stands before its statements
 pub record DeclaredUnit : Type 0 where

@@ -7,7 +7,7 @@ use Rattle.st_syntax_laws.proofs.Kept.{past_stack, past_place, past_array, past_
 use Rattle.st_grammar.specs.Forms.{Statements, none, Items, no_item, Globals, Locals, no_local, local, Section, absent, unit}
 use Rattle.st_grammar.specs.Grammar.{is_direct, GlobalsFit, FormalsFit, LocalsFit, IfPresent, HeadFits, AllFit, spell_all, comma_past, spell_items, spell_initial, spell_globals, end_word, spell_formals, spell_temps}
 use Rattle.st_tree.specs.Naming.{is_free, may_name_global, may_name_unit, names_block}
-use Rattle.st_grammar.specs.inner.Machine.{written, Frame, Place, statement, BodyState, Row, at_word, at_place, at_colon, at_type, at_square, at_zero, at_dots, at_last, at_close, at_of, at_byte, at_becomes, at_open, at_item, at_count, at_value, at_value_end, at_comma, at_end, local_colon, local_type, local_end, TextSoFar, BegunUnit, formals, temps, State, start, globals, row, between, heading, opened, formals_done, section, typing, inside}
+use Rattle.st_grammar.specs.inner.Machine.{written, Frame, Place, statement, BodyState, Row, at_word, at_place, at_type, at_zero, at_byte, at_comma, at_end, local_colon, local_type, TextSoFar, BegunUnit, formals, temps, State, start, globals, row, between, heading, opened, formals_done, section, typing, inside}
 use Rattle.st_grammar.specs.inner.Steps.{body_state, step_at, row_step, before_units, may_name, may_type, at_between, ends, leave, at_inside, at_formals_done, next}
 use Rattle.st_grammar.specs.declared.kind.Fixed.TheVariants as fixed
 use Rattle.st_grammar.specs.declared.kind.Kind.{Kind}

@@ -9,11 +9,7 @@ use Rattle.st_grammar.specs.declared.kind.Fixed.TheVariants as fixed
 use Rattle.st_grammar.specs.declared.kind.Function.TheVariants as function
 use Rattle.st_grammar.specs.declared.kind.Kind.{Kind}
 use Rattle.st_grammar.specs.declared.kind.Kind.TheVariants as kind
-use Rattle.st_grammar.specs.declared.kind.Prefix.{Prefix}
-use Rattle.st_grammar.specs.declared.kind.Prefix.TheVariants as before
 use Rattle.st_tree.specs.Form.{infix_level, weakest}
-use Rattle.st_tree.specs.declared.expr.BinaryOp.{BinaryOp}
-use Rattle.st_tree.specs.declared.expr.BinaryOp.TheVariants as op
 use Rattle.st_tree.specs.declared.raw.RawExpr.{RawExpr}
 use Rattle.st_tree.specs.declared.raw.RawExpr.TheVariants as expr
 
