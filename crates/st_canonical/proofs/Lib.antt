@@ -1,6 +1,5 @@
 mod CanonicalRows
 mod CutExpressions
-mod CutGlobals
 mod CutLiterals
 mod CutStatements
 mod CutUnits

@@ -5,8 +5,7 @@ use Rattle.s7_base.specs.Tokens.{line_at_end}
 use Rattle.s7_base.specs.declared.reason.Line.{Line}
 use Rattle.st_lexer.specs.StTokens.{answer, answer_to, first_bad, tokens_of}
 use Rattle.st_tree.specs.declared.token.StToken.{StToken}
-use Rattle.st_canonical.proofs.CutGlobals.{reads_globals}
-use Rattle.st_canonical.proofs.CutUnits.{reads_units}
+use Rattle.st_canonical.proofs.CutUnits.{reads_units, reads_globals}
 use Rattle.st_canonical.proofs.Cuts.{IsCut, ReadsOn, reads_as, reads_end}
 use Rattle.st_canonical.specs.Canonical.{globals_from, source_of, units_from}
 use Rattle.st_canonical.specs.CanonicalLaws.{CanonicalTextReads}

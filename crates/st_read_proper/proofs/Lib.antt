@@ -1,16 +1,11 @@
-pub mod Blocks
 pub mod Bodies
-pub mod CaseLabels
 pub mod Chains
-pub mod Declared
 pub mod Expressions
 pub mod Globals
-pub mod Invoked
 pub mod Places
 pub mod ReadProper
 pub mod Sees
 pub mod Statements
-pub mod TokensWorded
 pub mod Units
 pub mod Values
 pub mod Worded

@@ -7,22 +7,20 @@ use Rattle.st_grammar.specs.Forms.{Globals, Section, Source, absent, present}
 use Rattle.st_grammar.specs.Grammar.{GlobalsFit, IfPresent, SourceFits, held, raw_tree, tree_all, tree_globals, spell_globals, spell_section, spell_source, spell_units}
 use Rattle.st_grammar.specs.Levels.{deepest, levels_globals, levels_section, levels_source}
 use Rattle.st_grammar.specs.Syntax.{AllWithin}
-use Rattle.st_read_proper.proofs.Blocks.{are_data_blocks}
 use Rattle.st_read_proper.proofs.Bodies.{found_all}
 use Rattle.st_read_proper.proofs.Chains.{HaveCalls, short_chains}
-use Rattle.st_read_proper.proofs.Declared.{inner_apart, outer_apart, unit_sees}
+use Rattle.st_read_proper.proofs.Sees.{inner_apart, outer_apart, unit_sees}
 use Rattle.st_types_laws.proofs.Apart.{Lists}
 use Rattle.st_types_laws.proofs.Bounds.{bound_all}
 use Rattle.st_types_laws.proofs.Keyed.{AreDistinct, distinct_of}
 use Rattle.st_types_laws.proofs.Lists.{Each, each_all, each_at, each_from, mapped_at, mapped_from, nil_at, nil_second}
-use Rattle.st_read_proper.proofs.Globals.{are_globals}
+use Rattle.st_read_proper.proofs.Globals.{are_globals, are_data_blocks}
 use Rattle.st_canonical.proofs.Levels.{top_all}
 use Rattle.st_types_laws.proofs.Parts.{found_of}
 use Rattle.st_read_proper.proofs.Statements.{FoundAll, of_heads}
-use Rattle.st_read_proper.proofs.TokensWorded.{read_worded}
 use Rattle.st_read_proper.proofs.Units.{IsHeaded, WasRead, are_headed, were_read}
 use Rattle.st_read_proper.specs.ReadProper.{ReadsAreProper}
-use Rattle.st_read_proper.proofs.Worded.{AreWorded, Worded, globals_behind, section_behind}
+use Rattle.st_read_proper.proofs.Worded.{AreWorded, Worded, globals_behind, section_behind, read_worded}
 use Rattle.st_rules.specs.Judged.{breaks_in, found_in}
 use Rattle.st_rules.specs.Calls.{all_calls}
 use Rattle.st_rules.specs.Declarations.{all_inside, formals_of}

@@ -1,7 +1,7 @@
 -- What a scope says of a name stands where the unit of the tree sees it; and the variables of such a scope have
 -- their types.
-use Rattle.std.proofs.Common.{◌≡◌, ℕ, Bool, true, false, ◌&&◌, cond, List, Option, Some, None, Ok, Err, refl, ap, subst, ◌∙◌}
-use Rattle.std.specs.Prelude.{slice_get}
+use Rattle.std.proofs.Common.{◌≡◌, ℕ, Bool, true, false, ◌&&◌, cond, List, Option, Some, None, Ok, Err, refl, ap, subst, ◌∙◌, suc, ◌+◌, not, ◌||◌, [], ◌∷◌, ◌++◌, map, sym, arith}
+use Rattle.std.specs.Prelude.{slice_get, codes, decimal}
 use Rattle.memory_areas.specs.declared.place.AreaName.{AreaName}
 use Rattle.memory_areas.specs.declared.place.AreaName.TheVariants as area
 use Rattle.s7_base.specs.declared.reason.Reason.TheVariants.{BadAddress}
@@ -11,8 +11,8 @@ use Rattle.st_lexer.specs.Spelled as written
 use Rattle.std.proofs.lemmas.Bool.{and_parts}
 use Rattle.st_types_laws.proofs.Keyed.{AreDistinct}
 use Rattle.st_read_proper.proofs.Places.{place_is}
-use Rattle.st_tree.specs.Naming.{key_of}
-use Rattle.st_rules.specs.Scopes.{meaning_in}
+use Rattle.st_tree.specs.Naming.{key_of, is_same, are_apart, is_new}
+use Rattle.st_rules.specs.Scopes.{meaning_in, as_register, or_else, register_named}
 use Rattle.st_tree.specs.PlaceRules.{is_block_number}
 use Rattle.st_rules.specs.Variables.{is_place, variable, variable_named, variable_of}
 use Rattle.st_rules.specs.declared.scope.Formals.{Formals}
@@ -24,12 +24,27 @@ use Rattle.st_tree.specs.PlaceRules as places
 use Rattle.st_tree.specs.State.{type_of_register}
 use Rattle.st_tree.specs.TypeRules.{where_true}
 use Rattle.st_tree.specs.Values.{type_of_width}
-use Rattle.st_tree.specs.WellTyped.{Head, Sight, is_seen, type_inside, type_outside, variable_type}
+use Rattle.st_tree.specs.WellTyped.{Head, Sight, is_seen, type_inside, type_outside, variable_type, head_of, keys_of, sight_in}
 use Rattle.st_tree.specs.declared.expr.StType.{StType}
 use Rattle.st_tree.specs.declared.expr.Var.TheVariants as var
 use Rattle.st_tree.specs.declared.raw.RawVar.{RawVar}
 use Rattle.st_tree.specs.declared.raw.RawVar.TheVariants as raw
-use Rattle.st_types_laws.proofs.Declared.{keys_of_locals, types_of_locals}
+use Rattle.st_types_laws.proofs.Declared.{keys_of_locals, types_of_locals, Declares, IsGlobalAt, IsLocalAt}
+use Rattle.std.specs.List.{list_any}
+use Rattle.s7_base.specs.declared.register.Reg.{Reg}
+use Rattle.memory_areas.specs.declared.data_block.DataBlock.{DataBlock}
+use Rattle.st_types_laws.proofs.Lists.{Each, each_at, mapped_at, both_true}
+use Rattle.st_types_laws.proofs.Apart.{same_keys, AreApart, Lists}
+use Rattle.st_rules.specs.Names.{Table, look_up}
+use Rattle.st_tree.specs.Proper.{outer_keys}
+use Rattle.st_tree.specs.Spelling.{names_in}
+use Rattle.st_tree.specs.declared.program.Local.{Local}
+use Rattle.st_tree.specs.declared.program.Located.{Located}
+use Rattle.st_tree.specs.declared.program.Pou.{Pou}
+use Rattle.st_tree.specs.declared.program.StProgram.{StProgram}
+use Rattle.st_types_laws.proofs.EntryKeys.{inner_keys, keys_in, named_keys}
+use Rattle.st_types_laws.proofs.DeclaredNames.{block_entries, formal_entries, inner_entries, local_entries, located_entries, outer_entries, unit_entries}
+use Rattle.st_types_laws.proofs.DeclaredTree.{formals_in}
 
 -- a function that a unit may call, with its formals as the rules of texts see them
 pub record IsCallable (scope : Scope) (sight : Sight) (i : ℕ) : Type 0 where
@@ -103,3 +118,192 @@ module _ (scope : Scope) (sight : Sight) (sees : Sees scope sight) where
   variable_has (raw.Direct a None w byte bit) v s h = plain_place a w byte bit v (is_place a w byte bit) refl s h
   variable_has (raw.Direct a (Some n) w byte bit) v s h =
       block_place a n w byte bit v (is_block_number n && is_place area.Db w byte bit) refl s h
+
+-- Where no name is declared twice: keys are apart, and what names mean in a unit, the unit sees
+
+-- The keys of tables
+
+new_of : (k : List ℕ) (es : Table Meaning) → look_up k es ≡ None → is_new k (keys_in es) ≡ true
+new_of k [] h = refl
+new_of k (e ∷ es) h = by (is_same k e.0) (new_of k es) h
+  where
+    by : (t : Bool) → (look_up k es ≡ None → is_new k (keys_in es) ≡ true) → cond t (Some e.1) (look_up k es) ≡ None
+        → not (t || list_any (λ other. is_same k other) (keys_in es)) ≡ true
+    by true more q = absurd cc
+    by false more q = more q
+
+apart_of : (es : Table Meaning) → AreApart es → are_apart (keys_in es) ≡ true
+apart_of [] a = refl
+apart_of (e ∷ es) a = both_true (is_new e.0 (keys_in es)) (are_apart (keys_in es)) (new_of e.0 es a.0) (apart_of es a.1)
+
+apart_behind : (xs ys : Table Meaning) → AreApart (xs ++ ys) → AreApart ys
+apart_behind [] ys a = a
+apart_behind (x ∷ xs) ys a = apart_behind xs ys a.1
+
+-- the keys of a unit's formals and locals are apart
+pub inner_apart : (p : Pou) → AreApart (inner_entries p) → are_apart (keys_of p.formals ++ keys_of p.locals) ≡ true
+inner_apart p a = subst (λ ks. are_apart ks ≡ true) (inner_keys p) (apart_of (inner_entries p) a)
+
+-- and so are those of globals and units
+pub outer_apart : (t : StProgram) → AreApart (outer_entries t) → are_apart (outer_keys t) ≡ true
+outer_apart t a =
+    let es = located_entries 0 t.globals ++ unit_entries 0 t.pous in
+    subst (λ ks. are_apart ks ≡ true) (named_keys t) (apart_of es (apart_behind (block_entries t.dbs) es a))
+
+-- What a name means
+
+-- a formal or a local
+abbrev IsInner : Meaning → Type 0
+IsInner (meaning.Formal i ty) = Unit {0}
+IsInner (meaning.Local i ty) = Unit {0}
+IsInner other = ⊥
+
+local_means : (i : ℕ) (ls : List Local) (k : List ℕ) (m : Meaning) → look_up k (local_entries i ls) ≡ Some m → IsInner m
+local_means i [] k m h = absurd cc
+local_means i (l ∷ ls) k m h = by (is_same k (key_of l.name)) (local_means (i + 1) ls k m) h
+  where
+    by : (t : Bool) → (look_up k (local_entries (i + 1) ls) ≡ Some m → IsInner m)
+        → cond t (Some (meaning.Local i l.ty)) (look_up k (local_entries (i + 1) ls)) ≡ Some m → IsInner m
+    by true more q = let same : meaning.Local i l.ty ≡ m = cc in subst IsInner same tt
+    by false more q = more q
+
+inner_means : (i : ℕ) (ls : List Local) (rest : Table Meaning) (k : List ℕ) (m : Meaning) → (look_up k rest ≡ Some m → IsInner m)
+    → look_up k (formal_entries i ls ++ rest) ≡ Some m → IsInner m
+inner_means i [] rest k m f h = f h
+inner_means i (l ∷ ls) rest k m f h = by (is_same k (key_of l.name)) (inner_means (i + 1) ls rest k m f) h
+  where
+    by : (t : Bool) → (look_up k (formal_entries (i + 1) ls ++ rest) ≡ Some m → IsInner m)
+        → cond t (Some (meaning.Formal i l.ty)) (look_up k (formal_entries (i + 1) ls ++ rest)) ≡ Some m → IsInner m
+    by true more q = let same : meaning.Formal i l.ty ≡ m = cc in subst IsInner same tt
+    by false more q = more q
+
+-- a global or a unit
+abbrev IsOuter : Meaning → Type 0
+IsOuter (meaning.Global i ty) = Unit {0}
+IsOuter (meaning.Function i) = Unit {0}
+IsOuter other = ⊥
+
+not_both : (m : Meaning) → IsOuter m → IsInner m → ⊥
+not_both (meaning.Register r) h g = h
+not_both (meaning.Formal i ty) h g = h
+not_both (meaning.Local i ty) h g = h
+not_both (meaning.Global i ty) h g = g
+not_both meaning.Block h g = h
+not_both meaning.Program h g = h
+not_both (meaning.Function i) h g = g
+
+no_register : (r : Reg) (m : Meaning) → IsOuter m → Some (meaning.Register r) ≡ Some m → ⊥
+no_register r m h e = let same : meaning.Register r ≡ m = cc in subst IsOuter (sym same) h
+
+-- a name that means something outside is no name inside
+record IsOutside (p : Pou) (outer : Table Meaning) (key : List ℕ) (m : Meaning) : Type 0 where
+  hidden : look_up key (inner_entries p) ≡ None
+  there : look_up key outer ≡ Some m
+
+outside : (p : Pou) (outer : Table Meaning) (key : List ℕ) (m : Meaning) (r : Option Reg) (i o : Option Meaning) → IsOuter m
+    → look_up key (inner_entries p) ≡ i → look_up key outer ≡ o → or_else (as_register r) (or_else i o) ≡ Some m → IsOutside p outer key m
+outside p outer key m (Some r) i o h a b e = absurd (no_register r m h e)
+outside p outer key m None (Some n) o h a b e =
+    absurd (not_both m h (inner_means 0 p.formals (local_entries 0 p.locals) key m
+    (λ q. local_means 0 p.locals key m q) (a ∙ e)))
+outside p outer key m None None o h a b e = record { hidden = a; there = b ∙ e }
+
+-- a name that stands for nothing inside is seen
+seen_of : (sight : Sight) (p : Pou) (key name : List ℕ) → sight.formals ≡ p.formals → sight.locals ≡ p.locals
+    → look_up key (inner_entries p) ≡ None → key_of name ≡ key → is_seen sight name ≡ true
+seen_of sight p key name f l h e =
+    let keys : keys_in (inner_entries p) ≡ keys_of sight.formals ++ keys_of sight.locals =
+    inner_keys p ∙ ap (λ ls. keys_of ls ++ keys_of p.locals) (sym f) ∙ ap (λ ls. keys_of sight.formals ++ keys_of ls) (sym l) in
+    ap (λ k. is_new k (keys_of sight.formals ++ keys_of sight.locals)) e
+    ∙ subst (λ ks. is_new key ks ≡ true) keys (new_of key (inner_entries p) h)
+
+-- Units
+
+-- the function that a key means
+record IsUnit (ps : List Pou) (j i : ℕ) (key : List ℕ) : Type 0 where
+  n : ℕ
+  place : i ≡ j + n
+  p : Pou
+  there : slice_get ps n ≡ Some p
+  function : p.program ≡ false
+  named : key_of p.name ≡ key
+
+past_blocks : (bs : List DataBlock) (rest : Table Meaning) (k : List ℕ) (i : ℕ) → look_up k (block_entries bs ++ rest) ≡ Some (meaning.Function i)
+    → look_up k rest ≡ Some (meaning.Function i)
+past_blocks [] rest k i h = h
+past_blocks (b ∷ bs) rest k i h = by (is_same k (key_of (codes "DB" ++ decimal b.number))) (past_blocks bs rest k i) h
+  where
+    by : (t : Bool) → (look_up k (block_entries bs ++ rest) ≡ Some (meaning.Function i) → look_up k rest ≡ Some (meaning.Function i))
+        → cond t (Some meaning.Block) (look_up k (block_entries bs ++ rest)) ≡ Some (meaning.Function i) → look_up k rest ≡ Some (meaning.Function i)
+    by true more q = absurd cc
+    by false more q = more q
+
+past_globals : (j : ℕ) (gs : List Located) (rest : Table Meaning) (k : List ℕ) (i : ℕ) → look_up k (located_entries j gs ++ rest) ≡ Some (meaning.Function i)
+    → look_up k rest ≡ Some (meaning.Function i)
+past_globals j [] rest k i h = h
+past_globals j (g ∷ gs) rest k i h = by (is_same k (key_of g.name)) (past_globals (j + 1) gs rest k i) h
+  where
+    by : (t : Bool) → (look_up k (located_entries (j + 1) gs ++ rest) ≡ Some (meaning.Function i) → look_up k rest ≡ Some (meaning.Function i))
+        → cond t (Some (meaning.Global j g.ty)) (look_up k (located_entries (j + 1) gs ++ rest)) ≡ Some (meaning.Function i) → look_up k rest ≡ Some (meaning.Function i)
+    by true more q = absurd cc
+    by false more q = more q
+
+unit_found : (j : ℕ) (ps : List Pou) (k : List ℕ) (i : ℕ) → look_up k (unit_entries j ps) ≡ Some (meaning.Function i) → IsUnit ps j i k
+unit_found j [] k i h = absurd cc
+unit_found j (p ∷ ps) k i h = by (is_same k (key_of p.name)) p.program refl refl (unit_found (j + 1) ps k i) h
+  where
+    by : (t u : Bool) → is_same k (key_of p.name) ≡ t → p.program ≡ u → (look_up k (unit_entries (j + 1) ps) ≡ Some (meaning.Function i) → IsUnit ps (j + 1) i k)
+        → cond t (Some (cond u meaning.Program (meaning.Function j))) (look_up k (unit_entries (j + 1) ps)) ≡ Some (meaning.Function i) → IsUnit (p ∷ ps) j i k
+    by true true e f more q = absurd cc
+    by true false e f more q =
+        let same : j ≡ i = cc in
+        record { n = 0; place = omega (arith, same); p = p; there = refl; function = f; named = sym (same_keys k (key_of p.name) e) }
+    by false u e f more q =
+        let r = more q in
+        record { n = suc r.n; place = omega (arith, r.place); p = r.p; there = r.there; function = r.function; named = r.named }
+
+-- What a unit sees
+
+inside_of : (key : List ℕ) (ty : StType) (o : Option Local) → IsLocalAt key ty o → type_inside o ≡ Some ty
+inside_of key ty None h = absurd h
+inside_of key ty (Some l) h = ap (λ t. Some t) h.1
+
+global_of : (sight : Sight) (p : Pou) (key : List ℕ) (ty : StType) (o : Option Located) → sight.formals ≡ p.formals → sight.locals ≡ p.locals
+    → look_up key (inner_entries p) ≡ None → IsGlobalAt key ty o → type_outside sight o ≡ Some ty
+global_of sight p key ty None f l n h = absurd h
+global_of sight p key ty (Some g) f l n h =
+    ap (λ b. where_true b g.ty) (seen_of sight p key g.name f l n h.0) ∙ ap (λ t. Some t) h.1
+
+module _ (t : StProgram) (p : Pou) (scope : Scope) (inner : Lists scope.inner (inner_entries p)) (outer : Lists scope.outer (outer_entries t))
+    (formals : scope.formals ≡ map formals_in t.pous) (keys : Each (λ (u : Pou). AreDistinct u.formals) t.pous) (declares : Declares scope (names_in t p)) where
+  is_outside : (key : List ℕ) (m : Meaning) → IsOuter m → meaning_in scope key ≡ Some m → IsOutside p (outer_entries t) key m
+  is_outside key m o h =
+      outside p (outer_entries t) key m (register_named key) (look_up key scope.inner) (look_up key scope.outer) o (sym (inner.same key)) (sym (outer.same key)) h
+
+  function_of : (key : List ℕ) (i : ℕ) → meaning_in scope key ≡ Some (meaning.Function i) → IsCallable scope (sight_in t p) i
+  function_of key i h =
+      let out = is_outside key (meaning.Function i) tt h in
+      let u = unit_found 0 t.pous key i (past_globals 0 t.globals (unit_entries 0 t.pous) key i
+      (past_blocks t.dbs (located_entries 0 t.globals ++ unit_entries 0 t.pous) key i out.there)) in
+      let place : u.n ≡ i = omega (arith, u.place) in
+      let there : slice_get t.pous i ≡ Some u.p = ap (slice_get t.pous) (sym place) ∙ u.there in
+      record {
+        head = head_of u.p;
+        there = mapped_at head_of t.pous i u.p there;
+        function = u.function;
+        seen = seen_of (sight_in t p) p key u.p.name refl refl out.hidden u.named;
+        formals = formals_in u.p;
+        listed = ap (λ (fs : List Formals). slice_get fs i) formals ∙ mapped_at formals_in t.pous i u.p there;
+        keys = refl;
+        types = refl;
+        distinct = each_at (λ (u : Pou). AreDistinct u.formals) t.pous i u.p keys there;
+      }
+
+  -- what names mean in a unit, it sees
+  pub unit_sees : Sees scope (sight_in t p)
+  unit_sees = record {
+    formal = λ key i ty h. inside_of key ty (slice_get p.formals i) (declares.formal key i ty h);
+    local = λ key i ty h. inside_of key ty (slice_get p.locals i) (declares.local key i ty h);
+    global = λ key i ty h. global_of (sight_in t p) p key ty (slice_get t.globals i) refl refl (is_outside key (meaning.Global i ty) tt h).hidden (declares.global key i ty h);
+    function = λ key i h. function_of key i h;
+  }

@@ -11,7 +11,7 @@ use Rattle.st_grammar.specs.Grammar.{HasArm, HasCase, arm_of as raw_arm, case_of
 use Rattle.st_grammar.specs.declared.kind.Jump.{Jump}
 use Rattle.st_grammar.specs.declared.kind.Jump.TheVariants as jump_word
 use Rattle.st_types_laws.proofs.Actions.{act_continue, act_exit, act_return}
-use Rattle.st_read_proper.proofs.CaseLabels.{FoundLabels}
+use Rattle.st_read_proper.proofs.Values.{FoundLabels}
 use Rattle.st_types_laws.proofs.Labels.{is_own_type, no_label_breaks, same_type, values_of}
 use Rattle.st_read_proper.proofs.Expressions.{Found}
 use Rattle.st_canonical.proofs.Levels.{top_all, top_arms, top_cases, top_one}
