@@ -4,10 +4,9 @@ use Rattle.std.proofs.Common.{◌≡◌, ℕ, zero, suc, ◌<◌, ◌≤◌, Lis
 use Rattle.std.specs.Prelude.{IfSome, option_and_then, option_map}
 use Rattle.std.proofs.lemmas.List.{map-append}
 use Rattle.st_syntax_laws.proofs.Bare.{bare, bare_text, next_bare, last_level_bare}
-use Rattle.st_syntax_laws.proofs.DriveSource.{finished, drive_source}
+use Rattle.st_syntax_laws.proofs.Drive.{finished, drive_source}
 use Rattle.st_syntax_laws.proofs.Finish.{Ends, finishes}
-use Rattle.st_syntax_laws.proofs.Kept.{past, Shaped, Kept}
-use Rattle.st_syntax_laws.proofs.KeptText.{kept}
+use Rattle.st_syntax_laws.proofs.Kept.{past, Shaped, Kept, kept}
 use Rattle.st_grammar.specs.Forms.{Source}
 use Rattle.st_grammar.specs.Grammar.{spell_source, raw_tree}
 use Rattle.st_grammar.specs.Levels.{deepest, levels_source}

@@ -4,9 +4,8 @@ use Rattle.std.specs.Prelude.{pos, codes, ◌||◌, if◌then◌else◌, option_
 use Rattle.s7_base.specs.declared.reason.Line.{Line}
 use Rattle.memory_areas.specs.declared.place.AreaName.TheVariants.{Db}
 use Rattle.s7_base.specs.declared.word.Width.TheVariants as width
-use Rattle.st_syntax_laws.proofs.Drive.{DeclaredUnit, within_unit, run, go, Lets, close, comma, past_unary, past_left}
+use Rattle.st_syntax_laws.proofs.Drive.{DeclaredUnit, within_unit, run, go, Lets, close, comma, past_unary, past_left, unit_left}
 use Rattle.st_syntax_laws.proofs.Precedence.{below_one, infix_some}
-use Rattle.st_syntax_laws.proofs.DriveSource.{unit_left}
 use Rattle.st_syntax_laws.proofs.Kept.{InStatements, InExpr, PlaceFits, Shaped}
 use Rattle.st_grammar.specs.Forms.{Form, literal, group, prefix, infix_of, apply, shift, select, Labels, label, none, Statement, Statements, Globals, plain, Locals, Section, absent, present}
 use Rattle.st_grammar.specs.Grammar.{level, Binds, end_word}

@@ -7,7 +7,7 @@ use Rattle.s7_base.specs.declared.reason.Reason.TheVariants.{BadSyntax, TooDeep}
 use Rattle.s7_base.specs.declared.reason.Rejection.{Rejection}
 use Rattle.s7_base.specs.declared.reason.Rejection.TheVariants.{Refused}
 use Rattle.st_syntax_laws.proofs.Bare.{bare, next_bare, last_level_bare}
-use Rattle.st_syntax_laws.proofs.DriveSource.{finished, drive_source}
+use Rattle.st_syntax_laws.proofs.Drive.{finished, drive_source}
 use Rattle.st_syntax_laws.proofs.Exact.{begins_at, same_levels}
 use Rattle.st_grammar.specs.Forms.{Source}
 use Rattle.st_grammar.specs.inner.Judge.{after_token, level_reached, judged, on_good, judge_tokens}

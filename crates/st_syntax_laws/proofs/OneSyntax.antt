@@ -6,7 +6,7 @@ use Rattle.s7_base.specs.declared.reason.Reason.TheVariants as reason
 use Rattle.s7_base.specs.declared.reason.Rejection.{Rejection}
 use Rattle.s7_base.specs.declared.reason.Rejection.TheVariants.{Refused}
 use Rattle.st_syntax_laws.proofs.Bare.{bare}
-use Rattle.st_syntax_laws.proofs.DriveSource.{finished}
+use Rattle.st_syntax_laws.proofs.Drive.{finished}
 use Rattle.st_syntax_laws.proofs.Judged.{good_judged, wrong_judged, deep_judged}
 use Rattle.st_grammar.specs.inner.Judge.{judge_tokens, tree_at, verdict, verdict_on}
 use Rattle.st_grammar.specs.inner.Machine.{code, State, start}

@@ -8,8 +8,7 @@ use Rattle.s7_base.specs.declared.reason.Rejection.TheVariants.{Refused, NoMemor
 use Rattle.st_lexer.specs.StTokens.{answer, cut_from, first_bad, great_from, tokens_of}
 use Rattle.st_tree.specs.declared.token.StToken.{StToken}
 use Rattle.st_grammar.proofs.Ends.{not_over}
-use Rattle.st_syntax_laws.proofs.Verdicts.{Says, says}
-use Rattle.st_syntax_laws.proofs.Whole.{bad_token, refused_of, tree_of}
+use Rattle.st_syntax_laws.proofs.Whole.{bad_token, refused_of, tree_of, Says, says}
 use Rattle.st_grammar.specs.inner.Judge.{judge_tokens, raw_of, text_in}
 use Rattle.st_grammar.specs.inner.Machine.{code, TextSoFar, State, start}
 use Rattle.st_grammar.specs.Syntax.{HasRawTree, IsSyntaxRefused, all_lined}
