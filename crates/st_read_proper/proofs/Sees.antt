@@ -158,24 +158,25 @@ IsInner (meaning.Formal i ty) = Unit {0}
 IsInner (meaning.Local i ty) = Unit {0}
 IsInner other = ⊥
 
+-- a name means what the first entry of its key says, or what the others say
+by_entry : {C : Type 0} (k key : List ℕ) (first m : Meaning) (others : Option Meaning) → (first ≡ m → C) → (others ≡ Some m → C)
+    → cond (is_same k key) (Some first) others ≡ Some m → C
+by_entry {C} k key first m others here more = by (is_same k key)
+  where
+    by : (t : Bool) → cond t (Some first) others ≡ Some m → C
+    by true q = here cc
+    by false q = more q
+
 local_means : (i : ℕ) (ls : List Local) (k : List ℕ) (m : Meaning) → look_up k (local_entries i ls) ≡ Some m → IsInner m
 local_means i [] k m h = absurd cc
-local_means i (l ∷ ls) k m h = by (is_same k (key_of l.name)) (local_means (i + 1) ls k m) h
-  where
-    by : (t : Bool) → (look_up k (local_entries (i + 1) ls) ≡ Some m → IsInner m)
-        → cond t (Some (meaning.Local i l.ty)) (look_up k (local_entries (i + 1) ls)) ≡ Some m → IsInner m
-    by true more q = let same : meaning.Local i l.ty ≡ m = cc in subst IsInner same tt
-    by false more q = more q
+local_means i (l ∷ ls) k m h =
+    by_entry k (key_of l.name) (meaning.Local i l.ty) m _ (λ e. subst IsInner e tt) (local_means (i + 1) ls k m) h
 
-inner_means : (i : ℕ) (ls : List Local) (rest : Table Meaning) (k : List ℕ) (m : Meaning) → (look_up k rest ≡ Some m → IsInner m)
-    → look_up k (formal_entries i ls ++ rest) ≡ Some m → IsInner m
+inner_means : (i : ℕ) (ls : List Local) (rest : Table Meaning) (k : List ℕ) (m : Meaning)
+    → (look_up k rest ≡ Some m → IsInner m) → look_up k (formal_entries i ls ++ rest) ≡ Some m → IsInner m
 inner_means i [] rest k m f h = f h
-inner_means i (l ∷ ls) rest k m f h = by (is_same k (key_of l.name)) (inner_means (i + 1) ls rest k m f) h
-  where
-    by : (t : Bool) → (look_up k (formal_entries (i + 1) ls ++ rest) ≡ Some m → IsInner m)
-        → cond t (Some (meaning.Formal i l.ty)) (look_up k (formal_entries (i + 1) ls ++ rest)) ≡ Some m → IsInner m
-    by true more q = let same : meaning.Formal i l.ty ≡ m = cc in subst IsInner same tt
-    by false more q = more q
+inner_means i (l ∷ ls) rest k m f h =
+    by_entry k (key_of l.name) (meaning.Formal i l.ty) m _ (λ e. subst IsInner e tt) (inner_means (i + 1) ls rest k m f) h
 
 -- a global or a unit
 abbrev IsOuter : Meaning → Type 0
@@ -184,13 +185,9 @@ IsOuter (meaning.Function i) = Unit {0}
 IsOuter other = ⊥
 
 not_both : (m : Meaning) → IsOuter m → IsInner m → ⊥
-not_both (meaning.Register r) h g = h
-not_both (meaning.Formal i ty) h g = h
-not_both (meaning.Local i ty) h g = h
 not_both (meaning.Global i ty) h g = g
-not_both meaning.Block h g = h
-not_both meaning.Program h g = h
 not_both (meaning.Function i) h g = g
+not_both m h g = h
 
 no_register : (r : Reg) (m : Meaning) → IsOuter m → Some (meaning.Register r) ≡ Some m → ⊥
 no_register r m h e = let same : meaning.Register r ≡ m = cc in subst IsOuter (sym same) h
@@ -228,25 +225,17 @@ record IsUnit (ps : List Pou) (j i : ℕ) (key : List ℕ) : Type 0 where
   function : p.program ≡ false
   named : key_of p.name ≡ key
 
-past_blocks : (bs : List DataBlock) (rest : Table Meaning) (k : List ℕ) (i : ℕ) → look_up k (block_entries bs ++ rest) ≡ Some (meaning.Function i)
-    → look_up k rest ≡ Some (meaning.Function i)
+past_blocks : (bs : List DataBlock) (rest : Table Meaning) (k : List ℕ) (i : ℕ)
+    → look_up k (block_entries bs ++ rest) ≡ Some (meaning.Function i) → look_up k rest ≡ Some (meaning.Function i)
 past_blocks [] rest k i h = h
-past_blocks (b ∷ bs) rest k i h = by (is_same k (key_of (codes "DB" ++ decimal b.number))) (past_blocks bs rest k i) h
-  where
-    by : (t : Bool) → (look_up k (block_entries bs ++ rest) ≡ Some (meaning.Function i) → look_up k rest ≡ Some (meaning.Function i))
-        → cond t (Some meaning.Block) (look_up k (block_entries bs ++ rest)) ≡ Some (meaning.Function i) → look_up k rest ≡ Some (meaning.Function i)
-    by true more q = absurd cc
-    by false more q = more q
+past_blocks (b ∷ bs) rest k i h =
+    by_entry k (key_of (codes "DB" ++ decimal b.number)) meaning.Block (meaning.Function i) _ (λ e. absurd cc) (past_blocks bs rest k i) h
 
-past_globals : (j : ℕ) (gs : List Located) (rest : Table Meaning) (k : List ℕ) (i : ℕ) → look_up k (located_entries j gs ++ rest) ≡ Some (meaning.Function i)
-    → look_up k rest ≡ Some (meaning.Function i)
+past_globals : (j : ℕ) (gs : List Located) (rest : Table Meaning) (k : List ℕ) (i : ℕ)
+    → look_up k (located_entries j gs ++ rest) ≡ Some (meaning.Function i) → look_up k rest ≡ Some (meaning.Function i)
 past_globals j [] rest k i h = h
-past_globals j (g ∷ gs) rest k i h = by (is_same k (key_of g.name)) (past_globals (j + 1) gs rest k i) h
-  where
-    by : (t : Bool) → (look_up k (located_entries (j + 1) gs ++ rest) ≡ Some (meaning.Function i) → look_up k rest ≡ Some (meaning.Function i))
-        → cond t (Some (meaning.Global j g.ty)) (look_up k (located_entries (j + 1) gs ++ rest)) ≡ Some (meaning.Function i) → look_up k rest ≡ Some (meaning.Function i)
-    by true more q = absurd cc
-    by false more q = more q
+past_globals j (g ∷ gs) rest k i h =
+    by_entry k (key_of g.name) (meaning.Global j g.ty) (meaning.Function i) _ (λ e. absurd cc) (past_globals (j + 1) gs rest k i) h
 
 unit_found : (j : ℕ) (ps : List Pou) (k : List ℕ) (i : ℕ) → look_up k (unit_entries j ps) ≡ Some (meaning.Function i) → IsUnit ps j i k
 unit_found j [] k i h = absurd cc

@@ -250,7 +250,11 @@ module _ (scope : Scope) (sight : Sight) (inside : Bool) where
         typed = checks_last (is_case_arm sight) (λ c. c ty inside) p.xs x p.typed (rw (good_case_arm sight inside x ty, g.typed) q.typed);
         some = λ h. some_last (is_case_arm sight) p.xs x;
         low = λ d. omega (arith, greatest_last case_nesting p.xs x, nesting_case_arm x, p.low d, q.low d);
-        calls = λ f. omega (arith, greatest_last (called_in_case f) p.xs x, cases_last (costs f) scope (tree_cases others) (tree_labels labels) (tree_all b));
+        calls = λ f. omega (
+          arith,
+          greatest_last (called_in_case f) p.xs x,
+          cases_last (costs f) scope (tree_cases others) (tree_labels labels) (tree_all b),
+        );
       }
 
   pub of_cases_else : (l : Line) (e : Form) (arms : CaseArms) (b : Statements) → HasCase arms → (g : An l e)

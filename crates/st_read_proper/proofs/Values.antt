@@ -1,5 +1,6 @@
 -- A literal that tokens can have has a value of its type.
 use Rattle.std.proofs.Common.{◌≡◌, ℕ, suc, ◌<◌, ◌≤◌, ◌+◌, ◌-◌, ◌%◌, ◌^◌, ℤ, pos, negsuc, Bool, true, false, ◌&&◌, cond, refl, ap, ◌∙◌, arith, List, [], ◌∷◌, ◌++◌, Some, sym, subst}
+use Rattle.std.proofs.Math.Nat.{mod-eq_of_lt}
 use Rattle.std.specs.Prelude.{nat_le, nat_lt}
 use Rattle.std.specs.Ordering.{int_eq}
 use Rattle.std.proofs.lemmas.Bool.{leb-true, and_parts}
@@ -67,46 +68,40 @@ below_kept n half whole h same twice =
     by : (m : ℕ) → half ≤ m → nat_lt m half ≡ false
     by m h = grind (arith, nat_tests)
 
+-- a number that a type without a sign has, and one from 0 on that a type with a sign has
+unsigned_fits : (n most whole : ℕ) → nat_le n most ≡ true → most < whole → pos (n % whole) ≡ pos n
+unsigned_fits n most whole h less =
+    let b = leb-true n most h in let low : n < whole = omega (arith, b, less) in ap pos (mod-eq_of_lt low)
+
+signed_fits : (n most half whole : ℕ) → nat_le n most ≡ true → most < half → half ≤ whole
+    → cond (nat_lt (n % whole) half) (pos (n % whole)) (negsuc (whole - 1 - n % whole)) ≡ pos n
+signed_fits n most half whole h less low =
+    let b = leb-true n most h in
+    let small : n < whole = omega (arith, b, less, low) in signed_kept n half whole (omega (arith, b, less)) (mod-eq_of_lt small)
+
 plain_fits : (ty : StType) (n : ℕ) → nat_le n (greatest ty false) ≡ true → fit ty (pos n) ≡ pos n
-plain_fits type.Bool n h =
-    let b = leb-true n 1 h in let e : n % 2 ^ 1 ≡ n = omega (arith, b) in ap pos e
-plain_fits type.Byte n h =
-    let b = leb-true n 255 h in let e : n % 2 ^ 8 ≡ n = omega (arith, b) in ap pos e
-plain_fits type.Word n h =
-    let b = leb-true n 65535 h in let e : n % 2 ^ 16 ≡ n = omega (arith, b) in ap pos e
-plain_fits type.Dword n h =
-    let b = leb-true n 4294967295 h in let e : n % 2 ^ 32 ≡ n = omega (arith, b) in ap pos e
-plain_fits type.Int n h =
-    let b = leb-true n 32767 h in
-    let e : n % 2 ^ 16 ≡ n = omega (arith, b) in
-    signed_kept n (2 ^ (16 - 1)) (2 ^ 16) (omega (arith, b)) e
-plain_fits type.Dint n h =
-    let b = leb-true n 2147483647 h in
-    let e : n % 2 ^ 32 ≡ n = omega (arith, b) in
-    signed_kept n (2 ^ (32 - 1)) (2 ^ 32) (omega (arith, b)) e
-plain_fits type.Lint n h =
-    let b = leb-true n 9223372036854775807 h in
-    let e : n % 2 ^ 64 ≡ n = omega (arith, b) in
-    signed_kept n (2 ^ (64 - 1)) (2 ^ 64) (omega (arith, b)) e
+plain_fits type.Bool n h = unsigned_fits n 1 (2 ^ 1) h (omega arith)
+plain_fits type.Byte n h = unsigned_fits n 255 (2 ^ 8) h (omega arith)
+plain_fits type.Word n h = unsigned_fits n 65535 (2 ^ 16) h (omega arith)
+plain_fits type.Dword n h = unsigned_fits n 4294967295 (2 ^ 32) h (omega arith)
+plain_fits type.Int n h = signed_fits n 32767 (2 ^ (16 - 1)) (2 ^ 16) h (omega arith) (omega arith)
+plain_fits type.Dint n h = signed_fits n 2147483647 (2 ^ (32 - 1)) (2 ^ 32) h (omega arith) (omega arith)
+plain_fits type.Lint n h = signed_fits n 9223372036854775807 (2 ^ (64 - 1)) (2 ^ 64) h (omega arith) (omega arith)
+
+negative_fits : (n most half whole : ℕ) → nat_le (suc n) most ≡ true → most ≤ half → whole ≡ half + half
+    → cond (nat_lt (whole - 1 - n % whole) half) (pos (whole - 1 - n % whole)) (negsuc (whole - 1 - (whole - 1 - n % whole)))
+    ≡ negsuc n
+negative_fits n most half whole h less twice =
+    let b = leb-true (suc n) most h in
+    let small : n < whole = omega (arith, b, less, twice) in
+    below_kept n half whole (omega (arith, b, less)) (mod-eq_of_lt small) twice
 
 below_fits : (ty : StType) (n : ℕ) → (is_signed ty && nat_le (suc n) (greatest ty true)) ≡ true
     → fit ty (negsuc n) ≡ negsuc n
-below_fits type.Bool n h = absurd cc
-below_fits type.Byte n h = absurd cc
-below_fits type.Word n h = absurd cc
-below_fits type.Dword n h = absurd cc
-below_fits type.Int n h =
-    let b = leb-true (suc n) 32768 h in
-    let e : n % 2 ^ 16 ≡ n = omega (arith, b) in
-    below_kept n (2 ^ (16 - 1)) (2 ^ 16) (omega (arith, b)) e (omega arith)
-below_fits type.Dint n h =
-    let b = leb-true (suc n) 2147483648 h in
-    let e : n % 2 ^ 32 ≡ n = omega (arith, b) in
-    below_kept n (2 ^ (32 - 1)) (2 ^ 32) (omega (arith, b)) e (omega arith)
-below_fits type.Lint n h =
-    let b = leb-true (suc n) 9223372036854775808 h in
-    let e : n % 2 ^ 64 ≡ n = omega (arith, b) in
-    below_kept n (2 ^ (64 - 1)) (2 ^ 64) (omega (arith, b)) e (omega arith)
+below_fits type.Int n h = negative_fits n 32768 (2 ^ (16 - 1)) (2 ^ 16) h (omega arith) (omega arith)
+below_fits type.Dint n h = negative_fits n 2147483648 (2 ^ (32 - 1)) (2 ^ 32) h (omega arith) (omega arith)
+below_fits type.Lint n h = negative_fits n 9223372036854775808 (2 ^ (64 - 1)) (2 ^ 64) h (omega arith) (omega arith)
+below_fits ty n h = absurd cc
 
 fits : (ty : StType) (n : ℤ) → has_value ty n ≡ true → fit ty n ≡ n
 fits ty (pos n) h = plain_fits ty n (plain_value (nat_lt n 0) n ty (never n) h)
