@@ -297,28 +297,23 @@ locals_all begun which (local others name line ty) more w h =
 abbrev Reaches : State written → List ℕ → List Kind → TextSoFar written → List ℕ → Type 0
 Reaches q w ks text n = passes written q w ks ≡ Some (record { state = over text; levels = n })
 
-abbrev over_state : State written → Bool
-over_state (over text) = true
-over_state other = false
-
-abbrev is_over : Option (Passed written) → Bool
-is_over None = false
-is_over (Some r) = over_state r.state
+abbrev state_of : Option (Passed written) → Option (State written)
+state_of o = option_map (λ (r : Passed written). r.state) o
 
 as_opened : (begun : BegunUnit written) (ks : List Kind) (w : List ℕ) (text : TextSoFar written) (n : List ℕ) → Reaches (inside begun absent absent (body_start written)) w ks text n → Reaches (opened begun) w ks text n
-as_opened begun [] w text n h = absurd (let e : false ≡ true = ap is_over h in cc)
-as_opened begun (kind.Fixed fixed.VarInOut ∷ ks) w text n h = absurd (let e : false ≡ true = ap is_over h in cc)
-as_opened begun (kind.Fixed fixed.VarTemp ∷ ks) w text n h = absurd (let e : false ≡ true = ap is_over h in cc)
+as_opened begun [] w text n h = absurd (let e = ap state_of h in cc)
+as_opened begun (kind.Fixed fixed.VarInOut ∷ ks) w text n h = absurd cc
+as_opened begun (kind.Fixed fixed.VarTemp ∷ ks) w text n h = absurd cc
 as_opened begun (other ∷ ks) w text n h = h
 
 as_formals_done : (begun : BegunUnit written) (f : Section Locals) (ks : List Kind) (w : List ℕ) (text : TextSoFar written) (n : List ℕ) → Reaches (inside begun f absent (body_start written)) w ks text n → Reaches (formals_done begun f) w ks text n
-as_formals_done begun f [] w text n h = absurd (let e : false ≡ true = ap is_over h in cc)
-as_formals_done begun f (kind.Fixed fixed.VarTemp ∷ ks) w text n h = absurd (let e : false ≡ true = ap is_over h in cc)
+as_formals_done begun f [] w text n h = absurd (let e = ap state_of h in cc)
+as_formals_done begun f (kind.Fixed fixed.VarTemp ∷ ks) w text n h = absurd cc
 as_formals_done begun f (other ∷ ks) w text n h = h
 
 as_start : (ks : List Kind) (w : List ℕ) (text : TextSoFar written) (n : List ℕ) → Reaches (between (record { globals = absent; units = no_unit })) w ks text n → Reaches start w ks text n
-as_start [] w text n h = absurd (let e : false ≡ true = ap is_over h in cc)
-as_start (kind.Fixed fixed.VarGlobal ∷ ks) w text n h = absurd (let e : false ≡ true = ap is_over h in cc)
+as_start [] w text n h = absurd (let e = ap state_of h in cc)
+as_start (kind.Fixed fixed.VarGlobal ∷ ks) w text n h = absurd cc
 as_start (other ∷ ks) w text n h = h
 
 -- the text with one more unit
@@ -344,8 +339,7 @@ formals_read : (text : TextSoFar written) (head : Head) (f : Locals) (ks : List 
     passes written (opened (begun_unit written text head)) w (kind.Fixed fixed.VarInOut ∷ spell_locals f (kind.Fixed fixed.EndVar ∷ ks)) ≡ passes written (formals_done (begun_unit written text head) (present f)) (0 ∷ levels_locals f (0 ∷ w)) ks
 formals_read text head f ks w h =
     ap (λ (c : Bool). go w (spell_locals f (kind.Fixed fixed.EndVar ∷ ks)) (if c then None else Some (section (begun_unit written text head) formals no_local))) h.0
-    ∙ locals_all (begun_unit written text head) formals f (kind.Fixed fixed.EndVar ∷ ks) (0 ∷ w)
-    (formals_declared f h.1)
+    ∙ locals_all (begun_unit written text head) formals f (kind.Fixed fixed.EndVar ∷ ks) (0 ∷ w) (formals_declared f h.1)
 
 abbrev levels_sections : Section Locals → Section Locals → List ℕ → List ℕ
 levels_sections f l w = levels_section levels_locals l (levels_section levels_locals f w)

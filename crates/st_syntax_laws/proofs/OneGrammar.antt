@@ -11,7 +11,6 @@ use Rattle.st_grammar.specs.declared.kind.Kind.{Kind}
 use Rattle.st_grammar.specs.declared.kind.Kind.TheVariants as kind
 use Rattle.st_tree.specs.Form.{infix_level, weakest}
 use Rattle.st_tree.specs.declared.raw.RawExpr.{RawExpr}
-use Rattle.st_tree.specs.declared.raw.RawExpr.TheVariants as expr
 
 -- Levels
 
@@ -72,15 +71,13 @@ with_close f = passes f (kind.Fixed fixed.Close ∷ [])
 with_two : (f g : Form) → spell f (kind.Fixed fixed.Comma ∷ spell g (kind.Fixed fixed.Close ∷ [])) ≡ with_comma (spell f []) (spell g []) ++ kind.Fixed fixed.Close ∷ []
 with_two f g =
     passes f (kind.Fixed fixed.Comma ∷ spell g (kind.Fixed fixed.Close ∷ []))
-    ∙ ap (λ (ks : List Kind). spell f [] ++ kind.Fixed fixed.Comma ∷ ks) (with_close g)
-    ∙ sym (append_assoc (spell f []) (kind.Fixed fixed.Comma ∷ spell g []) (kind.Fixed fixed.Close ∷ []))
+    ∙ rw (with_close g) (sym (append_assoc (spell f []) (kind.Fixed fixed.Comma ∷ spell g []) (kind.Fixed fixed.Close ∷ [])))
 
 with_three : (f g h : Form) → spell f (kind.Fixed fixed.Comma ∷ spell g (kind.Fixed fixed.Comma ∷ spell h (kind.Fixed fixed.Close ∷ [])))
     ≡ with_comma (spell f []) (with_comma (spell g []) (spell h [])) ++ kind.Fixed fixed.Close ∷ []
 with_three f g h =
     passes f (kind.Fixed fixed.Comma ∷ spell g (kind.Fixed fixed.Comma ∷ spell h (kind.Fixed fixed.Close ∷ [])))
-    ∙ ap (λ (ks : List Kind). spell f [] ++ kind.Fixed fixed.Comma ∷ ks) (with_two g h)
-    ∙ sym (append_assoc (spell f []) (kind.Fixed fixed.Comma ∷ with_comma (spell g []) (spell h [])) (kind.Fixed fixed.Close ∷ []))
+    ∙ rw (with_two g h) (sym (append_assoc (spell f []) (kind.Fixed fixed.Comma ∷ with_comma (spell g []) (spell h [])) (kind.Fixed fixed.Close ∷ [])))
 
 -- From forms to the grammar
 
@@ -132,8 +129,8 @@ spelled k ts e (binary {ts = us} {us = vs} {e = x} {f = y} o h d c) =
       form = infix_of o f.form g.form;
       binds = (f.strong, below_one (level g.form) (infix_level o) (infix_some o) g.strong, f.binds, g.binds);
       strong = h;
-      spelled = passes f.form (between ∷ spell g.form []) ∙ ap (λ (ks : List Kind). ks ++ between ∷ spell g.form []) f.spelled ∙ ap (λ (ks : List Kind). us ++ between ∷ ks) g.spelled;
-      same = ap (λ (z : RawExpr). expr.Binary o z (tree g.form)) f.same ∙ ap (λ (z : RawExpr). expr.Binary o x z) g.same;
+      spelled = passes f.form (between ∷ spell g.form []) ∙ rw (f.spelled, g.spelled) refl;
+      same = rw (f.same, g.same) refl;
     }
 spelled k ts e (applied {ts = us} {e = x} o d) =
     let f = spelled weakest us x d in
@@ -147,32 +144,23 @@ spelled k ts e (applied {ts = us} {e = x} o d) =
 spelled k ts e (shifted {ts = us} {us = vs} {e = x} {f = y} o d c) =
     let f = spelled weakest us x d in
     let g = spelled weakest vs y c in
-    let rest = λ (ks : List Kind). ks ++ kind.Fixed fixed.Close ∷ [] in
     record {
       form = shift o f.form g.form;
       binds = (f.binds, g.binds);
       strong = omega arith;
-      spelled =
-          ap (begin_with (kind.Fixed (fixed.Function (function.Shift o))))
-          (with_two f.form g.form ∙ ap (λ (ks : List Kind). rest (with_comma ks (spell g.form []))) f.spelled ∙ ap (λ (ks : List Kind). rest (with_comma us ks)) g.spelled);
-      same = ap (λ (z : RawExpr). expr.Shift o z (tree g.form)) f.same ∙ ap (λ (z : RawExpr). expr.Shift o x z) g.same;
+      spelled = ap (begin_with (kind.Fixed (fixed.Function (function.Shift o)))) (with_two f.form g.form ∙ rw (f.spelled, g.spelled) refl);
+      same = rw (f.same, g.same) refl;
     }
 spelled k ts e (selected {ts = us} {us = vs} {vs = ws} {e = x} {f = y} {g = z} d c b) =
     let f = spelled weakest us x d in
     let g = spelled weakest vs y c in
     let i = spelled weakest ws z b in
-    let rest = λ (ks : List Kind). ks ++ kind.Fixed fixed.Close ∷ [] in
     record {
       form = select f.form g.form i.form;
       binds = (f.binds, g.binds, i.binds);
       strong = omega arith;
-      spelled =
-          ap (begin_with (kind.Fixed (fixed.Function function.Select)))
-          (with_three f.form g.form i.form ∙ ap (λ (ks : List Kind). rest (with_comma ks (with_comma (spell g.form []) (spell i.form [])))) f.spelled
-          ∙ ap (λ (ks : List Kind). rest (with_comma us (with_comma ks (spell i.form [])))) g.spelled ∙ ap (λ (ks : List Kind). rest (with_comma us (with_comma vs ks))) i.spelled);
-      same =
-          ap (λ (r : RawExpr). expr.Select r (tree g.form) (tree i.form)) f.same ∙ ap (λ (r : RawExpr). expr.Select x r (tree i.form)) g.same
-          ∙ ap (λ (r : RawExpr). expr.Select x y r) i.same;
+      spelled = ap (begin_with (kind.Fixed (fixed.Function function.Select))) (with_three f.form g.form i.form ∙ rw (f.spelled, g.spelled, i.spelled) refl);
+      same = rw (f.same, g.same, i.same) refl;
     }
 
 back : (k : ℕ) (ts : List Kind) (e : RawExpr) → IsSpelled k ts e → Derives k ts e
