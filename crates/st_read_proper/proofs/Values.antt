@@ -45,29 +45,6 @@ plain_value false n ty e h = h
 
 -- What a type keeps
 
--- a number from 0 on
-signed_kept : (n half whole : ℕ) → n < half → n % whole ≡ n
-    → cond (nat_lt (n % whole) half) (pos (n % whole)) (negsuc (whole - 1 - n % whole)) ≡ pos n
-signed_kept n half whole h same =
-    let below : nat_lt n half ≡ true = grind (arith, nat_tests) in
-    ap (λ m. cond (nat_lt m half) (pos m) (negsuc (whole - 1 - m))) same
-    ∙ ap (λ t. cond t (pos n) (negsuc (whole - 1 - n))) below
-
--- a number below 0
-below_kept : (n half whole : ℕ) → n < half → n % whole ≡ n → whole ≡ half + half
-    → cond (nat_lt (whole - 1 - n % whole) half) (pos (whole - 1 - n % whole)) (negsuc (whole - 1 - (whole - 1 - n % whole)))
-    ≡ negsuc n
-below_kept n half whole h same twice =
-    let high : half ≤ whole - 1 - n = omega (arith, h, twice) in
-    let above : nat_lt (whole - 1 - n) half ≡ false = by (whole - 1 - n) high in
-    let back : whole - 1 - (whole - 1 - n) ≡ n = omega (arith, h, twice) in
-    ap (λ m. cond (nat_lt (whole - 1 - m) half) (pos (whole - 1 - m)) (negsuc (whole - 1 - (whole - 1 - m)))) same
-    ∙ ap (λ t. cond t (pos (whole - 1 - n)) (negsuc (whole - 1 - (whole - 1 - n)))) above
-    ∙ ap negsuc back
-  where
-    by : (m : ℕ) → half ≤ m → nat_lt m half ≡ false
-    by m h = grind (arith, nat_tests)
-
 -- a number that a type without a sign has, and one from 0 on that a type with a sign has
 unsigned_fits : (n most whole : ℕ) → nat_le n most ≡ true → most < whole → pos (n % whole) ≡ pos n
 unsigned_fits n most whole h less =
@@ -77,7 +54,10 @@ signed_fits : (n most half whole : ℕ) → nat_le n most ≡ true → most < ha
     → cond (nat_lt (n % whole) half) (pos (n % whole)) (negsuc (whole - 1 - n % whole)) ≡ pos n
 signed_fits n most half whole h less low =
     let b = leb-true n most h in
-    let small : n < whole = omega (arith, b, less, low) in signed_kept n half whole (omega (arith, b, less)) (mod-eq_of_lt small)
+    let small : n < whole = omega (arith, b, less, low) in
+    let in_half : n < half = omega (arith, b, less) in
+    let below : nat_lt n half ≡ true = grind (arith, nat_tests) in
+    rw (mod-eq_of_lt small, below) refl
 
 plain_fits : (ty : StType) (n : ℕ) → nat_le n (greatest ty false) ≡ true → fit ty (pos n) ≡ pos n
 plain_fits type.Bool n h = unsigned_fits n 1 (2 ^ 1) h (omega arith)
@@ -94,7 +74,12 @@ negative_fits : (n most half whole : ℕ) → nat_le (suc n) most ≡ true → m
 negative_fits n most half whole h less twice =
     let b = leb-true (suc n) most h in
     let small : n < whole = omega (arith, b, less, twice) in
-    below_kept n half whole (omega (arith, b, less)) (mod-eq_of_lt small) twice
+    let above : nat_lt (whole - 1 - n) half ≡ false = by (whole - 1 - n) (omega (arith, b, less, twice)) in
+    let back : whole - 1 - (whole - 1 - n) ≡ n = omega (arith, b, less, twice) in
+    rw (mod-eq_of_lt small, above, back) refl
+  where
+    by : (m : ℕ) → half ≤ m → nat_lt m half ≡ false
+    by m h = grind (arith, nat_tests)
 
 below_fits : (ty : StType) (n : ℕ) → (is_signed ty && nat_le (suc n) (greatest ty true)) ≡ true
     → fit ty (negsuc n) ≡ negsuc n
