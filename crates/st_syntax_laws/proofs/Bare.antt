@@ -19,7 +19,6 @@ use Rattle.st_grammar.specs.declared.kind.Literal.TheVariants as lit
 use Rattle.st_grammar.specs.declared.kind.Prefix.{Prefix}
 use Rattle.st_grammar.specs.declared.kind.Prefix.TheVariants as before
 use Rattle.st_tree.specs.declared.expr.BinaryOp.TheVariants as binary
-use Rattle.st_tree.specs.declared.expr.StType.{StType}
 use Rattle.st_tree.specs.declared.expr.StType.TheVariants as type
 use Rattle.st_tree.specs.declared.raw.RawVar.TheVariants as var
 
@@ -173,10 +172,7 @@ bare_closed k d (waiting b (to_var v) ∷ s) f = refl
 bare_closed k d s f = refl
 
 bare_prefix : (d : ℕ) (s : List (Frame written)) (op : Prefix) → with_prefix code d (bare_stack s) op ≡ option_map bare_body_state (with_prefix written d s op)
-bare_prefix d s op =
-    ap (λ (n : ℕ). if nat_le (prefix_level op) n then Some (body_state code (suc d) (unary op ∷ bare_stack s) operand) else None) (bare_limit s)
-    ∙ map_if bare_body_state (nat_le (prefix_level op) (limit written s))
-    (body_state written (suc d) (unary op ∷ s) operand)
+bare_prefix d s op = rw (bare_limit s) (map_if bare_body_state (nat_le (prefix_level op) (limit written s)) (body_state written (suc d) (unary op ∷ s) operand))
 
 -- Statements
 
@@ -196,9 +192,7 @@ step_bare : (k : Kind) (p : Place written) (d : ℕ) (s : List (Frame written)) 
 step_bare (kind.Variable (var.Name name) line) (statement body) d s = refl
 step_bare (kind.Variable v line) (statement body) d s = refl
 step_bare (kind.Lead (lead.Jump word) line) (statement body) d s =
-    ap (λ (c : Bool). if may_jump c word then Some (body_state code d (bare_stack s) (closing (tree_all body) (of_jump code line word))) else None) (bare_in_loop s)
-    ∙ map_if bare_body_state (may_jump (in_loop written s) word)
-    (body_state written d s (closing body (of_jump written line word)))
+    rw (bare_in_loop s) (map_if bare_body_state (may_jump (in_loop written s) word) (body_state written d s (closing body (of_jump written line word))))
 step_bare (kind.Lead word line) (statement body) d s = refl
 step_bare (kind.Fixed fixed.Semicolon) (statement body) d s = refl
 step_bare k (statement body) d s = bare_in_body k d s body
@@ -207,8 +201,7 @@ step_bare (kind.Literal c) (part b (next_label e arms labels)) d s = map_if bare
 step_bare (kind.Literal c) operand d s = map_if bare_body_state (is_value c) (body_state written d s (operator (of_literal written c)))
 step_bare (kind.Fixed (fixed.Between op)) (operator f) d s = ap (λ (r : Reduced code). Some (waits code op r)) (bare_reduce (infix_level op) d s f)
 step_bare k (operator f) d s =
-    ap (λ (r : Reduced code). closed_to code r k) (bare_reduce weakest d s f)
-    ∙ bare_closed k (reduce written weakest d s f).depth (reduce written weakest d s f).stack (reduce written weakest d s f).operand
+    let r = reduce written weakest d s f in ap (λ (c : Reduced code). closed_to code c k) (bare_reduce weakest d s f) ∙ bare_closed k r.depth r.stack r.operand
 step_bare (kind.Fixed fixed.Not) operand d s = bare_prefix d s before.Not
 step_bare (kind.Fixed (fixed.Between binary.Sub)) operand d s = bare_prefix d s before.Minus
 step_bare k (part b (target (var.Name name))) d s = refl
@@ -232,16 +225,6 @@ at_between_bare : (text : TextSoFar written) (k : Kind) → at_between code (bar
 at_between_bare text (kind.Lead lead.Program line) = refl
 at_between_bare text (kind.Fixed fixed.End) = refl
 at_between_bare text other = refl
-
-may_name_bare : (which : SectionKind written) (name : List ℕ) →
-    may_name code (bare_section_kind which) name ≡ may_name written which name
-may_name_bare formals name = refl
-may_name_bare (temps before) name = refl
-
-may_type_bare : (which : SectionKind written) (ty : StType) →
-    may_type code (bare_section_kind which) ty ≡ may_type written which ty
-may_type_bare formals ty = refl
-may_type_bare (temps before) ty = refl
 
 leave_bare : (program : Bool) (begun : BegunUnit written) (f l : Section Locals) (s : List (Frame written)) (p : Place written) →
     leave code program (bare_begun_unit begun) (held tree_locals f) (held tree_locals l) (bare_stack s) (bare_place p) ≡ option_map bare (leave written program begun f l s p)
@@ -280,15 +263,13 @@ next_bare (between text) k = at_between_bare text k
 next_bare (heading text program line) (kind.Variable (var.Name name) place) = map_if bare (may_name_unit name) (opened (begun_unit written text (head_of written program line name place)))
 next_bare (opened begun) k = at_opened_bare begun k
 next_bare (formals_done begun before) k = at_formals_done_bare begun before k
-next_bare (section begun which done) (kind.Variable (var.Name name) line) =
-    ap (λ (c : Bool). if c then Some (typing (bare_begun_unit begun) (bare_section_kind which) (tree_locals done) name line local_colon) else None) (may_name_bare which name)
-    ∙ map_if bare (may_name written which name) (typing begun which done name line local_colon)
+next_bare (section begun formals done) (kind.Variable (var.Name name) line) = map_if bare (may_name written formals name) (typing begun formals done name line local_colon)
+next_bare (section begun (temps f) done) (kind.Variable (var.Name name) line) = map_if bare (may_name written (temps f) name) (typing begun (temps f) done name line local_colon)
 next_bare (section begun formals done) (kind.Fixed fixed.EndVar) = refl
 next_bare (section begun (temps before) done) (kind.Fixed fixed.EndVar) = refl
 next_bare (typing begun which done name line local_colon) (kind.Fixed fixed.Colon) = refl
-next_bare (typing begun which done name line local_type) (kind.Fixed (fixed.Type ty)) =
-    ap (λ (c : Bool). if c then Some (typing (bare_begun_unit begun) (bare_section_kind which) (tree_locals done) name line (local_end ty)) else None) (may_type_bare which ty)
-    ∙ map_if bare (may_type written which ty) (typing begun which done name line (local_end ty))
+next_bare (typing begun formals done name line local_type) (kind.Fixed (fixed.Type ty)) = map_if bare (may_type written formals ty) (typing begun formals done name line (local_end ty))
+next_bare (typing begun (temps f) done name line local_type) (kind.Fixed (fixed.Type ty)) = refl
 next_bare (typing begun which done name line (local_end ty)) (kind.Fixed fixed.Semicolon) = refl
 next_bare (inside begun before locals at) k = at_inside_bare begun before locals at k
 next_bare q other = refl

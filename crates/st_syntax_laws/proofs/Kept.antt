@@ -10,7 +10,7 @@ use Rattle.st_grammar.specs.Grammar.{prefix_level, level, is_value, Binds, may_j
 use Rattle.st_tree.specs.Form.{infix_level, weakest}
 use Rattle.st_tree.specs.Naming.{may_name_global, may_name_unit, names_block, is_free}
 use Rattle.st_grammar.specs.inner.Machine.{written, BegunStatement, Argument, only, shifted, shifted_by, gate, first, second, Need, to_var, to_area, area_value, test, selector, loop_test, OuterStatement, choosing, otherwise, looping, selecting, otherwise_case, Frame, unary, left, bracket, argument, waiting, within, Part, target, write_open, first_formal, next_formal, becoming, giving, given, first_label, next_label, labelled, Place, statement, part, closing, operand, operator, opening, BodyState, Row, at_word, at_place, at_colon, at_type, at_square, at_zero, at_dots, at_last, at_close, at_of, at_byte, at_becomes, at_open, at_item, at_count, at_value, at_value_end, at_comma, at_end, Typing, local_colon, local_type, local_end, TextSoFar, BegunUnit, SectionKind, formals, temps, State, start, globals, row, between, heading, opened, formals_done, section, typing, inside, over}
-use Rattle.st_grammar.specs.inner.Steps.{body_state, shallower, limit, Reduced, reduce, reduced_to, with_prefix, closed, waits, in_loop, in_body, at_label, step_at, may_name, may_type, row_step, before_units, at_between, ends, leave, at_inside, at_formals_done, next}
+use Rattle.st_grammar.specs.inner.Steps.{body_state, shallower, limit, Reduced, reduce, reduced_to, with_prefix, closed, in_loop, in_body, at_label, step_at, may_name, may_type, row_step, before_units, at_between, ends, leave, at_inside, at_formals_done, next}
 use Rattle.st_grammar.specs.declared.kind.Fixed.TheVariants as fixed
 use Rattle.st_grammar.specs.declared.kind.Function.{Function}
 use Rattle.st_grammar.specs.declared.kind.Function.TheVariants as function
@@ -21,7 +21,6 @@ use Rattle.st_grammar.specs.declared.kind.Literal.{Literal}
 use Rattle.st_grammar.specs.declared.kind.Literal.TheVariants as lit
 use Rattle.st_grammar.specs.declared.kind.Prefix.{Prefix}
 use Rattle.st_grammar.specs.declared.kind.Prefix.TheVariants as before
-use Rattle.st_tree.specs.declared.expr.BinaryOp.{BinaryOp}
 use Rattle.st_tree.specs.declared.expr.BinaryOp.TheVariants as binary
 use Rattle.st_tree.specs.declared.expr.StType.TheVariants as type
 use Rattle.st_tree.specs.declared.raw.RawVar.{RawVar}
@@ -342,12 +341,7 @@ closed_kept k d (waiting x (to_var v) ∷ s) f h b = assumption
 closed_kept k d s f h b = assumption
 
 reduced_kept : (d : ℕ) (s : List (Frame written)) (f : Form) (r : Reduced written) (k : Kind) → Fitting weakest s f r → KeepsIn (λ more. past_stack s (spell f (k ∷ more))) (closed written r.depth r.stack r.operand k)
-reduced_kept d s f r k t =
-    same_in (λ more. past_stack r.stack (spell r.operand (k ∷ more))) (λ more. past_stack s (spell f (k ∷ more))) (λ more. t.same (k ∷ more)) (closed written r.depth r.stack r.operand k)
-    (closed_kept k r.depth r.stack r.operand t.inner t.binds)
-
-waits_kept : (s : List (Frame written)) (f : Form) (r : Reduced written) (op : BinaryOp) → Fitting (infix_level op) s f r → KeptIn (λ more. past_stack s (spell f (kind.Fixed (fixed.Between op) ∷ more))) (waits written op r)
-waits_kept s f r op t = record { fits = (t.strong, t.binds, t.room, t.inner); grown = λ more. t.same (kind.Fixed (fixed.Between op) ∷ more) }
+reduced_kept d s f r k t = same_in _ _ (λ more. t.same (k ∷ more)) (closed written r.depth r.stack r.operand k) (closed_kept k r.depth r.stack r.operand t.inner t.binds)
 
 prefix_kept : (d : ℕ) (s : List (Frame written)) (op : Prefix) → InExpr s → KeepsIn (λ more. past_stack s (prefix_kind op ∷ more)) (with_prefix written d s op)
 prefix_kept d s op h =
@@ -391,7 +385,9 @@ step_kept k (part b (first_label e arms)) d s h = label_kept d s b e arms (λ c.
 step_kept k (part b (next_label e arms labels)) d s h =
     label_kept d s b e arms (λ c. more_labels labels c) (λ ks. spell_labels labels (comma_kind ∷ ks)) k (λ c more. refl) (λ c v. (h.2.2, v)) h.0 h.1 h.2.0 h.2.1
 step_kept (kind.Literal c) operand d s h = if_in (is_value c) (λ v. assumption)
-step_kept (kind.Fixed (fixed.Between op)) (operator f) d s h = waits_kept s f (reduce written (infix_level op) d s f) op (fitting (infix_level op) d s f (infix_most op) h.0 h.1 (omega arith) (omega arith))
+step_kept (kind.Fixed (fixed.Between op)) (operator f) d s h =
+    let t = fitting (infix_level op) d s f (infix_most op) h.0 h.1 (omega arith) (omega arith) in
+    record { fits = (t.strong, t.binds, t.room, t.inner); grown = λ more. t.same (kind.Fixed (fixed.Between op) ∷ more) }
 step_kept k (operator f) d s h = reduced_kept d s f (reduce written weakest d s f) k (fitting weakest d s f (omega arith) h.0 h.1 (omega arith) (omega arith))
 step_kept (kind.Fixed fixed.Not) operand d s h = prefix_kept d s before.Not h
 step_kept (kind.Fixed (fixed.Between binary.Sub)) operand d s h = prefix_kept d s before.Minus h

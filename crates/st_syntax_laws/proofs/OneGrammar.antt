@@ -19,49 +19,43 @@ less_one j k h = omega arith
 
 -- Tokens
 
--- what stands after a part stands after its tokens
-abbrev Passes : (List Kind → List Kind) → Type 0
-Passes s = (more : List Kind) → s more ≡ s [] ++ more
+abbrev begin_with : Kind → List Kind → List Kind
+begin_with word ts = word ∷ kind.Fixed fixed.Open ∷ ts
 
--- a part, a token, and another part
-joined : (s t : List Kind → List Kind) (k : Kind) → Passes s → Passes t → Passes (λ more. s (k ∷ t more))
-joined s t k p q more =
-    p (k ∷ t more) ∙ ap (λ (ks : List Kind). s [] ++ k ∷ ks) (q more) ∙ sym (append_assoc (s []) (k ∷ t []) more)
-    ∙ ap (λ (ks : List Kind). ks ++ more) (sym (p (k ∷ t [])))
+abbrev comma : List Kind → List Kind
+comma ks = kind.Fixed fixed.Comma ∷ ks
 
--- a part up to its bracket
-abbrev to_close : (List Kind → List Kind) → List Kind → List Kind
-to_close s more = s (kind.Fixed fixed.Close ∷ more)
+abbrev close : List Kind → List Kind
+close ks = kind.Fixed fixed.Close ∷ ks
 
-closed : (s : List Kind → List Kind) → Passes s → Passes (to_close s)
-closed s p = joined s (λ more. more) (kind.Fixed fixed.Close) p (λ more. refl)
-
--- two parts with a comma between them
-abbrev comma : (List Kind → List Kind) → (List Kind → List Kind) → List Kind → List Kind
-comma s t more = s (kind.Fixed fixed.Comma ∷ t more)
-
-listed : (s t : List Kind → List Kind) → Passes s → Passes t → Passes (comma s t)
-listed s t p q = joined s t (kind.Fixed fixed.Comma) p q
-
-begun : (s : List Kind → List Kind) (k : Kind) → Passes s → Passes (λ more. k ∷ s more)
-begun s k p more = ap (λ (ks : List Kind). k ∷ ks) (p more)
-
-in_brackets : (s : List Kind → List Kind) (k : Kind) → Passes s → Passes (λ more. k ∷ kind.Fixed fixed.Open ∷ s more)
-in_brackets s k p more = ap (λ (ks : List Kind). k ∷ kind.Fixed fixed.Open ∷ ks) (p more)
-
+-- what stands after a form stands after its tokens
 pub passes : (f : Form) (more : List Kind) → spell f more ≡ spell f [] ++ more
-passes (group f) more = begun (to_close (spell f)) (kind.Fixed fixed.Open) (closed (spell f) (passes f)) more
-passes (prefix o f) more = begun (spell f) (prefix_kind o) (passes f) more
-passes (infix_of o f g) more = joined (spell f) (spell g) (kind.Fixed (fixed.Between o)) (passes f) (passes g) more
-passes (apply o f) more = in_brackets (to_close (spell f)) (kind.Fixed (fixed.Function (function.One o))) (closed (spell f) (passes f)) more
+passes (group f) more = rw (passes f (close more), passes f (close [])) (simp append_assoc)
+passes (prefix o f) more = rw (passes f more) refl
+passes (infix_of o f g) more =
+    let op = kind.Fixed (fixed.Between o) in rw (passes f (op ∷ spell g more), passes f (op ∷ spell g []), passes g more) (simp append_assoc)
+passes (apply o f) more = rw (passes f (close more), passes f (close [])) (simp append_assoc)
 passes (shift o f g) more =
-    let inner = comma (spell f) (to_close (spell g)) in
-    in_brackets inner (kind.Fixed (fixed.Function (function.Shift o))) (listed (spell f) (to_close (spell g)) (passes f) (closed (spell g) (passes g))) more
+    rw (
+      passes f (comma (spell g (close more))),
+      passes f (comma (spell g (close []))),
+      passes g (close more),
+      passes g (close []),
+      append_assoc (spell f []) (comma (spell g [] ++ close [])) more,
+      append_assoc (spell g []) (close []) more,
+    ) refl
 passes (select f g h) more =
-    let last = comma (spell g) (to_close (spell h)) in
-    let inner = comma (spell f) last in
-    in_brackets inner (kind.Fixed (fixed.Function function.Select))
-    (listed (spell f) last (passes f) (listed (spell g) (to_close (spell h)) (passes g) (closed (spell h) (passes h)))) more
+    rw (
+      passes f (comma (spell g (comma (spell h (close more))))),
+      passes f (comma (spell g (comma (spell h (close []))))),
+      passes g (comma (spell h (close more))),
+      passes g (comma (spell h (close []))),
+      passes h (close more),
+      passes h (close []),
+      append_assoc (spell f []) (comma (spell g [] ++ comma (spell h [] ++ close []))) more,
+      append_assoc (spell g []) (comma (spell h [] ++ close [])) more,
+      append_assoc (spell h []) (close []) more,
+    ) refl
 passes f more = refl
 
 -- the tokens of parts with a bracket, an operator or commas after them
@@ -83,9 +77,6 @@ with_three f g h =
 
 to_kinds : {k : ℕ} {e : RawExpr} (ts us : List Kind) → us ≡ ts → Derives k ts e → Derives k us e
 to_kinds {k} {e} ts us same d = subst (λ (ks : List Kind). Derives k ks e) (sym same) d
-
-abbrev begin_with : Kind → List Kind → List Kind
-begin_with word ts = word ∷ kind.Fixed fixed.Open ∷ ts
 
 derived : (f : Form) (k : ℕ) → Binds f → level f ≤ k → Derives k (spell f []) (tree f)
 derived (literal c) k b h = value b
