@@ -10,7 +10,7 @@ use Rattle.st_read_proper.proofs.Expressions.{Found, found}
 use Rattle.st_types_laws.proofs.Parts.{arm_clean, assign_clean, assign_fits, breaks_last, case_arm_clean, case_clean, if_clean, selector_clean, selector_is, selector_type, test_bool, test_clean, variable_there, while_clean, write_clean, write_fits, arms_read_last, cases_read_last}
 use Rattle.st_types_laws.proofs.Lists.{map_last, nil_first, nil_second}
 use Rattle.st_read_proper.proofs.Statements.{FoundAll, FoundArms, FoundCases, FoundOne, of_arm, of_assign, of_case_arm, of_cases, of_cases_else, of_choice, of_choice_else, of_empty, of_further, of_jump, of_loop, of_no_arm, of_no_case, of_none, of_write, cost_of, of_heads}
-use Rattle.st_read_proper.proofs.Sees.{Sees, variable_has, IsCallable}
+use Rattle.st_read_proper.proofs.Sees.{by_entry, Sees, variable_has, IsCallable}
 use Rattle.st_tree.specs.WellTyped.{Sight, Head, are_given, has_type, is_call, is_seen, is_well_typed, variable_type}
 use Rattle.st_tree.specs.declared.expr.StType.{StType}
 use Rattle.st_rules.specs.Judged.{Judged, breaks_in, breaks_rule, listed, sound}
@@ -31,7 +31,7 @@ use Rattle.s7_base.specs.Broken.{broken}
 use Rattle.st_rules.specs.Calls.{call_on, calls_of}
 use Rattle.st_rules.specs.Invocations.{Actual, Given, call_of, callee, formal_breaks, function_call, given_by, in_order, lacks, none_given, plain, var_given, with_actual}
 use Rattle.st_rules.specs.Names.{Table, look_up, with_entry}
-use Rattle.st_tree.specs.Naming.{is_same, key_of}
+use Rattle.st_tree.specs.Naming.{key_of}
 use Rattle.st_rules.specs.Scopes.{meaning_in}
 use Rattle.st_tree.specs.TypeRules.{is_type}
 use Rattle.s7_base.specs.declared.broken.Break.{Break}
@@ -79,14 +79,9 @@ module _ (sight : Sight) (types : Table StType) where
   looked_up : (table : Table (Option Var)) (key : List ℕ) (o : Option Var) → AreGiven table → look_up key table ≡ Some o
       → IsGiven sight types key o
   looked_up [] key o h q = absurd cc
-  looked_up (e ∷ table) key o h q = by (is_same key e.0) refl (looked_up table key o h.1) q
-    where
-      by : (t : Bool) → is_same key e.0 ≡ t → (look_up key table ≡ Some o → IsGiven sight types key o)
-          → cond t (Some e.1) (look_up key table) ≡ Some o → IsGiven sight types key o
-      by true s more r =
-          let value : e.1 ≡ o = cc in
-          subst (λ p. IsGiven sight types key p) value (subst (λ j. IsGiven sight types j e.1) (sym (same_keys key e.0 s)) h.0)
-      by false s more r = more r
+  looked_up (e ∷ table) key o h q =
+      by_entry key e.0 e.1 o _ (λ s value. subst (λ p. IsGiven sight types key p) value
+      (subst (λ j. IsGiven sight types j e.1) (sym (same_keys key e.0 s)) h.0)) (looked_up table key o h.1) q
 
   record InOrder (vars : Table (Option Var)) (ls : List Local) : Type 0 where
     xs : List Var

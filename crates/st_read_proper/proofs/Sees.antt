@@ -158,25 +158,25 @@ IsInner (meaning.Formal i ty) = Unit {0}
 IsInner (meaning.Local i ty) = Unit {0}
 IsInner other = ⊥
 
--- a name means what the first entry of its key says, or what the others say
-by_entry : {C : Type 0} (k key : List ℕ) (first m : Meaning) (others : Option Meaning) → (first ≡ m → C) → (others ≡ Some m → C)
-    → cond (is_same k key) (Some first) others ≡ Some m → C
-by_entry {C} k key first m others here more = by (is_same k key)
+-- what stands under a key is in the first entry, or in the others
+pub by_entry : {V C : Type 0} (k key : List ℕ) (first v : V) (others : Option V) → (is_same k key ≡ true → first ≡ v → C) → (others ≡ Some v → C)
+    → cond (is_same k key) (Some first) others ≡ Some v → C
+by_entry {V} {C} k key first v others here more = by (is_same k key) refl
   where
-    by : (t : Bool) → cond t (Some first) others ≡ Some m → C
-    by true q = here cc
-    by false q = more q
+    by : (t : Bool) → is_same k key ≡ t → cond t (Some first) others ≡ Some v → C
+    by true s q = here s cc
+    by false s q = more q
 
 local_means : (i : ℕ) (ls : List Local) (k : List ℕ) (m : Meaning) → look_up k (local_entries i ls) ≡ Some m → IsInner m
 local_means i [] k m h = absurd cc
 local_means i (l ∷ ls) k m h =
-    by_entry k (key_of l.name) (meaning.Local i l.ty) m _ (λ e. subst IsInner e tt) (local_means (i + 1) ls k m) h
+    by_entry k (key_of l.name) (meaning.Local i l.ty) m _ (λ s e. subst IsInner e tt) (local_means (i + 1) ls k m) h
 
 inner_means : (i : ℕ) (ls : List Local) (rest : Table Meaning) (k : List ℕ) (m : Meaning)
     → (look_up k rest ≡ Some m → IsInner m) → look_up k (formal_entries i ls ++ rest) ≡ Some m → IsInner m
 inner_means i [] rest k m f h = f h
 inner_means i (l ∷ ls) rest k m f h =
-    by_entry k (key_of l.name) (meaning.Formal i l.ty) m _ (λ e. subst IsInner e tt) (inner_means (i + 1) ls rest k m f) h
+    by_entry k (key_of l.name) (meaning.Formal i l.ty) m _ (λ s e. subst IsInner e tt) (inner_means (i + 1) ls rest k m f) h
 
 -- a global or a unit
 abbrev IsOuter : Meaning → Type 0
@@ -229,13 +229,13 @@ past_blocks : (bs : List DataBlock) (rest : Table Meaning) (k : List ℕ) (i : �
     → look_up k (block_entries bs ++ rest) ≡ Some (meaning.Function i) → look_up k rest ≡ Some (meaning.Function i)
 past_blocks [] rest k i h = h
 past_blocks (b ∷ bs) rest k i h =
-    by_entry k (key_of (codes "DB" ++ decimal b.number)) meaning.Block (meaning.Function i) _ (λ e. absurd cc) (past_blocks bs rest k i) h
+    by_entry k (key_of (codes "DB" ++ decimal b.number)) meaning.Block (meaning.Function i) _ (λ s e. absurd cc) (past_blocks bs rest k i) h
 
 past_globals : (j : ℕ) (gs : List Located) (rest : Table Meaning) (k : List ℕ) (i : ℕ)
     → look_up k (located_entries j gs ++ rest) ≡ Some (meaning.Function i) → look_up k rest ≡ Some (meaning.Function i)
 past_globals j [] rest k i h = h
 past_globals j (g ∷ gs) rest k i h =
-    by_entry k (key_of g.name) (meaning.Global j g.ty) (meaning.Function i) _ (λ e. absurd cc) (past_globals (j + 1) gs rest k i) h
+    by_entry k (key_of g.name) (meaning.Global j g.ty) (meaning.Function i) _ (λ s e. absurd cc) (past_globals (j + 1) gs rest k i) h
 
 unit_found : (j : ℕ) (ps : List Pou) (k : List ℕ) (i : ℕ) → look_up k (unit_entries j ps) ≡ Some (meaning.Function i) → IsUnit ps j i k
 unit_found j [] k i h = absurd cc

@@ -4,6 +4,7 @@ use Rattle.std.proofs.Common.{◌≡◌, ℕ, suc, ◌+◌, ◌≤◌, max, ◌+
 use Rattle.std.specs.List.{list_all}
 use Rattle.std.specs.Prelude.{slice_get}
 use Rattle.std.proofs.lemmas.Bool.{and_parts}
+use Rattle.std.proofs.lemmas.List.Folds.{list_all-append}
 use Rattle.s7_base.specs.declared.reason.Line.{Line}
 use Rattle.s7_base.specs.declared.word.Width.{Width}
 use Rattle.st_grammar.specs.Forms.{Form, Labels, Statement, assign, write, choice, choice_else, cases, cases_else, loop, jump, Statements, none, empty, further, Arms, no_arm, arm, CaseArms, no_case, case_arm}
@@ -17,7 +18,7 @@ use Rattle.st_read_proper.proofs.Expressions.{Found}
 use Rattle.st_canonical.proofs.Levels.{top_all, top_arms, top_cases, top_one}
 use Rattle.st_types_laws.proofs.Bounds.{all_last, arms_last, bound, bound_all, bound_arms, bound_case, bound_cases, bound_if, bound_while, cases_last, greatest_last}
 use Rattle.st_types_laws.proofs.Parts.{AreSound, arm_is, assign_is, case_arm_is, case_is, if_is, selector_is, test_is, values, while_is, write_is, writes, arms_sound_last, cases_sound_last, statements_last}
-use Rattle.st_types_laws.proofs.Lists.{both_true}
+use Rattle.st_types_laws.proofs.Lists.{map_last}
 use Rattle.st_rules.specs.Judged.{sound}
 use Rattle.st_rules.specs.Calls.{calls_of}
 use Rattle.st_rules.specs.Statements.{arm as arm_in, arms_on, case_arm as case_arm_in, case_arms_on, label_breaks, statement, statements}
@@ -87,10 +88,7 @@ module _ (scope : Scope) (sight : Sight) (inside : Bool) where
 
 checks_last : {X C : Type 0} (f : X → C) (t : C → Bool) (xs : List X) (x : X) → list_all t (map f xs) ≡ true
     → t (f x) ≡ true → list_all t (map f (xs ++ x ∷ [])) ≡ true
-checks_last f t [] x h g = both_true (t (f x)) true g refl
-checks_last f t (y ∷ xs) x h g =
-    let p = and_parts (t (f y)) (list_all t (map f xs)) h in
-    both_true (t (f y)) (list_all t (map f (xs ++ x ∷ []))) p.0 (checks_last f t xs x p.1 g)
+checks_last f t xs x h g = ap (list_all t) (map_last f xs x) ∙ list_all-append t (map f xs) (f x ∷ []) ∙ rw (h, g) refl
 
 some_last : {X C : Type 0} (f : X → C) (xs : List X) (x : X) → is_some_of (map f (xs ++ x ∷ [])) ≡ true
 some_last f [] x = refl

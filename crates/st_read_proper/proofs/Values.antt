@@ -4,6 +4,7 @@ use Rattle.std.proofs.Math.Nat.{mod-eq_of_lt}
 use Rattle.std.specs.Prelude.{nat_le, nat_lt}
 use Rattle.std.specs.Ordering.{int_eq}
 use Rattle.std.proofs.lemmas.Bool.{leb-true, and_parts}
+use Rattle.std.proofs.lemmas.List.Folds.{list_all-append}
 use Rattle.std.proofs.lemmas.Bool.Decides.{nat_tests}
 use Rattle.std.proofs.lemmas.Cmp.{int_eq_equiv}
 use Rattle.st_canonical.specs.Spelled.{is_literal}
@@ -129,18 +130,13 @@ labels_typed l ty labels h = by (have_type ty labels) h
 
 last_typed : (ty : StType) (xs : List (StType × ℤ)) (x : StType × ℤ) → have_type ty (xs ++ x ∷ []) ≡ true
     → (have_type ty xs ≡ true) × (is_type x.0 ty ≡ true)
-last_typed ty [] x h = (refl, (and_parts (is_type x.0 ty) true h).0)
-last_typed ty (y ∷ xs) x h =
-    let both = and_parts (is_type y.0 ty) (have_type ty (xs ++ x ∷ [])) h in
-    let more = last_typed ty xs x both.1 in
-    (ap (λ b. b && have_type ty xs) both.0 ∙ more.0, more.1)
+last_typed ty xs x h =
+    let both = and_parts (have_type ty xs) (have_type ty (x ∷ [])) (sym (list_all-append (λ l. is_type l.0 ty) xs (x ∷ [])) ∙ h) in
+    (both.0, (and_parts (is_type x.0 ty) true both.1).0)
 
 last_value : (ty : StType) (ns : List ℤ) (n : ℤ) → list_all (is_value ty) ns ≡ true → is_value ty n ≡ true
     → list_all (is_value ty) (ns ++ n ∷ []) ≡ true
-last_value ty [] n h g = ap (λ b. b && true) g
-last_value ty (m ∷ ns) n h g =
-    let both = and_parts (is_value ty m) (list_all (is_value ty) ns) h in
-    ap (λ b. b && list_all (is_value ty) (ns ++ n ∷ [])) both.0 ∙ last_value ty ns n both.1 g
+last_value ty ns n h g = list_all-append (is_value ty) ns (n ∷ []) ∙ rw (h, g) refl
 
 -- what the labels of an arm are
 pub record FoundLabels (ty : StType) (labels : Labels) : Type 0 where
