@@ -2,7 +2,6 @@ mod CanonicalRows
 mod CutExpressions
 mod CutLiterals
 mod CutStatements
-mod CutUnits
 mod CutWords
 mod Cuts
 pub mod Levels

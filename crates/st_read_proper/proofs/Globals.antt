@@ -14,7 +14,7 @@ use Rattle.st_canonical.specs.Spelled.{is_name as spelled_name, is_variable}
 use Rattle.st_types_laws.proofs.DeclaredNames.{same_width}
 use Rattle.st_types_laws.proofs.Lists.{Each, each_append}
 use Rattle.st_canonical.proofs.SameNames.{name_is}
-use Rattle.st_read_proper.proofs.Places.{place_is}
+use Rattle.st_read_proper.proofs.Sees.{place_is}
 use Rattle.st_read_proper.proofs.Worded.{Worded, globals_behind, comma_past_items, initial_worded, items_behind}
 use Rattle.st_tree.specs.Naming.{is_free, is_name}
 use Rattle.st_tree.specs.PlaceRules as places

@@ -1,8 +1,6 @@
 pub mod Bodies
-pub mod Chains
 pub mod Expressions
 pub mod Globals
-pub mod Places
 pub mod ReadProper
 pub mod Sees
 pub mod Statements

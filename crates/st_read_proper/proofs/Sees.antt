@@ -1,6 +1,6 @@
 -- What a scope says of a name stands where the unit of the tree sees it; and the variables of such a scope have
 -- their types.
-use Rattle.std.proofs.Common.{◌≡◌, ℕ, Bool, true, false, ◌&&◌, cond, List, Option, Some, None, Ok, Err, refl, ap, subst, ◌∙◌, suc, ◌+◌, not, ◌||◌, [], ◌∷◌, ◌++◌, map, sym, arith}
+use Rattle.std.proofs.Common.{◌≡◌, ℕ, Bool, true, false, ◌&&◌, cond, List, Option, Some, None, Ok, Err, refl, ap, subst, ◌∙◌, suc, ◌+◌, not, ◌||◌, [], ◌∷◌, ◌++◌, map, sym, arith, nat_le}
 use Rattle.std.specs.Prelude.{slice_get, codes, decimal}
 use Rattle.memory_areas.specs.declared.place.AreaName.{AreaName}
 use Rattle.memory_areas.specs.declared.place.AreaName.TheVariants as area
@@ -10,7 +10,6 @@ use Rattle.st_canonical.specs.Spelled.{is_variable}
 use Rattle.st_lexer.specs.Spelled as written
 use Rattle.std.proofs.lemmas.Bool.{and_parts}
 use Rattle.st_types_laws.proofs.Keyed.{AreDistinct}
-use Rattle.st_read_proper.proofs.Places.{place_is}
 use Rattle.st_tree.specs.Naming.{key_of, is_same, are_apart, is_new}
 use Rattle.st_rules.specs.Scopes.{meaning_in, as_register, or_else, register_named}
 use Rattle.st_tree.specs.PlaceRules.{is_block_number}
@@ -45,6 +44,25 @@ use Rattle.st_tree.specs.declared.program.StProgram.{StProgram}
 use Rattle.st_types_laws.proofs.EntryKeys.{inner_keys, keys_in, named_keys}
 use Rattle.st_types_laws.proofs.DeclaredNames.{block_entries, formal_entries, inner_entries, local_entries, located_entries, outer_entries, unit_entries}
 use Rattle.st_types_laws.proofs.DeclaredTree.{formals_in}
+use Rattle.memory_areas.specs.Access as access
+use Rattle.s7_base.specs.declared.word.Width.TheVariants as width
+use Rattle.st_rules.specs.Variables as rules_of_variables
+
+-- a bit that tokens can have and that an address may have
+bit_agrees : (w : Width) (bit : ℕ) → written.is_bit_of w bit ≡ true → nat_le bit 7 ≡ true → places.is_bit_of w bit ≡ true
+bit_agrees width.Bit bit h g = g
+bit_agrees width.Byte bit h g = h
+bit_agrees other bit h g = h
+
+-- a place that tokens can have, and that is an address, is one that a text may name
+pub place_is : (a : AreaName) (w : Width) (byte bit : ℕ) → written.is_bit_of w bit ≡ true
+    → rules_of_variables.is_place a w byte bit ≡ true → places.is_place a w byte bit ≡ true
+place_is a w byte bit h g =
+    let p = and_parts (access.is_byte_in a w byte) (nat_le bit 7) g in
+    both_true (access.is_byte_in a w byte) (places.is_bit_of w bit)
+    p.0 (bit_agrees w bit h p.1)
+
+-- Scopes
 
 -- a function that a unit may call, with its formals as the rules of texts see them
 pub record IsCallable (scope : Scope) (sight : Sight) (i : ℕ) : Type 0 where

@@ -1,7 +1,6 @@
 mod Bare
 mod Drive
 mod Exact
-mod Judged
 pub mod JudgedSyntax
 mod Kept
 mod OneGrammar
