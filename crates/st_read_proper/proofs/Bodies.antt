@@ -1,6 +1,6 @@
 -- The statements of a unit that break no rule are well typed, and nest no deeper than they are written: a call gives
 -- each formal of a function a variable of its type.
-use Rattle.std.proofs.Common.{◌≡◌, Bool, true, [], map, Some, sym, ap, ◌∙◌, ℕ, max, false, not, ◌&&◌, ◌||◌, cond, List, ◌∷◌, ◌++◌, Option, None, is_some, is_none, Result, refl, subst, arith}
+use Rattle.std.proofs.Common.{◌≡◌, Bool, true, [], map, Some, sym, ap, ◌∙◌, ℕ, max, false, ◌&&◌, ◌||◌, cond, List, ◌∷◌, ◌++◌, Option, None, is_some, is_none, Result, refl, subst, arith}
 use Rattle.s7_base.specs.declared.reason.Line.{Line}
 use Rattle.st_grammar.specs.Forms.{Form, Statement, assign, write, invoke, choice, choice_else, cases, cases_else, loop, jump, Statements, none, empty, further, Arms, no_arm, arm, CaseArms, no_case, case_arm, Actuals, no_actual, actual}
 use Rattle.st_grammar.specs.Grammar.{AllFit, ArmsFit, Binds, CasesFit, Fits, arm_of as raw_arm, case_of as raw_case, tree, tree_all, tree_arms, tree_cases, tree_labels, tree_one, spell, spell_all, spell_arms, spell_cases, spell_one, tree_actuals, spell_actuals}
@@ -11,7 +11,7 @@ use Rattle.st_types_laws.proofs.Parts.{arm_clean, assign_clean, assign_fits, bre
 use Rattle.st_types_laws.proofs.Lists.{map_last, nil_first, nil_second}
 use Rattle.st_read_proper.proofs.Statements.{FoundAll, FoundArms, FoundCases, FoundOne, of_arm, of_assign, of_case_arm, of_cases, of_cases_else, of_choice, of_choice_else, of_empty, of_further, of_jump, of_loop, of_no_arm, of_no_case, of_none, of_write, cost_of, of_heads}
 use Rattle.st_read_proper.proofs.Sees.{by_entry, Sees, variable_has, IsCallable}
-use Rattle.st_tree.specs.WellTyped.{Sight, Head, are_given, has_type, is_call, is_seen, is_well_typed, variable_type}
+use Rattle.st_tree.specs.WellTyped.{Sight, are_given, has_type, variable_type}
 use Rattle.st_tree.specs.declared.expr.StType.{StType}
 use Rattle.st_rules.specs.Judged.{Judged, breaks_in, breaks_rule, listed, sound}
 use Rattle.st_rules.specs.Expressions.{expression, answered, variable_on}
@@ -186,16 +186,6 @@ called s m name actuals i formals h = by (lacks given.vars formals.keys) refl h
 
 module _ (scope : Scope) (sight : Sight) (sees : Sees scope sight) (inside : Bool) where
   -- a call of a function that the unit sees
-  call_typed : (i : ℕ) (vars : List Var) (head : Head) → slice_get sight.heads i ≡ Some head → head.program ≡ false
-      → is_seen sight head.name ≡ true → are_given sight head.formals vars ≡ true
-      → is_well_typed sight (stmt.Invoke i vars) inside ≡ true
-  call_typed i vars head there function seen given =
-      good_invoke sight inside i vars
-      ∙ ap (λ o. is_call sight o vars) there
-      ∙ ap (λ b. not b && is_seen sight head.name && are_given sight head.formals vars) function
-      ∙ ap (λ b. b && are_given sight head.formals vars) seen
-      ∙ given
-
   of_function : (l : Line) (name : List ℕ) (actuals : Actuals) (i : ℕ) → Worded (spell_actuals actuals)
       → meaning_in scope (key_of name) ≡ Some (meaning.Function i) → (c : IsCallable scope sight i)
       → Called scope l name (tree_actuals actuals) i c.formals → FoundOne scope sight inside (invoke l name actuals)
@@ -213,7 +203,7 @@ module _ (scope : Scope) (sight : Sight) (sees : Sees scope sight) (inside : Boo
         found =
             call_is scope l name (tree_actuals actuals) i c.formals given.vars m c.listed (ap (λ bs. (let g : Given = record { vars = given.vars; breaks = bs } in g)) k.clean) k.none
             ∙ ap (λ vs. sound (stmt.Invoke i vs)) order;
-        typed = call_typed i r.xs c.head c.there c.function c.seen r.given;
+        typed = rw (good_invoke sight inside i r.xs, c.there, c.function, c.seen) r.given;
         low = λ d. omega (arith, nesting_invoke i r.xs);
         calls = λ f.
             let own : bound (of_heads sight.heads f) (calls_of scope (tree_one (invoke l name actuals)))

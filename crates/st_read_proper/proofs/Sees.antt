@@ -126,9 +126,7 @@ module _ (scope : Scope) (sight : Sight) (sees : Sees scope sight) where
       let parts = and_parts (is_block_number n) (is_place area.Db w byte bit) e in
       let place : places.is_place area.Db w byte bit ≡ true = place_is area.Db w byte bit bits parts.1 in
       let is : record { ty = type_of_width w; var = var.InBlock n byte bit w } ≡ v = cc in
-      subst Has is (
-      ap (λ t. where_true (t && places.is_place area.Db w byte bit) (type_of_width w)) parts.0
-      ∙ ap (λ t. where_true t (type_of_width w)) place)
+      subst Has is (rw (parts.0, place) refl)
 
   -- a variable that was read has its type
   pub variable_has : (r : RawVar) (v : TypedVar) → is_variable r ≡ true → variable scope r ≡ Ok v → Has v

@@ -1,6 +1,6 @@
 -- The units of a tree that was read: their names, formals and locals are ones that they may have, and their
 -- statements are well typed.
-use Rattle.std.proofs.Common.{◌≡◌, ◌≢◌, ℕ, ◌≤◌, max, Bool, true, false, List, [], ◌∷◌, refl, sym, subst, ◌∙◌, arith}
+use Rattle.std.proofs.Common.{◌≡◌, ◌≢◌, ℕ, ◌≤◌, max, Bool, true, false, List, [], ◌∷◌, ◌++◌, map, refl, sym, subst, ◌∙◌, arith}
 use Rattle.std.proofs.lemmas.List.{map-append}
 use Rattle.st_read_proper.proofs.Worded.{Worded, locals_behind, locals_section_behind, units_behind}
 use Rattle.st_grammar.specs.Forms.{Locals, Section, Statements, Units, absent, local, no_local, no_unit, present, unit, Head}
@@ -20,7 +20,6 @@ use Rattle.st_tree.specs.Proper.{IsFormal, IsLocal}
 use Rattle.st_tree.specs.declared.expr.StType.{StType}
 use Rattle.st_tree.specs.declared.expr.StType.TheVariants as type
 use Rattle.st_tree.specs.declared.program.Pou.{Pou}
-use Rattle.st_tree.specs.declared.raw.RawLocal.{RawLocal}
 use Rattle.st_tree.specs.declared.raw.RawPou.{RawPou}
 
 -- Formals and locals
@@ -28,21 +27,21 @@ use Rattle.st_tree.specs.declared.raw.RawPou.{RawPou}
 no_lint : (ty : StType) → is_formal_type ty ≡ true → ty ≢ type.Lint
 no_lint ty h e = let none : is_formal_type type.Lint ≡ true = subst (λ t. is_formal_type t ≡ true) e h in absurd cc
 
+each_last : {X Y : Type 0} (P : Y → Type 0) (f : X → Y) (xs : List X) (x : X) → Each P (map f xs) → P (f x)
+    → Each P (map f (xs ++ x ∷ []))
+each_last P f xs x h g = subst (Each P) (sym (map-append f xs (x ∷ []))) (each_append P (map f xs) (f x ∷ []) h (g, tt))
+
 are_formals : (ls : Locals) → FormalsFit ls → Worded (spell_locals ls) → Each IsFormal (locals_of (tree_locals ls))
 are_formals no_local f s = tt
 are_formals (local others name line ty) f s =
-    let last : RawLocal = record { name = name; line = line; ty = ty } in
-    subst (Each IsFormal) (sym (map-append local_of (tree_locals others) (last ∷ [])))
-    (each_append IsFormal (locals_of (tree_locals others)) (local_of last ∷ []) (are_formals others f.0 (_, s.1))
-    (record { name = name_is name (locals_behind others _ s.1).0; free = f.1; type = no_lint ty f.2 }, tt))
+    each_last IsFormal local_of (tree_locals others) _ (are_formals others f.0 (_, s.1))
+    (record { name = name_is name (locals_behind others _ s.1).0; free = f.1; type = no_lint ty f.2 })
 
 are_locals : (ls : Locals) → LocalsFit ls → Worded (spell_locals ls) → Each IsLocal (locals_of (tree_locals ls))
 are_locals no_local f s = tt
 are_locals (local others name line ty) f s =
-    let last : RawLocal = record { name = name; line = line; ty = ty } in
-    subst (Each IsLocal) (sym (map-append local_of (tree_locals others) (last ∷ [])))
-    (each_append IsLocal (locals_of (tree_locals others)) (local_of last ∷ []) (are_locals others f.0 (_, s.1))
-    (record { name = name_is name (locals_behind others _ s.1).0; free = f.1 }, tt))
+    each_last IsLocal local_of (tree_locals others) _ (are_locals others f.0 (_, s.1))
+    (record { name = name_is name (locals_behind others _ s.1).0; free = f.1 })
 
 formals_held : (program : Bool) (s : Section Locals) → HeadFits program s → Worded (spell_formals s)
     → Each IsFormal (locals_of (held tree_locals s))
@@ -84,19 +83,15 @@ pub are_headed : (outer : Table Meaning) (formals : List Formals) (us : Units) �
     → Each IsHeaded (all_units outer formals (tree_units us))
 are_headed outer formals no_unit f s = tt
 are_headed outer formals (unit others head formal own body) f s =
-    let last = raw_unit head formal own body in
     let here = units_behind others _ s.1 in
-    subst (Each IsHeaded) (sym (map-append (unit_of outer formals) (tree_units others) (last ∷ [])))
-    (each_append IsHeaded (all_units outer formals (tree_units others)) (unit_of outer formals last ∷ []) (are_headed outer formals others f.0 (_, s.1)) (
-      record {
-        name = name_is head.name here.1.0;
-        free = f.1;
-        program = none_held head.program formal f.2;
-        formals = formals_held head.program formal f.2 (_, here.1.1);
-        locals = locals_held own f.3 (_, locals_section_behind _ formal _ here.1.1);
-      },
-      tt,
-    ))
+    each_last IsHeaded (unit_of outer formals) (tree_units others) (raw_unit head formal own body) (are_headed outer formals others f.0 (_, s.1))
+    (record {
+      name = name_is head.name here.1.0;
+      free = f.1;
+      program = none_held head.program formal f.2;
+      formals = formals_held head.program formal f.2 (_, here.1.1);
+      locals = locals_held own f.3 (_, locals_section_behind _ formal _ here.1.1);
+    })
 
 -- Statements
 

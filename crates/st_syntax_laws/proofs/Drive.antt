@@ -6,7 +6,7 @@ use Rattle.st_grammar.specs.Forms.{Form, literal, variable, group, prefix, infix
 use Rattle.st_grammar.specs.Grammar.{prefix_level, level, Binds, prefix_kind, spell, is_value, LabelsFit, Fits, AllFit, ArmsFit, CasesFit, arm_word, spell_actuals, spell_labels, spell_one, spell_all, spell_arms, spell_cases, is_global, GlobalsFit, FormalsFit, LocalsFit, IfPresent, HeadFits, UnitsFit, SourceFits, spell_items, spell_type, spell_globals, spell_locals, unit_word, end_word, spell_formals, spell_temps, spell_head, spell_units, spell_source}
 use Rattle.st_grammar.specs.Levels.{height, levels, levels_actuals, levels_labels, levels_one, levels_all, levels_arms, levels_cases, levels_items, levels_type, levels_globals, levels_locals, levels_section, levels_units, levels_source}
 use Rattle.st_grammar.specs.inner.Machine.{written, Frame, unary, left, bracket, argument, only, shifted, shifted_by, gate, first, second, Place, operand, operator, BodyState, BegunUnit, State, inside, BegunStatement, waiting, within, to_var, to_area, area_value, test, selector, loop_test, choosing, otherwise, looping, selecting, otherwise_case, first_formal, given, first_label, labelled, statement, part, at_type, at_item, at_comma, TextSoFar, SectionKind, formals, temps, start, globals, row, between, heading, opened, formals_done, section, over}
-use Rattle.st_grammar.specs.inner.Steps.{body_state, limit, Reduced, reduced_to, reduce, with_prefix, waits, leave, next, level_at, last_level, Passed, shallower, passes, in_loop, begun_statement, begun_unit, may_name, may_type, body_start, ends}
+use Rattle.st_grammar.specs.inner.Steps.{body_state, limit, Reduced, reduced_to, reduce, with_prefix, waits, leave, next, level_at, last_level, Passed, shallower, passes, in_loop, begun_statement, begun_unit, body_start, ends}
 use Rattle.st_grammar.specs.declared.kind.Fixed.TheVariants as fixed
 use Rattle.st_grammar.specs.declared.kind.Kind.{Kind}
 use Rattle.st_grammar.specs.declared.kind.Kind.TheVariants as kind
@@ -273,23 +273,18 @@ globals_all (global others name line v place ty) more w h =
 -- Formals and locals
 
 abbrev pub Declared : SectionKind written → Locals → Type 0
-Declared which no_local = Unit {0}
-Declared which (local others name line ty) = Declared which others × (may_name written which name ≡ true) × (may_type written which ty ≡ true)
-
-formals_declared : (l : Locals) → FormalsFit l → Declared formals l
-formals_declared no_local h = tt
-formals_declared (local others name line ty) h = (formals_declared others h.0, h.1, h.2)
-
-temps_declared : (before : Section Locals) (l : Locals) → LocalsFit l → Declared (temps before) l
-temps_declared before no_local h = tt
-temps_declared before (local others name line ty) h = (temps_declared before others h.0, h.1, refl)
+Declared formals l = FormalsFit l
+Declared (temps before) l = LocalsFit l
 
 locals_all : (begun : BegunUnit written) (which : SectionKind written) (l : Locals) (more : List Kind) (w : List ℕ) → Declared which l →
     passes written (section begun which no_local) w (spell_locals l more) ≡ passes written (section begun which l) (levels_locals l w) more
 locals_all begun which no_local more w h = refl
-locals_all begun which (local others name line ty) more w h =
-    locals_all begun which others (kind.Variable (var.Name name) line ∷ kind.Fixed fixed.Colon ∷ kind.Fixed (fixed.Type ty) ∷ kind.Fixed fixed.Semicolon ∷ more) w h.0
+locals_all begun formals (local others name line ty) more w h =
+    locals_all begun formals others (kind.Variable (var.Name name) line ∷ kind.Fixed fixed.Colon ∷ kind.Fixed (fixed.Type ty) ∷ kind.Fixed fixed.Semicolon ∷ more) w h.0
     ∙ rw (h.1, h.2) refl
+locals_all begun (temps f) (local others name line ty) more w h =
+    locals_all begun (temps f) others (kind.Variable (var.Name name) line ∷ kind.Fixed fixed.Colon ∷ kind.Fixed (fixed.Type ty) ∷ kind.Fixed fixed.Semicolon ∷ more) w h.0
+    ∙ rw h.1 refl
 
 -- Units
 
@@ -333,13 +328,13 @@ body_read text head f l body more w h =
 
 locals_read : (text : TextSoFar written) (head : Head) (f : Section Locals) (l : Locals) (ks : List Kind) (w : List ℕ) → LocalsFit l →
     passes written (section (begun_unit written text head) (temps f) no_local) w (spell_locals l (kind.Fixed fixed.EndVar ∷ ks)) ≡ passes written (inside (begun_unit written text head) f (present l) (body_start written)) (0 ∷ levels_locals l w) ks
-locals_read text head f l ks w h = locals_all (begun_unit written text head) (temps f) l (kind.Fixed fixed.EndVar ∷ ks) w (temps_declared f l h)
+locals_read text head f l ks w h = locals_all (begun_unit written text head) (temps f) l (kind.Fixed fixed.EndVar ∷ ks) w h
 
 formals_read : (text : TextSoFar written) (head : Head) (f : Locals) (ks : List Kind) (w : List ℕ) → HeadFits head.program (present f) →
     passes written (opened (begun_unit written text head)) w (kind.Fixed fixed.VarInOut ∷ spell_locals f (kind.Fixed fixed.EndVar ∷ ks)) ≡ passes written (formals_done (begun_unit written text head) (present f)) (0 ∷ levels_locals f (0 ∷ w)) ks
 formals_read text head f ks w h =
     ap (λ (c : Bool). go w (spell_locals f (kind.Fixed fixed.EndVar ∷ ks)) (if c then None else Some (section (begun_unit written text head) formals no_local))) h.0
-    ∙ locals_all (begun_unit written text head) formals f (kind.Fixed fixed.EndVar ∷ ks) (0 ∷ w) (formals_declared f h.1)
+    ∙ locals_all (begun_unit written text head) formals f (kind.Fixed fixed.EndVar ∷ ks) (0 ∷ w) h.1
 
 abbrev levels_sections : Section Locals → Section Locals → List ℕ → List ℕ
 levels_sections f l w = levels_section levels_locals l (levels_section levels_locals f w)

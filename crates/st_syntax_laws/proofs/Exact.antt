@@ -276,7 +276,7 @@ finishes (over text) w h = ends_by [] refl
 
 -- What the pass says
 
-abbrev at_state : State written → List ℕ → Passed written
+abbrev pub at_state : State written → List ℕ → Passed written
 at_state q w = record { state = q; levels = w }
 
 -- The pass over tokens

@@ -5,8 +5,8 @@ use Rattle.std.proofs.lemmas.Bool.Decides.{nat_tests}
 use Rattle.s7_base.specs.declared.reason.Line.{Line}
 use Rattle.st_syntax_laws.proofs.Precedence.{below_one, infix_most, infix_some}
 use Rattle.st_syntax_laws.proofs.Drive.{Declared, HasItem}
-use Rattle.st_grammar.specs.Forms.{Form, prefix, infix_of, Actuals, no_actual, actual, Labels, label, more_labels, Statements, CaseArms, Items, no_item, none, Globals, Locals, no_local, local, Section, absent, unit}
-use Rattle.st_grammar.specs.Grammar.{prefix_level, level, is_value, Binds, may_jump, LabelsFit, HasArm, HasCase, Fits, AllFit, ArmsFit, CasesFit, is_direct, is_global, GlobalsFit, LocalsFit, IfPresent, HeadFits, UnitsFit, prefix_kind, spell, comma_behind, spell_actuals, spell_labels, arm_word, spell_one, spell_all, spell_arms, spell_cases, comma_past, spell_items, spell_type, spell_globals, spell_locals, unit_word, spell_section, spell_formals, spell_temps, spell_head, spell_units, FormalsFit, spell_initial, end_word}
+use Rattle.st_grammar.specs.Forms.{Form, prefix, infix_of, Actuals, no_actual, actual, Labels, label, more_labels, Statements, CaseArms, Items, no_item, none, Globals, Locals, no_local, Section, absent, unit}
+use Rattle.st_grammar.specs.Grammar.{prefix_level, level, is_value, Binds, may_jump, LabelsFit, HasArm, HasCase, Fits, AllFit, ArmsFit, CasesFit, is_direct, is_global, GlobalsFit, LocalsFit, IfPresent, HeadFits, UnitsFit, prefix_kind, spell, comma_behind, spell_actuals, spell_labels, arm_word, spell_one, spell_all, spell_arms, spell_cases, comma_past, spell_items, spell_type, spell_globals, spell_locals, unit_word, spell_section, spell_formals, spell_temps, spell_head, spell_units, spell_initial, end_word}
 use Rattle.st_tree.specs.Form.{infix_level, weakest}
 use Rattle.st_tree.specs.Naming.{may_name_global, may_name_unit, names_block, is_free}
 use Rattle.st_grammar.specs.inner.Machine.{written, BegunStatement, Argument, only, shifted, shifted_by, gate, first, second, Need, to_var, to_area, area_value, test, selector, loop_test, OuterStatement, choosing, otherwise, looping, selecting, otherwise_case, Frame, unary, left, bracket, argument, waiting, within, Part, target, write_open, first_formal, next_formal, becoming, giving, given, first_label, next_label, labelled, Place, statement, part, closing, operand, operator, opening, BodyState, Row, at_word, at_place, at_colon, at_type, at_square, at_zero, at_dots, at_last, at_close, at_of, at_byte, at_becomes, at_open, at_item, at_count, at_value, at_value_end, at_comma, at_end, Typing, local_colon, local_type, local_end, TextSoFar, BegunUnit, SectionKind, formals, temps, State, start, globals, row, between, heading, opened, formals_done, section, typing, inside, over}
@@ -303,17 +303,11 @@ pub record Fitting (k : ℕ) (s : List (Frame written)) (f : Form) (r : Reduced 
   pub same : (more : List Kind) → past_stack r.stack (spell r.operand more) ≡ past_stack s (spell f more)
 
 le_cases : (a b : ℕ) (P : Bool → Type 0) → (a ≤ b → P true) → (b < a → P false) → P (nat_le a b)
-le_cases a b P low high = by (nat_le a b) (at_true a b) (at_false a b)
+le_cases a b P low high = by (nat_le a b) (λ h. grind (arith, nat_tests)) (λ h. grind (arith, nat_tests))
   where
     by : (c : Bool) → (c ≡ true → a ≤ b) → (c ≡ false → b < a) → P c
     by true p q = low (p refl)
     by false p q = high (q refl)
-
-    at_true : (m n : ℕ) → nat_le m n ≡ true → m ≤ n
-    at_true m n h = grind (arith, nat_tests)
-
-    at_false : (m n : ℕ) → nat_le m n ≡ false → n < m
-    at_false m n h = grind (arith, nat_tests)
 
 at_least : (j n : ℕ) → j < n → j ≤ n - 1
 at_least j n p = omega arith
@@ -454,14 +448,6 @@ at_between_kept text (kind.Lead lead.Program line) h = assumption
 at_between_kept text (kind.Fixed fixed.End) h = assumption
 at_between_kept text other h = assumption
 
-formals_fit : (l : Locals) → Declared formals l → FormalsFit l
-formals_fit no_local h = tt
-formals_fit (local others name line ty) h = (formals_fit others h.0, h.1, h.2)
-
-locals_fit : (f : Section Locals) (l : Locals) → Declared (temps f) l → LocalsFit l
-locals_fit f no_local h = tt
-locals_fit f (local others name line ty) h = (locals_fit f others h.0, h.1)
-
 -- the end of a unit, where its head says what it is
 left_kept : (program : Bool) (begun : BegunUnit written) (f l : Section Locals) (body : Statements) (c : Bool) → begun.head.program ≡ c → BegunUnitFits begun → HeadFits begun.head.program f → IfPresent LocalsFit l → AllFit false body
     → IfSome (if ends program c then Some (between (record { globals = begun.text.globals; units = unit begun.text.units begun.head f l body })) else None)
@@ -512,9 +498,9 @@ kept (kind.Fixed fixed.VarInOut) (opened begun) t = in_out_kept begun begun.head
 kept k (opened begun) t = at_formals_done_kept begun absent k t tt
 kept k (formals_done begun f) h = at_formals_done_kept begun f k h.0 h.1
 kept (kind.Variable (var.Name name) line) (section begun which done) h = if_to (may_name written which name) (λ c. assumption)
-kept (kind.Fixed fixed.EndVar) (section begun formals done) h = record { shaped = (h.0, (h.1, formals_fit done h.2)); grown = λ more. refl }
-kept (kind.Fixed fixed.EndVar) (section begun (temps f) done) h = record { shaped = (h.0, h.1, locals_fit f done h.2, (tt, tt)); grown = λ more. refl }
+kept (kind.Fixed fixed.EndVar) (section begun formals done) h = assumption
 kept (kind.Fixed (fixed.Type ty)) (typing begun which done name line local_type) h = if_to (may_type written which ty) (λ c. assumption)
 kept k (typing begun which done name line local_colon) h = assumption
+kept (kind.Fixed fixed.Semicolon) (typing begun formals done name line (local_end ty)) h = assumption
 kept k (inside begun f l at) h = at_inside_kept begun f l at k h
 kept k q h = assumption

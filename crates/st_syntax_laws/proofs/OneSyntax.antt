@@ -15,14 +15,11 @@ use Rattle.st_tree.specs.declared.raw.RawSt.{RawSt}
 use Rattle.std.specs.Prelude.{nat_lt, if◌then◌else◌, option_and_then, option_map}
 use Rattle.std.proofs.lemmas.Bool.Decides.{nat_tests}
 use Rattle.s7_base.specs.declared.reason.Reason.TheVariants.{BadSyntax, TooDeep}
-use Rattle.st_syntax_laws.proofs.Exact.{begins_at, same_levels}
+use Rattle.st_syntax_laws.proofs.Exact.{at_state, begins_at, same_levels}
 use Rattle.st_grammar.specs.Forms.{Source}
 use Rattle.st_grammar.specs.Levels.{deepest, levels_source}
 use Rattle.st_grammar.specs.inner.Steps.{next, last_level, Passed, passes}
 use Rattle.st_grammar.specs.declared.kind.Kind.{Kind}
-
-abbrev at_state : State written → List ℕ → Passed written
-at_state q w = record { state = q; levels = w }
 
 abbrev behind : State written → List ℕ → Option (Passed written)
 behind q w = Some (at_state q w)
@@ -150,14 +147,6 @@ follows q w k more end e = by (next written q k) refl e
     by None n h = absurd cc
     by (Some r) n h = record { inner = r; step = n }
 
-abbrev head_of : ℕ → List ℕ → ℕ
-head_of n [] = n
-head_of n (x ∷ xs) = x
-
-abbrev tail_of : List ℕ → List ℕ
-tail_of [] = []
-tail_of (x ∷ xs) = xs
-
 -- and so is the first that makes a level too many
 pub deep_judged : (all : List Lined) (line : Line) → FirstDeep all line →
     judge_tokens start all ≡ Err (Refused line TooDeep)
@@ -169,9 +158,10 @@ deep_judged all line f =
     let n = follows g.inner g.levels k b.more (end_of b.source) (sym (g.passed (k ∷ b.more)) ∙ whole) in
     let passed : passes written start [] (kinds f.front ++ k ∷ []) ≡ behind n.inner (last_level written n.inner ∷ g.levels) = g.passed (k ∷ []) ∙ ap (λ (o : Option (State written)). option_and_then (λ z. passes written z (last_level written z ∷ g.levels) []) o) n.step in
     let same : last_level written n.inner ∷ g.levels ≡ f.level ∷ f.others = sym (same_levels (kinds f.front ++ k ∷ []) n.inner (last_level written n.inner ∷ g.levels) b passed) ∙ f.levels in
-    let high : deepest < last_level written n.inner =
-    subst (λ (m : ℕ). deepest < m) (sym (ap (head_of 0) same)) f.too_deep in
-    let within : AllWithin deepest g.levels = subst (AllWithin deepest) (sym (ap tail_of same)) f.within in
+    let level : last_level written n.inner ≡ f.level = cc in
+    let others : g.levels ≡ f.others = cc in
+    let high : deepest < last_level written n.inner = subst (λ (m : ℕ). deepest < m) (sym level) f.too_deep in
+    let within : AllWithin deepest g.levels = subst (AllWithin deepest) (sym others) f.within in
     ap (judge_tokens start) f.split ∙ g.judges within (f.item ∷ f.back) ∙ too_deep f.item f.back g.inner n.inner n.step high ∙ ap (λ (l : Line). Err (Refused l TooDeep)) f.on_line
 
 -- One tree or one refusal
