@@ -55,13 +55,8 @@ of_same a b h = (bytes_eq-Decides (str_to_ascii_lowercase a) (str_to_ascii_lower
 
 -- the conversions that there are
 pub between : (from to : StType) → not (is_none (conversion_between from to)) ≡ is_conversion from to
+between type.Bool type.Bool = refl
 between from type.Bool = refl
-between type.Byte type.Byte = refl
-between type.Word type.Word = refl
-between type.Dword type.Dword = refl
-between type.Int type.Int = refl
-between type.Dint type.Dint = refl
-between type.Lint type.Lint = refl
 between from to = refl
 
 line_alike : (a b : ℕ) → to_ascii_lowercase a ≡ to_ascii_lowercase b → (a == 95) ≡ (b == 95)

@@ -199,14 +199,9 @@ abbrev IsFunction : OneOperand → Type 0
 IsFunction op = is_function op ≡ true
 
 between_types : (from to : StType) → IfSome (conversion_between from to) IsFunction
-between_types from type.Bool = tt
-between_types type.Byte type.Byte = tt
-between_types type.Word type.Word = tt
-between_types type.Dword type.Dword = tt
-between_types type.Int type.Int = tt
-between_types type.Dint type.Dint = tt
-between_types type.Lint type.Lint = tt
-between_types from to = refl
+between_types type.Bool type.Bool = assumption
+between_types from type.Bool = assumption
+between_types from to = assumption
 
 of_types : (o p : Option StType) → IfSome (conversion_of_types o p) IsFunction
 of_types (Some from) (Some to) = between_types from to

@@ -1,5 +1,5 @@
 -- The pass goes over the tokens that a text spells, and has read it then: its expressions, its statements, and the whole.
-use Rattle.std.proofs.Common.{◌≡◌, ℕ, suc, ◌+◌, ◌-◌, ◌<◌, ◌≤◌, Bool, true, false, List, [], ◌∷◌, Option, Some, None, refl, ap, ◌∙◌, arith}
+use Rattle.std.proofs.Common.{◌≡◌, ℕ, suc, ◌+◌, ◌<◌, ◌≤◌, Bool, true, false, List, [], ◌∷◌, Option, Some, None, refl, ap, ◌∙◌, arith}
 use Rattle.std.specs.Prelude.{nat_le, if◌then◌else◌, option_and_then, option_map, ◌||◌}
 use Rattle.std.proofs.lemmas.Bool.Decides.{nat_tests}
 use Rattle.st_grammar.specs.Forms.{Form, literal, variable, group, prefix, infix_of, apply, shift, select, Locals, Section, Actuals, no_actual, actual, Labels, label, more_labels, Statement, assign, write, invoke, choice, choice_else, cases, cases_else, loop, jump, Statements, none, empty, further, Arms, no_arm, arm, CaseArms, no_case, case_arm, Items, no_item, single, times, GlobalType, plain, bytes, Globals, no_global, global, no_local, local, absent, present, Head, Units, no_unit, unit, Source}
@@ -12,7 +12,7 @@ use Rattle.st_grammar.specs.declared.kind.Kind.{Kind}
 use Rattle.st_grammar.specs.declared.kind.Kind.TheVariants as kind
 use Rattle.st_grammar.specs.declared.kind.Prefix.{Prefix}
 use Rattle.st_grammar.specs.declared.kind.Prefix.TheVariants as before
-use Rattle.st_syntax_laws.proofs.Precedence.{infix_most, infix_some, level_most, prefix_above, prefix_most}
+use Rattle.st_syntax_laws.proofs.Precedence.{infix_most, infix_some, level_most, prefix_above, prefix_most, less_one, below_one}
 use Rattle.st_tree.specs.Form.{infix_level, weakest}
 use Rattle.st_tree.specs.declared.expr.BinaryOp.{BinaryOp}
 use Rattle.s7_base.specs.declared.reason.Line.{Line}
@@ -80,10 +80,7 @@ past_left u d op a s f other h = rw (le_true (infix_level op) weakest (infix_mos
 -- where the place takes operands of a level, no operator before it binds as tightly
 unmoved : (op : BinaryOp) (d : ℕ) (s : List (Frame written)) (f : Form) → infix_level op ≤ limit written s → reduce written (infix_level op) d s f ≡ reduced_to written d s f
 unmoved op d (unary u ∷ s) f h = absurd (let k = prefix_above u op in omega arith)
-unmoved op d (left o a ∷ s) f h = rw (le_false (infix_level o) (infix_level op) (strict (infix_level op) (infix_level o) (infix_some o) h)) refl
-  where
-    strict : (j k : ℕ) → 0 < k → j ≤ k - 1 → j < k
-    strict j k p h = omega arith
+unmoved op d (left o a ∷ s) f h = rw (le_false (infix_level o) (infix_level op) (below_one (infix_level op) (infix_level o) (infix_some o) h)) refl
 unmoved op d s f h = refl
 
 -- an operator before its operand
@@ -111,12 +108,9 @@ drive u d s (prefix op f) t ts w b h l =
 drive u d s (infix_of op f g) t ts w b fits l =
     drive u d s f (kind.Fixed (fixed.Between op)) (spell g (t ∷ ts)) w b.2 (le_through (level f) (infix_level op) (limit written s) b.0 fits) b.0
     ∙ ap (λ (r : Reduced written). passes written (inside u.begun u.formals u.locals (waits written op r)) (level_at written r.depth operand (left op r.operand ∷ r.stack) ∷ levels d f w) (spell g (t ∷ ts))) (unmoved op d s f fits)
-    ∙ drive u d (left op f ∷ s) g t ts ((d + height f) ∷ levels d f w) b.3 (below (level g) (infix_level op) b.1) (lets_less (level g) (infix_level op) t (less (level g) (infix_level op) b.1) l)
+    ∙ drive u d (left op f ∷ s) g t ts ((d + height f) ∷ levels d f w) b.3 (less_one (level g) (infix_level op) b.1) (lets_less (level g) (infix_level op) t (less (level g) (infix_level op) b.1) l)
     ∙ ap (λ (o : Option (State written)). go (levels d g ((d + height f) ∷ levels d f w)) ts o) (past_left u d op f s g t l)
   where
-    below : (j k : ℕ) → j < k → j ≤ k - 1
-    below j k h = omega arith
-
     less : (j k : ℕ) → j < k → j ≤ k
     less j k h = omega arith
 

@@ -1,9 +1,9 @@
 -- The pass keeps in its state what it has passed, and what is open stands in order.
-use Rattle.std.proofs.Common.{◌≡◌, ℕ, suc, ◌-◌, ◌<◌, ◌≤◌, Bool, true, false, List, [], ◌∷◌, Option, Some, None, refl, sym, ap, ◌∙◌, arith, zero}
+use Rattle.std.proofs.Common.{◌≡◌, ℕ, suc, ◌<◌, ◌≤◌, Bool, true, false, List, [], ◌∷◌, Option, Some, None, refl, sym, ap, ◌∙◌, arith, zero}
 use Rattle.std.specs.Prelude.{IfSome, nat_le, if◌then◌else◌, option_map}
 use Rattle.std.proofs.lemmas.Bool.Decides.{nat_tests}
 use Rattle.s7_base.specs.declared.reason.Line.{Line}
-use Rattle.st_syntax_laws.proofs.Precedence.{below_one, infix_most, infix_some}
+use Rattle.st_syntax_laws.proofs.Precedence.{below_one, infix_most, infix_some, less_one}
 use Rattle.st_syntax_laws.proofs.Drive.{Declared, HasItem}
 use Rattle.st_grammar.specs.Forms.{Form, prefix, infix_of, Actuals, no_actual, actual, Labels, label, more_labels, Statements, CaseArms, Items, no_item, none, Globals, Locals, no_local, Section, absent, unit}
 use Rattle.st_grammar.specs.Grammar.{prefix_level, level, is_value, Binds, may_jump, LabelsFit, HasArm, HasCase, Fits, AllFit, ArmsFit, CasesFit, is_direct, is_global, GlobalsFit, LocalsFit, IfPresent, HeadFits, UnitsFit, prefix_kind, spell, comma_behind, spell_actuals, spell_labels, arm_word, spell_one, spell_all, spell_arms, spell_cases, comma_past, spell_items, spell_type, spell_globals, spell_locals, unit_word, spell_section, spell_formals, spell_temps, spell_head, spell_units, spell_initial, end_word}
@@ -309,9 +309,6 @@ le_cases a b P low high = by (nat_le a b) (λ h. grind (arith, nat_tests)) (λ h
     by true p q = low (p refl)
     by false p q = high (q refl)
 
-at_least : (j n : ℕ) → j < n → j ≤ n - 1
-at_least j n p = omega arith
-
 fitting : (k d : ℕ) (s : List (Frame written)) (f : Form) → k ≤ weakest → InExpr s → Binds f → level f ≤ k → level f ≤ limit written s → Fitting k s f (reduce written k d s f)
 fitting k d [] f most h b strong fits = absurd h
 fitting k d (unary op ∷ s) f most h b strong fits =
@@ -323,7 +320,7 @@ fitting k d (left op g ∷ s) f most h b strong fits =
     le_cases (infix_level op) k (λ c. Fitting k (left op g ∷ s) f (if c then reduce written k d s (infix_of op g f) else reduced_to written d (left op g ∷ s) f))
     (λ low. let r = fitting k d s (infix_of op g f) most h.3 (h.0, below_one (level f) (infix_level op) (infix_some op) fits, h.1, b) low h.2 in
     record { inner = r.inner; binds = r.binds; strong = r.strong; room = r.room; same = r.same })
-    (λ high. record { inner = h; binds = b; strong = strong; room = at_least k (infix_level op) high; same = λ more. refl })
+    (λ high. record { inner = h; binds = b; strong = strong; room = less_one k (infix_level op) high; same = λ more. refl })
 fitting k d (within x y ∷ s) f most h b strong fits = absurd h
 fitting k d s f most h b strong fits = record { inner = h; binds = b; strong = strong; room = most; same = λ more. refl }
 

@@ -31,3 +31,6 @@ level_most f = omega arith
 
 pub below_one : (j k : ℕ) → 0 < k → j ≤ k - 1 → j < k
 below_one j k p h = omega arith
+
+pub less_one : (j k : ℕ) → j < k → j ≤ k - 1
+less_one j k h = omega arith
