@@ -95,7 +95,6 @@ module _ (scope : Scope) (sight : Sight) (sees : Sees scope sight) where
 
   of_meaning : (key : List ℕ) (m : Option Meaning) (v : TypedVar) → meaning_in scope key ≡ m → variable_named m ≡ Ok v
       → Has v
-  of_meaning key None v e h = absurd cc
   of_meaning key (Some (meaning.Register r)) v e h =
       let is : record { ty = type_of_register r; var = var.Register r } ≡ v = cc in subst Has is refl
   of_meaning key (Some (meaning.Formal i ty)) v e h =
@@ -104,7 +103,6 @@ module _ (scope : Scope) (sight : Sight) (sees : Sees scope sight) where
       let is : record { ty = ty; var = var.Local i } ≡ v = cc in subst Has is (sees.local key i ty e)
   of_meaning key (Some (meaning.Global i ty)) v e h =
       let is : record { ty = ty; var = var.Global i } ≡ v = cc in subst Has is (sees.global key i ty e)
-  of_meaning key (Some meaning.Block) v e h = absurd cc
   of_meaning key other v e h = absurd cc
 
   plain_place : (a : AreaName) (w : Width) (byte bit : ℕ) (v : TypedVar) (t : Bool) → is_place a w byte bit ≡ t

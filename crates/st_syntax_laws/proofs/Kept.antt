@@ -217,25 +217,19 @@ PlaceFits s (closing before x) = InStatements s × AllFit (in_loop written s) be
 PlaceFits s (operator f) = InExpr s × Binds f × (level f ≡ 0)
 PlaceFits s other = InExpr s
 
+-- the place of a global whose tokens were passed from AT on
+abbrev pub place_passed : List Kind → RawVar
+place_passed (kind.Fixed fixed.At ∷ kind.Variable v line ∷ more) = v
+place_passed other = var.Name []
+
 abbrev pub RowFits : List ℕ → Row written → Type 0
+RowFits name at_word = Unit {0}
+RowFits name at_place = Unit {0}
 RowFits name (at_colon v) = is_direct v.0 ≡ true
 RowFits name (at_type v) = is_direct v.0 ≡ true
-RowFits name (at_square v) = (is_direct v.0 ≡ true) × (names_block name ≡ true)
-RowFits name (at_zero v) = (is_direct v.0 ≡ true) × (names_block name ≡ true)
-RowFits name (at_dots v) = (is_direct v.0 ≡ true) × (names_block name ≡ true)
-RowFits name (at_last v) = (is_direct v.0 ≡ true) × (names_block name ≡ true)
-RowFits name (at_close v last) = (is_direct v.0 ≡ true) × (names_block name ≡ true)
-RowFits name (at_of v last) = (is_direct v.0 ≡ true) × (names_block name ≡ true)
-RowFits name (at_byte v last) = (is_direct v.0 ≡ true) × (names_block name ≡ true)
-RowFits name (at_becomes v last) = (is_direct v.0 ≡ true) × (names_block name ≡ true)
-RowFits name (at_open v last) = (is_direct v.0 ≡ true) × (names_block name ≡ true)
-RowFits name (at_item v last items) = (is_direct v.0 ≡ true) × (names_block name ≡ true)
-RowFits name (at_count v last items count) = (is_direct v.0 ≡ true) × (names_block name ≡ true)
-RowFits name (at_value v last items count) = (is_direct v.0 ≡ true) × (names_block name ≡ true)
-RowFits name (at_value_end v last items count b) = (is_direct v.0 ≡ true) × (names_block name ≡ true)
 RowFits name (at_comma v last items) = (is_direct v.0 ≡ true) × (names_block name ≡ true) × HasItem items
 RowFits name (at_end v ty) = (is_direct v.0 ≡ true) × (is_global name ty ≡ true)
-RowFits name other = Unit {0}
+RowFits name x = (is_direct (place_passed (past_row x [])) ≡ true) × (names_block name ≡ true)
 
 abbrev pub TextFits : TextSoFar written → Type 0
 TextFits text = IfPresent GlobalsFit text.globals × UnitsFit text.units
