@@ -42,17 +42,10 @@ use Rattle.st_types_laws.proofs.BlockSizes.{is_block}
 -- Globals on I, Q or M
 
 -- a global in an area
-global_in : (name : List ℕ) (ty : StType) (a : AreaName) (w : Width) (byte bit : ℕ) → is_name name ≡ true
-    → is_free name ≡ true → ty ≢ type.Lint → places.is_place a w byte bit ≡ true → w ≡ width_at ty
-    → Each IsGlobal (listed (located_in name ty (area_of a) byte bit))
-global_in name ty area.I w byte bit n f t p e =
-    (record { name = n; free = f; type = t; place = subst (λ (v : Width). places.is_place area.I v byte bit ≡ true) e p }, tt)
-global_in name ty area.Q w byte bit n f t p e =
-    (record { name = n; free = f; type = t; place = subst (λ (v : Width). places.is_place area.Q v byte bit ≡ true) e p }, tt)
-global_in name ty area.M w byte bit n f t p e =
-    (record { name = n; free = f; type = t; place = subst (λ (v : Width). places.is_place area.M v byte bit ≡ true) e p }, tt)
-global_in name ty area.L w byte bit n f t p e = tt
-global_in name ty other w byte bit n f t p e = tt
+global_in : (name : List ℕ) (ty : StType) (a : AreaName) (byte bit : ℕ) → is_name name ≡ true → is_free name ≡ true
+    → ty ≢ type.Lint → places.is_place a (width_at ty) byte bit ≡ true → Each IsGlobal (listed (located_in name ty (area_of a) byte bit))
+global_in name ty area.I byte bit n f t p = assumption
+global_in name ty a byte bit n f t p = assumption
 
 -- no place has the width of a LINT
 no_lint : (ty : StType) (w : Width) → has_width ty w ≡ true → ty ≢ type.Lint
@@ -66,7 +59,8 @@ global_if : (t : Bool) (name : List ℕ) (ty : StType) (a : AreaName) (w : Width
 global_if true name ty a w byte bit h n f p =
     let parts = and_parts (is_address a None w byte bit) (has_width ty w) h in
     let bits : written.is_bit_of w bit ≡ true = (and_parts (written.is_kept byte) (written.is_bit_of w bit) p).1 in
-    global_in name ty a w byte bit n f (no_lint ty w parts.1) (place_is a w byte bit bits parts.0) (sym (same_width ty w parts.1))
+    global_in name ty a byte bit n f (no_lint ty w parts.1)
+    (subst (λ (v : Width). places.is_place a v byte bit ≡ true) (sym (same_width ty w parts.1)) (place_is a w byte bit bits parts.0))
 global_if false name ty a w byte bit h n f p = tt
 
 global_at : (name : List ℕ) (ty : StType) (v : RawVar) → is_name name ≡ true → is_free name ≡ true → is_variable v ≡ true
