@@ -39,12 +39,8 @@ top_of d (infix_of op f g) before = omega (arith, top_of d g ((d + height f) ∷
 top_of d (apply op f) before = omega (arith, top_of (suc d) f (suc d ∷ d ∷ before))
 top_of d (shift op f g) before = omega (arith, top_of (suc d) g (suc d ∷ levels (suc d) f (suc d ∷ d ∷ before)), top_of (suc d) f (suc d ∷ d ∷ before))
 top_of d (select f g h) before =
-    omega (
-      arith,
-      top_of (suc d) h (suc d ∷ levels (suc d) g (suc d ∷ levels (suc d) f (suc d ∷ d ∷ before))),
-      top_of (suc d) g (suc d ∷ levels (suc d) f (suc d ∷ d ∷ before)),
-      top_of (suc d) f (suc d ∷ d ∷ before),
-    )
+    let second : List ℕ = suc d ∷ levels (suc d) f (suc d ∷ d ∷ before) in
+    omega (arith, top_of (suc d) h (suc d ∷ levels (suc d) g second), top_of (suc d) g second, top_of (suc d) f (suc d ∷ d ∷ before))
 
 -- Statements
 
@@ -98,12 +94,8 @@ mutual
   top_of_one d (choice_else line arms body) before = omega (arith, top_of_all (suc d) body (suc d ∷ levels_arms (suc d) arms before), top_of_arms (suc d) arms before)
   top_of_one d (cases line e arms) before = omega (arith, top_of_cases (suc d) arms (suc d ∷ levels (suc d) e (suc d ∷ before)), top_of (suc d) e (suc d ∷ before))
   top_of_one d (cases_else line e arms body) before =
-      omega (
-        arith,
-        top_of_all (suc d) body (suc d ∷ levels_cases (suc d) arms (suc d ∷ levels (suc d) e (suc d ∷ before))),
-        top_of_cases (suc d) arms (suc d ∷ levels (suc d) e (suc d ∷ before)),
-        top_of (suc d) e (suc d ∷ before),
-      )
+      let inner : List ℕ = suc d ∷ levels (suc d) e (suc d ∷ before) in
+      omega (arith, top_of_all (suc d) body (suc d ∷ levels_cases (suc d) arms inner), top_of_cases (suc d) arms inner, top_of (suc d) e (suc d ∷ before))
   top_of_one d (loop line e body) before = omega (arith, top_of_all (suc d) body (suc d ∷ levels (suc d) e (suc d ∷ before)), top_of (suc d) e (suc d ∷ before))
   top_of_one d (jump line word) before = omega arith
 
@@ -120,9 +112,5 @@ mutual
   pub top_of_cases : (d : ℕ) (a : CaseArms) (before : List ℕ) → greatest (levels_cases d a before) ≡ max (top_cases d a) (greatest before)
   top_of_cases d no_case before = omega arith
   top_of_cases d (case_arm others labels body) before =
-      omega (
-        arith,
-        top_of_all d body (d ∷ levels_labels d labels (levels_cases d others before)),
-        top_of_labels d labels (levels_cases d others before),
-        top_of_cases d others before,
-      )
+      let past : List ℕ = levels_cases d others before in
+      omega (arith, top_of_all d body (d ∷ levels_labels d labels past), top_of_labels d labels past, top_of_cases d others before)
