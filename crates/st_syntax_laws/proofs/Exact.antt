@@ -7,7 +7,7 @@ use Rattle.std.proofs.lemmas.List.{map-append}
 use Rattle.st_syntax_laws.proofs.Bare.{bare, bare_text, next_bare, last_level_bare}
 use Rattle.st_syntax_laws.proofs.Drive.{finished, drive_source, DeclaredUnit, within_unit, run, go, Lets, close, comma, past_unary, past_left, unit_left}
 use Rattle.st_syntax_laws.proofs.Kept.{past, Shaped, Kept, kept, InStatements, InExpr, PlaceFits}
-use Rattle.st_grammar.specs.Forms.{Source, Form, literal, group, prefix, infix_of, apply, shift, select, Labels, label, none, Statement, Statements, Globals, plain, Locals, Section, absent, present}
+use Rattle.st_grammar.specs.Forms.{Source, Form, literal, group, prefix, infix_of, apply, shift, select, none, Statement, Statements, Globals, plain, Locals, Section, absent, present}
 use Rattle.st_grammar.specs.Grammar.{spell_source, raw_tree, level, Binds, end_word}
 use Rattle.st_grammar.specs.Levels.{deepest, levels_source}
 use Rattle.st_grammar.specs.inner.Judge.{raw_of, text_in}
@@ -44,9 +44,6 @@ zero_kind = kind.Literal (lit.Typed type.Bool (pos 0))
 
 abbrev filler : Form
 filler = literal (lit.Typed type.Bool (pos 0))
-
-abbrev filler_label : Labels
-filler_label = label (lit.Typed type.Bool (pos 0))
 
 abbrev semicolon : Kind
 semicolon = kind.Fixed fixed.Semicolon

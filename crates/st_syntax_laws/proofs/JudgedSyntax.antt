@@ -37,10 +37,8 @@ judged_tree bytes raw = by (tokens_of bytes) refl
   where
     by : (o : Result (List StToken) Rejection) → tokens_of bytes ≡ o → tree_at (verdict bytes) ≡ Some raw → HasRawTree bytes raw
     by (Ok tokens) found e = from_judgement bytes tokens raw (judge_tokens start (all_lined tokens (line_at_end bytes))) found refl (sym (ap (λ (o : Result (List StToken) Rejection). tree_at (verdict_on bytes o)) found) ∙ e)
-    by (Err refused) found e = absurd (no_tree refused (sym (ap (λ (o : Result (List StToken) Rejection). tree_at (verdict_on bytes o)) found) ∙ e))
-      where
-        no_tree : (refused : Rejection) → tree_at (Err refused) ≡ Some raw → ⊥
-        no_tree refused e = absurd cc
+    by (Err refused) found e =
+        absurd (let none : tree_at (Err refused) ≡ Some raw = sym (ap (λ (o : Result (List StToken) Rejection). tree_at (verdict_on bytes o)) found) ∙ e in cc)
 
 pub judged_trees : JudgedTrees
 judged_trees bytes raw = (judged_tree bytes raw, tree_is bytes raw)
