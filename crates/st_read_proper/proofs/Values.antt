@@ -29,20 +29,9 @@ use Rattle.s7_base.specs.Broken.{broken}
 use Rattle.st_rules.specs.Statements.{have_type, label_breaks}
 use Rattle.st_tree.specs.TypeRules.{is_type}
 
+-- a number from 0 on is not below it
 never : (n : ℕ) → nat_lt n 0 ≡ false
 never n = grind (arith, nat_tests)
-
--- a number from 0 on is not below it
-value_plain : (t : Bool) (n : ℕ) (ty : StType) → t ≡ false → nat_le n (greatest ty false) ≡ true
-    → (cond t (is_signed ty && nat_le n (greatest ty true)) (nat_le n (greatest ty false))) ≡ true
-value_plain true n ty e h = absurd cc
-value_plain false n ty e h = h
-
-plain_value : (t : Bool) (n : ℕ) (ty : StType) → t ≡ false
-    → (cond t (is_signed ty && nat_le n (greatest ty true)) (nat_le n (greatest ty false))) ≡ true
-    → nat_le n (greatest ty false) ≡ true
-plain_value true n ty e h = absurd cc
-plain_value false n ty e h = h
 
 -- What a type keeps
 
@@ -90,7 +79,7 @@ below_fits type.Lint n h = negative_fits n 9223372036854775808 (2 ^ (64 - 1)) (2
 below_fits ty n h = absurd cc
 
 fits : (ty : StType) (n : ℤ) → has_value ty n ≡ true → fit ty n ≡ n
-fits ty (pos n) h = plain_fits ty n (plain_value (nat_lt n 0) n ty (never n) h)
+fits ty (pos n) h = plain_fits ty n (rw (never n) at h)
 fits ty (negsuc n) h = below_fits ty n h
 
 -- a value that tokens can have is one of its type
@@ -106,8 +95,8 @@ byte_value b h = let small : b ≤ 255 = grind (arith, nat_tests) in by (greates
     by n h = grind (arith, nat_tests)
 
 has_label_value : (c : Literal) → is_literal c ≡ true → has_value (label_tree c).0 (label_tree c).1 ≡ true
-has_label_value (lit.Decimal n) h = value_plain (nat_lt n 0) n type.Dint (never n) h
-has_label_value (lit.Byte b) h = value_plain (nat_lt b 0) b type.Dword (never b) (byte_value b h)
+has_label_value (lit.Decimal n) h = rw (never n) h
+has_label_value (lit.Byte b) h = rw (never b) (byte_value b h)
 has_label_value (lit.Typed ty n) h = h
 
 -- a literal that was read has a value of its type
