@@ -1,6 +1,6 @@
 -- The statements of a unit that break no rule are well typed, and nest no deeper than they are written: a call gives
 -- each formal of a function a variable of its type.
-use Rattle.std.proofs.Common.{◌≡◌, Bool, true, [], map, Some, sym, ap, ◌∙◌, ℕ, max, false, ◌&&◌, ◌||◌, cond, List, ◌∷◌, ◌++◌, Option, None, is_some, is_none, Result, refl, subst, arith}
+use Rattle.std.proofs.Common.{◌≡◌, Bool, true, [], map, Some, sym, ap, ◌∙◌, ℕ, false, ◌&&◌, ◌||◌, cond, List, ◌∷◌, ◌++◌, Option, None, is_some, is_none, Result, refl, subst, arith}
 use Rattle.s7_base.specs.declared.reason.Line.{Line}
 use Rattle.st_grammar.specs.Forms.{Form, Statement, assign, write, invoke, choice, choice_else, cases, cases_else, loop, jump, Statements, none, empty, further, Arms, no_arm, arm, CaseArms, no_case, case_arm, Actuals, no_actual, actual}
 use Rattle.st_grammar.specs.Grammar.{AllFit, ArmsFit, Binds, CasesFit, Fits, arm_of as raw_arm, case_of as raw_case, tree, tree_all, tree_arms, tree_cases, tree_labels, tree_one, spell, spell_all, spell_arms, spell_cases, spell_one, tree_actuals, spell_actuals}
@@ -9,7 +9,7 @@ use Rattle.st_read_proper.proofs.Values.{found_labels, labels_typed}
 use Rattle.st_read_proper.proofs.Expressions.{Found, found}
 use Rattle.st_types_laws.proofs.Parts.{arm_clean, assign_clean, assign_fits, breaks_last, case_arm_clean, case_clean, if_clean, selector_clean, selector_is, selector_type, test_bool, test_clean, variable_there, while_clean, write_clean, write_fits, arms_read_last, cases_read_last}
 use Rattle.st_types_laws.proofs.Lists.{map_last, nil_first, nil_second}
-use Rattle.st_read_proper.proofs.Statements.{FoundAll, FoundArms, FoundCases, FoundOne, of_arm, of_assign, of_case_arm, of_cases, of_cases_else, of_choice, of_choice_else, of_empty, of_further, of_jump, of_loop, of_no_arm, of_no_case, of_none, of_write, cost_of, of_heads}
+use Rattle.st_read_proper.proofs.Statements.{FoundAll, FoundArms, FoundCases, FoundOne, of_arm, of_assign, of_case_arm, of_cases, of_cases_else, of_choice, of_choice_else, of_empty, of_further, of_jump, of_loop, of_no_arm, of_no_case, of_none, of_write}
 use Rattle.st_read_proper.proofs.Sees.{by_entry, Sees, variable_has, IsCallable}
 use Rattle.st_tree.specs.WellTyped.{Sight, are_given, has_type, variable_type}
 use Rattle.st_tree.specs.declared.expr.StType.{StType}
@@ -24,11 +24,9 @@ use Rattle.s7_base.specs.declared.reason.Reason.{Reason}
 use Rattle.s7_base.specs.declared.reason.Reason.TheVariants.{TypeMismatch}
 use Rattle.st_canonical.specs.Spelled.{is_variable}
 use Rattle.st_types_laws.proofs.Actions.{act_invoke, calls_invoke}
-use Rattle.st_types_laws.proofs.Bounds.{bound}
 use Rattle.st_types_laws.proofs.Called.{AreTyped, are_typed, call_is}
 use Rattle.st_types_laws.proofs.Apart.{same_keys}
 use Rattle.s7_base.specs.Broken.{broken}
-use Rattle.st_rules.specs.Calls.{call_on, calls_of}
 use Rattle.st_rules.specs.Invocations.{Actual, Given, call_of, callee, formal_breaks, function_call, given_by, in_order, lacks, none_given, plain, var_given, with_actual}
 use Rattle.st_rules.specs.Names.{Table, look_up, with_entry}
 use Rattle.st_tree.specs.Naming.{key_of}
@@ -205,13 +203,7 @@ module _ (scope : Scope) (sight : Sight) (sees : Sees scope sight) (inside : Boo
             ∙ ap (λ vs. sound (stmt.Invoke i vs)) order;
         typed = rw (good_invoke sight inside i r.xs, c.there, c.function, c.seen) r.given;
         low = λ d. omega (arith, nesting_invoke i r.xs);
-        calls = λ f.
-            let own : bound (of_heads sight.heads f) (calls_of scope (tree_one (invoke l name actuals)))
-            ≡ max (of_heads sight.heads f i) 0 =
-            ap (bound (of_heads sight.heads f)) (calls_invoke scope l name (tree_actuals actuals)
-            ∙ ap (λ o. call_on l (callee o)) m) in
-            let cost : of_heads sight.heads f i ≡ f i = ap (λ o. cost_of o (f i)) c.there in
-            omega (arith, own, cost, called_invoke f i r.xs);
+        calls = λ f. rw (calls_invoke scope l name (tree_actuals actuals), m, c.there) (omega (arith, called_invoke f i r.xs));
       }
 
   pub of_invoke : (l : Line) (name : List ℕ) (actuals : Actuals) → Worded (spell_actuals actuals)

@@ -22,7 +22,7 @@ use Rattle.st_types_laws.proofs.ReadEquations.{read_literal, read_variable}
 use Rattle.st_read_proper.proofs.Sees.{Sees, variable_has}
 use Rattle.st_read_proper.proofs.Values.{label_value, tree_of_label}
 use Rattle.st_rules.specs.Judged.{Judged, sound}
-use Rattle.st_rules.specs.Expressions.{answered, expression, read_of}
+use Rattle.st_rules.specs.Expressions.{answered, expression}
 use Rattle.st_rules.specs.Variables.{variable as variable_in}
 use Rattle.st_rules.specs.declared.expression.Typed.{Typed}
 use Rattle.st_rules.specs.declared.scope.Scope.{Scope}
@@ -164,9 +164,7 @@ module _ (scope : Scope) (sight : Sight) (sees : Sees scope sight) (l : Line) wh
       by (Err rule) e q = absurd cc
       by (Ok x) e q = record {
         t = record { ty = x.ty; tree = expr.Read x.var };
-        found = read_variable scope l v
-            ∙ ap (λ (r : Result TypedVar Reason). let j : Judged TypedVar = answered l r in
-            let k : Judged Typed = record { found = read_of j.found; breaks = j.breaks } in k) e;
+        found = rw (read_variable scope l v, e) refl;
         typed = typed_read sight x.var ∙ variable_has scope sight sees v x h e;
         close = rw (canon_read x.var) (alike _ _ (omega arith) (omega arith) refl);
       }
