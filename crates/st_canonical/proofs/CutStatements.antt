@@ -22,7 +22,6 @@ use Rattle.st_grammar.specs.declared.kind.Jump.TheVariants as jump_word
 use Rattle.st_grammar.specs.declared.kind.Kind.{Kind}
 use Rattle.st_grammar.specs.declared.kind.Kind.TheVariants as kind
 use Rattle.st_grammar.specs.declared.kind.Lead.TheVariants as lead
-use Rattle.st_tree.proofs.Equations.{text_arm, text_case_arm}
 use Rattle.st_tree.proofs.Induction.{Each, InArm, InCase, StmtSteps, every_body}
 use Rattle.st_tree.specs.Spelling.{ArmText, CaseText, Text, actuals_text, arm_text, arms_text, body_text, call_text, case_text, else_text, expr_text, formals_of, label_text, labelled_text, labels_text, line as line_text, listed, literal_text, statement_text, texts_at, unit_name, var_text}
 use Rattle.st_tree.specs.Spelling as spelling
@@ -143,7 +142,7 @@ module _ (names : Names) where
       → Passes start (f others line).1 (λ more. written (t word level ++ more)) (spell_arms first (f others line).0)
 
   reads_arm : (a : Arm) → Each P a.body → ReadsArm (arm_text names a) (arm_from names a)
-  reads_arm a h = rw (text_arm names a, from_arm a) (λ level start line first others word written begun before more ks r.
+  reads_arm a h = rw (fold_out-Arm Text ArmText CaseText (spelling.statement_step names) (spelling.arm_step names) spelling.case_step a, from_arm a) (λ level start line first others word written begun before more ks r.
       before _ _ (simp append_assoc (reads_line _ _ _ (simp append_assoc (begun _ _ (reads_expr names line a.test refl
       (reads_blank (reads_fixed fixed.Then refl refl (reads_line_end (reads_all a.body (level + 1) (line_after line) h more ks r))))))))))
 
@@ -185,7 +184,7 @@ module _ (names : Names) where
 
   reads_case_arm : (a : CaseArm) → Each P a.body → ReadsCase (case_text names a) (case_from names a)
   reads_case_arm a h =
-      rw (text_case_arm names a, fold_out-CaseArm FromLine ArmFromLine CaseFromLine (canonical.statement_step names) (canonical.arm_step names) canonical.case_step a)
+      rw (fold_out-CaseArm Text ArmText CaseText (spelling.statement_step names) (spelling.arm_step names) spelling.case_step a, fold_out-CaseArm FromLine ArmFromLine CaseFromLine (canonical.statement_step names) (canonical.arm_step names) canonical.case_step a)
       (reads_labelled a.labels a.body h)
 
   reads_cases : (ty : StType) (others : CaseArms) (xs : List CaseArm) (level start line : ℕ) (written : List ℕ → List ℕ) → Each (InCase P) xs
