@@ -1,34 +1,21 @@
 -- Canonical forms of some trees, with their lines.
-use Rattle.std.proofs.Common.{◌≡◌, ℕ, false, List, [], ◌∷◌, map, Some, None, refl, sym, ap, ◌∙◌}
-use Rattle.std.specs.Fmt.{digits}
-use Rattle.std.specs.Prelude.{pos, codes}
+use Rattle.st_tree.proofs.Common.{◌≡◌, ℕ, false, List, [], ◌∷◌, map, Some, None, refl, sym, ap, ◌∙◌, digits, pos, codes, canon, names_in, Names, type_of}
 use Rattle.memory_areas.specs.declared.place.Area.TheVariants as place
 use Rattle.memory_areas.specs.declared.place.AreaName.TheVariants as area
 use Rattle.s7_base.specs.declared.register.Reg.TheVariants as reg
 use Rattle.s7_base.specs.declared.word.Width.TheVariants as width
 use Rattle.st_canonical.specs.Canonical.{ArmFromLine, CaseFromLine, FromLine, arm_from, arm_step, case_from, case_step, on, source_of, statement_from, statement_step}
-use Rattle.st_grammar.specs.Forms.{variable, no_actual, actual, label, more_labels, invoke, choice_else, cases_else, loop, jump, none, further, no_arm, arm, no_case, case_arm, no_item, single, times, plain, bytes, no_global, global, no_local, local, absent, present, no_unit, unit, Source}
-use Rattle.st_grammar.specs.Grammar.{SourceFits}
-use Rattle.st_grammar.specs.Kinds.{word_named, word_text}
+use Rattle.st_grammar.proofs.Common.{variable, no_actual, actual, label, more_labels, invoke, choice_else, cases_else, loop, jump, none, further, no_arm, arm, no_case, case_arm, no_item, single, times, plain, bytes, no_global, global, no_local, local, absent, present, no_unit, unit, Source, SourceFits, word_named, word_text}
 use Rattle.st_canonical.specs.Spelled.{SourceSpelled, is_function}
 use Rattle.st_grammar.specs.declared.kind.Jump.TheVariants as jump_word
 use Rattle.st_grammar.specs.declared.kind.Literal.TheVariants as lit
 use Rattle.st_grammar.specs.declared.kind.OneOperand.TheVariants as one
 use Rattle.st_tree.proofs.Equations.{canon_read}
 use Rattle.st_tree.specs.Form as tree
-use Rattle.st_tree.specs.Form.{canon}
-use Rattle.st_tree.specs.Spelling.{names_in}
-use Rattle.st_tree.specs.Typing.{Names, type_of}
-use Rattle.st_tree.specs.declared.expr.Expr.{Expr}
+use Rattle.st_lexer.proofs.Common.{Expr, Var, Arm, fold_out-Arm, CaseArm, fold_out-CaseArm, Pou, StProgram, Stmt, fold-roll-Stmt, map-Stmt, roll-Stmt}
 use Rattle.st_tree.specs.declared.expr.Expr.TheVariants as expr
 use Rattle.st_tree.specs.declared.expr.StType.TheVariants as type
-use Rattle.st_tree.specs.declared.expr.Var.{Var}
 use Rattle.st_tree.specs.declared.expr.Var.TheVariants as tree_var
-use Rattle.st_tree.specs.declared.program.Arm.{Arm, fold_out-Arm}
-use Rattle.st_tree.specs.declared.program.CaseArm.{CaseArm, fold_out-CaseArm}
-use Rattle.st_tree.specs.declared.program.Pou.{Pou}
-use Rattle.st_tree.specs.declared.program.StProgram.{StProgram}
-use Rattle.st_tree.specs.declared.program.Stmt.{Stmt, fold-roll-Stmt, map-Stmt, roll-Stmt}
 use Rattle.st_tree.specs.declared.program.Stmt.TheOpen as S
 use Rattle.st_tree.specs.declared.program.Stmt.TheVariants as stmt
 use Rattle.st_tree.specs.declared.raw.RawVar.TheVariants as var

@@ -1,30 +1,22 @@
 -- The expressions of a canonical text, each before what is read after it.
-use Rattle.std.proofs.Common.{◌≡◌, ℕ, ◌-◌, Bool, true, false, List, ◌∷◌, ◌++◌, refl, ◌∙◌, append_assoc}
-use Rattle.std.specs.Prelude.{if◌then◌else◌, codes, nat_lt}
-use Rattle.s7_base.specs.declared.word.Width.{Width}
+use Rattle.st_tree.proofs.Common.{◌≡◌, ℕ, ◌-◌, Bool, true, false, List, ◌∷◌, ◌++◌, refl, ◌∙◌, append_assoc, if◌then◌else◌, codes, nat_lt, Width, Form, literal, variable, infix_of, convert, select, shift, area_read, level, wrap, unary_form, infix_level, canon, expr_text, written, Names, infix_word, type_word, width_word}
 use Rattle.s7_base.specs.declared.word.Width.TheVariants as width
-use Rattle.st_lexer.specs.Spelled.{ends_word}
+use Rattle.st_lexer.proofs.Common.{ends_word, Expr, UnaryOp}
 use Rattle.st_canonical.proofs.CutLiterals.{reads_literal, reads_var}
 use Rattle.st_canonical.proofs.CutWords.{infix_ends, reads_close, reads_comma, reads_convert, reads_fixed, reads_infix, reads_minus, reads_open, reads_shift}
 use Rattle.st_canonical.proofs.Cuts.{ReadsOn, begins_with_times, reads_as, reads_blank}
-use Rattle.st_canonical.specs.Canonical.{expr_form, form_of}
+use Rattle.st_canonical.proofs.Common.{expr_form, form_of, Kind}
 use Rattle.st_grammar.specs.Grammar.{prefix_kind, spell}
 use Rattle.st_grammar.specs.Forms as grammar
 use Rattle.st_grammar.specs.declared.kind.Fixed.TheVariants as fixed
 use Rattle.st_grammar.specs.declared.kind.Function.TheVariants as function
-use Rattle.st_grammar.specs.declared.kind.Kind.{Kind}
 use Rattle.st_grammar.specs.declared.kind.Kind.TheVariants as kind
 use Rattle.st_grammar.specs.declared.kind.OneOperand.TheVariants as one
 use Rattle.st_grammar.specs.declared.kind.Prefix.{Prefix}
 use Rattle.st_grammar.specs.declared.kind.Prefix.TheVariants as before
-use Rattle.st_tree.specs.Form.{Form, literal, variable, group, prefix, infix_of, digits_to, convert, select, shift, area_read, level, wrap, unary_form, prefix_level, infix_level, canon}
-use Rattle.st_tree.specs.Spelling.{expr_text, written}
-use Rattle.st_tree.specs.Typing.{Names}
-use Rattle.st_tree.specs.Words.{infix_word, type_word, width_word}
+use Rattle.st_tree.specs.Form.{group, prefix, digits_to, prefix_level}
 use Rattle.st_tree.proofs.Equations.{canon_area_read, canon_binary, canon_convert, canon_literal, canon_read, canon_select, canon_shift, canon_unary}
 use Rattle.st_tree.proofs.Induction.{every_expr}
-use Rattle.st_tree.specs.declared.expr.Expr.{Expr}
-use Rattle.st_tree.specs.declared.expr.UnaryOp.{UnaryOp}
 use Rattle.st_tree.specs.declared.expr.UnaryOp.TheVariants as unary
 
 -- Operators of one operand

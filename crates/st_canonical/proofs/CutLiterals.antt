@@ -1,40 +1,22 @@
 -- The literals and variables of a canonical text, each before what is read after it.
-use Rattle.std.proofs.Common.{◌≡◌, ℕ, suc, zero, ◌+◌, ◌-◌, ◌/◌, ◌%◌, ◌^◌, ◌<◌, ◌≤◌, Bool, true, false, not, ◌&&◌, ◌==◌, ◌⊎◌, inl, inr, List, [], ◌∷◌, ◌++◌, length, drop, Option, Some, None, refl, ap, subst, ◌∙◌, arith}
-use Rattle.std.specs.Prelude.{ℤ, pos, negsuc, neg_ℤ, unsigned_abs, int_lt, nat_lt, nat_le, min, if◌then◌else◌, codes, decimal}
-use Rattle.std.proofs.lemmas.Bool.Decides.{nat_tests}
-use Rattle.std.proofs.lemmas.Fmt.{decimal_by_steps}
-use Rattle.std.proofs.lemmas.List.Folds.{list_all-append}
-use Rattle.digit_texts.specs.Digits.{hex_digit}
-use Rattle.memory_areas.specs.declared.place.AreaName.{AreaName}
+use Rattle.st_tree.proofs.Common.{◌≡◌, ℕ, suc, zero, ◌+◌, ◌-◌, ◌/◌, ◌%◌, ◌^◌, ◌<◌, ◌≤◌, Bool, true, false, not, ◌&&◌, ◌==◌, ◌⊎◌, inl, inr, List, [], ◌∷◌, ◌++◌, length, drop, Option, Some, None, refl, ap, subst, ◌∙◌, arith, ℤ, pos, negsuc, neg_ℤ, unsigned_abs, int_lt, nat_lt, nat_le, min, if◌then◌else◌, codes, decimal, nat_tests, decimal_by_steps, list_all-append, hex_digit, AreaName, Line, Width, bit_text, byte_text, hexadecimal, integer_text, literal_text, place_text, var_text, Names, area_word, width_word}
 use Rattle.memory_areas.specs.declared.place.AreaName.TheVariants as area
-use Rattle.s7_base.specs.declared.reason.Line.{Line}
-use Rattle.s7_base.specs.declared.word.Width.{Width}
 use Rattle.s7_base.specs.declared.word.Width.TheVariants as width
 use Rattle.st_lexer.proofs.LiteralCuts.{literals_stand}
 use Rattle.st_lexer.proofs.PlaceCuts.{places_stand}
 use Rattle.st_lexer.proofs.Words.{and_both, if_true, if_false}
-use Rattle.st_lexer.specs.Literals.{base_at, begins_with_digit, greatest, is_signed, literal_at}
-use Rattle.st_lexer.specs.Spelled.{ends_word, has_value, is_bit_of, is_block_of, is_byte, is_decimal}
-use Rattle.st_lexer.specs.SpellingLaws.{IsLiteral, place_in}
-use Rattle.st_lexer.specs.StTokens.{is_great}
+use Rattle.st_lexer.proofs.Common.{base_at, begins_with_digit, greatest, is_signed, literal_at, ends_word, has_value, is_bit_of, is_block_of, is_byte, is_decimal, IsLiteral, place_in, is_great, StType, Var}
 use Rattle.st_lexer.specs.declared.literal.Literal.{Literal as Found}
 use Rattle.st_lexer.specs.declared.number.Base.{Base}
 use Rattle.st_lexer.specs.declared.number.Base.TheVariants as base
 use Rattle.st_tree.specs.declared.token.StKind.TheVariants as sort
 use Rattle.st_canonical.proofs.Cuts.{ReadsOn, has_no_line, reads_text, where_spelled}
 use Rattle.st_canonical.proofs.CutWords.{reads_keyword, reads_name}
-use Rattle.st_canonical.specs.Canonical.{literal_form, on, raw_var}
+use Rattle.st_canonical.proofs.Common.{literal_form, on, raw_var, is_literal, Kind}
 use Rattle.st_grammar.specs.Kinds.{are_two_digits, decimal_kind, direct_kind, literal_kind, number_kind, text_kind, typed_kind, word_named, word_text}
-use Rattle.st_canonical.specs.Spelled.{is_literal}
-use Rattle.st_grammar.specs.declared.kind.Kind.{Kind}
 use Rattle.st_grammar.specs.declared.kind.Kind.TheVariants as kind
 use Rattle.st_grammar.specs.declared.kind.Literal.TheVariants as lit
-use Rattle.st_tree.specs.Spelling.{bit_text, byte_text, hexadecimal, integer_text, literal_text, place_text, var_text}
-use Rattle.st_tree.specs.Typing.{Names}
-use Rattle.st_tree.specs.Words.{area_word, width_word}
-use Rattle.st_tree.specs.declared.expr.StType.{StType}
 use Rattle.st_tree.specs.declared.expr.StType.TheVariants as type
-use Rattle.st_tree.specs.declared.expr.Var.{Var}
 use Rattle.st_tree.specs.declared.expr.Var.TheVariants as tree_var
 use Rattle.st_tree.specs.declared.raw.RawVar.TheVariants as var
 

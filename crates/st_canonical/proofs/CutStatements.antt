@@ -1,40 +1,21 @@
 -- The statements of a canonical text, each before what is read after it.
-use Rattle.std.proofs.Common.{◌≡◌, ℕ, ◌+◌, true, false, ℤ, List, [], ◌∷◌, ◌++◌, map, Option, refl, sym, subst, append_assoc}
-use Rattle.std.specs.Prelude.{codes, flat_map, slice_get}
-use Rattle.s7_base.specs.Tokens.{line_after}
-use Rattle.s7_base.specs.declared.reason.Line.{Line}
-use Rattle.s7_base.specs.declared.word.Width.{Width}
+use Rattle.st_tree.proofs.Common.{◌≡◌, ℕ, ◌+◌, true, false, ℤ, List, [], ◌∷◌, ◌++◌, map, Option, refl, sym, subst, append_assoc, codes, flat_map, slice_get, line_after, Line, Width, ArmText, CaseText, Text, arm_text, body_text, case_text, else_text, expr_text, formals_of, label_text, literal_text, statement_text, texts_at, unit_name, var_text, Names, type_of, width_word}
 use Rattle.s7_base.specs.declared.word.Width.TheVariants as width
-use Rattle.st_lexer.specs.Spelled.{ends_word}
+use Rattle.st_lexer.proofs.Common.{ends_word, Expr, StType, Var, Arm, fold_out-Arm, CaseArm, fold_out-CaseArm, Local, Pou, Stmt, fold-roll-Stmt, map-Stmt, roll-Stmt}
 use Rattle.st_canonical.proofs.CutExpressions.{opens, reads_expr, three, two}
 use Rattle.st_canonical.proofs.CutLiterals.{reads_literal, reads_var}
 use Rattle.st_canonical.proofs.CutWords.{is_keyword, reads_becomes, reads_close, reads_comma, reads_fixed, reads_last_colon, reads_lead, reads_name, reads_open, reads_semicolon}
 use Rattle.st_canonical.proofs.Cuts.{ReadsOn, begins_with_times, reads_as, reads_blank, reads_line, reads_line_end}
-use Rattle.st_canonical.specs.Canonical.{ArmFromLine, CaseFromLine, FromLine, Placed, actuals_from, all_from, arms_from, arm_from, body_from, case_from, cases_from, choice_from, expr_form, labelled, labels_behind, labels_form, literal_form, on, raw_var, statement_from}
+use Rattle.st_canonical.proofs.Common.{ArmFromLine, CaseFromLine, FromLine, Placed, actuals_from, all_from, arms_from, arm_from, body_from, case_from, cases_from, choice_from, expr_form, labelled, labels_behind, labels_form, literal_form, on, raw_var, statement_from, Fixed, Jump, Kind}
 use Rattle.st_canonical.specs.Canonical as canonical
-use Rattle.st_grammar.specs.Forms.{Actuals, no_actual, actual, Arms, no_arm, arm, CaseArms, no_case, Labels, label, more_labels, Statement, assign, write, invoke, jump, Statements, none, further}
-use Rattle.st_grammar.specs.Grammar.{HasArm, arm_word, comma_behind, spell, spell_actuals, spell_all, spell_arms, spell_cases, spell_labels, spell_one}
-use Rattle.st_grammar.specs.Kinds.{fixed_text, lead_text}
-use Rattle.st_grammar.specs.declared.kind.Fixed.{Fixed}
+use Rattle.st_grammar.proofs.Common.{Actuals, no_actual, actual, Arms, no_arm, arm, CaseArms, no_case, Labels, label, more_labels, Statement, assign, write, invoke, jump, Statements, none, further, HasArm, arm_word, comma_behind, spell, spell_actuals, spell_all, spell_arms, spell_cases, spell_labels, spell_one, fixed_text, lead_text}
 use Rattle.st_grammar.specs.declared.kind.Fixed.TheVariants as fixed
-use Rattle.st_grammar.specs.declared.kind.Jump.{Jump}
 use Rattle.st_grammar.specs.declared.kind.Jump.TheVariants as jump_word
-use Rattle.st_grammar.specs.declared.kind.Kind.{Kind}
 use Rattle.st_grammar.specs.declared.kind.Kind.TheVariants as kind
 use Rattle.st_grammar.specs.declared.kind.Lead.TheVariants as lead
 use Rattle.st_tree.proofs.Induction.{Each, InArm, InCase, StmtSteps, every_body}
-use Rattle.st_tree.specs.Spelling.{ArmText, CaseText, Text, actuals_text, arm_text, arms_text, body_text, call_text, case_text, else_text, expr_text, formals_of, label_text, labelled_text, labels_text, line as line_text, listed, literal_text, statement_text, texts_at, unit_name, var_text}
+use Rattle.st_tree.specs.Spelling.{actuals_text, arms_text, call_text, labelled_text, labels_text, line as line_text, listed}
 use Rattle.st_tree.specs.Spelling as spelling
-use Rattle.st_tree.specs.Typing.{Names, type_of}
-use Rattle.st_tree.specs.Words.{width_word}
-use Rattle.st_tree.specs.declared.expr.Expr.{Expr}
-use Rattle.st_tree.specs.declared.expr.StType.{StType}
-use Rattle.st_tree.specs.declared.expr.Var.{Var}
-use Rattle.st_tree.specs.declared.program.Arm.{Arm, fold_out-Arm}
-use Rattle.st_tree.specs.declared.program.CaseArm.{CaseArm, fold_out-CaseArm}
-use Rattle.st_tree.specs.declared.program.Local.{Local}
-use Rattle.st_tree.specs.declared.program.Pou.{Pou}
-use Rattle.st_tree.specs.declared.program.Stmt.{Stmt, fold-roll-Stmt, map-Stmt, roll-Stmt}
 use Rattle.st_tree.specs.declared.program.Stmt.TheOpen as S
 use Rattle.st_tree.specs.declared.program.Stmt.TheVariants as stmt
 use Rattle.st_tree.specs.declared.raw.RawVar.TheVariants as var

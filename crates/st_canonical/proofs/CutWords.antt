@@ -1,34 +1,22 @@
 -- The words and signs of a canonical text, each before what is read after it.
-use Rattle.std.proofs.Common.{◌≡◌, ℕ, suc, Bool, true, false, ◌&&◌, List, [], ◌∷◌, ◌++◌, length, Option, Some, None, refl}
-use Rattle.std.specs.Prelude.{codes, is_none}
-use Rattle.std.specs.List.{list_all}
-use Rattle.s7_base.specs.Tokens.{is_word_byte, begins_with}
-use Rattle.s7_base.specs.declared.reason.Line.{Line}
+use Rattle.st_tree.proofs.Common.{◌≡◌, ℕ, suc, Bool, true, false, ◌&&◌, List, [], ◌∷◌, ◌++◌, length, Option, Some, None, refl, codes, is_none, list_all, is_word_byte, begins_with, Line, infix_word, type_word}
 use Rattle.s7_base.specs.declared.word.Width.TheVariants as width
 use Rattle.st_lexer.proofs.Words.{and_both}
-use Rattle.st_lexer.specs.Spelled.{ends_word}
-use Rattle.st_lexer.specs.StTokens.{is_letter, token, piece_at}
+use Rattle.st_lexer.proofs.Common.{ends_word, is_letter, token, piece_at, BinaryOp, ShiftOp, StType}
 use Rattle.st_tree.specs.declared.token.StKind.TheVariants as sort
 use Rattle.st_canonical.proofs.Cuts.{has_no_line, ReadsOn, begins_with_times, reads_token, reads_word, reads_blank, where_spelled}
-use Rattle.st_canonical.specs.Canonical.{on}
+use Rattle.st_canonical.proofs.Common.{on, is_function, is_name, is_unreserved, Fixed, Kind, Word}
 use Rattle.st_grammar.specs.Kinds.{conversion_named, fixed_text, lead_text, name_kind, sign_named, text_kind, word_kind, word_named, word_text}
-use Rattle.st_canonical.specs.Spelled.{is_function, is_name, is_unreserved}
-use Rattle.st_grammar.specs.declared.kind.Fixed.{Fixed}
 use Rattle.st_grammar.specs.declared.kind.Fixed.TheVariants as fixed
 use Rattle.st_grammar.specs.declared.kind.Function.TheVariants as function
 use Rattle.st_grammar.specs.declared.kind.Jump.TheVariants as jump
-use Rattle.st_grammar.specs.declared.kind.Kind.{Kind}
 use Rattle.st_grammar.specs.declared.kind.Kind.TheVariants as kind
 use Rattle.st_grammar.specs.declared.kind.Lead.{Lead}
 use Rattle.st_grammar.specs.declared.kind.Lead.TheVariants as lead
 use Rattle.st_grammar.specs.declared.kind.OneOperand.TheVariants as one
-use Rattle.st_grammar.specs.declared.kind.Word.{Word}
-use Rattle.st_tree.specs.Words.{infix_word, shift_word, type_word}
-use Rattle.st_tree.specs.declared.expr.BinaryOp.{BinaryOp}
+use Rattle.st_tree.specs.Words.{shift_word}
 use Rattle.st_tree.specs.declared.expr.BinaryOp.TheVariants as binary
-use Rattle.st_tree.specs.declared.expr.ShiftOp.{ShiftOp}
 use Rattle.st_tree.specs.declared.expr.ShiftOp.TheVariants as shift_op
-use Rattle.st_tree.specs.declared.expr.StType.{StType}
 use Rattle.st_tree.specs.declared.expr.StType.TheVariants as type
 use Rattle.st_tree.specs.declared.raw.RawVar.TheVariants as var
 

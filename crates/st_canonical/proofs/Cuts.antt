@@ -1,27 +1,15 @@
 -- What is read of a text from a place on, one piece before what is read after it.
-use Rattle.std.proofs.Common.{◌≡◌, ℕ, suc, zero, ◌-◌, Bool, true, false, not, ◌==◌, List, [], ◌∷◌, ◌++◌, length, map, Option, Some, None, refl, sym, ap, subst, ◌∙◌, arith, append_assoc}
-use Rattle.std.specs.Prelude.{codes}
-use Rattle.std.specs.List.{list_all}
-use Rattle.std.proofs.lemmas.Bool.Decides.{nat_tests}
-use Rattle.std.proofs.Math.Seq.{take-append_seam}
-use Rattle.s7_base.specs.Tokens.{begins_with, is_word_byte, line_after}
-use Rattle.s7_base.specs.declared.reason.Line.{Line}
+use Rattle.st_tree.proofs.Common.{◌≡◌, ℕ, suc, zero, ◌-◌, Bool, true, false, not, ◌==◌, List, [], ◌∷◌, ◌++◌, length, map, Option, Some, None, refl, sym, ap, subst, ◌∙◌, arith, append_assoc, codes, list_all, nat_tests, take-append_seam, begins_with, is_word_byte, line_after, Line, blanks}
 use Rattle.st_lexer.proofs.Words.{and_both, if_false, not_true, word_stands}
-use Rattle.st_lexer.specs.Literals.{literal_at}
-use Rattle.st_lexer.specs.Spelled.{ends_word}
+use Rattle.st_lexer.proofs.Common.{literal_at, ends_word, is_letter, Piece, gap, token, piece_at, piece_size, token_of, line_behind, Cut, prepend_tokens, with_piece, cut_from, is_great, great_from, line_past, StKind, StToken}
 use Rattle.st_lexer.specs.SpellingLaws.{IsToken}
-use Rattle.st_lexer.specs.StTokens.{is_letter, Piece, gap, token, piece_at, piece_size, token_of, line_behind, Cut, prepend_tokens, with_piece, cut_from, is_great, great_from, has_text}
-use Rattle.st_lexer.specs.TokenGrammar.{line_past}
-use Rattle.st_tree.specs.declared.token.StKind.{StKind}
+use Rattle.st_lexer.specs.StTokens.{has_text}
 use Rattle.st_tree.specs.declared.token.StKind.TheVariants as sort
-use Rattle.st_tree.specs.declared.token.StToken.{StToken}
-use Rattle.st_canonical.specs.Canonical.{on}
-use Rattle.st_canonical.specs.Spelled.{AreSpelled, is_spelled}
+use Rattle.st_canonical.proofs.Common.{on, AreSpelled, is_spelled, Kind}
 use Rattle.st_grammar.specs.Kinds.{kind_of, sign_named, text_kind}
 use Rattle.st_grammar.specs.declared.kind.Fixed.TheVariants as fixed
-use Rattle.st_grammar.specs.declared.kind.Kind.{Kind}
 use Rattle.st_grammar.specs.declared.kind.Kind.TheVariants as kind
-use Rattle.st_tree.specs.Spelling.{blanks, line as line_text}
+use Rattle.st_tree.specs.Spelling.{line as line_text}
 use Rattle.st_tree.specs.declared.expr.BinaryOp.TheVariants as binary
 
 -- the first of some kinds is `*`

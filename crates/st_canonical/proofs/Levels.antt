@@ -1,8 +1,6 @@
 -- How deep forms nest: the greatest of the levels of their tokens.
 use Rattle.std.proofs.Common.{◌≡◌, ℕ, suc, ◌+◌, ◌≤◌, max, List, [], ◌∷◌, arith}
-use Rattle.st_grammar.specs.Forms.{Form, literal, variable, group, prefix, infix_of, apply, shift, select, Actuals, no_actual, actual, Labels, label, more_labels, Statement, assign, write, invoke, choice, choice_else, cases, cases_else, loop, jump, Statements, none, empty, further, Arms, no_arm, arm, CaseArms, no_case, case_arm}
-use Rattle.st_grammar.specs.Levels.{height, levels, levels_actuals, levels_all, levels_arms, levels_cases, levels_labels, levels_one}
-use Rattle.st_grammar.specs.Syntax.{AllWithin}
+use Rattle.st_grammar.proofs.Common.{Form, literal, variable, group, prefix, infix_of, apply, shift, select, Actuals, no_actual, actual, Labels, label, more_labels, Statement, assign, write, invoke, choice, choice_else, cases, cases_else, loop, jump, Statements, none, empty, further, Arms, no_arm, arm, CaseArms, no_case, case_arm, height, levels, levels_actuals, levels_all, levels_arms, levels_cases, levels_labels, levels_one, AllWithin}
 
 -- the greatest of some levels
 abbrev pub greatest : List ℕ → ℕ

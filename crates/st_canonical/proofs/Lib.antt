@@ -1,4 +1,5 @@
 mod CanonicalRows
+pub mod Common
 mod CutExpressions
 mod CutLiterals
 mod CutStatements

@@ -1,24 +1,14 @@
 -- A name by the rules of texts is one by those of trees: the words that are reserved are the same.
-use Rattle.std.proofs.Common.{◌≡◌, ℕ, ◌+◌, ◌==◌, Bool, true, false, not, ◌&&◌, ◌||◌, cond, List, [], ◌∷◌, ◌++◌, map, take, drop, Option, Some, None, refl, sym, ap, subst, ◌∙◌, arith}
-use Rattle.std.specs.Prelude.{codes, is_none, is_some}
-use Rattle.std.specs.Char.{to_ascii_lowercase}
-use Rattle.std.specs.List.{find, list_all, list_any}
-use Rattle.std.specs.Str.{str_to_ascii_lowercase}
-use Rattle.std.proofs.lemmas.Bool.{and_parts}
-use Rattle.std.proofs.lemmas.Bool.Decides.{nat_tests}
-use Rattle.std.proofs.lemmas.List.{append_assoc, drop-map, map-append, take-append-drop, take-map}
+use Rattle.st_tree.proofs.Common.{◌≡◌, ℕ, ◌+◌, ◌==◌, Bool, true, false, not, ◌&&◌, ◌||◌, cond, List, [], ◌∷◌, ◌++◌, map, take, drop, Option, Some, None, refl, sym, ap, subst, ◌∙◌, arith, codes, is_none, is_some, to_ascii_lowercase, find, list_all, list_any, str_to_ascii_lowercase, and_parts, nat_tests, drop-map, map-append, take-append-drop, take-map, is_same_word, is_word_byte, conversion_word, is_conversion, is_name, type_word}
+use Rattle.std.proofs.lemmas.List.{append_assoc}
 use Rattle.std.proofs.lemmas.List.Folds.{list_any_at}
 use Rattle.std.proofs.lemmas.Slice.Eq.{bytes_eq-Decides}
-use Rattle.s7_base.specs.Tokens.{is_same_word, is_word_byte}
 use Rattle.st_canonical.specs.Spelled as text
 use Rattle.st_grammar.specs.Kinds.{conversion_between, conversion_named, conversion_of_types, size_before_line, word_named, word_text}
 use Rattle.st_grammar.specs.declared.kind.OneOperand.{OneOperand}
 use Rattle.st_grammar.specs.declared.words.TheConstants.{WORDS}
-use Rattle.st_lexer.specs.Literals.{type_named}
-use Rattle.st_lexer.specs.StTokens.{is_letter}
-use Rattle.st_tree.specs.Naming.{conversion_word, is_conversion, is_conversion_word, is_name, keywords, types}
-use Rattle.st_tree.specs.Words.{type_word}
-use Rattle.st_tree.specs.declared.expr.StType.{StType}
+use Rattle.st_lexer.proofs.Common.{type_named, is_letter, StType}
+use Rattle.st_tree.specs.Naming.{is_conversion_word, keywords, types}
 use Rattle.st_tree.specs.declared.expr.StType.TheVariants as type
 
 -- Keywords

@@ -1,45 +1,24 @@
 -- A canonical text reads as its form: its declarations, units and globals, each before what is read after it.
-use Rattle.std.proofs.Common.{◌≡◌, ℕ, List, [], ◌∷◌, ◌++◌, map, false, Option, None, Ok, refl, sym, ap, ◌∙◌, append-nil, Bool, true, append_assoc, ◌+◌, ◌-◌, ◌==◌, length, Some}
-use Rattle.std.specs.Prelude.{flat_map, codes, if◌then◌else◌, decimal}
-use Rattle.s7_base.specs.Tokens.{line_at_end, line_after}
-use Rattle.s7_base.specs.declared.reason.Line.{Line}
-use Rattle.st_lexer.specs.StTokens.{answer, answer_to, first_bad, tokens_of}
-use Rattle.st_tree.specs.declared.token.StToken.{StToken}
+use Rattle.st_tree.proofs.Common.{◌≡◌, ℕ, List, [], ◌∷◌, ◌++◌, map, false, Option, None, Ok, refl, sym, ap, ◌∙◌, append-nil, Bool, true, append_assoc, ◌+◌, ◌-◌, ◌==◌, length, Some, flat_map, codes, if◌then◌else◌, decimal, line_at_end, line_after, Line, unit_text, local_text, names_in, bit_text, block_text, byte_text, global_text, list_behind, place_text, digits, DataBlock, Area, Width, width_at, area_word, width_word}
+use Rattle.st_lexer.proofs.Common.{answer, answer_to, first_bad, tokens_of, StToken, StProgram, Local, Pou, ends_word, place_in, Located}
 use Rattle.st_canonical.proofs.Cuts.{IsCut, ReadsOn, reads_as, reads_end, reads_blank, reads_line, reads_line_end}
-use Rattle.st_canonical.specs.Canonical.{globals_from, source_of, units_from, body_from, locals_from, on, section_from, statement_from, unit_from, area_form, block_name, blocks_from, items_behind, items_form, located_from, run_behind}
+use Rattle.st_canonical.proofs.Common.{globals_from, source_of, units_from, body_from, locals_from, on, section_from, statement_from, unit_from, area_form, block_name, blocks_from, items_behind, items_form, located_from, run_behind, Kind, Fixed}
 use Rattle.st_canonical.specs.CanonicalLaws.{CanonicalTextReads}
-use Rattle.st_grammar.specs.Forms.{no_unit, Locals, no_local, local, Units, Globals, no_global, global, Items, no_item, single, times, plain, bytes}
-use Rattle.st_grammar.specs.Grammar.{spell_source, spell_units, end_word, spell_all, spell_formals, spell_head, spell_locals, spell_section, spell_temps, comma_past, spell_globals, spell_initial, spell_items, spell_type}
-use Rattle.st_grammar.specs.Kinds.{kind_of, fixed_text}
-use Rattle.st_grammar.specs.Syntax.{all_lined, kinds}
+use Rattle.st_grammar.proofs.Common.{no_unit, Locals, no_local, local, Units, Globals, no_global, global, Items, no_item, single, times, plain, bytes, spell_source, spell_units, end_word, spell_all, spell_formals, spell_head, spell_locals, spell_section, spell_temps, comma_past, spell_globals, spell_initial, spell_items, spell_type, kind_of, fixed_text, all_lined, kinds}
 use Rattle.st_grammar.specs.declared.kind.Fixed.TheVariants as fixed
-use Rattle.st_grammar.specs.declared.kind.Kind.{Kind}
 use Rattle.st_grammar.specs.declared.kind.Kind.TheVariants as kind
-use Rattle.st_tree.specs.Spelling.{globals_text, spelling, unit_text, line as line_text, local_text, names_in, section_text, unit_word, bit_text, block_text, byte_text, global_text, initial_text, list_behind, place_text, place_word, run_text}
-use Rattle.st_tree.specs.declared.program.StProgram.{StProgram}
+use Rattle.st_tree.specs.Spelling.{globals_text, spelling, line as line_text, section_text, unit_word, initial_text, place_word, run_text}
 use Rattle.st_canonical.proofs.CutExpressions.{two, three}
 use Rattle.st_canonical.proofs.CutStatements.{Passes, reads_body, PassesWord}
 use Rattle.st_canonical.proofs.CutWords.{is_keyword, reads_colon, reads_fixed, reads_lead, reads_name, reads_semicolon, reads_type, reads_becomes, reads_close, reads_close_square, reads_comma, reads_dots, reads_open, reads_open_square}
 use Rattle.st_grammar.specs.Grammar as grammar
-use Rattle.st_grammar.specs.declared.kind.Fixed.{Fixed}
 use Rattle.st_grammar.specs.declared.kind.Lead.TheVariants as lead
-use Rattle.st_tree.specs.declared.program.Local.{Local}
-use Rattle.st_tree.specs.declared.program.Pou.{Pou}
 use Rattle.st_tree.specs.declared.raw.RawVar.TheVariants as var
-use Rattle.std.specs.Fmt.{digits}
-use Rattle.memory_areas.specs.declared.data_block.DataBlock.{DataBlock}
-use Rattle.memory_areas.specs.declared.place.Area.{Area}
 use Rattle.memory_areas.specs.declared.place.Area.TheVariants as place
 use Rattle.memory_areas.specs.declared.place.AreaName.TheVariants as area
-use Rattle.s7_base.specs.declared.word.Width.{Width}
 use Rattle.s7_base.specs.declared.word.Width.TheVariants as width
-use Rattle.st_lexer.specs.Spelled.{ends_word}
-use Rattle.st_lexer.specs.SpellingLaws.{place_in}
 use Rattle.st_canonical.proofs.CutLiterals.{reads_byte, reads_decimal, reads_place}
-use Rattle.st_tree.specs.Values.{width_at}
-use Rattle.st_tree.specs.Words.{area_word, width_word}
 use Rattle.st_tree.specs.declared.expr.StType.TheVariants as type
-use Rattle.st_tree.specs.declared.program.Located.{Located}
 
 -- a word alone on a line
 pub reads_word_line : {line : ℕ} {more : List ℕ} {ks : List Kind} (level : ℕ) (f : Fixed) → is_keyword (fixed_text f) ≡ true → ReadsOn (line_after line) more ks

@@ -11,10 +11,9 @@ use Rattle.st_types_laws.proofs.BlockSizes.{IsBlock, runs_size}
 use Rattle.st_types_laws.proofs.PlainNumbers.{written}
 use Rattle.st_lexer.proofs.Words.{and_both}
 use Rattle.st_lexer.specs.Spelled.{is_byte, is_decimal}
-use Rattle.st_canonical.specs.Canonical.{block_name, items_behind, items_form, run_behind}
+use Rattle.st_canonical.proofs.Common.{block_name, items_behind, items_form, run_behind, is_name}
 use Rattle.st_grammar.proofs.Common.{Items, no_item, single, times, GlobalType, plain, bytes, Globals, no_global, global, tree_items, spell_items, conversion_named, size_before_line, word_named, word_text, deepest, levels_globals, levels_items, levels_type, AllWithin}
 use Rattle.st_grammar.specs.Levels.{levels_initial, levels_past}
-use Rattle.st_canonical.specs.Spelled.{is_name}
 use Rattle.st_rules.specs.Globals.{contents, total}
 
 -- Names

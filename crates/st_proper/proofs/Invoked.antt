@@ -2,8 +2,7 @@
 use Rattle.st_proper.proofs.Spells.{Spells, comma_spells}
 use Rattle.st_tree.proofs.Common.{◌≡◌, ℕ, suc, ◌++◌, Bool, true, false, List, [], ◌∷◌, Option, Some, None, Ok, refl, sym, ap, ◌∙◌, arith, option_map, slice_get, fold, and_parts, slice_get-map, Line, key_of, formals_of, unit_name, Names, are_given, has_type, head_of, is_call, is_well_typed, variable_type}
 use Rattle.std.proofs.lemmas.List.{append-nil, append_assoc}
-use Rattle.st_canonical.specs.Canonical.{actuals_from, on, raw_var, statement_from}
-use Rattle.st_canonical.specs.Spelled.{is_name}
+use Rattle.st_canonical.proofs.Common.{actuals_from, on, raw_var, statement_from, is_name}
 use Rattle.st_grammar.proofs.Common.{Actuals, no_actual, actual, invoke, on_line, tree_actuals, spell_actuals}
 use Rattle.st_types_laws.proofs.Actions.{calls_invoke}
 use Rattle.st_types_laws.proofs.Bounds.{bound}

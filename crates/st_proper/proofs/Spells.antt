@@ -1,8 +1,7 @@
 -- What a part spells, tokens can have where they can have what stands behind it.
 use Rattle.st_tree.proofs.Common.{◌≡◌, Bool, true, false, List, refl, Line}
-use Rattle.st_canonical.specs.Spelled.{AreSpelled, is_spelled}
+use Rattle.st_canonical.proofs.Common.{AreSpelled, is_spelled, Kind}
 use Rattle.st_grammar.proofs.Common.{Actuals, no_actual, actual, Arms, no_arm, arm, Items, no_item, arm_word, comma_behind, comma_past, end_word, spell_initial, spell_items, unit_word}
-use Rattle.st_grammar.specs.declared.kind.Kind.{Kind}
 
 -- tokens can have what is spelled before others
 abbrev pub Spells : (List Kind → List Kind) → Type 0

@@ -1,12 +1,10 @@
 -- The units of a proper tree, in their canonical form: they are of the language, tokens can have
 -- their names, they nest no deeper than they may, and they declare what the tree has.
 use Rattle.st_proper.proofs.Spells.{Spells, end_word_spelled, unit_word_spelled}
-use Rattle.st_grammar.specs.declared.kind.Kind.{Kind}
+use Rattle.st_canonical.proofs.Common.{Kind, Placed, body_from, locals_from, on, section_from, statement_from, unit_from, units_from, is_name, is_spelled}
 use Rattle.st_tree.proofs.Common.{◌≡◌, ◌≢◌, ℕ, Bool, true, false, List, [], ◌∷◌, map, refl, All, Line, line_after, IsFormal, IsLocal, IsProperUnit, head_of, names_in}
 use Rattle.st_canonical.proofs.SameNames.{spelled_name}
-use Rattle.st_canonical.specs.Canonical.{Placed, body_from, locals_from, on, section_from, statement_from, unit_from, units_from}
 use Rattle.st_grammar.proofs.Common.{Statements, Locals, no_local, local, Section, absent, present, Units, no_unit, AllFit, FormalsFit, HeadFits, IfPresent, LocalsFit, UnitsFit, held, is_formal_type, spell_all, spell_locals, spell_section, spell_units, tree_all, tree_locals, tree_units, levels_all, levels_locals, levels_section, levels_units}
-use Rattle.st_canonical.specs.Spelled.{is_name, is_spelled}
 use Rattle.st_proper.proofs.BlockForms.{AreWithin, low}
 use Rattle.st_types_laws.proofs.Lists.{Behind, Each, EachPair, each_of, none_behind, one_behind, pairs_behind}
 use Rattle.st_lexer.proofs.Common.{StType, Local, Pou, StProgram, RawPou}

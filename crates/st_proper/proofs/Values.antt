@@ -5,10 +5,8 @@ use Rattle.std.proofs.lemmas.Bool.{le-leb, lt-ltb}
 use Rattle.memory_areas.specs.Access.{is_byte_in}
 use Rattle.memory_areas.specs.declared.place.AreaName.TheVariants as area
 use Rattle.s7_base.specs.declared.word.Width.TheVariants as width
-use Rattle.st_canonical.specs.Canonical.{literal_form}
-use Rattle.st_canonical.specs.Spelled.{is_literal}
+use Rattle.st_canonical.proofs.Common.{literal_form, is_literal, Literal}
 use Rattle.st_grammar.specs.Grammar.{is_value as is_literal_value, label_tree, literal_tree}
-use Rattle.st_grammar.specs.declared.kind.Literal.{Literal}
 use Rattle.st_tree.specs.declared.raw.RawExpr.TheVariants as raw
 use Rattle.st_lexer.proofs.Words.{and_both}
 use Rattle.st_lexer.proofs.Common.{greatest, is_signed, StType}

@@ -2,8 +2,7 @@
 use Rattle.st_tree.proofs.Common.{◌≡◌, ℕ, List, Bool, true, false, ◌&&◌, Option, Some, None, Ok, refl, ap, subst, ◌∙◌, slice_get, Reg, key_of, is_block_number, is_place, type_of_register, Names, type_of_width, where_true, is_seen, on_type, type_inside, type_outside, variable_type, register_word}
 use Rattle.memory_areas.specs.declared.place.AreaName.TheVariants as area
 use Rattle.s7_base.specs.declared.register.Reg.TheVariants as reg
-use Rattle.st_canonical.specs.Canonical.{raw_var}
-use Rattle.st_canonical.specs.Spelled.{is_name, is_variable}
+use Rattle.st_canonical.proofs.Common.{raw_var, is_name, is_variable}
 use Rattle.st_grammar.specs.Kinds.{word_named, word_text}
 use Rattle.st_lexer.proofs.Words.{and_both}
 use Rattle.st_proper.proofs.Scope.{Means, Sees, sight_by}

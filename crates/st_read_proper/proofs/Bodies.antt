@@ -1,7 +1,6 @@
 -- The statements of a unit that break no rule are well typed, and nest no deeper than they are written: a call gives
 -- each formal of a function a variable of its type.
-use Rattle.std.proofs.Common.{◌≡◌, Bool, true, [], map, Some, sym, ap, ◌∙◌, ℕ, false, ◌&&◌, ◌||◌, cond, List, ◌∷◌, ◌++◌, Option, None, is_some, is_none, Result, refl, subst, arith}
-use Rattle.s7_base.specs.declared.reason.Line.{Line}
+use Rattle.st_tree.proofs.Common.{◌≡◌, Bool, true, [], map, Some, sym, ap, ◌∙◌, ℕ, false, ◌&&◌, ◌||◌, cond, List, ◌∷◌, ◌++◌, Option, None, is_some, is_none, Result, refl, subst, arith, Line, Sight, are_given, has_type, variable_type, slice_get, fold, Reason, broken, key_of, is_type, Break}
 use Rattle.st_grammar.specs.Forms.{Form, Statement, assign, write, invoke, choice, choice_else, cases, cases_else, loop, jump, Statements, none, empty, further, Arms, no_arm, arm, CaseArms, no_case, case_arm, Actuals, no_actual, actual}
 use Rattle.st_grammar.specs.Grammar.{AllFit, ArmsFit, Binds, CasesFit, Fits, arm_of as raw_arm, case_of as raw_case, tree, tree_all, tree_arms, tree_cases, tree_labels, tree_one, spell, spell_all, spell_arms, spell_cases, spell_one, tree_actuals, spell_actuals}
 use Rattle.st_read_proper.proofs.Worded.{Worded, all_behind, arms_behind, cases_behind, form_behind, labels_behind, actuals_behind, comma_past_actuals}
@@ -11,37 +10,23 @@ use Rattle.st_types_laws.proofs.Parts.{arm_clean, assign_clean, assign_fits, bre
 use Rattle.st_types_laws.proofs.Lists.{map_last, nil_first, nil_second}
 use Rattle.st_read_proper.proofs.Statements.{FoundAll, FoundArms, FoundCases, FoundOne, of_arm, of_assign, of_case_arm, of_cases, of_cases_else, of_choice, of_choice_else, of_empty, of_further, of_jump, of_loop, of_no_arm, of_no_case, of_none, of_write}
 use Rattle.st_read_proper.proofs.Sees.{by_entry, Sees, variable_has, IsCallable}
-use Rattle.st_tree.specs.WellTyped.{Sight, are_given, has_type, variable_type}
-use Rattle.st_tree.specs.declared.expr.StType.{StType}
-use Rattle.st_rules.specs.Judged.{Judged, breaks_in, breaks_rule, listed, sound}
-use Rattle.st_rules.specs.Expressions.{expression, answered, variable_on}
-use Rattle.st_rules.specs.Statements.{arm as arm_in, arms_on, case_arm as case_arm_in, case_arms_on, selector, statement, statements, type_of_selector}
+use Rattle.st_lexer.proofs.Common.{StType, Var, Local, Stmt}
+use Rattle.st_rules.proofs.Common.{Judged, breaks_in, breaks_rule, listed, sound, expression, answered, variable_on, arms_on, case_arms_on, selector, statement, statements, type_of_selector, Actual, Given, callee, formal_breaks, given_by, in_order, lacks, with_actual, Table, look_up, with_entry, meaning_in}
+use Rattle.st_rules.specs.Statements.{arm as arm_in, case_arm as case_arm_in}
 use Rattle.st_rules.specs.declared.expression.Typed.{Typed}
 use Rattle.st_rules.specs.declared.scope.Scope.{Scope}
-use Rattle.std.specs.Prelude.{slice_get}
-use Rattle.std.specs.List.{fold}
-use Rattle.s7_base.specs.declared.reason.Reason.{Reason}
 use Rattle.s7_base.specs.declared.reason.Reason.TheVariants.{TypeMismatch}
 use Rattle.st_canonical.specs.Spelled.{is_variable}
 use Rattle.st_types_laws.proofs.Actions.{act_invoke, calls_invoke}
 use Rattle.st_types_laws.proofs.Called.{AreTyped, are_typed, call_is}
 use Rattle.st_types_laws.proofs.Apart.{same_keys}
-use Rattle.s7_base.specs.Broken.{broken}
-use Rattle.st_rules.specs.Invocations.{Actual, Given, call_of, callee, formal_breaks, function_call, given_by, in_order, lacks, none_given, plain, var_given, with_actual}
-use Rattle.st_rules.specs.Names.{Table, look_up, with_entry}
-use Rattle.st_tree.specs.Naming.{key_of}
-use Rattle.st_rules.specs.Scopes.{meaning_in}
-use Rattle.st_tree.specs.TypeRules.{is_type}
-use Rattle.s7_base.specs.declared.broken.Break.{Break}
+use Rattle.st_rules.specs.Invocations.{call_of, function_call, none_given, plain, var_given}
 use Rattle.st_rules.specs.declared.scope.Formals.{Formals}
 use Rattle.st_rules.specs.declared.scope.Meaning.{Meaning}
 use Rattle.st_rules.specs.declared.scope.Meaning.TheVariants as meaning
 use Rattle.st_rules.specs.declared.variable.TypedVar.{TypedVar}
 use Rattle.st_tree.proofs.CalledMost.{called_invoke}
 use Rattle.st_tree.proofs.TypingEquations.{good_invoke, nesting_invoke}
-use Rattle.st_tree.specs.declared.expr.Var.{Var}
-use Rattle.st_tree.specs.declared.program.Local.{Local}
-use Rattle.st_tree.specs.declared.program.Stmt.{Stmt}
 use Rattle.st_tree.specs.declared.program.Stmt.TheVariants as stmt
 use Rattle.st_types_laws.proofs.Declared.{keys_of_locals}
 

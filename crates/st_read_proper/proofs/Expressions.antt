@@ -1,28 +1,18 @@
 -- An expression that breaks no rule is well typed, and nests no deeper than it is written.
 use Rattle.st_read_proper.proofs.Worded.{Worded, form_behind, literal_is}
-use Rattle.std.proofs.Common.{◌≡◌, true, [], Some, Result, Ok, Err, refl, sym, ap, subst, ◌∙◌, arith, ℕ, suc, ◌+◌, ◌-◌, ◌<◌, ◌≤◌, Bool, false, max}
-use Rattle.std.specs.Prelude.{nat_lt, if◌then◌else◌}
-use Rattle.std.proofs.lemmas.Bool.Decides.{nat_tests}
+use Rattle.st_tree.proofs.Common.{◌≡◌, true, [], Some, Result, Ok, Err, refl, sym, ap, subst, ◌∙◌, arith, ℕ, suc, ◌+◌, ◌-◌, ◌<◌, ◌≤◌, Bool, false, max, nat_lt, if◌then◌else◌, nat_tests, form_height, form_nesting, Line, Reason, Width, canon, infix_level, level, unary_form, wrap, is_conversion, where_true, Sight, expression_type, on_type}
 use Rattle.st_grammar.specs.Grammar as grammar
-use Rattle.st_grammar.specs.Levels.{height}
+use Rattle.st_grammar.proofs.Common.{height, Form, literal, variable, group, prefix, infix_of, apply, shift, select, Binds, label_tree, tree, spell}
 use Rattle.st_canonical.proofs.Levels.{nest}
-use Rattle.st_tree.specs.Nesting.{form_height, form_nesting}
-use Rattle.s7_base.specs.declared.reason.Line.{Line}
-use Rattle.s7_base.specs.declared.reason.Reason.{Reason}
-use Rattle.s7_base.specs.declared.word.Width.{Width}
 use Rattle.st_canonical.proofs.SameNames.{between}
-use Rattle.st_canonical.specs.Spelled.{is_function, is_literal, is_variable}
-use Rattle.st_grammar.specs.Forms.{Form, literal, variable, group, prefix, infix_of, apply, shift, select}
-use Rattle.st_grammar.specs.Grammar.{Binds, label_tree, tree, spell}
-use Rattle.st_grammar.specs.declared.kind.Literal.{Literal}
+use Rattle.st_canonical.proofs.Common.{is_function, is_literal, is_variable, Literal}
 use Rattle.st_grammar.specs.declared.kind.OneOperand.TheVariants as one
 use Rattle.st_grammar.specs.declared.kind.Prefix.TheVariants as before
 use Rattle.st_types_laws.proofs.Operands.{IsClean, area_by, area_operand, binary_by, binary_operands, convert_by, convert_operand, has_type, is_typed, select_by, select_operands, shift_by, shift_operands, unary_by, unary_operand}
 use Rattle.st_types_laws.proofs.ReadEquations.{read_literal, read_variable}
 use Rattle.st_read_proper.proofs.Sees.{Sees, variable_has}
 use Rattle.st_read_proper.proofs.Values.{label_value, tree_of_label}
-use Rattle.st_rules.specs.Judged.{Judged, sound}
-use Rattle.st_rules.specs.Expressions.{answered, expression}
+use Rattle.st_rules.proofs.Common.{Judged, sound, answered, expression}
 use Rattle.st_rules.specs.Variables.{variable as variable_in}
 use Rattle.st_rules.specs.declared.expression.Typed.{Typed}
 use Rattle.st_rules.specs.declared.scope.Scope.{Scope}
@@ -30,18 +20,10 @@ use Rattle.st_rules.specs.declared.variable.TypedVar.{TypedVar}
 use Rattle.st_tree.proofs.Equations.{canon_area_read, canon_binary, canon_convert, canon_literal, canon_read, canon_select, canon_shift, canon_unary}
 use Rattle.st_tree.proofs.TypingEquations.{typed_area_read, typed_binary, typed_convert, typed_literal, typed_read, typed_select, typed_shift, typed_unary}
 use Rattle.st_tree.specs.Form as canonical
-use Rattle.st_tree.specs.Form.{canon, infix_level, level, unary_form, wrap}
-use Rattle.st_tree.specs.Naming.{is_conversion}
-use Rattle.st_tree.specs.TypeRules.{where_true}
-use Rattle.st_tree.specs.WellTyped.{Sight, expression_type, on_type}
-use Rattle.st_tree.specs.declared.expr.BinaryOp.{BinaryOp}
+use Rattle.st_lexer.proofs.Common.{BinaryOp, ShiftOp, StType, UnaryOp, RawVar}
 use Rattle.st_tree.specs.declared.expr.Expr.TheVariants as expr
-use Rattle.st_tree.specs.declared.expr.ShiftOp.{ShiftOp}
-use Rattle.st_tree.specs.declared.expr.StType.{StType}
-use Rattle.st_tree.specs.declared.expr.UnaryOp.{UnaryOp}
 use Rattle.st_tree.specs.declared.expr.UnaryOp.TheVariants as unary
 use Rattle.st_tree.specs.declared.raw.RawExpr.TheVariants as raw
-use Rattle.st_tree.specs.declared.raw.RawVar.{RawVar}
 
 -- The brackets that the tree of an expression needs stand in each form that has the tree: it nests no deeper
 

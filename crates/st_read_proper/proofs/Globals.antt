@@ -1,42 +1,22 @@
 -- The globals of a tree that was read have names that a global may have, and lie on I, Q or M at places of
-use Rattle.std.proofs.lemmas.Bool.{and_parts}
-use Rattle.std.proofs.Common.{◌≡◌, ◌≢◌, ℕ, Bool, true, false, ◌&&◌, List, [], ◌∷◌, ◌++◌, Some, None, refl, sym, subst, zero, suc, ◌+◌, ◌<◌, cond, length, replicate, Option, ap, ◌∙◌, arith, append-nil}
-use Rattle.std.specs.Prelude.{if◌then◌else◌, All, nat_lt}
-use Rattle.std.proofs.lemmas.Grind.{flat_map-append}
-use Rattle.memory_areas.specs.declared.place.AreaName.{AreaName}
+use Rattle.st_tree.proofs.Common.{and_parts, ◌≡◌, ◌≢◌, ℕ, Bool, true, false, ◌&&◌, List, [], ◌∷◌, ◌++◌, Some, None, refl, sym, subst, zero, suc, ◌+◌, ◌<◌, cond, length, replicate, Option, ap, ◌∙◌, arith, append-nil, if◌then◌else◌, All, nat_lt, flat_map-append, AreaName, Width, is_free, is_name, IsGlobal, IsDataBlock, width_at, has_width, list_all, nat_tests, All-cons, All-nil, list_all-append, fold-append, DataBlock, MOST_BLOCKS}
 use Rattle.memory_areas.specs.declared.place.AreaName.TheVariants as area
-use Rattle.s7_base.specs.declared.word.Width.{Width}
 use Rattle.s7_base.specs.declared.word.Width.TheVariants as width
 use Rattle.st_lexer.specs.Spelled as written
-use Rattle.st_grammar.specs.Forms.{GlobalType, plain, bytes, Globals, no_global, global, Items, no_item, single, times}
-use Rattle.st_grammar.specs.Grammar.{GlobalsFit, is_global, tree_globals, tree_type, spell_globals, tree_items, spell_items, spell_type}
+use Rattle.st_grammar.proofs.Common.{GlobalType, plain, bytes, Globals, no_global, global, Items, no_item, single, times, GlobalsFit, is_global, tree_globals, tree_type, spell_globals, tree_items, spell_items, spell_type}
 use Rattle.st_canonical.specs.Spelled.{is_name as spelled_name, is_variable}
 use Rattle.st_types_laws.proofs.DeclaredNames.{same_width}
 use Rattle.st_types_laws.proofs.Lists.{Each, each_append}
 use Rattle.st_canonical.proofs.SameNames.{name_is}
 use Rattle.st_read_proper.proofs.Sees.{place_is}
 use Rattle.st_read_proper.proofs.Worded.{Worded, globals_behind, comma_past_items, initial_worded, items_behind}
-use Rattle.st_tree.specs.Naming.{is_free, is_name}
 use Rattle.st_tree.specs.PlaceRules as places
-use Rattle.st_tree.specs.Proper.{IsGlobal, IsDataBlock}
-use Rattle.st_tree.specs.Values.{width_at}
-use Rattle.st_tree.specs.declared.expr.StType.{StType}
+use Rattle.st_lexer.proofs.Common.{StType, RawGlobal, RawVar, is_byte}
 use Rattle.st_tree.specs.declared.expr.StType.TheVariants as type
-use Rattle.st_tree.specs.declared.raw.RawGlobal.{RawGlobal}
-use Rattle.st_tree.specs.declared.raw.RawVar.{RawVar}
 use Rattle.st_tree.specs.declared.raw.RawVar.TheVariants as raw
-use Rattle.st_rules.specs.Judged.{listed}
-use Rattle.st_rules.specs.Globals.{all_located, area_of, located_at, located_in, located_of, all_blocks, block_at, block_number, block_of, contents, has_block_address, has_block_form, inserted, is_small_enough, with_block}
-use Rattle.st_tree.specs.TypeRules.{has_width}
-use Rattle.st_rules.specs.Variables.{is_address}
-use Rattle.std.specs.List.{flat_map, list_all}
-use Rattle.std.proofs.lemmas.Bool.Decides.{nat_tests}
-use Rattle.std.proofs.lemmas.List.Elements.{All-cons, All-nil}
-use Rattle.std.proofs.lemmas.List.Folds.{list_all-append}
-use Rattle.std.proofs.lemmas.List.Sums.{fold-append}
-use Rattle.memory_areas.specs.declared.data_block.DataBlock.{DataBlock}
-use Rattle.memory_areas.specs.declared.sizes.TheConstants.{MOST_BLOCKS}
-use Rattle.st_lexer.specs.Spelled.{is_byte}
+use Rattle.st_rules.proofs.Common.{listed, all_located, area_of, located_at, located_of, all_blocks, block_at, block_number, block_of, contents, has_block_address, has_block_form, inserted, is_small_enough, with_block, is_address}
+use Rattle.st_rules.specs.Globals.{located_in}
+use Rattle.std.specs.List.{flat_map}
 use Rattle.st_types_laws.proofs.BlockSizes.{is_block}
 
 -- Globals on I, Q or M

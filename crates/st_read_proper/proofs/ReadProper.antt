@@ -1,12 +1,8 @@
 -- What a text reads as is proper; chains of calls in its tree are short, where it breaks no rule.
 use Rattle.st_grammar.specs.declared.kind.Fixed.TheVariants as fixed
 use Rattle.st_grammar.specs.declared.kind.Kind.TheVariants as kind
-use Rattle.std.proofs.Common.{◌≡◌, ◌≢◌, ℕ, ◌+◌, ◌≤◌, max, true, false, List, [], ◌∷◌, map, Some, refl, sym, ap, subst, ◌∙◌, arith, zero, suc, Bool, ◌||◌, length, get_or, Option, None}
-use Rattle.std.specs.Prelude.{slice_get, replicate}
-use Rattle.st_grammar.specs.Forms.{Globals, Section, Source, absent, present}
-use Rattle.st_grammar.specs.Grammar.{GlobalsFit, IfPresent, SourceFits, held, raw_tree, tree_all, tree_globals, spell_globals, spell_section, spell_source, spell_units}
-use Rattle.st_grammar.specs.Levels.{deepest, levels_globals, levels_section, levels_source}
-use Rattle.st_grammar.specs.Syntax.{AllWithin}
+use Rattle.st_tree.proofs.Common.{◌≡◌, ◌≢◌, ℕ, ◌+◌, ◌≤◌, max, true, false, List, [], ◌∷◌, map, Some, refl, sym, ap, subst, ◌∙◌, arith, zero, suc, Bool, ◌||◌, length, get_or, Option, None, slice_get, replicate, body_nesting, IsDataBlock, IsFormal, IsGlobal, IsLocal, IsProperUnit, Proper, are_well_typed, head_of, sight_in, Head, list_any, get_or_from_slice_get, slice_get_within, ACTIVATIONS, Line, chain_of, chain_to, unit_chain}
+use Rattle.st_grammar.proofs.Common.{Globals, Section, Source, absent, present, GlobalsFit, IfPresent, SourceFits, held, raw_tree, tree_all, tree_globals, spell_globals, spell_section, spell_source, spell_units, deepest, levels_globals, levels_section, levels_source, AllWithin}
 use Rattle.st_read_proper.proofs.Bodies.{found_all}
 use Rattle.st_read_proper.proofs.Sees.{inner_apart, outer_apart, unit_sees}
 use Rattle.st_types_laws.proofs.Apart.{Lists}
@@ -20,35 +16,17 @@ use Rattle.st_read_proper.proofs.Statements.{FoundAll, of_heads, cost_of}
 use Rattle.st_read_proper.proofs.Units.{IsHeaded, WasRead, are_headed, were_read}
 use Rattle.st_read_proper.specs.ReadProper.{ReadsAreProper}
 use Rattle.st_read_proper.proofs.Worded.{AreWorded, Worded, globals_behind, section_behind, read_worded}
-use Rattle.st_rules.specs.Judged.{breaks_in, found_in}
-use Rattle.st_rules.specs.Calls.{all_calls}
-use Rattle.st_rules.specs.Declarations.{all_inside, formals_of}
-use Rattle.st_rules.specs.Globals.{all_blocks, all_located}
-use Rattle.st_rules.specs.Statements.{statements}
-use Rattle.st_rules.specs.Typed.{HasTree, calls_in, names_of}
-use Rattle.st_rules.specs.Units.{breaks_of_unit, calls_of_unit, scope_in, unit_of}
+use Rattle.st_rules.proofs.Common.{breaks_in, found_in, all_calls, all_inside, formals_of, all_blocks, all_located, statements, HasTree, calls_in, names_of, breaks_of_unit, calls_of_unit, scope_in, unit_of, long_chains}
 use Rattle.st_rules.specs.declared.scope.Scope.{Scope}
 use Rattle.st_tree.proofs.CalledMost.{called_most}
-use Rattle.st_tree.specs.Nesting.{body_nesting}
-use Rattle.st_tree.specs.Proper.{IsDataBlock, IsFormal, IsGlobal, IsLocal, IsProperUnit, Proper}
-use Rattle.st_tree.specs.WellTyped.{are_well_typed, head_of, sight_in, Head}
-use Rattle.st_tree.specs.declared.program.Pou.{Pou}
-use Rattle.st_tree.specs.declared.program.StProgram.{StProgram}
-use Rattle.st_tree.specs.declared.program.Stmt.{Stmt}
-use Rattle.st_tree.specs.declared.raw.RawPou.{RawPou}
-use Rattle.st_tree.specs.declared.raw.RawSt.{RawSt}
+use Rattle.st_lexer.proofs.Common.{Pou, StProgram, Stmt, RawPou, RawSt}
 use Rattle.st_tree.specs.declared.raw.RawStmt.{RawStmt}
 use Rattle.st_types_laws.proofs.DeclaredNames.{gather_inside, inner_entries, local_entries}
 use Rattle.st_types_laws.proofs.DeclaredTree.{IsDeclared, are_blocks, sound_units, formals_same, is_declared, scope_declares, unit_there}
-use Rattle.std.specs.List.{list_any}
 use Rattle.std.proofs.lemmas.List.{get_or-replicate}
-use Rattle.std.proofs.lemmas.Option.{get_or_from_slice_get, slice_get_within}
 use Rattle.call_chains.specs.Chain.{Graph, calls_one, chains}
 use Rattle.call_chains.specs.declared.call.Call.{Call}
-use Rattle.memory_areas.specs.declared.sizes.TheConstants.{ACTIVATIONS}
-use Rattle.s7_base.specs.declared.reason.Line.{Line}
-use Rattle.st_rules.specs.LongChains.{chain_break, long_chains}
-use Rattle.st_tree.specs.Chains.{chain_of, chain_to, unit_chain}
+use Rattle.st_rules.specs.LongChains.{chain_break}
 use Rattle.s7_base.proofs.FirstBreak.{first_of_all_is_first}
 
 -- the calls of a unit, which cost no less than its statements

@@ -1,46 +1,26 @@
 -- What a scope says of a name stands where the unit of the tree sees it; and the variables of such a scope have
 -- their types.
-use Rattle.std.proofs.Common.{◌≡◌, ℕ, Bool, true, false, ◌&&◌, cond, List, Option, Some, None, Ok, Err, refl, ap, subst, ◌∙◌, suc, ◌+◌, not, ◌||◌, [], ◌∷◌, ◌++◌, map, sym, arith, nat_le}
-use Rattle.std.specs.Prelude.{slice_get, codes, decimal}
-use Rattle.memory_areas.specs.declared.place.AreaName.{AreaName}
+use Rattle.st_tree.proofs.Common.{◌≡◌, ℕ, Bool, true, false, ◌&&◌, cond, List, Option, Some, None, Ok, Err, refl, ap, subst, ◌∙◌, suc, ◌+◌, not, ◌||◌, [], ◌∷◌, ◌++◌, map, sym, arith, nat_le, slice_get, codes, decimal, AreaName, Width, and_parts, key_of, is_same, are_apart, is_block_number, type_of_register, where_true, type_of_width, Head, Sight, is_seen, type_inside, type_outside, variable_type, head_of, keys_of, sight_in, list_any, Reg, DataBlock, outer_keys, names_in}
 use Rattle.memory_areas.specs.declared.place.AreaName.TheVariants as area
 use Rattle.s7_base.specs.declared.reason.Reason.TheVariants.{BadAddress}
-use Rattle.s7_base.specs.declared.word.Width.{Width}
 use Rattle.st_canonical.specs.Spelled.{is_variable}
 use Rattle.st_lexer.specs.Spelled as written
-use Rattle.std.proofs.lemmas.Bool.{and_parts}
 use Rattle.st_types_laws.proofs.Keyed.{AreDistinct}
-use Rattle.st_tree.specs.Naming.{key_of, is_same, are_apart, is_new}
-use Rattle.st_rules.specs.Scopes.{meaning_in, as_register, or_else, register_named}
-use Rattle.st_tree.specs.PlaceRules.{is_block_number}
-use Rattle.st_rules.specs.Variables.{is_place, variable, variable_named, variable_of}
+use Rattle.st_tree.specs.Naming.{is_new}
+use Rattle.st_rules.proofs.Common.{meaning_in, as_register, or_else, register_named, variable, variable_named, Table, look_up}
+use Rattle.st_rules.specs.Variables.{is_place, variable_of}
 use Rattle.st_rules.specs.declared.scope.Formals.{Formals}
 use Rattle.st_rules.specs.declared.scope.Meaning.{Meaning}
 use Rattle.st_rules.specs.declared.scope.Meaning.TheVariants as meaning
 use Rattle.st_rules.specs.declared.scope.Scope.{Scope}
 use Rattle.st_rules.specs.declared.variable.TypedVar.{TypedVar}
 use Rattle.st_tree.specs.PlaceRules as places
-use Rattle.st_tree.specs.State.{type_of_register}
-use Rattle.st_tree.specs.TypeRules.{where_true}
-use Rattle.st_tree.specs.Values.{type_of_width}
-use Rattle.st_tree.specs.WellTyped.{Head, Sight, is_seen, type_inside, type_outside, variable_type, head_of, keys_of, sight_in}
-use Rattle.st_tree.specs.declared.expr.StType.{StType}
+use Rattle.st_lexer.proofs.Common.{StType, RawVar, Local, Located, Pou, StProgram}
 use Rattle.st_tree.specs.declared.expr.Var.TheVariants as var
-use Rattle.st_tree.specs.declared.raw.RawVar.{RawVar}
 use Rattle.st_tree.specs.declared.raw.RawVar.TheVariants as raw
 use Rattle.st_types_laws.proofs.Declared.{keys_of_locals, types_of_locals, Declares, IsGlobalAt, IsLocalAt}
-use Rattle.std.specs.List.{list_any}
-use Rattle.s7_base.specs.declared.register.Reg.{Reg}
-use Rattle.memory_areas.specs.declared.data_block.DataBlock.{DataBlock}
 use Rattle.st_types_laws.proofs.Lists.{Each, each_at, mapped_at, both_true}
 use Rattle.st_types_laws.proofs.Apart.{same_keys, AreApart, Lists}
-use Rattle.st_rules.specs.Names.{Table, look_up}
-use Rattle.st_tree.specs.Proper.{outer_keys}
-use Rattle.st_tree.specs.Spelling.{names_in}
-use Rattle.st_tree.specs.declared.program.Local.{Local}
-use Rattle.st_tree.specs.declared.program.Located.{Located}
-use Rattle.st_tree.specs.declared.program.Pou.{Pou}
-use Rattle.st_tree.specs.declared.program.StProgram.{StProgram}
 use Rattle.st_types_laws.proofs.EntryKeys.{inner_keys, keys_in, named_keys}
 use Rattle.st_types_laws.proofs.DeclaredNames.{block_entries, formal_entries, inner_entries, local_entries, located_entries, outer_entries, unit_entries}
 use Rattle.st_types_laws.proofs.DeclaredTree.{formals_in}

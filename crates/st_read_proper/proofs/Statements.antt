@@ -1,12 +1,6 @@
 -- Statements that break no rule, by their parts: they are well typed, nest no deeper than they are written, and
 -- call what the text calls.
-use Rattle.std.proofs.Common.{◌≡◌, ℕ, suc, ◌+◌, ◌≤◌, max, ◌++◌, ℤ, Bool, true, List, [], ◌∷◌, map, Option, Some, None, Ok, refl, ap, subst, ◌∙◌, arith}
-use Rattle.std.specs.List.{list_all}
-use Rattle.std.specs.Prelude.{slice_get}
-use Rattle.std.proofs.lemmas.Bool.{and_parts}
-use Rattle.std.proofs.lemmas.List.Folds.{list_all-append}
-use Rattle.s7_base.specs.declared.reason.Line.{Line}
-use Rattle.s7_base.specs.declared.word.Width.{Width}
+use Rattle.st_tree.proofs.Common.{◌≡◌, ℕ, suc, ◌+◌, ◌≤◌, max, ◌++◌, ℤ, Bool, true, List, [], ◌∷◌, map, Option, Some, None, Ok, refl, ap, subst, ◌∙◌, arith, list_all, slice_get, and_parts, list_all-append, Line, Width, greatest, arm_nesting, body_nesting, case_nesting, nesting, is_selector, type_of_width, Head, Sight, are_well_typed, each, each_case, is_arm, is_case_arm, is_some_of, is_well_typed, variable_type}
 use Rattle.st_grammar.specs.Forms.{Form, Labels, Statement, assign, write, choice, choice_else, cases, cases_else, loop, jump, Statements, none, empty, further, Arms, no_arm, arm, CaseArms, no_case, case_arm}
 use Rattle.st_grammar.specs.Grammar.{HasArm, HasCase, arm_of as raw_arm, case_of as raw_case, may_jump, tree, tree_all, tree_arms, tree_cases, tree_labels, tree_one}
 use Rattle.st_grammar.specs.declared.kind.Jump.{Jump}
@@ -19,27 +13,17 @@ use Rattle.st_canonical.proofs.Levels.{top_all, top_arms, top_cases, top_one}
 use Rattle.st_types_laws.proofs.Bounds.{all_last, arms_last, bound, bound_all, bound_arms, bound_case, bound_cases, bound_if, bound_while, cases_last, greatest_last}
 use Rattle.st_types_laws.proofs.Parts.{AreSound, arm_is, assign_is, case_arm_is, case_is, if_is, selector_is, test_is, values, while_is, write_is, writes, arms_sound_last, cases_sound_last, statements_last}
 use Rattle.st_types_laws.proofs.Lists.{map_last}
-use Rattle.st_rules.specs.Judged.{sound}
-use Rattle.st_rules.specs.Calls.{calls_of}
-use Rattle.st_rules.specs.Statements.{arm as arm_in, arms_on, case_arm as case_arm_in, case_arms_on, label_breaks, statement, statements}
+use Rattle.st_rules.proofs.Common.{sound, calls_of, arms_on, case_arms_on, label_breaks, statement, statements}
+use Rattle.st_rules.specs.Statements.{arm as arm_in, case_arm as case_arm_in}
 use Rattle.st_tree.specs.TypeRules as rules
 use Rattle.st_rules.specs.Variables.{variable as variable_in}
 use Rattle.st_rules.specs.declared.scope.Scope.{Scope}
 use Rattle.st_rules.specs.declared.variable.TypedVar.{TypedVar}
 use Rattle.st_tree.proofs.CalledMost.{called_area_write, called_assign, called_case, called_continue, called_exit, called_if, called_in_arm, called_in_case, called_last, called_most, called_return, called_while}
 use Rattle.st_tree.proofs.TypingEquations.{good_area_write, good_arm, good_assign, good_case, good_case_arm, good_continue, good_exit, good_if, good_return, good_while, nesting_area_write, nesting_arm, nesting_assign, nesting_case, nesting_case_arm, nesting_continue, nesting_exit, nesting_if, nesting_return, nesting_while}
-use Rattle.st_tree.specs.Depth.{greatest}
-use Rattle.st_tree.specs.Nesting.{arm_nesting, body_nesting, case_nesting, nesting}
-use Rattle.st_tree.specs.TypeRules.{is_selector}
-use Rattle.st_tree.specs.Values.{type_of_width}
-use Rattle.st_tree.specs.WellTyped.{Head, Sight, are_well_typed, each, each_case, is_arm, is_case_arm, is_some_of, is_well_typed, variable_type}
-use Rattle.st_tree.specs.declared.expr.StType.{StType}
+use Rattle.st_lexer.proofs.Common.{StType, Arm, CaseArm, Stmt, RawVar}
 use Rattle.st_tree.specs.declared.expr.StType.TheVariants as type
-use Rattle.st_tree.specs.declared.program.Arm.{Arm}
-use Rattle.st_tree.specs.declared.program.CaseArm.{CaseArm}
-use Rattle.st_tree.specs.declared.program.Stmt.{Stmt}
 use Rattle.st_tree.specs.declared.program.Stmt.TheVariants as stmt
-use Rattle.st_tree.specs.declared.raw.RawVar.{RawVar}
 
 -- what a unit costs that is there
 abbrev pub cost_of : Option Head → ℕ → ℕ

@@ -1,26 +1,16 @@
 -- The units of a tree that was read: their names, formals and locals are ones that they may have, and their
 -- statements are well typed.
-use Rattle.std.proofs.Common.{◌≡◌, ◌≢◌, ℕ, ◌≤◌, max, Bool, true, false, List, [], ◌∷◌, ◌++◌, map, refl, sym, subst, ◌∙◌, arith}
-use Rattle.std.proofs.lemmas.List.{map-append}
+use Rattle.st_tree.proofs.Common.{◌≡◌, ◌≢◌, ℕ, ◌≤◌, max, Bool, true, false, List, [], ◌∷◌, ◌++◌, map, refl, sym, subst, ◌∙◌, arith, map-append, is_name, may_name_unit, IsFormal, IsLocal}
 use Rattle.st_read_proper.proofs.Worded.{Worded, locals_behind, locals_section_behind, units_behind}
-use Rattle.st_grammar.specs.Forms.{Locals, Section, Statements, Units, absent, local, no_local, no_unit, present, unit, Head}
-use Rattle.st_grammar.specs.Grammar.{AllFit, FormalsFit, HeadFits, IfPresent, LocalsFit, UnitsFit, held, is_formal_type, tree_all, tree_locals, tree_units, spell_all, spell_formals, spell_locals, spell_temps, spell_units}
-use Rattle.st_grammar.specs.Levels.{deepest, levels_all, levels_locals, levels_section, levels_units}
-use Rattle.st_grammar.specs.Syntax.{AllWithin}
+use Rattle.st_grammar.proofs.Common.{Locals, Section, Statements, Units, absent, local, no_local, no_unit, present, unit, Head, AllFit, FormalsFit, HeadFits, IfPresent, LocalsFit, UnitsFit, held, is_formal_type, tree_all, tree_locals, tree_units, spell_all, spell_formals, spell_locals, spell_temps, spell_units, deepest, levels_all, levels_locals, levels_section, levels_units, AllWithin}
 use Rattle.st_types_laws.proofs.Lists.{Each, each_append}
 use Rattle.st_canonical.proofs.Levels.{all_within, greatest, greatest_within, top_all, top_of_all}
 use Rattle.st_canonical.proofs.SameNames.{name_is}
-use Rattle.st_rules.specs.Declarations.{local_of, locals_of}
-use Rattle.st_rules.specs.Names.{Table}
-use Rattle.st_rules.specs.Units.{all_units, unit_of}
+use Rattle.st_rules.proofs.Common.{local_of, locals_of, Table, all_units, unit_of}
 use Rattle.st_rules.specs.declared.scope.Formals.{Formals}
 use Rattle.st_rules.specs.declared.scope.Meaning.{Meaning}
-use Rattle.st_tree.specs.Naming.{is_name, may_name_unit}
-use Rattle.st_tree.specs.Proper.{IsFormal, IsLocal}
-use Rattle.st_tree.specs.declared.expr.StType.{StType}
+use Rattle.st_lexer.proofs.Common.{StType, Pou, RawPou}
 use Rattle.st_tree.specs.declared.expr.StType.TheVariants as type
-use Rattle.st_tree.specs.declared.program.Pou.{Pou}
-use Rattle.st_tree.specs.declared.raw.RawPou.{RawPou}
 
 -- Formals and locals
 

@@ -1,33 +1,17 @@
 -- A literal that tokens can have has a value of its type.
-use Rattle.std.proofs.Common.{◌≡◌, ℕ, suc, ◌<◌, ◌≤◌, ◌+◌, ◌-◌, ◌%◌, ◌^◌, ℤ, pos, negsuc, Bool, true, false, ◌&&◌, cond, refl, ap, ◌∙◌, arith, List, [], ◌∷◌, ◌++◌, Some, sym, subst}
-use Rattle.std.proofs.Math.Nat.{mod-eq_of_lt}
-use Rattle.std.specs.Prelude.{nat_le, nat_lt}
-use Rattle.std.specs.Ordering.{int_eq}
-use Rattle.std.proofs.lemmas.Bool.{leb-true, and_parts}
-use Rattle.std.proofs.lemmas.List.Folds.{list_all-append}
-use Rattle.std.proofs.lemmas.Bool.Decides.{nat_tests}
+use Rattle.st_tree.proofs.Common.{◌≡◌, ℕ, suc, ◌<◌, ◌≤◌, ◌+◌, ◌-◌, ◌%◌, ◌^◌, ℤ, pos, negsuc, Bool, true, false, ◌&&◌, cond, refl, ap, ◌∙◌, arith, List, [], ◌∷◌, ◌++◌, Some, sym, subst, mod-eq_of_lt, nat_le, nat_lt, int_eq, leb-true, and_parts, list_all-append, nat_tests, fit, is_value, list_all, Line, broken, is_type}
 use Rattle.std.proofs.lemmas.Cmp.{int_eq_equiv}
-use Rattle.st_canonical.specs.Spelled.{is_literal}
-use Rattle.st_grammar.specs.Grammar.{label_tree, literal_tree, tree_labels, LabelsFit, spell_labels}
-use Rattle.st_grammar.specs.declared.kind.Literal.{Literal}
+use Rattle.st_canonical.proofs.Common.{is_literal, Literal}
+use Rattle.st_grammar.proofs.Common.{label_tree, literal_tree, tree_labels, LabelsFit, spell_labels, Labels, label, more_labels}
 use Rattle.st_grammar.specs.declared.kind.Literal.TheVariants as lit
-use Rattle.st_lexer.specs.Literals.{greatest, is_signed}
-use Rattle.st_lexer.specs.Spelled.{has_value, is_byte}
-use Rattle.st_tree.specs.Values.{fit}
-use Rattle.st_tree.specs.WellTyped.{is_value}
-use Rattle.st_tree.specs.declared.expr.StType.{StType}
+use Rattle.st_lexer.proofs.Common.{greatest, is_signed, has_value, is_byte, StType}
 use Rattle.st_tree.specs.declared.expr.StType.TheVariants as type
 use Rattle.st_tree.specs.declared.raw.RawExpr.TheVariants as raw
 use Rattle.st_read_proper.proofs.Worded.{Worded, labels_behind, literal_is}
-use Rattle.std.specs.List.{list_all}
-use Rattle.s7_base.specs.declared.reason.Line.{Line}
 use Rattle.s7_base.specs.declared.reason.Reason.TheVariants.{TypeMismatch}
-use Rattle.st_grammar.specs.Forms.{Labels, label, more_labels}
 use Rattle.st_types_laws.proofs.Lists.{map_last}
 use Rattle.st_types_laws.proofs.Labels.{of_type, same_type}
-use Rattle.s7_base.specs.Broken.{broken}
 use Rattle.st_rules.specs.Statements.{have_type, label_breaks}
-use Rattle.st_tree.specs.TypeRules.{is_type}
 
 -- a number from 0 on is not below it
 never : (n : ℕ) → nat_lt n 0 ≡ false

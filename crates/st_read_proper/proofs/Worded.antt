@@ -1,42 +1,22 @@
 -- What a text that was read spells, before its types are judged: kinds that tokens can have, but that a decimal
 -- may have any number here; where it is an operand or a label, the grammar bounds it. And what stands behind
 -- a part of such a text.
-use Rattle.std.proofs.Common.{◌≡◌, true, List, ℕ, Bool, false, cond, ◌&&◌, [], ◌∷◌, take, drop, Option, Some, None, refl, sym, ap, subst, ◌∙◌, arith}
-use Rattle.std.specs.List.{AllByRecursion, find, list_all}
-use Rattle.s7_base.specs.declared.reason.Line.{Line}
-use Rattle.st_canonical.specs.Spelled.{is_literal, is_spelled, is_unreserved, is_function, is_name}
-use Rattle.st_grammar.specs.Forms.{Form, literal, variable, group, prefix, infix_of, apply, shift, select, Actuals, no_actual, actual, Labels, label, more_labels, Statement, assign, write, invoke, choice, choice_else, cases, cases_else, loop, jump, Statements, none, empty, further, Arms, no_arm, arm, CaseArms, no_case, case_arm, Items, no_item, single, times, GlobalType, plain, bytes, Globals, no_global, global, Locals, no_local, local, Section, absent, present, Units, no_unit, unit}
-use Rattle.st_grammar.specs.Grammar.{comma_behind, comma_past, is_value, spell, spell_actuals, spell_all, spell_arms, spell_cases, spell_globals, spell_initial, spell_items, spell_labels, spell_locals, spell_one, spell_section, spell_type, spell_units, spell_source}
-use Rattle.st_grammar.specs.declared.kind.Kind.{Kind}
+use Rattle.st_tree.proofs.Common.{◌≡◌, true, List, ℕ, Bool, false, cond, ◌&&◌, [], ◌∷◌, take, drop, Option, Some, None, refl, sym, ap, subst, ◌∙◌, arith, find, list_all, Line, All, IfSome, is_none, min, codes, if◌then◌else◌, nat_tests, All-head, All-tail, is_same_word, line_at_end}
+use Rattle.std.specs.List.{AllByRecursion}
+use Rattle.st_canonical.proofs.Common.{is_literal, is_spelled, is_unreserved, is_function, is_name, Kind, Literal, Fixed, OneOperand, Word}
+use Rattle.st_grammar.proofs.Common.{Form, literal, variable, group, prefix, infix_of, apply, shift, select, Actuals, no_actual, actual, Labels, label, more_labels, Statement, assign, write, invoke, choice, choice_else, cases, cases_else, loop, jump, Statements, none, empty, further, Arms, no_arm, arm, CaseArms, no_case, case_arm, Items, no_item, single, times, GlobalType, plain, bytes, Globals, no_global, global, Locals, no_local, local, Section, absent, present, Units, no_unit, unit, comma_behind, comma_past, is_value, spell, spell_actuals, spell_all, spell_arms, spell_cases, spell_globals, spell_initial, spell_items, spell_labels, spell_locals, spell_one, spell_section, spell_type, spell_units, spell_source, Base, word_text, fixed_text, size_before_line, conversion_between, conversion_of_types, word_named, conversion_named, name_kind, word_kind, sign_named, direct_kind, are_two_digits, typed_kind, literal_kind, number_kind, text_kind, HasRawTree, all_lined, kinds}
 use Rattle.st_grammar.specs.declared.kind.Kind.TheVariants as kind
-use Rattle.st_grammar.specs.declared.kind.Literal.{Literal}
 use Rattle.st_grammar.specs.declared.kind.Literal.TheVariants as lit
-use Rattle.std.specs.Prelude.{All, IfSome, is_none, min, codes, if◌then◌else◌}
-use Rattle.std.proofs.lemmas.Bool.Decides.{nat_tests}
-use Rattle.std.proofs.lemmas.List.Elements.{All-head, All-tail}
-use Rattle.s7_base.specs.Tokens.{is_same_word, line_at_end}
 use Rattle.st_lexer.proofs.Words.{and_both}
 use Rattle.st_lexer.proofs.TokenFacts.{tokens_are_of_their_sorts}
-use Rattle.st_lexer.specs.Direct.{direct_of}
-use Rattle.st_lexer.specs.Literals.{base_at, begins_with_digit, literal_at, is_in_range, type_named}
-use Rattle.st_lexer.specs.Spelled.{is_byte}
-use Rattle.st_lexer.specs.TokenFacts.{is_word, HasPlace, HasValue, IsOfSort, IsOfItsSort}
+use Rattle.st_lexer.proofs.Common.{direct_of, base_at, begins_with_digit, literal_at, is_in_range, type_named, is_byte, is_word, HasPlace, HasValue, IsOfSort, IsOfItsSort, StKind, StToken, StType, RawSt}
 use Rattle.st_lexer.specs.declared.direct.Direct.{Direct}
 use Rattle.st_lexer.specs.declared.literal.Literal.{Literal as Found}
-use Rattle.st_lexer.specs.declared.number.Base.{Base}
 use Rattle.st_lexer.specs.declared.number.Base.TheVariants as base
-use Rattle.st_tree.specs.declared.token.StKind.{StKind}
 use Rattle.st_tree.specs.declared.token.StKind.TheVariants as sort
-use Rattle.st_tree.specs.declared.token.StToken.{StToken}
-use Rattle.st_grammar.specs.Kinds.{word_text, fixed_text, size_before_line, conversion_between, conversion_of_types, word_named, conversion_named, kind_of_word, name_kind, word_kind, sign_named, sign_kind, direct_kind, are_two_digits, typed_kind, literal_kind, number_kind, text_kind}
-use Rattle.st_grammar.specs.Syntax.{HasRawTree, all_lined, kinds}
-use Rattle.st_grammar.specs.declared.kind.Fixed.{Fixed}
-use Rattle.st_grammar.specs.declared.kind.OneOperand.{OneOperand}
-use Rattle.st_grammar.specs.declared.kind.Word.{Word}
+use Rattle.st_grammar.specs.Kinds.{kind_of_word, sign_kind}
 use Rattle.st_grammar.specs.declared.kind.Word.TheVariants as word
-use Rattle.st_tree.specs.declared.expr.StType.{StType}
 use Rattle.st_tree.specs.declared.expr.StType.TheVariants as type
-use Rattle.st_tree.specs.declared.raw.RawSt.{RawSt}
 
 abbrev pub IsWorded : Kind → Type 0
 IsWorded (kind.Literal (lit.Decimal n)) = Unit {0}

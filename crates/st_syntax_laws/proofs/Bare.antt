@@ -1,13 +1,8 @@
 -- The pass of the code does what the pass that keeps what is written does.
-use Rattle.std.proofs.Common.{◌≡◌, ℕ, suc, Bool, true, false, List, [], ◌∷◌, Option, Some, None, refl, ap, ◌∙◌}
-use Rattle.std.specs.Prelude.{nat_le, if◌then◌else◌, option_map}
-use Rattle.st_grammar.specs.Forms.{Form, none, no_local, prefix, infix_of, Statements, plain, Locals, Section, absent, Head}
-use Rattle.st_grammar.specs.Grammar.{prefix_level, is_value, may_jump, is_direct, tree, tree_one, tree_all, tree_arms, tree_cases, tree_actuals, tree_labels, tree_items, tree_type, tree_globals, tree_locals, tree_units, held}
-use Rattle.st_tree.specs.Form.{infix_level, weakest}
-use Rattle.st_tree.specs.Naming.{is_free, may_name_global, may_name_unit, names_block}
-use Rattle.st_grammar.specs.Levels.{height}
-use Rattle.st_grammar.specs.inner.Machine.{written, code, of_label, add_label, add_case, of_literal, of_jump, head_of, BegunStatement, Argument, only, shifted, shifted_by, gate, first, second, Need, to_var, to_area, area_value, test, selector, loop_test, OuterStatement, choosing, otherwise, looping, selecting, otherwise_case, Frame, unary, left, bracket, argument, waiting, within, Part, target, write_open, first_formal, next_formal, becoming, giving, given, first_label, next_label, labelled, Place, statement, part, closing, operand, operator, opening, BodyState, Row, at_word, at_place, at_colon, at_type, at_square, at_zero, at_dots, at_last, at_close, at_of, at_byte, at_becomes, at_open, at_item, at_count, at_value, at_value_end, at_comma, at_end, local_colon, local_type, local_end, TextSoFar, BegunUnit, SectionKind, formals, temps, State, start, globals, row, between, heading, opened, formals_done, section, typing, inside, over}
-use Rattle.st_grammar.specs.inner.Steps.{body_state, limit, Reduced, reduced_to, reduce, shallower, with_prefix, closed, closed_to, waits, in_loop, in_body, step_at, is_zero, row_step, before_units, begun_unit, at_between, may_name, may_type, ends, leave, at_inside, at_formals_done, at_opened, next, level_at, last_level}
+use Rattle.st_tree.proofs.Common.{◌≡◌, ℕ, suc, Bool, true, false, List, [], ◌∷◌, Option, Some, None, refl, ap, ◌∙◌, nat_le, if◌then◌else◌, option_map, infix_level, weakest, is_free, may_name_global, may_name_unit, names_block}
+use Rattle.st_grammar.proofs.Common.{Form, none, no_local, prefix, infix_of, Statements, plain, Locals, Section, absent, Head, prefix_level, is_value, may_jump, is_direct, tree, tree_one, tree_all, tree_arms, tree_cases, tree_actuals, tree_labels, tree_items, tree_type, tree_globals, tree_locals, tree_units, held, height, written, code, BegunStatement, Argument, only, shifted, shifted_by, gate, first, second, Need, to_var, to_area, area_value, test, selector, loop_test, OuterStatement, choosing, otherwise, looping, selecting, otherwise_case, Frame, unary, left, bracket, argument, waiting, within, Part, target, write_open, first_formal, next_formal, becoming, giving, given, first_label, next_label, labelled, Place, statement, part, closing, operand, operator, opening, BodyState, Row, at_word, at_place, at_colon, at_type, at_square, at_zero, at_dots, at_last, at_close, at_of, at_byte, at_becomes, at_open, at_item, at_count, at_value, at_value_end, at_comma, at_end, local_colon, local_type, local_end, TextSoFar, BegunUnit, SectionKind, formals, temps, State, start, globals, row, between, heading, opened, formals_done, section, typing, inside, over, body_state, limit, Reduced, reduced_to, reduce, shallower, with_prefix, closed, waits, in_loop, in_body, step_at, row_step, before_units, begun_unit, at_between, may_name, may_type, ends, leave, at_inside, at_formals_done, next, level_at, last_level}
+use Rattle.st_grammar.specs.inner.Machine.{of_label, add_label, add_case, of_literal, of_jump, head_of}
+use Rattle.st_grammar.specs.inner.Steps.{closed_to, is_zero, at_opened}
 use Rattle.st_grammar.specs.declared.heading.Heading.{Heading}
 use Rattle.st_grammar.specs.declared.measured.Measured.{Measured}
 use Rattle.st_grammar.specs.declared.kind.Fixed.TheVariants as fixed

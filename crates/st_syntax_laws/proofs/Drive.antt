@@ -1,26 +1,17 @@
 -- The pass goes over the tokens that a text spells, and has read it then: its expressions, its statements, and the whole.
-use Rattle.std.proofs.Common.{◌≡◌, ℕ, suc, ◌+◌, ◌<◌, ◌≤◌, Bool, true, false, List, [], ◌∷◌, Option, Some, None, refl, ap, ◌∙◌, arith}
-use Rattle.std.specs.Prelude.{nat_le, if◌then◌else◌, option_and_then, option_map, ◌||◌}
-use Rattle.std.proofs.lemmas.Bool.Decides.{nat_tests}
-use Rattle.st_grammar.specs.Forms.{Form, literal, variable, group, prefix, infix_of, apply, shift, select, Locals, Section, Actuals, no_actual, actual, Labels, label, more_labels, Statement, assign, write, invoke, choice, choice_else, cases, cases_else, loop, jump, Statements, none, empty, further, Arms, no_arm, arm, CaseArms, no_case, case_arm, Items, no_item, single, times, GlobalType, plain, bytes, Globals, no_global, global, no_local, local, absent, present, Head, Units, no_unit, unit, Source}
-use Rattle.st_grammar.specs.Grammar.{prefix_level, level, Binds, prefix_kind, spell, is_value, LabelsFit, Fits, AllFit, ArmsFit, CasesFit, arm_word, spell_actuals, spell_labels, spell_one, spell_all, spell_arms, spell_cases, is_global, GlobalsFit, FormalsFit, LocalsFit, IfPresent, HeadFits, UnitsFit, SourceFits, spell_items, spell_type, spell_globals, spell_locals, unit_word, end_word, spell_formals, spell_temps, spell_head, spell_units, spell_source}
-use Rattle.st_grammar.specs.Levels.{height, levels, levels_actuals, levels_labels, levels_one, levels_all, levels_arms, levels_cases, levels_items, levels_type, levels_globals, levels_locals, levels_section, levels_units, levels_source}
-use Rattle.st_grammar.specs.inner.Machine.{written, Frame, unary, left, bracket, argument, only, shifted, shifted_by, gate, first, second, Place, operand, operator, BodyState, BegunUnit, State, inside, BegunStatement, waiting, within, to_var, to_area, area_value, test, selector, loop_test, choosing, otherwise, looping, selecting, otherwise_case, first_formal, given, first_label, labelled, statement, part, at_type, at_item, at_comma, TextSoFar, SectionKind, formals, temps, start, globals, row, between, heading, opened, formals_done, section, over}
-use Rattle.st_grammar.specs.inner.Steps.{body_state, limit, Reduced, reduced_to, reduce, with_prefix, waits, leave, next, level_at, last_level, Passed, shallower, passes, in_loop, begun_statement, begun_unit, body_start, ends}
+use Rattle.st_tree.proofs.Common.{◌≡◌, ℕ, suc, ◌+◌, ◌<◌, ◌≤◌, Bool, true, false, List, [], ◌∷◌, Option, Some, None, refl, ap, ◌∙◌, arith, nat_le, if◌then◌else◌, option_and_then, option_map, ◌||◌, nat_tests, infix_level, weakest, Line, is_free, may_name_global, names_block}
+use Rattle.st_grammar.proofs.Common.{Form, literal, variable, group, prefix, infix_of, apply, shift, select, Locals, Section, Actuals, no_actual, actual, Labels, label, more_labels, Statement, assign, write, invoke, choice, choice_else, cases, cases_else, loop, jump, Statements, none, empty, further, Arms, no_arm, arm, CaseArms, no_case, case_arm, Items, no_item, single, times, GlobalType, plain, bytes, Globals, no_global, global, no_local, local, absent, present, Head, Units, no_unit, unit, Source, prefix_level, level, Binds, prefix_kind, spell, is_value, LabelsFit, Fits, AllFit, ArmsFit, CasesFit, arm_word, spell_actuals, spell_labels, spell_one, spell_all, spell_arms, spell_cases, is_global, GlobalsFit, FormalsFit, LocalsFit, IfPresent, HeadFits, UnitsFit, SourceFits, spell_items, spell_type, spell_globals, spell_locals, unit_word, end_word, spell_formals, spell_temps, spell_head, spell_units, spell_source, height, levels, levels_actuals, levels_labels, levels_one, levels_all, levels_arms, levels_cases, levels_items, levels_type, levels_globals, levels_locals, levels_section, levels_units, levels_source, written, Frame, unary, left, bracket, argument, only, shifted, shifted_by, gate, first, second, Place, operand, operator, BodyState, BegunUnit, State, inside, BegunStatement, waiting, within, to_var, to_area, area_value, test, selector, loop_test, choosing, otherwise, looping, selecting, otherwise_case, first_formal, given, first_label, labelled, statement, part, at_type, at_item, at_comma, TextSoFar, SectionKind, formals, temps, start, globals, row, between, heading, opened, formals_done, section, over, body_state, limit, Reduced, reduced_to, reduce, with_prefix, waits, leave, next, level_at, last_level, Passed, shallower, passes, in_loop, begun_unit, ends}
+use Rattle.st_grammar.specs.inner.Steps.{begun_statement, body_start}
 use Rattle.st_grammar.specs.declared.kind.Fixed.TheVariants as fixed
 use Rattle.st_grammar.specs.declared.kind.Kind.{Kind}
 use Rattle.st_grammar.specs.declared.kind.Kind.TheVariants as kind
 use Rattle.st_grammar.specs.declared.kind.Prefix.{Prefix}
 use Rattle.st_grammar.specs.declared.kind.Prefix.TheVariants as before
 use Rattle.st_syntax_laws.proofs.Precedence.{infix_most, infix_some, level_most, prefix_above, prefix_most, less_one, below_one}
-use Rattle.st_tree.specs.Form.{infix_level, weakest}
-use Rattle.st_tree.specs.declared.expr.BinaryOp.{BinaryOp}
-use Rattle.s7_base.specs.declared.reason.Line.{Line}
+use Rattle.st_lexer.proofs.Common.{BinaryOp, RawVar}
 use Rattle.st_grammar.specs.declared.kind.Lead.TheVariants as lead
 use Rattle.st_grammar.specs.declared.kind.Literal.{Literal}
-use Rattle.st_tree.specs.declared.raw.RawVar.{RawVar}
 use Rattle.st_tree.specs.declared.raw.RawVar.TheVariants as var
-use Rattle.st_tree.specs.Naming.{is_free, may_name_global, names_block}
 use Rattle.st_grammar.specs.declared.kind.Literal.TheVariants as lit
 
 -- a unit with its declarations: what stands before its statements

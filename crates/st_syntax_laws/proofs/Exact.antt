@@ -1,34 +1,23 @@
 -- What the pass says of a text's tokens: where it stops is the first that cannot follow, where a level
 -- is too great the first that makes one, and at the end it has read the text. Each of its states can be
 -- finished: tokens lead from it to the end of a text.
-use Rattle.std.proofs.Common.{◌≡◌, ℕ, zero, suc, ◌<◌, ◌≤◌, List, [], ◌∷◌, ◌++◌, length, drop, Option, Some, None, refl, sym, ap, subst, ◌∙◌, append_assoc, append-nil, Bool, true, false, arith}
-use Rattle.std.specs.Prelude.{IfSome, option_and_then, option_map, pos, codes, ◌||◌, if◌then◌else◌}
-use Rattle.std.proofs.lemmas.List.{map-append}
+use Rattle.st_tree.proofs.Common.{◌≡◌, ℕ, zero, suc, ◌<◌, ◌≤◌, List, [], ◌∷◌, ◌++◌, length, drop, Option, Some, None, refl, sym, ap, subst, ◌∙◌, append_assoc, append-nil, Bool, true, false, arith, IfSome, option_and_then, option_map, pos, codes, ◌||◌, if◌then◌else◌, map-append, Line, infix_level, is_free, may_name_global, names_block}
 use Rattle.st_syntax_laws.proofs.Bare.{bare, bare_text, next_bare, last_level_bare}
 use Rattle.st_syntax_laws.proofs.Drive.{finished, drive_source, DeclaredUnit, within_unit, run, go, Lets, close, comma, past_unary, past_left, unit_left}
 use Rattle.st_syntax_laws.proofs.Kept.{past, Shaped, Kept, kept, InStatements, InExpr, PlaceFits}
-use Rattle.st_grammar.specs.Forms.{Source, Form, literal, group, prefix, infix_of, apply, shift, select, none, Statement, Statements, Globals, plain, Locals, Section, absent, present}
-use Rattle.st_grammar.specs.Grammar.{spell_source, raw_tree, level, Binds, end_word}
-use Rattle.st_grammar.specs.Levels.{deepest, levels_source}
-use Rattle.st_grammar.specs.inner.Judge.{raw_of, text_in}
-use Rattle.st_grammar.specs.inner.Machine.{written, code, TextSoFar, State, start, over, BegunStatement, only, shifted, shifted_by, gate, first, second, to_var, to_area, area_value, test, selector, loop_test, looping, selecting, otherwise_case, Frame, unary, left, bracket, argument, waiting, within, Part, target, write_open, first_formal, next_formal, becoming, giving, given, labelled, Place, statement, part, closing, operand, operator, opening, Row, at_word, at_place, at_colon, at_type, at_square, at_zero, at_dots, at_last, at_close, at_of, at_byte, at_open, at_item, at_count, at_value, at_value_end, at_comma, at_end, Typing, local_colon, local_type, local_end, BegunUnit, SectionKind, formals, temps, globals, row, between, heading, opened, formals_done, section, typing, inside}
-use Rattle.st_grammar.specs.inner.Steps.{next, last_level, Passed, passes, shallower, limit}
-use Rattle.st_grammar.specs.Syntax.{Lined, kinds, Reads, AllWithin, Begins, levels_in, BeginsWithin, FirstWrong, FirstDeep}
+use Rattle.st_grammar.proofs.Common.{Source, Form, literal, group, prefix, infix_of, apply, shift, select, none, Statement, Statements, Globals, plain, Locals, Section, absent, present, spell_source, raw_tree, level, Binds, end_word, deepest, levels_source, raw_of, text_in, written, code, TextSoFar, State, start, over, BegunStatement, only, shifted, shifted_by, gate, first, second, to_var, to_area, area_value, test, selector, loop_test, looping, selecting, otherwise_case, Frame, unary, left, bracket, argument, waiting, within, Part, target, write_open, first_formal, next_formal, becoming, giving, given, labelled, Place, statement, part, closing, operand, operator, opening, Row, at_word, at_place, at_colon, at_type, at_square, at_zero, at_dots, at_last, at_close, at_of, at_byte, at_open, at_item, at_count, at_value, at_value_end, at_comma, at_end, Typing, local_colon, local_type, local_end, BegunUnit, SectionKind, formals, temps, globals, row, between, heading, opened, formals_done, section, typing, inside, next, last_level, Passed, passes, shallower, limit, Lined, kinds, Reads, AllWithin, Begins, FirstWrong, FirstDeep}
+use Rattle.st_grammar.specs.Syntax.{levels_in, BeginsWithin}
 use Rattle.st_grammar.specs.declared.kind.Kind.{Kind}
-use Rattle.st_tree.specs.declared.raw.RawSt.{RawSt}
-use Rattle.s7_base.specs.declared.reason.Line.{Line}
+use Rattle.st_lexer.proofs.Common.{RawSt, RawVar}
 use Rattle.memory_areas.specs.declared.place.AreaName.TheVariants.{Db}
 use Rattle.s7_base.specs.declared.word.Width.TheVariants as width
 use Rattle.st_syntax_laws.proofs.Precedence.{below_one, infix_some}
-use Rattle.st_tree.specs.Form.{infix_level}
-use Rattle.st_tree.specs.Naming.{is_free, may_name_global, names_block}
 use Rattle.st_grammar.specs.declared.kind.Fixed.TheVariants as fixed
 use Rattle.st_grammar.specs.declared.kind.Function.{Function}
 use Rattle.st_grammar.specs.declared.kind.Function.TheVariants as function
 use Rattle.st_grammar.specs.declared.kind.Kind.TheVariants as kind
 use Rattle.st_grammar.specs.declared.kind.Literal.TheVariants as lit
 use Rattle.st_tree.specs.declared.expr.StType.TheVariants as type
-use Rattle.st_tree.specs.declared.raw.RawVar.{RawVar}
 use Rattle.st_tree.specs.declared.raw.RawVar.TheVariants as var
 
 -- tokens lead to the end of a text

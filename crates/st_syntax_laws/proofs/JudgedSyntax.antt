@@ -1,20 +1,11 @@
 -- The pass over a text's tokens judges exactly what the text is.
-use Rattle.std.proofs.Common.{◌≡◌, ℕ, List, Option, Some, None, Result, Ok, Err, refl, sym, ap, subst, ◌∙◌}
-use Rattle.std.specs.Prelude.{option_map}
-use Rattle.s7_base.specs.Tokens.{line_at_end}
-use Rattle.s7_base.specs.declared.reason.Line.{Line}
-use Rattle.s7_base.specs.declared.reason.Reason.{Reason}
-use Rattle.s7_base.specs.declared.reason.Rejection.{Rejection}
+use Rattle.st_tree.proofs.Common.{◌≡◌, ℕ, List, Option, Some, None, Result, Ok, Err, refl, sym, ap, subst, ◌∙◌, option_map, line_at_end, Line, Reason, Rejection}
 use Rattle.s7_base.specs.declared.reason.Rejection.TheVariants.{Refused}
-use Rattle.st_grammar.specs.Syntax.{HasRawTree, IsSyntaxRefused, all_lined}
-use Rattle.st_grammar.specs.inner.Judge.{judge_tokens, raw_of, text_in, tree_at, verdict, verdict_on}
-use Rattle.st_grammar.specs.inner.Machine.{code, TextSoFar, State, start}
-use Rattle.st_lexer.specs.StTokens.{tokens_of}
+use Rattle.st_grammar.proofs.Common.{HasRawTree, IsSyntaxRefused, all_lined, judge_tokens, raw_of, text_in, tree_at, verdict, verdict_on, code, TextSoFar, State, start}
+use Rattle.st_lexer.proofs.Common.{tokens_of, RawSt, StToken}
 use Rattle.st_syntax_laws.proofs.OneSyntax.{of_refusal, tree_is}
 use Rattle.st_syntax_laws.proofs.Whole.{bad_token, refused_of, tree_of}
 use Rattle.st_syntax_laws.specs.inner.JudgeLaws.{JudgedRefusals, JudgedTrees}
-use Rattle.st_tree.specs.declared.raw.RawSt.{RawSt}
-use Rattle.st_tree.specs.declared.token.StToken.{StToken}
 
 -- the judgement of a text by its tokens
 of_verdict : (bytes : List ℕ) (o : Result (List StToken) Rejection) (v : Result (State code) Rejection) → tokens_of bytes ≡ o → verdict bytes ≡ v → verdict_on bytes o ≡ v

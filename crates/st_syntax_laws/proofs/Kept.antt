@@ -1,16 +1,9 @@
 -- The pass keeps in its state what it has passed, and what is open stands in order.
-use Rattle.std.proofs.Common.{◌≡◌, ℕ, suc, ◌<◌, ◌≤◌, Bool, true, false, List, [], ◌∷◌, Option, Some, None, refl, sym, ap, ◌∙◌, arith, zero}
-use Rattle.std.specs.Prelude.{IfSome, nat_le, if◌then◌else◌, option_map}
-use Rattle.std.proofs.lemmas.Bool.Decides.{nat_tests}
-use Rattle.s7_base.specs.declared.reason.Line.{Line}
+use Rattle.st_tree.proofs.Common.{◌≡◌, ℕ, suc, ◌<◌, ◌≤◌, Bool, true, false, List, [], ◌∷◌, Option, Some, None, refl, sym, ap, ◌∙◌, arith, zero, IfSome, nat_le, if◌then◌else◌, option_map, nat_tests, Line, infix_level, weakest, may_name_global, may_name_unit, names_block, is_free}
 use Rattle.st_syntax_laws.proofs.Precedence.{below_one, infix_most, infix_some, less_one}
 use Rattle.st_syntax_laws.proofs.Drive.{Declared, HasItem}
-use Rattle.st_grammar.specs.Forms.{Form, prefix, infix_of, Actuals, no_actual, actual, Labels, label, more_labels, Statements, CaseArms, Items, no_item, none, Globals, Locals, no_local, Section, absent, unit}
-use Rattle.st_grammar.specs.Grammar.{prefix_level, level, is_value, Binds, may_jump, LabelsFit, HasArm, HasCase, Fits, AllFit, ArmsFit, CasesFit, is_direct, is_global, GlobalsFit, LocalsFit, IfPresent, HeadFits, UnitsFit, prefix_kind, spell, comma_behind, spell_actuals, spell_labels, arm_word, spell_one, spell_all, spell_arms, spell_cases, comma_past, spell_items, spell_type, spell_globals, spell_locals, unit_word, spell_section, spell_formals, spell_temps, spell_head, spell_units, spell_initial, end_word}
-use Rattle.st_tree.specs.Form.{infix_level, weakest}
-use Rattle.st_tree.specs.Naming.{may_name_global, may_name_unit, names_block, is_free}
-use Rattle.st_grammar.specs.inner.Machine.{written, BegunStatement, Argument, only, shifted, shifted_by, gate, first, second, Need, to_var, to_area, area_value, test, selector, loop_test, OuterStatement, choosing, otherwise, looping, selecting, otherwise_case, Frame, unary, left, bracket, argument, waiting, within, Part, target, write_open, first_formal, next_formal, becoming, giving, given, first_label, next_label, labelled, Place, statement, part, closing, operand, operator, opening, BodyState, Row, at_word, at_place, at_colon, at_type, at_square, at_zero, at_dots, at_last, at_close, at_of, at_byte, at_becomes, at_open, at_item, at_count, at_value, at_value_end, at_comma, at_end, Typing, local_colon, local_type, local_end, TextSoFar, BegunUnit, SectionKind, formals, temps, State, start, globals, row, between, heading, opened, formals_done, section, typing, inside, over}
-use Rattle.st_grammar.specs.inner.Steps.{body_state, shallower, limit, Reduced, reduce, reduced_to, with_prefix, closed, in_loop, in_body, at_label, step_at, may_name, may_type, row_step, before_units, at_between, ends, leave, at_inside, at_formals_done, next}
+use Rattle.st_grammar.proofs.Common.{Form, prefix, infix_of, Actuals, no_actual, actual, Labels, label, more_labels, Statements, CaseArms, Items, no_item, none, Globals, Locals, no_local, Section, absent, unit, prefix_level, level, is_value, Binds, may_jump, LabelsFit, HasArm, HasCase, Fits, AllFit, ArmsFit, CasesFit, is_direct, is_global, GlobalsFit, LocalsFit, IfPresent, HeadFits, UnitsFit, prefix_kind, spell, comma_behind, spell_actuals, spell_labels, arm_word, spell_one, spell_all, spell_arms, spell_cases, comma_past, spell_items, spell_type, spell_globals, spell_locals, unit_word, spell_section, spell_formals, spell_temps, spell_head, spell_units, spell_initial, end_word, written, BegunStatement, Argument, only, shifted, shifted_by, gate, first, second, Need, to_var, to_area, area_value, test, selector, loop_test, OuterStatement, choosing, otherwise, looping, selecting, otherwise_case, Frame, unary, left, bracket, argument, waiting, within, Part, target, write_open, first_formal, next_formal, becoming, giving, given, first_label, next_label, labelled, Place, statement, part, closing, operand, operator, opening, BodyState, Row, at_word, at_place, at_colon, at_type, at_square, at_zero, at_dots, at_last, at_close, at_of, at_byte, at_becomes, at_open, at_item, at_count, at_value, at_value_end, at_comma, at_end, Typing, local_colon, local_type, local_end, TextSoFar, BegunUnit, SectionKind, formals, temps, State, start, globals, row, between, heading, opened, formals_done, section, typing, inside, over, body_state, shallower, limit, Reduced, reduce, reduced_to, with_prefix, closed, in_loop, in_body, step_at, may_name, may_type, row_step, before_units, at_between, ends, leave, at_inside, at_formals_done, next}
+use Rattle.st_grammar.specs.inner.Steps.{at_label}
 use Rattle.st_grammar.specs.declared.kind.Fixed.TheVariants as fixed
 use Rattle.st_grammar.specs.declared.kind.Function.{Function}
 use Rattle.st_grammar.specs.declared.kind.Function.TheVariants as function

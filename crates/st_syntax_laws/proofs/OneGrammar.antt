@@ -1,5 +1,5 @@
 -- The grammar by precedence levels has the expressions of the forms that keep their brackets.
-use Rattle.std.proofs.Common.{◌≡◌, ℕ, ◌-◌, ◌≤◌, List, [], ◌∷◌, ◌++◌, refl, sym, ap, subst, ◌∙◌, arith, append_assoc}
+use Rattle.st_tree.proofs.Common.{◌≡◌, ℕ, ◌-◌, ◌≤◌, List, [], ◌∷◌, ◌++◌, refl, sym, ap, subst, ◌∙◌, arith, append_assoc, infix_level, weakest}
 use Rattle.st_grammar.specs.Derives.{Derives, value, read, brackets, unary, binary, applied, shifted, selected, IsSpelled, bracketed, with_comma}
 use Rattle.st_grammar.specs.Forms.{Form, literal, variable, group, prefix, infix_of, apply, shift, select}
 use Rattle.st_grammar.specs.Grammar.{Binds, apply_tree, level, prefix_kind, prefix_level, prefix_tree, spell, tree}
@@ -9,7 +9,6 @@ use Rattle.st_grammar.specs.declared.kind.Fixed.TheVariants as fixed
 use Rattle.st_grammar.specs.declared.kind.Function.TheVariants as function
 use Rattle.st_grammar.specs.declared.kind.Kind.{Kind}
 use Rattle.st_grammar.specs.declared.kind.Kind.TheVariants as kind
-use Rattle.st_tree.specs.Form.{infix_level, weakest}
 use Rattle.st_tree.specs.declared.raw.RawExpr.{RawExpr}
 
 -- Tokens

@@ -1,24 +1,15 @@
 -- A text has one raw tree or one refusal: what a text is says what the judgement of its tokens is.
-use Rattle.std.proofs.Common.{◌≡◌, ℕ, List, Some, Result, Ok, Err, sym, ap, ◌∙◌, ◌<◌, ◌≤◌, Bool, true, false, [], ◌∷◌, ◌++◌, Option, None, refl, subst, arith, append_assoc, append-nil}
-use Rattle.s7_base.specs.declared.reason.Line.{Line}
-use Rattle.s7_base.specs.declared.reason.Reason.{Reason}
+use Rattle.st_tree.proofs.Common.{◌≡◌, ℕ, List, Some, Result, Ok, Err, sym, ap, ◌∙◌, ◌<◌, ◌≤◌, Bool, true, false, [], ◌∷◌, ◌++◌, Option, None, refl, subst, arith, append_assoc, append-nil, Line, Reason, Rejection, nat_lt, if◌then◌else◌, option_and_then, option_map, nat_tests}
 use Rattle.s7_base.specs.declared.reason.Reason.TheVariants as reason
-use Rattle.s7_base.specs.declared.reason.Rejection.{Rejection}
 use Rattle.s7_base.specs.declared.reason.Rejection.TheVariants.{Refused}
 use Rattle.st_syntax_laws.proofs.Bare.{bare, next_bare, last_level_bare}
 use Rattle.st_syntax_laws.proofs.Drive.{finished, drive_source}
-use Rattle.st_grammar.specs.inner.Judge.{judge_tokens, tree_at, verdict, verdict_on, after_token, level_reached, judged, on_good}
-use Rattle.st_grammar.specs.inner.Machine.{code, State, start, written}
-use Rattle.st_grammar.specs.Syntax.{Lined, HasLined, HasRawTree, IsSyntaxRefused, kinds, Reads, AllWithin, Begins, FirstWrong, FirstDeep}
+use Rattle.st_grammar.proofs.Common.{judge_tokens, tree_at, verdict, verdict_on, after_token, level_reached, judged, on_good, code, State, start, written, Lined, HasRawTree, IsSyntaxRefused, kinds, Reads, AllWithin, Begins, FirstWrong, FirstDeep, Source, deepest, levels_source, next, last_level, Passed, passes}
+use Rattle.st_grammar.specs.Syntax.{HasLined}
 use Rattle.st_syntax_laws.specs.SyntaxLaws.{NotBothSyntaxes, OneRawTree, OneSyntaxRefusal}
 use Rattle.st_tree.specs.declared.raw.RawSt.{RawSt}
-use Rattle.std.specs.Prelude.{nat_lt, if◌then◌else◌, option_and_then, option_map}
-use Rattle.std.proofs.lemmas.Bool.Decides.{nat_tests}
 use Rattle.s7_base.specs.declared.reason.Reason.TheVariants.{BadSyntax, TooDeep}
 use Rattle.st_syntax_laws.proofs.Exact.{at_state, begins_at, same_levels}
-use Rattle.st_grammar.specs.Forms.{Source}
-use Rattle.st_grammar.specs.Levels.{deepest, levels_source}
-use Rattle.st_grammar.specs.inner.Steps.{next, last_level, Passed, passes}
 use Rattle.st_grammar.specs.declared.kind.Kind.{Kind}
 
 abbrev behind : State written → List ℕ → Option (Passed written)

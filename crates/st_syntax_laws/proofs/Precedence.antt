@@ -1,10 +1,8 @@
 -- The levels of precedence of operators and forms.
-use Rattle.std.proofs.Common.{ℕ, ◌-◌, ◌<◌, ◌≤◌, arith}
-use Rattle.st_grammar.specs.Forms.{Form, prefix, infix_of}
-use Rattle.st_grammar.specs.Grammar.{level, prefix_level}
+use Rattle.st_tree.proofs.Common.{ℕ, ◌-◌, ◌<◌, ◌≤◌, arith, infix_level, weakest}
+use Rattle.st_grammar.proofs.Common.{Form, prefix, infix_of, level, prefix_level}
 use Rattle.st_grammar.specs.declared.kind.Prefix.{Prefix}
 use Rattle.st_grammar.specs.declared.kind.Prefix.TheVariants as before
-use Rattle.st_tree.specs.Form.{infix_level, weakest}
 use Rattle.st_tree.specs.declared.expr.BinaryOp.{BinaryOp}
 use Rattle.st_tree.specs.declared.expr.BinaryOp.TheVariants as binary
 

@@ -1,19 +1,11 @@
 -- Each text has a raw tree, or a refusal of its tokens or its syntax.
-use Rattle.std.proofs.Common.{◌≡◌, ◌⊎◌, ℕ, false, List, Option, Some, None, Result, Ok, Err, inl, inr, refl}
-use Rattle.s7_base.specs.Tokens.{line_at_end}
-use Rattle.s7_base.specs.declared.reason.Line.{Line}
-use Rattle.s7_base.specs.declared.reason.Reason.{Reason}
-use Rattle.s7_base.specs.declared.reason.Rejection.{Rejection}
+use Rattle.st_tree.proofs.Common.{◌≡◌, ◌⊎◌, ℕ, false, List, Option, Some, None, Result, Ok, Err, inl, inr, refl, line_at_end, Line, Reason, Rejection}
 use Rattle.s7_base.specs.declared.reason.Rejection.TheVariants.{Refused, NoMemory}
-use Rattle.st_lexer.specs.StTokens.{answer, cut_from, first_bad, great_from, tokens_of}
-use Rattle.st_tree.specs.declared.token.StToken.{StToken}
+use Rattle.st_lexer.proofs.Common.{answer, cut_from, first_bad, great_from, tokens_of, StToken, RawSt}
 use Rattle.st_grammar.proofs.Ends.{not_over}
 use Rattle.st_syntax_laws.proofs.Whole.{bad_token, refused_of, tree_of, Says, says}
-use Rattle.st_grammar.specs.inner.Judge.{judge_tokens, raw_of, text_in}
-use Rattle.st_grammar.specs.inner.Machine.{code, TextSoFar, State, start}
-use Rattle.st_grammar.specs.Syntax.{HasRawTree, IsSyntaxRefused, all_lined}
+use Rattle.st_grammar.proofs.Common.{judge_tokens, raw_of, text_in, code, TextSoFar, State, start, HasRawTree, IsSyntaxRefused, all_lined}
 use Rattle.st_syntax_laws.specs.SyntaxLaws.{EachHasOneSyntax}
-use Rattle.st_tree.specs.declared.raw.RawSt.{RawSt}
 
 -- a line and a reason of which something holds
 abbrev ForSome : (Line → Reason → Type 0) → Type 0

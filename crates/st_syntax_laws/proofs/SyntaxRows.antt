@@ -1,17 +1,11 @@
 -- Worked rows of the syntax.
-use Rattle.std.proofs.Common.{◌≡◌, ℕ, ◌≤◌, ◌<◌, true, false, List, [], ◌∷◌, Some, refl, arith}
-use Rattle.std.specs.Prelude.{pos, codes}
+use Rattle.st_tree.proofs.Common.{◌≡◌, ℕ, ◌≤◌, ◌<◌, true, false, List, [], ◌∷◌, Some, refl, arith, pos, codes, Line, is_free, may_name_global, may_name_local, may_name_unit}
 use Rattle.memory_areas.specs.declared.place.AreaName.TheVariants.{Db}
-use Rattle.s7_base.specs.declared.reason.Line.{Line}
 use Rattle.s7_base.specs.declared.word.Width.TheVariants as width
-use Rattle.st_tree.specs.declared.token.StKind.{StKind}
+use Rattle.st_lexer.proofs.Common.{StKind, StToken}
 use Rattle.st_tree.specs.declared.token.StKind.TheVariants as sort
-use Rattle.st_tree.specs.declared.token.StToken.{StToken}
-use Rattle.st_grammar.specs.Forms.{Form, literal, variable, group, prefix, infix_of, label, more_labels, assign, choice_else, cases_else, jump, Statements, none, empty, further, no_arm, arm, no_case, case_arm, no_item, single, times, plain, bytes, Globals, no_global, global, absent, no_unit, unit, Source}
-use Rattle.st_grammar.specs.Grammar.{Binds, Fits, is_global, spell, spell_one, spell_globals, spell_source, tree, tree_globals, raw_tree, on_line, arm_of}
-use Rattle.st_grammar.specs.Kinds.{kind_of, word_named, word_text, sign_named}
-use Rattle.st_tree.specs.Naming.{is_free, may_name_global, may_name_local, may_name_unit}
-use Rattle.st_grammar.specs.Levels.{levels, levels_source}
+use Rattle.st_grammar.proofs.Common.{Form, literal, variable, group, prefix, infix_of, label, more_labels, assign, choice_else, cases_else, jump, Statements, none, empty, further, no_arm, arm, no_case, case_arm, no_item, single, times, plain, bytes, Globals, no_global, global, absent, no_unit, unit, Source, Binds, Fits, is_global, spell, spell_one, spell_globals, spell_source, tree, tree_globals, raw_tree, on_line, kind_of, word_named, word_text, sign_named, levels, levels_source}
+use Rattle.st_grammar.specs.Grammar.{arm_of}
 use Rattle.st_grammar.specs.declared.kind.Fixed.TheVariants as fixed
 use Rattle.st_grammar.specs.declared.kind.Function.TheVariants as function
 use Rattle.st_grammar.specs.declared.kind.Jump.TheVariants as jump_word

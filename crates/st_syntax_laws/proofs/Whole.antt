@@ -1,21 +1,10 @@
 -- The judgement of a text's tokens says exactly what the text is.
-use Rattle.std.proofs.Common.{◌≡◌, ℕ, false, List, Option, Some, None, Ok, Err, refl, sym, subst, ◌<◌, ◌≤◌, Bool, true, [], ◌∷◌, ◌++◌, Result, arith, append_assoc, append-nil}
-use Rattle.s7_base.specs.Tokens.{line_at_end}
-use Rattle.s7_base.specs.declared.reason.Line.{Line}
-use Rattle.s7_base.specs.declared.reason.Reason.{Reason}
+use Rattle.st_tree.proofs.Common.{◌≡◌, ℕ, false, List, Option, Some, None, Ok, Err, refl, sym, subst, ◌<◌, ◌≤◌, Bool, true, [], ◌∷◌, ◌++◌, Result, arith, append_assoc, append-nil, line_at_end, Line, Reason, nat_lt, if◌then◌else◌, nat_tests, Rejection}
 use Rattle.s7_base.specs.declared.reason.Reason.TheVariants as reason
 use Rattle.s7_base.specs.declared.reason.Rejection.TheVariants.{Refused, NoMemory}
-use Rattle.st_lexer.specs.StTokens.{answer, cut_from, first_bad, great_from, tokens_of}
-use Rattle.st_tree.specs.declared.token.StToken.{StToken}
+use Rattle.st_lexer.proofs.Common.{answer, cut_from, first_bad, great_from, tokens_of, StToken}
 use Rattle.st_syntax_laws.proofs.Exact.{Read, read_all, none_read, read_more, wrong_at, deep_at}
-use Rattle.st_grammar.specs.inner.Judge.{judge_tokens, raw_of, text_in, after_token, level_reached, judged, on_good}
-use Rattle.st_grammar.specs.inner.Machine.{code, TextSoFar, State, start, over}
-use Rattle.st_grammar.specs.Syntax.{all_lined, HasRawTree, IsSyntaxRefused, Lined, FirstWrong, FirstDeep}
-use Rattle.std.specs.Prelude.{nat_lt, if◌then◌else◌}
-use Rattle.std.proofs.lemmas.Bool.Decides.{nat_tests}
-use Rattle.s7_base.specs.declared.reason.Rejection.{Rejection}
-use Rattle.st_grammar.specs.Levels.{deepest}
-use Rattle.st_grammar.specs.inner.Steps.{next, last_level}
+use Rattle.st_grammar.proofs.Common.{judge_tokens, raw_of, text_in, after_token, level_reached, judged, on_good, code, TextSoFar, State, start, over, all_lined, HasRawTree, IsSyntaxRefused, Lined, FirstWrong, FirstDeep, deepest, next, last_level}
 use Rattle.st_grammar.specs.declared.kind.Kind.{Kind}
 
 -- what a refusal says
