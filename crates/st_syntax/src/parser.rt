@@ -90,12 +90,7 @@ fn advance_token(alloc: Global, state: &mut State, token: &Lexeme) -> Option<Rej
 }
 
 /// The state after all tokens of a text that ends on a line, and why the text is refused, if it is.
-fn judge_tokens(
-    alloc: Global,
-    state: &mut State,
-    tokens: &[Lexeme],
-    end: Line,
-) -> Option<Rejection>
+fn judge_tokens(alloc: Global, state: &mut State, tokens: &[Lexeme], end: Line) -> Option<Rejection>
     ensures { JudgedIs (seen state.new) result
         (judge_tokens (seen state.old) (all_lined (map token_seen tokens.now) end)) }
 {
