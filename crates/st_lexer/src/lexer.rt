@@ -1,5 +1,5 @@
-//! Cuts a text into pieces, and keeps those that are tokens: where they stand in the text first, so that
-//! one bad token costs no copies.
+//! Cuts a text into pieces and keeps those that are tokens, where they stand in the text: a parser reads
+//! them there and copies no characters. `st_tokens` copies them out.
 ghost use Rattle.std.specs.Prelude.{◌≡◌, ◌≤◌, ◌+◌, ◌++◌, ◌&&◌, ◌==◌, length, drop, take, map, false, Ok, Err, IfSome, IfOk, OnOk, option_map};
 ghost use Rattle.s7_base.specs.Tokens.{begins_with, line_size, line_at_end};
 ghost use Rattle.s7_base.specs.Answers.{Answers, IfRefused};
