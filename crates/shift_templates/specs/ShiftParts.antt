@@ -1,6 +1,7 @@
 -- The parts of which the statements of shifts and rotations are made.
-use Rattle.std.specs.Prelude.{ℕ, ◌+◌, pos, false, List, [], ◌∷◌}
+use Rattle.std.specs.Prelude.{ℕ, ◌+◌, pos, false, List, [], ◌∷◌, ◌++◌}
 use Rattle.row_templates.specs.Builders.{and_of, binary_of, constant_of, convert_of, literal_of, local_of, not_of, or_of, read_of, select_of, set_local_of, set_of, shift_of}
+use Rattle.s7_base.specs.declared.register.Reg.{Reg}
 use Rattle.s7_base.specs.declared.register.Reg.TheVariants as reg
 use Rattle.s7_base.specs.declared.word.Width.{Width}
 use Rattle.s7_base.specs.declared.word.Width.TheVariants as width
@@ -73,10 +74,22 @@ counted first =
 abbrev pub flags_set : Expr → List Stmt
 flags_set out = set_of reg.Cc1 out ∷ set_of reg.Cc0 (literal_of false) ∷ set_of reg.Ov (literal_of false) ∷ []
 
+-- a flag is cleared where there is a step
+abbrev pub cleared_where : Expr → Reg → List Stmt
+cleared_where stepped flag = set_of flag (and_of (read_of flag) (not_of stepped)) ∷ []
+
 -- they do where there is a step, and else stay as they are
 abbrev pub flags_set_where : Expr → Expr → List Stmt
 flags_set_where stepped out =
     set_of reg.Cc1 (select_of stepped (read_of reg.Cc1) out)
-    ∷ set_of reg.Cc0 (and_of (read_of reg.Cc0) (not_of stepped))
-    ∷ set_of reg.Ov (and_of (read_of reg.Ov) (not_of stepped))
-    ∷ []
+    ∷ (cleared_where stepped reg.Cc0 ++ cleared_where stepped reg.Ov)
+
+-- locals take what is shifted and its sign
+abbrev pub signed_operand : Width → ℕ → ℕ → List Stmt
+signed_operand w pattern sign =
+    set_local_of pattern (operand_of w) ∷ set_local_of sign (has_bit w (top_bit w) (local_of pattern)) ∷ []
+
+-- ACCU1 takes a local's pattern, shifted with its sign
+abbrev pub signed_result : Width → ℕ → ℕ → Expr → List Stmt
+signed_result w pattern sign count =
+    set_of reg.Accu1 (accu1_with w (signed_shift (local_of sign) (local_of pattern) count)) ∷ []

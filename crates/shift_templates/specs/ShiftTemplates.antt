@@ -4,7 +4,7 @@ use Rattle.row_templates.specs.Builders.{constant_of, convert_of, local_of, or_o
 use Rattle.s7_base.specs.declared.register.Reg.TheVariants as reg
 use Rattle.s7_base.specs.declared.word.Width.{Width}
 use Rattle.s7_base.specs.declared.word.Width.TheVariants as width
-use Rattle.shift_templates.specs.ShiftParts.{accu1_with, count_of, counted, flags_set, flags_set_where, has_bit, one_less, operand_of, shown_bit, signed_shift, top_bit}
+use Rattle.shift_templates.specs.ShiftParts.{accu1_with, count_of, counted, flags_set, flags_set_where, has_bit, one_less, operand_of, shown_bit, signed_operand, signed_result, signed_shift}
 use Rattle.st_tree.specs.declared.expr.Expr.{Expr}
 use Rattle.st_tree.specs.declared.expr.ShiftOp.{ShiftOp}
 use Rattle.st_tree.specs.declared.expr.ShiftOp.TheVariants as shift
@@ -26,11 +26,10 @@ shift_by_constant op w n first =
 -- SSI, SSD: locals keep the pattern, its sign, which no step changes, and the pattern after all steps but the last
 abbrev pub signed_by_constant : Width → ℕ → ℕ → List Stmt
 signed_by_constant w n first =
-    set_local_of first (operand_of w)
-    ∷ set_local_of (first + 1) (has_bit w (top_bit w) (local_of first))
-    ∷ set_local_of (first + 2) (signed_shift (local_of (first + 1)) (local_of first) (count_of (n - 1)))
+    signed_operand w first (first + 1)
+    ++ (set_local_of (first + 2) (signed_shift (local_of (first + 1)) (local_of first) (count_of (n - 1)))
     ∷ (flags_set (has_bit w 1 (local_of (first + 2)))
-    ++ (set_of reg.Accu1 (accu1_with w (signed_shift (local_of (first + 1)) (local_of (first + 2)) (count_of 1))) ∷ []))
+    ++ signed_result w (first + 2) (first + 1) (count_of 1)))
 
 -- RLD, RRD: a local keeps the pattern after all steps
 abbrev pub turn_by_constant : ShiftOp → ℕ → ℕ → List Stmt
@@ -74,11 +73,10 @@ shift_by_accu2 op w first =
 abbrev pub signed_by_accu2 : Width → ℕ → List Stmt
 signed_by_accu2 w first =
     counted first
-    ++ (set_local_of (first + 2) (operand_of w)
-    ∷ set_local_of (first + 3) (has_bit w (top_bit w) (local_of (first + 2)))
-    ∷ set_local_of (first + 4) (signed_shift (local_of (first + 3)) (local_of (first + 2)) (one_less (local_of first)))
+    ++ (signed_operand w (first + 2) (first + 3)
+    ++ (set_local_of (first + 4) (signed_shift (local_of (first + 3)) (local_of (first + 2)) (one_less (local_of first)))
     ∷ (flags_set_where (local_of (first + 1)) (has_bit w 1 (local_of (first + 4)))
-    ++ (set_of reg.Accu1 (accu1_with w (signed_shift (local_of (first + 3)) (local_of (first + 2)) (local_of first))) ∷ [])))
+    ++ signed_result w (first + 2) (first + 3) (local_of first))))
 
 -- RLD, RRD: behind the count a local keeps the pattern after all steps
 abbrev pub turn_by_accu2 : ShiftOp → ℕ → List Stmt
@@ -121,12 +119,18 @@ types_of_shift s (Some n) = if n == 0 then [] else types_by_constant s
 
 -- Through CC1
 
--- the statements of RLDA and RRDA: a local keeps CC1, CC1 takes the bit that leaves ACCU1, and the shifted pattern the old CC1
+-- a local keeps CC1, and the flags show the bit that leaves ACCU1
+abbrev pub leaving : ShiftOp → ℕ → List Stmt
+leaving op first =
+    set_local_of first (read_of reg.Cc1) ∷ flags_set (has_bit width.Dword (shown_bit op width.Dword) (read_of reg.Accu1))
+
+-- ACCU1 takes its pattern behind one step, with what enters it
+abbrev pub entered : ShiftOp → Expr → List Stmt
+entered op entering = set_of reg.Accu1 (or_of (shift_of op (read_of reg.Accu1) (count_of 1)) entering) ∷ []
+
+-- the statements of RLDA and RRDA: what enters is the CC1 of before
 abbrev pub through_cc1 : ShiftOp → Expr → ℕ → List Stmt
-through_cc1 op entering first =
-    set_local_of first (read_of reg.Cc1)
-    ∷ (flags_set (has_bit width.Dword (shown_bit op width.Dword) (read_of reg.Accu1))
-    ++ (set_of reg.Accu1 (or_of (shift_of op (read_of reg.Accu1) (count_of 1)) entering) ∷ []))
+through_cc1 op entering first = leaving op first ++ entered op entering
 
 abbrev pub rlda_template : ℕ → List Stmt
 rlda_template first = through_cc1 shift.Shl (convert_of type.Bool type.Dword (local_of first)) first

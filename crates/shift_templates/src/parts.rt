@@ -1,7 +1,8 @@
 //! The parts of which the statements are made.
 ghost use Rattle.std.specs.Prelude.{◌≡◌, ◌<◌, ◌+◌, ◌^◌, ◌++◌, IfOk, OnOk};
-ghost use Rattle.row_templates.specs.Builders.{local_of};
-ghost use Rattle.shift_templates.specs.ShiftParts.{accu1_with, count_in_accu2, count_of, counted, flags_set, flags_set_where, has_bit, one_less, operand_of, shown_bit, signed_shift, top_bit};
+ghost use Rattle.row_templates.specs.Builders.{local_of, not_of, shift_of};
+ghost use Rattle.shift_templates.specs.ShiftParts.{accu1_with, cleared_where, count_in_accu2, count_of, counted, flags_set, flags_set_where, has_bit, one_less, operand_of, shown_bit, signed_shift, top_bit};
+ghost use Rattle.st_tree.specs.declared.expr.ShiftOp.TheVariants as shift;
 
 use row_templates::{
     and, binary, constant, convert, literal, local, not, or, read, select, set, set_local, shift,
@@ -28,11 +29,8 @@ pub fn accu1_with(alloc: Global, width: Width, pattern: Expr) -> Result<Expr, No
         Width::Word => {
             let mask = constant(StType::Dword, 0xffff_0000);
             let high = and(alloc, read(Reg::Accu1), mask)?;
-            or(
-                alloc,
-                high,
-                convert(alloc, StType::Word, StType::Dword, pattern)?,
-            )
+            let low = convert(alloc, StType::Word, StType::Dword, pattern)?;
+            or(alloc, high, low)
         }
         Width::Bit | Width::Byte | Width::Dword => Ok(pattern),
     }
@@ -67,17 +65,38 @@ pub fn has_bit(alloc: Global, width: Width, bit: u32, pattern: Expr) -> Result<E
     binary(alloc, BinaryOp::Ne, masked, constant(ty, 0))
 }
 
+/// A local's pattern, shifted to the right behind zeros.
+fn plain_shift(alloc: Global, pattern: u32, count: &Expr) -> Result<Expr, NoMemory>
+    ensures { IfOk result (λ e. e ≡ shift_of shift.Shr (local_of pattern) count.now) }
+{
+    let count = count.copy(alloc)?;
+    shift(alloc, ShiftOp::Shr, local(pattern), count)
+}
+
+/// A local's pattern, shifted to the right behind ones.
+fn inverted_shift(alloc: Global, pattern: u32, count: &Expr) -> Result<Expr, NoMemory>
+    ensures { IfOk result (λ e. e ≡ not_of (shift_of shift.Shr (not_of (local_of pattern)) count.now)) }
+{
+    let count = count.copy(alloc)?;
+    let inverted = not(alloc, local(pattern))?;
+    let shifted = shift(alloc, ShiftOp::Shr, inverted, count)?;
+    not(alloc, shifted)
+}
+
 /// A local's pattern, shifted to the right with its sign.
-pub fn signed_shift(alloc: Global, sign: u32, pattern: u32, count: &Expr) -> Result<Expr, NoMemory>
+fn shift_with_sign(alloc: Global, sign: u32, pattern: u32, count: &Expr) -> Result<Expr, NoMemory>
     ensures { IfOk result (λ e. e ≡ signed_shift (local_of sign) (local_of pattern) count.now) }
 {
-    let plain = shift(alloc, ShiftOp::Shr, local(pattern), count.copy(alloc)?)?;
-    let inverted = not(alloc, local(pattern))?;
-    let back = not(
-        alloc,
-        shift(alloc, ShiftOp::Shr, inverted, count.copy(alloc)?)?,
-    )?;
+    let plain = plain_shift(alloc, pattern, count)?;
+    let back = inverted_shift(alloc, pattern, count)?;
     select(alloc, local(sign), plain, back)
+}
+
+/// The same, with a count that is given up: who calls this owns nothing where memory may run out.
+pub fn signed_shift(alloc: Global, sign: u32, pattern: u32, count: Expr) -> Result<Expr, NoMemory>
+    ensures { IfOk result (λ e. e ≡ signed_shift (local_of sign) (local_of pattern) count) }
+{
+    shift_with_sign(alloc, sign, pattern, &count)
 }
 
 /// A count as a constant.
@@ -107,11 +126,10 @@ pub fn push_counted(alloc: Global, steps: &mut List<Stmt>, first: u32) -> Result
     requires { first + 8 < 2 ^ 32 }
     ensures { OnOk result (steps.new ≡ steps.old ++ counted first) }
 {
-    steps.push(set_local(first, count_in_accu2(alloc)?))?;
-    steps.push(set_local(
-        first + 1,
-        binary(alloc, BinaryOp::Ne, local(first), count(0))?,
-    ))
+    let steps_wanted = count_in_accu2(alloc)?;
+    steps.push(set_local(first, steps_wanted))?;
+    let is_stepped = binary(alloc, BinaryOp::Ne, local(first), count(0))?;
+    steps.push(set_local(first + 1, is_stepped))
 }
 
 /// The flags show what left last.
@@ -123,6 +141,20 @@ pub fn push_flags(steps: &mut List<Stmt>, out: Expr) -> Result<(), NoMemory>
     steps.push(set(Reg::Ov, literal(false)))
 }
 
+/// A flag is cleared where a local says that there is a step.
+fn push_cleared_where(
+    alloc: Global,
+    steps: &mut List<Stmt>,
+    stepped: u32,
+    flag: Reg,
+) -> Result<(), NoMemory>
+    ensures { OnOk result (steps.new ≡ steps.old ++ cleared_where (local_of stepped) flag) }
+{
+    let stays = not(alloc, local(stepped))?;
+    let kept = and(alloc, read(flag), stays)?;
+    steps.push(set(flag, kept))
+}
+
 /// They do where a local says that there is a step, and else stay as they are.
 pub fn push_flags_where(
     alloc: Global,
@@ -132,16 +164,8 @@ pub fn push_flags_where(
 ) -> Result<(), NoMemory>
     ensures { OnOk result (steps.new ≡ steps.old ++ flags_set_where (local_of stepped) out) }
 {
-    steps.push(set(
-        Reg::Cc1,
-        select(alloc, local(stepped), read(Reg::Cc1), out)?,
-    ))?;
-    steps.push(set(
-        Reg::Cc0,
-        and(alloc, read(Reg::Cc0), not(alloc, local(stepped))?)?,
-    ))?;
-    steps.push(set(
-        Reg::Ov,
-        and(alloc, read(Reg::Ov), not(alloc, local(stepped))?)?,
-    ))
+    let shown = select(alloc, local(stepped), read(Reg::Cc1), out)?;
+    steps.push(set(Reg::Cc1, shown))?;
+    push_cleared_where(alloc, steps, stepped, Reg::Cc0)?;
+    push_cleared_where(alloc, steps, stepped, Reg::Ov)
 }

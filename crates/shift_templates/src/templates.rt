@@ -1,6 +1,7 @@
 //! The statements of each row.
 ghost use Rattle.std.specs.Prelude.{◌≡◌, ◌≢◌, ◌<◌, ◌+◌, ◌^◌, ◌++◌, OnOk};
-ghost use Rattle.shift_templates.specs.ShiftTemplates.{by_accu2, by_constant, rlda_template, rrda_template, shift_by_accu2, shift_by_constant, shift_template, signed_by_accu2, signed_by_constant, through_cc1, turn_by_accu2, turn_by_constant, types_by_accu2, types_by_constant, types_of_shift, types_through_cc1};
+ghost use Rattle.shift_templates.specs.ShiftParts.{signed_operand, signed_result};
+ghost use Rattle.shift_templates.specs.ShiftTemplates.{by_accu2, by_constant, entered, leaving, rlda_template, rrda_template, shift_by_accu2, shift_by_constant, shift_template, signed_by_accu2, signed_by_constant, turn_by_accu2, turn_by_constant, types_by_accu2, types_by_constant, types_of_shift, types_through_cc1};
 
 use crate::parts::{
     accu1_with, count, has_bit, one_less, operand, push_counted, push_flags, push_flags_where,
@@ -24,16 +25,46 @@ fn push_shift_by_constant(
     requires { n ≢ 0 }
     ensures { OnOk result (steps.new ≡ steps.old ++ shift_by_constant op width n first) }
 {
-    steps.push(set_local(
-        first,
-        shift(alloc, op, operand(alloc, width)?, count(n - 1))?,
-    ))?;
-    push_flags(
-        steps,
-        has_bit(alloc, width, shown_bit(op, width), local(first))?,
-    )?;
+    let pattern = operand(alloc, width)?;
+    let before = shift(alloc, op, pattern, count(n - 1))?;
+    steps.push(set_local(first, before))?;
+    let out = has_bit(alloc, width, shown_bit(op, width), local(first))?;
+    push_flags(steps, out)?;
     let shifted = shift(alloc, op, local(first), count(1))?;
-    steps.push(set(Reg::Accu1, accu1_with(alloc, width, shifted)?))
+    let whole = accu1_with(alloc, width, shifted)?;
+    steps.push(set(Reg::Accu1, whole))
+}
+
+/// Locals take what is shifted and its sign.
+fn push_signed_operand(
+    alloc: Global,
+    steps: &mut List<Stmt>,
+    pattern: u32,
+    sign: u32,
+    width: Width,
+) -> Result<(), NoMemory>
+    ensures { OnOk result (steps.new ≡ steps.old ++ signed_operand width pattern sign) }
+{
+    let shifted = operand(alloc, width)?;
+    steps.push(set_local(pattern, shifted))?;
+    let is_negative = has_bit(alloc, width, top_bit(width), local(pattern))?;
+    steps.push(set_local(sign, is_negative))
+}
+
+/// ACCU1 takes a local's pattern, shifted with its sign.
+fn push_signed_result(
+    alloc: Global,
+    steps: &mut List<Stmt>,
+    pattern: u32,
+    sign: u32,
+    width: Width,
+    count: Expr,
+) -> Result<(), NoMemory>
+    ensures { OnOk result (steps.new ≡ steps.old ++ signed_result width pattern sign count) }
+{
+    let shifted = signed_shift(alloc, sign, pattern, count)?;
+    let whole = accu1_with(alloc, width, shifted)?;
+    steps.push(set(Reg::Accu1, whole))
 }
 
 /// SSI, SSD by a constant.
@@ -48,18 +79,12 @@ fn push_signed_by_constant(
     requires locals { first + 8 < 2 ^ 32 }
     ensures { OnOk result (steps.new ≡ steps.old ++ signed_by_constant width n first) }
 {
-    steps.push(set_local(first, operand(alloc, width)?))?;
-    steps.push(set_local(
-        first + 1,
-        has_bit(alloc, width, top_bit(width), local(first))?,
-    ))?;
-    steps.push(set_local(
-        first + 2,
-        signed_shift(alloc, first + 1, first, &count(n - 1))?,
-    ))?;
-    push_flags(steps, has_bit(alloc, width, 1, local(first + 2))?)?;
-    let shifted = signed_shift(alloc, first + 1, first + 2, &count(1))?;
-    steps.push(set(Reg::Accu1, accu1_with(alloc, width, shifted)?))
+    push_signed_operand(alloc, steps, first, first + 1, width)?;
+    let before = signed_shift(alloc, first + 1, first, count(n - 1))?;
+    steps.push(set_local(first + 2, before))?;
+    let out = has_bit(alloc, width, 1, local(first + 2))?;
+    push_flags(steps, out)?;
+    push_signed_result(alloc, steps, first + 2, first + 1, width, count(1))
 }
 
 /// RLD, RRD by a constant.
@@ -72,16 +97,15 @@ fn push_turn_by_constant(
 ) -> Result<(), NoMemory>
     ensures { OnOk result (steps.new ≡ steps.old ++ turn_by_constant op n first) }
 {
-    steps.push(set_local(first, shift(alloc, op, read(Reg::Accu1), count(n))?))?;
-    push_flags(
-        steps,
-        has_bit(
-            alloc,
-            Width::Dword,
-            shown_bit(op, Width::Dword),
-            local(first),
-        )?,
+    let turned = shift(alloc, op, read(Reg::Accu1), count(n))?;
+    steps.push(set_local(first, turned))?;
+    let out = has_bit(
+        alloc,
+        Width::Dword,
+        shown_bit(op, Width::Dword),
+        local(first),
     )?;
+    push_flags(steps, out)?;
     steps.push(set(Reg::Accu1, local(first)))
 }
 
@@ -97,19 +121,16 @@ fn push_shift_by_accu2(
     ensures { OnOk result (steps.new ≡ steps.old ++ shift_by_accu2 op width first) }
 {
     push_counted(alloc, steps, first)?;
-    steps.push(set_local(first + 2, operand(alloc, width)?))?;
-    steps.push(set_local(
-        first + 3,
-        shift(alloc, op, local(first + 2), one_less(alloc, local(first))?)?,
-    ))?;
-    push_flags_where(
-        alloc,
-        steps,
-        first + 1,
-        has_bit(alloc, width, shown_bit(op, width), local(first + 3))?,
-    )?;
+    let pattern = operand(alloc, width)?;
+    steps.push(set_local(first + 2, pattern))?;
+    let less = one_less(alloc, local(first))?;
+    let before = shift(alloc, op, local(first + 2), less)?;
+    steps.push(set_local(first + 3, before))?;
+    let out = has_bit(alloc, width, shown_bit(op, width), local(first + 3))?;
+    push_flags_where(alloc, steps, first + 1, out)?;
     let shifted = shift(alloc, op, local(first + 2), local(first))?;
-    steps.push(set(Reg::Accu1, accu1_with(alloc, width, shifted)?))
+    let whole = accu1_with(alloc, width, shifted)?;
+    steps.push(set(Reg::Accu1, whole))
 }
 
 /// SSI, SSD by ACCU2.
@@ -123,21 +144,13 @@ fn push_signed_by_accu2(
     ensures { OnOk result (steps.new ≡ steps.old ++ signed_by_accu2 width first) }
 {
     push_counted(alloc, steps, first)?;
-    steps.push(set_local(first + 2, operand(alloc, width)?))?;
-    steps.push(set_local(
-        first + 3,
-        has_bit(alloc, width, top_bit(width), local(first + 2))?,
-    ))?;
-    let before = signed_shift(alloc, first + 3, first + 2, &one_less(alloc, local(first))?)?;
+    push_signed_operand(alloc, steps, first + 2, first + 3, width)?;
+    let less = one_less(alloc, local(first))?;
+    let before = signed_shift(alloc, first + 3, first + 2, less)?;
     steps.push(set_local(first + 4, before))?;
-    push_flags_where(
-        alloc,
-        steps,
-        first + 1,
-        has_bit(alloc, width, 1, local(first + 4))?,
-    )?;
-    let shifted = signed_shift(alloc, first + 3, first + 2, &local(first))?;
-    steps.push(set(Reg::Accu1, accu1_with(alloc, width, shifted)?))
+    let out = has_bit(alloc, width, 1, local(first + 4))?;
+    push_flags_where(alloc, steps, first + 1, out)?;
+    push_signed_result(alloc, steps, first + 2, first + 3, width, local(first))
 }
 
 /// RLD, RRD by ACCU2.
@@ -151,7 +164,8 @@ fn push_turn_by_accu2(
     ensures { OnOk result (steps.new ≡ steps.old ++ turn_by_accu2 op first) }
 {
     push_counted(alloc, steps, first)?;
-    steps.push(set_local(first + 2, shift(alloc, op, read(Reg::Accu1), local(first))?))?;
+    let turned = shift(alloc, op, read(Reg::Accu1), local(first))?;
+    steps.push(set_local(first + 2, turned))?;
     let out = has_bit(
         alloc,
         Width::Dword,
@@ -230,51 +244,57 @@ pub fn push_shift(
     }
 }
 
-/// RLDA and RRDA, by what enters ACCU1.
-fn push_through_cc1(
+/// A local keeps CC1, and the flags show the bit that leaves ACCU1.
+fn push_leaving(
     alloc: Global,
     steps: &mut List<Stmt>,
     first: u32,
     op: ShiftOp,
-    entering: Expr,
 ) -> Result<(), NoMemory>
-    ensures { OnOk result (steps.new ≡ steps.old ++ through_cc1 op entering first) }
+    ensures { OnOk result (steps.new ≡ steps.old ++ leaving op first) }
 {
     steps.push(set_local(first, read(Reg::Cc1)))?;
-    push_flags(
-        steps,
-        has_bit(
-            alloc,
-            Width::Dword,
-            shown_bit(op, Width::Dword),
-            read(Reg::Accu1),
-        )?,
+    let out = has_bit(
+        alloc,
+        Width::Dword,
+        shown_bit(op, Width::Dword),
+        read(Reg::Accu1),
     )?;
+    push_flags(steps, out)
+}
+
+/// ACCU1 takes its pattern behind one step, with what enters it.
+fn push_entered(
+    alloc: Global,
+    steps: &mut List<Stmt>,
+    op: ShiftOp,
+    entering: Expr,
+) -> Result<(), NoMemory>
+    ensures { OnOk result (steps.new ≡ steps.old ++ entered op entering) }
+{
     let shifted = shift(alloc, op, read(Reg::Accu1), count(1))?;
-    steps.push(set(Reg::Accu1, or(alloc, shifted, entering)?))
+    let whole = or(alloc, shifted, entering)?;
+    steps.push(set(Reg::Accu1, whole))
 }
 
 /// `RLDA`, whose first local has this number.
 pub fn push_rlda(alloc: Global, steps: &mut List<Stmt>, first: u32) -> Result<(), NoMemory>
     ensures { OnOk result (steps.new ≡ steps.old ++ rlda_template first) }
 {
+    push_leaving(alloc, steps, first, ShiftOp::Shl)?;
     let entering = convert(alloc, StType::Bool, StType::Dword, local(first))?;
-    push_through_cc1(alloc, steps, first, ShiftOp::Shl, entering)
+    push_entered(alloc, steps, ShiftOp::Shl, entering)
 }
 
 /// `RRDA`, whose first local has this number.
 pub fn push_rrda(alloc: Global, steps: &mut List<Stmt>, first: u32) -> Result<(), NoMemory>
     ensures { OnOk result (steps.new ≡ steps.old ++ rrda_template first) }
 {
+    push_leaving(alloc, steps, first, ShiftOp::Shr)?;
     let low = constant(StType::Dword, 0);
     let high = constant(StType::Dword, 0x8000_0000);
-    push_through_cc1(
-        alloc,
-        steps,
-        first,
-        ShiftOp::Shr,
-        select(alloc, local(first), low, high)?,
-    )
+    let entering = select(alloc, local(first), low, high)?;
+    push_entered(alloc, steps, ShiftOp::Shr, entering)
 }
 
 /// The types of the locals that a shift by a constant takes.
