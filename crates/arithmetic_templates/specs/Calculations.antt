@@ -1,8 +1,8 @@
 -- The templates of arithmetic rows. The locals from the first on take what is used twice: the true result, which a wider
 -- type has, what is left of it, the divisor, and whether there is an overflow or no divisor.
 use Rattle.std.specs.Prelude.{ℕ, ◌+◌, pos, List, [], ◌∷◌, ◌++◌}
-use Rattle.arithmetic_templates.specs.Numbers.{cut_of, differs_of, ending_of, narrow, negative_of, positive_of, wide, wide_number_of, with_number_of}
-use Rattle.row_templates.specs.Builders.{binary_of, constant_of, convert_of, local_of, or_of, read_of, select_of, set_local_of, shift_of, unary_of}
+use Rattle.arithmetic_templates.specs.Numbers.{cut_of, differs_of, ending_of, flags_of, narrow, negative_of, positive_of, wide, wide_number_of, with_number_of}
+use Rattle.row_templates.specs.Builders.{binary_of, constant_of, convert_of, local_of, or_of, read_of, select_of, set_local_of, set_of, shift_of, unary_of}
 use Rattle.s7_base.specs.declared.register.Reg.TheVariants as reg
 use Rattle.s7_base.specs.declared.word.Width.{Width}
 use Rattle.s7_base.specs.declared.word.Width.TheVariants as width
@@ -56,18 +56,31 @@ divided_of op w i = binary_of op (wide_number_of w reg.Accu2) (divisor_of (wide 
 abbrev pub quotient_over_of : Width → ℕ → ℕ → Expr
 quotient_over_of w none i = or_of (local_of none) (differs_of w (cut_of w i) i)
 
+-- a local in the high word, above zeros
+abbrev pub in_high_word_of : ℕ → Expr
+in_high_word_of i = shift_of shift.Shl (convert_of type.Dint type.Dword (local_of i)) (constant_of type.Int (pos 16))
+
+-- a local in the low word, below zeros
+abbrev pub in_low_word_of : ℕ → Expr
+in_low_word_of i = convert_of type.Word type.Dword (convert_of type.Dint type.Word (local_of i))
+
 -- the remainder in a local in the high word, and the quotient in another in the low one
 abbrev pub both_words_of : ℕ → ℕ → Expr
-both_words_of quotient remainder =
-    or_of (shift_of shift.Shl (convert_of type.Dint type.Dword (local_of remainder)) (constant_of type.Int (pos 16)))
-    (convert_of type.Word type.Dword (convert_of type.Dint type.Word (local_of quotient)))
+both_words_of quotient remainder = or_of (in_high_word_of remainder) (in_low_word_of quotient)
 
--- the end of a division: a local says that there is no divisor, which keeps ACCU1, and another whether OV is set; the
--- sign flags are those of a third
+-- the flags of a division: a local says that there is no divisor, and another whether OV is set; the sign flags are
+-- those of a third
+abbrev pub division_flags_of : Width → ℕ → ℕ → ℕ → List Stmt
+division_flags_of w none over signed =
+    flags_of (or_of (local_of none) (positive_of (wide w) signed)) (or_of (local_of none) (negative_of (wide w) signed)) over
+
+-- ACCU1 takes what a division leaves, and is kept where a local says that there is no divisor
+abbrev pub division_left_of : ℕ → Expr → List Stmt
+division_left_of none accu1 = set_of reg.Accu1 (select_of (local_of none) accu1 (read_of reg.Accu1)) ∷ []
+
+-- the end of a division: its flags, and ACCU1
 abbrev pub division_ending_of : Width → ℕ → ℕ → ℕ → Expr → List Stmt
-division_ending_of w none over signed accu1 =
-    ending_of (or_of (local_of none) (positive_of (wide w) signed)) (or_of (local_of none) (negative_of (wide w) signed)) over
-    (select_of (local_of none) accu1 (read_of reg.Accu1))
+division_ending_of w none over signed accu1 = division_flags_of w none over signed ++ division_left_of none accu1
 
 -- what all divisions begin with: the divisor, and whether it is 0
 unfoldable pub divisor_kept_of : ℕ → Width → List Stmt

@@ -1,6 +1,6 @@
 -- The parts of which templates of calculations are made: numbers of a width and wider ones, and what ends a calculation.
 pub use Rattle.row_templates.specs.Builders.{with_low_of}
-use Rattle.std.specs.Prelude.{ℕ, pos, List, [], ◌∷◌}
+use Rattle.std.specs.Prelude.{ℕ, pos, List, [], ◌∷◌, ◌++◌}
 use Rattle.row_templates.specs.Builders.{and_of, binary_of, constant_of, convert_of, local_of, or_of, read_of, set_of}
 use Rattle.s7_base.specs.declared.register.Reg.{Reg}
 use Rattle.s7_base.specs.declared.register.Reg.TheVariants as reg
@@ -55,12 +55,14 @@ with_number_of other e = with_low_of (convert_of type.Int type.Word e)
 
 -- Statements
 
--- the end of a calculation: CC1 and CC0, OV and OS by a local that says whether it overflowed, and ACCU1
+-- OV and OS by a local that says whether a calculation overflowed
+abbrev pub overflow_of : ℕ → List Stmt
+overflow_of over = set_of reg.Ov (local_of over) ∷ set_of reg.Os (or_of (read_of reg.Os) (local_of over)) ∷ []
+
+-- the flags of a calculation: CC1 and CC0, and those of an overflow
+abbrev pub flags_of : Expr → Expr → ℕ → List Stmt
+flags_of cc1 cc0 over = set_of reg.Cc1 cc1 ∷ set_of reg.Cc0 cc0 ∷ overflow_of over
+
+-- the end of a calculation: its flags, and ACCU1
 abbrev pub ending_of : Expr → Expr → ℕ → Expr → List Stmt
-ending_of cc1 cc0 over accu1 =
-    set_of reg.Cc1 cc1
-    ∷ set_of reg.Cc0 cc0
-    ∷ set_of reg.Ov (local_of over)
-    ∷ set_of reg.Os (or_of (read_of reg.Os) (local_of over))
-    ∷ set_of reg.Accu1 accu1
-    ∷ []
+ending_of cc1 cc0 over accu1 = flags_of cc1 cc0 over ++ (set_of reg.Accu1 accu1 ∷ [])

@@ -1,11 +1,14 @@
 //! Arithmetic rows.
 ghost use Rattle.std.specs.Prelude.{◌≡◌, ◌++◌, ◌+◌, ◌<◌, ◌^◌, IfOk, OnOk};
-ghost use Rattle.arithmetic_templates.specs.Calculations.{both_words_of, calculated_of, divided_of, division_ending_of, divisor_kept_of, divisor_of, negated_of, operated_of, product_of, quotient_in_dword_of, quotient_in_words_of, quotient_over_of, remainder_in_dword_of, result_of, types_of_calculated, types_of_negated, zero_of};
+ghost use Rattle.arithmetic_templates.specs.Calculations.{both_words_of, calculated_of, divided_of, division_flags_of, division_left_of, divisor_kept_of, divisor_of, in_high_word_of, in_low_word_of, negated_of, operated_of, product_of, quotient_in_dword_of, quotient_in_words_of, quotient_over_of, remainder_in_dword_of, result_of, types_of_calculated, types_of_negated, zero_of};
 
 use crate::numbers::{
-    cut, differs, narrow, negative, positive, push_ending, wide, wide_number, with_number,
+    cut, differs, narrow, negative, positive, push_flags, push_overflow, wide, wide_number,
+    with_number,
 };
-use row_templates::{binary, constant, convert, local, or, read, select, set_local, shift, unary};
+use row_templates::{
+    binary, constant, convert, local, or, read, select, set, set_local, shift, unary,
+};
 use s7_base::{List, NoMemory, Reg, Width};
 use st_tree::{BinaryOp, Expr, ShiftOp, StType, Stmt, UnaryOp};
 use std::alloc::Global;
@@ -14,12 +17,9 @@ use stl_tree::Arith;
 fn operated(alloc: Global, op: BinaryOp, width: Width) -> Result<Expr, NoMemory>
     ensures { IfOk result (λ value. value ≡ operated_of op width) }
 {
-    binary(
-        alloc,
-        op,
-        wide_number(alloc, width, Reg::Accu2)?,
-        wide_number(alloc, width, Reg::Accu1)?,
-    )
+    let left = wide_number(alloc, width, Reg::Accu2)?;
+    let right = wide_number(alloc, width, Reg::Accu1)?;
+    binary(alloc, op, left, right)
 }
 
 fn push_result(
@@ -33,18 +33,13 @@ fn push_result(
     ensures { OnOk result (steps.new ≡ steps.old ++ result_of first width value) }
 {
     steps.push(set_local(first, value))?;
-    steps.push(set_local(first + 1, cut(alloc, width, first)?))?;
-    steps.push(set_local(first + 2, differs(alloc, width, local(first + 1), first)?))?;
-    let cc1 = positive(alloc, narrow(width), first + 1)?;
-    let cc0 = negative(alloc, narrow(width), first + 1)?;
-    push_ending(
-        alloc,
-        steps,
-        cc1,
-        cc0,
-        first + 2,
-        with_number(alloc, width, local(first + 1))?,
-    )
+    let left = cut(alloc, width, first)?;
+    steps.push(set_local(first + 1, left))?;
+    let over = differs(alloc, width, local(first + 1), first)?;
+    steps.push(set_local(first + 2, over))?;
+    push_flags(alloc, steps, narrow(width), first + 1, first + 2)?;
+    let accu1 = with_number(alloc, width, local(first + 1))?;
+    steps.push(set(Reg::Accu1, accu1))
 }
 
 fn push_product(
@@ -56,15 +51,14 @@ fn push_product(
     requires { first + 8 < 2 ^ 32 }
     ensures { OnOk result (steps.new ≡ steps.old ++ product_of first width) }
 {
-    steps.push(set_local(first, operated(alloc, BinaryOp::Mul, width)?))?;
-    steps.push(set_local(
-        first + 1,
-        differs(alloc, width, cut(alloc, width, first)?, first)?,
-    ))?;
-    let cc1 = positive(alloc, wide(width), first)?;
-    let cc0 = negative(alloc, wide(width), first)?;
+    let product = operated(alloc, BinaryOp::Mul, width)?;
+    steps.push(set_local(first, product))?;
+    let left = cut(alloc, width, first)?;
+    let over = differs(alloc, width, left, first)?;
+    steps.push(set_local(first + 1, over))?;
+    push_flags(alloc, steps, wide(width), first, first + 1)?;
     let accu1 = convert(alloc, wide(width), StType::Dword, local(first))?;
-    push_ending(alloc, steps, cc1, cc0, first + 1, accu1)
+    steps.push(set(Reg::Accu1, accu1))
 }
 
 fn zero(alloc: Global, ty: StType, index: u32) -> Result<Expr, NoMemory>
@@ -77,63 +71,81 @@ fn zero(alloc: Global, ty: StType, index: u32) -> Result<Expr, NoMemory>
 fn divisor(alloc: Global, ty: StType, index: u32) -> Result<Expr, NoMemory>
     ensures { IfOk result (λ value. value ≡ divisor_of ty index) }
 {
-    select(
-        alloc,
-        zero(alloc, ty, index)?,
-        local(index),
-        constant(ty, 1),
-    )
+    let none = zero(alloc, ty, index)?;
+    select(alloc, none, local(index), constant(ty, 1))
 }
 
 fn divided(alloc: Global, op: BinaryOp, width: Width, index: u32) -> Result<Expr, NoMemory>
     ensures { IfOk result (λ value. value ≡ divided_of op width index) }
 {
-    binary(
-        alloc,
-        op,
-        wide_number(alloc, width, Reg::Accu2)?,
-        divisor(alloc, wide(width), index)?,
-    )
+    let number = wide_number(alloc, width, Reg::Accu2)?;
+    let divisor = divisor(alloc, wide(width), index)?;
+    binary(alloc, op, number, divisor)
 }
 
 fn quotient_over(alloc: Global, width: Width, none: u32, index: u32) -> Result<Expr, NoMemory>
     ensures { IfOk result (λ value. value ≡ quotient_over_of width none index) }
 {
-    or(
-        alloc,
-        local(none),
-        differs(alloc, width, cut(alloc, width, index)?, index)?,
-    )
+    let left = cut(alloc, width, index)?;
+    let over = differs(alloc, width, left, index)?;
+    or(alloc, local(none), over)
+}
+
+/// A local in the high word, above zeros.
+fn in_high_word(alloc: Global, index: u32) -> Result<Expr, NoMemory>
+    ensures { IfOk result (λ value. value ≡ in_high_word_of index) }
+{
+    let pattern = convert(alloc, StType::Dint, StType::Dword, local(index))?;
+    shift(alloc, ShiftOp::Shl, pattern, constant(StType::Int, 16))
+}
+
+/// A local in the low word, below zeros.
+fn in_low_word(alloc: Global, index: u32) -> Result<Expr, NoMemory>
+    ensures { IfOk result (λ value. value ≡ in_low_word_of index) }
+{
+    let word = convert(alloc, StType::Dint, StType::Word, local(index))?;
+    convert(alloc, StType::Word, StType::Dword, word)
 }
 
 fn both_words(alloc: Global, quotient: u32, remainder: u32) -> Result<Expr, NoMemory>
     ensures { IfOk result (λ value. value ≡ both_words_of quotient remainder) }
 {
-    let high = convert(alloc, StType::Dint, StType::Dword, local(remainder))?;
-    let high = shift(alloc, ShiftOp::Shl, high, constant(StType::Int, 16))?;
-    let low = convert(alloc, StType::Dint, StType::Word, local(quotient))?;
-    or(
-        alloc,
-        high,
-        convert(alloc, StType::Word, StType::Dword, low)?,
-    )
+    let high = in_high_word(alloc, remainder)?;
+    let low = in_low_word(alloc, quotient)?;
+    or(alloc, high, low)
 }
 
-fn push_division_ending(
+/// Flags of a division: a local says that there is no divisor, another whether OV is set, and a third has the sign.
+fn push_division_flags(
     alloc: Global,
     steps: &mut List<Stmt>,
     width: Width,
     none: u32,
     over: u32,
     signed: u32,
+) -> Result<(), NoMemory>
+    ensures { OnOk result (steps.new ≡ steps.old ++ division_flags_of width none over signed) }
+{
+    let above = positive(alloc, wide(width), signed)?;
+    let cc1 = or(alloc, local(none), above)?;
+    steps.push(set(Reg::Cc1, cc1))?;
+    let below = negative(alloc, wide(width), signed)?;
+    let cc0 = or(alloc, local(none), below)?;
+    steps.push(set(Reg::Cc0, cc0))?;
+    push_overflow(alloc, steps, over)
+}
+
+/// ACCU1 takes what a division leaves, and is kept where a local says that there is no divisor.
+fn push_division_left(
+    alloc: Global,
+    steps: &mut List<Stmt>,
+    none: u32,
     accu1: Expr,
 ) -> Result<(), NoMemory>
-    ensures { OnOk result (steps.new ≡ steps.old ++ division_ending_of width none over signed accu1) }
+    ensures { OnOk result (steps.new ≡ steps.old ++ division_left_of none accu1) }
 {
-    let cc1 = or(alloc, local(none), positive(alloc, wide(width), signed)?)?;
-    let cc0 = or(alloc, local(none), negative(alloc, wide(width), signed)?)?;
     let accu1 = select(alloc, local(none), accu1, read(Reg::Accu1))?;
-    push_ending(alloc, steps, cc1, cc0, over, accu1)
+    steps.push(set(Reg::Accu1, accu1))
 }
 
 #[tactic(auto, unfolding(crate::specs::Calculations::divisor_kept_of))]
@@ -146,8 +158,10 @@ fn push_divisor_kept(
     requires { first + 8 < 2 ^ 32 }
     ensures { OnOk result (steps.new ≡ steps.old ++ divisor_kept_of first width) }
 {
-    steps.push(set_local(first, wide_number(alloc, width, Reg::Accu1)?))?;
-    steps.push(set_local(first + 1, zero(alloc, wide(width), first)?))
+    let divisor = wide_number(alloc, width, Reg::Accu1)?;
+    steps.push(set_local(first, divisor))?;
+    let none = zero(alloc, wide(width), first)?;
+    steps.push(set_local(first + 1, none))
 }
 
 #[tactic(auto, unfolding(crate::specs::Calculations::quotient_in_words_of))]
@@ -155,28 +169,15 @@ fn push_quotient_in_words(alloc: Global, steps: &mut List<Stmt>, first: u32) -> 
     requires { first + 8 < 2 ^ 32 }
     ensures { OnOk result (steps.new ≡ steps.old ++ quotient_in_words_of first) }
 {
-    steps.push(set_local(
-        first + 2,
-        divided(alloc, BinaryOp::Div, Width::Word, first)?,
-    ))?;
-    steps.push(set_local(
-        first + 3,
-        divided(alloc, BinaryOp::Mod, Width::Word, first)?,
-    ))?;
-    steps.push(set_local(
-        first + 4,
-        quotient_over(alloc, Width::Word, first + 1, first + 2)?,
-    ))?;
+    let quotient = divided(alloc, BinaryOp::Div, Width::Word, first)?;
+    steps.push(set_local(first + 2, quotient))?;
+    let remainder = divided(alloc, BinaryOp::Mod, Width::Word, first)?;
+    steps.push(set_local(first + 3, remainder))?;
+    let over = quotient_over(alloc, Width::Word, first + 1, first + 2)?;
+    steps.push(set_local(first + 4, over))?;
+    push_division_flags(alloc, steps, Width::Word, first + 1, first + 4, first + 2)?;
     let accu1 = both_words(alloc, first + 2, first + 3)?;
-    push_division_ending(
-        alloc,
-        steps,
-        Width::Word,
-        first + 1,
-        first + 4,
-        first + 2,
-        accu1,
-    )
+    push_division_left(alloc, steps, first + 1, accu1)
 }
 
 #[tactic(auto, unfolding(crate::specs::Calculations::quotient_in_dword_of))]
@@ -184,24 +185,13 @@ fn push_quotient_in_dword(alloc: Global, steps: &mut List<Stmt>, first: u32) -> 
     requires { first + 8 < 2 ^ 32 }
     ensures { OnOk result (steps.new ≡ steps.old ++ quotient_in_dword_of first) }
 {
-    steps.push(set_local(
-        first + 2,
-        divided(alloc, BinaryOp::Div, Width::Dword, first)?,
-    ))?;
-    steps.push(set_local(
-        first + 3,
-        quotient_over(alloc, Width::Dword, first + 1, first + 2)?,
-    ))?;
+    let quotient = divided(alloc, BinaryOp::Div, Width::Dword, first)?;
+    steps.push(set_local(first + 2, quotient))?;
+    let over = quotient_over(alloc, Width::Dword, first + 1, first + 2)?;
+    steps.push(set_local(first + 3, over))?;
+    push_division_flags(alloc, steps, Width::Dword, first + 1, first + 3, first + 2)?;
     let accu1 = convert(alloc, StType::Lint, StType::Dword, local(first + 2))?;
-    push_division_ending(
-        alloc,
-        steps,
-        Width::Dword,
-        first + 1,
-        first + 3,
-        first + 2,
-        accu1,
-    )
+    push_division_left(alloc, steps, first + 1, accu1)
 }
 
 #[tactic(auto, unfolding(crate::specs::Calculations::remainder_in_dword_of))]
@@ -213,20 +203,11 @@ fn push_remainder_in_dword(
     requires { first + 8 < 2 ^ 32 }
     ensures { OnOk result (steps.new ≡ steps.old ++ remainder_in_dword_of first) }
 {
-    steps.push(set_local(
-        first + 2,
-        divided(alloc, BinaryOp::Mod, Width::Dword, first)?,
-    ))?;
+    let remainder = divided(alloc, BinaryOp::Mod, Width::Dword, first)?;
+    steps.push(set_local(first + 2, remainder))?;
+    push_division_flags(alloc, steps, Width::Dword, first + 1, first + 1, first + 2)?;
     let accu1 = convert(alloc, StType::Lint, StType::Dword, local(first + 2))?;
-    push_division_ending(
-        alloc,
-        steps,
-        Width::Dword,
-        first + 1,
-        first + 1,
-        first + 2,
-        accu1,
-    )
+    push_division_left(alloc, steps, first + 1, accu1)
 }
 
 fn push_operated(
@@ -239,7 +220,8 @@ fn push_operated(
     requires { first + 8 < 2 ^ 32 }
     ensures { OnOk result (steps.new ≡ steps.old ++ result_of first width (operated_of op width)) }
 {
-    push_result(alloc, steps, first, width, operated(alloc, op, width)?)
+    let value = operated(alloc, op, width)?;
+    push_result(alloc, steps, first, width, value)
 }
 
 /// Pushes the statements of an arithmetic row, whose locals are those from `first` on.
@@ -284,11 +266,8 @@ pub fn push_negated(
     requires { first + 8 < 2 ^ 32 }
     ensures { OnOk result (steps.new ≡ steps.old ++ negated_of first width) }
 {
-    let negated = unary(
-        alloc,
-        UnaryOp::Minus,
-        wide_number(alloc, width, Reg::Accu1)?,
-    )?;
+    let number = wide_number(alloc, width, Reg::Accu1)?;
+    let negated = unary(alloc, UnaryOp::Minus, number)?;
     push_result(alloc, steps, first, width, negated)
 }
 

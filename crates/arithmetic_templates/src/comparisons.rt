@@ -1,6 +1,7 @@
 //! Comparisons of whole numbers.
 ghost use Rattle.std.specs.Prelude.{◌≡◌, ◌++◌, ◌+◌, ◌<◌, ◌^◌, IfOk, OnOk};
 ghost use Rattle.arithmetic_templates.specs.Comparisons.{compared_of, comparison_of, types_of_compared};
+ghost use Rattle.row_templates.specs.Builders.{binary_of, local_of};
 
 use crate::numbers::number;
 use row_templates::{binary, literal, local, push_cleared, set, set_local};
@@ -9,16 +10,24 @@ use st_tree::{BinaryOp, Expr, StType, Stmt};
 use status_word::Test;
 use std::alloc::Global;
 
-fn comparison(alloc: Global, test: Test, left: Expr, right: Expr) -> Result<Expr, NoMemory>
-    ensures { IfOk result (λ value. value ≡ comparison_of test left right) }
+/// An operator between two locals.
+fn between(alloc: Global, op: BinaryOp, left: u32, right: u32) -> Result<Expr, NoMemory>
+    ensures { IfOk result (λ value. value ≡ binary_of op (local_of left) (local_of right)) }
+{
+    binary(alloc, op, local(left), local(right))
+}
+
+/// How two locals compare.
+fn comparison(alloc: Global, test: Test, left: u32, right: u32) -> Result<Expr, NoMemory>
+    ensures { IfOk result (λ value. value ≡ comparison_of test (local_of left) (local_of right)) }
 {
     match test {
-        Test::Eq => binary(alloc, BinaryOp::Eq, left, right),
-        Test::Ne => binary(alloc, BinaryOp::Ne, left, right),
-        Test::Gt => binary(alloc, BinaryOp::Gt, left, right),
-        Test::Lt => binary(alloc, BinaryOp::Lt, left, right),
-        Test::Ge => binary(alloc, BinaryOp::Ge, left, right),
-        Test::Le => binary(alloc, BinaryOp::Le, left, right),
+        Test::Eq => between(alloc, BinaryOp::Eq, left, right),
+        Test::Ne => between(alloc, BinaryOp::Ne, left, right),
+        Test::Gt => between(alloc, BinaryOp::Gt, left, right),
+        Test::Lt => between(alloc, BinaryOp::Lt, left, right),
+        Test::Ge => between(alloc, BinaryOp::Ge, left, right),
+        Test::Le => between(alloc, BinaryOp::Le, left, right),
         Test::Uo | Test::Ov | Test::Os | Test::Br => Ok(literal(false)),
     }
 }
@@ -34,20 +43,16 @@ pub fn push_compared(
     requires { first + 8 < 2 ^ 32 }
     ensures { OnOk result (steps.new ≡ steps.old ++ compared_of first test width) }
 {
-    steps.push(set_local(first, number(alloc, width, Reg::Accu2)?))?;
-    steps.push(set_local(first + 1, number(alloc, width, Reg::Accu1)?))?;
-    steps.push(set(
-        Reg::Rlo,
-        comparison(alloc, test, local(first), local(first + 1))?,
-    ))?;
-    steps.push(set(
-        Reg::Cc1,
-        binary(alloc, BinaryOp::Gt, local(first), local(first + 1))?,
-    ))?;
-    steps.push(set(
-        Reg::Cc0,
-        binary(alloc, BinaryOp::Lt, local(first), local(first + 1))?,
-    ))?;
+    let left = number(alloc, width, Reg::Accu2)?;
+    steps.push(set_local(first, left))?;
+    let right = number(alloc, width, Reg::Accu1)?;
+    steps.push(set_local(first + 1, right))?;
+    let answer = comparison(alloc, test, first, first + 1)?;
+    steps.push(set(Reg::Rlo, answer))?;
+    let above = between(alloc, BinaryOp::Gt, first, first + 1)?;
+    steps.push(set(Reg::Cc1, above))?;
+    let below = between(alloc, BinaryOp::Lt, first, first + 1)?;
+    steps.push(set(Reg::Cc0, below))?;
     steps.push(set(Reg::Ov, literal(false)))?;
     push_cleared(steps, true)
 }

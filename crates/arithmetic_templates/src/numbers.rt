@@ -1,6 +1,6 @@
 //! Numbers of a width and wider ones, and what ends a calculation.
 ghost use Rattle.std.specs.Prelude.{◌≡◌, ◌++◌, IfOk, OnOk};
-ghost use Rattle.arithmetic_templates.specs.Numbers.{cut_of, differs_of, ending_of, narrow, negative_of, number_of, positive_of, wide, wide_number_of, with_number_of};
+ghost use Rattle.arithmetic_templates.specs.Numbers.{cut_of, differs_of, flags_of, narrow, negative_of, number_of, overflow_of, positive_of, wide, wide_number_of, with_number_of};
 
 use row_templates::{and, binary, constant, convert, local, or, read, set, with_low};
 use s7_base::{List, NoMemory, Reg, Width};
@@ -34,12 +34,8 @@ pub fn number(alloc: Global, width: Width, register: Reg) -> Result<Expr, NoMemo
 pub fn wide_number(alloc: Global, width: Width, register: Reg) -> Result<Expr, NoMemory>
     ensures { IfOk result (λ value. value ≡ wide_number_of width register) }
 {
-    convert(
-        alloc,
-        narrow(width),
-        wide(width),
-        number(alloc, width, register)?,
-    )
+    let held = number(alloc, width, register)?;
+    convert(alloc, narrow(width), wide(width), held)
 }
 
 pub fn cut(alloc: Global, width: Width, index: u32) -> Result<Expr, NoMemory>
@@ -51,12 +47,8 @@ pub fn cut(alloc: Global, width: Width, index: u32) -> Result<Expr, NoMemory>
 pub fn differs(alloc: Global, width: Width, cut: Expr, index: u32) -> Result<Expr, NoMemory>
     ensures { IfOk result (λ value. value ≡ differs_of width cut index) }
 {
-    binary(
-        alloc,
-        BinaryOp::Ne,
-        convert(alloc, narrow(width), wide(width), cut)?,
-        local(index),
-    )
+    let widened = convert(alloc, narrow(width), wide(width), cut)?;
+    binary(alloc, BinaryOp::Ne, widened, local(index))
 }
 
 pub fn positive(alloc: Global, ty: StType, index: u32) -> Result<Expr, NoMemory>
@@ -76,23 +68,35 @@ pub fn with_number(alloc: Global, width: Width, number: Expr) -> Result<Expr, No
 {
     match width {
         Width::Dword => convert(alloc, StType::Dint, StType::Dword, number),
-        _ => with_low(alloc, convert(alloc, StType::Int, StType::Word, number)?),
+        _ => {
+            let word = convert(alloc, StType::Int, StType::Word, number)?;
+            with_low(alloc, word)
+        }
     }
 }
 
-pub fn push_ending(
+/// OV and OS by a local that says whether a calculation overflowed.
+pub fn push_overflow(alloc: Global, steps: &mut List<Stmt>, over: u32) -> Result<(), NoMemory>
+    ensures { OnOk result (steps.new ≡ steps.old ++ overflow_of over) }
+{
+    steps.push(set(Reg::Ov, local(over)))?;
+    let stored = or(alloc, read(Reg::Os), local(over))?;
+    steps.push(set(Reg::Os, stored))
+}
+
+/// Flags of a calculation, of which those of a sign are a local's.
+pub fn push_flags(
     alloc: Global,
     steps: &mut List<Stmt>,
-    cc1: Expr,
-    cc0: Expr,
+    ty: StType,
+    signed: u32,
     over: u32,
-    accu1: Expr,
 ) -> Result<(), NoMemory>
-    ensures { OnOk result (steps.new ≡ steps.old ++ ending_of cc1 cc0 over accu1) }
+    ensures { OnOk result (steps.new ≡ steps.old ++ flags_of (positive_of ty signed) (negative_of ty signed) over) }
 {
+    let cc1 = positive(alloc, ty, signed)?;
     steps.push(set(Reg::Cc1, cc1))?;
+    let cc0 = negative(alloc, ty, signed)?;
     steps.push(set(Reg::Cc0, cc0))?;
-    steps.push(set(Reg::Ov, local(over)))?;
-    steps.push(set(Reg::Os, or(alloc, read(Reg::Os), local(over))?))?;
-    steps.push(set(Reg::Accu1, accu1))
+    push_overflow(alloc, steps, over)
 }
