@@ -38,13 +38,21 @@ low_byte_of e = extended_of width.Byte (cut_of width.Byte e)
 abbrev pub byte_above_of : ℕ → Expr
 byte_above_of n = low_byte_of (shifted_of shift.Shr (read_of reg.Accu1) n)
 
+-- that byte in the place above so many other bits
+abbrev pub byte_moved_of : ℕ → ℕ → Expr
+byte_moved_of from to = shifted_of shift.Shl (byte_above_of from) to
+
+-- the lowest byte of ACCU1 in the place of the highest
+abbrev pub lowest_byte_moved : Expr
+lowest_byte_moved = shifted_of shift.Shl (low_byte_of (read_of reg.Accu1)) 24
+
 -- the bytes of ACCU1 in reverse order: the highest two, the highest three, and all four
 
 abbrev pub two_reversed : Expr
-two_reversed = or_of (shifted_of shift.Shl (low_byte_of (read_of reg.Accu1)) 24) (shifted_of shift.Shl (byte_above_of 8) 16)
+two_reversed = or_of lowest_byte_moved (byte_moved_of 8 16)
 
 abbrev pub three_reversed : Expr
-three_reversed = or_of two_reversed (shifted_of shift.Shl (byte_above_of 16) 8)
+three_reversed = or_of two_reversed (byte_moved_of 16 8)
 
 abbrev pub reversed_value : Expr
 reversed_value = or_of three_reversed (byte_above_of 24)

@@ -1,5 +1,5 @@
 -- Word logic.
-use Rattle.std.specs.Prelude.{ℕ, ◌==◌, pos, false, not, if◌then◌else◌, List, [], ◌∷◌, Option, Some, None}
+use Rattle.std.specs.Prelude.{ℕ, ◌==◌, pos, false, not, if◌then◌else◌, List, [], ◌∷◌, ◌++◌, Option, Some, None}
 use Rattle.accumulator_templates.specs.Parts.{cut_of, dword_of, with_low_of}
 use Rattle.row_templates.specs.Builders.{binary_of, constant_of, literal_of, local_of, read_of, set_local_of, set_of}
 use Rattle.s7_base.specs.declared.register.Reg.TheVariants as reg
@@ -44,19 +44,26 @@ with_pattern_of row.Xod e = e
 with_pattern_of l e = with_low_of e
 
 -- CC1 says whether the result is other than zero
+abbrev pub shown_of : Expr → List Stmt
+shown_of nonzero = set_of reg.Cc1 nonzero ∷ set_of reg.Cc0 (literal_of false) ∷ set_of reg.Ov (literal_of false) ∷ []
+
+-- so, and ACCU1 takes the result
 abbrev pub result_of : Expr → Expr → List Stmt
-result_of nonzero accu1 =
-    set_of reg.Cc1 nonzero ∷ set_of reg.Cc0 (literal_of false) ∷ set_of reg.Ov (literal_of false) ∷ set_of reg.Accu1 accu1 ∷ []
+result_of nonzero accu1 = shown_of nonzero ++ (set_of reg.Accu1 accu1 ∷ [])
 
 -- the result is a constant, and nothing is read
 abbrev pub fixed_of : ℕ → List Stmt
 fixed_of c = result_of (literal_of (not (c == 0))) (dword_of c)
 
+-- the result in a local is other than zero
+abbrev pub nonzero_of : ℕ → LogicRow → Expr
+nonzero_of first l = binary_of binary.Ne (local_of first) (constant_of (type_of_row l) (pos 0))
+
 -- a local takes the result
 abbrev pub computed_of : ℕ → LogicRow → Option ℕ → List Stmt
 computed_of first l c =
     set_local_of first (combined_of l c)
-    ∷ result_of (binary_of binary.Ne (local_of first) (constant_of (type_of_row l) (pos 0))) (with_pattern_of l (local_of first))
+    ∷ result_of (nonzero_of first l) (with_pattern_of l (local_of first))
 
 -- a row, with a constant or with ACCU2
 abbrev pub logic_of : ℕ → LogicRow → Option ℕ → List Stmt

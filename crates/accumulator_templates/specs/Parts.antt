@@ -35,6 +35,10 @@ extended_of width.Byte e = convert_of type.Byte type.Dword e
 extended_of width.Word e = convert_of type.Word type.Dword e
 extended_of width.Dword e = e
 
+-- ACCU1 above its low byte
+abbrev pub above_byte : Expr
+above_byte = and_of (read_of reg.Accu1) (dword_of 0xFFFFFF00)
+
 -- ACCU1 with another low byte
 abbrev pub with_byte_of : Expr → Expr
-with_byte_of e = or_of (and_of (read_of reg.Accu1) (dword_of 0xFFFFFF00)) (extended_of width.Byte e)
+with_byte_of e = or_of above_byte (extended_of width.Byte e)

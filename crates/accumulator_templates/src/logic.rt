@@ -1,6 +1,6 @@
 //! Word logic.
 ghost use Rattle.std.specs.Prelude.{◌≡◌, ◌++◌, IfOk, OnOk};
-ghost use Rattle.accumulator_templates.specs.Logic.{combined_of, computed_of, fixed_of, logic_of, operator_of, other_of, result_of, type_of_row, types_of_logic, with_pattern_of};
+ghost use Rattle.accumulator_templates.specs.Logic.{combined_of, computed_of, fixed_of, logic_of, nonzero_of, operator_of, other_of, shown_of, type_of_row, types_of_logic, with_pattern_of};
 ghost use Rattle.stl_tree.specs.Reads.{is_fixed};
 
 use crate::parts::{cut, dword};
@@ -76,7 +76,8 @@ fn operator_of(row: LogicRow) -> BinaryOp
 fn push_fixed(steps: &mut List<Stmt>, number: u32) -> Result<(), NoMemory>
     ensures { OnOk result (steps.new ≡ steps.old ++ fixed_of number) }
 {
-    push_result(steps, literal(number != 0), dword(number))
+    push_shown(steps, literal(number != 0))?;
+    steps.push(set(Reg::Accu1, dword(number)))
 }
 
 /// A local takes the result.
@@ -89,20 +90,29 @@ fn push_computed(
 ) -> Result<(), NoMemory>
     ensures { OnOk result (steps.new ≡ steps.old ++ computed_of first row number) }
 {
-    steps.push(set_local(first, combined(alloc, row, number)?))?;
+    let value = combined(alloc, row, number)?;
+    steps.push(set_local(first, value))?;
+    let nonzero = nonzero(alloc, row, first)?;
+    push_shown(steps, nonzero)?;
+    let accu1 = with_pattern(alloc, row, local(first))?;
+    steps.push(set(Reg::Accu1, accu1))
+}
+
+/// The result in a local is other than zero.
+fn nonzero(alloc: Global, row: LogicRow, first: u32) -> Result<Expr, NoMemory>
+    ensures { IfOk result (λ value. value ≡ nonzero_of first row) }
+{
     let zero = constant(type_of_row(row), 0);
-    let nonzero = binary(alloc, BinaryOp::Ne, local(first), zero)?;
-    push_result(steps, nonzero, with_pattern(alloc, row, local(first))?)
+    binary(alloc, BinaryOp::Ne, local(first), zero)
 }
 
 /// CC1 says whether the result is other than zero.
-fn push_result(steps: &mut List<Stmt>, nonzero: Expr, accu1: Expr) -> Result<(), NoMemory>
-    ensures { OnOk result (steps.new ≡ steps.old ++ result_of nonzero accu1) }
+fn push_shown(steps: &mut List<Stmt>, nonzero: Expr) -> Result<(), NoMemory>
+    ensures { OnOk result (steps.new ≡ steps.old ++ shown_of nonzero) }
 {
     steps.push(set(Reg::Cc1, nonzero))?;
     steps.push(set(Reg::Cc0, literal(false)))?;
-    steps.push(set(Reg::Ov, literal(false)))?;
-    steps.push(set(Reg::Accu1, accu1))
+    steps.push(set(Reg::Ov, literal(false)))
 }
 
 /// The result of a row, a pattern of its type.

@@ -1,5 +1,5 @@
 //! Loading, storing and moving.
-ghost use Rattle.std.specs.Prelude.{◌≡◌, ◌+◌, ◌++◌, ◌<◌, ◌^◌, IfOk, OnOk};
+ghost use Rattle.std.specs.Prelude.{◌≡◌, ◌∷◌, [], ◌+◌, ◌++◌, ◌<◌, ◌^◌, IfOk, OnOk};
 ghost use Rattle.accumulator_templates.specs.Moves.{before_load, exchange_of, flag_from_of, load_of, loaded_value, pop_of, push_of, status_load_of, status_store_of, status_value, taken_of, transfer_of, types_of_exchange, types_of_load, with_flag_of};
 
 use crate::parts::{any_bit, bits_where, cut, dword, extended};
@@ -82,7 +82,8 @@ pub fn push_transfer(
 {
     push_reach(alloc, steps, first, operand)?;
     let pattern = cut(alloc, width, read(Reg::Accu1))?;
-    steps.push(writing(alloc, first, operand, width, pattern)?)
+    let step = writing(alloc, first, operand, width, pattern)?;
+    steps.push(step)
 }
 
 /// `L STW`.
@@ -107,26 +108,33 @@ fn status_value(alloc: Global) -> Result<Expr, NoMemory>
 fn with_flag(alloc: Global, pattern: Expr, flag: Reg, mask: u32) -> Result<Expr, NoMemory>
     ensures { IfOk result (λ value. value ≡ with_flag_of pattern flag mask) }
 {
-    or(alloc, pattern, bits_where(alloc, read(flag), mask)?)
+    let bits = bits_where(alloc, read(flag), mask)?;
+    or(alloc, pattern, bits)
 }
 
 /// `T STW`.
 pub fn push_status_store(alloc: Global, steps: &mut List<Stmt>) -> Result<(), NoMemory>
     ensures { OnOk result (steps.new ≡ steps.old ++ status_store_of) }
 {
-    steps.push(flag_from(alloc, Reg::Rlo, 0x2)?)?;
-    steps.push(flag_from(alloc, Reg::Os, 0x10)?)?;
-    steps.push(flag_from(alloc, Reg::Ov, 0x20)?)?;
-    steps.push(flag_from(alloc, Reg::Cc0, 0x40)?)?;
-    steps.push(flag_from(alloc, Reg::Cc1, 0x80)?)?;
-    steps.push(flag_from(alloc, Reg::Br, 0x100)?)
+    push_flag_from(alloc, steps, Reg::Rlo, 0x2)?;
+    push_flag_from(alloc, steps, Reg::Os, 0x10)?;
+    push_flag_from(alloc, steps, Reg::Ov, 0x20)?;
+    push_flag_from(alloc, steps, Reg::Cc0, 0x40)?;
+    push_flag_from(alloc, steps, Reg::Cc1, 0x80)?;
+    push_flag_from(alloc, steps, Reg::Br, 0x100)
 }
 
 /// A flag takes the bit of ACCU1 in a mask.
-fn flag_from(alloc: Global, flag: Reg, mask: u32) -> Result<Stmt, NoMemory>
-    ensures { IfOk result (λ step. step ≡ flag_from_of flag mask) }
+fn push_flag_from(
+    alloc: Global,
+    steps: &mut List<Stmt>,
+    flag: Reg,
+    mask: u32,
+) -> Result<(), NoMemory>
+    ensures { OnOk result (steps.new ≡ steps.old ++ (flag_from_of flag mask ∷ [])) }
 {
-    Ok(set(flag, any_bit(alloc, read(Reg::Accu1), mask)?))
+    let bit = any_bit(alloc, read(Reg::Accu1), mask)?;
+    steps.push(set(flag, bit))
 }
 
 /// `TAK`.

@@ -1,6 +1,6 @@
 //! Parts of the accumulators, as expressions.
 ghost use Rattle.std.specs.Prelude.{◌≡◌, IfOk};
-ghost use Rattle.accumulator_templates.specs.Parts.{any_bit_of, bits_where_of, cut_of, dword_of, extended_of, with_byte_of};
+ghost use Rattle.accumulator_templates.specs.Parts.{above_byte, any_bit_of, bits_where_of, cut_of, dword_of, extended_of, with_byte_of};
 
 use row_templates::{and, binary, constant, convert, or, read, select};
 use s7_base::{NoMemory, Reg, Width};
@@ -57,6 +57,14 @@ pub fn extended(alloc: Global, width: Width, pattern: Expr) -> Result<Expr, NoMe
 pub fn with_byte(alloc: Global, pattern: Expr) -> Result<Expr, NoMemory>
     ensures { IfOk result (λ value. value ≡ with_byte_of pattern) }
 {
-    let kept = and(alloc, read(Reg::Accu1), dword(0xFFFF_FF00))?;
-    or(alloc, kept, extended(alloc, Width::Byte, pattern)?)
+    let byte = extended(alloc, Width::Byte, pattern)?;
+    let kept = above_byte(alloc)?;
+    or(alloc, kept, byte)
+}
+
+/// ACCU1 above its low byte.
+fn above_byte(alloc: Global) -> Result<Expr, NoMemory>
+    ensures { IfOk result (λ value. value ≡ above_byte) }
+{
+    and(alloc, read(Reg::Accu1), dword(0xFFFF_FF00))
 }

@@ -37,7 +37,8 @@ pub fn push_add_word(alloc: Global, steps: &mut List<Stmt>, number: i16) -> Resu
         StType::Word,
         i64::from(number),
     )?;
-    steps.push(set(Reg::Accu1, with_low(alloc, sum)?))
+    let whole = with_low(alloc, sum)?;
+    steps.push(set(Reg::Accu1, whole))
 }
 
 /// `+ L#n`.
@@ -70,7 +71,8 @@ fn push_byte_sum(
         return Ok(());
     }
     let sum = sum(alloc, op, StType::Int, StType::Byte, i64::from(number))?;
-    steps.push(set(Reg::Accu1, with_byte(alloc, sum)?))
+    let whole = with_byte(alloc, sum)?;
+    steps.push(set(Reg::Accu1, whole))
 }
 
 /// `INC`.

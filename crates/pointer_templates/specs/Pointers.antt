@@ -61,11 +61,21 @@ types_of_pointer_exchange = type.Dword ∷ []
 abbrev pub low_number : Expr
 low_number = convert_of type.Int type.Dint (convert_of type.Dword type.Int (read_of reg.Accu1))
 
+-- the area code of the pointer of an address register
+abbrev pub area_code_of : Ar → Expr
+area_code_of a = and_of (read_of (register_of a)) (constant_of type.Dword (pos 0xFF000000))
+
+-- the pointer and an amount, added as numbers
+abbrev pub moved_sum_of : Ar → Expr → Expr
+moved_sum_of a amount = binary_of binary.Add (convert_of type.Dword type.Dint (read_of (register_of a))) amount
+
+-- what stands below the area code, with an amount added
+abbrev pub moved_number_of : Ar → Expr → Expr
+moved_number_of a amount = and_of (convert_of type.Dint type.Dword (moved_sum_of a amount)) (constant_of type.Dword (pos 0x00FFFFFF))
+
 -- the pointer of an address register with an amount added, which leaves its area code
 abbrev pub moved_of : Ar → Expr → Expr
-moved_of a amount =
-    or_of (and_of (read_of (register_of a)) (constant_of type.Dword (pos 0xFF000000)))
-    (and_of (convert_of type.Dint type.Dword (binary_of binary.Add (convert_of type.Dword type.Dint (read_of (register_of a))) amount)) (constant_of type.Dword (pos 0x00FFFFFF)))
+moved_of a amount = or_of (area_code_of a) (moved_number_of a amount)
 
 -- +AR1 and +AR2; an offset 0 changes nothing, and then nothing is read
 abbrev pub pointer_move_of : Ar → Option ℕ → List Stmt

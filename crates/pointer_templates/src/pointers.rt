@@ -3,7 +3,7 @@ ghost use Rattle.std.specs.Prelude.{◌≡◌, ◌+◌, ◌++◌, ◌<◌, ◌^�
 ghost use Rattle.stl_tree.specs.AddressRegisters.{other_of};
 ghost use Rattle.stl_tree.specs.Reads.{register_of};
 ghost use Rattle.row_templates.specs.Builders.{read_of};
-ghost use Rattle.pointer_templates.specs.Pointers.{low_number, moved_of, pointed_of, pointer_exchange_of, pointer_load_of, pointer_move_of, pointer_store_of, types_of_pointer_exchange, types_of_pointer_load, types_of_pointer_store};
+ghost use Rattle.pointer_templates.specs.Pointers.{area_code_of, low_number, moved_number_of, moved_of, moved_sum_of, pointed_of, pointer_exchange_of, pointer_load_of, pointer_move_of, pointer_store_of, types_of_pointer_exchange, types_of_pointer_load, types_of_pointer_store};
 
 use row_templates::{
     and, binary, constant, convert, fetched, local, or, push_fetch, push_reach, read, register_of,
@@ -87,17 +87,17 @@ pub fn push_pointer_store(
     requires { first + 8 < 2 ^ 32 }
     ensures { OnOk result (steps.new ≡ steps.old ++ pointer_store_of first register to) }
 {
-    let pointer = held(register);
     match to {
         ArStore::Accu1 => {
             steps.push(set(Reg::Accu2, read(Reg::Accu1)))?;
-            steps.push(set(Reg::Accu1, pointer))
+            steps.push(set(Reg::Accu1, held(register)))
         }
         ArStore::At(operand) => {
             push_reach(alloc, steps, first, &operand)?;
-            steps.push(writing(alloc, first, &operand, Width::Dword, pointer)?)
+            let step = writing(alloc, first, &operand, Width::Dword, held(register))?;
+            steps.push(step)
         }
-        ArStore::OtherAr => push_pointed(steps, other_of(register), pointer),
+        ArStore::OtherAr => push_pointed(steps, other_of(register), held(register)),
     }
 }
 
@@ -136,12 +136,30 @@ pub fn push_pointer_move(
 ) -> Result<(), NoMemory>
     ensures { OnOk result (steps.new ≡ steps.old ++ pointer_move_of register amount) }
 {
-    let added = match amount {
-        Some(0) => return Ok(()),
-        Some(offset) => constant(StType::Dint, i64::from(offset)),
-        None => low_number(alloc)?,
-    };
-    push_pointed(steps, register, moved(alloc, register, added)?)
+    match amount {
+        Some(0) => Ok(()),
+        Some(offset) => {
+            let amount = constant(StType::Dint, i64::from(offset));
+            push_moved(alloc, steps, register, amount)
+        }
+        None => {
+            let amount = low_number(alloc)?;
+            push_moved(alloc, steps, register, amount)
+        }
+    }
+}
+
+/// An amount is added to an address register.
+fn push_moved(
+    alloc: Global,
+    steps: &mut List<Stmt>,
+    register: Ar,
+    amount: Expr,
+) -> Result<(), NoMemory>
+    ensures { OnOk result (steps.new ≡ steps.old ++ pointed_of register (moved_of register amount)) }
+{
+    let moved = moved(alloc, register, amount)?;
+    push_pointed(steps, register, moved)
 }
 
 /// The low word of ACCU1 with its sign, as a DINT.
@@ -156,10 +174,31 @@ fn low_number(alloc: Global) -> Result<Expr, NoMemory>
 fn moved(alloc: Global, register: Ar, amount: Expr) -> Result<Expr, NoMemory>
     ensures { IfOk result (λ value. value ≡ moved_of register amount) }
 {
-    let code = and(alloc, held(register), constant(StType::Dword, CODE))?;
-    let whole = convert(alloc, StType::Dword, StType::Dint, held(register))?;
-    let sum = binary(alloc, BinaryOp::Add, whole, amount)?;
-    let sum = convert(alloc, StType::Dint, StType::Dword, sum)?;
-    let number = and(alloc, sum, constant(StType::Dword, NUMBER))?;
+    let number = moved_number(alloc, register, amount)?;
+    let code = area_code(alloc, register)?;
     or(alloc, code, number)
+}
+
+/// The area code of the pointer of an address register.
+fn area_code(alloc: Global, register: Ar) -> Result<Expr, NoMemory>
+    ensures { IfOk result (λ value. value ≡ area_code_of register) }
+{
+    and(alloc, held(register), constant(StType::Dword, CODE))
+}
+
+/// What stands below the area code, with an amount added.
+fn moved_number(alloc: Global, register: Ar, amount: Expr) -> Result<Expr, NoMemory>
+    ensures { IfOk result (λ value. value ≡ moved_number_of register amount) }
+{
+    let sum = moved_sum(alloc, register, amount)?;
+    let pattern = convert(alloc, StType::Dint, StType::Dword, sum)?;
+    and(alloc, pattern, constant(StType::Dword, NUMBER))
+}
+
+/// The pointer of an address register and an amount, added as numbers.
+fn moved_sum(alloc: Global, register: Ar, amount: Expr) -> Result<Expr, NoMemory>
+    ensures { IfOk result (λ value. value ≡ moved_sum_of register amount) }
+{
+    let whole = convert(alloc, StType::Dword, StType::Dint, held(register))?;
+    binary(alloc, BinaryOp::Add, whole, amount)
 }
