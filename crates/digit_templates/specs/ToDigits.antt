@@ -13,30 +13,41 @@ use Rattle.st_tree.specs.declared.program.Stmt.{Stmt}
 
 -- The pattern of a number
 
+-- whether a number is below 0
+abbrev pub below_zero_of : StType → Expr → Expr
+below_zero_of ty number = binary_of binary.Lt number (constant_of ty (pos 0))
+
 -- one of two by the sign of a number: the second where it is below 0
 abbrev pub by_sign_of : StType → Expr → Expr → Expr → Expr
-by_sign_of ty number e f = select_of (binary_of binary.Lt number (constant_of ty (pos 0))) e f
+by_sign_of ty number e f = select_of (below_zero_of ty number) e f
 
 -- the amount of a number
 abbrev pub amount_of : StType → Expr → Expr
 amount_of ty number = by_sign_of ty number number (unary_of unary.Minus number)
 
--- a sum, and the digit of an amount that counts as a power of ten, at its place in a pattern
-abbrev pub with_digit_of : StType → Expr → Expr → ℤ → ℤ → Expr
-with_digit_of ty amount sum power place =
-    binary_of binary.Add sum
-    (binary_of binary.Mul
+-- the digit of an amount that counts as a power of ten, at its place in a pattern
+abbrev pub placed_digit_of : StType → Expr → ℤ → ℤ → Expr
+placed_digit_of ty amount power place =
+    binary_of binary.Mul
     (binary_of binary.Mod (binary_of binary.Div amount (constant_of ty power)) (constant_of ty (pos 10)))
-    (constant_of ty place))
+    (constant_of ty place)
+
+-- a sum, and one more digit of an amount, at its place
+abbrev pub with_digit_of : StType → Expr → Expr → ℤ → ℤ → Expr
+with_digit_of ty amount sum power place = binary_of binary.Add sum (placed_digit_of ty amount power place)
 
 -- the lowest digit of an amount, and so many more
 abbrev pub digits_of : StType → Expr → ℕ → Expr
 digits_of ty amount zero = binary_of binary.Mod amount (constant_of ty (pos 10))
 digits_of ty amount (suc n) = with_digit_of ty amount (digits_of ty amount n) (pos (10 ^ suc n)) (pos (16 ^ suc n))
 
--- digits under the sign digit of a number, whose pattern is 0 or this
+-- the sign digit of a number, whose pattern is 0 or this
+abbrev pub sign_digit_of : StType → Expr → ℤ → Expr
+sign_digit_of ty number sign = by_sign_of ty number (constant_of ty (pos 0)) (constant_of ty sign)
+
+-- digits under the sign digit of a number
 abbrev pub signed_of : StType → Expr → Expr → ℤ → Expr
-signed_of ty number digits sign = binary_of binary.Add digits (by_sign_of ty number (constant_of ty (pos 0)) (constant_of ty sign))
+signed_of ty number digits sign = binary_of binary.Add digits (sign_digit_of ty number sign)
 
 -- The statements
 
@@ -48,14 +59,21 @@ measured_of ty first number greatest =
     ∷ set_local_of (first + 2) (binary_of binary.Gt (local_of (first + 1)) (constant_of ty greatest))
     ∷ []
 
--- the pattern, and where the number has no more digits ACCU1 takes what is made of it; else it is an overflow
-abbrev pub written_of : ℕ → Expr → Expr → List Stmt
-written_of first pattern written =
+-- the pattern, and an overflow where the number has too many digits
+abbrev pub noted_of : ℕ → Expr → List Stmt
+noted_of first pattern =
     set_local_of (first + 3) pattern
     ∷ set_of reg.Ov (local_of (first + 2))
     ∷ set_of reg.Os (or_of (read_of reg.Os) (local_of (first + 2)))
-    ∷ set_of reg.Accu1 (select_of (local_of (first + 2)) written (read_of reg.Accu1))
     ∷ []
+
+-- where it has no more digits ACCU1 takes what is made of the pattern
+abbrev pub taken_of : ℕ → Expr → List Stmt
+taken_of first written = set_of reg.Accu1 (select_of (local_of (first + 2)) written (read_of reg.Accu1)) ∷ []
+
+-- both
+abbrev pub written_of : ℕ → Expr → Expr → List Stmt
+written_of first pattern written = noted_of first pattern ++ taken_of first written
 
 -- ITB: the number in the low word, as a DINT, in which its amount has room
 abbrev pub itb_of : ℕ → List Stmt

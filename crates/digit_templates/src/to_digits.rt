@@ -3,7 +3,7 @@
 //! Four locals are taken, from `first` on: the number, its amount, whether it has too many digits, and the pattern of
 //! its digits.
 ghost use Rattle.std.specs.Prelude.{◌≡◌, ◌<◌, ◌+◌, ◌^◌, ◌++◌, pos, IfOk, OnOk};
-ghost use Rattle.digit_templates.specs.ToDigits.{amount_of, by_sign_of, digits_of, dtb_of, itb_of, measured_of, signed_of, types_of_dtb, types_of_itb, with_digit_of, written_of};
+ghost use Rattle.digit_templates.specs.ToDigits.{amount_of, below_zero_of, digits_of, dtb_of, itb_of, measured_of, noted_of, placed_digit_of, sign_digit_of, signed_of, taken_of, types_of_dtb, types_of_itb, with_digit_of};
 ghost use Rattle.row_templates.specs.Builders.{local_of};
 
 use row_templates::{
@@ -22,15 +22,12 @@ pub fn push_itb(alloc: Global, steps: &mut List<Stmt>, first: u32) -> Result<(),
     let word = convert(alloc, StType::Dword, StType::Int, read(Reg::Accu1))?;
     let number = convert(alloc, StType::Int, ty, word)?;
     push_measured(alloc, steps, ty, first, number, 999)?;
-    let pattern = signed(
-        alloc,
-        ty,
-        first,
-        three_digits(alloc, ty, first + 1)?,
-        0xF000,
-    )?;
-    let written = convert(alloc, ty, StType::Word, local(first + 3))?;
-    push_written(alloc, steps, first, pattern, with_low(alloc, written)?)
+    let digits = three_digits(alloc, ty, first + 1)?;
+    let pattern = signed(alloc, ty, first, digits, 0xF000)?;
+    push_noted(alloc, steps, first, pattern)?;
+    let word = convert(alloc, ty, StType::Word, local(first + 3))?;
+    let written = with_low(alloc, word)?;
+    push_taken(alloc, steps, first, written)
 }
 
 /// The types of its locals.
@@ -49,15 +46,11 @@ pub fn push_dtb(alloc: Global, steps: &mut List<Stmt>, first: u32) -> Result<(),
     let dword = convert(alloc, StType::Dword, StType::Dint, read(Reg::Accu1))?;
     let number = convert(alloc, StType::Dint, ty, dword)?;
     push_measured(alloc, steps, ty, first, number, 9_999_999)?;
-    let pattern = signed(
-        alloc,
-        ty,
-        first,
-        seven_digits(alloc, ty, first + 1)?,
-        0xF000_0000,
-    )?;
+    let digits = seven_digits(alloc, ty, first + 1)?;
+    let pattern = signed(alloc, ty, first, digits, 0xF000_0000)?;
+    push_noted(alloc, steps, first, pattern)?;
     let written = convert(alloc, ty, StType::Dword, local(first + 3))?;
-    push_written(alloc, steps, first, pattern, written)
+    push_taken(alloc, steps, first, written)
 }
 
 /// The types of its locals.
@@ -80,7 +73,8 @@ fn push_measured(
     ensures { OnOk result (steps.new ≡ steps.old ++ measured_of ty first number greatest) }
 {
     steps.push(set_local(first, number))?;
-    steps.push(set_local(first + 1, amount(alloc, ty, first)?))?;
+    let amount = amount(alloc, ty, first)?;
+    steps.push(set_local(first + 1, amount))?;
     let over = binary(
         alloc,
         BinaryOp::Gt,
@@ -90,36 +84,41 @@ fn push_measured(
     steps.push(set_local(first + 2, over))
 }
 
-/// The pattern, the overflow, and ACCU1, which takes `written` where there is none.
-fn push_written(
+/// The pattern, and the overflow.
+fn push_noted(
     alloc: Global,
     steps: &mut List<Stmt>,
     first: u32,
     pattern: Expr,
-    written: Expr,
 ) -> Result<(), NoMemory>
     requires { first + 8 < 2 ^ 32 }
-    ensures { OnOk result (steps.new ≡ steps.old ++ written_of first pattern written) }
+    ensures { OnOk result (steps.new ≡ steps.old ++ noted_of first pattern) }
 {
     steps.push(set_local(first + 3, pattern))?;
     steps.push(set(Reg::Ov, local(first + 2)))?;
-    steps.push(set(Reg::Os, or(alloc, read(Reg::Os), local(first + 2))?))?;
+    let overflowed = or(alloc, read(Reg::Os), local(first + 2))?;
+    steps.push(set(Reg::Os, overflowed))
+}
+
+/// ACCU1, which takes `written` where there is no overflow.
+fn push_taken(
+    alloc: Global,
+    steps: &mut List<Stmt>,
+    first: u32,
+    written: Expr,
+) -> Result<(), NoMemory>
+    requires { first + 8 < 2 ^ 32 }
+    ensures { OnOk result (steps.new ≡ steps.old ++ taken_of first written) }
+{
     let accu1 = select(alloc, local(first + 2), written, read(Reg::Accu1))?;
     steps.push(set(Reg::Accu1, accu1))
 }
 
-/// One of two by the sign of the number in a local: the second where it is below 0.
-fn by_sign(
-    alloc: Global,
-    ty: StType,
-    number: u32,
-    first: Expr,
-    second: Expr,
-) -> Result<Expr, NoMemory>
-    ensures { IfOk result (λ value. value ≡ by_sign_of ty (local_of number) first second) }
+/// Whether the number in a local is below 0.
+fn below_zero(alloc: Global, ty: StType, number: u32) -> Result<Expr, NoMemory>
+    ensures { IfOk result (λ value. value ≡ below_zero_of ty (local_of number)) }
 {
-    let below = binary(alloc, BinaryOp::Lt, local(number), constant(ty, 0))?;
-    select(alloc, below, first, second)
+    binary(alloc, BinaryOp::Lt, local(number), constant(ty, 0))
 }
 
 /// The amount of the number in a local.
@@ -127,7 +126,8 @@ fn amount(alloc: Global, ty: StType, number: u32) -> Result<Expr, NoMemory>
     ensures { IfOk result (λ value. value ≡ amount_of ty (local_of number)) }
 {
     let negated = unary(alloc, UnaryOp::Minus, local(number))?;
-    by_sign(alloc, ty, number, local(number), negated)
+    let below = below_zero(alloc, ty, number)?;
+    select(alloc, below, local(number), negated)
 }
 
 /// Three digits of the amount in a local.
@@ -150,6 +150,21 @@ fn seven_digits(alloc: Global, ty: StType, amount: u32) -> Result<Expr, NoMemory
     with_digit(alloc, ty, amount, six, 1_000_000, 0x100_0000)
 }
 
+/// The digit of the amount in a local that counts as a power of ten, at its place in a pattern.
+fn placed_digit(
+    alloc: Global,
+    ty: StType,
+    amount: u32,
+    power: i64,
+    place: i64,
+) -> Result<Expr, NoMemory>
+    ensures { IfOk result (λ value. value ≡ placed_digit_of ty (local_of amount) power place) }
+{
+    let above = binary(alloc, BinaryOp::Div, local(amount), constant(ty, power))?;
+    let digit = binary(alloc, BinaryOp::Mod, above, constant(ty, 10))?;
+    binary(alloc, BinaryOp::Mul, digit, constant(ty, place))
+}
+
 /// A sum, and one more digit of the amount in a local, at its place in a pattern.
 fn with_digit(
     alloc: Global,
@@ -161,16 +176,22 @@ fn with_digit(
 ) -> Result<Expr, NoMemory>
     ensures { IfOk result (λ value. value ≡ with_digit_of ty (local_of amount) sum power place) }
 {
-    let above = binary(alloc, BinaryOp::Div, local(amount), constant(ty, power))?;
-    let digit = binary(alloc, BinaryOp::Mod, above, constant(ty, 10))?;
-    let placed = binary(alloc, BinaryOp::Mul, digit, constant(ty, place))?;
+    let placed = placed_digit(alloc, ty, amount, power, place)?;
     binary(alloc, BinaryOp::Add, sum, placed)
+}
+
+/// The sign digit of the number in a local: 0, or `sign` where it is below 0.
+fn sign_digit(alloc: Global, ty: StType, number: u32, sign: i64) -> Result<Expr, NoMemory>
+    ensures { IfOk result (λ value. value ≡ sign_digit_of ty (local_of number) sign) }
+{
+    let below = below_zero(alloc, ty, number)?;
+    select(alloc, below, constant(ty, 0), constant(ty, sign))
 }
 
 /// Digits under the sign digit of the number in a local.
 fn signed(alloc: Global, ty: StType, number: u32, digits: Expr, sign: i64) -> Result<Expr, NoMemory>
     ensures { IfOk result (λ value. value ≡ signed_of ty (local_of number) digits sign) }
 {
-    let above = by_sign(alloc, ty, number, constant(ty, 0), constant(ty, sign))?;
+    let above = sign_digit(alloc, ty, number, sign)?;
     binary(alloc, BinaryOp::Add, digits, above)
 }

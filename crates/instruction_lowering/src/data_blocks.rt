@@ -14,7 +14,8 @@ pub fn copied(alloc: Global, blocks: &[DataBlock]) -> Result<List<DataBlock>, No
 {
     let mut copies = List::new(alloc);
     for block in blocks {
-        copies.push(copied_block(alloc, block)?)?;
+        let copy = copied_block(alloc, block)?;
+        copies.push(copy)?;
     }
     Ok(copies)
 }

@@ -143,7 +143,8 @@ fn temporaries(alloc: Global, types: &[StType]) -> Result<List<Local>, NoMemory>
     let mut rest = types;
     while let Some((ty, behind)) = rest.split_first() {
         number = number.checked_add(1).ok_or(NoMemory)?;
-        locals.push(temporary(alloc, number, *ty)?)?;
+        let local = temporary(alloc, number, *ty)?;
+        locals.push(local)?;
         rest = behind;
     }
     Ok(locals)

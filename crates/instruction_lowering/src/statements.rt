@@ -2,7 +2,7 @@
 //!
 //! Each is a handful of assignments and area writes, so a body without jumps is one node. Of the status word all bits but STA have
 //! variables.
-ghost use Rattle.std.specs.Prelude.{◌≡◌, ◌<◌, ◌+◌, ◌^◌, ◌++◌, length, IfOk, OnOk};
+ghost use Rattle.std.specs.Prelude.{◌≡◌, ◌<◌, ◌+◌, ◌^◌, [], ◌∷◌, ◌++◌, length, IfOk, OnOk};
 ghost use Rattle.instruction_lowering.specs.inner.Templates.{IsOnAccumulators, and_joined, answer_of, assigned_of, before_check, behind, behind_check, behind_close, chain_at, check_of, checked_of, close_of, edge_at, edge_of, falling, first_spot, more, next_rlo, open_of, reset_value, rising, rlo_before_and, rlo_before_or, rlo_set, running_chain, set_value, spot_at, statements_of, store_of, stored_of, unary_of, with_bracket};
 ghost use Rattle.row_templates.specs.Builders.{and_of, cleared, literal_of, not_of, or_of, read_of, set_of, xor_of};
 ghost use Rattle.row_templates.specs.Fetching.{types_fetched};
@@ -115,7 +115,7 @@ pub fn push_statements(
         Op::Reset(operand) => push_reset(alloc, steps, first, operand),
         Op::SetRlo => push_rlo(steps, true),
         Op::ClearRlo => push_rlo(steps, false),
-        Op::NotRlo => steps.push(set(Reg::Rlo, not(alloc, read(Reg::Rlo))?)),
+        Op::NotRlo => push_inverted(alloc, steps),
         Op::Save => steps.push(set(Reg::Br, read(Reg::Rlo))),
         Op::EdgeUp(operand) => push_rising(alloc, steps, first, operand),
         Op::EdgeDown(operand) => push_falling(alloc, steps, first, operand),
@@ -208,14 +208,16 @@ fn answer(alloc: Global, test: Test) -> Result<Expr, NoMemory>
     ensures { IfOk result (λ value. value ≡ answer_of test) }
 {
     match test {
-        Test::Eq => and(
-            alloc,
-            not(alloc, read(Reg::Cc1))?,
-            not(alloc, read(Reg::Cc0))?,
-        ),
+        Test::Eq => {
+            let not_greater = not(alloc, read(Reg::Cc1))?;
+            and_not_less(alloc, not_greater)
+        }
         Test::Ne => xor(alloc, read(Reg::Cc1), read(Reg::Cc0)),
-        Test::Gt => and(alloc, read(Reg::Cc1), not(alloc, read(Reg::Cc0))?),
-        Test::Lt => and(alloc, not(alloc, read(Reg::Cc1))?, read(Reg::Cc0)),
+        Test::Gt => and_not_less(alloc, read(Reg::Cc1)),
+        Test::Lt => {
+            let not_greater = not(alloc, read(Reg::Cc1))?;
+            and(alloc, not_greater, read(Reg::Cc0))
+        }
         Test::Ge => not(alloc, read(Reg::Cc0)),
         Test::Le => not(alloc, read(Reg::Cc1)),
         Test::Uo => and(alloc, read(Reg::Cc1), read(Reg::Cc0)),
@@ -223,6 +225,14 @@ fn answer(alloc: Global, test: Test) -> Result<Expr, NoMemory>
         Test::Os => Ok(read(Reg::Os)),
         Test::Br => Ok(read(Reg::Br)),
     }
+}
+
+/// A bit, and that CC0 is FALSE.
+fn and_not_less(alloc: Global, bit: Expr) -> Result<Expr, NoMemory>
+    ensures { IfOk result (λ value. value ≡ and_of bit (not_of (read_of Reg.Cc0))) }
+{
+    let not_less = not(alloc, read(Reg::Cc0))?;
+    and(alloc, bit, not_less)
 }
 
 /// A check, behind what it fetches.
@@ -239,7 +249,8 @@ fn push_checked(
     if let BitArg::At(operand) = arg {
         push_fetch(alloc, steps, first, operand, Width::Bit)?;
     }
-    let value = next_rlo(alloc, running_chain(), check, checked(alloc, first, arg)?)?;
+    let bit = checked(alloc, first, arg)?;
+    let value = next_rlo(alloc, running_chain(), check, bit)?;
     steps.push(set(Reg::Rlo, value))?;
     push_behind_check(steps, check)
 }
@@ -258,7 +269,8 @@ fn push_behind_check(steps: &mut List<Stmt>, check: Check) -> Result<(), NoMemor
 fn push_or(alloc: Global, steps: &mut List<Stmt>) -> Result<(), NoMemory>
     ensures { OnOk result (steps.new ≡ steps.old ++ statements_of first_spot Op.OrAlone) }
 {
-    steps.push(set(Reg::Orb, and(alloc, read(Reg::Rlo), read(Reg::Nfc))?))?;
+    let kept = and(alloc, read(Reg::Rlo), read(Reg::Nfc))?;
+    steps.push(set(Reg::Orb, kept))?;
     steps.push(set(Reg::Nfc, literal(false)))
 }
 
@@ -327,6 +339,14 @@ fn push_rlo(steps: &mut List<Stmt>, rlo: bool) -> Result<(), NoMemory>
 {
     steps.push(set(Reg::Rlo, literal(rlo)))?;
     push_cleared(steps, false)
+}
+
+/// The RLO is inverted.
+fn push_inverted(alloc: Global, steps: &mut List<Stmt>) -> Result<(), NoMemory>
+    ensures { OnOk result (steps.new ≡ steps.old ++ statements_of first_spot Op.NotRlo) }
+{
+    let inverted = not(alloc, read(Reg::Rlo))?;
+    steps.push(set(Reg::Rlo, inverted))
 }
 
 /// FP of an edge bit.
@@ -408,13 +428,22 @@ fn push_closed(alloc: Global, steps: &mut List<Stmt>, spot: &mut Spot) -> Result
     ensures spot { OnOk result (spot.new ≡ behind Op.Close spot.old) }
 {
     match spot.brackets.pop_front() {
-        Some(bracket) => {
-            let value = next_rlo(alloc, bracket.kept, bracket.check, read(Reg::Rlo))?;
-            steps.push(set(Reg::Rlo, value))?;
-            push_behind_close(steps, bracket.check, bracket.kept.orb)
-        }
+        Some(bracket) => push_bracket_check(alloc, steps, bracket),
         None => Ok(()),
     }
+}
+
+/// The check of a bracket, of the RLO inside.
+fn push_bracket_check(
+    alloc: Global,
+    steps: &mut List<Stmt>,
+    bracket: OpenBracket,
+) -> Result<(), NoMemory>
+    ensures { OnOk result (steps.new ≡ steps.old ++ close_of (bracket ∷ [])) }
+{
+    let value = next_rlo(alloc, bracket.kept, bracket.check, read(Reg::Rlo))?;
+    steps.push(set(Reg::Rlo, value))?;
+    push_behind_close(steps, bracket.check, bracket.kept.orb)
 }
 
 /// An AND puts OR back, the others clear it.
@@ -460,10 +489,10 @@ fn next_rlo(alloc: Global, chain: Chain, check: Check, bit: Expr) -> Result<Expr
     match check {
         Check::A => and_joined(alloc, chain, bit),
         Check::An => and_joined(alloc, chain, not(alloc, bit)?),
-        Check::O => or(alloc, rlo_before_or(alloc, chain)?, bit),
-        Check::On => or(alloc, rlo_before_or(alloc, chain)?, not(alloc, bit)?),
-        Check::X => xor(alloc, rlo_before_or(alloc, chain)?, bit),
-        Check::Xn => xor(alloc, rlo_before_or(alloc, chain)?, not(alloc, bit)?),
+        Check::O => or_joined(alloc, chain, bit),
+        Check::On => or_joined(alloc, chain, not(alloc, bit)?),
+        Check::X => xor_joined(alloc, chain, bit),
+        Check::Xn => xor_joined(alloc, chain, not(alloc, bit)?),
     }
 }
 
@@ -471,19 +500,33 @@ fn next_rlo(alloc: Global, chain: Chain, check: Check, bit: Expr) -> Result<Expr
 fn and_joined(alloc: Global, chain: Chain, bit: Expr) -> Result<Expr, NoMemory>
     ensures { IfOk result (λ value. value ≡ and_joined chain bit) }
 {
-    let joined = and(alloc, rlo_before_and(alloc, chain)?, bit)?;
+    let before = rlo_before_and(alloc, chain)?;
+    let joined = and(alloc, before, bit)?;
     or(alloc, joined, Expr::Read(chain.orb))
+}
+
+/// An OR.
+fn or_joined(alloc: Global, chain: Chain, bit: Expr) -> Result<Expr, NoMemory>
+    ensures { IfOk result (λ value. value ≡ or_of (rlo_before_or chain) bit) }
+{
+    let before = rlo_before_or(alloc, chain)?;
+    or(alloc, before, bit)
+}
+
+/// An XOR.
+fn xor_joined(alloc: Global, chain: Chain, bit: Expr) -> Result<Expr, NoMemory>
+    ensures { IfOk result (λ value. value ≡ xor_of (rlo_before_or chain) bit) }
+{
+    let before = rlo_before_or(alloc, chain)?;
+    xor(alloc, before, bit)
 }
 
 /// The RLO before an AND: a first check, where NFC is FALSE, takes it as TRUE.
 fn rlo_before_and(alloc: Global, chain: Chain) -> Result<Expr, NoMemory>
     ensures { IfOk result (λ value. value ≡ rlo_before_and chain) }
 {
-    or(
-        alloc,
-        Expr::Read(chain.rlo),
-        not(alloc, Expr::Read(chain.nfc))?,
-    )
+    let is_first = not(alloc, Expr::Read(chain.nfc))?;
+    or(alloc, Expr::Read(chain.rlo), is_first)
 }
 
 /// The RLO before an OR or an XOR: a first check, where NFC is FALSE, takes it as FALSE.

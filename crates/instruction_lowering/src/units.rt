@@ -6,14 +6,15 @@ ghost use Rattle.st_tree.specs.Plain.{Plain};
 ghost use Rattle.st_tree.specs.StRun.{called_name};
 ghost use Rattle.stl_tree.specs.Accepted.{IsAccepted};
 ghost use Rattle.instruction_lowering.specs.Lowered.{Lowered};
-ghost use Rattle.instruction_lowering.specs.inner.Lowering.{IsFew, head_for, lowered, node_of, unit_of};
+ghost use Rattle.instruction_lowering.specs.inner.Lowering.{IsFew, graph_of, head_for, lowered, node_of, steps_of, unit_of};
+ghost use Rattle.instruction_lowering.specs.inner.Templates.{first_spot};
 
 use crate::data_blocks::copied;
 use crate::locals::{ends_block, locals_of};
 use crate::statements::{Spot, push_statements};
 use itoa::Buffer;
 use s7_base::{List, NoMemory};
-use st_tree::{GraphPou, GraphProgram, Pou, StExit, StGraph, StNode};
+use st_tree::{GraphPou, GraphProgram, Pou, StExit, StGraph, StNode, Stmt};
 use std::alloc::Global;
 use stl_tree::{Block, BlockName, Instr, Program};
 
@@ -23,11 +24,12 @@ pub fn lower(alloc: Global, program: &Program) -> Result<GraphProgram, NoMemory>
     ensures plain { IfOk result Plain }
     ensures same { IfOk result (λ graph. Lowered program.now graph) }
 {
-    let dbs = copied(alloc, program.dbs.as_slice())?;
     let mut pous = List::new(alloc);
     for block in program.blocks.as_slice() {
-        pous.push(unit(alloc, block)?)?;
+        let unit = unit(alloc, block)?;
+        pous.push(unit)?;
     }
+    let dbs = copied(alloc, program.dbs.as_slice())?;
     Ok(GraphProgram {
         dbs,
         globals: List::new(alloc),
@@ -39,14 +41,19 @@ fn unit(alloc: Global, block: &Block) -> Result<GraphPou, NoMemory>
     ensures unit { IfOk result (λ unit. unit ≡ unit_of block.now) }
     ensures few { OnOk result (IsFew block.now) }
 {
-    let node = node(alloc, block.body.as_slice())?;
+    let graph = graph(alloc, block.body.as_slice())?;
     let head = head(alloc, block)?;
+    Ok(GraphPou { head, graph })
+}
+
+/// The graph of a body, which is one node.
+fn graph(alloc: Global, body: &[Instr]) -> Result<StGraph, NoMemory>
+    ensures { IfOk result (λ graph. graph ≡ graph_of body.now) }
+{
+    let node = node(alloc, body)?;
     let mut nodes = List::new(alloc);
     nodes.push(node)?;
-    Ok(GraphPou {
-        head,
-        graph: StGraph { nodes },
-    })
+    Ok(StGraph { nodes })
 }
 
 fn head(alloc: Global, block: &Block) -> Result<Pou, NoMemory>
@@ -82,23 +89,31 @@ fn numbered(alloc: Global, word: &str, number: u16) -> Result<List<u8>, NoMemory
     Ok(List::from_vec(text))
 }
 
-/// The node of a body of which no instruction jumps; nothing behind an end word is reached.
+/// The node of a body of which no instruction jumps.
 fn node(alloc: Global, body: &[Instr]) -> Result<StNode, NoMemory>
     ensures { IfOk result (λ node. node ≡ node_of body.now) }
 {
-    let mut spot = Spot::first(alloc);
     let mut steps = List::new(alloc);
-    let mut rest = body;
-    while let Some((instr, behind)) = rest.split_first() {
-        push_statements(alloc, &mut steps, &mut spot, &instr.op)?;
-        if ends_block(&instr.op) {
-            break;
-        }
-        rest = behind;
-    }
+    push_steps(alloc, &mut steps, body)?;
     Ok(StNode {
         steps,
         exit: StExit::End,
         only_end: body.len() == 1,
     })
+}
+
+/// The statements of a body; nothing behind an end word is reached.
+fn push_steps(alloc: Global, steps: &mut List<Stmt>, body: &[Instr]) -> Result<(), NoMemory>
+    ensures { OnOk result (steps.new ≡ steps.old ++ steps_of first_spot body.now) }
+{
+    let mut spot = Spot::first(alloc);
+    let mut rest = body;
+    while let Some((instr, behind)) = rest.split_first() {
+        push_statements(alloc, steps, &mut spot, &instr.op)?;
+        if ends_block(&instr.op) {
+            break;
+        }
+        rest = behind;
+    }
+    Ok(())
 }

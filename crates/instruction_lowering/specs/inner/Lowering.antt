@@ -6,6 +6,7 @@ use Rattle.stl_tree.specs.declared.program.Program.{Program}
 use Rattle.st_tree.specs.declared.graph.GraphPou.{GraphPou}
 use Rattle.st_tree.specs.declared.graph.GraphProgram.{GraphProgram}
 use Rattle.st_tree.specs.declared.graph.StExit.TheVariants as exit
+use Rattle.st_tree.specs.declared.graph.StGraph.{StGraph}
 use Rattle.st_tree.specs.declared.graph.StNode.{StNode}
 use Rattle.st_tree.specs.declared.program.Stmt.{Stmt}
 use Rattle.st_tree.specs.StRun.{called_name}
@@ -29,6 +30,10 @@ used_behind p (i ∷ rest) = if ends_block i.op then (behind i.op p).used else u
 -- the node of a body
 abbrev pub node_of : List Instr → StNode
 node_of body = record { steps = steps_of first_spot body; exit = exit.End; only_end = length body == 1 }
+
+-- the graph of a body, which is that node
+abbrev pub graph_of : List Instr → StGraph
+graph_of body = record { nodes = node_of body ∷ [] }
 
 -- a temporary, by its number and its type
 abbrev pub temporary : ℕ → StType → Local
@@ -54,7 +59,7 @@ AreFew (b ∷ rest) = IsFew b × AreFew rest
 
 -- the unit of a block
 abbrev pub unit_of : Block → GraphPou
-unit_of b = record { head = head_for b; graph = record { nodes = node_of b.body ∷ [] } }
+unit_of b = record { head = head_for b; graph = graph_of b.body }
 
 -- the graph program of a program
 abbrev pub lowered : Program → GraphProgram
