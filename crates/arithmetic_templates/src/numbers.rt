@@ -2,7 +2,7 @@
 ghost use Rattle.std.specs.Prelude.{◌≡◌, ◌++◌, IfOk, OnOk};
 ghost use Rattle.arithmetic_templates.specs.Numbers.{cut_of, differs_of, flags_of, narrow, negative_of, number_of, overflow_of, positive_of, wide, wide_number_of, with_number_of};
 
-use row_templates::{and, binary, constant, convert, local, or, read, set, with_low};
+use row_templates::{binary, constant, convert, local, or, read, set, with_low};
 use s7_base::{List, NoMemory, Reg, Width};
 use st_tree::{BinaryOp, Expr, StType, Stmt};
 use std::alloc::Global;

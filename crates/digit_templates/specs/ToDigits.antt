@@ -71,7 +71,7 @@ noted_of first pattern =
 abbrev pub taken_of : ℕ → Expr → List Stmt
 taken_of first written = set_of reg.Accu1 (select_of (local_of (first + 2)) written (read_of reg.Accu1)) ∷ []
 
--- both
+-- the pattern is noted, and ACCU1 takes what is made of it
 abbrev pub written_of : ℕ → Expr → Expr → List Stmt
 written_of first pattern written = noted_of first pattern ++ taken_of first written
 

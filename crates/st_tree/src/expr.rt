@@ -106,40 +106,44 @@ pub enum Expr {
 
 impl Expr {
     /// An equal expression in memory of its own.
+    #[cycle(copied)]
     pub fn copy(&self, alloc: Global) -> Result<Expr, NoMemory>
         ensures { IfOk result (λ copy. copy ≡ self.now) }
     {
         match self {
             Expr::Literal(ty, value) => Ok(Expr::Literal(*ty, *value)),
             Expr::Read(var) => Ok(Expr::Read(*var)),
-            Expr::Unary(op, operand) => {
-                let operand = Boxed::new(alloc, operand.get().copy(alloc)?)?;
-                Ok(Expr::Unary(*op, operand))
-            }
+            Expr::Unary(op, operand) => Ok(Expr::Unary(*op, operand.get().boxed_copy(alloc)?)),
             Expr::Binary(op, left, right) => {
-                let left = Boxed::new(alloc, left.get().copy(alloc)?)?;
-                let right = Boxed::new(alloc, right.get().copy(alloc)?)?;
+                let left = left.get().boxed_copy(alloc)?;
+                let right = right.get().boxed_copy(alloc)?;
                 Ok(Expr::Binary(*op, left, right))
             }
             Expr::Convert(from, to, operand) => {
-                let operand = Boxed::new(alloc, operand.get().copy(alloc)?)?;
-                Ok(Expr::Convert(*from, *to, operand))
+                Ok(Expr::Convert(*from, *to, operand.get().boxed_copy(alloc)?))
             }
             Expr::Select(gate, first, second) => {
-                let gate = Boxed::new(alloc, gate.get().copy(alloc)?)?;
-                let first = Boxed::new(alloc, first.get().copy(alloc)?)?;
-                let second = Boxed::new(alloc, second.get().copy(alloc)?)?;
+                let gate = gate.get().boxed_copy(alloc)?;
+                let first = first.get().boxed_copy(alloc)?;
+                let second = second.get().boxed_copy(alloc)?;
                 Ok(Expr::Select(gate, first, second))
             }
             Expr::Shift(op, operand, count) => {
-                let operand = Boxed::new(alloc, operand.get().copy(alloc)?)?;
-                let count = Boxed::new(alloc, count.get().copy(alloc)?)?;
+                let operand = operand.get().boxed_copy(alloc)?;
+                let count = count.get().boxed_copy(alloc)?;
                 Ok(Expr::Shift(*op, operand, count))
             }
             Expr::AreaRead(width, pointer) => {
-                let pointer = Boxed::new(alloc, pointer.get().copy(alloc)?)?;
-                Ok(Expr::AreaRead(*width, pointer))
+                Ok(Expr::AreaRead(*width, pointer.get().boxed_copy(alloc)?))
             }
         }
+    }
+
+    #[cycle(copied)]
+    fn boxed_copy(&self, alloc: Global) -> Result<Boxed<Expr>, NoMemory>
+        ensures { IfOk result (λ copy. copy ≡ self.now) }
+    {
+        let copy = self.copy(alloc)?;
+        Boxed::new(alloc, copy)
     }
 }
