@@ -2,7 +2,7 @@
 ghost use Rattle.std.specs.Prelude.{◌≡◌, [], ◌∷◌, ◌++◌, Some, IfOk};
 ghost use Rattle.std.specs.List.{list_any};
 ghost use Rattle.st_grammar.specs.Grammar.{may_jump, case_of, label_tree};
-ghost use Rattle.st_grammar.specs.inner.Machine.{code, choosing, otherwise, looping, selecting, otherwise_case, closing, of_cases_else, write_open, first_formal, next_formal, becoming, giving, given, labelled};
+ghost use Rattle.st_grammar.specs.inner.Machine.{code, add_arm, choosing, otherwise, looping, selecting, otherwise_case, closing, of_cases_else, write_open, first_formal, next_formal, becoming, giving, given, labelled};
 ghost use Rattle.st_grammar.specs.inner.Steps.{shallower, body_state, is_loop, in_loop, body_closed, in_body, at_lead, at_statement, at_target, at_label, at_call, at_part, at_closing, step_at};
 ghost use Rattle.st_grammar.specs.declared.kind.Kind.TheVariants as kind;
 ghost use Rattle.st_grammar.specs.declared.kind.Lead.TheVariants as lead;
@@ -49,11 +49,21 @@ fn may_jump(inside: bool, jump: Jump) -> bool
     }
 }
 
-/// Statements inside another one that have ended, and the token at which they did.
+/// Statements inside another one that have ended, and the word or the sign at which they did.
 #[derive(Drop)]
 struct EndedStatements {
     body: List<RawStmt>,
-    kind: Kind,
+    word: Fixed,
+}
+
+/// The arms of an IF with one more.
+fn with_arm(arm: BegunIfArm, body: List<RawStmt>) -> Result<List<RawArm>, NoMemory>
+    ensures { IfOk result (λ more. more ≡ add_arm code arm.arms (measured_of arm.test) body) }
+{
+    let BegunIfArm { mut arms, test } = arm;
+    let test = test.tree.into_inner();
+    arms.push(RawArm { test, body })?;
+    Ok(arms)
 }
 
 /// The statements of an arm of an IF end.
@@ -66,17 +76,10 @@ fn choosing_closed(
 ) -> Result<bool, NoMemory>
     ensures { IfOk result (λ goes. leads_to goes at.new
         ≡ body_closed code at.old.depth (stack_of at.old.frames)
-        (begun_statement_of begun) (choosing arm.arms (measured_of arm.test)) ended.body ended.kind) }
+        (begun_statement_of begun) (choosing arm.arms (measured_of arm.test)) ended.body (kind.Fixed ended.word)) }
 {
-    let EndedStatements { body, kind } = ended;
-    let Kind::Fixed(word) = kind else {
-        return Ok(false);
-    };
-    let BegunIfArm { mut arms, test } = arm;
-    arms.push(RawArm {
-        test: test.tree.into_inner(),
-        body,
-    })?;
+    let EndedStatements { body, word } = ended;
+    let arms = with_arm(arm, body)?;
     match word {
         Fixed::Elsif => at.wait(begun, Need::Test(arms))?,
         Fixed::Else => at.enter(alloc, begun, OuterStatement::Otherwise(arms))?,
@@ -140,7 +143,26 @@ fn case_closed(
     at.close(alloc, begun, RawStmtKind::Case(selector, arms, body))
 }
 
-/// The statements of an arm of a CASE end.
+/// The statements of an arm of a CASE end at a label, that of the next arm.
+fn arm_closed(
+    alloc: Global,
+    at: &mut BodyState,
+    begun: BegunStatement,
+    arm: BegunCaseArm,
+    body: List<RawStmt>,
+    literal: Literal,
+) -> Result<bool, NoMemory>
+    ensures { IfOk result (λ goes. leads_to goes at.new
+        ≡ body_closed code at.old.depth (stack_of at.old.frames)
+        (begun_statement_of begun) (selecting (measured_of arm.cases.selector) arm.cases.arms arm.labels)
+        body (kind.Literal literal)) }
+{
+    let cases = with_case(alloc, arm, body)?;
+    let labels = List::new(alloc);
+    at_label(at, begun, BegunCaseArm { cases, labels }, literal)
+}
+
+/// The statements of an arm of a CASE end at a word.
 fn selecting_closed(
     alloc: Global,
     at: &mut BodyState,
@@ -151,22 +173,18 @@ fn selecting_closed(
     ensures { IfOk result (λ goes. leads_to goes at.new
         ≡ body_closed code at.old.depth (stack_of at.old.frames)
         (begun_statement_of begun) (selecting (measured_of arm.cases.selector) arm.cases.arms arm.labels)
-        ended.body ended.kind) }
+        ended.body (kind.Fixed ended.word)) }
 {
-    let EndedStatements { body, kind } = ended;
+    let EndedStatements { body, word } = ended;
     let cases = with_case(alloc, arm, body)?;
-    match kind {
-        Kind::Literal(literal) => {
-            let labels = List::new(alloc);
-            at_label(at, begun, BegunCaseArm { cases, labels }, literal)
+    match word {
+        Fixed::Else => at.enter(alloc, begun, OuterStatement::OtherwiseCase(cases))?,
+        Fixed::EndCase => {
+            return case_closed(alloc, at, begun, cases, List::new(alloc));
         }
-        Kind::Fixed(Fixed::Else) => {
-            at.enter(alloc, begun, OuterStatement::OtherwiseCase(cases))?;
-            Ok(true)
-        }
-        Kind::Fixed(Fixed::EndCase) => case_closed(alloc, at, begun, cases, List::new(alloc)),
-        _ => Ok(false),
+        _ => return Ok(false),
     }
+    Ok(true)
 }
 
 /// The statements after the ELSE of an IF end.
@@ -179,10 +197,10 @@ fn otherwise_closed(
 ) -> Result<bool, NoMemory>
     ensures { IfOk result (λ goes. leads_to goes at.new
         ≡ body_closed code at.old.depth (stack_of at.old.frames)
-        (begun_statement_of begun) (otherwise arms) ended.body ended.kind) }
+        (begun_statement_of begun) (otherwise arms) ended.body (kind.Fixed ended.word)) }
 {
-    let EndedStatements { body, kind } = ended;
-    let Kind::Fixed(Fixed::EndIf) = kind else {
+    let EndedStatements { body, word } = ended;
+    let Fixed::EndIf = word else {
         return Ok(false);
     };
     at.close(alloc, begun, RawStmtKind::If(arms, body))
@@ -198,10 +216,10 @@ fn looping_closed(
 ) -> Result<bool, NoMemory>
     ensures { IfOk result (λ goes. leads_to goes at.new
         ≡ body_closed code at.old.depth (stack_of at.old.frames)
-        (begun_statement_of begun) (looping (measured_of test)) ended.body ended.kind) }
+        (begun_statement_of begun) (looping (measured_of test)) ended.body (kind.Fixed ended.word)) }
 {
-    let EndedStatements { body, kind } = ended;
-    let Kind::Fixed(Fixed::EndWhile) = kind else {
+    let EndedStatements { body, word } = ended;
+    let Fixed::EndWhile = word else {
         return Ok(false);
     };
     at.close(
@@ -221,17 +239,17 @@ fn otherwise_case_closed(
 ) -> Result<bool, NoMemory>
     ensures { IfOk result (λ goes. leads_to goes at.new
         ≡ body_closed code at.old.depth (stack_of at.old.frames)
-        (begun_statement_of begun) (otherwise_case (measured_of cases.selector) cases.arms) ended.body ended.kind) }
+        (begun_statement_of begun) (otherwise_case (measured_of cases.selector) cases.arms) ended.body (kind.Fixed ended.word)) }
 {
-    let EndedStatements { body, kind } = ended;
-    let Kind::Fixed(Fixed::EndCase) = kind else {
+    let EndedStatements { body, word } = ended;
+    let Fixed::EndCase = word else {
         return Ok(false);
     };
     case_closed(alloc, at, begun, cases, body)
 }
 
-/// Statements inside another one end.
-fn body_closed(
+/// Statements inside another one end at a word.
+fn body_ended(
     alloc: Global,
     at: &mut BodyState,
     begun: BegunStatement,
@@ -240,7 +258,7 @@ fn body_closed(
 ) -> Result<bool, NoMemory>
     ensures { IfOk result (λ goes. leads_to goes at.new
         ≡ body_closed code at.old.depth (stack_of at.old.frames)
-        (begun_statement_of begun) (outer_statement_of outer) ended.body ended.kind) }
+        (begun_statement_of begun) (outer_statement_of outer) ended.body (kind.Fixed ended.word)) }
 {
     match outer {
         OuterStatement::Choosing(arm) => choosing_closed(alloc, at, begun, arm, ended),
@@ -250,6 +268,29 @@ fn body_closed(
         OuterStatement::OtherwiseCase(cases) => otherwise_case_closed(
             alloc, at, begun, cases, ended,
         ),
+    }
+}
+
+/// Statements inside another one end. A label ends those of an arm of a CASE alone.
+fn body_closed(
+    alloc: Global,
+    at: &mut BodyState,
+    begun: BegunStatement,
+    outer: OuterStatement,
+    body: List<RawStmt>,
+    kind: Kind,
+) -> Result<bool, NoMemory>
+    ensures { IfOk result (λ goes. leads_to goes at.new
+        ≡ body_closed code at.old.depth (stack_of at.old.frames)
+        (begun_statement_of begun) (outer_statement_of outer) body kind) }
+{
+    match kind {
+        Kind::Fixed(word) => body_ended(alloc, at, begun, outer, EndedStatements { body, word }),
+        Kind::Literal(literal) => match outer {
+            OuterStatement::Selecting(arm) => arm_closed(alloc, at, begun, arm, body, literal),
+            _ => Ok(false),
+        },
+        _ => Ok(false),
     }
 }
 
@@ -264,9 +305,7 @@ fn in_body(
         ≡ in_body code at.old.depth (stack_of at.old.frames) body kind) }
 {
     match at.frames.pop() {
-        Some(Frame::Within(begun, outer)) => {
-            body_closed(alloc, at, begun, outer, EndedStatements { body, kind })
-        }
+        Some(Frame::Within(begun, outer)) => body_closed(alloc, at, begun, outer, body, kind),
         other => {
             drop(other);
             Ok(false)
@@ -430,11 +469,13 @@ fn at_becoming(
         ≡ at_call code at.old.depth (stack_of at.old.frames)
         (begun_statement_of begun) (becoming actual.call.name actual.call.actuals actual.formal) kind) }
 {
-    let Kind::Fixed(Fixed::Becomes) = kind else {
-        return Ok(false);
-    };
-    at.go_part(begun, Part::Giving(actual));
-    Ok(true)
+    match kind {
+        Kind::Fixed(Fixed::Becomes) => {
+            at.go_part(begun, Part::Giving(actual));
+            Ok(true)
+        }
+        _ => Ok(false),
+    }
 }
 
 /// A call with one more actual.
@@ -602,7 +643,8 @@ pub fn step(alloc: Global, at: &mut BodyState, kind: Kind) -> Result<bool, NoMem
     ensures { IfOk result (λ goes. leads_to goes at.new
         ≡ step_at code at.old.depth (stack_of at.old.frames) (place_of at.old.place) kind) }
 {
-    match replace(&mut at.place, Place::Operand) {
+    let place = replace(&mut at.place, Place::Operand);
+    match place {
         Place::Statement(before) => at_statement(alloc, at, before, kind),
         Place::Part(begun, part) => at_part(alloc, at, begun, part, kind),
         Place::Closing(before, statement) => at_closing(at, before, statement, kind),
