@@ -84,6 +84,25 @@ fn with_unit(
     all.calls.push(calls)
 }
 
+/// Puts units of a text after others.
+fn put_units(
+    alloc: Global,
+    scope: &mut Scope,
+    raws: &[RawPou],
+    all: &mut Units,
+) -> Result<(), NoMemory>
+    ensures units { OnOk result (all.new.units ≡ all.old.units ++ all_units scope.old.outer scope.old.formals raws.now) }
+    ensures calls { OnOk result (all.new.calls
+        ≡ all.old.calls ++ calls_of_units scope.old.outer scope.old.formals raws.now) }
+    ensures breaks { OnOk result (all.new.breaks
+        ≡ all.old.breaks ++ all_unit_breaks scope.old.outer scope.old.formals raws.now) }
+{
+    for raw in raws {
+        with_unit(alloc, scope, raw, all)?;
+    }
+    Ok(())
+}
+
 /// All units of a text, by what is declared outside them and the formals of each.
 pub fn all_units(
     alloc: Global,
@@ -95,19 +114,16 @@ pub fn all_units(
     ensures calls { IfOk result (λ all. all.calls ≡ calls_of_units outer formals raws.now) }
     ensures breaks { IfOk result (λ all. all.breaks ≡ all_unit_breaks outer formals raws.now) }
 {
-    let inner = Table::new(alloc);
     let mut scope = Scope {
         outer,
         formals,
-        inner,
+        inner: Table::new(alloc),
     };
     let mut all = Units {
         units: List::new(alloc),
         calls: List::new(alloc),
         breaks: List::new(alloc),
     };
-    for raw in raws {
-        with_unit(alloc, &mut scope, raw, &mut all)?;
-    }
+    put_units(alloc, &mut scope, raws, &mut all)?;
     Ok(all)
 }
