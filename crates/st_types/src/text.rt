@@ -101,12 +101,11 @@ fn judge_calls(alloc: Global, graph: &[List<Call>], units: &[RawPou]) -> Result<
     Ok(())
 }
 
-/// The tree of a text by its raw tree, or the first rule that is broken.
-pub fn typed(alloc: Global, raw: RawSt) -> Result<StProgram, Rejection>
-    ensures tree { IfOk result (HasTree raw) }
-    ensures refused { IfErr result (IsRefused raw) }
+fn typed_from(alloc: Global, raw: &RawSt) -> Result<StProgram, Rejection>
+    ensures tree { IfOk result (HasTree raw.now) }
+    ensures refused { IfErr result (IsRefused raw.now) }
 {
-    let judged = judge(alloc, &raw)?;
+    let judged = judge(alloc, raw)?;
     if let Some(first) = first_of_all(judged.breaks.as_slice()) {
         return Err(Rejection::Refused(first.line, first.rule));
     }
@@ -114,4 +113,12 @@ pub fn typed(alloc: Global, raw: RawSt) -> Result<StProgram, Rejection>
         Ok(()) => Ok(judged.tree),
         Err(refusal) => Err(refusal),
     }
+}
+
+/// The tree of a text by its raw tree, or the first rule that is broken.
+pub fn typed(alloc: Global, raw: RawSt) -> Result<StProgram, Rejection>
+    ensures tree { IfOk result (HasTree raw) }
+    ensures refused { IfErr result (IsRefused raw) }
+{
+    typed_from(alloc, &raw)
 }

@@ -103,6 +103,20 @@ fn put_units(
     Ok(())
 }
 
+fn units_from(alloc: Global, scope: &mut Scope, raws: &[RawPou]) -> Result<Units, NoMemory>
+    ensures units { IfOk result (λ all. all.units ≡ all_units scope.old.outer scope.old.formals raws.now) }
+    ensures calls { IfOk result (λ all. all.calls ≡ calls_of_units scope.old.outer scope.old.formals raws.now) }
+    ensures breaks { IfOk result (λ all. all.breaks ≡ all_unit_breaks scope.old.outer scope.old.formals raws.now) }
+{
+    let mut all = Units {
+        units: List::new(alloc),
+        calls: List::new(alloc),
+        breaks: List::new(alloc),
+    };
+    put_units(alloc, scope, raws, &mut all)?;
+    Ok(all)
+}
+
 /// All units of a text, by what is declared outside them and the formals of each.
 pub fn all_units(
     alloc: Global,
@@ -119,11 +133,5 @@ pub fn all_units(
         formals,
         inner: Table::new(alloc),
     };
-    let mut all = Units {
-        units: List::new(alloc),
-        calls: List::new(alloc),
-        breaks: List::new(alloc),
-    };
-    put_units(alloc, &mut scope, raws, &mut all)?;
-    Ok(all)
+    units_from(alloc, &mut scope, raws)
 }
