@@ -1,7 +1,7 @@
 //! Steps of the parser in units.
 ghost use Rattle.std.specs.Prelude.{◌≡◌, IfOk, option_map};
 ghost use Rattle.st_grammar.specs.Grammar.{is_formal_type};
-ghost use Rattle.st_grammar.specs.inner.Machine.{code, add_unit};
+ghost use Rattle.st_grammar.specs.inner.Machine.{code, add_unit, between, inside, local_end};
 ghost use Rattle.st_grammar.specs.inner.Steps.{at_between, at_start, at_heading, may_name, may_type, section_end, at_section, at_typing, ends, leave, at_inside, at_formals_done, at_opened, next, step as body_step};
 ghost use Rattle.st_bodies.specs.inner.BodyStates.{body_state_of, place_of, stack_of};
 ghost use Rattle.st_syntax.specs.inner.Views.{
@@ -146,9 +146,26 @@ fn typing_step(which: &SectionKind, typing: Typing, kind: &Kind) -> Option<Typin
     }
 }
 
+/// The `;` of a formal or a local.
+fn at_typing_end(
+    mut section: BegunSection,
+    local: RawLocal,
+    kind: &Kind,
+) -> Result<Option<State>, NoMemory>
+    ensures { IfOk result (λ o. option_map state_of o
+        ≡ at_typing code (begun_unit_of section.unit) (section_kind_of section.which) section.done
+        local.name local.line (local_end local.ty) kind.now) }
+{
+    let Kind::Fixed(Fixed::Semicolon) = kind else {
+        return Ok(None);
+    };
+    section.done.push(local)?;
+    Ok(Some(State::Section(section)))
+}
+
 /// A token of a formal or a local after its name.
 fn at_typing(
-    mut section: BegunSection,
+    section: BegunSection,
     name: List<u8>,
     line: Line,
     typing: Typing,
@@ -159,13 +176,11 @@ fn at_typing(
         (typing_of typing) kind) }
 {
     if let Typing::End(ty) = typing {
-        let Kind::Fixed(Fixed::Semicolon) = kind else {
-            return Ok(None);
-        };
-        section.done.push(RawLocal { name, line, ty })?;
-        return Ok(Some(State::Section(section)));
+        return at_typing_end(section, RawLocal { name, line, ty }, &kind);
     }
-    match typing_step(&section.which, typing, &kind) {
+    let next = typing_step(&section.which, typing, &kind);
+    drop(kind);
+    match next {
         Some(next) => Ok(Some(State::Typing(section, name, line, next))),
         None => Ok(None),
     }
@@ -202,19 +217,33 @@ fn with_unit(unit: DeclaredUnit, body: List<RawStmt>) -> Result<TextSoFar, NoMem
     Ok(text)
 }
 
+/// After a unit, if it can end with these statements.
+fn between(unit: DeclaredUnit, body: Option<List<RawStmt>>) -> Result<Option<State>, NoMemory>
+    ensures { IfOk result (λ o. option_map state_of o
+        ≡ option_map (λ body. between (record {
+          globals = unit.begun.text.globals;
+          units = add_unit code unit.begun.text.units unit.begun.head unit.formals unit.locals body;
+        })) body) }
+{
+    match body {
+        Some(body) => Ok(Some(State::Between(with_unit(unit, body)?))),
+        None => Ok(None),
+    }
+}
+
 /// The end word of a program, or that of a function.
 fn leave(program: bool, unit: DeclaredUnit, at: BodyState) -> Result<Option<State>, NoMemory>
     ensures { IfOk result (λ o. option_map state_of o
         ≡ leave code program (begun_unit_of unit.begun) unit.formals unit.locals
         (stack_of at.frames) (place_of at.place)) }
 {
-    let Some(body) = at.into_body() else {
-        return Ok(None);
-    };
-    if !ends(program, unit.begun.head.program) {
-        return Ok(None);
+    let body = at.into_body();
+    if ends(program, unit.begun.head.program) {
+        return between(unit, body);
     }
-    Ok(Some(State::Between(with_unit(unit, body)?)))
+    drop(body);
+    drop(unit);
+    Ok(None)
 }
 
 /// The statements after one more token; `None` where it cannot follow.
@@ -234,6 +263,18 @@ fn stepped(alloc: Global, mut at: BodyState, kind: Kind) -> Result<Option<BodySt
     }
 }
 
+/// In the statements of a unit, where they can go on.
+fn inside(unit: DeclaredUnit, to: Option<BodyState>) -> Option<State>
+    ensures { option_map state_of result
+        ≡ option_map (λ at. inside (begun_unit_of unit.begun) unit.formals unit.locals at)
+        (option_map body_state_of to) }
+{
+    match to {
+        Some(to) => Some(State::Inside(unit, to)),
+        None => None,
+    }
+}
+
 fn at_inside(
     alloc: Global,
     unit: DeclaredUnit,
@@ -246,9 +287,12 @@ fn at_inside(
     match kind {
         Kind::Fixed(Fixed::EndProgram) => leave(true, unit, at),
         Kind::Fixed(Fixed::EndFunction) => leave(false, unit, at),
-        other => match stepped(alloc, at, other)? {
-            Some(to) => Ok(Some(State::Inside(unit, to))),
-            None => Ok(None),
+        other => match stepped(alloc, at, other) {
+            Ok(to) => Ok(inside(unit, to)),
+            Err(no_memory) => {
+                drop(unit);
+                Err(no_memory)
+            }
         },
     }
 }
