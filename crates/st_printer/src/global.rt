@@ -31,6 +31,14 @@ fn put_run(out: &mut Vec<u8>, count: usize, byte: u8) -> Result<(), NoMemory>
     put(out, ")")
 }
 
+/// Equal bytes that others follow.
+fn put_run_before(out: &mut Vec<u8>, count: usize, byte: u8) -> Result<(), NoMemory>
+    ensures { OnOk result (out.new.items ≡ out.old.items ++ (run_text count byte ++ codes ", ")) }
+{
+    put_run(out, count, byte)?;
+    put(out, ", ")
+}
+
 fn put_list_behind(out: &mut Vec<u8>, first: u8, bytes: &[u8]) -> Result<(), NoMemory>
     ensures { OnOk result (out.new.items ≡ out.old.items ++ list_behind 1 first bytes.now) }
 {
@@ -41,8 +49,7 @@ fn put_list_behind(out: &mut Vec<u8>, first: u8, bytes: &[u8]) -> Result<(), NoM
         if *next == byte {
             count += 1;
         } else {
-            put_run(out, count, byte)?;
-            put(out, ", ")?;
+            put_run_before(out, count, byte)?;
             byte = *next;
             count = 1;
         }
@@ -63,6 +70,17 @@ fn put_initial(out: &mut Vec<u8>, bytes: &[u8]) -> Result<(), NoMemory>
     put(out, "]")
 }
 
+/// The place of a data block and its last index, from its number on.
+fn put_block_place(out: &mut Vec<u8>, number: u16, length: usize) -> Result<(), NoMemory>
+    ensures { OnOk result (out.new.items ≡ out.old.items
+        ++ decimal number ++ codes ".DBB0 : ARRAY[0.." ++ decimal (length - 1) ++ codes "] OF BYTE") }
+{
+    put_number(out, u64::from(number))?;
+    put(out, ".DBB0 : ARRAY[0..")?;
+    put_number(out, length.saturating_sub(1) as u64)?;
+    put(out, "] OF BYTE")
+}
+
 /// The name, the place and the last index of a data block.
 fn put_block_head(out: &mut Vec<u8>, number: u16, length: usize) -> Result<(), NoMemory>
     ensures { OnOk result (out.new.items ≡ out.old.items
@@ -72,10 +90,7 @@ fn put_block_head(out: &mut Vec<u8>, number: u16, length: usize) -> Result<(), N
     put(out, "    DB")?;
     put_number(out, u64::from(number))?;
     put(out, " AT %DB")?;
-    put_number(out, u64::from(number))?;
-    put(out, ".DBB0 : ARRAY[0..")?;
-    put_number(out, length.saturating_sub(1) as u64)?;
-    put(out, "] OF BYTE")
+    put_block_place(out, number, length)
 }
 
 #[tactic(auto, unfolding(st_tree::specs::Spelling::block_text, st_tree::specs::Spelling::line))]
@@ -142,6 +157,17 @@ fn put_located_globals(out: &mut Vec<u8>, globals: &[Located]) -> Result<(), NoM
     Ok(())
 }
 
+fn put_section(out: &mut Vec<u8>, blocks: &[DataBlock], globals: &[Located]) -> Result<(), NoMemory>
+    ensures { OnOk result (out.new.items ≡ out.old.items
+        ++ (line 0 (codes "VAR_GLOBAL") ++ flat_map block_text blocks.now ++ flat_map global_text globals.now
+        ++ line 0 (codes "END_VAR"))) }
+{
+    put_line(out, 0, "VAR_GLOBAL")?;
+    put_blocks(out, blocks)?;
+    put_located_globals(out, globals)?;
+    put_line(out, 0, "END_VAR")
+}
+
 /// Puts the section of globals at the end; an empty one is not written.
 pub fn put_globals(out: &mut Vec<u8>, tree: &StProgram) -> Result<(), NoMemory>
     ensures { OnOk result (out.new.items ≡ out.old.items ++ globals_text tree.now.dbs tree.now.globals) }
@@ -151,8 +177,5 @@ pub fn put_globals(out: &mut Vec<u8>, tree: &StProgram) -> Result<(), NoMemory>
     if blocks.is_empty() && globals.is_empty() {
         return Ok(());
     }
-    put_line(out, 0, "VAR_GLOBAL")?;
-    put_blocks(out, blocks)?;
-    put_located_globals(out, globals)?;
-    put_line(out, 0, "END_VAR")
+    put_section(out, blocks, globals)
 }
