@@ -1,7 +1,7 @@
 //! Steps of the parser in globals.
 ghost use Rattle.std.specs.Prelude.{◌≡◌, if◌then◌else◌, Some, None, IfOk, option_map};
 ghost use Rattle.st_grammar.specs.Grammar.{is_direct};
-ghost use Rattle.st_grammar.specs.inner.Machine.{code, at_comma, at_item};
+ghost use Rattle.st_grammar.specs.inner.Machine.{code, at_comma, at_item, at_value_end};
 ghost use Rattle.st_grammar.specs.inner.Steps.{is_zero, is_array, row_type, row_place, row_array, row_items, row_step, row_end, at_row, at_globals};
 ghost use Rattle.st_syntax.specs.inner.Views.{row_of, state_of};
 
@@ -136,6 +136,23 @@ fn row_item(
     }
 }
 
+/// The bracket after a byte that stands so many times.
+fn row_value_end(
+    at: RawVar,
+    last: u32,
+    mut items: List<(u32, u8)>,
+    item: (u32, u8),
+    kind: &Kind,
+) -> Result<Option<Row>, NoMemory>
+    ensures { IfOk result (λ o. option_map row_of o ≡ row_items code (at_value_end at last items item.0 item.1) kind.now) }
+{
+    let Kind::Fixed(Fixed::Close) = kind else {
+        return Ok(None);
+    };
+    items.push(item)?;
+    Ok(Some(Row::AtComma(at, last, items)))
+}
+
 /// The bytes in square brackets.
 fn row_items(alloc: Global, row: Row, kind: &Kind) -> Result<Option<Row>, NoMemory>
     ensures { IfOk result (λ o. option_map row_of o ≡ row_items code (row_of row) kind.now) }
@@ -160,12 +177,8 @@ fn row_items(alloc: Global, row: Row, kind: &Kind) -> Result<Option<Row>, NoMemo
             }
             _ => None,
         },
-        Row::AtValueEnd(at, last, mut items, count, byte) => {
-            items.push((count, byte))?;
-            when(
-                matches!(kind, Kind::Fixed(Fixed::Close)),
-                Row::AtComma(at, last, items),
-            )
+        Row::AtValueEnd(at, last, items, count, byte) => {
+            return row_value_end(at, last, items, (count, byte), kind);
         }
         Row::AtComma(at, last, items) => row_comma(at, last, items, kind),
         other => {
