@@ -3,6 +3,8 @@ ghost use Rattle.std.specs.Prelude.{◌≡◌, ◌∷◌, ◌++◌, [], IfOk, On
 ghost use Rattle.std.specs.List.{filter_map, flat_map};
 ghost use Rattle.std.specs.Option.{option_to_list};
 ghost use Rattle.stl_rules.specs.Programs.{body_of, instr_of, op_by, sight_of};
+ghost use Rattle.stl_rules.specs.Layouts.{breaks_in};
+ghost use Rattle.stl_rules.specs.Raw.{most_local};
 ghost use Rattle.stl_rules.specs.Stages.{blocks_behind, instr_breaks, kind_breaks, operand_breaks};
 ghost use Rattle.stl_tree.specs.declared.raw.RawData.{RawData};
 ghost use Rattle.symbol_names.specs.inner.Firsts.{reasons_at, with_breaks};
@@ -82,7 +84,6 @@ fn put_op(body: &mut List<Instr>, line: Line, op: Option<Op>) -> Result<(), NoMe
 }
 
 /// One more instruction of a body, if it is one.
-#[tactic(auto, unfolding(stl_rules::specs::Programs::op_of))]
 fn put_instr(
     alloc: Global,
     sight: &Sight<'_, '_>,
@@ -177,8 +178,24 @@ fn put_named(
     }
 }
 
+/// The temporaries of a block, and what they break.
+#[tactic(auto, using(crate::proofs::Firsts::joins))]
+fn temps_of<'t>(
+    alloc: Global,
+    raw: &'t RawBlock,
+    first: &mut Option<Break>,
+) -> Result<Laid<'t>, NoMemory>
+    ensures temps { IfOk result (λ temps. temps ≡ (most_local, raw.now.temps)) }
+    ensures first { OnOk result (first.new ≡ with_breaks first.old (breaks_in most_local (raw.now.temps ∷ []))) }
+{
+    let temps = raw.temps.as_slice();
+    let temps_first = first_break(alloc, temps, MOST_LOCAL)?;
+    join(first, temps_first);
+    Laid::new(alloc, temps, MOST_LOCAL, temps_first.is_some())
+}
+
 /// The instructions of a block, by what names mean in it.
-#[tactic(auto, using(crate::proofs::Firsts::behind, crate::proofs::Firsts::joins))]
+#[tactic(auto, using(crate::proofs::Firsts::behind))]
 fn body_in(
     alloc: Global,
     names: &Names<'_>,
@@ -190,11 +207,9 @@ fn body_in(
     ensures body { IfOk result (λ body. body ≡ body_of (sight_of names.now raw.now) raw.now) }
     ensures first { OnOk result (first.new ≡ with_breaks first.old (body_breaks names.now raw.now)) }
 {
-    let temps = raw.temps.as_slice();
-    let temps_first = first_break(alloc, temps, MOST_LOCAL)?;
-    join(first, temps_first);
-    let temps = Laid::new(alloc, temps, MOST_LOCAL, temps_first.is_some())?;
-    body_of(alloc, &Sight::new(names, laid, &temps), raw, first)
+    let temps = temps_of(alloc, raw, first)?;
+    let sight = Sight::new(names, laid, &temps);
+    body_of(alloc, &sight, raw, first)
 }
 
 /// One more block.
@@ -260,6 +275,22 @@ fn put_each(
     Ok(())
 }
 
+/// The blocks of a text, behind others.
+fn put_all(
+    alloc: Global,
+    names: &Names<'_>,
+    laid: &[Laid<'_>],
+    raws: &[RawBlock],
+    blocks: &mut Blocks,
+) -> Result<(), NoMemory>
+    requires { laid.now ≡ map own_of names.now.dbs }
+    ensures made { OnOk result (blocks.new.made ≡ blocks.old.made ++ filter_map (block_kept names.now) raws.now) }
+    ensures first { OnOk result (blocks.new.first ≡ with_breaks blocks.old.first (blocks_behind names.now [] raws.now)) }
+{
+    let numbers = numbers_of(alloc, names, raws)?;
+    put_each(alloc, names, laid, &numbers, raws, blocks)
+}
+
 /// The blocks of a text.
 pub fn put_blocks(
     alloc: Global,
@@ -272,11 +303,10 @@ pub fn put_blocks(
     ensures made { IfOk result (λ b. b.made ≡ filter_map (block_kept names.now) raws.now) }
     ensures first { IfOk result (λ b. b.first ≡ with_breaks first (blocks_behind names.now [] raws.now)) }
 {
-    let numbers = numbers_of(alloc, names, raws)?;
     let mut blocks = Blocks {
         made: List::new(alloc),
         first,
     };
-    put_each(alloc, names, laid, &numbers, raws, &mut blocks)?;
+    put_all(alloc, names, laid, raws, &mut blocks)?;
     Ok(blocks)
 }

@@ -1,6 +1,6 @@
 //! What names mean in a text.
-ghost use Rattle.std.specs.Prelude.{◌≡◌, IfOk, option_and_then, slice_get};
-ghost use Rattle.stl_rules.specs.Names.{db_numbered};
+ghost use Rattle.std.specs.Prelude.{◌≡◌, ◌∷◌, ◌++◌, [], IfOk, OnOk, option_and_then, slice_get};
+ghost use Rattle.stl_rules.specs.Names.{block_number, db_numbered};
 ghost use Rattle.symbol_names.specs.inner.Places.{block_numbers, db_numbers};
 
 use crate::numbers::Numbers;
@@ -8,7 +8,7 @@ use crate::symbols::Symbols;
 use s7_base::{NoMemory, Reason};
 use std::alloc::Global;
 use std::marker::Model;
-use stl_tree::{BlockKind, RawBlock, RawData, RawProgram};
+use stl_tree::{BlockKind, RawBlock, RawData, RawName, RawProgram};
 
 /// A text whose names are found by maps. Contracts see the text.
 #[derive(Drop)]
@@ -37,6 +37,21 @@ impl<'t> Model for Names<'t> {
         × (n.dbs ≡ db_numbers n.text.now.symbols n.text.now.dbs) };
 }
 
+/// The number of one more block.
+fn put_number(
+    alloc: Global,
+    symbols: &Symbols<'_>,
+    kind: BlockKind,
+    name: &RawName,
+    numbers: &mut Vec<Result<u32, Reason>>,
+) -> Result<(), NoMemory>
+    ensures { OnOk result (numbers.new.items ≡ numbers.old.items ++ block_number symbols.now kind name.now ∷ []) }
+{
+    let number = symbols.block_number(alloc, kind, name)?;
+    numbers.push(number)?;
+    Ok(())
+}
+
 /// The numbers of data blocks.
 fn numbers_of_dbs(
     alloc: Global,
@@ -47,8 +62,7 @@ fn numbers_of_dbs(
 {
     let mut numbers = Vec::new(alloc);
     for d in dbs {
-        let number = symbols.block_number(alloc, BlockKind::Db, &d.name)?;
-        numbers.push(number)?;
+        put_number(alloc, symbols, BlockKind::Db, &d.name, &mut numbers)?;
     }
     Ok(numbers)
 }
@@ -63,8 +77,7 @@ pub fn numbers_of_blocks(
 {
     let mut numbers = Vec::new(alloc);
     for raw in blocks {
-        let number = symbols.block_number(alloc, raw.kind, &raw.name)?;
-        numbers.push(number)?;
+        put_number(alloc, symbols, raw.kind, &raw.name, &mut numbers)?;
     }
     Ok(numbers)
 }
