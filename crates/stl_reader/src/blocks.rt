@@ -1,11 +1,12 @@
 //! The blocks of a text.
-ghost use Rattle.std.specs.Prelude.{◌≡◌, ◌++◌, length, None, IfOk, OnOk};
+ghost use Rattle.std.specs.Prelude.{◌≡◌, None, Some, IfOk, OnOk};
 ghost use Rattle.s7_base.specs.Answers.{Answers};
 ghost use Rattle.s7_base.specs.Tokens.{line_at_end};
 ghost use Rattle.stl_grammar.specs.Items.{items_of};
-ghost use Rattle.stl_grammar.specs.RawPrograms.{blocks_in, data_headed, dbs_in, headed, nothing_read, opened, raw_read, with_item, raw_program, raw_text};
+ghost use Rattle.stl_grammar.specs.RawPrograms.{data_headed, headed, nothing_read, opened, raw_read, with_item, raw_program, raw_text};
 ghost use Rattle.stl_grammar.specs.declared.item.Item.TheVariants as item;
 ghost use Rattle.stl_reader.specs.inner.Finding.{read_behind};
+ghost use Rattle.stl_reader.specs.inner.Following.{with_last, with_last_db};
 
 use crate::item::item_at;
 use s7_base::{Line, List, NoMemory, Rejection, Token, rest_after};
@@ -51,22 +52,40 @@ fn data_headed(alloc: Global, line: Line, name: RawName) -> RawData
     }
 }
 
-/// The last block of either kind is done.
-fn finish_last(reading: &mut Reading) -> Result<(), NoMemory>
-    ensures done { OnOk result (reading.new.done ≡ blocks_in reading.old) }
-    ensures dbs { OnOk result (reading.new.dbs ≡ dbs_in reading.old) }
-    ensures last { OnOk result (reading.new.last ≡ None) }
-    ensures last_db { OnOk result (reading.new.last_db ≡ None) }
-    ensures symbols { reading.new.symbols ≡ reading.old.symbols }
-    ensures structs { reading.new.structs ≡ reading.old.structs }
+/// The last block is done, and another follows it or none.
+fn follow_block(reading: &mut Reading, next: Option<RawBlock>) -> Result<(), NoMemory>
+    ensures { OnOk result (reading.new ≡ with_last next reading.old) }
 {
-    if let Some(block) = replace(&mut reading.last, None) {
-        reading.done.push(block)?;
+    match replace(&mut reading.last, next) {
+        Some(block) => reading.done.push(block),
+        None => Ok(()),
     }
-    if let Some(db) = replace(&mut reading.last_db, None) {
-        reading.dbs.push(db)?;
+}
+
+/// The last data block is done, and another follows it or none.
+fn follow_data(reading: &mut Reading, next: Option<RawData>) -> Result<(), NoMemory>
+    ensures { OnOk result (reading.new ≡ with_last_db next reading.old) }
+{
+    match replace(&mut reading.last_db, next) {
+        Some(db) => reading.dbs.push(db),
+        None => Ok(()),
     }
-    Ok(())
+}
+
+/// The heading of a data block.
+fn open_data(reading: &mut Reading, db: RawData) -> Result<(), NoMemory>
+    ensures { OnOk result (reading.new ≡ with_last_db (Some db) (with_last None reading.old)) }
+{
+    follow_data(reading, Some(db))?;
+    follow_block(reading, None)
+}
+
+/// The heading of a block of another kind.
+fn open_block(reading: &mut Reading, block: RawBlock) -> Result<(), NoMemory>
+    ensures { OnOk result (reading.new ≡ with_last_db None (with_last (Some block) reading.old)) }
+{
+    follow_block(reading, Some(block))?;
+    follow_data(reading, None)
 }
 
 /// The heading of one more block.
@@ -79,14 +98,12 @@ fn put_opened(
 ) -> Result<(), NoMemory>
     ensures { OnOk result (reading.new ≡ opened line kind name reading.old) }
 {
-    finish_last(reading)?;
     match kind {
-        BlockKind::Db => reading.last_db = Some(data_headed(alloc, line, name)),
+        BlockKind::Db => open_data(reading, data_headed(alloc, line, name)),
         BlockKind::Ob | BlockKind::Fc | BlockKind::Fb => {
-            reading.last = Some(headed(alloc, line, kind, name));
+            open_block(reading, headed(alloc, line, kind, name))
         }
     }
-    Ok(())
 }
 
 /// One more line of the symbol table.
@@ -148,7 +165,8 @@ fn put_item(alloc: Global, reading: &mut Reading, item: Item) -> Result<(), NoMe
 fn finish(alloc: Global, reading: &mut Reading) -> Result<RawProgram, NoMemory>
     ensures { IfOk result (λ raw. raw ≡ raw_read reading.old) }
 {
-    finish_last(reading)?;
+    follow_block(reading, None)?;
+    follow_data(reading, None)?;
     Ok(RawProgram {
         symbols: replace(&mut reading.symbols, List::new(alloc)),
         dbs: replace(&mut reading.dbs, List::new(alloc)),
@@ -181,19 +199,26 @@ fn read_items(
     }
 }
 
-/// The raw program of the tokens of a text that ends on a line.
-#[tactic(auto, using(crate::proofs::Walk::read_from_nothing), unfolding(stl_grammar::specs::RawPrograms::raw_program))]
-fn read_tokens(alloc: Global, tokens: &[Token], end: Line) -> Result<RawProgram, Rejection>
-    ensures { Answers result (raw_program end tokens.now) }
+/// The reading of a text of which nothing is read yet.
+fn nothing_read(alloc: Global) -> Reading
+    ensures { result ≡ nothing_read }
 {
-    let mut reading = Reading {
+    Reading {
         symbols: List::new(alloc),
         dbs: List::new(alloc),
         last_db: None,
         done: List::new(alloc),
         last: None,
         structs: LinkedList::new(alloc),
-    };
+    }
+}
+
+/// The raw program of the tokens of a text that ends on a line.
+#[tactic(auto, using(crate::proofs::Walk::read_from_nothing), unfolding(stl_grammar::specs::RawPrograms::raw_program))]
+fn read_tokens(alloc: Global, tokens: &[Token], end: Line) -> Result<RawProgram, Rejection>
+    ensures { Answers result (raw_program end tokens.now) }
+{
+    let mut reading = nothing_read(alloc);
     read_items(alloc, &mut reading, tokens, end)
 }
 
