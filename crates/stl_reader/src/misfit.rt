@@ -1,5 +1,5 @@
 //! Why an item that fits no form is refused.
-ghost use Rattle.std.specs.Prelude.{◌≡◌, ◌≤◌, false, length};
+ghost use Rattle.std.specs.Prelude.{◌≡◌, ◌≤◌, ◌∷◌, false, length};
 ghost use Rattle.stl_grammar.specs.Items.{is_semicolon, statement_size, begins_with_block_word, begins_with_name, data_reason, is_instance, is_not_built, is_complete, left_out_reason, reason_in, reason_with, heading_reason, declaration_reason, statement_reason};
 ghost use Rattle.stl_statements.specs.Statements.{begins_with_label};
 ghost use Rattle.stl_statements.specs.declared.mnemonic.Read.TheVariants as read;
@@ -84,13 +84,10 @@ fn is_instance(first: &Token, rest: &[Token]) -> bool
     is_quoted(first) || has_number("FB", first, rest)
 }
 
-/// The same where the STRUCT of a data block may stand.
-pub fn data_reason(tokens: &[Token]) -> Reason
-    ensures { result ≡ data_reason tokens.now }
+/// The same where the STRUCT of a data block may stand, given the token there and the rest.
+fn data_reason_at(first: &Token, rest: &[Token]) -> Reason
+    ensures { result ≡ data_reason (first.now ∷ rest.now) }
 {
-    let [first, rest @ ..] = tokens else {
-        return Reason::BadStatement;
-    };
     if is_instance(first, rest) {
         Reason::Unsupported(Kind::NotBuilt)
     } else if is_user_type(first, rest) {
@@ -99,6 +96,16 @@ pub fn data_reason(tokens: &[Token]) -> Reason
         Reason::Unsupported(Kind::SystemCall)
     } else {
         Reason::BadStatement
+    }
+}
+
+/// The same, given all tokens from there.
+pub fn data_reason(tokens: &[Token]) -> Reason
+    ensures { result ≡ data_reason tokens.now }
+{
+    match tokens {
+        [first, rest @ ..] => data_reason_at(first, rest),
+        [] => Reason::BadStatement,
     }
 }
 
