@@ -3,7 +3,7 @@ use Rattle.std.proofs.Common.{◌≡◌, ℕ, ◌+◌, ◌^◌, ◌<◌, List, [
 use Rattle.std.specs.Prelude.{All, replicate}
 use Rattle.std.proofs.lemmas.List.{length-replicate, map-append, take_more}
 use Rattle.std.proofs.lemmas.List.Elements.{All-append, All-cons, All-head, All-more, All-nil, All-replicate, All-tail}
-use Rattle.memory_areas.specs.Areas.{Contents, IsArea, IsMemoryOf, Match, fresh}
+use Rattle.memory_areas.specs.Areas.{Contents, IsArea, IsMemoryOf, Match, fresh, numbers_of}
 use Rattle.memory_areas.specs.Memory.{HasBytes}
 use Rattle.memory_areas.specs.declared.data_block.DataBlock.{DataBlock}
 use Rattle.memory_areas.specs.declared.sizes.TheConstants.{INPUT_BYTES, OUTPUT_BYTES, MARKER_BYTES}
@@ -29,6 +29,15 @@ bytes_more blocks i block h is small before = All-more HasBytes blocks i block h
 -- numbers of 16 bits, and one more of them
 pub one_number_more : (ns : List ℕ) (n : ℕ) → All (λ (k : ℕ). k < 2 ^ 16) ns → n < 2 ^ 16 → All (λ (k : ℕ). k < 2 ^ 16) (ns ++ (n ∷ []))
 one_number_more ns n all h = All-append (λ (k : ℕ). k < 2 ^ 16) ns (n ∷ []) all (All-cons (λ (k : ℕ). k < 2 ^ 16) n [] h (All-nil (λ (k : ℕ). k < 2 ^ 16)))
+
+-- the numbers of one block more
+pub numbers_more : (blocks : List DataBlock) (i : ℕ) (block : DataBlock) (numbers after : List ℕ) → i < length blocks → block ≡ get_or blocks i block
+    → after ≡ numbers ++ block.number ∷ [] → numbers ≡ numbers_of (take i blocks) → after ≡ numbers_of (take (i + 1) blocks)
+numbers_more blocks i block numbers after h is e f =
+    let number : DataBlock → ℕ = λ b. b.number in
+    e ∙ ap (λ ns. ns ++ block.number ∷ []) f ∙ ap (λ (b : DataBlock). map number (take i blocks) ++ b.number ∷ []) is
+    ∙ sym (map-append number (take i blocks) (get_or blocks i block ∷ []))
+    ∙ ap (map number) (sym (take_more blocks i block h))
 
 -- an area of zeros
 zeros : (size : ℕ) → IsArea size (replicate size 0)

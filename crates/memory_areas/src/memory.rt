@@ -127,7 +127,6 @@ fn replace_in_part(
 
 /// The numbers of some data blocks. That they have 16 bits is what their type says, which a clause on blocks
 /// does not know.
-#[tactic(auto, using(crate::proofs::Fresh::one_number_more))]
 fn numbers_of(alloc: Global, blocks: &[DataBlock]) -> Result<Vec<u16>, NoMemory>
     ensures numbers { IfOk result (λ numbers. numbers.items ≡ numbers_of blocks.now) }
     ensures small { IfOk result (λ numbers. All (λ (n : ℕ). n < 2 ^ 16) numbers.items) }
