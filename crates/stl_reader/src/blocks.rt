@@ -199,26 +199,19 @@ fn read_items(
     }
 }
 
-/// The reading of a text of which nothing is read yet.
-fn nothing_read(alloc: Global) -> Reading
-    ensures { result ≡ nothing_read }
+/// The raw program of the tokens of a text that ends on a line.
+#[tactic(auto, using(crate::proofs::Walk::read_from_nothing), unfolding(stl_grammar::specs::RawPrograms::raw_program))]
+fn read_tokens(alloc: Global, tokens: &[Token], end: Line) -> Result<RawProgram, Rejection>
+    ensures { Answers result (raw_program end tokens.now) }
 {
-    Reading {
+    let mut reading = Reading {
         symbols: List::new(alloc),
         dbs: List::new(alloc),
         last_db: None,
         done: List::new(alloc),
         last: None,
         structs: LinkedList::new(alloc),
-    }
-}
-
-/// The raw program of the tokens of a text that ends on a line.
-#[tactic(auto, using(crate::proofs::Walk::read_from_nothing), unfolding(stl_grammar::specs::RawPrograms::raw_program))]
-fn read_tokens(alloc: Global, tokens: &[Token], end: Line) -> Result<RawProgram, Rejection>
-    ensures { Answers result (raw_program end tokens.now) }
-{
-    let mut reading = nothing_read(alloc);
+    };
     read_items(alloc, &mut reading, tokens, end)
 }
 
