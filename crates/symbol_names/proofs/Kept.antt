@@ -32,7 +32,7 @@ use Rattle.stl_tree.specs.declared.raw.RawDataKind.TheVariants as data_kind
 use Rattle.stl_tree.specs.declared.raw.RawInitial.{RawInitial}
 use Rattle.stl_tree.specs.declared.raw.RawProgram.{RawProgram}
 use Rattle.stl_tree.specs.declared.raw.SymbolLine.{SymbolLine}
-use Rattle.symbol_names.specs.inner.Kept.{block_kept, bytes_kept, bytes_unless, data_by, data_kept, name_kept, program_with, symbol_kept}
+use Rattle.symbol_names.specs.inner.Kept.{block_kept, bytes_kept, bytes_unless, data_by, data_kept, name_kept, symbol_kept}
 
 -- Lists without an item
 
@@ -135,6 +135,9 @@ blocks_kept text before (raw ∷ raws) h =
 
 -- The whole
 
+abbrev program_with : List DataBlock → List Block → List Symbol → Program
+program_with dbs blocks symbols = record { dbs = dbs; instances = []; blocks = blocks; symbols = symbols }
+
 same_program : {ds es : List DataBlock} {bs cs : List Block} {ss ts : List Symbol} → ds ≡ es → bs ≡ cs → ss ≡ ts → program_with ds bs ss ≡ program_with es cs ts
 same_program {ds} {es} {bs} {cs} {ss} {ts} d b s =
     ap (λ x. program_with x bs ss) d ∙ ap (λ x. program_with es x ss) b ∙ ap (λ x. program_with es cs x) s
@@ -163,11 +166,4 @@ module _ (raw : RawProgram) where
       let symbols_are : symbols ≡ filter_map symbol_of raw.symbols = s ∙ symbols_kept [] raw.symbols (front_empty own_symbols own_dbs two) in
       sym (ap (answered raw) h) ∙ ap (λ (p : Program). Ok p) (sym (same_program dbs_are blocks_are symbols_are))
 
-  pub made_as : (dbs : List DataBlock) (blocks : List Block) (lines : List SymbolLine) (program : Program) → None ≡ first_of_all (names raw)
-      → dbs ≡ filter_map (data_kept (is_none (slice_get raw.dbs MOST_BLOCKS)) raw.symbols) raw.dbs
-      → blocks ≡ filter_map (block_kept raw) raw.blocks → lines ≡ raw.symbols
-      → program ≡ program_with (in_order dbs) blocks (filter_map symbol_kept lines) → resolved raw ≡ Ok program
-  made_as dbs blocks lines program h d b l p =
-      accepted_as (in_order dbs) blocks (filter_map symbol_kept lines) h (ap in_order d) b (ap (filter_map symbol_kept) l) ∙ ap (λ (q : Program). Ok q) (sym p)
-
-pub ruleset resolve_lemmas = (refused_at, made_as)
+pub ruleset resolve_lemmas = (refused_at, accepted_as)

@@ -5,11 +5,10 @@ ghost use Rattle.std.specs.Option.{option_to_list};
 ghost use Rattle.memory_areas.specs.declared.sizes.TheConstants.{MOST_BLOCKS};
 ghost use Rattle.s7_base.specs.Answers.{Answers};
 ghost use Rattle.s7_base.specs.Broken.{first_of_all};
-ghost use Rattle.stl_rules.specs.DataBlocks.{in_order};
 ghost use Rattle.stl_rules.specs.Programs.{symbol_area, symbol_in};
 ghost use Rattle.stl_rules.specs.Stages.{names as names_stage};
 ghost use Rattle.stl_rules.specs.Verdict.{resolved};
-ghost use Rattle.symbol_names.specs.inner.Kept.{block_kept, data_kept, program_with, symbol_kept};
+ghost use Rattle.symbol_names.specs.inner.Kept.{block_kept, data_kept, symbol_kept};
 
 use crate::blocks::{Blocks, put_blocks};
 use crate::data::{Found, note_too_many, put_dbs};
@@ -19,7 +18,6 @@ use data_contents::in_order;
 use memory_areas::{Area, AreaName, DataBlock, Place};
 use s7_base::{Break, List, NoMemory, Rejection};
 use std::alloc::Global;
-use std::mem::replace;
 use stl_tree::{Block, Program, RawPlace, RawProgram, Symbol, SymbolAddress, SymbolLine};
 
 /// The parts of a program but for its symbols, as far as they break no rule.
@@ -126,40 +124,21 @@ fn put_symbol(symbols: &mut List<Symbol>, symbol: Option<Symbol>) -> Result<(), 
     }
 }
 
-/// The lines of the symbol table of a raw program.
-fn lines_of(raw: RawProgram) -> List<SymbolLine>
-    ensures { result ≡ raw.symbols }
-{
-    raw.symbols
-}
-
-/// The program of its parts and the lines of its symbol table. The parts stay with the caller, since what is owned
-/// at a `?` costs the prover.
-fn program_of(
-    alloc: Global,
-    parts: &mut Parts,
-    lines: List<SymbolLine>,
-) -> Result<Program, NoMemory>
-    ensures { IfOk result (λ program. program ≡ program_with (in_order parts.old.dbs) parts.old.blocks (filter_map symbol_kept lines)) }
-{
-    let symbols = symbols_of(alloc, lines)?;
-    let dbs = in_order(replace(&mut parts.dbs, List::new(alloc)))?;
-    Ok(Program {
-        dbs,
-        instances: List::new(alloc),
-        blocks: replace(&mut parts.blocks, List::new(alloc)),
-        symbols,
-    })
-}
-
 /// The program of a raw program whose names, blocks and layouts break no rule, or the first rule that they break.
 #[tactic(auto, using(crate::proofs::Kept::resolve_lemmas))]
 pub fn resolve(alloc: Global, raw: RawProgram) -> Result<Program, Rejection>
     ensures { Answers result (resolved raw) }
 {
-    let mut parts = parts_of(alloc, &raw)?;
-    match parts.first {
-        Some(first) => Err(Rejection::Refused(first.line, first.rule)),
-        None => Ok(program_of(alloc, &mut parts, lines_of(raw))?),
+    let Parts { dbs, blocks, first } = parts_of(alloc, &raw)?;
+    if let Some(first) = first {
+        return Err(Rejection::Refused(first.line, first.rule));
     }
+    let dbs = in_order(dbs)?;
+    let symbols = symbols_of(alloc, raw.symbols)?;
+    Ok(Program {
+        dbs,
+        instances: List::new(alloc),
+        blocks,
+        symbols,
+    })
 }

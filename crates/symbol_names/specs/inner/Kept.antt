@@ -17,7 +17,6 @@ use Rattle.stl_rules.specs.Stages.{content_breaks, heading_breaks, instr_breaks,
 use Rattle.stl_tree.specs.declared.program.Block.{Block}
 use Rattle.stl_tree.specs.declared.program.Instr.{Instr}
 use Rattle.stl_tree.specs.declared.program.Op.{Op}
-use Rattle.stl_tree.specs.declared.program.Program.{Program}
 use Rattle.stl_tree.specs.declared.program.Symbol.{Symbol}
 use Rattle.stl_tree.specs.declared.raw.BlockKind.{BlockKind}
 use Rattle.stl_tree.specs.declared.raw.BlockKind.TheVariants as block
@@ -85,8 +84,3 @@ block_kept text raw = option_map (block_with (sight_of text raw) raw) (name_kept
 
 abbrev pub symbol_kept : SymbolLine → Option Symbol
 symbol_kept line = if is_address line.address then symbol_of line else None
-
--- The whole
-
-abbrev pub program_with : List DataBlock → List Block → List Symbol → Program
-program_with dbs blocks symbols = record { dbs = dbs; instances = []; blocks = blocks; symbols = symbols }
