@@ -51,7 +51,8 @@ pub fn not(alloc: Global, operand: Expr) -> Result<Expr, NoMemory>
 pub fn binary(alloc: Global, op: BinaryOp, left: Expr, right: Expr) -> Result<Expr, NoMemory>
     ensures { IfOk result (λ value. value ≡ binary_of op left right) }
 {
-    Ok(Expr::Binary(op, Boxed::new(alloc, left)?, Boxed::new(alloc, right)?))
+    let (left, right) = boxed(alloc, left, right)?;
+    Ok(Expr::Binary(op, left, right))
 }
 
 pub fn and(alloc: Global, left: Expr, right: Expr) -> Result<Expr, NoMemory>
@@ -83,18 +84,17 @@ pub fn convert(alloc: Global, from: StType, to: StType, operand: Expr) -> Result
 pub fn select(alloc: Global, gate: Expr, first: Expr, second: Expr) -> Result<Expr, NoMemory>
     ensures { IfOk result (λ value. value ≡ select_of gate first second) }
 {
-    Ok(Expr::Select(
-        Boxed::new(alloc, gate)?,
-        Boxed::new(alloc, first)?,
-        Boxed::new(alloc, second)?,
-    ))
+    let (first, second) = boxed(alloc, first, second)?;
+    let gate = Boxed::new(alloc, gate)?;
+    Ok(Expr::Select(gate, first, second))
 }
 
 /// A shift or a rotation by a count.
 pub fn shift(alloc: Global, op: ShiftOp, operand: Expr, count: Expr) -> Result<Expr, NoMemory>
     ensures { IfOk result (λ value. value ≡ shift_of op operand count) }
 {
-    Ok(Expr::Shift(op, Boxed::new(alloc, operand)?, Boxed::new(alloc, count)?))
+    let (operand, count) = boxed(alloc, operand, count)?;
+    Ok(Expr::Shift(op, operand, count))
 }
 
 /// A register takes a value.
@@ -123,8 +123,27 @@ pub fn push_cleared(steps: &mut List<Stmt>, nfc: bool) -> Result<(), NoMemory>
 pub fn with_low(alloc: Global, word: Expr) -> Result<Expr, NoMemory>
     ensures { IfOk result (λ value. value ≡ with_low_of word) }
 {
-    let mask = constant(StType::Dword, 0xFFFF_0000);
-    let high = and(alloc, read(Reg::Accu1), mask)?;
     let low = convert(alloc, StType::Word, StType::Dword, word)?;
+    let high = masked(alloc, Reg::Accu1, 0xFFFF_0000)?;
     or(alloc, high, low)
+}
+
+/// The bits of a register that a mask has.
+pub fn masked(alloc: Global, register: Reg, mask: i64) -> Result<Expr, NoMemory>
+    ensures { IfOk result (λ value. value ≡ and_of (read_of register) (constant_of StType.Dword mask)) }
+{
+    and(alloc, read(register), constant(StType::Dword, mask))
+}
+
+/// Two parts of an expression, each in a box.
+pub fn boxed(
+    alloc: Global,
+    first: Expr,
+    second: Expr,
+) -> Result<(Boxed<Expr>, Boxed<Expr>), NoMemory>
+    ensures { IfOk result (λ pair. pair ≡ (first, second)) }
+{
+    let first = Boxed::new(alloc, first)?;
+    let second = Boxed::new(alloc, second)?;
+    Ok((first, second))
 }

@@ -1,15 +1,16 @@
 //! The way to an operand. What may fault is read before a row, into a local of its own.
 ghost use Rattle.std.specs.Prelude.{◌≡◌, ℕ, ◌+◌, ◌^◌, ◌<◌, [], ◌∷◌, ◌++◌, IfOk, OnOk, length};
 ghost use Rattle.st_tree.specs.Values.{type_of_width};
+ghost use Rattle.row_templates.specs.Pointing.{in_area_of, sum_of};
 ghost use Rattle.row_templates.specs.Fetching.{fetch_of, fetched_of, may_fault, pointer_local, reach_of, reading_of, types_fetched, types_reached, writing_of};
 
-use crate::builders::{constant, local, set, set_local};
+use crate::builders::{boxed, constant, local, set, set_local};
 use crate::pointing::{crossing, in_area, sum};
 use memory_areas::AreaName;
 use s7_base::{Boxed, List, NoMemory, Reg, Width};
 use st_tree::{Expr, StType, Stmt, Var};
 use std::alloc::Global;
-use stl_tree::Operand;
+use stl_tree::{Ar, Operand};
 
 /// An access to an operand may fault: it lies in a data block, or is found by a pointer.
 pub fn may_fault(operand: &Operand) -> bool
@@ -39,14 +40,26 @@ pub fn push_reach(
         Operand::ByMemory(area, pointer_area, byte) => {
             let pointer = Var::Direct(pointer_area, byte, 0, Width::Dword);
             steps.push(set_local(first, Expr::Read(pointer)))?;
-            steps.push(set_local(first + 1, in_area(alloc, area, local(first))?))
+            let found = in_area(alloc, area, local(first))?;
+            steps.push(set_local(first + 1, found))
         }
         Operand::ByRegister(area, ar, offset) => {
-            let total = sum(alloc, ar, offset)?;
-            steps.push(set_local(first, in_area(alloc, area, total)?))
+            let found = sum_in_area(alloc, area, ar, offset)?;
+            steps.push(set_local(first, found))
         }
-        Operand::Crossing(ar, offset) => steps.push(set_local(first, crossing(alloc, ar, offset)?)),
+        Operand::Crossing(ar, offset) => {
+            let found = crossing(alloc, ar, offset)?;
+            steps.push(set_local(first, found))
+        }
     }
+}
+
+/// The sum of an address register and an offset, in an area.
+fn sum_in_area(alloc: Global, area: AreaName, ar: Ar, offset: u32) -> Result<Expr, NoMemory>
+    ensures { IfOk result (λ value. value ≡ in_area_of area (sum_of ar offset)) }
+{
+    let total = sum(alloc, ar, offset)?;
+    in_area(alloc, area, total)
 }
 
 /// What stands before a row that reads an operand: what may fault is read into a local.
@@ -118,11 +131,8 @@ pub fn writing(
         }
         _ => {
             let pointer = local(pointer_local(first, operand));
-            Ok(Stmt::AreaWrite(
-                width,
-                Boxed::new(alloc, pointer)?,
-                Boxed::new(alloc, value)?,
-            ))
+            let (pointer, value) = boxed(alloc, pointer, value)?;
+            Ok(Stmt::AreaWrite(width, pointer, value))
         }
     }
 }

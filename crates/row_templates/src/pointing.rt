@@ -4,7 +4,7 @@ ghost use Rattle.stl_tree.specs.AddressRegisters.{code_of};
 ghost use Rattle.stl_tree.specs.Reads.{register_of};
 ghost use Rattle.row_templates.specs.Pointing.{crossing_of, in_area_of, place_in_of, sum_of};
 
-use crate::builders::{and, binary, constant, convert, or, read};
+use crate::builders::{and, binary, constant, convert, masked, or, read};
 use memory_areas::AreaName;
 use s7_base::{NoMemory, Reg};
 use st_tree::{BinaryOp, Expr, StType};
@@ -44,10 +44,10 @@ pub fn sum(alloc: Global, ar: Ar, offset: u32) -> Result<Expr, NoMemory>
 pub fn crossing(alloc: Global, ar: Ar, offset: u32) -> Result<Expr, NoMemory>
     ensures { IfOk result (λ value. value ≡ crossing_of ar offset) }
 {
-    let mask = constant(StType::Dword, 0xFFF8_0000);
-    let above = and(alloc, read(register_of(ar)), mask)?;
     let total = sum(alloc, ar, offset)?;
-    or(alloc, above, place_in(alloc, total)?)
+    let place = place_in(alloc, total)?;
+    let above = masked(alloc, register_of(ar), 0xFFF8_0000)?;
+    or(alloc, above, place)
 }
 
 /// The byte and bit number of a pointer.
