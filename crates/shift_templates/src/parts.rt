@@ -5,7 +5,8 @@ ghost use Rattle.shift_templates.specs.ShiftParts.{accu1_with, cleared_where, co
 ghost use Rattle.st_tree.specs.declared.expr.ShiftOp.TheVariants as shift;
 
 use row_templates::{
-    and, binary, constant, convert, literal, local, not, or, read, select, set, set_local, shift,
+    and, binary, constant, convert, literal, local, not, read, select, set, set_local, shift,
+    with_low,
 };
 use s7_base::{List, NoMemory, Reg, Width};
 use st_tree::{BinaryOp, Expr, ShiftOp, StType, Stmt, type_of_width};
@@ -26,12 +27,7 @@ pub fn accu1_with(alloc: Global, width: Width, pattern: Expr) -> Result<Expr, No
     ensures { IfOk result (λ e. e ≡ accu1_with width pattern) }
 {
     match width {
-        Width::Word => {
-            let mask = constant(StType::Dword, 0xffff_0000);
-            let high = and(alloc, read(Reg::Accu1), mask)?;
-            let low = convert(alloc, StType::Word, StType::Dword, pattern)?;
-            or(alloc, high, low)
-        }
+        Width::Word => with_low(alloc, pattern),
         Width::Bit | Width::Byte | Width::Dword => Ok(pattern),
     }
 }
