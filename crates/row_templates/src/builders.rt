@@ -84,8 +84,15 @@ pub fn convert(alloc: Global, from: StType, to: StType, operand: Expr) -> Result
 pub fn select(alloc: Global, gate: Expr, first: Expr, second: Expr) -> Result<Expr, NoMemory>
     ensures { IfOk result (λ value. value ≡ select_of gate first second) }
 {
-    let (first, second) = boxed(alloc, first, second)?;
     let gate = Boxed::new(alloc, gate)?;
+    gated(alloc, gate, first, second)
+}
+
+/// SEL by a gate that is in its box.
+fn gated(alloc: Global, gate: Boxed<Expr>, first: Expr, second: Expr) -> Result<Expr, NoMemory>
+    ensures { IfOk result (λ value. value ≡ select_of gate first second) }
+{
+    let (first, second) = boxed(alloc, first, second)?;
     Ok(Expr::Select(gate, first, second))
 }
 
