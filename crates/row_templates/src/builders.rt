@@ -84,15 +84,16 @@ pub fn convert(alloc: Global, from: StType, to: StType, operand: Expr) -> Result
 pub fn select(alloc: Global, gate: Expr, first: Expr, second: Expr) -> Result<Expr, NoMemory>
     ensures { IfOk result (λ value. value ≡ select_of gate first second) }
 {
-    let gate = Boxed::new(alloc, gate)?;
-    gated(alloc, gate, first, second)
+    let parts = boxed(alloc, first, second)?;
+    gated(alloc, gate, parts)
 }
 
-/// SEL by a gate that is in its box.
-fn gated(alloc: Global, gate: Boxed<Expr>, first: Expr, second: Expr) -> Result<Expr, NoMemory>
-    ensures { IfOk result (λ value. value ≡ select_of gate first second) }
+/// SEL of two operands that are in their boxes.
+fn gated(alloc: Global, gate: Expr, parts: (Boxed<Expr>, Boxed<Expr>)) -> Result<Expr, NoMemory>
+    ensures { IfOk result (λ value. value ≡ select_of gate parts.0 parts.1) }
 {
-    let (first, second) = boxed(alloc, first, second)?;
+    let gate = Boxed::new(alloc, gate)?;
+    let (first, second) = parts;
     Ok(Expr::Select(gate, first, second))
 }
 
