@@ -5,7 +5,7 @@
 ghost use Rattle.std.specs.Prelude.{◌≡◌, ◌<◌, ◌+◌, ◌^◌, [], ◌∷◌, ◌++◌, length, IfOk, OnOk};
 ghost use Rattle.instruction_lowering.specs.inner.Templates.{IsOnAccumulators, and_joined, answer_of, assigned_of, before_check, behind, behind_check, behind_close, chain_at, check_of, checked_of, close_of, edge_at, edge_of, falling, first_spot, more, next_rlo, open_of, reset_value, rising, rlo_before_and, rlo_before_or, rlo_set, running_chain, set_value, spot_at, statements_of, store_of, stored_of, unary_of, with_bracket};
 ghost use Rattle.row_templates.specs.Builders.{and_of, cleared, literal_of, not_of, or_of, read_of, set_of, xor_of};
-ghost use Rattle.row_templates.specs.Fetching.{types_fetched};
+ghost use Rattle.row_templates.specs.Fetching.{types_fetched, writing_of};
 
 use crate::locals::types_of;
 use accumulator_templates::{
@@ -285,7 +285,8 @@ fn push_store(
     requires { first + 8 < 2 ^ 32 }
     ensures { OnOk result (steps.new ≡ steps.old ++ store_of first operand.now value) }
 {
-    steps.push(writing(alloc, first, operand, Width::Bit, value)?)?;
+    let write = writing(alloc, first, operand, Width::Bit, value)?;
+    steps.push(write)?;
     push_cleared(steps, false)
 }
 
@@ -406,9 +407,23 @@ fn push_edge(
 {
     let index = behind_fetched(first, operand);
     steps.push(set_local(index, value))?;
-    steps.push(writing(alloc, first, operand, Width::Bit, read(Reg::Rlo))?)?;
+    push_edge_bit(alloc, steps, first, operand)?;
     steps.push(set(Reg::Rlo, local(index)))?;
     push_cleared(steps, true)
+}
+
+/// The edge bit takes the RLO.
+fn push_edge_bit(
+    alloc: Global,
+    steps: &mut List<Stmt>,
+    first: u32,
+    operand: &Operand,
+) -> Result<(), NoMemory>
+    requires { first + 8 < 2 ^ 32 }
+    ensures { OnOk result (steps.new ≡ steps.old ++ writing_of first operand.now Width.Bit (read_of Reg.Rlo) ∷ []) }
+{
+    let write = writing(alloc, first, operand, Width::Bit, read(Reg::Rlo))?;
+    steps.push(write)
 }
 
 /// A bracket is opened: three locals keep RLO, OR and NFC.
@@ -488,11 +503,20 @@ fn next_rlo(alloc: Global, chain: Chain, check: Check, bit: Expr) -> Result<Expr
 {
     match check {
         Check::A => and_joined(alloc, chain, bit),
-        Check::An => and_joined(alloc, chain, not(alloc, bit)?),
+        Check::An => {
+            let inverted = not(alloc, bit)?;
+            and_joined(alloc, chain, inverted)
+        }
         Check::O => or_joined(alloc, chain, bit),
-        Check::On => or_joined(alloc, chain, not(alloc, bit)?),
+        Check::On => {
+            let inverted = not(alloc, bit)?;
+            or_joined(alloc, chain, inverted)
+        }
         Check::X => xor_joined(alloc, chain, bit),
-        Check::Xn => xor_joined(alloc, chain, not(alloc, bit)?),
+        Check::Xn => {
+            let inverted = not(alloc, bit)?;
+            xor_joined(alloc, chain, inverted)
+        }
     }
 }
 
