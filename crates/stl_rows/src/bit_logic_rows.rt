@@ -1,5 +1,7 @@
 //! What no clause says: that the rows of bit logic give the answers that the rules of STL ask for.
-use crate::machines::{ENDED, INPUT, NEXT_INPUT, OUTPUT, byte_of, call, memory, output_4, program};
+use crate::machines::{
+    ENDED, INPUT, NEXT_INPUT, OUTPUT, byte_of, machine, memory, output_4, program,
+};
 use crate::wants::wants;
 use memory_areas::{Area, AreaName};
 use s7_base::Check;
@@ -8,7 +10,7 @@ use std::alloc::Global;
 use std::process::Abort;
 use std::test::Fail;
 use stl_machine::Machine;
-use stl_tree::{BitArg, BlockName, Op, Operand};
+use stl_tree::{BitArg, Op, Operand};
 
 const A: Op = Op::Check(Check::A, BitArg::At(INPUT));
 
@@ -32,8 +34,10 @@ const STORE: Op = Op::Assign(OUTPUT);
 
 const OPEN: Op = Op::Bracket(Check::A);
 
-/// Bodies of bit logic, input byte 0, and what output byte 4 and marker byte 0 then are.
-static BODIES: [(&[Op], u8, u8, u8); 55] = [
+/// A body of bit logic, input byte 0, and what output byte 4 and marker byte 0 then are.
+type Body = (&'static [Op], u8, u8, u8);
+
+static BODIES: [Body; 55] = [
     (&[Op::SetRlo, STORE], 0, 1, 0),
     (&[Op::SetRlo, Op::ClearRlo, STORE], 0, 0, 0),
     (&[Op::SetRlo, Op::NotRlo, STORE], 0, 0, 0),
@@ -295,6 +299,21 @@ static BODIES: [(&[Op], u8, u8, u8); 55] = [
     ),
 ];
 
+/// A machine ends with these bytes.
+fn wants_end(
+    rt: &impl Abort,
+    machine: &mut Machine<'_>,
+    inputs: u8,
+    bytes: (u8, u8),
+) -> Result<(), Fail> {
+    let outcome = machine.run(u64::MAX);
+    let output = output_4(machine.memory())?;
+    let marker = machine.memory().read_byte(byte_of(Area::M, 0))?;
+    let found = (outcome, output, marker);
+    wants(rt, &inputs, &found, &(ENDED, bytes.0, bytes.1));
+    Ok(())
+}
+
 /// A body ends with these bytes.
 fn wants_bytes(
     rt: &impl Abort,
@@ -304,26 +323,25 @@ fn wants_bytes(
     bytes: (u8, u8),
 ) -> Result<(), Fail> {
     let program = program(alloc, ops)?;
-    let call = call(alloc, BlockName::Ob(1));
-    let mut machine = Machine::new(alloc, &program, memory(alloc, inputs, 0)?, &call)?;
-    let outcome = machine.run(u64::MAX);
-    let marker = machine.memory().read_byte(byte_of(Area::M, 0))?;
-    let found = (outcome, output_4(machine.memory())?, marker);
-    wants(rt, &inputs, &found, &(ENDED, bytes.0, bytes.1));
+    let memory = memory(alloc, inputs, 0)?;
+    let mut machine = machine(alloc, &program, memory)?;
+    wants_end(rt, &mut machine, inputs, bytes)
+}
+
+fn want_bytes(rt: &impl Abort, alloc: Global, rows: &[Body]) -> Result<(), Fail> {
+    for (ops, inputs, output, marker) in rows {
+        wants_bytes(rt, alloc, ops, *inputs, (*output, *marker))?;
+    }
     Ok(())
 }
 
 #[test]
 fn bit_logic_leaves_these_bytes(rt: HostRuntime) -> Result<(), Fail> {
-    let alloc = rt.alloc();
-    for (ops, inputs, output, marker) in &BODIES {
-        wants_bytes(&rt, alloc, ops, *inputs, (*output, *marker))?;
-    }
-    Ok(())
+    want_bytes(&rt, rt.alloc(), &BODIES)
 }
 
 /// The answer to each question where all flags are 0.
-const ANSWERS: [(Test, bool); 10] = [
+static ANSWERS: [(Test, bool); 10] = [
     (Test::Eq, true),
     (Test::Ne, false),
     (Test::Gt, false),
@@ -336,14 +354,27 @@ const ANSWERS: [(Test, bool); 10] = [
     (Test::Br, false),
 ];
 
-#[test]
-fn a_question_is_checked_like_a_bit(rt: HostRuntime) -> Result<(), Fail> {
-    let alloc = rt.alloc();
-    for (test, answer) in ANSWERS {
-        for (of, wanted) in [(Check::O, answer), (Check::Xn, !answer)] {
-            let ops = [Op::Check(of, BitArg::Flag(test)), STORE];
-            wants_bytes(&rt, alloc, &ops, 0, (u8::from(wanted), 0))?;
-        }
+/// A check of a question gives this RLO.
+fn wants_rlo(
+    rt: &impl Abort,
+    alloc: Global,
+    check: Check,
+    test: Test,
+    rlo: bool,
+) -> Result<(), Fail> {
+    let ops = [Op::Check(check, BitArg::Flag(test)), STORE];
+    wants_bytes(rt, alloc, &ops, 0, (u8::from(rlo), 0))
+}
+
+fn want_answers(rt: &impl Abort, alloc: Global, rows: &[(Test, bool)]) -> Result<(), Fail> {
+    for (test, answer) in rows {
+        wants_rlo(rt, alloc, Check::O, *test, *answer)?;
+        wants_rlo(rt, alloc, Check::Xn, *test, !*answer)?;
     }
     Ok(())
+}
+
+#[test]
+fn a_question_is_checked_like_a_bit(rt: HostRuntime) -> Result<(), Fail> {
+    want_answers(&rt, rt.alloc(), &ANSWERS)
 }

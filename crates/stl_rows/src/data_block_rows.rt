@@ -1,7 +1,7 @@
 //! What no clause says: that the rows on data blocks give the bytes and the faults that the rules of STL ask for.
 ghost use Rattle.std.specs.Prelude.{◌≡◌, IfOk};
 
-use crate::machines::{OUTPUT, byte_of, call, program};
+use crate::machines::{OUTPUT, byte_of, machine, program};
 use crate::wants::wants;
 use memory_areas::{Area, AreaName, DataBlock, Memory};
 use s7_base::{Check, Fault, List, NoMemory, Outcome, Width};
@@ -9,7 +9,7 @@ use std::alloc::Global;
 use std::process::Abort;
 use std::test::Fail;
 use stl_machine::Machine;
-use stl_tree::{BitArg, BlockName, LoadArg, Op, OpenArg, Operand};
+use stl_tree::{BitArg, LoadArg, Op, OpenArg, Operand};
 
 /// The bytes of data block 5, the first one highest.
 const FIVE: u32 = 0x0102_0304;
@@ -637,15 +637,25 @@ fn parts(memory: &Memory) -> Result<[u32; 3], Fault> {
     Ok([outputs, five, six])
 }
 
+/// A machine ends so.
+fn wants_end(
+    rt: &impl Abort,
+    machine: &mut Machine<'_>,
+    fault: Option<Fault>,
+    wanted: [u32; 3],
+) -> Result<(), Fail> {
+    let outcome = machine.run(u64::MAX);
+    let found = (outcome, parts(machine.memory())?);
+    wants(rt, &wanted, &found, &(Outcome::Ended(fault), wanted));
+    Ok(())
+}
+
 fn wants_row(rt: &impl Abort, alloc: Global, row: &Row) -> Result<(), Fail> {
     let (ops, fault, wanted) = row;
     let program = program(alloc, ops)?;
-    let call = call(alloc, BlockName::Ob(1));
-    let mut machine = Machine::new(alloc, &program, memory_of(alloc)?, &call)?;
-    let outcome = machine.run(u64::MAX);
-    let found = (outcome, parts(machine.memory())?);
-    wants(rt, wanted, &found, &(Outcome::Ended(*fault), *wanted));
-    Ok(())
+    let memory = memory_of(alloc)?;
+    let mut machine = machine(alloc, &program, memory)?;
+    wants_end(rt, &mut machine, *fault, *wanted)
 }
 
 fn want_rows(rt: &impl Abort, alloc: Global, rows: &[Row]) -> Result<(), Fail> {

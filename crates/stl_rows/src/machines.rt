@@ -5,6 +5,7 @@ use memory_areas::{Area, AreaName, Memory, Place};
 use s7_base::{Check, Fault, Line, List, NoMemory, Outcome};
 use std::alloc::Global;
 use std::test::Fail;
+use stl_machine::{Machine, MachineRefusal};
 use stl_tree::{BitArg, Block, BlockName, Call, Instr, Op, Operand, Program};
 
 pub const INPUT: Operand = Operand::Direct(AreaName::I, 0, 0);
@@ -66,15 +67,21 @@ pub fn copy(op: &Op) -> Op {
     }
 }
 
+fn push_ops(body: &mut List<Instr>, line: Line, ops: &[Op]) -> Result<(), NoMemory> {
+    for op in ops {
+        body.push(Instr { line, op: copy(op) })?;
+    }
+    body.push(Instr {
+        line,
+        op: Op::BlockEnd,
+    })
+}
+
 /// A block of some instructions, with its end word behind them.
 pub fn block(alloc: Global, name: BlockName, ops: &[Op]) -> Result<Block, NoMemory> {
     let line = Line(1);
     let mut body = List::new(alloc);
-    for op in ops {
-        body.push(Instr { line, op: copy(op) })?;
-    }
-    let op = Op::BlockEnd;
-    body.push(Instr { line, op })?;
+    push_ops(&mut body, line, ops)?;
     Ok(Block {
         name,
         line,
@@ -95,8 +102,9 @@ pub fn program_with(alloc: Global, blocks: List<Block>) -> Program {
 
 /// The program of the block OB 1 alone.
 pub fn program(alloc: Global, ops: &[Op]) -> Result<Program, NoMemory> {
+    let block = block(alloc, BlockName::Ob(1), ops)?;
     let mut blocks = List::new(alloc);
-    blocks.push(block(alloc, BlockName::Ob(1), ops)?)?;
+    blocks.push(block)?;
     Ok(program_with(alloc, blocks))
 }
 
@@ -115,12 +123,26 @@ pub fn byte_of(area: Area, byte: u32) -> Place
     Place { area, byte, bit: 0 }
 }
 
+fn put_bytes(memory: &mut Memory, input_0: u8, output_4: u8) -> Result<(), Fault> {
+    memory.write_byte(byte_of(Area::I, 0), input_0)?;
+    memory.write_byte(byte_of(Area::Q, 4), output_4)
+}
+
 /// A memory of zeros but for these bytes of the inputs and of the outputs.
 pub fn memory(alloc: Global, input_0: u8, output_4: u8) -> Result<Memory, Fail> {
     let mut memory = Memory::new(alloc, &[])?;
-    memory.write_byte(byte_of(Area::I, 0), input_0)?;
-    memory.write_byte(byte_of(Area::Q, 4), output_4)?;
+    put_bytes(&mut memory, input_0, output_4)?;
     Ok(memory)
+}
+
+/// A machine at the start of the block OB 1.
+pub fn machine<'p>(
+    alloc: Global,
+    program: &'p Program,
+    memory: Memory,
+) -> Result<Machine<'p>, MachineRefusal> {
+    let call = call(alloc, BlockName::Ob(1));
+    Machine::new(alloc, program, memory, &call)
 }
 
 pub fn output_4(memory: &Memory) -> Result<u8, Fault> {

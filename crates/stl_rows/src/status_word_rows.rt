@@ -2,6 +2,7 @@
 use crate::wants::wants;
 use s7_base::{Check, Entry};
 use status_word::{Flag, Status, Test};
+use std::process::Abort;
 use std::test::Fail;
 
 const FC: u16 = 0x1;
@@ -25,7 +26,7 @@ const BR: u16 = 0x100;
 const ALL: u16 = 0x1ff;
 
 /// A call of the status word that gives another one.
-#[derive(Clone, Copy, Debug)]
+#[derive(Clone, Copy)]
 enum Row {
     Put(Flag, bool),
     Checked(Check, bool),
@@ -81,8 +82,10 @@ fn after(row: Row, before: Status) -> Status {
     }
 }
 
-/// Each row, the bits before it and those behind it.
-static ROWS: [(Row, u16, u16); 66] = [
+/// A row, the bits before it and those behind it.
+type Bits = (Row, u16, u16);
+
+static ROWS: [Bits; 66] = [
     (Row::Put(Flag::Nfc, true), 0, FC),
     (Row::Put(Flag::Rlo, true), 0, RLO),
     (Row::Put(Flag::Sta, true), 0, STA),
@@ -187,16 +190,28 @@ static ROWS: [(Row, u16, u16); 66] = [
     ),
 ];
 
+/// The case in which a row fails is its place and the bits before it.
+fn want_bits(rt: &impl Abort, rows: &[Bits]) {
+    for (place, (row, before, behind)) in rows.iter().enumerate() {
+        wants(
+            rt,
+            &(place, *before),
+            &after(*row, Status(*before)).0,
+            behind,
+        );
+    }
+}
+
 #[test]
 fn each_row_gives_each_bit(rt: HostRuntime) -> Result<(), Fail> {
-    for (row, before, behind) in &ROWS {
-        wants(&rt, row, &after(*row, Status(*before)).0, behind);
-    }
+    want_bits(&rt, &ROWS);
     Ok(())
 }
 
-/// Each question, CC1, CC0 and the other flags that it may look at, and the answer.
-static QUESTIONS: [(Test, u16, bool); 31] = [
+/// A question, CC1, CC0 and the other flags that it may look at, and the answer.
+type Question = (Test, u16, bool);
+
+static QUESTIONS: [Question; 31] = [
     (Test::Eq, 0, true),
     (Test::Eq, CC0, false),
     (Test::Eq, CC1, false),
@@ -230,11 +245,15 @@ static QUESTIONS: [(Test, u16, bool); 31] = [
     (Test::Br, ALL - BR, false),
 ];
 
+fn want_answers(rt: &impl Abort, rows: &[Question]) {
+    for (test, bits, answer) in rows {
+        wants(rt, test, &Status(*bits).test(*test), answer);
+    }
+}
+
 #[test]
 fn each_question_is_answered(rt: HostRuntime) -> Result<(), Fail> {
-    for (test, bits, answer) in &QUESTIONS {
-        wants(&rt, test, &Status(*bits).test(*test), answer);
-    }
+    want_answers(&rt, &QUESTIONS);
     wants(&rt, &"loaded", &Status(ALL).word(), &(ALL - FC - STA - OR));
     wants(&rt, &"flag", &Status(OV).get(Flag::Ov), &true);
     Ok(())

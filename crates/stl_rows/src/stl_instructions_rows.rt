@@ -2,7 +2,7 @@
 //! asks for, and the right refusals.
 use crate::wants::{wants, wants_text};
 use memory_areas::AreaName;
-use s7_base::{Check, Kind, Line, List, Reason, Rejection, Token, Width};
+use s7_base::{Check, Kind, Line, NoMemory, Reason, Rejection, Width};
 use status_word::Test;
 use std::alloc::Global;
 use std::process::Abort;
@@ -11,10 +11,10 @@ use stl_instructions::instruction;
 use stl_lexer::tokens;
 use stl_mnemonics::mnemonic_named;
 use stl_statements::Mnemonic;
-use stl_tree::{Ar, Constant, RawName, RawOperand, RawPlace};
+use stl_tree::{Ar, Constant, RawName, RawOp, RawOperand, RawPlace};
 
 /// An operand.
-#[derive(Clone, Copy, Debug, PartialEq)]
+#[derive(Clone, Copy, PartialEq)]
 pub enum Wanted {
     Nothing,
     Bit(AreaName, u32, u32),
@@ -145,8 +145,10 @@ static SPELLINGS: [Row; 18] = [
     (b"Set", b"SET", Mnemonic::SetRlo, Nothing),
 ];
 
-/// The questions to the status word.
-static STATUS_OPERANDS: [(&[u8], Test); 10] = [
+/// A question to the status word, as it is written.
+type Question = (&'static [u8], Test);
+
+static STATUS_OPERANDS: [Question; 10] = [
     (b"==0", Test::Eq),
     (b"<>0", Test::Ne),
     (b">0", Test::Gt),
@@ -238,8 +240,10 @@ static BAD: [&[u8]; 20] = [
     b"NETWORK",
 ];
 
-/// Statements whose first token stands on this line, and why they are refused.
-static LINES: [(&[u8], u32, Reason); 5] = [
+/// A statement, the line on which its first token stands, and why it is refused.
+type Refused = (&'static [u8], u32, Reason);
+
+static LINES: [Refused; 5] = [
     (b"\n\nFOO\n5", 3, Reason::BadStatement),
     (b"\nA\nT 1", 2, Reason::Unsupported(Kind::Timer)),
     (b"// A\n\nA I\n0. 8", 3, Reason::Unsupported(Kind::NotBuilt)),
@@ -310,30 +314,42 @@ fn operand_of(operand: &RawOperand) -> Option<Wanted> {
     }
 }
 
+/// An instruction has this mnemonic and this operand.
+fn wants_op(
+    rt: &impl Abort,
+    text: &[u8],
+    op: &RawOp,
+    (name, what): (&[u8], Mnemonic),
+    operand: Wanted,
+) {
+    let mnemonic = op.mnemonic.as_slice();
+    wants_text(rt, text, mnemonic, name);
+    wants(rt, &text, &mnemonic_named(mnemonic), &Some(what));
+    wants(
+        rt,
+        &text,
+        &(operand_of(&op.operand) == Some(operand)),
+        &true,
+    );
+}
+
 /// A statement of line 1 is this instruction.
 fn wants_instruction(
     rt: &impl Abort,
     alloc: Global,
     text: &[u8],
-    (name, what): (&[u8], Mnemonic),
+    mnemonic: (&[u8], Mnemonic),
     operand: Wanted,
-) -> Result<(), Fail> {
-    let tokens: List<Token> = tokens(alloc, text)?;
+) -> Result<(), Rejection> {
+    let tokens = tokens(alloc, text)?;
     let found = instruction(alloc, tokens.as_slice())?;
-    let mnemonic = found.op.mnemonic.as_slice();
-    wants(
-        rt,
-        &text,
-        &(found.label.is_none(), found.line),
-        &(true, Line(1)),
-    );
-    wants_text(rt, text, mnemonic, name);
-    wants(rt, &text, &mnemonic_named(mnemonic), &Some(what));
-    wants(rt, &text, &operand_of(&found.op.operand), &Some(operand));
+    let place = (found.label.is_none(), found.line);
+    wants(rt, &text, &place, &(true, Line(1)));
+    wants_op(rt, text, &found.op, mnemonic, operand);
     Ok(())
 }
 
-pub fn want_instructions(rt: &impl Abort, alloc: Global, rows: &[Row]) -> Result<(), Fail> {
+pub fn want_instructions(rt: &impl Abort, alloc: Global, rows: &[Row]) -> Result<(), Rejection> {
     for (text, name, what, operand) in rows {
         wants_instruction(rt, alloc, text, (*name, *what), *operand)?;
     }
@@ -343,37 +359,67 @@ pub fn want_instructions(rt: &impl Abort, alloc: Global, rows: &[Row]) -> Result
 #[test]
 fn reads_bit_logic(rt: HostRuntime) -> Result<(), Fail> {
     want_instructions(&rt, rt.alloc(), &MNEMONICS)?;
-    want_instructions(&rt, rt.alloc(), &SPELLINGS)
+    want_instructions(&rt, rt.alloc(), &SPELLINGS)?;
+    Ok(())
 }
 
-/// A check asks each question to the status word.
-fn want_questions(rt: &impl Abort, alloc: Global, name: &[u8], check: Check) -> Result<(), Fail> {
-    for (question, test) in STATUS_OPERANDS {
-        let mut text = Vec::from_slice(alloc, name)?;
-        text.push(b' ')?;
-        text.extend_from_slice(question)?;
-        let what = Mnemonic::Check(check);
-        wants_instruction(rt, alloc, text.as_slice(), (name, what), Status(test))?;
+/// A mnemonic and its operand, with a blank between.
+fn statement(alloc: Global, name: &[u8], operand: &[u8]) -> Result<Vec<u8>, NoMemory> {
+    let mut text = Vec::from_slice(alloc, name)?;
+    text.push(b' ')?;
+    text.extend_from_slice(operand)?;
+    Ok(text)
+}
+
+/// A check asks a question to the status word.
+fn wants_question(
+    rt: &impl Abort,
+    alloc: Global,
+    name: &[u8],
+    check: Check,
+    question: &Question,
+) -> Result<(), Rejection> {
+    let (operand, test) = question;
+    let text = statement(alloc, name, operand)?;
+    let what = Mnemonic::Check(check);
+    wants_instruction(rt, alloc, text.as_slice(), (name, what), Status(*test))
+}
+
+/// A check asks each of these questions.
+fn want_questions(
+    rt: &impl Abort,
+    alloc: Global,
+    name: &[u8],
+    check: Check,
+    questions: &[Question],
+) -> Result<(), Rejection> {
+    for question in questions {
+        wants_question(rt, alloc, name, check, question)?;
+    }
+    Ok(())
+}
+
+fn want_checks(rt: &impl Abort, alloc: Global, checks: &[(&[u8], Check)]) -> Result<(), Rejection> {
+    for (name, check) in checks {
+        want_questions(rt, alloc, name, *check, &STATUS_OPERANDS)?;
     }
     Ok(())
 }
 
 #[test]
 fn reads_status_operands(rt: HostRuntime) -> Result<(), Fail> {
-    for (name, check) in CHECKS {
-        want_questions(&rt, rt.alloc(), name, check)?;
-    }
+    want_checks(&rt, rt.alloc(), &CHECKS)?;
     Ok(())
 }
 
 /// A statement is refused on this line, for this reason.
-pub fn wants_refusal(
+fn wants_refusal(
     rt: &impl Abort,
     alloc: Global,
     text: &[u8],
     line: u32,
     reason: Reason,
-) -> Result<(), Fail> {
+) -> Result<(), Rejection> {
     let tokens = tokens(alloc, text)?;
     let refused = instruction(alloc, tokens.as_slice()).err();
     let wanted = Some(Rejection::Refused(Line(line), reason));
@@ -386,9 +432,16 @@ pub fn want_refusals(
     alloc: Global,
     rows: &[&[u8]],
     reason: Reason,
-) -> Result<(), Fail> {
+) -> Result<(), Rejection> {
     for text in rows {
         wants_refusal(rt, alloc, text, 1, reason)?;
+    }
+    Ok(())
+}
+
+fn want_lines(rt: &impl Abort, alloc: Global, rows: &[Refused]) -> Result<(), Rejection> {
+    for (text, line, reason) in rows {
+        wants_refusal(rt, alloc, text, *line, *reason)?;
     }
     Ok(())
 }
@@ -398,8 +451,6 @@ fn refuses_what_is_no_instruction(rt: HostRuntime) -> Result<(), Fail> {
     let alloc = rt.alloc();
     want_refusals(&rt, alloc, &NOT_BUILT, Reason::Unsupported(Kind::NotBuilt))?;
     want_refusals(&rt, alloc, &BAD, Reason::BadStatement)?;
-    for (text, line, reason) in LINES {
-        wants_refusal(&rt, alloc, text, line, reason)?;
-    }
+    want_lines(&rt, alloc, &LINES)?;
     Ok(())
 }

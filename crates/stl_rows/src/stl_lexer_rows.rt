@@ -99,54 +99,77 @@ fn letter(kind: TokenKind, glued: bool) -> u8 {
     }
 }
 
-/// The tokens on their lines, each behind a blank and the letter of its kind, a capital where it is glued.
-fn shown(alloc: Global, tokens: &[Token]) -> Result<Vec<u8>, NoMemory> {
-    let mut out = Vec::new(alloc);
+/// Writes a token behind a blank and the letter of its kind, a capital where it is glued.
+fn put_token(out: &mut Vec<u8>, token: &Token) -> Result<(), NoMemory> {
+    out.push(b' ')?;
+    out.push(letter(token.kind, token.glued))?;
+    out.extend_from_slice(token.text.as_slice())?;
+    Ok(())
+}
+
+/// Writes tokens on their lines.
+fn put_tokens(out: &mut Vec<u8>, tokens: &[Token]) -> Result<(), NoMemory> {
     let mut line = 1;
     for token in tokens {
         for _ in line..token.line.0 {
             out.push(b'\n')?;
         }
         line = token.line.0;
-        out.push(b' ')?;
-        out.push(letter(token.kind, token.glued))?;
-        out.extend_from_slice(token.text.as_slice())?;
-    }
-    Ok(out)
-}
-
-/// A text has these tokens, or its first bad token stands on this line.
-fn wants_tokens(
-    rt: &impl Abort,
-    alloc: Global,
-    text: &[u8],
-    wanted: Result<&[u8], u32>,
-) -> Result<(), NoMemory> {
-    match (tokens(alloc, text), wanted) {
-        (Ok(tokens), Ok(wanted)) => {
-            let found = shown(alloc, tokens.as_slice())?;
-            wants_text(rt, text, found.as_slice(), wanted);
-        }
-        (Ok(_), Err(line)) => wants(rt, &text, &0, &line),
-        (Err(refused), wanted) => {
-            let bad = Rejection::Refused(Line(wanted.err().unwrap_or(0)), Reason::BadToken);
-            wants(rt, &text, &refused, &bad);
-        }
+        put_token(out, token)?;
     }
     Ok(())
 }
 
-fn want_tokens(rt: &impl Abort, alloc: Global, rows: &[Row]) -> Result<(), NoMemory> {
-    for (text, wanted) in rows {
-        wants_tokens(rt, alloc, text, *wanted)?;
+/// The tokens as they are written.
+fn shown(alloc: Global, tokens: &[Token]) -> Result<Vec<u8>, NoMemory> {
+    let mut out = Vec::new(alloc);
+    put_tokens(&mut out, tokens)?;
+    Ok(out)
+}
+
+/// A text has these tokens.
+fn wants_shown(
+    rt: &impl Abort,
+    alloc: Global,
+    text: &[u8],
+    wanted: &[u8],
+) -> Result<(), Rejection> {
+    let tokens = tokens(alloc, text)?;
+    let found = shown(alloc, tokens.as_slice())?;
+    wants_text(rt, text, found.as_slice(), wanted);
+    Ok(())
+}
+
+/// The first bad token of a text stands on this line.
+fn wants_bad(rt: &impl Abort, alloc: Global, text: &[u8], line: u32) {
+    let refused = tokens(alloc, text).err();
+    let bad = Rejection::Refused(Line(line), Reason::BadToken);
+    wants(rt, &text, &refused, &Some(bad));
+}
+
+fn wants_tokens(rt: &impl Abort, alloc: Global, row: &Row) -> Result<(), Rejection> {
+    let (text, wanted) = row;
+    match wanted {
+        Ok(shown) => wants_shown(rt, alloc, text, shown),
+        Err(line) => {
+            wants_bad(rt, alloc, text, *line);
+            Ok(())
+        }
+    }
+}
+
+fn want_tokens(rt: &impl Abort, alloc: Global, rows: &[Row]) -> Result<(), Rejection> {
+    for row in rows {
+        wants_tokens(rt, alloc, row)?;
     }
     Ok(())
 }
 
 #[test]
 fn cuts_texts(rt: HostRuntime) -> Result<(), Fail> {
-    for rows in [WORDS.as_slice(), &SIGNS, &SKIPPED, &QUOTED] {
-        want_tokens(&rt, rt.alloc(), rows)?;
-    }
+    want_tokens(&rt, rt.alloc(), &WORDS)?;
+    want_tokens(&rt, rt.alloc(), &SIGNS)?;
+    want_tokens(&rt, rt.alloc(), &SKIPPED)?;
+    want_tokens(&rt, rt.alloc(), &QUOTED)?;
     Ok(())
 }

@@ -1,8 +1,8 @@
 //! What no clause says: that the definitions of instructions and runs give the answers that the rules of
 //! STL ask for, and that a machine is made while there is memory.
 use crate::machines::{
-    ENDED, INPUT, NEXT_INPUT, OUTPUT, block, byte_of, call, check, copy, memory, output_4, program,
-    program_with,
+    ENDED, INPUT, NEXT_INPUT, OUTPUT, block, byte_of, call, check, copy, machine, memory, output_4,
+    program, program_with,
 };
 use crate::wants::wants;
 use memory_areas::{
@@ -10,10 +10,11 @@ use memory_areas::{
 };
 use s7_base::{Check, Fault, List, NoMemory, Outcome};
 use std::alloc::Global;
+use std::fmt::Debug;
 use std::process::Abort;
 use std::test::Fail;
 use stl_machine::{Machine, MachineRefusal};
-use stl_tree::{BitArg, BlockName, Call, Op, Operand, Program};
+use stl_tree::{BitArg, Block, BlockName, Call, Op, Operand, Program};
 
 const NEXT_OUTPUT: Operand = Operand::Direct(AreaName::Q, 4, 1);
 
@@ -21,13 +22,34 @@ const LOCAL: Operand = Operand::Direct(AreaName::L, 0, 0);
 
 const GOING: Outcome = Outcome::Going;
 
-/// How the block OB 1 ends, and what output byte 4 then is.
-fn run(alloc: Global, memory: Memory, ops: &[Op]) -> Result<(Outcome, u8), Fail> {
-    let program = program(alloc, ops)?;
-    let call = call(alloc, BlockName::Ob(1));
-    let mut machine = Machine::new(alloc, &program, memory, &call)?;
+/// The block OB 1 ends, and output byte 4 then is this.
+fn wants_end(
+    rt: &impl Abort,
+    alloc: Global,
+    case: &impl Debug,
+    program: &Program,
+    memory: Memory,
+    output: u8,
+) -> Result<(), Fail> {
+    let mut machine = machine(alloc, program, memory)?;
     let outcome = machine.run(u64::MAX);
-    Ok((outcome, output_4(machine.memory())?))
+    let found = output_4(machine.memory())?;
+    wants(rt, case, &(outcome, found), &(ENDED, output));
+    Ok(())
+}
+
+/// These instructions end with this output byte 4, where input byte 0 and output byte 4 are these before.
+fn wants_output(
+    rt: &impl Abort,
+    alloc: Global,
+    case: &impl Debug,
+    ops: &[Op],
+    before: (u8, u8),
+    output: u8,
+) -> Result<(), Fail> {
+    let program = program(alloc, ops)?;
+    let memory = memory(alloc, before.0, before.1)?;
+    wants_end(rt, alloc, case, &program, memory, output)
 }
 
 /// A memory is zero but for output byte 4.
@@ -58,6 +80,14 @@ static PORTIONS: [&[Portion]; 7] = [
     ],
 ];
 
+/// A machine in these portions stands so after each.
+fn wants_steps(rt: &impl Abort, machine: &mut Machine<'_>, portions: &[Portion]) {
+    for (steps, outcome, output_4) in portions {
+        wants(rt, steps, &machine.run(*steps), outcome);
+        wants(rt, steps, &is_zero_but(machine.memory(), *output_4), &true);
+    }
+}
+
 /// A run in these portions stands so after each.
 fn wants_portions(
     rt: &impl Abort,
@@ -65,12 +95,9 @@ fn wants_portions(
     program: &Program,
     portions: &[Portion],
 ) -> Result<(), Fail> {
-    let call = call(alloc, BlockName::Ob(1));
-    let mut machine = Machine::new(alloc, program, memory(alloc, 0, 0)?, &call)?;
-    for (steps, outcome, output_4) in portions {
-        wants(rt, steps, &machine.run(*steps), outcome);
-        wants(rt, steps, &is_zero_but(machine.memory(), *output_4), &true);
-    }
+    let memory = memory(alloc, 0, 0)?;
+    let mut machine = machine(alloc, program, memory)?;
+    wants_steps(rt, &mut machine, portions);
     Ok(())
 }
 
@@ -93,21 +120,17 @@ fn a_run_is_the_same_in_any_portions_and_stays_at_its_end(rt: HostRuntime) -> Re
     want_portions(&rt, alloc, &program, &PORTIONS)
 }
 
+static END_WORD: [Portion; 4] = [(0, GOING, 0), (1, ENDED, 0), (0, ENDED, 0), (1, ENDED, 0)];
+
 #[test]
 fn the_end_word_is_a_step(rt: HostRuntime) -> Result<(), Fail> {
     let alloc = rt.alloc();
     let program = program(alloc, &[])?;
-    let call = call(alloc, BlockName::Ob(1));
-    let mut machine = Machine::new(alloc, &program, memory(alloc, 0, 0)?, &call)?;
-    for (steps, outcome) in [(0, GOING), (1, ENDED), (0, ENDED), (1, ENDED)] {
-        wants(&rt, &steps, &machine.run(steps), &outcome);
-        wants(&rt, &steps, &is_zero_but(machine.memory(), 0), &true);
-    }
-    Ok(())
+    wants_portions(&rt, alloc, &program, &END_WORD)
 }
 
 /// The RLO after a check, by its bit.
-const FIRST_CHECKS: [(Check, bool, bool); 12] = [
+static FIRST_CHECKS: [(Check, bool, bool); 12] = [
     (Check::A, false, false),
     (Check::A, true, true),
     (Check::An, false, true),
@@ -150,28 +173,57 @@ static LATER_CHECKS: [(Check, bool, bool, bool); 24] = [
     (Check::Xn, true, true, true),
 ];
 
-#[test]
-fn a_first_check_forgets_the_rlo(rt: HostRuntime) -> Result<(), Fail> {
-    let alloc = rt.alloc();
-    for (first, bit, rlo) in FIRST_CHECKS {
-        let ops = [check(first, INPUT), Op::Assign(OUTPUT)];
-        let ended = run(alloc, memory(alloc, u8::from(bit), 0)?, &ops)?;
-        wants(&rt, &(first, bit), &ended, &(ENDED, u8::from(rlo)));
+/// A check alone leaves this RLO.
+fn wants_alone(
+    rt: &impl Abort,
+    alloc: Global,
+    first: Check,
+    bit: bool,
+    rlo: bool,
+) -> Result<(), Fail> {
+    let ops = [check(first, INPUT), Op::Assign(OUTPUT)];
+    wants_output(
+        rt,
+        alloc,
+        &(first, bit),
+        &ops,
+        (u8::from(bit), 0),
+        u8::from(rlo),
+    )
+}
 
-        for before in [false, true] {
-            let inputs = u8::from(before) + u8::from(bit) * 2;
-            let ops = [
-                check(Check::A, INPUT),
-                Op::Assign(NEXT_OUTPUT),
-                check(first, NEXT_INPUT),
-                Op::Assign(OUTPUT),
-            ];
-            let ended = run(alloc, memory(alloc, inputs, 0)?, &ops)?;
-            let outputs = u8::from(rlo) + u8::from(before) * 2;
-            wants(&rt, &(before, first, bit), &ended, &(ENDED, outputs));
-        }
+/// A check behind an assignment leaves this RLO, whatever the RLO was before.
+fn wants_first(
+    rt: &impl Abort,
+    alloc: Global,
+    first: Check,
+    bits: (bool, bool),
+    rlo: bool,
+) -> Result<(), Fail> {
+    let (before, bit) = bits;
+    let inputs = u8::from(before) + u8::from(bit) * 2;
+    let outputs = u8::from(rlo) + u8::from(before) * 2;
+    let ops = [
+        check(Check::A, INPUT),
+        Op::Assign(NEXT_OUTPUT),
+        check(first, NEXT_INPUT),
+        Op::Assign(OUTPUT),
+    ];
+    wants_output(rt, alloc, &(first, bits), &ops, (inputs, 0), outputs)
+}
+
+fn want_firsts(rt: &impl Abort, alloc: Global, rows: &[(Check, bool, bool)]) -> Result<(), Fail> {
+    for (first, bit, rlo) in rows {
+        wants_alone(rt, alloc, *first, *bit, *rlo)?;
+        wants_first(rt, alloc, *first, (false, *bit), *rlo)?;
+        wants_first(rt, alloc, *first, (true, *bit), *rlo)?;
     }
     Ok(())
+}
+
+#[test]
+fn a_first_check_forgets_the_rlo(rt: HostRuntime) -> Result<(), Fail> {
+    want_firsts(&rt, rt.alloc(), &FIRST_CHECKS)
 }
 
 /// A check behind `A I 0.0`, of `I 0.1`, leaves this RLO.
@@ -188,9 +240,14 @@ fn wants_rlo(
         check(later, NEXT_INPUT),
         Op::Assign(OUTPUT),
     ];
-    let ended = run(alloc, memory(alloc, inputs, 0)?, &chain)?;
-    wants(rt, &(later, bits), &ended, &(ENDED, u8::from(rlo)));
-    Ok(())
+    wants_output(
+        rt,
+        alloc,
+        &(later, bits),
+        &chain,
+        (inputs, 0),
+        u8::from(rlo),
+    )
 }
 
 fn want_rlos(
@@ -209,77 +266,127 @@ fn a_later_check_is_combined_with_the_rlo(rt: HostRuntime) -> Result<(), Fail> {
     want_rlos(&rt, rt.alloc(), &LATER_CHECKS)
 }
 
-#[test]
-fn an_assignment_writes_the_rlo_to_its_bit_alone(rt: HostRuntime) -> Result<(), Fail> {
-    let alloc = rt.alloc();
-    let once = [check(Check::A, INPUT), Op::Assign(OUTPUT)];
-    let twice = [
-        check(Check::A, INPUT),
-        Op::Assign(OUTPUT),
-        Op::Assign(NEXT_OUTPUT),
-    ];
-    let none: [Op; 1] = [Op::Assign(OUTPUT)];
-    let rows: [(&[Op], u8, u8, u8); 7] = [
-        (&once, 0b0, 0b1111_1111, 0b1111_1110),
-        (&once, 0b1, 0b1010_1010, 0b1010_1011),
-        (&once, 0b1, 0b0000_0001, 0b0000_0001),
-        (&twice, 0b0, 0b0101_0111, 0b0101_0100),
-        (&twice, 0b1, 0b0101_0100, 0b0101_0111),
-        (&none, 0b1, 0b1111_1111, 0b1111_1110),
-        (&none, 0b1, 0b0000_0000, 0b0000_0000),
-    ];
+const A: Op = Op::Check(Check::A, BitArg::At(INPUT));
+
+const STORE: Op = Op::Assign(OUTPUT);
+
+const STORE_NEXT: Op = Op::Assign(NEXT_OUTPUT);
+
+/// Instructions, input byte 0, and output byte 4 before and after them.
+type Stored = (&'static [Op], u8, u8, u8);
+
+static STORED: [Stored; 7] = [
+    (&[A, STORE], 0b0, 0b1111_1111, 0b1111_1110),
+    (&[A, STORE], 0b1, 0b1010_1010, 0b1010_1011),
+    (&[A, STORE], 0b1, 0b0000_0001, 0b0000_0001),
+    (&[A, STORE, STORE_NEXT], 0b0, 0b0101_0111, 0b0101_0100),
+    (&[A, STORE, STORE_NEXT], 0b1, 0b0101_0100, 0b0101_0111),
+    (&[STORE], 0b1, 0b1111_1111, 0b1111_1110),
+    (&[STORE], 0b1, 0b0000_0000, 0b0000_0000),
+];
+
+fn want_stored(rt: &impl Abort, alloc: Global, rows: &[Stored]) -> Result<(), Fail> {
     for (ops, inputs, before, after) in rows {
-        let ended = run(alloc, memory(alloc, inputs, before)?, ops)?;
-        wants(&rt, &(inputs, before), &ended, &(ENDED, after));
+        let bytes = (*inputs, *before);
+        wants_output(rt, alloc, &bytes, ops, bytes, *after)?;
     }
     Ok(())
 }
 
-/// A program with two blocks OB 1, which do not do the same.
+#[test]
+fn an_assignment_writes_the_rlo_to_its_bit_alone(rt: HostRuntime) -> Result<(), Fail> {
+    want_stored(&rt, rt.alloc(), &STORED)
+}
+
+/// Two blocks OB 1, which do not do the same, among others.
+static SEVERAL: [(BlockName, Check); 5] = [
+    (BlockName::Fc(1), Check::A),
+    (BlockName::Fb(1), Check::A),
+    (BlockName::Ob(1), Check::An),
+    (BlockName::Ob(1), Check::A),
+    (BlockName::Ob(35), Check::A),
+];
+
+fn push_blocks(
+    alloc: Global,
+    blocks: &mut List<Block>,
+    rows: &[(BlockName, Check)],
+) -> Result<(), NoMemory> {
+    for (name, first) in rows {
+        let ops = [check(*first, INPUT), STORE];
+        let block = block(alloc, *name, &ops)?;
+        blocks.push(block)?;
+    }
+    Ok(())
+}
+
 fn program_of_several(alloc: Global) -> Result<Program, NoMemory> {
     let mut blocks = List::new(alloc);
-    let bodies = [
-        (BlockName::Fc(1), check(Check::A, INPUT)),
-        (BlockName::Fb(1), check(Check::A, INPUT)),
-        (BlockName::Ob(1), check(Check::An, INPUT)),
-        (BlockName::Ob(1), check(Check::A, INPUT)),
-        (BlockName::Ob(35), check(Check::A, INPUT)),
-    ];
-    for (name, first) in bodies {
-        blocks.push(block(alloc, name, &[first, Op::Assign(OUTPUT)])?)?;
-    }
+    push_blocks(alloc, &mut blocks, &SEVERAL)?;
     Ok(program_with(alloc, blocks))
+}
+
+/// The block that is called, and output byte 4 at its end, or why there is no machine.
+type Called = (BlockName, Result<u8, MachineRefusal>);
+
+static CALLS: [Called; 7] = [
+    (BlockName::Ob(1), Ok(1)),
+    (BlockName::Ob(35), Ok(0)),
+    (BlockName::Ob(2), Err(MachineRefusal::BadCall)),
+    (BlockName::Fc(1), Err(MachineRefusal::BadCall)),
+    (BlockName::Fb(1), Err(MachineRefusal::BadCall)),
+    (BlockName::Fc(2), Err(MachineRefusal::BadCall)),
+    (BlockName::Fb(2), Err(MachineRefusal::BadCall)),
+];
+
+/// How a block ends within three steps, and what output byte 4 then is, if there is a machine.
+fn ended(
+    alloc: Global,
+    program: &Program,
+    memory: Memory,
+    name: BlockName,
+) -> Result<(Outcome, Result<u8, Fault>), MachineRefusal> {
+    let call = call(alloc, name);
+    let mut machine = Machine::new(alloc, program, memory, &call)?;
+    let outcome = machine.run(3);
+    Ok((outcome, output_4(machine.memory())))
+}
+
+fn wants_called(
+    rt: &impl Abort,
+    alloc: Global,
+    program: &Program,
+    row: &Called,
+) -> Result<(), Fail> {
+    let (name, answer) = row;
+    let memory = memory(alloc, 0, 0)?;
+    let found = ended(alloc, program, memory, *name);
+    let wanted = answer.map(|output| (ENDED, Ok(output)));
+    wants(rt, name, &found, &wanted);
+    Ok(())
+}
+
+fn want_called(
+    rt: &impl Abort,
+    alloc: Global,
+    program: &Program,
+    rows: &[Called],
+) -> Result<(), Fail> {
+    for row in rows {
+        wants_called(rt, alloc, program, row)?;
+    }
+    Ok(())
 }
 
 #[test]
 fn the_first_organization_block_of_a_name_runs(rt: HostRuntime) -> Result<(), Fail> {
     let alloc = rt.alloc();
     let program = program_of_several(alloc)?;
-    let calls = [
-        (BlockName::Ob(1), Ok(1)),
-        (BlockName::Ob(35), Ok(0)),
-        (BlockName::Ob(2), Err(MachineRefusal::BadCall)),
-        (BlockName::Fc(1), Err(MachineRefusal::BadCall)),
-        (BlockName::Fb(1), Err(MachineRefusal::BadCall)),
-        (BlockName::Fc(2), Err(MachineRefusal::BadCall)),
-        (BlockName::Fb(2), Err(MachineRefusal::BadCall)),
-    ];
-    for (name, answer) in calls {
-        let call = call(alloc, name);
-        match Machine::new(alloc, &program, memory(alloc, 0, 0)?, &call) {
-            Ok(mut machine) => {
-                wants(&rt, &name, &machine.run(3), &ENDED);
-                let output = output_4(machine.memory())?;
-                wants(&rt, &name, &Ok(output), &answer);
-            }
-            Err(refusal) => wants(&rt, &name, &Err(refusal), &answer),
-        }
-    }
-    Ok(())
+    want_called(&rt, alloc, &program, &CALLS)
 }
 
 /// Instructions that meet a fault.
-const FAULTS: [(Op, Fault); 8] = [
+static FAULTS: [(Op, Fault); 8] = [
     (
         Op::Assign(Operand::Direct(AreaName::Q, 2048, 0)),
         Fault::AreaLength,
@@ -314,29 +421,47 @@ const FAULTS: [(Op, Fault); 8] = [
     ),
 ];
 
+/// A run whose third instruction meets a fault stands so after these portions.
+fn wants_fault(
+    rt: &impl Abort,
+    alloc: Global,
+    program: &Program,
+    fault: Fault,
+) -> Result<(), Fail> {
+    let over = Outcome::Ended(Some(fault));
+    let portions = [
+        (2, GOING, 1),
+        (1, over, 1),
+        (0, over, 1),
+        (1, over, 1),
+        (u64::MAX, over, 1),
+    ];
+    wants_portions(rt, alloc, program, &portions)
+}
+
+/// A program with this instruction between two assignments of a one.
+fn program_between(alloc: Global, op: &Op) -> Result<Program, NoMemory> {
+    let ops = [check(Check::An, INPUT), STORE, copy(op), STORE_NEXT];
+    program(alloc, &ops)
+}
+
+fn want_faults(rt: &impl Abort, alloc: Global, rows: &[(Op, Fault)]) -> Result<(), Fail> {
+    for (op, fault) in rows {
+        let program = program_between(alloc, op)?;
+        wants_fault(rt, alloc, &program, *fault)?;
+    }
+    Ok(())
+}
+
 #[test]
 fn a_fault_ends_the_run_and_the_writes_before_it_stand(rt: HostRuntime) -> Result<(), Fail> {
-    let alloc = rt.alloc();
-    let call = call(alloc, BlockName::Ob(1));
-    for (op, fault) in FAULTS {
-        let ops = [
-            check(Check::An, INPUT),
-            Op::Assign(OUTPUT),
-            copy(&op),
-            Op::Assign(NEXT_OUTPUT),
-        ];
-        let program = program(alloc, &ops)?;
-        let mut machine = Machine::new(alloc, &program, memory(alloc, 0, 0)?, &call)?;
-        wants(&rt, &fault, &machine.run(2), &GOING);
-        for steps in [1, 0, 1, u64::MAX] {
-            wants(
-                &rt,
-                &fault,
-                &machine.run(steps),
-                &Outcome::Ended(Some(fault)),
-            );
-            wants(&rt, &fault, &is_zero_but(machine.memory(), 1), &true);
-        }
+    want_faults(&rt, rt.alloc(), &FAULTS)
+}
+
+fn put_locals(memory: &mut Memory) -> Result<(), Fault> {
+    for depth in 0..ACTIVATIONS as u8 {
+        memory.write_byte(byte_of(Area::Local(depth), 0), 0xff)?;
+        memory.write_byte(byte_of(Area::Cell(depth), 255), 0xff)?;
     }
     Ok(())
 }
@@ -344,10 +469,7 @@ fn a_fault_ends_the_run_and_the_writes_before_it_stand(rt: HostRuntime) -> Resul
 /// A memory whose local data and constant actuals begin with bytes that are set.
 fn memory_with_locals(alloc: Global) -> Result<Memory, Fail> {
     let mut memory = memory(alloc, 0, 0)?;
-    for depth in 0..ACTIVATIONS as u8 {
-        memory.write_byte(byte_of(Area::Local(depth), 0), 0xff)?;
-        memory.write_byte(byte_of(Area::Cell(depth), 255), 0xff)?;
-    }
+    put_locals(&mut memory)?;
     Ok(memory)
 }
 
@@ -363,16 +485,21 @@ fn has_no_locals(memory: &Memory) -> bool {
     true
 }
 
+/// A machine reads local data that is zero, and leaves it so.
+fn wants_no_locals(rt: &impl Abort, machine: &mut Machine<'_>) {
+    wants(rt, &"before", &has_no_locals(machine.memory()), &true);
+    wants(rt, &"run", &machine.run(3), &ENDED);
+    wants(rt, &"behind", &has_no_locals(machine.memory()), &true);
+    wants(rt, &"behind", &is_zero_but(machine.memory(), 0), &true);
+}
+
 #[test]
 fn local_data_is_zero_when_a_run_begins(rt: HostRuntime) -> Result<(), Fail> {
     let alloc = rt.alloc();
-    let reads = program(alloc, &[check(Check::A, LOCAL), Op::Assign(OUTPUT)])?;
-    let call = call(alloc, BlockName::Ob(1));
-    let mut machine = Machine::new(alloc, &reads, memory_with_locals(alloc)?, &call)?;
-    wants(&rt, &"before", &has_no_locals(machine.memory()), &true);
-    wants(&rt, &"run", &machine.run(3), &ENDED);
-    wants(&rt, &"behind", &has_no_locals(machine.memory()), &true);
-    wants(&rt, &"behind", &is_zero_but(machine.memory(), 0), &true);
+    let reads = program(alloc, &[check(Check::A, LOCAL), STORE])?;
+    let memory = memory_with_locals(alloc)?;
+    let mut machine = machine(alloc, &reads, memory)?;
+    wants_no_locals(&rt, &mut machine);
     Ok(())
 }
 
@@ -385,7 +512,7 @@ fn local_data_is_kept_within_a_run(rt: HostRuntime) -> Result<(), Fail> {
         check(Check::A, LOCAL),
         Op::Assign(OUTPUT),
     ];
-    let ended = run(alloc, memory_with_locals(alloc)?, &ops)?;
-    wants(&rt, &"kept", &ended, &(ENDED, 1));
-    Ok(())
+    let program = program(alloc, &ops)?;
+    let memory = memory_with_locals(alloc)?;
+    wants_end(&rt, alloc, &"kept", &program, memory, 1)
 }

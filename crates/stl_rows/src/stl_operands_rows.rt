@@ -5,8 +5,10 @@ use crate::stl_instructions_rows::Wanted::{
 };
 use crate::stl_instructions_rows::{Row, want_instructions, want_refusals};
 use memory_areas::AreaName;
-use s7_base::{Check, Kind, Reason, Width};
+use s7_base::{Check, Kind, Reason, Rejection, Width};
 use status_word::Test;
+use std::alloc::Global;
+use std::process::Abort;
 use std::test::Fail;
 use stl_statements::Mnemonic;
 use stl_tree::{Arith, LogicRow, ShiftRow, UnaryRow};
@@ -736,20 +738,31 @@ static NOT_BUILT: [&[u8]; 126] = [
 #[test]
 fn reads_instructions_in_the_accumulators(rt: HostRuntime) -> Result<(), Fail> {
     want_instructions(&rt, rt.alloc(), &ALONE)?;
-    want_instructions(&rt, rt.alloc(), &PLACES)
+    want_instructions(&rt, rt.alloc(), &PLACES)?;
+    Ok(())
 }
 
 #[test]
 fn reads_constants(rt: HostRuntime) -> Result<(), Fail> {
     want_instructions(&rt, rt.alloc(), &CONSTANTS)?;
-    want_instructions(&rt, rt.alloc(), &NUMBERS)
+    want_instructions(&rt, rt.alloc(), &NUMBERS)?;
+    Ok(())
+}
+
+fn want_left_out(
+    rt: &impl Abort,
+    alloc: Global,
+    rows: &[(Kind, &[&[u8]])],
+) -> Result<(), Rejection> {
+    for (kind, texts) in rows {
+        want_refusals(rt, alloc, texts, Reason::Unsupported(*kind))?;
+    }
+    Ok(())
 }
 
 #[test]
 fn names_what_is_left_out(rt: HostRuntime) -> Result<(), Fail> {
-    for (kind, texts) in LEFT_OUT {
-        want_refusals(&rt, rt.alloc(), texts, Reason::Unsupported(kind))?;
-    }
+    want_left_out(&rt, rt.alloc(), &LEFT_OUT)?;
     Ok(())
 }
 
@@ -760,5 +773,6 @@ fn refuses_other_operands(rt: HostRuntime) -> Result<(), Fail> {
         rt.alloc(),
         &NOT_BUILT,
         Reason::Unsupported(Kind::NotBuilt),
-    )
+    )?;
+    Ok(())
 }
