@@ -93,37 +93,78 @@ static IMAGES: [Row; 46] = [
     ),
 ];
 
-/// An image is answered so: the report of its memory, or why it is refused.
-fn wants_answer(
+/// A memory has this report.
+fn wants_memory(
+    rt: &impl Abort,
+    alloc: Global,
+    image: &[u8],
+    memory: &Memory,
+    wanted: &[u8],
+) -> Result<(), NoMemory> {
+    let text = image_text(alloc, memory, Outcome::Ended(None))?;
+    wants_text(rt, image, text.as_slice(), wanted);
+    Ok(())
+}
+
+/// An image is read, and its memory has this report.
+fn wants_read(
     rt: &impl Abort,
     alloc: Global,
     image: &[u8],
     blocks: &[DataBlock],
-    wanted: Result<&[u8], ImageRefusal>,
-) -> Result<(), NoMemory>
+    wanted: &[u8],
+) -> Result<(), Fail>
     requires { AreBlocks blocks.now }
 {
-    match (read_image(alloc, image, blocks), wanted) {
-        (Ok(memory), Ok(wanted)) => {
-            let text = image_text(alloc, &memory, Outcome::Ended(None))?;
-            wants_text(rt, image, text.as_slice(), wanted);
-        }
-        (Ok(_), Err(wanted)) => wants(rt, &image, &None, &Some(wanted)),
-        (Err(refusal), wanted) => wants(rt, &image, &Some(refusal), &wanted.err()),
-    }
-    Ok(())
+    let memory = read_image(alloc, image, blocks)?;
+    Ok(wants_memory(rt, alloc, image, &memory, wanted)?)
 }
 
-fn want_answers(rt: &impl Abort, alloc: Global, rows: &[Row]) -> Result<(), NoMemory> {
-    for (image, wanted) in rows {
-        wants_answer(rt, alloc, image, &[], *wanted)?;
+/// An image is refused so.
+fn wants_refused(
+    rt: &impl Abort,
+    alloc: Global,
+    image: &[u8],
+    blocks: &[DataBlock],
+    wanted: ImageRefusal,
+)
+    requires { AreBlocks blocks.now }
+{
+    let refusal = read_image(alloc, image, blocks).err();
+    wants(rt, &image, &refusal, &Some(wanted));
+}
+
+/// An image is answered so: the report of its memory, or why it is refused.
+fn wants_answer(rt: &impl Abort, alloc: Global, blocks: &[DataBlock], row: &Row) -> Result<(), Fail>
+    requires { AreBlocks blocks.now }
+{
+    let (image, wanted) = row;
+    match wanted {
+        Ok(report) => wants_read(rt, alloc, image, blocks, report),
+        Err(refusal) => {
+            wants_refused(rt, alloc, image, blocks, *refusal);
+            Ok(())
+        }
+    }
+}
+
+fn want_answers(
+    rt: &impl Abort,
+    alloc: Global,
+    blocks: &[DataBlock],
+    rows: &[Row],
+) -> Result<(), Fail>
+    requires { AreBlocks blocks.now }
+{
+    for row in rows {
+        wants_answer(rt, alloc, blocks, row)?;
     }
     Ok(())
 }
 
 #[test]
 fn images_are_read_or_refused(rt: HostRuntime) -> Result<(), Fail> {
-    Ok(want_answers(&rt, rt.alloc(), &IMAGES)?)
+    want_answers(&rt, rt.alloc(), &[], &IMAGES)
 }
 
 /// The fault with which a run ends, if with one, and the first line of its report.
@@ -146,10 +187,18 @@ fn wants_report(
     fault: Option<Fault>,
     head: &[u8],
 ) -> Result<(), NoMemory> {
-    let mut wanted = Vec::from_slice(alloc, head)?;
-    wanted.extend_from_slice(b"Q 0: 00 00 C0 00 00 00 00 00 00 00 00 00 00 00 00 00\n")?;
     let text = image_text(alloc, memory, Outcome::Ended(fault))?;
-    wants_text(rt, head, text.as_slice(), wanted.as_slice());
+    let (found, behind) = text
+        .as_slice()
+        .split_at_checked(head.len())
+        .unwrap_or((&[], &[]));
+    wants_text(rt, head, found, head);
+    wants_text(
+        rt,
+        head,
+        behind,
+        b"Q 0: 00 00 C0 00 00 00 00 00 00 00 00 00 00 00 00 00\n",
+    );
     Ok(())
 }
 
@@ -185,37 +234,37 @@ fn block(alloc: Global, number: u16, bytes: &[u8]) -> Result<DataBlock, NoMemory
 fn two_blocks(alloc: Global) -> Result<Vec<DataBlock>, NoMemory>
     ensures { IfOk result (λ blocks. AreBlocks blocks.items) }
 {
+    let first = block(alloc, 3, &[0, 7])?;
+    let second = block(alloc, 65535, &[0; 18])?;
     let mut blocks = Vec::new(alloc);
-    blocks.push(block(alloc, 3, &[0, 7])?)?;
-    blocks.push(block(alloc, 65535, &[0; 18])?)?;
+    blocks.push(first)?;
+    blocks.push(second)?;
     Ok(blocks)
 }
+
+static IN_BLOCKS: [Row; 4] = [
+    (
+        b"",
+        Ok(
+            b"# ENDED\nDB3 0: 00 07\nDB65535 0: 00 00 00 00 00 00 00 00 00 00 00 00 00 00 00 00\nDB65535 16: 00 00\n",
+        ),
+    ),
+    (
+        b"DB65535 14: 0f f0 ab\r\nDB3 0: 01\nDB65535 17: 99",
+        Ok(
+            b"# ENDED\nDB3 0: 01 07\nDB65535 0: 00 00 00 00 00 00 00 00 00 00 00 00 00 00 0F F0\nDB65535 16: AB 99\n",
+        ),
+    ),
+    (b"DB3 1: 00 00", Err(ImageRefusal::OutsideArea(Line(1)))),
+    (
+        b"DB3 0: 00 00\nDB4 0: 00",
+        Err(ImageRefusal::OutsideArea(Line(2))),
+    ),
+];
 
 #[test]
 fn data_blocks_are_read_and_shown(rt: HostRuntime) -> Result<(), Fail> {
     let alloc = rt.alloc();
     let blocks = two_blocks(alloc)?;
-    let images: [(&[u8], Result<&[u8], ImageRefusal>); 4] = [
-        (
-            b"",
-            Ok(
-                b"# ENDED\nDB3 0: 00 07\nDB65535 0: 00 00 00 00 00 00 00 00 00 00 00 00 00 00 00 00\nDB65535 16: 00 00\n",
-            ),
-        ),
-        (
-            b"DB65535 14: 0f f0 ab\r\nDB3 0: 01\nDB65535 17: 99",
-            Ok(
-                b"# ENDED\nDB3 0: 01 07\nDB65535 0: 00 00 00 00 00 00 00 00 00 00 00 00 00 00 0F F0\nDB65535 16: AB 99\n",
-            ),
-        ),
-        (b"DB3 1: 00 00", Err(ImageRefusal::OutsideArea(Line(1)))),
-        (
-            b"DB3 0: 00 00\nDB4 0: 00",
-            Err(ImageRefusal::OutsideArea(Line(2))),
-        ),
-    ];
-    for (image, answer) in images {
-        wants_answer(&rt, alloc, image, blocks.as_slice(), answer)?;
-    }
-    Ok(())
+    want_answers(&rt, alloc, blocks.as_slice(), &IN_BLOCKS)
 }

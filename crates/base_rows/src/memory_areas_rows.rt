@@ -391,11 +391,21 @@ fn zeros(alloc: Global, number: u16, count: usize) -> Result<DataBlock, NoMemory
     })
 }
 
+fn push_zeros(
+    alloc: Global,
+    blocks: &mut Vec<DataBlock>,
+    number: u16,
+    count: usize,
+) -> Result<(), NoMemory> {
+    let block = zeros(alloc, number, count)?;
+    Ok(blocks.push(block)?)
+}
+
 /// Data blocks of zeros, by their numbers and sizes.
 fn blocks_of(alloc: Global, parts: &[(u16, usize)]) -> Result<Vec<DataBlock>, NoMemory> {
     let mut blocks = Vec::new(alloc);
     for (number, count) in parts {
-        blocks.push(zeros(alloc, *number, *count)?)?;
+        push_zeros(alloc, &mut blocks, *number, *count)?;
     }
     Ok(blocks)
 }
@@ -431,15 +441,23 @@ fn blocks_ascend_and_have_their_sizes(rt: HostRuntime) -> Result<(), Fail> {
     Ok(want_lists(&rt, rt.alloc(), &LISTS)?)
 }
 
+/// Takes 1024 data blocks, and not one more.
+fn wants_limit(
+    rt: &impl Abort,
+    alloc: Global,
+    blocks: &mut Vec<DataBlock>,
+) -> Result<(), NoMemory> {
+    for number in 1..=1024 {
+        push_zeros(alloc, blocks, number, 2)?;
+    }
+    wants(rt, &1024, &are_blocks(blocks.as_slice()), &true);
+    push_zeros(alloc, blocks, 1025, 2)?;
+    wants(rt, &1025, &are_blocks(blocks.as_slice()), &false);
+    Ok(())
+}
+
 #[test]
 fn no_more_than_1024_blocks(rt: HostRuntime) -> Result<(), Fail> {
-    let alloc = rt.alloc();
-    let mut blocks = Vec::new(alloc);
-    for number in 1..=1024 {
-        blocks.push(zeros(alloc, number, 2)?)?;
-    }
-    wants(&rt, &1024, &are_blocks(blocks.as_slice()), &true);
-    blocks.push(zeros(alloc, 1025, 2)?)?;
-    wants(&rt, &1025, &are_blocks(blocks.as_slice()), &false);
-    Ok(())
+    let mut blocks = Vec::new(rt.alloc());
+    Ok(wants_limit(&rt, rt.alloc(), &mut blocks)?)
 }
