@@ -104,46 +104,68 @@ fn letter(kind: StKind) -> u8 {
     }
 }
 
-/// The tokens, each behind a blank and the letter of its kind, on their lines.
-fn shown(alloc: Global, tokens: &[StToken]) -> Result<Vec<u8>, NoMemory> {
-    let mut out = Vec::new(alloc);
+/// Writes a token behind a blank and the letter of its kind.
+fn put_token(out: &mut Vec<u8>, token: &StToken) -> Result<(), NoMemory> {
+    out.push(b' ')?;
+    out.push(letter(token.kind))?;
+    out.extend_from_slice(token.text.as_slice())?;
+    Ok(())
+}
+
+/// Writes tokens on their lines.
+fn put_tokens(out: &mut Vec<u8>, tokens: &[StToken]) -> Result<(), NoMemory> {
     let mut line = 1;
     for token in tokens {
         for _ in line..token.line.0 {
             out.push(b'\n')?;
         }
         line = token.line.0;
-        out.push(b' ')?;
-        out.push(letter(token.kind))?;
-        out.extend_from_slice(token.text.as_slice())?;
-    }
-    Ok(out)
-}
-
-/// A text has these tokens, or its first bad token stands on this line.
-fn wants_tokens(
-    rt: &impl Abort,
-    alloc: Global,
-    text: &[u8],
-    wanted: Result<&[u8], u32>,
-) -> Result<(), NoMemory> {
-    match (st_tokens(alloc, text), wanted) {
-        (Ok(tokens), Ok(wanted)) => {
-            let found = shown(alloc, tokens.as_slice())?;
-            wants_text(rt, text, found.as_slice(), wanted);
-        }
-        (Ok(_), Err(line)) => wants(rt, &text, &0, &line),
-        (Err(refused), wanted) => {
-            let bad = Rejection::Refused(Line(wanted.err().unwrap_or(0)), Reason::BadToken);
-            wants(rt, &text, &refused, &bad);
-        }
+        put_token(out, token)?;
     }
     Ok(())
 }
 
-fn want_tokens(rt: &impl Abort, alloc: Global, rows: &[Row]) -> Result<(), NoMemory> {
-    for (text, wanted) in rows {
-        wants_tokens(rt, alloc, text, *wanted)?;
+/// The tokens as they are written.
+fn shown(alloc: Global, tokens: &[StToken]) -> Result<Vec<u8>, NoMemory> {
+    let mut out = Vec::new(alloc);
+    put_tokens(&mut out, tokens)?;
+    Ok(out)
+}
+
+/// A text has these tokens.
+fn wants_shown(
+    rt: &impl Abort,
+    alloc: Global,
+    text: &[u8],
+    wanted: &[u8],
+) -> Result<(), Rejection> {
+    let tokens = st_tokens(alloc, text)?;
+    let found = shown(alloc, tokens.as_slice())?;
+    wants_text(rt, text, found.as_slice(), wanted);
+    Ok(())
+}
+
+/// The first bad token of a text stands on this line.
+fn wants_bad(rt: &impl Abort, alloc: Global, text: &[u8], line: u32) {
+    let refused = st_tokens(alloc, text).err();
+    let bad = Rejection::Refused(Line(line), Reason::BadToken);
+    wants(rt, &text, &refused, &Some(bad));
+}
+
+fn wants_tokens(rt: &impl Abort, alloc: Global, row: &Row) -> Result<(), Rejection> {
+    let (text, wanted) = row;
+    match wanted {
+        Ok(shown) => wants_shown(rt, alloc, text, shown),
+        Err(line) => {
+            wants_bad(rt, alloc, text, *line);
+            Ok(())
+        }
+    }
+}
+
+fn want_tokens(rt: &impl Abort, alloc: Global, rows: &[Row]) -> Result<(), Rejection> {
+    for row in rows {
+        wants_tokens(rt, alloc, row)?;
     }
     Ok(())
 }
@@ -153,34 +175,35 @@ fn cuts_texts(rt: HostRuntime) -> Result<(), Fail> {
     Ok(want_tokens(&rt, rt.alloc(), &TEXTS)?)
 }
 
+const LEAST: Literal = Literal {
+    kind: StType::Lint,
+    minus: true,
+    number: 1 << 63,
+    size: 25,
+};
+
+const BIT: Direct = Direct {
+    area: AreaName::Db,
+    block: Some(5),
+    width: Width::Bit,
+    byte: u32::MAX,
+    bit: 7,
+    size: 20,
+};
+
+fn wants_literal(rt: &impl Abort, text: &[u8], wanted: Option<Literal>) {
+    wants(rt, &text, &literal_at(text), &wanted);
+}
+
+fn wants_direct(rt: &impl Abort, text: &[u8], wanted: Option<Direct>) {
+    wants(rt, &text, &direct_at(text), &wanted);
+}
+
 #[test]
 fn reads_values(rt: HostRuntime) {
-    let least = Literal {
-        kind: StType::Lint,
-        minus: true,
-        number: 1 << 63,
-        size: 25,
-    };
-    for (text, literal) in [
-        (b"lint#-9223372036854775808".as_slice(), Some(least)),
-        (b"INT#x".as_slice(), None),
-    ] {
-        wants(&rt, &text, &literal_at(text), &literal);
-    }
-
-    let bit = Direct {
-        area: AreaName::Db,
-        block: Some(5),
-        width: Width::Bit,
-        byte: u32::MAX,
-        bit: 7,
-        size: 20,
-    };
-    for (text, direct) in [
-        (b"%DB5.DBX4294967296.7".as_slice(), Some(bit)),
-        (b"%DB5".as_slice(), None),
-    ] {
-        wants(&rt, &text, &direct_at(text), &direct);
-    }
+    wants_literal(&rt, b"lint#-9223372036854775808", Some(LEAST));
+    wants_literal(&rt, b"INT#x", None);
+    wants_direct(&rt, b"%DB5.DBX4294967296.7", Some(BIT));
+    wants_direct(&rt, b"%DB5", None);
     wants(&rt, &"the end", &end_line(b"a\n(*\n*)\n"), &Line(4));
 }

@@ -42,6 +42,12 @@ fn tree(alloc: Global, unit: Pou) -> Result<StProgram, NoMemory> {
     })
 }
 
+/// A text of the program OB1 alone.
+fn tree_of(alloc: Global, body: List<Stmt>) -> Result<StProgram, NoMemory> {
+    let unit = program(alloc, body)?;
+    tree(alloc, unit)
+}
+
 // Operands stand in their boxes, as a tree has them: what is alive where memory may be refused costs the
 // prover, a box the least.
 
@@ -74,7 +80,7 @@ fn binary(
 fn assigning(alloc: Global, expr: Boxed<Expr>) -> Result<StProgram, NoMemory> {
     let mut body = List::new(alloc);
     body.push(Stmt::Assign(Var::Register(Reg::Rlo), expr.into_inner()))?;
-    tree(alloc, program(alloc, body)?)
+    tree_of(alloc, body)
 }
 
 /// What stands between `RLO := ` and `;` in the text of such a program.
@@ -131,7 +137,8 @@ fn want_literals(
     rows: &[(StType, i64, &str)],
 ) -> Result<(), NoMemory> {
     for (ty, n, text) in rows {
-        wants_expr(rt, alloc, literal(alloc, *ty, *n)?, text)?;
+        let literal = literal(alloc, *ty, *n)?;
+        wants_expr(rt, alloc, literal, text)?;
     }
     Ok(())
 }
@@ -164,16 +171,29 @@ static BINDINGS: [Binding; 9] = [
 /// Two numbers under an operator.
 fn pair(alloc: Global, op: BinaryOp, left: i64, right: i64) -> Result<Boxed<Expr>, NoMemory> {
     let left = number(alloc, left)?;
-    binary(alloc, op, left, number(alloc, right)?)
+    let right = number(alloc, right)?;
+    binary(alloc, op, left, right)
+}
+
+/// The pair 1, 2 on the left of 3.
+fn on_left(alloc: Global, outer: BinaryOp, inner: BinaryOp) -> Result<Boxed<Expr>, NoMemory> {
+    let left = pair(alloc, inner, 1, 2)?;
+    let right = number(alloc, 3)?;
+    binary(alloc, outer, left, right)
+}
+
+/// The pair 2, 3 on the right of 1.
+fn on_right(alloc: Global, outer: BinaryOp, inner: BinaryOp) -> Result<Boxed<Expr>, NoMemory> {
+    let left = number(alloc, 1)?;
+    let right = pair(alloc, inner, 2, 3)?;
+    binary(alloc, outer, left, right)
 }
 
 fn wants_binding(rt: &impl Abort, alloc: Global, row: &Binding) -> Result<(), NoMemory> {
     let (outer, inner, left, right) = row;
-    let first = pair(alloc, *inner, 1, 2)?;
-    let whole = binary(alloc, *outer, first, number(alloc, 3)?)?;
+    let whole = on_left(alloc, *outer, *inner)?;
     wants_expr(rt, alloc, whole, left)?;
-    let second = pair(alloc, *inner, 2, 3)?;
-    let whole = binary(alloc, *outer, number(alloc, 1)?, second)?;
+    let whole = on_right(alloc, *outer, *inner)?;
     wants_expr(rt, alloc, whole, right)
 }
 
@@ -199,31 +219,44 @@ static SIGNS: [(UnaryOp, UnaryOp, &str); 6] = [
     (UnaryOp::BcdToDint, UnaryOp::Not, "BCD_TO_DINT(NOT 2)"),
 ];
 
+/// A sign on 2.
+fn signed(alloc: Global, op: UnaryOp) -> Result<Boxed<Expr>, NoMemory> {
+    let number = number(alloc, 2)?;
+    unary(alloc, op, number)
+}
+
 fn want_signs(
     rt: &impl Abort,
     alloc: Global,
     rows: &[(UnaryOp, UnaryOp, &str)],
 ) -> Result<(), NoMemory> {
     for (outer, inner, text) in rows {
-        let operand = unary(alloc, *inner, number(alloc, 2)?)?;
-        wants_expr(rt, alloc, unary(alloc, *outer, operand)?, text)?;
+        let operand = signed(alloc, *inner)?;
+        let whole = unary(alloc, *outer, operand)?;
+        wants_expr(rt, alloc, whole, text)?;
     }
     Ok(())
 }
 
+/// The number 1 by a sign on 2.
+fn product(alloc: Global) -> Result<Boxed<Expr>, NoMemory> {
+    let left = number(alloc, 1)?;
+    let right = signed(alloc, UnaryOp::Not)?;
+    binary(alloc, BinaryOp::Mul, left, right)
+}
+
 #[test]
 fn signs_stand_before_their_operands(rt: HostRuntime) -> Result<(), Fail> {
-    let alloc = rt.alloc();
-    want_signs(&rt, alloc, &SIGNS)?;
-    let right = unary(alloc, UnaryOp::Not, number(alloc, 2)?)?;
-    let product = binary(alloc, BinaryOp::Mul, number(alloc, 1)?, right)?;
-    Ok(wants_expr(&rt, alloc, product, "1 * NOT 2")?)
+    want_signs(&rt, rt.alloc(), &SIGNS)?;
+    let product = product(rt.alloc())?;
+    Ok(wants_expr(&rt, rt.alloc(), product, "1 * NOT 2")?)
 }
 
 fn select(alloc: Global) -> Result<Boxed<Expr>, NoMemory> {
     let gate = read(alloc, Var::Register(Reg::Rlo))?;
     let first = pair(alloc, BinaryOp::Or, 1, 2)?;
-    Boxed::new(alloc, Expr::Select(gate, first, number(alloc, 3)?))
+    let second = number(alloc, 3)?;
+    Boxed::new(alloc, Expr::Select(gate, first, second))
 }
 
 fn rotated(alloc: Global) -> Result<Boxed<Expr>, NoMemory> {
@@ -232,17 +265,27 @@ fn rotated(alloc: Global) -> Result<Boxed<Expr>, NoMemory> {
     Boxed::new(alloc, Expr::Shift(ShiftOp::Ror, pattern, count))
 }
 
+fn converted(alloc: Global) -> Result<Boxed<Expr>, NoMemory> {
+    let five = literal(alloc, StType::Int, 5)?;
+    Boxed::new(alloc, Expr::Convert(StType::Int, StType::Word, five))
+}
+
+fn area_read(alloc: Global) -> Result<Boxed<Expr>, NoMemory> {
+    let pointer = read(alloc, Var::Register(Reg::Ar1))?;
+    Boxed::new(alloc, Expr::AreaRead(Width::Byte, pointer))
+}
+
 #[test]
 fn functions_have_their_operands_in_brackets(rt: HostRuntime) -> Result<(), Fail> {
     let alloc = rt.alloc();
-    let five = literal(alloc, StType::Int, 5)?;
-    let word = Boxed::new(alloc, Expr::Convert(StType::Int, StType::Word, five))?;
-    wants_expr(&rt, alloc, word, "INT_TO_WORD(INT#5)")?;
-    let pointer = read(alloc, Var::Register(Reg::Ar1))?;
-    let area = Boxed::new(alloc, Expr::AreaRead(Width::Byte, pointer))?;
-    wants_expr(&rt, alloc, area, "AREA_READ_B(AR1)")?;
-    wants_expr(&rt, alloc, select(alloc)?, "SEL(RLO, 1 OR 2, 3)")?;
-    Ok(wants_expr(&rt, alloc, rotated(alloc)?, "ROR(ACCU1, INT#1)")?)
+    let call = converted(alloc)?;
+    wants_expr(&rt, alloc, call, "INT_TO_WORD(INT#5)")?;
+    let call = area_read(alloc)?;
+    wants_expr(&rt, alloc, call, "AREA_READ_B(AR1)")?;
+    let call = select(alloc)?;
+    wants_expr(&rt, alloc, call, "SEL(RLO, 1 OR 2, 3)")?;
+    let call = rotated(alloc)?;
+    Ok(wants_expr(&rt, alloc, call, "ROR(ACCU1, INT#1)")?)
 }
 
 static VARIABLES: [(Var, &str); 7] = [
@@ -257,7 +300,8 @@ static VARIABLES: [(Var, &str); 7] = [
 
 fn want_variables(rt: &impl Abort, alloc: Global, rows: &[(Var, &str)]) -> Result<(), NoMemory> {
     for (var, text) in rows {
-        wants_expr(rt, alloc, read(alloc, *var)?, text)?;
+        let expr = read(alloc, *var)?;
+        wants_expr(rt, alloc, expr, text)?;
     }
     Ok(())
 }
@@ -308,9 +352,15 @@ fn labels(alloc: Global) -> Result<List<i64>, NoMemory> {
     Ok(labels)
 }
 
-fn case_arms(alloc: Global) -> Result<List<CaseArm>, NoMemory> {
+fn repeating(alloc: Global) -> Result<List<Stmt>, NoMemory> {
+    let turn = turn(alloc)?;
     let mut body = List::new(alloc);
-    body.push(Stmt::While(Expr::Read(Var::Formal(1)), turn(alloc)?))?;
+    body.push(Stmt::While(Expr::Read(Var::Formal(1)), turn))?;
+    Ok(body)
+}
+
+fn case_arms(alloc: Global) -> Result<List<CaseArm>, NoMemory> {
+    let body = repeating(alloc)?;
     let labels = labels(alloc)?;
     let mut arms = List::new(alloc);
     arms.push(CaseArm { labels, body })?;
@@ -331,9 +381,14 @@ fn case(alloc: Global) -> Result<Stmt, NoMemory> {
     Ok(Stmt::Case(Expr::Read(Var::Local(0)), arms, other))
 }
 
-fn choice_arms(alloc: Global) -> Result<List<Arm>, NoMemory> {
+fn assigned(alloc: Global) -> Result<List<Stmt>, NoMemory> {
     let mut body = List::new(alloc);
     body.push(Stmt::Assign(Var::Local(0), Expr::Literal(StType::Int, 1)))?;
+    Ok(body)
+}
+
+fn choice_arms(alloc: Global) -> Result<List<Arm>, NoMemory> {
+    let body = assigned(alloc)?;
     let mut arms = List::new(alloc);
     arms.push(Arm {
         test: Expr::Read(Var::Formal(1)),
@@ -360,41 +415,49 @@ fn actuals(alloc: Global) -> Result<List<Var>, NoMemory> {
     Ok(actuals)
 }
 
-fn statements(alloc: Global) -> Result<List<Stmt>, NoMemory> {
-    let mut body = List::new(alloc);
-    body.push(choice(alloc)?)?;
-    body.push(case(alloc)?)?;
-    body.push(Stmt::Invoke(0, actuals(alloc)?))?;
-    Ok(body)
+fn put_statements(alloc: Global, body: &mut List<Stmt>) -> Result<(), NoMemory> {
+    let choice = choice(alloc)?;
+    body.push(choice)?;
+    let case = case(alloc)?;
+    body.push(case)?;
+    let actuals = actuals(alloc)?;
+    body.push(Stmt::Invoke(0, actuals))
 }
 
-fn formals(alloc: Global) -> Result<List<Local>, NoMemory> {
-    let mut formals = List::new(alloc);
-    formals.push(local(alloc, "a", StType::Word)?)?;
-    formals.push(local(alloc, "b", StType::Bool)?)?;
-    Ok(formals)
+fn put_local(
+    alloc: Global,
+    locals: &mut List<Local>,
+    text: &str,
+    ty: StType,
+) -> Result<(), NoMemory> {
+    let local = local(alloc, text, ty)?;
+    locals.push(local)
 }
 
-fn locals(alloc: Global) -> Result<List<Local>, NoMemory> {
-    let mut locals = List::new(alloc);
-    locals.push(local(alloc, "n", StType::Int)?)?;
-    Ok(locals)
+fn put_parts(alloc: Global, unit: &mut Pou) -> Result<(), NoMemory> {
+    put_local(alloc, &mut unit.formals, "a", StType::Word)?;
+    put_local(alloc, &mut unit.formals, "b", StType::Bool)?;
+    put_local(alloc, &mut unit.locals, "n", StType::Int)?;
+    put_statements(alloc, &mut unit.body)
 }
 
 fn function(alloc: Global) -> Result<Pou, NoMemory> {
-    Ok(Pou {
+    let mut unit = Pou {
         program: false,
         name: name(alloc, "Limit")?,
-        formals: formals(alloc)?,
-        locals: locals(alloc)?,
-        body: statements(alloc)?,
-    })
+        formals: List::new(alloc),
+        locals: List::new(alloc),
+        body: List::new(alloc),
+    };
+    put_parts(alloc, &mut unit)?;
+    Ok(unit)
 }
 
 #[test]
 fn statements_stand_four_blanks_deeper_than_what_holds_them(rt: HostRuntime) -> Result<(), Fail> {
     let alloc = rt.alloc();
-    let tree = tree(alloc, function(alloc)?)?;
+    let unit = function(alloc)?;
+    let tree = tree(alloc, unit)?;
     Ok(wants_unit(&rt, alloc, &tree, STATEMENTS)?)
 }
 
@@ -428,15 +491,20 @@ fn global(
     })
 }
 
-fn with_globals(alloc: Global) -> Result<StProgram, NoMemory> {
-    let mut body = List::new(alloc);
-    body.push(Stmt::Assign(Var::Global(1), Expr::Read(Var::Global(0))))?;
-    let mut text = tree(alloc, program(alloc, body)?)?;
-    text.dbs.push(data_block(alloc)?)?;
+fn put_globals(alloc: Global, text: &mut StProgram) -> Result<(), NoMemory> {
+    let block = data_block(alloc)?;
+    text.dbs.push(block)?;
     let start = global(alloc, "Start", Area::I, 0, StType::Bool)?;
     text.globals.push(start)?;
     let speed = global(alloc, "Speed", Area::M, 10, StType::Int)?;
-    text.globals.push(speed)?;
+    text.globals.push(speed)
+}
+
+fn with_globals(alloc: Global) -> Result<StProgram, NoMemory> {
+    let mut body = List::new(alloc);
+    body.push(Stmt::Assign(Var::Global(1), Expr::Read(Var::Global(0))))?;
+    let mut text = tree_of(alloc, body)?;
+    put_globals(alloc, &mut text)?;
     Ok(text)
 }
 

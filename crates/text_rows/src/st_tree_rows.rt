@@ -10,12 +10,17 @@ fn read(alloc: Global, var: Var) -> Result<Boxed<Expr>, NoMemory> {
     Boxed::new(alloc, Expr::Read(var))
 }
 
-/// A first check of an input, as a translation has it.
-fn first_check(alloc: Global) -> Result<Boxed<Expr>, NoMemory> {
+/// The RLO, or one where a check is a first one.
+fn before_check(alloc: Global) -> Result<Boxed<Expr>, NoMemory> {
     let nfc = read(alloc, Var::Register(Reg::Nfc))?;
     let not_nfc = Boxed::new(alloc, Expr::Unary(UnaryOp::Not, nfc))?;
     let rlo = read(alloc, Var::Register(Reg::Rlo))?;
-    let left = Boxed::new(alloc, Expr::Binary(BinaryOp::Or, rlo, not_nfc))?;
+    Boxed::new(alloc, Expr::Binary(BinaryOp::Or, rlo, not_nfc))
+}
+
+/// A first check of an input, as a translation has it.
+fn first_check(alloc: Global) -> Result<Boxed<Expr>, NoMemory> {
+    let left = before_check(alloc)?;
     let bit = read(alloc, Var::Direct(AreaName::I, 0, 1, Width::Bit))?;
     Boxed::new(alloc, Expr::Binary(BinaryOp::And, left, bit))
 }
@@ -23,8 +28,8 @@ fn first_check(alloc: Global) -> Result<Boxed<Expr>, NoMemory> {
 #[test]
 fn copies_an_expression(rt: HostRuntime) -> Result<(), Fail> {
     let whole = first_check(rt.alloc())?;
-    let copy = Boxed::new(rt.alloc(), whole.get().copy(rt.alloc())?)?;
-    wants(&rt, &"an expression", &(copy.get() == whole.get()), &true);
+    let copy = whole.get().copy(rt.alloc())?;
+    wants(&rt, &"an expression", &(copy == *whole.get()), &true);
     Ok(())
 }
 
